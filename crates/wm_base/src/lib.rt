@@ -1,13 +1,23 @@
-// A library with one function.
+//! What the crates above speak of: names, numbers, texts, orders, causes and refusals, with their printing.
+//!
+//! The contract for the layer above: `Name::read` is Ok exactly for the bytes of a name, and keeps them.
+//! The definitions are in `specs/`, one file for each module.
 #![tactic(auto)]
 
-ghost use Rattle.std.specs.Prelude.{◌≡◌};
-ghost use Rattle.wm_base.specs.Echo.{echo_of};
+mod args;
+mod job;
+mod limit;
+mod name;
+mod number;
+mod qname;
+mod refusal;
+mod text;
 
-// The `ensures` clause is the contract: what `echo` returns is `echo_of` of its argument, a definition
-// in `specs/Echo.antt`, which a caller's clause can cite too.
-pub fn echo(x: usize) -> usize
-    ensures { result ≡ echo_of x }
-{
-    x
-}
+pub use args::Args;
+pub use job::{Asked, Class, EndCause, Event, Exit, How, JobName, StartCause, StartOrder};
+pub use limit::Limit;
+pub use name::{BadName, NAME_LEN, Name};
+pub use number::{JobNumber, Moment, Priority, Serial};
+pub use qname::QName;
+pub use refusal::{Key, Kind, PhaseWord, Refusal};
+pub use text::{Text, is_text};

@@ -1,0 +1,85 @@
+// The arguments of a program.
+ghost use Rattle.std.specs.Prelude.{◌≡◌, ◌++◌, [], ◌∷◌, List, ℕ, OnOk, OnErr, nat_eq};
+ghost use Rattle.std.specs.Cmp.Lexicographic.{pointwise, nat_list_eq_equiv};
+ghost use Rattle.std.specs.Cmp.{partial_equiv_from_equiv};
+ghost use Rattle.std.proofs.lemmas.Cmp.{lists_equiv};
+
+use crate::Text;
+use std::alloc::{AllocError, Global};
+use std::marker::Model;
+
+/// A list of texts.
+#[derive(Debug, Drop)]
+pub struct Args {
+    items: Vec<Text>,
+}
+
+impl Model for Args {
+    ghost Value = { List (List ℕ) };
+
+    ghost view = { λ a. a.items.items };
+}
+
+impl Args {
+    pub fn new(alloc: Global) -> Args
+        ensures { result ≡ [] }
+    {
+        Args {
+            items: Vec::new(alloc),
+        }
+    }
+
+    pub fn push(&mut self, arg: Text) -> Result<(), AllocError>
+        ensures ok { OnOk result (self.new ≡ self.old ++ arg ∷ []) }
+        ensures err { OnErr result (self.new ≡ self.old) }
+    {
+        self.items.push(arg)?;
+        Ok(())
+    }
+
+    pub fn as_slice(&self) -> &[Text]
+        ensures { result.now ≡ self.now }
+    {
+        &self.items
+    }
+}
+
+impl From<Vec<Text>> for Args {
+    ghost from_gives = { λ items args. args ≡ items.items };
+
+    fn from(items: Vec<Text>) -> Args {
+        Args { items }
+    }
+}
+
+impl From<Args> for Vec<Text> {
+    ghost from_gives = { λ args items. items.items ≡ args };
+
+    fn from(args: Args) -> Vec<Text> {
+        args.items
+    }
+}
+
+impl Clone for Args {
+    ghost is_clone = { λ args copy. copy ≡ args };
+
+    fn clone(&self) -> Result<Args, AllocError> {
+        Ok(Args {
+            items: self.items.clone()?,
+        })
+    }
+}
+
+impl PartialEq for Args {
+    ghost eq = { pointwise (pointwise nat_eq) };
+
+    ghost laws = { partial_equiv_from_equiv (lists_equiv nat_list_eq_equiv) };
+
+    fn eq(&self, other: &Args) -> bool {
+        self.items == other.items
+    }
+}
+
+impl Eq for Args {
+    ghost laws = { lists_equiv nat_list_eq_equiv };
+}

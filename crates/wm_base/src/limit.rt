@@ -1,0 +1,23 @@
+// Limits.
+ghost use Rattle.std.specs.Prelude.{◌≡◌};
+
+/// A limit, or none (*NOMAX).
+#[derive(Clone, Copy, Debug, PartialEq, Eq)]
+pub enum Limit {
+    NoMax,
+    Most(u32),
+}
+
+impl Limit {
+    ghost use Rattle.wm_base.specs.Limit.{is_below};
+
+    /// Whether a count is below the limit. *NOMAX is never reached.
+    pub fn admits(&self, count: u32) -> bool
+        ensures { result ≡ is_below count self.now }
+    {
+        match self {
+            Limit::NoMax => true,
+            Limit::Most(most) => count < *most,
+        }
+    }
+}
