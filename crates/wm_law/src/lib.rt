@@ -1,0 +1,18 @@
+//! The machine as definitions, and the plain program that computes them.
+//!
+//! The contract for the layer above: `State::step` answers what the definition `step` of
+//! `specs/Machine.antt` gives, and leaves the state that it gives. A history is legal where each
+//! reply in it is that of the machine (`specs/History.antt`).
+#![tactic(auto)]
+
+mod call;
+mod job;
+mod list;
+mod objects;
+mod state;
+
+pub use call::{Call, Command, EndOption, Entry, Pwrdwnsys, Reply, Sbmjob, Strsbs};
+pub use job::{Job, JobKind, Phase, Why, Wish};
+pub use list::ListOf;
+pub use objects::{Cmp, Jobd, Jobq, Objects, Program, QueueEntry, RouteEntry, Sbsd, Table};
+pub use state::{Evoke, Power, Sbs, SbsPhase, State, Stop};

@@ -1,0 +1,59 @@
+// The state of the machine.
+use crate::{Job, ListOf, Objects};
+use wm_base::{Moment, Name, QName};
+
+/// Whether a started subsystem takes jobs, is to end at some moment or by itself, or ends now.
+#[derive(Clone, Copy, Debug, PartialEq, Eq)]
+pub enum SbsPhase {
+    Active,
+    Ending(Option<Moment>),
+    Now,
+}
+
+/// A started subsystem, by its description's name.
+#[derive(Clone, Copy, Debug, PartialEq, Eq)]
+pub struct Sbs {
+    pub sbsd: QName,
+    pub phase: SbsPhase,
+}
+
+/// A prestart entry that makes no jobs.
+#[derive(Clone, Copy, Debug, PartialEq, Eq)]
+pub struct Stop {
+    pub sbs: QName,
+    pub pgm: QName,
+}
+
+/// A program start request that waits for a prestart job.
+#[derive(Clone, Copy, Debug, PartialEq, Eq)]
+pub struct Evoke {
+    pub user: Name,
+    pub sbs: QName,
+    pub pgm: QName,
+}
+
+/// Whether the system takes work.
+#[derive(Clone, Copy, Debug, PartialEq, Eq)]
+pub enum Power {
+    On,
+    Down,
+    DownNow,
+}
+
+/// The state of the machine. `jobs` stands in the order of serials, `started` in the order of start,
+/// `held` has the held queues.
+#[derive(Debug, Drop)]
+pub struct State {
+    pub objects: Objects,
+    pub jobs: ListOf<Job>,
+    pub started: ListOf<Sbs>,
+    pub held: ListOf<QName>,
+    pub stopped: ListOf<Stop>,
+    pub evokes: ListOf<Evoke>,
+    pub next_number: u32,
+    pub next_serial: u64,
+    pub next_place: u64,
+    pub clock: Moment,
+    pub offset_min: i32,
+    pub power: Power,
+}
