@@ -12,12 +12,12 @@ impl Limit {
     ghost use Rattle.wm_base.specs.Limit.{is_below};
 
     /// Whether a count is below the limit. *NOMAX is never reached.
-    pub fn admits(&self, count: u32) -> bool
+    pub fn admits(&self, count: usize) -> bool
         ensures { result ≡ is_below count self.now }
     {
         match self {
             Limit::NoMax => true,
-            Limit::Most(most) => count < *most,
+            Limit::Most(most) => count < *most as usize,
         }
     }
 }

@@ -1,1 +1,5 @@
+pub mod Choice
+pub mod Counts
+pub mod Launch
+pub mod Machine
 pub mod Names

@@ -1,5 +1,5 @@
--- Tests on names, and look-ups by them.
-use Rattle.std.specs.Prelude.{ℕ, Bool, List, Option, option_map, find, nat_eq, ◌&&◌}
+-- Tests on names, look-ups by them, and the names that the rules mention.
+use Rattle.std.specs.Prelude.{ℕ, Bool, List, Option, option_map, find, nat_eq, ◌&&◌, codes}
 use Rattle.std.specs.Cmp.Lexicographic.{pointwise}
 use Rattle.wm_base.specs.declared.qname.QName.{QName}
 
@@ -14,3 +14,11 @@ is_qname a b = is_name_of a.lib b.lib && is_name_of a.name b.name
 -- what a table has under a name
 abbrev pub described : {V : Type 0} → QName → List (QName × V) → Option V
 described name table = option_map (λ p. p.1) (find (λ p. is_qname p.0 name) table)
+
+-- a name in the library QGPL
+abbrev pub in_qgpl : List ℕ → QName
+in_qgpl name = record { lib = codes "QGPL"; name = name }
+
+-- the program that reads a job's request as a CALL
+abbrev pub qcmd : QName
+qcmd = record { lib = codes "QSYS"; name = codes "QCMD" }

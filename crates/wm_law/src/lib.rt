@@ -6,12 +6,15 @@
 #![tactic(auto)]
 
 mod call;
+mod choice;
+mod counts;
 mod job;
 mod list;
 mod objects;
 mod state;
 
 pub use call::{Call, Command, EndOption, Entry, Pwrdwnsys, Reply, Sbmjob, Strsbs};
+pub use choice::{Candidate, Rank};
 pub use job::{Job, JobKind, Phase, Why, Wish};
 pub use list::ListOf;
 pub use objects::{Cmp, Jobd, Jobq, Objects, Program, QueueEntry, RouteEntry, Sbsd, Table};

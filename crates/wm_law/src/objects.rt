@@ -106,3 +106,31 @@ pub struct Objects {
     pub jobds: Table<Jobd>,
     pub sbsds: Table<Sbsd>,
 }
+
+impl QueueEntry {
+    ghost use Rattle.std.specs.Prelude.{◌≡◌};
+    ghost use Rattle.wm_law.specs.Choice.{maxpty_of};
+
+    /// The limit for jobs of a priority.
+    pub fn maxpty_of(&self, pty: Priority) -> Limit
+        ensures { result ≡ maxpty_of self.now pty }
+    {
+        self.maxpty[usize::from(pty.get()) - 1]
+    }
+}
+
+impl Sbsd {
+    ghost use Rattle.std.specs.Prelude.{◌≡◌};
+    ghost use Rattle.std.specs.Option.{option_copied};
+    ghost use Rattle.wm_law.specs.Choice.{entry_for};
+
+    /// The entry for a queue.
+    pub fn entry_for(&self, queue: &QName) -> Option<&QueueEntry>
+        ensures { option_copied result ≡ entry_for queue.now self.now }
+    {
+        self.queues
+            .as_slice()
+            .iter()
+            .find(|entry| entry.jobq == *queue)
+    }
+}

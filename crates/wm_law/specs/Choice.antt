@@ -1,0 +1,101 @@
+-- Which job starts next.
+use Rattle.std.specs.Prelude.{ℕ, Bool, true, false, not, ◌-◌, ◌&&◌, List, Option, Some, None, is_some, find, fold, nat_le, nat_eq, if◌then◌else◌, slice_index_or, option_and_then}
+use Rattle.std.specs.List.{list_any}
+use Rattle.std.specs.Ordering.{nat_cmp, is_lt, ordering_then}
+use Rattle.std.specs.Cmp.Lexicographic.{slice_cmp}
+use Rattle.std.specs.declared.cmp.Ordering.{Ordering}
+use Rattle.wm_base.specs.declared.qname.QName.{QName}
+use Rattle.wm_base.specs.declared.limit.Limit.{Limit}
+use Rattle.wm_base.specs.declared.limit.Limit.TheVariants.{NoMax}
+use Rattle.wm_base.specs.Limit.{is_below}
+use Rattle.wm_law.specs.declared.job.Job.{Job}
+use Rattle.wm_law.specs.declared.objects.Sbsd.{Sbsd}
+use Rattle.wm_law.specs.declared.objects.QueueEntry.{QueueEntry}
+use Rattle.wm_law.specs.declared.state.State.{State}
+use Rattle.wm_law.specs.declared.state.Sbs.{Sbs}
+use Rattle.wm_law.specs.declared.state.SbsPhase.{SbsPhase}
+use Rattle.wm_law.specs.declared.state.SbsPhase.TheVariants.{Active, Ending, Now}
+use Rattle.wm_law.specs.declared.choice.Candidate.{Candidate}
+use Rattle.wm_law.specs.declared.choice.Rank.{Rank}
+use Rattle.wm_law.specs.Counts.{is_waiting, count_in_sbs, count_from_queue, count_from_priority}
+use Rattle.wm_law.specs.Names.{is_qname, described}
+
+-- a queue of the state is held
+abbrev pub is_held : State → QName → Bool
+is_held s queue = list_any (λ q. is_qname q queue) s.held
+
+-- the job has a queue that isn't held
+abbrev pub has_free_queue : State → Option QName → Bool
+has_free_queue s None = false
+has_free_queue s (Some queue) = not (is_held s queue)
+
+-- Waiting and not held, on a queue that isn't held, and due
+abbrev pub is_ready : State → Job → Bool
+is_ready s j = is_waiting j.phase && not j.held && has_free_queue s j.jobq && nat_le j.due s.clock
+
+-- a description's entry for a queue
+abbrev pub entry_for : QName → Sbsd → Option QueueEntry
+entry_for queue d = find (λ e. is_qname e.jobq queue) d.queues
+
+-- whether a subsystem's description has an entry for the queue
+abbrev pub has_entry : State → QName → Sbs → Bool
+has_entry s queue b = is_some (option_and_then (entry_for queue) (described b.sbsd s.objects.sbsds))
+
+-- the holder of a queue: the first started subsystem whose description has an entry for it
+abbrev pub holder : State → QName → Option Sbs
+holder s queue = find (has_entry s queue) s.started
+
+abbrev pub is_sbs_active : SbsPhase → Bool
+is_sbs_active Active = true
+is_sbs_active (Ending until) = false
+is_sbs_active Now = false
+
+-- an entry's limit for jobs of a priority, 1 to 9
+abbrev pub maxpty_of : QueueEntry → ℕ → Limit
+maxpty_of e pty = slice_index_or e.maxpty (pty - 1) NoMax
+
+-- the subsystem is Active, and its count, its entry's count and the count with the priority are each below their limits
+abbrev pub is_allowed : State → Sbs → Sbsd → QueueEntry → ℕ → Bool
+is_allowed s b d e pty =
+    is_sbs_active b.phase
+    && is_below (count_in_sbs b.sbsd s.jobs) d.maxjobs
+    && is_below (count_from_queue b.sbsd e.jobq s.jobs) e.maxact
+    && is_below (count_from_priority b.sbsd e.jobq pty s.jobs) (maxpty_of e pty)
+
+-- the job as a candidate from an entry, where it is allowed
+abbrev pub candidate_from : State → Job → Sbs → Sbsd → Option QueueEntry → Option Candidate
+candidate_from s j b d None = None
+candidate_from s j b d (Some e) =
+    if is_allowed s b d e j.pty
+    then Some (record { rank = record { sbs = b.sbsd.name; seq = e.seq; pty = j.pty; place = j.place }; sbs = b.sbsd; serial = j.serial })
+    else None
+
+abbrev pub candidate_described : State → Job → QName → Sbs → Option Sbsd → Option Candidate
+candidate_described s j queue b None = None
+candidate_described s j queue b (Some d) = candidate_from s j b d (entry_for queue d)
+
+abbrev pub candidate_held : State → Job → QName → Option Sbs → Option Candidate
+candidate_held s j queue None = None
+candidate_held s j queue (Some b) = candidate_described s j queue b (described b.sbsd s.objects.sbsds)
+
+abbrev pub candidate_queued : State → Job → Option QName → Option Candidate
+candidate_queued s j None = None
+candidate_queued s j (Some queue) = candidate_held s j queue (holder s queue)
+
+-- the job as a candidate, where it is ready and allowed
+abbrev pub candidate : State → Job → Option Candidate
+candidate s j = if is_ready s j then candidate_queued s j j.jobq else None
+
+-- the order of the subsystems' names, and in a subsystem the triple of sequence number, priority and place
+abbrev pub rank_cmp : Rank → Rank → Ordering
+rank_cmp a b = ordering_then (slice_cmp nat_cmp a.sbs b.sbs) (ordering_then (nat_cmp a.seq b.seq) (ordering_then (nat_cmp a.pty b.pty) (nat_cmp a.place b.place)))
+
+-- the one of two that stands before the other, the first where neither does
+abbrev pub better : Option Candidate → Option Candidate → Option Candidate
+better best None = best
+better None (Some c) = Some c
+better (Some b) (Some c) = if is_lt (rank_cmp c.rank b.rank) then Some c else Some b
+
+-- the ready and allowed job that no other stands before
+abbrev pub next : State → Option Candidate
+next s = fold (λ best j. better best (candidate s j)) None s.jobs

@@ -1,0 +1,154 @@
+-- What becomes of a job whose turn has come, and what its monitor is told to start.
+use Rattle.std.specs.Prelude.{ℕ, Bool, true, false, ◌-◌, ◌++◌, ◌&&◌, ◌==◌, [], ◌∷◌, List, length, take, drop, Option, Some, None, find, map, codes, bytes_eq, if◌then◌else◌, option_map, option_and_then, option_to_list}
+use Rattle.wm_base.specs.declared.qname.QName.{QName}
+use Rattle.wm_base.specs.declared.job.How.{How}
+use Rattle.wm_base.specs.declared.job.How.TheVariants.{NotYet, FromQueue, Auto, Pre}
+use Rattle.wm_base.specs.declared.job.EndCause.{EndCause}
+use Rattle.wm_base.specs.declared.job.EndCause.TheVariants.{NoRoute, RouteFull, BadRequest, NoProgram}
+use Rattle.wm_base.specs.declared.job.StartOrder.{StartOrder}
+use Rattle.wm_base.specs.declared.job.Class.{Class}
+use Rattle.wm_base.specs.Limit.{is_below}
+use Rattle.wm_law.specs.declared.job.Job.{Job}
+use Rattle.wm_law.specs.declared.job.Phase.{Phase}
+use Rattle.wm_law.specs.declared.job.Phase.TheVariants.{Starting, Ended}
+use Rattle.wm_law.specs.declared.objects.Cmp.{Cmp}
+use Rattle.wm_law.specs.declared.objects.Cmp.TheVariants.{Any}
+use Rattle.wm_law.specs.declared.objects.Program.{Program}
+use Rattle.wm_law.specs.declared.objects.RouteEntry.{RouteEntry}
+use Rattle.wm_law.specs.declared.objects.Sbsd.{Sbsd}
+use Rattle.wm_law.specs.declared.state.State.{State}
+use Rattle.wm_law.specs.declared.choice.Candidate.{Candidate}
+use Rattle.wm_law.specs.Counts.{count_by_route}
+use Rattle.wm_law.specs.Names.{is_qname, described, in_qgpl, qcmd}
+
+-- whether routing data passes a comparison
+abbrev pub is_match : Cmp → List ℕ → Bool
+is_match Any rtgdta = true
+
+-- the first routing entry, in the order of the sequence numbers, that routing data passes
+abbrev pub route : Sbsd → List ℕ → Option RouteEntry
+route d rtgdta = find (λ e. is_match e.cmp rtgdta) d.routes
+
+-- what stands before and behind the parameter in the request that is a CALL of QGPL/ECHO with one
+abbrev pub before_parameter : List ℕ
+before_parameter = codes "CALL PGM(QGPL/ECHO) PARM('"
+
+abbrev pub behind_parameter : List ℕ
+behind_parameter = codes "')"
+
+-- such a request
+abbrev pub call_request : List ℕ → List ℕ
+call_request parameter = before_parameter ++ parameter ++ behind_parameter
+
+-- the bytes without the mark at their end, where they end with it
+abbrev pub without_end : List ℕ → List ℕ → Option (List ℕ)
+without_end bytes mark =
+    let n = length bytes - length mark in
+    if bytes_eq (drop n bytes) mark then Some (take n bytes) else None
+
+-- the parameter of such a request
+abbrev pub parameter_of : List ℕ → Option (List ℕ)
+parameter_of request =
+    if bytes_eq (take (length before_parameter) request) before_parameter
+    then without_end (drop (length before_parameter) request) behind_parameter
+    else None
+
+-- a program and the arguments that it gets
+pub record Called : Type 0 where
+  pub pgm : QName
+  pub args : List (List ℕ)
+
+-- what the routing entry's program calls: QSYS/QCMD what the request says, another program itself with the request as its argument
+abbrev pub called : RouteEntry → Option (List ℕ) → Option Called
+called e request =
+    if is_qname e.pgm qcmd
+    then option_map (λ p. record { pgm = in_qgpl (codes "ECHO"); args = p ∷ [] }) (option_and_then parameter_of request)
+    else Some (record { pgm = e.pgm; args = option_to_list request })
+
+-- why a program object can't be started: there is none
+abbrev pub missing_program : Option Program → Option EndCause
+missing_program None = Some NoProgram
+missing_program (Some p) = None
+
+-- why what is called can't be started
+abbrev pub program_fault : State → Option Called → Option EndCause
+program_fault s None = Some BadRequest
+program_fault s (Some c) = missing_program (described c.pgm s.objects.programs)
+
+-- why a job that the entry matches can't start in the subsystem
+abbrev pub route_fault : State → QName → RouteEntry → Job → Option EndCause
+route_fault s sbs e j =
+    if is_below (count_by_route sbs e.seq s.jobs) e.maxact
+    then program_fault s (called e j.rqsdta)
+    else Some (RouteFull e.seq)
+
+-- what a launch makes of a job
+pub record Launched : Type 0 where
+  pub phase : Phase
+  pub how : How
+
+abbrev pub ends_by : EndCause → Launched
+ends_by cause = record { phase = Ended cause; how = NotYet }
+
+abbrev pub starts_from : QName → QName → Job → ℕ → Launched
+starts_from sbs queue j seq = record { phase = Starting; how = FromQueue sbs queue j.pty seq }
+
+abbrev pub launched_by : QName → QName → Job → ℕ → Option EndCause → Launched
+launched_by sbs queue j seq None = starts_from sbs queue j seq
+launched_by sbs queue j seq (Some cause) = ends_by cause
+
+abbrev pub launched_through : State → QName → QName → Job → Option RouteEntry → Launched
+launched_through s sbs queue j None = ends_by NoRoute
+launched_through s sbs queue j (Some e) = launched_by sbs queue j e.seq (route_fault s sbs e j)
+
+-- the launch of a job of a queue in a subsystem: no entry matches, the entry is full, the request is no CALL, the program is missing, or it starts
+abbrev pub launched : State → QName → QName → Job → Launched
+launched s sbs queue j = launched_through s sbs queue j (option_and_then (λ d. route d j.rtgdta) (described sbs s.objects.sbsds))
+
+-- the job as launched, where it has that serial
+abbrev pub launched_at : ℕ → Launched → Job → Job
+launched_at serial l j = if j.serial == serial then record j { phase = l.phase; how = l.how } else j
+
+-- the state with the job of that serial launched
+abbrev pub with_launched : State → ℕ → Launched → State
+with_launched s serial l = record s { jobs = map (launched_at serial l) s.jobs }
+
+abbrev pub launch_queued : State → Candidate → Job → Option QName → State
+launch_queued s c j None = s
+launch_queued s c j (Some queue) = with_launched s c.serial (launched s c.sbs queue j)
+
+abbrev pub launch_job : State → Candidate → Option Job → State
+launch_job s c None = s
+launch_job s c (Some j) = launch_queued s c j j.jobq
+
+-- the state after a candidate's launch
+abbrev pub launch : State → Candidate → State
+launch s c = launch_job s c (find (λ j. j.serial == c.serial) s.jobs)
+
+-- the order to start a called program with a class, where both are objects
+abbrev pub order_with : Job → List (List ℕ) → Option Program → Option Class → Option StartOrder
+order_with j args None cls = None
+order_with j args (Some p) None = None
+order_with j args (Some p) (Some cls) = Some (record { serial = j.serial; job = j.job; path = p.path; args = args; cls = cls; pre = false })
+
+abbrev pub order_called : State → Job → RouteEntry → Option Called → Option StartOrder
+order_called s j e None = None
+order_called s j e (Some c) = order_with j c.args (described c.pgm s.objects.programs) (described e.cls s.objects.classes)
+
+abbrev pub order_through : State → Job → Option RouteEntry → Option StartOrder
+order_through s j None = None
+order_through s j (Some e) = order_called s j e (called e j.rqsdta)
+
+-- a subsystem's routing entry of that number
+abbrev pub route_entry : State → QName → ℕ → Option RouteEntry
+route_entry s sbs seq = option_and_then (λ d. find (λ e. e.seq == seq) d.routes) (described sbs s.objects.sbsds)
+
+abbrev pub order_by : State → Job → How → Option StartOrder
+order_by s j NotYet = None
+order_by s j (FromQueue sbs jobq pty seq) = order_through s j (route_entry s sbs seq)
+order_by s j (Auto sbs seq) = order_through s j (route_entry s sbs seq)
+order_by s j (Pre sbs pgm) = None
+
+-- the order of a Starting job: its routing entry's program with the entry's class
+abbrev pub order_of : State → Job → Option StartOrder
+order_of s j = order_by s j j.how

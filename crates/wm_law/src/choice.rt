@@ -1,0 +1,139 @@
+// Which job starts next.
+ghost use Rattle.std.specs.Prelude.{◌≡◌};
+ghost use Rattle.wm_law.specs.Choice.{better};
+
+use crate::counts::{count_from_priority, count_from_queue, count_in_sbs, is_waiting};
+use crate::{Job, QueueEntry, Sbs, SbsPhase, Sbsd, State};
+use wm_base::{Name, Priority, QName, Serial};
+
+/// What orders the jobs that may start: the simple name of the subsystem, and there the entry's
+/// sequence number, the job's priority and its place.
+#[derive(Clone, Copy, Debug, PartialEq, Eq, PartialOrd, Ord)]
+pub struct Rank {
+    pub sbs: Name,
+    pub seq: u32,
+    pub pty: Priority,
+    pub place: u64,
+}
+
+/// A job that is ready and allowed.
+#[derive(Clone, Copy, Debug, PartialEq, Eq)]
+pub struct Candidate {
+    pub rank: Rank,
+    pub sbs: QName,
+    pub serial: Serial,
+}
+
+/// The one of two that stands before the other, the first where neither does.
+fn better(best: Option<Candidate>, other: Option<Candidate>) -> Option<Candidate>
+    ensures { result ≡ better best other }
+{
+    match (best, other) {
+        (best, None) => best,
+        (None, other) => other,
+        (Some(b), Some(c)) => {
+            if c.rank < b.rank {
+                Some(c)
+            } else {
+                Some(b)
+            }
+        }
+    }
+}
+
+impl State {
+    ghost use Rattle.std.specs.Prelude.{◌≡◌, None, fold};
+    ghost use Rattle.std.specs.Option.{option_copied};
+    ghost use Rattle.wm_law.specs.Names.{described};
+    ghost use Rattle.wm_law.specs.Choice.{is_held, is_ready, holder, has_entry, entry_for, is_allowed, candidate, candidate_from, next};
+
+    fn is_held(&self, queue: &QName) -> bool
+        ensures { result ≡ is_held self.now queue.now }
+    {
+        self.held.as_slice().iter().any(|q| q == queue)
+    }
+
+    fn is_ready(&self, job: &Job) -> bool
+        ensures { result ≡ is_ready self.now job.now }
+    {
+        is_waiting(&job.phase)
+            && !job.held
+            && match &job.jobq {
+                None => false,
+                Some(queue) => !self.is_held(queue),
+            }
+            && job.due <= self.clock
+    }
+
+    fn has_entry(&self, queue: &QName, sbs: &Sbs) -> bool
+        ensures { result ≡ has_entry self.now queue.now sbs.now }
+    {
+        match self.objects.sbsds.get(&sbs.sbsd) {
+            None => false,
+            Some(description) => description.entry_for(queue).is_some(),
+        }
+    }
+
+    /// The first started subsystem whose description has an entry for the queue.
+    pub fn holder(&self, queue: &QName) -> Option<&Sbs>
+        ensures { option_copied result ≡ holder self.now queue.now }
+    {
+        self.started
+            .as_slice()
+            .iter()
+            .find(|sbs| self.has_entry(queue, sbs))
+    }
+
+    fn is_allowed(&self, sbs: &Sbs, description: &Sbsd, entry: &QueueEntry, pty: Priority) -> bool
+        ensures { result ≡ is_allowed self.now sbs.now description.now entry.now pty }
+    {
+        let jobs = self.jobs.as_slice();
+        matches!(sbs.phase, SbsPhase::Active)
+            && description.maxjobs.admits(count_in_sbs(&sbs.sbsd, jobs))
+            && entry.maxact.admits(count_from_queue(&sbs.sbsd, &entry.jobq, jobs))
+            && entry.maxpty_of(pty).admits(count_from_priority(&sbs.sbsd, &entry.jobq, pty, jobs))
+    }
+
+    fn candidate_from(&self, job: &Job, sbs: &Sbs, description: &Sbsd, entry: &QueueEntry) -> Option<Candidate>
+        ensures { result ≡ candidate_from self.now job.now sbs.now description.now (Some entry.now) }
+    {
+        if !self.is_allowed(sbs, description, entry, job.pty) {
+            return None;
+        }
+        Some(Candidate {
+            rank: Rank {
+                sbs: sbs.sbsd.name,
+                seq: entry.seq,
+                pty: job.pty,
+                place: job.place,
+            },
+            sbs: sbs.sbsd,
+            serial: job.serial,
+        })
+    }
+
+    /// The job as a candidate, where it is ready and allowed.
+    pub fn candidate(&self, job: &Job) -> Option<Candidate>
+        ensures { result ≡ candidate self.now job.now }
+    {
+        if !self.is_ready(job) {
+            return None;
+        }
+        let queue = job.jobq.as_ref()?;
+        let sbs = self.holder(queue)?;
+        let description = self.objects.sbsds.get(&sbs.sbsd)?;
+        let entry = description.entry_for(queue)?;
+        self.candidate_from(job, sbs, description, entry)
+    }
+
+    /// The job that starts next: ready and allowed, and no other such job stands before it.
+    pub fn next(&self) -> Option<Candidate>
+        ensures { result ≡ next self.now }
+    {
+        let mut best = None;
+        for job in self.jobs.as_slice() {
+            best = better(best, self.candidate(job));
+        }
+        best
+    }
+}
