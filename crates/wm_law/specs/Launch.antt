@@ -1,5 +1,6 @@
 -- What becomes of a job whose turn has come, and what its monitor is told to start.
-use Rattle.std.specs.Prelude.{ℕ, Bool, true, false, ◌-◌, ◌++◌, ◌&&◌, ◌==◌, [], ◌∷◌, List, length, take, drop, Option, Some, None, find, map, codes, bytes_eq, if◌then◌else◌, option_map, option_and_then, option_to_list}
+use Rattle.std.specs.Prelude.{ℕ, Bool, true, false, ◌-◌, ◌++◌, ◌&&◌, ◌==◌, [], ◌∷◌, List, length, take, drop, Option, Some, None, find, map, codes, nat_eq, if◌then◌else◌, option_map, option_and_then, option_to_list}
+use Rattle.std.specs.List.{list_any, starts_with, ends_with}
 use Rattle.wm_base.specs.declared.qname.QName.{QName}
 use Rattle.wm_base.specs.declared.job.How.{How}
 use Rattle.wm_base.specs.declared.job.How.TheVariants.{NotYet, FromQueue, Auto, Pre}
@@ -18,8 +19,9 @@ use Rattle.wm_law.specs.declared.objects.RouteEntry.{RouteEntry}
 use Rattle.wm_law.specs.declared.objects.Sbsd.{Sbsd}
 use Rattle.wm_law.specs.declared.state.State.{State}
 use Rattle.wm_law.specs.declared.choice.Candidate.{Candidate}
+use Rattle.wm_law.specs.declared.launch.Launched.{Launched}
 use Rattle.wm_law.specs.Counts.{count_by_route}
-use Rattle.wm_law.specs.Names.{is_qname, described, in_qgpl, qcmd}
+use Rattle.wm_law.specs.Names.{is_qname, described, echo, qcmd}
 
 -- whether routing data passes a comparison
 abbrev pub is_match : Cmp → List ℕ → Bool
@@ -40,30 +42,33 @@ behind_parameter = codes "')"
 abbrev pub call_request : List ℕ → List ℕ
 call_request parameter = before_parameter ++ parameter ++ behind_parameter
 
--- the bytes without the mark at their end, where they end with it
+-- the bytes behind the mark, where they begin with it
+abbrev pub without_front : List ℕ → List ℕ → Option (List ℕ)
+without_front mark bytes = if starts_with nat_eq bytes mark then Some (drop (length mark) bytes) else None
+
+-- the bytes before the mark, where they end with it
 abbrev pub without_end : List ℕ → List ℕ → Option (List ℕ)
-without_end bytes mark =
-    let n = length bytes - length mark in
-    if bytes_eq (drop n bytes) mark then Some (take n bytes) else None
+without_end mark bytes = if ends_with nat_eq bytes mark then Some (take (length bytes - length mark) bytes) else None
+
+-- a parameter that stands in apostrophes as it is: without an apostrophe
+abbrev pub plain : List ℕ → Option (List ℕ)
+plain parameter = if list_any (λ b. b == 39) parameter then None else Some parameter
 
 -- the parameter of such a request
-abbrev pub parameter_of : List ℕ → Option (List ℕ)
-parameter_of request =
-    if bytes_eq (take (length before_parameter) request) before_parameter
-    then without_end (drop (length before_parameter) request) behind_parameter
-    else None
+unfoldable pub parameter_of : List ℕ → Option (List ℕ)
+parameter_of request = option_and_then plain (option_and_then (without_end behind_parameter) (without_front before_parameter request))
 
--- a program and the arguments that it gets
-pub record Called : Type 0 where
-  pub pgm : QName
-  pub args : List (List ℕ)
+-- the program that a request calls: QGPL/ECHO, where the request is such a CALL
+abbrev pub requested : Option (List ℕ) → Option QName
+requested request = option_map (λ p. echo) (option_and_then parameter_of request)
 
--- what the routing entry's program calls: QSYS/QCMD what the request says, another program itself with the request as its argument
-abbrev pub called : RouteEntry → Option (List ℕ) → Option Called
-called e request =
-    if is_qname e.pgm qcmd
-    then option_map (λ p. record { pgm = in_qgpl (codes "ECHO"); args = p ∷ [] }) (option_and_then parameter_of request)
-    else Some (record { pgm = e.pgm; args = option_to_list request })
+-- the program that a routing entry's program calls: QSYS/QCMD that of the request, another program itself
+abbrev pub called_program : RouteEntry → Option (List ℕ) → Option QName
+called_program e request = if is_qname e.pgm qcmd then requested request else Some e.pgm
+
+-- the arguments that it gets: from QSYS/QCMD the parameter, else the request, where there is one
+abbrev pub called_args : RouteEntry → Option (List ℕ) → List (List ℕ)
+called_args e request = if is_qname e.pgm qcmd then option_to_list (option_and_then parameter_of request) else option_to_list request
 
 -- why a program object can't be started: there is none
 abbrev pub missing_program : Option Program → Option EndCause
@@ -71,21 +76,16 @@ missing_program None = Some NoProgram
 missing_program (Some p) = None
 
 -- why what is called can't be started
-abbrev pub program_fault : State → Option Called → Option EndCause
+abbrev pub program_fault : State → Option QName → Option EndCause
 program_fault s None = Some BadRequest
-program_fault s (Some c) = missing_program (described c.pgm s.objects.programs)
+program_fault s (Some pgm) = missing_program (described pgm s.objects.programs)
 
 -- why a job that the entry matches can't start in the subsystem
 abbrev pub route_fault : State → QName → RouteEntry → Job → Option EndCause
 route_fault s sbs e j =
     if is_below (count_by_route sbs e.seq s.jobs) e.maxact
-    then program_fault s (called e j.rqsdta)
+    then program_fault s (called_program e j.rqsdta)
     else Some (RouteFull e.seq)
-
--- what a launch makes of a job
-pub record Launched : Type 0 where
-  pub phase : Phase
-  pub how : How
 
 abbrev pub ends_by : EndCause → Launched
 ends_by cause = record { phase = Ended cause; how = NotYet }
@@ -131,17 +131,21 @@ order_with j args None cls = None
 order_with j args (Some p) None = None
 order_with j args (Some p) (Some cls) = Some (record { serial = j.serial; job = j.job; path = p.path; args = args; cls = cls; pre = false })
 
-abbrev pub order_called : State → Job → RouteEntry → Option Called → Option StartOrder
+abbrev pub order_called : State → Job → RouteEntry → Option QName → Option StartOrder
 order_called s j e None = None
-order_called s j e (Some c) = order_with j c.args (described c.pgm s.objects.programs) (described e.cls s.objects.classes)
+order_called s j e (Some pgm) = order_with j (called_args e j.rqsdta) (described pgm s.objects.programs) (described e.cls s.objects.classes)
 
 abbrev pub order_through : State → Job → Option RouteEntry → Option StartOrder
 order_through s j None = None
-order_through s j (Some e) = order_called s j e (called e j.rqsdta)
+order_through s j (Some e) = order_called s j e (called_program e j.rqsdta)
+
+-- a description's routing entry of that number
+abbrev pub entry_numbered : ℕ → Sbsd → Option RouteEntry
+entry_numbered seq d = find (λ e. e.seq == seq) d.routes
 
 -- a subsystem's routing entry of that number
 abbrev pub route_entry : State → QName → ℕ → Option RouteEntry
-route_entry s sbs seq = option_and_then (λ d. find (λ e. e.seq == seq) d.routes) (described sbs s.objects.sbsds)
+route_entry s sbs seq = option_and_then (entry_numbered seq) (described sbs s.objects.sbsds)
 
 abbrev pub order_by : State → Job → How → Option StartOrder
 order_by s j NotYet = None

@@ -22,3 +22,7 @@ in_qgpl name = record { lib = codes "QGPL"; name = name }
 -- the program that reads a job's request as a CALL
 abbrev pub qcmd : QName
 qcmd = record { lib = codes "QSYS"; name = codes "QCMD" }
+
+-- the program that the requests call
+abbrev pub echo : QName
+echo = in_qgpl (codes "ECHO")

@@ -9,13 +9,18 @@ mod call;
 mod choice;
 mod counts;
 mod job;
+mod jobs;
+mod launch;
 mod list;
+mod machine;
+mod names;
 mod objects;
 mod state;
 
 pub use call::{Call, Command, EndOption, Entry, Pwrdwnsys, Reply, Sbmjob, Strsbs};
 pub use choice::{Candidate, Rank};
 pub use job::{Job, JobKind, Phase, Why, Wish};
+pub use launch::{BEFORE_PARAMETER, BEHIND_PARAMETER, Launched, parameter_of};
 pub use list::ListOf;
 pub use objects::{Cmp, Jobd, Jobq, Objects, Program, QueueEntry, RouteEntry, Sbsd, Table};
 pub use state::{Evoke, Power, Sbs, SbsPhase, State, Stop};
