@@ -67,7 +67,7 @@ abbrev pub candidate_from : State → Job → Sbs → Sbsd → Option QueueEntry
 candidate_from s j b d None = None
 candidate_from s j b d (Some e) =
     if is_allowed s b d e j.pty
-    then Some (record { rank = record { sbs = b.sbsd.name; seq = e.seq; pty = j.pty; place = j.place }; sbs = b.sbsd; serial = j.serial })
+    then Some (record { rank = record { sbs = b.sbsd.name; seq = e.seq; pty = j.pty; place = j.place }; sbs = b.sbsd; jobq = e.jobq; serial = j.serial })
     else None
 
 abbrev pub candidate_described : State → Job → QName → Sbs → Option Sbsd → Option Candidate

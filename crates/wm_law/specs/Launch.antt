@@ -113,13 +113,9 @@ launched_at serial l j = if j.serial == serial then record j { phase = l.phase; 
 abbrev pub with_launched : State → ℕ → Launched → State
 with_launched s serial l = record s { jobs = map (launched_at serial l) s.jobs }
 
-abbrev pub launch_queued : State → Candidate → Job → Option QName → State
-launch_queued s c j None = s
-launch_queued s c j (Some queue) = with_launched s c.serial (launched s c.sbs queue j)
-
 abbrev pub launch_job : State → Candidate → Option Job → State
 launch_job s c None = s
-launch_job s c (Some j) = launch_queued s c j j.jobq
+launch_job s c (Some j) = with_launched s c.serial (launched s c.sbs c.jobq j)
 
 -- the state after a candidate's launch
 abbrev pub launch : State → Candidate → State

@@ -89,7 +89,7 @@ start_subsystem s q = start_unless s q (start_refusal s q)
 
 -- SBMJOB
 
--- all numbers below this are job numbers
+-- all numbers from 1 to below this are job numbers
 abbrev pub numbers_end : ℕ
 numbers_end = 1000000
 
@@ -99,7 +99,7 @@ serials_end = 1000000000000000000
 
 -- a job number, a serial and a place are left
 abbrev pub has_numbers : State → Bool
-has_numbers s = nat_lt s.next_number numbers_end && nat_lt s.next_serial serials_end && nat_lt s.next_place serials_end
+has_numbers s = nat_le 1 s.next_number && nat_lt s.next_number numbers_end && nat_lt s.next_serial serials_end && nat_lt s.next_place serials_end
 
 -- the queue of a submitted job
 abbrev pub queue_of : Sbmjob → Jobd → QName
@@ -142,18 +142,13 @@ submitted_job s user c d =
       evoke = false;
     }
 
+-- the job goes last among the jobs, and its numbers are taken
+abbrev pub entered : State → Job → State
+entered s j = record s { jobs = s.jobs ++ j ∷ []; next_number = s.next_number + 1; next_serial = s.next_serial + 1; next_place = s.next_place + 1 }
+
 abbrev pub submit_unless : State → List ℕ → Sbmjob → Jobd → Option Refusal → Stepped
 submit_unless s user c d (Some x) = refused s x
-submit_unless s user c d None =
-    record {
-      reply = Submitted (job_name s user c) (queue_of c d);
-      state = record s {
-        jobs = s.jobs ++ submitted_job s user c d ∷ [];
-        next_number = s.next_number + 1;
-        next_serial = s.next_serial + 1;
-        next_place = s.next_place + 1
-      };
-    }
+submit_unless s user c d None = record { reply = Submitted (job_name s user c) (queue_of c d); state = entered s (submitted_job s user c d) }
 
 abbrev pub submit_with : State → List ℕ → Sbmjob → Option Jobd → Stepped
 submit_with s user c None = refused s (NoObject kind.Jobd)
@@ -265,12 +260,12 @@ is_ending (Ending until) = true
 is_ending Now = true
 
 -- an ending subsystem with no active job is gone
-abbrev pub is_gone : State → Sbs → Bool
-is_gone s b = is_ending b.phase && count_in_sbs b.sbsd s.jobs == 0
+abbrev pub is_gone : List Job → Sbs → Bool
+is_gone jobs b = is_ending b.phase && count_in_sbs b.sbsd jobs == 0
 
 -- the subsystems that are gone leave
 abbrev pub leave : State → State
-leave s = record s { started = filter (λ b. not (is_gone s b)) s.started }
+leave s = record s { started = filter (λ b. not (is_gone s.jobs b)) s.started }
 
 -- how many jobs wait
 abbrev pub waiting : State → ℕ

@@ -21,6 +21,7 @@ pub struct Rank {
 pub struct Candidate {
     pub rank: Rank,
     pub sbs: QName,
+    pub jobq: QName,
     pub serial: Serial,
 }
 
@@ -108,6 +109,7 @@ impl State {
                 place: job.place,
             },
             sbs: sbs.sbsd,
+            jobq: entry.jobq,
             serial: job.serial,
         })
     }
