@@ -15,6 +15,7 @@ mod list;
 mod machine;
 mod names;
 mod objects;
+mod settle;
 mod state;
 
 pub use call::{Call, Command, EndOption, Entry, Pwrdwnsys, Reply, Sbmjob, Strsbs};

@@ -1,6 +1,6 @@
 // A step of the machine: the clock is set, the call is applied, and the state settles.
 ghost use Rattle.std.specs.Prelude.{◌≡◌, IfOk};
-ghost use Rattle.wm_law.specs.Machine.{is_on, is_down_now, phase_word, is_handed_to, is_run_by, end_cause, is_ending, or_described};
+ghost use Rattle.wm_law.specs.Machine.{is_on, is_down_now, phase_word, is_handed_to, is_run_by, end_cause};
 
 use crate::counts::{count_in_sbs, is_starting, is_waiting};
 use crate::{Call, Candidate, Command, Job, JobKind, Jobd, Launched, ListOf, Phase, Power, Reply, Sbmjob, Sbs, SbsPhase, State, Wish};
@@ -66,15 +66,6 @@ fn end_cause(exit: &Exit) -> EndCause
         Exit::Code(0) => EndCause::Completed,
         Exit::Code(code) => EndCause::Exited(*code),
         Exit::Killed => EndCause::Killed,
-    }
-}
-
-fn is_ending(phase: &SbsPhase) -> bool
-    ensures { result ≡ is_ending phase.now }
-{
-    match phase {
-        SbsPhase::Active => false,
-        SbsPhase::Ending(_) | SbsPhase::Now => true,
     }
 }
 
