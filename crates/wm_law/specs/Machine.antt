@@ -213,14 +213,14 @@ is_run_by m (Handed n) = false
 is_run_by m (Running n) = n == m
 is_run_by m (Ended c) = false
 
-abbrev pub report_on : State → (Phase → Bool) → Phase → Option Job → Stepped
-report_on s test phase None = refused s NoJob
-report_on s test phase (Some j) =
-    if test j.phase then record { reply = Noted; state = with_phase s j.serial phase } else refused s (WrongPhase (phase_word j.phase))
+abbrev pub report_on : State → ℕ → (Phase → Bool) → Phase → Option Job → Stepped
+report_on s serial test phase None = refused s NoJob
+report_on s serial test phase (Some j) =
+    if test j.phase then record { reply = Noted; state = with_phase s serial phase } else refused s (WrongPhase (phase_word j.phase))
 
 -- a report moves the job of that serial on, where its phase passes the test
 abbrev pub report : State → ℕ → (Phase → Bool) → Phase → Stepped
-report s serial test phase = report_on s test phase (find (λ j. j.serial == serial) s.jobs)
+report s serial test phase = report_on s serial test phase (find (λ j. j.serial == serial) s.jobs)
 
 -- the cause of an end with no wish
 abbrev pub end_cause : Exit → EndCause

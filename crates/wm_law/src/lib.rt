@@ -7,6 +7,7 @@
 
 mod call;
 mod choice;
+mod commands;
 mod counts;
 mod job;
 mod jobs;
@@ -15,6 +16,7 @@ mod list;
 mod machine;
 mod names;
 mod objects;
+mod reports;
 mod settle;
 mod state;
 
