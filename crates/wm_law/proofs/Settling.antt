@@ -49,8 +49,8 @@ from_some : (s : State) (jobs : List Job) (best : Option Candidate) (c : Candida
 from_some s [] best c e = inl e
 from_some s (j ∷ jobs) best c e =
     elim (from_some s jobs (better best (candidate s j)) c e) as (λ _. (best ≡ Some c) ⊎ IsFrom s (j ∷ jobs) c) [
-      inl h ↦ (elim (one_of best (candidate s j) c h) as (λ _. (best ≡ Some c) ⊎ IsFrom s (j ∷ jobs) c) [ inl b ↦ inl b | inr o ↦ inr (j, inl refl, o) ])
-    | inr k ↦ inr (k.0, inr k.1, k.2)
+      | inl h ↦ (elim (one_of best (candidate s j) c h) as (λ _. (best ≡ Some c) ⊎ IsFrom s (j ∷ jobs) c) [ inl b ↦ inl b | inr o ↦ inr (j, inl refl, o) ])
+      | inr k ↦ inr (k.0, inr k.1, k.2)
     ]
 
 guarded : {X : Type 0} (t : Bool) (x : Option X) (y : X) → cond t x None ≡ Some y → (t ≡ true) × (x ≡ Some y)

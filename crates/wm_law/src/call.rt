@@ -1,5 +1,7 @@
 // The calls of the machine, its replies, and the entries of its history.
-use wm_base::{Asked, Exit, JobName, Moment, Name, Priority, QName, Refusal, Serial, StartCause, Text};
+use wm_base::{
+    Asked, Exit, JobName, Moment, Name, Priority, QName, Refusal, Serial, StartCause, Text,
+};
 
 /// How fast something ends.
 #[derive(Clone, Copy, Debug, PartialEq, Eq)]

@@ -32,13 +32,7 @@ fn better(best: Option<Candidate>, other: Option<Candidate>) -> Option<Candidate
     match (best, other) {
         (best, None) => best,
         (None, other) => other,
-        (Some(b), Some(c)) => {
-            if c.rank < b.rank {
-                Some(c)
-            } else {
-                Some(b)
-            }
-        }
+        (Some(b), Some(c)) => { if c.rank < b.rank { Some(c) } else { Some(b) } }
     }
 }
 
@@ -91,11 +85,21 @@ impl State {
         let jobs = self.jobs.as_slice();
         matches!(sbs.phase, SbsPhase::Active)
             && description.maxjobs.admits(count_in_sbs(&sbs.sbsd, jobs))
-            && entry.maxact.admits(count_from_queue(&sbs.sbsd, &entry.jobq, jobs))
-            && entry.maxpty_of(pty).admits(count_from_priority(&sbs.sbsd, &entry.jobq, pty, jobs))
+            && entry
+                .maxact
+                .admits(count_from_queue(&sbs.sbsd, &entry.jobq, jobs))
+            && entry
+                .maxpty_of(pty)
+                .admits(count_from_priority(&sbs.sbsd, &entry.jobq, pty, jobs))
     }
 
-    fn candidate_from(&self, job: &Job, sbs: &Sbs, description: &Sbsd, entry: &QueueEntry) -> Option<Candidate>
+    fn candidate_from(
+        &self,
+        job: &Job,
+        sbs: &Sbs,
+        description: &Sbsd,
+        entry: &QueueEntry,
+    ) -> Option<Candidate>
         ensures { result ≡ candidate_from self.now job.now sbs.now description.now (Some entry.now) }
     {
         if !self.is_allowed(sbs, description, entry, job.pty) {

@@ -203,7 +203,12 @@ impl State {
         }
     }
 
-    fn order_through(&self, alloc: Global, job: &Job, entry: &RouteEntry) -> Result<Option<StartOrder>, AllocError>
+    fn order_through(
+        &self,
+        alloc: Global,
+        job: &Job,
+        entry: &RouteEntry,
+    ) -> Result<Option<StartOrder>, AllocError>
         ensures { IfOk result (λ order. order ≡ order_through self.now job.now (Some entry.now)) }
     {
         let Some(pgm) = entry.called_program(&job.rqsdta) else {

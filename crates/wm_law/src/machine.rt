@@ -26,7 +26,9 @@ impl State {
             Call::Change { user, command } => self.change(user, command),
             Call::Hand => self.hand(alloc, caller),
             Call::Started(serial) => Ok(self.report_started(caller, *serial)),
-            Call::StartFailed(serial, cause) => Ok(self.report_start_failed(caller, *serial, *cause)),
+            Call::StartFailed(serial, cause) => Ok(self.report_start_failed(
+                caller, *serial, *cause,
+            )),
             Call::Finished(serial, exit) => Ok(self.report_finished(caller, *serial, exit)),
             Call::UseDone(serial) => Ok(self.report_use_done(caller, *serial)),
             Call::Tick => Ok(Reply::Noted),
@@ -34,7 +36,13 @@ impl State {
     }
 
     /// One step. An `Err` leaves the state.
-    pub fn step(&mut self, alloc: Global, caller: u32, call: &Call, now: Moment) -> Result<Reply, AllocError>
+    pub fn step(
+        &mut self,
+        alloc: Global,
+        caller: u32,
+        call: &Call,
+        now: Moment,
+    ) -> Result<Reply, AllocError>
         ensures reply { IfOk result (λ r. r ≡ (step self.old caller call.now now).reply) }
         ensures state { OnOk result (self.new ≡ (step self.old caller call.now now).state) }
         ensures err { OnErr result (self.new ≡ self.old) }

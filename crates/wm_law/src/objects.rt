@@ -3,6 +3,7 @@ ghost use Rattle.std.specs.Prelude.{◌≡◌};
 ghost use Rattle.std.specs.Option.{option_copied};
 
 use crate::ListOf;
+use std::alloc::{AllocError, Global};
 use std::marker::Model;
 use wm_base::{Class, Limit, Priority, QName, Text};
 
@@ -32,6 +33,37 @@ impl<V> Table<V> {
             .iter()
             .find(|pair| pair.0 == *name)
             .map(|pair| &pair.1)
+    }
+}
+
+impl<V: Drop> Table<V> {
+    ghost use Rattle.std.specs.Prelude.{◌≡◌, [], ◌∷◌, ◌++◌, IfOk, OnOk, OnErr};
+
+    /// A table with nothing in it.
+    pub fn new(alloc: Global) -> Table<V>
+        ensures { result ≡ [] }
+    {
+        Table {
+            items: Vec::new(alloc),
+        }
+    }
+
+    /// Adds an object at the end.
+    pub fn push(&mut self, name: QName, object: V) -> Result<(), AllocError>
+        ensures ok { OnOk result (self.new ≡ self.old ++ (name, object) ∷ []) }
+        ensures err { OnErr result (self.new ≡ self.old) }
+    {
+        self.items.push((name, object))?;
+        Ok(())
+    }
+
+    /// A table of one object.
+    pub fn of(alloc: Global, name: QName, object: V) -> Result<Table<V>, AllocError>
+        ensures { IfOk result (λ table. table ≡ (name, object) ∷ []) }
+    {
+        let mut table = Table::new(alloc);
+        table.push(name, object)?;
+        Ok(table)
     }
 }
 

@@ -48,7 +48,6 @@ fn end_cause(exit: &Exit) -> EndCause
     }
 }
 
-
 impl State {
     ghost use Rattle.std.specs.Prelude.{◌≡◌, OnOk, OnErr, IfOk, find};
     ghost use Rattle.std.specs.Option.{option_copied};

@@ -1,0 +1,75 @@
+-- Histories of the machine.
+use Rattle.std.specs.Prelude.{◌≡◌, ℕ, ◌≤◌, Bool, true, false, ◌==◌, ◌&&◌, List, [], ◌∷◌, Option, Some, None, filter, if◌then◌else◌, ⊤}
+use Rattle.std.specs.List.{filter_map}
+use Rattle.wm_base.specs.declared.job.Asked.{Asked}
+use Rattle.wm_law.specs.declared.call.Call.{Call}
+use Rattle.wm_law.specs.declared.call.Call.TheVariants.{Change, Hand, Started, StartFailed, Finished, UseDone, Tick}
+use Rattle.wm_law.specs.declared.call.Entry.{Entry}
+use Rattle.wm_law.specs.declared.call.Reply.{Reply}
+use Rattle.wm_law.specs.declared.call.Reply.TheVariants.{SbsStarted, Submitted, PowerDown, Order, Nothing, Noted, No}
+use Rattle.wm_law.specs.declared.state.State.{State}
+use Rattle.wm_law.specs.Fit.{IsCall, IsBuilt}
+use Rattle.wm_law.specs.Machine.{step, Stepped}
+
+-- what the machine does at an entry
+abbrev pub stepped : State → Entry → Stepped
+stepped s e = step s e.caller e.call e.moment
+
+-- the state that the calls of a history reach
+abbrev pub after : State → List Entry → State
+after s [] = s
+after s (e ∷ es) = after (stepped s e).state es
+
+-- an entry that the machine can have made in a state: its values keep their ranges, and its reply is the machine's
+pub record IsEntry (s : State) (e : Entry) : Type 0 where
+  pub call : IsCall e.call
+  pub built : IsBuilt s e.call
+  pub moment : e.moment ≤ 253402214399
+  pub reply : e.reply ≡ (stepped s e).reply
+
+-- each entry is one of the machine, from the state that the entries before it reach
+abbrev pub IsLegal : State → List Entry → Type 0
+IsLegal s [] = ⊤
+IsLegal s (e ∷ es) = IsEntry s e × IsLegal (stepped s e).state es
+
+-- the entries of a caller
+abbrev pub entries_of : ℕ → List Entry → List Entry
+entries_of caller log = filter (λ e. e.caller == caller) log
+
+-- whether monitors alone make the call
+abbrev pub is_monitor_call : Call → Bool
+is_monitor_call (Change user c) = false
+is_monitor_call Hand = true
+is_monitor_call (Started serial) = true
+is_monitor_call (StartFailed serial why) = true
+is_monitor_call (Finished serial end) = true
+is_monitor_call (UseDone serial) = true
+is_monitor_call Tick = true
+
+-- what a reply orders
+abbrev pub order_in : Reply → Option Asked
+order_in (SbsStarted sbs) = None
+order_in (Submitted job jobq) = None
+order_in PowerDown = None
+order_in (Order asked) = Some asked
+order_in Nothing = None
+order_in Noted = None
+order_in (No refusal) = None
+
+-- whether the call reports what a spawner told
+abbrev pub is_report : Call → Bool
+is_report (Change user c) = false
+is_report Hand = false
+is_report (Started serial) = true
+is_report (StartFailed serial why) = true
+is_report (Finished serial end) = true
+is_report (UseDone serial) = true
+is_report Tick = false
+
+-- what a caller's entries ordered, in order
+abbrev pub orders : List Entry → ℕ → List Asked
+orders log caller = filter_map (λ e. order_in e.reply) (entries_of caller log)
+
+-- what a caller reported, in order
+abbrev pub reports : List Entry → ℕ → List Call
+reports log caller = filter_map (λ e. if is_report e.call then Some e.call else None) (entries_of caller log)
