@@ -11,6 +11,7 @@ mod name;
 mod number;
 mod qname;
 mod refusal;
+mod steps;
 mod text;
 
 pub use args::Args;
@@ -20,4 +21,5 @@ pub use name::{BadName, NAME_LEN, Name};
 pub use number::{JobNumber, Moment, Priority, Serial};
 pub use qname::QName;
 pub use refusal::{Key, Kind, PhaseWord, Refusal};
+pub use steps::Steps;
 pub use text::{Text, is_text};

@@ -1,5 +1,7 @@
 // Limits.
-ghost use Rattle.std.specs.Prelude.{◌≡◌};
+ghost use Rattle.std.specs.Prelude.{◌≡◌, Some};
+
+use std::fmt;
 
 /// A limit, or none (*NOMAX).
 #[derive(Clone, Copy, Debug, PartialEq, Eq)]
@@ -18,6 +20,19 @@ impl Limit {
         match self {
             Limit::NoMax => true,
             Limit::Most(most) => count < *most,
+        }
+    }
+}
+
+impl fmt::Display for Limit {
+    ghost use Rattle.wm_base.specs.Limit.{limit_text};
+
+    ghost output = { λ limit. Some (limit_text limit) };
+
+    fn fmt<W: fmt::Write>(&self, f: &mut fmt::Formatter<W>) -> fmt::Result {
+        match self {
+            Limit::NoMax => f.write_str("*NOMAX"),
+            Limit::Most(most) => write!(f, "{most}"),
         }
     }
 }
