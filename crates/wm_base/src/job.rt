@@ -202,3 +202,61 @@ impl fmt::Display for EndCause {
         }
     }
 }
+
+#[cfg(test)]
+mod tests {
+    use super::*;
+    use std::test::Fail;
+
+    #[test]
+    fn a_job_name_is_number_user_and_name(rt: HostRuntime) -> Result<(), Fail> {
+        let job = JobName {
+            number: JobNumber::new(1),
+            user: Name::read(b"QUSER")?,
+            name: Name::read(b"A")?,
+        };
+        assert_eq!(rt; job.to_string(rt.alloc())?.as_str(), "000001/QUSER/A");
+        Ok(())
+    }
+
+    #[test]
+    fn prints_how_a_child_ended(rt: HostRuntime) -> Result<(), Fail> {
+        assert_eq!(rt; Exit::Code(7).to_string(rt.alloc())?.as_str(), "CODE 7");
+        assert_eq!(rt; Exit::Killed.to_string(rt.alloc())?.as_str(), "KILLED");
+        Ok(())
+    }
+
+    #[test]
+    fn an_end_cause_has_its_number_and_its_word(rt: HostRuntime) -> Result<(), Fail> {
+        for (cause, number, text) in [
+            (EndCause::Completed, 1, "COMPLETED"),
+            (EndCause::Exited(7), 2, "EXITED 7"),
+            (EndCause::Killed, 3, "KILLED"),
+            (EndCause::Endjob, 4, "ENDJOB"),
+            (EndCause::Endsbs, 5, "ENDSBS"),
+            (EndCause::Endpj, 6, "ENDPJ"),
+            (EndCause::Maxuse, 7, "MAXUSE"),
+            (EndCause::NoRoute, 8, "NOROUTE"),
+            (EndCause::RouteFull(10), 9, "ROUTEFULL 10"),
+            (EndCause::BadRequest, 10, "BADREQUEST"),
+            (EndCause::NoProgram, 11, "NOPROGRAM"),
+            (
+                EndCause::StartFailed(StartCause::Spawner),
+                12,
+                "STARTFAILED SPAWNER",
+            ),
+            (
+                EndCause::StartFailed(StartCause::Memory),
+                13,
+                "STARTFAILED MEMORY",
+            ),
+            (EndCause::Cleared, 14, "CLEARED"),
+            (EndCause::EndedOnQueue, 15, "ENDEDONQUEUE"),
+            (EndCause::Restarted, 16, "RESTARTED"),
+        ] {
+            assert_eq!(rt; cause.number(), number, "{text}");
+            assert_eq!(rt; cause.to_string(rt.alloc())?.as_str(), text);
+        }
+        Ok(())
+    }
+}

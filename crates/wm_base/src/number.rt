@@ -182,3 +182,41 @@ impl fmt::Display for Moment {
         write!(f, "{}", self.seconds)
     }
 }
+
+#[cfg(test)]
+mod tests {
+    use super::*;
+    use std::test::Fail;
+
+    #[test]
+    fn a_job_number_has_six_digits(rt: HostRuntime) -> Result<(), Fail> {
+        for (number, text) in [
+            (1, "000001"),
+            (42, "000042"),
+            (123_456, "123456"),
+            (JobNumber::MAX, "999999"),
+        ] {
+            let job = JobNumber::new(number);
+            assert_eq!(rt; job.get(), number);
+            assert_eq!(rt; job.to_string(rt.alloc())?.as_str(), text);
+        }
+        Ok(())
+    }
+
+    #[test]
+    fn other_numbers_are_decimal(rt: HostRuntime) -> Result<(), Fail> {
+        let serial = Serial::new(u64::MAX);
+        assert_eq!(rt; serial.get(), u64::MAX);
+        assert_eq!(rt;
+            serial.to_string(rt.alloc())?.as_str(),
+            "18446744073709551615"
+        );
+        let priority = Priority::new(9);
+        assert_eq!(rt; priority.get(), 9);
+        assert_eq!(rt; priority.to_string(rt.alloc())?.as_str(), "9");
+        let moment = Moment::new(Moment::MAX);
+        assert_eq!(rt; moment.get(), Moment::MAX);
+        assert_eq!(rt; moment.to_string(rt.alloc())?.as_str(), "253402214399");
+        Ok(())
+    }
+}

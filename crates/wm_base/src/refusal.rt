@@ -320,3 +320,101 @@ impl fmt::Display for Refusal {
         write!(f, "{:02} {}{}", self.number(), self.word(), Values(self))
     }
 }
+
+#[cfg(test)]
+mod tests {
+    use super::*;
+    use std::test::Fail;
+
+    #[test]
+    fn a_refusal_has_its_number_and_word(rt: HostRuntime) -> Result<(), Fail> {
+        for (refusal, number, line) in [
+            (Refusal::SeqUsed, 3, "03 SEQUSED"),
+            (Refusal::AnyNotLast, 4, "04 ANYNOTLAST"),
+            (Refusal::SbsActive, 5, "05 SBSACTIVE"),
+            (Refusal::SbsNotActive, 6, "06 SBSNOTACTIVE"),
+            (Refusal::AlreadyActive, 7, "07 ALREADYACTIVE"),
+            (Refusal::AlreadyEnding, 8, "08 ALREADYENDING"),
+            (Refusal::NoJob, 9, "09 NOJOB"),
+            (Refusal::Past, 11, "11 PAST"),
+            (Refusal::NumbersUsed, 12, "12 NUMBERSUSED"),
+            (Refusal::EntryStopped, 15, "15 ENTRYSTOPPED"),
+            (Refusal::NoneAvailable, 16, "16 NONEAVAILABLE"),
+            (Refusal::PoweringDown, 17, "17 POWERINGDOWN"),
+            (Refusal::HeldAlready, 19, "19 HELDALREADY"),
+            (Refusal::NotHeld, 21, "21 NOTHELD"),
+            (Refusal::OutOfRange, 22, "22 OUTOFRANGE"),
+            (Refusal::NotInUse, 23, "23 NOTINUSE"),
+        ] {
+            assert_eq!(rt; refusal.number(), number, "{line}");
+            assert_eq!(rt; refusal.to_string(rt.alloc())?.as_str(), line);
+        }
+        Ok(())
+    }
+
+    #[test]
+    fn a_refusal_prints_its_values(rt: HostRuntime) -> Result<(), Fail> {
+        for (refusal, number, line) in [
+            (Refusal::Exists(Kind::Sbsd), 1, "01 EXISTS SBSD"),
+            (Refusal::NoObject(Kind::Jobq), 2, "02 NOOBJECT JOBQ"),
+            (
+                Refusal::WrongPhase(PhaseWord::Ended),
+                10,
+                "10 WRONGPHASE ENDED",
+            ),
+            (Refusal::TableFull(Kind::Sbs, 32), 13, "13 TABLEFULL SBS 32"),
+            (
+                Refusal::BadRelation(Key::Threshold, Key::Inljobs),
+                14,
+                "14 BADRELATION THRESHOLD INLJOBS",
+            ),
+            (Refusal::Ambiguous(2), 18, "18 AMBIGUOUS 2"),
+            (Refusal::WaitListFull(100), 20, "20 WAITLISTFULL 100"),
+        ] {
+            assert_eq!(rt; refusal.number(), number, "{line}");
+            assert_eq!(rt; refusal.to_string(rt.alloc())?.as_str(), line);
+        }
+        Ok(())
+    }
+
+    #[test]
+    fn kinds_and_phases_have_their_words(rt: HostRuntime) -> Result<(), Fail> {
+        for (kind, word) in [
+            (Kind::Cls, "CLS"),
+            (Kind::Jobq, "JOBQ"),
+            (Kind::Jobd, "JOBD"),
+            (Kind::Pgm, "PGM"),
+            (Kind::Sbsd, "SBSD"),
+            (Kind::Jobqe, "JOBQE"),
+            (Kind::Rtge, "RTGE"),
+            (Kind::Aje, "AJE"),
+            (Kind::Pje, "PJE"),
+            (Kind::Sbs, "SBS"),
+        ] {
+            assert_eq!(rt; kind.to_string(rt.alloc())?.as_str(), word);
+        }
+        for (phase, word) in [
+            (PhaseWord::Waiting, "WAITING"),
+            (PhaseWord::Starting, "STARTING"),
+            (PhaseWord::Active, "ACTIVE"),
+            (PhaseWord::Ended, "ENDED"),
+        ] {
+            assert_eq!(rt; phase.to_string(rt.alloc())?.as_str(), word);
+        }
+        Ok(())
+    }
+
+    #[test]
+    fn a_key_is_its_keyword(rt: HostRuntime) -> Result<(), Fail> {
+        for (key, word) in [
+            (Key::Runpty, "RUNPTY"),
+            (Key::Maxpty1, "MAXPTY1"),
+            (Key::Maxpty9, "MAXPTY9"),
+            (Key::Scddate, "SCDDATE"),
+            (Key::Pools, "POOLS"),
+        ] {
+            assert_eq!(rt; key.to_string(rt.alloc())?.as_str(), word);
+        }
+        Ok(())
+    }
+}
