@@ -1,7 +1,7 @@
 //! What the crates above speak of: names, numbers, texts, orders, causes and refusals, with their printing.
 //!
 //! The contract for the layer above: `Name::read` is Ok exactly for the bytes of a name, and keeps them.
-//! The definitions are in `specs/`, one file for each module.
+//! The definitions are in `specs/`, one file for each type.
 #![tactic(auto)]
 
 mod args;
