@@ -1,5 +1,5 @@
 -- What is known of a step that is done while there is a next.
-use Rattle.std.proofs.Common.{◌≡◌, ℕ, zero, suc, ◌<◌, ◌≤◌, Option, None, Some, refl, sym, ◌∙◌, arith}
+use Rattle.std.proofs.Common.{◌≡◌, ℕ, zero, suc, ◌≤◌, Option, None, Some, refl, sym, ◌∙◌, arith}
 use Rattle.wm_base.specs.Iterate.{iterate, IsLessened, IsKept}
 
 -- there is a next or none

@@ -1,2 +1,3 @@
 pub mod Iterate
 pub mod Names
+pub mod Numbers

@@ -1,14 +1,12 @@
 -- What is known of a name's bytes.
-use Rattle.std.proofs.Common.{◌≡◌, ℕ, ◌<◌, ◌≤◌, ◌-◌, ◌++◌, Bool, true, List, [], ◌∷◌, length, take, drop, replicate, zero, suc, lit<, Result, Ok, Err, IsOk, MatchResult, IsTrue, subst, sym, ◌∙◌, ap, refl, arith}
+use Rattle.std.proofs.Common.{◌≡◌, ℕ, ◌<◌, ◌≤◌, ◌++◌, true, List, [], ◌∷◌, length, drop, replicate, zero, suc, lit<, Result, Ok, Err, IsOk, MatchResult, subst, sym, ◌∙◌, refl, arith}
 use Rattle.std.specs.Str.{IsAscii, IsUtf8}
-use Rattle.std.specs.List.{list_all, AllPass}
+use Rattle.std.specs.List.{list_all}
 use Rattle.std.proofs.Math.Seq.{take-append_seam, drop-append_seam}
-use Rattle.std.proofs.lemmas.Grind.{common_steps}
 use Rattle.std.proofs.lemmas.List.{length-append, length-drop, drop-replicate}
-use Rattle.std.proofs.lemmas.List.Sums.{AllPass-from_list_all}
 use Rattle.std.proofs.lemmas.Str.{IsUtf8-from_ascii}
 use Rattle.std.proofs.lemmas.Bool.Decides.{nat_tests}
-use Rattle.wm_base.specs.Name.{IsName, is_name, continues_name}
+use Rattle.wm_base.specs.Name.{IsName, continues_name}
 use Rattle.wm_base.specs.Text.{is_printable, IsText}
 use Rattle.wm_base.specs.NameInside.{IsNameInside}
 

@@ -1,5 +1,5 @@
 // The arguments of a program.
-ghost use Rattle.std.specs.Prelude.{◌≡◌, ◌++◌, [], ◌∷◌, List, ℕ, OnOk, OnErr, nat_eq};
+ghost use Rattle.std.specs.Prelude.{◌≡◌, ◌↔◌, ◌++◌, [], ◌∷◌, List, ℕ, IsTrue, OnOk, OnErr, length, nat_eq};
 ghost use Rattle.std.specs.Cmp.Lexicographic.{pointwise, nat_list_eq_equiv};
 ghost use Rattle.std.specs.Cmp.{partial_equiv_from_equiv};
 ghost use Rattle.std.proofs.lemmas.Cmp.{lists_equiv};
@@ -35,6 +35,18 @@ impl Args {
     {
         self.items.push(arg)?;
         Ok(())
+    }
+
+    pub fn len(&self) -> usize
+        ensures { result ≡ length self.now }
+    {
+        self.items.len()
+    }
+
+    pub fn is_empty(&self) -> bool
+        ensures { IsTrue result ↔ (self.now ≡ []) }
+    {
+        self.items.is_empty()
     }
 
     pub fn as_slice(&self) -> &[Text]
@@ -82,4 +94,28 @@ impl PartialEq for Args {
 
 impl Eq for Args {
     ghost laws = { lists_equiv nat_list_eq_equiv };
+}
+
+#[cfg(test)]
+mod tests {
+    use super::*;
+    use std::test::Fail;
+
+    #[test]
+    fn arguments_keep_their_order(rt: HostRuntime) -> Result<(), Fail> {
+        let mut args = Args::new(rt.alloc());
+        assert!(rt; args.is_empty());
+        args.push(Text::from_bytes(rt.alloc(), b"one")?)?;
+        args.push(Text::from_bytes(rt.alloc(), b"two")?)?;
+        assert_eq!(rt; args.len(), 2);
+        let items = args.as_slice();
+        assert_eq!(rt; items.len(), 2);
+        assert_eq!(rt; items[0].as_str(), "one");
+        assert_eq!(rt; items[1].as_str(), "two");
+        let copy = args.clone()?;
+        assert!(rt; copy == args);
+        let items: Vec<Text> = args.into();
+        assert!(rt; Args::from(items) == copy);
+        Ok(())
+    }
 }

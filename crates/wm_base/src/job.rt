@@ -1,5 +1,8 @@
 // A job's name and class, what a monitor is asked to do, and what it reports.
+ghost use Rattle.std.specs.Prelude.{◌≡◌, Some};
+
 use crate::{Args, JobNumber, Limit, Name, Priority, QName, Serial, Text};
+use std::fmt;
 
 /// A job's full name, printed as `000001/QUSER/A`.
 #[derive(Clone, Copy, Debug, PartialEq, Eq, PartialOrd, Ord)]
@@ -7,6 +10,16 @@ pub struct JobName {
     pub number: JobNumber,
     pub user: Name,
     pub name: Name,
+}
+
+impl fmt::Display for JobName {
+    ghost use Rattle.wm_base.specs.JobName.{job_name_text};
+
+    ghost output = { λ job. Some (job_name_text job) };
+
+    fn fmt<W: fmt::Write>(&self, f: &mut fmt::Formatter<W>) -> fmt::Result {
+        write!(f, "{}/{}/{}", self.number, self.user, self.name)
+    }
 }
 
 /// A class: the run priority, the time slice in milliseconds and the default wait in seconds.
@@ -44,6 +57,19 @@ pub enum Exit {
     Killed,
 }
 
+impl fmt::Display for Exit {
+    ghost use Rattle.wm_base.specs.Exit.{exit_text};
+
+    ghost output = { λ exit. Some (exit_text exit) };
+
+    fn fmt<W: fmt::Write>(&self, f: &mut fmt::Formatter<W>) -> fmt::Result {
+        match self {
+            Exit::Code(code) => write!(f, "CODE {code}"),
+            Exit::Killed => f.write_str("KILLED"),
+        }
+    }
+}
+
 /// What a spawner reports: a child's end, or that a prestart job is done with its request.
 #[derive(Clone, Copy, Debug, PartialEq, Eq)]
 pub enum Event {
@@ -56,6 +82,19 @@ pub enum Event {
 pub enum StartCause {
     Spawner,
     Memory,
+}
+
+impl fmt::Display for StartCause {
+    ghost use Rattle.wm_base.specs.StartCause.{start_cause_word};
+
+    ghost output = { λ cause. Some (start_cause_word cause) };
+
+    fn fmt<W: fmt::Write>(&self, f: &mut fmt::Formatter<W>) -> fmt::Result {
+        f.write_str(match self {
+            StartCause::Spawner => "SPAWNER",
+            StartCause::Memory => "MEMORY",
+        })
+    }
 }
 
 /// What an active job counts against: how it came into its subsystem.
@@ -96,4 +135,128 @@ pub enum EndCause {
     Cleared,
     EndedOnQueue,
     Restarted,
+}
+
+impl EndCause {
+    ghost use Rattle.wm_base.specs.EndCause.{end_cause_number, end_cause_word};
+
+    /// The cause's number, 1 to 16. A failed start has a number for each of its two causes.
+    pub fn number(&self) -> u8
+        ensures { result ≡ end_cause_number self.now }
+    {
+        match self {
+            EndCause::Completed => 1,
+            EndCause::Exited(_) => 2,
+            EndCause::Killed => 3,
+            EndCause::Endjob => 4,
+            EndCause::Endsbs => 5,
+            EndCause::Endpj => 6,
+            EndCause::Maxuse => 7,
+            EndCause::NoRoute => 8,
+            EndCause::RouteFull(_) => 9,
+            EndCause::BadRequest => 10,
+            EndCause::NoProgram => 11,
+            EndCause::StartFailed(StartCause::Spawner) => 12,
+            EndCause::StartFailed(StartCause::Memory) => 13,
+            EndCause::Cleared => 14,
+            EndCause::EndedOnQueue => 15,
+            EndCause::Restarted => 16,
+        }
+    }
+
+    fn word(&self) -> &'static str
+        ensures { result.now ≡ end_cause_word self.now }
+    {
+        match self {
+            EndCause::Completed => "COMPLETED",
+            EndCause::Exited(_) => "EXITED",
+            EndCause::Killed => "KILLED",
+            EndCause::Endjob => "ENDJOB",
+            EndCause::Endsbs => "ENDSBS",
+            EndCause::Endpj => "ENDPJ",
+            EndCause::Maxuse => "MAXUSE",
+            EndCause::NoRoute => "NOROUTE",
+            EndCause::RouteFull(_) => "ROUTEFULL",
+            EndCause::BadRequest => "BADREQUEST",
+            EndCause::NoProgram => "NOPROGRAM",
+            EndCause::StartFailed(_) => "STARTFAILED",
+            EndCause::Cleared => "CLEARED",
+            EndCause::EndedOnQueue => "ENDEDONQUEUE",
+            EndCause::Restarted => "RESTARTED",
+        }
+    }
+}
+
+impl fmt::Display for EndCause {
+    ghost use Rattle.wm_base.specs.EndCause.{end_cause_text};
+
+    ghost output = { λ cause. Some (end_cause_text cause) };
+
+    fn fmt<W: fmt::Write>(&self, f: &mut fmt::Formatter<W>) -> fmt::Result {
+        f.write_str(self.word())?;
+        match self {
+            EndCause::Exited(code) => write!(f, " {code}"),
+            EndCause::RouteFull(seq) => write!(f, " {seq}"),
+            EndCause::StartFailed(cause) => write!(f, " {cause}"),
+            _ => Ok(()),
+        }
+    }
+}
+
+#[cfg(test)]
+mod tests {
+    use super::*;
+    use std::test::Fail;
+
+    #[test]
+    fn a_job_name_is_number_user_and_name(rt: HostRuntime) -> Result<(), Fail> {
+        let job = JobName {
+            number: JobNumber::new(1),
+            user: Name::read(b"QUSER")?,
+            name: Name::read(b"A")?,
+        };
+        assert_eq!(rt; job.to_string(rt.alloc())?.as_str(), "000001/QUSER/A");
+        Ok(())
+    }
+
+    #[test]
+    fn prints_how_a_child_ended(rt: HostRuntime) -> Result<(), Fail> {
+        assert_eq!(rt; Exit::Code(7).to_string(rt.alloc())?.as_str(), "CODE 7");
+        assert_eq!(rt; Exit::Killed.to_string(rt.alloc())?.as_str(), "KILLED");
+        Ok(())
+    }
+
+    #[test]
+    fn an_end_cause_has_its_number_and_its_word(rt: HostRuntime) -> Result<(), Fail> {
+        for (cause, number, text) in [
+            (EndCause::Completed, 1, "COMPLETED"),
+            (EndCause::Exited(7), 2, "EXITED 7"),
+            (EndCause::Killed, 3, "KILLED"),
+            (EndCause::Endjob, 4, "ENDJOB"),
+            (EndCause::Endsbs, 5, "ENDSBS"),
+            (EndCause::Endpj, 6, "ENDPJ"),
+            (EndCause::Maxuse, 7, "MAXUSE"),
+            (EndCause::NoRoute, 8, "NOROUTE"),
+            (EndCause::RouteFull(10), 9, "ROUTEFULL 10"),
+            (EndCause::BadRequest, 10, "BADREQUEST"),
+            (EndCause::NoProgram, 11, "NOPROGRAM"),
+            (
+                EndCause::StartFailed(StartCause::Spawner),
+                12,
+                "STARTFAILED SPAWNER",
+            ),
+            (
+                EndCause::StartFailed(StartCause::Memory),
+                13,
+                "STARTFAILED MEMORY",
+            ),
+            (EndCause::Cleared, 14, "CLEARED"),
+            (EndCause::EndedOnQueue, 15, "ENDEDONQUEUE"),
+            (EndCause::Restarted, 16, "RESTARTED"),
+        ] {
+            assert_eq!(rt; cause.number(), number, "{text}");
+            assert_eq!(rt; cause.to_string(rt.alloc())?.as_str(), text);
+        }
+        Ok(())
+    }
 }

@@ -1,7 +1,7 @@
 //! What the crates above speak of: names, numbers, texts, orders, causes and refusals, with their printing.
 //!
 //! The contract for the layer above: `Name::read` is Ok exactly for the bytes of a name, and keeps them.
-//! The definitions are in `specs/`, one file for each module.
+//! The definitions are in `specs/`, one file for each type.
 #![tactic(auto)]
 
 mod args;
@@ -11,6 +11,7 @@ mod name;
 mod number;
 mod qname;
 mod refusal;
+mod steps;
 mod text;
 
 pub use args::Args;
@@ -20,4 +21,5 @@ pub use name::{BadName, NAME_LEN, Name};
 pub use number::{JobNumber, Moment, Priority, Serial};
 pub use qname::QName;
 pub use refusal::{Key, Kind, PhaseWord, Refusal};
+pub use steps::Steps;
 pub use text::{Text, is_text};

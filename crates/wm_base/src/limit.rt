@@ -1,5 +1,7 @@
 // Limits.
-ghost use Rattle.std.specs.Prelude.{◌≡◌};
+ghost use Rattle.std.specs.Prelude.{◌≡◌, Some};
+
+use std::fmt;
 
 /// A limit, or none (*NOMAX).
 #[derive(Clone, Copy, Debug, PartialEq, Eq)]
@@ -19,5 +21,43 @@ impl Limit {
             Limit::NoMax => true,
             Limit::Most(most) => count < *most as usize,
         }
+    }
+}
+
+impl fmt::Display for Limit {
+    ghost use Rattle.wm_base.specs.Limit.{limit_text};
+
+    ghost output = { λ limit. Some (limit_text limit) };
+
+    fn fmt<W: fmt::Write>(&self, f: &mut fmt::Formatter<W>) -> fmt::Result {
+        match self {
+            Limit::NoMax => f.write_str("*NOMAX"),
+            Limit::Most(most) => write!(f, "{most}"),
+        }
+    }
+}
+
+#[cfg(test)]
+mod tests {
+    use super::*;
+    use std::test::Fail;
+
+    #[test]
+    fn a_limit_admits_counts_below_it(rt: HostRuntime) {
+        for (limit, count, admits) in [
+            (Limit::Most(2), 1, true),
+            (Limit::Most(2), 2, false),
+            (Limit::Most(0), 0, false),
+            (Limit::NoMax, u32::MAX, true),
+        ] {
+            assert_eq!(rt; limit.admits(count), admits, "{count}");
+        }
+    }
+
+    #[test]
+    fn prints_no_limit_as_nomax(rt: HostRuntime) -> Result<(), Fail> {
+        assert_eq!(rt; Limit::NoMax.to_string(rt.alloc())?.as_str(), "*NOMAX");
+        assert_eq!(rt; Limit::Most(1000).to_string(rt.alloc())?.as_str(), "1000");
+        Ok(())
     }
 }

@@ -159,3 +159,40 @@ impl fmt::Display for Name {
         f.write_str(self.as_str())
     }
 }
+
+#[cfg(test)]
+mod tests {
+    use super::*;
+    use std::test::Fail;
+
+    #[test]
+    fn reads_exactly_the_names(rt: HostRuntime) {
+        for (text, is_name) in [
+            ("A", true),
+            ("ABCDEFGHIJ", true),
+            ("ABCDEFGHIJK", false),
+            ("", false),
+            ("1A", false),
+            ("A1", true),
+            ("_A", false),
+            ("A_", true),
+            ("a", false),
+            ("Aa", false),
+            ("$#@", true),
+            ("A.B", false),
+        ] {
+            assert_eq!(rt; Name::read(text.as_bytes()).is_ok(), is_name, "{text}");
+        }
+    }
+
+    #[test]
+    fn a_name_is_its_bytes(rt: HostRuntime) -> Result<(), Fail> {
+        let name = Name::read(b"QBATCH")?;
+        assert_eq!(rt; name.as_bytes(), b"QBATCH".as_slice());
+        assert_eq!(rt; name.as_str(), "QBATCH");
+        assert_eq!(rt; name.to_string(rt.alloc())?.as_str(), "QBATCH");
+        assert!(rt; name == Name::of(b"QBATCH"));
+        assert!(rt; Name::read(b"QA")? < name);
+        Ok(())
+    }
+}

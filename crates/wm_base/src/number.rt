@@ -1,6 +1,8 @@
 // Numbers that keep a range.
-ghost use Rattle.std.specs.Prelude.{◌≡◌, ◌≤◌, ◌<◌, ◌^◌};
+ghost use Rattle.std.specs.Prelude.{◌≡◌, ◌≤◌, ◌<◌, ◌^◌, Some};
+ghost use Rattle.std.specs.Fmt.{decimal};
 
+use std::fmt;
 use std::marker::Model;
 
 /// A job's number, 1 to 999999.
@@ -42,6 +44,17 @@ impl JobNumber {
     }
 }
 
+impl fmt::Display for JobNumber {
+    ghost use Rattle.wm_base.specs.Number.{zero_padded};
+
+    ghost output = { λ n. Some (zero_padded 6 n) };
+
+    #[tactic(auto, using(crate::proofs::Numbers::padded))]
+    fn fmt<W: fmt::Write>(&self, f: &mut fmt::Formatter<W>) -> fmt::Result {
+        write!(f, "{:06}", self.number)
+    }
+}
+
 /// A job's serial, which no other job of the store has. Serials begin at 1.
 #[derive(Clone, Copy, Debug, PartialEq, Eq, PartialOrd, Ord)]
 pub struct Serial {
@@ -70,6 +83,14 @@ impl Serial {
         ensures range { self < 2 ^ 64 }
     {
         self.serial
+    }
+}
+
+impl fmt::Display for Serial {
+    ghost output = { λ n. Some (decimal n) };
+
+    fn fmt<W: fmt::Write>(&self, f: &mut fmt::Formatter<W>) -> fmt::Result {
+        write!(f, "{}", self.serial)
     }
 }
 
@@ -109,6 +130,14 @@ impl Priority {
     }
 }
 
+impl fmt::Display for Priority {
+    ghost output = { λ n. Some (decimal n) };
+
+    fn fmt<W: fmt::Write>(&self, f: &mut fmt::Formatter<W>) -> fmt::Result {
+        write!(f, "{}", self.priority)
+    }
+}
+
 /// A moment in seconds from 1970-01-01T00:00:00Z, at most the last second of 9999-12-30.
 #[derive(Clone, Copy, Debug, PartialEq, Eq, PartialOrd, Ord)]
 pub struct Moment {
@@ -143,5 +172,51 @@ impl Moment {
         ensures range { self ≤ 253402214399 }
     {
         self.seconds
+    }
+}
+
+impl fmt::Display for Moment {
+    ghost output = { λ n. Some (decimal n) };
+
+    fn fmt<W: fmt::Write>(&self, f: &mut fmt::Formatter<W>) -> fmt::Result {
+        write!(f, "{}", self.seconds)
+    }
+}
+
+#[cfg(test)]
+mod tests {
+    use super::*;
+    use std::test::Fail;
+
+    #[test]
+    fn a_job_number_has_six_digits(rt: HostRuntime) -> Result<(), Fail> {
+        for (number, text) in [
+            (1, "000001"),
+            (42, "000042"),
+            (123_456, "123456"),
+            (JobNumber::MAX, "999999"),
+        ] {
+            let job = JobNumber::new(number);
+            assert_eq!(rt; job.get(), number);
+            assert_eq!(rt; job.to_string(rt.alloc())?.as_str(), text);
+        }
+        Ok(())
+    }
+
+    #[test]
+    fn other_numbers_are_decimal(rt: HostRuntime) -> Result<(), Fail> {
+        let serial = Serial::new(u64::MAX);
+        assert_eq!(rt; serial.get(), u64::MAX);
+        assert_eq!(rt;
+            serial.to_string(rt.alloc())?.as_str(),
+            "18446744073709551615"
+        );
+        let priority = Priority::new(9);
+        assert_eq!(rt; priority.get(), 9);
+        assert_eq!(rt; priority.to_string(rt.alloc())?.as_str(), "9");
+        let moment = Moment::new(Moment::MAX);
+        assert_eq!(rt; moment.get(), Moment::MAX);
+        assert_eq!(rt; moment.to_string(rt.alloc())?.as_str(), "253402214399");
+        Ok(())
     }
 }

@@ -1,4 +1,7 @@
 // Why the machine refuses a call.
+ghost use Rattle.std.specs.Prelude.{◌≡◌, Some};
+
+use std::fmt;
 
 /// A kind of object or of entry.
 #[derive(Clone, Copy, Debug, PartialEq, Eq)]
@@ -15,6 +18,38 @@ pub enum Kind {
     Sbs,
 }
 
+impl Kind {
+    ghost use Rattle.wm_base.specs.Kind.{kind_word};
+
+    /// The word of the kind.
+    pub fn word(self) -> &'static str
+        ensures { result.now ≡ kind_word self }
+    {
+        match self {
+            Kind::Cls => "CLS",
+            Kind::Jobq => "JOBQ",
+            Kind::Jobd => "JOBD",
+            Kind::Pgm => "PGM",
+            Kind::Sbsd => "SBSD",
+            Kind::Jobqe => "JOBQE",
+            Kind::Rtge => "RTGE",
+            Kind::Aje => "AJE",
+            Kind::Pje => "PJE",
+            Kind::Sbs => "SBS",
+        }
+    }
+}
+
+impl fmt::Display for Kind {
+    ghost use Rattle.wm_base.specs.Kind.{kind_word};
+
+    ghost output = { λ k. Some (kind_word k) };
+
+    fn fmt<W: fmt::Write>(&self, f: &mut fmt::Formatter<W>) -> fmt::Result {
+        f.write_str(self.word())
+    }
+}
+
 /// What a job's phase is called in a refusal. `Active` is a job that a monitor has.
 #[derive(Clone, Copy, Debug, PartialEq, Eq)]
 pub enum PhaseWord {
@@ -22,6 +57,32 @@ pub enum PhaseWord {
     Starting,
     Active,
     Ended,
+}
+
+impl PhaseWord {
+    ghost use Rattle.wm_base.specs.PhaseWord.{phase_word};
+
+    /// The word of the phase.
+    pub fn word(self) -> &'static str
+        ensures { result.now ≡ phase_word self }
+    {
+        match self {
+            PhaseWord::Waiting => "WAITING",
+            PhaseWord::Starting => "STARTING",
+            PhaseWord::Active => "ACTIVE",
+            PhaseWord::Ended => "ENDED",
+        }
+    }
+}
+
+impl fmt::Display for PhaseWord {
+    ghost use Rattle.wm_base.specs.PhaseWord.{phase_word};
+
+    ghost output = { λ p. Some (phase_word p) };
+
+    fn fmt<W: fmt::Write>(&self, f: &mut fmt::Formatter<W>) -> fmt::Result {
+        f.write_str(self.word())
+    }
 }
 
 /// A keyword of a command.
@@ -71,6 +132,70 @@ pub enum Key {
     Pools,
 }
 
+impl Key {
+    ghost use Rattle.wm_base.specs.Key.{key_word};
+
+    /// The keyword in capitals.
+    pub fn word(self) -> &'static str
+        ensures { result.now ≡ key_word self }
+    {
+        match self {
+            Key::Cls => "CLS",
+            Key::Runpty => "RUNPTY",
+            Key::Timeslice => "TIMESLICE",
+            Key::Dftwait => "DFTWAIT",
+            Key::Jobq => "JOBQ",
+            Key::Pgm => "PGM",
+            Key::Path => "PATH",
+            Key::Jobd => "JOBD",
+            Key::Jobpty => "JOBPTY",
+            Key::Rtgdta => "RTGDTA",
+            Key::Rqsdta => "RQSDTA",
+            Key::Hold => "HOLD",
+            Key::Sbsd => "SBSD",
+            Key::Maxjobs => "MAXJOBS",
+            Key::Maxact => "MAXACT",
+            Key::Seqnbr => "SEQNBR",
+            Key::Maxpty1 => "MAXPTY1",
+            Key::Maxpty2 => "MAXPTY2",
+            Key::Maxpty3 => "MAXPTY3",
+            Key::Maxpty4 => "MAXPTY4",
+            Key::Maxpty5 => "MAXPTY5",
+            Key::Maxpty6 => "MAXPTY6",
+            Key::Maxpty7 => "MAXPTY7",
+            Key::Maxpty8 => "MAXPTY8",
+            Key::Maxpty9 => "MAXPTY9",
+            Key::Cmpval => "CMPVAL",
+            Key::Poolid => "POOLID",
+            Key::Job => "JOB",
+            Key::Strjobs => "STRJOBS",
+            Key::Inljobs => "INLJOBS",
+            Key::Threshold => "THRESHOLD",
+            Key::Adljobs => "ADLJOBS",
+            Key::Maxuse => "MAXUSE",
+            Key::Wait => "WAIT",
+            Key::Sbs => "SBS",
+            Key::Option => "OPTION",
+            Key::Delay => "DELAY",
+            Key::Cmd => "CMD",
+            Key::Scddate => "SCDDATE",
+            Key::Scdtime => "SCDTIME",
+            Key::Text => "TEXT",
+            Key::Pools => "POOLS",
+        }
+    }
+}
+
+impl fmt::Display for Key {
+    ghost use Rattle.wm_base.specs.Key.{key_word};
+
+    ghost output = { λ k. Some (key_word k) };
+
+    fn fmt<W: fmt::Write>(&self, f: &mut fmt::Formatter<W>) -> fmt::Result {
+        f.write_str(self.word())
+    }
+}
+
 /// Why a call was refused. Its number and its line are this project's own.
 #[derive(Clone, Copy, Debug, PartialEq, Eq)]
 pub enum Refusal {
@@ -97,4 +222,199 @@ pub enum Refusal {
     NotHeld,
     OutOfRange,
     NotInUse,
+}
+
+impl Refusal {
+    ghost use Rattle.wm_base.specs.Refusal.{refusal_number, refusal_word};
+
+    /// The refusal's number, 1 to 23.
+    pub fn number(&self) -> u8
+        ensures { result ≡ refusal_number self.now }
+    {
+        match self {
+            Refusal::Exists(_) => 1,
+            Refusal::NoObject(_) => 2,
+            Refusal::SeqUsed => 3,
+            Refusal::AnyNotLast => 4,
+            Refusal::SbsActive => 5,
+            Refusal::SbsNotActive => 6,
+            Refusal::AlreadyActive => 7,
+            Refusal::AlreadyEnding => 8,
+            Refusal::NoJob => 9,
+            Refusal::WrongPhase(_) => 10,
+            Refusal::Past => 11,
+            Refusal::NumbersUsed => 12,
+            Refusal::TableFull(..) => 13,
+            Refusal::BadRelation(..) => 14,
+            Refusal::EntryStopped => 15,
+            Refusal::NoneAvailable => 16,
+            Refusal::PoweringDown => 17,
+            Refusal::Ambiguous(_) => 18,
+            Refusal::HeldAlready => 19,
+            Refusal::WaitListFull(_) => 20,
+            Refusal::NotHeld => 21,
+            Refusal::OutOfRange => 22,
+            Refusal::NotInUse => 23,
+        }
+    }
+
+    fn word(&self) -> &'static str
+        ensures { result.now ≡ refusal_word self.now }
+    {
+        match self {
+            Refusal::Exists(_) => "EXISTS",
+            Refusal::NoObject(_) => "NOOBJECT",
+            Refusal::SeqUsed => "SEQUSED",
+            Refusal::AnyNotLast => "ANYNOTLAST",
+            Refusal::SbsActive => "SBSACTIVE",
+            Refusal::SbsNotActive => "SBSNOTACTIVE",
+            Refusal::AlreadyActive => "ALREADYACTIVE",
+            Refusal::AlreadyEnding => "ALREADYENDING",
+            Refusal::NoJob => "NOJOB",
+            Refusal::WrongPhase(_) => "WRONGPHASE",
+            Refusal::Past => "PAST",
+            Refusal::NumbersUsed => "NUMBERSUSED",
+            Refusal::TableFull(..) => "TABLEFULL",
+            Refusal::BadRelation(..) => "BADRELATION",
+            Refusal::EntryStopped => "ENTRYSTOPPED",
+            Refusal::NoneAvailable => "NONEAVAILABLE",
+            Refusal::PoweringDown => "POWERINGDOWN",
+            Refusal::Ambiguous(_) => "AMBIGUOUS",
+            Refusal::HeldAlready => "HELDALREADY",
+            Refusal::WaitListFull(_) => "WAITLISTFULL",
+            Refusal::NotHeld => "NOTHELD",
+            Refusal::OutOfRange => "OUTOFRANGE",
+            Refusal::NotInUse => "NOTINUSE",
+        }
+    }
+}
+
+// The values behind a refusal's word.
+#[derive(Clone, Copy)]
+struct Values<'a>(&'a Refusal);
+
+impl fmt::Display for Values<'_> {
+    ghost use Rattle.wm_base.specs.Refusal.{refusal_values};
+
+    ghost output = { λ values. Some (refusal_values values.0.now) };
+
+    fn fmt<W: fmt::Write>(&self, f: &mut fmt::Formatter<W>) -> fmt::Result {
+        match self.0 {
+            Refusal::Exists(kind) | Refusal::NoObject(kind) => write!(f, " {kind}"),
+            Refusal::WrongPhase(phase) => write!(f, " {phase}"),
+            Refusal::TableFull(kind, most) => write!(f, " {kind} {most}"),
+            Refusal::BadRelation(key, other) => write!(f, " {key} {other}"),
+            Refusal::Ambiguous(number) | Refusal::WaitListFull(number) => write!(f, " {number}"),
+            _ => Ok(()),
+        }
+    }
+}
+
+impl fmt::Display for Refusal {
+    ghost use Rattle.wm_base.specs.Refusal.{refusal_text};
+
+    ghost output = { λ refusal. Some (refusal_text refusal) };
+
+    #[tactic(auto, using(crate::proofs::Numbers::padded))]
+    fn fmt<W: fmt::Write>(&self, f: &mut fmt::Formatter<W>) -> fmt::Result {
+        write!(f, "{:02} {}{}", self.number(), self.word(), Values(self))
+    }
+}
+
+#[cfg(test)]
+mod tests {
+    use super::*;
+    use std::test::Fail;
+
+    #[test]
+    fn a_refusal_has_its_number_and_word(rt: HostRuntime) -> Result<(), Fail> {
+        for (refusal, number, line) in [
+            (Refusal::SeqUsed, 3, "03 SEQUSED"),
+            (Refusal::AnyNotLast, 4, "04 ANYNOTLAST"),
+            (Refusal::SbsActive, 5, "05 SBSACTIVE"),
+            (Refusal::SbsNotActive, 6, "06 SBSNOTACTIVE"),
+            (Refusal::AlreadyActive, 7, "07 ALREADYACTIVE"),
+            (Refusal::AlreadyEnding, 8, "08 ALREADYENDING"),
+            (Refusal::NoJob, 9, "09 NOJOB"),
+            (Refusal::Past, 11, "11 PAST"),
+            (Refusal::NumbersUsed, 12, "12 NUMBERSUSED"),
+            (Refusal::EntryStopped, 15, "15 ENTRYSTOPPED"),
+            (Refusal::NoneAvailable, 16, "16 NONEAVAILABLE"),
+            (Refusal::PoweringDown, 17, "17 POWERINGDOWN"),
+            (Refusal::HeldAlready, 19, "19 HELDALREADY"),
+            (Refusal::NotHeld, 21, "21 NOTHELD"),
+            (Refusal::OutOfRange, 22, "22 OUTOFRANGE"),
+            (Refusal::NotInUse, 23, "23 NOTINUSE"),
+        ] {
+            assert_eq!(rt; refusal.number(), number, "{line}");
+            assert_eq!(rt; refusal.to_string(rt.alloc())?.as_str(), line);
+        }
+        Ok(())
+    }
+
+    #[test]
+    fn a_refusal_prints_its_values(rt: HostRuntime) -> Result<(), Fail> {
+        for (refusal, number, line) in [
+            (Refusal::Exists(Kind::Sbsd), 1, "01 EXISTS SBSD"),
+            (Refusal::NoObject(Kind::Jobq), 2, "02 NOOBJECT JOBQ"),
+            (
+                Refusal::WrongPhase(PhaseWord::Ended),
+                10,
+                "10 WRONGPHASE ENDED",
+            ),
+            (Refusal::TableFull(Kind::Sbs, 32), 13, "13 TABLEFULL SBS 32"),
+            (
+                Refusal::BadRelation(Key::Threshold, Key::Inljobs),
+                14,
+                "14 BADRELATION THRESHOLD INLJOBS",
+            ),
+            (Refusal::Ambiguous(2), 18, "18 AMBIGUOUS 2"),
+            (Refusal::WaitListFull(100), 20, "20 WAITLISTFULL 100"),
+        ] {
+            assert_eq!(rt; refusal.number(), number, "{line}");
+            assert_eq!(rt; refusal.to_string(rt.alloc())?.as_str(), line);
+        }
+        Ok(())
+    }
+
+    #[test]
+    fn kinds_and_phases_have_their_words(rt: HostRuntime) -> Result<(), Fail> {
+        for (kind, word) in [
+            (Kind::Cls, "CLS"),
+            (Kind::Jobq, "JOBQ"),
+            (Kind::Jobd, "JOBD"),
+            (Kind::Pgm, "PGM"),
+            (Kind::Sbsd, "SBSD"),
+            (Kind::Jobqe, "JOBQE"),
+            (Kind::Rtge, "RTGE"),
+            (Kind::Aje, "AJE"),
+            (Kind::Pje, "PJE"),
+            (Kind::Sbs, "SBS"),
+        ] {
+            assert_eq!(rt; kind.to_string(rt.alloc())?.as_str(), word);
+        }
+        for (phase, word) in [
+            (PhaseWord::Waiting, "WAITING"),
+            (PhaseWord::Starting, "STARTING"),
+            (PhaseWord::Active, "ACTIVE"),
+            (PhaseWord::Ended, "ENDED"),
+        ] {
+            assert_eq!(rt; phase.to_string(rt.alloc())?.as_str(), word);
+        }
+        Ok(())
+    }
+
+    #[test]
+    fn a_key_is_its_keyword(rt: HostRuntime) -> Result<(), Fail> {
+        for (key, word) in [
+            (Key::Runpty, "RUNPTY"),
+            (Key::Maxpty1, "MAXPTY1"),
+            (Key::Maxpty9, "MAXPTY9"),
+            (Key::Scddate, "SCDDATE"),
+            (Key::Pools, "POOLS"),
+        ] {
+            assert_eq!(rt; key.to_string(rt.alloc())?.as_str(), word);
+        }
+        Ok(())
+    }
 }

@@ -1,4 +1,3 @@
-use Rattle.std.proofs.Common.{rules, ◌≡◌}
 use Rattle.wm_base.proofs.Names.{IsNameInside-of}
 use Rattle.wm_base.proofs.name.Name.of.Goals as goal
 

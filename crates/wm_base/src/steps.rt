@@ -1,0 +1,67 @@
+// A count of steps that only proofs see.
+ghost use Rattle.std.specs.Prelude.{◌≡◌, ◌+◌, ◌<◌};
+
+use std::marker::Model;
+use std::sync::ledger::{Blank, Book, Ledger, Share};
+
+/// How many steps were taken. It takes no bytes at run time, and nothing lessens it.
+/// A contract sees it as a number.
+#[derive(Drop)]
+pub struct Steps<L: Ledger> {
+    book: Book<L>,
+    share: Share<L>,
+}
+
+impl<L: Ledger> Model for Steps<L> {
+    ghost use Rattle.std.specs.Prelude.{ℕ, ◌<◌};
+
+    ghost Value = { ℕ };
+
+    ghost view = { λ s. s.book.total };
+
+    ghost invariant = { λ s. 0 < s.share.parts };
+}
+
+impl<L: Ledger> Steps<L> {
+    /// A count that begins at 0, over a ledger that has no other count. `Blank::new(1)` makes the blank of one.
+    pub fn new(blank: Blank) -> Steps<L>
+        requires name { blank.name ≡ L.name }
+        requires parts { blank.parts ≡ L.parts }
+        requires some { 0 < blank.parts }
+        ensures { result ≡ 0 }
+    {
+        let (book, share) = blank.open::<L>();
+        Steps { book, share }
+    }
+
+    /// Counts one step.
+    pub fn tick(&mut self)
+        ensures { self.new ≡ self.old + 1 }
+    {
+        self.book.add(&mut self.share, 1);
+    }
+}
+
+#[cfg(test)]
+mod tests {
+    use super::*;
+    use std::marker::Brand;
+    use std::mem;
+
+    // Two steps, counted in a proof alone.
+    fn two_steps<L: Ledger>(blank: Blank)
+        requires name { blank.name ≡ L.name }
+        requires parts { blank.parts ≡ L.parts }
+        requires some { 0 < blank.parts }
+    {
+        let mut steps = Steps::<L>::new(blank);
+        steps.tick();
+        steps.tick();
+    }
+
+    #[test]
+    fn a_count_takes_no_bytes(rt: HostRuntime) {
+        two_steps::<Brand>(Blank::new(1));
+        assert_eq!(rt; mem::size_of::<Steps<Brand>>(), 0);
+    }
+}
