@@ -1,0 +1,3 @@
+pub mod Cause
+pub mod Memory
+pub mod Told
