@@ -1,3 +1,3 @@
 pub mod Bytes
 pub mod Cause
-pub mod Told
+pub mod Telling

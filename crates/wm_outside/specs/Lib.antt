@@ -1,3 +1,4 @@
 pub mod Cause
 pub mod Memory
+pub mod Spawner
 pub mod Told

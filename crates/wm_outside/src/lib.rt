@@ -13,9 +13,11 @@ mod fault;
 mod memory;
 mod sink;
 mod source;
+mod spawner;
 
 pub use clock::Clock;
 pub use fault::{Failed, StartFault};
 pub use memory::{MemClock, MemSink, MemSource};
 pub use sink::Sink;
 pub use source::Source;
+pub use spawner::{Spawner, Told};
