@@ -1,0 +1,20 @@
+-- Counts of faults.
+use Rattle.std.specs.Prelude.{◌≡◌, ℕ, ◌+◌, ◌-◌, ◌^◌, ◌≤◌, min, Bool, true, false, Result, Ok, Err, OnErr, IsErrOf}
+use Rattle.wm_outside.specs.declared.fault.Failed.{Failed}
+use Rattle.wm_outside.specs.declared.fault.StartFault.{StartFault}
+use Rattle.wm_outside.specs.declared.fault.StartFault.TheVariants.{Failed as start_failed, NoMemory}
+
+-- a count with one more, which stays at the greatest u64
+abbrev pub raised : ℕ → ℕ
+raised count = min (count + 1) (2 ^ 64 - 1)
+
+-- the count hasn't fallen, and a call that answers `Failed` has raised it
+pub record HasCause {T : Type 0} (before now : ℕ) (result : Result T Failed) : Type 0 where
+  pub later : before ≤ now
+  pub failed : OnErr result (raised before ≤ now)
+
+-- the same of a start, which raises no count for want of memory
+pub record HasStartCause {T : Type 0} (before now : ℕ) (result : Result T StartFault) : Type 0 where
+  pub later : before ≤ now
+  pub failed : IsErrOf result start_failed → raised before ≤ now
+  pub no_memory : IsErrOf result NoMemory → now ≡ before

@@ -1,0 +1,25 @@
+-- What an object of the outside tells of itself, or doesn't. What has ceased to tell doesn't begin again.
+use Rattle.std.specs.Prelude.{◌≡◌, List, [], ◌++◌, Option, Some, None, ⊤}
+
+-- where it is told, it has grown by these at its end
+abbrev pub Grows : {A : Type 0} → Option (List A) → Option (List A) → List A → Type 0
+Grows old None more = ⊤
+Grows None (Some now) more = ⊥
+Grows (Some before) (Some now) more = now ≡ before ++ more
+
+-- where it is told, these were taken from its front
+abbrev pub Takes : {A : Type 0} → Option (List A) → List A → Option (List A) → Type 0
+Takes old taken None = ⊤
+Takes None taken (Some now) = ⊥
+Takes (Some before) taken (Some now) = before ≡ taken ++ now
+
+-- where it is told, it has changed by this function
+abbrev pub Becomes : {A : Type 0} → Option A → Option A → (A → A) → Type 0
+Becomes old None change = ⊤
+Becomes None (Some now) change = ⊥
+Becomes (Some before) (Some now) change = now ≡ change before
+
+-- where it is told, there is nothing in it
+abbrev pub IsEmpty : {A : Type 0} → Option (List A) → Type 0
+IsEmpty None = ⊤
+IsEmpty (Some now) = now ≡ []

@@ -1,0 +1,23 @@
+//! The outside as the layers above see it: where bytes come from and go to, what time it is, and what starts programs.
+//! Each is a trait with a written meaning and a count of faults, a form in memory, and an adapter of the real thing.
+//!
+//! The contract for the layer above: a call answers `Failed` only where its object's count rose in that call, and what
+//! an object tells of itself changes by exactly what the call took, gave or was asked, until it ceases to tell.
+//!
+//! In the order of reading: what an object tells (`specs/Told.antt`), the counts (`specs/Cause.antt`), the traits, the
+//! forms in memory (`memory/`).
+#![tactic(auto)]
+
+mod clock;
+mod fault;
+mod memory;
+mod sink;
+mod source;
+mod spawner;
+
+pub use clock::Clock;
+pub use fault::{Failed, StartFault};
+pub use memory::{MemClock, MemSink, MemSource};
+pub use sink::Sink;
+pub use source::Source;
+pub use spawner::{Spawner, Told};
