@@ -7,8 +7,12 @@
 
 mod call;
 mod first;
+mod joiner;
+mod line;
 #[cfg(test)]
 mod tests;
 
 pub use call::call_text;
 pub use first::{First, FirstFault, one_reading, read_first};
+pub use joiner::{Joiner, LINE_LEN};
+pub use line::LogicalLine;
