@@ -1,0 +1,12 @@
+use Rattle.std.proofs.lemmas.Bool.Decides.{Decides-eqb}
+use Rattle.std.proofs.lemmas.Slice.Eq.{strip_prefix_is}
+use Rattle.wm_clwords.proofs.FirstLemmas.{behind_found, behind_none}
+use Rattle.wm_clwords.proofs.first.behind.Goals as goal
+
+pub returns-clause-found : goal.returns-clause-found
+returns-clause-found c =
+    behind_found _ _ _ (strip_prefix_is Decides-eqb c.args.bytes.now c.args.front.now c.strip_prefix.result c.strip_prefix.ensures.cases)
+
+pub returns-clause-none : goal.returns-clause-none
+returns-clause-none c =
+    behind_none _ _ _ (strip_prefix_is Decides-eqb c.args.bytes.now c.args.front.now c.strip_prefix.result c.strip_prefix.ensures.cases)

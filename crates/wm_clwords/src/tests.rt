@@ -1,0 +1,232 @@
+// Tests of what no clause says: that the calls succeed, and examples from outside.
+use crate::{FirstFault, Joiner, LogicalLine, call_text, read_first};
+use std::alloc::Global;
+use std::process::Abort;
+use std::test::Fail;
+use wm_base::{Args, Name, QName, Text};
+
+mod first {
+    use super::*;
+
+    fn read(rt: &impl Abort, alloc: Global, line: &[u8], text: &[u8], name: &[u8]) {
+        match read_first(alloc, line) {
+            Ok(first) => {
+                assert_eq!(rt; first.text.as_bytes(), text);
+                assert_eq!(rt; first.name.as_bytes(), name);
+            }
+            Err(_) => assert!(rt; false),
+        }
+    }
+
+    #[test]
+    fn the_one_form_is_read(rt: HostRuntime) {
+        let line = b"SBMJOB CMD(CALL PGM(ECHO) PARM('HI')) JOB(A)";
+        read(&rt, rt.alloc(), line, b"HI", b"A");
+        let line = b"SBMJOB CMD(CALL PGM(ECHO) PARM('')) JOB(ABCDEFGH_1)";
+        read(&rt, rt.alloc(), line, b"", b"ABCDEFGH_1");
+    }
+
+    fn of_length(alloc: Global, len: usize) -> Result<Text, Fail> {
+        let mut line = Text::new(alloc);
+        line.push_bytes(b"SBMJOB CMD(CALL PGM(ECHO) PARM('")?;
+        for _ in 0..len {
+            line.push_bytes(b"x")?;
+        }
+        line.push_bytes(b"')) JOB(A)")?;
+        Ok(line)
+    }
+
+    #[test]
+    fn a_text_has_at_most_100_bytes(rt: HostRuntime) -> Result<(), Fail> {
+        let line = of_length(rt.alloc(), 100)?;
+        let first = read_first(rt.alloc(), line.as_bytes())?;
+        assert_eq!(rt; first.text.len(), 100);
+        let line = of_length(rt.alloc(), 101)?;
+        let fault = read_first(rt.alloc(), line.as_bytes()).err();
+        assert_eq!(rt; fault, Some(FirstFault::NotBuilt));
+        Ok(())
+    }
+
+    #[test]
+    fn other_lines_are_not_built(rt: HostRuntime) {
+        let lines: [&[u8]; 9] = [
+            b"SBMJOB CMD(CALL PGM(ECHO) PARM('a'b')) JOB(A)",
+            b"SBMJOB CMD(CALL PGM(ECHO) PARM('HI')) JOB(a)",
+            b"SBMJOB CMD(CALL PGM(ECHO) PARM('HI')) JOB(ABCDEFGHIJK)",
+            b"SBMJOB CMD(CALL PGM(ECHO) PARM('HI')) JOB(A",
+            b"SBMJOB CMD(CALL PGM(ECHO) PARM('HI')) JOB(A) ",
+            b"SBMJOB CMD(CALL PGM(ECHO) PARM('HI')) JOB()",
+            b"SBMJOB CMD(CALL PGM(ECHO) PARM('\t')) JOB(A)",
+            b"X",
+            b"",
+        ];
+        for line in lines {
+            let fault = read_first(rt.alloc(), line).err();
+            assert_eq!(rt; fault, Some(FirstFault::NotBuilt));
+        }
+    }
+}
+
+mod call {
+    use super::*;
+
+    fn name(rt: &impl Abort, bytes: &[u8]) -> Name {
+        Name::read(bytes).expect(rt, "a name")
+    }
+
+    #[test]
+    fn a_call_is_printed_with_its_values(rt: HostRuntime) -> Result<(), Fail> {
+        let pgm = QName {
+            lib: name(&rt, b"QGPL"),
+            name: name(&rt, b"ECHO"),
+        };
+        let mut parms = Args::new(rt.alloc());
+        let text = call_text(rt.alloc(), &pgm, &parms)?;
+        assert_eq!(rt; text.as_bytes(), b"CALL PGM(QGPL/ECHO)".as_slice());
+        parms.push(Text::from_bytes(rt.alloc(), b"HI")?)?;
+        parms.push(Text::from_bytes(rt.alloc(), b"it's")?)?;
+        let text = call_text(rt.alloc(), &pgm, &parms)?;
+        assert_eq!(rt;
+            text.as_bytes(),
+            b"CALL PGM(QGPL/ECHO) PARM('HI' 'it''s')".as_slice()
+        );
+        Ok(())
+    }
+}
+
+mod joiner {
+    use super::*;
+
+    // The script of a night, as it is typed, and its logical lines.
+    const NIGHT: &[u8] = b"/* night batch */
+CRTJOBQ JOBQ(QGPL/NIGHT) TEXT('Night queue')
+CRTCLS CLS(NIGHT) RUNPTY(60) TIMESLICE(5000)
+CRTJOBD JOBD(NIGHT) JOBQ(NIGHT) JOBPTY(4) RTGDTA('NIGHT')
+CRTSBSD SBSD(NIGHT) POOLS((1 *BASE)) MAXJOBS(8) TEXT('Night')
+ADDJOBQE SBSD(NIGHT) JOBQ(NIGHT) MAXACT(2) SEQNBR(20)
+ADDRTGE SBSD(NIGHT) SEQNBR(10) CMPVAL('NIGHT') +
+   PGM(QSYS/QCMD)
+STRSBS NIGHT
+SBMJOB CMD(CALL PGM(ECHO) PARM('one')) JOB(ONE) JOBD(NIGHT) RTGDTA(*JOBD)
+SBMJOB CMD(CALL PGM(ECHO) PARM('two')) JOB(TWO) JOBD(NIGHT)
+SBMJOB CMD(CALL PGM(ECHO)) JOB(THREE) JOBD(NIGHT) RTGDTA(*JOBD) HOLD(*YES)
+RLSJOB JOB(THREE)
+ENDSBS SBS(NIGHT) OPTION(*CNTRLD)
+";
+
+    const NIGHT_LINES: [&[u8]; 13] = [
+        b"/* night batch */",
+        b"CRTJOBQ JOBQ(QGPL/NIGHT) TEXT('Night queue')",
+        b"CRTCLS CLS(NIGHT) RUNPTY(60) TIMESLICE(5000)",
+        b"CRTJOBD JOBD(NIGHT) JOBQ(NIGHT) JOBPTY(4) RTGDTA('NIGHT')",
+        b"CRTSBSD SBSD(NIGHT) POOLS((1 *BASE)) MAXJOBS(8) TEXT('Night')",
+        b"ADDJOBQE SBSD(NIGHT) JOBQ(NIGHT) MAXACT(2) SEQNBR(20)",
+        b"ADDRTGE SBSD(NIGHT) SEQNBR(10) CMPVAL('NIGHT') PGM(QSYS/QCMD)",
+        b"STRSBS NIGHT",
+        b"SBMJOB CMD(CALL PGM(ECHO) PARM('one')) JOB(ONE) JOBD(NIGHT) RTGDTA(*JOBD)",
+        b"SBMJOB CMD(CALL PGM(ECHO) PARM('two')) JOB(TWO) JOBD(NIGHT)",
+        b"SBMJOB CMD(CALL PGM(ECHO)) JOB(THREE) JOBD(NIGHT) RTGDTA(*JOBD) HOLD(*YES)",
+        b"RLSJOB JOB(THREE)",
+        b"ENDSBS SBS(NIGHT) OPTION(*CNTRLD)",
+    ];
+
+    fn same(rt: &impl Abort, joiner: &Joiner, line: LogicalLine, wanted: Option<&&[u8]>) {
+        match wanted {
+            Some(bytes) => {
+                assert_eq!(rt; line, LogicalLine::Command);
+                assert_eq!(rt; joiner.line(), *bytes);
+            }
+            None => assert!(rt; false, "one line too many"),
+        }
+    }
+
+    fn feed_all(
+        rt: &impl Abort,
+        joiner: &mut Joiner,
+        piece: &[u8],
+        wanted: &[&[u8]],
+        from: usize,
+    ) -> usize {
+        let mut count = from;
+        let mut rest = piece;
+        for _ in 0..=piece.len() {
+            let (taken, line) = joiner.feed(rest);
+            rest = &rest[taken..];
+            match line {
+                Some(line) => {
+                    same(rt, joiner, line, wanted.get(count));
+                    count = count.saturating_add(1);
+                }
+                None => break,
+            }
+        }
+        count
+    }
+
+    fn joins(
+        rt: &impl Abort,
+        alloc: Global,
+        input: &[u8],
+        size: usize,
+        wanted: &[&[u8]],
+    ) -> Result<(), Fail> {
+        let mut joiner = Joiner::new(alloc)?;
+        let mut count = 0;
+        for piece in input.chunks(size.max(1)) {
+            count = feed_all(rt, &mut joiner, piece, wanted, count);
+        }
+        if let Some(line) = joiner.end() {
+            same(rt, &joiner, line, wanted.get(count));
+            count = count.saturating_add(1);
+        }
+        assert_eq!(rt; count, wanted.len());
+        Ok(())
+    }
+
+    #[test]
+    fn a_script_is_joined_however_it_is_cut(rt: HostRuntime) -> Result<(), Fail> {
+        for size in 1..=NIGHT.len() {
+            joins(&rt, rt.alloc(), NIGHT, size, &NIGHT_LINES)?;
+        }
+        Ok(())
+    }
+
+    #[test]
+    fn lines_end_as_they_should(rt: HostRuntime) -> Result<(), Fail> {
+        let rows: [(&[u8], &[&[u8]]); 12] = [
+            (b"", &[]),
+            (b"\n", &[b""]),
+            (b"A\nB", &[b"A", b"B"]),
+            (b"A\r\nB\r", &[b"A", b"B\r"]),
+            (b"A\r \n", &[b"A\r"]),
+            (b"A \t \r\n", &[b"A"]),
+            (b"CRTJOBQ +", &[b"CRTJOBQ "]),
+            (b"CRTJOBQ +\n", &[b"CRTJOBQ "]),
+            (b"A -+\n\n", &[b"A -"]),
+            (b"A +\n \tB\n", &[b"A B"]),
+            (b"A-\n  B \n", &[b"A  B"]),
+            (b"A(' +\r\n\t+ \n 'B)", &[b"A(' 'B)"]),
+        ];
+        for (input, wanted) in rows {
+            joins(&rt, rt.alloc(), input, 1, wanted)?;
+            joins(&rt, rt.alloc(), input, 64, wanted)?;
+        }
+        Ok(())
+    }
+
+    #[test]
+    fn a_line_has_at_most_8192_bytes(rt: HostRuntime) -> Result<(), Fail> {
+        let mut joiner = Joiner::new(rt.alloc())?;
+        let full = [b'x'; 8192];
+        assert_eq!(rt; joiner.feed(&full), (8192, None));
+        assert_eq!(rt; joiner.feed(b"- \n \n"), (5, Some(LogicalLine::Command)));
+        assert_eq!(rt; joiner.line(), full.as_slice());
+        assert_eq!(rt; joiner.feed(&full), (8192, None));
+        assert_eq!(rt; joiner.feed(b"x- \n \nA"), (6, Some(LogicalLine::Long)));
+        assert_eq!(rt; joiner.feed(b"A"), (1, None));
+        assert_eq!(rt; joiner.end(), Some(LogicalLine::Command));
+        assert_eq!(rt; joiner.line(), b"A".as_slice());
+        assert_eq!(rt; joiner.end(), None);
+        Ok(())
+    }
+}
