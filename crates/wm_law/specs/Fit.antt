@@ -10,7 +10,7 @@ use Rattle.wm_law.specs.declared.call.Command.TheVariants.{Strsbs, Sbmjob, Pwrdw
 use Rattle.wm_law.specs.declared.call.EndOption.TheVariants.{Immed}
 use Rattle.wm_law.specs.declared.call.Sbmjob.{Sbmjob as Submission}
 use Rattle.wm_law.specs.declared.state.State.{State}
-use Rattle.wm_law.specs.Counts.{is_active}
+use Rattle.wm_law.specs.Pending.{active}
 
 pub record IsQName (q : QName) : Type 0 where
   pub lib : IsName q.lib
@@ -50,10 +50,6 @@ IsCall (StartFailed serial why) = ⊤
 IsCall (Finished serial end) = ⊤
 IsCall (UseDone serial) = ⊤
 IsCall Tick = ⊤
-
--- how many jobs are active
-abbrev pub active : State → ℕ
-active s = count_by (λ j. is_active j.phase) s.jobs
 
 -- the machine has every call, but PWRDWNSYS only with OPTION(*IMMED) and where no job is active
 abbrev pub IsBuilt : State → Call → Type 0

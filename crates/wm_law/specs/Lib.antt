@@ -6,3 +6,4 @@ pub mod Launch
 pub mod Machine
 pub mod Names
 pub mod Opening
+pub mod Pending

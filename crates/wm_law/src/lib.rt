@@ -17,6 +17,7 @@ mod machine;
 mod names;
 mod objects;
 mod opening;
+mod pending;
 mod reports;
 mod settle;
 mod state;

@@ -14,6 +14,7 @@ fn later(a: Moment, b: Moment) -> Moment
 
 impl State {
     ghost use Rattle.std.specs.Prelude.{◌≡◌, OnOk, OnErr, IfOk};
+    ghost use Rattle.wm_law.specs.Fit.{IsBuilt};
     ghost use Rattle.wm_law.specs.Machine.{apply, step};
 
     // The reply to a call, and the state before it settles.
@@ -35,7 +36,7 @@ impl State {
         }
     }
 
-    /// One step. An `Err` leaves the state.
+    /// One step. An `Err` leaves the state. PWRDWNSYS is built with OPTION(*IMMED) alone, where no job is active.
     pub fn step(
         &mut self,
         alloc: Global,
@@ -43,6 +44,7 @@ impl State {
         call: &Call,
         now: Moment,
     ) -> Result<Reply, AllocError>
+        requires { IsBuilt self.old call.now }
         ensures reply { IfOk result (λ r. r ≡ (step self.old caller call.now now).reply) }
         ensures state { OnOk result (self.new ≡ (step self.old caller call.now now).state) }
         ensures err { OnErr result (self.new ≡ self.old) }

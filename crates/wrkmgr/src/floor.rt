@@ -1,0 +1,99 @@
+// The machine with its history.
+ghost use Rattle.std.specs.Prelude.{◌≡◌, ◌≤◌, ◌++◌, ◌∷◌, [], List, length, OnOk, OnErr, IfOk};
+ghost use Rattle.std.specs.Option.{option_copied};
+ghost use Rattle.wm_law.specs.Fit.{IsCall, IsBuilt, active};
+ghost use Rattle.wm_law.specs.History.{after, IsLegal};
+ghost use Rattle.wm_law.specs.Opening.{opening};
+ghost use Rattle.wrkmgr.specs.Floor.{entry_at, last_of, starting, next_due};
+
+use std::alloc::{AllocError, Global};
+use std::marker::Model;
+use wm_base::{Moment, StartOrder};
+use wm_law::{Call, Entry, State};
+
+/// The machine and its history, from the state of no rows. A contract sees it as the history.
+#[derive(Drop)]
+pub struct Floor {
+    state: State,
+    log: Vec<Entry>,
+}
+
+impl Model for Floor {
+    ghost use Rattle.std.specs.Prelude.{List};
+    ghost use Rattle.wm_law.specs.declared.call.Entry.{Entry};
+
+    ghost Value = { List Entry };
+
+    ghost use Rattle.wrkmgr.specs.FloorInside.{IsFloor};
+
+    ghost view = { λ f. f.log.items };
+
+    ghost invariant = { IsFloor };
+}
+
+impl Floor {
+    /// The state of no rows, with no history.
+    pub fn open(alloc: Global) -> Result<Floor, AllocError>
+        ensures { IfOk result (λ floor. floor ≡ []) }
+    {
+        Ok(Floor {
+            state: State::opening(alloc)?,
+            log: Vec::new(alloc),
+        })
+    }
+
+    /// Makes one call of a caller, whose entry is the last of the history then. An `Err` leaves the history.
+    pub fn call(&mut self, alloc: Global, caller: u32, call: Call, now: Moment) -> Result<(), AllocError>
+        requires fit { IsCall call }
+        requires built { IsBuilt (after opening self.old) call }
+        ensures ok { OnOk result (self.new ≡ self.old ++ entry_at self.old caller call now ∷ []) }
+        ensures err { OnErr result (self.new ≡ self.old) }
+    {
+        self.log.reserve(1)?;
+        let moment = now.get();
+        let reply = self.state.step(alloc, caller, &call, now)?;
+        self.log.push_reserved(Entry {
+            caller,
+            call,
+            moment: now,
+            reply,
+        });
+        Ok(())
+    }
+
+    /// The last entry.
+    pub fn last(&self) -> Option<&Entry>
+        ensures { option_copied result ≡ last_of self.now }
+    {
+        self.log.last()
+    }
+
+    pub fn len(&self) -> usize
+        ensures { result ≡ length self.now }
+    {
+        self.log.len()
+    }
+
+    /// How many jobs are active.
+    pub fn active(&self) -> usize
+        ensures { result ≡ active (after opening self.now) }
+    {
+        self.state.active()
+    }
+
+    /// How many orders a Hand would give, one after another.
+    pub fn orders(&self) -> usize
+        ensures { result ≡ starting (after opening self.now) }
+    {
+        self.state.starting()
+    }
+
+    /// The history.
+    pub fn close(self) -> Vec<Entry>
+        ensures log { result.items ≡ self }
+        ensures legal { IsLegal opening self }
+    {
+        let _ = &self.state;
+        self.log
+    }
+}
