@@ -1,2 +1,3 @@
 pub mod Parameter
 pub mod Settling
+pub mod History

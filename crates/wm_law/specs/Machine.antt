@@ -288,5 +288,5 @@ abbrev pub settled : Stepped → Stepped
 settled t = record { reply = t.reply; state = settle t.state }
 
 -- the clock is set, the call is applied, and the state settles
-abbrev pub step : State → ℕ → Call → ℕ → Stepped
+unfoldable pub step : State → ℕ → Call → ℕ → Stepped
 step s caller call moment = settled (apply (with_clock s moment) caller call)

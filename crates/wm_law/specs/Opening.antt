@@ -59,7 +59,7 @@ opening_objects =
     }
 
 -- the state of no rows, for local time that is UTC
-abbrev pub opening : State
+unfoldable pub opening : State
 opening =
     record {
       objects = opening_objects;

@@ -37,6 +37,7 @@ impl State {
     }
 
     /// One step. An `Err` leaves the state. PWRDWNSYS is built with OPTION(*IMMED) alone, where no job is active.
+    #[tactic(auto, unfolding(crate::specs::Machine::step))]
     pub fn step(
         &mut self,
         alloc: Global,

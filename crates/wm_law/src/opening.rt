@@ -106,6 +106,7 @@ fn opening_objects(alloc: Global) -> Result<Objects, AllocError>
 
 impl State {
     /// The state of no rows: the opening objects and no job.
+    #[tactic(auto, unfolding(crate::specs::Opening::opening))]
     pub fn opening(alloc: Global) -> Result<State, AllocError>
         ensures { IfOk result (λ state. state ≡ opening) }
     {

@@ -1,14 +1,15 @@
 // The machine with its history.
-ghost use Rattle.std.specs.Prelude.{◌≡◌, ◌≤◌, ◌++◌, ◌∷◌, [], List, length, OnOk, OnErr, IfOk};
+ghost use Rattle.std.specs.Prelude.{◌≡◌, ◌++◌, ◌∷◌, [], length, OnOk, OnErr, IfOk};
 ghost use Rattle.std.specs.Option.{option_copied};
-ghost use Rattle.wm_law.specs.Fit.{IsCall, IsBuilt, active};
+ghost use Rattle.wm_law.specs.Fit.{IsCall, IsBuilt};
 ghost use Rattle.wm_law.specs.History.{after, IsLegal};
 ghost use Rattle.wm_law.specs.Opening.{opening};
-ghost use Rattle.wrkmgr.specs.Floor.{entry_at, last_of, starting, next_due};
+ghost use Rattle.wm_law.specs.Pending.{active, starting, next_due};
+ghost use Rattle.wrkmgr.specs.Floor.{entry_at, last_of};
 
 use std::alloc::{AllocError, Global};
 use std::marker::Model;
-use wm_base::{Moment, StartOrder};
+use wm_base::Moment;
 use wm_law::{Call, Entry, State};
 
 /// The machine and its history, from the state of no rows. A contract sees it as the history.
@@ -86,6 +87,13 @@ impl Floor {
         ensures { result ≡ starting (after opening self.now) }
     {
         self.state.starting()
+    }
+
+    /// The least moment above the clock at which a Waiting job is due.
+    pub fn next_due(&self) -> Option<Moment>
+        ensures { result ≡ next_due (after opening self.now) }
+    {
+        self.state.next_due()
     }
 
     /// The history.
