@@ -66,10 +66,27 @@ is_report (Finished serial end) = true
 is_report (UseDone serial) = true
 is_report Tick = false
 
--- what a caller's entries ordered, in order
+abbrev pub is_hand : Call → Bool
+is_hand (Change user c) = false
+is_hand Hand = true
+is_hand (Started serial) = false
+is_hand (StartFailed serial why) = false
+is_hand (Finished serial end) = false
+is_hand (UseDone serial) = false
+is_hand Tick = false
+
+-- what an entry of a caller ordered: the answer of a Hand
+abbrev pub ordered : ℕ → Entry → Option Asked
+ordered caller e = if e.caller == caller && is_hand e.call then order_in e.reply else None
+
+-- what the Hand entries of a caller answered as orders
 abbrev pub orders : List Entry → ℕ → List Asked
-orders log caller = filter_map (λ e. order_in e.reply) (entries_of caller log)
+orders log caller = filter_map (ordered caller) log
+
+-- what an entry of a caller reported
+abbrev pub reported_in : ℕ → Entry → Option Call
+reported_in caller e = if e.caller == caller && is_report e.call then Some e.call else None
 
 -- what a caller reported, in order
 abbrev pub reports : List Entry → ℕ → List Call
-reports log caller = filter_map (λ e. if is_report e.call then Some e.call else None) (entries_of caller log)
+reports log caller = filter_map (reported_in caller) log

@@ -75,3 +75,19 @@ pub struct Entry {
     pub moment: Moment,
     pub reply: Reply,
 }
+
+impl Reply {
+    ghost use Rattle.std.specs.Prelude.{◌≡◌};
+    ghost use Rattle.std.specs.Option.{option_copied};
+    ghost use Rattle.wm_law.specs.History.{order_in};
+
+    /// What it orders.
+    pub fn order(&self) -> Option<&Asked>
+        ensures { option_copied result ≡ order_in self.now }
+    {
+        match self {
+            Reply::Order(asked) => Some(asked),
+            _ => None,
+        }
+    }
+}

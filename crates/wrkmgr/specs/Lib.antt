@@ -1,2 +1,4 @@
 pub mod Floor
 pub mod FloorInside
+pub mod Lists
+pub mod Monitor

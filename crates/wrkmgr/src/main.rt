@@ -5,5 +5,6 @@
 #![tactic(auto)]
 
 mod floor;
+mod report;
 
 fn main() {}

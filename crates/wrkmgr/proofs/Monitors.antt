@@ -1,0 +1,76 @@
+-- Laws of a monitor's part: nothing, and one part after another.
+use Rattle.std.proofs.Common.{◌≡◌, ℕ, ◌+◌, ◌-◌, ◌^◌, ◌≤◌, ◌&&◌, min, Bool, true, List, [], ◌∷◌, ◌++◌, length, drop, map, Option, Some, None, sym, ap, subst, ◌∙◌, refl, append_assoc, cond, arith}
+use Rattle.std.specs.List.{list_all, filter_map, count_by}
+use Rattle.std.proofs.Math.Seq.{drop-append_seam, drop-length}
+use Rattle.std.proofs.lemmas.List.Folds.{list_all-append}
+use Rattle.std.proofs.lemmas.List.Elements.{filter_map-append}
+use Rattle.std.proofs.lemmas.List.{append-nil}
+use Rattle.std.proofs.lemmas.List.Sums.{sum_by-append}
+use Rattle.wm_base.specs.declared.job.Asked.{Asked}
+use Rattle.wm_law.specs.declared.call.Call.{Call}
+use Rattle.wm_law.specs.declared.call.Entry.{Entry}
+use Rattle.wm_law.specs.History.{ordered, orders}
+use Rattle.wm_outside.specs.Told.{Grows}
+use Rattle.wm_outside.proofs.Telling.{Grows-none, Grows-then}
+use Rattle.wrkmgr.specs.Lists.{since, Extends}
+use Rattle.wrkmgr.specs.Monitor.{MonitorView, Advances, RisesBy, is_own, is_spawner_fault, monitor_pass, reported}
+
+-- a list grows by what is put at its end
+pub since-append : {A : Type 0} (old more : List A) → since old (old ++ more) ≡ more
+since-append old more = drop-append_seam old more
+
+pub Extends-append : {A : Type 0} (old more : List A) → Extends old (old ++ more)
+Extends-append old more = ap (λ xs. old ++ xs) (sym (since-append old more))
+
+-- what has grown twice has grown by both
+pub since-then : {A : Type 0} (a b c : List A) → Extends a b → Extends b c → since a c ≡ since a b ++ since b c
+since-then a b c ab bc =
+    let whole : c ≡ a ++ (since a b ++ since b c) = bc ∙ (ap (λ xs. xs ++ since b c) ab ∙ append_assoc a (since a b) (since b c)) in
+    ap (since a) whole ∙ since-append a (since a b ++ since b c)
+
+pub Extends-then : {A : Type 0} (a b c : List A) → Extends a b → Extends b c → Extends a c
+Extends-then a b c ab bc =
+    bc ∙ (ap (λ xs. xs ++ since b c) ab ∙ (append_assoc a (since a b) (since b c) ∙ ap (λ xs. a ++ xs) (sym (since-then a b c ab bc))))
+
+count-append : (xs ys : List Call) → count_by is_spawner_fault (xs ++ ys) ≡ count_by is_spawner_fault xs + count_by is_spawner_fault ys
+count-append xs ys = sum_by-append (λ x. cond (is_spawner_fault x) 1 0) xs ys
+
+-- a count that has risen twice has risen by both
+pub RisesBy-then : (a b c m n k : ℕ) → k ≡ m + n → RisesBy a m b → RisesBy b n c → RisesBy a k c
+RisesBy-then a b c m n k e h i = omega arith
+
+-- a part that is known by its entries and its reports
+pub Advances-by : (old new : MonitorView) (entries : List Entry) (more : List Call) → new.log ≡ old.log ++ entries → reported new.log new.kept ≡ reported old.log old.kept ++ more → list_all is_own entries ≡ true → Grows old.asked new.asked (orders entries monitor_pass) → Grows old.told new.told more → RisesBy old.misses (count_by is_spawner_fault more) new.misses → Advances old new
+Advances-by old new entries more log grown own asked told misses =
+    let had = reported old.log old.kept in
+    let es : since old.log new.log ≡ entries = ap (since old.log) log ∙ since-append old.log entries in
+    let rs : since had (reported new.log new.kept) ≡ more = ap (since had) grown ∙ since-append had more in
+    record {
+      log = log ∙ ap (λ xs. old.log ++ xs) (sym es);
+      own = ap (list_all is_own) es ∙ own;
+      asked = subst (λ (xs : List Entry). Grows old.asked new.asked (orders xs monitor_pass)) (sym es) asked;
+      grown = grown ∙ ap (λ xs. had ++ xs) (sym rs);
+      told = subst (λ (xs : List Call). Grows old.told new.told xs) (sym rs) told;
+      misses = subst (λ (xs : List Call). RisesBy old.misses (count_by is_spawner_fault xs) new.misses) (sym rs) misses;
+    }
+
+-- no part at all
+pub Advances-none : (v : MonitorView) → Advances v v
+Advances-none v =
+    Advances-by v v [] [] (sym (append-nil v.log)) (sym (append-nil _)) refl (Grows-none v.asked) (Grows-none v.told) (omega arith)
+
+-- one part, and then another
+pub Advances-then : (a b c : MonitorView) → Advances a b → Advances b c → Advances a c
+Advances-then a b c h k =
+    let e = since a.log b.log in
+    let f = since b.log c.log in
+    let ra = reported a.log a.kept in
+    let rb = reported b.log b.kept in
+    let rc = reported c.log c.kept in
+    let log = k.log ∙ (ap (λ xs. xs ++ f) h.log ∙ append_assoc a.log e f) in
+    let grown = k.grown ∙ (ap (λ xs. xs ++ since rb rc) h.grown ∙ append_assoc ra (since ra rb) (since rb rc)) in
+    let own = list_all-append is_own e f ∙ (ap (λ t. t && list_all is_own f) h.own ∙ k.own) in
+    let asked = subst (λ (xs : List Asked). Grows a.asked c.asked xs) (sym (filter_map-append (ordered monitor_pass) e f)) (Grows-then a.asked b.asked c.asked _ _ h.asked k.asked) in
+    let told = Grows-then a.told b.told c.told _ _ h.told k.told in
+    let count = count-append (since ra rb) (since rb rc) in
+    Advances-by a c (e ++ f) (since ra rb ++ since rb rc) log grown own asked told (RisesBy-then a.misses b.misses c.misses _ _ _ count h.misses k.misses)

@@ -1,0 +1,57 @@
+// What a monitor reports.
+ghost use Rattle.std.specs.Prelude.{◌≡◌};
+
+use wm_base::{Event, Exit, Serial, StartCause};
+use wm_law::Call;
+use wm_outside::StartFault;
+
+/// A report: a job was started, couldn't be started, has ended, or is done with its request.
+#[derive(Clone, Copy, Debug, PartialEq, Eq)]
+pub enum Report {
+    Started(Serial),
+    StartFailed(Serial, StartCause),
+    Finished(Serial, Exit),
+    UseDone(Serial),
+}
+
+impl Report {
+    ghost use Rattle.wm_base.specs.declared.job.Event.{Event};
+    ghost use Rattle.wm_law.specs.Fit.{IsCall, IsBuilt};
+    ghost use Rattle.wm_law.specs.declared.state.State.{State};
+    ghost use Rattle.wrkmgr.specs.Monitor.{call_of, report_event, start_cause};
+
+    /// The call that makes it.
+    pub fn call(self) -> Call
+        ensures call { result ≡ call_of self }
+        ensures fit { IsCall result }
+        ensures built { (s : State) → IsBuilt s result }
+    {
+        match self {
+            Report::Started(serial) => Call::Started(serial),
+            Report::StartFailed(serial, cause) => Call::StartFailed(serial, cause),
+            Report::Finished(serial, exit) => Call::Finished(serial, exit),
+            Report::UseDone(serial) => Call::UseDone(serial),
+        }
+    }
+
+    /// The report of what a child told.
+    pub fn of_event(event: Event) -> Report
+        ensures { result ≡ report_event event }
+    {
+        match event {
+            Event::Ended(serial, exit) => Report::Finished(serial, exit),
+            Event::Used(serial) => Report::UseDone(serial),
+        }
+    }
+
+    /// The report of a start that failed.
+    pub fn of_fault(serial: Serial, fault: StartFault) -> Report
+        ensures { result ≡ Report.StartFailed serial (start_cause fault) }
+    {
+        let cause = match fault {
+            StartFault::Failed => StartCause::Spawner,
+            StartFault::NoMemory => StartCause::Memory,
+        };
+        Report::StartFailed(serial, cause)
+    }
+}
