@@ -48,7 +48,7 @@ mod tests {
             (Limit::Most(2), 1, true),
             (Limit::Most(2), 2, false),
             (Limit::Most(0), 0, false),
-            (Limit::NoMax, u32::MAX, true),
+            (Limit::NoMax, usize::MAX, true),
         ] {
             assert_eq!(rt; limit.admits(count), admits, "{count}");
         }

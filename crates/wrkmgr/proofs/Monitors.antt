@@ -1,5 +1,5 @@
 -- Laws of a monitor's part: nothing, and one part after another.
-use Rattle.std.proofs.Common.{◌≡◌, ℕ, ◌+◌, ◌-◌, ◌^◌, ◌≤◌, ◌&&◌, min, Bool, true, List, [], ◌∷◌, ◌++◌, length, drop, map, Option, Some, None, sym, ap, subst, ◌∙◌, refl, append_assoc, cond, arith}
+use Rattle.std.proofs.Common.{◌≡◌, ℕ, ◌+◌, ◌-◌, ◌^◌, ◌≤◌, ◌&&◌, min, Bool, true, false, List, [], ◌∷◌, ◌++◌, length, drop, map, Option, Some, None, option_to_list, sym, ap, subst, ◌∙◌, refl, append_assoc, cond, arith}
 use Rattle.std.specs.List.{list_all, filter_map, count_by}
 use Rattle.std.proofs.Math.Seq.{drop-append_seam, drop-length}
 use Rattle.std.proofs.lemmas.List.Folds.{list_all-append}
@@ -9,11 +9,18 @@ use Rattle.std.proofs.lemmas.List.Sums.{sum_by-append}
 use Rattle.wm_base.specs.declared.job.Asked.{Asked}
 use Rattle.wm_law.specs.declared.call.Call.{Call}
 use Rattle.wm_law.specs.declared.call.Entry.{Entry}
-use Rattle.wm_law.specs.History.{ordered, orders}
+use Rattle.wm_law.specs.History.{is_monitor_call, is_hand, is_report, order_in, ordered, orders, reported_in, reports}
+use Rattle.wm_law.specs.declared.call.Call.TheVariants as call
+use Rattle.wm_outside.specs.declared.spawner.Told.{Told}
 use Rattle.wm_outside.specs.Told.{Grows}
 use Rattle.wm_outside.proofs.Telling.{Grows-none, Grows-then}
 use Rattle.wrkmgr.specs.Lists.{since, Extends}
-use Rattle.wrkmgr.specs.Monitor.{MonitorView, Advances, RisesBy, is_own, is_spawner_fault, monitor_pass, reported}
+use Rattle.wrkmgr.specs.Monitor.{MonitorView, Advances, RisesBy, is_own, is_spawner_fault, monitor_pass, reported, call_of, as_reports}
+use Rattle.wrkmgr.specs.Floor.{entry_at}
+use Rattle.wrkmgr.specs.View.{view}
+use Rattle.wrkmgr.specs.declared.monitor.Monitor.{Monitor}
+use Rattle.wrkmgr.specs.declared.report.Report.{Report}
+use Rattle.wrkmgr.specs.declared.report.Report.TheVariants.{Started, StartFailed, Finished, UseDone}
 
 -- a list grows by what is put at its end
 pub since-append : {A : Type 0} (old more : List A) → since old (old ++ more) ≡ more
@@ -74,3 +81,65 @@ Advances-then a b c h k =
     let told = Grows-then a.told b.told c.told _ _ h.told k.told in
     let count = count-append (since ra rb) (since rb rc) in
     Advances-by a c (e ++ f) (since ra rb ++ since rb rc) log grown own asked told (RisesBy-then a.misses b.misses c.misses _ _ _ count h.misses k.misses)
+
+-- a report is a call of a monitor, and no Hand
+own_call : (r : Report) → is_monitor_call (call_of r) ≡ true
+own_call (Started serial) = refl
+own_call (StartFailed serial why) = refl
+own_call (Finished serial end) = refl
+own_call (UseDone serial) = refl
+
+report_call : (r : Report) → is_report (call_of r) ≡ true
+report_call (Started serial) = refl
+report_call (StartFailed serial why) = refl
+report_call (Finished serial end) = refl
+report_call (UseDone serial) = refl
+
+no_hand : (r : Report) → is_hand (call_of r) ≡ false
+no_hand (Started serial) = refl
+no_hand (StartFailed serial why) = refl
+no_hand (Finished serial end) = refl
+no_hand (UseDone serial) = refl
+
+-- the reports of a history with one more entry
+reports-push : (log : List Entry) (e : Entry) → reports (log ++ e ∷ []) monitor_pass ≡ reports log monitor_pass ++ filter_map (reported_in monitor_pass) (e ∷ [])
+reports-push log e = filter_map-append (reported_in monitor_pass) log (e ∷ [])
+
+-- an entry that reports nothing leaves what was reported
+still_reported : (log : List Entry) (kept : List Report) (e : Entry) → filter_map (reported_in monitor_pass) (e ∷ []) ≡ [] → reported (log ++ e ∷ []) kept ≡ reported log kept
+still_reported log kept e none = ap (λ rs. rs ++ map call_of kept) (reports-push log e ∙ (ap (λ xs. reports log monitor_pass ++ xs) none ∙ append-nil _))
+
+-- Tick
+pub Advances-tick : (log : List Entry) (m : Monitor) (asked : Option (List Asked)) (told : Option (List Told)) (misses : ℕ) (now : ℕ) → Advances (view log m asked told misses) (view (log ++ entry_at log monitor_pass call.Tick now ∷ []) m asked told misses)
+Advances-tick log m asked told misses now =
+    let e = entry_at log monitor_pass call.Tick now in
+    let kept = option_to_list m.kept in
+    Advances-by _ _ (e ∷ []) [] refl (still_reported log kept e refl ∙ sym (append-nil _)) refl (Grows-none asked) (Grows-none (as_reports told)) (omega arith)
+
+-- the kept report is sent
+pub Advances-sent : (log : List Entry) (r : Report) (asked : Option (List Asked)) (told : Option (List Told)) (misses : ℕ) (now : ℕ) → Advances (view log (record { kept = Some r }) asked told misses) (view (log ++ entry_at log monitor_pass (call_of r) now ∷ []) (record { kept = None }) asked told misses)
+Advances-sent log r asked told misses now =
+    let e = entry_at log monitor_pass (call_of r) now in
+    let one : filter_map (reported_in monitor_pass) (e ∷ []) ≡ call_of r ∷ [] = rw (report_call r) refl in
+    let none : orders (e ∷ []) monitor_pass ≡ [] = rw (no_hand r) refl in
+    let grown = ap (λ rs. rs ++ []) (reports-push log e ∙ ap (λ xs. reports log monitor_pass ++ xs) one) in
+    Advances-by _ _ (e ∷ []) [] refl grown (rw (own_call r) refl) (subst (λ (xs : List Asked). Grows asked asked xs) (sym none) (Grows-none asked)) (Grows-none (as_reports told)) (omega arith)
+
+-- a Hand that ordered nothing
+pub Advances-nothing : (log : List Entry) (m : Monitor) (asked : Option (List Asked)) (told : Option (List Told)) (misses : ℕ) (now : ℕ) → order_in (entry_at log monitor_pass call.Hand now).reply ≡ None → Advances (view log m asked told misses) (view (log ++ entry_at log monitor_pass call.Hand now ∷ []) m asked told misses)
+Advances-nothing log m asked told misses now none =
+    let e = entry_at log monitor_pass call.Hand now in
+    let no_order : orders (e ∷ []) monitor_pass ≡ [] = rw none refl in
+    Advances-by _ _ (e ∷ []) [] refl (still_reported log (option_to_list m.kept) e refl ∙ sym (append-nil _)) refl (subst (λ (xs : List Asked). Grows asked asked xs) (sym no_order) (Grows-none asked)) (Grows-none (as_reports told)) (omega arith)
+
+-- a Hand whose order was asked, and whose answer is kept as a report
+pub Advances-asked : (log : List Entry) (a : Asked) (asked asked' : Option (List Asked)) (told told' : Option (List Told)) (misses misses' : ℕ) (now : ℕ) (kept : List Report) → order_in (entry_at log monitor_pass call.Hand now).reply ≡ Some a → Grows asked asked' (a ∷ []) → Grows (as_reports told) (as_reports told') (map call_of kept) → RisesBy misses (count_by is_spawner_fault (map call_of kept)) misses' → Advances (record { log = log; kept = []; asked = asked; told = as_reports told; misses = misses }) (record { log = log ++ entry_at log monitor_pass call.Hand now ∷ []; kept = kept; asked = asked'; told = as_reports told'; misses = misses' })
+Advances-asked log a asked asked' told told' misses misses' now kept order grows tells rises =
+    let e = entry_at log monitor_pass call.Hand now in
+    let one_order : orders (e ∷ []) monitor_pass ≡ a ∷ [] = rw order refl in
+    Advances-by _ _ (e ∷ []) (map call_of kept) refl (ap (λ rs. rs ++ map call_of kept) (reports-push log e)) refl (subst (λ (xs : List Asked). Grows asked asked' xs) (sym one_order) grows) tells rises
+
+-- a look whose report is kept
+pub Advances-looked : (log : List Entry) (asked asked' : Option (List Asked)) (told told' : Option (List Told)) (misses misses' : ℕ) (kept : List Report) → Grows asked asked' [] → Grows (as_reports told) (as_reports told') (map call_of kept) → RisesBy misses (count_by is_spawner_fault (map call_of kept)) misses' → Advances (record { log = log; kept = []; asked = asked; told = as_reports told; misses = misses }) (record { log = log; kept = kept; asked = asked'; told = as_reports told'; misses = misses' })
+Advances-looked log asked asked' told told' misses misses' kept grows tells rises =
+    Advances-by _ _ [] (map call_of kept) (sym (append-nil log)) (ap (λ rs. rs ++ map call_of kept) (sym (append-nil (reports log monitor_pass)))) refl grows tells rises

@@ -1,8 +1,9 @@
 -- What a call adds to the history.
-use Rattle.std.specs.Prelude.{ℕ, ◌-◌, List, length, Option, slice_get}
+use Rattle.std.specs.Prelude.{ℕ, ◌-◌, List, length, Option, option_and_then, slice_get}
+use Rattle.wm_base.specs.declared.job.Asked.{Asked}
 use Rattle.wm_law.specs.declared.call.Call.{Call}
 use Rattle.wm_law.specs.declared.call.Entry.{Entry}
-use Rattle.wm_law.specs.History.{after}
+use Rattle.wm_law.specs.History.{after, order_in}
 use Rattle.wm_law.specs.Machine.{step}
 use Rattle.wm_law.specs.Opening.{opening}
 
@@ -13,3 +14,7 @@ entry_at log caller call now = record { caller = caller; call = call; moment = n
 -- the last entry
 abbrev pub last_of : List Entry → Option Entry
 last_of log = slice_get log (length log - 1)
+
+-- what the last entry orders
+abbrev pub last_order : List Entry → Option Asked
+last_order log = option_and_then (λ e. order_in e.reply) (last_of log)

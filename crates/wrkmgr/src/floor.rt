@@ -5,11 +5,11 @@ ghost use Rattle.wm_law.specs.Fit.{IsCall, IsBuilt};
 ghost use Rattle.wm_law.specs.History.{after, IsLegal};
 ghost use Rattle.wm_law.specs.Opening.{opening};
 ghost use Rattle.wm_law.specs.Pending.{active, starting, next_due};
-ghost use Rattle.wrkmgr.specs.Floor.{entry_at, last_of};
+ghost use Rattle.wrkmgr.specs.Floor.{entry_at, last_of, last_order};
 
 use std::alloc::{AllocError, Global};
 use std::marker::Model;
-use wm_base::Moment;
+use wm_base::{Asked, Moment};
 use wm_law::{Call, Entry, State};
 
 /// The machine and its history, from the state of no rows. A contract sees it as the history.
@@ -67,6 +67,13 @@ impl Floor {
         ensures { option_copied result ≡ last_of self.now }
     {
         self.log.last()
+    }
+
+    /// What the last entry orders.
+    pub fn order(&self) -> Option<&Asked>
+        ensures { option_copied result ≡ last_order self.now }
+    {
+        self.last()?.reply.order()
     }
 
     pub fn len(&self) -> usize

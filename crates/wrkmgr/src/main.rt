@@ -5,6 +5,7 @@
 #![tactic(auto)]
 
 mod floor;
+mod monitor;
 mod report;
 
 fn main() {}

@@ -21,16 +21,16 @@ impl Report {
     ghost use Rattle.wrkmgr.specs.Monitor.{call_of, report_event, start_cause};
 
     /// The call that makes it.
-    pub fn call(self) -> Call
-        ensures call { result ≡ call_of self }
+    pub fn call(&self) -> Call
+        ensures call { result ≡ call_of self.now }
         ensures fit { IsCall result }
         ensures built { (s : State) → IsBuilt s result }
     {
         match self {
-            Report::Started(serial) => Call::Started(serial),
-            Report::StartFailed(serial, cause) => Call::StartFailed(serial, cause),
-            Report::Finished(serial, exit) => Call::Finished(serial, exit),
-            Report::UseDone(serial) => Call::UseDone(serial),
+            Report::Started(serial) => Call::Started(*serial),
+            Report::StartFailed(serial, cause) => Call::StartFailed(*serial, *cause),
+            Report::Finished(serial, exit) => Call::Finished(*serial, *exit),
+            Report::UseDone(serial) => Call::UseDone(*serial),
         }
     }
 

@@ -1,0 +1,152 @@
+// What starts the jobs and reports how they ended.
+ghost use Rattle.std.specs.Prelude.{◌≡◌, ◌∷◌, [], count_by};
+ghost use Rattle.wm_base.specs.declared.job.Asked.TheVariants.{Start};
+ghost use Rattle.wm_outside.specs.Told.{Grows};
+ghost use Rattle.wrkmgr.specs.Monitor.{RisesBy, as_reports, call_of, is_spawner_fault};
+ghost use Rattle.wrkmgr.specs.declared.monitor.MonitorFault.TheVariants.{WaitFault, NoMemory};
+
+use crate::floor::Floor;
+use crate::report::Report;
+use std::alloc::{AllocError, Global};
+use std::sync::Wait;
+use wm_base::{Asked, Moment, StartOrder};
+use wm_law::Call;
+use wm_outside::{Clock, Failed, Spawner};
+
+/// The pass of the monitor.
+pub const MONITOR: u32 = 1;
+
+/// How many Hands a turn makes at the most.
+pub const MOST_HANDS: u32 = 256;
+
+/// How many looks a turn makes at the most.
+pub const MOST_LOOKS: u32 = 256;
+
+/// A monitor. It keeps the report that the floor didn't take, to send it first in its next call.
+#[derive(Clone, Copy, Debug, PartialEq, Eq)]
+pub struct Monitor {
+    kept: Option<Report>,
+}
+
+/// Why a turn or a wait of a monitor ended early.
+#[derive(Clone, Copy, Debug, PartialEq, Eq)]
+pub enum MonitorFault {
+    /// A kill or a look of the spawner failed.
+    WaitFault,
+    NoMemory,
+}
+
+impl From<Failed> for MonitorFault {
+    ghost from_gives = { λ _ e. e ≡ WaitFault };
+
+    fn from(_e: Failed) -> MonitorFault {
+        MonitorFault::WaitFault
+    }
+}
+
+impl From<AllocError> for MonitorFault {
+    ghost from_gives = { λ _ e. e ≡ NoMemory };
+
+    fn from(_e: AllocError) -> MonitorFault {
+        MonitorFault::NoMemory
+    }
+}
+
+impl Monitor {
+    ghost use Rattle.std.specs.Prelude.{◌≡◌, ◌≤◌, ◌+◌, ◌-◌, ◌++◌, ◌∷◌, [], ℕ, List, Option, None, Some, length, OnOk, OnErr, IfOk, IsErrOf};
+    ghost use Rattle.wm_base.specs.declared.job.Asked.{Asked};
+    ghost use Rattle.wm_outside.specs.declared.spawner.Told.{Told};
+    ghost use Rattle.wm_outside.specs.Told.{Grows};
+    ghost use Rattle.wm_outside.specs.Cause.{raised};
+    ghost use Rattle.wrkmgr.specs.Floor.{entry_at};
+    ghost use Rattle.wrkmgr.specs.Monitor.{Advances, as_reports, call_of, monitor_pass};
+    ghost use Rattle.wrkmgr.specs.View.{view};
+
+    /// A monitor that keeps nothing.
+    pub fn new() -> Monitor
+        ensures { result.kept ≡ None }
+    {
+        Monitor { kept: None }
+    }
+
+    // Sends the report that is kept, which the floor may refuse to take for want of memory.
+    fn send_kept<C: Clock>(&mut self, alloc: Global, floor: &mut Floor, clock: &mut C) -> Result<(), AllocError>
+        ensures part { (asked : Option (List Asked)) (told : Option (List Told)) (misses : ℕ) →
+            Advances (view floor.old self.old asked told misses) (view floor.new self.new asked told misses) }
+        ensures kept { OnOk result (self.new.kept ≡ None) }
+    {
+        let Some(report) = self.kept else {
+            return Ok(());
+        };
+        floor.call(alloc, MONITOR, report.call(), clock.now())?;
+        self.kept = None;
+        Ok(())
+    }
+
+    // Lets the machine see the time, where a job is due by now.
+    fn tick<C: Clock>(&mut self, alloc: Global, floor: &mut Floor, clock: &mut C) -> Result<(), AllocError>
+        ensures part { (asked : Option (List Asked)) (told : Option (List Told)) (misses : ℕ) →
+            Advances (view floor.old self.old asked told misses) (view floor.new self.new asked told misses) }
+        ensures kept { self.new ≡ self.old }
+    {
+        let now = clock.now();
+        match floor.next_due() {
+            Some(due) if due <= now => floor.call(alloc, MONITOR, Call::Tick, now),
+            _ => Ok(()),
+        }
+    }
+
+    // Makes one Hand and does its order.
+    fn hand<P: Spawner, C: Clock>(&mut self, alloc: Global, floor: &mut Floor, spawner: &mut P, clock: &mut C) -> Result<(), MonitorFault>
+        requires { self.old.kept ≡ None }
+        ensures part { Advances (view floor.old self.old (P.asked spawner.old) (P.told spawner.old) (P.misses spawner.old))
+            (view floor.new self.new (P.asked spawner.new) (P.told spawner.new) (P.misses spawner.new)) }
+        ensures kept { OnOk result (self.new.kept ≡ None) }
+        ensures faults { P.faults spawner.old ≤ P.faults spawner.new }
+        ensures wait_fault { IsErrOf result MonitorFault.WaitFault → raised (P.faults spawner.old) ≤ P.faults spawner.new }
+    {
+        floor.call(alloc, MONITOR, Call::Hand, clock.now())?;
+        match floor.order() {
+            None => Ok(()),
+            Some(Asked::Kill(serial)) => {
+                spawner.kill(*serial)?;
+                Ok(())
+            }
+            Some(Asked::Start(order)) => {
+                self.kept = Some(start(spawner, order));
+                self.send_kept(alloc, floor, clock)?;
+                Ok(())
+            }
+        }
+    }
+
+    // Looks once for a report, and makes its call. It answers whether there was one.
+    fn look<P: Spawner, C: Clock>(&mut self, alloc: Global, floor: &mut Floor, spawner: &mut P, clock: &mut C) -> Result<bool, MonitorFault>
+        requires { self.old.kept ≡ None }
+        ensures part { Advances (view floor.old self.old (P.asked spawner.old) (P.told spawner.old) (P.misses spawner.old))
+            (view floor.new self.new (P.asked spawner.new) (P.told spawner.new) (P.misses spawner.new)) }
+        ensures kept { OnOk result (self.new.kept ≡ None) }
+        ensures faults { P.faults spawner.old ≤ P.faults spawner.new }
+        ensures wait_fault { IsErrOf result MonitorFault.WaitFault → raised (P.faults spawner.old) ≤ P.faults spawner.new }
+    {
+        let Some(event) = spawner.ended()? else {
+            return Ok(false);
+        };
+        self.kept = Some(Report::of_event(event));
+        self.send_kept(alloc, floor, clock)?;
+        Ok(true)
+    }
+}
+
+// Asks the spawner to start what was ordered.
+fn start<P: Spawner>(spawner: &mut P, order: &StartOrder) -> Report
+    ensures asked { Grows (P.asked spawner.old) (P.asked spawner.new) (Start order.now ∷ []) }
+    ensures told { Grows (as_reports (P.told spawner.old)) (as_reports (P.told spawner.new)) (call_of result ∷ []) }
+    ensures misses { RisesBy (P.misses spawner.old) (count_by is_spawner_fault (call_of result ∷ [])) (P.misses spawner.new) }
+    ensures faults { P.faults spawner.new ≡ P.faults spawner.old }
+{
+    match spawner.start(order) {
+        Ok(()) => Report::Started(order.serial),
+        Err(fault) => Report::of_fault(order.serial, fault),
+    }
+}
