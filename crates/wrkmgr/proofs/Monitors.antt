@@ -4,7 +4,9 @@ use Rattle.std.specs.List.{list_all, filter_map, count_by}
 use Rattle.std.proofs.Math.Seq.{drop-append_seam, drop-length}
 use Rattle.std.proofs.lemmas.List.Folds.{list_all-append}
 use Rattle.std.proofs.lemmas.List.Elements.{filter_map-append}
-use Rattle.std.proofs.lemmas.List.{append-nil}
+use Rattle.std.specs.List.{slice_get}
+use Rattle.std.specs.Option.{option_and_then}
+use Rattle.std.proofs.lemmas.List.{append-nil, length_push}
 use Rattle.std.proofs.lemmas.List.Sums.{sum_by-append}
 use Rattle.wm_base.specs.declared.job.Asked.{Asked}
 use Rattle.wm_law.specs.declared.call.Call.{Call}
@@ -16,7 +18,7 @@ use Rattle.wm_outside.specs.Told.{Grows}
 use Rattle.wm_outside.proofs.Telling.{Grows-none, Grows-then}
 use Rattle.wrkmgr.specs.Lists.{since, Extends}
 use Rattle.wrkmgr.specs.Monitor.{MonitorView, Advances, RisesBy, is_own, is_spawner_fault, monitor_pass, reported, call_of, as_reports}
-use Rattle.wrkmgr.specs.Floor.{entry_at}
+use Rattle.wrkmgr.specs.Floor.{entry_at, last_of, last_order}
 use Rattle.wrkmgr.specs.View.{view}
 use Rattle.wrkmgr.specs.declared.monitor.Monitor.{Monitor}
 use Rattle.wrkmgr.specs.declared.report.Report.{Report}
@@ -109,6 +111,20 @@ reports-push log e = filter_map-append (reported_in monitor_pass) log (e ∷ [])
 still_reported : (log : List Entry) (kept : List Report) (e : Entry) → filter_map (reported_in monitor_pass) (e ∷ []) ≡ [] → reported (log ++ e ∷ []) kept ≡ reported log kept
 still_reported log kept e none = ap (λ rs. rs ++ map call_of kept) (reports-push log e ∙ (ap (λ xs. reports log monitor_pass ++ xs) none ∙ append-nil _))
 
+slice_get_push : {A : Type 0} (xs : List A) (y : A) → slice_get (xs ++ y ∷ []) (length xs) ≡ Some y
+slice_get_push [] y = refl
+slice_get_push (x ∷ xs) y = slice_get_push xs y
+
+-- the last entry of a history with one more
+pub last_of-push : (log : List Entry) (e : Entry) → last_of (log ++ e ∷ []) ≡ Some e
+last_of-push log e =
+    let n : length (log ++ e ∷ []) - 1 ≡ length log = omega (arith, length_push log e) in
+    ap (slice_get (log ++ e ∷ [])) n ∙ slice_get_push log e
+
+-- the last order of a history with one more entry
+last_order-push : (log : List Entry) (e : Entry) → last_order (log ++ e ∷ []) ≡ order_in e.reply
+last_order-push log e = ap (option_and_then (λ (x : Entry). order_in x.reply)) (last_of-push log e)
+
 -- Tick
 pub Advances-tick : (log : List Entry) (m : Monitor) (asked : Option (List Asked)) (told : Option (List Told)) (misses : ℕ) (now : ℕ) → Advances (view log m asked told misses) (view (log ++ entry_at log monitor_pass call.Tick now ∷ []) m asked told misses)
 Advances-tick log m asked told misses now =
@@ -143,3 +159,73 @@ Advances-asked log a asked asked' told told' misses misses' now kept order grows
 pub Advances-looked : (log : List Entry) (asked asked' : Option (List Asked)) (told told' : Option (List Told)) (misses misses' : ℕ) (kept : List Report) → Grows asked asked' [] → Grows (as_reports told) (as_reports told') (map call_of kept) → RisesBy misses (count_by is_spawner_fault (map call_of kept)) misses' → Advances (record { log = log; kept = []; asked = asked; told = as_reports told; misses = misses }) (record { log = log; kept = kept; asked = asked'; told = as_reports told'; misses = misses' })
 Advances-looked log asked asked' told told' misses misses' kept grows tells rises =
     Advances-by _ _ [] (map call_of kept) (sym (append-nil log)) (ap (λ rs. rs ++ map call_of kept) (sym (append-nil (reports log monitor_pass)))) refl grows tells rises
+
+-- The same, as the code has them: by equations.
+
+pub tick_part : (old new : List Entry) (m : Monitor) (asked : Option (List Asked)) (told : Option (List Told)) (misses now : ℕ) → new ≡ old ++ entry_at old monitor_pass call.Tick now ∷ [] → Advances (view old m asked told misses) (view new m asked told misses)
+tick_part old new m asked told misses now e =
+    subst (λ (log : List Entry). Advances (view old m asked told misses) (view log m asked told misses)) (sym e) (Advances-tick old m asked told misses now)
+
+abbrev kept_view : List Entry → Option Report → Option (List Asked) → Option (List Told) → ℕ → MonitorView
+kept_view log kept asked told misses = view log (record { kept = kept }) asked told misses
+
+pub sent_part : (old new : List Entry) (m n : Monitor) (r : Report) (c : Call) (asked : Option (List Asked)) (told : Option (List Told)) (misses now : ℕ) → m.kept ≡ Some r → n.kept ≡ None → c ≡ call_of r → new ≡ old ++ entry_at old monitor_pass c now ∷ [] → Advances (view old m asked told misses) (view new n asked told misses)
+sent_part old new m n r c asked told misses now had none is e =
+    let whole = e ∙ ap (λ (x : Call). old ++ entry_at old monitor_pass x now ∷ []) is in
+    let P : List Entry → Type 0 = λ log. Advances (kept_view old (Some r) asked told misses) (kept_view log None asked told misses) in
+    let base = subst P (sym whole) (Advances-sent old r asked told misses now) in
+    let Q : Option Report → Type 0 = λ o. Advances (kept_view old o asked told misses) (kept_view new None asked told misses) in
+    let R : Option Report → Type 0 = λ o. Advances (kept_view old m.kept asked told misses) (kept_view new o asked told misses) in
+    subst R (sym none) (subst Q (sym had) base)
+
+pub nothing_part : (old new : List Entry) (m : Monitor) (o : Option Asked) (asked : Option (List Asked)) (told : Option (List Told)) (misses now : ℕ) → new ≡ old ++ entry_at old monitor_pass call.Hand now ∷ [] → o ≡ last_order new → o ≡ None → Advances (view old m asked told misses) (view new m asked told misses)
+nothing_part old new m o asked told misses now e last none =
+    let order = sym (last_order-push old (entry_at old monitor_pass call.Hand now)) ∙ (ap last_order (sym e) ∙ (sym last ∙ none)) in
+    subst (λ (log : List Entry). Advances (view old m asked told misses) (view log m asked told misses)) (sym e) (Advances-nothing old m asked told misses now order)
+
+pub asked_part : (old new : List Entry) (m n : Monitor) (o : Option Asked) (a : Asked) (asked asked' : Option (List Asked)) (told told' : Option (List Told)) (misses misses' now : ℕ) → m.kept ≡ None → new ≡ old ++ entry_at old monitor_pass call.Hand now ∷ [] → o ≡ last_order new → o ≡ Some a → Grows asked asked' (a ∷ []) → Grows (as_reports told) (as_reports told') (map call_of (option_to_list n.kept)) → RisesBy misses (count_by is_spawner_fault (map call_of (option_to_list n.kept))) misses' → Advances (view old m asked told misses) (view new n asked' told' misses')
+asked_part old new m n o a asked asked' told told' misses misses' now none e last some grows tells rises =
+    let order = sym (last_order-push old (entry_at old monitor_pass call.Hand now)) ∙ (ap last_order (sym e) ∙ (sym last ∙ some)) in
+    let base = Advances-asked old a asked asked' told told' misses misses' now (option_to_list n.kept) order grows tells rises in
+    let P : List Entry → Type 0 = λ log. Advances (kept_view old None asked told misses) (view log n asked' told' misses') in
+    let Q : Option Report → Type 0 = λ k. Advances (kept_view old k asked told misses) (view new n asked' told' misses') in
+    subst Q (sym none) (subst P (sym e) base)
+
+pub looked_part : (log : List Entry) (m n : Monitor) (asked asked' : Option (List Asked)) (told told' : Option (List Told)) (misses misses' : ℕ) → m.kept ≡ None → Grows asked asked' [] → Grows (as_reports told) (as_reports told') (map call_of (option_to_list n.kept)) → RisesBy misses (count_by is_spawner_fault (map call_of (option_to_list n.kept))) misses' → Advances (view log m asked told misses) (view log n asked' told' misses')
+looked_part log m n asked asked' told told' misses misses' none grows tells rises =
+    let Q : Option Report → Type 0 = λ k. Advances (kept_view log k asked told misses) (view log n asked' told' misses') in
+    subst Q (sym none) (Advances-looked log asked asked' told told' misses misses' (option_to_list n.kept) grows tells rises)
+
+pub killed_part : (old new : List Entry) (m : Monitor) (o : Option Asked) (a : Asked) (asked asked' : Option (List Asked)) (told told' : Option (List Told)) (misses misses' now : ℕ) → m.kept ≡ None → new ≡ old ++ entry_at old monitor_pass call.Hand now ∷ [] → o ≡ last_order new → o ≡ Some a → Grows asked asked' (a ∷ []) → Grows (as_reports told) (as_reports told') [] → misses' ≡ misses → Advances (view old m asked told misses) (view new m asked' told' misses')
+killed_part old new m o a asked asked' told told' misses misses' now none e last some grows tells same =
+    let n : Monitor = record { kept = None } in
+    let base = asked_part old new m n o a asked asked' told told' misses misses' now none e last some grows tells (omega arith) in
+    let R : Option Report → Type 0 = λ k. Advances (view old m asked told misses) (kept_view new k asked' told' misses') in
+    subst R (sym none) base
+
+-- a report that a look gave, kept, and then what is done with it
+pub reported_part : (log : List Entry) (m : Monitor) (o : Option Report) (r : Report) (asked asked' : Option (List Asked)) (told told' : Option (List Told)) (misses misses' : ℕ) (v : MonitorView) → m.kept ≡ None → Grows asked asked' [] → Grows (as_reports told) (as_reports told') (map call_of (option_to_list o)) → RisesBy misses (count_by is_spawner_fault (map call_of (option_to_list o))) misses' → o ≡ Some r → Advances (view log (record { kept = Some r }) asked' told' misses') v → Advances (view log m asked told misses) v
+reported_part log m o r asked asked' told told' misses misses' v none grows tells rises is then =
+    let n : Monitor = record { kept = Some r } in
+    let tells_one = subst (λ (x : Option Report). Grows (as_reports told) (as_reports told') (map call_of (option_to_list x))) is tells in
+    let rises_one = subst (λ (x : Option Report). RisesBy misses (count_by is_spawner_fault (map call_of (option_to_list x))) misses') is rises in
+    Advances-then _ _ _ (looked_part log m n asked asked' told told' misses misses' none grows tells_one rises_one) then
+
+-- an order that was asked, its report kept, and then what is done with it
+pub started_part : (old new : List Entry) (m : Monitor) (o : Option Asked) (a : Asked) (r : Report) (asked asked' : Option (List Asked)) (told told' : Option (List Told)) (misses misses' now : ℕ) (v : MonitorView) → m.kept ≡ None → new ≡ old ++ entry_at old monitor_pass call.Hand now ∷ [] → o ≡ last_order new → o ≡ Some a → Grows asked asked' (a ∷ []) → Grows (as_reports told) (as_reports told') (call_of r ∷ []) → RisesBy misses (count_by is_spawner_fault (call_of r ∷ [])) misses' → Advances (view new (record { kept = Some r }) asked' told' misses') v → Advances (view old m asked told misses) v
+started_part old new m o a r asked asked' told told' misses misses' now v none e last some grows tells rises then =
+    let n : Monitor = record { kept = Some r } in
+    Advances-then _ _ _ (asked_part old new m n o a asked asked' told told' misses misses' now none e last some grows tells rises) then
+
+-- a look that gave no report
+pub unreported_part : (log : List Entry) (m : Monitor) (asked asked' : Option (List Asked)) (told told' : Option (List Told)) (misses misses' : ℕ) → m.kept ≡ None → Grows asked asked' [] → Grows (as_reports told) (as_reports told') [] → RisesBy misses 0 misses' → Advances (view log m asked told misses) (view log m asked' told' misses')
+unreported_part log m asked asked' told told' misses misses' none grows tells rises =
+    let n : Monitor = record { kept = None } in
+    let R : Option Report → Type 0 = λ k. Advances (view log m asked told misses) (kept_view log k asked' told' misses') in
+    subst R (sym none) (looked_part log m n asked asked' told told' misses misses' none grows tells rises)
+
+pub silent_part : (log : List Entry) (m : Monitor) (o : Option Report) (asked asked' : Option (List Asked)) (told told' : Option (List Told)) (misses misses' : ℕ) → m.kept ≡ None → Grows asked asked' [] → Grows (as_reports told) (as_reports told') (map call_of (option_to_list o)) → RisesBy misses (count_by is_spawner_fault (map call_of (option_to_list o))) misses' → o ≡ None → Advances (view log m asked told misses) (view log m asked' told' misses')
+silent_part log m o asked asked' told told' misses misses' none grows tells rises is =
+    let tells_none = subst (λ (x : Option Report). Grows (as_reports told) (as_reports told') (map call_of (option_to_list x))) is tells in
+    let rises_none = subst (λ (x : Option Report). RisesBy misses (count_by is_spawner_fault (map call_of (option_to_list x))) misses') is rises in
+    unreported_part log m asked asked' told told' misses misses' none grows tells_none rises_none

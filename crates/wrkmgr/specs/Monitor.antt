@@ -1,5 +1,5 @@
 -- What a monitor does between two moments: it asks what it was ordered, and reports what it was told.
-use Rattle.std.specs.Prelude.{◌≡◌, ℕ, ◌+◌, ◌-◌, ◌^◌, ◌≤◌, ◌==◌, ◌&&◌, Bool, true, false, min, List, [], ◌∷◌, ◌++◌, map, Option, option_map, option_to_list, count_by}
+use Rattle.std.specs.Prelude.{◌≡◌, ℕ, ◌+◌, ◌-◌, ◌^◌, ◌≤◌, ◌==◌, ◌&&◌, Bool, true, false, min, List, [], ◌∷◌, ◌++◌, map, Option, option_map, option_to_list, Result, Ok, Err, count_by}
 use Rattle.std.specs.List.{list_all}
 use Rattle.wm_base.specs.declared.job.Asked.{Asked}
 use Rattle.wm_base.specs.declared.job.Event.{Event}
@@ -10,6 +10,7 @@ use Rattle.wm_law.specs.declared.call.Call.{Call}
 use Rattle.wm_law.specs.declared.call.Call.TheVariants as call
 use Rattle.wm_law.specs.declared.call.Entry.{Entry}
 use Rattle.wm_law.specs.History.{is_monitor_call, orders, reports}
+use Rattle.wm_outside.specs.declared.fault.Failed.{Failed}
 use Rattle.wm_outside.specs.declared.fault.StartFault.{StartFault}
 use Rattle.wm_outside.specs.declared.fault.StartFault.TheVariants as fault
 use Rattle.wm_outside.specs.declared.spawner.Told.{Told}
@@ -47,6 +48,11 @@ report_of (Happened event) = report_event event
 -- the calls that stand for what a spawner told
 abbrev pub as_reports : Option (List Told) → Option (List Call)
 as_reports told = option_map (map (λ t. call_of (report_of t))) told
+
+-- the report of a look, where there was one
+abbrev pub looked : Result (Option Report) Failed → List Report
+looked (Ok o) = option_to_list o
+looked (Err e) = []
 
 -- all that the monitor has reported, and the report that it keeps
 abbrev pub reported : List Entry → List Report → List Call

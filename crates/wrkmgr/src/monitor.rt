@@ -1,15 +1,16 @@
 // What starts the jobs and reports how they ended.
-ghost use Rattle.std.specs.Prelude.{◌≡◌, ◌∷◌, [], count_by};
-ghost use Rattle.wm_base.specs.declared.job.Asked.TheVariants.{Start};
+ghost use Rattle.std.specs.Prelude.{◌≡◌, ◌∷◌, [], map, count_by};
+ghost use Rattle.wm_base.specs.declared.job.Asked.TheVariants.{Start, Kill};
 ghost use Rattle.wm_outside.specs.Told.{Grows};
-ghost use Rattle.wrkmgr.specs.Monitor.{RisesBy, as_reports, call_of, is_spawner_fault};
+ghost use Rattle.wm_outside.specs.Cause.{HasCause};
+ghost use Rattle.wrkmgr.specs.Monitor.{RisesBy, as_reports, call_of, is_spawner_fault, looked};
 ghost use Rattle.wrkmgr.specs.declared.monitor.MonitorFault.TheVariants.{WaitFault, NoMemory};
 
 use crate::floor::Floor;
 use crate::report::Report;
 use std::alloc::{AllocError, Global};
 use std::sync::Wait;
-use wm_base::{Asked, Moment, StartOrder};
+use wm_base::{Asked, Moment, Serial, StartOrder};
 use wm_law::Call;
 use wm_outside::{Clock, Failed, Spawner};
 
@@ -83,6 +84,76 @@ impl Monitor {
         Ok(())
     }
 
+    // Makes the calls of what Hand orders, while there are orders.
+    fn hands<P: Spawner, C: Clock>(&mut self, alloc: Global, floor: &mut Floor, spawner: &mut P, clock: &mut C) -> Result<(), MonitorFault>
+        requires { self.old.kept ≡ None }
+        ensures part { Advances (view floor.old self.old (P.asked spawner.old) (P.told spawner.old) (P.misses spawner.old))
+            (view floor.new self.new (P.asked spawner.new) (P.told spawner.new) (P.misses spawner.new)) }
+        ensures kept { OnOk result (self.new.kept ≡ None) }
+        ensures faults { P.faults spawner.old ≤ P.faults spawner.new }
+        ensures wait_fault { IsErrOf result MonitorFault.WaitFault → raised (P.faults spawner.old) ≤ P.faults spawner.new }
+    {
+        'hands: for _ in 0..MOST_HANDS {
+            if floor.orders() == 0 {
+                break;
+            }
+            self.hand(alloc, floor, spawner, clock)?;
+        }
+        Ok(())
+    }
+
+    // Makes the calls of the reports that are there.
+    fn looks<P: Spawner, C: Clock>(&mut self, alloc: Global, floor: &mut Floor, spawner: &mut P, clock: &mut C) -> Result<(), MonitorFault>
+        requires { self.old.kept ≡ None }
+        ensures part { Advances (view floor.old self.old (P.asked spawner.old) (P.told spawner.old) (P.misses spawner.old))
+            (view floor.new self.new (P.asked spawner.new) (P.told spawner.new) (P.misses spawner.new)) }
+        ensures kept { OnOk result (self.new.kept ≡ None) }
+        ensures faults { P.faults spawner.old ≤ P.faults spawner.new }
+        ensures wait_fault { IsErrOf result MonitorFault.WaitFault → raised (P.faults spawner.old) ≤ P.faults spawner.new }
+    {
+        'looks: for _ in 0..MOST_LOOKS {
+            if !self.look(alloc, floor, spawner, clock)? {
+                break;
+            }
+        }
+        Ok(())
+    }
+
+    /// One turn: the kept report, the time where a job is due, at most 256 Hands with their orders, and at
+    /// most 256 looks with their reports. It answers how many entries it made.
+    pub fn turn<P: Spawner, C: Clock>(&mut self, alloc: Global, floor: &mut Floor, spawner: &mut P, clock: &mut C) -> Result<usize, MonitorFault>
+        ensures part { Advances (view floor.old self.old (P.asked spawner.old) (P.told spawner.old) (P.misses spawner.old))
+            (view floor.new self.new (P.asked spawner.new) (P.told spawner.new) (P.misses spawner.new)) }
+        ensures kept { OnOk result (self.new.kept ≡ None) }
+        ensures faults { P.faults spawner.old ≤ P.faults spawner.new }
+        ensures wait_fault { IsErrOf result MonitorFault.WaitFault → raised (P.faults spawner.old) ≤ P.faults spawner.new }
+        ensures sent { IfOk result (λ sent. sent ≡ length floor.new - length floor.old) }
+    {
+        let before = floor.len();
+        self.send_kept(alloc, floor, clock)?;
+        self.tick(alloc, floor, clock)?;
+        self.hands(alloc, floor, spawner, clock)?;
+        self.looks(alloc, floor, spawner, clock)?;
+        Ok(floor.len().saturating_sub(before))
+    }
+
+    /// Waits for a report, until the moment at the latest where one is given, and makes its call.
+    pub fn wait<P: Spawner, C: Clock, R: Wait>(&mut self, rt: &R, alloc: Global, floor: &mut Floor, spawner: &mut P, clock: &mut C, until: Option<Moment>) -> Result<(), MonitorFault>
+        ensures part { Advances (view floor.old self.old (P.asked spawner.old) (P.told spawner.old) (P.misses spawner.old))
+            (view floor.new self.new (P.asked spawner.new) (P.told spawner.new) (P.misses spawner.new)) }
+        ensures kept { OnOk result (self.new.kept ≡ None) }
+        ensures faults { P.faults spawner.old ≤ P.faults spawner.new }
+        ensures wait_fault { IsErrOf result MonitorFault.WaitFault → raised (P.faults spawner.old) ≤ P.faults spawner.new }
+    {
+        self.send_kept(alloc, floor, clock)?;
+        let Some(report) = wait(rt, spawner, until)? else {
+            return Ok(());
+        };
+        self.kept = Some(report);
+        self.send_kept(alloc, floor, clock)?;
+        Ok(())
+    }
+
     // Lets the machine see the time, where a job is due by now.
     fn tick<C: Clock>(&mut self, alloc: Global, floor: &mut Floor, clock: &mut C) -> Result<(), AllocError>
         ensures part { (asked : Option (List Asked)) (told : Option (List Told)) (misses : ℕ) →
@@ -91,7 +162,10 @@ impl Monitor {
     {
         let now = clock.now();
         match floor.next_due() {
-            Some(due) if due <= now => floor.call(alloc, MONITOR, Call::Tick, now),
+            Some(due) if due <= now => {
+                floor.call(alloc, MONITOR, Call::Tick, now)?;
+                Ok(())
+            }
             _ => Ok(()),
         }
     }
@@ -109,7 +183,7 @@ impl Monitor {
         match floor.order() {
             None => Ok(()),
             Some(Asked::Kill(serial)) => {
-                spawner.kill(*serial)?;
+                kill(spawner, *serial)?;
                 Ok(())
             }
             Some(Asked::Start(order)) => {
@@ -129,10 +203,10 @@ impl Monitor {
         ensures faults { P.faults spawner.old ≤ P.faults spawner.new }
         ensures wait_fault { IsErrOf result MonitorFault.WaitFault → raised (P.faults spawner.old) ≤ P.faults spawner.new }
     {
-        let Some(event) = spawner.ended()? else {
+        let Some(report) = look(spawner)? else {
             return Ok(false);
         };
-        self.kept = Some(Report::of_event(event));
+        self.kept = Some(report);
         self.send_kept(alloc, floor, clock)?;
         Ok(true)
     }
@@ -148,5 +222,42 @@ fn start<P: Spawner>(spawner: &mut P, order: &StartOrder) -> Report
     match spawner.start(order) {
         Ok(()) => Report::Started(order.serial),
         Err(fault) => Report::of_fault(order.serial, fault),
+    }
+}
+
+// Asks the spawner to kill a job. Its end is reported later, where it was out.
+fn kill<P: Spawner>(spawner: &mut P, serial: Serial) -> Result<(), Failed>
+    ensures asked { Grows (P.asked spawner.old) (P.asked spawner.new) (Kill serial ∷ []) }
+    ensures told { Grows (as_reports (P.told spawner.old)) (as_reports (P.told spawner.new)) [] }
+    ensures misses { P.misses spawner.new ≡ P.misses spawner.old }
+    ensures cause { HasCause (P.faults spawner.old) (P.faults spawner.new) result }
+{
+    spawner.kill(serial)?;
+    Ok(())
+}
+
+// Looks for a report.
+fn look<P: Spawner>(spawner: &mut P) -> Result<Option<Report>, Failed>
+    ensures asked { Grows (P.asked spawner.old) (P.asked spawner.new) [] }
+    ensures told { Grows (as_reports (P.told spawner.old)) (as_reports (P.told spawner.new)) (map call_of (looked result)) }
+    ensures misses { RisesBy (P.misses spawner.old) (count_by is_spawner_fault (map call_of (looked result))) (P.misses spawner.new) }
+    ensures cause { HasCause (P.faults spawner.old) (P.faults spawner.new) result }
+{
+    match spawner.ended()? {
+        None => Ok(None),
+        Some(event) => Ok(Some(Report::of_event(event))),
+    }
+}
+
+// Waits for a report, until the moment at the latest where one is given.
+fn wait<P: Spawner, R: Wait>(rt: &R, spawner: &mut P, until: Option<Moment>) -> Result<Option<Report>, Failed>
+    ensures asked { Grows (P.asked spawner.old) (P.asked spawner.new) [] }
+    ensures told { Grows (as_reports (P.told spawner.old)) (as_reports (P.told spawner.new)) (map call_of (looked result)) }
+    ensures misses { RisesBy (P.misses spawner.old) (count_by is_spawner_fault (map call_of (looked result))) (P.misses spawner.new) }
+    ensures cause { HasCause (P.faults spawner.old) (P.faults spawner.new) result }
+{
+    match spawner.wait_ended(rt, until)? {
+        None => Ok(None),
+        Some(event) => Ok(Some(Report::of_event(event))),
     }
 }

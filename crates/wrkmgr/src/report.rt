@@ -18,7 +18,8 @@ impl Report {
     ghost use Rattle.wm_base.specs.declared.job.Event.{Event};
     ghost use Rattle.wm_law.specs.Fit.{IsCall, IsBuilt};
     ghost use Rattle.wm_law.specs.declared.state.State.{State};
-    ghost use Rattle.wrkmgr.specs.Monitor.{call_of, report_event, start_cause};
+    ghost use Rattle.wrkmgr.specs.Monitor.{call_of, report_event, start_cause, is_spawner_fault};
+    ghost use Rattle.std.specs.Prelude.{false};
 
     /// The call that makes it.
     pub fn call(&self) -> Call
@@ -36,7 +37,8 @@ impl Report {
 
     /// The report of what a child told.
     pub fn of_event(event: Event) -> Report
-        ensures { result ≡ report_event event }
+        ensures value { result ≡ report_event event }
+        ensures no_start { is_spawner_fault (call_of result) ≡ false }
     {
         match event {
             Event::Ended(serial, exit) => Report::Finished(serial, exit),

@@ -1,0 +1,10 @@
+-- What stays true while a monitor goes on.
+use Rattle.std.proofs.Common.{◌≡◌, ℕ, ◌≤◌, Option, None}
+use Rattle.wrkmgr.specs.Monitor.{MonitorView, Advances}
+use Rattle.wrkmgr.specs.declared.report.Report.{Report}
+
+-- a part has been done, no report is kept, and no count has fallen
+pub record MonitorLoop (old new : MonitorView) (before now : ℕ) (kept : Option Report) : Type 0 where
+  pub part : Advances old new
+  pub none : kept ≡ None
+  pub faults : before ≤ now
