@@ -1,3 +1,6 @@
 pub mod Floors
 pub mod Monitors
 pub mod MonitorLoops
+pub mod Writes
+pub mod Lines
+pub mod Firsts

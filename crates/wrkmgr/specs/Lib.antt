@@ -3,3 +3,10 @@ pub mod FloorInside
 pub mod Lists
 pub mod Monitor
 pub mod View
+pub mod Lines
+pub mod Said
+pub mod Serving
+pub mod Session
+pub mod LineBuffer
+pub mod Stop
+pub mod Calls

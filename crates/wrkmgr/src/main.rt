@@ -5,7 +5,13 @@
 #![tactic(auto)]
 
 mod floor;
+mod line;
 mod monitor;
+mod run;
+mod said;
+mod stop;
+mod submission;
+mod write;
 mod report;
 
 fn main() {}
