@@ -4,3 +4,4 @@ pub mod MonitorLoops
 pub mod Writes
 pub mod Lines
 pub mod Firsts
+pub mod Servings

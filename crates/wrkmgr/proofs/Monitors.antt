@@ -41,7 +41,7 @@ pub Extends-then : {A : Type 0} (a b c : List A) → Extends a b → Extends b c
 Extends-then a b c ab bc =
     bc ∙ (ap (λ xs. xs ++ since b c) ab ∙ (append_assoc a (since a b) (since b c) ∙ ap (λ xs. a ++ xs) (sym (since-then a b c ab bc))))
 
-count-append : (xs ys : List Call) → count_by is_spawner_fault (xs ++ ys) ≡ count_by is_spawner_fault xs + count_by is_spawner_fault ys
+pub count-append : (xs ys : List Call) → count_by is_spawner_fault (xs ++ ys) ≡ count_by is_spawner_fault xs + count_by is_spawner_fault ys
 count-append xs ys = sum_by-append (λ x. cond (is_spawner_fault x) 1 0) xs ys
 
 -- a count that has risen twice has risen by both
@@ -104,7 +104,7 @@ no_hand (Finished serial end) = refl
 no_hand (UseDone serial) = refl
 
 -- the reports of a history with one more entry
-reports-push : (log : List Entry) (e : Entry) → reports (log ++ e ∷ []) monitor_pass ≡ reports log monitor_pass ++ filter_map (reported_in monitor_pass) (e ∷ [])
+pub reports-push : (log : List Entry) (e : Entry) → reports (log ++ e ∷ []) monitor_pass ≡ reports log monitor_pass ++ filter_map (reported_in monitor_pass) (e ∷ [])
 reports-push log e = filter_map-append (reported_in monitor_pass) log (e ∷ [])
 
 -- an entry that reports nothing leaves what was reported

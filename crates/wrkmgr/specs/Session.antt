@@ -79,8 +79,8 @@ abbrev pub Answers : List (List ℕ) → List Entry → List ℕ → Bool → Ty
 Answers [] es bytes faulty = Says [] false es bytes faulty
 Answers (line ∷ lines) es bytes faulty = AnswersFirst line (Answers lines) es bytes faulty
 
--- lines were answered: these are their entries, and what is due was written
-pub record Answered (lines : List (List ℕ)) (es : List Entry) (before now : Option (List ℕ)) (faulty : Bool) : Type 0 where
+-- what a relation says was answered: these are the entries, and what is due was written
+pub record AnsweredBy (Due : List Entry → List ℕ → Bool → Type 0) (es : List Entry) (before now : Option (List ℕ)) (faulty : Bool) : Type 0 where
   pub bytes : List ℕ
-  pub answers : Answers lines es bytes faulty
+  pub answers : Due es bytes faulty
   pub written : Grows before now bytes

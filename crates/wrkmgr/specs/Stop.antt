@@ -1,5 +1,6 @@
 -- Why a run ends early, and with which status.
-use Rattle.std.specs.Prelude.{ℕ}
+use Rattle.std.specs.Prelude.{ℕ, ◌≤◌, Result, IsErrOf}
+use Rattle.wm_outside.specs.Cause.{raised}
 use Rattle.wrkmgr.specs.declared.monitor.MonitorFault.{MonitorFault}
 use Rattle.wrkmgr.specs.declared.monitor.MonitorFault.TheVariants as monitor
 use Rattle.wrkmgr.specs.declared.stop.Stop.{Stop}
@@ -16,3 +17,12 @@ status_of WriteFault = 4
 status_of NoMemory = 6
 status_of WaitFault = 8
 status_of InputFull = 11
+
+-- no count of the sink and of the spawner's looks has fallen, and the faults that are told have raised theirs
+pub record HasCauses {T : Type 0} (result : Result T Stop) (written_before written_now looked_before looked_now : ℕ) : Type 0 where
+  pub written : written_before ≤ written_now
+  pub looked : looked_before ≤ looked_now
+  pub write_fault : IsErrOf result WriteFault → raised written_before ≤ written_now
+  pub wait_fault : IsErrOf result WaitFault → raised looked_before ≤ looked_now
+  pub no_read_fault : IsErrOf result ReadFault → ⊥
+  pub not_full : IsErrOf result InputFull → ⊥

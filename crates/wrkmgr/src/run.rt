@@ -5,7 +5,7 @@ ghost use Rattle.wm_outside.specs.Cause.{raised};
 
 use crate::floor::Floor;
 use crate::line::LineBuffer;
-use crate::monitor::Monitor;
+use crate::monitor::{Monitor, MonitorFault};
 use crate::said::{is_refused, said_line};
 use crate::stop::Stop;
 use crate::submission::{end_call, read_line, start_call, submission};
@@ -57,7 +57,15 @@ impl Run {
     ghost use Rattle.wm_outside.specs.Cause.{raised};
     ghost use Rattle.wrkmgr.specs.Floor.{last_of};
     ghost use Rattle.wrkmgr.specs.Said.{said_text, with_end, is_refused};
+    ghost use Rattle.std.specs.Prelude.{◌-◌, None, length};
+    ghost use Rattle.wm_law.specs.History.{entries_of};
     ghost use Rattle.wrkmgr.specs.Calls.{Called};
+    ghost use Rattle.wrkmgr.specs.Lists.{since};
+    ghost use Rattle.wrkmgr.specs.Monitor.{Advances};
+    ghost use Rattle.wrkmgr.specs.Serving.{Serves};
+    ghost use Rattle.wrkmgr.specs.Session.{AnsweredBy, AnswersLine, Submits, session_pass};
+    ghost use Rattle.wrkmgr.specs.Stop.{HasCauses};
+    ghost use Rattle.wrkmgr.specs.View.{view};
 
     // Makes one call of the session.
     fn call<C: Clock>(&mut self, alloc: Global, clock: &mut C, call: Call) -> Result<(), AllocError>
@@ -77,7 +85,9 @@ impl Run {
             Grows (O.written out.old) (O.written out.new) (with_end (said_text e.reply)) × (refused ≡ is_refused e.reply))) }
         ensures faults { O.faults out.old ≤ O.faults out.new }
         ensures write_fault { IsErrOf result Stop.WriteFault → raised (O.faults out.old) ≤ O.faults out.new }
-        ensures no_other { IsErrOf result Stop.WaitFault → ⊥ }
+        ensures no_wait { IsErrOf result Stop.WaitFault → ⊥ }
+        ensures no_read { IsErrOf result Stop.ReadFault → ⊥ }
+        ensures not_full { IsErrOf result Stop.InputFull → ⊥ }
     {
         let Some(entry) = self.floor.last() else {
             return Ok(false);
@@ -85,5 +95,72 @@ impl Run {
         let line = said_line(alloc, &entry.reply)?;
         put(out, line.as_bytes())?;
         Ok(is_refused(&entry.reply))
+    }
+
+    // One turn of the monitor. It answers how many entries it made.
+    fn turn<P: Spawner, C: Clock>(&mut self, alloc: Global, spawner: &mut P, clock: &mut C) -> Result<usize, Stop>
+        ensures part { Advances (view self.old.floor self.old.monitor (P.asked spawner.old) (P.told spawner.old) (P.misses spawner.old))
+            (view self.new.floor self.new.monitor (P.asked spawner.new) (P.told spawner.new) (P.misses spawner.new)) }
+        ensures kept { OnOk result (self.new.monitor.kept ≡ None) }
+        ensures causes { HasCauses result 0 0 (P.faults spawner.old) (P.faults spawner.new) }
+        ensures sent { IfOk result (λ sent. sent ≡ length self.new.floor - length self.old.floor) }
+    {
+        match self.monitor.turn(alloc, &mut self.floor, spawner, clock) {
+            Ok(sent) => Ok(sent),
+            Err(MonitorFault::WaitFault) => Err(Stop::WaitFault),
+            Err(MonitorFault::NoMemory) => Err(Stop::NoMemory),
+        }
+    }
+
+    // One wait of the monitor.
+    fn wait<P: Spawner, C: Clock, R: Wait>(&mut self, rt: &R, alloc: Global, spawner: &mut P, clock: &mut C) -> Result<(), Stop>
+        ensures part { Advances (view self.old.floor self.old.monitor (P.asked spawner.old) (P.told spawner.old) (P.misses spawner.old))
+            (view self.new.floor self.new.monitor (P.asked spawner.new) (P.told spawner.new) (P.misses spawner.new)) }
+        ensures kept { OnOk result (self.new.monitor.kept ≡ None) }
+        ensures causes { HasCauses result 0 0 (P.faults spawner.old) (P.faults spawner.new) }
+    {
+        let until = self.floor.next_due();
+        match self.monitor.wait(rt, alloc, &mut self.floor, spawner, clock, until) {
+            Ok(()) => Ok(()),
+            Err(MonitorFault::WaitFault) => Err(Stop::WaitFault),
+            Err(MonitorFault::NoMemory) => Err(Stop::NoMemory),
+        }
+    }
+
+    // Submits the job of a line, answers the line, and lets the monitor turn.
+    fn submit<O: Sink, P: Spawner, C: Clock>(&mut self, alloc: Global, out: &mut O, spawner: &mut P, clock: &mut C, first: &First) -> Result<bool, Stop>
+        requires { length first.now.text ≤ 100 }
+        ensures serves { Serves (view self.old.floor self.old.monitor (P.asked spawner.old) (P.told spawner.old) (P.misses spawner.old))
+            (view self.new.floor self.new.monitor (P.asked spawner.new) (P.told spawner.new) (P.misses spawner.new)) }
+        ensures answered { IfOk result (λ faulty. AnsweredBy (Submits first.now.text first.now.name)
+            (entries_of session_pass (since self.old.floor self.new.floor)) (O.written out.old) (O.written out.new) faulty) }
+        ensures causes { HasCauses result (O.faults out.old) (O.faults out.new) (P.faults spawner.old) (P.faults spawner.new) }
+    {
+        let submitted = submission(alloc, first)?;
+        self.call(alloc, clock, submitted)?;
+        let refused = self.reply(alloc, out)?;
+        self.turn(alloc, spawner, clock)?;
+        Ok(refused)
+    }
+
+    // Answers one line: an empty one not at all, one that isn't built by its fault, another by its reply.
+    fn answer<O: Sink, P: Spawner, C: Clock>(&mut self, alloc: Global, out: &mut O, spawner: &mut P, clock: &mut C, line: &[u8]) -> Result<bool, Stop>
+        ensures serves { Serves (view self.old.floor self.old.monitor (P.asked spawner.old) (P.told spawner.old) (P.misses spawner.old))
+            (view self.new.floor self.new.monitor (P.asked spawner.new) (P.told spawner.new) (P.misses spawner.new)) }
+        ensures answered { IfOk result (λ faulty. AnsweredBy (AnswersLine line.now)
+            (entries_of session_pass (since self.old.floor self.new.floor)) (O.written out.old) (O.written out.new) faulty) }
+        ensures causes { HasCauses result (O.faults out.old) (O.faults out.new) (P.faults spawner.old) (P.faults spawner.new) }
+    {
+        if line.is_empty() {
+            return Ok(false);
+        }
+        match read_line(alloc, line) {
+            Ok(first) => self.submit(alloc, out, spawner, clock, &first),
+            Err(FirstFault::NotBuilt) => {
+                put(out, NOT_BUILT)?;
+                Ok(true)
+            }
+            Err(FirstFault::NoMemory) => Err(Stop::NoMemory),
+        }
     }
 }

@@ -1,0 +1,27 @@
+use Rattle.wrkmgr.proofs.Servings.{Serves-call, Serves-then, Serves-monitor, submitted}
+use Rattle.wrkmgr.proofs.run.Run.submit.Goals as goal
+
+pub returns-in_err-refused-clause-serves : goal.returns-in_err-refused-clause-serves
+returns-in_err-refused-clause-serves g c =
+    let s = g.P.Spawner in
+    let p = c.args.spawner.now in
+    let called = Serves-call c.args.self.now.floor c.call.new.self.floor c.in_ok-submitted.submitted c.args.self.now.monitor c.call.new.self.monitor (s.asked p) (s.told p) (s.misses p) c.in_ok-call.ensures.ok c.call.ensures.monitor in
+    called
+
+pub returns-in_err-turn-clause-serves : goal.returns-in_err-turn-clause-serves
+returns-in_err-turn-clause-serves g c =
+    let s = g.P.Spawner in
+    let p = c.args.spawner.now in
+    let called = Serves-call c.args.self.now.floor c.call.new.self.floor c.in_ok-submitted.submitted c.args.self.now.monitor c.call.new.self.monitor (s.asked p) (s.told p) (s.misses p) c.in_ok-call.ensures.ok c.call.ensures.monitor in
+    Serves-then _ _ _ called (Serves-monitor _ _ c.turn.ensures.part)
+
+pub returns-clause-serves : goal.returns-clause-serves
+returns-clause-serves g c =
+    let s = g.P.Spawner in
+    let p = c.args.spawner.now in
+    let called = Serves-call c.args.self.now.floor c.call.new.self.floor c.in_ok-submitted.submitted c.args.self.now.monitor c.call.new.self.monitor (s.asked p) (s.told p) (s.misses p) c.in_ok-call.ensures.ok c.call.ensures.monitor in
+    Serves-then _ _ _ called (Serves-monitor _ _ c.turn.ensures.part)
+
+pub returns-clause-answered : goal.returns-clause-answered
+returns-clause-answered g c =
+    submitted c.args.self.now.floor c.call.new.self.floor c.turn.new.self.floor c.args.first.now.text c.args.first.now.name c.in_ok-submitted.submitted _ _ c.in_ok-refused.refused c.in_ok-call.ensures.ok c.in_ok-submitted.ensures.call c.turn.ensures.part.log c.turn.ensures.part.own c.in_ok-refused.ensures.ok
