@@ -5,3 +5,4 @@ pub mod Writes
 pub mod Lines
 pub mod Firsts
 pub mod Servings
+pub mod Takings

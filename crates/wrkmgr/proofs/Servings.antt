@@ -1,6 +1,7 @@
 -- Laws of a run's parts: nothing, a monitor's part, a call of the session, and one part after another.
-use Rattle.std.proofs.Common.{◌≡◌, ℕ, ◌+◌, ◌≤◌, ◌==◌, ◌&&◌, ◌||◌, Bool, true, false, List, [], ◌∷◌, ◌++◌, map, Option, Some, None, option_to_list, sym, ap, subst, ◌∙◌, refl, append_assoc, arith}
+use Rattle.std.proofs.Common.{◌≡◌, ℕ, ◌+◌, ◌≤◌, ◌==◌, ◌&&◌, ◌||◌, Bool, true, false, List, [], ◌∷◌, ◌++◌, map, Option, Some, None, option_to_list, Result, Ok, Err, sym, ap, subst, ◌∙◌, refl, append_assoc, arith}
 use Rattle.std.specs.List.{list_all, filter, count_by}
+use Rattle.std.proofs.Math.Seq.{drop-length}
 use Rattle.std.proofs.lemmas.Bool.Decides.{nat_tests}
 use Rattle.std.proofs.lemmas.List.{append-nil}
 use Rattle.std.proofs.lemmas.List.Folds.{list_all-append}
@@ -20,6 +21,13 @@ use Rattle.wrkmgr.specs.Lists.{since, Extends}
 use Rattle.wrkmgr.specs.Monitor.{MonitorView, Advances, RisesBy, is_own, is_spawner_fault, monitor_pass, reported, call_of, as_reports}
 use Rattle.wrkmgr.specs.Serving.{Serves, is_ours}
 use Rattle.wrkmgr.specs.Session.{AnsweredBy, Submits, session_pass, submit_call}
+use Rattle.wrkmgr.specs.LineBuffer.{Holds}
+use Rattle.wrkmgr.specs.Lines.{cut_from}
+use Rattle.wrkmgr.specs.Taking.{TakesPiece}
+use Rattle.wrkmgr.specs.declared.line.LineBuffer.{LineBuffer}
+use Rattle.wrkmgr.proofs.Takings.{TakesPiece-then, TakesPiece-none}
+use Rattle.wrkmgr.specs.Stop.{HasCauses}
+use Rattle.wrkmgr.specs.declared.stop.Stop.{Stop}
 use Rattle.wrkmgr.specs.View.{view}
 use Rattle.wrkmgr.specs.declared.monitor.Monitor.{Monitor}
 use Rattle.wrkmgr.proofs.Monitors.{since-append, since-then, Extends-then, count-append, RisesBy-then, reports-push, last_of-push}
@@ -125,4 +133,36 @@ submitted old mid new text name c before now refused h is grown own said =
       bytes = with_end (said_text e.reply);
       answers = record { entry = e; only = es ∙ (one ∙ none); call = is; says = refl; refused = says.1 };
       written = says.0;
+    }
+
+-- a history has nothing since itself
+pub session_entries-none : (log : List Entry) → entries_of session_pass (since log log) ≡ []
+session_entries-none log = ap (entries_of session_pass) (drop-length log)
+
+-- what stays true while bytes are taken
+pub record TakesSo (old new : MonitorView) (written_before written_now looked_before looked_now : ℕ) (Taken : Type 0) : Type 0 where
+  pub serves : Serves old new
+  pub taken : Taken
+  pub written : written_before ≤ written_now
+  pub looked : looked_before ≤ looked_now
+
+-- a piece of the input, and then another, with the session's entries
+pub taken_then : (r xs ys : List ℕ) (b d : LineBuffer) (old mid new : List Entry) (u v w : Option (List ℕ)) (f g : Bool) → Extends old mid → Extends mid new → TakesPiece (cut_from r xs) b (entries_of session_pass (since old mid)) u v f → ((rest : List ℕ) → Holds b rest → TakesPiece (cut_from rest ys) d (entries_of session_pass (since mid new)) v w g) → TakesPiece (cut_from r (xs ++ ys)) d (entries_of session_pass (since old new)) u w (f || g)
+taken_then r xs ys b d old mid new u v w f g h k first second =
+    subst (λ (es : List Entry). TakesPiece (cut_from r (xs ++ ys)) d es u w (f || g)) (sym (session_entries-then old mid new h k)) (TakesPiece-then r xs ys b d _ _ u v w f g first second)
+
+-- nothing taken
+pub taken_none : (r : List ℕ) (b : LineBuffer) (log : List Entry) (w : Option (List ℕ)) → Holds b r → TakesPiece (cut_from r []) b (entries_of session_pass (since log log)) w w false
+taken_none r b log w h = subst (λ (es : List Entry). TakesPiece (cut_from r []) b es w w false) (sym (session_entries-none log)) (TakesPiece-none r b w h)
+
+-- an error that is passed on has its cause, since an earlier moment too
+pub HasCauses-pass : {T U : Type 0} (r : Result T Stop) (q : Result U Stop) (e d : Stop) (a b c x y z : ℕ) → r ≡ Err e → q ≡ Err d → d ≡ e → a ≤ b → x ≤ y → HasCauses r b c y z → HasCauses q a c x z
+HasCauses-pass r q e d a b c x y z was is same before looked h =
+    record {
+      written = let k = h.written in omega arith;
+      looked = let k = h.looked in omega arith;
+      write_fault = λ f. let k = h.write_fault (cc) in omega arith;
+      wait_fault = λ f. let k = h.wait_fault (cc) in omega arith;
+      no_read_fault = λ f. h.no_read_fault (cc);
+      not_full = λ f. h.not_full (cc);
     }

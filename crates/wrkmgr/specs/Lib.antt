@@ -10,3 +10,4 @@ pub mod Session
 pub mod LineBuffer
 pub mod Stop
 pub mod Calls
+pub mod Taking

@@ -5,13 +5,14 @@
 #![tactic(auto)]
 
 mod floor;
+mod input;
 mod line;
 mod monitor;
-mod run;
+mod report;
 mod said;
+mod session;
 mod stop;
 mod submission;
 mod write;
-mod report;
 
 fn main() {}

@@ -1,5 +1,5 @@
 use Rattle.wrkmgr.proofs.Servings.{Serves-call, Serves-then, Serves-monitor, submitted}
-use Rattle.wrkmgr.proofs.run.Run.submit.Goals as goal
+use Rattle.wrkmgr.proofs.session.Run.submit.Goals as goal
 
 pub returns-in_err-refused-clause-serves : goal.returns-in_err-refused-clause-serves
 returns-in_err-refused-clause-serves g c =

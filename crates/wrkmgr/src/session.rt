@@ -1,29 +1,22 @@
-// One run: the first call, the lines, the last call, and the monitor's turns between them.
+// The session's calls and answers, and the monitor's turns between them.
 ghost use Rattle.std.specs.Prelude.{◌≡◌, ◌≤◌, Err, OnOk, OnErr, IsErrOf, IfOk, IfSome};
 ghost use Rattle.wm_outside.specs.Told.{Grows};
 ghost use Rattle.wm_outside.specs.Cause.{raised};
 
 use crate::floor::Floor;
-use crate::line::LineBuffer;
 use crate::monitor::{Monitor, MonitorFault};
 use crate::said::{is_refused, said_line};
 use crate::stop::Stop;
-use crate::submission::{end_call, read_line, start_call, submission};
+use crate::submission::{read_line, submission};
 use crate::write::write_all;
 use std::alloc::{AllocError, Global};
 use std::sync::Wait;
 use wm_clwords::{First, FirstFault};
-use wm_law::{Call, Entry};
-use wm_outside::{Clock, Failed, Sink, Source, Spawner};
+use wm_law::Call;
+use wm_outside::{Clock, Sink, Spawner};
 
 /// The pass of the session.
 pub const SESSION: u32 = 0;
-
-/// How many bytes of input a run takes at the most.
-pub const MOST_INPUT: u64 = 1_000_000_000;
-
-/// How many bytes are read at a time.
-pub const PIECE_LEN: usize = 65536;
 
 /// What answers a line that isn't built.
 pub const NOT_BUILT: &[u8] = b"CM 9 NOTBUILT\n";
@@ -36,7 +29,7 @@ pub struct Run {
 }
 
 // Writes, and tells a fault as the run's.
-fn put<O: Sink>(out: &mut O, bytes: &[u8]) -> Result<(), Stop>
+pub(crate) fn put<O: Sink>(out: &mut O, bytes: &[u8]) -> Result<(), Stop>
     ensures ok { OnOk result (Grows (O.written out.old) (O.written out.new) bytes.now) }
     ensures faults { O.faults out.old ≤ O.faults out.new }
     ensures write_fault { IsErrOf result Stop.WriteFault → raised (O.faults out.old) ≤ O.faults out.new }
@@ -68,7 +61,7 @@ impl Run {
     ghost use Rattle.wrkmgr.specs.View.{view};
 
     // Makes one call of the session.
-    fn call<C: Clock>(&mut self, alloc: Global, clock: &mut C, call: Call) -> Result<(), AllocError>
+    pub(crate) fn call<C: Clock>(&mut self, alloc: Global, clock: &mut C, call: Call) -> Result<(), AllocError>
         requires fit { IsCall call }
         requires built { IsBuilt (after opening self.old.floor) call }
         ensures ok { OnOk result (Called self.old.floor call self.new.floor) }
@@ -98,7 +91,7 @@ impl Run {
     }
 
     // One turn of the monitor. It answers how many entries it made.
-    fn turn<P: Spawner, C: Clock>(&mut self, alloc: Global, spawner: &mut P, clock: &mut C) -> Result<usize, Stop>
+    pub(crate) fn turn<P: Spawner, C: Clock>(&mut self, alloc: Global, spawner: &mut P, clock: &mut C) -> Result<usize, Stop>
         ensures part { Advances (view self.old.floor self.old.monitor (P.asked spawner.old) (P.told spawner.old) (P.misses spawner.old))
             (view self.new.floor self.new.monitor (P.asked spawner.new) (P.told spawner.new) (P.misses spawner.new)) }
         ensures kept { OnOk result (self.new.monitor.kept ≡ None) }
@@ -113,7 +106,7 @@ impl Run {
     }
 
     // One wait of the monitor.
-    fn wait<P: Spawner, C: Clock, R: Wait>(&mut self, rt: &R, alloc: Global, spawner: &mut P, clock: &mut C) -> Result<(), Stop>
+    pub(crate) fn wait<P: Spawner, C: Clock, R: Wait>(&mut self, rt: &R, alloc: Global, spawner: &mut P, clock: &mut C) -> Result<(), Stop>
         ensures part { Advances (view self.old.floor self.old.monitor (P.asked spawner.old) (P.told spawner.old) (P.misses spawner.old))
             (view self.new.floor self.new.monitor (P.asked spawner.new) (P.told spawner.new) (P.misses spawner.new)) }
         ensures kept { OnOk result (self.new.monitor.kept ≡ None) }
@@ -144,7 +137,7 @@ impl Run {
     }
 
     // Answers one line: an empty one not at all, one that isn't built by its fault, another by its reply.
-    fn answer<O: Sink, P: Spawner, C: Clock>(&mut self, alloc: Global, out: &mut O, spawner: &mut P, clock: &mut C, line: &[u8]) -> Result<bool, Stop>
+    pub(crate) fn answer<O: Sink, P: Spawner, C: Clock>(&mut self, alloc: Global, out: &mut O, spawner: &mut P, clock: &mut C, line: &[u8]) -> Result<bool, Stop>
         ensures serves { Serves (view self.old.floor self.old.monitor (P.asked spawner.old) (P.told spawner.old) (P.misses spawner.old))
             (view self.new.floor self.new.monitor (P.asked spawner.new) (P.told spawner.new) (P.misses spawner.new)) }
         ensures answered { IfOk result (λ faulty. AnsweredBy (AnswersLine line.now)
