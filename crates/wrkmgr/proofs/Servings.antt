@@ -1,5 +1,5 @@
 -- Laws of a run's parts: nothing, a monitor's part, a call of the session, and one part after another.
-use Rattle.std.proofs.Common.{◌≡◌, ℕ, ◌+◌, ◌≤◌, ◌==◌, ◌&&◌, ◌||◌, Bool, true, false, List, [], ◌∷◌, ◌++◌, map, Option, Some, None, option_to_list, Result, Ok, Err, sym, ap, subst, ◌∙◌, refl, append_assoc, arith}
+use Rattle.std.proofs.Common.{◌≡◌, ℕ, ◌+◌, ◌≤◌, ◌==◌, ◌&&◌, ◌||◌, Bool, true, false, List, [], ◌∷◌, ◌++◌, length, map, Option, Some, None, option_to_list, Result, Ok, Err, sym, ap, subst, ◌∙◌, refl, append_assoc, arith}
 use Rattle.std.specs.List.{list_all, filter, count_by}
 use Rattle.std.proofs.Math.Seq.{drop-length}
 use Rattle.std.proofs.lemmas.Bool.Decides.{nat_tests}
@@ -20,7 +20,7 @@ use Rattle.wrkmgr.specs.Said.{said_text, with_end, is_refused}
 use Rattle.wrkmgr.specs.Lists.{since, Extends}
 use Rattle.wrkmgr.specs.Monitor.{MonitorView, Advances, RisesBy, is_own, is_spawner_fault, monitor_pass, reported, call_of, as_reports}
 use Rattle.wrkmgr.specs.Serving.{Serves, is_ours}
-use Rattle.wrkmgr.specs.Session.{AnsweredBy, Submits, session_pass, submit_call}
+use Rattle.wrkmgr.specs.Session.{AnsweredBy, Submits, OneCall, session_pass, submit_call}
 use Rattle.wrkmgr.specs.LineBuffer.{Holds}
 use Rattle.wrkmgr.specs.Lines.{cut_from}
 use Rattle.wrkmgr.specs.Taking.{TakesPiece}
@@ -166,3 +166,31 @@ HasCauses-pass r q e d a b c x y z was is same before looked h =
       no_read_fault = λ f. h.no_read_fault (cc);
       not_full = λ f. h.not_full (cc);
     }
+
+-- a call of the session, and then entries of the monitor
+pub one_call : (old mid new : List Entry) (c d : Call) → Called old c mid → c ≡ d → Extends mid new → list_all is_own (since mid new) ≡ true → OneCall d (entries_of session_pass (since old new))
+one_call old mid new c d h is grown own =
+    let e = entry_at old session_pass c h.now in
+    let es = session_entries-then old mid new (Extends-called old mid c h) grown in
+    let one = ap (λ (xs : List Entry). xs ++ entries_of session_pass (since mid new)) (session_entries-called old mid c h) in
+    let none = ap (λ (xs : List Entry). (e ∷ []) ++ xs) (session_entries-own (since mid new) own) in
+    record { entry = e; only = es ∙ (one ∙ none); call = is }
+
+-- entries of the monitor before it too
+pub last_call : (first old mid new : List Entry) (c d : Call) → Extends first old → list_all is_own (since first old) ≡ true → Called old c mid → c ≡ d → Extends mid new → list_all is_own (since mid new) ≡ true → OneCall d (entries_of session_pass (since first new))
+last_call first old mid new c d begun before h is grown own =
+    let o = one_call old mid new c d h is grown own in
+    let ext = Extends-then old mid new (Extends-called old mid c h) grown in
+    let es = session_entries-then first old new begun ext in
+    let none = ap (λ (xs : List Entry). xs ++ entries_of session_pass (since old new)) (session_entries-own (since first old) before) in
+    record { entry = o.entry; only = es ∙ (none ∙ o.only); call = o.call }
+
+-- what stays true while the input is read
+pub record ReadsSo (old new : MonitorView) (read_before read_now written_before written_now looked_before looked_now : ℕ) (sum : ℕ) (buf : List ℕ) (Taken : Type 0) : Type 0 where
+  pub serves : Serves old new
+  pub taken : Taken
+  pub read : read_before ≤ read_now
+  pub written : written_before ≤ written_now
+  pub looked : looked_before ≤ looked_now
+  pub total : sum ≤ 1000000000
+  pub piece : length buf ≡ 65536

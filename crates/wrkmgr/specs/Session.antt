@@ -84,3 +84,19 @@ pub record AnsweredBy (Due : List Entry → List ℕ → Bool → Type 0) (es : 
   pub bytes : List ℕ
   pub answers : Due es bytes faulty
   pub written : Grows before now bytes
+
+-- the one entry of a call
+pub record OneCall (c : Call) (es : List Entry) : Type 0 where
+  pub entry : Entry
+  pub only : es ≡ entry ∷ []
+  pub call : entry.call ≡ c
+
+-- a session: the first call, the entries of the lines with what was written for them, and the last call
+pub record IsSession (lines : List (List ℕ)) (es : List Entry) (before now : Option (List ℕ)) (faulty : Bool) : Type 0 where
+  pub first : List Entry
+  pub middle : List Entry
+  pub last : List Entry
+  pub parts : es ≡ first ++ middle ++ last
+  pub start : OneCall start_call first
+  pub answered : AnsweredBy (Answers lines) middle before now faulty
+  pub end : OneCall end_call last

@@ -26,3 +26,12 @@ pub record HasCauses {T : Type 0} (result : Result T Stop) (written_before writt
   pub wait_fault : IsErrOf result WaitFault → raised looked_before ≤ looked_now
   pub no_read_fault : IsErrOf result ReadFault → ⊥
   pub not_full : IsErrOf result InputFull → ⊥
+
+-- the same, where the input is read too
+pub record HasInputCauses {T : Type 0} (result : Result T Stop) (read_before read_now written_before written_now looked_before looked_now : ℕ) : Type 0 where
+  pub read : read_before ≤ read_now
+  pub written : written_before ≤ written_now
+  pub looked : looked_before ≤ looked_now
+  pub read_fault : IsErrOf result ReadFault → raised read_before ≤ read_now
+  pub write_fault : IsErrOf result WriteFault → raised written_before ≤ written_now
+  pub wait_fault : IsErrOf result WaitFault → raised looked_before ≤ looked_now

@@ -50,7 +50,7 @@ impl Run {
     ghost use Rattle.wrkmgr.specs.Lists.{since};
     ghost use Rattle.wrkmgr.specs.Serving.{Serves};
     ghost use Rattle.wrkmgr.specs.Session.{Answers, AnsweredBy, AnswersLine, session_pass};
-    ghost use Rattle.wrkmgr.specs.Stop.{HasCauses};
+    ghost use Rattle.wrkmgr.specs.Stop.{HasCauses, HasInputCauses};
     ghost use Rattle.wrkmgr.specs.Taking.{TakesPiece, TakesInput};
     ghost use Rattle.wrkmgr.specs.View.{view};
 
@@ -101,5 +101,34 @@ impl Run {
             faulty = either(faulty, wrong);
         }
         Ok(faulty)
+    }
+
+    /// Takes the whole input, and answers its lines. It answers whether one of them got a fault or a refusal.
+    pub fn take_all<I: Source, O: Sink, P: Spawner, C: Clock, R: Wait>(&mut self, rt: &R, alloc: Global, input: &mut I, out: &mut O, spawner: &mut P, clock: &mut C) -> Result<bool, Stop>
+        ensures serves { Serves (view self.old.floor self.old.monitor (P.asked spawner.old) (P.told spawner.old) (P.misses spawner.old))
+            (view self.new.floor self.new.monitor (P.asked spawner.new) (P.told spawner.new) (P.misses spawner.new)) }
+        ensures taken { IfOk result (λ faulty. TakesInput (I.left input.old) (I.left input.new) (λ bytes. AnsweredBy (Answers (lines_of bytes))
+            (entries_of session_pass (since self.old.floor self.new.floor)) (O.written out.old) (O.written out.new) faulty)) }
+        ensures end { OnOk result (IsAtEnd (I.left input.new)) }
+        ensures causes { HasInputCauses result (I.faults input.old) (I.faults input.new) (O.faults out.old) (O.faults out.new) (P.faults spawner.old) (P.faults spawner.new) }
+    {
+        let mut piece = vec![in alloc; 0u8; PIECE_LEN]?;
+        let mut buffer = LineBuffer::new(alloc);
+        let mut faulty = false;
+        let mut total = 0u64;
+        'reads: for _ in rt.forever() {
+            let n = read(input, &mut piece)?;
+            if n == 0 {
+                break;
+            }
+            total += n as u64;
+            if total > MOST_INPUT {
+                return Err(Stop::InputFull);
+            }
+            let wrong = self.take_piece(alloc, out, spawner, clock, &mut buffer, &piece[..n])?;
+            faulty = either(faulty, wrong);
+        }
+        let wrong = self.answer_buffered(alloc, out, spawner, clock, &buffer)?;
+        Ok(either(faulty, wrong))
     }
 }

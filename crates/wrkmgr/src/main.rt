@@ -4,6 +4,7 @@
 //! the contract of `run`. The definitions are in `specs/`.
 #![tactic(auto)]
 
+mod finish;
 mod floor;
 mod input;
 mod line;

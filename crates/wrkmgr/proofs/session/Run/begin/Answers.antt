@@ -1,0 +1,19 @@
+use Rattle.wrkmgr.proofs.Servings.{Serves-call, Serves-then, Serves-monitor, one_call}
+use Rattle.wrkmgr.specs.Session.{start_call}
+use Rattle.wrkmgr.proofs.session.Run.begin.Goals as goal
+
+pub returns-in_err-turn-clause-serves : goal.returns-in_err-turn-clause-serves
+returns-in_err-turn-clause-serves g c =
+    let s = g.P.Spawner in
+    let p = c.args.spawner.now in
+    Serves-then _ _ _ (Serves-call c.args.self.now.floor c.call.new.self.floor c.start_call.result c.args.self.now.monitor c.call.new.self.monitor (s.asked p) (s.told p) (s.misses p) c.in_ok-call.ensures.ok c.call.ensures.monitor) (Serves-monitor _ _ c.turn.ensures.part)
+
+pub returns-clause-serves : goal.returns-clause-serves
+returns-clause-serves g c =
+    let s = g.P.Spawner in
+    let p = c.args.spawner.now in
+    Serves-then _ _ _ (Serves-call c.args.self.now.floor c.call.new.self.floor c.start_call.result c.args.self.now.monitor c.call.new.self.monitor (s.asked p) (s.told p) (s.misses p) c.in_ok-call.ensures.ok c.call.ensures.monitor) (Serves-monitor _ _ c.turn.ensures.part)
+
+pub returns-clause-begun : goal.returns-clause-begun
+returns-clause-begun g c =
+    one_call c.args.self.now.floor c.call.new.self.floor c.turn.new.self.floor c.start_call.result start_call c.in_ok-call.ensures.ok c.start_call.ensures.call c.turn.ensures.part.log c.turn.ensures.part.own

@@ -1,0 +1,82 @@
+// The first call and the last, and the monitor's turns until no job is active.
+use crate::session::Run;
+use crate::stop::Stop;
+use crate::submission::{end_call, start_call};
+use std::alloc::Global;
+use std::sync::Wait;
+use wm_outside::{Clock, Spawner};
+
+impl Run {
+    ghost use Rattle.std.specs.Prelude.{◌≡◌, OnOk, None};
+    ghost use Rattle.wm_law.specs.History.{after, entries_of};
+    ghost use Rattle.wm_law.specs.Opening.{opening};
+    ghost use Rattle.wm_law.specs.Pending.{active};
+    ghost use Rattle.wrkmgr.specs.Lists.{since};
+    ghost use Rattle.wrkmgr.specs.Monitor.{Advances};
+    ghost use Rattle.wrkmgr.specs.Serving.{Serves};
+    ghost use Rattle.wrkmgr.specs.Session.{OneCall, start_call, end_call, session_pass};
+    ghost use Rattle.wrkmgr.specs.Stop.{HasCauses};
+    ghost use Rattle.wrkmgr.specs.View.{view};
+
+    // Turns until one makes no entry.
+    fn drain<P: Spawner, C: Clock, R: Wait>(&mut self, rt: &R, alloc: Global, spawner: &mut P, clock: &mut C) -> Result<(), Stop>
+        ensures part { Advances (view self.old.floor self.old.monitor (P.asked spawner.old) (P.told spawner.old) (P.misses spawner.old))
+            (view self.new.floor self.new.monitor (P.asked spawner.new) (P.told spawner.new) (P.misses spawner.new)) }
+        ensures kept { OnOk result (self.new.monitor.kept ≡ None) }
+        ensures causes { HasCauses result 0 0 (P.faults spawner.old) (P.faults spawner.new) }
+    {
+        'turns: for _ in rt.forever() {
+            let sent = self.turn(alloc, spawner, clock)?;
+            if sent == 0 {
+                return Ok(());
+            }
+        }
+        unreachable!()
+    }
+
+    // Turns and waits until no job is active.
+    fn wait_for_jobs<P: Spawner, C: Clock, R: Wait>(&mut self, rt: &R, alloc: Global, spawner: &mut P, clock: &mut C) -> Result<(), Stop>
+        ensures part { Advances (view self.old.floor self.old.monitor (P.asked spawner.old) (P.told spawner.old) (P.misses spawner.old))
+            (view self.new.floor self.new.monitor (P.asked spawner.new) (P.told spawner.new) (P.misses spawner.new)) }
+        ensures idle { OnOk result (active (after opening self.new.floor) ≡ 0) }
+        ensures kept { OnOk result (self.new.monitor.kept ≡ None) }
+        ensures causes { HasCauses result 0 0 (P.faults spawner.old) (P.faults spawner.new) }
+    {
+        self.drain(rt, alloc, spawner, clock)?;
+        'waits: for _ in rt.forever() {
+            if self.floor.active() == 0 {
+                return Ok(());
+            }
+            self.wait(rt, alloc, spawner, clock)?;
+            self.drain(rt, alloc, spawner, clock)?;
+        }
+        unreachable!()
+    }
+
+    /// Starts the controlling subsystem, and lets the monitor turn.
+    pub fn begin<P: Spawner, C: Clock>(&mut self, alloc: Global, spawner: &mut P, clock: &mut C) -> Result<(), Stop>
+        ensures serves { Serves (view self.old.floor self.old.monitor (P.asked spawner.old) (P.told spawner.old) (P.misses spawner.old))
+            (view self.new.floor self.new.monitor (P.asked spawner.new) (P.told spawner.new) (P.misses spawner.new)) }
+        ensures begun { OnOk result (OneCall start_call (entries_of session_pass (since self.old.floor self.new.floor))) }
+        ensures causes { HasCauses result 0 0 (P.faults spawner.old) (P.faults spawner.new) }
+    {
+        self.call(alloc, clock, start_call())?;
+        self.turn(alloc, spawner, clock)?;
+        Ok(())
+    }
+
+    /// Waits until no job is active, and puts the power down.
+    pub fn finish<P: Spawner, C: Clock, R: Wait>(&mut self, rt: &R, alloc: Global, spawner: &mut P, clock: &mut C) -> Result<(), Stop>
+        ensures serves { Serves (view self.old.floor self.old.monitor (P.asked spawner.old) (P.told spawner.old) (P.misses spawner.old))
+            (view self.new.floor self.new.monitor (P.asked spawner.new) (P.told spawner.new) (P.misses spawner.new)) }
+        ensures ended { OnOk result (OneCall end_call (entries_of session_pass (since self.old.floor self.new.floor))) }
+        ensures idle { OnOk result (active (after opening self.new.floor) ≡ 0) }
+        ensures kept { OnOk result (self.new.monitor.kept ≡ None) }
+        ensures causes { HasCauses result 0 0 (P.faults spawner.old) (P.faults spawner.new) }
+    {
+        self.wait_for_jobs(rt, alloc, spawner, clock)?;
+        self.call(alloc, clock, end_call())?;
+        self.wait_for_jobs(rt, alloc, spawner, clock)?;
+        Ok(())
+    }
+}
