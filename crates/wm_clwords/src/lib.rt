@@ -6,13 +6,16 @@
 #![tactic(auto)]
 
 mod call;
+mod fault;
 mod first;
 mod joiner;
 mod line;
+mod mode;
 #[cfg(test)]
 mod tests;
 
 pub use call::call_text;
+pub use fault::ClFault;
 pub use first::{First, FirstFault, one_reading, read_first};
 pub use joiner::{Joiner, LINE_LEN};
 pub use line::LogicalLine;
