@@ -1,3 +1,4 @@
+pub mod Completeness
 pub mod FirstLemmas
 pub mod GrammarLemmas
 pub mod LineLemmas
