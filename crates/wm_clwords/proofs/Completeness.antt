@@ -284,9 +284,10 @@ free_token (Key raw) tokens opens place ih h =
     ap (run (at_mode Free 0 [] opens) place) (append_assoc raw (40 ∷ []) rest)
     ∙ word_all raw opens place (40 ∷ rest) h.0
     ∙ word_then place raw opens behind 40 rest _ refl
-    (open_run opens behind (mark place (behind + 1) (Key (upper raw))) rest _ h.2.1.0
+    (open_run opens behind (mark place (place + length (upper raw) + 1) (Key (upper raw))) rest _ h.2.1.0
     (ih.free (behind ∷ opens) (behind + 1) (stand_at Anything h.2.0 (suc (length opens)) tokens (omega (arith, h.2.1.1)) h.2.2)))
-    ∙ ap (λ n. Ok (mark place (behind + 1) (Key (upper raw)) ∷ marks_from n tokens)) (sym long)
+    ∙ ap (λ n. Ok (mark place (place + n + 1) (Key (upper raw)) ∷ marks_from (behind + 1) tokens)) (length-map raw upper_byte)
+    ∙ ap (λ n. Ok (mark place (place + length raw + 1) (Key (upper raw)) ∷ marks_from n tokens)) (sym long)
 free_token Open tokens opens place ih h =
     open_run opens place (mark place (place + 1) Open) (flat_map spelling tokens) _ h.2.1.0
     (ih.free (place ∷ opens) (place + 1) (stand_at Anything h.2.0 (suc (length opens)) tokens (omega (arith, h.2.1.1)) h.2.2))

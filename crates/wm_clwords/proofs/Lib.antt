@@ -1,6 +1,7 @@
 pub mod Completeness
 pub mod FirstLemmas
 pub mod GrammarLemmas
+pub mod ItemLemmas
 pub mod LineLemmas
 pub mod LinesLaw
 pub mod Names

@@ -134,12 +134,12 @@ word_step start raw opens place b bytes ms ih word wrong at e =
           (word_rest start (length opens) place raw (b ∷ bytes) f.0 word at (blank_rest ByWord (length opens) place b bytes f.0 refl w.0 (ih.free 0 [] opens (place + 1) f.0 f.1)))
       | inr w ↦ elim (pick (eqb b 40) _ _ next ms w.1) [
         | inl v ↦
-            let o = opened_ok place opens (mark start (place + 1) (Key (upper raw))) next ms v.1 in
+            let o = opened_ok place opens (mark start (start + length (upper raw) + 1) (Key (upper raw))) next ms v.1 in
             let f = o.1 in
             let long : place + 1 ≡ start + length (raw ++ 40 ∷ []) = omega (arith, at, length_push raw 40) in
             rest_at Anything (length opens) start ((raw ++ 40 ∷ []) ++ bytes) (raw ++ b ∷ bytes) _ _
             (append_assoc raw (40 ∷ []) bytes ∙ ap (λ n. raw ++ n ∷ bytes) (sym (eqb-true b 40 v.0)))
-            (ap (λ n. mark start n (Key (upper raw)) ∷ f.0) (omega (arith, at)) ∙ sym f.2)
+            (ap (λ n. mark start n (Key (upper raw)) ∷ f.0) (omega (arith, length-map raw upper_byte)) ∙ sym f.2)
             (rest_cons Anything (length opens) (length opens + 1) start (place + 1) (Key raw) bytes f.0 word refl (o.0, refl) long
             (rest_depth Anything (suc (length opens)) (length opens + 1) (place + 1) bytes f.0 (omega arith) (ih.free 0 [] (place ∷ opens) (place + 1) f.0 f.1)))
         | inr v ↦ elim (pick (eqb b 41) _ _ next ms v.1) [

@@ -1,6 +1,8 @@
 pub mod CallText
 pub mod First
 pub mod Grammar
+pub mod Items
+pub mod Levels
 pub mod Lines
 pub mod Part
 pub mod Quote

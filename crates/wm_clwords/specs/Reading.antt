@@ -49,7 +49,7 @@ at_free opens place byte =
 abbrev pub at_word : ℕ → List ℕ → List ℕ → ℕ → ℕ → Went
 at_word start held opens place byte =
     if is_blank byte then goes Free 0 [] opens (mark start place (Word held) ∷ [])
-    else (if byte == 40 then opened place opens (mark start (place + 1) (Key held))
+    else (if byte == 40 then opened place opens (mark start (start + length held + 1) (Key held))
     else (if byte == 41 then closed place opens (mark start place (Word held) ∷ [])
     else (if is_word_byte byte then goes InWord start (held ++ upper_byte byte ∷ []) opens []
     else Err (BadByte place))))

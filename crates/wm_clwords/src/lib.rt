@@ -9,13 +9,16 @@ mod call;
 mod fault;
 mod first;
 mod joiner;
+mod levels;
 mod line;
 mod mode;
 #[cfg(test)]
 mod tests;
+mod tree;
 
 pub use call::call_text;
 pub use fault::ClFault;
 pub use first::{First, FirstFault, one_reading, read_first};
 pub use joiner::{Joiner, LINE_LEN};
 pub use line::LogicalLine;
+pub use tree::{Item, Span, Tree};

@@ -1,0 +1,24 @@
+-- The state and the marks that open lists stand for.
+use Rattle.std.specs.Prelude.{◌≡◌, ◌≢◌, ℕ, Bool, true, List, [], ◌∷◌, ◌++◌, length, reverse, map, Option, Some, None, Result, Ok, Err, MatchResult, nat_le, ◌+◌, ◌-◌, ◌≤◌, IsTrue}
+use Rattle.std.specs.List.{flat_map, list_all}
+use Rattle.wm_clwords.specs.declared.levels.Frame.{Frame}
+use Rattle.wm_clwords.specs.declared.levels.Levels.{Levels}
+use Rattle.wm_clwords.specs.declared.fault.ClFault.{ClFault}
+use Rattle.wm_clwords.specs.declared.fault.ClFault.TheVariants.{NoMemory}
+use Rattle.wm_clwords.specs.Grammar.{Key, Open, Mark}
+use Rattle.wm_clwords.specs.Reading.{mark, State, Went}
+use Rattle.wm_clwords.specs.Items.{key_mark, list_marks}
+
+abbrev pub frame_marks : Frame → List Mark
+frame_marks frame = list_marks frame.before.items ++ key_mark frame.start frame.key ∷ []
+
+-- the marks so far
+abbrev pub level_marks : Levels → List Mark
+level_marks levels = flat_map frame_marks levels.frames.items ++ list_marks levels.items.items
+
+-- the places of the open lists, the innermost first
+abbrev pub opening_of : Frame → ℕ
+opening_of frame = frame.opening
+
+abbrev pub level_opens : Levels → List ℕ
+level_opens levels = reverse (map opening_of levels.frames.items)
