@@ -6,4 +6,5 @@ pub mod Levels
 pub mod Lines
 pub mod Part
 pub mod Quote
+pub mod Reader
 pub mod Reading

@@ -40,10 +40,10 @@ fn keyed_of(span: Span, key: Text, items: Vec<Item>) -> Item
 }
 
 impl Levels {
-    ghost use Rattle.std.specs.Prelude.{◌≡◌, ◌≢◌, ◌<◌, ◌≤◌, ◌+◌, ◌∷◌, [], ◌++◌, length, drop, nat_le, IsTrue, OnOk, IfErr, IfSome, IfNone};
+    ghost use Rattle.std.specs.Prelude.{◌≡◌, ◌≢◌, ◌<◌, ◌≤◌, ◌+◌, ◌∷◌, [], ◌++◌, length, drop, nat_le, IsTrue, OnOk, IfOk, IfErr, Err, IfSome, IfNone};
     ghost use Rattle.std.specs.List.{list_all};
     ghost use Rattle.wm_clwords.specs.Grammar.{Word, Quoted, Key, Open, Close};
-    ghost use Rattle.wm_clwords.specs.Reading.{mark};
+    ghost use Rattle.wm_clwords.specs.Reading.{mark, all_closed};
     ghost use Rattle.wm_clwords.specs.Items.{item_marks, key_mark, list_marks};
     ghost use Rattle.wm_clwords.specs.Levels.{level_marks, level_opens};
 
@@ -121,7 +121,8 @@ impl Levels {
         Ok(())
     }
 
-    fn pop_frame(&mut self) -> Option<Frame>
+    /// Takes the innermost open list out.
+    pub fn pop_frame(&mut self) -> Option<Frame>
         ensures some { IfSome result (λ frame. self.old.frames.items ≡ self.new.frames.items ++ frame ∷ []) }
         ensures items { self.new.items.items ≡ self.old.items.items }
         ensures opens { IfSome result (λ frame. level_opens self.old ≡ frame.opening ∷ level_opens self.new) }
@@ -129,6 +130,18 @@ impl Levels {
         ensures none { IfNone result (level_opens self.old ≡ []) }
     {
         self.frames.pop()
+    }
+
+    /// The items, where every list is closed.
+    pub fn into_items(mut self) -> Result<Vec<Item>, ClFault>
+        ensures ok { IfOk result (λ items. (level_opens self ≡ []) × (list_marks items.items ≡ level_marks self)) }
+        ensures err { IfErr result (λ e. all_closed (level_opens self) [] ≡ Err e) }
+    {
+        if let Some(frame) = self.pop_frame() {
+            return Err(ClFault::OpenParen(frame.opening));
+        }
+        let Levels { frames: _, items } = self;
+        Ok(items)
     }
 
     /// Ends the innermost list with a parenthesis at `place`.

@@ -12,6 +12,7 @@ mod joiner;
 mod levels;
 mod line;
 mod mode;
+mod reader;
 #[cfg(test)]
 mod tests;
 mod tree;
