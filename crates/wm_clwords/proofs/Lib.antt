@@ -7,3 +7,5 @@ pub mod LinesLaw
 pub mod Names
 pub mod PartLemmas
 pub mod Soundness
+pub mod StepLemmas
+pub mod VerdictLemmas

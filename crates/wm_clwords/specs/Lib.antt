@@ -8,3 +8,4 @@ pub mod Part
 pub mod Quote
 pub mod Reader
 pub mod Reading
+pub mod Verdict

@@ -6,6 +6,7 @@
 #![tactic(auto)]
 
 mod call;
+mod command;
 mod fault;
 mod first;
 mod joiner;
@@ -18,6 +19,7 @@ mod tests;
 mod tree;
 
 pub use call::call_text;
+pub use command::read_command;
 pub use fault::ClFault;
 pub use first::{First, FirstFault, one_reading, read_first};
 pub use joiner::{Joiner, LINE_LEN};

@@ -1,0 +1,54 @@
+// Reading a command.
+ghost use Rattle.std.specs.Prelude.{◌≡◌, ◌≢◌, ◌≤◌, [], ◌∷◌, length, Ok, Err, IfOk, IfErr};
+ghost use Rattle.wm_clwords.specs.Reading.{run, begun};
+ghost use Rattle.wm_clwords.specs.Items.{list_marks};
+ghost use Rattle.wm_clwords.specs.Verdict.{named, verdict};
+
+use crate::fault::ClFault;
+use crate::joiner::LINE_LEN;
+use crate::reader::Reader;
+use crate::tree::{Item, Tree};
+use std::alloc::Global;
+use wm_base::Name;
+
+/// The items that bytes spell, or the first fault among them.
+fn read_items(alloc: Global, bytes: &[u8]) -> Result<Vec<Item>, ClFault>
+    requires { length bytes.now ≤ 8192 }
+    ensures ok { IfOk result (λ items. run begun 0 bytes.now ≡ Ok (list_marks items.items)) }
+    ensures err { IfErr result (λ e. e ≢ ClFault.NoMemory → run begun 0 bytes.now ≡ Err e) }
+{
+    let mut reader = Reader::new(alloc);
+    for (index, byte) in bytes.iter().enumerate() {
+        reader.step(alloc, index as u32, *byte)?;
+    }
+    reader.finish(alloc, bytes.len() as u32)
+}
+
+/// The first item is the command's name.
+fn named(mut items: Vec<Item>) -> Result<Tree, ClFault>
+    ensures ok { IfOk result (λ tree. named (list_marks items.items) ≡ Ok (tree.name, list_marks tree.items.items)) }
+    ensures err { IfErr result (λ e. named (list_marks items.items) ≡ Err e) }
+{
+    if items.is_empty() {
+        return Err(ClFault::Empty);
+    }
+    match items.remove(0) {
+        Item::Word(_, text) => match Name::read(text.as_bytes()) {
+            Ok(name) => Ok(Tree { name, items }),
+            Err(_) => Err(ClFault::BadName),
+        },
+        _ => Err(ClFault::BadName),
+    }
+}
+
+/// Reads the bytes of a command.
+pub fn read_command(alloc: Global, bytes: &[u8]) -> Result<Tree, ClFault>
+    ensures ok { IfOk result (λ tree. verdict bytes.now ≡ Ok (tree.name, list_marks tree.items.items)) }
+    ensures err { IfErr result (λ e. e ≢ ClFault.NoMemory → verdict bytes.now ≡ Err e) }
+{
+    if bytes.len() > LINE_LEN {
+        return Err(ClFault::TooLong);
+    }
+    let items = read_items(alloc, bytes)?;
+    named(items)
+}
