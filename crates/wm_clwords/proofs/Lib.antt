@@ -1,4 +1,5 @@
 pub mod Completeness
+pub mod Explained
 pub mod FirstLemmas
 pub mod GrammarLemmas
 pub mod ItemLemmas

@@ -1,4 +1,5 @@
 pub mod CallText
+pub mod Faults
 pub mod First
 pub mod Grammar
 pub mod Items
