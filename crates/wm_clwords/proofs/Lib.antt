@@ -7,6 +7,7 @@ pub mod LineLemmas
 pub mod LinesLaw
 pub mod Names
 pub mod PartLemmas
+pub mod Runs
 pub mod Soundness
 pub mod StepLemmas
 pub mod VerdictLemmas
