@@ -15,7 +15,7 @@ use Rattle.wm_clwords.specs.Grammar.{Token, Blank, Comment, Word, Quoted, Key, O
 use Rattle.wm_clwords.specs.Reading.{State, mark, Went, goes, opened, closed, at_free, at_word, at_slash, in_quoted, at_apostrophe, after_slash, in_comment, at_star, step, step_by, all_closed, finish, finish_by, with_front, with_rest, run, begun}
 use Rattle.wm_clwords.proofs.GrammarLemmas.{upper-push, word_parts, word_push, word_one}
 
-abbrev Marks : Type 0
+abbrev pub Marks : Type 0
 Marks = Result (List Mark) ClFault
 
 front_nil : (r : Marks) → with_front [] r ≡ r
@@ -27,29 +27,29 @@ went : (s : State) (marks : List Mark) (place : ℕ) (bytes : List ℕ) (ms : Li
 went s marks place bytes ms e = ap (with_front marks) e
 
 -- a test that is known
-choose : (c : Bool) (x y : Went) (next : State → Marks) (r : Marks) (d : Bool) → c ≡ d → with_rest (cond d x y) next ≡ r → with_rest (cond c x y) next ≡ r
+pub choose : (c : Bool) (x y : Went) (next : State → Marks) (r : Marks) (d : Bool) → c ≡ d → with_rest (cond d x y) next ≡ r → with_rest (cond c x y) next ≡ r
 choose c x y next r d e h = ap (λ b. with_rest (cond b x y) next) e ∙ h
 
-abbrev at_mode : Mode → ℕ → List ℕ → List ℕ → State
+abbrev pub at_mode : Mode → ℕ → List ℕ → List ℕ → State
 at_mode mode start held opens = record { mode = mode; start = start; held = held; opens = opens }
 
 -- a byte of a word is none that ends it
-word_byte : (b : ℕ) → is_word_byte b ≡ true → (is_blank b ≡ false) × (eqb b 39 ≡ false) × (eqb b 40 ≡ false) × (eqb b 41 ≡ false)
+pub word_byte : (b : ℕ) → is_word_byte b ≡ true → (is_blank b ≡ false) × (eqb b 39 ≡ false) × (eqb b 40 ≡ false) × (eqb b 41 ≡ false)
 word_byte b h = (grind (arith, nat_tests), grind (arith, nat_tests), grind (arith, nat_tests), grind (arith, nat_tests))
 
-blank_byte : (b : ℕ) → is_blank b ≡ true → (eqb b 42 ≡ false) × (eqb b 39 ≡ false)
+pub blank_byte : (b : ℕ) → is_blank b ≡ true → (eqb b 42 ≡ false) × (eqb b 39 ≡ false)
 blank_byte b h = (grind (arith, nat_tests), grind (arith, nat_tests))
 
 -- `/` alone
-abbrev is_slash : List ℕ → Bool
+abbrev pub is_slash : List ℕ → Bool
 is_slash [] = false
 is_slash (a ∷ []) = eqb a 47
 is_slash (a ∷ b ∷ l) = false
 
-abbrev word_mode : Bool → Mode
+abbrev pub word_mode : Bool → Mode
 word_mode c = cond c Slash InWord
 
-abbrev word_state : ℕ → List ℕ → List ℕ → State
+abbrev pub word_state : ℕ → List ℕ → List ℕ → State
 word_state start raw opens = at_mode (word_mode (is_slash raw)) start (upper raw) opens
 
 slash_push : (raw : List ℕ) (b : ℕ) → is_word raw ≡ true → is_slash (raw ++ b ∷ []) ≡ false
@@ -58,11 +58,11 @@ slash_push (a ∷ []) b h = refl
 slash_push (a ∷ c ∷ l) b h = refl
 
 -- a word's bytes so far are read alike, whether they are `/` alone or not
-word_step_by : (c : Bool) (start : ℕ) (held opens : List ℕ) (place b : ℕ) → (c ≡ true → eqb b 42 ≡ false) → step_by (word_mode c) start held opens place b ≡ at_word start held opens place b
+pub word_step_by : (c : Bool) (start : ℕ) (held opens : List ℕ) (place b : ℕ) → (c ≡ true → eqb b 42 ≡ false) → step_by (word_mode c) start held opens place b ≡ at_word start held opens place b
 word_step_by true start held opens place b h = ap (λ d. cond d (goes InComment start [] opens []) (at_word start held opens place b)) (h refl)
 word_step_by false start held opens place b h = refl
 
-word_finish_by : (c : Bool) (start : ℕ) (held opens : List ℕ) (place : ℕ) → finish_by (word_mode c) start held opens place ≡ all_closed opens (mark start place (Word held) ∷ [])
+pub word_finish_by : (c : Bool) (start : ℕ) (held opens : List ℕ) (place : ℕ) → finish_by (word_mode c) start held opens place ≡ all_closed opens (mark start place (Word held) ∷ [])
 word_finish_by true start held opens place = refl
 word_finish_by false start held opens place = refl
 
@@ -163,7 +163,7 @@ word_run (b ∷ more) start raw opens place bytes word good whole =
     ∙ ap (λ n. run (word_state start (raw ++ b ∷ more) opens) n bytes) (omega arith)
 
 -- a whole word
-word_all : (raw : List ℕ) (opens : List ℕ) (place : ℕ) (bytes : List ℕ) → is_word raw ≡ true
+pub word_all : (raw : List ℕ) (opens : List ℕ) (place : ℕ) (bytes : List ℕ) → is_word raw ≡ true
     → run (at_mode Free 0 [] opens) place (raw ++ bytes) ≡ run (word_state place raw opens) (place + length raw) bytes
 word_all [] opens place bytes word = absurd (false≢true word)
 word_all (a ∷ more) opens place bytes word =
@@ -173,7 +173,7 @@ word_all (a ∷ more) opens place bytes word =
     ∙ ap (λ n. run (word_state place (a ∷ more) opens) n bytes) (omega arith)
 
 -- the bytes of a text
-quote_run : (text : List ℕ) (start : ℕ) (before opens : List ℕ) (place : ℕ) (bytes : List ℕ) → list_all is_printable text ≡ true
+pub quote_run : (text : List ℕ) (start : ℕ) (before opens : List ℕ) (place : ℕ) (bytes : List ℕ) → list_all is_printable text ≡ true
     → run (at_mode InQuoted start before opens) place (doubled text ++ bytes) ≡ run (at_mode InQuoted start (before ++ text) opens) (place + length (doubled text)) bytes
 quote_run [] start before opens place bytes good =
     ap (λ r. run (at_mode InQuoted start r opens) place bytes) (sym (append-nil before)) ∙ ap (λ n. run (at_mode InQuoted start (before ++ []) opens) n bytes) (omega arith)
@@ -187,7 +187,7 @@ quote_run (b ∷ text) start before opens place bytes good =
     ∙ ap (λ n. run (at_mode InQuoted start (before ++ b ∷ text) opens) n bytes) (omega (arith, length-append (doubled_byte b) (doubled text)))
 
 -- a comment
-comment_run : (text : List ℕ) (start : ℕ) (opens : List ℕ) (place : ℕ) (bytes : List ℕ) → list_all is_comment_byte text ≡ true → is_unended text ≡ true
+pub comment_run : (text : List ℕ) (start : ℕ) (opens : List ℕ) (place : ℕ) (bytes : List ℕ) → list_all is_comment_byte text ≡ true → is_unended text ≡ true
     → (run (at_mode InComment start [] opens) place (text ++ 42 ∷ 47 ∷ bytes) ≡ run (at_mode Free 0 [] opens) (place + length text + 2) bytes)
     × (is_unended (42 ∷ text) ≡ true → run (at_mode AtStar start [] opens) place (text ++ 42 ∷ 47 ∷ bytes) ≡ run (at_mode Free 0 [] opens) (place + length text + 2) bytes)
 comment_run [] start opens place bytes good h =
@@ -215,7 +215,7 @@ pub record Read (tokens : List Token) : Type 0 where
   pub quote : (start : ℕ) (text opens : List ℕ) (place : ℕ) → MayStand 16 ByQuoted (length opens) tokens
       → run (at_mode AtApostrophe start text opens) place (flat_map spelling tokens) ≡ Ok (mark start place (Quoted text) ∷ marks_from place tokens)
 
-none_open : (opens : List ℕ) (marks : List Mark) → length opens ≡ 0 → all_closed opens marks ≡ Ok marks
+pub none_open : (opens : List ℕ) (marks : List Mark) → length opens ≡ 0 → all_closed opens marks ≡ Ok marks
 none_open [] marks e = refl
 none_open (o ∷ opens) marks e = absurd (omega arith)
 
@@ -237,7 +237,7 @@ stand_at : (next : Next) (a b : ℕ) (tokens : List Token) → a ≡ b → MaySt
 stand_at next a b tokens e h = subst (λ (n : ℕ). MayStand 16 next n tokens) e h
 
 -- a comment where one may begin
-comment_all : (text : List ℕ) (start : ℕ) (opens : List ℕ) (place : ℕ) (bytes : List ℕ) → is_token (Comment text) ≡ true → place ≡ start + 1
+pub comment_all : (text : List ℕ) (start : ℕ) (opens : List ℕ) (place : ℕ) (bytes : List ℕ) → is_token (Comment text) ≡ true → place ≡ start + 1
     → with_front [] (run (at_mode InComment start [] opens) (place + 1) ((text ++ 42 ∷ 47 ∷ []) ++ bytes)) ≡ run (at_mode Free 0 [] opens) (start + length (spelling (Comment text))) bytes
 comment_all text start opens place bytes good e =
     let w = and_parts (list_all is_comment_byte text) (is_unended text) good in
@@ -246,7 +246,7 @@ comment_all text start opens place bytes good e =
     ∙ ap (λ n. run (at_mode Free 0 [] opens) n bytes) (omega (arith, e, length-append text (42 ∷ 47 ∷ [])))
 
 -- a byte behind a word's bytes
-word_then : (start : ℕ) (raw opens : List ℕ) (place b : ℕ) (bytes : List ℕ) (r : Marks) → eqb b 42 ≡ false
+pub word_then : (start : ℕ) (raw opens : List ℕ) (place b : ℕ) (bytes : List ℕ) (r : Marks) → eqb b 42 ≡ false
     → with_rest (at_word start (upper raw) opens place b) (λ s. run s (place + 1) bytes) ≡ r → run (word_state start raw opens) place (b ∷ bytes) ≡ r
 word_then start raw opens place b bytes r e h =
     ap (λ x. with_rest x (λ s. run s (place + 1) bytes)) (word_step_by (is_slash raw) start (upper raw) opens place b (λ _. e)) ∙ h

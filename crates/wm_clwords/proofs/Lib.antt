@@ -3,6 +3,7 @@ pub mod Explained
 pub mod FirstLemmas
 pub mod GrammarLemmas
 pub mod ItemLemmas
+pub mod LeadRuns
 pub mod LineLemmas
 pub mod LinesLaw
 pub mod Names

@@ -13,7 +13,7 @@ use Rattle.wm_clwords.proofs.Completeness.{run-Spells}
 use Rattle.wm_clwords.proofs.Soundness.{Spells-run}
 use Rattle.wm_clwords.proofs.Explained.{ExplainedBy, explained_by}
 
-abbrev Marks : Type 0
+abbrev pub Marks : Type 0
 Marks = Result (List Mark) ClFault
 
 pub front_front : (a b : List Mark) (r : Marks) → with_front a (with_front b r) ≡ with_front (a ++ b) r
