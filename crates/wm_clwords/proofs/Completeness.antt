@@ -119,7 +119,7 @@ quote_by b start before opens place bytes false e good =
     (front_nil (run (at_mode InQuoted start (before ++ b ∷ []) opens) (place + 1) bytes)
     ∙ ap (λ n. run (at_mode InQuoted start (before ++ b ∷ []) opens) n bytes) (omega (arith, ap length once))))
 
-unended_tail : (b : ℕ) (text : List ℕ) → is_unended (b ∷ text) ≡ true → is_unended text ≡ true
+pub unended_tail : (b : ℕ) (text : List ℕ) → is_unended (b ∷ text) ≡ true → is_unended text ≡ true
 unended_tail b [] h = refl
 unended_tail b (c ∷ text) h = (and_parts (not (eqb b 42 && eqb c 47)) (is_unended (c ∷ text)) h).1
 
@@ -127,10 +127,10 @@ false_of : (b : Bool) → not b ≡ true → b ≡ false
 false_of false e = refl
 false_of true e = absurd (false≢true e)
 
-after_star : (b : ℕ) (text : List ℕ) → is_unended (42 ∷ b ∷ text) ≡ true → eqb b 47 ≡ false
+pub after_star : (b : ℕ) (text : List ℕ) → is_unended (42 ∷ b ∷ text) ≡ true → eqb b 47 ≡ false
 after_star b text h = false_of (eqb b 47) (and_parts (not (eqb b 47)) (is_unended (b ∷ text)) h).0
 
-in_by : (b start : ℕ) (opens : List ℕ) (place : ℕ) (next : State → Marks) (r : Marks) (c : Bool) → eqb b 42 ≡ c → is_comment_byte b ≡ true
+pub in_by : (b start : ℕ) (opens : List ℕ) (place : ℕ) (next : State → Marks) (r : Marks) (c : Bool) → eqb b 42 ≡ c → is_comment_byte b ≡ true
     → (eqb b 42 ≡ true → with_rest (goes AtStar start [] opens []) next ≡ r) → with_rest (goes InComment start [] opens []) next ≡ r → with_rest (in_comment start opens place b) next ≡ r
 in_by b start opens place next r true e good star other = choose (eqb b 42) _ _ next r true e (star e)
 in_by b start opens place next r false e good star other = choose (eqb b 42) _ _ next r false e (choose (is_comment_byte b) _ _ next r true good other)

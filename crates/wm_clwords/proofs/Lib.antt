@@ -1,5 +1,6 @@
 pub mod Completeness
 pub mod Explained
+pub mod FaultLaw
 pub mod FirstLemmas
 pub mod GrammarLemmas
 pub mod ItemLemmas

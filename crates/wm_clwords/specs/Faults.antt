@@ -90,3 +90,61 @@ pub record EndsInList (bytes : List ℕ) (place : ℕ) : Type 0 where
   pub outer : List ℕ
   pub ends : ℕ
   pub behind : Behind bytes next (place ∷ outer) ends []
+
+-- no `/` just behind a quoted text is alone
+abbrev pub IsPaired : List ℕ → Type 0
+IsPaired bytes = (place : ℕ) → IsLoneSlash bytes place → ⊥
+
+-- the bytes stop at a parenthesis that closes nothing
+pub record IsStrayParen (bytes : List ℕ) (place : ℕ) : Type 0 where
+  pub stops : StopsAt bytes place
+  pub paren : slice_index bytes place ≡ 41
+  pub paired : IsPaired bytes
+
+-- the bytes stop at another byte
+pub record IsBadByte (bytes : List ℕ) (place : ℕ) : Type 0 where
+  pub stops : StopsAt bytes place
+  pub other : slice_index bytes place ≢ 41
+  pub shallow : IsTooDeep bytes place → ⊥
+  pub paired : IsPaired bytes
+
+-- a first item that is no name
+abbrev pub IsNoName : Token → Type 0
+IsNoName (Word bytes) = IsName bytes → ⊥
+IsNoName (Blank byte) = Unit {0}
+IsNoName (Comment text) = Unit {0}
+IsNoName (Quoted text) = Unit {0}
+IsNoName (Key bytes) = Unit {0}
+IsNoName Open = Unit {0}
+IsNoName Close = Unit {0}
+
+pub record BeginsWithNoName (bytes : List ℕ) : Type 0 where
+  pub first : Mark
+  pub marks : List Mark
+  pub spells : Spells 16 bytes (first ∷ marks)
+  pub nameless : IsNoName first.token
+
+-- the fault that bytes have
+abbrev pub StandsIn : ClFault → List ℕ → Type 0
+StandsIn (BadByte place) bytes = IsLoneSlash bytes place ⊎ IsBadByte bytes place
+StandsIn (StrayParen place) bytes = IsStrayParen bytes place
+StandsIn (TooDeep place) bytes = StopsAt bytes place × IsTooDeep bytes place
+StandsIn (OpenQuote place) bytes = EndsInQuoted bytes place
+StandsIn (OpenComment place) bytes = EndsInComment bytes place
+StandsIn (OpenParen place) bytes = EndsInList bytes place
+StandsIn Empty bytes = Spells 16 bytes []
+StandsIn BadName bytes = BeginsWithNoName bytes
+StandsIn TooLong bytes = ⊥
+StandsIn NoMemory bytes = ⊥
+
+-- too long a text has that fault alone
+abbrev pub Stands : ClFault → List ℕ → Type 0
+Stands fault bytes = ((8192 < length bytes) × (fault ≡ TooLong)) ⊎ ((length bytes ≤ 8192) × StandsIn fault bytes)
+
+-- the bytes are a command: a word that is a name, and the items behind it
+pub record IsCommand (bytes name : List ℕ) (marks : List Mark) : Type 0 where
+  pub short : length bytes ≤ 8192
+  pub first : Mark
+  pub spells : Spells 16 bytes (first ∷ marks)
+  pub word : first.token ≡ Word name
+  pub named : IsName name
