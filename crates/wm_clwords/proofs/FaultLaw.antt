@@ -116,9 +116,9 @@ comment_fault bytes place h =
     behind_fault bytes h.next h.opens place (47 ∷ 42 ∷ h.text) (OpenComment place) h.behind (λ s p. comment_pending h.next h.opens place h.text s h.comes h.good h.unended p)
 
 -- which fault a byte is
-abbrev Class : List ℕ → ℕ → ℕ → ClFault → Type 0
+abbrev pub Class : List ℕ → ℕ → ℕ → ClFault → Type 0
 Class bytes place b f =
-    ((q : ℕ) × (f ≡ BadByte q) × IsLoneSlash bytes q) ⊎ (((f ≡ StrayParen place) × (b ≡ 41)) ⊎ (((f ≡ TooDeep place) × IsTooDeep bytes place) ⊎ ((f ≡ BadByte place) × (b ≢ 41))))
+    ((q : ℕ) × (f ≡ BadByte q) × IsLoneSlash bytes q) ⊎ (((f ≡ StrayParen place) × (b ≡ 41)) ⊎ (((f ≡ TooDeep place) × IsTooDeep bytes place × (b ≡ 40)) ⊎ ((f ≡ BadByte place) × (b ≢ 41))))
 
 pick_fault : (c : Bool) (x y : Went) (f : ClFault) → cond c x y ≡ Err f → ((c ≡ true) × (x ≡ Err f)) ⊎ ((c ≡ false) × (y ≡ Err f))
 pick_fault true x y f e = inl (refl, e)
@@ -131,11 +131,11 @@ closed_class : (bytes : List ℕ) (place b : ℕ) (opens : List ℕ) (marks : Li
 closed_class bytes place b [] marks f c e = inr (inl (sym (same_fault (StrayParen place) f e), eqb-true b 41 c))
 closed_class bytes place b (o ∷ opens) marks f c e = absurd (went_no_fault _ f e)
 
-opened_class : (bytes : List ℕ) (place b : ℕ) (opens : List ℕ) (key : Mark) (f : ClFault) → (16 ≤ length opens → IsTooDeep bytes place) → opened place opens key ≡ Err f → Class bytes place b f
-opened_class bytes place b opens key f deep e =
+opened_class : (bytes : List ℕ) (place b : ℕ) (opens : List ℕ) (key : Mark) (f : ClFault) → eqb b 40 ≡ true → (16 ≤ length opens → IsTooDeep bytes place) → opened place opens key ≡ Err f → Class bytes place b f
+opened_class bytes place b opens key f c deep e =
     elim (pick_fault (ltb (length opens) 16) _ _ f e) [
       | inl w ↦ absurd (went_no_fault _ f w.1)
-      | inr w ↦ inr (inr (inl (sym (same_fault (TooDeep place) f w.1), deep (ltb-false (length opens) 16 w.0))))
+      | inr w ↦ inr (inr (inl (sym (same_fault (TooDeep place) f w.1), deep (ltb-false (length opens) 16 w.0), eqb-true b 40 c)))
     ]
 
 -- a byte more behind what is explained
@@ -167,7 +167,7 @@ free_class bytes front b more opens f written h e =
             | inl v ↦ absurd (went_no_fault _ f v.1)
             | inr v ↦
                 elim (pick_fault (eqb b 40) _ _ f v.1) [
-                  | inl u ↦ opened_class bytes place b opens _ f (λ full. deep_here bytes front b more opens place [] written u.0 (inl refl) h full) u.1
+                  | inl u ↦ opened_class bytes place b opens _ f u.0 (λ full. deep_here bytes front b more opens place [] written u.0 (inl refl) h full) u.1
                   | inr u ↦
                       elim (pick_fault (eqb b 41) _ _ f u.1) [
                         | inl t ↦ closed_class bytes place b opens _ f t.0 t.1
@@ -190,7 +190,7 @@ word_class bytes front b more opens start held raw f written h e =
       | inl w ↦ absurd (went_no_fault _ f w.1)
       | inr w ↦
           elim (pick_fault (eqb b 40) _ _ f w.1) [
-            | inl v ↦ opened_class bytes place b opens _ f (λ full. deep_here bytes front b more opens start raw written v.0 (inr h.word) h.behind full) v.1
+            | inl v ↦ opened_class bytes place b opens _ f v.0 (λ full. deep_here bytes front b more opens start raw written v.0 (inr h.word) h.behind full) v.1
             | inr v ↦
                 elim (pick_fault (eqb b 41) _ _ f v.1) [
                   | inl u ↦ closed_class bytes place b opens _ f u.0 u.1

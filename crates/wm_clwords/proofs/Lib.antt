@@ -1,3 +1,4 @@
+pub mod CommandLaw
 pub mod Completeness
 pub mod Explained
 pub mod FaultLaw

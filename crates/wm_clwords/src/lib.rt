@@ -19,7 +19,7 @@ mod tests;
 mod tree;
 
 pub use call::call_text;
-pub use command::read_command;
+pub use command::{one_verdict, read_command};
 pub use fault::ClFault;
 pub use first::{First, FirstFault, one_reading, read_first};
 pub use joiner::{Joiner, LINE_LEN};
