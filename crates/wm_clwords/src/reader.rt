@@ -198,7 +198,8 @@ impl Reader {
             self.end_word(alloc, place)?;
             self.close_list(alloc, place)?;
         } else if is_word_byte(byte) {
-            self.hold(Mode::InWord, upper_byte(byte))?;
+            let upper = upper_byte(byte);
+            self.hold(Mode::InWord, upper)?;
         } else {
             return Err(ClFault::BadByte(place));
         }
@@ -243,7 +244,7 @@ impl Reader {
         ensures { Goes self.old result self.new (at_apostrophe self.old.start self.old.held (level_opens self.old.levels) place byte) }
     {
         if byte == b'\'' {
-            self.hold(Mode::InQuoted, byte)?;
+            self.hold(Mode::InQuoted, b'\'')?;
         } else if is_blank(byte) {
             self.end_quoted(alloc, place)?;
             self.enter(alloc, Mode::Free, 0);
