@@ -1,20 +1,20 @@
 -- The verdict is that of the grammar, both ways.
-use Rattle.std.proofs.Common.{◌≡◌, ◌≢◌, ◌⊎◌, ℕ, ◌-◌, ◌+◌, ◌<◌, ◌≤◌, ◌++◌, Bool, true, false, cond, List, [], ◌∷◌, length, take, drop, get_or, eqb, IsTrue, Result, Ok, Err, IfOk, IfErr, MatchResult, subst, sym, ◌∙◌, ap, refl, arith, inl, inr}
-use Rattle.std.proofs.lemmas.Bool.{eqb-true, false≢true, true≢false, cases_lt, cond-true}
-use Rattle.std.proofs.lemmas.List.{append_assoc, take-append-drop, drop_more, length-take-le, take_more, length_push}
+use Rattle.std.proofs.Common.{◌≡◌, ◌≢◌, ◌⊎◌, ℕ, ◌+◌, ◌≤◌, ◌++◌, Bool, true, false, cond, List, [], ◌∷◌, length, take, drop, get_or, eqb, Result, Ok, Err, IfOk, IfErr, MatchResult, subst, sym, ◌∙◌, ap, refl, arith, inl, inr}
+use Rattle.std.proofs.lemmas.Bool.{false≢true, cases_lt}
+use Rattle.std.proofs.lemmas.List.{append_assoc, take-append-drop, drop_more, length-take-le, take_more}
 use Rattle.wm_base.specs.Name.{is_name, IsName}
 use Rattle.wm_clwords.specs.declared.fault.ClFault.{ClFault}
 use Rattle.wm_clwords.specs.declared.fault.ClFault.TheVariants.{Empty, BadName, OpenQuote, OpenParen, StrayParen, OpenComment, TooLong, BadByte, TooDeep, NoMemory}
 use Rattle.wm_clwords.specs.declared.tree.Tree.{Tree}
 use Rattle.wm_clwords.specs.Items.{list_marks}
-use Rattle.wm_clwords.specs.Grammar.{Token, Blank, Comment, Word, Quoted, Key, Open, Close, Anything, Mark, Spells}
+use Rattle.wm_clwords.specs.Grammar.{Token, Blank, Comment, Word, Quoted, Key, Open, Close, Mark, Spells}
 use Rattle.wm_clwords.specs.Reading.{State, Went, step, run, begun}
-use Rattle.wm_clwords.specs.Faults.{Begins, StopsAt, IsLoneSlash, IsTooDeep, IsStrayParen, IsBadByte, IsNoName, BeginsWithNoName, StandsIn, Stands, IsCommand}
-use Rattle.wm_clwords.specs.Verdict.{Command, named_by, named, named_of, verdict}
+use Rattle.wm_clwords.specs.Faults.{Begins, StopsAt, IsLoneSlash, IsTooDeep, IsStrayParen, IsBadByte, IsNoName, StandsIn, Stands, IsCommand}
+use Rattle.wm_clwords.specs.Verdict.{Command, named_by, named_of, verdict}
 use Rattle.wm_clwords.proofs.Completeness.{run-Spells}
 use Rattle.wm_clwords.proofs.Soundness.{Spells-run}
 use Rattle.wm_clwords.proofs.Explained.{ExplainedBy}
-use Rattle.wm_clwords.proofs.Runs.{Marks, ok_no_fault, same_fault, steps, steps_on, steps-push, run-stopped, steps-explained, begins_from, steps_from}
+use Rattle.wm_clwords.proofs.Runs.{Marks, steps, steps_on, steps-push, run-stopped, steps-explained, begins_from, steps_from}
 use Rattle.wm_clwords.proofs.FaultLaw.{Class, classify, lone_run, deep_run, quoted_run, list_run, comment_fault, fault_stands}
 use Rattle.wm_clwords.proofs.VerdictLemmas.{verdict-long, verdict-short}
 

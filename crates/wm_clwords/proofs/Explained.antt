@@ -1,17 +1,16 @@
 -- What the reader's state says of the bytes so far.
-use Rattle.std.proofs.Common.{◌≡◌, ◌≢◌, ◌⊎◌, ℕ, ◌-◌, ◌+◌, ◌<◌, ◌≤◌, ◌++◌, ◌&&◌, ◌||◌, not, Bool, true, false, cond, List, [], ◌∷◌, length, take, drop, map, zero, suc, eqb, ltb, IsTrue, Result, Ok, Err, IfOk, subst, sym, ◌∙◌, ap, refl, arith, inl, inr}
+use Rattle.std.proofs.Common.{◌≡◌, ℕ, ◌+◌, ◌<◌, ◌++◌, true, false, cond, List, [], ◌∷◌, length, eqb, ltb, IfOk, subst, sym, ◌∙◌, ap, refl, arith}
 use Rattle.std.specs.List.{list_all, flat_map}
-use Rattle.std.proofs.lemmas.Bool.{and_parts, and_from, eqb-true, eqb-false, ltb-true, false≢true, cond_both}
-use Rattle.std.proofs.lemmas.List.{length-append, append_assoc, append-nil, length-map, length_push}
+use Rattle.std.proofs.lemmas.Bool.{and_parts, and_from, eqb-true, eqb-false, ltb-true, cond_both}
+use Rattle.std.proofs.lemmas.List.{length-append, append_assoc, append-nil, length_push}
 use Rattle.std.proofs.lemmas.List.Folds.{list_all-append}
 use Rattle.wm_base.specs.Text.{is_printable, IsText}
 use Rattle.wm_clwords.specs.declared.mode.Mode.{Mode}
 use Rattle.wm_clwords.specs.declared.mode.Mode.TheVariants.{Free, Slash, InWord, InQuoted, AtApostrophe, AfterSlash, InComment, AtStar}
-use Rattle.wm_clwords.specs.declared.fault.ClFault.{ClFault}
-use Rattle.wm_clwords.specs.Lines.{is_blank, is_empty}
-use Rattle.wm_clwords.specs.Quote.{doubled, doubled_byte, quoted}
-use Rattle.wm_clwords.specs.Grammar.{Token, Blank, Comment, Word, Quoted, Key, Open, Close, spelling, is_word_byte, begins_comment, is_word, is_comment_byte, is_unended, is_token, Next, Anything, ByWord, ByQuoted, next_of, may_come, upper_byte, upper, Mark}
-use Rattle.wm_clwords.specs.Reading.{State, mark, Went, goes, opened, closed, at_free, at_word, at_slash, in_quoted, at_apostrophe, after_slash, in_comment, at_star, step, step_by, finish, with_front, with_rest, run, begun}
+use Rattle.wm_clwords.specs.Lines.{is_blank}
+use Rattle.wm_clwords.specs.Quote.{doubled, quoted}
+use Rattle.wm_clwords.specs.Grammar.{Token, Blank, Comment, Word, Quoted, Key, Open, Close, spelling, is_word_byte, is_word, is_comment_byte, is_unended, is_token, Next, Anything, ByWord, ByQuoted, next_of, may_come, upper_byte, upper, Mark}
+use Rattle.wm_clwords.specs.Reading.{State, Went, opened, closed, at_free, at_word, in_quoted, at_apostrophe, in_comment, at_star, step_by}
 use Rattle.wm_clwords.specs.Faults.{OpensAt, Leads, Behind}
 use Rattle.wm_clwords.proofs.GrammarLemmas.{all_push, upper-push, doubled-push, word_push, word_one, push_long, IsOpenEnd, open_nil, open_push, star_push, unended_front}
 

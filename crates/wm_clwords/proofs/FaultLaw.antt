@@ -1,24 +1,24 @@
 -- The reader's faults are those that stand in the bytes.
-use Rattle.std.proofs.Common.{◌≡◌, ◌≢◌, ◌⊎◌, ℕ, ◌-◌, ◌+◌, ◌<◌, ◌≤◌, ◌++◌, ◌&&◌, not, Bool, true, false, cond, List, [], ◌∷◌, length, take, drop, map, zero, suc, eqb, ltb, get_or, IsTrue, Result, Ok, Err, subst, sym, ◌∙◌, ap, refl, arith, inl, inr}
+use Rattle.std.proofs.Common.{◌≡◌, ◌≢◌, ◌⊎◌, ℕ, ◌+◌, ◌≤◌, ◌++◌, Bool, true, false, cond, List, [], ◌∷◌, length, take, eqb, ltb, get_or, Ok, Err, subst, sym, ◌∙◌, ap, refl, arith, inl, inr}
 use Rattle.std.specs.List.{list_all, flat_map}
-use Rattle.std.proofs.Math.Seq.{take-append_seam, drop-append_seam}
-use Rattle.std.proofs.lemmas.Bool.{and_parts, eqb-true, eqb-false, eq-eqb, ne_eqb, le-ltb, ltb-false, false≢true, true≢false}
-use Rattle.std.proofs.lemmas.List.{length-append, append_assoc, append-nil, length_push, get_or_at, take-append-drop, drop_more}
-use Rattle.wm_base.specs.Text.{is_printable, IsText}
+use Rattle.std.proofs.Math.Seq.{take-append_seam}
+use Rattle.std.proofs.lemmas.Bool.{and_parts, eqb-true, eqb-false, ne_eqb, le-ltb, ltb-false, false≢true, true≢false}
+use Rattle.std.proofs.lemmas.List.{append_assoc, append-nil, length_push, get_or_at}
+use Rattle.wm_base.specs.Text.{is_printable}
 use Rattle.wm_clwords.specs.declared.mode.Mode.{Mode}
 use Rattle.wm_clwords.specs.declared.mode.Mode.TheVariants.{Free, Slash, InWord, InQuoted, AtApostrophe, AfterSlash, InComment, AtStar}
 use Rattle.wm_clwords.specs.declared.fault.ClFault.{ClFault}
-use Rattle.wm_clwords.specs.declared.fault.ClFault.TheVariants.{Empty, BadName, OpenQuote, OpenParen, StrayParen, OpenComment, TooLong, BadByte, TooDeep, NoMemory}
+use Rattle.wm_clwords.specs.declared.fault.ClFault.TheVariants.{OpenQuote, OpenParen, StrayParen, OpenComment, BadByte, TooDeep}
 use Rattle.wm_clwords.specs.Lines.{is_blank}
-use Rattle.wm_clwords.specs.Quote.{doubled, quoted}
-use Rattle.wm_clwords.specs.Grammar.{Token, Comment, Word, Quoted, Key, Open, Close, spelling, is_word, is_word_byte, is_comment_byte, is_unended, Next, Anything, ByWord, ByQuoted, may_come, upper, Mark, Spells}
-use Rattle.wm_clwords.specs.Reading.{State, mark, Went, goes, opened, closed, at_word, in_comment, step, step_by, all_closed, finish, finish_by, with_front, with_rest, run, begun}
-use Rattle.wm_clwords.specs.Faults.{Behind, Begins, StopsAt, IsNoStar, IsLoneSlash, IsTooDeep, EndsInQuoted, EndsInComment, EndsInList, IsPaired, IsStrayParen, IsBadByte, StandsIn}
+use Rattle.wm_clwords.specs.Quote.{doubled}
+use Rattle.wm_clwords.specs.Grammar.{Comment, Quoted, Key, Open, spelling, is_word, is_word_byte, is_comment_byte, is_unended, Next, Anything, ByWord, ByQuoted, may_come, upper, Mark}
+use Rattle.wm_clwords.specs.Reading.{State, mark, Went, opened, closed, at_word, in_comment, step, step_by, all_closed, finish, finish_by, with_front, with_rest, run, begun}
+use Rattle.wm_clwords.specs.Faults.{Behind, Begins, StopsAt, IsNoStar, IsLoneSlash, IsTooDeep, EndsInQuoted, EndsInComment, EndsInList, StandsIn}
 use Rattle.wm_clwords.proofs.GrammarLemmas.{unended_front}
 use Rattle.wm_clwords.proofs.Completeness.{Marks, at_mode, word_state, choose, word_all, quote_run, word_then, word_finish_by, is_slash, in_by, unended_tail, after_star}
 use Rattle.wm_clwords.proofs.Soundness.{Spells-run}
 use Rattle.wm_clwords.proofs.Explained.{Explained, ExplainedBy, IsWordAt, behind_more, behind_at, behind_length, word_end, quote_end}
-use Rattle.wm_clwords.proofs.Runs.{front_front, front_nil, ok_no_fault, went_no_fault, same_fault, steps, steps_on, steps-push, run-steps, run-stopped, steps-explained, can_end, begins_from, steps_from, StopsBy, EndsBy, fault_split, stops_at}
+use Rattle.wm_clwords.proofs.Runs.{front_nil, ok_no_fault, went_no_fault, same_fault, steps-explained, can_end, fault_split, stops_at}
 use Rattle.wm_clwords.proofs.LeadRuns.{Pending, run_behind}
 
 -- a run's fault is that of its rest

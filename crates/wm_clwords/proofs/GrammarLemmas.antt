@@ -1,15 +1,12 @@
 -- What is known of tokens, one byte more.
-use Rattle.std.proofs.Common.{◌≡◌, ◌≢◌, ◌⊎◌, ℕ, ◌-◌, ◌+◌, ◌<◌, ◌≤◌, ◌++◌, ◌&&◌, ◌||◌, not, Bool, true, false, cond, List, [], ◌∷◌, length, take, drop, map, zero, suc, eqb, leb, IsTrue, Result, Ok, Err, subst, sym, ◌∙◌, ap, refl, arith, inl, inr}
-use Rattle.std.specs.List.{list_all, flat_map}
-use Rattle.std.proofs.lemmas.Bool.{and_parts, and_from, eqb-true, eqb-false, false≢true}
-use Rattle.std.proofs.lemmas.Bool.Decides.{nat_tests}
-use Rattle.std.proofs.lemmas.Grind.{common_steps}
-use Rattle.std.proofs.lemmas.List.{length-append, append_assoc, append-nil, map-append, length-map, length_push}
+use Rattle.std.proofs.Common.{◌≡◌, ℕ, ◌++◌, ◌&&◌, not, Bool, true, false, List, [], ◌∷◌, eqb, sym, ◌∙◌, ap, refl}
+use Rattle.std.specs.List.{list_all}
+use Rattle.std.proofs.lemmas.Bool.{and_parts, and_from, eqb-true, false≢true}
+use Rattle.std.proofs.lemmas.List.{append_assoc, append-nil, map-append}
 use Rattle.std.proofs.lemmas.List.Folds.{list_all-append}
-use Rattle.wm_base.specs.Text.{is_printable, IsText}
-use Rattle.wm_clwords.specs.Lines.{is_blank, is_empty}
-use Rattle.wm_clwords.specs.Quote.{doubled, doubled_byte, quoted}
-use Rattle.wm_clwords.specs.Grammar.{Token, Blank, Comment, Word, Quoted, Key, Open, Close, spelling, is_word_byte, begins_comment, is_word, is_comment_byte, is_unended, is_token, Next, Anything, ByWord, ByQuoted, next_of, may_come, Opens, MayStand, upper_byte, upper, Mark, mark_at, marks_from}
+use Rattle.wm_clwords.specs.Lines.{is_empty}
+use Rattle.wm_clwords.specs.Quote.{doubled, doubled_byte}
+use Rattle.wm_clwords.specs.Grammar.{is_word_byte, begins_comment, is_word, is_unended, upper_byte, upper}
 
 -- a byte more at the end
 pub all_push : (p : ℕ → Bool) (l : List ℕ) (x : ℕ) → list_all p l ≡ true → p x ≡ true → list_all p (l ++ x ∷ []) ≡ true

@@ -1,5 +1,5 @@
 -- The marks of a list are those of its items.
-use Rattle.std.proofs.Common.{◌≡◌, ℕ, ◌-◌, ◌+◌, ◌++◌, List, [], ◌∷◌, length, Vec, Global, sym, ◌∙◌, ap, refl}
+use Rattle.std.proofs.Common.{◌≡◌, ℕ, ◌-◌, ◌+◌, ◌++◌, List, [], ◌∷◌, length, Vec, Global, ◌∙◌, ap, refl}
 use mathlib.Core.Former.{Count}
 use Rattle.wm_clwords.specs.declared.tree.Span.{Span}
 use Rattle.wm_clwords.specs.declared.tree.Item.{Item, List as ItemList, Keyed as ItemKeyed, List', Keyed', Row_of-Item, end_of-Item, more_of-Item, items-the_row-Item, items_hidden-the_row-Item-0}

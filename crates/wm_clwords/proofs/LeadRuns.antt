@@ -1,16 +1,15 @@
 -- Where tokens lead the reader.
-use Rattle.std.proofs.Common.{◌≡◌, ◌≢◌, ◌⊎◌, ℕ, ◌-◌, ◌+◌, ◌<◌, ◌≤◌, ◌++◌, ◌&&◌, not, Bool, true, false, cond, List, [], ◌∷◌, length, take, drop, map, zero, suc, eqb, ltb, IsTrue, Result, Ok, Err, subst, sym, ◌∙◌, ap, refl, arith, inl, inr}
-use Rattle.std.specs.List.{list_all, flat_map}
-use Rattle.std.proofs.lemmas.Bool.{and_parts, lt-ltb, false≢true}
-use Rattle.std.proofs.lemmas.List.{length-append, append_assoc, append-nil, length_push}
-use Rattle.wm_base.specs.Text.{is_printable}
-use Rattle.wm_clwords.specs.declared.mode.Mode.TheVariants.{Free, Slash, InWord, InQuoted, AtApostrophe, AfterSlash, InComment, AtStar}
+use Rattle.std.proofs.Common.{◌≡◌, ℕ, ◌+◌, ◌<◌, ◌++◌, true, false, List, [], ◌∷◌, length, eqb, ltb, subst, sym, ◌∙◌, ap, refl, arith}
+use Rattle.std.specs.List.{flat_map}
+use Rattle.std.proofs.lemmas.Bool.{lt-ltb, false≢true}
+use Rattle.std.proofs.lemmas.List.{length-append, append_assoc, length_push}
+use Rattle.wm_clwords.specs.declared.mode.Mode.TheVariants.{Free, InQuoted, AtApostrophe}
 use Rattle.wm_clwords.specs.Lines.{is_blank}
 use Rattle.wm_clwords.specs.Quote.{doubled, quoted}
-use Rattle.wm_clwords.specs.Grammar.{Token, Blank, Comment, Word, Quoted, Key, Open, Close, spelling, is_word, is_token, Next, Anything, ByWord, ByQuoted, next_of, may_come, upper, Mark}
+use Rattle.wm_clwords.specs.Grammar.{Token, Blank, Comment, Word, Quoted, Key, Open, Close, spelling, is_word, Next, Anything, ByWord, ByQuoted, upper, Mark}
 use Rattle.wm_clwords.specs.Reading.{State, mark, opened, closed, at_word, with_front, with_rest, run, begun}
-use Rattle.wm_clwords.specs.Faults.{OpensAt, Leads, Behind}
-use Rattle.wm_clwords.proofs.Completeness.{Marks, at_mode, word_state, choose, blank_byte, word_all, quote_run, comment_all, word_then}
+use Rattle.wm_clwords.specs.Faults.{Leads, Behind}
+use Rattle.wm_clwords.proofs.Completeness.{at_mode, word_state, choose, blank_byte, word_all, quote_run, comment_all, word_then}
 use Rattle.wm_clwords.proofs.Runs.{front_front, front_nil}
 
 -- the state where an item or a gap may begin, or behind a word or a text that may end here

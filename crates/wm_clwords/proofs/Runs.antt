@@ -1,13 +1,12 @@
 -- Runs of the reader: where they stop, and that what doesn't stop can be completed.
-use Rattle.std.proofs.Common.{◌≡◌, ◌≢◌, ◌⊎◌, ℕ, ◌-◌, ◌+◌, ◌<◌, ◌≤◌, ◌++◌, ◌&&◌, ◌||◌, not, Bool, true, false, cond, List, [], ◌∷◌, length, take, drop, map, zero, suc, eqb, ltb, IsTrue, Result, Ok, Err, IfOk, subst, sym, ◌∙◌, ap, refl, arith, inl, inr}
-use Rattle.std.specs.List.{list_all, flat_map}
+use Rattle.std.proofs.Common.{◌≡◌, ◌⊎◌, ℕ, ◌+◌, ◌++◌, List, [], ◌∷◌, length, take, suc, Result, Ok, Err, IfOk, subst, sym, ◌∙◌, ap, refl, arith, inl, inr}
 use Rattle.std.proofs.Math.Seq.{take-append_seam}
 use Rattle.std.proofs.lemmas.List.{length-append, append_assoc, append-nil, length_push}
 use Rattle.wm_clwords.specs.declared.mode.Mode.{Mode}
 use Rattle.wm_clwords.specs.declared.mode.Mode.TheVariants.{Free, Slash, InWord, InQuoted, AtApostrophe, AfterSlash, InComment, AtStar}
 use Rattle.wm_clwords.specs.declared.fault.ClFault.{ClFault}
-use Rattle.wm_clwords.specs.Grammar.{Anything, Word, Quoted, Close, Mark, Spells}
-use Rattle.wm_clwords.specs.Reading.{State, mark, Went, step, step_by, finish, finish_by, with_front, with_rest, run, begun}
+use Rattle.wm_clwords.specs.Grammar.{Word, Quoted, Close, Mark}
+use Rattle.wm_clwords.specs.Reading.{State, mark, Went, step, finish, with_front, with_rest, run, begun}
 use Rattle.wm_clwords.specs.Faults.{Begins, StopsAt}
 use Rattle.wm_clwords.proofs.Completeness.{run-Spells}
 use Rattle.wm_clwords.proofs.Soundness.{Spells-run}

@@ -1,15 +1,15 @@
 -- What the reader accepts is spelled so.
-use Rattle.std.proofs.Common.{◌≡◌, ◌≢◌, ◌⊎◌, ℕ, ◌-◌, ◌+◌, ◌<◌, ◌≤◌, ◌++◌, ◌&&◌, ◌||◌, not, Bool, true, false, cond, List, [], ◌∷◌, length, take, drop, map, zero, suc, eqb, ltb, IsTrue, Result, Ok, Err, subst, sym, ◌∙◌, ap, refl, arith, inl, inr}
+use Rattle.std.proofs.Common.{◌≡◌, ◌⊎◌, ℕ, ◌+◌, ◌<◌, ◌++◌, Bool, true, false, cond, List, [], ◌∷◌, length, suc, eqb, ltb, Result, Ok, Err, subst, sym, ◌∙◌, ap, refl, arith, inl, inr}
 use Rattle.std.specs.List.{list_all, flat_map}
-use Rattle.std.proofs.lemmas.Bool.{and_parts, and_from, eqb-true, eqb-false, ltb-true, false≢true}
-use Rattle.std.proofs.lemmas.List.{length-append, append_assoc, append-nil, length-map, length_push}
-use Rattle.wm_base.specs.Text.{is_printable, IsText}
+use Rattle.std.proofs.lemmas.Bool.{and_from, eqb-true, eqb-false, ltb-true}
+use Rattle.std.proofs.lemmas.List.{length-append, append_assoc, length-map, length_push}
+use Rattle.wm_base.specs.Text.{is_printable}
 use Rattle.wm_clwords.specs.declared.mode.Mode.TheVariants.{Free, Slash, InWord, InQuoted, AtApostrophe, AfterSlash, InComment, AtStar}
 use Rattle.wm_clwords.specs.declared.fault.ClFault.{ClFault}
-use Rattle.wm_clwords.specs.Lines.{is_blank, is_empty}
-use Rattle.wm_clwords.specs.Quote.{doubled, doubled_byte, quoted}
-use Rattle.wm_clwords.specs.Grammar.{Token, Blank, Comment, Word, Quoted, Key, Open, Close, spelling, is_word_byte, begins_comment, is_word, is_comment_byte, is_unended, is_token, Next, Anything, ByWord, ByQuoted, next_of, may_come, Opens, MayStand, upper_byte, upper, Mark, mark_at, marks_from, Spells}
-use Rattle.wm_clwords.specs.Reading.{State, mark, Went, goes, opened, closed, at_free, at_word, at_slash, in_quoted, at_apostrophe, after_slash, in_comment, at_star, step, all_closed, finish, with_front, with_rest, run, begun}
+use Rattle.wm_clwords.specs.Lines.{is_blank}
+use Rattle.wm_clwords.specs.Quote.{doubled, quoted}
+use Rattle.wm_clwords.specs.Grammar.{Token, Blank, Comment, Word, Quoted, Key, Open, Close, spelling, is_word_byte, is_word, is_comment_byte, is_unended, is_token, Next, Anything, ByWord, ByQuoted, next_of, may_come, Opens, MayStand, upper_byte, upper, Mark, mark_at, marks_from, Spells}
+use Rattle.wm_clwords.specs.Reading.{State, mark, Went, goes, opened, closed, at_free, at_word, at_slash, in_quoted, at_apostrophe, after_slash, in_comment, at_star, all_closed, with_front, with_rest, run, begun}
 use Rattle.wm_clwords.proofs.GrammarLemmas.{all_push, upper-push, doubled-push, word_push, word_one, push_long, IsOpenEnd, open_nil, open_push, star_push, unended_front}
 
 abbrev Marks : Type 0

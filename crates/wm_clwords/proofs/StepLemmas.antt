@@ -1,6 +1,5 @@
 -- One step of the reader.
-use Rattle.std.proofs.Common.{◌≡◌, ◌≢◌, ◌⊎◌, ℕ, ◌-◌, ◌+◌, ◌<◌, ◌≤◌, ◌++◌, ◌&&◌, ◌||◌, not, Bool, true, false, cond, List, [], ◌∷◌, length, take, drop, map, zero, suc, eqb, leb, ltb, IsTrue, Result, Ok, Err, IfOk, subst, sym, ◌∙◌, ap, refl, arith, inl, inr}
-use Rattle.std.specs.List.{list_all}
+use Rattle.std.proofs.Common.{◌≡◌, ℕ, ◌+◌, ◌≤◌, ◌++◌, true, List, [], ◌∷◌, length, eqb, leb, ltb, Result, Ok, Err, IfOk, subst, sym, ◌∙◌, ap, refl, arith}
 use Rattle.std.proofs.lemmas.Bool.{and_parts, and_from, cond_both, le-leb, leb-true}
 use Rattle.std.proofs.lemmas.List.{append_assoc}
 use Rattle.wm_base.specs.Text.{is_printable}
@@ -8,8 +7,8 @@ use Rattle.wm_clwords.specs.declared.mode.Mode.{Mode}
 use Rattle.wm_clwords.specs.declared.mode.Mode.TheVariants.{Free, Slash, InWord, InQuoted, AtApostrophe, AfterSlash, InComment, AtStar}
 use Rattle.wm_clwords.specs.declared.fault.ClFault.{ClFault}
 use Rattle.wm_clwords.specs.Lines.{is_blank}
-use Rattle.wm_clwords.specs.Grammar.{Word, Quoted, Key, Open, Close, Mark, is_word_byte, is_comment_byte, upper_byte}
-use Rattle.wm_clwords.specs.Reading.{State, mark, Went, goes, opened, closed, at_free, at_word, at_slash, in_quoted, at_apostrophe, after_slash, in_comment, at_star, step, step_by, finish, with_front, with_rest, run, begun}
+use Rattle.wm_clwords.specs.Grammar.{Word, Quoted, Key, Open, Mark, is_word_byte, is_comment_byte, upper_byte}
+use Rattle.wm_clwords.specs.Reading.{State, mark, Went, goes, opened, closed, at_word, in_comment, step, step_by, with_front, with_rest, run}
 use Rattle.wm_clwords.specs.Reader.{with_marks, is_behind}
 
 -- what began, began before the place

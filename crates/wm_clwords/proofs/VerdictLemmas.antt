@@ -1,5 +1,5 @@
 -- The verdict, from the parts of its definition.
-use Rattle.std.proofs.Common.{◌≡◌, ◌≢◌, ◌<◌, ◌≤◌, ◌∙◌, ℕ, List, [], ◌∷◌, length, cond, Result, Ok, Err, IfOk, IfErr, ap, sym, refl, arith}
+use Rattle.std.proofs.Common.{◌≡◌, ◌≢◌, ◌<◌, ◌≤◌, ◌∙◌, ℕ, List, length, cond, Result, Ok, Err, IfOk, IfErr, ap}
 use Rattle.std.proofs.lemmas.Bool.{lt-ltb, le-ltb}
 use Rattle.wm_clwords.specs.declared.fault.ClFault.{ClFault}
 use Rattle.wm_clwords.specs.declared.fault.ClFault.TheVariants.{TooLong, NoMemory}
@@ -7,7 +7,7 @@ use Rattle.wm_clwords.specs.declared.tree.Tree.{Tree}
 use Rattle.wm_clwords.specs.Grammar.{Mark}
 use Rattle.wm_clwords.specs.Items.{list_marks}
 use Rattle.wm_clwords.specs.Reading.{run, begun}
-use Rattle.wm_clwords.specs.Verdict.{Command, named, named_of, verdict}
+use Rattle.wm_clwords.specs.Verdict.{named, named_of, verdict}
 
 pub verdict-long : (bytes : List ℕ) → 8192 < length bytes → verdict bytes ≡ Err TooLong
 unfolding verdict

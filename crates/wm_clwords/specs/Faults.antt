@@ -4,7 +4,7 @@ use Rattle.std.specs.List.{list_all, flat_map}
 use Rattle.wm_base.specs.Text.{IsText}
 use Rattle.wm_base.specs.Name.{IsName}
 use Rattle.wm_clwords.specs.Quote.{doubled}
-use Rattle.wm_clwords.specs.Grammar.{Token, Blank, Comment, Word, Quoted, Key, Open, Close, spelling, is_word, is_comment_byte, is_unended, is_token, Next, Anything, ByWord, ByQuoted, next_of, may_come, Mark, Spells}
+use Rattle.wm_clwords.specs.Grammar.{Token, Blank, Comment, Word, Quoted, Key, Open, Close, spelling, is_word, is_comment_byte, is_unended, is_token, Next, Anything, ByQuoted, next_of, may_come, Mark, Spells}
 use Rattle.wm_clwords.specs.declared.fault.ClFault.{ClFault}
 use Rattle.wm_clwords.specs.declared.fault.ClFault.TheVariants.{Empty, BadName, OpenQuote, OpenParen, StrayParen, OpenComment, TooLong, BadByte, TooDeep, NoMemory}
 

@@ -1,5 +1,5 @@
 -- What bytes spell: a command's text is a list of tokens, written one after another.
-use Rattle.std.specs.Prelude.{◌≡◌, ℕ, Bool, true, false, not, List, [], ◌∷◌, ◌++◌, length, map, zero, suc, nat_le, ◌==◌, ◌+◌, ◌-◌, ◌<◌, ◌≤◌, ◌||◌, ◌&&◌, if◌then◌else◌, IsTrue}
+use Rattle.std.specs.Prelude.{◌≡◌, ℕ, Bool, true, false, not, List, [], ◌∷◌, ◌++◌, length, map, nat_le, ◌==◌, ◌+◌, ◌-◌, ◌<◌, ◌||◌, ◌&&◌, if◌then◌else◌, IsTrue}
 use Rattle.std.specs.List.{list_all, flat_map}
 use Rattle.wm_base.specs.Text.{is_printable}
 use Rattle.wm_clwords.specs.Lines.{is_blank, is_empty}

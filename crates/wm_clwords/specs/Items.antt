@@ -2,7 +2,7 @@
 use Rattle.std.specs.Prelude.{ℕ, Option, Some, None, List, [], ◌∷◌, ◌++◌, length, ◌+◌, ◌-◌}
 use Rattle.std.specs.List.{flat_map}
 use Rattle.wm_clwords.specs.declared.tree.Item.{Item, Word as ItemWord, Quoted as ItemQuoted, List', Keyed', Row_of-Item, end_of-Item, more_of-Item}
-use Rattle.wm_clwords.specs.Grammar.{Token, Word, Quoted, Key, Open, Close, Mark}
+use Rattle.wm_clwords.specs.Grammar.{Word, Quoted, Key, Open, Close, Mark}
 use Rattle.wm_clwords.specs.Reading.{mark}
 
 abbrev mutual

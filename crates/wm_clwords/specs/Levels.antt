@@ -1,12 +1,9 @@
 -- The state and the marks that open lists stand for.
-use Rattle.std.specs.Prelude.{◌≡◌, ◌≢◌, ℕ, Bool, true, List, [], ◌∷◌, ◌++◌, length, reverse, map, Option, Some, None, Result, Ok, Err, MatchResult, nat_le, ◌+◌, ◌-◌, ◌≤◌, IsTrue}
-use Rattle.std.specs.List.{flat_map, list_all}
+use Rattle.std.specs.Prelude.{ℕ, List, [], ◌∷◌, ◌++◌, reverse, map}
+use Rattle.std.specs.List.{flat_map}
 use Rattle.wm_clwords.specs.declared.levels.Frame.{Frame}
 use Rattle.wm_clwords.specs.declared.levels.Levels.{Levels}
-use Rattle.wm_clwords.specs.declared.fault.ClFault.{ClFault}
-use Rattle.wm_clwords.specs.declared.fault.ClFault.TheVariants.{NoMemory}
-use Rattle.wm_clwords.specs.Grammar.{Key, Open, Mark}
-use Rattle.wm_clwords.specs.Reading.{mark, State, Went}
+use Rattle.wm_clwords.specs.Grammar.{Mark}
 use Rattle.wm_clwords.specs.Items.{key_mark, list_marks}
 
 abbrev pub frame_marks : Frame → List Mark

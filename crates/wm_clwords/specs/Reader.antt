@@ -1,5 +1,5 @@
 -- The state of the definition that a reader stands for.
-use Rattle.std.specs.Prelude.{◌≡◌, ◌≢◌, ℕ, Bool, List, [], ◌∷◌, ◌++◌, Result, Ok, Err, MatchResult, nat_le, ◌≤◌, IsTrue}
+use Rattle.std.specs.Prelude.{◌≡◌, ◌≢◌, ℕ, Bool, List, ◌++◌, Result, Ok, Err, MatchResult, nat_le}
 use Rattle.std.specs.List.{list_all}
 use Rattle.wm_clwords.specs.declared.reader.Reader.{Reader}
 use Rattle.wm_clwords.specs.declared.fault.ClFault.{ClFault}

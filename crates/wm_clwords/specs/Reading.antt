@@ -1,5 +1,5 @@
 -- A reader of commands, byte by byte: a second definition, which `Grammar` is proved to agree with.
-use Rattle.std.specs.Prelude.{ℕ, Bool, List, [], ◌∷◌, ◌++◌, length, Result, Ok, Err, nat_lt, ◌==◌, ◌+◌, if◌then◌else◌}
+use Rattle.std.specs.Prelude.{ℕ, List, [], ◌∷◌, ◌++◌, length, Result, Ok, Err, nat_lt, ◌==◌, ◌+◌, if◌then◌else◌}
 use Rattle.wm_base.specs.Text.{is_printable}
 use Rattle.wm_clwords.specs.Lines.{is_blank}
 use Rattle.wm_clwords.specs.Grammar.{Token, Word, Quoted, Key, Open, Close, Mark, is_word_byte, is_comment_byte, upper_byte}

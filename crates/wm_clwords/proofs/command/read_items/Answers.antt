@@ -1,8 +1,8 @@
-use Rattle.std.proofs.Common.{◌≡◌, ◌∙◌, ◌∷◌, ◌+◌, ap, sym, refl, length, drop, get_or, arith}
+use Rattle.std.proofs.Common.{◌∙◌, ◌+◌, ap, sym, drop, get_or, arith}
 use Rattle.std.proofs.lemmas.List.{drop_more}
-use Rattle.wm_clwords.specs.Reading.{run, begun, with_front}
+use Rattle.wm_clwords.specs.Reading.{run, with_front}
 use Rattle.wm_clwords.specs.Reader.{state_of, marks_of}
-use Rattle.wm_clwords.proofs.StepLemmas.{IsAt, IsAt-step, run-step}
+use Rattle.wm_clwords.proofs.StepLemmas.{IsAt-step, run-step}
 use Rattle.wm_clwords.proofs.command.read_items.Goals as goal
 
 pub loop-index-preserved : goal.loop-index-preserved

@@ -1,8 +1,6 @@
-use Rattle.std.proofs.Common.{◌≡◌, ◌≢◌, ◌∙◌, ap, sym, rules, arith}
-use Rattle.std.proofs.lemmas.Grind.{common_steps}
-use Rattle.std.proofs.lemmas.Bool.{lt-ltb, le-ltb}
+use Rattle.std.proofs.Common.{◌∙◌, ap, arith}
 use Rattle.std.proofs.lemmas.Result.{err_from_is_err_and}
-use Rattle.wm_clwords.specs.Verdict.{verdict, named, named_of}
+use Rattle.wm_clwords.specs.Verdict.{named_of}
 use Rattle.wm_clwords.proofs.VerdictLemmas.{verdict-long, verdict-short, if_ok_after, if_err_after}
 use Rattle.wm_clwords.proofs.command.read_tree.Goals as goal
 
