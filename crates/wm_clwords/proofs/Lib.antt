@@ -1,5 +1,16 @@
+pub mod CommandLaw
+pub mod Completeness
+pub mod Explained
+pub mod FaultLaw
 pub mod FirstLemmas
+pub mod GrammarLemmas
+pub mod ItemLemmas
+pub mod LeadRuns
 pub mod LineLemmas
 pub mod LinesLaw
 pub mod Names
 pub mod PartLemmas
+pub mod Runs
+pub mod Soundness
+pub mod StepLemmas
+pub mod VerdictLemmas

@@ -1,10 +1,7 @@
 -- What is known of lines, one byte more.
-use Rattle.std.proofs.Common.{◌≡◌, ℕ, ◌-◌, ◌+◌, ◌<◌, ◌≤◌, ◌++◌, ◌&&◌, ◌||◌, not, Bool, true, false, cond, List, [], ◌∷◌, length, take, zero, suc, eqb, subst, sym, ◌∙◌, ap, refl, arith}
-use Rattle.std.proofs.lemmas.Grind.{common_steps}
-use Rattle.std.proofs.lemmas.Bool.Decides.{nat_tests}
-use Rattle.std.proofs.lemmas.List.{length-append, append_assoc, take_all, length_push, take-append-le, length-take}
-use Rattle.wm_clwords.specs.declared.line.Sign.TheVariants.{No, Plus, Minus}
-use Rattle.wm_clwords.specs.Lines.{is_blank, is_empty, start_trimmed, end_trimmed, without_cr, sign_byte, sign_of, kept_of, without_last}
+use Rattle.std.proofs.Common.{◌≡◌, ℕ, ◌≤◌, ◌++◌, ◌&&◌, Bool, true, false, cond, List, [], ◌∷◌, length, take, eqb, ◌∙◌, ap, refl, arith}
+use Rattle.std.proofs.lemmas.List.{length-take}
+use Rattle.wm_clwords.specs.Lines.{is_blank, is_empty, start_trimmed, end_trimmed, without_cr, sign_byte, sign_of, kept_of}
 
 pub is_empty-push : (l : List ℕ) (x : ℕ) → is_empty (l ++ x ∷ []) ≡ false
 is_empty-push [] x = refl

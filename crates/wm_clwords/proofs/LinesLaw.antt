@@ -1,14 +1,15 @@
 -- The lines that a part gives are those of the whole input.
-use Rattle.std.proofs.Common.{◌≡◌, ◌≢◌, ◌⊎◌, ℕ, ◌-◌, ◌+◌, ◌<◌, ◌≤◌, ◌++◌, ◌&&◌, ◌||◌, not, Bool, true, false, cond, List, [], ◌∷◌, Option, Some, None, is_some, OnSome, length, take, zero, suc, eqb, ltb, map, subst, sym, ◌∙◌, ap, refl, arith, inl, inr}
-use Rattle.std.proofs.lemmas.Bool.{cases_Bool, false≢true, eqb-true}
-use Rattle.std.proofs.lemmas.List.{append-nil, append_assoc}
+use Rattle.std.proofs.Common.{◌≡◌, ℕ, ◌+◌, ◌≤◌, ◌++◌, ◌||◌, not, Bool, true, false, cond, List, [], ◌∷◌, Option, Some, None, is_some, OnSome, length, take, eqb, ltb, map, subst, sym, ◌∙◌, ap, refl, arith}
+use Rattle.std.proofs.lemmas.Bool.{and_parts, false≢true, eqb-true}
+use Rattle.std.specs.List.{list_all}
+use Rattle.std.proofs.lemmas.List.{append-nil}
 use Rattle.wm_clwords.specs.declared.line.Sign.{Sign}
 use Rattle.wm_clwords.specs.declared.line.Sign.TheVariants.{No, Plus, Minus}
 use Rattle.wm_clwords.specs.declared.line.LogicalLine.{LogicalLine}
 use Rattle.wm_clwords.specs.declared.line.LogicalLine.TheVariants.{Command, Long}
-use Rattle.wm_clwords.specs.Lines.{is_blank, is_empty, start_trimmed, end_trimmed, without_cr, sign_byte, sign_of, kept_of, text_of, front_of, drops_of, Before, by_sign, without_last, logical, physical, within_limit, logical_lines}
+use Rattle.wm_clwords.specs.Lines.{is_blank, is_no_line_feed, is_empty, without_cr, sign_byte, sign_of, kept_of, text_of, front_of, drops_of, Before, by_sign, without_last, logical, physical, within_limit, logical_lines}
 use Rattle.wm_clwords.specs.Part.{Part, fresh, begun, with_blank, with_solid, with_kept, with_cr, with_byte, joined_on, finished, unsigned, answer, has_rest, said, at_end, at_line_feed, lines_from}
-use Rattle.wm_clwords.proofs.LineLemmas.{is_empty-push, without_cr-push}
+use Rattle.wm_clwords.proofs.LineLemmas.{without_cr-push}
 use Rattle.wm_clwords.proofs.PartLemmas.{Holds, Holds-with_kept, Holds-cr, Holds-fresh, Holds-joined_on, said-whole}
 
 -- a line that was answered gives way to the next
@@ -274,3 +275,25 @@ whole_ended part Minus e = absurd (minus_no e)
 -- the end of the input ends the line
 pub unsigned-next : (part : Part) (bytes : List ℕ) → lines_from (finished (unsigned part)) bytes ≡ logical_lines bytes
 unsigned-next part bytes = lines_from-next (finished (unsigned part)) (whole_ended (unsigned part) (unsigned part).sign (unsigned_by part part.sign refl)) bytes
+
+said_short : (o : Option LogicalLine) (part : Part) → length (said o part) ≤ 1
+said_short None part = omega arith
+said_short (Some Command) part = omega arith
+said_short (Some Long) part = omega arith
+
+end_short : (c : Bool) (o : Option LogicalLine) (part : Part) → length (cond c (said o part) []) ≤ 1
+end_short true o part = said_short o part
+end_short false o part = omega arith
+
+no_line_feed : (c : Bool) → not c ≡ true → c ≡ false
+no_line_feed false e = refl
+no_line_feed true e = absurd (false≢true e)
+
+-- bytes without an LF give one line at most
+pub length-lines_from : (part : Part) (more : List ℕ) → list_all is_no_line_feed more ≡ true → length (lines_from part more) ≤ 1
+length-lines_from part [] h = end_short (has_rest (begun part)) (answer (at_end part)) (finished (at_end part))
+length-lines_from part (b ∷ more) h =
+    let w = and_parts (is_no_line_feed b) (list_all is_no_line_feed more) h in
+    let e : eqb b 10 ≡ false = no_line_feed (eqb b 10) w.0 in
+    subst (λ (c : Bool). length (cond c (said (answer (at_line_feed part)) (finished (at_line_feed part)) ++ lines_from (finished (at_line_feed part)) more) (lines_from (with_byte (begun part) b) more)) ≤ 1) (sym e)
+    (length-lines_from (with_byte (begun part) b) more w.1)

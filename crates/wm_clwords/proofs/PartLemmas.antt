@@ -1,16 +1,13 @@
 -- What a part stands for: what was joined, and the bytes of the physical line.
-use Rattle.std.proofs.Common.{◌≡◌, ◌≢◌, ◌⊎◌, ℕ, ◌-◌, ◌+◌, ◌<◌, ◌≤◌, ◌++◌, ◌&&◌, ◌||◌, not, Bool, true, false, cond, List, [], ◌∷◌, Option, Some, None, is_some, IsSome, length, take, zero, suc, eqb, ltb, map, subst, sym, ◌∙◌, ap, refl, arith, inl, inr}
-use Rattle.std.proofs.lemmas.Grind.{common_steps}
-use Rattle.std.proofs.lemmas.Bool.{cases_Bool, ltb-true, ltb-false, lt-ltb, le-ltb, false≢true}
-use Rattle.std.proofs.lemmas.Bool.Decides.{nat_tests}
-use Rattle.std.proofs.lemmas.List.{length-append, append_assoc, append-nil, take_all, length_push, take-append-le, length-take, take-take, length-take-le}
+use Rattle.std.proofs.Common.{◌≡◌, ◌⊎◌, ℕ, ◌-◌, ◌+◌, ◌<◌, ◌≤◌, ◌++◌, ◌&&◌, ◌||◌, not, Bool, true, false, cond, List, [], ◌∷◌, Some, None, is_some, length, take, ltb, subst, sym, ◌∙◌, ap, refl, arith, inl, inr}
+use Rattle.std.proofs.lemmas.Bool.{ltb-true, ltb-false, lt-ltb, le-ltb, false≢true}
+use Rattle.std.proofs.lemmas.List.{length-append, append_assoc, append-nil, take_all, length_push, take-append-le, length-take, take-take}
 use Rattle.std.proofs.Math.Seq.{take-append-add}
 use Rattle.wm_clwords.specs.declared.line.Sign.{Sign}
-use Rattle.wm_clwords.specs.declared.line.Sign.TheVariants.{No, Plus, Minus}
-use Rattle.wm_clwords.specs.declared.line.LogicalLine.{LogicalLine}
+use Rattle.wm_clwords.specs.declared.line.Sign.TheVariants.{No}
 use Rattle.wm_clwords.specs.declared.line.LogicalLine.TheVariants.{Command, Long}
-use Rattle.wm_clwords.specs.Lines.{is_blank, is_empty, start_trimmed, end_trimmed, without_cr, sign_byte, sign_of, kept_of, text_of, front_of, drops_of, Before, by_sign, without_last, logical, physical, within_limit}
-use Rattle.wm_clwords.specs.Part.{Part, fresh, begun, with_blank, with_solid, with_kept, with_cr, with_byte, joined_on, finished, unsigned, answer, has_rest, said, at_end, at_line_feed, lines_from}
+use Rattle.wm_clwords.specs.Lines.{is_blank, is_empty, end_trimmed, sign_byte, sign_of, kept_of, front_of, drops_of, Before, by_sign, without_last, within_limit}
+use Rattle.wm_clwords.specs.Part.{Part, fresh, with_blank, with_solid, with_kept, joined_on, finished, answer, said}
 use Rattle.wm_clwords.proofs.LineLemmas.{is_empty-push, end_trimmed-push, kept_of-push, sign_of-push, end_trimmed-take, length-end_trimmed}
 
 -- the line is too long, however it goes on

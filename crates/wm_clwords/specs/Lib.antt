@@ -1,5 +1,12 @@
 pub mod CallText
+pub mod Faults
 pub mod First
+pub mod Grammar
+pub mod Items
+pub mod Levels
 pub mod Lines
 pub mod Part
 pub mod Quote
+pub mod Reader
+pub mod Reading
+pub mod Verdict

@@ -1,11 +1,14 @@
 -- The logical lines of the input.
-use Rattle.std.specs.Prelude.{ℕ, Bool, true, false, List, [], ◌∷◌, ◌++◌, length, take, map, Option, Some, None, is_some, nat_lt, ◌==◌, ◌-◌, ◌||◌, ◌&&◌, if◌then◌else◌}
+use Rattle.std.specs.Prelude.{ℕ, Bool, true, false, not, List, [], ◌∷◌, ◌++◌, length, take, map, Option, Some, None, nat_lt, ◌==◌, ◌-◌, ◌||◌, ◌&&◌, if◌then◌else◌}
 use Rattle.wm_clwords.specs.declared.line.Sign.{Sign}
 use Rattle.wm_clwords.specs.declared.line.Sign.TheVariants.{No, Plus, Minus}
 
 -- a blank or a tab
 abbrev pub is_blank : ℕ → Bool
 is_blank byte = byte == 32 || byte == 9
+
+abbrev pub is_no_line_feed : ℕ → Bool
+is_no_line_feed byte = not (byte == 10)
 
 abbrev pub is_empty : List ℕ → Bool
 is_empty [] = true

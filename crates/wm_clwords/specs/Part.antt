@@ -1,8 +1,8 @@
 -- What a `Joiner` holds of a line.
-use Rattle.std.specs.Prelude.{ℕ, Bool, true, false, not, List, [], ◌∷◌, ◌++◌, length, take, Option, Some, None, nat_lt, nat_eq, ◌==◌, ◌+◌, ◌-◌, ◌||◌, ◌&&◌, if◌then◌else◌}
+use Rattle.std.specs.Prelude.{ℕ, Bool, true, false, not, List, [], ◌∷◌, ◌++◌, length, take, Option, Some, None, nat_lt, ◌==◌, ◌+◌, ◌-◌, ◌||◌, if◌then◌else◌}
 use Rattle.wm_clwords.specs.Lines.{is_blank, is_empty, sign_byte, by_sign}
 use Rattle.wm_clwords.specs.declared.line.Sign.{Sign}
-use Rattle.wm_clwords.specs.declared.line.Sign.TheVariants.{No, Plus, Minus}
+use Rattle.wm_clwords.specs.declared.line.Sign.TheVariants.{No}
 use Rattle.wm_clwords.specs.declared.line.LogicalLine.{LogicalLine}
 use Rattle.wm_clwords.specs.declared.line.LogicalLine.TheVariants.{Command, Long}
 

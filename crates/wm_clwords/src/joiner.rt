@@ -1,6 +1,8 @@
 // Pieces of input, joined into logical lines.
-ghost use Rattle.std.specs.Prelude.{◌≡◌};
-ghost use Rattle.wm_clwords.specs.Lines.{is_blank, sign_byte};
+ghost use Rattle.std.specs.Prelude.{◌≡◌, ◌≤◌, List, ℕ, IsTrue, length};
+ghost use Rattle.std.specs.List.{list_all};
+ghost use Rattle.wm_clwords.specs.Lines.{is_blank, is_no_line_feed, sign_byte};
+ghost use Rattle.wm_clwords.specs.Part.{Part, lines_from};
 
 use crate::line::{LogicalLine, Sign};
 use std::alloc::{AllocError, Global};
@@ -237,6 +239,12 @@ impl Joiner {
         }
     }
 }
+
+/// Bytes without an LF give one line at most, the one that ends with the input. So no line that ended is held back:
+/// `feed` answers it before it takes another byte.
+pub fn no_line_waits()
+    ensures { (part : Part) (more : List ℕ) → IsTrue (list_all is_no_line_feed more) → length (lines_from part more) ≤ 1 }
+{}
 
 fn is_blank(byte: u8) -> bool
     ensures { result ≡ is_blank byte }

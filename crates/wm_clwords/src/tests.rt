@@ -1,5 +1,7 @@
 // Tests of what no clause says: that the calls succeed, and examples from outside.
-use crate::{FirstFault, Joiner, LogicalLine, call_text, read_first};
+use crate::{
+    ClFault, FirstFault, Item, Joiner, LogicalLine, Span, call_text, read_command, read_first,
+};
 use std::alloc::Global;
 use std::process::Abort;
 use std::test::Fail;
@@ -227,6 +229,145 @@ ENDSBS SBS(NIGHT) OPTION(*CNTRLD)
         assert_eq!(rt; joiner.end(), Some(LogicalLine::Command));
         assert_eq!(rt; joiner.line(), b"A".as_slice());
         assert_eq!(rt; joiner.end(), None);
+        Ok(())
+    }
+}
+
+mod command {
+    use super::*;
+
+    fn fault_of(alloc: Global, bytes: &[u8]) -> Option<ClFault> {
+        read_command(alloc, bytes).err()
+    }
+
+    #[test]
+    fn each_fault_has_its_place(rt: HostRuntime) {
+        let rows: [(&[u8], ClFault); 23] = [
+            (b"", ClFault::Empty),
+            (b"/* x */", ClFault::Empty),
+            (b"1AB", ClFault::BadName),
+            (b"'A' B", ClFault::BadName),
+            (b"A(B)", ClFault::BadName),
+            (b"A B)", ClFault::StrayParen(3)),
+            (b"A B('x", ClFault::OpenQuote(4)),
+            (b"SBMJOB JOB('A)", ClFault::OpenQuote(11)),
+            (b"A /* x", ClFault::OpenComment(2)),
+            (b"A /*/ B", ClFault::OpenComment(2)),
+            (b"A B(C D(E)", ClFault::OpenParen(3)),
+            (b"A B'C'", ClFault::BadByte(3)),
+            (b"A 'x'(", ClFault::BadByte(5)),
+            (b"A B('O'X)", ClFault::BadByte(7)),
+            (b"A B('\t", ClFault::BadByte(5)),
+            (b"A\x80", ClFault::BadByte(1)),
+            (b"A 'x'/y", ClFault::BadByte(5)),
+            (b"A 'x'/)", ClFault::BadByte(5)),
+            (b"A 'x'/", ClFault::BadByte(5)),
+            (b"A ((((((((((((((((", ClFault::OpenParen(17)),
+            (b"A (((((((((((((((((", ClFault::TooDeep(18)),
+            (b"A ((((((((((((((((B(", ClFault::TooDeep(19)),
+            (b"A (((((((((((((((('x'(", ClFault::BadByte(21)),
+        ];
+        for (bytes, fault) in rows {
+            assert_eq!(rt; fault_of(rt.alloc(), bytes), Some(fault));
+        }
+    }
+
+    #[test]
+    fn a_command_has_at_most_8192_bytes(rt: HostRuntime) {
+        let blanks = [b' '; 8193];
+        assert_eq!(rt; fault_of(rt.alloc(), &blanks), Some(ClFault::TooLong));
+        assert_eq!(rt; fault_of(rt.alloc(), &blanks[1..]), Some(ClFault::Empty));
+    }
+
+    fn word(rt: &impl Abort, item: Option<&Item>, place: u32, text: &[u8]) {
+        match item {
+            Some(Item::Word(span, word)) => {
+                assert_eq!(rt; span.place, place);
+                assert_eq!(rt; span.len as usize, text.len());
+                assert_eq!(rt; word.as_bytes(), text);
+            }
+            _ => assert!(rt; false, "no word"),
+        }
+    }
+
+    fn quoted(rt: &impl Abort, item: Option<&Item>, at: Span, text: &[u8]) {
+        match item {
+            Some(Item::Quoted(span, quoted)) => {
+                assert_eq!(rt; *span, at);
+                assert_eq!(rt; quoted.as_bytes(), text);
+            }
+            _ => assert!(rt; false, "no quoted text"),
+        }
+    }
+
+    #[test]
+    fn a_doubled_apostrophe_is_one(rt: HostRuntime) -> Result<(), Fail> {
+        let tree = read_command(rt.alloc(), b"A B('O''X')")?;
+        assert_eq!(rt; tree.name.as_bytes(), b"A".as_slice());
+        assert_eq!(rt; tree.items.len(), 1);
+        match &tree.items[0] {
+            Item::Keyed(span, key, items) => {
+                assert_eq!(rt; *span, Span { place: 2, len: 9 });
+                assert_eq!(rt; key.as_bytes(), b"B".as_slice());
+                quoted(&rt, items.get(0), Span { place: 4, len: 6 }, b"O'X");
+            }
+            _ => assert!(rt; false, "no key"),
+        }
+        Ok(())
+    }
+
+    #[test]
+    fn a_key_has_the_place_of_its_word(rt: HostRuntime) -> Result<(), Fail> {
+        let line = b"ADDRTGE SBSD(SB2) SEQNBR(10) CMPVAL('AB' 80) PGM(ECHO)";
+        let tree = read_command(rt.alloc(), line)?;
+        assert_eq!(rt; tree.items.len(), 4);
+        match &tree.items[2] {
+            Item::Keyed(span, key, items) => {
+                assert_eq!(rt; *span, Span { place: 29, len: 15 });
+                assert_eq!(rt; key.as_bytes(), b"CMPVAL".as_slice());
+                quoted(&rt, items.get(0), Span { place: 36, len: 4 }, b"AB");
+                word(&rt, items.get(1), 41, b"80");
+            }
+            _ => assert!(rt; false, "no key"),
+        }
+        Ok(())
+    }
+
+    #[test]
+    fn lower_case_is_read_as_upper_case(rt: HostRuntime) -> Result<(), Fail> {
+        let tree = read_command(
+            rt.alloc(),
+            b"sbmjob cmd(call pgm(echo) parm('hi')) job( a )",
+        )?;
+        assert_eq!(rt; tree.name.as_bytes(), b"SBMJOB".as_slice());
+        assert_eq!(rt; tree.items.len(), 2);
+        match &tree.items[0] {
+            Item::Keyed(_, key, items) => {
+                assert_eq!(rt; key.as_bytes(), b"CMD".as_slice());
+                word(&rt, items.get(0), 11, b"CALL");
+                match items.get(2) {
+                    Some(Item::Keyed(_, _, parms)) => {
+                        quoted(&rt, parms.get(0), Span { place: 31, len: 4 }, b"hi");
+                    }
+                    _ => assert!(rt; false, "no PARM"),
+                }
+            }
+            _ => assert!(rt; false, "no key"),
+        }
+        match &tree.items[1] {
+            Item::Keyed(_, _, items) => word(&rt, items.get(0), 43, b"A"),
+            _ => assert!(rt; false, "no key"),
+        }
+        Ok(())
+    }
+
+    #[test]
+    fn gaps_and_lists(rt: HostRuntime) -> Result<(), Fail> {
+        let tree = read_command(rt.alloc(), b"/*\t*/A B/*C (D)(E)'F'/* x */ G/ /")?;
+        assert_eq!(rt; tree.items.len(), 6);
+        word(&rt, tree.items.get(0), 7, b"B/*C");
+        quoted(&rt, tree.items.get(3), Span { place: 18, len: 3 }, b"F");
+        word(&rt, tree.items.get(5), 32, b"/");
         Ok(())
     }
 }

@@ -1,6 +1,5 @@
-use Rattle.std.proofs.Common.{◌≡◌, ◌∙◌, ap, refl, List, ℕ}
-use Rattle.wm_clwords.specs.Lines.{logical_lines}
-use Rattle.wm_clwords.specs.Part.{lines_from, finished, unsigned}
+use Rattle.std.proofs.Common.{◌∙◌, ap, refl}
+use Rattle.wm_clwords.specs.Part.{lines_from, finished}
 use Rattle.wm_clwords.proofs.LinesLaw.{lines_from-next, unsigned-next}
 use Rattle.wm_clwords.proofs.joiner.Joiner.end.Goals as goal
 
