@@ -1,0 +1,95 @@
+// Objects' descriptions.
+use crate::{AutoEntry, Keyed, PreEntry, QueueEntry, RouteEntry, SortedList};
+use std::alloc::Global;
+use wm_base::{Class, Limit, Priority, QName, Text};
+
+/// A job queue.
+#[derive(Clone, Copy, Debug, PartialEq, Eq)]
+pub struct Jobq {}
+
+/// A program: where the one that is started lies.
+#[derive(Clone, Debug, PartialEq, Eq, Drop)]
+pub struct Program {
+    pub path: Text,
+}
+
+/// A job description: what a submitted or autostart job gets where its command doesn't say.
+#[derive(Clone, Debug, PartialEq, Eq, Drop)]
+pub struct Jobd {
+    pub jobq: QName,
+    pub pty: Priority,
+    pub rtgdta: Text,
+    pub rqsdta: Option<Text>,
+    pub hold: bool,
+}
+
+/// A subsystem description.
+#[derive(Clone, Debug, PartialEq, Eq, Drop)]
+pub struct Sbsd {
+    pub maxjobs: Limit,
+    pub queues: QueueEntries,
+    pub routes: RouteEntries,
+    pub autos: AutoEntries,
+    pub pres: PreEntries,
+}
+
+impl Sbsd {
+    ghost use Rattle.std.specs.Prelude.{◌≡◌};
+    ghost use Rattle.wm_desc.specs.Objects.{empty_sbsd};
+
+    /// A description without entries.
+    pub fn new(alloc: Global, maxjobs: Limit) -> Sbsd
+        ensures { result ≡ empty_sbsd maxjobs }
+    {
+        Sbsd {
+            maxjobs,
+            queues: SortedList::new(alloc),
+            routes: SortedList::new(alloc),
+            autos: SortedList::new(alloc),
+            pres: SortedList::new(alloc),
+        }
+    }
+}
+
+/// Queue entries by sequence number.
+pub type QueueEntries = SortedList<QueueEntry>;
+
+/// Routing entries by sequence number.
+pub type RouteEntries = SortedList<RouteEntry>;
+
+/// Autostart entries by job name.
+pub type AutoEntries = SortedList<AutoEntry>;
+
+/// Prestart entries by program.
+pub type PreEntries = SortedList<PreEntry>;
+
+impl<V> Keyed for (QName, V) {
+    type By = QName;
+
+    ghost key = { λ object. object.0 };
+
+    fn key(&self) -> &QName {
+        &self.0
+    }
+}
+
+/// Objects of one kind by qualified name.
+pub type Table<V> = SortedList<(QName, V)>;
+
+pub type Classes = Table<Class>;
+pub type Jobqs = Table<Jobq>;
+pub type Programs = Table<Program>;
+pub type Jobds = Table<Jobd>;
+pub type Sbsds = Table<Sbsd>;
+
+impl<V> Table<V> {
+    ghost use Rattle.std.specs.Prelude.{◌≡◌, option_copied};
+    ghost use Rattle.wm_desc.specs.Table.{object_named};
+
+    /// The description of the object with a name.
+    pub fn object(&self, name: &QName) -> Option<&V>
+        ensures { option_copied result ≡ object_named name.now self.now }
+    {
+        self.get(name).map(|object| &object.1)
+    }
+}

@@ -1,0 +1,21 @@
+//! Descriptions.
+#![tactic(auto)]
+
+mod description;
+mod entry;
+mod exact;
+mod fault;
+mod objects;
+mod refuse;
+mod sorted;
+
+pub use description::{
+    AutoEntries, Classes, Jobd, Jobds, Jobq, Jobqs, PreEntries, Program, Programs, QueueEntries,
+    RouteEntries, Sbsd, Sbsds, Table,
+};
+pub use entry::{AutoEntry, Cmp, PreEntry, QueueEntry, RouteEntry};
+pub use exact::ExactClone;
+pub use fault::DescFault;
+pub use objects::{MAX_OBJECTS, Objects};
+pub use refuse::is_qcmd;
+pub use sorted::{Keyed, SortedList};
