@@ -1,5 +1,5 @@
 -- Why adding or removing is refused: the tests of each call in their order, of which the first that holds answers.
-use Rattle.std.specs.Prelude.{◌≡◌, ℕ, Bool, true, false, not, nat_eq, nat_lt, nat_le, ◌&&◌, ◌||◌, List, [], ◌∷◌, length, find, Option, Some, None, option_map, Result, Ok, Err, IsOkUnless}
+use Rattle.std.specs.Prelude.{◌≡◌, ℕ, Bool, true, false, not, nat_eq, nat_lt, nat_le, ◌&&◌, ◌||◌, List, [], ◌∷◌, ◌++◌, length, find, Option, Some, None, option_map, Result, Ok, Err, IsOkUnless}
 use Rattle.std.specs.List.{list_any}
 use Rattle.std.specs.Option.{option_map_or}
 use Rattle.std.specs.Cmp.Lexicographic.{pointwise}
@@ -107,16 +107,23 @@ is_above n (Most most) = nat_lt most n
 abbrev pub has_pre : QName → List PreEntry → Bool
 has_pre pgm pres = has_key (λ e. e.pgm) same_qname pgm pres
 
+-- which two values of a prestart entry don't go together: THRESHOLD above INLJOBS, INLJOBS above MAXJOBS, ADLJOBS not below MAXJOBS
+abbrev pub relations : PreEntry → List (Bool × Refusal)
+relations entry =
+      (nat_lt entry.inljobs entry.threshold, BadRelation Threshold Inljobs)
+    ∷ (is_above entry.inljobs entry.maxjobs, BadRelation Inljobs Maxjobs)
+    ∷ (not (is_below entry.adljobs entry.maxjobs), BadRelation Adljobs Maxjobs)
+    ∷ []
+
+abbrev pub relation_refusal : PreEntry → Option Refusal
+relation_refusal entry = first_refusal (relations entry)
+
 abbrev pub pre_refusal : Objects → QName → PreEntry → Option Refusal
 pre_refusal objects sbsd entry = by_description objects sbsd (λ description. first_refusal (
       (not (has_object entry.pgm objects.programs), NoObject kind.Pgm)
     ∷ (not (has_object entry.cls objects.classes), NoObject kind.Cls)
     ∷ (has_pre entry.pgm description.pres, Exists kind.Pje)
-    ∷ (nat_lt entry.inljobs entry.threshold, BadRelation Threshold Inljobs)
-    ∷ (is_above entry.inljobs entry.maxjobs, BadRelation Inljobs Maxjobs)
-    ∷ (not (is_below entry.adljobs entry.maxjobs), BadRelation Adljobs Maxjobs)
-    ∷ (is_full 100 description.pres, TableFull kind.Pje 100)
-    ∷ []))
+    ∷ (relations entry ++ (is_full 100 description.pres, TableFull kind.Pje 100) ∷ [])))
 
 abbrev pub remove_queue_refusal : Objects → QName → QName → Option Refusal
 remove_queue_refusal objects sbsd jobq = by_description objects sbsd (λ description. first_refusal ((not (has_queue jobq description.queues), NoObject kind.Jobqe) ∷ []))

@@ -1,5 +1,5 @@
 -- Objects of one kind by their qualified names.
-use Rattle.std.specs.Prelude.{ℕ, Bool, nat_eq, ◌&&◌, cond, codes, List, map, find, Option, option_map}
+use Rattle.std.specs.Prelude.{◌≡◌, ℕ, ◌<◌, Bool, nat_eq, ◌&&◌, cond, codes, List, length, map, find, slice_index_or, slice_set, Option, Some, option_map}
 use Rattle.std.specs.List.{list_any}
 use Rattle.std.specs.Ordering.{nat_cmp, ordering_then}
 use Rattle.std.specs.Cmp.Lexicographic.{pointwise, slice_cmp}
@@ -32,3 +32,9 @@ has_object name objects = list_any (λ object. same_qname object.0 name) objects
 -- the objects, with another description for the one with a name
 abbrev pub changed : {V : Type 0} → QName → (V → V) → List (QName × V) → List (QName × V)
 changed name change objects = map (λ object. cond (same_qname object.0 name) (object.0, change object.1) object) objects
+
+-- the object with a name stands at place i, so a change of its description is a write there
+pub record StandsAt {V : Type 0} (name : QName) (objects : List (QName × V)) (i : ℕ) : Type 0 where
+  pub in_range : i < length objects
+  pub described : (d : QName × V) → object_named name objects ≡ Some (slice_index_or objects i d).1
+  pub written : (change : V → V) (d : QName × V) → changed name change objects ≡ slice_set objects i ((slice_index_or objects i d).0, change (slice_index_or objects i d).1)

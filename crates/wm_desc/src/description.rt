@@ -83,13 +83,50 @@ pub type Jobds = Table<Jobd>;
 pub type Sbsds = Table<Sbsd>;
 
 impl<V> Table<V> {
-    ghost use Rattle.std.specs.Prelude.{◌≡◌, option_copied};
-    ghost use Rattle.wm_desc.specs.Table.{object_named};
+    ghost use Rattle.std.specs.Prelude.{◌≡◌, option_copied, IsSome};
+    ghost use Rattle.wm_desc.specs.Table.{object_named, StandsAt};
 
     /// The description of the object with a name.
     pub fn object(&self, name: &QName) -> Option<&V>
         ensures { option_copied result ≡ object_named name.now self.now }
     {
         self.get(name).map(|object| &object.1)
+    }
+
+    // Where the object with a name stands.
+    pub(crate) fn place(&self, name: &QName) -> usize
+        requires { IsSome (object_named name.now self.now) }
+        ensures { StandsAt name.now self.now result }
+    {
+        let Ok(at) = self.search(name) else {
+            unreachable!()
+        };
+        at
+    }
+}
+
+impl QueueEntries {
+    ghost use Rattle.std.specs.Prelude.{◌≡◌, not, find, filter, option_copied};
+    ghost use Rattle.wm_desc.specs.Refusals.{has_queue};
+    ghost use Rattle.wm_desc.specs.Table.{same_qname};
+
+    /// The entry for a queue.
+    pub fn for_queue(&self, jobq: &QName) -> Option<&QueueEntry>
+        ensures { option_copied result ≡ find (λ e. same_qname e.jobq jobq.now) self.now }
+    {
+        self.as_slice().iter().find(|entry| entry.jobq == *jobq)
+    }
+
+    pub fn has_queue(&self, jobq: &QName) -> bool
+        ensures { result ≡ has_queue jobq.now self.now }
+    {
+        self.as_slice().iter().any(|entry| entry.jobq == *jobq)
+    }
+
+    /// Takes the entry for a queue out.
+    pub fn remove_queue(&mut self, jobq: &QName)
+        ensures { self.new ≡ filter (λ e. not (same_qname e.jobq jobq.now)) self.old }
+    {
+        self.items.retain(|entry| entry.jobq != *jobq);
     }
 }

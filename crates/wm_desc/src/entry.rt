@@ -22,6 +22,18 @@ pub enum Cmp {
     Val { value: Text, start: u32 },
 }
 
+impl Cmp {
+    ghost use Rattle.std.specs.Prelude.{◌≡◌};
+    ghost use Rattle.wm_desc.specs.Refusals.{is_any};
+
+    /// Whether it is *ANY.
+    pub fn is_any(&self) -> bool
+        ensures { result ≡ is_any self.now }
+    {
+        matches!(self, Cmp::Any)
+    }
+}
+
 /// A routing entry (ADDRTGE): which program and class a job with matching routing data gets.
 #[derive(Clone, Debug, PartialEq, Eq, Drop)]
 pub struct RouteEntry {

@@ -2,9 +2,11 @@
 #![tactic(auto)]
 
 mod description;
+mod entries;
 mod entry;
 mod exact;
 mod fault;
+mod limits;
 mod objects;
 mod refuse;
 mod sorted;
@@ -16,6 +18,7 @@ pub use description::{
 pub use entry::{AutoEntry, Cmp, PreEntry, QueueEntry, RouteEntry};
 pub use exact::ExactClone;
 pub use fault::DescFault;
-pub use objects::{MAX_OBJECTS, Objects};
+pub use limits::{MAX_AUTOS, MAX_OBJECTS, MAX_PRES, MAX_QUEUES, MAX_ROUTES};
+pub use objects::Objects;
 pub use refuse::is_qcmd;
 pub use sorted::{Keyed, SortedList};

@@ -4,9 +4,6 @@ use crate::{Classes, DescFault, Jobd, Jobds, Jobq, Jobqs, Program, Programs, Sbs
 use std::alloc::Global;
 use wm_base::{Class, Kind, Limit, QName, Text};
 
-/// How many objects of a kind there are at the most.
-pub const MAX_OBJECTS: u32 = 1000;
-
 /// The objects: one description for each qualified name of a kind.
 #[derive(Clone, Debug, PartialEq, Eq, Drop)]
 pub struct Objects {
