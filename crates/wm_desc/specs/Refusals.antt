@@ -62,13 +62,17 @@ seq_used seq n entries = has_key seq nat_eq n entries
 abbrev pub has_queue : QName → List QueueEntry → Bool
 has_queue jobq queues = list_any (λ entry. same_qname entry.jobq jobq) queues
 
-abbrev pub queue_refusal : Objects → QName → QueueEntry → Option Refusal
-queue_refusal objects sbsd entry = by_description objects sbsd (λ description. first_refusal (
+-- ADDJOBQE
+abbrev pub queue_tests : Objects → QueueEntry → Sbsd → List (Bool × Refusal)
+queue_tests objects entry description =
       (not (has_object entry.jobq objects.jobqs), NoObject kind.Jobq)
     ∷ (has_queue entry.jobq description.queues, Exists kind.Jobqe)
     ∷ (seq_used (λ e. e.seq) entry.seq description.queues, SeqUsed)
     ∷ (is_full 100 description.queues, TableFull kind.Jobqe 100)
-    ∷ []))
+    ∷ []
+
+abbrev pub queue_refusal : Objects → QName → QueueEntry → Option Refusal
+queue_refusal objects sbsd entry = by_description objects sbsd (λ description. first_refusal (queue_tests objects entry description))
 
 abbrev pub is_any : Cmp → Bool
 is_any Any = true
@@ -78,25 +82,33 @@ is_any (Val value start) = false
 abbrev pub any_not_last : RouteEntry → List RouteEntry → Bool
 any_not_last entry routes = list_any (λ e. (is_any entry.cmp && nat_lt entry.seq e.seq) || (is_any e.cmp && nat_lt e.seq entry.seq)) routes
 
-abbrev pub route_refusal : Objects → QName → RouteEntry → Option Refusal
-route_refusal objects sbsd entry = by_description objects sbsd (λ description. first_refusal (
+-- ADDRTGE
+abbrev pub route_tests : Objects → RouteEntry → Sbsd → List (Bool × Refusal)
+route_tests objects entry description =
       (not (is_qcmd entry.pgm || has_object entry.pgm objects.programs), NoObject kind.Pgm)
     ∷ (not (has_object entry.cls objects.classes), NoObject kind.Cls)
     ∷ (seq_used (λ e. e.seq) entry.seq description.routes, SeqUsed)
     ∷ (any_not_last entry description.routes, AnyNotLast)
     ∷ (is_full 999 description.routes, TableFull kind.Rtge 999)
-    ∷ []))
+    ∷ []
+
+abbrev pub route_refusal : Objects → QName → RouteEntry → Option Refusal
+route_refusal objects sbsd entry = by_description objects sbsd (λ description. first_refusal (route_tests objects entry description))
 
 -- whether a description has an autostart entry with a job name
 abbrev pub has_auto : List ℕ → List AutoEntry → Bool
 has_auto job autos = has_key (λ e. e.job) (pointwise nat_eq) job autos
 
-abbrev pub auto_refusal : Objects → QName → AutoEntry → Option Refusal
-auto_refusal objects sbsd entry = by_description objects sbsd (λ description. first_refusal (
+-- ADDAJE
+abbrev pub auto_tests : Objects → AutoEntry → Sbsd → List (Bool × Refusal)
+auto_tests objects entry description =
       (not (has_object entry.jobd objects.jobds), NoObject kind.Jobd)
     ∷ (has_auto entry.job description.autos, Exists kind.Aje)
     ∷ (is_full 100 description.autos, TableFull kind.Aje 100)
-    ∷ []))
+    ∷ []
+
+abbrev pub auto_refusal : Objects → QName → AutoEntry → Option Refusal
+auto_refusal objects sbsd entry = by_description objects sbsd (λ description. first_refusal (auto_tests objects entry description))
 
 -- whether a number is above a limit
 abbrev pub is_above : ℕ → Limit → Bool
@@ -108,31 +120,36 @@ abbrev pub has_pre : QName → List PreEntry → Bool
 has_pre pgm pres = has_key (λ e. e.pgm) same_qname pgm pres
 
 -- which two values of a prestart entry don't go together: THRESHOLD above INLJOBS, INLJOBS above MAXJOBS, ADLJOBS not below MAXJOBS
-abbrev pub relations : PreEntry → List (Bool × Refusal)
-relations entry =
+abbrev pub relation_tests : PreEntry → List (Bool × Refusal)
+relation_tests entry =
       (nat_lt entry.inljobs entry.threshold, BadRelation Threshold Inljobs)
     ∷ (is_above entry.inljobs entry.maxjobs, BadRelation Inljobs Maxjobs)
     ∷ (not (is_below entry.adljobs entry.maxjobs), BadRelation Adljobs Maxjobs)
     ∷ []
 
-abbrev pub relation_refusal : PreEntry → Option Refusal
-relation_refusal entry = first_refusal (relations entry)
-
-abbrev pub pre_refusal : Objects → QName → PreEntry → Option Refusal
-pre_refusal objects sbsd entry = by_description objects sbsd (λ description. first_refusal (
+-- ADDPJE
+abbrev pub pre_tests : Objects → PreEntry → Sbsd → List (Bool × Refusal)
+pre_tests objects entry description =
       (not (has_object entry.pgm objects.programs), NoObject kind.Pgm)
     ∷ (not (has_object entry.cls objects.classes), NoObject kind.Cls)
     ∷ (has_pre entry.pgm description.pres, Exists kind.Pje)
-    ∷ (relations entry ++ (is_full 100 description.pres, TableFull kind.Pje 100) ∷ [])))
+    ∷ (relation_tests entry ++ (is_full 100 description.pres, TableFull kind.Pje 100) ∷ [])
 
+abbrev pub pre_refusal : Objects → QName → PreEntry → Option Refusal
+pre_refusal objects sbsd entry = by_description objects sbsd (λ description. first_refusal (pre_tests objects entry description))
+
+-- RMVJOBQE
 abbrev pub remove_queue_refusal : Objects → QName → QName → Option Refusal
 remove_queue_refusal objects sbsd jobq = by_description objects sbsd (λ description. first_refusal ((not (has_queue jobq description.queues), NoObject kind.Jobqe) ∷ []))
 
+-- RMVRTGE
 abbrev pub remove_route_refusal : Objects → QName → ℕ → Option Refusal
 remove_route_refusal objects sbsd seq = by_description objects sbsd (λ description. first_refusal ((not (seq_used (λ e. e.seq) seq description.routes), NoObject kind.Rtge) ∷ []))
 
+-- RMVAJE
 abbrev pub remove_auto_refusal : Objects → QName → List ℕ → Option Refusal
 remove_auto_refusal objects sbsd job = by_description objects sbsd (λ description. first_refusal ((not (has_auto job description.autos), NoObject kind.Aje) ∷ []))
 
+-- RMVPJE
 abbrev pub remove_pre_refusal : Objects → QName → QName → Option Refusal
 remove_pre_refusal objects sbsd pgm = by_description objects sbsd (λ description. first_refusal ((not (has_pre pgm description.pres), NoObject kind.Pje) ∷ []))

@@ -127,6 +127,8 @@ impl QueueEntries {
     pub fn remove_queue(&mut self, jobq: &QName)
         ensures { self.new ≡ filter (λ e. not (same_qname e.jobq jobq.now)) self.old }
     {
-        self.items.retain(|entry| entry.jobq != *jobq);
+        self.items.retain(|entry: &QueueEntry| -> bool
+            ensures { result ≡ not (same_qname entry.now.jobq jobq.entry.now) }
+        { entry.jobq != *jobq });
     }
 }

@@ -1,6 +1,6 @@
 // Whether a rule refuses an object or an entry.
 ghost use Rattle.std.specs.Prelude.{◌≡◌};
-ghost use Rattle.wm_desc.specs.Refusals.{object_refusal, program_refusal, queue_refusal, any_not_last, route_refusal, auto_refusal, is_above, relation_refusal, pre_refusal, remove_queue_refusal, remove_route_refusal, remove_auto_refusal, remove_pre_refusal};
+ghost use Rattle.wm_desc.specs.Refusals.{object_refusal, program_refusal, queue_refusal, any_not_last, route_refusal, auto_refusal, is_above, first_refusal, relation_tests, pre_refusal, remove_queue_refusal, remove_route_refusal, remove_auto_refusal, remove_pre_refusal};
 ghost use Rattle.wm_desc.specs.Table.{is_qcmd};
 
 use crate::{
@@ -115,7 +115,7 @@ fn is_above(n: u32, limit: Limit) -> bool
 
 // Which two values of a prestart entry don't go together.
 fn relation_refusal(entry: &PreEntry) -> Option<Refusal>
-    ensures { result ≡ relation_refusal entry.now }
+    ensures { result ≡ first_refusal (relation_tests entry.now) }
 {
     if entry.threshold > entry.inljobs {
         Some(Refusal::BadRelation(Key::Threshold, Key::Inljobs))
