@@ -4,8 +4,9 @@ use Rattle.std.specs.declared.cmp.Ordering.{Ordering}
 use Rattle.std.specs.declared.cmp.Ordering.TheVariants.{Less, Equal, Greater}
 use Rattle.std.specs.Ordering.{is_lt, is_eq, ordering_reverse, ordering_index}
 use Rattle.std.specs.Cmp.{IsTotalOrder}
-use Rattle.std.specs.List.{AllPairs, insert, remove}
+use Rattle.std.specs.List.{AllPairs, AllAdjacentBelow, IsAllAdjacentAnswer, insert, remove}
 use Rattle.std.specs.List.Sorted.{IsSearchInRange, IsBinarySearchResult, IsNonDecreasingBy}
+use mathlib.Core.Bool.{false≢true}
 use Rattle.std.proofs.lemmas.Bool.{cases_lt, cases_order}
 use Rattle.std.proofs.lemmas.Cmp.{alike_right}
 use Rattle.std.proofs.lemmas.List.Edits.{length-insert, get_or-insert_below, get_or-insert_at, get_or-insert_above}
@@ -93,3 +94,23 @@ module _ {E K : Type 0} (key : E → K) (cmp : K → K → Ordering) (o : IsTota
       let before : a < i → cmp (key (get_or xs a d)) (key x) ≡ Less = λ lo. gap.before a d (omega arith) lo in
       let after : i < b → cmp (key x) (key (get_or xs (b - 1) d)) ≡ Less = λ hi. below _ _ (gap.after (b - 1) d (omega arith) (omega arith)) in
       grind (arith, lower a, here a, upper a, lower b, here b, upper b, before, after, sorted a b d, sorted a (b - 1) d, sorted (a - 1) (b - 1) d)
+
+  is_lt-Less : (r : Ordering) → is_lt r ≡ true → r ≡ Less
+  is_lt-Less Less h = refl
+  is_lt-Less Equal h = absurd (false≢true h)
+  is_lt-Less Greater h = absurd (false≢true h)
+
+  sorted_upto : (xs : List E) → AllAdjacentBelow (λ x y. is_lt (cmp (key x) (key y)) ≡ true) xs (length xs) → (i j : ℕ) (d : E) → i < j → j < length xs → cmp (key (get_or xs i d)) (key (get_or xs j d)) ≡ Less
+  sorted_upto xs steps i zero d lt in_range = absurd (omega arith)
+  sorted_upto xs steps i (suc j) d lt in_range =
+      let last : cmp (key (get_or xs j d)) (key (get_or xs (suc j) d)) ≡ Less = is_lt-Less _ (subst (λ q. is_lt (cmp (key (get_or xs j d)) (key (get_or xs q d))) ≡ true) {x = j + 1} (omega arith) (steps j d (omega arith))) in
+      elim (cases_lt i j) [
+        | inl before ↦ o.trans _ _ _ (sorted_upto xs steps i j d before (omega arith)) last
+        | inr at_j ↦ let same : j ≡ i = omega arith in subst (λ q. cmp (key (get_or xs q d)) (key (get_or xs (suc j) d)) ≡ Less) same last
+      ]
+
+  -- whether each element and the next rise is whether the whole list does
+  pub sorted-adjacent : (xs : List E) (r : Bool) → IsAllAdjacentAnswer (λ x y b. b ≡ is_lt (cmp (key x) (key y))) xs r → (r ≡ true → IsSortedOnce key cmp xs) × (IsSortedOnce key cmp xs → r ≡ true)
+  sorted-adjacent xs true answer = (λ _. sorted_upto xs (λ k d lt. sym (answer k d lt)), λ _. refl)
+  sorted-adjacent [] false (k, lt, unsorted) = absurd (omega arith)
+  sorted-adjacent (x ∷ xs) false (k, lt, unsorted) = (λ e. absurd (false≢true e), λ sorted. unsorted x ∙ ap is_lt (sorted k (k + 1) x (omega arith) lt))

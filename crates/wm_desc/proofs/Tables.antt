@@ -34,8 +34,8 @@ module _ {V : Type 0} (name : QName) (objects : List (QName × V)) (i : ℕ) whe
     in_range = h.in_range;
     described = λ d. ap (option_map (λ object. object.1)) (with_key-at name_of qname_cmp qname_total name objects i same_qname qname_ties d h);
     written = λ change d. map-one (λ object. same_qname object.0 name) (λ object. (object.0, change object.1)) objects i d h.in_range
-      (λ j e le lt. differs (get_or objects j e) Less refl (h.before j e le lt)) (λ e. qname_ties (get_or objects i e).0 name ∙ ap is_eq (h.here e))
-      (λ j e le lt. differs (get_or objects j e) Greater refl (h.after j e le lt));
+        (λ j e le lt. differs (get_or objects j e) Less refl (h.before j e le lt)) (λ e. qname_ties (get_or objects i e).0 name ∙ ap is_eq (h.here e))
+        (λ j e le lt. differs (get_or objects j e) Greater refl (h.after j e le lt));
   }
 
   pub unnamed : IsGap name_of qname_cmp name objects i → object_named name objects ≡ None
@@ -46,7 +46,7 @@ module _ {V : Type 0} where
   pub edited : (name : QName) (items objects : List (QName × V)) (i : ℕ) (object : QName × V) (change : V → V) (new : V) → StandsAt name objects i → items ≡ objects → object ≡ get_or items i object → new ≡ change object.1 → set items i (object.0, new) ≡ changed name change objects
   edited name items objects i object change new stands same here is =
       rw (is, same) (let there : object ≡ get_or objects i object = here ∙ ap (λ xs. get_or xs i object) same in
-        ap (λ (o : QName × V). set objects i (o.0, change o.1)) there ∙ sym (stands.written change object))
+      ap (λ (o : QName × V). set objects i (o.0, change o.1)) there ∙ sym (stands.written change object))
 
   -- a description has no part in the order
   pub sorted-edited : (objects : List (QName × V)) (i : ℕ) (object : QName × V) (new : V) → i < length objects → object ≡ get_or objects i object → IsSortedOnce name_of qname_cmp objects → IsSortedOnce name_of qname_cmp (set objects i (object.0, new))

@@ -23,7 +23,7 @@ abbrev pub with_class : QName → Class → Objects → Objects
 with_class name cls objects = record objects { classes = with_object name cls objects.classes }
 
 abbrev pub with_jobq : QName → Objects → Objects
-with_jobq name objects = record objects { jobqs = with_object name (record { }) objects.jobqs }
+with_jobq name objects = record objects { jobqs = with_object name (record {}) objects.jobqs }
 
 abbrev pub with_program : QName → List ℕ → Objects → Objects
 with_program name path objects = record objects { programs = with_object name (record { path = path }) objects.programs }

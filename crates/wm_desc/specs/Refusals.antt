@@ -65,7 +65,7 @@ has_queue jobq queues = list_any (λ entry. same_qname entry.jobq jobq) queues
 -- ADDJOBQE
 abbrev pub queue_tests : Objects → QueueEntry → Sbsd → List (Bool × Refusal)
 queue_tests objects entry description =
-      (not (has_object entry.jobq objects.jobqs), NoObject kind.Jobq)
+    (not (has_object entry.jobq objects.jobqs), NoObject kind.Jobq)
     ∷ (has_queue entry.jobq description.queues, Exists kind.Jobqe)
     ∷ (seq_used (λ e. e.seq) entry.seq description.queues, SeqUsed)
     ∷ (is_full 100 description.queues, TableFull kind.Jobqe 100)
@@ -78,14 +78,18 @@ abbrev pub is_any : Cmp → Bool
 is_any Any = true
 is_any (Val value start) = false
 
--- whether *ANY wouldn't have the greatest number: the entry is *ANY and one has a greater number, or it has a greater number than one that is *ANY
+-- whether an entry is *ANY and has a lesser number than another
+abbrev pub is_any_before : RouteEntry → RouteEntry → Bool
+is_any_before entry other = is_any entry.cmp && nat_lt entry.seq other.seq
+
+-- whether *ANY wouldn't have the greatest number, with the entry among the others
 abbrev pub any_not_last : RouteEntry → List RouteEntry → Bool
-any_not_last entry routes = list_any (λ e. (is_any entry.cmp && nat_lt entry.seq e.seq) || (is_any e.cmp && nat_lt e.seq entry.seq)) routes
+any_not_last entry routes = list_any (λ other. is_any_before entry other || is_any_before other entry) routes
 
 -- ADDRTGE
 abbrev pub route_tests : Objects → RouteEntry → Sbsd → List (Bool × Refusal)
 route_tests objects entry description =
-      (not (is_qcmd entry.pgm || has_object entry.pgm objects.programs), NoObject kind.Pgm)
+    (not (is_qcmd entry.pgm || has_object entry.pgm objects.programs), NoObject kind.Pgm)
     ∷ (not (has_object entry.cls objects.classes), NoObject kind.Cls)
     ∷ (seq_used (λ e. e.seq) entry.seq description.routes, SeqUsed)
     ∷ (any_not_last entry description.routes, AnyNotLast)
@@ -102,7 +106,7 @@ has_auto job autos = has_key (λ e. e.job) (pointwise nat_eq) job autos
 -- ADDAJE
 abbrev pub auto_tests : Objects → AutoEntry → Sbsd → List (Bool × Refusal)
 auto_tests objects entry description =
-      (not (has_object entry.jobd objects.jobds), NoObject kind.Jobd)
+    (not (has_object entry.jobd objects.jobds), NoObject kind.Jobd)
     ∷ (has_auto entry.job description.autos, Exists kind.Aje)
     ∷ (is_full 100 description.autos, TableFull kind.Aje 100)
     ∷ []
@@ -122,7 +126,7 @@ has_pre pgm pres = has_key (λ e. e.pgm) same_qname pgm pres
 -- which two values of a prestart entry don't go together: THRESHOLD above INLJOBS, INLJOBS above MAXJOBS, ADLJOBS not below MAXJOBS
 abbrev pub relation_tests : PreEntry → List (Bool × Refusal)
 relation_tests entry =
-      (nat_lt entry.inljobs entry.threshold, BadRelation Threshold Inljobs)
+    (nat_lt entry.inljobs entry.threshold, BadRelation Threshold Inljobs)
     ∷ (is_above entry.inljobs entry.maxjobs, BadRelation Inljobs Maxjobs)
     ∷ (not (is_below entry.adljobs entry.maxjobs), BadRelation Adljobs Maxjobs)
     ∷ []
@@ -130,7 +134,7 @@ relation_tests entry =
 -- ADDPJE
 abbrev pub pre_tests : Objects → PreEntry → Sbsd → List (Bool × Refusal)
 pre_tests objects entry description =
-      (not (has_object entry.pgm objects.programs), NoObject kind.Pgm)
+    (not (has_object entry.pgm objects.programs), NoObject kind.Pgm)
     ∷ (not (has_object entry.cls objects.classes), NoObject kind.Cls)
     ∷ (has_pre entry.pgm description.pres, Exists kind.Pje)
     ∷ (relation_tests entry ++ (is_full 100 description.pres, TableFull kind.Pje 100) ∷ [])

@@ -77,9 +77,13 @@ impl<V> Keyed for (QName, V) {
 pub type Table<V> = SortedList<(QName, V)>;
 
 pub type Classes = Table<Class>;
+
 pub type Jobqs = Table<Jobq>;
+
 pub type Programs = Table<Program>;
+
 pub type Jobds = Table<Jobd>;
+
 pub type Sbsds = Table<Sbsd>;
 
 impl<V> Table<V> {
@@ -127,8 +131,10 @@ impl QueueEntries {
     pub fn remove_queue(&mut self, jobq: &QName)
         ensures { self.new ≡ filter (λ e. not (same_qname e.jobq jobq.now)) self.old }
     {
-        self.items.retain(|entry: &QueueEntry| -> bool
-            ensures { result ≡ not (same_qname entry.now.jobq jobq.entry.now) }
-        { entry.jobq != *jobq });
+        self.items.retain(
+            |entry: &QueueEntry| -> bool
+                ensures { result ≡ not (same_qname entry.now.jobq jobq.entry.now) }
+            { entry.jobq != *jobq },
+        );
     }
 }

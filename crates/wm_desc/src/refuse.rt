@@ -1,6 +1,6 @@
 // Whether a rule refuses an object or an entry.
 ghost use Rattle.std.specs.Prelude.{◌≡◌};
-ghost use Rattle.wm_desc.specs.Refusals.{object_refusal, program_refusal, queue_refusal, any_not_last, route_refusal, auto_refusal, is_above, first_refusal, relation_tests, pre_refusal, remove_queue_refusal, remove_route_refusal, remove_auto_refusal, remove_pre_refusal};
+ghost use Rattle.wm_desc.specs.Refusals.{object_refusal, program_refusal, queue_refusal, is_any_before, any_not_last, route_refusal, auto_refusal, is_above, first_refusal, relation_tests, pre_refusal, remove_queue_refusal, remove_route_refusal, remove_auto_refusal, remove_pre_refusal};
 ghost use Rattle.wm_desc.specs.Table.{is_qcmd};
 
 use crate::{
@@ -56,13 +56,18 @@ pub(crate) fn queue_refusal(objects: &Objects, sbsd: &QName, entry: &QueueEntry)
     }
 }
 
-// Whether *ANY wouldn't have the greatest number.
+// Whether an entry is *ANY and has a lesser number than another.
+fn is_any_before(entry: &RouteEntry, other: &RouteEntry) -> bool
+    ensures { result ≡ is_any_before entry.now other.now }
+{
+    entry.cmp.is_any() && entry.seq < other.seq
+}
+
+// Whether *ANY wouldn't have the greatest number, with the entry among the others.
 fn any_not_last(entry: &RouteEntry, routes: &[RouteEntry]) -> bool
     ensures { result ≡ any_not_last entry.now routes.now }
 {
-    routes.iter().any(|other| {
-        entry.cmp.is_any() && entry.seq < other.seq || other.cmp.is_any() && other.seq < entry.seq
-    })
+    routes.iter().any(|other| is_any_before(entry, other) || is_any_before(other, entry))
 }
 
 pub(crate) fn route_refusal(objects: &Objects, sbsd: &QName, entry: &RouteEntry) -> Option<Refusal>

@@ -1,5 +1,6 @@
 // Lists sorted by a key.
 ghost use Rattle.std.specs.Prelude.{◌≡◌, ◌↔◌, [], false, length, IsTrue, OnOk, OnErr, option_copied, MatchResult};
+ghost use Rattle.std.specs.Ordering.{is_lt};
 ghost use Rattle.std.specs.Cmp.Lexicographic.{pointwise, lists_per};
 ghost use Rattle.std.proofs.lemmas.Cmp.{lists_equiv};
 ghost use Rattle.wm_desc.specs.Sorted.{IsSortedOnce, with_key, has_key, added, removed};
@@ -45,6 +46,32 @@ impl<E: Keyed> SortedList<E> {
         SortedList {
             items: Vec::new(alloc),
         }
+    }
+
+    /// Whether elements stand in ascending order of their keys, each key once.
+    pub fn is_sorted(items: &[E]) -> bool
+        ensures { IsTrue result ↔ IsSortedOnce E.key E.By.cmp items.now }
+    {
+        items.is_sorted_by(
+            |a: &E, b: &E| -> bool
+                ensures { result ≡ is_lt (E.By.cmp (E.key a.now) (E.key b.now)) }
+            { a.key().cmp(b.key()).is_lt() },
+        )
+    }
+
+    /// The list of these elements.
+    pub fn from_vec(items: Vec<E>) -> SortedList<E>
+        requires { IsSortedOnce E.key E.By.cmp items.items }
+        ensures { result ≡ items.items }
+    {
+        SortedList { items }
+    }
+
+    pub fn into_vec(self) -> Vec<E>
+        ensures value { result.items ≡ self }
+        ensures sorted { IsSortedOnce E.key E.By.cmp self }
+    {
+        self.items
     }
 
     pub fn as_slice(&self) -> &[E]
@@ -112,9 +139,11 @@ impl<E: Keyed> SortedList<E> {
     pub(crate) fn search(&self, key: &E::By) -> Result<usize, usize>
         ensures { MatchResult result (IsAt E.key E.By.cmp key.now self.now) (IsGap E.key E.By.cmp key.now self.now) }
     {
-        self.items.binary_search_by(|e: &E| -> Ordering
-            ensures { result ≡ E.By.cmp (E.key e.now) key.entry.now }
-        { e.key().cmp(key) })
+        self.items.binary_search_by(
+            |e: &E| -> Ordering
+                ensures { result ≡ E.By.cmp (E.key e.now) key.entry.now }
+            { e.key().cmp(key) },
+        )
     }
 }
 
