@@ -25,6 +25,8 @@ fn text(alloc: Global, bytes: &str) -> Result<Text, Fail> {
     Ok(Text::from_bytes(alloc, bytes.as_bytes())?)
 }
 
+type Answer = Result<(), DescFault>;
+
 const CLASS: Class = Class {
     runpty: 50,
     timeslice: 2000,
@@ -91,194 +93,215 @@ fn pre(
     }
 }
 
-// One object of each kind by the name A, a queue B, and the subsystem descriptions B and FULL.
-fn objects(alloc: Global) -> Result<Objects, Fail> {
-    let path = text(alloc, "/bin/echo")?;
-    let described = jobd(alloc)?;
-    if !path_in_range(&path) || !described.is_in_range() {
-        return Err("out of range")?;
-    }
-    let mut objects = Objects::new(alloc);
-    objects.add_class(qgpl("A")?, CLASS)?;
-    objects.add_jobq(qgpl("A")?)?;
-    objects.add_jobq(qgpl("B")?)?;
-    objects.add_program(qgpl("A")?, path)?;
-    objects.add_jobd(qgpl("A")?, described)?;
-    for name in ["A", "B", "FULL"] {
-        objects.add_sbsd(alloc, qgpl(name)?, Limit::NoMax)?;
-    }
-    Ok(objects)
+fn add_class(objects: &mut Objects, name: &QName) -> Answer {
+    objects.add_class(*name, CLASS)
 }
 
-fn answer(refusal: Option<Refusal>) -> Result<(), DescFault> {
-    refusal.map_or(Ok(()), |refusal| Err(DescFault::No(refusal)))
+fn add_program(objects: &mut Objects, alloc: Global, name: &QName) -> Result<Answer, Fail> {
+    let path = text(alloc, "/bin/echo")?;
+    if !path_in_range(&path) {
+        return Err("out of range")?;
+    }
+    Ok(objects.add_program(*name, path))
+}
+
+fn add_jobd(objects: &mut Objects, alloc: Global, name: &QName) -> Result<Answer, Fail> {
+    let jobd = jobd(alloc)?;
+    if !jobd.is_in_range() {
+        return Err("out of range")?;
+    }
+    Ok(objects.add_jobd(*name, jobd))
+}
+
+fn add_sbsd(objects: &mut Objects, alloc: Global, name: &QName) -> Answer {
+    objects.add_sbsd(alloc, *name, Limit::NoMax)
+}
+
+fn add_queue(objects: &mut Objects, sbsd: &str, seq: u32, jobq: &QName) -> Result<Answer, Fail> {
+    let entry = queue(seq, *jobq);
+    if !entry.is_in_range() {
+        return Err("out of range")?;
+    }
+    Ok(objects.add_queue(&qgpl(sbsd)?, entry))
+}
+
+fn add_route(objects: &mut Objects, sbsd: &str, entry: RouteEntry) -> Result<Answer, Fail> {
+    if !entry.is_in_range() {
+        return Err("out of range")?;
+    }
+    Ok(objects.add_route(&qgpl(sbsd)?, entry))
+}
+
+fn add_auto(objects: &mut Objects, sbsd: &str, job: &Name, jobd: &str) -> Result<Answer, Fail> {
+    let entry = AutoEntry {
+        job: *job,
+        jobd: qgpl(jobd)?,
+    };
+    Ok(objects.add_auto(&qgpl(sbsd)?, entry))
+}
+
+fn add_pre(objects: &mut Objects, sbsd: &str, entry: PreEntry) -> Result<Answer, Fail> {
+    if !entry.is_in_range() {
+        return Err("out of range")?;
+    }
+    Ok(objects.add_pre(&qgpl(sbsd)?, entry))
+}
+
+// One object of each kind by the name A, a queue B, and the subsystem descriptions B and FULL.
+fn objects(alloc: Global) -> Result<Objects, Fail> {
+    let mut objects = Objects::new(alloc);
+    let a = qgpl("A")?;
+    add_class(&mut objects, &a)?;
+    objects.add_jobq(a)?;
+    objects.add_jobq(qgpl("B")?)?;
+    add_program(&mut objects, alloc, &a)??;
+    add_jobd(&mut objects, alloc, &a)??;
+    add_sbsd(&mut objects, alloc, &a)?;
+    add_sbsd(&mut objects, alloc, &qgpl("B")?)?;
+    add_sbsd(&mut objects, alloc, &qgpl("FULL")?)?;
+    Ok(objects)
 }
 
 fn numbered(alloc: Global, number: u32) -> Result<QName, Fail> {
     Ok(qgpl(format!(in alloc; "J{number}")?.as_str())?)
 }
 
+const fn no(refusal: Refusal) -> Answer {
+    Err(DescFault::No(refusal))
+}
+
+// The answers of the five calls that make an object.
+fn make_each(objects: &mut Objects, alloc: Global, name: &QName) -> Result<[Answer; 5], Fail> {
+    Ok([
+        add_class(objects, name),
+        objects.add_jobq(*name),
+        add_program(objects, alloc, name)?,
+        add_jobd(objects, alloc, name)?,
+        add_sbsd(objects, alloc, name),
+    ])
+}
+
 #[test]
 fn each_kind_has_a_name_once_and_a_thousand_objects(rt: HostRuntime) -> Result<(), Fail> {
     let mut objects = Objects::new(rt.alloc());
-    for number in 0..1002 {
-        // The 1,001st is the first again: that its name is used goes before the limit.
-        let refusal = |kind| match number {
-            1000 => Some(Refusal::Exists(kind)),
-            1001 => Some(Refusal::TableFull(kind, 1000)),
-            _ => None,
-        };
-        let name = numbered(rt.alloc(), number % 1000 + number / 1001 * 1001)?;
-        let path = text(rt.alloc(), "/bin/echo")?;
-        let described = jobd(rt.alloc())?;
-        assert!(rt; path_in_range(&path) && described.is_in_range());
-        assert_eq!(rt;
-            objects.add_class(name, CLASS),
-            answer(refusal(Kind::Cls)),
-            "{number}"
-        );
-        assert_eq!(rt;
-            objects.add_jobq(name),
-            answer(refusal(Kind::Jobq)),
-            "{number}"
-        );
-        assert_eq!(rt;
-            objects.add_program(name, path),
-            answer(refusal(Kind::Pgm)),
-            "{number}"
-        );
-        assert_eq!(rt;
-            objects.add_jobd(name, described),
-            answer(refusal(Kind::Jobd)),
-            "{number}"
-        );
-        assert_eq!(rt;
-            objects.add_sbsd(rt.alloc(), name, Limit::NoMax),
-            answer(refusal(Kind::Sbsd)),
-            "{number}"
-        );
+    for number in 0..1000 {
+        let name = numbered(rt.alloc(), number)?;
+        assert_eq!(rt; make_each(&mut objects, rt.alloc(), &name)?, [Ok(()); 5]);
     }
+    let kinds = [Kind::Cls, Kind::Jobq, Kind::Pgm, Kind::Jobd, Kind::Sbsd];
+    // That a name is used goes before the limit.
+    let again = make_each(&mut objects, rt.alloc(), &numbered(rt.alloc(), 7)?)?;
+    assert_eq!(rt; again, kinds.map(|kind| no(Refusal::Exists(kind))));
+    let more = make_each(&mut objects, rt.alloc(), &numbered(rt.alloc(), 1000)?)?;
+    assert_eq!(rt; more, kinds.map(|kind| no(Refusal::TableFull(kind, 1000))));
     Ok(())
 }
 
 #[test]
 fn qcmd_cannot_be_made_a_program(rt: HostRuntime) -> Result<(), Fail> {
-    let mut objects = objects(rt.alloc())?;
-    let path = text(rt.alloc(), "/bin/echo")?;
-    assert!(rt; path_in_range(&path));
-    assert_eq!(rt;
-        objects.add_program(qcmd()?, path),
-        answer(Some(Refusal::Exists(Kind::Pgm)))
-    );
+    let mut objects = Objects::new(rt.alloc());
+    let answer = add_program(&mut objects, rt.alloc(), &qcmd()?)?;
+    assert_eq!(rt; answer, no(Refusal::Exists(Kind::Pgm)));
+    Ok(())
+}
+
+fn fill_queues(objects: &mut Objects, alloc: Global) -> Result<(), Fail> {
+    for number in 1..101 {
+        let jobq = numbered(alloc, number)?;
+        objects.add_jobq(jobq)?;
+        add_queue(objects, "FULL", number, &jobq)??;
+    }
     Ok(())
 }
 
 #[test]
 fn a_queue_entry_is_added_or_refused(rt: HostRuntime) -> Result<(), Fail> {
     let mut objects = objects(rt.alloc())?;
-    for number in 1..100 {
-        objects.add_jobq(numbered(rt.alloc(), number)?)?;
-    }
-    for number in 1..101 {
-        let jobq = if number == 100 {
-            qgpl("A")?
-        } else {
-            numbered(rt.alloc(), number)?
-        };
-        let entry = queue(number, jobq);
-        assert!(rt; entry.is_in_range());
-        assert_eq!(rt;
-            objects.add_queue(&qgpl("FULL")?, entry),
-            answer(None),
-            "{number}"
-        );
-    }
+    fill_queues(&mut objects, rt.alloc())?;
     for (sbsd, seq, jobq, expected) in [
-        ("A", 20, "A", None),
-        ("NONE", 20, "NONE", Some(Refusal::NoObject(Kind::Sbsd))),
-        ("A", 20, "NONE", Some(Refusal::NoObject(Kind::Jobq))),
-        ("A", 20, "A", Some(Refusal::Exists(Kind::Jobqe))),
-        ("A", 20, "B", Some(Refusal::SeqUsed)),
-        ("A", 10, "B", None),
-        ("FULL", 20, "B", Some(Refusal::SeqUsed)),
-        ("FULL", 500, "B", Some(Refusal::TableFull(Kind::Jobqe, 100))),
+        ("A", 20, "A", Ok(())),
+        ("NONE", 20, "NONE", no(Refusal::NoObject(Kind::Sbsd))),
+        ("A", 20, "NONE", no(Refusal::NoObject(Kind::Jobq))),
+        ("A", 20, "A", no(Refusal::Exists(Kind::Jobqe))),
+        ("A", 20, "B", no(Refusal::SeqUsed)),
+        ("A", 10, "B", Ok(())),
+        ("FULL", 20, "B", no(Refusal::SeqUsed)),
+        ("FULL", 500, "B", no(Refusal::TableFull(Kind::Jobqe, 100))),
     ] {
-        let entry = queue(seq, qgpl(jobq)?);
-        assert!(rt; entry.is_in_range());
-        assert_eq!(rt;
-            objects.add_queue(&qgpl(sbsd)?, entry),
-            answer(expected),
-            "{sbsd} {seq} {jobq}"
-        );
+        let answer = add_queue(&mut objects, sbsd, seq, &qgpl(jobq)?)?;
+        assert_eq!(rt; answer, expected, "{sbsd} {seq} {jobq}");
     }
-    let description = objects.sbsds.object(&qgpl("A")?).ok_or("no description")?;
-    let added = [queue(10, qgpl("B")?), queue(20, qgpl("A")?)];
-    assert_eq!(rt; description.queues.as_slice(), added.as_slice());
+    Ok(())
+}
+
+#[test]
+fn entries_stand_by_sequence_number(rt: HostRuntime) -> Result<(), Fail> {
+    let mut objects = objects(rt.alloc())?;
+    let (a, b) = (qgpl("A")?, qgpl("B")?);
+    add_queue(&mut objects, "A", 20, &a)??;
+    add_queue(&mut objects, "A", 10, &b)??;
+    let description = objects.sbsds.object(&a).ok_or("no description")?;
+    assert_eq!(rt;
+        description.queues.as_slice(),
+        [queue(10, b), queue(20, a)].as_slice()
+    );
+    Ok(())
+}
+
+fn fill_routes(objects: &mut Objects, alloc: Global) -> Result<(), Fail> {
+    for number in 2..1001 {
+        let entry = route(number, cmp(alloc, "A")?, qcmd()?, qgpl("A")?);
+        add_route(objects, "FULL", entry)??;
+    }
     Ok(())
 }
 
 #[test]
 fn a_routing_entry_is_added_or_refused(rt: HostRuntime) -> Result<(), Fail> {
     let mut objects = objects(rt.alloc())?;
-    for number in 2..1001 {
-        let entry = route(number, cmp(rt.alloc(), "A")?, qcmd()?, qgpl("A")?);
-        assert!(rt; entry.is_in_range());
-        assert_eq!(rt;
-            objects.add_route(&qgpl("FULL")?, entry),
-            answer(None),
-            "{number}"
-        );
-    }
+    fill_routes(&mut objects, rt.alloc())?;
+    let (a, none) = (qgpl("A")?, qgpl("NONE")?);
     for (sbsd, seq, value, pgm, cls, expected) in [
-        ("A", 9999, "*ANY", "QCMD", "A", None),
-        ("A", 9999, "A", "A", "A", Some(Refusal::SeqUsed)),
-        ("B", 100, "*ANY", "A", "A", None),
-        ("B", 200, "A", "A", "A", Some(Refusal::AnyNotLast)),
-        ("B", 50, "A", "A", "A", None),
-        ("B", 40, "*ANY", "A", "A", Some(Refusal::AnyNotLast)),
-        (
-            "NONE",
-            50,
-            "A",
-            "NONE",
-            "A",
-            Some(Refusal::NoObject(Kind::Sbsd)),
-        ),
+        ("A", 9999, "*ANY", qcmd()?, a, Ok(())),
+        ("A", 9999, "A", a, a, no(Refusal::SeqUsed)),
+        ("B", 100, "*ANY", a, a, Ok(())),
+        ("B", 200, "A", a, a, no(Refusal::AnyNotLast)),
+        ("B", 50, "A", a, a, Ok(())),
+        ("B", 40, "*ANY", a, a, no(Refusal::AnyNotLast)),
+        ("NONE", 50, "A", none, a, no(Refusal::NoObject(Kind::Sbsd))),
+        ("B", 50, "A", none, none, no(Refusal::NoObject(Kind::Pgm))),
         (
             "B",
             50,
             "A",
-            "NONE",
-            "NONE",
-            Some(Refusal::NoObject(Kind::Pgm)),
+            qcmd()?,
+            none,
+            no(Refusal::NoObject(Kind::Cls)),
         ),
-        (
-            "B",
-            50,
-            "A",
-            "QCMD",
-            "NONE",
-            Some(Refusal::NoObject(Kind::Cls)),
-        ),
-        ("B", 50, "*ANY", "A", "A", Some(Refusal::SeqUsed)),
-        ("FULL", 1, "*ANY", "A", "A", Some(Refusal::AnyNotLast)),
+        ("B", 50, "*ANY", a, a, no(Refusal::SeqUsed)),
+        ("FULL", 1, "*ANY", a, a, no(Refusal::AnyNotLast)),
         (
             "FULL",
             1,
             "A",
-            "A",
-            "A",
-            Some(Refusal::TableFull(Kind::Rtge, 999)),
+            a,
+            a,
+            no(Refusal::TableFull(Kind::Rtge, 999)),
         ),
     ] {
-        let pgm = if pgm == "QCMD" { qcmd()? } else { qgpl(pgm)? };
-        let entry = route(seq, cmp(rt.alloc(), value)?, pgm, qgpl(cls)?);
-        assert!(rt; entry.is_in_range());
+        let entry = route(seq, cmp(rt.alloc(), value)?, pgm, cls);
         assert_eq!(rt;
-            objects.add_route(&qgpl(sbsd)?, entry),
-            answer(expected),
+            add_route(&mut objects, sbsd, entry)?,
+            expected,
             "{sbsd} {seq} {value}"
         );
+    }
+    Ok(())
+}
+
+fn fill_autos(objects: &mut Objects, alloc: Global) -> Result<(), Fail> {
+    for number in 1..101 {
+        add_auto(objects, "FULL", &numbered(alloc, number)?.name, "A")??;
     }
     Ok(())
 }
@@ -286,34 +309,26 @@ fn a_routing_entry_is_added_or_refused(rt: HostRuntime) -> Result<(), Fail> {
 #[test]
 fn an_autostart_entry_is_added_or_refused(rt: HostRuntime) -> Result<(), Fail> {
     let mut objects = objects(rt.alloc())?;
-    for number in 1..101 {
-        let entry = AutoEntry {
-            job: numbered(rt.alloc(), number)?.name,
-            jobd: qgpl("A")?,
-        };
-        assert_eq!(rt;
-            objects.add_auto(&qgpl("FULL")?, entry),
-            answer(None),
-            "{number}"
-        );
-    }
+    fill_autos(&mut objects, rt.alloc())?;
     for (sbsd, job, jobd, expected) in [
-        ("A", "J1", "A", None),
-        ("NONE", "J1", "NONE", Some(Refusal::NoObject(Kind::Sbsd))),
-        ("A", "J1", "NONE", Some(Refusal::NoObject(Kind::Jobd))),
-        ("A", "J1", "A", Some(Refusal::Exists(Kind::Aje))),
-        ("FULL", "J1", "A", Some(Refusal::Exists(Kind::Aje))),
-        ("FULL", "X", "A", Some(Refusal::TableFull(Kind::Aje, 100))),
+        ("A", "J1", "A", Ok(())),
+        ("NONE", "J1", "NONE", no(Refusal::NoObject(Kind::Sbsd))),
+        ("A", "J1", "NONE", no(Refusal::NoObject(Kind::Jobd))),
+        ("FULL", "J1", "A", no(Refusal::Exists(Kind::Aje))),
+        ("FULL", "X", "A", no(Refusal::TableFull(Kind::Aje, 100))),
     ] {
-        let entry = AutoEntry {
-            job: qgpl(job)?.name,
-            jobd: qgpl(jobd)?,
-        };
-        assert_eq!(rt;
-            objects.add_auto(&qgpl(sbsd)?, entry),
-            answer(expected),
-            "{sbsd} {job}"
-        );
+        let answer = add_auto(&mut objects, sbsd, &qgpl(job)?.name, jobd)?;
+        assert_eq!(rt; answer, expected, "{sbsd} {job}");
+    }
+    Ok(())
+}
+
+fn fill_pres(objects: &mut Objects, alloc: Global) -> Result<(), Fail> {
+    for number in 1..101 {
+        let pgm = numbered(alloc, number)?;
+        add_program(objects, alloc, &pgm)??;
+        let entry = pre(pgm, qgpl("A")?, [3, 2, 2], Limit::NoMax);
+        add_pre(objects, "FULL", entry)??;
     }
     Ok(())
 }
@@ -321,96 +336,95 @@ fn an_autostart_entry_is_added_or_refused(rt: HostRuntime) -> Result<(), Fail> {
 #[test]
 fn a_prestart_entry_is_added_or_refused(rt: HostRuntime) -> Result<(), Fail> {
     let mut objects = objects(rt.alloc())?;
-    for number in 1..101 {
-        let pgm = numbered(rt.alloc(), number)?;
-        let path = text(rt.alloc(), "/bin/echo")?;
-        assert!(rt; path_in_range(&path));
-        objects.add_program(pgm, path)?;
-        let entry = pre(pgm, qgpl("A")?, [3, 2, 2], Limit::NoMax);
-        assert!(rt; entry.is_in_range());
-        assert_eq!(rt;
-            objects.add_pre(&qgpl("FULL")?, entry),
-            answer(None),
-            "{number}"
-        );
-    }
+    fill_pres(&mut objects, rt.alloc())?;
+    let (three, four) = (Limit::Most(3), Limit::Most(4));
     for (sbsd, pgm, cls, numbers, maxjobs, expected) in [
-        ("A", "A", "A", [3, 2, 2], Limit::Most(4), None),
+        ("A", "A", "A", [3, 2, 2], four, Ok(())),
         (
             "NONE",
             "NONE",
             "A",
             [3, 2, 2],
-            Limit::NoMax,
-            Some(Refusal::NoObject(Kind::Sbsd)),
+            four,
+            no(Refusal::NoObject(Kind::Sbsd)),
         ),
         (
             "A",
             "NONE",
             "NONE",
             [3, 2, 2],
-            Limit::NoMax,
-            Some(Refusal::NoObject(Kind::Pgm)),
+            four,
+            no(Refusal::NoObject(Kind::Pgm)),
         ),
         (
             "A",
             "A",
             "NONE",
             [3, 2, 2],
-            Limit::NoMax,
-            Some(Refusal::NoObject(Kind::Cls)),
+            four,
+            no(Refusal::NoObject(Kind::Cls)),
         ),
         (
             "A",
             "A",
             "A",
             [3, 4, 2],
-            Limit::NoMax,
-            Some(Refusal::Exists(Kind::Pje)),
+            four,
+            no(Refusal::Exists(Kind::Pje)),
         ),
         (
             "A",
             "J1",
             "A",
-            [3, 4, 2],
-            Limit::Most(2),
-            Some(Refusal::BadRelation(Key::Threshold, Key::Inljobs)),
+            [4, 5, 2],
+            three,
+            no(Refusal::BadRelation(Key::Threshold, Key::Inljobs)),
         ),
         (
             "A",
             "J1",
             "A",
-            [3, 3, 2],
-            Limit::Most(2),
-            Some(Refusal::BadRelation(Key::Inljobs, Key::Maxjobs)),
+            [4, 4, 3],
+            three,
+            no(Refusal::BadRelation(Key::Inljobs, Key::Maxjobs)),
         ),
         (
             "FULL",
             "A",
             "A",
             [3, 3, 3],
-            Limit::Most(3),
-            Some(Refusal::BadRelation(Key::Adljobs, Key::Maxjobs)),
+            three,
+            no(Refusal::BadRelation(Key::Adljobs, Key::Maxjobs)),
         ),
         (
             "FULL",
             "A",
             "A",
             [3, 3, 2],
-            Limit::Most(3),
-            Some(Refusal::TableFull(Kind::Pje, 100)),
+            three,
+            no(Refusal::TableFull(Kind::Pje, 100)),
         ),
-        ("A", "J1", "A", [3, 3, 2], Limit::Most(3), None),
     ] {
         let entry = pre(qgpl(pgm)?, qgpl(cls)?, numbers, maxjobs);
-        assert!(rt; entry.is_in_range());
         assert_eq!(rt;
-            objects.add_pre(&qgpl(sbsd)?, entry),
-            answer(expected),
+            add_pre(&mut objects, sbsd, entry)?,
+            expected,
             "{sbsd} {pgm} {numbers:?}"
         );
     }
     Ok(())
+}
+
+// The answers of the four calls that remove an entry.
+fn remove_each(objects: &mut Objects, sbsd: &str) -> Result<[Result<(), Refusal>; 4], Fail> {
+    let sbsd = qgpl(sbsd)?;
+    let a = qgpl("A")?;
+    Ok([
+        objects.remove_queue(&sbsd, &a),
+        objects.remove_route(&sbsd, 10),
+        objects.remove_auto(&sbsd, &a.name),
+        objects.remove_pre(&sbsd, &a),
+    ])
 }
 
 #[test]
@@ -418,45 +432,20 @@ fn an_entry_is_removed_once(rt: HostRuntime) -> Result<(), Fail> {
     let mut objects = objects(rt.alloc())?;
     let a = qgpl("A")?;
     let b = qgpl("B")?;
-    let queues = [queue(10, a), queue(20, b)];
-    let routing = route(10, Cmp::Any, a, a);
-    let prestart = pre(a, a, [3, 2, 2], Limit::NoMax);
-    assert!(rt; queues[0].is_in_range() && queues[1].is_in_range());
-    assert!(rt; routing.is_in_range() && prestart.is_in_range());
-    objects.add_queue(&a, queues[0])?;
-    objects.add_queue(&a, queues[1])?;
-    objects.add_route(&a, routing)?;
-    objects.add_auto(
-        &a,
-        AutoEntry {
-            job: a.name,
-            jobd: a,
-        },
-    )?;
-    objects.add_pre(&a, prestart)?;
-    for (sbsd, expected) in [
-        (
-            "NONE",
-            [Kind::Sbsd; 4].map(|kind| Err(Refusal::NoObject(kind))),
-        ),
-        ("A", [Ok(()); 4]),
-        (
-            "A",
-            [Kind::Jobqe, Kind::Rtge, Kind::Aje, Kind::Pje].map(|kind| Err(Refusal::NoObject(
-                kind,
-            ))),
-        ),
-    ] {
-        let sbsd = qgpl(sbsd)?;
-        let answers = [
-            objects.remove_queue(&sbsd, &a),
-            objects.remove_route(&sbsd, 10),
-            objects.remove_auto(&sbsd, &a.name),
-            objects.remove_pre(&sbsd, &a),
-        ];
-        assert_eq!(rt; answers, expected);
-    }
+    add_queue(&mut objects, "A", 10, &a)??;
+    add_queue(&mut objects, "A", 20, &b)??;
+    add_route(&mut objects, "A", route(10, Cmp::Any, a, a))??;
+    add_auto(&mut objects, "A", &a.name, "A")??;
+    add_pre(&mut objects, "A", pre(a, a, [3, 2, 2], Limit::NoMax))??;
+    let missing = [Kind::Jobqe, Kind::Rtge, Kind::Aje, Kind::Pje];
+    let undescribed = [Err(Refusal::NoObject(Kind::Sbsd)); 4];
+    assert_eq!(rt; remove_each(&mut objects, "NONE")?, undescribed);
+    assert_eq!(rt; remove_each(&mut objects, "A")?, [Ok(()); 4]);
+    assert_eq!(rt;
+        remove_each(&mut objects, "A")?,
+        missing.map(|kind| Err(Refusal::NoObject(kind)))
+    );
     let description = objects.sbsds.object(&a).ok_or("no description")?;
-    assert_eq!(rt; description.queues.as_slice(), &queues[1..]);
+    assert_eq!(rt; description.queues.as_slice(), [queue(20, b)].as_slice());
     Ok(())
 }
