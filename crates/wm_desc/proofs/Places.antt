@@ -1,5 +1,5 @@
 -- What a place in a list says of a count, a search and a filter.
-use Rattle.std.proofs.Common.{◌≡◌, ℕ, zero, suc, ◌+◌, ◌<◌, ◌≤◌, Bool, true, false, not, cond, List, [], ◌∷◌, ◌++◌, length, get_or, set, map, take, drop, Some, None, is_some, ◌||◌, refl, ap, ◌∙◌, subst, arith}
+use Rattle.std.proofs.Common.{◌≡◌, ℕ, zero, suc, ◌<◌, ◌≤◌, Bool, true, false, not, cond, List, [], ◌∷◌, length, get_or, set, map, Some, None, is_some, ◌||◌, refl, ap, ◌∙◌, subst, arith}
 use Rattle.std.specs.List.{AllWithin, HoldsAt, count_by, find, filter, remove, list_any, items_where_true}
 use Rattle.std.specs.List.Retain.{ReturnsInTurn, IsFiltered}
 use Rattle.std.proofs.lemmas.List.Sums.{sum_by-cons}

@@ -1,7 +1,7 @@
 -- What a search in a table of objects finds, and what a refusal that doesn't come says.
-use Rattle.std.proofs.Common.{◌≡◌, ℕ, Bool, zero, suc, true, false, List, [], ◌∷◌, get_or, set, sym, Option, Some, None, option_map, IsSome, inl, inr, ◌<◌, length, get_or-set_same, get_or-set_other, length-set, refl, ap, ◌∙◌, arith}
+use Rattle.std.proofs.Common.{◌≡◌, ℕ, Bool, zero, suc, true, false, List, [], ◌∷◌, get_or, set, sym, Option, Some, None, option_map, inl, inr, ◌<◌, length, get_or-set_same, get_or-set_other, length-set, refl, ap, ◌∙◌, arith}
 use Rattle.std.specs.declared.cmp.Ordering.{Ordering}
-use Rattle.std.specs.declared.cmp.Ordering.TheVariants.{Less, Equal, Greater}
+use Rattle.std.specs.declared.cmp.Ordering.TheVariants.{Less, Greater}
 use Rattle.std.specs.Cmp.{IsTotalOrder, both_tied}
 use Rattle.std.specs.Cmp.Lexicographic.{texts_ties}
 use Rattle.std.specs.Ordering.{is_eq}

@@ -5,7 +5,7 @@ ghost use Rattle.std.proofs.Common.{rules};
 use crate::{AutoEntry, Jobd, Jobq, PreEntry, Program, QueueEntry, RouteEntry, Sbsd};
 use wm_base::{Class, QName};
 
-/// What a clone of a value is: the same value.
+/// Of such a type each clone is equal to its source, so a list of its values is cloned exactly.
 pub trait ExactClone: Clone {
     ghost exact: { (value copy : Self) → Self.is_clone value copy → copy ≡ value };
 }

@@ -1,4 +1,9 @@
-//! Descriptions.
+//! The objects (classes, job queues, programs, job descriptions, subsystem descriptions) and what may be added to them.
+//!
+//! The contract for the layer above: each `add_` and `remove_` call of `Objects` answers the first refusal of its
+//! command that applies, exactly where one does, and else leaves the objects with, or without, that one thing.
+//! The definitions are in `specs/`: `Sorted` and `Table` have lists by key, `Ranges` the values that are taken,
+//! `Refusals` the tests of each command in their order, and `Objects` what the objects are afterwards.
 #![tactic(auto)]
 
 mod description;

@@ -11,8 +11,9 @@ use std::alloc::{AllocError, Global};
 use std::cmp::Ordering;
 use std::marker::Model;
 
-/// What has a key that a list is sorted by.
+/// What a sorted list may have as its elements.
 pub trait Keyed {
+    /// What the list is sorted by.
     type By: Ord;
 
     ghost key: { Self → Self.By };
@@ -21,7 +22,8 @@ pub trait Keyed {
         ensures { result.now ≡ key self.now };
 }
 
-/// A list in ascending order of its elements' keys, with each key once.
+/// A list in ascending order of its elements' keys, with each key once. A contract sees it as the plain list.
+/// A look-up by key halves the list at each step.
 #[derive(Debug, Drop)]
 pub struct SortedList<E: Keyed> {
     pub(crate) items: Vec<E>,
@@ -109,7 +111,7 @@ impl<E: Keyed> SortedList<E> {
         self.search(key).is_ok()
     }
 
-    /// Adds an element in its place.
+    /// Adds an element in its place. No element may have its key, which `contains` tells.
     pub fn insert(&mut self, element: E) -> Result<(), AllocError>
     where
         E: Drop,

@@ -73,19 +73,15 @@ fn route(seq: u32, cmp: Cmp, pgm: QName, cls: QName) -> RouteEntry {
     }
 }
 
-fn pre(
-    pgm: QName,
-    cls: QName,
-    [inljobs, threshold, adljobs]: [u32; 3],
-    maxjobs: Limit,
-) -> PreEntry {
+// The numbers are INLJOBS, THRESHOLD, ADLJOBS and MAXJOBS.
+fn pre(pgm: QName, cls: QName, numbers: &[u32; 4]) -> PreEntry {
     PreEntry {
         pgm,
         strjobs: true,
-        inljobs,
-        threshold,
-        adljobs,
-        maxjobs,
+        inljobs: numbers[0],
+        threshold: numbers[1],
+        adljobs: numbers[2],
+        maxjobs: Limit::Most(numbers[3]),
         maxuse: Limit::Most(200),
         wait: true,
         cls,
@@ -147,62 +143,30 @@ fn add_pre(objects: &mut Objects, sbsd: &str, entry: PreEntry) -> Result<Answer,
     Ok(objects.add_pre(&qgpl(sbsd)?, entry))
 }
 
+fn answer(refusal: &Option<Refusal>) -> Answer {
+    match refusal {
+        None => Ok(()),
+        Some(refusal) => Err(DescFault::No(*refusal)),
+    }
+}
+
 // One object of each kind by the name A, a queue B, and the subsystem descriptions B and FULL.
-fn objects(alloc: Global) -> Result<Objects, Fail> {
-    let mut objects = Objects::new(alloc);
+fn make_objects(objects: &mut Objects, alloc: Global) -> Result<(), Fail> {
     let a = qgpl("A")?;
-    add_class(&mut objects, &a)?;
+    let b = qgpl("B")?;
+    add_class(objects, &a)?;
     objects.add_jobq(a)?;
-    objects.add_jobq(qgpl("B")?)?;
-    add_program(&mut objects, alloc, &a)??;
-    add_jobd(&mut objects, alloc, &a)??;
-    add_sbsd(&mut objects, alloc, &a)?;
-    add_sbsd(&mut objects, alloc, &qgpl("B")?)?;
-    add_sbsd(&mut objects, alloc, &qgpl("FULL")?)?;
-    Ok(objects)
+    objects.add_jobq(b)?;
+    add_program(objects, alloc, &a)??;
+    add_jobd(objects, alloc, &a)??;
+    add_sbsd(objects, alloc, &a)?;
+    add_sbsd(objects, alloc, &b)?;
+    add_sbsd(objects, alloc, &qgpl("FULL")?)?;
+    Ok(())
 }
 
 fn numbered(alloc: Global, number: u32) -> Result<QName, Fail> {
     Ok(qgpl(format!(in alloc; "J{number}")?.as_str())?)
-}
-
-const fn no(refusal: Refusal) -> Answer {
-    Err(DescFault::No(refusal))
-}
-
-// The answers of the five calls that make an object.
-fn make_each(objects: &mut Objects, alloc: Global, name: &QName) -> Result<[Answer; 5], Fail> {
-    Ok([
-        add_class(objects, name),
-        objects.add_jobq(*name),
-        add_program(objects, alloc, name)?,
-        add_jobd(objects, alloc, name)?,
-        add_sbsd(objects, alloc, name),
-    ])
-}
-
-#[test]
-fn each_kind_has_a_name_once_and_a_thousand_objects(rt: HostRuntime) -> Result<(), Fail> {
-    let mut objects = Objects::new(rt.alloc());
-    for number in 0..1000 {
-        let name = numbered(rt.alloc(), number)?;
-        assert_eq!(rt; make_each(&mut objects, rt.alloc(), &name)?, [Ok(()); 5]);
-    }
-    let kinds = [Kind::Cls, Kind::Jobq, Kind::Pgm, Kind::Jobd, Kind::Sbsd];
-    // That a name is used goes before the limit.
-    let again = make_each(&mut objects, rt.alloc(), &numbered(rt.alloc(), 7)?)?;
-    assert_eq!(rt; again, kinds.map(|kind| no(Refusal::Exists(kind))));
-    let more = make_each(&mut objects, rt.alloc(), &numbered(rt.alloc(), 1000)?)?;
-    assert_eq!(rt; more, kinds.map(|kind| no(Refusal::TableFull(kind, 1000))));
-    Ok(())
-}
-
-#[test]
-fn qcmd_cannot_be_made_a_program(rt: HostRuntime) -> Result<(), Fail> {
-    let mut objects = Objects::new(rt.alloc());
-    let answer = add_program(&mut objects, rt.alloc(), &qcmd()?)?;
-    assert_eq!(rt; answer, no(Refusal::Exists(Kind::Pgm)));
-    Ok(())
 }
 
 fn fill_queues(objects: &mut Objects, alloc: Global) -> Result<(), Fail> {
@@ -214,238 +178,313 @@ fn fill_queues(objects: &mut Objects, alloc: Global) -> Result<(), Fail> {
     Ok(())
 }
 
+static QUEUES: [(&str, u32, &str, Option<Refusal>); 8] = [
+    ("A", 20, "A", None),
+    ("NONE", 20, "NONE", Some(Refusal::NoObject(Kind::Sbsd))),
+    ("A", 20, "NONE", Some(Refusal::NoObject(Kind::Jobq))),
+    ("A", 20, "A", Some(Refusal::Exists(Kind::Jobqe))),
+    ("A", 20, "B", Some(Refusal::SeqUsed)),
+    ("A", 10, "B", None),
+    ("FULL", 20, "B", Some(Refusal::SeqUsed)),
+    ("FULL", 500, "B", Some(Refusal::TableFull(Kind::Jobqe, 100))),
+];
+
 #[test]
 fn a_queue_entry_is_added_or_refused(rt: HostRuntime) -> Result<(), Fail> {
-    let mut objects = objects(rt.alloc())?;
+    let mut objects = Objects::new(rt.alloc());
+    make_objects(&mut objects, rt.alloc())?;
     fill_queues(&mut objects, rt.alloc())?;
-    for (sbsd, seq, jobq, expected) in [
-        ("A", 20, "A", Ok(())),
-        ("NONE", 20, "NONE", no(Refusal::NoObject(Kind::Sbsd))),
-        ("A", 20, "NONE", no(Refusal::NoObject(Kind::Jobq))),
-        ("A", 20, "A", no(Refusal::Exists(Kind::Jobqe))),
-        ("A", 20, "B", no(Refusal::SeqUsed)),
-        ("A", 10, "B", Ok(())),
-        ("FULL", 20, "B", no(Refusal::SeqUsed)),
-        ("FULL", 500, "B", no(Refusal::TableFull(Kind::Jobqe, 100))),
-    ] {
-        let answer = add_queue(&mut objects, sbsd, seq, &qgpl(jobq)?)?;
-        assert_eq!(rt; answer, expected, "{sbsd} {seq} {jobq}");
+    for (sbsd, seq, jobq, expected) in &QUEUES {
+        let added = add_queue(&mut objects, sbsd, *seq, &qgpl(jobq)?)?;
+        assert_eq!(rt; added, answer(expected), "{sbsd} {seq} {jobq}");
     }
     Ok(())
 }
 
 #[test]
 fn entries_stand_by_sequence_number(rt: HostRuntime) -> Result<(), Fail> {
-    let mut objects = objects(rt.alloc())?;
-    let (a, b) = (qgpl("A")?, qgpl("B")?);
+    let mut objects = Objects::new(rt.alloc());
+    make_objects(&mut objects, rt.alloc())?;
+    let a = qgpl("A")?;
+    let b = qgpl("B")?;
     add_queue(&mut objects, "A", 20, &a)??;
     add_queue(&mut objects, "A", 10, &b)??;
     let description = objects.sbsds.object(&a).ok_or("no description")?;
-    assert_eq!(rt;
-        description.queues.as_slice(),
-        [queue(10, b), queue(20, a)].as_slice()
-    );
+    let added = [queue(10, b), queue(20, a)];
+    assert_eq!(rt; description.queues.as_slice(), added.as_slice());
     Ok(())
+}
+
+fn route_to(
+    alloc: Global,
+    seq: u32,
+    value: &str,
+    pgm: &str,
+    cls: &str,
+) -> Result<RouteEntry, Fail> {
+    let pgm = if pgm == "QCMD" { qcmd()? } else { qgpl(pgm)? };
+    Ok(route(seq, cmp(alloc, value)?, pgm, qgpl(cls)?))
 }
 
 fn fill_routes(objects: &mut Objects, alloc: Global) -> Result<(), Fail> {
     for number in 2..1001 {
-        let entry = route(number, cmp(alloc, "A")?, qcmd()?, qgpl("A")?);
-        add_route(objects, "FULL", entry)??;
+        add_route(objects, "FULL", route_to(alloc, number, "A", "QCMD", "A")?)??;
     }
     Ok(())
 }
 
+static ROUTES: [(&str, u32, &str, &str, &str, Option<Refusal>); 12] = [
+    ("A", 9999, "*ANY", "QCMD", "A", None),
+    ("A", 9999, "A", "A", "A", Some(Refusal::SeqUsed)),
+    ("B", 100, "*ANY", "A", "A", None),
+    ("B", 200, "A", "A", "A", Some(Refusal::AnyNotLast)),
+    ("B", 50, "A", "A", "A", None),
+    ("B", 40, "*ANY", "A", "A", Some(Refusal::AnyNotLast)),
+    (
+        "NONE",
+        50,
+        "A",
+        "NONE",
+        "A",
+        Some(Refusal::NoObject(Kind::Sbsd)),
+    ),
+    (
+        "B",
+        50,
+        "A",
+        "NONE",
+        "NONE",
+        Some(Refusal::NoObject(Kind::Pgm)),
+    ),
+    (
+        "B",
+        50,
+        "A",
+        "QCMD",
+        "NONE",
+        Some(Refusal::NoObject(Kind::Cls)),
+    ),
+    ("B", 50, "*ANY", "A", "A", Some(Refusal::SeqUsed)),
+    ("FULL", 1, "*ANY", "A", "A", Some(Refusal::AnyNotLast)),
+    (
+        "FULL",
+        1,
+        "A",
+        "A",
+        "A",
+        Some(Refusal::TableFull(Kind::Rtge, 999)),
+    ),
+];
+
 #[test]
 fn a_routing_entry_is_added_or_refused(rt: HostRuntime) -> Result<(), Fail> {
-    let mut objects = objects(rt.alloc())?;
+    let mut objects = Objects::new(rt.alloc());
+    make_objects(&mut objects, rt.alloc())?;
     fill_routes(&mut objects, rt.alloc())?;
-    let (a, none) = (qgpl("A")?, qgpl("NONE")?);
-    for (sbsd, seq, value, pgm, cls, expected) in [
-        ("A", 9999, "*ANY", qcmd()?, a, Ok(())),
-        ("A", 9999, "A", a, a, no(Refusal::SeqUsed)),
-        ("B", 100, "*ANY", a, a, Ok(())),
-        ("B", 200, "A", a, a, no(Refusal::AnyNotLast)),
-        ("B", 50, "A", a, a, Ok(())),
-        ("B", 40, "*ANY", a, a, no(Refusal::AnyNotLast)),
-        ("NONE", 50, "A", none, a, no(Refusal::NoObject(Kind::Sbsd))),
-        ("B", 50, "A", none, none, no(Refusal::NoObject(Kind::Pgm))),
-        (
-            "B",
-            50,
-            "A",
-            qcmd()?,
-            none,
-            no(Refusal::NoObject(Kind::Cls)),
-        ),
-        ("B", 50, "*ANY", a, a, no(Refusal::SeqUsed)),
-        ("FULL", 1, "*ANY", a, a, no(Refusal::AnyNotLast)),
-        (
-            "FULL",
-            1,
-            "A",
-            a,
-            a,
-            no(Refusal::TableFull(Kind::Rtge, 999)),
-        ),
-    ] {
-        let entry = route(seq, cmp(rt.alloc(), value)?, pgm, cls);
-        assert_eq!(rt;
-            add_route(&mut objects, sbsd, entry)?,
-            expected,
-            "{sbsd} {seq} {value}"
-        );
+    for (sbsd, seq, value, pgm, cls, expected) in &ROUTES {
+        let entry = route_to(rt.alloc(), *seq, value, pgm, cls)?;
+        let added = add_route(&mut objects, sbsd, entry)?;
+        assert_eq!(rt; added, answer(expected), "{sbsd} {seq} {value}");
     }
     Ok(())
 }
 
 fn fill_autos(objects: &mut Objects, alloc: Global) -> Result<(), Fail> {
     for number in 1..101 {
-        add_auto(objects, "FULL", &numbered(alloc, number)?.name, "A")??;
+        let job = numbered(alloc, number)?.name;
+        add_auto(objects, "FULL", &job, "A")??;
     }
     Ok(())
 }
 
+static AUTOS: [(&str, &str, &str, Option<Refusal>); 5] = [
+    ("A", "J1", "A", None),
+    ("NONE", "J1", "NONE", Some(Refusal::NoObject(Kind::Sbsd))),
+    ("A", "J1", "NONE", Some(Refusal::NoObject(Kind::Jobd))),
+    ("FULL", "J1", "A", Some(Refusal::Exists(Kind::Aje))),
+    ("FULL", "X", "A", Some(Refusal::TableFull(Kind::Aje, 100))),
+];
+
 #[test]
 fn an_autostart_entry_is_added_or_refused(rt: HostRuntime) -> Result<(), Fail> {
-    let mut objects = objects(rt.alloc())?;
+    let mut objects = Objects::new(rt.alloc());
+    make_objects(&mut objects, rt.alloc())?;
     fill_autos(&mut objects, rt.alloc())?;
-    for (sbsd, job, jobd, expected) in [
-        ("A", "J1", "A", Ok(())),
-        ("NONE", "J1", "NONE", no(Refusal::NoObject(Kind::Sbsd))),
-        ("A", "J1", "NONE", no(Refusal::NoObject(Kind::Jobd))),
-        ("FULL", "J1", "A", no(Refusal::Exists(Kind::Aje))),
-        ("FULL", "X", "A", no(Refusal::TableFull(Kind::Aje, 100))),
-    ] {
-        let answer = add_auto(&mut objects, sbsd, &qgpl(job)?.name, jobd)?;
-        assert_eq!(rt; answer, expected, "{sbsd} {job}");
+    for (sbsd, job, jobd, expected) in &AUTOS {
+        let added = add_auto(&mut objects, sbsd, &qgpl(job)?.name, jobd)?;
+        assert_eq!(rt; added, answer(expected), "{sbsd} {job}");
     }
     Ok(())
 }
 
 fn fill_pres(objects: &mut Objects, alloc: Global) -> Result<(), Fail> {
+    let a = qgpl("A")?;
     for number in 1..101 {
         let pgm = numbered(alloc, number)?;
         add_program(objects, alloc, &pgm)??;
-        let entry = pre(pgm, qgpl("A")?, [3, 2, 2], Limit::NoMax);
-        add_pre(objects, "FULL", entry)??;
+        add_pre(objects, "FULL", pre(pgm, a, &[3, 2, 2, 4]))??;
+    }
+    Ok(())
+}
+
+static PRES: [(&str, &str, &str, [u32; 4], Option<Refusal>); 9] = [
+    ("A", "A", "A", [3, 2, 2, 4], None),
+    (
+        "NONE",
+        "NONE",
+        "A",
+        [3, 2, 2, 4],
+        Some(Refusal::NoObject(Kind::Sbsd)),
+    ),
+    (
+        "A",
+        "NONE",
+        "NONE",
+        [3, 2, 2, 4],
+        Some(Refusal::NoObject(Kind::Pgm)),
+    ),
+    (
+        "A",
+        "A",
+        "NONE",
+        [3, 2, 2, 4],
+        Some(Refusal::NoObject(Kind::Cls)),
+    ),
+    (
+        "A",
+        "A",
+        "A",
+        [3, 4, 2, 4],
+        Some(Refusal::Exists(Kind::Pje)),
+    ),
+    (
+        "A",
+        "J1",
+        "A",
+        [4, 5, 2, 3],
+        Some(Refusal::BadRelation(Key::Threshold, Key::Inljobs)),
+    ),
+    (
+        "A",
+        "J1",
+        "A",
+        [4, 4, 3, 3],
+        Some(Refusal::BadRelation(Key::Inljobs, Key::Maxjobs)),
+    ),
+    (
+        "FULL",
+        "A",
+        "A",
+        [3, 3, 3, 3],
+        Some(Refusal::BadRelation(Key::Adljobs, Key::Maxjobs)),
+    ),
+    (
+        "FULL",
+        "A",
+        "A",
+        [3, 3, 2, 3],
+        Some(Refusal::TableFull(Kind::Pje, 100)),
+    ),
+];
+
+#[test]
+fn a_prestart_entry_is_added_or_refused(rt: HostRuntime) -> Result<(), Fail> {
+    let mut objects = Objects::new(rt.alloc());
+    make_objects(&mut objects, rt.alloc())?;
+    fill_pres(&mut objects, rt.alloc())?;
+    for (sbsd, pgm, cls, numbers, expected) in &PRES {
+        let entry = pre(qgpl(pgm)?, qgpl(cls)?, numbers);
+        let added = add_pre(&mut objects, sbsd, entry)?;
+        assert_eq!(rt; added, answer(expected), "{sbsd} {pgm} {numbers:?}");
+    }
+    Ok(())
+}
+
+fn make(objects: &mut Objects, alloc: Global, kind: &Kind, name: &QName) -> Result<Answer, Fail> {
+    match kind {
+        Kind::Cls => Ok(add_class(objects, name)),
+        Kind::Jobq => Ok(objects.add_jobq(*name)),
+        Kind::Pgm => add_program(objects, alloc, name),
+        Kind::Jobd => add_jobd(objects, alloc, name),
+        _ => Ok(add_sbsd(objects, alloc, name)),
+    }
+}
+
+static KINDS: [Kind; 5] = [Kind::Cls, Kind::Jobq, Kind::Pgm, Kind::Jobd, Kind::Sbsd];
+
+fn fill_tables(objects: &mut Objects, alloc: Global) -> Result<(), Fail> {
+    for number in 0..1000 {
+        let name = numbered(alloc, number)?;
+        for kind in &KINDS {
+            make(objects, alloc, kind, &name)??;
+        }
     }
     Ok(())
 }
 
 #[test]
-fn a_prestart_entry_is_added_or_refused(rt: HostRuntime) -> Result<(), Fail> {
-    let mut objects = objects(rt.alloc())?;
-    fill_pres(&mut objects, rt.alloc())?;
-    let (three, four) = (Limit::Most(3), Limit::Most(4));
-    for (sbsd, pgm, cls, numbers, maxjobs, expected) in [
-        ("A", "A", "A", [3, 2, 2], four, Ok(())),
-        (
-            "NONE",
-            "NONE",
-            "A",
-            [3, 2, 2],
-            four,
-            no(Refusal::NoObject(Kind::Sbsd)),
-        ),
-        (
-            "A",
-            "NONE",
-            "NONE",
-            [3, 2, 2],
-            four,
-            no(Refusal::NoObject(Kind::Pgm)),
-        ),
-        (
-            "A",
-            "A",
-            "NONE",
-            [3, 2, 2],
-            four,
-            no(Refusal::NoObject(Kind::Cls)),
-        ),
-        (
-            "A",
-            "A",
-            "A",
-            [3, 4, 2],
-            four,
-            no(Refusal::Exists(Kind::Pje)),
-        ),
-        (
-            "A",
-            "J1",
-            "A",
-            [4, 5, 2],
-            three,
-            no(Refusal::BadRelation(Key::Threshold, Key::Inljobs)),
-        ),
-        (
-            "A",
-            "J1",
-            "A",
-            [4, 4, 3],
-            three,
-            no(Refusal::BadRelation(Key::Inljobs, Key::Maxjobs)),
-        ),
-        (
-            "FULL",
-            "A",
-            "A",
-            [3, 3, 3],
-            three,
-            no(Refusal::BadRelation(Key::Adljobs, Key::Maxjobs)),
-        ),
-        (
-            "FULL",
-            "A",
-            "A",
-            [3, 3, 2],
-            three,
-            no(Refusal::TableFull(Kind::Pje, 100)),
-        ),
-    ] {
-        let entry = pre(qgpl(pgm)?, qgpl(cls)?, numbers, maxjobs);
-        assert_eq!(rt;
-            add_pre(&mut objects, sbsd, entry)?,
-            expected,
-            "{sbsd} {pgm} {numbers:?}"
-        );
+fn each_kind_has_a_name_once_and_a_thousand_objects(rt: HostRuntime) -> Result<(), Fail> {
+    let mut objects = Objects::new(rt.alloc());
+    fill_tables(&mut objects, rt.alloc())?;
+    let used = numbered(rt.alloc(), 7)?;
+    let new = numbered(rt.alloc(), 1000)?;
+    for kind in &KINDS {
+        // That the name is used goes before the limit.
+        let again = make(&mut objects, rt.alloc(), kind, &used)?;
+        assert_eq!(rt; again, answer(&Some(Refusal::Exists(*kind))));
+        let more = make(&mut objects, rt.alloc(), kind, &new)?;
+        assert_eq!(rt; more, answer(&Some(Refusal::TableFull(*kind, 1000))));
     }
     Ok(())
 }
 
-// The answers of the four calls that remove an entry.
-fn remove_each(objects: &mut Objects, sbsd: &str) -> Result<[Result<(), Refusal>; 4], Fail> {
+#[test]
+fn qcmd_cannot_be_made_a_program(rt: HostRuntime) -> Result<(), Fail> {
+    let mut objects = Objects::new(rt.alloc());
+    let made = add_program(&mut objects, rt.alloc(), &qcmd()?)?;
+    assert_eq!(rt; made, answer(&Some(Refusal::Exists(Kind::Pgm))));
+    Ok(())
+}
+
+fn remove(objects: &mut Objects, sbsd: &str, kind: &Kind) -> Result<Result<(), Refusal>, Fail> {
     let sbsd = qgpl(sbsd)?;
     let a = qgpl("A")?;
-    Ok([
-        objects.remove_queue(&sbsd, &a),
-        objects.remove_route(&sbsd, 10),
-        objects.remove_auto(&sbsd, &a.name),
-        objects.remove_pre(&sbsd, &a),
-    ])
+    match kind {
+        Kind::Jobqe => Ok(objects.remove_queue(&sbsd, &a)),
+        Kind::Rtge => Ok(objects.remove_route(&sbsd, 10)),
+        Kind::Aje => Ok(objects.remove_auto(&sbsd, &a.name)),
+        _ => Ok(objects.remove_pre(&sbsd, &a)),
+    }
+}
+
+static ENTRIES: [Kind; 4] = [Kind::Jobqe, Kind::Rtge, Kind::Aje, Kind::Pje];
+
+fn add_entries(objects: &mut Objects, alloc: Global) -> Result<(), Fail> {
+    let a = qgpl("A")?;
+    let b = qgpl("B")?;
+    add_queue(objects, "A", 10, &a)??;
+    add_queue(objects, "A", 20, &b)??;
+    add_route(objects, "A", route_to(alloc, 10, "*ANY", "A", "A")?)??;
+    add_auto(objects, "A", &a.name, "A")??;
+    add_pre(objects, "A", pre(a, a, &[3, 2, 2, 4]))??;
+    Ok(())
 }
 
 #[test]
 fn an_entry_is_removed_once(rt: HostRuntime) -> Result<(), Fail> {
-    let mut objects = objects(rt.alloc())?;
-    let a = qgpl("A")?;
-    let b = qgpl("B")?;
-    add_queue(&mut objects, "A", 10, &a)??;
-    add_queue(&mut objects, "A", 20, &b)??;
-    add_route(&mut objects, "A", route(10, Cmp::Any, a, a))??;
-    add_auto(&mut objects, "A", &a.name, "A")??;
-    add_pre(&mut objects, "A", pre(a, a, [3, 2, 2], Limit::NoMax))??;
-    let missing = [Kind::Jobqe, Kind::Rtge, Kind::Aje, Kind::Pje];
-    let undescribed = [Err(Refusal::NoObject(Kind::Sbsd)); 4];
-    assert_eq!(rt; remove_each(&mut objects, "NONE")?, undescribed);
-    assert_eq!(rt; remove_each(&mut objects, "A")?, [Ok(()); 4]);
-    assert_eq!(rt;
-        remove_each(&mut objects, "A")?,
-        missing.map(|kind| Err(Refusal::NoObject(kind)))
-    );
-    let description = objects.sbsds.object(&a).ok_or("no description")?;
-    assert_eq!(rt; description.queues.as_slice(), [queue(20, b)].as_slice());
+    let mut objects = Objects::new(rt.alloc());
+    make_objects(&mut objects, rt.alloc())?;
+    add_entries(&mut objects, rt.alloc())?;
+    for kind in &ENTRIES {
+        let undescribed = remove(&mut objects, "NONE", kind)?;
+        assert_eq!(rt; undescribed, Err(Refusal::NoObject(Kind::Sbsd)));
+        let removed = remove(&mut objects, "A", kind)?;
+        assert_eq!(rt; removed, Ok(()));
+        let again = remove(&mut objects, "A", kind)?;
+        assert_eq!(rt; again, Err(Refusal::NoObject(*kind)));
+    }
+    let description = objects.sbsds.object(&qgpl("A")?).ok_or("no description")?;
+    let left = [queue(20, qgpl("B")?)];
+    assert_eq!(rt; description.queues.as_slice(), left.as_slice());
     Ok(())
 }

@@ -1,4 +1,4 @@
-use Rattle.std.proofs.Common.{◌≡◌, List, rules, sym, subst, ◌∙◌, not, ap}
+use Rattle.std.proofs.Common.{◌≡◌, rules, sym, subst, ◌∙◌, not, ap}
 use Rattle.std.specs.List.{filter}
 use Rattle.std.specs.Ordering.{nat_cmp}
 use Rattle.std.proofs.lemmas.List.Kept.{AllPairs-filter}

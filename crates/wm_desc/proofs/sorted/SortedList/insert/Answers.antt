@@ -1,6 +1,6 @@
 use Rattle.std.proofs.Common.{sym, ◌∙◌, subst, Ok}
 use Rattle.wm_desc.specs.Place.{IsAt, IsGap}
-use Rattle.wm_desc.proofs.SortedLists.{added-gap, sorted-insert, has_key-searched}
+use Rattle.wm_desc.proofs.SortedLists.{added-gap, has_key-searched}
 use Rattle.wm_desc.proofs.sorted.SortedList.insert.Goals as goal
 
 -- the search didn't find the key, since no element has it

@@ -1,4 +1,4 @@
-use Rattle.std.proofs.Common.{rules, refl}
+use Rattle.std.proofs.Common.{rules}
 use Rattle.std.proofs.lemmas.Fn.{always_returns_same}
 use Rattle.wm_desc.proofs.SortedLists.{searched}
 use Rattle.wm_desc.proofs.sorted.SortedList.search.Goals as goal
