@@ -4,3 +4,4 @@ pub mod Ranges
 pub mod Refusals
 pub mod Sorted
 pub mod Table
+pub mod Opening

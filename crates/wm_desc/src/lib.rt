@@ -13,6 +13,7 @@ mod exact;
 mod fault;
 mod limits;
 mod objects;
+mod opening;
 mod ranges;
 mod refuse;
 mod sorted;

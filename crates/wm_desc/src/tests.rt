@@ -35,7 +35,7 @@ const CLASS: Class = Class {
 
 fn jobd(alloc: Global) -> Result<Jobd, Fail> {
     Ok(Jobd {
-        jobq: qgpl("NONE")?,
+        jobq: qgpl("QBATCH")?,
         pty: Priority::new(5),
         rtgdta: text(alloc, "QCMDI")?,
         rqsdta: None,
@@ -486,5 +486,48 @@ fn an_entry_is_removed_once(rt: HostRuntime) -> Result<(), Fail> {
     let description = objects.sbsds.object(&qgpl("A")?).ok_or("no description")?;
     let left = [queue(20, qgpl("B")?)];
     assert_eq!(rt; description.queues.as_slice(), left.as_slice());
+    Ok(())
+}
+
+// The commands whose objects an empty store opens with, in their order.
+fn add_opening(objects: &mut Objects, alloc: Global) -> Result<(), Fail> {
+    let qbatch = qgpl("QBATCH")?;
+    add_class(objects, &qbatch)?;
+    add_program(objects, alloc, &qgpl("ECHO")?)??;
+    objects.add_jobq(qbatch)?;
+    add_jobd(objects, alloc, &qgpl("QDFTJOBD")?)??;
+    add_jobd(objects, alloc, &qbatch)??;
+    add_sbsd(objects, alloc, &qbatch)?;
+    add_queue(objects, "QBATCH", 10, &qbatch)??;
+    add_route(
+        objects,
+        "QBATCH",
+        route_to(alloc, 9999, "*ANY", "QCMD", "QBATCH")?,
+    )??;
+    Ok(())
+}
+
+#[test]
+fn an_empty_store_opens_with_what_its_commands_make(rt: HostRuntime) -> Result<(), Fail> {
+    let mut made = Objects::new(rt.alloc());
+    add_opening(&mut made, rt.alloc())?;
+    let opened = Objects::opening(rt.alloc())?;
+    assert_eq!(rt; opened, made);
+    let copy = opened.clone()?;
+    assert_eq!(rt; copy, opened);
+    Ok(())
+}
+
+#[test]
+fn a_sorted_list_is_made_from_a_vec_and_given_back(rt: HostRuntime) -> Result<(), Fail> {
+    let sorted = [queue(10, qgpl("A")?), queue(20, qgpl("B")?)];
+    let doubled = [queue(10, qgpl("A")?), queue(10, qgpl("B")?)];
+    assert!(rt; !QueueEntries::is_sorted(&doubled));
+    let items = sorted.to_vec(rt.alloc())?;
+    assert!(rt; QueueEntries::is_sorted(&items));
+    let list = QueueEntries::from_vec(items);
+    assert!(rt; !list.is_empty());
+    let given = list.into_vec();
+    assert_eq!(rt; given.as_slice(), sorted.as_slice());
     Ok(())
 }
