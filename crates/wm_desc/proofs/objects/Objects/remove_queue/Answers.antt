@@ -1,0 +1,10 @@
+use Rattle.std.proofs.Common.{ap}
+use Rattle.wm_desc.specs.Objects.{without_queue}
+use Rattle.wm_desc.proofs.Tables.{edited}
+use Rattle.wm_desc.proofs.objects.Objects.remove_queue.Goals as goal
+
+pub returns-clause-ok : goal.returns-clause-ok
+returns-clause-ok c =
+    let object = c.index_mut-object.result.now in
+    let new = ap (λ xs. record object.1 { queues = xs }) c.remove_queue.ensures in
+    ap (λ sbsds. record c.args.self.now { sbsds = sbsds }) (edited c.args.sbsd.now _ _ c.place-at.result object (without_queue c.args.jobq.now) _ c.place-at.ensures c.sbsds.view_is c.index_mut-object.ensures.value new)
