@@ -1,3 +1,5 @@
 pub mod Bytes
 pub mod Cause
+pub mod Removal
+pub mod Reports
 pub mod Telling

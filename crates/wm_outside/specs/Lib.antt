@@ -1,4 +1,7 @@
+pub mod Calls
 pub mod Cause
+pub mod Children
+pub mod MemSpawner
 pub mod Memory
 pub mod Spawner
 pub mod Told

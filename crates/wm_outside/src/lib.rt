@@ -17,7 +17,7 @@ mod spawner;
 
 pub use clock::Clock;
 pub use fault::{Failed, StartFault};
-pub use memory::{MemClock, MemSink, MemSource};
+pub use memory::{MemClock, MemSink, MemSource, MemSpawner};
 pub use sink::Sink;
 pub use source::Source;
 pub use spawner::{Spawner, Told};
