@@ -4,4 +4,5 @@ pub mod Children
 pub mod MemSpawner
 pub mod Memory
 pub mod Spawner
+pub mod System
 pub mod Told

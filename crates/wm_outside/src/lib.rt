@@ -14,6 +14,7 @@ mod memory;
 mod sink;
 mod source;
 mod spawner;
+mod system;
 
 pub use clock::Clock;
 pub use fault::{Failed, StartFault};
@@ -21,3 +22,4 @@ pub use memory::{MemClock, MemSink, MemSource, MemSpawner};
 pub use sink::Sink;
 pub use source::Source;
 pub use spawner::{Spawner, Told};
+pub use system::{ReadSource, SysClock, SysSpawner, WriteSink};
