@@ -11,6 +11,8 @@
 mod clock;
 mod fault;
 mod memory;
+#[cfg(test)]
+mod samples;
 mod sink;
 mod source;
 mod spawner;

@@ -8,3 +8,6 @@ pub use clock::SysClock;
 pub use reader::ReadSource;
 pub use spawner::SysSpawner;
 pub use writer::WriteSink;
+
+#[cfg(test)]
+mod tests;
