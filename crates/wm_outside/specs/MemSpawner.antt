@@ -7,7 +7,7 @@ use Rattle.wm_outside.specs.declared.memory.children.Child.{Child}
 use Rattle.wm_outside.specs.declared.memory.spawner.MemSpawner.{MemSpawner}
 use Rattle.wm_outside.specs.declared.spawner.Told.{Told}
 use Rattle.wm_outside.specs.Cause.{raised}
-use Rattle.wm_outside.specs.Calls.{told_if}
+use Rattle.wm_outside.specs.Told.{told_if}
 use Rattle.wm_outside.specs.Children.{serials, killed_ones, due_ones}
 
 -- the children that are out, the longest out first

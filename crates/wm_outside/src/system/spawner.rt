@@ -16,21 +16,17 @@ const FIRST_PAUSE: u64 = 100;
 
 const LAST_PAUSE: u64 = 10_000;
 
-/// A child program that is out.
+// A child program that is out.
 #[derive(Drop)]
 struct Running<P: OpenProcess> {
     serial: Serial,
     child: Child<P>,
 }
 
+// An exit code, or else a signal ended it.
 fn exit_of(status: ExitStatus) -> Exit {
-    match status.code() {
-        Some(code) => match u8::try_from(code) {
-            Ok(code) => Exit::Code(code),
-            Err(_) => Exit::Killed,
-        },
-        None => Exit::Killed,
-    }
+    let code = status.code().and_then(|code| u8::try_from(code).ok());
+    code.map_or(Exit::Killed, Exit::Code)
 }
 
 // The program with its arguments as they are. Its input is empty, and its output is dropped.
