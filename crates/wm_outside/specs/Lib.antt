@@ -3,6 +3,7 @@ pub mod Cause
 pub mod Children
 pub mod MemSpawner
 pub mod Memory
+pub mod Programs
 pub mod Spawner
 pub mod System
 pub mod Told

@@ -23,7 +23,11 @@ pub struct SysClock<R: rt::Clock> {
 }
 
 impl<R: rt::Clock> SysClock<R> {
-    pub fn new(rt: R) -> SysClock<R> {
+    ghost use Rattle.wm_outside.specs.System.{clock_last};
+
+    pub fn new(rt: R) -> SysClock<R>
+        ensures { clock_last result ≡ 0 }
+    {
         SysClock {
             rt,
             last: Moment::new(0),
@@ -32,9 +36,13 @@ impl<R: rt::Clock> SysClock<R> {
 }
 
 impl<R: rt::Clock> Clock for SysClock<R> {
+    ghost use Rattle.wm_outside.specs.System.{clock_last};
+
     ghost coming = { λ _. None };
 
-    fn now(&mut self) -> Moment {
+    fn now(&mut self) -> Moment
+        ensures { result ≡ clock_last self.new }
+    {
         if let Some(moment) = present(&self.rt) {
             self.last = moment;
         }

@@ -1,6 +1,8 @@
 // Child programs of std as a spawner.
-ghost use Rattle.std.specs.Prelude.{◌≡◌, ◌≤◌, ◌<◌, None, refl, length, vec_len, IfOk, IfSome};
-ghost use Rattle.wm_outside.specs.Cause.{HasCause, raised};
+ghost use Rattle.std.specs.Prelude.{◌≡◌, ◌≤◌, ◌<◌, ◌↔◌, [], ◌∷◌, ◌++◌, ◌==◌, Some, None, Ok, refl, IsTrue, Contains, OnOk, OnErr, length, vec_len, IfOk, IfSome};
+ghost use Rattle.std.specs.List.{list_any};
+ghost use Rattle.wm_outside.specs.Cause.{HasCause, HasStartCause, raised};
+ghost use Rattle.wm_outside.specs.Programs.{serials_of};
 
 use super::clock::present;
 use crate::{Failed, Spawner, StartFault};
@@ -42,8 +44,10 @@ fn command_of(alloc: Global, order: &StartOrder) -> Result<Command, AllocError> 
 }
 
 // Looks at each child once, until one has ended, and answers its place and how it ended.
+#[tactic(auto, using(crate::proofs::Programs::same_serials))]
 fn look_at<P: OpenProcess>(children: &mut [Running<P>]) -> Result<Option<(usize, Exit)>, Failed>
-    ensures { IfOk result (λ found. IfSome found (λ ended. ended.0 < length children.new)) }
+    ensures same { serials_of children.new ≡ serials_of children.old }
+    ensures place { IfOk result (λ found. IfSome found (λ ended. ended.0 < length children.new)) }
 {
     let mut failed = false;
     for (i, running) in children.iter_mut().enumerate() {
@@ -57,7 +61,9 @@ fn look_at<P: OpenProcess>(children: &mut [Running<P>]) -> Result<Option<(usize,
 }
 
 // Whether there is nothing more to wait for.
-fn is_over<C: rt::Clock>(clock: &C, until: &Option<Moment>, all_ended: bool) -> bool {
+fn is_over<C: rt::Clock>(clock: &C, until: &Option<Moment>, all_ended: bool) -> bool
+    ensures { until.now ≡ None → result ≡ all_ended }
+{
     match until {
         None => all_ended,
         Some(until) => match present(clock) {
@@ -74,13 +80,18 @@ fn look_until<P: OpenProcess, C: rt::Clock, W: Wait>(
     rt: &W,
     until: &Option<Moment>,
 ) -> Result<Option<(usize, Exit)>, Failed>
-    ensures { IfOk result (λ found. IfSome found (λ ended. ended.0 < length children.new)) }
+    ensures same { serials_of children.new ≡ serials_of children.old }
+    ensures none { result ≡ Ok None → until.now ≡ None → serials_of children.old ≡ [] }
+    ensures place { IfOk result (λ found. IfSome found (λ ended. ended.0 < length children.new)) }
 {
     let mut pause = FIRST_PAUSE;
     for _ in rt.forever() {
         let found = look_at(children)?;
-        if found.is_some() || is_over(clock, until, children.is_empty()) {
+        if found.is_some() {
             return Ok(found);
+        }
+        if is_over(clock, until, children.is_empty()) {
+            return Ok(None);
         }
         clock.sleep(Duration::from_micros(pause));
         pause = pause.saturating_add(pause / 2).min(LAST_PAUSE);
@@ -88,15 +99,28 @@ fn look_until<P: OpenProcess, C: rt::Clock, W: Wait>(
     unreachable!()
 }
 
+fn is_out<P: OpenProcess>(children: &[Running<P>], job: Serial) -> bool
+    ensures { result ≡ list_any (λ serial. serial == job) (serials_of children.now) }
+{
+    children
+        .iter()
+        .map(|running| running.serial)
+        .any(|serial| serial == job)
+}
+
 // Kills a job's child, and answers whether it is out.
-fn kill_child<P: OpenProcess>(children: &mut [Running<P>], job: Serial) -> io::Result<bool> {
+#[tactic(auto, using(crate::proofs::Programs::same_serials))]
+fn kill_child<P: OpenProcess>(children: &mut [Running<P>], job: Serial) -> io::Result<bool>
+    ensures same { serials_of children.new ≡ serials_of children.old }
+    ensures was_out { IfOk result (λ was_out. IsTrue was_out ↔ Contains (serials_of children.old) job) }
+{
+    let was_out = is_out(children, job);
     for running in children.iter_mut() {
         if running.serial == job {
             running.child.kill()?;
-            return Ok(true);
         }
     }
-    Ok(false)
+    Ok(was_out)
 }
 
 /// A spawner of real programs, each started by its path with its arguments, with no input, its output dropped. A child's
@@ -111,7 +135,7 @@ pub struct SysSpawner<R: Processes + rt::Clock> {
 }
 
 impl<R: Processes + rt::Clock> SysSpawner<R> {
-    ghost use Rattle.wm_outside.specs.System.{child_misses, child_faults};
+    ghost use Rattle.wm_outside.specs.System.{children_out, child_misses, child_faults, GivesUp};
 
     pub fn new(alloc: Global, rt: R) -> SysSpawner<R>
         ensures misses { child_misses result ≡ 0 }
@@ -127,6 +151,7 @@ impl<R: Processes + rt::Clock> SysSpawner<R> {
     }
 
     fn fail(&mut self) -> Failed
+        ensures out { children_out self.new ≡ children_out self.old }
         ensures faults { child_faults self.new ≡ raised (child_faults self.old) }
         ensures later { child_faults self.old ≤ child_faults self.new }
         ensures misses { child_misses self.new ≡ child_misses self.old }
@@ -135,20 +160,30 @@ impl<R: Processes + rt::Clock> SysSpawner<R> {
         Failed
     }
 
-    // Takes out the child that was found to have ended.
+    // Takes out the child at this place, which has ended.
+    fn take(&mut self, at: usize, exit: Exit) -> Event
+        requires { at < vec_len self.old.children }
+        ensures gives { GivesUp (Ok (Some result)) (children_out self.old) (children_out self.new) }
+        ensures misses { child_misses self.new ≡ child_misses self.old }
+        ensures faults { child_faults self.new ≡ child_faults self.old }
+    {
+        let running = self.children.remove(at);
+        Event::Ended(running.serial, exit)
+    }
+
+    // The report of what was found.
     fn report(
         &mut self,
         found: Result<Option<(usize, Exit)>, Failed>,
     ) -> Result<Option<Event>, Failed>
         requires { IfOk found (λ found. IfSome found (λ ended. ended.0 < vec_len self.old.children)) }
+        ensures gives { GivesUp result (children_out self.old) (children_out self.new) }
+        ensures none { result ≡ Ok None → found ≡ Ok None }
         ensures cause { HasCause (child_faults self.old) (child_faults self.new) result }
         ensures misses { child_misses self.new ≡ child_misses self.old }
     {
         match found {
-            Ok(Some((at, exit))) => {
-                let Running { serial, child: _ } = self.children.remove(at);
-                Ok(Some(Event::Ended(serial, exit)))
-            }
+            Ok(Some((at, exit))) => Ok(Some(self.take(at, exit))),
             Ok(None) => Ok(None),
             Err(_) => Err(self.fail()),
         }
@@ -156,7 +191,7 @@ impl<R: Processes + rt::Clock> SysSpawner<R> {
 }
 
 impl<R: Processes + rt::Clock> Spawner for SysSpawner<R> {
-    ghost use Rattle.wm_outside.specs.System.{child_misses, child_faults};
+    ghost use Rattle.wm_outside.specs.System.{children_out, child_misses, child_faults, GivesUp};
 
     ghost misses = { child_misses };
 
@@ -170,7 +205,12 @@ impl<R: Processes + rt::Clock> Spawner for SysSpawner<R> {
 
     ghost reporting = { λ _. None };
 
-    fn start(&mut self, order: &StartOrder) -> Result<(), StartFault> {
+    fn start(&mut self, order: &StartOrder) -> Result<(), StartFault>
+        ensures started { OnOk result (children_out self.new ≡ children_out self.old ++ order.now.serial ∷ []) }
+        ensures not_started { OnErr result (children_out self.new ≡ children_out self.old) }
+        ensures cause { HasStartCause (child_misses self.old) (child_misses self.new) result }
+        ensures faults { child_faults self.new ≡ child_faults self.old }
+    {
         let Ok(mut command) = command_of(self.alloc, order) else {
             return Err(StartFault::NoMemory);
         };
@@ -190,27 +230,39 @@ impl<R: Processes + rt::Clock> Spawner for SysSpawner<R> {
         Ok(())
     }
 
-    fn kill(&mut self, job: Serial) -> Result<bool, Failed> {
+    fn kill(&mut self, job: Serial) -> Result<bool, Failed>
+        ensures was_out { IfOk result (λ was_out. IsTrue was_out ↔ Contains (children_out self.old) job) }
+        ensures out { children_out self.new ≡ children_out self.old }
+        ensures cause { HasCause (child_faults self.old) (child_faults self.new) result }
+        ensures misses { child_misses self.new ≡ child_misses self.old }
+    {
         match kill_child(&mut self.children, job) {
             Ok(was_out) => Ok(was_out),
             Err(_) => Err(self.fail()),
         }
     }
 
-    fn ended(&mut self) -> Result<Option<Event>, Failed> {
+    fn ended(&mut self) -> Result<Option<Event>, Failed>
+        ensures gives { GivesUp result (children_out self.old) (children_out self.new) }
+        ensures cause { HasCause (child_faults self.old) (child_faults self.new) result }
+        ensures misses { child_misses self.new ≡ child_misses self.old }
+    {
         let found = look_at(&mut self.children);
-        let report = self.report(found)?;
-        Ok(report)
+        self.report(found)
     }
 
     fn wait_ended<W: Wait>(
         &mut self,
         rt: &W,
         until: Option<Moment>,
-    ) -> Result<Option<Event>, Failed> {
+    ) -> Result<Option<Event>, Failed>
+        ensures none { result ≡ Ok None → until ≡ None → children_out self.old ≡ [] }
+        ensures gives { GivesUp result (children_out self.old) (children_out self.new) }
+        ensures cause { HasCause (child_faults self.old) (child_faults self.new) result }
+        ensures misses { child_misses self.new ≡ child_misses self.old }
+    {
         let found = look_until(&mut self.children, &self.rt, rt, &until);
-        let report = self.report(found)?;
-        Ok(report)
+        self.report(found)
     }
 
     ghost told_with_out = { λ _. refl };

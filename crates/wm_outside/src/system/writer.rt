@@ -1,5 +1,7 @@
 // A writer of std as a sink.
-ghost use Rattle.std.specs.Prelude.{◌≡◌, ◌≤◌, ◌<◌, None, length, IfSome};
+ghost use Rattle.std.specs.Prelude.{◌≡◌, ◌≤◌, ◌<◌, None, length, take, IfSome, IfNone, IfOk, OnErr};
+ghost use Rattle.std.specs.Io.KnownBytes.{Appends, Keeps};
+ghost use Rattle.wm_outside.specs.Cause.{HasCause};
 
 use crate::{Failed, Sink};
 use std::io::{ErrorKind, Write};
@@ -11,6 +13,8 @@ const TRIES: u32 = 1000;
 fn try_write<W: Write>(writer: &mut W, buf: &[u8]) -> Option<usize>
     ensures within { IfSome result (λ n. n ≤ length buf.now) }
     ensures some { IfSome result (λ n. 0 < length buf.now → 0 < n) }
+    ensures bytes { IfSome result (λ n. Appends (W.contents writer.old) (W.contents writer.new) (take n buf.now)) }
+    ensures none { IfNone result (Keeps (W.contents writer.old) (W.contents writer.new)) }
 {
     for _ in 0..TRIES {
         match writer.write(buf) {
@@ -31,23 +35,31 @@ pub struct WriteSink<W: Write> {
 }
 
 impl<W: Write> WriteSink<W> {
-    ghost use Rattle.wm_outside.specs.System.{writer_faults};
+    ghost use Rattle.wm_outside.specs.System.{writer_of, writer_faults};
 
     pub fn new(writer: W) -> WriteSink<W>
-        ensures { writer_faults result ≡ 0 }
+        ensures writer { writer_of result ≡ writer }
+        ensures faults { writer_faults result ≡ 0 }
     {
         WriteSink { writer, faults: 0 }
     }
 }
 
 impl<W: Write> Sink for WriteSink<W> {
-    ghost use Rattle.wm_outside.specs.System.{writer_faults};
+    ghost use Rattle.wm_outside.specs.System.{writer_of, writer_faults};
 
     ghost faults = { writer_faults };
 
     ghost written = { λ _. None };
 
-    fn write(&mut self, buf: &[u8]) -> Result<usize, Failed> {
+    // What std's writer tells is passed on.
+    fn write(&mut self, buf: &[u8]) -> Result<usize, Failed>
+        ensures within { IfOk result (λ n. n ≤ length buf.now) }
+        ensures some { IfOk result (λ n. 0 < length buf.now → 0 < n) }
+        ensures bytes { IfOk result (λ n. Appends (W.contents (writer_of self.old)) (W.contents (writer_of self.new)) (take n buf.now)) }
+        ensures err { OnErr result (Keeps (W.contents (writer_of self.old)) (W.contents (writer_of self.new))) }
+        ensures cause { HasCause (writer_faults self.old) (writer_faults self.new) result }
+    {
         match try_write(&mut self.writer, buf) {
             Some(n) => Ok(n),
             None => {
