@@ -1,9 +1,8 @@
 -- Counts of faults over several calls.
-use Rattle.std.proofs.Common.{◌≡◌, ℕ, ◌≤◌, Result, Ok, Err, is_err, refl, arith}
-use Rattle.std.proofs.lemmas.Grind.{common_steps}
+use Rattle.std.proofs.Common.{ℕ, ◌≤◌, Result, Ok, Err, is_err, arith}
 use Rattle.wm_outside.specs.declared.fault.Failed.{Failed}
 use Rattle.wm_outside.specs.declared.memory.calls.Calls.{Calls}
-use Rattle.wm_outside.specs.Cause.{HasCause, raised}
+use Rattle.wm_outside.specs.Cause.{HasCause}
 use Rattle.wm_outside.specs.Calls.{CountsCall}
 
 -- a call, and one after it whose answer counts

@@ -1,5 +1,5 @@
 -- The child programs of a spawner.
-use Rattle.std.proofs.Common.{◌≡◌, ◌↔◌, ◌==◌, ◌||◌, inl, inr, ℕ, ◌<◌, zero, suc, Bool, true, false, IsTrue, List, [], ◌∷◌, length, get_or, map, slice_get, Contains, Option, Some, refl, sym, ◌∙◌, ap, arith}
+use Rattle.std.proofs.Common.{◌≡◌, ◌↔◌, ◌==◌, ◌||◌, inl, inr, ℕ, ◌<◌, zero, suc, Bool, true, false, IsTrue, List, [], ◌∷◌, length, get_or, map, slice_get, Contains, Some, refl, sym, ◌∙◌, ap, arith}
 use Rattle.std.proofs.lemmas.Bool.{false≢true, or_cases, eqb-true, eq-eqb}
 use Rattle.std.proofs.Math.Seq.{map-set_same}
 use Rattle.std.specs.List.{remove, list_any}

@@ -1,6 +1,6 @@
 -- What the children of a spawner in memory report.
-use Rattle.std.proofs.Common.{◌≡◌, ◌==◌, inl, inr, ◌⊎◌, ℕ, ◌<◌, ◌≤◌, min, zero, suc, Bool, true, false, not, cond, List, [], ◌∷◌, ◌++◌, length, map, filter, find, fold, slice_get, get_or, nat_le, ◌&&◌, option_map, Option, Some, None, Result, Ok, Err, Contains, refl, sym, ◌∙◌, ap, subst, arith}
-use Rattle.std.proofs.lemmas.Bool.{cases_Bool, cases_lt}
+use Rattle.std.proofs.Common.{◌≡◌, ◌==◌, inl, inr, ◌⊎◌, ℕ, ◌<◌, min, zero, suc, Bool, true, false, not, cond, List, [], ◌∷◌, ◌++◌, length, map, filter, find, fold, get_or, nat_le, ◌&&◌, option_map, Option, Some, None, Result, Ok, Err, Contains, refl, sym, ◌∙◌, ap, subst, arith}
+use Rattle.std.proofs.lemmas.Bool.{cases_lt}
 use Rattle.wm_base.specs.declared.job.Event.{Event}
 use Rattle.wm_base.specs.declared.job.Event.TheVariants.{Ended, Used}
 use Rattle.wm_outside.specs.declared.fault.Failed.{Failed}

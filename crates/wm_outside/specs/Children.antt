@@ -1,5 +1,5 @@
 -- The children of a spawner in memory, the longest out first.
-use Rattle.std.specs.Prelude.{◌==◌, ℕ, nat_le, min, Bool, true, not, ◌&&◌, ◌||◌, List, [], map, filter, find, fold, slice_get, Option, Some, None, option_map, Result, Ok, Err, if◌then◌else◌}
+use Rattle.std.specs.Prelude.{◌==◌, ℕ, nat_le, min, Bool, not, ◌&&◌, ◌||◌, List, map, filter, find, fold, slice_get, Option, Some, None, option_map, Result, Ok, Err, if◌then◌else◌}
 use Rattle.wm_base.specs.declared.job.Event.{Event}
 use Rattle.wm_base.specs.declared.job.Event.TheVariants.{Ended, Used}
 use Rattle.wm_base.specs.declared.job.Exit.TheVariants.{Code, Killed}

@@ -1,6 +1,7 @@
 // Child programs of std as a spawner.
-ghost use Rattle.std.specs.Prelude.{◌≡◌, ◌≤◌, ◌<◌, ◌↔◌, [], ◌∷◌, ◌++◌, ◌==◌, Some, None, Ok, refl, IsTrue, Contains, OnOk, OnErr, length, vec_len, IfOk, IfSome};
+ghost use Rattle.std.specs.Prelude.{◌≡◌, ◌≤◌, ◌<◌, ℕ, pos, ◌↔◌, [], ◌∷◌, ◌++◌, ◌==◌, Some, None, Ok, refl, IsTrue, Contains, OnOk, OnErr, length, vec_len, IfOk, IfSome};
 ghost use Rattle.std.specs.List.{list_any};
+ghost use Rattle.std.specs.Process.{command_program, command_args, exit_code};
 ghost use Rattle.wm_outside.specs.Cause.{HasCause, HasStartCause, raised};
 ghost use Rattle.wm_outside.specs.Programs.{serials_of};
 
@@ -26,13 +27,19 @@ struct Running<P: OpenProcess> {
 }
 
 // An exit code, or else a signal ended it.
-fn exit_of(status: ExitStatus) -> Exit {
+fn exit_of(status: ExitStatus) -> Exit
+    ensures code { (code : ℕ) → exit_code status ≡ Some (pos code) → code < 256 → result ≡ Exit.Code code }
+    ensures signal { exit_code status ≡ None → result ≡ Exit.Killed }
+{
     let code = status.code().and_then(|code| u8::try_from(code).ok());
     code.map_or(Exit::Killed, Exit::Code)
 }
 
 // The program with its arguments as they are. Its input is empty, and its output is dropped.
-fn command_of(alloc: Global, order: &StartOrder) -> Result<Command, AllocError> {
+fn command_of(alloc: Global, order: &StartOrder) -> Result<Command, AllocError>
+    ensures program { IfOk result (λ command. command_program command ≡ order.now.path) }
+    ensures args { IfOk result (λ command. command_args command ≡ order.now.args) }
+{
     let mut command = Command::new(alloc, order.path.as_str())?;
     for arg in order.args.as_slice() {
         command.arg(arg.as_str())?;
