@@ -1,8 +1,8 @@
 -- What was told in two steps.
-use Rattle.std.proofs.Common.{◌≡◌, ℕ, ◌+◌, List, [], ◌++◌, Option, Some, None, take, drop, refl, sym, ◌∙◌, ap, append_assoc, take-append-drop}
-use Rattle.std.proofs.lemmas.List.{append-nil}
-use Rattle.std.proofs.lemmas.Grind.{common_steps}
-use Rattle.wm_outside.specs.Told.{Grows, Takes}
+use Rattle.std.proofs.Common.{ℕ, ◌+◌, ◌-◌, List, [], ◌++◌, length, Option, Some, None, take, drop, refl, sym, ◌∙◌, ap, append_assoc}
+use Rattle.std.proofs.Math.Seq.{take-add}
+use Rattle.std.proofs.lemmas.List.{append-nil, take_rest}
+use Rattle.wm_outside.specs.Told.{Grows, Takes, Becomes}
 
 -- nothing more
 pub Grows-none : {A : Type 0} (told : Option (List A)) → Grows told told []
@@ -27,3 +27,16 @@ Takes-then old mid None xs ys h k = tt
 Takes-then old None (Some ws) xs ys h k = absurd k
 Takes-then None (Some vs) (Some ws) xs ys h k = absurd h
 Takes-then (Some us) (Some vs) (Some ws) xs ys h k = h ∙ ap (λ (l : List _). xs ++ l) k ∙ sym (append_assoc xs ys ws)
+
+-- the first bytes of a list, and then some of the rest of it
+pub Grows-piece : {A : Type 0} (old mid new : Option (List A)) (xs : List A) (at n : ℕ) → Grows old mid (take at xs) → Grows mid new (take n (take (length xs - at) (drop at xs))) → Grows old new (take (at + n) xs)
+Grows-piece old mid new xs at n h k = rw (take-add, ← take_rest xs at) (Grows-then old mid new _ _ h k)
+
+-- two changes
+pub Becomes-then : {A : Type 0} (old mid new : Option A) (f g : A → A) → Becomes old mid f → Becomes mid new g → Becomes old new (λ x. g (f x))
+Becomes-then old mid None f g h k = tt
+Becomes-then old None (Some z) f g h k = absurd k
+Becomes-then None (Some y) (Some z) f g h k = absurd h
+Becomes-then (Some x) (Some y) (Some z) f g h k = k ∙ ap g h
+
+pub ruleset told_steps = (Grows-none, Grows-then, Grows-piece, Takes-none, Takes-then)

@@ -18,3 +18,9 @@ pub record HasStartCause {T : Type 0} (before now : ℕ) (result : Result T Star
   pub later : before ≤ now
   pub failed : IsErrOf result start_failed → raised before ≤ now
   pub no_memory : IsErrOf result NoMemory → now ≡ before
+
+-- whether a start failed, and not for want of memory
+abbrev pub start_missed : {T : Type 0} → Result T StartFault → Bool
+start_missed (Err start_failed) = true
+start_missed (Err NoMemory) = false
+start_missed (Ok started) = false

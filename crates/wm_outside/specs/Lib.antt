@@ -1,4 +1,9 @@
+pub mod Calls
 pub mod Cause
+pub mod Children
+pub mod MemSpawner
 pub mod Memory
+pub mod Programs
 pub mod Spawner
+pub mod System
 pub mod Told

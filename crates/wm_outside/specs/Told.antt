@@ -1,5 +1,5 @@
 -- What an object of the outside tells of itself, or doesn't. What has ceased to tell doesn't begin again.
-use Rattle.std.specs.Prelude.{◌≡◌, List, [], ◌++◌, Option, Some, None, ⊤}
+use Rattle.std.specs.Prelude.{◌≡◌, List, [], ◌++◌, Bool, true, false, Option, Some, None, is_some, refl, ⊤, if◌then◌else◌}
 
 -- where it is told, it has grown by these at its end
 abbrev pub Grows : {A : Type 0} → Option (List A) → Option (List A) → List A → Type 0
@@ -23,3 +23,12 @@ Becomes (Some before) (Some now) change = now ≡ change before
 abbrev pub IsEmpty : {A : Type 0} → Option (List A) → Type 0
 IsEmpty None = ⊤
 IsEmpty (Some now) = now ≡ []
+
+-- the value, while it is told
+abbrev pub told_if : {A : Type 0} → Bool → A → Option A
+told_if tells value = if tells then Some value else None
+
+-- two values that are told together
+pub told_with_out : {A B : Type 0} (tells : Bool) (a : A) (b : B) → is_some (told_if tells a) ≡ is_some (told_if tells b)
+told_with_out true a b = refl
+told_with_out false a b = refl

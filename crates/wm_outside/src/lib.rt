@@ -5,19 +5,25 @@
 //! an object tells of itself changes by exactly what the call took, gave or was asked, until it ceases to tell.
 //!
 //! In the order of reading: what an object tells (`specs/Told.antt`), the counts (`specs/Cause.antt`), the traits, the
-//! forms in memory (`memory/`).
+//! forms in memory (`memory/`), which tell all and fail exactly at the calls that their lists name, and the adapters
+//! (`system/`), which tell nothing and are the trusted edge. `proofs/Telling.antt` and `proofs/Cause.antt` have the laws
+//! of two calls one after the other.
 #![tactic(auto)]
 
 mod clock;
 mod fault;
 mod memory;
+#[cfg(test)]
+mod samples;
 mod sink;
 mod source;
 mod spawner;
+mod system;
 
 pub use clock::Clock;
 pub use fault::{Failed, StartFault};
-pub use memory::{MemClock, MemSink, MemSource};
+pub use memory::{MemClock, MemSink, MemSource, MemSpawner};
 pub use sink::Sink;
 pub use source::Source;
 pub use spawner::{Spawner, Told};
+pub use system::{ReadSource, SysClock, SysSpawner, WriteSink};

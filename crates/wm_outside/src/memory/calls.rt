@@ -1,5 +1,5 @@
 // The calls of a form in memory.
-ghost use Rattle.std.specs.Prelude.{◌≡◌, ℕ};
+ghost use Rattle.std.specs.Prelude.{◌≡◌, is_err};
 
 use crate::Failed;
 
@@ -13,10 +13,10 @@ pub struct Calls {
 }
 
 impl Calls {
-    ghost use Rattle.wm_outside.specs.Memory.{CountsCall};
+    ghost use Rattle.wm_outside.specs.Calls.{CountsCall, is_new};
 
     pub fn new(failing: Vec<u32>) -> Calls
-        ensures { result ≡ record { made = 0; failed = 0; failing = failing } }
+        ensures { result ≡ is_new failing }
     {
         Calls {
             made: 0,
@@ -27,7 +27,7 @@ impl Calls {
 
     /// Counts a call, and answers `Failed` exactly where the list names its number.
     pub fn count(&mut self) -> Result<(), Failed>
-        ensures { CountsCall self.old self.new result }
+        ensures { CountsCall self.old self.new (is_err result) }
     {
         self.made = self.made.saturating_add(1);
         let number = self.made;

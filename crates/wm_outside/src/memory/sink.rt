@@ -1,5 +1,5 @@
 // A sink in memory.
-ghost use Rattle.std.specs.Prelude.{◌≡◌, ◌≤◌, ◌<◌, ◌^◌, ◌-◌, ℕ, List, [], Some, length, take, min, IfOk, OnErr, IfSome};
+ghost use Rattle.std.specs.Prelude.{◌≡◌, ◌≤◌, ◌<◌, ◌^◌, ◌-◌, ℕ, List, [], Some, length, take, min, is_err, IfOk, OnErr, IfSome};
 ghost use Rattle.wm_outside.specs.Told.{Grows};
 ghost use Rattle.wm_outside.specs.Cause.{HasCause};
 
@@ -18,7 +18,8 @@ pub struct MemSink {
 }
 
 impl MemSink {
-    ghost use Rattle.wm_outside.specs.Memory.{sink_written, sink_most, sink_calls, is_new};
+    ghost use Rattle.wm_outside.specs.Memory.{sink_written, sink_most, sink_calls};
+    ghost use Rattle.wm_outside.specs.Calls.{is_new};
 
     /// An empty sink, whose calls of these numbers, from 1, fail.
     pub fn new(alloc: Global, fail: Vec<u32>) -> MemSink
@@ -53,7 +54,8 @@ impl MemSink {
 }
 
 impl Sink for MemSink {
-    ghost use Rattle.wm_outside.specs.Memory.{sink_written, sink_most, sink_calls, CountsCall};
+    ghost use Rattle.wm_outside.specs.Memory.{sink_written, sink_most, sink_calls};
+    ghost use Rattle.wm_outside.specs.Calls.{CountsCall};
 
     ghost faults = { λ s. (sink_calls s).failed };
 
@@ -64,7 +66,7 @@ impl Sink for MemSink {
         ensures takes { IfOk result (λ n. n ≡ min (sink_most self.old) (length buf.now)) }
         ensures written { IfOk result (λ n. Grows (sink_written self.old) (sink_written self.new) (take n buf.now)) }
         ensures err { OnErr result (Grows (sink_written self.old) (sink_written self.new) []) }
-        ensures calls { CountsCall (sink_calls self.old) (sink_calls self.new) result }
+        ensures calls { CountsCall (sink_calls self.old) (sink_calls self.new) (is_err result) }
         ensures most { sink_most self.new ≡ sink_most self.old }
     {
         self.calls.count()?;

@@ -1,5 +1,5 @@
 // A source in memory.
-ghost use Rattle.std.specs.Prelude.{◌≡◌, ◌≤◌, ◌<◌, ◌^◌, ◌-◌, ◌++◌, ℕ, List, [], Some, length, take, min, IfOk, OnErr, vec_len};
+ghost use Rattle.std.specs.Prelude.{◌≡◌, ◌≤◌, ◌<◌, ◌^◌, ◌-◌, ◌++◌, ℕ, List, [], Some, length, take, min, is_err, IfOk, OnErr, vec_len};
 ghost use Rattle.std.specs.Io.KnownBytes.{IsAtEnd};
 ghost use Rattle.wm_outside.specs.Told.{Takes};
 ghost use Rattle.wm_outside.specs.Cause.{HasCause};
@@ -29,7 +29,8 @@ fn fill(buf: &mut [u8], bytes: &[u8], most: usize) -> usize
 }
 
 impl MemSource {
-    ghost use Rattle.wm_outside.specs.Memory.{source_left, source_most, source_calls, is_new};
+    ghost use Rattle.wm_outside.specs.Memory.{source_left, source_most, source_calls};
+    ghost use Rattle.wm_outside.specs.Calls.{is_new};
 
     /// A source of these bytes, whose calls of these numbers, from 1, fail.
     pub fn new(bytes: Vec<u8>, fail: Vec<u32>) -> MemSource
@@ -57,7 +58,8 @@ impl MemSource {
 }
 
 impl Source for MemSource {
-    ghost use Rattle.wm_outside.specs.Memory.{source_left, source_most, source_calls, CountsCall};
+    ghost use Rattle.wm_outside.specs.Memory.{source_left, source_most, source_calls};
+    ghost use Rattle.wm_outside.specs.Calls.{CountsCall};
 
     ghost faults = { λ s. (source_calls s).failed };
 
@@ -68,7 +70,7 @@ impl Source for MemSource {
         ensures gives { IfOk result (λ n. n ≡ min (source_most self.old) (min (length buf.new) (length (source_left self.old)))) }
         ensures taken { IfOk result (λ n. source_left self.old ≡ take n buf.new ++ source_left self.new) }
         ensures err { OnErr result (source_left self.new ≡ source_left self.old) }
-        ensures calls { CountsCall (source_calls self.old) (source_calls self.new) result }
+        ensures calls { CountsCall (source_calls self.old) (source_calls self.new) (is_err result) }
         ensures most { source_most self.new ≡ source_most self.old }
     {
         self.calls.count()?;
