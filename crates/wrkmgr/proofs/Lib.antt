@@ -4,5 +4,6 @@ pub mod MonitorLoops
 pub mod Writes
 pub mod Lines
 pub mod Firsts
+pub mod Inputs
 pub mod Servings
 pub mod Takings

@@ -26,7 +26,7 @@ use Rattle.wrkmgr.specs.Lines.{cut_from}
 use Rattle.wrkmgr.specs.Taking.{TakesPiece}
 use Rattle.wrkmgr.specs.declared.line.LineBuffer.{LineBuffer}
 use Rattle.wrkmgr.proofs.Takings.{TakesPiece-then, TakesPiece-none}
-use Rattle.wrkmgr.specs.Stop.{HasCauses}
+use Rattle.wrkmgr.specs.Stop.{HasCauses, HasInputCauses}
 use Rattle.wrkmgr.specs.declared.stop.Stop.{Stop}
 use Rattle.wrkmgr.specs.View.{view}
 use Rattle.wrkmgr.specs.declared.monitor.Monitor.{Monitor}
@@ -194,3 +194,33 @@ pub record ReadsSo (old new : MonitorView) (read_before read_now written_before 
   pub looked : looked_before ≤ looked_now
   pub total : sum ≤ 1000000000
   pub piece : length buf ≡ 65536
+
+-- an error that is passed on where the input is read too
+pub HasInputCauses-pass : {T U : Type 0} (r : Result T Stop) (q : Result U Stop) (e d : Stop) (i j k a b c x y z : ℕ) → r ≡ Err e → q ≡ Err d → d ≡ e → i ≤ j → a ≤ b → x ≤ y → HasInputCauses r j k b c y z → HasInputCauses q i k a c x z
+HasInputCauses-pass r q e d i j k a b c x y z was is same read before looked h =
+    record {
+      read = let n = h.read in omega arith;
+      written = let n = h.written in omega arith;
+      looked = let n = h.looked in omega arith;
+      read_fault = λ f. let n = h.read_fault (cc) in omega arith;
+      write_fault = λ f. let n = h.write_fault (cc) in omega arith;
+      wait_fault = λ f. let n = h.wait_fault (cc) in omega arith;
+    }
+
+-- where it isn't read, no fault of it is told
+pub HasInputCauses-from : {T : Type 0} (r : Result T Stop) (i j a b x y : ℕ) → i ≤ j → HasCauses r a b x y → HasInputCauses r i j a b x y
+HasInputCauses-from r i j a b x y read h =
+    record {
+      read = read;
+      written = h.written;
+      looked = h.looked;
+      read_fault = λ f. absurd (h.no_read_fault f);
+      write_fault = h.write_fault;
+      wait_fault = h.wait_fault;
+    }
+
+-- an error of a call that leaves all as it was
+pub Serves-same : (log now : List Entry) (m n : Monitor) (asked : Option (List Asked)) (told : Option (List Told)) (misses : ℕ) → now ≡ log → n ≡ m → Serves (view log m asked told misses) (view now n asked told misses)
+Serves-same log now m n asked told misses is same =
+    subst (λ (l : List Entry). Serves (view log m asked told misses) (view l n asked told misses)) (sym is)
+      (subst (λ (x : Monitor). Serves (view log m asked told misses) (view log x asked told misses)) (sym same) (Serves-none _))

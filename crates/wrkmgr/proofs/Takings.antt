@@ -105,11 +105,10 @@ fold_append : (c : Cut) (xs ys : List ℕ) → fold cut_byte c (xs ++ ys) ≡ fo
 fold_append c [] ys = refl
 fold_append c (x ∷ xs) ys = fold_append (cut_byte c x) xs ys
 
--- a piece, and then another
-pub TakesPiece-then : (r xs ys : List ℕ) (b d : LineBuffer) (es fs : List Entry) (u v w : Option (List ℕ)) (f g : Bool) → TakesPiece (cut_from r xs) b es u v f → ((rest : List ℕ) → Holds b rest → TakesPiece (cut_from rest ys) d fs v w g) → TakesPiece (cut_from r (xs ++ ys)) d (es ++ fs) u w (f || g)
-TakesPiece-then r xs ys b d es fs u v w f g h k =
+-- a piece, and then another from the rest of the first
+pub TakesPiece-at : (r xs ys : List ℕ) (b d : LineBuffer) (es fs : List Entry) (u v w : Option (List ℕ)) (f g : Bool) → TakesPiece (cut_from r xs) b es u v f → TakesPiece (cut_from (cut_from r xs).rest ys) d fs v w g → TakesPiece (cut_from r (xs ++ ys)) d (es ++ fs) u w (f || g)
+TakesPiece-at r xs ys b d es fs u v w f g h t =
     let c = cut_from r xs in
-    let t = k c.rest h.holds in
     let o = follows c ys in
     let whole = fold_append (record { lines = []; rest = r }) xs ys in
     let both = AnsweredBy-append c.lines (cut_from c.rest ys).lines es fs u v w f g h.answered t.answered in
@@ -118,6 +117,10 @@ TakesPiece-then r xs ys b d es fs u v w f g h k =
       holds = subst (λ (x : List ℕ). Holds d x) (sym o.rest) t.holds;
       answered = subst (λ (l : List (List ℕ)). AnsweredBy (Answers l) (es ++ fs) u w (f || g)) (sym o.lines) both;
     })
+
+-- a piece, and then another that goes on from any rest
+pub TakesPiece-then : (r xs ys : List ℕ) (b d : LineBuffer) (es fs : List Entry) (u v w : Option (List ℕ)) (f g : Bool) → TakesPiece (cut_from r xs) b es u v f → ((rest : List ℕ) → Holds b rest → TakesPiece (cut_from rest ys) d fs v w g) → TakesPiece (cut_from r (xs ++ ys)) d (es ++ fs) u w (f || g)
+TakesPiece-then r xs ys b d es fs u v w f g h k = TakesPiece-at r xs ys b d es fs u v w f g h (k (cut_from r xs).rest h.holds)
 
 -- nothing taken
 pub TakesPiece-none : (r : List ℕ) (b : LineBuffer) (w : Option (List ℕ)) → Holds b r → TakesPiece (cut_from r []) b [] w w false

@@ -7,7 +7,7 @@ ghost use Rattle.wm_outside.specs.Cause.{raised};
 use crate::line::LineBuffer;
 use crate::session::{NOT_BUILT, Run, put};
 use crate::stop::Stop;
-use std::alloc::Global;
+use std::alloc::{AllocError, Global};
 use std::sync::Wait;
 use wm_clwords::one_reading;
 use wm_outside::{Clock, Sink, Source, Spawner};
@@ -33,6 +33,12 @@ fn read<I: Source>(input: &mut I, piece: &mut [u8]) -> Result<usize, Stop>
         Ok(n) => Ok(n),
         Err(_) => Err(Stop::ReadFault),
     }
+}
+
+fn piece_buffer(alloc: Global) -> Result<Vec<u8>, AllocError>
+    ensures { IfOk result (λ piece. length piece.items ≡ 65536) }
+{
+    Ok(vec![in alloc; 0u8; PIECE_LEN]?)
 }
 
 fn either(a: bool, b: bool) -> bool
@@ -103,6 +109,22 @@ impl Run {
         Ok(faulty)
     }
 
+    // Reads a piece and takes it. It answers how many bytes were read, and whether a line of them got a fault or a refusal.
+    fn take_some<I: Source, O: Sink, P: Spawner, C: Clock>(&mut self, alloc: Global, input: &mut I, out: &mut O, spawner: &mut P, clock: &mut C, buffer: &mut LineBuffer, piece: &mut [u8]) -> Result<(usize, bool), Stop>
+        ensures serves { Serves (view self.old.floor self.old.monitor (P.asked spawner.old) (P.told spawner.old) (P.misses spawner.old))
+            (view self.new.floor self.new.monitor (P.asked spawner.new) (P.told spawner.new) (P.misses spawner.new)) }
+        ensures within { IfOk result (λ got. got.0 ≤ length piece.new) }
+        ensures len { length piece.new ≡ length piece.old }
+        ensures taken { IfOk result (λ got. (rest : List ℕ) → Holds buffer.old rest → TakesInput (I.left input.old) (I.left input.new) (λ bytes. TakesPiece (cut_from rest bytes) buffer.new
+            (entries_of session_pass (since self.old.floor self.new.floor)) (O.written out.old) (O.written out.new) got.1)) }
+        ensures end { IfOk result (λ got. got.0 ≡ 0 → 0 < length piece.new → IsAtEnd (I.left input.new)) }
+        ensures causes { HasInputCauses result (I.faults input.old) (I.faults input.new) (O.faults out.old) (O.faults out.new) (P.faults spawner.old) (P.faults spawner.new) }
+    {
+        let n = read(input, piece)?;
+        let faulty = self.take_piece(alloc, out, spawner, clock, buffer, &piece[..n])?;
+        Ok((n, faulty))
+    }
+
     /// Takes the whole input, and answers its lines. It answers whether one of them got a fault or a refusal.
     pub fn take_all<I: Source, O: Sink, P: Spawner, C: Clock, R: Wait>(&mut self, rt: &R, alloc: Global, input: &mut I, out: &mut O, spawner: &mut P, clock: &mut C) -> Result<bool, Stop>
         ensures serves { Serves (view self.old.floor self.old.monitor (P.asked spawner.old) (P.told spawner.old) (P.misses spawner.old))
@@ -112,23 +134,22 @@ impl Run {
         ensures end { OnOk result (IsAtEnd (I.left input.new)) }
         ensures causes { HasInputCauses result (I.faults input.old) (I.faults input.new) (O.faults out.old) (O.faults out.new) (P.faults spawner.old) (P.faults spawner.new) }
     {
-        let mut piece = vec![in alloc; 0u8; PIECE_LEN]?;
+        let mut piece = piece_buffer(alloc)?;
         let mut buffer = LineBuffer::new(alloc);
         let mut faulty = false;
         let mut total = 0u64;
         'reads: for _ in rt.forever() {
-            let n = read(input, &mut piece)?;
-            if n == 0 {
-                break;
+            let got = self.take_some(alloc, input, out, spawner, clock, &mut buffer, &mut piece)?;
+            faulty = either(faulty, got.1);
+            if got.0 == 0 {
+                let wrong = self.answer_buffered(alloc, out, spawner, clock, &buffer)?;
+                return Ok(either(faulty, wrong));
             }
-            total += n as u64;
+            total += got.0 as u64;
             if total > MOST_INPUT {
                 return Err(Stop::InputFull);
             }
-            let wrong = self.take_piece(alloc, out, spawner, clock, &mut buffer, &piece[..n])?;
-            faulty = either(faulty, wrong);
         }
-        let wrong = self.answer_buffered(alloc, out, spawner, clock, &buffer)?;
-        Ok(either(faulty, wrong))
+        unreachable!()
     }
 }
