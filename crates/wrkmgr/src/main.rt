@@ -10,10 +10,46 @@ mod input;
 mod line;
 mod monitor;
 mod report;
+mod run;
 mod said;
 mod session;
 mod stop;
 mod submission;
 mod write;
 
-fn main() {}
+use run::{NO_MEMORY, run};
+use std::env;
+use std::process::ExitCode;
+use wm_outside::{ReadSource, SysClock, SysSpawner, WriteSink};
+
+fn main(rt: HostRuntime) -> ExitCode {
+    let Ok(arguments) = env::args(&rt) else {
+        return ExitCode::from(NO_MEMORY);
+    };
+    let mut texts = Vec::new(rt.alloc());
+    for argument in arguments.skip(1) {
+        if texts.push(argument).is_err() {
+            return ExitCode::from(NO_MEMORY);
+        }
+    }
+    let mut words = Vec::new(rt.alloc());
+    for text in &texts {
+        if words.push(text.as_bytes()).is_err() {
+            return ExitCode::from(NO_MEMORY);
+        }
+    }
+    let mut input = ReadSource::new(rt.stdin());
+    let mut out = WriteSink::new(rt.stdout());
+    let mut spawner = SysSpawner::new(rt.alloc(), &rt);
+    let mut clock = SysClock::new(&rt);
+    let ran = run(
+        &rt,
+        rt.alloc(),
+        &words,
+        &mut input,
+        &mut out,
+        &mut spawner,
+        &mut clock,
+    );
+    ExitCode::from(ran.status)
+}

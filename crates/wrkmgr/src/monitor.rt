@@ -26,7 +26,7 @@ pub const MOST_LOOKS: u32 = 256;
 /// A monitor. It keeps the report that the floor didn't take, to send it first in its next call.
 #[derive(Clone, Copy, Debug, PartialEq, Eq)]
 pub struct Monitor {
-    kept: Option<Report>,
+    pub(crate) kept: Option<Report>,
 }
 
 /// Why a turn or a wait of a monitor ended early.

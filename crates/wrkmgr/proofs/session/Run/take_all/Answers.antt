@@ -12,5 +12,18 @@ returns-then-total-gt-MOST_INPUT-clause-serves g c = Serves-then _ _ _ c.reads.i
 pub returns-in_err-wrong-clause-serves : goal.returns-in_err-wrong-clause-serves
 returns-in_err-wrong-clause-serves g c = Serves-then _ _ _ (Serves-then _ _ _ c.reads.invariant.serves c.take_some.ensures.serves) c.answer_buffered.ensures.serves
 
-pub returns-clause-serves : goal.returns-clause-serves
-returns-clause-serves g c = Serves-then _ _ _ (Serves-then _ _ _ c.reads.invariant.serves c.take_some.ensures.serves) c.answer_buffered.ensures.serves
+pub reads-preserved : goal.reads-preserved
+reads-preserved g c =
+    let x = g.I.Source in
+    let o = g.O.Sink in
+    let i = c.reads.invariant in
+    let k = c.take_some.ensures in
+    record {
+      serves = Serves-then _ _ _ i.serves k.serves;
+      taken = input_then (x.left c.args.input.now) (x.left c.reads.input) (x.left c.take_some.new.input) c.reads.buffer c.take_some.new.buffer c.args.self.now.floor c.reads.self.floor c.take_some.new.self.floor (o.written c.args.out.now) (o.written c.reads.out) (o.written c.take_some.new.out) c.reads.faulty c.in_ok-got.got.1 c.either-faulty.result c.either-faulty.ensures i.serves.log k.serves.log i.taken c.in_ok-got.ensures.taken;
+      read = let n = k.causes.read in omega arith;
+      written = let n = k.causes.written in omega arith;
+      looked = let n = k.causes.looked in omega arith;
+      total = let f = c.if-total-gt-MOST_INPUT.false in omega arith;
+      piece = let a = k.len in let b = i.piece in omega arith;
+    }
