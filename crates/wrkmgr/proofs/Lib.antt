@@ -5,5 +5,6 @@ pub mod Writes
 pub mod Lines
 pub mod Firsts
 pub mod Inputs
+pub mod Runs
 pub mod Servings
 pub mod Takings

@@ -1,5 +1,5 @@
 -- Laws of a run's parts: nothing, a monitor's part, a call of the session, and one part after another.
-use Rattle.std.proofs.Common.{◌≡◌, ℕ, ◌+◌, ◌≤◌, ◌==◌, ◌&&◌, ◌||◌, Bool, true, false, List, [], ◌∷◌, ◌++◌, length, map, Option, Some, None, option_to_list, Result, Ok, Err, sym, ap, subst, ◌∙◌, refl, append_assoc, arith}
+use Rattle.std.proofs.Common.{◌≡◌, ℕ, ◌+◌, ◌≤◌, ◌<◌, ◌==◌, ◌&&◌, ◌||◌, Bool, true, false, List, [], ◌∷◌, ◌++◌, length, map, Option, Some, None, option_to_list, Result, Ok, Err, sym, ap, subst, ◌∙◌, refl, append_assoc, arith}
 use Rattle.std.specs.List.{list_all, filter, count_by}
 use Rattle.std.proofs.Math.Seq.{drop-length}
 use Rattle.std.proofs.lemmas.Bool.Decides.{nat_tests}
@@ -193,7 +193,7 @@ pub record ReadsSo (old new : MonitorView) (read_before read_now written_before 
   pub written : written_before ≤ written_now
   pub looked : looked_before ≤ looked_now
   pub total : sum ≤ 1000000000
-  pub piece : length buf ≡ 65536
+  pub piece : 0 < length buf
 
 -- an error that is passed on where the input is read too
 pub HasInputCauses-pass : {T U : Type 0} (r : Result T Stop) (q : Result U Stop) (e d : Stop) (i j k a b c x y z : ℕ) → r ≡ Err e → q ≡ Err d → d ≡ e → i ≤ j → a ≤ b → x ≤ y → HasInputCauses r j k b c y z → HasInputCauses q i k a c x z

@@ -125,8 +125,9 @@ impl Run {
         Ok((n, faulty))
     }
 
-    /// Takes the whole input, and answers its lines. It answers whether one of them got a fault or a refusal.
-    pub fn take_all<I: Source, O: Sink, P: Spawner, C: Clock, R: Wait>(&mut self, rt: &R, alloc: Global, input: &mut I, out: &mut O, spawner: &mut P, clock: &mut C) -> Result<bool, Stop>
+    // Takes the whole input by pieces, and answers its lines.
+    fn take_pieces<I: Source, O: Sink, P: Spawner, C: Clock, R: Wait>(&mut self, rt: &R, alloc: Global, input: &mut I, out: &mut O, spawner: &mut P, clock: &mut C, piece: &mut [u8]) -> Result<bool, Stop>
+        requires { 0 < length piece.old }
         ensures serves { Serves (view self.old.floor self.old.monitor (P.asked spawner.old) (P.told spawner.old) (P.misses spawner.old))
             (view self.new.floor self.new.monitor (P.asked spawner.new) (P.told spawner.new) (P.misses spawner.new)) }
         ensures taken { IfOk result (λ faulty. TakesInput (I.left input.old) (I.left input.new) (λ bytes. AnsweredBy (Answers (lines_of bytes))
@@ -134,12 +135,11 @@ impl Run {
         ensures end { OnOk result (IsAtEnd (I.left input.new)) }
         ensures causes { HasInputCauses result (I.faults input.old) (I.faults input.new) (O.faults out.old) (O.faults out.new) (P.faults spawner.old) (P.faults spawner.new) }
     {
-        let mut piece = piece_buffer(alloc)?;
         let mut buffer = LineBuffer::new(alloc);
         let mut faulty = false;
         let mut total = 0u64;
         'reads: for _ in rt.forever() {
-            let got = self.take_some(alloc, input, out, spawner, clock, &mut buffer, &mut piece)?;
+            let got = self.take_some(alloc, input, out, spawner, clock, &mut buffer, piece)?;
             faulty = either(faulty, got.1);
             if got.0 == 0 {
                 let wrong = self.answer_buffered(alloc, out, spawner, clock, &buffer)?;
@@ -151,5 +151,18 @@ impl Run {
             }
         }
         unreachable!()
+    }
+
+    /// Takes the whole input, and answers its lines. It answers whether one of them got a fault or a refusal.
+    pub fn take_all<I: Source, O: Sink, P: Spawner, C: Clock, R: Wait>(&mut self, rt: &R, alloc: Global, input: &mut I, out: &mut O, spawner: &mut P, clock: &mut C) -> Result<bool, Stop>
+        ensures serves { Serves (view self.old.floor self.old.monitor (P.asked spawner.old) (P.told spawner.old) (P.misses spawner.old))
+            (view self.new.floor self.new.monitor (P.asked spawner.new) (P.told spawner.new) (P.misses spawner.new)) }
+        ensures taken { IfOk result (λ faulty. TakesInput (I.left input.old) (I.left input.new) (λ bytes. AnsweredBy (Answers (lines_of bytes))
+            (entries_of session_pass (since self.old.floor self.new.floor)) (O.written out.old) (O.written out.new) faulty)) }
+        ensures end { OnOk result (IsAtEnd (I.left input.new)) }
+        ensures causes { HasInputCauses result (I.faults input.old) (I.faults input.new) (O.faults out.old) (O.faults out.new) (P.faults spawner.old) (P.faults spawner.new) }
+    {
+        let mut piece = piece_buffer(alloc)?;
+        self.take_pieces(rt, alloc, input, out, spawner, clock, &mut piece)
     }
 }

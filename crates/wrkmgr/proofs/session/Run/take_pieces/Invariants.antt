@@ -6,7 +6,7 @@ use Rattle.wrkmgr.specs.Session.{session_pass}
 use Rattle.wrkmgr.specs.Taking.{TakesPiece, TakesInput}
 use Rattle.wrkmgr.specs.View.{view}
 use Rattle.wrkmgr.proofs.Servings.{ReadsSo}
-use Rattle.wrkmgr.proofs.session.Run.take_all.Given as goal
+use Rattle.wrkmgr.proofs.session.Run.take_pieces.Given as goal
 
 abbrev pub invariant-reads : goal.invariant-reads
 invariant-reads g l =
@@ -17,5 +17,5 @@ invariant-reads g l =
       (view l.fn.self.floor l.fn.self.monitor (s.asked l.fn.spawner) (s.told l.fn.spawner) (s.misses l.fn.spawner))
       (view l.self.floor l.self.monitor (s.asked l.spawner) (s.told l.spawner) (s.misses l.spawner))
       (i.faults l.fn.input) (i.faults l.input) (o.faults l.fn.out) (o.faults l.out) (s.faults l.fn.spawner) (s.faults l.spawner)
-      l.total l.piece.items
+      l.total l.piece
       (TakesInput (i.left l.fn.input) (i.left l.input) (λ bytes. TakesPiece (cut_from [] bytes) l.buffer (entries_of session_pass (since l.fn.self.floor l.self.floor)) (o.written l.fn.out) (o.written l.out) l.faulty))

@@ -1,7 +1,7 @@
 use Rattle.std.proofs.Common.{arith}
 use Rattle.wrkmgr.proofs.Inputs.{input_then, input_end}
 use Rattle.wrkmgr.proofs.Servings.{Serves-then}
-use Rattle.wrkmgr.proofs.session.Run.take_all.Goals as goal
+use Rattle.wrkmgr.proofs.session.Run.take_pieces.Goals as goal
 
 pub returns-in_err-got-clause-serves : goal.returns-in_err-got-clause-serves
 returns-in_err-got-clause-serves g c = Serves-then _ _ _ c.reads.invariant.serves c.take_some.ensures.serves

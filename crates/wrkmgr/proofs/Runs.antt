@@ -1,0 +1,148 @@
+-- Laws of a whole run: its parts, and its status.
+use Rattle.std.proofs.Common.{◌≡◌, ℕ, ◌+◌, ◌≤◌, ◌==◌, Bool, true, false, List, [], ◌∷◌, ◌++◌, length, Option, Some, None, option_to_list, Result, Ok, Err, sym, ap, subst, ◌∙◌, refl, arith}
+use Rattle.std.specs.Prelude.{IfOk, OnOk, IsErrOf}
+use Rattle.std.specs.List.{list_all}
+use Rattle.wm_base.specs.declared.job.Asked.{Asked}
+use Rattle.wm_law.specs.declared.call.Call.{Call}
+use Rattle.wm_law.specs.declared.call.Entry.{Entry}
+use Rattle.wm_law.specs.History.{entries_of}
+use Rattle.wm_outside.specs.declared.spawner.Told.{Told}
+use Rattle.wm_outside.proofs.Telling.{Grows-none}
+use Rattle.wrkmgr.specs.Lines.{lines_of}
+use Rattle.wrkmgr.specs.Lists.{since, Extends}
+use Rattle.wrkmgr.specs.Monitor.{as_reports}
+use Rattle.wrkmgr.specs.Run.{IsServed, ended_status}
+use Rattle.wrkmgr.specs.Serving.{Serves, is_ours}
+use Rattle.wrkmgr.specs.Session.{Answers, AnsweredBy, IsSession, OneCall, session_pass, start_call, end_call}
+use Rattle.wrkmgr.specs.Stop.{HasCauses, HasInputCauses}
+use Rattle.wrkmgr.specs.Taking.{TakesInput}
+use Rattle.wrkmgr.specs.View.{view}
+use Rattle.wrkmgr.specs.declared.monitor.Monitor.{Monitor}
+use Rattle.wrkmgr.specs.declared.report.Report.{Report}
+use Rattle.wrkmgr.specs.declared.stop.Stop.{Stop}
+use Rattle.wrkmgr.specs.declared.stop.Stop.TheVariants.{ReadFault, WriteFault, NoMemory, WaitFault, InputFull}
+use Rattle.wrkmgr.proofs.Monitors.{Extends-then}
+use Rattle.wrkmgr.proofs.Servings.{session_entries-then}
+
+-- the first call, the lines and the last call, one after another
+pub session_parts : (a b c d : List Entry) (x y u v : Option (List ℕ)) (f : Bool) → Extends a b → Extends b c → Extends c d → OneCall start_call (entries_of session_pass (since a b)) → TakesInput x y (λ bytes. AnsweredBy (Answers (lines_of bytes)) (entries_of session_pass (since b c)) u v f) → OneCall end_call (entries_of session_pass (since c d)) → TakesInput x y (λ bytes. IsSession (lines_of bytes) (entries_of session_pass (since a d)) u v f)
+session_parts a b c d x y u v f ab bc cd start taken end =
+    let more = session_entries-then a b d ab (Extends-then b c d bc cd) in
+    let rest = session_entries-then b c d bc cd in
+    record {
+      bytes = taken.bytes;
+      taken = taken.taken;
+      done = record {
+        first = entries_of session_pass (since a b);
+        middle = entries_of session_pass (since b c);
+        last = entries_of session_pass (since c d);
+        parts = more ∙ ap (λ (es : List Entry). entries_of session_pass (since a b) ++ es) rest;
+        start = start;
+        answered = taken.done;
+        end = end;
+      };
+    }
+
+-- a fault of a part that neither reads nor writes
+pub HasInputCauses-quiet : {T U : Type 0} (r : Result T Stop) (q : Result U Stop) (e d : Stop) (i j a b x y z : ℕ) → r ≡ Err e → q ≡ Err d → d ≡ e → i ≤ j → a ≤ b → x ≤ y → HasCauses r 0 0 y z → HasInputCauses q i j a b x z
+HasInputCauses-quiet r q e d i j a b x y z was is same read written before h =
+    record {
+      read = read;
+      written = written;
+      looked = let k = h.looked in omega arith;
+      read_fault = λ f. absurd (h.no_read_fault (cc));
+      write_fault = λ f. let k = h.write_fault (cc) in omega arith;
+      wait_fault = λ f. let k = h.wait_fault (cc) in omega arith;
+    }
+
+-- no fault
+pub HasInputCauses-ok : {T : Type 0} (q : Result T Stop) (t : T) (i j a b x y : ℕ) → q ≡ Ok t → i ≤ j → a ≤ b → x ≤ y → HasInputCauses q i j a b x y
+HasInputCauses-ok q t i j a b x y is read written looked =
+    record {
+      read = read;
+      written = written;
+      looked = looked;
+      read_fault = λ f. absurd (cc);
+      write_fault = λ f. absurd (cc);
+      wait_fault = λ f. absurd (cc);
+    }
+
+-- a status of at most 1 is that of a session that has ended
+pub low_if : (P : Bool → Type 0) (r : Result Bool Stop) → IfOk r P → ended_status r ≤ 1 → P (ended_status r == 1)
+low_if P (Ok true) h low = h
+low_if P (Ok false) h low = h
+low_if P (Err ReadFault) h low = absurd (omega arith)
+low_if P (Err WriteFault) h low = absurd (omega arith)
+low_if P (Err NoMemory) h low = absurd (omega arith)
+low_if P (Err WaitFault) h low = absurd (omega arith)
+low_if P (Err InputFull) h low = absurd (omega arith)
+
+pub low_on : (P : Type 0) (r : Result Bool Stop) → OnOk r P → ended_status r ≤ 1 → P
+low_on P (Ok f) h low = h
+low_on P (Err ReadFault) h low = absurd (omega arith)
+low_on P (Err WriteFault) h low = absurd (omega arith)
+low_on P (Err NoMemory) h low = absurd (omega arith)
+low_on P (Err WaitFault) h low = absurd (omega arith)
+low_on P (Err InputFull) h low = absurd (omega arith)
+
+-- each status of a fault has its fault, and 2 has none
+pub read_status : (r : Result Bool Stop) → ended_status r ≡ 3 → IsErrOf r ReadFault
+read_status (Ok true) is = absurd (omega arith)
+read_status (Ok false) is = absurd (omega arith)
+read_status (Err ReadFault) is = refl
+read_status (Err WriteFault) is = absurd (omega arith)
+read_status (Err NoMemory) is = absurd (omega arith)
+read_status (Err WaitFault) is = absurd (omega arith)
+read_status (Err InputFull) is = absurd (omega arith)
+
+pub write_status : (r : Result Bool Stop) → ended_status r ≡ 4 → IsErrOf r WriteFault
+write_status (Ok true) is = absurd (omega arith)
+write_status (Ok false) is = absurd (omega arith)
+write_status (Err ReadFault) is = absurd (omega arith)
+write_status (Err WriteFault) is = refl
+write_status (Err NoMemory) is = absurd (omega arith)
+write_status (Err WaitFault) is = absurd (omega arith)
+write_status (Err InputFull) is = absurd (omega arith)
+
+pub wait_status : (r : Result Bool Stop) → ended_status r ≡ 8 → IsErrOf r WaitFault
+wait_status (Ok true) is = absurd (omega arith)
+wait_status (Ok false) is = absurd (omega arith)
+wait_status (Err ReadFault) is = absurd (omega arith)
+wait_status (Err WriteFault) is = absurd (omega arith)
+wait_status (Err NoMemory) is = absurd (omega arith)
+wait_status (Err WaitFault) is = refl
+wait_status (Err InputFull) is = absurd (omega arith)
+
+pub not_words : (r : Result Bool Stop) → ended_status r ≡ 2 → ⊥
+not_words (Ok true) is = omega arith
+not_words (Ok false) is = omega arith
+not_words (Err ReadFault) is = omega arith
+not_words (Err WriteFault) is = omega arith
+not_words (Err NoMemory) is = omega arith
+not_words (Err WaitFault) is = omega arith
+not_words (Err InputFull) is = omega arith
+
+few_kept : (kept : Option Report) → length (option_to_list kept) ≤ 1
+few_kept None = omega arith
+few_kept (Some report) = omega arith
+
+-- what stands around a run that begins with no history and no report
+pub IsServed-from : (first log : List Entry) (m : Monitor) (n : Monitor) (a b : Option (List Asked)) (t u : Option (List Told)) (x y : ℕ) → first ≡ [] → m.kept ≡ None → Serves (view first m a t x) (view log n b u y) → IsServed log (option_to_list n.kept) a b t u x y
+IsServed-from first log m n a b t u x y none empty h =
+    let P : List Entry → Option Report → Type 0 = λ l k. Serves (record { log = l; kept = option_to_list k; asked = a; told = as_reports t; misses = x }) (view log n b u y) in
+    let s : P [] None = subst (λ (k : Option Report). P [] k) empty (subst (λ (l : List Entry). P l m.kept) none h) in
+    record { asked = s.asked; told = s.told; misses = s.misses; few = few_kept n.kept }
+
+-- nothing was asked, and nothing was told
+pub IsServed-none : (log : List Entry) (kept : Option Report) (a : Option (List Asked)) (t : Option (List Told)) (x : ℕ) → log ≡ [] → kept ≡ None → IsServed log (option_to_list kept) a a t t x x
+IsServed-none log kept a t x none empty =
+    let base : IsServed [] (option_to_list None) a a t t x x = record { asked = Grows-none a; told = Grows-none (as_reports t); misses = omega arith; few = omega arith } in
+    subst (λ (k : Option Report). IsServed log (option_to_list k) a a t t x x) (sym empty) (subst (λ (l : List Entry). IsServed l (option_to_list None) a a t t x x) (sym none) base)
+
+-- all entries are the run's own
+pub callers_from : (first log : List Entry) → first ≡ [] → list_all is_ours (since first log) ≡ true → list_all is_ours log ≡ true
+callers_from first log none h = subst (λ (l : List Entry). list_all is_ours (since l log) ≡ true) none h
+
+-- a session of a history that begins with nothing
+pub session_from : (first log : List Entry) (x y u v : Option (List ℕ)) (f : Bool) → first ≡ [] → TakesInput x y (λ bytes. IsSession (lines_of bytes) (entries_of session_pass (since first log)) u v f) → TakesInput x y (λ bytes. IsSession (lines_of bytes) (entries_of session_pass log) u v f)
+session_from first log x y u v f none h = subst (λ (l : List Entry). TakesInput x y (λ bytes. IsSession (lines_of bytes) (entries_of session_pass (since l log)) u v f)) none h
