@@ -1,5 +1,5 @@
 // A whole run: the words of the command line, the session over the input, and the status.
-ghost use Rattle.std.specs.Prelude.{◌≡◌, ◌≤◌, ◌==◌, IfOk, None, [], option_to_list, true, false};
+ghost use Rattle.std.specs.Prelude.{◌≡◌, ◌≤◌, ◌==◌, IfOk, None, [], map, option_to_list, true, false};
 ghost use Rattle.std.specs.Io.KnownBytes.{IsAtEnd};
 ghost use Rattle.std.specs.List.{list_all};
 ghost use Rattle.wm_law.specs.History.{after, entries_of, IsLegal};
@@ -62,7 +62,7 @@ fn ended_status(end: Result<bool, Stop>) -> u8
 
 // Whether the words are the one word `run`.
 fn is_run(words: &[&[u8]]) -> bool
-    ensures { result ≡ is_run words.now }
+    ensures { result ≡ is_run (map (λ word. word.now) words.now) }
 {
     match words {
         [word] => *word == b"run".as_slice(),
@@ -122,8 +122,8 @@ impl Run {
 /// 2 where the words are others; 3 where the input couldn't be read, 4 where the output couldn't be written, 6 for want
 /// of memory, 8 where the spawner couldn't kill or look, and 11 where the input has more than 1,000,000,000 bytes.
 pub fn run<I: Source, O: Sink, P: Spawner, C: Clock, R: Wait>(rt: &R, alloc: Global, words: &[&[u8]], input: &mut I, out: &mut O, spawner: &mut P, clock: &mut C) -> Ran
-    ensures words { is_run words.now ≡ false → result.status ≡ 2 }
-    ensures run { is_run words.now ≡ true → result.status ≡ 2 → ⊥ }
+    ensures words { is_run (map (λ word. word.now) words.now) ≡ false → result.status ≡ 2 }
+    ensures run { is_run (map (λ word. word.now) words.now) ≡ true → result.status ≡ 2 → ⊥ }
     ensures legal { IsLegal opening result.log.items }
     ensures callers { list_all is_ours result.log.items ≡ true }
     ensures served { IsServed result.log.items (option_to_list result.kept) (P.asked spawner.old) (P.asked spawner.new) (P.told spawner.old) (P.told spawner.new) (P.misses spawner.old) (P.misses spawner.new) }

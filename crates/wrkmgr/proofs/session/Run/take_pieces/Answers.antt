@@ -27,3 +27,16 @@ reads-preserved g c =
       total = let f = c.if-total-gt-MOST_INPUT.false in omega arith;
       piece = let a = k.len in let b = i.piece in omega arith;
     }
+
+pub returns-then-got-eq0-clause-serves : goal.returns-then-got-eq0-clause-serves
+returns-then-got-eq0-clause-serves g c = Serves-then _ _ _ (Serves-then _ _ _ c.reads.invariant.serves c.take_some.ensures.serves) c.answer_buffered.ensures.serves
+
+pub returns-then-got-eq0-clause-taken : goal.returns-then-got-eq0-clause-taken
+returns-then-got-eq0-clause-taken g c =
+    let x = g.I.Source in
+    let o = g.O.Sink in
+    let i = c.reads.invariant in
+    let k = c.take_some.ensures in
+    let all = input_then (x.left c.args.input.now) (x.left c.reads.input) (x.left c.take_some.new.input) c.reads.buffer c.take_some.new.buffer c.args.self.now.floor c.reads.self.floor c.take_some.new.self.floor (o.written c.args.out.now) (o.written c.reads.out) (o.written c.take_some.new.out) c.reads.faulty c.in_ok-got.got.1 c.either-faulty.result c.either-faulty.ensures i.serves.log k.serves.log i.taken c.in_ok-got.ensures.taken in
+    let begun = (Serves-then _ _ _ i.serves k.serves).log in
+    input_end (x.left c.args.input.now) (x.left c.take_some.new.input) c.take_some.new.buffer c.args.self.now.floor c.take_some.new.self.floor c.answer_buffered.new.self.floor (o.written c.args.out.now) (o.written c.take_some.new.out) (o.written c.answer_buffered.new.out) c.either-faulty.result c.in_ok-wrong.wrong c.either.result c.either.ensures begun c.answer_buffered.ensures.serves.log all c.in_ok-wrong.ensures.answered
