@@ -22,13 +22,9 @@ use Rattle.wm_law.specs.Choice.{rank_cmp, better, candidate, candidate_from, can
 use Rattle.wm_law.specs.Names.{described}
 use Rattle.wm_law.specs.Counts.{is_waiting}
 use Rattle.wm_law.specs.Launch.{route, route_fault, launched_by, launched_through, launched, launched_at, launch, launch_job, with_launched}
-use Rattle.wm_base.proofs.Iterate.{iterate-none, iterate-step}
-use Rattle.wm_law.specs.Machine.{waiting, start_jobs}
-
--- the element is in the list
-abbrev Member : {X : Type 0} → X → List X → Type 0
-Member x [] = ⊥
-Member x (y ∷ ys) = (x ≡ y) ⊎ Member x ys
+use Rattle.wm_base.proofs.Iterate.{iterate-none, iterate-step, next-iterate}
+use Rattle.wm_law.specs.Laws.{IsIn, SettledHasNoNext}
+use Rattle.wm_law.specs.Machine.{waiting, start_jobs, leave}
 
 chosen : (t : Bool) (x y z : Option Candidate) → cond t x y ≡ z → (y ≡ z) ⊎ (x ≡ z)
 chosen true x y z e = inr e
@@ -42,7 +38,7 @@ one_of (Some b) (Some d) c e = chosen (is_lt (rank_cmp d.rank b.rank)) (Some d) 
 
 -- the candidate is that of a job of the list
 abbrev IsFrom : State → List Job → Candidate → Type 0
-IsFrom s jobs c = (j : Job) × Member j jobs × (candidate s j ≡ Some c)
+IsFrom s jobs c = (j : Job) × IsIn j jobs × (candidate s j ≡ Some c)
 
 -- what a fold keeps was there at first, or is some job's candidate
 from_some : (s : State) (jobs : List Job) (best : Option Candidate) (c : Candidate) → fold (λ b j. better b (candidate s j)) best jobs ≡ Some c → (best ≡ Some c) ⊎ IsFrom s jobs c
@@ -115,7 +111,7 @@ none_at : (l : Launched) → is_waiting l.phase ≡ false → (t : Bool) (j : Jo
 none_at l h true j e = rw h refl
 none_at l h false j e = absurd (cc)
 
-less : (serial : ℕ) (l : Launched) → is_waiting l.phase ≡ false → (jobs : List Job) (j : Job) → Member j jobs → is_waiting j.phase ≡ true → serial ≡ j.serial → count_by (λ j. is_waiting j.phase) (map (launched_at serial l) jobs) < count_by (λ j. is_waiting j.phase) jobs
+less : (serial : ℕ) (l : Launched) → is_waiting l.phase ≡ false → (jobs : List Job) (j : Job) → IsIn j jobs → is_waiting j.phase ≡ true → serial ≡ j.serial → count_by (λ j. is_waiting j.phase) (map (launched_at serial l) jobs) < count_by (λ j. is_waiting j.phase) jobs
 less serial l h [] j m w e = absurd m
 less serial l h (k ∷ jobs) j (inl same) w e =
     let gone = none_at l h (k.serial == serial) k (eq-eqb _ _ (ap (λ (x : Job). x.serial) (sym same) ∙ sym e)) in
@@ -132,7 +128,7 @@ picked true k o h = (k, refl)
 picked false k o h = h
 
 -- a job of the list is found by its serial
-found : (serial : ℕ) (jobs : List Job) (j : Job) → Member j jobs → serial ≡ j.serial → (k : Job) × (find (λ j. j.serial == serial) jobs ≡ Some k)
+found : (serial : ℕ) (jobs : List Job) (j : Job) → IsIn j jobs → serial ≡ j.serial → (k : Job) × (find (λ j. j.serial == serial) jobs ≡ Some k)
 found serial [] j m e = absurd m
 found serial (k ∷ jobs) j (inl same) e = (k, rw (eq-eqb k.serial serial (ap (λ (x : Job). x.serial) (sym same) ∙ sym e)) refl)
 found serial (k ∷ jobs) j (inr m) e = picked (k.serial == serial) k (find (λ x. x.serial == serial) jobs) (found serial jobs j m e)
@@ -155,3 +151,6 @@ start_jobs-launch s c e = iterate-step launches_lessen (waiting s) (waiting (lau
 -- where no candidate is next, nothing starts
 pub start_jobs-none : (s : State) → next s ≡ None → start_jobs s ≡ s
 start_jobs-none s e = iterate-none next (λ c t. launch t c) (waiting s) s e
+
+pub settled_has_no_next : SettledHasNoNext
+settled_has_no_next s = next-iterate launches_lessen (waiting (leave s)) (leave s) (omega arith)

@@ -3,6 +3,7 @@ pub mod Counts
 pub mod Fit
 pub mod History
 pub mod Launch
+pub mod Laws
 pub mod Machine
 pub mod Names
 pub mod Opening
