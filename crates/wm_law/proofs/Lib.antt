@@ -4,3 +4,4 @@ pub mod History
 pub mod Refusals
 pub mod Requests
 pub mod Ranks
+pub mod Firsts

@@ -37,11 +37,11 @@ one_of None (Some d) c e = inr e
 one_of (Some b) (Some d) c e = chosen (is_lt (rank_cmp d.rank b.rank)) (Some d) (Some b) (Some c) e
 
 -- the candidate is that of a job of the list
-abbrev IsFrom : State → List Job → Candidate → Type 0
+abbrev pub IsFrom : State → List Job → Candidate → Type 0
 IsFrom s jobs c = (j : Job) × IsIn j jobs × (candidate s j ≡ Some c)
 
 -- what a fold keeps was there at first, or is some job's candidate
-from_some : (s : State) (jobs : List Job) (best : Option Candidate) (c : Candidate) → fold (λ b j. better b (candidate s j)) best jobs ≡ Some c → (best ≡ Some c) ⊎ IsFrom s jobs c
+pub from_some : (s : State) (jobs : List Job) (best : Option Candidate) (c : Candidate) → fold (λ b j. better b (candidate s j)) best jobs ≡ Some c → (best ≡ Some c) ⊎ IsFrom s jobs c
 from_some s [] best c e = inl e
 from_some s (j ∷ jobs) best c e =
     elim (from_some s jobs (better best (candidate s j)) c e) as (λ _. (best ≡ Some c) ⊎ IsFrom s (j ∷ jobs) c) [
@@ -49,7 +49,7 @@ from_some s (j ∷ jobs) best c e =
       | inr k ↦ inr (k.0, inr k.1, k.2)
     ]
 
-guarded : {X : Type 0} (t : Bool) (x : Option X) (y : X) → cond t x None ≡ Some y → (t ≡ true) × (x ≡ Some y)
+pub guarded : {X : Type 0} (t : Bool) (x : Option X) (y : X) → cond t x None ≡ Some y → (t ≡ true) × (x ≡ Some y)
 guarded true x y e = (refl, e)
 guarded false x y e = absurd (cc)
 

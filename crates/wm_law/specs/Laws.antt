@@ -41,8 +41,7 @@ pub record MayStart (s : State) (j : Job) (t : Turn) : Type 0 where
 abbrev pub IsBefore : QueueEntry → Job → QueueEntry → Job → Type 0
 IsBefore d j e k =
     (d.seq < e.seq)
-    ⊎ ((d.seq ≡ e.seq) × (j.pty < k.pty))
-    ⊎ ((d.seq ≡ e.seq) × (j.pty ≡ k.pty) × (j.place < k.place))
+    ⊎ (((d.seq ≡ e.seq) × (j.pty < k.pty)) ⊎ ((d.seq ≡ e.seq) × (j.pty ≡ k.pty) × (j.place < k.place)))
 
 -- the job is the first of its subsystem: it may start, and no job there that may start stands before it
 pub record IsFirst (s : State) (j : Job) (t : Turn) : Type 0 where
