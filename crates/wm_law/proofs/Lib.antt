@@ -5,3 +5,6 @@ pub mod Refusals
 pub mod Requests
 pub mod Ranks
 pub mod Firsts
+pub mod Numbers
+pub mod Forward
+pub mod Starts

@@ -74,10 +74,10 @@ first_of_and true b h = refl
 first_of_and false b h = absurd (cc)
 
 -- a candidate is a job that waits
-waits : (s : State) (j : Job) (c : Candidate) → candidate s j ≡ Some c → is_waiting j.phase ≡ true
+pub waits : (s : State) (j : Job) (c : Candidate) → candidate s j ≡ Some c → is_waiting j.phase ≡ true
 waits s j c e = first_of_and _ _ (first_of_and _ _ (first_of_and _ _ (guarded (is_ready s j) (candidate_queued s j j.jobq) c e).0))
 
-same_serial : (s : State) (j : Job) (c : Candidate) → candidate s j ≡ Some c → c.serial ≡ j.serial
+pub same_serial : (s : State) (j : Job) (c : Candidate) → candidate s j ≡ Some c → c.serial ≡ j.serial
 same_serial s j c e = serial_queued s j j.jobq c (guarded (is_ready s j) (candidate_queued s j j.jobq) c e).1
 
 by_cause : (sbs jobq : QName) (j : Job) (seq : ℕ) (cause : Option EndCause) → is_waiting (launched_by sbs jobq j seq cause).phase ≡ false

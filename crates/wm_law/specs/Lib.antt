@@ -2,6 +2,7 @@ pub mod Choice
 pub mod Counts
 pub mod Fit
 pub mod History
+pub mod Kept
 pub mod Launch
 pub mod Laws
 pub mod Machine

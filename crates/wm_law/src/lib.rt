@@ -28,7 +28,8 @@ pub use choice::{Candidate, Rank};
 pub use job::{Job, JobKind, Phase, Why, Wish};
 pub use launch::{BEFORE_PARAMETER, BEHIND_PARAMETER, Launched, parameter_of};
 pub use laws::{
-    refusals_leave_the_state, requests_keep_their_parameter, settling_leaves_none,
+    jobs_go_forward, next_job_is_first, numbers_are_given_once, refusals_leave_the_state,
+    requests_keep_their_parameter, serials_start_once, settling_leaves_none,
 };
 pub use list::ListOf;
 pub use objects::{Cmp, Jobd, Jobq, Objects, Program, QueueEntry, RouteEntry, Sbsd, Table};
