@@ -46,14 +46,7 @@ pub fn refusals_leave_the_state()
 }
 
 /// No serial, job number or place is given twice, and the next ones stay in their ranges.
-#[tactic(
-    auto,
-    using(
-        crate::proofs::Numbers::opening_is_numbered,
-        crate::proofs::Numbers::step_keeps_numbers,
-        crate::proofs::Numbers::numbers_are_given_once
-    )
-)]
+#[tactic(auto, using(crate::proofs::Numbers::opening_is_numbered))]
 pub fn numbers_are_given_once()
     ensures opening { OpeningIsNumbered }
     ensures step { StepKeepsNumbers }

@@ -23,6 +23,9 @@ mod reports;
 mod settle;
 mod state;
 
+#[cfg(test)]
+mod tests;
+
 pub use call::{Call, Command, EndOption, Entry, Pwrdwnsys, Reply, Sbmjob, Strsbs};
 pub use choice::{Candidate, Rank};
 pub use job::{Job, JobKind, Phase, Why, Wish};
