@@ -68,15 +68,23 @@ next_is_first s c e =
     let starts = may_start s j c from.2 in
     let t = starts.0 in
     let none : (k : Job) (u : Turn) → IsIn k s.jobs → MayStart s k u → u.sbs.sbsd ≡ t.sbs.sbsd → IsBefore u.entry k t.entry j → ⊥ =
-      (λ k u i m same before.
-        let least = least_of_jobs s s.jobs None c e k (candidate_of k u) i (is_candidate s k u m) in
-        let ranks = subst (λ (x : Candidate). is_gt (rank_cmp x.rank (rank_of k u)) ≡ false) starts.2 least in
-        not_before t.sbs.sbsd.name u.sbs.sbsd.name (ap (λ (q : QName). q.name) same) t.entry.seq j.pty j.place u.entry.seq k.pty k.place ranks before) in
-    (j, (t, (record { job = from.1; may = starts.1; none_before = none }, record {
-      serial = ap (λ (x : Candidate). x.serial) starts.2;
-      sbs = ap (λ (x : Candidate). x.sbs) starts.2;
-      jobq = ap (λ (x : Candidate). x.jobq) starts.2;
-    })))
+    (λ k u i m same before.
+    let least = least_of_jobs s s.jobs None c e k (candidate_of k u) i (is_candidate s k u m) in
+    let ranks = subst (λ (x : Candidate). is_gt (rank_cmp x.rank (rank_of k u)) ≡ false) starts.2 least in
+    not_before t.sbs.sbsd.name u.sbs.sbsd.name (ap (λ (q : QName). q.name) same) t.entry.seq j.pty j.place u.entry.seq k.pty k.place ranks before) in (
+      j,
+      (
+        t,
+        (
+          record { job = from.1; may = starts.1; none_before = none },
+          record {
+            serial = ap (λ (x : Candidate). x.serial) starts.2;
+            sbs = ap (λ (x : Candidate). x.sbs) starts.2;
+            jobq = ap (λ (x : Candidate). x.jobq) starts.2;
+          },
+        ),
+      ),
+    )
 
 pub no_next_is_none : NoNextIsNone
 no_next_is_none s e j t i m = none_of_jobs s s.jobs None e j (candidate_of j t) i (is_candidate s j t m)

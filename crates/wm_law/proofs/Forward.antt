@@ -113,12 +113,14 @@ record IsOn (s t : State) : Type 0 where
   on : GoesOn s t
 
 launches_go_on : (s : State) → IsKept next (λ c t. launch t c) (IsOn s)
-launches_go_on s = record { by_step = λ t c e h.
-    let from : IsFrom t t.jobs c = elim (from_some t t.jobs None c e) as (λ _. IsFrom t t.jobs c) [ inl h ↦ absurd (cc) | inr k ↦ k ] in
-    record {
-      numbered = launches_keep.by_step t c e h.numbered;
-      on = goes_on_still s t (launch t c) h.on (launch_goes_on t c from.0 (find (λ j. j.serial == c.serial) t.jobs) h.numbered from.1 (sym (same_serial t from.0 c from.2)) (waits t from.0 c from.2));
-    } }
+launches_go_on s = record {
+  by_step = λ t c e h.
+      let from : IsFrom t t.jobs c = elim (from_some t t.jobs None c e) as (λ _. IsFrom t t.jobs c) [ inl h ↦ absurd (cc) | inr k ↦ k ] in
+      record {
+        numbered = launches_keep.by_step t c e h.numbered;
+        on = goes_on_still s t (launch t c) h.on (launch_goes_on t c from.0 (find (λ j. j.serial == c.serial) t.jobs) h.numbered from.1 (sym (same_serial t from.0 c from.2)) (waits t from.0 c from.2));
+      };
+}
 
 pub settle_goes_on : (s : State) → IsNumbered s → GoesOn s (settle s)
 settle_goes_on s h = (iterate-keeps (IsOn s) (launches_go_on s) (waiting (leave s)) (leave s) (record { numbered = only_started s h; on = λ j i. (j, i, no_less j) })).on

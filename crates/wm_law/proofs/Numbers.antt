@@ -69,7 +69,9 @@ phase_same s serial phase = record {
   serials = map_same (λ j. j.serial) (phased_at serial phase) (λ j. at_phase (λ j. j.serial) (j.serial == serial) j phase refl) s.jobs;
   numbers = map_same (λ j. j.job.number) (phased_at serial phase) (λ j. at_phase (λ j. j.job.number) (j.serial == serial) j phase refl) s.jobs;
   places = map_same (λ j. j.place) (phased_at serial phase) (λ j. at_phase (λ j. j.place) (j.serial == serial) j phase refl) s.jobs;
-  next_number = refl; next_serial = refl; next_place = refl;
+  next_number = refl;
+  next_serial = refl;
+  next_place = refl;
 }
 
 at_launch : {A : Type 0} (key : Job → A) (t : Bool) (j : Job) (l : Launched) → key (record j { phase = l.phase; how = l.how }) ≡ key j → key (cond t (record j { phase = l.phase; how = l.how }) j) ≡ key j
@@ -81,7 +83,9 @@ launched_same s serial l = record {
   serials = map_same (λ j. j.serial) (launched_at serial l) (λ j. at_launch (λ j. j.serial) (j.serial == serial) j l refl) s.jobs;
   numbers = map_same (λ j. j.job.number) (launched_at serial l) (λ j. at_launch (λ j. j.job.number) (j.serial == serial) j l refl) s.jobs;
   places = map_same (λ j. j.place) (launched_at serial l) (λ j. at_launch (λ j. j.place) (j.serial == serial) j l refl) s.jobs;
-  next_number = refl; next_serial = refl; next_place = refl;
+  next_number = refl;
+  next_serial = refl;
+  next_place = refl;
 }
 
 launch_keeps : (s : State) (c : Candidate) (o : Option Job) → IsNumbered s → IsNumbered (launch_job s c o)

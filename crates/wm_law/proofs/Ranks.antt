@@ -17,8 +17,8 @@ use Rattle.wm_law.specs.Laws.{IsIn}
 pub rank_total : IsTotalOrder rank_cmp
 rank_total =
     then_total (on_total (λ (r : Rank). r.sbs) nat_list_cmp_total)
-      (then_total (on_total (λ (r : Rank). r.seq) nat_cmp_total)
-        (then_total (on_total (λ (r : Rank). r.pty) nat_cmp_total) (on_total (λ (r : Rank). r.place) nat_cmp_total)))
+    (then_total (on_total (λ (r : Rank). r.seq) nat_cmp_total)
+    (then_total (on_total (λ (r : Rank). r.pty) nat_cmp_total) (on_total (λ (r : Rank). r.place) nat_cmp_total)))
 
 -- not behind
 abbrev NotBehind : Candidate → Candidate → Type 0
@@ -95,9 +95,9 @@ none_of_jobs s (j ∷ jobs) best e k d (inr i) h = none_of_jobs s jobs (better b
 greater : (a b : ℕ) (o : Ordering) → o ≡ nat_cmp a b → b < a → nat_cmp a b ≡ Greater
 greater a b o e less =
     by_ranked (a < b) (a ≡ b) (b < a) o (ranked a b o e)
-      (λ h (k : a < b). absurd (omega arith))
-      (λ h (k : a ≡ b). absurd (omega arith))
-      (λ h (k : b < a). sym e ∙ h)
+    (λ h (k : a < b). absurd (omega arith))
+    (λ h (k : a ≡ b). absurd (omega arith))
+    (λ h (k : b < a). sym e ∙ h)
 
 level : (a b : ℕ) → b ≡ a → nat_cmp a b ≡ Equal
 level a b e = subst (λ (x : ℕ). nat_cmp x b ≡ Equal) e (tied_itself nat_cmp_total b)

@@ -159,17 +159,17 @@ starts_fresh s [] n l x i j m f = absurd i
 starts_fresh s (e ∷ es) n l x i j m f =
     elim (by_front (start_of e) (starts es) x i) as (λ _. phase_rank j.phase ≤ 1) [
       | inl o ↦ (
-        let h = entry_hands s e n l.0 x o in
-        let one = only_one s.jobs n.serials.distinct h.job j h.before m (h.serial ∙ sym f) in
-        let rank = h.starting in
-        let here : phase_rank j.phase ≡ 1 = ap (λ (y : Job). phase_rank y.phase) (sym one) ∙ rank in
-        omega arith)
+          let h = entry_hands s e n l.0 x o in
+          let one = only_one s.jobs n.serials.distinct h.job j h.before m (h.serial ∙ sym f) in
+          let rank = h.starting in
+          let here : phase_rank j.phase ≡ 1 = ap (λ (y : Job). phase_rank y.phase) (sym one) ∙ rank in
+          omega arith)
       | inr k ↦ (
-        let on = step_goes_on s e.caller e.call e.moment n j m in
-        let later = on.2 in
-        let behind = starts_fresh (stepped s e).state es (step_keeps_numbers s e.caller e.call e.moment n) l.1 x k on.0 on.1 (later.serial ∙ f) in
-        let rank = later.phase in
-        omega arith)
+          let on = step_goes_on s e.caller e.call e.moment n j m in
+          let later = on.2 in
+          let behind = starts_fresh (stepped s e).state es (step_keeps_numbers s e.caller e.call e.moment n) l.1 x k on.0 on.1 (later.serial ∙ f) in
+          let rank = later.phase in
+          omega arith)
     ]
 
 not_again : (s : State) (e : Entry) (es : List Entry) → IsNumbered s → IsEntry s e → IsLegal (stepped s e).state es → (x : ℕ) → start_of e ≡ Some x → IsIn x (starts es) → ⊥

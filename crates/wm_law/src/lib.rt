@@ -22,7 +22,6 @@ mod pending;
 mod reports;
 mod settle;
 mod state;
-
 #[cfg(test)]
 mod tests;
 
