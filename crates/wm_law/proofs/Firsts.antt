@@ -1,5 +1,5 @@
 -- The next job is the first of its subsystem, and without one no job may start.
-use Rattle.std.proofs.Common.{◌≡◌, ℕ, ◌⊎◌, Bool, true, false, cond, List, Option, Some, None, refl, sym, ap, subst, ◌∙◌, inl, inr}
+use Rattle.std.proofs.Common.{◌≡◌, Bool, true, false, cond, Option, Some, None, refl, sym, ap, subst, ◌∙◌, inl, inr}
 use Rattle.std.specs.Ordering.{is_gt}
 use Rattle.wm_base.specs.declared.qname.QName.{QName}
 use Rattle.wm_law.specs.declared.choice.Candidate.{Candidate}
@@ -9,8 +9,8 @@ use Rattle.wm_law.specs.declared.objects.QueueEntry.{QueueEntry}
 use Rattle.wm_law.specs.declared.objects.Sbsd.{Sbsd}
 use Rattle.wm_law.specs.declared.state.Sbs.{Sbs}
 use Rattle.wm_law.specs.declared.state.State.{State}
-use Rattle.wm_law.specs.Choice.{candidate, candidate_from, candidate_described, candidate_held, candidate_queued, entry_for, holder, is_allowed, is_ready, next, rank_cmp}
-use Rattle.wm_law.specs.Laws.{IsIn, Turn, MayStart, IsFirst, IsNamed, IsBefore, NextIsFirst, NoNextIsNone, SettledLeavesNone}
+use Rattle.wm_law.specs.Choice.{candidate, candidate_from, candidate_described, candidate_held, candidate_queued, entry_for, holder, is_allowed, is_ready, rank_cmp}
+use Rattle.wm_law.specs.Laws.{IsIn, Turn, MayStart, IsBefore, NextIsFirst, NoNextIsNone, SettledLeavesNone}
 use Rattle.wm_law.specs.Machine.{settle}
 use Rattle.wm_law.specs.Names.{described}
 use Rattle.wm_law.proofs.Ranks.{least_of_jobs, none_of_jobs, not_before}

@@ -1,9 +1,8 @@
 -- No step loses a job or takes its phase back, and none orders a serial again.
-use Rattle.std.proofs.Common.{◌≡◌, ℕ, ◌+◌, ◌<◌, ◌≤◌, ◌==◌, ◌++◌, Bool, true, false, cond, List, [], ◌∷◌, map, Option, Some, None, refl, sym, ap, subst, ◌∙◌, inl, inr, arith}
-use Rattle.std.specs.List.{find, filter_map}
+use Rattle.std.proofs.Common.{◌≡◌, ℕ, ◌≤◌, ◌==◌, ◌++◌, Bool, true, false, cond, List, [], ◌∷◌, map, Option, Some, None, refl, sym, ap, subst, ◌∙◌, inl, inr, arith}
+use Rattle.std.specs.List.{find}
 use Rattle.std.proofs.lemmas.Bool.Decides.{nat_tests}
 use Rattle.wm_base.specs.declared.job.StartOrder.{StartOrder}
-use Rattle.wm_base.specs.declared.job.EndCause.{EndCause}
 use Rattle.wm_base.specs.declared.qname.QName.{QName}
 use Rattle.wm_base.specs.declared.refusal.Refusal.{Refusal}
 use Rattle.wm_base.specs.Iterate.{IsKept}
@@ -12,7 +11,6 @@ use Rattle.wm_law.specs.declared.call.Call.{Call}
 use Rattle.wm_law.specs.declared.call.Call.TheVariants.{Change, Hand, Started, StartFailed, Finished, UseDone, Tick}
 use Rattle.wm_law.specs.declared.call.Command.{Command}
 use Rattle.wm_law.specs.declared.call.Command.TheVariants as command
-use Rattle.wm_law.specs.declared.call.Entry.{Entry}
 use Rattle.wm_law.specs.declared.call.Sbmjob.{Sbmjob}
 use Rattle.wm_law.specs.declared.choice.Candidate.{Candidate}
 use Rattle.wm_law.specs.declared.job.Job.{Job}
@@ -21,13 +19,12 @@ use Rattle.wm_law.specs.declared.job.Phase.TheVariants.{Waiting, Starting, Hande
 use Rattle.wm_law.specs.declared.launch.Launched.{Launched}
 use Rattle.wm_law.specs.declared.objects.Jobd.{Jobd}
 use Rattle.wm_law.specs.declared.state.State.{State}
-use Rattle.wm_law.specs.Choice.{next, candidate}
+use Rattle.wm_law.specs.Choice.{next}
 use Rattle.wm_law.specs.Counts.{is_starting, is_waiting}
-use Rattle.wm_law.specs.History.{after, stepped}
-use Rattle.wm_law.specs.Kept.{IsDistinct, IsGiven, IsNumbered, phase_rank, IsLater, GoesOn, StepGoesOn}
-use Rattle.wm_law.specs.Launch.{order_of, launch, launch_job, launched, launched_at, with_launched}
+use Rattle.wm_law.specs.Kept.{IsDistinct, IsNumbered, phase_rank, IsLater, GoesOn, StepGoesOn}
+use Rattle.wm_law.specs.Launch.{order_of, launch, launch_job, launched, launched_at}
 use Rattle.wm_law.specs.Laws.{IsIn}
-use Rattle.wm_law.specs.Machine.{Stepped, apply, step, settle, settled, start_jobs, leave, waiting, with_clock, with_phase, phased_at, refused, start_refusal, start_unless, submit_refusal, submit_unless, submit_with, submitted_job, entered, submit, power_down, is_on, is_down_now, change, hand_job, hand_order, report_on, is_handed_to, is_run_by, done_with}
+use Rattle.wm_law.specs.Machine.{Stepped, apply, step, settle, leave, waiting, with_clock, with_phase, phased_at, start_refusal, start_unless, submit_refusal, submit_unless, submit_with, submitted_job, is_on, is_down_now, change, hand_job, hand_order, report_on, is_handed_to, is_run_by, done_with}
 use Rattle.wm_law.specs.Names.{described}
 use Rattle.wm_law.proofs.Numbers.{launches_keep, apply_keeps, clock_keeps, only_started}
 use Rattle.wm_law.proofs.Settling.{IsFrom, from_some, same_serial, waits}

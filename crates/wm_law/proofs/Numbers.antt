@@ -1,5 +1,5 @@
 -- Each step keeps serials, numbers and places given once.
-use Rattle.std.proofs.Common.{◌≡◌, ℕ, ◌+◌, ◌<◌, ◌≤◌, ◌==◌, ◌++◌, ◌&&◌, not, Bool, true, false, cond, List, [], ◌∷◌, map, Option, Some, None, refl, sym, ap, subst, ◌∙◌, inl, inr, nat_lt, nat_le, arith}
+use Rattle.std.proofs.Common.{◌≡◌, ℕ, ◌+◌, ◌<◌, ◌==◌, ◌++◌, ◌&&◌, not, Bool, true, false, cond, List, [], ◌∷◌, map, Option, Some, None, refl, sym, ap, subst, inl, inr, nat_lt, nat_le, arith}
 use Rattle.std.specs.List.{find}
 use Rattle.std.proofs.lemmas.Bool.Decides.{nat_tests}
 use Rattle.wm_base.specs.declared.job.StartOrder.{StartOrder}
@@ -27,7 +27,7 @@ use Rattle.wm_law.specs.History.{after, stepped}
 use Rattle.wm_law.specs.Kept.{IsDistinct, IsBelow, IsGiven, IsNumbered, OpeningIsNumbered, StepKeepsNumbers, NumbersAreGivenOnce}
 use Rattle.wm_law.specs.Launch.{order_of, launch, launch_job, launched, launched_at, with_launched}
 use Rattle.wm_law.specs.Laws.{IsIn}
-use Rattle.wm_law.specs.Machine.{Stepped, apply, step, settle, settled, start_jobs, leave, waiting, with_clock, with_phase, phased_at, refused, start_refusal, start_unless, submit_refusal, submit_unless, submit_with, submitted_job, entered, has_numbers, numbers_end, serials_end, submit, power_down, is_on, is_down_now, change, hand_job, hand_order, report_on, is_handed_to, is_run_by, done_with}
+use Rattle.wm_law.specs.Machine.{Stepped, apply, step, settle, leave, waiting, with_clock, with_phase, phased_at, start_refusal, start_unless, submit_refusal, submit_unless, submit_with, submitted_job, entered, has_numbers, numbers_end, serials_end, is_on, is_down_now, change, hand_job, hand_order, report_on, is_handed_to, is_run_by, done_with}
 use Rattle.wm_law.specs.Names.{described}
 use Rattle.wm_law.specs.Opening.{opening}
 

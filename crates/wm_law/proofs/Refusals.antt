@@ -4,7 +4,6 @@ use Rattle.std.specs.List.{find}
 use Rattle.wm_base.specs.declared.job.StartOrder.{StartOrder}
 use Rattle.wm_base.specs.declared.qname.QName.{QName}
 use Rattle.wm_base.specs.declared.refusal.Refusal.{Refusal}
-use Rattle.wm_law.specs.declared.call.Call.{Call}
 use Rattle.wm_law.specs.declared.call.Call.TheVariants.{Change, Hand, Started, StartFailed, Finished, UseDone, Tick}
 use Rattle.wm_law.specs.declared.call.Command.{Command}
 use Rattle.wm_law.specs.declared.call.Command.TheVariants as command
@@ -17,7 +16,7 @@ use Rattle.wm_law.specs.declared.state.State.{State}
 use Rattle.wm_law.specs.Counts.{is_starting}
 use Rattle.wm_law.specs.Launch.{order_of}
 use Rattle.wm_law.specs.Laws.{RefusalLeaves, RefusedStepSettles}
-use Rattle.wm_law.specs.Machine.{Stepped, apply, step, settle, settled, with_clock, refused, start_refusal, start_unless, submit_refusal, submit_unless, submit_with, submit, power_down, is_on, is_down_now, change, hand, hand_job, hand_order, report, report_on, is_handed_to, is_run_by, done_with, use_done}
+use Rattle.wm_law.specs.Machine.{Stepped, step, settle, with_clock, start_refusal, start_unless, submit_refusal, submit_unless, submit_with, is_on, is_down_now, change, hand_job, hand_order, report_on, is_handed_to, is_run_by, done_with}
 use Rattle.wm_law.specs.Names.{described}
 
 -- where the answer is a refusal, the state is left

@@ -1,11 +1,11 @@
 -- The parameter of a request is the text that was put into it.
-use Rattle.std.proofs.Common.{◌≡◌, ℕ, ◌-◌, ◌++◌, ◌+◌, ◌==◌, Bool, true, false, cond, List, length, take, drop, Option, Some, None, refl, sym, ap, ◌∙◌, nat_eq, append_assoc, length-append, arith}
+use Rattle.std.proofs.Common.{◌≡◌, ℕ, ◌-◌, ◌++◌, ◌==◌, true, false, List, length, take, drop, Option, Some, refl, ap, ◌∙◌, nat_eq, arith}
 use Rattle.std.specs.List.{list_any, starts_with, ends_with}
 use Rattle.std.specs.Option.{option_and_then}
 use Rattle.std.proofs.lemmas.Slice.Eq.{starts_is, ends_is}
 use Rattle.std.proofs.lemmas.Bool.Decides.{Decides-eqb}
 use Rattle.std.proofs.lemmas.Grind.{common_steps}
-use Rattle.wm_law.specs.Launch.{before_parameter, behind_parameter, call_request, parameter_of, without_front, without_end, plain}
+use Rattle.wm_law.specs.Launch.{before_parameter, behind_parameter, parameter_of, without_front, without_end, plain}
 use Rattle.wm_law.specs.Laws.{ParameterIsRead}
 
 dropped : (mark rest : List ℕ) → drop (length mark) (mark ++ rest) ≡ rest

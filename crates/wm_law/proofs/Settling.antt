@@ -1,12 +1,10 @@
 -- Each launch leaves one job less that waits.
-use Rattle.std.proofs.Common.{◌≡◌, ℕ, ◌+◌, ◌<◌, ◌≤◌, ◌⊎◌, ◌==◌, ◌&&◌, Bool, true, false, cond, List, [], ◌∷◌, map, Option, Some, None, refl, sym, ap, subst, ◌∙◌, inl, inr, arith}
+use Rattle.std.proofs.Common.{◌≡◌, ℕ, ◌<◌, ◌≤◌, ◌⊎◌, ◌==◌, ◌&&◌, Bool, true, false, cond, List, [], ◌∷◌, map, Option, Some, None, refl, sym, ap, subst, ◌∙◌, inl, inr, arith}
 use Rattle.std.specs.List.{fold, find, count_by}
 use Rattle.std.specs.Ordering.{is_lt}
 use Rattle.std.specs.Option.{option_and_then}
 use Rattle.std.proofs.lemmas.Bool.{eq-eqb}
 use Rattle.std.proofs.lemmas.List.Sums.{sum_by-cons}
-use Rattle.std.proofs.lemmas.Bool.Decides.{nat_tests}
-use Rattle.std.proofs.lemmas.Grind.{common_steps}
 use Rattle.wm_base.specs.declared.qname.QName.{QName}
 use Rattle.wm_base.specs.Iterate.{IsLessened}
 use Rattle.wm_law.specs.declared.choice.Candidate.{Candidate}
@@ -21,7 +19,7 @@ use Rattle.wm_base.specs.declared.job.EndCause.{EndCause}
 use Rattle.wm_law.specs.Choice.{rank_cmp, better, candidate, candidate_from, candidate_described, candidate_held, candidate_queued, entry_for, holder, is_allowed, is_ready, next}
 use Rattle.wm_law.specs.Names.{described}
 use Rattle.wm_law.specs.Counts.{is_waiting}
-use Rattle.wm_law.specs.Launch.{route, route_fault, launched_by, launched_through, launched, launched_at, launch, launch_job, with_launched}
+use Rattle.wm_law.specs.Launch.{route, route_fault, launched_by, launched_through, launched, launched_at, launch, launch_job}
 use Rattle.wm_base.proofs.Iterate.{iterate-none, iterate-step, next-iterate}
 use Rattle.wm_law.specs.Laws.{IsIn, SettledHasNoNext}
 use Rattle.wm_law.specs.Machine.{waiting, start_jobs, leave}

@@ -1,6 +1,6 @@
 -- A legal history orders no serial to start twice.
-use Rattle.std.proofs.Common.{◌≡◌, ℕ, ◌+◌, ◌<◌, ◌≤◌, ◌⊎◌, ◌==◌, Bool, true, false, cond, List, [], ◌∷◌, map, Option, Some, None, refl, sym, ap, subst, ◌∙◌, inl, inr, arith}
-use Rattle.std.specs.List.{find, filter_map, cons_option}
+use Rattle.std.proofs.Common.{◌≡◌, ℕ, ◌≤◌, ◌⊎◌, ◌==◌, Bool, true, false, cond, List, [], ◌∷◌, map, Option, Some, None, refl, sym, ap, subst, ◌∙◌, inl, inr, arith}
+use Rattle.std.specs.List.{find, cons_option}
 use Rattle.std.specs.Option.{option_and_then}
 use Rattle.std.proofs.lemmas.Bool.{eq-eqb}
 use Rattle.wm_base.specs.declared.job.StartOrder.{StartOrder}
@@ -24,7 +24,7 @@ use Rattle.wm_law.specs.declared.objects.Program.{Program}
 use Rattle.wm_law.specs.declared.objects.RouteEntry.{RouteEntry}
 use Rattle.wm_law.specs.declared.state.State.{State}
 use Rattle.wm_law.specs.Counts.{is_starting}
-use Rattle.wm_law.specs.History.{after, stepped, IsEntry, IsLegal, order_in}
+use Rattle.wm_law.specs.History.{stepped, IsEntry, IsLegal, order_in}
 use Rattle.wm_law.specs.Kept.{IsDistinct, IsNumbered, phase_rank, start_in, start_of, starts, StartsOnce, SerialsStartOnce}
 use Rattle.wm_law.specs.Launch.{order_of, order_by, order_through, order_called, order_with, route_entry, called_program, called_args}
 use Rattle.wm_law.specs.Laws.{IsIn}

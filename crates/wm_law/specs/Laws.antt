@@ -1,5 +1,5 @@
 -- Laws of the machine: what its definitions come to.
-use Rattle.std.specs.Prelude.{◌≡◌, ℕ, ◌<◌, ◌⊎◌, Bool, true, false, ◌==◌, List, [], ◌∷◌, Option, Some, None}
+use Rattle.std.specs.Prelude.{◌≡◌, ℕ, ◌<◌, ◌⊎◌, true, false, ◌==◌, List, [], ◌∷◌, Some, None}
 use Rattle.std.specs.List.{list_any}
 use Rattle.wm_base.specs.declared.qname.QName.{QName}
 use Rattle.wm_base.specs.declared.refusal.Refusal.{Refusal}
