@@ -1,3 +1,10 @@
 pub mod Parameter
 pub mod Settling
 pub mod History
+pub mod Refusals
+pub mod Requests
+pub mod Ranks
+pub mod Firsts
+pub mod Numbers
+pub mod Forward
+pub mod Starts

@@ -1,12 +1,10 @@
 -- Each launch leaves one job less that waits.
-use Rattle.std.proofs.Common.{◌≡◌, ℕ, ◌+◌, ◌<◌, ◌≤◌, ◌⊎◌, ◌==◌, ◌&&◌, Bool, true, false, cond, List, [], ◌∷◌, map, Option, Some, None, refl, sym, ap, subst, ◌∙◌, inl, inr, arith}
+use Rattle.std.proofs.Common.{◌≡◌, ℕ, ◌<◌, ◌≤◌, ◌⊎◌, ◌==◌, ◌&&◌, Bool, true, false, cond, List, [], ◌∷◌, map, Option, Some, None, refl, sym, ap, subst, ◌∙◌, inl, inr, arith}
 use Rattle.std.specs.List.{fold, find, count_by}
 use Rattle.std.specs.Ordering.{is_lt}
 use Rattle.std.specs.Option.{option_and_then}
 use Rattle.std.proofs.lemmas.Bool.{eq-eqb}
 use Rattle.std.proofs.lemmas.List.Sums.{sum_by-cons}
-use Rattle.std.proofs.lemmas.Bool.Decides.{nat_tests}
-use Rattle.std.proofs.lemmas.Grind.{common_steps}
 use Rattle.wm_base.specs.declared.qname.QName.{QName}
 use Rattle.wm_base.specs.Iterate.{IsLessened}
 use Rattle.wm_law.specs.declared.choice.Candidate.{Candidate}
@@ -21,14 +19,10 @@ use Rattle.wm_base.specs.declared.job.EndCause.{EndCause}
 use Rattle.wm_law.specs.Choice.{rank_cmp, better, candidate, candidate_from, candidate_described, candidate_held, candidate_queued, entry_for, holder, is_allowed, is_ready, next}
 use Rattle.wm_law.specs.Names.{described}
 use Rattle.wm_law.specs.Counts.{is_waiting}
-use Rattle.wm_law.specs.Launch.{route, route_fault, launched_by, launched_through, launched, launched_at, launch, launch_job, with_launched}
-use Rattle.wm_base.proofs.Iterate.{iterate-none, iterate-step}
-use Rattle.wm_law.specs.Machine.{waiting, start_jobs}
-
--- the element is in the list
-abbrev Member : {X : Type 0} → X → List X → Type 0
-Member x [] = ⊥
-Member x (y ∷ ys) = (x ≡ y) ⊎ Member x ys
+use Rattle.wm_law.specs.Launch.{route, route_fault, launched_by, launched_through, launched, launched_at, launch, launch_job}
+use Rattle.wm_base.proofs.Iterate.{iterate-none, iterate-step, next-iterate}
+use Rattle.wm_law.specs.Laws.{IsIn, SettledHasNoNext}
+use Rattle.wm_law.specs.Machine.{waiting, start_jobs, leave}
 
 chosen : (t : Bool) (x y z : Option Candidate) → cond t x y ≡ z → (y ≡ z) ⊎ (x ≡ z)
 chosen true x y z e = inr e
@@ -41,11 +35,11 @@ one_of None (Some d) c e = inr e
 one_of (Some b) (Some d) c e = chosen (is_lt (rank_cmp d.rank b.rank)) (Some d) (Some b) (Some c) e
 
 -- the candidate is that of a job of the list
-abbrev IsFrom : State → List Job → Candidate → Type 0
-IsFrom s jobs c = (j : Job) × Member j jobs × (candidate s j ≡ Some c)
+abbrev pub IsFrom : State → List Job → Candidate → Type 0
+IsFrom s jobs c = (j : Job) × IsIn j jobs × (candidate s j ≡ Some c)
 
 -- what a fold keeps was there at first, or is some job's candidate
-from_some : (s : State) (jobs : List Job) (best : Option Candidate) (c : Candidate) → fold (λ b j. better b (candidate s j)) best jobs ≡ Some c → (best ≡ Some c) ⊎ IsFrom s jobs c
+pub from_some : (s : State) (jobs : List Job) (best : Option Candidate) (c : Candidate) → fold (λ b j. better b (candidate s j)) best jobs ≡ Some c → (best ≡ Some c) ⊎ IsFrom s jobs c
 from_some s [] best c e = inl e
 from_some s (j ∷ jobs) best c e =
     elim (from_some s jobs (better best (candidate s j)) c e) as (λ _. (best ≡ Some c) ⊎ IsFrom s (j ∷ jobs) c) [
@@ -53,7 +47,7 @@ from_some s (j ∷ jobs) best c e =
       | inr k ↦ inr (k.0, inr k.1, k.2)
     ]
 
-guarded : {X : Type 0} (t : Bool) (x : Option X) (y : X) → cond t x None ≡ Some y → (t ≡ true) × (x ≡ Some y)
+pub guarded : {X : Type 0} (t : Bool) (x : Option X) (y : X) → cond t x None ≡ Some y → (t ≡ true) × (x ≡ Some y)
 guarded true x y e = (refl, e)
 guarded false x y e = absurd (cc)
 
@@ -78,10 +72,10 @@ first_of_and true b h = refl
 first_of_and false b h = absurd (cc)
 
 -- a candidate is a job that waits
-waits : (s : State) (j : Job) (c : Candidate) → candidate s j ≡ Some c → is_waiting j.phase ≡ true
+pub waits : (s : State) (j : Job) (c : Candidate) → candidate s j ≡ Some c → is_waiting j.phase ≡ true
 waits s j c e = first_of_and _ _ (first_of_and _ _ (first_of_and _ _ (guarded (is_ready s j) (candidate_queued s j j.jobq) c e).0))
 
-same_serial : (s : State) (j : Job) (c : Candidate) → candidate s j ≡ Some c → c.serial ≡ j.serial
+pub same_serial : (s : State) (j : Job) (c : Candidate) → candidate s j ≡ Some c → c.serial ≡ j.serial
 same_serial s j c e = serial_queued s j j.jobq c (guarded (is_ready s j) (candidate_queued s j j.jobq) c e).1
 
 by_cause : (sbs jobq : QName) (j : Job) (seq : ℕ) (cause : Option EndCause) → is_waiting (launched_by sbs jobq j seq cause).phase ≡ false
@@ -115,7 +109,7 @@ none_at : (l : Launched) → is_waiting l.phase ≡ false → (t : Bool) (j : Jo
 none_at l h true j e = rw h refl
 none_at l h false j e = absurd (cc)
 
-less : (serial : ℕ) (l : Launched) → is_waiting l.phase ≡ false → (jobs : List Job) (j : Job) → Member j jobs → is_waiting j.phase ≡ true → serial ≡ j.serial → count_by (λ j. is_waiting j.phase) (map (launched_at serial l) jobs) < count_by (λ j. is_waiting j.phase) jobs
+less : (serial : ℕ) (l : Launched) → is_waiting l.phase ≡ false → (jobs : List Job) (j : Job) → IsIn j jobs → is_waiting j.phase ≡ true → serial ≡ j.serial → count_by (λ j. is_waiting j.phase) (map (launched_at serial l) jobs) < count_by (λ j. is_waiting j.phase) jobs
 less serial l h [] j m w e = absurd m
 less serial l h (k ∷ jobs) j (inl same) w e =
     let gone = none_at l h (k.serial == serial) k (eq-eqb _ _ (ap (λ (x : Job). x.serial) (sym same) ∙ sym e)) in
@@ -132,7 +126,7 @@ picked true k o h = (k, refl)
 picked false k o h = h
 
 -- a job of the list is found by its serial
-found : (serial : ℕ) (jobs : List Job) (j : Job) → Member j jobs → serial ≡ j.serial → (k : Job) × (find (λ j. j.serial == serial) jobs ≡ Some k)
+found : (serial : ℕ) (jobs : List Job) (j : Job) → IsIn j jobs → serial ≡ j.serial → (k : Job) × (find (λ j. j.serial == serial) jobs ≡ Some k)
 found serial [] j m e = absurd m
 found serial (k ∷ jobs) j (inl same) e = (k, rw (eq-eqb k.serial serial (ap (λ (x : Job). x.serial) (sym same) ∙ sym e)) refl)
 found serial (k ∷ jobs) j (inr m) e = picked (k.serial == serial) k (find (λ x. x.serial == serial) jobs) (found serial jobs j m e)
@@ -155,3 +149,6 @@ start_jobs-launch s c e = iterate-step launches_lessen (waiting s) (waiting (lau
 -- where no candidate is next, nothing starts
 pub start_jobs-none : (s : State) → next s ≡ None → start_jobs s ≡ s
 start_jobs-none s e = iterate-none next (λ c t. launch t c) (waiting s) s e
+
+pub settled_has_no_next : SettledHasNoNext
+settled_has_no_next s = next-iterate launches_lessen (waiting (leave s)) (leave s) (omega arith)

@@ -1,5 +1,5 @@
 -- Which job starts next.
-use Rattle.std.specs.Prelude.{ℕ, Bool, true, false, not, ◌-◌, ◌&&◌, List, Option, Some, None, is_some, find, fold, nat_le, nat_eq, if◌then◌else◌, slice_index_or, option_and_then}
+use Rattle.std.specs.Prelude.{ℕ, Bool, true, false, not, ◌-◌, ◌&&◌, Option, Some, None, is_some, find, fold, nat_le, if◌then◌else◌, slice_index_or, option_and_then}
 use Rattle.std.specs.List.{list_any}
 use Rattle.std.specs.Ordering.{nat_cmp, is_lt, ordering_then}
 use Rattle.std.specs.Cmp.Lexicographic.{slice_cmp}

@@ -1,5 +1,5 @@
 -- What becomes of a job whose turn has come, and what its monitor is told to start.
-use Rattle.std.specs.Prelude.{ℕ, Bool, true, false, ◌-◌, ◌++◌, ◌&&◌, ◌==◌, [], ◌∷◌, List, length, take, drop, Option, Some, None, find, map, codes, nat_eq, if◌then◌else◌, option_map, option_and_then, option_to_list}
+use Rattle.std.specs.Prelude.{ℕ, Bool, true, false, ◌-◌, ◌++◌, ◌==◌, List, length, take, drop, Option, Some, None, find, map, codes, nat_eq, if◌then◌else◌, option_map, option_and_then, option_to_list}
 use Rattle.std.specs.List.{list_any, starts_with, ends_with}
 use Rattle.wm_base.specs.declared.qname.QName.{QName}
 use Rattle.wm_base.specs.declared.job.How.{How}
@@ -10,7 +10,6 @@ use Rattle.wm_base.specs.declared.job.StartOrder.{StartOrder}
 use Rattle.wm_base.specs.declared.job.Class.{Class}
 use Rattle.wm_base.specs.Limit.{is_below}
 use Rattle.wm_law.specs.declared.job.Job.{Job}
-use Rattle.wm_law.specs.declared.job.Phase.{Phase}
 use Rattle.wm_law.specs.declared.job.Phase.TheVariants.{Starting, Ended}
 use Rattle.wm_law.specs.declared.objects.Cmp.{Cmp}
 use Rattle.wm_law.specs.declared.objects.Cmp.TheVariants.{Any}

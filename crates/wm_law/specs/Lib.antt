@@ -2,7 +2,9 @@ pub mod Choice
 pub mod Counts
 pub mod Fit
 pub mod History
+pub mod Kept
 pub mod Launch
+pub mod Laws
 pub mod Machine
 pub mod Names
 pub mod Opening

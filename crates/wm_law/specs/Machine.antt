@@ -1,5 +1,5 @@
 -- The machine: what a call answers and leaves, and what settles after it.
-use Rattle.std.specs.Prelude.{ℕ, Bool, true, false, not, ◌+◌, ◌&&◌, ◌||◌, ◌==◌, [], ◌∷◌, ◌++◌, List, length, Option, Some, None, find, map, filter, max, count_by, nat_lt, nat_le, if◌then◌else◌, unwrap_or, is_some}
+use Rattle.std.specs.Prelude.{ℕ, Bool, true, false, not, ◌+◌, ◌&&◌, ◌==◌, [], ◌∷◌, ◌++◌, List, length, Option, Some, None, find, map, filter, max, count_by, nat_lt, nat_le, if◌then◌else◌, unwrap_or, is_some}
 use Rattle.std.specs.List.{list_any}
 use Rattle.wm_base.specs.declared.qname.QName.{QName}
 use Rattle.wm_base.specs.declared.job.JobName.{JobName}
@@ -10,7 +10,6 @@ use Rattle.wm_base.specs.declared.job.Exit.{Exit}
 use Rattle.wm_base.specs.declared.job.Exit.TheVariants as exit
 use Rattle.wm_base.specs.declared.job.EndCause.{EndCause}
 use Rattle.wm_base.specs.declared.job.EndCause.TheVariants as cause
-use Rattle.wm_base.specs.declared.job.StartCause.{StartCause}
 use Rattle.wm_base.specs.declared.refusal.Refusal.{Refusal}
 use Rattle.wm_base.specs.declared.refusal.Refusal.TheVariants.{NoObject, AlreadyActive, NoJob, WrongPhase, NumbersUsed, TableFull, PoweringDown, NotInUse}
 use Rattle.wm_base.specs.declared.refusal.Kind.TheVariants as kind
@@ -37,9 +36,9 @@ use Rattle.wm_law.specs.declared.state.SbsPhase.TheVariants.{Active, Ending, Now
 use Rattle.wm_law.specs.declared.state.Power.{Power}
 use Rattle.wm_law.specs.declared.state.Power.TheVariants.{On, Down, DownNow}
 use Rattle.wm_law.specs.Choice.{next}
-use Rattle.wm_law.specs.Counts.{is_waiting, is_starting, is_active, count_in_sbs}
+use Rattle.wm_law.specs.Counts.{is_waiting, is_starting, count_in_sbs}
 use Rattle.wm_law.specs.Launch.{launch, order_of}
-use Rattle.wm_law.specs.Names.{is_name_of, is_qname, described}
+use Rattle.wm_law.specs.Names.{is_name_of, described}
 
 -- a reply, and the state after it
 pub record Stepped : Type 0 where

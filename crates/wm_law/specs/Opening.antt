@@ -1,8 +1,7 @@
 -- The objects and the state that an empty store opens with.
-use Rattle.std.specs.Prelude.{ℕ, [], ◌∷◌, List, pos, Some, None, false, codes}
+use Rattle.std.specs.Prelude.{[], ◌∷◌, pos, None, false, codes}
 use Rattle.wm_base.specs.declared.qname.QName.{QName}
 use Rattle.wm_base.specs.declared.job.Class.{Class}
-use Rattle.wm_base.specs.declared.limit.Limit.{Limit}
 use Rattle.wm_base.specs.declared.limit.Limit.TheVariants.{NoMax, Most}
 use Rattle.wm_law.specs.declared.objects.Cmp.TheVariants.{Any}
 use Rattle.wm_law.specs.declared.objects.Jobd.{Jobd}

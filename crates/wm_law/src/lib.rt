@@ -12,6 +12,7 @@ mod counts;
 mod job;
 mod jobs;
 mod launch;
+mod laws;
 mod list;
 mod machine;
 mod names;
@@ -21,11 +22,17 @@ mod pending;
 mod reports;
 mod settle;
 mod state;
+#[cfg(test)]
+mod tests;
 
 pub use call::{Call, Command, EndOption, Entry, Pwrdwnsys, Reply, Sbmjob, Strsbs};
 pub use choice::{Candidate, Rank};
 pub use job::{Job, JobKind, Phase, Why, Wish};
 pub use launch::{BEFORE_PARAMETER, BEHIND_PARAMETER, Launched, parameter_of};
+pub use laws::{
+    jobs_go_forward, next_job_is_first, numbers_are_given_once, refusals_leave_the_state,
+    requests_keep_their_parameter, serials_start_once, settling_leaves_none,
+};
 pub use list::ListOf;
 pub use objects::{Cmp, Jobd, Jobq, Objects, Program, QueueEntry, RouteEntry, Sbsd, Table};
 pub use opening::{qbatch, qdftjobd};

@@ -1,0 +1,237 @@
+-- Each step keeps serials, numbers and places given once.
+use Rattle.std.proofs.Common.{◌≡◌, ℕ, ◌+◌, ◌<◌, ◌==◌, ◌++◌, ◌&&◌, not, Bool, true, false, cond, List, [], ◌∷◌, map, Option, Some, None, refl, sym, ap, subst, inl, inr, nat_lt, nat_le, arith}
+use Rattle.std.specs.List.{find}
+use Rattle.std.proofs.lemmas.Bool.Decides.{nat_tests}
+use Rattle.wm_base.specs.declared.job.StartOrder.{StartOrder}
+use Rattle.wm_base.specs.declared.qname.QName.{QName}
+use Rattle.wm_base.specs.declared.refusal.Refusal.{Refusal}
+use Rattle.wm_base.specs.Iterate.{IsKept}
+use Rattle.wm_base.proofs.Iterate.{iterate-keeps}
+use Rattle.wm_law.specs.declared.call.Call.{Call}
+use Rattle.wm_law.specs.declared.call.Call.TheVariants.{Change, Hand, Started, StartFailed, Finished, UseDone, Tick}
+use Rattle.wm_law.specs.declared.call.Command.{Command}
+use Rattle.wm_law.specs.declared.call.Command.TheVariants as command
+use Rattle.wm_law.specs.declared.call.Entry.{Entry}
+use Rattle.wm_law.specs.declared.call.Sbmjob.{Sbmjob}
+use Rattle.wm_law.specs.declared.choice.Candidate.{Candidate}
+use Rattle.wm_law.specs.declared.job.Job.{Job}
+use Rattle.wm_law.specs.declared.job.Phase.{Phase}
+use Rattle.wm_law.specs.declared.job.Phase.TheVariants.{Handed}
+use Rattle.wm_law.specs.declared.launch.Launched.{Launched}
+use Rattle.wm_law.specs.declared.objects.Jobd.{Jobd}
+use Rattle.wm_law.specs.declared.state.State.{State}
+use Rattle.wm_law.specs.Choice.{next}
+use Rattle.wm_law.specs.Counts.{is_starting}
+use Rattle.wm_law.specs.Fit.{IsBetween}
+use Rattle.wm_law.specs.History.{after, stepped}
+use Rattle.wm_law.specs.Kept.{IsDistinct, IsBelow, IsGiven, IsNumbered, OpeningIsNumbered, StepKeepsNumbers, NumbersAreGivenOnce}
+use Rattle.wm_law.specs.Launch.{order_of, launch, launch_job, launched, launched_at, with_launched}
+use Rattle.wm_law.specs.Laws.{IsIn}
+use Rattle.wm_law.specs.Machine.{Stepped, apply, step, settle, leave, waiting, with_clock, with_phase, phased_at, start_refusal, start_unless, submit_refusal, submit_unless, submit_with, submitted_job, entered, has_numbers, numbers_end, serials_end, is_on, is_down_now, change, hand_job, hand_order, report_on, is_handed_to, is_run_by, done_with}
+use Rattle.wm_law.specs.Names.{described}
+use Rattle.wm_law.specs.Opening.{opening}
+
+-- the same serials, numbers and places, and the same next ones
+pub record SameNumbers (s t : State) : Type 0 where
+  pub serials : map (λ j. j.serial) t.jobs ≡ map (λ j. j.serial) s.jobs
+  pub numbers : map (λ j. j.job.number) t.jobs ≡ map (λ j. j.job.number) s.jobs
+  pub places : map (λ j. j.place) t.jobs ≡ map (λ j. j.place) s.jobs
+  pub next_number : t.next_number ≡ s.next_number
+  pub next_serial : t.next_serial ≡ s.next_serial
+  pub next_place : t.next_place ≡ s.next_place
+
+given_same : (xs ys : List ℕ) (n m : ℕ) → ys ≡ xs → m ≡ n → IsGiven xs n → IsGiven ys m
+given_same xs ys n m e f h = subst (λ (k : ℕ). IsGiven ys k) (sym f) (subst (λ (l : List ℕ). IsGiven l n) (sym e) h)
+
+between_same : (a b n m : ℕ) → m ≡ n → IsBetween a b n → IsBetween a b m
+between_same a b n m e h = subst (λ (k : ℕ). IsBetween a b k) (sym e) h
+
+numbered_same : (s t : State) → SameNumbers s t → IsNumbered s → IsNumbered t
+numbered_same s t e h = record {
+  serials = given_same _ _ _ _ e.serials e.next_serial h.serials;
+  numbers = given_same _ _ _ _ e.numbers e.next_number h.numbers;
+  places = given_same _ _ _ _ e.places e.next_place h.places;
+  next_number = between_same _ _ _ _ e.next_number h.next_number;
+  next_serial = between_same _ _ _ _ e.next_serial h.next_serial;
+  next_place = between_same _ _ _ _ e.next_place h.next_place;
+}
+
+map_same : {A : Type 0} (key : Job → A) (f : Job → Job) → ((j : Job) → key (f j) ≡ key j) → (jobs : List Job) → map key (map f jobs) ≡ map key jobs
+map_same key f h [] = refl
+map_same key f h (j ∷ jobs) = cc (h j, map_same key f h jobs)
+
+at_phase : {A : Type 0} (key : Job → A) (t : Bool) (j : Job) (phase : Phase) → key (record j { phase = phase }) ≡ key j → key (cond t (record j { phase = phase }) j) ≡ key j
+at_phase key true j phase h = h
+at_phase key false j phase h = refl
+
+phase_same : (s : State) (serial : ℕ) (phase : Phase) → SameNumbers s (with_phase s serial phase)
+phase_same s serial phase = record {
+  serials = map_same (λ j. j.serial) (phased_at serial phase) (λ j. at_phase (λ j. j.serial) (j.serial == serial) j phase refl) s.jobs;
+  numbers = map_same (λ j. j.job.number) (phased_at serial phase) (λ j. at_phase (λ j. j.job.number) (j.serial == serial) j phase refl) s.jobs;
+  places = map_same (λ j. j.place) (phased_at serial phase) (λ j. at_phase (λ j. j.place) (j.serial == serial) j phase refl) s.jobs;
+  next_number = refl;
+  next_serial = refl;
+  next_place = refl;
+}
+
+at_launch : {A : Type 0} (key : Job → A) (t : Bool) (j : Job) (l : Launched) → key (record j { phase = l.phase; how = l.how }) ≡ key j → key (cond t (record j { phase = l.phase; how = l.how }) j) ≡ key j
+at_launch key true j l h = h
+at_launch key false j l h = refl
+
+launched_same : (s : State) (serial : ℕ) (l : Launched) → SameNumbers s (with_launched s serial l)
+launched_same s serial l = record {
+  serials = map_same (λ j. j.serial) (launched_at serial l) (λ j. at_launch (λ j. j.serial) (j.serial == serial) j l refl) s.jobs;
+  numbers = map_same (λ j. j.job.number) (launched_at serial l) (λ j. at_launch (λ j. j.job.number) (j.serial == serial) j l refl) s.jobs;
+  places = map_same (λ j. j.place) (launched_at serial l) (λ j. at_launch (λ j. j.place) (j.serial == serial) j l refl) s.jobs;
+  next_number = refl;
+  next_serial = refl;
+  next_place = refl;
+}
+
+launch_keeps : (s : State) (c : Candidate) (o : Option Job) → IsNumbered s → IsNumbered (launch_job s c o)
+launch_keeps s c None h = h
+launch_keeps s c (Some j) h = let l = launched s c.sbs c.jobq j in numbered_same s (with_launched s c.serial l) (launched_same s c.serial l) h
+
+pub launches_keep : IsKept next (λ c t. launch t c) IsNumbered
+launches_keep = record { by_step = λ s c e h. launch_keeps s c (find (λ j. j.serial == c.serial) s.jobs) h }
+
+pub only_started : (s : State) → IsNumbered s → IsNumbered (leave s)
+only_started s h = numbered_same s (leave s) (record { serials = refl; numbers = refl; places = refl; next_number = refl; next_serial = refl; next_place = refl }) h
+
+pub settle_keeps : (s : State) → IsNumbered s → IsNumbered (settle s)
+settle_keeps s h = iterate-keeps IsNumbered launches_keep (waiting (leave s)) (leave s) (only_started s h)
+
+below_more : (n : ℕ) (xs : List ℕ) → IsBelow n xs → IsBelow (n + 1) (xs ++ n ∷ [])
+below_more n [] h = (omega arith, tt)
+below_more n (x ∷ xs) h = let less : x < n = h.0 in (omega arith, below_more n xs h.1)
+
+not_in : (n x : ℕ) (xs : List ℕ) → x < n → (IsIn x xs → ⊥) → IsIn x (xs ++ n ∷ []) → ⊥
+not_in n x [] less h (inl e) = absurd (omega arith)
+not_in n x [] less h (inr i) = i
+not_in n x (y ∷ ys) less h (inl e) = h (inl e)
+not_in n x (y ∷ ys) less h (inr i) = not_in n x ys less (λ k. h (inr k)) i
+
+distinct_more : (n : ℕ) (xs : List ℕ) → IsBelow n xs → IsDistinct xs → IsDistinct (xs ++ n ∷ [])
+distinct_more n [] b h = ((λ i. i), tt)
+distinct_more n (x ∷ xs) b h = (not_in n x xs b.0 h.0, distinct_more n xs b.1 h.1)
+
+given_more : (n : ℕ) (xs : List ℕ) → IsGiven xs n → IsGiven (xs ++ n ∷ []) (n + 1)
+given_more n xs h = record { distinct = distinct_more n xs h.below h.distinct; below = below_more n xs h.below }
+
+map_more : (key : Job → ℕ) (jobs : List Job) (j : Job) → map key (jobs ++ j ∷ []) ≡ map key jobs ++ key j ∷ []
+map_more key [] j = refl
+map_more key (i ∷ jobs) j = ap (λ l. key i ∷ l) (map_more key jobs j)
+
+given_entered : (key : Job → ℕ) (jobs : List Job) (j : Job) (n : ℕ) → key j ≡ n → IsGiven (map key jobs) n → IsGiven (map key (jobs ++ j ∷ [])) (n + 1)
+given_entered key jobs j n e h = subst (λ (l : List ℕ). IsGiven l (n + 1)) (sym (map_more key jobs j)) (subst (λ (k : ℕ). IsGiven (map key jobs ++ k ∷ []) (n + 1)) (sym e) (given_more n (map key jobs) h))
+
+last_three : (a b c d : Bool) → (a && b && c && d) ≡ true → (b ≡ true) × (c ≡ true) × (d ≡ true)
+last_three true true true true h = (refl, refl, refl)
+last_three true true true false h = absurd (cc)
+last_three true true false d h = absurd (cc)
+last_three true false c d h = absurd (cc)
+last_three false b c d h = absurd (cc)
+
+below_of : (a b : ℕ) → nat_lt a b ≡ true → a < b
+below_of a b h = grind (arith, nat_tests)
+
+entered_keeps : (s : State) (user : List ℕ) (c : Sbmjob) (d : Jobd) → has_numbers s ≡ true → IsNumbered s → IsNumbered (entered s (submitted_job s user c d))
+entered_keeps s user c d has h =
+    let j = submitted_job s user c d in
+    let tests = last_three (nat_le 1 s.next_number) (nat_lt s.next_number numbers_end) (nat_lt s.next_serial serials_end) (nat_lt s.next_place serials_end) has in
+    let a : s.next_number < numbers_end = below_of s.next_number numbers_end tests.0 in
+    let b : s.next_serial < serials_end = below_of s.next_serial serials_end tests.1 in
+    let e : s.next_place < serials_end = below_of s.next_place serials_end tests.2 in
+    record {
+      serials = given_entered (λ j. j.serial) s.jobs j s.next_serial refl h.serials;
+      numbers = given_entered (λ j. j.job.number) s.jobs j s.next_number refl h.numbers;
+      places = given_entered (λ j. j.place) s.jobs j s.next_place refl h.places;
+      next_number = record { least = omega arith; most = omega arith };
+      next_serial = record { least = omega arith; most = omega arith };
+      next_place = record { least = omega arith; most = omega arith };
+    }
+
+-- the state after is numbered
+abbrev Keeps : Stepped → Type 0
+Keeps t = IsNumbered t.state
+
+either : (b : Bool) (t u : Stepped) → Keeps t → Keeps u → Keeps (cond b t u)
+either true t u h k = h
+either false t u h k = k
+
+unrefused : (t : Bool) (x : Refusal) (o : Option Refusal) → cond t (Some x) o ≡ None → (t ≡ false) × (o ≡ None)
+unrefused true x o e = absurd (cc)
+unrefused false x o e = (refl, e)
+
+of_not : (b : Bool) → not b ≡ false → b ≡ true
+of_not true e = refl
+of_not false e = absurd (cc)
+
+start : (s : State) (q : QName) (o : Option Refusal) → IsNumbered s → Keeps (start_unless s q o)
+start s q None h = numbered_same s (start_unless s q None).state (record { serials = refl; numbers = refl; places = refl; next_number = refl; next_serial = refl; next_place = refl }) h
+start s q (Some y) h = h
+
+submitted : (s : State) (user : List ℕ) (c : Sbmjob) (d : Jobd) (o : Option Refusal) → submit_refusal s c d ≡ o → IsNumbered s → Keeps (submit_unless s user c d o)
+submitted s user c d None e h =
+    let rest = (unrefused _ _ _ e).1 in
+    entered_keeps s user c d (of_not (has_numbers s) (unrefused _ _ _ rest).0) h
+submitted s user c d (Some y) e h = h
+
+submitted_with : (s : State) (user : List ℕ) (c : Sbmjob) (d : Option Jobd) → IsNumbered s → Keeps (submit_with s user c d)
+submitted_with s user c None h = h
+submitted_with s user c (Some d) h = submitted s user c d (submit_refusal s c d) refl h
+
+changed : (s : State) (user : List ℕ) (c : Command) → IsNumbered s → Keeps (change s user c)
+changed s user (command.Strsbs c) h = start s c.sbsd (start_refusal s c.sbsd) h
+changed s user (command.Sbmjob c) h = either (is_on s.power) _ _ (submitted_with s user c (described c.jobd s.objects.jobds) h) h
+changed s user (command.Pwrdwnsys c) h = either (is_down_now s.power) _ _ h (numbered_same s _ (record { serials = refl; numbers = refl; places = refl; next_number = refl; next_serial = refl; next_place = refl }) h)
+
+ordered : (s : State) (m : ℕ) (j : Job) (o : Option StartOrder) → IsNumbered s → Keeps (hand_order s m j o)
+ordered s m j None h = h
+ordered s m j (Some o) h = numbered_same s _ (phase_same s j.serial (Handed m)) h
+
+handed : (s : State) (m : ℕ) (o : Option Job) → IsNumbered s → Keeps (hand_job s m o)
+handed s m None h = h
+handed s m (Some j) h = ordered s m j (order_of s j) h
+
+reported : (s : State) (serial : ℕ) (test : Phase → Bool) (phase : Phase) (o : Option Job) → IsNumbered s → Keeps (report_on s serial test phase o)
+reported s serial test phase None h = h
+reported s serial test phase (Some j) h = either (test j.phase) _ _ (numbered_same s _ (phase_same s serial phase) h) h
+
+done : (s : State) (m : ℕ) (o : Option Job) → IsNumbered s → Keeps (done_with s m o)
+done s m None h = h
+done s m (Some j) h = either (is_run_by m j.phase) _ _ h h
+
+pub apply_keeps : (s : State) (caller : ℕ) (call : Call) → IsNumbered s → IsNumbered (apply s caller call).state
+apply_keeps s caller (Change user c) h = changed s user c h
+apply_keeps s caller Hand h = handed s caller (find (λ j. is_starting j.phase) s.jobs) h
+apply_keeps s caller (Started serial) h = reported s serial (is_handed_to caller) _ (find (λ j. j.serial == serial) s.jobs) h
+apply_keeps s caller (StartFailed serial why) h = reported s serial (is_handed_to caller) _ (find (λ j. j.serial == serial) s.jobs) h
+apply_keeps s caller (Finished serial end) h = reported s serial (is_run_by caller) _ (find (λ j. j.serial == serial) s.jobs) h
+apply_keeps s caller (UseDone serial) h = done s caller (find (λ j. j.serial == serial) s.jobs) h
+apply_keeps s caller Tick h = h
+
+pub clock_keeps : (s : State) (moment : ℕ) → IsNumbered s → IsNumbered (with_clock s moment)
+clock_keeps s moment h = numbered_same s _ (record { serials = refl; numbers = refl; places = refl; next_number = refl; next_serial = refl; next_place = refl }) h
+
+pub step_keeps_numbers : StepKeepsNumbers
+unfolding step
+step_keeps_numbers s caller call moment h = settle_keeps _ (apply_keeps (with_clock s moment) caller call (clock_keeps s moment h))
+
+pub after_is_numbered : (s : State) (h : List Entry) → IsNumbered s → IsNumbered (after s h)
+after_is_numbered s [] h = h
+after_is_numbered s (e ∷ es) h = after_is_numbered (stepped s e).state es (step_keeps_numbers s e.caller e.call e.moment h)
+
+pub opening_is_numbered : OpeningIsNumbered
+unfolding opening
+opening_is_numbered = record {
+  serials = record { distinct = tt; below = tt };
+  numbers = record { distinct = tt; below = tt };
+  places = record { distinct = tt; below = tt };
+  next_number = record { least = omega arith; most = omega arith };
+  next_serial = record { least = omega arith; most = omega arith };
+  next_place = record { least = omega arith; most = omega arith };
+}
+
+pub numbers_are_given_once : NumbersAreGivenOnce
+numbers_are_given_once h = after_is_numbered opening h opening_is_numbered

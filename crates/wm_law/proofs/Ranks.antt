@@ -1,0 +1,125 @@
+-- The order of candidates is total, and the next one is its least.
+use Rattle.std.proofs.Common.{◌≡◌, ℕ, ◌<◌, ◌⊎◌, Bool, true, false, cond, List, [], ◌∷◌, Option, Some, None, refl, sym, ap, subst, ◌∙◌, inl, inr, arith}
+use Rattle.std.specs.List.{fold}
+use Rattle.std.specs.Ordering.{is_lt, is_gt, nat_cmp, ordering_reverse}
+use Rattle.std.specs.Cmp.{IsTotalOrder}
+use Rattle.std.specs.Cmp.Lexicographic.{slice_cmp}
+use Rattle.std.specs.declared.cmp.Ordering.{Ordering}
+use Rattle.std.specs.declared.cmp.Ordering.TheVariants.{Less, Equal, Greater}
+use Rattle.std.proofs.lemmas.Cmp.{nat_list_cmp_total, nat_cmp_total, on_total, then_total, upto, tied_itself, ranked, by_ranked}
+use Rattle.wm_law.specs.declared.choice.Candidate.{Candidate}
+use Rattle.wm_law.specs.declared.choice.Rank.{Rank}
+use Rattle.wm_law.specs.declared.job.Job.{Job}
+use Rattle.wm_law.specs.declared.state.State.{State}
+use Rattle.wm_law.specs.Choice.{rank_cmp, better, candidate}
+use Rattle.wm_law.specs.Laws.{IsIn}
+
+pub rank_total : IsTotalOrder rank_cmp
+rank_total =
+    then_total (on_total (λ (r : Rank). r.sbs) nat_list_cmp_total)
+    (then_total (on_total (λ (r : Rank). r.seq) nat_cmp_total)
+    (then_total (on_total (λ (r : Rank). r.pty) nat_cmp_total) (on_total (λ (r : Rank). r.place) nat_cmp_total)))
+
+-- not behind
+abbrev NotBehind : Candidate → Candidate → Type 0
+NotBehind a b = is_gt (rank_cmp a.rank b.rank) ≡ false
+
+chain : (a b c : Candidate) → NotBehind a b → NotBehind b c → NotBehind a c
+chain a b c h k = upto rank_total a.rank b.rank c.rank h k
+
+itself : (a : Candidate) → NotBehind a a
+itself a = ap is_gt (tied_itself rank_total a.rank)
+
+of_lt : (o : Ordering) → is_lt o ≡ true → is_gt o ≡ false
+of_lt Less e = refl
+of_lt Equal e = refl
+of_lt Greater e = absurd (cc)
+
+of_not_lt : (o : Ordering) → is_lt o ≡ false → is_gt (ordering_reverse o) ≡ false
+of_not_lt Less e = absurd (cc)
+of_not_lt Equal e = refl
+of_not_lt Greater e = refl
+
+turned : (a b : Candidate) → is_lt (rank_cmp b.rank a.rank) ≡ false → NotBehind a b
+turned a b e = ap is_gt (rank_total.antisymm a.rank b.rank) ∙ of_not_lt (rank_cmp b.rank a.rank) e
+
+-- of two, the one that is kept is behind neither
+picks : (a b : Candidate) (t : Bool) → is_lt (rank_cmp b.rank a.rank) ≡ t → (r : Candidate) × (cond t (Some b) (Some a) ≡ Some r) × NotBehind r a × NotBehind r b
+picks a b true e = (b, refl, of_lt (rank_cmp b.rank a.rank) e, itself b)
+picks a b false e = (a, refl, itself a, turned a b e)
+
+after_first : (o p : Option Candidate) (b : Candidate) → o ≡ Some b → (r : Candidate) × (better o p ≡ Some r) × NotBehind r b
+after_first None p b e = absurd (cc)
+after_first (Some a) None b e = let same : a ≡ b = cc in (a, refl, subst (λ (x : Candidate). NotBehind a x) same (itself a))
+after_first (Some a) (Some c) b e =
+    let same : a ≡ b = cc in
+    let k = picks a c (is_lt (rank_cmp c.rank a.rank)) refl in
+    (k.0, k.1, subst (λ (x : Candidate). NotBehind k.0 x) same k.2)
+
+after_second : (o p : Option Candidate) (b : Candidate) → p ≡ Some b → (r : Candidate) × (better o p ≡ Some r) × NotBehind r b
+after_second o None b e = absurd (cc)
+after_second None (Some a) b e = let same : a ≡ b = cc in (a, refl, subst (λ (x : Candidate). NotBehind a x) same (itself a))
+after_second (Some a) (Some c) b e =
+    let same : c ≡ b = cc in
+    let k = picks a c (is_lt (rank_cmp c.rank a.rank)) refl in
+    (k.0, k.1, subst (λ (x : Candidate). NotBehind k.0 x) same k.3)
+
+-- what the fold keeps is not behind what it began with, nor behind any job's candidate
+pub least_of_best : (s : State) (jobs : List Job) (best : Option Candidate) (r : Candidate) → fold (λ b j. better b (candidate s j)) best jobs ≡ Some r → (b : Candidate) → best ≡ Some b → NotBehind r b
+least_of_best s [] best r e b h = let same : b ≡ r = cc in subst (λ (x : Candidate). NotBehind x b) same (itself b)
+least_of_best s (j ∷ jobs) best r e b h =
+    let m = after_first best (candidate s j) b h in
+    chain r m.0 b (least_of_best s jobs (better best (candidate s j)) r e m.0 m.1) m.2
+
+pub least_of_jobs : (s : State) (jobs : List Job) (best : Option Candidate) (r : Candidate) → fold (λ b j. better b (candidate s j)) best jobs ≡ Some r → (k : Job) (d : Candidate) → IsIn k jobs → candidate s k ≡ Some d → NotBehind r d
+least_of_jobs s [] best r e k d i h = absurd i
+least_of_jobs s (j ∷ jobs) best r e k d (inl same) h =
+    let m = after_second best (candidate s j) d (subst (λ (x : Job). candidate s x ≡ Some d) same h) in
+    chain r m.0 d (least_of_best s jobs (better best (candidate s j)) r e m.0 m.1) m.2
+least_of_jobs s (j ∷ jobs) best r e k d (inr i) h = least_of_jobs s jobs (better best (candidate s j)) r e k d i h
+
+-- where the fold keeps nothing, there was nothing
+pub none_of_best : (s : State) (jobs : List Job) (best : Option Candidate) (b : Candidate) → best ≡ Some b → fold (λ b j. better b (candidate s j)) best jobs ≡ None → ⊥
+none_of_best s [] best b h e = absurd (cc)
+none_of_best s (j ∷ jobs) best b h e =
+    let m = after_first best (candidate s j) b h in
+    none_of_best s jobs (better best (candidate s j)) m.0 m.1 e
+
+pub none_of_jobs : (s : State) (jobs : List Job) (best : Option Candidate) → fold (λ b j. better b (candidate s j)) best jobs ≡ None → (k : Job) (d : Candidate) → IsIn k jobs → candidate s k ≡ Some d → ⊥
+none_of_jobs s [] best e k d i h = absurd i
+none_of_jobs s (j ∷ jobs) best e k d (inl same) h =
+    let m = after_second best (candidate s j) d (subst (λ (x : Job). candidate s x ≡ Some d) same h) in
+    none_of_best s jobs (better best (candidate s j)) m.0 m.1 e
+none_of_jobs s (j ∷ jobs) best e k d (inr i) h = none_of_jobs s jobs (better best (candidate s j)) e k d i h
+
+greater : (a b : ℕ) (o : Ordering) → o ≡ nat_cmp a b → b < a → nat_cmp a b ≡ Greater
+greater a b o e less =
+    by_ranked (a < b) (a ≡ b) (b < a) o (ranked a b o e)
+    (λ h (k : a < b). absurd (omega arith))
+    (λ h (k : a ≡ b). absurd (omega arith))
+    (λ h (k : b < a). sym e ∙ h)
+
+level : (a b : ℕ) → b ≡ a → nat_cmp a b ≡ Equal
+level a b e = subst (λ (x : ℕ). nat_cmp x b ≡ Equal) e (tied_itself nat_cmp_total b)
+
+slice_level : (n m : List ℕ) → m ≡ n → slice_cmp nat_cmp n m ≡ Equal
+slice_level n m same = subst (λ (x : List ℕ). slice_cmp nat_cmp x m ≡ Equal) same (tied_itself nat_list_cmp_total m)
+
+-- the rank of a job that stands before another of the subsystem is less
+pub not_before : (n m : List ℕ) → m ≡ n → (a b c d e f : ℕ) → is_gt (rank_cmp (record { sbs = n; seq = a; pty = b; place = c }) (record { sbs = m; seq = d; pty = e; place = f })) ≡ false
+    → ((d < a) ⊎ (((d ≡ a) × (e < b)) ⊎ ((d ≡ a) × (e ≡ b) × (f < c)))) → ⊥
+not_before n m same a b c d e f h (inl less) =
+    let first = slice_level n m same in
+    let second = greater a d (nat_cmp a d) refl less in
+    absurd (cc)
+not_before n m same a b c d e f h (inr (inl less)) =
+    let first = slice_level n m same in
+    let second = level a d less.0 in
+    let third = greater b e (nat_cmp b e) refl less.1 in
+    absurd (cc)
+not_before n m same a b c d e f h (inr (inr less)) =
+    let first = slice_level n m same in
+    let second = level a d less.0 in
+    let third = level b e less.1 in
+    let fourth = greater c f (nat_cmp c f) refl less.2 in
+    absurd (cc)

@@ -1,0 +1,192 @@
+-- A legal history orders no serial to start twice.
+use Rattle.std.proofs.Common.{◌≡◌, ℕ, ◌≤◌, ◌⊎◌, ◌==◌, Bool, true, false, cond, List, [], ◌∷◌, map, Option, Some, None, refl, sym, ap, subst, ◌∙◌, inl, inr, arith}
+use Rattle.std.specs.List.{find, cons_option}
+use Rattle.std.specs.Option.{option_and_then}
+use Rattle.std.proofs.lemmas.Bool.{eq-eqb}
+use Rattle.wm_base.specs.declared.job.StartOrder.{StartOrder}
+use Rattle.wm_base.specs.declared.job.Class.{Class}
+use Rattle.wm_base.specs.declared.job.How.{How}
+use Rattle.wm_base.specs.declared.job.How.TheVariants.{NotYet, FromQueue, Auto, Pre}
+use Rattle.wm_base.specs.declared.qname.QName.{QName}
+use Rattle.wm_base.specs.declared.refusal.Refusal.{Refusal}
+use Rattle.wm_law.specs.declared.call.Call.{Call}
+use Rattle.wm_law.specs.declared.call.Call.TheVariants.{Change, Hand, Started, StartFailed, Finished, UseDone, Tick}
+use Rattle.wm_law.specs.declared.call.Command.{Command}
+use Rattle.wm_law.specs.declared.call.Command.TheVariants as command
+use Rattle.wm_law.specs.declared.call.Entry.{Entry}
+use Rattle.wm_law.specs.declared.call.Reply.{Reply}
+use Rattle.wm_law.specs.declared.call.Sbmjob.{Sbmjob}
+use Rattle.wm_law.specs.declared.job.Job.{Job}
+use Rattle.wm_law.specs.declared.job.Phase.{Phase}
+use Rattle.wm_law.specs.declared.job.Phase.TheVariants.{Handed}
+use Rattle.wm_law.specs.declared.objects.Jobd.{Jobd}
+use Rattle.wm_law.specs.declared.objects.Program.{Program}
+use Rattle.wm_law.specs.declared.objects.RouteEntry.{RouteEntry}
+use Rattle.wm_law.specs.declared.state.State.{State}
+use Rattle.wm_law.specs.Counts.{is_starting}
+use Rattle.wm_law.specs.History.{stepped, IsEntry, IsLegal, order_in}
+use Rattle.wm_law.specs.Kept.{IsDistinct, IsNumbered, phase_rank, start_in, start_of, starts, StartsOnce, SerialsStartOnce}
+use Rattle.wm_law.specs.Launch.{order_of, order_by, order_through, order_called, order_with, route_entry, called_program, called_args}
+use Rattle.wm_law.specs.Laws.{IsIn}
+use Rattle.wm_law.specs.Machine.{Stepped, apply, step, settle, with_clock, with_phase, phased_at, start_refusal, start_unless, submit_refusal, submit_unless, submit_with, is_on, is_down_now, change, hand_job, hand_order, report_on, is_handed_to, is_run_by, done_with}
+use Rattle.wm_law.specs.Names.{described}
+use Rattle.wm_law.proofs.Forward.{only_one, found_in, mapped_in, starting_rank, settle_goes_on, step_goes_on}
+use Rattle.wm_law.specs.Opening.{opening}
+use Rattle.wm_law.proofs.Numbers.{opening_is_numbered, apply_keeps, clock_keeps, step_keeps_numbers}
+
+with_serial : (j : Job) (args : List (List ℕ)) (p : Option Program) (c : Option Class) (o : StartOrder) → order_with j args p c ≡ Some o → o.serial ≡ j.serial
+with_serial j args None c o e = absurd (cc)
+with_serial j args (Some p) None o e = absurd (cc)
+with_serial j args (Some p) (Some c) o e = cc
+
+called_serial : (s : State) (j : Job) (n : RouteEntry) (q : Option QName) (o : StartOrder) → order_called s j n q ≡ Some o → o.serial ≡ j.serial
+called_serial s j n None o e = absurd (cc)
+called_serial s j n (Some q) o e = with_serial j (called_args n j.rqsdta) (described q s.objects.programs) (described n.cls s.objects.classes) o e
+
+through_serial : (s : State) (j : Job) (n : Option RouteEntry) (o : StartOrder) → order_through s j n ≡ Some o → o.serial ≡ j.serial
+through_serial s j None o e = absurd (cc)
+through_serial s j (Some n) o e = called_serial s j n (called_program n j.rqsdta) o e
+
+by_serial : (s : State) (j : Job) (h : How) (o : StartOrder) → order_by s j h ≡ Some o → o.serial ≡ j.serial
+by_serial s j NotYet o e = absurd (cc)
+by_serial s j (FromQueue sbs jobq pty seq) o e = through_serial s j (route_entry s sbs seq) o e
+by_serial s j (Auto sbs seq) o e = through_serial s j (route_entry s sbs seq) o e
+by_serial s j (Pre sbs pgm) o e = absurd (cc)
+
+-- a job of that serial is Starting in the first state, and in the second it is past that
+record IsHanded (s t : State) (x : ℕ) : Type 0 where
+  job : Job
+  before : IsIn job s.jobs
+  serial : job.serial ≡ x
+  starting : phase_rank job.phase ≡ 1
+  later : Job
+  now : IsIn later t.jobs
+  same : later.serial ≡ x
+  past : 2 ≤ phase_rank later.phase
+
+abbrev told : Reply → Option ℕ
+told r = option_and_then start_in (order_in r)
+
+-- what a reply orders to start was handed
+abbrev Hands : State → Stepped → Type 0
+Hands s t = (x : ℕ) → told t.reply ≡ Some x → IsHanded s t.state x
+
+either : (s : State) (b : Bool) (t u : Stepped) → Hands s t → Hands s u → Hands s (cond b t u)
+either s true t u h k = h
+either s false t u h k = k
+
+start : (s : State) (q : QName) (o : Option Refusal) → Hands s (start_unless s q o)
+start s q None x e = absurd (cc)
+start s q (Some y) x e = absurd (cc)
+
+submitted : (s : State) (user : List ℕ) (c : Sbmjob) (d : Jobd) (o : Option Refusal) → Hands s (submit_unless s user c d o)
+submitted s user c d None x e = absurd (cc)
+submitted s user c d (Some y) x e = absurd (cc)
+
+submitted_with : (s : State) (user : List ℕ) (c : Sbmjob) (d : Option Jobd) → Hands s (submit_with s user c d)
+submitted_with s user c None x e = absurd (cc)
+submitted_with s user c (Some d) x e = submitted s user c d (submit_refusal s c d) x e
+
+changed : (s : State) (user : List ℕ) (c : Command) → Hands s (change s user c)
+changed s user (command.Strsbs c) = start s c.sbsd (start_refusal s c.sbsd)
+changed s user (command.Sbmjob c) = either s (is_on s.power) _ _ (submitted_with s user c (described c.jobd s.objects.jobds)) (λ x e. absurd (cc))
+changed s user (command.Pwrdwnsys c) = either s (is_down_now s.power) _ _ (λ x e. absurd (cc)) (λ x e. absurd (cc))
+
+moved : (s : State) (i : Job) (m : ℕ) → IsIn i s.jobs → IsIn (record i { phase = Handed m }) (with_phase s i.serial (Handed m)).jobs
+moved s i m k =
+    let same = ap (λ (b : Bool). cond b (record i { phase = Handed m }) i) (eq-eqb i.serial i.serial refl) in
+    subst (λ (j : Job). IsIn j (map (phased_at i.serial (Handed m)) s.jobs)) same (mapped_in (phased_at i.serial (Handed m)) s.jobs i k)
+
+ordered : (s : State) (m : ℕ) (i : Job) (o : Option StartOrder) → order_of s i ≡ o → IsIn i s.jobs → is_starting i.phase ≡ true → Hands s (hand_order s m i o)
+ordered s m i None f k h x e = absurd (cc)
+ordered s m i (Some o) f k h x e =
+    let told_serial : o.serial ≡ x = cc in
+    let same = sym (by_serial s i i.how o f) ∙ told_serial in
+    record { job = i; before = k; serial = same; starting = starting_rank i.phase h; later = record i { phase = Handed m }; now = moved s i m k; same = same; past = omega arith }
+
+handed : (s : State) (m : ℕ) (o : Option Job) → find (λ j. is_starting j.phase) s.jobs ≡ o → Hands s (hand_job s m o)
+handed s m None f x e = absurd (cc)
+handed s m (Some i) f x e = let k = found_in (λ j. is_starting j.phase) s.jobs i f in ordered s m i (order_of s i) refl k.0 k.1 x e
+
+reported : (s : State) (serial : ℕ) (test : Phase → Bool) (phase : Phase) (o : Option Job) → Hands s (report_on s serial test phase o)
+reported s serial test phase None x e = absurd (cc)
+reported s serial test phase (Some j) x e = either s (test j.phase) _ _ (λ y f. absurd (cc)) (λ y f. absurd (cc)) x e
+
+done : (s : State) (m : ℕ) (o : Option Job) → Hands s (done_with s m o)
+done s m None x e = absurd (cc)
+done s m (Some j) x e = either s (is_run_by m j.phase) _ _ (λ y f. absurd (cc)) (λ y f. absurd (cc)) x e
+
+apply_hands : (s : State) (caller : ℕ) (call : Call) → Hands s (apply s caller call)
+apply_hands s caller (Change user c) = changed s user c
+apply_hands s caller Hand = handed s caller (find (λ j. is_starting j.phase) s.jobs) refl
+apply_hands s caller (Started serial) = reported s serial (is_handed_to caller) _ (find (λ j. j.serial == serial) s.jobs)
+apply_hands s caller (StartFailed serial why) = reported s serial (is_handed_to caller) _ (find (λ j. j.serial == serial) s.jobs)
+apply_hands s caller (Finished serial end) = reported s serial (is_run_by caller) _ (find (λ j. j.serial == serial) s.jobs)
+apply_hands s caller (UseDone serial) = done s caller (find (λ j. j.serial == serial) s.jobs)
+apply_hands s caller Tick = λ x e. absurd (cc)
+
+settled_hands : (s t : State) (x : ℕ) → IsNumbered t → IsHanded s t x → IsHanded s (settle t) x
+settled_hands s t x n h =
+    let k = settle_goes_on t n h.later h.now in
+    let on = k.2 in
+    let rank = on.phase in
+    let past = h.past in
+    record { job = h.job; before = h.before; serial = h.serial; starting = h.starting; later = k.0; now = k.1; same = on.serial ∙ h.same; past = omega arith }
+
+step_hands : (s : State) (caller : ℕ) (call : Call) (moment : ℕ) → IsNumbered s → (x : ℕ) → told (step s caller call moment).reply ≡ Some x → IsHanded s (step s caller call moment).state x
+unfolding step
+step_hands s caller call moment n x e =
+    let h = apply_hands (with_clock s moment) caller call x e in
+    let k : IsHanded s (apply (with_clock s moment) caller call).state x = record { job = h.job; before = h.before; serial = h.serial; starting = h.starting; later = h.later; now = h.now; same = h.same; past = h.past } in
+    settled_hands s (apply (with_clock s moment) caller call).state x (apply_keeps (with_clock s moment) caller call (clock_keeps s moment n)) k
+
+entry_hands : (s : State) (e : Entry) → IsNumbered s → IsEntry s e → (x : ℕ) → start_of e ≡ Some x → IsHanded s (stepped s e).state x
+entry_hands s e n h x f = step_hands s e.caller e.call e.moment n x (ap told (sym h.reply) ∙ f)
+
+-- what stands in a list with perhaps one more at its front
+by_front : (o : Option ℕ) (xs : List ℕ) (x : ℕ) → IsIn x (cons_option o xs) → (o ≡ Some x) ⊎ IsIn x xs
+by_front None xs x i = inr i
+by_front (Some y) xs x (inl e) = inl (ap Some (sym e))
+by_front (Some y) xs x (inr i) = inr i
+
+-- no job of that serial was handed yet
+abbrev IsFresh : State → ℕ → Type 0
+IsFresh s x = (j : Job) → IsIn j s.jobs → j.serial ≡ x → phase_rank j.phase ≤ 1
+
+-- what a legal history orders to start wasn't handed before it
+starts_fresh : (s : State) (h : List Entry) → IsNumbered s → IsLegal s h → (x : ℕ) → IsIn x (starts h) → IsFresh s x
+starts_fresh s [] n l x i j m f = absurd i
+starts_fresh s (e ∷ es) n l x i j m f =
+    elim (by_front (start_of e) (starts es) x i) as (λ _. phase_rank j.phase ≤ 1) [
+      | inl o ↦ (
+          let h = entry_hands s e n l.0 x o in
+          let one = only_one s.jobs n.serials.distinct h.job j h.before m (h.serial ∙ sym f) in
+          let rank = h.starting in
+          let here : phase_rank j.phase ≡ 1 = ap (λ (y : Job). phase_rank y.phase) (sym one) ∙ rank in
+          omega arith)
+      | inr k ↦ (
+          let on = step_goes_on s e.caller e.call e.moment n j m in
+          let later = on.2 in
+          let behind = starts_fresh (stepped s e).state es (step_keeps_numbers s e.caller e.call e.moment n) l.1 x k on.0 on.1 (later.serial ∙ f) in
+          let rank = later.phase in
+          omega arith)
+    ]
+
+not_again : (s : State) (e : Entry) (es : List Entry) → IsNumbered s → IsEntry s e → IsLegal (stepped s e).state es → (x : ℕ) → start_of e ≡ Some x → IsIn x (starts es) → ⊥
+not_again s e es n h l x o i =
+    let k = entry_hands s e n h x o in
+    let fresh = starts_fresh (stepped s e).state es (step_keeps_numbers s e.caller e.call e.moment n) l x i k.later k.now k.same in
+    let past = k.past in
+    absurd (omega arith)
+
+distinct_front : (o : Option ℕ) (xs : List ℕ) → ((x : ℕ) → o ≡ Some x → IsIn x xs → ⊥) → IsDistinct xs → IsDistinct (cons_option o xs)
+distinct_front None xs none rest = rest
+distinct_front (Some y) xs none rest = (none y refl, rest)
+
+pub starts_once : StartsOnce
+starts_once s [] n l = tt
+starts_once s (e ∷ es) n l =
+    distinct_front (start_of e) (starts es) (λ x o. not_again s e es n l.0 l.1 x o) (starts_once (stepped s e).state es (step_keeps_numbers s e.caller e.call e.moment n) l.1)
+
+pub serials_start_once : SerialsStartOnce
+serials_start_once h l = starts_once opening h opening_is_numbered l

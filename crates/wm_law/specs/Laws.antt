@@ -1,0 +1,84 @@
+-- Laws of the machine: what its definitions come to.
+use Rattle.std.specs.Prelude.{◌≡◌, ℕ, ◌<◌, ◌⊎◌, true, false, ◌==◌, List, [], ◌∷◌, Some, None}
+use Rattle.std.specs.List.{list_any}
+use Rattle.wm_base.specs.declared.qname.QName.{QName}
+use Rattle.wm_base.specs.declared.refusal.Refusal.{Refusal}
+use Rattle.wm_law.specs.declared.call.Call.{Call}
+use Rattle.wm_law.specs.declared.call.Reply.TheVariants.{No}
+use Rattle.wm_law.specs.declared.choice.Candidate.{Candidate}
+use Rattle.wm_law.specs.declared.job.Job.{Job}
+use Rattle.wm_law.specs.declared.objects.Sbsd.{Sbsd}
+use Rattle.wm_law.specs.declared.objects.QueueEntry.{QueueEntry}
+use Rattle.wm_law.specs.declared.state.State.{State}
+use Rattle.wm_law.specs.declared.state.Sbs.{Sbs}
+use Rattle.wm_law.specs.Choice.{is_ready, holder, entry_for, is_allowed, next}
+use Rattle.wm_law.specs.Launch.{call_request, parameter_of}
+use Rattle.wm_law.specs.Machine.{apply, step, settle, with_clock}
+use Rattle.wm_law.specs.Names.{described}
+
+-- the element stands in the list
+abbrev pub IsIn : {X : Type 0} → X → List X → Type 0
+IsIn x [] = ⊥
+IsIn x (y ∷ ys) = (x ≡ y) ⊎ IsIn x ys
+
+-- a subsystem, its description, and the description's entry for a queue
+pub record Turn : Type 0 where
+  pub queue : QName
+  pub sbs : Sbs
+  pub sbsd : Sbsd
+  pub entry : QueueEntry
+
+-- the job may start: it is ready, the subsystem holds its queue, and the limits allow it
+pub record MayStart (s : State) (j : Job) (t : Turn) : Type 0 where
+  pub ready : is_ready s j ≡ true
+  pub queue : j.jobq ≡ Some t.queue
+  pub holder : holder s t.queue ≡ Some t.sbs
+  pub sbsd : described t.sbs.sbsd s.objects.sbsds ≡ Some t.sbsd
+  pub entry : entry_for t.queue t.sbsd ≡ Some t.entry
+  pub allowed : is_allowed s t.sbs t.sbsd t.entry j.pty ≡ true
+
+-- of one subsystem, the first job stands before the second: by the entries' numbers, then the priorities, then the places
+abbrev pub IsBefore : QueueEntry → Job → QueueEntry → Job → Type 0
+IsBefore d j e k =
+    (d.seq < e.seq)
+    ⊎ (((d.seq ≡ e.seq) × (j.pty < k.pty)) ⊎ ((d.seq ≡ e.seq) × (j.pty ≡ k.pty) × (j.place < k.place)))
+
+-- the job is the first of its subsystem: it may start, and no job there that may start stands before it
+pub record IsFirst (s : State) (j : Job) (t : Turn) : Type 0 where
+  pub job : IsIn j s.jobs
+  pub may : MayStart s j t
+  pub none_before : (k : Job) (u : Turn) → IsIn k s.jobs → MayStart s k u → u.sbs.sbsd ≡ t.sbs.sbsd → IsBefore u.entry k t.entry j → ⊥
+
+-- what is named to start next is a first job, by its serial, its subsystem and its queue
+pub record IsNamed (c : Candidate) (j : Job) (t : Turn) : Type 0 where
+  pub serial : c.serial ≡ j.serial
+  pub sbs : c.sbs ≡ t.sbs.sbsd
+  pub jobq : c.jobq ≡ t.entry.jobq
+
+-- the next job is the first of its subsystem
+abbrev pub NextIsFirst : Type 0
+NextIsFirst = (s : State) (c : Candidate) → next s ≡ Some c → (j : Job) × ((t : Turn) × (IsFirst s j t × IsNamed c j t))
+
+-- where there is no next job, no job may start
+abbrev pub NoNextIsNone : Type 0
+NoNextIsNone = (s : State) → next s ≡ None → (j : Job) (t : Turn) → IsIn j s.jobs → MayStart s j t → ⊥
+
+-- after settling there is no next job
+abbrev pub SettledHasNoNext : Type 0
+SettledHasNoNext = (s : State) → next (settle s) ≡ None
+
+-- after settling no job may start
+abbrev pub SettledLeavesNone : Type 0
+SettledLeavesNone = (s : State) (j : Job) (t : Turn) → IsIn j (settle s).jobs → MayStart (settle s) j t → ⊥
+
+-- a refused call leaves the state
+abbrev pub RefusalLeaves : Type 0
+RefusalLeaves = (s : State) (caller : ℕ) (call : Call) (x : Refusal) → (apply s caller call).reply ≡ No x → (apply s caller call).state ≡ s
+
+-- a step that refuses sets the clock and settles, and does nothing else
+abbrev pub RefusedStepSettles : Type 0
+RefusedStepSettles = (s : State) (caller : ℕ) (call : Call) (moment : ℕ) (x : Refusal) → (step s caller call moment).reply ≡ No x → (step s caller call moment).state ≡ settle (with_clock s moment)
+
+-- the parameter of a request is the text that was put into it, where that has no apostrophe
+abbrev pub ParameterIsRead : Type 0
+ParameterIsRead = (text : List ℕ) → list_any (λ b. b == 39) text ≡ false → parameter_of (call_request text) ≡ Some text

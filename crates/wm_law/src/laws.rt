@@ -1,0 +1,52 @@
+// Laws of the machine: what its definitions come to, each for all states. They are no calls.
+ghost use Rattle.wm_law.specs.Laws.{NextIsFirst, NoNextIsNone, SettledHasNoNext, SettledLeavesNone, RefusalLeaves, RefusedStepSettles, ParameterIsRead};
+ghost use Rattle.wm_law.specs.Kept.{OpeningIsNumbered, StepKeepsNumbers, NumbersAreGivenOnce, StepGoesOn, StartsOnce, SerialsStartOnce};
+
+/// The next job is the first of its subsystem: it may start, and no other job there that may start
+/// stands before it. Where there is no next job, no job may start.
+#[tactic(auto, using(crate::proofs::Firsts::next_is_first, crate::proofs::Firsts::no_next_is_none))]
+pub fn next_job_is_first()
+    ensures first { NextIsFirst }
+    ensures none { NoNextIsNone }
+{}
+
+/// Once the state has settled, no job may start.
+#[tactic(auto, using(crate::proofs::Settling::settled_has_no_next, crate::proofs::Firsts::settled_leaves_none))]
+pub fn settling_leaves_none()
+    ensures next { SettledHasNoNext }
+    ensures none { SettledLeavesNone }
+{}
+
+/// A refused call changes nothing but the clock and what the clock brings in settling.
+#[tactic(auto, using(crate::proofs::Refusals::refusal_leaves, crate::proofs::Refusals::refused_step_settles))]
+pub fn refusals_leave_the_state()
+    ensures call { RefusalLeaves }
+    ensures step { RefusedStepSettles }
+{}
+
+/// No serial, job number or place is given twice, and the next ones stay in their ranges.
+#[tactic(auto, using(crate::proofs::Numbers::opening_is_numbered))]
+pub fn numbers_are_given_once()
+    ensures opening { OpeningIsNumbered }
+    ensures step { StepKeepsNumbers }
+    ensures always { NumbersAreGivenOnce }
+{}
+
+/// No step loses a job, renames it or takes its phase back.
+#[tactic(auto, using(crate::proofs::Forward::step_goes_on))]
+pub fn jobs_go_forward()
+    ensures { StepGoesOn }
+{}
+
+/// A legal history orders each serial to start at most once, whichever monitors ask.
+#[tactic(auto, using(crate::proofs::Starts::starts_once, crate::proofs::Starts::serials_start_once))]
+pub fn serials_start_once()
+    ensures state { StartsOnce }
+    ensures opening { SerialsStartOnce }
+{}
+
+/// The parameter of a request is the text that was put into it.
+#[tactic(auto, using(crate::proofs::Requests::parameter_is_read))]
+pub fn requests_keep_their_parameter()
+    ensures { ParameterIsRead }
+{}
