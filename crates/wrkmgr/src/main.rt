@@ -15,6 +15,8 @@ mod said;
 mod session;
 mod stop;
 mod submission;
+#[cfg(test)]
+mod tests;
 mod write;
 
 use run::{NO_MEMORY, run};
