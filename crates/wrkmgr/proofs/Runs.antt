@@ -1,5 +1,5 @@
 -- Laws of a whole run: its parts, and its status.
-use Rattle.std.proofs.Common.{◌≡◌, ℕ, ◌+◌, ◌≤◌, ◌==◌, Bool, true, false, List, [], ◌∷◌, ◌++◌, length, Option, Some, None, option_to_list, Result, Ok, Err, sym, ap, subst, ◌∙◌, refl, arith}
+use Rattle.std.proofs.Common.{◌≡◌, ℕ, ◌+◌, ◌≤◌, ◌==◌, Bool, true, false, List, [], ◌∷◌, ◌++◌, length, Option, Some, None, option_to_list, Result, Ok, Err, sym, ap, subst, ◌∙◌, refl, append_assoc, arith}
 use Rattle.std.specs.Prelude.{IfOk, OnOk, IsErrOf}
 use Rattle.std.specs.List.{list_all}
 use Rattle.wm_base.specs.declared.job.Asked.{Asked}
@@ -36,7 +36,7 @@ session_parts a b c d x y u v f ab bc cd start taken end =
         first = entries_of session_pass (since a b);
         middle = entries_of session_pass (since b c);
         last = entries_of session_pass (since c d);
-        parts = more ∙ ap (λ (es : List Entry). entries_of session_pass (since a b) ++ es) rest;
+        parts = more ∙ (ap (λ (es : List Entry). entries_of session_pass (since a b) ++ es) rest ∙ sym (append_assoc (entries_of session_pass (since a b)) (entries_of session_pass (since b c)) (entries_of session_pass (since c d))));
         start = start;
         answered = taken.done;
         end = end;
