@@ -1,5 +1,6 @@
 -- Laws of an input that is taken piece by piece.
-use Rattle.std.proofs.Common.{◌≡◌, ℕ, ◌||◌, Bool, false, List, [], ◌++◌, Option, sym, subst}
+use Rattle.std.proofs.Common.{◌≡◌, ℕ, ◌+◌, ◌<◌, ◌||◌, Bool, false, List, [], ◌++◌, length, take, Option, sym, subst, ap, ◌∙◌, refl, arith}
+use Rattle.std.proofs.lemmas.List.{length-append}
 use Rattle.wm_law.specs.declared.call.Entry.{Entry}
 use Rattle.wm_law.specs.History.{entries_of}
 use Rattle.wm_outside.proofs.Telling.{Takes-none, Takes-then}
@@ -41,3 +42,20 @@ input_end x y b old mid new u v w f g h is begun grown taken last =
       done = subst (λ (t : Bool). AnsweredBy (Answers (lines_of taken.bytes)) (entries_of session_pass (since old new)) u w t) (sym is)
         (subst (λ (es : List Entry). AnsweredBy (Answers (lines_of taken.bytes)) es u w (f || g)) (sym (session_entries-then old mid new begun grown)) both);
     }
+
+-- so many bytes are taken
+pub count_none : (x : Option (List ℕ)) → TakesInput x x (λ bytes. length bytes ≡ 0)
+count_none x = record { bytes = []; taken = Takes-none x; done = refl }
+
+-- so many, and then so many more
+pub count_then : (x y z : Option (List ℕ)) (n m t : ℕ) → t ≡ n + m → TakesInput x y (λ bytes. length bytes ≡ n) → TakesInput y z (λ bytes. length bytes ≡ m) → TakesInput x z (λ bytes. length bytes ≡ t)
+count_then x y z n m t is first second =
+    record {
+      bytes = first.bytes ++ second.bytes;
+      taken = Takes-then x y z first.bytes second.bytes first.taken second.taken;
+      done = let both = length-append first.bytes second.bytes in let a = first.done in let b = second.done in omega arith;
+    }
+
+-- more than a number
+pub count_more : (x y : Option (List ℕ)) (n m : ℕ) → m < n → TakesInput x y (λ bytes. length bytes ≡ n) → TakesInput x y (λ bytes. m < length bytes)
+count_more x y n m more h = record { bytes = h.bytes; taken = h.taken; done = let d = h.done in omega arith }

@@ -113,6 +113,15 @@ wait_status (Err NoMemory) is = absurd (omega arith)
 wait_status (Err WaitFault) is = refl
 wait_status (Err InputFull) is = absurd (omega arith)
 
+pub full_status : (r : Result Bool Stop) → ended_status r ≡ 11 → IsErrOf r InputFull
+full_status (Ok true) is = absurd (omega arith)
+full_status (Ok false) is = absurd (omega arith)
+full_status (Err ReadFault) is = absurd (omega arith)
+full_status (Err WriteFault) is = absurd (omega arith)
+full_status (Err NoMemory) is = absurd (omega arith)
+full_status (Err WaitFault) is = absurd (omega arith)
+full_status (Err InputFull) is = refl
+
 pub not_words : (r : Result Bool Stop) → ended_status r ≡ 2 → ⊥
 not_words (Ok true) is = omega arith
 not_words (Ok false) is = omega arith

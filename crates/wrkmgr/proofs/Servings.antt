@@ -186,8 +186,9 @@ last_call first old mid new c d begun before h is grown own =
     record { entry = o.entry; only = es ∙ (none ∙ o.only); call = o.call }
 
 -- what stays true while the input is read
-pub record ReadsSo (old new : MonitorView) (read_before read_now written_before written_now looked_before looked_now : ℕ) (sum : ℕ) (buf : List ℕ) (Taken : Type 0) : Type 0 where
+pub record ReadsSo (old new : MonitorView) (read_before read_now written_before written_now looked_before looked_now : ℕ) (sum : ℕ) (buf : List ℕ) (Taken Counted : Type 0) : Type 0 where
   pub serves : Serves old new
+  pub count : Counted
   pub taken : Taken
   pub read : read_before ≤ read_now
   pub written : written_before ≤ written_now

@@ -48,7 +48,7 @@ fn either(a: bool, b: bool) -> bool
 }
 
 impl Run {
-    ghost use Rattle.std.specs.Prelude.{◌≡◌, ◌≤◌, ◌∷◌, [], List, ℕ, IfOk, OnOk, take};
+    ghost use Rattle.std.specs.Prelude.{◌≡◌, ◌≤◌, ◌<◌, ◌∷◌, [], List, ℕ, IfOk, OnOk, IsErrOf, length, take};
     ghost use Rattle.std.specs.Io.KnownBytes.{IsAtEnd};
     ghost use Rattle.wm_law.specs.History.{entries_of};
     ghost use Rattle.wrkmgr.specs.LineBuffer.{Holds};
@@ -117,7 +117,9 @@ impl Run {
         ensures len { length piece.new ≡ length piece.old }
         ensures taken { IfOk result (λ got. (rest : List ℕ) → Holds buffer.old rest → TakesInput (I.left input.old) (I.left input.new) (λ bytes. TakesPiece (cut_from rest bytes) buffer.new
             (entries_of session_pass (since self.old.floor self.new.floor)) (O.written out.old) (O.written out.new) got.1)) }
+        ensures count { IfOk result (λ got. TakesInput (I.left input.old) (I.left input.new) (λ bytes. length bytes ≡ got.0)) }
         ensures end { IfOk result (λ got. got.0 ≡ 0 → 0 < length piece.new → IsAtEnd (I.left input.new)) }
+        ensures not_full { IsErrOf result Stop.InputFull → ⊥ }
         ensures causes { HasInputCauses result (I.faults input.old) (I.faults input.new) (O.faults out.old) (O.faults out.new) (P.faults spawner.old) (P.faults spawner.new) }
     {
         let n = read(input, piece)?;
@@ -133,6 +135,7 @@ impl Run {
         ensures taken { IfOk result (λ faulty. TakesInput (I.left input.old) (I.left input.new) (λ bytes. AnsweredBy (Answers (lines_of bytes))
             (entries_of session_pass (since self.old.floor self.new.floor)) (O.written out.old) (O.written out.new) faulty)) }
         ensures end { OnOk result (IsAtEnd (I.left input.new)) }
+        ensures full { IsErrOf result Stop.InputFull → TakesInput (I.left input.old) (I.left input.new) (λ bytes. 1000000000 < length bytes) }
         ensures causes { HasInputCauses result (I.faults input.old) (I.faults input.new) (O.faults out.old) (O.faults out.new) (P.faults spawner.old) (P.faults spawner.new) }
     {
         let mut buffer = LineBuffer::new(alloc);
@@ -160,6 +163,7 @@ impl Run {
         ensures taken { IfOk result (λ faulty. TakesInput (I.left input.old) (I.left input.new) (λ bytes. AnsweredBy (Answers (lines_of bytes))
             (entries_of session_pass (since self.old.floor self.new.floor)) (O.written out.old) (O.written out.new) faulty)) }
         ensures end { OnOk result (IsAtEnd (I.left input.new)) }
+        ensures full { IsErrOf result Stop.InputFull → TakesInput (I.left input.old) (I.left input.new) (λ bytes. 1000000000 < length bytes) }
         ensures causes { HasInputCauses result (I.faults input.old) (I.faults input.new) (O.faults out.old) (O.faults out.new) (P.faults spawner.old) (P.faults spawner.new) }
     {
         let mut piece = piece_buffer(alloc)?;

@@ -1,5 +1,5 @@
 // A whole run: the words of the command line, the session over the input, and the status.
-ghost use Rattle.std.specs.Prelude.{◌≡◌, ◌≤◌, ◌==◌, IfOk, None, [], map, option_to_list, true, false};
+ghost use Rattle.std.specs.Prelude.{◌≡◌, ◌≤◌, ◌<◌, ◌==◌, IfOk, None, [], length, map, option_to_list, true, false};
 ghost use Rattle.std.specs.Io.KnownBytes.{IsAtEnd};
 ghost use Rattle.std.specs.List.{list_all};
 ghost use Rattle.wm_law.specs.History.{after, entries_of, IsLegal};
@@ -71,7 +71,7 @@ fn is_run(words: &[&[u8]]) -> bool
 }
 
 impl Run {
-    ghost use Rattle.std.specs.Prelude.{◌≡◌, IfOk, OnOk, None};
+    ghost use Rattle.std.specs.Prelude.{◌≡◌, ◌<◌, IfOk, OnOk, IsErrOf, None, length};
     ghost use Rattle.std.specs.Io.KnownBytes.{IsAtEnd};
     ghost use Rattle.wm_law.specs.History.{after, entries_of, IsLegal};
     ghost use Rattle.wm_law.specs.Opening.{opening};
@@ -91,6 +91,7 @@ impl Run {
         ensures session { IfOk result (λ faulty. TakesInput (I.left input.old) (I.left input.new) (λ bytes. IsSession (lines_of bytes)
             (entries_of session_pass (since self.old.floor self.new.floor)) (O.written out.old) (O.written out.new) faulty)) }
         ensures end { OnOk result (IsAtEnd (I.left input.new)) }
+        ensures full { IsErrOf result Stop.InputFull → TakesInput (I.left input.old) (I.left input.new) (λ bytes. 1000000000 < length bytes) }
         ensures idle { OnOk result (active (after opening self.new.floor) ≡ 0) }
         ensures kept { OnOk result (self.new.monitor.kept ≡ None) }
         ensures causes { HasInputCauses result (I.faults input.old) (I.faults input.new) (O.faults out.old) (O.faults out.new) (P.faults spawner.old) (P.faults spawner.new) }
@@ -135,6 +136,7 @@ pub fn run<I: Source, O: Sink, P: Spawner, C: Clock, R: Wait>(rt: &R, alloc: Glo
     ensures read_fault { result.status ≡ 3 → raised (I.faults input.old) ≤ I.faults input.new }
     ensures write_fault { result.status ≡ 4 → raised (O.faults out.old) ≤ O.faults out.new }
     ensures wait_fault { result.status ≡ 8 → raised (P.faults spawner.old) ≤ P.faults spawner.new }
+    ensures input_full { result.status ≡ 11 → TakesInput (I.left input.old) (I.left input.new) (λ bytes. 1000000000 < length bytes) }
 {
     if !is_run(words) {
         return not_begun(alloc, WRONG_WORDS);

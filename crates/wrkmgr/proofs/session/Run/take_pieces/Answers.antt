@@ -1,5 +1,5 @@
-use Rattle.std.proofs.Common.{arith}
-use Rattle.wrkmgr.proofs.Inputs.{input_then, input_end}
+use Rattle.std.proofs.Common.{arith, refl, ◌+◌}
+use Rattle.wrkmgr.proofs.Inputs.{input_then, input_end, count_then, count_more}
 use Rattle.wrkmgr.proofs.Servings.{Serves-then}
 use Rattle.wrkmgr.proofs.session.Run.take_pieces.Goals as goal
 
@@ -20,6 +20,7 @@ reads-preserved g c =
     let k = c.take_some.ensures in
     record {
       serves = Serves-then _ _ _ i.serves k.serves;
+      count = count_then (x.left c.args.input.now) (x.left c.reads.input) (x.left c.take_some.new.input) c.reads.total c.in_ok-got.got.0 (c.reads.total + c.in_ok-got.got.0) refl i.count c.in_ok-got.ensures.count;
       taken = input_then (x.left c.args.input.now) (x.left c.reads.input) (x.left c.take_some.new.input) c.reads.buffer c.take_some.new.buffer c.args.self.now.floor c.reads.self.floor c.take_some.new.self.floor (o.written c.args.out.now) (o.written c.reads.out) (o.written c.take_some.new.out) c.reads.faulty c.in_ok-got.got.1 c.either-faulty.result c.either-faulty.ensures i.serves.log k.serves.log i.taken c.in_ok-got.ensures.taken;
       read = let n = k.causes.read in omega arith;
       written = let n = k.causes.written in omega arith;
@@ -40,3 +41,11 @@ returns-then-got-eq0-clause-taken g c =
     let all = input_then (x.left c.args.input.now) (x.left c.reads.input) (x.left c.take_some.new.input) c.reads.buffer c.take_some.new.buffer c.args.self.now.floor c.reads.self.floor c.take_some.new.self.floor (o.written c.args.out.now) (o.written c.reads.out) (o.written c.take_some.new.out) c.reads.faulty c.in_ok-got.got.1 c.either-faulty.result c.either-faulty.ensures i.serves.log k.serves.log i.taken c.in_ok-got.ensures.taken in
     let begun = (Serves-then _ _ _ i.serves k.serves).log in
     input_end (x.left c.args.input.now) (x.left c.take_some.new.input) c.take_some.new.buffer c.args.self.now.floor c.take_some.new.self.floor c.answer_buffered.new.self.floor (o.written c.args.out.now) (o.written c.take_some.new.out) (o.written c.answer_buffered.new.out) c.either-faulty.result c.in_ok-wrong.wrong c.either.result c.either.ensures begun c.answer_buffered.ensures.serves.log all c.in_ok-wrong.ensures.answered
+
+pub returns-then-total-gt-MOST_INPUT-clause-full : goal.returns-then-total-gt-MOST_INPUT-clause-full
+returns-then-total-gt-MOST_INPUT-clause-full g c f =
+    let x = g.I.Source in
+    let i = c.reads.invariant in
+    let all = count_then (x.left c.args.input.now) (x.left c.reads.input) (x.left c.take_some.new.input) c.reads.total c.in_ok-got.got.0 (c.reads.total + c.in_ok-got.got.0) refl i.count c.in_ok-got.ensures.count in
+    let t = c.if-total-gt-MOST_INPUT.true in
+    count_more (x.left c.args.input.now) (x.left c.take_some.new.input) (c.reads.total + c.in_ok-got.got.0) 1000000000 (omega arith) all

@@ -1,4 +1,4 @@
-use Rattle.std.proofs.Common.{List, ℕ, []}
+use Rattle.std.proofs.Common.{◌≡◌, List, ℕ, [], length}
 use Rattle.wm_law.specs.History.{entries_of}
 use Rattle.wrkmgr.specs.Lines.{cut_from}
 use Rattle.wrkmgr.specs.Lists.{since}
@@ -19,3 +19,4 @@ invariant-reads g l =
       (i.faults l.fn.input) (i.faults l.input) (o.faults l.fn.out) (o.faults l.out) (s.faults l.fn.spawner) (s.faults l.spawner)
       l.total l.piece
       (TakesInput (i.left l.fn.input) (i.left l.input) (λ bytes. TakesPiece (cut_from [] bytes) l.buffer (entries_of session_pass (since l.fn.self.floor l.self.floor)) (o.written l.fn.out) (o.written l.out) l.faulty))
+      (TakesInput (i.left l.fn.input) (i.left l.input) (λ bytes. length bytes ≡ l.total))
