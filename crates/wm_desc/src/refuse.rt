@@ -126,7 +126,7 @@ fn relation_refusal(entry: &PreEntry) -> Option<Refusal>
         Some(Refusal::BadRelation(Key::Threshold, Key::Inljobs))
     } else if is_above(entry.inljobs, entry.maxjobs) {
         Some(Refusal::BadRelation(Key::Inljobs, Key::Maxjobs))
-    } else if !entry.maxjobs.admits(entry.adljobs) {
+    } else if !entry.maxjobs.admits(entry.adljobs as usize) {
         Some(Refusal::BadRelation(Key::Adljobs, Key::Maxjobs))
     } else {
         None
