@@ -27,7 +27,7 @@ input_then x y z b d old mid new u v w f g h is begun grown first second =
       bytes = xs ++ more.bytes;
       taken = Takes-then x y z xs more.bytes first.taken more.taken;
       done = subst (λ (t : Bool). TakesPiece (cut_from [] (xs ++ more.bytes)) d (entries_of session_pass (since old new)) u w t) (sym is)
-        (subst (λ (es : List Entry). TakesPiece (cut_from [] (xs ++ more.bytes)) d es u w (f || g)) (sym (session_entries-then old mid new begun grown)) both);
+          (subst (λ (es : List Entry). TakesPiece (cut_from [] (xs ++ more.bytes)) d es u w (f || g)) (sym (session_entries-then old mid new begun grown)) both);
     }
 
 -- the last line is answered
@@ -40,7 +40,7 @@ input_end x y b old mid new u v w f g h is begun grown taken last =
       bytes = taken.bytes;
       taken = taken.taken;
       done = subst (λ (t : Bool). AnsweredBy (Answers (lines_of taken.bytes)) (entries_of session_pass (since old new)) u w t) (sym is)
-        (subst (λ (es : List Entry). AnsweredBy (Answers (lines_of taken.bytes)) es u w (f || g)) (sym (session_entries-then old mid new begun grown)) both);
+          (subst (λ (es : List Entry). AnsweredBy (Answers (lines_of taken.bytes)) es u w (f || g)) (sym (session_entries-then old mid new begun grown)) both);
     }
 
 -- so many bytes are taken

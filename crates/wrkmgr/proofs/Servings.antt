@@ -224,4 +224,4 @@ HasInputCauses-from r i j a b x y read h =
 pub Serves-same : (log now : List Entry) (m n : Monitor) (asked : Option (List Asked)) (told : Option (List Told)) (misses : ℕ) → now ≡ log → n ≡ m → Serves (view log m asked told misses) (view now n asked told misses)
 Serves-same log now m n asked told misses is same =
     subst (λ (l : List Entry). Serves (view log m asked told misses) (view l n asked told misses)) (sym is)
-      (subst (λ (x : Monitor). Serves (view log m asked told misses) (view log x asked told misses)) (sym same) (Serves-none _))
+    (subst (λ (x : Monitor). Serves (view log m asked told misses) (view log x asked told misses)) (sym same) (Serves-none _))

@@ -59,7 +59,12 @@ AnsweredBy-one line es a b f h =
     record {
       bytes = h.bytes;
       answers = record {
-        own = es; others = []; said = h.bytes; more = []; wrong = f; later = false;
+        own = es;
+        others = [];
+        said = h.bytes;
+        more = [];
+        wrong = f;
+        later = false;
         entries = sym (append-nil es);
         text = sym (append-nil h.bytes);
         fault = or_false f;
@@ -82,8 +87,8 @@ pub record Follows (c d e : Cut) : Type 0 where
 follows_byte : (c : Cut) (byte : ℕ) → Follows c (cut_byte (record { lines = []; rest = c.rest }) byte) (cut_byte c byte)
 follows_byte c byte =
     elim (byte == 10) as (λ t. Follows c (cond t (record { lines = [] ++ c.rest ∷ []; rest = [] }) (record { lines = []; rest = c.rest ++ byte ∷ [] })) (cond t (record { lines = c.lines ++ c.rest ∷ []; rest = [] }) (record { lines = c.lines; rest = c.rest ++ byte ∷ [] }))) [
-      true ↦ record { lines = refl; rest = refl }
-    | false ↦ record { lines = sym (append-nil c.lines); rest = refl }
+      | true ↦ record { lines = refl; rest = refl }
+      | false ↦ record { lines = sym (append-nil c.lines); rest = refl }
     ]
 
 -- bytes that follow a cut are cut from its rest

@@ -19,7 +19,13 @@ impl Run {
     ghost use Rattle.wrkmgr.specs.View.{view};
 
     // Turns until one makes no entry.
-    fn drain<P: Spawner, C: Clock, R: Wait>(&mut self, rt: &R, alloc: Global, spawner: &mut P, clock: &mut C) -> Result<(), Stop>
+    fn drain<P: Spawner, C: Clock, R: Wait>(
+        &mut self,
+        rt: &R,
+        alloc: Global,
+        spawner: &mut P,
+        clock: &mut C,
+    ) -> Result<(), Stop>
         ensures part { Advances (view self.old.floor self.old.monitor (P.asked spawner.old) (P.told spawner.old) (P.misses spawner.old))
             (view self.new.floor self.new.monitor (P.asked spawner.new) (P.told spawner.new) (P.misses spawner.new)) }
         ensures kept { OnOk result (self.new.monitor.kept ≡ None) }
@@ -35,7 +41,13 @@ impl Run {
     }
 
     // Turns and waits until no job is active.
-    fn wait_for_jobs<P: Spawner, C: Clock, R: Wait>(&mut self, rt: &R, alloc: Global, spawner: &mut P, clock: &mut C) -> Result<(), Stop>
+    fn wait_for_jobs<P: Spawner, C: Clock, R: Wait>(
+        &mut self,
+        rt: &R,
+        alloc: Global,
+        spawner: &mut P,
+        clock: &mut C,
+    ) -> Result<(), Stop>
         ensures part { Advances (view self.old.floor self.old.monitor (P.asked spawner.old) (P.told spawner.old) (P.misses spawner.old))
             (view self.new.floor self.new.monitor (P.asked spawner.new) (P.told spawner.new) (P.misses spawner.new)) }
         ensures idle { OnOk result (active (after opening self.new.floor) ≡ 0) }
@@ -54,7 +66,12 @@ impl Run {
     }
 
     /// Starts the controlling subsystem, and lets the monitor turn.
-    pub fn begin<P: Spawner, C: Clock>(&mut self, alloc: Global, spawner: &mut P, clock: &mut C) -> Result<(), Stop>
+    pub fn begin<P: Spawner, C: Clock>(
+        &mut self,
+        alloc: Global,
+        spawner: &mut P,
+        clock: &mut C,
+    ) -> Result<(), Stop>
         ensures serves { Serves (view self.old.floor self.old.monitor (P.asked spawner.old) (P.told spawner.old) (P.misses spawner.old))
             (view self.new.floor self.new.monitor (P.asked spawner.new) (P.told spawner.new) (P.misses spawner.new)) }
         ensures begun { OnOk result (OneCall start_call (entries_of session_pass (since self.old.floor self.new.floor))) }
@@ -66,7 +83,13 @@ impl Run {
     }
 
     /// Waits until no job is active, and puts the power down.
-    pub fn finish<P: Spawner, C: Clock, R: Wait>(&mut self, rt: &R, alloc: Global, spawner: &mut P, clock: &mut C) -> Result<(), Stop>
+    pub fn finish<P: Spawner, C: Clock, R: Wait>(
+        &mut self,
+        rt: &R,
+        alloc: Global,
+        spawner: &mut P,
+        clock: &mut C,
+    ) -> Result<(), Stop>
         ensures serves { Serves (view self.old.floor self.old.monitor (P.asked spawner.old) (P.told spawner.old) (P.misses spawner.old))
             (view self.new.floor self.new.monitor (P.asked spawner.new) (P.told spawner.new) (P.misses spawner.new)) }
         ensures ended { OnOk result (OneCall end_call (entries_of session_pass (since self.old.floor self.new.floor))) }

@@ -44,7 +44,13 @@ impl Floor {
     }
 
     /// Makes one call of a caller, whose entry is the last of the history then. An `Err` leaves the history.
-    pub fn call(&mut self, alloc: Global, caller: u32, call: Call, now: Moment) -> Result<(), AllocError>
+    pub fn call(
+        &mut self,
+        alloc: Global,
+        caller: u32,
+        call: Call,
+        now: Moment,
+    ) -> Result<(), AllocError>
         requires fit { IsCall call }
         requires built { IsBuilt (after opening self.old) call }
         ensures ok { OnOk result (self.new ≡ self.old ++ entry_at self.old caller call now ∷ []) }

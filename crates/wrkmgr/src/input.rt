@@ -61,7 +61,14 @@ impl Run {
     ghost use Rattle.wrkmgr.specs.View.{view};
 
     // Answers the line that the buffer has.
-    fn answer_buffered<O: Sink, P: Spawner, C: Clock>(&mut self, alloc: Global, out: &mut O, spawner: &mut P, clock: &mut C, buffer: &LineBuffer) -> Result<bool, Stop>
+    fn answer_buffered<O: Sink, P: Spawner, C: Clock>(
+        &mut self,
+        alloc: Global,
+        out: &mut O,
+        spawner: &mut P,
+        clock: &mut C,
+        buffer: &LineBuffer,
+    ) -> Result<bool, Stop>
         ensures serves { Serves (view self.old.floor self.old.monitor (P.asked spawner.old) (P.told spawner.old) (P.misses spawner.old))
             (view self.new.floor self.new.monitor (P.asked spawner.new) (P.told spawner.new) (P.misses spawner.new)) }
         ensures answered { IfOk result (λ faulty. (rest : List ℕ) → Holds buffer.now rest → AnsweredBy (AnswersLine rest)
@@ -77,7 +84,15 @@ impl Run {
     }
 
     // Takes one byte, which may end a line.
-    fn take_byte<O: Sink, P: Spawner, C: Clock>(&mut self, alloc: Global, out: &mut O, spawner: &mut P, clock: &mut C, buffer: &mut LineBuffer, byte: u8) -> Result<bool, Stop>
+    fn take_byte<O: Sink, P: Spawner, C: Clock>(
+        &mut self,
+        alloc: Global,
+        out: &mut O,
+        spawner: &mut P,
+        clock: &mut C,
+        buffer: &mut LineBuffer,
+        byte: u8,
+    ) -> Result<bool, Stop>
         ensures serves { Serves (view self.old.floor self.old.monitor (P.asked spawner.old) (P.told spawner.old) (P.misses spawner.old))
             (view self.new.floor self.new.monitor (P.asked spawner.new) (P.told spawner.new) (P.misses spawner.new)) }
         ensures taken { IfOk result (λ faulty. (rest : List ℕ) → Holds buffer.old rest → TakesPiece (cut_from rest (byte ∷ [])) buffer.new
@@ -94,7 +109,15 @@ impl Run {
     }
 
     // Takes the bytes of a piece, one after another.
-    fn take_piece<O: Sink, P: Spawner, C: Clock>(&mut self, alloc: Global, out: &mut O, spawner: &mut P, clock: &mut C, buffer: &mut LineBuffer, piece: &[u8]) -> Result<bool, Stop>
+    fn take_piece<O: Sink, P: Spawner, C: Clock>(
+        &mut self,
+        alloc: Global,
+        out: &mut O,
+        spawner: &mut P,
+        clock: &mut C,
+        buffer: &mut LineBuffer,
+        piece: &[u8],
+    ) -> Result<bool, Stop>
         ensures serves { Serves (view self.old.floor self.old.monitor (P.asked spawner.old) (P.told spawner.old) (P.misses spawner.old))
             (view self.new.floor self.new.monitor (P.asked spawner.new) (P.told spawner.new) (P.misses spawner.new)) }
         ensures taken { IfOk result (λ faulty. (rest : List ℕ) → Holds buffer.old rest → TakesPiece (cut_from rest piece.now) buffer.new
@@ -110,7 +133,16 @@ impl Run {
     }
 
     // Reads a piece and takes it. It answers how many bytes were read, and whether a line of them got a fault or a refusal.
-    fn take_some<I: Source, O: Sink, P: Spawner, C: Clock>(&mut self, alloc: Global, input: &mut I, out: &mut O, spawner: &mut P, clock: &mut C, buffer: &mut LineBuffer, piece: &mut [u8]) -> Result<(usize, bool), Stop>
+    fn take_some<I: Source, O: Sink, P: Spawner, C: Clock>(
+        &mut self,
+        alloc: Global,
+        input: &mut I,
+        out: &mut O,
+        spawner: &mut P,
+        clock: &mut C,
+        buffer: &mut LineBuffer,
+        piece: &mut [u8],
+    ) -> Result<(usize, bool), Stop>
         ensures serves { Serves (view self.old.floor self.old.monitor (P.asked spawner.old) (P.told spawner.old) (P.misses spawner.old))
             (view self.new.floor self.new.monitor (P.asked spawner.new) (P.told spawner.new) (P.misses spawner.new)) }
         ensures within { IfOk result (λ got. got.0 ≤ length piece.new) }
@@ -128,7 +160,16 @@ impl Run {
     }
 
     // Takes the whole input by pieces, and answers its lines.
-    fn take_pieces<I: Source, O: Sink, P: Spawner, C: Clock, R: Wait>(&mut self, rt: &R, alloc: Global, input: &mut I, out: &mut O, spawner: &mut P, clock: &mut C, piece: &mut [u8]) -> Result<bool, Stop>
+    fn take_pieces<I: Source, O: Sink, P: Spawner, C: Clock, R: Wait>(
+        &mut self,
+        rt: &R,
+        alloc: Global,
+        input: &mut I,
+        out: &mut O,
+        spawner: &mut P,
+        clock: &mut C,
+        piece: &mut [u8],
+    ) -> Result<bool, Stop>
         requires { 0 < length piece.old }
         ensures serves { Serves (view self.old.floor self.old.monitor (P.asked spawner.old) (P.told spawner.old) (P.misses spawner.old))
             (view self.new.floor self.new.monitor (P.asked spawner.new) (P.told spawner.new) (P.misses spawner.new)) }
@@ -157,7 +198,15 @@ impl Run {
     }
 
     /// Takes the whole input, and answers its lines. It answers whether one of them got a fault or a refusal.
-    pub fn take_all<I: Source, O: Sink, P: Spawner, C: Clock, R: Wait>(&mut self, rt: &R, alloc: Global, input: &mut I, out: &mut O, spawner: &mut P, clock: &mut C) -> Result<bool, Stop>
+    pub fn take_all<I: Source, O: Sink, P: Spawner, C: Clock, R: Wait>(
+        &mut self,
+        rt: &R,
+        alloc: Global,
+        input: &mut I,
+        out: &mut O,
+        spawner: &mut P,
+        clock: &mut C,
+    ) -> Result<bool, Stop>
         ensures serves { Serves (view self.old.floor self.old.monitor (P.asked spawner.old) (P.told spawner.old) (P.misses spawner.old))
             (view self.new.floor self.new.monitor (P.asked spawner.new) (P.told spawner.new) (P.misses spawner.new)) }
         ensures taken { IfOk result (λ faulty. TakesInput (I.left input.old) (I.left input.new) (λ bytes. AnsweredBy (Answers (lines_of bytes))

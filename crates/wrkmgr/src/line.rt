@@ -40,11 +40,7 @@ impl LineBuffer {
     pub fn line(&self) -> Option<&[u8]>
         ensures { (rest : List ℕ) → Holds self.now rest → MatchOption result (8192 < length rest) (λ line. line.now ≡ rest) }
     {
-        if self.long {
-            None
-        } else {
-            Some(&self.bytes)
-        }
+        if self.long { None } else { Some(&self.bytes) }
     }
 
     /// Begins the next line.

@@ -71,7 +71,12 @@ impl Monitor {
     }
 
     // Sends the report that is kept, which the floor may refuse to take for want of memory.
-    fn send_kept<C: Clock>(&mut self, alloc: Global, floor: &mut Floor, clock: &mut C) -> Result<(), AllocError>
+    fn send_kept<C: Clock>(
+        &mut self,
+        alloc: Global,
+        floor: &mut Floor,
+        clock: &mut C,
+    ) -> Result<(), AllocError>
         ensures part { (asked : Option (List Asked)) (told : Option (List Told)) (misses : ℕ) →
             Advances (view floor.old self.old asked told misses) (view floor.new self.new asked told misses) }
         ensures kept { OnOk result (self.new.kept ≡ None) }
@@ -85,7 +90,13 @@ impl Monitor {
     }
 
     // Makes the calls of what Hand orders, while there are orders.
-    fn hands<P: Spawner, C: Clock>(&mut self, alloc: Global, floor: &mut Floor, spawner: &mut P, clock: &mut C) -> Result<(), MonitorFault>
+    fn hands<P: Spawner, C: Clock>(
+        &mut self,
+        alloc: Global,
+        floor: &mut Floor,
+        spawner: &mut P,
+        clock: &mut C,
+    ) -> Result<(), MonitorFault>
         requires { self.old.kept ≡ None }
         ensures part { Advances (view floor.old self.old (P.asked spawner.old) (P.told spawner.old) (P.misses spawner.old))
             (view floor.new self.new (P.asked spawner.new) (P.told spawner.new) (P.misses spawner.new)) }
@@ -103,7 +114,13 @@ impl Monitor {
     }
 
     // Makes the calls of the reports that are there.
-    fn looks<P: Spawner, C: Clock>(&mut self, alloc: Global, floor: &mut Floor, spawner: &mut P, clock: &mut C) -> Result<(), MonitorFault>
+    fn looks<P: Spawner, C: Clock>(
+        &mut self,
+        alloc: Global,
+        floor: &mut Floor,
+        spawner: &mut P,
+        clock: &mut C,
+    ) -> Result<(), MonitorFault>
         requires { self.old.kept ≡ None }
         ensures part { Advances (view floor.old self.old (P.asked spawner.old) (P.told spawner.old) (P.misses spawner.old))
             (view floor.new self.new (P.asked spawner.new) (P.told spawner.new) (P.misses spawner.new)) }
@@ -121,7 +138,13 @@ impl Monitor {
 
     /// One turn: the kept report, the time where a job is due, at most 256 Hands with their orders, and at
     /// most 256 looks with their reports. It answers how many entries it made.
-    pub fn turn<P: Spawner, C: Clock>(&mut self, alloc: Global, floor: &mut Floor, spawner: &mut P, clock: &mut C) -> Result<usize, MonitorFault>
+    pub fn turn<P: Spawner, C: Clock>(
+        &mut self,
+        alloc: Global,
+        floor: &mut Floor,
+        spawner: &mut P,
+        clock: &mut C,
+    ) -> Result<usize, MonitorFault>
         ensures part { Advances (view floor.old self.old (P.asked spawner.old) (P.told spawner.old) (P.misses spawner.old))
             (view floor.new self.new (P.asked spawner.new) (P.told spawner.new) (P.misses spawner.new)) }
         ensures kept { OnOk result (self.new.kept ≡ None) }
@@ -138,7 +161,15 @@ impl Monitor {
     }
 
     /// Waits for a report, until the moment at the latest where one is given, and makes its call.
-    pub fn wait<P: Spawner, C: Clock, R: Wait>(&mut self, rt: &R, alloc: Global, floor: &mut Floor, spawner: &mut P, clock: &mut C, until: Option<Moment>) -> Result<(), MonitorFault>
+    pub fn wait<P: Spawner, C: Clock, R: Wait>(
+        &mut self,
+        rt: &R,
+        alloc: Global,
+        floor: &mut Floor,
+        spawner: &mut P,
+        clock: &mut C,
+        until: Option<Moment>,
+    ) -> Result<(), MonitorFault>
         ensures part { Advances (view floor.old self.old (P.asked spawner.old) (P.told spawner.old) (P.misses spawner.old))
             (view floor.new self.new (P.asked spawner.new) (P.told spawner.new) (P.misses spawner.new)) }
         ensures kept { OnOk result (self.new.kept ≡ None) }
@@ -155,7 +186,12 @@ impl Monitor {
     }
 
     // Lets the machine see the time, where a job is due by now.
-    fn tick<C: Clock>(&mut self, alloc: Global, floor: &mut Floor, clock: &mut C) -> Result<(), AllocError>
+    fn tick<C: Clock>(
+        &mut self,
+        alloc: Global,
+        floor: &mut Floor,
+        clock: &mut C,
+    ) -> Result<(), AllocError>
         ensures part { (asked : Option (List Asked)) (told : Option (List Told)) (misses : ℕ) →
             Advances (view floor.old self.old asked told misses) (view floor.new self.new asked told misses) }
         ensures kept { self.new ≡ self.old }
@@ -171,7 +207,13 @@ impl Monitor {
     }
 
     // Makes one Hand and does its order.
-    fn hand<P: Spawner, C: Clock>(&mut self, alloc: Global, floor: &mut Floor, spawner: &mut P, clock: &mut C) -> Result<(), MonitorFault>
+    fn hand<P: Spawner, C: Clock>(
+        &mut self,
+        alloc: Global,
+        floor: &mut Floor,
+        spawner: &mut P,
+        clock: &mut C,
+    ) -> Result<(), MonitorFault>
         requires { self.old.kept ≡ None }
         ensures part { Advances (view floor.old self.old (P.asked spawner.old) (P.told spawner.old) (P.misses spawner.old))
             (view floor.new self.new (P.asked spawner.new) (P.told spawner.new) (P.misses spawner.new)) }
@@ -195,7 +237,13 @@ impl Monitor {
     }
 
     // Looks once for a report, and makes its call. It answers whether there was one.
-    fn look<P: Spawner, C: Clock>(&mut self, alloc: Global, floor: &mut Floor, spawner: &mut P, clock: &mut C) -> Result<bool, MonitorFault>
+    fn look<P: Spawner, C: Clock>(
+        &mut self,
+        alloc: Global,
+        floor: &mut Floor,
+        spawner: &mut P,
+        clock: &mut C,
+    ) -> Result<bool, MonitorFault>
         requires { self.old.kept ≡ None }
         ensures part { Advances (view floor.old self.old (P.asked spawner.old) (P.told spawner.old) (P.misses spawner.old))
             (view floor.new self.new (P.asked spawner.new) (P.told spawner.new) (P.misses spawner.new)) }
@@ -250,7 +298,11 @@ fn look<P: Spawner>(spawner: &mut P) -> Result<Option<Report>, Failed>
 }
 
 // Waits for a report, until the moment at the latest where one is given.
-fn wait<P: Spawner, R: Wait>(rt: &R, spawner: &mut P, until: Option<Moment>) -> Result<Option<Report>, Failed>
+fn wait<P: Spawner, R: Wait>(
+    rt: &R,
+    spawner: &mut P,
+    until: Option<Moment>,
+) -> Result<Option<Report>, Failed>
     ensures asked { Grows (P.asked spawner.old) (P.asked spawner.new) [] }
     ensures told { Grows (as_reports (P.told spawner.old)) (as_reports (P.told spawner.new)) (map call_of (looked result)) }
     ensures misses { RisesBy (P.misses spawner.old) (count_by is_spawner_fault (map call_of (looked result))) (P.misses spawner.new) }

@@ -85,7 +85,15 @@ impl Run {
     ghost use Rattle.wrkmgr.specs.View.{view};
 
     // The first call, the lines of the input, and the last call.
-    fn serve<I: Source, O: Sink, P: Spawner, C: Clock, R: Wait>(&mut self, rt: &R, alloc: Global, input: &mut I, out: &mut O, spawner: &mut P, clock: &mut C) -> Result<bool, Stop>
+    fn serve<I: Source, O: Sink, P: Spawner, C: Clock, R: Wait>(
+        &mut self,
+        rt: &R,
+        alloc: Global,
+        input: &mut I,
+        out: &mut O,
+        spawner: &mut P,
+        clock: &mut C,
+    ) -> Result<bool, Stop>
         ensures serves { Serves (view self.old.floor self.old.monitor (P.asked spawner.old) (P.told spawner.old) (P.misses spawner.old))
             (view self.new.floor self.new.monitor (P.asked spawner.new) (P.told spawner.new) (P.misses spawner.new)) }
         ensures session { IfOk result (λ faulty. TakesInput (I.left input.old) (I.left input.new) (λ bytes. IsSession (lines_of bytes)
@@ -122,7 +130,15 @@ impl Run {
 /// Status 0 and 1 come where the whole input was taken and every job has ended, 1 where a line got a fault or a refusal;
 /// 2 where the words are others; 3 where the input couldn't be read, 4 where the output couldn't be written, 6 for want
 /// of memory, 8 where the spawner couldn't kill or look, and 11 where the input has more than 1,000,000,000 bytes.
-pub fn run<I: Source, O: Sink, P: Spawner, C: Clock, R: Wait>(rt: &R, alloc: Global, words: &[&[u8]], input: &mut I, out: &mut O, spawner: &mut P, clock: &mut C) -> Ran
+pub fn run<I: Source, O: Sink, P: Spawner, C: Clock, R: Wait>(
+    rt: &R,
+    alloc: Global,
+    words: &[&[u8]],
+    input: &mut I,
+    out: &mut O,
+    spawner: &mut P,
+    clock: &mut C,
+) -> Ran
     ensures words { is_run (map (λ word. word.now) words.now) ≡ false → result.status ≡ 2 }
     ensures run { is_run (map (λ word. word.now) words.now) ≡ true → result.status ≡ 2 → ⊥ }
     ensures legal { IsLegal opening result.log.items }

@@ -61,7 +61,12 @@ impl Run {
     ghost use Rattle.wrkmgr.specs.View.{view};
 
     // Makes one call of the session.
-    pub(crate) fn call<C: Clock>(&mut self, alloc: Global, clock: &mut C, call: Call) -> Result<(), AllocError>
+    pub(crate) fn call<C: Clock>(
+        &mut self,
+        alloc: Global,
+        clock: &mut C,
+        call: Call,
+    ) -> Result<(), AllocError>
         requires fit { IsCall call }
         requires built { IsBuilt (after opening self.old.floor) call }
         ensures ok { OnOk result (Called self.old.floor call self.new.floor) }
@@ -91,7 +96,12 @@ impl Run {
     }
 
     // One turn of the monitor. It answers how many entries it made.
-    pub(crate) fn turn<P: Spawner, C: Clock>(&mut self, alloc: Global, spawner: &mut P, clock: &mut C) -> Result<usize, Stop>
+    pub(crate) fn turn<P: Spawner, C: Clock>(
+        &mut self,
+        alloc: Global,
+        spawner: &mut P,
+        clock: &mut C,
+    ) -> Result<usize, Stop>
         ensures part { Advances (view self.old.floor self.old.monitor (P.asked spawner.old) (P.told spawner.old) (P.misses spawner.old))
             (view self.new.floor self.new.monitor (P.asked spawner.new) (P.told spawner.new) (P.misses spawner.new)) }
         ensures kept { OnOk result (self.new.monitor.kept ≡ None) }
@@ -106,14 +116,23 @@ impl Run {
     }
 
     // One wait of the monitor.
-    pub(crate) fn wait<P: Spawner, C: Clock, R: Wait>(&mut self, rt: &R, alloc: Global, spawner: &mut P, clock: &mut C) -> Result<(), Stop>
+    pub(crate) fn wait<P: Spawner, C: Clock, R: Wait>(
+        &mut self,
+        rt: &R,
+        alloc: Global,
+        spawner: &mut P,
+        clock: &mut C,
+    ) -> Result<(), Stop>
         ensures part { Advances (view self.old.floor self.old.monitor (P.asked spawner.old) (P.told spawner.old) (P.misses spawner.old))
             (view self.new.floor self.new.monitor (P.asked spawner.new) (P.told spawner.new) (P.misses spawner.new)) }
         ensures kept { OnOk result (self.new.monitor.kept ≡ None) }
         ensures causes { HasCauses result 0 0 (P.faults spawner.old) (P.faults spawner.new) }
     {
         let until = self.floor.next_due();
-        match self.monitor.wait(rt, alloc, &mut self.floor, spawner, clock, until) {
+        match self
+            .monitor
+            .wait(rt, alloc, &mut self.floor, spawner, clock, until)
+        {
             Ok(()) => Ok(()),
             Err(MonitorFault::WaitFault) => Err(Stop::WaitFault),
             Err(MonitorFault::NoMemory) => Err(Stop::NoMemory),
@@ -121,7 +140,14 @@ impl Run {
     }
 
     // Submits the job of a line, answers the line, and lets the monitor turn.
-    fn submit<O: Sink, P: Spawner, C: Clock>(&mut self, alloc: Global, out: &mut O, spawner: &mut P, clock: &mut C, first: &First) -> Result<bool, Stop>
+    fn submit<O: Sink, P: Spawner, C: Clock>(
+        &mut self,
+        alloc: Global,
+        out: &mut O,
+        spawner: &mut P,
+        clock: &mut C,
+        first: &First,
+    ) -> Result<bool, Stop>
         requires { length first.now.text ≤ 100 }
         ensures serves { Serves (view self.old.floor self.old.monitor (P.asked spawner.old) (P.told spawner.old) (P.misses spawner.old))
             (view self.new.floor self.new.monitor (P.asked spawner.new) (P.told spawner.new) (P.misses spawner.new)) }
@@ -137,7 +163,14 @@ impl Run {
     }
 
     // Answers one line: an empty one not at all, one that isn't built by its fault, another by its reply.
-    pub(crate) fn answer<O: Sink, P: Spawner, C: Clock>(&mut self, alloc: Global, out: &mut O, spawner: &mut P, clock: &mut C, line: &[u8]) -> Result<bool, Stop>
+    pub(crate) fn answer<O: Sink, P: Spawner, C: Clock>(
+        &mut self,
+        alloc: Global,
+        out: &mut O,
+        spawner: &mut P,
+        clock: &mut C,
+        line: &[u8],
+    ) -> Result<bool, Stop>
         ensures serves { Serves (view self.old.floor self.old.monitor (P.asked spawner.old) (P.told spawner.old) (P.misses spawner.old))
             (view self.new.floor self.new.monitor (P.asked spawner.new) (P.told spawner.new) (P.misses spawner.new)) }
         ensures answered { IfOk result (λ faulty. AnsweredBy (AnswersLine line.now)

@@ -8,7 +8,10 @@ ghost use Rattle.wrkmgr.specs.Session.{submit_call, start_call, end_call};
 use std::alloc::{AllocError, Global};
 use wm_base::{Name, Text};
 use wm_clwords::{First, FirstFault, one_reading, read_first};
-use wm_law::{BEFORE_PARAMETER, BEHIND_PARAMETER, Call, Command, EndOption, Pwrdwnsys, Sbmjob, Strsbs, qbatch, qdftjobd};
+use wm_law::{
+    BEFORE_PARAMETER, BEHIND_PARAMETER, Call, Command, EndOption, Pwrdwnsys, Sbmjob, Strsbs,
+    qbatch, qdftjobd,
+};
 
 /// Reads a line of the one form.
 pub fn read_line(alloc: Global, line: &[u8]) -> Result<First, FirstFault>

@@ -1,5 +1,6 @@
 // Whole runs over objects in memory: what no clause says is that they succeed with ample memory.
 ghost use Rattle.std.specs.Prelude.{◌<◌};
+
 use crate::run::run;
 use std::alloc::Global;
 use std::sync::Wait;
@@ -9,6 +10,7 @@ use wm_law::Entry;
 use wm_outside::{MemClock, MemSink, MemSource, MemSpawner};
 
 const SUBMIT: &[u8] = b"SBMJOB CMD(CALL PGM(ECHO) PARM('HI')) JOB(A)\n";
+
 const SUBMITTED: &[u8] = b"OK 000001/QUSER/A submitted to QGPL/QBATCH\n";
 
 // The numbers, from 1, of the calls that fail.
@@ -101,7 +103,8 @@ fn a_job_is_submitted_started_and_ends(rt: HostRuntime) -> Result<(), Fail> {
 
 #[test]
 fn jobs_are_started_in_the_order_of_their_places(rt: HostRuntime) -> Result<(), Fail> {
-    let input = b"SBMJOB CMD(CALL PGM(ECHO) PARM('1')) JOB(A)\nSBMJOB CMD(CALL PGM(ECHO) PARM('2')) JOB(B)\n";
+    let input =
+        b"SBMJOB CMD(CALL PGM(ECHO) PARM('1')) JOB(A)\nSBMJOB CMD(CALL PGM(ECHO) PARM('2')) JOB(B)\n";
     let done = run_over(&rt, rt.alloc(), &[b"run"], input, 4096, NONE)?;
     assert_eq!(rt; done.status, 0);
     assert_eq!(rt; done.spawner.asked().len(), 2);
@@ -163,20 +166,23 @@ fn a_program_that_cannot_be_started_ends_its_job(rt: HostRuntime) -> Result<(), 
 
 #[test]
 fn a_fault_ends_the_run_with_its_status(rt: HostRuntime) -> Result<(), Fail> {
-    let read = Failing {
-        read: &[1],
-        ..NONE
-    };
-    assert_eq!(rt; run_over(&rt, rt.alloc(), &[b"run"], SUBMIT, 4096, read)?.status, 3);
+    let read = Failing { read: &[1], ..NONE };
+    assert_eq!(rt;
+        run_over(&rt, rt.alloc(), &[b"run"], SUBMIT, 4096, read)?.status,
+        3
+    );
     let write = Failing {
         write: &[1],
         ..NONE
     };
-    assert_eq!(rt; run_over(&rt, rt.alloc(), &[b"run"], SUBMIT, 4096, write)?.status, 4);
-    let look = Failing {
-        look: &[1],
-        ..NONE
-    };
-    assert_eq!(rt; run_over(&rt, rt.alloc(), &[b"run"], SUBMIT, 4096, look)?.status, 8);
+    assert_eq!(rt;
+        run_over(&rt, rt.alloc(), &[b"run"], SUBMIT, 4096, write)?.status,
+        4
+    );
+    let look = Failing { look: &[1], ..NONE };
+    assert_eq!(rt;
+        run_over(&rt, rt.alloc(), &[b"run"], SUBMIT, 4096, look)?.status,
+        8
+    );
     Ok(())
 }

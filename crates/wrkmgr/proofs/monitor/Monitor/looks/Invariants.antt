@@ -8,8 +8,8 @@ abbrev pub invariant-looks : goal.invariant-looks
 invariant-looks g l =
     let s = g.P.Spawner in
     MonitorLoop
-      (view l.fn.floor l.fn.self (s.asked l.fn.spawner) (s.told l.fn.spawner) (s.misses l.fn.spawner))
-      (view l.floor l.self (s.asked l.spawner) (s.told l.spawner) (s.misses l.spawner))
-      (s.faults l.fn.spawner)
-      (s.faults l.spawner)
-      l.self.kept
+    (view l.fn.floor l.fn.self (s.asked l.fn.spawner) (s.told l.fn.spawner) (s.misses l.fn.spawner))
+    (view l.floor l.self (s.asked l.spawner) (s.told l.spawner) (s.misses l.spawner))
+    (s.faults l.fn.spawner)
+    (s.faults l.spawner)
+    l.self.kept

@@ -6,7 +6,7 @@ abbrev pub invariant-turns : goal.invariant-turns
 invariant-turns g l =
     let s = g.P.Spawner in
     TurnsSo
-      (view l.fn.self.floor l.fn.self.monitor (s.asked l.fn.spawner) (s.told l.fn.spawner) (s.misses l.fn.spawner))
-      (view l.self.floor l.self.monitor (s.asked l.spawner) (s.told l.spawner) (s.misses l.spawner))
-      (s.faults l.fn.spawner)
-      (s.faults l.spawner)
+    (view l.fn.self.floor l.fn.self.monitor (s.asked l.fn.spawner) (s.told l.fn.spawner) (s.misses l.fn.spawner))
+    (view l.self.floor l.self.monitor (s.asked l.spawner) (s.told l.spawner) (s.misses l.spawner))
+    (s.faults l.fn.spawner)
+    (s.faults l.spawner)

@@ -28,9 +28,9 @@ bytes-preserved g c =
     record {
       serves = Serves-then _ _ _ i.serves c.take_byte.ensures.serves;
       taken = λ rest h.
-        subst (λ (xs : List ℕ). TakesPiece (cut_from rest xs) c.take_byte.new.buffer (entries_of session_pass (since c.args.self.now.floor c.take_byte.new.self.floor)) (o.written c.args.out.now) (o.written c.take_byte.new.out) c.either-faulty.result) (sym more)
+          subst (λ (xs : List ℕ). TakesPiece (cut_from rest xs) c.take_byte.new.buffer (entries_of session_pass (since c.args.self.now.floor c.take_byte.new.self.floor)) (o.written c.args.out.now) (o.written c.take_byte.new.out) c.either-faulty.result) (sym more)
           (subst (λ (b : Bool). TakesPiece (cut_from rest (take c.bytes.byte-index piece ++ get_or piece c.bytes.byte-index 0 ∷ [])) c.take_byte.new.buffer (entries_of session_pass (since c.args.self.now.floor c.take_byte.new.self.floor)) (o.written c.args.out.now) (o.written c.take_byte.new.out) b) (sym c.either-faulty.ensures)
-            (taken_then rest (take c.bytes.byte-index piece) (get_or piece c.bytes.byte-index 0 ∷ []) c.bytes.buffer c.take_byte.new.buffer c.args.self.now.floor c.bytes.self.floor c.take_byte.new.self.floor (o.written c.args.out.now) (o.written c.bytes.out) (o.written c.take_byte.new.out) c.bytes.faulty c.in_ok-wrong.wrong i.serves.log c.take_byte.ensures.serves.log (i.taken rest h) c.in_ok-wrong.ensures.taken));
+          (taken_then rest (take c.bytes.byte-index piece) (get_or piece c.bytes.byte-index 0 ∷ []) c.bytes.buffer c.take_byte.new.buffer c.args.self.now.floor c.bytes.self.floor c.take_byte.new.self.floor (o.written c.args.out.now) (o.written c.bytes.out) (o.written c.take_byte.new.out) c.bytes.faulty c.in_ok-wrong.wrong i.serves.log c.take_byte.ensures.serves.log (i.taken rest h) c.in_ok-wrong.ensures.taken));
       written = let k = c.take_byte.ensures.causes.written in omega arith;
       looked = let k = c.take_byte.ensures.causes.looked in omega arith;
     }

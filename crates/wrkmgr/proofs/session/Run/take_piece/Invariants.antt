@@ -14,7 +14,7 @@ invariant-bytes g l =
     let s = g.P.Spawner in
     let o = g.O.Sink in
     TakesSo
-      (view l.fn.self.floor l.fn.self.monitor (s.asked l.fn.spawner) (s.told l.fn.spawner) (s.misses l.fn.spawner))
-      (view l.self.floor l.self.monitor (s.asked l.spawner) (s.told l.spawner) (s.misses l.spawner))
-      (o.faults l.fn.out) (o.faults l.out) (s.faults l.fn.spawner) (s.faults l.spawner)
-      ((rest : List ℕ) → Holds l.fn.buffer rest → TakesPiece (cut_from rest (take l.byte-index l.piece)) l.buffer (entries_of session_pass (since l.fn.self.floor l.self.floor)) (o.written l.fn.out) (o.written l.out) l.faulty)
+    (view l.fn.self.floor l.fn.self.monitor (s.asked l.fn.spawner) (s.told l.fn.spawner) (s.misses l.fn.spawner))
+    (view l.self.floor l.self.monitor (s.asked l.spawner) (s.told l.spawner) (s.misses l.spawner))
+    (o.faults l.fn.out) (o.faults l.out) (s.faults l.fn.spawner) (s.faults l.spawner)
+    ((rest : List ℕ) → Holds l.fn.buffer rest → TakesPiece (cut_from rest (take l.byte-index l.piece)) l.buffer (entries_of session_pass (since l.fn.self.floor l.self.floor)) (o.written l.fn.out) (o.written l.out) l.faulty)

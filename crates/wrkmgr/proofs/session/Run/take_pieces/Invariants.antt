@@ -14,9 +14,9 @@ invariant-reads g l =
     let o = g.O.Sink in
     let i = g.I.Source in
     ReadsSo
-      (view l.fn.self.floor l.fn.self.monitor (s.asked l.fn.spawner) (s.told l.fn.spawner) (s.misses l.fn.spawner))
-      (view l.self.floor l.self.monitor (s.asked l.spawner) (s.told l.spawner) (s.misses l.spawner))
-      (i.faults l.fn.input) (i.faults l.input) (o.faults l.fn.out) (o.faults l.out) (s.faults l.fn.spawner) (s.faults l.spawner)
-      l.total l.piece
-      (TakesInput (i.left l.fn.input) (i.left l.input) (λ bytes. TakesPiece (cut_from [] bytes) l.buffer (entries_of session_pass (since l.fn.self.floor l.self.floor)) (o.written l.fn.out) (o.written l.out) l.faulty))
-      (TakesInput (i.left l.fn.input) (i.left l.input) (λ bytes. length bytes ≡ l.total))
+    (view l.fn.self.floor l.fn.self.monitor (s.asked l.fn.spawner) (s.told l.fn.spawner) (s.misses l.fn.spawner))
+    (view l.self.floor l.self.monitor (s.asked l.spawner) (s.told l.spawner) (s.misses l.spawner))
+    (i.faults l.fn.input) (i.faults l.input) (o.faults l.fn.out) (o.faults l.out) (s.faults l.fn.spawner) (s.faults l.spawner)
+    l.total l.piece
+    (TakesInput (i.left l.fn.input) (i.left l.input) (λ bytes. TakesPiece (cut_from [] bytes) l.buffer (entries_of session_pass (since l.fn.self.floor l.self.floor)) (o.written l.fn.out) (o.written l.out) l.faulty))
+    (TakesInput (i.left l.fn.input) (i.left l.input) (λ bytes. length bytes ≡ l.total))
