@@ -1,5 +1,5 @@
 -- How long a line that submits can be.
-use Rattle.std.proofs.Common.{◌≡◌, ◌↔◌, ℕ, ◌+◌, ◌<◌, ◌≤◌, true, List, [], ◌∷◌, ◌++◌, length, codes, Option, Some, None, IsTrue, refl, sym, ap, subst, arith}
+use Rattle.std.proofs.Common.{◌≡◌, ◌↔◌, ℕ, ◌+◌, ◌<◌, ◌≤◌, true, List, [], ◌∷◌, ◌++◌, length, take, codes, Option, Some, None, IsTrue, refl, sym, ap, subst, arith}
 use Rattle.std.proofs.lemmas.List.{length-append}
 use Rattle.std.proofs.lemmas.Bool.Decides.{nat_tests}
 use Rattle.wm_base.specs.Name.{IsName}
@@ -7,6 +7,7 @@ use Rattle.wm_base.proofs.Names.{length-name}
 use Rattle.wm_outside.specs.Told.{Grows}
 use Rattle.wrkmgr.specs.Said.{with_end, not_built}
 use Rattle.wrkmgr.specs.Session.{AnsweredBy, AnswersLine, AnswersForm}
+use Rattle.wrkmgr.specs.Stopped.{WritesSome}
 use Rattle.wm_clwords.specs.First.{first_of, first_line, before_text, before_name, is_first_text, IsFirst}
 
 pub short_text : (text : List ℕ) → IsTrue (is_first_text text) → length text ≤ 100
@@ -40,12 +41,15 @@ pub too_long : (line : List ℕ) → OneReading → 8192 < length line → first
 too_long line law long = none_from line (first_of line) law long refl
 
 -- so its answer is the one of a line that isn't built
-pub AnsweredBy-long : (line : List ℕ) (a b : Option (List ℕ)) → OneReading → 8192 < length line → Grows a b (with_end not_built) → AnsweredBy (AnswersLine line) [] a b true
-AnsweredBy-long [] a b law long h = absurd (omega arith)
-AnsweredBy-long (x ∷ xs) a b law long h =
+Answers-long : (line : List ℕ) → OneReading → 8192 < length line → AnswersLine line [] (with_end not_built) true
+Answers-long [] law long = absurd (omega arith)
+Answers-long (x ∷ xs) law long =
     let says : AnswersForm None [] (with_end not_built) true = record { none = refl; says = refl; fault = refl } in
-    record {
-      bytes = with_end not_built;
-      answers = subst (λ (o : Option (List ℕ × List ℕ)). AnswersForm o [] (with_end not_built) true) (sym (too_long (x ∷ xs) law long)) says;
-      written = h;
-    }
+    subst (λ (o : Option (List ℕ × List ℕ)). AnswersForm o [] (with_end not_built) true) (sym (too_long (x ∷ xs) law long)) says
+
+pub AnsweredBy-long : (line : List ℕ) (a b : Option (List ℕ)) → OneReading → 8192 < length line → Grows a b (with_end not_built) → AnsweredBy (AnswersLine line) [] a b true
+AnsweredBy-long line a b law long h = record { bytes = with_end not_built; answers = Answers-long line law long; written = h }
+
+-- or some bytes of it
+pub WritesSome-long : (line : List ℕ) (a b : Option (List ℕ)) (n : ℕ) → OneReading → 8192 < length line → Grows a b (take n (with_end not_built)) → WritesSome (AnswersLine line) [] a b
+WritesSome-long line a b n law long h = record { due = with_end not_built; faulty = true; answers = Answers-long line law long; count = n; written = h }

@@ -8,3 +8,5 @@ pub mod Inputs
 pub mod Runs
 pub mod Servings
 pub mod Takings
+pub mod Stops
+pub mod Stopping

@@ -1,20 +1,21 @@
 -- Laws of a whole run: its parts, and its status.
-use Rattle.std.proofs.Common.{◌≡◌, ℕ, ◌+◌, ◌≤◌, ◌==◌, Bool, true, false, List, [], ◌∷◌, ◌++◌, length, Option, Some, None, option_to_list, Result, Ok, Err, sym, ap, subst, ◌∙◌, refl, append_assoc, arith}
-use Rattle.std.specs.Prelude.{IfOk, OnOk, IsErrOf}
+use Rattle.std.proofs.Common.{◌≡◌, ℕ, ◌+◌, ◌<◌, ◌≤◌, ◌==◌, Bool, true, false, List, [], ◌∷◌, ◌++◌, length, Option, Some, None, option_to_list, Result, Ok, Err, sym, ap, subst, ◌∙◌, refl, inl, append_assoc, arith}
+use Rattle.std.specs.Prelude.{◌↔◌, IfOk, OnOk, OnErr, IsErrOf}
 use Rattle.std.specs.List.{list_all}
 use Rattle.wm_base.specs.declared.job.Asked.{Asked}
 use Rattle.wm_law.specs.declared.call.Call.{Call}
 use Rattle.wm_law.specs.declared.call.Entry.{Entry}
 use Rattle.wm_law.specs.History.{entries_of}
 use Rattle.wm_outside.specs.declared.spawner.Told.{Told}
-use Rattle.wm_outside.proofs.Telling.{Grows-none}
+use Rattle.wm_outside.proofs.Telling.{Grows-none, Takes-none}
 use Rattle.wrkmgr.specs.Lines.{lines_of}
 use Rattle.wrkmgr.specs.Lists.{since, Extends}
 use Rattle.wrkmgr.specs.Monitor.{as_reports}
-use Rattle.wrkmgr.specs.Run.{IsServed, ended_status}
+use Rattle.wrkmgr.specs.Run.{IsRunStatus, IsServed, ended_status}
 use Rattle.wrkmgr.specs.Serving.{Serves, is_ours}
 use Rattle.wrkmgr.specs.Session.{Answers, AnsweredBy, IsSession, OneCall, session_pass, start_call, end_call}
 use Rattle.wrkmgr.specs.Stop.{HasCauses, HasInputCauses}
+use Rattle.wrkmgr.specs.Stopped.{IsStopped}
 use Rattle.wrkmgr.specs.Taking.{TakesInput}
 use Rattle.wrkmgr.specs.View.{view}
 use Rattle.wrkmgr.specs.declared.monitor.Monitor.{Monitor}
@@ -130,6 +131,47 @@ not_words (Err WriteFault) is = omega arith
 not_words (Err NoMemory) is = omega arith
 not_words (Err WaitFault) is = omega arith
 not_words (Err InputFull) is = omega arith
+
+-- a status above 1 is that of a session that stopped
+pub high_on : (P : Type 0) (r : Result Bool Stop) → OnErr r P → 1 < ended_status r → P
+high_on P (Ok true) h high = absurd (omega arith)
+high_on P (Ok false) h high = absurd (omega arith)
+high_on P (Err stop) h high = h
+
+-- 11 is that of a full input
+full_from : (r : Result Bool Stop) → IsErrOf r InputFull → ended_status r ≡ 11
+full_from (Ok f) is = absurd (cc)
+full_from (Err ReadFault) is = absurd (cc)
+full_from (Err WriteFault) is = absurd (cc)
+full_from (Err NoMemory) is = absurd (cc)
+full_from (Err WaitFault) is = absurd (cc)
+full_from (Err InputFull) is = refl
+
+pub full_exactly : (r : Result Bool Stop) (x y : Option (List ℕ)) → TakesInput x y (λ bytes. IsErrOf r InputFull ↔ (1000000000 < length bytes)) → TakesInput x y (λ bytes. (ended_status r ≡ 11) ↔ (1000000000 < length bytes))
+full_exactly r x y h =
+    let to = h.done in
+    record { bytes = h.bytes; taken = h.taken; done = ((λ is. to.0 (full_status r is)), (λ more. full_from r (to.1 more))) }
+
+-- where nothing was begun, nothing was taken
+pub full_not : (status : ℕ) (x : Option (List ℕ)) → status < 11 → TakesInput x x (λ bytes. (status ≡ 11) ↔ (1000000000 < length bytes))
+full_not status x less = record { bytes = []; taken = Takes-none x; done = ((λ is. absurd (omega arith)), (λ more. absurd (omega arith))) }
+
+pub stopped_not : (log : List Entry) (x w : Option (List ℕ)) → log ≡ [] → TakesInput x x (λ bytes. IsStopped (lines_of bytes) (entries_of session_pass log) w w)
+stopped_not log x w none = record { bytes = []; taken = Takes-none x; done = inl (record { none = ap (entries_of session_pass) none; written = Grows-none w }) }
+
+-- the status of an end is one of a run's
+pub is_status : (r : Result Bool Stop) → IsRunStatus (ended_status r)
+is_status (Ok true) = refl
+is_status (Ok false) = refl
+is_status (Err ReadFault) = refl
+is_status (Err WriteFault) = refl
+is_status (Err NoMemory) = refl
+is_status (Err WaitFault) = refl
+is_status (Err InputFull) = refl
+
+-- a session that stopped, of a history that begins with nothing
+pub stopped_from : (first log : List Entry) (x y u v : Option (List ℕ)) → first ≡ [] → TakesInput x y (λ bytes. IsStopped (lines_of bytes) (entries_of session_pass (since first log)) u v) → TakesInput x y (λ bytes. IsStopped (lines_of bytes) (entries_of session_pass log) u v)
+stopped_from first log x y u v none h = subst (λ (l : List Entry). TakesInput x y (λ bytes. IsStopped (lines_of bytes) (entries_of session_pass (since l log)) u v)) none h
 
 few_kept : (kept : Option Report) → length (option_to_list kept) ≤ 1
 few_kept None = omega arith

@@ -54,25 +54,24 @@ or_false true = refl
 or_false false = refl
 
 -- one line
-pub AnsweredBy-one : (line : List ℕ) (es : List Entry) (a b : Option (List ℕ)) (f : Bool) → AnsweredBy (AnswersLine line) es a b f → AnsweredBy (Answers (line ∷ [])) es a b f
-AnsweredBy-one line es a b f h =
+pub Answers-one : (line : List ℕ) (es : List Entry) (bytes : List ℕ) (f : Bool) → AnswersLine line es bytes f → Answers (line ∷ []) es bytes f
+Answers-one line es bytes f h =
     record {
-      bytes = h.bytes;
-      answers = record {
-        own = es;
-        others = [];
-        said = h.bytes;
-        more = [];
-        wrong = f;
-        later = false;
-        entries = sym (append-nil es);
-        text = sym (append-nil h.bytes);
-        fault = or_false f;
-        first = h.answers;
-        rest = record { none = refl; says = refl; fault = refl };
-      };
-      written = h.written;
+      own = es;
+      others = [];
+      said = bytes;
+      more = [];
+      wrong = f;
+      later = false;
+      entries = sym (append-nil es);
+      text = sym (append-nil bytes);
+      fault = or_false f;
+      first = h;
+      rest = record { none = refl; says = refl; fault = refl };
     }
+
+pub AnsweredBy-one : (line : List ℕ) (es : List Entry) (a b : Option (List ℕ)) (f : Bool) → AnsweredBy (AnswersLine line) es a b f → AnsweredBy (Answers (line ∷ [])) es a b f
+AnsweredBy-one line es a b f h = record { bytes = h.bytes; answers = Answers-one line es h.bytes f h.answers; written = h.written }
 
 -- the last line
 pub AnsweredBy-last : (rest : List ℕ) (es : List Entry) (a b : Option (List ℕ)) (f : Bool) → AnsweredBy (AnswersLine rest) es a b f → AnsweredBy (Answers (last_line rest)) es a b f
@@ -109,6 +108,12 @@ follows c (y ∷ ys) =
 fold_append : (c : Cut) (xs ys : List ℕ) → fold cut_byte c (xs ++ ys) ≡ fold cut_byte (fold cut_byte c xs) ys
 fold_append c [] ys = refl
 fold_append c (x ∷ xs) ys = fold_append (cut_byte c x) xs ys
+
+-- the lines of a piece and of another behind it
+pub lines-append : (r xs ys : List ℕ) → (cut_from r (xs ++ ys)).lines ≡ (cut_from r xs).lines ++ (cut_from (cut_from r xs).rest ys).lines
+lines-append r xs ys =
+    let c = cut_from r xs in
+    ap (λ (x : Cut). x.lines) (fold_append (record { lines = []; rest = r }) xs ys) ∙ (follows c ys).lines
 
 -- a piece, and then another from the rest of the first
 pub TakesPiece-at : (r xs ys : List ℕ) (b d : LineBuffer) (es fs : List Entry) (u v w : Option (List ℕ)) (f g : Bool) → TakesPiece (cut_from r xs) b es u v f → TakesPiece (cut_from (cut_from r xs).rest ys) d fs v w g → TakesPiece (cut_from r (xs ++ ys)) d (es ++ fs) u w (f || g)

@@ -10,5 +10,6 @@ pub mod Serving
 pub mod Session
 pub mod LineBuffer
 pub mod Stop
+pub mod Stopped
 pub mod Calls
 pub mod Taking

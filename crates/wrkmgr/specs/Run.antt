@@ -1,5 +1,6 @@
 -- What a whole run answers for.
 use Rattle.std.specs.Prelude.{◌≡◌, ℕ, ◌≤◌, Bool, true, false, List, [], ◌∷◌, length, Option, Result, Ok, Err, codes, count_by, nat_eq}
+use Rattle.std.specs.List.{list_any}
 use Rattle.std.specs.Cmp.Lexicographic.{pointwise}
 use Rattle.wm_base.specs.declared.job.Asked.{Asked}
 use Rattle.wm_law.specs.declared.call.Entry.{Entry}
@@ -22,6 +23,13 @@ abbrev pub ended_status : Result Bool Stop → ℕ
 ended_status (Ok false) = 0
 ended_status (Ok true) = 1
 ended_status (Err stop) = status_of stop
+
+-- the statuses of a run
+abbrev pub run_statuses : List ℕ
+run_statuses = 0 ∷ 1 ∷ 2 ∷ 3 ∷ 4 ∷ 6 ∷ 8 ∷ 11 ∷ []
+
+abbrev pub IsRunStatus : ℕ → Type 0
+IsRunStatus status = list_any (nat_eq status) run_statuses ≡ true
 
 -- the spawner was asked what the history orders; what it told stands in the history, but for one report at most that is kept
 pub record IsServed (log : List Entry) (kept : List Report) (asked_before asked_now : Option (List Asked)) (told_before told_now : Option (List Told)) (misses_before misses_now : ℕ) : Type 0 where

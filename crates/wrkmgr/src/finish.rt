@@ -7,7 +7,7 @@ use std::sync::Wait;
 use wm_outside::{Clock, Spawner};
 
 impl Run {
-    ghost use Rattle.std.specs.Prelude.{◌≡◌, OnOk, None};
+    ghost use Rattle.std.specs.Prelude.{◌≡◌, OnOk, OnErr, None};
     ghost use Rattle.wm_law.specs.History.{after, entries_of};
     ghost use Rattle.wm_law.specs.Opening.{opening};
     ghost use Rattle.wm_law.specs.Pending.{active};
@@ -16,6 +16,7 @@ impl Run {
     ghost use Rattle.wrkmgr.specs.Serving.{Serves};
     ghost use Rattle.wrkmgr.specs.Session.{OneCall, start_call, end_call, session_pass};
     ghost use Rattle.wrkmgr.specs.Stop.{HasCauses};
+    ghost use Rattle.wrkmgr.specs.Stopped.{AtMostOne};
     ghost use Rattle.wrkmgr.specs.View.{view};
 
     // Turns until one makes no entry.
@@ -74,6 +75,7 @@ impl Run {
     ) -> Result<(), Stop>
         ensures serves { Serves (view self.old.floor self.old.monitor (P.asked spawner.old) (P.told spawner.old) (P.misses spawner.old))
             (view self.new.floor self.new.monitor (P.asked spawner.new) (P.told spawner.new) (P.misses spawner.new)) }
+        ensures not_begun { OnErr result (AtMostOne start_call (entries_of session_pass (since self.old.floor self.new.floor))) }
         ensures begun { OnOk result (OneCall start_call (entries_of session_pass (since self.old.floor self.new.floor))) }
         ensures causes { HasCauses result 0 0 (P.faults spawner.old) (P.faults spawner.new) }
     {
@@ -92,6 +94,7 @@ impl Run {
     ) -> Result<(), Stop>
         ensures serves { Serves (view self.old.floor self.old.monitor (P.asked spawner.old) (P.told spawner.old) (P.misses spawner.old))
             (view self.new.floor self.new.monitor (P.asked spawner.new) (P.told spawner.new) (P.misses spawner.new)) }
+        ensures not_ended { OnErr result (AtMostOne end_call (entries_of session_pass (since self.old.floor self.new.floor))) }
         ensures ended { OnOk result (OneCall end_call (entries_of session_pass (since self.old.floor self.new.floor))) }
         ensures idle { OnOk result (active (after opening self.new.floor) ≡ 0) }
         ensures kept { OnOk result (self.new.monitor.kept ≡ None) }

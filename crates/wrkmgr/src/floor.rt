@@ -33,7 +33,7 @@ impl Model for Floor {
 }
 
 impl Floor {
-    /// The state of no rows, with no history.
+    /// The state of no rows, with no history. An `Err` is want of memory.
     pub fn open(alloc: Global) -> Result<Floor, AllocError>
         ensures { IfOk result (λ floor. floor ≡ []) }
     {
@@ -43,7 +43,8 @@ impl Floor {
         })
     }
 
-    /// Makes one call of a caller, whose entry is the last of the history then. An `Err` leaves the history.
+    /// Makes one call of a caller, whose entry is the last of the history then. An `Err` is want of memory, and leaves
+    /// the history.
     pub fn call(
         &mut self,
         alloc: Global,
@@ -57,6 +58,7 @@ impl Floor {
         ensures err { OnErr result (self.new ≡ self.old) }
     {
         self.log.reserve(1)?;
+        // The range of the moment is what `legal` needs of the entry.
         let moment = now.get();
         let reply = self.state.step(alloc, caller, &call, now)?;
         self.log.push_reserved(Entry {
@@ -114,6 +116,7 @@ impl Floor {
         ensures log { result.items ≡ self }
         ensures legal { IsLegal opening self }
     {
+        // The state is named here so that what is known of it, and so that the history is legal, is at hand.
         let _ = &self.state;
         self.log
     }

@@ -24,7 +24,7 @@ impl LineBuffer {
         }
     }
 
-    /// Adds a byte.
+    /// Adds a byte. An `Err` is want of memory; it comes only while the line isn't too long.
     pub fn push(&mut self, byte: u8) -> Result<(), AllocError>
         ensures { OnOk result ((rest : List ℕ) → Holds self.old rest → Holds self.new (rest ++ byte ∷ [])) }
     {

@@ -19,27 +19,30 @@ mod submission;
 mod tests;
 mod write;
 
-use run::{NO_MEMORY, run};
+use run::{NO_MEMORY, WRONG_WORDS, run};
 use std::env;
+use std::io::ErrorKind;
 use std::process::ExitCode;
 use wm_outside::{ReadSource, SysClock, SysSpawner, WriteSink};
 
-fn main(rt: HostRuntime) -> ExitCode {
-    let Ok(arguments) = env::args(&rt) else {
-        return ExitCode::from(NO_MEMORY);
+// The words behind the program's name, or the status where they can't be had. A word that isn't UTF-8 is a wrong one.
+fn words(rt: &HostRuntime) -> Result<Vec<String>, u8> {
+    let all = match env::args(rt) {
+        Ok(all) => all,
+        Err(fault) if fault.kind() == ErrorKind::InvalidData => return Err(WRONG_WORDS),
+        Err(_) => return Err(NO_MEMORY),
     };
-    let mut texts = Vec::new(rt.alloc());
-    for argument in arguments.skip(1) {
-        if texts.push(argument).is_err() {
-            return ExitCode::from(NO_MEMORY);
-        }
+    match all.skip(1).collect(rt.alloc()) {
+        Ok(words) => Ok(words),
+        Err(_) => Err(NO_MEMORY),
     }
-    let mut words = Vec::new(rt.alloc());
-    for text in &texts {
-        if words.push(text.as_bytes()).is_err() {
-            return ExitCode::from(NO_MEMORY);
-        }
-    }
+}
+
+fn main(rt: HostRuntime) -> ExitCode {
+    let words = match words(&rt) {
+        Ok(words) => words,
+        Err(status) => return ExitCode::from(status),
+    };
     let mut input = ReadSource::new(rt.stdin());
     let mut out = WriteSink::new(rt.stdout());
     let mut spawner = SysSpawner::new(rt.alloc(), &rt);

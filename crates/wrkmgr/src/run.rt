@@ -1,5 +1,5 @@
 // A whole run: the words of the command line, the session over the input, and the status.
-ghost use Rattle.std.specs.Prelude.{◌≡◌, ◌≤◌, ◌<◌, ◌==◌, IfOk, None, [], length, map, option_to_list, true, false};
+ghost use Rattle.std.specs.Prelude.{◌≡◌, ◌≤◌, ◌<◌, ◌↔◌, ◌==◌, IfOk, None, [], length, map, option_to_list, string_bytes, true, false};
 ghost use Rattle.std.specs.Io.KnownBytes.{IsAtEnd};
 ghost use Rattle.std.specs.List.{list_all};
 ghost use Rattle.wm_law.specs.History.{after, entries_of, IsLegal};
@@ -7,9 +7,10 @@ ghost use Rattle.wm_law.specs.Opening.{opening};
 ghost use Rattle.wm_law.specs.Pending.{active};
 ghost use Rattle.wm_outside.specs.Cause.{raised};
 ghost use Rattle.wrkmgr.specs.Lines.{lines_of};
-ghost use Rattle.wrkmgr.specs.Run.{IsServed, ended_status, is_run};
+ghost use Rattle.wrkmgr.specs.Run.{IsRunStatus, IsServed, ended_status, is_run};
 ghost use Rattle.wrkmgr.specs.Serving.{is_ours};
 ghost use Rattle.wrkmgr.specs.Session.{IsSession, session_pass};
+ghost use Rattle.wrkmgr.specs.Stopped.{IsStopped};
 ghost use Rattle.wrkmgr.specs.Taking.{TakesInput};
 
 use crate::floor::Floor;
@@ -61,17 +62,17 @@ fn ended_status(end: Result<bool, Stop>) -> u8
 }
 
 // Whether the words are the one word `run`.
-fn is_run(words: &[&[u8]]) -> bool
-    ensures { result ≡ is_run (map (λ word. word.now) words.now) }
+fn is_run(words: &[String]) -> bool
+    ensures { result ≡ is_run (map string_bytes words.now) }
 {
     match words {
-        [word] => *word == b"run".as_slice(),
+        [word] => word.as_bytes() == b"run".as_slice(),
         _ => false,
     }
 }
 
 impl Run {
-    ghost use Rattle.std.specs.Prelude.{◌≡◌, ◌<◌, IfOk, OnOk, IsErrOf, None, length};
+    ghost use Rattle.std.specs.Prelude.{◌≡◌, ◌<◌, ◌↔◌, IfOk, OnOk, OnErr, IsErrOf, None, length};
     ghost use Rattle.std.specs.Io.KnownBytes.{IsAtEnd};
     ghost use Rattle.wm_law.specs.History.{after, entries_of, IsLegal};
     ghost use Rattle.wm_law.specs.Opening.{opening};
@@ -81,6 +82,7 @@ impl Run {
     ghost use Rattle.wrkmgr.specs.Serving.{Serves};
     ghost use Rattle.wrkmgr.specs.Session.{IsSession, session_pass};
     ghost use Rattle.wrkmgr.specs.Stop.{HasInputCauses};
+    ghost use Rattle.wrkmgr.specs.Stopped.{IsStopped};
     ghost use Rattle.wrkmgr.specs.Taking.{TakesInput};
     ghost use Rattle.wrkmgr.specs.View.{view};
 
@@ -99,7 +101,9 @@ impl Run {
         ensures session { IfOk result (λ faulty. TakesInput (I.left input.old) (I.left input.new) (λ bytes. IsSession (lines_of bytes)
             (entries_of session_pass (since self.old.floor self.new.floor)) (O.written out.old) (O.written out.new) faulty)) }
         ensures end { OnOk result (IsAtEnd (I.left input.new)) }
-        ensures full { IsErrOf result Stop.InputFull → TakesInput (I.left input.old) (I.left input.new) (λ bytes. 1000000000 < length bytes) }
+        ensures stopped { OnErr result (TakesInput (I.left input.old) (I.left input.new) (λ bytes. IsStopped (lines_of bytes)
+            (entries_of session_pass (since self.old.floor self.new.floor)) (O.written out.old) (O.written out.new))) }
+        ensures full { TakesInput (I.left input.old) (I.left input.new) (λ bytes. IsErrOf result Stop.InputFull ↔ (1000000000 < length bytes)) }
         ensures idle { OnOk result (active (after opening self.new.floor) ≡ 0) }
         ensures kept { OnOk result (self.new.monitor.kept ≡ None) }
         ensures causes { HasInputCauses result (I.faults input.old) (I.faults input.new) (O.faults out.old) (O.faults out.new) (P.faults spawner.old) (P.faults spawner.new) }
@@ -133,26 +137,30 @@ impl Run {
 pub fn run<I: Source, O: Sink, P: Spawner, C: Clock, R: Wait>(
     rt: &R,
     alloc: Global,
-    words: &[&[u8]],
+    words: &[String],
     input: &mut I,
     out: &mut O,
     spawner: &mut P,
     clock: &mut C,
 ) -> Ran
-    ensures words { is_run (map (λ word. word.now) words.now) ≡ false → result.status ≡ 2 }
-    ensures run { is_run (map (λ word. word.now) words.now) ≡ true → result.status ≡ 2 → ⊥ }
+    ensures words { is_run (map string_bytes words.now) ≡ false → result.status ≡ 2 }
+    ensures run { is_run (map string_bytes words.now) ≡ true → result.status ≡ 2 → ⊥ }
     ensures legal { IsLegal opening result.log.items }
     ensures callers { list_all is_ours result.log.items ≡ true }
     ensures served { IsServed result.log.items (option_to_list result.kept) (P.asked spawner.old) (P.asked spawner.new) (P.told spawner.old) (P.told spawner.new) (P.misses spawner.old) (P.misses spawner.new) }
     ensures session { result.status ≤ 1 → TakesInput (I.left input.old) (I.left input.new) (λ bytes. IsSession (lines_of bytes)
         (entries_of session_pass result.log.items) (O.written out.old) (O.written out.new) (result.status == 1)) }
+    ensures stopped { 1 < result.status → TakesInput (I.left input.old) (I.left input.new) (λ bytes. IsStopped (lines_of bytes)
+        (entries_of session_pass result.log.items) (O.written out.old) (O.written out.new)) }
     ensures end { result.status ≤ 1 → IsAtEnd (I.left input.new) }
     ensures idle { result.status ≤ 1 → active (after opening result.log.items) ≡ 0 }
     ensures kept { result.status ≤ 1 → result.kept ≡ None }
     ensures read_fault { result.status ≡ 3 → raised (I.faults input.old) ≤ I.faults input.new }
     ensures write_fault { result.status ≡ 4 → raised (O.faults out.old) ≤ O.faults out.new }
     ensures wait_fault { result.status ≡ 8 → raised (P.faults spawner.old) ≤ P.faults spawner.new }
-    ensures input_full { result.status ≡ 11 → TakesInput (I.left input.old) (I.left input.new) (λ bytes. 1000000000 < length bytes) }
+    ensures input_full { TakesInput (I.left input.old) (I.left input.new) (λ bytes. (result.status ≡ 11) ↔ (1000000000 < length bytes)) }
+    ensures statuses { IsRunStatus result.status }
+    ensures not_begun { result.status ≡ 2 → result.log.items ≡ [] }
 {
     if !is_run(words) {
         return not_begun(alloc, WRONG_WORDS);

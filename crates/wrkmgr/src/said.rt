@@ -35,7 +35,7 @@ fn submitted(alloc: Global, job: &JobName, jobq: &QName) -> Result<String, Alloc
     Ok(text)
 }
 
-/// What is said of a reply, a line without its end.
+/// What is said of a reply, a line without its end. An `Err` is want of memory.
 pub fn said(alloc: Global, reply: &Reply) -> Result<String, AllocError>
     ensures { IfOk result (λ text. string_bytes text ≡ said_text reply.now) }
 {
@@ -50,7 +50,7 @@ pub fn said(alloc: Global, reply: &Reply) -> Result<String, AllocError>
     }
 }
 
-/// What is said of a reply, with the line's end.
+/// What is said of a reply, with the line's end. An `Err` is want of memory.
 pub fn said_line(alloc: Global, reply: &Reply) -> Result<String, AllocError>
     ensures { IfOk result (λ text. string_bytes text ≡ with_end (said_text reply.now)) }
 {

@@ -1,10 +1,10 @@
 // The session's calls and answers, and the monitor's turns between them.
-ghost use Rattle.std.specs.Prelude.{◌≡◌, ◌≤◌, Err, OnOk, OnErr, IsErrOf, IfOk, IfSome};
+ghost use Rattle.std.specs.Prelude.{◌≡◌, ◌≤◌, ℕ, Err, OnOk, OnErr, IsErrOf, IfOk, IfSome, take};
 ghost use Rattle.wm_outside.specs.Told.{Grows};
 ghost use Rattle.wm_outside.specs.Cause.{raised};
 
 use crate::floor::Floor;
-use crate::monitor::{Monitor, MonitorFault};
+use crate::monitor::Monitor;
 use crate::said::{is_refused, said_line};
 use crate::stop::Stop;
 use crate::submission::{read_line, submission};
@@ -31,6 +31,7 @@ pub struct Run {
 // Writes, and tells a fault as the run's.
 pub(crate) fn put<O: Sink>(out: &mut O, bytes: &[u8]) -> Result<(), Stop>
     ensures ok { OnOk result (Grows (O.written out.old) (O.written out.new) bytes.now) }
+    ensures some { OnErr result ((n : ℕ) × Grows (O.written out.old) (O.written out.new) (take n bytes.now)) }
     ensures faults { O.faults out.old ≤ O.faults out.new }
     ensures write_fault { IsErrOf result Stop.WriteFault → raised (O.faults out.old) ≤ O.faults out.new }
     ensures only { OnErr result (result ≡ Err Stop.WriteFault) }
@@ -42,7 +43,7 @@ pub(crate) fn put<O: Sink>(out: &mut O, bytes: &[u8]) -> Result<(), Stop>
 }
 
 impl Run {
-    ghost use Rattle.std.specs.Prelude.{◌≡◌, ◌≤◌, Err, OnOk, OnErr, IsErrOf, IfOk, IfSome};
+    ghost use Rattle.std.specs.Prelude.{◌≡◌, ◌≤◌, ℕ, Err, OnOk, OnErr, IsErrOf, IfOk, IfSome, take};
     ghost use Rattle.wm_law.specs.Fit.{IsCall, IsBuilt};
     ghost use Rattle.wm_law.specs.History.{after};
     ghost use Rattle.wm_law.specs.Opening.{opening};
@@ -58,6 +59,7 @@ impl Run {
     ghost use Rattle.wrkmgr.specs.Serving.{Serves};
     ghost use Rattle.wrkmgr.specs.Session.{AnsweredBy, AnswersLine, Submits, session_pass};
     ghost use Rattle.wrkmgr.specs.Stop.{HasCauses};
+    ghost use Rattle.wrkmgr.specs.Stopped.{IsCutShort};
     ghost use Rattle.wrkmgr.specs.View.{view};
 
     // Makes one call of the session.
@@ -81,6 +83,8 @@ impl Run {
     fn reply<O: Sink>(&self, alloc: Global, out: &mut O) -> Result<bool, Stop>
         ensures ok { IfOk result (λ refused. IfSome (last_of self.now.floor) (λ e.
             Grows (O.written out.old) (O.written out.new) (with_end (said_text e.reply)) × (refused ≡ is_refused e.reply))) }
+        ensures some { OnErr result (IfSome (last_of self.now.floor) (λ e.
+            (n : ℕ) × Grows (O.written out.old) (O.written out.new) (take n (with_end (said_text e.reply))))) }
         ensures faults { O.faults out.old ≤ O.faults out.new }
         ensures write_fault { IsErrOf result Stop.WriteFault → raised (O.faults out.old) ≤ O.faults out.new }
         ensures no_wait { IsErrOf result Stop.WaitFault → ⊥ }
@@ -110,8 +114,7 @@ impl Run {
     {
         match self.monitor.turn(alloc, &mut self.floor, spawner, clock) {
             Ok(sent) => Ok(sent),
-            Err(MonitorFault::WaitFault) => Err(Stop::WaitFault),
-            Err(MonitorFault::NoMemory) => Err(Stop::NoMemory),
+            Err(fault) => Err(Stop::from(fault)),
         }
     }
 
@@ -134,8 +137,7 @@ impl Run {
             .wait(rt, alloc, &mut self.floor, spawner, clock, until)
         {
             Ok(()) => Ok(()),
-            Err(MonitorFault::WaitFault) => Err(Stop::WaitFault),
-            Err(MonitorFault::NoMemory) => Err(Stop::NoMemory),
+            Err(fault) => Err(Stop::from(fault)),
         }
     }
 
@@ -153,6 +155,8 @@ impl Run {
             (view self.new.floor self.new.monitor (P.asked spawner.new) (P.told spawner.new) (P.misses spawner.new)) }
         ensures answered { IfOk result (λ faulty. AnsweredBy (Submits first.now.text first.now.name)
             (entries_of session_pass (since self.old.floor self.new.floor)) (O.written out.old) (O.written out.new) faulty) }
+        ensures stopped { OnErr result (IsCutShort (Submits first.now.text first.now.name)
+            (entries_of session_pass (since self.old.floor self.new.floor)) (O.written out.old) (O.written out.new)) }
         ensures causes { HasCauses result (O.faults out.old) (O.faults out.new) (P.faults spawner.old) (P.faults spawner.new) }
     {
         let submitted = submission(alloc, first)?;
@@ -175,6 +179,8 @@ impl Run {
             (view self.new.floor self.new.monitor (P.asked spawner.new) (P.told spawner.new) (P.misses spawner.new)) }
         ensures answered { IfOk result (λ faulty. AnsweredBy (AnswersLine line.now)
             (entries_of session_pass (since self.old.floor self.new.floor)) (O.written out.old) (O.written out.new) faulty) }
+        ensures stopped { OnErr result (IsCutShort (AnswersLine line.now)
+            (entries_of session_pass (since self.old.floor self.new.floor)) (O.written out.old) (O.written out.new)) }
         ensures causes { HasCauses result (O.faults out.old) (O.faults out.new) (P.faults spawner.old) (P.faults spawner.new) }
     {
         if line.is_empty() {

@@ -13,7 +13,7 @@ use wm_law::{
     qbatch, qdftjobd,
 };
 
-/// Reads a line of the one form.
+/// Reads a line of the one form. `NoMemory` comes where there is no room for its text.
 pub fn read_line(alloc: Global, line: &[u8]) -> Result<First, FirstFault>
     ensures ok { IfOk result (λ first. first_of line.now ≡ Some (first.text, first.name)) }
     ensures short { IfOk result (λ first. length first.text ≤ 100) }
@@ -23,7 +23,7 @@ pub fn read_line(alloc: Global, line: &[u8]) -> Result<First, FirstFault>
     read_first(alloc, line)
 }
 
-/// The request of a job that prints the text.
+// The request of a job that prints the text.
 fn request(alloc: Global, text: &Text) -> Result<Text, AllocError>
     ensures { IfOk result (λ request. request ≡ call_request text.now) }
 {
@@ -33,7 +33,7 @@ fn request(alloc: Global, text: &Text) -> Result<Text, AllocError>
     Ok(request)
 }
 
-/// The call that submits a job for a line.
+/// The call that submits a job for a line. An `Err` is want of memory for the request's text.
 pub fn submission(alloc: Global, first: &First) -> Result<Call, AllocError>
     requires { length first.now.text ≤ 100 }
     ensures call { IfOk result (λ call. call ≡ submit_call first.now.text first.now.name) }
@@ -41,6 +41,7 @@ pub fn submission(alloc: Global, first: &First) -> Result<Call, AllocError>
 {
     let rqsdta = request(alloc, &first.text)?;
     let rtgdta = Text::from_bytes(alloc, b"QCMDB")?;
+    // What these calls promise of the two, that they are a text and a name, is what `fit` needs.
     let _ = rqsdta.as_bytes();
     let _ = first.name.as_bytes();
     Ok(Call::Change {

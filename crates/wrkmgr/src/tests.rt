@@ -2,67 +2,84 @@
 ghost use Rattle.std.specs.Prelude.{◌<◌};
 
 use crate::run::run;
-use std::alloc::Global;
+use std::alloc::{AllocError, Global};
 use std::sync::Wait;
 use std::test::Fail;
-use wm_base::{Asked, Moment};
-use wm_law::Entry;
-use wm_outside::{MemClock, MemSink, MemSource, MemSpawner};
+use wm_base::{Asked, Event, Exit, Moment, Refusal, Serial, StartOrder};
+use wm_law::{Call, Entry, Reply};
+use wm_outside::{Failed, MemClock, MemSink, MemSource, MemSpawner, Spawner, StartFault};
 
 const SUBMIT: &[u8] = b"SBMJOB CMD(CALL PGM(ECHO) PARM('HI')) JOB(A)\n";
 
 const SUBMITTED: &[u8] = b"OK 000001/QUSER/A submitted to QGPL/QBATCH\n";
 
-// The numbers, from 1, of the calls that fail.
+const NOT_BUILT: &[u8] = b"CM 9 NOTBUILT\n";
+
+// A line that submits a job, and one that isn't built.
+const TWO_LINES: &[u8] = b"SBMJOB CMD(CALL PGM(ECHO) PARM('HI')) JOB(A)\nX\n";
+
+const TWO_ANSWERS: &[u8] = b"OK 000001/QUSER/A submitted to QGPL/QBATCH\nCM 9 NOTBUILT\n";
+
+// The numbers, from 1, of the calls that fail, and how many looks a child is out.
 #[derive(Clone, Copy)]
-struct Failing {
+struct Outside {
     read: &'static [u32],
     write: &'static [u32],
     start: &'static [u32],
     look: &'static [u32],
+    lag: u32,
+    most: usize,
 }
 
-const NONE: Failing = Failing {
+const FINE: Outside = Outside {
     read: &[],
     write: &[],
     start: &[],
     look: &[],
+    lag: 0,
+    most: 4096,
 };
 
 // What a run did.
 #[derive(Drop)]
-struct Done {
+struct Done<P> {
     status: u8,
     written: Vec<u8>,
     log: Vec<Entry>,
-    spawner: MemSpawner,
+    spawner: P,
 }
 
-// A run over bytes that come and go in pieces of at most so many, where each child ends at the first look.
-fn run_over<R: Wait>(
+fn strings(alloc: Global, words: &[&str]) -> Result<Vec<String>, AllocError> {
+    let mut strings = Vec::new(alloc);
+    for word in words {
+        strings.push(String::from_str(alloc, word)?)?;
+    }
+    Ok(strings)
+}
+
+// A run of these words over bytes that come and go in pieces, with this spawner.
+fn run_with<R: Wait, P: Spawner + Drop>(
     rt: &R,
     alloc: Global,
-    words: &[&[u8]],
+    words: &[&str],
     input: &[u8],
-    most: usize,
-    failing: Failing,
-) -> Result<Done, Fail>
-    requires { 0 < most }
+    outside: Outside,
+    mut spawner: P,
+) -> Result<Done<P>, Fail>
+    requires { 0 < outside.most }
 {
-    let mut source = MemSource::in_pieces(input.to_vec(alloc)?, failing.read.to_vec(alloc)?, most);
-    let mut sink = MemSink::in_pieces(alloc, failing.write.to_vec(alloc)?, most);
-    let mut spawner = MemSpawner::new(
-        alloc,
-        0,
-        failing.start.to_vec(alloc)?,
-        Vec::new(alloc),
-        failing.look.to_vec(alloc)?,
+    let words = strings(alloc, words)?;
+    let mut source = MemSource::in_pieces(
+        input.to_vec(alloc)?,
+        outside.read.to_vec(alloc)?,
+        outside.most,
     );
-    let mut clock = MemClock::new(Moment::new(1000), 1);
+    let mut sink = MemSink::in_pieces(alloc, outside.write.to_vec(alloc)?, outside.most);
+    let mut clock = MemClock::new(Moment::new(1000), 0);
     let ran = run(
         rt,
         alloc,
-        words,
+        &words,
         &mut source,
         &mut sink,
         &mut spawner,
@@ -76,9 +93,28 @@ fn run_over<R: Wait>(
     })
 }
 
+// A run of the word `run` with a spawner in memory.
+fn run_over<R: Wait>(
+    rt: &R,
+    alloc: Global,
+    input: &[u8],
+    outside: Outside,
+) -> Result<Done<MemSpawner>, Fail>
+    requires { 0 < outside.most }
+{
+    let spawner = MemSpawner::new(
+        alloc,
+        outside.lag,
+        outside.start.to_vec(alloc)?,
+        Vec::new(alloc),
+        outside.look.to_vec(alloc)?,
+    );
+    run_with(rt, alloc, &["run"], input, outside, spawner)
+}
+
 #[test]
 fn no_input_starts_nothing(rt: HostRuntime) -> Result<(), Fail> {
-    let done = run_over(&rt, rt.alloc(), &[b"run"], b"", 4096, NONE)?;
+    let done = run_over(&rt, rt.alloc(), b"", FINE)?;
     assert_eq!(rt; done.status, 0);
     assert_eq!(rt; done.written.as_slice(), b"".as_slice());
     assert_eq!(rt; done.log.len(), 2);
@@ -88,7 +124,7 @@ fn no_input_starts_nothing(rt: HostRuntime) -> Result<(), Fail> {
 
 #[test]
 fn a_job_is_submitted_started_and_ends(rt: HostRuntime) -> Result<(), Fail> {
-    let done = run_over(&rt, rt.alloc(), &[b"run"], SUBMIT, 4096, NONE)?;
+    let done = run_over(&rt, rt.alloc(), SUBMIT, FINE)?;
     assert_eq!(rt; done.status, 0);
     assert_eq!(rt; done.written.as_slice(), SUBMITTED);
     assert_eq!(rt; done.log.len(), 6);
@@ -97,7 +133,10 @@ fn a_job_is_submitted_started_and_ends(rt: HostRuntime) -> Result<(), Fail> {
         return Err(Fail::new("nothing was started"));
     };
     assert_eq!(rt; order.path.as_bytes(), b"/bin/echo".as_slice());
-    assert_eq!(rt; order.args.len(), 1);
+    let [argument] = order.args.as_slice() else {
+        return Err(Fail::new("not one argument"));
+    };
+    assert_eq!(rt; argument.as_bytes(), b"HI".as_slice());
     Ok(())
 }
 
@@ -105,7 +144,7 @@ fn a_job_is_submitted_started_and_ends(rt: HostRuntime) -> Result<(), Fail> {
 fn jobs_are_started_in_the_order_of_their_places(rt: HostRuntime) -> Result<(), Fail> {
     let input =
         b"SBMJOB CMD(CALL PGM(ECHO) PARM('1')) JOB(A)\nSBMJOB CMD(CALL PGM(ECHO) PARM('2')) JOB(B)\n";
-    let done = run_over(&rt, rt.alloc(), &[b"run"], input, 4096, NONE)?;
+    let done = run_over(&rt, rt.alloc(), input, FINE)?;
     assert_eq!(rt; done.status, 0);
     assert_eq!(rt; done.spawner.asked().len(), 2);
     for (asked, number) in done.spawner.asked().iter().zip([1, 2]) {
@@ -119,17 +158,17 @@ fn jobs_are_started_in_the_order_of_their_places(rt: HostRuntime) -> Result<(), 
 
 #[test]
 fn bytes_come_and_go_one_at_a_time(rt: HostRuntime) -> Result<(), Fail> {
-    let done = run_over(&rt, rt.alloc(), &[b"run"], SUBMIT, 1, NONE)?;
-    assert_eq!(rt; done.status, 0);
-    assert_eq!(rt; done.written.as_slice(), SUBMITTED);
+    let done = run_over(&rt, rt.alloc(), TWO_LINES, Outside { most: 1, ..FINE })?;
+    assert_eq!(rt; done.status, 1);
+    assert_eq!(rt; done.written.as_slice(), TWO_ANSWERS);
     Ok(())
 }
 
 #[test]
 fn another_line_is_not_built_and_starts_nothing(rt: HostRuntime) -> Result<(), Fail> {
-    let done = run_over(&rt, rt.alloc(), &[b"run"], b"X\n", 4096, NONE)?;
+    let done = run_over(&rt, rt.alloc(), b"X\n", FINE)?;
     assert_eq!(rt; done.status, 1);
-    assert_eq!(rt; done.written.as_slice(), b"CM 9 NOTBUILT\n".as_slice());
+    assert_eq!(rt; done.written.as_slice(), NOT_BUILT);
     assert_eq!(rt; done.log.len(), 2);
     assert_eq!(rt; done.spawner.asked().len(), 0);
     Ok(())
@@ -137,52 +176,170 @@ fn another_line_is_not_built_and_starts_nothing(rt: HostRuntime) -> Result<(), F
 
 #[test]
 fn an_empty_line_gets_no_answer_and_the_last_needs_no_end(rt: HostRuntime) -> Result<(), Fail> {
-    let done = run_over(&rt, rt.alloc(), &[b"run"], b"\n\nX", 4096, NONE)?;
+    let done = run_over(&rt, rt.alloc(), b"\n\nX", FINE)?;
     assert_eq!(rt; done.status, 1);
-    assert_eq!(rt; done.written.as_slice(), b"CM 9 NOTBUILT\n".as_slice());
+    assert_eq!(rt; done.written.as_slice(), NOT_BUILT);
     Ok(())
 }
 
 #[test]
 fn other_words_begin_no_run(rt: HostRuntime) -> Result<(), Fail> {
-    let done = run_over(&rt, rt.alloc(), &[b"run", b"x"], SUBMIT, 4096, NONE)?;
-    assert_eq!(rt; done.status, 2);
-    assert_eq!(rt; done.log.len(), 0);
-    assert_eq!(rt; done.spawner.asked().len(), 0);
+    let words: [&[&str]; 3] = [&[], &["run", "x"], &["RUN"]];
+    for words in words {
+        let spawner = MemSpawner::new(
+            rt.alloc(),
+            0,
+            Vec::new(rt.alloc()),
+            Vec::new(rt.alloc()),
+            Vec::new(rt.alloc()),
+        );
+        let done = run_with(&rt, rt.alloc(), words, SUBMIT, FINE, spawner)?;
+        assert_eq!(rt; done.status, 2);
+        assert_eq!(rt; done.written.as_slice(), b"".as_slice());
+        assert_eq!(rt; done.log.len(), 0);
+        assert_eq!(rt; done.spawner.asked().len(), 0);
+    }
+    Ok(())
+}
+
+// The status, the answers and the number of entries where the outside is so.
+#[test]
+fn a_fault_ends_the_run_with_what_was_done_until_then(rt: HostRuntime) -> Result<(), Fail> {
+    let read = |read: &'static [u32]| Outside { read, ..FINE };
+    let write = |write: &'static [u32]| Outside { write, ..FINE };
+    let look = |look: &'static [u32]| Outside { look, ..FINE };
+    let rows: [(Outside, u8, &[u8], usize); 9] = [
+        (read(&[1]), 3, b"", 1),
+        (read(&[2]), 3, TWO_ANSWERS, 5),
+        (write(&[1]), 4, b"", 2),
+        (write(&[2]), 4, SUBMITTED, 5),
+        (look(&[1]), 8, b"", 1),
+        (look(&[2]), 8, SUBMITTED, 4),
+        (look(&[3]), 8, SUBMITTED, 5),
+        (look(&[4]), 8, TWO_ANSWERS, 5),
+        (look(&[5]), 8, TWO_ANSWERS, 6),
+    ];
+    for (outside, status, written, entries) in rows {
+        let done = run_over(&rt, rt.alloc(), TWO_LINES, outside)?;
+        assert_eq!(rt; done.status, status);
+        assert_eq!(rt; done.written.as_slice(), written);
+        assert_eq!(rt; done.log.len(), entries);
+    }
+    Ok(())
+}
+
+#[test]
+fn a_run_waits_for_a_child_that_is_out_for_long(rt: HostRuntime) -> Result<(), Fail> {
+    let rows = [(1, 6), (2, 6), (100, 6)];
+    for (lag, entries) in rows {
+        let done = run_over(&rt, rt.alloc(), SUBMIT, Outside { lag, ..FINE })?;
+        assert_eq!(rt; done.status, 0);
+        assert_eq!(rt; done.written.as_slice(), SUBMITTED);
+        assert_eq!(rt; done.log.len(), entries);
+    }
+    let failing = Outside {
+        lag: 100,
+        look: &[4],
+        ..FINE
+    };
+    let done = run_over(&rt, rt.alloc(), SUBMIT, failing)?;
+    assert_eq!(rt; done.status, 8);
+    assert_eq!(rt; done.log.len(), 4);
     Ok(())
 }
 
 #[test]
 fn a_program_that_cannot_be_started_ends_its_job(rt: HostRuntime) -> Result<(), Fail> {
-    let failing = Failing {
-        start: &[1],
-        ..NONE
-    };
-    let done = run_over(&rt, rt.alloc(), &[b"run"], SUBMIT, 4096, failing)?;
+    let done = run_over(&rt, rt.alloc(), SUBMIT, Outside { start: &[1], ..FINE })?;
     assert_eq!(rt; done.status, 0);
     assert_eq!(rt; done.written.as_slice(), SUBMITTED);
+    assert_eq!(rt; done.log.len(), 5);
+    assert_eq!(rt; done.spawner.asked().len(), 1);
     Ok(())
 }
 
+// A spawner that tells nothing. First it reports the end of a job that it never had, and then what is expected of it.
+#[derive(Drop)]
+struct Straying {
+    began: bool,
+    running: Option<Serial>,
+}
+
+impl Straying {
+    fn report(&mut self) -> Option<Event> {
+        if !self.began {
+            self.began = true;
+            return Some(Event::Ended(Serial::new(7), Exit::Code(0)));
+        }
+        match self.running.take() {
+            Some(serial) => Some(Event::Ended(serial, Exit::Code(0))),
+            None => None,
+        }
+    }
+}
+
+impl Spawner for Straying {
+    ghost use Rattle.std.specs.Prelude.{None, refl};
+
+    ghost misses = { λ _. 0 };
+
+    ghost faults = { λ _. 0 };
+
+    ghost asked = { λ _. None };
+
+    ghost out = { λ _. None };
+
+    ghost told = { λ _. None };
+
+    ghost reporting = { λ _. None };
+
+    fn start(&mut self, order: &StartOrder) -> Result<(), StartFault> {
+        self.running = Some(order.serial);
+        Ok(())
+    }
+
+    fn kill(&mut self, _job: Serial) -> Result<bool, Failed> {
+        Ok(false)
+    }
+
+    fn ended(&mut self) -> Result<Option<Event>, Failed> {
+        Ok(self.report())
+    }
+
+    fn wait_ended<W: Wait>(
+        &mut self,
+        _rt: &W,
+        _until: Option<Moment>,
+    ) -> Result<Option<Event>, Failed> {
+        Ok(self.report())
+    }
+
+    ghost told_with_out = { λ _. refl };
+}
+
 #[test]
-fn a_fault_ends_the_run_with_its_status(rt: HostRuntime) -> Result<(), Fail> {
-    let read = Failing { read: &[1], ..NONE };
-    assert_eq!(rt;
-        run_over(&rt, rt.alloc(), &[b"run"], SUBMIT, 4096, read)?.status,
-        3
-    );
-    let write = Failing {
-        write: &[1],
-        ..NONE
+fn a_report_of_a_job_that_is_not_out_is_refused_and_changes_nothing_else(
+    rt: HostRuntime,
+) -> Result<(), Fail> {
+    let straying = Straying {
+        began: false,
+        running: None,
     };
-    assert_eq!(rt;
-        run_over(&rt, rt.alloc(), &[b"run"], SUBMIT, 4096, write)?.status,
-        4
-    );
-    let look = Failing { look: &[1], ..NONE };
-    assert_eq!(rt;
-        run_over(&rt, rt.alloc(), &[b"run"], SUBMIT, 4096, look)?.status,
-        8
-    );
+    let done = run_with(&rt, rt.alloc(), &["run"], SUBMIT, FINE, straying)?;
+    let usual = run_over(&rt, rt.alloc(), SUBMIT, FINE)?;
+    assert_eq!(rt; done.status, 0);
+    assert_eq!(rt; done.written.as_slice(), SUBMITTED);
+    let (Some((first, rest)), Some((start, others))) =
+        (done.log.split_first(), usual.log.split_first())
+    else {
+        return Err(Fail::new("an empty history"));
+    };
+    let Some((refused, rest)) = rest.split_first() else {
+        return Err(Fail::new("no report"));
+    };
+    assert_eq!(rt; refused.call, Call::Finished(Serial::new(7), Exit::Code(0)));
+    assert_eq!(rt; refused.reply, Reply::No(Refusal::NoJob));
+    assert_eq!(rt; first, start);
+    assert_eq!(rt; rest, others);
     Ok(())
 }

@@ -1,4 +1,6 @@
 use Rattle.wrkmgr.proofs.Servings.{Serves-call, Serves-then, Serves-monitor, one_call}
+use Rattle.std.proofs.Common.{None, inl, inr}
+use Rattle.wrkmgr.proofs.Stopping.{Untouched-same, on_err}
 use Rattle.wrkmgr.specs.Session.{start_call}
 use Rattle.wrkmgr.proofs.session.Run.begin.Goals as goal
 
@@ -17,3 +19,12 @@ returns-clause-serves g c =
 pub returns-clause-begun : goal.returns-clause-begun
 returns-clause-begun g c =
     one_call c.args.self.now.floor c.call.new.self.floor c.turn.new.self.floor c.start_call.result start_call c.in_ok-call.ensures.ok c.start_call.ensures.call c.turn.ensures.part.log c.turn.ensures.part.own
+
+pub returns-in_err-call-clause-not_begun : goal.returns-in_err-call-clause-not_begun
+returns-in_err-call-clause-not_begun g c =
+    let none = Untouched-same c.args.self.now.floor c.call.new.self.floor None c.in_err-call.ensures.err in
+    on_err _ (inl none.none)
+
+pub returns-in_err-turn-clause-not_begun : goal.returns-in_err-turn-clause-not_begun
+returns-in_err-turn-clause-not_begun g c =
+    on_err _ (inr (one_call c.args.self.now.floor c.call.new.self.floor c.turn.new.self.floor c.start_call.result start_call c.in_ok-call.ensures.ok c.start_call.ensures.call c.turn.ensures.part.log c.turn.ensures.part.own))

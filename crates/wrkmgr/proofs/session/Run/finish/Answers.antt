@@ -1,4 +1,6 @@
 use Rattle.wrkmgr.proofs.Servings.{Serves-call, Serves-then, Serves-same, Serves-monitor, last_call}
+use Rattle.std.proofs.Common.{inr}
+use Rattle.wrkmgr.proofs.Stopping.{no_call, no_call_same, on_err}
 use Rattle.wrkmgr.specs.Session.{end_call}
 use Rattle.wrkmgr.proofs.session.Run.finish.Goals as goal
 
@@ -34,3 +36,14 @@ pub returns-clause-ended : goal.returns-clause-ended
 returns-clause-ended g c =
     last_call c.args.self.now.floor c.wait_for_jobs.new.self.floor c.call.new.self.floor c.wait_for_jobs-2.new.self.floor c.end_call.result end_call
     c.wait_for_jobs.ensures.part.log c.wait_for_jobs.ensures.part.own c.in_ok-call.ensures.ok c.end_call.ensures.call c.wait_for_jobs-2.ensures.part.log c.wait_for_jobs-2.ensures.part.own
+
+pub returns-in_err-wait_for_jobs-clause-not_ended : goal.returns-in_err-wait_for_jobs-clause-not_ended
+returns-in_err-wait_for_jobs-clause-not_ended g c = on_err _ (no_call c.args.self.now.floor c.wait_for_jobs.new.self.floor c.wait_for_jobs.ensures.part.own)
+
+pub returns-in_err-call-clause-not_ended : goal.returns-in_err-call-clause-not_ended
+returns-in_err-call-clause-not_ended g c = on_err _ (no_call_same c.args.self.now.floor c.wait_for_jobs.new.self.floor c.call.new.self.floor c.in_err-call.ensures.err c.wait_for_jobs.ensures.part.own)
+
+pub returns-in_err-wait_for_jobs-2-clause-not_ended : goal.returns-in_err-wait_for_jobs-2-clause-not_ended
+returns-in_err-wait_for_jobs-2-clause-not_ended g c =
+    on_err _ (inr (last_call c.args.self.now.floor c.wait_for_jobs.new.self.floor c.call.new.self.floor c.wait_for_jobs-2.new.self.floor c.end_call.result end_call
+    c.wait_for_jobs.ensures.part.log c.wait_for_jobs.ensures.part.own c.in_ok-call.ensures.ok c.end_call.ensures.call c.wait_for_jobs-2.ensures.part.log c.wait_for_jobs-2.ensures.part.own))

@@ -3,11 +3,14 @@ use Rattle.wrkmgr.proofs.Writes.{take_whole}
 use Rattle.std.proofs.lemmas.List.{take_more}
 use Rattle.std.proofs.lemmas.Result.{err_from_is_err_and}
 use Rattle.wm_law.specs.History.{entries_of}
+use Rattle.wrkmgr.specs.LineBuffer.{Holds}
 use Rattle.wrkmgr.specs.Lines.{cut_from}
 use Rattle.wrkmgr.specs.Lists.{since}
 use Rattle.wrkmgr.specs.Session.{session_pass}
+use Rattle.wrkmgr.specs.Stopped.{StopsIn}
 use Rattle.wrkmgr.specs.Taking.{TakesPiece}
 use Rattle.wrkmgr.proofs.Servings.{Serves-none, Serves-then, HasCauses-pass, taken_then, taken_none}
+use Rattle.wrkmgr.proofs.Stopping.{on_err, stops_piece}
 use Rattle.wrkmgr.proofs.session.Run.take_piece.Goals as goal
 
 pub bytes-init : goal.bytes-init
@@ -50,3 +53,13 @@ returns-clause-taken g c rest h =
     let i = c.bytes.invariant in
     let all = take_whole c.bytes.byte-index c.args.piece.now (omega arith) in
     subst (λ (xs : List ℕ). TakesPiece (cut_from rest xs) c.bytes.buffer (entries_of session_pass (since c.args.self.now.floor c.bytes.self.floor)) (o.written c.args.out.now) (o.written c.bytes.out) c.bytes.faulty) all (i.taken rest h)
+
+pub returns-in_err-wrong-clause-stopped : goal.returns-in_err-wrong-clause-stopped
+returns-in_err-wrong-clause-stopped g c =
+    let o = g.O.Sink in
+    let i = c.bytes.invariant in
+    let u = o.written c.args.out.now in
+    let w = o.written c.take_byte.new.out in
+    let all : (rest : List ℕ) → Holds c.args.buffer.now rest → StopsIn (cut_from rest c.args.piece.now).lines (entries_of session_pass (since c.args.self.now.floor c.take_byte.new.self.floor)) u w =
+    (λ rest h. stops_piece rest c.args.piece.now c.bytes.byte-index c.bytes.buffer c.args.self.now.floor c.bytes.self.floor c.take_byte.new.self.floor u (o.written c.bytes.out) w c.bytes.faulty (omega arith) i.serves.log c.take_byte.ensures.serves.log (i.taken rest h) c.in_err-wrong.ensures.stopped) in
+    on_err _ all

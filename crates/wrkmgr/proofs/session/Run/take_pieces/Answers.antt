@@ -1,51 +1,115 @@
-use Rattle.std.proofs.Common.{arith, refl, ◌+◌}
-use Rattle.wrkmgr.proofs.Inputs.{input_then, input_end, count_then, count_more}
+use Rattle.std.proofs.Common.{arith, refl, sym, Err, ◌+◌, ◌≡◌, [], take, length}
+use Rattle.std.proofs.lemmas.List.{length-take-le}
+use Rattle.std.proofs.lemmas.Bool.Decides.{nat_tests}
+use Rattle.std.proofs.lemmas.Result.{err_from_is_err_and}
+use Rattle.wrkmgr.specs.Taking.{TakesInput}
+use Rattle.wrkmgr.proofs.Inputs.{input_then, input_end, count_then}
 use Rattle.wrkmgr.proofs.Servings.{Serves-then}
+use Rattle.wrkmgr.proofs.Stopping.{input_same, input_stops, input_stops_in, input_stops_last, full_read, not_full, on_err, take_none}
 use Rattle.wrkmgr.proofs.session.Run.take_pieces.Goals as goal
 
-pub returns-in_err-got-clause-serves : goal.returns-in_err-got-clause-serves
-returns-in_err-got-clause-serves g c = Serves-then _ _ _ c.reads.invariant.serves c.take_some.ensures.serves
-
-pub returns-then-total-gt-MOST_INPUT-clause-serves : goal.returns-then-total-gt-MOST_INPUT-clause-serves
-returns-then-total-gt-MOST_INPUT-clause-serves g c = Serves-then _ _ _ c.reads.invariant.serves c.take_some.ensures.serves
-
 pub returns-in_err-wrong-clause-serves : goal.returns-in_err-wrong-clause-serves
-returns-in_err-wrong-clause-serves g c = Serves-then _ _ _ (Serves-then _ _ _ c.reads.invariant.serves c.take_some.ensures.serves) c.answer_buffered.ensures.serves
+returns-in_err-wrong-clause-serves g c = Serves-then _ _ _ c.reads.invariant.serves c.answer_buffered.ensures.serves
+
+pub returns-then-n-eq0-clause-serves : goal.returns-then-n-eq0-clause-serves
+returns-then-n-eq0-clause-serves g c = Serves-then _ _ _ c.reads.invariant.serves c.answer_buffered.ensures.serves
+
+pub returns-in_err-wrong-2-clause-serves : goal.returns-in_err-wrong-2-clause-serves
+returns-in_err-wrong-2-clause-serves g c = Serves-then _ _ _ c.reads.invariant.serves c.take_piece.ensures.serves
 
 pub reads-preserved : goal.reads-preserved
 reads-preserved g c =
     let x = g.I.Source in
     let o = g.O.Sink in
     let i = c.reads.invariant in
-    let k = c.take_some.ensures in
+    let k = c.take_piece.ensures in
+    let n = c.in_ok-n.n in
+    let ys = take n c.read.new.piece in
+    let some = length-take-le n c.read.new.piece c.in_ok-n.ensures.within in
     record {
       serves = Serves-then _ _ _ i.serves k.serves;
-      count = count_then (x.left c.args.input.now) (x.left c.reads.input) (x.left c.take_some.new.input) c.reads.total c.in_ok-got.got.0 (c.reads.total + c.in_ok-got.got.0) refl i.count c.in_ok-got.ensures.count;
-      taken = input_then (x.left c.args.input.now) (x.left c.reads.input) (x.left c.take_some.new.input) c.reads.buffer c.take_some.new.buffer c.args.self.now.floor c.reads.self.floor c.take_some.new.self.floor (o.written c.args.out.now) (o.written c.reads.out) (o.written c.take_some.new.out) c.reads.faulty c.in_ok-got.got.1 c.either-faulty.result c.either-faulty.ensures i.serves.log k.serves.log i.taken c.in_ok-got.ensures.taken;
-      read = let n = k.causes.read in omega arith;
-      written = let n = k.causes.written in omega arith;
-      looked = let n = k.causes.looked in omega arith;
-      total = let f = c.if-total-gt-MOST_INPUT.false in omega arith;
-      piece = let a = k.len in let b = i.piece in omega arith;
+      count = count_then (x.left c.args.input.now) (x.left c.reads.input) (x.left c.read.new.input) c.reads.total n (c.reads.total + n) refl i.count (record { bytes = ys; taken = c.in_ok-n.ensures.taken; done = some });
+      taken = input_then (x.left c.args.input.now) (x.left c.reads.input) (x.left c.read.new.input) c.reads.buffer c.take_piece.new.buffer c.args.self.now.floor c.reads.self.floor c.take_piece.new.self.floor (o.written c.args.out.now) (o.written c.reads.out) (o.written c.take_piece.new.out) c.reads.faulty c.in_ok-wrong-2.wrong c.either-faulty.result c.either-faulty.ensures i.serves.log k.serves.log i.taken
+          (λ rest h. record { bytes = ys; taken = c.in_ok-n.ensures.taken; done = c.in_ok-wrong-2.ensures.taken rest h });
+      read = let f = c.read.ensures.faults in omega arith;
+      written = let f = k.causes.written in omega arith;
+      looked = let f = k.causes.looked in omega arith;
+      total = c.in_ok-n.ensures.room;
+      piece = let a = c.read.ensures.len in let b = i.piece in omega arith;
     }
 
-pub returns-then-got-eq0-clause-serves : goal.returns-then-got-eq0-clause-serves
-returns-then-got-eq0-clause-serves g c = Serves-then _ _ _ (Serves-then _ _ _ c.reads.invariant.serves c.take_some.ensures.serves) c.answer_buffered.ensures.serves
-
-pub returns-then-got-eq0-clause-taken : goal.returns-then-got-eq0-clause-taken
-returns-then-got-eq0-clause-taken g c =
+pub returns-then-n-eq0-clause-taken : goal.returns-then-n-eq0-clause-taken
+returns-then-n-eq0-clause-taken g c =
     let x = g.I.Source in
     let o = g.O.Sink in
     let i = c.reads.invariant in
-    let k = c.take_some.ensures in
-    let all = input_then (x.left c.args.input.now) (x.left c.reads.input) (x.left c.take_some.new.input) c.reads.buffer c.take_some.new.buffer c.args.self.now.floor c.reads.self.floor c.take_some.new.self.floor (o.written c.args.out.now) (o.written c.reads.out) (o.written c.take_some.new.out) c.reads.faulty c.in_ok-got.got.1 c.either-faulty.result c.either-faulty.ensures i.serves.log k.serves.log i.taken c.in_ok-got.ensures.taken in
-    let begun = (Serves-then _ _ _ i.serves k.serves).log in
-    input_end (x.left c.args.input.now) (x.left c.take_some.new.input) c.take_some.new.buffer c.args.self.now.floor c.take_some.new.self.floor c.answer_buffered.new.self.floor (o.written c.args.out.now) (o.written c.take_some.new.out) (o.written c.answer_buffered.new.out) c.either-faulty.result c.in_ok-wrong.wrong c.either.result c.either.ensures begun c.answer_buffered.ensures.serves.log all c.in_ok-wrong.ensures.answered
+    let t = c.if-n-eq0.true in
+    let none : c.in_ok-n.n ≡ 0 = grind (arith, nat_tests) in
+    let all = input_same (x.left c.args.input.now) (x.left c.reads.input) (x.left c.read.new.input) (take c.in_ok-n.n c.read.new.piece) (take_none c.in_ok-n.n c.read.new.piece none) i.taken c.in_ok-n.ensures.taken in
+    input_end (x.left c.args.input.now) (x.left c.read.new.input) c.reads.buffer c.args.self.now.floor c.reads.self.floor c.answer_buffered.new.self.floor (o.written c.args.out.now) (o.written c.reads.out) (o.written c.answer_buffered.new.out) c.reads.faulty c.in_ok-wrong.wrong c.either.result c.either.ensures i.serves.log c.answer_buffered.ensures.serves.log all c.in_ok-wrong.ensures.answered
 
-pub returns-then-total-gt-MOST_INPUT-clause-full : goal.returns-then-total-gt-MOST_INPUT-clause-full
-returns-then-total-gt-MOST_INPUT-clause-full g c f =
+pub returns-in_err-n-clause-stopped : goal.returns-in_err-n-clause-stopped
+returns-in_err-n-clause-stopped g c =
+    let x = g.I.Source in
+    let o = g.O.Sink in
+    let full = c.in_err-n.ensures.full in
+    on_err _ (input_stops (x.left c.args.input.now) (x.left c.reads.input) (x.left c.read.new.input) c.reads.buffer _ (o.written c.args.out.now) (o.written c.reads.out) c.reads.faulty full.bytes c.reads.invariant.taken full.taken)
+
+pub returns-in_err-wrong-clause-stopped : goal.returns-in_err-wrong-clause-stopped
+returns-in_err-wrong-clause-stopped g c =
+    let x = g.I.Source in
+    let o = g.O.Sink in
+    let i = c.reads.invariant in
+    let t = c.if-n-eq0.true in
+    let none : c.in_ok-n.n ≡ 0 = grind (arith, nat_tests) in
+    let all = input_same (x.left c.args.input.now) (x.left c.reads.input) (x.left c.read.new.input) (take c.in_ok-n.n c.read.new.piece) (take_none c.in_ok-n.n c.read.new.piece none) i.taken c.in_ok-n.ensures.taken in
+    on_err _ (input_stops_last (x.left c.args.input.now) (x.left c.read.new.input) c.reads.buffer c.args.self.now.floor c.reads.self.floor c.answer_buffered.new.self.floor (o.written c.args.out.now) (o.written c.reads.out) (o.written c.answer_buffered.new.out) c.reads.faulty i.serves.log c.answer_buffered.ensures.serves.log all c.in_err-wrong.ensures.stopped)
+
+pub returns-in_err-wrong-2-clause-stopped : goal.returns-in_err-wrong-2-clause-stopped
+returns-in_err-wrong-2-clause-stopped g c =
+    let x = g.I.Source in
+    let o = g.O.Sink in
+    let i = c.reads.invariant in
+    on_err _ (input_stops_in (x.left c.args.input.now) (x.left c.reads.input) (x.left c.read.new.input) c.reads.buffer c.args.self.now.floor c.reads.self.floor c.take_piece.new.self.floor (o.written c.args.out.now) (o.written c.reads.out) (o.written c.take_piece.new.out) c.reads.faulty (take c.in_ok-n.n c.read.new.piece) i.serves.log c.take_piece.ensures.serves.log i.taken c.in_ok-n.ensures.taken c.in_err-wrong-2.ensures.stopped)
+
+pub returns-in_err-n-clause-full : goal.returns-in_err-n-clause-full
+returns-in_err-n-clause-full g c =
+    let x = g.I.Source in
+    let p = err_from_is_err_and c.from_residual.result c.from_residual.ensures.1 in
+    full_read (Err c.in_err-n.field-0.0) c.from_residual.result c.in_err-n.field-0.0 p.0 (x.left c.args.input.now) (x.left c.reads.input) (x.left c.read.new.input) c.reads.total refl p.1 p.2 c.reads.invariant.count c.in_err-n.ensures.full
+
+pub returns-in_err-wrong-clause-full : goal.returns-in_err-wrong-clause-full
+returns-in_err-wrong-clause-full g c =
     let x = g.I.Source in
     let i = c.reads.invariant in
-    let all = count_then (x.left c.args.input.now) (x.left c.reads.input) (x.left c.take_some.new.input) c.reads.total c.in_ok-got.got.0 (c.reads.total + c.in_ok-got.got.0) refl i.count c.in_ok-got.ensures.count in
-    let t = c.if-total-gt-MOST_INPUT.true in
-    count_more (x.left c.args.input.now) (x.left c.take_some.new.input) (c.reads.total + c.in_ok-got.got.0) 1000000000 (omega arith) all
+    let p = err_from_is_err_and c.from_residual-in_err-wrong.result c.from_residual-in_err-wrong.ensures.1 in
+    let was = c.in_err-wrong.was in
+    let t = c.if-n-eq0.true in
+    let none : c.in_ok-n.n ≡ 0 = grind (arith, nat_tests) in
+    let count = input_same (x.left c.args.input.now) (x.left c.reads.input) (x.left c.read.new.input) (take c.in_ok-n.n c.read.new.piece) (take_none c.in_ok-n.n c.read.new.piece none) i.count c.in_ok-n.ensures.taken in
+    let same = p.2 in
+    let is = p.1 in
+    not_full c.from_residual-in_err-wrong.result (x.left c.args.input.now) (x.left c.read.new.input) c.reads.total (λ f. c.answer_buffered.ensures.causes.not_full (cc)) count i.total
+
+pub returns-then-n-eq0-clause-full : goal.returns-then-n-eq0-clause-full
+returns-then-n-eq0-clause-full g c =
+    let x = g.I.Source in
+    let i = c.reads.invariant in
+    let t = c.if-n-eq0.true in
+    let none : c.in_ok-n.n ≡ 0 = grind (arith, nat_tests) in
+    let count = input_same (x.left c.args.input.now) (x.left c.reads.input) (x.left c.read.new.input) (take c.in_ok-n.n c.read.new.piece) (take_none c.in_ok-n.n c.read.new.piece none) i.count c.in_ok-n.ensures.taken in
+    not_full _ (x.left c.args.input.now) (x.left c.read.new.input) c.reads.total (λ f. absurd (cc)) count i.total
+
+pub returns-in_err-wrong-2-clause-full : goal.returns-in_err-wrong-2-clause-full
+returns-in_err-wrong-2-clause-full g c =
+    let x = g.I.Source in
+    let i = c.reads.invariant in
+    let n = c.in_ok-n.n in
+    let ys = take n c.read.new.piece in
+    let some = length-take-le n c.read.new.piece c.in_ok-n.ensures.within in
+    let count = count_then (x.left c.args.input.now) (x.left c.reads.input) (x.left c.read.new.input) c.reads.total n (c.reads.total + n) refl i.count (record { bytes = ys; taken = c.in_ok-n.ensures.taken; done = some }) in
+    let p = err_from_is_err_and c.from_residual-in_err-wrong-2.result c.from_residual-in_err-wrong-2.ensures.1 in
+    let was = c.in_err-wrong-2.was in
+    let same = p.2 in
+    let is = p.1 in
+    not_full c.from_residual-in_err-wrong-2.result (x.left c.args.input.now) (x.left c.read.new.input) (c.reads.total + n) (λ f. c.take_piece.ensures.causes.not_full (cc)) count c.in_ok-n.ensures.room

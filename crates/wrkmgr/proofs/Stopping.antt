@@ -1,0 +1,191 @@
+-- Laws of a run that stops: what its session called and wrote until then.
+use Rattle.std.proofs.Common.{◌≡◌, ◌⊎◌, ◌↔◌, ℕ, ◌+◌, ◌<◌, ◌≤◌, Bool, true, false, List, [], ◌∷◌, ◌++◌, length, take, drop, get_or, Option, Some, None, Result, Ok, Err, sym, ap, subst, ◌∙◌, refl, inl, inr, append_assoc, arith}
+use Rattle.std.specs.Prelude.{IfSome, IsErrOf, OnErr}
+use Rattle.std.specs.List.{list_all}
+use Rattle.std.proofs.Math.Seq.{take-length, drop-length}
+use Rattle.std.proofs.lemmas.List.{append-nil, take_more, take-append-drop, length-append}
+use Rattle.wm_law.specs.declared.call.Call.{Call}
+use Rattle.wm_law.specs.declared.call.Entry.{Entry}
+use Rattle.wm_law.specs.History.{entries_of}
+use Rattle.wm_outside.specs.Told.{Grows, Takes}
+use Rattle.wm_outside.proofs.Telling.{Grows-none, Takes-none, Takes-then}
+use Rattle.wrkmgr.specs.Calls.{Called}
+use Rattle.wrkmgr.specs.Floor.{entry_at, last_of}
+use Rattle.wrkmgr.specs.LineBuffer.{Holds}
+use Rattle.wrkmgr.specs.Lines.{cut_from, lines_of}
+use Rattle.wrkmgr.specs.Lists.{since, Extends}
+use Rattle.wrkmgr.specs.Monitor.{is_own}
+use Rattle.wrkmgr.specs.Said.{said_text, with_end}
+use Rattle.wrkmgr.specs.Session.{Answers, AnsweredBy, AnswersLine, IsSession, OneCall, Submits, session_pass, start_call, end_call, submit_call}
+use Rattle.wrkmgr.specs.Stopped.{AtMostOne, IsCutShort, IsEnded, IsStopped, StopsIn, StopsInside, Untouched, WritesSome}
+use Rattle.wrkmgr.specs.Taking.{TakesInput, TakesPiece}
+use Rattle.wrkmgr.specs.declared.line.LineBuffer.{LineBuffer}
+use Rattle.wrkmgr.specs.declared.stop.Stop.{Stop}
+use Rattle.wrkmgr.specs.declared.stop.Stop.TheVariants.{InputFull}
+use Rattle.wrkmgr.proofs.Monitors.{Extends-then, last_of-push}
+use Rattle.wrkmgr.proofs.Runs.{session_parts}
+use Rattle.wrkmgr.proofs.Servings.{Extends-called, session_entries-called, session_entries-none, session_entries-own, session_entries-then}
+use Rattle.wrkmgr.proofs.Stops.{StopsIn-none, StopsIn-untouched, StopsIn-whole, stops_front, stops_last, stops_lines, stops_then}
+
+-- what holds anyway holds where an error is answered
+pub on_err : {T E P : Type 0} (r : Result T E) → P → OnErr r P
+on_err (Ok t) p = tt
+on_err (Err e) p = p
+
+-- no byte is in front of a list
+pub take_none : (n : ℕ) (xs : List ℕ) → n ≡ 0 → take n xs ≡ []
+take_none n xs is = ap (λ (k : ℕ). take k xs) is
+
+-- no call was made, and nothing written
+pub Untouched-none : (log : List Entry) (w : Option (List ℕ)) → Untouched (entries_of session_pass (since log log)) w w
+Untouched-none log w = record { none = session_entries-none log; written = Grows-none w }
+
+-- a call that was refused for want of memory leaves it so
+pub Untouched-same : (old new : List Entry) (w : Option (List ℕ)) → new ≡ old → Untouched (entries_of session_pass (since old new)) w w
+Untouched-same old new w is = subst (λ (l : List Entry). Untouched (entries_of session_pass (since old l)) w w) (sym is) (Untouched-none old w)
+
+-- all bytes that were due are some of them
+pub WritesSome-all : (Due : List Entry → List ℕ → Bool → Type 0) (es : List Entry) (a b : Option (List ℕ)) (f : Bool) → AnsweredBy Due es a b f → WritesSome Due es a b
+WritesSome-all Due es a b f h =
+    record { due = h.bytes; faulty = f; answers = h.answers; count = length h.bytes; written = subst (λ (l : List ℕ). Grows a b l) (sym (take-length h.bytes)) h.written }
+
+-- what is said of a call's reply was written in part
+pub submitted_some : (old mid : List Entry) (text name : List ℕ) (c : Call) (before now : Option (List ℕ)) → Called old c mid → c ≡ submit_call text name → IfSome (last_of mid) (λ e. (n : ℕ) × Grows before now (take n (with_end (said_text e.reply)))) → WritesSome (Submits text name) (entries_of session_pass (since old mid)) before now
+submitted_some old mid text name c before now h is said =
+    let e = entry_at old session_pass c h.now in
+    let last : last_of mid ≡ Some e = ap last_of h.entry ∙ last_of-push old e in
+    let says = subst (λ (o : Option Entry). IfSome o (λ x. (n : ℕ) × Grows before now (take n (with_end (said_text x.reply))))) last said in
+    record {
+      due = with_end (said_text e.reply);
+      faulty = _;
+      answers = record { entry = e; only = session_entries-called old mid c h; call = is; says = refl; refused = refl };
+      count = says.0;
+      written = says.1;
+    }
+
+-- a call was made or not, and entries of the monitor follow
+pub no_call : {c : Call} (old new : List Entry) → list_all is_own (since old new) ≡ true → AtMostOne c (entries_of session_pass (since old new))
+no_call old new own = inl (session_entries-own (since old new) own)
+
+-- and a call that was refused for want of memory
+pub no_call_same : {c : Call} (old mid new : List Entry) → new ≡ mid → list_all is_own (since old mid) ≡ true → AtMostOne c (entries_of session_pass (since old new))
+no_call_same old mid new is own = inl (ap (λ (l : List Entry). entries_of session_pass (since old l)) is ∙ session_entries-own (since old mid) own)
+
+-- a session that stopped as it began
+pub stopped_begin : (x w : Option (List ℕ)) (es : List Entry) → AtMostOne start_call es → TakesInput x x (λ bytes. IsStopped (lines_of bytes) es w w)
+stopped_begin x w es (inl none) = record { bytes = []; taken = Takes-none x; done = inl (record { none = none; written = Grows-none w }) }
+stopped_begin x w es (inr start) =
+    record { bytes = []; taken = Takes-none x; done = inr (inl (record { first = es; middle = []; parts = sym (append-nil es); start = start; stops = StopsIn-none (lines_of []) w })) }
+
+-- one that stopped in its lines
+pub stopped_lines : (a b c : List Entry) (x y u v : Option (List ℕ)) → Extends a b → Extends b c → OneCall start_call (entries_of session_pass (since a b)) → TakesInput x y (λ bytes. StopsIn (lines_of bytes) (entries_of session_pass (since b c)) u v) → TakesInput x y (λ bytes. IsStopped (lines_of bytes) (entries_of session_pass (since a c)) u v)
+stopped_lines a b c x y u v ab bc start taken =
+    record {
+      bytes = taken.bytes;
+      taken = taken.taken;
+      done = inr (inl (record { first = entries_of session_pass (since a b); middle = entries_of session_pass (since b c); parts = session_entries-then a b c ab bc; start = start; stops = taken.done }));
+    }
+
+-- one that stopped behind them
+pub stopped_end : (a b c d : List Entry) (x y u v : Option (List ℕ)) (f : Bool) → Extends a b → Extends b c → Extends c d → OneCall start_call (entries_of session_pass (since a b)) → TakesInput x y (λ bytes. AnsweredBy (Answers (lines_of bytes)) (entries_of session_pass (since b c)) u v f) → AtMostOne end_call (entries_of session_pass (since c d)) → TakesInput x y (λ bytes. IsStopped (lines_of bytes) (entries_of session_pass (since a d)) u v)
+stopped_end a b c d x y u v f ab bc cd start taken (inl none) =
+    let more = session_entries-then a b d ab (Extends-then b c d bc cd) in
+    let rest = session_entries-then b c d bc cd ∙ (ap (λ (es : List Entry). entries_of session_pass (since b c) ++ es) none ∙ append-nil _) in
+    record {
+      bytes = taken.bytes;
+      taken = taken.taken;
+      done = inr (inl (record {
+        first = entries_of session_pass (since a b);
+        middle = entries_of session_pass (since b c);
+        parts = more ∙ ap (λ (es : List Entry). entries_of session_pass (since a b) ++ es) rest;
+        start = start;
+        stops = StopsIn-whole (lines_of taken.bytes) (entries_of session_pass (since b c)) u v f taken.done;
+      }));
+    }
+stopped_end a b c d x y u v f ab bc cd start taken (inr end) =
+    let whole = session_parts a b c d x y u v f ab bc cd start taken end in
+    record { bytes = whole.bytes; taken = whole.taken; done = inr (inr (record { faulty = f; session = whole.done })) }
+
+-- a piece was taken up to a byte, and that one ends a line whose answer was cut short
+pub stops_piece : (rest piece : List ℕ) (k : ℕ) (buffer : LineBuffer) (old mid new : List Entry) (u v w : Option (List ℕ)) (f : Bool) → k < length piece → Extends old mid → Extends mid new → TakesPiece (cut_from rest (take k piece)) buffer (entries_of session_pass (since old mid)) u v f → ((r : List ℕ) → Holds buffer r → StopsIn (cut_from r (get_or piece k 0 ∷ [])).lines (entries_of session_pass (since mid new)) v w) → StopsIn (cut_from rest piece).lines (entries_of session_pass (since old new)) u w
+stops_piece rest piece k buffer old mid new u v w f short begun grown h stop =
+    let front = stops_then rest (take k piece) (get_or piece k 0 ∷ []) buffer _ _ u v w f h stop in
+    let same = subst (λ (xs : List ℕ). StopsIn (cut_from rest xs).lines (entries_of session_pass (since old mid) ++ entries_of session_pass (since mid new)) u w) (sym (take_more piece k 0 short)) front in
+    let whole = stops_front rest (take (k + 1) piece) (drop (k + 1) piece) _ u w same in
+    subst (λ (xs : List ℕ). StopsIn (cut_from rest xs).lines (entries_of session_pass (since old new)) u w) (take-append-drop (k + 1) piece)
+    (subst (λ (es : List Entry). StopsIn (cut_from rest (take (k + 1) piece ++ drop (k + 1) piece)).lines es u w) (sym (session_entries-then old mid new begun grown)) whole)
+
+-- a read that gave no byte
+pub input_same : {P : List ℕ → Type 0} (x y z : Option (List ℕ)) (ys : List ℕ) → ys ≡ [] → TakesInput x y P → Takes y ys z → TakesInput x z P
+input_same x y z ys none h more =
+    let whole : h.bytes ++ ys ≡ h.bytes = ap (λ (l : List ℕ). h.bytes ++ l) none ∙ append-nil h.bytes in
+    record { bytes = h.bytes; taken = subst (λ (l : List ℕ). Takes x l z) whole (Takes-then x y z h.bytes ys h.taken more); done = h.done }
+
+-- nothing was read
+pub input_stops_none : (x : Option (List ℕ)) (log : List Entry) (w : Option (List ℕ)) → TakesInput x x (λ bytes. StopsIn (lines_of bytes) (entries_of session_pass (since log log)) w w)
+input_stops_none x log w = record { bytes = []; taken = Takes-none x; done = StopsIn-untouched (lines_of []) (entries_of session_pass (since log log)) w w (Untouched-none log w) }
+
+-- bytes that weren't looked at behind those whose lines were answered
+pub input_stops : (x y z : Option (List ℕ)) (buffer : LineBuffer) (es : List Entry) (u v : Option (List ℕ)) (f : Bool) (ys : List ℕ) → TakesInput x y (λ bytes. TakesPiece (cut_from [] bytes) buffer es u v f) → Takes y ys z → TakesInput x z (λ bytes. StopsIn (lines_of bytes) es u v)
+input_stops x y z buffer es u v f ys h more =
+    let xs = h.bytes in
+    record {
+      bytes = xs ++ ys;
+      taken = Takes-then x y z xs ys h.taken more;
+      done = stops_lines (xs ++ ys) es u v (stops_front [] xs ys es u v (StopsIn-whole (cut_from [] xs).lines es u v f h.done.answered));
+    }
+
+-- a piece behind them in whose lines it stopped
+pub input_stops_in : (x y z : Option (List ℕ)) (buffer : LineBuffer) (old mid new : List Entry) (u v w : Option (List ℕ)) (f : Bool) (ys : List ℕ) → Extends old mid → Extends mid new → TakesInput x y (λ bytes. TakesPiece (cut_from [] bytes) buffer (entries_of session_pass (since old mid)) u v f) → Takes y ys z → ((rest : List ℕ) → Holds buffer rest → StopsIn (cut_from rest ys).lines (entries_of session_pass (since mid new)) v w) → TakesInput x z (λ bytes. StopsIn (lines_of bytes) (entries_of session_pass (since old new)) u w)
+input_stops_in x y z buffer old mid new u v w f ys begun grown h more k =
+    let xs = h.bytes in
+    record {
+      bytes = xs ++ ys;
+      taken = Takes-then x y z xs ys h.taken more;
+      done = subst (λ (es : List Entry). StopsIn (lines_of (xs ++ ys)) es u w) (sym (session_entries-then old mid new begun grown))
+          (stops_lines (xs ++ ys) _ u w (stops_then [] xs ys buffer _ _ u v w f h.done k));
+    }
+
+-- the last line's answer was cut short
+pub input_stops_last : (x y : Option (List ℕ)) (buffer : LineBuffer) (old mid new : List Entry) (u v w : Option (List ℕ)) (f : Bool) → Extends old mid → Extends mid new → TakesInput x y (λ bytes. TakesPiece (cut_from [] bytes) buffer (entries_of session_pass (since old mid)) u v f) → ((rest : List ℕ) → Holds buffer rest → IsCutShort (AnswersLine rest) (entries_of session_pass (since mid new)) v w) → TakesInput x y (λ bytes. StopsIn (lines_of bytes) (entries_of session_pass (since old new)) u w)
+input_stops_last x y buffer old mid new u v w f begun grown h k =
+    record {
+      bytes = h.bytes;
+      taken = h.taken;
+      done = subst (λ (es : List Entry). StopsIn (lines_of h.bytes) es u w) (sym (session_entries-then old mid new begun grown))
+          (stops_last h.bytes buffer _ _ u v w f h.done k);
+    }
+
+-- no more input was taken than a run takes
+pub not_full : {T : Type 0} (r : Result T Stop) (x y : Option (List ℕ)) (n : ℕ) → (IsErrOf r InputFull → ⊥) → TakesInput x y (λ bytes. length bytes ≡ n) → n ≤ 1000000000 → TakesInput x y (λ bytes. IsErrOf r InputFull ↔ (1000000000 < length bytes))
+not_full r x y n never h few =
+    record { bytes = h.bytes; taken = h.taken; done = ((λ f. absurd (never f)), (λ more. let d = h.done in absurd (omega arith))) }
+
+-- nothing was taken
+pub not_full_none : {T : Type 0} (r : Result T Stop) (x : Option (List ℕ)) → (IsErrOf r InputFull → ⊥) → TakesInput x x (λ bytes. IsErrOf r InputFull ↔ (1000000000 < length bytes))
+not_full_none r x never = record { bytes = []; taken = Takes-none x; done = ((λ f. absurd (never f)), (λ more. absurd (omega arith))) }
+
+-- the same of an error that is passed on
+pub full_pass : {T U : Type 0} (r : Result T Stop) (q : Result U Stop) (e d : Stop) (x y : Option (List ℕ)) → r ≡ Err e → q ≡ Err d → d ≡ e → TakesInput x y (λ bytes. IsErrOf r InputFull ↔ (1000000000 < length bytes)) → TakesInput x y (λ bytes. IsErrOf q InputFull ↔ (1000000000 < length bytes))
+full_pass r q e d x y was is same h =
+    let to = h.done in
+    record { bytes = h.bytes; taken = h.taken; done = ((λ f. to.0 (cc)), (λ more. let g = to.1 more in cc)) }
+
+-- a read behind so many bytes
+pub full_read : {T U : Type 0} (r : Result T Stop) (q : Result U Stop) (e d : Stop) (x y z : Option (List ℕ)) (n : ℕ) → r ≡ Err e → q ≡ Err d → d ≡ e → TakesInput x y (λ bytes. length bytes ≡ n) → TakesInput y z (λ bytes. IsErrOf r InputFull ↔ (1000000000 < n + length bytes)) → TakesInput x z (λ bytes. IsErrOf q InputFull ↔ (1000000000 < length bytes))
+full_read r q e d x y z n was is same h k =
+    let xs = h.bytes in
+    let ys = k.bytes in
+    let to = k.done in
+    let len = length-append xs ys in
+    record {
+      bytes = xs ++ ys;
+      taken = Takes-then x y z xs ys h.taken k.taken;
+      done = ((λ f. let g = to.0 (cc) in let b = h.done in omega arith), (λ more. let b = h.done in let g = to.1 (omega arith) in cc));
+    }
+
+-- nor does anything else that ends the run behind the input
+pub full_later : {T U : Type 0} (r : Result T Stop) (q : Result U Stop) (t : T) (x y : Option (List ℕ)) → r ≡ Ok t → (IsErrOf q InputFull → ⊥) → TakesInput x y (λ bytes. IsErrOf r InputFull ↔ (1000000000 < length bytes)) → TakesInput x y (λ bytes. IsErrOf q InputFull ↔ (1000000000 < length bytes))
+full_later r q t x y is never h =
+    let to = h.done in
+    record { bytes = h.bytes; taken = h.taken; done = ((λ f. absurd (never f)), (λ more. let g = to.1 more in absurd (cc))) }
