@@ -1,6 +1,7 @@
 -- The next job is the first of its subsystem, and without one no job may start.
 use Rattle.std.proofs.Common.{◌≡◌, Bool, true, false, cond, Option, Some, None, refl, sym, ap, subst, ◌∙◌, inl, inr}
-use Rattle.std.specs.Ordering.{is_gt}
+use Rattle.std.specs.Ordering.{nat_cmp, is_lt, is_gt}
+use Rattle.std.specs.Cmp.Lexicographic.{slice_cmp}
 use Rattle.wm_base.specs.declared.qname.QName.{QName}
 use Rattle.wm_law.specs.declared.choice.Candidate.{Candidate}
 use Rattle.wm_law.specs.declared.choice.Rank.{Rank}
@@ -9,11 +10,11 @@ use Rattle.wm_law.specs.declared.objects.QueueEntry.{QueueEntry}
 use Rattle.wm_law.specs.declared.objects.Sbsd.{Sbsd}
 use Rattle.wm_law.specs.declared.state.Sbs.{Sbs}
 use Rattle.wm_law.specs.declared.state.State.{State}
-use Rattle.wm_law.specs.Choice.{candidate, candidate_from, candidate_described, candidate_held, candidate_queued, entry_for, holder, is_allowed, is_ready, rank_cmp}
+use Rattle.wm_law.specs.Choice.{candidate, candidate_from, candidate_described, candidate_held, candidate_queued, entry_for, holder, is_allowed, is_ready, next, rank_cmp}
 use Rattle.wm_law.specs.Laws.{IsIn, Turn, MayStart, IsBefore, NextIsFirst, NoNextIsNone, SettledLeavesNone}
 use Rattle.wm_law.specs.Machine.{settle}
 use Rattle.wm_law.specs.Names.{described}
-use Rattle.wm_law.proofs.Ranks.{least_of_jobs, none_of_jobs, not_before}
+use Rattle.wm_law.proofs.Ranks.{least_of_jobs, none_of_jobs, not_before, not_earlier}
 use Rattle.wm_law.proofs.Settling.{IsFrom, from_some, guarded, settled_has_no_next}
 
 abbrev rank_of : Job → Turn → Rank
@@ -61,22 +62,30 @@ may_start s j c e =
     let g = guarded (is_ready s j) (candidate_queued s j j.jobq) c e in
     by_queue s j j.jobq c g.0 refl g.1
 
+-- the next job's rank is behind that of no job that may start
+ranked_first : (s : State) (c : Candidate) → next s ≡ Some c → (j : Job) (t : Turn) → c ≡ candidate_of j t → (k : Job) (u : Turn) → IsIn k s.jobs → MayStart s k u → is_gt (rank_cmp (rank_of j t) (rank_of k u)) ≡ false
+ranked_first s c e j t same k u i m =
+    subst
+    (λ (x : Candidate). is_gt (rank_cmp x.rank (rank_of k u)) ≡ false)
+    same
+    (least_of_jobs s s.jobs None c e k (candidate_of k u) i (is_candidate s k u m))
+
 pub next_is_first : NextIsFirst
 next_is_first s c e =
     let from : IsFrom s s.jobs c = elim (from_some s s.jobs None c e) as (λ _. IsFrom s s.jobs c) [ inl h ↦ absurd (cc) | inr k ↦ k ] in
     let j = from.0 in
     let starts = may_start s j c from.2 in
     let t = starts.0 in
-    let none : (k : Job) (u : Turn) → IsIn k s.jobs → MayStart s k u → u.sbs.sbsd ≡ t.sbs.sbsd → IsBefore u.entry k t.entry j → ⊥ =
-    (λ k u i m same before.
-    let least = least_of_jobs s s.jobs None c e k (candidate_of k u) i (is_candidate s k u m) in
-    let ranks = subst (λ (x : Candidate). is_gt (rank_cmp x.rank (rank_of k u)) ≡ false) starts.2 least in
-    not_before t.sbs.sbsd.name u.sbs.sbsd.name (ap (λ (q : QName). q.name) same) t.entry.seq j.pty j.place u.entry.seq k.pty k.place ranks before) in (
+    let none_before : (k : Job) (u : Turn) → IsIn k s.jobs → MayStart s k u → u.sbs.sbsd ≡ t.sbs.sbsd → IsBefore u.entry k t.entry j → ⊥ =
+    (λ k u i m same before. not_before t.sbs.sbsd.name u.sbs.sbsd.name (ap (λ (q : QName). q.name) same) t.entry.seq j.pty j.place u.entry.seq k.pty k.place (ranked_first s c e j t starts.2 k u i m) before) in
+    let none_earlier : (k : Job) (u : Turn) → IsIn k s.jobs → MayStart s k u → is_lt (slice_cmp nat_cmp u.sbs.sbsd.name t.sbs.sbsd.name) ≡ true → ⊥ =
+    (λ k u i m less. not_earlier t.sbs.sbsd.name u.sbs.sbsd.name t.entry.seq j.pty j.place u.entry.seq k.pty k.place (ranked_first s c e j t starts.2 k u i m) less) in (
       j,
       (
         t,
         (
-          record { job = from.1; may = starts.1; none_before = none },
+          record { job = from.1; may = starts.1; none_before = none_before },
+          record { none_earlier = none_earlier },
           record {
             serial = ap (λ (x : Candidate). x.serial) starts.2;
             sbs = ap (λ (x : Candidate). x.sbs) starts.2;

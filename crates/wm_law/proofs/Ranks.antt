@@ -1,7 +1,7 @@
 -- The order of candidates is total, and the next one is its least.
 use Rattle.std.proofs.Common.{◌≡◌, ℕ, ◌<◌, ◌⊎◌, Bool, true, false, cond, List, [], ◌∷◌, Option, Some, None, refl, sym, ap, subst, ◌∙◌, inl, inr, arith}
 use Rattle.std.specs.List.{fold}
-use Rattle.std.specs.Ordering.{is_lt, is_gt, nat_cmp, ordering_reverse}
+use Rattle.std.specs.Ordering.{is_lt, is_gt, nat_cmp, ordering_then, ordering_reverse}
 use Rattle.std.specs.Cmp.{IsTotalOrder}
 use Rattle.std.specs.Cmp.Lexicographic.{slice_cmp}
 use Rattle.std.specs.declared.cmp.Ordering.{Ordering}
@@ -122,4 +122,17 @@ not_before n m same a b c d e f h (inr (inr less)) =
     let second = level a d less.0 in
     let third = level b e less.1 in
     let fourth = greater c f (nat_cmp c f) refl less.2 in
+    absurd (cc)
+
+of_less : (o p : Ordering) → is_lt o ≡ true → is_gt (ordering_then (ordering_reverse o) p) ≡ true
+of_less Less p e = refl
+of_less Equal p e = absurd (cc)
+of_less Greater p e = absurd (cc)
+
+-- the rank of a job of a subsystem whose name comes before is less
+pub not_earlier : (n m : List ℕ) (a b c d e f : ℕ) → is_gt (rank_cmp (record { sbs = n; seq = a; pty = b; place = c }) (record { sbs = m; seq = d; pty = e; place = f })) ≡ false → is_lt (slice_cmp nat_cmp m n) ≡ true → ⊥
+not_earlier n m a b c d e f h less =
+    let rest = ordering_then (nat_cmp a d) (ordering_then (nat_cmp b e) (nat_cmp c f)) in
+    let turned = ap (λ (o : Ordering). is_gt (ordering_then o rest)) (nat_list_cmp_total.antisymm n m) in
+    let greater = of_less (slice_cmp nat_cmp m n) rest less in
     absurd (cc)

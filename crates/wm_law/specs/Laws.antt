@@ -1,6 +1,8 @@
 -- Laws of the machine: what its definitions come to.
 use Rattle.std.specs.Prelude.{◌≡◌, ℕ, ◌<◌, ◌⊎◌, true, false, ◌==◌, List, [], ◌∷◌, Some, None}
 use Rattle.std.specs.List.{list_any}
+use Rattle.std.specs.Ordering.{nat_cmp, is_lt}
+use Rattle.std.specs.Cmp.Lexicographic.{slice_cmp}
 use Rattle.wm_base.specs.declared.qname.QName.{QName}
 use Rattle.wm_base.specs.declared.refusal.Refusal.{Refusal}
 use Rattle.wm_law.specs.declared.call.Call.{Call}
@@ -49,15 +51,19 @@ pub record IsFirst (s : State) (j : Job) (t : Turn) : Type 0 where
   pub may : MayStart s j t
   pub none_before : (k : Job) (u : Turn) → IsIn k s.jobs → MayStart s k u → u.sbs.sbsd ≡ t.sbs.sbsd → IsBefore u.entry k t.entry j → ⊥
 
+-- no job may start in a subsystem whose simple name comes before
+pub record IsOfLeast (s : State) (t : Turn) : Type 0 where
+  pub none_earlier : (k : Job) (u : Turn) → IsIn k s.jobs → MayStart s k u → is_lt (slice_cmp nat_cmp u.sbs.sbsd.name t.sbs.sbsd.name) ≡ true → ⊥
+
 -- what is named to start next is a first job, by its serial, its subsystem and its queue
 pub record IsNamed (c : Candidate) (j : Job) (t : Turn) : Type 0 where
   pub serial : c.serial ≡ j.serial
   pub sbs : c.sbs ≡ t.sbs.sbsd
   pub jobq : c.jobq ≡ t.entry.jobq
 
--- the next job is the first of its subsystem
+-- the next job is the first of its subsystem, and no subsystem with a job that may start comes before that one
 abbrev pub NextIsFirst : Type 0
-NextIsFirst = (s : State) (c : Candidate) → next s ≡ Some c → (j : Job) × ((t : Turn) × (IsFirst s j t × IsNamed c j t))
+NextIsFirst = (s : State) (c : Candidate) → next s ≡ Some c → (j : Job) × ((t : Turn) × (IsFirst s j t × IsOfLeast s t × IsNamed c j t))
 
 -- where there is no next job, no job may start
 abbrev pub NoNextIsNone : Type 0

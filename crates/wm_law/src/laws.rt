@@ -3,7 +3,8 @@ ghost use Rattle.wm_law.specs.Laws.{NextIsFirst, NoNextIsNone, SettledHasNoNext,
 ghost use Rattle.wm_law.specs.Kept.{OpeningIsNumbered, StepKeepsNumbers, NumbersAreGivenOnce, StepGoesOn, StartsOnce, SerialsStartOnce};
 
 /// The next job is the first of its subsystem: it may start, and no other job there that may start
-/// stands before it. Where there is no next job, no job may start.
+/// stands before it. No job may start in a subsystem whose simple name comes before. Where there is
+/// no next job, no job may start.
 #[tactic(auto, using(crate::proofs::Firsts::next_is_first, crate::proofs::Firsts::no_next_is_none))]
 pub fn next_job_is_first()
     ensures first { NextIsFirst }
