@@ -62,14 +62,17 @@ only_one (k ∷ jobs) d i j (inl a) (inr n) e = absurd (d.0 (subst (λ (x : ℕ)
 only_one (k ∷ jobs) d i j (inr m) (inl b) e = absurd (d.0 (subst (λ (x : ℕ). IsIn x (map (λ (j : Job). j.serial) jobs)) (e ∙ ap (λ (x : Job). x.serial) b) (key_in (λ j. j.serial) jobs i m)))
 only_one (k ∷ jobs) d i j (inr m) (inr n) e = only_one jobs d.1 i j m n e
 
-found_by : (p : Job → Bool) (k : Job) (jobs : List Job) (t : Bool) → p k ≡ t → (j : Job) → cond t (Some k) (find p jobs) ≡ Some j → ((find p jobs ≡ Some j) → IsIn j jobs × (p j ≡ true)) → IsIn j (k ∷ jobs) × (p j ≡ true)
-found_by p k jobs true e j h rest = let same : k ≡ j = cc in (inl (sym same), subst (λ (x : Job). p x ≡ true) same e)
-found_by p k jobs false e j h rest = let r = rest h in (inr r.0, r.1)
+found_by : {X : Type 0} (p : X → Bool) (y : X) (ys : List X) (t : Bool) → p y ≡ t → (x : X) → cond t (Some y) (find p ys) ≡ Some x → ((find p ys ≡ Some x) → IsIn x ys × (p x ≡ true)) → IsIn x (y ∷ ys) × (p x ≡ true)
+found_by p y ys true e x h rest = let same : y ≡ x = cc in (inl (sym same), subst (λ z. p z ≡ true) same e)
+found_by p y ys false e x h rest = let r = rest h in (inr r.0, r.1)
 
 -- what is found stands in the list, and passes the test
+pub found_among : {X : Type 0} (p : X → Bool) (xs : List X) (x : X) → find p xs ≡ Some x → IsIn x xs × (p x ≡ true)
+found_among p [] x h = absurd (cc)
+found_among p (y ∷ ys) x h = found_by p y ys (p y) refl x h (found_among p ys x)
+
 pub found_in : (p : Job → Bool) (jobs : List Job) (j : Job) → find p jobs ≡ Some j → IsIn j jobs × (p j ≡ true)
-found_in p [] j h = absurd (cc)
-found_in p (k ∷ jobs) j h = found_by p k jobs (p k) refl j h (found_in p jobs j)
+found_in p jobs j h = found_among p jobs j h
 
 pub same_number : (a b : ℕ) → (a == b) ≡ true → a ≡ b
 same_number a b h = grind (arith, nat_tests)

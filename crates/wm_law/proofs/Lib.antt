@@ -8,3 +8,6 @@ pub mod Firsts
 pub mod Numbers
 pub mod Forward
 pub mod Starts
+pub mod Moves
+pub mod Orders
+pub mod Started

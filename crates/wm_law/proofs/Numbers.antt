@@ -1,35 +1,26 @@
 -- Each step keeps serials, numbers and places given once.
-use Rattle.std.proofs.Common.{◌≡◌, ℕ, ◌+◌, ◌<◌, ◌==◌, ◌++◌, ◌&&◌, not, Bool, true, false, cond, List, [], ◌∷◌, map, Option, Some, None, refl, sym, ap, subst, inl, inr, nat_lt, nat_le, arith}
+use Rattle.std.proofs.Common.{◌≡◌, ℕ, ◌+◌, ◌<◌, ◌==◌, ◌++◌, ◌&&◌, Bool, true, false, cond, List, [], ◌∷◌, map, Option, Some, None, refl, sym, ap, subst, inl, inr, nat_lt, nat_le, arith}
 use Rattle.std.specs.List.{find}
 use Rattle.std.proofs.lemmas.Bool.Decides.{nat_tests}
-use Rattle.wm_base.specs.declared.job.StartOrder.{StartOrder}
-use Rattle.wm_base.specs.declared.qname.QName.{QName}
-use Rattle.wm_base.specs.declared.refusal.Refusal.{Refusal}
 use Rattle.wm_base.specs.Iterate.{IsKept}
-use Rattle.wm_base.proofs.Iterate.{iterate-keeps}
 use Rattle.wm_law.specs.declared.call.Call.{Call}
-use Rattle.wm_law.specs.declared.call.Call.TheVariants.{Change, Hand, Started, StartFailed, Finished, UseDone, Tick}
-use Rattle.wm_law.specs.declared.call.Command.{Command}
-use Rattle.wm_law.specs.declared.call.Command.TheVariants as command
 use Rattle.wm_law.specs.declared.call.Entry.{Entry}
 use Rattle.wm_law.specs.declared.call.Sbmjob.{Sbmjob}
 use Rattle.wm_law.specs.declared.choice.Candidate.{Candidate}
 use Rattle.wm_law.specs.declared.job.Job.{Job}
 use Rattle.wm_law.specs.declared.job.Phase.{Phase}
-use Rattle.wm_law.specs.declared.job.Phase.TheVariants.{Handed}
 use Rattle.wm_law.specs.declared.launch.Launched.{Launched}
 use Rattle.wm_law.specs.declared.objects.Jobd.{Jobd}
 use Rattle.wm_law.specs.declared.state.State.{State}
 use Rattle.wm_law.specs.Choice.{next}
-use Rattle.wm_law.specs.Counts.{is_starting}
 use Rattle.wm_law.specs.Fit.{IsBetween}
-use Rattle.wm_law.specs.History.{after, stepped}
+use Rattle.wm_law.specs.History.{after}
 use Rattle.wm_law.specs.Kept.{IsDistinct, IsBelow, IsGiven, IsNumbered, OpeningIsNumbered, StepKeepsNumbers, NumbersAreGivenOnce}
-use Rattle.wm_law.specs.Launch.{order_of, launch, launch_job, launched, launched_at, with_launched}
+use Rattle.wm_law.specs.Launch.{launch, launch_job, launched, launched_at, with_launched}
 use Rattle.wm_law.specs.Laws.{IsIn}
-use Rattle.wm_law.specs.Machine.{Stepped, apply, step, settle, leave, waiting, with_clock, with_phase, phased_at, start_refusal, start_unless, submit_refusal, submit_unless, submit_with, submitted_job, entered, has_numbers, numbers_end, serials_end, is_on, is_down_now, change, hand_job, hand_order, report_on, is_handed_to, is_run_by, done_with}
-use Rattle.wm_law.specs.Names.{described}
+use Rattle.wm_law.specs.Machine.{apply, leave, with_clock, with_phase, phased_at, submitted_job, entered, has_numbers, numbers_end, serials_end}
 use Rattle.wm_law.specs.Opening.{opening}
+use Rattle.wm_law.proofs.Moves.{HoldsAfterCalls, IsKeptByParts, call_keeps, step_keeps, after_keeps}
 
 -- the same serials, numbers and places, and the same next ones
 pub record SameNumbers (s t : State) : Type 0 where
@@ -56,9 +47,9 @@ numbered_same s t e h = record {
   next_place = between_same _ _ _ _ e.next_place h.next_place;
 }
 
-map_same : {A : Type 0} (key : Job → A) (f : Job → Job) → ((j : Job) → key (f j) ≡ key j) → (jobs : List Job) → map key (map f jobs) ≡ map key jobs
+pub map_same : {X A : Type 0} (key : X → A) (f : X → X) → ((x : X) → key (f x) ≡ key x) → (xs : List X) → map key (map f xs) ≡ map key xs
 map_same key f h [] = refl
-map_same key f h (j ∷ jobs) = cc (h j, map_same key f h jobs)
+map_same key f h (x ∷ xs) = cc (h x, map_same key f h xs)
 
 at_phase : {A : Type 0} (key : Job → A) (t : Bool) (j : Job) (phase : Phase) → key (record j { phase = phase }) ≡ key j → key (cond t (record j { phase = phase }) j) ≡ key j
 at_phase key true j phase h = h
@@ -97,9 +88,6 @@ launches_keep = record { by_step = λ s c e h. launch_keeps s c (find (λ j. j.s
 
 pub only_started : (s : State) → IsNumbered s → IsNumbered (leave s)
 only_started s h = numbered_same s (leave s) (record { serials = refl; numbers = refl; places = refl; next_number = refl; next_serial = refl; next_place = refl }) h
-
-pub settle_keeps : (s : State) → IsNumbered s → IsNumbered (settle s)
-settle_keeps s h = iterate-keeps IsNumbered launches_keep (waiting (leave s)) (leave s) (only_started s h)
 
 below_more : (n : ℕ) (xs : List ℕ) → IsBelow n xs → IsBelow (n + 1) (xs ++ n ∷ [])
 below_more n [] h = (omega arith, tt)
@@ -151,76 +139,29 @@ entered_keeps s user c d has h =
       next_place = record { least = omega arith; most = omega arith };
     }
 
--- the state after is numbered
-abbrev Keeps : Stepped → Type 0
-Keeps t = IsNumbered t.state
-
-either : (b : Bool) (t u : Stepped) → Keeps t → Keeps u → Keeps (cond b t u)
-either true t u h k = h
-either false t u h k = k
-
-unrefused : (t : Bool) (x : Refusal) (o : Option Refusal) → cond t (Some x) o ≡ None → (t ≡ false) × (o ≡ None)
-unrefused true x o e = absurd (cc)
-unrefused false x o e = (refl, e)
-
-of_not : (b : Bool) → not b ≡ false → b ≡ true
-of_not true e = refl
-of_not false e = absurd (cc)
-
-start : (s : State) (q : QName) (o : Option Refusal) → IsNumbered s → Keeps (start_unless s q o)
-start s q None h = numbered_same s (start_unless s q None).state (record { serials = refl; numbers = refl; places = refl; next_number = refl; next_serial = refl; next_place = refl }) h
-start s q (Some y) h = h
-
-submitted : (s : State) (user : List ℕ) (c : Sbmjob) (d : Jobd) (o : Option Refusal) → submit_refusal s c d ≡ o → IsNumbered s → Keeps (submit_unless s user c d o)
-submitted s user c d None e h =
-    let rest = (unrefused _ _ _ e).1 in
-    entered_keeps s user c d (of_not (has_numbers s) (unrefused _ _ _ rest).0) h
-submitted s user c d (Some y) e h = h
-
-submitted_with : (s : State) (user : List ℕ) (c : Sbmjob) (d : Option Jobd) → IsNumbered s → Keeps (submit_with s user c d)
-submitted_with s user c None h = h
-submitted_with s user c (Some d) h = submitted s user c d (submit_refusal s c d) refl h
-
-changed : (s : State) (user : List ℕ) (c : Command) → IsNumbered s → Keeps (change s user c)
-changed s user (command.Strsbs c) h = start s c.sbsd (start_refusal s c.sbsd) h
-changed s user (command.Sbmjob c) h = either (is_on s.power) _ _ (submitted_with s user c (described c.jobd s.objects.jobds) h) h
-changed s user (command.Pwrdwnsys c) h = either (is_down_now s.power) _ _ h (numbered_same s _ (record { serials = refl; numbers = refl; places = refl; next_number = refl; next_serial = refl; next_place = refl }) h)
-
-ordered : (s : State) (m : ℕ) (j : Job) (o : Option StartOrder) → IsNumbered s → Keeps (hand_order s m j o)
-ordered s m j None h = h
-ordered s m j (Some o) h = numbered_same s _ (phase_same s j.serial (Handed m)) h
-
-handed : (s : State) (m : ℕ) (o : Option Job) → IsNumbered s → Keeps (hand_job s m o)
-handed s m None h = h
-handed s m (Some j) h = ordered s m j (order_of s j) h
-
-reported : (s : State) (serial : ℕ) (test : Phase → Bool) (phase : Phase) (o : Option Job) → IsNumbered s → Keeps (report_on s serial test phase o)
-reported s serial test phase None h = h
-reported s serial test phase (Some j) h = either (test j.phase) _ _ (numbered_same s _ (phase_same s serial phase) h) h
-
-done : (s : State) (m : ℕ) (o : Option Job) → IsNumbered s → Keeps (done_with s m o)
-done s m None h = h
-done s m (Some j) h = either (is_run_by m j.phase) _ _ h h
+calls : (s : State) → IsNumbered s → HoldsAfterCalls IsNumbered s
+calls s h = record {
+  stays = h;
+  starts = λ q e. numbered_same s _ (record { serials = refl; numbers = refl; places = refl; next_number = refl; next_serial = refl; next_place = refl }) h;
+  enters = λ user c d has. entered_keeps s user c d has h;
+  moves = λ serial phase e. numbered_same s _ (phase_same s serial phase) h;
+  powers = numbered_same s _ (record { serials = refl; numbers = refl; places = refl; next_number = refl; next_serial = refl; next_place = refl }) h;
+}
 
 pub apply_keeps : (s : State) (caller : ℕ) (call : Call) → IsNumbered s → IsNumbered (apply s caller call).state
-apply_keeps s caller (Change user c) h = changed s user c h
-apply_keeps s caller Hand h = handed s caller (find (λ j. is_starting j.phase) s.jobs) h
-apply_keeps s caller (Started serial) h = reported s serial (is_handed_to caller) _ (find (λ j. j.serial == serial) s.jobs) h
-apply_keeps s caller (StartFailed serial why) h = reported s serial (is_handed_to caller) _ (find (λ j. j.serial == serial) s.jobs) h
-apply_keeps s caller (Finished serial end) h = reported s serial (is_run_by caller) _ (find (λ j. j.serial == serial) s.jobs) h
-apply_keeps s caller (UseDone serial) h = done s caller (find (λ j. j.serial == serial) s.jobs) h
-apply_keeps s caller Tick h = h
+apply_keeps s caller call h = call_keeps IsNumbered s caller call (calls s h)
 
 pub clock_keeps : (s : State) (moment : ℕ) → IsNumbered s → IsNumbered (with_clock s moment)
 clock_keeps s moment h = numbered_same s _ (record { serials = refl; numbers = refl; places = refl; next_number = refl; next_serial = refl; next_place = refl }) h
 
+parts : IsKeptByParts IsNumbered
+parts = record { clock = clock_keeps; calls = calls; leaves = only_started; launches = launches_keep }
+
 pub step_keeps_numbers : StepKeepsNumbers
-unfolding step
-step_keeps_numbers s caller call moment h = settle_keeps _ (apply_keeps (with_clock s moment) caller call (clock_keeps s moment h))
+step_keeps_numbers s caller call moment h = step_keeps IsNumbered parts s caller call moment h
 
 pub after_is_numbered : (s : State) (h : List Entry) → IsNumbered s → IsNumbered (after s h)
-after_is_numbered s [] h = h
-after_is_numbered s (e ∷ es) h = after_is_numbered (stepped s e).state es (step_keeps_numbers s e.caller e.call e.moment h)
+after_is_numbered s h n = after_keeps IsNumbered parts s h n
 
 pub opening_is_numbered : OpeningIsNumbered
 unfolding opening

@@ -1,26 +1,34 @@
--- What every step keeps: numbers that are given once, and jobs that only go forward.
-use Rattle.std.specs.Prelude.{◌≡◌, ℕ, ◌<◌, ◌≤◌, List, [], ◌∷◌, map, ⊤}
+-- What every step keeps: numbers that are given once, jobs that only go forward, orders of the jobs that are Starting, and
+-- names of started subsystems that are distinct.
+use Rattle.std.specs.Prelude.{◌≡◌, ◌↔◌, ℕ, ◌<◌, ◌≤◌, List, [], ◌∷◌, map, ⊤, Option, Some, None}
 use Rattle.std.specs.List.{filter_map}
-use Rattle.std.specs.Option.{option_and_then}
-use Rattle.std.specs.Prelude.{Option, Some, None}
+use Rattle.std.specs.Option.{IsSome, option_and_then}
 use Rattle.wm_base.specs.declared.job.Asked.{Asked}
 use Rattle.wm_base.specs.declared.job.Asked.TheVariants.{Start, Kill}
+use Rattle.wm_base.specs.declared.qname.QName.{QName}
 use Rattle.wm_law.specs.declared.call.Call.{Call}
+use Rattle.wm_law.specs.declared.call.Call.TheVariants.{Hand}
 use Rattle.wm_law.specs.declared.call.Entry.{Entry}
+use Rattle.wm_law.specs.declared.call.Reply.TheVariants.{Nothing}
 use Rattle.wm_law.specs.declared.job.Job.{Job}
 use Rattle.wm_law.specs.declared.job.Phase.{Phase}
 use Rattle.wm_law.specs.declared.job.Phase.TheVariants.{Waiting, Starting, Handed, Running, Ended}
+use Rattle.wm_law.specs.declared.objects.RouteEntry.{RouteEntry}
+use Rattle.wm_law.specs.declared.objects.Sbsd.{Sbsd}
 use Rattle.wm_law.specs.declared.state.State.{State}
 use Rattle.wm_law.specs.Fit.{IsBetween}
 use Rattle.wm_law.specs.History.{IsLegal, after, order_in}
+use Rattle.wm_law.specs.Launch.{entry_numbered, order_of}
 use Rattle.wm_law.specs.Laws.{IsIn}
 use Rattle.wm_law.specs.Machine.{numbers_end, serials_end, step}
+use Rattle.wm_law.specs.Names.{described}
 use Rattle.wm_law.specs.Opening.{opening}
+use Rattle.wm_law.specs.Pending.{starting}
 
--- no number stands twice
-abbrev pub IsDistinct : List ℕ → Type 0
+-- no element stands twice
+abbrev pub IsDistinct : {X : Type 0} → List X → Type 0
 IsDistinct [] = ⊤
-IsDistinct (n ∷ ns) = (IsIn n ns → ⊥) × IsDistinct ns
+IsDistinct (x ∷ xs) = (IsIn x xs → ⊥) × IsDistinct xs
 
 -- each number is below the bound
 abbrev pub IsBelow : ℕ → List ℕ → Type 0
@@ -40,6 +48,24 @@ pub record IsNumbered (s : State) : Type 0 where
   pub next_number : IsBetween 1 numbers_end s.next_number
   pub next_serial : IsBetween 1 serials_end s.next_serial
   pub next_place : IsBetween 1 serials_end s.next_place
+
+-- each routing entry of a description is the one of its number there, and its class is an object
+pub record IsRouted (s : State) : Type 0 where
+  pub numbers : (sbs : QName) (d : Sbsd) (e : RouteEntry) → described sbs s.objects.sbsds ≡ Some d → IsIn e d.routes → entry_numbered e.seq d ≡ Some e
+  pub classes : (sbs : QName) (d : Sbsd) (e : RouteEntry) → described sbs s.objects.sbsds ≡ Some d → IsIn e d.routes → IsSome (described e.cls s.objects.classes)
+
+-- each Starting job has its order: its routing entry, the program that this calls and the class are there
+pub record HasOrders (s : State) : Type 0 where
+  pub routed : IsRouted s
+  pub starting : (j : Job) → IsIn j s.jobs → j.phase ≡ Starting → IsSome (order_of s j)
+
+-- the simple names of the started subsystems
+abbrev pub started_names : State → List (List ℕ)
+started_names s = map (λ b. b.sbsd.name) s.started
+
+-- no two started subsystems have one simple name
+abbrev pub HasDistinctNames : State → Type 0
+HasDistinctNames s = IsDistinct (started_names s)
 
 -- the phases in their order
 abbrev pub phase_rank : Phase → ℕ
@@ -95,3 +121,31 @@ StartsOnce = (s : State) (h : List Entry) → IsNumbered s → IsLegal s h → I
 -- and so from the opening state
 abbrev pub SerialsStartOnce : Type 0
 SerialsStartOnce = (h : List Entry) → IsLegal opening h → IsDistinct (starts h)
+
+-- each Starting job of the opening state has its order
+abbrev pub OpeningHasOrders : Type 0
+OpeningHasOrders = HasOrders opening
+
+-- every step leaves each Starting job its order
+abbrev pub StepKeepsOrders : Type 0
+StepKeepsOrders = (s : State) (caller : ℕ) (call : Call) (moment : ℕ) → IsNumbered s → HasOrders s → HasOrders (step s caller call moment).state
+
+-- whatever was called, each Starting job has its order
+abbrev pub StartingJobsHaveOrders : Type 0
+StartingJobsHaveOrders = (h : List Entry) → HasOrders (after opening h)
+
+-- whatever was called, a Hand answers Nothing exactly where no job is Starting
+abbrev pub HandGivesAnOrder : Type 0
+HandGivesAnOrder = (h : List Entry) (caller moment : ℕ) → (step (after opening h) caller Hand moment).reply ≡ Nothing ↔ starting (after opening h) ≡ 0
+
+-- no subsystem is started in the opening state
+abbrev pub OpeningHasDistinctNames : Type 0
+OpeningHasDistinctNames = HasDistinctNames opening
+
+-- every step keeps the simple names of the started subsystems distinct
+abbrev pub StepKeepsNamesDistinct : Type 0
+StepKeepsNamesDistinct = (s : State) (caller : ℕ) (call : Call) (moment : ℕ) → HasDistinctNames s → HasDistinctNames (step s caller call moment).state
+
+-- whatever was called, no two started subsystems have one simple name
+abbrev pub StartedNamesAreDistinct : Type 0
+StartedNamesAreDistinct = (h : List Entry) → HasDistinctNames (after opening h)

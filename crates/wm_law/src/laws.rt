@@ -1,6 +1,6 @@
 // Laws of the machine: what its definitions come to, each for all states. They are no calls.
 ghost use Rattle.wm_law.specs.Laws.{NextIsFirst, NoNextIsNone, SettledHasNoNext, SettledLeavesNone, RefusalLeaves, RefusedStepSettles, ParameterIsRead};
-ghost use Rattle.wm_law.specs.Kept.{OpeningIsNumbered, StepKeepsNumbers, NumbersAreGivenOnce, StepGoesOn, StartsOnce, SerialsStartOnce};
+ghost use Rattle.wm_law.specs.Kept.{OpeningIsNumbered, StepKeepsNumbers, NumbersAreGivenOnce, StepGoesOn, StartsOnce, SerialsStartOnce, OpeningHasOrders, StepKeepsOrders, StartingJobsHaveOrders, HandGivesAnOrder, OpeningHasDistinctNames, StepKeepsNamesDistinct, StartedNamesAreDistinct};
 
 /// The next job is the first of its subsystem: it may start, and no other job there that may start
 /// stands before it. No job may start in a subsystem whose simple name comes before. Where there is
@@ -44,6 +44,21 @@ pub fn jobs_go_forward()
 pub fn serials_start_once()
     ensures state { StartsOnce }
     ensures opening { SerialsStartOnce }
+{}
+
+/// Each Starting job has its order, so Hand answers Nothing exactly where no job is Starting.
+pub fn starting_jobs_have_orders()
+    ensures opening { OpeningHasOrders }
+    ensures step { StepKeepsOrders }
+    ensures always { StartingJobsHaveOrders }
+    ensures hand { HandGivesAnOrder }
+{}
+
+/// No two started subsystems have one simple name.
+pub fn started_names_are_distinct()
+    ensures opening { OpeningHasDistinctNames }
+    ensures step { StepKeepsNamesDistinct }
+    ensures always { StartedNamesAreDistinct }
 {}
 
 /// The parameter of a request is the text that was put into it.

@@ -1,0 +1,300 @@
+-- Each Starting job has its order.
+use Rattle.std.proofs.Common.{◌≡◌, ℕ, ◌+◌, ◌++◌, ◌==◌, Bool, true, false, cond, List, [], ◌∷◌, map, ◌⊎◌, Option, Some, None, refl, sym, ap, subst, ◌∙◌, inl, inr, arith}
+use Rattle.std.specs.List.{find, count_by}
+use Rattle.std.specs.Option.{IsSome, option_and_then, option_map}
+use Rattle.std.proofs.lemmas.List.Sums.{sum_by-cons}
+use Rattle.wm_base.specs.declared.job.Class.{Class}
+use Rattle.wm_base.specs.declared.job.EndCause.{EndCause}
+use Rattle.wm_base.specs.declared.job.How.{How}
+use Rattle.wm_base.specs.declared.job.How.TheVariants.{FromQueue}
+use Rattle.wm_base.specs.declared.job.StartOrder.{StartOrder}
+use Rattle.wm_base.specs.declared.qname.QName.{QName}
+use Rattle.wm_base.specs.Limit.{is_below}
+use Rattle.wm_law.specs.declared.call.Entry.{Entry}
+use Rattle.wm_law.specs.declared.call.Reply.TheVariants.{Nothing}
+use Rattle.wm_law.specs.declared.call.Sbmjob.{Sbmjob}
+use Rattle.wm_law.specs.declared.choice.Candidate.{Candidate}
+use Rattle.wm_law.specs.declared.job.Job.{Job}
+use Rattle.wm_law.specs.declared.job.Phase.{Phase}
+use Rattle.wm_law.specs.declared.job.Phase.TheVariants.{Waiting, Starting, Handed, Running, Ended}
+use Rattle.wm_law.specs.declared.launch.Launched.{Launched}
+use Rattle.wm_law.specs.declared.objects.Jobd.{Jobd}
+use Rattle.wm_law.specs.declared.objects.Objects.{Objects}
+use Rattle.wm_law.specs.declared.objects.Program.{Program}
+use Rattle.wm_law.specs.declared.objects.RouteEntry.{RouteEntry}
+use Rattle.wm_law.specs.declared.objects.Sbsd.{Sbsd}
+use Rattle.wm_law.specs.declared.state.State.{State}
+use Rattle.wm_base.specs.Iterate.{IsKept}
+use Rattle.wm_base.proofs.Iterate.{iterate-keeps}
+use Rattle.wm_law.specs.Choice.{next}
+use Rattle.wm_law.specs.Counts.{is_starting, count_by_route}
+use Rattle.wm_law.specs.Kept.{IsNumbered, IsRouted, HasOrders, OpeningHasOrders, StepKeepsOrders, StartingJobsHaveOrders, HandGivesAnOrder}
+use Rattle.wm_law.specs.Launch.{called_args, called_program, entry_numbered, is_match, launch, launch_job, launched, launched_at, launched_by, launched_through, missing_program, order_by, order_called, order_of, order_through, order_with, program_fault, route, route_fault}
+use Rattle.wm_law.specs.Laws.{IsIn}
+use Rattle.wm_law.specs.Machine.{apply, hand_job, hand_order, leave, phased_at, step, submitted_job, waiting, with_clock}
+use Rattle.wm_law.specs.Names.{described, is_qname}
+use Rattle.wm_law.specs.Opening.{opening, opening_objects, qbatch, qbatch_route, qbatch_sbsd}
+use Rattle.wm_law.specs.History.{after, stepped}
+use Rattle.wm_law.proofs.Forward.{found_among, found_in, only_one, same_number}
+use Rattle.wm_law.proofs.Moves.{HoldsAfterCalls, call_keeps}
+use Rattle.wm_law.proofs.Numbers.{apply_keeps, clock_keeps, launches_keep, only_started, opening_is_numbered, step_keeps_numbers}
+
+-- what a launch to Starting stands on: the routing entry, and the program that it calls
+record IsLed (s : State) (sbs jobq : QName) (j : Job) (l : Launched) : Type 0 where
+  sbsd : Sbsd
+  entry : RouteEntry
+  pgm : QName
+  program : Program
+  description : described sbs s.objects.sbsds ≡ Some sbsd
+  stands : IsIn entry sbsd.routes
+  called : called_program entry j.rqsdta ≡ Some pgm
+  found : described pgm s.objects.programs ≡ Some program
+  how : l.how ≡ FromQueue sbs jobq j.pty entry.seq
+
+of_none : {X : Type 0} (t : Bool) (o : Option X) (x : X) → cond t o (Some x) ≡ None → o ≡ None
+of_none true o x e = e
+of_none false o x e = absurd (cc)
+
+by_program : (s : State) (pgm : QName) (o : Option Program) → described pgm s.objects.programs ≡ o → missing_program o ≡ None → (p : Program) × (described pgm s.objects.programs ≡ Some p)
+by_program s pgm None e h = absurd (cc)
+by_program s pgm (Some p) e h = (p, e)
+
+by_called : (s : State) (e : RouteEntry) (j : Job) (o : Option QName) → called_program e j.rqsdta ≡ o → program_fault s o ≡ None → (pgm : QName) × (called_program e j.rqsdta ≡ Some pgm) × ((p : Program) × (described pgm s.objects.programs ≡ Some p))
+by_called s e j None f h = absurd (cc)
+by_called s e j (Some pgm) f h = (pgm, f, by_program s pgm (described pgm s.objects.programs) refl h)
+
+by_cause : (sbs jobq : QName) (j : Job) (seq : ℕ) (o : Option EndCause) → (launched_by sbs jobq j seq o).phase ≡ Starting → (o ≡ None) × ((launched_by sbs jobq j seq o).how ≡ FromQueue sbs jobq j.pty seq)
+by_cause sbs jobq j seq None e = (refl, refl)
+by_cause sbs jobq j seq (Some cause) e = absurd (cc)
+
+by_route : (s : State) (sbs jobq : QName) (j : Job) (d : Sbsd) (o : Option RouteEntry) → described sbs s.objects.sbsds ≡ Some d → route d j.rtgdta ≡ o → (launched_through s sbs jobq j o).phase ≡ Starting → IsLed s sbs jobq j (launched_through s sbs jobq j o)
+by_route s sbs jobq j d None k r h = absurd (cc)
+by_route s sbs jobq j d (Some e) k r h =
+    let cause = by_cause sbs jobq j e.seq (route_fault s sbs e j) h in
+    let called = by_called s e j (called_program e j.rqsdta) refl (of_none (is_below (count_by_route sbs e.seq s.jobs) e.maxact) _ _ cause.0) in
+    let program = called.2 in
+    record {
+      sbsd = d;
+      entry = e;
+      pgm = called.0;
+      program = program.0;
+      description = k;
+      stands = (found_among (λ (x : RouteEntry). is_match x.cmp j.rtgdta) d.routes e r).0;
+      called = called.1;
+      found = program.1;
+      how = cause.1;
+    }
+
+by_description : (s : State) (sbs jobq : QName) (j : Job) (o : Option Sbsd) → described sbs s.objects.sbsds ≡ o → (launched_through s sbs jobq j (option_and_then (λ d. route d j.rtgdta) o)).phase ≡ Starting → IsLed s sbs jobq j (launched_through s sbs jobq j (option_and_then (λ d. route d j.rtgdta) o))
+by_description s sbs jobq j None k h = absurd (cc)
+by_description s sbs jobq j (Some d) k h = by_route s sbs jobq j d (route d j.rtgdta) k refl h
+
+is_led : (s : State) (sbs jobq : QName) (j : Job) → (launched s sbs jobq j).phase ≡ Starting → IsLed s sbs jobq j (launched s sbs jobq j)
+is_led s sbs jobq j h = by_description s sbs jobq j (described sbs s.objects.sbsds) refl h
+
+with_class : (j : Job) (args : List (List ℕ)) (p : Program) (o : Option Class) → IsSome o → IsSome (order_with j args (Some p) o)
+with_class j args p None h = absurd (cc)
+with_class j args p (Some cls) h = refl
+
+-- so a job that was launched to Starting has its order
+has_order : (s : State) (sbs jobq : QName) (j : Job) (l : Launched) → IsRouted s → IsLed s sbs jobq j l → IsSome (order_of s (record j { phase = l.phase; how = l.how }))
+has_order s sbs jobq j l routed led =
+    let e = led.entry in
+    let k = record j { phase = l.phase; how = l.how } in
+    let numbered = routed.numbers sbs led.sbsd e led.description led.stands in
+    let cls = routed.classes sbs led.sbsd e led.description led.stands in
+    let same : order_of s k ≡ order_with k (called_args e k.rqsdta) (Some led.program) (described e.cls s.objects.classes) =
+    ap (λ (h : How). order_by s k h) led.how
+    ∙ ap (λ (o : Option Sbsd). order_through s k (option_and_then (entry_numbered e.seq) o)) led.description
+    ∙ ap (order_through s k) numbered
+    ∙ ap (order_called s k e) led.called
+    ∙ ap (λ (o : Option Program). order_with k (called_args e k.rqsdta) o (described e.cls s.objects.classes)) led.found in
+    subst (λ (o : Option StartOrder). IsSome o) (sym same) (with_class k (called_args e k.rqsdta) led.program (described e.cls s.objects.classes) cls)
+
+-- each Starting job of a list has its order
+abbrev AllOrdered : State → List Job → Type 0
+AllOrdered s jobs = (j : Job) → IsIn j jobs → j.phase ≡ Starting → IsSome (order_of s j)
+
+of_mapped : (f : Job → Job) (jobs : List Job) (k : Job) → IsIn k (map f jobs) → (j : Job) × IsIn j jobs × (k ≡ f j)
+of_mapped f [] k i = absurd i
+of_mapped f (j ∷ jobs) k (inl e) = (j, inl refl, e)
+of_mapped f (j ∷ jobs) k (inr i) = let m = of_mapped f jobs k i in (m.0, inr m.1, m.2)
+
+of_last : (jobs : List Job) (j k : Job) → IsIn k (jobs ++ j ∷ []) → IsIn k jobs ⊎ (k ≡ j)
+of_last [] j k (inl e) = inr e
+of_last [] j k (inr i) = absurd i
+of_last (x ∷ jobs) j k (inl e) = inl (inl e)
+of_last (x ∷ jobs) j k (inr i) = elim (of_last jobs j k i) as (λ _. IsIn k (x ∷ jobs) ⊎ (k ≡ j)) [ inl m ↦ inl (inr m) | inr e ↦ inr e ]
+
+entered : (s : State) (user : List ℕ) (c : Sbmjob) (d : Jobd) → AllOrdered s s.jobs → AllOrdered s (s.jobs ++ submitted_job s user c d ∷ [])
+entered s user c d h k i e =
+    elim (of_last s.jobs (submitted_job s user c d) k i) as (λ _. IsSome (order_of s k)) [
+      | inl m ↦ h k m e
+      | inr same ↦ (let waiting : Waiting ≡ Starting = ap (λ (j : Job). j.phase) (sym same) ∙ e in absurd (cc))
+    ]
+
+moved_at : (s : State) (t : Bool) (j : Job) (phase : Phase) → is_starting phase ≡ false → (j.phase ≡ Starting → IsSome (order_of s j)) → (cond t (record j { phase = phase }) j).phase ≡ Starting → IsSome (order_of s (cond t (record j { phase = phase }) j))
+moved_at s true j phase n h e = let same = ap is_starting e in absurd (cc)
+moved_at s false j phase n h e = h e
+
+moved : (s : State) (serial : ℕ) (phase : Phase) → is_starting phase ≡ false → AllOrdered s s.jobs → AllOrdered s (map (phased_at serial phase) s.jobs)
+moved s serial phase n h k i e =
+    let m = of_mapped (phased_at serial phase) s.jobs k i in
+    subst (λ (x : Job). IsSome (order_of s x)) (sym m.2) (moved_at s (m.0.serial == serial) m.0 phase n (h m.0 m.1) (ap (λ (x : Job). x.phase) (sym m.2) ∙ e))
+
+launched_one : (s : State) (t : Bool) (j : Job) (l : Launched) → (t ≡ true → l.phase ≡ Starting → IsSome (order_of s (record j { phase = l.phase; how = l.how }))) → (j.phase ≡ Starting → IsSome (order_of s j)) → (cond t (record j { phase = l.phase; how = l.how }) j).phase ≡ Starting → IsSome (order_of s (cond t (record j { phase = l.phase; how = l.how }) j))
+launched_one s true j l led h e = led refl e
+launched_one s false j l led h e = h e
+
+launched_all : (s : State) (c : Candidate) (f : Job) → IsNumbered s → HasOrders s → IsIn f s.jobs → f.serial ≡ c.serial → AllOrdered s (map (launched_at c.serial (launched s c.sbs c.jobq f)) s.jobs)
+launched_all s c f n h i same k m e =
+    let l = launched s c.sbs c.jobq f in
+    let o = of_mapped (launched_at c.serial l) s.jobs k m in
+    let j = o.0 in
+    let led : (j.serial == c.serial) ≡ true → l.phase ≡ Starting → IsSome (order_of s (record j { phase = l.phase; how = l.how })) =
+    (λ t starts.
+    let one = only_one s.jobs n.serials.distinct f j i o.1 (same ∙ sym (same_number j.serial c.serial t)) in
+    subst (λ (x : Job). IsSome (order_of s (record x { phase = l.phase; how = l.how }))) one (has_order s c.sbs c.jobq f l h.routed (is_led s c.sbs c.jobq f starts))) in
+    subst (λ (x : Job). IsSome (order_of s x)) (sym o.2) (launched_one s (j.serial == c.serial) j l led (h.starting j o.1) (ap (λ (x : Job). x.phase) (sym o.2) ∙ e))
+
+-- numbered, and each Starting job has its order
+record IsOrdered (s : State) : Type 0 where
+  numbered : IsNumbered s
+  orders : HasOrders s
+
+routed : (s : State) → HasOrders s → (jobs : List Job) → AllOrdered s jobs → HasOrders (record s { jobs = jobs })
+routed s h jobs all = record { routed = record { numbers = h.routed.numbers; classes = h.routed.classes }; starting = all }
+
+launches : (s : State) (c : Candidate) (o : Option Job) → find (λ j. j.serial == c.serial) s.jobs ≡ o → IsNumbered s → HasOrders s → HasOrders (launch_job s c o)
+launches s c None f n h = h
+launches s c (Some j) f n h =
+    let k = found_in (λ j. j.serial == c.serial) s.jobs j f in
+    routed s h _ (launched_all s c j n h k.0 (same_number j.serial c.serial k.1))
+
+launches_leave_orders : IsKept next (λ c t. launch t c) IsOrdered
+launches_leave_orders = record {
+  by_step = λ s c e h. record {
+    numbered = launches_keep.by_step s c e h.numbered;
+    orders = launches s c (find (λ j. j.serial == c.serial) s.jobs) refl h.numbered h.orders;
+  };
+}
+
+-- what has the same objects and jobs
+alike : (s t : State) → t.objects ≡ s.objects → t.jobs ≡ s.jobs → HasOrders s → HasOrders t
+alike s t e f h = record {
+  routed = record {
+    numbers = subst (λ (o : Objects). (sbs : QName) (d : Sbsd) (n : RouteEntry) → described sbs o.sbsds ≡ Some d → IsIn n d.routes → entry_numbered n.seq d ≡ Some n) (sym e) h.routed.numbers;
+    classes = subst (λ (o : Objects). (sbs : QName) (d : Sbsd) (n : RouteEntry) → described sbs o.sbsds ≡ Some d → IsIn n d.routes → IsSome (described n.cls o.classes)) (sym e) h.routed.classes;
+  };
+  starting = subst (λ (jobs : List Job). AllOrdered t jobs) (sym f) (λ j i p. subst (λ (o : Objects). IsSome (order_of (record s { objects = o }) j)) (sym e) (h.starting j i p));
+}
+
+calls : (s : State) → HasOrders s → HoldsAfterCalls HasOrders s
+calls s h = record {
+  stays = h;
+  starts = λ q e. alike s _ refl refl h;
+  enters = λ user c d has. alike (record s { jobs = s.jobs ++ submitted_job s user c d ∷ [] }) _ refl refl (routed s h _ (entered s user c d h.starting));
+  moves = λ serial phase e. routed s h _ (moved s serial phase e h.starting);
+  powers = alike s _ refl refl h;
+}
+
+pub step_keeps_orders : StepKeepsOrders
+unfolding step
+step_keeps_orders s caller call moment n h =
+    let c = with_clock s moment in
+    let t = (apply c caller call).state in
+    let numbered : IsNumbered t = apply_keeps c caller call (clock_keeps s moment n) in
+    let orders : HasOrders t = call_keeps HasOrders c caller call (calls c (alike s c refl refl h)) in
+    (iterate-keeps IsOrdered launches_leave_orders (waiting (leave t)) (leave t) (record { numbered = only_started t numbered; orders = alike t (leave t) refl refl orders })).orders
+
+after_is_ordered : (s : State) (h : List Entry) → IsOrdered s → IsOrdered (after s h)
+after_is_ordered s [] o = o
+after_is_ordered s (e ∷ es) o =
+    after_is_ordered (stepped s e).state es (record { numbered = step_keeps_numbers s e.caller e.call e.moment o.numbered; orders = step_keeps_orders s e.caller e.call e.moment o.numbered o.orders })
+
+only_pair : (t : Bool) (d : Sbsd) → option_map (λ (p : QName × Sbsd). p.1) (cond t (Some (qbatch, qbatch_sbsd)) None) ≡ Some d → d ≡ qbatch_sbsd
+only_pair true d e = cc
+only_pair false d e = absurd (cc)
+
+only_sbsd : (sbs : QName) (d : Sbsd) → described sbs opening_objects.sbsds ≡ Some d → d ≡ qbatch_sbsd
+only_sbsd sbs d e = only_pair (is_qname qbatch sbs) d e
+
+opening_numbers : (d : Sbsd) (e : RouteEntry) → d ≡ qbatch_sbsd → IsIn e d.routes → entry_numbered e.seq d ≡ Some e
+opening_numbers d e same i =
+    elim (subst (λ (x : Sbsd). IsIn e x.routes) same i) as (λ _. entry_numbered e.seq d ≡ Some e) [
+      | inl one ↦ subst (λ (x : RouteEntry). entry_numbered x.seq d ≡ Some x) (sym one) (subst (λ (x : Sbsd). entry_numbered 9999 x ≡ Some qbatch_route) (sym same) refl)
+      | inr none ↦ absurd none
+    ]
+
+opening_classes : (d : Sbsd) (e : RouteEntry) → d ≡ qbatch_sbsd → IsIn e d.routes → IsSome (described e.cls opening_objects.classes)
+opening_classes d e same i =
+    elim (subst (λ (x : Sbsd). IsIn e x.routes) same i) as (λ _. IsSome (described e.cls opening_objects.classes)) [
+      | inl one ↦ subst (λ (x : RouteEntry). IsSome (described x.cls opening_objects.classes)) (sym one) refl
+      | inr none ↦ absurd none
+    ]
+
+pub opening_has_orders : OpeningHasOrders
+unfolding opening
+opening_has_orders = record {
+  routed = record {
+    numbers = λ sbs d e k i. opening_numbers d e (only_sbsd sbs d k) i;
+    classes = λ sbs d e k i. opening_classes d e (only_sbsd sbs d k) i;
+  };
+  starting = λ j i p. absurd i;
+}
+
+pub starting_jobs_have_orders : StartingJobsHaveOrders
+starting_jobs_have_orders h = (after_is_ordered opening h (record { numbered = opening_is_numbered; orders = opening_has_orders })).orders
+
+-- where no job is Starting, none is found, and where none is found, none is Starting
+none_of : (t : Bool) (j : Job) (o : Option Job) → cond t (Some j) o ≡ None → (t ≡ false) × (o ≡ None)
+none_of true j o e = absurd (cc)
+none_of false j o e = (refl, e)
+
+abbrev one : Job → ℕ
+one j = cond (is_starting j.phase) 1 0
+
+none_starting : (jobs : List Job) → find (λ j. is_starting j.phase) jobs ≡ None → count_by (λ j. is_starting j.phase) jobs ≡ 0
+none_starting [] e = refl
+none_starting (j ∷ jobs) e =
+    let n = none_of (is_starting j.phase) j (find (λ (j : Job). is_starting j.phase) jobs) e in
+    let rest = none_starting jobs n.1 in
+    let this : one j ≡ 0 = ap (λ (t : Bool). cond t 1 0) n.0 in
+    rw (sum_by-cons one j jobs) (omega arith)
+
+none_at : (t : Bool) (j : Job) (o : Option Job) → ◌≡◌ {A = ℕ} (cond t 1 0) 0 → o ≡ None → cond t (Some j) o ≡ None
+none_at true j o e h = absurd (omega arith)
+none_at false j o e h = h
+
+none_found : (jobs : List Job) → count_by (λ j. is_starting j.phase) jobs ≡ 0 → find (λ j. is_starting j.phase) jobs ≡ None
+none_found [] e = refl
+none_found (j ∷ jobs) e =
+    let sum : one j + count_by (λ (j : Job). is_starting j.phase) jobs ≡ 0 = sym (sum_by-cons one j jobs) ∙ e in
+    let rest = none_found jobs (omega arith) in
+    none_at (is_starting j.phase) j (find (λ (j : Job). is_starting j.phase) jobs) (omega arith) rest
+
+is_starting_phase : (p : Phase) → is_starting p ≡ true → p ≡ Starting
+is_starting_phase Waiting h = absurd (cc)
+is_starting_phase Starting h = refl
+is_starting_phase (Handed m) h = absurd (cc)
+is_starting_phase (Running m) h = absurd (cc)
+is_starting_phase (Ended c) h = absurd (cc)
+
+not_nothing : (s : State) (m : ℕ) (j : Job) (o : Option StartOrder) → IsSome o → (hand_order s m j o).reply ≡ Nothing → ⊥
+not_nothing s m j None h e = absurd (cc)
+not_nothing s m j (Some o) h e = absurd (cc)
+
+nothing : (s : State) (m : ℕ) (o : Option Job) → find (λ j. is_starting j.phase) s.jobs ≡ o → HasOrders s → (hand_job s m o).reply ≡ Nothing → o ≡ None
+nothing s m None f h e = refl
+nothing s m (Some j) f h e =
+    let k = found_in (λ j. is_starting j.phase) s.jobs j f in
+    absurd (not_nothing s m j (order_of s j) (h.starting j k.0 (is_starting_phase j.phase k.1)) e)
+
+pub hand_gives_an_order : HandGivesAnOrder
+unfolding step
+hand_gives_an_order h caller moment =
+    let s = with_clock (after opening h) moment in
+    let orders = alike (after opening h) s refl refl (starting_jobs_have_orders h) in (
+      λ e. none_starting s.jobs (nothing s caller (find (λ j. is_starting j.phase) s.jobs) refl orders e),
+      λ e. ap (λ (o : Option Job). (hand_job s caller o).reply) (none_found s.jobs e),
+    )

@@ -1,0 +1,111 @@
+-- The simple names of the started subsystems stay distinct.
+use Rattle.std.proofs.Common.{◌≡◌, ℕ, ◌++◌, ◌==◌, ◌||◌, not, Bool, true, false, cond, List, [], ◌∷◌, map, filter, Option, Some, None, refl, sym, subst, inl, inr, nat_eq}
+use Rattle.std.specs.Prelude.{if◌then◌else◌, length, nat_le, is_some}
+use Rattle.std.specs.List.{list_any, find}
+use Rattle.std.specs.Cmp.Lexicographic.{pointwise}
+use Rattle.std.proofs.lemmas.Bool.{eq-eqb}
+use Rattle.wm_base.specs.declared.qname.QName.{QName}
+use Rattle.wm_base.specs.declared.refusal.Kind.TheVariants as kind
+use Rattle.wm_base.specs.declared.refusal.Refusal.TheVariants.{PoweringDown, NoObject, AlreadyActive, TableFull}
+use Rattle.wm_law.specs.declared.choice.Candidate.{Candidate}
+use Rattle.wm_law.specs.declared.job.Job.{Job}
+use Rattle.wm_law.specs.declared.state.Sbs.{Sbs}
+use Rattle.wm_law.specs.declared.state.SbsPhase.TheVariants.{Active}
+use Rattle.wm_law.specs.declared.state.State.{State}
+use Rattle.wm_law.specs.Kept.{IsDistinct, HasDistinctNames, OpeningHasDistinctNames, StepKeepsNamesDistinct, StartedNamesAreDistinct}
+use Rattle.wm_law.specs.Launch.{launch_job}
+use Rattle.wm_law.specs.Laws.{IsIn}
+use Rattle.wm_law.specs.Machine.{start_refusal, is_on, is_started, is_gone, end_now, max_started}
+use Rattle.wm_law.specs.Names.{is_name_of, described}
+use Rattle.wm_law.specs.Opening.{opening}
+use Rattle.wm_law.proofs.Moves.{HoldsAfterCalls, IsKeptByParts, step_keeps, after_keeps, unrefused}
+use Rattle.wm_law.proofs.Numbers.{map_same}
+
+abbrev name_of : Sbs → List ℕ
+name_of b = b.sbsd.name
+
+same_name : (name : List ℕ) → pointwise nat_eq name name ≡ true
+same_name [] = refl
+same_name (c ∷ cs) = rw (eq-eqb c c refl, same_name cs) refl
+
+of_neither : (a b : Bool) → (a || b) ≡ false → (a ≡ false) × (b ≡ false)
+of_neither true b e = absurd (cc)
+of_neither false b e = (refl, e)
+
+-- a name that no started subsystem has stands not among theirs
+not_among : (name : List ℕ) (started : List Sbs) → list_any (λ b. is_name_of b.sbsd.name name) started ≡ false → IsIn name (map name_of started) → ⊥
+not_among name [] e i = i
+not_among name (b ∷ bs) e (inl same) =
+    let this = (of_neither (is_name_of b.sbsd.name name) (list_any (λ (b : Sbs). is_name_of b.sbsd.name name) bs) e).0 in
+    let one = subst (λ (n : List ℕ). is_name_of n name ≡ true) same (same_name name) in
+    absurd (cc)
+not_among name (b ∷ bs) e (inr i) = not_among name bs (of_neither (is_name_of b.sbsd.name name) (list_any (λ (b : Sbs). is_name_of b.sbsd.name name) bs) e).1 i
+
+not_last : {X A : Type 0} (key : X → A) (y : X) (xs : List X) (k : A) → (key y ≡ k → ⊥) → (IsIn k (map key xs) → ⊥) → IsIn k (map key (xs ++ y ∷ [])) → ⊥
+not_last key y [] k h n (inl e) = h (sym e)
+not_last key y [] k h n (inr i) = i
+not_last key y (x ∷ xs) k h n (inl e) = n (inl e)
+not_last key y (x ∷ xs) k h n (inr i) = not_last key y xs k h (λ m. n (inr m)) i
+
+distinct_last : {X A : Type 0} (key : X → A) (y : X) (xs : List X) → (IsIn (key y) (map key xs) → ⊥) → IsDistinct (map key xs) → IsDistinct (map key (xs ++ y ∷ []))
+distinct_last key y [] n d = ((λ i. i), tt)
+distinct_last key y (x ∷ xs) n d = (not_last key y xs (key x) (λ e. n (inl e)) d.0, distinct_last key y xs (λ i. n (inr i)) d.1)
+
+in_more : {X A : Type 0} (key : X → A) (t : Bool) (x : X) (ys xs : List X) (k : A) → (IsIn k (map key ys) → IsIn k (map key xs)) → IsIn k (map key (cond t (x ∷ ys) ys)) → IsIn k (map key (x ∷ xs))
+in_more key true x ys xs k h (inl e) = inl e
+in_more key true x ys xs k h (inr i) = inr (h i)
+in_more key false x ys xs k h i = inr (h i)
+
+-- what a filter leaves stood in the list
+left_in : {X A : Type 0} (key : X → A) (p : X → Bool) (xs : List X) (k : A) → IsIn k (map key (filter p xs)) → IsIn k (map key xs)
+left_in key p [] k i = i
+left_in key p (x ∷ xs) k i = in_more key (p x) x (filter p xs) xs k (left_in key p xs k) i
+
+distinct_more : {X A : Type 0} (key : X → A) (t : Bool) (x : X) (ys : List X) → (IsIn (key x) (map key ys) → ⊥) → IsDistinct (map key ys) → IsDistinct (map key (cond t (x ∷ ys) ys))
+distinct_more key true x ys n d = (n, d)
+distinct_more key false x ys n d = d
+
+distinct_left : {X A : Type 0} (key : X → A) (p : X → Bool) (xs : List X) → IsDistinct (map key xs) → IsDistinct (map key (filter p xs))
+distinct_left key p [] d = d
+distinct_left key p (x ∷ xs) d = distinct_more key (p x) x (filter p xs) (λ i. d.0 (left_in key p xs (key x) i)) (distinct_left key p xs d.1)
+
+-- STRSBS isn't refused, so no started subsystem has the simple name
+not_started : (s : State) (q : QName) → start_refusal s q ≡ None → is_started s q.name ≡ false
+not_started s q e =
+    let on = (unrefused (not (is_on s.power)) PoweringDown _ e).1 in
+    let there = (unrefused (not (is_some (described q s.objects.sbsds))) (NoObject kind.Sbsd) _ on).1 in
+    (unrefused (is_started s q.name) AlreadyActive (if nat_le max_started (length s.started) then Some (TableFull kind.Sbs max_started) else None) there).0
+
+started : (s : State) (q : QName) → start_refusal s q ≡ None → HasDistinctNames s → HasDistinctNames (record s { started = s.started ++ record { sbsd = q; phase = Active } ∷ [] })
+started s q e h = distinct_last name_of (record { sbsd = q; phase = Active }) s.started (not_among q.name s.started (not_started s q e)) h
+
+launched : (s : State) (c : Candidate) (o : Option Job) → HasDistinctNames s → HasDistinctNames (launch_job s c o)
+launched s c None h = h
+launched s c (Some j) h = h
+
+calls : (s : State) → HasDistinctNames s → HoldsAfterCalls HasDistinctNames s
+calls s h = record {
+  stays = h;
+  starts = λ q e. started s q e h;
+  enters = λ user c d has. h;
+  moves = λ serial phase e. h;
+  powers = subst IsDistinct (sym (map_same name_of end_now (λ b. refl) s.started)) h;
+}
+
+parts : IsKeptByParts HasDistinctNames
+parts = record {
+  clock = λ s moment h. h;
+  calls = calls;
+  leaves = λ s h. distinct_left name_of (λ b. not (is_gone s.jobs b)) s.started h;
+  launches = record { by_step = λ s c e h. launched s c (find (λ j. j.serial == c.serial) s.jobs) h };
+}
+
+pub opening_has_distinct_names : OpeningHasDistinctNames
+unfolding opening
+opening_has_distinct_names = tt
+
+pub step_keeps_names_distinct : StepKeepsNamesDistinct
+step_keeps_names_distinct s caller call moment h = step_keeps HasDistinctNames parts s caller call moment h
+
+pub started_names_are_distinct : StartedNamesAreDistinct
+started_names_are_distinct h = after_keeps HasDistinctNames parts opening h opening_has_distinct_names
