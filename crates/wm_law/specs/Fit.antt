@@ -1,5 +1,7 @@
 -- Which calls keep the forms and ranges of their values, and which the machine has.
-use Rattle.std.specs.Prelude.{◌≡◌, ℕ, ◌≤◌, List, length, IfSome, ⊤}
+use Rattle.std.specs.Prelude.{◌≡◌, ℕ, ◌<◌, ◌≤◌, ◌^◌, List, length, IfSome, ⊤}
+use Rattle.wm_base.specs.declared.job.Exit.{Exit}
+use Rattle.wm_base.specs.declared.job.Exit.TheVariants as exit
 use Rattle.wm_base.specs.declared.qname.QName.{QName}
 use Rattle.wm_base.specs.Name.{IsName}
 use Rattle.wm_base.specs.Text.{IsText}
@@ -41,14 +43,23 @@ IsCommand (Strsbs c) = IsQName c.sbsd
 IsCommand (Sbmjob c) = IsSubmission c
 IsCommand (Pwrdwnsys c) = IfSome c.delay (IsBetween 1 99999)
 
+-- what a u64 can be
+abbrev pub IsSerial : ℕ → Type 0
+IsSerial serial = serial < 2 ^ 64
+
+-- an exit code is what a u8 can be
+abbrev pub IsExit : Exit → Type 0
+IsExit (exit.Code code) = code < 2 ^ 8
+IsExit exit.Killed = ⊤
+
 -- and so do those of a call
 abbrev pub IsCall : Call → Type 0
 IsCall (Change user c) = IsName user × IsCommand c
 IsCall Hand = ⊤
-IsCall (Started serial) = ⊤
-IsCall (StartFailed serial why) = ⊤
-IsCall (Finished serial end) = ⊤
-IsCall (UseDone serial) = ⊤
+IsCall (Started serial) = IsSerial serial
+IsCall (StartFailed serial why) = IsSerial serial
+IsCall (Finished serial end) = IsSerial serial × IsExit end
+IsCall (UseDone serial) = IsSerial serial
 IsCall Tick = ⊤
 
 -- the machine has every call, but PWRDWNSYS only with OPTION(*IMMED) and where no job is active

@@ -1,5 +1,5 @@
 -- Histories of the machine.
-use Rattle.std.specs.Prelude.{◌≡◌, ℕ, ◌≤◌, Bool, true, false, ◌==◌, ◌&&◌, List, [], ◌∷◌, Option, Some, None, filter, if◌then◌else◌, ⊤}
+use Rattle.std.specs.Prelude.{◌≡◌, ℕ, ◌<◌, ◌≤◌, ◌^◌, Bool, true, false, ◌==◌, ◌&&◌, List, [], ◌∷◌, Option, Some, None, filter, if◌then◌else◌, ⊤}
 use Rattle.std.specs.List.{filter_map}
 use Rattle.wm_base.specs.declared.job.Asked.{Asked}
 use Rattle.wm_law.specs.declared.call.Call.{Call}
@@ -22,6 +22,7 @@ after s (e ∷ es) = after (stepped s e).state es
 
 -- an entry that the machine can have made in a state: its values keep their ranges, and its reply is the machine's
 pub record IsEntry (s : State) (e : Entry) : Type 0 where
+  pub caller : e.caller < 2 ^ 32
   pub call : IsCall e.call
   pub built : IsBuilt s e.call
   pub moment : e.moment ≤ 253402214399

@@ -1,5 +1,6 @@
 // What a monitor reports.
 ghost use Rattle.std.specs.Prelude.{◌≡◌};
+ghost use Rattle.wm_law.specs.Fit.{IsSerial, IsExit};
 
 use wm_base::{Event, Exit, Serial, StartCause};
 use wm_law::Call;
@@ -12,6 +13,26 @@ pub enum Report {
     StartFailed(Serial, StartCause),
     Finished(Serial, Exit),
     UseDone(Serial),
+}
+
+// The serial, whose range is known then.
+fn known(serial: &Serial) -> Serial
+    ensures value { result ≡ serial.now }
+    ensures range { IsSerial result }
+{
+    let _ = serial.get();
+    *serial
+}
+
+// The exit, whose range is known then.
+fn known_exit(exit: &Exit) -> Exit
+    ensures value { result ≡ exit.now }
+    ensures range { IsExit result }
+{
+    match exit {
+        Exit::Code(code) => Exit::Code(*code),
+        Exit::Killed => Exit::Killed,
+    }
 }
 
 impl Report {
@@ -28,10 +49,10 @@ impl Report {
         ensures built { (s : State) → IsBuilt s result }
     {
         match self {
-            Report::Started(serial) => Call::Started(*serial),
-            Report::StartFailed(serial, cause) => Call::StartFailed(*serial, *cause),
-            Report::Finished(serial, exit) => Call::Finished(*serial, *exit),
-            Report::UseDone(serial) => Call::UseDone(*serial),
+            Report::Started(serial) => Call::Started(known(serial)),
+            Report::StartFailed(serial, cause) => Call::StartFailed(known(serial), *cause),
+            Report::Finished(serial, exit) => Call::Finished(known(serial), known_exit(exit)),
+            Report::UseDone(serial) => Call::UseDone(known(serial)),
         }
     }
 
