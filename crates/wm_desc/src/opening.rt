@@ -1,17 +1,38 @@
 // The objects that an empty store opens with.
 ghost use Rattle.std.specs.Prelude.{◌≡◌, [], ◌∷◌, IfOk};
-ghost use Rattle.wm_desc.specs.Opening.{qgpl, qbatch, default_jobd, batch_sbsd};
+ghost use Rattle.wm_desc.specs.Opening.{qbatch, qdftjobd, echo, default_jobd, batch_sbsd};
 
 use crate::{Cmp, Jobd, Jobq, Keyed, Objects, Program, QueueEntry, RouteEntry, Sbsd, SortedList};
 use std::alloc::{AllocError, Global};
 use wm_base::{Class, Limit, Name, Priority, QName, Text};
 
-fn qbatch() -> QName
+/// QGPL/QBATCH: a class, a queue, a job description and the controlling subsystem.
+pub fn qbatch() -> QName
     ensures { result ≡ qbatch }
 {
     QName {
         lib: Name::of(b"QGPL"),
         name: Name::of(b"QBATCH"),
+    }
+}
+
+/// QGPL/QDFTJOBD, the job description of SBMJOB.
+pub fn qdftjobd() -> QName
+    ensures { result ≡ qdftjobd }
+{
+    QName {
+        lib: Name::of(b"QGPL"),
+        name: Name::of(b"QDFTJOBD"),
+    }
+}
+
+/// QGPL/ECHO, a program.
+pub fn echo() -> QName
+    ensures { result ≡ echo }
+{
+    QName {
+        lib: Name::of(b"QGPL"),
+        name: Name::of(b"ECHO"),
     }
 }
 
@@ -77,21 +98,13 @@ impl Objects {
             timeslice: 2000,
             dftwait: Limit::Most(30),
         };
-        let echo = QName {
-            lib: Name::of(b"QGPL"),
-            name: Name::of(b"ECHO"),
-        };
         let path = Text::from_bytes(alloc, b"/bin/echo")?;
-        let default = QName {
-            lib: Name::of(b"QGPL"),
-            name: Name::of(b"QDFTJOBD"),
-        };
         let mut jobds = one(alloc, (qbatch(), default_jobd(alloc)?))?;
-        jobds.insert((default, default_jobd(alloc)?))?;
+        jobds.insert((qdftjobd(), default_jobd(alloc)?))?;
         Ok(Objects {
             classes: one(alloc, (qbatch(), class))?,
             jobqs: one(alloc, (qbatch(), Jobq {}))?,
-            programs: one(alloc, (echo, Program { path }))?,
+            programs: one(alloc, (echo(), Program { path }))?,
             jobds,
             sbsds: one(alloc, (qbatch(), batch_sbsd(alloc)?))?,
         })

@@ -6,14 +6,14 @@ use Rattle.wm_base.specs.declared.qname.QName.{QName}
 use Rattle.wm_law.specs.declared.choice.Candidate.{Candidate}
 use Rattle.wm_law.specs.declared.choice.Rank.{Rank}
 use Rattle.wm_law.specs.declared.job.Job.{Job}
-use Rattle.wm_law.specs.declared.objects.QueueEntry.{QueueEntry}
-use Rattle.wm_law.specs.declared.objects.Sbsd.{Sbsd}
+use Rattle.wm_desc.specs.declared.entry.QueueEntry.{QueueEntry}
+use Rattle.wm_desc.specs.declared.description.Sbsd.{Sbsd}
 use Rattle.wm_law.specs.declared.state.Sbs.{Sbs}
 use Rattle.wm_law.specs.declared.state.State.{State}
 use Rattle.wm_law.specs.Choice.{candidate, candidate_from, candidate_described, candidate_held, candidate_queued, entry_for, holder, is_allowed, is_ready, next, rank_cmp}
 use Rattle.wm_law.specs.Laws.{IsIn, Turn, MayStart, IsBefore, NextIsFirst, NoNextIsNone, SettledLeavesNone}
 use Rattle.wm_law.specs.Machine.{settle}
-use Rattle.wm_law.specs.Names.{described}
+use Rattle.wm_desc.specs.Table.{object_named}
 use Rattle.wm_law.proofs.Ranks.{least_of_jobs, none_of_jobs, not_before, not_earlier}
 use Rattle.wm_law.proofs.Settling.{IsFrom, from_some, guarded, settled_has_no_next}
 
@@ -37,7 +37,7 @@ is_candidate s j t m =
 abbrev Starts : State → Job → Candidate → Type 0
 Starts s j c = (t : Turn) × MayStart s j t × (c ≡ candidate_of j t)
 
-by_entry : (s : State) (j : Job) (q : QName) (b : Sbs) (d : Sbsd) (o : Option QueueEntry) (c : Candidate) → is_ready s j ≡ true → j.jobq ≡ Some q → holder s q ≡ Some b → described b.sbsd s.objects.sbsds ≡ Some d → entry_for q d ≡ o → candidate_from s j b d o ≡ Some c → Starts s j c
+by_entry : (s : State) (j : Job) (q : QName) (b : Sbs) (d : Sbsd) (o : Option QueueEntry) (c : Candidate) → is_ready s j ≡ true → j.jobq ≡ Some q → holder s q ≡ Some b → object_named b.sbsd s.objects.sbsds ≡ Some d → entry_for q d ≡ o → candidate_from s j b d o ≡ Some c → Starts s j c
 by_entry s j q b d None c r i h k l e = absurd (cc)
 by_entry s j q b d (Some n) c r i h k l e =
     let t : Turn = record { queue = q; sbs = b; sbsd = d; entry = n } in
@@ -45,13 +45,13 @@ by_entry s j q b d (Some n) c r i h k l e =
     let same : candidate_of j t ≡ c = cc in
     (t, record { ready = r; queue = i; holder = h; sbsd = k; entry = l; allowed = g.0 }, sym same)
 
-by_description : (s : State) (j : Job) (q : QName) (b : Sbs) (o : Option Sbsd) (c : Candidate) → is_ready s j ≡ true → j.jobq ≡ Some q → holder s q ≡ Some b → described b.sbsd s.objects.sbsds ≡ o → candidate_described s j q b o ≡ Some c → Starts s j c
+by_description : (s : State) (j : Job) (q : QName) (b : Sbs) (o : Option Sbsd) (c : Candidate) → is_ready s j ≡ true → j.jobq ≡ Some q → holder s q ≡ Some b → object_named b.sbsd s.objects.sbsds ≡ o → candidate_described s j q b o ≡ Some c → Starts s j c
 by_description s j q b None c r i h k e = absurd (cc)
 by_description s j q b (Some d) c r i h k e = by_entry s j q b d (entry_for q d) c r i h k refl e
 
 by_holder : (s : State) (j : Job) (q : QName) (o : Option Sbs) (c : Candidate) → is_ready s j ≡ true → j.jobq ≡ Some q → holder s q ≡ o → candidate_held s j q o ≡ Some c → Starts s j c
 by_holder s j q None c r i h e = absurd (cc)
-by_holder s j q (Some b) c r i h e = by_description s j q b (described b.sbsd s.objects.sbsds) c r i h refl e
+by_holder s j q (Some b) c r i h e = by_description s j q b (object_named b.sbsd s.objects.sbsds) c r i h refl e
 
 by_queue : (s : State) (j : Job) (o : Option QName) (c : Candidate) → is_ready s j ≡ true → j.jobq ≡ o → candidate_queued s j o ≡ Some c → Starts s j c
 by_queue s j None c r i e = absurd (cc)

@@ -11,3 +11,5 @@ pub mod Starts
 pub mod Moves
 pub mod Orders
 pub mod Started
+pub mod Routing
+pub mod Routes

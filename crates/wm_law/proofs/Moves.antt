@@ -14,7 +14,7 @@ use Rattle.wm_law.specs.declared.call.Entry.{Entry}
 use Rattle.wm_law.specs.declared.call.Sbmjob.{Sbmjob}
 use Rattle.wm_law.specs.declared.job.Job.{Job}
 use Rattle.wm_law.specs.declared.job.Phase.{Phase}
-use Rattle.wm_law.specs.declared.objects.Jobd.{Jobd}
+use Rattle.wm_desc.specs.declared.description.Jobd.{Jobd}
 use Rattle.wm_law.specs.declared.state.State.{State}
 use Rattle.wm_law.specs.declared.state.Power.TheVariants.{DownNow}
 use Rattle.wm_law.specs.Choice.{next}
@@ -22,7 +22,7 @@ use Rattle.wm_law.specs.Counts.{is_starting}
 use Rattle.wm_law.specs.History.{after, stepped}
 use Rattle.wm_law.specs.Launch.{order_of, launch}
 use Rattle.wm_law.specs.Machine.{Stepped, apply, step, leave, waiting, with_clock, with_phase, start_refusal, start_unless, submit_refusal, submit_unless, submit_with, submitted_job, entered, has_numbers, end_now, is_on, is_down_now, change, hand_job, hand_order, report_on, is_handed_to, is_run_by, done_with}
-use Rattle.wm_law.specs.Names.{described}
+use Rattle.wm_desc.specs.Table.{object_named}
 
 -- P holds after whatever a call can do to the state
 pub record HoldsAfterCalls (P : State → Type 0) (s : State) : Type 0 where
@@ -60,7 +60,7 @@ submitted_with P s user c (Some d) h = submitted P s user c d (submit_refusal s 
 
 changed : (P : State → Type 0) (s : State) (user : List ℕ) (c : Command) → HoldsAfterCalls P s → P (change s user c).state
 changed P s user (command.Strsbs c) h = start P s c.sbsd (start_refusal s c.sbsd) refl h
-changed P s user (command.Sbmjob c) h = either P (is_on s.power) _ _ (submitted_with P s user c (described c.jobd s.objects.jobds) h) h.stays
+changed P s user (command.Sbmjob c) h = either P (is_on s.power) _ _ (submitted_with P s user c (object_named c.jobd s.objects.jobds) h) h.stays
 changed P s user (command.Pwrdwnsys c) h = either P (is_down_now s.power) _ _ h.stays h.powers
 
 ordered : (P : State → Type 0) (s : State) (m : ℕ) (j : Job) (o : Option StartOrder) → HoldsAfterCalls P s → P (hand_order s m j o).state

@@ -10,7 +10,7 @@ use Rattle.wm_law.specs.declared.choice.Candidate.{Candidate}
 use Rattle.wm_law.specs.declared.job.Job.{Job}
 use Rattle.wm_law.specs.declared.job.Phase.{Phase}
 use Rattle.wm_law.specs.declared.launch.Launched.{Launched}
-use Rattle.wm_law.specs.declared.objects.Jobd.{Jobd}
+use Rattle.wm_desc.specs.declared.description.Jobd.{Jobd}
 use Rattle.wm_law.specs.declared.state.State.{State}
 use Rattle.wm_law.specs.Choice.{next}
 use Rattle.wm_law.specs.Fit.{IsBetween}

@@ -18,24 +18,26 @@ use Rattle.wm_law.specs.declared.job.Job.{Job}
 use Rattle.wm_law.specs.declared.job.Phase.{Phase}
 use Rattle.wm_law.specs.declared.job.Phase.TheVariants.{Waiting, Starting, Handed, Running, Ended}
 use Rattle.wm_law.specs.declared.launch.Launched.{Launched}
-use Rattle.wm_law.specs.declared.objects.Jobd.{Jobd}
-use Rattle.wm_law.specs.declared.objects.Objects.{Objects}
-use Rattle.wm_law.specs.declared.objects.Program.{Program}
-use Rattle.wm_law.specs.declared.objects.RouteEntry.{RouteEntry}
-use Rattle.wm_law.specs.declared.objects.Sbsd.{Sbsd}
+use Rattle.wm_desc.specs.declared.description.Jobd.{Jobd}
+use Rattle.wm_desc.specs.declared.objects.Objects.{Objects}
+use Rattle.wm_desc.specs.declared.description.Program.{Program}
+use Rattle.wm_desc.specs.declared.entry.RouteEntry.{RouteEntry}
+use Rattle.wm_desc.specs.declared.description.Sbsd.{Sbsd}
 use Rattle.wm_law.specs.declared.state.State.{State}
 use Rattle.wm_base.specs.Iterate.{IsKept}
 use Rattle.wm_base.proofs.Iterate.{iterate-keeps}
 use Rattle.wm_law.specs.Choice.{next}
 use Rattle.wm_law.specs.Counts.{is_starting, count_by_route}
-use Rattle.wm_law.specs.Kept.{IsNumbered, IsRouted, HasOrders, OpeningHasOrders, StepKeepsOrders, StartingJobsHaveOrders, HandGivesAnOrder}
+use Rattle.wm_law.specs.Kept.{IsNumbered, IsRouted, HasOrders, OpeningHasOrders, StepKeepsOrders, StartingJobsHaveOrders, HandGivesAnOrder, ReachedRouteIsLeast}
 use Rattle.wm_law.specs.Launch.{called_args, called_program, entry_numbered, is_match, launch, launch_job, launched, launched_at, launched_by, launched_through, missing_program, order_by, order_called, order_of, order_through, order_with, program_fault, route, route_fault}
 use Rattle.wm_law.specs.Laws.{IsIn}
 use Rattle.wm_law.specs.Machine.{apply, hand_job, hand_order, leave, phased_at, step, submitted_job, waiting, with_clock}
-use Rattle.wm_law.specs.Names.{described, is_qname}
-use Rattle.wm_law.specs.Opening.{opening, opening_objects, qbatch, qbatch_route, qbatch_sbsd}
+use Rattle.wm_desc.specs.Table.{object_named, same_qname}
+use Rattle.wm_desc.specs.Opening.{opening_objects, qbatch, batch_sbsd}
+use Rattle.wm_law.specs.Opening.{opening}
 use Rattle.wm_law.specs.History.{after, stepped}
 use Rattle.wm_law.proofs.Forward.{found_among, found_in, only_one, same_number}
+use Rattle.wm_law.proofs.Routes.{IsSorted, numbered_once, route_is_least}
 use Rattle.wm_law.proofs.Moves.{HoldsAfterCalls, call_keeps}
 use Rattle.wm_law.proofs.Numbers.{apply_keeps, clock_keeps, launches_keep, only_started, opening_is_numbered, step_keeps_numbers}
 
@@ -45,29 +47,29 @@ record IsLed (s : State) (sbs jobq : QName) (j : Job) (l : Launched) : Type 0 wh
   entry : RouteEntry
   pgm : QName
   program : Program
-  description : described sbs s.objects.sbsds ≡ Some sbsd
+  description : object_named sbs s.objects.sbsds ≡ Some sbsd
   stands : IsIn entry sbsd.routes
   called : called_program entry j.rqsdta ≡ Some pgm
-  found : described pgm s.objects.programs ≡ Some program
+  found : object_named pgm s.objects.programs ≡ Some program
   how : l.how ≡ FromQueue sbs jobq j.pty entry.seq
 
 of_none : {X : Type 0} (t : Bool) (o : Option X) (x : X) → cond t o (Some x) ≡ None → o ≡ None
 of_none true o x e = e
 of_none false o x e = absurd (cc)
 
-by_program : (s : State) (pgm : QName) (o : Option Program) → described pgm s.objects.programs ≡ o → missing_program o ≡ None → (p : Program) × (described pgm s.objects.programs ≡ Some p)
+by_program : (s : State) (pgm : QName) (o : Option Program) → object_named pgm s.objects.programs ≡ o → missing_program o ≡ None → (p : Program) × (object_named pgm s.objects.programs ≡ Some p)
 by_program s pgm None e h = absurd (cc)
 by_program s pgm (Some p) e h = (p, e)
 
-by_called : (s : State) (e : RouteEntry) (j : Job) (o : Option QName) → called_program e j.rqsdta ≡ o → program_fault s o ≡ None → (pgm : QName) × (called_program e j.rqsdta ≡ Some pgm) × ((p : Program) × (described pgm s.objects.programs ≡ Some p))
+by_called : (s : State) (e : RouteEntry) (j : Job) (o : Option QName) → called_program e j.rqsdta ≡ o → program_fault s o ≡ None → (pgm : QName) × (called_program e j.rqsdta ≡ Some pgm) × ((p : Program) × (object_named pgm s.objects.programs ≡ Some p))
 by_called s e j None f h = absurd (cc)
-by_called s e j (Some pgm) f h = (pgm, f, by_program s pgm (described pgm s.objects.programs) refl h)
+by_called s e j (Some pgm) f h = (pgm, f, by_program s pgm (object_named pgm s.objects.programs) refl h)
 
 by_cause : (sbs jobq : QName) (j : Job) (seq : ℕ) (o : Option EndCause) → (launched_by sbs jobq j seq o).phase ≡ Starting → (o ≡ None) × ((launched_by sbs jobq j seq o).how ≡ FromQueue sbs jobq j.pty seq)
 by_cause sbs jobq j seq None e = (refl, refl)
 by_cause sbs jobq j seq (Some cause) e = absurd (cc)
 
-by_route : (s : State) (sbs jobq : QName) (j : Job) (d : Sbsd) (o : Option RouteEntry) → described sbs s.objects.sbsds ≡ Some d → route d j.rtgdta ≡ o → (launched_through s sbs jobq j o).phase ≡ Starting → IsLed s sbs jobq j (launched_through s sbs jobq j o)
+by_route : (s : State) (sbs jobq : QName) (j : Job) (d : Sbsd) (o : Option RouteEntry) → object_named sbs s.objects.sbsds ≡ Some d → route d j.rtgdta ≡ o → (launched_through s sbs jobq j o).phase ≡ Starting → IsLed s sbs jobq j (launched_through s sbs jobq j o)
 by_route s sbs jobq j d None k r h = absurd (cc)
 by_route s sbs jobq j d (Some e) k r h =
     let cause = by_cause sbs jobq j e.seq (route_fault s sbs e j) h in
@@ -85,31 +87,31 @@ by_route s sbs jobq j d (Some e) k r h =
       how = cause.1;
     }
 
-by_description : (s : State) (sbs jobq : QName) (j : Job) (o : Option Sbsd) → described sbs s.objects.sbsds ≡ o → (launched_through s sbs jobq j (option_and_then (λ d. route d j.rtgdta) o)).phase ≡ Starting → IsLed s sbs jobq j (launched_through s sbs jobq j (option_and_then (λ d. route d j.rtgdta) o))
+by_description : (s : State) (sbs jobq : QName) (j : Job) (o : Option Sbsd) → object_named sbs s.objects.sbsds ≡ o → (launched_through s sbs jobq j (option_and_then (λ d. route d j.rtgdta) o)).phase ≡ Starting → IsLed s sbs jobq j (launched_through s sbs jobq j (option_and_then (λ d. route d j.rtgdta) o))
 by_description s sbs jobq j None k h = absurd (cc)
 by_description s sbs jobq j (Some d) k h = by_route s sbs jobq j d (route d j.rtgdta) k refl h
 
 is_led : (s : State) (sbs jobq : QName) (j : Job) → (launched s sbs jobq j).phase ≡ Starting → IsLed s sbs jobq j (launched s sbs jobq j)
-is_led s sbs jobq j h = by_description s sbs jobq j (described sbs s.objects.sbsds) refl h
+is_led s sbs jobq j h = by_description s sbs jobq j (object_named sbs s.objects.sbsds) refl h
 
 with_class : (j : Job) (args : List (List ℕ)) (p : Program) (o : Option Class) → IsSome o → IsSome (order_with j args (Some p) o)
 with_class j args p None h = absurd (cc)
 with_class j args p (Some cls) h = refl
 
 -- so a job that was launched to Starting has its order
-has_order : (s : State) (sbs jobq : QName) (j : Job) (l : Launched) → IsRouted s → IsLed s sbs jobq j l → IsSome (order_of s (record j { phase = l.phase; how = l.how }))
+has_order : (s : State) (sbs jobq : QName) (j : Job) (l : Launched) → IsRouted s.objects → IsLed s sbs jobq j l → IsSome (order_of s (record j { phase = l.phase; how = l.how }))
 has_order s sbs jobq j l routed led =
     let e = led.entry in
     let k = record j { phase = l.phase; how = l.how } in
-    let numbered = routed.numbers sbs led.sbsd e led.description led.stands in
+    let numbered : entry_numbered e.seq led.sbsd ≡ Some e = numbered_once led.sbsd.routes e (routed.sorted sbs led.sbsd led.description) led.stands in
     let cls = routed.classes sbs led.sbsd e led.description led.stands in
-    let same : order_of s k ≡ order_with k (called_args e k.rqsdta) (Some led.program) (described e.cls s.objects.classes) =
+    let same : order_of s k ≡ order_with k (called_args e k.rqsdta) (Some led.program) (object_named e.cls s.objects.classes) =
     ap (λ (h : How). order_by s k h) led.how
     ∙ ap (λ (o : Option Sbsd). order_through s k (option_and_then (entry_numbered e.seq) o)) led.description
     ∙ ap (order_through s k) numbered
     ∙ ap (order_called s k e) led.called
-    ∙ ap (λ (o : Option Program). order_with k (called_args e k.rqsdta) o (described e.cls s.objects.classes)) led.found in
-    subst (λ (o : Option StartOrder). IsSome o) (sym same) (with_class k (called_args e k.rqsdta) led.program (described e.cls s.objects.classes) cls)
+    ∙ ap (λ (o : Option Program). order_with k (called_args e k.rqsdta) o (object_named e.cls s.objects.classes)) led.found in
+    subst (λ (o : Option StartOrder). IsSome o) (sym same) (with_class k (called_args e k.rqsdta) led.program (object_named e.cls s.objects.classes) cls)
 
 -- each Starting job of a list has its order
 abbrev AllOrdered : State → List Job → Type 0
@@ -163,7 +165,7 @@ record IsOrdered (s : State) : Type 0 where
   orders : HasOrders s
 
 routed : (s : State) → HasOrders s → (jobs : List Job) → AllOrdered s jobs → HasOrders (record s { jobs = jobs })
-routed s h jobs all = record { routed = record { numbers = h.routed.numbers; classes = h.routed.classes }; starting = all }
+routed s h jobs all = record { routed = h.routed; starting = all }
 
 launches : (s : State) (c : Candidate) (o : Option Job) → find (λ j. j.serial == c.serial) s.jobs ≡ o → IsNumbered s → HasOrders s → HasOrders (launch_job s c o)
 launches s c None f n h = h
@@ -182,10 +184,7 @@ launches_leave_orders = record {
 -- what has the same objects and jobs
 alike : (s t : State) → t.objects ≡ s.objects → t.jobs ≡ s.jobs → HasOrders s → HasOrders t
 alike s t e f h = record {
-  routed = record {
-    numbers = subst (λ (o : Objects). (sbs : QName) (d : Sbsd) (n : RouteEntry) → described sbs o.sbsds ≡ Some d → IsIn n d.routes → entry_numbered n.seq d ≡ Some n) (sym e) h.routed.numbers;
-    classes = subst (λ (o : Objects). (sbs : QName) (d : Sbsd) (n : RouteEntry) → described sbs o.sbsds ≡ Some d → IsIn n d.routes → IsSome (described n.cls o.classes)) (sym e) h.routed.classes;
-  };
+  routed = subst IsRouted (sym e) h.routed;
   starting = subst (λ (jobs : List Job). AllOrdered t jobs) (sym f) (λ j i p. subst (λ (o : Objects). IsSome (order_of (record s { objects = o }) j)) (sym e) (h.starting j i p));
 }
 
@@ -212,24 +211,20 @@ after_is_ordered s [] o = o
 after_is_ordered s (e ∷ es) o =
     after_is_ordered (stepped s e).state es (record { numbered = step_keeps_numbers s e.caller e.call e.moment o.numbered; orders = step_keeps_orders s e.caller e.call e.moment o.numbered o.orders })
 
-only_pair : (t : Bool) (d : Sbsd) → option_map (λ (p : QName × Sbsd). p.1) (cond t (Some (qbatch, qbatch_sbsd)) None) ≡ Some d → d ≡ qbatch_sbsd
+only_pair : (t : Bool) (d : Sbsd) → option_map (λ (p : QName × Sbsd). p.1) (cond t (Some (qbatch, batch_sbsd)) None) ≡ Some d → d ≡ batch_sbsd
 only_pair true d e = cc
 only_pair false d e = absurd (cc)
 
-only_sbsd : (sbs : QName) (d : Sbsd) → described sbs opening_objects.sbsds ≡ Some d → d ≡ qbatch_sbsd
-only_sbsd sbs d e = only_pair (is_qname qbatch sbs) d e
+only_sbsd : (sbs : QName) (d : Sbsd) → object_named sbs opening_objects.sbsds ≡ Some d → d ≡ batch_sbsd
+only_sbsd sbs d e = only_pair (same_qname qbatch sbs) d e
 
-opening_numbers : (d : Sbsd) (e : RouteEntry) → d ≡ qbatch_sbsd → IsIn e d.routes → entry_numbered e.seq d ≡ Some e
-opening_numbers d e same i =
-    elim (subst (λ (x : Sbsd). IsIn e x.routes) same i) as (λ _. entry_numbered e.seq d ≡ Some e) [
-      | inl one ↦ subst (λ (x : RouteEntry). entry_numbered x.seq d ≡ Some x) (sym one) (subst (λ (x : Sbsd). entry_numbered 9999 x ≡ Some qbatch_route) (sym same) refl)
-      | inr none ↦ absurd none
-    ]
+opening_sorted : (d : Sbsd) → d ≡ batch_sbsd → IsSorted d.routes
+opening_sorted d same = subst (λ (x : Sbsd). IsSorted x.routes) (sym same) (λ i j e less h. absurd (omega arith))
 
-opening_classes : (d : Sbsd) (e : RouteEntry) → d ≡ qbatch_sbsd → IsIn e d.routes → IsSome (described e.cls opening_objects.classes)
+opening_classes : (d : Sbsd) (e : RouteEntry) → d ≡ batch_sbsd → IsIn e d.routes → IsSome (object_named e.cls opening_objects.classes)
 opening_classes d e same i =
-    elim (subst (λ (x : Sbsd). IsIn e x.routes) same i) as (λ _. IsSome (described e.cls opening_objects.classes)) [
-      | inl one ↦ subst (λ (x : RouteEntry). IsSome (described x.cls opening_objects.classes)) (sym one) refl
+    elim (subst (λ (x : Sbsd). IsIn e x.routes) same i) as (λ _. IsSome (object_named e.cls opening_objects.classes)) [
+      | inl one ↦ subst (λ (x : RouteEntry). IsSome (object_named x.cls opening_objects.classes)) (sym one) refl
       | inr none ↦ absurd none
     ]
 
@@ -237,7 +232,7 @@ pub opening_has_orders : OpeningHasOrders
 unfolding opening
 opening_has_orders = record {
   routed = record {
-    numbers = λ sbs d e k i. opening_numbers d e (only_sbsd sbs d k) i;
+    sorted = λ sbs d k. opening_sorted d (only_sbsd sbs d k);
     classes = λ sbs d e k i. opening_classes d e (only_sbsd sbs d k) i;
   };
   starting = λ j i p. absurd i;
@@ -298,3 +293,6 @@ hand_gives_an_order h caller moment =
       λ e. none_starting s.jobs (nothing s caller (find (λ j. is_starting j.phase) s.jobs) refl orders e),
       λ e. ap (λ (o : Option Job). (hand_job s caller o).reply) (none_found s.jobs e),
     )
+
+pub reached_route_is_least : ReachedRouteIsLeast
+reached_route_is_least h sbs d rtgdta e k f = route_is_least d rtgdta e ((starting_jobs_have_orders h).routed.sorted sbs d k) f

@@ -11,13 +11,13 @@ use Rattle.wm_law.specs.declared.call.Reply.TheVariants.{No}
 use Rattle.wm_law.specs.declared.call.Sbmjob.{Sbmjob}
 use Rattle.wm_law.specs.declared.job.Job.{Job}
 use Rattle.wm_law.specs.declared.job.Phase.{Phase}
-use Rattle.wm_law.specs.declared.objects.Jobd.{Jobd}
+use Rattle.wm_desc.specs.declared.description.Jobd.{Jobd}
 use Rattle.wm_law.specs.declared.state.State.{State}
 use Rattle.wm_law.specs.Counts.{is_starting}
 use Rattle.wm_law.specs.Launch.{order_of}
 use Rattle.wm_law.specs.Laws.{RefusalLeaves, RefusedStepSettles}
 use Rattle.wm_law.specs.Machine.{Stepped, step, settle, with_clock, start_refusal, start_unless, submit_refusal, submit_unless, submit_with, is_on, is_down_now, change, hand_job, hand_order, report_on, is_handed_to, is_run_by, done_with}
-use Rattle.wm_law.specs.Names.{described}
+use Rattle.wm_desc.specs.Table.{object_named}
 
 -- where the answer is a refusal, the state is left
 abbrev Leaves : State → Stepped → Type 0
@@ -41,7 +41,7 @@ submitted_with s user c (Some d) x e = submitted s user c d (submit_refusal s c 
 
 changed : (s : State) (user : List ℕ) (c : Command) → Leaves s (change s user c)
 changed s user (command.Strsbs c) = start s c.sbsd (start_refusal s c.sbsd)
-changed s user (command.Sbmjob c) = either s (is_on s.power) _ _ (submitted_with s user c (described c.jobd s.objects.jobds)) (λ x e. refl)
+changed s user (command.Sbmjob c) = either s (is_on s.power) _ _ (submitted_with s user c (object_named c.jobd s.objects.jobds)) (λ x e. refl)
 changed s user (command.Pwrdwnsys c) = either s (is_down_now s.power) _ _ (λ x e. refl) (λ x e. absurd (cc))
 
 ordered : (s : State) (m : ℕ) (j : Job) (o : Option StartOrder) → Leaves s (hand_order s m j o)

@@ -11,13 +11,13 @@ use Rattle.wm_law.specs.declared.choice.Candidate.{Candidate}
 use Rattle.wm_law.specs.declared.job.Job.{Job}
 use Rattle.wm_law.specs.declared.launch.Launched.{Launched}
 use Rattle.wm_law.specs.declared.state.State.{State}
-use Rattle.wm_law.specs.declared.objects.Sbsd.{Sbsd}
-use Rattle.wm_law.specs.declared.objects.QueueEntry.{QueueEntry}
-use Rattle.wm_law.specs.declared.objects.RouteEntry.{RouteEntry}
+use Rattle.wm_desc.specs.declared.description.Sbsd.{Sbsd}
+use Rattle.wm_desc.specs.declared.entry.QueueEntry.{QueueEntry}
+use Rattle.wm_desc.specs.declared.entry.RouteEntry.{RouteEntry}
 use Rattle.wm_law.specs.declared.state.Sbs.{Sbs}
 use Rattle.wm_base.specs.declared.job.EndCause.{EndCause}
 use Rattle.wm_law.specs.Choice.{rank_cmp, better, candidate, candidate_from, candidate_described, candidate_held, candidate_queued, entry_for, holder, is_allowed, is_ready, next}
-use Rattle.wm_law.specs.Names.{described}
+use Rattle.wm_desc.specs.Table.{object_named}
 use Rattle.wm_law.specs.Counts.{is_waiting}
 use Rattle.wm_law.specs.Launch.{route, route_fault, launched_by, launched_through, launched, launched_at, launch, launch_job}
 use Rattle.wm_base.proofs.Iterate.{iterate-none, iterate-step, next-iterate}
@@ -61,7 +61,7 @@ serial_described s j queue b (Some d) c h = serial_from s j b d (entry_for queue
 
 serial_held : (s : State) (j : Job) (queue : QName) (b : Option Sbs) (c : Candidate) → candidate_held s j queue b ≡ Some c → c.serial ≡ j.serial
 serial_held s j queue None c h = absurd (cc)
-serial_held s j queue (Some b) c h = serial_described s j queue b (described b.sbsd s.objects.sbsds) c h
+serial_held s j queue (Some b) c h = serial_described s j queue b (object_named b.sbsd s.objects.sbsds) c h
 
 serial_queued : (s : State) (j : Job) (queue : Option QName) (c : Candidate) → candidate_queued s j queue ≡ Some c → c.serial ≡ j.serial
 serial_queued s j None c h = absurd (cc)
@@ -88,7 +88,7 @@ through s sbs jobq j (Some e) = by_cause sbs jobq j e.seq (route_fault s sbs e j
 
 -- what a launch makes of a job doesn't wait
 not_waiting : (s : State) (sbs jobq : QName) (j : Job) → is_waiting (launched s sbs jobq j).phase ≡ false
-not_waiting s sbs jobq j = through s sbs jobq j (option_and_then (λ d. route d j.rtgdta) (described sbs s.objects.sbsds))
+not_waiting s sbs jobq j = through s sbs jobq j (option_and_then (λ d. route d j.rtgdta) (object_named sbs s.objects.sbsds))
 
 -- one for a job that waits
 abbrev one : Job → ℕ

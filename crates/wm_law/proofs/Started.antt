@@ -16,7 +16,7 @@ use Rattle.wm_law.specs.Kept.{IsDistinct, HasDistinctNames, OpeningHasDistinctNa
 use Rattle.wm_law.specs.Launch.{launch_job}
 use Rattle.wm_law.specs.Laws.{IsIn}
 use Rattle.wm_law.specs.Machine.{start_refusal, is_on, is_started, is_gone, end_now, max_started}
-use Rattle.wm_law.specs.Names.{is_name_of, described}
+use Rattle.wm_desc.specs.Table.{object_named}
 use Rattle.wm_law.specs.Opening.{opening}
 use Rattle.wm_law.proofs.Moves.{HoldsAfterCalls, IsKeptByParts, step_keeps, after_keeps, unrefused}
 use Rattle.wm_law.proofs.Numbers.{map_same}
@@ -33,13 +33,13 @@ of_neither true b e = absurd (cc)
 of_neither false b e = (refl, e)
 
 -- a name that no started subsystem has stands not among theirs
-not_among : (name : List ℕ) (started : List Sbs) → list_any (λ b. is_name_of b.sbsd.name name) started ≡ false → IsIn name (map name_of started) → ⊥
+not_among : (name : List ℕ) (started : List Sbs) → list_any (λ b. pointwise nat_eq b.sbsd.name name) started ≡ false → IsIn name (map name_of started) → ⊥
 not_among name [] e i = i
 not_among name (b ∷ bs) e (inl same) =
-    let this = (of_neither (is_name_of b.sbsd.name name) (list_any (λ (b : Sbs). is_name_of b.sbsd.name name) bs) e).0 in
-    let one = subst (λ (n : List ℕ). is_name_of n name ≡ true) same (same_name name) in
+    let this = (of_neither (pointwise nat_eq b.sbsd.name name) (list_any (λ (b : Sbs). pointwise nat_eq b.sbsd.name name) bs) e).0 in
+    let one = subst (λ (n : List ℕ). pointwise nat_eq n name ≡ true) same (same_name name) in
     absurd (cc)
-not_among name (b ∷ bs) e (inr i) = not_among name bs (of_neither (is_name_of b.sbsd.name name) (list_any (λ (b : Sbs). is_name_of b.sbsd.name name) bs) e).1 i
+not_among name (b ∷ bs) e (inr i) = not_among name bs (of_neither (pointwise nat_eq b.sbsd.name name) (list_any (λ (b : Sbs). pointwise nat_eq b.sbsd.name name) bs) e).1 i
 
 not_last : {X A : Type 0} (key : X → A) (y : X) (xs : List X) (k : A) → (key y ≡ k → ⊥) → (IsIn k (map key xs) → ⊥) → IsIn k (map key (xs ++ y ∷ [])) → ⊥
 not_last key y [] k h n (inl e) = h (sym e)
@@ -73,7 +73,7 @@ distinct_left key p (x ∷ xs) d = distinct_more key (p x) x (filter p xs) (λ i
 not_started : (s : State) (q : QName) → start_refusal s q ≡ None → is_started s q.name ≡ false
 not_started s q e =
     let on = (unrefused (not (is_on s.power)) PoweringDown _ e).1 in
-    let there = (unrefused (not (is_some (described q s.objects.sbsds))) (NoObject kind.Sbsd) _ on).1 in
+    let there = (unrefused (not (is_some (object_named q s.objects.sbsds))) (NoObject kind.Sbsd) _ on).1 in
     (unrefused (is_started s q.name) AlreadyActive (if nat_le max_started (length s.started) then Some (TableFull kind.Sbs max_started) else None) there).0
 
 started : (s : State) (q : QName) → start_refusal s q ≡ None → HasDistinctNames s → HasDistinctNames (record s { started = s.started ++ record { sbsd = q; phase = Active } ∷ [] })

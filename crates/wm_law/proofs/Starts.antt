@@ -19,9 +19,9 @@ use Rattle.wm_law.specs.declared.call.Sbmjob.{Sbmjob}
 use Rattle.wm_law.specs.declared.job.Job.{Job}
 use Rattle.wm_law.specs.declared.job.Phase.{Phase}
 use Rattle.wm_law.specs.declared.job.Phase.TheVariants.{Handed}
-use Rattle.wm_law.specs.declared.objects.Jobd.{Jobd}
-use Rattle.wm_law.specs.declared.objects.Program.{Program}
-use Rattle.wm_law.specs.declared.objects.RouteEntry.{RouteEntry}
+use Rattle.wm_desc.specs.declared.description.Jobd.{Jobd}
+use Rattle.wm_desc.specs.declared.description.Program.{Program}
+use Rattle.wm_desc.specs.declared.entry.RouteEntry.{RouteEntry}
 use Rattle.wm_law.specs.declared.state.State.{State}
 use Rattle.wm_law.specs.Counts.{is_starting}
 use Rattle.wm_law.specs.History.{stepped, IsEntry, IsLegal, order_in}
@@ -29,7 +29,7 @@ use Rattle.wm_law.specs.Kept.{IsDistinct, IsNumbered, phase_rank, start_in, star
 use Rattle.wm_law.specs.Launch.{order_of, order_by, order_through, order_called, order_with, route_entry, called_program, called_args}
 use Rattle.wm_law.specs.Laws.{IsIn}
 use Rattle.wm_law.specs.Machine.{Stepped, apply, step, settle, with_clock, with_phase, phased_at, start_refusal, start_unless, submit_refusal, submit_unless, submit_with, is_on, is_down_now, change, hand_job, hand_order, report_on, is_handed_to, is_run_by, done_with}
-use Rattle.wm_law.specs.Names.{described}
+use Rattle.wm_desc.specs.Table.{object_named}
 use Rattle.wm_law.proofs.Forward.{only_one, found_in, mapped_in, starting_rank, settle_goes_on, step_goes_on}
 use Rattle.wm_law.specs.Opening.{opening}
 use Rattle.wm_law.proofs.Numbers.{opening_is_numbered, apply_keeps, clock_keeps, step_keeps_numbers}
@@ -41,7 +41,7 @@ with_serial j args (Some p) (Some c) o e = cc
 
 called_serial : (s : State) (j : Job) (n : RouteEntry) (q : Option QName) (o : StartOrder) → order_called s j n q ≡ Some o → o.serial ≡ j.serial
 called_serial s j n None o e = absurd (cc)
-called_serial s j n (Some q) o e = with_serial j (called_args n j.rqsdta) (described q s.objects.programs) (described n.cls s.objects.classes) o e
+called_serial s j n (Some q) o e = with_serial j (called_args n j.rqsdta) (object_named q s.objects.programs) (object_named n.cls s.objects.classes) o e
 
 through_serial : (s : State) (j : Job) (n : Option RouteEntry) (o : StartOrder) → order_through s j n ≡ Some o → o.serial ≡ j.serial
 through_serial s j None o e = absurd (cc)
@@ -89,7 +89,7 @@ submitted_with s user c (Some d) x e = submitted s user c d (submit_refusal s c 
 
 changed : (s : State) (user : List ℕ) (c : Command) → Hands s (change s user c)
 changed s user (command.Strsbs c) = start s c.sbsd (start_refusal s c.sbsd)
-changed s user (command.Sbmjob c) = either s (is_on s.power) _ _ (submitted_with s user c (described c.jobd s.objects.jobds)) (λ x e. absurd (cc))
+changed s user (command.Sbmjob c) = either s (is_on s.power) _ _ (submitted_with s user c (object_named c.jobd s.objects.jobds)) (λ x e. absurd (cc))
 changed s user (command.Pwrdwnsys c) = either s (is_down_now s.power) _ _ (λ x e. absurd (cc)) (λ x e. absurd (cc))
 
 moved : (s : State) (i : Job) (m : ℕ) → IsIn i s.jobs → IsIn (record i { phase = Handed m }) (with_phase s i.serial (Handed m)).jobs

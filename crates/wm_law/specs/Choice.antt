@@ -9,8 +9,8 @@ use Rattle.wm_base.specs.declared.limit.Limit.{Limit}
 use Rattle.wm_base.specs.declared.limit.Limit.TheVariants.{NoMax}
 use Rattle.wm_base.specs.Limit.{is_below}
 use Rattle.wm_law.specs.declared.job.Job.{Job}
-use Rattle.wm_law.specs.declared.objects.Sbsd.{Sbsd}
-use Rattle.wm_law.specs.declared.objects.QueueEntry.{QueueEntry}
+use Rattle.wm_desc.specs.declared.description.Sbsd.{Sbsd}
+use Rattle.wm_desc.specs.declared.entry.QueueEntry.{QueueEntry}
 use Rattle.wm_law.specs.declared.state.State.{State}
 use Rattle.wm_law.specs.declared.state.Sbs.{Sbs}
 use Rattle.wm_law.specs.declared.state.SbsPhase.{SbsPhase}
@@ -18,11 +18,11 @@ use Rattle.wm_law.specs.declared.state.SbsPhase.TheVariants.{Active, Ending, Now
 use Rattle.wm_law.specs.declared.choice.Candidate.{Candidate}
 use Rattle.wm_law.specs.declared.choice.Rank.{Rank}
 use Rattle.wm_law.specs.Counts.{is_waiting, count_in_sbs, count_from_queue, count_from_priority}
-use Rattle.wm_law.specs.Names.{is_qname, described}
+use Rattle.wm_desc.specs.Table.{same_qname, object_named}
 
 -- a queue of the state is held
 abbrev pub is_held : State → QName → Bool
-is_held s queue = list_any (λ q. is_qname q queue) s.held
+is_held s queue = list_any (λ q. same_qname q queue) s.held
 
 -- the job has a queue that isn't held
 abbrev pub has_free_queue : State → Option QName → Bool
@@ -35,11 +35,11 @@ is_ready s j = is_waiting j.phase && not j.held && has_free_queue s j.jobq && na
 
 -- a description's entry for a queue
 abbrev pub entry_for : QName → Sbsd → Option QueueEntry
-entry_for queue d = find (λ e. is_qname e.jobq queue) d.queues
+entry_for queue d = find (λ e. same_qname e.jobq queue) d.queues
 
 -- whether a subsystem's description has an entry for the queue
 abbrev pub has_entry : State → QName → Sbs → Bool
-has_entry s queue b = is_some (option_and_then (entry_for queue) (described b.sbsd s.objects.sbsds))
+has_entry s queue b = is_some (option_and_then (entry_for queue) (object_named b.sbsd s.objects.sbsds))
 
 -- the holder of a queue: the first started subsystem whose description has an entry for it
 abbrev pub holder : State → QName → Option Sbs
@@ -76,7 +76,7 @@ candidate_described s j queue b (Some d) = candidate_from s j b d (entry_for que
 
 abbrev pub candidate_held : State → Job → QName → Option Sbs → Option Candidate
 candidate_held s j queue None = None
-candidate_held s j queue (Some b) = candidate_described s j queue b (described b.sbsd s.objects.sbsds)
+candidate_held s j queue (Some b) = candidate_described s j queue b (object_named b.sbsd s.objects.sbsds)
 
 abbrev pub candidate_queued : State → Job → Option QName → Option Candidate
 candidate_queued s j None = None

@@ -6,7 +6,7 @@ use Rattle.wm_base.specs.declared.job.How.TheVariants.{NotYet, FromQueue, Auto, 
 use Rattle.wm_law.specs.declared.job.Job.{Job}
 use Rattle.wm_law.specs.declared.job.Phase.{Phase}
 use Rattle.wm_law.specs.declared.job.Phase.TheVariants.{Waiting, Starting, Handed, Running, Ended}
-use Rattle.wm_law.specs.Names.{is_qname}
+use Rattle.wm_desc.specs.Table.{same_qname}
 
 abbrev pub is_waiting : Phase → Bool
 is_waiting Waiting = true
@@ -33,29 +33,29 @@ is_active (Ended c) = false
 -- whether it came into the subsystem
 abbrev pub is_in_sbs : QName → How → Bool
 is_in_sbs q NotYet = false
-is_in_sbs q (FromQueue sbs jobq pty route) = is_qname sbs q
-is_in_sbs q (Auto sbs route) = is_qname sbs q
-is_in_sbs q (Pre sbs pgm) = is_qname sbs q
+is_in_sbs q (FromQueue sbs jobq pty route) = same_qname sbs q
+is_in_sbs q (Auto sbs route) = same_qname sbs q
+is_in_sbs q (Pre sbs pgm) = same_qname sbs q
 
 -- whether it came from the subsystem's entry for the queue
 abbrev pub is_from_queue : QName → QName → How → Bool
 is_from_queue q queue NotYet = false
-is_from_queue q queue (FromQueue sbs jobq pty route) = is_qname sbs q && is_qname jobq queue
+is_from_queue q queue (FromQueue sbs jobq pty route) = same_qname sbs q && same_qname jobq queue
 is_from_queue q queue (Auto sbs route) = false
 is_from_queue q queue (Pre sbs pgm) = false
 
 -- whether it came from there with the priority
 abbrev pub is_from_priority : QName → QName → ℕ → How → Bool
 is_from_priority q queue p NotYet = false
-is_from_priority q queue p (FromQueue sbs jobq pty route) = is_qname sbs q && is_qname jobq queue && pty == p
+is_from_priority q queue p (FromQueue sbs jobq pty route) = same_qname sbs q && same_qname jobq queue && pty == p
 is_from_priority q queue p (Auto sbs route) = false
 is_from_priority q queue p (Pre sbs pgm) = false
 
 -- whether it came through the subsystem's routing entry of that number
 abbrev pub is_by_route : QName → ℕ → How → Bool
 is_by_route q seq NotYet = false
-is_by_route q seq (FromQueue sbs jobq pty route) = is_qname sbs q && route == seq
-is_by_route q seq (Auto sbs route) = is_qname sbs q && route == seq
+is_by_route q seq (FromQueue sbs jobq pty route) = same_qname sbs q && route == seq
+is_by_route q seq (Auto sbs route) = same_qname sbs q && route == seq
 is_by_route q seq (Pre sbs pgm) = false
 
 -- the active jobs whose how passes a test

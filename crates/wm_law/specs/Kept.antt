@@ -3,6 +3,7 @@
 use Rattle.std.specs.Prelude.{◌≡◌, ◌↔◌, ℕ, ◌<◌, ◌≤◌, List, [], ◌∷◌, map, ⊤, Option, Some, None}
 use Rattle.std.specs.List.{filter_map}
 use Rattle.std.specs.Option.{IsSome, option_and_then}
+use Rattle.std.specs.Ordering.{nat_cmp}
 use Rattle.wm_base.specs.declared.job.Asked.{Asked}
 use Rattle.wm_base.specs.declared.job.Asked.TheVariants.{Start, Kill}
 use Rattle.wm_base.specs.declared.qname.QName.{QName}
@@ -13,15 +14,17 @@ use Rattle.wm_law.specs.declared.call.Reply.TheVariants.{Nothing}
 use Rattle.wm_law.specs.declared.job.Job.{Job}
 use Rattle.wm_law.specs.declared.job.Phase.{Phase}
 use Rattle.wm_law.specs.declared.job.Phase.TheVariants.{Waiting, Starting, Handed, Running, Ended}
-use Rattle.wm_law.specs.declared.objects.RouteEntry.{RouteEntry}
-use Rattle.wm_law.specs.declared.objects.Sbsd.{Sbsd}
+use Rattle.wm_desc.specs.declared.entry.RouteEntry.{RouteEntry}
+use Rattle.wm_desc.specs.declared.description.Sbsd.{Sbsd}
+use Rattle.wm_desc.specs.declared.objects.Objects.{Objects}
+use Rattle.wm_desc.specs.Sorted.{IsSortedOnce}
 use Rattle.wm_law.specs.declared.state.State.{State}
 use Rattle.wm_law.specs.Fit.{IsBetween}
 use Rattle.wm_law.specs.History.{IsLegal, after, order_in}
-use Rattle.wm_law.specs.Launch.{entry_numbered, order_of}
-use Rattle.wm_law.specs.Laws.{IsIn}
+use Rattle.wm_law.specs.Launch.{order_of, route}
+use Rattle.wm_law.specs.Laws.{IsIn, IsRoute}
 use Rattle.wm_law.specs.Machine.{numbers_end, serials_end, step}
-use Rattle.wm_law.specs.Names.{described}
+use Rattle.wm_desc.specs.Table.{object_named}
 use Rattle.wm_law.specs.Opening.{opening}
 use Rattle.wm_law.specs.Pending.{starting}
 
@@ -49,14 +52,14 @@ pub record IsNumbered (s : State) : Type 0 where
   pub next_serial : IsBetween 1 serials_end s.next_serial
   pub next_place : IsBetween 1 serials_end s.next_place
 
--- each routing entry of a description is the one of its number there, and its class is an object
-pub record IsRouted (s : State) : Type 0 where
-  pub numbers : (sbs : QName) (d : Sbsd) (e : RouteEntry) → described sbs s.objects.sbsds ≡ Some d → IsIn e d.routes → entry_numbered e.seq d ≡ Some e
-  pub classes : (sbs : QName) (d : Sbsd) (e : RouteEntry) → described sbs s.objects.sbsds ≡ Some d → IsIn e d.routes → IsSome (described e.cls s.objects.classes)
+-- the routing entries of each description stand in the order of their numbers, each number once, and their classes are objects
+pub record IsRouted (objects : Objects) : Type 0 where
+  pub sorted : (sbs : QName) (d : Sbsd) → object_named sbs objects.sbsds ≡ Some d → IsSortedOnce (λ e. e.seq) nat_cmp d.routes
+  pub classes : (sbs : QName) (d : Sbsd) (e : RouteEntry) → object_named sbs objects.sbsds ≡ Some d → IsIn e d.routes → IsSome (object_named e.cls objects.classes)
 
 -- each Starting job has its order: its routing entry, the program that this calls and the class are there
 pub record HasOrders (s : State) : Type 0 where
-  pub routed : IsRouted s
+  pub routed : IsRouted s.objects
   pub starting : (j : Job) → IsIn j s.jobs → j.phase ≡ Starting → IsSome (order_of s j)
 
 -- the simple names of the started subsystems
@@ -137,6 +140,10 @@ StartingJobsHaveOrders = (h : List Entry) → HasOrders (after opening h)
 -- whatever was called, a Hand answers Nothing exactly where no job is Starting
 abbrev pub HandGivesAnOrder : Type 0
 HandGivesAnOrder = (h : List Entry) (caller moment : ℕ) → (step (after opening h) caller Hand moment).reply ≡ Nothing ↔ starting (after opening h) ≡ 0
+
+-- whatever was called, the route in a subsystem is its matching entry of least number
+abbrev pub ReachedRouteIsLeast : Type 0
+ReachedRouteIsLeast = (h : List Entry) (sbs : QName) (d : Sbsd) (rtgdta : List ℕ) (e : RouteEntry) → object_named sbs (after opening h).objects.sbsds ≡ Some d → route d rtgdta ≡ Some e → IsRoute d rtgdta e
 
 -- no subsystem is started in the opening state
 abbrev pub OpeningHasDistinctNames : Type 0

@@ -1,5 +1,5 @@
 -- What becomes of a job whose turn has come, and what its monitor is told to start.
-use Rattle.std.specs.Prelude.{ℕ, Bool, true, false, ◌-◌, ◌++◌, ◌==◌, List, length, take, drop, Option, Some, None, find, map, codes, nat_eq, if◌then◌else◌, option_map, option_and_then, option_to_list}
+use Rattle.std.specs.Prelude.{ℕ, Bool, true, false, ◌-◌, ◌++◌, ◌==◌, List, length, take, drop, Option, Some, None, find, map, replicate, codes, nat_eq, if◌then◌else◌, option_map, option_and_then, option_to_list}
 use Rattle.std.specs.List.{list_any, starts_with, ends_with}
 use Rattle.wm_base.specs.declared.qname.QName.{QName}
 use Rattle.wm_base.specs.declared.job.How.{How}
@@ -11,20 +11,31 @@ use Rattle.wm_base.specs.declared.job.Class.{Class}
 use Rattle.wm_base.specs.Limit.{is_below}
 use Rattle.wm_law.specs.declared.job.Job.{Job}
 use Rattle.wm_law.specs.declared.job.Phase.TheVariants.{Starting, Ended}
-use Rattle.wm_law.specs.declared.objects.Cmp.{Cmp}
-use Rattle.wm_law.specs.declared.objects.Cmp.TheVariants.{Any}
-use Rattle.wm_law.specs.declared.objects.Program.{Program}
-use Rattle.wm_law.specs.declared.objects.RouteEntry.{RouteEntry}
-use Rattle.wm_law.specs.declared.objects.Sbsd.{Sbsd}
+use Rattle.wm_desc.specs.declared.entry.Cmp.{Cmp}
+use Rattle.wm_desc.specs.declared.entry.Cmp.TheVariants.{Any, Val}
+use Rattle.wm_desc.specs.declared.description.Program.{Program}
+use Rattle.wm_desc.specs.declared.entry.RouteEntry.{RouteEntry}
+use Rattle.wm_desc.specs.declared.description.Sbsd.{Sbsd}
 use Rattle.wm_law.specs.declared.state.State.{State}
 use Rattle.wm_law.specs.declared.choice.Candidate.{Candidate}
 use Rattle.wm_law.specs.declared.launch.Launched.{Launched}
 use Rattle.wm_law.specs.Counts.{count_by_route}
-use Rattle.wm_law.specs.Names.{is_qname, described, echo, qcmd}
+use Rattle.wm_desc.specs.Sorted.{with_key}
+use Rattle.wm_desc.specs.Table.{object_named, is_qcmd}
+use Rattle.wm_desc.specs.Opening.{echo}
+
+-- routing data, extended with blanks to 80 characters
+abbrev pub extended : List ℕ → List ℕ
+extended rtgdta = take 80 (rtgdta ++ replicate 80 32)
+
+-- whether routing data, so extended, has the value from a position, counted from 1
+abbrev pub has_value : List ℕ → ℕ → List ℕ → Bool
+has_value value start rtgdta = starts_with nat_eq (drop (start - 1) (extended rtgdta)) value
 
 -- whether routing data passes a comparison
 abbrev pub is_match : Cmp → List ℕ → Bool
 is_match Any rtgdta = true
+is_match (Val value start) rtgdta = has_value value start rtgdta
 
 -- the first routing entry, in the order of the sequence numbers, that routing data passes
 abbrev pub route : Sbsd → List ℕ → Option RouteEntry
@@ -63,11 +74,11 @@ requested request = option_map (λ p. echo) (option_and_then parameter_of reques
 
 -- the program that a routing entry's program calls: QSYS/QCMD that of the request, another program itself
 abbrev pub called_program : RouteEntry → Option (List ℕ) → Option QName
-called_program e request = if is_qname e.pgm qcmd then requested request else Some e.pgm
+called_program e request = if is_qcmd e.pgm then requested request else Some e.pgm
 
 -- the arguments that it gets: from QSYS/QCMD the parameter, else the request, where there is one
 abbrev pub called_args : RouteEntry → Option (List ℕ) → List (List ℕ)
-called_args e request = if is_qname e.pgm qcmd then option_to_list (option_and_then parameter_of request) else option_to_list request
+called_args e request = if is_qcmd e.pgm then option_to_list (option_and_then parameter_of request) else option_to_list request
 
 -- why a program object can't be started: there is none
 abbrev pub missing_program : Option Program → Option EndCause
@@ -77,7 +88,7 @@ missing_program (Some p) = None
 -- why what is called can't be started
 abbrev pub program_fault : State → Option QName → Option EndCause
 program_fault s None = Some BadRequest
-program_fault s (Some pgm) = missing_program (described pgm s.objects.programs)
+program_fault s (Some pgm) = missing_program (object_named pgm s.objects.programs)
 
 -- why a job that the entry matches can't start in the subsystem
 abbrev pub route_fault : State → QName → RouteEntry → Job → Option EndCause
@@ -102,7 +113,7 @@ launched_through s sbs queue j (Some e) = launched_by sbs queue j e.seq (route_f
 
 -- the launch of a job of a queue in a subsystem: no entry matches, the entry is full, the request is no CALL, the program is missing, or it starts
 abbrev pub launched : State → QName → QName → Job → Launched
-launched s sbs queue j = launched_through s sbs queue j (option_and_then (λ d. route d j.rtgdta) (described sbs s.objects.sbsds))
+launched s sbs queue j = launched_through s sbs queue j (option_and_then (λ d. route d j.rtgdta) (object_named sbs s.objects.sbsds))
 
 -- the job as launched, where it has that serial
 abbrev pub launched_at : ℕ → Launched → Job → Job
@@ -128,7 +139,7 @@ order_with j args (Some p) (Some cls) = Some (record { serial = j.serial; job = 
 
 abbrev pub order_called : State → Job → RouteEntry → Option QName → Option StartOrder
 order_called s j e None = None
-order_called s j e (Some pgm) = order_with j (called_args e j.rqsdta) (described pgm s.objects.programs) (described e.cls s.objects.classes)
+order_called s j e (Some pgm) = order_with j (called_args e j.rqsdta) (object_named pgm s.objects.programs) (object_named e.cls s.objects.classes)
 
 abbrev pub order_through : State → Job → Option RouteEntry → Option StartOrder
 order_through s j None = None
@@ -136,11 +147,11 @@ order_through s j (Some e) = order_called s j e (called_program e j.rqsdta)
 
 -- a description's routing entry of that number
 abbrev pub entry_numbered : ℕ → Sbsd → Option RouteEntry
-entry_numbered seq d = find (λ e. e.seq == seq) d.routes
+entry_numbered seq d = with_key (λ e. e.seq) nat_eq seq d.routes
 
 -- a subsystem's routing entry of that number
 abbrev pub route_entry : State → QName → ℕ → Option RouteEntry
-route_entry s sbs seq = option_and_then (entry_numbered seq) (described sbs s.objects.sbsds)
+route_entry s sbs seq = option_and_then (entry_numbered seq) (object_named sbs s.objects.sbsds)
 
 abbrev pub order_by : State → Job → How → Option StartOrder
 order_by s j NotYet = None

@@ -1,5 +1,5 @@
 -- Laws of the machine: what its definitions come to.
-use Rattle.std.specs.Prelude.{◌≡◌, ℕ, ◌<◌, ◌⊎◌, true, false, ◌==◌, List, [], ◌∷◌, Some, None}
+use Rattle.std.specs.Prelude.{◌≡◌, ℕ, ◌<◌, ◌≤◌, ◌⊎◌, true, false, ◌==◌, List, [], ◌∷◌, Some, None}
 use Rattle.std.specs.List.{list_any}
 use Rattle.std.specs.Ordering.{nat_cmp, is_lt}
 use Rattle.std.specs.Cmp.Lexicographic.{slice_cmp}
@@ -9,14 +9,16 @@ use Rattle.wm_law.specs.declared.call.Call.{Call}
 use Rattle.wm_law.specs.declared.call.Reply.TheVariants.{No}
 use Rattle.wm_law.specs.declared.choice.Candidate.{Candidate}
 use Rattle.wm_law.specs.declared.job.Job.{Job}
-use Rattle.wm_law.specs.declared.objects.Sbsd.{Sbsd}
-use Rattle.wm_law.specs.declared.objects.QueueEntry.{QueueEntry}
+use Rattle.wm_desc.specs.declared.description.Sbsd.{Sbsd}
+use Rattle.wm_desc.specs.declared.entry.QueueEntry.{QueueEntry}
+use Rattle.wm_desc.specs.declared.entry.RouteEntry.{RouteEntry}
+use Rattle.wm_desc.specs.Sorted.{IsSortedOnce}
 use Rattle.wm_law.specs.declared.state.State.{State}
 use Rattle.wm_law.specs.declared.state.Sbs.{Sbs}
 use Rattle.wm_law.specs.Choice.{is_ready, holder, entry_for, is_allowed, next}
-use Rattle.wm_law.specs.Launch.{call_request, parameter_of}
+use Rattle.wm_law.specs.Launch.{call_request, is_match, parameter_of, route}
 use Rattle.wm_law.specs.Machine.{apply, step, settle, with_clock}
-use Rattle.wm_law.specs.Names.{described}
+use Rattle.wm_desc.specs.Table.{object_named}
 
 -- the element stands in the list
 abbrev pub IsIn : {X : Type 0} → X → List X → Type 0
@@ -35,7 +37,7 @@ pub record MayStart (s : State) (j : Job) (t : Turn) : Type 0 where
   pub ready : is_ready s j ≡ true
   pub queue : j.jobq ≡ Some t.queue
   pub holder : holder s t.queue ≡ Some t.sbs
-  pub sbsd : described t.sbs.sbsd s.objects.sbsds ≡ Some t.sbsd
+  pub sbsd : object_named t.sbs.sbsd s.objects.sbsds ≡ Some t.sbsd
   pub entry : entry_for t.queue t.sbsd ≡ Some t.entry
   pub allowed : is_allowed s t.sbs t.sbsd t.entry j.pty ≡ true
 
@@ -68,6 +70,20 @@ NextIsFirst = (s : State) (c : Candidate) → next s ≡ Some c → (j : Job) ×
 -- where there is no next job, no job may start
 abbrev pub NoNextIsNone : Type 0
 NoNextIsNone = (s : State) → next s ≡ None → (j : Job) (t : Turn) → IsIn j s.jobs → MayStart s j t → ⊥
+
+-- the entry is the description's, routing data passes it, and passes none of a lesser number
+pub record IsRoute (d : Sbsd) (rtgdta : List ℕ) (e : RouteEntry) : Type 0 where
+  pub stands : IsIn e d.routes
+  pub matches : is_match e.cmp rtgdta ≡ true
+  pub least : (o : RouteEntry) → IsIn o d.routes → is_match o.cmp rtgdta ≡ true → e.seq ≤ o.seq
+
+-- of entries in the order of their numbers, as descriptions have them, the route is the matching one of least number
+abbrev pub RouteIsLeast : Type 0
+RouteIsLeast = (d : Sbsd) (rtgdta : List ℕ) (e : RouteEntry) → IsSortedOnce (λ n. n.seq) nat_cmp d.routes → route d rtgdta ≡ Some e → IsRoute d rtgdta e
+
+-- where there is no route, routing data passes no entry
+abbrev pub NoRouteIsNone : Type 0
+NoRouteIsNone = (d : Sbsd) (rtgdta : List ℕ) → route d rtgdta ≡ None → (o : RouteEntry) → IsIn o d.routes → is_match o.cmp rtgdta ≡ true → ⊥
 
 -- after settling there is no next job
 abbrev pub SettledHasNoNext : Type 0

@@ -6,6 +6,5 @@ pub mod Kept
 pub mod Launch
 pub mod Laws
 pub mod Machine
-pub mod Names
 pub mod Opening
 pub mod Pending

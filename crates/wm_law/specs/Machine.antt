@@ -1,6 +1,7 @@
 -- The machine: what a call answers and leaves, and what settles after it.
-use Rattle.std.specs.Prelude.{ℕ, Bool, true, false, not, ◌+◌, ◌&&◌, ◌==◌, [], ◌∷◌, ◌++◌, List, length, Option, Some, None, find, map, filter, max, count_by, nat_lt, nat_le, if◌then◌else◌, unwrap_or, is_some}
+use Rattle.std.specs.Prelude.{ℕ, Bool, true, false, not, ◌+◌, ◌&&◌, ◌==◌, [], ◌∷◌, ◌++◌, List, length, Option, Some, None, find, map, filter, max, count_by, nat_eq, nat_lt, nat_le, if◌then◌else◌, unwrap_or, is_some}
 use Rattle.std.specs.List.{list_any}
+use Rattle.std.specs.Cmp.Lexicographic.{pointwise}
 use Rattle.wm_base.specs.declared.qname.QName.{QName}
 use Rattle.wm_base.specs.declared.job.JobName.{JobName}
 use Rattle.wm_base.specs.declared.job.How.TheVariants.{NotYet}
@@ -28,7 +29,7 @@ use Rattle.wm_law.specs.declared.job.JobKind.TheVariants.{Bch}
 use Rattle.wm_law.specs.declared.job.Phase.{Phase}
 use Rattle.wm_law.specs.declared.job.Phase.TheVariants.{Waiting, Starting, Handed, Running, Ended}
 use Rattle.wm_law.specs.declared.job.Wish.TheVariants.{NoWish}
-use Rattle.wm_law.specs.declared.objects.Jobd.{Jobd}
+use Rattle.wm_desc.specs.declared.description.Jobd.{Jobd}
 use Rattle.wm_law.specs.declared.state.State.{State}
 use Rattle.wm_law.specs.declared.state.Sbs.{Sbs}
 use Rattle.wm_law.specs.declared.state.SbsPhase.{SbsPhase}
@@ -38,7 +39,7 @@ use Rattle.wm_law.specs.declared.state.Power.TheVariants.{On, Down, DownNow}
 use Rattle.wm_law.specs.Choice.{next}
 use Rattle.wm_law.specs.Counts.{is_waiting, is_starting, count_in_sbs}
 use Rattle.wm_law.specs.Launch.{launch, order_of}
-use Rattle.wm_law.specs.Names.{is_name_of, described}
+use Rattle.wm_desc.specs.Table.{object_named}
 
 -- a reply, and the state after it
 pub record Stepped : Type 0 where
@@ -67,13 +68,13 @@ max_started = 32
 
 -- a started subsystem has the simple name
 abbrev pub is_started : State → List ℕ → Bool
-is_started s name = list_any (λ b. is_name_of b.sbsd.name name) s.started
+is_started s name = list_any (λ b. pointwise nat_eq b.sbsd.name name) s.started
 
 -- why a subsystem can't be started
 abbrev pub start_refusal : State → QName → Option Refusal
 start_refusal s q =
     if not (is_on s.power) then Some PoweringDown
-    else if not (is_some (described q s.objects.sbsds)) then Some (NoObject kind.Sbsd)
+    else if not (is_some (object_named q s.objects.sbsds)) then Some (NoObject kind.Sbsd)
     else if is_started s q.name then Some AlreadyActive
     else if nat_le max_started (length s.started) then Some (TableFull kind.Sbs max_started)
     else None
@@ -106,13 +107,13 @@ queue_of c d = unwrap_or c.jobq d.jobq
 
 -- what stands behind the command, where it says so, else in the description
 abbrev pub or_described : {V : Type 0} → Option V → Option V → Option V
-or_described None described = described
-or_described (Some v) described = Some v
+or_described None inside = inside
+or_described (Some v) inside = Some v
 
 -- why a job can't be submitted with the description
 abbrev pub submit_refusal : State → Sbmjob → Jobd → Option Refusal
 submit_refusal s c d =
-    if not (is_some (described (queue_of c d) s.objects.jobqs)) then Some (NoObject kind.Jobq)
+    if not (is_some (object_named (queue_of c d) s.objects.jobqs)) then Some (NoObject kind.Jobq)
     else if not (has_numbers s) then Some NumbersUsed
     else None
 
@@ -155,7 +156,7 @@ submit_with s user c (Some d) = submit_unless s user c d (submit_refusal s c d)
 
 -- a Waiting job with the next number, serial and place
 abbrev pub submit : State → List ℕ → Sbmjob → Stepped
-submit s user c = if is_on s.power then submit_with s user c (described c.jobd s.objects.jobds) else refused s PoweringDown
+submit s user c = if is_on s.power then submit_with s user c (object_named c.jobd s.objects.jobds) else refused s PoweringDown
 
 -- PWRDWNSYS OPTION(*IMMED) where no job is active
 

@@ -1,10 +1,11 @@
 // Which job starts next.
 ghost use Rattle.std.specs.Prelude.{◌≡◌};
-ghost use Rattle.wm_law.specs.Choice.{better};
+ghost use Rattle.wm_law.specs.Choice.{better, maxpty_of};
 
 use crate::counts::{count_from_priority, count_from_queue, count_in_sbs, is_waiting};
-use crate::{Job, QueueEntry, Sbs, SbsPhase, Sbsd, State};
-use wm_base::{Name, Priority, QName, Serial};
+use crate::{Job, Sbs, SbsPhase, State};
+use wm_base::{Limit, Name, Priority, QName, Serial};
+use wm_desc::{QueueEntry, Sbsd};
 
 /// What orders the jobs that may start: the simple name of the subsystem, and there the entry's
 /// sequence number, the job's priority and its place.
@@ -36,10 +37,16 @@ fn better(best: Option<Candidate>, other: Option<Candidate>) -> Option<Candidate
     }
 }
 
+// An entry's limit for jobs of a priority.
+fn maxpty_of(entry: &QueueEntry, pty: Priority) -> Limit
+    ensures { result ≡ maxpty_of entry.now pty }
+{
+    entry.maxpty[usize::from(pty.get()) - 1]
+}
+
 impl State {
     ghost use Rattle.std.specs.Prelude.{◌≡◌, None, fold};
     ghost use Rattle.std.specs.Option.{option_copied};
-    ghost use Rattle.wm_law.specs.Names.{described};
     ghost use Rattle.wm_law.specs.Choice.{is_held, is_ready, holder, has_entry, entry_for, is_allowed, candidate, candidate_from, next};
 
     fn is_held(&self, queue: &QName) -> bool
@@ -63,9 +70,9 @@ impl State {
     fn has_entry(&self, queue: &QName, sbs: &Sbs) -> bool
         ensures { result ≡ has_entry self.now queue.now sbs.now }
     {
-        match self.objects.sbsds.get(&sbs.sbsd) {
+        match self.objects.sbsds.object(&sbs.sbsd) {
             None => false,
-            Some(description) => description.entry_for(queue).is_some(),
+            Some(description) => description.queues.for_queue(queue).is_some(),
         }
     }
 
@@ -88,9 +95,7 @@ impl State {
             && entry
                 .maxact
                 .admits(count_from_queue(&sbs.sbsd, &entry.jobq, jobs))
-            && entry
-                .maxpty_of(pty)
-                .admits(count_from_priority(&sbs.sbsd, &entry.jobq, pty, jobs))
+            && maxpty_of(entry, pty).admits(count_from_priority(&sbs.sbsd, &entry.jobq, pty, jobs))
     }
 
     fn candidate_from(
@@ -127,8 +132,8 @@ impl State {
         }
         let queue = job.jobq.as_ref()?;
         let sbs = self.holder(queue)?;
-        let description = self.objects.sbsds.get(&sbs.sbsd)?;
-        let entry = description.entry_for(queue)?;
+        let description = self.objects.sbsds.object(&sbs.sbsd)?;
+        let entry = description.queues.for_queue(queue)?;
         self.candidate_from(job, sbs, description, entry)
     }
 

@@ -2,9 +2,10 @@
 ghost use Rattle.std.specs.Prelude.{◌≡◌, IfOk};
 ghost use Rattle.wm_law.specs.Machine.{is_on, is_down_now};
 
-use crate::{Command, Job, JobKind, Jobd, Phase, Power, Reply, Sbmjob, Sbs, SbsPhase, State, Wish};
+use crate::{Command, Job, JobKind, Phase, Power, Reply, Sbmjob, Sbs, SbsPhase, State, Wish};
 use std::alloc::AllocError;
 use wm_base::{How, JobName, JobNumber, Kind, Name, QName, Refusal, Serial, Text};
+use wm_desc::Jobd;
 
 /// How many subsystems may be started.
 pub const MAX_STARTED: usize = 32;
@@ -57,7 +58,7 @@ impl State {
         if !is_on(&self.power) {
             return Some(Refusal::PoweringDown);
         }
-        if self.objects.sbsds.get(q).is_none() {
+        if self.objects.sbsds.object(q).is_none() {
             return Some(Refusal::NoObject(Kind::Sbsd));
         }
         if self.is_started(&q.name) {
@@ -98,7 +99,7 @@ impl State {
     fn submit_refusal(&self, command: &Sbmjob, jobd: &Jobd) -> Option<Refusal>
         ensures { result ≡ submit_refusal self.now command.now jobd.now }
     {
-        if self.objects.jobqs.get(&command.queue(jobd)).is_none() {
+        if self.objects.jobqs.object(&command.queue(jobd)).is_none() {
             return Some(Refusal::NoObject(Kind::Jobq));
         }
         if !self.has_numbers() {
@@ -165,7 +166,7 @@ impl State {
         if !is_on(&self.power) {
             return Ok(Reply::No(Refusal::PoweringDown));
         }
-        let Some(jobd) = self.objects.jobds.get(&command.jobd) else {
+        let Some(jobd) = self.objects.jobds.object(&command.jobd) else {
             return Ok(Reply::No(Refusal::NoObject(Kind::Jobd)));
         };
         if let Some(refusal) = self.submit_refusal(command, jobd) {

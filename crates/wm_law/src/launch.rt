@@ -1,14 +1,14 @@
 // What becomes of a job whose turn has come, and what its monitor is told to start.
-ghost use Rattle.std.specs.Prelude.{◌≡◌, IfSome};
+ghost use Rattle.std.specs.Prelude.{◌≡◌, IfOk, IfSome};
 ghost use Rattle.wm_base.specs.Text.{IsText};
 ghost use Rattle.std.specs.Option.{option_copied};
-ghost use Rattle.wm_law.specs.Launch.{without_front, without_end, parameter_of, is_match};
+ghost use Rattle.wm_law.specs.Launch.{without_front, without_end, parameter_of, extended, has_value, is_match, called_program, called_args, route, entry_numbered};
 
 use crate::counts::count_by_route;
-use crate::names::{echo, qcmd};
-use crate::{Candidate, Cmp, Job, Phase, RouteEntry, Sbsd, State};
+use crate::{Job, Phase, State};
 use std::alloc::{AllocError, Global};
 use wm_base::{Args, EndCause, How, QName, StartOrder, Text};
+use wm_desc::{Cmp, RouteEntry, Sbsd, echo, is_qcmd};
 
 /// What stands before the parameter in the request that is a CALL of QGPL/ECHO with one.
 pub const BEFORE_PARAMETER: &[u8] = b"CALL PGM(QGPL/ECHO) PARM('";
@@ -56,67 +56,84 @@ pub fn parameter_of(request: &[u8]) -> Option<&[u8]>
     Some(parameter)
 }
 
+/// How many characters routing data are extended to.
+const ROUTING_DATA: usize = 80;
+
+// Routing data, extended with blanks to 80 characters.
+fn extended(rtgdta: &[u8]) -> [u8; ROUTING_DATA]
+    ensures { result ≡ extended rtgdta.now }
+{
+    let mut bytes = [b' '; ROUTING_DATA];
+    let len = rtgdta.len().min(ROUTING_DATA);
+    bytes[..len].copy_from_slice(&rtgdta[..len]);
+    bytes
+}
+
+// Whether routing data, so extended, have the value from a position, counted from 1.
+pub(crate) fn has_value(value: &[u8], start: u32, rtgdta: &[u8]) -> bool
+    ensures { result ≡ has_value value.now start rtgdta.now }
+{
+    let bytes = extended(rtgdta);
+    let before = (start as usize).saturating_sub(1).min(ROUTING_DATA);
+    bytes[before..].starts_with(value)
+}
+
 // Whether routing data passes a comparison.
-fn is_match(cmp: &Cmp, _rtgdta: &Text) -> bool
-    ensures { result ≡ is_match cmp.now _rtgdta.now }
+fn is_match(cmp: &Cmp, rtgdta: &Text) -> bool
+    ensures { result ≡ is_match cmp.now rtgdta.now }
 {
     match cmp {
         Cmp::Any => true,
+        Cmp::Val { value, start } => has_value(value.as_bytes(), *start, rtgdta.as_bytes()),
     }
 }
 
-impl RouteEntry {
-    ghost use Rattle.std.specs.Prelude.{◌≡◌, IfOk};
-    ghost use Rattle.wm_law.specs.Launch.{called_program, called_args};
-
-    /// The program that the entry's program calls: QSYS/QCMD that of the request, another one itself.
-    pub fn called_program(&self, request: &Option<Text>) -> Option<QName>
-        ensures { result ≡ called_program self.now request.now }
-    {
-        if self.pgm != qcmd() {
-            return Some(self.pgm);
-        }
-        let request = request.as_ref()?;
-        parameter_of(request.as_bytes()).map(|_| echo())
-    }
-
-    /// The arguments that it gets.
-    pub fn called_args(&self, alloc: Global, request: &Option<Text>) -> Result<Args, AllocError>
-        ensures { IfOk result (λ args. args ≡ called_args self.now request.now) }
-    {
-        let mut args = Args::new(alloc);
-        let Some(request) = request.as_ref() else {
-            return Ok(args);
-        };
-        if self.pgm != qcmd() {
-            args.push(request.clone()?)?;
-        } else if let Some(parameter) = parameter_of(request.as_bytes()) {
-            args.push(Text::from_bytes(alloc, parameter)?)?;
-        }
-        Ok(args)
-    }
+// The first routing entry, in the order of the sequence numbers, that routing data passes.
+fn route<'a>(description: &'a Sbsd, rtgdta: &Text) -> Option<&'a RouteEntry>
+    ensures { option_copied result ≡ route description.now rtgdta.now }
+{
+    description
+        .routes
+        .as_slice()
+        .iter()
+        .find(|entry| is_match(&entry.cmp, rtgdta))
 }
 
-impl Sbsd {
-    ghost use Rattle.std.specs.Prelude.{◌≡◌};
-    ghost use Rattle.std.specs.Option.{option_copied};
-    ghost use Rattle.wm_law.specs.Launch.{route, entry_numbered};
+fn entry_numbered(description: &Sbsd, seq: u32) -> Option<&RouteEntry>
+    ensures { option_copied result ≡ entry_numbered seq description.now }
+{
+    description.routes.get(&seq)
+}
 
-    /// The first routing entry, in the order of the sequence numbers, that routing data passes.
-    pub fn route(&self, rtgdta: &Text) -> Option<&RouteEntry>
-        ensures { option_copied result ≡ route self.now rtgdta.now }
-    {
-        self.routes
-            .as_slice()
-            .iter()
-            .find(|entry| is_match(&entry.cmp, rtgdta))
+// The program that the entry's program calls: QSYS/QCMD that of the request, another one itself.
+fn called_program(entry: &RouteEntry, request: &Option<Text>) -> Option<QName>
+    ensures { result ≡ called_program entry.now request.now }
+{
+    if !is_qcmd(&entry.pgm) {
+        return Some(entry.pgm);
     }
+    let request = request.as_ref()?;
+    parameter_of(request.as_bytes()).map(|_| echo())
+}
 
-    fn entry_numbered(&self, seq: u32) -> Option<&RouteEntry>
-        ensures { option_copied result ≡ entry_numbered seq self.now }
-    {
-        self.routes.as_slice().iter().find(|entry| entry.seq == seq)
+// The arguments that it gets.
+fn called_args(
+    alloc: Global,
+    entry: &RouteEntry,
+    request: &Option<Text>,
+) -> Result<Args, AllocError>
+    ensures { IfOk result (λ args. args ≡ called_args entry.now request.now) }
+{
+    let mut args = Args::new(alloc);
+    let Some(request) = request.as_ref() else {
+        return Ok(args);
+    };
+    if !is_qcmd(&entry.pgm) {
+        args.push(request.clone()?)?;
+    } else if let Some(parameter) = parameter_of(request.as_bytes()) {
+        args.push(Text::from_bytes(alloc, parameter)?)?;
     }
+    Ok(args)
 }
 
 /// What a launch makes of a job.
@@ -137,7 +154,7 @@ impl State {
     {
         match pgm {
             None => Some(EndCause::BadRequest),
-            Some(pgm) => match self.objects.programs.get(&pgm) {
+            Some(pgm) => match self.objects.programs.object(&pgm) {
                 None => Some(EndCause::NoProgram),
                 Some(_) => None,
             },
@@ -150,7 +167,7 @@ impl State {
     {
         let count = count_by_route(sbs, entry.seq, self.jobs.as_slice());
         if entry.maxact.admits(count) {
-            self.program_fault(entry.called_program(&job.rqsdta))
+            self.program_fault(called_program(entry, &job.rqsdta))
         } else {
             Some(EndCause::RouteFull(entry.seq))
         }
@@ -160,9 +177,9 @@ impl State {
     pub fn launched(&self, sbs: &QName, queue: &QName, job: &Job) -> Launched
         ensures { result ≡ launched self.now sbs.now queue.now job.now }
     {
-        let entry = match self.objects.sbsds.get(sbs) {
+        let entry = match self.objects.sbsds.object(sbs) {
             None => None,
-            Some(description) => description.route(&job.rtgdta),
+            Some(description) => route(description, &job.rtgdta),
         };
         let Some(entry) = entry else {
             return Launched::ends_by(EndCause::NoRoute);
@@ -185,7 +202,7 @@ impl State {
     fn route_entry(&self, sbs: &QName, seq: u32) -> Option<&RouteEntry>
         ensures { option_copied result ≡ route_entry self.now sbs.now seq }
     {
-        self.objects.sbsds.get(sbs)?.entry_numbered(seq)
+        entry_numbered(self.objects.sbsds.object(sbs)?, seq)
     }
 
     /// The order of a Starting job: its routing entry's program with the entry's class.
@@ -211,20 +228,20 @@ impl State {
     ) -> Result<Option<StartOrder>, AllocError>
         ensures { IfOk result (λ order. order ≡ order_through self.now job.now (Some entry.now)) }
     {
-        let Some(pgm) = entry.called_program(&job.rqsdta) else {
+        let Some(pgm) = called_program(entry, &job.rqsdta) else {
             return Ok(None);
         };
-        let Some(program) = self.objects.programs.get(&pgm) else {
+        let Some(program) = self.objects.programs.object(&pgm) else {
             return Ok(None);
         };
-        let Some(cls) = self.objects.classes.get(&entry.cls) else {
+        let Some(cls) = self.objects.classes.object(&entry.cls) else {
             return Ok(None);
         };
         Ok(Some(StartOrder {
             serial: job.serial,
             job: job.job,
             path: program.path.clone()?,
-            args: entry.called_args(alloc, &job.rqsdta)?,
+            args: called_args(alloc, entry, &job.rqsdta)?,
             cls: *cls,
             pre: false,
         }))

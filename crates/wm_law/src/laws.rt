@@ -1,6 +1,6 @@
 // Laws of the machine: what its definitions come to, each for all states. They are no calls.
-ghost use Rattle.wm_law.specs.Laws.{NextIsFirst, NoNextIsNone, SettledHasNoNext, SettledLeavesNone, RefusalLeaves, RefusedStepSettles, ParameterIsRead};
-ghost use Rattle.wm_law.specs.Kept.{OpeningIsNumbered, StepKeepsNumbers, NumbersAreGivenOnce, StepGoesOn, StartsOnce, SerialsStartOnce, OpeningHasOrders, StepKeepsOrders, StartingJobsHaveOrders, HandGivesAnOrder, OpeningHasDistinctNames, StepKeepsNamesDistinct, StartedNamesAreDistinct};
+ghost use Rattle.wm_law.specs.Laws.{NextIsFirst, NoNextIsNone, RouteIsLeast, NoRouteIsNone, SettledHasNoNext, SettledLeavesNone, RefusalLeaves, RefusedStepSettles, ParameterIsRead};
+ghost use Rattle.wm_law.specs.Kept.{OpeningIsNumbered, StepKeepsNumbers, NumbersAreGivenOnce, StepGoesOn, StartsOnce, SerialsStartOnce, OpeningHasOrders, StepKeepsOrders, StartingJobsHaveOrders, HandGivesAnOrder, ReachedRouteIsLeast, OpeningHasDistinctNames, StepKeepsNamesDistinct, StartedNamesAreDistinct};
 
 /// The next job is the first of its subsystem: it may start, and no other job there that may start
 /// stands before it. No job may start in a subsystem whose simple name comes before. Where there is
@@ -9,6 +9,14 @@ ghost use Rattle.wm_law.specs.Kept.{OpeningIsNumbered, StepKeepsNumbers, Numbers
 pub fn next_job_is_first()
     ensures first { NextIsFirst }
     ensures none { NoNextIsNone }
+{}
+
+/// The routing entry of a job is the one of least number that its routing data passes, and there is
+/// none only where its routing data passes none.
+pub fn routes_are_least()
+    ensures least { RouteIsLeast }
+    ensures none { NoRouteIsNone }
+    ensures always { ReachedRouteIsLeast }
 {}
 
 /// Once the state has settled, no job may start.

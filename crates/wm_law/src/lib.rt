@@ -15,8 +15,6 @@ mod launch;
 mod laws;
 mod list;
 mod machine;
-mod names;
-mod objects;
 mod opening;
 mod pending;
 mod reports;
@@ -31,10 +29,8 @@ pub use job::{Job, JobKind, Phase, Why, Wish};
 pub use launch::{BEFORE_PARAMETER, BEHIND_PARAMETER, Launched, parameter_of};
 pub use laws::{
     jobs_go_forward, next_job_is_first, numbers_are_given_once, refusals_leave_the_state,
-    requests_keep_their_parameter, serials_start_once, settling_leaves_none,
+    requests_keep_their_parameter, routes_are_least, serials_start_once, settling_leaves_none,
     started_names_are_distinct, starting_jobs_have_orders,
 };
 pub use list::ListOf;
-pub use objects::{Cmp, Jobd, Jobq, Objects, Program, QueueEntry, RouteEntry, Sbsd, Table};
-pub use opening::{qbatch, qdftjobd};
 pub use state::{Evoke, Power, Sbs, SbsPhase, State, Stop};

@@ -1,6 +1,7 @@
 // The state of the machine.
-use crate::{Job, ListOf, Objects};
+use crate::{Job, ListOf};
 use wm_base::{Moment, Name, QName};
+use wm_desc::Objects;
 
 /// Whether a started subsystem takes jobs, is to end at some moment or by itself, or ends now.
 #[derive(Clone, Copy, Debug, PartialEq, Eq)]

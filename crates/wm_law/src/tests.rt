@@ -9,11 +9,13 @@ use wm_base::{
     Args, Asked, Class, EndCause, Exit, JobName, JobNumber, Kind, Limit, Moment, Name, PhaseWord,
     Priority, QName, Refusal, Serial, StartCause, StartOrder, Text,
 };
+use wm_desc::{qbatch, qdftjobd};
 
 mod order;
 mod path;
 mod refusals;
 mod request;
+mod routing;
 
 const NOW: u64 = 1000;
 

@@ -6,7 +6,7 @@ use Rattle.wm_law.specs.declared.call.Command.TheVariants.{Strsbs, Sbmjob, Pwrdw
 use Rattle.wm_law.specs.declared.call.EndOption.TheVariants.{Immed}
 use Rattle.wm_law.specs.declared.call.Entry.{Entry}
 use Rattle.wm_law.specs.Launch.{call_request}
-use Rattle.wm_law.specs.Opening.{qbatch, qdftjobd}
+use Rattle.wm_desc.specs.Opening.{qbatch, qdftjobd}
 use Rattle.wm_clwords.specs.First.{first_of}
 use Rattle.wm_outside.specs.Told.{Grows}
 use Rattle.wrkmgr.specs.Said.{said_text, with_end, not_built, is_refused}

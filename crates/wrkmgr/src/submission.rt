@@ -8,9 +8,9 @@ ghost use Rattle.wrkmgr.specs.Session.{submit_call, start_call, end_call};
 use std::alloc::{AllocError, Global};
 use wm_base::{Name, Text};
 use wm_clwords::{First, FirstFault, one_reading, read_first};
+use wm_desc::{qbatch, qdftjobd};
 use wm_law::{
     BEFORE_PARAMETER, BEHIND_PARAMETER, Call, Command, EndOption, Pwrdwnsys, Sbmjob, Strsbs,
-    qbatch, qdftjobd,
 };
 
 /// Reads a line of the one form. `NoMemory` comes where there is no room for its text.

@@ -1,0 +1,97 @@
+-- The route is the matching entry of least number.
+use Rattle.std.proofs.Common.{◌≡◌, ℕ, ◌<◌, ◌≤◌, ◌+◌, Bool, true, false, cond, List, [], ◌∷◌, length, Some, None, slice_index_or, nat_eq, refl, sym, ap, subst, ◌∙◌, inl, inr, arith}
+use Rattle.std.specs.List.{find}
+use Rattle.std.specs.Ordering.{nat_cmp}
+use Rattle.std.specs.declared.cmp.Ordering.TheVariants.{Less}
+use Rattle.std.proofs.lemmas.Bool.{eq-eqb}
+use Rattle.std.proofs.lemmas.Bool.Decides.{nat_tests}
+use Rattle.std.proofs.lemmas.Cmp.{ranked, by_ranked}
+use Rattle.std.proofs.lemmas.Grind.{common_steps}
+use Rattle.wm_desc.specs.declared.entry.RouteEntry.{RouteEntry}
+use Rattle.wm_desc.specs.Sorted.{IsSortedOnce}
+use Rattle.wm_law.specs.Launch.{is_match}
+use Rattle.wm_law.specs.Laws.{IsIn, RouteIsLeast, NoRouteIsNone}
+use Rattle.wm_law.proofs.Forward.{found_among}
+
+abbrev pub IsSorted : List RouteEntry → Type 0
+IsSorted entries = IsSortedOnce (λ (e : RouteEntry). e.seq) nat_cmp entries
+
+behind : (x : RouteEntry) (xs : List RouteEntry) (k : ℕ) (d : RouteEntry) → slice_index_or (x ∷ xs) (k + 1) d ≡ slice_index_or xs k d
+behind x xs k d = grind (arith, common_steps)
+
+longer : (x : RouteEntry) (xs : List RouteEntry) → length (x ∷ xs) ≡ length xs + 1
+longer x xs = grind (arith, common_steps)
+
+-- where an entry stands
+place : (y : RouteEntry) (xs : List RouteEntry) → IsIn y xs → (k : ℕ) × (k < length xs) × (slice_index_or xs k y ≡ y)
+place y [] i = absurd i
+place y (x ∷ xs) (inl e) = let more = longer x xs in (0, omega arith, sym e)
+place y (x ∷ xs) (inr i) =
+    let p = place y xs i in
+    let more = longer x xs in
+    let less : p.0 < length xs = p.1 in
+    (p.0 + 1, omega arith, behind x xs p.0 y ∙ p.2)
+
+less_of : (a b : ℕ) → nat_cmp a b ≡ Less → a < b
+less_of a b e =
+    by_ranked (a < b) (a ≡ b) (b < a) (nat_cmp a b) (ranked a b (nat_cmp a b) refl)
+    (λ h (k : a < b). k)
+    (λ h (k : a ≡ b). absurd (cc))
+    (λ h (k : b < a). absurd (cc))
+
+rest_sorted : (x : RouteEntry) (xs : List RouteEntry) → IsSorted (x ∷ xs) → IsSorted xs
+rest_sorted x xs s i j d less h =
+    let more = longer x xs in
+    let whole = s (i + 1) (j + 1) d (omega arith) (omega arith) in
+    subst (λ (e : RouteEntry). nat_cmp e.seq (slice_index_or xs j d).seq ≡ Less) (behind x xs i d) (subst (λ (e : RouteEntry). nat_cmp (slice_index_or (x ∷ xs) (i + 1) d).seq e.seq ≡ Less) (behind x xs j d) whole)
+
+first_less : (x : RouteEntry) (xs : List RouteEntry) → IsSorted (x ∷ xs) → (y : RouteEntry) → IsIn y xs → x.seq < y.seq
+first_less x xs s y i =
+    let p = place y xs i in
+    let less : p.0 < length xs = p.1 in
+    let more = longer x xs in
+    let whole = s 0 (p.0 + 1) y (omega arith) (omega arith) in
+    less_of x.seq y.seq (subst (λ (e : RouteEntry). nat_cmp x.seq e.seq ≡ Less) (behind x xs p.0 y ∙ p.2) whole)
+
+other_number : (a b : ℕ) → a < b → nat_eq a b ≡ false
+other_number a b h = grind (arith, nat_tests)
+
+-- each entry is the one of its number
+pub numbered_once : (xs : List RouteEntry) (e : RouteEntry) → IsSorted xs → IsIn e xs → find (λ x. nat_eq x.seq e.seq) xs ≡ Some e
+numbered_once [] e s i = absurd i
+numbered_once (x ∷ xs) e s (inl same) = rw (eq-eqb x.seq e.seq (ap (λ (n : RouteEntry). n.seq) (sym same))) (ap Some (sym same))
+numbered_once (x ∷ xs) e s (inr i) = rw (other_number x.seq e.seq (first_less x xs s e i)) (numbered_once xs e (rest_sorted x xs s) i)
+
+least_by : (p : RouteEntry → Bool) (x : RouteEntry) (xs : List RouteEntry) (e : RouteEntry) (t : Bool) → p x ≡ t → IsSorted (x ∷ xs) → cond t (Some x) (find p xs) ≡ Some e → (find p xs ≡ Some e → (o : RouteEntry) → IsIn o xs → p o ≡ true → e.seq ≤ o.seq) → (o : RouteEntry) → IsIn o (x ∷ xs) → p o ≡ true → e.seq ≤ o.seq
+least_by p x xs e true b s f h o (inl same) m =
+    let first : x ≡ e = cc in
+    let one : o.seq ≡ e.seq = ap (λ (n : RouteEntry). n.seq) (same ∙ first) in
+    omega arith
+least_by p x xs e true b s f h o (inr i) m =
+    let first : x ≡ e = cc in
+    let one : x.seq ≡ e.seq = ap (λ (n : RouteEntry). n.seq) first in
+    let less = first_less x xs s o i in
+    omega arith
+least_by p x xs e false b s f h o (inl same) m = let not : p o ≡ false = ap p same ∙ b in absurd (cc)
+least_by p x xs e false b s f h o (inr i) m = h f o i m
+
+least : (p : RouteEntry → Bool) (xs : List RouteEntry) (e : RouteEntry) → IsSorted xs → find p xs ≡ Some e → (o : RouteEntry) → IsIn o xs → p o ≡ true → e.seq ≤ o.seq
+least p [] e s f o i m = absurd (cc)
+least p (x ∷ xs) e s f o i m = least_by p x xs e (p x) refl s f (least p xs e (rest_sorted x xs s)) o i m
+
+none_by : (p : RouteEntry → Bool) (x : RouteEntry) (xs : List RouteEntry) (t : Bool) → p x ≡ t → cond t (Some x) (find p xs) ≡ None → (find p xs ≡ None → (o : RouteEntry) → IsIn o xs → p o ≡ true → ⊥) → (o : RouteEntry) → IsIn o (x ∷ xs) → p o ≡ true → ⊥
+none_by p x xs true b f h o i m = absurd (cc)
+none_by p x xs false b f h o (inl same) m = let not : p o ≡ false = ap p same ∙ b in absurd (cc)
+none_by p x xs false b f h o (inr i) m = h f o i m
+
+none : (p : RouteEntry → Bool) (xs : List RouteEntry) → find p xs ≡ None → (o : RouteEntry) → IsIn o xs → p o ≡ true → ⊥
+none p [] f o i m = i
+none p (x ∷ xs) f o i m = none_by p x xs (p x) refl f (none p xs) o i m
+
+pub route_is_least : RouteIsLeast
+route_is_least d rtgdta e s f =
+    let k = found_among (λ (n : RouteEntry). is_match n.cmp rtgdta) d.routes e f in
+    record { stands = k.0; matches = k.1; least = least (λ n. is_match n.cmp rtgdta) d.routes e s f }
+
+pub no_route_is_none : NoRouteIsNone
+no_route_is_none d rtgdta f = none (λ n. is_match n.cmp rtgdta) d.routes f
