@@ -13,10 +13,6 @@ use Rattle.wrkmgr.specs.declared.line.LineBuffer.{LineBuffer}
 use Rattle.wrkmgr.proofs.Servings.{session_entries-then, taken_none}
 use Rattle.wrkmgr.proofs.Takings.{AnsweredBy-append, AnsweredBy-last, TakesPiece-at}
 
--- nothing of the input is taken
-pub input_none : (x : Option (List ℕ)) (b : LineBuffer) (log : List Entry) (w : Option (List ℕ)) → Holds b [] → TakesInput x x (λ bytes. TakesPiece (cut_from [] bytes) b (entries_of session_pass (since log log)) w w false)
-input_none x b log w h = record { bytes = []; taken = Takes-none x; done = taken_none [] b log w h }
-
 -- some of it, and then some more
 pub input_then : (x y z : Option (List ℕ)) (b d : LineBuffer) (old mid new : List Entry) (u v w : Option (List ℕ)) (f g h : Bool) → h ≡ (f || g) → Extends old mid → Extends mid new → TakesInput x y (λ bytes. TakesPiece (cut_from [] bytes) b (entries_of session_pass (since old mid)) u v f) → ((rest : List ℕ) → Holds b rest → TakesInput y z (λ bytes. TakesPiece (cut_from rest bytes) d (entries_of session_pass (since mid new)) v w g)) → TakesInput x z (λ bytes. TakesPiece (cut_from [] bytes) d (entries_of session_pass (since old new)) u w h)
 input_then x y z b d old mid new u v w f g h is begun grown first second =
@@ -43,10 +39,6 @@ input_end x y b old mid new u v w f g h is begun grown taken last =
           (subst (λ (es : List Entry). AnsweredBy (Answers (lines_of taken.bytes)) es u w (f || g)) (sym (session_entries-then old mid new begun grown)) both);
     }
 
--- so many bytes are taken
-pub count_none : (x : Option (List ℕ)) → TakesInput x x (λ bytes. length bytes ≡ 0)
-count_none x = record { bytes = []; taken = Takes-none x; done = refl }
-
 -- so many, and then so many more
 pub count_then : (x y z : Option (List ℕ)) (n m t : ℕ) → t ≡ n + m → TakesInput x y (λ bytes. length bytes ≡ n) → TakesInput y z (λ bytes. length bytes ≡ m) → TakesInput x z (λ bytes. length bytes ≡ t)
 count_then x y z n m t is first second =
@@ -55,7 +47,3 @@ count_then x y z n m t is first second =
       taken = Takes-then x y z first.bytes second.bytes first.taken second.taken;
       done = let both = length-append first.bytes second.bytes in let a = first.done in let b = second.done in omega arith;
     }
-
--- more than a number
-pub count_more : (x y : Option (List ℕ)) (n m : ℕ) → m < n → TakesInput x y (λ bytes. length bytes ≡ n) → TakesInput x y (λ bytes. m < length bytes)
-count_more x y n m more h = record { bytes = h.bytes; taken = h.taken; done = let d = h.done in omega arith }

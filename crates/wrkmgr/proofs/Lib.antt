@@ -5,6 +5,8 @@ pub mod Writes
 pub mod Lines
 pub mod Firsts
 pub mod Inputs
+pub mod InputLoops
+pub mod Causes
 pub mod Runs
 pub mod Servings
 pub mod Takings

@@ -10,6 +10,6 @@ pub record MonitorLoop (old new : MonitorView) (before now : ℕ) (kept : Option
   pub faults : before ≤ now
 
 -- a part has been done, and no count has fallen
-pub record TurnsSo (old new : MonitorView) (before now : ℕ) : Type 0 where
+pub record TurnLoop (old new : MonitorView) (before now : ℕ) : Type 0 where
   pub part : Advances old new
   pub looked : before ≤ now

@@ -12,7 +12,7 @@ use Rattle.wrkmgr.specs.Lines.{lines_of}
 use Rattle.wrkmgr.specs.Lists.{since, Extends}
 use Rattle.wrkmgr.specs.Monitor.{as_reports}
 use Rattle.wrkmgr.specs.Run.{IsRunStatus, IsServed, ended_status}
-use Rattle.wrkmgr.specs.Serving.{Serves, is_ours}
+use Rattle.wrkmgr.specs.Serving.{Serves, is_of_run}
 use Rattle.wrkmgr.specs.Session.{Answers, AnsweredBy, IsSession, OneCall, session_pass, start_call, end_call}
 use Rattle.wrkmgr.specs.Stop.{HasCauses, HasInputCauses}
 use Rattle.wrkmgr.specs.Stopped.{IsStopped}
@@ -44,47 +44,23 @@ session_parts a b c d x y u v f ab bc cd start taken end =
       };
     }
 
--- a fault of a part that neither reads nor writes
-pub HasInputCauses-quiet : {T U : Type 0} (r : Result T Stop) (q : Result U Stop) (e d : Stop) (i j a b x y z : ℕ) → r ≡ Err e → q ≡ Err d → d ≡ e → i ≤ j → a ≤ b → x ≤ y → HasCauses r 0 0 y z → HasInputCauses q i j a b x z
-HasInputCauses-quiet r q e d i j a b x y z was is same read written before h =
-    record {
-      read = read;
-      written = written;
-      looked = let k = h.looked in omega arith;
-      read_fault = λ f. absurd (h.no_read_fault (cc));
-      write_fault = λ f. let k = h.write_fault (cc) in omega arith;
-      wait_fault = λ f. let k = h.wait_fault (cc) in omega arith;
-    }
-
--- no fault
-pub HasInputCauses-ok : {T : Type 0} (q : Result T Stop) (t : T) (i j a b x y : ℕ) → q ≡ Ok t → i ≤ j → a ≤ b → x ≤ y → HasInputCauses q i j a b x y
-HasInputCauses-ok q t i j a b x y is read written looked =
-    record {
-      read = read;
-      written = written;
-      looked = looked;
-      read_fault = λ f. absurd (cc);
-      write_fault = λ f. absurd (cc);
-      wait_fault = λ f. absurd (cc);
-    }
-
 -- a status of at most 1 is that of a session that has ended
-pub low_if : (P : Bool → Type 0) (r : Result Bool Stop) → IfOk r P → ended_status r ≤ 1 → P (ended_status r == 1)
-low_if P (Ok true) h low = h
-low_if P (Ok false) h low = h
-low_if P (Err ReadFault) h low = absurd (omega arith)
-low_if P (Err WriteFault) h low = absurd (omega arith)
-low_if P (Err NoMemory) h low = absurd (omega arith)
-low_if P (Err WaitFault) h low = absurd (omega arith)
-low_if P (Err InputFull) h low = absurd (omega arith)
+pub ended_if : (P : Bool → Type 0) (r : Result Bool Stop) → IfOk r P → ended_status r ≤ 1 → P (ended_status r == 1)
+ended_if P (Ok true) h low = h
+ended_if P (Ok false) h low = h
+ended_if P (Err ReadFault) h low = absurd (omega arith)
+ended_if P (Err WriteFault) h low = absurd (omega arith)
+ended_if P (Err NoMemory) h low = absurd (omega arith)
+ended_if P (Err WaitFault) h low = absurd (omega arith)
+ended_if P (Err InputFull) h low = absurd (omega arith)
 
-pub low_on : (P : Type 0) (r : Result Bool Stop) → OnOk r P → ended_status r ≤ 1 → P
-low_on P (Ok f) h low = h
-low_on P (Err ReadFault) h low = absurd (omega arith)
-low_on P (Err WriteFault) h low = absurd (omega arith)
-low_on P (Err NoMemory) h low = absurd (omega arith)
-low_on P (Err WaitFault) h low = absurd (omega arith)
-low_on P (Err InputFull) h low = absurd (omega arith)
+pub ended_on : (P : Type 0) (r : Result Bool Stop) → OnOk r P → ended_status r ≤ 1 → P
+ended_on P (Ok f) h low = h
+ended_on P (Err ReadFault) h low = absurd (omega arith)
+ended_on P (Err WriteFault) h low = absurd (omega arith)
+ended_on P (Err NoMemory) h low = absurd (omega arith)
+ended_on P (Err WaitFault) h low = absurd (omega arith)
+ended_on P (Err InputFull) h low = absurd (omega arith)
 
 -- each status of a fault has its fault, and 2 has none
 pub read_status : (r : Result Bool Stop) → ended_status r ≡ 3 → IsErrOf r ReadFault
@@ -133,10 +109,10 @@ not_words (Err WaitFault) is = omega arith
 not_words (Err InputFull) is = omega arith
 
 -- a status above 1 is that of a session that stopped
-pub high_on : (P : Type 0) (r : Result Bool Stop) → OnErr r P → 1 < ended_status r → P
-high_on P (Ok true) h high = absurd (omega arith)
-high_on P (Ok false) h high = absurd (omega arith)
-high_on P (Err stop) h high = h
+pub stopped_on : (P : Type 0) (r : Result Bool Stop) → OnErr r P → 1 < ended_status r → P
+stopped_on P (Ok true) h high = absurd (omega arith)
+stopped_on P (Ok false) h high = absurd (omega arith)
+stopped_on P (Err stop) h high = h
 
 -- 11 is that of a full input
 full_from : (r : Result Bool Stop) → IsErrOf r InputFull → ended_status r ≡ 11
@@ -191,8 +167,8 @@ IsServed-none log kept a t x none empty =
     subst (λ (k : Option Report). IsServed log (option_to_list k) a a t t x x) (sym empty) (subst (λ (l : List Entry). IsServed l (option_to_list None) a a t t x x) (sym none) base)
 
 -- all entries are the run's own
-pub callers_from : (first log : List Entry) → first ≡ [] → list_all is_ours (since first log) ≡ true → list_all is_ours log ≡ true
-callers_from first log none h = subst (λ (l : List Entry). list_all is_ours (since l log) ≡ true) none h
+pub callers_from : (first log : List Entry) → first ≡ [] → list_all is_of_run (since first log) ≡ true → list_all is_of_run log ≡ true
+callers_from first log none h = subst (λ (l : List Entry). list_all is_of_run (since l log) ≡ true) none h
 
 -- a session of a history that begins with nothing
 pub session_from : (first log : List Entry) (x y u v : Option (List ℕ)) (f : Bool) → first ≡ [] → TakesInput x y (λ bytes. IsSession (lines_of bytes) (entries_of session_pass (since first log)) u v f) → TakesInput x y (λ bytes. IsSession (lines_of bytes) (entries_of session_pass log) u v f)

@@ -19,28 +19,26 @@ use Rattle.wrkmgr.specs.Floor.{entry_at, last_of}
 use Rattle.wrkmgr.specs.Said.{said_text, with_end, is_refused}
 use Rattle.wrkmgr.specs.Lists.{since, Extends}
 use Rattle.wrkmgr.specs.Monitor.{MonitorView, Advances, RisesBy, is_own, is_spawner_fault, monitor_pass, reported, call_of, as_reports}
-use Rattle.wrkmgr.specs.Serving.{Serves, is_ours}
+use Rattle.wrkmgr.specs.Serving.{Serves, is_of_run}
 use Rattle.wrkmgr.specs.Session.{AnsweredBy, Submits, OneCall, session_pass, submit_call}
 use Rattle.wrkmgr.specs.LineBuffer.{Holds}
 use Rattle.wrkmgr.specs.Lines.{cut_from}
 use Rattle.wrkmgr.specs.Taking.{TakesPiece}
 use Rattle.wrkmgr.specs.declared.line.LineBuffer.{LineBuffer}
 use Rattle.wrkmgr.proofs.Takings.{TakesPiece-then, TakesPiece-none}
-use Rattle.wrkmgr.specs.Stop.{HasCauses, HasInputCauses}
-use Rattle.wrkmgr.specs.declared.stop.Stop.{Stop}
 use Rattle.wrkmgr.specs.View.{view}
 use Rattle.wrkmgr.specs.declared.monitor.Monitor.{Monitor}
 use Rattle.wrkmgr.proofs.Monitors.{since-append, since-then, Extends-then, count-append, RisesBy-then, reports-push, last_of-push}
 
 -- a part that is known by its entries and its reports
-pub Serves-by : (old new : MonitorView) (entries : List Entry) (more : List Call) → new.log ≡ old.log ++ entries → reported new.log new.kept ≡ reported old.log old.kept ++ more → list_all is_ours entries ≡ true → Grows old.asked new.asked (orders entries monitor_pass) → Grows old.told new.told more → RisesBy old.misses (count_by is_spawner_fault more) new.misses → Serves old new
+pub Serves-by : (old new : MonitorView) (entries : List Entry) (more : List Call) → new.log ≡ old.log ++ entries → reported new.log new.kept ≡ reported old.log old.kept ++ more → list_all is_of_run entries ≡ true → Grows old.asked new.asked (orders entries monitor_pass) → Grows old.told new.told more → RisesBy old.misses (count_by is_spawner_fault more) new.misses → Serves old new
 Serves-by old new entries more log grown ours asked told misses =
     let had = reported old.log old.kept in
     let es : since old.log new.log ≡ entries = ap (since old.log) log ∙ since-append old.log entries in
     let rs : since had (reported new.log new.kept) ≡ more = ap (since had) grown ∙ since-append had more in
     record {
       log = log ∙ ap (λ xs. old.log ++ xs) (sym es);
-      callers = ap (list_all is_ours) es ∙ ours;
+      callers = ap (list_all is_of_run) es ∙ ours;
       asked = subst (λ (xs : List Entry). Grows old.asked new.asked (orders xs monitor_pass)) (sym es) asked;
       grown = grown ∙ ap (λ xs. had ++ xs) (sym rs);
       told = subst (λ (xs : List Call). Grows old.told new.told xs) (sym rs) told;
@@ -60,16 +58,16 @@ Serves-then a b c h k =
     let rc = reported c.log c.kept in
     let log = k.log ∙ (ap (λ xs. xs ++ f) h.log ∙ append_assoc a.log e f) in
     let grown = k.grown ∙ (ap (λ xs. xs ++ since rb rc) h.grown ∙ append_assoc ra (since ra rb) (since rb rc)) in
-    let ours = list_all-append is_ours e f ∙ (ap (λ t. t && list_all is_ours f) h.callers ∙ k.callers) in
+    let ours = list_all-append is_of_run e f ∙ (ap (λ t. t && list_all is_of_run f) h.callers ∙ k.callers) in
     let asked = subst (λ (xs : List Asked). Grows a.asked c.asked xs) (sym (filter_map-append (ordered monitor_pass) e f)) (Grows-then a.asked b.asked c.asked _ _ h.asked k.asked) in
     let told = Grows-then a.told b.told c.told _ _ h.told k.told in
     let count = count-append (since ra rb) (since rb rc) in
     Serves-by a c (e ++ f) (since ra rb ++ since rb rc) log grown ours asked told (RisesBy-then a.misses b.misses c.misses _ _ _ count h.misses k.misses)
 
-own_is_ours : (e : Entry) → is_own e ≡ true → is_ours e ≡ true
+own_is_ours : (e : Entry) → is_own e ≡ true → is_of_run e ≡ true
 own_is_ours e h = grind (arith, nat_tests)
 
-own_are_ours : (es : List Entry) → list_all is_own es ≡ true → list_all is_ours es ≡ true
+own_are_ours : (es : List Entry) → list_all is_own es ≡ true → list_all is_of_run es ≡ true
 own_are_ours [] h = refl
 own_are_ours (e ∷ es) h = let a = own_is_ours e (grind (arith, nat_tests)) in let b = own_are_ours es (grind (arith, nat_tests)) in grind (arith, nat_tests)
 
@@ -139,13 +137,6 @@ submitted old mid new text name c before now refused h is grown own said =
 pub session_entries-none : (log : List Entry) → entries_of session_pass (since log log) ≡ []
 session_entries-none log = ap (entries_of session_pass) (drop-length log)
 
--- what stays true while bytes are taken
-pub record TakesSo (old new : MonitorView) (written_before written_now looked_before looked_now : ℕ) (Taken : Type 0) : Type 0 where
-  pub serves : Serves old new
-  pub taken : Taken
-  pub written : written_before ≤ written_now
-  pub looked : looked_before ≤ looked_now
-
 -- a piece of the input, and then another, with the session's entries
 pub taken_then : (r xs ys : List ℕ) (b d : LineBuffer) (old mid new : List Entry) (u v w : Option (List ℕ)) (f g : Bool) → Extends old mid → Extends mid new → TakesPiece (cut_from r xs) b (entries_of session_pass (since old mid)) u v f → ((rest : List ℕ) → Holds b rest → TakesPiece (cut_from rest ys) d (entries_of session_pass (since mid new)) v w g) → TakesPiece (cut_from r (xs ++ ys)) d (entries_of session_pass (since old new)) u w (f || g)
 taken_then r xs ys b d old mid new u v w f g h k first second =
@@ -154,18 +145,6 @@ taken_then r xs ys b d old mid new u v w f g h k first second =
 -- nothing taken
 pub taken_none : (r : List ℕ) (b : LineBuffer) (log : List Entry) (w : Option (List ℕ)) → Holds b r → TakesPiece (cut_from r []) b (entries_of session_pass (since log log)) w w false
 taken_none r b log w h = subst (λ (es : List Entry). TakesPiece (cut_from r []) b es w w false) (sym (session_entries-none log)) (TakesPiece-none r b w h)
-
--- an error that is passed on has its cause, since an earlier moment too
-pub HasCauses-pass : {T U : Type 0} (r : Result T Stop) (q : Result U Stop) (e d : Stop) (a b c x y z : ℕ) → r ≡ Err e → q ≡ Err d → d ≡ e → a ≤ b → x ≤ y → HasCauses r b c y z → HasCauses q a c x z
-HasCauses-pass r q e d a b c x y z was is same before looked h =
-    record {
-      written = let k = h.written in omega arith;
-      looked = let k = h.looked in omega arith;
-      write_fault = λ f. let k = h.write_fault (cc) in omega arith;
-      wait_fault = λ f. let k = h.wait_fault (cc) in omega arith;
-      no_read_fault = λ f. h.no_read_fault (cc);
-      not_full = λ f. h.not_full (cc);
-    }
 
 -- a call of the session, and then entries of the monitor
 pub one_call : (old mid new : List Entry) (c d : Call) → Called old c mid → c ≡ d → Extends mid new → list_all is_own (since mid new) ≡ true → OneCall d (entries_of session_pass (since old new))
@@ -184,41 +163,6 @@ last_call first old mid new c d begun before h is grown own =
     let es = session_entries-then first old new begun ext in
     let none = ap (λ (xs : List Entry). xs ++ entries_of session_pass (since old new)) (session_entries-own (since first old) before) in
     record { entry = o.entry; only = es ∙ (none ∙ o.only); call = o.call }
-
--- what stays true while the input is read
-pub record ReadsSo (old new : MonitorView) (read_before read_now written_before written_now looked_before looked_now : ℕ) (sum : ℕ) (buf : List ℕ) (Taken Counted : Type 0) : Type 0 where
-  pub serves : Serves old new
-  pub count : Counted
-  pub taken : Taken
-  pub read : read_before ≤ read_now
-  pub written : written_before ≤ written_now
-  pub looked : looked_before ≤ looked_now
-  pub total : sum ≤ 1000000000
-  pub piece : 0 < length buf
-
--- an error that is passed on where the input is read too
-pub HasInputCauses-pass : {T U : Type 0} (r : Result T Stop) (q : Result U Stop) (e d : Stop) (i j k a b c x y z : ℕ) → r ≡ Err e → q ≡ Err d → d ≡ e → i ≤ j → a ≤ b → x ≤ y → HasInputCauses r j k b c y z → HasInputCauses q i k a c x z
-HasInputCauses-pass r q e d i j k a b c x y z was is same read before looked h =
-    record {
-      read = let n = h.read in omega arith;
-      written = let n = h.written in omega arith;
-      looked = let n = h.looked in omega arith;
-      read_fault = λ f. let n = h.read_fault (cc) in omega arith;
-      write_fault = λ f. let n = h.write_fault (cc) in omega arith;
-      wait_fault = λ f. let n = h.wait_fault (cc) in omega arith;
-    }
-
--- where it isn't read, no fault of it is told
-pub HasInputCauses-from : {T : Type 0} (r : Result T Stop) (i j a b x y : ℕ) → i ≤ j → HasCauses r a b x y → HasInputCauses r i j a b x y
-HasInputCauses-from r i j a b x y read h =
-    record {
-      read = read;
-      written = h.written;
-      looked = h.looked;
-      read_fault = λ f. absurd (h.no_read_fault f);
-      write_fault = h.write_fault;
-      wait_fault = h.wait_fault;
-    }
 
 -- an error of a call that leaves all as it was
 pub Serves-same : (log now : List Entry) (m n : Monitor) (asked : Option (List Asked)) (told : Option (List Told)) (misses : ℕ) → now ≡ log → n ≡ m → Serves (view log m asked told misses) (view now n asked told misses)

@@ -6,7 +6,7 @@ use Rattle.wm_outside.proofs.Telling.{Grows-then}
 use Rattle.wm_outside.specs.Told.{Grows}
 
 -- the first n bytes are written, and no count has fallen
-pub record WritesSo (bytes : List ℕ) (n : ℕ) (old new : Option (List ℕ)) (before now : ℕ) : Type 0 where
+pub record WriteLoop (bytes : List ℕ) (n : ℕ) (old new : Option (List ℕ)) (before now : ℕ) : Type 0 where
   pub within : n ≤ length bytes
   pub written : Grows old new (take n bytes)
   pub faults : before ≤ now

@@ -9,13 +9,13 @@ use Rattle.wrkmgr.specs.Monitor.{MonitorView, RisesBy, reported, is_own, is_spaw
 use Rattle.wrkmgr.specs.Session.{session_pass}
 
 -- an entry of the session, or a monitor's call of the monitor
-abbrev pub is_ours : Entry → Bool
-is_ours e = e.caller == session_pass || is_own e
+abbrev pub is_of_run : Entry → Bool
+is_of_run e = e.caller == session_pass || is_own e
 
 -- as a monitor's part, but beside it the session has entries too
 pub record Serves (old new : MonitorView) : Type 0 where
   pub log : Extends old.log new.log
-  pub callers : list_all is_ours (since old.log new.log) ≡ true
+  pub callers : list_all is_of_run (since old.log new.log) ≡ true
   pub asked : Grows old.asked new.asked (orders (since old.log new.log) monitor_pass)
   pub grown : Extends (reported old.log old.kept) (reported new.log new.kept)
   pub told : Grows old.told new.told (since (reported old.log old.kept) (reported new.log new.kept))

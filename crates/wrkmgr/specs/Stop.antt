@@ -27,6 +27,10 @@ pub record HasCauses {T : Type 0} (result : Result T Stop) (written_before writt
   pub no_read_fault : IsErrOf result ReadFault → ⊥
   pub not_full : IsErrOf result InputFull → ⊥
 
+-- the same of a part that writes nothing
+abbrev pub HasMonitorCauses : {T : Type 0} → Result T Stop → ℕ → ℕ → Type 0
+HasMonitorCauses result looked_before looked_now = HasCauses result 0 0 looked_before looked_now
+
 -- the same, where the input is read too
 pub record HasInputCauses {T : Type 0} (result : Result T Stop) (read_before read_now written_before written_now looked_before looked_now : ℕ) : Type 0 where
   pub read : read_before ≤ read_now

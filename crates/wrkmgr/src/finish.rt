@@ -15,7 +15,7 @@ impl Run {
     ghost use Rattle.wrkmgr.specs.Monitor.{Advances};
     ghost use Rattle.wrkmgr.specs.Serving.{Serves};
     ghost use Rattle.wrkmgr.specs.Session.{OneCall, start_call, end_call, session_pass};
-    ghost use Rattle.wrkmgr.specs.Stop.{HasCauses};
+    ghost use Rattle.wrkmgr.specs.Stop.{HasMonitorCauses};
     ghost use Rattle.wrkmgr.specs.Stopped.{AtMostOne};
     ghost use Rattle.wrkmgr.specs.View.{view};
 
@@ -30,7 +30,7 @@ impl Run {
         ensures part { Advances (view self.old.floor self.old.monitor (P.asked spawner.old) (P.told spawner.old) (P.misses spawner.old))
             (view self.new.floor self.new.monitor (P.asked spawner.new) (P.told spawner.new) (P.misses spawner.new)) }
         ensures kept { OnOk result (self.new.monitor.kept ≡ None) }
-        ensures causes { HasCauses result 0 0 (P.faults spawner.old) (P.faults spawner.new) }
+        ensures causes { HasMonitorCauses result (P.faults spawner.old) (P.faults spawner.new) }
     {
         'turns: for _ in rt.forever() {
             let sent = self.turn(alloc, spawner, clock)?;
@@ -53,7 +53,7 @@ impl Run {
             (view self.new.floor self.new.monitor (P.asked spawner.new) (P.told spawner.new) (P.misses spawner.new)) }
         ensures idle { OnOk result (active (after opening self.new.floor) ≡ 0) }
         ensures kept { OnOk result (self.new.monitor.kept ≡ None) }
-        ensures causes { HasCauses result 0 0 (P.faults spawner.old) (P.faults spawner.new) }
+        ensures causes { HasMonitorCauses result (P.faults spawner.old) (P.faults spawner.new) }
     {
         self.drain(rt, alloc, spawner, clock)?;
         'waits: for _ in rt.forever() {
@@ -77,7 +77,7 @@ impl Run {
             (view self.new.floor self.new.monitor (P.asked spawner.new) (P.told spawner.new) (P.misses spawner.new)) }
         ensures not_begun { OnErr result (AtMostOne start_call (entries_of session_pass (since self.old.floor self.new.floor))) }
         ensures begun { OnOk result (OneCall start_call (entries_of session_pass (since self.old.floor self.new.floor))) }
-        ensures causes { HasCauses result 0 0 (P.faults spawner.old) (P.faults spawner.new) }
+        ensures causes { HasMonitorCauses result (P.faults spawner.old) (P.faults spawner.new) }
     {
         self.call(alloc, clock, start_call())?;
         self.turn(alloc, spawner, clock)?;
@@ -98,7 +98,7 @@ impl Run {
         ensures ended { OnOk result (OneCall end_call (entries_of session_pass (since self.old.floor self.new.floor))) }
         ensures idle { OnOk result (active (after opening self.new.floor) ≡ 0) }
         ensures kept { OnOk result (self.new.monitor.kept ≡ None) }
-        ensures causes { HasCauses result 0 0 (P.faults spawner.old) (P.faults spawner.new) }
+        ensures causes { HasMonitorCauses result (P.faults spawner.old) (P.faults spawner.new) }
     {
         self.wait_for_jobs(rt, alloc, spawner, clock)?;
         self.call(alloc, clock, end_call())?;

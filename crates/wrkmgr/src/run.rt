@@ -8,7 +8,7 @@ ghost use Rattle.wm_law.specs.Pending.{active};
 ghost use Rattle.wm_outside.specs.Cause.{raised};
 ghost use Rattle.wrkmgr.specs.Lines.{lines_of};
 ghost use Rattle.wrkmgr.specs.Run.{IsRunStatus, IsServed, ended_status, is_run};
-ghost use Rattle.wrkmgr.specs.Serving.{is_ours};
+ghost use Rattle.wrkmgr.specs.Serving.{is_of_run};
 ghost use Rattle.wrkmgr.specs.Session.{IsSession, session_pass};
 ghost use Rattle.wrkmgr.specs.Stopped.{IsStopped};
 ghost use Rattle.wrkmgr.specs.Taking.{TakesInput};
@@ -146,7 +146,7 @@ pub fn run<I: Source, O: Sink, P: Spawner, C: Clock, R: Wait>(
     ensures words { is_run (map string_bytes words.now) ≡ false → result.status ≡ 2 }
     ensures run { is_run (map string_bytes words.now) ≡ true → result.status ≡ 2 → ⊥ }
     ensures legal { IsLegal opening result.log.items }
-    ensures callers { list_all is_ours result.log.items ≡ true }
+    ensures callers { list_all is_of_run result.log.items ≡ true }
     ensures served { IsServed result.log.items (option_to_list result.kept) (P.asked spawner.old) (P.asked spawner.new) (P.told spawner.old) (P.told spawner.new) (P.misses spawner.old) (P.misses spawner.new) }
     ensures session { result.status ≤ 1 → TakesInput (I.left input.old) (I.left input.new) (λ bytes. IsSession (lines_of bytes)
         (entries_of session_pass result.log.items) (O.written out.old) (O.written out.new) (result.status == 1)) }

@@ -58,7 +58,7 @@ impl Run {
     ghost use Rattle.wrkmgr.specs.Monitor.{Advances};
     ghost use Rattle.wrkmgr.specs.Serving.{Serves};
     ghost use Rattle.wrkmgr.specs.Session.{AnsweredBy, AnswersLine, Submits, session_pass};
-    ghost use Rattle.wrkmgr.specs.Stop.{HasCauses};
+    ghost use Rattle.wrkmgr.specs.Stop.{HasCauses, HasMonitorCauses};
     ghost use Rattle.wrkmgr.specs.Stopped.{IsCutShort};
     ghost use Rattle.wrkmgr.specs.View.{view};
 
@@ -109,7 +109,7 @@ impl Run {
         ensures part { Advances (view self.old.floor self.old.monitor (P.asked spawner.old) (P.told spawner.old) (P.misses spawner.old))
             (view self.new.floor self.new.monitor (P.asked spawner.new) (P.told spawner.new) (P.misses spawner.new)) }
         ensures kept { OnOk result (self.new.monitor.kept ≡ None) }
-        ensures causes { HasCauses result 0 0 (P.faults spawner.old) (P.faults spawner.new) }
+        ensures causes { HasMonitorCauses result (P.faults spawner.old) (P.faults spawner.new) }
         ensures sent { IfOk result (λ sent. sent ≡ length self.new.floor - length self.old.floor) }
     {
         match self.monitor.turn(alloc, &mut self.floor, spawner, clock) {
@@ -129,7 +129,7 @@ impl Run {
         ensures part { Advances (view self.old.floor self.old.monitor (P.asked spawner.old) (P.told spawner.old) (P.misses spawner.old))
             (view self.new.floor self.new.monitor (P.asked spawner.new) (P.told spawner.new) (P.misses spawner.new)) }
         ensures kept { OnOk result (self.new.monitor.kept ≡ None) }
-        ensures causes { HasCauses result 0 0 (P.faults spawner.old) (P.faults spawner.new) }
+        ensures causes { HasMonitorCauses result (P.faults spawner.old) (P.faults spawner.new) }
     {
         let until = self.floor.next_due();
         match self

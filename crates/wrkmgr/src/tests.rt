@@ -202,22 +202,31 @@ fn other_words_begin_no_run(rt: HostRuntime) -> Result<(), Fail> {
     Ok(())
 }
 
+fn failing_read(read: &'static [u32]) -> Outside {
+    Outside { read, ..FINE }
+}
+
+fn failing_write(write: &'static [u32]) -> Outside {
+    Outside { write, ..FINE }
+}
+
+fn failing_look(look: &'static [u32]) -> Outside {
+    Outside { look, ..FINE }
+}
+
 // The status, the answers and the number of entries where the outside is so.
 #[test]
 fn a_fault_ends_the_run_with_what_was_done_until_then(rt: HostRuntime) -> Result<(), Fail> {
-    let read = |read: &'static [u32]| Outside { read, ..FINE };
-    let write = |write: &'static [u32]| Outside { write, ..FINE };
-    let look = |look: &'static [u32]| Outside { look, ..FINE };
     let rows: [(Outside, u8, &[u8], usize); 9] = [
-        (read(&[1]), 3, b"", 1),
-        (read(&[2]), 3, TWO_ANSWERS, 5),
-        (write(&[1]), 4, b"", 2),
-        (write(&[2]), 4, SUBMITTED, 5),
-        (look(&[1]), 8, b"", 1),
-        (look(&[2]), 8, SUBMITTED, 4),
-        (look(&[3]), 8, SUBMITTED, 5),
-        (look(&[4]), 8, TWO_ANSWERS, 5),
-        (look(&[5]), 8, TWO_ANSWERS, 6),
+        (failing_read(&[1]), 3, b"", 1),
+        (failing_read(&[2]), 3, TWO_ANSWERS, 5),
+        (failing_write(&[1]), 4, b"", 2),
+        (failing_write(&[2]), 4, SUBMITTED, 5),
+        (failing_look(&[1]), 8, b"", 1),
+        (failing_look(&[2]), 8, SUBMITTED, 4),
+        (failing_look(&[3]), 8, SUBMITTED, 5),
+        (failing_look(&[4]), 8, TWO_ANSWERS, 5),
+        (failing_look(&[5]), 8, TWO_ANSWERS, 6),
     ];
     for (outside, status, written, entries) in rows {
         let done = run_over(&rt, rt.alloc(), TWO_LINES, outside)?;

@@ -6,7 +6,7 @@ use Rattle.wrkmgr.specs.Lists.{since}
 use Rattle.wrkmgr.specs.Session.{IsSession, session_pass}
 use Rattle.wrkmgr.specs.Stopped.{IsStopped}
 use Rattle.wrkmgr.specs.Taking.{TakesInput}
-use Rattle.wrkmgr.proofs.Runs.{low_if, high_on, session_from, stopped_from, stopped_not}
+use Rattle.wrkmgr.proofs.Runs.{ended_if, stopped_on, session_from, stopped_from, stopped_not}
 use Rattle.wrkmgr.proofs.run.run.Goals as goal
 
 pub returns-then-not-is_run-clause-stopped : goal.returns-then-not-is_run-clause-stopped
@@ -27,7 +27,7 @@ returns-clause-session g c low =
     let log = c.serve-end.new.self.floor in
     let st = c.close.ensures.status ∙ c.ended_status.ensures in
     let P : Bool → Type 0 = λ f. TakesInput x y (λ bytes. IsSession (lines_of bytes) (entries_of session_pass (since first log)) v w f) in
-    let h = low_if P c.serve-end.result c.serve-end.ensures.session (subst (λ (n : ℕ). n ≤ 1) st low) in
+    let h = ended_if P c.serve-end.result c.serve-end.ensures.session (subst (λ (n : ℕ). n ≤ 1) st low) in
     let k = subst (λ (n : ℕ). P (n == 1)) (sym st) h in
     subst (λ (l : List Entry). TakesInput x y (λ bytes. IsSession (lines_of bytes) (entries_of session_pass l) v w (c.close.result.status == 1))) (sym c.close.ensures.log)
     (session_from first log x y v w (c.close.result.status == 1) c.in-Ok.ensures k)
@@ -41,6 +41,6 @@ returns-clause-stopped g c high =
     let first = c.in-Ok.floor in
     let log = c.serve-end.new.self.floor in
     let st = c.close.ensures.status ∙ c.ended_status.ensures in
-    let h = high_on _ c.serve-end.result c.serve-end.ensures.stopped (subst (λ (n : ℕ). 1 < n) st high) in
+    let h = stopped_on _ c.serve-end.result c.serve-end.ensures.stopped (subst (λ (n : ℕ). 1 < n) st high) in
     subst (λ (l : List Entry). TakesInput x y (λ bytes. IsStopped (lines_of bytes) (entries_of session_pass l) v w)) (sym c.close.ensures.log)
     (stopped_from first log x y v w c.in-Ok.ensures h)

@@ -1,7 +1,7 @@
 use Rattle.std.proofs.Common.{arith}
 use Rattle.std.proofs.lemmas.Result.{err_from_is_err_and}
 use Rattle.wrkmgr.proofs.Monitors.{Advances-none, Advances-then}
-use Rattle.wrkmgr.proofs.Servings.{HasCauses-pass}
+use Rattle.wrkmgr.proofs.Causes.{HasCauses-pass}
 use Rattle.wrkmgr.proofs.session.Run.drain.Goals as goal
 
 pub turns-init : goal.turns-init

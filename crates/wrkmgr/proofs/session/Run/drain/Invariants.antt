@@ -1,11 +1,11 @@
 use Rattle.wrkmgr.specs.View.{view}
-use Rattle.wrkmgr.proofs.MonitorLoops.{TurnsSo}
+use Rattle.wrkmgr.proofs.MonitorLoops.{TurnLoop}
 use Rattle.wrkmgr.proofs.session.Run.drain.Given as goal
 
 abbrev pub invariant-turns : goal.invariant-turns
 invariant-turns g l =
     let s = g.P.Spawner in
-    TurnsSo
+    TurnLoop
     (view l.fn.self.floor l.fn.self.monitor (s.asked l.fn.spawner) (s.told l.fn.spawner) (s.misses l.fn.spawner))
     (view l.self.floor l.self.monitor (s.asked l.spawner) (s.told l.spawner) (s.misses l.spawner))
     (s.faults l.fn.spawner)

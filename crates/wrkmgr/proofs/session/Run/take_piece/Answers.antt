@@ -9,7 +9,8 @@ use Rattle.wrkmgr.specs.Lists.{since}
 use Rattle.wrkmgr.specs.Session.{session_pass}
 use Rattle.wrkmgr.specs.Stopped.{StopsIn}
 use Rattle.wrkmgr.specs.Taking.{TakesPiece}
-use Rattle.wrkmgr.proofs.Servings.{Serves-none, Serves-then, HasCauses-pass, taken_then, taken_none}
+use Rattle.wrkmgr.proofs.Causes.{HasCauses-pass}
+use Rattle.wrkmgr.proofs.Servings.{Serves-none, Serves-then, taken_then, taken_none}
 use Rattle.wrkmgr.proofs.Stopping.{on_err, stops_piece}
 use Rattle.wrkmgr.proofs.session.Run.take_piece.Goals as goal
 

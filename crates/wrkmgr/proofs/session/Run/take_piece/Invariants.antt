@@ -6,14 +6,14 @@ use Rattle.wrkmgr.specs.Lists.{since}
 use Rattle.wrkmgr.specs.Session.{session_pass}
 use Rattle.wrkmgr.specs.Taking.{TakesPiece}
 use Rattle.wrkmgr.specs.View.{view}
-use Rattle.wrkmgr.proofs.Servings.{TakesSo}
+use Rattle.wrkmgr.proofs.InputLoops.{PieceLoop}
 use Rattle.wrkmgr.proofs.session.Run.take_piece.Given as goal
 
 abbrev pub invariant-bytes : goal.invariant-bytes
 invariant-bytes g l =
     let s = g.P.Spawner in
     let o = g.O.Sink in
-    TakesSo
+    PieceLoop
     (view l.fn.self.floor l.fn.self.monitor (s.asked l.fn.spawner) (s.told l.fn.spawner) (s.misses l.fn.spawner))
     (view l.self.floor l.self.monitor (s.asked l.spawner) (s.told l.spawner) (s.misses l.spawner))
     (o.faults l.fn.out) (o.faults l.out) (s.faults l.fn.spawner) (s.faults l.spawner)

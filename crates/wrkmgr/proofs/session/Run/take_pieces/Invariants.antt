@@ -5,7 +5,7 @@ use Rattle.wrkmgr.specs.Lists.{since}
 use Rattle.wrkmgr.specs.Session.{session_pass}
 use Rattle.wrkmgr.specs.Taking.{TakesPiece, TakesInput}
 use Rattle.wrkmgr.specs.View.{view}
-use Rattle.wrkmgr.proofs.Servings.{ReadsSo}
+use Rattle.wrkmgr.proofs.InputLoops.{InputLoop}
 use Rattle.wrkmgr.proofs.session.Run.take_pieces.Given as goal
 
 abbrev pub invariant-reads : goal.invariant-reads
@@ -13,7 +13,7 @@ invariant-reads g l =
     let s = g.P.Spawner in
     let o = g.O.Sink in
     let i = g.I.Source in
-    ReadsSo
+    InputLoop
     (view l.fn.self.floor l.fn.self.monitor (s.asked l.fn.spawner) (s.told l.fn.spawner) (s.misses l.fn.spawner))
     (view l.self.floor l.self.monitor (s.asked l.spawner) (s.told l.spawner) (s.misses l.spawner))
     (i.faults l.fn.input) (i.faults l.input) (o.faults l.fn.out) (o.faults l.out) (s.faults l.fn.spawner) (s.faults l.spawner)
