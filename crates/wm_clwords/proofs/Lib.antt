@@ -1,3 +1,5 @@
+pub mod CallItems
+pub mod CallResults
 pub mod CommandLaw
 pub mod Completeness
 pub mod Explained
@@ -10,7 +12,9 @@ pub mod LineLemmas
 pub mod LinesLaw
 pub mod Names
 pub mod PartLemmas
+pub mod References
 pub mod Runs
 pub mod Soundness
 pub mod StepLemmas
+pub mod Tokens
 pub mod VerdictLemmas

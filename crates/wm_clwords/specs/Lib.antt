@@ -1,3 +1,5 @@
+pub mod Call
+pub mod CallReading
 pub mod CallText
 pub mod Faults
 pub mod First

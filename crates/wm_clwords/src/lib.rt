@@ -9,6 +9,7 @@
 #![tactic(auto)]
 
 mod call;
+mod called;
 mod command;
 mod fault;
 mod first;
@@ -17,14 +18,17 @@ mod levels;
 mod line;
 mod mode;
 mod reader;
+mod reference;
 #[cfg(test)]
 mod tests;
 mod tree;
 
 pub use call::call_text;
+pub use called::{CallFault, CallText, read_call, read_call_items};
 pub use command::{one_verdict, read_command};
 pub use fault::ClFault;
 pub use first::{First, FirstFault, one_reading, read_first};
 pub use joiner::{Joiner, LINE_LEN, no_line_waits};
 pub use line::LogicalLine;
+pub use reference::{read_object, read_program};
 pub use tree::{Item, Span, Tree};
