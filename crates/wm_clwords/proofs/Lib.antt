@@ -1,4 +1,5 @@
 pub mod CallItems
+pub mod CallPrinted
 pub mod CallResults
 pub mod CommandLaw
 pub mod Completeness
@@ -10,8 +11,10 @@ pub mod ItemLemmas
 pub mod LeadRuns
 pub mod LineLemmas
 pub mod LinesLaw
+pub mod NameWords
 pub mod Names
 pub mod PartLemmas
+pub mod Printing
 pub mod References
 pub mod Runs
 pub mod Soundness

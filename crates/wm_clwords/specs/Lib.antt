@@ -9,6 +9,7 @@ pub mod Levels
 pub mod Lines
 pub mod Part
 pub mod Quote
+pub mod Printed
 pub mod Reader
 pub mod Reading
 pub mod Verdict

@@ -7,6 +7,7 @@ ghost use Rattle.wm_clwords.specs.declared.tree.Item.{Item};
 ghost use Rattle.wm_clwords.specs.Grammar.{Token, Key, Close};
 ghost use Rattle.wm_clwords.specs.Call.{IsCall, IsParm, IsParms, IsPgm, IsPositional, SpellsCall, item_tokens, list_tokens};
 ghost use Rattle.wm_clwords.specs.CallReading.{are_parms, is_value, text_of, texts_of};
+ghost use Rattle.wm_clwords.specs.Printed.{PrintedCallIsSpelled};
 
 use crate::command::read_command;
 use crate::fault::ClFault;
@@ -250,3 +251,10 @@ pub fn read_call(alloc: Global, bytes: &[u8]) -> Result<CallText, CallFault>
         Err(fault) => Err(call_fault(fault)),
     }
 }
+
+/// The text that is printed of a CALL is a CALL of the same program with the same values, so `read_call` reads it
+/// as that.
+#[tactic(auto, using(crate::proofs::CallPrinted::printed_call))]
+pub fn printed_call_is_read()
+    ensures { PrintedCallIsSpelled }
+{}

@@ -24,7 +24,7 @@ mod tests;
 mod tree;
 
 pub use call::call_text;
-pub use called::{CallFault, CallText, read_call, read_call_items};
+pub use called::{CallFault, CallText, printed_call_is_read, read_call, read_call_items};
 pub use command::{one_verdict, read_command};
 pub use fault::ClFault;
 pub use first::{First, FirstFault, one_reading, read_first};
