@@ -4,6 +4,7 @@ use Rattle.std.specs.List.{flat_map}
 use Rattle.std.proofs.lemmas.List.{append-nil}
 use Rattle.wm_base.specs.Name.{IsName}
 use Rattle.wm_base.specs.QName.{qname_text}
+use Rattle.wm_base.specs.Text.{IsText}
 use Rattle.wm_base.specs.declared.qname.QName.{QName}
 use Rattle.wm_clwords.specs.Quote.{quoted}
 use Rattle.wm_clwords.specs.Grammar.{Token, Word, Quoted, Key, Close}
@@ -59,3 +60,8 @@ printed_call pgm parms l n t few short =
       call = subst (λ (k : List Token). IsCall k pgm parms) (sym p.says)
           (record { front = pgm_tokens pgm; back = parm_tokens parms; whole = refl; parts = inl (inr (pgm_is pgm l n), parms_are parms few) });
     }
+
+-- a text more
+pub texts_push : (texts : List (List ℕ)) (text : List ℕ) → AreTexts texts → IsText text → AreTexts (texts ++ text ∷ [])
+texts_push [] text h t = (t, tt)
+texts_push (first ∷ texts) text h t = (h.0, texts_push texts text h.1 t)

@@ -126,8 +126,15 @@ pub one_value : (items : List Item) (token : Token) → list_tokens items ≡ to
 one_value [] token e = cc
 one_value (item ∷ []) token e = (item, refl)
 one_value (item ∷ next ∷ items) token e =
-    absurd (omega (arith, some_token item, some_token next, ap length (sym (list_tokens-cons item (next ∷ items)) ∙ e), length-append (item_tokens item) (list_tokens (next ∷ items)),
-    ap length (list_tokens-cons next items), length-append (item_tokens next) (list_tokens items)))
+    absurd (omega (
+      arith,
+      some_token item,
+      some_token next,
+      ap length (sym (list_tokens-cons item (next ∷ items)) ∙ e),
+      length-append (item_tokens item) (list_tokens (next ∷ items)),
+      ap length (list_tokens-cons next items),
+      length-append (item_tokens next) (list_tokens items),
+    ))
 
 -- what is known of items that are values
 pub record Values (items : List Item) (texts : List (List ℕ)) : Type 0 where

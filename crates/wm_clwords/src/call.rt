@@ -1,9 +1,12 @@
 // The CALL that a job's request holds.
-ghost use Rattle.std.specs.Prelude.{◌≡◌, ◌++◌, IfOk, OnOk};
+ghost use Rattle.std.specs.Prelude.{◌≡◌, ◌≤◌, ◌++◌, length, IfOk, OnOk};
 ghost use Rattle.std.specs.List.{flat_map};
+ghost use Rattle.wm_base.specs.Name.{IsName};
 ghost use Rattle.wm_base.specs.QName.{qname_text};
 ghost use Rattle.wm_base.specs.Text.{IsText};
+ghost use Rattle.wm_clwords.specs.Call.{SpellsCall};
 ghost use Rattle.wm_clwords.specs.CallText.{call_text, next_value, parms_text};
+ghost use Rattle.wm_clwords.specs.Printed.{AreTexts};
 ghost use Rattle.wm_clwords.specs.Quote.{doubled, quoted};
 
 use std::alloc::{AllocError, Global};
@@ -13,13 +16,16 @@ use wm_base::{Args, Name, QName, Text};
 fn name_bytes(name: &Name) -> &[u8]
     ensures value { result.now ≡ name.now }
     ensures text { IsText result.now }
+    ensures name { IsName name.now }
 {
     name.as_bytes()
 }
 
 /// Adds a qualified name.
 fn push_qname(out: &mut Text, name: &QName) -> Result<(), AllocError>
-    ensures { OnOk result (out.new ≡ out.old ++ qname_text name.now) }
+    ensures ok { OnOk result (out.new ≡ out.old ++ qname_text name.now) }
+    ensures lib { OnOk result (IsName name.now.lib) }
+    ensures name { OnOk result (IsName name.now.name) }
 {
     out.push_bytes(name_bytes(&name.lib))?;
     out.push_bytes(b"/")?;
@@ -29,7 +35,8 @@ fn push_qname(out: &mut Text, name: &QName) -> Result<(), AllocError>
 
 /// Adds a text with each apostrophe doubled.
 fn push_doubled(out: &mut Text, text: &Text) -> Result<(), AllocError>
-    ensures { OnOk result (out.new ≡ out.old ++ doubled text.now) }
+    ensures ok { OnOk result (out.new ≡ out.old ++ doubled text.now) }
+    ensures text { IsText text.now }
 {
     for byte in text.as_bytes() {
         if *byte == b'\'' {
@@ -43,7 +50,8 @@ fn push_doubled(out: &mut Text, text: &Text) -> Result<(), AllocError>
 
 /// Adds a text in apostrophes.
 fn push_quoted(out: &mut Text, text: &Text) -> Result<(), AllocError>
-    ensures { OnOk result (out.new ≡ out.old ++ quoted text.now) }
+    ensures ok { OnOk result (out.new ≡ out.old ++ quoted text.now) }
+    ensures text { OnOk result (IsText text.now) }
 {
     out.push_bytes(b"'")?;
     push_doubled(out, text)?;
@@ -53,7 +61,8 @@ fn push_quoted(out: &mut Text, text: &Text) -> Result<(), AllocError>
 
 /// Adds the values after the first.
 fn push_others(out: &mut Text, parms: &[Text]) -> Result<(), AllocError>
-    ensures { OnOk result (out.new ≡ out.old ++ flat_map next_value parms.now) }
+    ensures ok { OnOk result (out.new ≡ out.old ++ flat_map next_value parms.now) }
+    ensures texts { OnOk result (AreTexts parms.now) }
 {
     for parm in parms {
         out.push_bytes(b" ")?;
@@ -64,7 +73,8 @@ fn push_others(out: &mut Text, parms: &[Text]) -> Result<(), AllocError>
 
 /// Adds the values of PARM, if there are any.
 fn push_parms(out: &mut Text, parms: &[Text]) -> Result<(), AllocError>
-    ensures { OnOk result (out.new ≡ out.old ++ parms_text parms.now) }
+    ensures ok { OnOk result (out.new ≡ out.old ++ parms_text parms.now) }
+    ensures texts { OnOk result (AreTexts parms.now) }
 {
     let Some((first, others)) = parms.split_first() else {
         return Ok(());
@@ -78,7 +88,10 @@ fn push_parms(out: &mut Text, parms: &[Text]) -> Result<(), AllocError>
 
 /// The canonical text of a CALL of this program with these values: the form that a job's request is kept in.
 pub fn call_text(alloc: Global, pgm: &QName, parms: &Args) -> Result<Text, AllocError>
-    ensures { IfOk result (λ text. text ≡ call_text pgm.now parms.now) }
+    ensures text { IfOk result (λ text. text ≡ call_text pgm.now parms.now) }
+
+    // The text is a CALL of the same program with the same values, so `read_call` reads it as that.
+    ensures spells { IfOk result (λ text. length parms.now ≤ 40 → length text ≤ 8192 → SpellsCall text pgm.now parms.now) }
 {
     let mut text = Text::new(alloc);
     text.push_bytes(b"CALL PGM(")?;

@@ -60,10 +60,7 @@ fn text_reference(is_word: bool, text: &[u8]) -> Option<Reference>
                 name,
             })
         }
-        Some(at) => joined(
-            library_of(is_word, &text[..at]),
-            name_of(&text[at + 1..]),
-        ),
+        Some(at) => joined(library_of(is_word, &text[..at]), name_of(&text[at + 1..])),
     }
 }
 

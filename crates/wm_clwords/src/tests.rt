@@ -1,6 +1,7 @@
 // Tests of what no clause says: that the calls succeed, and examples from outside.
 use crate::{
-    ClFault, FirstFault, Item, Joiner, LogicalLine, Span, call_text, read_command, read_first,
+    CallFault, ClFault, FirstFault, Item, Joiner, LogicalLine, Span, call_text, read_call,
+    read_call_items, read_command, read_first, read_object, read_program,
 };
 use std::alloc::Global;
 use std::process::Abort;
@@ -92,6 +93,181 @@ mod call {
             text.as_bytes(),
             b"CALL PGM(QGPL/ECHO) PARM('HI' 'it''s')".as_slice()
         );
+        Ok(())
+    }
+
+    #[test]
+    fn a_call_is_read_in_each_form(rt: HostRuntime) -> Result<(), Fail> {
+        let rows: [(&[u8], &[u8]); 14] = [
+            (
+                b"call pgm(echo) parm(hi)",
+                b"CALL PGM(QGPL/ECHO) PARM('HI')",
+            ),
+            (b"CALL ECHO", b"CALL PGM(QGPL/ECHO)"),
+            (
+                b" call 'ECHO' parm('hi' there)",
+                b"CALL PGM(QGPL/ECHO) PARM('hi' 'THERE')",
+            ),
+            (
+                b"CALL PARM('it''s' '') PGM(MINE/ECHO)",
+                b"CALL PGM(MINE/ECHO) PARM('it''s' '')",
+            ),
+            (
+                b"CALL PARM(5)PGM( 'MINE/ECHO' )",
+                b"CALL PGM(MINE/ECHO) PARM('5')",
+            ),
+            (
+                b"CALL ECHO PARM(*NO /* x */ 'a(b')",
+                b"CALL PGM(QGPL/ECHO) PARM('*NO' 'a(b')",
+            ),
+            (b"CALL *LIBL/ECHO", b"CALL PGM(QGPL/ECHO)"),
+            (b"CALL QCMD", b"CALL PGM(QSYS/QCMD)"),
+            (b"CALL 'QCMD'", b"CALL PGM(QSYS/QCMD)"),
+            (b"CALL PGM(QCMD)", b"CALL PGM(QSYS/QCMD)"),
+            (b"CALL PGM('QCMD')", b"CALL PGM(QSYS/QCMD)"),
+            (b"CALL PGM(*LIBL/QCMD)", b"CALL PGM(QGPL/QCMD)"),
+            (b"CALL PGM(QGPL/QCMD)", b"CALL PGM(QGPL/QCMD)"),
+            (b"CALL PGM(QCMDX)", b"CALL PGM(QGPL/QCMDX)"),
+        ];
+        for (bytes, wanted) in rows {
+            let call = read_call(rt.alloc(), bytes)?;
+            let text = call_text(rt.alloc(), &call.pgm, &call.parms)?;
+            assert_eq!(rt; text.as_bytes(), wanted);
+        }
+        Ok(())
+    }
+
+    #[test]
+    fn other_texts_are_no_call(rt: HostRuntime) {
+        let rows: [&[u8]; 28] = [
+            b"",
+            b"CALL",
+            b"CALLS ECHO",
+            b"'CALL' ECHO",
+            b"CALL(ECHO)",
+            b"CALL (ECHO)",
+            b"CALL PGM()",
+            b"CALL PGM(ECHO",
+            b"CALL PGM(ECHO ECHO)",
+            b"CALL PGM((ECHO))",
+            b"CALL PGM(1X)",
+            b"CALL PGM(A/B/C)",
+            b"CALL PGM(/ECHO)",
+            b"CALL PGM(ECHO/)",
+            b"CALL PGM('echo')",
+            b"CALL PGM('*LIBL/ECHO')",
+            b"CALL PGM(*LIBL)",
+            b"CALL PGM(*X/ECHO)",
+            b"CALL ECHO PGM(ECHO)",
+            b"CALL PGM(ECHO) PGM(ECHO)",
+            b"CALL PARM(A)",
+            b"CALL PARM(A) ECHO",
+            b"CALL ECHO PARM()",
+            b"CALL ECHO PARM(A (B))",
+            b"CALL ECHO PARM(A) PARM(B)",
+            b"CALL PARM(A) PGM(ECHO) X",
+            b"CALL ECHO TEXT(A)",
+            b"CALL ECHO 'A'",
+        ];
+        for bytes in rows {
+            let fault = read_call(rt.alloc(), bytes).err();
+            assert_eq!(rt; fault, Some(CallFault::NotCall));
+        }
+    }
+
+    // Longer than the 1,000 bytes that a job's request may have.
+    fn with_values(alloc: Global, count: usize) -> Result<Text, Fail> {
+        let mut text = Text::new(alloc);
+        text.push_bytes(b"CALL ECHO PARM(")?;
+        for _ in 0..count {
+            text.push_bytes(b" 'abcdefghijklmnopqrstuvwxyz'")?;
+        }
+        text.push_bytes(b")")?;
+        Ok(text)
+    }
+
+    #[test]
+    fn a_call_has_at_most_40_values(rt: HostRuntime) -> Result<(), Fail> {
+        let text = with_values(rt.alloc(), 40)?;
+        let call = read_call(rt.alloc(), text.as_bytes())?;
+        assert_eq!(rt; call.parms.len(), 40);
+        let text = with_values(rt.alloc(), 41)?;
+        let fault = read_call(rt.alloc(), text.as_bytes()).err();
+        assert_eq!(rt; fault, Some(CallFault::NotCall));
+        Ok(())
+    }
+
+    #[test]
+    fn the_items_of_a_call_are_read_in_a_list(rt: HostRuntime) -> Result<(), Fail> {
+        let tree = read_command(rt.alloc(), b"SBMJOB CMD(CALL ECHO PARM(HI)) CMD()")?;
+        assert_eq!(rt; tree.items.len(), 2);
+        match &tree.items[0] {
+            Item::Keyed(_, _, items) => {
+                assert_eq!(rt; items.len(), 3);
+                let call = read_call_items(rt.alloc(), &items[1..])?;
+                let text = call_text(rt.alloc(), &call.pgm, &call.parms)?;
+                assert_eq!(rt;
+                    text.as_bytes(),
+                    b"CALL PGM(QGPL/ECHO) PARM('HI')".as_slice()
+                );
+            }
+            _ => assert!(rt; false, "no key"),
+        }
+        match &tree.items[1] {
+            Item::Keyed(_, _, items) => {
+                let fault = read_call_items(rt.alloc(), items).err();
+                assert_eq!(rt; fault, Some(CallFault::NotCall));
+            }
+            _ => assert!(rt; false, "no key"),
+        }
+        Ok(())
+    }
+
+    fn is_named(rt: &impl Abort, read: Option<QName>, wanted: Option<(&[u8], &[u8])>) {
+        match (read, wanted) {
+            (None, None) => {}
+            (Some(read), Some((lib, name))) => {
+                assert_eq!(rt; read.lib.as_bytes(), lib);
+                assert_eq!(rt; read.name.as_bytes(), name);
+            }
+            _ => assert!(rt; false),
+        }
+    }
+
+    #[test]
+    fn a_name_alone_has_a_library(rt: HostRuntime) -> Result<(), Fail> {
+        let tree = read_command(
+            rt.alloc(),
+            b"X A 'A' B/A *LIBL/A '*LIBL/A' QCMD (A) *LIBL/QCMD",
+        )?;
+        let gpl: &[u8] = b"QGPL";
+        let objects: [Option<(&[u8], &[u8])>; 8] = [
+            Some((gpl, b"A")),
+            Some((gpl, b"A")),
+            Some((b"B", b"A")),
+            Some((gpl, b"A")),
+            None,
+            Some((gpl, b"QCMD")),
+            None,
+            Some((gpl, b"QCMD")),
+        ];
+        assert_eq!(rt; tree.items.len(), objects.len());
+        for (item, wanted) in tree.items.iter().zip(objects) {
+            is_named(&rt, read_object(item), wanted);
+        }
+        let programs: [Option<(&[u8], &[u8])>; 8] = [
+            Some((gpl, b"A")),
+            Some((gpl, b"A")),
+            Some((b"B", b"A")),
+            Some((gpl, b"A")),
+            None,
+            Some((b"QSYS", b"QCMD")),
+            None,
+            Some((gpl, b"QCMD")),
+        ];
+        for (item, wanted) in tree.items.iter().zip(programs) {
+            is_named(&rt, read_program(item), wanted);
+        }
         Ok(())
     }
 }
