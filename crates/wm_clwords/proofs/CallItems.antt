@@ -1,16 +1,16 @@
 -- What the parts of a CALL say of its items, and the items of its parts.
-use Rattle.std.proofs.Common.{◌≡◌, ◌≢◌, ◌⊎◌, ℕ, ◌+◌, ◌<◌, ◌≤◌, ◌++◌, ◌&&◌, Bool, true, false, List, [], ◌∷◌, length, Option, Some, None, MatchOption, IfSome, Bor, subst, sym, ◌∙◌, ap, refl, arith, inl, inr, codes, nat_eq, nat_le}
+use Rattle.std.proofs.Common.{◌≡◌, ◌≢◌, ◌⊎◌, ℕ, ◌++◌, ◌&&◌, true, List, [], ◌∷◌, length, subst, sym, ◌∙◌, ap, refl, arith, inl, inr, codes, nat_eq, nat_le}
 use Rattle.std.specs.Cmp.Lexicographic.{pointwise}
 use Rattle.std.specs.List.{list_all}
 use Rattle.std.proofs.lemmas.Bool.{and_parts, and_from, false≢true}
 use Rattle.std.proofs.lemmas.Bool.Decides.{nat_tests}
-use Rattle.std.proofs.lemmas.List.{append_assoc, append-nil, append_cancel_right}
+use Rattle.std.proofs.lemmas.List.{append-nil, append_cancel_right}
 use Rattle.wm_base.specs.declared.qname.QName.{QName}
 use Rattle.wm_clwords.specs.declared.tree.Item.{Item}
 use Rattle.wm_clwords.specs.Grammar.{Token, Blank, Comment, Word, Quoted, Key, Open, Close}
-use Rattle.wm_clwords.specs.Call.{item_tokens, list_tokens, IsValue, AreValues, IsOne, IsKeyed, IsProgram, IsPositional, IsPgm, IsParm, IsParms, IsCall, program_library, IsReference}
+use Rattle.wm_clwords.specs.Call.{item_tokens, list_tokens, IsValue, AreValues, IsProgram, IsPositional, IsPgm, IsParm, IsParms, IsCall}
 use Rattle.wm_clwords.specs.CallReading.{are_parms, is_value, texts_of}
-use Rattle.wm_clwords.proofs.Tokens.{heads, no_open, no_close, no_key, key_same, cut_value, cut_keyed, no_items, one_item, one_value, list_tokens-cons, Values, values_items, items_values}
+use Rattle.wm_clwords.proofs.Tokens.{heads, no_key, key_same, cut_value, cut_keyed, no_items, one_item, one_value, list_tokens-cons, values_items, items_values}
 
 -- a program's token is a value
 pub program_value : (token : Token) (pgm : QName) → IsProgram token pgm → (text : List ℕ) × IsValue token text

@@ -1,6 +1,5 @@
 -- The text that is printed of a CALL spells that CALL.
-use Rattle.std.proofs.Common.{◌≡◌, ℕ, ◌+◌, ◌≤◌, ◌++◌, List, [], ◌∷◌, length, map, subst, sym, ◌∙◌, ap, refl, arith, inl, inr, codes}
-use Rattle.std.specs.List.{flat_map}
+use Rattle.std.proofs.Common.{ℕ, ◌≤◌, ◌++◌, List, [], ◌∷◌, length, map, subst, sym, refl, arith, inl, inr, codes}
 use Rattle.std.proofs.lemmas.List.{append-nil}
 use Rattle.wm_base.specs.Name.{IsName}
 use Rattle.wm_base.specs.QName.{qname_text}
@@ -8,8 +7,8 @@ use Rattle.wm_base.specs.Text.{IsText}
 use Rattle.wm_base.specs.declared.qname.QName.{QName}
 use Rattle.wm_clwords.specs.Quote.{quoted}
 use Rattle.wm_clwords.specs.Grammar.{Token, Word, Quoted, Key, Close}
-use Rattle.wm_clwords.specs.Call.{AreValues, IsPgm, IsParms, IsCall, SpellsCall}
-use Rattle.wm_clwords.specs.CallText.{next_value, values_text, parms_text, call_text}
+use Rattle.wm_clwords.specs.Call.{AreValues, IsPgm, IsParms, IsCall}
+use Rattle.wm_clwords.specs.CallText.{values_text, parms_text}
 use Rattle.wm_clwords.specs.Printed.{AreTexts, PrintedCallIsSpelled}
 use Rattle.wm_clwords.proofs.NameWords.{upper_qname, word_qname}
 use Rattle.wm_clwords.proofs.Printing.{Fills, fills_word, fills_quoted, fills_quoted_next, Prints, prints_nil, prints_keyed, prints_blank, prints_append, command_printed}

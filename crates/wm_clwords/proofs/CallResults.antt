@@ -1,5 +1,5 @@
 -- What is answered for a CALL.
-use Rattle.std.proofs.Common.{◌≡◌, ◌≢◌, ◌↔◌, ℕ, List, Result, Ok, Err, IfOk, IfErr, MatchResult, subst, sym, ◌∙◌, ap, refl, codes}
+use Rattle.std.proofs.Common.{◌≡◌, ◌↔◌, ℕ, List, Result, Ok, Err, IfOk, IfErr, MatchResult, subst, sym, ◌∙◌, codes}
 use Rattle.wm_base.specs.declared.qname.QName.{QName}
 use Rattle.wm_clwords.specs.declared.called.CallFault.{CallFault}
 use Rattle.wm_clwords.specs.declared.called.CallFault.TheVariants.{NotCall, NoMemory}

@@ -1,5 +1,5 @@
 -- Names and references as words.
-use Rattle.std.proofs.Common.{◌≡◌, ℕ, ◌++◌, ◌&&◌, not, Bool, true, false, cond, List, [], ◌∷◌, eqb, get_or, sym, ◌∙◌, ap, refl, arith, slice_index}
+use Rattle.std.proofs.Common.{◌≡◌, ℕ, ◌++◌, ◌&&◌, true, false, List, [], ◌∷◌, eqb, sym, ◌∙◌, ap, refl, arith, slice_index}
 use Rattle.std.specs.List.{list_all}
 use Rattle.std.proofs.lemmas.Bool.{and_parts, and_from, false≢true}
 use Rattle.std.proofs.lemmas.Bool.Decides.{nat_tests}

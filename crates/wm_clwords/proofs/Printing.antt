@@ -6,7 +6,7 @@ use Rattle.std.proofs.lemmas.List.Concat.{flat_map-append}
 use Rattle.wm_base.specs.Name.{IsName}
 use Rattle.wm_base.specs.Text.{IsText}
 use Rattle.wm_clwords.specs.Quote.{quoted}
-use Rattle.wm_clwords.specs.Grammar.{Token, Blank, Comment, Word, Quoted, Key, Open, Close, spelling, is_word, Next, Anything, ByWord, ByQuoted, MayStand, upper, Mark, mark_at, marks_from, Spells}
+use Rattle.wm_clwords.specs.Grammar.{Token, Blank, Comment, Word, Quoted, Key, Open, Close, spelling, is_word, Next, Anything, ByWord, ByQuoted, MayStand, upper, Mark, mark_at, marks_from}
 use Rattle.wm_clwords.specs.Faults.{IsCommand}
 use Rattle.wm_clwords.specs.Call.{tokens_of}
 use Rattle.wm_clwords.proofs.NameWords.{upper_name, word_name}

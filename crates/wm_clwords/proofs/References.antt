@@ -1,5 +1,5 @@
 -- A reference is read as what it is, both ways.
-use Rattle.std.proofs.Common.{◌≡◌, ◌⊎◌, ℕ, ◌+◌, ◌-◌, ◌<◌, ◌++◌, ◌&&◌, not, nat_lt, Bool, true, false, cond, List, [], ◌∷◌, length, take, drop, get_or, position, eqb, ltb, Option, Some, None, IfSome, subst, sym, ◌∙◌, ap, refl, arith, inl, inr, codes, nat_eq}
+use Rattle.std.proofs.Common.{◌≡◌, ◌⊎◌, ℕ, ◌+◌, ◌++◌, ◌&&◌, not, nat_lt, Bool, true, false, cond, List, [], ◌∷◌, length, take, drop, get_or, position, Option, Some, None, IfSome, subst, sym, ◌∙◌, ap, refl, arith, inl, inr, codes, nat_eq}
 use Rattle.std.specs.Cmp.Lexicographic.{pointwise}
 use Rattle.std.specs.List.{list_all, position_or_len}
 use Rattle.std.proofs.Math.Seq.{take-append_seam, drop-append_seam}
@@ -9,8 +9,7 @@ use Rattle.std.proofs.lemmas.List.{append_assoc, length-append, length_push, tak
 use Rattle.std.proofs.lemmas.Option.{cond_some}
 use Rattle.std.proofs.lemmas.List.Quantifiers.{position-Some}
 use Rattle.std.proofs.lemmas.Slice.Eq.{bytes_eq-Decides}
-use Rattle.wm_base.specs.Name.{is_name, IsName, continues_name}
-use Rattle.wm_base.specs.QName.{qname_text}
+use Rattle.wm_base.specs.Name.{IsName, continues_name}
 use Rattle.wm_base.specs.declared.qname.QName.{QName}
 use Rattle.wm_clwords.specs.declared.reference.Reference.{Reference}
 use Rattle.wm_clwords.specs.declared.tree.Item.{Item, Word as ItemWord, Quoted as ItemQuoted, List', Keyed'}

@@ -1,14 +1,13 @@
 -- The tokens of items, and where one item ends.
-use Rattle.std.proofs.Common.{◌≡◌, ℕ, ◌+◌, ◌<◌, ◌≤◌, ◌++◌, true, false, List, [], ◌∷◌, length, Vec, Global, subst, sym, ◌∙◌, ap, refl, arith}
-use mathlib.Core.Former.{Count}
+use Rattle.std.proofs.Common.{◌≡◌, ℕ, ◌≤◌, ◌++◌, true, List, [], ◌∷◌, length, Vec, Global, subst, sym, ◌∙◌, ap, refl, arith}
 use Rattle.std.specs.List.{list_all}
 use Rattle.std.proofs.lemmas.Bool.{false≢true}
-use Rattle.std.proofs.lemmas.List.{length-append, append_assoc, append-nil, append_cancel_right, map-append, length_push}
+use Rattle.std.proofs.lemmas.List.{length-append, append_assoc, append-nil, map-append}
 use Rattle.wm_clwords.specs.declared.tree.Span.{Span}
 use Rattle.wm_clwords.specs.declared.tree.Item.{Item, Word as ItemWord, Quoted as ItemQuoted, Keyed as ItemKeyed, List', Keyed', Row_of-Item, end_of-Item, more_of-Item}
 use Rattle.wm_clwords.specs.Grammar.{Token, Word, Quoted, Key, Open, Close, Mark}
 use Rattle.wm_clwords.specs.Items.{item_marks, row_marks, list_marks}
-use Rattle.wm_clwords.specs.Call.{token_of, tokens_of, item_tokens, list_tokens, IsValue, AreValues, IsOne}
+use Rattle.wm_clwords.specs.Call.{token_of, tokens_of, item_tokens, list_tokens, IsValue, AreValues}
 use Rattle.wm_clwords.specs.CallReading.{is_value, texts_of}
 use Rattle.wm_clwords.proofs.ItemLemmas.{marks_of_keyed}
 

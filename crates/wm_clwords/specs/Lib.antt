@@ -8,8 +8,8 @@ pub mod Items
 pub mod Levels
 pub mod Lines
 pub mod Part
-pub mod Quote
 pub mod Printed
+pub mod Quote
 pub mod Reader
 pub mod Reading
 pub mod Verdict

@@ -1,11 +1,14 @@
 //! Lines and CL texts: what the bytes of the input spell.
 //!
 //! The contract for the layer above: `read_command` reads what the bytes spell, and answers the one fault of a text
-//! that spells no command; `Joiner` gives the logical lines of the input, however it is cut; `call_text` is the one
-//! canonical text of a CALL; `read_first` reads exactly the one form of line that the first path has.
+//! that spells no command; `Joiner` gives the logical lines of the input, however it is cut; `read_call` reads exactly
+//! the CALL commands, `read_call_items` the items of a CALL that stand in a list, and `read_object` and `read_program`
+//! the names of objects; `call_text` is the one canonical text of a CALL, and it is read again as that CALL;
+//! `read_first` reads exactly the one form of line that the first path has.
 //!
 //! The definitions are in `specs/`: `Lines` (logical lines), `Grammar` (what bytes spell), `Faults` (where they stop to),
-//! `Items` (what a tree says), `CallText`, `First`. `Reading` and `Part` are second definitions, byte by byte.
+//! `Items` (what a tree says), `Call` (which items are a CALL), `CallText`, `Printed`, `First`. `Reading`, `Part` and
+//! `CallReading` are second definitions, by steps.
 #![tactic(auto)]
 
 mod call;

@@ -1,5 +1,4 @@
-use Rattle.std.proofs.Common.{◌≡◌, ◌≤◌, List, ℕ, ◌∙◌, ap, sym, subst, length, arith, rules}
-use Rattle.std.proofs.lemmas.Grind.{common_steps}
+use Rattle.std.proofs.Common.{◌≡◌, ◌≤◌, List, ℕ, sym, subst, length, rules}
 use Rattle.wm_clwords.specs.Call.{SpellsCall}
 use Rattle.wm_clwords.specs.CallText.{call_text}
 use Rattle.wm_clwords.specs.Printed.{AreTexts}

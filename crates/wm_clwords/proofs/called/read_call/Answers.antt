@@ -1,5 +1,5 @@
 use Rattle.std.proofs.Common.{Err}
-use Rattle.wm_clwords.proofs.CallResults.{not_call_from, tree_ok, tree_call, fault_call}
+use Rattle.wm_clwords.proofs.CallResults.{not_call_from, tree_call, fault_call}
 use Rattle.wm_clwords.proofs.called.read_call.Goals as goal
 
 pub returns-in-Ok-clause-call : goal.returns-in-Ok-clause-call

@@ -1,8 +1,8 @@
-use Rattle.std.proofs.Common.{◌≡◌, List, Some, subst, sym, ap, inl, inr, ℕ}
+use Rattle.std.proofs.Common.{◌≡◌, List, Some, subst, sym, inl, inr}
 use Rattle.wm_clwords.specs.declared.tree.Item.{Item}
 use Rattle.wm_clwords.specs.Call.{IsCall, list_tokens}
 use Rattle.wm_clwords.specs.CallReading.{texts_of}
-use Rattle.wm_clwords.proofs.CallItems.{call_empty, call_parm_first, call_other_first, call_from_parm, call_from_program}
+use Rattle.wm_clwords.proofs.CallItems.{call_parm_first, call_other_first, call_from_parm, call_from_program}
 use Rattle.wm_clwords.proofs.CallResults.{made_ok, made_call}
 use Rattle.wm_clwords.proofs.called.read_call_items.Goals as goal
 
