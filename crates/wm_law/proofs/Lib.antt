@@ -8,8 +8,10 @@ pub mod Firsts
 pub mod Numbers
 pub mod Forward
 pub mod Starts
+pub mod Members
 pub mod Moves
 pub mod Orders
 pub mod Started
 pub mod Routing
 pub mod Routes
+pub mod Subsystems

@@ -44,7 +44,7 @@ pub unrefused : (t : Bool) (x : Refusal) (o : Option Refusal) → cond t (Some x
 unrefused true x o e = absurd (cc)
 unrefused false x o e = (refl, e)
 
-of_not : (b : Bool) → not b ≡ false → b ≡ true
+pub of_not : (b : Bool) → not b ≡ false → b ≡ true
 of_not true e = refl
 of_not false e = absurd (cc)
 

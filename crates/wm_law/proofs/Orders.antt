@@ -1,5 +1,5 @@
 -- Each Starting job has its order.
-use Rattle.std.proofs.Common.{◌≡◌, ℕ, ◌+◌, ◌++◌, ◌==◌, Bool, true, false, cond, List, [], ◌∷◌, map, ◌⊎◌, Option, Some, None, refl, sym, ap, subst, ◌∙◌, inl, inr, arith}
+use Rattle.std.proofs.Common.{◌≡◌, ℕ, ◌+◌, ◌++◌, ◌==◌, Bool, true, false, cond, List, [], ◌∷◌, map, Option, Some, None, refl, sym, ap, subst, ◌∙◌, inl, inr, arith}
 use Rattle.std.specs.List.{find, count_by}
 use Rattle.std.specs.Option.{IsSome, option_and_then, option_map}
 use Rattle.std.proofs.lemmas.List.Sums.{sum_by-cons}
@@ -38,6 +38,7 @@ use Rattle.wm_law.specs.Opening.{opening}
 use Rattle.wm_law.specs.History.{after, stepped}
 use Rattle.wm_law.proofs.Forward.{found_among, found_in, only_one, same_number}
 use Rattle.wm_law.proofs.Routes.{IsSorted, numbered_once, route_is_least}
+use Rattle.wm_law.proofs.Members.{of_last, of_mapped}
 use Rattle.wm_law.proofs.Moves.{HoldsAfterCalls, call_keeps}
 use Rattle.wm_law.proofs.Numbers.{apply_keeps, clock_keeps, launches_keep, only_started, opening_is_numbered, step_keeps_numbers}
 
@@ -116,17 +117,6 @@ has_order s sbs jobq j l routed led =
 -- each Starting job of a list has its order
 abbrev AllOrdered : State → List Job → Type 0
 AllOrdered s jobs = (j : Job) → IsIn j jobs → j.phase ≡ Starting → IsSome (order_of s j)
-
-of_mapped : (f : Job → Job) (jobs : List Job) (k : Job) → IsIn k (map f jobs) → (j : Job) × IsIn j jobs × (k ≡ f j)
-of_mapped f [] k i = absurd i
-of_mapped f (j ∷ jobs) k (inl e) = (j, inl refl, e)
-of_mapped f (j ∷ jobs) k (inr i) = let m = of_mapped f jobs k i in (m.0, inr m.1, m.2)
-
-of_last : (jobs : List Job) (j k : Job) → IsIn k (jobs ++ j ∷ []) → IsIn k jobs ⊎ (k ≡ j)
-of_last [] j k (inl e) = inr e
-of_last [] j k (inr i) = absurd i
-of_last (x ∷ jobs) j k (inl e) = inl (inl e)
-of_last (x ∷ jobs) j k (inr i) = elim (of_last jobs j k i) as (λ _. IsIn k (x ∷ jobs) ⊎ (k ≡ j)) [ inl m ↦ inl (inr m) | inr e ↦ inr e ]
 
 entered : (s : State) (user : List ℕ) (c : Sbmjob) (d : Jobd) → AllOrdered s s.jobs → AllOrdered s (s.jobs ++ submitted_job s user c d ∷ [])
 entered s user c d h k i e =

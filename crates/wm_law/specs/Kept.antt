@@ -1,6 +1,6 @@
 -- What every step keeps: numbers that are given once, jobs that only go forward, orders of the jobs that are Starting, and
 -- names of started subsystems that are distinct.
-use Rattle.std.specs.Prelude.{◌≡◌, ◌↔◌, ℕ, ◌<◌, ◌≤◌, List, [], ◌∷◌, map, ⊤, Option, Some, None}
+use Rattle.std.specs.Prelude.{◌≡◌, ◌↔◌, ℕ, ◌<◌, ◌≤◌, false, List, [], ◌∷◌, map, ⊤, Option, Some, None}
 use Rattle.std.specs.List.{filter_map}
 use Rattle.std.specs.Option.{IsSome, option_and_then}
 use Rattle.std.specs.Ordering.{nat_cmp}
@@ -19,11 +19,13 @@ use Rattle.wm_desc.specs.declared.description.Sbsd.{Sbsd}
 use Rattle.wm_desc.specs.declared.objects.Objects.{Objects}
 use Rattle.wm_desc.specs.Sorted.{IsSortedOnce}
 use Rattle.wm_law.specs.declared.state.State.{State}
+use Rattle.wm_law.specs.declared.state.Sbs.{Sbs}
+use Rattle.wm_law.specs.Choice.{is_sbs_active}
 use Rattle.wm_law.specs.Fit.{IsBetween}
 use Rattle.wm_law.specs.History.{IsLegal, after, order_in}
 use Rattle.wm_law.specs.Launch.{order_of, route}
 use Rattle.wm_law.specs.Laws.{IsIn, IsRoute}
-use Rattle.wm_law.specs.Machine.{numbers_end, serials_end, step}
+use Rattle.wm_law.specs.Machine.{is_on, numbers_end, serials_end, step}
 use Rattle.wm_desc.specs.Table.{object_named}
 use Rattle.wm_law.specs.Opening.{opening}
 use Rattle.wm_law.specs.Pending.{starting}
@@ -69,6 +71,14 @@ started_names s = map (λ b. b.sbsd.name) s.started
 -- no two started subsystems have one simple name
 abbrev pub HasDistinctNames : State → Type 0
 HasDistinctNames s = IsDistinct (started_names s)
+
+-- each started subsystem has its description
+abbrev pub HasDescriptions : State → Type 0
+HasDescriptions s = (b : Sbs) → IsIn b s.started → IsSome (object_named b.sbsd s.objects.sbsds)
+
+-- where the power isn't On, no started subsystem is Active
+abbrev pub IsQuiet : State → Type 0
+IsQuiet s = is_on s.power ≡ false → (b : Sbs) → IsIn b s.started → is_sbs_active b.phase ≡ false
 
 -- the phases in their order
 abbrev pub phase_rank : Phase → ℕ
@@ -156,3 +166,19 @@ StepKeepsNamesDistinct = (s : State) (caller : ℕ) (call : Call) (moment : ℕ)
 -- whatever was called, no two started subsystems have one simple name
 abbrev pub StartedNamesAreDistinct : Type 0
 StartedNamesAreDistinct = (h : List Entry) → HasDistinctNames (after opening h)
+
+-- every step leaves each started subsystem its description
+abbrev pub StepKeepsDescriptions : Type 0
+StepKeepsDescriptions = (s : State) (caller : ℕ) (call : Call) (moment : ℕ) → HasDescriptions s → HasDescriptions (step s caller call moment).state
+
+-- whatever was called, each started subsystem has its description
+abbrev pub StartedAreDescribed : Type 0
+StartedAreDescribed = (h : List Entry) → HasDescriptions (after opening h)
+
+-- no step makes a subsystem Active where the power isn't On
+abbrev pub StepKeepsQuiet : Type 0
+StepKeepsQuiet = (s : State) (caller : ℕ) (call : Call) (moment : ℕ) → IsQuiet s → IsQuiet (step s caller call moment).state
+
+-- whatever was called, no started subsystem is Active where the power isn't On
+abbrev pub NoneIsActiveWithoutPower : Type 0
+NoneIsActiveWithoutPower = (h : List Entry) → IsQuiet (after opening h)

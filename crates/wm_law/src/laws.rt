@@ -1,6 +1,6 @@
 // Laws of the machine: what its definitions come to, each for all states. They are no calls.
 ghost use Rattle.wm_law.specs.Laws.{NextIsFirst, NoNextIsNone, RouteIsLeast, NoRouteIsNone, SettledHasNoNext, SettledLeavesNone, RefusalLeaves, RefusedStepSettles, ParameterIsRead};
-ghost use Rattle.wm_law.specs.Kept.{OpeningIsNumbered, StepKeepsNumbers, NumbersAreGivenOnce, StepGoesOn, StartsOnce, SerialsStartOnce, OpeningHasOrders, StepKeepsOrders, StartingJobsHaveOrders, HandGivesAnOrder, ReachedRouteIsLeast, OpeningHasDistinctNames, StepKeepsNamesDistinct, StartedNamesAreDistinct};
+ghost use Rattle.wm_law.specs.Kept.{OpeningIsNumbered, StepKeepsNumbers, NumbersAreGivenOnce, StepGoesOn, StartsOnce, SerialsStartOnce, OpeningHasOrders, StepKeepsOrders, StartingJobsHaveOrders, HandGivesAnOrder, ReachedRouteIsLeast, StepKeepsDescriptions, StartedAreDescribed, StepKeepsQuiet, NoneIsActiveWithoutPower, OpeningHasDistinctNames, StepKeepsNamesDistinct, StartedNamesAreDistinct};
 
 /// The next job is the first of its subsystem: it may start, and no other job there that may start
 /// stands before it. No job may start in a subsystem whose simple name comes before. Where there is
@@ -67,6 +67,18 @@ pub fn started_names_are_distinct()
     ensures opening { OpeningHasDistinctNames }
     ensures step { StepKeepsNamesDistinct }
     ensures always { StartedNamesAreDistinct }
+{}
+
+/// Each started subsystem has its description.
+pub fn started_are_described()
+    ensures step { StepKeepsDescriptions }
+    ensures always { StartedAreDescribed }
+{}
+
+/// Where the power isn't On, no started subsystem is Active, so no job starts.
+pub fn none_is_active_without_power()
+    ensures step { StepKeepsQuiet }
+    ensures always { NoneIsActiveWithoutPower }
 {}
 
 /// The parameter of a request is the text that was put into it.

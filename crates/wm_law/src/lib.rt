@@ -28,9 +28,10 @@ pub use choice::{Candidate, Rank};
 pub use job::{Job, JobKind, Phase, Why, Wish};
 pub use launch::{BEFORE_PARAMETER, BEHIND_PARAMETER, Launched, parameter_of};
 pub use laws::{
-    jobs_go_forward, next_job_is_first, numbers_are_given_once, refusals_leave_the_state,
-    requests_keep_their_parameter, routes_are_least, serials_start_once, settling_leaves_none,
-    started_names_are_distinct, starting_jobs_have_orders,
+    jobs_go_forward, next_job_is_first, none_is_active_without_power, numbers_are_given_once,
+    refusals_leave_the_state, requests_keep_their_parameter, routes_are_least, serials_start_once,
+    settling_leaves_none, started_are_described, started_names_are_distinct,
+    starting_jobs_have_orders,
 };
 pub use list::ListOf;
 pub use state::{Evoke, Power, Sbs, SbsPhase, State, Stop};

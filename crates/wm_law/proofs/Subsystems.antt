@@ -1,0 +1,99 @@
+-- Each started subsystem has its description, and none is Active where the power isn't On.
+use Rattle.std.proofs.Common.{◌≡◌, ◌++◌, ◌==◌, not, true, [], ◌∷◌, Option, Some, None, sym, ap, subst, inl, inr}
+use Rattle.std.specs.Prelude.{if◌then◌else◌, length, nat_le}
+use Rattle.std.specs.List.{find}
+use Rattle.std.specs.Option.{IsSome, is_some}
+use Rattle.wm_base.specs.declared.qname.QName.{QName}
+use Rattle.wm_base.specs.declared.refusal.Kind.TheVariants as kind
+use Rattle.wm_base.specs.declared.refusal.Refusal.TheVariants.{PoweringDown, NoObject, AlreadyActive, TableFull}
+use Rattle.wm_desc.specs.Table.{object_named}
+use Rattle.wm_law.specs.declared.choice.Candidate.{Candidate}
+use Rattle.wm_law.specs.declared.job.Job.{Job}
+use Rattle.wm_law.specs.declared.state.Sbs.{Sbs}
+use Rattle.wm_law.specs.declared.state.SbsPhase.TheVariants.{Active}
+use Rattle.wm_law.specs.declared.state.State.{State}
+use Rattle.wm_law.specs.Choice.{is_sbs_active}
+use Rattle.wm_law.specs.Kept.{HasDescriptions, IsQuiet, StepKeepsDescriptions, StartedAreDescribed, StepKeepsQuiet, NoneIsActiveWithoutPower}
+use Rattle.wm_law.specs.Launch.{launch_job}
+use Rattle.wm_law.specs.Machine.{start_refusal, is_gone, is_on, is_started, end_now, max_started}
+use Rattle.wm_law.specs.Opening.{opening}
+use Rattle.wm_law.proofs.Members.{of_last, of_mapped, left_in}
+use Rattle.wm_law.proofs.Moves.{HoldsAfterCalls, IsKeptByParts, step_keeps, after_keeps, unrefused, of_not}
+
+-- STRSBS isn't refused, so the power is On and the description is there
+powered : (s : State) (q : QName) → start_refusal s q ≡ None → is_on s.power ≡ true
+powered s q e = of_not (is_on s.power) (unrefused (not (is_on s.power)) PoweringDown (if not (is_some (object_named q s.objects.sbsds)) then Some (NoObject kind.Sbsd) else if is_started s q.name then Some AlreadyActive else if nat_le max_started (length s.started) then Some (TableFull kind.Sbs max_started) else None) e).0
+
+there : (s : State) (q : QName) → start_refusal s q ≡ None → IsSome (object_named q s.objects.sbsds)
+there s q e =
+    let on = (unrefused (not (is_on s.power)) PoweringDown _ e).1 in
+    of_not (is_some (object_named q s.objects.sbsds)) (unrefused (not (is_some (object_named q s.objects.sbsds))) (NoObject kind.Sbsd) (if is_started s q.name then Some AlreadyActive else if nat_le max_started (length s.started) then Some (TableFull kind.Sbs max_started) else None) on).0
+
+described : (s : State) (q : QName) → start_refusal s q ≡ None → HasDescriptions s → HasDescriptions (record s { started = s.started ++ record { sbsd = q; phase = Active } ∷ [] })
+described s q e h b i =
+    elim (of_last s.started (record { sbsd = q; phase = Active }) b i) as (λ _. IsSome (object_named b.sbsd s.objects.sbsds)) [
+      | inl m ↦ h b m
+      | inr same ↦ subst (λ (x : Sbs). IsSome (object_named x.sbsd s.objects.sbsds)) (sym same) (there s q e)
+    ]
+
+described_launched : (s : State) (c : Candidate) (o : Option Job) → HasDescriptions s → HasDescriptions (launch_job s c o)
+described_launched s c None h = h
+described_launched s c (Some j) h = h
+
+described_calls : (s : State) → HasDescriptions s → HoldsAfterCalls HasDescriptions s
+described_calls s h = record {
+  stays = h;
+  starts = λ q e. described s q e h;
+  enters = λ user c d has. h;
+  moves = λ serial phase e. h;
+  powers = λ b i. (let m = of_mapped end_now s.started b i in subst (λ (x : Sbs). IsSome (object_named x.sbsd s.objects.sbsds)) (sym m.2) (h m.0 m.1));
+}
+
+described_parts : IsKeptByParts HasDescriptions
+described_parts = record {
+  clock = λ s moment h. h;
+  calls = described_calls;
+  leaves = λ s h b i. h b (left_in (λ b. not (is_gone s.jobs b)) s.started b i);
+  launches = record { by_step = λ s c e h. described_launched s c (find (λ j. j.serial == c.serial) s.jobs) h };
+}
+
+quiet_launched : (s : State) (c : Candidate) (o : Option Job) → IsQuiet s → IsQuiet (launch_job s c o)
+quiet_launched s c None h = h
+quiet_launched s c (Some j) h = h
+
+quiet_calls : (s : State) → IsQuiet s → HoldsAfterCalls IsQuiet s
+quiet_calls s h = record {
+  stays = h;
+  starts = λ q e off b i. (let on = powered s q e in absurd (cc));
+  enters = λ user c d has. h;
+  moves = λ serial phase e. h;
+  powers = λ off b i. (let m = of_mapped end_now s.started b i in ap (λ (x : Sbs). is_sbs_active x.phase) m.2);
+}
+
+quiet_parts : IsKeptByParts IsQuiet
+quiet_parts = record {
+  clock = λ s moment h. h;
+  calls = quiet_calls;
+  leaves = λ s h off b i. h off b (left_in (λ b. not (is_gone s.jobs b)) s.started b i);
+  launches = record { by_step = λ s c e h. quiet_launched s c (find (λ j. j.serial == c.serial) s.jobs) h };
+}
+
+opening_has_descriptions : HasDescriptions opening
+unfolding opening
+opening_has_descriptions b i = absurd i
+
+opening_is_quiet : IsQuiet opening
+unfolding opening
+opening_is_quiet off b i = absurd i
+
+pub step_keeps_descriptions : StepKeepsDescriptions
+step_keeps_descriptions s caller call moment h = step_keeps HasDescriptions described_parts s caller call moment h
+
+pub started_are_described : StartedAreDescribed
+started_are_described h = after_keeps HasDescriptions described_parts opening h opening_has_descriptions
+
+pub step_keeps_quiet : StepKeepsQuiet
+step_keeps_quiet s caller call moment h = step_keeps IsQuiet quiet_parts s caller call moment h
+
+pub none_is_active_without_power : NoneIsActiveWithoutPower
+none_is_active_without_power h = after_keeps IsQuiet quiet_parts opening h opening_is_quiet
