@@ -75,7 +75,7 @@ pub fn started_are_described()
     ensures always { StartedAreDescribed }
 {}
 
-/// Where the power isn't On, no started subsystem is Active, so no job starts.
+/// Where the power isn't On, no started subsystem is Active.
 pub fn none_is_active_without_power()
     ensures step { StepKeepsQuiet }
     ensures always { NoneIsActiveWithoutPower }

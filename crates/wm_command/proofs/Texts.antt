@@ -1,0 +1,136 @@
+-- Words, names and numbers are texts.
+use Rattle.std.proofs.Common.{◌≡◌, ℕ, ◌+◌, ◌-◌, ◌<◌, ◌^◌, ◌%◌, ◌/◌, ◌≤◌, ◌++◌, true, List, [], ◌∷◌, length, replicate, zero, suc, false, append_assoc, refl, arith}
+use Rattle.std.specs.Fmt.{decimal, padded_integral, format_spec, char_count}
+use Rattle.std.specs.List.{list_all}
+use Rattle.std.proofs.lemmas.Fmt.{decimal_by_steps}
+use Rattle.std.proofs.lemmas.Bool.{and_parts, and_from}
+use Rattle.std.proofs.lemmas.Bool.Decides.{nat_tests}
+use Rattle.std.proofs.lemmas.Grind.{common_steps}
+use Rattle.wm_base.specs.Text.{is_printable, IsText}
+use Rattle.wm_base.specs.Number.{zero_padded}
+use Rattle.wm_clwords.proofs.Names.{IsText-name}
+use Rattle.wm_base.specs.Key.{key_word}
+use Rattle.wm_base.specs.declared.refusal.Key.{Key}
+use Rattle.wm_base.specs.declared.refusal.Key.TheVariants as key
+use Rattle.wm_command.specs.declared.row.Special.{Special}
+use Rattle.wm_command.specs.declared.row.Special.TheVariants as special
+use Rattle.wm_command.specs.declared.verb.Change.{Change}
+use Rattle.wm_command.specs.declared.verb.Change.TheVariants as change
+use Rattle.wm_command.specs.Values.{special_word}
+use Rattle.wm_command.specs.Table.{change_word}
+
+pub IsText-key : (k : Key) → IsText (key_word k)
+IsText-key key.Cls = refl
+IsText-key key.Runpty = refl
+IsText-key key.Timeslice = refl
+IsText-key key.Dftwait = refl
+IsText-key key.Jobq = refl
+IsText-key key.Pgm = refl
+IsText-key key.Path = refl
+IsText-key key.Jobd = refl
+IsText-key key.Jobpty = refl
+IsText-key key.Rtgdta = refl
+IsText-key key.Rqsdta = refl
+IsText-key key.Hold = refl
+IsText-key key.Sbsd = refl
+IsText-key key.Maxjobs = refl
+IsText-key key.Maxact = refl
+IsText-key key.Seqnbr = refl
+IsText-key key.Maxpty1 = refl
+IsText-key key.Maxpty2 = refl
+IsText-key key.Maxpty3 = refl
+IsText-key key.Maxpty4 = refl
+IsText-key key.Maxpty5 = refl
+IsText-key key.Maxpty6 = refl
+IsText-key key.Maxpty7 = refl
+IsText-key key.Maxpty8 = refl
+IsText-key key.Maxpty9 = refl
+IsText-key key.Cmpval = refl
+IsText-key key.Poolid = refl
+IsText-key key.Job = refl
+IsText-key key.Strjobs = refl
+IsText-key key.Inljobs = refl
+IsText-key key.Threshold = refl
+IsText-key key.Adljobs = refl
+IsText-key key.Maxuse = refl
+IsText-key key.Wait = refl
+IsText-key key.Sbs = refl
+IsText-key key.Option = refl
+IsText-key key.Delay = refl
+IsText-key key.Cmd = refl
+IsText-key key.Scddate = refl
+IsText-key key.Scdtime = refl
+IsText-key key.Text = refl
+IsText-key key.Pools = refl
+
+pub IsText-special : (s : Special) → IsText (special_word s)
+unfolding special_word
+IsText-special special.Never = refl
+IsText-special special.Nomax = refl
+IsText-special special.None = refl
+IsText-special special.Jobd = refl
+IsText-special special.Same = refl
+IsText-special special.Nolimit = refl
+IsText-special special.Sbsd = refl
+
+pub IsText-verb : (v : Change) → IsText (change_word v)
+unfolding change_word
+IsText-verb change.Crtcls = refl
+IsText-verb change.Crtjobq = refl
+IsText-verb change.Crtpgmref = refl
+IsText-verb change.Crtjobd = refl
+IsText-verb change.Crtsbsd = refl
+IsText-verb change.Addjobqe = refl
+IsText-verb change.Addrtge = refl
+IsText-verb change.Addaje = refl
+IsText-verb change.Addpje = refl
+IsText-verb change.Rmvjobqe = refl
+IsText-verb change.Rmvrtge = refl
+IsText-verb change.Rmvaje = refl
+IsText-verb change.Rmvpje = refl
+IsText-verb change.Strsbs = refl
+IsText-verb change.Endsbs = refl
+IsText-verb change.Sbmjob = refl
+IsText-verb change.Hldjob = refl
+IsText-verb change.Rlsjob = refl
+IsText-verb change.Chgjob = refl
+IsText-verb change.Endjob = refl
+IsText-verb change.Hldjobq = refl
+IsText-verb change.Rlsjobq = refl
+IsText-verb change.Clrjobq = refl
+IsText-verb change.Strpj = refl
+IsText-verb change.Endpj = refl
+IsText-verb change.Evoke = refl
+IsText-verb change.Enduse = refl
+IsText-verb change.Pwrdwnsys = refl
+
+pub IsText-append : (xs ys : List ℕ) → IsText xs → IsText ys → IsText (xs ++ ys)
+IsText-append [] ys h g = g
+IsText-append (x ∷ xs) ys h g =
+    let both = and_parts (is_printable x) (list_all is_printable xs) h in
+    and_from (is_printable x) (list_all is_printable (xs ++ ys)) both.0 (IsText-append xs ys both.1 g)
+
+IsText-digit : (n : ℕ) → n < 10 → IsText ((48 + n) ∷ [])
+IsText-digit n h = grind (arith, nat_tests)
+
+pub IsText-decimal : (n : ℕ) → n < 2 ^ 64 → IsText (decimal n)
+IsText-decimal n h =
+    decimal_by_steps (λ m ds. IsText ds) (λ m small. IsText-digit m small)
+    (λ m ds big text. IsText-append ds _ text (IsText-digit (m % 10) (omega arith))) n h
+
+IsText-zeros : (n : ℕ) → IsText (replicate n 48)
+IsText-zeros zero = refl
+IsText-zeros (suc n) = IsText-zeros n
+
+pub IsText-zero_padded : (width n : ℕ) → n < 2 ^ 64 → IsText (zero_padded width n)
+unfolding zero_padded
+IsText-zero_padded width n h = IsText-append (replicate (width - length (decimal n)) 48) (decimal n) (IsText-zeros (width - length (decimal n))) (IsText-decimal n h)
+
+-- a format such as `{:06}` writes zeros before the number
+pub padded_integral-zeros : (width n : ℕ) → padded_integral (format_spec 32 0 4 width (2 ^ 64 - 1)) false [] (decimal n) ≡ zero_padded width n
+unfolding padded_integral char_count zero_padded
+padded_integral-zeros width n = grind (arith, common_steps)
+
+pub ruleset texts = (IsText-key, IsText-special, IsText-verb, IsText-decimal, IsText-name)
+
+pub ruleset padded = (padded_integral-zeros, IsText-zero_padded, append_assoc)

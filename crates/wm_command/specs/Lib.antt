@@ -1,0 +1,12 @@
+pub mod Call
+pub mod Each
+pub mod Fields
+pub mod Line
+pub mod Made
+pub mod Print
+pub mod Reading
+pub mod Shown
+pub mod Table
+pub mod Values
+pub mod Words
+pub mod Written

@@ -1,0 +1,92 @@
+-- The canonical text of a command.
+use Rattle.std.specs.Prelude.{ℕ, Bool, true, false, List, [], ◌∷◌, ◌++◌, ◌/◌, ◌%◌, ◌==◌, if◌then◌else◌, codes}
+use Rattle.std.specs.List.{flat_map}
+use Rattle.std.specs.Fmt.{decimal}
+use Rattle.wm_base.specs.Key.{key_word}
+use Rattle.wm_base.specs.Number.{zero_padded}
+use Rattle.wm_base.specs.QName.{qname_text}
+use Rattle.wm_base.specs.JobName.{job_name_text}
+use Rattle.wm_clwords.specs.Quote.{quoted}
+use Rattle.wm_desc.specs.declared.entry.Cmp.{Cmp}
+use Rattle.wm_desc.specs.declared.entry.Cmp.TheVariants.{Any, Val}
+use Rattle.wm_when.specs.declared.schedule.DateSpec.{DateSpec}
+use Rattle.wm_when.specs.declared.schedule.DateSpec.TheVariants as date
+use Rattle.wm_when.specs.declared.schedule.TimeSpec.{TimeSpec}
+use Rattle.wm_when.specs.declared.schedule.TimeSpec.TheVariants as time
+use Rattle.wm_command.specs.declared.commands.Command.{Command}
+use Rattle.wm_command.specs.declared.commands.EndOption.{EndOption}
+use Rattle.wm_command.specs.declared.commands.EndOption.TheVariants.{Cntrld, Immed}
+use Rattle.wm_command.specs.declared.commands.JobRef.{JobRef}
+use Rattle.wm_command.specs.declared.commands.JobRef.TheVariants.{Simple, ByUser, Full}
+use Rattle.wm_command.specs.declared.value.Value.{Value}
+use Rattle.wm_command.specs.declared.value.Value.TheVariants as value
+use Rattle.wm_command.specs.declared.value.Given.{Given}
+use Rattle.wm_command.specs.Shown.{values_of, verb_of}
+use Rattle.wm_command.specs.Table.{change_word}
+use Rattle.wm_command.specs.Values.{special_word}
+
+abbrev pub flag_text : Bool → List ℕ
+flag_text true = codes "*YES"
+flag_text false = codes "*NO"
+
+abbrev pub ending_text : EndOption → List ℕ
+ending_text Cntrld = codes "*CNTRLD"
+ending_text Immed = codes "*IMMED"
+
+abbrev pub job_text : JobRef → List ℕ
+job_text (Simple name) = name
+job_text (ByUser user name) = user ++ codes "/" ++ name
+job_text (Full job) = job_name_text job
+
+abbrev pub cmp_text : Cmp → List ℕ
+cmp_text Any = codes "*ANY"
+cmp_text (Val text start) = quoted text ++ codes " " ++ decimal start
+
+-- Monday is 1
+abbrev pub weekday_text : ℕ → List ℕ
+weekday_text n =
+    if n == 1 then codes "*MON"
+    else if n == 2 then codes "*TUE"
+    else if n == 3 then codes "*WED"
+    else if n == 4 then codes "*THU"
+    else if n == 5 then codes "*FRI"
+    else if n == 6 then codes "*SAT"
+    else codes "*SUN"
+
+abbrev pub date_text : DateSpec → List ℕ
+date_text date.Current = codes "*CURRENT"
+date_text date.MonthStart = codes "*MONTHSTR"
+date_text date.MonthEnd = codes "*MONTHEND"
+date_text (date.Weekday n) = weekday_text n
+date_text (date.Day n) = zero_padded 8 n
+
+-- `hhmmss`
+abbrev pub second_text : ℕ → List ℕ
+second_text n = zero_padded 2 (n / 3600) ++ zero_padded 2 (n / 60 % 60) ++ zero_padded 2 (n % 60)
+
+abbrev pub time_text : TimeSpec → List ℕ
+time_text time.Current = codes "*CURRENT"
+time_text (time.At n) = second_text n
+
+-- names are qualified, texts stand in apostrophes, numbers have no leading zeros
+unfoldable pub value_text : Value → List ℕ
+value_text value.Nothing = []
+value_text (value.Special s) = special_word s
+value_text (value.Object q) = qname_text q
+value_text (value.Name n) = n
+value_text (value.Text t) = quoted t
+value_text (value.Number n) = decimal n
+value_text (value.Flag b) = flag_text b
+value_text (value.Ending e) = ending_text e
+value_text (value.Job j) = job_text j
+value_text (value.Compare c) = cmp_text c
+value_text (value.Date d) = date_text d
+value_text (value.Time t) = time_text t
+
+-- ` KEY(VALUE)`
+abbrev pub given_text : Given → List ℕ
+given_text g = codes " " ++ key_word g.key ++ codes "(" ++ value_text g.value ++ codes ")"
+
+-- the command's name, and each key with its value, in the order of the table
+abbrev pub command_text : Command → List ℕ
+command_text c = change_word (verb_of c) ++ flat_map given_text (values_of c)

@@ -1,0 +1,121 @@
+-- What the values behind a key are read as, by the key's row.
+use Rattle.std.specs.Prelude.{ℕ, Bool, true, false, Option, Some, None, Result, Ok, Err, List, [], ◌∷◌, length, ◌+◌, ◌&&◌, nat_le, if◌then◌else◌, codes, is_some}
+use Rattle.std.specs.Option.{option_map}
+use Rattle.std.specs.List.{starts_with}
+use Rattle.wm_base.specs.declared.refusal.Key.{Key}
+use Rattle.wm_clwords.specs.declared.tree.Item.{Item}
+use Rattle.wm_desc.specs.declared.entry.Cmp.{Cmp}
+use Rattle.wm_desc.specs.declared.entry.Cmp.TheVariants.{Any, Val}
+use Rattle.wm_desc.specs.Ranges.{path_in_range, cmp_in_range}
+use Rattle.wm_when.specs.Schedule.{within}
+use Rattle.wm_command.specs.declared.row.Kind.{Kind}
+use Rattle.wm_command.specs.declared.row.Kind.TheVariants as kind
+use Rattle.wm_command.specs.declared.row.Special.{Special}
+use Rattle.wm_command.specs.declared.row.Special.TheVariants as special
+use Rattle.wm_command.specs.declared.row.Row.{Row}
+use Rattle.wm_command.specs.declared.value.Value.{Value}
+use Rattle.wm_command.specs.declared.value.Value.TheVariants as value
+use Rattle.wm_command.specs.declared.fault.CmdFault.{CmdFault}
+use Rattle.wm_command.specs.declared.fault.CmdFault.TheVariants.{BadValue, TooManyValues, NotCall}
+use Rattle.wm_command.specs.Words.{same, number_of, name_of, object_of, program_of, job_of, flag_of, ending_of, date_of, time_of}
+use Rattle.wm_command.specs.Written.{word_of, text_of, is_word}
+
+-- One value
+
+abbrev pub text_within : ℕ → ℕ → List ℕ → Option Value
+text_within low high text = if within low high (length text) then Some (value.Text text) else None
+
+abbrev pub path_of : List ℕ → Option Value
+path_of text = if path_in_range text then Some (value.Text text) else None
+
+abbrev pub if_word : {V : Type 0} → Bool → Option V → Option V
+if_word true found = found
+if_word false found = None
+
+-- what a word, or a text in apostrophes, is as a value of that kind
+unfoldable pub kind_value : Kind → Bool → List ℕ → Option Value
+kind_value kind.Object w text = option_map value.Object (object_of w text)
+kind_value kind.Program w text = option_map value.Object (program_of w text)
+kind_value kind.Name w text = option_map value.Name (name_of text)
+kind_value (kind.Text low high) w text = text_within low high text
+kind_value kind.Path w text = path_of text
+kind_value (kind.Number low high) w text = option_map value.Number (number_of 1 9 low high text)
+kind_value kind.Flag w text = option_map value.Flag (if_word w (flag_of text))
+kind_value kind.Ending w text = option_map value.Ending (if_word w (ending_of text))
+kind_value kind.Job w text = option_map value.Job (job_of text)
+kind_value kind.Compare w text = None
+kind_value kind.Date w text = option_map value.Date (date_of w text)
+kind_value kind.Time w text = option_map value.Time (time_of w text)
+kind_value kind.Call w text = None
+kind_value kind.Anything w text = None
+
+-- the special word of a row
+unfoldable pub special_word : Special → List ℕ
+special_word special.Never = []
+special_word special.Nomax = codes "*NOMAX"
+special_word special.None = codes "*NONE"
+special_word special.Jobd = codes "*JOBD"
+special_word special.Same = codes "*SAME"
+special_word special.Nolimit = codes "*NOLIMIT"
+special_word special.Sbsd = codes "*SBSD"
+
+abbrev pub is_never : Special → Bool
+is_never special.Never = true
+is_never special.Nomax = false
+is_never special.None = false
+is_never special.Jobd = false
+is_never special.Same = false
+is_never special.Nolimit = false
+is_never special.Sbsd = false
+
+abbrev pub is_special : Special → Item → Bool
+is_special s item = if is_never s then false else is_word item (special_word s)
+
+abbrev pub text_value : Kind → Bool → Option (List ℕ) → Option Value
+text_value k w None = None
+text_value k w (Some text) = kind_value k w text
+
+-- the row's special word, or a value of its kind
+abbrev pub item_value : Kind → Special → Item → Option Value
+item_value k s item =
+    if is_special s item then Some (value.Special s)
+    else text_value k (is_some (word_of item)) (text_of item)
+
+-- The compare value
+
+abbrev pub cmp_kept : Cmp → Option Value
+cmp_kept cmp = if cmp_in_range cmp then Some (value.Compare cmp) else None
+
+abbrev pub text_from : Option (List ℕ) → Option ℕ → Option Value
+text_from None start = None
+text_from (Some text) None = None
+text_from (Some text) (Some start) = cmp_kept (Val text start)
+
+abbrev pub start_of : Option (List ℕ) → Option ℕ
+start_of None = None
+start_of (Some text) = number_of 1 9 1 80 text
+
+-- *ANY, or a text that is compared from the first place on
+abbrev pub one_compared : Item → Option Value
+one_compared item = if is_word item (codes "*ANY") then Some (value.Compare Any) else text_from (text_of item) (Some 1)
+
+-- a text, and the place from which it is compared
+abbrev pub two_compared : Item → Item → Option Value
+two_compared item start = if is_word item (codes "*ANY") then None else text_from (text_of item) (start_of (text_of start))
+
+-- All values of a key, whose item begins at a place
+
+abbrev pub or_bad : ℕ → Option Value → Result Value CmdFault
+or_bad place None = Err (BadValue place)
+or_bad place (Some v) = Ok v
+
+abbrev pub one_value : Kind → Special → ℕ → List Item → Result Value CmdFault
+one_value k s place [] = Err (BadValue place)
+one_value k s place (item ∷ []) = or_bad place (item_value k s item)
+one_value k s place (item ∷ next ∷ items) = Err (TooManyValues place)
+
+abbrev pub compared : ℕ → List Item → Result Value CmdFault
+compared place [] = Err (BadValue place)
+compared place (item ∷ []) = or_bad place (one_compared item)
+compared place (item ∷ start ∷ []) = or_bad place (two_compared item start)
+compared place (item ∷ start ∷ next ∷ items) = Err (TooManyValues place)

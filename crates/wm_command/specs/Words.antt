@@ -1,0 +1,166 @@
+-- What texts say: numbers, names, dates and times.
+use Rattle.std.specs.Prelude.{ℕ, Bool, true, false, not, Option, Some, None, List, [], ◌∷◌, length, take, drop, ◌+◌, ◌-◌, ◌*◌, ◌/◌, ◌%◌, ◌==◌, ◌&&◌, nat_lt, nat_le, nat_eq, if◌then◌else◌, codes, take_while, fold}
+use Rattle.std.specs.Cmp.Lexicographic.{pointwise}
+use Rattle.wm_base.specs.declared.qname.QName.{QName}
+use Rattle.wm_base.specs.declared.job.JobName.{JobName}
+use Rattle.wm_base.specs.Name.{is_name}
+use Rattle.wm_when.specs.Schedule.{within, is_date}
+use Rattle.wm_when.specs.declared.schedule.DateSpec.{DateSpec}
+use Rattle.wm_when.specs.declared.schedule.DateSpec.TheVariants as date
+use Rattle.wm_when.specs.declared.schedule.TimeSpec.{TimeSpec}
+use Rattle.wm_when.specs.declared.schedule.TimeSpec.TheVariants as time
+use Rattle.wm_command.specs.declared.commands.JobRef.{JobRef}
+use Rattle.wm_command.specs.declared.commands.JobRef.TheVariants.{Simple, ByUser, Full}
+use Rattle.wm_command.specs.declared.commands.EndOption.{EndOption}
+use Rattle.wm_command.specs.declared.commands.EndOption.TheVariants.{Cntrld, Immed}
+
+-- Numbers
+
+abbrev pub is_digit : ℕ → Bool
+is_digit byte = nat_le 48 byte && nat_le byte 57
+
+-- one more digit behind a number of at most eight
+abbrev pub push_digit : Option ℕ → ℕ → Option ℕ
+push_digit None byte = None
+push_digit (Some n) byte = if is_digit byte && nat_lt n 100000000 then Some (n * 10 + (byte - 48)) else None
+
+-- the number that digits write
+unfoldable pub digits : List ℕ → Option ℕ
+digits text = fold push_digit (Some 0) text
+
+abbrev pub kept_within : ℕ → ℕ → Option ℕ → Option ℕ
+kept_within low high None = None
+kept_within low high (Some n) = if within low high n then Some n else None
+
+-- a number of so many digits at least and at most, from low to high
+unfoldable pub number_of : ℕ → ℕ → ℕ → ℕ → List ℕ → Option ℕ
+number_of fewest most low high text = if within fewest most (length text) then kept_within low high (digits text) else None
+
+-- Names
+
+abbrev pub name_of : List ℕ → Option (List ℕ)
+name_of text = if is_name text then Some text else None
+
+abbrev pub is_no_slash : ℕ → Bool
+is_no_slash byte = not (byte == 47)
+
+-- what stands before the first slash, or all of it
+abbrev pub before_slash : List ℕ → List ℕ
+before_slash text = take (length (take_while is_no_slash text)) text
+
+-- what stands behind the first slash, where there is one
+abbrev pub behind_slash : List ℕ → Option (List ℕ)
+behind_slash text =
+    if nat_lt (length (take_while is_no_slash text)) (length text)
+    then Some (drop (length (take_while is_no_slash text) + 1) text)
+    else None
+
+abbrev pub qname_of : Option (List ℕ) → Option (List ℕ) → Option QName
+qname_of None name = None
+qname_of (Some lib) None = None
+qname_of (Some lib) (Some name) = Some (record { lib = lib; name = name })
+
+-- *LIBL is QGPL, but not in apostrophes
+abbrev pub library_of : Bool → List ℕ → Option (List ℕ)
+library_of is_word text = if is_word && pointwise nat_eq text (codes "*LIBL") then Some (codes "QGPL") else name_of text
+
+abbrev pub object_with : Bool → List ℕ → Option (List ℕ) → Option QName
+object_with is_word first None = qname_of (Some (codes "QGPL")) (name_of first)
+object_with is_word first (Some rest) = qname_of (library_of is_word first) (name_of rest)
+
+-- `NAME`, `LIB/NAME` or `*LIBL/NAME`
+unfoldable pub object_of : Bool → List ℕ → Option QName
+object_of is_word text = object_with is_word (before_slash text) (behind_slash text)
+
+-- the same, but QCMD alone is QSYS/QCMD
+unfoldable pub program_of : Bool → List ℕ → Option QName
+program_of is_word text =
+    if pointwise nat_eq text (codes "QCMD") then Some (record { lib = codes "QSYS"; name = codes "QCMD" })
+    else object_of is_word text
+
+-- Jobs
+
+abbrev pub simple_of : Option (List ℕ) → Option JobRef
+simple_of None = None
+simple_of (Some name) = Some (Simple name)
+
+abbrev pub by_user_of : Option (List ℕ) → Option (List ℕ) → Option JobRef
+by_user_of None name = None
+by_user_of (Some user) None = None
+by_user_of (Some user) (Some name) = Some (ByUser user name)
+
+abbrev pub full_of : Option ℕ → Option (List ℕ) → Option (List ℕ) → Option JobRef
+full_of None user name = None
+full_of (Some number) None name = None
+full_of (Some number) (Some user) None = None
+full_of (Some number) (Some user) (Some name) = Some (Full (record { number = number; user = user; name = name }))
+
+abbrev pub job_behind : List ℕ → List ℕ → Option (List ℕ) → Option JobRef
+job_behind first second None = by_user_of (name_of first) (name_of second)
+job_behind first second (Some third) = full_of (number_of 1 6 1 999999 first) (name_of second) (name_of third)
+
+abbrev pub job_with : List ℕ → Option (List ℕ) → Option JobRef
+job_with first None = simple_of (name_of first)
+job_with first (Some rest) = job_behind first (before_slash rest) (behind_slash rest)
+
+-- `NAME`, `USER/NAME` or `NUMBER/USER/NAME`
+unfoldable pub job_of : List ℕ → Option JobRef
+job_of text = job_with (before_slash text) (behind_slash text)
+
+-- Choices
+
+abbrev pub same : List ℕ → List ℕ → Bool
+same text word = pointwise nat_eq text word
+
+abbrev pub flag_of : List ℕ → Option Bool
+flag_of text = if same text (codes "*YES") then Some true else (if same text (codes "*NO") then Some false else None)
+
+abbrev pub ending_of : List ℕ → Option EndOption
+ending_of text = if same text (codes "*CNTRLD") then Some Cntrld else (if same text (codes "*IMMED") then Some Immed else None)
+
+-- Dates and times
+
+-- Monday is 1
+abbrev pub weekday_of : List ℕ → Option DateSpec
+weekday_of text =
+    if same text (codes "*MON") then Some (date.Weekday 1)
+    else if same text (codes "*TUE") then Some (date.Weekday 2)
+    else if same text (codes "*WED") then Some (date.Weekday 3)
+    else if same text (codes "*THU") then Some (date.Weekday 4)
+    else if same text (codes "*FRI") then Some (date.Weekday 5)
+    else if same text (codes "*SAT") then Some (date.Weekday 6)
+    else if same text (codes "*SUN") then Some (date.Weekday 7)
+    else None
+
+abbrev pub date_word_of : List ℕ → Option DateSpec
+date_word_of text =
+    if same text (codes "*CURRENT") then Some date.Current
+    else if same text (codes "*MONTHSTR") then Some date.MonthStart
+    else if same text (codes "*MONTHEND") then Some date.MonthEnd
+    else weekday_of text
+
+abbrev pub day_of : Option ℕ → Option DateSpec
+day_of None = None
+day_of (Some n) = if is_date n then Some (date.Day n) else None
+
+abbrev pub date_with : Bool → List ℕ → Option DateSpec → Option DateSpec
+date_with is_word text (Some spec) = if is_word then Some spec else None
+date_with is_word text None = day_of (number_of 8 8 0 99999999 text)
+
+-- a special word, but not in apostrophes, or `yyyymmdd`
+unfoldable pub date_of : Bool → List ℕ → Option DateSpec
+date_of is_word text = date_with is_word text (date_word_of text)
+
+-- `hhmmss` as the second of the day
+abbrev pub second_of : Option ℕ → Option TimeSpec
+second_of None = None
+second_of (Some n) =
+    if nat_lt (n / 10000) 24 && nat_lt (n / 100 % 100) 60 && nat_lt (n % 100) 60
+    then Some (time.At (n / 10000 * 3600 + n / 100 % 100 * 60 + n % 100))
+    else None
+
+-- *CURRENT, but not in apostrophes, or `hhmmss`
+unfoldable pub time_of : Bool → List ℕ → Option TimeSpec
+time_of is_word text =
+    if is_word && same text (codes "*CURRENT") then Some time.Current
+    else second_of (number_of 6 6 0 999999 text)

@@ -1,0 +1,57 @@
+//! Commands from trees, and their canonical texts.
+//!
+//! The contract for the layer above: `command` answers the line that a tree is by the command table, or the tree's first
+//! fault with its place or keys, and `print` gives a command's canonical text.
+//!
+//! The definitions are in `specs/`: `Table` (what each command's keys take), `Words` (what texts say), `Values` and `Call`
+//! (what the values behind a key are read as), `Reading` (what items give keys), `Fields` and `Made` (commands of values),
+//! `Line` (what a tree is), `Shown` and `Print` (what a command is as text).
+#![tactic(auto)]
+
+mod call;
+mod commands;
+mod fault;
+mod fields;
+mod line;
+mod made;
+mod made_control;
+mod made_create;
+mod made_entry;
+mod made_job;
+mod printing;
+mod reading;
+mod row;
+mod shown;
+mod shown_control;
+mod shown_create;
+mod shown_entry;
+mod shown_job;
+mod table;
+mod value;
+mod values;
+mod verb;
+mod words;
+mod written;
+
+pub use commands::{
+    Addaje, Addjobqe, Addpje, Addrtge, Ask, Chgjob, Clrjobq, Command, Crtcls, Crtjobd, Crtjobq,
+    Crtpgmref, Crtsbsd, EndOption, Endjob, Endpj, Endsbs, Enduse, Evoke, Hldjob, Hldjobq, JobRef,
+    Line, Pwrdwnsys, Rlsjob, Rlsjobq, Rmvaje, Rmvjobqe, Rmvpje, Rmvrtge, Sbmjob, Strpj, Strsbs,
+};
+pub use fault::CmdFault;
+pub use line::command;
+pub use made::change_made;
+pub use printing::print;
+pub use reading::{all_given, same_key};
+pub use row::{Default, Kind, Row, Special};
+pub use table::{change_rows, change_word, read_rows, read_word};
+pub use value::{Given, Value, Values};
+pub use values::{compared, one_value};
+pub use verb::{Change, Read};
+pub use words::{
+    date_of, ending_of, flag_of, job_of, name_of, number_of, object_of, program_of, time_of,
+};
+pub use written::{is_word, key_of, listed, place_of, text_of, word_of};
+
+#[cfg(test)]
+mod tests;

@@ -1,0 +1,145 @@
+// Commands from trees.
+ghost use Rattle.std.specs.Prelude.{◌≡◌, ◌≢◌, IfOk, IfErr, Ok, Err};
+ghost use Rattle.wm_command.specs.Line.{change_named, read_named, one_request, lacks, own_fault, change_line, read_made, read_line, line_of};
+
+use crate::commands::{Ask, Line};
+use crate::fault::CmdFault;
+use crate::made::change_made;
+use crate::reading::all_given;
+use crate::table::{change_rows, change_word, read_rows, read_word};
+use crate::value::Values;
+use crate::verb::{Change, Read};
+use std::alloc::Global;
+use wm_base::{Key, Name};
+use wm_clwords::{Item, Tree};
+
+const CHANGES: [Change; 28] = [
+    Change::Crtcls,
+    Change::Crtjobq,
+    Change::Crtpgmref,
+    Change::Crtjobd,
+    Change::Crtsbsd,
+    Change::Addjobqe,
+    Change::Addrtge,
+    Change::Addaje,
+    Change::Addpje,
+    Change::Rmvjobqe,
+    Change::Rmvrtge,
+    Change::Rmvaje,
+    Change::Rmvpje,
+    Change::Strsbs,
+    Change::Endsbs,
+    Change::Sbmjob,
+    Change::Hldjob,
+    Change::Rlsjob,
+    Change::Chgjob,
+    Change::Endjob,
+    Change::Hldjobq,
+    Change::Rlsjobq,
+    Change::Clrjobq,
+    Change::Strpj,
+    Change::Endpj,
+    Change::Evoke,
+    Change::Enduse,
+    Change::Pwrdwnsys,
+];
+
+const READS: [Read; 6] = [
+    Read::Wrkactjob,
+    Read::Wrksbmjob,
+    Read::Wrksbs,
+    Read::Dsplog,
+    Read::Wrkjobq,
+    Read::Dspjob,
+];
+
+#[tactic(auto, unfolding(crate::specs::Line::change_named))]
+fn change_named(name: &Name) -> Option<Change>
+    ensures { result ≡ change_named name.now }
+{
+    CHANGES
+        .iter()
+        .copied()
+        .find(|verb| change_word(*verb).as_bytes() == name.as_bytes())
+}
+
+#[tactic(auto, unfolding(crate::specs::Line::read_named))]
+fn read_named(name: &Name) -> Option<Read>
+    ensures { result ≡ read_named name.now }
+{
+    READS
+        .iter()
+        .copied()
+        .find(|verb| read_word(*verb).as_bytes() == name.as_bytes())
+}
+
+fn one_request(no_cmd: bool, no_rqsdta: bool) -> Option<CmdFault>
+    ensures { result ≡ one_request no_cmd no_rqsdta }
+{
+    match (no_cmd, no_rqsdta) {
+        (true, true) => Some(CmdFault::Missing(Key::Cmd)),
+        (false, false) => Some(CmdFault::Conflict(Key::Cmd, Key::Rqsdta)),
+        _ => None,
+    }
+}
+
+fn own_fault(verb: Change, values: &Values) -> Option<CmdFault>
+    ensures { result ≡ own_fault verb values.now }
+{
+    match verb {
+        Change::Sbmjob => one_request(values.lacks(Key::Cmd), values.lacks(Key::Rqsdta)),
+        _ => None,
+    }
+}
+
+fn change_line(alloc: Global, verb: Change, items: &[Item]) -> Result<Line, CmdFault>
+    ensures ok { IfOk result (λ line. change_line verb items.now ≡ Ok line) }
+    ensures err { IfErr result (λ e. e ≢ CmdFault.NoMemory → change_line verb items.now ≡ Err e) }
+{
+    let values = all_given(alloc, change_rows(verb), items)?;
+    if let Some(fault) = own_fault(verb, &values) {
+        return Err(fault);
+    }
+    let command = change_made(verb, &values)?;
+    Ok(Line::Change(command))
+}
+
+fn read_made(user: &Name, verb: Read, values: &Values) -> Ask
+    ensures { result ≡ read_made user.now verb values.now }
+{
+    match verb {
+        Read::Wrkactjob => Ask::Active,
+        Read::Wrksbmjob => Ask::Submitted(*user),
+        Read::Wrksbs => Ask::Subsystems,
+        Read::Dsplog => Ask::Log,
+        Read::Wrkjobq => Ask::Queue(values.object(Key::Jobq)),
+        Read::Dspjob => Ask::Job(values.job(Key::Job)),
+    }
+}
+
+fn read_line(alloc: Global, user: &Name, verb: Read, items: &[Item]) -> Result<Line, CmdFault>
+    ensures ok { IfOk result (λ line. read_line user.now verb items.now ≡ Ok line) }
+    ensures err { IfErr result (λ e. e ≢ CmdFault.NoMemory → read_line user.now verb items.now ≡ Err e) }
+{
+    let values = all_given(alloc, read_rows(verb), items)?;
+    Ok(Line::Read(read_made(user, verb, &values)))
+}
+
+/// The line that a tree is. The user is the one whom WRKSBMJOB is about.
+pub fn command(alloc: Global, user: &Name, tree: &Tree) -> Result<Line, CmdFault>
+    // A line is that of the table, and a fault the first one in its order.
+    ensures ok { IfOk result (λ line. line_of user.now tree.now.name tree.now.items.items ≡ Ok line) }
+    ensures err { IfErr result (λ e. e ≢ CmdFault.NoMemory → line_of user.now tree.now.name tree.now.items.items ≡ Err e) }
+{
+    if let Some(verb) = change_named(&tree.name) {
+        let line = change_line(alloc, verb, &tree.items)?;
+        return Ok(line);
+    }
+    match read_named(&tree.name) {
+        None => Err(CmdFault::UnknownCommand),
+        Some(verb) => {
+            let line = read_line(alloc, user, verb, &tree.items)?;
+            Ok(line)
+        }
+    }
+}

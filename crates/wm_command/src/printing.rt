@@ -1,0 +1,317 @@
+// The canonical texts of commands.
+ghost use Rattle.std.specs.Prelude.{◌≡◌, ◌++◌, ◌<◌, ◌^◌, OnOk, IfOk};
+ghost use Rattle.std.specs.List.{flat_map};
+ghost use Rattle.std.specs.Fmt.{decimal};
+ghost use Rattle.wm_base.specs.Number.{zero_padded};
+ghost use Rattle.wm_base.specs.QName.{qname_text};
+ghost use Rattle.wm_base.specs.Text.{IsText};
+ghost use Rattle.wm_clwords.specs.Quote.{doubled, quoted};
+ghost use Rattle.wm_base.specs.Key.{key_word};
+ghost use Rattle.wm_command.specs.Table.{change_word};
+ghost use Rattle.wm_command.specs.Values.{special_word};
+ghost use Rattle.wm_command.specs.declared.commands.JobRef.{JobRef};
+ghost use Rattle.wm_command.specs.Print.{flag_text, ending_text, job_text, cmp_text, weekday_text, date_text, second_text, time_text, value_text, given_text, command_text};
+
+use crate::commands::{Command, EndOption, JobRef};
+use crate::row::Special;
+use crate::shown::{values_of, verb_of};
+use crate::table::change_word;
+use crate::value::{Given, Value};
+use crate::verb::Change;
+use std::alloc::{AllocError, Global};
+use wm_base::{JobName, Key, Name, QName, Text};
+use wm_desc::Cmp;
+use wm_when::{DateSpec, TimeSpec};
+
+#[tactic(auto, using(crate::proofs::Texts::texts))]
+fn push_name(out: &mut Text, name: &Name) -> Result<(), AllocError>
+    ensures { OnOk result (out.new ≡ out.old ++ name.now) }
+{
+    out.push_bytes(name.as_bytes())?;
+    Ok(())
+}
+
+fn push_qname(out: &mut Text, q: &QName) -> Result<(), AllocError>
+    ensures { OnOk result (out.new ≡ out.old ++ qname_text q.now) }
+{
+    push_name(out, &q.lib)?;
+    out.push_bytes(b"/")?;
+    push_name(out, &q.name)?;
+    Ok(())
+}
+
+fn push_doubled(out: &mut Text, text: &Text) -> Result<(), AllocError>
+    ensures { OnOk result (out.new ≡ out.old ++ doubled text.now) }
+{
+    for byte in text.as_bytes() {
+        if *byte == b'\'' {
+            out.push_bytes(b"''")?;
+        } else {
+            out.push_bytes(&[*byte])?;
+        }
+    }
+    Ok(())
+}
+
+fn push_quoted(out: &mut Text, text: &Text) -> Result<(), AllocError>
+    ensures { OnOk result (out.new ≡ out.old ++ quoted text.now) }
+{
+    out.push_bytes(b"'")?;
+    push_doubled(out, text)?;
+    out.push_bytes(b"'")?;
+    Ok(())
+}
+
+#[tactic(auto, using(crate::proofs::Texts::texts))]
+fn push_number(alloc: Global, out: &mut Text, n: u32) -> Result<(), AllocError>
+    ensures { OnOk result (out.new ≡ out.old ++ decimal n) }
+{
+    let digits = format!(in alloc; "{n}")?;
+    out.push_bytes(digits.as_bytes())?;
+    Ok(())
+}
+
+#[tactic(auto, using(crate::proofs::Texts::padded))]
+fn push_two(alloc: Global, out: &mut Text, n: u32) -> Result<(), AllocError>
+    ensures { OnOk result (out.new ≡ out.old ++ zero_padded 2 n) }
+{
+    let digits = format!(in alloc; "{n:02}")?;
+    out.push_bytes(digits.as_bytes())?;
+    Ok(())
+}
+
+#[tactic(auto, using(crate::proofs::Texts::padded))]
+fn push_eight(alloc: Global, out: &mut Text, n: u32) -> Result<(), AllocError>
+    ensures { OnOk result (out.new ≡ out.old ++ zero_padded 8 n) }
+{
+    let digits = format!(in alloc; "{n:08}")?;
+    out.push_bytes(digits.as_bytes())?;
+    Ok(())
+}
+
+#[tactic(auto, using(crate::proofs::Texts::padded))]
+fn push_six(alloc: Global, out: &mut Text, n: u32) -> Result<(), AllocError>
+    ensures { OnOk result (out.new ≡ out.old ++ zero_padded 6 n) }
+{
+    let digits = format!(in alloc; "{n:06}")?;
+    out.push_bytes(digits.as_bytes())?;
+    Ok(())
+}
+
+fn push_flag(out: &mut Text, flag: bool) -> Result<(), AllocError>
+    ensures { OnOk result (out.new ≡ out.old ++ flag_text flag) }
+{
+    if flag {
+        out.push_bytes(b"*YES")?;
+    } else {
+        out.push_bytes(b"*NO")?;
+    }
+    Ok(())
+}
+
+fn push_ending(out: &mut Text, ending: EndOption) -> Result<(), AllocError>
+    ensures { OnOk result (out.new ≡ out.old ++ ending_text ending) }
+{
+    match ending {
+        EndOption::Cntrld => {
+            out.push_bytes(b"*CNTRLD")?;
+            Ok(())
+        }
+        EndOption::Immed => {
+            out.push_bytes(b"*IMMED")?;
+            Ok(())
+        }
+    }
+}
+
+fn push_full(alloc: Global, out: &mut Text, job: &JobName) -> Result<(), AllocError>
+    ensures { OnOk result (out.new ≡ out.old ++ job_text (JobRef.Full job.now)) }
+{
+    push_six(alloc, out, job.number.get())?;
+    out.push_bytes(b"/")?;
+    push_name(out, &job.user)?;
+    out.push_bytes(b"/")?;
+    push_name(out, &job.name)?;
+    Ok(())
+}
+
+fn push_job(alloc: Global, out: &mut Text, job: &JobRef) -> Result<(), AllocError>
+    ensures { OnOk result (out.new ≡ out.old ++ job_text job.now) }
+{
+    match job {
+        JobRef::Simple(name) => {
+            push_name(out, name)?;
+            Ok(())
+        }
+        JobRef::ByUser(user, name) => {
+            push_name(out, user)?;
+            out.push_bytes(b"/")?;
+            push_name(out, name)?;
+            Ok(())
+        }
+        JobRef::Full(job) => {
+            push_full(alloc, out, job)?;
+            Ok(())
+        }
+    }
+}
+
+fn push_cmp(alloc: Global, out: &mut Text, cmp: &Cmp) -> Result<(), AllocError>
+    ensures { OnOk result (out.new ≡ out.old ++ cmp_text cmp.now) }
+{
+    match cmp {
+        Cmp::Any => {
+            out.push_bytes(b"*ANY")?;
+            Ok(())
+        }
+        Cmp::Val { value, start } => {
+            push_quoted(out, value)?;
+            out.push_bytes(b" ")?;
+            push_number(alloc, out, *start)?;
+            Ok(())
+        }
+    }
+}
+
+fn weekday(day: u8) -> &'static [u8]
+    ensures value { result.now ≡ weekday_text day }
+    ensures text { IsText result.now }
+{
+    match day {
+        1 => b"*MON",
+        2 => b"*TUE",
+        3 => b"*WED",
+        4 => b"*THU",
+        5 => b"*FRI",
+        6 => b"*SAT",
+        _ => b"*SUN",
+    }
+}
+
+fn push_date(alloc: Global, out: &mut Text, date: &DateSpec) -> Result<(), AllocError>
+    ensures { OnOk result (out.new ≡ out.old ++ date_text date.now) }
+{
+    match date {
+        DateSpec::Current => {
+            out.push_bytes(b"*CURRENT")?;
+            Ok(())
+        }
+        DateSpec::MonthStart => {
+            out.push_bytes(b"*MONTHSTR")?;
+            Ok(())
+        }
+        DateSpec::MonthEnd => {
+            out.push_bytes(b"*MONTHEND")?;
+            Ok(())
+        }
+        DateSpec::Weekday(day) => {
+            out.push_bytes(weekday(*day))?;
+            Ok(())
+        }
+        DateSpec::Day(day) => {
+            push_eight(alloc, out, *day)?;
+            Ok(())
+        }
+    }
+}
+
+fn push_second(alloc: Global, out: &mut Text, n: u32) -> Result<(), AllocError>
+    ensures { OnOk result (out.new ≡ out.old ++ second_text n) }
+{
+    push_two(alloc, out, n / 3600)?;
+    push_two(alloc, out, n / 60 % 60)?;
+    push_two(alloc, out, n % 60)?;
+    Ok(())
+}
+
+fn push_time(alloc: Global, out: &mut Text, time: &TimeSpec) -> Result<(), AllocError>
+    ensures { OnOk result (out.new ≡ out.old ++ time_text time.now) }
+{
+    match time {
+        TimeSpec::Current => {
+            out.push_bytes(b"*CURRENT")?;
+            Ok(())
+        }
+        TimeSpec::At(n) => {
+            push_second(alloc, out, *n)?;
+            Ok(())
+        }
+    }
+}
+
+#[tactic(auto, using(crate::proofs::Texts::texts))]
+fn push_special(out: &mut Text, special: Special) -> Result<(), AllocError>
+    ensures { OnOk result (out.new ≡ out.old ++ special_word special) }
+{
+    out.push_bytes(special.word().as_bytes())?;
+    Ok(())
+}
+
+#[tactic(auto, unfolding(crate::specs::Print::value_text))]
+fn push_value(alloc: Global, out: &mut Text, value: &Value) -> Result<(), AllocError>
+    ensures { OnOk result (out.new ≡ out.old ++ value_text value.now) }
+{
+    match value {
+        Value::Nothing => {}
+        Value::Special(special) => push_special(out, *special)?,
+        Value::Object(q) => push_qname(out, q)?,
+        Value::Name(name) => push_name(out, name)?,
+        Value::Text(text) => push_quoted(out, text)?,
+        Value::Number(n) => push_number(alloc, out, *n)?,
+        Value::Flag(flag) => push_flag(out, *flag)?,
+        Value::Ending(ending) => push_ending(out, *ending)?,
+        Value::Job(job) => push_job(alloc, out, job)?,
+        Value::Compare(cmp) => push_cmp(alloc, out, cmp)?,
+        Value::Date(date) => push_date(alloc, out, date)?,
+        Value::Time(time) => push_time(alloc, out, time)?,
+    }
+    Ok(())
+}
+
+#[tactic(auto, using(crate::proofs::Texts::texts))]
+fn push_key(out: &mut Text, key: Key) -> Result<(), AllocError>
+    ensures { OnOk result (out.new ≡ out.old ++ key_word key) }
+{
+    out.push_bytes(key.word().as_bytes())?;
+    Ok(())
+}
+
+#[tactic(auto, using(crate::proofs::Texts::texts))]
+fn push_verb(out: &mut Text, verb: Change) -> Result<(), AllocError>
+    ensures { OnOk result (out.new ≡ out.old ++ change_word verb) }
+{
+    out.push_bytes(change_word(verb).as_bytes())?;
+    Ok(())
+}
+
+fn push_given(alloc: Global, out: &mut Text, given: &Given) -> Result<(), AllocError>
+    ensures { OnOk result (out.new ≡ out.old ++ given_text given.now) }
+{
+    out.push_bytes(b" ")?;
+    push_key(out, given.key)?;
+    out.push_bytes(b"(")?;
+    push_value(alloc, out, &given.value)?;
+    out.push_bytes(b")")?;
+    Ok(())
+}
+
+fn push_all(alloc: Global, out: &mut Text, all: &[Given]) -> Result<(), AllocError>
+    ensures { OnOk result (out.new ≡ out.old ++ flat_map given_text all.now) }
+{
+    for given in all {
+        push_given(alloc, out, given)?;
+    }
+    Ok(())
+}
+
+/// The canonical text of a command: its name, and every key of the table in order with its value. CMD isn't printed,
+/// its text stands in RQSDTA.
+pub fn print(alloc: Global, command: &Command) -> Result<Text, AllocError>
+    ensures { IfOk result (λ text. text ≡ command_text command.now) }
+{
+    let values = values_of(alloc, command)?;
+    let mut text = Text::new(alloc);
+    push_verb(&mut text, verb_of(command))?;
+    push_all(alloc, &mut text, values.as_slice())?;
+    Ok(text)
+}

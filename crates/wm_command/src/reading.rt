@@ -1,0 +1,233 @@
+// What the items of a command give its keys.
+ghost use Rattle.std.specs.Prelude.{◌≡◌, ◌≢◌, IfOk, IfErr, OnOk, Ok, Err, Some, codes};
+ghost use Rattle.std.specs.Option.{option_copied};
+ghost use Rattle.wm_base.specs.Name.{IsName};
+ghost use Rattle.wm_base.specs.Text.{IsText};
+ghost use Rattle.wm_command.specs.Each.{each};
+ghost use Rattle.wm_command.specs.declared.value.Value.TheVariants as value;
+ghost use Rattle.wm_command.specs.Reading.{same_key, is_given, row_named, row_value, with_value, keyed, next_item, stands_alone, first_item, items_given, default_value, complete, all_given};
+
+use crate::call::call_value;
+use crate::commands::EndOption;
+use crate::fault::CmdFault;
+use crate::row::{Default, Kind, Row};
+use crate::value::{Value, Values};
+use crate::values::{compared, one_value};
+use crate::written::{key_of, listed, place_of};
+use std::alloc::Global;
+use std::slice;
+use wm_base::{Key, Name, QName, Text};
+use wm_clwords::Item;
+use wm_when::{DateSpec, TimeSpec};
+
+/// Whether keys are the same.
+#[tactic(auto, unfolding(crate::specs::Reading::same_key))]
+pub fn same_key(a: Key, b: Key) -> bool
+    ensures { result ≡ same_key a b }
+{
+    a.word().as_bytes() == b.word().as_bytes()
+}
+
+fn is_given(key: Key, values: &Values) -> bool
+    ensures { result ≡ is_given key values.now }
+{
+    values
+        .as_slice()
+        .iter()
+        .any(|given| same_key(given.key, key))
+}
+
+#[tactic(auto, unfolding(crate::specs::Reading::row_named))]
+fn row_named(word: &[u8], rows: &[Row]) -> Option<Row>
+    ensures { result ≡ row_named word.now rows.now }
+{
+    rows.iter()
+        .copied()
+        .find(|row| row.0.word().as_bytes() == word)
+}
+
+/// The value of a key, whose item begins at `place`.
+fn row_value(alloc: Global, row: &Row, place: u32, items: &[Item]) -> Result<Value, CmdFault>
+    ensures ok { IfOk result (λ v. row_value row.now.1 row.now.2 place items.now ≡ Ok v) }
+    ensures err { IfErr result (λ e. e ≢ CmdFault.NoMemory → row_value row.now.1 row.now.2 place items.now ≡ Err e) }
+{
+    match row.1 {
+        Kind::Compare => compared(place, items),
+        Kind::Call => call_value(alloc, place, items),
+        Kind::Anything => Ok(Value::Nothing),
+        kind => one_value(kind, row.2, place, items),
+    }
+}
+
+fn keyed(
+    alloc: Global,
+    row: &Row,
+    values: &mut Values,
+    place: u32,
+    items: &[Item],
+) -> Result<(), CmdFault>
+    ensures ok { OnOk result (keyed values.old place items.now (Some row.now) ≡ Ok values.new) }
+    ensures err { IfErr result (λ e. e ≢ CmdFault.NoMemory → keyed values.old place items.now (Some row.now) ≡ Err e) }
+{
+    if is_given(row.0, values) {
+        return Err(CmdFault::Twice(place));
+    }
+    let value = row_value(alloc, row, place, items)?;
+    values.push(row.0, value)?;
+    Ok(())
+}
+
+#[tactic(auto, unfolding(crate::specs::Reading::next_item))]
+fn next_item(alloc: Global, rows: &[Row], values: &mut Values, item: &Item) -> Result<(), CmdFault>
+    ensures ok { OnOk result (next_item rows.now values.old item.now ≡ Ok values.new) }
+    ensures err { IfErr result (λ e. e ≢ CmdFault.NoMemory → next_item rows.now values.old item.now ≡ Err e) }
+{
+    let place = place_of(item);
+    let Some(key) = key_of(item) else {
+        return Err(CmdFault::TooManyValues(place));
+    };
+    match row_named(key.as_bytes(), rows) {
+        None => Err(CmdFault::UnknownKeyword(place)),
+        Some(row) => {
+            keyed(alloc, &row, values, place, listed(item))?;
+            Ok(())
+        }
+    }
+}
+
+fn next_items(
+    alloc: Global,
+    rows: &[Row],
+    values: &mut Values,
+    items: &[Item],
+) -> Result<(), CmdFault>
+    ensures ok { OnOk result (each (next_item rows.now) values.old items.now ≡ Ok values.new) }
+    ensures err { IfErr result (λ e. e ≢ CmdFault.NoMemory → each (next_item rows.now) values.old items.now ≡ Err e) }
+{
+    for item in items {
+        next_item(alloc, rows, values, item)?;
+    }
+    Ok(())
+}
+
+/// A value that stands alone is that of the first key.
+fn stands_alone(alloc: Global, rows: &[Row], place: u32, items: &[Item]) -> Result<Values, CmdFault>
+    ensures ok { IfOk result (λ given. stands_alone rows.now place items.now ≡ Ok given) }
+    ensures err { IfErr result (λ e. e ≢ CmdFault.NoMemory → stands_alone rows.now place items.now ≡ Err e) }
+{
+    match rows {
+        [] => Err(CmdFault::TooManyValues(place)),
+        [row, ..] => {
+            let value = row_value(alloc, row, place, items)?;
+            let mut values = Values::new(alloc);
+            values.push(row.0, value)?;
+            Ok(values)
+        }
+    }
+}
+
+#[tactic(auto, unfolding(crate::specs::Reading::first_item))]
+fn first_item(alloc: Global, rows: &[Row], item: &Item) -> Result<Values, CmdFault>
+    ensures ok { IfOk result (λ given. first_item rows.now item.now ≡ Ok given) }
+    ensures err { IfErr result (λ e. e ≢ CmdFault.NoMemory → first_item rows.now item.now ≡ Err e) }
+{
+    if key_of(item).is_none() {
+        return stands_alone(alloc, rows, place_of(item), slice::from_ref(item));
+    }
+    let mut values = Values::new(alloc);
+    next_item(alloc, rows, &mut values, item)?;
+    Ok(values)
+}
+
+fn items_given(alloc: Global, rows: &[Row], items: &[Item]) -> Result<Values, CmdFault>
+    ensures ok { IfOk result (λ given. items_given rows.now items.now ≡ Ok given) }
+    ensures err { IfErr result (λ e. e ≢ CmdFault.NoMemory → items_given rows.now items.now ≡ Err e) }
+{
+    match items {
+        [] => Ok(Values::new(alloc)),
+        [item, items @ ..] => {
+            let mut values = first_item(alloc, rows, item)?;
+            next_items(alloc, rows, &mut values, items)?;
+            Ok(values)
+        }
+    }
+}
+
+fn object_named(name: &[u8]) -> Value
+    requires { IsName name.now }
+    ensures { result ≡ value.Object (record { lib = codes "QGPL"; name = name.now }) }
+{
+    Value::Object(QName {
+        lib: Name::of(b"QGPL"),
+        name: Name::of(name),
+    })
+}
+
+fn text_value(alloc: Global, text: &[u8]) -> Result<Value, CmdFault>
+    requires { IsText text.now }
+    ensures ok { IfOk result (λ v. v ≡ value.Text text.now) }
+    ensures err { IfErr result (λ e. e ≡ CmdFault.NoMemory) }
+{
+    Ok(Value::Text(Text::from_bytes(alloc, text)?))
+}
+
+/// What a key has where it isn't given.
+fn default_value(alloc: Global, row: &Row) -> Result<Value, CmdFault>
+    ensures ok { IfOk result (λ v. default_value row.now.3 row.now.0 row.now.2 ≡ Ok v) }
+    ensures err { IfErr result (λ e. e ≢ CmdFault.NoMemory → default_value row.now.3 row.now.0 row.now.2 ≡ Err e) }
+{
+    match row.3 {
+        Default::Required => Err(CmdFault::Missing(row.0)),
+        Default::Nothing => Ok(Value::Nothing),
+        Default::Special => Ok(Value::Special(row.2)),
+        Default::Number(n) => Ok(Value::Number(n)),
+        Default::Yes => Ok(Value::Flag(true)),
+        Default::No => Ok(Value::Flag(false)),
+        Default::Cntrld => Ok(Value::Ending(EndOption::Cntrld)),
+        Default::Qbatch => Ok(object_named(b"QBATCH")),
+        Default::Qdftjobd => Ok(object_named(b"QDFTJOBD")),
+        Default::Qcmdi => {
+            let value = text_value(alloc, b"QCMDI")?;
+            Ok(value)
+        }
+        Default::Qcmdb => {
+            let value = text_value(alloc, b"QCMDB")?;
+            Ok(value)
+        }
+        Default::Today => Ok(Value::Date(DateSpec::Current)),
+        Default::Now => Ok(Value::Time(TimeSpec::Current)),
+    }
+}
+
+#[tactic(auto, unfolding(crate::specs::Reading::complete))]
+fn complete(alloc: Global, values: &mut Values, row: &Row) -> Result<(), CmdFault>
+    ensures ok { OnOk result (complete values.old row.now ≡ Ok values.new) }
+    ensures err { IfErr result (λ e. e ≢ CmdFault.NoMemory → complete values.old row.now ≡ Err e) }
+{
+    if is_given(row.0, values) {
+        return Ok(());
+    }
+    let value = default_value(alloc, row)?;
+    values.push(row.0, value)?;
+    Ok(())
+}
+
+fn complete_all(alloc: Global, values: &mut Values, rows: &[Row]) -> Result<(), CmdFault>
+    ensures ok { OnOk result (each complete values.old rows.now ≡ Ok values.new) }
+    ensures err { IfErr result (λ e. e ≢ CmdFault.NoMemory → each complete values.old rows.now ≡ Err e) }
+{
+    for row in rows {
+        complete(alloc, values, row)?;
+    }
+    Ok(())
+}
+
+/// All keys of the table with their values.
+pub fn all_given(alloc: Global, rows: &[Row], items: &[Item]) -> Result<Values, CmdFault>
+    ensures ok { IfOk result (λ given. all_given rows.now items.now ≡ Ok given) }
+    ensures err { IfErr result (λ e. e ≢ CmdFault.NoMemory → all_given rows.now items.now ≡ Err e) }
+{
+    let mut values = items_given(alloc, rows, items)?;
+    complete_all(alloc, &mut values, rows)?;
+    Ok(values)
+}

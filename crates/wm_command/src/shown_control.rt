@@ -1,0 +1,99 @@
+// The values of the commands that control subsystems, queues and prestart jobs, in the order of the table.
+ghost use Rattle.std.specs.Prelude.{◌≡◌, IfOk};
+ghost use Rattle.wm_command.specs.Shown.{strsbs_values, endsbs_values, hldjobq_values, rlsjobq_values, clrjobq_values, strpj_values, endpj_values, evoke_values, pwrdwnsys_values};
+
+use crate::commands::{Clrjobq, Endpj, Endsbs, Evoke, Hldjobq, Pwrdwnsys, Rlsjobq, Strpj, Strsbs};
+use crate::row::Special;
+use crate::shown::number_or;
+use crate::value::{Value, Values};
+use std::alloc::{AllocError, Global};
+use wm_base::Key;
+
+#[tactic(auto, unfolding(crate::specs::Shown::strsbs_values))]
+pub fn strsbs_values(alloc: Global, c: &Strsbs) -> Result<Values, AllocError>
+    ensures { IfOk result (λ v. v ≡ strsbs_values c.now) }
+{
+    let mut values = Values::new(alloc);
+    values.push(Key::Sbsd, Value::Object(c.sbsd))?;
+    Ok(values)
+}
+
+#[tactic(auto, unfolding(crate::specs::Shown::endsbs_values))]
+pub fn endsbs_values(alloc: Global, c: &Endsbs) -> Result<Values, AllocError>
+    ensures { IfOk result (λ v. v ≡ endsbs_values c.now) }
+{
+    let mut values = Values::new(alloc);
+    values.push(Key::Sbs, Value::Name(c.sbs))?;
+    values.push(Key::Option, Value::Ending(c.option))?;
+    values.push(Key::Delay, number_or(Special::Nolimit, c.delay))?;
+    Ok(values)
+}
+
+#[tactic(auto, unfolding(crate::specs::Shown::hldjobq_values))]
+pub fn hldjobq_values(alloc: Global, c: &Hldjobq) -> Result<Values, AllocError>
+    ensures { IfOk result (λ v. v ≡ hldjobq_values c.now) }
+{
+    let mut values = Values::new(alloc);
+    values.push(Key::Jobq, Value::Object(c.jobq))?;
+    Ok(values)
+}
+
+#[tactic(auto, unfolding(crate::specs::Shown::rlsjobq_values))]
+pub fn rlsjobq_values(alloc: Global, c: &Rlsjobq) -> Result<Values, AllocError>
+    ensures { IfOk result (λ v. v ≡ rlsjobq_values c.now) }
+{
+    let mut values = Values::new(alloc);
+    values.push(Key::Jobq, Value::Object(c.jobq))?;
+    Ok(values)
+}
+
+#[tactic(auto, unfolding(crate::specs::Shown::clrjobq_values))]
+pub fn clrjobq_values(alloc: Global, c: &Clrjobq) -> Result<Values, AllocError>
+    ensures { IfOk result (λ v. v ≡ clrjobq_values c.now) }
+{
+    let mut values = Values::new(alloc);
+    values.push(Key::Jobq, Value::Object(c.jobq))?;
+    Ok(values)
+}
+
+#[tactic(auto, unfolding(crate::specs::Shown::strpj_values))]
+pub fn strpj_values(alloc: Global, c: &Strpj) -> Result<Values, AllocError>
+    ensures { IfOk result (λ v. v ≡ strpj_values c.now) }
+{
+    let mut values = Values::new(alloc);
+    values.push(Key::Sbs, Value::Name(c.sbs))?;
+    values.push(Key::Pgm, Value::Object(c.pgm))?;
+    Ok(values)
+}
+
+#[tactic(auto, unfolding(crate::specs::Shown::endpj_values))]
+pub fn endpj_values(alloc: Global, c: &Endpj) -> Result<Values, AllocError>
+    ensures { IfOk result (λ v. v ≡ endpj_values c.now) }
+{
+    let mut values = Values::new(alloc);
+    values.push(Key::Sbs, Value::Name(c.sbs))?;
+    values.push(Key::Pgm, Value::Object(c.pgm))?;
+    values.push(Key::Option, Value::Ending(c.option))?;
+    values.push(Key::Delay, number_or(Special::Nolimit, c.delay))?;
+    Ok(values)
+}
+
+#[tactic(auto, unfolding(crate::specs::Shown::evoke_values))]
+pub fn evoke_values(alloc: Global, c: &Evoke) -> Result<Values, AllocError>
+    ensures { IfOk result (λ v. v ≡ evoke_values c.now) }
+{
+    let mut values = Values::new(alloc);
+    values.push(Key::Sbs, Value::Name(c.sbs))?;
+    values.push(Key::Pgm, Value::Object(c.pgm))?;
+    Ok(values)
+}
+
+#[tactic(auto, unfolding(crate::specs::Shown::pwrdwnsys_values))]
+pub fn pwrdwnsys_values(alloc: Global, c: &Pwrdwnsys) -> Result<Values, AllocError>
+    ensures { IfOk result (λ v. v ≡ pwrdwnsys_values c.now) }
+{
+    let mut values = Values::new(alloc);
+    values.push(Key::Option, Value::Ending(c.option))?;
+    values.push(Key::Delay, number_or(Special::Nolimit, c.delay))?;
+    Ok(values)
+}

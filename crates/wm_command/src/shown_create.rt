@@ -1,0 +1,65 @@
+// The values of the commands that make objects, in the order of the table.
+ghost use Rattle.std.specs.Prelude.{◌≡◌, IfOk};
+ghost use Rattle.wm_command.specs.Shown.{crtcls_values, crtjobq_values, crtpgmref_values, crtjobd_values, crtsbsd_values};
+
+use crate::commands::{Crtcls, Crtjobd, Crtjobq, Crtpgmref, Crtsbsd};
+use crate::row::Special;
+use crate::shown::{limit_value, text_or};
+use crate::value::{Value, Values};
+use std::alloc::{AllocError, Global};
+use wm_base::Key;
+
+#[tactic(auto, unfolding(crate::specs::Shown::crtcls_values))]
+pub fn crtcls_values(alloc: Global, c: &Crtcls) -> Result<Values, AllocError>
+    ensures { IfOk result (λ v. v ≡ crtcls_values c.now) }
+{
+    let mut values = Values::new(alloc);
+    values.push(Key::Cls, Value::Object(c.cls))?;
+    values.push(Key::Runpty, Value::Number(c.runpty))?;
+    values.push(Key::Timeslice, Value::Number(c.timeslice))?;
+    values.push(Key::Dftwait, limit_value(c.dftwait))?;
+    Ok(values)
+}
+
+#[tactic(auto, unfolding(crate::specs::Shown::crtjobq_values))]
+pub fn crtjobq_values(alloc: Global, c: &Crtjobq) -> Result<Values, AllocError>
+    ensures { IfOk result (λ v. v ≡ crtjobq_values c.now) }
+{
+    let mut values = Values::new(alloc);
+    values.push(Key::Jobq, Value::Object(c.jobq))?;
+    Ok(values)
+}
+
+#[tactic(auto, unfolding(crate::specs::Shown::crtpgmref_values))]
+pub fn crtpgmref_values(alloc: Global, c: &Crtpgmref) -> Result<Values, AllocError>
+    ensures { IfOk result (λ v. v ≡ crtpgmref_values c.now) }
+{
+    let mut values = Values::new(alloc);
+    values.push(Key::Pgm, Value::Object(c.pgm))?;
+    values.push(Key::Path, Value::Text(c.path.clone()?))?;
+    Ok(values)
+}
+
+#[tactic(auto, unfolding(crate::specs::Shown::crtjobd_values))]
+pub fn crtjobd_values(alloc: Global, c: &Crtjobd) -> Result<Values, AllocError>
+    ensures { IfOk result (λ v. v ≡ crtjobd_values c.now) }
+{
+    let mut values = Values::new(alloc);
+    values.push(Key::Jobd, Value::Object(c.jobd))?;
+    values.push(Key::Jobq, Value::Object(c.jobq))?;
+    values.push(Key::Jobpty, Value::Number(c.jobpty.get() as u32))?;
+    values.push(Key::Rtgdta, Value::Text(c.rtgdta.clone()?))?;
+    values.push(Key::Rqsdta, text_or(Special::None, &c.rqsdta)?)?;
+    values.push(Key::Hold, Value::Flag(c.hold))?;
+    Ok(values)
+}
+
+#[tactic(auto, unfolding(crate::specs::Shown::crtsbsd_values))]
+pub fn crtsbsd_values(alloc: Global, c: &Crtsbsd) -> Result<Values, AllocError>
+    ensures { IfOk result (λ v. v ≡ crtsbsd_values c.now) }
+{
+    let mut values = Values::new(alloc);
+    values.push(Key::Sbsd, Value::Object(c.sbsd))?;
+    values.push(Key::Maxjobs, limit_value(c.maxjobs))?;
+    Ok(values)
+}

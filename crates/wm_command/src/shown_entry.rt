@@ -1,0 +1,115 @@
+// The values of the commands that change subsystem descriptions, in the order of the table.
+ghost use Rattle.std.specs.Prelude.{◌≡◌, IfOk};
+ghost use Rattle.wm_command.specs.Shown.{addjobqe_values, addrtge_values, addaje_values, addpje_values, rmvjobqe_values, rmvrtge_values, rmvaje_values, rmvpje_values};
+
+use crate::commands::{Addaje, Addjobqe, Addpje, Addrtge, Rmvaje, Rmvjobqe, Rmvpje, Rmvrtge};
+use crate::shown::limit_value;
+use crate::value::{Value, Values};
+use std::alloc::{AllocError, Global};
+use wm_base::Key;
+
+#[tactic(auto, unfolding(crate::specs::Shown::addjobqe_values))]
+pub fn addjobqe_values(alloc: Global, c: &Addjobqe) -> Result<Values, AllocError>
+    ensures { IfOk result (λ v. v ≡ addjobqe_values c.now) }
+{
+    let mut values = Values::new(alloc);
+    values.push(Key::Sbsd, Value::Object(c.sbsd))?;
+    values.push(Key::Jobq, Value::Object(c.jobq))?;
+    values.push(Key::Maxact, limit_value(c.maxact))?;
+    values.push(Key::Seqnbr, Value::Number(c.seqnbr))?;
+    values.push(Key::Maxpty1, limit_value(c.maxpty[0]))?;
+    values.push(Key::Maxpty2, limit_value(c.maxpty[1]))?;
+    values.push(Key::Maxpty3, limit_value(c.maxpty[2]))?;
+    values.push(Key::Maxpty4, limit_value(c.maxpty[3]))?;
+    values.push(Key::Maxpty5, limit_value(c.maxpty[4]))?;
+    values.push(Key::Maxpty6, limit_value(c.maxpty[5]))?;
+    values.push(Key::Maxpty7, limit_value(c.maxpty[6]))?;
+    values.push(Key::Maxpty8, limit_value(c.maxpty[7]))?;
+    values.push(Key::Maxpty9, limit_value(c.maxpty[8]))?;
+    Ok(values)
+}
+
+#[tactic(auto, unfolding(crate::specs::Shown::addrtge_values))]
+pub fn addrtge_values(alloc: Global, c: &Addrtge) -> Result<Values, AllocError>
+    ensures { IfOk result (λ v. v ≡ addrtge_values c.now) }
+{
+    let mut values = Values::new(alloc);
+    values.push(Key::Sbsd, Value::Object(c.sbsd))?;
+    values.push(Key::Seqnbr, Value::Number(c.seqnbr))?;
+    values.push(Key::Cmpval, Value::Compare(c.cmpval.clone()?))?;
+    values.push(Key::Pgm, Value::Object(c.pgm))?;
+    values.push(Key::Cls, Value::Object(c.cls))?;
+    values.push(Key::Maxact, limit_value(c.maxact))?;
+    values.push(Key::Poolid, Value::Number(c.poolid))?;
+    Ok(values)
+}
+
+#[tactic(auto, unfolding(crate::specs::Shown::addaje_values))]
+pub fn addaje_values(alloc: Global, c: &Addaje) -> Result<Values, AllocError>
+    ensures { IfOk result (λ v. v ≡ addaje_values c.now) }
+{
+    let mut values = Values::new(alloc);
+    values.push(Key::Sbsd, Value::Object(c.sbsd))?;
+    values.push(Key::Job, Value::Name(c.job))?;
+    values.push(Key::Jobd, Value::Object(c.jobd))?;
+    Ok(values)
+}
+
+#[tactic(auto, unfolding(crate::specs::Shown::addpje_values))]
+pub fn addpje_values(alloc: Global, c: &Addpje) -> Result<Values, AllocError>
+    ensures { IfOk result (λ v. v ≡ addpje_values c.now) }
+{
+    let mut values = Values::new(alloc);
+    values.push(Key::Sbsd, Value::Object(c.sbsd))?;
+    values.push(Key::Pgm, Value::Object(c.pgm))?;
+    values.push(Key::Strjobs, Value::Flag(c.strjobs))?;
+    values.push(Key::Inljobs, Value::Number(c.inljobs))?;
+    values.push(Key::Threshold, Value::Number(c.threshold))?;
+    values.push(Key::Adljobs, Value::Number(c.adljobs))?;
+    values.push(Key::Maxjobs, limit_value(c.maxjobs))?;
+    values.push(Key::Maxuse, limit_value(c.maxuse))?;
+    values.push(Key::Wait, Value::Flag(c.wait))?;
+    values.push(Key::Cls, Value::Object(c.cls))?;
+    values.push(Key::Poolid, Value::Number(c.poolid))?;
+    Ok(values)
+}
+
+#[tactic(auto, unfolding(crate::specs::Shown::rmvjobqe_values))]
+pub fn rmvjobqe_values(alloc: Global, c: &Rmvjobqe) -> Result<Values, AllocError>
+    ensures { IfOk result (λ v. v ≡ rmvjobqe_values c.now) }
+{
+    let mut values = Values::new(alloc);
+    values.push(Key::Sbsd, Value::Object(c.sbsd))?;
+    values.push(Key::Jobq, Value::Object(c.jobq))?;
+    Ok(values)
+}
+
+#[tactic(auto, unfolding(crate::specs::Shown::rmvrtge_values))]
+pub fn rmvrtge_values(alloc: Global, c: &Rmvrtge) -> Result<Values, AllocError>
+    ensures { IfOk result (λ v. v ≡ rmvrtge_values c.now) }
+{
+    let mut values = Values::new(alloc);
+    values.push(Key::Sbsd, Value::Object(c.sbsd))?;
+    values.push(Key::Seqnbr, Value::Number(c.seqnbr))?;
+    Ok(values)
+}
+
+#[tactic(auto, unfolding(crate::specs::Shown::rmvaje_values))]
+pub fn rmvaje_values(alloc: Global, c: &Rmvaje) -> Result<Values, AllocError>
+    ensures { IfOk result (λ v. v ≡ rmvaje_values c.now) }
+{
+    let mut values = Values::new(alloc);
+    values.push(Key::Sbsd, Value::Object(c.sbsd))?;
+    values.push(Key::Job, Value::Name(c.job))?;
+    Ok(values)
+}
+
+#[tactic(auto, unfolding(crate::specs::Shown::rmvpje_values))]
+pub fn rmvpje_values(alloc: Global, c: &Rmvpje) -> Result<Values, AllocError>
+    ensures { IfOk result (λ v. v ≡ rmvpje_values c.now) }
+{
+    let mut values = Values::new(alloc);
+    values.push(Key::Sbsd, Value::Object(c.sbsd))?;
+    values.push(Key::Pgm, Value::Object(c.pgm))?;
+    Ok(values)
+}

@@ -1,0 +1,82 @@
+// The values of keys.
+use crate::commands::{EndOption, JobRef};
+use crate::row::Special;
+use std::alloc::{AllocError, Global};
+use std::marker::Model;
+use wm_base::{Key, Name, QName, Text};
+use wm_desc::Cmp;
+use wm_when::{DateSpec, TimeSpec};
+
+/// What a key has.
+#[derive(Debug, PartialEq, Eq, Drop)]
+pub enum Value {
+    /// Nothing: it wasn't given, or what was given is dropped.
+    Nothing,
+    /// The special word of its row.
+    Special(Special),
+    Object(QName),
+    Name(Name),
+    Text(Text),
+    Number(u32),
+    Flag(bool),
+    Ending(EndOption),
+    Job(JobRef),
+    Compare(Cmp),
+    Date(DateSpec),
+    Time(TimeSpec),
+}
+
+/// A key with its value.
+#[derive(Debug, PartialEq, Eq, Drop)]
+pub struct Given {
+    pub key: Key,
+    pub value: Value,
+}
+
+/// Keys with their values, in the order in which they came. A contract sees it as their list.
+#[derive(Debug, Drop)]
+pub struct Values {
+    alloc: Global,
+    items: Vec<Given>,
+}
+
+impl Model for Values {
+    ghost use Rattle.std.specs.Prelude.{List};
+    ghost use Rattle.wm_command.specs.declared.value.Given.{Given};
+
+    ghost Value = { List Given };
+
+    ghost view = { λ v. v.items.items };
+}
+
+impl Values {
+    ghost use Rattle.std.specs.Prelude.{◌≡◌, ◌++◌, ◌∷◌, [], OnOk, OnErr};
+
+    pub fn new(alloc: Global) -> Values
+        ensures { result ≡ [] }
+    {
+        Values {
+            alloc,
+            items: Vec::new(alloc),
+        }
+    }
+
+    pub fn push(&mut self, key: Key, value: Value) -> Result<(), AllocError>
+        ensures ok { OnOk result (self.new ≡ self.old ++ record { key = key; value = value } ∷ []) }
+        ensures err { OnErr result (self.new ≡ self.old) }
+    {
+        self.items.push(Given { key, value })?;
+        Ok(())
+    }
+
+    pub fn as_slice(&self) -> &[Given]
+        ensures { result.now ≡ self.now }
+    {
+        &self.items
+    }
+
+    /// Where they take memory from.
+    pub fn allocator(&self) -> Global {
+        self.alloc
+    }
+}

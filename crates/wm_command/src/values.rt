@@ -1,0 +1,211 @@
+// What the values behind a key are read as.
+ghost use Rattle.std.specs.Prelude.{◌≡◌, ◌≢◌, IfOk, IfErr, Ok, Err, Some, codes};
+ghost use Rattle.std.specs.Option.{option_copied};
+ghost use Rattle.wm_command.specs.Values.{text_within, path_of, if_word, kind_value, special_word, is_never, is_special, text_value, item_value, cmp_kept, text_from, start_of, one_compared, two_compared, or_bad, one_value, compared};
+
+use crate::fault::CmdFault;
+use crate::row::{Kind, Special};
+use crate::value::Value;
+use crate::words::{
+    date_of, ending_of, flag_of, job_of, name_of, number_of, object_of, program_of, time_of,
+};
+use crate::written::{is_word, text_of, word_of};
+use std::alloc::AllocError;
+use wm_base::Text;
+use wm_clwords::Item;
+use wm_desc::{Cmp, path_in_range};
+
+fn text_within(low: u32, high: u32, text: &Text) -> Result<Option<Value>, AllocError>
+    ensures { IfOk result (λ v. v ≡ text_within low high text.now) }
+{
+    if low as usize <= text.len() && text.len() <= high as usize {
+        Ok(Some(Value::Text(text.clone()?)))
+    } else {
+        Ok(None)
+    }
+}
+
+fn path_of(text: &Text) -> Result<Option<Value>, AllocError>
+    ensures { IfOk result (λ v. v ≡ path_of text.now) }
+{
+    if path_in_range(text) {
+        Ok(Some(Value::Text(text.clone()?)))
+    } else {
+        Ok(None)
+    }
+}
+
+fn if_word<V: Drop>(is_word: bool, found: Option<V>) -> Option<V>
+    ensures { result ≡ if_word is_word found }
+{
+    if is_word { found } else { None }
+}
+
+/// What a word, or a text in apostrophes, is as a value of that kind.
+#[tactic(auto, unfolding(crate::specs::Values::kind_value))]
+fn kind_value(kind: Kind, is_word: bool, text: &Text) -> Result<Option<Value>, AllocError>
+    ensures { IfOk result (λ v. v ≡ kind_value kind is_word text.now) }
+{
+    let bytes = text.as_bytes();
+    match kind {
+        Kind::Object => Ok(object_of(is_word, bytes).map(Value::Object)),
+        Kind::Program => Ok(program_of(is_word, bytes).map(Value::Object)),
+        Kind::Name => Ok(name_of(bytes).map(Value::Name)),
+        Kind::Text(low, high) => text_within(low, high, text),
+        Kind::Path => path_of(text),
+        Kind::Number(low, high) => Ok(number_of(1, 9, low, high, bytes).map(Value::Number)),
+        Kind::Flag => Ok(if_word(is_word, flag_of(bytes)).map(Value::Flag)),
+        Kind::Ending => Ok(if_word(is_word, ending_of(bytes)).map(Value::Ending)),
+        Kind::Job => Ok(job_of(bytes).map(Value::Job)),
+        Kind::Date => Ok(date_of(is_word, bytes).map(Value::Date)),
+        Kind::Time => Ok(time_of(is_word, bytes).map(Value::Time)),
+        Kind::Compare | Kind::Call | Kind::Anything => Ok(None),
+    }
+}
+
+impl Special {
+    ghost use Rattle.std.specs.Prelude.{◌≡◌};
+    ghost use Rattle.wm_command.specs.Values.{special_word, is_never};
+
+    /// The word, or nothing where there is none.
+    #[tactic(auto, unfolding(crate::specs::Values::special_word))]
+    pub fn word(self) -> &'static str
+        ensures { result.now ≡ special_word self }
+    {
+        match self {
+            Special::Never => "",
+            Special::Nomax => "*NOMAX",
+            Special::None => "*NONE",
+            Special::Jobd => "*JOBD",
+            Special::Same => "*SAME",
+            Special::Nolimit => "*NOLIMIT",
+            Special::Sbsd => "*SBSD",
+        }
+    }
+
+    fn is_never(self) -> bool
+        ensures { result ≡ is_never self }
+    {
+        matches!(self, Special::Never)
+    }
+}
+
+fn is_special(special: Special, item: &Item) -> bool
+    ensures { result ≡ is_special special item.now }
+{
+    if special.is_never() {
+        false
+    } else {
+        is_word(item, special.word().as_bytes())
+    }
+}
+
+/// The row's special word, or a value of its kind.
+fn item_value(kind: Kind, special: Special, item: &Item) -> Result<Option<Value>, AllocError>
+    ensures { IfOk result (λ v. v ≡ item_value kind special item.now) }
+{
+    if is_special(special, item) {
+        return Ok(Some(Value::Special(special)));
+    }
+    match text_of(item) {
+        None => Ok(None),
+        Some(text) => kind_value(kind, word_of(item).is_some(), text),
+    }
+}
+
+fn cmp_kept(cmp: Cmp) -> Option<Value>
+    ensures { result ≡ cmp_kept cmp }
+{
+    if cmp.is_in_range() {
+        Some(Value::Compare(cmp))
+    } else {
+        None
+    }
+}
+
+fn text_from(text: Option<&Text>, start: Option<u32>) -> Result<Option<Value>, AllocError>
+    ensures { IfOk result (λ v. v ≡ text_from (option_copied text.entry) start) }
+{
+    let (Some(text), Some(start)) = (text, start) else {
+        return Ok(None);
+    };
+    let value = text.clone()?;
+    Ok(cmp_kept(Cmp::Val { value, start }))
+}
+
+fn start_of(text: Option<&Text>) -> Option<u32>
+    ensures { result ≡ start_of (option_copied text.entry) }
+{
+    match text {
+        None => None,
+        Some(text) => number_of(1, 9, 1, 80, text.as_bytes()),
+    }
+}
+
+fn one_compared(item: &Item) -> Result<Option<Value>, AllocError>
+    ensures { IfOk result (λ v. v ≡ one_compared item.now) }
+{
+    if is_word(item, b"*ANY") {
+        Ok(Some(Value::Compare(Cmp::Any)))
+    } else {
+        text_from(text_of(item), Some(1))
+    }
+}
+
+fn two_compared(item: &Item, start: &Item) -> Result<Option<Value>, AllocError>
+    ensures { IfOk result (λ v. v ≡ two_compared item.now start.now) }
+{
+    if is_word(item, b"*ANY") {
+        Ok(None)
+    } else {
+        text_from(text_of(item), start_of(text_of(start)))
+    }
+}
+
+fn or_bad(place: u32, value: Option<Value>) -> Result<Value, CmdFault>
+    ensures { result ≡ or_bad place value }
+{
+    match value {
+        None => Err(CmdFault::BadValue(place)),
+        Some(value) => Ok(value),
+    }
+}
+
+/// The one value of a key, whose item begins at `place`.
+pub fn one_value(
+    kind: Kind,
+    special: Special,
+    place: u32,
+    items: &[Item],
+) -> Result<Value, CmdFault>
+    ensures ok { IfOk result (λ v. one_value kind special place items.now ≡ Ok v) }
+    ensures err { IfErr result (λ e. e ≢ CmdFault.NoMemory → one_value kind special place items.now ≡ Err e) }
+{
+    match items {
+        [] => Err(CmdFault::BadValue(place)),
+        [item] => {
+            let value = item_value(kind, special, item)?;
+            or_bad(place, value)
+        }
+        [_, _, ..] => Err(CmdFault::TooManyValues(place)),
+    }
+}
+
+/// The compare value of a key, whose item begins at `place`.
+pub fn compared(place: u32, items: &[Item]) -> Result<Value, CmdFault>
+    ensures ok { IfOk result (λ v. compared place items.now ≡ Ok v) }
+    ensures err { IfErr result (λ e. e ≢ CmdFault.NoMemory → compared place items.now ≡ Err e) }
+{
+    match items {
+        [] => Err(CmdFault::BadValue(place)),
+        [item] => {
+            let value = one_compared(item)?;
+            or_bad(place, value)
+        }
+        [item, start] => {
+            let value = two_compared(item, start)?;
+            or_bad(place, value)
+        }
+        [_, _, _, ..] => Err(CmdFault::TooManyValues(place)),
+    }
+}

@@ -1,0 +1,45 @@
+// The commands by name.
+
+/// A command that changes the state.
+#[derive(Clone, Copy, Debug, PartialEq, Eq)]
+pub enum Change {
+    Crtcls,
+    Crtjobq,
+    Crtpgmref,
+    Crtjobd,
+    Crtsbsd,
+    Addjobqe,
+    Addrtge,
+    Addaje,
+    Addpje,
+    Rmvjobqe,
+    Rmvrtge,
+    Rmvaje,
+    Rmvpje,
+    Strsbs,
+    Endsbs,
+    Sbmjob,
+    Hldjob,
+    Rlsjob,
+    Chgjob,
+    Endjob,
+    Hldjobq,
+    Rlsjobq,
+    Clrjobq,
+    Strpj,
+    Endpj,
+    Evoke,
+    Enduse,
+    Pwrdwnsys,
+}
+
+/// A command that reads.
+#[derive(Clone, Copy, Debug, PartialEq, Eq)]
+pub enum Read {
+    Wrkactjob,
+    Wrksbmjob,
+    Wrksbs,
+    Dsplog,
+    Wrkjobq,
+    Dspjob,
+}
