@@ -259,7 +259,15 @@ fn a_run_waits_for_a_child_that_is_out_for_long(rt: HostRuntime) -> Result<(), F
 
 #[test]
 fn a_program_that_cannot_be_started_ends_its_job(rt: HostRuntime) -> Result<(), Fail> {
-    let done = run_over(&rt, rt.alloc(), SUBMIT, Outside { start: &[1], ..FINE })?;
+    let done = run_over(
+        &rt,
+        rt.alloc(),
+        SUBMIT,
+        Outside {
+            start: &[1],
+            ..FINE
+        },
+    )?;
     assert_eq!(rt; done.status, 0);
     assert_eq!(rt; done.written.as_slice(), SUBMITTED);
     assert_eq!(rt; done.log.len(), 5);
@@ -338,9 +346,10 @@ fn a_report_of_a_job_that_is_not_out_is_refused_and_changes_nothing_else(
     let usual = run_over(&rt, rt.alloc(), SUBMIT, FINE)?;
     assert_eq!(rt; done.status, 0);
     assert_eq!(rt; done.written.as_slice(), SUBMITTED);
-    let (Some((first, rest)), Some((start, others))) =
-        (done.log.split_first(), usual.log.split_first())
-    else {
+    let (Some((first, rest)), Some((start, others))) = (
+        done.log.split_first(),
+        usual.log.split_first(),
+    ) else {
         return Err(Fail::new("an empty history"));
     };
     let Some((refused, rest)) = rest.split_first() else {
