@@ -202,33 +202,36 @@ fn other_words_begin_no_run(rt: HostRuntime) -> Result<(), Fail> {
     Ok(())
 }
 
-fn failing_read(read: &'static [u32]) -> Outside {
-    Outside { read, ..FINE }
-}
+// Which reads, writes and looks fail, and the status, the answers and the number of entries then.
+type Row = (
+    &'static [u32],
+    &'static [u32],
+    &'static [u32],
+    u8,
+    &'static [u8],
+    usize,
+);
 
-fn failing_write(write: &'static [u32]) -> Outside {
-    Outside { write, ..FINE }
-}
-
-fn failing_look(look: &'static [u32]) -> Outside {
-    Outside { look, ..FINE }
-}
-
-// The status, the answers and the number of entries where the outside is so.
 #[test]
 fn a_fault_ends_the_run_with_what_was_done_until_then(rt: HostRuntime) -> Result<(), Fail> {
-    let rows: [(Outside, u8, &[u8], usize); 9] = [
-        (failing_read(&[1]), 3, b"", 1),
-        (failing_read(&[2]), 3, TWO_ANSWERS, 5),
-        (failing_write(&[1]), 4, b"", 2),
-        (failing_write(&[2]), 4, SUBMITTED, 5),
-        (failing_look(&[1]), 8, b"", 1),
-        (failing_look(&[2]), 8, SUBMITTED, 4),
-        (failing_look(&[3]), 8, SUBMITTED, 5),
-        (failing_look(&[4]), 8, TWO_ANSWERS, 5),
-        (failing_look(&[5]), 8, TWO_ANSWERS, 6),
+    let rows: [Row; 9] = [
+        (&[1], &[], &[], 3, b"", 1),
+        (&[2], &[], &[], 3, TWO_ANSWERS, 5),
+        (&[], &[1], &[], 4, b"", 2),
+        (&[], &[2], &[], 4, SUBMITTED, 5),
+        (&[], &[], &[1], 8, b"", 1),
+        (&[], &[], &[2], 8, SUBMITTED, 4),
+        (&[], &[], &[3], 8, SUBMITTED, 5),
+        (&[], &[], &[4], 8, TWO_ANSWERS, 5),
+        (&[], &[], &[5], 8, TWO_ANSWERS, 6),
     ];
-    for (outside, status, written, entries) in rows {
+    for (read, write, look, status, written, entries) in rows {
+        let outside = Outside {
+            read,
+            write,
+            look,
+            ..FINE
+        };
         let done = run_over(&rt, rt.alloc(), TWO_LINES, outside)?;
         assert_eq!(rt; done.status, status);
         assert_eq!(rt; done.written.as_slice(), written);
