@@ -1,5 +1,5 @@
 -- The CALL that CMD takes.
-use Rattle.std.specs.Prelude.{ℕ, Bool, true, false, not, Option, Some, None, Result, Ok, Err, List, [], ◌∷◌, ◌++◌, length, ◌&&◌, nat_le, if◌then◌else◌, codes, is_some}
+use Rattle.std.specs.Prelude.{ℕ, Bool, true, false, Option, Some, None, Result, Ok, Err, List, [], ◌∷◌, ◌++◌, length, ◌&&◌, nat_le, if◌then◌else◌, codes, is_some}
 use Rattle.wm_base.specs.declared.qname.QName.{QName}
 use Rattle.wm_clwords.specs.declared.tree.Item.{Item}
 use Rattle.wm_clwords.specs.CallText.{call_text}

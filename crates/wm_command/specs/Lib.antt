@@ -4,6 +4,7 @@ pub mod Fields
 pub mod Line
 pub mod Made
 pub mod Print
+pub mod Printed
 pub mod Reading
 pub mod Shown
 pub mod Table

@@ -1,5 +1,5 @@
 -- The commands made of their keys' values.
-use Rattle.std.specs.Prelude.{ℕ, Bool, Option, Some, None, List, [], ◌∷◌}
+use Rattle.std.specs.Prelude.{List}
 use Rattle.wm_base.specs.declared.refusal.Key.TheVariants as key
 use Rattle.wm_command.specs.declared.commands.Command.{Command}
 use Rattle.wm_command.specs.declared.commands.Command.TheVariants as command

@@ -1,7 +1,6 @@
 -- What the items of a command give its keys.
 use Rattle.std.specs.Prelude.{ℕ, Bool, true, false, Option, Some, None, Result, Ok, Err, List, [], ◌∷◌, ◌++◌, find, if◌then◌else◌, codes}
 use Rattle.std.specs.List.{list_any}
-use Rattle.wm_base.specs.declared.qname.QName.{QName}
 use Rattle.wm_base.specs.declared.refusal.Key.{Key}
 use Rattle.wm_base.specs.Key.{key_word}
 use Rattle.wm_clwords.specs.declared.tree.Item.{Item}

@@ -1,8 +1,6 @@
 -- What the values behind a key are read as, by the key's row.
-use Rattle.std.specs.Prelude.{ℕ, Bool, true, false, Option, Some, None, Result, Ok, Err, List, [], ◌∷◌, length, ◌+◌, ◌&&◌, nat_le, if◌then◌else◌, codes, is_some}
+use Rattle.std.specs.Prelude.{ℕ, Bool, true, false, Option, Some, None, Result, Ok, Err, List, [], ◌∷◌, length, if◌then◌else◌, codes, is_some}
 use Rattle.std.specs.Option.{option_map}
-use Rattle.std.specs.List.{starts_with}
-use Rattle.wm_base.specs.declared.refusal.Key.{Key}
 use Rattle.wm_clwords.specs.declared.tree.Item.{Item}
 use Rattle.wm_desc.specs.declared.entry.Cmp.{Cmp}
 use Rattle.wm_desc.specs.declared.entry.Cmp.TheVariants.{Any, Val}
@@ -12,12 +10,11 @@ use Rattle.wm_command.specs.declared.row.Kind.{Kind}
 use Rattle.wm_command.specs.declared.row.Kind.TheVariants as kind
 use Rattle.wm_command.specs.declared.row.Special.{Special}
 use Rattle.wm_command.specs.declared.row.Special.TheVariants as special
-use Rattle.wm_command.specs.declared.row.Row.{Row}
 use Rattle.wm_command.specs.declared.value.Value.{Value}
 use Rattle.wm_command.specs.declared.value.Value.TheVariants as value
 use Rattle.wm_command.specs.declared.fault.CmdFault.{CmdFault}
-use Rattle.wm_command.specs.declared.fault.CmdFault.TheVariants.{BadValue, TooManyValues, NotCall}
-use Rattle.wm_command.specs.Words.{same, number_of, name_of, object_of, program_of, job_of, flag_of, ending_of, date_of, time_of}
+use Rattle.wm_command.specs.declared.fault.CmdFault.TheVariants.{BadValue, TooManyValues}
+use Rattle.wm_command.specs.Words.{number_of, name_of, object_of, program_of, job_of, flag_of, ending_of, date_of, time_of}
 use Rattle.wm_command.specs.Written.{word_of, text_of, is_word}
 
 -- One value

@@ -12,6 +12,7 @@ mod call;
 mod commands;
 mod fault;
 mod fields;
+mod laws;
 mod line;
 mod made;
 mod made_control;
@@ -39,6 +40,7 @@ pub use commands::{
     Line, Pwrdwnsys, Rlsjob, Rlsjobq, Rmvaje, Rmvjobqe, Rmvpje, Rmvrtge, Sbmjob, Strpj, Strsbs,
 };
 pub use fault::CmdFault;
+pub use laws::{printed_command_is_read, shown_values_make_the_command};
 pub use line::command;
 pub use made::change_made;
 pub use printing::print;

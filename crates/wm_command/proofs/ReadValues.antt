@@ -1,0 +1,395 @@
+-- The text that is printed of a value, read by the value's row, is that value.
+use Rattle.std.proofs.Common.{◌≡◌, ℕ, ◌/◌, ◌<◌, ◌≤◌, ◌++◌, ◌&&◌, Bool, true, false, not, cond, nat_lt, nat_eq, List, [], ◌∷◌, zero, suc, Some, None, Ok, subst, sym, ◌∙◌, ap, refl, arith, codes}
+use Rattle.std.specs.Cmp.Lexicographic.{pointwise}
+use Rattle.std.specs.Fmt.{decimal}
+use Rattle.std.specs.Option.{option_map}
+use Rattle.std.proofs.lemmas.Bool.{and_parts, false≢true}
+use Rattle.std.proofs.lemmas.Bool.Decides.{nat_tests}
+use Rattle.std.proofs.lemmas.List.{append_assoc}
+use Rattle.wm_base.specs.Name.{IsName}
+use Rattle.wm_base.specs.Number.{zero_padded}
+use Rattle.wm_base.specs.JobName.{job_name_text}
+use Rattle.wm_base.specs.QName.{qname_text}
+use Rattle.wm_base.specs.declared.job.JobName.{JobName}
+use Rattle.wm_base.specs.declared.qname.QName.{QName}
+use Rattle.wm_clwords.specs.declared.tree.Span.{Span}
+use Rattle.wm_clwords.specs.declared.tree.Item.{Item, Word as ItemWord, Quoted as ItemQuoted, List', Keyed'}
+use Rattle.wm_clwords.specs.Grammar.{Token, Word, Quoted, Key, Open}
+use Rattle.wm_clwords.specs.Call.{item_tokens, list_tokens}
+use Rattle.wm_clwords.proofs.Tokens.{cut_value, list_tokens-cons, one_item, one_value}
+use Rattle.wm_desc.specs.declared.entry.Cmp.{Cmp}
+use Rattle.wm_desc.specs.declared.entry.Cmp.TheVariants.{Any, Val}
+use Rattle.wm_when.specs.Schedule.{within, is_date}
+use Rattle.wm_when.specs.declared.schedule.DateSpec.{DateSpec}
+use Rattle.wm_when.specs.declared.schedule.DateSpec.TheVariants as date
+use Rattle.wm_when.specs.declared.schedule.TimeSpec.{TimeSpec}
+use Rattle.wm_when.specs.declared.schedule.TimeSpec.TheVariants as time
+use Rattle.wm_command.specs.declared.commands.EndOption.{EndOption}
+use Rattle.wm_command.specs.declared.commands.EndOption.TheVariants.{Cntrld, Immed}
+use Rattle.wm_command.specs.declared.commands.JobRef.{JobRef}
+use Rattle.wm_command.specs.declared.commands.JobRef.TheVariants.{Simple, ByUser, Full}
+use Rattle.wm_command.specs.declared.row.Kind.{Kind}
+use Rattle.wm_command.specs.declared.row.Kind.TheVariants as kind
+use Rattle.wm_command.specs.declared.row.Special.{Special}
+use Rattle.wm_command.specs.declared.row.Special.TheVariants as special
+use Rattle.wm_command.specs.declared.value.Value.{Value}
+use Rattle.wm_command.specs.declared.value.Value.TheVariants as value
+use Rattle.wm_command.specs.Print.{flag_text, ending_text, job_text, weekday_text, date_text, time_text, second_text}
+use Rattle.wm_command.specs.Printed.{IsQualified, FitsJob, FitsCompare, FitsKind}
+use Rattle.wm_command.specs.Reading.{row_value}
+use Rattle.wm_command.specs.Values.{kind_value, special_word, is_never, is_special, or_bad, compared, text_from}
+use Rattle.wm_command.specs.Values.{one_value as one_read}
+use Rattle.wm_command.specs.Words.{before_slash, behind_slash, name_of, library_of, qname_of, object_with, object_of, program_of, job_with, job_behind, job_of, by_user_of, full_of, simple_of, date_word_of, day_of, date_with, date_of, second_of, number_of, time_of}
+use Rattle.wm_command.proofs.Digits.{number_decimal, number_six, number_eight, second_back, within_high, decimal_digits, decimal_some, padded_digits, padded_some, six_digits, six_some}
+use Rattle.wm_command.proofs.Plain.{Plain, plain_no_star, plain_name, plain_digits, plain_join, name_unslashed, digits_unslashed, before_first, behind_first, before_none, behind_none, slash_apart, ap_two, ap_three}
+
+-- the tokens of a printed value
+abbrev pub value_tokens : Value → List Token
+value_tokens value.Nothing = []
+value_tokens (value.Special s) = Word (special_word s) ∷ []
+value_tokens (value.Object q) = Word (qname_text q) ∷ []
+value_tokens (value.Name n) = Word n ∷ []
+value_tokens (value.Text t) = Quoted t ∷ []
+value_tokens (value.Number n) = Word (decimal n) ∷ []
+value_tokens (value.Flag b) = Word (flag_text b) ∷ []
+value_tokens (value.Ending e) = Word (ending_text e) ∷ []
+value_tokens (value.Job j) = Word (job_text j) ∷ []
+value_tokens (value.Compare Any) = Word (codes "*ANY") ∷ []
+value_tokens (value.Compare (Val text start)) = Quoted text ∷ Word (decimal start) ∷ []
+value_tokens (value.Date d) = Word (date_text d) ∷ []
+value_tokens (value.Time t) = Word (time_text t) ∷ []
+
+-- what the table's rows keep to: numbers of nine digits at most, and no special word beside a compare value
+abbrev pub is_sound : Kind → Special → Bool
+is_sound (kind.Number low high) s = nat_lt high 1000000000
+is_sound kind.Compare s = is_never s
+is_sound kind.Call s = false
+is_sound kind.Anything s = false
+is_sound k s = true
+
+-- items by their tokens
+
+word_same : (a b : List ℕ) (x y : List Token) → ◌≡◌ {A = List Token} (Word a ∷ x) (Word b ∷ y) → a ≡ b
+word_same a b x y e = cc
+
+quoted_same : (a b : List ℕ) (x y : List Token) → ◌≡◌ {A = List Token} (Quoted a ∷ x) (Quoted b ∷ y) → a ≡ b
+quoted_same a b x y e = cc
+
+quoted_word : (a b : List ℕ) (x y : List Token) → ◌≡◌ {A = List Token} (Quoted a ∷ x) (Word b ∷ y) → ⊥
+quoted_word a b x y e = cc
+
+open_word : (b : List ℕ) (x y : List Token) → ◌≡◌ {A = List Token} (Open ∷ x) (Word b ∷ y) → ⊥
+open_word b x y e = cc
+
+key_word_apart : (a b : List ℕ) (x y : List Token) → ◌≡◌ {A = List Token} (Key a ∷ x) (Word b ∷ y) → ⊥
+key_word_apart a b x y e = cc
+
+open_quoted : (b : List ℕ) (x y : List Token) → ◌≡◌ {A = List Token} (Open ∷ x) (Quoted b ∷ y) → ⊥
+open_quoted b x y e = cc
+
+key_quoted : (a b : List ℕ) (x y : List Token) → ◌≡◌ {A = List Token} (Key a ∷ x) (Quoted b ∷ y) → ⊥
+key_quoted a b x y e = cc
+
+by_word : (item : Item) (w : List ℕ) → item_tokens item ≡ Word w ∷ [] → (P : Item → Type 0) → ((span : Span) → P (ItemWord span w)) → P item
+by_word (ItemWord span text) w e P f = subst (λ (b : List ℕ). P (ItemWord span b)) (sym (word_same text w [] [] e)) (f span)
+by_word (ItemQuoted span text) w e P f = absurd (quoted_word text w [] [] e)
+by_word (List' span shape row) w e P f = absurd (open_word w _ [] e)
+by_word (Keyed' span key shape row) w e P f = absurd (key_word_apart key w _ [] e)
+
+by_quoted : (item : Item) (t : List ℕ) → item_tokens item ≡ Quoted t ∷ [] → (P : Item → Type 0) → ((span : Span) → P (ItemQuoted span t)) → P item
+by_quoted (ItemWord span text) t e P f = absurd (quoted_word t text [] [] (sym e))
+by_quoted (ItemQuoted span text) t e P f = subst (λ (b : List ℕ). P (ItemQuoted span b)) (sym (quoted_same text t [] [] e)) (f span)
+by_quoted (List' span shape row) t e P f = absurd (open_quoted t _ [] e)
+by_quoted (Keyed' span key shape row) t e P f = absurd (key_quoted key t _ [] e)
+
+word_only : (items : List Item) (w : List ℕ) → list_tokens items ≡ Word w ∷ [] → (P : List Item → Type 0) → ((span : Span) → P (ItemWord span w ∷ [])) → P items
+word_only items w e P f =
+    let o = one_value items (Word w) e in
+    subst P (sym o.1) (by_word o.0 w (sym (one_item o.0) ∙ ap list_tokens (sym o.1) ∙ e) (λ i. P (i ∷ [])) f)
+
+quoted_only : (items : List Item) (t : List ℕ) → list_tokens items ≡ Quoted t ∷ [] → (P : List Item → Type 0) → ((span : Span) → P (ItemQuoted span t ∷ [])) → P items
+quoted_only items t e P f =
+    let o = one_value items (Quoted t) e in
+    subst P (sym o.1) (by_quoted o.0 t (sym (one_item o.0) ∙ ap list_tokens (sym o.1) ∙ e) (λ i. P (i ∷ [])) f)
+
+nil_cons : (a : Token) (x : List Token) → ◌≡◌ {A = List Token} [] (a ∷ x) → ⊥
+nil_cons a x e = cc
+
+both_only : (items : List Item) (t w : List ℕ) → list_tokens items ≡ Quoted t ∷ Word w ∷ [] → (P : List Item → Type 0) → ((a b : Span) → P (ItemQuoted a t ∷ ItemWord b w ∷ [])) → P items
+both_only [] t w e P f = absurd (nil_cons (Quoted t) (Word w ∷ []) e)
+both_only (item ∷ items) t w e P f =
+    let c = cut_value item (Quoted t) t (list_tokens items) (Word w ∷ []) refl (sym (list_tokens-cons item items) ∙ e) in
+    by_quoted item t c.0 (λ i. P (i ∷ items)) (λ a. word_only items w c.1 (λ l. P (ItemQuoted a t ∷ l)) (λ b. f a b))
+
+-- no special word
+
+not_special : (s : Special) (span : Span) (w : List ℕ) → Plain w → is_special s (ItemWord span w) ≡ false
+unfolding special_word
+not_special special.Never span w p = refl
+not_special special.Nomax span w p = plain_no_star w (codes "NOMAX") p
+not_special special.None span w p = plain_no_star w (codes "NONE") p
+not_special special.Jobd span w p = plain_no_star w (codes "JOBD") p
+not_special special.Same span w p = plain_no_star w (codes "SAME") p
+not_special special.Nolimit span w p = plain_no_star w (codes "NOLIMIT") p
+not_special special.Sbsd span w p = plain_no_star w (codes "SBSD") p
+
+-- words that are told apart from each special word
+abbrev is_own : List ℕ → Bool
+is_own w =
+    not (pointwise nat_eq w (codes "*NOMAX")) && not (pointwise nat_eq w (codes "*NONE")) && not (pointwise nat_eq w (codes "*JOBD"))
+    && not (pointwise nat_eq w (codes "*SAME")) && not (pointwise nat_eq w (codes "*NOLIMIT")) && not (pointwise nat_eq w (codes "*SBSD"))
+
+false_of : (b : Bool) → not b ≡ true → b ≡ false
+false_of false e = refl
+false_of true e = absurd (false≢true e)
+
+own_special : (s : Special) (span : Span) (w : List ℕ) → is_own w ≡ true → is_special s (ItemWord span w) ≡ false
+unfolding special_word
+own_special special.Never span w h = refl
+own_special special.Sbsd span w h = false_of (pointwise nat_eq w (codes "*SBSD")) (and_parts _ _ h).1
+own_special special.Nolimit span w h = false_of (pointwise nat_eq w (codes "*NOLIMIT")) (and_parts _ _ (and_parts _ _ h).0).1
+own_special special.Same span w h = false_of (pointwise nat_eq w (codes "*SAME")) (and_parts _ _ (and_parts _ _ (and_parts _ _ h).0).0).1
+own_special special.Jobd span w h = false_of (pointwise nat_eq w (codes "*JOBD")) (and_parts _ _ (and_parts _ _ (and_parts _ _ (and_parts _ _ h).0).0).0).1
+own_special special.None span w h = false_of (pointwise nat_eq w (codes "*NONE")) (and_parts _ _ (and_parts _ _ (and_parts _ _ (and_parts _ _ (and_parts _ _ h).0).0).0).0).1
+own_special special.Nomax span w h = false_of (pointwise nat_eq w (codes "*NOMAX")) (and_parts _ _ (and_parts _ _ (and_parts _ _ (and_parts _ _ (and_parts _ _ h).0).0).0).0).0
+
+quoted_special : (s : Special) (span : Span) (t : List ℕ) → is_special s (ItemQuoted span t) ≡ false
+quoted_special special.Never span t = refl
+quoted_special s span t = refl
+
+-- a word that is a value of the kind, and no special word
+word_read : (k : Kind) (s : Special) (place : ℕ) (span : Span) (w : List ℕ) (v : Value) → is_special s (ItemWord span w) ≡ false → kind_value k true w ≡ Some v
+    → one_read k s place (ItemWord span w ∷ []) ≡ Ok v
+word_read k s place span w v h e = ap (λ c. or_bad place (cond c (Some (value.Special s)) (kind_value k true w))) h ∙ ap (or_bad place) e
+
+quoted_read : (k : Kind) (s : Special) (place : ℕ) (span : Span) (t : List ℕ) (v : Value) → kind_value k false t ≡ Some v → one_read k s place (ItemQuoted span t ∷ []) ≡ Ok v
+quoted_read k s place span t v e = ap (λ c. or_bad place (cond c (Some (value.Special s)) (kind_value k false t))) (quoted_special s span t) ∙ ap (or_bad place) e
+
+special_read : (k : Kind) (s : Special) (place : ℕ) (span : Span) → is_never s ≡ false → one_read k s place (ItemWord span (special_word s) ∷ []) ≡ Ok (value.Special s)
+unfolding special_word
+special_read k special.Never place span n = absurd (false≢true (sym n))
+special_read k s place span n = refl
+
+-- names
+name_is : (name : List ℕ) → IsName name → name_of name ≡ Some name
+name_is name h = ap (λ c. cond c (Some name) None) h
+
+library_is : (lib : List ℕ) → IsName lib → library_of true lib ≡ Some lib
+library_is lib h = ap (λ c. cond c (Some (codes "QGPL")) (name_of lib)) (plain_no_star lib (codes "LIBL") (plain_name lib h)) ∙ name_is lib h
+
+text_is : (q : QName) → qname_text q ≡ q.lib ++ 47 ∷ q.name
+text_is q = append_assoc q.lib (47 ∷ []) q.name
+
+object_read : (q : QName) → IsQualified q → object_of true (qname_text q) ≡ Some q
+unfolding object_of
+object_read q h =
+    ap (λ t. object_with true (before_slash t) (behind_slash t)) (text_is q)
+    ∙ ap_two (object_with true) (before_first q.lib q.name (name_unslashed q.lib h.0)) (behind_first q.lib q.name (name_unslashed q.lib h.0))
+    ∙ ap_two qname_of (library_is q.lib h.0) (name_is q.name h.1)
+
+no_qcmd : (q : QName) → pointwise nat_eq (qname_text q) (codes "QCMD") ≡ false
+no_qcmd q = ap (λ t. pointwise nat_eq t (codes "QCMD")) (text_is q) ∙ slash_apart q.lib q.name (codes "QCMD") refl
+
+program_read : (q : QName) → IsQualified q → program_of true (qname_text q) ≡ Some q
+unfolding program_of
+program_read q h = ap (λ c. cond c (Some (record { lib = codes "QSYS"; name = codes "QCMD" })) (object_of true (qname_text q))) (no_qcmd q) ∙ object_read q h
+
+pub plain_qname : (q : QName) → IsQualified q → Plain (qname_text q)
+plain_qname q h = subst Plain (sym (text_is q)) (plain_join q.lib q.name (plain_name q.lib h.0) (plain_name q.name h.1))
+
+-- jobs
+number_small : (low high n : ℕ) → high < 1000000000 → within low high n ≡ true → n < 1000000000
+number_small low high n small h = let top = within_high low high n h in omega arith
+
+pub full_text : (j : JobName) → job_name_text j ≡ zero_padded 6 j.number ++ 47 ∷ (j.user ++ 47 ∷ j.name)
+full_text j =
+    ap (λ l. (l ++ 47 ∷ []) ++ j.name) (append_assoc (zero_padded 6 j.number) (47 ∷ []) j.user)
+    ∙ append_assoc (zero_padded 6 j.number ++ 47 ∷ j.user) (47 ∷ []) j.name
+    ∙ append_assoc (zero_padded 6 j.number) (47 ∷ j.user) (47 ∷ j.name)
+
+pub plain_job : (j : JobRef) → FitsJob j → Plain (job_text j)
+plain_job (Simple name) h = plain_name name h
+plain_job (ByUser user name) h = plain_qname (record { lib = user; name = name }) h
+plain_job (Full j) h =
+    let small = number_small 1 999999 j.number (omega arith) h.0 in
+    subst Plain (sym (full_text j))
+    (plain_join (zero_padded 6 j.number) (j.user ++ 47 ∷ j.name) (plain_digits (zero_padded 6 j.number) (padded_some 6 j.number small) (padded_digits 6 j.number small))
+    (plain_join j.user j.name (plain_name j.user h.1) (plain_name j.name h.2)))
+
+job_read : (j : JobRef) → FitsJob j → job_of (job_text j) ≡ Some j
+unfolding job_of
+job_read (Simple name) h =
+    ap_two job_with (before_none name (name_unslashed name h)) (behind_none name (name_unslashed name h)) ∙ ap simple_of (name_is name h)
+job_read (ByUser user name) h =
+    let u = name_unslashed user h.0 in
+    let n = name_unslashed name h.1 in
+    ap (λ t. job_with (before_slash t) (behind_slash t)) (text_is (record { lib = user; name = name }))
+    ∙ ap_two job_with (before_first user name u) (behind_first user name u)
+    ∙ ap_two (job_behind user) (before_none name n) (behind_none name n)
+    ∙ ap_two by_user_of (name_is user h.0) (name_is name h.1)
+job_read (Full j) h =
+    let small = number_small 1 999999 j.number (omega arith) h.0 in
+    let d = digits_unslashed (zero_padded 6 j.number) (padded_digits 6 j.number small) in
+    let u = name_unslashed j.user h.1 in
+    ap (λ t. job_with (before_slash t) (behind_slash t)) (full_text j)
+    ∙ ap_two job_with (before_first (zero_padded 6 j.number) (j.user ++ 47 ∷ j.name) d) (behind_first (zero_padded 6 j.number) (j.user ++ 47 ∷ j.name) d)
+    ∙ ap_two (job_behind (zero_padded 6 j.number)) (before_first j.user j.name u) (behind_first j.user j.name u)
+    ∙ ap_three full_of (number_six j.number h.0) (name_is j.user h.1) (name_is j.name h.2)
+
+-- dates
+pub by_weekday : (P : ℕ → List ℕ → Type 0) → P 1 (codes "*MON") → P 2 (codes "*TUE") → P 3 (codes "*WED") → P 4 (codes "*THU") → P 5 (codes "*FRI") → P 6 (codes "*SAT") → P 7 (codes "*SUN")
+    → (n : ℕ) → within 1 7 n ≡ true → P n (weekday_text n)
+by_weekday P a b c d e f g zero h = absurd (false≢true h)
+by_weekday P a b c d e f g (suc zero) h = a
+by_weekday P a b c d e f g (suc (suc zero)) h = b
+by_weekday P a b c d e f g (suc (suc (suc zero))) h = c
+by_weekday P a b c d e f g (suc (suc (suc (suc zero)))) h = d
+by_weekday P a b c d e f g (suc (suc (suc (suc (suc zero))))) h = e
+by_weekday P a b c d e f g (suc (suc (suc (suc (suc (suc zero)))))) h = f
+by_weekday P a b c d e f g (suc (suc (suc (suc (suc (suc (suc zero))))))) h = g
+by_weekday P a b c d e f g (suc (suc (suc (suc (suc (suc (suc (suc n)))))))) h =
+    let top = within_high 1 7 (suc (suc (suc (suc (suc (suc (suc (suc n)))))))) h in absurd (omega arith)
+
+pub date_small : (n : ℕ) → is_date n ≡ true → n ≤ 99999999
+date_small n h =
+    let top = within_high 1970 9999 (n / 10000) (and_parts _ _ (and_parts _ _ h).0).0 in omega arith
+
+no_date_word : (w : List ℕ) → Plain w → date_word_of w ≡ None
+no_date_word w p =
+    λ i. cond (plain_no_star w (codes "CURRENT") p i) (Some date.Current)
+    (cond (plain_no_star w (codes "MONTHSTR") p i) (Some date.MonthStart)
+    (cond (plain_no_star w (codes "MONTHEND") p i) (Some date.MonthEnd)
+    (cond (plain_no_star w (codes "MON") p i) (Some (date.Weekday 1))
+    (cond (plain_no_star w (codes "TUE") p i) (Some (date.Weekday 2))
+    (cond (plain_no_star w (codes "WED") p i) (Some (date.Weekday 3))
+    (cond (plain_no_star w (codes "THU") p i) (Some (date.Weekday 4))
+    (cond (plain_no_star w (codes "FRI") p i) (Some (date.Weekday 5))
+    (cond (plain_no_star w (codes "SAT") p i) (Some (date.Weekday 6))
+    (cond (plain_no_star w (codes "SUN") p i) (Some (date.Weekday 7)) None)))))))))
+
+pub plain_day : (n : ℕ) → is_date n ≡ true → Plain (zero_padded 8 n)
+plain_day n h =
+    let top = date_small n h in
+    plain_digits (zero_padded 8 n) (padded_some 8 n (omega arith)) (padded_digits 8 n (omega arith))
+
+day_read : (n : ℕ) → is_date n ≡ true → date_of true (zero_padded 8 n) ≡ Some (date.Day n)
+unfolding date_of
+day_read n h =
+    ap (date_with true (zero_padded 8 n)) (no_date_word (zero_padded 8 n) (plain_day n h))
+    ∙ ap day_of (number_eight n (date_small n h)) ∙ ap (λ c. cond c (Some (date.Day n)) None) h
+
+abbrev IsWeekday : Special → ℕ → List ℕ → Type 0
+IsWeekday s n w = (place : ℕ) (span : Span) → one_read kind.Date s place (ItemWord span w ∷ []) ≡ Ok (value.Date (date.Weekday n))
+
+own_date : (s : Special) (w : List ℕ) (d : DateSpec) (place : ℕ) (span : Span) → is_own w ≡ true → date_of true w ≡ Some d → one_read kind.Date s place (ItemWord span w ∷ []) ≡ Ok (value.Date d)
+unfolding kind_value
+own_date s w d place span h e = word_read kind.Date s place span w (value.Date d) (own_special s span w h) (ap (option_map value.Date) e)
+
+date_read : (s : Special) (d : DateSpec) (place : ℕ) (span : Span) → FitsKind kind.Date (value.Date d) → one_read kind.Date s place (ItemWord span (date_text d) ∷ []) ≡ Ok (value.Date d)
+unfolding kind_value date_of
+date_read s date.Current place span h = own_date s (codes "*CURRENT") date.Current place span refl refl
+date_read s date.MonthStart place span h = own_date s (codes "*MONTHSTR") date.MonthStart place span refl refl
+date_read s date.MonthEnd place span h = own_date s (codes "*MONTHEND") date.MonthEnd place span refl refl
+date_read s (date.Weekday n) place span h =
+    by_weekday (IsWeekday s)
+    (λ p a. own_date s (codes "*MON") (date.Weekday 1) p a refl refl) (λ p a. own_date s (codes "*TUE") (date.Weekday 2) p a refl refl) (λ p a. own_date s (codes "*WED") (date.Weekday 3) p a refl refl)
+    (λ p a. own_date s (codes "*THU") (date.Weekday 4) p a refl refl) (λ p a. own_date s (codes "*FRI") (date.Weekday 5) p a refl refl) (λ p a. own_date s (codes "*SAT") (date.Weekday 6) p a refl refl)
+    (λ p a. own_date s (codes "*SUN") (date.Weekday 7) p a refl refl) n h place span
+date_read s (date.Day n) place span h =
+    word_read kind.Date s place span (zero_padded 8 n) (value.Date (date.Day n)) (not_special s span (zero_padded 8 n) (plain_day n h)) (ap (option_map value.Date) (day_read n h))
+
+-- times
+second_small : (n : ℕ) → nat_lt n 86400 ≡ true → n < 86400
+second_small n h = grind (arith, nat_tests)
+
+pub plain_second : (n : ℕ) → nat_lt n 86400 ≡ true → Plain (second_text n)
+plain_second n h = let small = second_small n h in plain_digits (second_text n) (six_some n small) (six_digits n small)
+
+at_read : (n : ℕ) → nat_lt n 86400 ≡ true → time_of true (second_text n) ≡ Some (time.At n)
+unfolding time_of
+at_read n h =
+    ap (λ c. cond c (Some time.Current) (second_of (number_of 6 6 0 999999 (second_text n)))) (plain_no_star (second_text n) (codes "CURRENT") (plain_second n h))
+    ∙ second_back n (second_small n h)
+
+time_read : (s : Special) (t : TimeSpec) (place : ℕ) (span : Span) → FitsKind kind.Time (value.Time t) → one_read kind.Time s place (ItemWord span (time_text t) ∷ []) ≡ Ok (value.Time t)
+unfolding kind_value time_of
+time_read s time.Current place span h = word_read kind.Time s place span (codes "*CURRENT") (value.Time time.Current) (own_special s span (codes "*CURRENT") refl) refl
+time_read s (time.At n) place span h =
+    word_read kind.Time s place span (second_text n) (value.Time (time.At n)) (not_special s span (second_text n) (plain_second n h)) (ap (option_map value.Time) (at_read n h))
+
+-- choices
+flag_read : (s : Special) (b : Bool) (place : ℕ) (span : Span) → one_read kind.Flag s place (ItemWord span (flag_text b) ∷ []) ≡ Ok (value.Flag b)
+unfolding kind_value
+flag_read s true place span = word_read kind.Flag s place span (codes "*YES") (value.Flag true) (own_special s span (codes "*YES") refl) refl
+flag_read s false place span = word_read kind.Flag s place span (codes "*NO") (value.Flag false) (own_special s span (codes "*NO") refl) refl
+
+ending_read : (s : Special) (e : EndOption) (place : ℕ) (span : Span) → one_read kind.Ending s place (ItemWord span (ending_text e) ∷ []) ≡ Ok (value.Ending e)
+unfolding kind_value
+ending_read s Cntrld place span = word_read kind.Ending s place span (codes "*CNTRLD") (value.Ending Cntrld) (own_special s span (codes "*CNTRLD") refl) refl
+ending_read s Immed place span = word_read kind.Ending s place span (codes "*IMMED") (value.Ending Immed) (own_special s span (codes "*IMMED") refl) refl
+
+-- compare values
+compare_read : (c : Cmp) (place : ℕ) (items : List Item) → FitsCompare c → list_tokens items ≡ value_tokens (value.Compare c) → compared place items ≡ Ok (value.Compare c)
+compare_read Any place items h e = word_only items (codes "*ANY") e (λ l. compared place l ≡ Ok (value.Compare Any)) (λ span. refl)
+compare_read (Val text start) place items h e =
+    let small : 80 < 1000000000 = omega arith in
+    let range = and_parts _ _ (and_parts _ _ h.1).0 in
+    both_only items text (decimal start) e (λ l. compared place l ≡ Ok (value.Compare (Val text start)))
+    (λ a b.
+    ap (λ o. or_bad place (text_from (Some text) o)) (number_decimal 1 80 start small range.1)
+    ∙ ap (λ c. or_bad place (cond c (Some (value.Compare (Val text start))) None)) h.1)
+
+-- each kind of value
+pub plain_decimal : (low high n : ℕ) → nat_lt high 1000000000 ≡ true → within low high n ≡ true → Plain (decimal n)
+plain_decimal low high n sound h =
+    let top : high < 1000000000 = grind (arith, nat_tests) in
+    let small = number_small low high n top h in
+    plain_digits (decimal n) (decimal_some n small) (decimal_digits n small)
+
+number_read : (low high n : ℕ) → nat_lt high 1000000000 ≡ true → within low high n ≡ true → number_of 1 9 low high (decimal n) ≡ Some n
+number_read low high n sound h = let top : high < 1000000000 = grind (arith, nat_tests) in number_decimal low high n top h
+
+pub value_read : (k : Kind) (s : Special) (v : Value) (place : ℕ) (items : List Item) → is_sound k s ≡ true → FitsKind k v → list_tokens items ≡ value_tokens v → row_value k s place items ≡ Ok v
+unfolding kind_value
+value_read kind.Object s (value.Object q) place items sound h e =
+    word_only items (qname_text q) e (λ l. one_read kind.Object s place l ≡ Ok (value.Object q))
+    (λ span. word_read kind.Object s place span (qname_text q) (value.Object q) (not_special s span (qname_text q) (plain_qname q h)) (ap (option_map value.Object) (object_read q h)))
+value_read kind.Program s (value.Object q) place items sound h e =
+    word_only items (qname_text q) e (λ l. one_read kind.Program s place l ≡ Ok (value.Object q))
+    (λ span. word_read kind.Program s place span (qname_text q) (value.Object q) (not_special s span (qname_text q) (plain_qname q h)) (ap (option_map value.Object) (program_read q h)))
+value_read kind.Name s (value.Name n) place items sound h e =
+    word_only items n e (λ l. one_read kind.Name s place l ≡ Ok (value.Name n))
+    (λ span. word_read kind.Name s place span n (value.Name n) (not_special s span n (plain_name n h)) (ap (option_map value.Name) (name_is n h)))
+value_read (kind.Text low high) s (value.Text t) place items sound h e =
+    quoted_only items t e (λ l. one_read (kind.Text low high) s place l ≡ Ok (value.Text t))
+    (λ span. quoted_read (kind.Text low high) s place span t (value.Text t) (ap (λ c. cond c (Some (value.Text t)) None) h.1))
+value_read kind.Path s (value.Text t) place items sound h e =
+    quoted_only items t e (λ l. one_read kind.Path s place l ≡ Ok (value.Text t))
+    (λ span. quoted_read kind.Path s place span t (value.Text t) (ap (λ c. cond c (Some (value.Text t)) None) h.1))
+value_read (kind.Number low high) s (value.Number n) place items sound h e =
+    word_only items (decimal n) e (λ l. one_read (kind.Number low high) s place l ≡ Ok (value.Number n))
+    (λ span. word_read (kind.Number low high) s place span (decimal n) (value.Number n) (not_special s span (decimal n) (plain_decimal low high n sound h)) (ap (option_map value.Number) (number_read low high n sound h)))
+value_read kind.Flag s (value.Flag b) place items sound h e =
+    word_only items (flag_text b) e (λ l. one_read kind.Flag s place l ≡ Ok (value.Flag b)) (λ span. flag_read s b place span)
+value_read kind.Ending s (value.Ending o) place items sound h e =
+    word_only items (ending_text o) e (λ l. one_read kind.Ending s place l ≡ Ok (value.Ending o)) (λ span. ending_read s o place span)
+value_read kind.Job s (value.Job j) place items sound h e =
+    word_only items (job_text j) e (λ l. one_read kind.Job s place l ≡ Ok (value.Job j))
+    (λ span. word_read kind.Job s place span (job_text j) (value.Job j) (not_special s span (job_text j) (plain_job j h)) (ap (option_map value.Job) (job_read j h)))
+value_read kind.Compare s (value.Compare c) place items sound h e = compare_read c place items h e
+value_read kind.Date s (value.Date d) place items sound h e =
+    word_only items (date_text d) e (λ l. one_read kind.Date s place l ≡ Ok (value.Date d)) (λ span. date_read s d place span h)
+value_read kind.Time s (value.Time t) place items sound h e =
+    word_only items (time_text t) e (λ l. one_read kind.Time s place l ≡ Ok (value.Time t)) (λ span. time_read s t place span h)
+value_read k s v place items sound h e = absurd h
+
+-- the special word of a row
+never_sound : (b : Bool) → b ≡ true → b ≡ false → ⊥
+never_sound b t f = false≢true (sym f ∙ t)
+
+pub special_back : (k : Kind) (s : Special) (place : ℕ) (items : List Item) → is_sound k s ≡ true → is_never s ≡ false → list_tokens items ≡ Word (special_word s) ∷ [] → row_value k s place items ≡ Ok (value.Special s)
+special_back kind.Compare s place items sound never e = absurd (never_sound (is_never s) sound never)
+special_back kind.Call s place items sound never e = absurd (false≢true sound)
+special_back kind.Anything s place items sound never e = absurd (false≢true sound)
+special_back k s place items sound never e =
+    word_only items (special_word s) e (λ l. row_value k s place l ≡ Ok (value.Special s)) (λ span. special_read k s place span never)

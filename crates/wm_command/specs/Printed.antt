@@ -1,0 +1,109 @@
+-- The text that is printed of a command is read as that command.
+use Rattle.std.specs.Prelude.{◌≡◌, ℕ, ◌≤◌, Bool, true, false, Result, Ok, List, [], ◌∷◌, length, filter, IsTrue}
+use Rattle.wm_base.specs.Name.{IsName}
+use Rattle.wm_base.specs.Text.{IsText}
+use Rattle.wm_base.specs.declared.qname.QName.{QName}
+use Rattle.wm_clwords.specs.Faults.{IsCommand}
+use Rattle.wm_clwords.specs.Grammar.{Mark}
+use Rattle.wm_clwords.specs.Items.{list_marks}
+use Rattle.wm_clwords.specs.declared.tree.Item.{Item}
+use Rattle.wm_desc.specs.Ranges.{path_in_range, cmp_in_range}
+use Rattle.wm_desc.specs.declared.entry.Cmp.{Cmp}
+use Rattle.wm_desc.specs.declared.entry.Cmp.TheVariants.{Any, Val}
+use Rattle.wm_when.specs.Schedule.{within, date_in_range, time_in_range}
+use Rattle.wm_command.specs.declared.commands.Command.{Command}
+use Rattle.wm_command.specs.declared.commands.Command.TheVariants as command
+use Rattle.wm_command.specs.declared.commands.JobRef.{JobRef}
+use Rattle.wm_command.specs.declared.commands.JobRef.TheVariants.{Simple, ByUser, Full}
+use Rattle.wm_command.specs.declared.commands.Line.{Line}
+use Rattle.wm_command.specs.declared.commands.Line.TheVariants as line
+use Rattle.wm_command.specs.declared.fault.CmdFault.{CmdFault}
+use Rattle.wm_command.specs.declared.row.Kind.{Kind}
+use Rattle.wm_command.specs.declared.row.Kind.TheVariants as kind
+use Rattle.wm_command.specs.declared.row.Row.{Row}
+use Rattle.wm_command.specs.declared.value.Value.{Value}
+use Rattle.wm_command.specs.declared.value.Value.TheVariants as value
+use Rattle.wm_command.specs.declared.value.Given.{Given}
+use Rattle.wm_command.specs.declared.verb.Change.{Change}
+use Rattle.wm_command.specs.Each.{go_on, each}
+use Rattle.wm_command.specs.Line.{own_fault, unless, line_of}
+use Rattle.wm_command.specs.Made.{change_made}
+use Rattle.wm_command.specs.Print.{command_text}
+use Rattle.wm_command.specs.Reading.{complete}
+use Rattle.wm_command.specs.Shown.{values_of, verb_of}
+use Rattle.wm_command.specs.Table.{change_rows, change_word}
+use Rattle.wm_command.specs.Values.{is_never}
+
+abbrev pub IsQualified : QName → Type 0
+IsQualified q = IsName q.lib × IsName q.name
+
+abbrev pub FitsJob : JobRef → Type 0
+FitsJob (Simple name) = IsName name
+FitsJob (ByUser user name) = IsName user × IsName name
+FitsJob (Full job) = IsTrue (within 1 999999 job.number) × IsName job.user × IsName job.name
+
+abbrev pub FitsCompare : Cmp → Type 0
+FitsCompare Any = Unit {0}
+FitsCompare (Val text start) = IsText text × IsTrue (cmp_in_range (Val text start))
+
+-- a value has the form and the range of its kind
+abbrev pub FitsKind : Kind → Value → Type 0
+FitsKind kind.Object (value.Object q) = IsQualified q
+FitsKind kind.Program (value.Object q) = IsQualified q
+FitsKind kind.Name (value.Name n) = IsName n
+FitsKind (kind.Text low high) (value.Text t) = IsText t × IsTrue (within low high (length t))
+FitsKind kind.Path (value.Text t) = IsText t × IsTrue (path_in_range t)
+FitsKind (kind.Number low high) (value.Number n) = IsTrue (within low high n)
+FitsKind kind.Flag (value.Flag b) = Unit {0}
+FitsKind kind.Ending (value.Ending e) = Unit {0}
+FitsKind kind.Job (value.Job j) = FitsJob j
+FitsKind kind.Compare (value.Compare c) = FitsCompare c
+FitsKind kind.Date (value.Date d) = IsTrue (date_in_range d)
+FitsKind kind.Time (value.Time t) = IsTrue (time_in_range t)
+FitsKind k v = ⊥
+
+-- it is that of a key's row, or the row's special word
+abbrev pub FitsRow : Row → Value → Type 0
+FitsRow row (value.Special s) = (s ≡ row.2) × (is_never s ≡ false)
+FitsRow row v = FitsKind row.1 v
+
+-- the keys that are printed: all but CMD, TEXT and POOLS
+abbrev pub is_shown : Kind → Bool
+is_shown kind.Call = false
+is_shown kind.Anything = false
+is_shown k = true
+
+abbrev pub shown_rows : List Row → List Row
+shown_rows rows = filter (λ row. is_shown row.1) rows
+
+-- each value fits its row
+abbrev pub FitRows : List Row → List Given → Type 0
+FitRows [] [] = Unit {0}
+FitRows [] (g ∷ given) = ⊥
+FitRows (row ∷ rows) [] = ⊥
+FitRows (row ∷ rows) (g ∷ given) = FitsRow row g.value × FitRows rows given
+
+-- MAXPTY has nine limits
+abbrev pub IsWhole : Command → Type 0
+IsWhole (command.Addjobqe c) = length c.maxpty ≡ 9
+IsWhole c = Unit {0}
+
+-- the command's values keep the forms and the ranges of the table
+pub record IsFit (c : Command) : Type 0 where
+  pub values : FitRows (shown_rows (change_rows (verb_of c))) (values_of c)
+  pub whole : IsWhole c
+
+-- the line of a command with these values, completed by what the table has where none is given
+abbrev pub completed : Change → List Given → Result Line CmdFault
+completed verb given =
+    go_on (each complete given (change_rows verb)) (λ all. unless (own_fault verb all) (line.Change (change_made verb all)))
+
+-- the values that are shown of a command make that command again
+abbrev pub ShownValuesMakeTheCommand : Type 0
+ShownValuesMakeTheCommand = (c : Command) → IsFit c → completed (verb_of c) (values_of c) ≡ Ok (line.Change c)
+
+-- the text of a command of at most 8,192 bytes spells a command, and each tree that it spells is that command's line
+abbrev pub PrintedCommandIsRead : Type 0
+PrintedCommandIsRead = (c : Command) → IsFit c → length (command_text c) ≤ 8192
+    → ((marks : List Mark) × IsCommand (command_text c) (change_word (verb_of c)) marks)
+    × ((user name : List ℕ) (items : List Item) → IsCommand (command_text c) name (list_marks items) → line_of user name items ≡ Ok (line.Change c))
