@@ -5,7 +5,8 @@
 //!
 //! The definitions are in `specs/`: `Table` (what each command's keys take), `Words` (what texts say), `Values` and `Call`
 //! (what the values behind a key are read as), `Reading` (what items give keys), `Fields` and `Made` (commands of values),
-//! `Line` (what a tree is), `Shown` and `Print` (what a command is as text).
+//! `Line` (what a tree is), `Shown` and `Print` (what a command is as text), `Printed` (that this text is read as the
+//! command again).
 #![tactic(auto)]
 
 mod call;
