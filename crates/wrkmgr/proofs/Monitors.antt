@@ -17,7 +17,7 @@ use Rattle.wm_outside.specs.declared.spawner.Told.{Told}
 use Rattle.wm_outside.specs.Told.{Grows}
 use Rattle.wm_outside.proofs.Telling.{Grows-none, Grows-then}
 use Rattle.wrkmgr.specs.Lists.{since, Extends}
-use Rattle.wrkmgr.specs.Monitor.{MonitorView, Advances, RisesBy, is_own, is_spawner_fault, monitor_pass, reported, call_of, as_reports}
+use Rattle.wrkmgr.specs.Monitor.{MonitorView, Advances, Hands, RisesBy, is_own, is_spawner_fault, monitor_pass, reported, call_of, as_reports}
 use Rattle.wrkmgr.specs.Floor.{entry_at, last_of, last_order}
 use Rattle.wrkmgr.specs.View.{view}
 use Rattle.wrkmgr.specs.declared.monitor.Monitor.{Monitor}
@@ -229,3 +229,16 @@ silent_part log m o asked asked' told told' misses misses' none grows tells rise
     let tells_none = subst (λ (x : Option Report). Grows (as_reports told) (as_reports told') (map call_of (option_to_list x))) is tells in
     let rises_none = subst (λ (x : Option Report). RisesBy misses (count_by is_spawner_fault (map call_of (option_to_list x))) misses') is rises in
     unreported_part log m asked asked' told told' misses misses' none grows tells_none rises_none
+
+-- a call of Hand, and then entries of the monitor
+pub Hands-then : (old mid new : List Entry) (e : Entry) → mid ≡ old ++ e ∷ [] → e.call ≡ call.Hand → Extends mid new → Hands old new
+Hands-then old mid new e made is grown =
+    record {
+      entry = e;
+      more = since mid new;
+      whole = grown ∙ (ap (λ (l : List Entry). l ++ since mid new) made ∙ append_assoc old (e ∷ []) (since mid new));
+      call = is;
+    }
+
+pub Hands-only : (old new : List Entry) (e : Entry) → new ≡ old ++ e ∷ [] → e.call ≡ call.Hand → Hands old new
+Hands-only old new e made is = record { entry = e; more = []; whole = made; call = is }

@@ -76,6 +76,13 @@ is_spawner_fault call.Tick = false
 abbrev pub is_own : Entry → Bool
 is_own e = e.caller == monitor_pass && is_monitor_call e.call
 
+-- the next entry is a Hand
+pub record Hands (old new : List Entry) : Type 0 where
+  pub entry : Entry
+  pub more : List Entry
+  pub whole : new ≡ old ++ entry ∷ more
+  pub call : entry.call ≡ call.Hand
+
 -- what stands around a monitor at a moment
 pub record MonitorView : Type 0 where
   pub log : List Entry

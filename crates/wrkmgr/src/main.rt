@@ -4,6 +4,8 @@
 //! the contract of `run`. The definitions are in `specs/`.
 #![tactic(auto)]
 
+ghost use Rattle.std.specs.Prelude.{◌≡◌, ◌⊎◌, IfErr};
+
 mod finish;
 mod floor;
 mod input;
@@ -26,7 +28,9 @@ use std::process::ExitCode;
 use wm_outside::{ReadSource, SysClock, SysSpawner, WriteSink};
 
 // The words behind the program's name, or the status where they can't be had. A word that isn't UTF-8 is a wrong one.
-fn words(rt: &HostRuntime) -> Result<Vec<String>, u8> {
+fn words(rt: &HostRuntime) -> Result<Vec<String>, u8>
+    ensures { IfErr result (λ status. (status ≡ 2) ⊎ (status ≡ 6)) }
+{
     let all = match env::args(rt) {
         Ok(all) => all,
         Err(fault) if fault.kind() == ErrorKind::InvalidData => return Err(WRONG_WORDS),

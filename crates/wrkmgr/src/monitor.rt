@@ -1,7 +1,7 @@
 // What starts the jobs and reports how they ended.
-ghost use Rattle.std.specs.Prelude.{◌≡◌, ◌∷◌, [], map, count_by};
+ghost use Rattle.std.specs.Prelude.{◌≡◌, ◌∷◌, [], None, Ok, map, count_by};
 ghost use Rattle.wm_base.specs.declared.job.Asked.TheVariants.{Start, Kill};
-ghost use Rattle.wm_outside.specs.Told.{Grows};
+ghost use Rattle.wm_outside.specs.Told.{Grows, IsEmpty};
 ghost use Rattle.wm_outside.specs.Cause.{HasCause};
 ghost use Rattle.wrkmgr.specs.Monitor.{RisesBy, as_reports, call_of, is_spawner_fault, looked};
 ghost use Rattle.wrkmgr.specs.declared.monitor.MonitorFault.TheVariants.{WaitFault, NoMemory};
@@ -54,13 +54,13 @@ impl From<AllocError> for MonitorFault {
 }
 
 impl Monitor {
-    ghost use Rattle.std.specs.Prelude.{◌≡◌, ◌≤◌, ◌+◌, ◌-◌, ◌++◌, ◌∷◌, [], ℕ, List, Option, None, Some, length, OnOk, OnErr, IfOk, IsErrOf};
+    ghost use Rattle.std.specs.Prelude.{◌≡◌, ◌≤◌, ◌+◌, ◌-◌, ◌++◌, ◌∷◌, [], ℕ, List, Option, None, Some, Ok, false, length, OnOk, OnErr, IfOk, IsErrOf};
     ghost use Rattle.wm_base.specs.declared.job.Asked.{Asked};
     ghost use Rattle.wm_outside.specs.declared.spawner.Told.{Told};
-    ghost use Rattle.wm_outside.specs.Told.{Grows};
+    ghost use Rattle.wm_outside.specs.Told.{Grows, IsEmpty};
     ghost use Rattle.wm_outside.specs.Cause.{raised};
     ghost use Rattle.wrkmgr.specs.Floor.{entry_at};
-    ghost use Rattle.wrkmgr.specs.Monitor.{Advances, as_reports, call_of, monitor_pass};
+    ghost use Rattle.wrkmgr.specs.Monitor.{Advances, Hands, as_reports, call_of, monitor_pass};
     ghost use Rattle.wrkmgr.specs.View.{view};
 
     /// A monitor that keeps nothing.
@@ -215,6 +215,7 @@ impl Monitor {
         clock: &mut C,
     ) -> Result<(), MonitorFault>
         requires { self.old.kept ≡ None }
+        ensures hand { OnOk result (Hands floor.old floor.new) }
         ensures part { Advances (view floor.old self.old (P.asked spawner.old) (P.told spawner.old) (P.misses spawner.old))
             (view floor.new self.new (P.asked spawner.new) (P.told spawner.new) (P.misses spawner.new)) }
         ensures kept { OnOk result (self.new.kept ≡ None) }
@@ -245,6 +246,7 @@ impl Monitor {
         clock: &mut C,
     ) -> Result<bool, MonitorFault>
         requires { self.old.kept ≡ None }
+        ensures none { result ≡ Ok false → IsEmpty (P.reporting spawner.old) }
         ensures part { Advances (view floor.old self.old (P.asked spawner.old) (P.told spawner.old) (P.misses spawner.old))
             (view floor.new self.new (P.asked spawner.new) (P.told spawner.new) (P.misses spawner.new)) }
         ensures kept { OnOk result (self.new.kept ≡ None) }
@@ -286,6 +288,7 @@ fn kill<P: Spawner>(spawner: &mut P, serial: Serial) -> Result<(), Failed>
 
 // Looks for a report.
 fn look<P: Spawner>(spawner: &mut P) -> Result<Option<Report>, Failed>
+    ensures none { result ≡ Ok None → IsEmpty (P.reporting spawner.old) }
     ensures asked { Grows (P.asked spawner.old) (P.asked spawner.new) [] }
     ensures told { Grows (as_reports (P.told spawner.old)) (as_reports (P.told spawner.new)) (map call_of (looked result)) }
     ensures misses { RisesBy (P.misses spawner.old) (count_by is_spawner_fault (map call_of (looked result))) (P.misses spawner.new) }
@@ -303,6 +306,7 @@ fn wait<P: Spawner, R: Wait>(
     spawner: &mut P,
     until: Option<Moment>,
 ) -> Result<Option<Report>, Failed>
+    ensures none { result ≡ Ok None → until ≡ None → IsEmpty (P.out spawner.old) }
     ensures asked { Grows (P.asked spawner.old) (P.asked spawner.new) [] }
     ensures told { Grows (as_reports (P.told spawner.old)) (as_reports (P.told spawner.new)) (map call_of (looked result)) }
     ensures misses { RisesBy (P.misses spawner.old) (count_by is_spawner_fault (map call_of (looked result))) (P.misses spawner.new) }
