@@ -1,6 +1,7 @@
 -- What stays true while a monitor goes on.
 use Rattle.std.proofs.Common.{◌≡◌, ℕ, ◌≤◌, Option, None}
-use Rattle.wrkmgr.specs.Monitor.{MonitorView, Advances}
+use Rattle.wrkmgr.specs.Lists.{since}
+use Rattle.wrkmgr.specs.Monitor.{MonitorView, Advances, hands_of}
 use Rattle.wrkmgr.specs.declared.report.Report.{Report}
 
 -- a part has been done, no report is kept, and no count has fallen
@@ -13,3 +14,10 @@ pub record MonitorLoop (old new : MonitorView) (before now : ℕ) (kept : Option
 pub record TurnLoop (old new : MonitorView) (before now : ℕ) : Type 0 where
   pub part : Advances old new
   pub looked : before ≤ now
+
+-- a part has been done with so many Hands at least, no report is kept, and no count has fallen
+pub record HandLoop (old new : MonitorView) (before now : ℕ) (kept : Option Report) (made : ℕ) : Type 0 where
+  pub part : Advances old new
+  pub none : kept ≡ None
+  pub faults : before ≤ now
+  pub hands : made ≤ hands_of (since old.log new.log)

@@ -17,7 +17,7 @@ use Rattle.wm_outside.specs.declared.spawner.Told.{Told}
 use Rattle.wm_outside.specs.Told.{Grows}
 use Rattle.wm_outside.proofs.Telling.{Grows-none, Grows-then}
 use Rattle.wrkmgr.specs.Lists.{since, Extends}
-use Rattle.wrkmgr.specs.Monitor.{MonitorView, Advances, Hands, RisesBy, is_own, is_spawner_fault, monitor_pass, reported, call_of, as_reports}
+use Rattle.wrkmgr.specs.Monitor.{MonitorView, Advances, Hands, RisesBy, hands_of, is_own, is_spawner_fault, monitor_pass, reported, call_of, as_reports}
 use Rattle.wrkmgr.specs.Floor.{entry_at, last_of, last_order}
 use Rattle.wrkmgr.specs.View.{view}
 use Rattle.wrkmgr.specs.declared.monitor.Monitor.{Monitor}
@@ -242,3 +242,22 @@ Hands-then old mid new e made is grown =
 
 pub Hands-only : (old new : List Entry) (e : Entry) → new ≡ old ++ e ∷ [] → e.call ≡ call.Hand → Hands old new
 Hands-only old new e made is = record { entry = e; more = []; whole = made; call = is }
+
+hands-append : (xs ys : List Entry) → hands_of (xs ++ ys) ≡ hands_of xs + hands_of ys
+hands-append xs ys = sum_by-append (λ (e : Entry). cond (is_hand e.call) 1 0) xs ys
+
+hands_first : (e : Entry) (more : List Entry) → e.call ≡ call.Hand → 1 ≤ hands_of (e ∷ more)
+hands_first e more is =
+    let t : is_hand e.call ≡ true = ap is_hand is in
+    let one : hands_of (e ∷ []) ≡ 1 = rw t refl in
+    let both : hands_of (e ∷ more) ≡ hands_of (e ∷ []) + hands_of more = hands-append (e ∷ []) more in
+    omega arith
+
+-- one Hand more
+pub hands_more : (old mid new : List Entry) (n : ℕ) → Extends old mid → Extends mid new → Hands mid new → n ≤ hands_of (since old mid) → n + 1 ≤ hands_of (since old new)
+hands_more old mid new n begun grown h some =
+    let more = since-append mid (h.entry ∷ h.more) in
+    let those : since mid new ≡ h.entry ∷ h.more = ap (since mid) h.whole ∙ more in
+    let one = subst (λ (es : List Entry). 1 ≤ hands_of es) (sym those) (hands_first h.entry h.more h.call) in
+    let all = ap hands_of (since-then old mid new begun grown) ∙ hands-append (since old mid) (since mid new) in
+    omega arith

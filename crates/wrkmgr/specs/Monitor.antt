@@ -9,7 +9,7 @@ use Rattle.wm_base.specs.declared.job.StartCause.TheVariants as start
 use Rattle.wm_law.specs.declared.call.Call.{Call}
 use Rattle.wm_law.specs.declared.call.Call.TheVariants as call
 use Rattle.wm_law.specs.declared.call.Entry.{Entry}
-use Rattle.wm_law.specs.History.{is_monitor_call, orders, reports}
+use Rattle.wm_law.specs.History.{is_hand, is_monitor_call, orders, reports}
 use Rattle.wm_outside.specs.declared.fault.Failed.{Failed}
 use Rattle.wm_outside.specs.declared.fault.StartFault.{StartFault}
 use Rattle.wm_outside.specs.declared.fault.StartFault.TheVariants as fault
@@ -82,6 +82,10 @@ pub record Hands (old new : List Entry) : Type 0 where
   pub more : List Entry
   pub whole : new ≡ old ++ entry ∷ more
   pub call : entry.call ≡ call.Hand
+
+-- how many Hands there are
+abbrev pub hands_of : List Entry → ℕ
+hands_of es = count_by (λ e. is_hand e.call) es
 
 -- what stands around a monitor at a moment
 pub record MonitorView : Type 0 where

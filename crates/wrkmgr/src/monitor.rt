@@ -54,13 +54,17 @@ impl From<AllocError> for MonitorFault {
 }
 
 impl Monitor {
-    ghost use Rattle.std.specs.Prelude.{◌≡◌, ◌≤◌, ◌+◌, ◌-◌, ◌++◌, ◌∷◌, [], ℕ, List, Option, None, Some, Ok, false, length, OnOk, OnErr, IfOk, IsErrOf};
+    ghost use Rattle.std.specs.Prelude.{◌≡◌, ◌⊎◌, ◌≤◌, ◌+◌, ◌-◌, ◌++◌, ◌∷◌, [], ℕ, List, Option, None, Some, Ok, false, length, OnOk, OnErr, IfOk, IfSome, IsErrOf};
     ghost use Rattle.wm_base.specs.declared.job.Asked.{Asked};
     ghost use Rattle.wm_outside.specs.declared.spawner.Told.{Told};
     ghost use Rattle.wm_outside.specs.Told.{Grows, IsEmpty};
     ghost use Rattle.wm_outside.specs.Cause.{raised};
+    ghost use Rattle.wm_law.specs.History.{after};
+    ghost use Rattle.wm_law.specs.Opening.{opening};
+    ghost use Rattle.wm_law.specs.Pending.{next_due, starting};
     ghost use Rattle.wrkmgr.specs.Floor.{entry_at};
-    ghost use Rattle.wrkmgr.specs.Monitor.{Advances, Hands, as_reports, call_of, monitor_pass};
+    ghost use Rattle.wrkmgr.specs.Lists.{since};
+    ghost use Rattle.wrkmgr.specs.Monitor.{Advances, Hands, as_reports, call_of, hands_of, monitor_pass};
     ghost use Rattle.wrkmgr.specs.View.{view};
 
     /// A monitor that keeps nothing.
@@ -100,13 +104,14 @@ impl Monitor {
         requires { self.old.kept ≡ None }
         ensures part { Advances (view floor.old self.old (P.asked spawner.old) (P.told spawner.old) (P.misses spawner.old))
             (view floor.new self.new (P.asked spawner.new) (P.told spawner.new) (P.misses spawner.new)) }
+        ensures all { OnOk result ((starting (after opening floor.new) ≡ 0) ⊎ (256 ≤ hands_of (since floor.old floor.new))) }
         ensures kept { OnOk result (self.new.kept ≡ None) }
         ensures faults { P.faults spawner.old ≤ P.faults spawner.new }
         ensures wait_fault { IsErrOf result MonitorFault.WaitFault → raised (P.faults spawner.old) ≤ P.faults spawner.new }
     {
         'hands: for _ in 0..MOST_HANDS {
             if floor.orders() == 0 {
-                break;
+                return Ok(());
             }
             self.hand(alloc, floor, spawner, clock)?;
         }
@@ -194,6 +199,8 @@ impl Monitor {
     ) -> Result<(), AllocError>
         ensures part { (asked : Option (List Asked)) (told : Option (List Told)) (misses : ℕ) →
             Advances (view floor.old self.old asked told misses) (view floor.new self.new asked told misses) }
+        ensures due { OnOk result (IfSome (next_due (after opening floor.old)) (λ due. IfSome (C.coming clock.old) (λ now.
+            due ≤ now → floor.new ≡ floor.old ++ entry_at floor.old monitor_pass Call.Tick now ∷ []))) }
         ensures kept { self.new ≡ self.old }
     {
         let now = clock.now();

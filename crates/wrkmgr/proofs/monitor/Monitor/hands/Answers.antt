@@ -1,5 +1,5 @@
-use Rattle.std.proofs.Common.{arith}
-use Rattle.wrkmgr.proofs.Monitors.{Advances-then}
+use Rattle.std.proofs.Common.{arith, inl, inr}
+use Rattle.wrkmgr.proofs.Monitors.{Advances-then, hands_more}
 use Rattle.wrkmgr.proofs.monitor.Monitor.hands.Goals as goal
 
 pub returns-in_err-hand-clause-part : goal.returns-in_err-hand-clause-part
@@ -12,4 +12,5 @@ hands-preserved g c =
       part = Advances-then _ _ _ c.hands.invariant.part c.hand.ensures.part;
       none = c.in_ok-hand.ensures.kept;
       faults = omega arith;
+      hands = hands_more c.args.floor.now c.hands.floor c.hand.new.floor c.hands.counter c.hands.invariant.part.log c.hand.ensures.part.log c.in_ok-hand.ensures.hand c.hands.invariant.hands;
     }
