@@ -5,10 +5,10 @@ use Rattle.wm_base.specs.declared.job.StartOrder.{StartOrder}
 use Rattle.wm_base.specs.declared.qname.QName.{QName}
 use Rattle.wm_base.specs.declared.refusal.Refusal.{Refusal}
 use Rattle.wm_law.specs.declared.call.Call.TheVariants.{Change, Hand, Started, StartFailed, Finished, UseDone, Tick}
-use Rattle.wm_law.specs.declared.call.Command.{Command}
-use Rattle.wm_law.specs.declared.call.Command.TheVariants as command
+use Rattle.wm_law.specs.declared.command.Command.{Command}
+use Rattle.wm_law.specs.declared.command.Command.TheVariants as command
 use Rattle.wm_law.specs.declared.call.Reply.TheVariants.{No}
-use Rattle.wm_law.specs.declared.call.Sbmjob.{Sbmjob}
+use Rattle.wm_law.specs.declared.command.Sbmjob.{Sbmjob}
 use Rattle.wm_law.specs.declared.job.Job.{Job}
 use Rattle.wm_law.specs.declared.job.Phase.{Phase}
 use Rattle.wm_desc.specs.declared.description.Jobd.{Jobd}

@@ -6,10 +6,11 @@ use Rattle.wm_law.specs.declared.call.Call.{Call}
 use Rattle.wm_law.specs.declared.call.Call.TheVariants.{Change, Hand, Started, StartFailed, Finished, UseDone, Tick}
 use Rattle.wm_law.specs.declared.call.Entry.{Entry}
 use Rattle.wm_law.specs.declared.call.Reply.{Reply}
-use Rattle.wm_law.specs.declared.call.Reply.TheVariants.{SbsStarted, Submitted, PowerDown, Order, Nothing, Noted, No}
+use Rattle.wm_law.specs.declared.call.Reply.TheVariants.{Made, SbsStarted, Submitted, PowerDown, Order, Nothing, Noted, No}
 use Rattle.wm_law.specs.declared.state.State.{State}
 use Rattle.wm_law.specs.Fit.{IsCall, IsBuilt}
-use Rattle.wm_law.specs.Machine.{step, Stepped}
+use Rattle.wm_law.specs.Machine.{step}
+use Rattle.wm_law.specs.Stepped.{Stepped}
 
 -- what the machine does at an entry
 abbrev pub stepped : State → Entry → Stepped
@@ -49,6 +50,7 @@ is_monitor_call Tick = true
 
 -- what a reply orders
 abbrev pub order_in : Reply → Option Asked
+order_in Made = None
 order_in (SbsStarted sbs) = None
 order_in (Submitted job jobq) = None
 order_in PowerDown = None

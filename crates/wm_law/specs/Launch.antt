@@ -1,6 +1,6 @@
 -- What becomes of a job whose turn has come, and what its monitor is told to start.
-use Rattle.std.specs.Prelude.{ℕ, Bool, true, false, ◌-◌, ◌++◌, ◌==◌, List, length, take, drop, Option, Some, None, find, map, replicate, codes, nat_eq, if◌then◌else◌, option_map, option_and_then, option_to_list}
-use Rattle.std.specs.List.{list_any, starts_with, ends_with}
+use Rattle.std.specs.Prelude.{ℕ, Bool, true, false, ◌-◌, ◌++◌, ◌==◌, List, [], take, drop, Option, Some, None, find, map, replicate, nat_eq, if◌then◌else◌, option_and_then, option_to_list}
+use Rattle.std.specs.List.{starts_with}
 use Rattle.wm_base.specs.declared.qname.QName.{QName}
 use Rattle.wm_base.specs.declared.job.How.{How}
 use Rattle.wm_base.specs.declared.job.How.TheVariants.{NotYet, FromQueue, Auto, Pre}
@@ -23,6 +23,7 @@ use Rattle.wm_law.specs.Counts.{count_by_route}
 use Rattle.wm_desc.specs.Sorted.{with_key}
 use Rattle.wm_desc.specs.Table.{object_named, is_qcmd}
 use Rattle.wm_desc.specs.Opening.{echo}
+use Rattle.wm_law.specs.Request.{is_call, values_of}
 
 -- routing data, extended with blanks to 80 characters
 abbrev pub extended : List ℕ → List ℕ
@@ -41,44 +42,23 @@ is_match (Val value start) rtgdta = has_value value start rtgdta
 abbrev pub route : Sbsd → List ℕ → Option RouteEntry
 route d rtgdta = find (λ e. is_match e.cmp rtgdta) d.routes
 
--- what stands before and behind the parameter in the request that is a CALL of QGPL/ECHO with one
-abbrev pub before_parameter : List ℕ
-before_parameter = codes "CALL PGM(QGPL/ECHO) PARM('"
-
-abbrev pub behind_parameter : List ℕ
-behind_parameter = codes "')"
-
--- such a request
-abbrev pub call_request : List ℕ → List ℕ
-call_request parameter = before_parameter ++ parameter ++ behind_parameter
-
--- the bytes behind the mark, where they begin with it
-abbrev pub without_front : List ℕ → List ℕ → Option (List ℕ)
-without_front mark bytes = if starts_with nat_eq bytes mark then Some (drop (length mark) bytes) else None
-
--- the bytes before the mark, where they end with it
-abbrev pub without_end : List ℕ → List ℕ → Option (List ℕ)
-without_end mark bytes = if ends_with nat_eq bytes mark then Some (take (length bytes - length mark) bytes) else None
-
--- a parameter that stands in apostrophes as it is: without an apostrophe
-abbrev pub plain : List ℕ → Option (List ℕ)
-plain parameter = if list_any (λ b. b == 39) parameter then None else Some parameter
-
--- the parameter of such a request
-unfoldable pub parameter_of : List ℕ → Option (List ℕ)
-parameter_of request = option_and_then plain (option_and_then (without_end behind_parameter) (without_front before_parameter request))
-
--- the program that a request calls: QGPL/ECHO, where the request is such a CALL
+-- the program of a request that is a CALL of QGPL/ECHO
 abbrev pub requested : Option (List ℕ) → Option QName
-requested request = option_map (λ p. echo) (option_and_then parameter_of request)
+requested None = None
+requested (Some request) = if is_call request then Some echo else None
+
+-- its values
+abbrev pub args_of : Option (List ℕ) → List (List ℕ)
+args_of None = []
+args_of (Some request) = values_of request
 
 -- the program that a routing entry's program calls: QSYS/QCMD that of the request, another program itself
 abbrev pub called_program : RouteEntry → Option (List ℕ) → Option QName
 called_program e request = if is_qcmd e.pgm then requested request else Some e.pgm
 
--- the arguments that it gets: from QSYS/QCMD the parameter, else the request, where there is one
+-- the arguments that it gets: from QSYS/QCMD the values of the request, else the request, where there is one
 abbrev pub called_args : RouteEntry → Option (List ℕ) → List (List ℕ)
-called_args e request = if is_qcmd e.pgm then option_to_list (option_and_then parameter_of request) else option_to_list request
+called_args e request = if is_qcmd e.pgm then args_of request else option_to_list request
 
 -- why a program object can't be started: there is none
 abbrev pub missing_program : Option Program → Option EndCause

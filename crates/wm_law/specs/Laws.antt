@@ -16,7 +16,10 @@ use Rattle.wm_desc.specs.Sorted.{IsSortedOnce}
 use Rattle.wm_law.specs.declared.state.State.{State}
 use Rattle.wm_law.specs.declared.state.Sbs.{Sbs}
 use Rattle.wm_law.specs.Choice.{is_ready, holder, entry_for, is_allowed, next}
-use Rattle.wm_law.specs.Launch.{call_request, is_match, parameter_of, route}
+use Rattle.wm_law.specs.Launch.{is_match, route}
+use Rattle.wm_law.specs.Request.{is_call, values_of}
+use Rattle.wm_clwords.specs.CallText.{call_text}
+use Rattle.wm_desc.specs.Opening.{echo}
 use Rattle.wm_law.specs.Machine.{apply, step, settle, with_clock}
 use Rattle.wm_desc.specs.Table.{object_named}
 
@@ -101,6 +104,6 @@ RefusalLeaves = (s : State) (caller : ℕ) (call : Call) (x : Refusal) → (appl
 abbrev pub RefusedStepSettles : Type 0
 RefusedStepSettles = (s : State) (caller : ℕ) (call : Call) (moment : ℕ) (x : Refusal) → (step s caller call moment).reply ≡ No x → (step s caller call moment).state ≡ settle (with_clock s moment)
 
--- the parameter of a request is the text that was put into it, where that has no apostrophe
-abbrev pub ParameterIsRead : Type 0
-ParameterIsRead = (text : List ℕ) → list_any (λ b. b == 39) text ≡ false → parameter_of (call_request text) ≡ Some text
+-- the canonical text of a CALL of QGPL/ECHO with at most 40 values is a CALL with these values
+abbrev pub ValuesAreRead : Type 0
+ValuesAreRead = (values : List (List ℕ)) → length values ≤ 40 → (is_call (call_text echo values) ≡ true) × (values_of (call_text echo values) ≡ values)

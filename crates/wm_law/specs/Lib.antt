@@ -6,5 +6,8 @@ pub mod Kept
 pub mod Launch
 pub mod Laws
 pub mod Machine
+pub mod Making
 pub mod Opening
 pub mod Pending
+pub mod Request
+pub mod Stepped

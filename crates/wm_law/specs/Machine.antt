@@ -19,11 +19,11 @@ use Rattle.wm_base.specs.declared.refusal.PhaseWord.TheVariants as word
 use Rattle.wm_base.specs.Iterate.{iterate}
 use Rattle.wm_law.specs.declared.call.Call.{Call}
 use Rattle.wm_law.specs.declared.call.Call.TheVariants.{Change, Hand, Started, StartFailed, Finished, UseDone, Tick}
-use Rattle.wm_law.specs.declared.call.Command.{Command}
-use Rattle.wm_law.specs.declared.call.Command.TheVariants as command
+use Rattle.wm_law.specs.declared.command.Command.{Command}
+use Rattle.wm_law.specs.declared.command.Command.TheVariants as command
 use Rattle.wm_law.specs.declared.call.Reply.{Reply}
 use Rattle.wm_law.specs.declared.call.Reply.TheVariants.{SbsStarted, Submitted, PowerDown, Order, Nothing, Noted, No}
-use Rattle.wm_law.specs.declared.call.Sbmjob.{Sbmjob}
+use Rattle.wm_law.specs.declared.command.Sbmjob.{Sbmjob}
 use Rattle.wm_law.specs.declared.job.Job.{Job}
 use Rattle.wm_law.specs.declared.job.JobKind.TheVariants.{Bch}
 use Rattle.wm_law.specs.declared.job.Phase.{Phase}
@@ -39,16 +39,9 @@ use Rattle.wm_law.specs.declared.state.Power.TheVariants.{On, Down, DownNow}
 use Rattle.wm_law.specs.Choice.{next}
 use Rattle.wm_law.specs.Counts.{is_waiting, is_starting, count_in_sbs}
 use Rattle.wm_law.specs.Launch.{launch, order_of}
+use Rattle.wm_law.specs.Making.{make_class, make_queue, make_program, make_job_description, make_description, add_queue, add_route, remove_queue, remove_route}
+use Rattle.wm_law.specs.Stepped.{Stepped, refused}
 use Rattle.wm_desc.specs.Table.{object_named}
-
--- a reply, and the state after it
-pub record Stepped : Type 0 where
-  pub reply : Reply
-  pub state : State
-
--- a refusal leaves the state
-abbrev pub refused : State → Refusal → Stepped
-refused s x = record { reply = No x; state = s }
 
 abbrev pub is_on : Power → Bool
 is_on On = true
@@ -237,10 +230,24 @@ use_done s m serial = done_with s m (find (λ j. j.serial == serial) s.jobs)
 
 -- What is called
 
+-- a command that isn't built yet does nothing, and stands in no legal history
+abbrev pub unbuilt : State → Stepped
+unbuilt s = record { reply = Nothing; state = s }
+
 abbrev pub change : State → List ℕ → Command → Stepped
+change s user (command.Crtcls c) = make_class s c
+change s user (command.Crtjobq c) = make_queue s c
+change s user (command.Crtpgmref c) = make_program s c
+change s user (command.Crtjobd c) = make_job_description s c
+change s user (command.Crtsbsd c) = make_description s c
+change s user (command.Addjobqe c) = add_queue s c
+change s user (command.Addrtge c) = add_route s c
+change s user (command.Rmvjobqe c) = remove_queue s c
+change s user (command.Rmvrtge c) = remove_route s c
 change s user (command.Strsbs c) = start_subsystem s c.sbsd
 change s user (command.Sbmjob c) = submit s user c
 change s user (command.Pwrdwnsys c) = power_down s
+change s user c = unbuilt s
 
 -- the reply to a call, and the state before it settles
 abbrev pub apply : State → ℕ → Call → Stepped

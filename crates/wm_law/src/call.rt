@@ -1,47 +1,6 @@
 // The calls of the machine, its replies, and the entries of its history.
-use wm_base::{
-    Asked, Exit, JobName, Moment, Name, Priority, QName, Refusal, Serial, StartCause, Text,
-};
-
-/// How fast something ends.
-#[derive(Clone, Copy, Debug, PartialEq, Eq)]
-pub enum EndOption {
-    Cntrld,
-    Immed,
-}
-
-/// STRSBS.
-#[derive(Clone, Debug, PartialEq, Eq, Drop)]
-pub struct Strsbs {
-    pub sbsd: QName,
-}
-
-/// SBMJOB. `None` is *JOBD: the value of the job description, and for `job` its simple name.
-#[derive(Clone, Debug, PartialEq, Eq, Drop)]
-pub struct Sbmjob {
-    pub rqsdta: Option<Text>,
-    pub job: Option<Name>,
-    pub jobd: QName,
-    pub jobq: Option<QName>,
-    pub jobpty: Option<Priority>,
-    pub rtgdta: Option<Text>,
-    pub hold: Option<bool>,
-}
-
-/// PWRDWNSYS. The delay is in seconds, `None` is *NOLIMIT.
-#[derive(Clone, Debug, PartialEq, Eq, Drop)]
-pub struct Pwrdwnsys {
-    pub option: EndOption,
-    pub delay: Option<u32>,
-}
-
-/// A command that changes the state, with its values after defaults.
-#[derive(Clone, Debug, PartialEq, Eq, Drop)]
-pub enum Command {
-    Strsbs(Strsbs),
-    Sbmjob(Sbmjob),
-    Pwrdwnsys(Pwrdwnsys),
-}
+use crate::command::Command;
+use wm_base::{Asked, Exit, JobName, Moment, Name, QName, Refusal, Serial, StartCause};
 
 /// What is called: a command by a user, or a call of a monitor.
 #[derive(Clone, Debug, PartialEq, Eq, Drop)]
@@ -58,6 +17,8 @@ pub enum Call {
 /// What the machine answers.
 #[derive(Clone, Debug, PartialEq, Eq, Drop)]
 pub enum Reply {
+    /// An object was made, or a subsystem description was changed.
+    Made,
     SbsStarted(QName),
     Submitted(JobName, QName),
     PowerDown,

@@ -1,9 +1,9 @@
-// The commands: STRSBS, SBMJOB and PWRDWNSYS.
+// The commands STRSBS, SBMJOB and PWRDWNSYS, and which command a call has.
 ghost use Rattle.std.specs.Prelude.{◌≡◌, IfOk};
 ghost use Rattle.wm_law.specs.Machine.{is_on, is_down_now};
 
 use crate::{Command, Job, JobKind, Phase, Power, Reply, Sbmjob, Sbs, SbsPhase, State, Wish};
-use std::alloc::AllocError;
+use std::alloc::{AllocError, Global};
 use wm_base::{How, JobName, JobNumber, Kind, Name, QName, Refusal, Serial, Text};
 use wm_desc::Jobd;
 
@@ -40,6 +40,7 @@ fn clone_text(text: &Option<Text>) -> Result<Option<Text>, AllocError>
 
 impl State {
     ghost use Rattle.std.specs.Prelude.{◌≡◌, OnOk, OnErr, IfOk, true};
+    ghost use Rattle.wm_law.specs.Fit.{IsCommand};
     ghost use Rattle.wm_law.specs.Machine.{is_started, start_refusal, start_subsystem, has_numbers, submit_refusal, submitted_job, entered, submit, power_down, change};
 
     fn is_started(&self, name: &Name) -> bool
@@ -192,16 +193,32 @@ impl State {
         Reply::PowerDown
     }
 
-    /// Applies a command of a user. An `Err` leaves the state.
-    pub fn change(&mut self, user: &Name, command: &Command) -> Result<Reply, AllocError>
+    /// Applies a command of a user. An `Err` is want of memory and leaves the state.
+    pub fn change(
+        &mut self,
+        alloc: Global,
+        user: &Name,
+        command: &Command,
+    ) -> Result<Reply, AllocError>
+        requires { IsCommand command.now }
         ensures reply { IfOk result (λ r. r ≡ (change self.old user.now command.now).reply) }
         ensures state { OnOk result (self.new ≡ (change self.old user.now command.now).state) }
         ensures err { OnErr result (self.new ≡ self.old) }
     {
         match command {
+            Command::Crtcls(command) => self.make_class(command),
+            Command::Crtjobq(command) => self.make_queue(command),
+            Command::Crtpgmref(command) => self.make_program(command),
+            Command::Crtjobd(command) => self.make_job_description(command),
+            Command::Crtsbsd(command) => self.make_description(alloc, command),
+            Command::Addjobqe(command) => self.add_queue(command),
+            Command::Addrtge(command) => self.add_route(command),
+            Command::Rmvjobqe(command) => Ok(self.remove_queue(command)),
+            Command::Rmvrtge(command) => Ok(self.remove_route(command)),
             Command::Strsbs(command) => self.start_subsystem(&command.sbsd),
             Command::Sbmjob(command) => self.submit(user, command),
             Command::Pwrdwnsys(_) => Ok(self.power_down()),
+            _ => Ok(Reply::Nothing),
         }
     }
 }

@@ -1,60 +1,14 @@
 // What becomes of a job whose turn has come, and what its monitor is told to start.
-ghost use Rattle.std.specs.Prelude.{◌≡◌, IfOk, IfSome};
-ghost use Rattle.wm_base.specs.Text.{IsText};
+ghost use Rattle.std.specs.Prelude.{◌≡◌, IfOk};
 ghost use Rattle.std.specs.Option.{option_copied};
-ghost use Rattle.wm_law.specs.Launch.{without_front, without_end, parameter_of, extended, has_value, is_match, called_program, called_args, route, entry_numbered};
+ghost use Rattle.wm_law.specs.Launch.{requested, args_of, extended, has_value, is_match, called_program, called_args, route, entry_numbered};
 
 use crate::counts::count_by_route;
+use crate::parms::{is_call, values_of};
 use crate::{Job, Phase, State};
 use std::alloc::{AllocError, Global};
 use wm_base::{Args, EndCause, How, QName, StartOrder, Text};
 use wm_desc::{Cmp, RouteEntry, Sbsd, echo, is_qcmd};
-
-/// What stands before the parameter in the request that is a CALL of QGPL/ECHO with one.
-pub const BEFORE_PARAMETER: &[u8] = b"CALL PGM(QGPL/ECHO) PARM('";
-
-/// What stands behind it.
-pub const BEHIND_PARAMETER: &[u8] = b"')";
-
-// The bytes behind the mark, where they begin with it.
-#[tactic(auto, using(crate::proofs::Parameter::text_of_rest))]
-fn without_front<'a>(mark: &[u8], bytes: &'a [u8]) -> Option<&'a [u8]>
-    ensures value { option_copied result ≡ without_front mark.now bytes.now }
-    ensures text { IsText bytes.now → IfSome result (λ rest. IsText rest.now) }
-{
-    if bytes.starts_with(mark) {
-        Some(&bytes[mark.len()..])
-    } else {
-        None
-    }
-}
-
-// The bytes before the mark, where they end with it.
-#[tactic(auto, using(crate::proofs::Parameter::text_of_front))]
-fn without_end<'a>(mark: &[u8], bytes: &'a [u8]) -> Option<&'a [u8]>
-    ensures value { option_copied result ≡ without_end mark.now bytes.now }
-    ensures text { IsText bytes.now → IfSome result (λ front. IsText front.now) }
-{
-    if bytes.ends_with(mark) {
-        Some(&bytes[..bytes.len() - mark.len()])
-    } else {
-        None
-    }
-}
-
-/// The parameter of a request that is such a CALL.
-#[tactic(auto, unfolding(crate::specs::Launch::parameter_of))]
-pub fn parameter_of(request: &[u8]) -> Option<&[u8]>
-    ensures value { option_copied result ≡ parameter_of request.now }
-    ensures text { IsText request.now → IfSome result (λ p. IsText p.now) }
-{
-    let behind = without_front(BEFORE_PARAMETER, request)?;
-    let parameter = without_end(BEHIND_PARAMETER, behind)?;
-    if parameter.contains(&b'\'') {
-        return None;
-    }
-    Some(parameter)
-}
 
 /// How many characters routing data are extended to.
 const ROUTING_DATA: usize = 80;
@@ -105,6 +59,26 @@ fn entry_numbered(description: &Sbsd, seq: u32) -> Option<&RouteEntry>
     description.routes.get(&seq)
 }
 
+// The program that a request calls, where it is a CALL that is read: QGPL/ECHO.
+fn requested(request: &Option<Text>) -> Option<QName>
+    ensures { result ≡ requested request.now }
+{
+    match request {
+        Some(request) if is_call(request.as_bytes()) => Some(echo()),
+        _ => None,
+    }
+}
+
+// The values of the request.
+fn args_of(alloc: Global, request: &Option<Text>) -> Result<Args, AllocError>
+    ensures { IfOk result (λ args. args ≡ args_of request.now) }
+{
+    match request {
+        None => Ok(Args::new(alloc)),
+        Some(request) => values_of(alloc, request),
+    }
+}
+
 // The program that the entry's program calls: QSYS/QCMD that of the request, another one itself.
 fn called_program(entry: &RouteEntry, request: &Option<Text>) -> Option<QName>
     ensures { result ≡ called_program entry.now request.now }
@@ -112,8 +86,7 @@ fn called_program(entry: &RouteEntry, request: &Option<Text>) -> Option<QName>
     if !is_qcmd(&entry.pgm) {
         return Some(entry.pgm);
     }
-    let request = request.as_ref()?;
-    parameter_of(request.as_bytes()).map(|_| echo())
+    requested(request)
 }
 
 // The arguments that it gets.
@@ -124,14 +97,12 @@ fn called_args(
 ) -> Result<Args, AllocError>
     ensures { IfOk result (λ args. args ≡ called_args entry.now request.now) }
 {
+    if is_qcmd(&entry.pgm) {
+        return args_of(alloc, request);
+    }
     let mut args = Args::new(alloc);
-    let Some(request) = request.as_ref() else {
-        return Ok(args);
-    };
-    if !is_qcmd(&entry.pgm) {
+    if let Some(request) = request {
         args.push(request.clone()?)?;
-    } else if let Some(parameter) = parameter_of(request.as_bytes()) {
-        args.push(Text::from_bytes(alloc, parameter)?)?;
     }
     Ok(args)
 }

@@ -1,5 +1,5 @@
 // Laws of the machine: what its definitions come to, each for all states. They are no calls.
-ghost use Rattle.wm_law.specs.Laws.{NextIsFirst, NoNextIsNone, RouteIsLeast, NoRouteIsNone, SettledHasNoNext, SettledLeavesNone, RefusalLeaves, RefusedStepSettles, ParameterIsRead};
+ghost use Rattle.wm_law.specs.Laws.{NextIsFirst, NoNextIsNone, RouteIsLeast, NoRouteIsNone, SettledHasNoNext, SettledLeavesNone, RefusalLeaves, RefusedStepSettles, ValuesAreRead};
 ghost use Rattle.wm_law.specs.Kept.{OpeningIsNumbered, StepKeepsNumbers, NumbersAreGivenOnce, StepGoesOn, StartsOnce, SerialsStartOnce, OpeningHasOrders, StepKeepsOrders, StartingJobsHaveOrders, HandGivesAnOrder, ReachedRouteIsLeast, StepKeepsDescriptions, StartedAreDescribed, StepKeepsQuiet, NoneIsActiveWithoutPower, OpeningHasDistinctNames, StepKeepsNamesDistinct, StartedNamesAreDistinct};
 
 /// The next job is the first of its subsystem: it may start, and no other job there that may start
@@ -81,8 +81,8 @@ pub fn none_is_active_without_power()
     ensures always { NoneIsActiveWithoutPower }
 {}
 
-/// The parameter of a request is the text that was put into it.
-#[tactic(auto, using(crate::proofs::Requests::parameter_is_read))]
-pub fn requests_keep_their_parameter()
-    ensures { ParameterIsRead }
+/// The canonical text of a CALL of QGPL/ECHO is read as a CALL with the same values.
+#[tactic(auto, using(crate::proofs::Requests::values_are_read))]
+pub fn requests_keep_their_values()
+    ensures { ValuesAreRead }
 {}

@@ -7,6 +7,7 @@
 
 mod call;
 mod choice;
+mod command;
 mod commands;
 mod counts;
 mod job;
@@ -15,23 +16,33 @@ mod launch;
 mod laws;
 mod list;
 mod machine;
+mod making;
 mod opening;
+mod parms;
 mod pending;
 mod reports;
+mod request;
 mod settle;
 mod state;
 #[cfg(test)]
 mod tests;
 
-pub use call::{Call, Command, EndOption, Entry, Pwrdwnsys, Reply, Sbmjob, Strsbs};
+pub use call::{Call, Entry, Reply};
 pub use choice::{Candidate, Rank};
+pub use command::{
+    Addaje, Addjobqe, Addpje, Addrtge, Ask, Chgjob, Clrjobq, Command, Crtcls, Crtjobd, Crtjobq,
+    Crtpgmref, Crtsbsd, EndOption, Endjob, Endpj, Endsbs, Enduse, EvokeCommand, Hldjob, Hldjobq,
+    JobRef, Pwrdwnsys, Rlsjob, Rlsjobq, Rmvaje, Rmvjobqe, Rmvpje, Rmvrtge, Sbmjob, Strpj, Strsbs,
+};
 pub use job::{Job, JobKind, Phase, Why, Wish};
-pub use launch::{BEFORE_PARAMETER, BEHIND_PARAMETER, Launched, parameter_of};
+pub use launch::Launched;
 pub use laws::{
     jobs_go_forward, next_job_is_first, none_is_active_without_power, numbers_are_given_once,
-    refusals_leave_the_state, requests_keep_their_parameter, routes_are_least, serials_start_once,
+    refusals_leave_the_state, requests_keep_their_values, routes_are_least, serials_start_once,
     settling_leaves_none, started_are_described, started_names_are_distinct,
     starting_jobs_have_orders,
 };
 pub use list::ListOf;
+pub use parms::{is_call, values_of};
+pub use request::{Place, Progress, Values};
 pub use state::{Evoke, Power, Sbs, SbsPhase, State, Stop};

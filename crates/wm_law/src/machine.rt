@@ -14,17 +14,18 @@ fn later(a: Moment, b: Moment) -> Moment
 
 impl State {
     ghost use Rattle.std.specs.Prelude.{◌≡◌, OnOk, OnErr, IfOk};
-    ghost use Rattle.wm_law.specs.Fit.{IsBuilt};
+    ghost use Rattle.wm_law.specs.Fit.{IsBuilt, IsCall};
     ghost use Rattle.wm_law.specs.Machine.{apply, step};
 
     // The reply to a call, and the state before it settles.
     fn apply(&mut self, alloc: Global, caller: u32, call: &Call) -> Result<Reply, AllocError>
+        requires { IsCall call.now }
         ensures reply { IfOk result (λ r. r ≡ (apply self.old caller call.now).reply) }
         ensures state { OnOk result (self.new ≡ (apply self.old caller call.now).state) }
         ensures err { OnErr result (self.new ≡ self.old) }
     {
         match call {
-            Call::Change { user, command } => self.change(user, command),
+            Call::Change { user, command } => self.change(alloc, user, command),
             Call::Hand => self.hand(alloc, caller),
             Call::Started(serial) => Ok(self.report_started(caller, *serial)),
             Call::StartFailed(serial, cause) => Ok(self.report_start_failed(
@@ -36,7 +37,7 @@ impl State {
         }
     }
 
-    /// One step. An `Err` leaves the state. PWRDWNSYS is built with OPTION(*IMMED) alone, where no job is active.
+    /// One step. An `Err` is want of memory and leaves the state.
     #[tactic(auto, unfolding(crate::specs::Machine::step))]
     pub fn step(
         &mut self,
@@ -45,7 +46,8 @@ impl State {
         call: &Call,
         now: Moment,
     ) -> Result<Reply, AllocError>
-        requires { IsBuilt self.old call.now }
+        requires ranges { IsCall call.now }
+        requires built { IsBuilt self.old call.now }
         ensures reply { IfOk result (λ r. r ≡ (step self.old caller call.now now).reply) }
         ensures state { OnOk result (self.new ≡ (step self.old caller call.now now).state) }
         ensures err { OnErr result (self.new ≡ self.old) }

@@ -10,6 +10,7 @@ use wm_base::{
     Priority, QName, Refusal, Serial, StartCause, StartOrder, Text,
 };
 use wm_desc::{qbatch, qdftjobd};
+use wm_when::{DateSpec, TimeSpec};
 
 mod order;
 mod path;
@@ -56,6 +57,8 @@ fn echo_job(alloc: Global, name: Name) -> Result<Sbmjob, AllocError> {
         jobpty: None,
         rtgdta: Some(Text::from_bytes(alloc, b"QCMDB")?),
         hold: None,
+        scddate: DateSpec::Current,
+        scdtime: TimeSpec::Current,
     })
 }
 

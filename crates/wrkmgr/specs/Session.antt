@@ -2,8 +2,8 @@
 use Rattle.std.specs.Prelude.{◌≡◌, ℕ, Bool, true, false, ◌||◌, List, [], ◌∷◌, ◌++◌, Option, Some, None, codes}
 use Rattle.wm_law.specs.declared.call.Call.{Call}
 use Rattle.wm_law.specs.declared.call.Call.TheVariants.{Change}
-use Rattle.wm_law.specs.declared.call.Command.TheVariants.{Strsbs, Sbmjob, Pwrdwnsys}
-use Rattle.wm_law.specs.declared.call.EndOption.TheVariants.{Immed}
+use Rattle.wm_law.specs.declared.command.Command.TheVariants.{Strsbs, Sbmjob, Pwrdwnsys}
+use Rattle.wm_law.specs.declared.command.EndOption.TheVariants.{Immed}
 use Rattle.wm_law.specs.declared.call.Entry.{Entry}
 use Rattle.wm_law.specs.Launch.{call_request}
 use Rattle.wm_desc.specs.Opening.{qbatch, qdftjobd}
