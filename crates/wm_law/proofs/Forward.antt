@@ -19,12 +19,15 @@ use Rattle.wm_law.specs.declared.job.Phase.TheVariants.{Waiting, Starting, Hande
 use Rattle.wm_law.specs.declared.launch.Launched.{Launched}
 use Rattle.wm_desc.specs.declared.description.Jobd.{Jobd}
 use Rattle.wm_law.specs.declared.state.State.{State}
+use Rattle.wm_desc.specs.declared.objects.Objects.{Objects}
+use Rattle.wm_law.specs.Making.{made_unless}
 use Rattle.wm_law.specs.Choice.{next}
 use Rattle.wm_law.specs.Counts.{is_starting, is_waiting}
 use Rattle.wm_law.specs.Kept.{IsDistinct, IsNumbered, phase_rank, IsLater, GoesOn, StepGoesOn}
 use Rattle.wm_law.specs.Launch.{order_of, launch, launch_job, launched, launched_at}
 use Rattle.wm_law.specs.Laws.{IsIn}
-use Rattle.wm_law.specs.Machine.{Stepped, apply, step, settle, leave, waiting, with_clock, with_phase, phased_at, start_refusal, start_unless, submit_refusal, submit_unless, submit_with, submitted_job, is_on, is_down_now, change, hand_job, hand_order, report_on, is_handed_to, is_run_by, done_with}
+use Rattle.wm_law.specs.Stepped.{Stepped}
+use Rattle.wm_law.specs.Machine.{apply, step, settle, leave, waiting, with_clock, with_phase, phased_at, start_refusal, start_unless, submit_refusal, submit_unless, submit_with, submitted_job, is_on, is_down_now, change, hand_job, hand_order, report_on, is_handed_to, is_run_by, done_with}
 use Rattle.wm_desc.specs.Table.{object_named}
 use Rattle.wm_law.proofs.Numbers.{launches_keep, apply_keeps, clock_keeps, only_started}
 use Rattle.wm_law.proofs.Settling.{IsFrom, from_some, same_serial, waits}
@@ -146,10 +149,24 @@ submitted_with : (s : State) (user : List ℕ) (c : Sbmjob) (d : Option Jobd) �
 submitted_with s user c None = stays s
 submitted_with s user c (Some d) = submitted s user c d (submit_refusal s c d)
 
+made : (s : State) (objects : Objects) (o : Option Refusal) → GoesOn s (made_unless s objects o).state
+made s objects None j i = (j, i, no_less j)
+made s objects (Some y) j i = (j, i, no_less j)
+
 changed : (s : State) (user : List ℕ) (c : Command) → GoesOn s (change s user c).state
+changed s user (command.Crtcls c) = made s _ _
+changed s user (command.Crtjobq c) = made s _ _
+changed s user (command.Crtpgmref c) = made s _ _
+changed s user (command.Crtjobd c) = made s _ _
+changed s user (command.Crtsbsd c) = made s _ _
+changed s user (command.Addjobqe c) = made s _ _
+changed s user (command.Addrtge c) = made s _ _
+changed s user (command.Rmvjobqe c) = made s _ _
+changed s user (command.Rmvrtge c) = made s _ _
 changed s user (command.Strsbs c) = start s c.sbsd (start_refusal s c.sbsd)
 changed s user (command.Sbmjob c) = either s (is_on s.power) _ _ (λ e. submitted_with s user c (object_named c.jobd s.objects.jobds)) (λ e. stays s)
 changed s user (command.Pwrdwnsys c) = either s (is_down_now s.power) _ _ (λ e. stays s) (λ e j i. (j, i, no_less j))
+changed s user c = stays s
 
 pub starting_rank : (p : Phase) → is_starting p ≡ true → phase_rank p ≡ 1
 starting_rank Waiting h = absurd (cc)

@@ -6,6 +6,7 @@ pub mod Requests
 pub mod Ranks
 pub mod Firsts
 pub mod Numbers
+pub mod Objects
 pub mod Forward
 pub mod Starts
 pub mod Members

@@ -1,4 +1,4 @@
--- What a step can do to a state: a call does one thing of five, and settling launches jobs and lets subsystems leave.
+-- What a step can do to a state: a call does one thing of six, and settling launches jobs and lets subsystems leave.
 use Rattle.std.proofs.Common.{◌≡◌, ℕ, ◌==◌, not, Bool, true, false, cond, List, [], ◌∷◌, map, Option, Some, None, refl}
 use Rattle.std.specs.List.{find}
 use Rattle.wm_base.specs.declared.job.StartOrder.{StartOrder}
@@ -18,10 +18,14 @@ use Rattle.wm_desc.specs.declared.description.Jobd.{Jobd}
 use Rattle.wm_law.specs.declared.state.State.{State}
 use Rattle.wm_law.specs.declared.state.Power.TheVariants.{DownNow}
 use Rattle.wm_law.specs.Choice.{next}
+use Rattle.wm_desc.specs.declared.objects.Objects.{Objects}
+use Rattle.wm_law.proofs.Objects.{IsObjectChange, class_made, queue_made, program_made, job_description_made, description_made, queue_added, route_added, queue_removed, route_removed}
+use Rattle.wm_law.specs.Making.{made_unless}
 use Rattle.wm_law.specs.Counts.{is_starting}
 use Rattle.wm_law.specs.History.{after, stepped}
 use Rattle.wm_law.specs.Launch.{order_of, launch}
-use Rattle.wm_law.specs.Machine.{Stepped, apply, step, leave, waiting, with_clock, with_phase, start_refusal, start_unless, submit_refusal, submit_unless, submit_with, submitted_job, entered, has_numbers, end_now, is_on, is_down_now, change, hand_job, hand_order, report_on, is_handed_to, is_run_by, done_with}
+use Rattle.wm_law.specs.Stepped.{Stepped}
+use Rattle.wm_law.specs.Machine.{apply, step, leave, waiting, with_clock, with_phase, start_refusal, start_unless, submit_refusal, submit_unless, submit_with, submitted_job, entered, has_numbers, end_now, is_on, is_down_now, change, hand_job, hand_order, report_on, is_handed_to, is_run_by, done_with}
 use Rattle.wm_desc.specs.Table.{object_named}
 
 -- P holds after whatever a call can do to the state
@@ -31,6 +35,7 @@ pub record HoldsAfterCalls (P : State → Type 0) (s : State) : Type 0 where
   pub enters : (user : List ℕ) (c : Sbmjob) (d : Jobd) → has_numbers s ≡ true → P (entered s (submitted_job s user c d))
   pub moves : (serial : ℕ) (phase : Phase) → is_starting phase ≡ false → P (with_phase s serial phase)
   pub powers : P (record s { started = map end_now s.started; power = DownNow })
+  pub makes : (o : Objects) → IsObjectChange s o → P (record s { objects = o })
 
 either : (P : State → Type 0) (b : Bool) (t u : Stepped) → P t.state → P u.state → P (cond b t u).state
 either P true t u h k = h
@@ -58,10 +63,24 @@ submitted_with : (P : State → Type 0) (s : State) (user : List ℕ) (c : Sbmjo
 submitted_with P s user c None h = h.stays
 submitted_with P s user c (Some d) h = submitted P s user c d (submit_refusal s c d) refl h
 
+made : (P : State → Type 0) (s : State) (objects : Objects) (o : Option Refusal) → (o ≡ None → IsObjectChange s objects) → HoldsAfterCalls P s → P (made_unless s objects o).state
+made P s objects None e h = h.makes objects (e refl)
+made P s objects (Some x) e h = h.stays
+
 changed : (P : State → Type 0) (s : State) (user : List ℕ) (c : Command) → HoldsAfterCalls P s → P (change s user c).state
+changed P s user (command.Crtcls c) h = made P s _ _ (class_made s c) h
+changed P s user (command.Crtjobq c) h = made P s _ _ (queue_made s c) h
+changed P s user (command.Crtpgmref c) h = made P s _ _ (program_made s c) h
+changed P s user (command.Crtjobd c) h = made P s _ _ (job_description_made s c) h
+changed P s user (command.Crtsbsd c) h = made P s _ _ (description_made s c) h
+changed P s user (command.Addjobqe c) h = made P s _ _ (queue_added s c) h
+changed P s user (command.Addrtge c) h = made P s _ _ (route_added s c) h
+changed P s user (command.Rmvjobqe c) h = made P s _ _ (queue_removed s c) h
+changed P s user (command.Rmvrtge c) h = made P s _ _ (route_removed s c) h
 changed P s user (command.Strsbs c) h = start P s c.sbsd (start_refusal s c.sbsd) refl h
 changed P s user (command.Sbmjob c) h = either P (is_on s.power) _ _ (submitted_with P s user c (object_named c.jobd s.objects.jobds) h) h.stays
 changed P s user (command.Pwrdwnsys c) h = either P (is_down_now s.power) _ _ h.stays h.powers
+changed P s user c h = h.stays
 
 ordered : (P : State → Type 0) (s : State) (m : ℕ) (j : Job) (o : Option StartOrder) → HoldsAfterCalls P s → P (hand_order s m j o).state
 ordered P s m j None h = h.stays

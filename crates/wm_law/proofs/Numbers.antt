@@ -146,6 +146,7 @@ calls s h = record {
   enters = λ user c d has. entered_keeps s user c d has h;
   moves = λ serial phase e. numbered_same s _ (phase_same s serial phase) h;
   powers = numbered_same s _ (record { serials = refl; numbers = refl; places = refl; next_number = refl; next_serial = refl; next_place = refl }) h;
+  makes = λ o e. numbered_same s _ (record { serials = refl; numbers = refl; places = refl; next_number = refl; next_serial = refl; next_place = refl }) h;
 }
 
 pub apply_keeps : (s : State) (caller : ℕ) (call : Call) → IsNumbered s → IsNumbered (apply s caller call).state

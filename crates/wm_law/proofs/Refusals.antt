@@ -13,10 +13,13 @@ use Rattle.wm_law.specs.declared.job.Job.{Job}
 use Rattle.wm_law.specs.declared.job.Phase.{Phase}
 use Rattle.wm_desc.specs.declared.description.Jobd.{Jobd}
 use Rattle.wm_law.specs.declared.state.State.{State}
+use Rattle.wm_desc.specs.declared.objects.Objects.{Objects}
+use Rattle.wm_law.specs.Making.{made_unless}
 use Rattle.wm_law.specs.Counts.{is_starting}
 use Rattle.wm_law.specs.Launch.{order_of}
 use Rattle.wm_law.specs.Laws.{RefusalLeaves, RefusedStepSettles}
-use Rattle.wm_law.specs.Machine.{Stepped, step, settle, with_clock, start_refusal, start_unless, submit_refusal, submit_unless, submit_with, is_on, is_down_now, change, hand_job, hand_order, report_on, is_handed_to, is_run_by, done_with}
+use Rattle.wm_law.specs.Stepped.{Stepped}
+use Rattle.wm_law.specs.Machine.{step, settle, with_clock, start_refusal, start_unless, submit_refusal, submit_unless, submit_with, is_on, is_down_now, change, hand_job, hand_order, report_on, is_handed_to, is_run_by, done_with}
 use Rattle.wm_desc.specs.Table.{object_named}
 
 -- where the answer is a refusal, the state is left
@@ -39,10 +42,24 @@ submitted_with : (s : State) (user : List ℕ) (c : Sbmjob) (d : Option Jobd) �
 submitted_with s user c None x e = refl
 submitted_with s user c (Some d) x e = submitted s user c d (submit_refusal s c d) x e
 
+made : (s : State) (objects : Objects) (o : Option Refusal) → Leaves s (made_unless s objects o)
+made s objects None x e = absurd (cc)
+made s objects (Some y) x e = refl
+
 changed : (s : State) (user : List ℕ) (c : Command) → Leaves s (change s user c)
+changed s user (command.Crtcls c) = made s _ _
+changed s user (command.Crtjobq c) = made s _ _
+changed s user (command.Crtpgmref c) = made s _ _
+changed s user (command.Crtjobd c) = made s _ _
+changed s user (command.Crtsbsd c) = made s _ _
+changed s user (command.Addjobqe c) = made s _ _
+changed s user (command.Addrtge c) = made s _ _
+changed s user (command.Rmvjobqe c) = made s _ _
+changed s user (command.Rmvrtge c) = made s _ _
 changed s user (command.Strsbs c) = start s c.sbsd (start_refusal s c.sbsd)
 changed s user (command.Sbmjob c) = either s (is_on s.power) _ _ (submitted_with s user c (object_named c.jobd s.objects.jobds)) (λ x e. refl)
 changed s user (command.Pwrdwnsys c) = either s (is_down_now s.power) _ _ (λ x e. refl) (λ x e. absurd (cc))
+changed s user c x e = absurd (cc)
 
 ordered : (s : State) (m : ℕ) (j : Job) (o : Option StartOrder) → Leaves s (hand_order s m j o)
 ordered s m j None x e = absurd (cc)

@@ -90,6 +90,7 @@ calls s h = record {
   enters = λ user c d has. h;
   moves = λ serial phase e. h;
   powers = subst IsDistinct (sym (map_same name_of end_now (λ b. refl) s.started)) h;
+  makes = λ o e. h;
 }
 
 parts : IsKeptByParts HasDistinctNames

@@ -23,12 +23,15 @@ use Rattle.wm_desc.specs.declared.description.Jobd.{Jobd}
 use Rattle.wm_desc.specs.declared.description.Program.{Program}
 use Rattle.wm_desc.specs.declared.entry.RouteEntry.{RouteEntry}
 use Rattle.wm_law.specs.declared.state.State.{State}
+use Rattle.wm_desc.specs.declared.objects.Objects.{Objects}
+use Rattle.wm_law.specs.Making.{made_unless}
 use Rattle.wm_law.specs.Counts.{is_starting}
 use Rattle.wm_law.specs.History.{stepped, IsEntry, IsLegal, order_in}
 use Rattle.wm_law.specs.Kept.{IsDistinct, IsNumbered, phase_rank, start_in, start_of, starts, StartsOnce, SerialsStartOnce}
 use Rattle.wm_law.specs.Launch.{order_of, order_by, order_through, order_called, order_with, route_entry, called_program, called_args}
 use Rattle.wm_law.specs.Laws.{IsIn}
-use Rattle.wm_law.specs.Machine.{Stepped, apply, step, settle, with_clock, with_phase, phased_at, start_refusal, start_unless, submit_refusal, submit_unless, submit_with, is_on, is_down_now, change, hand_job, hand_order, report_on, is_handed_to, is_run_by, done_with}
+use Rattle.wm_law.specs.Stepped.{Stepped}
+use Rattle.wm_law.specs.Machine.{apply, step, settle, with_clock, with_phase, phased_at, start_refusal, start_unless, submit_refusal, submit_unless, submit_with, is_on, is_down_now, change, hand_job, hand_order, report_on, is_handed_to, is_run_by, done_with}
 use Rattle.wm_desc.specs.Table.{object_named}
 use Rattle.wm_law.proofs.Forward.{only_one, found_in, mapped_in, starting_rank, settle_goes_on, step_goes_on}
 use Rattle.wm_law.specs.Opening.{opening}
@@ -87,10 +90,24 @@ submitted_with : (s : State) (user : List ℕ) (c : Sbmjob) (d : Option Jobd) �
 submitted_with s user c None x e = absurd (cc)
 submitted_with s user c (Some d) x e = submitted s user c d (submit_refusal s c d) x e
 
+made : (s : State) (objects : Objects) (o : Option Refusal) → Hands s (made_unless s objects o)
+made s objects None x e = absurd (cc)
+made s objects (Some y) x e = absurd (cc)
+
 changed : (s : State) (user : List ℕ) (c : Command) → Hands s (change s user c)
+changed s user (command.Crtcls c) = made s _ _
+changed s user (command.Crtjobq c) = made s _ _
+changed s user (command.Crtpgmref c) = made s _ _
+changed s user (command.Crtjobd c) = made s _ _
+changed s user (command.Crtsbsd c) = made s _ _
+changed s user (command.Addjobqe c) = made s _ _
+changed s user (command.Addrtge c) = made s _ _
+changed s user (command.Rmvjobqe c) = made s _ _
+changed s user (command.Rmvrtge c) = made s _ _
 changed s user (command.Strsbs c) = start s c.sbsd (start_refusal s c.sbsd)
 changed s user (command.Sbmjob c) = either s (is_on s.power) _ _ (submitted_with s user c (object_named c.jobd s.objects.jobds)) (λ x e. absurd (cc))
 changed s user (command.Pwrdwnsys c) = either s (is_down_now s.power) _ _ (λ x e. absurd (cc)) (λ x e. absurd (cc))
+changed s user c x e = absurd (cc)
 
 moved : (s : State) (i : Job) (m : ℕ) → IsIn i s.jobs → IsIn (record i { phase = Handed m }) (with_phase s i.serial (Handed m)).jobs
 moved s i m k =

@@ -6,6 +6,7 @@ use Rattle.std.specs.Option.{IsSome, is_some}
 use Rattle.wm_base.specs.declared.qname.QName.{QName}
 use Rattle.wm_base.specs.declared.refusal.Kind.TheVariants as kind
 use Rattle.wm_base.specs.declared.refusal.Refusal.TheVariants.{PoweringDown, NoObject, AlreadyActive, TableFull}
+use Rattle.wm_desc.specs.declared.description.Sbsd.{Sbsd}
 use Rattle.wm_desc.specs.Table.{object_named}
 use Rattle.wm_law.specs.declared.choice.Candidate.{Candidate}
 use Rattle.wm_law.specs.declared.job.Job.{Job}
@@ -47,6 +48,7 @@ described_calls s h = record {
   enters = λ user c d has. h;
   moves = λ serial phase e. h;
   powers = λ b i. (let m = of_mapped end_now s.started b i in subst (λ (x : Sbs). IsSome (object_named x.sbsd s.objects.sbsds)) (sym m.2) (h m.0 m.1));
+  makes = λ o e b i. subst (λ (d : Option Sbsd). IsSome d) (sym (e.described b i (h b i))) (h b i);
 }
 
 described_parts : IsKeptByParts HasDescriptions
@@ -68,6 +70,7 @@ quiet_calls s h = record {
   enters = λ user c d has. h;
   moves = λ serial phase e. h;
   powers = λ off b i. (let m = of_mapped end_now s.started b i in ap (λ (x : Sbs). is_sbs_active x.phase) m.2);
+  makes = λ o e. h;
 }
 
 quiet_parts : IsKeptByParts IsQuiet

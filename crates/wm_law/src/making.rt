@@ -1,5 +1,5 @@
 // The commands that make objects and change subsystem descriptions.
-ghost use Rattle.std.specs.Prelude.{◌≡◌, ◌≢◌, Unit, Result, Option, None, Some, Ok, Err, IfOk, IfErr};
+ghost use Rattle.std.specs.Prelude.{◌≡◌, Option, IfOk};
 ghost use Rattle.wm_base.specs.declared.refusal.Refusal.{Refusal};
 ghost use Rattle.wm_desc.specs.Refusals.{IsAnswer, answer_of};
 ghost use Rattle.wm_law.specs.Making.{class_of, jobd_of, queue_entry_of, route_entry_of, made_reply};
