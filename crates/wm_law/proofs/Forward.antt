@@ -19,8 +19,6 @@ use Rattle.wm_law.specs.declared.job.Phase.TheVariants.{Waiting, Starting, Hande
 use Rattle.wm_law.specs.declared.launch.Launched.{Launched}
 use Rattle.wm_desc.specs.declared.description.Jobd.{Jobd}
 use Rattle.wm_law.specs.declared.state.State.{State}
-use Rattle.wm_desc.specs.declared.objects.Objects.{Objects}
-use Rattle.wm_law.specs.Making.{made_unless}
 use Rattle.wm_law.specs.Choice.{next}
 use Rattle.wm_law.specs.Counts.{is_starting, is_waiting}
 use Rattle.wm_law.specs.Kept.{IsDistinct, IsNumbered, phase_rank, IsLater, GoesOn, StepGoesOn}
@@ -149,20 +147,16 @@ submitted_with : (s : State) (user : List ℕ) (c : Sbmjob) (d : Option Jobd) �
 submitted_with s user c None = stays s
 submitted_with s user c (Some d) = submitted s user c d (submit_refusal s c d)
 
-made : (s : State) (objects : Objects) (o : Option Refusal) → GoesOn s (made_unless s objects o).state
-made s objects None j i = (j, i, no_less j)
-made s objects (Some y) j i = (j, i, no_less j)
-
 changed : (s : State) (user : List ℕ) (c : Command) → GoesOn s (change s user c).state
-changed s user (command.Crtcls c) = made s _ _
-changed s user (command.Crtjobq c) = made s _ _
-changed s user (command.Crtpgmref c) = made s _ _
-changed s user (command.Crtjobd c) = made s _ _
-changed s user (command.Crtsbsd c) = made s _ _
-changed s user (command.Addjobqe c) = made s _ _
-changed s user (command.Addrtge c) = made s _ _
-changed s user (command.Rmvjobqe c) = made s _ _
-changed s user (command.Rmvrtge c) = made s _ _
+changed s user (command.Crtcls c) = λ j i. (j, i, no_less j)
+changed s user (command.Crtjobq c) = λ j i. (j, i, no_less j)
+changed s user (command.Crtpgmref c) = λ j i. (j, i, no_less j)
+changed s user (command.Crtjobd c) = λ j i. (j, i, no_less j)
+changed s user (command.Crtsbsd c) = λ j i. (j, i, no_less j)
+changed s user (command.Addjobqe c) = λ j i. (j, i, no_less j)
+changed s user (command.Addrtge c) = λ j i. (j, i, no_less j)
+changed s user (command.Rmvjobqe c) = λ j i. (j, i, no_less j)
+changed s user (command.Rmvrtge c) = λ j i. (j, i, no_less j)
 changed s user (command.Strsbs c) = start s c.sbsd (start_refusal s c.sbsd)
 changed s user (command.Sbmjob c) = either s (is_on s.power) _ _ (λ e. submitted_with s user c (object_named c.jobd s.objects.jobds)) (λ e. stays s)
 changed s user (command.Pwrdwnsys c) = either s (is_down_now s.power) _ _ (λ e. stays s) (λ e j i. (j, i, no_less j))

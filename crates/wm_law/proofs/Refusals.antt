@@ -59,7 +59,7 @@ changed s user (command.Rmvrtge c) = made s _ _
 changed s user (command.Strsbs c) = start s c.sbsd (start_refusal s c.sbsd)
 changed s user (command.Sbmjob c) = either s (is_on s.power) _ _ (submitted_with s user c (object_named c.jobd s.objects.jobds)) (λ x e. refl)
 changed s user (command.Pwrdwnsys c) = either s (is_down_now s.power) _ _ (λ x e. refl) (λ x e. absurd (cc))
-changed s user c x e = absurd (cc)
+changed s user c = λ x e. absurd (cc)
 
 ordered : (s : State) (m : ℕ) (j : Job) (o : Option StartOrder) → Leaves s (hand_order s m j o)
 ordered s m j None x e = absurd (cc)

@@ -107,7 +107,7 @@ changed s user (command.Rmvrtge c) = made s _ _
 changed s user (command.Strsbs c) = start s c.sbsd (start_refusal s c.sbsd)
 changed s user (command.Sbmjob c) = either s (is_on s.power) _ _ (submitted_with s user c (object_named c.jobd s.objects.jobds)) (λ x e. absurd (cc))
 changed s user (command.Pwrdwnsys c) = either s (is_down_now s.power) _ _ (λ x e. absurd (cc)) (λ x e. absurd (cc))
-changed s user c x e = absurd (cc)
+changed s user c = λ x e. absurd (cc)
 
 moved : (s : State) (i : Job) (m : ℕ) → IsIn i s.jobs → IsIn (record i { phase = Handed m }) (with_phase s i.serial (Handed m)).jobs
 moved s i m k =

@@ -1,8 +1,9 @@
 // The commands that make objects and change subsystem descriptions.
-ghost use Rattle.std.specs.Prelude.{◌≡◌, Option, IfOk};
+ghost use Rattle.std.specs.Prelude.{◌≡◌, Option, IfOk, OnOk, OnErr};
+ghost use Rattle.wm_desc.specs.declared.objects.Objects.{Objects};
 ghost use Rattle.wm_base.specs.declared.refusal.Refusal.{Refusal};
 ghost use Rattle.wm_desc.specs.Refusals.{IsAnswer, answer_of};
-ghost use Rattle.wm_law.specs.Making.{class_of, jobd_of, queue_entry_of, route_entry_of, made_reply};
+ghost use Rattle.wm_law.specs.Making.{class_of, jobd_of, queue_entry_of, route_entry_of, made_reply, made_objects};
 
 use crate::{
     Addjobqe, Addrtge, Crtcls, Crtjobd, Crtjobq, Crtpgmref, Crtsbsd, Reply, Rmvjobqe, Rmvrtge,
@@ -14,7 +15,9 @@ use wm_desc::{Cmp, DescFault, Jobd, QueueEntry, RouteEntry};
 
 // The reply to what the objects answered.
 fn made(answer: Result<(), DescFault>) -> Result<Reply, AllocError>
-    ensures { (refusal : Option Refusal) → IsAnswer refusal answer → IfOk result (λ r. r ≡ made_reply refusal) }
+    ensures reply { (refusal : Option Refusal) → IsAnswer refusal answer → IfOk result (λ r. r ≡ made_reply refusal) }
+    ensures objects { (refusal : Option Refusal) (before after now : Objects) → IsAnswer refusal answer
+        → OnOk answer (now ≡ after) → OnErr answer (now ≡ before) → OnOk result (now ≡ made_objects before after refusal) × OnErr result (now ≡ before) }
 {
     match answer {
         Ok(()) => Ok(Reply::Made),
@@ -25,7 +28,9 @@ fn made(answer: Result<(), DescFault>) -> Result<Reply, AllocError>
 
 // The same where no memory is taken.
 fn removed(answer: Result<(), Refusal>) -> Reply
-    ensures { (refusal : Option Refusal) → answer ≡ answer_of refusal → result ≡ made_reply refusal }
+    ensures reply { (refusal : Option Refusal) → answer ≡ answer_of refusal → result ≡ made_reply refusal }
+    ensures objects { (refusal : Option Refusal) (before after now : Objects) → answer ≡ answer_of refusal
+        → OnOk answer (now ≡ after) → OnErr answer (now ≡ before) → now ≡ made_objects before after refusal }
 {
     match answer {
         Ok(()) => Reply::Made,

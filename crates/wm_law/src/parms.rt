@@ -84,7 +84,11 @@ fn are_parms(bytes: &[u8]) -> bool
 pub fn is_call(request: &[u8]) -> bool
     ensures { result ≡ is_call request.now }
 {
-    request.starts_with(CALL_OF_ECHO) && are_parms(&request[CALL_OF_ECHO.len()..])
+    if request.starts_with(CALL_OF_ECHO) {
+        are_parms(&request[CALL_OF_ECHO.len()..])
+    } else {
+        false
+    }
 }
 
 impl Values {
