@@ -3,6 +3,7 @@ pub mod Settling
 pub mod History
 pub mod Refusals
 pub mod Requests
+pub mod Had
 pub mod Ranks
 pub mod Firsts
 pub mod Numbers

@@ -1,3 +1,4 @@
+pub mod Built
 pub mod Choice
 pub mod Counts
 pub mod Fit

@@ -5,6 +5,7 @@
 //! reply in it is that of the machine (`specs/History.antt`).
 #![tactic(auto)]
 
+mod not_built;
 mod call;
 mod choice;
 mod command;
@@ -27,6 +28,7 @@ mod state;
 #[cfg(test)]
 mod tests;
 
+pub use not_built::{NotBuilt, built, built_commands_are_had};
 pub use call::{Call, Entry, Reply};
 pub use choice::{Candidate, Rank};
 pub use command::{
