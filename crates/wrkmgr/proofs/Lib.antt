@@ -10,5 +10,5 @@ pub mod Causes
 pub mod Runs
 pub mod Servings
 pub mod Takings
-pub mod Stops
-pub mod Stopping
+pub mod StoppedLines
+pub mod StoppedRuns

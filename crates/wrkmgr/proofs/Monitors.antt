@@ -17,7 +17,7 @@ use Rattle.wm_outside.specs.declared.spawner.Told.{Told}
 use Rattle.wm_outside.specs.Told.{Grows}
 use Rattle.wm_outside.proofs.Telling.{Grows-none, Grows-then}
 use Rattle.wrkmgr.specs.Lists.{since, Extends}
-use Rattle.wrkmgr.specs.Monitor.{MonitorView, Advances, Hands, RisesBy, hands_of, is_own, is_spawner_fault, monitor_pass, reported, call_of, as_reports}
+use Rattle.wrkmgr.specs.Monitor.{MonitorView, Advances, BeginsWithHand, RisesBy, hands_of, is_own, is_spawner_fault, monitor_pass, reported, call_of, as_reports}
 use Rattle.wrkmgr.specs.Floor.{entry_at, last_of, last_order}
 use Rattle.wrkmgr.specs.View.{view}
 use Rattle.wrkmgr.specs.declared.monitor.Monitor.{Monitor}
@@ -231,8 +231,8 @@ silent_part log m o asked asked' told told' misses misses' none grows tells rise
     unreported_part log m asked asked' told told' misses misses' none grows tells_none rises_none
 
 -- a call of Hand, and then entries of the monitor
-pub Hands-then : (old mid new : List Entry) (e : Entry) → mid ≡ old ++ e ∷ [] → e.call ≡ call.Hand → Extends mid new → Hands old new
-Hands-then old mid new e made is grown =
+pub BeginsWithHand-then : (old mid new : List Entry) (e : Entry) → mid ≡ old ++ e ∷ [] → e.call ≡ call.Hand → Extends mid new → BeginsWithHand old new
+BeginsWithHand-then old mid new e made is grown =
     record {
       entry = e;
       more = since mid new;
@@ -240,8 +240,8 @@ Hands-then old mid new e made is grown =
       call = is;
     }
 
-pub Hands-only : (old new : List Entry) (e : Entry) → new ≡ old ++ e ∷ [] → e.call ≡ call.Hand → Hands old new
-Hands-only old new e made is = record { entry = e; more = []; whole = made; call = is }
+pub BeginsWithHand-only : (old new : List Entry) (e : Entry) → new ≡ old ++ e ∷ [] → e.call ≡ call.Hand → BeginsWithHand old new
+BeginsWithHand-only old new e made is = record { entry = e; more = []; whole = made; call = is }
 
 hands-append : (xs ys : List Entry) → hands_of (xs ++ ys) ≡ hands_of xs + hands_of ys
 hands-append xs ys = sum_by-append (λ (e : Entry). cond (is_hand e.call) 1 0) xs ys
@@ -254,7 +254,7 @@ hands_first e more is =
     omega arith
 
 -- one Hand more
-pub hands_more : (old mid new : List Entry) (n : ℕ) → Extends old mid → Extends mid new → Hands mid new → n ≤ hands_of (since old mid) → n + 1 ≤ hands_of (since old new)
+pub hands_more : (old mid new : List Entry) (n : ℕ) → Extends old mid → Extends mid new → BeginsWithHand mid new → n ≤ hands_of (since old mid) → n + 1 ≤ hands_of (since old new)
 hands_more old mid new n begun grown h some =
     let more = since-append mid (h.entry ∷ h.more) in
     let those : since mid new ≡ h.entry ∷ h.more = ap (since mid) h.whole ∙ more in

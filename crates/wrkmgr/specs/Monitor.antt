@@ -76,8 +76,8 @@ is_spawner_fault call.Tick = false
 abbrev pub is_own : Entry → Bool
 is_own e = e.caller == monitor_pass && is_monitor_call e.call
 
--- the next entry is a Hand
-pub record Hands (old new : List Entry) : Type 0 where
+-- the first entry that was added is a Hand
+pub record BeginsWithHand (old new : List Entry) : Type 0 where
   pub entry : Entry
   pub more : List Entry
   pub whole : new ≡ old ++ entry ∷ more

@@ -64,7 +64,7 @@ impl Monitor {
     ghost use Rattle.wm_law.specs.Pending.{next_due, starting};
     ghost use Rattle.wrkmgr.specs.Floor.{entry_at};
     ghost use Rattle.wrkmgr.specs.Lists.{since};
-    ghost use Rattle.wrkmgr.specs.Monitor.{Advances, Hands, as_reports, call_of, hands_of, monitor_pass};
+    ghost use Rattle.wrkmgr.specs.Monitor.{Advances, BeginsWithHand, as_reports, call_of, hands_of, monitor_pass};
     ghost use Rattle.wrkmgr.specs.View.{view};
 
     /// A monitor that keeps nothing.
@@ -222,7 +222,7 @@ impl Monitor {
         clock: &mut C,
     ) -> Result<(), MonitorFault>
         requires { self.old.kept ≡ None }
-        ensures hand { OnOk result (Hands floor.old floor.new) }
+        ensures hand { OnOk result (BeginsWithHand floor.old floor.new) }
         ensures part { Advances (view floor.old self.old (P.asked spawner.old) (P.told spawner.old) (P.misses spawner.old))
             (view floor.new self.new (P.asked spawner.new) (P.told spawner.new) (P.misses spawner.new)) }
         ensures kept { OnOk result (self.new.kept ≡ None) }

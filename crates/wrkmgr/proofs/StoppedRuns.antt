@@ -25,7 +25,7 @@ use Rattle.wrkmgr.specs.declared.stop.Stop.TheVariants.{InputFull}
 use Rattle.wrkmgr.proofs.Monitors.{Extends-then, last_of-push}
 use Rattle.wrkmgr.proofs.Runs.{session_parts}
 use Rattle.wrkmgr.proofs.Servings.{Extends-called, session_entries-called, session_entries-none, session_entries-own, session_entries-then}
-use Rattle.wrkmgr.proofs.Stops.{StopsIn-none, StopsIn-untouched, StopsIn-whole, stops_front, stops_last, stops_lines, stops_then}
+use Rattle.wrkmgr.proofs.StoppedLines.{StopsIn-none, StopsIn-untouched, StopsIn-whole, stops_front, stops_last, stops_lines, stops_then}
 
 -- what holds anyway holds where an error is answered
 pub on_err : {T E P : Type 0} (r : Result T E) → P → OnErr r P
