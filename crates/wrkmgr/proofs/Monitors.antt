@@ -1,12 +1,12 @@
 -- Laws of a monitor's part: nothing, and one part after another.
-use Rattle.std.proofs.Common.{◌≡◌, ℕ, ◌+◌, ◌-◌, ◌^◌, ◌≤◌, ◌&&◌, min, Bool, true, false, List, [], ◌∷◌, ◌++◌, length, drop, map, Option, Some, None, option_to_list, sym, ap, subst, ◌∙◌, refl, append_assoc, cond, arith}
+use Rattle.std.proofs.Common.{◌≡◌, ℕ, ◌+◌, ◌-◌, ◌^◌, ◌<◌, ◌≤◌, ◌&&◌, min, Bool, true, false, List, [], ◌∷◌, ◌++◌, length, drop, map, Option, Some, None, option_to_list, sym, ap, subst, ◌∙◌, refl, append_assoc, cond, arith}
 use Rattle.std.specs.List.{list_all, filter_map, count_by}
 use Rattle.std.proofs.Math.Seq.{drop-append_seam, drop-length}
 use Rattle.std.proofs.lemmas.List.Folds.{list_all-append}
 use Rattle.std.proofs.lemmas.List.Elements.{filter_map-append}
 use Rattle.std.specs.List.{slice_get}
 use Rattle.std.specs.Option.{option_and_then}
-use Rattle.std.proofs.lemmas.List.{append-nil, length_push}
+use Rattle.std.proofs.lemmas.List.{append-nil, length-append, length_push}
 use Rattle.std.proofs.lemmas.List.Sums.{sum_by-append}
 use Rattle.wm_base.specs.declared.job.Asked.{Asked}
 use Rattle.wm_law.specs.declared.call.Call.{Call}
@@ -40,6 +40,12 @@ since-then a b c ab bc =
 pub Extends-then : {A : Type 0} (a b c : List A) → Extends a b → Extends b c → Extends a c
 Extends-then a b c ab bc =
     bc ∙ (ap (λ xs. xs ++ since b c) ab ∙ (append_assoc a (since a b) (since b c) ∙ ap (λ xs. a ++ xs) (sym (since-then a b c ab bc))))
+
+-- a list that has grown, and then become longer, is longer
+pub longer_then : {A : Type 0} (a b c : List A) → Extends a b → length b < length c → length a < length c
+longer_then a b c ab bc =
+    let whole = ap length ab ∙ length-append a (since a b) in
+    omega arith
 
 pub count-append : (xs ys : List Call) → count_by is_spawner_fault (xs ++ ys) ≡ count_by is_spawner_fault xs + count_by is_spawner_fault ys
 count-append xs ys = sum_by-append (λ x. cond (is_spawner_fault x) 1 0) xs ys

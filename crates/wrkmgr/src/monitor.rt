@@ -54,7 +54,7 @@ impl From<AllocError> for MonitorFault {
 }
 
 impl Monitor {
-    ghost use Rattle.std.specs.Prelude.{◌≡◌, ◌⊎◌, ◌≤◌, ◌+◌, ◌-◌, ◌++◌, ◌∷◌, [], ℕ, List, Option, None, Some, Ok, false, length, OnOk, OnErr, IfOk, IfSome, IsErrOf};
+    ghost use Rattle.std.specs.Prelude.{◌≡◌, ◌⊎◌, ◌<◌, ◌≤◌, ◌+◌, ◌-◌, ◌++◌, ◌∷◌, [], ℕ, List, Option, None, Some, Ok, true, false, length, OnOk, OnErr, IfOk, IfSome, IsErrOf};
     ghost use Rattle.wm_base.specs.declared.job.Asked.{Asked};
     ghost use Rattle.wm_outside.specs.declared.spawner.Told.{Told};
     ghost use Rattle.wm_outside.specs.Told.{Grows, IsEmpty};
@@ -83,6 +83,7 @@ impl Monitor {
     ) -> Result<(), AllocError>
         ensures part { (asked : Option (List Asked)) (told : Option (List Told)) (misses : ℕ) →
             Advances (view floor.old self.old asked told misses) (view floor.new self.new asked told misses) }
+        ensures sent { OnOk result (IfSome self.old.kept (λ _. length floor.old < length floor.new)) }
         ensures kept { OnOk result (self.new.kept ≡ None) }
     {
         let Some(report) = self.kept else {
@@ -129,13 +130,14 @@ impl Monitor {
         requires { self.old.kept ≡ None }
         ensures part { Advances (view floor.old self.old (P.asked spawner.old) (P.told spawner.old) (P.misses spawner.old))
             (view floor.new self.new (P.asked spawner.new) (P.told spawner.new) (P.misses spawner.new)) }
+        ensures all { OnOk result (IsEmpty (P.reporting spawner.old) ⊎ (length floor.old < length floor.new)) }
         ensures kept { OnOk result (self.new.kept ≡ None) }
         ensures faults { P.faults spawner.old ≤ P.faults spawner.new }
         ensures wait_fault { IsErrOf result MonitorFault.WaitFault → raised (P.faults spawner.old) ≤ P.faults spawner.new }
     {
         'looks: for _ in 0..MOST_LOOKS {
             if !self.look(alloc, floor, spawner, clock)? {
-                break;
+                return Ok(());
             }
         }
         Ok(())
@@ -254,6 +256,7 @@ impl Monitor {
     ) -> Result<bool, MonitorFault>
         requires { self.old.kept ≡ None }
         ensures none { result ≡ Ok false → IsEmpty (P.reporting spawner.old) }
+        ensures sent { result ≡ Ok true → length floor.old < length floor.new }
         ensures part { Advances (view floor.old self.old (P.asked spawner.old) (P.told spawner.old) (P.misses spawner.old))
             (view floor.new self.new (P.asked spawner.new) (P.told spawner.new) (P.misses spawner.new)) }
         ensures kept { OnOk result (self.new.kept ≡ None) }
