@@ -1,5 +1,6 @@
 pub mod Floors
 pub mod Monitors
+pub mod Turns
 pub mod MonitorLoops
 pub mod Writes
 pub mod Lines

@@ -15,12 +15,14 @@ pub record TurnLoop (old new : MonitorView) (before now : ℕ) : Type 0 where
   pub part : Advances old new
   pub looked : before ≤ now
 
--- a part has been done with so many Hands at least, no report is kept, and no count has fallen
-pub record HandLoop (old new : MonitorView) (before now : ℕ) (kept : Option Report) (made : ℕ) : Type 0 where
+-- a part has been done with so many Hands at least, no report is kept, and no count has fallen; the same children have
+-- a report, or the history is longer
+pub record HandLoop (old new : MonitorView) (before now : ℕ) (kept : Option Report) (reporting_before reporting_now : Option (List ℕ)) (made : ℕ) : Type 0 where
   pub part : Advances old new
   pub none : kept ≡ None
   pub faults : before ≤ now
   pub hands : made ≤ hands_of (since old.log new.log)
+  pub quiet : (reporting_now ≡ reporting_before) ⊎ (length old.log < length new.log)
 
 -- a part has been done, no report is kept, and no count has fallen; no look has been made yet, or the history is longer
 pub record LookLoop (old new : MonitorView) (before now : ℕ) (kept : Option Report) (reporting_before reporting_now : Option (List ℕ)) (made : ℕ) : Type 0 where

@@ -267,3 +267,9 @@ hands_more old mid new n begun grown h some =
     let one = subst (λ (es : List Entry). 1 ≤ hands_of es) (sym those) (hands_first h.entry h.more h.call) in
     let all = ap hands_of (since-then old mid new begun grown) ∙ hands-append (since old mid) (since mid new) in
     omega arith
+
+-- a Hand has made it longer
+pub longer_hand : (old mid new : List Entry) → Extends old mid → BeginsWithHand mid new → length old < length new
+longer_hand old mid new begun h =
+    let whole = ap length h.whole ∙ length-append mid (h.entry ∷ h.more) in
+    longer_then old mid new begun (omega arith)

@@ -64,7 +64,7 @@ impl Monitor {
     ghost use Rattle.wm_law.specs.Pending.{next_due, starting};
     ghost use Rattle.wrkmgr.specs.Floor.{entry_at};
     ghost use Rattle.wrkmgr.specs.Lists.{since};
-    ghost use Rattle.wrkmgr.specs.Monitor.{Advances, BeginsWithHand, as_reports, call_of, hands_of, monitor_pass};
+    ghost use Rattle.wrkmgr.specs.Monitor.{Advances, BeginsWithHand, IsIdle, as_reports, call_of, hands_of, monitor_pass};
     ghost use Rattle.wrkmgr.specs.View.{view};
 
     /// A monitor that keeps nothing.
@@ -84,6 +84,7 @@ impl Monitor {
         ensures part { (asked : Option (List Asked)) (told : Option (List Told)) (misses : ℕ) →
             Advances (view floor.old self.old asked told misses) (view floor.new self.new asked told misses) }
         ensures sent { OnOk result (IfSome self.old.kept (λ _. length floor.old < length floor.new)) }
+        ensures unread { self.old.kept ≡ None → C.coming clock.new ≡ C.coming clock.old }
         ensures kept { OnOk result (self.new.kept ≡ None) }
     {
         let Some(report) = self.kept else {
@@ -106,6 +107,7 @@ impl Monitor {
         ensures part { Advances (view floor.old self.old (P.asked spawner.old) (P.told spawner.old) (P.misses spawner.old))
             (view floor.new self.new (P.asked spawner.new) (P.told spawner.new) (P.misses spawner.new)) }
         ensures all { OnOk result ((starting (after opening floor.new) ≡ 0) ⊎ (256 ≤ hands_of (since floor.old floor.new))) }
+        ensures quiet { OnOk result ((P.reporting spawner.new ≡ P.reporting spawner.old) ⊎ (length floor.old < length floor.new)) }
         ensures kept { OnOk result (self.new.kept ≡ None) }
         ensures faults { P.faults spawner.old ≤ P.faults spawner.new }
         ensures wait_fault { IsErrOf result MonitorFault.WaitFault → raised (P.faults spawner.old) ≤ P.faults spawner.new }
@@ -158,6 +160,7 @@ impl Monitor {
         ensures faults { P.faults spawner.old ≤ P.faults spawner.new }
         ensures wait_fault { IsErrOf result MonitorFault.WaitFault → raised (P.faults spawner.old) ≤ P.faults spawner.new }
         ensures sent { IfOk result (λ sent. sent ≡ length floor.new - length floor.old) }
+        ensures idle { result ≡ Ok 0 → IsIdle floor.old self.old.kept (C.coming clock.old) (P.reporting spawner.old) }
     {
         let before = floor.len();
         self.send_kept(alloc, floor, clock)?;
