@@ -1,4 +1,3 @@
-use Rattle.std.proofs.Common.{arith}
 use Rattle.std.proofs.lemmas.Result.{err_from_is_err_and}
 use Rattle.wrkmgr.proofs.Servings.{Serves-then}
 use Rattle.wrkmgr.proofs.StoppedRuns.{stopped_begin, stopped_lines, stopped_end, not_full_none, full_pass, full_later, on_err}

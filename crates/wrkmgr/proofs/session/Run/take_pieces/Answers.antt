@@ -1,8 +1,7 @@
-use Rattle.std.proofs.Common.{arith, refl, sym, Err, ◌+◌, ◌≡◌, [], take, length}
+use Rattle.std.proofs.Common.{arith, refl, Err, ◌+◌, ◌≡◌, take}
 use Rattle.std.proofs.lemmas.List.{length-take-le}
 use Rattle.std.proofs.lemmas.Bool.Decides.{nat_tests}
 use Rattle.std.proofs.lemmas.Result.{err_from_is_err_and}
-use Rattle.wrkmgr.specs.Taking.{TakesInput}
 use Rattle.wrkmgr.proofs.Inputs.{input_then, input_end, count_then}
 use Rattle.wrkmgr.proofs.Servings.{Serves-then}
 use Rattle.wrkmgr.proofs.StoppedRuns.{input_same, input_stops, input_stops_in, input_stops_last, full_read, not_full, on_err, take_none}
