@@ -1,5 +1,5 @@
 -- The causes of an error that is passed on.
-use Rattle.std.proofs.Common.{◌≡◌, ℕ, ◌+◌, ◌≤◌, Result, Err, arith}
+use Rattle.std.proofs.Common.{◌≡◌, ℕ, ◌≤◌, Result, Err, arith}
 use Rattle.wrkmgr.specs.Stop.{HasCauses}
 use Rattle.wrkmgr.specs.declared.stop.Stop.{Stop}
 

@@ -1,16 +1,16 @@
 -- Laws of an input that is taken piece by piece.
-use Rattle.std.proofs.Common.{◌≡◌, ℕ, ◌+◌, ◌<◌, ◌||◌, Bool, false, List, [], ◌++◌, length, take, Option, sym, subst, ap, ◌∙◌, refl, arith}
+use Rattle.std.proofs.Common.{◌≡◌, ℕ, ◌+◌, ◌||◌, Bool, List, [], ◌++◌, length, Option, sym, subst, arith}
 use Rattle.std.proofs.lemmas.List.{length-append}
 use Rattle.wm_law.specs.declared.call.Entry.{Entry}
 use Rattle.wm_law.specs.History.{entries_of}
-use Rattle.wm_outside.proofs.Telling.{Takes-none, Takes-then}
+use Rattle.wm_outside.proofs.Telling.{Takes-then}
 use Rattle.wrkmgr.specs.LineBuffer.{Holds}
 use Rattle.wrkmgr.specs.Lines.{cut_from, last_line, lines_of}
 use Rattle.wrkmgr.specs.Lists.{since, Extends}
 use Rattle.wrkmgr.specs.Session.{Answers, AnsweredBy, AnswersLine, session_pass}
 use Rattle.wrkmgr.specs.Taking.{TakesPiece, TakesInput}
 use Rattle.wrkmgr.specs.declared.line.LineBuffer.{LineBuffer}
-use Rattle.wrkmgr.proofs.Servings.{session_entries-then, taken_none}
+use Rattle.wrkmgr.proofs.Servings.{session_entries-then}
 use Rattle.wrkmgr.proofs.Takings.{AnsweredBy-append, AnsweredBy-last, TakesPiece-at}
 
 -- some of it, and then some more

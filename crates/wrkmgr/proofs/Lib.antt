@@ -1,5 +1,6 @@
 pub mod Floors
 pub mod Monitors
+pub mod Turns
 pub mod MonitorLoops
 pub mod Writes
 pub mod Lines
@@ -10,5 +11,5 @@ pub mod Causes
 pub mod Runs
 pub mod Servings
 pub mod Takings
-pub mod Stops
-pub mod Stopping
+pub mod StoppedLines
+pub mod StoppedRuns

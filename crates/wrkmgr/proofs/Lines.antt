@@ -1,10 +1,8 @@
 -- What a line buffer holds after one byte more.
-use Rattle.std.proofs.Common.{◌≡◌, ℕ, ◌+◌, ◌-◌, ◌<◌, ◌≤◌, Bool, true, false, nat_lt, List, [], ◌∷◌, ◌++◌, length, take, drop, min, sym, ap, ◌∙◌, refl, arith, vec_len}
+use Rattle.std.proofs.Common.{◌≡◌, ℕ, ◌<◌, ◌≤◌, Bool, true, false, nat_lt, List, [], ◌∷◌, ◌++◌, length, take, sym, ap, ◌∙◌, arith}
 use Rattle.std.proofs.lemmas.List.{length-take, take-append-le, length_push}
 use Rattle.std.proofs.lemmas.Bool.Decides.{nat_tests}
 use Rattle.wrkmgr.proofs.Writes.{take_whole}
-use Rattle.wrkmgr.specs.LineBuffer.{Holds}
-use Rattle.wrkmgr.specs.declared.line.LineBuffer.{LineBuffer}
 
 whole : (rest : List ℕ) → length rest ≤ 8192 → take 8192 rest ≡ rest
 whole rest short = take_whole 8192 rest short

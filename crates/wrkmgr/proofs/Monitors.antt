@@ -1,12 +1,12 @@
 -- Laws of a monitor's part: nothing, and one part after another.
-use Rattle.std.proofs.Common.{◌≡◌, ℕ, ◌+◌, ◌-◌, ◌^◌, ◌≤◌, ◌&&◌, min, Bool, true, false, List, [], ◌∷◌, ◌++◌, length, drop, map, Option, Some, None, option_to_list, sym, ap, subst, ◌∙◌, refl, append_assoc, cond, arith}
+use Rattle.std.proofs.Common.{◌≡◌, ℕ, ◌+◌, ◌-◌, ◌<◌, ◌≤◌, ◌&&◌, true, false, List, [], ◌∷◌, ◌++◌, length, map, Option, Some, None, option_to_list, sym, ap, subst, ◌∙◌, refl, append_assoc, cond, arith}
 use Rattle.std.specs.List.{list_all, filter_map, count_by}
-use Rattle.std.proofs.Math.Seq.{drop-append_seam, drop-length}
+use Rattle.std.proofs.Math.Seq.{drop-append_seam}
 use Rattle.std.proofs.lemmas.List.Folds.{list_all-append}
 use Rattle.std.proofs.lemmas.List.Elements.{filter_map-append}
 use Rattle.std.specs.List.{slice_get}
 use Rattle.std.specs.Option.{option_and_then}
-use Rattle.std.proofs.lemmas.List.{append-nil, length_push}
+use Rattle.std.proofs.lemmas.List.{append-nil, length-append, length_push}
 use Rattle.std.proofs.lemmas.List.Sums.{sum_by-append}
 use Rattle.wm_base.specs.declared.job.Asked.{Asked}
 use Rattle.wm_law.specs.declared.call.Call.{Call}
@@ -17,7 +17,7 @@ use Rattle.wm_outside.specs.declared.spawner.Told.{Told}
 use Rattle.wm_outside.specs.Told.{Grows}
 use Rattle.wm_outside.proofs.Telling.{Grows-none, Grows-then}
 use Rattle.wrkmgr.specs.Lists.{since, Extends}
-use Rattle.wrkmgr.specs.Monitor.{MonitorView, Advances, Hands, RisesBy, hands_of, is_own, is_spawner_fault, monitor_pass, reported, call_of, as_reports}
+use Rattle.wrkmgr.specs.Monitor.{MonitorView, Advances, BeginsWithHand, RisesBy, hands_of, is_own, is_spawner_fault, monitor_pass, reported, call_of, as_reports}
 use Rattle.wrkmgr.specs.Floor.{entry_at, last_of, last_order}
 use Rattle.wrkmgr.specs.View.{view}
 use Rattle.wrkmgr.specs.declared.monitor.Monitor.{Monitor}
@@ -40,6 +40,12 @@ since-then a b c ab bc =
 pub Extends-then : {A : Type 0} (a b c : List A) → Extends a b → Extends b c → Extends a c
 Extends-then a b c ab bc =
     bc ∙ (ap (λ xs. xs ++ since b c) ab ∙ (append_assoc a (since a b) (since b c) ∙ ap (λ xs. a ++ xs) (sym (since-then a b c ab bc))))
+
+-- a list that has grown, and then become longer, is longer
+pub longer_then : {A : Type 0} (a b c : List A) → Extends a b → length b < length c → length a < length c
+longer_then a b c ab bc =
+    let whole = ap length ab ∙ length-append a (since a b) in
+    omega arith
 
 pub count-append : (xs ys : List Call) → count_by is_spawner_fault (xs ++ ys) ≡ count_by is_spawner_fault xs + count_by is_spawner_fault ys
 count-append xs ys = sum_by-append (λ x. cond (is_spawner_fault x) 1 0) xs ys
@@ -231,8 +237,8 @@ silent_part log m o asked asked' told told' misses misses' none grows tells rise
     unreported_part log m asked asked' told told' misses misses' none grows tells_none rises_none
 
 -- a call of Hand, and then entries of the monitor
-pub Hands-then : (old mid new : List Entry) (e : Entry) → mid ≡ old ++ e ∷ [] → e.call ≡ call.Hand → Extends mid new → Hands old new
-Hands-then old mid new e made is grown =
+pub BeginsWithHand-then : (old mid new : List Entry) (e : Entry) → mid ≡ old ++ e ∷ [] → e.call ≡ call.Hand → Extends mid new → BeginsWithHand old new
+BeginsWithHand-then old mid new e made is grown =
     record {
       entry = e;
       more = since mid new;
@@ -240,8 +246,8 @@ Hands-then old mid new e made is grown =
       call = is;
     }
 
-pub Hands-only : (old new : List Entry) (e : Entry) → new ≡ old ++ e ∷ [] → e.call ≡ call.Hand → Hands old new
-Hands-only old new e made is = record { entry = e; more = []; whole = made; call = is }
+pub BeginsWithHand-only : (old new : List Entry) (e : Entry) → new ≡ old ++ e ∷ [] → e.call ≡ call.Hand → BeginsWithHand old new
+BeginsWithHand-only old new e made is = record { entry = e; more = []; whole = made; call = is }
 
 hands-append : (xs ys : List Entry) → hands_of (xs ++ ys) ≡ hands_of xs + hands_of ys
 hands-append xs ys = sum_by-append (λ (e : Entry). cond (is_hand e.call) 1 0) xs ys
@@ -254,10 +260,16 @@ hands_first e more is =
     omega arith
 
 -- one Hand more
-pub hands_more : (old mid new : List Entry) (n : ℕ) → Extends old mid → Extends mid new → Hands mid new → n ≤ hands_of (since old mid) → n + 1 ≤ hands_of (since old new)
+pub hands_more : (old mid new : List Entry) (n : ℕ) → Extends old mid → Extends mid new → BeginsWithHand mid new → n ≤ hands_of (since old mid) → n + 1 ≤ hands_of (since old new)
 hands_more old mid new n begun grown h some =
     let more = since-append mid (h.entry ∷ h.more) in
     let those : since mid new ≡ h.entry ∷ h.more = ap (since mid) h.whole ∙ more in
     let one = subst (λ (es : List Entry). 1 ≤ hands_of es) (sym those) (hands_first h.entry h.more h.call) in
     let all = ap hands_of (since-then old mid new begun grown) ∙ hands-append (since old mid) (since mid new) in
     omega arith
+
+-- a Hand has made it longer
+pub longer_hand : (old mid new : List Entry) → Extends old mid → BeginsWithHand mid new → length old < length new
+longer_hand old mid new begun h =
+    let whole = ap length h.whole ∙ length-append mid (h.entry ∷ h.more) in
+    longer_then old mid new begun (omega arith)

@@ -1,9 +1,8 @@
 -- Laws of a whole run: its parts, and its status.
-use Rattle.std.proofs.Common.{◌≡◌, ℕ, ◌+◌, ◌<◌, ◌≤◌, ◌==◌, Bool, true, false, List, [], ◌∷◌, ◌++◌, length, Option, Some, None, option_to_list, Result, Ok, Err, sym, ap, subst, ◌∙◌, refl, inl, append_assoc, arith}
+use Rattle.std.proofs.Common.{◌≡◌, ℕ, ◌<◌, ◌≤◌, ◌==◌, Bool, true, false, List, [], ◌++◌, length, Option, Some, None, option_to_list, Result, Ok, Err, sym, ap, subst, ◌∙◌, refl, inl, append_assoc, arith}
 use Rattle.std.specs.Prelude.{◌↔◌, IfOk, OnOk, OnErr, IsErrOf}
 use Rattle.std.specs.List.{list_all}
 use Rattle.wm_base.specs.declared.job.Asked.{Asked}
-use Rattle.wm_law.specs.declared.call.Call.{Call}
 use Rattle.wm_law.specs.declared.call.Entry.{Entry}
 use Rattle.wm_law.specs.History.{entries_of}
 use Rattle.wm_outside.specs.declared.spawner.Told.{Told}
@@ -14,7 +13,6 @@ use Rattle.wrkmgr.specs.Monitor.{as_reports}
 use Rattle.wrkmgr.specs.Run.{IsRunStatus, IsServed, ended_status}
 use Rattle.wrkmgr.specs.Serving.{Serves, is_of_run}
 use Rattle.wrkmgr.specs.Session.{Answers, AnsweredBy, IsSession, OneCall, session_pass, start_call, end_call}
-use Rattle.wrkmgr.specs.Stop.{HasCauses, HasInputCauses}
 use Rattle.wrkmgr.specs.Stopped.{IsStopped}
 use Rattle.wrkmgr.specs.Taking.{TakesInput}
 use Rattle.wrkmgr.specs.View.{view}

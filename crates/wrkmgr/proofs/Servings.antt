@@ -1,6 +1,6 @@
 -- Laws of a run's parts: nothing, a monitor's part, a call of the session, and one part after another.
-use Rattle.std.proofs.Common.{◌≡◌, ℕ, ◌+◌, ◌≤◌, ◌<◌, ◌==◌, ◌&&◌, ◌||◌, Bool, true, false, List, [], ◌∷◌, ◌++◌, length, map, Option, Some, None, option_to_list, Result, Ok, Err, sym, ap, subst, ◌∙◌, refl, append_assoc, arith}
-use Rattle.std.specs.List.{list_all, filter, count_by}
+use Rattle.std.proofs.Common.{◌≡◌, ℕ, ◌==◌, ◌&&◌, ◌||◌, Bool, true, false, List, [], ◌∷◌, ◌++◌, map, Option, Some, option_to_list, sym, ap, subst, ◌∙◌, refl, append_assoc, arith}
+use Rattle.std.specs.List.{list_all, count_by}
 use Rattle.std.proofs.Math.Seq.{drop-length}
 use Rattle.std.proofs.lemmas.Bool.Decides.{nat_tests}
 use Rattle.std.proofs.lemmas.List.{append-nil}

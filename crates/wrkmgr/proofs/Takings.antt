@@ -1,14 +1,12 @@
 -- Laws of lines: how they are cut, and how answers follow one another.
-use Rattle.std.proofs.Common.{◌≡◌, ℕ, ◌+◌, ◌<◌, ◌≤◌, ◌==◌, ◌||◌, Bool, true, false, cond, List, [], ◌∷◌, ◌++◌, length, Option, Some, None, sym, ap, subst, ◌∙◌, refl, append_assoc, arith}
+use Rattle.std.proofs.Common.{◌≡◌, ℕ, ◌==◌, ◌||◌, Bool, true, false, cond, List, [], ◌∷◌, ◌++◌, Option, sym, ap, subst, ◌∙◌, refl, append_assoc}
 use Rattle.std.specs.List.{fold}
-use Rattle.std.proofs.lemmas.List.{append-nil, length-append}
-use Rattle.std.proofs.lemmas.Bool.Decides.{nat_tests}
+use Rattle.std.proofs.lemmas.List.{append-nil}
 use Rattle.wm_law.specs.declared.call.Entry.{Entry}
-use Rattle.wm_outside.specs.Told.{Grows}
 use Rattle.wm_outside.proofs.Telling.{Grows-none, Grows-then}
 use Rattle.wrkmgr.specs.LineBuffer.{Holds}
 use Rattle.wrkmgr.specs.Lines.{Cut, cut_byte, cut_from, last_line}
-use Rattle.wrkmgr.specs.Session.{Answers, AnswersLine, AnswersFirst, AnsweredBy, Says}
+use Rattle.wrkmgr.specs.Session.{Answers, AnswersLine, AnsweredBy}
 use Rattle.wrkmgr.specs.Taking.{TakesPiece}
 use Rattle.wrkmgr.specs.declared.line.LineBuffer.{LineBuffer}
 

@@ -1,5 +1,5 @@
 -- What a line buffer holds of the bytes behind the last LF.
-use Rattle.std.specs.Prelude.{◌≡◌, ℕ, ◌≤◌, ◌<◌, Bool, true, false, nat_lt, List, length, take}
+use Rattle.std.specs.Prelude.{◌≡◌, ℕ, nat_lt, List, length, take}
 use Rattle.wrkmgr.specs.declared.line.LineBuffer.{LineBuffer}
 
 -- the first 8,192 of them, and whether there are more

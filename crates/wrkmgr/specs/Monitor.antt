@@ -1,5 +1,5 @@
 -- What a monitor does between two moments: it asks what it was ordered, and reports what it was told.
-use Rattle.std.specs.Prelude.{◌≡◌, ℕ, ◌+◌, ◌-◌, ◌^◌, ◌≤◌, ◌==◌, ◌&&◌, Bool, true, false, min, List, [], ◌∷◌, ◌++◌, map, Option, option_map, option_to_list, Result, Ok, Err, count_by}
+use Rattle.std.specs.Prelude.{◌≡◌, ℕ, ◌+◌, ◌-◌, ◌^◌, ◌<◌, ◌≤◌, ◌==◌, ◌&&◌, Bool, true, false, min, List, [], ◌∷◌, ◌++◌, map, Option, None, IfSome, option_map, option_to_list, Result, Ok, Err, count_by}
 use Rattle.std.specs.List.{list_all}
 use Rattle.wm_base.specs.declared.job.Asked.{Asked}
 use Rattle.wm_base.specs.declared.job.Event.{Event}
@@ -9,13 +9,15 @@ use Rattle.wm_base.specs.declared.job.StartCause.TheVariants as start
 use Rattle.wm_law.specs.declared.call.Call.{Call}
 use Rattle.wm_law.specs.declared.call.Call.TheVariants as call
 use Rattle.wm_law.specs.declared.call.Entry.{Entry}
-use Rattle.wm_law.specs.History.{is_hand, is_monitor_call, orders, reports}
+use Rattle.wm_law.specs.History.{after, is_hand, is_monitor_call, orders, reports}
+use Rattle.wm_law.specs.Opening.{opening}
+use Rattle.wm_law.specs.Pending.{next_due, starting}
 use Rattle.wm_outside.specs.declared.fault.Failed.{Failed}
 use Rattle.wm_outside.specs.declared.fault.StartFault.{StartFault}
 use Rattle.wm_outside.specs.declared.fault.StartFault.TheVariants as fault
 use Rattle.wm_outside.specs.declared.spawner.Told.{Told}
 use Rattle.wm_outside.specs.declared.spawner.Told.TheVariants.{Began, NotBegan, Happened}
-use Rattle.wm_outside.specs.Told.{Grows}
+use Rattle.wm_outside.specs.Told.{Grows, IsEmpty}
 use Rattle.wrkmgr.specs.declared.report.Report.{Report}
 use Rattle.wrkmgr.specs.declared.report.Report.TheVariants.{Started, StartFailed, Finished, UseDone}
 use Rattle.wrkmgr.specs.Lists.{since, Extends}
@@ -76,8 +78,8 @@ is_spawner_fault call.Tick = false
 abbrev pub is_own : Entry → Bool
 is_own e = e.caller == monitor_pass && is_monitor_call e.call
 
--- the next entry is a Hand
-pub record Hands (old new : List Entry) : Type 0 where
+-- the first entry that was added is a Hand
+pub record BeginsWithHand (old new : List Entry) : Type 0 where
   pub entry : Entry
   pub more : List Entry
   pub whole : new ≡ old ++ entry ∷ more
@@ -111,3 +113,10 @@ pub record Advances (old new : MonitorView) : Type 0 where
   pub told : Grows old.told new.told (since (reported old.log old.kept) (reported new.log new.kept))
   -- each report of a failed start has raised the spawner's count
   pub misses : RisesBy old.misses (count_by is_spawner_fault (since (reported old.log old.kept) (reported new.log new.kept))) new.misses
+
+-- a monitor has nothing to do: it keeps no report, no job is due, no order is left and no child has a report
+pub record IsIdle (log : List Entry) (kept : Option Report) (coming : Option ℕ) (reporting : Option (List ℕ)) : Type 0 where
+  pub none : kept ≡ None
+  pub due : IfSome (next_due (after opening log)) (λ due. IfSome coming (λ now. now < due))
+  pub orders : starting (after opening log) ≡ 0
+  pub reports : IsEmpty reporting

@@ -1,5 +1,5 @@
 -- What stands around a run at two moments: the session and the monitor share the history.
-use Rattle.std.specs.Prelude.{◌≡◌, ℕ, ◌==◌, ◌||◌, Bool, true, List, count_by}
+use Rattle.std.specs.Prelude.{◌≡◌, ◌==◌, ◌||◌, Bool, true, count_by}
 use Rattle.std.specs.List.{list_all}
 use Rattle.wm_law.specs.declared.call.Entry.{Entry}
 use Rattle.wm_law.specs.History.{orders}

@@ -1,10 +1,9 @@
 -- What stands after bytes of the input were taken.
-use Rattle.std.specs.Prelude.{◌≡◌, ℕ, Bool, List, Option}
-use Rattle.wm_law.specs.declared.call.Call.{Call}
+use Rattle.std.specs.Prelude.{ℕ, Bool, List, Option}
 use Rattle.wm_law.specs.declared.call.Entry.{Entry}
 use Rattle.wm_outside.specs.Told.{Takes}
 use Rattle.wrkmgr.specs.LineBuffer.{Holds}
-use Rattle.wrkmgr.specs.Lines.{Cut, cut_from}
+use Rattle.wrkmgr.specs.Lines.{Cut}
 use Rattle.wrkmgr.specs.Session.{Answers, AnsweredBy}
 use Rattle.wrkmgr.specs.declared.line.LineBuffer.{LineBuffer}
 

@@ -10,7 +10,7 @@ impl Run {
     ghost use Rattle.std.specs.Prelude.{◌≡◌, OnOk, OnErr, None};
     ghost use Rattle.wm_law.specs.History.{after, entries_of};
     ghost use Rattle.wm_law.specs.Opening.{opening};
-    ghost use Rattle.wm_law.specs.Pending.{active};
+    ghost use Rattle.wm_law.specs.Pending.{active, starting};
     ghost use Rattle.wrkmgr.specs.Lists.{since};
     ghost use Rattle.wrkmgr.specs.Monitor.{Advances};
     ghost use Rattle.wrkmgr.specs.Serving.{Serves};
@@ -29,6 +29,7 @@ impl Run {
     ) -> Result<(), Stop>
         ensures part { Advances (view self.old.floor self.old.monitor (P.asked spawner.old) (P.told spawner.old) (P.misses spawner.old))
             (view self.new.floor self.new.monitor (P.asked spawner.new) (P.told spawner.new) (P.misses spawner.new)) }
+        ensures orders { OnOk result (starting (after opening self.new.floor) ≡ 0) }
         ensures kept { OnOk result (self.new.monitor.kept ≡ None) }
         ensures causes { HasMonitorCauses result (P.faults spawner.old) (P.faults spawner.new) }
     {

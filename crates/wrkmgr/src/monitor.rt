@@ -54,7 +54,7 @@ impl From<AllocError> for MonitorFault {
 }
 
 impl Monitor {
-    ghost use Rattle.std.specs.Prelude.{◌≡◌, ◌⊎◌, ◌≤◌, ◌+◌, ◌-◌, ◌++◌, ◌∷◌, [], ℕ, List, Option, None, Some, Ok, false, length, OnOk, OnErr, IfOk, IfSome, IsErrOf};
+    ghost use Rattle.std.specs.Prelude.{◌≡◌, ◌⊎◌, ◌<◌, ◌≤◌, ◌+◌, ◌-◌, ◌++◌, ◌∷◌, [], ℕ, List, Option, None, Some, Ok, true, false, length, OnOk, OnErr, IfOk, IfSome, IsErrOf};
     ghost use Rattle.wm_base.specs.declared.job.Asked.{Asked};
     ghost use Rattle.wm_outside.specs.declared.spawner.Told.{Told};
     ghost use Rattle.wm_outside.specs.Told.{Grows, IsEmpty};
@@ -64,7 +64,7 @@ impl Monitor {
     ghost use Rattle.wm_law.specs.Pending.{next_due, starting};
     ghost use Rattle.wrkmgr.specs.Floor.{entry_at};
     ghost use Rattle.wrkmgr.specs.Lists.{since};
-    ghost use Rattle.wrkmgr.specs.Monitor.{Advances, Hands, as_reports, call_of, hands_of, monitor_pass};
+    ghost use Rattle.wrkmgr.specs.Monitor.{Advances, BeginsWithHand, IsIdle, as_reports, call_of, hands_of, monitor_pass};
     ghost use Rattle.wrkmgr.specs.View.{view};
 
     /// A monitor that keeps nothing.
@@ -83,6 +83,8 @@ impl Monitor {
     ) -> Result<(), AllocError>
         ensures part { (asked : Option (List Asked)) (told : Option (List Told)) (misses : ℕ) →
             Advances (view floor.old self.old asked told misses) (view floor.new self.new asked told misses) }
+        ensures sent { OnOk result (IfSome self.old.kept (λ _. length floor.old < length floor.new)) }
+        ensures unread { self.old.kept ≡ None → C.coming clock.new ≡ C.coming clock.old }
         ensures kept { OnOk result (self.new.kept ≡ None) }
     {
         let Some(report) = self.kept else {
@@ -105,6 +107,7 @@ impl Monitor {
         ensures part { Advances (view floor.old self.old (P.asked spawner.old) (P.told spawner.old) (P.misses spawner.old))
             (view floor.new self.new (P.asked spawner.new) (P.told spawner.new) (P.misses spawner.new)) }
         ensures all { OnOk result ((starting (after opening floor.new) ≡ 0) ⊎ (256 ≤ hands_of (since floor.old floor.new))) }
+        ensures quiet { OnOk result ((P.reporting spawner.new ≡ P.reporting spawner.old) ⊎ (length floor.old < length floor.new)) }
         ensures kept { OnOk result (self.new.kept ≡ None) }
         ensures faults { P.faults spawner.old ≤ P.faults spawner.new }
         ensures wait_fault { IsErrOf result MonitorFault.WaitFault → raised (P.faults spawner.old) ≤ P.faults spawner.new }
@@ -129,13 +132,14 @@ impl Monitor {
         requires { self.old.kept ≡ None }
         ensures part { Advances (view floor.old self.old (P.asked spawner.old) (P.told spawner.old) (P.misses spawner.old))
             (view floor.new self.new (P.asked spawner.new) (P.told spawner.new) (P.misses spawner.new)) }
+        ensures all { OnOk result (IsEmpty (P.reporting spawner.old) ⊎ (length floor.old < length floor.new)) }
         ensures kept { OnOk result (self.new.kept ≡ None) }
         ensures faults { P.faults spawner.old ≤ P.faults spawner.new }
         ensures wait_fault { IsErrOf result MonitorFault.WaitFault → raised (P.faults spawner.old) ≤ P.faults spawner.new }
     {
         'looks: for _ in 0..MOST_LOOKS {
             if !self.look(alloc, floor, spawner, clock)? {
-                break;
+                return Ok(());
             }
         }
         Ok(())
@@ -156,6 +160,7 @@ impl Monitor {
         ensures faults { P.faults spawner.old ≤ P.faults spawner.new }
         ensures wait_fault { IsErrOf result MonitorFault.WaitFault → raised (P.faults spawner.old) ≤ P.faults spawner.new }
         ensures sent { IfOk result (λ sent. sent ≡ length floor.new - length floor.old) }
+        ensures idle { result ≡ Ok 0 → IsIdle floor.old self.old.kept (C.coming clock.old) (P.reporting spawner.old) }
     {
         let before = floor.len();
         self.send_kept(alloc, floor, clock)?;
@@ -222,7 +227,7 @@ impl Monitor {
         clock: &mut C,
     ) -> Result<(), MonitorFault>
         requires { self.old.kept ≡ None }
-        ensures hand { OnOk result (Hands floor.old floor.new) }
+        ensures hand { OnOk result (BeginsWithHand floor.old floor.new) }
         ensures part { Advances (view floor.old self.old (P.asked spawner.old) (P.told spawner.old) (P.misses spawner.old))
             (view floor.new self.new (P.asked spawner.new) (P.told spawner.new) (P.misses spawner.new)) }
         ensures kept { OnOk result (self.new.kept ≡ None) }
@@ -254,6 +259,7 @@ impl Monitor {
     ) -> Result<bool, MonitorFault>
         requires { self.old.kept ≡ None }
         ensures none { result ≡ Ok false → IsEmpty (P.reporting spawner.old) }
+        ensures sent { result ≡ Ok true → length floor.old < length floor.new }
         ensures part { Advances (view floor.old self.old (P.asked spawner.old) (P.told spawner.old) (P.misses spawner.old))
             (view floor.new self.new (P.asked spawner.new) (P.told spawner.new) (P.misses spawner.new)) }
         ensures kept { OnOk result (self.new.kept ≡ None) }

@@ -51,11 +51,11 @@ impl Run {
     ghost use Rattle.wm_outside.specs.Cause.{raised};
     ghost use Rattle.wrkmgr.specs.Floor.{last_of};
     ghost use Rattle.wrkmgr.specs.Said.{said_text, with_end, is_refused};
-    ghost use Rattle.std.specs.Prelude.{◌-◌, None, length};
+    ghost use Rattle.std.specs.Prelude.{◌-◌, None, Ok, length};
     ghost use Rattle.wm_law.specs.History.{entries_of};
     ghost use Rattle.wrkmgr.specs.Calls.{Called};
     ghost use Rattle.wrkmgr.specs.Lists.{since};
-    ghost use Rattle.wrkmgr.specs.Monitor.{Advances};
+    ghost use Rattle.wrkmgr.specs.Monitor.{Advances, IsIdle};
     ghost use Rattle.wrkmgr.specs.Serving.{Serves};
     ghost use Rattle.wrkmgr.specs.Session.{AnsweredBy, AnswersLine, Submits, session_pass};
     ghost use Rattle.wrkmgr.specs.Stop.{HasCauses, HasMonitorCauses};
@@ -111,6 +111,7 @@ impl Run {
         ensures kept { OnOk result (self.new.monitor.kept ≡ None) }
         ensures causes { HasMonitorCauses result (P.faults spawner.old) (P.faults spawner.new) }
         ensures sent { IfOk result (λ sent. sent ≡ length self.new.floor - length self.old.floor) }
+        ensures idle { result ≡ Ok 0 → IsIdle self.old.floor self.old.monitor.kept (C.coming clock.old) (P.reporting spawner.old) }
     {
         match self.monitor.turn(alloc, &mut self.floor, spawner, clock) {
             Ok(sent) => Ok(sent),

@@ -242,12 +242,11 @@ fn a_fault_ends_the_run_with_what_was_done_until_then(rt: HostRuntime) -> Result
 
 #[test]
 fn a_run_waits_for_a_child_that_is_out_for_long(rt: HostRuntime) -> Result<(), Fail> {
-    let rows = [(1, 6), (2, 6), (100, 6)];
-    for (lag, entries) in rows {
+    for lag in [1, 2, 100] {
         let done = run_over(&rt, rt.alloc(), SUBMIT, Outside { lag, ..FINE })?;
         assert_eq!(rt; done.status, 0);
         assert_eq!(rt; done.written.as_slice(), SUBMITTED);
-        assert_eq!(rt; done.log.len(), entries);
+        assert_eq!(rt; done.log.len(), 6);
     }
     let failing = Outside {
         lag: 100,

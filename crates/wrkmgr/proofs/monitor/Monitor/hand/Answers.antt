@@ -1,6 +1,6 @@
 use Rattle.std.proofs.Common.{Some, None, refl, sym, ap, ◌∙◌}
 use Rattle.wm_base.specs.declared.job.Asked.TheVariants.{Start, Kill}
-use Rattle.wrkmgr.proofs.Monitors.{Hands-only, Hands-then, nothing_part, killed_part, started_part}
+use Rattle.wrkmgr.proofs.Monitors.{BeginsWithHand-only, BeginsWithHand-then, nothing_part, killed_part, started_part}
 use Rattle.wrkmgr.proofs.monitor.Monitor.hand.Goals as goal
 
 pub returns-in-None-clause-part : goal.returns-in-None-clause-part
@@ -42,13 +42,13 @@ returns-in_ok-send_kept-in-Some-Start-clause-part g c =
     started_part c.args.floor.now c.call.new.self c.args.self.now (Some a) a c.start.result (s.asked p) (s.asked q) (s.told p) (s.told q) (s.misses p) (s.misses q) c.now.result _ c.requires c.in_ok-call.ensures.ok (ap Some (sym c.in-Some-Start.field-0-is) ∙ c.in-Some-Start.ensures) refl c.start.ensures.asked c.start.ensures.told c.start.ensures.misses (c.send_kept.ensures.part (s.asked q) (s.told q) (s.misses q))
 
 pub returns-in-None-clause-hand : goal.returns-in-None-clause-hand
-returns-in-None-clause-hand g c = Hands-only c.args.floor.now c.call.new.self _ c.in_ok-call.ensures.ok refl
+returns-in-None-clause-hand g c = BeginsWithHand-only c.args.floor.now c.call.new.self _ c.in_ok-call.ensures.ok refl
 
 pub returns-in_ok-kill-in-Some-Kill-clause-hand : goal.returns-in_ok-kill-in-Some-Kill-clause-hand
-returns-in_ok-kill-in-Some-Kill-clause-hand g c = Hands-only c.args.floor.now c.call.new.self _ c.in_ok-call.ensures.ok refl
+returns-in_ok-kill-in-Some-Kill-clause-hand g c = BeginsWithHand-only c.args.floor.now c.call.new.self _ c.in_ok-call.ensures.ok refl
 
 pub returns-in_ok-send_kept-in-Some-Start-clause-hand : goal.returns-in_ok-send_kept-in-Some-Start-clause-hand
 returns-in_ok-send_kept-in-Some-Start-clause-hand g c =
     let s = g.P.Spawner in
     let q = c.start.new.spawner in
-    Hands-then c.args.floor.now c.call.new.self c.send_kept.new.floor _ c.in_ok-call.ensures.ok refl (c.send_kept.ensures.part (s.asked q) (s.told q) (s.misses q)).log
+    BeginsWithHand-then c.args.floor.now c.call.new.self c.send_kept.new.floor _ c.in_ok-call.ensures.ok refl (c.send_kept.ensures.part (s.asked q) (s.told q) (s.misses q)).log

@@ -1,5 +1,5 @@
-use Rattle.std.proofs.Common.{arith, inl, inr}
-use Rattle.wrkmgr.proofs.Monitors.{Advances-then, hands_more}
+use Rattle.std.proofs.Common.{arith, inr}
+use Rattle.wrkmgr.proofs.Monitors.{Advances-then, hands_more, longer_hand}
 use Rattle.wrkmgr.proofs.monitor.Monitor.hands.Goals as goal
 
 pub returns-in_err-hand-clause-part : goal.returns-in_err-hand-clause-part
@@ -13,4 +13,5 @@ hands-preserved g c =
       none = c.in_ok-hand.ensures.kept;
       faults = omega arith;
       hands = hands_more c.args.floor.now c.hands.floor c.hand.new.floor c.hands.counter c.hands.invariant.part.log c.hand.ensures.part.log c.in_ok-hand.ensures.hand c.hands.invariant.hands;
+      quiet = inr (longer_hand c.args.floor.now c.hands.floor c.hand.new.floor c.hands.invariant.part.log c.in_ok-hand.ensures.hand);
     }

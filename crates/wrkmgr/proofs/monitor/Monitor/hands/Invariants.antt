@@ -11,4 +11,6 @@ invariant-hands g l =
     (s.faults l.fn.spawner)
     (s.faults l.spawner)
     l.self.kept
+    (s.reporting l.fn.spawner)
+    (s.reporting l.spawner)
     l.counter

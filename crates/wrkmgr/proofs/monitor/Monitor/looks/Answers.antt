@@ -1,5 +1,5 @@
-use Rattle.std.proofs.Common.{arith}
-use Rattle.wrkmgr.proofs.Monitors.{Advances-then}
+use Rattle.std.proofs.Common.{Ok, ap, ◌∙◌, arith, inr}
+use Rattle.wrkmgr.proofs.Monitors.{Advances-then, longer_then}
 use Rattle.wrkmgr.proofs.monitor.Monitor.looks.Goals as goal
 
 pub returns-in_err-look-clause-part : goal.returns-in_err-look-clause-part
@@ -16,4 +16,5 @@ looks-preserved g c =
       part = Advances-then _ _ _ c.looks.invariant.part c.look.ensures.part;
       none = c.in_ok-look.ensures.kept;
       faults = omega arith;
+      looks = inr (longer_then c.args.floor.now c.looks.floor c.look.new.floor c.looks.invariant.part.log (c.look.ensures.sent (c.in_ok-look.was ∙ ap Ok c.if-not-branch.false)));
     }

@@ -8,7 +8,7 @@ use Rattle.wm_law.specs.declared.call.Entry.{Entry}
 use Rattle.wrkmgr.specs.Stopped.{IsCutShort}
 use Rattle.wrkmgr.proofs.Firsts.{AnsweredBy-long, WritesSome-long}
 use Rattle.wrkmgr.proofs.Servings.{session_entries-none}
-use Rattle.wrkmgr.proofs.Stopping.{on_err}
+use Rattle.wrkmgr.proofs.StoppedRuns.{on_err}
 use Rattle.wrkmgr.proofs.session.Run.answer_buffered.Goals as goal
 
 pub returns-in_default-clause-answered : goal.returns-in_default-clause-answered

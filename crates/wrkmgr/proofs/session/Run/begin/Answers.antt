@@ -1,6 +1,6 @@
 use Rattle.wrkmgr.proofs.Servings.{Serves-call, Serves-then, Serves-monitor, one_call}
 use Rattle.std.proofs.Common.{None, inl, inr}
-use Rattle.wrkmgr.proofs.Stopping.{Untouched-same, on_err}
+use Rattle.wrkmgr.proofs.StoppedRuns.{Untouched-same, on_err}
 use Rattle.wrkmgr.specs.Session.{start_call}
 use Rattle.wrkmgr.proofs.session.Run.begin.Goals as goal
 

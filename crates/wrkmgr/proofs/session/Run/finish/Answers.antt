@@ -1,6 +1,6 @@
 use Rattle.wrkmgr.proofs.Servings.{Serves-call, Serves-then, Serves-same, Serves-monitor, last_call}
 use Rattle.std.proofs.Common.{inr}
-use Rattle.wrkmgr.proofs.Stopping.{no_call, no_call_same, on_err}
+use Rattle.wrkmgr.proofs.StoppedRuns.{no_call, no_call_same, on_err}
 use Rattle.wrkmgr.specs.Session.{end_call}
 use Rattle.wrkmgr.proofs.session.Run.finish.Goals as goal
 

@@ -1,7 +1,6 @@
-use Rattle.std.proofs.Common.{arith}
 use Rattle.std.proofs.lemmas.Result.{err_from_is_err_and}
 use Rattle.wrkmgr.proofs.Servings.{Serves-then}
-use Rattle.wrkmgr.proofs.Stopping.{stopped_begin, stopped_lines, stopped_end, not_full_none, full_pass, full_later, on_err}
+use Rattle.wrkmgr.proofs.StoppedRuns.{stopped_begin, stopped_lines, stopped_end, not_full_none, full_pass, full_later, on_err}
 use Rattle.wrkmgr.proofs.session.Run.serve.Goals as goal
 
 pub returns-in_err-faulty-clause-serves : goal.returns-in_err-faulty-clause-serves

@@ -1,6 +1,6 @@
 use Rattle.wrkmgr.proofs.Servings.{Serves-call, Serves-then, Serves-monitor, submitted}
 use Rattle.std.proofs.Common.{inl, inr}
-use Rattle.wrkmgr.proofs.Stopping.{Untouched-none, Untouched-same, WritesSome-all, on_err, submitted_some}
+use Rattle.wrkmgr.proofs.StoppedRuns.{Untouched-none, Untouched-same, WritesSome-all, on_err, submitted_some}
 use Rattle.wrkmgr.proofs.session.Run.submit.Goals as goal
 
 pub returns-in_err-refused-clause-serves : goal.returns-in_err-refused-clause-serves

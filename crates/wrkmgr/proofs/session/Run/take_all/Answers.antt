@@ -1,4 +1,4 @@
-use Rattle.wrkmgr.proofs.Stopping.{input_stops_none, on_err}
+use Rattle.wrkmgr.proofs.StoppedRuns.{input_stops_none, on_err}
 use Rattle.wrkmgr.proofs.session.Run.take_all.Goals as goal
 
 pub returns-in_err-piece-clause-stopped : goal.returns-in_err-piece-clause-stopped

@@ -7,8 +7,8 @@ use Rattle.wrkmgr.specs.Lists.{since}
 use Rattle.wrkmgr.specs.Session.{session_pass}
 use Rattle.wrkmgr.specs.Stopped.{StopsIn}
 use Rattle.wrkmgr.proofs.Servings.{Serves-none, session_entries-none}
-use Rattle.wrkmgr.proofs.Stopping.{Untouched-none, on_err}
-use Rattle.wrkmgr.proofs.Stops.{StopsIn-untouched, stops_end}
+use Rattle.wrkmgr.proofs.StoppedLines.{StopsIn-untouched, stops_end}
+use Rattle.wrkmgr.proofs.StoppedRuns.{Untouched-none, on_err}
 use Rattle.wrkmgr.proofs.Takings.{take_other, take_end}
 use Rattle.wrkmgr.proofs.session.Run.take_byte.Goals as goal
 

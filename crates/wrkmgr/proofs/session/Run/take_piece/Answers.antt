@@ -11,7 +11,7 @@ use Rattle.wrkmgr.specs.Stopped.{StopsIn}
 use Rattle.wrkmgr.specs.Taking.{TakesPiece}
 use Rattle.wrkmgr.proofs.Causes.{HasCauses-pass}
 use Rattle.wrkmgr.proofs.Servings.{Serves-none, Serves-then, taken_then, taken_none}
-use Rattle.wrkmgr.proofs.Stopping.{on_err, stops_piece}
+use Rattle.wrkmgr.proofs.StoppedRuns.{on_err, stops_piece}
 use Rattle.wrkmgr.proofs.session.Run.take_piece.Goals as goal
 
 pub bytes-init : goal.bytes-init

@@ -1,11 +1,10 @@
-use Rattle.std.proofs.Common.{arith, refl, sym, Err, ◌+◌, ◌≡◌, [], take, length}
+use Rattle.std.proofs.Common.{arith, refl, Err, ◌+◌, ◌≡◌, take}
 use Rattle.std.proofs.lemmas.List.{length-take-le}
 use Rattle.std.proofs.lemmas.Bool.Decides.{nat_tests}
 use Rattle.std.proofs.lemmas.Result.{err_from_is_err_and}
-use Rattle.wrkmgr.specs.Taking.{TakesInput}
 use Rattle.wrkmgr.proofs.Inputs.{input_then, input_end, count_then}
 use Rattle.wrkmgr.proofs.Servings.{Serves-then}
-use Rattle.wrkmgr.proofs.Stopping.{input_same, input_stops, input_stops_in, input_stops_last, full_read, not_full, on_err, take_none}
+use Rattle.wrkmgr.proofs.StoppedRuns.{input_same, input_stops, input_stops_in, input_stops_last, full_read, not_full, on_err, take_none}
 use Rattle.wrkmgr.proofs.session.Run.take_pieces.Goals as goal
 
 pub returns-in_err-wrong-clause-serves : goal.returns-in_err-wrong-clause-serves

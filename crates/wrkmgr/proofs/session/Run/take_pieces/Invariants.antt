@@ -1,4 +1,4 @@
-use Rattle.std.proofs.Common.{◌≡◌, List, ℕ, [], length}
+use Rattle.std.proofs.Common.{◌≡◌, [], length}
 use Rattle.wm_law.specs.History.{entries_of}
 use Rattle.wrkmgr.specs.Lines.{cut_from}
 use Rattle.wrkmgr.specs.Lists.{since}

@@ -1,5 +1,5 @@
 -- Laws of lines that were answered up to some place.
-use Rattle.std.proofs.Common.{◌≡◌, ◌⊎◌, ℕ, ◌+◌, ◌==◌, ◌||◌, Bool, true, false, cond, List, [], ◌∷◌, ◌++◌, length, take, drop, Option, sym, ap, subst, ◌∙◌, refl, inl, inr, append_assoc}
+use Rattle.std.proofs.Common.{◌≡◌, ℕ, ◌+◌, ◌==◌, ◌||◌, Bool, true, false, cond, List, [], ◌∷◌, ◌++◌, length, take, drop, Option, sym, ap, subst, ◌∙◌, refl, inl, inr, append_assoc}
 use Rattle.std.proofs.Math.Seq.{take-add, take-length}
 use Rattle.std.proofs.lemmas.List.{append-nil, take_at}
 use Rattle.wm_law.specs.declared.call.Entry.{Entry}
@@ -7,8 +7,8 @@ use Rattle.wm_outside.specs.Told.{Grows}
 use Rattle.wm_outside.proofs.Telling.{Grows-none, Grows-then}
 use Rattle.wrkmgr.specs.LineBuffer.{Holds}
 use Rattle.wrkmgr.specs.Lines.{Cut, cut_from, last_line, lines_of}
-use Rattle.wrkmgr.specs.Session.{Answers, AnswersLine, AnsweredBy, Says}
-use Rattle.wrkmgr.specs.Stopped.{IsCutShort, StopsIn, Untouched, WritesSome}
+use Rattle.wrkmgr.specs.Session.{Answers, AnswersLine, AnsweredBy}
+use Rattle.wrkmgr.specs.Stopped.{IsCutShort, StopsIn, Untouched}
 use Rattle.wrkmgr.specs.Taking.{TakesPiece}
 use Rattle.wrkmgr.specs.declared.line.LineBuffer.{LineBuffer}
 use Rattle.wrkmgr.proofs.Monitors.{since-append}

@@ -1,8 +1,8 @@
 -- Laws of a run that stops: what its session called and wrote until then.
-use Rattle.std.proofs.Common.{◌≡◌, ◌⊎◌, ◌↔◌, ℕ, ◌+◌, ◌<◌, ◌≤◌, Bool, true, false, List, [], ◌∷◌, ◌++◌, length, take, drop, get_or, Option, Some, None, Result, Ok, Err, sym, ap, subst, ◌∙◌, refl, inl, inr, append_assoc, arith}
+use Rattle.std.proofs.Common.{◌≡◌, ◌↔◌, ℕ, ◌+◌, ◌<◌, ◌≤◌, Bool, true, List, [], ◌∷◌, ◌++◌, length, take, drop, get_or, Option, Some, Result, Ok, Err, sym, ap, subst, ◌∙◌, refl, inl, inr, arith}
 use Rattle.std.specs.Prelude.{IfSome, IsErrOf, OnErr}
 use Rattle.std.specs.List.{list_all}
-use Rattle.std.proofs.Math.Seq.{take-length, drop-length}
+use Rattle.std.proofs.Math.Seq.{take-length}
 use Rattle.std.proofs.lemmas.List.{append-nil, take_more, take-append-drop, length-append}
 use Rattle.wm_law.specs.declared.call.Call.{Call}
 use Rattle.wm_law.specs.declared.call.Entry.{Entry}
@@ -16,16 +16,16 @@ use Rattle.wrkmgr.specs.Lines.{cut_from, lines_of}
 use Rattle.wrkmgr.specs.Lists.{since, Extends}
 use Rattle.wrkmgr.specs.Monitor.{is_own}
 use Rattle.wrkmgr.specs.Said.{said_text, with_end}
-use Rattle.wrkmgr.specs.Session.{Answers, AnsweredBy, AnswersLine, IsSession, OneCall, Submits, session_pass, start_call, end_call, submit_call}
-use Rattle.wrkmgr.specs.Stopped.{AtMostOne, IsCutShort, IsEnded, IsStopped, StopsIn, StopsInside, Untouched, WritesSome}
+use Rattle.wrkmgr.specs.Session.{Answers, AnsweredBy, AnswersLine, OneCall, Submits, session_pass, start_call, end_call, submit_call}
+use Rattle.wrkmgr.specs.Stopped.{AtMostOne, IsCutShort, IsStopped, StopsIn, Untouched, WritesSome}
 use Rattle.wrkmgr.specs.Taking.{TakesInput, TakesPiece}
 use Rattle.wrkmgr.specs.declared.line.LineBuffer.{LineBuffer}
 use Rattle.wrkmgr.specs.declared.stop.Stop.{Stop}
 use Rattle.wrkmgr.specs.declared.stop.Stop.TheVariants.{InputFull}
 use Rattle.wrkmgr.proofs.Monitors.{Extends-then, last_of-push}
 use Rattle.wrkmgr.proofs.Runs.{session_parts}
-use Rattle.wrkmgr.proofs.Servings.{Extends-called, session_entries-called, session_entries-none, session_entries-own, session_entries-then}
-use Rattle.wrkmgr.proofs.Stops.{StopsIn-none, StopsIn-untouched, StopsIn-whole, stops_front, stops_last, stops_lines, stops_then}
+use Rattle.wrkmgr.proofs.Servings.{session_entries-called, session_entries-none, session_entries-own, session_entries-then}
+use Rattle.wrkmgr.proofs.StoppedLines.{StopsIn-none, StopsIn-untouched, StopsIn-whole, stops_front, stops_last, stops_lines, stops_then}
 
 -- what holds anyway holds where an error is answered
 pub on_err : {T E P : Type 0} (r : Result T E) → P → OnErr r P
