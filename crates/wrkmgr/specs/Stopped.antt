@@ -23,9 +23,9 @@ abbrev pub IsCutShort : (List Entry → List ℕ → Bool → Type 0) → List E
 IsCutShort Due es before now = Untouched es before now ⊎ WritesSome Due es before now
 
 -- the first of the lines were called and answered, though not all of the answers' bytes were written
-pub record StopsIn (lines : List (List ℕ)) (es : List Entry) (before now : Option (List ℕ)) : Type 0 where
-  pub answered : List (List ℕ)
-  pub others : List (List ℕ)
+pub record StopsIn (lines : List (Option (List ℕ))) (es : List Entry) (before now : Option (List ℕ)) : Type 0 where
+  pub answered : List (Option (List ℕ))
+  pub others : List (Option (List ℕ))
   pub split : lines ≡ answered ++ others
   pub some : WritesSome (Answers answered) es before now
 
@@ -34,7 +34,7 @@ abbrev pub AtMostOne : Call → List Entry → Type 0
 AtMostOne c es = (es ≡ []) ⊎ OneCall c es
 
 -- a session that was begun, and stopped in its lines
-pub record StopsInside (lines : List (List ℕ)) (es : List Entry) (before now : Option (List ℕ)) : Type 0 where
+pub record StopsInside (lines : List (Option (List ℕ))) (es : List Entry) (before now : Option (List ℕ)) : Type 0 where
   pub first : List Entry
   pub middle : List Entry
   pub parts : es ≡ first ++ middle
@@ -42,10 +42,10 @@ pub record StopsInside (lines : List (List ℕ)) (es : List Entry) (before now :
   pub stops : StopsIn lines middle before now
 
 -- a session that was ended
-pub record IsEnded (lines : List (List ℕ)) (es : List Entry) (before now : Option (List ℕ)) : Type 0 where
+pub record IsEnded (lines : List (Option (List ℕ))) (es : List Entry) (before now : Option (List ℕ)) : Type 0 where
   pub faulty : Bool
   pub session : IsSession lines es before now faulty
 
 -- a session that stopped: before it was begun, in its lines, or once it was ended
-abbrev pub IsStopped : List (List ℕ) → List Entry → Option (List ℕ) → Option (List ℕ) → Type 0
+abbrev pub IsStopped : List (Option (List ℕ)) → List Entry → Option (List ℕ) → Option (List ℕ) → Type 0
 IsStopped lines es before now = Untouched es before now ⊎ (StopsInside lines es before now ⊎ IsEnded lines es before now)
