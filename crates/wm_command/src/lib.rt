@@ -51,9 +51,7 @@ pub use table::{change_rows, change_word, read_rows, read_word};
 pub use value::{Given, Value, Values};
 pub use values::{compared, one_value};
 pub use verb::{Change, Read};
-pub use words::{
-    date_of, ending_of, flag_of, job_of, name_of, number_of, object_of, program_of, time_of,
-};
+pub use words::{date_of, ending_of, flag_of, job_of, name_of, number_of, time_of};
 pub use written::{is_word, key_of, listed, place_of, text_of, word_of};
 
 #[cfg(test)]
