@@ -31,7 +31,7 @@ use Rattle.wm_command.specs.Made.{change_made}
 use Rattle.wm_command.specs.Print.{command_text}
 use Rattle.wm_command.specs.Reading.{complete}
 use Rattle.wm_command.specs.Shown.{values_of, verb_of}
-use Rattle.wm_command.specs.Table.{change_rows, change_word}
+use Rattle.wm_command.specs.Table.{change_rows, change_word, row_kind, row_special}
 use Rattle.wm_command.specs.Values.{is_never}
 
 abbrev pub IsQualified : QName → Type 0
@@ -64,8 +64,8 @@ FitsKind k v = ⊥
 
 -- it is that of a key's row, or the row's special word
 abbrev pub FitsRow : Row → Value → Type 0
-FitsRow row (value.Special s) = (s ≡ row.2) × (is_never s ≡ false)
-FitsRow row v = FitsKind row.1 v
+FitsRow row (value.Special s) = (s ≡ row_special row) × (is_never s ≡ false)
+FitsRow row v = FitsKind (row_kind row) v
 
 -- the keys that are printed: all but CMD, TEXT and POOLS
 abbrev pub is_shown : Kind → Bool
@@ -74,7 +74,7 @@ is_shown kind.Anything = false
 is_shown k = true
 
 abbrev pub shown_rows : List Row → List Row
-shown_rows rows = filter (λ row. is_shown row.1) rows
+shown_rows rows = filter (λ row. is_shown (row_kind row)) rows
 
 -- each value fits its row
 abbrev pub FitRows : List Row → List Given → Type 0

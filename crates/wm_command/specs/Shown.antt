@@ -1,5 +1,6 @@
 -- The values of a command's keys, in the order of the table.
 use Rattle.std.specs.Prelude.{ℕ, Option, Some, None, List, [], ◌∷◌, slice_index_or}
+use Rattle.std.specs.Option.{option_map}
 use Rattle.wm_base.specs.declared.limit.Limit.{Limit}
 use Rattle.wm_base.specs.declared.limit.Limit.TheVariants.{NoMax, Most}
 use Rattle.wm_base.specs.declared.refusal.Key.{Key}
@@ -50,9 +51,12 @@ limit_value NoMax = value.Special special.Nomax
 limit_value (Most n) = value.Number n
 
 -- the special word of the row, where there is no value
+abbrev pub word_or : Special → Option Value → Value
+word_or s None = value.Special s
+word_or s (Some v) = v
+
 abbrev pub or_special : {V : Type 0} → Special → (V → Value) → Option V → Value
-or_special s made None = value.Special s
-or_special s made (Some v) = made v
+or_special s made v = word_or s (option_map made v)
 
 -- MAXPTY1 to MAXPTY9, of nine limits
 abbrev pub maxpty_value : Key → ℕ → List Limit → Given

@@ -5,6 +5,7 @@ ghost use Rattle.wm_base.specs.Name.{IsName};
 ghost use Rattle.wm_base.specs.Text.{IsText};
 ghost use Rattle.wm_command.specs.Each.{each};
 ghost use Rattle.wm_command.specs.declared.value.Value.TheVariants as value;
+ghost use Rattle.wm_command.specs.Table.{row_key, row_kind, row_special, row_otherwise};
 ghost use Rattle.wm_command.specs.Reading.{same_key, is_given, row_named, row_value, with_value, keyed, next_item, stands_alone, first_item, items_given, default_value, complete, all_given};
 
 use crate::call::call_value;
@@ -48,8 +49,8 @@ fn row_named(word: &[u8], rows: &[Row]) -> Option<Row>
 
 /// The value of a key, whose item begins at `place`.
 fn row_value(alloc: Global, row: &Row, place: u32, items: &[Item]) -> Result<Value, CmdFault>
-    ensures ok { IfOk result (λ v. row_value row.now.1 row.now.2 place items.now ≡ Ok v) }
-    ensures err { IfErr result (λ e. e ≢ CmdFault.NoMemory → row_value row.now.1 row.now.2 place items.now ≡ Err e) }
+    ensures ok { IfOk result (λ v. row_value (row_kind row.now) (row_special row.now) place items.now ≡ Ok v) }
+    ensures err { IfErr result (λ e. e ≢ CmdFault.NoMemory → row_value (row_kind row.now) (row_special row.now) place items.now ≡ Err e) }
 {
     match row.1 {
         Kind::Compare => compared(place, items),
@@ -173,8 +174,8 @@ fn text_value(alloc: Global, text: &[u8]) -> Result<Value, CmdFault>
 
 /// What a key has where it isn't given.
 fn default_value(alloc: Global, row: &Row) -> Result<Value, CmdFault>
-    ensures ok { IfOk result (λ v. default_value row.now.3 row.now.0 row.now.2 ≡ Ok v) }
-    ensures err { IfErr result (λ e. e ≢ CmdFault.NoMemory → default_value row.now.3 row.now.0 row.now.2 ≡ Err e) }
+    ensures ok { IfOk result (λ v. default_value (row_otherwise row.now) (row_key row.now) (row_special row.now) ≡ Ok v) }
+    ensures err { IfErr result (λ e. e ≢ CmdFault.NoMemory → default_value (row_otherwise row.now) (row_key row.now) (row_special row.now) ≡ Err e) }
 {
     match row.3 {
         Default::Required => Err(CmdFault::Missing(row.0)),

@@ -1,6 +1,6 @@
 // The values of a command's keys, in the order of the table.
 ghost use Rattle.std.specs.Prelude.{◌≡◌, IfOk};
-ghost use Rattle.wm_command.specs.Shown.{limit_value, or_special, values_of, verb_of};
+ghost use Rattle.wm_command.specs.Shown.{limit_value, word_or, or_special, values_of, verb_of};
 ghost use Rattle.wm_command.specs.declared.value.Value.TheVariants as value;
 
 use crate::commands::Command;
@@ -22,8 +22,7 @@ use crate::shown_job::{
 use crate::value::{Value, Values};
 use crate::verb::Change;
 use std::alloc::{AllocError, Global};
-use wm_base::{Limit, Name, Priority, QName, Text};
-use wm_when::{DateSpec, TimeSpec};
+use wm_base::{Limit, Priority, Text};
 
 pub fn limit_value(limit: Limit) -> Value
     ensures { result ≡ limit_value limit }
@@ -31,6 +30,16 @@ pub fn limit_value(limit: Limit) -> Value
     match limit {
         Limit::NoMax => Value::Special(Special::Nomax),
         Limit::Most(n) => Value::Number(n),
+    }
+}
+
+/// The special word of the row, where there is no value.
+pub fn word_or(special: Special, value: Option<Value>) -> Value
+    ensures { result ≡ word_or special value }
+{
+    match value {
+        None => Value::Special(special),
+        Some(value) => value,
     }
 }
 
@@ -49,60 +58,6 @@ pub fn priority_or(special: Special, priority: Option<Priority>) -> Value
     match priority {
         None => Value::Special(special),
         Some(priority) => Value::Number(priority.get() as u32),
-    }
-}
-
-pub fn object_or(special: Special, object: Option<QName>) -> Value
-    ensures { result ≡ or_special special value.Object object }
-{
-    match object {
-        None => Value::Special(special),
-        Some(object) => Value::Object(object),
-    }
-}
-
-pub fn name_or(special: Special, name: Option<Name>) -> Value
-    ensures { result ≡ or_special special value.Name name }
-{
-    match name {
-        None => Value::Special(special),
-        Some(name) => Value::Name(name),
-    }
-}
-
-pub fn number_or(special: Special, number: Option<u32>) -> Value
-    ensures { result ≡ or_special special value.Number number }
-{
-    match number {
-        None => Value::Special(special),
-        Some(number) => Value::Number(number),
-    }
-}
-
-pub fn flag_or(special: Special, flag: Option<bool>) -> Value
-    ensures { result ≡ or_special special value.Flag flag }
-{
-    match flag {
-        None => Value::Special(special),
-        Some(flag) => Value::Flag(flag),
-    }
-}
-
-pub fn date_or(special: Special, date: Option<DateSpec>) -> Value
-    ensures { result ≡ or_special special value.Date date }
-{
-    match date {
-        None => Value::Special(special),
-        Some(date) => Value::Date(date),
-    }
-}
-
-pub fn time_or(special: Special, time: Option<TimeSpec>) -> Value
-    ensures { result ≡ or_special special value.Time time }
-{
-    match time {
-        None => Value::Special(special),
-        Some(time) => Value::Time(time),
     }
 }
 

@@ -4,7 +4,7 @@ ghost use Rattle.wm_command.specs.Shown.{strsbs_values, endsbs_values, hldjobq_v
 
 use crate::commands::{Clrjobq, Endpj, Endsbs, Evoke, Hldjobq, Pwrdwnsys, Rlsjobq, Strpj, Strsbs};
 use crate::row::Special;
-use crate::shown::number_or;
+use crate::shown::word_or;
 use crate::value::{Value, Values};
 use std::alloc::{AllocError, Global};
 use wm_base::Key;
@@ -25,7 +25,7 @@ pub fn endsbs_values(alloc: Global, c: &Endsbs) -> Result<Values, AllocError>
     let mut values = Values::new(alloc);
     values.push(Key::Sbs, Value::Name(c.sbs))?;
     values.push(Key::Option, Value::Ending(c.option))?;
-    values.push(Key::Delay, number_or(Special::Nolimit, c.delay))?;
+    values.push(Key::Delay, word_or(Special::Nolimit, c.delay.map(Value::Number)))?;
     Ok(values)
 }
 
@@ -74,7 +74,7 @@ pub fn endpj_values(alloc: Global, c: &Endpj) -> Result<Values, AllocError>
     values.push(Key::Sbs, Value::Name(c.sbs))?;
     values.push(Key::Pgm, Value::Object(c.pgm))?;
     values.push(Key::Option, Value::Ending(c.option))?;
-    values.push(Key::Delay, number_or(Special::Nolimit, c.delay))?;
+    values.push(Key::Delay, word_or(Special::Nolimit, c.delay.map(Value::Number)))?;
     Ok(values)
 }
 
@@ -94,6 +94,6 @@ pub fn pwrdwnsys_values(alloc: Global, c: &Pwrdwnsys) -> Result<Values, AllocErr
 {
     let mut values = Values::new(alloc);
     values.push(Key::Option, Value::Ending(c.option))?;
-    values.push(Key::Delay, number_or(Special::Nolimit, c.delay))?;
+    values.push(Key::Delay, word_or(Special::Nolimit, c.delay.map(Value::Number)))?;
     Ok(values)
 }
