@@ -4,6 +4,7 @@ use Rattle.std.specs.List.{list_any}
 use Rattle.wm_base.specs.declared.refusal.Key.{Key}
 use Rattle.wm_base.specs.Key.{key_word}
 use Rattle.wm_clwords.specs.declared.tree.Item.{Item}
+use Rattle.wm_desc.specs.Opening.{qbatch, qdftjobd}
 use Rattle.wm_when.specs.declared.schedule.DateSpec.TheVariants as date
 use Rattle.wm_when.specs.declared.schedule.TimeSpec.TheVariants as time
 use Rattle.wm_command.specs.declared.commands.EndOption.TheVariants.{Cntrld}
@@ -88,8 +89,8 @@ default_value (default.Number n) key s = Ok (value.Number n)
 default_value default.Yes key s = Ok (value.Flag true)
 default_value default.No key s = Ok (value.Flag false)
 default_value default.Cntrld key s = Ok (value.Ending Cntrld)
-default_value default.Qbatch key s = Ok (value.Object (record { lib = codes "QGPL"; name = codes "QBATCH" }))
-default_value default.Qdftjobd key s = Ok (value.Object (record { lib = codes "QGPL"; name = codes "QDFTJOBD" }))
+default_value default.Qbatch key s = Ok (value.Object qbatch)
+default_value default.Qdftjobd key s = Ok (value.Object qdftjobd)
 default_value default.Qcmdi key s = Ok (value.Text (codes "QCMDI"))
 default_value default.Qcmdb key s = Ok (value.Text (codes "QCMDB"))
 default_value default.Today key s = Ok (value.Date date.Current)

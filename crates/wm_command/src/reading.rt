@@ -1,7 +1,6 @@
 // What the items of a command give its keys.
-ghost use Rattle.std.specs.Prelude.{◌≡◌, ◌≢◌, IfOk, IfErr, OnOk, Ok, Err, Some, codes};
+ghost use Rattle.std.specs.Prelude.{◌≡◌, ◌≢◌, IfOk, IfErr, OnOk, Ok, Err, Some};
 ghost use Rattle.std.specs.Option.{option_copied};
-ghost use Rattle.wm_base.specs.Name.{IsName};
 ghost use Rattle.wm_base.specs.Text.{IsText};
 ghost use Rattle.wm_command.specs.Each.{each};
 ghost use Rattle.wm_command.specs.declared.value.Value.TheVariants as value;
@@ -17,8 +16,9 @@ use crate::values::{compared, one_value};
 use crate::written::{key_of, listed, place_of};
 use std::alloc::Global;
 use std::slice;
-use wm_base::{Key, Name, QName, Text};
+use wm_base::{Key, Text};
 use wm_clwords::Item;
+use wm_desc::{qbatch, qdftjobd};
 use wm_when::{DateSpec, TimeSpec};
 
 /// Whether keys are the same.
@@ -154,16 +154,6 @@ fn items_given(alloc: Global, rows: &[Row], items: &[Item]) -> Result<Values, Cm
     }
 }
 
-fn object_named(name: &[u8]) -> Value
-    requires { IsName name.now }
-    ensures { result ≡ value.Object (record { lib = codes "QGPL"; name = name.now }) }
-{
-    Value::Object(QName {
-        lib: Name::of(b"QGPL"),
-        name: Name::of(name),
-    })
-}
-
 fn text_value(alloc: Global, text: &[u8]) -> Result<Value, CmdFault>
     requires { IsText text.now }
     ensures ok { IfOk result (λ v. v ≡ value.Text text.now) }
@@ -185,8 +175,8 @@ fn default_value(alloc: Global, row: &Row) -> Result<Value, CmdFault>
         Default::Yes => Ok(Value::Flag(true)),
         Default::No => Ok(Value::Flag(false)),
         Default::Cntrld => Ok(Value::Ending(EndOption::Cntrld)),
-        Default::Qbatch => Ok(object_named(b"QBATCH")),
-        Default::Qdftjobd => Ok(object_named(b"QDFTJOBD")),
+        Default::Qbatch => Ok(Value::Object(qbatch())),
+        Default::Qdftjobd => Ok(Value::Object(qdftjobd())),
         Default::Qcmdi => {
             let value = text_value(alloc, b"QCMDI")?;
             Ok(value)
