@@ -124,6 +124,7 @@ impl Values {
         }
     }
 
+    /// The text of a key. An `Err` is want of memory.
     #[tactic(auto, unfolding(crate::specs::Fields::text_in))]
     pub fn text(&self, key: Key) -> Result<Text, AllocError>
         ensures { IfOk result (λ text. text ≡ text_in key self.now) }
@@ -134,6 +135,7 @@ impl Values {
         }
     }
 
+    /// The compare value of a key. An `Err` is want of memory.
     #[tactic(auto, unfolding(crate::specs::Fields::compare_in))]
     pub fn compare(&self, key: Key) -> Result<Cmp, AllocError>
         ensures { IfOk result (λ cmp. cmp ≡ compare_in key self.now) }
@@ -205,6 +207,7 @@ impl Values {
         ]
     }
 
+    /// The text of a key, and nothing for its special word. An `Err` is want of memory.
     pub fn maybe_text(&self, key: Key) -> Result<Option<Text>, AllocError>
         ensures { IfOk result (λ text. text ≡ maybe (is_word_in key self.now) (text_in key self.now)) }
     {
@@ -214,7 +217,7 @@ impl Values {
         Ok(Some(self.text(key)?))
     }
 
-    /// The text of CMD's CALL, or RQSDTA.
+    /// The text of CMD's CALL, or RQSDTA. An `Err` is want of memory.
     #[tactic(auto, unfolding(crate::specs::Fields::request_in))]
     pub fn request(&self) -> Result<Option<Text>, AllocError>
         ensures { IfOk result (λ text. text ≡ request_in self.now) }

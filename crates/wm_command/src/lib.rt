@@ -43,16 +43,7 @@ pub use commands::{
 pub use fault::CmdFault;
 pub use laws::{printed_command_is_read, shown_values_make_the_command};
 pub use line::command;
-pub use made::change_made;
 pub use printing::print;
-pub use reading::{all_given, same_key};
-pub use row::{Default, Kind, Row, Special};
-pub use table::{change_rows, change_word, read_rows, read_word};
-pub use value::{Given, Value, Values};
-pub use values::{compared, one_value};
-pub use verb::{Change, Read};
-pub use words::{date_of, ending_of, flag_of, job_of, name_of, number_of, time_of};
-pub use written::{is_word, key_of, listed, place_of, text_of, word_of};
 
 #[cfg(test)]
 mod tests;

@@ -13,7 +13,7 @@ use crate::value::Values;
 use crate::verb::Change;
 use std::alloc::AllocError;
 
-/// The command with these values.
+/// The command with these values. An `Err` is want of memory.
 pub fn change_made(verb: Change, values: &Values) -> Result<Command, AllocError>
     ensures { IfOk result (λ c. c ≡ change_made verb values.now) }
 {

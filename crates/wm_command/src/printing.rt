@@ -273,7 +273,7 @@ fn push_all(alloc: Global, out: &mut Text, all: &[Given]) -> Result<(), AllocErr
 }
 
 /// The canonical text of a command: its name, and every key of the table in order with its value. CMD isn't printed,
-/// its text stands in RQSDTA.
+/// its text stands in RQSDTA. An `Err` is want of memory.
 pub fn print(alloc: Global, command: &Command) -> Result<Text, AllocError>
     ensures { IfOk result (λ text. text ≡ command_text command.now) }
 {

@@ -61,7 +61,7 @@ pub fn priority_or(special: Special, priority: Option<Priority>) -> Value
     }
 }
 
-/// All keys but CMD, TEXT and POOLS, with their values.
+/// All keys but CMD, TEXT and POOLS, with their values. An `Err` is want of memory.
 pub fn values_of(alloc: Global, command: &Command) -> Result<Values, AllocError>
     ensures { IfOk result (λ v. v ≡ values_of command.now) }
 {
