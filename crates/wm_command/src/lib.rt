@@ -20,6 +20,7 @@ mod made_control;
 mod made_create;
 mod made_entry;
 mod made_job;
+mod printable;
 mod printing;
 mod reading;
 mod row;

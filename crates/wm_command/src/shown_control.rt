@@ -25,7 +25,10 @@ pub fn endsbs_values(alloc: Global, c: &Endsbs) -> Result<Values, AllocError>
     let mut values = Values::new(alloc);
     values.push(Key::Sbs, Value::Name(c.sbs))?;
     values.push(Key::Option, Value::Ending(c.option))?;
-    values.push(Key::Delay, word_or(Special::Nolimit, c.delay.map(Value::Number)))?;
+    values.push(
+        Key::Delay,
+        word_or(Special::Nolimit, c.delay.map(Value::Number)),
+    )?;
     Ok(values)
 }
 
@@ -74,7 +77,10 @@ pub fn endpj_values(alloc: Global, c: &Endpj) -> Result<Values, AllocError>
     values.push(Key::Sbs, Value::Name(c.sbs))?;
     values.push(Key::Pgm, Value::Object(c.pgm))?;
     values.push(Key::Option, Value::Ending(c.option))?;
-    values.push(Key::Delay, word_or(Special::Nolimit, c.delay.map(Value::Number)))?;
+    values.push(
+        Key::Delay,
+        word_or(Special::Nolimit, c.delay.map(Value::Number)),
+    )?;
     Ok(values)
 }
 
@@ -94,6 +100,9 @@ pub fn pwrdwnsys_values(alloc: Global, c: &Pwrdwnsys) -> Result<Values, AllocErr
 {
     let mut values = Values::new(alloc);
     values.push(Key::Option, Value::Ending(c.option))?;
-    values.push(Key::Delay, word_or(Special::Nolimit, c.delay.map(Value::Number)))?;
+    values.push(
+        Key::Delay,
+        word_or(Special::Nolimit, c.delay.map(Value::Number)),
+    )?;
     Ok(values)
 }

@@ -52,8 +52,14 @@ pub fn chgjob_values(alloc: Global, c: &Chgjob) -> Result<Values, AllocError>
     values.push(Key::Job, Value::Job(c.job))?;
     values.push(Key::Jobpty, priority_or(Special::Same, c.jobpty))?;
     values.push(Key::Jobq, word_or(Special::Same, c.jobq.map(Value::Object)))?;
-    values.push(Key::Scddate, word_or(Special::Same, c.scddate.map(Value::Date)))?;
-    values.push(Key::Scdtime, word_or(Special::Same, c.scdtime.map(Value::Time)))?;
+    values.push(
+        Key::Scddate,
+        word_or(Special::Same, c.scddate.map(Value::Date)),
+    )?;
+    values.push(
+        Key::Scdtime,
+        word_or(Special::Same, c.scdtime.map(Value::Time)),
+    )?;
     Ok(values)
 }
 
