@@ -1,5 +1,5 @@
 -- A command that is read keeps the forms and the ranges of the table.
-use Rattle.std.proofs.Common.{◌≡◌, ℕ, ◌≤◌, Bool, true, false, cond, List, [], ◌∷◌, length, Option, Some, None, Result, Ok, Err, IfSome, IsTrue, subst, sym, ◌∙◌, ap, refl}
+use Rattle.std.proofs.Common.{◌≡◌, ℕ, true, false, cond, List, length, Option, Some, None, Ok, IfSome, IsTrue, subst, sym, ◌∙◌, ap, refl}
 use Rattle.std.proofs.lemmas.Bool.{false≢true}
 use Rattle.wm_base.specs.Name.{IsName}
 use Rattle.wm_base.specs.Text.{IsText}
@@ -30,15 +30,15 @@ use Rattle.wm_command.specs.declared.verb.Change.TheVariants as change
 use Rattle.wm_command.specs.declared.verb.Read.{Read}
 use Rattle.wm_command.specs.Each.{go_on}
 use Rattle.wm_command.specs.Fields.{object_or, name_or, text_or, number_or, limit_or, flag_or, job_or, compare_or, date_or, time_or, priority_or, is_word_value, maybe, request_or, value_of, object_in, name_in, text_in, number_in, limit_in, flag_in, ending_in, job_in, compare_in, date_in, time_in, priority_in, is_word_in, class_in, maxpty_in, request_in}
-use Rattle.wm_command.specs.Line.{change_named, read_named, own_fault, unless, read_by, read_line, read_made, line_by, line_of}
-use Rattle.wm_command.specs.Made.{change_made, crtcls, crtjobq, crtpgmref, crtjobd, crtsbsd, addjobqe, addrtge, addaje, addpje, rmvjobqe, rmvrtge, rmvaje, rmvpje, strsbs, endsbs, sbmjob, hldjob, rlsjob, chgjob, endjob, hldjobq, rlsjobq, clrjobq, strpj, endpj, evoke, enduse, pwrdwnsys}
+use Rattle.wm_command.specs.Line.{change_named, read_named, own_fault, unless, read_by, read_made, line_by, line_of}
+use Rattle.wm_command.specs.Made.{change_made, crtcls, crtpgmref, crtjobd, crtsbsd, addjobqe, addrtge, addaje, addpje, rmvjobqe, rmvrtge, rmvaje, rmvpje, endsbs, sbmjob, chgjob, endjob, strpj, endpj, evoke, pwrdwnsys}
 use Rattle.wm_command.specs.Printed.{IsQualified, FitsJob, FitsCompare, FitsRow, HasText, HasTexts, IsFit, LineHasTexts, KeepsForms, LineIsReadBack}
 use Rattle.wm_command.specs.Reading.{row_named, same_key, all_given}
-use Rattle.wm_command.specs.Shown.{limit_value, or_special, crtcls_values, crtjobq_values, crtpgmref_values, crtjobd_values, crtsbsd_values, addjobqe_values, addrtge_values, addaje_values, addpje_values, rmvjobqe_values, rmvrtge_values, rmvaje_values, rmvpje_values, strsbs_values, endsbs_values, sbmjob_values, hldjob_values, rlsjob_values, chgjob_values, endjob_values, hldjobq_values, rlsjobq_values, clrjobq_values, strpj_values, endpj_values, evoke_values, enduse_values, pwrdwnsys_values}
+use Rattle.wm_command.specs.Shown.{limit_value, or_special, crtcls_values, crtpgmref_values, crtjobd_values, crtsbsd_values, addjobqe_values, addrtge_values, addaje_values, addpje_values, rmvjobqe_values, rmvrtge_values, rmvaje_values, rmvpje_values, endsbs_values, sbmjob_values, chgjob_values, endjob_values, strpj_values, endpj_values, evoke_values, pwrdwnsys_values}
 use Rattle.wm_command.specs.Table.{plain, or_word, change_rows, read_rows}
 use Rattle.wm_command.specs.Values.{is_never}
 use Rattle.wm_command.proofs.ReadBack.{printed_back}
-use Rattle.wm_command.proofs.ReadForms.{InRow, MayLack, none_some, some_same, err_ok, ok_same}
+use Rattle.wm_command.proofs.ReadForms.{InRow, MayLack, err_ok, ok_same}
 use Rattle.wm_command.proofs.TableForms.{RightRows, Has, AllHave, go_good, table_has}
 
 -- the tables
@@ -334,8 +334,8 @@ crtcls_fits g h =
       whole = tt;
     }
 
-crtjobq_fits : (g : List Given) → AllHave (change_rows change.Crtjobq) g → IsFit (command.Crtjobq (crtjobq g))
-unfolding change_rows object_in name_in text_in number_in limit_in flag_in ending_in job_in compare_in date_in time_in priority_in is_word_in class_in maxpty_in request_in crtjobq crtjobq_values
+crtjobq_fits : (g : List Given) → AllHave (change_rows change.Crtjobq) g → IsFit (change_made change.Crtjobq g)
+unfolding change_rows object_in name_in text_in number_in limit_in flag_in ending_in job_in compare_in date_in time_in priority_in is_word_in class_in maxpty_in request_in
 crtjobq_fits g h =
     record {
       values = (
@@ -589,8 +589,8 @@ rmvpje_fits g h =
       whole = tt;
     }
 
-strsbs_fits : (g : List Given) → AllHave (change_rows change.Strsbs) g → IsFit (command.Strsbs (strsbs g))
-unfolding change_rows object_in name_in text_in number_in limit_in flag_in ending_in job_in compare_in date_in time_in priority_in is_word_in class_in maxpty_in request_in strsbs strsbs_values
+strsbs_fits : (g : List Given) → AllHave (change_rows change.Strsbs) g → IsFit (change_made change.Strsbs g)
+unfolding change_rows object_in name_in text_in number_in limit_in flag_in ending_in job_in compare_in date_in time_in priority_in is_word_in class_in maxpty_in request_in
 strsbs_fits g h =
     record {
       values = (
@@ -652,8 +652,8 @@ sbmjob_fits g h t =
       whole = tt;
     }
 
-hldjob_fits : (g : List Given) → AllHave (change_rows change.Hldjob) g → IsFit (command.Hldjob (hldjob g))
-unfolding change_rows object_in name_in text_in number_in limit_in flag_in ending_in job_in compare_in date_in time_in priority_in is_word_in class_in maxpty_in request_in hldjob hldjob_values
+hldjob_fits : (g : List Given) → AllHave (change_rows change.Hldjob) g → IsFit (change_made change.Hldjob g)
+unfolding change_rows object_in name_in text_in number_in limit_in flag_in ending_in job_in compare_in date_in time_in priority_in is_word_in class_in maxpty_in request_in
 hldjob_fits g h =
     record {
       values = (
@@ -663,8 +663,8 @@ hldjob_fits g h =
       whole = tt;
     }
 
-rlsjob_fits : (g : List Given) → AllHave (change_rows change.Rlsjob) g → IsFit (command.Rlsjob (rlsjob g))
-unfolding change_rows object_in name_in text_in number_in limit_in flag_in ending_in job_in compare_in date_in time_in priority_in is_word_in class_in maxpty_in request_in rlsjob rlsjob_values
+rlsjob_fits : (g : List Given) → AllHave (change_rows change.Rlsjob) g → IsFit (change_made change.Rlsjob g)
+unfolding change_rows object_in name_in text_in number_in limit_in flag_in ending_in job_in compare_in date_in time_in priority_in is_word_in class_in maxpty_in request_in
 rlsjob_fits g h =
     record {
       values = (
@@ -714,8 +714,8 @@ endjob_fits g h =
       whole = tt;
     }
 
-hldjobq_fits : (g : List Given) → AllHave (change_rows change.Hldjobq) g → IsFit (command.Hldjobq (hldjobq g))
-unfolding change_rows object_in name_in text_in number_in limit_in flag_in ending_in job_in compare_in date_in time_in priority_in is_word_in class_in maxpty_in request_in hldjobq hldjobq_values
+hldjobq_fits : (g : List Given) → AllHave (change_rows change.Hldjobq) g → IsFit (change_made change.Hldjobq g)
+unfolding change_rows object_in name_in text_in number_in limit_in flag_in ending_in job_in compare_in date_in time_in priority_in is_word_in class_in maxpty_in request_in
 hldjobq_fits g h =
     record {
       values = (
@@ -725,8 +725,8 @@ hldjobq_fits g h =
       whole = tt;
     }
 
-rlsjobq_fits : (g : List Given) → AllHave (change_rows change.Rlsjobq) g → IsFit (command.Rlsjobq (rlsjobq g))
-unfolding change_rows object_in name_in text_in number_in limit_in flag_in ending_in job_in compare_in date_in time_in priority_in is_word_in class_in maxpty_in request_in rlsjobq rlsjobq_values
+rlsjobq_fits : (g : List Given) → AllHave (change_rows change.Rlsjobq) g → IsFit (change_made change.Rlsjobq g)
+unfolding change_rows object_in name_in text_in number_in limit_in flag_in ending_in job_in compare_in date_in time_in priority_in is_word_in class_in maxpty_in request_in
 rlsjobq_fits g h =
     record {
       values = (
@@ -736,8 +736,8 @@ rlsjobq_fits g h =
       whole = tt;
     }
 
-clrjobq_fits : (g : List Given) → AllHave (change_rows change.Clrjobq) g → IsFit (command.Clrjobq (clrjobq g))
-unfolding change_rows object_in name_in text_in number_in limit_in flag_in ending_in job_in compare_in date_in time_in priority_in is_word_in class_in maxpty_in request_in clrjobq clrjobq_values
+clrjobq_fits : (g : List Given) → AllHave (change_rows change.Clrjobq) g → IsFit (change_made change.Clrjobq g)
+unfolding change_rows object_in name_in text_in number_in limit_in flag_in ending_in job_in compare_in date_in time_in priority_in is_word_in class_in maxpty_in request_in
 clrjobq_fits g h =
     record {
       values = (
@@ -795,8 +795,8 @@ evoke_fits g h =
       whole = tt;
     }
 
-enduse_fits : (g : List Given) → AllHave (change_rows change.Enduse) g → IsFit (command.Enduse (enduse g))
-unfolding change_rows object_in name_in text_in number_in limit_in flag_in ending_in job_in compare_in date_in time_in priority_in is_word_in class_in maxpty_in request_in enduse enduse_values
+enduse_fits : (g : List Given) → AllHave (change_rows change.Enduse) g → IsFit (change_made change.Enduse g)
+unfolding change_rows object_in name_in text_in number_in limit_in flag_in ending_in job_in compare_in date_in time_in priority_in is_word_in class_in maxpty_in request_in
 enduse_fits g h =
     record {
       values = (

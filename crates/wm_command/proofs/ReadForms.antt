@@ -1,8 +1,8 @@
 -- What is read as a key's value has the form and the range of the key's row.
-use Rattle.std.proofs.Common.{◌≡◌, ℕ, ◌+◌, ◌*◌, ◌/◌, ◌%◌, ◌&&◌, Bool, true, false, cond, nat_lt, nat_le, nat_eq, List, [], ◌∷◌, length, Option, Some, None, Result, Ok, Err, IfSome, IsTrue, codes, subst, sym, refl, inl, inr, arith}
+use Rattle.std.proofs.Common.{◌≡◌, ℕ, ◌+◌, ◌*◌, ◌/◌, ◌%◌, ◌&&◌, Bool, true, false, cond, nat_lt, nat_le, nat_eq, List, [], ◌∷◌, length, Option, Some, None, Result, Ok, Err, IsTrue, codes, subst, sym, refl, inl, inr, arith}
 use Rattle.std.specs.Cmp.Lexicographic.{pointwise}
 use Rattle.std.specs.Option.{option_map}
-use Rattle.std.proofs.lemmas.Bool.{and_parts, and_from, false≢true}
+use Rattle.std.proofs.lemmas.Bool.{and_parts, false≢true}
 use Rattle.std.proofs.lemmas.Bool.Decides.{nat_tests}
 use Rattle.std.proofs.lemmas.Option.{cond_some}
 use Rattle.wm_base.specs.Name.{is_name, IsName}
@@ -16,7 +16,6 @@ use Rattle.wm_clwords.specs.CallText.{call_text}
 use Rattle.wm_clwords.specs.Grammar.{Token, Word, Quoted, Key as KeyToken, Open, Close, Blank, Comment}
 use Rattle.wm_clwords.proofs.References.{object_some, program_some}
 use Rattle.wm_desc.specs.Ranges.{path_in_range, cmp_in_range}
-use Rattle.wm_desc.specs.declared.entry.Cmp.{Cmp}
 use Rattle.wm_desc.specs.declared.entry.Cmp.TheVariants.{Any, Val}
 use Rattle.wm_when.specs.Schedule.{within, is_date, date_in_range, time_in_range}
 use Rattle.wm_when.specs.declared.schedule.DateSpec.{DateSpec}
@@ -35,10 +34,10 @@ use Rattle.wm_command.specs.declared.row.Row.{Row}
 use Rattle.wm_command.specs.declared.row.Special.{Special}
 use Rattle.wm_command.specs.declared.value.Value.{Value}
 use Rattle.wm_command.specs.declared.value.Value.TheVariants as value
-use Rattle.wm_command.specs.Call.{call_value, called_text, text_kept}
+use Rattle.wm_command.specs.Call.{call_value, called_text}
 use Rattle.wm_command.specs.Printed.{IsQualified, FitsJob, FitsKind}
 use Rattle.wm_command.specs.Reading.{row_value}
-use Rattle.wm_command.specs.Values.{kind_value, special_word, is_never, is_special, item_value, text_value, text_within, or_bad, one_value, compared, one_compared, two_compared, text_from, start_of, if_word}
+use Rattle.wm_command.specs.Values.{kind_value, special_word, is_never, is_special, item_value, text_value, or_bad, one_value, compared, one_compared, two_compared, text_from, start_of, if_word}
 use Rattle.wm_command.specs.Words.{before_slash, behind_slash, name_of, job_with, job_behind, job_of, by_user_of, full_of, simple_of, same, flag_of, ending_of, weekday_of, date_word_of, day_of, date_with, date_of, second_of, kept_within, digits, number_of, time_of}
 use Rattle.wm_command.specs.Written.{text_of, is_word, is_bare}
 

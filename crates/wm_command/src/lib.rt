@@ -1,7 +1,8 @@
 //! Commands from trees, and their canonical texts.
 //!
 //! The contract for the layer above: `command` answers the line that a tree is by the command table, or the tree's first
-//! fault with its place or keys, and `print` gives a command's canonical text.
+//! fault with its place or keys, and `print` gives a command's canonical text. A command that `command` answers keeps the
+//! table's forms and ranges, so that its canonical text is read as the same command.
 //!
 //! The definitions are in `specs/`: `Table` (what each command's keys take), `Words` (what texts say), `Values` and `Call`
 //! (what the values behind a key are read as), `Reading` (what items give keys), `Fields` and `Made` (commands of values),

@@ -1,8 +1,8 @@
 // The values of the commands that submit and control jobs, in the order of the table.
 ghost use Rattle.std.specs.Prelude.{◌≡◌, IfOk};
-ghost use Rattle.wm_command.specs.Shown.{sbmjob_values, hldjob_values, rlsjob_values, chgjob_values, endjob_values, enduse_values};
+ghost use Rattle.wm_command.specs.Shown.{sbmjob_values, chgjob_values, endjob_values};
 
-use crate::commands::{Chgjob, Endjob, Enduse, Hldjob, Rlsjob, Sbmjob};
+use crate::commands::{Chgjob, Endjob, Sbmjob};
 use crate::row::Special;
 use crate::shown::{priority_or, text_or, word_or};
 use crate::value::{Value, Values};
@@ -23,24 +23,6 @@ pub fn sbmjob_values(alloc: Global, c: &Sbmjob) -> Result<Values, AllocError>
     values.push(Key::Hold, word_or(Special::Jobd, c.hold.map(Value::Flag)))?;
     values.push(Key::Scddate, Value::Date(c.scddate))?;
     values.push(Key::Scdtime, Value::Time(c.scdtime))?;
-    Ok(values)
-}
-
-#[tactic(auto, unfolding(crate::specs::Shown::hldjob_values))]
-pub fn hldjob_values(alloc: Global, c: &Hldjob) -> Result<Values, AllocError>
-    ensures { IfOk result (λ v. v ≡ hldjob_values c.now) }
-{
-    let mut values = Values::new(alloc);
-    values.push(Key::Job, Value::Job(c.job))?;
-    Ok(values)
-}
-
-#[tactic(auto, unfolding(crate::specs::Shown::rlsjob_values))]
-pub fn rlsjob_values(alloc: Global, c: &Rlsjob) -> Result<Values, AllocError>
-    ensures { IfOk result (λ v. v ≡ rlsjob_values c.now) }
-{
-    let mut values = Values::new(alloc);
-    values.push(Key::Job, Value::Job(c.job))?;
     Ok(values)
 }
 
@@ -71,14 +53,5 @@ pub fn endjob_values(alloc: Global, c: &Endjob) -> Result<Values, AllocError>
     values.push(Key::Job, Value::Job(c.job))?;
     values.push(Key::Option, Value::Ending(c.option))?;
     values.push(Key::Delay, Value::Number(c.delay))?;
-    Ok(values)
-}
-
-#[tactic(auto, unfolding(crate::specs::Shown::enduse_values))]
-pub fn enduse_values(alloc: Global, c: &Enduse) -> Result<Values, AllocError>
-    ensures { IfOk result (λ v. v ≡ enduse_values c.now) }
-{
-    let mut values = Values::new(alloc);
-    values.push(Key::Job, Value::Job(c.job))?;
     Ok(values)
 }
