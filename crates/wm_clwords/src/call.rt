@@ -22,7 +22,7 @@ fn name_bytes(name: &Name) -> &[u8]
 }
 
 /// Adds a qualified name.
-fn push_qname(out: &mut Text, name: &QName) -> Result<(), AllocError>
+pub fn push_qname(out: &mut Text, name: &QName) -> Result<(), AllocError>
     ensures ok { OnOk result (out.new ≡ out.old ++ qname_text name.now) }
     ensures lib { OnOk result (IsName name.now.lib) }
     ensures name { OnOk result (IsName name.now.name) }
@@ -49,7 +49,7 @@ fn push_doubled(out: &mut Text, text: &Text) -> Result<(), AllocError>
 }
 
 /// Adds a text in apostrophes.
-fn push_quoted(out: &mut Text, text: &Text) -> Result<(), AllocError>
+pub fn push_quoted(out: &mut Text, text: &Text) -> Result<(), AllocError>
     ensures ok { OnOk result (out.new ≡ out.old ++ quoted text.now) }
     ensures text { OnOk result (IsText text.now) }
 {

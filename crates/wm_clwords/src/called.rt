@@ -1,12 +1,13 @@
 // Reading a CALL.
-ghost use Rattle.std.specs.Prelude.{◌≡◌, ◌≢◌, ◌⊎◌, ◌↔◌, ◌++◌, ◌∷◌, [], ℕ, codes, List, Some, IfOk, IfErr, IfSome, IfNone, MatchOption, MatchResult};
+ghost use Rattle.std.specs.Prelude.{◌≡◌, ◌≢◌, ◌⊎◌, ◌↔◌, ◌++◌, ◌∷◌, [], ℕ, codes, List, Some, None, IfOk, IfErr, IfSome, IfNone, MatchOption, MatchResult};
 ghost use Rattle.std.specs.List.{list_all};
+ghost use Rattle.std.specs.Option.{option_copied};
 ghost use Rattle.wm_base.specs.declared.qname.QName.{QName};
 ghost use Rattle.wm_clwords.specs.declared.fault.ClFault.{ClFault};
 ghost use Rattle.wm_clwords.specs.declared.tree.Item.{Item};
 ghost use Rattle.wm_clwords.specs.Grammar.{Token, Key, Close};
 ghost use Rattle.wm_clwords.specs.Call.{IsCall, IsParm, IsParms, IsPgm, IsPositional, SpellsCall, item_tokens, list_tokens};
-ghost use Rattle.wm_clwords.specs.CallReading.{are_parms, is_value, text_of, texts_of};
+ghost use Rattle.wm_clwords.specs.CallReading.{are_parms, call_of, is_value, keyed, keyed_program, only, parms_alone, parms_at, program_alone, program_at, text_of, texts_of};
 ghost use Rattle.wm_clwords.specs.Printed.{PrintedCallIsSpelled};
 
 use crate::command::read_command;
@@ -87,6 +88,7 @@ fn are_parms(items: &[Item]) -> bool
 fn keyed<'a>(key: &[u8], item: &'a Item) -> Option<&'a [Item]>
     ensures some { IfSome result (λ items. item_tokens item.now ≡ Key key.now ∷ list_tokens items.now ++ Close ∷ []) }
     ensures none { IfNone result ((rest : List Token) → item_tokens item.now ≢ Key key.now ∷ rest) }
+    ensures value { option_copied result ≡ keyed key.now item.now }
 {
     match item {
         Item::Word(..) => None,
@@ -106,6 +108,7 @@ fn keyed<'a>(key: &[u8], item: &'a Item) -> Option<&'a [Item]>
 fn only(items: &[Item]) -> Option<&Item>
     ensures some { IfSome result (λ item. items.now ≡ item.now ∷ []) }
     ensures none { IfNone result ((item : Item) → items.now ≢ item ∷ []) }
+    ensures value { option_copied result ≡ only items.now }
 {
     match items {
         [item] => Some(item),
@@ -117,6 +120,7 @@ fn only(items: &[Item]) -> Option<&Item>
 fn keyed_program(item: &Item) -> Option<QName>
     ensures some { IfSome result (λ pgm. IsPgm (item_tokens item.now) pgm) }
     ensures all { (pgm : QName) → IsPgm (item_tokens item.now) pgm → result ≡ Some pgm }
+    ensures value { result ≡ keyed_program item.now }
 {
     let values = keyed(b"PGM", item)?;
     read_program(only(values)?)
@@ -127,6 +131,7 @@ fn program(item: &Item) -> Option<QName>
     ensures some { IfSome result (λ pgm. IsPositional (item_tokens item.now) pgm ⊎ IsPgm (item_tokens item.now) pgm) }
     ensures positional { (pgm : QName) → IsPositional (item_tokens item.now) pgm → result ≡ Some pgm }
     ensures keyed { (pgm : QName) → IsPgm (item_tokens item.now) pgm → result ≡ Some pgm }
+    ensures value { result ≡ program_at item.now }
 {
     match keyed_program(item) {
         Some(pgm) => Some(pgm),
@@ -139,6 +144,7 @@ fn parms(item: &Item) -> Option<&[Item]>
     ensures some { IfSome result (λ values. IsParm (item_tokens item.now) (texts_of values.now)) }
     ensures all { (parms : List (List ℕ)) → IsParm (item_tokens item.now) parms
         → MatchOption result ⊥ (λ values. texts_of values.now ≡ parms) }
+    ensures value { option_copied result ≡ parms_at item.now }
 {
     let values = keyed(b"PARM", item)?;
     if are_parms(values) {
@@ -152,6 +158,7 @@ fn parms(item: &Item) -> Option<&[Item]>
 fn program_alone(items: &[Item]) -> Option<QName>
     ensures some { IfSome result (λ pgm. IsPgm (list_tokens items.now) pgm) }
     ensures all { (pgm : QName) → IsPgm (list_tokens items.now) pgm → result ≡ Some pgm }
+    ensures value { result ≡ program_alone items.now }
 {
     keyed_program(only(items)?)
 }
@@ -161,6 +168,7 @@ fn parms_alone(items: &[Item]) -> Option<&[Item]>
     ensures some { IfSome result (λ values. IsParms (list_tokens items.now) (texts_of values.now)) }
     ensures all { (parms : List (List ℕ)) → IsParms (list_tokens items.now) parms
         → MatchOption result ⊥ (λ values. texts_of values.now ≡ parms) }
+    ensures value { option_copied result ≡ parms_alone items.now }
 {
     if items.is_empty() {
         return Some(items);
@@ -194,6 +202,10 @@ pub fn read_call_items(alloc: Global, items: &[Item]) -> Result<CallText, CallFa
     ensures ok { IfOk result (λ call. IsCall (list_tokens items.now) call.pgm call.parms) }
     ensures call { (pgm : QName) (parms : List (List ℕ)) → IsCall (list_tokens items.now) pgm parms
         → MatchResult result (λ call. (call.pgm ≡ pgm) × (call.parms ≡ parms)) (λ e. e ≡ CallFault.NoMemory) }
+
+    // The same by a function: what is read, and that there is no other CALL.
+    ensures value { IfOk result (λ call. call_of items.now ≡ Some call) }
+    ensures none { IfErr result (λ e. e ≡ CallFault.NotCall → call_of items.now ≡ None) }
 {
     let Some((first, others)) = items.split_first() else {
         return Err(CallFault::NotCall);

@@ -3,7 +3,8 @@
 //! The contract for the layer above: `read_command` reads what the bytes spell, and answers the one fault of a text
 //! that spells no command; `Joiner` gives the logical lines of the input, however it is cut; `read_call` reads exactly
 //! the CALL commands, `read_call_items` the items of a CALL that stand in a list, and `read_object` and `read_program`
-//! the names of objects; `call_text` is the one canonical text of a CALL, and it is read again as that CALL;
+//! the names of objects; `call_text` is the one canonical text of a CALL, and it is read again as that CALL, with
+//! `push_qname` and `push_quoted` for its parts;
 //! `read_first` reads exactly the one form of line that the first path has.
 //!
 //! The definitions are in `specs/`: `Lines` (logical lines), `Grammar` (what bytes spell), `Faults` (where they stop to),
@@ -26,7 +27,7 @@ mod reference;
 mod tests;
 mod tree;
 
-pub use call::call_text;
+pub use call::{call_text, push_qname, push_quoted};
 pub use called::{CallFault, CallText, printed_call_is_read, read_call, read_call_items};
 pub use command::{one_verdict, read_command};
 pub use fault::ClFault;

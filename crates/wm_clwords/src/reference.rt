@@ -91,6 +91,7 @@ fn program_library(name: &Name) -> Name
 pub fn read_object(item: &Item) -> Option<QName>
     ensures some { IfSome result (λ q. IsOne (λ token. IsObject token q) (item_tokens item.now)) }
     ensures all { (q : QName) → IsOne (λ token. IsObject token q) (item_tokens item.now) → result ≡ Some q }
+    ensures value { result ≡ object_by (reference_of item.now) }
 {
     object_of(item)
 }
@@ -113,6 +114,7 @@ fn object_of(item: &Item) -> Option<QName>
 pub fn read_program(item: &Item) -> Option<QName>
     ensures some { IfSome result (λ q. IsOne (λ token. IsProgram token q) (item_tokens item.now)) }
     ensures all { (q : QName) → IsOne (λ token. IsProgram token q) (item_tokens item.now) → result ≡ Some q }
+    ensures value { result ≡ program_by (reference_of item.now) }
 {
     program_of(item)
 }

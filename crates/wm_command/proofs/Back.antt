@@ -45,10 +45,10 @@ use Rattle.wm_command.specs.declared.verb.Change.TheVariants as change
 use Rattle.wm_base.specs.declared.refusal.Key.TheVariants as key
 use Rattle.wm_command.specs.Fields.{object_or, name_or, text_or, number_or, limit_or, flag_or, date_or, time_or, priority_or, is_word_value, maybe, value_of, object_in, name_in, text_in, number_in, limit_in, flag_in, ending_in, job_in, compare_in, date_in, time_in, priority_in, is_word_in, class_in, maxpty_in, request_in}
 use Rattle.wm_command.specs.Line.{lacks}
-use Rattle.wm_command.specs.Made.{crtcls, crtjobq, crtpgmref, crtjobd, crtsbsd, addjobqe, addrtge, addaje, addpje, rmvjobqe, rmvrtge, rmvaje, rmvpje, strsbs, endsbs, sbmjob, hldjob, rlsjob, chgjob, endjob, hldjobq, rlsjobq, clrjobq, strpj, endpj, evoke, enduse, pwrdwnsys}
+use Rattle.wm_command.specs.Made.{crtcls, crtpgmref, crtjobd, crtsbsd, addjobqe, addrtge, addaje, addpje, rmvjobqe, rmvrtge, rmvaje, rmvpje, endsbs, sbmjob, chgjob, endjob, strpj, endpj, evoke, pwrdwnsys}
 use Rattle.wm_command.specs.Printed.{FitsRow, IsFit, completed, ShownValuesMakeTheCommand}
 use Rattle.wm_command.specs.Reading.{complete, same_key}
-use Rattle.wm_command.specs.Shown.{limit_value, or_special, crtcls_values, crtjobq_values, crtpgmref_values, crtjobd_values, crtsbsd_values, addjobqe_values, addrtge_values, addaje_values, addpje_values, rmvjobqe_values, rmvrtge_values, rmvaje_values, rmvpje_values, strsbs_values, endsbs_values, sbmjob_values, hldjob_values, rlsjob_values, chgjob_values, endjob_values, hldjobq_values, rlsjobq_values, clrjobq_values, strpj_values, endpj_values, evoke_values, enduse_values, pwrdwnsys_values}
+use Rattle.wm_command.specs.Shown.{limit_value, or_special, values_of, crtcls_values, crtpgmref_values, crtjobd_values, crtsbsd_values, addjobqe_values, addrtge_values, addaje_values, addpje_values, rmvjobqe_values, rmvrtge_values, rmvaje_values, rmvpje_values, endsbs_values, sbmjob_values, chgjob_values, endjob_values, strpj_values, endpj_values, evoke_values, pwrdwnsys_values}
 use Rattle.wm_command.specs.Table.{or_word, change_rows}
 
 -- each kind of field
@@ -125,8 +125,8 @@ crtcls_back : (c : Crtcls) → IsFit (command.Crtcls c) → completed change.Crt
 unfolding change_rows complete same_key value_of object_in name_in text_in number_in limit_in flag_in ending_in job_in compare_in date_in time_in priority_in is_word_in class_in maxpty_in request_in crtcls crtcls_values
 crtcls_back c h = λ i. Ok (line.Change (command.Crtcls (record c { dftwait = limit_back c.dftwait i })))
 
-crtjobq_back : (c : Crtjobq) → IsFit (command.Crtjobq c) → completed change.Crtjobq (crtjobq_values c) ≡ Ok (line.Change (command.Crtjobq c))
-unfolding change_rows complete same_key value_of object_in name_in text_in number_in limit_in flag_in ending_in job_in compare_in date_in time_in priority_in is_word_in class_in maxpty_in request_in crtjobq crtjobq_values
+crtjobq_back : (c : Crtjobq) → IsFit (command.Crtjobq c) → completed change.Crtjobq (values_of (command.Crtjobq c)) ≡ Ok (line.Change (command.Crtjobq c))
+unfolding change_rows complete same_key value_of object_in name_in text_in number_in limit_in flag_in ending_in job_in compare_in date_in time_in priority_in is_word_in class_in maxpty_in request_in
 crtjobq_back c h = refl
 
 crtpgmref_back : (c : Crtpgmref) → IsFit (command.Crtpgmref c) → completed change.Crtpgmref (crtpgmref_values c) ≡ Ok (line.Change (command.Crtpgmref c))
@@ -173,20 +173,20 @@ rmvpje_back : (c : Rmvpje) → IsFit (command.Rmvpje c) → completed change.Rmv
 unfolding change_rows complete same_key value_of object_in name_in text_in number_in limit_in flag_in ending_in job_in compare_in date_in time_in priority_in is_word_in class_in maxpty_in request_in rmvpje rmvpje_values
 rmvpje_back c h = refl
 
-strsbs_back : (c : Strsbs) → IsFit (command.Strsbs c) → completed change.Strsbs (strsbs_values c) ≡ Ok (line.Change (command.Strsbs c))
-unfolding change_rows complete same_key value_of object_in name_in text_in number_in limit_in flag_in ending_in job_in compare_in date_in time_in priority_in is_word_in class_in maxpty_in request_in strsbs strsbs_values
+strsbs_back : (c : Strsbs) → IsFit (command.Strsbs c) → completed change.Strsbs (values_of (command.Strsbs c)) ≡ Ok (line.Change (command.Strsbs c))
+unfolding change_rows complete same_key value_of object_in name_in text_in number_in limit_in flag_in ending_in job_in compare_in date_in time_in priority_in is_word_in class_in maxpty_in request_in
 strsbs_back c h = refl
 
 endsbs_back : (c : Endsbs) → IsFit (command.Endsbs c) → completed change.Endsbs (endsbs_values c) ≡ Ok (line.Change (command.Endsbs c))
 unfolding change_rows complete same_key value_of object_in name_in text_in number_in limit_in flag_in ending_in job_in compare_in date_in time_in priority_in is_word_in class_in maxpty_in request_in endsbs endsbs_values
 endsbs_back c h = λ i. Ok (line.Change (command.Endsbs (record c { delay = number_back special.Nolimit c.delay i })))
 
-hldjob_back : (c : Hldjob) → IsFit (command.Hldjob c) → completed change.Hldjob (hldjob_values c) ≡ Ok (line.Change (command.Hldjob c))
-unfolding change_rows complete same_key value_of object_in name_in text_in number_in limit_in flag_in ending_in job_in compare_in date_in time_in priority_in is_word_in class_in maxpty_in request_in hldjob hldjob_values
+hldjob_back : (c : Hldjob) → IsFit (command.Hldjob c) → completed change.Hldjob (values_of (command.Hldjob c)) ≡ Ok (line.Change (command.Hldjob c))
+unfolding change_rows complete same_key value_of object_in name_in text_in number_in limit_in flag_in ending_in job_in compare_in date_in time_in priority_in is_word_in class_in maxpty_in request_in
 hldjob_back c h = refl
 
-rlsjob_back : (c : Rlsjob) → IsFit (command.Rlsjob c) → completed change.Rlsjob (rlsjob_values c) ≡ Ok (line.Change (command.Rlsjob c))
-unfolding change_rows complete same_key value_of object_in name_in text_in number_in limit_in flag_in ending_in job_in compare_in date_in time_in priority_in is_word_in class_in maxpty_in request_in rlsjob rlsjob_values
+rlsjob_back : (c : Rlsjob) → IsFit (command.Rlsjob c) → completed change.Rlsjob (values_of (command.Rlsjob c)) ≡ Ok (line.Change (command.Rlsjob c))
+unfolding change_rows complete same_key value_of object_in name_in text_in number_in limit_in flag_in ending_in job_in compare_in date_in time_in priority_in is_word_in class_in maxpty_in request_in
 rlsjob_back c h = refl
 
 chgjob_back : (c : Chgjob) → IsFit (command.Chgjob c) → completed change.Chgjob (chgjob_values c) ≡ Ok (line.Change (command.Chgjob c))
@@ -197,16 +197,16 @@ endjob_back : (c : Endjob) → IsFit (command.Endjob c) → completed change.End
 unfolding change_rows complete same_key value_of object_in name_in text_in number_in limit_in flag_in ending_in job_in compare_in date_in time_in priority_in is_word_in class_in maxpty_in request_in endjob endjob_values
 endjob_back c h = refl
 
-hldjobq_back : (c : Hldjobq) → IsFit (command.Hldjobq c) → completed change.Hldjobq (hldjobq_values c) ≡ Ok (line.Change (command.Hldjobq c))
-unfolding change_rows complete same_key value_of object_in name_in text_in number_in limit_in flag_in ending_in job_in compare_in date_in time_in priority_in is_word_in class_in maxpty_in request_in hldjobq hldjobq_values
+hldjobq_back : (c : Hldjobq) → IsFit (command.Hldjobq c) → completed change.Hldjobq (values_of (command.Hldjobq c)) ≡ Ok (line.Change (command.Hldjobq c))
+unfolding change_rows complete same_key value_of object_in name_in text_in number_in limit_in flag_in ending_in job_in compare_in date_in time_in priority_in is_word_in class_in maxpty_in request_in
 hldjobq_back c h = refl
 
-rlsjobq_back : (c : Rlsjobq) → IsFit (command.Rlsjobq c) → completed change.Rlsjobq (rlsjobq_values c) ≡ Ok (line.Change (command.Rlsjobq c))
-unfolding change_rows complete same_key value_of object_in name_in text_in number_in limit_in flag_in ending_in job_in compare_in date_in time_in priority_in is_word_in class_in maxpty_in request_in rlsjobq rlsjobq_values
+rlsjobq_back : (c : Rlsjobq) → IsFit (command.Rlsjobq c) → completed change.Rlsjobq (values_of (command.Rlsjobq c)) ≡ Ok (line.Change (command.Rlsjobq c))
+unfolding change_rows complete same_key value_of object_in name_in text_in number_in limit_in flag_in ending_in job_in compare_in date_in time_in priority_in is_word_in class_in maxpty_in request_in
 rlsjobq_back c h = refl
 
-clrjobq_back : (c : Clrjobq) → IsFit (command.Clrjobq c) → completed change.Clrjobq (clrjobq_values c) ≡ Ok (line.Change (command.Clrjobq c))
-unfolding change_rows complete same_key value_of object_in name_in text_in number_in limit_in flag_in ending_in job_in compare_in date_in time_in priority_in is_word_in class_in maxpty_in request_in clrjobq clrjobq_values
+clrjobq_back : (c : Clrjobq) → IsFit (command.Clrjobq c) → completed change.Clrjobq (values_of (command.Clrjobq c)) ≡ Ok (line.Change (command.Clrjobq c))
+unfolding change_rows complete same_key value_of object_in name_in text_in number_in limit_in flag_in ending_in job_in compare_in date_in time_in priority_in is_word_in class_in maxpty_in request_in
 clrjobq_back c h = refl
 
 strpj_back : (c : Strpj) → IsFit (command.Strpj c) → completed change.Strpj (strpj_values c) ≡ Ok (line.Change (command.Strpj c))
@@ -221,8 +221,8 @@ evoke_back : (c : Evoke) → IsFit (command.Evoke c) → completed change.Evoke 
 unfolding change_rows complete same_key value_of object_in name_in text_in number_in limit_in flag_in ending_in job_in compare_in date_in time_in priority_in is_word_in class_in maxpty_in request_in evoke evoke_values
 evoke_back c h = refl
 
-enduse_back : (c : Enduse) → IsFit (command.Enduse c) → completed change.Enduse (enduse_values c) ≡ Ok (line.Change (command.Enduse c))
-unfolding change_rows complete same_key value_of object_in name_in text_in number_in limit_in flag_in ending_in job_in compare_in date_in time_in priority_in is_word_in class_in maxpty_in request_in enduse enduse_values
+enduse_back : (c : Enduse) → IsFit (command.Enduse c) → completed change.Enduse (values_of (command.Enduse c)) ≡ Ok (line.Change (command.Enduse c))
+unfolding change_rows complete same_key value_of object_in name_in text_in number_in limit_in flag_in ending_in job_in compare_in date_in time_in priority_in is_word_in class_in maxpty_in request_in
 enduse_back c h = refl
 
 pwrdwnsys_back : (c : Pwrdwnsys) → IsFit (command.Pwrdwnsys c) → completed change.Pwrdwnsys (pwrdwnsys_values c) ≡ Ok (line.Change (command.Pwrdwnsys c))

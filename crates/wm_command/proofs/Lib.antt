@@ -1,7 +1,10 @@
 mod Back
+mod CommandForms
 mod Digits
 mod Plain
 mod PrintValues
 mod ReadBack
+mod ReadForms
 mod ReadValues
+mod TableForms
 pub mod Texts

@@ -146,25 +146,6 @@ pub behind_none : (a : List ℕ) → list_all is_no_slash a ≡ true → behind_
 behind_none a h =
     ap (λ l. behind_at (length l) a) (taken_all a h) ∙ ap (λ c. cond c (Some (drop (length a + 1) a)) None) (le-ltb (length a) (length a) (omega arith))
 
--- a text with a slash is none without
-no_other : (y : ℕ) → eqb 47 y ≡ true → is_no_slash y ≡ false
-no_other y g = grind (arith, nat_tests)
-
-first_apart : (x : ℕ) (c d : Bool) → eqb 47 x ≡ c → is_no_slash x ≡ true → (c && d) ≡ false
-first_apart x false d e h = refl
-first_apart x true d e h = absurd (false≢true (sym (no_other x e) ∙ h))
-
-rest_apart : (c d : Bool) → d ≡ false → (c && d) ≡ false
-rest_apart true d e = e
-rest_apart false d e = refl
-
-pub slash_apart : (a b word : List ℕ) → list_all is_no_slash word ≡ true → pointwise nat_eq (a ++ 47 ∷ b) word ≡ false
-slash_apart [] b [] h = refl
-slash_apart [] b (x ∷ word) h = first_apart x (eqb 47 x) (pointwise nat_eq b word) refl (and_parts (is_no_slash x) (list_all is_no_slash word) h).0
-slash_apart (x ∷ a) b [] h = refl
-slash_apart (x ∷ a) b (y ∷ word) h =
-    rest_apart (eqb x y) (pointwise nat_eq (a ++ 47 ∷ b) word) (slash_apart a b word (and_parts (is_no_slash y) (list_all is_no_slash word) h).1)
-
 -- equal parts give equal wholes
 pub ap_two : {A B C : Type 0} (f : A → B → C) {a c : A} {b d : B} → a ≡ c → b ≡ d → f a b ≡ f c d
 ap_two f p q = λ i. f (p i) (q i)

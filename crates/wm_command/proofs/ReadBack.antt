@@ -32,7 +32,7 @@ use Rattle.wm_command.specs.Made.{change_made}
 use Rattle.wm_command.specs.Print.{given_text, command_text}
 use Rattle.wm_command.specs.Printed.{FitsRow, FitRows, shown_rows, IsFit, PrintedCommandIsRead}
 use Rattle.wm_command.specs.Reading.{same_key, is_given, row_named, row_value, with_value, keyed, keyed_by, next_item, first_item, first_by, items_given, complete}
-use Rattle.wm_command.specs.Shown.{values_of, verb_of, crtcls_values, crtjobq_values, crtpgmref_values, crtjobd_values, crtsbsd_values, addjobqe_values, addrtge_values, addaje_values, addpje_values, rmvjobqe_values, rmvrtge_values, rmvaje_values, rmvpje_values, strsbs_values, endsbs_values, sbmjob_values, hldjob_values, rlsjob_values, chgjob_values, endjob_values, hldjobq_values, rlsjobq_values, clrjobq_values, strpj_values, endpj_values, evoke_values, enduse_values, pwrdwnsys_values}
+use Rattle.wm_command.specs.Shown.{values_of, verb_of, crtcls_values, crtpgmref_values, crtjobd_values, crtsbsd_values, addjobqe_values, addrtge_values, addaje_values, addpje_values, rmvjobqe_values, rmvrtge_values, rmvaje_values, rmvpje_values, endsbs_values, sbmjob_values, chgjob_values, endjob_values, strpj_values, endpj_values, evoke_values, pwrdwnsys_values}
 use Rattle.wm_command.specs.Table.{change_rows, change_word}
 use Rattle.wm_command.specs.Values.{special_word, is_never}
 use Rattle.wm_command.specs.Written.{place_of, key_of, listed}
@@ -100,7 +100,7 @@ SameKeys (row ∷ rows) [] = ⊥
 SameKeys (row ∷ rows) (g ∷ given) = (g.key ≡ row.0) × SameKeys rows given
 
 same_keys : (c : Command) → SameKeys (shown_rows (change_rows (verb_of c))) (values_of c)
-unfolding change_rows crtcls_values crtjobq_values crtpgmref_values crtjobd_values crtsbsd_values addjobqe_values addrtge_values addaje_values addpje_values rmvjobqe_values rmvrtge_values rmvaje_values rmvpje_values strsbs_values endsbs_values sbmjob_values hldjob_values rlsjob_values chgjob_values endjob_values hldjobq_values rlsjobq_values clrjobq_values strpj_values endpj_values evoke_values enduse_values pwrdwnsys_values
+unfolding change_rows crtcls_values crtpgmref_values crtjobd_values crtsbsd_values addjobqe_values addrtge_values addaje_values addpje_values rmvjobqe_values rmvrtge_values rmvaje_values rmvpje_values endsbs_values sbmjob_values chgjob_values endjob_values strpj_values endpj_values evoke_values pwrdwnsys_values
 same_keys (command.Crtcls c) = (refl, (refl, (refl, (refl, tt))))
 same_keys (command.Crtjobq c) = (refl, tt)
 same_keys (command.Crtpgmref c) = (refl, (refl, tt))

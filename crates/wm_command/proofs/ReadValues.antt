@@ -1,5 +1,5 @@
 -- The text that is printed of a value, read by the value's row, is that value.
-use Rattle.std.proofs.Common.{◌≡◌, ℕ, ◌/◌, ◌<◌, ◌≤◌, ◌++◌, ◌&&◌, Bool, true, false, not, cond, nat_lt, nat_eq, List, [], ◌∷◌, zero, suc, Some, None, Ok, subst, sym, ◌∙◌, ap, refl, arith, codes}
+use Rattle.std.proofs.Common.{◌≡◌, ℕ, ◌/◌, ◌<◌, ◌≤◌, ◌++◌, ◌&&◌, Bool, true, false, not, cond, nat_lt, nat_eq, List, [], ◌∷◌, zero, suc, Some, None, Ok, subst, sym, ◌∙◌, ap, refl, arith, codes, inl, inr}
 use Rattle.std.specs.Cmp.Lexicographic.{pointwise}
 use Rattle.std.specs.Fmt.{decimal}
 use Rattle.std.specs.Option.{option_map}
@@ -15,7 +15,9 @@ use Rattle.wm_base.specs.declared.qname.QName.{QName}
 use Rattle.wm_clwords.specs.declared.tree.Span.{Span}
 use Rattle.wm_clwords.specs.declared.tree.Item.{Item, Word as ItemWord, Quoted as ItemQuoted, List', Keyed'}
 use Rattle.wm_clwords.specs.Grammar.{Token, Word, Quoted, Key, Open}
-use Rattle.wm_clwords.specs.Call.{item_tokens, list_tokens}
+use Rattle.wm_clwords.specs.Call.{IsReference, item_tokens, list_tokens, program_library}
+use Rattle.wm_clwords.specs.CallReading.{object_by, program_by, reference_of}
+use Rattle.wm_clwords.proofs.References.{object_all, program_all}
 use Rattle.wm_clwords.proofs.Tokens.{cut_value, list_tokens-cons, one_item, one_value}
 use Rattle.wm_desc.specs.declared.entry.Cmp.{Cmp}
 use Rattle.wm_desc.specs.declared.entry.Cmp.TheVariants.{Any, Val}
@@ -39,9 +41,9 @@ use Rattle.wm_command.specs.Printed.{IsQualified, FitsJob, FitsCompare, FitsKind
 use Rattle.wm_command.specs.Reading.{row_value}
 use Rattle.wm_command.specs.Values.{kind_value, special_word, is_never, is_special, or_bad, compared, text_from}
 use Rattle.wm_command.specs.Values.{one_value as one_read}
-use Rattle.wm_command.specs.Words.{before_slash, behind_slash, name_of, library_of, qname_of, object_with, object_of, program_of, job_with, job_behind, job_of, by_user_of, full_of, simple_of, date_word_of, day_of, date_with, date_of, second_of, number_of, time_of}
+use Rattle.wm_command.specs.Words.{before_slash, behind_slash, name_of, job_with, job_behind, job_of, by_user_of, full_of, simple_of, date_word_of, day_of, date_with, date_of, second_of, number_of, time_of}
 use Rattle.wm_command.proofs.Digits.{number_decimal, number_six, number_eight, second_back, within_high, decimal_digits, decimal_some, padded_digits, padded_some, six_digits, six_some}
-use Rattle.wm_command.proofs.Plain.{Plain, plain_no_star, plain_name, plain_digits, plain_join, name_unslashed, digits_unslashed, before_first, behind_first, before_none, behind_none, slash_apart, ap_two, ap_three}
+use Rattle.wm_command.proofs.Plain.{Plain, plain_no_star, plain_name, plain_digits, plain_join, name_unslashed, digits_unslashed, before_first, behind_first, before_none, behind_none, ap_two, ap_three}
 
 -- the tokens of a printed value
 abbrev pub value_tokens : Value → List Token
@@ -158,12 +160,12 @@ quoted_special special.Never span t = refl
 quoted_special s span t = refl
 
 -- a word that is a value of the kind, and no special word
-word_read : (k : Kind) (s : Special) (place : ℕ) (span : Span) (w : List ℕ) (v : Value) → is_special s (ItemWord span w) ≡ false → kind_value k true w ≡ Some v
+word_read : (k : Kind) (s : Special) (place : ℕ) (span : Span) (w : List ℕ) (v : Value) → is_special s (ItemWord span w) ≡ false → kind_value k (ItemWord span w) w ≡ Some v
     → one_read k s place (ItemWord span w ∷ []) ≡ Ok v
-word_read k s place span w v h e = ap (λ c. or_bad place (cond c (Some (value.Special s)) (kind_value k true w))) h ∙ ap (or_bad place) e
+word_read k s place span w v h e = ap (λ c. or_bad place (cond c (Some (value.Special s)) (kind_value k (ItemWord span w) w))) h ∙ ap (or_bad place) e
 
-quoted_read : (k : Kind) (s : Special) (place : ℕ) (span : Span) (t : List ℕ) (v : Value) → kind_value k false t ≡ Some v → one_read k s place (ItemQuoted span t ∷ []) ≡ Ok v
-quoted_read k s place span t v e = ap (λ c. or_bad place (cond c (Some (value.Special s)) (kind_value k false t))) (quoted_special s span t) ∙ ap (or_bad place) e
+quoted_read : (k : Kind) (s : Special) (place : ℕ) (span : Span) (t : List ℕ) (v : Value) → kind_value k (ItemQuoted span t) t ≡ Some v → one_read k s place (ItemQuoted span t ∷ []) ≡ Ok v
+quoted_read k s place span t v e = ap (λ c. or_bad place (cond c (Some (value.Special s)) (kind_value k (ItemQuoted span t) t))) (quoted_special s span t) ∙ ap (or_bad place) e
 
 special_read : (k : Kind) (s : Special) (place : ℕ) (span : Span) → is_never s ≡ false → one_read k s place (ItemWord span (special_word s) ∷ []) ≡ Ok (value.Special s)
 unfolding special_word
@@ -174,25 +176,19 @@ special_read k s place span n = refl
 name_is : (name : List ℕ) → IsName name → name_of name ≡ Some name
 name_is name h = ap (λ c. cond c (Some name) None) h
 
-library_is : (lib : List ℕ) → IsName lib → library_of true lib ≡ Some lib
-library_is lib h = ap (λ c. cond c (Some (codes "QGPL")) (name_of lib)) (plain_no_star lib (codes "LIBL") (plain_name lib h)) ∙ name_is lib h
-
 text_is : (q : QName) → qname_text q ≡ q.lib ++ 47 ∷ q.name
 text_is q = append_assoc q.lib (47 ∷ []) q.name
 
-object_read : (q : QName) → IsQualified q → object_of true (qname_text q) ≡ Some q
-unfolding object_of
-object_read q h =
-    ap (λ t. object_with true (before_slash t) (behind_slash t)) (text_is q)
-    ∙ ap_two (object_with true) (before_first q.lib q.name (name_unslashed q.lib h.0)) (behind_first q.lib q.name (name_unslashed q.lib h.0))
-    ∙ ap_two qname_of (library_is q.lib h.0) (name_is q.name h.1)
+qualified : (library : List ℕ) (q : QName) → IsQualified q → IsReference library (Word (qname_text q)) q
+qualified library q h = inl (h.1, inr (h.0, refl))
 
-no_qcmd : (q : QName) → pointwise nat_eq (qname_text q) (codes "QCMD") ≡ false
-no_qcmd q = ap (λ t. pointwise nat_eq t (codes "QCMD")) (text_is q) ∙ slash_apart q.lib q.name (codes "QCMD") refl
+object_read : (span : Span) (q : QName) → IsQualified q → object_by (reference_of (ItemWord span (qname_text q))) ≡ Some q
+object_read span q h =
+    object_all (ItemWord span (qname_text q)) (object_by (reference_of (ItemWord span (qname_text q)))) refl q (Word (qname_text q), refl, qualified (codes "QGPL") q h)
 
-program_read : (q : QName) → IsQualified q → program_of true (qname_text q) ≡ Some q
-unfolding program_of
-program_read q h = ap (λ c. cond c (Some (record { lib = codes "QSYS"; name = codes "QCMD" })) (object_of true (qname_text q))) (no_qcmd q) ∙ object_read q h
+program_read : (span : Span) (q : QName) → IsQualified q → program_by (reference_of (ItemWord span (qname_text q))) ≡ Some q
+program_read span q h =
+    program_all (ItemWord span (qname_text q)) (program_by (reference_of (ItemWord span (qname_text q)))) refl q (Word (qname_text q), refl, qualified (program_library q.name) q h)
 
 pub plain_qname : (q : QName) → IsQualified q → Plain (qname_text q)
 plain_qname q h = subst Plain (sym (text_is q)) (plain_join q.lib q.name (plain_name q.lib h.0) (plain_name q.name h.1))
@@ -353,10 +349,10 @@ pub value_read : (k : Kind) (s : Special) (v : Value) (place : ℕ) (items : Lis
 unfolding kind_value
 value_read kind.Object s (value.Object q) place items sound h e =
     word_only items (qname_text q) e (λ l. one_read kind.Object s place l ≡ Ok (value.Object q))
-    (λ span. word_read kind.Object s place span (qname_text q) (value.Object q) (not_special s span (qname_text q) (plain_qname q h)) (ap (option_map value.Object) (object_read q h)))
+    (λ span. word_read kind.Object s place span (qname_text q) (value.Object q) (not_special s span (qname_text q) (plain_qname q h)) (ap (option_map value.Object) (object_read span q h)))
 value_read kind.Program s (value.Object q) place items sound h e =
     word_only items (qname_text q) e (λ l. one_read kind.Program s place l ≡ Ok (value.Object q))
-    (λ span. word_read kind.Program s place span (qname_text q) (value.Object q) (not_special s span (qname_text q) (plain_qname q h)) (ap (option_map value.Object) (program_read q h)))
+    (λ span. word_read kind.Program s place span (qname_text q) (value.Object q) (not_special s span (qname_text q) (plain_qname q h)) (ap (option_map value.Object) (program_read span q h)))
 value_read kind.Name s (value.Name n) place items sound h e =
     word_only items n e (λ l. one_read kind.Name s place l ≡ Ok (value.Name n))
     (λ span. word_read kind.Name s place span n (value.Name n) (not_special s span n (plain_name n h)) (ap (option_map value.Name) (name_is n h)))

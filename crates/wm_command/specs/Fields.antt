@@ -9,6 +9,7 @@ use Rattle.wm_base.specs.declared.refusal.Key.{Key}
 use Rattle.wm_base.specs.declared.refusal.Key.TheVariants as key
 use Rattle.wm_desc.specs.declared.entry.Cmp.{Cmp}
 use Rattle.wm_desc.specs.declared.entry.Cmp.TheVariants.{Any}
+use Rattle.wm_desc.specs.Opening.{qbatch}
 use Rattle.wm_when.specs.Schedule.{within}
 use Rattle.wm_when.specs.declared.schedule.DateSpec.{DateSpec}
 use Rattle.wm_when.specs.declared.schedule.DateSpec.TheVariants as date
@@ -26,9 +27,6 @@ use Rattle.wm_command.specs.Reading.{same_key}
 -- the value of a key
 unfoldable pub value_of : Key → List Given → Option Value
 value_of key given = option_map (λ g. g.value) (find (λ g. same_key g.key key) given)
-
-abbrev pub qbatch : QName
-qbatch = record { lib = codes "QGPL"; name = codes "QBATCH" }
 
 abbrev pub object_or : Option Value → QName
 object_or (Some (value.Object q)) = q

@@ -4,7 +4,6 @@ use Rattle.wm_base.specs.declared.refusal.Key.TheVariants as key
 use Rattle.wm_command.specs.declared.commands.Command.{Command}
 use Rattle.wm_command.specs.declared.commands.Command.TheVariants as command
 use Rattle.wm_command.specs.declared.commands.Crtcls.{Crtcls}
-use Rattle.wm_command.specs.declared.commands.Crtjobq.{Crtjobq}
 use Rattle.wm_command.specs.declared.commands.Crtpgmref.{Crtpgmref}
 use Rattle.wm_command.specs.declared.commands.Crtjobd.{Crtjobd}
 use Rattle.wm_command.specs.declared.commands.Crtsbsd.{Crtsbsd}
@@ -16,20 +15,13 @@ use Rattle.wm_command.specs.declared.commands.Rmvjobqe.{Rmvjobqe}
 use Rattle.wm_command.specs.declared.commands.Rmvrtge.{Rmvrtge}
 use Rattle.wm_command.specs.declared.commands.Rmvaje.{Rmvaje}
 use Rattle.wm_command.specs.declared.commands.Rmvpje.{Rmvpje}
-use Rattle.wm_command.specs.declared.commands.Strsbs.{Strsbs}
 use Rattle.wm_command.specs.declared.commands.Endsbs.{Endsbs}
 use Rattle.wm_command.specs.declared.commands.Sbmjob.{Sbmjob}
-use Rattle.wm_command.specs.declared.commands.Hldjob.{Hldjob}
-use Rattle.wm_command.specs.declared.commands.Rlsjob.{Rlsjob}
 use Rattle.wm_command.specs.declared.commands.Chgjob.{Chgjob}
 use Rattle.wm_command.specs.declared.commands.Endjob.{Endjob}
-use Rattle.wm_command.specs.declared.commands.Hldjobq.{Hldjobq}
-use Rattle.wm_command.specs.declared.commands.Rlsjobq.{Rlsjobq}
-use Rattle.wm_command.specs.declared.commands.Clrjobq.{Clrjobq}
 use Rattle.wm_command.specs.declared.commands.Strpj.{Strpj}
 use Rattle.wm_command.specs.declared.commands.Endpj.{Endpj}
 use Rattle.wm_command.specs.declared.commands.Evoke.{Evoke}
-use Rattle.wm_command.specs.declared.commands.Enduse.{Enduse}
 use Rattle.wm_command.specs.declared.commands.Pwrdwnsys.{Pwrdwnsys}
 use Rattle.wm_command.specs.declared.value.Given.{Given}
 use Rattle.wm_command.specs.declared.verb.Change.{Change}
@@ -38,9 +30,6 @@ use Rattle.wm_command.specs.Fields.{object_in, name_in, text_in, number_in, limi
 
 unfoldable pub crtcls : List Given → Crtcls
 crtcls g = record { cls = object_in key.Cls g; runpty = number_in key.Runpty g; timeslice = number_in key.Timeslice g; dftwait = limit_in key.Dftwait g }
-
-unfoldable pub crtjobq : List Given → Crtjobq
-crtjobq g = record { jobq = object_in key.Jobq g }
 
 unfoldable pub crtpgmref : List Given → Crtpgmref
 crtpgmref g = record { pgm = object_in key.Pgm g; path = text_in key.Path g }
@@ -75,35 +64,17 @@ rmvaje g = record { sbsd = object_in key.Sbsd g; job = name_in key.Job g }
 unfoldable pub rmvpje : List Given → Rmvpje
 rmvpje g = record { sbsd = object_in key.Sbsd g; pgm = object_in key.Pgm g }
 
-unfoldable pub strsbs : List Given → Strsbs
-strsbs g = record { sbsd = object_in key.Sbsd g }
-
 unfoldable pub endsbs : List Given → Endsbs
 endsbs g = record { sbs = name_in key.Sbs g; option = ending_in key.Option g; delay = maybe (is_word_in key.Delay g) (number_in key.Delay g) }
 
 unfoldable pub sbmjob : List Given → Sbmjob
 sbmjob g = record { rqsdta = request_in g; job = maybe (is_word_in key.Job g) (name_in key.Job g); jobd = object_in key.Jobd g; jobq = maybe (is_word_in key.Jobq g) (object_in key.Jobq g); jobpty = maybe (is_word_in key.Jobpty g) (priority_in key.Jobpty g); rtgdta = maybe (is_word_in key.Rtgdta g) (text_in key.Rtgdta g); hold = maybe (is_word_in key.Hold g) (flag_in key.Hold g); scddate = date_in key.Scddate g; scdtime = time_in key.Scdtime g }
 
-unfoldable pub hldjob : List Given → Hldjob
-hldjob g = record { job = job_in key.Job g }
-
-unfoldable pub rlsjob : List Given → Rlsjob
-rlsjob g = record { job = job_in key.Job g }
-
 unfoldable pub chgjob : List Given → Chgjob
 chgjob g = record { job = job_in key.Job g; jobpty = maybe (is_word_in key.Jobpty g) (priority_in key.Jobpty g); jobq = maybe (is_word_in key.Jobq g) (object_in key.Jobq g); scddate = maybe (is_word_in key.Scddate g) (date_in key.Scddate g); scdtime = maybe (is_word_in key.Scdtime g) (time_in key.Scdtime g) }
 
 unfoldable pub endjob : List Given → Endjob
 endjob g = record { job = job_in key.Job g; option = ending_in key.Option g; delay = number_in key.Delay g }
-
-unfoldable pub hldjobq : List Given → Hldjobq
-hldjobq g = record { jobq = object_in key.Jobq g }
-
-unfoldable pub rlsjobq : List Given → Rlsjobq
-rlsjobq g = record { jobq = object_in key.Jobq g }
-
-unfoldable pub clrjobq : List Given → Clrjobq
-clrjobq g = record { jobq = object_in key.Jobq g }
 
 unfoldable pub strpj : List Given → Strpj
 strpj g = record { sbs = name_in key.Sbs g; pgm = object_in key.Pgm g }
@@ -114,16 +85,13 @@ endpj g = record { sbs = name_in key.Sbs g; pgm = object_in key.Pgm g; option = 
 unfoldable pub evoke : List Given → Evoke
 evoke g = record { sbs = name_in key.Sbs g; pgm = object_in key.Pgm g }
 
-unfoldable pub enduse : List Given → Enduse
-enduse g = record { job = job_in key.Job g }
-
 unfoldable pub pwrdwnsys : List Given → Pwrdwnsys
 pwrdwnsys g = record { option = ending_in key.Option g; delay = maybe (is_word_in key.Delay g) (number_in key.Delay g) }
 
 -- the command with these values
 abbrev pub change_made : Change → List Given → Command
 change_made change.Crtcls g = command.Crtcls (crtcls g)
-change_made change.Crtjobq g = command.Crtjobq (crtjobq g)
+change_made change.Crtjobq g = command.Crtjobq (record { jobq = object_in key.Jobq g })
 change_made change.Crtpgmref g = command.Crtpgmref (crtpgmref g)
 change_made change.Crtjobd g = command.Crtjobd (crtjobd g)
 change_made change.Crtsbsd g = command.Crtsbsd (crtsbsd g)
@@ -135,18 +103,18 @@ change_made change.Rmvjobqe g = command.Rmvjobqe (rmvjobqe g)
 change_made change.Rmvrtge g = command.Rmvrtge (rmvrtge g)
 change_made change.Rmvaje g = command.Rmvaje (rmvaje g)
 change_made change.Rmvpje g = command.Rmvpje (rmvpje g)
-change_made change.Strsbs g = command.Strsbs (strsbs g)
+change_made change.Strsbs g = command.Strsbs (record { sbsd = object_in key.Sbsd g })
 change_made change.Endsbs g = command.Endsbs (endsbs g)
 change_made change.Sbmjob g = command.Sbmjob (sbmjob g)
-change_made change.Hldjob g = command.Hldjob (hldjob g)
-change_made change.Rlsjob g = command.Rlsjob (rlsjob g)
+change_made change.Hldjob g = command.Hldjob (record { job = job_in key.Job g })
+change_made change.Rlsjob g = command.Rlsjob (record { job = job_in key.Job g })
 change_made change.Chgjob g = command.Chgjob (chgjob g)
 change_made change.Endjob g = command.Endjob (endjob g)
-change_made change.Hldjobq g = command.Hldjobq (hldjobq g)
-change_made change.Rlsjobq g = command.Rlsjobq (rlsjobq g)
-change_made change.Clrjobq g = command.Clrjobq (clrjobq g)
+change_made change.Hldjobq g = command.Hldjobq (record { jobq = object_in key.Jobq g })
+change_made change.Rlsjobq g = command.Rlsjobq (record { jobq = object_in key.Jobq g })
+change_made change.Clrjobq g = command.Clrjobq (record { jobq = object_in key.Jobq g })
 change_made change.Strpj g = command.Strpj (strpj g)
 change_made change.Endpj g = command.Endpj (endpj g)
 change_made change.Evoke g = command.Evoke (evoke g)
-change_made change.Enduse g = command.Enduse (enduse g)
+change_made change.Enduse g = command.Enduse (record { job = job_in key.Job g })
 change_made change.Pwrdwnsys g = command.Pwrdwnsys (pwrdwnsys g)

@@ -1,5 +1,5 @@
 -- The text that is printed of a command is read as that command.
-use Rattle.std.specs.Prelude.{◌≡◌, ℕ, ◌≤◌, Bool, true, false, Result, Ok, List, [], ◌∷◌, length, filter, IsTrue}
+use Rattle.std.specs.Prelude.{◌≡◌, ℕ, ◌≤◌, Bool, true, false, Result, Ok, List, [], ◌∷◌, length, filter, IfSome, IsTrue}
 use Rattle.wm_base.specs.Name.{IsName}
 use Rattle.wm_base.specs.Text.{IsText}
 use Rattle.wm_base.specs.declared.qname.QName.{QName}
@@ -31,7 +31,7 @@ use Rattle.wm_command.specs.Made.{change_made}
 use Rattle.wm_command.specs.Print.{command_text}
 use Rattle.wm_command.specs.Reading.{complete}
 use Rattle.wm_command.specs.Shown.{values_of, verb_of}
-use Rattle.wm_command.specs.Table.{change_rows, change_word}
+use Rattle.wm_command.specs.Table.{change_rows, change_word, row_kind, row_special}
 use Rattle.wm_command.specs.Values.{is_never}
 
 abbrev pub IsQualified : QName → Type 0
@@ -64,8 +64,8 @@ FitsKind k v = ⊥
 
 -- it is that of a key's row, or the row's special word
 abbrev pub FitsRow : Row → Value → Type 0
-FitsRow row (value.Special s) = (s ≡ row.2) × (is_never s ≡ false)
-FitsRow row v = FitsKind row.1 v
+FitsRow row (value.Special s) = (s ≡ row_special row) × (is_never s ≡ false)
+FitsRow row v = FitsKind (row_kind row) v
 
 -- the keys that are printed: all but CMD, TEXT and POOLS
 abbrev pub is_shown : Kind → Bool
@@ -74,7 +74,7 @@ is_shown kind.Anything = false
 is_shown k = true
 
 abbrev pub shown_rows : List Row → List Row
-shown_rows rows = filter (λ row. is_shown row.1) rows
+shown_rows rows = filter (λ row. is_shown (row_kind row)) rows
 
 -- each value fits its row
 abbrev pub FitRows : List Row → List Given → Type 0
@@ -93,6 +93,28 @@ pub record IsFit (c : Command) : Type 0 where
   pub values : FitRows (shown_rows (change_rows (verb_of c))) (values_of c)
   pub whole : IsWhole c
 
+-- its texts are printable
+
+abbrev pub HasText : Cmp → Type 0
+HasText Any = Unit {0}
+HasText (Val text start) = IsText text
+
+abbrev pub HasTexts : Command → Type 0
+HasTexts (command.Crtpgmref c) = IsText c.path
+HasTexts (command.Crtjobd c) = IsText c.rtgdta × IfSome c.rqsdta IsText
+HasTexts (command.Addrtge c) = HasText c.cmpval
+HasTexts (command.Sbmjob c) = IfSome c.rqsdta IsText × IfSome c.rtgdta IsText
+HasTexts c = Unit {0}
+
+abbrev pub LineHasTexts : Line → Type 0
+LineHasTexts (line.Change c) = HasTexts c
+LineHasTexts (line.Read ask) = Unit {0}
+
+-- the command of a line keeps the forms and the ranges of the table
+abbrev pub KeepsForms : Line → Type 0
+KeepsForms (line.Change c) = IsFit c
+KeepsForms (line.Read ask) = Unit {0}
+
 -- the line of a command with these values, completed by what the table has where none is given
 abbrev pub completed : Change → List Given → Result Line CmdFault
 completed verb given =
@@ -102,8 +124,17 @@ completed verb given =
 abbrev pub ShownValuesMakeTheCommand : Type 0
 ShownValuesMakeTheCommand = (c : Command) → IsFit c → completed (verb_of c) (values_of c) ≡ Ok (line.Change c)
 
--- the text of a command of at most 8,192 bytes spells a command, and each tree that it spells is that command's line
-abbrev pub PrintedCommandIsRead : Type 0
-PrintedCommandIsRead = (c : Command) → IsFit c → length (command_text c) ≤ 8192
+-- the command's text, of at most 8,192 bytes, spells a command, and each tree that it spells is that command's line
+abbrev pub IsReadBack : Command → Type 0
+IsReadBack c = length (command_text c) ≤ 8192
     → ((marks : List Mark) × IsCommand (command_text c) (change_word (verb_of c)) marks)
     × ((user name : List ℕ) (items : List Item) → IsCommand (command_text c) name (list_marks items) → line_of user name items ≡ Ok (line.Change c))
+
+-- the text that is printed of a command is read as that command
+abbrev pub PrintedCommandIsRead : Type 0
+PrintedCommandIsRead = (c : Command) → IsFit c → IsReadBack c
+
+-- the same of a line's command
+abbrev pub LineIsReadBack : Line → Type 0
+LineIsReadBack (line.Change c) = IsReadBack c
+LineIsReadBack (line.Read ask) = Unit {0}

@@ -4,6 +4,7 @@ use Rattle.std.specs.List.{list_any}
 use Rattle.wm_base.specs.declared.refusal.Key.{Key}
 use Rattle.wm_base.specs.Key.{key_word}
 use Rattle.wm_clwords.specs.declared.tree.Item.{Item}
+use Rattle.wm_desc.specs.Opening.{qbatch, qdftjobd}
 use Rattle.wm_when.specs.declared.schedule.DateSpec.TheVariants as date
 use Rattle.wm_when.specs.declared.schedule.TimeSpec.TheVariants as time
 use Rattle.wm_command.specs.declared.commands.EndOption.TheVariants.{Cntrld}
@@ -19,6 +20,7 @@ use Rattle.wm_command.specs.declared.value.Given.{Given}
 use Rattle.wm_command.specs.declared.fault.CmdFault.{CmdFault}
 use Rattle.wm_command.specs.declared.fault.CmdFault.TheVariants.{UnknownKeyword, Twice, Missing, TooManyValues}
 use Rattle.wm_command.specs.Each.{go_on, each}
+use Rattle.wm_command.specs.Table.{row_key, row_kind, row_special, row_otherwise}
 use Rattle.wm_command.specs.Call.{call_value}
 use Rattle.wm_command.specs.Values.{one_value, compared}
 use Rattle.wm_command.specs.Words.{same}
@@ -33,7 +35,7 @@ is_given key given = list_any (λ g. same_key g.key key) given
 
 -- the row of the key with a word
 unfoldable pub row_named : List ℕ → List Row → Option Row
-row_named word rows = find (λ row. same (key_word row.0) word) rows
+row_named word rows = find (λ row. same (key_word (row_key row)) word) rows
 
 -- the values behind a key, whose item begins at a place
 abbrev pub row_value : Kind → Special → ℕ → List Item → Result Value CmdFault
@@ -49,8 +51,8 @@ with_value given key (Ok v) = Ok (given ++ record { key = key; value = v } ∷ [
 abbrev pub keyed : List Given → ℕ → List Item → Option Row → Result (List Given) CmdFault
 keyed given place items None = Err (UnknownKeyword place)
 keyed given place items (Some row) =
-    if is_given row.0 given then Err (Twice place)
-    else with_value given row.0 (row_value row.1 row.2 place items)
+    if is_given (row_key row) given then Err (Twice place)
+    else with_value given (row_key row) (row_value (row_kind row) (row_special row) place items)
 
 abbrev pub keyed_by : List Row → List Given → Item → Option (List ℕ) → Result (List Given) CmdFault
 keyed_by rows given item None = Err (TooManyValues (place_of item))
@@ -63,7 +65,7 @@ next_item rows given item = keyed_by rows given item (key_of item)
 -- a value that stands alone is that of the first key
 abbrev pub stands_alone : List Row → ℕ → List Item → Result (List Given) CmdFault
 stands_alone [] place items = Err (TooManyValues place)
-stands_alone (row ∷ rows) place items = with_value [] row.0 (row_value row.1 row.2 place items)
+stands_alone (row ∷ rows) place items = with_value [] (row_key row) (row_value (row_kind row) (row_special row) place items)
 
 abbrev pub first_by : List Row → Item → Option (List ℕ) → Result (List Given) CmdFault
 first_by rows item None = stands_alone rows (place_of item) (item ∷ [])
@@ -87,8 +89,8 @@ default_value (default.Number n) key s = Ok (value.Number n)
 default_value default.Yes key s = Ok (value.Flag true)
 default_value default.No key s = Ok (value.Flag false)
 default_value default.Cntrld key s = Ok (value.Ending Cntrld)
-default_value default.Qbatch key s = Ok (value.Object (record { lib = codes "QGPL"; name = codes "QBATCH" }))
-default_value default.Qdftjobd key s = Ok (value.Object (record { lib = codes "QGPL"; name = codes "QDFTJOBD" }))
+default_value default.Qbatch key s = Ok (value.Object qbatch)
+default_value default.Qdftjobd key s = Ok (value.Object qdftjobd)
 default_value default.Qcmdi key s = Ok (value.Text (codes "QCMDI"))
 default_value default.Qcmdb key s = Ok (value.Text (codes "QCMDB"))
 default_value default.Today key s = Ok (value.Date date.Current)
@@ -96,7 +98,7 @@ default_value default.Now key s = Ok (value.Time time.Current)
 
 -- a key that wasn't given gets what it has then
 unfoldable pub complete : List Given → Row → Result (List Given) CmdFault
-complete given row = if is_given row.0 given then Ok given else with_value given row.0 (default_value row.3 row.0 row.2)
+complete given row = if is_given (row_key row) given then Ok given else with_value given (row_key row) (default_value (row_otherwise row) (row_key row) (row_special row))
 
 -- all keys of the table with their values
 abbrev pub all_given : List Row → List Item → Result (List Given) CmdFault

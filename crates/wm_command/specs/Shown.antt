@@ -1,5 +1,6 @@
 -- The values of a command's keys, in the order of the table.
 use Rattle.std.specs.Prelude.{ℕ, Option, Some, None, List, [], ◌∷◌, slice_index_or}
+use Rattle.std.specs.Option.{option_map}
 use Rattle.wm_base.specs.declared.limit.Limit.{Limit}
 use Rattle.wm_base.specs.declared.limit.Limit.TheVariants.{NoMax, Most}
 use Rattle.wm_base.specs.declared.refusal.Key.{Key}
@@ -7,7 +8,6 @@ use Rattle.wm_base.specs.declared.refusal.Key.TheVariants as key
 use Rattle.wm_command.specs.declared.commands.Command.{Command}
 use Rattle.wm_command.specs.declared.commands.Command.TheVariants as command
 use Rattle.wm_command.specs.declared.commands.Crtcls.{Crtcls}
-use Rattle.wm_command.specs.declared.commands.Crtjobq.{Crtjobq}
 use Rattle.wm_command.specs.declared.commands.Crtpgmref.{Crtpgmref}
 use Rattle.wm_command.specs.declared.commands.Crtjobd.{Crtjobd}
 use Rattle.wm_command.specs.declared.commands.Crtsbsd.{Crtsbsd}
@@ -19,20 +19,13 @@ use Rattle.wm_command.specs.declared.commands.Rmvjobqe.{Rmvjobqe}
 use Rattle.wm_command.specs.declared.commands.Rmvrtge.{Rmvrtge}
 use Rattle.wm_command.specs.declared.commands.Rmvaje.{Rmvaje}
 use Rattle.wm_command.specs.declared.commands.Rmvpje.{Rmvpje}
-use Rattle.wm_command.specs.declared.commands.Strsbs.{Strsbs}
 use Rattle.wm_command.specs.declared.commands.Endsbs.{Endsbs}
 use Rattle.wm_command.specs.declared.commands.Sbmjob.{Sbmjob}
-use Rattle.wm_command.specs.declared.commands.Hldjob.{Hldjob}
-use Rattle.wm_command.specs.declared.commands.Rlsjob.{Rlsjob}
 use Rattle.wm_command.specs.declared.commands.Chgjob.{Chgjob}
 use Rattle.wm_command.specs.declared.commands.Endjob.{Endjob}
-use Rattle.wm_command.specs.declared.commands.Hldjobq.{Hldjobq}
-use Rattle.wm_command.specs.declared.commands.Rlsjobq.{Rlsjobq}
-use Rattle.wm_command.specs.declared.commands.Clrjobq.{Clrjobq}
 use Rattle.wm_command.specs.declared.commands.Strpj.{Strpj}
 use Rattle.wm_command.specs.declared.commands.Endpj.{Endpj}
 use Rattle.wm_command.specs.declared.commands.Evoke.{Evoke}
-use Rattle.wm_command.specs.declared.commands.Enduse.{Enduse}
 use Rattle.wm_command.specs.declared.commands.Pwrdwnsys.{Pwrdwnsys}
 use Rattle.wm_command.specs.declared.row.Special.{Special}
 use Rattle.wm_command.specs.declared.row.Special.TheVariants as special
@@ -50,9 +43,12 @@ limit_value NoMax = value.Special special.Nomax
 limit_value (Most n) = value.Number n
 
 -- the special word of the row, where there is no value
+abbrev pub word_or : Special → Option Value → Value
+word_or s None = value.Special s
+word_or s (Some v) = v
+
 abbrev pub or_special : {V : Type 0} → Special → (V → Value) → Option V → Value
-or_special s made None = value.Special s
-or_special s made (Some v) = made v
+or_special s made v = word_or s (option_map made v)
 
 -- MAXPTY1 to MAXPTY9, of nine limits
 abbrev pub maxpty_value : Key → ℕ → List Limit → Given
@@ -64,11 +60,6 @@ crtcls_values c =
     ∷ with_key key.Runpty (value.Number c.runpty)
     ∷ with_key key.Timeslice (value.Number c.timeslice)
     ∷ with_key key.Dftwait (limit_value c.dftwait)
-    ∷ []
-
-unfoldable pub crtjobq_values : Crtjobq → List Given
-crtjobq_values c =
-    with_key key.Jobq (value.Object c.jobq)
     ∷ []
 
 unfoldable pub crtpgmref_values : Crtpgmref → List Given
@@ -167,11 +158,6 @@ rmvpje_values c =
     ∷ with_key key.Pgm (value.Object c.pgm)
     ∷ []
 
-unfoldable pub strsbs_values : Strsbs → List Given
-strsbs_values c =
-    with_key key.Sbsd (value.Object c.sbsd)
-    ∷ []
-
 unfoldable pub endsbs_values : Endsbs → List Given
 endsbs_values c =
     with_key key.Sbs (value.Name c.sbs)
@@ -192,16 +178,6 @@ sbmjob_values c =
     ∷ with_key key.Scdtime (value.Time c.scdtime)
     ∷ []
 
-unfoldable pub hldjob_values : Hldjob → List Given
-hldjob_values c =
-    with_key key.Job (value.Job c.job)
-    ∷ []
-
-unfoldable pub rlsjob_values : Rlsjob → List Given
-rlsjob_values c =
-    with_key key.Job (value.Job c.job)
-    ∷ []
-
 unfoldable pub chgjob_values : Chgjob → List Given
 chgjob_values c =
     with_key key.Job (value.Job c.job)
@@ -216,21 +192,6 @@ endjob_values c =
     with_key key.Job (value.Job c.job)
     ∷ with_key key.Option (value.Ending c.option)
     ∷ with_key key.Delay (value.Number c.delay)
-    ∷ []
-
-unfoldable pub hldjobq_values : Hldjobq → List Given
-hldjobq_values c =
-    with_key key.Jobq (value.Object c.jobq)
-    ∷ []
-
-unfoldable pub rlsjobq_values : Rlsjobq → List Given
-rlsjobq_values c =
-    with_key key.Jobq (value.Object c.jobq)
-    ∷ []
-
-unfoldable pub clrjobq_values : Clrjobq → List Given
-clrjobq_values c =
-    with_key key.Jobq (value.Object c.jobq)
     ∷ []
 
 unfoldable pub strpj_values : Strpj → List Given
@@ -253,11 +214,6 @@ evoke_values c =
     ∷ with_key key.Pgm (value.Object c.pgm)
     ∷ []
 
-unfoldable pub enduse_values : Enduse → List Given
-enduse_values c =
-    with_key key.Job (value.Job c.job)
-    ∷ []
-
 unfoldable pub pwrdwnsys_values : Pwrdwnsys → List Given
 pwrdwnsys_values c =
     with_key key.Option (value.Ending c.option)
@@ -266,7 +222,7 @@ pwrdwnsys_values c =
 
 abbrev pub values_of : Command → List Given
 values_of (command.Crtcls c) = crtcls_values c
-values_of (command.Crtjobq c) = crtjobq_values c
+values_of (command.Crtjobq c) = with_key key.Jobq (value.Object c.jobq) ∷ []
 values_of (command.Crtpgmref c) = crtpgmref_values c
 values_of (command.Crtjobd c) = crtjobd_values c
 values_of (command.Crtsbsd c) = crtsbsd_values c
@@ -278,20 +234,20 @@ values_of (command.Rmvjobqe c) = rmvjobqe_values c
 values_of (command.Rmvrtge c) = rmvrtge_values c
 values_of (command.Rmvaje c) = rmvaje_values c
 values_of (command.Rmvpje c) = rmvpje_values c
-values_of (command.Strsbs c) = strsbs_values c
+values_of (command.Strsbs c) = with_key key.Sbsd (value.Object c.sbsd) ∷ []
 values_of (command.Endsbs c) = endsbs_values c
 values_of (command.Sbmjob c) = sbmjob_values c
-values_of (command.Hldjob c) = hldjob_values c
-values_of (command.Rlsjob c) = rlsjob_values c
+values_of (command.Hldjob c) = with_key key.Job (value.Job c.job) ∷ []
+values_of (command.Rlsjob c) = with_key key.Job (value.Job c.job) ∷ []
 values_of (command.Chgjob c) = chgjob_values c
 values_of (command.Endjob c) = endjob_values c
-values_of (command.Hldjobq c) = hldjobq_values c
-values_of (command.Rlsjobq c) = rlsjobq_values c
-values_of (command.Clrjobq c) = clrjobq_values c
+values_of (command.Hldjobq c) = with_key key.Jobq (value.Object c.jobq) ∷ []
+values_of (command.Rlsjobq c) = with_key key.Jobq (value.Object c.jobq) ∷ []
+values_of (command.Clrjobq c) = with_key key.Jobq (value.Object c.jobq) ∷ []
 values_of (command.Strpj c) = strpj_values c
 values_of (command.Endpj c) = endpj_values c
 values_of (command.Evoke c) = evoke_values c
-values_of (command.Enduse c) = enduse_values c
+values_of (command.Enduse c) = with_key key.Job (value.Job c.job) ∷ []
 values_of (command.Pwrdwnsys c) = pwrdwnsys_values c
 
 abbrev pub verb_of : Command → Change

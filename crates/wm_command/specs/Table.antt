@@ -14,6 +14,20 @@ use Rattle.wm_command.specs.declared.verb.Change.TheVariants as change
 use Rattle.wm_command.specs.declared.verb.Read.{Read}
 use Rattle.wm_command.specs.declared.verb.Read.TheVariants as read
 
+-- the parts of a row: its key, what that takes, its special word, and what it has where it isn't given
+
+abbrev pub row_key : Row → Key
+row_key row = row.0
+
+abbrev pub row_kind : Row → Kind
+row_kind row = row.1
+
+abbrev pub row_special : Row → Special
+row_special row = row.2
+
+abbrev pub row_otherwise : Row → Default
+row_otherwise row = row.3
+
 -- a key that takes its kind of value alone
 abbrev pub plain : Key → Kind → Default → Row
 plain k takes otherwise = record { 0 = k; 1 = takes; 2 = special.Never; 3 = otherwise }

@@ -1,7 +1,8 @@
 -- What the values behind a key are read as, by the key's row.
-use Rattle.std.specs.Prelude.{ℕ, Bool, true, false, Option, Some, None, Result, Ok, Err, List, [], ◌∷◌, length, if◌then◌else◌, codes, is_some}
+use Rattle.std.specs.Prelude.{ℕ, Bool, true, false, Option, Some, None, Result, Ok, Err, List, [], ◌∷◌, length, if◌then◌else◌, codes}
 use Rattle.std.specs.Option.{option_map}
 use Rattle.wm_clwords.specs.declared.tree.Item.{Item}
+use Rattle.wm_clwords.specs.CallReading.{object_by, program_by, reference_of}
 use Rattle.wm_desc.specs.declared.entry.Cmp.{Cmp}
 use Rattle.wm_desc.specs.declared.entry.Cmp.TheVariants.{Any, Val}
 use Rattle.wm_desc.specs.Ranges.{path_in_range, cmp_in_range}
@@ -14,8 +15,8 @@ use Rattle.wm_command.specs.declared.value.Value.{Value}
 use Rattle.wm_command.specs.declared.value.Value.TheVariants as value
 use Rattle.wm_command.specs.declared.fault.CmdFault.{CmdFault}
 use Rattle.wm_command.specs.declared.fault.CmdFault.TheVariants.{BadValue, TooManyValues}
-use Rattle.wm_command.specs.Words.{number_of, name_of, object_of, program_of, job_of, flag_of, ending_of, date_of, time_of}
-use Rattle.wm_command.specs.Written.{word_of, text_of, is_word}
+use Rattle.wm_command.specs.Words.{number_of, name_of, job_of, flag_of, ending_of, date_of, time_of}
+use Rattle.wm_command.specs.Written.{text_of, is_bare, is_word}
 
 -- One value
 
@@ -29,22 +30,22 @@ abbrev pub if_word : {V : Type 0} → Bool → Option V → Option V
 if_word true found = found
 if_word false found = None
 
--- what a word, or a text in apostrophes, is as a value of that kind
-unfoldable pub kind_value : Kind → Bool → List ℕ → Option Value
-kind_value kind.Object w text = option_map value.Object (object_of w text)
-kind_value kind.Program w text = option_map value.Object (program_of w text)
-kind_value kind.Name w text = option_map value.Name (name_of text)
-kind_value (kind.Text low high) w text = text_within low high text
-kind_value kind.Path w text = path_of text
-kind_value (kind.Number low high) w text = option_map value.Number (number_of 1 9 low high text)
-kind_value kind.Flag w text = option_map value.Flag (if_word w (flag_of text))
-kind_value kind.Ending w text = option_map value.Ending (if_word w (ending_of text))
-kind_value kind.Job w text = option_map value.Job (job_of text)
-kind_value kind.Compare w text = None
-kind_value kind.Date w text = option_map value.Date (date_of w text)
-kind_value kind.Time w text = option_map value.Time (time_of w text)
-kind_value kind.Call w text = None
-kind_value kind.Anything w text = None
+-- what a word, or a text in apostrophes, with these characters is as a value of that kind
+unfoldable pub kind_value : Kind → Item → List ℕ → Option Value
+kind_value kind.Object item text = option_map value.Object (object_by (reference_of item))
+kind_value kind.Program item text = option_map value.Object (program_by (reference_of item))
+kind_value kind.Name item text = option_map value.Name (name_of text)
+kind_value (kind.Text low high) item text = text_within low high text
+kind_value kind.Path item text = path_of text
+kind_value (kind.Number low high) item text = option_map value.Number (number_of 1 9 low high text)
+kind_value kind.Flag item text = option_map value.Flag (if_word (is_bare item) (flag_of text))
+kind_value kind.Ending item text = option_map value.Ending (if_word (is_bare item) (ending_of text))
+kind_value kind.Job item text = option_map value.Job (job_of text)
+kind_value kind.Compare item text = None
+kind_value kind.Date item text = option_map value.Date (date_of (is_bare item) text)
+kind_value kind.Time item text = option_map value.Time (time_of (is_bare item) text)
+kind_value kind.Call item text = None
+kind_value kind.Anything item text = None
 
 -- the special word of a row
 unfoldable pub special_word : Special → List ℕ
@@ -68,15 +69,15 @@ is_never special.Sbsd = false
 abbrev pub is_special : Special → Item → Bool
 is_special s item = if is_never s then false else is_word item (special_word s)
 
-abbrev pub text_value : Kind → Bool → Option (List ℕ) → Option Value
-text_value k w None = None
-text_value k w (Some text) = kind_value k w text
+abbrev pub text_value : Kind → Item → Option (List ℕ) → Option Value
+text_value k item None = None
+text_value k item (Some text) = kind_value k item text
 
 -- the row's special word, or a value of its kind
 abbrev pub item_value : Kind → Special → Item → Option Value
 item_value k s item =
     if is_special s item then Some (value.Special s)
-    else text_value k (is_some (word_of item)) (text_of item)
+    else text_value k item (text_of item)
 
 -- The compare value
 

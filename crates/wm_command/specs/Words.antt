@@ -1,7 +1,6 @@
 -- What texts say: numbers, names, dates and times.
 use Rattle.std.specs.Prelude.{ℕ, Bool, true, false, not, Option, Some, None, List, length, take, drop, ◌+◌, ◌-◌, ◌*◌, ◌/◌, ◌%◌, ◌==◌, ◌&&◌, nat_lt, nat_le, nat_eq, if◌then◌else◌, codes, take_while, fold}
 use Rattle.std.specs.Cmp.Lexicographic.{pointwise}
-use Rattle.wm_base.specs.declared.qname.QName.{QName}
 use Rattle.wm_base.specs.Name.{is_name}
 use Rattle.wm_when.specs.Schedule.{within, is_date}
 use Rattle.wm_when.specs.declared.schedule.DateSpec.{DateSpec}
@@ -53,29 +52,6 @@ behind_slash text =
     if nat_lt (length (take_while is_no_slash text)) (length text)
     then Some (drop (length (take_while is_no_slash text) + 1) text)
     else None
-
-abbrev pub qname_of : Option (List ℕ) → Option (List ℕ) → Option QName
-qname_of None name = None
-qname_of (Some lib) None = None
-qname_of (Some lib) (Some name) = Some (record { lib = lib; name = name })
-
--- *LIBL is QGPL, but not in apostrophes
-abbrev pub library_of : Bool → List ℕ → Option (List ℕ)
-library_of is_word text = if is_word && pointwise nat_eq text (codes "*LIBL") then Some (codes "QGPL") else name_of text
-
-abbrev pub object_with : Bool → List ℕ → Option (List ℕ) → Option QName
-object_with is_word first None = qname_of (Some (codes "QGPL")) (name_of first)
-object_with is_word first (Some rest) = qname_of (library_of is_word first) (name_of rest)
-
--- `NAME`, `LIB/NAME` or `*LIBL/NAME`
-unfoldable pub object_of : Bool → List ℕ → Option QName
-object_of is_word text = object_with is_word (before_slash text) (behind_slash text)
-
--- the same, but QCMD alone is QSYS/QCMD
-unfoldable pub program_of : Bool → List ℕ → Option QName
-program_of is_word text =
-    if pointwise nat_eq text (codes "QCMD") then Some (record { lib = codes "QSYS"; name = codes "QCMD" })
-    else object_of is_word text
 
 -- Jobs
 

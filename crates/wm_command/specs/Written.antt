@@ -1,5 +1,5 @@
 -- What stands at an item.
-use Rattle.std.specs.Prelude.{ℕ, Bool, false, Option, Some, None, List, [], nat_eq}
+use Rattle.std.specs.Prelude.{ℕ, Bool, false, Option, Some, None, List, [], nat_eq, is_some}
 use Rattle.std.specs.Cmp.Lexicographic.{pointwise}
 use Rattle.wm_clwords.specs.declared.tree.Item.{Item, Word, Quoted, List', Keyed', items-the_row-Item}
 
@@ -23,6 +23,10 @@ text_of (Word span text) = Some text
 text_of (Quoted span text) = Some text
 text_of (List' span shape row) = None
 text_of (Keyed' span key shape row) = None
+
+-- whether it is a word, and no text in apostrophes
+abbrev pub is_bare : Item → Bool
+is_bare item = is_some (word_of item)
 
 abbrev pub key_of : Item → Option (List ℕ)
 key_of (Word span text) = None

@@ -7,7 +7,7 @@ use crate::reading::same_key;
 use crate::value::{Value, Values};
 use std::alloc::AllocError;
 use wm_base::{Key, Limit, Name, Priority, QName, Text};
-use wm_desc::Cmp;
+use wm_desc::{Cmp, qbatch};
 use wm_when::{DateSpec, TimeSpec};
 
 /// Nothing for a special word.
@@ -21,7 +21,7 @@ impl Values {
     ghost use Rattle.std.specs.Prelude.{◌≡◌, IfOk};
     ghost use Rattle.std.specs.Option.{option_copied};
     ghost use Rattle.wm_command.specs.Line.{lacks};
-    ghost use Rattle.wm_command.specs.Fields.{value_of, object_in, name_in, text_in, number_in, limit_in, flag_in, ending_in, job_in, compare_in, date_in, time_in, priority_in, is_word_in, maybe, class_in, maxpty_in, request_in, qbatch};
+    ghost use Rattle.wm_command.specs.Fields.{value_of, object_in, name_in, text_in, number_in, limit_in, flag_in, ending_in, job_in, compare_in, date_in, time_in, priority_in, is_word_in, maybe, class_in, maxpty_in, request_in};
 
     /// The value of a key.
     #[tactic(auto, unfolding(crate::specs::Fields::value_of))]
@@ -34,22 +34,13 @@ impl Values {
             .map(|given| &given.value)
     }
 
-    fn qbatch() -> QName
-        ensures { result ≡ qbatch }
-    {
-        QName {
-            lib: Name::of(b"QGPL"),
-            name: Name::of(b"QBATCH"),
-        }
-    }
-
     #[tactic(auto, unfolding(crate::specs::Fields::object_in))]
     pub fn object(&self, key: Key) -> QName
         ensures { result ≡ object_in key self.now }
     {
         match self.value_of(key) {
             Some(Value::Object(q)) => *q,
-            _ => Values::qbatch(),
+            _ => qbatch(),
         }
     }
 
@@ -133,6 +124,7 @@ impl Values {
         }
     }
 
+    /// The text of a key. An `Err` is want of memory.
     #[tactic(auto, unfolding(crate::specs::Fields::text_in))]
     pub fn text(&self, key: Key) -> Result<Text, AllocError>
         ensures { IfOk result (λ text. text ≡ text_in key self.now) }
@@ -143,6 +135,7 @@ impl Values {
         }
     }
 
+    /// The compare value of a key. An `Err` is want of memory.
     #[tactic(auto, unfolding(crate::specs::Fields::compare_in))]
     pub fn compare(&self, key: Key) -> Result<Cmp, AllocError>
         ensures { IfOk result (λ cmp. cmp ≡ compare_in key self.now) }
@@ -214,6 +207,7 @@ impl Values {
         ]
     }
 
+    /// The text of a key, and nothing for its special word. An `Err` is want of memory.
     pub fn maybe_text(&self, key: Key) -> Result<Option<Text>, AllocError>
         ensures { IfOk result (λ text. text ≡ maybe (is_word_in key self.now) (text_in key self.now)) }
     {
@@ -223,7 +217,7 @@ impl Values {
         Ok(Some(self.text(key)?))
     }
 
-    /// The text of CMD's CALL, or RQSDTA.
+    /// The text of CMD's CALL, or RQSDTA. An `Err` is want of memory.
     #[tactic(auto, unfolding(crate::specs::Fields::request_in))]
     pub fn request(&self) -> Result<Option<Text>, AllocError>
         ensures { IfOk result (λ text. text ≡ request_in self.now) }

@@ -1,7 +1,8 @@
 //! Commands from trees, and their canonical texts.
 //!
 //! The contract for the layer above: `command` answers the line that a tree is by the command table, or the tree's first
-//! fault with its place or keys, and `print` gives a command's canonical text.
+//! fault with its place or keys, and `print` gives a command's canonical text. A command that `command` answers keeps the
+//! table's forms and ranges, so that its canonical text is read as the same command.
 //!
 //! The definitions are in `specs/`: `Table` (what each command's keys take), `Words` (what texts say), `Values` and `Call`
 //! (what the values behind a key are read as), `Reading` (what items give keys), `Fields` and `Made` (commands of values),
@@ -20,6 +21,7 @@ mod made_control;
 mod made_create;
 mod made_entry;
 mod made_job;
+mod printable;
 mod printing;
 mod reading;
 mod row;
@@ -43,18 +45,7 @@ pub use commands::{
 pub use fault::CmdFault;
 pub use laws::{printed_command_is_read, shown_values_make_the_command};
 pub use line::command;
-pub use made::change_made;
 pub use printing::print;
-pub use reading::{all_given, same_key};
-pub use row::{Default, Kind, Row, Special};
-pub use table::{change_rows, change_word, read_rows, read_word};
-pub use value::{Given, Value, Values};
-pub use values::{compared, one_value};
-pub use verb::{Change, Read};
-pub use words::{
-    date_of, ending_of, flag_of, job_of, name_of, number_of, object_of, program_of, time_of,
-};
-pub use written::{is_word, key_of, listed, place_of, text_of, word_of};
 
 #[cfg(test)]
 mod tests;

@@ -1,10 +1,12 @@
 // Commands from trees.
 ghost use Rattle.std.specs.Prelude.{◌≡◌, ◌≢◌, IfOk, IfErr, Ok, Err};
+ghost use Rattle.wm_command.specs.Printed.{KeepsForms, LineHasTexts, LineIsReadBack};
 ghost use Rattle.wm_command.specs.Line.{change_named, read_named, one_request, lacks, own_fault, change_line, read_made, read_line, line_of};
 
 use crate::commands::{Ask, Line};
 use crate::fault::CmdFault;
 use crate::made::change_made;
+use crate::printable::has_texts;
 use crate::reading::all_given;
 use crate::table::{change_rows, change_word, read_rows, read_word};
 use crate::value::Values;
@@ -95,12 +97,14 @@ fn own_fault(verb: Change, values: &Values) -> Option<CmdFault>
 fn change_line(alloc: Global, verb: Change, items: &[Item]) -> Result<Line, CmdFault>
     ensures ok { IfOk result (λ line. change_line verb items.now ≡ Ok line) }
     ensures err { IfErr result (λ e. e ≢ CmdFault.NoMemory → change_line verb items.now ≡ Err e) }
+    ensures texts { IfOk result (λ line. LineHasTexts line) }
 {
     let values = all_given(alloc, change_rows(verb), items)?;
     if let Some(fault) = own_fault(verb, &values) {
         return Err(fault);
     }
     let command = change_made(verb, &values)?;
+    has_texts(&command);
     Ok(Line::Change(command))
 }
 
@@ -120,6 +124,7 @@ fn read_made(user: &Name, verb: Read, values: &Values) -> Ask
 fn read_line(alloc: Global, user: &Name, verb: Read, items: &[Item]) -> Result<Line, CmdFault>
     ensures ok { IfOk result (λ line. read_line user.now verb items.now ≡ Ok line) }
     ensures err { IfErr result (λ e. e ≢ CmdFault.NoMemory → read_line user.now verb items.now ≡ Err e) }
+    ensures texts { IfOk result (λ line. LineHasTexts line) }
 {
     let values = all_given(alloc, read_rows(verb), items)?;
     Ok(Line::Read(read_made(user, verb, &values)))
@@ -130,6 +135,10 @@ pub fn command(alloc: Global, user: &Name, tree: &Tree) -> Result<Line, CmdFault
     // A line is that of the table, and a fault the first one in its order.
     ensures ok { IfOk result (λ line. line_of user.now tree.now.name tree.now.items.items ≡ Ok line) }
     ensures err { IfErr result (λ e. e ≢ CmdFault.NoMemory → line_of user.now tree.now.name tree.now.items.items ≡ Err e) }
+
+    // A command keeps the forms and the ranges of the table, so what is printed of it is read as that command.
+    ensures forms { IfOk result (λ line. KeepsForms line) }
+    ensures back { IfOk result (λ line. LineIsReadBack line) }
 {
     if let Some(verb) = change_named(&tree.name) {
         let line = change_line(alloc, verb, &tree.items)?;

@@ -1,20 +1,11 @@
 // The commands that control subsystems, queues and prestart jobs, made of their keys' values.
 ghost use Rattle.std.specs.Prelude.{◌≡◌};
-ghost use Rattle.wm_command.specs.Made.{strsbs, endsbs, hldjobq, rlsjobq, clrjobq, strpj, endpj, evoke, pwrdwnsys};
+ghost use Rattle.wm_command.specs.Made.{endsbs, strpj, endpj, evoke, pwrdwnsys};
 
-use crate::commands::{Clrjobq, Endpj, Endsbs, Evoke, Hldjobq, Pwrdwnsys, Rlsjobq, Strpj, Strsbs};
+use crate::commands::{Endpj, Endsbs, Evoke, Pwrdwnsys, Strpj};
 use crate::fields::maybe;
 use crate::value::Values;
 use wm_base::Key;
-
-#[tactic(auto, unfolding(crate::specs::Made::strsbs))]
-pub fn strsbs(values: &Values) -> Strsbs
-    ensures { result ≡ strsbs values.now }
-{
-    Strsbs {
-        sbsd: values.object(Key::Sbsd),
-    }
-}
 
 #[tactic(auto, unfolding(crate::specs::Made::endsbs))]
 pub fn endsbs(values: &Values) -> Endsbs
@@ -24,33 +15,6 @@ pub fn endsbs(values: &Values) -> Endsbs
         sbs: values.name(Key::Sbs),
         option: values.ending(Key::Option),
         delay: maybe(values.is_word(Key::Delay), values.number(Key::Delay)),
-    }
-}
-
-#[tactic(auto, unfolding(crate::specs::Made::hldjobq))]
-pub fn hldjobq(values: &Values) -> Hldjobq
-    ensures { result ≡ hldjobq values.now }
-{
-    Hldjobq {
-        jobq: values.object(Key::Jobq),
-    }
-}
-
-#[tactic(auto, unfolding(crate::specs::Made::rlsjobq))]
-pub fn rlsjobq(values: &Values) -> Rlsjobq
-    ensures { result ≡ rlsjobq values.now }
-{
-    Rlsjobq {
-        jobq: values.object(Key::Jobq),
-    }
-}
-
-#[tactic(auto, unfolding(crate::specs::Made::clrjobq))]
-pub fn clrjobq(values: &Values) -> Clrjobq
-    ensures { result ≡ clrjobq values.now }
-{
-    Clrjobq {
-        jobq: values.object(Key::Jobq),
     }
 }
 

@@ -1,8 +1,8 @@
 // The commands that make objects, made of their keys' values.
 ghost use Rattle.std.specs.Prelude.{◌≡◌, IfOk};
-ghost use Rattle.wm_command.specs.Made.{crtcls, crtjobq, crtpgmref, crtjobd, crtsbsd};
+ghost use Rattle.wm_command.specs.Made.{crtcls, crtpgmref, crtjobd, crtsbsd};
 
-use crate::commands::{Crtcls, Crtjobd, Crtjobq, Crtpgmref, Crtsbsd};
+use crate::commands::{Crtcls, Crtjobd, Crtpgmref, Crtsbsd};
 use crate::value::Values;
 use std::alloc::AllocError;
 use wm_base::Key;
@@ -16,15 +16,6 @@ pub fn crtcls(values: &Values) -> Crtcls
         runpty: values.number(Key::Runpty),
         timeslice: values.number(Key::Timeslice),
         dftwait: values.limit(Key::Dftwait),
-    }
-}
-
-#[tactic(auto, unfolding(crate::specs::Made::crtjobq))]
-pub fn crtjobq(values: &Values) -> Crtjobq
-    ensures { result ≡ crtjobq values.now }
-{
-    Crtjobq {
-        jobq: values.object(Key::Jobq),
     }
 }
 

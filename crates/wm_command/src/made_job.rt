@@ -1,8 +1,8 @@
 // The commands that submit and control jobs, made of their keys' values.
 ghost use Rattle.std.specs.Prelude.{◌≡◌, IfOk};
-ghost use Rattle.wm_command.specs.Made.{sbmjob, hldjob, rlsjob, chgjob, endjob, enduse};
+ghost use Rattle.wm_command.specs.Made.{sbmjob, chgjob, endjob};
 
-use crate::commands::{Chgjob, Endjob, Enduse, Hldjob, Rlsjob, Sbmjob};
+use crate::commands::{Chgjob, Endjob, Sbmjob};
 use crate::fields::maybe;
 use crate::value::Values;
 use std::alloc::AllocError;
@@ -23,24 +23,6 @@ pub fn sbmjob(values: &Values) -> Result<Sbmjob, AllocError>
         scddate: values.date(Key::Scddate),
         scdtime: values.time(Key::Scdtime),
     })
-}
-
-#[tactic(auto, unfolding(crate::specs::Made::hldjob))]
-pub fn hldjob(values: &Values) -> Hldjob
-    ensures { result ≡ hldjob values.now }
-{
-    Hldjob {
-        job: values.job(Key::Job),
-    }
-}
-
-#[tactic(auto, unfolding(crate::specs::Made::rlsjob))]
-pub fn rlsjob(values: &Values) -> Rlsjob
-    ensures { result ≡ rlsjob values.now }
-{
-    Rlsjob {
-        job: values.job(Key::Job),
-    }
 }
 
 #[tactic(auto, unfolding(crate::specs::Made::chgjob))]
@@ -64,14 +46,5 @@ pub fn endjob(values: &Values) -> Endjob
         job: values.job(Key::Job),
         option: values.ending(Key::Option),
         delay: values.number(Key::Delay),
-    }
-}
-
-#[tactic(auto, unfolding(crate::specs::Made::enduse))]
-pub fn enduse(values: &Values) -> Enduse
-    ensures { result ≡ enduse values.now }
-{
-    Enduse {
-        job: values.job(Key::Job),
     }
 }

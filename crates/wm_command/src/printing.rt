@@ -3,9 +3,7 @@ ghost use Rattle.std.specs.Prelude.{◌≡◌, ◌++◌, ◌<◌, ◌^◌, OnOk,
 ghost use Rattle.std.specs.List.{flat_map};
 ghost use Rattle.std.specs.Fmt.{decimal};
 ghost use Rattle.wm_base.specs.Number.{zero_padded};
-ghost use Rattle.wm_base.specs.QName.{qname_text};
 ghost use Rattle.wm_base.specs.Text.{IsText};
-ghost use Rattle.wm_clwords.specs.Quote.{doubled, quoted};
 ghost use Rattle.wm_base.specs.Key.{key_word};
 ghost use Rattle.wm_command.specs.Table.{change_word};
 ghost use Rattle.wm_command.specs.Values.{special_word};
@@ -19,7 +17,8 @@ use crate::table::change_word;
 use crate::value::{Given, Value};
 use crate::verb::Change;
 use std::alloc::{AllocError, Global};
-use wm_base::{JobName, Key, Name, QName, Text};
+use wm_base::{JobName, Key, Name, Text};
+use wm_clwords::{push_qname, push_quoted};
 use wm_desc::Cmp;
 use wm_when::{DateSpec, TimeSpec};
 
@@ -28,37 +27,6 @@ fn push_name(out: &mut Text, name: &Name) -> Result<(), AllocError>
     ensures { OnOk result (out.new ≡ out.old ++ name.now) }
 {
     out.push_bytes(name.as_bytes())?;
-    Ok(())
-}
-
-fn push_qname(out: &mut Text, q: &QName) -> Result<(), AllocError>
-    ensures { OnOk result (out.new ≡ out.old ++ qname_text q.now) }
-{
-    push_name(out, &q.lib)?;
-    out.push_bytes(b"/")?;
-    push_name(out, &q.name)?;
-    Ok(())
-}
-
-fn push_doubled(out: &mut Text, text: &Text) -> Result<(), AllocError>
-    ensures { OnOk result (out.new ≡ out.old ++ doubled text.now) }
-{
-    for byte in text.as_bytes() {
-        if *byte == b'\'' {
-            out.push_bytes(b"''")?;
-        } else {
-            out.push_bytes(&[*byte])?;
-        }
-    }
-    Ok(())
-}
-
-fn push_quoted(out: &mut Text, text: &Text) -> Result<(), AllocError>
-    ensures { OnOk result (out.new ≡ out.old ++ quoted text.now) }
-{
-    out.push_bytes(b"'")?;
-    push_doubled(out, text)?;
-    out.push_bytes(b"'")?;
     Ok(())
 }
 
@@ -305,7 +273,7 @@ fn push_all(alloc: Global, out: &mut Text, all: &[Given]) -> Result<(), AllocErr
 }
 
 /// The canonical text of a command: its name, and every key of the table in order with its value. CMD isn't printed,
-/// its text stands in RQSDTA.
+/// its text stands in RQSDTA. An `Err` is want of memory.
 pub fn print(alloc: Global, command: &Command) -> Result<Text, AllocError>
     ensures { IfOk result (λ text. text ≡ command_text command.now) }
 {

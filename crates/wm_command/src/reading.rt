@@ -1,10 +1,10 @@
 // What the items of a command give its keys.
-ghost use Rattle.std.specs.Prelude.{◌≡◌, ◌≢◌, IfOk, IfErr, OnOk, Ok, Err, Some, codes};
+ghost use Rattle.std.specs.Prelude.{◌≡◌, ◌≢◌, IfOk, IfErr, OnOk, Ok, Err, Some};
 ghost use Rattle.std.specs.Option.{option_copied};
-ghost use Rattle.wm_base.specs.Name.{IsName};
 ghost use Rattle.wm_base.specs.Text.{IsText};
 ghost use Rattle.wm_command.specs.Each.{each};
 ghost use Rattle.wm_command.specs.declared.value.Value.TheVariants as value;
+ghost use Rattle.wm_command.specs.Table.{row_key, row_kind, row_special, row_otherwise};
 ghost use Rattle.wm_command.specs.Reading.{same_key, is_given, row_named, row_value, with_value, keyed, next_item, stands_alone, first_item, items_given, default_value, complete, all_given};
 
 use crate::call::call_value;
@@ -16,8 +16,9 @@ use crate::values::{compared, one_value};
 use crate::written::{key_of, listed, place_of};
 use std::alloc::Global;
 use std::slice;
-use wm_base::{Key, Name, QName, Text};
+use wm_base::{Key, Text};
 use wm_clwords::Item;
+use wm_desc::{qbatch, qdftjobd};
 use wm_when::{DateSpec, TimeSpec};
 
 /// Whether keys are the same.
@@ -48,8 +49,8 @@ fn row_named(word: &[u8], rows: &[Row]) -> Option<Row>
 
 /// The value of a key, whose item begins at `place`.
 fn row_value(alloc: Global, row: &Row, place: u32, items: &[Item]) -> Result<Value, CmdFault>
-    ensures ok { IfOk result (λ v. row_value row.now.1 row.now.2 place items.now ≡ Ok v) }
-    ensures err { IfErr result (λ e. e ≢ CmdFault.NoMemory → row_value row.now.1 row.now.2 place items.now ≡ Err e) }
+    ensures ok { IfOk result (λ v. row_value (row_kind row.now) (row_special row.now) place items.now ≡ Ok v) }
+    ensures err { IfErr result (λ e. e ≢ CmdFault.NoMemory → row_value (row_kind row.now) (row_special row.now) place items.now ≡ Err e) }
 {
     match row.1 {
         Kind::Compare => compared(place, items),
@@ -153,16 +154,6 @@ fn items_given(alloc: Global, rows: &[Row], items: &[Item]) -> Result<Values, Cm
     }
 }
 
-fn object_named(name: &[u8]) -> Value
-    requires { IsName name.now }
-    ensures { result ≡ value.Object (record { lib = codes "QGPL"; name = name.now }) }
-{
-    Value::Object(QName {
-        lib: Name::of(b"QGPL"),
-        name: Name::of(name),
-    })
-}
-
 fn text_value(alloc: Global, text: &[u8]) -> Result<Value, CmdFault>
     requires { IsText text.now }
     ensures ok { IfOk result (λ v. v ≡ value.Text text.now) }
@@ -173,8 +164,8 @@ fn text_value(alloc: Global, text: &[u8]) -> Result<Value, CmdFault>
 
 /// What a key has where it isn't given.
 fn default_value(alloc: Global, row: &Row) -> Result<Value, CmdFault>
-    ensures ok { IfOk result (λ v. default_value row.now.3 row.now.0 row.now.2 ≡ Ok v) }
-    ensures err { IfErr result (λ e. e ≢ CmdFault.NoMemory → default_value row.now.3 row.now.0 row.now.2 ≡ Err e) }
+    ensures ok { IfOk result (λ v. default_value (row_otherwise row.now) (row_key row.now) (row_special row.now) ≡ Ok v) }
+    ensures err { IfErr result (λ e. e ≢ CmdFault.NoMemory → default_value (row_otherwise row.now) (row_key row.now) (row_special row.now) ≡ Err e) }
 {
     match row.3 {
         Default::Required => Err(CmdFault::Missing(row.0)),
@@ -184,8 +175,8 @@ fn default_value(alloc: Global, row: &Row) -> Result<Value, CmdFault>
         Default::Yes => Ok(Value::Flag(true)),
         Default::No => Ok(Value::Flag(false)),
         Default::Cntrld => Ok(Value::Ending(EndOption::Cntrld)),
-        Default::Qbatch => Ok(object_named(b"QBATCH")),
-        Default::Qdftjobd => Ok(object_named(b"QDFTJOBD")),
+        Default::Qbatch => Ok(Value::Object(qbatch())),
+        Default::Qdftjobd => Ok(Value::Object(qdftjobd())),
         Default::Qcmdi => {
             let value = text_value(alloc, b"QCMDI")?;
             Ok(value)

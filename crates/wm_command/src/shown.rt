@@ -1,29 +1,23 @@
 // The values of a command's keys, in the order of the table.
-ghost use Rattle.std.specs.Prelude.{◌≡◌, IfOk};
-ghost use Rattle.wm_command.specs.Shown.{limit_value, or_special, values_of, verb_of};
+ghost use Rattle.std.specs.Prelude.{◌≡◌, ◌∷◌, [], IfOk};
+ghost use Rattle.wm_command.specs.Shown.{with_key, limit_value, word_or, or_special, values_of, verb_of};
 ghost use Rattle.wm_command.specs.declared.value.Value.TheVariants as value;
 
 use crate::commands::Command;
 use crate::row::Special;
 use crate::shown_control::{
-    clrjobq_values, endpj_values, endsbs_values, evoke_values, hldjobq_values, pwrdwnsys_values,
-    rlsjobq_values, strpj_values, strsbs_values,
+    endpj_values, endsbs_values, evoke_values, pwrdwnsys_values, strpj_values,
 };
-use crate::shown_create::{
-    crtcls_values, crtjobd_values, crtjobq_values, crtpgmref_values, crtsbsd_values,
-};
+use crate::shown_create::{crtcls_values, crtjobd_values, crtpgmref_values, crtsbsd_values};
 use crate::shown_entry::{
     addaje_values, addjobqe_values, addpje_values, addrtge_values, rmvaje_values, rmvjobqe_values,
     rmvpje_values, rmvrtge_values,
 };
-use crate::shown_job::{
-    chgjob_values, endjob_values, enduse_values, hldjob_values, rlsjob_values, sbmjob_values,
-};
+use crate::shown_job::{chgjob_values, endjob_values, sbmjob_values};
 use crate::value::{Value, Values};
 use crate::verb::Change;
 use std::alloc::{AllocError, Global};
-use wm_base::{Limit, Name, Priority, QName, Text};
-use wm_when::{DateSpec, TimeSpec};
+use wm_base::{Key, Limit, Priority, Text};
 
 pub fn limit_value(limit: Limit) -> Value
     ensures { result ≡ limit_value limit }
@@ -31,6 +25,16 @@ pub fn limit_value(limit: Limit) -> Value
     match limit {
         Limit::NoMax => Value::Special(Special::Nomax),
         Limit::Most(n) => Value::Number(n),
+    }
+}
+
+/// The special word of the row, where there is no value.
+pub fn word_or(special: Special, value: Option<Value>) -> Value
+    ensures { result ≡ word_or special value }
+{
+    match value {
+        None => Value::Special(special),
+        Some(value) => value,
     }
 }
 
@@ -52,67 +56,22 @@ pub fn priority_or(special: Special, priority: Option<Priority>) -> Value
     }
 }
 
-pub fn object_or(special: Special, object: Option<QName>) -> Value
-    ensures { result ≡ or_special special value.Object object }
+/// The values of a command with one key.
+fn alone(alloc: Global, key: Key, value: Value) -> Result<Values, AllocError>
+    ensures { IfOk result (λ v. v ≡ with_key key value ∷ []) }
 {
-    match object {
-        None => Value::Special(special),
-        Some(object) => Value::Object(object),
-    }
+    let mut values = Values::new(alloc);
+    values.push(key, value)?;
+    Ok(values)
 }
 
-pub fn name_or(special: Special, name: Option<Name>) -> Value
-    ensures { result ≡ or_special special value.Name name }
-{
-    match name {
-        None => Value::Special(special),
-        Some(name) => Value::Name(name),
-    }
-}
-
-pub fn number_or(special: Special, number: Option<u32>) -> Value
-    ensures { result ≡ or_special special value.Number number }
-{
-    match number {
-        None => Value::Special(special),
-        Some(number) => Value::Number(number),
-    }
-}
-
-pub fn flag_or(special: Special, flag: Option<bool>) -> Value
-    ensures { result ≡ or_special special value.Flag flag }
-{
-    match flag {
-        None => Value::Special(special),
-        Some(flag) => Value::Flag(flag),
-    }
-}
-
-pub fn date_or(special: Special, date: Option<DateSpec>) -> Value
-    ensures { result ≡ or_special special value.Date date }
-{
-    match date {
-        None => Value::Special(special),
-        Some(date) => Value::Date(date),
-    }
-}
-
-pub fn time_or(special: Special, time: Option<TimeSpec>) -> Value
-    ensures { result ≡ or_special special value.Time time }
-{
-    match time {
-        None => Value::Special(special),
-        Some(time) => Value::Time(time),
-    }
-}
-
-/// All keys but CMD, TEXT and POOLS, with their values.
+/// All keys but CMD, TEXT and POOLS, with their values. An `Err` is want of memory.
 pub fn values_of(alloc: Global, command: &Command) -> Result<Values, AllocError>
     ensures { IfOk result (λ v. v ≡ values_of command.now) }
 {
     match command {
         Command::Crtcls(c) => crtcls_values(alloc, c),
-        Command::Crtjobq(c) => crtjobq_values(alloc, c),
+        Command::Crtjobq(c) => alone(alloc, Key::Jobq, Value::Object(c.jobq)),
         Command::Crtpgmref(c) => crtpgmref_values(alloc, c),
         Command::Crtjobd(c) => crtjobd_values(alloc, c),
         Command::Crtsbsd(c) => crtsbsd_values(alloc, c),
@@ -124,20 +83,20 @@ pub fn values_of(alloc: Global, command: &Command) -> Result<Values, AllocError>
         Command::Rmvrtge(c) => rmvrtge_values(alloc, c),
         Command::Rmvaje(c) => rmvaje_values(alloc, c),
         Command::Rmvpje(c) => rmvpje_values(alloc, c),
-        Command::Strsbs(c) => strsbs_values(alloc, c),
+        Command::Strsbs(c) => alone(alloc, Key::Sbsd, Value::Object(c.sbsd)),
         Command::Endsbs(c) => endsbs_values(alloc, c),
         Command::Sbmjob(c) => sbmjob_values(alloc, c),
-        Command::Hldjob(c) => hldjob_values(alloc, c),
-        Command::Rlsjob(c) => rlsjob_values(alloc, c),
+        Command::Hldjob(c) => alone(alloc, Key::Job, Value::Job(c.job)),
+        Command::Rlsjob(c) => alone(alloc, Key::Job, Value::Job(c.job)),
         Command::Chgjob(c) => chgjob_values(alloc, c),
         Command::Endjob(c) => endjob_values(alloc, c),
-        Command::Hldjobq(c) => hldjobq_values(alloc, c),
-        Command::Rlsjobq(c) => rlsjobq_values(alloc, c),
-        Command::Clrjobq(c) => clrjobq_values(alloc, c),
+        Command::Hldjobq(c) => alone(alloc, Key::Jobq, Value::Object(c.jobq)),
+        Command::Rlsjobq(c) => alone(alloc, Key::Jobq, Value::Object(c.jobq)),
+        Command::Clrjobq(c) => alone(alloc, Key::Jobq, Value::Object(c.jobq)),
         Command::Strpj(c) => strpj_values(alloc, c),
         Command::Endpj(c) => endpj_values(alloc, c),
         Command::Evoke(c) => evoke_values(alloc, c),
-        Command::Enduse(c) => enduse_values(alloc, c),
+        Command::Enduse(c) => alone(alloc, Key::Job, Value::Job(c.job)),
         Command::Pwrdwnsys(c) => pwrdwnsys_values(alloc, c),
     }
 }

@@ -1,22 +1,13 @@
 // The values of the commands that control subsystems, queues and prestart jobs, in the order of the table.
 ghost use Rattle.std.specs.Prelude.{◌≡◌, IfOk};
-ghost use Rattle.wm_command.specs.Shown.{strsbs_values, endsbs_values, hldjobq_values, rlsjobq_values, clrjobq_values, strpj_values, endpj_values, evoke_values, pwrdwnsys_values};
+ghost use Rattle.wm_command.specs.Shown.{endsbs_values, strpj_values, endpj_values, evoke_values, pwrdwnsys_values};
 
-use crate::commands::{Clrjobq, Endpj, Endsbs, Evoke, Hldjobq, Pwrdwnsys, Rlsjobq, Strpj, Strsbs};
+use crate::commands::{Endpj, Endsbs, Evoke, Pwrdwnsys, Strpj};
 use crate::row::Special;
-use crate::shown::number_or;
+use crate::shown::word_or;
 use crate::value::{Value, Values};
 use std::alloc::{AllocError, Global};
 use wm_base::Key;
-
-#[tactic(auto, unfolding(crate::specs::Shown::strsbs_values))]
-pub fn strsbs_values(alloc: Global, c: &Strsbs) -> Result<Values, AllocError>
-    ensures { IfOk result (λ v. v ≡ strsbs_values c.now) }
-{
-    let mut values = Values::new(alloc);
-    values.push(Key::Sbsd, Value::Object(c.sbsd))?;
-    Ok(values)
-}
 
 #[tactic(auto, unfolding(crate::specs::Shown::endsbs_values))]
 pub fn endsbs_values(alloc: Global, c: &Endsbs) -> Result<Values, AllocError>
@@ -25,34 +16,10 @@ pub fn endsbs_values(alloc: Global, c: &Endsbs) -> Result<Values, AllocError>
     let mut values = Values::new(alloc);
     values.push(Key::Sbs, Value::Name(c.sbs))?;
     values.push(Key::Option, Value::Ending(c.option))?;
-    values.push(Key::Delay, number_or(Special::Nolimit, c.delay))?;
-    Ok(values)
-}
-
-#[tactic(auto, unfolding(crate::specs::Shown::hldjobq_values))]
-pub fn hldjobq_values(alloc: Global, c: &Hldjobq) -> Result<Values, AllocError>
-    ensures { IfOk result (λ v. v ≡ hldjobq_values c.now) }
-{
-    let mut values = Values::new(alloc);
-    values.push(Key::Jobq, Value::Object(c.jobq))?;
-    Ok(values)
-}
-
-#[tactic(auto, unfolding(crate::specs::Shown::rlsjobq_values))]
-pub fn rlsjobq_values(alloc: Global, c: &Rlsjobq) -> Result<Values, AllocError>
-    ensures { IfOk result (λ v. v ≡ rlsjobq_values c.now) }
-{
-    let mut values = Values::new(alloc);
-    values.push(Key::Jobq, Value::Object(c.jobq))?;
-    Ok(values)
-}
-
-#[tactic(auto, unfolding(crate::specs::Shown::clrjobq_values))]
-pub fn clrjobq_values(alloc: Global, c: &Clrjobq) -> Result<Values, AllocError>
-    ensures { IfOk result (λ v. v ≡ clrjobq_values c.now) }
-{
-    let mut values = Values::new(alloc);
-    values.push(Key::Jobq, Value::Object(c.jobq))?;
+    values.push(
+        Key::Delay,
+        word_or(Special::Nolimit, c.delay.map(Value::Number)),
+    )?;
     Ok(values)
 }
 
@@ -74,7 +41,10 @@ pub fn endpj_values(alloc: Global, c: &Endpj) -> Result<Values, AllocError>
     values.push(Key::Sbs, Value::Name(c.sbs))?;
     values.push(Key::Pgm, Value::Object(c.pgm))?;
     values.push(Key::Option, Value::Ending(c.option))?;
-    values.push(Key::Delay, number_or(Special::Nolimit, c.delay))?;
+    values.push(
+        Key::Delay,
+        word_or(Special::Nolimit, c.delay.map(Value::Number)),
+    )?;
     Ok(values)
 }
 
@@ -94,6 +64,9 @@ pub fn pwrdwnsys_values(alloc: Global, c: &Pwrdwnsys) -> Result<Values, AllocErr
 {
     let mut values = Values::new(alloc);
     values.push(Key::Option, Value::Ending(c.option))?;
-    values.push(Key::Delay, number_or(Special::Nolimit, c.delay))?;
+    values.push(
+        Key::Delay,
+        word_or(Special::Nolimit, c.delay.map(Value::Number)),
+    )?;
     Ok(values)
 }

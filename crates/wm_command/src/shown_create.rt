@@ -1,8 +1,8 @@
 // The values of the commands that make objects, in the order of the table.
 ghost use Rattle.std.specs.Prelude.{◌≡◌, IfOk};
-ghost use Rattle.wm_command.specs.Shown.{crtcls_values, crtjobq_values, crtpgmref_values, crtjobd_values, crtsbsd_values};
+ghost use Rattle.wm_command.specs.Shown.{crtcls_values, crtpgmref_values, crtjobd_values, crtsbsd_values};
 
-use crate::commands::{Crtcls, Crtjobd, Crtjobq, Crtpgmref, Crtsbsd};
+use crate::commands::{Crtcls, Crtjobd, Crtpgmref, Crtsbsd};
 use crate::row::Special;
 use crate::shown::{limit_value, text_or};
 use crate::value::{Value, Values};
@@ -18,15 +18,6 @@ pub fn crtcls_values(alloc: Global, c: &Crtcls) -> Result<Values, AllocError>
     values.push(Key::Runpty, Value::Number(c.runpty))?;
     values.push(Key::Timeslice, Value::Number(c.timeslice))?;
     values.push(Key::Dftwait, limit_value(c.dftwait))?;
-    Ok(values)
-}
-
-#[tactic(auto, unfolding(crate::specs::Shown::crtjobq_values))]
-pub fn crtjobq_values(alloc: Global, c: &Crtjobq) -> Result<Values, AllocError>
-    ensures { IfOk result (λ v. v ≡ crtjobq_values c.now) }
-{
-    let mut values = Values::new(alloc);
-    values.push(Key::Jobq, Value::Object(c.jobq))?;
     Ok(values)
 }
 

@@ -1,10 +1,10 @@
 // The values of the commands that submit and control jobs, in the order of the table.
 ghost use Rattle.std.specs.Prelude.{◌≡◌, IfOk};
-ghost use Rattle.wm_command.specs.Shown.{sbmjob_values, hldjob_values, rlsjob_values, chgjob_values, endjob_values, enduse_values};
+ghost use Rattle.wm_command.specs.Shown.{sbmjob_values, chgjob_values, endjob_values};
 
-use crate::commands::{Chgjob, Endjob, Enduse, Hldjob, Rlsjob, Sbmjob};
+use crate::commands::{Chgjob, Endjob, Sbmjob};
 use crate::row::Special;
-use crate::shown::{date_or, flag_or, name_or, object_or, priority_or, text_or, time_or};
+use crate::shown::{priority_or, text_or, word_or};
 use crate::value::{Value, Values};
 use std::alloc::{AllocError, Global};
 use wm_base::Key;
@@ -15,32 +15,14 @@ pub fn sbmjob_values(alloc: Global, c: &Sbmjob) -> Result<Values, AllocError>
 {
     let mut values = Values::new(alloc);
     values.push(Key::Rqsdta, text_or(Special::Jobd, &c.rqsdta)?)?;
-    values.push(Key::Job, name_or(Special::Jobd, c.job))?;
+    values.push(Key::Job, word_or(Special::Jobd, c.job.map(Value::Name)))?;
     values.push(Key::Jobd, Value::Object(c.jobd))?;
-    values.push(Key::Jobq, object_or(Special::Jobd, c.jobq))?;
+    values.push(Key::Jobq, word_or(Special::Jobd, c.jobq.map(Value::Object)))?;
     values.push(Key::Jobpty, priority_or(Special::Jobd, c.jobpty))?;
     values.push(Key::Rtgdta, text_or(Special::Jobd, &c.rtgdta)?)?;
-    values.push(Key::Hold, flag_or(Special::Jobd, c.hold))?;
+    values.push(Key::Hold, word_or(Special::Jobd, c.hold.map(Value::Flag)))?;
     values.push(Key::Scddate, Value::Date(c.scddate))?;
     values.push(Key::Scdtime, Value::Time(c.scdtime))?;
-    Ok(values)
-}
-
-#[tactic(auto, unfolding(crate::specs::Shown::hldjob_values))]
-pub fn hldjob_values(alloc: Global, c: &Hldjob) -> Result<Values, AllocError>
-    ensures { IfOk result (λ v. v ≡ hldjob_values c.now) }
-{
-    let mut values = Values::new(alloc);
-    values.push(Key::Job, Value::Job(c.job))?;
-    Ok(values)
-}
-
-#[tactic(auto, unfolding(crate::specs::Shown::rlsjob_values))]
-pub fn rlsjob_values(alloc: Global, c: &Rlsjob) -> Result<Values, AllocError>
-    ensures { IfOk result (λ v. v ≡ rlsjob_values c.now) }
-{
-    let mut values = Values::new(alloc);
-    values.push(Key::Job, Value::Job(c.job))?;
     Ok(values)
 }
 
@@ -51,9 +33,15 @@ pub fn chgjob_values(alloc: Global, c: &Chgjob) -> Result<Values, AllocError>
     let mut values = Values::new(alloc);
     values.push(Key::Job, Value::Job(c.job))?;
     values.push(Key::Jobpty, priority_or(Special::Same, c.jobpty))?;
-    values.push(Key::Jobq, object_or(Special::Same, c.jobq))?;
-    values.push(Key::Scddate, date_or(Special::Same, c.scddate))?;
-    values.push(Key::Scdtime, time_or(Special::Same, c.scdtime))?;
+    values.push(Key::Jobq, word_or(Special::Same, c.jobq.map(Value::Object)))?;
+    values.push(
+        Key::Scddate,
+        word_or(Special::Same, c.scddate.map(Value::Date)),
+    )?;
+    values.push(
+        Key::Scdtime,
+        word_or(Special::Same, c.scdtime.map(Value::Time)),
+    )?;
     Ok(values)
 }
 
@@ -65,14 +53,5 @@ pub fn endjob_values(alloc: Global, c: &Endjob) -> Result<Values, AllocError>
     values.push(Key::Job, Value::Job(c.job))?;
     values.push(Key::Option, Value::Ending(c.option))?;
     values.push(Key::Delay, Value::Number(c.delay))?;
-    Ok(values)
-}
-
-#[tactic(auto, unfolding(crate::specs::Shown::enduse_values))]
-pub fn enduse_values(alloc: Global, c: &Enduse) -> Result<Values, AllocError>
-    ensures { IfOk result (λ v. v ≡ enduse_values c.now) }
-{
-    let mut values = Values::new(alloc);
-    values.push(Key::Job, Value::Job(c.job))?;
     Ok(values)
 }

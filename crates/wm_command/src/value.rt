@@ -61,6 +61,7 @@ impl Values {
         }
     }
 
+    /// Adds a key with its value at the end. An `Err` is want of memory, and they are as before.
     pub fn push(&mut self, key: Key, value: Value) -> Result<(), AllocError>
         ensures ok { OnOk result (self.new ≡ self.old ++ record { key = key; value = value } ∷ []) }
         ensures err { OnErr result (self.new ≡ self.old) }

@@ -6,13 +6,11 @@ ghost use Rattle.wm_command.specs.Values.{text_within, path_of, if_word, kind_va
 use crate::fault::CmdFault;
 use crate::row::{Kind, Special};
 use crate::value::Value;
-use crate::words::{
-    date_of, ending_of, flag_of, job_of, name_of, number_of, object_of, program_of, time_of,
-};
-use crate::written::{is_word, text_of, word_of};
+use crate::words::{date_of, ending_of, flag_of, job_of, name_of, number_of, time_of};
+use crate::written::{is_bare, is_word, text_of};
 use std::alloc::AllocError;
 use wm_base::Text;
-use wm_clwords::Item;
+use wm_clwords::{Item, read_object, read_program};
 use wm_desc::{Cmp, path_in_range};
 
 fn text_within(low: u32, high: u32, text: &Text) -> Result<Option<Value>, AllocError>
@@ -41,24 +39,24 @@ fn if_word<V: Drop>(is_word: bool, found: Option<V>) -> Option<V>
     if is_word { found } else { None }
 }
 
-/// What a word, or a text in apostrophes, is as a value of that kind.
+/// What a word, or a text in apostrophes, with these characters is as a value of that kind.
 #[tactic(auto, unfolding(crate::specs::Values::kind_value))]
-fn kind_value(kind: Kind, is_word: bool, text: &Text) -> Result<Option<Value>, AllocError>
-    ensures { IfOk result (λ v. v ≡ kind_value kind is_word text.now) }
+fn kind_value(kind: Kind, item: &Item, text: &Text) -> Result<Option<Value>, AllocError>
+    ensures { IfOk result (λ v. v ≡ kind_value kind item.now text.now) }
 {
     let bytes = text.as_bytes();
     match kind {
-        Kind::Object => Ok(object_of(is_word, bytes).map(Value::Object)),
-        Kind::Program => Ok(program_of(is_word, bytes).map(Value::Object)),
+        Kind::Object => Ok(read_object(item).map(Value::Object)),
+        Kind::Program => Ok(read_program(item).map(Value::Object)),
         Kind::Name => Ok(name_of(bytes).map(Value::Name)),
         Kind::Text(low, high) => text_within(low, high, text),
         Kind::Path => path_of(text),
         Kind::Number(low, high) => Ok(number_of(1, 9, low, high, bytes).map(Value::Number)),
-        Kind::Flag => Ok(if_word(is_word, flag_of(bytes)).map(Value::Flag)),
-        Kind::Ending => Ok(if_word(is_word, ending_of(bytes)).map(Value::Ending)),
+        Kind::Flag => Ok(if_word(is_bare(item), flag_of(bytes)).map(Value::Flag)),
+        Kind::Ending => Ok(if_word(is_bare(item), ending_of(bytes)).map(Value::Ending)),
         Kind::Job => Ok(job_of(bytes).map(Value::Job)),
-        Kind::Date => Ok(date_of(is_word, bytes).map(Value::Date)),
-        Kind::Time => Ok(time_of(is_word, bytes).map(Value::Time)),
+        Kind::Date => Ok(date_of(is_bare(item), bytes).map(Value::Date)),
+        Kind::Time => Ok(time_of(is_bare(item), bytes).map(Value::Time)),
         Kind::Compare | Kind::Call | Kind::Anything => Ok(None),
     }
 }
@@ -109,7 +107,7 @@ fn item_value(kind: Kind, special: Special, item: &Item) -> Result<Option<Value>
     }
     match text_of(item) {
         None => Ok(None),
-        Some(text) => kind_value(kind, word_of(item).is_some(), text),
+        Some(text) => kind_value(kind, item, text),
     }
 }
 

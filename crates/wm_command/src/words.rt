@@ -1,11 +1,11 @@
 // What texts say: numbers, names, dates and times.
 ghost use Rattle.std.specs.Prelude.{◌≡◌, ◌≤◌, length, take, drop, take_while, codes, fold, Some, nat_eq, IsTrue, ◌<◌, ◌^◌, IfSome};
 ghost use Rattle.std.specs.Option.{option_copied};
-ghost use Rattle.wm_command.specs.Words.{is_digit, push_digit, digits, kept_within, number_of, name_of, is_no_slash, before_slash, behind_slash, qname_of, library_of, object_with, object_of, program_of, simple_of, by_user_of, full_of, job_behind, job_with, job_of, same, flag_of, ending_of, weekday_of, date_word_of, day_of, date_with, date_of, second_of, time_of};
+ghost use Rattle.wm_command.specs.Words.{is_digit, push_digit, digits, kept_within, number_of, name_of, is_no_slash, before_slash, behind_slash, simple_of, by_user_of, full_of, job_behind, job_with, job_of, same, flag_of, ending_of, weekday_of, date_word_of, day_of, date_with, date_of, second_of, time_of};
 ghost use Rattle.wm_when.specs.Schedule.{within};
 
 use crate::commands::{EndOption, JobRef};
-use wm_base::{JobName, JobNumber, Name, QName};
+use wm_base::{JobName, JobNumber, Name};
 use wm_when::{DateSpec, TimeSpec, is_date};
 
 fn within(low: usize, high: usize, n: usize) -> bool
@@ -89,63 +89,6 @@ fn same(text: &[u8], word: &[u8]) -> bool
     ensures { result ≡ same text.now word.now }
 {
     text == word
-}
-
-fn qname_of(lib: Option<Name>, name: Option<Name>) -> Option<QName>
-    ensures { result ≡ qname_of lib name }
-{
-    let lib = lib?;
-    let name = name?;
-    Some(QName { lib, name })
-}
-
-fn qgpl() -> Name
-    ensures { result ≡ codes "QGPL" }
-{
-    Name::of(b"QGPL")
-}
-
-fn qsys_qcmd() -> QName
-    ensures { result ≡ record { lib = codes "QSYS"; name = codes "QCMD" } }
-{
-    QName {
-        lib: Name::of(b"QSYS"),
-        name: Name::of(b"QCMD"),
-    }
-}
-
-fn library_of(is_word: bool, text: &[u8]) -> Option<Name>
-    ensures { result ≡ library_of is_word text.now }
-{
-    if is_word && same(text, b"*LIBL") {
-        Some(qgpl())
-    } else {
-        name_of(text)
-    }
-}
-
-/// `NAME`, `LIB/NAME` or `*LIBL/NAME`; *LIBL not in apostrophes.
-#[tactic(auto, unfolding(crate::specs::Words::object_of))]
-pub fn object_of(is_word: bool, text: &[u8]) -> Option<QName>
-    ensures { result ≡ object_of is_word text.now }
-{
-    let first = before_slash(text);
-    match behind_slash(text) {
-        None => qname_of(Some(qgpl()), name_of(first)),
-        Some(rest) => qname_of(library_of(is_word, first), name_of(rest)),
-    }
-}
-
-/// The same, but QCMD alone is QSYS/QCMD.
-#[tactic(auto, unfolding(crate::specs::Words::program_of))]
-pub fn program_of(is_word: bool, text: &[u8]) -> Option<QName>
-    ensures { result ≡ program_of is_word text.now }
-{
-    if same(text, b"QCMD") {
-        Some(qsys_qcmd())
-    } else {
-        object_of(is_word, text)
-    }
 }
 
 fn simple_of(name: Option<Name>) -> Option<JobRef>

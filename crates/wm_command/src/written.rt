@@ -1,7 +1,7 @@
 // What stands at an item.
 ghost use Rattle.std.specs.Prelude.{◌≡◌, Some};
 ghost use Rattle.std.specs.Option.{option_copied};
-ghost use Rattle.wm_command.specs.Written.{place_of, word_of, text_of, key_of, listed, is_word};
+ghost use Rattle.wm_command.specs.Written.{place_of, word_of, text_of, is_bare, key_of, listed, is_word};
 
 use wm_base::Text;
 use wm_clwords::Item;
@@ -37,6 +37,13 @@ pub fn text_of(item: &Item) -> Option<&Text>
         Item::Quoted(_, text) => Some(text),
         _ => None,
     }
+}
+
+/// Whether an item is a word, and no text in apostrophes.
+pub fn is_bare(item: &Item) -> bool
+    ensures { result ≡ is_bare item.now }
+{
+    word_of(item).is_some()
 }
 
 /// The key of an item.

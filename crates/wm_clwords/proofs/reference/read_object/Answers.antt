@@ -6,4 +6,5 @@ returns c =
     record {
       some = object_some c.args.item.now c.object_of.result c.object_of.ensures;
       all = object_all c.args.item.now c.object_of.result c.object_of.ensures;
+      value = c.object_of.ensures;
     }

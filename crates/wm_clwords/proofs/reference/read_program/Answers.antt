@@ -6,4 +6,5 @@ returns c =
     record {
       some = program_some c.args.item.now c.program_of.result c.program_of.ensures;
       all = program_all c.args.item.now c.program_of.result c.program_of.ensures;
+      value = c.program_of.ensures;
     }

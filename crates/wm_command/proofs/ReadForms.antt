@@ -1,0 +1,314 @@
+-- What is read as a key's value has the form and the range of the key's row.
+use Rattle.std.proofs.Common.{◌≡◌, ℕ, ◌+◌, ◌*◌, ◌/◌, ◌%◌, ◌&&◌, Bool, true, false, cond, nat_lt, nat_le, nat_eq, List, [], ◌∷◌, length, Option, Some, None, Result, Ok, Err, IsTrue, codes, subst, sym, refl, inl, inr, arith}
+use Rattle.std.specs.Cmp.Lexicographic.{pointwise}
+use Rattle.std.specs.Option.{option_map}
+use Rattle.std.proofs.lemmas.Bool.{and_parts, false≢true}
+use Rattle.std.proofs.lemmas.Bool.Decides.{nat_tests}
+use Rattle.std.proofs.lemmas.Option.{cond_some}
+use Rattle.wm_base.specs.Name.{is_name, IsName}
+use Rattle.wm_base.specs.declared.qname.QName.{QName}
+use Rattle.wm_base.specs.declared.refusal.Key.{Key}
+use Rattle.wm_clwords.specs.declared.called.CallText.{CallText}
+use Rattle.wm_clwords.specs.declared.tree.Item.{Item}
+use Rattle.wm_clwords.specs.Call.{IsReference, IsObject, IsProgram, IsOne, item_tokens, program_library}
+use Rattle.wm_clwords.specs.CallReading.{object_by, program_by, reference_of, call_of}
+use Rattle.wm_clwords.specs.CallText.{call_text}
+use Rattle.wm_clwords.specs.Grammar.{Token, Word, Quoted, Key as KeyToken, Open, Close, Blank, Comment}
+use Rattle.wm_clwords.proofs.References.{object_some, program_some}
+use Rattle.wm_desc.specs.Ranges.{path_in_range, cmp_in_range}
+use Rattle.wm_desc.specs.declared.entry.Cmp.TheVariants.{Any, Val}
+use Rattle.wm_when.specs.Schedule.{within, is_date, date_in_range, time_in_range}
+use Rattle.wm_when.specs.declared.schedule.DateSpec.{DateSpec}
+use Rattle.wm_when.specs.declared.schedule.DateSpec.TheVariants as date
+use Rattle.wm_when.specs.declared.schedule.TimeSpec.{TimeSpec}
+use Rattle.wm_when.specs.declared.schedule.TimeSpec.TheVariants as time
+use Rattle.wm_command.specs.declared.commands.JobRef.{JobRef}
+use Rattle.wm_command.specs.declared.commands.JobRef.TheVariants.{Simple, ByUser, Full}
+use Rattle.wm_command.specs.declared.fault.CmdFault.{CmdFault}
+use Rattle.wm_command.specs.declared.fault.CmdFault.TheVariants.{NotCall}
+use Rattle.wm_command.specs.declared.row.Default.{Default}
+use Rattle.wm_command.specs.declared.row.Default.TheVariants as default
+use Rattle.wm_command.specs.declared.row.Kind.{Kind}
+use Rattle.wm_command.specs.declared.row.Kind.TheVariants as kind
+use Rattle.wm_command.specs.declared.row.Row.{Row}
+use Rattle.wm_command.specs.declared.row.Special.{Special}
+use Rattle.wm_command.specs.declared.value.Value.{Value}
+use Rattle.wm_command.specs.declared.value.Value.TheVariants as value
+use Rattle.wm_command.specs.Call.{call_value, called_text}
+use Rattle.wm_command.specs.Printed.{IsQualified, FitsJob, FitsKind}
+use Rattle.wm_command.specs.Reading.{row_value}
+use Rattle.wm_command.specs.Values.{kind_value, special_word, is_never, is_special, item_value, text_value, or_bad, one_value, compared, one_compared, two_compared, text_from, start_of, if_word}
+use Rattle.wm_command.specs.Words.{before_slash, behind_slash, name_of, job_with, job_behind, job_of, by_user_of, full_of, simple_of, same, flag_of, ending_of, weekday_of, date_word_of, day_of, date_with, date_of, second_of, kept_within, digits, number_of, time_of}
+use Rattle.wm_command.specs.Written.{text_of, is_word, is_bare}
+
+-- a value has the range of its kind; that its text is printable is no part of it
+abbrev pub InKind : Kind → Value → Type 0
+InKind (kind.Text low high) (value.Text t) = IsTrue (within low high (length t))
+InKind kind.Path (value.Text t) = IsTrue (path_in_range t)
+InKind kind.Compare (value.Compare c) = IsTrue (cmp_in_range c)
+InKind kind.Call (value.Text t) = IsTrue (within 0 1000 (length t))
+InKind k v = FitsKind k v
+
+-- a key may have no value where its row has none for it
+abbrev pub MayLack : Default → Type 0
+MayLack default.Nothing = Unit {0}
+MayLack d = ⊥
+
+-- what is dropped is none
+abbrev pub DropsRight : Kind → Default → Type 0
+DropsRight kind.Anything d = MayLack d
+DropsRight k d = Unit {0}
+
+abbrev pub row_of : Key → Kind → Special → Default → Row
+row_of key k s d = record { 0 = key; 1 = k; 2 = s; 3 = d }
+
+abbrev pub InRow : Row → Value → Type 0
+InRow row (value.Special s) = (s ≡ row.2) × (is_never s ≡ false)
+InRow row value.Nothing = MayLack row.3
+InRow row v = InKind row.1 v
+
+-- answers
+
+pub none_some : {A : Type 0} (x : A) → ◌≡◌ {A = Option A} None (Some x) → ⊥
+none_some x e = cc
+
+pub some_same : {A : Type 0} (x y : A) → ◌≡◌ {A = Option A} (Some x) (Some y) → x ≡ y
+some_same x y e = cc
+
+pub err_ok : {A : Type 0} (x : CmdFault) (y : A) → ◌≡◌ {A = Result A CmdFault} (Err x) (Ok y) → ⊥
+err_ok x y e = cc
+
+pub ok_same : {A : Type 0} (x y : A) → ◌≡◌ {A = Result A CmdFault} (Ok x) (Ok y) → x ≡ y
+ok_same x y e = cc
+
+mapped : {A : Type 0} (f : A → Value) (o : Option A) (v : Value) (P : Value → Type 0) → ((a : A) → o ≡ Some a → P (f a)) → option_map f o ≡ Some v → P v
+mapped f None v P h e = absurd (none_some v e)
+mapped f (Some a) v P h e = subst P (some_same (f a) v e) (h a refl)
+
+cond_then : {A : Type 0} (c : Bool) (o : Option A) (x : A) → cond c o None ≡ Some x → o ≡ Some x
+cond_then true o x e = e
+cond_then false o x e = absurd (none_some x e)
+
+cond_not : {A : Type 0} (c : Bool) (o : Option A) (x : A) → cond c None o ≡ Some x → o ≡ Some x
+cond_not true o x e = absurd (none_some x e)
+cond_not false o x e = e
+
+-- names
+
+name_is : (text n : List ℕ) → name_of text ≡ Some n → IsName n
+name_is text n e = let h = cond_some (is_name text) text n e in subst IsName h.1 h.0
+
+reference_is : (library : List ℕ) (token : Token) (q : QName) → IsName library → IsReference library token q → IsQualified q
+reference_is library (Word text) q n (inl (h, inl (e, f))) = (subst IsName (sym f) n, h)
+reference_is library (Word text) q n (inl (h, inr (k, e))) = (k, h)
+reference_is library (Word text) q n (inr (h, e, f)) = (subst IsName (sym f) refl, h)
+reference_is library (Quoted text) q n (h, inl (e, f)) = (subst IsName (sym f) n, h)
+reference_is library (Quoted text) q n (h, inr (k, e)) = (k, h)
+reference_is library (KeyToken bytes) q n h = absurd h
+reference_is library (Blank byte) q n h = absurd h
+reference_is library (Comment bytes) q n h = absurd h
+reference_is library Open q n h = absurd h
+reference_is library Close q n h = absurd h
+
+object_is : (item : Item) (q : QName) → object_by (reference_of item) ≡ Some q → IsQualified q
+object_is item q e =
+    let h : IsOne (λ token. IsObject token q) (item_tokens item) = object_some item (Some q) (sym e) in
+    reference_is (codes "QGPL") h.0 q refl h.2
+
+library_by : (c : Bool) → IsName (cond c (codes "QSYS") (codes "QGPL"))
+library_by true = refl
+library_by false = refl
+
+program_is : (item : Item) (q : QName) → program_by (reference_of item) ≡ Some q → IsQualified q
+program_is item q e =
+    let h : IsOne (λ token. IsProgram token q) (item_tokens item) = program_some item (Some q) (sym e) in
+    reference_is (program_library q.name) h.0 q (library_by (pointwise nat_eq q.name (codes "QCMD"))) h.2
+
+-- numbers
+
+kept_is : (low high : ℕ) (o : Option ℕ) (n : ℕ) → kept_within low high o ≡ Some n → within low high n ≡ true
+kept_is low high None n e = absurd (none_some n e)
+kept_is low high (Some m) n e = let h = cond_some (within low high m) m n e in subst (λ (x : ℕ). within low high x ≡ true) h.1 h.0
+
+number_is : (fewest most low high : ℕ) (text : List ℕ) (n : ℕ) → number_of fewest most low high text ≡ Some n → within low high n ≡ true
+unfolding number_of
+number_is fewest most low high text n e =
+    kept_is low high (digits text) n (cond_then (within fewest most (length text)) (kept_within low high (digits text)) n e)
+
+-- jobs
+
+simple_is : (o : Option (List ℕ)) (j : JobRef) → ((n : List ℕ) → o ≡ Some n → IsName n) → simple_of o ≡ Some j → FitsJob j
+simple_is None j f e = absurd (none_some j e)
+simple_is (Some n) j f e = subst FitsJob (some_same (Simple n) j e) (f n refl)
+
+by_user_is : (o p : Option (List ℕ)) (j : JobRef) → ((n : List ℕ) → o ≡ Some n → IsName n) → ((n : List ℕ) → p ≡ Some n → IsName n) → by_user_of o p ≡ Some j → FitsJob j
+by_user_is None p j f g e = absurd (none_some j e)
+by_user_is (Some u) None j f g e = absurd (none_some j e)
+by_user_is (Some u) (Some n) j f g e = subst FitsJob (some_same (ByUser u n) j e) (f u refl, g n refl)
+
+full_is : (m : Option ℕ) (o p : Option (List ℕ)) (j : JobRef) → ((n : ℕ) → m ≡ Some n → within 1 999999 n ≡ true)
+    → ((n : List ℕ) → o ≡ Some n → IsName n) → ((n : List ℕ) → p ≡ Some n → IsName n) → full_of m o p ≡ Some j → FitsJob j
+full_is None o p j k f g e = absurd (none_some j e)
+full_is (Some m) None p j k f g e = absurd (none_some j e)
+full_is (Some m) (Some u) None j k f g e = absurd (none_some j e)
+full_is (Some m) (Some u) (Some n) j k f g e = subst FitsJob (some_same (Full (record { number = m; user = u; name = n })) j e) (k m refl, f u refl, g n refl)
+
+behind_is : (first second : List ℕ) (third : Option (List ℕ)) (j : JobRef) → job_behind first second third ≡ Some j → FitsJob j
+behind_is first second None j e = by_user_is (name_of first) (name_of second) j (name_is first) (name_is second) e
+behind_is first second (Some third) j e =
+    full_is (number_of 1 6 1 999999 first) (name_of second) (name_of third) j (number_is 1 6 1 999999 first) (name_is second) (name_is third) e
+
+with_is : (first : List ℕ) (rest : Option (List ℕ)) (j : JobRef) → job_with first rest ≡ Some j → FitsJob j
+with_is first None j e = simple_is (name_of first) j (name_is first) e
+with_is first (Some rest) j e = behind_is first (before_slash rest) (behind_slash rest) j e
+
+job_is : (text : List ℕ) (j : JobRef) → job_of text ≡ Some j → FitsJob j
+unfolding job_of
+job_is text j e = with_is (before_slash text) (behind_slash text) j e
+
+-- dates and times
+
+choice_is : (c : Bool) (a : DateSpec) (o : Option DateSpec) (d : DateSpec) → date_in_range a ≡ true → (o ≡ Some d → date_in_range d ≡ true) → cond c (Some a) o ≡ Some d → date_in_range d ≡ true
+choice_is true a o d h f e = subst (λ (x : DateSpec). date_in_range x ≡ true) (some_same a d e) h
+choice_is false a o d h f e = f e
+
+weekday_is : (text : List ℕ) (d : DateSpec) → weekday_of text ≡ Some d → date_in_range d ≡ true
+weekday_is text d e =
+    choice_is (same text (codes "*MON")) (date.Weekday 1) _ d refl
+    (choice_is (same text (codes "*TUE")) (date.Weekday 2) _ d refl
+    (choice_is (same text (codes "*WED")) (date.Weekday 3) _ d refl
+    (choice_is (same text (codes "*THU")) (date.Weekday 4) _ d refl
+    (choice_is (same text (codes "*FRI")) (date.Weekday 5) _ d refl
+    (choice_is (same text (codes "*SAT")) (date.Weekday 6) _ d refl
+    (choice_is (same text (codes "*SUN")) (date.Weekday 7) None d refl (λ n. absurd (none_some d n)))))))) e
+
+date_word_is : (text : List ℕ) (d : DateSpec) → date_word_of text ≡ Some d → date_in_range d ≡ true
+date_word_is text d e =
+    choice_is (same text (codes "*CURRENT")) date.Current _ d refl
+    (choice_is (same text (codes "*MONTHSTR")) date.MonthStart _ d refl
+    (choice_is (same text (codes "*MONTHEND")) date.MonthEnd _ d refl (weekday_is text d))) e
+
+day_is : (o : Option ℕ) (d : DateSpec) → day_of o ≡ Some d → date_in_range d ≡ true
+day_is None d e = absurd (none_some d e)
+day_is (Some n) d e = let h = cond_some (is_date n) (date.Day n) d e in subst (λ (x : DateSpec). date_in_range x ≡ true) h.1 h.0
+
+date_with_is : (w : Bool) (text : List ℕ) (o : Option DateSpec) (d : DateSpec) → ((x : DateSpec) → o ≡ Some x → date_in_range x ≡ true) → date_with w text o ≡ Some d → date_in_range d ≡ true
+date_with_is w text (Some x) d f e = let h = cond_some w x d e in subst (λ (y : DateSpec). date_in_range y ≡ true) h.1 (f x refl)
+date_with_is w text None d f e = day_is (number_of 8 8 0 99999999 text) d e
+
+date_is : (w : Bool) (text : List ℕ) (d : DateSpec) → date_of w text ≡ Some d → date_in_range d ≡ true
+unfolding date_of
+date_is w text d e = date_with_is w text (date_word_of text) d (date_word_is text) e
+
+seconds : (h m s : ℕ) → (nat_lt h 24 && nat_lt m 60 && nat_lt s 60) ≡ true → nat_lt (h * 3600 + m * 60 + s) 86400 ≡ true
+seconds h m s e =
+    let both = and_parts (nat_lt h 24 && nat_lt m 60) (nat_lt s 60) e in
+    let first = and_parts (nat_lt h 24) (nat_lt m 60) both.0 in
+    grind (arith, nat_tests, both.1, first.0, first.1)
+
+second_is : (o : Option ℕ) (t : TimeSpec) → second_of o ≡ Some t → time_in_range t ≡ true
+second_is None t e = absurd (none_some t e)
+second_is (Some n) t e =
+    let h = cond_some (nat_lt (n / 10000) 24 && nat_lt (n / 100 % 100) 60 && nat_lt (n % 100) 60) (time.At (n / 10000 * 3600 + n / 100 % 100 * 60 + n % 100)) t e in
+    subst (λ (x : TimeSpec). time_in_range x ≡ true) h.1 (seconds (n / 10000) (n / 100 % 100) (n % 100) h.0)
+
+time_by : (c : Bool) (o : Option ℕ) (t : TimeSpec) → cond c (Some time.Current) (second_of o) ≡ Some t → time_in_range t ≡ true
+time_by true o t e = subst (λ (x : TimeSpec). time_in_range x ≡ true) (some_same time.Current t e) refl
+time_by false o t e = second_is o t e
+
+time_is : (w : Bool) (text : List ℕ) (t : TimeSpec) → time_of w text ≡ Some t → time_in_range t ≡ true
+unfolding time_of
+time_is w text t e = time_by (w && same text (codes "*CURRENT")) (number_of 6 6 0 999999 text) t e
+
+-- one value
+
+kind_is : (key : Key) (k : Kind) (s : Special) (d : Default) (item : Item) (text : List ℕ) (v : Value) → kind_value k item text ≡ Some v → InRow (row_of key k s d) v
+unfolding kind_value
+kind_is key kind.Object s d item text v e = mapped value.Object (object_by (reference_of item)) v (InRow (row_of key kind.Object s d)) (object_is item) e
+kind_is key kind.Program s d item text v e = mapped value.Object (program_by (reference_of item)) v (InRow (row_of key kind.Program s d)) (program_is item) e
+kind_is key kind.Name s d item text v e = mapped value.Name (name_of text) v (InRow (row_of key kind.Name s d)) (name_is text) e
+kind_is key (kind.Text low high) s d item text v e =
+    let h = cond_some (within low high (length text)) (value.Text text) v e in subst (InRow (row_of key (kind.Text low high) s d)) h.1 h.0
+kind_is key kind.Path s d item text v e =
+    let h = cond_some (path_in_range text) (value.Text text) v e in subst (InRow (row_of key kind.Path s d)) h.1 h.0
+kind_is key (kind.Number low high) s d item text v e =
+    mapped value.Number (number_of 1 9 low high text) v (InRow (row_of key (kind.Number low high) s d)) (number_is 1 9 low high text) e
+kind_is key kind.Flag s d item text v e = mapped value.Flag (if_word (is_bare item) (flag_of text)) v (InRow (row_of key kind.Flag s d)) (λ b h. tt) e
+kind_is key kind.Ending s d item text v e = mapped value.Ending (if_word (is_bare item) (ending_of text)) v (InRow (row_of key kind.Ending s d)) (λ o h. tt) e
+kind_is key kind.Job s d item text v e = mapped value.Job (job_of text) v (InRow (row_of key kind.Job s d)) (job_is text) e
+kind_is key kind.Compare s d item text v e = absurd (none_some v e)
+kind_is key kind.Date s d item text v e = mapped value.Date (date_of (is_bare item) text) v (InRow (row_of key kind.Date s d)) (date_is (is_bare item) text) e
+kind_is key kind.Time s d item text v e = mapped value.Time (time_of (is_bare item) text) v (InRow (row_of key kind.Time s d)) (time_is (is_bare item) text) e
+kind_is key kind.Call s d item text v e = absurd (none_some v e)
+kind_is key kind.Anything s d item text v e = absurd (none_some v e)
+
+text_is : (key : Key) (k : Kind) (s : Special) (d : Default) (item : Item) (o : Option (List ℕ)) (v : Value) → text_value k item o ≡ Some v → InRow (row_of key k s d) v
+text_is key k s d item None v e = absurd (none_some v e)
+text_is key k s d item (Some text) v e = kind_is key k s d item text v e
+
+never_of : (b c : Bool) → cond b false c ≡ true → b ≡ false
+never_of true c e = absurd (false≢true e)
+never_of false c e = refl
+
+special_or : (key : Key) (k : Kind) (s : Special) (d : Default) (item : Item) (v : Value) (c : Bool) → is_special s item ≡ c → cond c (Some (value.Special s)) (text_value k item (text_of item)) ≡ Some v
+    → InRow (row_of key k s d) v
+special_or key k s d item v true h e =
+    subst (InRow (row_of key k s d)) (some_same (value.Special s) v e) (refl, never_of (is_never s) (is_word item (special_word s)) h)
+special_or key k s d item v false h e = text_is key k s d item (text_of item) v e
+
+good : (place : ℕ) (o : Option Value) (v : Value) → or_bad place o ≡ Ok v → o ≡ Some v
+good place None v e = absurd (err_ok _ v e)
+good place (Some w) v e = λ i. Some (ok_same w v e i)
+
+one_is : (key : Key) (k : Kind) (s : Special) (d : Default) (place : ℕ) (items : List Item) (v : Value) → one_value k s place items ≡ Ok v → InRow (row_of key k s d) v
+one_is key k s d place [] v e = absurd (err_ok _ v e)
+one_is key k s d place (item ∷ []) v e = special_or key k s d item v (is_special s item) refl (good place (item_value k s item) v e)
+one_is key k s d place (item ∷ next ∷ items) v e = absurd (err_ok _ v e)
+
+-- compare values
+
+from_is : (key : Key) (s : Special) (d : Default) (o : Option (List ℕ)) (p : Option ℕ) (v : Value) → text_from o p ≡ Some v → InRow (row_of key kind.Compare s d) v
+from_is key s d None p v e = absurd (none_some v e)
+from_is key s d (Some text) None v e = absurd (none_some v e)
+from_is key s d (Some text) (Some start) v e =
+    let h = cond_some (cmp_in_range (Val text start)) (value.Compare (Val text start)) v e in subst (InRow (row_of key kind.Compare s d)) h.1 h.0
+
+any_or : (key : Key) (s : Special) (d : Default) (c : Bool) (o : Option (List ℕ)) (v : Value) → cond c (Some (value.Compare Any)) (text_from o (Some 1)) ≡ Some v → InRow (row_of key kind.Compare s d) v
+any_or key s d true o v e = subst (InRow (row_of key kind.Compare s d)) (some_same (value.Compare Any) v e) refl
+any_or key s d false o v e = from_is key s d o (Some 1) v e
+
+compared_is : (key : Key) (s : Special) (d : Default) (place : ℕ) (items : List Item) (v : Value) → compared place items ≡ Ok v → InRow (row_of key kind.Compare s d) v
+compared_is key s d place [] v e = absurd (err_ok _ v e)
+compared_is key s d place (item ∷ []) v e = any_or key s d (is_word item (codes "*ANY")) (text_of item) v (good place (one_compared item) v e)
+compared_is key s d place (item ∷ start ∷ []) v e =
+    from_is key s d (text_of item) (start_of (text_of start)) v (cond_not (is_word item (codes "*ANY")) (text_from (text_of item) (start_of (text_of start))) v (good place (two_compared item start) v e))
+compared_is key s d place (item ∷ start ∷ next ∷ items) v e = absurd (err_ok _ v e)
+
+-- CALL
+
+short : (n : ℕ) → nat_le n 1000 ≡ true → within 0 1000 n ≡ true
+short n h = grind (arith, nat_tests)
+
+kept_by : (key : Key) (s : Special) (d : Default) (place : ℕ) (text : List ℕ) (v : Value) (c : Bool) → nat_le (length text) 1000 ≡ c → cond c (Ok (value.Text text)) (Err (NotCall place)) ≡ Ok v
+    → InRow (row_of key kind.Call s d) v
+kept_by key s d place text v true h e = subst (InRow (row_of key kind.Call s d)) (ok_same (value.Text text) v e) (short (length text) h)
+kept_by key s d place text v false h e = absurd (err_ok (NotCall place) v e)
+
+called_is : (key : Key) (s : Special) (d : Default) (place : ℕ) (o : Option CallText) (v : Value) → called_text place o ≡ Ok v → InRow (row_of key kind.Call s d) v
+called_is key s d place None v e = absurd (err_ok (NotCall place) v e)
+called_is key s d place (Some call) v e = kept_by key s d place (call_text call.pgm call.parms) v (nat_le (length (call_text call.pgm call.parms)) 1000) refl e
+
+word_call : (key : Key) (s : Special) (d : Default) (place : ℕ) (o : Option CallText) (v : Value) (c : Bool) → cond c (called_text place o) (Err (NotCall place)) ≡ Ok v → InRow (row_of key kind.Call s d) v
+word_call key s d place o v true e = called_is key s d place o v e
+word_call key s d place o v false e = absurd (err_ok (NotCall place) v e)
+
+call_is : (key : Key) (s : Special) (d : Default) (place : ℕ) (items : List Item) (v : Value) → call_value place items ≡ Ok v → InRow (row_of key kind.Call s d) v
+call_is key s d place [] v e = absurd (err_ok (NotCall place) v e)
+call_is key s d place (item ∷ items) v e = word_call key s d place (call_of items) v (is_word item (codes "CALL")) e
+
+-- the value of a row
+pub value_is : (key : Key) (k : Kind) (s : Special) (d : Default) (place : ℕ) (items : List Item) (v : Value) → DropsRight k d → row_value k s place items ≡ Ok v → InRow (row_of key k s d) v
+value_is key kind.Compare s d place items v drops e = compared_is key s d place items v e
+value_is key kind.Call s d place items v drops e = call_is key s d place items v e
+value_is key kind.Anything s d place items v drops e = subst (InRow (row_of key kind.Anything s d)) (ok_same value.Nothing v e) drops
+value_is key k s d place items v drops e = one_is key k s d place items v e

@@ -1,0 +1,271 @@
+-- What a command's keys have, given or by the table, has the forms and the ranges of the table.
+use Rattle.std.proofs.Common.{◌≡◌, ℕ, ◌++◌, ◌||◌, Bool, true, false, cond, List, [], ◌∷◌, find, Option, Some, None, Result, Ok, Err, codes, subst, sym, ◌∙◌, ap, refl}
+use Rattle.std.specs.Option.{option_map}
+use Rattle.std.proofs.lemmas.Bool.{false≢true}
+use Rattle.std.proofs.lemmas.Slice.Eq.{bytes_eq-Decides}
+use Rattle.wm_base.specs.Key.{key_word}
+use Rattle.wm_base.specs.declared.refusal.Key.{Key}
+use Rattle.wm_clwords.specs.declared.tree.Item.{Item}
+use Rattle.wm_desc.specs.Opening.{qbatch, qdftjobd}
+use Rattle.wm_when.specs.declared.schedule.DateSpec.TheVariants as date
+use Rattle.wm_when.specs.declared.schedule.TimeSpec.TheVariants as time
+use Rattle.wm_command.specs.declared.commands.EndOption.TheVariants.{Cntrld}
+use Rattle.wm_command.specs.declared.fault.CmdFault.{CmdFault}
+use Rattle.wm_command.specs.declared.row.Default.{Default}
+use Rattle.wm_command.specs.declared.row.Default.TheVariants as default
+use Rattle.wm_command.specs.declared.row.Kind.{Kind}
+use Rattle.wm_command.specs.declared.row.Row.{Row}
+use Rattle.wm_command.specs.declared.row.Special.{Special}
+use Rattle.wm_command.specs.declared.value.Value.{Value}
+use Rattle.wm_command.specs.declared.value.Value.TheVariants as value
+use Rattle.wm_command.specs.declared.value.Given.{Given}
+use Rattle.wm_command.specs.Each.{go_on, each}
+use Rattle.wm_command.specs.Fields.{value_of}
+use Rattle.wm_command.specs.Reading.{same_key, is_given, row_named, row_value, with_value, keyed, keyed_by, next_item, stands_alone, first_item, first_by, items_given, default_value, complete, all_given}
+use Rattle.wm_command.specs.Values.{is_never}
+use Rattle.wm_command.specs.Words.{same}
+use Rattle.wm_command.specs.Written.{place_of, key_of, listed}
+use Rattle.wm_command.proofs.ReadForms.{InKind, InRow, DropsRight, row_of, none_some, some_same, err_ok, ok_same, value_is}
+
+-- each key has what its row takes
+abbrev AllIn : List Row → List Given → Type 0
+AllIn rows [] = Unit {0}
+AllIn rows (g ∷ given) = ((row : Row) → row_named (key_word g.key) rows ≡ Some row → InRow row g.value) × AllIn rows given
+
+all_push : (rows : List Row) (given : List Given) (g : Given) → AllIn rows given → ((row : Row) → row_named (key_word g.key) rows ≡ Some row → InRow row g.value) → AllIn rows (given ++ g ∷ [])
+all_push rows [] g all h = (h, tt)
+all_push rows (x ∷ given) g all h = (all.0, all_push rows given g all.1 h)
+
+-- a default has the form and the range of its row
+abbrev pub FitsDefault : Default → Kind → Special → Type 0
+FitsDefault default.Required k s = Unit {0}
+FitsDefault default.Nothing k s = Unit {0}
+FitsDefault default.Special k s = is_never s ≡ false
+FitsDefault (default.Number n) k s = InKind k (value.Number n)
+FitsDefault default.Yes k s = InKind k (value.Flag true)
+FitsDefault default.No k s = InKind k (value.Flag false)
+FitsDefault default.Cntrld k s = InKind k (value.Ending Cntrld)
+FitsDefault default.Qbatch k s = InKind k (value.Object qbatch)
+FitsDefault default.Qdftjobd k s = InKind k (value.Object qdftjobd)
+FitsDefault default.Qcmdi k s = InKind k (value.Text (codes "QCMDI"))
+FitsDefault default.Qcmdb k s = InKind k (value.Text (codes "QCMDB"))
+FitsDefault default.Today k s = InKind k (value.Date date.Current)
+FitsDefault default.Now k s = InKind k (value.Time time.Current)
+
+-- what the rows of a table keep to: each is found by its key, and what it drops and its default are right
+abbrev pub RightRows : List Row → List Row → Type 0
+RightRows rows [] = Unit {0}
+RightRows rows (row ∷ rest) = (row_named (key_word row.0) rows ≡ Some row) × DropsRight row.1 row.3 × FitsDefault row.3 row.1 row.2 × RightRows rows rest
+
+-- answers that are good
+
+with_good : (given out : List Given) (key : Key) (r : Result Value CmdFault) → with_value given key r ≡ Ok out → (v : Value) × (r ≡ Ok v) × (given ++ record { key = key; value = v } ∷ [] ≡ out)
+with_good given out key (Err e) h = absurd (err_ok e out h)
+with_good given out key (Ok v) h = (v, refl, ok_same (given ++ record { key = key; value = v } ∷ []) out h)
+
+pub go_good : {S T : Type 0} (r : Result S CmdFault) (next : S → Result T CmdFault) (out : T) → go_on r next ≡ Ok out → (s : S) × (r ≡ Ok s) × (next s ≡ Ok out)
+go_good (Err e) next out h = absurd (err_ok e out h)
+go_good (Ok s) next out h = (s, refl, h)
+
+no_err : {A : Type 0} (c : Bool) (e : CmdFault) (r : Result A CmdFault) (out : A) → cond c (Err e) r ≡ Ok out → r ≡ Ok out
+no_err true e r out h = absurd (err_ok e out h)
+no_err false e r out h = h
+
+-- the row of a word
+
+same_word : (a b : List ℕ) → same a b ≡ true → a ≡ b
+same_word a b h = (bytes_eq-Decides a b).0 h
+
+same_self : (a : List ℕ) → same a a ≡ true
+same_self a = (bytes_eq-Decides a a).1 refl
+
+abbrev Named : List ℕ → Row → Type 0
+Named word row = (same (key_word row.0) word ≡ true) × DropsRight row.1 row.3
+
+named_by : (first : Row) (rest : List Row) (word : List ℕ) (row : Row) (c : Bool) → DropsRight first.1 first.3 → (find (λ r. same (key_word r.0) word) rest ≡ Some row → Named word row)
+    → same (key_word first.0) word ≡ c → cond c (Some first) (find (λ r. same (key_word r.0) word) rest) ≡ Some row → Named word row
+named_by first rest word row true drops f h e = subst (Named word) (some_same first row e) (h, drops)
+named_by first rest word row false drops f h e = f e
+
+named : (rows rest : List Row) (word : List ℕ) (row : Row) → RightRows rows rest → find (λ r. same (key_word r.0) word) rest ≡ Some row → Named word row
+named rows [] word row right e = absurd (none_some row e)
+named rows (first ∷ rest) word row right e =
+    named_by first rest word row (same (key_word first.0) word) right.1 (λ f. named rows rest word row right.3 f) refl e
+
+named_is : (rows : List Row) (word : List ℕ) (row : Row) → RightRows rows rows → row_named word rows ≡ Some row → Named word row
+unfolding row_named
+named_is rows word row right e = named rows rows word row right e
+
+-- the row of its key is the row
+one_row : (rows : List Row) (row other : Row) → row_named (key_word row.0) rows ≡ Some row → row_named (key_word row.0) rows ≡ Some other → row ≡ other
+one_row rows row other e f = some_same row other (sym e ∙ f)
+
+given_in : (rows : List Row) (row : Row) (place : ℕ) (items : List Item) (v : Value) → row_named (key_word row.0) rows ≡ Some row → DropsRight row.1 row.3 → row_value row.1 row.2 place items ≡ Ok v
+    → (other : Row) → row_named (key_word row.0) rows ≡ Some other → InRow other v
+given_in rows row place items v e drops h other f =
+    subst (λ (r : Row). InRow r v) (one_row rows row other e f) (value_is row.0 row.1 row.2 row.3 place items v drops h)
+
+-- what is given
+
+keyed_in : (rows : List Row) (given out : List Given) (word : List ℕ) (place : ℕ) (items : List Item) (o : Option Row) → RightRows rows rows → AllIn rows given → row_named word rows ≡ o
+    → keyed given place items o ≡ Ok out → AllIn rows out
+keyed_in rows given out word place items None right all f e = absurd (err_ok _ out e)
+keyed_in rows given out word place items (Some row) right all f e =
+    let n = named_is rows word row right f in
+    let g = with_good given out row.0 (row_value row.1 row.2 place items) (no_err (is_given row.0 given) _ (with_value given row.0 (row_value row.1 row.2 place items)) out e) in
+    let found : row_named (key_word row.0) rows ≡ Some row = ap (λ w. row_named w rows) (same_word (key_word row.0) word n.0) ∙ f in
+    subst (AllIn rows) g.2 (all_push rows given (record { key = row.0; value = g.0 }) all (given_in rows row place items g.0 found n.1 g.1))
+
+keyed_by_in : (rows : List Row) (given out : List Given) (item : Item) (o : Option (List ℕ)) → RightRows rows rows → AllIn rows given → keyed_by rows given item o ≡ Ok out → AllIn rows out
+keyed_by_in rows given out item None right all e = absurd (err_ok _ out e)
+keyed_by_in rows given out item (Some word) right all e = keyed_in rows given out word (place_of item) (listed item) (row_named word rows) right all refl e
+
+next_in : (rows : List Row) (given out : List Given) (item : Item) → RightRows rows rows → AllIn rows given → next_item rows given item ≡ Ok out → AllIn rows out
+unfolding next_item
+next_in rows given out item right all e = keyed_by_in rows given out item (key_of item) right all e
+
+each_in : (rows : List Row) (given out : List Given) (items : List Item) → RightRows rows rows → AllIn rows given → each (next_item rows) given items ≡ Ok out → AllIn rows out
+each_in rows given out [] right all e = subst (AllIn rows) (ok_same given out e) all
+each_in rows given out (item ∷ items) right all e =
+    let g = go_good (next_item rows given item) (λ t. each (next_item rows) t items) out e in
+    each_in rows g.0 out items right (next_in rows given g.0 item right all g.1) g.2
+
+alone_in : (rows rest : List Row) (out : List Given) (place : ℕ) (items : List Item) → RightRows rows rest → stands_alone rest place items ≡ Ok out → AllIn rows out
+alone_in rows [] out place items right e = absurd (err_ok _ out e)
+alone_in rows (row ∷ rest) out place items right e =
+    let g = with_good [] out row.0 (row_value row.1 row.2 place items) e in
+    subst (AllIn rows) g.2 (given_in rows row place items g.0 right.0 right.1 g.1, tt)
+
+first_by_in : (rows : List Row) (out : List Given) (item : Item) (o : Option (List ℕ)) → RightRows rows rows → first_by rows item o ≡ Ok out → AllIn rows out
+first_by_in rows out item None right e = alone_in rows rows out (place_of item) (item ∷ []) right e
+first_by_in rows out item (Some key) right e = next_in rows [] out item right tt e
+
+first_in : (rows : List Row) (out : List Given) (item : Item) → RightRows rows rows → first_item rows item ≡ Ok out → AllIn rows out
+unfolding first_item
+first_in rows out item right e = first_by_in rows out item (key_of item) right e
+
+items_in : (rows : List Row) (out : List Given) (items : List Item) → RightRows rows rows → items_given rows items ≡ Ok out → AllIn rows out
+items_in rows out [] right e = subst (AllIn rows) (ok_same [] out e) tt
+items_in rows out (item ∷ items) right e =
+    let g = go_good (first_item rows item) (λ t. each (next_item rows) t items) out e in
+    each_in rows g.0 out items right (first_in rows g.0 item right g.1) g.2
+
+-- what is completed
+
+default_in : (key : Key) (k : Kind) (s : Special) (d : Default) (v : Value) → FitsDefault d k s → default_value d key s ≡ Ok v → InRow (row_of key k s d) v
+default_in key k s default.Required v h e = absurd (err_ok _ v e)
+default_in key k s default.Nothing v h e = subst (InRow (row_of key k s default.Nothing)) (ok_same value.Nothing v e) tt
+default_in key k s default.Special v h e = subst (InRow (row_of key k s default.Special)) (ok_same (value.Special s) v e) (refl, h)
+default_in key k s (default.Number n) v h e = subst (InRow (row_of key k s (default.Number n))) (ok_same (value.Number n) v e) h
+default_in key k s default.Yes v h e = subst (InRow (row_of key k s default.Yes)) (ok_same (value.Flag true) v e) h
+default_in key k s default.No v h e = subst (InRow (row_of key k s default.No)) (ok_same (value.Flag false) v e) h
+default_in key k s default.Cntrld v h e = subst (InRow (row_of key k s default.Cntrld)) (ok_same (value.Ending Cntrld) v e) h
+default_in key k s default.Qbatch v h e = subst (InRow (row_of key k s default.Qbatch)) (ok_same (value.Object qbatch) v e) h
+default_in key k s default.Qdftjobd v h e = subst (InRow (row_of key k s default.Qdftjobd)) (ok_same (value.Object qdftjobd) v e) h
+default_in key k s default.Qcmdi v h e = subst (InRow (row_of key k s default.Qcmdi)) (ok_same (value.Text (codes "QCMDI")) v e) h
+default_in key k s default.Qcmdb v h e = subst (InRow (row_of key k s default.Qcmdb)) (ok_same (value.Text (codes "QCMDB")) v e) h
+default_in key k s default.Today v h e = subst (InRow (row_of key k s default.Today)) (ok_same (value.Date date.Current) v e) h
+default_in key k s default.Now v h e = subst (InRow (row_of key k s default.Now)) (ok_same (value.Time time.Current) v e) h
+
+key_self : (k : Key) → same_key k k ≡ true
+unfolding same_key
+key_self k = same_self (key_word k)
+
+or_more : (c d e : Bool) → (d ≡ true → e ≡ true) → (c || d) ≡ true → (c || e) ≡ true
+or_more true d e f h = refl
+or_more false d e f h = f h
+
+or_last : (c d : Bool) → d ≡ true → (c || d) ≡ true
+or_last true d h = refl
+or_last false d h = h
+
+given_push : (k : Key) (given : List Given) (g : Given) → is_given k given ≡ true → is_given k (given ++ g ∷ []) ≡ true
+given_push k [] g h = absurd (false≢true h)
+given_push k (x ∷ given) g h = or_more (same_key x.key k) (is_given k given) (is_given k (given ++ g ∷ [])) (given_push k given g) h
+
+given_last : (k : Key) (given : List Given) (v : Value) → is_given k (given ++ record { key = k; value = v } ∷ []) ≡ true
+given_last k [] v = ap (λ c. c || false) (key_self k)
+given_last k (x ∷ given) v = or_last (same_key x.key k) (is_given k (given ++ record { key = k; value = v } ∷ [])) (given_last k given v)
+
+record Completed (rows : List Row) (key : Key) (given out : List Given) : Type 0 where
+  all : AllIn rows out
+  has : is_given key out ≡ true
+  kept : (k : Key) → is_given k given ≡ true → is_given k out ≡ true
+
+complete_in : (rows : List Row) (row : Row) (given out : List Given) → row_named (key_word row.0) rows ≡ Some row → FitsDefault row.3 row.1 row.2 → AllIn rows given → complete given row ≡ Ok out
+    → Completed rows row.0 given out
+unfolding complete
+complete_in rows row given out f fits all e = by_test (is_given row.0 given) refl e
+  where
+    pushed : (v : Value) → default_value row.3 row.0 row.2 ≡ Ok v → Completed rows row.0 given (given ++ record { key = row.0; value = v } ∷ [])
+    pushed v h =
+        record {
+          all = all_push rows given (record { key = row.0; value = v }) all
+              (λ other k. subst (λ (r : Row). InRow r v) (one_row rows row other f k) (default_in row.0 row.1 row.2 row.3 v fits h));
+          has = given_last row.0 given v;
+          kept = λ k h. given_push k given (record { key = row.0; value = v }) h;
+        }
+
+    by_test : (c : Bool) → is_given row.0 given ≡ c → cond c (Ok given) (with_value given row.0 (default_value row.3 row.0 row.2)) ≡ Ok out → Completed rows row.0 given out
+    by_test true h e = subst (Completed rows row.0 given) (ok_same given out e) (record { all = all; has = h; kept = λ k h. h })
+    by_test false h e =
+        let g = with_good given out row.0 (default_value row.3 row.0 row.2) e in
+        subst (Completed rows row.0 given) g.2 (pushed g.0 g.1)
+
+-- each of these rows' keys is given
+abbrev AllGiven : List Row → List Given → Type 0
+AllGiven [] out = Unit {0}
+AllGiven (row ∷ rest) out = (is_given row.0 out ≡ true) × AllGiven rest out
+
+record CompletedAll (rows rest : List Row) (given out : List Given) : Type 0 where
+  all : AllIn rows out
+  has : AllGiven rest out
+  kept : (k : Key) → is_given k given ≡ true → is_given k out ≡ true
+
+each_complete : (rows rest : List Row) (given out : List Given) → RightRows rows rest → AllIn rows given → each complete given rest ≡ Ok out → CompletedAll rows rest given out
+each_complete rows [] given out right all e = subst (CompletedAll rows [] given) (ok_same given out e) (record { all = all; has = tt; kept = λ k h. h })
+each_complete rows (row ∷ rest) given out right all e =
+    let g = go_good (complete given row) (λ t. each complete t rest) out e in
+    let step = complete_in rows row given g.0 right.0 right.2 all g.1 in
+    let more = each_complete rows rest g.0 out right.3 step.all g.2 in
+    record { all = more.all; has = (more.kept row.0 step.has, more.has); kept = λ k h. more.kept k (step.kept k h) }
+
+abbrev option_value : Option Given → Option Value
+option_value o = option_map (λ g. g.value) o
+
+-- a key of a row has a value of the row
+abbrev pub Has : Row → List Given → Type 0
+Has row given = (v : Value) × (value_of row.0 given ≡ Some v) × InRow row v
+
+abbrev keyed_first : Bool → Key → Given → List Given → Option Value
+keyed_first c key g given = option_value (cond c (Some g) (find (λ x. same_key x.key key) given))
+
+has_first : (rows : List Row) (row : Row) (g : Given) (given : List Given) (c : Bool) → row_named (key_word row.0) rows ≡ Some row
+    → ((other : Row) → row_named (key_word g.key) rows ≡ Some other → InRow other g.value) → (is_given row.0 given ≡ true → Has row given)
+    → same_key g.key row.0 ≡ c → (c || is_given row.0 given) ≡ true → Has row (g ∷ given)
+unfolding value_of same_key
+has_first rows row g given true f own rest t h =
+    (g.value, ap (λ c. keyed_first c row.0 g given) t, own row (ap (λ w. row_named w rows) (same_word (key_word g.key) (key_word row.0) t) ∙ f))
+has_first rows row g given false f own rest t h =
+    let r = rest h in
+    (r.0, ap (λ c. keyed_first c row.0 g given) t ∙ r.1, r.2)
+
+has_value : (rows : List Row) (row : Row) (given : List Given) → row_named (key_word row.0) rows ≡ Some row → AllIn rows given → is_given row.0 given ≡ true → Has row given
+has_value rows row [] f all h = absurd (false≢true h)
+has_value rows row (g ∷ given) f all h =
+    has_first rows row g given (same_key g.key row.0) f all.0 (λ k. has_value rows row given f all.1 k) refl h
+
+abbrev pub AllHave : List Row → List Given → Type 0
+AllHave [] given = Unit {0}
+AllHave (row ∷ rest) given = Has row given × AllHave rest given
+
+all_have : (rows rest : List Row) (given : List Given) → RightRows rows rest → AllIn rows given → AllGiven rest given → AllHave rest given
+all_have rows [] given right all has = tt
+all_have rows (row ∷ rest) given right all has = (has_value rows row given right.0 all has.0, all_have rows rest given right.3 all has.1)
+
+-- what a command's items give all keys of the table
+pub table_has : (rows : List Row) (items : List Item) (out : List Given) → RightRows rows rows → all_given rows items ≡ Ok out → AllHave rows out
+table_has rows items out right e =
+    let g = go_good (items_given rows items) (λ given. each complete given rows) out e in
+    let done = each_complete rows rows g.0 out right (items_in rows g.0 items right g.1) g.2 in
+    all_have rows rows out right done.all done.has
