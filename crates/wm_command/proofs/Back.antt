@@ -6,36 +6,36 @@ use Rattle.wm_base.specs.declared.qname.QName.{QName}
 use Rattle.wm_when.specs.Schedule.{within}
 use Rattle.wm_when.specs.declared.schedule.DateSpec.{DateSpec}
 use Rattle.wm_when.specs.declared.schedule.TimeSpec.{TimeSpec}
-use Rattle.wm_command.specs.declared.commands.Command.TheVariants as command
-use Rattle.wm_command.specs.declared.commands.Crtcls.{Crtcls}
-use Rattle.wm_command.specs.declared.commands.Crtjobq.{Crtjobq}
-use Rattle.wm_command.specs.declared.commands.Crtpgmref.{Crtpgmref}
-use Rattle.wm_command.specs.declared.commands.Crtjobd.{Crtjobd}
-use Rattle.wm_command.specs.declared.commands.Crtsbsd.{Crtsbsd}
-use Rattle.wm_command.specs.declared.commands.Addjobqe.{Addjobqe}
-use Rattle.wm_command.specs.declared.commands.Addrtge.{Addrtge}
-use Rattle.wm_command.specs.declared.commands.Addaje.{Addaje}
-use Rattle.wm_command.specs.declared.commands.Addpje.{Addpje}
-use Rattle.wm_command.specs.declared.commands.Rmvjobqe.{Rmvjobqe}
-use Rattle.wm_command.specs.declared.commands.Rmvrtge.{Rmvrtge}
-use Rattle.wm_command.specs.declared.commands.Rmvaje.{Rmvaje}
-use Rattle.wm_command.specs.declared.commands.Rmvpje.{Rmvpje}
-use Rattle.wm_command.specs.declared.commands.Strsbs.{Strsbs}
-use Rattle.wm_command.specs.declared.commands.Endsbs.{Endsbs}
-use Rattle.wm_command.specs.declared.commands.Sbmjob.{Sbmjob}
-use Rattle.wm_command.specs.declared.commands.Hldjob.{Hldjob}
-use Rattle.wm_command.specs.declared.commands.Rlsjob.{Rlsjob}
-use Rattle.wm_command.specs.declared.commands.Chgjob.{Chgjob}
-use Rattle.wm_command.specs.declared.commands.Endjob.{Endjob}
-use Rattle.wm_command.specs.declared.commands.Hldjobq.{Hldjobq}
-use Rattle.wm_command.specs.declared.commands.Rlsjobq.{Rlsjobq}
-use Rattle.wm_command.specs.declared.commands.Clrjobq.{Clrjobq}
-use Rattle.wm_command.specs.declared.commands.Strpj.{Strpj}
-use Rattle.wm_command.specs.declared.commands.Endpj.{Endpj}
-use Rattle.wm_command.specs.declared.commands.Evoke.{Evoke}
-use Rattle.wm_command.specs.declared.commands.Enduse.{Enduse}
-use Rattle.wm_command.specs.declared.commands.Pwrdwnsys.{Pwrdwnsys}
-use Rattle.wm_command.specs.declared.commands.Line.TheVariants as line
+use Rattle.wm_law.specs.declared.command.Command.TheVariants as command
+use Rattle.wm_law.specs.declared.command.Crtcls.{Crtcls}
+use Rattle.wm_law.specs.declared.command.Crtjobq.{Crtjobq}
+use Rattle.wm_law.specs.declared.command.Crtpgmref.{Crtpgmref}
+use Rattle.wm_law.specs.declared.command.Crtjobd.{Crtjobd}
+use Rattle.wm_law.specs.declared.command.Crtsbsd.{Crtsbsd}
+use Rattle.wm_law.specs.declared.command.Addjobqe.{Addjobqe}
+use Rattle.wm_law.specs.declared.command.Addrtge.{Addrtge}
+use Rattle.wm_law.specs.declared.command.Addaje.{Addaje}
+use Rattle.wm_law.specs.declared.command.Addpje.{Addpje}
+use Rattle.wm_law.specs.declared.command.Rmvjobqe.{Rmvjobqe}
+use Rattle.wm_law.specs.declared.command.Rmvrtge.{Rmvrtge}
+use Rattle.wm_law.specs.declared.command.Rmvaje.{Rmvaje}
+use Rattle.wm_law.specs.declared.command.Rmvpje.{Rmvpje}
+use Rattle.wm_law.specs.declared.command.Strsbs.{Strsbs}
+use Rattle.wm_law.specs.declared.command.Endsbs.{Endsbs}
+use Rattle.wm_law.specs.declared.command.Sbmjob.{Sbmjob}
+use Rattle.wm_law.specs.declared.command.Hldjob.{Hldjob}
+use Rattle.wm_law.specs.declared.command.Rlsjob.{Rlsjob}
+use Rattle.wm_law.specs.declared.command.Chgjob.{Chgjob}
+use Rattle.wm_law.specs.declared.command.Endjob.{Endjob}
+use Rattle.wm_law.specs.declared.command.Hldjobq.{Hldjobq}
+use Rattle.wm_law.specs.declared.command.Rlsjobq.{Rlsjobq}
+use Rattle.wm_law.specs.declared.command.Clrjobq.{Clrjobq}
+use Rattle.wm_law.specs.declared.command.Strpj.{Strpj}
+use Rattle.wm_law.specs.declared.command.Endpj.{Endpj}
+use Rattle.wm_law.specs.declared.command.EvokeCommand.{EvokeCommand}
+use Rattle.wm_law.specs.declared.command.Enduse.{Enduse}
+use Rattle.wm_law.specs.declared.command.Pwrdwnsys.{Pwrdwnsys}
+use Rattle.wm_command.specs.declared.said.Line.TheVariants as line
 use Rattle.wm_command.specs.declared.row.Special.{Special}
 use Rattle.wm_command.specs.declared.row.Special.TheVariants as special
 use Rattle.wm_command.specs.declared.row.Default.TheVariants as default
@@ -217,7 +217,7 @@ endpj_back : (c : Endpj) → IsFit (command.Endpj c) → completed change.Endpj 
 unfolding change_rows complete same_key value_of object_in name_in text_in number_in limit_in flag_in ending_in job_in compare_in date_in time_in priority_in is_word_in class_in maxpty_in request_in endpj endpj_values
 endpj_back c h = λ i. Ok (line.Change (command.Endpj (record c { delay = number_back special.Nolimit c.delay i })))
 
-evoke_back : (c : Evoke) → IsFit (command.Evoke c) → completed change.Evoke (evoke_values c) ≡ Ok (line.Change (command.Evoke c))
+evoke_back : (c : EvokeCommand) → IsFit (command.Evoke c) → completed change.Evoke (evoke_values c) ≡ Ok (line.Change (command.Evoke c))
 unfolding change_rows complete same_key value_of object_in name_in text_in number_in limit_in flag_in ending_in job_in compare_in date_in time_in priority_in is_word_in class_in maxpty_in request_in evoke evoke_values
 evoke_back c h = refl
 

@@ -11,10 +11,10 @@ use Rattle.wm_desc.specs.Ranges.{path_in_range, cmp_in_range}
 use Rattle.wm_desc.specs.declared.entry.Cmp.{Cmp}
 use Rattle.wm_desc.specs.declared.entry.Cmp.TheVariants.{Any, Val}
 use Rattle.wm_when.specs.Schedule.{within, date_in_range, time_in_range}
-use Rattle.wm_command.specs.declared.commands.Command.{Command}
-use Rattle.wm_command.specs.declared.commands.Command.TheVariants as command
-use Rattle.wm_command.specs.declared.commands.Line.{Line}
-use Rattle.wm_command.specs.declared.commands.Line.TheVariants as line
+use Rattle.wm_law.specs.declared.command.Command.{Command}
+use Rattle.wm_law.specs.declared.command.Command.TheVariants as command
+use Rattle.wm_command.specs.declared.said.Line.{Line}
+use Rattle.wm_command.specs.declared.said.Line.TheVariants as line
 use Rattle.wm_command.specs.declared.fault.CmdFault.{CmdFault}
 use Rattle.wm_command.specs.declared.row.Default.{Default}
 use Rattle.wm_command.specs.declared.row.Default.TheVariants as default

@@ -16,7 +16,7 @@ use Rattle.wm_when.specs.declared.schedule.DateSpec.{DateSpec}
 use Rattle.wm_when.specs.declared.schedule.DateSpec.TheVariants as date
 use Rattle.wm_when.specs.declared.schedule.TimeSpec.{TimeSpec}
 use Rattle.wm_when.specs.declared.schedule.TimeSpec.TheVariants as time
-use Rattle.wm_command.specs.declared.commands.EndOption.TheVariants.{Cntrld, Immed}
+use Rattle.wm_law.specs.declared.command.EndOption.TheVariants.{Cntrld, Immed}
 use Rattle.wm_command.specs.declared.row.Kind.{Kind}
 use Rattle.wm_command.specs.declared.row.Kind.TheVariants as kind
 use Rattle.wm_command.specs.declared.row.Row.{Row}

@@ -15,9 +15,9 @@ use Rattle.wm_clwords.proofs.CommandLaw.{one_command}
 use Rattle.wm_clwords.proofs.Printing.{Prints, prints_nil, prints_append, Printed, command_printed}
 use Rattle.wm_clwords.proofs.Tokens.{tokens-append, list_tokens-cons, cut_keyed, no_items, heads, word_key, quoted_key, open_key, key_same}
 use Rattle.wm_desc.specs.declared.entry.Cmp.TheVariants.{Any, Val}
-use Rattle.wm_command.specs.declared.commands.Command.{Command}
-use Rattle.wm_command.specs.declared.commands.Command.TheVariants as command
-use Rattle.wm_command.specs.declared.commands.Line.TheVariants as line
+use Rattle.wm_law.specs.declared.command.Command.{Command}
+use Rattle.wm_law.specs.declared.command.Command.TheVariants as command
+use Rattle.wm_command.specs.declared.said.Line.TheVariants as line
 use Rattle.wm_command.specs.declared.fault.CmdFault.TheVariants.{Twice}
 use Rattle.wm_command.specs.declared.row.Row.{Row}
 use Rattle.wm_command.specs.declared.row.Special.{Special}

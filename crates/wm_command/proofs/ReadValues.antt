@@ -26,10 +26,10 @@ use Rattle.wm_when.specs.declared.schedule.DateSpec.{DateSpec}
 use Rattle.wm_when.specs.declared.schedule.DateSpec.TheVariants as date
 use Rattle.wm_when.specs.declared.schedule.TimeSpec.{TimeSpec}
 use Rattle.wm_when.specs.declared.schedule.TimeSpec.TheVariants as time
-use Rattle.wm_command.specs.declared.commands.EndOption.{EndOption}
-use Rattle.wm_command.specs.declared.commands.EndOption.TheVariants.{Cntrld, Immed}
-use Rattle.wm_command.specs.declared.commands.JobRef.{JobRef}
-use Rattle.wm_command.specs.declared.commands.JobRef.TheVariants.{Simple, ByUser, Full}
+use Rattle.wm_law.specs.declared.command.EndOption.{EndOption}
+use Rattle.wm_law.specs.declared.command.EndOption.TheVariants.{Cntrld, Immed}
+use Rattle.wm_law.specs.declared.command.JobRef.{JobRef}
+use Rattle.wm_law.specs.declared.command.JobRef.TheVariants.{Simple, ByUser, Full}
 use Rattle.wm_command.specs.declared.row.Kind.{Kind}
 use Rattle.wm_command.specs.declared.row.Kind.TheVariants as kind
 use Rattle.wm_command.specs.declared.row.Special.{Special}

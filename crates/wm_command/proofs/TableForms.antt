@@ -9,7 +9,7 @@ use Rattle.wm_clwords.specs.declared.tree.Item.{Item}
 use Rattle.wm_desc.specs.Opening.{qbatch, qdftjobd}
 use Rattle.wm_when.specs.declared.schedule.DateSpec.TheVariants as date
 use Rattle.wm_when.specs.declared.schedule.TimeSpec.TheVariants as time
-use Rattle.wm_command.specs.declared.commands.EndOption.TheVariants.{Cntrld}
+use Rattle.wm_law.specs.declared.command.EndOption.TheVariants.{Cntrld}
 use Rattle.wm_command.specs.declared.fault.CmdFault.{CmdFault}
 use Rattle.wm_command.specs.declared.row.Default.{Default}
 use Rattle.wm_command.specs.declared.row.Default.TheVariants as default

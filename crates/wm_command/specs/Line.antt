@@ -3,10 +3,10 @@ use Rattle.std.specs.Prelude.{ℕ, Bool, true, false, Option, Some, None, Result
 use Rattle.wm_base.specs.declared.refusal.Key.{Key}
 use Rattle.wm_base.specs.declared.refusal.Key.TheVariants as key
 use Rattle.wm_clwords.specs.declared.tree.Item.{Item}
-use Rattle.wm_command.specs.declared.commands.Ask.{Ask}
-use Rattle.wm_command.specs.declared.commands.Ask.TheVariants as ask
-use Rattle.wm_command.specs.declared.commands.Line.{Line}
-use Rattle.wm_command.specs.declared.commands.Line.TheVariants as line
+use Rattle.wm_law.specs.declared.command.Ask.{Ask}
+use Rattle.wm_law.specs.declared.command.Ask.TheVariants as ask
+use Rattle.wm_command.specs.declared.said.Line.{Line}
+use Rattle.wm_command.specs.declared.said.Line.TheVariants as line
 use Rattle.wm_command.specs.declared.fault.CmdFault.{CmdFault}
 use Rattle.wm_command.specs.declared.fault.CmdFault.TheVariants.{UnknownCommand, Missing, Conflict}
 use Rattle.wm_command.specs.declared.value.Value.{Value}

@@ -13,11 +13,11 @@ use Rattle.wm_when.specs.declared.schedule.DateSpec.{DateSpec}
 use Rattle.wm_when.specs.declared.schedule.DateSpec.TheVariants as date
 use Rattle.wm_when.specs.declared.schedule.TimeSpec.{TimeSpec}
 use Rattle.wm_when.specs.declared.schedule.TimeSpec.TheVariants as time
-use Rattle.wm_command.specs.declared.commands.Command.{Command}
-use Rattle.wm_command.specs.declared.commands.EndOption.{EndOption}
-use Rattle.wm_command.specs.declared.commands.EndOption.TheVariants.{Cntrld, Immed}
-use Rattle.wm_command.specs.declared.commands.JobRef.{JobRef}
-use Rattle.wm_command.specs.declared.commands.JobRef.TheVariants.{Simple, ByUser, Full}
+use Rattle.wm_law.specs.declared.command.Command.{Command}
+use Rattle.wm_law.specs.declared.command.EndOption.{EndOption}
+use Rattle.wm_law.specs.declared.command.EndOption.TheVariants.{Cntrld, Immed}
+use Rattle.wm_law.specs.declared.command.JobRef.{JobRef}
+use Rattle.wm_law.specs.declared.command.JobRef.TheVariants.{Simple, ByUser, Full}
 use Rattle.wm_command.specs.declared.value.Value.{Value}
 use Rattle.wm_command.specs.declared.value.Value.TheVariants as value
 use Rattle.wm_command.specs.declared.value.Given.{Given}

@@ -5,28 +5,28 @@ use Rattle.wm_base.specs.declared.limit.Limit.{Limit}
 use Rattle.wm_base.specs.declared.limit.Limit.TheVariants.{NoMax, Most}
 use Rattle.wm_base.specs.declared.refusal.Key.{Key}
 use Rattle.wm_base.specs.declared.refusal.Key.TheVariants as key
-use Rattle.wm_command.specs.declared.commands.Command.{Command}
-use Rattle.wm_command.specs.declared.commands.Command.TheVariants as command
-use Rattle.wm_command.specs.declared.commands.Crtcls.{Crtcls}
-use Rattle.wm_command.specs.declared.commands.Crtpgmref.{Crtpgmref}
-use Rattle.wm_command.specs.declared.commands.Crtjobd.{Crtjobd}
-use Rattle.wm_command.specs.declared.commands.Crtsbsd.{Crtsbsd}
-use Rattle.wm_command.specs.declared.commands.Addjobqe.{Addjobqe}
-use Rattle.wm_command.specs.declared.commands.Addrtge.{Addrtge}
-use Rattle.wm_command.specs.declared.commands.Addaje.{Addaje}
-use Rattle.wm_command.specs.declared.commands.Addpje.{Addpje}
-use Rattle.wm_command.specs.declared.commands.Rmvjobqe.{Rmvjobqe}
-use Rattle.wm_command.specs.declared.commands.Rmvrtge.{Rmvrtge}
-use Rattle.wm_command.specs.declared.commands.Rmvaje.{Rmvaje}
-use Rattle.wm_command.specs.declared.commands.Rmvpje.{Rmvpje}
-use Rattle.wm_command.specs.declared.commands.Endsbs.{Endsbs}
-use Rattle.wm_command.specs.declared.commands.Sbmjob.{Sbmjob}
-use Rattle.wm_command.specs.declared.commands.Chgjob.{Chgjob}
-use Rattle.wm_command.specs.declared.commands.Endjob.{Endjob}
-use Rattle.wm_command.specs.declared.commands.Strpj.{Strpj}
-use Rattle.wm_command.specs.declared.commands.Endpj.{Endpj}
-use Rattle.wm_command.specs.declared.commands.Evoke.{Evoke}
-use Rattle.wm_command.specs.declared.commands.Pwrdwnsys.{Pwrdwnsys}
+use Rattle.wm_law.specs.declared.command.Command.{Command}
+use Rattle.wm_law.specs.declared.command.Command.TheVariants as command
+use Rattle.wm_law.specs.declared.command.Crtcls.{Crtcls}
+use Rattle.wm_law.specs.declared.command.Crtpgmref.{Crtpgmref}
+use Rattle.wm_law.specs.declared.command.Crtjobd.{Crtjobd}
+use Rattle.wm_law.specs.declared.command.Crtsbsd.{Crtsbsd}
+use Rattle.wm_law.specs.declared.command.Addjobqe.{Addjobqe}
+use Rattle.wm_law.specs.declared.command.Addrtge.{Addrtge}
+use Rattle.wm_law.specs.declared.command.Addaje.{Addaje}
+use Rattle.wm_law.specs.declared.command.Addpje.{Addpje}
+use Rattle.wm_law.specs.declared.command.Rmvjobqe.{Rmvjobqe}
+use Rattle.wm_law.specs.declared.command.Rmvrtge.{Rmvrtge}
+use Rattle.wm_law.specs.declared.command.Rmvaje.{Rmvaje}
+use Rattle.wm_law.specs.declared.command.Rmvpje.{Rmvpje}
+use Rattle.wm_law.specs.declared.command.Endsbs.{Endsbs}
+use Rattle.wm_law.specs.declared.command.Sbmjob.{Sbmjob}
+use Rattle.wm_law.specs.declared.command.Chgjob.{Chgjob}
+use Rattle.wm_law.specs.declared.command.Endjob.{Endjob}
+use Rattle.wm_law.specs.declared.command.Strpj.{Strpj}
+use Rattle.wm_law.specs.declared.command.Endpj.{Endpj}
+use Rattle.wm_law.specs.declared.command.EvokeCommand.{EvokeCommand}
+use Rattle.wm_law.specs.declared.command.Pwrdwnsys.{Pwrdwnsys}
 use Rattle.wm_command.specs.declared.row.Special.{Special}
 use Rattle.wm_command.specs.declared.row.Special.TheVariants as special
 use Rattle.wm_command.specs.declared.value.Value.{Value}
@@ -208,7 +208,7 @@ endpj_values c =
     ∷ with_key key.Delay (or_special special.Nolimit value.Number c.delay)
     ∷ []
 
-unfoldable pub evoke_values : Evoke → List Given
+unfoldable pub evoke_values : EvokeCommand → List Given
 evoke_values c =
     with_key key.Sbs (value.Name c.sbs)
     ∷ with_key key.Pgm (value.Object c.pgm)

@@ -2,7 +2,7 @@
 ghost use Rattle.std.specs.Prelude.{◌≡◌};
 ghost use Rattle.wm_command.specs.Fields.{maybe};
 
-use crate::commands::{EndOption, JobRef};
+use wm_law::{EndOption, JobRef};
 use crate::reading::same_key;
 use crate::value::{Value, Values};
 use std::alloc::AllocError;

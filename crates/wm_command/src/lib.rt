@@ -11,7 +11,7 @@
 #![tactic(auto)]
 
 mod call;
-mod commands;
+mod said;
 mod fault;
 mod fields;
 mod laws;
@@ -37,15 +37,11 @@ mod verb;
 mod words;
 mod written;
 
-pub use commands::{
-    Addaje, Addjobqe, Addpje, Addrtge, Ask, Chgjob, Clrjobq, Command, Crtcls, Crtjobd, Crtjobq,
-    Crtpgmref, Crtsbsd, EndOption, Endjob, Endpj, Endsbs, Enduse, Evoke, Hldjob, Hldjobq, JobRef,
-    Line, Pwrdwnsys, Rlsjob, Rlsjobq, Rmvaje, Rmvjobqe, Rmvpje, Rmvrtge, Sbmjob, Strpj, Strsbs,
-};
 pub use fault::CmdFault;
 pub use laws::{printed_command_is_read, shown_values_make_the_command};
 pub use line::command;
 pub use printing::print;
+pub use said::Line;
 
 #[cfg(test)]
 mod tests;

@@ -3,7 +3,8 @@ ghost use Rattle.std.specs.Prelude.{◌≡◌, ◌≢◌, IfOk, IfErr, Ok, Err};
 ghost use Rattle.wm_command.specs.Printed.{KeepsForms, LineHasTexts, LineIsReadBack};
 ghost use Rattle.wm_command.specs.Line.{change_named, read_named, one_request, lacks, own_fault, change_line, read_made, read_line, line_of};
 
-use crate::commands::{Ask, Line};
+use crate::said::Line;
+use wm_law::Ask;
 use crate::fault::CmdFault;
 use crate::made::change_made;
 use crate::printable::has_texts;

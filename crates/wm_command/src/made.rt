@@ -2,9 +2,7 @@
 ghost use Rattle.std.specs.Prelude.{◌≡◌, IfOk};
 ghost use Rattle.wm_command.specs.Made.{change_made};
 
-use crate::commands::{
-    Clrjobq, Command, Crtjobq, Enduse, Hldjob, Hldjobq, Rlsjob, Rlsjobq, Strsbs,
-};
+use wm_law::{Clrjobq, Command, Crtjobq, Enduse, Hldjob, Hldjobq, Rlsjob, Rlsjobq, Strsbs};
 use crate::made_control::{endpj, endsbs, evoke, pwrdwnsys, strpj};
 use crate::made_create::{crtcls, crtjobd, crtpgmref, crtsbsd};
 use crate::made_entry::{addaje, addjobqe, addpje, addrtge, rmvaje, rmvjobqe, rmvpje, rmvrtge};

@@ -2,7 +2,7 @@
 ghost use Rattle.std.specs.Prelude.{◌≡◌};
 ghost use Rattle.wm_command.specs.Made.{endsbs, strpj, endpj, evoke, pwrdwnsys};
 
-use crate::commands::{Endpj, Endsbs, Evoke, Pwrdwnsys, Strpj};
+use wm_law::{Endpj, Endsbs, EvokeCommand, Pwrdwnsys, Strpj};
 use crate::fields::maybe;
 use crate::value::Values;
 use wm_base::Key;
@@ -41,10 +41,10 @@ pub fn endpj(values: &Values) -> Endpj
 }
 
 #[tactic(auto, unfolding(crate::specs::Made::evoke))]
-pub fn evoke(values: &Values) -> Evoke
+pub fn evoke(values: &Values) -> EvokeCommand
     ensures { result ≡ evoke values.now }
 {
-    Evoke {
+    EvokeCommand {
         sbs: values.name(Key::Sbs),
         pgm: values.object(Key::Pgm),
     }

@@ -2,7 +2,7 @@
 ghost use Rattle.std.specs.Prelude.{◌≡◌, IfOk};
 ghost use Rattle.wm_command.specs.Made.{crtcls, crtpgmref, crtjobd, crtsbsd};
 
-use crate::commands::{Crtcls, Crtjobd, Crtpgmref, Crtsbsd};
+use wm_law::{Crtcls, Crtjobd, Crtpgmref, Crtsbsd};
 use crate::value::Values;
 use std::alloc::AllocError;
 use wm_base::Key;

@@ -2,7 +2,7 @@
 ghost use Rattle.std.specs.Prelude.{◌≡◌, IfOk};
 ghost use Rattle.wm_command.specs.Made.{addjobqe, addrtge, addaje, addpje, rmvjobqe, rmvrtge, rmvaje, rmvpje};
 
-use crate::commands::{Addaje, Addjobqe, Addpje, Addrtge, Rmvaje, Rmvjobqe, Rmvpje, Rmvrtge};
+use wm_law::{Addaje, Addjobqe, Addpje, Addrtge, Rmvaje, Rmvjobqe, Rmvpje, Rmvrtge};
 use crate::value::Values;
 use std::alloc::AllocError;
 use wm_base::Key;

@@ -2,7 +2,7 @@
 ghost use Rattle.std.specs.Prelude.{◌≡◌, IfOk};
 ghost use Rattle.wm_command.specs.Made.{sbmjob, chgjob, endjob};
 
-use crate::commands::{Chgjob, Endjob, Sbmjob};
+use wm_law::{Chgjob, Endjob, Sbmjob};
 use crate::fields::maybe;
 use crate::value::Values;
 use std::alloc::AllocError;

@@ -3,7 +3,7 @@ ghost use Rattle.std.specs.Prelude.{IfSome};
 ghost use Rattle.wm_base.specs.Text.{IsText};
 ghost use Rattle.wm_command.specs.Printed.{HasText, HasTexts};
 
-use crate::commands::Command;
+use wm_law::Command;
 use wm_base::Text;
 use wm_desc::Cmp;
 

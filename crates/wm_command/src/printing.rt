@@ -7,10 +7,10 @@ ghost use Rattle.wm_base.specs.Text.{IsText};
 ghost use Rattle.wm_base.specs.Key.{key_word};
 ghost use Rattle.wm_command.specs.Table.{change_word};
 ghost use Rattle.wm_command.specs.Values.{special_word};
-ghost use Rattle.wm_command.specs.declared.commands.JobRef.{JobRef};
+ghost use Rattle.wm_law.specs.declared.command.JobRef.{JobRef};
 ghost use Rattle.wm_command.specs.Print.{flag_text, ending_text, job_text, cmp_text, weekday_text, date_text, second_text, time_text, value_text, given_text, command_text};
 
-use crate::commands::{Command, EndOption, JobRef};
+use wm_law::{Command, EndOption, JobRef};
 use crate::row::Special;
 use crate::shown::{values_of, verb_of};
 use crate::table::change_word;

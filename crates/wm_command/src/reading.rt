@@ -8,7 +8,7 @@ ghost use Rattle.wm_command.specs.Table.{row_key, row_kind, row_special, row_oth
 ghost use Rattle.wm_command.specs.Reading.{same_key, is_given, row_named, row_value, with_value, keyed, next_item, stands_alone, first_item, items_given, default_value, complete, all_given};
 
 use crate::call::call_value;
-use crate::commands::EndOption;
+use wm_law::EndOption;
 use crate::fault::CmdFault;
 use crate::row::{Default, Kind, Row};
 use crate::value::{Value, Values};

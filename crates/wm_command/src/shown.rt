@@ -3,7 +3,7 @@ ghost use Rattle.std.specs.Prelude.{◌≡◌, ◌∷◌, [], IfOk};
 ghost use Rattle.wm_command.specs.Shown.{with_key, limit_value, word_or, or_special, values_of, verb_of};
 ghost use Rattle.wm_command.specs.declared.value.Value.TheVariants as value;
 
-use crate::commands::Command;
+use wm_law::Command;
 use crate::row::Special;
 use crate::shown_control::{
     endpj_values, endsbs_values, evoke_values, pwrdwnsys_values, strpj_values,

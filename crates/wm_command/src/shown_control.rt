@@ -2,7 +2,7 @@
 ghost use Rattle.std.specs.Prelude.{◌≡◌, IfOk};
 ghost use Rattle.wm_command.specs.Shown.{endsbs_values, strpj_values, endpj_values, evoke_values, pwrdwnsys_values};
 
-use crate::commands::{Endpj, Endsbs, Evoke, Pwrdwnsys, Strpj};
+use wm_law::{Endpj, Endsbs, EvokeCommand, Pwrdwnsys, Strpj};
 use crate::row::Special;
 use crate::shown::word_or;
 use crate::value::{Value, Values};
@@ -49,7 +49,7 @@ pub fn endpj_values(alloc: Global, c: &Endpj) -> Result<Values, AllocError>
 }
 
 #[tactic(auto, unfolding(crate::specs::Shown::evoke_values))]
-pub fn evoke_values(alloc: Global, c: &Evoke) -> Result<Values, AllocError>
+pub fn evoke_values(alloc: Global, c: &EvokeCommand) -> Result<Values, AllocError>
     ensures { IfOk result (λ v. v ≡ evoke_values c.now) }
 {
     let mut values = Values::new(alloc);

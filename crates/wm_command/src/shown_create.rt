@@ -2,7 +2,7 @@
 ghost use Rattle.std.specs.Prelude.{◌≡◌, IfOk};
 ghost use Rattle.wm_command.specs.Shown.{crtcls_values, crtpgmref_values, crtjobd_values, crtsbsd_values};
 
-use crate::commands::{Crtcls, Crtjobd, Crtpgmref, Crtsbsd};
+use wm_law::{Crtcls, Crtjobd, Crtpgmref, Crtsbsd};
 use crate::row::Special;
 use crate::shown::{limit_value, text_or};
 use crate::value::{Value, Values};

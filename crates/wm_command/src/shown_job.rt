@@ -2,7 +2,7 @@
 ghost use Rattle.std.specs.Prelude.{◌≡◌, IfOk};
 ghost use Rattle.wm_command.specs.Shown.{sbmjob_values, chgjob_values, endjob_values};
 
-use crate::commands::{Chgjob, Endjob, Sbmjob};
+use wm_law::{Chgjob, Endjob, Sbmjob};
 use crate::row::Special;
 use crate::shown::{priority_or, text_or, word_or};
 use crate::value::{Value, Values};

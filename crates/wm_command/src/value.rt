@@ -1,5 +1,5 @@
 // The values of keys.
-use crate::commands::{EndOption, JobRef};
+use wm_law::{EndOption, JobRef};
 use crate::row::Special;
 use std::alloc::{AllocError, Global};
 use std::marker::Model;

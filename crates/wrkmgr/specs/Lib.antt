@@ -4,6 +4,7 @@ pub mod Lists
 pub mod Monitor
 pub mod View
 pub mod Lines
+pub mod Reading
 pub mod Run
 pub mod Said
 pub mod Serving

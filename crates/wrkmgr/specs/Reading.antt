@@ -8,6 +8,7 @@ use Rattle.wm_command.specs.declared.fault.CmdFault.{CmdFault}
 use Rattle.wm_command.specs.declared.said.Line.{Line}
 use Rattle.wm_command.specs.declared.said.Line.TheVariants as line
 use Rattle.wm_law.specs.Built.{is_built}
+use Rattle.wm_law.specs.Fit.{IsCommand as IsFit}
 use Rattle.wrkmgr.specs.declared.reading.LineFault.TheVariants.{Cl, Cm}
 use Rattle.wrkmgr.specs.declared.reading.Reading.{Reading}
 use Rattle.wrkmgr.specs.declared.reading.Reading.TheVariants.{Fault, NotBuilt, Call}
@@ -34,3 +35,14 @@ Reads text (Fault (Cl fault)) = Stands fault text
 Reads text (Fault (Cm fault)) = IsTabled text (Err fault)
 Reads text NotBuilt = (l : Line) × IsTabled text (Ok l) × IsUnbuilt l
 Reads text (Call c) = IsTabled text (Ok (line.Change c)) × (is_built c ≡ true)
+
+-- a line's command keeps its forms and ranges
+abbrev pub IsFitLine : Line → Type 0
+IsFitLine (line.Change c) = IsFit c
+IsFitLine (line.Read ask) = ⊤
+
+-- and so does the command of a call, which is built
+abbrev pub IsFitReading : Reading → Type 0
+IsFitReading (Fault fault) = ⊤
+IsFitReading NotBuilt = ⊤
+IsFitReading (Call c) = IsFit c × (is_built c ≡ true)

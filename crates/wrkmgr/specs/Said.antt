@@ -18,6 +18,9 @@ use Rattle.wm_command.specs.declared.fault.CmdFault.TheVariants.{UnknownCommand,
 use Rattle.wm_command.specs.declared.fault.CmdFault.TheVariants as cm
 use Rattle.wm_law.specs.declared.command.Command.{Command}
 use Rattle.wm_law.specs.declared.command.Command.TheVariants as command
+use Rattle.wm_law.specs.declared.call.Call.{Call}
+use Rattle.wm_law.specs.declared.call.Call.TheVariants.{Change}
+use Rattle.wm_law.specs.declared.call.Entry.{Entry}
 use Rattle.wm_law.specs.declared.call.Reply.{Reply}
 use Rattle.wrkmgr.specs.declared.reading.LineFault.{LineFault}
 use Rattle.wrkmgr.specs.declared.reading.LineFault.TheVariants.{Cl, Cm}
@@ -62,6 +65,14 @@ said_text c (Order asked) = order_text asked
 said_text c Nothing = codes "NOTHING"
 said_text c Noted = codes "NOTED"
 said_text c (No refusal) = codes "NO " ++ refusal_text refusal
+
+abbrev pub call_text : Call → Reply → List ℕ
+call_text (Change user c) reply = said_text c reply
+call_text c reply = []
+
+-- what is said of an entry: that of its command
+abbrev pub entry_text : Entry → List ℕ
+entry_text e = call_text e.call e.reply
 
 -- the number and the word of a text's fault, and its place; want of memory has no line
 abbrev pub cl_text : ClFault → List ℕ

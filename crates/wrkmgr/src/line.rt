@@ -1,53 +1,53 @@
-// The line that is being read.
+// Reading a logical line.
+ghost use Rattle.std.specs.Prelude.{◌≡◌, ℕ, List, Ok, IfOk};
+ghost use Rattle.wm_clwords.specs.Faults.{IsCommand};
+ghost use Rattle.wm_clwords.specs.Items.{list_marks};
+ghost use Rattle.wrkmgr.specs.Reading.{IsTabled, Reads, IsFitLine, IsFitReading};
+
+use crate::reading::{LineFault, Reading};
 use std::alloc::{AllocError, Global};
+use wm_base::Name;
+use wm_clwords::{ClFault, Tree, read_command};
+use wm_command::{CmdFault, Line, command};
+use wm_law::built;
 
-/// How many bytes a line has at the most.
-pub const MOST_BYTES: usize = 8192;
-
-/// The bytes behind the last LF, of which no more are kept than a line may have.
-#[derive(Debug, Drop)]
-pub struct LineBuffer {
-    bytes: Vec<u8>,
-    long: bool,
+// What a line of the command table comes to.
+fn reading_of(line: Line) -> Reading
+    requires { IsFitLine line }
+    ensures reads { (text : List ℕ) → IsTabled text (Ok line) → Reads text result }
+    ensures fit { IsFitReading result }
+{
+    match line {
+        Line::Read(_) => Reading::NotBuilt,
+        Line::Change(command) => match built(&command) {
+            Ok(()) => Reading::Call(command),
+            Err(_) => Reading::NotBuilt,
+        },
+    }
 }
 
-impl LineBuffer {
-    ghost use Rattle.std.specs.Prelude.{◌≡◌, ◌++◌, ◌∷◌, [], ◌<◌, ◌↔◌, List, ℕ, length, IfOk, OnOk, MatchOption, IsTrue};
-    ghost use Rattle.wrkmgr.specs.LineBuffer.{Holds};
+fn read_tree(alloc: Global, tree: &Tree) -> Result<Reading, AllocError>
+    ensures reads { IfOk result (λ r. (text : List ℕ) → IsCommand text tree.now.name (list_marks tree.now.items.items) → Reads text r) }
+    ensures fit { IfOk result IsFitReading }
+{
+    match command(alloc, &Name::of(b"QUSER"), tree) {
+        Ok(line) => Ok(reading_of(line)),
+        Err(CmdFault::NoMemory) => Err(AllocError),
+        Err(fault) => Ok(Reading::Fault(LineFault::Cm(fault))),
+    }
+}
 
-    pub fn new(alloc: Global) -> LineBuffer
-        ensures { Holds result [] }
-    {
-        LineBuffer {
-            bytes: Vec::new(alloc),
-            long: false,
+/// Reads a logical line. An `Err` is want of memory.
+pub fn read_line(alloc: Global, text: &[u8]) -> Result<Reading, AllocError>
+    ensures reads { IfOk result (λ r. Reads text.now r) }
+    ensures fit { IfOk result IsFitReading }
+{
+    match read_command(alloc, text) {
+        Ok(tree) => {
+            let reading = read_tree(alloc, &tree)?;
+            Ok(reading)
         }
-    }
-
-    /// Adds a byte. An `Err` is want of memory; it comes only while the line isn't too long.
-    pub fn push(&mut self, byte: u8) -> Result<(), AllocError>
-        ensures { OnOk result ((rest : List ℕ) → Holds self.old rest → Holds self.new (rest ++ byte ∷ [])) }
-    {
-        if self.bytes.len() < MOST_BYTES {
-            self.bytes.push(byte)?;
-        } else {
-            self.long = true;
-        }
-        Ok(())
-    }
-
-    /// The line, where it isn't longer than a line may be.
-    pub fn line(&self) -> Option<&[u8]>
-        ensures { (rest : List ℕ) → Holds self.now rest → MatchOption result (8192 < length rest) (λ line. line.now ≡ rest) }
-    {
-        if self.long { None } else { Some(&self.bytes) }
-    }
-
-    /// Begins the next line.
-    pub fn clear(&mut self)
-        ensures { Holds self.new [] }
-    {
-        self.bytes.clear();
-        self.long = false;
+        Err(ClFault::NoMemory) => Err(AllocError),
+        Err(fault) => Ok(Reading::Fault(LineFault::Cl(fault))),
     }
 }

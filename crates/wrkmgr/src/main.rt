@@ -6,17 +6,18 @@
 
 ghost use Rattle.std.specs.Prelude.{◌≡◌, ◌⊎◌, IfErr};
 
+mod calls;
 mod finish;
 mod floor;
 mod input;
 mod line;
 mod monitor;
+mod reading;
 mod report;
 mod run;
 mod said;
 mod session;
 mod stop;
-mod submission;
 #[cfg(test)]
 mod tests;
 mod write;

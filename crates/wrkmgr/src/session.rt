@@ -1,18 +1,22 @@
 // The session's calls and answers, and the monitor's turns between them.
 ghost use Rattle.std.specs.Prelude.{◌≡◌, ◌≤◌, ℕ, Err, OnOk, OnErr, IsErrOf, IfOk, IfSome, take};
+ghost use Rattle.std.specs.Prelude.{string_bytes};
 ghost use Rattle.wm_outside.specs.Told.{Grows};
 ghost use Rattle.wm_outside.specs.Cause.{raised};
+ghost use Rattle.wrkmgr.specs.Said.{entry_text, with_end};
 
 use crate::floor::Floor;
 use crate::monitor::Monitor;
-use crate::said::{is_refused, said_line};
+use crate::line::read_line;
+use crate::reading::{LineFault, Reading};
+use crate::said::{ended, fault_line, is_refused, said};
 use crate::stop::Stop;
-use crate::submission::{read_line, submission};
 use crate::write::write_all;
 use std::alloc::{AllocError, Global};
 use std::sync::Wait;
-use wm_clwords::{First, FirstFault};
-use wm_law::Call;
+use wm_base::Name;
+use wm_clwords::ClFault;
+use wm_law::{Call, Command, Entry, built_commands_are_had};
 use wm_outside::{Clock, Sink, Spawner};
 
 /// The pass of the session.
@@ -42,22 +46,37 @@ pub(crate) fn put<O: Sink>(out: &mut O, bytes: &[u8]) -> Result<(), Stop>
     }
 }
 
+// What is said of an entry, with the line's end.
+fn entry_line(alloc: Global, entry: &Entry) -> Result<String, AllocError>
+    ensures { IfOk result (λ line. string_bytes line ≡ with_end (entry_text entry.now)) }
+{
+    let text = match &entry.call {
+        Call::Change { command, .. } => said(alloc, command, &entry.reply)?,
+        _ => String::new(alloc),
+    };
+    let line = ended(text)?;
+    Ok(line)
+}
+
 impl Run {
-    ghost use Rattle.std.specs.Prelude.{◌≡◌, ◌≤◌, ℕ, Err, OnOk, OnErr, IsErrOf, IfOk, IfSome, take};
-    ghost use Rattle.wm_law.specs.Fit.{IsCall, IsBuilt};
+    ghost use Rattle.std.specs.Prelude.{◌≡◌, ◌≤◌, ℕ, Err, OnOk, OnErr, IsErrOf, IfOk, IfSome, take, true};
+    ghost use Rattle.std.specs.Option.{option_copied};
+    ghost use Rattle.wm_law.specs.Built.{is_built};
+    ghost use Rattle.wm_law.specs.Fit.{IsCall, IsBuilt, IsCommand};
     ghost use Rattle.wm_law.specs.History.{after};
     ghost use Rattle.wm_law.specs.Opening.{opening};
     ghost use Rattle.wm_outside.specs.Told.{Grows};
     ghost use Rattle.wm_outside.specs.Cause.{raised};
     ghost use Rattle.wrkmgr.specs.Floor.{last_of};
-    ghost use Rattle.wrkmgr.specs.Said.{said_text, with_end, is_refused};
+    ghost use Rattle.wrkmgr.specs.Said.{entry_text, with_end, is_refused};
+    ghost use Rattle.wrkmgr.specs.Reading.{IsFitReading};
     ghost use Rattle.std.specs.Prelude.{◌-◌, None, Ok, length};
     ghost use Rattle.wm_law.specs.History.{entries_of};
     ghost use Rattle.wrkmgr.specs.Calls.{Called};
     ghost use Rattle.wrkmgr.specs.Lists.{since};
     ghost use Rattle.wrkmgr.specs.Monitor.{Advances, IsIdle};
     ghost use Rattle.wrkmgr.specs.Serving.{Serves};
-    ghost use Rattle.wrkmgr.specs.Session.{AnsweredBy, AnswersLine, Submits, session_pass};
+    ghost use Rattle.wrkmgr.specs.Session.{AnsweredBy, AnswersLine, AnswersReading, Calls, session_pass};
     ghost use Rattle.wrkmgr.specs.Stop.{HasCauses, HasMonitorCauses};
     ghost use Rattle.wrkmgr.specs.Stopped.{IsCutShort};
     ghost use Rattle.wrkmgr.specs.View.{view};
@@ -79,12 +98,12 @@ impl Run {
         Ok(())
     }
 
-    // Writes what is said of the last entry's reply, and answers whether it is a refusal.
+    // Writes what is said of the last entry, and answers whether it is a refusal.
     fn reply<O: Sink>(&self, alloc: Global, out: &mut O) -> Result<bool, Stop>
         ensures ok { IfOk result (λ refused. IfSome (last_of self.now.floor) (λ e.
-            Grows (O.written out.old) (O.written out.new) (with_end (said_text e.reply)) × (refused ≡ is_refused e.reply))) }
+            Grows (O.written out.old) (O.written out.new) (with_end (entry_text e)) × (refused ≡ is_refused e.reply))) }
         ensures some { OnErr result (IfSome (last_of self.now.floor) (λ e.
-            (n : ℕ) × Grows (O.written out.old) (O.written out.new) (take n (with_end (said_text e.reply))))) }
+            (n : ℕ) × Grows (O.written out.old) (O.written out.new) (take n (with_end (entry_text e))))) }
         ensures faults { O.faults out.old ≤ O.faults out.new }
         ensures write_fault { IsErrOf result Stop.WriteFault → raised (O.faults out.old) ≤ O.faults out.new }
         ensures no_wait { IsErrOf result Stop.WaitFault → ⊥ }
@@ -94,7 +113,7 @@ impl Run {
         let Some(entry) = self.floor.last() else {
             return Ok(false);
         };
-        let line = said_line(alloc, &entry.reply)?;
+        let line = entry_line(alloc, entry)?;
         put(out, line.as_bytes())?;
         Ok(is_refused(&entry.reply))
     }
@@ -142,58 +161,87 @@ impl Run {
         }
     }
 
-    // Submits the job of a line, answers the line, and lets the monitor turn.
-    fn submit<O: Sink, P: Spawner, C: Clock>(
+    // Makes the call of a user's command, says its reply, and lets the monitor turn.
+    fn call_command<O: Sink, P: Spawner, C: Clock>(
         &mut self,
         alloc: Global,
         out: &mut O,
         spawner: &mut P,
         clock: &mut C,
-        first: &First,
+        command: Command,
     ) -> Result<bool, Stop>
-        requires { length first.now.text ≤ 100 }
+        requires fit { IsCommand command }
+        requires built { is_built command ≡ true }
         ensures serves { Serves (view self.old.floor self.old.monitor (P.asked spawner.old) (P.told spawner.old) (P.misses spawner.old))
             (view self.new.floor self.new.monitor (P.asked spawner.new) (P.told spawner.new) (P.misses spawner.new)) }
-        ensures answered { IfOk result (λ faulty. AnsweredBy (Submits first.now.text first.now.name)
+        ensures answered { IfOk result (λ faulty. AnsweredBy (Calls command)
             (entries_of session_pass (since self.old.floor self.new.floor)) (O.written out.old) (O.written out.new) faulty) }
-        ensures stopped { OnErr result (IsCutShort (Submits first.now.text first.now.name)
+        ensures stopped { OnErr result (IsCutShort (Calls command)
             (entries_of session_pass (since self.old.floor self.new.floor)) (O.written out.old) (O.written out.new)) }
         ensures causes { HasCauses result (O.faults out.old) (O.faults out.new) (P.faults spawner.old) (P.faults spawner.new) }
     {
-        let submitted = submission(alloc, first)?;
-        self.call(alloc, clock, submitted)?;
+        built_commands_are_had();
+        let user = Name::of(b"QUSER");
+        self.call(alloc, clock, Call::Change { user, command })?;
         let refused = self.reply(alloc, out)?;
         self.turn(alloc, spawner, clock)?;
         Ok(refused)
     }
 
-    // Answers one line: an empty one not at all, one that isn't built by its fault, another by its reply.
+    // Answers a reading: an empty line not at all, a fault by its line, a call by its reply.
+    fn answer_reading<O: Sink, P: Spawner, C: Clock>(
+        &mut self,
+        alloc: Global,
+        out: &mut O,
+        spawner: &mut P,
+        clock: &mut C,
+        reading: Reading,
+    ) -> Result<bool, Stop>
+        requires { IsFitReading reading }
+        ensures serves { Serves (view self.old.floor self.old.monitor (P.asked spawner.old) (P.told spawner.old) (P.misses spawner.old))
+            (view self.new.floor self.new.monitor (P.asked spawner.new) (P.told spawner.new) (P.misses spawner.new)) }
+        ensures answered { IfOk result (λ faulty. AnsweredBy (AnswersReading reading)
+            (entries_of session_pass (since self.old.floor self.new.floor)) (O.written out.old) (O.written out.new) faulty) }
+        ensures stopped { OnErr result (IsCutShort (AnswersReading reading)
+            (entries_of session_pass (since self.old.floor self.new.floor)) (O.written out.old) (O.written out.new)) }
+        ensures causes { HasCauses result (O.faults out.old) (O.faults out.new) (P.faults spawner.old) (P.faults spawner.new) }
+    {
+        match reading {
+            Reading::Fault(LineFault::Cl(ClFault::Empty)) => Ok(false),
+            Reading::Fault(fault) => {
+                let line = ended(fault_line(alloc, &fault)?)?;
+                put(out, line.as_bytes())?;
+                Ok(true)
+            }
+            Reading::NotBuilt => {
+                put(out, NOT_BUILT)?;
+                Ok(true)
+            }
+            Reading::Call(command) => self.call_command(alloc, out, spawner, clock, command),
+        }
+    }
+
+    // Answers one logical line, which may be too long.
     pub(crate) fn answer<O: Sink, P: Spawner, C: Clock>(
         &mut self,
         alloc: Global,
         out: &mut O,
         spawner: &mut P,
         clock: &mut C,
-        line: &[u8],
+        line: Option<&[u8]>,
     ) -> Result<bool, Stop>
         ensures serves { Serves (view self.old.floor self.old.monitor (P.asked spawner.old) (P.told spawner.old) (P.misses spawner.old))
             (view self.new.floor self.new.monitor (P.asked spawner.new) (P.told spawner.new) (P.misses spawner.new)) }
-        ensures answered { IfOk result (λ faulty. AnsweredBy (AnswersLine line.now)
+        ensures answered { IfOk result (λ faulty. AnsweredBy (AnswersLine (option_copied line.entry))
             (entries_of session_pass (since self.old.floor self.new.floor)) (O.written out.old) (O.written out.new) faulty) }
-        ensures stopped { OnErr result (IsCutShort (AnswersLine line.now)
+        ensures stopped { OnErr result (IsCutShort (AnswersLine (option_copied line.entry))
             (entries_of session_pass (since self.old.floor self.new.floor)) (O.written out.old) (O.written out.new)) }
         ensures causes { HasCauses result (O.faults out.old) (O.faults out.new) (P.faults spawner.old) (P.faults spawner.new) }
     {
-        if line.is_empty() {
-            return Ok(false);
-        }
-        match read_line(alloc, line) {
-            Ok(first) => self.submit(alloc, out, spawner, clock, &first),
-            Err(FirstFault::NotBuilt) => {
-                put(out, NOT_BUILT)?;
-                Ok(true)
-            }
-            Err(FirstFault::NoMemory) => Err(Stop::NoMemory),
-        }
+        let reading = match line {
+            None => Reading::Fault(LineFault::Cl(ClFault::TooLong)),
+            Some(text) => read_line(alloc, text)?,
+        };
+        self.answer_reading(alloc, out, spawner, clock, reading)
     }
 }
