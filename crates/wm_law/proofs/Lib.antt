@@ -6,6 +6,8 @@ pub mod Requests
 pub mod Ranks
 pub mod Firsts
 pub mod Numbers
+pub mod Named
+pub mod InOrder
 pub mod Objects
 pub mod Forward
 pub mod Starts

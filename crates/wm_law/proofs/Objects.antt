@@ -18,6 +18,8 @@ use Rattle.wm_law.specs.declared.command.Rmvjobqe.{Rmvjobqe}
 use Rattle.wm_law.specs.declared.command.Rmvrtge.{Rmvrtge}
 use Rattle.wm_law.specs.declared.state.Sbs.{Sbs}
 use Rattle.wm_law.specs.declared.state.State.{State}
+use Rattle.wm_law.proofs.InOrder.{sorted_added, sorted_removed, in_inserted}
+use Rattle.wm_law.proofs.Named.{named_still, named_before, changed_named, one_name, own_name}
 use Rattle.wm_law.specs.Kept.{IsRouted}
 use Rattle.wm_law.specs.Laws.{IsIn}
 use Rattle.wm_law.specs.Making.{class_of, jobd_of, queue_entry_of, route_entry_of, unless_in_use}
