@@ -114,3 +114,35 @@ module _ {V : Type 0} where
   pub changed_named : (name q : QName) (change : V → V) (objects : List (QName × V)) → object_named q (changed name change objects) ≡ option_map (λ d. cond (same_qname name q) (change d) d) (object_named q objects)
   changed_named name q change [] = refl
   changed_named name q change (object ∷ objects) = changed_first name q change object objects (changed name change objects) (same_qname object.0 name) (same_qname object.0 q) (same_qname name q) refl refl refl (changed_named name q change objects)
+
+  changed_never : (change : V → V) (o : Option V) → option_map (changed_if false change) o ≡ o
+  changed_never change None = refl
+  changed_never change (Some d) = refl
+
+  -- what has another name is found the same
+  pub changed_other : (name q : QName) (change : V → V) (objects : List (QName × V)) → same_qname name q ≡ false → object_named q (changed name change objects) ≡ object_named q objects
+  changed_other name q change objects h =
+      changed_named name q change objects
+      ∙ ap (λ (t : Bool). option_map (changed_if t change) (object_named q objects)) h
+      ∙ changed_never change (object_named q objects)
+
+  -- the description stood there, or it was changed and has the name
+  abbrev pub IsChangeOf : QName → QName → (V → V) → V → V → Type 0
+  IsChangeOf name q change c d = (d ≡ c) ⊎ ((name ≡ q) × (d ≡ change c))
+
+  changed_by : (name q : QName) (change : V → V) (o : Option V) (d : V) (t : Bool) → same_qname name q ≡ t → option_map (changed_if t change) o ≡ Some d → (c : V) × (o ≡ Some c) × IsChangeOf name q change c d
+  changed_by name q change None d t h e = absurd (cc)
+  changed_by name q change (Some c) d true h e = let same : change c ≡ d = cc in (c, refl, inr (one_name name q h, sym same))
+  changed_by name q change (Some c) d false h e = let same : c ≡ d = cc in (c, refl, inl (sym same))
+
+  pub changed_before : (name q : QName) (change : V → V) (objects : List (QName × V)) (d : V) → object_named q (changed name change objects) ≡ Some d → (c : V) × (object_named q objects ≡ Some c) × IsChangeOf name q change c d
+  changed_before name q change objects d e = changed_by name q change (object_named q objects) d (same_qname name q) refl (sym (changed_named name q change objects) ∙ e)
+
+other_by : (a b : QName) (t : Bool) → same_qname b a ≡ t → same_qname a b ≡ false → t ≡ false
+other_by a b true h e =
+    let test : same_qname a b ≡ true = subst (λ (n : QName). same_qname a n ≡ true) (sym (one_name b a h)) (own_name a) in
+    absurd (cc)
+other_by a b false h e = refl
+
+pub other_name : (a b : QName) → same_qname a b ≡ false → same_qname b a ≡ false
+other_name a b e = other_by a b (same_qname b a) refl e
