@@ -13,6 +13,8 @@ pub mod Forward
 pub mod Starts
 pub mod Members
 pub mod Moves
+pub mod Lodged
+pub mod Remade
 pub mod Orders
 pub mod Started
 pub mod Routing
