@@ -1,6 +1,6 @@
 -- Routing entries stay in the order of their numbers where one more comes or one goes.
-use Rattle.std.proofs.Common.{◌≡◌, ◌⊎◌, ℕ, zero, suc, ◌<◌, ◌≤◌, ◌+◌, ◌||◌, Bool, true, false, cond, not, List, [], ◌∷◌, length, get_or, nat_eq, take, drop, refl, sym, ap, subst, ◌∙◌, inl, inr, arith}
-use Rattle.std.specs.List.{All, AllPairs, count_by, insert, list_any}
+use Rattle.std.proofs.Common.{◌≡◌, ◌⊎◌, ℕ, zero, suc, ◌<◌, ◌+◌, ◌||◌, Bool, true, false, cond, not, List, [], ◌∷◌, length, get_or, nat_eq, take, drop, refl, sym, ap, subst, inl, inr, arith}
+use Rattle.std.specs.List.{All, insert, list_any}
 use Rattle.std.specs.Ordering.{nat_cmp, is_lt}
 use Rattle.std.specs.declared.cmp.Ordering.{Ordering}
 use Rattle.std.specs.declared.cmp.Ordering.TheVariants.{Less, Equal, Greater}
@@ -15,7 +15,7 @@ use Rattle.wm_desc.specs.Sorted.{IsSortedOnce, place_of, added, removed}
 use Rattle.wm_desc.specs.Refusals.{seq_used}
 use Rattle.wm_law.specs.Laws.{IsIn}
 
-abbrev IsSorted : List RouteEntry → Type 0
+abbrev pub IsSorted : List RouteEntry → Type 0
 IsSorted entries = IsSortedOnce (λ (e : RouteEntry). e.seq) nat_cmp entries
 
 abbrev IsBelow : RouteEntry → RouteEntry → Type 0
@@ -96,7 +96,7 @@ sorted_by x y xs false e n s h =
     (sym (none_before x.seq (y ∷ xs) (All-weaker (IsBelow x) (λ z. x.seq < z.seq) (λ z l. less_of x.seq z.seq l) (y ∷ xs) all)))
     (AllPairs-cons IsBelow x (y ∷ xs) all s)
 
-of_neither : (a b : Bool) → (a || b) ≡ false → (a ≡ false) × (b ≡ false)
+pub of_neither : (a b : Bool) → (a || b) ≡ false → (a ≡ false) × (b ≡ false)
 of_neither true b e = absurd (cc)
 of_neither false b e = (refl, e)
 

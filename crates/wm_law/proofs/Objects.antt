@@ -2,7 +2,6 @@
 use Rattle.std.proofs.Common.{◌≡◌, ◌⊎◌, ◌||◌, ◌&&◌, Bool, true, false, cond, not, List, [], ◌∷◌, Option, Some, None, is_some, nat_eq, refl, sym, ap, subst, ◌∙◌, inl, inr, arith}
 use Rattle.std.specs.List.{list_any}
 use Rattle.std.specs.Option.{IsSome, option_map_or}
-use Rattle.std.specs.Ordering.{nat_cmp}
 use Rattle.wm_base.specs.declared.qname.QName.{QName}
 use Rattle.wm_base.specs.declared.refusal.Kind.{Kind}
 use Rattle.wm_base.specs.declared.refusal.Kind.TheVariants as kind
@@ -12,7 +11,6 @@ use Rattle.wm_base.specs.declared.job.Class.{Class}
 use Rattle.wm_desc.proofs.Tables.{test_fails}
 use Rattle.wm_desc.specs.declared.description.Sbsd.{Sbsd}
 use Rattle.wm_desc.specs.declared.entry.RouteEntry.{RouteEntry}
-use Rattle.wm_desc.specs.Sorted.{IsSortedOnce}
 use Rattle.wm_desc.specs.Objects.{empty_sbsd, with_class, with_jobq, with_program, with_jobd, with_sbsd, with_description, with_queue, with_route, without_queue, without_route}
 use Rattle.wm_desc.specs.Refusals.{is_full, by_description, first_refusal, seq_used, route_tests, object_refusal, program_refusal, queue_refusal, route_refusal, remove_queue_refusal, remove_route_refusal}
 use Rattle.wm_desc.specs.Table.{object_named, has_object, same_qname, is_qcmd}
@@ -29,7 +27,7 @@ use Rattle.wm_law.specs.declared.command.Rmvrtge.{Rmvrtge}
 use Rattle.wm_law.specs.declared.state.Sbs.{Sbs}
 use Rattle.wm_law.specs.declared.state.State.{State}
 use Rattle.wm_law.proofs.Members.{left_in}
-use Rattle.wm_law.proofs.InOrder.{sorted_added, sorted_removed, in_inserted}
+use Rattle.wm_law.proofs.InOrder.{IsSorted, of_neither, sorted_added, sorted_removed, in_inserted}
 use Rattle.wm_law.proofs.Named.{is_named, named_still, named_before, changed_other, changed_before, other_name}
 use Rattle.wm_law.specs.Kept.{IsRouted}
 use Rattle.wm_law.specs.Laws.{IsIn}
@@ -41,10 +39,6 @@ pub record IsObjectChange (s : State) (o : Objects) : Type 0 where
   pub programs : (q : QName) → IsSome (object_named q s.objects.programs) → object_named q o.programs ≡ object_named q s.objects.programs
   pub classes : (q : QName) → IsSome (object_named q s.objects.classes) → object_named q o.classes ≡ object_named q s.objects.classes
   pub routed : IsRouted s.objects → IsRouted o
-
-of_neither : (a b : Bool) → (a || b) ≡ false → (a ≡ false) × (b ≡ false)
-of_neither true b e = absurd (cc)
-of_neither false b e = (refl, e)
 
 of_not : (b : Bool) → not b ≡ false → b ≡ true
 of_not true e = refl
@@ -94,9 +88,6 @@ program_made s c e =
 
 pub job_description_made : (s : State) (c : Crtjobd) → object_refusal kind.Jobd c.jobd s.objects.jobds ≡ None → IsObjectChange s (with_jobd c.jobd (jobd_of c) s.objects)
 job_description_made s c e = alike s _ refl refl refl
-
-abbrev IsSorted : List RouteEntry → Type 0
-IsSorted entries = IsSortedOnce (λ (e : RouteEntry). e.seq) nat_cmp entries
 
 -- a description without entries has nothing to keep
 made_sorted : (c : Crtsbsd) (objects : Objects) (sbs : QName) (d : Sbsd) → IsRouted objects → (d ≡ empty_sbsd c.maxjobs) ⊎ (object_named sbs objects.sbsds ≡ Some d) → IsSorted d.routes
