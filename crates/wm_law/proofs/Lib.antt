@@ -7,11 +7,15 @@ pub mod Had
 pub mod Ranks
 pub mod Firsts
 pub mod Numbers
+pub mod Named
+pub mod InOrder
 pub mod Objects
 pub mod Forward
 pub mod Starts
 pub mod Members
 pub mod Moves
+pub mod Lodged
+pub mod Remade
 pub mod Orders
 pub mod Started
 pub mod Routing

@@ -1,11 +1,19 @@
 -- What a command that makes or changes objects leaves as it was.
-use Rattle.std.proofs.Common.{◌≡◌, Option, None}
-use Rattle.std.specs.Option.{IsSome}
+use Rattle.std.proofs.Common.{◌≡◌, ◌⊎◌, ◌||◌, ◌&&◌, Bool, true, false, cond, not, List, [], ◌∷◌, Option, Some, None, is_some, nat_eq, refl, sym, ap, subst, ◌∙◌, inl, inr, arith}
+use Rattle.std.specs.List.{list_any}
+use Rattle.std.specs.Option.{IsSome, option_map_or}
 use Rattle.wm_base.specs.declared.qname.QName.{QName}
+use Rattle.wm_base.specs.declared.refusal.Kind.{Kind}
 use Rattle.wm_base.specs.declared.refusal.Kind.TheVariants as kind
-use Rattle.wm_desc.specs.Objects.{with_class, with_jobq, with_program, with_jobd, with_sbsd, with_description, with_queue, with_route, without_queue, without_route}
-use Rattle.wm_desc.specs.Refusals.{object_refusal, program_refusal, queue_refusal, route_refusal, remove_queue_refusal, remove_route_refusal}
-use Rattle.wm_desc.specs.Table.{object_named}
+use Rattle.wm_base.specs.declared.refusal.Refusal.{Refusal}
+use Rattle.wm_base.specs.declared.refusal.Refusal.TheVariants.{SbsActive, NoObject, Exists, TableFull}
+use Rattle.wm_base.specs.declared.job.Class.{Class}
+use Rattle.wm_desc.proofs.Tables.{test_fails}
+use Rattle.wm_desc.specs.declared.description.Sbsd.{Sbsd}
+use Rattle.wm_desc.specs.declared.entry.RouteEntry.{RouteEntry}
+use Rattle.wm_desc.specs.Objects.{empty_sbsd, with_class, with_jobq, with_program, with_jobd, with_sbsd, with_description, with_queue, with_route, without_queue, without_route}
+use Rattle.wm_desc.specs.Refusals.{is_full, by_description, first_refusal, seq_used, route_tests, object_refusal, program_refusal, queue_refusal, route_refusal, remove_queue_refusal, remove_route_refusal}
+use Rattle.wm_desc.specs.Table.{object_named, has_object, same_qname, is_qcmd}
 use Rattle.wm_desc.specs.declared.objects.Objects.{Objects}
 use Rattle.wm_law.specs.declared.command.Addjobqe.{Addjobqe}
 use Rattle.wm_law.specs.declared.command.Addrtge.{Addrtge}
@@ -18,9 +26,12 @@ use Rattle.wm_law.specs.declared.command.Rmvjobqe.{Rmvjobqe}
 use Rattle.wm_law.specs.declared.command.Rmvrtge.{Rmvrtge}
 use Rattle.wm_law.specs.declared.state.Sbs.{Sbs}
 use Rattle.wm_law.specs.declared.state.State.{State}
+use Rattle.wm_law.proofs.Members.{left_in}
+use Rattle.wm_law.proofs.InOrder.{IsSorted, of_neither, sorted_added, sorted_removed, in_inserted}
+use Rattle.wm_law.proofs.Named.{is_named, named_still, named_before, changed_other, changed_before, other_name}
 use Rattle.wm_law.specs.Kept.{IsRouted}
 use Rattle.wm_law.specs.Laws.{IsIn}
-use Rattle.wm_law.specs.Making.{class_of, jobd_of, queue_entry_of, route_entry_of, unless_in_use}
+use Rattle.wm_law.specs.Making.{is_in_use, class_of, jobd_of, queue_entry_of, route_entry_of, unless_in_use}
 
 -- started subsystems keep their descriptions, programs and classes stay, and the routing entries keep their order and classes
 pub record IsObjectChange (s : State) (o : Objects) : Type 0 where
@@ -29,29 +40,162 @@ pub record IsObjectChange (s : State) (o : Objects) : Type 0 where
   pub classes : (q : QName) → IsSome (object_named q s.objects.classes) → object_named q o.classes ≡ object_named q s.objects.classes
   pub routed : IsRouted s.objects → IsRouted o
 
+of_not : (b : Bool) → not b ≡ false → b ≡ true
+of_not true e = refl
+of_not false e = absurd (cc)
+
+-- a name that isn't refused is new
+new_object : {V : Type 0} (k : Kind) (name : QName) (objects : List (QName × V)) → object_refusal k name objects ≡ None → has_object name objects ≡ false
+new_object k name objects e = test_fails ((has_object name objects, Exists k) ∷ (is_full 1000 objects, TableFull k 1000) ∷ []) 0 SbsActive e
+
+-- classes that are found are found the same, so the routing entries keep theirs
+classes_routed : (s : State) (o : Objects) → o.sbsds ≡ s.objects.sbsds → ((q : QName) → IsSome (object_named q s.objects.classes) → object_named q o.classes ≡ object_named q s.objects.classes) → IsRouted s.objects → IsRouted o
+classes_routed s o same still r =
+    record {
+      sorted = λ sbs d k. r.sorted sbs d (ap (object_named sbs) (sym same) ∙ k);
+      classes = λ sbs d e k i. (let c = r.classes sbs d e (ap (object_named sbs) (sym same) ∙ k) i in subst (λ (x : Option Class). IsSome x) (sym (still e.cls c)) c);
+    }
+
 pub class_made : (s : State) (c : Crtcls) → object_refusal kind.Cls c.cls s.objects.classes ≡ None → IsObjectChange s (with_class c.cls (class_of c) s.objects)
-class_made s c e = ?
+class_made s c e =
+    let new = new_object kind.Cls c.cls s.objects.classes e in
+    let still = λ (q : QName) (h : IsSome (object_named q s.objects.classes)). named_still c.cls q (class_of c) s.objects.classes new h in
+    record { described = λ b i h. refl; programs = λ q h. refl; classes = still; routed = classes_routed s (with_class c.cls (class_of c) s.objects) refl still }
+
+-- what leaves subsystem descriptions, programs and classes
+alike : (s : State) (o : Objects) → o.sbsds ≡ s.objects.sbsds → o.programs ≡ s.objects.programs → o.classes ≡ s.objects.classes → IsObjectChange s o
+alike s o e f g =
+    record {
+      described = λ b i h. ap (object_named b.sbsd) e;
+      programs = λ q h. ap (object_named q) f;
+      classes = λ q h. ap (object_named q) g;
+      routed = classes_routed s o e (λ q h. ap (object_named q) g);
+    }
 
 pub queue_made : (s : State) (c : Crtjobq) → object_refusal kind.Jobq c.jobq s.objects.jobqs ≡ None → IsObjectChange s (with_jobq c.jobq s.objects)
-queue_made s c e = ?
+queue_made s c e = alike s _ refl refl refl
 
 pub program_made : (s : State) (c : Crtpgmref) → program_refusal c.pgm s.objects.programs ≡ None → IsObjectChange s (with_program c.pgm c.path s.objects)
-program_made s c e = ?
+program_made s c e =
+    let test = test_fails ((is_qcmd c.pgm || has_object c.pgm s.objects.programs, Exists kind.Pgm) ∷ (is_full 1000 s.objects.programs, TableFull kind.Pgm 1000) ∷ []) 0 SbsActive e in
+    let new = (of_neither (is_qcmd c.pgm) (has_object c.pgm s.objects.programs) test).1 in
+    record {
+      described = λ b i h. refl;
+      programs = λ q h. named_still c.pgm q (record { path = c.path }) s.objects.programs new h;
+      classes = λ q h. refl;
+      routed = classes_routed s (with_program c.pgm c.path s.objects) refl (λ q h. refl);
+    }
 
 pub job_description_made : (s : State) (c : Crtjobd) → object_refusal kind.Jobd c.jobd s.objects.jobds ≡ None → IsObjectChange s (with_jobd c.jobd (jobd_of c) s.objects)
-job_description_made s c e = ?
+job_description_made s c e = alike s _ refl refl refl
+
+-- a description without entries has nothing to keep
+made_sorted : (c : Crtsbsd) (objects : Objects) (sbs : QName) (d : Sbsd) → IsRouted objects → (d ≡ empty_sbsd c.maxjobs) ⊎ (object_named sbs objects.sbsds ≡ Some d) → IsSorted d.routes
+made_sorted c objects sbs d r (inl new) = subst (λ (x : Sbsd). IsSorted x.routes) (sym new) (λ i j e less h. absurd (omega arith))
+made_sorted c objects sbs d r (inr old) = r.sorted sbs d old
+
+made_classes : (c : Crtsbsd) (objects : Objects) (sbs : QName) (d : Sbsd) (e : RouteEntry) → IsRouted objects → IsIn e d.routes → (d ≡ empty_sbsd c.maxjobs) ⊎ (object_named sbs objects.sbsds ≡ Some d) → IsSome (object_named e.cls objects.classes)
+made_classes c objects sbs d e r i (inl new) = absurd (subst (λ (x : Sbsd). IsIn e x.routes) new i)
+made_classes c objects sbs d e r i (inr old) = r.classes sbs d e old i
 
 pub description_made : (s : State) (c : Crtsbsd) → object_refusal kind.Sbsd c.sbsd s.objects.sbsds ≡ None → IsObjectChange s (with_sbsd c.sbsd c.maxjobs s.objects)
-description_made s c e = ?
+description_made s c e =
+    let new = new_object kind.Sbsd c.sbsd s.objects.sbsds e in
+    let d = empty_sbsd c.maxjobs in
+    record {
+      described = λ b i h. named_still c.sbsd b.sbsd d s.objects.sbsds new h;
+      programs = λ q h. refl;
+      classes = λ q h. refl;
+      routed = λ r. record {
+        sorted = λ sbs x k. made_sorted c s.objects sbs x r (named_before c.sbsd sbs d x s.objects.sbsds k);
+        classes = λ sbs x n k i. made_classes c s.objects sbs x n r i (named_before c.sbsd sbs d x s.objects.sbsds k);
+      };
+    }
+
+-- the description is there, its subsystem isn't started, and it has none of the tests against it
+record IsFree (s : State) (sbsd : QName) (refusal : Sbsd → Option Refusal) : Type 0 where
+  description : Sbsd
+  named : object_named sbsd s.objects.sbsds ≡ Some description
+  unused : is_in_use s sbsd ≡ false
+  accepted : refusal description ≡ None
+
+of_none : (t : Bool) (x : Refusal) (o : Option Refusal) → cond t (Some x) o ≡ None → (t ≡ false) × (o ≡ None)
+of_none true x o e = absurd (cc)
+of_none false x o e = (refl, e)
+
+free_by : (s : State) (sbsd : QName) (refusal : Sbsd → Option Refusal) (o : Option Sbsd) → object_named sbsd s.objects.sbsds ≡ o → cond (is_some o && is_in_use s sbsd) (Some SbsActive) (option_map_or refusal o (Some (NoObject kind.Sbsd))) ≡ None → IsFree s sbsd refusal
+free_by s sbsd refusal None k e = absurd (cc)
+free_by s sbsd refusal (Some d) k e =
+    let tests = of_none (is_in_use s sbsd) SbsActive (refusal d) e in
+    record { description = d; named = k; unused = tests.0; accepted = tests.1 }
+
+free : (s : State) (sbsd : QName) (refusal : Sbsd → Option Refusal) → unless_in_use s sbsd (by_description s.objects sbsd refusal) ≡ None → IsFree s sbsd refusal
+free s sbsd refusal e = free_by s sbsd refusal (object_named sbsd s.objects.sbsds) refl e
+
+unused_by : (sbsd : QName) (started : List Sbs) (b : Sbs) → list_any (λ (x : Sbs). same_qname x.sbsd sbsd) started ≡ false → IsIn b started → same_qname b.sbsd sbsd ≡ false
+unused_by sbsd [] b e i = absurd i
+unused_by sbsd (x ∷ xs) b e (inl same) = subst (λ (y : Sbs). same_qname y.sbsd sbsd ≡ false) (sym same) (of_neither (same_qname x.sbsd sbsd) (list_any (λ (y : Sbs). same_qname y.sbsd sbsd) xs) e).0
+unused_by sbsd (x ∷ xs) b e (inr i) = unused_by sbsd xs b (of_neither (same_qname x.sbsd sbsd) (list_any (λ (y : Sbs). same_qname y.sbsd sbsd) xs) e).1 i
+
+-- a change keeps the order of the routing entries and adds none whose class isn't there
+record KeepsRoutes (objects : Objects) (change : Sbsd → Sbsd) (d : Sbsd) : Type 0 where
+  sorted : IsSorted d.routes → IsSorted (change d).routes
+  classes : (e : RouteEntry) → IsIn e (change d).routes → IsIn e d.routes ⊎ IsSome (object_named e.cls objects.classes)
+
+module _ (s : State) (sbsd : QName) (change : Sbsd → Sbsd) (keeps : (d : Sbsd) → object_named sbsd s.objects.sbsds ≡ Some d → KeepsRoutes s.objects change d) where
+  kept : (sbs : QName) (c : Sbsd) → object_named sbs s.objects.sbsds ≡ Some c → sbsd ≡ sbs → KeepsRoutes s.objects change c
+  kept sbs c old one = keeps c (ap (λ (q : QName). object_named q s.objects.sbsds) one ∙ old)
+
+  changed_sorted : (sbs : QName) (c d : Sbsd) → object_named sbs s.objects.sbsds ≡ Some c → IsSorted c.routes → (d ≡ c) ⊎ ((sbsd ≡ sbs) × (d ≡ change c)) → IsSorted d.routes
+  changed_sorted sbs c d old h (inl same) = subst (λ (x : Sbsd). IsSorted x.routes) (sym same) h
+  changed_sorted sbs c d old h (inr new) = subst (λ (x : Sbsd). IsSorted x.routes) (sym new.1) ((kept sbs c old new.0).sorted h)
+
+  changed_classes : (sbs : QName) (c d : Sbsd) (e : RouteEntry) → object_named sbs s.objects.sbsds ≡ Some c → (IsIn e c.routes → IsSome (object_named e.cls s.objects.classes)) → IsIn e d.routes → (d ≡ c) ⊎ ((sbsd ≡ sbs) × (d ≡ change c)) → IsSome (object_named e.cls s.objects.classes)
+  changed_classes sbs c d e old h i (inl same) = h (subst (λ (x : Sbsd). IsIn e x.routes) same i)
+  changed_classes sbs c d e old h i (inr new) =
+      elim ((kept sbs c old new.0).classes e (subst (λ (x : Sbsd). IsIn e x.routes) new.1 i)) as (λ _. IsSome (object_named e.cls s.objects.classes)) [ inl was ↦ h was | inr there ↦ there ]
+
+  -- so it is a change of objects where no started subsystem has the description
+  description_changed : is_in_use s sbsd ≡ false → IsObjectChange s (with_description sbsd change s.objects)
+  description_changed unused =
+      record {
+        described = λ b i h. changed_other sbsd b.sbsd change s.objects.sbsds (other_name b.sbsd sbsd (unused_by sbsd s.started b unused i));
+        programs = λ q h. refl;
+        classes = λ q h. refl;
+        routed = λ r. record {
+          sorted = λ sbs d k. (let c = changed_before sbsd sbs change s.objects.sbsds d k in changed_sorted sbs c.0 d c.1 (r.sorted sbs c.0 c.1) c.2);
+          classes = λ sbs d e k i. (let c = changed_before sbsd sbs change s.objects.sbsds d k in changed_classes sbs c.0 d e c.1 (λ was. r.classes sbs c.0 e c.1 was) i c.2);
+        };
+      }
 
 pub queue_added : (s : State) (c : Addjobqe) → unless_in_use s c.sbsd (queue_refusal s.objects c.sbsd (queue_entry_of c)) ≡ None → IsObjectChange s (with_description c.sbsd (with_queue (queue_entry_of c)) s.objects)
-queue_added s c e = ?
+queue_added s c e = description_changed s c.sbsd (with_queue (queue_entry_of c)) (λ d k. record { sorted = λ h. h; classes = λ n i. inl i }) (free s c.sbsd _ e).unused
+
+route_kept : (s : State) (c : Addrtge) (free : IsFree s c.sbsd (λ d. first_refusal (route_tests s.objects (route_entry_of c) d))) (d : Sbsd) → object_named c.sbsd s.objects.sbsds ≡ Some d → KeepsRoutes s.objects (with_route (route_entry_of c)) d
+route_kept s c free d k =
+    let one : free.description ≡ d = let same = sym free.named ∙ k in cc in
+    let accepted : first_refusal (route_tests s.objects (route_entry_of c) d) ≡ None = subst (λ (x : Sbsd). first_refusal (route_tests s.objects (route_entry_of c) x) ≡ None) one free.accepted in
+    let cls : not (has_object c.cls s.objects.classes) ≡ false = test_fails (route_tests s.objects (route_entry_of c) d) 1 SbsActive accepted in
+    let new : seq_used (λ (n : RouteEntry). n.seq) c.seqnbr d.routes ≡ false = test_fails (route_tests s.objects (route_entry_of c) d) 2 SbsActive accepted in
+    let there : IsSome (object_named c.cls s.objects.classes) = sym (is_named c.cls s.objects.classes) ∙ of_not _ cls in
+    record {
+      sorted = λ h. sorted_added (route_entry_of c) d.routes h new;
+      classes = λ n i. (elim (in_inserted d.routes _ (route_entry_of c) n i) as (λ _. IsIn n d.routes ⊎ IsSome (object_named n.cls s.objects.classes)) [
+        | inl same ↦ inr (subst (λ (x : RouteEntry). IsSome (object_named x.cls s.objects.classes)) (sym same) there)
+        | inr was ↦ inl was
+      ]);
+    }
 
 pub route_added : (s : State) (c : Addrtge) → unless_in_use s c.sbsd (route_refusal s.objects c.sbsd (route_entry_of c)) ≡ None → IsObjectChange s (with_description c.sbsd (with_route (route_entry_of c)) s.objects)
-route_added s c e = ?
+route_added s c e =
+    let f = free s c.sbsd (λ d. first_refusal (route_tests s.objects (route_entry_of c) d)) e in
+    description_changed s c.sbsd (with_route (route_entry_of c)) (route_kept s c f) f.unused
 
 pub queue_removed : (s : State) (c : Rmvjobqe) → unless_in_use s c.sbsd (remove_queue_refusal s.objects c.sbsd c.jobq) ≡ None → IsObjectChange s (with_description c.sbsd (without_queue c.jobq) s.objects)
-queue_removed s c e = ?
+queue_removed s c e = description_changed s c.sbsd (without_queue c.jobq) (λ d k. record { sorted = λ h. h; classes = λ n i. inl i }) (free s c.sbsd _ e).unused
 
 pub route_removed : (s : State) (c : Rmvrtge) → unless_in_use s c.sbsd (remove_route_refusal s.objects c.sbsd c.seqnbr) ≡ None → IsObjectChange s (with_description c.sbsd (without_route c.seqnbr) s.objects)
-route_removed s c e = ?
+route_removed s c e =
+    description_changed s c.sbsd (without_route c.seqnbr)
+    (λ d k. record { sorted = sorted_removed c.seqnbr d.routes; classes = λ n i. inl (left_in (λ (x : RouteEntry). not (nat_eq x.seq c.seqnbr)) d.routes n i) })
+    (free s c.sbsd _ e).unused

@@ -26,9 +26,10 @@ use Rattle.wm_desc.specs.declared.description.Sbsd.{Sbsd}
 use Rattle.wm_law.specs.declared.state.State.{State}
 use Rattle.wm_base.specs.Iterate.{IsKept}
 use Rattle.wm_base.proofs.Iterate.{iterate-keeps}
-use Rattle.wm_law.specs.Choice.{next}
-use Rattle.wm_law.specs.Counts.{is_starting, count_by_route}
-use Rattle.wm_law.specs.Kept.{IsNumbered, IsRouted, HasOrders, OpeningHasOrders, StepKeepsOrders, StartingJobsHaveOrders, HandGivesAnOrder, ReachedRouteIsLeast}
+use Rattle.wm_law.specs.declared.state.Sbs.{Sbs}
+use Rattle.wm_law.specs.Choice.{has_entry, next}
+use Rattle.wm_law.specs.Counts.{is_in_sbs, is_starting, count_by_route}
+use Rattle.wm_law.specs.Kept.{IsLodged, IsNumbered, IsRouted, HasOrders, OpeningHasOrders, StepKeepsOrders, StartingJobsHaveOrders, HandGivesAnOrder, ReachedRouteIsLeast}
 use Rattle.wm_law.specs.Launch.{called_args, called_program, entry_numbered, is_match, launch, launch_job, launched, launched_at, launched_by, launched_through, missing_program, order_by, order_called, order_of, order_through, order_with, program_fault, route, route_fault}
 use Rattle.wm_law.specs.Laws.{IsIn}
 use Rattle.wm_law.specs.Machine.{apply, hand_job, hand_order, leave, phased_at, step, submitted_job, waiting, with_clock}
@@ -36,6 +37,10 @@ use Rattle.wm_desc.specs.Table.{object_named, same_qname}
 use Rattle.wm_desc.specs.Opening.{opening_objects, qbatch, batch_sbsd}
 use Rattle.wm_law.specs.Opening.{opening}
 use Rattle.wm_law.specs.History.{after, stepped}
+use Rattle.wm_law.proofs.Firsts.{next_is_first}
+use Rattle.wm_law.proofs.Lodged.{lodged_longer, lodged_ending, lodged_left}
+use Rattle.wm_law.proofs.Named.{own_name}
+use Rattle.wm_law.proofs.Remade.{order_kept}
 use Rattle.wm_law.proofs.Forward.{found_among, found_in, only_one, same_number}
 use Rattle.wm_law.proofs.Routes.{IsSorted, numbered_once, route_is_least}
 use Rattle.wm_law.proofs.Members.{of_last, of_mapped}
@@ -114,78 +119,117 @@ has_order s sbs jobq j l routed led =
     ∙ ap (λ (o : Option Program). order_with k (called_args e k.rqsdta) o (object_named e.cls s.objects.classes)) led.found in
     subst (λ (o : Option StartOrder). IsSome o) (sym same) (with_class k (called_args e k.rqsdta) led.program (object_named e.cls s.objects.classes) cls)
 
--- each Starting job of a list has its order
-abbrev AllOrdered : State → List Job → Type 0
-AllOrdered s jobs = (j : Job) → IsIn j jobs → j.phase ≡ Starting → IsSome (order_of s j)
+-- Q holds of each Starting job of a list
+abbrev OfStarting : (Job → Type 0) → List Job → Type 0
+OfStarting Q jobs = (j : Job) → IsIn j jobs → j.phase ≡ Starting → Q j
 
-entered : (s : State) (user : List ℕ) (c : Sbmjob) (d : Jobd) → AllOrdered s s.jobs → AllOrdered s (s.jobs ++ submitted_job s user c d ∷ [])
-entered s user c d h k i e =
-    elim (of_last s.jobs (submitted_job s user c d) k i) as (λ _. IsSome (order_of s k)) [
+abbrev AllOrdered : State → List Job → Type 0
+AllOrdered s jobs = OfStarting (λ j. IsSome (order_of s j)) jobs
+
+abbrev AllLodged : List Sbs → List Job → Type 0
+AllLodged started jobs = OfStarting (λ j. IsLodged started j) jobs
+
+entered : (Q : Job → Type 0) (s : State) (user : List ℕ) (c : Sbmjob) (d : Jobd) → OfStarting Q s.jobs → OfStarting Q (s.jobs ++ submitted_job s user c d ∷ [])
+entered Q s user c d h k i e =
+    elim (of_last s.jobs (submitted_job s user c d) k i) as (λ _. Q k) [
       | inl m ↦ h k m e
       | inr same ↦ (let waiting : Waiting ≡ Starting = ap (λ (j : Job). j.phase) (sym same) ∙ e in absurd (cc))
     ]
 
-moved_at : (s : State) (t : Bool) (j : Job) (phase : Phase) → is_starting phase ≡ false → (j.phase ≡ Starting → IsSome (order_of s j)) → (cond t (record j { phase = phase }) j).phase ≡ Starting → IsSome (order_of s (cond t (record j { phase = phase }) j))
-moved_at s true j phase n h e = let same = ap is_starting e in absurd (cc)
-moved_at s false j phase n h e = h e
+moved_at : (Q : Job → Type 0) (t : Bool) (j : Job) (phase : Phase) → is_starting phase ≡ false → (j.phase ≡ Starting → Q j) → (cond t (record j { phase = phase }) j).phase ≡ Starting → Q (cond t (record j { phase = phase }) j)
+moved_at Q true j phase n h e = let same = ap is_starting e in absurd (cc)
+moved_at Q false j phase n h e = h e
 
-moved : (s : State) (serial : ℕ) (phase : Phase) → is_starting phase ≡ false → AllOrdered s s.jobs → AllOrdered s (map (phased_at serial phase) s.jobs)
-moved s serial phase n h k i e =
-    let m = of_mapped (phased_at serial phase) s.jobs k i in
-    subst (λ (x : Job). IsSome (order_of s x)) (sym m.2) (moved_at s (m.0.serial == serial) m.0 phase n (h m.0 m.1) (ap (λ (x : Job). x.phase) (sym m.2) ∙ e))
+moved : (Q : Job → Type 0) (jobs : List Job) (serial : ℕ) (phase : Phase) → is_starting phase ≡ false → OfStarting Q jobs → OfStarting Q (map (phased_at serial phase) jobs)
+moved Q jobs serial phase n h k i e =
+    let m = of_mapped (phased_at serial phase) jobs k i in
+    subst Q (sym m.2) (moved_at Q (m.0.serial == serial) m.0 phase n (h m.0 m.1) (ap (λ (x : Job). x.phase) (sym m.2) ∙ e))
 
-launched_one : (s : State) (t : Bool) (j : Job) (l : Launched) → (t ≡ true → l.phase ≡ Starting → IsSome (order_of s (record j { phase = l.phase; how = l.how }))) → (j.phase ≡ Starting → IsSome (order_of s j)) → (cond t (record j { phase = l.phase; how = l.how }) j).phase ≡ Starting → IsSome (order_of s (cond t (record j { phase = l.phase; how = l.how }) j))
-launched_one s true j l led h e = led refl e
-launched_one s false j l led h e = h e
+launched_one : (Q : Job → Type 0) (t : Bool) (j : Job) (l : Launched) → (t ≡ true → l.phase ≡ Starting → Q (record j { phase = l.phase; how = l.how })) → (j.phase ≡ Starting → Q j) → (cond t (record j { phase = l.phase; how = l.how }) j).phase ≡ Starting → Q (cond t (record j { phase = l.phase; how = l.how }) j)
+launched_one Q true j l led h e = led refl e
+launched_one Q false j l led h e = h e
+
+launched_of : (Q : Job → Type 0) (jobs : List Job) (serial : ℕ) (l : Launched) → ((j : Job) → IsIn j jobs → (j.serial == serial) ≡ true → l.phase ≡ Starting → Q (record j { phase = l.phase; how = l.how })) → OfStarting Q jobs → OfStarting Q (map (launched_at serial l) jobs)
+launched_of Q jobs serial l led h k m e =
+    let o = of_mapped (launched_at serial l) jobs k m in
+    let j = o.0 in
+    subst Q (sym o.2) (launched_one Q (j.serial == serial) j l (led j o.1) (h j o.1) (ap (λ (x : Job). x.phase) (sym o.2) ∙ e))
 
 launched_all : (s : State) (c : Candidate) (f : Job) → IsNumbered s → HasOrders s → IsIn f s.jobs → f.serial ≡ c.serial → AllOrdered s (map (launched_at c.serial (launched s c.sbs c.jobq f)) s.jobs)
-launched_all s c f n h i same k m e =
+launched_all s c f n h i same =
     let l = launched s c.sbs c.jobq f in
-    let o = of_mapped (launched_at c.serial l) s.jobs k m in
-    let j = o.0 in
-    let led : (j.serial == c.serial) ≡ true → l.phase ≡ Starting → IsSome (order_of s (record j { phase = l.phase; how = l.how })) =
-    (λ t starts.
-    let one = only_one s.jobs n.serials.distinct f j i o.1 (same ∙ sym (same_number j.serial c.serial t)) in
-    subst (λ (x : Job). IsSome (order_of s (record x { phase = l.phase; how = l.how }))) one (has_order s c.sbs c.jobq f l h.routed (is_led s c.sbs c.jobq f starts))) in
-    subst (λ (x : Job). IsSome (order_of s x)) (sym o.2) (launched_one s (j.serial == c.serial) j l led (h.starting j o.1) (ap (λ (x : Job). x.phase) (sym o.2) ∙ e))
+    launched_of (λ j. IsSome (order_of s j)) s.jobs c.serial l
+    (λ j m t starts.
+    let one = only_one s.jobs n.serials.distinct f j i m (same ∙ sym (same_number j.serial c.serial t)) in
+    subst (λ (x : Job). IsSome (order_of s (record x { phase = l.phase; how = l.how }))) one (has_order s c.sbs c.jobq f l h.routed (is_led s c.sbs c.jobq f starts)))
+    h.starting
+
+-- a subsystem that the next job's candidate names is started: it holds the job's queue
+named_started : (s : State) (c : Candidate) → next s ≡ Some c → (b : Sbs) × IsIn b s.started × (c.sbs ≡ b.sbsd)
+named_started s c e =
+    let first = next_is_first s c e in
+    let t = first.1.0 in
+    let is_first = first.1.1.0 in
+    let named = first.1.1.2 in
+    (t.sbs, (found_among (has_entry s t.queue) s.started t.sbs is_first.may.holder).0, named.sbs)
+
+came_into : (sbs jobq q : QName) (pty seq : ℕ) (how : How) → how ≡ FromQueue sbs jobq pty seq → sbs ≡ q → is_in_sbs q how ≡ true
+came_into sbs jobq q pty seq how e same = ap (is_in_sbs q) e ∙ subst (λ (n : QName). same_qname sbs n ≡ true) same (own_name sbs)
+
+launched_lodged : (s : State) (c : Candidate) (f : Job) → next s ≡ Some c → HasOrders s → AllLodged s.started (map (launched_at c.serial (launched s c.sbs c.jobq f)) s.jobs)
+launched_lodged s c f e h =
+    let l = launched s c.sbs c.jobq f in
+    let b = named_started s c e in
+    launched_of (IsLodged s.started) s.jobs c.serial l
+    (λ j m t starts. (let led = is_led s c.sbs c.jobq f starts in (b.0, b.1, came_into c.sbs c.jobq b.0.sbsd f.pty led.entry.seq l.how led.how b.2)))
+    h.lodged
 
 -- numbered, and each Starting job has its order
 record IsOrdered (s : State) : Type 0 where
   numbered : IsNumbered s
   orders : HasOrders s
 
-routed : (s : State) → HasOrders s → (jobs : List Job) → AllOrdered s jobs → HasOrders (record s { jobs = jobs })
-routed s h jobs all = record { routed = h.routed; starting = all }
+routed : (s : State) → HasOrders s → (jobs : List Job) → AllOrdered s jobs → AllLodged s.started jobs → HasOrders (record s { jobs = jobs })
+routed s h jobs all lodged = record { routed = h.routed; starting = all; lodged = lodged }
 
-launches : (s : State) (c : Candidate) (o : Option Job) → find (λ j. j.serial == c.serial) s.jobs ≡ o → IsNumbered s → HasOrders s → HasOrders (launch_job s c o)
-launches s c None f n h = h
-launches s c (Some j) f n h =
+launches : (s : State) (c : Candidate) (o : Option Job) → find (λ j. j.serial == c.serial) s.jobs ≡ o → next s ≡ Some c → IsNumbered s → HasOrders s → HasOrders (launch_job s c o)
+launches s c None f e n h = h
+launches s c (Some j) f e n h =
     let k = found_in (λ j. j.serial == c.serial) s.jobs j f in
-    routed s h _ (launched_all s c j n h k.0 (same_number j.serial c.serial k.1))
+    routed s h _ (launched_all s c j n h k.0 (same_number j.serial c.serial k.1)) (launched_lodged s c j e h)
 
 launches_leave_orders : IsKept next (λ c t. launch t c) IsOrdered
 launches_leave_orders = record {
   by_step = λ s c e h. record {
     numbered = launches_keep.by_step s c e h.numbered;
-    orders = launches s c (find (λ j. j.serial == c.serial) s.jobs) refl h.numbered h.orders;
+    orders = launches s c (find (λ j. j.serial == c.serial) s.jobs) refl e h.numbered h.orders;
   };
 }
 
--- what has the same objects and jobs
-alike : (s t : State) → t.objects ≡ s.objects → t.jobs ≡ s.jobs → HasOrders s → HasOrders t
-alike s t e f h = record {
+-- what has the same objects and jobs, and the jobs' subsystems
+alike : (s t : State) → t.objects ≡ s.objects → t.jobs ≡ s.jobs → AllLodged t.started s.jobs → HasOrders s → HasOrders t
+alike s t e f lodged h = record {
   routed = subst IsRouted (sym e) h.routed;
   starting = subst (λ (jobs : List Job). AllOrdered t jobs) (sym f) (λ j i p. subst (λ (o : Objects). IsSome (order_of (record s { objects = o }) j)) (sym e) (h.starting j i p));
+  lodged = subst (λ (jobs : List Job). AllLodged t.started jobs) (sym f) lodged;
 }
 
 calls : (s : State) → HasOrders s → HoldsAfterCalls HasOrders s
 calls s h = record {
   stays = h;
-  starts = λ q e. alike s _ refl refl h;
-  enters = λ user c d has. alike (record s { jobs = s.jobs ++ submitted_job s user c d ∷ [] }) _ refl refl (routed s h _ (entered s user c d h.starting));
-  moves = λ serial phase e. routed s h _ (moved s serial phase e h.starting);
-  powers = alike s _ refl refl h;
+  starts = λ q e. alike s _ refl refl (λ j i p. lodged_longer s.started _ j (h.lodged j i p)) h;
+  enters = λ user c d has. (let t = routed s h _ (entered (λ j. IsSome (order_of s j)) s user c d h.starting) (entered (IsLodged s.started) s user c d h.lodged) in alike (record s { jobs = s.jobs ++ submitted_job s user c d ∷ [] }) _ refl refl t.lodged t);
+  moves = λ serial phase e. routed s h _ (moved (λ j. IsSome (order_of s j)) s.jobs serial phase e h.starting) (moved (IsLodged s.started) s.jobs serial phase e h.lodged);
+  powers = alike s _ refl refl (λ j i p. lodged_ending s.started j (h.lodged j i p)) h;
+  makes = λ o e. record {
+    routed = e.routed h.routed;
+    starting = λ j i p. (let was = h.starting j i p in subst (λ (x : Option StartOrder). IsSome x) (sym (order_kept s o e j (h.lodged j i p) was)) was);
+    lodged = h.lodged;
+  };
 }
+
+leaves : (t : State) → HasOrders t → HasOrders (leave t)
+leaves t h = alike t (leave t) refl refl (λ j i p. lodged_left t j i p (h.lodged j i p)) h
 
 pub step_keeps_orders : StepKeepsOrders
 unfolding step
@@ -193,8 +237,8 @@ step_keeps_orders s caller call moment n h =
     let c = with_clock s moment in
     let t = (apply c caller call).state in
     let numbered : IsNumbered t = apply_keeps c caller call (clock_keeps s moment n) in
-    let orders : HasOrders t = call_keeps HasOrders c caller call (calls c (alike s c refl refl h)) in
-    (iterate-keeps IsOrdered launches_leave_orders (waiting (leave t)) (leave t) (record { numbered = only_started t numbered; orders = alike t (leave t) refl refl orders })).orders
+    let orders : HasOrders t = call_keeps HasOrders c caller call (calls c (alike s c refl refl h.lodged h)) in
+    (iterate-keeps IsOrdered launches_leave_orders (waiting (leave t)) (leave t) (record { numbered = only_started t numbered; orders = leaves t orders })).orders
 
 after_is_ordered : (s : State) (h : List Entry) → IsOrdered s → IsOrdered (after s h)
 after_is_ordered s [] o = o
@@ -226,6 +270,7 @@ opening_has_orders = record {
     classes = λ sbs d e k i. opening_classes d e (only_sbsd sbs d k) i;
   };
   starting = λ j i p. absurd i;
+  lodged = λ j i p. absurd i;
 }
 
 pub starting_jobs_have_orders : StartingJobsHaveOrders
@@ -279,7 +324,8 @@ pub hand_gives_an_order : HandGivesAnOrder
 unfolding step
 hand_gives_an_order h caller moment =
     let s = with_clock (after opening h) moment in
-    let orders = alike (after opening h) s refl refl (starting_jobs_have_orders h) in (
+    let kept = starting_jobs_have_orders h in
+    let orders = alike (after opening h) s refl refl kept.lodged kept in (
       λ e. none_starting s.jobs (nothing s caller (find (λ j. is_starting j.phase) s.jobs) refl orders e),
       λ e. ap (λ (o : Option Job). (hand_job s caller o).reply) (none_found s.jobs e),
     )

@@ -1,6 +1,6 @@
 -- What every step keeps: numbers that are given once, jobs that only go forward, orders of the jobs that are Starting, and
 -- names of started subsystems that are distinct.
-use Rattle.std.specs.Prelude.{◌≡◌, ◌↔◌, ℕ, ◌<◌, ◌≤◌, false, List, [], ◌∷◌, map, ⊤, Option, Some, None}
+use Rattle.std.specs.Prelude.{◌≡◌, ◌↔◌, ℕ, ◌<◌, ◌≤◌, true, false, List, [], ◌∷◌, map, ⊤, Option, Some, None}
 use Rattle.std.specs.List.{filter_map}
 use Rattle.std.specs.Option.{IsSome, option_and_then}
 use Rattle.std.specs.Ordering.{nat_cmp}
@@ -21,6 +21,7 @@ use Rattle.wm_desc.specs.Sorted.{IsSortedOnce}
 use Rattle.wm_law.specs.declared.state.State.{State}
 use Rattle.wm_law.specs.declared.state.Sbs.{Sbs}
 use Rattle.wm_law.specs.Choice.{is_sbs_active}
+use Rattle.wm_law.specs.Counts.{is_in_sbs}
 use Rattle.wm_law.specs.Fit.{IsBetween}
 use Rattle.wm_law.specs.History.{IsLegal, after, order_in}
 use Rattle.wm_law.specs.Launch.{order_of, route}
@@ -59,10 +60,15 @@ pub record IsRouted (objects : Objects) : Type 0 where
   pub sorted : (sbs : QName) (d : Sbsd) → object_named sbs objects.sbsds ≡ Some d → IsSortedOnce (λ e. e.seq) nat_cmp d.routes
   pub classes : (sbs : QName) (d : Sbsd) (e : RouteEntry) → object_named sbs objects.sbsds ≡ Some d → IsIn e d.routes → IsSome (object_named e.cls objects.classes)
 
--- each Starting job has its order: its routing entry, the program that this calls and the class are there
+-- one of the started subsystems is the one that the job came into
+abbrev pub IsLodged : List Sbs → Job → Type 0
+IsLodged started j = (b : Sbs) × IsIn b started × (is_in_sbs b.sbsd j.how ≡ true)
+
+-- each Starting job has its order: its routing entry, the program that this calls and the class are there; and its subsystem is started
 pub record HasOrders (s : State) : Type 0 where
   pub routed : IsRouted s.objects
   pub starting : (j : Job) → IsIn j s.jobs → j.phase ≡ Starting → IsSome (order_of s j)
+  pub lodged : (j : Job) → IsIn j s.jobs → j.phase ≡ Starting → IsLodged s.started j
 
 -- the simple names of the started subsystems
 abbrev pub started_names : State → List (List ℕ)

@@ -1,0 +1,72 @@
+-- The subsystem of each Starting job stays started.
+use Rattle.std.proofs.Common.{◌≡◌, ℕ, ◌<◌, ◌++◌, ◌==◌, ◌&&◌, not, Bool, true, false, cond, List, [], ◌∷◌, map, filter, refl, sym, ap, ◌∙◌, inl, inr, arith}
+use Rattle.std.specs.List.{count_by}
+use Rattle.std.proofs.lemmas.Bool.Decides.{nat_tests}
+use Rattle.std.proofs.lemmas.List.Sums.{sum_by-cons}
+use Rattle.wm_law.specs.declared.job.Job.{Job}
+use Rattle.wm_law.specs.declared.job.Phase.{Phase}
+use Rattle.wm_law.specs.declared.job.Phase.TheVariants.{Starting}
+use Rattle.wm_law.specs.declared.state.Sbs.{Sbs}
+use Rattle.wm_law.specs.declared.state.State.{State}
+use Rattle.wm_law.specs.Counts.{is_active, is_in_sbs, count_in_sbs}
+use Rattle.wm_law.specs.Kept.{IsLodged}
+use Rattle.wm_law.specs.Laws.{IsIn}
+use Rattle.wm_law.specs.Machine.{end_now, is_ending, is_gone, leave}
+
+in_longer : {X : Type 0} (xs : List X) (y x : X) → IsIn x xs → IsIn x (xs ++ y ∷ [])
+in_longer [] y x i = absurd i
+in_longer (z ∷ xs) y x (inl e) = inl e
+in_longer (z ∷ xs) y x (inr i) = inr (in_longer xs y x i)
+
+in_mapped : {X Y : Type 0} (f : X → Y) (xs : List X) (x : X) → IsIn x xs → IsIn (f x) (map f xs)
+in_mapped f [] x i = absurd i
+in_mapped f (z ∷ xs) x (inl e) = inl (ap f e)
+in_mapped f (z ∷ xs) x (inr i) = inr (in_mapped f xs x i)
+
+left_first : {X : Type 0} (p : X → Bool) (t : Bool) (z x : X) (xs : List X) → p z ≡ t → p x ≡ true → x ≡ z → IsIn x (cond t (z ∷ xs) xs)
+left_first p true z x xs h k e = inl e
+left_first p false z x xs h k e = let same = ap p e in absurd (cc)
+
+left_later : {X : Type 0} (t : Bool) (z x : X) (xs : List X) → IsIn x xs → IsIn x (cond t (z ∷ xs) xs)
+left_later true z x xs i = inr i
+left_later false z x xs i = i
+
+in_left : {X : Type 0} (p : X → Bool) (xs : List X) (x : X) → p x ≡ true → IsIn x xs → IsIn x (filter p xs)
+in_left p [] x h i = absurd i
+in_left p (z ∷ xs) x h (inl e) = left_first p (p z) z x (filter p xs) refl h e
+in_left p (z ∷ xs) x h (inr i) = left_later (p z) z x (filter p xs) (in_left p xs x h i)
+
+-- one more subsystem is started
+pub lodged_longer : (bs : List Sbs) (b : Sbs) (j : Job) → IsLodged bs j → IsLodged (bs ++ b ∷ []) j
+lodged_longer bs b j h = (h.0, in_longer bs b h.0 h.1, h.2)
+
+-- the subsystems end
+pub lodged_ending : (bs : List Sbs) (j : Job) → IsLodged bs j → IsLodged (map end_now bs) j
+lodged_ending bs j h = (end_now h.0, in_mapped end_now bs h.0 h.1, h.2)
+
+abbrev one : (Job → Bool) → Job → ℕ
+one test j = cond (test j) 1 0
+
+counted : (test : Job → Bool) (jobs : List Job) (j : Job) → IsIn j jobs → test j ≡ true → 0 < count_by test jobs
+counted test [] j i h = absurd i
+counted test (k ∷ jobs) j (inl e) h =
+    let this : one test k ≡ 1 = ap (λ (t : Bool). cond t 1 0) (ap test (sym e) ∙ h) in
+    rw (sum_by-cons (one test) k jobs) (omega arith)
+counted test (k ∷ jobs) j (inr i) h =
+    let rest = counted test jobs j i h in
+    rw (sum_by-cons (one test) k jobs) (omega arith)
+
+not_zero : (n : ℕ) → 0 < n → (n == 0) ≡ false
+not_zero n h = grind (arith, nat_tests)
+
+not_gone : (a b : Bool) → b ≡ false → not (a && b) ≡ true
+not_gone true b e = ap not e
+not_gone false b e = refl
+
+-- a subsystem with a Starting job doesn't leave
+pub lodged_left : (s : State) (j : Job) → IsIn j s.jobs → j.phase ≡ Starting → IsLodged s.started j → IsLodged (leave s).started j
+lodged_left s j i e h =
+    let b = h.0 in
+    let active : (is_active j.phase && is_in_sbs b.sbsd j.how) ≡ true = ap (λ (p : Phase). is_active p && is_in_sbs b.sbsd j.how) e ∙ h.2 in
+    let more = counted (λ (k : Job). is_active k.phase && is_in_sbs b.sbsd k.how) s.jobs j i active in
+    (b, in_left (λ (x : Sbs). not (is_gone s.jobs x)) s.started b (not_gone (is_ending b.phase) (count_in_sbs b.sbsd s.jobs == 0) (not_zero (count_in_sbs b.sbsd s.jobs) more)) h.1, h.2)
