@@ -7,7 +7,7 @@ use crate::said::Line;
 use wm_law::Ask;
 use crate::fault::CmdFault;
 use crate::made::change_made;
-use crate::printable::has_texts;
+use crate::printable::texts_are_printable;
 use crate::reading::all_given;
 use crate::table::{change_rows, change_word, read_rows, read_word};
 use crate::value::Values;
@@ -105,7 +105,7 @@ fn change_line(alloc: Global, verb: Change, items: &[Item]) -> Result<Line, CmdF
         return Err(fault);
     }
     let command = change_made(verb, &values)?;
-    has_texts(&command);
+    texts_are_printable(&command);
     Ok(Line::Change(command))
 }
 
