@@ -1,6 +1,6 @@
 // Commands from trees.
 ghost use Rattle.std.specs.Prelude.{◌≡◌, ◌≢◌, IfOk, IfErr, Ok, Err};
-ghost use Rattle.wm_command.specs.Printed.{KeepsForms, LineHasTexts, LineIsReadBack};
+ghost use Rattle.wm_command.specs.Printed.{FitsMachine, KeepsForms, LineHasTexts, LineIsReadBack};
 ghost use Rattle.wm_command.specs.Line.{change_named, read_named, one_request, lacks, own_fault, change_line, read_made, read_line, line_of};
 
 use crate::said::Line;
@@ -139,6 +139,7 @@ pub fn command(alloc: Global, user: &Name, tree: &Tree) -> Result<Line, CmdFault
 
     // A command keeps the forms and the ranges of the table, so what is printed of it is read as that command.
     ensures forms { IfOk result (λ line. KeepsForms line) }
+    ensures machine { IfOk result (λ line. FitsMachine line) }
     ensures back { IfOk result (λ line. LineIsReadBack line) }
 {
     if let Some(verb) = change_named(&tree.name) {
