@@ -8,6 +8,7 @@ pub mod Firsts
 pub mod Inputs
 pub mod InputLoops
 pub mod Causes
+pub mod Commands
 pub mod Runs
 pub mod Servings
 pub mod Takings

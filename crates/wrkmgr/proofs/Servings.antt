@@ -20,7 +20,7 @@ use Rattle.wrkmgr.specs.Said.{said_text, with_end, is_refused}
 use Rattle.wrkmgr.specs.Lists.{since, Extends}
 use Rattle.wrkmgr.specs.Monitor.{MonitorView, Advances, RisesBy, is_own, is_spawner_fault, monitor_pass, reported, call_of, as_reports}
 use Rattle.wrkmgr.specs.Serving.{Serves, is_of_run}
-use Rattle.wrkmgr.specs.Session.{AnsweredBy, Submits, OneCall, session_pass, submit_call}
+use Rattle.wrkmgr.specs.Session.{OneCall, session_pass}
 use Rattle.wrkmgr.specs.LineBuffer.{Holds}
 use Rattle.wrkmgr.specs.Lines.{cut_from}
 use Rattle.wrkmgr.specs.Taking.{TakesPiece}
@@ -117,21 +117,6 @@ Extends-called old new c h = h.entry ∙ ap (λ xs. old ++ xs) (sym (ap (since o
 pub Serves-call : (old new : List Entry) (c : Call) (m n : Monitor) (asked : Option (List Asked)) (told : Option (List Told)) (misses : ℕ) → Called old c new → n ≡ m → Serves (view old m asked told misses) (view new n asked told misses)
 Serves-call old new c m n asked told misses h same =
     subst (λ (x : Monitor). Serves (view old m asked told misses) (view new x asked told misses)) (sym same) (Serves-called old new c m asked told misses h)
-
--- what a line that submits has: its call, its reply, and then entries of the monitor
-pub submitted : (old mid new : List Entry) (text name : List ℕ) (c : Call) (before now : Option (List ℕ)) (refused : Bool) → Called old c mid → c ≡ submit_call text name → Extends mid new → list_all is_own (since mid new) ≡ true → IfSome (last_of mid) (λ e. Grows before now (with_end (said_text e.reply)) × (refused ≡ is_refused e.reply)) → AnsweredBy (Submits text name) (entries_of session_pass (since old new)) before now refused
-submitted old mid new text name c before now refused h is grown own said =
-    let e = entry_at old session_pass c h.now in
-    let last : last_of mid ≡ Some e = ap last_of h.entry ∙ last_of-push old e in
-    let says = subst (λ (o : Option Entry). IfSome o (λ x. Grows before now (with_end (said_text x.reply)) × (refused ≡ is_refused x.reply))) last said in
-    let es = session_entries-then old mid new (Extends-called old mid c h) grown in
-    let one = ap (λ (xs : List Entry). xs ++ entries_of session_pass (since mid new)) (session_entries-called old mid c h) in
-    let none = ap (λ (xs : List Entry). (e ∷ []) ++ xs) (session_entries-own (since mid new) own) in
-    record {
-      bytes = with_end (said_text e.reply);
-      answers = record { entry = e; only = es ∙ (one ∙ none); call = is; says = refl; refused = says.1 };
-      written = says.0;
-    }
 
 -- a history has nothing since itself
 pub session_entries-none : (log : List Entry) → entries_of session_pass (since log log) ≡ []

@@ -16,7 +16,7 @@ use Rattle.wrkmgr.specs.Lines.{cut_from, lines_of}
 use Rattle.wrkmgr.specs.Lists.{since, Extends}
 use Rattle.wrkmgr.specs.Monitor.{is_own}
 use Rattle.wrkmgr.specs.Said.{said_text, with_end}
-use Rattle.wrkmgr.specs.Session.{Answers, AnsweredBy, AnswersLine, OneCall, Submits, session_pass, start_call, end_call, submit_call}
+use Rattle.wrkmgr.specs.Session.{Answers, AnsweredBy, AnswersLine, OneCall, session_pass, start_call, end_call}
 use Rattle.wrkmgr.specs.Stopped.{AtMostOne, IsCutShort, IsStopped, StopsIn, Untouched, WritesSome}
 use Rattle.wrkmgr.specs.Taking.{TakesInput, TakesPiece}
 use Rattle.wrkmgr.specs.declared.line.LineBuffer.{LineBuffer}
@@ -48,20 +48,6 @@ Untouched-same old new w is = subst (λ (l : List Entry). Untouched (entries_of 
 pub WritesSome-all : (Due : List Entry → List ℕ → Bool → Type 0) (es : List Entry) (a b : Option (List ℕ)) (f : Bool) → AnsweredBy Due es a b f → WritesSome Due es a b
 WritesSome-all Due es a b f h =
     record { due = h.bytes; faulty = f; answers = h.answers; count = length h.bytes; written = subst (λ (l : List ℕ). Grows a b l) (sym (take-length h.bytes)) h.written }
-
--- what is said of a call's reply was written in part
-pub submitted_some : (old mid : List Entry) (text name : List ℕ) (c : Call) (before now : Option (List ℕ)) → Called old c mid → c ≡ submit_call text name → IfSome (last_of mid) (λ e. (n : ℕ) × Grows before now (take n (with_end (said_text e.reply)))) → WritesSome (Submits text name) (entries_of session_pass (since old mid)) before now
-submitted_some old mid text name c before now h is said =
-    let e = entry_at old session_pass c h.now in
-    let last : last_of mid ≡ Some e = ap last_of h.entry ∙ last_of-push old e in
-    let says = subst (λ (o : Option Entry). IfSome o (λ x. (n : ℕ) × Grows before now (take n (with_end (said_text x.reply))))) last said in
-    record {
-      due = with_end (said_text e.reply);
-      faulty = _;
-      answers = record { entry = e; only = session_entries-called old mid c h; call = is; says = refl; refused = refl };
-      count = says.0;
-      written = says.1;
-    }
 
 -- a call was made or not, and entries of the monitor follow
 pub no_call : {c : Call} (old new : List Entry) → list_all is_own (since old new) ≡ true → AtMostOne c (entries_of session_pass (since old new))

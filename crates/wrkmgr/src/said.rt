@@ -3,7 +3,7 @@ ghost use Rattle.std.specs.Prelude.{◌≡◌, ◌++◌, ◌∷◌, [], IfOk, co
 ghost use Rattle.std.specs.Option.{option_copied};
 ghost use Rattle.wm_base.specs.JobName.{job_name_text};
 ghost use Rattle.wm_base.specs.QName.{qname_text};
-ghost use Rattle.wrkmgr.specs.Said.{said_text, fault_text, cl_text, cm_text, with_end, is_refused, order_text, made_name, made_text};
+ghost use Rattle.wrkmgr.specs.Said.{said_text, fault_text, cl_text, cm_text, with_end, is_refused, order_text, made_name, made_text, is_fault, fault_answer};
 
 use crate::reading::LineFault;
 use std::alloc::{AllocError, Global};
@@ -132,6 +132,24 @@ pub fn fault_line(alloc: Global, fault: &LineFault) -> Result<String, AllocError
         LineFault::Cl(fault) => cl_line(alloc, fault),
         LineFault::Cm(fault) => cm_line(alloc, fault),
     }
+}
+
+/// Whether a line that is no command is a fault: an empty one isn't.
+pub fn is_fault(fault: &LineFault) -> bool
+    ensures { result ≡ is_fault fault.now }
+{
+    !matches!(fault, LineFault::Cl(ClFault::Empty))
+}
+
+/// What is written for a line that is no command: nothing for an empty one. An `Err` is want of memory.
+pub fn fault_answer(alloc: Global, fault: &LineFault) -> Result<String, AllocError>
+    ensures { IfOk result (λ line. string_bytes line ≡ fault_answer fault.now) }
+{
+    if !is_fault(fault) {
+        return Ok(String::new(alloc));
+    }
+    let line = ended(fault_line(alloc, fault)?)?;
+    Ok(line)
 }
 
 /// A text with a line's end.

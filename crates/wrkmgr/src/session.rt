@@ -9,7 +9,7 @@ use crate::floor::Floor;
 use crate::monitor::Monitor;
 use crate::line::read_line;
 use crate::reading::{LineFault, Reading};
-use crate::said::{ended, fault_line, is_refused, said};
+use crate::said::{ended, fault_answer, is_fault, is_refused, said};
 use crate::stop::Stop;
 use crate::write::write_all;
 use std::alloc::{AllocError, Global};
@@ -188,7 +188,7 @@ impl Run {
         Ok(refused)
     }
 
-    // Answers a reading: an empty line not at all, a fault by its line, a call by its reply.
+    // Answers a reading: a fault by its line, a call by its reply.
     fn answer_reading<O: Sink, P: Spawner, C: Clock>(
         &mut self,
         alloc: Global,
@@ -207,11 +207,10 @@ impl Run {
         ensures causes { HasCauses result (O.faults out.old) (O.faults out.new) (P.faults spawner.old) (P.faults spawner.new) }
     {
         match reading {
-            Reading::Fault(LineFault::Cl(ClFault::Empty)) => Ok(false),
             Reading::Fault(fault) => {
-                let line = ended(fault_line(alloc, &fault)?)?;
+                let line = fault_answer(alloc, &fault)?;
                 put(out, line.as_bytes())?;
-                Ok(true)
+                Ok(is_fault(&fault))
             }
             Reading::NotBuilt => {
                 put(out, NOT_BUILT)?;
