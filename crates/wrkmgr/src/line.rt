@@ -12,7 +12,7 @@ pub struct LineBuffer {
 }
 
 impl LineBuffer {
-    ghost use Rattle.std.specs.Prelude.{◌≡◌, ◌++◌, ◌∷◌, [], ◌<◌, ◌↔◌, List, ℕ, length, IfOk, OnOk, MatchOption, IsTrue};
+    ghost use Rattle.std.specs.Prelude.{◌≡◌, ◌++◌, ◌∷◌, [], ◌<◌, ◌↔◌, List, ℕ, length, IfOk, OnOk, OnErr, MatchOption, IsTrue};
     ghost use Rattle.wrkmgr.specs.LineBuffer.{Holds};
 
     pub fn new(alloc: Global) -> LineBuffer
@@ -24,9 +24,10 @@ impl LineBuffer {
         }
     }
 
-    /// Adds a byte. An `Err` is want of memory; it comes only while the line isn't too long.
+    /// Adds a byte. An `Err` is want of memory; it comes only while the line has room.
     pub fn push(&mut self, byte: u8) -> Result<(), AllocError>
-        ensures { OnOk result ((rest : List ℕ) → Holds self.old rest → Holds self.new (rest ++ byte ∷ [])) }
+        ensures ok { OnOk result ((rest : List ℕ) → Holds self.old rest → Holds self.new (rest ++ byte ∷ [])) }
+        ensures err { OnErr result ((rest : List ℕ) → Holds self.old rest → length rest < 8192) }
     {
         if self.bytes.len() < MOST_BYTES {
             self.bytes.push(byte)?;

@@ -43,11 +43,12 @@ pub(crate) fn put<O: Sink>(out: &mut O, bytes: &[u8]) -> Result<(), Stop>
 }
 
 impl Run {
-    ghost use Rattle.std.specs.Prelude.{◌≡◌, ◌≤◌, ℕ, Err, OnOk, OnErr, IsErrOf, IfOk, IfSome, take};
+    ghost use Rattle.std.specs.Prelude.{◌≡◌, ◌⊎◌, ◌<◌, ◌≤◌, ℕ, Err, OnOk, OnErr, IsErrOf, IfOk, IfSome, take};
     ghost use Rattle.wm_law.specs.Fit.{IsCall, IsBuilt};
     ghost use Rattle.wm_law.specs.History.{after};
     ghost use Rattle.wm_law.specs.Opening.{opening};
-    ghost use Rattle.wm_outside.specs.Told.{Grows};
+    ghost use Rattle.wm_law.specs.Pending.{next_due};
+    ghost use Rattle.wm_outside.specs.Told.{Grows, IsEmpty};
     ghost use Rattle.wm_outside.specs.Cause.{raised};
     ghost use Rattle.wrkmgr.specs.Floor.{last_of};
     ghost use Rattle.wrkmgr.specs.Said.{said_text, with_end, is_refused};
@@ -129,6 +130,8 @@ impl Run {
     ) -> Result<(), Stop>
         ensures part { Advances (view self.old.floor self.old.monitor (P.asked spawner.old) (P.told spawner.old) (P.misses spawner.old))
             (view self.new.floor self.new.monitor (P.asked spawner.new) (P.told spawner.new) (P.misses spawner.new)) }
+        ensures report { OnOk result (next_due (after opening self.old.floor) ≡ None →
+            IsEmpty (P.out spawner.old) ⊎ (length self.old.floor < length self.new.floor)) }
         ensures kept { OnOk result (self.new.monitor.kept ≡ None) }
         ensures causes { HasMonitorCauses result (P.faults spawner.old) (P.faults spawner.new) }
     {
