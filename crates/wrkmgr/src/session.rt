@@ -47,12 +47,12 @@ impl Run {
     ghost use Rattle.wm_law.specs.Fit.{IsCall, IsBuilt};
     ghost use Rattle.wm_law.specs.History.{after};
     ghost use Rattle.wm_law.specs.Opening.{opening};
-    ghost use Rattle.wm_law.specs.Pending.{next_due};
+    ghost use Rattle.wm_law.specs.Pending.{next_due, starting};
     ghost use Rattle.wm_outside.specs.Told.{Grows, IsEmpty};
     ghost use Rattle.wm_outside.specs.Cause.{raised};
     ghost use Rattle.wrkmgr.specs.Floor.{last_of};
     ghost use Rattle.wrkmgr.specs.Said.{said_text, with_end, is_refused};
-    ghost use Rattle.std.specs.Prelude.{◌-◌, None, Ok, length};
+    ghost use Rattle.std.specs.Prelude.{◌+◌, ◌-◌, None, Ok, length};
     ghost use Rattle.wm_law.specs.History.{entries_of};
     ghost use Rattle.wrkmgr.specs.Calls.{Called};
     ghost use Rattle.wrkmgr.specs.Lists.{since};
@@ -145,7 +145,7 @@ impl Run {
         }
     }
 
-    // Submits the job of a line, answers the line, and lets the monitor turn.
+    // Submits the job of a line, answers the line, and lets the monitor turn, which leaves no order where it makes no entry.
     fn submit<O: Sink, P: Spawner, C: Clock>(
         &mut self,
         alloc: Global,
@@ -161,6 +161,7 @@ impl Run {
             (entries_of session_pass (since self.old.floor self.new.floor)) (O.written out.old) (O.written out.new) faulty) }
         ensures stopped { OnErr result (IsCutShort (Submits first.now.text first.now.name)
             (entries_of session_pass (since self.old.floor self.new.floor)) (O.written out.old) (O.written out.new)) }
+        ensures orders { OnOk result (length self.new.floor ≡ length self.old.floor + 1 → starting (after opening self.new.floor) ≡ 0) }
         ensures causes { HasCauses result (O.faults out.old) (O.faults out.new) (P.faults spawner.old) (P.faults spawner.new) }
     {
         let submitted = submission(alloc, first)?;

@@ -1,5 +1,6 @@
 use Rattle.wrkmgr.proofs.Servings.{Serves-call, Serves-then, Serves-monitor, submitted}
-use Rattle.std.proofs.Common.{inl, inr}
+use Rattle.std.proofs.Common.{Ok, ap, ◌∙◌, inl, inr}
+use Rattle.wrkmgr.proofs.Turns.{idle_call}
 use Rattle.wrkmgr.proofs.StoppedRuns.{Untouched-none, Untouched-same, WritesSome-all, on_err, submitted_some}
 use Rattle.wrkmgr.proofs.session.Run.submit.Goals as goal
 
@@ -43,3 +44,7 @@ pub returns-in_err-turn-clause-stopped : goal.returns-in_err-turn-clause-stopped
 returns-in_err-turn-clause-stopped g c =
     on_err _ (inr (WritesSome-all _ _ _ _ c.in_ok-refused.refused
     (submitted c.args.self.now.floor c.call.new.self.floor c.turn.new.self.floor c.args.first.now.text c.args.first.now.name c.in_ok-submitted.submitted _ _ c.in_ok-refused.refused c.in_ok-call.ensures.ok c.in_ok-submitted.ensures.call c.turn.ensures.part.log c.turn.ensures.part.own c.in_ok-refused.ensures.ok)))
+
+pub returns-clause-orders : goal.returns-clause-orders
+returns-clause-orders g c =
+    idle_call c.args.self.now.floor c.call.new.self.floor c.turn.new.self.floor c.in_ok-submitted.submitted c.in_ok-call.ensures.ok c.turn.ensures.part.log (λ none. (c.turn.ensures.idle (c.in_ok-turn.was ∙ ap Ok (c.in_ok-turn.ensures.sent ∙ none))).orders)
