@@ -90,3 +90,11 @@ idle_call old mid new c called grown idle alone =
     let n = ap length called.entry ∙ length_push old (entry_at old session_pass c called.now) in
     let m = ap length grown ∙ length-append mid (since mid new) in
     ap (λ (log : List Entry). starting (after opening log)) (same_list mid new grown (omega arith)) ∙ idle (omega arith)
+
+-- one look more has made one entry more
+pub looks_more : (a b c : List Entry) (n : ℕ) → Extends a b → Extends b c → length b < length c → n ≤ length (since a b) → n + 1 ≤ length (since a c)
+looks_more a b c n ab bc longer some =
+    let ac = Extends-then a b c ab bc in
+    let x = ap length ab ∙ length-append a (since a b) in
+    let z = ap length ac ∙ length-append a (since a c) in
+    omega arith
