@@ -10,6 +10,13 @@ whole rest short = take_whole 8192 rest short
 pub line_whole : (rest bytes : List ℕ) (long : Bool) → bytes ≡ take 8192 rest → long ≡ nat_lt 8192 (length rest) → long ≡ false → bytes ≡ rest
 line_whole rest bytes long b l f = b ∙ whole rest (grind (arith, nat_tests))
 
+-- a buffer that isn't full holds a line that has room
+pub has_room : (rest bytes : List ℕ) → bytes ≡ take 8192 rest → length bytes < 8192 → length rest < 8192
+has_room rest bytes b short =
+    let n = length-take 8192 rest in
+    let e = ap length b in
+    omega arith
+
 pub push_bytes : (rest bytes : List ℕ) (byte : ℕ) → bytes ≡ take 8192 rest → length bytes < 8192 → bytes ++ byte ∷ [] ≡ take 8192 (rest ++ byte ∷ [])
 push_bytes rest bytes byte b short =
     let n = length-take 8192 rest in

@@ -1,7 +1,8 @@
-use Rattle.std.proofs.Common.{ℕ, List, inl, inr, subst}
+use Rattle.std.proofs.Common.{ℕ, List, Ok, ◌∙◌, ap, inl, inr, subst}
 use Rattle.wrkmgr.proofs.Commands.{commanded, commanded_some, Serves-same}
 use Rattle.wrkmgr.proofs.Servings.{Serves-call, Serves-then, Serves-monitor}
 use Rattle.wrkmgr.proofs.StoppedRuns.{Untouched-same, WritesSome-all, on_err}
+use Rattle.wrkmgr.proofs.Turns.{idle_call}
 use Rattle.wm_law.specs.declared.call.Call.TheVariants.{Change}
 use Rattle.wrkmgr.specs.Calls.{Called}
 use Rattle.wrkmgr.specs.Reading.{session_user}
@@ -49,3 +50,7 @@ pub returns-in_err-turn-clause-stopped : goal.returns-in_err-turn-clause-stopped
 returns-in_err-turn-clause-stopped g c =
     on_err _ (inr (WritesSome-all _ _ _ _ c.in_ok-refused.refused
     (commanded c.args.self.now.floor c.call.new.self.floor c.turn.new.self.floor c.args.command _ _ c.in_ok-refused.refused (subst (λ (user : List ℕ). Called c.args.self.now.floor (Change user c.args.command) c.call.new.self.floor) c.of-user.ensures c.in_ok-call.ensures.ok) c.turn.ensures.part.log c.turn.ensures.part.own c.in_ok-refused.ensures.ok)))
+
+pub returns-clause-orders : goal.returns-clause-orders
+returns-clause-orders g c =
+    idle_call c.args.self.now.floor c.call.new.self.floor c.turn.new.self.floor (Change session_user c.args.command) (subst (λ (user : List ℕ). Called c.args.self.now.floor (Change user c.args.command) c.call.new.self.floor) c.of-user.ensures c.in_ok-call.ensures.ok) c.turn.ensures.part.log (λ none. (c.turn.ensures.idle (c.in_ok-turn.was ∙ ap Ok (c.in_ok-turn.ensures.sent ∙ none))).orders)
