@@ -21,11 +21,6 @@ use Rattle.wrkmgr.specs.Lists.{since, Extends}
 use Rattle.wrkmgr.specs.Monitor.{MonitorView, Advances, RisesBy, is_own, is_spawner_fault, monitor_pass, reported, call_of, as_reports}
 use Rattle.wrkmgr.specs.Serving.{Serves, is_of_run}
 use Rattle.wrkmgr.specs.Session.{AnsweredBy, Submits, OneCall, session_pass, submit_call}
-use Rattle.wrkmgr.specs.LineBuffer.{Holds}
-use Rattle.wrkmgr.specs.Lines.{cut_from}
-use Rattle.wrkmgr.specs.Taking.{TakesPiece}
-use Rattle.wrkmgr.specs.declared.line.LineBuffer.{LineBuffer}
-use Rattle.wrkmgr.proofs.Takings.{TakesPiece-then, TakesPiece-none}
 use Rattle.wrkmgr.specs.View.{view}
 use Rattle.wrkmgr.specs.declared.monitor.Monitor.{Monitor}
 use Rattle.wrkmgr.proofs.Monitors.{since-append, since-then, Extends-then, count-append, RisesBy-then, reports-push, last_of-push}
@@ -136,15 +131,6 @@ submitted old mid new text name c before now refused h is grown own said =
 -- a history has nothing since itself
 pub session_entries-none : (log : List Entry) → entries_of session_pass (since log log) ≡ []
 session_entries-none log = ap (entries_of session_pass) (drop-length log)
-
--- a piece of the input, and then another, with the session's entries
-pub taken_then : (r xs ys : List ℕ) (b d : LineBuffer) (old mid new : List Entry) (u v w : Option (List ℕ)) (f g : Bool) → Extends old mid → Extends mid new → TakesPiece (cut_from r xs) b (entries_of session_pass (since old mid)) u v f → ((rest : List ℕ) → Holds b rest → TakesPiece (cut_from rest ys) d (entries_of session_pass (since mid new)) v w g) → TakesPiece (cut_from r (xs ++ ys)) d (entries_of session_pass (since old new)) u w (f || g)
-taken_then r xs ys b d old mid new u v w f g h k first second =
-    subst (λ (es : List Entry). TakesPiece (cut_from r (xs ++ ys)) d es u w (f || g)) (sym (session_entries-then old mid new h k)) (TakesPiece-then r xs ys b d _ _ u v w f g first second)
-
--- nothing taken
-pub taken_none : (r : List ℕ) (b : LineBuffer) (log : List Entry) (w : Option (List ℕ)) → Holds b r → TakesPiece (cut_from r []) b (entries_of session_pass (since log log)) w w false
-taken_none r b log w h = subst (λ (es : List Entry). TakesPiece (cut_from r []) b es w w false) (sym (session_entries-none log)) (TakesPiece-none r b w h)
 
 -- a call of the session, and then entries of the monitor
 pub one_call : (old mid new : List Entry) (c d : Call) → Called old c mid → c ≡ d → Extends mid new → list_all is_own (since mid new) ≡ true → OneCall d (entries_of session_pass (since old new))
