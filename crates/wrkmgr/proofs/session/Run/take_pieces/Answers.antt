@@ -1,10 +1,11 @@
-use Rattle.std.proofs.Common.{arith, refl, Err, ◌+◌, ◌≡◌, take}
+use Rattle.std.proofs.Common.{arith, refl, Err, ◌+◌, ◌≡◌, [], take}
 use Rattle.std.proofs.lemmas.List.{length-take-le}
 use Rattle.std.proofs.lemmas.Bool.Decides.{nat_tests}
 use Rattle.std.proofs.lemmas.Result.{err_from_is_err_and}
-use Rattle.wrkmgr.proofs.Inputs.{input_then, input_end, count_then}
-use Rattle.wrkmgr.proofs.Servings.{Serves-then}
-use Rattle.wrkmgr.proofs.StoppedRuns.{input_same, input_stops, input_stops_in, input_stops_last, full_read, not_full, on_err, take_none}
+use Rattle.wm_outside.proofs.Telling.{Takes-none}
+use Rattle.wrkmgr.proofs.Inputs.{input_none, input_then, input_end, count_then}
+use Rattle.wrkmgr.proofs.Servings.{Serves-none, Serves-then}
+use Rattle.wrkmgr.proofs.StoppedRuns.{input_same, input_stops, input_stops_none, input_stops_in, input_stops_last, full_read, not_full, on_err, take_none}
 use Rattle.wrkmgr.proofs.session.Run.take_pieces.Goals as goal
 
 pub returns-in_err-wrong-clause-serves : goal.returns-in_err-wrong-clause-serves
@@ -15,6 +16,24 @@ returns-then-n-eq0-clause-serves g c = Serves-then _ _ _ c.reads.invariant.serve
 
 pub returns-in_err-wrong-2-clause-serves : goal.returns-in_err-wrong-2-clause-serves
 returns-in_err-wrong-2-clause-serves g c = Serves-then _ _ _ c.reads.invariant.serves c.take_piece.ensures.serves
+
+pub returns-in_err-joiner-clause-stopped : goal.returns-in_err-joiner-clause-stopped
+returns-in_err-joiner-clause-stopped g c =
+    on_err _ (input_stops_none (g.I.Source.left c.args.input.now) c.args.self.now.floor (g.O.Sink.written c.args.out.now))
+
+pub reads-init : goal.reads-init
+reads-init g c =
+    let x = g.I.Source.left c.args.input.now in
+    record {
+      serves = Serves-none _;
+      count = record { bytes = []; taken = Takes-none x; done = refl };
+      taken = input_none c.in_ok-joiner.joiner x c.args.self.now.floor (g.O.Sink.written c.args.out.now) c.in_ok-joiner.ensures;
+      read = omega arith;
+      written = omega arith;
+      looked = omega arith;
+      total = omega arith;
+      piece = c.requires;
+    }
 
 pub reads-preserved : goal.reads-preserved
 reads-preserved g c =
@@ -73,8 +92,8 @@ returns-in_err-wrong-2-clause-stopped g c =
 pub returns-in_err-n-clause-full : goal.returns-in_err-n-clause-full
 returns-in_err-n-clause-full g c =
     let x = g.I.Source in
-    let p = err_from_is_err_and c.from_residual.result c.from_residual.ensures.1 in
-    full_read (Err c.in_err-n.field-0.0) c.from_residual.result c.in_err-n.field-0.0 p.0 (x.left c.args.input.now) (x.left c.reads.input) (x.left c.read.new.input) c.reads.total refl p.1 p.2 c.reads.invariant.count c.in_err-n.ensures.full
+    let p = err_from_is_err_and c.from_residual-in_err-n.result c.from_residual-in_err-n.ensures.1 in
+    full_read (Err c.in_err-n.field-0.0) c.from_residual-in_err-n.result c.in_err-n.field-0.0 p.0 (x.left c.args.input.now) (x.left c.reads.input) (x.left c.read.new.input) c.reads.total refl p.1 p.2 c.reads.invariant.count c.in_err-n.ensures.full
 
 pub returns-in_err-wrong-clause-full : goal.returns-in_err-wrong-clause-full
 returns-in_err-wrong-clause-full g c =
