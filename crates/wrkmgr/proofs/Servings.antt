@@ -1,5 +1,5 @@
 -- Laws of a run's parts: nothing, a monitor's part, a call of the session, and one part after another.
-use Rattle.std.proofs.Common.{◌≡◌, ℕ, ◌==◌, ◌&&◌, ◌||◌, Bool, true, false, List, [], ◌∷◌, ◌++◌, map, Option, Some, option_to_list, sym, ap, subst, ◌∙◌, refl, append_assoc, arith}
+use Rattle.std.proofs.Common.{◌≡◌, ℕ, ◌==◌, ◌&&◌, true, false, List, [], ◌∷◌, ◌++◌, map, Option, option_to_list, sym, ap, subst, ◌∙◌, refl, append_assoc, arith}
 use Rattle.std.specs.List.{list_all, count_by}
 use Rattle.std.proofs.Math.Seq.{drop-length}
 use Rattle.std.proofs.lemmas.Bool.Decides.{nat_tests}
@@ -14,16 +14,14 @@ use Rattle.wm_outside.specs.declared.spawner.Told.{Told}
 use Rattle.wm_outside.specs.Told.{Grows}
 use Rattle.wm_outside.proofs.Telling.{Grows-none, Grows-then}
 use Rattle.wrkmgr.specs.Calls.{Called}
-use Rattle.std.specs.Option.{IfSome}
-use Rattle.wrkmgr.specs.Floor.{entry_at, last_of}
-use Rattle.wrkmgr.specs.Said.{said_text, with_end, is_refused}
+use Rattle.wrkmgr.specs.Floor.{entry_at}
 use Rattle.wrkmgr.specs.Lists.{since, Extends}
 use Rattle.wrkmgr.specs.Monitor.{MonitorView, Advances, RisesBy, is_own, is_spawner_fault, monitor_pass, reported, call_of, as_reports}
 use Rattle.wrkmgr.specs.Serving.{Serves, is_of_run}
-use Rattle.wrkmgr.specs.Session.{AnsweredBy, Submits, OneCall, session_pass, submit_call}
+use Rattle.wrkmgr.specs.Session.{OneCall, session_pass}
 use Rattle.wrkmgr.specs.View.{view}
 use Rattle.wrkmgr.specs.declared.monitor.Monitor.{Monitor}
-use Rattle.wrkmgr.proofs.Monitors.{since-append, since-then, Extends-then, count-append, RisesBy-then, reports-push, last_of-push}
+use Rattle.wrkmgr.proofs.Monitors.{since-append, since-then, Extends-then, count-append, RisesBy-then, reports-push}
 
 -- a part that is known by its entries and its reports
 pub Serves-by : (old new : MonitorView) (entries : List Entry) (more : List Call) → new.log ≡ old.log ++ entries → reported new.log new.kept ≡ reported old.log old.kept ++ more → list_all is_of_run entries ≡ true → Grows old.asked new.asked (orders entries monitor_pass) → Grows old.told new.told more → RisesBy old.misses (count_by is_spawner_fault more) new.misses → Serves old new
@@ -112,21 +110,6 @@ Extends-called old new c h = h.entry ∙ ap (λ xs. old ++ xs) (sym (ap (since o
 pub Serves-call : (old new : List Entry) (c : Call) (m n : Monitor) (asked : Option (List Asked)) (told : Option (List Told)) (misses : ℕ) → Called old c new → n ≡ m → Serves (view old m asked told misses) (view new n asked told misses)
 Serves-call old new c m n asked told misses h same =
     subst (λ (x : Monitor). Serves (view old m asked told misses) (view new x asked told misses)) (sym same) (Serves-called old new c m asked told misses h)
-
--- what a line that submits has: its call, its reply, and then entries of the monitor
-pub submitted : (old mid new : List Entry) (text name : List ℕ) (c : Call) (before now : Option (List ℕ)) (refused : Bool) → Called old c mid → c ≡ submit_call text name → Extends mid new → list_all is_own (since mid new) ≡ true → IfSome (last_of mid) (λ e. Grows before now (with_end (said_text e.reply)) × (refused ≡ is_refused e.reply)) → AnsweredBy (Submits text name) (entries_of session_pass (since old new)) before now refused
-submitted old mid new text name c before now refused h is grown own said =
-    let e = entry_at old session_pass c h.now in
-    let last : last_of mid ≡ Some e = ap last_of h.entry ∙ last_of-push old e in
-    let says = subst (λ (o : Option Entry). IfSome o (λ x. Grows before now (with_end (said_text x.reply)) × (refused ≡ is_refused x.reply))) last said in
-    let es = session_entries-then old mid new (Extends-called old mid c h) grown in
-    let one = ap (λ (xs : List Entry). xs ++ entries_of session_pass (since mid new)) (session_entries-called old mid c h) in
-    let none = ap (λ (xs : List Entry). (e ∷ []) ++ xs) (session_entries-own (since mid new) own) in
-    record {
-      bytes = with_end (said_text e.reply);
-      answers = record { entry = e; only = es ∙ (one ∙ none); call = is; says = refl; refused = says.1 };
-      written = says.0;
-    }
 
 -- a history has nothing since itself
 pub session_entries-none : (log : List Entry) → entries_of session_pass (since log log) ≡ []

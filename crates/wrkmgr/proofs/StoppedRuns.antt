@@ -1,6 +1,6 @@
 -- Laws of a run that stops: what its session called and wrote until then.
-use Rattle.std.proofs.Common.{◌≡◌, ◌↔◌, ℕ, ◌+◌, ◌<◌, ◌≤◌, Bool, true, List, [], ◌∷◌, ◌++◌, length, take, Option, Some, Result, Ok, Err, sym, ap, subst, ◌∙◌, refl, inl, inr, arith}
-use Rattle.std.specs.Prelude.{IfSome, IsErrOf, OnErr}
+use Rattle.std.proofs.Common.{◌≡◌, ◌↔◌, ℕ, ◌+◌, ◌<◌, ◌≤◌, Bool, true, List, [], ◌++◌, length, take, Option, Result, Ok, Err, sym, ap, subst, ◌∙◌, inl, inr, arith}
+use Rattle.std.specs.Prelude.{IsErrOf, OnErr}
 use Rattle.std.specs.List.{list_all}
 use Rattle.std.proofs.Math.Seq.{take-length}
 use Rattle.std.proofs.lemmas.List.{append-nil, length-append}
@@ -12,19 +12,16 @@ use Rattle.wm_law.specs.declared.call.Entry.{Entry}
 use Rattle.wm_law.specs.History.{entries_of}
 use Rattle.wm_outside.specs.Told.{Grows, Takes}
 use Rattle.wm_outside.proofs.Telling.{Grows-none, Takes-none, Takes-then}
-use Rattle.wrkmgr.specs.Calls.{Called}
-use Rattle.wrkmgr.specs.Floor.{entry_at, last_of}
 use Rattle.wrkmgr.specs.Lists.{since, Extends}
 use Rattle.wrkmgr.specs.Monitor.{is_own}
-use Rattle.wrkmgr.specs.Said.{said_text, with_end}
-use Rattle.wrkmgr.specs.Session.{Answers, AnsweredBy, AnswersLine, OneCall, Submits, session_pass, start_call, end_call, submit_call}
-use Rattle.wrkmgr.specs.Stopped.{AtMostOne, IsCutShort, IsStopped, StopsIn, Untouched, WritesSome}
+use Rattle.wrkmgr.specs.Session.{Answers, AnsweredBy, OneCall, session_pass, start_call, end_call}
+use Rattle.wrkmgr.specs.Stopped.{AtMostOne, IsStopped, StopsIn, Untouched, WritesSome}
 use Rattle.wrkmgr.specs.Taking.{TakesInput, TakesPiece}
 use Rattle.wrkmgr.specs.declared.stop.Stop.{Stop}
 use Rattle.wrkmgr.specs.declared.stop.Stop.TheVariants.{InputFull}
-use Rattle.wrkmgr.proofs.Monitors.{Extends-then, last_of-push}
+use Rattle.wrkmgr.proofs.Monitors.{Extends-then}
 use Rattle.wrkmgr.proofs.Runs.{session_parts}
-use Rattle.wrkmgr.proofs.Servings.{session_entries-called, session_entries-none, session_entries-own, session_entries-then}
+use Rattle.wrkmgr.proofs.Servings.{session_entries-none, session_entries-own, session_entries-then}
 use Rattle.wrkmgr.proofs.StoppedLines.{StopsIn-after, StopsIn-none, StopsIn-untouched, StopsIn-whole, stops_front, stops_then}
 use Rattle.wrkmgr.proofs.Takings.{TakesPiece-lines, TakesPiece-more}
 
@@ -49,20 +46,6 @@ Untouched-same old new w is = subst (λ (l : List Entry). Untouched (entries_of 
 pub WritesSome-all : (Due : List Entry → List ℕ → Bool → Type 0) (es : List Entry) (a b : Option (List ℕ)) (f : Bool) → AnsweredBy Due es a b f → WritesSome Due es a b
 WritesSome-all Due es a b f h =
     record { due = h.bytes; faulty = f; answers = h.answers; count = length h.bytes; written = subst (λ (l : List ℕ). Grows a b l) (sym (take-length h.bytes)) h.written }
-
--- what is said of a call's reply was written in part
-pub submitted_some : (old mid : List Entry) (text name : List ℕ) (c : Call) (before now : Option (List ℕ)) → Called old c mid → c ≡ submit_call text name → IfSome (last_of mid) (λ e. (n : ℕ) × Grows before now (take n (with_end (said_text e.reply)))) → WritesSome (Submits text name) (entries_of session_pass (since old mid)) before now
-submitted_some old mid text name c before now h is said =
-    let e = entry_at old session_pass c h.now in
-    let last : last_of mid ≡ Some e = ap last_of h.entry ∙ last_of-push old e in
-    let says = subst (λ (o : Option Entry). IfSome o (λ x. (n : ℕ) × Grows before now (take n (with_end (said_text x.reply))))) last said in
-    record {
-      due = with_end (said_text e.reply);
-      faulty = _;
-      answers = record { entry = e; only = session_entries-called old mid c h; call = is; says = refl; refused = refl };
-      count = says.0;
-      written = says.1;
-    }
 
 -- a call was made or not, and entries of the monitor follow
 pub no_call : {c : Call} (old new : List Entry) → list_all is_own (since old new) ≡ true → AtMostOne c (entries_of session_pass (since old new))

@@ -153,8 +153,7 @@ impl Run {
         let mut faulty = false;
         let mut at = 0;
         'lines: while at < piece.len() {
-            let (taken, wrong) =
-                self.take_line(alloc, out, spawner, clock, joiner, &piece[at..])?;
+            let (taken, wrong) = self.take_line(alloc, out, spawner, clock, joiner, &piece[at..])?;
             faulty = either(faulty, wrong);
             at += taken;
         }

@@ -78,7 +78,7 @@ impl Run {
     ghost use Rattle.wm_law.specs.History.{after, entries_of, IsLegal};
     ghost use Rattle.wm_law.specs.Opening.{opening};
     ghost use Rattle.wm_law.specs.Pending.{active};
-        ghost use Rattle.wrkmgr.specs.Lists.{since};
+    ghost use Rattle.wrkmgr.specs.Lists.{since};
     ghost use Rattle.wrkmgr.specs.Serving.{Serves};
     ghost use Rattle.wrkmgr.specs.Session.{IsSession, session_pass};
     ghost use Rattle.wrkmgr.specs.Stop.{HasInputCauses};

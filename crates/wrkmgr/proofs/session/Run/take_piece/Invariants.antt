@@ -1,4 +1,4 @@
-use Rattle.std.proofs.Common.{◌-◌, ◌≤◌, drop, length}
+use Rattle.std.proofs.Common.{◌-◌, drop, length}
 use Rattle.wm_law.specs.History.{entries_of}
 use Rattle.wrkmgr.specs.Lists.{since}
 use Rattle.wrkmgr.specs.Session.{session_pass}
