@@ -3,8 +3,9 @@ use Rattle.std.proofs.Common.{ℕ, ◌≤◌, ◌<◌, List, length}
 use Rattle.wrkmgr.specs.Monitor.{MonitorView}
 use Rattle.wrkmgr.specs.Serving.{Serves}
 
--- what stays true while bytes are taken
-pub record PieceLoop (old new : MonitorView) (written_before written_now looked_before looked_now : ℕ) (Taken : Type 0) : Type 0 where
+-- what stays true while the lines of a piece are taken
+pub record PieceLoop (old new : MonitorView) (written_before written_now looked_before looked_now : ℕ) (at : ℕ) (piece : List ℕ) (Taken : Type 0) : Type 0 where
+  pub within : at ≤ length piece
   pub serves : Serves old new
   pub taken : Taken
   pub written : written_before ≤ written_now

@@ -3,8 +3,6 @@ pub mod Monitors
 pub mod Turns
 pub mod MonitorLoops
 pub mod Writes
-pub mod Lines
-pub mod Firsts
 pub mod Inputs
 pub mod InputLoops
 pub mod Causes

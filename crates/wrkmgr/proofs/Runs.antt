@@ -3,11 +3,11 @@ use Rattle.std.proofs.Common.{◌≡◌, ℕ, ◌<◌, ◌≤◌, ◌==◌, Bool
 use Rattle.std.specs.Prelude.{◌↔◌, IfOk, OnOk, OnErr, IsErrOf}
 use Rattle.std.specs.List.{list_all}
 use Rattle.wm_base.specs.declared.job.Asked.{Asked}
+use Rattle.wm_clwords.specs.Lines.{logical_lines}
 use Rattle.wm_law.specs.declared.call.Entry.{Entry}
 use Rattle.wm_law.specs.History.{entries_of}
 use Rattle.wm_outside.specs.declared.spawner.Told.{Told}
 use Rattle.wm_outside.proofs.Telling.{Grows-none, Takes-none}
-use Rattle.wrkmgr.specs.Lines.{lines_of}
 use Rattle.wrkmgr.specs.Lists.{since, Extends}
 use Rattle.wrkmgr.specs.Monitor.{as_reports}
 use Rattle.wrkmgr.specs.Run.{IsRunStatus, IsServed, ended_status}
@@ -24,7 +24,7 @@ use Rattle.wrkmgr.proofs.Monitors.{Extends-then}
 use Rattle.wrkmgr.proofs.Servings.{session_entries-then}
 
 -- the first call, the lines and the last call, one after another
-pub session_parts : (a b c d : List Entry) (x y u v : Option (List ℕ)) (f : Bool) → Extends a b → Extends b c → Extends c d → OneCall start_call (entries_of session_pass (since a b)) → TakesInput x y (λ bytes. AnsweredBy (Answers (lines_of bytes)) (entries_of session_pass (since b c)) u v f) → OneCall end_call (entries_of session_pass (since c d)) → TakesInput x y (λ bytes. IsSession (lines_of bytes) (entries_of session_pass (since a d)) u v f)
+pub session_parts : (a b c d : List Entry) (x y u v : Option (List ℕ)) (f : Bool) → Extends a b → Extends b c → Extends c d → OneCall start_call (entries_of session_pass (since a b)) → TakesInput x y (λ bytes. AnsweredBy (Answers (logical_lines bytes)) (entries_of session_pass (since b c)) u v f) → OneCall end_call (entries_of session_pass (since c d)) → TakesInput x y (λ bytes. IsSession (logical_lines bytes) (entries_of session_pass (since a d)) u v f)
 session_parts a b c d x y u v f ab bc cd start taken end =
     let more = session_entries-then a b d ab (Extends-then b c d bc cd) in
     let rest = session_entries-then b c d bc cd in
@@ -130,7 +130,7 @@ full_exactly r x y h =
 pub full_not : (status : ℕ) (x : Option (List ℕ)) → status < 11 → TakesInput x x (λ bytes. (status ≡ 11) ↔ (1000000000 < length bytes))
 full_not status x less = record { bytes = []; taken = Takes-none x; done = ((λ is. absurd (omega arith)), (λ more. absurd (omega arith))) }
 
-pub stopped_not : (log : List Entry) (x w : Option (List ℕ)) → log ≡ [] → TakesInput x x (λ bytes. IsStopped (lines_of bytes) (entries_of session_pass log) w w)
+pub stopped_not : (log : List Entry) (x w : Option (List ℕ)) → log ≡ [] → TakesInput x x (λ bytes. IsStopped (logical_lines bytes) (entries_of session_pass log) w w)
 stopped_not log x w none = record { bytes = []; taken = Takes-none x; done = inl (record { none = ap (entries_of session_pass) none; written = Grows-none w }) }
 
 -- the status of an end is one of a run's
@@ -144,8 +144,8 @@ is_status (Err WaitFault) = refl
 is_status (Err InputFull) = refl
 
 -- a session that stopped, of a history that begins with nothing
-pub stopped_from : (first log : List Entry) (x y u v : Option (List ℕ)) → first ≡ [] → TakesInput x y (λ bytes. IsStopped (lines_of bytes) (entries_of session_pass (since first log)) u v) → TakesInput x y (λ bytes. IsStopped (lines_of bytes) (entries_of session_pass log) u v)
-stopped_from first log x y u v none h = subst (λ (l : List Entry). TakesInput x y (λ bytes. IsStopped (lines_of bytes) (entries_of session_pass (since l log)) u v)) none h
+pub stopped_from : (first log : List Entry) (x y u v : Option (List ℕ)) → first ≡ [] → TakesInput x y (λ bytes. IsStopped (logical_lines bytes) (entries_of session_pass (since first log)) u v) → TakesInput x y (λ bytes. IsStopped (logical_lines bytes) (entries_of session_pass log) u v)
+stopped_from first log x y u v none h = subst (λ (l : List Entry). TakesInput x y (λ bytes. IsStopped (logical_lines bytes) (entries_of session_pass (since l log)) u v)) none h
 
 few_kept : (kept : Option Report) → length (option_to_list kept) ≤ 1
 few_kept None = omega arith
@@ -169,5 +169,5 @@ pub callers_from : (first log : List Entry) → first ≡ [] → list_all is_of_
 callers_from first log none h = subst (λ (l : List Entry). list_all is_of_run (since l log) ≡ true) none h
 
 -- a session of a history that begins with nothing
-pub session_from : (first log : List Entry) (x y u v : Option (List ℕ)) (f : Bool) → first ≡ [] → TakesInput x y (λ bytes. IsSession (lines_of bytes) (entries_of session_pass (since first log)) u v f) → TakesInput x y (λ bytes. IsSession (lines_of bytes) (entries_of session_pass log) u v f)
-session_from first log x y u v f none h = subst (λ (l : List Entry). TakesInput x y (λ bytes. IsSession (lines_of bytes) (entries_of session_pass (since l log)) u v f)) none h
+pub session_from : (first log : List Entry) (x y u v : Option (List ℕ)) (f : Bool) → first ≡ [] → TakesInput x y (λ bytes. IsSession (logical_lines bytes) (entries_of session_pass (since first log)) u v f) → TakesInput x y (λ bytes. IsSession (logical_lines bytes) (entries_of session_pass log) u v f)
+session_from first log x y u v f none h = subst (λ (l : List Entry). TakesInput x y (λ bytes. IsSession (logical_lines bytes) (entries_of session_pass (since l log)) u v f)) none h

@@ -1,5 +1,5 @@
 -- Laws of a run's parts: nothing, a monitor's part, a call of the session, and one part after another.
-use Rattle.std.proofs.Common.{◌≡◌, ℕ, ◌==◌, ◌&&◌, ◌||◌, Bool, true, false, List, [], ◌∷◌, ◌++◌, map, Option, Some, option_to_list, sym, ap, subst, ◌∙◌, refl, append_assoc, arith}
+use Rattle.std.proofs.Common.{◌≡◌, ℕ, ◌==◌, ◌&&◌, true, false, List, [], ◌∷◌, ◌++◌, map, Option, option_to_list, sym, ap, subst, ◌∙◌, refl, append_assoc, arith}
 use Rattle.std.specs.List.{list_all, count_by}
 use Rattle.std.proofs.Math.Seq.{drop-length}
 use Rattle.std.proofs.lemmas.Bool.Decides.{nat_tests}
@@ -14,21 +14,14 @@ use Rattle.wm_outside.specs.declared.spawner.Told.{Told}
 use Rattle.wm_outside.specs.Told.{Grows}
 use Rattle.wm_outside.proofs.Telling.{Grows-none, Grows-then}
 use Rattle.wrkmgr.specs.Calls.{Called}
-use Rattle.std.specs.Option.{IfSome}
-use Rattle.wrkmgr.specs.Floor.{entry_at, last_of}
-use Rattle.wrkmgr.specs.Said.{said_text, with_end, is_refused}
+use Rattle.wrkmgr.specs.Floor.{entry_at}
 use Rattle.wrkmgr.specs.Lists.{since, Extends}
 use Rattle.wrkmgr.specs.Monitor.{MonitorView, Advances, RisesBy, is_own, is_spawner_fault, monitor_pass, reported, call_of, as_reports}
 use Rattle.wrkmgr.specs.Serving.{Serves, is_of_run}
 use Rattle.wrkmgr.specs.Session.{OneCall, session_pass}
-use Rattle.wrkmgr.specs.LineBuffer.{Holds}
-use Rattle.wrkmgr.specs.Lines.{cut_from}
-use Rattle.wrkmgr.specs.Taking.{TakesPiece}
-use Rattle.wrkmgr.specs.declared.line.LineBuffer.{LineBuffer}
-use Rattle.wrkmgr.proofs.Takings.{TakesPiece-then, TakesPiece-none}
 use Rattle.wrkmgr.specs.View.{view}
 use Rattle.wrkmgr.specs.declared.monitor.Monitor.{Monitor}
-use Rattle.wrkmgr.proofs.Monitors.{since-append, since-then, Extends-then, count-append, RisesBy-then, reports-push, last_of-push}
+use Rattle.wrkmgr.proofs.Monitors.{since-append, since-then, Extends-then, count-append, RisesBy-then, reports-push}
 
 -- a part that is known by its entries and its reports
 pub Serves-by : (old new : MonitorView) (entries : List Entry) (more : List Call) → new.log ≡ old.log ++ entries → reported new.log new.kept ≡ reported old.log old.kept ++ more → list_all is_of_run entries ≡ true → Grows old.asked new.asked (orders entries monitor_pass) → Grows old.told new.told more → RisesBy old.misses (count_by is_spawner_fault more) new.misses → Serves old new
@@ -121,15 +114,6 @@ Serves-call old new c m n asked told misses h same =
 -- a history has nothing since itself
 pub session_entries-none : (log : List Entry) → entries_of session_pass (since log log) ≡ []
 session_entries-none log = ap (entries_of session_pass) (drop-length log)
-
--- a piece of the input, and then another, with the session's entries
-pub taken_then : (r xs ys : List ℕ) (b d : LineBuffer) (old mid new : List Entry) (u v w : Option (List ℕ)) (f g : Bool) → Extends old mid → Extends mid new → TakesPiece (cut_from r xs) b (entries_of session_pass (since old mid)) u v f → ((rest : List ℕ) → Holds b rest → TakesPiece (cut_from rest ys) d (entries_of session_pass (since mid new)) v w g) → TakesPiece (cut_from r (xs ++ ys)) d (entries_of session_pass (since old new)) u w (f || g)
-taken_then r xs ys b d old mid new u v w f g h k first second =
-    subst (λ (es : List Entry). TakesPiece (cut_from r (xs ++ ys)) d es u w (f || g)) (sym (session_entries-then old mid new h k)) (TakesPiece-then r xs ys b d _ _ u v w f g first second)
-
--- nothing taken
-pub taken_none : (r : List ℕ) (b : LineBuffer) (log : List Entry) (w : Option (List ℕ)) → Holds b r → TakesPiece (cut_from r []) b (entries_of session_pass (since log log)) w w false
-taken_none r b log w h = subst (λ (es : List Entry). TakesPiece (cut_from r []) b es w w false) (sym (session_entries-none log)) (TakesPiece-none r b w h)
 
 -- a call of the session, and then entries of the monitor
 pub one_call : (old mid new : List Entry) (c d : Call) → Called old c mid → c ≡ d → Extends mid new → list_all is_own (since mid new) ≡ true → OneCall d (entries_of session_pass (since old new))

@@ -1,31 +1,29 @@
 -- Laws of a run that stops: what its session called and wrote until then.
-use Rattle.std.proofs.Common.{◌≡◌, ◌↔◌, ℕ, ◌+◌, ◌<◌, ◌≤◌, Bool, true, List, [], ◌∷◌, ◌++◌, length, take, drop, get_or, Option, Some, Result, Ok, Err, sym, ap, subst, ◌∙◌, refl, inl, inr, arith}
-use Rattle.std.specs.Prelude.{IfSome, IsErrOf, OnErr}
+use Rattle.std.proofs.Common.{◌≡◌, ◌↔◌, ℕ, ◌+◌, ◌<◌, ◌≤◌, Bool, true, List, [], ◌++◌, length, take, Option, Result, Ok, Err, sym, ap, subst, ◌∙◌, inl, inr, arith}
+use Rattle.std.specs.Prelude.{IsErrOf, OnErr}
 use Rattle.std.specs.List.{list_all}
 use Rattle.std.proofs.Math.Seq.{take-length}
-use Rattle.std.proofs.lemmas.List.{append-nil, take_more, take-append-drop, length-append}
+use Rattle.std.proofs.lemmas.List.{append-nil, length-append}
+use Rattle.wm_clwords.specs.Lines.{logical_lines}
+use Rattle.wm_clwords.specs.Part.{Part, fresh, lines_from}
+use Rattle.wm_clwords.proofs.LinesLaw.{lines_from-fresh}
 use Rattle.wm_law.specs.declared.call.Call.{Call}
 use Rattle.wm_law.specs.declared.call.Entry.{Entry}
 use Rattle.wm_law.specs.History.{entries_of}
 use Rattle.wm_outside.specs.Told.{Grows, Takes}
 use Rattle.wm_outside.proofs.Telling.{Grows-none, Takes-none, Takes-then}
-use Rattle.wrkmgr.specs.Calls.{Called}
-use Rattle.wrkmgr.specs.Floor.{entry_at, last_of}
-use Rattle.wrkmgr.specs.LineBuffer.{Holds}
-use Rattle.wrkmgr.specs.Lines.{cut_from, lines_of}
 use Rattle.wrkmgr.specs.Lists.{since, Extends}
 use Rattle.wrkmgr.specs.Monitor.{is_own}
-use Rattle.wrkmgr.specs.Said.{said_text, with_end}
-use Rattle.wrkmgr.specs.Session.{Answers, AnsweredBy, AnswersLine, OneCall, session_pass, start_call, end_call}
-use Rattle.wrkmgr.specs.Stopped.{AtMostOne, IsCutShort, IsStopped, StopsIn, Untouched, WritesSome}
+use Rattle.wrkmgr.specs.Session.{Answers, AnsweredBy, OneCall, session_pass, start_call, end_call}
+use Rattle.wrkmgr.specs.Stopped.{AtMostOne, IsStopped, StopsIn, Untouched, WritesSome}
 use Rattle.wrkmgr.specs.Taking.{TakesInput, TakesPiece}
-use Rattle.wrkmgr.specs.declared.line.LineBuffer.{LineBuffer}
 use Rattle.wrkmgr.specs.declared.stop.Stop.{Stop}
 use Rattle.wrkmgr.specs.declared.stop.Stop.TheVariants.{InputFull}
-use Rattle.wrkmgr.proofs.Monitors.{Extends-then, last_of-push}
+use Rattle.wrkmgr.proofs.Monitors.{Extends-then}
 use Rattle.wrkmgr.proofs.Runs.{session_parts}
-use Rattle.wrkmgr.proofs.Servings.{session_entries-called, session_entries-none, session_entries-own, session_entries-then}
-use Rattle.wrkmgr.proofs.StoppedLines.{StopsIn-none, StopsIn-untouched, StopsIn-whole, stops_front, stops_last, stops_lines, stops_then}
+use Rattle.wrkmgr.proofs.Servings.{session_entries-none, session_entries-own, session_entries-then}
+use Rattle.wrkmgr.proofs.StoppedLines.{StopsIn-after, StopsIn-none, StopsIn-untouched, StopsIn-whole, stops_front, stops_then}
+use Rattle.wrkmgr.proofs.Takings.{TakesPiece-lines, TakesPiece-more}
 
 -- what holds anyway holds where an error is answered
 pub on_err : {T E P : Type 0} (r : Result T E) → P → OnErr r P
@@ -58,13 +56,13 @@ pub no_call_same : {c : Call} (old mid new : List Entry) → new ≡ mid → lis
 no_call_same old mid new is own = inl (ap (λ (l : List Entry). entries_of session_pass (since old l)) is ∙ session_entries-own (since old mid) own)
 
 -- a session that stopped as it began
-pub stopped_begin : (x w : Option (List ℕ)) (es : List Entry) → AtMostOne start_call es → TakesInput x x (λ bytes. IsStopped (lines_of bytes) es w w)
+pub stopped_begin : (x w : Option (List ℕ)) (es : List Entry) → AtMostOne start_call es → TakesInput x x (λ bytes. IsStopped (logical_lines bytes) es w w)
 stopped_begin x w es (inl none) = record { bytes = []; taken = Takes-none x; done = inl (record { none = none; written = Grows-none w }) }
 stopped_begin x w es (inr start) =
-    record { bytes = []; taken = Takes-none x; done = inr (inl (record { first = es; middle = []; parts = sym (append-nil es); start = start; stops = StopsIn-none (lines_of []) w })) }
+    record { bytes = []; taken = Takes-none x; done = inr (inl (record { first = es; middle = []; parts = sym (append-nil es); start = start; stops = StopsIn-none (logical_lines []) w })) }
 
 -- one that stopped in its lines
-pub stopped_lines : (a b c : List Entry) (x y u v : Option (List ℕ)) → Extends a b → Extends b c → OneCall start_call (entries_of session_pass (since a b)) → TakesInput x y (λ bytes. StopsIn (lines_of bytes) (entries_of session_pass (since b c)) u v) → TakesInput x y (λ bytes. IsStopped (lines_of bytes) (entries_of session_pass (since a c)) u v)
+pub stopped_lines : (a b c : List Entry) (x y u v : Option (List ℕ)) → Extends a b → Extends b c → OneCall start_call (entries_of session_pass (since a b)) → TakesInput x y (λ bytes. StopsIn (logical_lines bytes) (entries_of session_pass (since b c)) u v) → TakesInput x y (λ bytes. IsStopped (logical_lines bytes) (entries_of session_pass (since a c)) u v)
 stopped_lines a b c x y u v ab bc start taken =
     record {
       bytes = taken.bytes;
@@ -73,7 +71,7 @@ stopped_lines a b c x y u v ab bc start taken =
     }
 
 -- one that stopped behind them
-pub stopped_end : (a b c d : List Entry) (x y u v : Option (List ℕ)) (f : Bool) → Extends a b → Extends b c → Extends c d → OneCall start_call (entries_of session_pass (since a b)) → TakesInput x y (λ bytes. AnsweredBy (Answers (lines_of bytes)) (entries_of session_pass (since b c)) u v f) → AtMostOne end_call (entries_of session_pass (since c d)) → TakesInput x y (λ bytes. IsStopped (lines_of bytes) (entries_of session_pass (since a d)) u v)
+pub stopped_end : (a b c d : List Entry) (x y u v : Option (List ℕ)) (f : Bool) → Extends a b → Extends b c → Extends c d → OneCall start_call (entries_of session_pass (since a b)) → TakesInput x y (λ bytes. AnsweredBy (Answers (logical_lines bytes)) (entries_of session_pass (since b c)) u v f) → AtMostOne end_call (entries_of session_pass (since c d)) → TakesInput x y (λ bytes. IsStopped (logical_lines bytes) (entries_of session_pass (since a d)) u v)
 stopped_end a b c d x y u v f ab bc cd start taken (inl none) =
     let more = session_entries-then a b d ab (Extends-then b c d bc cd) in
     let rest = session_entries-then b c d bc cd ∙ (ap (λ (es : List Entry). entries_of session_pass (since b c) ++ es) none ∙ append-nil _) in
@@ -85,21 +83,17 @@ stopped_end a b c d x y u v f ab bc cd start taken (inl none) =
         middle = entries_of session_pass (since b c);
         parts = more ∙ ap (λ (es : List Entry). entries_of session_pass (since a b) ++ es) rest;
         start = start;
-        stops = StopsIn-whole (lines_of taken.bytes) (entries_of session_pass (since b c)) u v f taken.done;
+        stops = StopsIn-whole (logical_lines taken.bytes) (entries_of session_pass (since b c)) u v f taken.done;
       }));
     }
 stopped_end a b c d x y u v f ab bc cd start taken (inr end) =
     let whole = session_parts a b c d x y u v f ab bc cd start taken end in
     record { bytes = whole.bytes; taken = whole.taken; done = inr (inr (record { faulty = f; session = whole.done })) }
 
--- a piece was taken up to a byte, and that one ends a line whose answer was cut short
-pub stops_piece : (rest piece : List ℕ) (k : ℕ) (buffer : LineBuffer) (old mid new : List Entry) (u v w : Option (List ℕ)) (f : Bool) → k < length piece → Extends old mid → Extends mid new → TakesPiece (cut_from rest (take k piece)) buffer (entries_of session_pass (since old mid)) u v f → ((r : List ℕ) → Holds buffer r → StopsIn (cut_from r (get_or piece k 0 ∷ [])).lines (entries_of session_pass (since mid new)) v w) → StopsIn (cut_from rest piece).lines (entries_of session_pass (since old new)) u w
-stops_piece rest piece k buffer old mid new u v w f short begun grown h stop =
-    let front = stops_then rest (take k piece) (get_or piece k 0 ∷ []) buffer _ _ u v w f h stop in
-    let same = subst (λ (xs : List ℕ). StopsIn (cut_from rest xs).lines (entries_of session_pass (since old mid) ++ entries_of session_pass (since mid new)) u w) (sym (take_more piece k 0 short)) front in
-    let whole = stops_front rest (take (k + 1) piece) (drop (k + 1) piece) _ u w same in
-    subst (λ (xs : List ℕ). StopsIn (cut_from rest xs).lines (entries_of session_pass (since old new)) u w) (take-append-drop (k + 1) piece)
-    (subst (λ (es : List Entry). StopsIn (cut_from rest (take (k + 1) piece ++ drop (k + 1) piece)).lines es u w) (sym (session_entries-then old mid new begun grown)) whole)
+-- a part of a piece was taken, and its next line's answer was cut short
+pub stops_piece : (a b : Part) (piece rest : List ℕ) (old mid new : List Entry) (u v w : Option (List ℕ)) (f : Bool) → Extends old mid → Extends mid new → TakesPiece a piece b rest (entries_of session_pass (since old mid)) u v f → ((more : List ℕ) → StopsIn (lines_from b (rest ++ more)) (entries_of session_pass (since mid new)) v w) → (more : List ℕ) → StopsIn (lines_from a (piece ++ more)) (entries_of session_pass (since old new)) u w
+stops_piece a b piece rest old mid new u v w f begun grown h k more =
+    subst (λ (es : List Entry). StopsIn (lines_from a (piece ++ more)) es u w) (sym (session_entries-then old mid new begun grown)) (stops_then a b piece rest _ _ u v w f h k more)
 
 -- a read that gave no byte
 pub input_same : {P : List ℕ → Type 0} (x y z : Option (List ℕ)) (ys : List ℕ) → ys ≡ [] → TakesInput x y P → Takes y ys z → TakesInput x z P
@@ -108,38 +102,44 @@ input_same x y z ys none h more =
     record { bytes = h.bytes; taken = subst (λ (l : List ℕ). Takes x l z) whole (Takes-then x y z h.bytes ys h.taken more); done = h.done }
 
 -- nothing was read
-pub input_stops_none : (x : Option (List ℕ)) (log : List Entry) (w : Option (List ℕ)) → TakesInput x x (λ bytes. StopsIn (lines_of bytes) (entries_of session_pass (since log log)) w w)
-input_stops_none x log w = record { bytes = []; taken = Takes-none x; done = StopsIn-untouched (lines_of []) (entries_of session_pass (since log log)) w w (Untouched-none log w) }
+pub input_stops_none : (x : Option (List ℕ)) (log : List Entry) (w : Option (List ℕ)) → TakesInput x x (λ bytes. StopsIn (logical_lines bytes) (entries_of session_pass (since log log)) w w)
+input_stops_none x log w = record { bytes = []; taken = Takes-none x; done = StopsIn-untouched (logical_lines []) (entries_of session_pass (since log log)) w w (Untouched-none log w) }
 
 -- bytes that weren't looked at behind those whose lines were answered
-pub input_stops : (x y z : Option (List ℕ)) (buffer : LineBuffer) (es : List Entry) (u v : Option (List ℕ)) (f : Bool) (ys : List ℕ) → TakesInput x y (λ bytes. TakesPiece (cut_from [] bytes) buffer es u v f) → Takes y ys z → TakesInput x z (λ bytes. StopsIn (lines_of bytes) es u v)
-input_stops x y z buffer es u v f ys h more =
+pub input_stops : (x y z : Option (List ℕ)) (b : Part) (es : List Entry) (u v : Option (List ℕ)) (f : Bool) (ys : List ℕ) → TakesInput x y (λ bytes. TakesPiece fresh bytes b [] es u v f) → Takes y ys z → TakesInput x z (λ bytes. StopsIn (logical_lines bytes) es u v)
+input_stops x y z b es u v f ys h more =
     let xs = h.bytes in
     record {
       bytes = xs ++ ys;
       taken = Takes-then x y z xs ys h.taken more;
-      done = stops_lines (xs ++ ys) es u v (stops_front [] xs ys es u v (StopsIn-whole (cut_from [] xs).lines es u v f h.done.answered));
+      done = subst (λ (l : List (Option (List ℕ))). StopsIn l es u v) (lines_from-fresh (xs ++ ys)) (stops_front fresh b xs [] es u v f h.done ys);
     }
 
 -- a piece behind them in whose lines it stopped
-pub input_stops_in : (x y z : Option (List ℕ)) (buffer : LineBuffer) (old mid new : List Entry) (u v w : Option (List ℕ)) (f : Bool) (ys : List ℕ) → Extends old mid → Extends mid new → TakesInput x y (λ bytes. TakesPiece (cut_from [] bytes) buffer (entries_of session_pass (since old mid)) u v f) → Takes y ys z → ((rest : List ℕ) → Holds buffer rest → StopsIn (cut_from rest ys).lines (entries_of session_pass (since mid new)) v w) → TakesInput x z (λ bytes. StopsIn (lines_of bytes) (entries_of session_pass (since old new)) u w)
-input_stops_in x y z buffer old mid new u v w f ys begun grown h more k =
+pub input_stops_in : (x y z : Option (List ℕ)) (b : Part) (old mid new : List Entry) (u v w : Option (List ℕ)) (f : Bool) (ys : List ℕ) → Extends old mid → Extends mid new → TakesInput x y (λ bytes. TakesPiece fresh bytes b [] (entries_of session_pass (since old mid)) u v f) → Takes y ys z → ((more : List ℕ) → StopsIn (lines_from b (ys ++ more)) (entries_of session_pass (since mid new)) v w) → TakesInput x z (λ bytes. StopsIn (logical_lines bytes) (entries_of session_pass (since old new)) u w)
+input_stops_in x y z b old mid new u v w f ys begun grown h more k =
     let xs = h.bytes in
+    let front = TakesPiece-more fresh b xs ys _ u v f h.done in
+    let lines = ap (lines_from fresh) (append-nil (xs ++ ys)) ∙ lines_from-fresh (xs ++ ys) in
     record {
       bytes = xs ++ ys;
       taken = Takes-then x y z xs ys h.taken more;
-      done = subst (λ (es : List Entry). StopsIn (lines_of (xs ++ ys)) es u w) (sym (session_entries-then old mid new begun grown))
-          (stops_lines (xs ++ ys) _ u w (stops_then [] xs ys buffer _ _ u v w f h.done k));
+      done = subst (λ (l : List (Option (List ℕ))). StopsIn l (entries_of session_pass (since old new)) u w) lines
+          (stops_piece fresh b (xs ++ ys) ys old mid new u v w f begun grown front k []);
     }
 
--- the last line's answer was cut short
-pub input_stops_last : (x y : Option (List ℕ)) (buffer : LineBuffer) (old mid new : List Entry) (u v w : Option (List ℕ)) (f : Bool) → Extends old mid → Extends mid new → TakesInput x y (λ bytes. TakesPiece (cut_from [] bytes) buffer (entries_of session_pass (since old mid)) u v f) → ((rest : List ℕ) → Holds buffer rest → IsCutShort (AnswersLine rest) (entries_of session_pass (since mid new)) v w) → TakesInput x y (λ bytes. StopsIn (lines_of bytes) (entries_of session_pass (since old new)) u w)
-input_stops_last x y buffer old mid new u v w f begun grown h k =
+-- the answer of the line that ends with the input was cut short
+pub input_stops_last : (x y : Option (List ℕ)) (b : Part) (old mid new : List Entry) (u v w : Option (List ℕ)) (f : Bool) → Extends old mid → Extends mid new → TakesInput x y (λ bytes. TakesPiece fresh bytes b [] (entries_of session_pass (since old mid)) u v f) → StopsIn (lines_from b []) (entries_of session_pass (since mid new)) v w → TakesInput x y (λ bytes. StopsIn (logical_lines bytes) (entries_of session_pass (since old new)) u w)
+input_stops_last x y b old mid new u v w f begun grown h k =
+    let xs = h.bytes in
+    let d = h.done in
+    let lines = ap logical_lines (sym (append-nil xs)) ∙ TakesPiece-lines b xs [] _ u v f d in
     record {
-      bytes = h.bytes;
+      bytes = xs;
       taken = h.taken;
-      done = subst (λ (es : List Entry). StopsIn (lines_of h.bytes) es u w) (sym (session_entries-then old mid new begun grown))
-          (stops_last h.bytes buffer _ _ u v w f h.done k);
+      done = subst (λ (es : List Entry). StopsIn (logical_lines xs) es u w) (sym (session_entries-then old mid new begun grown))
+          (subst (λ (l : List (Option (List ℕ))). StopsIn l (entries_of session_pass (since old mid) ++ entries_of session_pass (since mid new)) u w) (sym lines)
+          (StopsIn-after d.lines (lines_from b []) _ _ u v w f d.answered k));
     }
 
 -- no more input was taken than a run takes

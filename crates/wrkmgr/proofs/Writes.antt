@@ -17,7 +17,7 @@ take_whole n xs short =
     let m : min n (length xs) ≡ length xs = omega arith in
     sym (take_min n xs) ∙ (ap (λ (k : ℕ). take k xs) m ∙ take-length xs)
 
-rest_of : (at : ℕ) (bytes : List ℕ) → take (length bytes - at) (drop at bytes) ≡ drop at bytes
+pub rest_of : (at : ℕ) (bytes : List ℕ) → take (length bytes - at) (drop at bytes) ≡ drop at bytes
 rest_of at bytes = take_whole (length bytes - at) (drop at bytes) (omega (arith, length-drop {A = ℕ} at bytes))
 
 -- one write more

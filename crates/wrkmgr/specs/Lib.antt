@@ -3,13 +3,11 @@ pub mod FloorInside
 pub mod Lists
 pub mod Monitor
 pub mod View
-pub mod Lines
 pub mod Reading
 pub mod Run
 pub mod Said
 pub mod Serving
 pub mod Session
-pub mod LineBuffer
 pub mod Stop
 pub mod Stopped
 pub mod Calls

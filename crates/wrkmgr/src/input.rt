@@ -1,16 +1,17 @@
-// Taking the input: it is cut into lines, and each line is answered.
-ghost use Rattle.std.specs.Prelude.{◌≡◌, ◌≤◌, ◌<◌, ◌+◌, ◌||◌, ◌↔◌, [], Ok, IfOk, OnErr, IsErrOf, length, take};
+// Taking the input: its pieces are joined into logical lines, and each line is answered.
+ghost use Rattle.std.specs.Prelude.{◌≡◌, ◌≤◌, ◌<◌, ◌+◌, ◌||◌, ◌↔◌, [], ◌∷◌, Ok, Some, IfOk, OnErr, IsErrOf, length, take};
+ghost use Rattle.std.specs.Option.{option_copied};
 ghost use Rattle.std.specs.Io.KnownBytes.{IsAtEnd};
+ghost use Rattle.wm_clwords.specs.Part.{said};
 ghost use Rattle.wm_outside.specs.Told.{Takes};
 ghost use Rattle.wm_outside.specs.Cause.{raised};
 ghost use Rattle.wrkmgr.specs.Taking.{TakesInput};
 
-use crate::line::LineBuffer;
-use crate::session::{NOT_BUILT, Run, put};
+use crate::session::Run;
 use crate::stop::Stop;
 use std::alloc::{AllocError, Global};
 use std::sync::Wait;
-use wm_clwords::one_reading;
+use wm_clwords::{Joiner, LogicalLine};
 use wm_outside::{Clock, Sink, Source, Spawner};
 
 /// How many bytes of input a run takes at the most.
@@ -18,8 +19,6 @@ pub const MOST_INPUT: u64 = 1_000_000_000;
 
 /// How many bytes are read at a time.
 pub const PIECE_LEN: usize = 65536;
-
-const LF: u8 = 10;
 
 // Reads a piece behind so many bytes, and tells a fault as the run's. An input that is too long is told before its
 // bytes are used.
@@ -60,96 +59,128 @@ fn either(a: bool, b: bool) -> bool
     a || b
 }
 
+// A line that ended, as the session takes it: None is one that is too long.
+fn text_of(line: LogicalLine, joiner: &Joiner) -> Option<&[u8]>
+    ensures { said (Some line) joiner.now ≡ option_copied result ∷ [] }
+{
+    match line {
+        LogicalLine::Command => Some(joiner.line()),
+        LogicalLine::Long => None,
+    }
+}
+
 impl Run {
-    ghost use Rattle.std.specs.Prelude.{◌≡◌, ◌≤◌, ◌<◌, ◌↔◌, ◌∷◌, [], List, ℕ, IfOk, OnOk, OnErr, IsErrOf, length, take};
+    ghost use Rattle.std.specs.Prelude.{◌≡◌, ◌≤◌, ◌<◌, ◌↔◌, ◌++◌, [], List, ℕ, Some, IfOk, OnOk, OnErr, IsErrOf, length, drop};
     ghost use Rattle.std.specs.Io.KnownBytes.{IsAtEnd};
+    ghost use Rattle.wm_clwords.specs.Lines.{logical_lines};
+    ghost use Rattle.wm_clwords.specs.Part.{lines_from, said};
     ghost use Rattle.wm_law.specs.History.{entries_of};
-    ghost use Rattle.wrkmgr.specs.LineBuffer.{Holds};
-    ghost use Rattle.wrkmgr.specs.Lines.{cut_from, lines_of};
     ghost use Rattle.wrkmgr.specs.Lists.{since};
     ghost use Rattle.wrkmgr.specs.Serving.{Serves};
-    ghost use Rattle.wrkmgr.specs.Session.{Answers, AnsweredBy, AnswersLine, session_pass};
+    ghost use Rattle.wrkmgr.specs.Session.{Answers, AnsweredBy, session_pass};
     ghost use Rattle.wrkmgr.specs.Stop.{HasCauses, HasInputCauses};
-    ghost use Rattle.wrkmgr.specs.Stopped.{IsCutShort, StopsIn};
+    ghost use Rattle.wrkmgr.specs.Stopped.{StopsIn};
     ghost use Rattle.wrkmgr.specs.Taking.{TakesPiece, TakesInput};
     ghost use Rattle.wrkmgr.specs.View.{view};
 
-    // Answers the line that the buffer has.
-    fn answer_buffered<O: Sink, P: Spawner, C: Clock>(
+    // Answers the line that a joiner has.
+    fn answer_joined<O: Sink, P: Spawner, C: Clock>(
         &mut self,
         alloc: Global,
         out: &mut O,
         spawner: &mut P,
         clock: &mut C,
-        buffer: &LineBuffer,
+        line: LogicalLine,
+        joiner: &Joiner,
     ) -> Result<bool, Stop>
         ensures serves { Serves (view self.old.floor self.old.monitor (P.asked spawner.old) (P.told spawner.old) (P.misses spawner.old))
             (view self.new.floor self.new.monitor (P.asked spawner.new) (P.told spawner.new) (P.misses spawner.new)) }
-        ensures answered { IfOk result (λ faulty. (rest : List ℕ) → Holds buffer.now rest → AnsweredBy (AnswersLine rest)
+        ensures answered { IfOk result (λ faulty. AnsweredBy (Answers (said (Some line) joiner.now))
             (entries_of session_pass (since self.old.floor self.new.floor)) (O.written out.old) (O.written out.new) faulty) }
-        ensures stopped { OnErr result ((rest : List ℕ) → Holds buffer.now rest → IsCutShort (AnswersLine rest)
+        ensures stopped { OnErr result (StopsIn (said (Some line) joiner.now)
             (entries_of session_pass (since self.old.floor self.new.floor)) (O.written out.old) (O.written out.new)) }
         ensures causes { HasCauses result (O.faults out.old) (O.faults out.new) (P.faults spawner.old) (P.faults spawner.new) }
     {
-        one_reading();
-        let Some(line) = buffer.line() else {
-            put(out, NOT_BUILT)?;
-            return Ok(true);
+        self.answer(alloc, out, spawner, clock, text_of(line, joiner))
+    }
+
+    // Takes bytes up to the end of a line, which is answered, or all of them. It answers how many it took.
+    fn take_line<O: Sink, P: Spawner, C: Clock>(
+        &mut self,
+        alloc: Global,
+        out: &mut O,
+        spawner: &mut P,
+        clock: &mut C,
+        joiner: &mut Joiner,
+        piece: &[u8],
+    ) -> Result<(usize, bool), Stop>
+        ensures serves { Serves (view self.old.floor self.old.monitor (P.asked spawner.old) (P.told spawner.old) (P.misses spawner.old))
+            (view self.new.floor self.new.monitor (P.asked spawner.new) (P.told spawner.new) (P.misses spawner.new)) }
+        ensures taken { IfOk result (λ r. TakesPiece joiner.old piece.now joiner.new (drop r.0 piece.now)
+            (entries_of session_pass (since self.old.floor self.new.floor)) (O.written out.old) (O.written out.new) r.1) }
+        ensures within { IfOk result (λ r. r.0 ≤ length piece.now) }
+        ensures progress { IfOk result (λ r. 0 < length piece.now → 0 < r.0) }
+        ensures stopped { OnErr result ((more : List ℕ) → StopsIn (lines_from joiner.old (piece.now ++ more))
+            (entries_of session_pass (since self.old.floor self.new.floor)) (O.written out.old) (O.written out.new)) }
+        ensures causes { HasCauses result (O.faults out.old) (O.faults out.new) (P.faults spawner.old) (P.faults spawner.new) }
+    {
+        let (taken, ended) = joiner.feed(piece);
+        let Some(line) = ended else {
+            return Ok((taken, false));
         };
-        self.answer(alloc, out, spawner, clock, line)
+        let faulty = self.answer_joined(alloc, out, spawner, clock, line, joiner)?;
+        Ok((taken, faulty))
     }
 
-    // Takes one byte, which may end a line.
-    fn take_byte<O: Sink, P: Spawner, C: Clock>(
-        &mut self,
-        alloc: Global,
-        out: &mut O,
-        spawner: &mut P,
-        clock: &mut C,
-        buffer: &mut LineBuffer,
-        byte: u8,
-    ) -> Result<bool, Stop>
-        ensures serves { Serves (view self.old.floor self.old.monitor (P.asked spawner.old) (P.told spawner.old) (P.misses spawner.old))
-            (view self.new.floor self.new.monitor (P.asked spawner.new) (P.told spawner.new) (P.misses spawner.new)) }
-        ensures taken { IfOk result (λ faulty. (rest : List ℕ) → Holds buffer.old rest → TakesPiece (cut_from rest (byte ∷ [])) buffer.new
-            (entries_of session_pass (since self.old.floor self.new.floor)) (O.written out.old) (O.written out.new) faulty) }
-        ensures stopped { OnErr result ((rest : List ℕ) → Holds buffer.old rest → StopsIn (cut_from rest (byte ∷ [])).lines
-            (entries_of session_pass (since self.old.floor self.new.floor)) (O.written out.old) (O.written out.new)) }
-        ensures causes { HasCauses result (O.faults out.old) (O.faults out.new) (P.faults spawner.old) (P.faults spawner.new) }
-    {
-        if byte != LF {
-            buffer.push(byte)?;
-            return Ok(false);
-        }
-        let faulty = self.answer_buffered(alloc, out, spawner, clock, buffer)?;
-        buffer.clear();
-        Ok(faulty)
-    }
-
-    // Takes the bytes of a piece, one after another.
+    // Takes the bytes of a piece, line by line.
     fn take_piece<O: Sink, P: Spawner, C: Clock>(
         &mut self,
         alloc: Global,
         out: &mut O,
         spawner: &mut P,
         clock: &mut C,
-        buffer: &mut LineBuffer,
+        joiner: &mut Joiner,
         piece: &[u8],
     ) -> Result<bool, Stop>
         ensures serves { Serves (view self.old.floor self.old.monitor (P.asked spawner.old) (P.told spawner.old) (P.misses spawner.old))
             (view self.new.floor self.new.monitor (P.asked spawner.new) (P.told spawner.new) (P.misses spawner.new)) }
-        ensures taken { IfOk result (λ faulty. (rest : List ℕ) → Holds buffer.old rest → TakesPiece (cut_from rest piece.now) buffer.new
+        ensures taken { IfOk result (λ faulty. TakesPiece joiner.old piece.now joiner.new []
             (entries_of session_pass (since self.old.floor self.new.floor)) (O.written out.old) (O.written out.new) faulty) }
-        ensures stopped { OnErr result ((rest : List ℕ) → Holds buffer.old rest → StopsIn (cut_from rest piece.now).lines
+        ensures stopped { OnErr result ((more : List ℕ) → StopsIn (lines_from joiner.old (piece.now ++ more))
             (entries_of session_pass (since self.old.floor self.new.floor)) (O.written out.old) (O.written out.new)) }
         ensures causes { HasCauses result (O.faults out.old) (O.faults out.new) (P.faults spawner.old) (P.faults spawner.new) }
     {
         let mut faulty = false;
-        'bytes: for byte in piece {
-            let wrong = self.take_byte(alloc, out, spawner, clock, buffer, *byte)?;
+        let mut at = 0;
+        'lines: while at < piece.len() {
+            let (taken, wrong) = self.take_line(alloc, out, spawner, clock, joiner, &piece[at..])?;
             faulty = either(faulty, wrong);
+            at += taken;
         }
         Ok(faulty)
+    }
+
+    // Answers the line that ends with the input, where there is one.
+    fn take_rest<O: Sink, P: Spawner, C: Clock>(
+        &mut self,
+        alloc: Global,
+        out: &mut O,
+        spawner: &mut P,
+        clock: &mut C,
+        joiner: &mut Joiner,
+    ) -> Result<bool, Stop>
+        ensures serves { Serves (view self.old.floor self.old.monitor (P.asked spawner.old) (P.told spawner.old) (P.misses spawner.old))
+            (view self.new.floor self.new.monitor (P.asked spawner.new) (P.told spawner.new) (P.misses spawner.new)) }
+        ensures answered { IfOk result (λ faulty. AnsweredBy (Answers (lines_from joiner.old []))
+            (entries_of session_pass (since self.old.floor self.new.floor)) (O.written out.old) (O.written out.new) faulty) }
+        ensures stopped { OnErr result (StopsIn (lines_from joiner.old [])
+            (entries_of session_pass (since self.old.floor self.new.floor)) (O.written out.old) (O.written out.new)) }
+        ensures causes { HasCauses result (O.faults out.old) (O.faults out.new) (P.faults spawner.old) (P.faults spawner.new) }
+    {
+        let Some(line) = joiner.end() else {
+            return Ok(false);
+        };
+        self.answer_joined(alloc, out, spawner, clock, line, joiner)
     }
 
     // Takes the whole input by pieces, and answers its lines.
@@ -166,24 +197,24 @@ impl Run {
         requires { 0 < length piece.old }
         ensures serves { Serves (view self.old.floor self.old.monitor (P.asked spawner.old) (P.told spawner.old) (P.misses spawner.old))
             (view self.new.floor self.new.monitor (P.asked spawner.new) (P.told spawner.new) (P.misses spawner.new)) }
-        ensures taken { IfOk result (λ faulty. TakesInput (I.left input.old) (I.left input.new) (λ bytes. AnsweredBy (Answers (lines_of bytes))
+        ensures taken { IfOk result (λ faulty. TakesInput (I.left input.old) (I.left input.new) (λ bytes. AnsweredBy (Answers (logical_lines bytes))
             (entries_of session_pass (since self.old.floor self.new.floor)) (O.written out.old) (O.written out.new) faulty)) }
-        ensures stopped { OnErr result (TakesInput (I.left input.old) (I.left input.new) (λ bytes. StopsIn (lines_of bytes)
+        ensures stopped { OnErr result (TakesInput (I.left input.old) (I.left input.new) (λ bytes. StopsIn (logical_lines bytes)
             (entries_of session_pass (since self.old.floor self.new.floor)) (O.written out.old) (O.written out.new))) }
         ensures end { OnOk result (IsAtEnd (I.left input.new)) }
         ensures full { TakesInput (I.left input.old) (I.left input.new) (λ bytes. IsErrOf result Stop.InputFull ↔ (1000000000 < length bytes)) }
         ensures causes { HasInputCauses result (I.faults input.old) (I.faults input.new) (O.faults out.old) (O.faults out.new) (P.faults spawner.old) (P.faults spawner.new) }
     {
-        let mut buffer = LineBuffer::new(alloc);
+        let mut joiner = Joiner::new(alloc)?;
         let mut faulty = false;
         let mut total = 0u64;
         'reads: for _ in rt.forever() {
             let n = read(input, piece, total)?;
             if n == 0 {
-                let wrong = self.answer_buffered(alloc, out, spawner, clock, &buffer)?;
+                let wrong = self.take_rest(alloc, out, spawner, clock, &mut joiner)?;
                 return Ok(either(faulty, wrong));
             }
-            let wrong = self.take_piece(alloc, out, spawner, clock, &mut buffer, &piece[..n])?;
+            let wrong = self.take_piece(alloc, out, spawner, clock, &mut joiner, &piece[..n])?;
             faulty = either(faulty, wrong);
             total += n as u64;
         }
@@ -202,9 +233,9 @@ impl Run {
     ) -> Result<bool, Stop>
         ensures serves { Serves (view self.old.floor self.old.monitor (P.asked spawner.old) (P.told spawner.old) (P.misses spawner.old))
             (view self.new.floor self.new.monitor (P.asked spawner.new) (P.told spawner.new) (P.misses spawner.new)) }
-        ensures taken { IfOk result (λ faulty. TakesInput (I.left input.old) (I.left input.new) (λ bytes. AnsweredBy (Answers (lines_of bytes))
+        ensures taken { IfOk result (λ faulty. TakesInput (I.left input.old) (I.left input.new) (λ bytes. AnsweredBy (Answers (logical_lines bytes))
             (entries_of session_pass (since self.old.floor self.new.floor)) (O.written out.old) (O.written out.new) faulty)) }
-        ensures stopped { OnErr result (TakesInput (I.left input.old) (I.left input.new) (λ bytes. StopsIn (lines_of bytes)
+        ensures stopped { OnErr result (TakesInput (I.left input.old) (I.left input.new) (λ bytes. StopsIn (logical_lines bytes)
             (entries_of session_pass (since self.old.floor self.new.floor)) (O.written out.old) (O.written out.new))) }
         ensures end { OnOk result (IsAtEnd (I.left input.new)) }
         ensures full { TakesInput (I.left input.old) (I.left input.new) (λ bytes. IsErrOf result Stop.InputFull ↔ (1000000000 < length bytes)) }

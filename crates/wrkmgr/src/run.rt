@@ -2,11 +2,11 @@
 ghost use Rattle.std.specs.Prelude.{◌≡◌, ◌≤◌, ◌<◌, ◌↔◌, ◌==◌, IfOk, None, [], length, map, option_to_list, string_bytes, true, false};
 ghost use Rattle.std.specs.Io.KnownBytes.{IsAtEnd};
 ghost use Rattle.std.specs.List.{list_all};
+ghost use Rattle.wm_clwords.specs.Lines.{logical_lines};
 ghost use Rattle.wm_law.specs.History.{after, entries_of, IsLegal};
 ghost use Rattle.wm_law.specs.Opening.{opening};
 ghost use Rattle.wm_law.specs.Pending.{active};
 ghost use Rattle.wm_outside.specs.Cause.{raised};
-ghost use Rattle.wrkmgr.specs.Lines.{lines_of};
 ghost use Rattle.wrkmgr.specs.Run.{IsRunStatus, IsServed, ended_status, is_run};
 ghost use Rattle.wrkmgr.specs.Serving.{is_of_run};
 ghost use Rattle.wrkmgr.specs.Session.{IsSession, session_pass};
@@ -74,10 +74,10 @@ fn is_run(words: &[String]) -> bool
 impl Run {
     ghost use Rattle.std.specs.Prelude.{◌≡◌, ◌<◌, ◌↔◌, IfOk, OnOk, OnErr, IsErrOf, None, length};
     ghost use Rattle.std.specs.Io.KnownBytes.{IsAtEnd};
+    ghost use Rattle.wm_clwords.specs.Lines.{logical_lines};
     ghost use Rattle.wm_law.specs.History.{after, entries_of, IsLegal};
     ghost use Rattle.wm_law.specs.Opening.{opening};
     ghost use Rattle.wm_law.specs.Pending.{active};
-    ghost use Rattle.wrkmgr.specs.Lines.{lines_of};
     ghost use Rattle.wrkmgr.specs.Lists.{since};
     ghost use Rattle.wrkmgr.specs.Serving.{Serves};
     ghost use Rattle.wrkmgr.specs.Session.{IsSession, session_pass};
@@ -98,10 +98,10 @@ impl Run {
     ) -> Result<bool, Stop>
         ensures serves { Serves (view self.old.floor self.old.monitor (P.asked spawner.old) (P.told spawner.old) (P.misses spawner.old))
             (view self.new.floor self.new.monitor (P.asked spawner.new) (P.told spawner.new) (P.misses spawner.new)) }
-        ensures session { IfOk result (λ faulty. TakesInput (I.left input.old) (I.left input.new) (λ bytes. IsSession (lines_of bytes)
+        ensures session { IfOk result (λ faulty. TakesInput (I.left input.old) (I.left input.new) (λ bytes. IsSession (logical_lines bytes)
             (entries_of session_pass (since self.old.floor self.new.floor)) (O.written out.old) (O.written out.new) faulty)) }
         ensures end { OnOk result (IsAtEnd (I.left input.new)) }
-        ensures stopped { OnErr result (TakesInput (I.left input.old) (I.left input.new) (λ bytes. IsStopped (lines_of bytes)
+        ensures stopped { OnErr result (TakesInput (I.left input.old) (I.left input.new) (λ bytes. IsStopped (logical_lines bytes)
             (entries_of session_pass (since self.old.floor self.new.floor)) (O.written out.old) (O.written out.new))) }
         ensures full { TakesInput (I.left input.old) (I.left input.new) (λ bytes. IsErrOf result Stop.InputFull ↔ (1000000000 < length bytes)) }
         ensures idle { OnOk result (active (after opening self.new.floor) ≡ 0) }
@@ -148,9 +148,9 @@ pub fn run<I: Source, O: Sink, P: Spawner, C: Clock, R: Wait>(
     ensures legal { IsLegal opening result.log.items }
     ensures callers { list_all is_of_run result.log.items ≡ true }
     ensures served { IsServed result.log.items (option_to_list result.kept) (P.asked spawner.old) (P.asked spawner.new) (P.told spawner.old) (P.told spawner.new) (P.misses spawner.old) (P.misses spawner.new) }
-    ensures session { result.status ≤ 1 → TakesInput (I.left input.old) (I.left input.new) (λ bytes. IsSession (lines_of bytes)
+    ensures session { result.status ≤ 1 → TakesInput (I.left input.old) (I.left input.new) (λ bytes. IsSession (logical_lines bytes)
         (entries_of session_pass result.log.items) (O.written out.old) (O.written out.new) (result.status == 1)) }
-    ensures stopped { 1 < result.status → TakesInput (I.left input.old) (I.left input.new) (λ bytes. IsStopped (lines_of bytes)
+    ensures stopped { 1 < result.status → TakesInput (I.left input.old) (I.left input.new) (λ bytes. IsStopped (logical_lines bytes)
         (entries_of session_pass result.log.items) (O.written out.old) (O.written out.new)) }
     ensures end { result.status ≤ 1 → IsAtEnd (I.left input.new) }
     ensures idle { result.status ≤ 1 → active (after opening result.log.items) ≡ 0 }

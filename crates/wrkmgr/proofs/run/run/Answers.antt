@@ -1,7 +1,7 @@
 use Rattle.std.proofs.Common.{◌≤◌, ◌==◌, ◌<◌, ℕ, List, Bool, sym, subst, ◌∙◌}
+use Rattle.wm_clwords.specs.Lines.{logical_lines}
 use Rattle.wm_law.specs.declared.call.Entry.{Entry}
 use Rattle.wm_law.specs.History.{entries_of}
-use Rattle.wrkmgr.specs.Lines.{lines_of}
 use Rattle.wrkmgr.specs.Lists.{since}
 use Rattle.wrkmgr.specs.Session.{IsSession, session_pass}
 use Rattle.wrkmgr.specs.Stopped.{IsStopped}
@@ -26,10 +26,10 @@ returns-clause-session g c low =
     let first = c.in-Ok.floor in
     let log = c.serve-end.new.self.floor in
     let st = c.close.ensures.status ∙ c.ended_status.ensures in
-    let P : Bool → Type 0 = λ f. TakesInput x y (λ bytes. IsSession (lines_of bytes) (entries_of session_pass (since first log)) v w f) in
+    let P : Bool → Type 0 = λ f. TakesInput x y (λ bytes. IsSession (logical_lines bytes) (entries_of session_pass (since first log)) v w f) in
     let h = ended_if P c.serve-end.result c.serve-end.ensures.session (subst (λ (n : ℕ). n ≤ 1) st low) in
     let k = subst (λ (n : ℕ). P (n == 1)) (sym st) h in
-    subst (λ (l : List Entry). TakesInput x y (λ bytes. IsSession (lines_of bytes) (entries_of session_pass l) v w (c.close.result.status == 1))) (sym c.close.ensures.log)
+    subst (λ (l : List Entry). TakesInput x y (λ bytes. IsSession (logical_lines bytes) (entries_of session_pass l) v w (c.close.result.status == 1))) (sym c.close.ensures.log)
     (session_from first log x y v w (c.close.result.status == 1) c.in-Ok.ensures k)
 
 pub returns-clause-stopped : goal.returns-clause-stopped
@@ -42,5 +42,5 @@ returns-clause-stopped g c high =
     let log = c.serve-end.new.self.floor in
     let st = c.close.ensures.status ∙ c.ended_status.ensures in
     let h = stopped_on _ c.serve-end.result c.serve-end.ensures.stopped (subst (λ (n : ℕ). 1 < n) st high) in
-    subst (λ (l : List Entry). TakesInput x y (λ bytes. IsStopped (lines_of bytes) (entries_of session_pass l) v w)) (sym c.close.ensures.log)
+    subst (λ (l : List Entry). TakesInput x y (λ bytes. IsStopped (logical_lines bytes) (entries_of session_pass l) v w)) (sym c.close.ensures.log)
     (stopped_from first log x y v w c.in-Ok.ensures h)

@@ -1,66 +1,75 @@
-use Rattle.std.proofs.Common.{arith, sym, subst, Bool, List, ℕ, take, get_or, ◌++◌, ◌∷◌, []}
-use Rattle.wrkmgr.proofs.Writes.{take_whole}
-use Rattle.std.proofs.lemmas.List.{take_more}
+use Rattle.std.proofs.Common.{◌+◌, ℕ, List, ◌++◌, length, drop, refl, ap, subst, arith}
+use Rattle.std.proofs.lemmas.List.{drop-drop, drop_all, length-drop}
 use Rattle.std.proofs.lemmas.Result.{err_from_is_err_and}
+use Rattle.wm_clwords.specs.Part.{lines_from}
 use Rattle.wm_law.specs.History.{entries_of}
-use Rattle.wrkmgr.specs.LineBuffer.{Holds}
-use Rattle.wrkmgr.specs.Lines.{cut_from}
 use Rattle.wrkmgr.specs.Lists.{since}
 use Rattle.wrkmgr.specs.Session.{session_pass}
 use Rattle.wrkmgr.specs.Stopped.{StopsIn}
 use Rattle.wrkmgr.specs.Taking.{TakesPiece}
 use Rattle.wrkmgr.proofs.Causes.{HasCauses-pass}
-use Rattle.wrkmgr.proofs.Servings.{Serves-none, Serves-then, taken_then, taken_none}
+use Rattle.wrkmgr.proofs.Inputs.{taken_none, taken_then}
+use Rattle.wrkmgr.proofs.Servings.{Serves-none, Serves-then}
 use Rattle.wrkmgr.proofs.StoppedRuns.{on_err, stops_piece}
+use Rattle.wrkmgr.proofs.Writes.{rest_of}
 use Rattle.wrkmgr.proofs.session.Run.take_piece.Goals as goal
 
-pub bytes-init : goal.bytes-init
-bytes-init g c =
+pub lines-init : goal.lines-init
+lines-init g c =
     record {
+      within = omega arith;
       serves = Serves-none _;
-      taken = λ rest h. taken_none rest c.args.buffer.now c.args.self.now.floor (g.O.Sink.written c.args.out.now) h;
+      taken = taken_none c.args.joiner.now c.args.joiner.now c.args.piece.now c.args.self.now.floor (g.O.Sink.written c.args.out.now) (λ more. refl);
       written = omega arith;
       looked = omega arith;
     }
 
-pub bytes-preserved : goal.bytes-preserved
-bytes-preserved g c =
+pub lines-preserved : goal.lines-preserved
+lines-preserved g c =
     let o = g.O.Sink in
-    let i = c.bytes.invariant in
+    let i = c.lines.invariant in
+    let k = c.take_line.ensures in
     let piece = c.args.piece.now in
-    let more = take_more piece c.bytes.byte-index 0 (omega arith) in
+    let at = c.lines.at in
+    let n = c.in_ok-taken.taken in
+    let u = o.written c.args.out.now in
+    let v = o.written c.lines.out in
+    let w = o.written c.take_line.new.out in
+    let f = c.in_ok-taken.wrong in
+    let same = rest_of at piece in
+    let es = entries_of session_pass (since c.lines.self.floor c.take_line.new.self.floor) in
+    let some = subst (λ (xs : List ℕ). TakesPiece c.lines.joiner xs c.take_line.new.joiner (drop n xs) es v w f) same c.in_ok-taken.ensures.taken in
+    let next = subst (λ (xs : List ℕ). TakesPiece c.lines.joiner (drop at piece) c.take_line.new.joiner xs es v w f) (drop-drop n at piece) some in
     record {
-      serves = Serves-then _ _ _ i.serves c.take_byte.ensures.serves;
-      taken = λ rest h.
-          subst (λ (xs : List ℕ). TakesPiece (cut_from rest xs) c.take_byte.new.buffer (entries_of session_pass (since c.args.self.now.floor c.take_byte.new.self.floor)) (o.written c.args.out.now) (o.written c.take_byte.new.out) c.either-faulty.result) (sym more)
-          (subst (λ (b : Bool). TakesPiece (cut_from rest (take c.bytes.byte-index piece ++ get_or piece c.bytes.byte-index 0 ∷ [])) c.take_byte.new.buffer (entries_of session_pass (since c.args.self.now.floor c.take_byte.new.self.floor)) (o.written c.args.out.now) (o.written c.take_byte.new.out) b) (sym c.either-faulty.ensures)
-          (taken_then rest (take c.bytes.byte-index piece) (get_or piece c.bytes.byte-index 0 ∷ []) c.bytes.buffer c.take_byte.new.buffer c.args.self.now.floor c.bytes.self.floor c.take_byte.new.self.floor (o.written c.args.out.now) (o.written c.bytes.out) (o.written c.take_byte.new.out) c.bytes.faulty c.in_ok-wrong.wrong i.serves.log c.take_byte.ensures.serves.log (i.taken rest h) c.in_ok-wrong.ensures.taken));
-      written = let k = c.take_byte.ensures.causes.written in omega arith;
-      looked = let k = c.take_byte.ensures.causes.looked in omega arith;
+      within = let few = c.in_ok-taken.ensures.within in omega (arith, ap length same, length-drop {A = ℕ} at piece);
+      serves = Serves-then _ _ _ i.serves k.serves;
+      taken = taken_then c.args.joiner.now c.lines.joiner c.take_line.new.joiner piece (drop at piece) (drop (at + n) piece) c.args.self.now.floor c.lines.self.floor c.take_line.new.self.floor u v w c.lines.faulty f c.either-faulty.result c.either-faulty.ensures i.serves.log k.serves.log i.taken next;
+      written = let f = k.causes.written in omega arith;
+      looked = let f = k.causes.looked in omega arith;
     }
 
-pub returns-in_err-wrong-clause-serves : goal.returns-in_err-wrong-clause-serves
-returns-in_err-wrong-clause-serves g c = Serves-then _ _ _ c.bytes.invariant.serves c.take_byte.ensures.serves
+pub returns-in_err-taken-clause-serves : goal.returns-in_err-taken-clause-serves
+returns-in_err-taken-clause-serves g c = Serves-then _ _ _ c.lines.invariant.serves c.take_line.ensures.serves
 
-pub returns-in_err-wrong-clause-causes : goal.returns-in_err-wrong-clause-causes
-returns-in_err-wrong-clause-causes g c =
-    let i = c.bytes.invariant in
+pub returns-in_err-taken-clause-causes : goal.returns-in_err-taken-clause-causes
+returns-in_err-taken-clause-causes g c =
+    let i = c.lines.invariant in
     let p = err_from_is_err_and c.from_residual.result c.from_residual.ensures.1 in
-    HasCauses-pass c.take_byte.result c.from_residual.result _ p.0 _ _ _ _ _ _ c.in_err-wrong.was p.1 p.2 i.written i.looked c.take_byte.ensures.causes
+    HasCauses-pass c.take_line.result c.from_residual.result _ p.0 _ _ _ _ _ _ c.in_err-taken.was p.1 p.2 i.written i.looked c.take_line.ensures.causes
+
+pub returns-in_err-taken-clause-stopped : goal.returns-in_err-taken-clause-stopped
+returns-in_err-taken-clause-stopped g c =
+    let o = g.O.Sink in
+    let i = c.lines.invariant in
+    let piece = c.args.piece.now in
+    let v = o.written c.lines.out in
+    let w = o.written c.take_line.new.out in
+    let stop = subst (λ (xs : List ℕ). (more : List ℕ) → StopsIn (lines_from c.lines.joiner (xs ++ more)) (entries_of session_pass (since c.lines.self.floor c.take_line.new.self.floor)) v w) (rest_of c.lines.at piece) c.in_err-taken.ensures.stopped in
+    on_err _ (stops_piece c.args.joiner.now c.lines.joiner piece (drop c.lines.at piece) c.args.self.now.floor c.lines.self.floor c.take_line.new.self.floor (o.written c.args.out.now) v w c.lines.faulty i.serves.log c.take_line.ensures.serves.log i.taken stop)
 
 pub returns-clause-taken : goal.returns-clause-taken
-returns-clause-taken g c rest h =
+returns-clause-taken g c =
     let o = g.O.Sink in
-    let i = c.bytes.invariant in
-    let all = take_whole c.bytes.byte-index c.args.piece.now (omega arith) in
-    subst (λ (xs : List ℕ). TakesPiece (cut_from rest xs) c.bytes.buffer (entries_of session_pass (since c.args.self.now.floor c.bytes.self.floor)) (o.written c.args.out.now) (o.written c.bytes.out) c.bytes.faulty) all (i.taken rest h)
-
-pub returns-in_err-wrong-clause-stopped : goal.returns-in_err-wrong-clause-stopped
-returns-in_err-wrong-clause-stopped g c =
-    let o = g.O.Sink in
-    let i = c.bytes.invariant in
-    let u = o.written c.args.out.now in
-    let w = o.written c.take_byte.new.out in
-    let all : (rest : List ℕ) → Holds c.args.buffer.now rest → StopsIn (cut_from rest c.args.piece.now).lines (entries_of session_pass (since c.args.self.now.floor c.take_byte.new.self.floor)) u w =
-    (λ rest h. stops_piece rest c.args.piece.now c.bytes.byte-index c.bytes.buffer c.args.self.now.floor c.bytes.self.floor c.take_byte.new.self.floor u (o.written c.bytes.out) w c.bytes.faulty (omega arith) i.serves.log c.take_byte.ensures.serves.log (i.taken rest h) c.in_err-wrong.ensures.stopped) in
-    on_err _ all
+    let i = c.lines.invariant in
+    let all = drop_all c.lines.at c.args.piece.now (omega arith) in
+    subst (λ (xs : List ℕ). TakesPiece c.args.joiner.now c.args.piece.now c.lines.joiner xs (entries_of session_pass (since c.args.self.now.floor c.lines.self.floor)) (o.written c.args.out.now) (o.written c.lines.out) c.lines.faulty) all i.taken

@@ -1,7 +1,5 @@
-use Rattle.std.proofs.Common.{List, ℕ, take}
+use Rattle.std.proofs.Common.{◌-◌, drop, length}
 use Rattle.wm_law.specs.History.{entries_of}
-use Rattle.wrkmgr.specs.LineBuffer.{Holds}
-use Rattle.wrkmgr.specs.Lines.{cut_from}
 use Rattle.wrkmgr.specs.Lists.{since}
 use Rattle.wrkmgr.specs.Session.{session_pass}
 use Rattle.wrkmgr.specs.Taking.{TakesPiece}
@@ -9,12 +7,16 @@ use Rattle.wrkmgr.specs.View.{view}
 use Rattle.wrkmgr.proofs.InputLoops.{PieceLoop}
 use Rattle.wrkmgr.proofs.session.Run.take_piece.Given as goal
 
-abbrev pub invariant-bytes : goal.invariant-bytes
-invariant-bytes g l =
+abbrev pub invariant-lines : goal.invariant-lines
+invariant-lines g l =
     let s = g.P.Spawner in
     let o = g.O.Sink in
     PieceLoop
     (view l.fn.self.floor l.fn.self.monitor (s.asked l.fn.spawner) (s.told l.fn.spawner) (s.misses l.fn.spawner))
     (view l.self.floor l.self.monitor (s.asked l.spawner) (s.told l.spawner) (s.misses l.spawner))
     (o.faults l.fn.out) (o.faults l.out) (s.faults l.fn.spawner) (s.faults l.spawner)
-    ((rest : List ℕ) → Holds l.fn.buffer rest → TakesPiece (cut_from rest (take l.byte-index l.piece)) l.buffer (entries_of session_pass (since l.fn.self.floor l.self.floor)) (o.written l.fn.out) (o.written l.out) l.faulty)
+    l.at l.piece
+    (TakesPiece l.fn.joiner l.piece l.joiner (drop l.at l.piece) (entries_of session_pass (since l.fn.self.floor l.self.floor)) (o.written l.fn.out) (o.written l.out) l.faulty)
+
+abbrev pub decreases-lines : goal.decreases-lines
+decreases-lines g l = length l.piece - l.at

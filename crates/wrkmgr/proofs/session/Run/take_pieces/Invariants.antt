@@ -1,6 +1,6 @@
 use Rattle.std.proofs.Common.{◌≡◌, [], length}
+use Rattle.wm_clwords.specs.Part.{fresh}
 use Rattle.wm_law.specs.History.{entries_of}
-use Rattle.wrkmgr.specs.Lines.{cut_from}
 use Rattle.wrkmgr.specs.Lists.{since}
 use Rattle.wrkmgr.specs.Session.{session_pass}
 use Rattle.wrkmgr.specs.Taking.{TakesPiece, TakesInput}
@@ -18,5 +18,5 @@ invariant-reads g l =
     (view l.self.floor l.self.monitor (s.asked l.spawner) (s.told l.spawner) (s.misses l.spawner))
     (i.faults l.fn.input) (i.faults l.input) (o.faults l.fn.out) (o.faults l.out) (s.faults l.fn.spawner) (s.faults l.spawner)
     l.total l.piece
-    (TakesInput (i.left l.fn.input) (i.left l.input) (λ bytes. TakesPiece (cut_from [] bytes) l.buffer (entries_of session_pass (since l.fn.self.floor l.self.floor)) (o.written l.fn.out) (o.written l.out) l.faulty))
+    (TakesInput (i.left l.fn.input) (i.left l.input) (λ bytes. TakesPiece fresh bytes l.joiner [] (entries_of session_pass (since l.fn.self.floor l.self.floor)) (o.written l.fn.out) (o.written l.out) l.faulty))
     (TakesInput (i.left l.fn.input) (i.left l.input) (λ bytes. length bytes ≡ l.total))
