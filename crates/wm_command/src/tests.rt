@@ -8,6 +8,7 @@ use wm_desc::Cmp;
 use wm_when::{DateSpec, TimeSpec};
 
 mod faults;
+mod keys;
 mod printed;
 
 fn line(alloc: Global, text: &str) -> Result<Line, Fail> {
