@@ -160,6 +160,10 @@ fn values_of_several_forms_are_taken(rt: HostRuntime) -> Result<(), Fail> {
         "SBMJOB CMD(CALL PARM(B) PGM(*LIBL/A))",
         "SBMJOB CMD(CALL A PARM(1 1 1 1 1 1 1 1 1 1 1 1 1 1 1 1 1 1 1 1 1 1 1 1 1 1 1 1 1 1 1 1 1 1 1 1 1 1 1 1))",
         "ENDJOB 'A/B'",
+        "WRKACTJOB",
+        "WRKSBMJOB",
+        "WRKSBS",
+        "DSPLOG",
     ] {
         let fault = found(rt.alloc(), text.as_bytes())?;
         assert_eq!(rt; fault, None, "{text}");
