@@ -7,7 +7,9 @@ use wm_clwords::read_command;
 use wm_desc::Cmp;
 use wm_when::{DateSpec, TimeSpec};
 
+mod documented;
 mod faults;
+mod keys;
 mod printed;
 
 fn line(alloc: Global, text: &str) -> Result<Line, Fail> {
