@@ -1,7 +1,7 @@
 // The first call and the last, and the monitor's turns until no job is active.
+use crate::calls::{end_call, start_call};
 use crate::session::Run;
 use crate::stop::Stop;
-use crate::calls::{end_call, start_call};
 use std::alloc::Global;
 use std::sync::Wait;
 use wm_outside::{Clock, Spawner};

@@ -172,7 +172,10 @@ mod tests {
     fn each_reply_has_its_line(rt: HostRuntime) -> Result<(), Fail> {
         let command = Command::Strsbs(Strsbs { sbsd: qbatch() });
         for (reply, line) in [
-            (Reply::SbsStarted(qbatch()), "OK subsystem QGPL/QBATCH started"),
+            (
+                Reply::SbsStarted(qbatch()),
+                "OK subsystem QGPL/QBATCH started",
+            ),
             (Reply::PowerDown, "OK power down"),
             (Reply::Nothing, "NOTHING"),
             (Reply::Noted, "NOTED"),
@@ -195,12 +198,24 @@ mod tests {
             (LineFault::Cl(ClFault::TooLong), "CL 7 TOOLONG"),
             (LineFault::Cl(ClFault::BadByte(8191)), "CL 8 BADBYTE 8191"),
             (LineFault::Cl(ClFault::TooDeep(16)), "CL 9 TOODEEP 16"),
-            (LineFault::Cm(CmdFault::UnknownCommand), "CM 1 UNKNOWNCOMMAND"),
-            (LineFault::Cm(CmdFault::UnknownKeyword(7)), "CM 2 UNKNOWNKEYWORD 7"),
+            (
+                LineFault::Cm(CmdFault::UnknownCommand),
+                "CM 1 UNKNOWNCOMMAND",
+            ),
+            (
+                LineFault::Cm(CmdFault::UnknownKeyword(7)),
+                "CM 2 UNKNOWNKEYWORD 7",
+            ),
             (LineFault::Cm(CmdFault::Twice(8)), "CM 3 TWICE 8"),
-            (LineFault::Cm(CmdFault::Missing(Key::Jobq)), "CM 4 MISSING JOBQ"),
+            (
+                LineFault::Cm(CmdFault::Missing(Key::Jobq)),
+                "CM 4 MISSING JOBQ",
+            ),
             (LineFault::Cm(CmdFault::BadValue(29)), "CM 5 BADVALUE 29"),
-            (LineFault::Cm(CmdFault::TooManyValues(9)), "CM 6 TOOMANYVALUES 9"),
+            (
+                LineFault::Cm(CmdFault::TooManyValues(9)),
+                "CM 6 TOOMANYVALUES 9",
+            ),
             (
                 LineFault::Cm(CmdFault::Conflict(Key::Cmd, Key::Rqsdta)),
                 "CM 7 CONFLICT CMD RQSDTA",

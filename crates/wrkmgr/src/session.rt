@@ -6,8 +6,8 @@ ghost use Rattle.wm_outside.specs.Cause.{raised};
 ghost use Rattle.wrkmgr.specs.Said.{entry_text, with_end};
 
 use crate::floor::Floor;
-use crate::monitor::Monitor;
 use crate::line::read_line;
+use crate::monitor::Monitor;
 use crate::reading::{LineFault, Reading};
 use crate::said::{ended, fault_answer, is_fault, is_refused, said};
 use crate::stop::Stop;

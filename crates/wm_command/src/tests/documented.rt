@@ -1,7 +1,7 @@
 // The command table as docs/FORMATS.md has it.
-use crate::{
-    Change, Default, Kind, Read, Row, Special, change_rows, change_word, read_rows, read_word,
-};
+use crate::row::{Default, Kind, Row, Special};
+use crate::table::{change_rows, change_word, read_rows, read_word};
+use crate::verb::{Change, Read};
 use std::alloc::{AllocError, Global};
 use std::test::Fail;
 
