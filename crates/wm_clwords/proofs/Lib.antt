@@ -5,7 +5,6 @@ pub mod CommandLaw
 pub mod Completeness
 pub mod Explained
 pub mod FaultLaw
-pub mod FirstLemmas
 pub mod GrammarLemmas
 pub mod ItemLemmas
 pub mod LeadRuns

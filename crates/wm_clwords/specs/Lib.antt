@@ -2,7 +2,6 @@ pub mod Call
 pub mod CallReading
 pub mod CallText
 pub mod Faults
-pub mod First
 pub mod Grammar
 pub mod Items
 pub mod Levels

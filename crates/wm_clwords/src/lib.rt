@@ -4,11 +4,10 @@
 //! that spells no command; `Joiner` gives the logical lines of the input, however it is cut; `read_call` reads exactly
 //! the CALL commands, `read_call_items` the items of a CALL that stand in a list, and `read_object` and `read_program`
 //! the names of objects; `call_text` is the one canonical text of a CALL, and it is read again as that CALL, with
-//! `push_qname` and `push_quoted` for its parts;
-//! `read_first` reads exactly the one form of line that the first path has.
+//! `push_qname` and `push_quoted` for its parts.
 //!
 //! The definitions are in `specs/`: `Lines` (logical lines), `Grammar` (what bytes spell), `Faults` (where they stop to),
-//! `Items` (what a tree says), `Call` (which items are a CALL), `CallText`, `Printed`, `First`. `Reading`, `Part` and
+//! `Items` (what a tree says), `Call` (which items are a CALL), `CallText`, `Printed`. `Reading`, `Part` and
 //! `CallReading` are second definitions, by steps.
 #![tactic(auto)]
 
@@ -16,7 +15,6 @@ mod call;
 mod called;
 mod command;
 mod fault;
-mod first;
 mod joiner;
 mod levels;
 mod line;
@@ -31,7 +29,6 @@ pub use call::{call_text, push_qname, push_quoted};
 pub use called::{CallFault, CallText, printed_call_is_read, read_call, read_call_items};
 pub use command::{one_verdict, read_command};
 pub use fault::ClFault;
-pub use first::{First, FirstFault, one_reading, read_first};
 pub use joiner::{Joiner, LINE_LEN, no_line_waits};
 pub use line::LogicalLine;
 pub use reference::{read_object, read_program};

@@ -1,74 +1,12 @@
 // Tests of what no clause says: that the calls succeed, and examples from outside.
 use crate::{
-    CallFault, ClFault, FirstFault, Item, Joiner, LogicalLine, Span, call_text, read_call,
-    read_call_items, read_command, read_first, read_object, read_program,
+    CallFault, ClFault, Item, Joiner, LogicalLine, Span, call_text, read_call, read_call_items,
+    read_command, read_object, read_program,
 };
 use std::alloc::Global;
 use std::process::Abort;
 use std::test::Fail;
 use wm_base::{Args, Name, QName, Text};
-
-mod first {
-    use super::*;
-
-    fn read(rt: &impl Abort, alloc: Global, line: &[u8], text: &[u8], name: &[u8]) {
-        match read_first(alloc, line) {
-            Ok(first) => {
-                assert_eq!(rt; first.text.as_bytes(), text);
-                assert_eq!(rt; first.name.as_bytes(), name);
-            }
-            Err(_) => assert!(rt; false),
-        }
-    }
-
-    #[test]
-    fn the_one_form_is_read(rt: HostRuntime) {
-        let line = b"SBMJOB CMD(CALL PGM(ECHO) PARM('HI')) JOB(A)";
-        read(&rt, rt.alloc(), line, b"HI", b"A");
-        let line = b"SBMJOB CMD(CALL PGM(ECHO) PARM('')) JOB(ABCDEFGH_1)";
-        read(&rt, rt.alloc(), line, b"", b"ABCDEFGH_1");
-    }
-
-    fn of_length(alloc: Global, len: usize) -> Result<Text, Fail> {
-        let mut line = Text::new(alloc);
-        line.push_bytes(b"SBMJOB CMD(CALL PGM(ECHO) PARM('")?;
-        for _ in 0..len {
-            line.push_bytes(b"x")?;
-        }
-        line.push_bytes(b"')) JOB(A)")?;
-        Ok(line)
-    }
-
-    #[test]
-    fn a_text_has_at_most_100_bytes(rt: HostRuntime) -> Result<(), Fail> {
-        let line = of_length(rt.alloc(), 100)?;
-        let first = read_first(rt.alloc(), line.as_bytes())?;
-        assert_eq!(rt; first.text.len(), 100);
-        let line = of_length(rt.alloc(), 101)?;
-        let fault = read_first(rt.alloc(), line.as_bytes()).err();
-        assert_eq!(rt; fault, Some(FirstFault::NotBuilt));
-        Ok(())
-    }
-
-    #[test]
-    fn other_lines_are_not_built(rt: HostRuntime) {
-        let lines: [&[u8]; 9] = [
-            b"SBMJOB CMD(CALL PGM(ECHO) PARM('a'b')) JOB(A)",
-            b"SBMJOB CMD(CALL PGM(ECHO) PARM('HI')) JOB(a)",
-            b"SBMJOB CMD(CALL PGM(ECHO) PARM('HI')) JOB(ABCDEFGHIJK)",
-            b"SBMJOB CMD(CALL PGM(ECHO) PARM('HI')) JOB(A",
-            b"SBMJOB CMD(CALL PGM(ECHO) PARM('HI')) JOB(A) ",
-            b"SBMJOB CMD(CALL PGM(ECHO) PARM('HI')) JOB()",
-            b"SBMJOB CMD(CALL PGM(ECHO) PARM('\t')) JOB(A)",
-            b"X",
-            b"",
-        ];
-        for line in lines {
-            let fault = read_first(rt.alloc(), line).err();
-            assert_eq!(rt; fault, Some(FirstFault::NotBuilt));
-        }
-    }
-}
 
 mod call {
     use super::*;
