@@ -1,6 +1,6 @@
 -- A command that keeps the forms and ranges of the table keeps those that the machine asks of its calls.
-use Rattle.std.proofs.Common.{◌≡◌, ℕ, ◌≤◌, ◌&&◌, Bool, true, false, List, [], ◌∷◌, length, Option, Some, None, IfSome, IsTrue, refl, arith}
-use Rattle.std.specs.Prelude.{slice_index_or, nat_le}
+use Rattle.std.proofs.Common.{◌≡◌, ℕ, ◌&&◌, Bool, true, false, List, [], ◌∷◌, length, Option, Some, None, IfSome, IsTrue, refl, arith}
+use Rattle.std.specs.Prelude.{slice_index_or}
 use Rattle.std.specs.List.{list_all}
 use Rattle.std.proofs.lemmas.Bool.Decides.{nat_tests}
 use Rattle.wm_base.specs.Name.{IsName}
@@ -12,7 +12,7 @@ use Rattle.wm_base.specs.declared.refusal.Key.TheVariants as key
 use Rattle.wm_desc.specs.Ranges.{limit_within, request_in_range, cmp_in_range}
 use Rattle.wm_desc.specs.declared.entry.Cmp.{Cmp}
 use Rattle.wm_desc.specs.declared.entry.Cmp.TheVariants.{Any, Val}
-use Rattle.wm_law.specs.Fit.{IsCommand, IsQName, IsTextOf, IsBetween, IsJobName, IsJobRef, IsCompared, IsDelay}
+use Rattle.wm_law.specs.Fit.{IsCommand, IsQName, IsTextOf, IsBetween, IsJobRef, IsCompared}
 use Rattle.wm_law.specs.declared.command.Command.{Command}
 use Rattle.wm_law.specs.declared.command.Command.TheVariants as command
 use Rattle.wm_law.specs.declared.command.JobRef.{JobRef}
