@@ -1,6 +1,7 @@
 mod Back
 mod CommandForms
 mod Digits
+mod LawForms
 mod Plain
 mod PrintValues
 mod ReadBack

@@ -11,6 +11,7 @@ use Rattle.wm_desc.specs.Ranges.{path_in_range, cmp_in_range}
 use Rattle.wm_desc.specs.declared.entry.Cmp.{Cmp}
 use Rattle.wm_desc.specs.declared.entry.Cmp.TheVariants.{Any, Val}
 use Rattle.wm_when.specs.Schedule.{within, date_in_range, time_in_range}
+use Rattle.wm_law.specs.Fit.{IsCommand as IsMachineCommand}
 use Rattle.wm_law.specs.declared.command.Command.{Command}
 use Rattle.wm_law.specs.declared.command.Command.TheVariants as command
 use Rattle.wm_law.specs.declared.command.JobRef.{JobRef}
@@ -114,6 +115,11 @@ LineHasTexts (line.Read ask) = Unit {0}
 abbrev pub KeepsForms : Line → Type 0
 KeepsForms (line.Change c) = IsFit c
 KeepsForms (line.Read ask) = Unit {0}
+
+-- and those that the machine asks of its calls
+abbrev pub FitsMachine : Line → Type 0
+FitsMachine (line.Change c) = IsMachineCommand c
+FitsMachine (line.Read ask) = Unit {0}
 
 -- the line of a command with these values, completed by what the table has where none is given
 abbrev pub completed : Change → List Given → Result Line CmdFault

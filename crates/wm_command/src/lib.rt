@@ -42,6 +42,7 @@ pub use laws::{printed_command_is_read, shown_values_make_the_command};
 pub use line::command;
 pub use printing::print;
 pub use said::Line;
+pub use shown::command_word;
 
 #[cfg(test)]
 mod tests;

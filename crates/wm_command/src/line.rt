@@ -1,13 +1,13 @@
 // Commands from trees.
 ghost use Rattle.std.specs.Prelude.{◌≡◌, ◌≢◌, IfOk, IfErr, Ok, Err};
-ghost use Rattle.wm_command.specs.Printed.{KeepsForms, LineHasTexts, LineIsReadBack};
+ghost use Rattle.wm_command.specs.Printed.{FitsMachine, KeepsForms, LineHasTexts, LineIsReadBack};
 ghost use Rattle.wm_command.specs.Line.{change_named, read_named, one_request, lacks, own_fault, change_line, read_made, read_line, line_of};
 
 use crate::said::Line;
 use wm_law::Ask;
 use crate::fault::CmdFault;
 use crate::made::change_made;
-use crate::printable::has_texts;
+use crate::printable::texts_are_printable;
 use crate::reading::all_given;
 use crate::table::{change_rows, change_word, read_rows, read_word};
 use crate::value::Values;
@@ -105,7 +105,7 @@ fn change_line(alloc: Global, verb: Change, items: &[Item]) -> Result<Line, CmdF
         return Err(fault);
     }
     let command = change_made(verb, &values)?;
-    has_texts(&command);
+    texts_are_printable(&command);
     Ok(Line::Change(command))
 }
 
@@ -139,6 +139,7 @@ pub fn command(alloc: Global, user: &Name, tree: &Tree) -> Result<Line, CmdFault
 
     // A command keeps the forms and the ranges of the table, so what is printed of it is read as that command.
     ensures forms { IfOk result (λ line. KeepsForms line) }
+    ensures machine { IfOk result (λ line. FitsMachine line) }
     ensures back { IfOk result (λ line. LineIsReadBack line) }
 {
     if let Some(verb) = change_named(&tree.name) {

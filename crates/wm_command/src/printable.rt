@@ -7,42 +7,42 @@ use wm_law::Command;
 use wm_base::Text;
 use wm_desc::Cmp;
 
-fn is_text(text: &Text)
+fn text_is_printable(text: &Text)
     ensures { IsText text.now }
 {
     let _bytes = text.as_bytes();
 }
 
-fn may_be_text(text: &Option<Text>)
+fn is_printable_if_any(text: &Option<Text>)
     ensures { IfSome text.now IsText }
 {
     if let Some(text) = text {
-        is_text(text);
+        text_is_printable(text);
     }
 }
 
-fn has_text(cmp: &Cmp)
+fn compare_is_printable(cmp: &Cmp)
     ensures { HasText cmp.now }
 {
     if let Cmp::Val { value, .. } = cmp {
-        is_text(value);
+        text_is_printable(value);
     }
 }
 
 /// Does nothing: its contract says what `Text` keeps of each text of a command.
-pub fn has_texts(command: &Command)
+pub fn texts_are_printable(command: &Command)
     ensures { HasTexts command.now }
 {
     match command {
-        Command::Crtpgmref(c) => is_text(&c.path),
+        Command::Crtpgmref(c) => text_is_printable(&c.path),
         Command::Crtjobd(c) => {
-            is_text(&c.rtgdta);
-            may_be_text(&c.rqsdta);
+            text_is_printable(&c.rtgdta);
+            is_printable_if_any(&c.rqsdta);
         }
-        Command::Addrtge(c) => has_text(&c.cmpval),
+        Command::Addrtge(c) => compare_is_printable(&c.cmpval),
         Command::Sbmjob(c) => {
-            may_be_text(&c.rqsdta);
-            may_be_text(&c.rtgdta);
+            is_printable_if_any(&c.rqsdta);
+            is_printable_if_any(&c.rtgdta);
         }
         _ => {}
     }

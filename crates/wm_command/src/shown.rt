@@ -1,6 +1,7 @@
 // The values of a command's keys, in the order of the table.
 ghost use Rattle.std.specs.Prelude.{◌≡◌, ◌∷◌, [], IfOk};
 ghost use Rattle.wm_command.specs.Shown.{with_key, limit_value, word_or, or_special, values_of, verb_of};
+ghost use Rattle.wm_command.specs.Table.{change_word};
 ghost use Rattle.wm_command.specs.declared.value.Value.TheVariants as value;
 
 use wm_law::Command;
@@ -13,6 +14,7 @@ use crate::shown_entry::{
     addaje_values, addjobqe_values, addpje_values, addrtge_values, rmvaje_values, rmvjobqe_values,
     rmvpje_values, rmvrtge_values,
 };
+use crate::table::change_word;
 use crate::shown_job::{chgjob_values, endjob_values, sbmjob_values};
 use crate::value::{Value, Values};
 use crate::verb::Change;
@@ -101,6 +103,14 @@ pub fn values_of(alloc: Global, command: &Command) -> Result<Values, AllocError>
     }
 }
 
+/// The word of a command.
+pub fn command_word(command: &Command) -> &'static str
+    ensures { result.now ≡ change_word (verb_of command.now) }
+{
+    change_word(verb_of(command))
+}
+
+/// Which command it is.
 pub fn verb_of(command: &Command) -> Change
     ensures { result ≡ verb_of command.now }
 {

@@ -1,13 +1,16 @@
 // Commands that are read, and the faults of those that aren't.
-use crate::{Ask, Command, EndOption, JobRef, Line, command};
+use crate::{Line, command};
 use std::alloc::Global;
 use std::test::Fail;
+use wm_law::{Ask, Command, EndOption, JobRef};
 use wm_base::{Limit, Name, Priority, Text};
 use wm_clwords::read_command;
 use wm_desc::Cmp;
 use wm_when::{DateSpec, TimeSpec};
 
+mod documented;
 mod faults;
+mod keys;
 mod printed;
 
 fn line(alloc: Global, text: &str) -> Result<Line, Fail> {

@@ -5,7 +5,6 @@
 //! reply in it is that of the machine (`specs/History.antt`).
 #![tactic(auto)]
 
-mod not_built;
 mod call;
 mod choice;
 mod command;
@@ -18,6 +17,7 @@ mod laws;
 mod list;
 mod machine;
 mod making;
+mod not_built;
 mod opening;
 mod parms;
 mod pending;
@@ -28,7 +28,6 @@ mod state;
 #[cfg(test)]
 mod tests;
 
-pub use not_built::{NotBuilt, built, built_commands_are_had};
 pub use call::{Call, Entry, Reply};
 pub use choice::{Candidate, Rank};
 pub use command::{
@@ -45,6 +44,7 @@ pub use laws::{
     starting_jobs_have_orders,
 };
 pub use list::ListOf;
+pub use not_built::{NotBuilt, built, built_commands_are_had};
 pub use parms::{is_call, values_of};
 pub use request::{Place, Progress, Values};
 pub use state::{Evoke, Power, Sbs, SbsPhase, State, Stop};

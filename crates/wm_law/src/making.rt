@@ -137,7 +137,11 @@ impl State {
     }
 
     /// CRTSBSD.
-    pub(crate) fn make_description(&mut self, alloc: Global, command: &Crtsbsd) -> Result<Reply, AllocError>
+    pub(crate) fn make_description(
+        &mut self,
+        alloc: Global,
+        command: &Crtsbsd,
+    ) -> Result<Reply, AllocError>
         requires { IsTrue (maxjobs_in_range command.now.maxjobs) }
         ensures reply { IfOk result (λ r. r ≡ (make_description self.old command.now).reply) }
         ensures state { OnOk result (self.new ≡ (make_description self.old command.now).state) }
@@ -170,7 +174,10 @@ impl State {
         if self.is_active(&command.sbsd) {
             return Ok(Reply::No(Refusal::SbsActive));
         }
-        let reply = made(self.objects.add_queue(&command.sbsd, queue_entry_of(command)))?;
+        let reply = made(
+            self.objects
+                .add_queue(&command.sbsd, queue_entry_of(command)),
+        )?;
         Ok(reply)
     }
 

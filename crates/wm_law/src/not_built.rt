@@ -82,7 +82,11 @@ fn is_built(command: &Command) -> bool
 pub fn built(command: &Command) -> Result<(), NotBuilt>
     ensures { IsOk result ↔ IsTrue (is_built command.now) }
 {
-    if is_built(command) { Ok(()) } else { Err(NotBuilt) }
+    if is_built(command) {
+        Ok(())
+    } else {
+        Err(NotBuilt)
+    }
 }
 
 /// The machine has what is built.

@@ -1,22 +1,30 @@
 // Tests of what no clause says: that the calls succeed, and histories whose answers are known.
-ghost use Rattle.std.specs.Prelude.{◌≤◌};
+ghost use Rattle.std.specs.Prelude.{◌≡◌, ◌≤◌, codes};
+ghost use Rattle.wm_law.specs.declared.call.Call.TheVariants.{Change};
+ghost use Rattle.wm_law.specs.Fit.{IsCall, IsBuilt};
 
 use crate::*;
 use std::alloc::{AllocError, Global};
 use std::process::Abort;
 use std::test::Fail;
 use wm_base::{
-    Args, Asked, Class, EndCause, Exit, JobName, JobNumber, Kind, Limit, Moment, Name, PhaseWord,
-    Priority, QName, Refusal, Serial, StartCause, StartOrder, Text,
+    Args, Asked, BadName, Class, EndCause, Exit, JobName, JobNumber, Kind, Limit, Moment, Name,
+    PhaseWord, Priority, QName, Refusal, Serial, StartCause, StartOrder, Text,
 };
-use wm_desc::{qbatch, qdftjobd};
+use wm_desc::{Cmp, QueueEntry, RouteEntry, qbatch, qdftjobd};
 use wm_when::{DateSpec, TimeSpec};
 
+mod built;
+mod descriptions;
+mod fit;
+mod objects;
 mod order;
 mod path;
 mod refusals;
 mod request;
 mod routing;
+
+use fit::{is_submission, tells_name};
 
 const NOW: u64 = 1000;
 
@@ -28,6 +36,7 @@ fn strsbs(
     sbsd: &QName,
     refusal: Option<Refusal>,
 ) -> Result<(), AllocError> {
+    tells_name(sbsd);
     let call = Call::Change {
         user: Name::of(b"QSYS"),
         command: Command::Strsbs(Strsbs { sbsd: *sbsd }),
@@ -81,6 +90,7 @@ fn sbmjob(
     command: Sbmjob,
     answer: Result<JobName, Refusal>,
 ) -> Result<(), AllocError> {
+    assert!(rt; is_submission(&command));
     let call = Call::Change {
         user: Name::of(b"QUSER"),
         command: Command::Sbmjob(command),
@@ -101,6 +111,50 @@ fn submit(
 ) -> Result<(), AllocError> {
     let command = echo_job(alloc, job.name)?;
     sbmjob(rt, alloc, state, command, Ok(job))
+}
+
+// The command by QSYS, which makes an object or changes a description, is accepted, or refused so.
+fn makes(
+    rt: &impl Abort,
+    alloc: Global,
+    state: &mut State,
+    call: &Call,
+    refusal: Option<Refusal>,
+) -> Result<(), AllocError>
+    requires ranges { IsCall call.now }
+    requires built { IsBuilt state.old call.now }
+{
+    let reply = state.step(alloc, 0, call, Moment::new(NOW))?;
+    match refusal {
+        None => assert_eq!(rt; reply, Reply::Made),
+        Some(refusal) => assert_eq!(rt; reply, Reply::No(refusal)),
+    }
+    Ok(())
+}
+
+fn by_qsys(command: Command) -> Call
+    ensures { result ≡ Change (codes "QSYS") command }
+{
+    Call::Change {
+        user: Name::of(b"QSYS"),
+        command,
+    }
+}
+
+fn qgpl(name: &str) -> Result<QName, BadName> {
+    Ok(QName {
+        lib: Name::of(b"QGPL"),
+        name: Name::read(name.as_bytes())?,
+    })
+}
+
+// QCMD is that of QSYS.
+fn program(name: &str) -> Result<QName, BadName> {
+    let mut program = qgpl(name)?;
+    if name == "QCMD" {
+        program.lib = Name::of(b"QSYS");
+    }
+    Ok(program)
 }
 
 // PWRDWNSYS OPTION(*IMMED) by QSYS is accepted.

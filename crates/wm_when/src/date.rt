@@ -45,6 +45,7 @@ pub fn is_date(day: u32) -> bool
 #[cfg(test)]
 mod tests {
     use super::*;
+    use jiff::civil::Date;
 
     #[test]
     fn the_dates_are_those_of_the_calendar(rt: HostRuntime) {
@@ -66,6 +67,25 @@ mod tests {
             (20_230_132, false),
         ] {
             assert_eq!(rt; is_date(day), is, "{day}");
+        }
+    }
+
+    fn jiff_has(year: u16, month: u8, day: u8) -> bool {
+        match (i16::try_from(year), i8::try_from(month), i8::try_from(day)) {
+            (Ok(year), Ok(month), Ok(day)) => Date::new(year, month, day).is_ok(),
+            _ => false,
+        }
+    }
+
+    #[test]
+    fn the_calendar_is_that_of_jiff(rt: HostRuntime) {
+        for year in [1970u16, 1999, 2000, 2023, 2024, 2100, 2400, 9999] {
+            for month in 0u8..=13 {
+                for day in [0u8, 1, 28, 29, 30, 31, 32] {
+                    let number = u32::from(year) * 10_000 + u32::from(month) * 100 + u32::from(day);
+                    assert_eq!(rt; is_date(number), jiff_has(year, month, day), "{number}");
+                }
+            }
         }
     }
 }

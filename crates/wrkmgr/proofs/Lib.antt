@@ -6,6 +6,7 @@ pub mod Writes
 pub mod Inputs
 pub mod InputLoops
 pub mod Causes
+pub mod Commands
 pub mod Runs
 pub mod Servings
 pub mod Takings

@@ -24,9 +24,11 @@ pub record HandLoop (old new : MonitorView) (before now : ℕ) (kept : Option Re
   pub hands : made ≤ hands_of (since old.log new.log)
   pub quiet : (reporting_now ≡ reporting_before) ⊎ (length old.log < length new.log)
 
--- a part has been done, no report is kept, and no count has fallen; no look has been made yet, or the history is longer
+-- a part has been done with so many looks, each with an entry, no report is kept, and no count has fallen; no look has
+-- been made yet, or the history is longer
 pub record LookLoop (old new : MonitorView) (before now : ℕ) (kept : Option Report) (reporting_before reporting_now : Option (List ℕ)) (made : ℕ) : Type 0 where
   pub part : Advances old new
   pub none : kept ≡ None
   pub faults : before ≤ now
+  pub count : made ≤ length (since old.log new.log)
   pub looks : ((made ≡ 0) × (reporting_now ≡ reporting_before)) ⊎ (length old.log < length new.log)

@@ -1,18 +1,21 @@
 -- Laws of a turn that makes no entry: there was nothing to do.
-use Rattle.std.proofs.Common.{◌≡◌, ◌⊎◌, ℕ, ◌-◌, ◌<◌, ◌≤◌, List, [], ◌∷◌, ◌++◌, length, Option, Some, None, Result, Ok, Err, sym, ap, subst, ◌∙◌, refl, inl, inr, arith}
+use Rattle.std.proofs.Common.{◌≡◌, ◌⊎◌, ℕ, ◌+◌, ◌-◌, ◌<◌, ◌≤◌, List, [], ◌∷◌, ◌++◌, length, Option, Some, None, Result, Ok, Err, sym, ap, subst, ◌∙◌, refl, inl, inr, arith}
 use Rattle.std.specs.Prelude.{IfSome}
 use Rattle.std.proofs.Math.Nat.{lt_of_not-le}
 use Rattle.std.proofs.Math.Seq.{drop-length}
 use Rattle.std.proofs.lemmas.List.{append-nil, length-append, length_push, nil_from_length}
+use Rattle.wm_law.specs.declared.call.Call.{Call}
 use Rattle.wm_law.specs.declared.call.Call.TheVariants as call
 use Rattle.wm_law.specs.declared.call.Entry.{Entry}
 use Rattle.wm_law.specs.History.{after}
 use Rattle.wm_law.specs.Opening.{opening}
 use Rattle.wm_law.specs.Pending.{next_due, starting}
 use Rattle.wm_outside.specs.Told.{IsEmpty}
+use Rattle.wrkmgr.specs.Calls.{Called}
 use Rattle.wrkmgr.specs.Floor.{entry_at}
 use Rattle.wrkmgr.specs.Lists.{since, Extends}
 use Rattle.wrkmgr.specs.Monitor.{IsIdle, hands_of, monitor_pass}
+use Rattle.wrkmgr.specs.Session.{session_pass}
 use Rattle.wrkmgr.specs.declared.report.Report.{Report}
 use Rattle.wrkmgr.proofs.Monitors.{Extends-then}
 
@@ -24,13 +27,16 @@ ok_number (Err e) = 0
 pub number_of_ok : {E : Type 0} (n m : ℕ) (r : Result ℕ E) → r ≡ Ok n → r ≡ Ok m → n ≡ m
 number_of_ok n m r one other = sym (ap ok_number one) ∙ ap ok_number other
 
+-- a list that has grown by nothing is the same
+same_list : {A : Type 0} (a b : List A) → Extends a b → length (since a b) ≡ 0 → b ≡ a
+same_list a b ab nothing = ab ∙ (ap (λ xs. a ++ xs) (nil_from_length (since a b) nothing) ∙ append-nil a)
+
 -- a list that is no longer in the end had not grown before
-pub not_grown : {A : Type 0} (a b c : List A) → Extends a b → Extends b c → length c - length a ≡ 0 → b ≡ a
+not_grown : {A : Type 0} (a b c : List A) → Extends a b → Extends b c → length c - length a ≡ 0 → b ≡ a
 not_grown a b c ab bc none =
     let n = ap length ab ∙ length-append a (since a b) in
     let m = ap length bc ∙ length-append b (since b c) in
-    let nothing : length (since a b) ≡ 0 = omega arith in
-    ab ∙ (ap (λ xs. a ++ xs) (nil_from_length (since a b) nothing) ∙ append-nil a)
+    same_list a b ab (omega arith)
 
 -- no report was kept, since none was sent
 none_kept : (kept : Option Report) (m n : ℕ) → IfSome kept (λ _. m < n) → n ≡ m → kept ≡ None
@@ -77,3 +83,18 @@ idle_turn f0 f1 f2 f3 f4 kept coming coming' reporting reporting' x1 x2 x3 x4 no
       orders = no_order f0 f2 f3 e2 e3 all;
       reports = no_report reporting reporting' (length f2) (length f3) (length f4) same last quiet looked;
     }
+
+-- a call, and then a turn that made no entry
+pub idle_call : (old mid new : List Entry) (c : Call) → Called old c mid → Extends mid new → (length new - length mid ≡ 0 → starting (after opening mid) ≡ 0) → length new ≡ length old + 1 → starting (after opening new) ≡ 0
+idle_call old mid new c called grown idle alone =
+    let n = ap length called.entry ∙ length_push old (entry_at old session_pass c called.now) in
+    let m = ap length grown ∙ length-append mid (since mid new) in
+    ap (λ (log : List Entry). starting (after opening log)) (same_list mid new grown (omega arith)) ∙ idle (omega arith)
+
+-- one look more has made one entry more
+pub looks_more : (a b c : List Entry) (n : ℕ) → Extends a b → Extends b c → length b < length c → n ≤ length (since a b) → n + 1 ≤ length (since a c)
+looks_more a b c n ab bc longer some =
+    let ac = Extends-then a b c ab bc in
+    let x = ap length ab ∙ length-append a (since a b) in
+    let z = ap length ac ∙ length-append a (since a c) in
+    omega arith

@@ -1,5 +1,5 @@
 -- The bytes that a session writes.
-use Rattle.std.specs.Prelude.{ℕ, Bool, true, false, Option, Some, None, List, [], ◌∷◌, ◌++◌, codes}
+use Rattle.std.specs.Prelude.{ℕ, Bool, true, false, if◌then◌else◌, Option, Some, None, List, [], ◌∷◌, ◌++◌, codes}
 use Rattle.std.specs.Fmt.{decimal}
 use Rattle.wm_base.specs.declared.job.Asked.{Asked}
 use Rattle.wm_base.specs.declared.job.Asked.TheVariants.{Start, Kill}
@@ -107,6 +107,14 @@ fault_text (Cm fault) = cm_text fault
 -- a line with its end
 abbrev pub with_end : List ℕ → List ℕ
 with_end text = text ++ 10 ∷ []
+
+-- an empty line isn't answered, and is no fault of the session
+abbrev pub is_fault : LineFault → Bool
+is_fault (Cl Empty) = false
+is_fault fault = true
+
+abbrev pub fault_answer : LineFault → List ℕ
+fault_answer fault = if is_fault fault then with_end (fault_text fault) else []
 
 -- what is answered to a line that isn't built
 abbrev pub not_built : List ℕ

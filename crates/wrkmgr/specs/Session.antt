@@ -7,10 +7,10 @@ use Rattle.wm_law.specs.declared.command.Command.TheVariants.{Strsbs, Pwrdwnsys}
 use Rattle.wm_law.specs.declared.command.EndOption.TheVariants.{Immed}
 use Rattle.wm_law.specs.declared.call.Entry.{Entry}
 use Rattle.wm_desc.specs.Opening.{qbatch}
-use Rattle.wm_clwords.specs.declared.fault.ClFault.TheVariants.{Empty, TooLong}
+use Rattle.wm_clwords.specs.declared.fault.ClFault.TheVariants.{TooLong}
 use Rattle.wm_outside.specs.Told.{Grows}
 use Rattle.wrkmgr.specs.Reading.{Reads, session_user}
-use Rattle.wrkmgr.specs.Said.{said_text, fault_text, with_end, not_built, is_refused}
+use Rattle.wrkmgr.specs.Said.{said_text, fault_answer, is_fault, with_end, not_built, is_refused}
 use Rattle.wrkmgr.specs.declared.reading.LineFault.TheVariants.{Cl}
 use Rattle.wrkmgr.specs.declared.reading.Reading.{Reading}
 use Rattle.wrkmgr.specs.declared.reading.Reading.TheVariants.{Fault, NotBuilt, Call}
@@ -41,10 +41,9 @@ pub record Says (due : List ℕ) (wrong : Bool) (es : List Entry) (bytes : List 
   pub says : bytes ≡ due
   pub fault : faulty ≡ wrong
 
--- what a reading is answered by: an empty line by nothing, a fault by its line, a call by what is said of its entry
+-- what a reading is answered by: a fault by its line, a call by what is said of its entry
 abbrev pub AnswersReading : Reading → List Entry → List ℕ → Bool → Type 0
-AnswersReading (Fault (Cl Empty)) es bytes faulty = Says [] false es bytes faulty
-AnswersReading (Fault fault) es bytes faulty = Says (with_end (fault_text fault)) true es bytes faulty
+AnswersReading (Fault fault) es bytes faulty = Says (fault_answer fault) (is_fault fault) es bytes faulty
 AnswersReading NotBuilt es bytes faulty = Says (with_end not_built) true es bytes faulty
 AnswersReading (Call c) es bytes faulty = Calls c es bytes faulty
 
@@ -56,7 +55,7 @@ pub record AnswersText (text : List ℕ) (es : List Entry) (bytes : List ℕ) (f
 
 -- the same of a logical line, which may be too long
 abbrev pub AnswersLine : Option (List ℕ) → List Entry → List ℕ → Bool → Type 0
-AnswersLine None es bytes faulty = Says (with_end (fault_text (Cl TooLong))) true es bytes faulty
+AnswersLine None es bytes faulty = AnswersReading (Fault (Cl TooLong)) es bytes faulty
 AnswersLine (Some text) es bytes faulty = AnswersText text es bytes faulty
 
 -- the first line, and then the rest

@@ -1,13 +1,13 @@
 // The first call and the last, and the monitor's turns until no job is active.
+use crate::calls::{end_call, start_call};
 use crate::session::Run;
 use crate::stop::Stop;
-use crate::calls::{end_call, start_call};
 use std::alloc::Global;
 use std::sync::Wait;
 use wm_outside::{Clock, Spawner};
 
 impl Run {
-    ghost use Rattle.std.specs.Prelude.{◌≡◌, OnOk, OnErr, None};
+    ghost use Rattle.std.specs.Prelude.{◌≡◌, ◌+◌, OnOk, OnErr, None, length};
     ghost use Rattle.wm_law.specs.History.{after, entries_of};
     ghost use Rattle.wm_law.specs.Opening.{opening};
     ghost use Rattle.wm_law.specs.Pending.{active, starting};
@@ -67,7 +67,7 @@ impl Run {
         unreachable!()
     }
 
-    /// Starts the controlling subsystem, and lets the monitor turn.
+    /// Starts the controlling subsystem, and lets the monitor turn, which leaves no order where it makes no entry.
     pub fn begin<P: Spawner, C: Clock>(
         &mut self,
         alloc: Global,
@@ -78,6 +78,7 @@ impl Run {
             (view self.new.floor self.new.monitor (P.asked spawner.new) (P.told spawner.new) (P.misses spawner.new)) }
         ensures not_begun { OnErr result (AtMostOne start_call (entries_of session_pass (since self.old.floor self.new.floor))) }
         ensures begun { OnOk result (OneCall start_call (entries_of session_pass (since self.old.floor self.new.floor))) }
+        ensures orders { OnOk result (length self.new.floor ≡ length self.old.floor + 1 → starting (after opening self.new.floor) ≡ 0) }
         ensures causes { HasMonitorCauses result (P.faults spawner.old) (P.faults spawner.new) }
     {
         self.call(alloc, clock, start_call())?;

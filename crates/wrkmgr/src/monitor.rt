@@ -133,6 +133,8 @@ impl Monitor {
         ensures part { Advances (view floor.old self.old (P.asked spawner.old) (P.told spawner.old) (P.misses spawner.old))
             (view floor.new self.new (P.asked spawner.new) (P.told spawner.new) (P.misses spawner.new)) }
         ensures all { OnOk result (IsEmpty (P.reporting spawner.old) ⊎ (length floor.old < length floor.new)) }
+        ensures last { OnOk result ((256 ≤ length (since floor.old floor.new)) ⊎
+            ((last : P) × IsEmpty (P.reporting last) × Grows (as_reports (P.told last)) (as_reports (P.told spawner.new)) [])) }
         ensures kept { OnOk result (self.new.kept ≡ None) }
         ensures faults { P.faults spawner.old ≤ P.faults spawner.new }
         ensures wait_fault { IsErrOf result MonitorFault.WaitFault → raised (P.faults spawner.old) ≤ P.faults spawner.new }
@@ -182,6 +184,7 @@ impl Monitor {
     ) -> Result<(), MonitorFault>
         ensures part { Advances (view floor.old self.old (P.asked spawner.old) (P.told spawner.old) (P.misses spawner.old))
             (view floor.new self.new (P.asked spawner.new) (P.told spawner.new) (P.misses spawner.new)) }
+        ensures report { OnOk result (until ≡ None → IsEmpty (P.out spawner.old) ⊎ (length floor.old < length floor.new)) }
         ensures kept { OnOk result (self.new.kept ≡ None) }
         ensures faults { P.faults spawner.old ≤ P.faults spawner.new }
         ensures wait_fault { IsErrOf result MonitorFault.WaitFault → raised (P.faults spawner.old) ≤ P.faults spawner.new }
@@ -260,6 +263,7 @@ impl Monitor {
         requires { self.old.kept ≡ None }
         ensures none { result ≡ Ok false → IsEmpty (P.reporting spawner.old) }
         ensures sent { result ≡ Ok true → length floor.old < length floor.new }
+        ensures none_told { result ≡ Ok false → Grows (as_reports (P.told spawner.old)) (as_reports (P.told spawner.new)) [] }
         ensures part { Advances (view floor.old self.old (P.asked spawner.old) (P.told spawner.old) (P.misses spawner.old))
             (view floor.new self.new (P.asked spawner.new) (P.told spawner.new) (P.misses spawner.new)) }
         ensures kept { OnOk result (self.new.kept ≡ None) }

@@ -3,7 +3,7 @@ ghost use Rattle.std.specs.Prelude.{◌≡◌, ◌++◌, ◌∷◌, [], IfOk, co
 ghost use Rattle.std.specs.Option.{option_copied};
 ghost use Rattle.wm_base.specs.JobName.{job_name_text};
 ghost use Rattle.wm_base.specs.QName.{qname_text};
-ghost use Rattle.wrkmgr.specs.Said.{said_text, fault_text, cl_text, cm_text, with_end, is_refused, order_text, made_name, made_text};
+ghost use Rattle.wrkmgr.specs.Said.{said_text, fault_text, cl_text, cm_text, with_end, is_refused, order_text, made_name, made_text, is_fault, fault_answer};
 
 use crate::reading::LineFault;
 use std::alloc::{AllocError, Global};
@@ -134,10 +134,96 @@ pub fn fault_line(alloc: Global, fault: &LineFault) -> Result<String, AllocError
     }
 }
 
+/// Whether a line that is no command is a fault: an empty one isn't.
+pub fn is_fault(fault: &LineFault) -> bool
+    ensures { result ≡ is_fault fault.now }
+{
+    !matches!(fault, LineFault::Cl(ClFault::Empty))
+}
+
+/// What is written for a line that is no command: nothing for an empty one. An `Err` is want of memory.
+pub fn fault_answer(alloc: Global, fault: &LineFault) -> Result<String, AllocError>
+    ensures { IfOk result (λ line. string_bytes line ≡ fault_answer fault.now) }
+{
+    if !is_fault(fault) {
+        return Ok(String::new(alloc));
+    }
+    let line = ended(fault_line(alloc, fault)?)?;
+    Ok(line)
+}
+
 /// A text with a line's end.
 pub fn ended(mut text: String) -> Result<String, AllocError>
     ensures { IfOk result (λ line. string_bytes line ≡ with_end (string_bytes text)) }
 {
     text.push_str("\n")?;
     Ok(text)
+}
+
+#[cfg(test)]
+mod tests {
+    use super::*;
+    use std::test::Fail;
+    use wm_base::{Key, Refusal};
+    use wm_desc::qbatch;
+    use wm_law::Strsbs;
+
+    #[test]
+    fn each_reply_has_its_line(rt: HostRuntime) -> Result<(), Fail> {
+        let command = Command::Strsbs(Strsbs { sbsd: qbatch() });
+        for (reply, line) in [
+            (
+                Reply::SbsStarted(qbatch()),
+                "OK subsystem QGPL/QBATCH started",
+            ),
+            (Reply::PowerDown, "OK power down"),
+            (Reply::Nothing, "NOTHING"),
+            (Reply::Noted, "NOTED"),
+            (Reply::No(Refusal::PoweringDown), "NO 17 POWERINGDOWN"),
+        ] {
+            assert_eq!(rt; said(rt.alloc(), &command, &reply)?.as_str(), line);
+        }
+        Ok(())
+    }
+
+    #[test]
+    fn each_fault_has_its_line(rt: HostRuntime) -> Result<(), Fail> {
+        for (fault, line) in [
+            (LineFault::Cl(ClFault::Empty), "CL 1 EMPTY"),
+            (LineFault::Cl(ClFault::BadName), "CL 2 BADNAME"),
+            (LineFault::Cl(ClFault::OpenQuote(11)), "CL 3 OPENQUOTE 11"),
+            (LineFault::Cl(ClFault::OpenParen(0)), "CL 4 OPENPAREN 0"),
+            (LineFault::Cl(ClFault::StrayParen(1)), "CL 5 STRAYPAREN 1"),
+            (LineFault::Cl(ClFault::OpenComment(2)), "CL 6 OPENCOMMENT 2"),
+            (LineFault::Cl(ClFault::TooLong), "CL 7 TOOLONG"),
+            (LineFault::Cl(ClFault::BadByte(8191)), "CL 8 BADBYTE 8191"),
+            (LineFault::Cl(ClFault::TooDeep(16)), "CL 9 TOODEEP 16"),
+            (
+                LineFault::Cm(CmdFault::UnknownCommand),
+                "CM 1 UNKNOWNCOMMAND",
+            ),
+            (
+                LineFault::Cm(CmdFault::UnknownKeyword(7)),
+                "CM 2 UNKNOWNKEYWORD 7",
+            ),
+            (LineFault::Cm(CmdFault::Twice(8)), "CM 3 TWICE 8"),
+            (
+                LineFault::Cm(CmdFault::Missing(Key::Jobq)),
+                "CM 4 MISSING JOBQ",
+            ),
+            (LineFault::Cm(CmdFault::BadValue(29)), "CM 5 BADVALUE 29"),
+            (
+                LineFault::Cm(CmdFault::TooManyValues(9)),
+                "CM 6 TOOMANYVALUES 9",
+            ),
+            (
+                LineFault::Cm(CmdFault::Conflict(Key::Cmd, Key::Rqsdta)),
+                "CM 7 CONFLICT CMD RQSDTA",
+            ),
+            (LineFault::Cm(CmdFault::NotCall(7)), "CM 8 NOTCALL 7"),
+        ] {
+            assert_eq!(rt; fault_line(rt.alloc(), &fault)?.as_str(), line);
+        }
+        Ok(())
+    }
 }

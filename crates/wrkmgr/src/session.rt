@@ -6,10 +6,10 @@ ghost use Rattle.wm_outside.specs.Cause.{raised};
 ghost use Rattle.wrkmgr.specs.Said.{entry_text, with_end};
 
 use crate::floor::Floor;
-use crate::monitor::Monitor;
 use crate::line::read_line;
+use crate::monitor::Monitor;
 use crate::reading::{LineFault, Reading};
-use crate::said::{ended, fault_line, is_refused, said};
+use crate::said::{ended, fault_answer, is_fault, is_refused, said};
 use crate::stop::Stop;
 use crate::write::write_all;
 use std::alloc::{AllocError, Global};
@@ -59,18 +59,19 @@ fn entry_line(alloc: Global, entry: &Entry) -> Result<String, AllocError>
 }
 
 impl Run {
-    ghost use Rattle.std.specs.Prelude.{◌≡◌, ◌≤◌, ℕ, Err, OnOk, OnErr, IsErrOf, IfOk, IfSome, take, true};
+    ghost use Rattle.std.specs.Prelude.{◌≡◌, ◌⊎◌, ◌<◌, ◌≤◌, ℕ, Err, OnOk, OnErr, IsErrOf, IfOk, IfSome, take, true};
     ghost use Rattle.std.specs.Option.{option_copied};
     ghost use Rattle.wm_law.specs.Built.{is_built};
     ghost use Rattle.wm_law.specs.Fit.{IsCall, IsBuilt, IsCommand};
     ghost use Rattle.wm_law.specs.History.{after};
     ghost use Rattle.wm_law.specs.Opening.{opening};
-    ghost use Rattle.wm_outside.specs.Told.{Grows};
+    ghost use Rattle.wm_law.specs.Pending.{next_due, starting};
+    ghost use Rattle.wm_outside.specs.Told.{Grows, IsEmpty};
     ghost use Rattle.wm_outside.specs.Cause.{raised};
     ghost use Rattle.wrkmgr.specs.Floor.{last_of};
     ghost use Rattle.wrkmgr.specs.Said.{entry_text, with_end, is_refused};
     ghost use Rattle.wrkmgr.specs.Reading.{IsFitReading};
-    ghost use Rattle.std.specs.Prelude.{◌-◌, None, Ok, length};
+    ghost use Rattle.std.specs.Prelude.{◌+◌, ◌-◌, None, Ok, length};
     ghost use Rattle.wm_law.specs.History.{entries_of};
     ghost use Rattle.wrkmgr.specs.Calls.{Called};
     ghost use Rattle.wrkmgr.specs.Lists.{since};
@@ -148,6 +149,8 @@ impl Run {
     ) -> Result<(), Stop>
         ensures part { Advances (view self.old.floor self.old.monitor (P.asked spawner.old) (P.told spawner.old) (P.misses spawner.old))
             (view self.new.floor self.new.monitor (P.asked spawner.new) (P.told spawner.new) (P.misses spawner.new)) }
+        ensures report { OnOk result (next_due (after opening self.old.floor) ≡ None →
+            IsEmpty (P.out spawner.old) ⊎ (length self.old.floor < length self.new.floor)) }
         ensures kept { OnOk result (self.new.monitor.kept ≡ None) }
         ensures causes { HasMonitorCauses result (P.faults spawner.old) (P.faults spawner.new) }
     {
@@ -161,7 +164,8 @@ impl Run {
         }
     }
 
-    // Makes the call of a user's command, says its reply, and lets the monitor turn.
+    // Makes the call of a user's command, says its reply, and lets the monitor turn, which leaves no order where it
+    // makes no entry.
     fn call_command<O: Sink, P: Spawner, C: Clock>(
         &mut self,
         alloc: Global,
@@ -178,6 +182,7 @@ impl Run {
             (entries_of session_pass (since self.old.floor self.new.floor)) (O.written out.old) (O.written out.new) faulty) }
         ensures stopped { OnErr result (IsCutShort (Calls command)
             (entries_of session_pass (since self.old.floor self.new.floor)) (O.written out.old) (O.written out.new)) }
+        ensures orders { OnOk result (length self.new.floor ≡ length self.old.floor + 1 → starting (after opening self.new.floor) ≡ 0) }
         ensures causes { HasCauses result (O.faults out.old) (O.faults out.new) (P.faults spawner.old) (P.faults spawner.new) }
     {
         built_commands_are_had();
@@ -188,7 +193,7 @@ impl Run {
         Ok(refused)
     }
 
-    // Answers a reading: an empty line not at all, a fault by its line, a call by its reply.
+    // Answers a reading: a fault by its line, a call by its reply.
     fn answer_reading<O: Sink, P: Spawner, C: Clock>(
         &mut self,
         alloc: Global,
@@ -207,11 +212,10 @@ impl Run {
         ensures causes { HasCauses result (O.faults out.old) (O.faults out.new) (P.faults spawner.old) (P.faults spawner.new) }
     {
         match reading {
-            Reading::Fault(LineFault::Cl(ClFault::Empty)) => Ok(false),
             Reading::Fault(fault) => {
-                let line = ended(fault_line(alloc, &fault)?)?;
+                let line = fault_answer(alloc, &fault)?;
                 put(out, line.as_bytes())?;
-                Ok(true)
+                Ok(is_fault(&fault))
             }
             Reading::NotBuilt => {
                 put(out, NOT_BUILT)?;

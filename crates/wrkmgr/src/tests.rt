@@ -13,12 +13,12 @@ const SUBMIT: &[u8] = b"SBMJOB CMD(CALL PGM(ECHO) PARM('HI')) JOB(A)\n";
 
 const SUBMITTED: &[u8] = b"OK 000001/QUSER/A submitted to QGPL/QBATCH\n";
 
-const NOT_BUILT: &[u8] = b"CM 9 NOTBUILT\n";
+const UNKNOWN: &[u8] = b"CM 1 UNKNOWNCOMMAND\n";
 
-// A line that submits a job, and one that isn't built.
+// A line that submits a job, and one that is no command.
 const TWO_LINES: &[u8] = b"SBMJOB CMD(CALL PGM(ECHO) PARM('HI')) JOB(A)\nX\n";
 
-const TWO_ANSWERS: &[u8] = b"OK 000001/QUSER/A submitted to QGPL/QBATCH\nCM 9 NOTBUILT\n";
+const TWO_ANSWERS: &[u8] = b"OK 000001/QUSER/A submitted to QGPL/QBATCH\nCM 1 UNKNOWNCOMMAND\n";
 
 // The numbers, from 1, of the calls that fail, and how many looks a child is out.
 #[derive(Clone, Copy)]
@@ -156,19 +156,95 @@ fn jobs_are_started_in_the_order_of_their_places(rt: HostRuntime) -> Result<(), 
     Ok(())
 }
 
+// Commands that are accepted and refused, lines that are no commands or not built, and comments, empty and continued ones.
+const SCRIPT: &[u8] = b"/* jobs of the night */
+
+crtjobq night
+CRTJOBQ QGPL/NIGHT
+CRTSBSD SBSD(NIGHT) MAXJOBS(+
+   8) TEXT('Night')\r
+ADDJOBQE SBSD(NIGHT) JOBQ(NIGHT)
+ADDJOBQE SBSD(NIGHT) JOBQ(OTHER)
+ADDRTGE SBSD(NIGHT) SEQNBR(9999) CMPVAL(*ANY) PGM(QCMD) CLS(QBATCH)
+ADDRTGE SBSD(NIGHT) SEQNBR(10) CMPVAL('A') PGM(QCMD) CLS(QBATCH)
+RMVRTGE SBSD(NIGHT) SEQNBR(9999)
+RMVRTGE SBSD(NIGHT) SEQNBR(9999)
+RMVJOBQE SBSD(NIGHT) JOBQ(NIGHT)
+RMVJOBQE SBSD(QBATCH) JOBQ(QBATCH)
+SBMJOB CMD(CALL ECHO PARM('O''X' hi)) JOB(A)
+SBMJOB CMD(CALL ECHO)
+SBMJOB CMD(CALL OTHER)
+SBMJOB JOB('A)
+X
+STRSBS NIGHT
+WRKACTJOB
+CRTJOBQ +";
+
+const ANSWERS: &[u8] = b"OK CRTJOBQ QGPL/NIGHT
+NO 01 EXISTS JOBQ
+OK CRTSBSD QGPL/NIGHT
+OK ADDJOBQE QGPL/NIGHT
+NO 02 NOOBJECT JOBQ
+OK ADDRTGE QGPL/NIGHT
+CM 9 NOTBUILT
+OK RMVRTGE QGPL/NIGHT
+NO 02 NOOBJECT RTGE
+OK RMVJOBQE QGPL/NIGHT
+NO 05 SBSACTIVE
+OK 000001/QUSER/A submitted to QGPL/QBATCH
+OK 000002/QUSER/QDFTJOBD submitted to QGPL/QBATCH
+CM 9 NOTBUILT
+CL 3 OPENQUOTE 11
+CM 1 UNKNOWNCOMMAND
+CM 9 NOTBUILT
+CM 9 NOTBUILT
+CM 4 MISSING JOBQ
+";
+
 #[test]
-fn bytes_come_and_go_one_at_a_time(rt: HostRuntime) -> Result<(), Fail> {
-    let done = run_over(&rt, rt.alloc(), TWO_LINES, Outside { most: 1, ..FINE })?;
-    assert_eq!(rt; done.status, 1);
-    assert_eq!(rt; done.written.as_slice(), TWO_ANSWERS);
+fn a_script_is_answered_line_by_line_in_whatever_pieces_it_comes(
+    rt: HostRuntime,
+) -> Result<(), Fail> {
+    for most in [1, 7, 4096] {
+        let done = run_over(&rt, rt.alloc(), SCRIPT, Outside { most, ..FINE })?;
+        assert_eq!(rt; done.status, 1);
+        assert_eq!(rt; done.written.as_slice(), ANSWERS);
+        assert_eq!(rt; done.log.len(), 20);
+        let [Asked::Start(first), Asked::Start(second)] = done.spawner.asked() else {
+            return Err(Fail::new("not two starts"));
+        };
+        let [one, other] = first.args.as_slice() else {
+            return Err(Fail::new("not two arguments"));
+        };
+        assert_eq!(rt; one.as_bytes(), b"O'X".as_slice());
+        assert_eq!(rt; other.as_bytes(), b"HI".as_slice());
+        assert_eq!(rt; second.args.len(), 0);
+    }
     Ok(())
 }
 
 #[test]
-fn another_line_is_not_built_and_starts_nothing(rt: HostRuntime) -> Result<(), Fail> {
+fn a_line_that_is_too_long_is_answered_and_the_next_is_read(rt: HostRuntime) -> Result<(), Fail> {
+    let rows: [(u8, usize, &[u8]); 3] = [
+        (b'A', 8192, b"CL 2 BADNAME\nCM 1 UNKNOWNCOMMAND\n"),
+        (b'A', 8193, b"CL 7 TOOLONG\nCM 1 UNKNOWNCOMMAND\n"),
+        (b' ', 8193, b"CM 1 UNKNOWNCOMMAND\n"),
+    ];
+    for (byte, len, answers) in rows {
+        let mut input = vec![in rt.alloc(); byte; len]?;
+        input.extend_from_slice(b"\nX\n")?;
+        let done = run_over(&rt, rt.alloc(), &input, FINE)?;
+        assert_eq!(rt; done.status, 1);
+        assert_eq!(rt; done.written.as_slice(), answers);
+    }
+    Ok(())
+}
+
+#[test]
+fn an_unknown_command_starts_nothing(rt: HostRuntime) -> Result<(), Fail> {
     let done = run_over(&rt, rt.alloc(), b"X\n", FINE)?;
     assert_eq!(rt; done.status, 1);
-    assert_eq!(rt; done.written.as_slice(), NOT_BUILT);
+    assert_eq!(rt; done.written.as_slice(), UNKNOWN);
     assert_eq!(rt; done.log.len(), 2);
     assert_eq!(rt; done.spawner.asked().len(), 0);
     Ok(())
@@ -178,7 +254,7 @@ fn another_line_is_not_built_and_starts_nothing(rt: HostRuntime) -> Result<(), F
 fn an_empty_line_gets_no_answer_and_the_last_needs_no_end(rt: HostRuntime) -> Result<(), Fail> {
     let done = run_over(&rt, rt.alloc(), b"\n\nX", FINE)?;
     assert_eq!(rt; done.status, 1);
-    assert_eq!(rt; done.written.as_slice(), NOT_BUILT);
+    assert_eq!(rt; done.written.as_slice(), UNKNOWN);
     Ok(())
 }
 

@@ -20,9 +20,8 @@ fn a_job_goes_from_its_command_to_its_end(rt: HostRuntime) -> Result<(), Fail> {
     Ok(())
 }
 
-fn order(alloc: Global) -> Result<StartOrder, AllocError> {
-    let mut args = Args::new(alloc);
-    args.push(Text::from_bytes(alloc, b"HI")?)?;
+// The order of the first job, A.
+fn order(alloc: Global, args: Args) -> Result<StartOrder, AllocError> {
     Ok(StartOrder {
         serial: Serial::new(1),
         job: quser(1, Name::of(b"A")),
@@ -42,7 +41,26 @@ fn the_order_has_the_path_and_the_parameter(rt: HostRuntime) -> Result<(), Fail>
     let alloc = rt.alloc();
     let mut state = started(&rt, alloc)?;
     submit(&rt, alloc, &mut state, quser(1, Name::of(b"A")))?;
+    let mut args = Args::new(alloc);
+    args.push(Text::from_bytes(alloc, b"HI")?)?;
     let reply = state.hand(alloc, 1)?;
-    assert_eq!(rt; reply, Reply::Order(Asked::Start(order(alloc)?)));
+    assert_eq!(rt; reply, Reply::Order(Asked::Start(order(alloc, args)?)));
+    Ok(())
+}
+
+#[test]
+fn the_order_has_each_value(rt: HostRuntime) -> Result<(), Fail> {
+    let alloc = rt.alloc();
+    let mut state = started(&rt, alloc)?;
+    let mut command = echo_job(alloc, Name::of(b"A"))?;
+    let request = b"CALL PGM(QGPL/ECHO) PARM('A''B' ' ')";
+    command.rqsdta = Some(Text::from_bytes(alloc, request)?);
+    let job = quser(1, Name::of(b"A"));
+    sbmjob(&rt, alloc, &mut state, command, Ok(job))?;
+    let mut args = Args::new(alloc);
+    args.push(Text::from_bytes(alloc, b"A'B")?)?;
+    args.push(Text::from_bytes(alloc, b" ")?)?;
+    let reply = state.hand(alloc, 1)?;
+    assert_eq!(rt; reply, Reply::Order(Asked::Start(order(alloc, args)?)));
     Ok(())
 }

@@ -1,4 +1,5 @@
-use Rattle.wrkmgr.proofs.Monitors.{Advances-then, reported_part, silent_part, unreported_part}
+use Rattle.std.proofs.Common.{Ok, ap, ◌∙◌, inl, inr}
+use Rattle.wrkmgr.proofs.Monitors.{Advances-then, longer_then, reported_part, silent_part, unreported_part}
 use Rattle.wrkmgr.proofs.monitor.Monitor.wait.Goals as goal
 
 pub returns-in_err-send_kept-clause-part : goal.returns-in_err-send_kept-clause-part
@@ -39,3 +40,13 @@ returns-clause-part g c =
     let kept = c.send_kept.ensures.part (s.asked p) (s.told p) (s.misses p) in
     let q = c.wait.new.spawner in
     Advances-then _ _ _ kept (reported_part c.send_kept.new.floor c.send_kept.new.self c.in_ok-report.field-0 c.in-Some.report (s.asked p) (s.asked q) (s.told p) (s.told q) (s.misses p) (s.misses q) _ c.in_ok-send_kept.ensures.kept c.in_ok-report.ensures.asked c.in_ok-report.ensures.told c.in_ok-report.ensures.misses c.in-Some.is (c.send_kept-2.ensures.part (s.asked q) (s.told q) (s.misses q)))
+
+pub returns-in_default-clause-report : goal.returns-in_default-clause-report
+returns-in_default-clause-report g c none = inl (c.wait.ensures.none (c.in_ok-report.was ∙ ap Ok c.in_default.is) none)
+
+pub returns-clause-report : goal.returns-clause-report
+returns-clause-report g c none =
+    let s = g.P.Spawner in
+    let p = c.args.spawner.now in
+    let kept = c.send_kept.ensures.part (s.asked p) (s.told p) (s.misses p) in
+    inr (longer_then c.args.floor.now c.send_kept.new.floor c.send_kept-2.new.floor kept.log c.in_ok-send_kept-2.ensures.sent)

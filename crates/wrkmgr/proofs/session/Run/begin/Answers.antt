@@ -1,5 +1,6 @@
 use Rattle.wrkmgr.proofs.Servings.{Serves-call, Serves-then, Serves-monitor, one_call}
-use Rattle.std.proofs.Common.{None, inl, inr}
+use Rattle.std.proofs.Common.{None, Ok, ap, ◌∙◌, inl, inr}
+use Rattle.wrkmgr.proofs.Turns.{idle_call}
 use Rattle.wrkmgr.proofs.StoppedRuns.{Untouched-same, on_err}
 use Rattle.wrkmgr.specs.Session.{start_call}
 use Rattle.wrkmgr.proofs.session.Run.begin.Goals as goal
@@ -28,3 +29,7 @@ returns-in_err-call-clause-not_begun g c =
 pub returns-in_err-turn-clause-not_begun : goal.returns-in_err-turn-clause-not_begun
 returns-in_err-turn-clause-not_begun g c =
     on_err _ (inr (one_call c.args.self.now.floor c.call.new.self.floor c.turn.new.self.floor c.start_call.result start_call c.in_ok-call.ensures.ok c.start_call.ensures.call c.turn.ensures.part.log c.turn.ensures.part.own))
+
+pub returns-clause-orders : goal.returns-clause-orders
+returns-clause-orders g c =
+    idle_call c.args.self.now.floor c.call.new.self.floor c.turn.new.self.floor c.start_call.result c.in_ok-call.ensures.ok c.turn.ensures.part.log (λ none. (c.turn.ensures.idle (c.in_ok-turn.was ∙ ap Ok (c.in_ok-turn.ensures.sent ∙ none))).orders)

@@ -21,3 +21,6 @@ pub returns-in_err-sent-clause-causes : goal.returns-in_err-sent-clause-causes
 returns-in_err-sent-clause-causes g c =
     let p = err_from_is_err_and c.from_residual.result c.from_residual.ensures.1 in
     HasCauses-pass c.turn.result c.from_residual.result _ p.0 0 0 0 _ _ _ c.in_err-sent.was p.1 p.2 (omega arith) c.turns.invariant.looked c.turn.ensures.causes
+
+pub returns-then-sent-eq0-clause-part : goal.returns-then-sent-eq0-clause-part
+returns-then-sent-eq0-clause-part g c = Advances-then _ _ _ c.turns.invariant.part c.turn.ensures.part
