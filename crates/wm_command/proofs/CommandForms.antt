@@ -58,6 +58,7 @@ right change.Endpj = (refl, tt, tt, (refl, tt, tt, (refl, tt, tt, (refl, tt, ref
 right change.Evoke = (refl, tt, tt, (refl, tt, tt, tt))
 right change.Enduse = (refl, tt, tt, tt)
 right change.Pwrdwnsys = (refl, tt, tt, (refl, tt, refl, tt))
+
 -- each command
 
 crtcls_fits : (g : List Given) → AllHave (change_rows change.Crtcls) g → IsFit (command.Crtcls (crtcls g))

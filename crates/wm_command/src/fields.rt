@@ -2,12 +2,12 @@
 ghost use Rattle.std.specs.Prelude.{◌≡◌};
 ghost use Rattle.wm_command.specs.Fields.{maybe};
 
-use wm_law::{EndOption, JobRef};
 use crate::reading::same_key;
 use crate::value::{Value, Values};
 use std::alloc::AllocError;
 use wm_base::{Key, Limit, Name, Priority, QName, Text};
 use wm_desc::{Cmp, qbatch};
+use wm_law::{EndOption, JobRef};
 use wm_when::{DateSpec, TimeSpec};
 
 /// Nothing for a special word.

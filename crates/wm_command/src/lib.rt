@@ -11,7 +11,6 @@
 #![tactic(auto)]
 
 mod call;
-mod said;
 mod fault;
 mod fields;
 mod laws;
@@ -25,6 +24,7 @@ mod printable;
 mod printing;
 mod reading;
 mod row;
+mod said;
 mod shown;
 mod shown_control;
 mod shown_create;

@@ -3,18 +3,18 @@ ghost use Rattle.std.specs.Prelude.{◌≡◌, ◌≢◌, IfOk, IfErr, Ok, Err};
 ghost use Rattle.wm_command.specs.Printed.{FitsMachine, KeepsForms, LineHasTexts, LineIsReadBack};
 ghost use Rattle.wm_command.specs.Line.{change_named, read_named, one_request, lacks, own_fault, change_line, read_made, read_line, line_of};
 
-use crate::said::Line;
-use wm_law::Ask;
 use crate::fault::CmdFault;
 use crate::made::change_made;
 use crate::printable::texts_are_printable;
 use crate::reading::all_given;
+use crate::said::Line;
 use crate::table::{change_rows, change_word, read_rows, read_word};
 use crate::value::Values;
 use crate::verb::{Change, Read};
 use std::alloc::Global;
 use wm_base::{Key, Name};
 use wm_clwords::{Item, Tree};
+use wm_law::Ask;
 
 const CHANGES: [Change; 28] = [
     Change::Crtcls,

@@ -2,7 +2,6 @@
 ghost use Rattle.std.specs.Prelude.{◌≡◌, IfOk};
 ghost use Rattle.wm_command.specs.Made.{change_made};
 
-use wm_law::{Clrjobq, Command, Crtjobq, Enduse, Hldjob, Hldjobq, Rlsjob, Rlsjobq, Strsbs};
 use crate::made_control::{endpj, endsbs, evoke, pwrdwnsys, strpj};
 use crate::made_create::{crtcls, crtjobd, crtpgmref, crtsbsd};
 use crate::made_entry::{addaje, addjobqe, addpje, addrtge, rmvaje, rmvjobqe, rmvpje, rmvrtge};
@@ -11,6 +10,7 @@ use crate::value::Values;
 use crate::verb::Change;
 use std::alloc::AllocError;
 use wm_base::Key;
+use wm_law::{Clrjobq, Command, Crtjobq, Enduse, Hldjob, Hldjobq, Rlsjob, Rlsjobq, Strsbs};
 
 /// The command with these values. An `Err` is want of memory.
 pub fn change_made(verb: Change, values: &Values) -> Result<Command, AllocError>

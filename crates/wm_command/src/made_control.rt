@@ -2,10 +2,10 @@
 ghost use Rattle.std.specs.Prelude.{◌≡◌};
 ghost use Rattle.wm_command.specs.Made.{endsbs, strpj, endpj, evoke, pwrdwnsys};
 
-use wm_law::{Endpj, Endsbs, EvokeCommand, Pwrdwnsys, Strpj};
 use crate::fields::maybe;
 use crate::value::Values;
 use wm_base::Key;
+use wm_law::{Endpj, Endsbs, EvokeCommand, Pwrdwnsys, Strpj};
 
 #[tactic(auto, unfolding(crate::specs::Made::endsbs))]
 pub fn endsbs(values: &Values) -> Endsbs

@@ -2,10 +2,10 @@
 ghost use Rattle.std.specs.Prelude.{◌≡◌, IfOk};
 ghost use Rattle.wm_command.specs.Made.{crtcls, crtpgmref, crtjobd, crtsbsd};
 
-use wm_law::{Crtcls, Crtjobd, Crtpgmref, Crtsbsd};
 use crate::value::Values;
 use std::alloc::AllocError;
 use wm_base::Key;
+use wm_law::{Crtcls, Crtjobd, Crtpgmref, Crtsbsd};
 
 #[tactic(auto, unfolding(crate::specs::Made::crtcls))]
 pub fn crtcls(values: &Values) -> Crtcls

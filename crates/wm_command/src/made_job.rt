@@ -2,11 +2,11 @@
 ghost use Rattle.std.specs.Prelude.{◌≡◌, IfOk};
 ghost use Rattle.wm_command.specs.Made.{sbmjob, chgjob, endjob};
 
-use wm_law::{Chgjob, Endjob, Sbmjob};
 use crate::fields::maybe;
 use crate::value::Values;
 use std::alloc::AllocError;
 use wm_base::Key;
+use wm_law::{Chgjob, Endjob, Sbmjob};
 
 #[tactic(auto, unfolding(crate::specs::Made::sbmjob))]
 pub fn sbmjob(values: &Values) -> Result<Sbmjob, AllocError>

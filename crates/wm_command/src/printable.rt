@@ -3,9 +3,9 @@ ghost use Rattle.std.specs.Prelude.{IfSome};
 ghost use Rattle.wm_base.specs.Text.{IsText};
 ghost use Rattle.wm_command.specs.Printed.{HasText, HasTexts};
 
-use wm_law::Command;
 use wm_base::Text;
 use wm_desc::Cmp;
+use wm_law::Command;
 
 fn text_is_printable(text: &Text)
     ensures { IsText text.now }

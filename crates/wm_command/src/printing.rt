@@ -10,7 +10,6 @@ ghost use Rattle.wm_command.specs.Values.{special_word};
 ghost use Rattle.wm_law.specs.declared.command.JobRef.{JobRef};
 ghost use Rattle.wm_command.specs.Print.{flag_text, ending_text, job_text, cmp_text, weekday_text, date_text, second_text, time_text, value_text, given_text, command_text};
 
-use wm_law::{Command, EndOption, JobRef};
 use crate::row::Special;
 use crate::shown::{values_of, verb_of};
 use crate::table::change_word;
@@ -20,6 +19,7 @@ use std::alloc::{AllocError, Global};
 use wm_base::{JobName, Key, Name, Text};
 use wm_clwords::{push_qname, push_quoted};
 use wm_desc::Cmp;
+use wm_law::{Command, EndOption, JobRef};
 use wm_when::{DateSpec, TimeSpec};
 
 #[tactic(auto, using(crate::proofs::Texts::texts))]

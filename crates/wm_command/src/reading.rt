@@ -8,7 +8,6 @@ ghost use Rattle.wm_command.specs.Table.{row_key, row_kind, row_special, row_oth
 ghost use Rattle.wm_command.specs.Reading.{same_key, is_given, row_named, row_value, with_value, keyed, next_item, stands_alone, first_item, items_given, default_value, complete, all_given};
 
 use crate::call::call_value;
-use wm_law::EndOption;
 use crate::fault::CmdFault;
 use crate::row::{Default, Kind, Row};
 use crate::value::{Value, Values};
@@ -19,6 +18,7 @@ use std::slice;
 use wm_base::{Key, Text};
 use wm_clwords::Item;
 use wm_desc::{qbatch, qdftjobd};
+use wm_law::EndOption;
 use wm_when::{DateSpec, TimeSpec};
 
 /// Whether keys are the same.

@@ -4,7 +4,6 @@ ghost use Rattle.wm_command.specs.Shown.{with_key, limit_value, word_or, or_spec
 ghost use Rattle.wm_command.specs.Table.{change_word};
 ghost use Rattle.wm_command.specs.declared.value.Value.TheVariants as value;
 
-use wm_law::Command;
 use crate::row::Special;
 use crate::shown_control::{
     endpj_values, endsbs_values, evoke_values, pwrdwnsys_values, strpj_values,
@@ -14,12 +13,13 @@ use crate::shown_entry::{
     addaje_values, addjobqe_values, addpje_values, addrtge_values, rmvaje_values, rmvjobqe_values,
     rmvpje_values, rmvrtge_values,
 };
-use crate::table::change_word;
 use crate::shown_job::{chgjob_values, endjob_values, sbmjob_values};
+use crate::table::change_word;
 use crate::value::{Value, Values};
 use crate::verb::Change;
 use std::alloc::{AllocError, Global};
 use wm_base::{Key, Limit, Priority, Text};
+use wm_law::Command;
 
 pub fn limit_value(limit: Limit) -> Value
     ensures { result ≡ limit_value limit }

@@ -2,12 +2,12 @@
 ghost use Rattle.std.specs.Prelude.{◌≡◌, IfOk};
 ghost use Rattle.wm_command.specs.Shown.{endsbs_values, strpj_values, endpj_values, evoke_values, pwrdwnsys_values};
 
-use wm_law::{Endpj, Endsbs, EvokeCommand, Pwrdwnsys, Strpj};
 use crate::row::Special;
 use crate::shown::word_or;
 use crate::value::{Value, Values};
 use std::alloc::{AllocError, Global};
 use wm_base::Key;
+use wm_law::{Endpj, Endsbs, EvokeCommand, Pwrdwnsys, Strpj};
 
 #[tactic(auto, unfolding(crate::specs::Shown::endsbs_values))]
 pub fn endsbs_values(alloc: Global, c: &Endsbs) -> Result<Values, AllocError>

@@ -2,12 +2,12 @@
 ghost use Rattle.std.specs.Prelude.{◌≡◌, IfOk};
 ghost use Rattle.wm_command.specs.Shown.{crtcls_values, crtpgmref_values, crtjobd_values, crtsbsd_values};
 
-use wm_law::{Crtcls, Crtjobd, Crtpgmref, Crtsbsd};
 use crate::row::Special;
 use crate::shown::{limit_value, text_or};
 use crate::value::{Value, Values};
 use std::alloc::{AllocError, Global};
 use wm_base::Key;
+use wm_law::{Crtcls, Crtjobd, Crtpgmref, Crtsbsd};
 
 #[tactic(auto, unfolding(crate::specs::Shown::crtcls_values))]
 pub fn crtcls_values(alloc: Global, c: &Crtcls) -> Result<Values, AllocError>

@@ -2,11 +2,11 @@
 ghost use Rattle.std.specs.Prelude.{◌≡◌, IfOk};
 ghost use Rattle.wm_command.specs.Shown.{addjobqe_values, addrtge_values, addaje_values, addpje_values, rmvjobqe_values, rmvrtge_values, rmvaje_values, rmvpje_values};
 
-use wm_law::{Addaje, Addjobqe, Addpje, Addrtge, Rmvaje, Rmvjobqe, Rmvpje, Rmvrtge};
 use crate::shown::limit_value;
 use crate::value::{Value, Values};
 use std::alloc::{AllocError, Global};
 use wm_base::Key;
+use wm_law::{Addaje, Addjobqe, Addpje, Addrtge, Rmvaje, Rmvjobqe, Rmvpje, Rmvrtge};
 
 #[tactic(auto, unfolding(crate::specs::Shown::addjobqe_values))]
 pub fn addjobqe_values(alloc: Global, c: &Addjobqe) -> Result<Values, AllocError>

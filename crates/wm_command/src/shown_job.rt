@@ -2,12 +2,12 @@
 ghost use Rattle.std.specs.Prelude.{◌≡◌, IfOk};
 ghost use Rattle.wm_command.specs.Shown.{sbmjob_values, chgjob_values, endjob_values};
 
-use wm_law::{Chgjob, Endjob, Sbmjob};
 use crate::row::Special;
 use crate::shown::{priority_or, text_or, word_or};
 use crate::value::{Value, Values};
 use std::alloc::{AllocError, Global};
 use wm_base::Key;
+use wm_law::{Chgjob, Endjob, Sbmjob};
 
 #[tactic(auto, unfolding(crate::specs::Shown::sbmjob_values))]
 pub fn sbmjob_values(alloc: Global, c: &Sbmjob) -> Result<Values, AllocError>

@@ -2,10 +2,10 @@
 use crate::{Line, command};
 use std::alloc::Global;
 use std::test::Fail;
-use wm_law::{Ask, Command, EndOption, JobRef};
 use wm_base::{Limit, Name, Priority, Text};
 use wm_clwords::read_command;
 use wm_desc::Cmp;
+use wm_law::{Ask, Command, EndOption, JobRef};
 use wm_when::{DateSpec, TimeSpec};
 
 mod documented;

@@ -1,10 +1,10 @@
 // The values of keys.
-use wm_law::{EndOption, JobRef};
 use crate::row::Special;
 use std::alloc::{AllocError, Global};
 use std::marker::Model;
 use wm_base::{Key, Name, QName, Text};
 use wm_desc::Cmp;
+use wm_law::{EndOption, JobRef};
 use wm_when::{DateSpec, TimeSpec};
 
 /// What a key has.

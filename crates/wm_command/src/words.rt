@@ -4,8 +4,8 @@ ghost use Rattle.std.specs.Option.{option_copied};
 ghost use Rattle.wm_command.specs.Words.{is_digit, push_digit, digits, kept_within, number_of, name_of, is_no_slash, before_slash, behind_slash, simple_of, by_user_of, full_of, job_behind, job_with, job_of, same, flag_of, ending_of, weekday_of, date_word_of, day_of, date_with, date_of, second_of, time_of};
 ghost use Rattle.wm_when.specs.Schedule.{within};
 
-use wm_law::{EndOption, JobRef};
 use wm_base::{JobName, JobNumber, Name};
+use wm_law::{EndOption, JobRef};
 use wm_when::{DateSpec, TimeSpec, is_date};
 
 fn within(low: usize, high: usize, n: usize) -> bool
