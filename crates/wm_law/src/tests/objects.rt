@@ -1,12 +1,5 @@
 // The commands that make objects: each is accepted, and refused where its name is used.
 use super::*;
-use wm_desc::{Jobd, Jobq};
-
-const CLASS: Class = Class {
-    runpty: 60,
-    timeslice: 5000,
-    dftwait: Limit::NoMax,
-};
 
 fn crtcls(
     rt: &impl Abort,
@@ -142,33 +135,5 @@ fn the_program_that_runs_requests_is_none_of_them(rt: HostRuntime) -> Result<(),
     let exists = Some(Refusal::Exists(Kind::Pgm));
     crtpgmref(&rt, alloc, &mut state, &program("QCMD")?, exists)?;
     crtpgmref(&rt, alloc, &mut state, &qgpl("QCMD")?, None)?;
-    Ok(())
-}
-
-#[test]
-fn a_made_object_has_its_values(rt: HostRuntime) -> Result<(), Fail> {
-    let alloc = rt.alloc();
-    let mut state = State::opening(alloc)?;
-    let night = qgpl("NIGHT")?;
-    crtcls(&rt, alloc, &mut state, &night, None)?;
-    assert_eq!(rt; state.objects.classes.object(&night), Some(&CLASS));
-    crtjobq(&rt, alloc, &mut state, &night, None)?;
-    assert_eq!(rt; state.objects.jobqs.object(&night), Some(&Jobq {}));
-    crtpgmref(&rt, alloc, &mut state, &night, None)?;
-    let program = state.objects.programs.object(&night).ok_or("no program")?;
-    assert_eq!(rt; program.path.as_str(), "/bin/true");
-    crtjobd(&rt, alloc, &mut state, &night, None)?;
-    let jobd = Jobd {
-        jobq: night,
-        pty: Priority::new(4),
-        rtgdta: Text::from_bytes(alloc, b"NIGHT")?,
-        rqsdta: None,
-        hold: true,
-    };
-    assert_eq!(rt; state.objects.jobds.object(&night), Some(&jobd));
-    crtsbsd(&rt, alloc, &mut state, &night, None)?;
-    let sbsd = state.objects.sbsds.object(&night).ok_or("no description")?;
-    assert_eq!(rt; sbsd.maxjobs, Limit::Most(8));
-    assert_eq!(rt; (sbsd.queues.len(), sbsd.routes.len()), (0, 0));
     Ok(())
 }
