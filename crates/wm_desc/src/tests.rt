@@ -489,32 +489,13 @@ fn an_entry_is_removed_once(rt: HostRuntime) -> Result<(), Fail> {
     Ok(())
 }
 
-// The commands whose objects an empty store opens with, in their order.
-fn add_opening(objects: &mut Objects, alloc: Global) -> Result<(), Fail> {
-    let qbatch = qgpl("QBATCH")?;
-    add_class(objects, &qbatch)?;
-    add_program(objects, alloc, &qgpl("ECHO")?)??;
-    objects.add_jobq(qbatch)?;
-    add_jobd(objects, alloc, &qgpl("QDFTJOBD")?)??;
-    add_jobd(objects, alloc, &qbatch)??;
-    add_sbsd(objects, alloc, &qbatch)?;
-    add_queue(objects, "QBATCH", 10, &qbatch)??;
-    add_route(
-        objects,
-        "QBATCH",
-        route_to(alloc, 9999, "*ANY", "QCMD", "QBATCH")?,
-    )??;
-    Ok(())
-}
-
 #[test]
-fn an_empty_store_opens_with_what_its_commands_make(rt: HostRuntime) -> Result<(), Fail> {
-    let mut made = Objects::new(rt.alloc());
-    add_opening(&mut made, rt.alloc())?;
-    let opened = Objects::opening(rt.alloc())?;
-    assert_eq!(rt; opened, made);
-    let copy = opened.clone()?;
-    assert_eq!(rt; copy, opened);
+fn a_copy_of_objects_is_equal(rt: HostRuntime) -> Result<(), Fail> {
+    let mut objects = Objects::new(rt.alloc());
+    make_objects(&mut objects, rt.alloc())?;
+    add_entries(&mut objects, rt.alloc())?;
+    let copy = objects.clone()?;
+    assert_eq!(rt; copy, objects);
     Ok(())
 }
 

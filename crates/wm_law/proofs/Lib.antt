@@ -21,3 +21,4 @@ pub mod Started
 pub mod Routing
 pub mod Routes
 pub mod Subsystems
+pub mod Opened

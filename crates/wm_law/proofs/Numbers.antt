@@ -20,6 +20,7 @@ use Rattle.wm_law.specs.Launch.{launch, launch_job, launched, launched_at, with_
 use Rattle.wm_law.specs.Laws.{IsIn}
 use Rattle.wm_law.specs.Machine.{apply, leave, with_clock, with_phase, phased_at, submitted_job, entered, has_numbers, numbers_end, serials_end}
 use Rattle.wm_law.specs.Opening.{opening}
+use Rattle.wm_law.proofs.Opened.{opened, opening_is}
 use Rattle.wm_law.proofs.Moves.{HoldsAfterCalls, IsKeptByParts, call_keeps, step_keeps, after_keeps}
 
 -- the same serials, numbers and places, and the same next ones
@@ -164,9 +165,8 @@ step_keeps_numbers s caller call moment h = step_keeps IsNumbered parts s caller
 pub after_is_numbered : (s : State) (h : List Entry) → IsNumbered s → IsNumbered (after s h)
 after_is_numbered s h n = after_keeps IsNumbered parts s h n
 
-pub opening_is_numbered : OpeningIsNumbered
-unfolding opening
-opening_is_numbered = record {
+opened_is_numbered : IsNumbered opened
+opened_is_numbered = record {
   serials = record { distinct = tt; below = tt };
   numbers = record { distinct = tt; below = tt };
   places = record { distinct = tt; below = tt };
@@ -174,6 +174,9 @@ opening_is_numbered = record {
   next_serial = record { least = omega arith; most = omega arith };
   next_place = record { least = omega arith; most = omega arith };
 }
+
+pub opening_is_numbered : OpeningIsNumbered
+opening_is_numbered = subst IsNumbered (sym opening_is) opened_is_numbered
 
 pub numbers_are_given_once : NumbersAreGivenOnce
 numbers_are_given_once h = after_is_numbered opening h opening_is_numbered

@@ -34,9 +34,10 @@ use Rattle.wm_law.specs.Launch.{called_args, called_program, entry_numbered, is_
 use Rattle.wm_law.specs.Laws.{IsIn}
 use Rattle.wm_law.specs.Machine.{apply, hand_job, hand_order, leave, phased_at, step, submitted_job, waiting, with_clock}
 use Rattle.wm_desc.specs.Table.{object_named, same_qname}
-use Rattle.wm_desc.specs.Opening.{opening_objects, qbatch, batch_sbsd}
+use Rattle.wm_desc.specs.Opening.{qbatch}
 use Rattle.wm_law.specs.Opening.{opening}
 use Rattle.wm_law.specs.History.{after, stepped}
+use Rattle.wm_law.proofs.Opened.{batch_sbsd, opening_objects, opened, opening_is}
 use Rattle.wm_law.proofs.Firsts.{next_is_first}
 use Rattle.wm_law.proofs.Lodged.{lodged_longer, lodged_ending, lodged_left}
 use Rattle.wm_law.proofs.Named.{own_name}
@@ -262,9 +263,8 @@ opening_classes d e same i =
       | inr none ↦ absurd none
     ]
 
-pub opening_has_orders : OpeningHasOrders
-unfolding opening
-opening_has_orders = record {
+opened_has_orders : HasOrders opened
+opened_has_orders = record {
   routed = record {
     sorted = λ sbs d k. opening_sorted d (only_sbsd sbs d k);
     classes = λ sbs d e k i. opening_classes d e (only_sbsd sbs d k) i;
@@ -272,6 +272,9 @@ opening_has_orders = record {
   starting = λ j i p. absurd i;
   lodged = λ j i p. absurd i;
 }
+
+pub opening_has_orders : OpeningHasOrders
+opening_has_orders = subst HasOrders (sym opening_is) opened_has_orders
 
 pub starting_jobs_have_orders : StartingJobsHaveOrders
 starting_jobs_have_orders h = (after_is_ordered opening h (record { numbered = opening_is_numbered; orders = opening_has_orders })).orders

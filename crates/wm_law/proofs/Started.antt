@@ -20,6 +20,7 @@ use Rattle.wm_desc.specs.Table.{object_named}
 use Rattle.wm_law.specs.Opening.{opening}
 use Rattle.wm_law.proofs.Moves.{HoldsAfterCalls, IsKeptByParts, step_keeps, after_keeps, unrefused}
 use Rattle.wm_law.proofs.Numbers.{map_same}
+use Rattle.wm_law.proofs.Opened.{opening_is}
 
 abbrev name_of : Sbs → List ℕ
 name_of b = b.sbsd.name
@@ -102,8 +103,7 @@ parts = record {
 }
 
 pub opening_has_distinct_names : OpeningHasDistinctNames
-unfolding opening
-opening_has_distinct_names = tt
+opening_has_distinct_names = subst HasDistinctNames (sym opening_is) tt
 
 pub step_keeps_names_distinct : StepKeepsNamesDistinct
 step_keeps_names_distinct s caller call moment h = step_keeps HasDistinctNames parts s caller call moment h

@@ -19,6 +19,7 @@ use Rattle.wm_law.specs.Launch.{launch_job}
 use Rattle.wm_law.specs.Machine.{start_refusal, is_gone, is_on, is_started, end_now, max_started}
 use Rattle.wm_law.specs.Opening.{opening}
 use Rattle.wm_law.proofs.Members.{of_last, of_mapped, left_in}
+use Rattle.wm_law.proofs.Opened.{opened, opening_is}
 use Rattle.wm_law.proofs.Moves.{HoldsAfterCalls, IsKeptByParts, step_keeps, after_keeps, unrefused, of_not}
 
 -- STRSBS isn't refused, so the power is On and the description is there
@@ -81,13 +82,17 @@ quiet_parts = record {
   launches = record { by_step = λ s c e h. quiet_launched s c (find (λ j. j.serial == c.serial) s.jobs) h };
 }
 
+opened_has_descriptions : HasDescriptions opened
+opened_has_descriptions b i = absurd i
+
 opening_has_descriptions : HasDescriptions opening
-unfolding opening
-opening_has_descriptions b i = absurd i
+opening_has_descriptions = subst HasDescriptions (sym opening_is) opened_has_descriptions
+
+opened_is_quiet : IsQuiet opened
+opened_is_quiet off b i = absurd i
 
 opening_is_quiet : IsQuiet opening
-unfolding opening
-opening_is_quiet off b i = absurd i
+opening_is_quiet = subst IsQuiet (sym opening_is) opened_is_quiet
 
 pub step_keeps_descriptions : StepKeepsDescriptions
 step_keeps_descriptions s caller call moment h = step_keeps HasDescriptions described_parts s caller call moment h

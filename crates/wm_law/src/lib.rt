@@ -45,6 +45,7 @@ pub use laws::{
 };
 pub use list::ListOf;
 pub use not_built::{NotBuilt, built, built_commands_are_had};
+pub use opening::opening_commands;
 pub use parms::{is_call, values_of};
 pub use request::{Place, Progress, Values};
 pub use state::{Evoke, Power, Sbs, SbsPhase, State, Stop};

@@ -18,6 +18,7 @@ mod built;
 mod descriptions;
 mod fit;
 mod objects;
+mod opening;
 mod order;
 mod path;
 mod refusals;
