@@ -5,7 +5,7 @@ use std::test::Fail;
 use wm_base::{Limit, Name, Priority, Text};
 use wm_clwords::read_command;
 use wm_desc::Cmp;
-use wm_law::{Ask, Command, EndOption, JobRef};
+use wm_law::{Ask, Command, EndOption, JobRef, opening_commands};
 use wm_when::{DateSpec, TimeSpec};
 
 mod documented;
@@ -27,6 +27,28 @@ fn text_is(text: &Option<Text>, bytes: &[u8]) -> bool {
         None => false,
         Some(text) => text.as_bytes() == bytes,
     }
+}
+
+#[test]
+fn the_opening_commands_are_read_from_their_texts(rt: HostRuntime) -> Result<(), Fail> {
+    let commands = opening_commands(rt.alloc())?;
+    let texts = [
+        "CRTCLS QBATCH",
+        "CRTPGMREF PGM(ECHO) PATH('/bin/echo')",
+        "CRTJOBQ QBATCH",
+        "CRTJOBD QDFTJOBD",
+        "CRTJOBD QBATCH",
+        "CRTSBSD QBATCH",
+        "ADDJOBQE SBSD(QBATCH) JOBQ(QBATCH)",
+        "ADDRTGE SBSD(QBATCH) SEQNBR(9999) CMPVAL(*ANY) PGM(QSYS/QCMD) CLS(QBATCH)",
+    ];
+    for (text, command) in texts.iter().zip(commands.iter()) {
+        let Line::Change(read) = line(rt.alloc(), text)? else {
+            return Err(Fail::from("a reading command"));
+        };
+        assert!(rt; read == *command, "{text}");
+    }
+    Ok(())
 }
 
 #[test]
@@ -164,9 +186,6 @@ fn the_lines_of_a_script_are_commands(rt: HostRuntime) -> Result<(), Fail> {
         "SBMJOB CMD(CALL PGM(ECHO)) JOB(THREE) JOBD(NIGHT) RTGDTA(*JOBD) HOLD(*YES)",
         "RLSJOB JOB(THREE)",
         "ENDSBS SBS(NIGHT) OPTION(*CNTRLD)",
-        "CRTCLS QBATCH",
-        "CRTPGMREF PGM(ECHO) PATH('/bin/echo')",
-        "ADDRTGE SBSD(QBATCH) SEQNBR(9999) CMPVAL(*ANY) PGM(QSYS/QCMD) CLS(QBATCH)",
     ] {
         let made = line(rt.alloc(), text)?;
         assert!(rt; matches!(&made, Line::Change(_)), "{text}");
