@@ -95,27 +95,3 @@ impl PartialEq for Args {
 impl Eq for Args {
     ghost laws = { lists_equiv nat_list_eq_equiv };
 }
-
-#[cfg(test)]
-mod tests {
-    use super::*;
-    use std::test::Fail;
-
-    #[test]
-    fn arguments_keep_their_order(rt: HostRuntime) -> Result<(), Fail> {
-        let mut args = Args::new(rt.alloc());
-        assert!(rt; args.is_empty());
-        args.push(Text::from_bytes(rt.alloc(), b"one")?)?;
-        args.push(Text::from_bytes(rt.alloc(), b"two")?)?;
-        assert_eq!(rt; args.len(), 2);
-        let items = args.as_slice();
-        assert_eq!(rt; items.len(), 2);
-        assert_eq!(rt; items[0].as_str(), "one");
-        assert_eq!(rt; items[1].as_str(), "two");
-        let copy = args.clone()?;
-        assert!(rt; copy == args);
-        let items: Vec<Text> = args.into();
-        assert!(rt; Args::from(items) == copy);
-        Ok(())
-    }
-}

@@ -36,28 +36,3 @@ impl fmt::Display for Limit {
         }
     }
 }
-
-#[cfg(test)]
-mod tests {
-    use super::*;
-    use std::test::Fail;
-
-    #[test]
-    fn a_limit_admits_counts_below_it(rt: HostRuntime) {
-        for (limit, count, admits) in [
-            (Limit::Most(2), 1, true),
-            (Limit::Most(2), 2, false),
-            (Limit::Most(0), 0, false),
-            (Limit::NoMax, usize::MAX, true),
-        ] {
-            assert_eq!(rt; limit.admits(count), admits, "{count}");
-        }
-    }
-
-    #[test]
-    fn prints_no_limit_as_nomax(rt: HostRuntime) -> Result<(), Fail> {
-        assert_eq!(rt; Limit::NoMax.to_string(rt.alloc())?.as_str(), "*NOMAX");
-        assert_eq!(rt; Limit::Most(1000).to_string(rt.alloc())?.as_str(), "1000");
-        Ok(())
-    }
-}

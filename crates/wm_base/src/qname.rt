@@ -20,19 +20,3 @@ impl fmt::Display for QName {
         write!(f, "{}/{}", self.lib, self.name)
     }
 }
-
-#[cfg(test)]
-mod tests {
-    use super::*;
-    use std::test::Fail;
-
-    #[test]
-    fn prints_the_library_first(rt: HostRuntime) -> Result<(), Fail> {
-        let queue = QName {
-            lib: Name::read(b"QGPL")?,
-            name: Name::read(b"NIGHT")?,
-        };
-        assert_eq!(rt; queue.to_string(rt.alloc())?.as_str(), "QGPL/NIGHT");
-        Ok(())
-    }
-}

@@ -41,27 +41,3 @@ impl<L: Ledger> Steps<L> {
         self.book.add(&mut self.share, 1);
     }
 }
-
-#[cfg(test)]
-mod tests {
-    use super::*;
-    use std::marker::Brand;
-    use std::mem;
-
-    // Two steps, counted in a proof alone.
-    fn two_steps<L: Ledger>(blank: Blank)
-        requires name { blank.name ≡ L.name }
-        requires parts { blank.parts ≡ L.parts }
-        requires some { 0 < blank.parts }
-    {
-        let mut steps = Steps::<L>::new(blank);
-        steps.tick();
-        steps.tick();
-    }
-
-    #[test]
-    fn a_count_takes_no_bytes(rt: HostRuntime) {
-        two_steps::<Brand>(Blank::new(1));
-        assert_eq!(rt; mem::size_of::<Steps<Brand>>(), 0);
-    }
-}

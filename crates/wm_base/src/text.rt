@@ -129,38 +129,3 @@ impl fmt::Display for Text {
         f.write_str(self.as_str())
     }
 }
-
-#[cfg(test)]
-mod tests {
-    use super::*;
-    use std::test::Fail;
-
-    #[test]
-    fn blanks_and_visible_bytes_are_text(rt: HostRuntime) {
-        for (bytes, is) in [
-            (" ", true),
-            ("~", true),
-            ("", true),
-            ("a\tb", false),
-            ("a\n", false),
-            ("\u{7f}", false),
-            ("\u{e4}", false),
-        ] {
-            assert_eq!(rt; is_text(bytes.as_bytes()), is, "{bytes:?}");
-        }
-    }
-
-    #[test]
-    fn a_text_grows_at_its_end(rt: HostRuntime) -> Result<(), Fail> {
-        let mut text = Text::new(rt.alloc());
-        assert!(rt; text.is_empty());
-        text.push_bytes(b"QCMD")?;
-        text.push_bytes(b"B")?;
-        assert_eq!(rt; text.len(), 5);
-        assert_eq!(rt; text.as_bytes(), b"QCMDB".as_slice());
-        assert_eq!(rt; text.as_str(), "QCMDB");
-        assert!(rt; text.clone()? == Text::from_bytes(rt.alloc(), b"QCMDB")?);
-        assert_eq!(rt; text.to_string(rt.alloc())?.as_str(), "QCMDB");
-        Ok(())
-    }
-}

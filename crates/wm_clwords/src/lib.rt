@@ -21,8 +21,6 @@ mod line;
 mod mode;
 mod reader;
 mod reference;
-#[cfg(test)]
-mod tests;
 mod tree;
 
 pub use call::{call_text, push_qname, push_quoted};

@@ -39,10 +39,10 @@ mod written;
 
 pub use fault::CmdFault;
 pub use laws::{printed_command_is_read, shown_values_make_the_command};
-pub use line::command;
+pub use line::{CHANGES, READS, command};
 pub use printing::print;
+pub use row::{Default as RowDefault, Kind as ValueKind, Row, Special};
 pub use said::Line;
 pub use shown::command_word;
-
-#[cfg(test)]
-mod tests;
+pub use table::{change_rows, change_word, read_rows, read_word};
+pub use verb::{Change as ChangeVerb, Read as ReadVerb};

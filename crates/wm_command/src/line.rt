@@ -16,7 +16,8 @@ use wm_base::{Key, Name};
 use wm_clwords::{Item, Tree};
 use wm_law::Ask;
 
-const CHANGES: [Change; 28] = [
+/// The commands that change the state, in the order of the table.
+pub const CHANGES: [Change; 28] = [
     Change::Crtcls,
     Change::Crtjobq,
     Change::Crtpgmref,
@@ -47,7 +48,8 @@ const CHANGES: [Change; 28] = [
     Change::Pwrdwnsys,
 ];
 
-const READS: [Read; 6] = [
+/// The commands that read, in the order of the table.
+pub const READS: [Read; 6] = [
     Read::Wrkactjob,
     Read::Wrksbmjob,
     Read::Wrksbs,

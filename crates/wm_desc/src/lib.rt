@@ -31,6 +31,3 @@ pub use opening::{echo, qbatch, qdftjobd};
 pub use ranges::{class_in_range, maxjobs_in_range, path_in_range};
 pub use refuse::is_qcmd;
 pub use sorted::{Keyed, SortedList};
-
-#[cfg(test)]
-mod tests;

@@ -25,8 +25,6 @@ mod reports;
 mod request;
 mod settle;
 mod state;
-#[cfg(test)]
-mod tests;
 
 pub use call::{Call, Entry, Reply};
 pub use choice::{Candidate, Rank};

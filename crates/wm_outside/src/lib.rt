@@ -13,8 +13,6 @@
 mod clock;
 mod fault;
 mod memory;
-#[cfg(test)]
-mod samples;
 mod sink;
 mod source;
 mod spawner;

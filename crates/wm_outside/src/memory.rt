@@ -11,6 +11,3 @@ pub use clock::MemClock;
 pub use sink::MemSink;
 pub use source::MemSource;
 pub use spawner::MemSpawner;
-
-#[cfg(test)]
-mod tests;

@@ -8,6 +8,3 @@ pub use clock::SysClock;
 pub use reader::ReadSource;
 pub use spawner::SysSpawner;
 pub use writer::WriteSink;
-
-#[cfg(test)]
-mod tests;

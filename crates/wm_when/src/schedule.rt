@@ -74,25 +74,3 @@ impl SchedSpec {
         self.date.is_in_range() && self.time.is_in_range()
     }
 }
-
-#[cfg(test)]
-mod tests {
-    use super::*;
-
-    #[test]
-    fn weekdays_and_seconds_keep_their_ranges(rt: HostRuntime) {
-        for (date, time, is) in [
-            (DateSpec::Current, TimeSpec::Current, true),
-            (DateSpec::MonthStart, TimeSpec::At(86_399), true),
-            (DateSpec::MonthEnd, TimeSpec::At(86_400), false),
-            (DateSpec::Weekday(1), TimeSpec::Current, true),
-            (DateSpec::Weekday(7), TimeSpec::At(0), true),
-            (DateSpec::Weekday(0), TimeSpec::Current, false),
-            (DateSpec::Weekday(8), TimeSpec::Current, false),
-            (DateSpec::Day(20_240_229), TimeSpec::Current, true),
-            (DateSpec::Day(20_230_229), TimeSpec::Current, false),
-        ] {
-            assert_eq!(rt; SchedSpec { date, time }.is_in_range(), is);
-        }
-    }
-}

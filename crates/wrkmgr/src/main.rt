@@ -1,32 +1,14 @@
-//! The program `wrkmgr`: `run` reads commands, calls the machine, starts and reports the jobs, and writes the replies.
-//!
-//! `main` makes the real objects, makes the one call of `run` and ends with its status; what is promised is
-//! the contract of `run`. The definitions are in `specs/`.
+//! The program `wrkmgr`: `main` reads the words of the command line, makes the real objects, makes the one call of `run`
+//! and ends with its status. What is promised is the contract of `run` of `wm_run`.
 #![tactic(auto)]
 
 ghost use Rattle.std.specs.Prelude.{◌≡◌, ◌⊎◌, IfErr};
 
-mod calls;
-mod finish;
-mod floor;
-mod input;
-mod line;
-mod monitor;
-mod reading;
-mod report;
-mod run;
-mod said;
-mod session;
-mod stop;
-#[cfg(test)]
-mod tests;
-mod write;
-
-use run::{NO_MEMORY, WRONG_WORDS, run};
 use std::env;
 use std::io::ErrorKind;
 use std::process::ExitCode;
 use wm_outside::{ReadSource, SysClock, SysSpawner, WriteSink};
+use wm_run::{NO_MEMORY, WRONG_WORDS, run};
 
 // The words behind the program's name, or the status where they can't be had. A word that isn't UTF-8 is a wrong one.
 fn words(rt: &HostRuntime) -> Result<Vec<String>, u8>

@@ -1,0 +1,177 @@
+-- Laws of a run that stops: what its session called and wrote until then.
+use Rattle.std.proofs.Common.{◌≡◌, ◌↔◌, ℕ, ◌+◌, ◌<◌, ◌≤◌, Bool, true, List, [], ◌++◌, length, take, Option, Result, Ok, Err, sym, ap, subst, ◌∙◌, inl, inr, arith}
+use Rattle.std.specs.Prelude.{IsErrOf, OnErr}
+use Rattle.std.specs.List.{list_all}
+use Rattle.std.proofs.Math.Seq.{take-length}
+use Rattle.std.proofs.lemmas.List.{append-nil, length-append}
+use Rattle.wm_clwords.specs.Lines.{logical_lines}
+use Rattle.wm_clwords.specs.Part.{Part, fresh, lines_from}
+use Rattle.wm_clwords.proofs.LinesLaw.{lines_from-fresh}
+use Rattle.wm_law.specs.declared.call.Call.{Call}
+use Rattle.wm_law.specs.declared.call.Entry.{Entry}
+use Rattle.wm_law.specs.History.{entries_of}
+use Rattle.wm_outside.specs.Told.{Grows, Takes}
+use Rattle.wm_outside.proofs.Telling.{Grows-none, Takes-none, Takes-then}
+use Rattle.wm_run.specs.Lists.{since, Extends}
+use Rattle.wm_run.specs.Monitor.{is_own}
+use Rattle.wm_run.specs.Session.{Answers, AnsweredBy, OneCall, session_pass, start_call, end_call}
+use Rattle.wm_run.specs.Stopped.{AtMostOne, IsStopped, StopsIn, Untouched, WritesSome}
+use Rattle.wm_run.specs.Taking.{TakesInput, TakesPiece}
+use Rattle.wm_run.specs.declared.stop.Stop.{Stop}
+use Rattle.wm_run.specs.declared.stop.Stop.TheVariants.{InputFull}
+use Rattle.wm_run.proofs.Monitors.{Extends-then}
+use Rattle.wm_run.proofs.Runs.{session_parts}
+use Rattle.wm_run.proofs.Servings.{session_entries-none, session_entries-own, session_entries-then}
+use Rattle.wm_run.proofs.StoppedLines.{StopsIn-after, StopsIn-none, StopsIn-untouched, StopsIn-whole, stops_front, stops_then}
+use Rattle.wm_run.proofs.Takings.{TakesPiece-lines, TakesPiece-more}
+
+-- what holds anyway holds where an error is answered
+pub on_err : {T E P : Type 0} (r : Result T E) → P → OnErr r P
+on_err (Ok t) p = tt
+on_err (Err e) p = p
+
+-- no byte is in front of a list
+pub take_none : (n : ℕ) (xs : List ℕ) → n ≡ 0 → take n xs ≡ []
+take_none n xs is = ap (λ (k : ℕ). take k xs) is
+
+-- no call was made, and nothing written
+pub Untouched-none : (log : List Entry) (w : Option (List ℕ)) → Untouched (entries_of session_pass (since log log)) w w
+Untouched-none log w = record { none = session_entries-none log; written = Grows-none w }
+
+-- a call that was refused for want of memory leaves it so
+pub Untouched-same : (old new : List Entry) (w : Option (List ℕ)) → new ≡ old → Untouched (entries_of session_pass (since old new)) w w
+Untouched-same old new w is = subst (λ (l : List Entry). Untouched (entries_of session_pass (since old l)) w w) (sym is) (Untouched-none old w)
+
+-- all bytes that were due are some of them
+pub WritesSome-all : (Due : List Entry → List ℕ → Bool → Type 0) (es : List Entry) (a b : Option (List ℕ)) (f : Bool) → AnsweredBy Due es a b f → WritesSome Due es a b
+WritesSome-all Due es a b f h =
+    record { due = h.bytes; faulty = f; answers = h.answers; count = length h.bytes; written = subst (λ (l : List ℕ). Grows a b l) (sym (take-length h.bytes)) h.written }
+
+-- a call was made or not, and entries of the monitor follow
+pub no_call : {c : Call} (old new : List Entry) → list_all is_own (since old new) ≡ true → AtMostOne c (entries_of session_pass (since old new))
+no_call old new own = inl (session_entries-own (since old new) own)
+
+-- and a call that was refused for want of memory
+pub no_call_same : {c : Call} (old mid new : List Entry) → new ≡ mid → list_all is_own (since old mid) ≡ true → AtMostOne c (entries_of session_pass (since old new))
+no_call_same old mid new is own = inl (ap (λ (l : List Entry). entries_of session_pass (since old l)) is ∙ session_entries-own (since old mid) own)
+
+-- a session that stopped as it began
+pub stopped_begin : (x w : Option (List ℕ)) (es : List Entry) → AtMostOne start_call es → TakesInput x x (λ bytes. IsStopped (logical_lines bytes) es w w)
+stopped_begin x w es (inl none) = record { bytes = []; taken = Takes-none x; done = inl (record { none = none; written = Grows-none w }) }
+stopped_begin x w es (inr start) =
+    record { bytes = []; taken = Takes-none x; done = inr (inl (record { first = es; middle = []; parts = sym (append-nil es); start = start; stops = StopsIn-none (logical_lines []) w })) }
+
+-- one that stopped in its lines
+pub stopped_lines : (a b c : List Entry) (x y u v : Option (List ℕ)) → Extends a b → Extends b c → OneCall start_call (entries_of session_pass (since a b)) → TakesInput x y (λ bytes. StopsIn (logical_lines bytes) (entries_of session_pass (since b c)) u v) → TakesInput x y (λ bytes. IsStopped (logical_lines bytes) (entries_of session_pass (since a c)) u v)
+stopped_lines a b c x y u v ab bc start taken =
+    record {
+      bytes = taken.bytes;
+      taken = taken.taken;
+      done = inr (inl (record { first = entries_of session_pass (since a b); middle = entries_of session_pass (since b c); parts = session_entries-then a b c ab bc; start = start; stops = taken.done }));
+    }
+
+-- one that stopped behind them
+pub stopped_end : (a b c d : List Entry) (x y u v : Option (List ℕ)) (f : Bool) → Extends a b → Extends b c → Extends c d → OneCall start_call (entries_of session_pass (since a b)) → TakesInput x y (λ bytes. AnsweredBy (Answers (logical_lines bytes)) (entries_of session_pass (since b c)) u v f) → AtMostOne end_call (entries_of session_pass (since c d)) → TakesInput x y (λ bytes. IsStopped (logical_lines bytes) (entries_of session_pass (since a d)) u v)
+stopped_end a b c d x y u v f ab bc cd start taken (inl none) =
+    let more = session_entries-then a b d ab (Extends-then b c d bc cd) in
+    let rest = session_entries-then b c d bc cd ∙ (ap (λ (es : List Entry). entries_of session_pass (since b c) ++ es) none ∙ append-nil _) in
+    record {
+      bytes = taken.bytes;
+      taken = taken.taken;
+      done = inr (inl (record {
+        first = entries_of session_pass (since a b);
+        middle = entries_of session_pass (since b c);
+        parts = more ∙ ap (λ (es : List Entry). entries_of session_pass (since a b) ++ es) rest;
+        start = start;
+        stops = StopsIn-whole (logical_lines taken.bytes) (entries_of session_pass (since b c)) u v f taken.done;
+      }));
+    }
+stopped_end a b c d x y u v f ab bc cd start taken (inr end) =
+    let whole = session_parts a b c d x y u v f ab bc cd start taken end in
+    record { bytes = whole.bytes; taken = whole.taken; done = inr (inr (record { faulty = f; session = whole.done })) }
+
+-- a part of a piece was taken, and its next line's answer was cut short
+pub stops_piece : (a b : Part) (piece rest : List ℕ) (old mid new : List Entry) (u v w : Option (List ℕ)) (f : Bool) → Extends old mid → Extends mid new → TakesPiece a piece b rest (entries_of session_pass (since old mid)) u v f → ((more : List ℕ) → StopsIn (lines_from b (rest ++ more)) (entries_of session_pass (since mid new)) v w) → (more : List ℕ) → StopsIn (lines_from a (piece ++ more)) (entries_of session_pass (since old new)) u w
+stops_piece a b piece rest old mid new u v w f begun grown h k more =
+    subst (λ (es : List Entry). StopsIn (lines_from a (piece ++ more)) es u w) (sym (session_entries-then old mid new begun grown)) (stops_then a b piece rest _ _ u v w f h k more)
+
+-- a read that gave no byte
+pub input_same : {P : List ℕ → Type 0} (x y z : Option (List ℕ)) (ys : List ℕ) → ys ≡ [] → TakesInput x y P → Takes y ys z → TakesInput x z P
+input_same x y z ys none h more =
+    let whole : h.bytes ++ ys ≡ h.bytes = ap (λ (l : List ℕ). h.bytes ++ l) none ∙ append-nil h.bytes in
+    record { bytes = h.bytes; taken = subst (λ (l : List ℕ). Takes x l z) whole (Takes-then x y z h.bytes ys h.taken more); done = h.done }
+
+-- nothing was read
+pub input_stops_none : (x : Option (List ℕ)) (log : List Entry) (w : Option (List ℕ)) → TakesInput x x (λ bytes. StopsIn (logical_lines bytes) (entries_of session_pass (since log log)) w w)
+input_stops_none x log w = record { bytes = []; taken = Takes-none x; done = StopsIn-untouched (logical_lines []) (entries_of session_pass (since log log)) w w (Untouched-none log w) }
+
+-- bytes that weren't looked at behind those whose lines were answered
+pub input_stops : (x y z : Option (List ℕ)) (b : Part) (es : List Entry) (u v : Option (List ℕ)) (f : Bool) (ys : List ℕ) → TakesInput x y (λ bytes. TakesPiece fresh bytes b [] es u v f) → Takes y ys z → TakesInput x z (λ bytes. StopsIn (logical_lines bytes) es u v)
+input_stops x y z b es u v f ys h more =
+    let xs = h.bytes in
+    record {
+      bytes = xs ++ ys;
+      taken = Takes-then x y z xs ys h.taken more;
+      done = subst (λ (l : List (Option (List ℕ))). StopsIn l es u v) (lines_from-fresh (xs ++ ys)) (stops_front fresh b xs [] es u v f h.done ys);
+    }
+
+-- a piece behind them in whose lines it stopped
+pub input_stops_in : (x y z : Option (List ℕ)) (b : Part) (old mid new : List Entry) (u v w : Option (List ℕ)) (f : Bool) (ys : List ℕ) → Extends old mid → Extends mid new → TakesInput x y (λ bytes. TakesPiece fresh bytes b [] (entries_of session_pass (since old mid)) u v f) → Takes y ys z → ((more : List ℕ) → StopsIn (lines_from b (ys ++ more)) (entries_of session_pass (since mid new)) v w) → TakesInput x z (λ bytes. StopsIn (logical_lines bytes) (entries_of session_pass (since old new)) u w)
+input_stops_in x y z b old mid new u v w f ys begun grown h more k =
+    let xs = h.bytes in
+    let front = TakesPiece-more fresh b xs ys _ u v f h.done in
+    let lines = ap (lines_from fresh) (append-nil (xs ++ ys)) ∙ lines_from-fresh (xs ++ ys) in
+    record {
+      bytes = xs ++ ys;
+      taken = Takes-then x y z xs ys h.taken more;
+      done = subst (λ (l : List (Option (List ℕ))). StopsIn l (entries_of session_pass (since old new)) u w) lines
+          (stops_piece fresh b (xs ++ ys) ys old mid new u v w f begun grown front k []);
+    }
+
+-- the answer of the line that ends with the input was cut short
+pub input_stops_last : (x y : Option (List ℕ)) (b : Part) (old mid new : List Entry) (u v w : Option (List ℕ)) (f : Bool) → Extends old mid → Extends mid new → TakesInput x y (λ bytes. TakesPiece fresh bytes b [] (entries_of session_pass (since old mid)) u v f) → StopsIn (lines_from b []) (entries_of session_pass (since mid new)) v w → TakesInput x y (λ bytes. StopsIn (logical_lines bytes) (entries_of session_pass (since old new)) u w)
+input_stops_last x y b old mid new u v w f begun grown h k =
+    let xs = h.bytes in
+    let d = h.done in
+    let lines = ap logical_lines (sym (append-nil xs)) ∙ TakesPiece-lines b xs [] _ u v f d in
+    record {
+      bytes = xs;
+      taken = h.taken;
+      done = subst (λ (es : List Entry). StopsIn (logical_lines xs) es u w) (sym (session_entries-then old mid new begun grown))
+          (subst (λ (l : List (Option (List ℕ))). StopsIn l (entries_of session_pass (since old mid) ++ entries_of session_pass (since mid new)) u w) (sym lines)
+          (StopsIn-after d.lines (lines_from b []) _ _ u v w f d.answered k));
+    }
+
+-- no more input was taken than a run takes
+pub not_full : {T : Type 0} (r : Result T Stop) (x y : Option (List ℕ)) (n : ℕ) → (IsErrOf r InputFull → ⊥) → TakesInput x y (λ bytes. length bytes ≡ n) → n ≤ 1000000000 → TakesInput x y (λ bytes. IsErrOf r InputFull ↔ (1000000000 < length bytes))
+not_full r x y n never h few =
+    record { bytes = h.bytes; taken = h.taken; done = ((λ f. absurd (never f)), (λ more. let d = h.done in absurd (omega arith))) }
+
+-- nothing was taken
+pub not_full_none : {T : Type 0} (r : Result T Stop) (x : Option (List ℕ)) → (IsErrOf r InputFull → ⊥) → TakesInput x x (λ bytes. IsErrOf r InputFull ↔ (1000000000 < length bytes))
+not_full_none r x never = record { bytes = []; taken = Takes-none x; done = ((λ f. absurd (never f)), (λ more. absurd (omega arith))) }
+
+-- the same of an error that is passed on
+pub full_pass : {T U : Type 0} (r : Result T Stop) (q : Result U Stop) (e d : Stop) (x y : Option (List ℕ)) → r ≡ Err e → q ≡ Err d → d ≡ e → TakesInput x y (λ bytes. IsErrOf r InputFull ↔ (1000000000 < length bytes)) → TakesInput x y (λ bytes. IsErrOf q InputFull ↔ (1000000000 < length bytes))
+full_pass r q e d x y was is same h =
+    let to = h.done in
+    record { bytes = h.bytes; taken = h.taken; done = ((λ f. to.0 (cc)), (λ more. let g = to.1 more in cc)) }
+
+-- a read behind so many bytes
+pub full_read : {T U : Type 0} (r : Result T Stop) (q : Result U Stop) (e d : Stop) (x y z : Option (List ℕ)) (n : ℕ) → r ≡ Err e → q ≡ Err d → d ≡ e → TakesInput x y (λ bytes. length bytes ≡ n) → TakesInput y z (λ bytes. IsErrOf r InputFull ↔ (1000000000 < n + length bytes)) → TakesInput x z (λ bytes. IsErrOf q InputFull ↔ (1000000000 < length bytes))
+full_read r q e d x y z n was is same h k =
+    let xs = h.bytes in
+    let ys = k.bytes in
+    let to = k.done in
+    let len = length-append xs ys in
+    record {
+      bytes = xs ++ ys;
+      taken = Takes-then x y z xs ys h.taken k.taken;
+      done = ((λ f. let g = to.0 (cc) in let b = h.done in omega arith), (λ more. let b = h.done in let g = to.1 (omega arith) in cc));
+    }
+
+-- nor does anything else that ends the run behind the input
+pub full_later : {T U : Type 0} (r : Result T Stop) (q : Result U Stop) (t : T) (x y : Option (List ℕ)) → r ≡ Ok t → (IsErrOf q InputFull → ⊥) → TakesInput x y (λ bytes. IsErrOf r InputFull ↔ (1000000000 < length bytes)) → TakesInput x y (λ bytes. IsErrOf q InputFull ↔ (1000000000 < length bytes))
+full_later r q t x y is never h =
+    let to = h.done in
+    record { bytes = h.bytes; taken = h.taken; done = ((λ f. absurd (never f)), (λ more. let g = to.1 more in absurd (cc))) }

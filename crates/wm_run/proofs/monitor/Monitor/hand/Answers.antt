@@ -1,0 +1,54 @@
+use Rattle.std.proofs.Common.{Some, None, refl, sym, ap, ◌∙◌}
+use Rattle.wm_base.specs.declared.job.Asked.TheVariants.{Start, Kill}
+use Rattle.wm_run.proofs.Monitors.{BeginsWithHand-only, BeginsWithHand-then, nothing_part, killed_part, started_part}
+use Rattle.wm_run.proofs.monitor.Monitor.hand.Goals as goal
+
+pub returns-in-None-clause-part : goal.returns-in-None-clause-part
+returns-in-None-clause-part g c =
+    let s = g.P.Spawner in
+    let p = c.args.spawner.now in
+    nothing_part c.args.floor.now c.call.new.self c.args.self.now None (s.asked p) (s.told p) (s.misses p) c.now.result c.in_ok-call.ensures.ok c.in-None.ensures refl
+
+pub returns-in_err-kill-in-Some-Kill-clause-part : goal.returns-in_err-kill-in-Some-Kill-clause-part
+returns-in_err-kill-in-Some-Kill-clause-part g c =
+    let s = g.P.Spawner in
+    let p = c.args.spawner.now in
+    let q = c.kill.new.spawner in
+    let a = Kill c.in-Some-Kill.serial in
+    killed_part c.args.floor.now c.call.new.self c.args.self.now (Some a) a (s.asked p) (s.asked q) (s.told p) (s.told q) (s.misses p) (s.misses q) c.now.result c.requires c.in_ok-call.ensures.ok (ap Some (sym c.in-Some-Kill.field-0-is) ∙ c.in-Some-Kill.ensures) refl c.kill.ensures.asked c.kill.ensures.told c.kill.ensures.misses
+
+pub returns-in_ok-kill-in-Some-Kill-clause-part : goal.returns-in_ok-kill-in-Some-Kill-clause-part
+returns-in_ok-kill-in-Some-Kill-clause-part g c =
+    let s = g.P.Spawner in
+    let p = c.args.spawner.now in
+    let q = c.kill.new.spawner in
+    let a = Kill c.in-Some-Kill.serial in
+    killed_part c.args.floor.now c.call.new.self c.args.self.now (Some a) a (s.asked p) (s.asked q) (s.told p) (s.told q) (s.misses p) (s.misses q) c.now.result c.requires c.in_ok-call.ensures.ok (ap Some (sym c.in-Some-Kill.field-0-is) ∙ c.in-Some-Kill.ensures) refl c.kill.ensures.asked c.kill.ensures.told c.kill.ensures.misses
+
+pub returns-in_err-send_kept-in-Some-Start-clause-part : goal.returns-in_err-send_kept-in-Some-Start-clause-part
+returns-in_err-send_kept-in-Some-Start-clause-part g c =
+    let s = g.P.Spawner in
+    let p = c.args.spawner.now in
+    let q = c.start.new.spawner in
+    let a = Start c.in-Some-Start.order in
+    started_part c.args.floor.now c.call.new.self c.args.self.now (Some a) a c.start.result (s.asked p) (s.asked q) (s.told p) (s.told q) (s.misses p) (s.misses q) c.now.result _ c.requires c.in_ok-call.ensures.ok (ap Some (sym c.in-Some-Start.field-0-is) ∙ c.in-Some-Start.ensures) refl c.start.ensures.asked c.start.ensures.told c.start.ensures.misses (c.send_kept.ensures.part (s.asked q) (s.told q) (s.misses q))
+
+pub returns-in_ok-send_kept-in-Some-Start-clause-part : goal.returns-in_ok-send_kept-in-Some-Start-clause-part
+returns-in_ok-send_kept-in-Some-Start-clause-part g c =
+    let s = g.P.Spawner in
+    let p = c.args.spawner.now in
+    let q = c.start.new.spawner in
+    let a = Start c.in-Some-Start.order in
+    started_part c.args.floor.now c.call.new.self c.args.self.now (Some a) a c.start.result (s.asked p) (s.asked q) (s.told p) (s.told q) (s.misses p) (s.misses q) c.now.result _ c.requires c.in_ok-call.ensures.ok (ap Some (sym c.in-Some-Start.field-0-is) ∙ c.in-Some-Start.ensures) refl c.start.ensures.asked c.start.ensures.told c.start.ensures.misses (c.send_kept.ensures.part (s.asked q) (s.told q) (s.misses q))
+
+pub returns-in-None-clause-hand : goal.returns-in-None-clause-hand
+returns-in-None-clause-hand g c = BeginsWithHand-only c.args.floor.now c.call.new.self _ c.in_ok-call.ensures.ok refl
+
+pub returns-in_ok-kill-in-Some-Kill-clause-hand : goal.returns-in_ok-kill-in-Some-Kill-clause-hand
+returns-in_ok-kill-in-Some-Kill-clause-hand g c = BeginsWithHand-only c.args.floor.now c.call.new.self _ c.in_ok-call.ensures.ok refl
+
+pub returns-in_ok-send_kept-in-Some-Start-clause-hand : goal.returns-in_ok-send_kept-in-Some-Start-clause-hand
+returns-in_ok-send_kept-in-Some-Start-clause-hand g c =
+    let s = g.P.Spawner in
+    let q = c.start.new.spawner in
+    BeginsWithHand-then c.args.floor.now c.call.new.self c.send_kept.new.floor _ c.in_ok-call.ensures.ok refl (c.send_kept.ensures.part (s.asked q) (s.told q) (s.misses q)).log

@@ -1,0 +1,57 @@
+use Rattle.std.proofs.Common.{◌≡◌, ◌-◌, length, refl, arith}
+use Rattle.wm_run.proofs.Monitors.{Advances-then}
+use Rattle.wm_run.proofs.Turns.{idle_turn, number_of_ok}
+use Rattle.wm_run.proofs.monitor.Monitor.turn.Goals as goal
+
+pub returns-in_err-send_kept-clause-part : goal.returns-in_err-send_kept-clause-part
+returns-in_err-send_kept-clause-part g c =
+    let s = g.P.Spawner in
+    let p = c.args.spawner.now in
+    let kept = c.send_kept.ensures.part (s.asked p) (s.told p) (s.misses p) in
+    kept
+
+pub returns-in_err-tick-clause-part : goal.returns-in_err-tick-clause-part
+returns-in_err-tick-clause-part g c =
+    let s = g.P.Spawner in
+    let p = c.args.spawner.now in
+    let kept = c.send_kept.ensures.part (s.asked p) (s.told p) (s.misses p) in
+    let ticked = Advances-then _ _ _ kept (c.tick.ensures.part (s.asked p) (s.told p) (s.misses p)) in
+    ticked
+
+pub returns-in_err-hands-clause-part : goal.returns-in_err-hands-clause-part
+returns-in_err-hands-clause-part g c =
+    let s = g.P.Spawner in
+    let p = c.args.spawner.now in
+    let kept = c.send_kept.ensures.part (s.asked p) (s.told p) (s.misses p) in
+    let ticked = Advances-then _ _ _ kept (c.tick.ensures.part (s.asked p) (s.told p) (s.misses p)) in
+    Advances-then _ _ _ ticked c.hands.ensures.part
+
+pub returns-in_err-looks-clause-part : goal.returns-in_err-looks-clause-part
+returns-in_err-looks-clause-part g c =
+    let s = g.P.Spawner in
+    let p = c.args.spawner.now in
+    let kept = c.send_kept.ensures.part (s.asked p) (s.told p) (s.misses p) in
+    let ticked = Advances-then _ _ _ kept (c.tick.ensures.part (s.asked p) (s.told p) (s.misses p)) in
+    Advances-then _ _ _ (Advances-then _ _ _ ticked c.hands.ensures.part) c.looks.ensures.part
+
+pub returns-clause-part : goal.returns-clause-part
+returns-clause-part g c =
+    let s = g.P.Spawner in
+    let p = c.args.spawner.now in
+    let kept = c.send_kept.ensures.part (s.asked p) (s.told p) (s.misses p) in
+    let ticked = Advances-then _ _ _ kept (c.tick.ensures.part (s.asked p) (s.told p) (s.misses p)) in
+    Advances-then _ _ _ (Advances-then _ _ _ ticked c.hands.ensures.part) c.looks.ensures.part
+
+pub returns-clause-idle : goal.returns-clause-idle
+returns-clause-idle g c is =
+    let s = g.P.Spawner in
+    let p = c.args.spawner.now in
+    let k = g.C.Clock in
+    let f0 = c.args.floor.now in
+    let f4 = c.looks.new.floor in
+    let made : c.saturating_sub.result ≡ 0 = number_of_ok _ _ _ refl is in
+    let was = c.len-before.ensures in
+    let now = c.len.ensures in
+    let sent = c.saturating_sub.ensures in
+    let none : length f4 - length f0 ≡ 0 = omega arith in
+    idle_turn f0 c.send_kept.new.floor c.tick.new.floor c.hands.new.floor f4 c.args.self.now.kept (k.coming c.args.clock.now) (k.coming c.send_kept.new.clock) (s.reporting p) (s.reporting c.hands.new.spawner) (c.send_kept.ensures.part (s.asked p) (s.told p) (s.misses p)).log (c.tick.ensures.part (s.asked p) (s.told p) (s.misses p)).log c.hands.ensures.part.log c.looks.ensures.part.log none c.in_ok-send_kept.ensures.sent c.send_kept.ensures.unread c.in_ok-tick.ensures.due c.in_ok-hands.ensures.all c.in_ok-hands.ensures.quiet c.in_ok-looks.ensures.all

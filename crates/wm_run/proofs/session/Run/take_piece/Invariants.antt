@@ -1,0 +1,22 @@
+use Rattle.std.proofs.Common.{◌-◌, drop, length}
+use Rattle.wm_law.specs.History.{entries_of}
+use Rattle.wm_run.specs.Lists.{since}
+use Rattle.wm_run.specs.Session.{session_pass}
+use Rattle.wm_run.specs.Taking.{TakesPiece}
+use Rattle.wm_run.specs.View.{view}
+use Rattle.wm_run.proofs.InputLoops.{PieceLoop}
+use Rattle.wm_run.proofs.session.Run.take_piece.Given as goal
+
+abbrev pub invariant-lines : goal.invariant-lines
+invariant-lines g l =
+    let s = g.P.Spawner in
+    let o = g.O.Sink in
+    PieceLoop
+    (view l.fn.self.floor l.fn.self.monitor (s.asked l.fn.spawner) (s.told l.fn.spawner) (s.misses l.fn.spawner))
+    (view l.self.floor l.self.monitor (s.asked l.spawner) (s.told l.spawner) (s.misses l.spawner))
+    (o.faults l.fn.out) (o.faults l.out) (s.faults l.fn.spawner) (s.faults l.spawner)
+    l.at l.piece
+    (TakesPiece l.fn.joiner l.piece l.joiner (drop l.at l.piece) (entries_of session_pass (since l.fn.self.floor l.self.floor)) (o.written l.fn.out) (o.written l.out) l.faulty)
+
+abbrev pub decreases-lines : goal.decreases-lines
+decreases-lines g l = length l.piece - l.at

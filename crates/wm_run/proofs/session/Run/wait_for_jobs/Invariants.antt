@@ -1,0 +1,13 @@
+use Rattle.wm_run.specs.View.{view}
+use Rattle.wm_run.proofs.MonitorLoops.{MonitorLoop}
+use Rattle.wm_run.proofs.session.Run.wait_for_jobs.Given as goal
+
+abbrev pub invariant-waits : goal.invariant-waits
+invariant-waits g l =
+    let s = g.P.Spawner in
+    MonitorLoop
+    (view l.fn.self.floor l.fn.self.monitor (s.asked l.fn.spawner) (s.told l.fn.spawner) (s.misses l.fn.spawner))
+    (view l.self.floor l.self.monitor (s.asked l.spawner) (s.told l.spawner) (s.misses l.spawner))
+    (s.faults l.fn.spawner)
+    (s.faults l.spawner)
+    l.self.monitor.kept

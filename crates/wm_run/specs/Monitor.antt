@@ -1,0 +1,122 @@
+-- What a monitor does between two moments: it asks what it was ordered, and reports what it was told.
+use Rattle.std.specs.Prelude.{◌≡◌, ℕ, ◌+◌, ◌-◌, ◌^◌, ◌<◌, ◌≤◌, ◌==◌, ◌&&◌, Bool, true, false, min, List, [], ◌∷◌, ◌++◌, map, Option, None, IfSome, option_map, option_to_list, Result, Ok, Err, count_by}
+use Rattle.std.specs.List.{list_all}
+use Rattle.wm_base.specs.declared.job.Asked.{Asked}
+use Rattle.wm_base.specs.declared.job.Event.{Event}
+use Rattle.wm_base.specs.declared.job.Event.TheVariants as event
+use Rattle.wm_base.specs.declared.job.StartCause.{StartCause}
+use Rattle.wm_base.specs.declared.job.StartCause.TheVariants as start
+use Rattle.wm_law.specs.declared.call.Call.{Call}
+use Rattle.wm_law.specs.declared.call.Call.TheVariants as call
+use Rattle.wm_law.specs.declared.call.Entry.{Entry}
+use Rattle.wm_law.specs.History.{after, is_hand, is_monitor_call, orders, reports}
+use Rattle.wm_law.specs.Opening.{opening}
+use Rattle.wm_law.specs.Pending.{next_due, starting}
+use Rattle.wm_outside.specs.declared.fault.Failed.{Failed}
+use Rattle.wm_outside.specs.declared.fault.StartFault.{StartFault}
+use Rattle.wm_outside.specs.declared.fault.StartFault.TheVariants as fault
+use Rattle.wm_outside.specs.declared.spawner.Told.{Told}
+use Rattle.wm_outside.specs.declared.spawner.Told.TheVariants.{Began, NotBegan, Happened}
+use Rattle.wm_outside.specs.Told.{Grows, IsEmpty}
+use Rattle.wm_run.specs.declared.report.Report.{Report}
+use Rattle.wm_run.specs.declared.report.Report.TheVariants.{Started, StartFailed, Finished, UseDone}
+use Rattle.wm_run.specs.Lists.{since, Extends}
+
+-- the pass of the monitor
+abbrev pub monitor_pass : ℕ
+monitor_pass = 1
+
+-- the call of a report
+abbrev pub call_of : Report → Call
+call_of (Started serial) = call.Started serial
+call_of (StartFailed serial why) = call.StartFailed serial why
+call_of (Finished serial end) = call.Finished serial end
+call_of (UseDone serial) = call.UseDone serial
+
+abbrev pub start_cause : StartFault → StartCause
+start_cause fault.Failed = start.Spawner
+start_cause fault.NoMemory = start.Memory
+
+abbrev pub report_event : Event → Report
+report_event (event.Ended serial end) = Finished serial end
+report_event (event.Used serial) = UseDone serial
+
+-- the report of what a spawner answered
+abbrev pub report_of : Told → Report
+report_of (Began serial) = Started serial
+report_of (NotBegan serial why) = StartFailed serial (start_cause why)
+report_of (Happened event) = report_event event
+
+-- the calls that stand for what a spawner told
+abbrev pub as_reports : Option (List Told) → Option (List Call)
+as_reports told = option_map (map (λ t. call_of (report_of t))) told
+
+-- the report of a look, where there was one
+abbrev pub looked : Result (Option Report) Failed → List Report
+looked (Ok o) = option_to_list o
+looked (Err e) = []
+
+-- all that the monitor has reported, and the report that it keeps
+abbrev pub reported : List Entry → List Report → List Call
+reported log kept = reports log monitor_pass ++ map call_of kept
+
+-- whether a report says that the spawner failed
+abbrev pub is_start_fault : StartCause → Bool
+is_start_fault start.Spawner = true
+is_start_fault start.Memory = false
+
+abbrev pub is_spawner_fault : Call → Bool
+is_spawner_fault (call.Change user c) = false
+is_spawner_fault call.Hand = false
+is_spawner_fault (call.Started serial) = false
+is_spawner_fault (call.StartFailed serial why) = is_start_fault why
+is_spawner_fault (call.Finished serial end) = false
+is_spawner_fault (call.UseDone serial) = false
+is_spawner_fault call.Tick = false
+
+-- an entry of the monitor
+abbrev pub is_own : Entry → Bool
+is_own e = e.caller == monitor_pass && is_monitor_call e.call
+
+-- the first entry that was added is a Hand
+pub record BeginsWithHand (old new : List Entry) : Type 0 where
+  pub entry : Entry
+  pub more : List Entry
+  pub whole : new ≡ old ++ entry ∷ more
+  pub call : entry.call ≡ call.Hand
+
+-- how many Hands there are
+abbrev pub hands_of : List Entry → ℕ
+hands_of es = count_by (λ e. is_hand e.call) es
+
+-- what stands around a monitor at a moment
+pub record MonitorView : Type 0 where
+  pub log : List Entry
+  pub kept : List Report
+  pub asked : Option (List Asked)
+  pub told : Option (List Call)
+  pub misses : ℕ
+
+-- the count has risen by at least so many, or to the greatest u64
+abbrev pub RisesBy : ℕ → ℕ → ℕ → Type 0
+RisesBy before n now = min (before + n) (2 ^ 64 - 1) ≤ now
+
+-- the monitor's part from one moment to another
+pub record Advances (old new : MonitorView) : Type 0 where
+  -- the history has grown by entries of the monitor
+  pub log : Extends old.log new.log
+  pub own : list_all is_own (since old.log new.log) ≡ true
+  -- what was asked is what these entries ordered
+  pub asked : Grows old.asked new.asked (orders (since old.log new.log) monitor_pass)
+  -- what was told is what was reported in them, the kept report counted with them
+  pub grown : Extends (reported old.log old.kept) (reported new.log new.kept)
+  pub told : Grows old.told new.told (since (reported old.log old.kept) (reported new.log new.kept))
+  -- each report of a failed start has raised the spawner's count
+  pub misses : RisesBy old.misses (count_by is_spawner_fault (since (reported old.log old.kept) (reported new.log new.kept))) new.misses
+
+-- a monitor has nothing to do: it keeps no report, no job is due, no order is left and no child has a report
+pub record IsIdle (log : List Entry) (kept : Option Report) (coming : Option ℕ) (reporting : Option (List ℕ)) : Type 0 where
+  pub none : kept ≡ None
+  pub due : IfSome (next_due (after opening log)) (λ due. IfSome coming (λ now. now < due))
+  pub orders : starting (after opening log) ≡ 0
+  pub reports : IsEmpty reporting

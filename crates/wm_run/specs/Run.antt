@@ -1,0 +1,39 @@
+-- What a whole run answers for.
+use Rattle.std.specs.Prelude.{◌≡◌, ℕ, ◌≤◌, Bool, true, false, List, [], ◌∷◌, length, Option, Result, Ok, Err, codes, count_by, nat_eq}
+use Rattle.std.specs.List.{list_any}
+use Rattle.std.specs.Cmp.Lexicographic.{pointwise}
+use Rattle.wm_base.specs.declared.job.Asked.{Asked}
+use Rattle.wm_law.specs.declared.call.Entry.{Entry}
+use Rattle.wm_law.specs.History.{orders}
+use Rattle.wm_outside.specs.declared.spawner.Told.{Told}
+use Rattle.wm_outside.specs.Told.{Grows}
+use Rattle.wm_run.specs.Monitor.{RisesBy, as_reports, reported, is_spawner_fault, monitor_pass}
+use Rattle.wm_run.specs.Stop.{status_of}
+use Rattle.wm_run.specs.declared.report.Report.{Report}
+use Rattle.wm_run.specs.declared.stop.Stop.{Stop}
+
+-- the words are the one word `run`
+abbrev pub is_run : List (List ℕ) → Bool
+is_run [] = false
+is_run (word ∷ []) = pointwise nat_eq word (codes "run")
+is_run (word ∷ next ∷ words) = false
+
+-- the status of a session's end: 0, or 1 where a line got a fault or a refusal
+abbrev pub ended_status : Result Bool Stop → ℕ
+ended_status (Ok false) = 0
+ended_status (Ok true) = 1
+ended_status (Err stop) = status_of stop
+
+-- the statuses of a run
+abbrev pub run_statuses : List ℕ
+run_statuses = 0 ∷ 1 ∷ 2 ∷ 3 ∷ 4 ∷ 6 ∷ 8 ∷ 11 ∷ []
+
+abbrev pub IsRunStatus : ℕ → Type 0
+IsRunStatus status = list_any (nat_eq status) run_statuses ≡ true
+
+-- the spawner was asked what the history orders; what it told stands in the history, but for one report at most that is kept
+pub record IsServed (log : List Entry) (kept : List Report) (asked_before asked_now : Option (List Asked)) (told_before told_now : Option (List Told)) (misses_before misses_now : ℕ) : Type 0 where
+  pub asked : Grows asked_before asked_now (orders log monitor_pass)
+  pub told : Grows (as_reports told_before) (as_reports told_now) (reported log kept)
+  pub misses : RisesBy misses_before (count_by is_spawner_fault (reported log kept)) misses_now
+  pub few : length kept ≤ 1

@@ -1,0 +1,51 @@
+-- How far a session came that stopped.
+use Rattle.std.specs.Prelude.{◌≡◌, ◌⊎◌, ℕ, Bool, List, [], ◌++◌, Option, take}
+use Rattle.wm_law.specs.declared.call.Call.{Call}
+use Rattle.wm_law.specs.declared.call.Entry.{Entry}
+use Rattle.wm_outside.specs.Told.{Grows}
+use Rattle.wm_run.specs.Session.{Answers, IsSession, OneCall, start_call}
+
+-- of what a relation says was due, some bytes were written
+pub record WritesSome (Due : List Entry → List ℕ → Bool → Type 0) (es : List Entry) (before now : Option (List ℕ)) : Type 0 where
+  pub due : List ℕ
+  pub faulty : Bool
+  pub answers : Due es due faulty
+  pub count : ℕ
+  pub written : Grows before now (take count due)
+
+-- nothing was called or written
+pub record Untouched (es : List Entry) (before now : Option (List ℕ)) : Type 0 where
+  pub none : es ≡ []
+  pub written : Grows before now []
+
+-- an answer was cut short, or didn't begin
+abbrev pub IsCutShort : (List Entry → List ℕ → Bool → Type 0) → List Entry → Option (List ℕ) → Option (List ℕ) → Type 0
+IsCutShort Due es before now = Untouched es before now ⊎ WritesSome Due es before now
+
+-- the first of the lines were called and answered, though not all of the answers' bytes were written
+pub record StopsIn (lines : List (Option (List ℕ))) (es : List Entry) (before now : Option (List ℕ)) : Type 0 where
+  pub answered : List (Option (List ℕ))
+  pub others : List (Option (List ℕ))
+  pub split : lines ≡ answered ++ others
+  pub some : WritesSome (Answers answered) es before now
+
+-- a call was made, or not
+abbrev pub AtMostOne : Call → List Entry → Type 0
+AtMostOne c es = (es ≡ []) ⊎ OneCall c es
+
+-- a session that was begun, and stopped in its lines
+pub record StopsInside (lines : List (Option (List ℕ))) (es : List Entry) (before now : Option (List ℕ)) : Type 0 where
+  pub first : List Entry
+  pub middle : List Entry
+  pub parts : es ≡ first ++ middle
+  pub start : OneCall start_call first
+  pub stops : StopsIn lines middle before now
+
+-- a session that was ended
+pub record IsEnded (lines : List (Option (List ℕ))) (es : List Entry) (before now : Option (List ℕ)) : Type 0 where
+  pub faulty : Bool
+  pub session : IsSession lines es before now faulty
+
+-- a session that stopped: before it was begun, in its lines, or once it was ended
+abbrev pub IsStopped : List (Option (List ℕ)) → List Entry → Option (List ℕ) → Option (List ℕ) → Type 0
+IsStopped lines es before now = Untouched es before now ⊎ (StopsInside lines es before now ⊎ IsEnded lines es before now)

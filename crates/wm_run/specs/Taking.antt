@@ -1,0 +1,18 @@
+-- What stands after bytes of the input were taken.
+use Rattle.std.specs.Prelude.{◌≡◌, ℕ, Bool, List, ◌++◌, Option}
+use Rattle.wm_clwords.specs.Part.{Part, lines_from}
+use Rattle.wm_law.specs.declared.call.Entry.{Entry}
+use Rattle.wm_outside.specs.Told.{Takes}
+use Rattle.wm_run.specs.Session.{Answers, AnsweredBy}
+
+-- of a piece a rest is left, and the lines that ended were answered: however the input goes on, its lines are these and those that the rest gives
+pub record TakesPiece (before : Part) (piece : List ℕ) (after : Part) (rest : List ℕ) (es : List Entry) (written_before written_now : Option (List ℕ)) (faulty : Bool) : Type 0 where
+  pub lines : List (Option (List ℕ))
+  pub split : (more : List ℕ) → lines_from before (piece ++ more) ≡ lines ++ lines_from after (rest ++ more)
+  pub answered : AnsweredBy (Answers lines) es written_before written_now faulty
+
+-- some bytes were taken off the input, and so was done with them
+pub record TakesInput (left_before left_now : Option (List ℕ)) (Done : List ℕ → Type 0) : Type 0 where
+  pub bytes : List ℕ
+  pub taken : Takes left_before bytes left_now
+  pub done : Done bytes

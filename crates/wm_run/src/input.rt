@@ -1,0 +1,247 @@
+// Taking the input: its pieces are joined into logical lines, and each line is answered.
+ghost use Rattle.std.specs.Prelude.{◌≡◌, ◌≤◌, ◌<◌, ◌+◌, ◌||◌, ◌↔◌, [], ◌∷◌, Ok, Some, IfOk, OnErr, IsErrOf, length, take};
+ghost use Rattle.std.specs.Option.{option_copied};
+ghost use Rattle.std.specs.Io.KnownBytes.{IsAtEnd};
+ghost use Rattle.wm_clwords.specs.Part.{said};
+ghost use Rattle.wm_outside.specs.Told.{Takes};
+ghost use Rattle.wm_outside.specs.Cause.{raised};
+ghost use Rattle.wm_run.specs.Taking.{TakesInput};
+
+use crate::session::Run;
+use crate::stop::Stop;
+use std::alloc::{AllocError, Global};
+use std::sync::Wait;
+use wm_clwords::{Joiner, LogicalLine};
+use wm_outside::{Clock, Sink, Source, Spawner};
+
+/// How many bytes of input a run takes at the most.
+pub const MOST_INPUT: u64 = 1_000_000_000;
+
+/// How many bytes are read at a time.
+pub const PIECE_LEN: usize = 65536;
+
+// Reads a piece behind so many bytes, and tells a fault as the run's. An input that is too long is told before its
+// bytes are used.
+fn read<I: Source>(input: &mut I, piece: &mut [u8], total: u64) -> Result<usize, Stop>
+    requires { total ≤ 1000000000 }
+    ensures within { IfOk result (λ n. n ≤ length piece.new) }
+    ensures len { length piece.new ≡ length piece.old }
+    ensures taken { IfOk result (λ n. Takes (I.left input.old) (take n piece.new) (I.left input.new)) }
+    ensures room { IfOk result (λ n. total + n ≤ 1000000000) }
+    ensures end { result ≡ Ok 0 → 0 < length piece.new → IsAtEnd (I.left input.new) }
+    ensures full { OnErr result (TakesInput (I.left input.old) (I.left input.new) (λ bytes.
+        IsErrOf result Stop.InputFull ↔ (1000000000 < total + length bytes))) }
+    ensures faults { I.faults input.old ≤ I.faults input.new }
+    ensures read_fault { IsErrOf result Stop.ReadFault → raised (I.faults input.old) ≤ I.faults input.new }
+    ensures no_write { IsErrOf result Stop.WriteFault → ⊥ }
+    ensures no_wait { IsErrOf result Stop.WaitFault → ⊥ }
+{
+    let Ok(n) = input.read(piece) else {
+        return Err(Stop::ReadFault);
+    };
+    if n as u64 > MOST_INPUT - total {
+        return Err(Stop::InputFull);
+    }
+    Ok(n)
+}
+
+// The room for a piece. It is made apart from the loop, so that its bytes aren't looked at there.
+fn piece_buffer(alloc: Global) -> Result<Vec<u8>, AllocError>
+    ensures { IfOk result (λ piece. length piece.items ≡ 65536) }
+{
+    Ok(vec![in alloc; 0u8; PIECE_LEN]?)
+}
+
+// One function, so that the loop goes on in one way.
+fn either(a: bool, b: bool) -> bool
+    ensures { result ≡ (a || b) }
+{
+    a || b
+}
+
+// A line that ended, as the session takes it: None is one that is too long.
+fn text_of(line: LogicalLine, joiner: &Joiner) -> Option<&[u8]>
+    ensures { said (Some line) joiner.now ≡ option_copied result ∷ [] }
+{
+    match line {
+        LogicalLine::Command => Some(joiner.line()),
+        LogicalLine::Long => None,
+    }
+}
+
+impl Run {
+    ghost use Rattle.std.specs.Prelude.{◌≤◌, ◌<◌, ◌↔◌, ◌++◌, [], List, ℕ, Some, IfOk, OnOk, OnErr, IsErrOf, length, drop};
+    ghost use Rattle.std.specs.Io.KnownBytes.{IsAtEnd};
+    ghost use Rattle.wm_clwords.specs.Lines.{logical_lines};
+    ghost use Rattle.wm_clwords.specs.Part.{lines_from, said};
+    ghost use Rattle.wm_law.specs.History.{entries_of};
+    ghost use Rattle.wm_run.specs.Lists.{since};
+    ghost use Rattle.wm_run.specs.Serving.{Serves};
+    ghost use Rattle.wm_run.specs.Session.{Answers, AnsweredBy, session_pass};
+    ghost use Rattle.wm_run.specs.Stop.{HasCauses, HasInputCauses};
+    ghost use Rattle.wm_run.specs.Stopped.{StopsIn};
+    ghost use Rattle.wm_run.specs.Taking.{TakesPiece, TakesInput};
+    ghost use Rattle.wm_run.specs.View.{view};
+
+    // Answers the line that a joiner has.
+    fn answer_joined<O: Sink, P: Spawner, C: Clock>(
+        &mut self,
+        alloc: Global,
+        out: &mut O,
+        spawner: &mut P,
+        clock: &mut C,
+        line: LogicalLine,
+        joiner: &Joiner,
+    ) -> Result<bool, Stop>
+        ensures serves { Serves (view self.old.floor self.old.monitor (P.asked spawner.old) (P.told spawner.old) (P.misses spawner.old))
+            (view self.new.floor self.new.monitor (P.asked spawner.new) (P.told spawner.new) (P.misses spawner.new)) }
+        ensures answered { IfOk result (λ faulty. AnsweredBy (Answers (said (Some line) joiner.now))
+            (entries_of session_pass (since self.old.floor self.new.floor)) (O.written out.old) (O.written out.new) faulty) }
+        ensures stopped { OnErr result (StopsIn (said (Some line) joiner.now)
+            (entries_of session_pass (since self.old.floor self.new.floor)) (O.written out.old) (O.written out.new)) }
+        ensures causes { HasCauses result (O.faults out.old) (O.faults out.new) (P.faults spawner.old) (P.faults spawner.new) }
+    {
+        self.answer(alloc, out, spawner, clock, text_of(line, joiner))
+    }
+
+    // Takes bytes up to the end of a line, which is answered, or all of them. It answers how many it took.
+    fn take_line<O: Sink, P: Spawner, C: Clock>(
+        &mut self,
+        alloc: Global,
+        out: &mut O,
+        spawner: &mut P,
+        clock: &mut C,
+        joiner: &mut Joiner,
+        piece: &[u8],
+    ) -> Result<(usize, bool), Stop>
+        ensures serves { Serves (view self.old.floor self.old.monitor (P.asked spawner.old) (P.told spawner.old) (P.misses spawner.old))
+            (view self.new.floor self.new.monitor (P.asked spawner.new) (P.told spawner.new) (P.misses spawner.new)) }
+        ensures taken { IfOk result (λ r. TakesPiece joiner.old piece.now joiner.new (drop r.0 piece.now)
+            (entries_of session_pass (since self.old.floor self.new.floor)) (O.written out.old) (O.written out.new) r.1) }
+        ensures within { IfOk result (λ r. r.0 ≤ length piece.now) }
+        ensures progress { IfOk result (λ r. 0 < length piece.now → 0 < r.0) }
+        ensures stopped { OnErr result ((more : List ℕ) → StopsIn (lines_from joiner.old (piece.now ++ more))
+            (entries_of session_pass (since self.old.floor self.new.floor)) (O.written out.old) (O.written out.new)) }
+        ensures causes { HasCauses result (O.faults out.old) (O.faults out.new) (P.faults spawner.old) (P.faults spawner.new) }
+    {
+        let (taken, ended) = joiner.feed(piece);
+        let Some(line) = ended else {
+            return Ok((taken, false));
+        };
+        let faulty = self.answer_joined(alloc, out, spawner, clock, line, joiner)?;
+        Ok((taken, faulty))
+    }
+
+    // Takes the bytes of a piece, line by line.
+    fn take_piece<O: Sink, P: Spawner, C: Clock>(
+        &mut self,
+        alloc: Global,
+        out: &mut O,
+        spawner: &mut P,
+        clock: &mut C,
+        joiner: &mut Joiner,
+        piece: &[u8],
+    ) -> Result<bool, Stop>
+        ensures serves { Serves (view self.old.floor self.old.monitor (P.asked spawner.old) (P.told spawner.old) (P.misses spawner.old))
+            (view self.new.floor self.new.monitor (P.asked spawner.new) (P.told spawner.new) (P.misses spawner.new)) }
+        ensures taken { IfOk result (λ faulty. TakesPiece joiner.old piece.now joiner.new []
+            (entries_of session_pass (since self.old.floor self.new.floor)) (O.written out.old) (O.written out.new) faulty) }
+        ensures stopped { OnErr result ((more : List ℕ) → StopsIn (lines_from joiner.old (piece.now ++ more))
+            (entries_of session_pass (since self.old.floor self.new.floor)) (O.written out.old) (O.written out.new)) }
+        ensures causes { HasCauses result (O.faults out.old) (O.faults out.new) (P.faults spawner.old) (P.faults spawner.new) }
+    {
+        let mut faulty = false;
+        let mut at = 0;
+        'lines: while at < piece.len() {
+            let (taken, wrong) = self.take_line(alloc, out, spawner, clock, joiner, &piece[at..])?;
+            faulty = either(faulty, wrong);
+            at += taken;
+        }
+        Ok(faulty)
+    }
+
+    // Answers the line that ends with the input, where there is one.
+    fn take_rest<O: Sink, P: Spawner, C: Clock>(
+        &mut self,
+        alloc: Global,
+        out: &mut O,
+        spawner: &mut P,
+        clock: &mut C,
+        joiner: &mut Joiner,
+    ) -> Result<bool, Stop>
+        ensures serves { Serves (view self.old.floor self.old.monitor (P.asked spawner.old) (P.told spawner.old) (P.misses spawner.old))
+            (view self.new.floor self.new.monitor (P.asked spawner.new) (P.told spawner.new) (P.misses spawner.new)) }
+        ensures answered { IfOk result (λ faulty. AnsweredBy (Answers (lines_from joiner.old []))
+            (entries_of session_pass (since self.old.floor self.new.floor)) (O.written out.old) (O.written out.new) faulty) }
+        ensures stopped { OnErr result (StopsIn (lines_from joiner.old [])
+            (entries_of session_pass (since self.old.floor self.new.floor)) (O.written out.old) (O.written out.new)) }
+        ensures causes { HasCauses result (O.faults out.old) (O.faults out.new) (P.faults spawner.old) (P.faults spawner.new) }
+    {
+        let Some(line) = joiner.end() else {
+            return Ok(false);
+        };
+        self.answer_joined(alloc, out, spawner, clock, line, joiner)
+    }
+
+    // Takes the whole input by pieces, and answers its lines.
+    fn take_pieces<I: Source, O: Sink, P: Spawner, C: Clock, R: Wait>(
+        &mut self,
+        rt: &R,
+        alloc: Global,
+        input: &mut I,
+        out: &mut O,
+        spawner: &mut P,
+        clock: &mut C,
+        piece: &mut [u8],
+    ) -> Result<bool, Stop>
+        requires { 0 < length piece.old }
+        ensures serves { Serves (view self.old.floor self.old.monitor (P.asked spawner.old) (P.told spawner.old) (P.misses spawner.old))
+            (view self.new.floor self.new.monitor (P.asked spawner.new) (P.told spawner.new) (P.misses spawner.new)) }
+        ensures taken { IfOk result (λ faulty. TakesInput (I.left input.old) (I.left input.new) (λ bytes. AnsweredBy (Answers (logical_lines bytes))
+            (entries_of session_pass (since self.old.floor self.new.floor)) (O.written out.old) (O.written out.new) faulty)) }
+        ensures stopped { OnErr result (TakesInput (I.left input.old) (I.left input.new) (λ bytes. StopsIn (logical_lines bytes)
+            (entries_of session_pass (since self.old.floor self.new.floor)) (O.written out.old) (O.written out.new))) }
+        ensures end { OnOk result (IsAtEnd (I.left input.new)) }
+        ensures full { TakesInput (I.left input.old) (I.left input.new) (λ bytes. IsErrOf result Stop.InputFull ↔ (1000000000 < length bytes)) }
+        ensures causes { HasInputCauses result (I.faults input.old) (I.faults input.new) (O.faults out.old) (O.faults out.new) (P.faults spawner.old) (P.faults spawner.new) }
+    {
+        let mut joiner = Joiner::new(alloc)?;
+        let mut faulty = false;
+        let mut total = 0u64;
+        'reads: for _ in rt.forever() {
+            let n = read(input, piece, total)?;
+            if n == 0 {
+                let wrong = self.take_rest(alloc, out, spawner, clock, &mut joiner)?;
+                return Ok(either(faulty, wrong));
+            }
+            let wrong = self.take_piece(alloc, out, spawner, clock, &mut joiner, &piece[..n])?;
+            faulty = either(faulty, wrong);
+            total += n as u64;
+        }
+        unreachable!()
+    }
+
+    /// Takes the whole input, and answers its lines. It answers whether one of them got a fault or a refusal.
+    pub fn take_all<I: Source, O: Sink, P: Spawner, C: Clock, R: Wait>(
+        &mut self,
+        rt: &R,
+        alloc: Global,
+        input: &mut I,
+        out: &mut O,
+        spawner: &mut P,
+        clock: &mut C,
+    ) -> Result<bool, Stop>
+        ensures serves { Serves (view self.old.floor self.old.monitor (P.asked spawner.old) (P.told spawner.old) (P.misses spawner.old))
+            (view self.new.floor self.new.monitor (P.asked spawner.new) (P.told spawner.new) (P.misses spawner.new)) }
+        ensures taken { IfOk result (λ faulty. TakesInput (I.left input.old) (I.left input.new) (λ bytes. AnsweredBy (Answers (logical_lines bytes))
+            (entries_of session_pass (since self.old.floor self.new.floor)) (O.written out.old) (O.written out.new) faulty)) }
+        ensures stopped { OnErr result (TakesInput (I.left input.old) (I.left input.new) (λ bytes. StopsIn (logical_lines bytes)
+            (entries_of session_pass (since self.old.floor self.new.floor)) (O.written out.old) (O.written out.new))) }
+        ensures end { OnOk result (IsAtEnd (I.left input.new)) }
+        ensures full { TakesInput (I.left input.old) (I.left input.new) (λ bytes. IsErrOf result Stop.InputFull ↔ (1000000000 < length bytes)) }
+        ensures causes { HasInputCauses result (I.faults input.old) (I.faults input.new) (O.faults out.old) (O.faults out.new) (P.faults spawner.old) (P.faults spawner.new) }
+    {
+        let mut piece = piece_buffer(alloc)?;
+        self.take_pieces(rt, alloc, input, out, spawner, clock, &mut piece)
+    }
+}

@@ -1,0 +1,336 @@
+// What starts the jobs and reports how they ended.
+ghost use Rattle.std.specs.Prelude.{◌≡◌, ◌∷◌, [], None, Ok, map, count_by};
+ghost use Rattle.wm_base.specs.declared.job.Asked.TheVariants.{Start, Kill};
+ghost use Rattle.wm_outside.specs.Told.{Grows, IsEmpty};
+ghost use Rattle.wm_outside.specs.Cause.{HasCause};
+ghost use Rattle.wm_run.specs.Monitor.{RisesBy, as_reports, call_of, is_spawner_fault, looked};
+ghost use Rattle.wm_run.specs.declared.monitor.MonitorFault.TheVariants.{WaitFault, NoMemory};
+
+use crate::floor::Floor;
+use crate::report::Report;
+use std::alloc::{AllocError, Global};
+use std::sync::Wait;
+use wm_base::{Asked, Moment, Serial, StartOrder};
+use wm_law::Call;
+use wm_outside::{Clock, Failed, Spawner};
+
+/// The pass of the monitor.
+pub const MONITOR: u32 = 1;
+
+/// How many Hands a turn makes at the most.
+pub const MOST_HANDS: u32 = 256;
+
+/// How many looks a turn makes at the most.
+pub const MOST_LOOKS: u32 = 256;
+
+/// A monitor. It keeps the report that the floor didn't take, to send it first in its next call.
+#[derive(Clone, Copy, Debug, PartialEq, Eq)]
+pub struct Monitor {
+    pub(crate) kept: Option<Report>,
+}
+
+/// Why a turn or a wait of a monitor ended early.
+#[derive(Clone, Copy, Debug, PartialEq, Eq)]
+pub enum MonitorFault {
+    /// A kill or a look of the spawner failed.
+    WaitFault,
+    NoMemory,
+}
+
+impl From<Failed> for MonitorFault {
+    ghost from_gives = { λ _ e. e ≡ WaitFault };
+
+    fn from(_e: Failed) -> MonitorFault {
+        MonitorFault::WaitFault
+    }
+}
+
+impl From<AllocError> for MonitorFault {
+    ghost from_gives = { λ _ e. e ≡ NoMemory };
+
+    fn from(_e: AllocError) -> MonitorFault {
+        MonitorFault::NoMemory
+    }
+}
+
+impl Monitor {
+    ghost use Rattle.std.specs.Prelude.{◌≡◌, ◌⊎◌, ◌<◌, ◌≤◌, ◌+◌, ◌-◌, ◌++◌, ◌∷◌, [], ℕ, List, Option, None, Some, Ok, true, false, length, OnOk, OnErr, IfOk, IfSome, IsErrOf};
+    ghost use Rattle.wm_base.specs.declared.job.Asked.{Asked};
+    ghost use Rattle.wm_outside.specs.declared.spawner.Told.{Told};
+    ghost use Rattle.wm_outside.specs.Told.{Grows, IsEmpty};
+    ghost use Rattle.wm_outside.specs.Cause.{raised};
+    ghost use Rattle.wm_law.specs.History.{after};
+    ghost use Rattle.wm_law.specs.Opening.{opening};
+    ghost use Rattle.wm_law.specs.Pending.{next_due, starting};
+    ghost use Rattle.wm_run.specs.Floor.{entry_at};
+    ghost use Rattle.wm_run.specs.Lists.{since};
+    ghost use Rattle.wm_run.specs.Monitor.{Advances, BeginsWithHand, IsIdle, as_reports, call_of, hands_of, monitor_pass};
+    ghost use Rattle.wm_run.specs.View.{view};
+
+    /// A monitor that keeps nothing.
+    pub fn new() -> Monitor
+        ensures { result.kept ≡ None }
+    {
+        Monitor { kept: None }
+    }
+
+    // Sends the report that is kept, which the floor may refuse to take for want of memory.
+    fn send_kept<C: Clock>(
+        &mut self,
+        alloc: Global,
+        floor: &mut Floor,
+        clock: &mut C,
+    ) -> Result<(), AllocError>
+        ensures part { (asked : Option (List Asked)) (told : Option (List Told)) (misses : ℕ) →
+            Advances (view floor.old self.old asked told misses) (view floor.new self.new asked told misses) }
+        ensures sent { OnOk result (IfSome self.old.kept (λ _. length floor.old < length floor.new)) }
+        ensures unread { self.old.kept ≡ None → C.coming clock.new ≡ C.coming clock.old }
+        ensures kept { OnOk result (self.new.kept ≡ None) }
+    {
+        let Some(report) = self.kept else {
+            return Ok(());
+        };
+        floor.call(alloc, MONITOR, report.call(), clock.now())?;
+        self.kept = None;
+        Ok(())
+    }
+
+    // Makes the calls of what Hand orders, while there are orders.
+    fn hands<P: Spawner, C: Clock>(
+        &mut self,
+        alloc: Global,
+        floor: &mut Floor,
+        spawner: &mut P,
+        clock: &mut C,
+    ) -> Result<(), MonitorFault>
+        requires { self.old.kept ≡ None }
+        ensures part { Advances (view floor.old self.old (P.asked spawner.old) (P.told spawner.old) (P.misses spawner.old))
+            (view floor.new self.new (P.asked spawner.new) (P.told spawner.new) (P.misses spawner.new)) }
+        ensures all { OnOk result ((starting (after opening floor.new) ≡ 0) ⊎ (256 ≤ hands_of (since floor.old floor.new))) }
+        ensures quiet { OnOk result ((P.reporting spawner.new ≡ P.reporting spawner.old) ⊎ (length floor.old < length floor.new)) }
+        ensures kept { OnOk result (self.new.kept ≡ None) }
+        ensures faults { P.faults spawner.old ≤ P.faults spawner.new }
+        ensures wait_fault { IsErrOf result MonitorFault.WaitFault → raised (P.faults spawner.old) ≤ P.faults spawner.new }
+    {
+        'hands: for _ in 0..MOST_HANDS {
+            if floor.orders() == 0 {
+                return Ok(());
+            }
+            self.hand(alloc, floor, spawner, clock)?;
+        }
+        Ok(())
+    }
+
+    // Makes the calls of the reports that are there.
+    fn looks<P: Spawner, C: Clock>(
+        &mut self,
+        alloc: Global,
+        floor: &mut Floor,
+        spawner: &mut P,
+        clock: &mut C,
+    ) -> Result<(), MonitorFault>
+        requires { self.old.kept ≡ None }
+        ensures part { Advances (view floor.old self.old (P.asked spawner.old) (P.told spawner.old) (P.misses spawner.old))
+            (view floor.new self.new (P.asked spawner.new) (P.told spawner.new) (P.misses spawner.new)) }
+        ensures all { OnOk result (IsEmpty (P.reporting spawner.old) ⊎ (length floor.old < length floor.new)) }
+        ensures last { OnOk result ((256 ≤ length (since floor.old floor.new)) ⊎
+            ((last : P) × IsEmpty (P.reporting last) × Grows (as_reports (P.told last)) (as_reports (P.told spawner.new)) [])) }
+        ensures kept { OnOk result (self.new.kept ≡ None) }
+        ensures faults { P.faults spawner.old ≤ P.faults spawner.new }
+        ensures wait_fault { IsErrOf result MonitorFault.WaitFault → raised (P.faults spawner.old) ≤ P.faults spawner.new }
+    {
+        'looks: for _ in 0..MOST_LOOKS {
+            if !self.look(alloc, floor, spawner, clock)? {
+                return Ok(());
+            }
+        }
+        Ok(())
+    }
+
+    /// One turn: the kept report, the time where a job is due, at most 256 Hands with their orders, and at
+    /// most 256 looks with their reports. It answers how many entries it made.
+    pub fn turn<P: Spawner, C: Clock>(
+        &mut self,
+        alloc: Global,
+        floor: &mut Floor,
+        spawner: &mut P,
+        clock: &mut C,
+    ) -> Result<usize, MonitorFault>
+        ensures part { Advances (view floor.old self.old (P.asked spawner.old) (P.told spawner.old) (P.misses spawner.old))
+            (view floor.new self.new (P.asked spawner.new) (P.told spawner.new) (P.misses spawner.new)) }
+        ensures kept { OnOk result (self.new.kept ≡ None) }
+        ensures faults { P.faults spawner.old ≤ P.faults spawner.new }
+        ensures wait_fault { IsErrOf result MonitorFault.WaitFault → raised (P.faults spawner.old) ≤ P.faults spawner.new }
+        ensures sent { IfOk result (λ sent. sent ≡ length floor.new - length floor.old) }
+        ensures idle { result ≡ Ok 0 → IsIdle floor.old self.old.kept (C.coming clock.old) (P.reporting spawner.old) }
+    {
+        let before = floor.len();
+        self.send_kept(alloc, floor, clock)?;
+        self.tick(alloc, floor, clock)?;
+        self.hands(alloc, floor, spawner, clock)?;
+        self.looks(alloc, floor, spawner, clock)?;
+        Ok(floor.len().saturating_sub(before))
+    }
+
+    /// Waits for a report, until the moment at the latest where one is given, and makes its call.
+    pub fn wait<P: Spawner, C: Clock, R: Wait>(
+        &mut self,
+        rt: &R,
+        alloc: Global,
+        floor: &mut Floor,
+        spawner: &mut P,
+        clock: &mut C,
+        until: Option<Moment>,
+    ) -> Result<(), MonitorFault>
+        ensures part { Advances (view floor.old self.old (P.asked spawner.old) (P.told spawner.old) (P.misses spawner.old))
+            (view floor.new self.new (P.asked spawner.new) (P.told spawner.new) (P.misses spawner.new)) }
+        ensures report { OnOk result (until ≡ None → IsEmpty (P.out spawner.old) ⊎ (length floor.old < length floor.new)) }
+        ensures kept { OnOk result (self.new.kept ≡ None) }
+        ensures faults { P.faults spawner.old ≤ P.faults spawner.new }
+        ensures wait_fault { IsErrOf result MonitorFault.WaitFault → raised (P.faults spawner.old) ≤ P.faults spawner.new }
+    {
+        self.send_kept(alloc, floor, clock)?;
+        let Some(report) = wait(rt, spawner, until)? else {
+            return Ok(());
+        };
+        self.kept = Some(report);
+        self.send_kept(alloc, floor, clock)?;
+        Ok(())
+    }
+
+    // Lets the machine see the time, where a job is due by now.
+    fn tick<C: Clock>(
+        &mut self,
+        alloc: Global,
+        floor: &mut Floor,
+        clock: &mut C,
+    ) -> Result<(), AllocError>
+        ensures part { (asked : Option (List Asked)) (told : Option (List Told)) (misses : ℕ) →
+            Advances (view floor.old self.old asked told misses) (view floor.new self.new asked told misses) }
+        ensures due { OnOk result (IfSome (next_due (after opening floor.old)) (λ due. IfSome (C.coming clock.old) (λ now.
+            due ≤ now → floor.new ≡ floor.old ++ entry_at floor.old monitor_pass Call.Tick now ∷ []))) }
+        ensures kept { self.new ≡ self.old }
+    {
+        let now = clock.now();
+        match floor.next_due() {
+            Some(due) if due <= now => {
+                floor.call(alloc, MONITOR, Call::Tick, now)?;
+                Ok(())
+            }
+            _ => Ok(()),
+        }
+    }
+
+    // Makes one Hand and does its order.
+    fn hand<P: Spawner, C: Clock>(
+        &mut self,
+        alloc: Global,
+        floor: &mut Floor,
+        spawner: &mut P,
+        clock: &mut C,
+    ) -> Result<(), MonitorFault>
+        requires { self.old.kept ≡ None }
+        ensures hand { OnOk result (BeginsWithHand floor.old floor.new) }
+        ensures part { Advances (view floor.old self.old (P.asked spawner.old) (P.told spawner.old) (P.misses spawner.old))
+            (view floor.new self.new (P.asked spawner.new) (P.told spawner.new) (P.misses spawner.new)) }
+        ensures kept { OnOk result (self.new.kept ≡ None) }
+        ensures faults { P.faults spawner.old ≤ P.faults spawner.new }
+        ensures wait_fault { IsErrOf result MonitorFault.WaitFault → raised (P.faults spawner.old) ≤ P.faults spawner.new }
+    {
+        floor.call(alloc, MONITOR, Call::Hand, clock.now())?;
+        match floor.order() {
+            None => Ok(()),
+            Some(Asked::Kill(serial)) => {
+                kill(spawner, *serial)?;
+                Ok(())
+            }
+            Some(Asked::Start(order)) => {
+                self.kept = Some(start(spawner, order));
+                self.send_kept(alloc, floor, clock)?;
+                Ok(())
+            }
+        }
+    }
+
+    // Looks once for a report, and makes its call. It answers whether there was one.
+    fn look<P: Spawner, C: Clock>(
+        &mut self,
+        alloc: Global,
+        floor: &mut Floor,
+        spawner: &mut P,
+        clock: &mut C,
+    ) -> Result<bool, MonitorFault>
+        requires { self.old.kept ≡ None }
+        ensures none { result ≡ Ok false → IsEmpty (P.reporting spawner.old) }
+        ensures sent { result ≡ Ok true → length floor.old < length floor.new }
+        ensures none_told { result ≡ Ok false → Grows (as_reports (P.told spawner.old)) (as_reports (P.told spawner.new)) [] }
+        ensures part { Advances (view floor.old self.old (P.asked spawner.old) (P.told spawner.old) (P.misses spawner.old))
+            (view floor.new self.new (P.asked spawner.new) (P.told spawner.new) (P.misses spawner.new)) }
+        ensures kept { OnOk result (self.new.kept ≡ None) }
+        ensures faults { P.faults spawner.old ≤ P.faults spawner.new }
+        ensures wait_fault { IsErrOf result MonitorFault.WaitFault → raised (P.faults spawner.old) ≤ P.faults spawner.new }
+    {
+        let Some(report) = look(spawner)? else {
+            return Ok(false);
+        };
+        self.kept = Some(report);
+        self.send_kept(alloc, floor, clock)?;
+        Ok(true)
+    }
+}
+
+// Asks the spawner to start what was ordered.
+fn start<P: Spawner>(spawner: &mut P, order: &StartOrder) -> Report
+    ensures asked { Grows (P.asked spawner.old) (P.asked spawner.new) (Start order.now ∷ []) }
+    ensures told { Grows (as_reports (P.told spawner.old)) (as_reports (P.told spawner.new)) (call_of result ∷ []) }
+    ensures misses { RisesBy (P.misses spawner.old) (count_by is_spawner_fault (call_of result ∷ [])) (P.misses spawner.new) }
+    ensures faults { P.faults spawner.new ≡ P.faults spawner.old }
+{
+    match spawner.start(order) {
+        Ok(()) => Report::Started(order.serial),
+        Err(fault) => Report::of_fault(order.serial, fault),
+    }
+}
+
+// Asks the spawner to kill a job. Its end is reported later, where it was out.
+fn kill<P: Spawner>(spawner: &mut P, serial: Serial) -> Result<(), Failed>
+    ensures asked { Grows (P.asked spawner.old) (P.asked spawner.new) (Kill serial ∷ []) }
+    ensures told { Grows (as_reports (P.told spawner.old)) (as_reports (P.told spawner.new)) [] }
+    ensures misses { P.misses spawner.new ≡ P.misses spawner.old }
+    ensures cause { HasCause (P.faults spawner.old) (P.faults spawner.new) result }
+{
+    spawner.kill(serial)?;
+    Ok(())
+}
+
+// Looks for a report.
+fn look<P: Spawner>(spawner: &mut P) -> Result<Option<Report>, Failed>
+    ensures none { result ≡ Ok None → IsEmpty (P.reporting spawner.old) }
+    ensures asked { Grows (P.asked spawner.old) (P.asked spawner.new) [] }
+    ensures told { Grows (as_reports (P.told spawner.old)) (as_reports (P.told spawner.new)) (map call_of (looked result)) }
+    ensures misses { RisesBy (P.misses spawner.old) (count_by is_spawner_fault (map call_of (looked result))) (P.misses spawner.new) }
+    ensures cause { HasCause (P.faults spawner.old) (P.faults spawner.new) result }
+{
+    match spawner.ended()? {
+        None => Ok(None),
+        Some(event) => Ok(Some(Report::of_event(event))),
+    }
+}
+
+// Waits for a report, until the moment at the latest where one is given.
+fn wait<P: Spawner, R: Wait>(
+    rt: &R,
+    spawner: &mut P,
+    until: Option<Moment>,
+) -> Result<Option<Report>, Failed>
+    ensures none { result ≡ Ok None → until ≡ None → IsEmpty (P.out spawner.old) }
+    ensures asked { Grows (P.asked spawner.old) (P.asked spawner.new) [] }
+    ensures told { Grows (as_reports (P.told spawner.old)) (as_reports (P.told spawner.new)) (map call_of (looked result)) }
+    ensures misses { RisesBy (P.misses spawner.old) (count_by is_spawner_fault (map call_of (looked result))) (P.misses spawner.new) }
+    ensures cause { HasCause (P.faults spawner.old) (P.faults spawner.new) result }
+{
+    match spawner.wait_ended(rt, until)? {
+        None => Ok(None),
+        Some(event) => Ok(Some(Report::of_event(event))),
+    }
+}

@@ -1,6 +1,0 @@
-use Rattle.wrkmgr.proofs.StoppedRuns.{input_stops_none, on_err}
-use Rattle.wrkmgr.proofs.session.Run.take_all.Goals as goal
-
-pub returns-in_err-piece-clause-stopped : goal.returns-in_err-piece-clause-stopped
-returns-in_err-piece-clause-stopped g c =
-    on_err _ (input_stops_none (g.I.Source.left c.args.input.now) c.args.self.now.floor (g.O.Sink.written c.args.out.now))
