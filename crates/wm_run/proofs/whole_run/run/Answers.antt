@@ -7,7 +7,7 @@ use Rattle.wm_run.specs.Session.{IsSession, session_pass}
 use Rattle.wm_run.specs.Stopped.{IsStopped}
 use Rattle.wm_run.specs.Taking.{TakesInput}
 use Rattle.wm_run.proofs.Runs.{ended_if, stopped_on, session_from, stopped_from, stopped_not}
-use Rattle.wm_run.proofs.run.run.Goals as goal
+use Rattle.wm_run.proofs.whole_run.run.Goals as goal
 
 pub returns-then-not-is_run-clause-stopped : goal.returns-then-not-is_run-clause-stopped
 returns-then-not-is_run-clause-stopped g c high =
