@@ -54,7 +54,7 @@ pub fn answer_look(found: Result<Option<Event>, Failed>, answer: &mut String) ->
     Ok(())
 }
 
-// All that an order says: who starts which program as what, with which arguments.
+// All that an order says, in one line.
 fn answer_order(order: &StartOrder, answer: &mut String) -> Result<()> {
     let cls = &order.cls;
     let pre = if order.pre { "pre " } else { "" };

@@ -1,4 +1,4 @@
-// Orders of the tests: all of one job's name and class.
+// Orders of the tests. All of them have the same name and class.
 use super::words::{BAR, first_word, serial};
 use anyhow::{Result, ensure};
 use std::alloc::Global;
@@ -17,12 +17,15 @@ fn job() -> Result<JobName> {
     })
 }
 
-fn args(alloc: Global, words: &str) -> Result<Args> {
+// The path and the arguments of `/bin/a | x | y`.
+fn program(alloc: Global, words: &str) -> Result<(Text, Args)> {
+    let mut words = words.split(BAR);
+    let path = text(alloc, words.next().unwrap_or(""))?;
     let mut args = Args::new(alloc);
-    for word in words.split(BAR) {
+    for word in words {
         args.push(text(alloc, word)?)?;
     }
-    Ok(args)
+    Ok((path, args))
 }
 
 /// The order of `7 /bin/a | x | y`: its serial, its program and the program's arguments. `pre` before the serial tells
@@ -32,13 +35,13 @@ pub fn order(alloc: Global, words: &str) -> Result<StartOrder> {
         Some(words) => (true, words),
         None => (false, words),
     };
-    let (number, program) = first_word(words);
-    let (path, arguments) = program.split_once(BAR).unwrap_or((program, ""));
+    let (number, words) = first_word(words);
+    let (path, args) = program(alloc, words)?;
     Ok(StartOrder {
         serial: serial(number)?,
         job: job()?,
-        path: text(alloc, path)?,
-        args: args(alloc, arguments)?,
+        path,
+        args,
         cls: Class {
             runpty: 50,
             timeslice: 2000,
