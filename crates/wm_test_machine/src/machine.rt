@@ -2,11 +2,11 @@
 use crate::change::{has_call, line_of, write_built};
 use crate::entry::entry_reply;
 use crate::monitor::call_of;
-use crate::reply::{write_order, write_reply};
+use crate::reply::{write_ordered, write_reply};
 use crate::text::{first_word, number_of};
 use anyhow::Result;
 use std::alloc::Global;
-use wm_base::{Asked, Moment, Name};
+use wm_base::{Moment, Name};
 use wm_command::Line;
 use wm_law::{Call, Command, Reply, State};
 
@@ -47,11 +47,20 @@ impl Machine {
         if !has_call(&self.state, call) {
             return Ok(None);
         }
-        let reply = self.state.step(self.alloc, caller, call, Moment::new(NOW))?;
+        let now = Moment::new(NOW);
+        let reply = self.state.step(self.alloc, caller, call, now)?;
         Ok(Some(reply))
     }
 
-    // Calls a command of the user.
+    // Makes a call, and adds the reply.
+    fn call(&mut self, caller: u32, call: &Call, answer: &mut String) -> Result<()>
+        requires { IsCall call.now }
+    {
+        let reply = self.reply(caller, call)?;
+        write_reply(&reply, answer)
+    }
+
+    // Calls a command of the user. The command is let go on one path alone, which keeps the proof short.
     fn change(&mut self, command: Command, answer: &mut String) -> Result<()>
         requires { IsCommand command }
     {
@@ -60,8 +69,7 @@ impl Machine {
             user: self.user,
             command,
         };
-        let reply = self.reply(SESSION, &call)?;
-        write_reply(&reply, answer)
+        self.call(SESSION, &call, answer)
     }
 
     fn line(&mut self, line: Line, answer: &mut String) -> Result<()>
@@ -87,10 +95,8 @@ impl Machine {
 
     // Hands the next order to the monitor, and adds all of it.
     fn order(&mut self, monitor: u32, answer: &mut String) -> Result<()> {
-        match self.reply(monitor, &Call::Hand)? {
-            Some(Reply::Order(Asked::Start(order))) => write_order(&order, answer),
-            reply => write_reply(&reply, answer),
-        }
+        let reply = self.reply(monitor, &Call::Hand)?;
+        write_ordered(&reply, answer)
     }
 
     /// Makes the call of a monitor, as `1 started 2`, and adds the reply.
@@ -101,7 +107,6 @@ impl Machine {
             return self.order(monitor, answer);
         }
         let call = call_of(words)?;
-        let reply = self.reply(monitor, &call)?;
-        write_reply(&reply, answer)
+        self.call(monitor, &call, answer)
     }
 }

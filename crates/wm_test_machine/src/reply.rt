@@ -41,8 +41,8 @@ fn write_arguments(order: &StartOrder, answer: &mut String) -> Result<()> {
     Ok(())
 }
 
-/// Adds all that is to be started.
-pub fn write_order(order: &StartOrder, answer: &mut String) -> Result<()> {
+// Adds all that is to be started.
+fn write_order(order: &StartOrder, answer: &mut String) -> Result<()> {
     let start = if order.pre { "PRESTART" } else { "START" };
     write!(
         answer,
@@ -57,4 +57,12 @@ pub fn write_order(order: &StartOrder, answer: &mut String) -> Result<()> {
         cls.runpty, cls.timeslice, cls.dftwait
     )?;
     Ok(())
+}
+
+/// Adds the line of a reply, and all of its order where it is one.
+pub fn write_ordered(reply: &Option<Reply>, answer: &mut String) -> Result<()> {
+    match reply {
+        Some(Reply::Order(Asked::Start(order))) => write_order(order, answer),
+        _ => write_reply(reply, answer),
+    }
 }

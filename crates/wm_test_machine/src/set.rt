@@ -4,7 +4,7 @@ use crate::text::{first_word, moment_of, name_of, number_of, qname_of};
 use anyhow::{Result, bail};
 use wm_base::QName;
 use wm_desc::Objects;
-use wm_law::{Power, Sbs, SbsPhase, State};
+use wm_law::{Power, Sbs, SbsPhase};
 
 fn power_of(word: &str) -> Result<Power> {
     match word {
@@ -13,17 +13,6 @@ fn power_of(word: &str) -> Result<Power> {
         "DOWNNOW" => Ok(Power::DownNow),
         _ => bail!("no such power"),
     }
-}
-
-// A subsystem stands among the started ones, that many times.
-fn start(state: &mut State, times: u64, sbsd: &QName) -> Result<()> {
-    for _ in 0..times {
-        state.started.push(Sbs {
-            sbsd: *sbsd,
-            phase: SbsPhase::Active,
-        })?;
-    }
-    Ok(())
 }
 
 impl Machine {
@@ -36,15 +25,18 @@ impl Machine {
             "number" => self.state.next_number = u32::try_from(number_of(value)?)?,
             "clock" => self.state.clock = moment_of(value)?,
             "power" => self.state.power = power_of(value)?,
-            "started" => self.set_started(value)?,
+            "started" => self.set_started(qname_of(value)?)?,
             _ => bail!("nothing to be set"),
         }
         Ok(())
     }
 
-    // `32 QGPL/X`
-    fn set_started(&mut self, words: &str) -> Result<()> {
-        let (times, sbsd) = first_word(words);
-        start(&mut self.state, number_of(times)?, &qname_of(sbsd)?)
+    // A subsystem stands last among the started ones.
+    fn set_started(&mut self, sbsd: QName) -> Result<()> {
+        self.state.started.push(Sbs {
+            sbsd,
+            phase: SbsPhase::Active,
+        })?;
+        Ok(())
     }
 }

@@ -1,4 +1,4 @@
-// A command with each number of a range.
+// A question with each number of a range.
 use crate::machine::Machine;
 use crate::text::{first_word, number_of};
 use anyhow::Result;
@@ -12,9 +12,9 @@ struct Run {
 }
 
 impl Run {
-    // Adds the number of times and the answer.
+    // Adds the number of times and the answer, where there is one.
     fn write(&self, answer: &mut String) -> Result<()> {
-        if self.times > 0 {
+        if !self.answer.is_empty() {
             write!(answer, "{} {}", self.times, self.answer)?;
         }
         Ok(())
@@ -40,25 +40,33 @@ fn numbered(alloc: Global, text: &str, number: u64) -> Result<String> {
 }
 
 impl Machine {
-    // The answer to the command with the number.
-    fn numbered_command(&mut self, text: &str, number: u64) -> Result<String> {
+    // Sets something, or calls a command.
+    fn set_or_call(&mut self, question: &str, answer: &mut String) -> Result<()> {
+        match question.strip_prefix("set ") {
+            Some(words) => self.set(words),
+            None => self.command(question, answer),
+        }
+    }
+
+    // The answer to the question with the number.
+    fn numbered_answer(&mut self, question: &str, number: u64) -> Result<String> {
         let mut answer = String::new(self.alloc);
-        let text = numbered(self.alloc, text, number)?;
-        self.command(text.as_str(), &mut answer)?;
+        let question = numbered(self.alloc, question, number)?;
+        self.set_or_call(question.as_str(), &mut answer)?;
         Ok(answer)
     }
 
-    /// Calls `TEXT` of `FIRST LAST TEXT` with each number from the first to the last in place of `#`, and adds the answers,
-    /// each with how often it was given.
+    /// Asks the question of `FIRST LAST QUESTION`, a CL text or a `set ..`, with each number from the first to the last in
+    /// place of `#`, and adds the answers, each with how often it was given.
     pub fn times(&mut self, words: &str, answer: &mut String) -> Result<()> {
         let (first, words) = first_word(words);
-        let (last, text) = first_word(words);
+        let (last, question) = first_word(words);
         let mut run = Run {
             answer: String::new(self.alloc),
             times: 0,
         };
         for number in number_of(first)?..=number_of(last)? {
-            run.take(self.numbered_command(text, number)?, answer)?;
+            run.take(self.numbered_answer(question, number)?, answer)?;
         }
         run.write(answer)
     }
