@@ -11,7 +11,7 @@ fn entry_of(word: &str) -> Result<QueueEntry> {
     let (seq, jobq) = word.split_once(':').context("no number")?;
     Ok(QueueEntry {
         seq: u32::try_from(number_of(seq)?)?,
-        jobq: qname_of(jobq)?,
+        jobq: qname_of(jobq).context("no qualified name")?,
         maxact: Limit::Most(1),
         maxpty: [Limit::NoMax; 9],
     })

@@ -7,7 +7,8 @@ use wm_desc::{Cmp, Jobd, Objects, QueueEntry, RouteEntry, Sbsd, Table};
 
 // The object of that name.
 fn object<'a, V>(table: &'a Table<V>, name: &str) -> Result<&'a V> {
-    table.object(&qname_of(name)?).context("NONE")
+    let name = qname_of(name).context("no qualified name")?;
+    table.object(&name).context("NONE")
 }
 
 fn write_counts(objects: &Objects, answer: &mut String) -> Result<()> {

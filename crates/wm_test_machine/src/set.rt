@@ -1,8 +1,7 @@
 // What no command makes, set by a word.
 use crate::machine::Machine;
 use crate::text::{first_word, moment_of, name_of, number_of, qname_of};
-use anyhow::{Result, bail};
-use wm_base::QName;
+use anyhow::{Context, Result, bail};
 use wm_desc::Objects;
 use wm_law::{Power, Sbs, SbsPhase};
 
@@ -25,14 +24,15 @@ impl Machine {
             "number" => self.state.next_number = u32::try_from(number_of(value)?)?,
             "clock" => self.state.clock = moment_of(value)?,
             "power" => self.state.power = power_of(value)?,
-            "started" => self.set_started(qname_of(value)?)?,
+            "started" => self.set_started(value)?,
             _ => bail!("nothing to be set"),
         }
         Ok(())
     }
 
     // A subsystem stands last among the started ones.
-    fn set_started(&mut self, sbsd: QName) -> Result<()> {
+    fn set_started(&mut self, sbsd: &str) -> Result<()> {
+        let sbsd = qname_of(sbsd).context("no qualified name")?;
         self.state.started.push(Sbs {
             sbsd,
             phase: SbsPhase::Active,

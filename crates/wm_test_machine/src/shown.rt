@@ -1,6 +1,6 @@
 // The state, as text.
 use crate::text::qname_of;
-use anyhow::{Result, bail};
+use anyhow::{Context, Result, bail};
 use std::alloc::AllocError;
 use wm_law::{Job, Phase, Power, State};
 
@@ -36,7 +36,8 @@ fn write_next(state: &State, answer: &mut String) -> Result<()> {
 }
 
 fn write_holder(state: &State, queue: &str, answer: &mut String) -> Result<()> {
-    match state.holder(&qname_of(queue)?) {
+    let queue = qname_of(queue).context("no qualified name")?;
+    match state.holder(&queue) {
         None => answer.push_str("NONE\n")?,
         Some(sbs) => writeln!(answer, "{}", sbs.sbsd)?,
     }

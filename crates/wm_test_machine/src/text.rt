@@ -16,11 +16,11 @@ pub fn name_of(word: &str) -> Result<Name> {
 }
 
 /// `LIB/NAME`.
-pub fn qname_of(word: &str) -> Result<QName> {
-    let (lib, name) = word.split_once('/').context("no library")?;
-    Ok(QName {
-        lib: name_of(lib)?,
-        name: name_of(name)?,
+pub fn qname_of(word: &str) -> Option<QName> {
+    let (lib, name) = word.split_once('/')?;
+    Some(QName {
+        lib: Name::read(lib.as_bytes()).ok()?,
+        name: Name::read(name.as_bytes()).ok()?,
     })
 }
 
