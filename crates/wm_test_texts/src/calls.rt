@@ -1,0 +1,129 @@
+// What calls.txt asks:
+//
+// > print LIB/PGM TEXT ..    the canonical text of a CALL of the program with these values
+// > read TEXT                the canonical text of the CALL that is read
+// > values TEXT              how many values the CALL that is read has
+// > items TEXT               for each list of a command, how many items it has, and the CALL that those behind the
+//                            first are
+// > names TEXT               for each item of a command, the object and the program that it names
+use crate::asked;
+use anyhow::{Result, anyhow, bail, ensure};
+use std::alloc::Global;
+use wm_base::{Args, Name, QName, Text, is_text};
+use wm_cases::{Subject, bytes_of};
+use wm_clwords::{
+    CallFault, CallText, Item, call_text, read_call, read_call_items, read_command, read_object,
+    read_program,
+};
+
+/// CALLs, and the names in them.
+#[derive(Drop)]
+pub struct CallCases {
+    alloc: Global,
+}
+
+impl CallCases {
+    pub fn new(alloc: Global) -> CallCases {
+        CallCases { alloc }
+    }
+}
+
+impl Subject for CallCases {
+    fn begin(&mut self) -> Result<()> {
+        Ok(())
+    }
+
+    fn answer(&mut self, question: &str, answer: &mut String) -> Result<()> {
+        let (asked, text) = asked::parts(question);
+        match asked {
+            "print" => print(self.alloc, text, answer)?,
+            "read" => read(self.alloc, text, answer)?,
+            "values" => count_values(self.alloc, text, answer)?,
+            "items" => read_lists(self.alloc, text, answer)?,
+            "names" => read_names(self.alloc, text, answer)?,
+            _ => bail!("no question: {question}"),
+        }
+        Ok(())
+    }
+}
+
+fn program_of(text: &str) -> Result<QName> {
+    let (lib, name) = text.split_once('/').ok_or(anyhow!("a library"))?;
+    Ok(QName {
+        lib: Name::read(lib.as_bytes())?,
+        name: Name::read(name.as_bytes())?,
+    })
+}
+
+fn push_value(alloc: Global, values: &mut Args, text: &str) -> Result<()> {
+    ensure!(is_text(text.as_bytes()), "no text");
+    values.push(Text::from_bytes(alloc, text.as_bytes())?)?;
+    Ok(())
+}
+
+fn print(alloc: Global, text: &str, answer: &mut String) -> Result<()> {
+    let (program, texts) = asked::parts(text);
+    let mut values = Args::new(alloc);
+    for text in texts.split_whitespace() {
+        push_value(alloc, &mut values, text)?;
+    }
+    let text = call_text(alloc, &program_of(program)?, &values)?;
+    writeln!(answer, "{text}")?;
+    Ok(())
+}
+
+// The canonical text of what was read.
+fn push_call(alloc: Global, read: Result<CallText, CallFault>, answer: &mut String) -> Result<()> {
+    match read {
+        Err(fault) => writeln!(answer, "{fault:?}")?,
+        Ok(call) => {
+            let text = call_text(alloc, &call.pgm, &call.parms)?;
+            writeln!(answer, "{text}")?;
+        }
+    }
+    Ok(())
+}
+
+fn read(alloc: Global, text: &str, answer: &mut String) -> Result<()> {
+    let read = read_call(alloc, &bytes_of(alloc, text)?);
+    push_call(alloc, read, answer)
+}
+
+fn count_values(alloc: Global, text: &str, answer: &mut String) -> Result<()> {
+    match read_call(alloc, &bytes_of(alloc, text)?) {
+        Err(fault) => writeln!(answer, "{fault:?}")?,
+        Ok(call) => writeln!(answer, "{}", call.parms.len())?,
+    }
+    Ok(())
+}
+
+fn read_lists(alloc: Global, text: &str, answer: &mut String) -> Result<()> {
+    let tree = read_command(alloc, text.as_bytes())?;
+    for item in &tree.items {
+        if let Item::Keyed(_, _, items) = item {
+            write!(answer, "{} items, ", items.len())?;
+            let read = read_call_items(alloc, items.get(1..).unwrap_or(&[]));
+            push_call(alloc, read, answer)?;
+        }
+    }
+    Ok(())
+}
+
+fn push_name(name: Option<QName>, answer: &mut String) -> Result<()> {
+    match name {
+        None => answer.push_str("none")?,
+        Some(name) => write!(answer, "{name}")?,
+    }
+    Ok(())
+}
+
+fn read_names(alloc: Global, text: &str, answer: &mut String) -> Result<()> {
+    let tree = read_command(alloc, text.as_bytes())?;
+    for item in &tree.items {
+        push_name(read_object(item), answer)?;
+        answer.push(' ')?;
+        push_name(read_program(item), answer)?;
+        answer.push('\n')?;
+    }
+    Ok(())
+}

@@ -1,0 +1,128 @@
+// What commands.txt asks:
+//
+// > check TEXT        whether the line changes or reads, or the number of its fault and the keys that it names. A caret
+//                     stands before the item that has the fault; where the fault stands elsewhere, its place is told
+// > print TEXT        the canonical text of a command, which is read and printed once more
+// > value TEXT        the line that is read, with its values
+// > opening           how many commands make the opening state
+// > opening N TEXT    whether the text is read as the Nth of these
+use crate::asked;
+use crate::faults::{found, numbered, read_line};
+use anyhow::{Result, anyhow, bail};
+use std::alloc::{AllocError, Global};
+use wm_base::Text;
+use wm_cases::Subject;
+use wm_command::{CmdFault, Line, print};
+use wm_law::opening_commands;
+
+/// Commands, their faults and their canonical texts.
+#[derive(Drop)]
+pub struct CommandCases {
+    alloc: Global,
+}
+
+impl CommandCases {
+    pub fn new(alloc: Global) -> CommandCases {
+        CommandCases { alloc }
+    }
+}
+
+impl Subject for CommandCases {
+    fn begin(&mut self) -> Result<()> {
+        Ok(())
+    }
+
+    fn answer(&mut self, question: &str, answer: &mut String) -> Result<()> {
+        let (asked, text) = asked::parts(question);
+        match asked {
+            "check" => check(self.alloc, text, answer)?,
+            "print" => print_twice(self.alloc, text, answer)?,
+            "value" => write_value(self.alloc, text, answer)?,
+            "opening" if text.is_empty() => count_opening(self.alloc, answer)?,
+            "opening" => compare_opening(self.alloc, text, answer)?,
+            _ => bail!("no question: {question}"),
+        }
+        Ok(())
+    }
+}
+
+fn without_caret(alloc: Global, text: &str) -> Result<Vec<u8>, AllocError> {
+    let mut bytes = Vec::new(alloc);
+    for byte in text.as_bytes() {
+        if *byte != b'^' {
+            bytes.push(*byte)?;
+        }
+    }
+    Ok(bytes)
+}
+
+fn push_fault(fault: CmdFault, caret: usize, answer: &mut String) -> Result<()> {
+    let (number, place) = numbered(fault);
+    write!(answer, "{number}")?;
+    match fault {
+        CmdFault::Missing(key) => write!(answer, " {key}")?,
+        CmdFault::Conflict(key, other) => write!(answer, " {key} {other}")?,
+        _ => {}
+    }
+    if place != caret {
+        write!(answer, " at {place}")?;
+    }
+    answer.push('\n')?;
+    Ok(())
+}
+
+fn check(alloc: Global, text: &str, answer: &mut String) -> Result<()> {
+    let bytes = without_caret(alloc, text)?;
+    if let Some(fault) = found(alloc, &bytes)? {
+        return push_fault(fault, text.find('^').unwrap_or(0), answer);
+    }
+    match read_line(alloc, &bytes)? {
+        Line::Change(_) => answer.push_str("changes\n")?,
+        Line::Read(_) => answer.push_str("reads\n")?,
+    }
+    Ok(())
+}
+
+fn canonical(alloc: Global, bytes: &[u8]) -> Result<Text> {
+    match read_line(alloc, bytes)? {
+        Line::Change(command) => Ok(print(alloc, &command)?),
+        Line::Read(_) => bail!("no canonical text"),
+    }
+}
+
+fn print_twice(alloc: Global, text: &str, answer: &mut String) -> Result<()> {
+    let printed = canonical(alloc, text.as_bytes())?;
+    writeln!(answer, "{printed}")?;
+    let again = canonical(alloc, printed.as_bytes())?;
+    if again != printed {
+        writeln!(answer, "and then {again}")?;
+    }
+    Ok(())
+}
+
+fn write_value(alloc: Global, text: &str, answer: &mut String) -> Result<()> {
+    let line = read_line(alloc, text.as_bytes())?;
+    writeln!(answer, "{line:?}")?;
+    Ok(())
+}
+
+fn count_opening(alloc: Global, answer: &mut String) -> Result<()> {
+    let commands = opening_commands(alloc)?;
+    writeln!(answer, "{}", commands.len())?;
+    Ok(())
+}
+
+fn compare_opening(alloc: Global, text: &str, answer: &mut String) -> Result<()> {
+    let (number, text) = asked::parts(text);
+    let number = number.parse::<usize>()?;
+    let commands = opening_commands(alloc)?;
+    let command = commands
+        .get(number.wrapping_sub(1))
+        .ok_or(anyhow!("no such command"))?;
+    let same = match read_line(alloc, text.as_bytes())? {
+        Line::Change(read) => read == *command,
+        Line::Read(_) => false,
+    };
+    writeln!(answer, "{same}")?;
+    Ok(())
+}

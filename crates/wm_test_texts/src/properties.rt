@@ -1,0 +1,170 @@
+// What holds of each key of a command, asked by items behind the command's head.
+use crate::faults::{found, numbered};
+use anyhow::{Result, anyhow};
+use std::alloc::Global;
+use wm_command::CmdFault;
+
+/// The number of no fault: the line is read.
+const TAKEN: u8 = 0;
+
+const UNKNOWN_KEYWORD: u8 = 2;
+
+const TWICE: u8 = 3;
+
+const BAD_VALUE: u8 = 5;
+
+const TOO_MANY_VALUES: u8 = 6;
+
+/// Items behind a command's head, how many were tried, and the answer to which those go that are answered otherwise
+/// than they should.
+#[derive(Drop)]
+pub struct Tried<'a> {
+    alloc: Global,
+    head: &'a str,
+    answer: &'a mut String,
+    count: u64,
+}
+
+impl<'a> Tried<'a> {
+    pub fn new(alloc: Global, head: &'a str, answer: &'a mut String) -> Tried<'a> {
+        Tried {
+            alloc,
+            head,
+            answer,
+            count: 0,
+        }
+    }
+
+    pub fn count(&self) -> u64 {
+        self.count
+    }
+
+    // The fault of an item behind a head is the one with this number, and stands at the item.
+    fn expect_behind(&mut self, head: &str, item: &str, number: u8) -> Result<()> {
+        let line = format!(in self.alloc; "{head} {item}")?;
+        let (got, place) = match found(self.alloc, line.as_bytes())? {
+            None => (TAKEN, head.len().saturating_add(1)),
+            Some(fault) => numbered(fault),
+        };
+        self.count = self.count.saturating_add(1);
+        if got != number || place != head.len().saturating_add(1) {
+            writeln!(self.answer, "{line}: {got} at {place}")?;
+        }
+        Ok(())
+    }
+
+    fn expect(&mut self, item: &str, number: u8) -> Result<()> {
+        let head = self.head;
+        self.expect_behind(head, item, number)
+    }
+
+    // The fault of each value of a key.
+    fn expect_all(&mut self, key: &str, values: &str, number: u8) -> Result<()> {
+        for value in values.split_whitespace() {
+            let item = format!(in self.alloc; "{key}({value})")?;
+            self.expect(item.as_str(), number)?;
+        }
+        Ok(())
+    }
+
+    /// The key takes some values and its special word, and refuses others.
+    pub fn takes(&mut self, key: &str, special: &str, taken: &str, refused: &str) -> Result<()> {
+        self.expect_all(key, taken, TAKEN)?;
+        self.expect_all(key, special, TAKEN)?;
+        self.expect_all(key, refused, BAD_VALUE)
+    }
+
+    /// A special word in apostrophes is a text, which the key refuses.
+    pub fn special_word(&mut self, key: &str, special: &str) -> Result<()> {
+        if special.is_empty() {
+            return Ok(());
+        }
+        let item = format!(in self.alloc; "{key}('{special}')")?;
+        self.expect(item.as_str(), BAD_VALUE)
+    }
+
+    /// The key takes one value, and is given once.
+    pub fn takes_once(&mut self, key: &str, taken: &str, refused: &str) -> Result<()> {
+        let good = first_of(taken)?;
+        let bad = first_of(refused)?;
+        let none = format!(in self.alloc; "{key}()")?;
+        self.expect(none.as_str(), BAD_VALUE)?;
+        let two = format!(in self.alloc; "{key}({good} {bad})")?;
+        self.expect(two.as_str(), TOO_MANY_VALUES)?;
+        let given = format!(in self.alloc; "{} {key}({good})", self.head)?;
+        self.expect_behind(given.as_str(), none.as_str(), TWICE)
+    }
+
+    /// The head alone is a line, or misses the key where that has a `!`.
+    pub fn required(&mut self, key: &str) -> Result<()> {
+        let fault = found(self.alloc, self.head.as_bytes())?;
+        self.count = self.count.saturating_add(1);
+        let is_told = match (key.strip_suffix('!'), fault) {
+            (None, None) => true,
+            (Some(key), Some(CmdFault::Missing(missing))) => missing.word() == key,
+            _ => false,
+        };
+        if !is_told {
+            writeln!(self.answer, "{}: {fault:?}", self.head)?;
+        }
+        Ok(())
+    }
+
+    /// The first key stands alone once, and is given then.
+    pub fn first_alone(&mut self, first: &str) -> Result<()> {
+        self.expect(first, TWICE)?;
+        self.expect("A", TOO_MANY_VALUES)?;
+        self.expect("'A'", TOO_MANY_VALUES)?;
+        self.expect("(A)", TOO_MANY_VALUES)
+    }
+
+    /// Of all keys the command has these alone.
+    pub fn no_others(&mut self, keys: &str, all: &str) -> Result<()> {
+        for key in all.split_whitespace() {
+            if !has_word(keys, key) {
+                self.expect_all(key, "A", UNKNOWN_KEYWORD)?;
+            }
+        }
+        Ok(())
+    }
+
+    fn expect_letters(&mut self, around: (&str, &str), length: usize, number: u8) -> Result<()> {
+        let item = letters(self.alloc, around.0, around.1, length)?;
+        self.expect(item.as_str(), number)
+    }
+
+    /// A text of letters has its least and its most length.
+    pub fn lengths(
+        &mut self,
+        open: &str,
+        close: &str,
+        least: u16,
+        most: u16,
+        number: u8,
+    ) -> Result<()> {
+        let (least, most) = (usize::from(least), usize::from(most));
+        if least > 0 {
+            self.expect_letters((open, close), least - 1, number)?;
+        }
+        self.expect_letters((open, close), least, TAKEN)?;
+        self.expect_letters((open, close), most, TAKEN)?;
+        self.expect_letters((open, close), most + 1, number)
+    }
+}
+
+fn first_of(values: &str) -> Result<&str> {
+    values.split_whitespace().next().ok_or(anyhow!("no values"))
+}
+
+fn has_word(words: &str, word: &str) -> bool {
+    words.split_whitespace().any(|own| own == word)
+}
+
+fn letters(alloc: Global, open: &str, close: &str, length: usize) -> Result<String> {
+    let mut text = open.to_string(alloc)?;
+    for _ in 0..length {
+        text.push('A')?;
+    }
+    text.push_str(close)?;
+    Ok(text)
+}

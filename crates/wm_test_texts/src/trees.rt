@@ -1,0 +1,71 @@
+// What trees.txt asks:
+//
+// > read TEXT    the name of the command that the bytes are, and each item with its place and its length, those of a
+//                list two blanks deeper; or the fault
+use crate::asked;
+use anyhow::{Result, bail};
+use std::alloc::Global;
+use wm_cases::{Subject, bytes_of};
+use wm_clwords::{Item, read_command};
+
+/// Trees.
+#[derive(Drop)]
+pub struct TreeCases {
+    alloc: Global,
+}
+
+impl TreeCases {
+    pub fn new(alloc: Global) -> TreeCases {
+        TreeCases { alloc }
+    }
+}
+
+impl Subject for TreeCases {
+    fn begin(&mut self) -> Result<()> {
+        Ok(())
+    }
+
+    fn answer(&mut self, question: &str, answer: &mut String) -> Result<()> {
+        let (asked, text) = asked::parts(question);
+        match asked {
+            "read" => read(self.alloc, text, answer)?,
+            _ => bail!("no question: {question}"),
+        }
+        Ok(())
+    }
+}
+
+fn read(alloc: Global, text: &str, answer: &mut String) -> Result<()> {
+    match read_command(alloc, &bytes_of(alloc, text)?) {
+        Err(fault) => writeln!(answer, "{fault:?}")?,
+        Ok(tree) => {
+            writeln!(answer, "{}", tree.name)?;
+            for item in &tree.items {
+                push_item(item, 0, answer)?;
+            }
+        }
+    }
+    Ok(())
+}
+
+// An item, and those in it two blanks deeper.
+fn push_item(item: &Item, depth: usize, answer: &mut String) -> Result<()> {
+    write!(answer, "{:depth$}", "")?;
+    match item {
+        Item::Word(span, text) => writeln!(answer, "{} {} word {text}", span.place, span.len)?,
+        Item::Quoted(span, text) => writeln!(answer, "{} {} text {text}", span.place, span.len)?,
+        Item::List(span, items) => {
+            writeln!(answer, "{} {} list", span.place, span.len)?;
+            for item in items {
+                push_item(item, depth.saturating_add(2), answer)?;
+            }
+        }
+        Item::Keyed(span, key, items) => {
+            writeln!(answer, "{} {} key {key}", span.place, span.len)?;
+            for item in items {
+                push_item(item, depth.saturating_add(2), answer)?;
+            }
+        }
+    }
+    Ok(())
+}
