@@ -79,6 +79,8 @@ impl Spawner for Telling {
 
     ghost reporting = { λ _. None };
 
+    ghost awaited = { λ _. None };
+
     fn start(&mut self, order: &StartOrder) -> Result<(), StartFault> {
         self.running = Some(order.serial);
         Ok(())
@@ -101,4 +103,6 @@ impl Spawner for Telling {
     }
 
     ghost told_with_out = { λ _. refl };
+
+    ghost reporting_are_out = { λ _. tt };
 }
