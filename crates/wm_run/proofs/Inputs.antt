@@ -57,12 +57,3 @@ input_end x y b old mid new u v w f g h is begun grown taken ended =
           (subst (λ (es : List Entry). AnsweredBy (Answers (logical_lines xs)) es u w (f || g)) (sym (session_entries-then old mid new begun grown))
           (subst (λ (l : List (Option (List ℕ))). AnsweredBy (Answers l) (entries_of session_pass (since old mid) ++ entries_of session_pass (since mid new)) u w (f || g)) (sym lines) both));
     }
-
--- so many, and then so many more
-pub count_then : (x y z : Option (List ℕ)) (n m t : ℕ) → t ≡ n + m → TakesInput x y (λ bytes. length bytes ≡ n) → TakesInput y z (λ bytes. length bytes ≡ m) → TakesInput x z (λ bytes. length bytes ≡ t)
-count_then x y z n m t is first second =
-    record {
-      bytes = first.bytes ++ second.bytes;
-      taken = Takes-then x y z first.bytes second.bytes first.taken second.taken;
-      done = let both = length-append first.bytes second.bytes in let a = first.done in let b = second.done in omega arith;
-    }

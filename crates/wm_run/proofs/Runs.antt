@@ -143,10 +143,6 @@ is_status (Err NoMemory) = refl
 is_status (Err WaitFault) = refl
 is_status (Err InputFull) = refl
 
--- a session that stopped, of a history that begins with nothing
-pub stopped_from : (first log : List Entry) (x y u v : Option (List ℕ)) → first ≡ [] → TakesInput x y (λ bytes. IsStopped (logical_lines bytes) (entries_of session_pass (since first log)) u v) → TakesInput x y (λ bytes. IsStopped (logical_lines bytes) (entries_of session_pass log) u v)
-stopped_from first log x y u v none h = subst (λ (l : List Entry). TakesInput x y (λ bytes. IsStopped (logical_lines bytes) (entries_of session_pass (since l log)) u v)) none h
-
 few_kept : (kept : Option Report) → length (option_to_list kept) ≤ 1
 few_kept None = omega arith
 few_kept (Some report) = omega arith
@@ -167,7 +163,3 @@ IsServed-none log kept a t x none empty =
 -- all entries are the run's own
 pub callers_from : (first log : List Entry) → first ≡ [] → list_all is_of_run (since first log) ≡ true → list_all is_of_run log ≡ true
 callers_from first log none h = subst (λ (l : List Entry). list_all is_of_run (since l log) ≡ true) none h
-
--- a session of a history that begins with nothing
-pub session_from : (first log : List Entry) (x y u v : Option (List ℕ)) (f : Bool) → first ≡ [] → TakesInput x y (λ bytes. IsSession (logical_lines bytes) (entries_of session_pass (since first log)) u v f) → TakesInput x y (λ bytes. IsSession (logical_lines bytes) (entries_of session_pass log) u v f)
-session_from first log x y u v f none h = subst (λ (l : List Entry). TakesInput x y (λ bytes. IsSession (logical_lines bytes) (entries_of session_pass (since l log)) u v f)) none h

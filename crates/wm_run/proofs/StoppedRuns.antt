@@ -142,15 +142,6 @@ input_stops_last x y b old mid new u v w f begun grown h k =
           (StopsIn-after d.lines (lines_from b []) _ _ u v w f d.answered k));
     }
 
--- no more input was taken than a run takes
-pub not_full : {T : Type 0} (r : Result T Stop) (x y : Option (List ℕ)) (n : ℕ) → (IsErrOf r InputFull → ⊥) → TakesInput x y (λ bytes. length bytes ≡ n) → n ≤ 1000000000 → TakesInput x y (λ bytes. IsErrOf r InputFull ↔ (1000000000 < length bytes))
-not_full r x y n never h few =
-    record { bytes = h.bytes; taken = h.taken; done = ((λ f. absurd (never f)), (λ more. let d = h.done in absurd (omega arith))) }
-
--- nothing was taken
-pub not_full_none : {T : Type 0} (r : Result T Stop) (x : Option (List ℕ)) → (IsErrOf r InputFull → ⊥) → TakesInput x x (λ bytes. IsErrOf r InputFull ↔ (1000000000 < length bytes))
-not_full_none r x never = record { bytes = []; taken = Takes-none x; done = ((λ f. absurd (never f)), (λ more. absurd (omega arith))) }
-
 -- the same of an error that is passed on
 abbrev pub full_pass : {T U : Type 0} (r : Result T Stop) (q : Result U Stop) (e d : Stop) (x y : Option (List ℕ)) → r ≡ Err e → q ≡ Err d → d ≡ e → TakesInput x y (λ bytes. IsErrOf r InputFull ↔ (1000000000 < length bytes)) → TakesInput x y (λ bytes. IsErrOf q InputFull ↔ (1000000000 < length bytes))
 full_pass r q e d x y was is same h =

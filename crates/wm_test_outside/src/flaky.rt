@@ -1,4 +1,5 @@
 // Streams and a clock of the tests, which fail where a case wants it.
+use std::cell::Cell;
 use std::io::{Error, ErrorKind, Read, Write};
 use std::time::Duration;
 use std::{io, rt};
@@ -81,5 +82,32 @@ impl rt::Clock for Stopped {
             Some(seconds) => Ok(Duration::from_secs(seconds)),
             None => Err(Error::from(ErrorKind::Unsupported)),
         }
+    }
+}
+
+/// A clock that is set back after it was read once.
+#[derive(Drop)]
+pub struct SetBack {
+    next: Cell<u64>,
+    later: u64,
+}
+
+impl SetBack {
+    /// A clock that stands at the first second, and then at the later one.
+    pub fn new(first: u64, later: u64) -> SetBack {
+        SetBack {
+            next: Cell::new(first),
+            later,
+        }
+    }
+}
+
+impl rt::Clock for SetBack {
+    fn monotonic(&self) -> io::Result<Duration> {
+        Err(Error::from(ErrorKind::Unsupported))
+    }
+
+    fn since_1970(&self) -> io::Result<Duration> {
+        Ok(Duration::from_secs(self.next.replace(self.later)))
     }
 }

@@ -1,6 +1,6 @@
 // The adapters of the real things.
 use super::answers::{answer_bytes, answer_look};
-use super::flaky::{Flaky, Full, Stopped};
+use super::flaky::{Flaky, Full, SetBack, Stopped};
 use super::spawners::ask_spawner;
 use super::streams::{read, write};
 use super::words::{BAR, first_word, unknown};
@@ -48,6 +48,15 @@ fn write_writer(alloc: Global, words: &str, answer: &mut String) -> Result<()> {
     }
 }
 
+// The moments of a clock that is `back 1000 900`.
+fn ask_set_back(words: &str, answer: &mut String) -> Result<()> {
+    let (first, later) = first_word(words);
+    let mut clock = SysClock::new(SetBack::new(first.parse::<u64>()?, later.parse::<u64>()?));
+    writeln!(answer, "{}", clock.now())?;
+    writeln!(answer, "{}", clock.now())?;
+    Ok(())
+}
+
 // The moment of a clock `at 1000` and of one that is `unreadable`, and whether the real one is `past 1000`.
 fn ask_clock<C: rt::Clock>(real: &C, words: &str, answer: &mut String) -> Result<()> {
     match first_word(words) {
@@ -55,6 +64,7 @@ fn ask_clock<C: rt::Clock>(real: &C, words: &str, answer: &mut String) -> Result
             let stopped = Stopped(Some(seconds.parse::<u64>()?));
             writeln!(answer, "{}", SysClock::new(stopped).now())?;
         }
+        ("back", seconds) => ask_set_back(seconds, answer)?,
         ("unreadable", _) => writeln!(answer, "{}", SysClock::new(Stopped(None)).now())?,
         ("past", seconds) => {
             let is_past = SysClock::new(real).now().get() > seconds.parse::<u64>()?;
