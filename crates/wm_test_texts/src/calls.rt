@@ -7,9 +7,10 @@
 //                            first are
 // > names TEXT               for each item of a command, the object and the program that it names
 use crate::asked;
-use anyhow::{Result, anyhow, bail, ensure};
+use crate::names::two;
+use anyhow::{Result, bail, ensure};
 use std::alloc::Global;
-use wm_base::{Args, Name, QName, Text, is_text};
+use wm_base::{Args, QName, Text, is_text};
 use wm_cases::{Subject, bytes_of};
 use wm_clwords::{
     CallFault, CallText, Item, call_text, read_call, read_call_items, read_command, read_object,
@@ -47,14 +48,6 @@ impl Subject for CallCases {
     }
 }
 
-fn program_of(text: &str) -> Result<QName> {
-    let (lib, name) = text.split_once('/').ok_or(anyhow!("a library"))?;
-    Ok(QName {
-        lib: Name::read(lib.as_bytes())?,
-        name: Name::read(name.as_bytes())?,
-    })
-}
-
 fn push_value(alloc: Global, values: &mut Args, text: &str) -> Result<()> {
     ensure!(is_text(text.as_bytes()), "no text");
     values.push(Text::from_bytes(alloc, text.as_bytes())?)?;
@@ -67,7 +60,8 @@ fn print(alloc: Global, text: &str, answer: &mut String) -> Result<()> {
     for text in texts.split_whitespace() {
         push_value(alloc, &mut values, text)?;
     }
-    let text = call_text(alloc, &program_of(program)?, &values)?;
+    let (lib, name) = two(program, '/')?;
+    let text = call_text(alloc, &QName { lib, name }, &values)?;
     writeln!(answer, "{text}")?;
     Ok(())
 }
@@ -90,7 +84,8 @@ fn read(alloc: Global, text: &str, answer: &mut String) -> Result<()> {
 }
 
 fn count_values(alloc: Global, text: &str, answer: &mut String) -> Result<()> {
-    match read_call(alloc, &bytes_of(alloc, text)?) {
+    let read = read_call(alloc, &bytes_of(alloc, text)?);
+    match read {
         Err(fault) => writeln!(answer, "{fault:?}")?,
         Ok(call) => writeln!(answer, "{}", call.parms.len())?,
     }

@@ -8,12 +8,12 @@
 // > opening N TEXT    whether the text is read as the Nth of these
 use crate::asked;
 use crate::faults::{found, numbered, read_line};
-use anyhow::{Result, anyhow, bail};
+use anyhow::{Result, bail};
 use std::alloc::{AllocError, Global};
 use wm_base::Text;
 use wm_cases::Subject;
 use wm_command::{CmdFault, Line, print};
-use wm_law::opening_commands;
+use wm_law::{Command, opening_commands};
 
 /// Commands, their faults and their canonical texts.
 #[derive(Drop)]
@@ -76,11 +76,15 @@ fn check(alloc: Global, text: &str, answer: &mut String) -> Result<()> {
     if let Some(fault) = found(alloc, &bytes)? {
         return push_fault(fault, text.find('^').unwrap_or(0), answer);
     }
-    match read_line(alloc, &bytes)? {
-        Line::Change(_) => answer.push_str("changes\n")?,
-        Line::Read(_) => answer.push_str("reads\n")?,
-    }
+    answer.push_str(changes_or_reads(&read_line(alloc, &bytes)?))?;
     Ok(())
+}
+
+fn changes_or_reads(line: &Line) -> &'static str {
+    match line {
+        Line::Change(_) => "changes\n",
+        Line::Read(_) => "reads\n",
+    }
 }
 
 fn canonical(alloc: Global, bytes: &[u8]) -> Result<Text> {
@@ -93,8 +97,13 @@ fn canonical(alloc: Global, bytes: &[u8]) -> Result<Text> {
 fn print_twice(alloc: Global, text: &str, answer: &mut String) -> Result<()> {
     let printed = canonical(alloc, text.as_bytes())?;
     writeln!(answer, "{printed}")?;
+    print_again(alloc, &printed, answer)
+}
+
+// Tells where the canonical text is read as another command.
+fn print_again(alloc: Global, printed: &Text, answer: &mut String) -> Result<()> {
     let again = canonical(alloc, printed.as_bytes())?;
-    if again != printed {
+    if again != *printed {
         writeln!(answer, "and then {again}")?;
     }
     Ok(())
@@ -114,15 +123,21 @@ fn count_opening(alloc: Global, answer: &mut String) -> Result<()> {
 
 fn compare_opening(alloc: Global, text: &str, answer: &mut String) -> Result<()> {
     let (number, text) = asked::parts(text);
-    let number = number.parse::<usize>()?;
-    let commands = opening_commands(alloc)?;
-    let command = commands
-        .get(number.wrapping_sub(1))
-        .ok_or(anyhow!("no such command"))?;
-    let same = match read_line(alloc, text.as_bytes())? {
-        Line::Change(read) => read == *command,
-        Line::Read(_) => false,
-    };
+    let line = read_line(alloc, text.as_bytes())?;
+    let same = is_opening(alloc, number.parse::<usize>()?, &line)?;
     writeln!(answer, "{same}")?;
     Ok(())
+}
+
+// Whether a line is the command with this number of those that make the opening state.
+fn is_opening(alloc: Global, number: usize, line: &Line) -> Result<bool> {
+    let commands = opening_commands(alloc)?;
+    Ok(is_change(line, commands.get(number.wrapping_sub(1))))
+}
+
+fn is_change(line: &Line, command: Option<&Command>) -> bool {
+    match (line, command) {
+        (Line::Change(read), Some(command)) => read == command,
+        _ => false,
+    }
 }

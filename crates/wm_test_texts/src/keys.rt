@@ -14,7 +14,7 @@
 // The answer has each item that was answered otherwise than it should, and is empty where none was.
 use crate::asked;
 use crate::properties::Tried;
-use anyhow::{Result, anyhow, bail};
+use anyhow::{Result, bail};
 use std::alloc::{AllocError, Global};
 use std::collections::BTreeMap;
 use wm_cases::Subject;
@@ -52,42 +52,23 @@ impl KeyCases {
         }
     }
 
-    fn key(&mut self, text: &str, answer: &mut String) -> Result<()> {
-        let fields = fields(self.alloc, text)?;
-        let [head, key, special, taken, refused] = *fields else {
-            bail!("five fields: {text}");
+    // Asks what the fields say of a key, a command or a length.
+    fn try_fields(&mut self, asked: &str, fields: &[&str], answer: &mut String) -> Result<()> {
+        let Some((head, others)) = fields.split_first() else {
+            bail!("no fields");
         };
-        let mut tried = Tried::new(self.alloc, head, answer);
-        tried.required(key)?;
-        let key = key.trim_end_matches('!');
-        let (taken, refused) = (self.values(taken), self.values(refused));
-        tried.takes(key, special, taken, refused)?;
-        tried.takes_once(key, taken, refused)?;
-        tried.special_word(key, special)?;
-        self.tried = self.tried.saturating_add(tried.count());
-        Ok(())
-    }
-
-    fn command(&mut self, text: &str, answer: &mut String) -> Result<()> {
-        let fields = fields(self.alloc, text)?;
-        let [head, first, keys, all] = *fields else {
-            bail!("four fields: {text}");
-        };
-        let mut tried = Tried::new(self.alloc, head, answer);
-        tried.first_alone(first)?;
-        tried.no_others(keys, self.values(all))?;
-        self.tried = self.tried.saturating_add(tried.count());
-        Ok(())
-    }
-
-    fn length(&mut self, text: &str, answer: &mut String) -> Result<()> {
-        let fields = fields(self.alloc, text)?;
-        let [head, open, close, least, most, fault] = *fields else {
-            bail!("six fields: {text}");
-        };
-        let (least, most) = (least.parse::<u16>()?, most.parse::<u16>()?);
-        let mut tried = Tried::new(self.alloc, head, answer);
-        tried.lengths(open, close, least, most, fault.parse::<u8>()?)?;
+        let mut tried = Tried::new(self.alloc, *head, answer);
+        match (asked, others) {
+            ("key", [key, special, taken, refused]) => {
+                tried.key(*key, *special, self.values(*taken), self.values(*refused))?
+            }
+            ("command", [first, keys, all]) => tried.command(*first, *keys, self.values(*all))?,
+            ("length", [open, close, least, most, fault]) => {
+                let around = (*open, *close);
+                tried.lengths(around, least.parse()?, most.parse()?, fault.parse()?)?
+            }
+            _ => bail!("no question: {asked}"),
+        }
         self.tried = self.tried.saturating_add(tried.count());
         Ok(())
     }
@@ -104,11 +85,11 @@ impl Subject for KeyCases {
         let (asked, text) = asked::parts(question);
         match asked {
             "list" => self.list(text)?,
-            "key" => self.key(text, answer)?,
-            "command" => self.command(text, answer)?,
-            "length" => self.length(text, answer)?,
             "asked" => writeln!(answer, "{}", self.tried)?,
-            _ => bail!("no question: {question}"),
+            _ => {
+                let fields = fields(self.alloc, text)?;
+                self.try_fields(asked, &fields, answer)?;
+            }
         }
         Ok(())
     }

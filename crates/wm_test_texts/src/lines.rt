@@ -37,6 +37,14 @@ impl LineCases {
         Ok(())
     }
 
+    fn join(&self, text: &str, answer: &mut String) -> Result<()> {
+        if text.is_empty() {
+            return join(self.alloc, &self.typed, answer);
+        }
+        let input = bytes_of(self.alloc, text)?;
+        join(self.alloc, &input, answer)
+    }
+
     fn feed(&mut self, text: &str, answer: &mut String) -> Result<()> {
         let (taken, line) = self.joiner.feed(&bytes_of(self.alloc, text)?);
         writeln!(answer, "{taken} taken")?;
@@ -66,8 +74,7 @@ impl Subject for LineCases {
         let (asked, text) = asked::parts(question);
         match asked {
             "typed" => self.typed(text)?,
-            "join" if text.is_empty() => join(self.alloc, &self.typed, answer)?,
-            "join" => join(self.alloc, &bytes_of(self.alloc, text)?, answer)?,
+            "join" => self.join(text, answer)?,
             "feed" => self.feed(text, answer)?,
             "end" => self.end(answer)?,
             "line" => self.line(text, answer)?,

@@ -7,7 +7,8 @@ use wm_cases::{bytes_of, visible};
 
 /// The name that the bytes are.
 pub fn name(alloc: Global, text: &str, answer: &mut String) -> Result<()> {
-    match Name::read(&bytes_of(alloc, text)?) {
+    let read = Name::read(&bytes_of(alloc, text)?);
+    match read {
         Ok(name) => writeln!(answer, "{name}")?,
         Err(fault) => writeln!(answer, "{fault}")?,
     }
@@ -22,9 +23,9 @@ pub fn views(alloc: Global, text: &str, answer: &mut String) -> Result<()> {
     Ok(())
 }
 
-// Two names that stand beside one another.
-fn two(text: &str) -> Result<(Name, Name)> {
-    let (first, second) = text.split_once(' ').ok_or(anyhow!("two names"))?;
+/// Two names that are parted by this character.
+pub fn two(text: &str, parted: char) -> Result<(Name, Name)> {
+    let (first, second) = text.split_once(parted).ok_or(anyhow!("two names"))?;
     Ok((
         Name::read(first.as_bytes())?,
         Name::read(second.as_bytes())?,
@@ -33,7 +34,7 @@ fn two(text: &str) -> Result<(Name, Name)> {
 
 /// How two names are ordered.
 pub fn order(text: &str, answer: &mut String) -> Result<()> {
-    let (first, second) = two(text)?;
+    let (first, second) = two(text, ' ')?;
     if first == Name::of(second.as_bytes()) {
         answer.push_str("equal\n")?;
     } else if first < second {
@@ -65,39 +66,48 @@ fn grow(text: &mut Text, piece: &str) -> Result<()> {
     Ok(())
 }
 
-/// A text that grows by pieces.
+/// A text that got pieces at its end.
 pub fn grown(alloc: Global, pieces: &str, answer: &mut String) -> Result<()> {
     let mut text = Text::new(alloc);
-    writeln!(answer, "empty {}", text.is_empty())?;
     for piece in pieces.split_whitespace() {
         grow(&mut text, piece)?;
     }
-    let bytes = visible(alloc, text.as_bytes())?;
-    writeln!(answer, "{} bytes: {bytes}", text.len())?;
-    writeln!(answer, "text {}, printed {text}", text.as_str())?;
-    let same = text_of(alloc, text.as_bytes())?;
-    writeln!(answer, "copy {}", text.clone()? == same)?;
+    write_grown(&text, answer)?;
+    let same = is_copied(alloc, &text)?;
+    writeln!(answer, "copied {same}")?;
     Ok(())
 }
 
-/// Arguments that grow by texts.
+fn write_grown(text: &Text, answer: &mut String) -> Result<()> {
+    writeln!(answer, "empty {}, {} bytes", text.is_empty(), text.len())?;
+    writeln!(answer, "text <{}>, printed <{text}>", text.as_str())?;
+    Ok(())
+}
+
+// Whether a copy is the text of the bytes that the text has as a `str`.
+fn is_copied(alloc: Global, text: &Text) -> Result<bool> {
+    let same = text_of(alloc, text.as_str().as_bytes())?;
+    Ok(text.clone()? == same)
+}
+
+/// Arguments that got texts at their end.
 pub fn args(alloc: Global, texts: &str, answer: &mut String) -> Result<()> {
     let mut args = Args::new(alloc);
-    writeln!(answer, "empty {}", args.is_empty())?;
     for text in texts.split_whitespace() {
         args.push(text_of(alloc, text.as_bytes())?)?;
     }
-    writeln!(answer, "{} arguments", args.len())?;
+    write_args(&args, answer)?;
     let copy = args.clone()?;
-    writeln!(answer, "copy {}", copy == args)?;
+    let same = copy == args;
     let items: Vec<Text> = args.into();
-    write_texts(&items, answer)?;
-    writeln!(answer, "again {}", Args::from(items) == copy)?;
+    let again = Args::from(items) == copy;
+    writeln!(answer, "copied {same} {again}")?;
     Ok(())
 }
 
-fn write_texts(texts: &[Text], answer: &mut String) -> Result<()> {
-    for text in texts {
+fn write_args(args: &Args, answer: &mut String) -> Result<()> {
+    writeln!(answer, "empty {}, {} texts", args.is_empty(), args.len())?;
+    for text in args.as_slice() {
         writeln!(answer, "{text}")?;
     }
     Ok(())
@@ -105,7 +115,7 @@ fn write_texts(texts: &[Text], answer: &mut String) -> Result<()> {
 
 /// A qualified name as it is printed.
 pub fn qname(text: &str, answer: &mut String) -> Result<()> {
-    let (lib, name) = two(text)?;
+    let (lib, name) = two(text, ' ')?;
     writeln!(answer, "{}", QName { lib, name })?;
     Ok(())
 }
@@ -113,7 +123,7 @@ pub fn qname(text: &str, answer: &mut String) -> Result<()> {
 /// A job's full name as it is printed.
 pub fn job(text: &str, answer: &mut String) -> Result<()> {
     let (number, names) = text.split_once(' ').ok_or(anyhow!("a number"))?;
-    let (user, name) = two(names)?;
+    let (user, name) = two(names, ' ')?;
     let number = job_number(number)?;
     writeln!(answer, "{}", JobName { number, user, name })?;
     Ok(())

@@ -58,24 +58,32 @@ impl<'a> Tried<'a> {
         self.expect_behind(head, item, number)
     }
 
+    fn expect_value(&mut self, key: &str, value: &str, number: u8) -> Result<()> {
+        let item = format!(in self.alloc; "{key}({value})")?;
+        self.expect(item.as_str(), number)
+    }
+
     // The fault of each value of a key.
     fn expect_all(&mut self, key: &str, values: &str, number: u8) -> Result<()> {
         for value in values.split_whitespace() {
-            let item = format!(in self.alloc; "{key}({value})")?;
-            self.expect(item.as_str(), number)?;
+            self.expect_value(key, value, number)?;
         }
         Ok(())
     }
 
-    /// The key takes some values and its special word, and refuses others.
-    pub fn takes(&mut self, key: &str, special: &str, taken: &str, refused: &str) -> Result<()> {
-        self.expect_all(key, taken, TAKEN)?;
-        self.expect_all(key, special, TAKEN)?;
-        self.expect_all(key, refused, BAD_VALUE)
+    fn expect_two(&mut self, key: &str, good: &str, bad: &str) -> Result<()> {
+        let item = format!(in self.alloc; "{key}({good} {bad})")?;
+        self.expect(item.as_str(), TOO_MANY_VALUES)
     }
 
-    /// A special word in apostrophes is a text, which the key refuses.
-    pub fn special_word(&mut self, key: &str, special: &str) -> Result<()> {
+    fn expect_twice(&mut self, key: &str, good: &str) -> Result<()> {
+        let head = format!(in self.alloc; "{} {key}({good})", self.head)?;
+        let item = format!(in self.alloc; "{key}()")?;
+        self.expect_behind(head.as_str(), item.as_str(), TWICE)
+    }
+
+    // A special word in apostrophes is a text, which the key refuses.
+    fn expect_quoted(&mut self, key: &str, special: &str) -> Result<()> {
         if special.is_empty() {
             return Ok(());
         }
@@ -83,52 +91,49 @@ impl<'a> Tried<'a> {
         self.expect(item.as_str(), BAD_VALUE)
     }
 
-    /// The key takes one value, and is given once.
-    pub fn takes_once(&mut self, key: &str, taken: &str, refused: &str) -> Result<()> {
-        let good = first_of(taken)?;
-        let bad = first_of(refused)?;
-        let none = format!(in self.alloc; "{key}()")?;
-        self.expect(none.as_str(), BAD_VALUE)?;
-        let two = format!(in self.alloc; "{key}({good} {bad})")?;
-        self.expect(two.as_str(), TOO_MANY_VALUES)?;
-        let given = format!(in self.alloc; "{} {key}({good})", self.head)?;
-        self.expect_behind(given.as_str(), none.as_str(), TWICE)
-    }
-
-    /// The head alone is a line, or misses the key where that has a `!`.
-    pub fn required(&mut self, key: &str) -> Result<()> {
+    // The head alone is a line, or misses the key where that has a `!`.
+    fn required(&mut self, key: &str) -> Result<()> {
         let fault = found(self.alloc, self.head.as_bytes())?;
         self.count = self.count.saturating_add(1);
-        let is_told = match (key.strip_suffix('!'), fault) {
-            (None, None) => true,
-            (Some(key), Some(CmdFault::Missing(missing))) => missing.word() == key,
-            _ => false,
-        };
-        if !is_told {
+        if !misses(fault, key.strip_suffix('!')) {
             writeln!(self.answer, "{}: {fault:?}", self.head)?;
         }
         Ok(())
     }
 
-    /// The first key stands alone once, and is given then.
-    pub fn first_alone(&mut self, first: &str) -> Result<()> {
-        self.expect(first, TWICE)?;
-        self.expect("A", TOO_MANY_VALUES)?;
-        self.expect("'A'", TOO_MANY_VALUES)?;
-        self.expect("(A)", TOO_MANY_VALUES)
+    /// The key takes some values and its special word, and refuses others. It takes one value, and is given once.
+    pub fn key(&mut self, key: &str, special: &str, taken: &str, refused: &str) -> Result<()> {
+        self.required(key)?;
+        let key = key.trim_end_matches('!');
+        let good = first_of(taken)?;
+        self.expect_all(key, taken, TAKEN)?;
+        self.expect_all(key, special, TAKEN)?;
+        self.expect_all(key, refused, BAD_VALUE)?;
+        self.expect_quoted(key, special)?;
+        self.expect_value(key, "", BAD_VALUE)?;
+        self.expect_two(key, good, first_of(refused)?)?;
+        self.expect_twice(key, good)
     }
 
-    /// Of all keys the command has these alone.
-    pub fn no_others(&mut self, keys: &str, all: &str) -> Result<()> {
+    /// The first key stands alone once, and is given then. Of all keys the command has its own alone.
+    pub fn command(&mut self, first: &str, keys: &str, all: &str) -> Result<()> {
+        self.expect(first, TWICE)?;
+        for item in ["A", "'A'", "(A)"] {
+            self.expect(item, TOO_MANY_VALUES)?;
+        }
+        self.no_others(keys, all)
+    }
+
+    fn no_others(&mut self, keys: &str, all: &str) -> Result<()> {
         for key in all.split_whitespace() {
             if !has_word(keys, key) {
-                self.expect_all(key, "A", UNKNOWN_KEYWORD)?;
+                self.expect_value(key, "A", UNKNOWN_KEYWORD)?;
             }
         }
         Ok(())
     }
 
-    fn expect_letters(&mut self, around: (&str, &str), length: usize, number: u8) -> Result<()> {
+    fn expect_letters(&mut self, around: (&str, &str), length: u16, number: u8) -> Result<()> {
         let item = letters(self.alloc, around.0, around.1, length)?;
         self.expect(item.as_str(), number)
     }
@@ -136,19 +141,26 @@ impl<'a> Tried<'a> {
     /// A text of letters has its least and its most length.
     pub fn lengths(
         &mut self,
-        open: &str,
-        close: &str,
+        around: (&str, &str),
         least: u16,
         most: u16,
         number: u8,
     ) -> Result<()> {
-        let (least, most) = (usize::from(least), usize::from(most));
         if least > 0 {
-            self.expect_letters((open, close), least - 1, number)?;
+            self.expect_letters(around, least - 1, number)?;
         }
-        self.expect_letters((open, close), least, TAKEN)?;
-        self.expect_letters((open, close), most, TAKEN)?;
-        self.expect_letters((open, close), most + 1, number)
+        self.expect_letters(around, least, TAKEN)?;
+        self.expect_letters(around, most, TAKEN)?;
+        self.expect_letters(around, most.saturating_add(1), number)
+    }
+}
+
+// Whether the fault is that this key is missing, or there is neither.
+fn misses(fault: Option<CmdFault>, key: Option<&str>) -> bool {
+    match (fault, key) {
+        (None, None) => true,
+        (Some(CmdFault::Missing(missing)), Some(key)) => missing.word() == key,
+        _ => false,
     }
 }
 
@@ -160,7 +172,7 @@ fn has_word(words: &str, word: &str) -> bool {
     words.split_whitespace().any(|own| own == word)
 }
 
-fn letters(alloc: Global, open: &str, close: &str, length: usize) -> Result<String> {
+fn letters(alloc: Global, open: &str, close: &str, length: u16) -> Result<String> {
     let mut text = open.to_string(alloc)?;
     for _ in 0..length {
         text.push('A')?;

@@ -4,8 +4,7 @@
 use anyhow::{Result, ensure};
 use wm_cases::Subject;
 use wm_command::{
-    CHANGES, READS, Row, RowDefault, Special, ValueKind, change_rows, change_word, read_rows,
-    read_word,
+    CHANGES, READS, Row, RowDefault, ValueKind, change_rows, change_word, read_rows, read_word,
 };
 
 /// The command table.
@@ -49,14 +48,21 @@ fn push_command(word: &str, rows: &[Row], page: &mut String) -> Result<()> {
 }
 
 fn push_row(word: &str, row: &Row, page: &mut String) -> Result<()> {
+    let special = row.2.word();
     write!(page, "| {word} | {} | ", row.0)?;
     push_kind(row.1, page)?;
-    if row.2 != Special::Never {
-        write!(page, r" or \{}", row.2.word())?;
-    }
+    push_special(special, page)?;
     page.push_str(" | ")?;
-    push_default(row.3, row.2, page)?;
+    push_default(row.3, special, page)?;
     page.push_str(" |\n")?;
+    Ok(())
+}
+
+fn push_special(word: &str, page: &mut String) -> Result<()> {
+    if !word.is_empty() {
+        page.push_str(r" or \")?;
+        page.push_str(word)?;
+    }
     Ok(())
 }
 
@@ -80,11 +86,11 @@ fn push_kind(kind: ValueKind, page: &mut String) -> Result<()> {
     Ok(())
 }
 
-fn push_default(default: RowDefault, special: Special, page: &mut String) -> Result<()> {
+fn push_default(default: RowDefault, special: &str, page: &mut String) -> Result<()> {
     match default {
         RowDefault::Required => page.push_str("required")?,
         RowDefault::Nothing => page.push_str("none")?,
-        RowDefault::Special => write!(page, r"\{}", special.word())?,
+        RowDefault::Special => write!(page, r"\{special}")?,
         RowDefault::Number(n) => write!(page, "{n}")?,
         RowDefault::Yes => page.push_str(r"\*YES")?,
         RowDefault::No => page.push_str(r"\*NO")?,

@@ -6,7 +6,7 @@ use crate::asked;
 use anyhow::{Result, bail};
 use std::alloc::Global;
 use wm_cases::{Subject, bytes_of};
-use wm_clwords::{Item, read_command};
+use wm_clwords::{Item, Tree, read_command};
 
 /// Trees.
 #[derive(Drop)]
@@ -36,14 +36,18 @@ impl Subject for TreeCases {
 }
 
 fn read(alloc: Global, text: &str, answer: &mut String) -> Result<()> {
-    match read_command(alloc, &bytes_of(alloc, text)?) {
+    let read = read_command(alloc, &bytes_of(alloc, text)?);
+    match read {
         Err(fault) => writeln!(answer, "{fault:?}")?,
-        Ok(tree) => {
-            writeln!(answer, "{}", tree.name)?;
-            for item in &tree.items {
-                push_item(item, 0, answer)?;
-            }
-        }
+        Ok(tree) => push_tree(&tree, answer)?,
+    }
+    Ok(())
+}
+
+fn push_tree(tree: &Tree, answer: &mut String) -> Result<()> {
+    writeln!(answer, "{}", tree.name)?;
+    for item in &tree.items {
+        push_item(item, 0, answer)?;
     }
     Ok(())
 }
