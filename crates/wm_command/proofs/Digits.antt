@@ -83,7 +83,7 @@ unfolding zero_padded
 padded_some w n h =
     omega (arith, length-append (replicate (w - length (decimal n)) 48) (decimal n), decimal_some n h)
 
-padded_length : (w n : ℕ) → length (decimal n) ≤ w → length (zero_padded w n) ≡ w
+pub padded_length : (w n : ℕ) → length (decimal n) ≤ w → length (zero_padded w n) ≡ w
 unfolding zero_padded
 padded_length w n h =
     length-append (replicate (w - length (decimal n)) 48) (decimal n)

@@ -3,6 +3,7 @@ mod CommandForms
 mod Digits
 mod FieldForms
 mod LawForms
+mod Lengths
 mod Plain
 mod PrintValues
 mod ReadBack

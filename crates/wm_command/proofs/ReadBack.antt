@@ -1,5 +1,5 @@
 -- The text that is printed of a command is read as that command.
-use Rattle.std.proofs.Common.{◌≡◌, ℕ, ◌≤◌, ◌+◌, ◌-◌, ◌++◌, ◌||◌, Bool, true, false, cond, List, [], ◌∷◌, length, map, Some, Ok, Err, subst, sym, ◌∙◌, ap, refl, arith}
+use Rattle.std.proofs.Common.{◌≡◌, ℕ, ◌≤◌, ◌+◌, ◌-◌, ◌++◌, ◌||◌, Bool, true, false, cond, List, [], ◌∷◌, length, map, Some, Ok, Err, lit≤, subst, sym, ◌∙◌, ap, refl, arith}
 use Rattle.std.specs.List.{flat_map, list_any}
 use Rattle.std.proofs.lemmas.List.{append_assoc, append-nil, length-append, map-append}
 use Rattle.wm_base.specs.Key.{key_word}
@@ -37,6 +37,7 @@ use Rattle.wm_command.specs.Table.{change_rows, change_word}
 use Rattle.wm_command.specs.Values.{special_word, is_never}
 use Rattle.wm_command.specs.Written.{place_of, key_of, listed}
 use Rattle.wm_command.proofs.Back.{shown_back}
+use Rattle.wm_command.proofs.Lengths.{rows_room, given_short}
 use Rattle.wm_command.proofs.PrintValues.{given_tokens, bare_text, prints_bare, prints_given}
 use Rattle.wm_command.proofs.ReadValues.{value_tokens, is_sound, value_read, special_back}
 
@@ -59,37 +60,38 @@ record Sound (verb : Change) : Type 0 where
   some : IsSome (shown_rows (change_rows verb))
   named : change_named (change_word verb) ≡ Some verb
   word : IsName (change_word verb)
+  room : length (change_word verb) + rows_room (shown_rows (change_rows verb)) ≤ 8192
 
 sound : (verb : Change) → Sound verb
 unfolding change_rows change_word change_named row_named same_key
-sound change.Crtcls = record { ready = (refl, refl, refl, (refl, refl, refl, (refl, refl, refl, (refl, refl, refl, tt)))); some = tt; named = refl; word = refl }
-sound change.Crtjobq = record { ready = (refl, refl, refl, tt); some = tt; named = refl; word = refl }
-sound change.Crtpgmref = record { ready = (refl, refl, refl, (refl, refl, refl, tt)); some = tt; named = refl; word = refl }
-sound change.Crtjobd = record { ready = (refl, refl, refl, (refl, refl, refl, (refl, refl, refl, (refl, refl, refl, (refl, refl, refl, (refl, refl, refl, tt)))))); some = tt; named = refl; word = refl }
-sound change.Crtsbsd = record { ready = (refl, refl, refl, (refl, refl, refl, tt)); some = tt; named = refl; word = refl }
-sound change.Addjobqe = record { ready = (refl, refl, refl, (refl, refl, refl, (refl, refl, refl, (refl, refl, refl, (refl, refl, refl, (refl, refl, refl, (refl, refl, refl, (refl, refl, refl, (refl, refl, refl, (refl, refl, refl, (refl, refl, refl, (refl, refl, refl, (refl, refl, refl, tt))))))))))))); some = tt; named = refl; word = refl }
-sound change.Addrtge = record { ready = (refl, refl, refl, (refl, refl, refl, (refl, refl, refl, (refl, refl, refl, (refl, refl, refl, (refl, refl, refl, (refl, refl, refl, tt))))))); some = tt; named = refl; word = refl }
-sound change.Addaje = record { ready = (refl, refl, refl, (refl, refl, refl, (refl, refl, refl, tt))); some = tt; named = refl; word = refl }
-sound change.Addpje = record { ready = (refl, refl, refl, (refl, refl, refl, (refl, refl, refl, (refl, refl, refl, (refl, refl, refl, (refl, refl, refl, (refl, refl, refl, (refl, refl, refl, (refl, refl, refl, (refl, refl, refl, (refl, refl, refl, tt))))))))))); some = tt; named = refl; word = refl }
-sound change.Rmvjobqe = record { ready = (refl, refl, refl, (refl, refl, refl, tt)); some = tt; named = refl; word = refl }
-sound change.Rmvrtge = record { ready = (refl, refl, refl, (refl, refl, refl, tt)); some = tt; named = refl; word = refl }
-sound change.Rmvaje = record { ready = (refl, refl, refl, (refl, refl, refl, tt)); some = tt; named = refl; word = refl }
-sound change.Rmvpje = record { ready = (refl, refl, refl, (refl, refl, refl, tt)); some = tt; named = refl; word = refl }
-sound change.Strsbs = record { ready = (refl, refl, refl, tt); some = tt; named = refl; word = refl }
-sound change.Endsbs = record { ready = (refl, refl, refl, (refl, refl, refl, (refl, refl, refl, tt))); some = tt; named = refl; word = refl }
-sound change.Sbmjob = record { ready = (refl, refl, refl, (refl, refl, refl, (refl, refl, refl, (refl, refl, refl, (refl, refl, refl, (refl, refl, refl, (refl, refl, refl, (refl, refl, refl, (refl, refl, refl, tt))))))))); some = tt; named = refl; word = refl }
-sound change.Hldjob = record { ready = (refl, refl, refl, tt); some = tt; named = refl; word = refl }
-sound change.Rlsjob = record { ready = (refl, refl, refl, tt); some = tt; named = refl; word = refl }
-sound change.Chgjob = record { ready = (refl, refl, refl, (refl, refl, refl, (refl, refl, refl, (refl, refl, refl, (refl, refl, refl, tt))))); some = tt; named = refl; word = refl }
-sound change.Endjob = record { ready = (refl, refl, refl, (refl, refl, refl, (refl, refl, refl, tt))); some = tt; named = refl; word = refl }
-sound change.Hldjobq = record { ready = (refl, refl, refl, tt); some = tt; named = refl; word = refl }
-sound change.Rlsjobq = record { ready = (refl, refl, refl, tt); some = tt; named = refl; word = refl }
-sound change.Clrjobq = record { ready = (refl, refl, refl, tt); some = tt; named = refl; word = refl }
-sound change.Strpj = record { ready = (refl, refl, refl, (refl, refl, refl, tt)); some = tt; named = refl; word = refl }
-sound change.Endpj = record { ready = (refl, refl, refl, (refl, refl, refl, (refl, refl, refl, (refl, refl, refl, tt)))); some = tt; named = refl; word = refl }
-sound change.Evoke = record { ready = (refl, refl, refl, (refl, refl, refl, tt)); some = tt; named = refl; word = refl }
-sound change.Enduse = record { ready = (refl, refl, refl, tt); some = tt; named = refl; word = refl }
-sound change.Pwrdwnsys = record { ready = (refl, refl, refl, (refl, refl, refl, tt)); some = tt; named = refl; word = refl }
+sound change.Crtcls = record { ready = (refl, refl, refl, (refl, refl, refl, (refl, refl, refl, (refl, refl, refl, tt)))); some = tt; named = refl; word = refl; room = lit≤ tt }
+sound change.Crtjobq = record { ready = (refl, refl, refl, tt); some = tt; named = refl; word = refl; room = lit≤ tt }
+sound change.Crtpgmref = record { ready = (refl, refl, refl, (refl, refl, refl, tt)); some = tt; named = refl; word = refl; room = lit≤ tt }
+sound change.Crtjobd = record { ready = (refl, refl, refl, (refl, refl, refl, (refl, refl, refl, (refl, refl, refl, (refl, refl, refl, (refl, refl, refl, tt)))))); some = tt; named = refl; word = refl; room = lit≤ tt }
+sound change.Crtsbsd = record { ready = (refl, refl, refl, (refl, refl, refl, tt)); some = tt; named = refl; word = refl; room = lit≤ tt }
+sound change.Addjobqe = record { ready = (refl, refl, refl, (refl, refl, refl, (refl, refl, refl, (refl, refl, refl, (refl, refl, refl, (refl, refl, refl, (refl, refl, refl, (refl, refl, refl, (refl, refl, refl, (refl, refl, refl, (refl, refl, refl, (refl, refl, refl, (refl, refl, refl, tt))))))))))))); some = tt; named = refl; word = refl; room = lit≤ tt }
+sound change.Addrtge = record { ready = (refl, refl, refl, (refl, refl, refl, (refl, refl, refl, (refl, refl, refl, (refl, refl, refl, (refl, refl, refl, (refl, refl, refl, tt))))))); some = tt; named = refl; word = refl; room = lit≤ tt }
+sound change.Addaje = record { ready = (refl, refl, refl, (refl, refl, refl, (refl, refl, refl, tt))); some = tt; named = refl; word = refl; room = lit≤ tt }
+sound change.Addpje = record { ready = (refl, refl, refl, (refl, refl, refl, (refl, refl, refl, (refl, refl, refl, (refl, refl, refl, (refl, refl, refl, (refl, refl, refl, (refl, refl, refl, (refl, refl, refl, (refl, refl, refl, (refl, refl, refl, tt))))))))))); some = tt; named = refl; word = refl; room = lit≤ tt }
+sound change.Rmvjobqe = record { ready = (refl, refl, refl, (refl, refl, refl, tt)); some = tt; named = refl; word = refl; room = lit≤ tt }
+sound change.Rmvrtge = record { ready = (refl, refl, refl, (refl, refl, refl, tt)); some = tt; named = refl; word = refl; room = lit≤ tt }
+sound change.Rmvaje = record { ready = (refl, refl, refl, (refl, refl, refl, tt)); some = tt; named = refl; word = refl; room = lit≤ tt }
+sound change.Rmvpje = record { ready = (refl, refl, refl, (refl, refl, refl, tt)); some = tt; named = refl; word = refl; room = lit≤ tt }
+sound change.Strsbs = record { ready = (refl, refl, refl, tt); some = tt; named = refl; word = refl; room = lit≤ tt }
+sound change.Endsbs = record { ready = (refl, refl, refl, (refl, refl, refl, (refl, refl, refl, tt))); some = tt; named = refl; word = refl; room = lit≤ tt }
+sound change.Sbmjob = record { ready = (refl, refl, refl, (refl, refl, refl, (refl, refl, refl, (refl, refl, refl, (refl, refl, refl, (refl, refl, refl, (refl, refl, refl, (refl, refl, refl, (refl, refl, refl, tt))))))))); some = tt; named = refl; word = refl; room = lit≤ tt }
+sound change.Hldjob = record { ready = (refl, refl, refl, tt); some = tt; named = refl; word = refl; room = lit≤ tt }
+sound change.Rlsjob = record { ready = (refl, refl, refl, tt); some = tt; named = refl; word = refl; room = lit≤ tt }
+sound change.Chgjob = record { ready = (refl, refl, refl, (refl, refl, refl, (refl, refl, refl, (refl, refl, refl, (refl, refl, refl, tt))))); some = tt; named = refl; word = refl; room = lit≤ tt }
+sound change.Endjob = record { ready = (refl, refl, refl, (refl, refl, refl, (refl, refl, refl, tt))); some = tt; named = refl; word = refl; room = lit≤ tt }
+sound change.Hldjobq = record { ready = (refl, refl, refl, tt); some = tt; named = refl; word = refl; room = lit≤ tt }
+sound change.Rlsjobq = record { ready = (refl, refl, refl, tt); some = tt; named = refl; word = refl; room = lit≤ tt }
+sound change.Clrjobq = record { ready = (refl, refl, refl, tt); some = tt; named = refl; word = refl; room = lit≤ tt }
+sound change.Strpj = record { ready = (refl, refl, refl, (refl, refl, refl, tt)); some = tt; named = refl; word = refl; room = lit≤ tt }
+sound change.Endpj = record { ready = (refl, refl, refl, (refl, refl, refl, (refl, refl, refl, (refl, refl, refl, tt)))); some = tt; named = refl; word = refl; room = lit≤ tt }
+sound change.Evoke = record { ready = (refl, refl, refl, (refl, refl, refl, tt)); some = tt; named = refl; word = refl; room = lit≤ tt }
+sound change.Enduse = record { ready = (refl, refl, refl, tt); some = tt; named = refl; word = refl; room = lit≤ tt }
+sound change.Pwrdwnsys = record { ready = (refl, refl, refl, (refl, refl, refl, tt)); some = tt; named = refl; word = refl; room = lit≤ tt }
 
 -- the keys of the values that are shown are those of the rows
 
@@ -274,14 +276,29 @@ spelled_by name rows (row ∷ rest) (g ∷ given) n ready some fits short =
     (prints_append (bare_text g) (flat_map given_text given) (given_tokens g) (flat_map given_tokens given) (prints_bare row g ready.2 fits.0) (prints_all rows rest (row.0 ∷ []) given ready.3 fits.1))
     short
 
-spelled : (c : Command) → IsFit c → length (command_text c) ≤ 8192 → Printed (command_text c) (change_word (verb_of c)) (flat_map given_tokens (values_of c))
-spelled c h short =
+-- the ranges of the table bound each text
+
+all_short : (rows rest : List Row) (keys : List Key) (given : List Given) → Ready rows keys rest → FitRows rest given → length (flat_map given_text given) ≤ rows_room rest
+all_short rows [] keys [] ready fits = lit≤ tt
+all_short rows [] keys (g ∷ given) ready fits = absurd fits
+all_short rows (row ∷ rest) keys [] ready fits = absurd fits
+all_short rows (row ∷ rest) keys (g ∷ given) ready fits =
+    omega (arith, length-append (given_text g) (flat_map given_text given), given_short row g ready.2 fits.0, all_short rows rest (keys ++ row.0 ∷ []) given ready.3 fits.1)
+
+text_short : (c : Command) → IsFit c → length (command_text c) ≤ 8192
+text_short c h =
     let s = sound (verb_of c) in
-    spelled_by (change_word (verb_of c)) (change_rows (verb_of c)) (shown_rows (change_rows (verb_of c))) (values_of c) s.word s.ready s.some h.values short
+    let long = all_short (change_rows (verb_of c)) (shown_rows (change_rows (verb_of c))) [] (values_of c) s.ready h.values in
+    omega (arith, length-append (change_word (verb_of c)) (flat_map given_text (values_of c)), s.room)
+
+spelled : (c : Command) → IsFit c → Printed (command_text c) (change_word (verb_of c)) (flat_map given_tokens (values_of c))
+spelled c h =
+    let s = sound (verb_of c) in
+    spelled_by (change_word (verb_of c)) (change_rows (verb_of c)) (shown_rows (change_rows (verb_of c))) (values_of c) s.word s.ready s.some h.values (text_short c h)
 
 pub printed_back : PrintedCommandIsRead
-printed_back c h short =
-    let p = spelled c h short in (
+printed_back c h =
+    let p = spelled c h in (
       (p.marks, p.command),
       λ user name items k.
           let o = one_command (command_text c) (change_word (verb_of c)) name p.marks (list_marks items) p.command k in

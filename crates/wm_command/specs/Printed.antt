@@ -1,5 +1,5 @@
 -- The text that is printed of a command is read as that command.
-use Rattle.std.specs.Prelude.{◌≡◌, ℕ, ◌≤◌, Bool, true, false, Result, Ok, List, [], ◌∷◌, length, filter, IfSome, IsTrue}
+use Rattle.std.specs.Prelude.{◌≡◌, ℕ, Bool, true, false, Result, Ok, List, [], ◌∷◌, length, filter, IfSome, IsTrue}
 use Rattle.wm_base.specs.Name.{IsName}
 use Rattle.wm_base.specs.Text.{IsText}
 use Rattle.wm_base.specs.declared.qname.QName.{QName}
@@ -130,10 +130,10 @@ completed verb given =
 abbrev pub ShownValuesMakeTheCommand : Type 0
 ShownValuesMakeTheCommand = (c : Command) → IsFit c → completed (verb_of c) (values_of c) ≡ Ok (line.Change c)
 
--- the command's text, of at most 8,192 bytes, spells a command, and each tree that it spells is that command's line
+-- the command's text spells a command, so it has at most 8,192 bytes, and each tree that it spells is that command's line
 abbrev pub IsReadBack : Command → Type 0
-IsReadBack c = length (command_text c) ≤ 8192
-    → ((marks : List Mark) × IsCommand (command_text c) (change_word (verb_of c)) marks)
+IsReadBack c =
+    ((marks : List Mark) × IsCommand (command_text c) (change_word (verb_of c)) marks)
     × ((user name : List ℕ) (items : List Item) → IsCommand (command_text c) name (list_marks items) → line_of user name items ≡ Ok (line.Change c))
 
 -- the text that is printed of a command is read as that command

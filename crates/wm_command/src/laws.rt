@@ -7,8 +7,7 @@ pub fn shown_values_make_the_command()
     ensures { ShownValuesMakeTheCommand }
 {}
 
-/// The text that `print` gives of a command, of at most 8,192 bytes, is a command's text, and the tree that it is read
-/// as is that command's line.
+/// The text that `print` gives of a command is a command's text, and the tree that it is read as is that command's line.
 #[tactic(auto, using(crate::proofs::ReadBack::printed_back))]
 pub fn printed_command_is_read()
     ensures { PrintedCommandIsRead }

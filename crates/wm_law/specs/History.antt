@@ -59,9 +59,9 @@ order_in Nothing = None
 order_in Noted = None
 order_in (No refusal) = None
 
--- whether the call reports what a spawner told
+-- whether a call of a monitor is a report: it is any but Hand and Tick
 abbrev pub is_report : Call → Bool
-is_report (Change user c) = false
+is_report (Change user c) = true
 is_report Hand = false
 is_report (Started serial) = true
 is_report (StartFailed serial why) = true

@@ -1,8 +1,10 @@
 -- The child programs of a spawner.
-use Rattle.std.proofs.Common.{◌≡◌, ◌↔◌, ◌==◌, ◌||◌, inl, inr, ℕ, ◌<◌, zero, suc, Bool, true, false, IsTrue, List, [], ◌∷◌, length, get_or, map, slice_get, Contains, Some, refl, sym, ◌∙◌, ap, arith}
-use Rattle.std.proofs.lemmas.Bool.{false≢true, or_cases, eqb-true, eq-eqb}
+use Rattle.std.proofs.Common.{◌≡◌, ◌↔◌, ◌==◌, ◌||◌, inl, inr, ℕ, ◌<◌, ◌≤◌, ◌+◌, zero, suc, Bool, true, false, IsTrue, List, [], ◌∷◌, length, get_or, map, slice_get, slice_set, IfSome, Contains, Some, refl, sym, ◌∙◌, ap, arith}
+use Rattle.std.proofs.lemmas.Bool.{cases_lt, false≢true, or_cases, eqb-true, eq-eqb}
 use Rattle.std.proofs.Math.Seq.{map-set_same}
 use Rattle.std.specs.List.{remove, list_any}
+use Rattle.wm_outside.specs.declared.system.spawner.Running.{Running}
+use Rattle.wm_outside.specs.Programs.{serials_of}
 
 -- a child that is looked at keeps its serial
 pub ruleset same_serials = (map-set_same)
@@ -37,3 +39,28 @@ among_any (x ∷ xs) job (suc k) below is = rw (among_any xs job k (omega arith)
 -- a search for a serial finds it where it is there
 pub contained : (xs : List ℕ) (job : ℕ) (found : Bool) → found ≡ list_any (λ x. x == job) xs → IsTrue found ↔ Contains xs job
 contained xs job found is = (λ yes. any_among xs job (sym is ∙ yes), λ among. is ∙ among_any xs job among.0 among.1 among.2)
+
+-- one more item passes: all up to it and it do
+pub one_more : {A : Type 0} (P : A → Type 0) (xs : List A) (at : ℕ) (x : A) → at < length xs → ((k : ℕ) → k < at → IfSome (slice_get xs k) P) → P x → (k : ℕ) → k < at + 1 → IfSome (slice_get (slice_set xs at x) k) P
+one_more P [] at x below before passes k in_part = absurd (omega (arith, below))
+one_more P (y ∷ xs) zero x below before passes zero in_part = passes
+one_more P (y ∷ xs) zero x below before passes (suc k) in_part = absurd (omega (arith, in_part))
+one_more P (y ∷ xs) (suc at) x below before passes zero in_part = before zero (omega arith)
+one_more P (y ∷ xs) (suc at) x below before passes (suc k) in_part = one_more P xs at x (omega (arith, below)) (λ j l. before (suc j) (omega (arith, l))) passes k (omega (arith, in_part))
+
+past_end : {A : Type 0} (P : A → Type 0) (xs : List A) (k : ℕ) → length xs ≤ k → IfSome (slice_get xs k) P
+past_end P [] k past = tt
+past_end P (y ∷ xs) zero past = absurd (omega (arith, past))
+past_end P (y ∷ xs) (suc k) past = past_end P xs k (omega (arith, past))
+
+-- the items up to the end are all
+pub at_each : {A : Type 0} (P : A → Type 0) (xs : List A) (n : ℕ) → length xs ≤ n → ((k : ℕ) → k < n → IfSome (slice_get xs k) P) → (k : ℕ) → IfSome (slice_get xs k) P
+at_each P xs n whole before k = elim (cases_lt k n) [
+  | inl below ↦ before k below
+  | inr above ↦ past_end P xs k (omega (arith, whole, above))
+]
+
+-- without children there are no serials
+pub no_serials : {P I O E : Type 0} (children : List (Running P I O E)) → (length children == 0) ≡ true → serials_of children ≡ []
+no_serials [] empty = refl
+no_serials (child ∷ children) empty = let none : suc (length children) ≡ 0 = eqb-true (suc (length children)) 0 empty in absurd (omega (arith, none))

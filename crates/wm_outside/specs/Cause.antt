@@ -1,5 +1,5 @@
 -- Counts of faults.
-use Rattle.std.specs.Prelude.{◌≡◌, ℕ, ◌+◌, ◌-◌, ◌^◌, ◌≤◌, min, Bool, true, false, Result, Ok, Err, OnErr, IsErrOf}
+use Rattle.std.specs.Prelude.{◌≡◌, ℕ, ◌+◌, ◌-◌, ◌^◌, ◌≤◌, min, Bool, true, false, Result, Ok, Err, OnOk, OnErr, IsErrOf}
 use Rattle.wm_outside.specs.declared.fault.Failed.{Failed}
 use Rattle.wm_outside.specs.declared.fault.StartFault.{StartFault}
 use Rattle.wm_outside.specs.declared.fault.StartFault.TheVariants.{Failed as start_failed, NoMemory}
@@ -8,10 +8,11 @@ use Rattle.wm_outside.specs.declared.fault.StartFault.TheVariants.{Failed as sta
 abbrev pub raised : ℕ → ℕ
 raised count = min (count + 1) (2 ^ 64 - 1)
 
--- the count hasn't fallen, and a call that answers `Failed` has raised it
+-- the count hasn't fallen: a call that answers `Failed` has raised it, and any other has left it
 pub record HasCause {T : Type 0} (before now : ℕ) (result : Result T Failed) : Type 0 where
   pub later : before ≤ now
   pub failed : OnErr result (raised before ≤ now)
+  pub left : OnOk result (now ≡ before)
 
 -- the same of a start, which raises no count for want of memory
 pub record HasStartCause {T : Type 0} (before now : ℕ) (result : Result T StartFault) : Type 0 where

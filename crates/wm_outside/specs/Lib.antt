@@ -4,6 +4,7 @@ pub mod Children
 pub mod MemSpawner
 pub mod Memory
 pub mod Programs
+pub mod Reporting
 pub mod Spawner
 pub mod System
 pub mod Told

@@ -41,6 +41,10 @@ spawner_told s = told_if s.tells s.told.items
 abbrev pub spawner_out : MemSpawner → Option (List ℕ)
 spawner_out s = told_if s.tells (serials s.children)
 
+-- the moments until which reports were waited for
+abbrev pub spawner_awaited : MemSpawner → Option (List (Option ℕ))
+spawner_awaited s = told_if s.tells s.awaited.items
+
 -- those that the next look can report
 abbrev pub spawner_reporting : MemSpawner → Option (List ℕ)
 spawner_reporting s = told_if s.tells (killed_ones s.children ++ due_ones (raised s.looks.made) s.children)

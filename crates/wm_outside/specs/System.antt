@@ -25,6 +25,11 @@ writer_faults s = s.faults
 abbrev pub clock_last : {R : Type 0} → SysClock R → ℕ
 clock_last c = c.last
 
+-- the moment that was read, or else the last one
+abbrev pub or_last : Option ℕ → ℕ → ℕ
+or_last (Some read) last = read
+or_last None last = last
+
 -- the children that are out, the longest out first
 abbrev pub children_out : {R P I O E : Type 0} → SysSpawner R P I O E → List ℕ
 children_out s = serials_of s.children.items

@@ -1,5 +1,5 @@
 -- What an object of the outside tells of itself, or doesn't. What has ceased to tell doesn't begin again.
-use Rattle.std.specs.Prelude.{◌≡◌, List, [], ◌++◌, Bool, true, false, Option, Some, None, is_some, refl, ⊤, if◌then◌else◌}
+use Rattle.std.specs.Prelude.{◌≡◌, List, [], ◌++◌, Bool, true, false, Option, Some, None, IfSome, Contains, is_some, refl, ⊤, if◌then◌else◌}
 
 -- where it is told, it has grown by these at its end
 abbrev pub Grows : {A : Type 0} → Option (List A) → Option (List A) → List A → Type 0
@@ -23,6 +23,10 @@ Becomes (Some before) (Some now) change = now ≡ change before
 abbrev pub IsEmpty : {A : Type 0} → Option (List A) → Type 0
 IsEmpty None = ⊤
 IsEmpty (Some now) = now ≡ []
+
+-- where both are told, each of the first list is in the second
+abbrev pub AreAmong : {A : Type 0} → Option (List A) → Option (List A) → Type 0
+AreAmong some all = IfSome some (λ xs. IfSome all (λ ys. (x : _) → Contains xs x → Contains ys x))
 
 -- the value, while it is told
 abbrev pub told_if : {A : Type 0} → Bool → A → Option A

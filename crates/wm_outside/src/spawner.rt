@@ -2,7 +2,7 @@
 ghost use Rattle.std.specs.Prelude.{◌≡◌, ◌↔◌, ℕ, List, [], ◌∷◌, Option, None, Ok, IsTrue, IfOk, IfErr, OnOk, OnErr, IfSome, Contains, is_some};
 ghost use Rattle.wm_base.specs.declared.job.Asked.{Asked};
 ghost use Rattle.wm_base.specs.declared.job.Asked.TheVariants.{Start, Kill};
-ghost use Rattle.wm_outside.specs.Told.{Grows, Becomes, IsEmpty};
+ghost use Rattle.wm_outside.specs.Told.{AreAmong, Grows, Becomes, IsEmpty};
 ghost use Rattle.wm_outside.specs.Cause.{HasCause, HasStartCause};
 
 use crate::{Failed, StartFault};
@@ -41,6 +41,9 @@ pub trait Spawner {
     /// The children that have a report at the next look, where they are told.
     ghost reporting: { Self → Option (List ℕ) };
 
+    /// The moments until which reports were waited for, in order, None where there was no such moment, where they are told.
+    ghost awaited: { Self → Option (List (Option ℕ)) };
+
     /// Starts a program. The child is out then.
     fn start(&mut self, order: &StartOrder) -> Result<(), StartFault>
         ensures asked { Grows (asked self.old) (asked self.new) (Start order.now ∷ []) }
@@ -49,7 +52,8 @@ pub trait Spawner {
         ensures out { OnOk result (Grows (out self.old) (out self.new) (order.now.serial ∷ [])) }
         ensures not_out { OnErr result (Grows (out self.old) (out self.new) []) }
         ensures cause { HasStartCause (misses self.old) (misses self.new) result }
-        ensures faults { faults self.new ≡ faults self.old };
+        ensures faults { faults self.new ≡ faults self.old }
+        ensures awaited { Grows (awaited self.old) (awaited self.new) [] };
 
     /// Kills a child, and answers whether it was out. Its end is still to be reported.
     fn kill(&mut self, job: Serial) -> Result<bool, Failed>
@@ -58,7 +62,8 @@ pub trait Spawner {
         ensures told { Grows (told self.old) (told self.new) [] }
         ensures out { Grows (out self.old) (out self.new) [] }
         ensures cause { HasCause (faults self.old) (faults self.new) result }
-        ensures misses { misses self.new ≡ misses self.old };
+        ensures misses { misses self.new ≡ misses self.old }
+        ensures awaited { Grows (awaited self.old) (awaited self.new) [] };
 
     /// Looks for a report, and doesn't wait. It is None only where no child that is out has one.
     fn ended(&mut self) -> Result<Option<Event>, Failed>
@@ -68,7 +73,8 @@ pub trait Spawner {
         ensures told { Grows (told self.old) (told self.new) (look_told result) }
         ensures asked { Grows (asked self.old) (asked self.new) [] }
         ensures cause { HasCause (faults self.old) (faults self.new) result }
-        ensures misses { misses self.new ≡ misses self.old };
+        ensures misses { misses self.new ≡ misses self.old }
+        ensures awaited { Grows (awaited self.old) (awaited self.new) [] };
 
     /// Waits for a report, until the moment at the latest where one is given. It is None only where no child is out or
     /// a moment was given.
@@ -83,8 +89,12 @@ pub trait Spawner {
         ensures told { Grows (told self.old) (told self.new) (look_told result) }
         ensures asked { Grows (asked self.old) (asked self.new) [] }
         ensures cause { HasCause (faults self.old) (faults self.new) result }
-        ensures misses { misses self.new ≡ misses self.old };
+        ensures misses { misses self.new ≡ misses self.old }
+        ensures awaited { Grows (awaited self.old) (awaited self.new) (until ∷ []) };
 
     /// The answers are told where the children are.
     ghost told_with_out: { (spawner : Self) → is_some (told spawner) ≡ is_some (out spawner) };
+
+    /// A child that has a report is out.
+    ghost reporting_are_out: { (spawner : Self) → AreAmong (reporting spawner) (out spawner) };
 }

@@ -1,7 +1,10 @@
 -- What stays true while the input is read and taken.
-use Rattle.std.proofs.Common.{ℕ, ◌≤◌, ◌<◌, List, length}
+use Rattle.std.proofs.Common.{◌≡◌, ℕ, ◌≤◌, Bool, List, [], length, Option}
+use Rattle.wm_clwords.specs.Part.{Part, fresh}
+use Rattle.wm_law.specs.declared.call.Entry.{Entry}
 use Rattle.wm_run.specs.Monitor.{MonitorView}
 use Rattle.wm_run.specs.Serving.{Serves}
+use Rattle.wm_run.specs.Taking.{TakesPiece}
 
 -- what stays true while the lines of a piece are taken
 pub record PieceLoop (old new : MonitorView) (written_before written_now looked_before looked_now : ℕ) (at : ℕ) (piece : List ℕ) (Taken : Type 0) : Type 0 where
@@ -11,13 +14,17 @@ pub record PieceLoop (old new : MonitorView) (written_before written_now looked_
   pub written : written_before ≤ written_now
   pub looked : looked_before ≤ looked_now
 
+-- so many bytes of the input have been taken, and the lines that have ended in them were answered
+pub record SoFar (b : Part) (es : List Entry) (u v : Option (List ℕ)) (f : Bool) (sum : ℕ) (bytes : List ℕ) : Type 0 where
+  pub lines : TakesPiece fresh bytes b [] es u v f
+  pub count : length bytes ≡ sum
+
 -- what stays true while the input is read
-pub record InputLoop (old new : MonitorView) (read_before read_now written_before written_now looked_before looked_now : ℕ) (sum : ℕ) (buf : List ℕ) (Taken Counted : Type 0) : Type 0 where
+pub record InputLoop (old new : MonitorView) (read_before read_now written_before written_now looked_before looked_now : ℕ) (sum : ℕ) (buf : List ℕ) (Taken : Type 0) : Type 0 where
   pub serves : Serves old new
-  pub count : Counted
   pub taken : Taken
   pub read : read_before ≤ read_now
   pub written : written_before ≤ written_now
   pub looked : looked_before ≤ looked_now
   pub total : sum ≤ 1000000000
-  pub piece : 0 < length buf
+  pub piece : length buf ≡ 65536

@@ -29,12 +29,12 @@ taken_then a b c piece rest last old mid new u v w f g h is begun grown first se
     (subst (λ (es : List Entry). TakesPiece a piece c last es u w (f || g)) (sym (session_entries-then old mid new begun grown)) (TakesPiece-then a b c piece rest last _ _ u v w f g first second))
 
 -- no input taken
-pub input_none : (b : Part) (x : Option (List ℕ)) (log : List Entry) (w : Option (List ℕ)) → ((bytes : List ℕ) → lines_from b bytes ≡ logical_lines bytes) → TakesInput x x (λ bytes. TakesPiece fresh bytes b [] (entries_of session_pass (since log log)) w w false)
+abbrev pub input_none : (b : Part) (x : Option (List ℕ)) (log : List Entry) (w : Option (List ℕ)) → ((bytes : List ℕ) → lines_from b bytes ≡ logical_lines bytes) → TakesInput x x (λ bytes. TakesPiece fresh bytes b [] (entries_of session_pass (since log log)) w w false)
 input_none b x log w begins =
     record { bytes = []; taken = Takes-none x; done = taken_none fresh b [] log w (λ more. lines_from-fresh more ∙ sym (begins more)) }
 
 -- some of it, and then some more
-pub input_then : (x y z : Option (List ℕ)) (b c : Part) (ys : List ℕ) (old mid new : List Entry) (u v w : Option (List ℕ)) (f g h : Bool) → h ≡ (f || g) → Extends old mid → Extends mid new → TakesInput x y (λ bytes. TakesPiece fresh bytes b [] (entries_of session_pass (since old mid)) u v f) → Takes y ys z → TakesPiece b ys c [] (entries_of session_pass (since mid new)) v w g → TakesInput x z (λ bytes. TakesPiece fresh bytes c [] (entries_of session_pass (since old new)) u w h)
+abbrev pub input_then : (x y z : Option (List ℕ)) (b c : Part) (ys : List ℕ) (old mid new : List Entry) (u v w : Option (List ℕ)) (f g h : Bool) → h ≡ (f || g) → Extends old mid → Extends mid new → TakesInput x y (λ bytes. TakesPiece fresh bytes b [] (entries_of session_pass (since old mid)) u v f) → Takes y ys z → TakesPiece b ys c [] (entries_of session_pass (since mid new)) v w g → TakesInput x z (λ bytes. TakesPiece fresh bytes c [] (entries_of session_pass (since old new)) u w h)
 input_then x y z b c ys old mid new u v w f g h is begun grown first more second =
     let xs = first.bytes in
     record {
@@ -44,7 +44,7 @@ input_then x y z b c ys old mid new u v w f g h is begun grown first more second
     }
 
 -- the line that ends with the input is answered
-pub input_end : (x y : Option (List ℕ)) (b : Part) (old mid new : List Entry) (u v w : Option (List ℕ)) (f g h : Bool) → h ≡ (f || g) → Extends old mid → Extends mid new → TakesInput x y (λ bytes. TakesPiece fresh bytes b [] (entries_of session_pass (since old mid)) u v f) → AnsweredBy (Answers (lines_from b [])) (entries_of session_pass (since mid new)) v w g → TakesInput x y (λ bytes. AnsweredBy (Answers (logical_lines bytes)) (entries_of session_pass (since old new)) u w h)
+abbrev pub input_end : (x y : Option (List ℕ)) (b : Part) (old mid new : List Entry) (u v w : Option (List ℕ)) (f g h : Bool) → h ≡ (f || g) → Extends old mid → Extends mid new → TakesInput x y (λ bytes. TakesPiece fresh bytes b [] (entries_of session_pass (since old mid)) u v f) → AnsweredBy (Answers (lines_from b [])) (entries_of session_pass (since mid new)) v w g → TakesInput x y (λ bytes. AnsweredBy (Answers (logical_lines bytes)) (entries_of session_pass (since old new)) u w h)
 input_end x y b old mid new u v w f g h is begun grown taken ended =
     let xs = taken.bytes in
     let d = taken.done in
@@ -56,13 +56,4 @@ input_end x y b old mid new u v w f g h is begun grown taken ended =
       done = subst (λ (t : Bool). AnsweredBy (Answers (logical_lines xs)) (entries_of session_pass (since old new)) u w t) (sym is)
           (subst (λ (es : List Entry). AnsweredBy (Answers (logical_lines xs)) es u w (f || g)) (sym (session_entries-then old mid new begun grown))
           (subst (λ (l : List (Option (List ℕ))). AnsweredBy (Answers l) (entries_of session_pass (since old mid) ++ entries_of session_pass (since mid new)) u w (f || g)) (sym lines) both));
-    }
-
--- so many, and then so many more
-pub count_then : (x y z : Option (List ℕ)) (n m t : ℕ) → t ≡ n + m → TakesInput x y (λ bytes. length bytes ≡ n) → TakesInput y z (λ bytes. length bytes ≡ m) → TakesInput x z (λ bytes. length bytes ≡ t)
-count_then x y z n m t is first second =
-    record {
-      bytes = first.bytes ++ second.bytes;
-      taken = Takes-then x y z first.bytes second.bytes first.taken second.taken;
-      done = let both = length-append first.bytes second.bytes in let a = first.done in let b = second.done in omega arith;
     }

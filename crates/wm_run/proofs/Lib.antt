@@ -10,5 +10,7 @@ pub mod Commands
 pub mod Runs
 pub mod Servings
 pub mod Takings
+pub mod EndedLines
+pub mod Outcomes
 pub mod StoppedLines
 pub mod StoppedRuns

@@ -1,5 +1,5 @@
 -- What stays true while a monitor goes on.
-use Rattle.std.proofs.Common.{◌≡◌, ◌⊎◌, ℕ, ◌<◌, ◌≤◌, List, length, Option, None}
+use Rattle.std.proofs.Common.{◌≡◌, ◌⊎◌, ℕ, ◌<◌, ◌≤◌, ◌+◌, List, length, Option, None}
 use Rattle.wm_run.specs.Lists.{since}
 use Rattle.wm_run.specs.Monitor.{MonitorView, Advances, hands_of}
 use Rattle.wm_run.specs.declared.report.Report.{Report}
@@ -15,13 +15,14 @@ pub record TurnLoop (old new : MonitorView) (before now : ℕ) : Type 0 where
   pub part : Advances old new
   pub looked : before ≤ now
 
--- a part has been done with so many Hands at least, no report is kept, and no count has fallen; the same children have
+-- a part has been done with so many Hands, no report is kept, and no count has fallen; the same children have
 -- a report, or the history is longer
 pub record HandLoop (old new : MonitorView) (before now : ℕ) (kept : Option Report) (reporting_before reporting_now : Option (List ℕ)) (made : ℕ) : Type 0 where
   pub part : Advances old new
   pub none : kept ≡ None
   pub faults : before ≤ now
   pub hands : made ≤ hands_of (since old.log new.log)
+  pub most : hands_of (since old.log new.log) ≤ made
   pub quiet : (reporting_now ≡ reporting_before) ⊎ (length old.log < length new.log)
 
 -- a part has been done with so many looks, each with an entry, no report is kept, and no count has fallen; no look has
@@ -31,4 +32,5 @@ pub record LookLoop (old new : MonitorView) (before now : ℕ) (kept : Option Re
   pub none : kept ≡ None
   pub faults : before ≤ now
   pub count : made ≤ length (since old.log new.log)
+  pub most : length new.log ≤ length old.log + made
   pub looks : ((made ≡ 0) × (reporting_now ≡ reporting_before)) ⊎ (length old.log < length new.log)

@@ -1,5 +1,5 @@
 -- Laws of a monitor's part: nothing, and one part after another.
-use Rattle.std.proofs.Common.{◌≡◌, ℕ, ◌+◌, ◌-◌, ◌<◌, ◌≤◌, ◌&&◌, true, false, List, [], ◌∷◌, ◌++◌, length, map, Option, Some, None, option_to_list, sym, ap, subst, ◌∙◌, refl, append_assoc, cond, arith}
+use Rattle.std.proofs.Common.{◌≡◌, ℕ, ◌+◌, ◌-◌, ◌<◌, ◌≤◌, ◌&&◌, Bool, true, false, List, [], ◌∷◌, ◌++◌, length, map, Option, Some, None, IfSome, option_to_list, sym, ap, subst, ◌∙◌, refl, append_assoc, cond, arith}
 use Rattle.std.specs.List.{list_all, filter_map, count_by}
 use Rattle.std.proofs.Math.Seq.{drop-append_seam}
 use Rattle.std.proofs.lemmas.List.Folds.{list_all-append}
@@ -17,7 +17,7 @@ use Rattle.wm_outside.specs.declared.spawner.Told.{Told}
 use Rattle.wm_outside.specs.Told.{Grows}
 use Rattle.wm_outside.proofs.Telling.{Grows-none, Grows-then}
 use Rattle.wm_run.specs.Lists.{since, Extends}
-use Rattle.wm_run.specs.Monitor.{MonitorView, Advances, BeginsWithHand, RisesBy, hands_of, is_own, is_spawner_fault, monitor_pass, reported, call_of, as_reports}
+use Rattle.wm_run.specs.Monitor.{MonitorView, Advances, BeginsWithHand, HandsAt, RisesBy, hands_of, is_own, is_spawner_fault, monitor_pass, reported, call_of, as_reports}
 use Rattle.wm_run.specs.Floor.{entry_at, last_of, last_order}
 use Rattle.wm_run.specs.View.{view}
 use Rattle.wm_run.specs.declared.monitor.Monitor.{Monitor}
@@ -273,3 +273,34 @@ pub longer_hand : (old mid new : List Entry) → Extends old mid → BeginsWithH
 longer_hand old mid new begun h =
     let whole = ap length h.whole ∙ length-append mid (h.entry ∷ h.more) in
     longer_then old mid new begun (omega arith)
+
+at_most_one : (e : Entry) → hands_of (e ∷ []) ≤ 1
+at_most_one e = go (is_hand e.call) refl
+  where
+    go : (b : Bool) → is_hand e.call ≡ b → hands_of (e ∷ []) ≤ 1
+    go true is = let one : hands_of (e ∷ []) ≡ 1 = rw is refl in omega arith
+    go false is = let none : hands_of (e ∷ []) ≡ 0 = rw is refl in omega arith
+
+-- at most one Hand more
+pub hands_few : (old mid new : List Entry) (n : ℕ) → Extends old mid → Extends mid new → hands_of (since mid new) ≤ 1 → hands_of (since old mid) ≤ n → hands_of (since old new) ≤ n + 1
+hands_few old mid new n begun grown one few =
+    let all = ap hands_of (since-then old mid new begun grown) ∙ hands-append (since old mid) (since mid new) in
+    omega (arith, one, few, all)
+
+-- one call, and behind it no Hand
+pub one_hand : (old mid new : List Entry) (e : Entry) → mid ≡ old ++ e ∷ [] → Extends mid new → hands_of (since mid new) ≡ 0 → hands_of (since old new) ≤ 1
+one_hand old mid new e made grown none =
+    let begun : Extends old mid = subst (λ (l : List Entry). Extends old l) (sym made) (Extends-append old (e ∷ [])) in
+    let first : since old mid ≡ e ∷ [] = ap (since old) made ∙ since-append old (e ∷ []) in
+    let all = ap hands_of (since-then old mid new begun grown) ∙ hands-append (since old mid) (since mid new) in
+    omega (arith, at_most_one e, ap hands_of first, none, all)
+
+-- a Hand stands first, at the moment that was told
+pub hands_at : (old mid new : List Entry) (now : ℕ) (coming : Option ℕ) → IfSome coming (λ told. now ≡ told) → mid ≡ old ++ entry_at old monitor_pass call.Hand now ∷ [] → Extends mid new → IfSome coming (HandsAt old new)
+hands_at old mid new now None is made grown = tt
+hands_at old mid new now (Some told) is made grown =
+    let at : mid ≡ old ++ entry_at old monitor_pass call.Hand told ∷ [] = subst (λ (m : ℕ). mid ≡ old ++ entry_at old monitor_pass call.Hand m ∷ []) is made in
+    record {
+      more = since mid new;
+      whole = grown ∙ (ap (λ (l : List Entry). l ++ since mid new) at ∙ append_assoc old (entry_at old monitor_pass call.Hand told ∷ []) (since mid new));
+    }

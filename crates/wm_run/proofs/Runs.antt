@@ -24,7 +24,7 @@ use Rattle.wm_run.proofs.Monitors.{Extends-then}
 use Rattle.wm_run.proofs.Servings.{session_entries-then}
 
 -- the first call, the lines and the last call, one after another
-pub session_parts : (a b c d : List Entry) (x y u v : Option (List ℕ)) (f : Bool) → Extends a b → Extends b c → Extends c d → OneCall start_call (entries_of session_pass (since a b)) → TakesInput x y (λ bytes. AnsweredBy (Answers (logical_lines bytes)) (entries_of session_pass (since b c)) u v f) → OneCall end_call (entries_of session_pass (since c d)) → TakesInput x y (λ bytes. IsSession (logical_lines bytes) (entries_of session_pass (since a d)) u v f)
+abbrev pub session_parts : (a b c d : List Entry) (x y u v : Option (List ℕ)) (f : Bool) → Extends a b → Extends b c → Extends c d → OneCall start_call (entries_of session_pass (since a b)) → TakesInput x y (λ bytes. AnsweredBy (Answers (logical_lines bytes)) (entries_of session_pass (since b c)) u v f) → OneCall end_call (entries_of session_pass (since c d)) → TakesInput x y (λ bytes. IsSession (logical_lines bytes) (entries_of session_pass (since a d)) u v f)
 session_parts a b c d x y u v f ab bc cd start taken end =
     let more = session_entries-then a b d ab (Extends-then b c d bc cd) in
     let rest = session_entries-then b c d bc cd in
@@ -113,7 +113,7 @@ stopped_on P (Ok false) h high = absurd (omega arith)
 stopped_on P (Err stop) h high = h
 
 -- 11 is that of a full input
-full_from : (r : Result Bool Stop) → IsErrOf r InputFull → ended_status r ≡ 11
+pub full_from : (r : Result Bool Stop) → IsErrOf r InputFull → ended_status r ≡ 11
 full_from (Ok f) is = absurd (cc)
 full_from (Err ReadFault) is = absurd (cc)
 full_from (Err WriteFault) is = absurd (cc)
@@ -121,16 +121,16 @@ full_from (Err NoMemory) is = absurd (cc)
 full_from (Err WaitFault) is = absurd (cc)
 full_from (Err InputFull) is = refl
 
-pub full_exactly : (r : Result Bool Stop) (x y : Option (List ℕ)) → TakesInput x y (λ bytes. IsErrOf r InputFull ↔ (1000000000 < length bytes)) → TakesInput x y (λ bytes. (ended_status r ≡ 11) ↔ (1000000000 < length bytes))
+abbrev pub full_exactly : (r : Result Bool Stop) (x y : Option (List ℕ)) → TakesInput x y (λ bytes. IsErrOf r InputFull ↔ (1000000000 < length bytes)) → TakesInput x y (λ bytes. (ended_status r ≡ 11) ↔ (1000000000 < length bytes))
 full_exactly r x y h =
     let to = h.done in
     record { bytes = h.bytes; taken = h.taken; done = ((λ is. to.0 (full_status r is)), (λ more. full_from r (to.1 more))) }
 
 -- where nothing was begun, nothing was taken
-pub full_not : (status : ℕ) (x : Option (List ℕ)) → status < 11 → TakesInput x x (λ bytes. (status ≡ 11) ↔ (1000000000 < length bytes))
+abbrev pub full_not : (status : ℕ) (x : Option (List ℕ)) → status < 11 → TakesInput x x (λ bytes. (status ≡ 11) ↔ (1000000000 < length bytes))
 full_not status x less = record { bytes = []; taken = Takes-none x; done = ((λ is. absurd (omega arith)), (λ more. absurd (omega arith))) }
 
-pub stopped_not : (log : List Entry) (x w : Option (List ℕ)) → log ≡ [] → TakesInput x x (λ bytes. IsStopped (logical_lines bytes) (entries_of session_pass log) w w)
+abbrev pub stopped_not : (log : List Entry) (x w : Option (List ℕ)) → log ≡ [] → TakesInput x x (λ bytes. IsStopped (logical_lines bytes) (entries_of session_pass log) w w)
 stopped_not log x w none = record { bytes = []; taken = Takes-none x; done = inl (record { none = ap (entries_of session_pass) none; written = Grows-none w }) }
 
 -- the status of an end is one of a run's
@@ -142,10 +142,6 @@ is_status (Err WriteFault) = refl
 is_status (Err NoMemory) = refl
 is_status (Err WaitFault) = refl
 is_status (Err InputFull) = refl
-
--- a session that stopped, of a history that begins with nothing
-pub stopped_from : (first log : List Entry) (x y u v : Option (List ℕ)) → first ≡ [] → TakesInput x y (λ bytes. IsStopped (logical_lines bytes) (entries_of session_pass (since first log)) u v) → TakesInput x y (λ bytes. IsStopped (logical_lines bytes) (entries_of session_pass log) u v)
-stopped_from first log x y u v none h = subst (λ (l : List Entry). TakesInput x y (λ bytes. IsStopped (logical_lines bytes) (entries_of session_pass (since l log)) u v)) none h
 
 few_kept : (kept : Option Report) → length (option_to_list kept) ≤ 1
 few_kept None = omega arith
@@ -167,7 +163,3 @@ IsServed-none log kept a t x none empty =
 -- all entries are the run's own
 pub callers_from : (first log : List Entry) → first ≡ [] → list_all is_of_run (since first log) ≡ true → list_all is_of_run log ≡ true
 callers_from first log none h = subst (λ (l : List Entry). list_all is_of_run (since l log) ≡ true) none h
-
--- a session of a history that begins with nothing
-pub session_from : (first log : List Entry) (x y u v : Option (List ℕ)) (f : Bool) → first ≡ [] → TakesInput x y (λ bytes. IsSession (logical_lines bytes) (entries_of session_pass (since first log)) u v f) → TakesInput x y (λ bytes. IsSession (logical_lines bytes) (entries_of session_pass log) u v f)
-session_from first log x y u v f none h = subst (λ (l : List Entry). TakesInput x y (λ bytes. IsSession (logical_lines bytes) (entries_of session_pass (since l log)) u v f)) none h

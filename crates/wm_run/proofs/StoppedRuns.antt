@@ -56,13 +56,13 @@ pub no_call_same : {c : Call} (old mid new : List Entry) → new ≡ mid → lis
 no_call_same old mid new is own = inl (ap (λ (l : List Entry). entries_of session_pass (since old l)) is ∙ session_entries-own (since old mid) own)
 
 -- a session that stopped as it began
-pub stopped_begin : (x w : Option (List ℕ)) (es : List Entry) → AtMostOne start_call es → TakesInput x x (λ bytes. IsStopped (logical_lines bytes) es w w)
+abbrev pub stopped_begin : (x w : Option (List ℕ)) (es : List Entry) → AtMostOne start_call es → TakesInput x x (λ bytes. IsStopped (logical_lines bytes) es w w)
 stopped_begin x w es (inl none) = record { bytes = []; taken = Takes-none x; done = inl (record { none = none; written = Grows-none w }) }
 stopped_begin x w es (inr start) =
     record { bytes = []; taken = Takes-none x; done = inr (inl (record { first = es; middle = []; parts = sym (append-nil es); start = start; stops = StopsIn-none (logical_lines []) w })) }
 
 -- one that stopped in its lines
-pub stopped_lines : (a b c : List Entry) (x y u v : Option (List ℕ)) → Extends a b → Extends b c → OneCall start_call (entries_of session_pass (since a b)) → TakesInput x y (λ bytes. StopsIn (logical_lines bytes) (entries_of session_pass (since b c)) u v) → TakesInput x y (λ bytes. IsStopped (logical_lines bytes) (entries_of session_pass (since a c)) u v)
+abbrev pub stopped_lines : (a b c : List Entry) (x y u v : Option (List ℕ)) → Extends a b → Extends b c → OneCall start_call (entries_of session_pass (since a b)) → TakesInput x y (λ bytes. StopsIn (logical_lines bytes) (entries_of session_pass (since b c)) u v) → TakesInput x y (λ bytes. IsStopped (logical_lines bytes) (entries_of session_pass (since a c)) u v)
 stopped_lines a b c x y u v ab bc start taken =
     record {
       bytes = taken.bytes;
@@ -71,7 +71,7 @@ stopped_lines a b c x y u v ab bc start taken =
     }
 
 -- one that stopped behind them
-pub stopped_end : (a b c d : List Entry) (x y u v : Option (List ℕ)) (f : Bool) → Extends a b → Extends b c → Extends c d → OneCall start_call (entries_of session_pass (since a b)) → TakesInput x y (λ bytes. AnsweredBy (Answers (logical_lines bytes)) (entries_of session_pass (since b c)) u v f) → AtMostOne end_call (entries_of session_pass (since c d)) → TakesInput x y (λ bytes. IsStopped (logical_lines bytes) (entries_of session_pass (since a d)) u v)
+abbrev pub stopped_end : (a b c d : List Entry) (x y u v : Option (List ℕ)) (f : Bool) → Extends a b → Extends b c → Extends c d → OneCall start_call (entries_of session_pass (since a b)) → TakesInput x y (λ bytes. AnsweredBy (Answers (logical_lines bytes)) (entries_of session_pass (since b c)) u v f) → AtMostOne end_call (entries_of session_pass (since c d)) → TakesInput x y (λ bytes. IsStopped (logical_lines bytes) (entries_of session_pass (since a d)) u v)
 stopped_end a b c d x y u v f ab bc cd start taken (inl none) =
     let more = session_entries-then a b d ab (Extends-then b c d bc cd) in
     let rest = session_entries-then b c d bc cd ∙ (ap (λ (es : List Entry). entries_of session_pass (since b c) ++ es) none ∙ append-nil _) in
@@ -96,17 +96,17 @@ stops_piece a b piece rest old mid new u v w f begun grown h k more =
     subst (λ (es : List Entry). StopsIn (lines_from a (piece ++ more)) es u w) (sym (session_entries-then old mid new begun grown)) (stops_then a b piece rest _ _ u v w f h k more)
 
 -- a read that gave no byte
-pub input_same : {P : List ℕ → Type 0} (x y z : Option (List ℕ)) (ys : List ℕ) → ys ≡ [] → TakesInput x y P → Takes y ys z → TakesInput x z P
+abbrev pub input_same : {P : List ℕ → Type 0} (x y z : Option (List ℕ)) (ys : List ℕ) → ys ≡ [] → TakesInput x y P → Takes y ys z → TakesInput x z P
 input_same x y z ys none h more =
     let whole : h.bytes ++ ys ≡ h.bytes = ap (λ (l : List ℕ). h.bytes ++ l) none ∙ append-nil h.bytes in
     record { bytes = h.bytes; taken = subst (λ (l : List ℕ). Takes x l z) whole (Takes-then x y z h.bytes ys h.taken more); done = h.done }
 
 -- nothing was read
-pub input_stops_none : (x : Option (List ℕ)) (log : List Entry) (w : Option (List ℕ)) → TakesInput x x (λ bytes. StopsIn (logical_lines bytes) (entries_of session_pass (since log log)) w w)
+abbrev pub input_stops_none : (x : Option (List ℕ)) (log : List Entry) (w : Option (List ℕ)) → TakesInput x x (λ bytes. StopsIn (logical_lines bytes) (entries_of session_pass (since log log)) w w)
 input_stops_none x log w = record { bytes = []; taken = Takes-none x; done = StopsIn-untouched (logical_lines []) (entries_of session_pass (since log log)) w w (Untouched-none log w) }
 
 -- bytes that weren't looked at behind those whose lines were answered
-pub input_stops : (x y z : Option (List ℕ)) (b : Part) (es : List Entry) (u v : Option (List ℕ)) (f : Bool) (ys : List ℕ) → TakesInput x y (λ bytes. TakesPiece fresh bytes b [] es u v f) → Takes y ys z → TakesInput x z (λ bytes. StopsIn (logical_lines bytes) es u v)
+abbrev pub input_stops : (x y z : Option (List ℕ)) (b : Part) (es : List Entry) (u v : Option (List ℕ)) (f : Bool) (ys : List ℕ) → TakesInput x y (λ bytes. TakesPiece fresh bytes b [] es u v f) → Takes y ys z → TakesInput x z (λ bytes. StopsIn (logical_lines bytes) es u v)
 input_stops x y z b es u v f ys h more =
     let xs = h.bytes in
     record {
@@ -116,7 +116,7 @@ input_stops x y z b es u v f ys h more =
     }
 
 -- a piece behind them in whose lines it stopped
-pub input_stops_in : (x y z : Option (List ℕ)) (b : Part) (old mid new : List Entry) (u v w : Option (List ℕ)) (f : Bool) (ys : List ℕ) → Extends old mid → Extends mid new → TakesInput x y (λ bytes. TakesPiece fresh bytes b [] (entries_of session_pass (since old mid)) u v f) → Takes y ys z → ((more : List ℕ) → StopsIn (lines_from b (ys ++ more)) (entries_of session_pass (since mid new)) v w) → TakesInput x z (λ bytes. StopsIn (logical_lines bytes) (entries_of session_pass (since old new)) u w)
+abbrev pub input_stops_in : (x y z : Option (List ℕ)) (b : Part) (old mid new : List Entry) (u v w : Option (List ℕ)) (f : Bool) (ys : List ℕ) → Extends old mid → Extends mid new → TakesInput x y (λ bytes. TakesPiece fresh bytes b [] (entries_of session_pass (since old mid)) u v f) → Takes y ys z → ((more : List ℕ) → StopsIn (lines_from b (ys ++ more)) (entries_of session_pass (since mid new)) v w) → TakesInput x z (λ bytes. StopsIn (logical_lines bytes) (entries_of session_pass (since old new)) u w)
 input_stops_in x y z b old mid new u v w f ys begun grown h more k =
     let xs = h.bytes in
     let front = TakesPiece-more fresh b xs ys _ u v f h.done in
@@ -129,7 +129,7 @@ input_stops_in x y z b old mid new u v w f ys begun grown h more k =
     }
 
 -- the answer of the line that ends with the input was cut short
-pub input_stops_last : (x y : Option (List ℕ)) (b : Part) (old mid new : List Entry) (u v w : Option (List ℕ)) (f : Bool) → Extends old mid → Extends mid new → TakesInput x y (λ bytes. TakesPiece fresh bytes b [] (entries_of session_pass (since old mid)) u v f) → StopsIn (lines_from b []) (entries_of session_pass (since mid new)) v w → TakesInput x y (λ bytes. StopsIn (logical_lines bytes) (entries_of session_pass (since old new)) u w)
+abbrev pub input_stops_last : (x y : Option (List ℕ)) (b : Part) (old mid new : List Entry) (u v w : Option (List ℕ)) (f : Bool) → Extends old mid → Extends mid new → TakesInput x y (λ bytes. TakesPiece fresh bytes b [] (entries_of session_pass (since old mid)) u v f) → StopsIn (lines_from b []) (entries_of session_pass (since mid new)) v w → TakesInput x y (λ bytes. StopsIn (logical_lines bytes) (entries_of session_pass (since old new)) u w)
 input_stops_last x y b old mid new u v w f begun grown h k =
     let xs = h.bytes in
     let d = h.done in
@@ -142,23 +142,14 @@ input_stops_last x y b old mid new u v w f begun grown h k =
           (StopsIn-after d.lines (lines_from b []) _ _ u v w f d.answered k));
     }
 
--- no more input was taken than a run takes
-pub not_full : {T : Type 0} (r : Result T Stop) (x y : Option (List ℕ)) (n : ℕ) → (IsErrOf r InputFull → ⊥) → TakesInput x y (λ bytes. length bytes ≡ n) → n ≤ 1000000000 → TakesInput x y (λ bytes. IsErrOf r InputFull ↔ (1000000000 < length bytes))
-not_full r x y n never h few =
-    record { bytes = h.bytes; taken = h.taken; done = ((λ f. absurd (never f)), (λ more. let d = h.done in absurd (omega arith))) }
-
--- nothing was taken
-pub not_full_none : {T : Type 0} (r : Result T Stop) (x : Option (List ℕ)) → (IsErrOf r InputFull → ⊥) → TakesInput x x (λ bytes. IsErrOf r InputFull ↔ (1000000000 < length bytes))
-not_full_none r x never = record { bytes = []; taken = Takes-none x; done = ((λ f. absurd (never f)), (λ more. absurd (omega arith))) }
-
 -- the same of an error that is passed on
-pub full_pass : {T U : Type 0} (r : Result T Stop) (q : Result U Stop) (e d : Stop) (x y : Option (List ℕ)) → r ≡ Err e → q ≡ Err d → d ≡ e → TakesInput x y (λ bytes. IsErrOf r InputFull ↔ (1000000000 < length bytes)) → TakesInput x y (λ bytes. IsErrOf q InputFull ↔ (1000000000 < length bytes))
+abbrev pub full_pass : {T U : Type 0} (r : Result T Stop) (q : Result U Stop) (e d : Stop) (x y : Option (List ℕ)) → r ≡ Err e → q ≡ Err d → d ≡ e → TakesInput x y (λ bytes. IsErrOf r InputFull ↔ (1000000000 < length bytes)) → TakesInput x y (λ bytes. IsErrOf q InputFull ↔ (1000000000 < length bytes))
 full_pass r q e d x y was is same h =
     let to = h.done in
     record { bytes = h.bytes; taken = h.taken; done = ((λ f. to.0 (cc)), (λ more. let g = to.1 more in cc)) }
 
 -- a read behind so many bytes
-pub full_read : {T U : Type 0} (r : Result T Stop) (q : Result U Stop) (e d : Stop) (x y z : Option (List ℕ)) (n : ℕ) → r ≡ Err e → q ≡ Err d → d ≡ e → TakesInput x y (λ bytes. length bytes ≡ n) → TakesInput y z (λ bytes. IsErrOf r InputFull ↔ (1000000000 < n + length bytes)) → TakesInput x z (λ bytes. IsErrOf q InputFull ↔ (1000000000 < length bytes))
+abbrev pub full_read : {T U : Type 0} (r : Result T Stop) (q : Result U Stop) (e d : Stop) (x y z : Option (List ℕ)) (n : ℕ) → r ≡ Err e → q ≡ Err d → d ≡ e → TakesInput x y (λ bytes. length bytes ≡ n) → TakesInput y z (λ bytes. IsErrOf r InputFull ↔ (1000000000 < n + length bytes)) → TakesInput x z (λ bytes. IsErrOf q InputFull ↔ (1000000000 < length bytes))
 full_read r q e d x y z n was is same h k =
     let xs = h.bytes in
     let ys = k.bytes in
@@ -171,7 +162,7 @@ full_read r q e d x y z n was is same h k =
     }
 
 -- nor does anything else that ends the run behind the input
-pub full_later : {T U : Type 0} (r : Result T Stop) (q : Result U Stop) (t : T) (x y : Option (List ℕ)) → r ≡ Ok t → (IsErrOf q InputFull → ⊥) → TakesInput x y (λ bytes. IsErrOf r InputFull ↔ (1000000000 < length bytes)) → TakesInput x y (λ bytes. IsErrOf q InputFull ↔ (1000000000 < length bytes))
+abbrev pub full_later : {T U : Type 0} (r : Result T Stop) (q : Result U Stop) (t : T) (x y : Option (List ℕ)) → r ≡ Ok t → (IsErrOf q InputFull → ⊥) → TakesInput x y (λ bytes. IsErrOf r InputFull ↔ (1000000000 < length bytes)) → TakesInput x y (λ bytes. IsErrOf q InputFull ↔ (1000000000 < length bytes))
 full_later r q t x y is never h =
     let to = h.done in
     record { bytes = h.bytes; taken = h.taken; done = ((λ f. absurd (never f)), (λ more. let g = to.1 more in absurd (cc))) }

@@ -5,11 +5,11 @@ use Rattle.std.proofs.lemmas.List.{take_min, length-drop}
 use Rattle.wm_outside.proofs.Telling.{Grows-then}
 use Rattle.wm_outside.specs.Told.{Grows}
 
--- the first n bytes are written, and no count has fallen
+-- the first n bytes are written, and no call has failed
 pub record WriteLoop (bytes : List ℕ) (n : ℕ) (old new : Option (List ℕ)) (before now : ℕ) : Type 0 where
   pub within : n ≤ length bytes
   pub written : Grows old new (take n bytes)
-  pub faults : before ≤ now
+  pub faults : now ≡ before
 
 -- a front that is as long as the list is the list
 pub take_whole : (n : ℕ) (xs : List ℕ) → length xs ≤ n → take n xs ≡ xs

@@ -12,3 +12,4 @@ pub mod Stop
 pub mod Stopped
 pub mod Calls
 pub mod Taking
+pub mod Outcome

@@ -1,5 +1,5 @@
 -- What a monitor does between two moments: it asks what it was ordered, and reports what it was told.
-use Rattle.std.specs.Prelude.{◌≡◌, ℕ, ◌+◌, ◌-◌, ◌^◌, ◌<◌, ◌≤◌, ◌==◌, ◌&&◌, Bool, true, false, min, List, [], ◌∷◌, ◌++◌, map, Option, None, IfSome, option_map, option_to_list, Result, Ok, Err, count_by}
+use Rattle.std.specs.Prelude.{◌≡◌, ℕ, ◌+◌, ◌-◌, ◌^◌, ◌<◌, ◌≤◌, ◌==◌, ◌&&◌, Bool, true, false, min, List, [], ◌∷◌, ◌++◌, map, Option, Some, None, IfSome, option_map, option_to_list, Result, Ok, Err, count_by}
 use Rattle.std.specs.List.{list_all}
 use Rattle.wm_base.specs.declared.job.Asked.{Asked}
 use Rattle.wm_base.specs.declared.job.Event.{Event}
@@ -20,6 +20,7 @@ use Rattle.wm_outside.specs.declared.spawner.Told.TheVariants.{Began, NotBegan, 
 use Rattle.wm_outside.specs.Told.{Grows, IsEmpty}
 use Rattle.wm_run.specs.declared.report.Report.{Report}
 use Rattle.wm_run.specs.declared.report.Report.TheVariants.{Started, StartFailed, Finished, UseDone}
+use Rattle.wm_run.specs.Floor.{entry_at}
 use Rattle.wm_run.specs.Lists.{since, Extends}
 
 -- the pass of the monitor
@@ -84,6 +85,20 @@ pub record BeginsWithHand (old new : List Entry) : Type 0 where
   pub more : List Entry
   pub whole : new ≡ old ++ entry ∷ more
   pub call : entry.call ≡ call.Hand
+
+-- the first entry that was added is a Hand of this moment
+pub record HandsAt (old new : List Entry) (moment : ℕ) : Type 0 where
+  pub more : List Entry
+  pub whole : new ≡ old ++ entry_at old monitor_pass call.Hand moment ∷ more
+
+-- a Tick was added, at a moment by which the next job was due
+pub record TicksInTime (old : List Entry) (coming : Option ℕ) (new : List Entry) : Type 0 where
+  pub due : ℕ
+  pub now : ℕ
+  pub next : next_due (after opening old) ≡ Some due
+  pub reached : due ≤ now
+  pub moment : IfSome coming (λ told. now ≡ told)
+  pub entry : new ≡ old ++ entry_at old monitor_pass call.Tick now ∷ []
 
 -- how many Hands there are
 abbrev pub hands_of : List Entry → ℕ

@@ -11,6 +11,7 @@ impl Run {
     ghost use Rattle.wm_law.specs.History.{after, entries_of};
     ghost use Rattle.wm_law.specs.Opening.{opening};
     ghost use Rattle.wm_law.specs.Pending.{active, starting};
+    ghost use Rattle.wm_outside.specs.Told.{IsEmpty};
     ghost use Rattle.wm_run.specs.Lists.{since};
     ghost use Rattle.wm_run.specs.Monitor.{Advances};
     ghost use Rattle.wm_run.specs.Serving.{Serves};
@@ -79,6 +80,7 @@ impl Run {
         ensures not_begun { OnErr result (AtMostOne start_call (entries_of session_pass (since self.old.floor self.new.floor))) }
         ensures begun { OnOk result (OneCall start_call (entries_of session_pass (since self.old.floor self.new.floor))) }
         ensures orders { OnOk result (length self.new.floor ≡ length self.old.floor + 1 → starting (after opening self.new.floor) ≡ 0) }
+        ensures quiet { OnOk result (length self.new.floor ≡ length self.old.floor + 1 → IsEmpty (P.reporting spawner.old)) }
         ensures causes { HasMonitorCauses result (P.faults spawner.old) (P.faults spawner.new) }
     {
         self.call(alloc, clock, start_call())?;

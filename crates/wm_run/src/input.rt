@@ -1,11 +1,11 @@
 // Taking the input: its pieces are joined into logical lines, and each line is answered.
-ghost use Rattle.std.specs.Prelude.{◌≡◌, ◌≤◌, ◌<◌, ◌+◌, ◌||◌, ◌↔◌, [], ◌∷◌, Ok, Some, IfOk, OnErr, IsErrOf, length, take};
+ghost use Rattle.std.specs.Prelude.{◌≡◌, ◌≤◌, ◌<◌, ◌+◌, ◌||◌, [], ◌∷◌, Ok, Some, IfOk, OnErr, IsErrOf, length, take};
 ghost use Rattle.std.specs.Option.{option_copied};
 ghost use Rattle.std.specs.Io.KnownBytes.{IsAtEnd};
 ghost use Rattle.wm_clwords.specs.Part.{said};
 ghost use Rattle.wm_outside.specs.Told.{Takes};
 ghost use Rattle.wm_outside.specs.Cause.{raised};
-ghost use Rattle.wm_run.specs.Taking.{TakesInput};
+ghost use Rattle.wm_run.specs.Taking.{StopsReading, TakesInput};
 
 use crate::session::Run;
 use crate::stop::Stop;
@@ -23,14 +23,14 @@ pub const PIECE_LEN: usize = 65536;
 // Reads a piece behind so many bytes, and tells a fault as the run's. An input that is too long is told before its
 // bytes are used.
 fn read<I: Source>(input: &mut I, piece: &mut [u8], total: u64) -> Result<usize, Stop>
-    requires { total ≤ 1000000000 }
+    requires few { total ≤ 1000000000 }
+    requires whole { length piece.old ≡ 65536 }
     ensures within { IfOk result (λ n. n ≤ length piece.new) }
     ensures len { length piece.new ≡ length piece.old }
     ensures taken { IfOk result (λ n. Takes (I.left input.old) (take n piece.new) (I.left input.new)) }
     ensures room { IfOk result (λ n. total + n ≤ 1000000000) }
     ensures end { result ≡ Ok 0 → 0 < length piece.new → IsAtEnd (I.left input.new) }
-    ensures full { OnErr result (TakesInput (I.left input.old) (I.left input.new) (λ bytes.
-        IsErrOf result Stop.InputFull ↔ (1000000000 < total + length bytes))) }
+    ensures stopped { OnErr result (TakesInput (I.left input.old) (I.left input.new) (λ bytes. StopsReading bytes total result)) }
     ensures faults { I.faults input.old ≤ I.faults input.new }
     ensures read_fault { IsErrOf result Stop.ReadFault → raised (I.faults input.old) ≤ I.faults input.new }
     ensures no_write { IsErrOf result Stop.WriteFault → ⊥ }
@@ -70,12 +70,12 @@ fn text_of(line: LogicalLine, joiner: &Joiner) -> Option<&[u8]>
 }
 
 impl Run {
-    ghost use Rattle.std.specs.Prelude.{◌≤◌, ◌<◌, ◌↔◌, ◌++◌, [], List, ℕ, Some, IfOk, OnOk, OnErr, IsErrOf, length, drop};
+    ghost use Rattle.std.specs.Prelude.{◌≡◌, ◌≤◌, ◌<◌, ◌++◌, [], List, ℕ, Some, IfOk, OnOk, OnErr, length, drop};
     ghost use Rattle.std.specs.Io.KnownBytes.{IsAtEnd};
-    ghost use Rattle.wm_clwords.specs.Lines.{logical_lines};
     ghost use Rattle.wm_clwords.specs.Part.{lines_from, said};
     ghost use Rattle.wm_law.specs.History.{entries_of};
     ghost use Rattle.wm_run.specs.Lists.{since};
+    ghost use Rattle.wm_run.specs.Outcome.{LinesCame};
     ghost use Rattle.wm_run.specs.Serving.{Serves};
     ghost use Rattle.wm_run.specs.Session.{Answers, AnsweredBy, session_pass};
     ghost use Rattle.wm_run.specs.Stop.{HasCauses, HasInputCauses};
@@ -194,15 +194,12 @@ impl Run {
         clock: &mut C,
         piece: &mut [u8],
     ) -> Result<bool, Stop>
-        requires { 0 < length piece.old }
+        requires { length piece.old ≡ 65536 }
         ensures serves { Serves (view self.old.floor self.old.monitor (P.asked spawner.old) (P.told spawner.old) (P.misses spawner.old))
             (view self.new.floor self.new.monitor (P.asked spawner.new) (P.told spawner.new) (P.misses spawner.new)) }
-        ensures taken { IfOk result (λ faulty. TakesInput (I.left input.old) (I.left input.new) (λ bytes. AnsweredBy (Answers (logical_lines bytes))
-            (entries_of session_pass (since self.old.floor self.new.floor)) (O.written out.old) (O.written out.new) faulty)) }
-        ensures stopped { OnErr result (TakesInput (I.left input.old) (I.left input.new) (λ bytes. StopsIn (logical_lines bytes)
-            (entries_of session_pass (since self.old.floor self.new.floor)) (O.written out.old) (O.written out.new))) }
+        ensures input { TakesInput (I.left input.old) (I.left input.new) (λ bytes. LinesCame bytes result
+            (entries_of session_pass (since self.old.floor self.new.floor)) (O.written out.old) (O.written out.new)) }
         ensures end { OnOk result (IsAtEnd (I.left input.new)) }
-        ensures full { TakesInput (I.left input.old) (I.left input.new) (λ bytes. IsErrOf result Stop.InputFull ↔ (1000000000 < length bytes)) }
         ensures causes { HasInputCauses result (I.faults input.old) (I.faults input.new) (O.faults out.old) (O.faults out.new) (P.faults spawner.old) (P.faults spawner.new) }
     {
         let mut joiner = Joiner::new(alloc)?;
@@ -233,12 +230,9 @@ impl Run {
     ) -> Result<bool, Stop>
         ensures serves { Serves (view self.old.floor self.old.monitor (P.asked spawner.old) (P.told spawner.old) (P.misses spawner.old))
             (view self.new.floor self.new.monitor (P.asked spawner.new) (P.told spawner.new) (P.misses spawner.new)) }
-        ensures taken { IfOk result (λ faulty. TakesInput (I.left input.old) (I.left input.new) (λ bytes. AnsweredBy (Answers (logical_lines bytes))
-            (entries_of session_pass (since self.old.floor self.new.floor)) (O.written out.old) (O.written out.new) faulty)) }
-        ensures stopped { OnErr result (TakesInput (I.left input.old) (I.left input.new) (λ bytes. StopsIn (logical_lines bytes)
-            (entries_of session_pass (since self.old.floor self.new.floor)) (O.written out.old) (O.written out.new))) }
+        ensures input { TakesInput (I.left input.old) (I.left input.new) (λ bytes. LinesCame bytes result
+            (entries_of session_pass (since self.old.floor self.new.floor)) (O.written out.old) (O.written out.new)) }
         ensures end { OnOk result (IsAtEnd (I.left input.new)) }
-        ensures full { TakesInput (I.left input.old) (I.left input.new) (λ bytes. IsErrOf result Stop.InputFull ↔ (1000000000 < length bytes)) }
         ensures causes { HasInputCauses result (I.faults input.old) (I.faults input.new) (O.faults out.old) (O.faults out.new) (P.faults spawner.old) (P.faults spawner.new) }
     {
         let mut piece = piece_buffer(alloc)?;

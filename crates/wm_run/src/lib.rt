@@ -12,11 +12,11 @@ mod line;
 mod monitor;
 mod reading;
 mod report;
-mod run;
 mod said;
 mod session;
 mod stop;
+mod whole_run;
 mod write;
 
 pub use report::Report;
-pub use run::{NO_MEMORY, Ran, WRONG_WORDS, run};
+pub use whole_run::{NO_MEMORY, Ran, WRONG_WORDS, run};

@@ -59,12 +59,13 @@ impl Monitor {
     ghost use Rattle.wm_outside.specs.declared.spawner.Told.{Told};
     ghost use Rattle.wm_outside.specs.Told.{Grows, IsEmpty};
     ghost use Rattle.wm_outside.specs.Cause.{raised};
+    ghost use Rattle.wm_law.specs.declared.call.Call.{Call};
     ghost use Rattle.wm_law.specs.History.{after};
     ghost use Rattle.wm_law.specs.Opening.{opening};
     ghost use Rattle.wm_law.specs.Pending.{next_due, starting};
     ghost use Rattle.wm_run.specs.Floor.{entry_at};
     ghost use Rattle.wm_run.specs.Lists.{since};
-    ghost use Rattle.wm_run.specs.Monitor.{Advances, BeginsWithHand, IsIdle, as_reports, call_of, hands_of, monitor_pass};
+    ghost use Rattle.wm_run.specs.Monitor.{Advances, BeginsWithHand, HandsAt, IsIdle, TicksInTime, as_reports, call_of, hands_of, monitor_pass};
     ghost use Rattle.wm_run.specs.View.{view};
 
     /// A monitor that keeps nothing.
@@ -84,6 +85,10 @@ impl Monitor {
         ensures part { (asked : Option (List Asked)) (told : Option (List Told)) (misses : ℕ) →
             Advances (view floor.old self.old asked told misses) (view floor.new self.new asked told misses) }
         ensures sent { OnOk result (IfSome self.old.kept (λ _. length floor.old < length floor.new)) }
+        ensures moment { OnOk result (IfSome self.old.kept (λ report. IfSome (C.coming clock.old) (λ now.
+            floor.new ≡ floor.old ++ entry_at floor.old monitor_pass (call_of report) now ∷ []))) }
+        ensures few { length floor.new ≤ length floor.old + 1 }
+        ensures no_hand { hands_of (since floor.old floor.new) ≡ 0 }
         ensures unread { self.old.kept ≡ None → C.coming clock.new ≡ C.coming clock.old }
         ensures kept { OnOk result (self.new.kept ≡ None) }
     {
@@ -107,6 +112,7 @@ impl Monitor {
         ensures part { Advances (view floor.old self.old (P.asked spawner.old) (P.told spawner.old) (P.misses spawner.old))
             (view floor.new self.new (P.asked spawner.new) (P.told spawner.new) (P.misses spawner.new)) }
         ensures all { OnOk result ((starting (after opening floor.new) ≡ 0) ⊎ (256 ≤ hands_of (since floor.old floor.new))) }
+        ensures most { hands_of (since floor.old floor.new) ≤ 256 }
         ensures quiet { OnOk result ((P.reporting spawner.new ≡ P.reporting spawner.old) ⊎ (length floor.old < length floor.new)) }
         ensures kept { OnOk result (self.new.kept ≡ None) }
         ensures faults { P.faults spawner.old ≤ P.faults spawner.new }
@@ -133,6 +139,7 @@ impl Monitor {
         ensures part { Advances (view floor.old self.old (P.asked spawner.old) (P.told spawner.old) (P.misses spawner.old))
             (view floor.new self.new (P.asked spawner.new) (P.told spawner.new) (P.misses spawner.new)) }
         ensures all { OnOk result (IsEmpty (P.reporting spawner.old) ⊎ (length floor.old < length floor.new)) }
+        ensures most { length floor.new ≤ length floor.old + 256 }
         ensures last { OnOk result ((256 ≤ length (since floor.old floor.new)) ⊎
             ((last : P) × IsEmpty (P.reporting last) × Grows (as_reports (P.told last)) (as_reports (P.told spawner.new)) [])) }
         ensures kept { OnOk result (self.new.kept ≡ None) }
@@ -185,6 +192,7 @@ impl Monitor {
         ensures part { Advances (view floor.old self.old (P.asked spawner.old) (P.told spawner.old) (P.misses spawner.old))
             (view floor.new self.new (P.asked spawner.new) (P.told spawner.new) (P.misses spawner.new)) }
         ensures report { OnOk result (until ≡ None → IsEmpty (P.out spawner.old) ⊎ (length floor.old < length floor.new)) }
+        ensures awaited { OnOk result (Grows (P.awaited spawner.old) (P.awaited spawner.new) (until ∷ [])) }
         ensures kept { OnOk result (self.new.kept ≡ None) }
         ensures faults { P.faults spawner.old ≤ P.faults spawner.new }
         ensures wait_fault { IsErrOf result MonitorFault.WaitFault → raised (P.faults spawner.old) ≤ P.faults spawner.new }
@@ -209,6 +217,7 @@ impl Monitor {
             Advances (view floor.old self.old asked told misses) (view floor.new self.new asked told misses) }
         ensures due { OnOk result (IfSome (next_due (after opening floor.old)) (λ due. IfSome (C.coming clock.old) (λ now.
             due ≤ now → floor.new ≡ floor.old ++ entry_at floor.old monitor_pass Call.Tick now ∷ []))) }
+        ensures in_time { (floor.new ≡ floor.old) ⊎ TicksInTime floor.old (C.coming clock.old) floor.new }
         ensures kept { self.new ≡ self.old }
     {
         let now = clock.now();
@@ -231,6 +240,8 @@ impl Monitor {
     ) -> Result<(), MonitorFault>
         requires { self.old.kept ≡ None }
         ensures hand { OnOk result (BeginsWithHand floor.old floor.new) }
+        ensures moment { OnOk result (IfSome (C.coming clock.old) (HandsAt floor.old floor.new)) }
+        ensures one { hands_of (since floor.old floor.new) ≤ 1 }
         ensures part { Advances (view floor.old self.old (P.asked spawner.old) (P.told spawner.old) (P.misses spawner.old))
             (view floor.new self.new (P.asked spawner.new) (P.told spawner.new) (P.misses spawner.new)) }
         ensures kept { OnOk result (self.new.kept ≡ None) }
@@ -263,6 +274,8 @@ impl Monitor {
         requires { self.old.kept ≡ None }
         ensures none { result ≡ Ok false → IsEmpty (P.reporting spawner.old) }
         ensures sent { result ≡ Ok true → length floor.old < length floor.new }
+        ensures moment { result ≡ Ok true → IfSome (C.coming clock.old) (λ now. (c : Call) × (floor.new ≡ floor.old ++ entry_at floor.old monitor_pass c now ∷ [])) }
+        ensures few { length floor.new ≤ length floor.old + 1 }
         ensures none_told { result ≡ Ok false → Grows (as_reports (P.told spawner.old)) (as_reports (P.told spawner.new)) [] }
         ensures part { Advances (view floor.old self.old (P.asked spawner.old) (P.told spawner.old) (P.misses spawner.old))
             (view floor.new self.new (P.asked spawner.new) (P.told spawner.new) (P.misses spawner.new)) }
@@ -324,6 +337,7 @@ fn wait<P: Spawner, R: Wait>(
     until: Option<Moment>,
 ) -> Result<Option<Report>, Failed>
     ensures none { result ≡ Ok None → until ≡ None → IsEmpty (P.out spawner.old) }
+    ensures awaited { Grows (P.awaited spawner.old) (P.awaited spawner.new) (until ∷ []) }
     ensures asked { Grows (P.asked spawner.old) (P.asked spawner.new) [] }
     ensures told { Grows (as_reports (P.told spawner.old)) (as_reports (P.told spawner.new)) (map call_of (looked result)) }
     ensures misses { RisesBy (P.misses spawner.old) (count_by is_spawner_fault (map call_of (looked result))) (P.misses spawner.new) }

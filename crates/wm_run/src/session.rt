@@ -68,10 +68,10 @@ impl Run {
     ghost use Rattle.wm_law.specs.Pending.{next_due, starting};
     ghost use Rattle.wm_outside.specs.Told.{Grows, IsEmpty};
     ghost use Rattle.wm_outside.specs.Cause.{raised};
-    ghost use Rattle.wm_run.specs.Floor.{last_of};
+    ghost use Rattle.wm_run.specs.Floor.{entry_at, last_of};
     ghost use Rattle.wm_run.specs.Said.{entry_text, with_end, is_refused};
     ghost use Rattle.wm_run.specs.Reading.{IsFitReading};
-    ghost use Rattle.std.specs.Prelude.{◌+◌, ◌-◌, None, Ok, length};
+    ghost use Rattle.std.specs.Prelude.{◌+◌, ◌-◌, ◌++◌, ◌∷◌, [], None, Ok, length};
     ghost use Rattle.wm_law.specs.History.{entries_of};
     ghost use Rattle.wm_run.specs.Calls.{Called};
     ghost use Rattle.wm_run.specs.Lists.{since};
@@ -92,6 +92,7 @@ impl Run {
         requires fit { IsCall call }
         requires built { IsBuilt (after opening self.old.floor) call }
         ensures ok { OnOk result (Called self.old.floor call self.new.floor) }
+        ensures moment { OnOk result (IfSome (C.coming clock.old) (λ now. self.new.floor ≡ self.old.floor ++ entry_at self.old.floor session_pass call now ∷ [])) }
         ensures err { OnErr result (self.new.floor ≡ self.old.floor) }
         ensures monitor { self.new.monitor ≡ self.old.monitor }
     {
@@ -151,6 +152,7 @@ impl Run {
             (view self.new.floor self.new.monitor (P.asked spawner.new) (P.told spawner.new) (P.misses spawner.new)) }
         ensures report { OnOk result (next_due (after opening self.old.floor) ≡ None →
             IsEmpty (P.out spawner.old) ⊎ (length self.old.floor < length self.new.floor)) }
+        ensures awaited { OnOk result (Grows (P.awaited spawner.old) (P.awaited spawner.new) (next_due (after opening self.old.floor) ∷ [])) }
         ensures kept { OnOk result (self.new.monitor.kept ≡ None) }
         ensures causes { HasMonitorCauses result (P.faults spawner.old) (P.faults spawner.new) }
     {
@@ -183,6 +185,7 @@ impl Run {
         ensures stopped { OnErr result (IsCutShort (Calls command)
             (entries_of session_pass (since self.old.floor self.new.floor)) (O.written out.old) (O.written out.new)) }
         ensures orders { OnOk result (length self.new.floor ≡ length self.old.floor + 1 → starting (after opening self.new.floor) ≡ 0) }
+        ensures quiet { OnOk result (length self.new.floor ≡ length self.old.floor + 1 → IsEmpty (P.reporting spawner.old)) }
         ensures causes { HasCauses result (O.faults out.old) (O.faults out.new) (P.faults spawner.old) (P.faults spawner.new) }
     {
         built_commands_are_had();

@@ -29,6 +29,7 @@ pub struct MemSpawner {
     children: Children,
     asked: Vec<Asked>,
     told: Vec<Told>,
+    awaited: Vec<Option<Moment>>,
     tells: bool,
     starts: Calls,
     kills: Calls,
@@ -72,6 +73,16 @@ fn record_told(told: &mut Vec<Told>, tells: &mut bool, entry: &Told)
     ensures never_again { IsTrue tells.new → IsTrue tells.old }
 {
     if *tells && told.extend_from_slice(slice::from_ref(entry)).is_err() {
+        *tells = false;
+    }
+}
+
+// Records a wait, while it tells.
+fn record_wait(awaited: &mut Vec<Option<Moment>>, tells: &mut bool, until: Option<Moment>)
+    ensures grows { Grows (told_if tells.old awaited.old.items) (told_if tells.new awaited.new.items) (until ∷ []) }
+    ensures never_again { IsTrue tells.new → IsTrue tells.old }
+{
+    if *tells && awaited.push(until).is_err() {
         *tells = false;
     }
 }
@@ -125,6 +136,7 @@ impl MemSpawner {
             children: Children::new(alloc),
             asked: Vec::new(alloc),
             told: Vec::new(alloc),
+            awaited: Vec::new(alloc),
             tells: true,
             starts: Calls::new(fail_starts),
             kills: Calls::new(fail_kills),
@@ -153,7 +165,9 @@ impl MemSpawner {
 }
 
 impl Spawner for MemSpawner {
-    ghost use Rattle.wm_outside.specs.MemSpawner.{spawner_children, spawner_lag, spawner_starts, spawner_kills, spawner_looks, spawner_faults, spawner_asked, spawner_told, spawner_out, spawner_reporting, child_of};
+    ghost use Rattle.wm_outside.specs.MemSpawner.{spawner_children, spawner_lag, spawner_starts, spawner_kills, spawner_looks, spawner_faults, spawner_asked, spawner_told, spawner_out, spawner_reporting, spawner_awaited, child_of};
+    ghost use Rattle.wm_outside.specs.Reporting.{reporting_among};
+    ghost use Rattle.wm_outside.specs.Cause.{raised};
     ghost use Rattle.wm_outside.specs.Told.{told_with_out};
 
     ghost misses = { λ s. (spawner_starts s).failed };
@@ -167,6 +181,8 @@ impl Spawner for MemSpawner {
     ghost told = { spawner_told };
 
     ghost reporting = { spawner_reporting };
+
+    ghost awaited = { spawner_awaited };
 
     fn start(&mut self, order: &StartOrder) -> Result<(), StartFault>
         ensures calls { CountsCall (spawner_starts self.old) (spawner_starts self.new) (start_missed result) }
@@ -182,6 +198,7 @@ impl Spawner for MemSpawner {
         ensures out { OnOk result (Grows (spawner_out self.old) (spawner_out self.new) (order.now.serial ∷ [])) }
         ensures not_out { OnErr result (Grows (spawner_out self.old) (spawner_out self.new) []) }
         ensures cause { HasStartCause (spawner_starts self.old).failed (spawner_starts self.new).failed result }
+        ensures awaited { Grows (spawner_awaited self.old) (spawner_awaited self.new) [] }
     {
         let child = self.child_of(order);
         let result = begin(&mut self.starts, &mut self.children, child);
@@ -207,6 +224,7 @@ impl Spawner for MemSpawner {
         ensures told { Grows (spawner_told self.old) (spawner_told self.new) [] }
         ensures out { Grows (spawner_out self.old) (spawner_out self.new) [] }
         ensures cause { HasCause (spawner_faults self.old) (spawner_faults self.new) result }
+        ensures awaited { Grows (spawner_awaited self.old) (spawner_awaited self.new) [] }
     {
         record_asked(&mut self.asked, &mut self.tells, Asked::Kill(job));
         self.kills.count()?;
@@ -227,6 +245,7 @@ impl Spawner for MemSpawner {
         ensures told { Grows (spawner_told self.old) (spawner_told self.new) (look_told result) }
         ensures asked { Grows (spawner_asked self.old) (spawner_asked self.new) [] }
         ensures cause { HasCause (spawner_faults self.old) (spawner_faults self.new) result }
+        ensures awaited { Grows (spawner_awaited self.old) (spawner_awaited self.new) [] }
     {
         self.looks.count()?;
         let report = self.children.report(self.looks.made);
@@ -253,7 +272,9 @@ impl Spawner for MemSpawner {
         ensures told { Grows (spawner_told self.old) (spawner_told self.new) (look_told result) }
         ensures asked { Grows (spawner_asked self.old) (spawner_asked self.new) [] }
         ensures cause { HasCause (spawner_faults self.old) (spawner_faults self.new) result }
+        ensures awaited { Grows (spawner_awaited self.old) (spawner_awaited self.new) (until ∷ []) }
     {
+        record_wait(&mut self.awaited, &mut self.tells, until);
         self.looks.count()?;
         let report = self.children.wait_report(self.looks.made, until.is_some());
         self.children.give(&report);
@@ -262,4 +283,6 @@ impl Spawner for MemSpawner {
     }
 
     ghost told_with_out = { λ s. told_with_out s.tells s.told.items (serials s.children) };
+
+    ghost reporting_are_out = { λ s. reporting_among s.tells (raised s.looks.made) s.children };
 }

@@ -1,5 +1,6 @@
 // The system's clock.
 ghost use Rattle.std.specs.Prelude.{◌≡◌, None};
+ghost use Rattle.wm_outside.specs.System.{or_last};
 
 use crate::Clock;
 use std::rt;
@@ -35,17 +36,26 @@ impl<R: rt::Clock> SysClock<R> {
     }
 }
 
+// The moment that was read, or else the last one.
+fn read_or(read: Option<Moment>, last: Moment) -> Moment
+    ensures { result ≡ or_last read last }
+{
+    match read {
+        Some(moment) => moment,
+        None => last,
+    }
+}
+
 impl<R: rt::Clock> Clock for SysClock<R> {
-    ghost use Rattle.wm_outside.specs.System.{clock_last};
+    ghost use Rattle.wm_outside.specs.System.{clock_last, or_last};
 
     ghost coming = { λ _. None };
 
     fn now(&mut self) -> Moment
         ensures { result ≡ clock_last self.new }
     {
-        if let Some(moment) = present(&self.rt) {
-            self.last = moment;
-        }
+        let read = present(&self.rt);
+        self.last = read_or(read, self.last);
         self.last
     }
 }

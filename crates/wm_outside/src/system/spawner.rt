@@ -1,9 +1,9 @@
 // Child programs of std as a spawner.
-ghost use Rattle.std.specs.Prelude.{◌≡◌, ◌≤◌, ◌<◌, ℕ, pos, ◌↔◌, [], ◌∷◌, ◌++◌, ◌==◌, Some, None, Ok, refl, IsTrue, Contains, OnOk, OnErr, length, vec_len, IfOk, IfSome};
+ghost use Rattle.std.specs.Prelude.{◌≡◌, ◌≤◌, ◌<◌, ℕ, pos, ◌↔◌, [], ◌∷◌, ◌++◌, ◌==◌, Some, None, Ok, refl, IsTrue, Contains, OnOk, OnErr, length, slice_get, vec_len, IfOk, IfSome};
 ghost use Rattle.std.specs.List.{list_any};
 ghost use Rattle.std.specs.Process.{command_program, command_args, exit_code};
 ghost use Rattle.wm_outside.specs.Cause.{HasCause, HasStartCause, raised};
-ghost use Rattle.wm_outside.specs.Programs.{serials_of};
+ghost use Rattle.wm_outside.specs.Programs.{serials_of, HasEnded, HasEndedAt, IsExit, IsOut};
 
 use super::clock::present;
 use crate::{Failed, Spawner, StartFault};
@@ -30,6 +30,7 @@ struct Running<P: OpenProcess> {
 fn exit_of(status: ExitStatus) -> Exit
     ensures code { (code : ℕ) → exit_code status ≡ Some (pos code) → code < 256 → result ≡ Exit.Code code }
     ensures signal { exit_code status ≡ None → result ≡ Exit.Killed }
+    ensures exit { IsExit status result }
 {
     let code = status.code().and_then(|code| u8::try_from(code).ok());
     code.map_or(Exit::Killed, Exit::Code)
@@ -50,16 +51,31 @@ fn command_of(alloc: Global, order: &StartOrder) -> Result<Command, AllocError>
     Ok(command)
 }
 
+// Looks at a child, and answers how it ended, where it has.
+fn look_once<P: OpenProcess>(running: &mut Running<P>) -> Result<Option<Exit>, Failed>
+    ensures same { running.new.serial ≡ running.old.serial }
+    ensures ended { IfOk result (λ found. IfSome found (λ exit. HasEnded running.new exit)) }
+    ensures out { result ≡ Ok None → IsOut running.new }
+{
+    match running.child.try_wait() {
+        Ok(Some(status)) => Ok(Some(exit_of(status))),
+        Ok(None) => Ok(None),
+        Err(_) => Err(Failed),
+    }
+}
+
 // Looks at each child once, until one has ended, and answers its place and how it ended.
 #[tactic(auto, using(crate::proofs::Programs::same_serials))]
 fn look_at<P: OpenProcess>(children: &mut [Running<P>]) -> Result<Option<(usize, Exit)>, Failed>
     ensures same { serials_of children.new ≡ serials_of children.old }
     ensures place { IfOk result (λ found. IfSome found (λ ended. ended.0 < length children.new)) }
+    ensures ended { IfOk result (λ found. IfSome found (λ ended. HasEndedAt children.new ended.0 ended.1)) }
+    ensures out { result ≡ Ok None → (k : ℕ) → IfSome (slice_get children.new k) (λ child. IsOut child) }
 {
     let mut failed = false;
-    for (i, running) in children.iter_mut().enumerate() {
-        match running.child.try_wait() {
-            Ok(Some(status)) => return Ok(Some((i, exit_of(status)))),
+    for i in 0..children.len() {
+        match look_once(&mut children[i]) {
+            Ok(Some(exit)) => return Ok(Some((i, exit))),
             Ok(None) => {}
             Err(_) => failed = true,
         }
@@ -90,6 +106,7 @@ fn look_until<P: OpenProcess, C: rt::Clock, W: Wait>(
     ensures same { serials_of children.new ≡ serials_of children.old }
     ensures none { result ≡ Ok None → until.now ≡ None → serials_of children.old ≡ [] }
     ensures place { IfOk result (λ found. IfSome found (λ ended. ended.0 < length children.new)) }
+    ensures ended { IfOk result (λ found. IfSome found (λ ended. HasEndedAt children.new ended.0 ended.1)) }
 {
     let mut pause = FIRST_PAUSE;
     for _ in rt.forever() {
@@ -142,6 +159,7 @@ pub struct SysSpawner<R: Processes + rt::Clock> {
 }
 
 impl<R: Processes + rt::Clock> SysSpawner<R> {
+    ghost use Rattle.wm_outside.specs.Programs.{ReportsExit};
     ghost use Rattle.wm_outside.specs.System.{children_out, child_misses, child_faults, GivesUp};
 
     pub fn new(alloc: Global, rt: R) -> SysSpawner<R>
@@ -171,6 +189,7 @@ impl<R: Processes + rt::Clock> SysSpawner<R> {
     fn take(&mut self, at: usize, exit: Exit) -> Event
         requires { at < vec_len self.old.children }
         ensures gives { GivesUp (Ok (Some result)) (children_out self.old) (children_out self.new) }
+        ensures exit { ReportsExit exit result }
         ensures misses { child_misses self.new ≡ child_misses self.old }
         ensures faults { child_faults self.new ≡ child_faults self.old }
     {
@@ -185,6 +204,7 @@ impl<R: Processes + rt::Clock> SysSpawner<R> {
     ) -> Result<Option<Event>, Failed>
         requires { IfOk found (λ found. IfSome found (λ ended. ended.0 < vec_len self.old.children)) }
         ensures gives { GivesUp result (children_out self.old) (children_out self.new) }
+        ensures exit { IfOk found (λ found. IfSome found (λ ended. IfOk result (λ report. IfSome report (ReportsExit ended.1)))) }
         ensures none { result ≡ Ok None → found ≡ Ok None }
         ensures cause { HasCause (child_faults self.old) (child_faults self.new) result }
         ensures misses { child_misses self.new ≡ child_misses self.old }
@@ -211,6 +231,8 @@ impl<R: Processes + rt::Clock> Spawner for SysSpawner<R> {
     ghost told = { λ _. None };
 
     ghost reporting = { λ _. None };
+
+    ghost awaited = { λ _. None };
 
     fn start(&mut self, order: &StartOrder) -> Result<(), StartFault>
         ensures started { OnOk result (children_out self.new ≡ children_out self.old ++ order.now.serial ∷ []) }
@@ -273,4 +295,6 @@ impl<R: Processes + rt::Clock> Spawner for SysSpawner<R> {
     }
 
     ghost told_with_out = { λ _. refl };
+
+    ghost reporting_are_out = { λ _. tt };
 }

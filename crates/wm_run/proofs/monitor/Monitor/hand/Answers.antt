@@ -1,6 +1,6 @@
 use Rattle.std.proofs.Common.{Some, None, refl, sym, ap, ◌∙◌}
 use Rattle.wm_base.specs.declared.job.Asked.TheVariants.{Start, Kill}
-use Rattle.wm_run.proofs.Monitors.{BeginsWithHand-only, BeginsWithHand-then, nothing_part, killed_part, started_part}
+use Rattle.wm_run.proofs.Monitors.{BeginsWithHand-only, BeginsWithHand-then, hands_at, nothing_part, killed_part, one_hand, started_part}
 use Rattle.wm_run.proofs.monitor.Monitor.hand.Goals as goal
 
 pub returns-in-None-clause-part : goal.returns-in-None-clause-part
@@ -52,3 +52,21 @@ returns-in_ok-send_kept-in-Some-Start-clause-hand g c =
     let s = g.P.Spawner in
     let q = c.start.new.spawner in
     BeginsWithHand-then c.args.floor.now c.call.new.self c.send_kept.new.floor _ c.in_ok-call.ensures.ok refl (c.send_kept.ensures.part (s.asked q) (s.told q) (s.misses q)).log
+
+pub returns-in_err-send_kept-in-Some-Start-clause-one : goal.returns-in_err-send_kept-in-Some-Start-clause-one
+returns-in_err-send_kept-in-Some-Start-clause-one g c =
+    let s = g.P.Spawner in
+    let q = c.start.new.spawner in
+    one_hand c.args.floor.now c.call.new.self c.send_kept.new.floor _ c.in_ok-call.ensures.ok (c.send_kept.ensures.part (s.asked q) (s.told q) (s.misses q)).log c.send_kept.ensures.no_hand
+
+pub returns-in_ok-send_kept-in-Some-Start-clause-one : goal.returns-in_ok-send_kept-in-Some-Start-clause-one
+returns-in_ok-send_kept-in-Some-Start-clause-one g c =
+    let s = g.P.Spawner in
+    let q = c.start.new.spawner in
+    one_hand c.args.floor.now c.call.new.self c.send_kept.new.floor _ c.in_ok-call.ensures.ok (c.send_kept.ensures.part (s.asked q) (s.told q) (s.misses q)).log c.send_kept.ensures.no_hand
+
+pub returns-in_ok-send_kept-in-Some-Start-clause-moment : goal.returns-in_ok-send_kept-in-Some-Start-clause-moment
+returns-in_ok-send_kept-in-Some-Start-clause-moment g c =
+    let s = g.P.Spawner in
+    let q = c.start.new.spawner in
+    hands_at c.args.floor.now c.call.new.self c.send_kept.new.floor c.now.result (g.C.Clock.coming c.args.clock.now) c.now.ensures.told c.in_ok-call.ensures.ok (c.send_kept.ensures.part (s.asked q) (s.told q) (s.misses q)).log

@@ -18,6 +18,7 @@ looks-preserved g c =
       none = c.in_ok-look.ensures.kept;
       faults = omega arith;
       count = looks_more c.args.floor.now c.looks.floor c.look.new.floor c.looks.counter c.looks.invariant.part.log c.look.ensures.part.log (c.look.ensures.sent (c.in_ok-look.was ∙ ap Ok c.if-not-branch.false)) c.looks.invariant.count;
+      most = omega (arith, c.look.ensures.few, c.looks.invariant.most);
       looks = inr (longer_then c.args.floor.now c.looks.floor c.look.new.floor c.looks.invariant.part.log (c.look.ensures.sent (c.in_ok-look.was ∙ ap Ok c.if-not-branch.false)));
     }
 

@@ -1,16 +1,15 @@
 // A whole run: the words of the command line, the session over the input, and the status.
-ghost use Rattle.std.specs.Prelude.{◌≡◌, ◌≤◌, ◌<◌, ◌↔◌, ◌==◌, IfOk, None, [], length, map, option_to_list, string_bytes, true, false};
+ghost use Rattle.std.specs.Prelude.{◌≡◌, ◌≤◌, None, [], map, option_to_list, string_bytes, true, false};
 ghost use Rattle.std.specs.Io.KnownBytes.{IsAtEnd};
 ghost use Rattle.std.specs.List.{list_all};
-ghost use Rattle.wm_clwords.specs.Lines.{logical_lines};
 ghost use Rattle.wm_law.specs.History.{after, entries_of, IsLegal};
 ghost use Rattle.wm_law.specs.Opening.{opening};
 ghost use Rattle.wm_law.specs.Pending.{active};
 ghost use Rattle.wm_outside.specs.Cause.{raised};
+ghost use Rattle.wm_run.specs.Outcome.{RunCame};
 ghost use Rattle.wm_run.specs.Run.{IsRunStatus, IsServed, ended_status, is_run};
 ghost use Rattle.wm_run.specs.Serving.{is_of_run};
-ghost use Rattle.wm_run.specs.Session.{IsSession, session_pass};
-ghost use Rattle.wm_run.specs.Stopped.{IsStopped};
+ghost use Rattle.wm_run.specs.Session.{session_pass};
 ghost use Rattle.wm_run.specs.Taking.{TakesInput};
 
 use crate::floor::Floor;
@@ -72,17 +71,16 @@ fn is_run(words: &[String]) -> bool
 }
 
 impl Run {
-    ghost use Rattle.std.specs.Prelude.{◌≡◌, ◌<◌, ◌↔◌, IfOk, OnOk, OnErr, IsErrOf, None, length};
+    ghost use Rattle.std.specs.Prelude.{◌≡◌, OnOk, None};
     ghost use Rattle.std.specs.Io.KnownBytes.{IsAtEnd};
-    ghost use Rattle.wm_clwords.specs.Lines.{logical_lines};
     ghost use Rattle.wm_law.specs.History.{after, entries_of, IsLegal};
     ghost use Rattle.wm_law.specs.Opening.{opening};
     ghost use Rattle.wm_law.specs.Pending.{active};
     ghost use Rattle.wm_run.specs.Lists.{since};
+    ghost use Rattle.wm_run.specs.Outcome.{SessionCame};
     ghost use Rattle.wm_run.specs.Serving.{Serves};
-    ghost use Rattle.wm_run.specs.Session.{IsSession, session_pass};
+    ghost use Rattle.wm_run.specs.Session.{session_pass};
     ghost use Rattle.wm_run.specs.Stop.{HasInputCauses};
-    ghost use Rattle.wm_run.specs.Stopped.{IsStopped};
     ghost use Rattle.wm_run.specs.Taking.{TakesInput};
     ghost use Rattle.wm_run.specs.View.{view};
 
@@ -98,12 +96,9 @@ impl Run {
     ) -> Result<bool, Stop>
         ensures serves { Serves (view self.old.floor self.old.monitor (P.asked spawner.old) (P.told spawner.old) (P.misses spawner.old))
             (view self.new.floor self.new.monitor (P.asked spawner.new) (P.told spawner.new) (P.misses spawner.new)) }
-        ensures session { IfOk result (λ faulty. TakesInput (I.left input.old) (I.left input.new) (λ bytes. IsSession (logical_lines bytes)
-            (entries_of session_pass (since self.old.floor self.new.floor)) (O.written out.old) (O.written out.new) faulty)) }
+        ensures input { TakesInput (I.left input.old) (I.left input.new) (λ bytes. SessionCame bytes result
+            (entries_of session_pass (since self.old.floor self.new.floor)) (O.written out.old) (O.written out.new)) }
         ensures end { OnOk result (IsAtEnd (I.left input.new)) }
-        ensures stopped { OnErr result (TakesInput (I.left input.old) (I.left input.new) (λ bytes. IsStopped (logical_lines bytes)
-            (entries_of session_pass (since self.old.floor self.new.floor)) (O.written out.old) (O.written out.new))) }
-        ensures full { TakesInput (I.left input.old) (I.left input.new) (λ bytes. IsErrOf result Stop.InputFull ↔ (1000000000 < length bytes)) }
         ensures idle { OnOk result (active (after opening self.new.floor) ≡ 0) }
         ensures kept { OnOk result (self.new.monitor.kept ≡ None) }
         ensures causes { HasInputCauses result (I.faults input.old) (I.faults input.new) (O.faults out.old) (O.faults out.new) (P.faults spawner.old) (P.faults spawner.new) }
@@ -148,9 +143,7 @@ pub fn run<I: Source, O: Sink, P: Spawner, C: Clock, R: Wait>(
     ensures legal { IsLegal opening result.log.items }
     ensures callers { list_all is_of_run result.log.items ≡ true }
     ensures served { IsServed result.log.items (option_to_list result.kept) (P.asked spawner.old) (P.asked spawner.new) (P.told spawner.old) (P.told spawner.new) (P.misses spawner.old) (P.misses spawner.new) }
-    ensures session { result.status ≤ 1 → TakesInput (I.left input.old) (I.left input.new) (λ bytes. IsSession (logical_lines bytes)
-        (entries_of session_pass result.log.items) (O.written out.old) (O.written out.new) (result.status == 1)) }
-    ensures stopped { 1 < result.status → TakesInput (I.left input.old) (I.left input.new) (λ bytes. IsStopped (logical_lines bytes)
+    ensures input { TakesInput (I.left input.old) (I.left input.new) (λ bytes. RunCame bytes result.status
         (entries_of session_pass result.log.items) (O.written out.old) (O.written out.new)) }
     ensures end { result.status ≤ 1 → IsAtEnd (I.left input.new) }
     ensures idle { result.status ≤ 1 → active (after opening result.log.items) ≡ 0 }
@@ -158,7 +151,6 @@ pub fn run<I: Source, O: Sink, P: Spawner, C: Clock, R: Wait>(
     ensures read_fault { result.status ≡ 3 → raised (I.faults input.old) ≤ I.faults input.new }
     ensures write_fault { result.status ≡ 4 → raised (O.faults out.old) ≤ O.faults out.new }
     ensures wait_fault { result.status ≡ 8 → raised (P.faults spawner.old) ≤ P.faults spawner.new }
-    ensures input_full { TakesInput (I.left input.old) (I.left input.new) (λ bytes. (result.status ≡ 11) ↔ (1000000000 < length bytes)) }
     ensures statuses { IsRunStatus result.status }
     ensures not_begun { result.status ≡ 2 → result.log.items ≡ [] }
 {

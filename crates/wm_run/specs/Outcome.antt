@@ -1,0 +1,50 @@
+-- What came of the bytes of an input.
+use Rattle.std.specs.Prelude.{◌≡◌, ◌↔◌, ℕ, ◌<◌, ◌≤◌, ◌==◌, Bool, List, [], ◌∷◌, ◌++◌, length, Option, Result, IfOk, OnErr, IsErrOf}
+use Rattle.wm_clwords.specs.Lines.{logical_lines}
+use Rattle.wm_law.specs.declared.call.Entry.{Entry}
+use Rattle.wm_run.specs.Session.{Answers, AnsweredBy, IsSession, OneCall, start_call}
+use Rattle.wm_run.specs.Stopped.{IsStopped, StopsIn}
+use Rattle.wm_run.specs.declared.stop.Stop.{Stop}
+use Rattle.wm_run.specs.declared.stop.Stop.TheVariants.{ReadFault, InputFull}
+
+-- these lines have ended in the bytes: all lines but the last, where a letter more stands behind the bytes
+pub record HaveEnded (lines : List (Option (List ℕ))) (bytes : List ℕ) : Type 0 where
+  pub last : Option (List ℕ)
+  pub whole : logical_lines (bytes ++ 88 ∷ []) ≡ lines ++ last ∷ []
+
+-- the lines that have ended were answered, and no other
+pub record AnswersEnded (bytes : List ℕ) (es : List Entry) (before now : Option (List ℕ)) : Type 0 where
+  pub lines : List (Option (List ℕ))
+  pub ended : HaveEnded lines bytes
+  pub faulty : Bool
+  pub answered : AnsweredBy (Answers lines) es before now faulty
+
+-- what came of the bytes that were taken: their lines were answered, or the first of them
+pub record LinesCame (bytes : List ℕ) (result : Result Bool Stop) (es : List Entry) (before now : Option (List ℕ)) : Type 0 where
+  pub answered : IfOk result (λ faulty. AnsweredBy (Answers (logical_lines bytes)) es before now faulty)
+  pub stopped : OnErr result (StopsIn (logical_lines bytes) es before now)
+  -- where the input couldn't be read, those were answered that had ended
+  pub cut_off : IsErrOf result ReadFault → AnswersEnded bytes es before now
+  pub full : IsErrOf result InputFull ↔ (1000000000 < length bytes)
+
+-- a session that was begun, and answered the lines that had ended
+pub record StopsBehind (bytes : List ℕ) (es : List Entry) (before now : Option (List ℕ)) : Type 0 where
+  pub first : List Entry
+  pub middle : List Entry
+  pub parts : es ≡ first ++ middle
+  pub start : OneCall start_call first
+  pub answers : AnswersEnded bytes middle before now
+
+-- the same of a whole session
+pub record SessionCame (bytes : List ℕ) (result : Result Bool Stop) (es : List Entry) (before now : Option (List ℕ)) : Type 0 where
+  pub session : IfOk result (λ faulty. IsSession (logical_lines bytes) es before now faulty)
+  pub stopped : OnErr result (IsStopped (logical_lines bytes) es before now)
+  pub cut_off : IsErrOf result ReadFault → StopsBehind bytes es before now
+  pub full : IsErrOf result InputFull ↔ (1000000000 < length bytes)
+
+-- the same of a run, by its status
+pub record RunCame (bytes : List ℕ) (status : ℕ) (es : List Entry) (before now : Option (List ℕ)) : Type 0 where
+  pub session : status ≤ 1 → IsSession (logical_lines bytes) es before now (status == 1)
+  pub stopped : 1 < status → IsStopped (logical_lines bytes) es before now
+  pub cut_off : status ≡ 3 → StopsBehind bytes es before now
+  pub full : (status ≡ 11) ↔ (1000000000 < length bytes)

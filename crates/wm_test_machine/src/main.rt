@@ -1,0 +1,42 @@
+//! The cases of the machine and of its objects: what each command, each monitor's call and each refusal comes to.
+//!
+//! The cases are the texts of `data/`, which `wm_cases` plays: a question is a CL text, which is called on a
+//! `wm_law::State`, or one of the words of `asked`. Each case begins with the state of an empty store, by the user
+//! QUSER, at the moment 1000. What is printed, and what must be printed, is the number of answers of each file.
+#![tactic(auto)]
+
+mod asked;
+mod change;
+mod entry;
+mod list;
+mod machine;
+mod monitor;
+mod object;
+mod reply;
+mod set;
+mod shown;
+mod text;
+mod times;
+
+use anyhow::Result;
+use machine::Machine;
+use wm_cases::play;
+
+/// The files of cases.
+static FILES: [&str; 7] = [
+    "objects.txt",
+    "descriptions.txt",
+    "opening.txt",
+    "jobs.txt",
+    "refusals.txt",
+    "routing.txt",
+    "built.txt",
+];
+
+fn main(rt: HostRuntime) -> Result<()> {
+    let mut machine = Machine::new(rt.alloc())?;
+    for file in &FILES {
+        play(&rt, file, &mut machine)?;
+    }
+    Ok(())
+}

@@ -1,0 +1,42 @@
+// What no command makes, set by a word.
+use crate::machine::Machine;
+use crate::text::{first_word, moment_of, name_of, number_of, qname_of};
+use anyhow::{Context, Result, bail};
+use wm_desc::Objects;
+use wm_law::{Power, Sbs, SbsPhase};
+
+fn power_of(word: &str) -> Result<Power> {
+    match word {
+        "ON" => Ok(Power::On),
+        "DOWN" => Ok(Power::Down),
+        "DOWNNOW" => Ok(Power::DownNow),
+        _ => bail!("no such power"),
+    }
+}
+
+impl Machine {
+    /// Sets what the first word says: `user`, `objects none`, `number`, `clock`, `power` or `started`.
+    pub fn set(&mut self, words: &str) -> Result<()> {
+        let (what, value) = first_word(words);
+        match what {
+            "user" => self.user = name_of(value)?,
+            "objects" => self.state.objects = Objects::new(self.alloc),
+            "number" => self.state.next_number = u32::try_from(number_of(value)?)?,
+            "clock" => self.state.clock = moment_of(value)?,
+            "power" => self.state.power = power_of(value)?,
+            "started" => self.set_started(value)?,
+            _ => bail!("nothing to be set"),
+        }
+        Ok(())
+    }
+
+    // A subsystem stands last among the started ones.
+    fn set_started(&mut self, sbsd: &str) -> Result<()> {
+        let sbsd = qname_of(sbsd).context("no qualified name")?;
+        self.state.started.push(Sbs {
+            sbsd,
+            phase: SbsPhase::Active,
+        })?;
+        Ok(())
+    }
+}

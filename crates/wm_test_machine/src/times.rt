@@ -1,0 +1,73 @@
+// A question with each number of a range.
+use crate::machine::Machine;
+use crate::text::{first_word, number_of};
+use anyhow::Result;
+use std::alloc::Global;
+
+// How often the answer was given, one time after another.
+#[derive(Drop)]
+struct Run {
+    answer: String,
+    times: u64,
+}
+
+impl Run {
+    // Adds the number of times and the answer, where there is one.
+    fn write(&self, answer: &mut String) -> Result<()> {
+        if !self.answer.is_empty() {
+            write!(answer, "{} {}", self.times, self.answer)?;
+        }
+        Ok(())
+    }
+
+    // One more answer: the run goes on, or is written, and another one begins.
+    fn take(&mut self, next: String, answer: &mut String) -> Result<()> {
+        if self.answer.as_str() != next.as_str() {
+            self.write(answer)?;
+            self.answer = next;
+            self.times = 0;
+        }
+        self.times = self.times.saturating_add(1);
+        Ok(())
+    }
+}
+
+// The text with the number in place of each `#`.
+fn numbered(alloc: Global, text: &str, number: u64) -> Result<String> {
+    let digits = format!(in alloc; "{number}")?;
+    let text = text.replace(alloc, "#", digits.as_str())?;
+    Ok(text)
+}
+
+impl Machine {
+    // Sets something, or calls a command.
+    fn set_or_call(&mut self, question: &str, answer: &mut String) -> Result<()> {
+        match question.strip_prefix("set ") {
+            Some(words) => self.set(words),
+            None => self.command(question, answer),
+        }
+    }
+
+    // The answer to the question with the number.
+    fn numbered_answer(&mut self, question: &str, number: u64) -> Result<String> {
+        let mut answer = String::new(self.alloc);
+        let question = numbered(self.alloc, question, number)?;
+        self.set_or_call(question.as_str(), &mut answer)?;
+        Ok(answer)
+    }
+
+    /// Asks the question of `FIRST LAST QUESTION`, a CL text or a `set ..`, with each number from the first to the last in
+    /// place of `#`, and adds the answers, each with how often it was given.
+    pub fn times(&mut self, words: &str, answer: &mut String) -> Result<()> {
+        let (first, words) = first_word(words);
+        let (last, question) = first_word(words);
+        let mut run = Run {
+            answer: String::new(self.alloc),
+            times: 0,
+        };
+        for number in number_of(first)?..=number_of(last)? {
+            run.take(self.numbered_answer(question, number)?, answer)?;
+        }
+        run.write(answer)
+    }
+}

@@ -1,0 +1,123 @@
+// The forms in memory.
+use super::answers::{answer_asked, answer_bytes};
+use super::spawners::ask_spawner;
+use super::streams::{read, write};
+use super::words::{failing, first_word, moment, named};
+use anyhow::{Result, anyhow, ensure};
+use std::alloc::Global;
+use std::fmt::Write;
+use std::sync::Wait;
+use wm_base::Moment;
+use wm_cases::{Subject, bytes_of};
+use wm_outside::{Clock, MemClock, MemSink, MemSource, MemSpawner};
+
+// One of each form.
+#[derive(Drop)]
+struct Forms {
+    source: MemSource,
+    sink: MemSink,
+    clock: MemClock,
+    spawner: MemSpawner,
+}
+
+// How many bytes a call takes or gives at the most, where that is said.
+fn most(words: &str) -> Result<Option<usize>> {
+    match named(words, "in pieces of ") {
+        Some(number) => Ok(Some(number.parse::<usize>()?)),
+        None => Ok(None),
+    }
+}
+
+// The source of `abcde, in pieces of 2, failing 2`.
+fn source(alloc: Global, words: &str) -> Result<MemSource> {
+    let (text, options) = words.split_once(", ").unwrap_or((words, ""));
+    let bytes = bytes_of(alloc, text)?;
+    let fail = failing(alloc, options, "failing ")?;
+    let Some(most) = most(options)? else {
+        return Ok(MemSource::new(bytes, fail));
+    };
+    ensure!(most > 0, "pieces of no bytes");
+    Ok(MemSource::in_pieces(bytes, fail, most))
+}
+
+// The sink of `in pieces of 2, failing 2`.
+fn sink(alloc: Global, options: &str) -> Result<MemSink> {
+    let fail = failing(alloc, options, "failing ")?;
+    let Some(most) = most(options)? else {
+        return Ok(MemSink::new(alloc, fail));
+    };
+    ensure!(most > 0, "pieces of no bytes");
+    Ok(MemSink::in_pieces(alloc, fail, most))
+}
+
+// The clock of `1000 7`: its first moment, and its step.
+fn clock(words: &str) -> Result<MemClock> {
+    let (first, step) = first_word(words);
+    Ok(MemClock::new(moment(first)?, step.parse::<u64>()?))
+}
+
+// The spawner of `lag 1, failing starts 2, failing kills 1, failing looks 1`.
+fn spawner(alloc: Global, options: &str) -> Result<MemSpawner> {
+    let lag = named(options, "lag ").ok_or(anyhow!("no lag"))?;
+    Ok(MemSpawner::new(
+        alloc,
+        lag.parse::<u32>()?,
+        failing(alloc, options, "failing starts ")?,
+        failing(alloc, options, "failing kills ")?,
+        failing(alloc, options, "failing looks ")?,
+    ))
+}
+
+impl Forms {
+    fn new(alloc: Global) -> Forms {
+        Forms {
+            source: MemSource::new(Vec::new(alloc), Vec::new(alloc)),
+            sink: MemSink::new(alloc, Vec::new(alloc)),
+            clock: MemClock::new(Moment::new(0), 0),
+            spawner: MemSpawner::new(alloc, 0, Vec::new(alloc), Vec::new(alloc), Vec::new(alloc)),
+        }
+    }
+}
+
+/// The forms that a case has made, and before that ones of nothing.
+#[derive(Drop)]
+pub struct MemoryCases<'a, R: Wait> {
+    alloc: Global,
+    rt: &'a R,
+    forms: Forms,
+}
+
+impl<'a, R: Wait> MemoryCases<'a, R> {
+    pub fn new(alloc: Global, rt: &'a R) -> MemoryCases<'a, R> {
+        MemoryCases {
+            alloc,
+            rt,
+            forms: Forms::new(alloc),
+        }
+    }
+}
+
+impl<R: Wait> Subject for MemoryCases<'_, R> {
+    fn begin(&mut self) -> Result<()> {
+        self.forms = Forms::new(self.alloc);
+        Ok(())
+    }
+
+    fn answer(&mut self, question: &str, answer: &mut String) -> Result<()> {
+        let (word, rest) = first_word(question);
+        let (alloc, forms) = (self.alloc, &mut self.forms);
+        match word {
+            "source" => forms.source = source(alloc, rest)?,
+            "sink" => forms.sink = sink(alloc, rest)?,
+            "clock" => forms.clock = clock(rest)?,
+            "spawner" => forms.spawner = spawner(alloc, rest)?,
+            "read" => read(alloc, &mut forms.source, rest, answer)?,
+            "write" => write(alloc, &mut forms.sink, rest, answer)?,
+            "written" => answer_bytes(alloc, forms.sink.bytes(), answer)?,
+            "now" => writeln!(answer, "{}", forms.clock.now())?,
+            "asked" => answer_asked(forms.spawner.asked(), answer)?,
+            _ => ask_spawner(self.rt, alloc, &mut forms.spawner, question, answer)?,
+        }
+        Ok(())
+    }
+}

@@ -1,0 +1,135 @@
+// The adapters of the real things.
+use super::answers::{answer_bytes, answer_look};
+use super::flaky::{Flaky, Full, SetBack, Stopped};
+use super::spawners::ask_spawner;
+use super::streams::{read, write};
+use super::words::{BAR, first_word, unknown};
+use anyhow::{Result, anyhow};
+use std::alloc::Global;
+use std::fmt::Write;
+use std::process::Processes;
+use std::rt;
+use std::sync::Wait;
+use std::time::Duration;
+use wm_base::Event;
+use wm_cases::{Subject, bytes_of};
+use wm_outside::{Clock, Failed, ReadSource, Spawner, SysClock, SysSpawner, WriteSink};
+
+// Reads of `flaky | 2 | 2`, and of `slice ab | 2 | 2`.
+fn read_reader(alloc: Global, words: &str, answer: &mut String) -> Result<()> {
+    let (reader, lengths) = words.split_once(BAR).ok_or(anyhow!("no lengths"))?;
+    match first_word(reader) {
+        ("flaky", _) => read(alloc, &mut ReadSource::new(Flaky::new()), lengths, answer),
+        ("slice", text) => {
+            let bytes = bytes_of(alloc, text)?;
+            read(
+                alloc,
+                &mut ReadSource::new(bytes.as_slice()),
+                lengths,
+                answer,
+            )
+        }
+        _ => unknown(reader),
+    }
+}
+
+// Writes to `flaky | ab | b`, to `full | a` and to `vector | ab`, whose bytes are answered too.
+fn write_writer(alloc: Global, words: &str, answer: &mut String) -> Result<()> {
+    let (writer, texts) = words.split_once(BAR).ok_or(anyhow!("no texts"))?;
+    match writer {
+        "flaky" => write(alloc, &mut WriteSink::new(Flaky::new()), texts, answer),
+        "full" => write(alloc, &mut WriteSink::new(Full), texts, answer),
+        "vector" => {
+            let mut bytes: Vec<u8> = Vec::new(alloc);
+            write(alloc, &mut WriteSink::new(&mut bytes), texts, answer)?;
+            answer_bytes(alloc, &bytes, answer)
+        }
+        _ => unknown(writer),
+    }
+}
+
+// The moments of a clock that is `back 1000 900`.
+fn ask_set_back(words: &str, answer: &mut String) -> Result<()> {
+    let (first, later) = first_word(words);
+    let mut clock = SysClock::new(SetBack::new(first.parse::<u64>()?, later.parse::<u64>()?));
+    writeln!(answer, "{}", clock.now())?;
+    writeln!(answer, "{}", clock.now())?;
+    Ok(())
+}
+
+// The moment of a clock `at 1000` and of one that is `unreadable`, and whether the real one is `past 1000`.
+fn ask_clock<C: rt::Clock>(real: &C, words: &str, answer: &mut String) -> Result<()> {
+    match first_word(words) {
+        ("at", seconds) => {
+            let stopped = Stopped(Some(seconds.parse::<u64>()?));
+            writeln!(answer, "{}", SysClock::new(stopped).now())?;
+        }
+        ("back", seconds) => ask_set_back(seconds, answer)?,
+        ("unreadable", _) => writeln!(answer, "{}", SysClock::new(Stopped(None)).now())?,
+        ("past", seconds) => {
+            let is_past = SysClock::new(real).now().get() > seconds.parse::<u64>()?;
+            writeln!(answer, "{is_past}")?;
+        }
+        _ => unknown(words)?,
+    }
+    Ok(())
+}
+
+// The pause between two looks, in milliseconds.
+const PAUSE: u64 = 10;
+
+// Looks up to so many times, with a pause between two, until there is a report.
+fn look_often<C: rt::Clock, S: Spawner>(
+    clock: &C,
+    spawner: &mut S,
+    most: u32,
+) -> Result<Option<Event>, Failed> {
+    for _ in 0..most {
+        let found = spawner.ended()?;
+        if found.is_some() {
+            return Ok(found);
+        }
+        clock.sleep(Duration::from_millis(PAUSE));
+    }
+    Ok(None)
+}
+
+/// The adapters that a case asks. The spawner is one for all of a case.
+#[derive(Drop)]
+pub struct SystemCases<'a, R: Processes + Wait + rt::Clock> {
+    alloc: Global,
+    rt: &'a R,
+    spawner: SysSpawner<&'a R>,
+}
+
+impl<'a, R: Processes + Wait + rt::Clock> SystemCases<'a, R> {
+    pub fn new(alloc: Global, rt: &'a R) -> SystemCases<'a, R> {
+        SystemCases {
+            alloc,
+            rt,
+            spawner: SysSpawner::new(alloc, rt),
+        }
+    }
+}
+
+impl<R: Processes + Wait + rt::Clock> Subject for SystemCases<'_, R> {
+    fn begin(&mut self) -> Result<()> {
+        self.spawner = SysSpawner::new(self.alloc, self.rt);
+        Ok(())
+    }
+
+    fn answer(&mut self, question: &str, answer: &mut String) -> Result<()> {
+        let (word, rest) = first_word(question);
+        let alloc = self.alloc;
+        match word {
+            "read" => read_reader(alloc, rest, answer),
+            "write" => write_writer(alloc, rest, answer),
+            "clock" => ask_clock(self.rt, rest, answer),
+            "looks" => {
+                let found = look_often(self.rt, &mut self.spawner, rest.parse::<u32>()?);
+                answer_look(found, answer)
+            }
+            _ => ask_spawner(self.rt, alloc, &mut self.spawner, question, answer),
+        }
+    }
+}

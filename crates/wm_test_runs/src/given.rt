@@ -1,0 +1,96 @@
+// What a run is given.
+use anyhow::{Result, anyhow};
+use std::alloc::{AllocError, Global};
+
+// Which call fails: the number, from 1, of a read, a write, a start, a kill or a look.
+#[derive(Clone, Copy, PartialEq, Eq)]
+pub enum Failing {
+    Read,
+    Write,
+    Start,
+    Kill,
+    Look,
+}
+
+impl Failing {
+    fn of(word: &str) -> Option<Failing> {
+        match word {
+            "read" => Some(Failing::Read),
+            "write" => Some(Failing::Write),
+            "start" => Some(Failing::Start),
+            "kill" => Some(Failing::Kill),
+            "look" => Some(Failing::Look),
+            _ => None,
+        }
+    }
+}
+
+/// The words, the input, the calls that fail, and the numbers that the forms in memory are made with.
+#[derive(Drop)]
+pub struct Given {
+    pub words: Vec<String>,
+    pub input: Vec<u8>,
+    pub failing: Vec<(Failing, u32)>,
+    /// How many looks a child is out before it has its report.
+    pub lag: u32,
+    /// How many bytes a read or a write takes at the most.
+    pub most: usize,
+    pub first: u64,
+    pub step: u64,
+    /// What a spawner of the test tells, look by look; empty for the spawner in memory.
+    pub tells: Vec<String>,
+}
+
+impl Given {
+    /// The word `run`, no input, children that end at once, a clock that stands at 1000, and nothing that fails.
+    pub fn new(alloc: Global) -> Result<Given> {
+        let mut words = Vec::new(alloc);
+        words.push(String::from_str(alloc, "run")?)?;
+        Ok(Given {
+            words,
+            input: Vec::new(alloc),
+            failing: Vec::new(alloc),
+            lag: 0,
+            most: 4096,
+            first: 1000,
+            step: 0,
+            tells: Vec::new(alloc),
+        })
+    }
+
+    /// Sets the words, which are parted by blanks.
+    pub fn words(&mut self, alloc: Global, text: &str) -> Result<()> {
+        self.words.clear();
+        for word in text.split_whitespace() {
+            self.words.push(String::from_str(alloc, word)?)?;
+        }
+        Ok(())
+    }
+
+    /// The numbers of the calls that fail.
+    pub fn fails(&self, alloc: Global, failing: Failing) -> Result<Vec<u32>, AllocError> {
+        let mut numbers = Vec::new(alloc);
+        for (own, number) in self.failing.iter() {
+            if *own == failing {
+                numbers.push(*number)?;
+            }
+        }
+        Ok(numbers)
+    }
+
+    /// Sets `fail look 2`.
+    pub fn fail(&mut self, text: &str) -> Result<()> {
+        let (word, number) = text.split_once(' ').ok_or(anyhow!("no number"))?;
+        let failing = Failing::of(word).ok_or(anyhow!("no such call"))?;
+        self.failing.push((failing, number.parse::<u32>()?))?;
+        Ok(())
+    }
+
+    /// Sets `clock 1000 7`.
+    pub fn clock(&mut self, text: &str) -> Result<()> {
+        let (first, step) = text.split_once(' ').ok_or(anyhow!("no step"))?;
+        self.first = first.parse::<u64>()?;
+        self.step = step.parse::<u64>()?;
+        Ok(())
+    }
+}

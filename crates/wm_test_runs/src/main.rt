@@ -1,0 +1,22 @@
+//! Tests of whole runs: scripts of commands with what a run over objects in memory writes, asks and records.
+//!
+//! Each question of `data/*.txt` either sets what the next run is given, or runs, or shows one part of what the run did;
+//! `docs/TESTS.md` has them all. What no clause says is shown here: that runs succeed with ample memory, and that the
+//! clauses mean what they should.
+#![tactic(auto)]
+
+mod given;
+mod shown;
+mod subject;
+mod told;
+
+use anyhow::Result;
+use subject::Runs;
+use wm_cases::play;
+
+fn main(rt: HostRuntime) -> Result<()> {
+    let mut runs = Runs::new(&rt, rt.alloc())?;
+    play(&rt, "scripts.txt", &mut runs)?;
+    play(&rt, "faults.txt", &mut runs)?;
+    play(&rt, "reports.txt", &mut runs)
+}

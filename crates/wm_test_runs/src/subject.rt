@@ -1,0 +1,156 @@
+// The questions, and the run that they are about.
+use crate::given::{Failing, Given};
+use crate::shown::{push_asked, push_entry};
+use crate::told::Telling;
+use anyhow::Result;
+use std::alloc::Global;
+use std::sync::Wait;
+use wm_base::Moment;
+use wm_cases::{Subject, bytes_of};
+use wm_outside::{MemClock, MemSink, MemSource, MemSpawner, Spawner};
+use wm_run::{Ran, run};
+
+/// What a run did, and what the next one is given.
+#[derive(Drop)]
+pub struct Runs<'a, W: Wait> {
+    rt: &'a W,
+    alloc: Global,
+    given: Given,
+    status: u8,
+    written: Vec<u8>,
+    log: String,
+    asked: String,
+}
+
+impl<'a, W: Wait> Runs<'a, W> {
+    /// No run yet, and nothing given.
+    pub fn new(rt: &'a W, alloc: Global) -> Result<Runs<'a, W>> {
+        Ok(Runs {
+            rt,
+            alloc,
+            given: Given::new(alloc)?,
+            status: 0,
+            written: Vec::new(alloc),
+            log: String::new(alloc),
+            asked: String::new(alloc),
+        })
+    }
+
+    // Runs with this spawner. What is left of it stays with the caller.
+    fn run_with<P: Spawner>(&mut self, spawner: &mut P) -> Result<()> {
+        let given = &self.given;
+        let most = given.most.max(1);
+        let mut source = MemSource::in_pieces(
+            given.input.clone()?,
+            given.fails(self.alloc, Failing::Read)?,
+            most,
+        );
+        let fails = given.fails(self.alloc, Failing::Write)?;
+        let mut sink = MemSink::in_pieces(self.alloc, fails, most);
+        let mut clock = MemClock::new(Moment::new(given.first.min(Moment::MAX)), given.step);
+        let ran = run(
+            self.rt,
+            self.alloc,
+            &given.words,
+            &mut source,
+            &mut sink,
+            spawner,
+            &mut clock,
+        );
+        self.keep(&ran, sink.bytes())
+    }
+
+    fn keep(&mut self, ran: &Ran, written: &[u8]) -> Result<()> {
+        self.status = ran.status;
+        self.written = written.to_vec(self.alloc)?;
+        self.log.clear();
+        for entry in ran.log.iter() {
+            push_entry(&mut self.log, self.alloc, entry)?;
+        }
+        Ok(())
+    }
+
+    // Runs with the spawner in memory, and shows what it was asked.
+    fn run_in_memory(&mut self) -> Result<()> {
+        let given = &self.given;
+        let mut spawner = MemSpawner::new(
+            self.alloc,
+            given.lag,
+            given.fails(self.alloc, Failing::Start)?,
+            given.fails(self.alloc, Failing::Kill)?,
+            given.fails(self.alloc, Failing::Look)?,
+        );
+        self.run_with(&mut spawner)?;
+        self.asked.clear();
+        for asked in spawner.asked() {
+            push_asked(&mut self.asked, self.alloc, asked)?;
+        }
+        Ok(())
+    }
+
+    fn run(&mut self) -> Result<()> {
+        if self.given.tells.is_empty() {
+            return self.run_in_memory();
+        }
+        let mut spawner = Telling::new(self.alloc, &self.given.tells)?;
+        self.run_with(&mut spawner)
+    }
+
+    // What is set by a word and its text. It answers whether there is such a word.
+    fn set(&mut self, word: &str, text: &str) -> Result<bool> {
+        match word {
+            "words" => self.given.words(self.alloc, text)?,
+            "line" => {
+                let bytes = bytes_of(self.alloc, text)?;
+                self.given.input.extend_from_slice(&bytes)?;
+                self.given.input.push(b'\n')?;
+            }
+            "bytes" => {
+                let bytes = bytes_of(self.alloc, text)?;
+                self.given.input.extend_from_slice(&bytes)?;
+            }
+            "fail" => self.given.fail(text)?,
+            "lag" => self.given.lag = text.parse::<u32>()?,
+            "pieces" => self.given.most = text.parse::<usize>()?,
+            "clock" => self.given.clock(text)?,
+            "look" => self.given.tells.push(String::from_str(self.alloc, text)?)?,
+            _ => return Ok(false),
+        }
+        Ok(true)
+    }
+
+    fn show(&mut self, question: &str, answer: &mut String) -> Result<()> {
+        match question {
+            "no words" => self.given.words.clear(),
+            "run" => {
+                self.run()?;
+                let line = format!(in self.alloc; "status {}\n", self.status)?;
+                answer.push_str(line.as_str())?;
+            }
+            "written" => {
+                let text = String::from_utf8_lossy(self.alloc, &self.written)?;
+                answer.push_str(text.as_str())?;
+            }
+            "asked" => answer.push_str(self.asked.as_str())?,
+            "log" => answer.push_str(self.log.as_str())?,
+            _ => answer.push_str("no such question\n")?,
+        }
+        Ok(())
+    }
+}
+
+impl<'a, W: Wait> Subject for Runs<'a, W> {
+    fn begin(&mut self) -> Result<()> {
+        self.given = Given::new(self.alloc)?;
+        Ok(())
+    }
+
+    fn answer(&mut self, question: &str, answer: &mut String) -> Result<()> {
+        if let Some((word, text)) = question.split_once(' ') {
+            if self.set(word, text)? {
+                return Ok(());
+            }
+        }
+        self.show(question, answer)
+    }
+}
