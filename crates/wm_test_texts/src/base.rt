@@ -29,48 +29,44 @@ impl BaseCases {
         BaseCases { alloc }
     }
 
-    // Names and texts. Whether the question is one of these.
-    fn named(&self, asked: &str, text: &str, answer: &mut String) -> Result<bool> {
+    fn named(&self, asked: &str, text: &str, answer: &mut String) -> Result<()> {
         match asked {
-            "name" => names::name(self.alloc, text, answer)?,
-            "views" => names::views(self.alloc, text, answer)?,
-            "order" => names::order(text, answer)?,
-            "text" => names::text(self.alloc, text, answer)?,
-            "grown" => names::grown(self.alloc, text, answer)?,
-            "args" => names::args(self.alloc, text, answer)?,
-            "qname" => names::qname(text, answer)?,
-            "job" => names::job(text, answer)?,
-            _ => return Ok(false),
+            "name" => names::name(self.alloc, text, answer),
+            "views" => names::views(self.alloc, text, answer),
+            "order" => names::order(text, answer),
+            "text" => names::text(self.alloc, text, answer),
+            "grown" => names::grown(self.alloc, text, answer),
+            "args" => names::args(self.alloc, text, answer),
+            "qname" => names::qname(text, answer),
+            "job" => names::job(text, answer),
+            _ => BaseCases::numbered(asked, text, answer),
         }
-        Ok(true)
     }
 
-    fn numbered(asked: &str, text: &str, answer: &mut String) -> Result<bool> {
+    fn numbered(asked: &str, text: &str, answer: &mut String) -> Result<()> {
         match asked {
-            "number" => numbers::number(text, answer)?,
-            "serial" => numbers::serial(text, answer)?,
-            "priority" => numbers::priority(text, answer)?,
-            "moment" => numbers::moment(text, answer)?,
-            "greatest" => numbers::greatest(answer)?,
-            "limit" => numbers::limit(text, answer)?,
-            "admits" => numbers::admits(text, answer)?,
-            "count" => numbers::count(answer)?,
-            _ => return Ok(false),
+            "number" => numbers::number(text, answer),
+            "serial" => numbers::serial(text, answer),
+            "priority" => numbers::priority(text, answer),
+            "moment" => numbers::moment(text, answer),
+            "greatest" => numbers::greatest(answer),
+            "limit" => numbers::limit(text, answer),
+            "admits" => numbers::admits(text, answer),
+            "count" => numbers::count(answer),
+            _ => BaseCases::worded(asked, text, answer),
         }
-        Ok(true)
     }
 
-    fn worded(asked: &str, text: &str, answer: &mut String) -> Result<bool> {
+    fn worded(asked: &str, text: &str, answer: &mut String) -> Result<()> {
         match asked {
-            "exit" => causes::exit(text, answer)?,
-            "causes" => causes::causes(answer)?,
-            "refusals" => causes::refusals(answer)?,
-            "kinds" => causes::kinds(answer)?,
-            "phases" => causes::phases(answer)?,
-            "keywords" => causes::keywords(answer)?,
-            _ => return Ok(false),
+            "exit" => causes::exit(text, answer),
+            "causes" => causes::causes(answer),
+            "refusals" => causes::refusals(answer),
+            "kinds" => causes::kinds(answer),
+            "phases" => causes::phases(answer),
+            "keywords" => causes::keywords(answer),
+            _ => bail!("no question: {asked}"),
         }
-        Ok(true)
     }
 }
 
@@ -81,12 +77,6 @@ impl Subject for BaseCases {
 
     fn answer(&mut self, question: &str, answer: &mut String) -> Result<()> {
         let (asked, text) = asked::parts(question);
-        if self.named(asked, text, answer)?
-            || BaseCases::numbered(asked, text, answer)?
-            || BaseCases::worded(asked, text, answer)?
-        {
-            return Ok(());
-        }
-        bail!("no question: {question}")
+        self.named(asked, text, answer)
     }
 }

@@ -37,14 +37,13 @@ impl Subject for CallCases {
     fn answer(&mut self, question: &str, answer: &mut String) -> Result<()> {
         let (asked, text) = asked::parts(question);
         match asked {
-            "print" => print(self.alloc, text, answer)?,
-            "read" => read(self.alloc, text, answer)?,
-            "values" => count_values(self.alloc, text, answer)?,
-            "items" => read_lists(self.alloc, text, answer)?,
-            "names" => read_names(self.alloc, text, answer)?,
-            _ => bail!("no question: {question}"),
+            "print" => print(self.alloc, text, answer),
+            "read" => read(self.alloc, text, answer),
+            "values" => count_values(self.alloc, text, answer),
+            "items" => read_lists(self.alloc, text, answer),
+            "names" => read_names(self.alloc, text, answer),
+            _ => bail!("no question: {asked}"),
         }
-        Ok(())
     }
 }
 
@@ -67,7 +66,7 @@ fn print(alloc: Global, text: &str, answer: &mut String) -> Result<()> {
 }
 
 // The canonical text of what was read.
-fn push_call(alloc: Global, read: Result<CallText, CallFault>, answer: &mut String) -> Result<()> {
+fn push_call(alloc: Global, read: &Result<CallText, CallFault>, answer: &mut String) -> Result<()> {
     match read {
         Err(fault) => writeln!(answer, "{fault:?}")?,
         Ok(call) => {
@@ -78,13 +77,7 @@ fn push_call(alloc: Global, read: Result<CallText, CallFault>, answer: &mut Stri
     Ok(())
 }
 
-fn read(alloc: Global, text: &str, answer: &mut String) -> Result<()> {
-    let read = read_call(alloc, &bytes_of(alloc, text)?);
-    push_call(alloc, read, answer)
-}
-
-fn count_values(alloc: Global, text: &str, answer: &mut String) -> Result<()> {
-    let read = read_call(alloc, &bytes_of(alloc, text)?);
+fn push_count(read: &Result<CallText, CallFault>, answer: &mut String) -> Result<()> {
     match read {
         Err(fault) => writeln!(answer, "{fault:?}")?,
         Ok(call) => writeln!(answer, "{}", call.parms.len())?,
@@ -92,19 +85,33 @@ fn count_values(alloc: Global, text: &str, answer: &mut String) -> Result<()> {
     Ok(())
 }
 
+fn read(alloc: Global, text: &str, answer: &mut String) -> Result<()> {
+    let bytes = bytes_of(alloc, text)?;
+    push_call(alloc, &read_call(alloc, &bytes), answer)
+}
+
+fn count_values(alloc: Global, text: &str, answer: &mut String) -> Result<()> {
+    let bytes = bytes_of(alloc, text)?;
+    push_count(&read_call(alloc, &bytes), answer)
+}
+
+fn read_list(alloc: Global, items: &[Item], answer: &mut String) -> Result<()> {
+    write!(answer, "{} items, ", items.len())?;
+    let others = items.get(1..).unwrap_or(&[]);
+    push_call(alloc, &read_call_items(alloc, others), answer)
+}
+
 fn read_lists(alloc: Global, text: &str, answer: &mut String) -> Result<()> {
     let tree = read_command(alloc, text.as_bytes())?;
     for item in &tree.items {
         if let Item::Keyed(_, _, items) = item {
-            write!(answer, "{} items, ", items.len())?;
-            let read = read_call_items(alloc, items.get(1..).unwrap_or(&[]));
-            push_call(alloc, read, answer)?;
+            read_list(alloc, items, answer)?;
         }
     }
     Ok(())
 }
 
-fn push_name(name: Option<QName>, answer: &mut String) -> Result<()> {
+fn push_name(name: &Option<QName>, answer: &mut String) -> Result<()> {
     match name {
         None => answer.push_str("none")?,
         Some(name) => write!(answer, "{name}")?,
@@ -112,13 +119,18 @@ fn push_name(name: Option<QName>, answer: &mut String) -> Result<()> {
     Ok(())
 }
 
+fn push_names(item: &Item, answer: &mut String) -> Result<()> {
+    push_name(&read_object(item), answer)?;
+    answer.push(' ')?;
+    push_name(&read_program(item), answer)?;
+    answer.push('\n')?;
+    Ok(())
+}
+
 fn read_names(alloc: Global, text: &str, answer: &mut String) -> Result<()> {
     let tree = read_command(alloc, text.as_bytes())?;
     for item in &tree.items {
-        push_name(read_object(item), answer)?;
-        answer.push(' ')?;
-        push_name(read_program(item), answer)?;
-        answer.push('\n')?;
+        push_names(item, answer)?;
     }
     Ok(())
 }

@@ -35,14 +35,13 @@ impl Subject for CommandCases {
     fn answer(&mut self, question: &str, answer: &mut String) -> Result<()> {
         let (asked, text) = asked::parts(question);
         match asked {
-            "check" => check(self.alloc, text, answer)?,
-            "print" => print_twice(self.alloc, text, answer)?,
-            "value" => write_value(self.alloc, text, answer)?,
-            "opening" if text.is_empty() => count_opening(self.alloc, answer)?,
-            "opening" => compare_opening(self.alloc, text, answer)?,
-            _ => bail!("no question: {question}"),
+            "check" => check(self.alloc, text, answer),
+            "print" => print_twice(self.alloc, text, answer),
+            "value" => write_value(self.alloc, text, answer),
+            "opening" if text.is_empty() => count_opening(self.alloc, answer),
+            "opening" => compare_opening(self.alloc, text, answer),
+            _ => bail!("no question: {asked}"),
         }
-        Ok(())
     }
 }
 
@@ -76,7 +75,8 @@ fn check(alloc: Global, text: &str, answer: &mut String) -> Result<()> {
     if let Some(fault) = found(alloc, &bytes)? {
         return push_fault(fault, text.find('^').unwrap_or(0), answer);
     }
-    answer.push_str(changes_or_reads(&read_line(alloc, &bytes)?))?;
+    let word = changes_or_reads(&read_line(alloc, &bytes)?);
+    answer.push_str(word)?;
     Ok(())
 }
 
@@ -88,8 +88,12 @@ fn changes_or_reads(line: &Line) -> &'static str {
 }
 
 fn canonical(alloc: Global, bytes: &[u8]) -> Result<Text> {
-    match read_line(alloc, bytes)? {
-        Line::Change(command) => Ok(print(alloc, &command)?),
+    print_line(alloc, &read_line(alloc, bytes)?)
+}
+
+fn print_line(alloc: Global, line: &Line) -> Result<Text> {
+    match line {
+        Line::Change(command) => Ok(print(alloc, command)?),
         Line::Read(_) => bail!("no canonical text"),
     }
 }
@@ -110,7 +114,10 @@ fn print_again(alloc: Global, printed: &Text, answer: &mut String) -> Result<()>
 }
 
 fn write_value(alloc: Global, text: &str, answer: &mut String) -> Result<()> {
-    let line = read_line(alloc, text.as_bytes())?;
+    write_line(&read_line(alloc, text.as_bytes())?, answer)
+}
+
+fn write_line(line: &Line, answer: &mut String) -> Result<()> {
     writeln!(answer, "{line:?}")?;
     Ok(())
 }
@@ -123,14 +130,17 @@ fn count_opening(alloc: Global, answer: &mut String) -> Result<()> {
 
 fn compare_opening(alloc: Global, text: &str, answer: &mut String) -> Result<()> {
     let (number, text) = asked::parts(text);
-    let line = read_line(alloc, text.as_bytes())?;
-    let same = is_opening(alloc, number.parse::<usize>()?, &line)?;
+    let same = is_opening(alloc, number.parse::<usize>()?, text)?;
     writeln!(answer, "{same}")?;
     Ok(())
 }
 
-// Whether a line is the command with this number of those that make the opening state.
-fn is_opening(alloc: Global, number: usize, line: &Line) -> Result<bool> {
+// Whether a text is read as the command with this number of those that make the opening state.
+fn is_opening(alloc: Global, number: usize, text: &str) -> Result<bool> {
+    is_opening_line(alloc, number, &read_line(alloc, text.as_bytes())?)
+}
+
+fn is_opening_line(alloc: Global, number: usize, line: &Line) -> Result<bool> {
     let commands = opening_commands(alloc)?;
     Ok(is_change(line, commands.get(number.wrapping_sub(1))))
 }

@@ -22,13 +22,18 @@ impl Subject for DateCases {
     fn answer(&mut self, question: &str, answer: &mut String) -> Result<()> {
         let (asked, text) = asked::parts(question);
         match asked {
-            "date" => writeln!(answer, "{}", is_date(text.parse::<u32>()?))?,
-            "calendar" => compare_years(text, answer)?,
-            "schedule" => schedules::range(text, answer)?,
-            _ => bail!("no question: {question}"),
+            "date" => tell_date(text, answer),
+            "calendar" => compare_years(text, answer),
+            "schedule" => schedules::range(text, answer),
+            _ => bail!("no question: {asked}"),
         }
-        Ok(())
     }
+}
+
+fn tell_date(text: &str, answer: &mut String) -> Result<()> {
+    let number = text.parse::<u32>()?;
+    writeln!(answer, "{}", is_date(number))?;
+    Ok(())
 }
 
 fn jiff_has(year: u16, month: u8, day: u8) -> bool {

@@ -2,23 +2,23 @@
 use anyhow::Result;
 use std::alloc::Global;
 use wm_base::Name;
-use wm_clwords::read_command;
+use wm_clwords::{Tree, read_command};
 use wm_command::{CmdFault, Line, command};
 
 /// The line that a command is, as the user ANN types it.
 pub fn read_line(alloc: Global, bytes: &[u8]) -> Result<Line> {
-    let tree = read_command(alloc, bytes)?;
-    let line = command(alloc, &Name::of(b"ANN"), &tree)?;
+    line_of(alloc, &read_command(alloc, bytes)?)
+}
+
+fn line_of(alloc: Global, tree: &Tree) -> Result<Line> {
+    let line = command(alloc, &Name::of(b"ANN"), tree)?;
     Ok(line)
 }
 
 /// The fault of a command, or none.
 pub fn found(alloc: Global, bytes: &[u8]) -> Result<Option<CmdFault>> {
     let tree = read_command(alloc, bytes)?;
-    match command(alloc, &Name::of(b"ANN"), &tree) {
-        Ok(_) => Ok(None),
-        Err(fault) => Ok(Some(fault)),
-    }
+    Ok(command(alloc, &Name::of(b"ANN"), &tree).err())
 }
 
 /// The fault's number, and its place, 0 where it has none.

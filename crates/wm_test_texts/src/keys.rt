@@ -14,7 +14,7 @@
 // The answer has each item that was answered otherwise than it should, and is empty where none was.
 use crate::asked;
 use crate::properties::Tried;
-use anyhow::{Result, bail};
+use anyhow::{Result, anyhow, bail};
 use std::alloc::{AllocError, Global};
 use std::collections::BTreeMap;
 use wm_cases::Subject;
@@ -54,23 +54,34 @@ impl KeyCases {
 
     // Asks what the fields say of a key, a command or a length.
     fn try_fields(&mut self, asked: &str, fields: &[&str], answer: &mut String) -> Result<()> {
-        let Some((head, others)) = fields.split_first() else {
-            bail!("no fields");
-        };
+        let (head, others) = fields.split_first().ok_or(anyhow!("no fields"))?;
         let mut tried = Tried::new(self.alloc, *head, answer);
-        match (asked, others) {
-            ("key", [key, special, taken, refused]) => {
-                tried.key(*key, *special, self.values(*taken), self.values(*refused))?
-            }
-            ("command", [first, keys, all]) => tried.command(*first, *keys, self.values(*all))?,
-            ("length", [open, close, least, most, fault]) => {
-                let around = (*open, *close);
-                tried.lengths(around, least.parse()?, most.parse()?, fault.parse()?)?
-            }
-            _ => bail!("no question: {asked}"),
-        }
+        self.try_others(asked, others, &mut tried)?;
         self.tried = self.tried.saturating_add(tried.count());
         Ok(())
+    }
+
+    fn try_others(&self, asked: &str, others: &[&str], tried: &mut Tried) -> Result<()> {
+        match asked {
+            "key" => self.try_key(others, tried),
+            "command" => self.try_command(others, tried),
+            "length" => try_length(others, tried),
+            _ => bail!("no question: {asked}"),
+        }
+    }
+
+    fn try_key(&self, fields: &[&str], tried: &mut Tried) -> Result<()> {
+        let [key, special, taken, refused] = fields else {
+            bail!("not the fields of a key");
+        };
+        tried.key(*key, *special, self.values(*taken), self.values(*refused))
+    }
+
+    fn try_command(&self, fields: &[&str], tried: &mut Tried) -> Result<()> {
+        let [first, keys, all] = fields else {
+            bail!("not the fields of a command");
+        };
+        tried.command(*first, *keys, self.values(*all))
     }
 }
 
@@ -93,6 +104,14 @@ impl Subject for KeyCases {
         }
         Ok(())
     }
+}
+
+fn try_length(fields: &[&str], tried: &mut Tried) -> Result<()> {
+    let [open, close, least, most, fault] = fields else {
+        bail!("not the fields of a length");
+    };
+    let (least, most) = (least.parse::<u16>()?, most.parse::<u16>()?);
+    tried.lengths((*open, *close), least, most, fault.parse::<u8>()?)
 }
 
 // The texts between the bars.

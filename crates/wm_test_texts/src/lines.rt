@@ -73,14 +73,13 @@ impl Subject for LineCases {
     fn answer(&mut self, question: &str, answer: &mut String) -> Result<()> {
         let (asked, text) = asked::parts(question);
         match asked {
-            "typed" => self.typed(text)?,
-            "join" => self.join(text, answer)?,
-            "feed" => self.feed(text, answer)?,
-            "end" => self.end(answer)?,
-            "line" => self.line(text, answer)?,
-            _ => bail!("no question: {question}"),
+            "typed" => self.typed(text),
+            "join" => self.join(text, answer),
+            "feed" => self.feed(text, answer),
+            "end" => self.end(answer),
+            "line" => self.line(text, answer),
+            _ => bail!("no question: {asked}"),
         }
-        Ok(())
     }
 }
 

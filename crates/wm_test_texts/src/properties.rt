@@ -105,13 +105,20 @@ impl<'a> Tried<'a> {
     pub fn key(&mut self, key: &str, special: &str, taken: &str, refused: &str) -> Result<()> {
         self.required(key)?;
         let key = key.trim_end_matches('!');
-        let good = first_of(taken)?;
+        self.takes(key, special, taken, refused)?;
+        self.takes_one(key, first_of(taken)?, first_of(refused)?)
+    }
+
+    fn takes(&mut self, key: &str, special: &str, taken: &str, refused: &str) -> Result<()> {
         self.expect_all(key, taken, TAKEN)?;
         self.expect_all(key, special, TAKEN)?;
         self.expect_all(key, refused, BAD_VALUE)?;
-        self.expect_quoted(key, special)?;
+        self.expect_quoted(key, special)
+    }
+
+    fn takes_one(&mut self, key: &str, good: &str, bad: &str) -> Result<()> {
         self.expect_value(key, "", BAD_VALUE)?;
-        self.expect_two(key, good, first_of(refused)?)?;
+        self.expect_two(key, good, bad)?;
         self.expect_twice(key, good)
     }
 

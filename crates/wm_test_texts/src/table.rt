@@ -52,10 +52,7 @@ fn push_row(word: &str, row: &Row, page: &mut String) -> Result<()> {
     write!(page, "| {word} | {} | ", row.0)?;
     push_kind(row.1, page)?;
     push_special(special, page)?;
-    page.push_str(" | ")?;
-    push_default(row.3, special, page)?;
-    page.push_str(" |\n")?;
-    Ok(())
+    push_default(row.3, special, page)
 }
 
 fn push_special(word: &str, page: &mut String) -> Result<()> {
@@ -68,38 +65,52 @@ fn push_special(word: &str, page: &mut String) -> Result<()> {
 
 fn push_kind(kind: ValueKind, page: &mut String) -> Result<()> {
     match kind {
-        ValueKind::Object => page.push_str("object")?,
-        ValueKind::Program => page.push_str("program")?,
-        ValueKind::Name => page.push_str("name")?,
         ValueKind::Text(least, most) => write!(page, "text of {least} to {most}")?,
-        ValueKind::Path => page.push_str("path")?,
         ValueKind::Number(least, most) => write!(page, "{least} to {most}")?,
-        ValueKind::Flag => page.push_str(r"\*YES or \*NO")?,
-        ValueKind::Ending => page.push_str(r"\*CNTRLD or \*IMMED")?,
-        ValueKind::Job => page.push_str("job")?,
-        ValueKind::Compare => page.push_str("compare value")?,
-        ValueKind::Date => page.push_str("date")?,
-        ValueKind::Time => page.push_str("time")?,
-        ValueKind::Call => page.push_str("CALL")?,
-        ValueKind::Anything => page.push_str("dropped")?,
+        _ => page.push_str(kind_word(kind))?,
     }
     Ok(())
 }
 
+fn kind_word(kind: ValueKind) -> &'static str {
+    match kind {
+        ValueKind::Object => "object",
+        ValueKind::Program => "program",
+        ValueKind::Name => "name",
+        ValueKind::Path => "path",
+        ValueKind::Flag => r"\*YES or \*NO",
+        ValueKind::Ending => r"\*CNTRLD or \*IMMED",
+        ValueKind::Job => "job",
+        ValueKind::Compare => "compare value",
+        ValueKind::Date => "date",
+        ValueKind::Time => "time",
+        ValueKind::Call => "CALL",
+        ValueKind::Anything => "dropped",
+        ValueKind::Text(..) | ValueKind::Number(..) => "",
+    }
+}
+
 fn push_default(default: RowDefault, special: &str, page: &mut String) -> Result<()> {
     match default {
-        RowDefault::Required => page.push_str("required")?,
-        RowDefault::Nothing => page.push_str("none")?,
-        RowDefault::Special => write!(page, r"\{special}")?,
-        RowDefault::Number(n) => write!(page, "{n}")?,
-        RowDefault::Yes => page.push_str(r"\*YES")?,
-        RowDefault::No => page.push_str(r"\*NO")?,
-        RowDefault::Cntrld => page.push_str(r"\*CNTRLD")?,
-        RowDefault::Qbatch => page.push_str("QGPL/QBATCH")?,
-        RowDefault::Qdftjobd => page.push_str("QGPL/QDFTJOBD")?,
-        RowDefault::Qcmdi => page.push_str("'QCMDI'")?,
-        RowDefault::Qcmdb => page.push_str("'QCMDB'")?,
-        RowDefault::Today | RowDefault::Now => page.push_str(r"\*CURRENT")?,
+        RowDefault::Special => writeln!(page, r" | \{special} |")?,
+        RowDefault::Number(n) => writeln!(page, " | {n} |")?,
+        _ => writeln!(page, " | {} |", default_word(default))?,
     }
     Ok(())
+}
+
+fn default_word(default: RowDefault) -> &'static str {
+    match default {
+        RowDefault::Required => "required",
+        RowDefault::Nothing => "none",
+        RowDefault::Yes => r"\*YES",
+        RowDefault::No => r"\*NO",
+        RowDefault::Cntrld => r"\*CNTRLD",
+        RowDefault::Qbatch => "QGPL/QBATCH",
+        RowDefault::Qdftjobd => "QGPL/QDFTJOBD",
+        RowDefault::Qcmdi => "'QCMDI'",
+        RowDefault::Qcmdb => "'QCMDB'",
+        RowDefault::Today | RowDefault::Now => r"\*CURRENT",
+        RowDefault::Special | RowDefault::Number(_) => "",
+    }
 }

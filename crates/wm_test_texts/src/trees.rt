@@ -6,7 +6,7 @@ use crate::asked;
 use anyhow::{Result, bail};
 use std::alloc::Global;
 use wm_cases::{Subject, bytes_of};
-use wm_clwords::{Item, Tree, read_command};
+use wm_clwords::{ClFault, Item, Tree, read_command};
 
 /// Trees.
 #[derive(Drop)]
@@ -28,18 +28,21 @@ impl Subject for TreeCases {
     fn answer(&mut self, question: &str, answer: &mut String) -> Result<()> {
         let (asked, text) = asked::parts(question);
         match asked {
-            "read" => read(self.alloc, text, answer)?,
-            _ => bail!("no question: {question}"),
+            "read" => read(self.alloc, text, answer),
+            _ => bail!("no question: {asked}"),
         }
-        Ok(())
     }
 }
 
 fn read(alloc: Global, text: &str, answer: &mut String) -> Result<()> {
-    let read = read_command(alloc, &bytes_of(alloc, text)?);
+    let bytes = bytes_of(alloc, text)?;
+    push_read(&read_command(alloc, &bytes), answer)
+}
+
+fn push_read(read: &Result<Tree, ClFault>, answer: &mut String) -> Result<()> {
     match read {
         Err(fault) => writeln!(answer, "{fault:?}")?,
-        Ok(tree) => push_tree(&tree, answer)?,
+        Ok(tree) => push_tree(tree, answer)?,
     }
     Ok(())
 }
