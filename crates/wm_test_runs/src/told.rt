@@ -16,21 +16,18 @@ pub enum Look {
     Own,
 }
 
-impl Look {
-    /// Reads `NONE`, `OWN`, `USED 1`, `KILLED 1` and `CODE 1 0`, where 1 is the serial.
-    pub fn of(text: &str) -> Result<Look> {
-        let mut words = text.split_whitespace();
-        let word = words.next().unwrap_or("");
-        let serial = Serial::new(words.next().unwrap_or("0").parse::<u64>()?);
-        let code = words.next().unwrap_or("0").parse::<u8>()?;
-        Ok(match word {
-            "OWN" => Look::Own,
-            "USED" => Look::Tells(Event::Used(serial)),
-            "KILLED" => Look::Tells(Event::Ended(serial, Exit::Killed)),
-            "CODE" => Look::Tells(Event::Ended(serial, Exit::Code(code))),
-            _ => Look::None,
-        })
-    }
+// The event of `USED 1`, `KILLED 1` and `CODE 1 0`, where 1 is the serial; none for any other word.
+fn event_of(text: &str) -> Result<Option<Event>> {
+    let mut words = text.split_whitespace();
+    let word = words.next().unwrap_or("");
+    let serial = Serial::new(words.next().unwrap_or("0").parse::<u64>()?);
+    let code = words.next().unwrap_or("0").parse::<u8>()?;
+    Ok(match word {
+        "USED" => Some(Event::Used(serial)),
+        "KILLED" => Some(Event::Ended(serial, Exit::Killed)),
+        "CODE" => Some(Event::Ended(serial, Exit::Code(code))),
+        _ => None,
+    })
 }
 
 /// A spawner that starts nothing and tells what its looks say, the last of them first; then the end of its child.
@@ -44,7 +41,12 @@ impl Telling {
     pub fn new(alloc: Global, tells: &[String]) -> Result<Telling> {
         let mut looks = Vec::new(alloc);
         for text in tells.iter().rev() {
-            looks.push(Look::of(text.as_str())?)?;
+            let look = match event_of(text.as_str())? {
+                Some(event) => Look::Tells(event),
+                None if text.as_str() == "OWN" => Look::Own,
+                None => Look::None,
+            };
+            looks.push(look)?;
         }
         Ok(Telling {
             looks,
