@@ -4,8 +4,8 @@ ghost use Rattle.std.specs.Cmp.Lexicographic.{pointwise, nat_list_eq_equiv};
 ghost use Rattle.std.specs.Cmp.{partial_equiv_from_equiv};
 ghost use Rattle.std.proofs.lemmas.Cmp.{lists_equiv};
 
-use crate::Text;
-use std::alloc::{AllocError, Global};
+use crate::{NoMemory, Text};
+use std::alloc::Global;
 use std::marker::Model;
 
 /// A list of texts.
@@ -29,7 +29,7 @@ impl Args {
         }
     }
 
-    pub fn push(&mut self, arg: Text) -> Result<(), AllocError>
+    pub fn push(&mut self, arg: Text) -> Result<(), NoMemory>
         ensures ok { OnOk result (self.new ≡ self.old ++ arg ∷ []) }
         ensures err { OnErr result (self.new ≡ self.old) }
     {
@@ -75,7 +75,7 @@ impl From<Args> for Vec<Text> {
 impl Clone for Args {
     ghost is_clone = { λ args copy. copy ≡ args };
 
-    fn clone(&self) -> Result<Args, AllocError> {
+    fn clone(&self) -> Result<Args, NoMemory> {
         Ok(Args {
             items: self.items.clone()?,
         })

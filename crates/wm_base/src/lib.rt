@@ -14,6 +14,10 @@ mod refusal;
 mod steps;
 mod text;
 
+/// Want of memory: its one name in public calls. It is std's error of an allocation, so what std answers is passed on
+/// as it is.
+pub type NoMemory = std::alloc::AllocError;
+
 pub use args::Args;
 pub use job::{Asked, Class, EndCause, Event, Exit, How, JobName, StartCause, StartOrder};
 pub use limit::Limit;

@@ -291,9 +291,9 @@ impl Refusal {
 
 // The values behind a refusal's word.
 #[derive(Clone, Copy)]
-struct Values<'a>(&'a Refusal);
+struct RefusalValues<'a>(&'a Refusal);
 
-impl fmt::Display for Values<'_> {
+impl fmt::Display for RefusalValues<'_> {
     ghost use Rattle.wm_base.specs.Refusal.{refusal_values};
 
     ghost output = { λ values. Some (refusal_values values.0.now) };
@@ -317,6 +317,12 @@ impl fmt::Display for Refusal {
 
     #[tactic(auto, using(crate::proofs::Numbers::padded))]
     fn fmt<W: fmt::Write>(&self, f: &mut fmt::Formatter<W>) -> fmt::Result {
-        write!(f, "{:02} {}{}", self.number(), self.word(), Values(self))
+        write!(
+            f,
+            "{:02} {}{}",
+            self.number(),
+            self.word(),
+            RefusalValues(self)
+        )
     }
 }

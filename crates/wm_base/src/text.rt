@@ -5,7 +5,8 @@ ghost use Rattle.std.specs.Cmp.Lexicographic.{pointwise, nat_list_eq_equiv};
 ghost use Rattle.std.specs.Cmp.{partial_equiv_from_equiv};
 ghost use Rattle.wm_base.specs.Text.{is_printable, IsText};
 
-use std::alloc::{AllocError, Global};
+use crate::NoMemory;
+use std::alloc::Global;
 use std::marker::Model;
 use std::{fmt, str};
 
@@ -47,7 +48,7 @@ impl Text {
     }
 
     /// A text of these bytes.
-    pub fn from_bytes(alloc: Global, bytes: &[u8]) -> Result<Text, AllocError>
+    pub fn from_bytes(alloc: Global, bytes: &[u8]) -> Result<Text, NoMemory>
         requires { IsText bytes.now }
         ensures { IfOk result (λ text. text ≡ bytes.now) }
     {
@@ -57,7 +58,7 @@ impl Text {
     }
 
     /// Adds bytes at the end.
-    pub fn push_bytes(&mut self, bytes: &[u8]) -> Result<(), AllocError>
+    pub fn push_bytes(&mut self, bytes: &[u8]) -> Result<(), NoMemory>
         requires { IsText bytes.now }
         ensures ok { OnOk result (self.new ≡ self.old ++ bytes.now) }
         ensures err { OnErr result (self.new ≡ self.old) }
@@ -95,7 +96,7 @@ impl Text {
 impl Clone for Text {
     ghost is_clone = { λ text copy. copy ≡ text };
 
-    fn clone(&self) -> Result<Text, AllocError> {
+    fn clone(&self) -> Result<Text, NoMemory> {
         Ok(Text {
             bytes: self.bytes.clone()?,
         })

@@ -30,7 +30,7 @@ made_ok (Ok call) tokens q texts h k =
     subst (λ (p : QName). IsCall tokens p call.parms) (sym h.0) (subst (λ (l : List (List ℕ)). IsCall tokens q l) (sym h.1) k)
 made_ok (Err fault) tokens q texts h k = tt
 
-not_memory : ◌≡◌ {A = CallFault} NotCall NoMemory → ⊥
+pub not_memory : ◌≡◌ {A = CallFault} NotCall NoMemory → ⊥
 not_memory e = cc
 
 -- where no CALL is answered, there is none

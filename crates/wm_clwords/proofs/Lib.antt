@@ -1,6 +1,9 @@
 pub mod CallItems
+pub mod CallMeaning
 pub mod CallPrinted
 pub mod CallResults
+pub mod CallTexts
+pub mod CallTokens
 pub mod CommandLaw
 pub mod Completeness
 pub mod Explained

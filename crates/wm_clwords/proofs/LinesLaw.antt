@@ -8,9 +8,9 @@ use Rattle.wm_clwords.specs.declared.line.Sign.TheVariants.{No, Plus, Minus}
 use Rattle.wm_clwords.specs.declared.line.LogicalLine.{LogicalLine}
 use Rattle.wm_clwords.specs.declared.line.LogicalLine.TheVariants.{Command, Long}
 use Rattle.wm_clwords.specs.Lines.{is_blank, is_no_line_feed, is_empty, without_cr, sign_byte, sign_of, kept_of, text_of, front_of, drops_of, Before, by_sign, without_last, logical, physical, within_limit, logical_lines}
-use Rattle.wm_clwords.specs.Part.{Part, fresh, begun, with_blank, with_solid, with_kept, with_cr, with_byte, joined_on, finished, unsigned, answer, has_rest, said, at_end, at_line_feed, lines_from}
+use Rattle.wm_clwords.specs.Part.{Part, fresh, begun, with_blank, with_solid, with_kept, with_cr, with_byte, joined_on, finished, unsigned, answer, has_rest, ended_lines, at_end, at_line_feed, lines_from}
 use Rattle.wm_clwords.proofs.LineLemmas.{without_cr-push}
-use Rattle.wm_clwords.proofs.PartLemmas.{Holds, Holds-with_kept, Holds-cr, Holds-fresh, Holds-joined_on, said-whole}
+use Rattle.wm_clwords.proofs.PartLemmas.{Holds, Holds-with_kept, Holds-cr, Holds-fresh, Holds-joined_on, ended_lines-whole}
 
 -- a line that was answered gives way to the next
 pub lines_from-ended : (part : Part) (bytes : List ℕ) → part.ended ≡ true → lines_from part bytes ≡ lines_from fresh bytes
@@ -42,32 +42,32 @@ kept_some (Some j) b line e = absurd (false≢true (sym e))
 
 -- where the input ends
 ends_by : (part : Part) (before : Before) (line : List ℕ) (s : Sign) → part.sign ≡ s → Holds part before (kept_of (drops_of before) line)
-    → said (answer (unsigned part)) (finished (unsigned part)) ≡ map within_limit (logical before (line ∷ []))
+    → ended_lines (answer (unsigned part)) (finished (unsigned part)) ≡ map within_limit (logical before (line ∷ []))
 ends_by part before line No e h =
     let front : List ℕ = front_of before in
     let text : List ℕ = text_of before line in
-    ap (λ s. said (answer (by_sign s part (joined_on part true) (joined_on part false))) (finished (by_sign s part (joined_on part true) (joined_on part false)))) e
-    ∙ said-whole part before (kept_of (drops_of before) line) e h
+    ap (λ s. ended_lines (answer (by_sign s part (joined_on part true) (joined_on part false))) (finished (by_sign s part (joined_on part true) (joined_on part false)))) e
+    ∙ ended_lines-whole part before (kept_of (drops_of before) line) e h
     ∙ ap (λ s. map within_limit (by_sign s ((front ++ text) ∷ []) ((front ++ without_last text) ∷ []) ((front ++ without_last text) ∷ []))) (sym e ∙ h.sign)
 ends_by part before line Plus e h =
     let front : List ℕ = front_of before in
     let text : List ℕ = text_of before line in
     let sign : sign_of text ≡ No → ⊥ = λ n. plus_no (sym e ∙ h.sign ∙ n) in
-    ap (λ s. said (answer (by_sign s part (joined_on part true) (joined_on part false))) (finished (by_sign s part (joined_on part true) (joined_on part false)))) e
-    ∙ said-whole (joined_on part true) (Some (front ++ without_last text, true)) [] refl (Holds-joined_on part before (kept_of (drops_of before) line) true sign h)
+    ap (λ s. ended_lines (answer (by_sign s part (joined_on part true) (joined_on part false))) (finished (by_sign s part (joined_on part true) (joined_on part false)))) e
+    ∙ ended_lines-whole (joined_on part true) (Some (front ++ without_last text, true)) [] refl (Holds-joined_on part before (kept_of (drops_of before) line) true sign h)
     ∙ ap (λ t. within_limit t ∷ []) (append-nil (front ++ without_last text))
     ∙ ap (λ s. map within_limit (by_sign s ((front ++ text) ∷ []) ((front ++ without_last text) ∷ []) ((front ++ without_last text) ∷ []))) (sym e ∙ h.sign)
 ends_by part before line Minus e h =
     let front : List ℕ = front_of before in
     let text : List ℕ = text_of before line in
     let sign : sign_of text ≡ No → ⊥ = λ n. minus_no (sym e ∙ h.sign ∙ n) in
-    ap (λ s. said (answer (by_sign s part (joined_on part true) (joined_on part false))) (finished (by_sign s part (joined_on part true) (joined_on part false)))) e
-    ∙ said-whole (joined_on part false) (Some (front ++ without_last text, false)) [] refl (Holds-joined_on part before (kept_of (drops_of before) line) false sign h)
+    ap (λ s. ended_lines (answer (by_sign s part (joined_on part true) (joined_on part false))) (finished (by_sign s part (joined_on part true) (joined_on part false)))) e
+    ∙ ended_lines-whole (joined_on part false) (Some (front ++ without_last text, false)) [] refl (Holds-joined_on part before (kept_of (drops_of before) line) false sign h)
     ∙ ap (λ t. within_limit t ∷ []) (append-nil (front ++ without_last text))
     ∙ ap (λ s. map within_limit (by_sign s ((front ++ text) ∷ []) ((front ++ without_last text) ∷ []) ((front ++ without_last text) ∷ []))) (sym e ∙ h.sign)
 
 abbrev lines_at_end : Part → List (Option (List ℕ))
-lines_at_end part = cond (has_rest part) (said (answer (unsigned (with_cr part))) (finished (unsigned (with_cr part)))) []
+lines_at_end part = cond (has_rest part) (ended_lines (answer (unsigned (with_cr part))) (finished (unsigned (with_cr part)))) []
 
 begun-going : (part : Part) → part.ended ≡ false → begun part ≡ part
 begun-going part e = ap (λ c. cond c fresh part) e
@@ -76,7 +76,7 @@ ends_at : (part : Part) (before : Before) (line : List ℕ) → part.ended ≡ f
     → lines_from part [] ≡ map within_limit (logical before (line ∷ []))
 ends_at part before line going rest h =
     ap lines_at_end (begun-going part going)
-    ∙ ap (λ c. cond c (said (answer (unsigned (with_cr part))) (finished (unsigned (with_cr part)))) []) rest
+    ∙ ap (λ c. cond c (ended_lines (answer (unsigned (with_cr part))) (finished (unsigned (with_cr part)))) []) rest
     ∙ ends_by (with_cr part) before line (with_cr part).sign refl h
 
 physical-push : (line : List ℕ) (x : ℕ) → physical (line ++ x ∷ []) [] ≡ (line ++ x ∷ []) ∷ []
@@ -126,7 +126,7 @@ end_by part before (b ∷ line) false e h =
     ∙ ap (λ ls. map within_limit (logical before ls)) (sym same)
 end_by part None [] false e h =
     ap lines_at_end (begun-going part h.going)
-    ∙ ap (λ c. cond c (said (answer (unsigned (with_cr part))) (finished (unsigned (with_cr part)))) []) (no_rest part.joined part.cr (is_empty part.line) h.joins e (h.starts h.joins).1)
+    ∙ ap (λ c. cond c (ended_lines (answer (unsigned (with_cr part))) (finished (unsigned (with_cr part)))) []) (no_rest part.joined part.cr (is_empty part.line) h.joins e (h.starts h.joins).1)
     ∙ ap (λ c. map within_limit (logical None (physical (with_cr_at c []) []))) (sym e)
 end_by part (Some j) [] false e h =
     let front : List ℕ = j.0 in
@@ -135,7 +135,7 @@ end_by part (Some j) [] false e h =
 
 -- one byte more, by the test for LF
 abbrev step_by : Part → ℕ → List ℕ → Bool → List (Option (List ℕ))
-step_by part b bytes c = cond c (said (answer (record part { cr = false })) (finished (record part { cr = false })) ++ lines_from (finished (record part { cr = false })) bytes) (lines_from (with_byte part b) bytes)
+step_by part b bytes c = cond c (ended_lines (answer (record part { cr = false })) (finished (record part { cr = false })) ++ lines_from (finished (record part { cr = false })) bytes) (lines_from (with_byte part b) bytes)
 
 lines_from-step : (part : Part) (b : ℕ) (bytes : List ℕ) (c : Bool) → part.ended ≡ false → eqb b 10 ≡ c → lines_from part (b ∷ bytes) ≡ step_by part b bytes c
 lines_from-step part b bytes c going e = ap (λ q. step_by q b bytes (eqb b 10)) (begun-going part going) ∙ ap (step_by part b bytes) e
@@ -156,14 +156,14 @@ fresh_lines bytes known = known fresh None [] Is-fresh
 
 -- a physical line ends
 line_by : (part : Part) (before : Before) (line : List ℕ) (bytes : List ℕ) (s : Sign) → part.cr ≡ false → part.sign ≡ s → Holds part before (kept_of (drops_of before) line) → Known bytes
-    → said (answer part) (finished part) ++ lines_from (finished part) bytes ≡ map within_limit (logical before (line ∷ physical [] bytes))
+    → ended_lines (answer part) (finished part) ++ lines_from (finished part) bytes ≡ map within_limit (logical before (line ∷ physical [] bytes))
 line_by part before line bytes No quiet e h known =
     let front : List ℕ = front_of before in
     let text : List ℕ = text_of before line in
     let ls : List (List ℕ) = physical [] bytes in
     let ended : lines_from (finished part) bytes ≡ logical_lines bytes =
     lines_from-ended (finished part) bytes (ap (λ s. (by_sign s (record part { line = take part.solid part.line; ended = true }) (joined_on part true) (joined_on part false)).ended) e) ∙ fresh_lines bytes known in
-    ap (λ x. x ++ lines_from (finished part) bytes) (said-whole part before (kept_of (drops_of before) line) e h)
+    ap (λ x. x ++ lines_from (finished part) bytes) (ended_lines-whole part before (kept_of (drops_of before) line) e h)
     ∙ ap (λ x. within_limit (front ++ text) ∷ x) ended
     ∙ ap (λ s. map within_limit (by_sign s ((front ++ text) ∷ logical None ls) (logical (Some (front ++ without_last text, true)) ls) (logical (Some (front ++ without_last text, false)) ls))) (sym e ∙ h.sign)
 line_by part before line bytes Plus quiet e h known =
@@ -173,7 +173,7 @@ line_by part before line bytes Plus quiet e h known =
     let sign : sign_of text ≡ No → ⊥ = λ n. plus_no (sym e ∙ h.sign ∙ n) in
     let next : Is (joined_on part true) (Some (front ++ without_last text, true)) [] =
     record { holds = Holds-joined_on part before (kept_of (drops_of before) line) true sign h; whole = ap (λ c. without_cr (with_cr_at c [])) quiet } in
-    ap (λ s. said (by_sign s (Some (cond (part.long || ltb 8192 part.solid) Long Command)) None None) (by_sign s (record part { line = take part.solid part.line; ended = true }) (joined_on part true) (joined_on part false))
+    ap (λ s. ended_lines (by_sign s (Some (cond (part.long || ltb 8192 part.solid) Long Command)) None None) (by_sign s (record part { line = take part.solid part.line; ended = true }) (joined_on part true) (joined_on part false))
     ++ lines_from (by_sign s (record part { line = take part.solid part.line; ended = true }) (joined_on part true) (joined_on part false)) bytes) e
     ∙ known (joined_on part true) (Some (front ++ without_last text, true)) [] next
     ∙ ap (λ c. map within_limit (logical (Some (front ++ without_last text, true)) (physical (with_cr_at c []) bytes))) quiet
@@ -185,7 +185,7 @@ line_by part before line bytes Minus quiet e h known =
     let sign : sign_of text ≡ No → ⊥ = λ n. minus_no (sym e ∙ h.sign ∙ n) in
     let next : Is (joined_on part false) (Some (front ++ without_last text, false)) [] =
     record { holds = Holds-joined_on part before (kept_of (drops_of before) line) false sign h; whole = ap (λ c. without_cr (with_cr_at c [])) quiet } in
-    ap (λ s. said (by_sign s (Some (cond (part.long || ltb 8192 part.solid) Long Command)) None None) (by_sign s (record part { line = take part.solid part.line; ended = true }) (joined_on part true) (joined_on part false))
+    ap (λ s. ended_lines (by_sign s (Some (cond (part.long || ltb 8192 part.solid) Long Command)) None None) (by_sign s (record part { line = take part.solid part.line; ended = true }) (joined_on part true) (joined_on part false))
     ++ lines_from (by_sign s (record part { line = take part.solid part.line; ended = true }) (joined_on part true) (joined_on part false)) bytes) e
     ∙ known (joined_on part false) (Some (front ++ without_last text, false)) [] next
     ∙ ap (λ c. map within_limit (logical (Some (front ++ without_last text, false)) (physical (with_cr_at c []) bytes))) quiet
@@ -276,13 +276,13 @@ whole_ended part Minus e = absurd (minus_no e)
 pub unsigned-next : (part : Part) (bytes : List ℕ) → lines_from (finished (unsigned part)) bytes ≡ logical_lines bytes
 unsigned-next part bytes = lines_from-next (finished (unsigned part)) (whole_ended (unsigned part) (unsigned part).sign (unsigned_by part part.sign refl)) bytes
 
-said_short : (o : Option LogicalLine) (part : Part) → length (said o part) ≤ 1
-said_short None part = omega arith
-said_short (Some Command) part = omega arith
-said_short (Some Long) part = omega arith
+ended_short : (o : Option LogicalLine) (part : Part) → length (ended_lines o part) ≤ 1
+ended_short None part = omega arith
+ended_short (Some Command) part = omega arith
+ended_short (Some Long) part = omega arith
 
-end_short : (c : Bool) (o : Option LogicalLine) (part : Part) → length (cond c (said o part) []) ≤ 1
-end_short true o part = said_short o part
+end_short : (c : Bool) (o : Option LogicalLine) (part : Part) → length (cond c (ended_lines o part) []) ≤ 1
+end_short true o part = ended_short o part
 end_short false o part = omega arith
 
 no_line_feed : (c : Bool) → not c ≡ true → c ≡ false
@@ -295,5 +295,5 @@ length-lines_from part [] h = end_short (has_rest (begun part)) (answer (at_end 
 length-lines_from part (b ∷ more) h =
     let w = and_parts (is_no_line_feed b) (list_all is_no_line_feed more) h in
     let e : eqb b 10 ≡ false = no_line_feed (eqb b 10) w.0 in
-    subst (λ (c : Bool). length (cond c (said (answer (at_line_feed part)) (finished (at_line_feed part)) ++ lines_from (finished (at_line_feed part)) more) (lines_from (with_byte (begun part) b) more)) ≤ 1) (sym e)
+    subst (λ (c : Bool). length (cond c (ended_lines (answer (at_line_feed part)) (finished (at_line_feed part)) ++ lines_from (finished (at_line_feed part)) more) (lines_from (with_byte (begun part) b) more)) ≤ 1) (sym e)
     (length-lines_from (with_byte (begun part) b) more w.1)

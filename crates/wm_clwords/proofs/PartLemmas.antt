@@ -7,7 +7,7 @@ use Rattle.wm_clwords.specs.declared.line.Sign.{Sign}
 use Rattle.wm_clwords.specs.declared.line.Sign.TheVariants.{No}
 use Rattle.wm_clwords.specs.declared.line.LogicalLine.TheVariants.{Command, Long}
 use Rattle.wm_clwords.specs.Lines.{is_blank, is_empty, end_trimmed, sign_byte, sign_of, kept_of, front_of, drops_of, Before, by_sign, without_last, within_limit}
-use Rattle.wm_clwords.specs.Part.{Part, fresh, with_blank, with_solid, with_kept, joined_on, finished, answer, said}
+use Rattle.wm_clwords.specs.Part.{Part, fresh, with_blank, with_solid, with_kept, joined_on, finished, answer, ended_lines}
 use Rattle.wm_clwords.proofs.LineLemmas.{is_empty-push, end_trimmed-push, kept_of-push, sign_of-push, end_trimmed-take, length-end_trimmed}
 
 -- the line is too long, however it goes on
@@ -292,7 +292,7 @@ over : (text : List ℕ) → 8192 < length text → within_limit text ≡ None
 over text h = rw (lt-ltb 8192 (length text) h) refl
 
 whole_short : (line text : List ℕ) (solid : ℕ) (c : Bool) (part : Part) → solid ≡ length text → take solid line ≡ text → ltb 8192 solid ≡ c
-    → said (Some (cond c Long Command)) (record part { line = take solid line; ended = true }) ≡ within_limit text ∷ []
+    → ended_lines (Some (cond c Long Command)) (record part { line = take solid line; ended = true }) ≡ within_limit text ∷ []
 whole_short line text solid true part e same c = ap (λ x. x ∷ []) (sym (over text (omega (arith, ltb-true 8192 solid c))))
 whole_short line text solid false part e same c =
     ap (λ l. Some l ∷ []) same ∙ ap (λ x. x ∷ []) (sym (rw (le-ltb 8192 (length text) (omega (arith, ltb-false 8192 solid c))) refl))
@@ -306,7 +306,7 @@ cut_text front kept room =
     ∙ ap (λ t. front ++ t) (end_trimmed-take kept)
 
 whole_by : (part : Part) (before : Before) (kept : List ℕ) (l : Bool) → part.long ≡ l → Holds part before kept
-    → said (Some (cond (l || ltb 8192 part.solid) Long Command)) (record part { line = take part.solid part.line; ended = true }) ≡ within_limit (front_of before ++ end_trimmed kept) ∷ []
+    → ended_lines (Some (cond (l || ltb 8192 part.solid) Long Command)) (record part { line = take part.solid part.line; ended = true }) ≡ within_limit (front_of before ++ end_trimmed kept) ∷ []
 whole_by part before kept true e h = ap (λ x. x ∷ []) (sym (over (front_of before ++ end_trimmed kept) (long_text (front_of before) (end_trimmed kept) (h.long e))))
 whole_by part before kept false e h =
     let w = h.short e in
@@ -314,11 +314,11 @@ whole_by part before kept false e h =
     whole_short part.line (front_of before ++ end_trimmed kept) part.solid (ltb 8192 part.solid) part w.solid
     (ap (λ n. take n part.line) w.solid ∙ ap (take (length (front_of before ++ end_trimmed kept))) w.line ∙ cut_text (front_of before) kept room) refl
 
-pub said-whole : (part : Part) (before : Before) (kept : List ℕ) → part.sign ≡ No → Holds part before kept
-    → said (answer part) (finished part) ≡ within_limit (front_of before ++ end_trimmed kept) ∷ []
-said-whole part before kept e h =
+pub ended_lines-whole : (part : Part) (before : Before) (kept : List ℕ) → part.sign ≡ No → Holds part before kept
+    → ended_lines (answer part) (finished part) ≡ within_limit (front_of before ++ end_trimmed kept) ∷ []
+ended_lines-whole part before kept e h =
     let P : Sign → Type 0 = λ s.
-    said (by_sign s (Some (cond (part.long || ltb 8192 part.solid) Long Command)) None None)
+    ended_lines (by_sign s (Some (cond (part.long || ltb 8192 part.solid) Long Command)) None None)
     (by_sign s (record part { line = take part.solid part.line; ended = true }) (joined_on part true) (joined_on part false))
     ≡ within_limit (front_of before ++ end_trimmed kept) ∷ [] in
     subst P (sym e) (whole_by part before kept part.long refl h)

@@ -6,16 +6,16 @@ use Rattle.std.proofs.Math.Seq.{take-append_seam, drop-append_seam}
 use Rattle.std.proofs.lemmas.Bool.{and_parts, and_from, eqb-true, lt-ltb, le-ltb, false≢true}
 use Rattle.std.proofs.lemmas.Bool.Decides.{nat_tests}
 use Rattle.std.proofs.lemmas.List.{append_assoc, length-append, length_push, take-append-drop, drop_more}
-use Rattle.std.proofs.lemmas.Option.{cond_some}
+use Rattle.std.proofs.lemmas.Option.{cond_some, none-some, same_Some}
 use Rattle.std.proofs.lemmas.List.Quantifiers.{position-Some}
 use Rattle.std.proofs.lemmas.Slice.Eq.{bytes_eq-Decides}
 use Rattle.wm_base.specs.Name.{IsName, continues_name}
 use Rattle.wm_base.specs.declared.qname.QName.{QName}
 use Rattle.wm_clwords.specs.declared.reference.Reference.{Reference}
 use Rattle.wm_clwords.specs.declared.tree.Item.{Item, Word as ItemWord, Quoted as ItemQuoted, List', Keyed'}
-use Rattle.wm_clwords.specs.Grammar.{Token, Word, Quoted, Key, Open}
+use Rattle.wm_clwords.specs.Grammar.{Token, Blank, Comment, Word, Quoted, Key, Open, Close}
 use Rattle.wm_clwords.specs.Call.{IsPlain, IsReference, IsObject, IsOne, IsProgram, item_tokens, program_library}
-use Rattle.wm_clwords.specs.CallReading.{name_of, is_slash, library_of, alone, joined, by_slash, text_reference, reference_of, or_library, object_by, program_by}
+use Rattle.wm_clwords.specs.CallReading.{name_of, is_slash, library_of, alone, joined, by_slash, text_reference, reference_of, reference_at, or_library, object_by, program_by}
 use Rattle.wm_clwords.proofs.Tokens.{heads}
 
 -- a reference, of a word or in apostrophes
@@ -197,6 +197,26 @@ quoted_read : (library text : List ℕ) (q : QName) → IsRead false library tex
 quoted_read library text q (inl h) = h
 quoted_read library text q (inr h) = absurd (false≢true h.0)
 
+-- of a token
+token_sound : (token : Token) (library : List ℕ) (r : Reference) → reference_at token ≡ Some r → IsReference library token (named library r)
+token_sound (Word text) library r e = word_read library text (named library r) (text_sound true library text r e)
+token_sound (Quoted text) library r e = quoted_read library text (named library r) (text_sound false library text r e)
+token_sound (Key key) library r e = absurd (none_some r e)
+token_sound (Blank byte) library r e = absurd (none_some r e)
+token_sound (Comment text) library r e = absurd (none_some r e)
+token_sound Open library r e = absurd (none_some r e)
+token_sound Close library r e = absurd (none_some r e)
+
+token_complete : (token : Token) (library : List ℕ) (q : QName) → IsReference library token q → Found (reference_at token) library q
+token_complete (Word text) library q h = text_complete true library text q (read_word library text q h)
+token_complete (Quoted text) library q h = text_complete false library text q (inl h)
+token_complete (Key key) library q h = absurd h
+token_complete (Blank byte) library q h = absurd h
+token_complete (Comment text) library q h = absurd h
+token_complete Open library q h = absurd h
+token_complete Close library q h = absurd h
+
+-- of an item
 pub item_sound : (item : Item) (library : List ℕ) (r : Reference) → reference_of item ≡ Some r → IsOne (λ t. IsReference library t (named library r)) (item_tokens item)
 item_sound (ItemWord span text) library r e = (Word text, refl, word_read library text (named library r) (text_sound true library text r e))
 item_sound (ItemQuoted span text) library r e = (Quoted text, refl, quoted_read library text (named library r) (text_sound false library text r e))
@@ -242,3 +262,17 @@ pub program_all : (item : Item) (o : Option QName) → o ≡ program_by (referen
 program_all item o e q h =
     let f = item_complete item (program_library q.name) q h in
     e ∙ ap program_by f.is ∙ ap (λ n. Some (record { lib = or_library f.reference.library (program_library n); name = n })) f.name ∙ ap (λ l. Some (record { lib = l; name = q.name })) f.lib
+
+-- the program that a token names
+token_program_by : (token : Token) (o : Option Reference) (q : QName) → reference_at token ≡ o → program_by o ≡ Some q → IsProgram token q
+token_program_by token None q r e = absurd (none-some q e)
+token_program_by token (Some reference) q r e =
+    subst (λ (x : QName). IsProgram token x) (same_Some (named (program_library reference.name) reference) q e) (token_sound token (program_library reference.name) reference r)
+
+pub token_program : (token : Token) (q : QName) → program_by (reference_at token) ≡ Some q → IsProgram token q
+token_program token q e = token_program_by token (reference_at token) q refl e
+
+pub program_token : (token : Token) (q : QName) → IsProgram token q → program_by (reference_at token) ≡ Some q
+program_token token q h =
+    let f = token_complete token (program_library q.name) q h in
+    ap program_by f.is ∙ ap (λ n. Some (record { lib = or_library f.reference.library (program_library n); name = n })) f.name ∙ ap (λ l. Some (record { lib = l; name = q.name })) f.lib

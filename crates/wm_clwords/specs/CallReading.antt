@@ -2,13 +2,12 @@
 use Rattle.std.specs.Prelude.{ℕ, ◌+◌, Bool, true, false, Option, Some, None, List, [], ◌∷◌, take, drop, length, position, nat_eq, nat_le, ◌==◌, ◌&&◌, codes, if◌then◌else◌}
 use Rattle.std.specs.Cmp.Lexicographic.{pointwise}
 use Rattle.std.specs.List.{flat_map, list_all}
-use Rattle.std.specs.Option.{option_or}
 use Rattle.wm_base.specs.Name.{is_name}
 use Rattle.wm_base.specs.declared.qname.QName.{QName}
-use Rattle.wm_clwords.specs.declared.called.CallText.{CallText}
 use Rattle.wm_clwords.specs.declared.reference.Reference.{Reference}
-use Rattle.wm_clwords.specs.declared.tree.Item.{Item, Word as ItemWord, Quoted as ItemQuoted, List', Keyed', items-the_row-Item}
+use Rattle.wm_clwords.specs.declared.tree.Item.{Item, Word as ItemWord, Quoted as ItemQuoted, List', Keyed'}
 use Rattle.wm_clwords.specs.Call.{program_library}
+use Rattle.wm_clwords.specs.Grammar.{Token, Blank, Comment, Word, Quoted, Key, Open, Close}
 
 abbrev pub name_of : List ℕ → Option (List ℕ)
 name_of text = if is_name text then Some text else None
@@ -41,6 +40,16 @@ reference_of (ItemWord span text) = text_reference true text
 reference_of (ItemQuoted span text) = text_reference false text
 reference_of (List' span shape row) = None
 reference_of (Keyed' span key shape row) = None
+
+-- the reference that a value's token writes
+abbrev pub reference_at : Token → Option Reference
+reference_at (Word text) = text_reference true text
+reference_at (Quoted text) = text_reference false text
+reference_at (Key key) = None
+reference_at (Blank byte) = None
+reference_at (Comment text) = None
+reference_at Open = None
+reference_at Close = None
 
 -- the reference's library, or the one of a name alone
 abbrev pub or_library : Option (List ℕ) → List ℕ → List ℕ
@@ -82,66 +91,3 @@ texts_of items = flat_map value_texts items
 -- 1 to 40 values
 abbrev pub are_parms : List Item → Bool
 are_parms items = nat_le 1 (length items) && nat_le (length items) 40 && list_all is_value items
-
--- the list of an item that has this key
-abbrev pub keyed : List ℕ → Item → Option (List Item)
-keyed key (ItemWord span text) = None
-keyed key (ItemQuoted span text) = None
-keyed key (List' span shape row) = None
-keyed key (Keyed' span word shape row) = if pointwise nat_eq word key then Some (items-the_row-Item _ row) else None
-
--- the one item
-abbrev pub only : List Item → Option Item
-only [] = None
-only (item ∷ []) = Some item
-only (item ∷ next ∷ items) = None
-
-abbrev pub program_of : Option Item → Option QName
-program_of None = None
-program_of (Some item) = program_by (reference_of item)
-
-abbrev pub program_among : Option (List Item) → Option QName
-program_among None = None
-program_among (Some values) = program_of (only values)
-
--- the program of `PGM(q)`
-abbrev pub keyed_program : Item → Option QName
-keyed_program item = program_among (keyed (codes "PGM") item)
-
--- the program, with its key or without
-abbrev pub program_at : Item → Option QName
-program_at item = option_or (keyed_program item) (program_by (reference_of item))
-
-abbrev pub if_parms : Option (List Item) → Option (List Item)
-if_parms None = None
-if_parms (Some values) = if are_parms values then Some values else None
-
--- the values of `PARM(t ..)`
-abbrev pub parms_at : Item → Option (List Item)
-parms_at item = if_parms (keyed (codes "PARM") item)
-
--- the program of `PGM(q)` alone
-abbrev pub program_alone : List Item → Option QName
-program_alone [] = None
-program_alone (item ∷ []) = keyed_program item
-program_alone (item ∷ next ∷ items) = None
-
--- the values of `PARM(t ..)` alone, or none
-abbrev pub parms_alone : List Item → Option (List Item)
-parms_alone [] = Some []
-parms_alone (item ∷ []) = parms_at item
-parms_alone (item ∷ next ∷ items) = None
-
-abbrev pub called : Option QName → Option (List Item) → Option CallText
-called None values = None
-called (Some pgm) None = None
-called (Some pgm) (Some values) = Some (record { pgm = pgm; parms = texts_of values })
-
-abbrev pub call_by : Option (List Item) → Item → List Item → Option CallText
-call_by None first others = called (program_at first) (parms_alone others)
-call_by (Some values) first others = called (program_alone others) (Some values)
-
--- the CALL that items are, those behind the word CALL
-abbrev pub call_of : List Item → Option CallText
-call_of [] = None
-call_of (first ∷ others) = call_by (parms_at first) first others

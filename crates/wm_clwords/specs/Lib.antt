@@ -1,5 +1,6 @@
 pub mod Call
 pub mod CallReading
+pub mod Called
 pub mod CallText
 pub mod Faults
 pub mod Grammar
@@ -10,5 +11,6 @@ pub mod Part
 pub mod Printed
 pub mod Quote
 pub mod Reader
+pub mod RequestInside
 pub mod Reading
 pub mod Verdict

@@ -75,10 +75,10 @@ abbrev pub has_rest : Part → Bool
 has_rest part = part.joined || part.cr || not (is_empty part.line)
 
 -- what an answer says of the lines
-abbrev pub said : Option LogicalLine → Part → List (Option (List ℕ))
-said None part = []
-said (Some Command) part = Some part.line ∷ []
-said (Some Long) part = None ∷ []
+abbrev pub ended_lines : Option LogicalLine → Part → List (Option (List ℕ))
+ended_lines None part = []
+ended_lines (Some Command) part = Some part.line ∷ []
+ended_lines (Some Long) part = None ∷ []
 
 -- the part where the input ends
 abbrev pub at_end : Part → Part
@@ -90,8 +90,8 @@ at_line_feed part = record (begun part) { cr = false }
 
 -- the lines that end in the bytes that come, or with the input after them
 abbrev pub lines_from : Part → List ℕ → List (Option (List ℕ))
-lines_from part [] = if has_rest (begun part) then said (answer (at_end part)) (finished (at_end part)) else []
+lines_from part [] = if has_rest (begun part) then ended_lines (answer (at_end part)) (finished (at_end part)) else []
 lines_from part (byte ∷ bytes) =
     if byte == 10
-    then said (answer (at_line_feed part)) (finished (at_line_feed part)) ++ lines_from (finished (at_line_feed part)) bytes
+    then ended_lines (answer (at_line_feed part)) (finished (at_line_feed part)) ++ lines_from (finished (at_line_feed part)) bytes
     else lines_from (with_byte (begun part) byte) bytes

@@ -9,8 +9,8 @@ ghost use Rattle.wm_clwords.specs.CallText.{call_text, next_value, parms_text};
 ghost use Rattle.wm_clwords.specs.Printed.{AreTexts};
 ghost use Rattle.wm_clwords.specs.Quote.{doubled, quoted};
 
-use std::alloc::{AllocError, Global};
-use wm_base::{Args, Name, QName, Text};
+use std::alloc::Global;
+use wm_base::{Args, Name, NoMemory, QName, Text};
 
 /// The bytes of a name, which are a text.
 fn name_bytes(name: &Name) -> &[u8]
@@ -22,7 +22,7 @@ fn name_bytes(name: &Name) -> &[u8]
 }
 
 /// Adds a qualified name.
-pub fn push_qname(out: &mut Text, name: &QName) -> Result<(), AllocError>
+pub fn push_qname(out: &mut Text, name: &QName) -> Result<(), NoMemory>
     ensures ok { OnOk result (out.new ≡ out.old ++ qname_text name.now) }
     ensures lib { OnOk result (IsName name.now.lib) }
     ensures name { OnOk result (IsName name.now.name) }
@@ -34,7 +34,7 @@ pub fn push_qname(out: &mut Text, name: &QName) -> Result<(), AllocError>
 }
 
 /// Adds a text with each apostrophe doubled.
-fn push_doubled(out: &mut Text, text: &Text) -> Result<(), AllocError>
+fn push_doubled(out: &mut Text, text: &Text) -> Result<(), NoMemory>
     ensures ok { OnOk result (out.new ≡ out.old ++ doubled text.now) }
     ensures text { IsText text.now }
 {
@@ -49,7 +49,7 @@ fn push_doubled(out: &mut Text, text: &Text) -> Result<(), AllocError>
 }
 
 /// Adds a text in apostrophes.
-pub fn push_quoted(out: &mut Text, text: &Text) -> Result<(), AllocError>
+pub fn push_quoted(out: &mut Text, text: &Text) -> Result<(), NoMemory>
     ensures ok { OnOk result (out.new ≡ out.old ++ quoted text.now) }
     ensures text { OnOk result (IsText text.now) }
 {
@@ -60,7 +60,7 @@ pub fn push_quoted(out: &mut Text, text: &Text) -> Result<(), AllocError>
 }
 
 /// Adds the values after the first.
-fn push_others(out: &mut Text, parms: &[Text]) -> Result<(), AllocError>
+fn push_others(out: &mut Text, parms: &[Text]) -> Result<(), NoMemory>
     ensures ok { OnOk result (out.new ≡ out.old ++ flat_map next_value parms.now) }
     ensures texts { OnOk result (AreTexts parms.now) }
 {
@@ -72,7 +72,7 @@ fn push_others(out: &mut Text, parms: &[Text]) -> Result<(), AllocError>
 }
 
 /// Adds the values of PARM, if there are any.
-fn push_parms(out: &mut Text, parms: &[Text]) -> Result<(), AllocError>
+fn push_parms(out: &mut Text, parms: &[Text]) -> Result<(), NoMemory>
     ensures ok { OnOk result (out.new ≡ out.old ++ parms_text parms.now) }
     ensures texts { OnOk result (AreTexts parms.now) }
 {
@@ -87,7 +87,7 @@ fn push_parms(out: &mut Text, parms: &[Text]) -> Result<(), AllocError>
 }
 
 /// The canonical text of a CALL of this program with these values: the form that a job's request is kept in.
-pub fn call_text(alloc: Global, pgm: &QName, parms: &Args) -> Result<Text, AllocError>
+pub fn call_text(alloc: Global, pgm: &QName, parms: &Args) -> Result<Text, NoMemory>
     ensures text { IfOk result (λ text. text ≡ call_text pgm.now parms.now) }
 
     // The text is a CALL of the same program with the same values, so `read_call` reads it as that.

@@ -1,13 +1,13 @@
 // Reading a CALL.
 ghost use Rattle.std.specs.Prelude.{◌≡◌, ◌≢◌, ◌⊎◌, ◌↔◌, ◌++◌, ◌∷◌, [], ℕ, codes, List, Some, None, IfOk, IfErr, IfSome, IfNone, MatchOption, MatchResult};
 ghost use Rattle.std.specs.List.{list_all};
-ghost use Rattle.std.specs.Option.{option_copied};
 ghost use Rattle.wm_base.specs.declared.qname.QName.{QName};
 ghost use Rattle.wm_clwords.specs.declared.fault.ClFault.{ClFault};
 ghost use Rattle.wm_clwords.specs.declared.tree.Item.{Item};
 ghost use Rattle.wm_clwords.specs.Grammar.{Token, Key, Close};
-ghost use Rattle.wm_clwords.specs.Call.{IsCall, IsParm, IsParms, IsPgm, IsPositional, SpellsCall, item_tokens, list_tokens};
-ghost use Rattle.wm_clwords.specs.CallReading.{are_parms, call_of, is_value, keyed, keyed_program, only, parms_alone, parms_at, program_alone, program_at, text_of, texts_of};
+ghost use Rattle.wm_clwords.specs.Call.{IsCall, IsParm, IsParms, IsPgm, IsPositional, item_tokens, list_tokens};
+ghost use Rattle.wm_clwords.specs.CallReading.{are_parms, is_value, text_of, texts_of};
+ghost use Rattle.wm_clwords.specs.Called.{call_of, called, CalledIsGood, CalledIsSpelled, PrintedCallIsCalled, SpelledIsCalled};
 ghost use Rattle.wm_clwords.specs.Printed.{PrintedCallIsSpelled};
 
 use crate::command::read_command;
@@ -16,7 +16,7 @@ use crate::reference::read_program;
 use crate::tree::{Item, Tree};
 use std::alloc::{AllocError, Global};
 use thiserror::Error;
-use wm_base::{Args, QName, Text};
+use wm_base::{Args, NoMemory, QName, Text};
 
 /// How many values PARM has at the most.
 const MAX_PARMS: usize = 40;
@@ -88,7 +88,6 @@ fn are_parms(items: &[Item]) -> bool
 fn keyed<'a>(key: &[u8], item: &'a Item) -> Option<&'a [Item]>
     ensures some { IfSome result (λ items. item_tokens item.now ≡ Key key.now ∷ list_tokens items.now ++ Close ∷ []) }
     ensures none { IfNone result ((rest : List Token) → item_tokens item.now ≢ Key key.now ∷ rest) }
-    ensures value { option_copied result ≡ keyed key.now item.now }
 {
     match item {
         Item::Word(..) => None,
@@ -108,7 +107,6 @@ fn keyed<'a>(key: &[u8], item: &'a Item) -> Option<&'a [Item]>
 fn only(items: &[Item]) -> Option<&Item>
     ensures some { IfSome result (λ item. items.now ≡ item.now ∷ []) }
     ensures none { IfNone result ((item : Item) → items.now ≢ item ∷ []) }
-    ensures value { option_copied result ≡ only items.now }
 {
     match items {
         [item] => Some(item),
@@ -120,7 +118,6 @@ fn only(items: &[Item]) -> Option<&Item>
 fn keyed_program(item: &Item) -> Option<QName>
     ensures some { IfSome result (λ pgm. IsPgm (item_tokens item.now) pgm) }
     ensures all { (pgm : QName) → IsPgm (item_tokens item.now) pgm → result ≡ Some pgm }
-    ensures value { result ≡ keyed_program item.now }
 {
     let values = keyed(b"PGM", item)?;
     read_program(only(values)?)
@@ -131,7 +128,6 @@ fn program(item: &Item) -> Option<QName>
     ensures some { IfSome result (λ pgm. IsPositional (item_tokens item.now) pgm ⊎ IsPgm (item_tokens item.now) pgm) }
     ensures positional { (pgm : QName) → IsPositional (item_tokens item.now) pgm → result ≡ Some pgm }
     ensures keyed { (pgm : QName) → IsPgm (item_tokens item.now) pgm → result ≡ Some pgm }
-    ensures value { result ≡ program_at item.now }
 {
     match keyed_program(item) {
         Some(pgm) => Some(pgm),
@@ -144,7 +140,6 @@ fn parms(item: &Item) -> Option<&[Item]>
     ensures some { IfSome result (λ values. IsParm (item_tokens item.now) (texts_of values.now)) }
     ensures all { (parms : List (List ℕ)) → IsParm (item_tokens item.now) parms
         → MatchOption result ⊥ (λ values. texts_of values.now ≡ parms) }
-    ensures value { option_copied result ≡ parms_at item.now }
 {
     let values = keyed(b"PARM", item)?;
     if are_parms(values) {
@@ -158,7 +153,6 @@ fn parms(item: &Item) -> Option<&[Item]>
 fn program_alone(items: &[Item]) -> Option<QName>
     ensures some { IfSome result (λ pgm. IsPgm (list_tokens items.now) pgm) }
     ensures all { (pgm : QName) → IsPgm (list_tokens items.now) pgm → result ≡ Some pgm }
-    ensures value { result ≡ program_alone items.now }
 {
     keyed_program(only(items)?)
 }
@@ -168,7 +162,6 @@ fn parms_alone(items: &[Item]) -> Option<&[Item]>
     ensures some { IfSome result (λ values. IsParms (list_tokens items.now) (texts_of values.now)) }
     ensures all { (parms : List (List ℕ)) → IsParms (list_tokens items.now) parms
         → MatchOption result ⊥ (λ values. texts_of values.now ≡ parms) }
-    ensures value { option_copied result ≡ parms_alone items.now }
 {
     if items.is_empty() {
         return Some(items);
@@ -177,7 +170,7 @@ fn parms_alone(items: &[Item]) -> Option<&[Item]>
 }
 
 /// The texts of values.
-fn texts(alloc: Global, values: &[Item]) -> Result<Args, AllocError>
+fn texts(alloc: Global, values: &[Item]) -> Result<Args, NoMemory>
     ensures { IfOk result (λ texts. texts ≡ texts_of values.now) }
 {
     let mut texts = Args::new(alloc);
@@ -189,7 +182,8 @@ fn texts(alloc: Global, values: &[Item]) -> Result<Args, AllocError>
     Ok(texts)
 }
 
-fn called(alloc: Global, pgm: QName, values: &[Item]) -> Result<CallText, CallFault>
+/// The CALL of a program with these values.
+fn call_with(alloc: Global, pgm: QName, values: &[Item]) -> Result<CallText, CallFault>
     ensures ok { IfOk result (λ call. (call.pgm ≡ pgm) × (call.parms ≡ texts_of values.now)) }
     ensures err { IfErr result (λ e. e ≡ CallFault.NoMemory) }
 {
@@ -214,7 +208,7 @@ pub fn read_call_items(alloc: Global, items: &[Item]) -> Result<CallText, CallFa
         let Some(pgm) = program_alone(others) else {
             return Err(CallFault::NotCall);
         };
-        return called(alloc, pgm, values);
+        return call_with(alloc, pgm, values);
     }
     let Some(pgm) = program(first) else {
         return Err(CallFault::NotCall);
@@ -222,7 +216,7 @@ pub fn read_call_items(alloc: Global, items: &[Item]) -> Result<CallText, CallFa
     let Some(values) = parms_alone(others) else {
         return Err(CallFault::NotCall);
     };
-    called(alloc, pgm, values)
+    call_with(alloc, pgm, values)
 }
 
 /// Reads the CALL of a command's tree.
@@ -248,15 +242,14 @@ fn call_fault(fault: ClFault) -> CallFault
     }
 }
 
-/// Reads a CALL command, of at most 8,192 bytes. Every text that is none is `NotCall`.
+/// Reads a CALL command, of at most 8,192 bytes: what the bytes call by the function `called`. Every text that calls
+/// nothing is `NotCall`. That this is the CALL which the bytes spell is the law `call_has_one_meaning`.
 pub fn read_call(alloc: Global, bytes: &[u8]) -> Result<CallText, CallFault>
-    // What is read is a CALL that the bytes spell.
-    ensures ok { IfOk result (λ call. SpellsCall bytes.now call.pgm call.parms) }
+    // What is read is what the bytes call.
+    ensures value { IfOk result (λ call. called bytes.now ≡ Some call) }
 
-    // Each CALL is read as it, and no other text is one.
-    ensures call { (pgm : QName) (parms : List (List ℕ)) → SpellsCall bytes.now pgm parms
-        → MatchResult result (λ call. (call.pgm ≡ pgm) × (call.parms ≡ parms)) (λ e. e ≡ CallFault.NoMemory) }
-    ensures not_call { IfErr result (λ e. e ≡ CallFault.NotCall → (pgm : QName) (parms : List (List ℕ)) → SpellsCall bytes.now pgm parms → ⊥) }
+    // NotCall is answered only where they call nothing.
+    ensures none { IfErr result (λ e. e ≡ CallFault.NotCall → called bytes.now ≡ None) }
 {
     match read_command(alloc, bytes) {
         Ok(tree) => call_of_tree(alloc, &tree),
@@ -264,9 +257,18 @@ pub fn read_call(alloc: Global, bytes: &[u8]) -> Result<CallText, CallFault>
     }
 }
 
+/// A CALL has one meaning: what bytes call by the function `called` is the CALL that they spell by the grammar, and
+/// each CALL that they spell is what they call. What is called has names, and its values are at most 40 texts.
+pub fn call_has_one_meaning()
+    ensures spelled { CalledIsSpelled }
+    ensures each { SpelledIsCalled }
+    ensures good { CalledIsGood }
+{}
+
 /// The text that is printed of a CALL is a CALL of the same program with the same values, so `read_call` reads it
 /// as that.
-#[tactic(auto, using(crate::proofs::CallPrinted::printed_call))]
+#[tactic(auto, using(crate::proofs::CallPrinted::printed_call, crate::proofs::CallMeaning::printed_called))]
 pub fn printed_call_is_read()
-    ensures { PrintedCallIsSpelled }
+    ensures spelled { PrintedCallIsSpelled }
+    ensures read { PrintedCallIsCalled }
 {}

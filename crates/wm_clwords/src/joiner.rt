@@ -5,8 +5,9 @@ ghost use Rattle.wm_clwords.specs.Lines.{is_blank, is_no_line_feed, sign_byte};
 ghost use Rattle.wm_clwords.specs.Part.{Part, lines_from};
 
 use crate::line::{LogicalLine, Sign};
-use std::alloc::{AllocError, Global};
+use std::alloc::Global;
 use std::marker::Model;
+use wm_base::NoMemory;
 
 /// How many bytes a logical line has at the most.
 pub const LINE_LEN: usize = 8192;
@@ -42,10 +43,10 @@ impl Model for Joiner {
 impl Joiner {
     ghost use Rattle.std.specs.Prelude.{◌≡◌, ◌<◌, ◌≤◌, ◌↔◌, ◌++◌, [], ◌∷◌, List, ℕ, IsTrue, IfOk, IfSome, IfNone, OnSome, Option, length, drop};
     ghost use Rattle.wm_clwords.specs.Lines.{is_blank, sign_byte, logical_lines};
-    ghost use Rattle.wm_clwords.specs.Part.{fresh, begun, with_blank, with_solid, with_kept, with_cr, with_byte, joined_on, finished, unsigned, answer, has_rest, at_end, at_line_feed, said, lines_from};
+    ghost use Rattle.wm_clwords.specs.Part.{fresh, begun, with_blank, with_solid, with_kept, with_cr, with_byte, joined_on, finished, unsigned, answer, has_rest, at_end, at_line_feed, ended_lines, lines_from};
 
     /// Takes room for one logical line and a sign.
-    pub fn new(alloc: Global) -> Result<Joiner, AllocError>
+    pub fn new(alloc: Global) -> Result<Joiner, NoMemory>
         ensures { IfOk result (λ joiner. (bytes : List ℕ) → lines_from joiner bytes ≡ logical_lines bytes) }
     {
         Ok(Joiner {
@@ -66,7 +67,7 @@ impl Joiner {
     pub fn feed(&mut self, piece: &[u8]) -> (usize, Option<LogicalLine>)
         // However the input goes on, its lines are the answered one and those that the rest gives.
         ensures lines { (more : List ℕ) → lines_from self.old (piece.now ++ more)
-            ≡ said result.1 self.new ++ lines_from self.new (drop result.0 piece.now ++ more) }
+            ≡ ended_lines result.1 self.new ++ lines_from self.new (drop result.0 piece.now ++ more) }
         ensures all { IfNone result.1 (result.0 ≡ length piece.now) }
         ensures taken { result.0 ≤ length piece.now }
         ensures progress { OnSome result.1 (0 < result.0) }
@@ -82,7 +83,7 @@ impl Joiner {
 
     /// Gives the rest where the input ends, and None where there is none.
     pub fn end(&mut self) -> Option<LogicalLine>
-        ensures line { lines_from self.old [] ≡ said result self.new }
+        ensures line { lines_from self.old [] ≡ ended_lines result self.new }
         ensures next { (more : List ℕ) → lines_from self.new more ≡ logical_lines more }
     {
         self.begin();
@@ -104,7 +105,7 @@ impl Joiner {
 
     /// Takes the next byte, and gives the line that it ends.
     fn step(&mut self, byte: u8) -> Option<LogicalLine>
-        ensures lines { (bytes : List ℕ) → lines_from self.old (byte ∷ bytes) ≡ said result self.new ++ lines_from self.new bytes }
+        ensures lines { (bytes : List ℕ) → lines_from self.old (byte ∷ bytes) ≡ ended_lines result self.new ++ lines_from self.new bytes }
         ensures next { OnSome result ((more : List ℕ) → lines_from self.new more ≡ logical_lines more) }
     {
         self.begin();

@@ -9,6 +9,10 @@
 //! The definitions are in `specs/`: `Lines` (logical lines), `Grammar` (what bytes spell), `Faults` (where they stop to),
 //! `Items` (what a tree says), `Call` (which items are a CALL), `CallText`, `Printed`. `Reading`, `Part` and
 //! `CallReading` are second definitions, by steps.
+//!
+//! What bytes call is the function `called` of `Called`: the program and the values of the CALL that they are, and None
+//! where they are no CALL. `read_call` computes it, and by `call_has_one_meaning` it is the CALL that the bytes spell.
+//! Who keeps a text and asks later what it calls names this function; `Request` is such a text, which was read once.
 #![tactic(auto)]
 
 mod call;
@@ -21,13 +25,17 @@ mod line;
 mod mode;
 mod reader;
 mod reference;
+mod request;
 mod tree;
 
 pub use call::{call_text, push_qname, push_quoted};
-pub use called::{CallFault, CallText, printed_call_is_read, read_call, read_call_items};
+pub use called::{
+    CallFault, CallText, call_has_one_meaning, printed_call_is_read, read_call, read_call_items,
+};
 pub use command::{one_verdict, read_command};
 pub use fault::ClFault;
 pub use joiner::{Joiner, LINE_LEN, no_line_waits};
 pub use line::LogicalLine;
 pub use reference::{read_object, read_program};
+pub use request::Request;
 pub use tree::{Item, Span, Tree};

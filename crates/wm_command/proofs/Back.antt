@@ -35,13 +35,13 @@ use Rattle.wm_law.specs.declared.command.Endpj.{Endpj}
 use Rattle.wm_law.specs.declared.command.EvokeCommand.{EvokeCommand}
 use Rattle.wm_law.specs.declared.command.Enduse.{Enduse}
 use Rattle.wm_law.specs.declared.command.Pwrdwnsys.{Pwrdwnsys}
-use Rattle.wm_command.specs.declared.said.Line.TheVariants as line
+use Rattle.wm_command.specs.declared.line.Line.TheVariants as line
 use Rattle.wm_command.specs.declared.row.Special.{Special}
 use Rattle.wm_command.specs.declared.row.Special.TheVariants as special
 use Rattle.wm_command.specs.declared.row.Default.TheVariants as default
 use Rattle.wm_command.specs.declared.row.Kind.TheVariants as kind
 use Rattle.wm_command.specs.declared.value.Value.TheVariants as value
-use Rattle.wm_command.specs.declared.verb.Change.TheVariants as change
+use Rattle.wm_command.specs.declared.verb.ChangeVerb.TheVariants as change
 use Rattle.wm_base.specs.declared.refusal.Key.TheVariants as key
 use Rattle.wm_command.specs.Fields.{object_or, name_or, text_or, number_or, limit_or, flag_or, date_or, time_or, priority_or, is_word_value, maybe, value_of, object_in, name_in, text_in, number_in, limit_in, flag_in, ending_in, job_in, compare_in, date_in, time_in, priority_in, is_word_in, class_in, maxpty_in, request_in}
 use Rattle.wm_command.specs.Line.{lacks}

@@ -4,15 +4,15 @@ use Rattle.wm_base.specs.declared.refusal.Key.TheVariants as key
 use Rattle.wm_clwords.specs.declared.tree.Item.{Item}
 use Rattle.wm_law.specs.declared.command.Command.{Command}
 use Rattle.wm_law.specs.declared.command.Command.TheVariants as command
-use Rattle.wm_command.specs.declared.said.Line.{Line}
-use Rattle.wm_command.specs.declared.said.Line.TheVariants as line
+use Rattle.wm_command.specs.declared.line.Line.{Line}
+use Rattle.wm_command.specs.declared.line.Line.TheVariants as line
 use Rattle.wm_command.specs.declared.fault.CmdFault.{CmdFault}
 use Rattle.wm_command.specs.declared.row.Default.TheVariants as default
 use Rattle.wm_command.specs.declared.row.Special.TheVariants as special
 use Rattle.wm_command.specs.declared.value.Given.{Given}
-use Rattle.wm_command.specs.declared.verb.Change.{Change}
-use Rattle.wm_command.specs.declared.verb.Change.TheVariants as change
-use Rattle.wm_command.specs.declared.verb.Read.{Read}
+use Rattle.wm_command.specs.declared.verb.ChangeVerb.{ChangeVerb}
+use Rattle.wm_command.specs.declared.verb.ChangeVerb.TheVariants as change
+use Rattle.wm_command.specs.declared.verb.ReadVerb.{ReadVerb}
 use Rattle.wm_command.specs.Each.{go_on}
 use Rattle.wm_command.specs.Fields.{object_in, name_in, text_in, number_in, limit_in, flag_in, ending_in, job_in, compare_in, date_in, time_in, priority_in, is_word_in, class_in, maxpty_in, request_in}
 use Rattle.wm_command.specs.Line.{change_named, read_named, own_fault, unless, read_by, read_made, line_by, line_of}
@@ -28,7 +28,7 @@ use Rattle.wm_command.proofs.FieldForms.{object_plain, program_plain, name_plain
 
 -- the tables
 
-right : (verb : Change) → RightRows (change_rows verb) (change_rows verb)
+right : (verb : ChangeVerb) → RightRows (change_rows verb) (change_rows verb)
 unfolding change_rows row_named same_key
 right change.Crtcls = (refl, tt, tt, (refl, tt, refl, (refl, tt, refl, (refl, tt, refl, (refl, tt, tt, tt)))))
 right change.Crtjobq = (refl, tt, tt, (refl, tt, tt, tt))
@@ -567,7 +567,7 @@ pwrdwnsys_fits g h =
       whole = tt;
     }
 
-made_fits : (verb : Change) (g : List Given) → AllHave (change_rows verb) g → HasTexts (change_made verb g) → IsFit (change_made verb g)
+made_fits : (verb : ChangeVerb) (g : List Given) → AllHave (change_rows verb) g → HasTexts (change_made verb g) → IsFit (change_made verb g)
 made_fits change.Crtcls g h t = crtcls_fits g h
 made_fits change.Crtjobq g h t = crtjobq_fits g h
 made_fits change.Crtpgmref g h t = crtpgmref_fits g h t
@@ -609,20 +609,20 @@ unless_good : (o : Option CmdFault) (l out : Line) → unless o l ≡ Ok out →
 unless_good None l out e = ok_same l out e
 unless_good (Some f) l out e = absurd (err_ok f out e)
 
-change_fits : (verb : Change) (items : List Item) (c : Command) → go_on (all_given (change_rows verb) items) (λ given. unless (own_fault verb given) (line.Change (change_made verb given))) ≡ Ok (line.Change c)
+change_fits : (verb : ChangeVerb) (items : List Item) (c : Command) → go_on (all_given (change_rows verb) items) (λ given. unless (own_fault verb given) (line.Change (change_made verb given))) ≡ Ok (line.Change c)
     → HasTexts c → IsFit c
 change_fits verb items c e t =
     let g = go_good (all_given (change_rows verb) items) (λ given. unless (own_fault verb given) (line.Change (change_made verb given))) (line.Change c) e in
     let same = same_change (change_made verb g.0) c (unless_good (own_fault verb g.0) (line.Change (change_made verb g.0)) (line.Change c) g.2) in
     subst IsFit same (made_fits verb g.0 (table_has (change_rows verb) items g.0 (right verb) g.1) (subst HasTexts (sym same) t))
 
-read_no_change : (user : List ℕ) (items : List Item) (o : Option Read) (c : Command) → read_by user items o ≡ Ok (line.Change c) → ⊥
+read_no_change : (user : List ℕ) (items : List Item) (o : Option ReadVerb) (c : Command) → read_by user items o ≡ Ok (line.Change c) → ⊥
 read_no_change user items None c e = err_ok _ (line.Change c) e
 read_no_change user items (Some verb) c e =
     let g = go_good (all_given (read_rows verb) items) (λ given. Ok (line.Read (read_made user verb given))) (line.Change c) e in
     not_change (read_made user verb g.0) c (ok_same (line.Read (read_made user verb g.0)) (line.Change c) g.2)
 
-line_fits : (user name : List ℕ) (items : List Item) (o : Option Change) (c : Command) → line_by user name items o ≡ Ok (line.Change c) → HasTexts c → IsFit c
+line_fits : (user name : List ℕ) (items : List Item) (o : Option ChangeVerb) (c : Command) → line_by user name items o ≡ Ok (line.Change c) → HasTexts c → IsFit c
 line_fits user name items None c e t = absurd (read_no_change user items (read_named name) c e)
 line_fits user name items (Some verb) c e t = change_fits verb items c e t
 

@@ -17,15 +17,15 @@ use Rattle.wm_clwords.proofs.Tokens.{tokens-append, list_tokens-cons, cut_keyed,
 use Rattle.wm_desc.specs.declared.entry.Cmp.TheVariants.{Any, Val}
 use Rattle.wm_law.specs.declared.command.Command.{Command}
 use Rattle.wm_law.specs.declared.command.Command.TheVariants as command
-use Rattle.wm_command.specs.declared.said.Line.TheVariants as line
+use Rattle.wm_command.specs.declared.line.Line.TheVariants as line
 use Rattle.wm_command.specs.declared.fault.CmdFault.TheVariants.{Twice}
 use Rattle.wm_command.specs.declared.row.Row.{Row}
 use Rattle.wm_command.specs.declared.row.Special.{Special}
 use Rattle.wm_command.specs.declared.value.Value.{Value}
 use Rattle.wm_command.specs.declared.value.Value.TheVariants as value
 use Rattle.wm_command.specs.declared.value.Given.{Given}
-use Rattle.wm_command.specs.declared.verb.Change.{Change}
-use Rattle.wm_command.specs.declared.verb.Change.TheVariants as change
+use Rattle.wm_command.specs.declared.verb.ChangeVerb.{ChangeVerb}
+use Rattle.wm_command.specs.declared.verb.ChangeVerb.TheVariants as change
 use Rattle.wm_command.specs.Each.{go_on, each}
 use Rattle.wm_command.specs.Line.{change_named, line_by, own_fault, unless, line_of}
 use Rattle.wm_command.specs.Made.{change_made}
@@ -55,14 +55,14 @@ abbrev IsSome : List Row → Type 0
 IsSome [] = ⊥
 IsSome (row ∷ rows) = Unit {0}
 
-record Sound (verb : Change) : Type 0 where
+record Sound (verb : ChangeVerb) : Type 0 where
   ready : Ready (change_rows verb) [] (shown_rows (change_rows verb))
   some : IsSome (shown_rows (change_rows verb))
   named : change_named (change_word verb) ≡ Some verb
   word : IsName (change_word verb)
   room : length (change_word verb) + rows_room (shown_rows (change_rows verb)) ≤ 8192
 
-sound : (verb : Change) → Sound verb
+sound : (verb : ChangeVerb) → Sound verb
 unfolding change_rows change_word change_named row_named same_key
 sound change.Crtcls = record { ready = (refl, refl, refl, (refl, refl, refl, (refl, refl, refl, (refl, refl, refl, tt)))); some = tt; named = refl; word = refl; room = lit≤ tt }
 sound change.Crtjobq = record { ready = (refl, refl, refl, tt); some = tt; named = refl; word = refl; room = lit≤ tt }

@@ -11,7 +11,8 @@ use Rattle.wm_base.specs.declared.refusal.Key.{Key}
 use Rattle.wm_clwords.specs.declared.called.CallText.{CallText}
 use Rattle.wm_clwords.specs.declared.tree.Item.{Item}
 use Rattle.wm_clwords.specs.Call.{IsReference, IsObject, IsProgram, IsOne, item_tokens, program_library}
-use Rattle.wm_clwords.specs.CallReading.{object_by, program_by, reference_of, call_of}
+use Rattle.wm_clwords.specs.CallReading.{object_by, program_by, reference_of}
+use Rattle.wm_clwords.specs.Called.{call_of}
 use Rattle.wm_clwords.specs.CallText.{call_text}
 use Rattle.wm_clwords.specs.Grammar.{Token, Word, Quoted, Key as KeyToken, Open, Close, Blank, Comment}
 use Rattle.wm_clwords.proofs.References.{object_some, program_some}

@@ -14,8 +14,8 @@ use Rattle.wm_base.specs.declared.refusal.Key.{Key}
 use Rattle.wm_base.specs.declared.refusal.Key.TheVariants as key
 use Rattle.wm_command.specs.declared.row.Special.{Special}
 use Rattle.wm_command.specs.declared.row.Special.TheVariants as special
-use Rattle.wm_command.specs.declared.verb.Change.{Change}
-use Rattle.wm_command.specs.declared.verb.Change.TheVariants as change
+use Rattle.wm_command.specs.declared.verb.ChangeVerb.{ChangeVerb}
+use Rattle.wm_command.specs.declared.verb.ChangeVerb.TheVariants as change
 use Rattle.wm_command.specs.Values.{special_word}
 use Rattle.wm_command.specs.Table.{change_word}
 
@@ -73,7 +73,7 @@ IsText-special special.Same = refl
 IsText-special special.Nolimit = refl
 IsText-special special.Sbsd = refl
 
-pub IsText-verb : (v : Change) → IsText (change_word v)
+pub IsText-verb : (v : ChangeVerb) → IsText (change_word v)
 unfolding change_word
 IsText-verb change.Crtcls = refl
 IsText-verb change.Crtjobq = refl

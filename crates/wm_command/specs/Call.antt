@@ -2,7 +2,7 @@
 use Rattle.std.specs.Prelude.{ℕ, Option, Some, None, Result, Ok, Err, List, [], ◌∷◌, length, nat_le, if◌then◌else◌, codes}
 use Rattle.wm_clwords.specs.declared.called.CallText.{CallText}
 use Rattle.wm_clwords.specs.declared.tree.Item.{Item}
-use Rattle.wm_clwords.specs.CallReading.{call_of}
+use Rattle.wm_clwords.specs.Called.{call_of}
 use Rattle.wm_clwords.specs.CallText.{call_text}
 use Rattle.wm_command.specs.declared.value.Value.{Value}
 use Rattle.wm_command.specs.declared.value.Value.TheVariants as value

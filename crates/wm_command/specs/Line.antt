@@ -5,17 +5,17 @@ use Rattle.wm_base.specs.declared.refusal.Key.TheVariants as key
 use Rattle.wm_clwords.specs.declared.tree.Item.{Item}
 use Rattle.wm_law.specs.declared.command.Ask.{Ask}
 use Rattle.wm_law.specs.declared.command.Ask.TheVariants as ask
-use Rattle.wm_command.specs.declared.said.Line.{Line}
-use Rattle.wm_command.specs.declared.said.Line.TheVariants as line
+use Rattle.wm_command.specs.declared.line.Line.{Line}
+use Rattle.wm_command.specs.declared.line.Line.TheVariants as line
 use Rattle.wm_command.specs.declared.fault.CmdFault.{CmdFault}
 use Rattle.wm_command.specs.declared.fault.CmdFault.TheVariants.{UnknownCommand, Missing, Conflict}
 use Rattle.wm_command.specs.declared.value.Value.{Value}
 use Rattle.wm_command.specs.declared.value.Value.TheVariants as value
 use Rattle.wm_command.specs.declared.value.Given.{Given}
-use Rattle.wm_command.specs.declared.verb.Change.{Change}
-use Rattle.wm_command.specs.declared.verb.Change.TheVariants as change
-use Rattle.wm_command.specs.declared.verb.Read.{Read}
-use Rattle.wm_command.specs.declared.verb.Read.TheVariants as read
+use Rattle.wm_command.specs.declared.verb.ChangeVerb.{ChangeVerb}
+use Rattle.wm_command.specs.declared.verb.ChangeVerb.TheVariants as change
+use Rattle.wm_command.specs.declared.verb.ReadVerb.{ReadVerb}
+use Rattle.wm_command.specs.declared.verb.ReadVerb.TheVariants as read
 use Rattle.wm_command.specs.Each.{go_on}
 use Rattle.wm_command.specs.Fields.{value_of, object_in, job_in}
 use Rattle.wm_command.specs.Made.{change_made}
@@ -23,18 +23,18 @@ use Rattle.wm_command.specs.Reading.{all_given}
 use Rattle.wm_command.specs.Table.{change_rows, change_word, read_rows, read_word}
 use Rattle.wm_command.specs.Words.{same}
 
-abbrev pub changes : List Change
+abbrev pub changes : List ChangeVerb
 changes =
     change.Crtcls ∷ change.Crtjobq ∷ change.Crtpgmref ∷ change.Crtjobd ∷ change.Crtsbsd ∷ change.Addjobqe ∷ change.Addrtge ∷ change.Addaje ∷ change.Addpje ∷ change.Rmvjobqe ∷ change.Rmvrtge ∷ change.Rmvaje ∷ change.Rmvpje ∷ change.Strsbs ∷ change.Endsbs ∷ change.Sbmjob ∷ change.Hldjob ∷ change.Rlsjob ∷ change.Chgjob ∷ change.Endjob ∷ change.Hldjobq ∷ change.Rlsjobq ∷ change.Clrjobq ∷ change.Strpj ∷ change.Endpj ∷ change.Evoke ∷ change.Enduse ∷ change.Pwrdwnsys ∷ []
 
-abbrev pub reads : List Read
+abbrev pub reads : List ReadVerb
 reads = read.Wrkactjob ∷ read.Wrksbmjob ∷ read.Wrksbs ∷ read.Dsplog ∷ read.Wrkjobq ∷ read.Dspjob ∷ []
 
 -- the command with a name
-unfoldable pub change_named : List ℕ → Option Change
+unfoldable pub change_named : List ℕ → Option ChangeVerb
 change_named name = find (λ verb. same (change_word verb) name) changes
 
-unfoldable pub read_named : List ℕ → Option Read
+unfoldable pub read_named : List ℕ → Option ReadVerb
 read_named name = find (λ verb. same (read_word verb) name) reads
 
 -- SBMJOB has a request, and not two
@@ -54,7 +54,7 @@ one_request false true = None
 one_request false false = Some (Conflict key.Cmd key.Rqsdta)
 
 -- what a command has beside its table
-abbrev pub own_fault : Change → List Given → Option CmdFault
+abbrev pub own_fault : ChangeVerb → List Given → Option CmdFault
 own_fault change.Sbmjob given = one_request (lacks key.Cmd given) (lacks key.Rqsdta given)
 own_fault verb given = None
 
@@ -62,12 +62,12 @@ abbrev pub unless : {V : Type 0} → Option CmdFault → V → Result V CmdFault
 unless (Some e) v = Err e
 unless None v = Ok v
 
-abbrev pub change_line : Change → List Item → Result Line CmdFault
+abbrev pub change_line : ChangeVerb → List Item → Result Line CmdFault
 change_line verb items =
     go_on (all_given (change_rows verb) items) (λ given. unless (own_fault verb given) (line.Change (change_made verb given)))
 
 -- what a reading command asks; WRKSBMJOB is about the user
-abbrev pub read_made : List ℕ → Read → List Given → Ask
+abbrev pub read_made : List ℕ → ReadVerb → List Given → Ask
 read_made user read.Wrkactjob given = ask.Active
 read_made user read.Wrksbmjob given = ask.Submitted user
 read_made user read.Wrksbs given = ask.Subsystems
@@ -75,14 +75,14 @@ read_made user read.Dsplog given = ask.Log
 read_made user read.Wrkjobq given = ask.Queue (object_in key.Jobq given)
 read_made user read.Dspjob given = ask.Job (job_in key.Job given)
 
-abbrev pub read_line : List ℕ → Read → List Item → Result Line CmdFault
+abbrev pub read_line : List ℕ → ReadVerb → List Item → Result Line CmdFault
 read_line user verb items = go_on (all_given (read_rows verb) items) (λ given. Ok (line.Read (read_made user verb given)))
 
-abbrev pub read_by : List ℕ → List Item → Option Read → Result Line CmdFault
+abbrev pub read_by : List ℕ → List Item → Option ReadVerb → Result Line CmdFault
 read_by user items None = Err UnknownCommand
 read_by user items (Some verb) = read_line user verb items
 
-abbrev pub line_by : List ℕ → List ℕ → List Item → Option Change → Result Line CmdFault
+abbrev pub line_by : List ℕ → List ℕ → List Item → Option ChangeVerb → Result Line CmdFault
 line_by user name items None = read_by user items (read_named name)
 line_by user name items (Some verb) = change_line verb items
 

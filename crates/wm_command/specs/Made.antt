@@ -24,8 +24,8 @@ use Rattle.wm_law.specs.declared.command.Endpj.{Endpj}
 use Rattle.wm_law.specs.declared.command.EvokeCommand.{EvokeCommand}
 use Rattle.wm_law.specs.declared.command.Pwrdwnsys.{Pwrdwnsys}
 use Rattle.wm_command.specs.declared.value.Given.{Given}
-use Rattle.wm_command.specs.declared.verb.Change.{Change}
-use Rattle.wm_command.specs.declared.verb.Change.TheVariants as change
+use Rattle.wm_command.specs.declared.verb.ChangeVerb.{ChangeVerb}
+use Rattle.wm_command.specs.declared.verb.ChangeVerb.TheVariants as change
 use Rattle.wm_command.specs.Fields.{object_in, name_in, text_in, number_in, limit_in, flag_in, ending_in, job_in, compare_in, priority_in, date_in, time_in, class_in, maxpty_in, request_in, is_word_in, maybe}
 
 unfoldable pub crtcls : List Given → Crtcls
@@ -89,7 +89,7 @@ unfoldable pub pwrdwnsys : List Given → Pwrdwnsys
 pwrdwnsys g = record { option = ending_in key.Option g; delay = maybe (is_word_in key.Delay g) (number_in key.Delay g) }
 
 -- the command with these values
-abbrev pub change_made : Change → List Given → Command
+abbrev pub change_made : ChangeVerb → List Given → Command
 change_made change.Crtcls g = command.Crtcls (crtcls g)
 change_made change.Crtjobq g = command.Crtjobq (record { jobq = object_in key.Jobq g })
 change_made change.Crtpgmref g = command.Crtpgmref (crtpgmref g)

@@ -16,8 +16,8 @@ use Rattle.wm_law.specs.declared.command.Command.{Command}
 use Rattle.wm_law.specs.declared.command.Command.TheVariants as command
 use Rattle.wm_law.specs.declared.command.JobRef.{JobRef}
 use Rattle.wm_law.specs.declared.command.JobRef.TheVariants.{Simple, ByUser, Full}
-use Rattle.wm_command.specs.declared.said.Line.{Line}
-use Rattle.wm_command.specs.declared.said.Line.TheVariants as line
+use Rattle.wm_command.specs.declared.line.Line.{Line}
+use Rattle.wm_command.specs.declared.line.Line.TheVariants as line
 use Rattle.wm_command.specs.declared.fault.CmdFault.{CmdFault}
 use Rattle.wm_command.specs.declared.row.Kind.{Kind}
 use Rattle.wm_command.specs.declared.row.Kind.TheVariants as kind
@@ -25,7 +25,7 @@ use Rattle.wm_command.specs.declared.row.Row.{Row}
 use Rattle.wm_command.specs.declared.value.Value.{Value}
 use Rattle.wm_command.specs.declared.value.Value.TheVariants as value
 use Rattle.wm_command.specs.declared.value.Given.{Given}
-use Rattle.wm_command.specs.declared.verb.Change.{Change}
+use Rattle.wm_command.specs.declared.verb.ChangeVerb.{ChangeVerb}
 use Rattle.wm_command.specs.Each.{go_on, each}
 use Rattle.wm_command.specs.Line.{own_fault, unless, line_of}
 use Rattle.wm_command.specs.Made.{change_made}
@@ -122,7 +122,7 @@ FitsMachine (line.Change c) = IsMachineCommand c
 FitsMachine (line.Read ask) = Unit {0}
 
 -- the line of a command with these values, completed by what the table has where none is given
-abbrev pub completed : Change → List Given → Result Line CmdFault
+abbrev pub completed : ChangeVerb → List Given → Result Line CmdFault
 completed verb given =
     go_on (each complete given (change_rows verb)) (λ all. unless (own_fault verb all) (line.Change (change_made verb all)))
 

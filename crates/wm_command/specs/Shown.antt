@@ -32,8 +32,8 @@ use Rattle.wm_command.specs.declared.row.Special.TheVariants as special
 use Rattle.wm_command.specs.declared.value.Value.{Value}
 use Rattle.wm_command.specs.declared.value.Value.TheVariants as value
 use Rattle.wm_command.specs.declared.value.Given.{Given}
-use Rattle.wm_command.specs.declared.verb.Change.{Change}
-use Rattle.wm_command.specs.declared.verb.Change.TheVariants as change
+use Rattle.wm_command.specs.declared.verb.ChangeVerb.{ChangeVerb}
+use Rattle.wm_command.specs.declared.verb.ChangeVerb.TheVariants as change
 
 abbrev pub with_key : Key → Value → Given
 with_key k v = record { key = k; value = v }
@@ -250,7 +250,7 @@ values_of (command.Evoke c) = evoke_values c
 values_of (command.Enduse c) = with_key key.Job (value.Job c.job) ∷ []
 values_of (command.Pwrdwnsys c) = pwrdwnsys_values c
 
-abbrev pub verb_of : Command → Change
+abbrev pub verb_of : Command → ChangeVerb
 verb_of (command.Crtcls c) = change.Crtcls
 verb_of (command.Crtjobq c) = change.Crtjobq
 verb_of (command.Crtpgmref c) = change.Crtpgmref

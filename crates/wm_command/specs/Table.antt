@@ -9,10 +9,10 @@ use Rattle.wm_command.specs.declared.row.Special.TheVariants as special
 use Rattle.wm_command.specs.declared.row.Default.{Default}
 use Rattle.wm_command.specs.declared.row.Default.TheVariants as default
 use Rattle.wm_command.specs.declared.row.Row.{Row}
-use Rattle.wm_command.specs.declared.verb.Change.{Change}
-use Rattle.wm_command.specs.declared.verb.Change.TheVariants as change
-use Rattle.wm_command.specs.declared.verb.Read.{Read}
-use Rattle.wm_command.specs.declared.verb.Read.TheVariants as read
+use Rattle.wm_command.specs.declared.verb.ChangeVerb.{ChangeVerb}
+use Rattle.wm_command.specs.declared.verb.ChangeVerb.TheVariants as change
+use Rattle.wm_command.specs.declared.verb.ReadVerb.{ReadVerb}
+use Rattle.wm_command.specs.declared.verb.ReadVerb.TheVariants as read
 
 -- the parts of a row: its key, what that takes, its special word, and what it has where it isn't given
 
@@ -36,7 +36,7 @@ plain k takes otherwise = record { 0 = k; 1 = takes; 2 = special.Never; 3 = othe
 abbrev pub or_word : Key → Kind → Special → Default → Row
 or_word k takes word otherwise = record { 0 = k; 1 = takes; 2 = word; 3 = otherwise }
 
-unfoldable pub change_rows : Change → List Row
+unfoldable pub change_rows : ChangeVerb → List Row
 change_rows change.Crtcls =
     plain key.Cls kind.Object default.Required ∷
     plain key.Runpty (kind.Number 1 99) (default.Number 50) ∷
@@ -182,7 +182,7 @@ change_rows change.Pwrdwnsys =
     []
 
 -- the command's name
-unfoldable pub change_word : Change → List ℕ
+unfoldable pub change_word : ChangeVerb → List ℕ
 change_word change.Crtcls = codes "CRTCLS"
 change_word change.Crtjobq = codes "CRTJOBQ"
 change_word change.Crtpgmref = codes "CRTPGMREF"
@@ -212,7 +212,7 @@ change_word change.Evoke = codes "EVOKE"
 change_word change.Enduse = codes "ENDUSE"
 change_word change.Pwrdwnsys = codes "PWRDWNSYS"
 
-unfoldable pub read_rows : Read → List Row
+unfoldable pub read_rows : ReadVerb → List Row
 read_rows read.Wrkactjob = []
 read_rows read.Wrksbmjob = []
 read_rows read.Wrksbs = []
@@ -221,7 +221,7 @@ read_rows read.Wrkjobq = plain key.Jobq kind.Object default.Required ∷ []
 read_rows read.Dspjob = plain key.Job kind.Job default.Required ∷ []
 
 -- the command's name
-unfoldable pub read_word : Read → List ℕ
+unfoldable pub read_word : ReadVerb → List ℕ
 read_word read.Wrkactjob = codes "WRKACTJOB"
 read_word read.Wrksbmjob = codes "WRKSBMJOB"
 read_word read.Wrksbs = codes "WRKSBS"

@@ -1,6 +1,6 @@
 // The CALL that CMD takes.
 ghost use Rattle.std.specs.Prelude.{◌≡◌, ◌≢◌, IfOk, IfErr, Ok, Err};
-ghost use Rattle.wm_clwords.specs.CallReading.{call_of};
+ghost use Rattle.wm_clwords.specs.Called.{call_of};
 ghost use Rattle.wm_command.specs.Call.{text_kept, called_text, call_value};
 
 use crate::fault::CmdFault;

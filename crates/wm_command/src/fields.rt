@@ -4,8 +4,7 @@ ghost use Rattle.wm_command.specs.Fields.{maybe};
 
 use crate::reading::same_key;
 use crate::value::{Value, Values};
-use std::alloc::AllocError;
-use wm_base::{Key, Limit, Name, Priority, QName, Text};
+use wm_base::{Key, Limit, Name, NoMemory, Priority, QName, Text};
 use wm_desc::{Cmp, qbatch};
 use wm_law::{EndOption, JobRef};
 use wm_when::{DateSpec, TimeSpec};
@@ -126,7 +125,7 @@ impl Values {
 
     /// The text of a key. An `Err` is want of memory.
     #[tactic(auto, unfolding(crate::specs::Fields::text_in))]
-    pub fn text(&self, key: Key) -> Result<Text, AllocError>
+    pub fn text(&self, key: Key) -> Result<Text, NoMemory>
         ensures { IfOk result (λ text. text ≡ text_in key self.now) }
     {
         match self.value_of(key) {
@@ -137,7 +136,7 @@ impl Values {
 
     /// The compare value of a key. An `Err` is want of memory.
     #[tactic(auto, unfolding(crate::specs::Fields::compare_in))]
-    pub fn compare(&self, key: Key) -> Result<Cmp, AllocError>
+    pub fn compare(&self, key: Key) -> Result<Cmp, NoMemory>
         ensures { IfOk result (λ cmp. cmp ≡ compare_in key self.now) }
     {
         match self.value_of(key) {
@@ -208,7 +207,7 @@ impl Values {
     }
 
     /// The text of a key, and nothing for its special word. An `Err` is want of memory.
-    pub fn maybe_text(&self, key: Key) -> Result<Option<Text>, AllocError>
+    pub fn maybe_text(&self, key: Key) -> Result<Option<Text>, NoMemory>
         ensures { IfOk result (λ text. text ≡ maybe (is_word_in key self.now) (text_in key self.now)) }
     {
         if self.is_word(key) {
@@ -219,7 +218,7 @@ impl Values {
 
     /// The text of CMD's CALL, or RQSDTA. An `Err` is want of memory.
     #[tactic(auto, unfolding(crate::specs::Fields::request_in))]
-    pub fn request(&self) -> Result<Option<Text>, AllocError>
+    pub fn request(&self) -> Result<Option<Text>, NoMemory>
         ensures { IfOk result (λ text. text ≡ request_in self.now) }
     {
         if let Some(Value::Text(text)) = self.value_of(Key::Cmd) {

@@ -3,8 +3,7 @@ ghost use Rattle.std.specs.Prelude.{◌≡◌, IfOk};
 ghost use Rattle.wm_command.specs.Made.{crtcls, crtpgmref, crtjobd, crtsbsd};
 
 use crate::value::Values;
-use std::alloc::AllocError;
-use wm_base::Key;
+use wm_base::{Key, NoMemory};
 use wm_law::{Crtcls, Crtjobd, Crtpgmref, Crtsbsd};
 
 #[tactic(auto, unfolding(crate::specs::Made::crtcls))]
@@ -20,7 +19,7 @@ pub fn crtcls(values: &Values) -> Crtcls
 }
 
 #[tactic(auto, unfolding(crate::specs::Made::crtpgmref))]
-pub fn crtpgmref(values: &Values) -> Result<Crtpgmref, AllocError>
+pub fn crtpgmref(values: &Values) -> Result<Crtpgmref, NoMemory>
     ensures { IfOk result (λ c. c ≡ crtpgmref values.now) }
 {
     Ok(Crtpgmref {
@@ -30,7 +29,7 @@ pub fn crtpgmref(values: &Values) -> Result<Crtpgmref, AllocError>
 }
 
 #[tactic(auto, unfolding(crate::specs::Made::crtjobd))]
-pub fn crtjobd(values: &Values) -> Result<Crtjobd, AllocError>
+pub fn crtjobd(values: &Values) -> Result<Crtjobd, NoMemory>
     ensures { IfOk result (λ c. c ≡ crtjobd values.now) }
 {
     Ok(Crtjobd {

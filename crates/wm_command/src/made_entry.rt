@@ -3,8 +3,7 @@ ghost use Rattle.std.specs.Prelude.{◌≡◌, IfOk};
 ghost use Rattle.wm_command.specs.Made.{addjobqe, addrtge, addaje, addpje, rmvjobqe, rmvrtge, rmvaje, rmvpje};
 
 use crate::value::Values;
-use std::alloc::AllocError;
-use wm_base::Key;
+use wm_base::{Key, NoMemory};
 use wm_law::{Addaje, Addjobqe, Addpje, Addrtge, Rmvaje, Rmvjobqe, Rmvpje, Rmvrtge};
 
 #[tactic(auto, unfolding(crate::specs::Made::addjobqe))]
@@ -21,7 +20,7 @@ pub fn addjobqe(values: &Values) -> Addjobqe
 }
 
 #[tactic(auto, unfolding(crate::specs::Made::addrtge))]
-pub fn addrtge(values: &Values) -> Result<Addrtge, AllocError>
+pub fn addrtge(values: &Values) -> Result<Addrtge, NoMemory>
     ensures { IfOk result (λ c. c ≡ addrtge values.now) }
 {
     Ok(Addrtge {

@@ -4,12 +4,11 @@ ghost use Rattle.wm_command.specs.Made.{sbmjob, chgjob, endjob};
 
 use crate::fields::maybe;
 use crate::value::Values;
-use std::alloc::AllocError;
-use wm_base::Key;
+use wm_base::{Key, NoMemory};
 use wm_law::{Chgjob, Endjob, Sbmjob};
 
 #[tactic(auto, unfolding(crate::specs::Made::sbmjob))]
-pub fn sbmjob(values: &Values) -> Result<Sbmjob, AllocError>
+pub fn sbmjob(values: &Values) -> Result<Sbmjob, NoMemory>
     ensures { IfOk result (λ c. c ≡ sbmjob values.now) }
 {
     Ok(Sbmjob {

@@ -14,16 +14,16 @@ use crate::row::Special;
 use crate::shown::{values_of, verb_of};
 use crate::table::change_word;
 use crate::value::{Given, Value};
-use crate::verb::Change;
-use std::alloc::{AllocError, Global};
-use wm_base::{JobName, Key, Name, Text};
+use crate::verb::ChangeVerb;
+use std::alloc::Global;
+use wm_base::{JobName, Key, Name, NoMemory, Text};
 use wm_clwords::{push_qname, push_quoted};
 use wm_desc::Cmp;
 use wm_law::{Command, EndOption, JobRef};
 use wm_when::{DateSpec, TimeSpec};
 
 #[tactic(auto, using(crate::proofs::Texts::texts))]
-fn push_name(out: &mut Text, name: &Name) -> Result<(), AllocError>
+fn push_name(out: &mut Text, name: &Name) -> Result<(), NoMemory>
     ensures { OnOk result (out.new ≡ out.old ++ name.now) }
 {
     out.push_bytes(name.as_bytes())?;
@@ -31,7 +31,7 @@ fn push_name(out: &mut Text, name: &Name) -> Result<(), AllocError>
 }
 
 #[tactic(auto, using(crate::proofs::Texts::texts))]
-fn push_number(alloc: Global, out: &mut Text, n: u32) -> Result<(), AllocError>
+fn push_number(alloc: Global, out: &mut Text, n: u32) -> Result<(), NoMemory>
     ensures { OnOk result (out.new ≡ out.old ++ decimal n) }
 {
     let digits = format!(in alloc; "{n}")?;
@@ -40,7 +40,7 @@ fn push_number(alloc: Global, out: &mut Text, n: u32) -> Result<(), AllocError>
 }
 
 #[tactic(auto, using(crate::proofs::Texts::padded))]
-fn push_two(alloc: Global, out: &mut Text, n: u32) -> Result<(), AllocError>
+fn push_two(alloc: Global, out: &mut Text, n: u32) -> Result<(), NoMemory>
     ensures { OnOk result (out.new ≡ out.old ++ zero_padded 2 n) }
 {
     let digits = format!(in alloc; "{n:02}")?;
@@ -49,7 +49,7 @@ fn push_two(alloc: Global, out: &mut Text, n: u32) -> Result<(), AllocError>
 }
 
 #[tactic(auto, using(crate::proofs::Texts::padded))]
-fn push_eight(alloc: Global, out: &mut Text, n: u32) -> Result<(), AllocError>
+fn push_eight(alloc: Global, out: &mut Text, n: u32) -> Result<(), NoMemory>
     ensures { OnOk result (out.new ≡ out.old ++ zero_padded 8 n) }
 {
     let digits = format!(in alloc; "{n:08}")?;
@@ -58,7 +58,7 @@ fn push_eight(alloc: Global, out: &mut Text, n: u32) -> Result<(), AllocError>
 }
 
 #[tactic(auto, using(crate::proofs::Texts::padded))]
-fn push_six(alloc: Global, out: &mut Text, n: u32) -> Result<(), AllocError>
+fn push_six(alloc: Global, out: &mut Text, n: u32) -> Result<(), NoMemory>
     ensures { OnOk result (out.new ≡ out.old ++ zero_padded 6 n) }
 {
     let digits = format!(in alloc; "{n:06}")?;
@@ -66,7 +66,7 @@ fn push_six(alloc: Global, out: &mut Text, n: u32) -> Result<(), AllocError>
     Ok(())
 }
 
-fn push_flag(out: &mut Text, flag: bool) -> Result<(), AllocError>
+fn push_flag(out: &mut Text, flag: bool) -> Result<(), NoMemory>
     ensures { OnOk result (out.new ≡ out.old ++ flag_text flag) }
 {
     if flag {
@@ -77,7 +77,7 @@ fn push_flag(out: &mut Text, flag: bool) -> Result<(), AllocError>
     Ok(())
 }
 
-fn push_ending(out: &mut Text, ending: EndOption) -> Result<(), AllocError>
+fn push_ending(out: &mut Text, ending: EndOption) -> Result<(), NoMemory>
     ensures { OnOk result (out.new ≡ out.old ++ ending_text ending) }
 {
     match ending {
@@ -92,7 +92,7 @@ fn push_ending(out: &mut Text, ending: EndOption) -> Result<(), AllocError>
     }
 }
 
-fn push_full(alloc: Global, out: &mut Text, job: &JobName) -> Result<(), AllocError>
+fn push_full(alloc: Global, out: &mut Text, job: &JobName) -> Result<(), NoMemory>
     ensures { OnOk result (out.new ≡ out.old ++ job_text (JobRef.Full job.now)) }
 {
     push_six(alloc, out, job.number.get())?;
@@ -103,7 +103,7 @@ fn push_full(alloc: Global, out: &mut Text, job: &JobName) -> Result<(), AllocEr
     Ok(())
 }
 
-fn push_job(alloc: Global, out: &mut Text, job: &JobRef) -> Result<(), AllocError>
+fn push_job(alloc: Global, out: &mut Text, job: &JobRef) -> Result<(), NoMemory>
     ensures { OnOk result (out.new ≡ out.old ++ job_text job.now) }
 {
     match job {
@@ -124,7 +124,7 @@ fn push_job(alloc: Global, out: &mut Text, job: &JobRef) -> Result<(), AllocErro
     }
 }
 
-fn push_cmp(alloc: Global, out: &mut Text, cmp: &Cmp) -> Result<(), AllocError>
+fn push_cmp(alloc: Global, out: &mut Text, cmp: &Cmp) -> Result<(), NoMemory>
     ensures { OnOk result (out.new ≡ out.old ++ cmp_text cmp.now) }
 {
     match cmp {
@@ -156,7 +156,7 @@ fn weekday(day: u8) -> &'static [u8]
     }
 }
 
-fn push_date(alloc: Global, out: &mut Text, date: &DateSpec) -> Result<(), AllocError>
+fn push_date(alloc: Global, out: &mut Text, date: &DateSpec) -> Result<(), NoMemory>
     ensures { OnOk result (out.new ≡ out.old ++ date_text date.now) }
 {
     match date {
@@ -183,7 +183,7 @@ fn push_date(alloc: Global, out: &mut Text, date: &DateSpec) -> Result<(), Alloc
     }
 }
 
-fn push_second(alloc: Global, out: &mut Text, n: u32) -> Result<(), AllocError>
+fn push_second(alloc: Global, out: &mut Text, n: u32) -> Result<(), NoMemory>
     ensures { OnOk result (out.new ≡ out.old ++ second_text n) }
 {
     push_two(alloc, out, n / 3600)?;
@@ -192,7 +192,7 @@ fn push_second(alloc: Global, out: &mut Text, n: u32) -> Result<(), AllocError>
     Ok(())
 }
 
-fn push_time(alloc: Global, out: &mut Text, time: &TimeSpec) -> Result<(), AllocError>
+fn push_time(alloc: Global, out: &mut Text, time: &TimeSpec) -> Result<(), NoMemory>
     ensures { OnOk result (out.new ≡ out.old ++ time_text time.now) }
 {
     match time {
@@ -208,7 +208,7 @@ fn push_time(alloc: Global, out: &mut Text, time: &TimeSpec) -> Result<(), Alloc
 }
 
 #[tactic(auto, using(crate::proofs::Texts::texts))]
-fn push_special(out: &mut Text, special: Special) -> Result<(), AllocError>
+fn push_special(out: &mut Text, special: Special) -> Result<(), NoMemory>
     ensures { OnOk result (out.new ≡ out.old ++ special_word special) }
 {
     out.push_bytes(special.word().as_bytes())?;
@@ -216,7 +216,7 @@ fn push_special(out: &mut Text, special: Special) -> Result<(), AllocError>
 }
 
 #[tactic(auto, unfolding(crate::specs::Print::value_text))]
-fn push_value(alloc: Global, out: &mut Text, value: &Value) -> Result<(), AllocError>
+fn push_value(alloc: Global, out: &mut Text, value: &Value) -> Result<(), NoMemory>
     ensures { OnOk result (out.new ≡ out.old ++ value_text value.now) }
 {
     match value {
@@ -237,7 +237,7 @@ fn push_value(alloc: Global, out: &mut Text, value: &Value) -> Result<(), AllocE
 }
 
 #[tactic(auto, using(crate::proofs::Texts::texts))]
-fn push_key(out: &mut Text, key: Key) -> Result<(), AllocError>
+fn push_key(out: &mut Text, key: Key) -> Result<(), NoMemory>
     ensures { OnOk result (out.new ≡ out.old ++ key_word key) }
 {
     out.push_bytes(key.word().as_bytes())?;
@@ -245,14 +245,14 @@ fn push_key(out: &mut Text, key: Key) -> Result<(), AllocError>
 }
 
 #[tactic(auto, using(crate::proofs::Texts::texts))]
-fn push_verb(out: &mut Text, verb: Change) -> Result<(), AllocError>
+fn push_verb(out: &mut Text, verb: ChangeVerb) -> Result<(), NoMemory>
     ensures { OnOk result (out.new ≡ out.old ++ change_word verb) }
 {
     out.push_bytes(change_word(verb).as_bytes())?;
     Ok(())
 }
 
-fn push_given(alloc: Global, out: &mut Text, given: &Given) -> Result<(), AllocError>
+fn push_given(alloc: Global, out: &mut Text, given: &Given) -> Result<(), NoMemory>
     ensures { OnOk result (out.new ≡ out.old ++ given_text given.now) }
 {
     out.push_bytes(b" ")?;
@@ -263,7 +263,7 @@ fn push_given(alloc: Global, out: &mut Text, given: &Given) -> Result<(), AllocE
     Ok(())
 }
 
-fn push_all(alloc: Global, out: &mut Text, all: &[Given]) -> Result<(), AllocError>
+fn push_all(alloc: Global, out: &mut Text, all: &[Given]) -> Result<(), NoMemory>
     ensures { OnOk result (out.new ≡ out.old ++ flat_map given_text all.now) }
 {
     for given in all {
@@ -274,7 +274,7 @@ fn push_all(alloc: Global, out: &mut Text, all: &[Given]) -> Result<(), AllocErr
 
 /// The canonical text of a command: its name, and every key of the table in order with its value. CMD isn't printed,
 /// its text stands in RQSDTA. An `Err` is want of memory.
-pub fn print(alloc: Global, command: &Command) -> Result<Text, AllocError>
+pub fn print(alloc: Global, command: &Command) -> Result<Text, NoMemory>
     ensures { IfOk result (λ text. text ≡ command_text command.now) }
 {
     let values = values_of(alloc, command)?;

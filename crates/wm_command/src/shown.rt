@@ -16,9 +16,9 @@ use crate::shown_entry::{
 use crate::shown_job::{chgjob_values, endjob_values, sbmjob_values};
 use crate::table::change_word;
 use crate::value::{Value, Values};
-use crate::verb::Change;
-use std::alloc::{AllocError, Global};
-use wm_base::{Key, Limit, Priority, Text};
+use crate::verb::ChangeVerb;
+use std::alloc::Global;
+use wm_base::{Key, Limit, NoMemory, Priority, Text};
 use wm_law::Command;
 
 pub fn limit_value(limit: Limit) -> Value
@@ -40,7 +40,7 @@ pub fn word_or(special: Special, value: Option<Value>) -> Value
     }
 }
 
-pub fn text_or(special: Special, text: &Option<Text>) -> Result<Value, AllocError>
+pub fn text_or(special: Special, text: &Option<Text>) -> Result<Value, NoMemory>
     ensures { IfOk result (λ v. v ≡ or_special special value.Text text.now) }
 {
     match text {
@@ -59,7 +59,7 @@ pub fn priority_or(special: Special, priority: Option<Priority>) -> Value
 }
 
 /// The values of a command with one key.
-fn alone(alloc: Global, key: Key, value: Value) -> Result<Values, AllocError>
+fn alone(alloc: Global, key: Key, value: Value) -> Result<Values, NoMemory>
     ensures { IfOk result (λ v. v ≡ with_key key value ∷ []) }
 {
     let mut values = Values::new(alloc);
@@ -68,7 +68,7 @@ fn alone(alloc: Global, key: Key, value: Value) -> Result<Values, AllocError>
 }
 
 /// All keys but CMD, TEXT and POOLS, with their values. An `Err` is want of memory.
-pub fn values_of(alloc: Global, command: &Command) -> Result<Values, AllocError>
+pub fn values_of(alloc: Global, command: &Command) -> Result<Values, NoMemory>
     ensures { IfOk result (λ v. v ≡ values_of command.now) }
 {
     match command {
@@ -111,37 +111,37 @@ pub fn command_word(command: &Command) -> &'static str
 }
 
 /// Which command it is.
-pub fn verb_of(command: &Command) -> Change
+pub fn verb_of(command: &Command) -> ChangeVerb
     ensures { result ≡ verb_of command.now }
 {
     match command {
-        Command::Crtcls(_) => Change::Crtcls,
-        Command::Crtjobq(_) => Change::Crtjobq,
-        Command::Crtpgmref(_) => Change::Crtpgmref,
-        Command::Crtjobd(_) => Change::Crtjobd,
-        Command::Crtsbsd(_) => Change::Crtsbsd,
-        Command::Addjobqe(_) => Change::Addjobqe,
-        Command::Addrtge(_) => Change::Addrtge,
-        Command::Addaje(_) => Change::Addaje,
-        Command::Addpje(_) => Change::Addpje,
-        Command::Rmvjobqe(_) => Change::Rmvjobqe,
-        Command::Rmvrtge(_) => Change::Rmvrtge,
-        Command::Rmvaje(_) => Change::Rmvaje,
-        Command::Rmvpje(_) => Change::Rmvpje,
-        Command::Strsbs(_) => Change::Strsbs,
-        Command::Endsbs(_) => Change::Endsbs,
-        Command::Sbmjob(_) => Change::Sbmjob,
-        Command::Hldjob(_) => Change::Hldjob,
-        Command::Rlsjob(_) => Change::Rlsjob,
-        Command::Chgjob(_) => Change::Chgjob,
-        Command::Endjob(_) => Change::Endjob,
-        Command::Hldjobq(_) => Change::Hldjobq,
-        Command::Rlsjobq(_) => Change::Rlsjobq,
-        Command::Clrjobq(_) => Change::Clrjobq,
-        Command::Strpj(_) => Change::Strpj,
-        Command::Endpj(_) => Change::Endpj,
-        Command::Evoke(_) => Change::Evoke,
-        Command::Enduse(_) => Change::Enduse,
-        Command::Pwrdwnsys(_) => Change::Pwrdwnsys,
+        Command::Crtcls(_) => ChangeVerb::Crtcls,
+        Command::Crtjobq(_) => ChangeVerb::Crtjobq,
+        Command::Crtpgmref(_) => ChangeVerb::Crtpgmref,
+        Command::Crtjobd(_) => ChangeVerb::Crtjobd,
+        Command::Crtsbsd(_) => ChangeVerb::Crtsbsd,
+        Command::Addjobqe(_) => ChangeVerb::Addjobqe,
+        Command::Addrtge(_) => ChangeVerb::Addrtge,
+        Command::Addaje(_) => ChangeVerb::Addaje,
+        Command::Addpje(_) => ChangeVerb::Addpje,
+        Command::Rmvjobqe(_) => ChangeVerb::Rmvjobqe,
+        Command::Rmvrtge(_) => ChangeVerb::Rmvrtge,
+        Command::Rmvaje(_) => ChangeVerb::Rmvaje,
+        Command::Rmvpje(_) => ChangeVerb::Rmvpje,
+        Command::Strsbs(_) => ChangeVerb::Strsbs,
+        Command::Endsbs(_) => ChangeVerb::Endsbs,
+        Command::Sbmjob(_) => ChangeVerb::Sbmjob,
+        Command::Hldjob(_) => ChangeVerb::Hldjob,
+        Command::Rlsjob(_) => ChangeVerb::Rlsjob,
+        Command::Chgjob(_) => ChangeVerb::Chgjob,
+        Command::Endjob(_) => ChangeVerb::Endjob,
+        Command::Hldjobq(_) => ChangeVerb::Hldjobq,
+        Command::Rlsjobq(_) => ChangeVerb::Rlsjobq,
+        Command::Clrjobq(_) => ChangeVerb::Clrjobq,
+        Command::Strpj(_) => ChangeVerb::Strpj,
+        Command::Endpj(_) => ChangeVerb::Endpj,
+        Command::Evoke(_) => ChangeVerb::Evoke,
+        Command::Enduse(_) => ChangeVerb::Enduse,
+        Command::Pwrdwnsys(_) => ChangeVerb::Pwrdwnsys,
     }
 }

@@ -5,12 +5,12 @@ ghost use Rattle.wm_command.specs.Shown.{endsbs_values, strpj_values, endpj_valu
 use crate::row::Special;
 use crate::shown::word_or;
 use crate::value::{Value, Values};
-use std::alloc::{AllocError, Global};
-use wm_base::Key;
+use std::alloc::Global;
+use wm_base::{Key, NoMemory};
 use wm_law::{Endpj, Endsbs, EvokeCommand, Pwrdwnsys, Strpj};
 
 #[tactic(auto, unfolding(crate::specs::Shown::endsbs_values))]
-pub fn endsbs_values(alloc: Global, c: &Endsbs) -> Result<Values, AllocError>
+pub fn endsbs_values(alloc: Global, c: &Endsbs) -> Result<Values, NoMemory>
     ensures { IfOk result (λ v. v ≡ endsbs_values c.now) }
 {
     let mut values = Values::new(alloc);
@@ -24,7 +24,7 @@ pub fn endsbs_values(alloc: Global, c: &Endsbs) -> Result<Values, AllocError>
 }
 
 #[tactic(auto, unfolding(crate::specs::Shown::strpj_values))]
-pub fn strpj_values(alloc: Global, c: &Strpj) -> Result<Values, AllocError>
+pub fn strpj_values(alloc: Global, c: &Strpj) -> Result<Values, NoMemory>
     ensures { IfOk result (λ v. v ≡ strpj_values c.now) }
 {
     let mut values = Values::new(alloc);
@@ -34,7 +34,7 @@ pub fn strpj_values(alloc: Global, c: &Strpj) -> Result<Values, AllocError>
 }
 
 #[tactic(auto, unfolding(crate::specs::Shown::endpj_values))]
-pub fn endpj_values(alloc: Global, c: &Endpj) -> Result<Values, AllocError>
+pub fn endpj_values(alloc: Global, c: &Endpj) -> Result<Values, NoMemory>
     ensures { IfOk result (λ v. v ≡ endpj_values c.now) }
 {
     let mut values = Values::new(alloc);
@@ -49,7 +49,7 @@ pub fn endpj_values(alloc: Global, c: &Endpj) -> Result<Values, AllocError>
 }
 
 #[tactic(auto, unfolding(crate::specs::Shown::evoke_values))]
-pub fn evoke_values(alloc: Global, c: &EvokeCommand) -> Result<Values, AllocError>
+pub fn evoke_values(alloc: Global, c: &EvokeCommand) -> Result<Values, NoMemory>
     ensures { IfOk result (λ v. v ≡ evoke_values c.now) }
 {
     let mut values = Values::new(alloc);
@@ -59,7 +59,7 @@ pub fn evoke_values(alloc: Global, c: &EvokeCommand) -> Result<Values, AllocErro
 }
 
 #[tactic(auto, unfolding(crate::specs::Shown::pwrdwnsys_values))]
-pub fn pwrdwnsys_values(alloc: Global, c: &Pwrdwnsys) -> Result<Values, AllocError>
+pub fn pwrdwnsys_values(alloc: Global, c: &Pwrdwnsys) -> Result<Values, NoMemory>
     ensures { IfOk result (λ v. v ≡ pwrdwnsys_values c.now) }
 {
     let mut values = Values::new(alloc);

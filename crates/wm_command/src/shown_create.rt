@@ -5,12 +5,12 @@ ghost use Rattle.wm_command.specs.Shown.{crtcls_values, crtpgmref_values, crtjob
 use crate::row::Special;
 use crate::shown::{limit_value, text_or};
 use crate::value::{Value, Values};
-use std::alloc::{AllocError, Global};
-use wm_base::Key;
+use std::alloc::Global;
+use wm_base::{Key, NoMemory};
 use wm_law::{Crtcls, Crtjobd, Crtpgmref, Crtsbsd};
 
 #[tactic(auto, unfolding(crate::specs::Shown::crtcls_values))]
-pub fn crtcls_values(alloc: Global, c: &Crtcls) -> Result<Values, AllocError>
+pub fn crtcls_values(alloc: Global, c: &Crtcls) -> Result<Values, NoMemory>
     ensures { IfOk result (λ v. v ≡ crtcls_values c.now) }
 {
     let mut values = Values::new(alloc);
@@ -22,7 +22,7 @@ pub fn crtcls_values(alloc: Global, c: &Crtcls) -> Result<Values, AllocError>
 }
 
 #[tactic(auto, unfolding(crate::specs::Shown::crtpgmref_values))]
-pub fn crtpgmref_values(alloc: Global, c: &Crtpgmref) -> Result<Values, AllocError>
+pub fn crtpgmref_values(alloc: Global, c: &Crtpgmref) -> Result<Values, NoMemory>
     ensures { IfOk result (λ v. v ≡ crtpgmref_values c.now) }
 {
     let mut values = Values::new(alloc);
@@ -32,7 +32,7 @@ pub fn crtpgmref_values(alloc: Global, c: &Crtpgmref) -> Result<Values, AllocErr
 }
 
 #[tactic(auto, unfolding(crate::specs::Shown::crtjobd_values))]
-pub fn crtjobd_values(alloc: Global, c: &Crtjobd) -> Result<Values, AllocError>
+pub fn crtjobd_values(alloc: Global, c: &Crtjobd) -> Result<Values, NoMemory>
     ensures { IfOk result (λ v. v ≡ crtjobd_values c.now) }
 {
     let mut values = Values::new(alloc);
@@ -46,7 +46,7 @@ pub fn crtjobd_values(alloc: Global, c: &Crtjobd) -> Result<Values, AllocError>
 }
 
 #[tactic(auto, unfolding(crate::specs::Shown::crtsbsd_values))]
-pub fn crtsbsd_values(alloc: Global, c: &Crtsbsd) -> Result<Values, AllocError>
+pub fn crtsbsd_values(alloc: Global, c: &Crtsbsd) -> Result<Values, NoMemory>
     ensures { IfOk result (λ v. v ≡ crtsbsd_values c.now) }
 {
     let mut values = Values::new(alloc);

@@ -4,12 +4,12 @@ ghost use Rattle.wm_command.specs.Shown.{addjobqe_values, addrtge_values, addaje
 
 use crate::shown::limit_value;
 use crate::value::{Value, Values};
-use std::alloc::{AllocError, Global};
-use wm_base::Key;
+use std::alloc::Global;
+use wm_base::{Key, NoMemory};
 use wm_law::{Addaje, Addjobqe, Addpje, Addrtge, Rmvaje, Rmvjobqe, Rmvpje, Rmvrtge};
 
 #[tactic(auto, unfolding(crate::specs::Shown::addjobqe_values))]
-pub fn addjobqe_values(alloc: Global, c: &Addjobqe) -> Result<Values, AllocError>
+pub fn addjobqe_values(alloc: Global, c: &Addjobqe) -> Result<Values, NoMemory>
     ensures { IfOk result (λ v. v ≡ addjobqe_values c.now) }
 {
     let mut values = Values::new(alloc);
@@ -30,7 +30,7 @@ pub fn addjobqe_values(alloc: Global, c: &Addjobqe) -> Result<Values, AllocError
 }
 
 #[tactic(auto, unfolding(crate::specs::Shown::addrtge_values))]
-pub fn addrtge_values(alloc: Global, c: &Addrtge) -> Result<Values, AllocError>
+pub fn addrtge_values(alloc: Global, c: &Addrtge) -> Result<Values, NoMemory>
     ensures { IfOk result (λ v. v ≡ addrtge_values c.now) }
 {
     let mut values = Values::new(alloc);
@@ -45,7 +45,7 @@ pub fn addrtge_values(alloc: Global, c: &Addrtge) -> Result<Values, AllocError>
 }
 
 #[tactic(auto, unfolding(crate::specs::Shown::addaje_values))]
-pub fn addaje_values(alloc: Global, c: &Addaje) -> Result<Values, AllocError>
+pub fn addaje_values(alloc: Global, c: &Addaje) -> Result<Values, NoMemory>
     ensures { IfOk result (λ v. v ≡ addaje_values c.now) }
 {
     let mut values = Values::new(alloc);
@@ -56,7 +56,7 @@ pub fn addaje_values(alloc: Global, c: &Addaje) -> Result<Values, AllocError>
 }
 
 #[tactic(auto, unfolding(crate::specs::Shown::addpje_values))]
-pub fn addpje_values(alloc: Global, c: &Addpje) -> Result<Values, AllocError>
+pub fn addpje_values(alloc: Global, c: &Addpje) -> Result<Values, NoMemory>
     ensures { IfOk result (λ v. v ≡ addpje_values c.now) }
 {
     let mut values = Values::new(alloc);
@@ -75,7 +75,7 @@ pub fn addpje_values(alloc: Global, c: &Addpje) -> Result<Values, AllocError>
 }
 
 #[tactic(auto, unfolding(crate::specs::Shown::rmvjobqe_values))]
-pub fn rmvjobqe_values(alloc: Global, c: &Rmvjobqe) -> Result<Values, AllocError>
+pub fn rmvjobqe_values(alloc: Global, c: &Rmvjobqe) -> Result<Values, NoMemory>
     ensures { IfOk result (λ v. v ≡ rmvjobqe_values c.now) }
 {
     let mut values = Values::new(alloc);
@@ -85,7 +85,7 @@ pub fn rmvjobqe_values(alloc: Global, c: &Rmvjobqe) -> Result<Values, AllocError
 }
 
 #[tactic(auto, unfolding(crate::specs::Shown::rmvrtge_values))]
-pub fn rmvrtge_values(alloc: Global, c: &Rmvrtge) -> Result<Values, AllocError>
+pub fn rmvrtge_values(alloc: Global, c: &Rmvrtge) -> Result<Values, NoMemory>
     ensures { IfOk result (λ v. v ≡ rmvrtge_values c.now) }
 {
     let mut values = Values::new(alloc);
@@ -95,7 +95,7 @@ pub fn rmvrtge_values(alloc: Global, c: &Rmvrtge) -> Result<Values, AllocError>
 }
 
 #[tactic(auto, unfolding(crate::specs::Shown::rmvaje_values))]
-pub fn rmvaje_values(alloc: Global, c: &Rmvaje) -> Result<Values, AllocError>
+pub fn rmvaje_values(alloc: Global, c: &Rmvaje) -> Result<Values, NoMemory>
     ensures { IfOk result (λ v. v ≡ rmvaje_values c.now) }
 {
     let mut values = Values::new(alloc);
@@ -105,7 +105,7 @@ pub fn rmvaje_values(alloc: Global, c: &Rmvaje) -> Result<Values, AllocError>
 }
 
 #[tactic(auto, unfolding(crate::specs::Shown::rmvpje_values))]
-pub fn rmvpje_values(alloc: Global, c: &Rmvpje) -> Result<Values, AllocError>
+pub fn rmvpje_values(alloc: Global, c: &Rmvpje) -> Result<Values, NoMemory>
     ensures { IfOk result (λ v. v ≡ rmvpje_values c.now) }
 {
     let mut values = Values::new(alloc);

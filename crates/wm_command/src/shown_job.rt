@@ -5,12 +5,12 @@ ghost use Rattle.wm_command.specs.Shown.{sbmjob_values, chgjob_values, endjob_va
 use crate::row::Special;
 use crate::shown::{priority_or, text_or, word_or};
 use crate::value::{Value, Values};
-use std::alloc::{AllocError, Global};
-use wm_base::Key;
+use std::alloc::Global;
+use wm_base::{Key, NoMemory};
 use wm_law::{Chgjob, Endjob, Sbmjob};
 
 #[tactic(auto, unfolding(crate::specs::Shown::sbmjob_values))]
-pub fn sbmjob_values(alloc: Global, c: &Sbmjob) -> Result<Values, AllocError>
+pub fn sbmjob_values(alloc: Global, c: &Sbmjob) -> Result<Values, NoMemory>
     ensures { IfOk result (λ v. v ≡ sbmjob_values c.now) }
 {
     let mut values = Values::new(alloc);
@@ -27,7 +27,7 @@ pub fn sbmjob_values(alloc: Global, c: &Sbmjob) -> Result<Values, AllocError>
 }
 
 #[tactic(auto, unfolding(crate::specs::Shown::chgjob_values))]
-pub fn chgjob_values(alloc: Global, c: &Chgjob) -> Result<Values, AllocError>
+pub fn chgjob_values(alloc: Global, c: &Chgjob) -> Result<Values, NoMemory>
     ensures { IfOk result (λ v. v ≡ chgjob_values c.now) }
 {
     let mut values = Values::new(alloc);
@@ -46,7 +46,7 @@ pub fn chgjob_values(alloc: Global, c: &Chgjob) -> Result<Values, AllocError>
 }
 
 #[tactic(auto, unfolding(crate::specs::Shown::endjob_values))]
-pub fn endjob_values(alloc: Global, c: &Endjob) -> Result<Values, AllocError>
+pub fn endjob_values(alloc: Global, c: &Endjob) -> Result<Values, NoMemory>
     ensures { IfOk result (λ v. v ≡ endjob_values c.now) }
 {
     let mut values = Values::new(alloc);

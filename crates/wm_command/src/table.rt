@@ -3,7 +3,7 @@ ghost use Rattle.std.specs.Prelude.{◌≡◌};
 ghost use Rattle.wm_command.specs.Table.{change_rows, change_word, read_rows, read_word};
 
 use crate::row::{Default, Kind, Row, Special};
-use crate::verb::{Change, Read};
+use crate::verb::{ChangeVerb, ReadVerb};
 use wm_base::Key;
 
 const CRTCLS: [Row; 5] = [
@@ -368,104 +368,104 @@ const DSPJOB: [Row; 1] = [Row(Key::Job, Kind::Job, Special::Never, Default::Requ
 
 /// The keys of a command in their order.
 #[tactic(auto, unfolding(crate::specs::Table::change_rows))]
-pub fn change_rows(verb: Change) -> &'static [Row]
+pub fn change_rows(verb: ChangeVerb) -> &'static [Row]
     ensures { result.now ≡ change_rows verb }
 {
     match verb {
-        Change::Crtcls => &CRTCLS,
-        Change::Crtjobq => &CRTJOBQ,
-        Change::Crtpgmref => &CRTPGMREF,
-        Change::Crtjobd => &CRTJOBD,
-        Change::Crtsbsd => &CRTSBSD,
-        Change::Addjobqe => &ADDJOBQE,
-        Change::Addrtge => &ADDRTGE,
-        Change::Addaje => &ADDAJE,
-        Change::Addpje => &ADDPJE,
-        Change::Rmvjobqe => &RMVJOBQE,
-        Change::Rmvrtge => &RMVRTGE,
-        Change::Rmvaje => &RMVAJE,
-        Change::Rmvpje => &RMVPJE,
-        Change::Strsbs => &STRSBS,
-        Change::Endsbs => &ENDSBS,
-        Change::Sbmjob => &SBMJOB,
-        Change::Hldjob => &HLDJOB,
-        Change::Rlsjob => &RLSJOB,
-        Change::Chgjob => &CHGJOB,
-        Change::Endjob => &ENDJOB,
-        Change::Hldjobq => &HLDJOBQ,
-        Change::Rlsjobq => &RLSJOBQ,
-        Change::Clrjobq => &CLRJOBQ,
-        Change::Strpj => &STRPJ,
-        Change::Endpj => &ENDPJ,
-        Change::Evoke => &EVOKE,
-        Change::Enduse => &ENDUSE,
-        Change::Pwrdwnsys => &PWRDWNSYS,
+        ChangeVerb::Crtcls => &CRTCLS,
+        ChangeVerb::Crtjobq => &CRTJOBQ,
+        ChangeVerb::Crtpgmref => &CRTPGMREF,
+        ChangeVerb::Crtjobd => &CRTJOBD,
+        ChangeVerb::Crtsbsd => &CRTSBSD,
+        ChangeVerb::Addjobqe => &ADDJOBQE,
+        ChangeVerb::Addrtge => &ADDRTGE,
+        ChangeVerb::Addaje => &ADDAJE,
+        ChangeVerb::Addpje => &ADDPJE,
+        ChangeVerb::Rmvjobqe => &RMVJOBQE,
+        ChangeVerb::Rmvrtge => &RMVRTGE,
+        ChangeVerb::Rmvaje => &RMVAJE,
+        ChangeVerb::Rmvpje => &RMVPJE,
+        ChangeVerb::Strsbs => &STRSBS,
+        ChangeVerb::Endsbs => &ENDSBS,
+        ChangeVerb::Sbmjob => &SBMJOB,
+        ChangeVerb::Hldjob => &HLDJOB,
+        ChangeVerb::Rlsjob => &RLSJOB,
+        ChangeVerb::Chgjob => &CHGJOB,
+        ChangeVerb::Endjob => &ENDJOB,
+        ChangeVerb::Hldjobq => &HLDJOBQ,
+        ChangeVerb::Rlsjobq => &RLSJOBQ,
+        ChangeVerb::Clrjobq => &CLRJOBQ,
+        ChangeVerb::Strpj => &STRPJ,
+        ChangeVerb::Endpj => &ENDPJ,
+        ChangeVerb::Evoke => &EVOKE,
+        ChangeVerb::Enduse => &ENDUSE,
+        ChangeVerb::Pwrdwnsys => &PWRDWNSYS,
     }
 }
 
 /// The command's name.
 #[tactic(auto, unfolding(crate::specs::Table::change_word))]
-pub fn change_word(verb: Change) -> &'static str
+pub fn change_word(verb: ChangeVerb) -> &'static str
     ensures { result.now ≡ change_word verb }
 {
     match verb {
-        Change::Crtcls => "CRTCLS",
-        Change::Crtjobq => "CRTJOBQ",
-        Change::Crtpgmref => "CRTPGMREF",
-        Change::Crtjobd => "CRTJOBD",
-        Change::Crtsbsd => "CRTSBSD",
-        Change::Addjobqe => "ADDJOBQE",
-        Change::Addrtge => "ADDRTGE",
-        Change::Addaje => "ADDAJE",
-        Change::Addpje => "ADDPJE",
-        Change::Rmvjobqe => "RMVJOBQE",
-        Change::Rmvrtge => "RMVRTGE",
-        Change::Rmvaje => "RMVAJE",
-        Change::Rmvpje => "RMVPJE",
-        Change::Strsbs => "STRSBS",
-        Change::Endsbs => "ENDSBS",
-        Change::Sbmjob => "SBMJOB",
-        Change::Hldjob => "HLDJOB",
-        Change::Rlsjob => "RLSJOB",
-        Change::Chgjob => "CHGJOB",
-        Change::Endjob => "ENDJOB",
-        Change::Hldjobq => "HLDJOBQ",
-        Change::Rlsjobq => "RLSJOBQ",
-        Change::Clrjobq => "CLRJOBQ",
-        Change::Strpj => "STRPJ",
-        Change::Endpj => "ENDPJ",
-        Change::Evoke => "EVOKE",
-        Change::Enduse => "ENDUSE",
-        Change::Pwrdwnsys => "PWRDWNSYS",
+        ChangeVerb::Crtcls => "CRTCLS",
+        ChangeVerb::Crtjobq => "CRTJOBQ",
+        ChangeVerb::Crtpgmref => "CRTPGMREF",
+        ChangeVerb::Crtjobd => "CRTJOBD",
+        ChangeVerb::Crtsbsd => "CRTSBSD",
+        ChangeVerb::Addjobqe => "ADDJOBQE",
+        ChangeVerb::Addrtge => "ADDRTGE",
+        ChangeVerb::Addaje => "ADDAJE",
+        ChangeVerb::Addpje => "ADDPJE",
+        ChangeVerb::Rmvjobqe => "RMVJOBQE",
+        ChangeVerb::Rmvrtge => "RMVRTGE",
+        ChangeVerb::Rmvaje => "RMVAJE",
+        ChangeVerb::Rmvpje => "RMVPJE",
+        ChangeVerb::Strsbs => "STRSBS",
+        ChangeVerb::Endsbs => "ENDSBS",
+        ChangeVerb::Sbmjob => "SBMJOB",
+        ChangeVerb::Hldjob => "HLDJOB",
+        ChangeVerb::Rlsjob => "RLSJOB",
+        ChangeVerb::Chgjob => "CHGJOB",
+        ChangeVerb::Endjob => "ENDJOB",
+        ChangeVerb::Hldjobq => "HLDJOBQ",
+        ChangeVerb::Rlsjobq => "RLSJOBQ",
+        ChangeVerb::Clrjobq => "CLRJOBQ",
+        ChangeVerb::Strpj => "STRPJ",
+        ChangeVerb::Endpj => "ENDPJ",
+        ChangeVerb::Evoke => "EVOKE",
+        ChangeVerb::Enduse => "ENDUSE",
+        ChangeVerb::Pwrdwnsys => "PWRDWNSYS",
     }
 }
 
 /// The keys of a command in their order.
 #[tactic(auto, unfolding(crate::specs::Table::read_rows))]
-pub fn read_rows(verb: Read) -> &'static [Row]
+pub fn read_rows(verb: ReadVerb) -> &'static [Row]
     ensures { result.now ≡ read_rows verb }
 {
     match verb {
-        Read::Wrkactjob => &[],
-        Read::Wrksbmjob => &[],
-        Read::Wrksbs => &[],
-        Read::Dsplog => &[],
-        Read::Wrkjobq => &WRKJOBQ,
-        Read::Dspjob => &DSPJOB,
+        ReadVerb::Wrkactjob => &[],
+        ReadVerb::Wrksbmjob => &[],
+        ReadVerb::Wrksbs => &[],
+        ReadVerb::Dsplog => &[],
+        ReadVerb::Wrkjobq => &WRKJOBQ,
+        ReadVerb::Dspjob => &DSPJOB,
     }
 }
 
 /// The command's name.
 #[tactic(auto, unfolding(crate::specs::Table::read_word))]
-pub fn read_word(verb: Read) -> &'static str
+pub fn read_word(verb: ReadVerb) -> &'static str
     ensures { result.now ≡ read_word verb }
 {
     match verb {
-        Read::Wrkactjob => "WRKACTJOB",
-        Read::Wrksbmjob => "WRKSBMJOB",
-        Read::Wrksbs => "WRKSBS",
-        Read::Dsplog => "DSPLOG",
-        Read::Wrkjobq => "WRKJOBQ",
-        Read::Dspjob => "DSPJOB",
+        ReadVerb::Wrkactjob => "WRKACTJOB",
+        ReadVerb::Wrksbmjob => "WRKSBMJOB",
+        ReadVerb::Wrksbs => "WRKSBS",
+        ReadVerb::Dsplog => "DSPLOG",
+        ReadVerb::Wrkjobq => "WRKJOBQ",
+        ReadVerb::Dspjob => "DSPJOB",
     }
 }

@@ -1,8 +1,8 @@
 // The values of keys.
 use crate::row::Special;
-use std::alloc::{AllocError, Global};
+use std::alloc::Global;
 use std::marker::Model;
-use wm_base::{Key, Name, QName, Text};
+use wm_base::{Key, Name, NoMemory, QName, Text};
 use wm_desc::Cmp;
 use wm_law::{EndOption, JobRef};
 use wm_when::{DateSpec, TimeSpec};
@@ -62,7 +62,7 @@ impl Values {
     }
 
     /// Adds a key with its value at the end. An `Err` is want of memory, and they are as before.
-    pub fn push(&mut self, key: Key, value: Value) -> Result<(), AllocError>
+    pub fn push(&mut self, key: Key, value: Value) -> Result<(), NoMemory>
         ensures ok { OnOk result (self.new ≡ self.old ++ record { key = key; value = value } ∷ []) }
         ensures err { OnErr result (self.new ≡ self.old) }
     {

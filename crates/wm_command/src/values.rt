@@ -8,12 +8,11 @@ use crate::row::{Kind, Special};
 use crate::value::Value;
 use crate::words::{date_of, ending_of, flag_of, job_of, name_of, number_of, time_of};
 use crate::written::{is_bare, is_word, text_of};
-use std::alloc::AllocError;
-use wm_base::Text;
+use wm_base::{NoMemory, Text};
 use wm_clwords::{Item, read_object, read_program};
 use wm_desc::{Cmp, path_in_range};
 
-fn text_within(low: u32, high: u32, text: &Text) -> Result<Option<Value>, AllocError>
+fn text_within(low: u32, high: u32, text: &Text) -> Result<Option<Value>, NoMemory>
     ensures { IfOk result (λ v. v ≡ text_within low high text.now) }
 {
     if low as usize <= text.len() && text.len() <= high as usize {
@@ -23,7 +22,7 @@ fn text_within(low: u32, high: u32, text: &Text) -> Result<Option<Value>, AllocE
     }
 }
 
-fn path_of(text: &Text) -> Result<Option<Value>, AllocError>
+fn path_of(text: &Text) -> Result<Option<Value>, NoMemory>
     ensures { IfOk result (λ v. v ≡ path_of text.now) }
 {
     if path_in_range(text) {
@@ -41,7 +40,7 @@ fn if_word<V: Drop>(is_word: bool, found: Option<V>) -> Option<V>
 
 /// What a word, or a text in apostrophes, with these characters is as a value of that kind.
 #[tactic(auto, unfolding(crate::specs::Values::kind_value))]
-fn kind_value(kind: Kind, item: &Item, text: &Text) -> Result<Option<Value>, AllocError>
+fn kind_value(kind: Kind, item: &Item, text: &Text) -> Result<Option<Value>, NoMemory>
     ensures { IfOk result (λ v. v ≡ kind_value kind item.now text.now) }
 {
     let bytes = text.as_bytes();
@@ -99,7 +98,7 @@ fn is_special(special: Special, item: &Item) -> bool
 }
 
 /// The row's special word, or a value of its kind.
-fn item_value(kind: Kind, special: Special, item: &Item) -> Result<Option<Value>, AllocError>
+fn item_value(kind: Kind, special: Special, item: &Item) -> Result<Option<Value>, NoMemory>
     ensures { IfOk result (λ v. v ≡ item_value kind special item.now) }
 {
     if is_special(special, item) {
@@ -121,7 +120,7 @@ fn cmp_kept(cmp: Cmp) -> Option<Value>
     }
 }
 
-fn text_from(text: Option<&Text>, start: Option<u32>) -> Result<Option<Value>, AllocError>
+fn text_from(text: Option<&Text>, start: Option<u32>) -> Result<Option<Value>, NoMemory>
     ensures { IfOk result (λ v. v ≡ text_from (option_copied text.entry) start) }
 {
     let (Some(text), Some(start)) = (text, start) else {
@@ -140,7 +139,7 @@ fn start_of(text: Option<&Text>) -> Option<u32>
     }
 }
 
-fn one_compared(item: &Item) -> Result<Option<Value>, AllocError>
+fn one_compared(item: &Item) -> Result<Option<Value>, NoMemory>
     ensures { IfOk result (λ v. v ≡ one_compared item.now) }
 {
     if is_word(item, b"*ANY") {
@@ -150,7 +149,7 @@ fn one_compared(item: &Item) -> Result<Option<Value>, AllocError>
     }
 }
 
-fn two_compared(item: &Item, start: &Item) -> Result<Option<Value>, AllocError>
+fn two_compared(item: &Item, start: &Item) -> Result<Option<Value>, NoMemory>
     ensures { IfOk result (λ v. v ≡ two_compared item.now start.now) }
 {
     if is_word(item, b"*ANY") {

@@ -2,7 +2,7 @@
 
 /// A command that changes the state.
 #[derive(Clone, Copy, Debug, PartialEq, Eq)]
-pub enum Change {
+pub enum ChangeVerb {
     Crtcls,
     Crtjobq,
     Crtpgmref,
@@ -35,7 +35,7 @@ pub enum Change {
 
 /// A command that reads.
 #[derive(Clone, Copy, Debug, PartialEq, Eq)]
-pub enum Read {
+pub enum ReadVerb {
     Wrkactjob,
     Wrksbmjob,
     Wrksbs,

@@ -7,9 +7,10 @@ ghost use Rattle.wm_desc.specs.Sorted.{IsSortedOnce, with_key, has_key, added, r
 ghost use Rattle.wm_desc.specs.Place.{IsAt, IsGap};
 
 use crate::ExactClone;
-use std::alloc::{AllocError, Global};
+use std::alloc::Global;
 use std::cmp::Ordering;
 use std::marker::Model;
+use wm_base::NoMemory;
 
 /// What a sorted list may have as its elements.
 pub trait Keyed {
@@ -112,7 +113,7 @@ impl<E: Keyed> SortedList<E> {
     }
 
     /// Adds an element in its place. No element may have its key, which `contains` tells.
-    pub fn insert(&mut self, element: E) -> Result<(), AllocError>
+    pub fn insert(&mut self, element: E) -> Result<(), NoMemory>
     where
         E: Drop,
         requires new { has_key E.key E.By.eq (E.key element) self.old ≡ false }
@@ -152,7 +153,7 @@ impl<E: Keyed> SortedList<E> {
 impl<E: Keyed + ExactClone> Clone for SortedList<E> {
     ghost is_clone = { λ list copy. copy ≡ list };
 
-    fn clone(&self) -> Result<SortedList<E>, AllocError> {
+    fn clone(&self) -> Result<SortedList<E>, NoMemory> {
         Ok(SortedList {
             items: self.items.clone()?,
         })

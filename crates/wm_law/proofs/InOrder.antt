@@ -1,5 +1,5 @@
 -- Routing entries stay in the order of their numbers where one more comes or one goes.
-use Rattle.std.proofs.Common.{◌≡◌, ◌⊎◌, ℕ, zero, suc, ◌<◌, ◌+◌, ◌||◌, Bool, true, false, cond, not, List, [], ◌∷◌, length, get_or, nat_eq, take, drop, refl, sym, ap, subst, inl, inr, arith}
+use Rattle.std.proofs.Common.{◌≡◌, ◌⊎◌, ℕ, zero, suc, ◌<◌, ◌+◌, Bool, true, false, cond, not, List, [], ◌∷◌, length, get_or, nat_eq, take, drop, refl, sym, ap, subst, inl, inr, arith}
 use Rattle.std.specs.List.{All, insert, list_any}
 use Rattle.std.specs.Ordering.{nat_cmp, is_lt}
 use Rattle.std.specs.declared.cmp.Ordering.{Ordering}
@@ -14,6 +14,7 @@ use Rattle.wm_desc.specs.declared.entry.RouteEntry.{RouteEntry}
 use Rattle.wm_desc.specs.Sorted.{IsSortedOnce, place_of, added, removed}
 use Rattle.wm_desc.specs.Refusals.{seq_used}
 use Rattle.wm_law.specs.Laws.{IsIn}
+use Rattle.wm_law.proofs.Tests.{of_neither}
 
 abbrev pub IsSorted : List RouteEntry → Type 0
 IsSorted entries = IsSortedOnce (λ (e : RouteEntry). e.seq) nat_cmp entries
@@ -95,10 +96,6 @@ sorted_by x y xs false e n s h =
     (λ (k : ℕ). IsSorted (insert (y ∷ xs) k x))
     (sym (none_before x.seq (y ∷ xs) (All-weaker (IsBelow x) (λ z. x.seq < z.seq) (λ z l. less_of x.seq z.seq l) (y ∷ xs) all)))
     (AllPairs-cons IsBelow x (y ∷ xs) all s)
-
-pub of_neither : (a b : Bool) → (a || b) ≡ false → (a ≡ false) × (b ≡ false)
-of_neither true b e = absurd (cc)
-of_neither false b e = (refl, e)
 
 -- an entry with a number of its own goes to its place
 pub sorted_added : (x : RouteEntry) (xs : List RouteEntry) → IsSorted xs → seq_used (λ e. e.seq) x.seq xs ≡ false → IsSorted (added (λ e. e.seq) nat_cmp x xs)

@@ -1,5 +1,5 @@
 -- The subsystem of each Starting job stays started.
-use Rattle.std.proofs.Common.{◌≡◌, ℕ, ◌<◌, ◌++◌, ◌==◌, ◌&&◌, not, Bool, true, false, cond, List, [], ◌∷◌, map, filter, refl, sym, ap, ◌∙◌, inl, inr, arith}
+use Rattle.std.proofs.Common.{◌≡◌, ℕ, ◌<◌, ◌++◌, ◌==◌, ◌&&◌, not, Bool, true, false, cond, List, [], ◌∷◌, map, refl, sym, ap, ◌∙◌, inl, inr, arith}
 use Rattle.std.specs.List.{count_by}
 use Rattle.std.proofs.lemmas.Bool.Decides.{nat_tests}
 use Rattle.std.proofs.lemmas.List.Sums.{sum_by-cons}
@@ -11,30 +11,9 @@ use Rattle.wm_law.specs.declared.state.State.{State}
 use Rattle.wm_law.specs.Counts.{is_active, is_in_sbs, count_in_sbs}
 use Rattle.wm_law.specs.Kept.{IsLodged}
 use Rattle.wm_law.specs.Laws.{IsIn}
-use Rattle.wm_law.specs.Machine.{end_now, is_ending, is_gone, leave}
-
-in_longer : {X : Type 0} (xs : List X) (y x : X) → IsIn x xs → IsIn x (xs ++ y ∷ [])
-in_longer [] y x i = absurd i
-in_longer (z ∷ xs) y x (inl e) = inl e
-in_longer (z ∷ xs) y x (inr i) = inr (in_longer xs y x i)
-
-in_mapped : {X Y : Type 0} (f : X → Y) (xs : List X) (x : X) → IsIn x xs → IsIn (f x) (map f xs)
-in_mapped f [] x i = absurd i
-in_mapped f (z ∷ xs) x (inl e) = inl (ap f e)
-in_mapped f (z ∷ xs) x (inr i) = inr (in_mapped f xs x i)
-
-left_first : {X : Type 0} (p : X → Bool) (t : Bool) (z x : X) (xs : List X) → p z ≡ t → p x ≡ true → x ≡ z → IsIn x (cond t (z ∷ xs) xs)
-left_first p true z x xs h k e = inl e
-left_first p false z x xs h k e = let same = ap p e in absurd (cc)
-
-left_later : {X : Type 0} (t : Bool) (z x : X) (xs : List X) → IsIn x xs → IsIn x (cond t (z ∷ xs) xs)
-left_later true z x xs i = inr i
-left_later false z x xs i = i
-
-in_left : {X : Type 0} (p : X → Bool) (xs : List X) (x : X) → p x ≡ true → IsIn x xs → IsIn x (filter p xs)
-in_left p [] x h i = absurd i
-in_left p (z ∷ xs) x h (inl e) = left_first p (p z) z x (filter p xs) refl h e
-in_left p (z ∷ xs) x h (inr i) = left_later (p z) z x (filter p xs) (in_left p xs x h i)
+use Rattle.wm_law.specs.Power.{end_now}
+use Rattle.wm_law.specs.Settling.{is_ending, is_gone, leave}
+use Rattle.wm_law.proofs.Members.{in_left, in_longer, in_mapped}
 
 -- one more subsystem is started
 pub lodged_longer : (bs : List Sbs) (b : Sbs) (j : Job) → IsLodged bs j → IsLodged (bs ++ b ∷ []) j

@@ -1,116 +1,177 @@
--- What a step can do to a state: a call does one thing of six, and settling launches jobs and lets subsystems leave.
-use Rattle.std.proofs.Common.{◌≡◌, ℕ, ◌==◌, not, Bool, true, false, cond, List, [], ◌∷◌, map, Option, Some, None, refl}
+-- What a call can come to, and what a step can do to a state. Here alone the calls are gone over, one by one.
+use Rattle.std.proofs.Common.{◌≡◌, ℕ, ◌≤◌, ◌==◌, Bool, true, false, cond, List, [], ◌∷◌, map, Option, Some, None, refl, arith}
 use Rattle.std.specs.List.{find}
+use Rattle.wm_base.specs.declared.job.Asked.TheVariants.{Start}
 use Rattle.wm_base.specs.declared.job.StartOrder.{StartOrder}
 use Rattle.wm_base.specs.declared.qname.QName.{QName}
+use Rattle.wm_base.specs.declared.refusal.Kind.TheVariants as kind
 use Rattle.wm_base.specs.declared.refusal.Refusal.{Refusal}
+use Rattle.wm_base.specs.declared.refusal.Refusal.TheVariants.{NoJob, NoObject, NotInUse, PoweringDown, WrongPhase}
 use Rattle.wm_base.specs.Iterate.{IsKept}
 use Rattle.wm_base.proofs.Iterate.{iterate-keeps}
+use Rattle.wm_desc.specs.declared.description.Jobd.{Jobd}
+use Rattle.wm_desc.specs.declared.objects.Objects.{Objects}
+use Rattle.wm_desc.specs.Table.{object_named}
 use Rattle.wm_law.specs.declared.call.Call.{Call}
 use Rattle.wm_law.specs.declared.call.Call.TheVariants.{Change, Hand, Started, StartFailed, Finished, UseDone, Tick}
+use Rattle.wm_law.specs.declared.call.Entry.{Entry}
+use Rattle.wm_law.specs.declared.call.Reply.TheVariants.{Made, PowerDown, Order, Nothing, Noted}
 use Rattle.wm_law.specs.declared.command.Command.{Command}
 use Rattle.wm_law.specs.declared.command.Command.TheVariants as command
-use Rattle.wm_law.specs.declared.call.Entry.{Entry}
 use Rattle.wm_law.specs.declared.command.Sbmjob.{Sbmjob}
 use Rattle.wm_law.specs.declared.job.Job.{Job}
 use Rattle.wm_law.specs.declared.job.Phase.{Phase}
-use Rattle.wm_desc.specs.declared.description.Jobd.{Jobd}
+use Rattle.wm_law.specs.declared.job.Phase.TheVariants.{Waiting, Starting, Handed, Running, Ended}
 use Rattle.wm_law.specs.declared.state.State.{State}
 use Rattle.wm_law.specs.declared.state.Power.TheVariants.{DownNow}
 use Rattle.wm_law.specs.Choice.{next}
-use Rattle.wm_desc.specs.declared.objects.Objects.{Objects}
-use Rattle.wm_law.proofs.Objects.{IsObjectChange, class_made, queue_made, program_made, job_description_made, description_made, queue_added, route_added, queue_removed, route_removed}
-use Rattle.wm_law.specs.Making.{made_unless}
 use Rattle.wm_law.specs.Counts.{is_starting}
-use Rattle.wm_law.specs.History.{after, stepped}
+use Rattle.wm_law.specs.Fit.{HasCall}
+use Rattle.wm_law.specs.History.{after, is_hand, stepped}
+use Rattle.wm_law.specs.Kept.{phase_rank}
 use Rattle.wm_law.specs.Launch.{order_of, launch}
-use Rattle.wm_law.specs.Stepped.{Stepped}
-use Rattle.wm_law.specs.Machine.{apply, step, leave, waiting, with_clock, with_phase, start_refusal, start_unless, submit_refusal, submit_unless, submit_with, submitted_job, entered, has_numbers, end_now, is_on, is_down_now, change, hand_job, hand_order, report_on, is_handed_to, is_run_by, done_with}
-use Rattle.wm_desc.specs.Table.{object_named}
+use Rattle.wm_law.specs.Laws.{IsIn}
+use Rattle.wm_law.specs.Machine.{apply, step, with_clock, change}
+use Rattle.wm_law.specs.Making.{made_unless}
+use Rattle.wm_law.specs.Power.{end_now, is_on, is_down_now}
+use Rattle.wm_law.specs.Reports.{with_phase, hand_job, hand_order, report_on, is_handed_to, is_run_by, phase_word, done_with}
+use Rattle.wm_law.specs.Settling.{leave, waiting}
+use Rattle.wm_law.specs.Stepped.{Stepped, refused}
+use Rattle.wm_law.specs.Submitting.{submit_refusal, submit_unless, submit_with, submitted_job, entered, has_numbers}
+use Rattle.wm_law.specs.Subsystems.{start_refusal, start_unless}
+use Rattle.wm_law.proofs.Members.{found_among}
+use Rattle.wm_law.proofs.Objects.{IsObjectChange, class_made, queue_made, program_made, job_description_made, description_made, queue_added, route_added, queue_removed, route_removed}
+use Rattle.wm_law.proofs.Tests.{of_not, same_number, unrefused}
 
--- P holds after whatever a call can do to the state
-pub record HoldsAfterCalls (P : State → Type 0) (s : State) : Type 0 where
+-- P holds of whatever the call can come to: of its reply, and of the state before it settles
+pub record HoldsAfterCalls (P : Stepped → Type 0) (s : State) (call : Call) : Type 0 where
+  pub refuses : (x : Refusal) → P (refused s x)
+  pub nothing : (HasCall s call → is_hand call ≡ false → ⊥) → P (record { reply = Nothing; state = s })
+  pub notes : P (record { reply = Noted; state = s })
+  pub hands : (m : ℕ) (j : Job) (o : StartOrder) → IsIn j s.jobs → is_starting j.phase ≡ true → order_of s j ≡ Some o → P (record { reply = Order (Start o); state = with_phase s j.serial (Handed m) })
+  pub reports : (serial : ℕ) (j : Job) (phase : Phase) → IsIn j s.jobs → j.serial ≡ serial → phase_rank j.phase ≤ phase_rank phase → is_starting phase ≡ false → P (record { reply = Noted; state = with_phase s serial phase })
+  pub starts : (q : QName) → start_refusal s q ≡ None → P (start_unless s q None)
+  pub enters : (user : List ℕ) (c : Sbmjob) (d : Jobd) → has_numbers s ≡ true → P (submit_unless s user c d None)
+  pub powers : P (record { reply = PowerDown; state = record s { started = map end_now s.started; power = DownNow } })
+  pub makes : (o : Objects) → IsObjectChange s o → P (record { reply = Made; state = record s { objects = o } })
+
+module _ (P : Stepped → Type 0) (s : State) (call : Call) (h : HoldsAfterCalls P s call) where
+  either : (b : Bool) (t u : Stepped) → (b ≡ true → P t) → (b ≡ false → P u) → P (cond b t u)
+  either true t u k l = k refl
+  either false t u k l = l refl
+
+  start : (q : QName) (o : Option Refusal) → start_refusal s q ≡ o → P (start_unless s q o)
+  start q None e = h.starts q e
+  start q (Some x) e = h.refuses x
+
+  submitted : (user : List ℕ) (c : Sbmjob) (d : Jobd) (o : Option Refusal) → submit_refusal s c d ≡ o → P (submit_unless s user c d o)
+  submitted user c d None e =
+      let rest = (unrefused _ _ _ e).1 in
+      h.enters user c d (of_not (has_numbers s) (unrefused _ _ _ rest).0)
+  submitted user c d (Some x) e = h.refuses x
+
+  submitted_with : (user : List ℕ) (c : Sbmjob) (d : Option Jobd) → P (submit_with s user c d)
+  submitted_with user c None = h.refuses (NoObject kind.Jobd)
+  submitted_with user c (Some d) = submitted user c d (submit_refusal s c d) refl
+
+  made : (objects : Objects) (o : Option Refusal) → (o ≡ None → IsObjectChange s objects) → P (made_unless s objects o)
+  made objects None e = h.makes objects (e refl)
+  made objects (Some x) e = h.refuses x
+
+  ordered : (m : ℕ) (j : Job) (o : Option StartOrder) → P (record { reply = Nothing; state = s }) → IsIn j s.jobs → is_starting j.phase ≡ true → order_of s j ≡ o → P (hand_order s m j o)
+  ordered m j None none i k e = none
+  ordered m j (Some o) none i k e = h.hands m j o i k e
+
+  handed : (m : ℕ) (o : Option Job) → P (record { reply = Nothing; state = s }) → find (λ j. is_starting j.phase) s.jobs ≡ o → P (hand_job s m o)
+  handed m None none e = none
+  handed m (Some j) none e = let f = found_among (λ (j : Job). is_starting j.phase) s.jobs j e in ordered m j (order_of s j) none f.0 f.1 refl
+
+  reported : (serial : ℕ) (test : Phase → Bool) (phase : Phase) (o : Option Job) → ((p : Phase) → test p ≡ true → phase_rank p ≤ phase_rank phase) → is_starting phase ≡ false → find (λ j. j.serial == serial) s.jobs ≡ o → P (report_on s serial test phase o)
+  reported serial test phase None ranks n e = h.refuses NoJob
+  reported serial test phase (Some j) ranks n e =
+      let f = found_among (λ (j : Job). j.serial == serial) s.jobs j e in
+      either (test j.phase) _ _ (λ t. h.reports serial j phase f.0 (same_number j.serial serial f.1) (ranks j.phase t) n) (λ t. h.refuses (WrongPhase (phase_word j.phase)))
+
+  done : (m : ℕ) (o : Option Job) → P (done_with s m o)
+  done m None = h.refuses NoJob
+  done m (Some j) = either (is_run_by m j.phase) _ _ (λ t. h.refuses NotInUse) (λ t. h.refuses (WrongPhase (phase_word j.phase)))
+
+pub starting_rank : (p : Phase) → is_starting p ≡ true → phase_rank p ≡ 1
+starting_rank Waiting h = absurd (cc)
+starting_rank Starting h = refl
+starting_rank (Handed m) h = absurd (cc)
+starting_rank (Running m) h = absurd (cc)
+starting_rank (Ended c) h = absurd (cc)
+
+handed_rank : (m : ℕ) (p : Phase) → is_handed_to m p ≡ true → phase_rank p ≡ 2
+handed_rank m Waiting h = absurd (cc)
+handed_rank m Starting h = absurd (cc)
+handed_rank m (Handed n) h = refl
+handed_rank m (Running n) h = absurd (cc)
+handed_rank m (Ended c) h = absurd (cc)
+
+run_rank : (m : ℕ) (p : Phase) → is_run_by m p ≡ true → phase_rank p ≡ 3
+run_rank m Waiting h = absurd (cc)
+run_rank m Starting h = absurd (cc)
+run_rank m (Handed n) h = absurd (cc)
+run_rank m (Running n) h = refl
+run_rank m (Ended c) h = absurd (cc)
+
+changed : (P : Stepped → Type 0) (s : State) (user : List ℕ) (c : Command) → HoldsAfterCalls P s (Change user c) → P (change s user c)
+changed P s user (command.Crtcls c) h = made P s _ h _ _ (class_made s c)
+changed P s user (command.Crtjobq c) h = made P s _ h _ _ (queue_made s c)
+changed P s user (command.Crtpgmref c) h = made P s _ h _ _ (program_made s c)
+changed P s user (command.Crtjobd c) h = made P s _ h _ _ (job_description_made s c)
+changed P s user (command.Crtsbsd c) h = made P s _ h _ _ (description_made s c)
+changed P s user (command.Addjobqe c) h = made P s _ h _ _ (queue_added s c)
+changed P s user (command.Addrtge c) h = made P s _ h _ _ (route_added s c)
+changed P s user (command.Rmvjobqe c) h = made P s _ h _ _ (queue_removed s c)
+changed P s user (command.Rmvrtge c) h = made P s _ h _ _ (route_removed s c)
+changed P s user (command.Strsbs c) h = start P s _ h c.sbsd (start_refusal s c.sbsd) refl
+changed P s user (command.Sbmjob c) h = either P s _ h (is_on s.power) _ _ (λ t. submitted_with P s _ h user c (object_named c.jobd s.objects.jobds)) (λ t. h.refuses PoweringDown)
+changed P s user (command.Pwrdwnsys c) h = either P s _ h (is_down_now s.power) _ _ (λ t. h.refuses PoweringDown) (λ t. h.powers)
+changed P s user c h = h.nothing (λ b n. b)
+
+-- what holds after whatever the call can come to, holds after the call
+pub call_comes : (P : Stepped → Type 0) (s : State) (caller : ℕ) (call : Call) → HoldsAfterCalls P s call → P (apply s caller call)
+call_comes P s caller (Change user c) h = changed P s user c h
+call_comes P s caller Hand h = handed P s _ h caller (find (λ j. is_starting j.phase) s.jobs) (h.nothing (λ b n. absurd (cc))) refl
+call_comes P s caller (Started serial) h = reported P s _ h serial (is_handed_to caller) _ (find (λ j. j.serial == serial) s.jobs) (λ p e. let r = handed_rank caller p e in omega arith) refl refl
+call_comes P s caller (StartFailed serial why) h = reported P s _ h serial (is_handed_to caller) _ (find (λ j. j.serial == serial) s.jobs) (λ p e. let r = handed_rank caller p e in omega arith) refl refl
+call_comes P s caller (Finished serial end) h = reported P s _ h serial (is_run_by caller) _ (find (λ j. j.serial == serial) s.jobs) (λ p e. let r = run_rank caller p e in omega arith) refl refl
+call_comes P s caller (UseDone serial) h = done P s _ h caller (find (λ j. j.serial == serial) s.jobs)
+call_comes P s caller Tick h = h.notes
+
+-- P holds of whatever state a call can leave before it settles
+pub record HoldsOfStates (P : State → Type 0) (s : State) : Type 0 where
   pub stays : P s
   pub starts : (q : QName) → start_refusal s q ≡ None → P (start_unless s q None).state
   pub enters : (user : List ℕ) (c : Sbmjob) (d : Jobd) → has_numbers s ≡ true → P (entered s (submitted_job s user c d))
-  pub moves : (serial : ℕ) (phase : Phase) → is_starting phase ≡ false → P (with_phase s serial phase)
+  pub moves : (serial : ℕ) (j : Job) (phase : Phase) → IsIn j s.jobs → j.serial ≡ serial → phase_rank j.phase ≤ phase_rank phase → is_starting phase ≡ false → P (with_phase s serial phase)
   pub powers : P (record s { started = map end_now s.started; power = DownNow })
   pub makes : (o : Objects) → IsObjectChange s o → P (record s { objects = o })
 
-either : (P : State → Type 0) (b : Bool) (t u : Stepped) → P t.state → P u.state → P (cond b t u).state
-either P true t u h k = h
-either P false t u h k = k
+of_states : (P : State → Type 0) (s : State) (call : Call) → HoldsOfStates P s → HoldsAfterCalls (λ t. P t.state) s call
+of_states P s call h = record {
+  refuses = λ x. h.stays;
+  nothing = λ n. h.stays;
+  notes = h.stays;
+  hands = λ m j o i e f. (let r = starting_rank j.phase e in h.moves j.serial j (Handed m) i refl (omega arith) refl);
+  reports = λ serial j phase i e r n. h.moves serial j phase i e r n;
+  starts = λ q e. h.starts q e;
+  enters = λ user c d has. h.enters user c d has;
+  powers = h.powers;
+  makes = λ o c. h.makes o c;
+}
 
-start : (P : State → Type 0) (s : State) (q : QName) (o : Option Refusal) → start_refusal s q ≡ o → HoldsAfterCalls P s → P (start_unless s q o).state
-start P s q None e h = h.starts q e
-start P s q (Some y) e h = h.stays
-
-pub unrefused : (t : Bool) (x : Refusal) (o : Option Refusal) → cond t (Some x) o ≡ None → (t ≡ false) × (o ≡ None)
-unrefused true x o e = absurd (cc)
-unrefused false x o e = (refl, e)
-
-pub of_not : (b : Bool) → not b ≡ false → b ≡ true
-of_not true e = refl
-of_not false e = absurd (cc)
-
-submitted : (P : State → Type 0) (s : State) (user : List ℕ) (c : Sbmjob) (d : Jobd) (o : Option Refusal) → submit_refusal s c d ≡ o → HoldsAfterCalls P s → P (submit_unless s user c d o).state
-submitted P s user c d None e h =
-    let rest = (unrefused _ _ _ e).1 in
-    h.enters user c d (of_not (has_numbers s) (unrefused _ _ _ rest).0)
-submitted P s user c d (Some y) e h = h.stays
-
-submitted_with : (P : State → Type 0) (s : State) (user : List ℕ) (c : Sbmjob) (d : Option Jobd) → HoldsAfterCalls P s → P (submit_with s user c d).state
-submitted_with P s user c None h = h.stays
-submitted_with P s user c (Some d) h = submitted P s user c d (submit_refusal s c d) refl h
-
-made : (P : State → Type 0) (s : State) (objects : Objects) (o : Option Refusal) → (o ≡ None → IsObjectChange s objects) → HoldsAfterCalls P s → P (made_unless s objects o).state
-made P s objects None e h = h.makes objects (e refl)
-made P s objects (Some x) e h = h.stays
-
-changed : (P : State → Type 0) (s : State) (user : List ℕ) (c : Command) → HoldsAfterCalls P s → P (change s user c).state
-changed P s user (command.Crtcls c) h = made P s _ _ (class_made s c) h
-changed P s user (command.Crtjobq c) h = made P s _ _ (queue_made s c) h
-changed P s user (command.Crtpgmref c) h = made P s _ _ (program_made s c) h
-changed P s user (command.Crtjobd c) h = made P s _ _ (job_description_made s c) h
-changed P s user (command.Crtsbsd c) h = made P s _ _ (description_made s c) h
-changed P s user (command.Addjobqe c) h = made P s _ _ (queue_added s c) h
-changed P s user (command.Addrtge c) h = made P s _ _ (route_added s c) h
-changed P s user (command.Rmvjobqe c) h = made P s _ _ (queue_removed s c) h
-changed P s user (command.Rmvrtge c) h = made P s _ _ (route_removed s c) h
-changed P s user (command.Strsbs c) h = start P s c.sbsd (start_refusal s c.sbsd) refl h
-changed P s user (command.Sbmjob c) h = either P (is_on s.power) _ _ (submitted_with P s user c (object_named c.jobd s.objects.jobds) h) h.stays
-changed P s user (command.Pwrdwnsys c) h = either P (is_down_now s.power) _ _ h.stays h.powers
-changed P s user c h = h.stays
-
-ordered : (P : State → Type 0) (s : State) (m : ℕ) (j : Job) (o : Option StartOrder) → HoldsAfterCalls P s → P (hand_order s m j o).state
-ordered P s m j None h = h.stays
-ordered P s m j (Some o) h = h.moves j.serial _ refl
-
-handed : (P : State → Type 0) (s : State) (m : ℕ) (o : Option Job) → HoldsAfterCalls P s → P (hand_job s m o).state
-handed P s m None h = h.stays
-handed P s m (Some j) h = ordered P s m j (order_of s j) h
-
-reported : (P : State → Type 0) (s : State) (serial : ℕ) (test : Phase → Bool) (phase : Phase) (o : Option Job) → is_starting phase ≡ false → HoldsAfterCalls P s → P (report_on s serial test phase o).state
-reported P s serial test phase None e h = h.stays
-reported P s serial test phase (Some j) e h = either P (test j.phase) _ _ (h.moves serial phase e) h.stays
-
-done : (P : State → Type 0) (s : State) (m : ℕ) (o : Option Job) → HoldsAfterCalls P s → P (done_with s m o).state
-done P s m None h = h.stays
-done P s m (Some j) h = either P (is_run_by m j.phase) _ _ h.stays h.stays
-
-pub call_keeps : (P : State → Type 0) (s : State) (caller : ℕ) (call : Call) → HoldsAfterCalls P s → P (apply s caller call).state
-call_keeps P s caller (Change user c) h = changed P s user c h
-call_keeps P s caller Hand h = handed P s caller (find (λ j. is_starting j.phase) s.jobs) h
-call_keeps P s caller (Started serial) h = reported P s serial (is_handed_to caller) _ (find (λ j. j.serial == serial) s.jobs) refl h
-call_keeps P s caller (StartFailed serial why) h = reported P s serial (is_handed_to caller) _ (find (λ j. j.serial == serial) s.jobs) refl h
-call_keeps P s caller (Finished serial end) h = reported P s serial (is_run_by caller) _ (find (λ j. j.serial == serial) s.jobs) refl h
-call_keeps P s caller (UseDone serial) h = done P s caller (find (λ j. j.serial == serial) s.jobs) h
-call_keeps P s caller Tick h = h.stays
+-- the same for the state alone
+pub call_keeps : (P : State → Type 0) (s : State) (caller : ℕ) (call : Call) → HoldsOfStates P s → P (apply s caller call).state
+call_keeps P s caller call h = call_comes (λ t. P t.state) s caller call (of_states P s call h)
 
 -- P is kept by all that a step does
 pub record IsKeptByParts (P : State → Type 0) : Type 0 where
   pub clock : (s : State) (moment : ℕ) → P s → P (with_clock s moment)
-  pub calls : (s : State) → P s → HoldsAfterCalls P s
+  pub calls : (s : State) → P s → HoldsOfStates P s
   pub leaves : (s : State) → P s → P (leave s)
   pub launches : IsKept next (λ c t. launch t c) P
 

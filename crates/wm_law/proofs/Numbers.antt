@@ -1,10 +1,9 @@
 -- Each step keeps serials, numbers and places given once.
-use Rattle.std.proofs.Common.{◌≡◌, ℕ, ◌+◌, ◌<◌, ◌==◌, ◌++◌, ◌&&◌, Bool, true, false, cond, List, [], ◌∷◌, map, Option, Some, None, refl, sym, ap, subst, inl, inr, nat_lt, nat_le, arith}
+use Rattle.std.proofs.Common.{◌≡◌, ℕ, ℤ, ◌+◌, ◌<◌, ◌==◌, ◌++◌, true, List, [], ◌∷◌, map, Option, Some, None, refl, sym, ap, subst, inl, inr, nat_lt, nat_le, arith}
 use Rattle.std.specs.List.{find}
 use Rattle.std.proofs.lemmas.Bool.Decides.{nat_tests}
 use Rattle.wm_base.specs.Iterate.{IsKept}
 use Rattle.wm_law.specs.declared.call.Call.{Call}
-use Rattle.wm_law.specs.declared.call.Entry.{Entry}
 use Rattle.wm_law.specs.declared.command.Sbmjob.{Sbmjob}
 use Rattle.wm_law.specs.declared.choice.Candidate.{Candidate}
 use Rattle.wm_law.specs.declared.job.Job.{Job}
@@ -14,14 +13,18 @@ use Rattle.wm_desc.specs.declared.description.Jobd.{Jobd}
 use Rattle.wm_law.specs.declared.state.State.{State}
 use Rattle.wm_law.specs.Choice.{next}
 use Rattle.wm_law.specs.Fit.{IsBetween}
-use Rattle.wm_law.specs.History.{after}
 use Rattle.wm_law.specs.Kept.{IsDistinct, IsBelow, IsGiven, IsNumbered, OpeningIsNumbered, StepKeepsNumbers, NumbersAreGivenOnce}
-use Rattle.wm_law.specs.Launch.{launch, launch_job, launched, launched_at, with_launched}
+use Rattle.wm_law.specs.Jobs.{with_job}
+use Rattle.wm_law.specs.Launch.{as_launched, launch, launch_job, launched, with_launched}
 use Rattle.wm_law.specs.Laws.{IsIn}
-use Rattle.wm_law.specs.Machine.{apply, leave, with_clock, with_phase, phased_at, submitted_job, entered, has_numbers, numbers_end, serials_end}
-use Rattle.wm_law.specs.Opening.{opening}
+use Rattle.wm_law.specs.Submitting.{submitted_job, entered, has_numbers, numbers_end, serials_end}
+use Rattle.wm_law.specs.Reports.{in_phase, with_phase}
+use Rattle.wm_law.specs.Settling.{leave}
+use Rattle.wm_law.specs.Machine.{apply, with_clock}
 use Rattle.wm_law.proofs.Opened.{opened, opening_is}
-use Rattle.wm_law.proofs.Moves.{HoldsAfterCalls, IsKeptByParts, call_keeps, step_keeps, after_keeps}
+use Rattle.wm_law.proofs.Changed.{keys_kept}
+use Rattle.wm_law.proofs.Moves.{HoldsOfStates, IsKeptByParts, call_keeps, step_keeps, after_keeps}
+use Rattle.wm_law.proofs.Tests.{of_four}
 
 -- the same serials, numbers and places, and the same next ones
 pub record SameNumbers (s t : State) : Type 0 where
@@ -48,37 +51,27 @@ numbered_same s t e h = record {
   next_place = between_same _ _ _ _ e.next_place h.next_place;
 }
 
-pub map_same : {X A : Type 0} (key : X → A) (f : X → X) → ((x : X) → key (f x) ≡ key x) → (xs : List X) → map key (map f xs) ≡ map key xs
-map_same key f h [] = refl
-map_same key f h (x ∷ xs) = cc (h x, map_same key f h xs)
+-- the change leaves a job its serial, its number and its place
+record KeepsNumbers (change : Job → Job) : Type 0 where
+  serial : (j : Job) → (change j).serial ≡ j.serial
+  number : (j : Job) → (change j).job.number ≡ j.job.number
+  place : (j : Job) → (change j).place ≡ j.place
 
-at_phase : {A : Type 0} (key : Job → A) (t : Bool) (j : Job) (phase : Phase) → key (record j { phase = phase }) ≡ key j → key (cond t (record j { phase = phase }) j) ≡ key j
-at_phase key true j phase h = h
-at_phase key false j phase h = refl
+job_same : (s : State) (serial : ℕ) (change : Job → Job) → KeepsNumbers change → SameNumbers s (with_job s serial change)
+job_same s serial change k = record {
+  serials = keys_kept (λ j. j.serial) serial change k.serial s.jobs;
+  numbers = keys_kept (λ j. j.job.number) serial change k.number s.jobs;
+  places = keys_kept (λ j. j.place) serial change k.place s.jobs;
+  next_number = refl;
+  next_serial = refl;
+  next_place = refl;
+}
 
 phase_same : (s : State) (serial : ℕ) (phase : Phase) → SameNumbers s (with_phase s serial phase)
-phase_same s serial phase = record {
-  serials = map_same (λ j. j.serial) (phased_at serial phase) (λ j. at_phase (λ j. j.serial) (j.serial == serial) j phase refl) s.jobs;
-  numbers = map_same (λ j. j.job.number) (phased_at serial phase) (λ j. at_phase (λ j. j.job.number) (j.serial == serial) j phase refl) s.jobs;
-  places = map_same (λ j. j.place) (phased_at serial phase) (λ j. at_phase (λ j. j.place) (j.serial == serial) j phase refl) s.jobs;
-  next_number = refl;
-  next_serial = refl;
-  next_place = refl;
-}
-
-at_launch : {A : Type 0} (key : Job → A) (t : Bool) (j : Job) (l : Launched) → key (record j { phase = l.phase; how = l.how }) ≡ key j → key (cond t (record j { phase = l.phase; how = l.how }) j) ≡ key j
-at_launch key true j l h = h
-at_launch key false j l h = refl
+phase_same s serial phase = job_same s serial (in_phase phase) (record { serial = λ j. refl; number = λ j. refl; place = λ j. refl })
 
 launched_same : (s : State) (serial : ℕ) (l : Launched) → SameNumbers s (with_launched s serial l)
-launched_same s serial l = record {
-  serials = map_same (λ j. j.serial) (launched_at serial l) (λ j. at_launch (λ j. j.serial) (j.serial == serial) j l refl) s.jobs;
-  numbers = map_same (λ j. j.job.number) (launched_at serial l) (λ j. at_launch (λ j. j.job.number) (j.serial == serial) j l refl) s.jobs;
-  places = map_same (λ j. j.place) (launched_at serial l) (λ j. at_launch (λ j. j.place) (j.serial == serial) j l refl) s.jobs;
-  next_number = refl;
-  next_serial = refl;
-  next_place = refl;
-}
+launched_same s serial l = job_same s serial (as_launched l) (record { serial = λ j. refl; number = λ j. refl; place = λ j. refl })
 
 launch_keeps : (s : State) (c : Candidate) (o : Option Job) → IsNumbered s → IsNumbered (launch_job s c o)
 launch_keeps s c None h = h
@@ -114,23 +107,16 @@ map_more key (i ∷ jobs) j = ap (λ l. key i ∷ l) (map_more key jobs j)
 given_entered : (key : Job → ℕ) (jobs : List Job) (j : Job) (n : ℕ) → key j ≡ n → IsGiven (map key jobs) n → IsGiven (map key (jobs ++ j ∷ [])) (n + 1)
 given_entered key jobs j n e h = subst (λ (l : List ℕ). IsGiven l (n + 1)) (sym (map_more key jobs j)) (subst (λ (k : ℕ). IsGiven (map key jobs ++ k ∷ []) (n + 1)) (sym e) (given_more n (map key jobs) h))
 
-last_three : (a b c d : Bool) → (a && b && c && d) ≡ true → (b ≡ true) × (c ≡ true) × (d ≡ true)
-last_three true true true true h = (refl, refl, refl)
-last_three true true true false h = absurd (cc)
-last_three true true false d h = absurd (cc)
-last_three true false c d h = absurd (cc)
-last_three false b c d h = absurd (cc)
-
 below_of : (a b : ℕ) → nat_lt a b ≡ true → a < b
 below_of a b h = grind (arith, nat_tests)
 
 entered_keeps : (s : State) (user : List ℕ) (c : Sbmjob) (d : Jobd) → has_numbers s ≡ true → IsNumbered s → IsNumbered (entered s (submitted_job s user c d))
 entered_keeps s user c d has h =
     let j = submitted_job s user c d in
-    let tests = last_three (nat_le 1 s.next_number) (nat_lt s.next_number numbers_end) (nat_lt s.next_serial serials_end) (nat_lt s.next_place serials_end) has in
-    let a : s.next_number < numbers_end = below_of s.next_number numbers_end tests.0 in
-    let b : s.next_serial < serials_end = below_of s.next_serial serials_end tests.1 in
-    let e : s.next_place < serials_end = below_of s.next_place serials_end tests.2 in
+    let tests = of_four (nat_le 1 s.next_number) (nat_lt s.next_number numbers_end) (nat_lt s.next_serial serials_end) (nat_lt s.next_place serials_end) has in
+    let a : s.next_number < numbers_end = below_of s.next_number numbers_end tests.1 in
+    let b : s.next_serial < serials_end = below_of s.next_serial serials_end tests.2 in
+    let e : s.next_place < serials_end = below_of s.next_place serials_end tests.3 in
     record {
       serials = given_entered (λ j. j.serial) s.jobs j s.next_serial refl h.serials;
       numbers = given_entered (λ j. j.job.number) s.jobs j s.next_number refl h.numbers;
@@ -140,12 +126,12 @@ entered_keeps s user c d has h =
       next_place = record { least = omega arith; most = omega arith };
     }
 
-calls : (s : State) → IsNumbered s → HoldsAfterCalls IsNumbered s
+calls : (s : State) → IsNumbered s → HoldsOfStates IsNumbered s
 calls s h = record {
   stays = h;
   starts = λ q e. numbered_same s _ (record { serials = refl; numbers = refl; places = refl; next_number = refl; next_serial = refl; next_place = refl }) h;
   enters = λ user c d has. entered_keeps s user c d has h;
-  moves = λ serial phase e. numbered_same s _ (phase_same s serial phase) h;
+  moves = λ serial j phase i e r n. numbered_same s _ (phase_same s serial phase) h;
   powers = numbered_same s _ (record { serials = refl; numbers = refl; places = refl; next_number = refl; next_serial = refl; next_place = refl }) h;
   makes = λ o e. numbered_same s _ (record { serials = refl; numbers = refl; places = refl; next_number = refl; next_serial = refl; next_place = refl }) h;
 }
@@ -162,11 +148,11 @@ parts = record { clock = clock_keeps; calls = calls; leaves = only_started; laun
 pub step_keeps_numbers : StepKeepsNumbers
 step_keeps_numbers s caller call moment h = step_keeps IsNumbered parts s caller call moment h
 
-pub after_is_numbered : (s : State) (h : List Entry) → IsNumbered s → IsNumbered (after s h)
-after_is_numbered s h n = after_keeps IsNumbered parts s h n
+pub numbers_are_given_once : NumbersAreGivenOnce
+numbers_are_given_once s h n = after_keeps IsNumbered parts s h n
 
-opened_is_numbered : IsNumbered opened
-opened_is_numbered = record {
+opened_is_numbered : (offset : ℤ) → IsNumbered (opened offset)
+opened_is_numbered offset = record {
   serials = record { distinct = tt; below = tt };
   numbers = record { distinct = tt; below = tt };
   places = record { distinct = tt; below = tt };
@@ -176,7 +162,4 @@ opened_is_numbered = record {
 }
 
 pub opening_is_numbered : OpeningIsNumbered
-opening_is_numbered = subst IsNumbered (sym opening_is) opened_is_numbered
-
-pub numbers_are_given_once : NumbersAreGivenOnce
-numbers_are_given_once h = after_is_numbered opening h opening_is_numbered
+opening_is_numbered offset = subst IsNumbered (sym (opening_is offset)) (opened_is_numbered offset)

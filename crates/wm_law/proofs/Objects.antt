@@ -1,5 +1,5 @@
 -- What a command that makes or changes objects leaves as it was.
-use Rattle.std.proofs.Common.{◌≡◌, ◌⊎◌, ◌||◌, ◌&&◌, Bool, true, false, cond, not, List, [], ◌∷◌, Option, Some, None, is_some, nat_eq, refl, sym, ap, subst, ◌∙◌, inl, inr, arith}
+use Rattle.std.proofs.Common.{◌≡◌, ◌⊎◌, ◌||◌, ◌&&◌, false, cond, not, List, [], ◌∷◌, Option, Some, None, is_some, nat_eq, refl, sym, ap, subst, ◌∙◌, inl, inr, arith}
 use Rattle.std.specs.List.{list_any}
 use Rattle.std.specs.Option.{IsSome, option_map_or}
 use Rattle.wm_base.specs.declared.qname.QName.{QName}
@@ -27,8 +27,9 @@ use Rattle.wm_law.specs.declared.command.Rmvrtge.{Rmvrtge}
 use Rattle.wm_law.specs.declared.state.Sbs.{Sbs}
 use Rattle.wm_law.specs.declared.state.State.{State}
 use Rattle.wm_law.proofs.Members.{left_in}
-use Rattle.wm_law.proofs.InOrder.{IsSorted, of_neither, sorted_added, sorted_removed, in_inserted}
+use Rattle.wm_law.proofs.InOrder.{IsSorted, sorted_added, sorted_removed, in_inserted}
 use Rattle.wm_law.proofs.Named.{is_named, named_still, named_before, changed_other, changed_before, other_name}
+use Rattle.wm_law.proofs.Tests.{of_neither, of_not, unrefused}
 use Rattle.wm_law.specs.Kept.{IsRouted}
 use Rattle.wm_law.specs.Laws.{IsIn}
 use Rattle.wm_law.specs.Making.{is_in_use, class_of, jobd_of, queue_entry_of, route_entry_of, unless_in_use}
@@ -39,10 +40,6 @@ pub record IsObjectChange (s : State) (o : Objects) : Type 0 where
   pub programs : (q : QName) → IsSome (object_named q s.objects.programs) → object_named q o.programs ≡ object_named q s.objects.programs
   pub classes : (q : QName) → IsSome (object_named q s.objects.classes) → object_named q o.classes ≡ object_named q s.objects.classes
   pub routed : IsRouted s.objects → IsRouted o
-
-of_not : (b : Bool) → not b ≡ false → b ≡ true
-of_not true e = refl
-of_not false e = absurd (cc)
 
 -- a name that isn't refused is new
 new_object : {V : Type 0} (k : Kind) (name : QName) (objects : List (QName × V)) → object_refusal k name objects ≡ None → has_object name objects ≡ false
@@ -119,14 +116,10 @@ record IsFree (s : State) (sbsd : QName) (refusal : Sbsd → Option Refusal) : T
   unused : is_in_use s sbsd ≡ false
   accepted : refusal description ≡ None
 
-of_none : (t : Bool) (x : Refusal) (o : Option Refusal) → cond t (Some x) o ≡ None → (t ≡ false) × (o ≡ None)
-of_none true x o e = absurd (cc)
-of_none false x o e = (refl, e)
-
 free_by : (s : State) (sbsd : QName) (refusal : Sbsd → Option Refusal) (o : Option Sbsd) → object_named sbsd s.objects.sbsds ≡ o → cond (is_some o && is_in_use s sbsd) (Some SbsActive) (option_map_or refusal o (Some (NoObject kind.Sbsd))) ≡ None → IsFree s sbsd refusal
 free_by s sbsd refusal None k e = absurd (cc)
 free_by s sbsd refusal (Some d) k e =
-    let tests = of_none (is_in_use s sbsd) SbsActive (refusal d) e in
+    let tests = unrefused (is_in_use s sbsd) SbsActive (refusal d) e in
     record { description = d; named = k; unused = tests.0; accepted = tests.1 }
 
 free : (s : State) (sbsd : QName) (refusal : Sbsd → Option Refusal) → unless_in_use s sbsd (by_description s.objects sbsd refusal) ≡ None → IsFree s sbsd refusal

@@ -1,5 +1,5 @@
 -- The opening commands keep their forms and ranges, and what they make, written out.
-use Rattle.std.proofs.Common.{◌≡◌, List, [], ◌∷◌, refl, arith}
+use Rattle.std.proofs.Common.{◌≡◌, ℤ, List, [], ◌∷◌, refl, arith}
 use Rattle.std.specs.List.{All, AllByRecursion}
 use Rattle.std.proofs.lemmas.List.Elements.{All-cons, All-nil}
 use Rattle.wm_base.specs.declared.limit.Limit.TheVariants.{NoMax}
@@ -63,9 +63,9 @@ opening_objects =
     }
 
 -- no command is refused, so the state opens with the objects of all, each list in the order of its names
-abbrev pub opened : State
-opened = record empty { objects = opening_objects }
+abbrev pub opened : ℤ → State
+opened offset = record (empty offset) { objects = opening_objects }
 
-pub opening_is : opening ≡ opened
+pub opening_is : (offset : ℤ) → opening offset ≡ opened offset
 unfolding opening
-opening_is = refl
+opening_is offset = refl

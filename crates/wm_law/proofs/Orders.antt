@@ -1,5 +1,5 @@
 -- Each Starting job has its order.
-use Rattle.std.proofs.Common.{◌≡◌, ℕ, ◌+◌, ◌++◌, ◌==◌, Bool, true, false, cond, List, [], ◌∷◌, map, Option, Some, None, refl, sym, ap, subst, ◌∙◌, inl, inr, arith}
+use Rattle.std.proofs.Common.{◌≡◌, ℕ, ℤ, ◌+◌, ◌++◌, ◌==◌, Bool, true, false, cond, List, [], ◌∷◌, map, Option, Some, None, refl, sym, ap, subst, ◌∙◌, inl, inr, arith}
 use Rattle.std.specs.List.{find, count_by}
 use Rattle.std.specs.Option.{IsSome, option_and_then, option_map}
 use Rattle.std.proofs.lemmas.List.Sums.{sum_by-cons}
@@ -30,23 +30,27 @@ use Rattle.wm_law.specs.declared.state.Sbs.{Sbs}
 use Rattle.wm_law.specs.Choice.{has_entry, next}
 use Rattle.wm_law.specs.Counts.{is_in_sbs, is_starting, count_by_route}
 use Rattle.wm_law.specs.Kept.{IsLodged, IsNumbered, IsRouted, HasOrders, OpeningHasOrders, StepKeepsOrders, StartingJobsHaveOrders, HandGivesAnOrder, ReachedRouteIsLeast}
-use Rattle.wm_law.specs.Launch.{called_args, called_program, entry_numbered, is_match, launch, launch_job, launched, launched_at, launched_by, launched_through, missing_program, order_by, order_called, order_of, order_through, order_with, program_fault, route, route_fault}
+use Rattle.wm_law.specs.Jobs.{changed_at}
+use Rattle.wm_law.specs.Launch.{as_launched, called_args, called_program, entry_numbered, is_match, launch, launch_job, launched, launched_at, launched_by, launched_through, missing_program, order_by, order_called, order_of, order_through, order_with, program_fault, route, route_fault}
 use Rattle.wm_law.specs.Laws.{IsIn}
-use Rattle.wm_law.specs.Machine.{apply, hand_job, hand_order, leave, phased_at, step, submitted_job, waiting, with_clock}
+use Rattle.wm_law.specs.Submitting.{submitted_job}
+use Rattle.wm_law.specs.Reports.{hand_job, hand_order, in_phase, phased_at}
+use Rattle.wm_law.specs.Settling.{leave, waiting}
+use Rattle.wm_law.specs.Machine.{apply, step, with_clock}
 use Rattle.wm_desc.specs.Table.{object_named, same_qname}
 use Rattle.wm_desc.specs.Opening.{qbatch}
-use Rattle.wm_law.specs.Opening.{opening}
 use Rattle.wm_law.specs.History.{after, stepped}
 use Rattle.wm_law.proofs.Opened.{batch_sbsd, opening_objects, opened, opening_is}
 use Rattle.wm_law.proofs.Firsts.{next_is_first}
 use Rattle.wm_law.proofs.Lodged.{lodged_longer, lodged_ending, lodged_left}
 use Rattle.wm_law.proofs.Named.{own_name}
 use Rattle.wm_law.proofs.Remade.{order_kept}
-use Rattle.wm_law.proofs.Forward.{found_among, found_in, only_one, same_number}
+use Rattle.wm_law.proofs.Forward.{only_one}
 use Rattle.wm_law.proofs.Routes.{IsSorted, numbered_once, route_is_least}
-use Rattle.wm_law.proofs.Members.{of_last, of_mapped}
-use Rattle.wm_law.proofs.Moves.{HoldsAfterCalls, call_keeps}
-use Rattle.wm_law.proofs.Numbers.{apply_keeps, clock_keeps, launches_keep, only_started, opening_is_numbered, step_keeps_numbers}
+use Rattle.wm_law.proofs.Members.{found_among, of_last, of_mapped}
+use Rattle.wm_law.proofs.Moves.{HoldsOfStates, call_keeps}
+use Rattle.wm_law.proofs.Numbers.{apply_keeps, clock_keeps, launches_keep, only_started, step_keeps_numbers}
+use Rattle.wm_law.proofs.Tests.{same_number, unrefused}
 
 -- what a launch to Starting stands on: the routing entry, and the program that it calls
 record IsLed (s : State) (sbs jobq : QName) (j : Job) (l : Launched) : Type 0 where
@@ -137,29 +141,24 @@ entered Q s user c d h k i e =
       | inr same ↦ (let waiting : Waiting ≡ Starting = ap (λ (j : Job). j.phase) (sym same) ∙ e in absurd (cc))
     ]
 
-moved_at : (Q : Job → Type 0) (t : Bool) (j : Job) (phase : Phase) → is_starting phase ≡ false → (j.phase ≡ Starting → Q j) → (cond t (record j { phase = phase }) j).phase ≡ Starting → Q (cond t (record j { phase = phase }) j)
-moved_at Q true j phase n h e = let same = ap is_starting e in absurd (cc)
-moved_at Q false j phase n h e = h e
+changed_one : (Q : Job → Type 0) (change : Job → Job) (t : Bool) (j : Job) → (t ≡ true → (change j).phase ≡ Starting → Q (change j)) → (j.phase ≡ Starting → Q j) → (cond t (change j) j).phase ≡ Starting → Q (cond t (change j) j)
+changed_one Q change true j new h e = new refl e
+changed_one Q change false j new h e = h e
+
+-- Q still holds of each Starting job, where it holds of the changed one if that is Starting
+changed_of : (Q : Job → Type 0) (jobs : List Job) (serial : ℕ) (change : Job → Job) → ((j : Job) → IsIn j jobs → (j.serial == serial) ≡ true → (change j).phase ≡ Starting → Q (change j)) → OfStarting Q jobs → OfStarting Q (map (changed_at serial change) jobs)
+changed_of Q jobs serial change new h k m e =
+    let o = of_mapped (changed_at serial change) jobs k m in
+    let j = o.0 in
+    subst Q (sym o.2) (changed_one Q change (j.serial == serial) j (new j o.1) (h j o.1) (ap (λ (x : Job). x.phase) (sym o.2) ∙ e))
 
 moved : (Q : Job → Type 0) (jobs : List Job) (serial : ℕ) (phase : Phase) → is_starting phase ≡ false → OfStarting Q jobs → OfStarting Q (map (phased_at serial phase) jobs)
-moved Q jobs serial phase n h k i e =
-    let m = of_mapped (phased_at serial phase) jobs k i in
-    subst Q (sym m.2) (moved_at Q (m.0.serial == serial) m.0 phase n (h m.0 m.1) (ap (λ (x : Job). x.phase) (sym m.2) ∙ e))
-
-launched_one : (Q : Job → Type 0) (t : Bool) (j : Job) (l : Launched) → (t ≡ true → l.phase ≡ Starting → Q (record j { phase = l.phase; how = l.how })) → (j.phase ≡ Starting → Q j) → (cond t (record j { phase = l.phase; how = l.how }) j).phase ≡ Starting → Q (cond t (record j { phase = l.phase; how = l.how }) j)
-launched_one Q true j l led h e = led refl e
-launched_one Q false j l led h e = h e
-
-launched_of : (Q : Job → Type 0) (jobs : List Job) (serial : ℕ) (l : Launched) → ((j : Job) → IsIn j jobs → (j.serial == serial) ≡ true → l.phase ≡ Starting → Q (record j { phase = l.phase; how = l.how })) → OfStarting Q jobs → OfStarting Q (map (launched_at serial l) jobs)
-launched_of Q jobs serial l led h k m e =
-    let o = of_mapped (launched_at serial l) jobs k m in
-    let j = o.0 in
-    subst Q (sym o.2) (launched_one Q (j.serial == serial) j l (led j o.1) (h j o.1) (ap (λ (x : Job). x.phase) (sym o.2) ∙ e))
+moved Q jobs serial phase n h = changed_of Q jobs serial (in_phase phase) (λ j i t e. (let same = ap is_starting e in absurd (cc))) h
 
 launched_all : (s : State) (c : Candidate) (f : Job) → IsNumbered s → HasOrders s → IsIn f s.jobs → f.serial ≡ c.serial → AllOrdered s (map (launched_at c.serial (launched s c.sbs c.jobq f)) s.jobs)
 launched_all s c f n h i same =
     let l = launched s c.sbs c.jobq f in
-    launched_of (λ j. IsSome (order_of s j)) s.jobs c.serial l
+    changed_of (λ j. IsSome (order_of s j)) s.jobs c.serial (as_launched l)
     (λ j m t starts.
     let one = only_one s.jobs n.serials.distinct f j i m (same ∙ sym (same_number j.serial c.serial t)) in
     subst (λ (x : Job). IsSome (order_of s (record x { phase = l.phase; how = l.how }))) one (has_order s c.sbs c.jobq f l h.routed (is_led s c.sbs c.jobq f starts)))
@@ -181,7 +180,7 @@ launched_lodged : (s : State) (c : Candidate) (f : Job) → next s ≡ Some c �
 launched_lodged s c f e h =
     let l = launched s c.sbs c.jobq f in
     let b = named_started s c e in
-    launched_of (IsLodged s.started) s.jobs c.serial l
+    changed_of (IsLodged s.started) s.jobs c.serial (as_launched l)
     (λ j m t starts. (let led = is_led s c.sbs c.jobq f starts in (b.0, b.1, came_into c.sbs c.jobq b.0.sbsd f.pty led.entry.seq l.how led.how b.2)))
     h.lodged
 
@@ -196,7 +195,7 @@ routed s h jobs all lodged = record { routed = h.routed; starting = all; lodged 
 launches : (s : State) (c : Candidate) (o : Option Job) → find (λ j. j.serial == c.serial) s.jobs ≡ o → next s ≡ Some c → IsNumbered s → HasOrders s → HasOrders (launch_job s c o)
 launches s c None f e n h = h
 launches s c (Some j) f e n h =
-    let k = found_in (λ j. j.serial == c.serial) s.jobs j f in
+    let k = found_among (λ (j : Job). j.serial == c.serial) s.jobs j f in
     routed s h _ (launched_all s c j n h k.0 (same_number j.serial c.serial k.1)) (launched_lodged s c j e h)
 
 launches_leave_orders : IsKept next (λ c t. launch t c) IsOrdered
@@ -215,12 +214,12 @@ alike s t e f lodged h = record {
   lodged = subst (λ (jobs : List Job). AllLodged t.started jobs) (sym f) lodged;
 }
 
-calls : (s : State) → HasOrders s → HoldsAfterCalls HasOrders s
+calls : (s : State) → HasOrders s → HoldsOfStates HasOrders s
 calls s h = record {
   stays = h;
   starts = λ q e. alike s _ refl refl (λ j i p. lodged_longer s.started _ j (h.lodged j i p)) h;
   enters = λ user c d has. (let t = routed s h _ (entered (λ j. IsSome (order_of s j)) s user c d h.starting) (entered (IsLodged s.started) s user c d h.lodged) in alike (record s { jobs = s.jobs ++ submitted_job s user c d ∷ [] }) _ refl refl t.lodged t);
-  moves = λ serial phase e. routed s h _ (moved (λ j. IsSome (order_of s j)) s.jobs serial phase e h.starting) (moved (IsLodged s.started) s.jobs serial phase e h.lodged);
+  moves = λ serial j phase i same r e. routed s h _ (moved (λ j. IsSome (order_of s j)) s.jobs serial phase e h.starting) (moved (IsLodged s.started) s.jobs serial phase e h.lodged);
   powers = alike s _ refl refl (λ j i p. lodged_ending s.started j (h.lodged j i p)) h;
   makes = λ o e. record {
     routed = e.routed h.routed;
@@ -263,8 +262,8 @@ opening_classes d e same i =
       | inr none ↦ absurd none
     ]
 
-opened_has_orders : HasOrders opened
-opened_has_orders = record {
+opened_has_orders : (offset : ℤ) → HasOrders (opened offset)
+opened_has_orders offset = record {
   routed = record {
     sorted = λ sbs d k. opening_sorted d (only_sbsd sbs d k);
     classes = λ sbs d e k i. opening_classes d e (only_sbsd sbs d k) i;
@@ -274,23 +273,19 @@ opened_has_orders = record {
 }
 
 pub opening_has_orders : OpeningHasOrders
-opening_has_orders = subst HasOrders (sym opening_is) opened_has_orders
+opening_has_orders offset = subst HasOrders (sym (opening_is offset)) (opened_has_orders offset)
 
 pub starting_jobs_have_orders : StartingJobsHaveOrders
-starting_jobs_have_orders h = (after_is_ordered opening h (record { numbered = opening_is_numbered; orders = opening_has_orders })).orders
+starting_jobs_have_orders s h n o = (after_is_ordered s h (record { numbered = n; orders = o })).orders
 
 -- where no job is Starting, none is found, and where none is found, none is Starting
-none_of : (t : Bool) (j : Job) (o : Option Job) → cond t (Some j) o ≡ None → (t ≡ false) × (o ≡ None)
-none_of true j o e = absurd (cc)
-none_of false j o e = (refl, e)
-
 abbrev one : Job → ℕ
 one j = cond (is_starting j.phase) 1 0
 
 none_starting : (jobs : List Job) → find (λ j. is_starting j.phase) jobs ≡ None → count_by (λ j. is_starting j.phase) jobs ≡ 0
 none_starting [] e = refl
 none_starting (j ∷ jobs) e =
-    let n = none_of (is_starting j.phase) j (find (λ (j : Job). is_starting j.phase) jobs) e in
+    let n = unrefused (is_starting j.phase) j (find (λ (j : Job). is_starting j.phase) jobs) e in
     let rest = none_starting jobs n.1 in
     let this : one j ≡ 0 = ap (λ (t : Bool). cond t 1 0) n.0 in
     rw (sum_by-cons one j jobs) (omega arith)
@@ -320,18 +315,18 @@ not_nothing s m j (Some o) h e = absurd (cc)
 nothing : (s : State) (m : ℕ) (o : Option Job) → find (λ j. is_starting j.phase) s.jobs ≡ o → HasOrders s → (hand_job s m o).reply ≡ Nothing → o ≡ None
 nothing s m None f h e = refl
 nothing s m (Some j) f h e =
-    let k = found_in (λ j. is_starting j.phase) s.jobs j f in
+    let k = found_among (λ (j : Job). is_starting j.phase) s.jobs j f in
     absurd (not_nothing s m j (order_of s j) (h.starting j k.0 (is_starting_phase j.phase k.1)) e)
 
 pub hand_gives_an_order : HandGivesAnOrder
 unfolding step
-hand_gives_an_order h caller moment =
-    let s = with_clock (after opening h) moment in
-    let kept = starting_jobs_have_orders h in
-    let orders = alike (after opening h) s refl refl kept.lodged kept in (
-      λ e. none_starting s.jobs (nothing s caller (find (λ j. is_starting j.phase) s.jobs) refl orders e),
-      λ e. ap (λ (o : Option Job). (hand_job s caller o).reply) (none_found s.jobs e),
+hand_gives_an_order s h caller moment n o =
+    let t = with_clock (after s h) moment in
+    let kept = starting_jobs_have_orders s h n o in
+    let orders = alike (after s h) t refl refl kept.lodged kept in (
+      λ e. none_starting t.jobs (nothing t caller (find (λ j. is_starting j.phase) t.jobs) refl orders e),
+      λ e. ap (λ (o : Option Job). (hand_job t caller o).reply) (none_found t.jobs e),
     )
 
 pub reached_route_is_least : ReachedRouteIsLeast
-reached_route_is_least h sbs d rtgdta e k f = route_is_least d rtgdta e ((starting_jobs_have_orders h).routed.sorted sbs d k) f
+reached_route_is_least s h sbs d rtgdta e n o k f = route_is_least d rtgdta e ((starting_jobs_have_orders s h n o).routed.sorted sbs d k) f

@@ -1,4 +1,4 @@
--- The order of candidates is total, and the next one is its least.
+-- The order of candidates is total, and the best of a list is its least.
 use Rattle.std.proofs.Common.{◌≡◌, ℕ, ◌<◌, ◌⊎◌, Bool, true, false, cond, List, [], ◌∷◌, Option, Some, None, refl, sym, ap, subst, ◌∙◌, inl, inr, arith}
 use Rattle.std.specs.List.{fold}
 use Rattle.std.specs.Ordering.{is_lt, is_gt, nat_cmp, ordering_then, ordering_reverse}
@@ -9,9 +9,7 @@ use Rattle.std.specs.declared.cmp.Ordering.TheVariants.{Less, Equal, Greater}
 use Rattle.std.proofs.lemmas.Cmp.{nat_list_cmp_total, nat_cmp_total, on_total, then_total, upto, tied_itself, ranked, by_ranked}
 use Rattle.wm_law.specs.declared.choice.Candidate.{Candidate}
 use Rattle.wm_law.specs.declared.choice.Rank.{Rank}
-use Rattle.wm_law.specs.declared.job.Job.{Job}
-use Rattle.wm_law.specs.declared.state.State.{State}
-use Rattle.wm_law.specs.Choice.{rank_cmp, better, candidate}
+use Rattle.wm_law.specs.Choice.{rank_cmp, better}
 use Rattle.wm_law.specs.Laws.{IsIn}
 
 pub rank_total : IsTotalOrder rank_cmp
@@ -21,10 +19,10 @@ rank_total =
     (then_total (on_total (λ (r : Rank). r.pty) nat_cmp_total) (on_total (λ (r : Rank). r.place) nat_cmp_total)))
 
 -- not behind
-abbrev NotBehind : Candidate → Candidate → Type 0
+abbrev pub NotBehind : Candidate → Candidate → Type 0
 NotBehind a b = is_gt (rank_cmp a.rank b.rank) ≡ false
 
-chain : (a b c : Candidate) → NotBehind a b → NotBehind b c → NotBehind a c
+pub chain : (a b c : Candidate) → NotBehind a b → NotBehind b c → NotBehind a c
 chain a b c h k = upto rank_total a.rank b.rank c.rank h k
 
 itself : (a : Candidate) → NotBehind a a
@@ -64,33 +62,65 @@ after_second (Some a) (Some c) b e =
     let k = picks a c (is_lt (rank_cmp c.rank a.rank)) refl in
     (k.0, k.1, subst (λ (x : Candidate). NotBehind k.0 x) same k.3)
 
--- what the fold keeps is not behind what it began with, nor behind any job's candidate
-pub least_of_best : (s : State) (jobs : List Job) (best : Option Candidate) (r : Candidate) → fold (λ b j. better b (candidate s j)) best jobs ≡ Some r → (b : Candidate) → best ≡ Some b → NotBehind r b
-least_of_best s [] best r e b h = let same : b ≡ r = cc in subst (λ (x : Candidate). NotBehind x b) same (itself b)
-least_of_best s (j ∷ jobs) best r e b h =
-    let m = after_first best (candidate s j) b h in
-    chain r m.0 b (least_of_best s jobs (better best (candidate s j)) r e m.0 m.1) m.2
+chosen : (t : Bool) (x y z : Option Candidate) → cond t x y ≡ z → (y ≡ z) ⊎ (x ≡ z)
+chosen true x y z e = inr e
+chosen false x y z e = inl e
 
-pub least_of_jobs : (s : State) (jobs : List Job) (best : Option Candidate) (r : Candidate) → fold (λ b j. better b (candidate s j)) best jobs ≡ Some r → (k : Job) (d : Candidate) → IsIn k jobs → candidate s k ≡ Some d → NotBehind r d
-least_of_jobs s [] best r e k d i h = absurd i
-least_of_jobs s (j ∷ jobs) best r e k d (inl same) h =
-    let m = after_second best (candidate s j) d (subst (λ (x : Job). candidate s x ≡ Some d) same h) in
-    chain r m.0 d (least_of_best s jobs (better best (candidate s j)) r e m.0 m.1) m.2
-least_of_jobs s (j ∷ jobs) best r e k d (inr i) h = least_of_jobs s jobs (better best (candidate s j)) r e k d i h
+-- the better of two is one of them
+one_of : (best other : Option Candidate) (c : Candidate) → better best other ≡ Some c → (best ≡ Some c) ⊎ (other ≡ Some c)
+one_of best None c e = inl e
+one_of None (Some d) c e = inr e
+one_of (Some b) (Some d) c e = chosen (is_lt (rank_cmp d.rank b.rank)) (Some d) (Some b) (Some c) e
 
--- where the fold keeps nothing, there was nothing
-pub none_of_best : (s : State) (jobs : List Job) (best : Option Candidate) (b : Candidate) → best ≡ Some b → fold (λ b j. better b (candidate s j)) best jobs ≡ None → ⊥
-none_of_best s [] best b h e = absurd (cc)
-none_of_best s (j ∷ jobs) best b h e =
-    let m = after_first best (candidate s j) b h in
-    none_of_best s jobs (better best (candidate s j)) m.0 m.1 e
+-- the best of a candidate and of what the elements of a list give
+abbrev pub best_of : {X : Type 0} → (X → Option Candidate) → Option Candidate → List X → Option Candidate
+best_of f best xs = fold (λ b x. better b (f x)) best xs
 
-pub none_of_jobs : (s : State) (jobs : List Job) (best : Option Candidate) → fold (λ b j. better b (candidate s j)) best jobs ≡ None → (k : Job) (d : Candidate) → IsIn k jobs → candidate s k ≡ Some d → ⊥
-none_of_jobs s [] best e k d i h = absurd i
-none_of_jobs s (j ∷ jobs) best e k d (inl same) h =
-    let m = after_second best (candidate s j) d (subst (λ (x : Job). candidate s x ≡ Some d) same h) in
-    none_of_best s jobs (better best (candidate s j)) m.0 m.1 e
-none_of_jobs s (j ∷ jobs) best e k d (inr i) h = none_of_jobs s jobs (better best (candidate s j)) e k d i h
+-- the candidate is what an element of the list gives
+abbrev pub IsFrom : {X : Type 0} → (X → Option Candidate) → List X → Candidate → Type 0
+IsFrom {X} f xs c = (x : X) × IsIn x xs × (f x ≡ Some c)
+
+from_some : {X : Type 0} (f : X → Option Candidate) (xs : List X) (best : Option Candidate) (c : Candidate) → best_of f best xs ≡ Some c → (best ≡ Some c) ⊎ IsFrom f xs c
+from_some f [] best c e = inl e
+from_some f (x ∷ xs) best c e =
+    elim (from_some f xs (better best (f x)) c e) as (λ _. (best ≡ Some c) ⊎ IsFrom f (x ∷ xs) c) [
+      | inl h ↦ (elim (one_of best (f x) c h) as (λ _. (best ≡ Some c) ⊎ IsFrom f (x ∷ xs) c) [ inl b ↦ inl b | inr o ↦ inr (x, inl refl, o) ])
+      | inr k ↦ inr (k.0, inr k.1, k.2)
+    ]
+
+-- the best of a list is what one of its elements gives
+pub from_best : {X : Type 0} (f : X → Option Candidate) (xs : List X) (c : Candidate) → best_of f None xs ≡ Some c → IsFrom f xs c
+from_best f xs c e = elim (from_some f xs None c e) as (λ _. IsFrom f xs c) [ inl h ↦ absurd (cc) | inr k ↦ k ]
+
+-- the best is not behind what was there before the list
+least_of_best : {X : Type 0} (f : X → Option Candidate) (xs : List X) (best : Option Candidate) (r : Candidate) → best_of f best xs ≡ Some r → (b : Candidate) → best ≡ Some b → NotBehind r b
+least_of_best f [] best r e b h = let same : b ≡ r = cc in subst (λ (x : Candidate). NotBehind x b) same (itself b)
+least_of_best f (x ∷ xs) best r e b h =
+    let m = after_first best (f x) b h in
+    chain r m.0 b (least_of_best f xs (better best (f x)) r e m.0 m.1) m.2
+
+-- nor behind what any element gives
+pub least_of : {X : Type 0} (f : X → Option Candidate) (xs : List X) (best : Option Candidate) (r : Candidate) → best_of f best xs ≡ Some r → (y : X) (d : Candidate) → IsIn y xs → f y ≡ Some d → NotBehind r d
+least_of f [] best r e y d i h = absurd i
+least_of f (x ∷ xs) best r e y d (inl same) h =
+    let m = after_second best (f x) d (ap f (sym same) ∙ h) in
+    chain r m.0 d (least_of_best f xs (better best (f x)) r e m.0 m.1) m.2
+least_of f (x ∷ xs) best r e y d (inr i) h = least_of f xs (better best (f x)) r e y d i h
+
+-- where there is no best, there was nothing before the list
+none_of_best : {X : Type 0} (f : X → Option Candidate) (xs : List X) (best : Option Candidate) (b : Candidate) → best ≡ Some b → best_of f best xs ≡ None → ⊥
+none_of_best f [] best b h e = absurd (cc)
+none_of_best f (x ∷ xs) best b h e =
+    let m = after_first best (f x) b h in
+    none_of_best f xs (better best (f x)) m.0 m.1 e
+
+-- and no element gives anything
+pub none_of : {X : Type 0} (f : X → Option Candidate) (xs : List X) (best : Option Candidate) → best_of f best xs ≡ None → (y : X) (d : Candidate) → IsIn y xs → f y ≡ Some d → ⊥
+none_of f [] best e y d i h = absurd i
+none_of f (x ∷ xs) best e y d (inl same) h =
+    let m = after_second best (f x) d (ap f (sym same) ∙ h) in
+    none_of_best f xs (better best (f x)) m.0 m.1 e
+none_of f (x ∷ xs) best e y d (inr i) h = none_of f xs (better best (f x)) e y d i h
 
 greater : (a b : ℕ) (o : Ordering) → o ≡ nat_cmp a b → b < a → nat_cmp a b ≡ Greater
 greater a b o e less =

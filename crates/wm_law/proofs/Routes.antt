@@ -11,7 +11,7 @@ use Rattle.wm_desc.specs.declared.entry.RouteEntry.{RouteEntry}
 use Rattle.wm_desc.specs.Sorted.{IsSortedOnce}
 use Rattle.wm_law.specs.Launch.{is_match}
 use Rattle.wm_law.specs.Laws.{IsIn, RouteIsLeast, NoRouteIsNone}
-use Rattle.wm_law.proofs.Forward.{found_among}
+use Rattle.wm_law.proofs.Members.{found_among}
 
 abbrev pub IsSorted : List RouteEntry → Type 0
 IsSorted entries = IsSortedOnce (λ (e : RouteEntry). e.seq) nat_cmp entries

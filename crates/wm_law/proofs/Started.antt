@@ -1,5 +1,5 @@
 -- The simple names of the started subsystems stay distinct.
-use Rattle.std.proofs.Common.{◌≡◌, ℕ, ◌++◌, ◌==◌, ◌||◌, not, Bool, true, false, cond, List, [], ◌∷◌, map, filter, Option, Some, None, refl, sym, subst, inl, inr, nat_eq}
+use Rattle.std.proofs.Common.{◌≡◌, ℕ, ◌++◌, ◌==◌, not, Bool, true, false, cond, List, [], ◌∷◌, map, filter, Option, Some, None, refl, sym, subst, inl, inr, nat_eq}
 use Rattle.std.specs.Prelude.{if◌then◌else◌, length, nat_le, is_some}
 use Rattle.std.specs.List.{list_any, find}
 use Rattle.std.specs.Cmp.Lexicographic.{pointwise}
@@ -15,12 +15,14 @@ use Rattle.wm_law.specs.declared.state.State.{State}
 use Rattle.wm_law.specs.Kept.{IsDistinct, HasDistinctNames, OpeningHasDistinctNames, StepKeepsNamesDistinct, StartedNamesAreDistinct}
 use Rattle.wm_law.specs.Launch.{launch_job}
 use Rattle.wm_law.specs.Laws.{IsIn}
-use Rattle.wm_law.specs.Machine.{start_refusal, is_on, is_started, is_gone, end_now, max_started}
+use Rattle.wm_law.specs.Power.{is_on, end_now}
+use Rattle.wm_law.specs.Subsystems.{start_refusal, is_started, max_started}
+use Rattle.wm_law.specs.Settling.{is_gone}
 use Rattle.wm_desc.specs.Table.{object_named}
-use Rattle.wm_law.specs.Opening.{opening}
-use Rattle.wm_law.proofs.Moves.{HoldsAfterCalls, IsKeptByParts, step_keeps, after_keeps, unrefused}
-use Rattle.wm_law.proofs.Numbers.{map_same}
+use Rattle.wm_law.proofs.Members.{map_same}
+use Rattle.wm_law.proofs.Moves.{HoldsOfStates, IsKeptByParts, step_keeps, after_keeps}
 use Rattle.wm_law.proofs.Opened.{opening_is}
+use Rattle.wm_law.proofs.Tests.{of_neither, unrefused}
 
 abbrev name_of : Sbs → List ℕ
 name_of b = b.sbsd.name
@@ -28,10 +30,6 @@ name_of b = b.sbsd.name
 same_name : (name : List ℕ) → pointwise nat_eq name name ≡ true
 same_name [] = refl
 same_name (c ∷ cs) = rw (eq-eqb c c refl, same_name cs) refl
-
-of_neither : (a b : Bool) → (a || b) ≡ false → (a ≡ false) × (b ≡ false)
-of_neither true b e = absurd (cc)
-of_neither false b e = (refl, e)
 
 -- a name that no started subsystem has stands not among theirs
 not_among : (name : List ℕ) (started : List Sbs) → list_any (λ b. pointwise nat_eq b.sbsd.name name) started ≡ false → IsIn name (map name_of started) → ⊥
@@ -84,12 +82,12 @@ launched : (s : State) (c : Candidate) (o : Option Job) → HasDistinctNames s �
 launched s c None h = h
 launched s c (Some j) h = h
 
-calls : (s : State) → HasDistinctNames s → HoldsAfterCalls HasDistinctNames s
+calls : (s : State) → HasDistinctNames s → HoldsOfStates HasDistinctNames s
 calls s h = record {
   stays = h;
   starts = λ q e. started s q e h;
   enters = λ user c d has. h;
-  moves = λ serial phase e. h;
+  moves = λ serial j phase i e r n. h;
   powers = subst IsDistinct (sym (map_same name_of end_now (λ b. refl) s.started)) h;
   makes = λ o e. h;
 }
@@ -103,10 +101,10 @@ parts = record {
 }
 
 pub opening_has_distinct_names : OpeningHasDistinctNames
-opening_has_distinct_names = subst HasDistinctNames (sym opening_is) tt
+opening_has_distinct_names offset = subst HasDistinctNames (sym (opening_is offset)) tt
 
 pub step_keeps_names_distinct : StepKeepsNamesDistinct
 step_keeps_names_distinct s caller call moment h = step_keeps HasDistinctNames parts s caller call moment h
 
 pub started_names_are_distinct : StartedNamesAreDistinct
-started_names_are_distinct h = after_keeps HasDistinctNames parts opening h opening_has_distinct_names
+started_names_are_distinct s h d = after_keeps HasDistinctNames parts s h d

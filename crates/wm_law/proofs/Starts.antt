@@ -1,41 +1,36 @@
 -- A legal history orders no serial to start twice.
-use Rattle.std.proofs.Common.{◌≡◌, ℕ, ◌≤◌, ◌⊎◌, ◌==◌, Bool, true, false, cond, List, [], ◌∷◌, map, Option, Some, None, refl, sym, ap, subst, ◌∙◌, inl, inr, arith}
-use Rattle.std.specs.List.{find, cons_option}
+use Rattle.std.proofs.Common.{◌≡◌, ℕ, ◌≤◌, ◌⊎◌, true, List, [], ◌∷◌, Option, Some, None, refl, sym, ap, ◌∙◌, inl, inr, arith}
+use Rattle.std.specs.List.{cons_option}
 use Rattle.std.specs.Option.{option_and_then}
-use Rattle.std.proofs.lemmas.Bool.{eq-eqb}
+use Rattle.wm_base.specs.declared.job.Asked.TheVariants.{Start}
 use Rattle.wm_base.specs.declared.job.StartOrder.{StartOrder}
 use Rattle.wm_base.specs.declared.job.Class.{Class}
 use Rattle.wm_base.specs.declared.job.How.{How}
 use Rattle.wm_base.specs.declared.job.How.TheVariants.{NotYet, FromQueue, Auto, Pre}
 use Rattle.wm_base.specs.declared.qname.QName.{QName}
-use Rattle.wm_base.specs.declared.refusal.Refusal.{Refusal}
 use Rattle.wm_law.specs.declared.call.Call.{Call}
-use Rattle.wm_law.specs.declared.call.Call.TheVariants.{Change, Hand, Started, StartFailed, Finished, UseDone, Tick}
-use Rattle.wm_law.specs.declared.command.Command.{Command}
-use Rattle.wm_law.specs.declared.command.Command.TheVariants as command
 use Rattle.wm_law.specs.declared.call.Entry.{Entry}
 use Rattle.wm_law.specs.declared.call.Reply.{Reply}
-use Rattle.wm_law.specs.declared.command.Sbmjob.{Sbmjob}
+use Rattle.wm_law.specs.declared.call.Reply.TheVariants.{Order}
 use Rattle.wm_law.specs.declared.job.Job.{Job}
-use Rattle.wm_law.specs.declared.job.Phase.{Phase}
 use Rattle.wm_law.specs.declared.job.Phase.TheVariants.{Handed}
-use Rattle.wm_desc.specs.declared.description.Jobd.{Jobd}
 use Rattle.wm_desc.specs.declared.description.Program.{Program}
 use Rattle.wm_desc.specs.declared.entry.RouteEntry.{RouteEntry}
 use Rattle.wm_law.specs.declared.state.State.{State}
-use Rattle.wm_desc.specs.declared.objects.Objects.{Objects}
-use Rattle.wm_law.specs.Making.{made_unless}
 use Rattle.wm_law.specs.Counts.{is_starting}
 use Rattle.wm_law.specs.History.{stepped, IsEntry, IsLegal, order_in}
-use Rattle.wm_law.specs.Kept.{IsDistinct, IsNumbered, phase_rank, start_in, start_of, starts, StartsOnce, SerialsStartOnce}
+use Rattle.wm_law.specs.Kept.{IsDistinct, IsNumbered, phase_rank, start_told, start_of, starts, SerialsStartOnce}
 use Rattle.wm_law.specs.Launch.{order_of, order_by, order_through, order_called, order_with, route_entry, called_program, called_args}
 use Rattle.wm_law.specs.Laws.{IsIn}
 use Rattle.wm_law.specs.Stepped.{Stepped}
-use Rattle.wm_law.specs.Machine.{apply, step, settle, with_clock, with_phase, phased_at, start_refusal, start_unless, submit_refusal, submit_unless, submit_with, is_on, is_down_now, change, hand_job, hand_order, report_on, is_handed_to, is_run_by, done_with}
+use Rattle.wm_law.specs.Reports.{in_phase, with_phase}
+use Rattle.wm_law.specs.Settling.{settle}
+use Rattle.wm_law.specs.Machine.{apply, step, with_clock}
 use Rattle.wm_desc.specs.Table.{object_named}
-use Rattle.wm_law.proofs.Forward.{only_one, found_in, mapped_in, starting_rank, settle_goes_on, step_goes_on}
-use Rattle.wm_law.specs.Opening.{opening}
-use Rattle.wm_law.proofs.Numbers.{opening_is_numbered, apply_keeps, clock_keeps, step_keeps_numbers}
+use Rattle.wm_law.proofs.Forward.{only_one, settle_goes_on, step_goes_on}
+use Rattle.wm_law.proofs.Changed.{in_changed}
+use Rattle.wm_law.proofs.Moves.{HoldsAfterCalls, call_comes, starting_rank}
+use Rattle.wm_law.proofs.Numbers.{apply_keeps, clock_keeps, step_keeps_numbers}
 
 with_serial : (j : Job) (args : List (List ℕ)) (p : Option Program) (c : Option Class) (o : StartOrder) → order_with j args p c ≡ Some o → o.serial ≡ j.serial
 with_serial j args None c o e = absurd (cc)
@@ -68,79 +63,30 @@ record IsHanded (s t : State) (x : ℕ) : Type 0 where
   past : 2 ≤ phase_rank later.phase
 
 abbrev told : Reply → Option ℕ
-told r = option_and_then start_in (order_in r)
+told r = option_and_then start_told (order_in r)
 
 -- what a reply orders to start was handed
 abbrev Hands : State → Stepped → Type 0
 Hands s t = (x : ℕ) → told t.reply ≡ Some x → IsHanded s t.state x
 
-either : (s : State) (b : Bool) (t u : Stepped) → Hands s t → Hands s u → Hands s (cond b t u)
-either s true t u h k = h
-either s false t u h k = k
-
-start : (s : State) (q : QName) (o : Option Refusal) → Hands s (start_unless s q o)
-start s q None x e = absurd (cc)
-start s q (Some y) x e = absurd (cc)
-
-submitted : (s : State) (user : List ℕ) (c : Sbmjob) (d : Jobd) (o : Option Refusal) → Hands s (submit_unless s user c d o)
-submitted s user c d None x e = absurd (cc)
-submitted s user c d (Some y) x e = absurd (cc)
-
-submitted_with : (s : State) (user : List ℕ) (c : Sbmjob) (d : Option Jobd) → Hands s (submit_with s user c d)
-submitted_with s user c None x e = absurd (cc)
-submitted_with s user c (Some d) x e = submitted s user c d (submit_refusal s c d) x e
-
-made : (s : State) (objects : Objects) (o : Option Refusal) → Hands s (made_unless s objects o)
-made s objects None x e = absurd (cc)
-made s objects (Some y) x e = absurd (cc)
-
-changed : (s : State) (user : List ℕ) (c : Command) → Hands s (change s user c)
-changed s user (command.Crtcls c) = made s _ _
-changed s user (command.Crtjobq c) = made s _ _
-changed s user (command.Crtpgmref c) = made s _ _
-changed s user (command.Crtjobd c) = made s _ _
-changed s user (command.Crtsbsd c) = made s _ _
-changed s user (command.Addjobqe c) = made s _ _
-changed s user (command.Addrtge c) = made s _ _
-changed s user (command.Rmvjobqe c) = made s _ _
-changed s user (command.Rmvrtge c) = made s _ _
-changed s user (command.Strsbs c) = start s c.sbsd (start_refusal s c.sbsd)
-changed s user (command.Sbmjob c) = either s (is_on s.power) _ _ (submitted_with s user c (object_named c.jobd s.objects.jobds)) (λ x e. absurd (cc))
-changed s user (command.Pwrdwnsys c) = either s (is_down_now s.power) _ _ (λ x e. absurd (cc)) (λ x e. absurd (cc))
-changed s user c = λ x e. absurd (cc)
-
-moved : (s : State) (i : Job) (m : ℕ) → IsIn i s.jobs → IsIn (record i { phase = Handed m }) (with_phase s i.serial (Handed m)).jobs
-moved s i m k =
-    let same = ap (λ (b : Bool). cond b (record i { phase = Handed m }) i) (eq-eqb i.serial i.serial refl) in
-    subst (λ (j : Job). IsIn j (map (phased_at i.serial (Handed m)) s.jobs)) same (mapped_in (phased_at i.serial (Handed m)) s.jobs i k)
-
-ordered : (s : State) (m : ℕ) (i : Job) (o : Option StartOrder) → order_of s i ≡ o → IsIn i s.jobs → is_starting i.phase ≡ true → Hands s (hand_order s m i o)
-ordered s m i None f k h x e = absurd (cc)
-ordered s m i (Some o) f k h x e =
+handed_one : (s : State) (m : ℕ) (i : Job) (o : StartOrder) → IsIn i s.jobs → is_starting i.phase ≡ true → order_of s i ≡ Some o → Hands s (record { reply = Order (Start o); state = with_phase s i.serial (Handed m) })
+handed_one s m i o k h f x e =
     let told_serial : o.serial ≡ x = cc in
     let same = sym (by_serial s i i.how o f) ∙ told_serial in
-    record { job = i; before = k; serial = same; starting = starting_rank i.phase h; later = record i { phase = Handed m }; now = moved s i m k; same = same; past = omega arith }
+    record { job = i; before = k; serial = same; starting = starting_rank i.phase h; later = record i { phase = Handed m }; now = in_changed (in_phase (Handed m)) i s.jobs k; same = same; past = omega arith }
 
-handed : (s : State) (m : ℕ) (o : Option Job) → find (λ j. is_starting j.phase) s.jobs ≡ o → Hands s (hand_job s m o)
-handed s m None f x e = absurd (cc)
-handed s m (Some i) f x e = let k = found_in (λ j. is_starting j.phase) s.jobs i f in ordered s m i (order_of s i) refl k.0 k.1 x e
-
-reported : (s : State) (serial : ℕ) (test : Phase → Bool) (phase : Phase) (o : Option Job) → Hands s (report_on s serial test phase o)
-reported s serial test phase None x e = absurd (cc)
-reported s serial test phase (Some j) x e = either s (test j.phase) _ _ (λ y f. absurd (cc)) (λ y f. absurd (cc)) x e
-
-done : (s : State) (m : ℕ) (o : Option Job) → Hands s (done_with s m o)
-done s m None x e = absurd (cc)
-done s m (Some j) x e = either s (is_run_by m j.phase) _ _ (λ y f. absurd (cc)) (λ y f. absurd (cc)) x e
-
-apply_hands : (s : State) (caller : ℕ) (call : Call) → Hands s (apply s caller call)
-apply_hands s caller (Change user c) = changed s user c
-apply_hands s caller Hand = handed s caller (find (λ j. is_starting j.phase) s.jobs) refl
-apply_hands s caller (Started serial) = reported s serial (is_handed_to caller) _ (find (λ j. j.serial == serial) s.jobs)
-apply_hands s caller (StartFailed serial why) = reported s serial (is_handed_to caller) _ (find (λ j. j.serial == serial) s.jobs)
-apply_hands s caller (Finished serial end) = reported s serial (is_run_by caller) _ (find (λ j. j.serial == serial) s.jobs)
-apply_hands s caller (UseDone serial) = done s caller (find (λ j. j.serial == serial) s.jobs)
-apply_hands s caller Tick = λ x e. absurd (cc)
+hands_over : (s : State) (call : Call) → HoldsAfterCalls (Hands s) s call
+hands_over s call = record {
+  refuses = λ y x e. absurd (cc);
+  nothing = λ n x e. absurd (cc);
+  notes = λ x e. absurd (cc);
+  hands = handed_one s;
+  reports = λ serial j phase i k r n x e. absurd (cc);
+  starts = λ q k x e. absurd (cc);
+  enters = λ user c d has x e. absurd (cc);
+  powers = λ x e. absurd (cc);
+  makes = λ o c x e. absurd (cc);
+}
 
 settled_hands : (s t : State) (x : ℕ) → IsNumbered t → IsHanded s t x → IsHanded s (settle t) x
 settled_hands s t x n h =
@@ -153,7 +99,7 @@ settled_hands s t x n h =
 step_hands : (s : State) (caller : ℕ) (call : Call) (moment : ℕ) → IsNumbered s → (x : ℕ) → told (step s caller call moment).reply ≡ Some x → IsHanded s (step s caller call moment).state x
 unfolding step
 step_hands s caller call moment n x e =
-    let h = apply_hands (with_clock s moment) caller call x e in
+    let h = call_comes (Hands (with_clock s moment)) (with_clock s moment) caller call (hands_over (with_clock s moment) call) x e in
     let k : IsHanded s (apply (with_clock s moment) caller call).state x = record { job = h.job; before = h.before; serial = h.serial; starting = h.starting; later = h.later; now = h.now; same = h.same; past = h.past } in
     settled_hands s (apply (with_clock s moment) caller call).state x (apply_keeps (with_clock s moment) caller call (clock_keeps s moment n)) k
 
@@ -200,10 +146,7 @@ distinct_front : (o : Option ℕ) (xs : List ℕ) → ((x : ℕ) → o ≡ Some 
 distinct_front None xs none rest = rest
 distinct_front (Some y) xs none rest = (none y refl, rest)
 
-pub starts_once : StartsOnce
-starts_once s [] n l = tt
-starts_once s (e ∷ es) n l =
-    distinct_front (start_of e) (starts es) (λ x o. not_again s e es n l.0 l.1 x o) (starts_once (stepped s e).state es (step_keeps_numbers s e.caller e.call e.moment n) l.1)
-
 pub serials_start_once : SerialsStartOnce
-serials_start_once h l = starts_once opening h opening_is_numbered l
+serials_start_once s [] n l = tt
+serials_start_once s (e ∷ es) n l =
+    distinct_front (start_of e) (starts es) (λ x o. not_again s e es n l.0 l.1 x o) (serials_start_once (stepped s e).state es (step_keeps_numbers s e.caller e.call e.moment n) l.1)

@@ -1,5 +1,5 @@
 -- Each started subsystem has its description, and none is Active where the power isn't On.
-use Rattle.std.proofs.Common.{◌≡◌, ◌++◌, ◌==◌, not, true, [], ◌∷◌, Option, Some, None, sym, ap, subst, inl, inr}
+use Rattle.std.proofs.Common.{◌≡◌, ℤ, ◌++◌, ◌==◌, not, true, [], ◌∷◌, Option, Some, None, sym, ap, subst, inl, inr}
 use Rattle.std.specs.Prelude.{if◌then◌else◌, length, nat_le}
 use Rattle.std.specs.List.{find}
 use Rattle.std.specs.Option.{IsSome, is_some}
@@ -14,13 +14,15 @@ use Rattle.wm_law.specs.declared.state.Sbs.{Sbs}
 use Rattle.wm_law.specs.declared.state.SbsPhase.TheVariants.{Active}
 use Rattle.wm_law.specs.declared.state.State.{State}
 use Rattle.wm_law.specs.Choice.{is_sbs_active}
-use Rattle.wm_law.specs.Kept.{HasDescriptions, IsQuiet, StepKeepsDescriptions, StartedAreDescribed, StepKeepsQuiet, NoneIsActiveWithoutPower}
+use Rattle.wm_law.specs.Kept.{HasDescriptions, IsQuiet, OpeningHasDescriptions, OpeningIsQuiet, StepKeepsDescriptions, StartedAreDescribed, StepKeepsQuiet, NoneIsActiveWithoutPower}
 use Rattle.wm_law.specs.Launch.{launch_job}
-use Rattle.wm_law.specs.Machine.{start_refusal, is_gone, is_on, is_started, end_now, max_started}
-use Rattle.wm_law.specs.Opening.{opening}
+use Rattle.wm_law.specs.Power.{is_on, end_now}
+use Rattle.wm_law.specs.Subsystems.{start_refusal, is_started, max_started}
+use Rattle.wm_law.specs.Settling.{is_gone}
 use Rattle.wm_law.proofs.Members.{of_last, of_mapped, left_in}
 use Rattle.wm_law.proofs.Opened.{opened, opening_is}
-use Rattle.wm_law.proofs.Moves.{HoldsAfterCalls, IsKeptByParts, step_keeps, after_keeps, unrefused, of_not}
+use Rattle.wm_law.proofs.Moves.{HoldsOfStates, IsKeptByParts, step_keeps, after_keeps}
+use Rattle.wm_law.proofs.Tests.{of_not, unrefused}
 
 -- STRSBS isn't refused, so the power is On and the description is there
 powered : (s : State) (q : QName) → start_refusal s q ≡ None → is_on s.power ≡ true
@@ -42,12 +44,12 @@ described_launched : (s : State) (c : Candidate) (o : Option Job) → HasDescrip
 described_launched s c None h = h
 described_launched s c (Some j) h = h
 
-described_calls : (s : State) → HasDescriptions s → HoldsAfterCalls HasDescriptions s
+described_calls : (s : State) → HasDescriptions s → HoldsOfStates HasDescriptions s
 described_calls s h = record {
   stays = h;
   starts = λ q e. described s q e h;
   enters = λ user c d has. h;
-  moves = λ serial phase e. h;
+  moves = λ serial j phase i e r n. h;
   powers = λ b i. (let m = of_mapped end_now s.started b i in subst (λ (x : Sbs). IsSome (object_named x.sbsd s.objects.sbsds)) (sym m.2) (h m.0 m.1));
   makes = λ o e b i. subst (λ (d : Option Sbsd). IsSome d) (sym (e.described b i (h b i))) (h b i);
 }
@@ -64,12 +66,12 @@ quiet_launched : (s : State) (c : Candidate) (o : Option Job) → IsQuiet s → 
 quiet_launched s c None h = h
 quiet_launched s c (Some j) h = h
 
-quiet_calls : (s : State) → IsQuiet s → HoldsAfterCalls IsQuiet s
+quiet_calls : (s : State) → IsQuiet s → HoldsOfStates IsQuiet s
 quiet_calls s h = record {
   stays = h;
   starts = λ q e off b i. (let on = powered s q e in absurd (cc));
   enters = λ user c d has. h;
-  moves = λ serial phase e. h;
+  moves = λ serial j phase i e r n. h;
   powers = λ off b i. (let m = of_mapped end_now s.started b i in ap (λ (x : Sbs). is_sbs_active x.phase) m.2);
   makes = λ o e. h;
 }
@@ -82,26 +84,26 @@ quiet_parts = record {
   launches = record { by_step = λ s c e h. quiet_launched s c (find (λ j. j.serial == c.serial) s.jobs) h };
 }
 
-opened_has_descriptions : HasDescriptions opened
-opened_has_descriptions b i = absurd i
+opened_has_descriptions : (offset : ℤ) → HasDescriptions (opened offset)
+opened_has_descriptions offset b i = absurd i
 
-opening_has_descriptions : HasDescriptions opening
-opening_has_descriptions = subst HasDescriptions (sym opening_is) opened_has_descriptions
+pub opening_has_descriptions : OpeningHasDescriptions
+opening_has_descriptions offset = subst HasDescriptions (sym (opening_is offset)) (opened_has_descriptions offset)
 
-opened_is_quiet : IsQuiet opened
-opened_is_quiet off b i = absurd i
+opened_is_quiet : (offset : ℤ) → IsQuiet (opened offset)
+opened_is_quiet offset off b i = absurd i
 
-opening_is_quiet : IsQuiet opening
-opening_is_quiet = subst IsQuiet (sym opening_is) opened_is_quiet
+pub opening_is_quiet : OpeningIsQuiet
+opening_is_quiet offset = subst IsQuiet (sym (opening_is offset)) (opened_is_quiet offset)
 
 pub step_keeps_descriptions : StepKeepsDescriptions
 step_keeps_descriptions s caller call moment h = step_keeps HasDescriptions described_parts s caller call moment h
 
 pub started_are_described : StartedAreDescribed
-started_are_described h = after_keeps HasDescriptions described_parts opening h opening_has_descriptions
+started_are_described s h d = after_keeps HasDescriptions described_parts s h d
 
 pub step_keeps_quiet : StepKeepsQuiet
 step_keeps_quiet s caller call moment h = step_keeps IsQuiet quiet_parts s caller call moment h
 
 pub none_is_active_without_power : NoneIsActiveWithoutPower
-none_is_active_without_power h = after_keeps IsQuiet quiet_parts opening h opening_is_quiet
+none_is_active_without_power s h q = after_keeps IsQuiet quiet_parts s h q

@@ -96,6 +96,19 @@ better best None = best
 better None (Some c) = Some c
 better (Some b) (Some c) = if is_lt (rank_cmp c.rank b.rank) then Some c else Some b
 
--- the ready and allowed job that no other stands before
+-- the candidate, where it is of the subsystem
+abbrev pub of_sbs : QName → Option Candidate → Option Candidate
+of_sbs sbs None = None
+of_sbs sbs (Some c) = if same_qname c.sbs sbs then Some c else None
+
+-- the job as a candidate of the subsystem, where it is ready and allowed there
+abbrev pub candidate_in : State → QName → Job → Option Candidate
+candidate_in s sbs j = of_sbs sbs (candidate s j)
+
+-- the first of a subsystem: the ready and allowed job that no other there stands before
+abbrev pub first : State → QName → Option Candidate
+first s sbs = fold (λ best j. better best (candidate_in s sbs j)) None s.jobs
+
+-- the first of the subsystem of least simple name that has one
 abbrev pub next : State → Option Candidate
-next s = fold (λ best j. better best (candidate s j)) None s.jobs
+next s = fold (λ best b. better best (first s b.sbsd)) None s.started

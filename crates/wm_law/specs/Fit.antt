@@ -197,11 +197,11 @@ HasCommand s (command.Pwrdwnsys c) = (c.option ≡ Immed) × (active s ≡ 0)
 HasCommand s c = ⊥
 
 -- the machine has every call of a monitor, and those commands
-abbrev pub IsBuilt : State → Call → Type 0
-IsBuilt s (Change user c) = HasCommand s c
-IsBuilt s Hand = ⊤
-IsBuilt s (Started serial) = ⊤
-IsBuilt s (StartFailed serial why) = ⊤
-IsBuilt s (Finished serial end) = ⊤
-IsBuilt s (UseDone serial) = ⊤
-IsBuilt s Tick = ⊤
+abbrev pub HasCall : State → Call → Type 0
+HasCall s (Change user c) = HasCommand s c
+HasCall s Hand = ⊤
+HasCall s (Started serial) = ⊤
+HasCall s (StartFailed serial why) = ⊤
+HasCall s (Finished serial end) = ⊤
+HasCall s (UseDone serial) = ⊤
+HasCall s Tick = ⊤

@@ -8,7 +8,7 @@ use Rattle.wm_law.specs.declared.call.Entry.{Entry}
 use Rattle.wm_law.specs.declared.call.Reply.{Reply}
 use Rattle.wm_law.specs.declared.call.Reply.TheVariants.{Made, SbsStarted, Submitted, PowerDown, Order, Nothing, Noted, No}
 use Rattle.wm_law.specs.declared.state.State.{State}
-use Rattle.wm_law.specs.Fit.{IsCall, IsBuilt}
+use Rattle.wm_law.specs.Fit.{IsCall, HasCall}
 use Rattle.wm_law.specs.Machine.{step}
 use Rattle.wm_law.specs.Stepped.{Stepped}
 
@@ -25,7 +25,7 @@ after s (e ∷ es) = after (stepped s e).state es
 pub record IsEntry (s : State) (e : Entry) : Type 0 where
   pub caller : e.caller < 2 ^ 32
   pub call : IsCall e.call
-  pub built : IsBuilt s e.call
+  pub built : HasCall s e.call
   pub moment : e.moment ≤ 253402214399
   pub reply : e.reply ≡ (stepped s e).reply
 

@@ -1,6 +1,6 @@
 -- What every step keeps: numbers that are given once, jobs that only go forward, orders of the jobs that are Starting, and
--- names of started subsystems that are distinct.
-use Rattle.std.specs.Prelude.{◌≡◌, ◌↔◌, ℕ, ◌<◌, ◌≤◌, true, false, List, [], ◌∷◌, map, ⊤, Option, Some, None}
+-- names of started subsystems that are distinct; and in which order settling starts jobs.
+use Rattle.std.specs.Prelude.{◌≡◌, ◌↔◌, ℕ, ℤ, ◌<◌, ◌≤◌, true, false, List, [], ◌∷◌, map, fold, ⊤, Option, Some, None}
 use Rattle.std.specs.List.{filter_map}
 use Rattle.std.specs.Option.{IsSome, option_and_then}
 use Rattle.std.specs.Ordering.{nat_cmp}
@@ -26,7 +26,10 @@ use Rattle.wm_law.specs.Fit.{IsBetween}
 use Rattle.wm_law.specs.History.{IsLegal, after, order_in}
 use Rattle.wm_law.specs.Launch.{order_of, route}
 use Rattle.wm_law.specs.Laws.{IsIn, IsRoute}
-use Rattle.wm_law.specs.Machine.{is_on, numbers_end, serials_end, step}
+use Rattle.wm_law.specs.Power.{is_on}
+use Rattle.wm_law.specs.Settling.{start_jobs, start_in, in_order}
+use Rattle.wm_law.specs.Submitting.{numbers_end, serials_end}
+use Rattle.wm_law.specs.Machine.{step}
 use Rattle.wm_desc.specs.Table.{object_named}
 use Rattle.wm_law.specs.Opening.{opening}
 use Rattle.wm_law.specs.Pending.{starting}
@@ -105,13 +108,13 @@ abbrev pub GoesOn : State → State → Type 0
 GoesOn s t = (j : Job) → IsIn j s.jobs → (k : Job) × IsIn k t.jobs × IsLater j k
 
 -- the serial that an order tells to start
-abbrev pub start_in : Asked → Option ℕ
-start_in (Start o) = Some o.serial
-start_in (Kill serial) = None
+abbrev pub start_told : Asked → Option ℕ
+start_told (Start o) = Some o.serial
+start_told (Kill serial) = None
 
 -- the serial that an entry ordered to start
 abbrev pub start_of : Entry → Option ℕ
-start_of e = option_and_then start_in (order_in e.reply)
+start_of e = option_and_then start_told (order_in e.reply)
 
 -- the serials that a history ordered to start, whichever monitor asked
 abbrev pub starts : List Entry → List ℕ
@@ -119,72 +122,80 @@ starts h = filter_map start_of h
 
 -- the opening state is numbered
 abbrev pub OpeningIsNumbered : Type 0
-OpeningIsNumbered = IsNumbered opening
+OpeningIsNumbered = (offset : ℤ) → IsNumbered (opening offset)
 
 -- every step keeps a state numbered
 abbrev pub StepKeepsNumbers : Type 0
 StepKeepsNumbers = (s : State) (caller : ℕ) (call : Call) (moment : ℕ) → IsNumbered s → IsNumbered (step s caller call moment).state
 
--- whatever was called, no serial, job number or place was given twice
+-- whatever is called, no serial, job number or place is given twice
 abbrev pub NumbersAreGivenOnce : Type 0
-NumbersAreGivenOnce = (h : List Entry) → IsNumbered (after opening h)
+NumbersAreGivenOnce = (s : State) (h : List Entry) → IsNumbered s → IsNumbered (after s h)
 
 -- no step loses a job or takes its phase back
 abbrev pub StepGoesOn : Type 0
 StepGoesOn = (s : State) (caller : ℕ) (call : Call) (moment : ℕ) → IsNumbered s → GoesOn s (step s caller call moment).state
 
 -- from a numbered state, a legal history orders no serial to start twice
-abbrev pub StartsOnce : Type 0
-StartsOnce = (s : State) (h : List Entry) → IsNumbered s → IsLegal s h → IsDistinct (starts h)
-
--- and so from the opening state
 abbrev pub SerialsStartOnce : Type 0
-SerialsStartOnce = (h : List Entry) → IsLegal opening h → IsDistinct (starts h)
+SerialsStartOnce = (s : State) (h : List Entry) → IsNumbered s → IsLegal s h → IsDistinct (starts h)
 
 -- each Starting job of the opening state has its order
 abbrev pub OpeningHasOrders : Type 0
-OpeningHasOrders = HasOrders opening
+OpeningHasOrders = (offset : ℤ) → HasOrders (opening offset)
 
 -- every step leaves each Starting job its order
 abbrev pub StepKeepsOrders : Type 0
 StepKeepsOrders = (s : State) (caller : ℕ) (call : Call) (moment : ℕ) → IsNumbered s → HasOrders s → HasOrders (step s caller call moment).state
 
--- whatever was called, each Starting job has its order
+-- whatever is called, each Starting job has its order
 abbrev pub StartingJobsHaveOrders : Type 0
-StartingJobsHaveOrders = (h : List Entry) → HasOrders (after opening h)
+StartingJobsHaveOrders = (s : State) (h : List Entry) → IsNumbered s → HasOrders s → HasOrders (after s h)
 
--- whatever was called, a Hand answers Nothing exactly where no job is Starting
+-- whatever is called, a Hand then answers Nothing exactly where no job is Starting
 abbrev pub HandGivesAnOrder : Type 0
-HandGivesAnOrder = (h : List Entry) (caller moment : ℕ) → (step (after opening h) caller Hand moment).reply ≡ Nothing ↔ starting (after opening h) ≡ 0
+HandGivesAnOrder = (s : State) (h : List Entry) (caller moment : ℕ) → IsNumbered s → HasOrders s → ((step (after s h) caller Hand moment).reply ≡ Nothing ↔ starting (after s h) ≡ 0)
 
--- whatever was called, the route in a subsystem is its matching entry of least number
+-- whatever is called, the route in a subsystem is its matching entry of least number
 abbrev pub ReachedRouteIsLeast : Type 0
-ReachedRouteIsLeast = (h : List Entry) (sbs : QName) (d : Sbsd) (rtgdta : List ℕ) (e : RouteEntry) → object_named sbs (after opening h).objects.sbsds ≡ Some d → route d rtgdta ≡ Some e → IsRoute d rtgdta e
+ReachedRouteIsLeast = (s : State) (h : List Entry) (sbs : QName) (d : Sbsd) (rtgdta : List ℕ) (e : RouteEntry) → IsNumbered s → HasOrders s → object_named sbs (after s h).objects.sbsds ≡ Some d → route d rtgdta ≡ Some e → IsRoute d rtgdta e
 
 -- no subsystem is started in the opening state
 abbrev pub OpeningHasDistinctNames : Type 0
-OpeningHasDistinctNames = HasDistinctNames opening
+OpeningHasDistinctNames = (offset : ℤ) → HasDistinctNames (opening offset)
 
 -- every step keeps the simple names of the started subsystems distinct
 abbrev pub StepKeepsNamesDistinct : Type 0
 StepKeepsNamesDistinct = (s : State) (caller : ℕ) (call : Call) (moment : ℕ) → HasDistinctNames s → HasDistinctNames (step s caller call moment).state
 
--- whatever was called, no two started subsystems have one simple name
+-- whatever is called, no two started subsystems have one simple name
 abbrev pub StartedNamesAreDistinct : Type 0
-StartedNamesAreDistinct = (h : List Entry) → HasDistinctNames (after opening h)
+StartedNamesAreDistinct = (s : State) (h : List Entry) → HasDistinctNames s → HasDistinctNames (after s h)
+
+-- each started subsystem of the opening state has its description, for none is started
+abbrev pub OpeningHasDescriptions : Type 0
+OpeningHasDescriptions = (offset : ℤ) → HasDescriptions (opening offset)
 
 -- every step leaves each started subsystem its description
 abbrev pub StepKeepsDescriptions : Type 0
 StepKeepsDescriptions = (s : State) (caller : ℕ) (call : Call) (moment : ℕ) → HasDescriptions s → HasDescriptions (step s caller call moment).state
 
--- whatever was called, each started subsystem has its description
+-- whatever is called, each started subsystem has its description
 abbrev pub StartedAreDescribed : Type 0
-StartedAreDescribed = (h : List Entry) → HasDescriptions (after opening h)
+StartedAreDescribed = (s : State) (h : List Entry) → HasDescriptions s → HasDescriptions (after s h)
+
+-- the power of the opening state is On
+abbrev pub OpeningIsQuiet : Type 0
+OpeningIsQuiet = (offset : ℤ) → IsQuiet (opening offset)
 
 -- no step makes a subsystem Active where the power isn't On
 abbrev pub StepKeepsQuiet : Type 0
 StepKeepsQuiet = (s : State) (caller : ℕ) (call : Call) (moment : ℕ) → IsQuiet s → IsQuiet (step s caller call moment).state
 
--- whatever was called, no started subsystem is Active where the power isn't On
+-- whatever is called, no started subsystem is Active where the power isn't On
 abbrev pub NoneIsActiveWithoutPower : Type 0
-NoneIsActiveWithoutPower = (h : List Entry) → IsQuiet (after opening h)
+NoneIsActiveWithoutPower = (s : State) (h : List Entry) → IsQuiet s → IsQuiet (after s h)
+
+-- settling's last part goes over the started subsystems in the order of their simple names, and launches each one's first while it has one
+abbrev pub StartsInOrder : Type 0
+StartsInOrder = (s : State) → IsNumbered s → HasDistinctNames s → start_jobs s ≡ fold start_in s (in_order s.started)

@@ -1,5 +1,5 @@
 -- What becomes of a job whose turn has come, and what its monitor is told to start.
-use Rattle.std.specs.Prelude.{ℕ, Bool, true, false, ◌-◌, ◌++◌, ◌==◌, List, [], take, drop, Option, Some, None, find, map, replicate, nat_eq, if◌then◌else◌, option_and_then, option_to_list}
+use Rattle.std.specs.Prelude.{ℕ, Bool, true, false, ◌-◌, ◌++◌, ◌==◌, List, [], take, drop, Option, Some, None, find, replicate, nat_eq, if◌then◌else◌, option_and_then, option_to_list}
 use Rattle.std.specs.List.{starts_with}
 use Rattle.wm_base.specs.declared.qname.QName.{QName}
 use Rattle.wm_base.specs.declared.job.How.{How}
@@ -20,10 +20,10 @@ use Rattle.wm_law.specs.declared.state.State.{State}
 use Rattle.wm_law.specs.declared.choice.Candidate.{Candidate}
 use Rattle.wm_law.specs.declared.launch.Launched.{Launched}
 use Rattle.wm_law.specs.Counts.{count_by_route}
+use Rattle.wm_law.specs.Jobs.{changed_at, with_job}
 use Rattle.wm_desc.specs.Sorted.{with_key}
 use Rattle.wm_desc.specs.Table.{object_named, is_qcmd}
-use Rattle.wm_desc.specs.Opening.{echo}
-use Rattle.wm_law.specs.Request.{is_call, values_of}
+use Rattle.wm_clwords.specs.Called.{called_pgm, called_parms}
 
 -- routing data, extended with blanks to 80 characters
 abbrev pub extended : List ℕ → List ℕ
@@ -42,15 +42,15 @@ is_match (Val value start) rtgdta = has_value value start rtgdta
 abbrev pub route : Sbsd → List ℕ → Option RouteEntry
 route d rtgdta = find (λ e. is_match e.cmp rtgdta) d.routes
 
--- the program of a request that is a CALL of QGPL/ECHO
+-- the program that a request calls, where there is one and it is a CALL
 abbrev pub requested : Option (List ℕ) → Option QName
 requested None = None
-requested (Some request) = if is_call request then Some echo else None
+requested (Some request) = called_pgm request
 
 -- its values
 abbrev pub args_of : Option (List ℕ) → List (List ℕ)
 args_of None = []
-args_of (Some request) = values_of request
+args_of (Some request) = called_parms request
 
 -- the program that a routing entry's program calls: QSYS/QCMD that of the request, another program itself
 abbrev pub called_program : RouteEntry → Option (List ℕ) → Option QName
@@ -95,13 +95,17 @@ launched_through s sbs queue j (Some e) = launched_by sbs queue j e.seq (route_f
 abbrev pub launched : State → QName → QName → Job → Launched
 launched s sbs queue j = launched_through s sbs queue j (option_and_then (λ d. route d j.rtgdta) (object_named sbs s.objects.sbsds))
 
+-- the job as launched
+abbrev pub as_launched : Launched → Job → Job
+as_launched l j = record j { phase = l.phase; how = l.how }
+
 -- the job as launched, where it has that serial
 abbrev pub launched_at : ℕ → Launched → Job → Job
-launched_at serial l j = if j.serial == serial then record j { phase = l.phase; how = l.how } else j
+launched_at serial l j = changed_at serial (as_launched l) j
 
 -- the state with the job of that serial launched
 abbrev pub with_launched : State → ℕ → Launched → State
-with_launched s serial l = record s { jobs = map (launched_at serial l) s.jobs }
+with_launched s serial l = with_job s serial (as_launched l)
 
 abbrev pub launch_job : State → Candidate → Option Job → State
 launch_job s c None = s

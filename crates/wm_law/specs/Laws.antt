@@ -1,12 +1,11 @@
 -- Laws of the machine: what its definitions come to.
-use Rattle.std.specs.Prelude.{◌≡◌, ℕ, ◌<◌, ◌≤◌, ◌⊎◌, true, false, ◌==◌, List, [], ◌∷◌, Some, None, length}
-use Rattle.std.specs.List.{list_any}
+use Rattle.std.specs.Prelude.{◌≡◌, ℕ, ◌<◌, ◌≤◌, ◌⊎◌, true, false, List, [], ◌∷◌, Some, None}
 use Rattle.std.specs.Ordering.{nat_cmp, is_lt}
 use Rattle.std.specs.Cmp.Lexicographic.{slice_cmp}
 use Rattle.wm_base.specs.declared.qname.QName.{QName}
 use Rattle.wm_base.specs.declared.refusal.Refusal.{Refusal}
 use Rattle.wm_law.specs.declared.call.Call.{Call}
-use Rattle.wm_law.specs.declared.call.Reply.TheVariants.{No}
+use Rattle.wm_law.specs.declared.call.Reply.TheVariants.{No, Nothing}
 use Rattle.wm_law.specs.declared.choice.Candidate.{Candidate}
 use Rattle.wm_law.specs.declared.job.Job.{Job}
 use Rattle.wm_desc.specs.declared.description.Sbsd.{Sbsd}
@@ -15,12 +14,14 @@ use Rattle.wm_desc.specs.declared.entry.RouteEntry.{RouteEntry}
 use Rattle.wm_desc.specs.Sorted.{IsSortedOnce}
 use Rattle.wm_law.specs.declared.state.State.{State}
 use Rattle.wm_law.specs.declared.state.Sbs.{Sbs}
-use Rattle.wm_law.specs.Choice.{is_ready, holder, entry_for, is_allowed, next}
+use Rattle.wm_law.specs.declared.command.Command.{Command}
+use Rattle.wm_law.specs.Built.{is_built}
+use Rattle.wm_law.specs.Fit.{HasCommand, HasCall}
+use Rattle.wm_law.specs.History.{is_hand}
+use Rattle.wm_law.specs.Choice.{is_ready, holder, entry_for, is_allowed, candidate, first, next}
 use Rattle.wm_law.specs.Launch.{is_match, route}
-use Rattle.wm_law.specs.Request.{is_call, values_of}
-use Rattle.wm_clwords.specs.CallText.{call_text}
-use Rattle.wm_desc.specs.Opening.{echo}
-use Rattle.wm_law.specs.Machine.{apply, step, settle, with_clock}
+use Rattle.wm_law.specs.Settling.{settle}
+use Rattle.wm_law.specs.Machine.{apply, step, with_clock}
 use Rattle.wm_desc.specs.Table.{object_named}
 
 -- the element stands in the list
@@ -66,6 +67,14 @@ pub record IsNamed (c : Candidate) (j : Job) (t : Turn) : Type 0 where
   pub sbs : c.sbs ≡ t.sbs.sbsd
   pub jobq : c.jobq ≡ t.entry.jobq
 
+-- the first of a subsystem is the candidate of a job that may start there, and no job that may start there stands before it
+abbrev pub FirstIsLeast : Type 0
+FirstIsLeast = (s : State) (sbs : QName) (c : Candidate) → first s sbs ≡ Some c → (j : Job) × ((t : Turn) × (IsFirst s j t × IsNamed c j t × (candidate s j ≡ Some c) × (t.sbs.sbsd ≡ sbs)))
+
+-- where a subsystem has no first, no job may start there
+abbrev pub NoFirstIsNone : Type 0
+NoFirstIsNone = (s : State) (sbs : QName) → first s sbs ≡ None → (j : Job) (t : Turn) → IsIn j s.jobs → MayStart s j t → t.sbs.sbsd ≡ sbs → ⊥
+
 -- the next job is the first of its subsystem, and no subsystem with a job that may start comes before that one
 abbrev pub NextIsFirst : Type 0
 NextIsFirst = (s : State) (c : Candidate) → next s ≡ Some c → (j : Job) × ((t : Turn) × (IsFirst s j t × IsOfLeast s t × IsNamed c j t))
@@ -104,6 +113,10 @@ RefusalLeaves = (s : State) (caller : ℕ) (call : Call) (x : Refusal) → (appl
 abbrev pub RefusedStepSettles : Type 0
 RefusedStepSettles = (s : State) (caller : ℕ) (call : Call) (moment : ℕ) (x : Refusal) → (step s caller call moment).reply ≡ No x → (step s caller call moment).state ≡ settle (with_clock s moment)
 
--- the canonical text of a CALL of QGPL/ECHO with at most 40 values is a CALL with these values
-abbrev pub ValuesAreRead : Type 0
-ValuesAreRead = (values : List (List ℕ)) → length values ≤ 40 → (is_call (call_text echo values) ≡ true) × (values_of (call_text echo values) ≡ values)
+-- a call that the machine has is never answered Nothing, Hand aside
+abbrev pub BuiltCallsAreAnswered : Type 0
+BuiltCallsAreAnswered = (s : State) (caller : ℕ) (call : Call) (moment : ℕ) → HasCall s call → is_hand call ≡ false → (step s caller call moment).reply ≡ Nothing → ⊥
+
+-- the machine has what is built for users
+abbrev pub BuiltIsHad : Type 0
+BuiltIsHad = (s : State) (c : Command) → is_built c ≡ true → HasCommand s c

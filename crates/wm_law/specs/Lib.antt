@@ -3,6 +3,7 @@ pub mod Choice
 pub mod Counts
 pub mod Fit
 pub mod History
+pub mod Jobs
 pub mod Kept
 pub mod Launch
 pub mod Laws
@@ -10,5 +11,9 @@ pub mod Machine
 pub mod Making
 pub mod Opening
 pub mod Pending
-pub mod Request
+pub mod Power
+pub mod Reports
+pub mod Settling
 pub mod Stepped
+pub mod Submitting
+pub mod Subsystems

@@ -1,5 +1,5 @@
 -- The state that an empty store opens with: what eight commands make of no objects.
-use Rattle.std.specs.Prelude.{ℕ, codes, List, [], ◌∷◌, fold, false, pos, replicate, None}
+use Rattle.std.specs.Prelude.{ℕ, ℤ, codes, List, [], ◌∷◌, fold, false, replicate, None}
 use Rattle.wm_base.specs.declared.limit.Limit.TheVariants.{NoMax, Most}
 use Rattle.wm_base.specs.declared.qname.QName.{QName}
 use Rattle.wm_desc.specs.declared.entry.Cmp.TheVariants.{Any}
@@ -75,9 +75,9 @@ opening_commands =
     ∷ command.Addrtge addrtge_qbatch
     ∷ []
 
--- no objects and no job, for local time that is UTC
-abbrev pub empty : State
-empty =
+-- no objects and no job, for local time so many minutes ahead of UTC
+abbrev pub empty : ℤ → State
+empty offset =
     record {
       objects = record { classes = []; jobqs = []; programs = []; jobds = []; sbsds = [] };
       jobs = [];
@@ -89,7 +89,7 @@ empty =
       next_serial = 1;
       next_place = 1;
       clock = 0;
-      offset_min = pos 0;
+      offset_min = offset;
       power = On;
     }
 
@@ -98,5 +98,5 @@ abbrev pub changed_by : List ℕ → State → List Command → State
 changed_by user s commands = fold (λ t c. (change t user c).state) s commands
 
 -- the state of no rows: what the machine makes of the opening commands by QSYS
-unfoldable pub opening : State
-opening = changed_by (codes "QSYS") empty opening_commands
+unfoldable pub opening : ℤ → State
+opening offset = changed_by (codes "QSYS") (empty offset) opening_commands

@@ -1,5 +1,6 @@
 // Jobs.
 use wm_base::{EndCause, How, JobName, Moment, Priority, QName, Serial, Text};
+use wm_clwords::Request;
 
 /// How a job came to be: submitted (BCH), autostart (ASJ) or prestart (PJ).
 #[derive(Clone, Copy, Debug, PartialEq, Eq)]
@@ -47,7 +48,7 @@ pub struct Job {
     pub pty: Priority,
     pub place: u64,
     pub rtgdta: Text,
-    pub rqsdta: Option<Text>,
+    pub rqsdta: Option<Request>,
     pub held: bool,
     pub due: Moment,
     pub phase: Phase,

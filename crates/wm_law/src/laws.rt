@@ -1,6 +1,14 @@
 // Laws of the machine: what its definitions come to, each for all states. They are no calls.
-ghost use Rattle.wm_law.specs.Laws.{NextIsFirst, NoNextIsNone, RouteIsLeast, NoRouteIsNone, SettledHasNoNext, SettledLeavesNone, RefusalLeaves, RefusedStepSettles, ValuesAreRead};
-ghost use Rattle.wm_law.specs.Kept.{OpeningIsNumbered, StepKeepsNumbers, NumbersAreGivenOnce, StepGoesOn, StartsOnce, SerialsStartOnce, OpeningHasOrders, StepKeepsOrders, StartingJobsHaveOrders, HandGivesAnOrder, ReachedRouteIsLeast, StepKeepsDescriptions, StartedAreDescribed, StepKeepsQuiet, NoneIsActiveWithoutPower, OpeningHasDistinctNames, StepKeepsNamesDistinct, StartedNamesAreDistinct};
+ghost use Rattle.wm_law.specs.Laws.{FirstIsLeast, NoFirstIsNone, NextIsFirst, NoNextIsNone, RouteIsLeast, NoRouteIsNone, SettledHasNoNext, SettledLeavesNone, RefusalLeaves, RefusedStepSettles, BuiltCallsAreAnswered, BuiltIsHad};
+ghost use Rattle.wm_law.specs.Kept.{OpeningIsNumbered, StepKeepsNumbers, NumbersAreGivenOnce, StepGoesOn, SerialsStartOnce, OpeningHasOrders, StepKeepsOrders, StartingJobsHaveOrders, HandGivesAnOrder, ReachedRouteIsLeast, OpeningHasDescriptions, StepKeepsDescriptions, StartedAreDescribed, OpeningIsQuiet, StepKeepsQuiet, NoneIsActiveWithoutPower, OpeningHasDistinctNames, StepKeepsNamesDistinct, StartedNamesAreDistinct, StartsInOrder};
+
+/// The first job of a subsystem may start there, and no other job that may start there stands before
+/// it. Where there is no first job, no job may start there.
+#[tactic(auto, using(crate::proofs::Firsts::first_is_least, crate::proofs::Firsts::no_first_is_none))]
+pub fn first_job_is_least()
+    ensures first { FirstIsLeast }
+    ensures none { NoFirstIsNone }
+{}
 
 /// The next job is the first of its subsystem: it may start, and no other job there that may start
 /// stands before it. No job may start in a subsystem whose simple name comes before. Where there is
@@ -20,7 +28,7 @@ pub fn routes_are_least()
 {}
 
 /// Once the state has settled, no job may start.
-#[tactic(auto, using(crate::proofs::Settling::settled_has_no_next, crate::proofs::Firsts::settled_leaves_none))]
+#[tactic(auto, using(crate::proofs::Settling::settled_has_no_next, crate::proofs::Settling::settled_leaves_none))]
 pub fn settling_leaves_none()
     ensures next { SettledHasNoNext }
     ensures none { SettledLeavesNone }
@@ -34,7 +42,6 @@ pub fn refusals_leave_the_state()
 {}
 
 /// No serial, job number or place is given twice, and the next ones stay in their ranges.
-#[tactic(auto, using(crate::proofs::Numbers::opening_is_numbered))]
 pub fn numbers_are_given_once()
     ensures opening { OpeningIsNumbered }
     ensures step { StepKeepsNumbers }
@@ -47,11 +54,11 @@ pub fn jobs_go_forward()
     ensures { StepGoesOn }
 {}
 
-/// A legal history orders each serial to start at most once, whichever monitors ask.
-#[tactic(auto, using(crate::proofs::Starts::starts_once, crate::proofs::Starts::serials_start_once))]
+/// From a numbered state, as the opening one is, a legal history orders each serial to start at most once,
+/// whichever monitors ask.
+#[tactic(auto, using(crate::proofs::Starts::serials_start_once))]
 pub fn serials_start_once()
-    ensures state { StartsOnce }
-    ensures opening { SerialsStartOnce }
+    ensures { SerialsStartOnce }
 {}
 
 /// Each Starting job has its order, so Hand answers Nothing exactly where no job is Starting.
@@ -69,20 +76,35 @@ pub fn started_names_are_distinct()
     ensures always { StartedNamesAreDistinct }
 {}
 
+/// Settling's last part goes over the started subsystems in the order of their simple names, and launches
+/// each one's first job while it has one.
+#[tactic(auto, using(crate::proofs::InTurn::starts_in_order))]
+pub fn jobs_start_in_order()
+    ensures { StartsInOrder }
+{}
+
 /// Each started subsystem has its description.
 pub fn started_are_described()
+    ensures opening { OpeningHasDescriptions }
     ensures step { StepKeepsDescriptions }
     ensures always { StartedAreDescribed }
 {}
 
 /// Where the power isn't On, no started subsystem is Active.
 pub fn none_is_active_without_power()
+    ensures opening { OpeningIsQuiet }
     ensures step { StepKeepsQuiet }
     ensures always { NoneIsActiveWithoutPower }
 {}
 
-/// The canonical text of a CALL of QGPL/ECHO is read as a CALL with the same values.
-#[tactic(auto, using(crate::proofs::Requests::values_are_read))]
-pub fn requests_keep_their_values()
-    ensures { ValuesAreRead }
+/// A call that the machine has is never answered Nothing, Hand aside.
+#[tactic(auto, using(crate::proofs::Answered::built_calls_are_answered))]
+pub fn built_calls_are_answered()
+    ensures { BuiltCallsAreAnswered }
+{}
+
+/// The machine has what is built for users.
+#[tactic(auto, using(crate::proofs::Had::built_is_had))]
+pub fn built_commands_are_had()
+    ensures { BuiltIsHad }
 {}

@@ -1,29 +1,22 @@
-//! The machine as definitions, and the plain program that computes them.
+//! The machine as definitions: the types of its state, calls and replies, the rules, and the laws that follow from them.
 //!
-//! The contract for the layer above: `State::step` answers what the definition `step` of
-//! `specs/Machine.antt` gives, and leaves the state that it gives. A history is legal where each
-//! reply in it is that of the machine (`specs/History.antt`).
+//! The contract for the layers above: the definition `step` of `specs/Machine.antt` says what the machine answers and
+//! leaves, and `specs/History.antt` which histories are legal; the laws of `laws.rs` hold for all of them. No program
+//! stands here: `wm_pick` and `wm_core` compute what these definitions say.
+//!
+//! The definitions are in `specs/`: `Machine` (a step), and by subject `Making`, `Subsystems`, `Submitting`, `Power`,
+//! `Reports` and `Settling`; `Choice` and `Launch` (which job starts, and what becomes of it); `Jobs` (a change to one
+//! job); `Counts`; `Opening`; `Pending` (what a monitor asks); `Fit` (which calls the machine has, and their ranges); `Laws` and `Kept` (the laws).
 #![tactic(auto)]
 
 mod call;
 mod choice;
 mod command;
-mod commands;
-mod counts;
 mod job;
-mod jobs;
 mod launch;
 mod laws;
 mod list;
-mod machine;
-mod making;
-mod not_built;
-mod opening;
-mod parms;
 mod pending;
-mod reports;
-mod request;
-mod settle;
 mod state;
 
 pub use call::{Call, Entry, Reply};
@@ -36,14 +29,11 @@ pub use command::{
 pub use job::{Job, JobKind, Phase, Why, Wish};
 pub use launch::Launched;
 pub use laws::{
-    jobs_go_forward, next_job_is_first, none_is_active_without_power, numbers_are_given_once,
-    refusals_leave_the_state, requests_keep_their_values, routes_are_least, serials_start_once,
-    settling_leaves_none, started_are_described, started_names_are_distinct,
-    starting_jobs_have_orders,
+    built_calls_are_answered, built_commands_are_had, first_job_is_least, jobs_go_forward,
+    jobs_start_in_order, next_job_is_first, none_is_active_without_power, numbers_are_given_once,
+    refusals_leave_the_state, routes_are_least, serials_start_once, settling_leaves_none,
+    started_are_described, started_names_are_distinct, starting_jobs_have_orders,
 };
 pub use list::ListOf;
-pub use not_built::{NotBuilt, built, built_commands_are_had};
-pub use opening::opening_commands;
-pub use parms::{is_call, values_of};
-pub use request::{Place, Progress, Values};
-pub use state::{Evoke, Power, Sbs, SbsPhase, State, Stop};
+pub use pending::Pending;
+pub use state::{Evoke, Evokes, Jobs, Power, QNames, Sbs, SbsList, SbsPhase, State, Stop, Stops};

@@ -1,13 +1,14 @@
 // The lists that the state's records hold.
 ghost use Rattle.std.specs.Prelude.{◌≡◌, ◌++◌, ◌∷◌, [], length, OnOk, OnErr};
 
-use std::alloc::{AllocError, Global};
+use std::alloc::Global;
 use std::marker::Model;
+use wm_base::NoMemory;
 
-/// A list that a record of the state holds. A contract sees it as the list of its items.
+/// A list of the state, made from a `Vec` and giving it back. A contract sees it as the list of its items.
 #[derive(Debug, Drop)]
 pub struct ListOf<T> {
-    pub(crate) items: Vec<T>,
+    pub items: Vec<T>,
 }
 
 impl<T> Model for ListOf<T> {
@@ -39,11 +40,18 @@ impl<T> ListOf<T> {
     {
         self.items.len()
     }
+
+    /// The items, which take no memory to give back.
+    pub fn into_vec(self) -> Vec<T>
+        ensures { result.items ≡ self }
+    {
+        self.items
+    }
 }
 
 impl<T: Drop> ListOf<T> {
     /// Adds an item at the end.
-    pub fn push(&mut self, item: T) -> Result<(), AllocError>
+    pub fn push(&mut self, item: T) -> Result<(), NoMemory>
         ensures ok { OnOk result (self.new ≡ self.old ++ item ∷ []) }
         ensures err { OnErr result (self.new ≡ self.old) }
     {

@@ -41,16 +41,31 @@ pub enum Power {
     DownNow,
 }
 
+/// Jobs, in the order of their serials.
+pub type Jobs = ListOf<Job>;
+
+/// Started subsystems, in the order of their start.
+pub type SbsList = ListOf<Sbs>;
+
+/// Names of queues.
+pub type QNames = ListOf<QName>;
+
+/// Prestart entries that make no jobs.
+pub type Stops = ListOf<Stop>;
+
+/// Requests that wait, in the order of their arrival.
+pub type Evokes = ListOf<Evoke>;
+
 /// The state of the machine. `jobs` stands in the order of serials, `started` in the order of start,
 /// `held` has the held queues.
 #[derive(Debug, Drop)]
 pub struct State {
     pub objects: Objects,
-    pub jobs: ListOf<Job>,
-    pub started: ListOf<Sbs>,
-    pub held: ListOf<QName>,
-    pub stopped: ListOf<Stop>,
-    pub evokes: ListOf<Evoke>,
+    pub jobs: Jobs,
+    pub started: SbsList,
+    pub held: QNames,
+    pub stopped: Stops,
+    pub evokes: Evokes,
     pub next_number: u32,
     pub next_serial: u64,
     pub next_place: u64,

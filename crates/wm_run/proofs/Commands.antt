@@ -1,38 +1,33 @@
 -- What the call of a user's command is answered by.
-use Rattle.std.proofs.Common.{◌≡◌, ℕ, Bool, true, List, [], ◌∷◌, ◌++◌, Option, Some, ap, sym, subst, ◌∙◌, refl, take}
+use Rattle.std.proofs.Common.{◌≡◌, ℕ, Bool, true, List, [], ◌∷◌, ◌++◌, Option, Some, ap, subst, ◌∙◌, refl, take}
 use Rattle.std.specs.List.{list_all}
 use Rattle.std.specs.Option.{IfSome}
-use Rattle.wm_base.specs.declared.job.Asked.{Asked}
-use Rattle.wm_outside.specs.declared.spawner.Told.{Told}
 use Rattle.wm_law.specs.declared.call.Call.TheVariants.{Change}
 use Rattle.wm_law.specs.declared.call.Entry.{Entry}
 use Rattle.wm_law.specs.declared.command.Command.{Command}
-use Rattle.wm_law.specs.History.{entries_of}
+use Rattle.wm_floor.specs.History.{History, entry_at, last_of}
+use Rattle.wm_floor.proofs.Histories.{last_of-call}
 use Rattle.wm_outside.specs.Told.{Grows}
+use Rattle.wm_run.specs.Answer.{entry_text, with_end, is_refused}
 use Rattle.wm_run.specs.Calls.{Called}
-use Rattle.wm_run.specs.Floor.{entry_at, last_of}
 use Rattle.wm_run.specs.Lists.{since, Extends}
 use Rattle.wm_run.specs.Monitor.{is_own}
-use Rattle.wm_run.specs.Reading.{session_user}
-use Rattle.wm_run.specs.Said.{entry_text, with_end, is_refused}
+use Rattle.wm_run.specs.Parsed.{session_user}
+use Rattle.wm_run.specs.Serving.{session_entries}
 use Rattle.wm_run.specs.Session.{AnsweredBy, Calls, session_pass}
 use Rattle.wm_run.specs.Stopped.{WritesSome}
-use Rattle.wm_run.proofs.Monitors.{last_of-push}
-use Rattle.wm_run.specs.Serving.{Serves}
-use Rattle.wm_run.specs.View.{view}
-use Rattle.wm_run.specs.declared.monitor.Monitor.{Monitor}
-use Rattle.wm_run.proofs.Servings.{Extends-called, Serves-none, session_entries-called, session_entries-own, session_entries-then}
+use Rattle.wm_run.proofs.Servings.{Extends-called, session_entries-called, session_entries-own, session_entries-then}
 
 -- its entry, what is said of it, and then entries of the monitor
-pub commanded : (old mid new : List Entry) (c : Command) (before now : Option (List ℕ)) (refused : Bool) → Called old (Change session_user c) mid → Extends mid new → list_all is_own (since mid new) ≡ true → IfSome (last_of mid) (λ e. Grows before now (with_end (entry_text e)) × (refused ≡ is_refused e.reply)) → AnsweredBy (Calls c) (entries_of session_pass (since old new)) before now refused
+pub commanded : (old mid new : History) (c : Command) (before now : Option (List ℕ)) (refused : Bool) → Called old (Change session_user c) mid → Extends mid.log new.log → list_all is_own (since mid.log new.log) ≡ true → IfSome (last_of mid) (λ e. Grows before now (with_end (entry_text e)) × (refused ≡ is_refused e.reply)) → AnsweredBy (Calls c) (session_entries old new) before now refused
 commanded old mid new c before now refused h grown own said =
     let call = Change session_user c in
     let e = entry_at old session_pass call h.now in
-    let last : last_of mid ≡ Some e = ap last_of h.entry ∙ last_of-push old e in
+    let last : last_of mid ≡ Some e = ap last_of h.made ∙ last_of-call old session_pass call h.now in
     let says = subst (λ (o : Option Entry). IfSome o (λ x. Grows before now (with_end (entry_text x)) × (refused ≡ is_refused x.reply))) last said in
     let es = session_entries-then old mid new (Extends-called old mid call h) grown in
-    let one = ap (λ (xs : List Entry). xs ++ entries_of session_pass (since mid new)) (session_entries-called old mid call h) in
-    let none = ap (λ (xs : List Entry). (e ∷ []) ++ xs) (session_entries-own (since mid new) own) in
+    let one = ap (λ (xs : List Entry). xs ++ session_entries mid new) (session_entries-called old mid call h) in
+    let none = ap (λ (xs : List Entry). (e ∷ []) ++ xs) (session_entries-own (since mid.log new.log) own) in
     record {
       bytes = with_end (entry_text e);
       answers = record { entry = e; only = es ∙ (one ∙ none); call = refl; says = refl; refused = says.1 };
@@ -40,11 +35,11 @@ commanded old mid new c before now refused h grown own said =
     }
 
 -- what is said was written in part
-pub commanded_some : (old mid : List Entry) (c : Command) (before now : Option (List ℕ)) → Called old (Change session_user c) mid → IfSome (last_of mid) (λ e. (n : ℕ) × Grows before now (take n (with_end (entry_text e)))) → WritesSome (Calls c) (entries_of session_pass (since old mid)) before now
+pub commanded_some : (old mid : History) (c : Command) (before now : Option (List ℕ)) → Called old (Change session_user c) mid → IfSome (last_of mid) (λ e. (n : ℕ) × Grows before now (take n (with_end (entry_text e)))) → WritesSome (Calls c) (session_entries old mid) before now
 commanded_some old mid c before now h said =
     let call = Change session_user c in
     let e = entry_at old session_pass call h.now in
-    let last : last_of mid ≡ Some e = ap last_of h.entry ∙ last_of-push old e in
+    let last : last_of mid ≡ Some e = ap last_of h.made ∙ last_of-call old session_pass call h.now in
     let says = subst (λ (o : Option Entry). IfSome o (λ x. (n : ℕ) × Grows before now (take n (with_end (entry_text x))))) last said in
     record {
       due = with_end (entry_text e);
@@ -53,9 +48,3 @@ commanded_some old mid c before now h said =
       count = says.0;
       written = says.1;
     }
-
--- a call that wasn't made leaves all as it was
-pub Serves-same : (old new : List Entry) (m n : Monitor) (asked : Option (List Asked)) (told : Option (List Told)) (misses : ℕ) → new ≡ old → n ≡ m → Serves (view old m asked told misses) (view new n asked told misses)
-Serves-same old new m n asked told misses same kept =
-    let v = view old m asked told misses in
-    subst (λ (x : List Entry). Serves v (view x n asked told misses)) (sym same) (subst (λ (k : Monitor). Serves v (view old k asked told misses)) (sym kept) (Serves-none v))

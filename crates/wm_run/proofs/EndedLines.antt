@@ -1,8 +1,7 @@
 -- The lines that have ended where a part of a line is left.
-use Rattle.std.proofs.Common.{◌≡◌, ℕ, ◌+◌, ◌||◌, Bool, true, false, not, cond, List, [], ◌∷◌, ◌++◌, length, nat_lt, Option, Some, None, sym, ap, subst, ◌∙◌, refl}
-use Rattle.std.proofs.lemmas.Bool.{false≢true}
+use Rattle.std.proofs.Common.{◌≡◌, ℕ, ◌+◌, ◌||◌, Bool, true, false, not, cond, List, [], ◌∷◌, ◌++◌, length, nat_lt, Option, Some, None, ap, ◌∙◌, refl}
 use Rattle.wm_clwords.specs.Lines.{is_empty, sign_byte, by_sign}
-use Rattle.wm_clwords.specs.Part.{Part, fresh, begun, with_cr, with_solid, with_byte, has_rest, answer, at_end, finished, unsigned, joined_on, said, lines_from}
+use Rattle.wm_clwords.specs.Part.{Part, fresh, begun, with_cr, with_solid, has_rest, answer, at_end, finished, unsigned, joined_on, ended_lines, lines_from}
 use Rattle.wm_clwords.specs.declared.line.Sign.{Sign}
 use Rattle.wm_clwords.specs.declared.line.Sign.TheVariants.{No}
 use Rattle.wm_clwords.specs.declared.line.LogicalLine.{LogicalLine}
@@ -25,17 +24,17 @@ same_end : (p : Part) → p.ended ≡ false → p.cr ≡ false → p.sign ≡ No
 same_end p not_ended no_cr no_sign = ap (λ (q : Part). unsigned (with_cr q)) (same_begun p not_ended) ∙ (ap unsigned (same_cr p no_cr) ∙ same_unsigned p no_sign)
 
 -- an answer says one line
-said_one : (is_long : Bool) (p : Part) → (last : Option (List ℕ)) × (said (Some (cond is_long Long Command)) p ≡ last ∷ [])
-said_one true p = (None, refl)
-said_one false p = (Some p.line, refl)
+one_ended : (is_long : Bool) (p : Part) → (last : Option (List ℕ)) × (ended_lines (Some (cond is_long Long Command)) p ≡ last ∷ [])
+one_ended true p = (None, refl)
+one_ended false p = (Some p.line, refl)
 
 -- a line that has begun ends with the input
 one_line : (p : Part) → p.ended ≡ false → p.cr ≡ false → p.sign ≡ No → is_empty p.line ≡ false → (last : Option (List ℕ)) × (lines_from p [] ≡ last ∷ [])
 one_line p not_ended no_cr no_sign some =
     let rests : has_rest (begun p) ≡ true = ap has_rest (same_begun p not_ended) ∙ (ap (λ (b : Bool). (p.joined || p.cr) || not b) some ∙ or_true (p.joined || p.cr)) in
     let answers : answer (at_end p) ≡ Some (cond (p.long || nat_lt 8192 p.solid) Long Command) = ap answer (same_end p not_ended no_cr no_sign) ∙ ap (λ (s : Sign). by_sign s (Some (cond (p.long || nat_lt 8192 p.solid) Long Command)) None None) no_sign in
-    let one = said_one (p.long || nat_lt 8192 p.solid) (finished (at_end p)) in
-    (one.0, ap (λ (b : Bool). cond b (said (answer (at_end p)) (finished (at_end p))) []) rests ∙ (ap (λ (a : Option LogicalLine). said a (finished (at_end p))) answers ∙ one.1))
+    let one = one_ended (p.long || nat_lt 8192 p.solid) (finished (at_end p)) in
+    (one.0, ap (λ (b : Bool). cond b (ended_lines (answer (at_end p)) (finished (at_end p))) []) rests ∙ (ap (λ (a : Option LogicalLine). ended_lines a (finished (at_end p))) answers ∙ one.1))
 
 solid_cr : (p : Part) (byte : ℕ) → (with_solid p byte).cr ≡ p.cr
 solid_cr p byte = elim (nat_lt (length p.line) 8193) as (λ b. (cond b (record p { line = p.line ++ byte ∷ []; solid = length p.line + 1; sign = sign_byte byte; skips = false }) (record p { sign = sign_byte byte; skips = false; long = true })).cr ≡ p.cr) [ true ↦ refl | false ↦ refl ]

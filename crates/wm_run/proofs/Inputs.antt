@@ -1,40 +1,41 @@
 -- Laws of an input that is taken piece by piece.
-use Rattle.std.proofs.Common.{◌≡◌, ℕ, ◌+◌, ◌||◌, Bool, false, List, [], ◌++◌, length, Option, sym, ap, subst, ◌∙◌, arith}
-use Rattle.std.proofs.lemmas.List.{append-nil, length-append}
+use Rattle.std.proofs.Common.{◌≡◌, ℕ, ◌||◌, Bool, false, List, [], ◌++◌, Option, sym, ap, subst, ◌∙◌}
+use Rattle.std.proofs.lemmas.List.{append-nil}
 use Rattle.wm_clwords.specs.Lines.{logical_lines}
 use Rattle.wm_clwords.specs.Part.{Part, fresh, lines_from}
 use Rattle.wm_clwords.proofs.LinesLaw.{lines_from-fresh}
 use Rattle.wm_law.specs.declared.call.Entry.{Entry}
-use Rattle.wm_law.specs.History.{entries_of}
+use Rattle.wm_floor.specs.History.{History}
 use Rattle.wm_outside.specs.Told.{Takes}
 use Rattle.wm_outside.proofs.Telling.{Takes-none, Takes-then}
-use Rattle.wm_run.specs.Lists.{since, Extends}
-use Rattle.wm_run.specs.Session.{Answers, AnsweredBy, session_pass}
+use Rattle.wm_run.specs.Lists.{Extends}
+use Rattle.wm_run.specs.Serving.{session_entries}
+use Rattle.wm_run.specs.Session.{Answers, AnsweredBy}
 use Rattle.wm_run.specs.Taking.{TakesPiece, TakesInput}
 use Rattle.wm_run.proofs.Servings.{session_entries-none, session_entries-then}
 use Rattle.wm_run.proofs.Takings.{AnsweredBy-append, AnsweredBy-none, TakesPiece-none, TakesPiece-then, TakesPiece-more, TakesPiece-lines}
 
 -- no entry and no line
-pub answered_none : (log : List Entry) (w : Option (List ℕ)) → AnsweredBy (Answers []) (entries_of session_pass (since log log)) w w false
-answered_none log w = subst (λ (es : List Entry). AnsweredBy (Answers []) es w w false) (sym (session_entries-none log)) (AnsweredBy-none w)
+pub answered_none : (floor : History) (w : Option (List ℕ)) → AnsweredBy (Answers []) (session_entries floor floor) w w false
+answered_none floor w = subst (λ (es : List Entry). AnsweredBy (Answers []) es w w false) (sym (session_entries-none floor)) (AnsweredBy-none w)
 
 -- nothing taken, with the session's entries
-pub taken_none : (a b : Part) (piece : List ℕ) (log : List Entry) (w : Option (List ℕ)) → ((more : List ℕ) → lines_from a more ≡ lines_from b more) → TakesPiece a piece b piece (entries_of session_pass (since log log)) w w false
-taken_none a b piece log w same = subst (λ (es : List Entry). TakesPiece a piece b piece es w w false) (sym (session_entries-none log)) (TakesPiece-none a b piece w same)
+pub taken_none : (a b : Part) (piece : List ℕ) (floor : History) (w : Option (List ℕ)) → ((more : List ℕ) → lines_from a more ≡ lines_from b more) → TakesPiece a piece b piece (session_entries floor floor) w w false
+taken_none a b piece floor w same = subst (λ (es : List Entry). TakesPiece a piece b piece es w w false) (sym (session_entries-none floor)) (TakesPiece-none a b piece w same)
 
 -- a part of a piece, and then some of the rest
-pub taken_then : (a b c : Part) (piece rest last : List ℕ) (old mid new : List Entry) (u v w : Option (List ℕ)) (f g h : Bool) → h ≡ (f || g) → Extends old mid → Extends mid new → TakesPiece a piece b rest (entries_of session_pass (since old mid)) u v f → TakesPiece b rest c last (entries_of session_pass (since mid new)) v w g → TakesPiece a piece c last (entries_of session_pass (since old new)) u w h
+pub taken_then : (a b c : Part) (piece rest last : List ℕ) (old mid new : History) (u v w : Option (List ℕ)) (f g h : Bool) → h ≡ (f || g) → Extends old.log mid.log → Extends mid.log new.log → TakesPiece a piece b rest (session_entries old mid) u v f → TakesPiece b rest c last (session_entries mid new) v w g → TakesPiece a piece c last (session_entries old new) u w h
 taken_then a b c piece rest last old mid new u v w f g h is begun grown first second =
-    subst (λ (t : Bool). TakesPiece a piece c last (entries_of session_pass (since old new)) u w t) (sym is)
+    subst (λ (t : Bool). TakesPiece a piece c last (session_entries old new) u w t) (sym is)
     (subst (λ (es : List Entry). TakesPiece a piece c last es u w (f || g)) (sym (session_entries-then old mid new begun grown)) (TakesPiece-then a b c piece rest last _ _ u v w f g first second))
 
 -- no input taken
-abbrev pub input_none : (b : Part) (x : Option (List ℕ)) (log : List Entry) (w : Option (List ℕ)) → ((bytes : List ℕ) → lines_from b bytes ≡ logical_lines bytes) → TakesInput x x (λ bytes. TakesPiece fresh bytes b [] (entries_of session_pass (since log log)) w w false)
-input_none b x log w begins =
-    record { bytes = []; taken = Takes-none x; done = taken_none fresh b [] log w (λ more. lines_from-fresh more ∙ sym (begins more)) }
+abbrev pub input_none : (b : Part) (x : Option (List ℕ)) (floor : History) (w : Option (List ℕ)) → ((bytes : List ℕ) → lines_from b bytes ≡ logical_lines bytes) → TakesInput x x (λ bytes. TakesPiece fresh bytes b [] (session_entries floor floor) w w false)
+input_none b x floor w begins =
+    record { bytes = []; taken = Takes-none x; done = taken_none fresh b [] floor w (λ more. lines_from-fresh more ∙ sym (begins more)) }
 
 -- some of it, and then some more
-abbrev pub input_then : (x y z : Option (List ℕ)) (b c : Part) (ys : List ℕ) (old mid new : List Entry) (u v w : Option (List ℕ)) (f g h : Bool) → h ≡ (f || g) → Extends old mid → Extends mid new → TakesInput x y (λ bytes. TakesPiece fresh bytes b [] (entries_of session_pass (since old mid)) u v f) → Takes y ys z → TakesPiece b ys c [] (entries_of session_pass (since mid new)) v w g → TakesInput x z (λ bytes. TakesPiece fresh bytes c [] (entries_of session_pass (since old new)) u w h)
+abbrev pub input_then : (x y z : Option (List ℕ)) (b c : Part) (ys : List ℕ) (old mid new : History) (u v w : Option (List ℕ)) (f g h : Bool) → h ≡ (f || g) → Extends old.log mid.log → Extends mid.log new.log → TakesInput x y (λ bytes. TakesPiece fresh bytes b [] (session_entries old mid) u v f) → Takes y ys z → TakesPiece b ys c [] (session_entries mid new) v w g → TakesInput x z (λ bytes. TakesPiece fresh bytes c [] (session_entries old new) u w h)
 input_then x y z b c ys old mid new u v w f g h is begun grown first more second =
     let xs = first.bytes in
     record {
@@ -44,7 +45,7 @@ input_then x y z b c ys old mid new u v w f g h is begun grown first more second
     }
 
 -- the line that ends with the input is answered
-abbrev pub input_end : (x y : Option (List ℕ)) (b : Part) (old mid new : List Entry) (u v w : Option (List ℕ)) (f g h : Bool) → h ≡ (f || g) → Extends old mid → Extends mid new → TakesInput x y (λ bytes. TakesPiece fresh bytes b [] (entries_of session_pass (since old mid)) u v f) → AnsweredBy (Answers (lines_from b [])) (entries_of session_pass (since mid new)) v w g → TakesInput x y (λ bytes. AnsweredBy (Answers (logical_lines bytes)) (entries_of session_pass (since old new)) u w h)
+abbrev pub input_end : (x y : Option (List ℕ)) (b : Part) (old mid new : History) (u v w : Option (List ℕ)) (f g h : Bool) → h ≡ (f || g) → Extends old.log mid.log → Extends mid.log new.log → TakesInput x y (λ bytes. TakesPiece fresh bytes b [] (session_entries old mid) u v f) → AnsweredBy (Answers (lines_from b [])) (session_entries mid new) v w g → TakesInput x y (λ bytes. AnsweredBy (Answers (logical_lines bytes)) (session_entries old new) u w h)
 input_end x y b old mid new u v w f g h is begun grown taken ended =
     let xs = taken.bytes in
     let d = taken.done in
@@ -53,7 +54,7 @@ input_end x y b old mid new u v w f g h is begun grown taken ended =
     record {
       bytes = xs;
       taken = taken.taken;
-      done = subst (λ (t : Bool). AnsweredBy (Answers (logical_lines xs)) (entries_of session_pass (since old new)) u w t) (sym is)
+      done = subst (λ (t : Bool). AnsweredBy (Answers (logical_lines xs)) (session_entries old new) u w t) (sym is)
           (subst (λ (es : List Entry). AnsweredBy (Answers (logical_lines xs)) es u w (f || g)) (sym (session_entries-then old mid new begun grown))
-          (subst (λ (l : List (Option (List ℕ))). AnsweredBy (Answers l) (entries_of session_pass (since old mid) ++ entries_of session_pass (since mid new)) u w (f || g)) (sym lines) both));
+          (subst (λ (l : List (Option (List ℕ))). AnsweredBy (Answers l) (session_entries old mid ++ session_entries mid new) u w (f || g)) (sym lines) both));
     }

@@ -1,4 +1,3 @@
-pub mod Floors
 pub mod Monitors
 pub mod Turns
 pub mod MonitorLoops

@@ -21,9 +21,9 @@ pub record HandLoop (old new : MonitorView) (before now : ℕ) (kept : Option Re
   pub part : Advances old new
   pub none : kept ≡ None
   pub faults : before ≤ now
-  pub hands : made ≤ hands_of (since old.log new.log)
-  pub most : hands_of (since old.log new.log) ≤ made
-  pub quiet : (reporting_now ≡ reporting_before) ⊎ (length old.log < length new.log)
+  pub hands : made ≤ hands_of (since old.history.log new.history.log)
+  pub most : hands_of (since old.history.log new.history.log) ≤ made
+  pub quiet : (reporting_now ≡ reporting_before) ⊎ (length old.history.log < length new.history.log)
 
 -- a part has been done with so many looks, each with an entry, no report is kept, and no count has fallen; no look has
 -- been made yet, or the history is longer
@@ -31,6 +31,6 @@ pub record LookLoop (old new : MonitorView) (before now : ℕ) (kept : Option Re
   pub part : Advances old new
   pub none : kept ≡ None
   pub faults : before ≤ now
-  pub count : made ≤ length (since old.log new.log)
-  pub most : length new.log ≤ length old.log + made
-  pub looks : ((made ≡ 0) × (reporting_now ≡ reporting_before)) ⊎ (length old.log < length new.log)
+  pub count : made ≤ length (since old.history.log new.history.log)
+  pub most : length new.history.log ≤ length old.history.log + made
+  pub looks : ((made ≡ 0) × (reporting_now ≡ reporting_before)) ⊎ (length old.history.log < length new.history.log)

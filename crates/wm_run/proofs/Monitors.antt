@@ -1,24 +1,23 @@
--- Laws of a monitor's part: nothing, and one part after another.
-use Rattle.std.proofs.Common.{◌≡◌, ℕ, ◌+◌, ◌-◌, ◌<◌, ◌≤◌, ◌&&◌, Bool, true, false, List, [], ◌∷◌, ◌++◌, length, map, Option, Some, None, IfSome, option_to_list, sym, ap, subst, ◌∙◌, refl, append_assoc, cond, arith}
+-- Laws of what is done: nothing, one thing after another, and the parts of a monitor.
+use Rattle.std.proofs.Common.{◌≡◌, ℕ, ◌+◌, ◌<◌, ◌≤◌, ◌&&◌, Bool, true, false, List, [], ◌∷◌, ◌++◌, length, map, Option, Some, None, IfSome, option_to_list, sym, ap, subst, ◌∙◌, refl, append_assoc, cond, arith}
 use Rattle.std.specs.List.{list_all, filter_map, count_by}
 use Rattle.std.proofs.Math.Seq.{drop-append_seam}
 use Rattle.std.proofs.lemmas.List.Folds.{list_all-append}
 use Rattle.std.proofs.lemmas.List.Elements.{filter_map-append}
-use Rattle.std.specs.List.{slice_get}
-use Rattle.std.specs.Option.{option_and_then}
-use Rattle.std.proofs.lemmas.List.{append-nil, length-append, length_push}
+use Rattle.std.proofs.lemmas.List.{append-nil, length-append}
 use Rattle.std.proofs.lemmas.List.Sums.{sum_by-append}
 use Rattle.wm_base.specs.declared.job.Asked.{Asked}
 use Rattle.wm_law.specs.declared.call.Call.{Call}
 use Rattle.wm_law.specs.declared.call.Entry.{Entry}
 use Rattle.wm_law.specs.History.{is_monitor_call, is_hand, is_report, order_in, ordered, orders, reported_in, reports}
 use Rattle.wm_law.specs.declared.call.Call.TheVariants as call
+use Rattle.wm_floor.specs.History.{History, entry_at, with_call, last_order}
+use Rattle.wm_floor.proofs.Histories.{last_order-call}
 use Rattle.wm_outside.specs.declared.spawner.Told.{Told}
 use Rattle.wm_outside.specs.Told.{Grows}
 use Rattle.wm_outside.proofs.Telling.{Grows-none, Grows-then}
 use Rattle.wm_run.specs.Lists.{since, Extends}
-use Rattle.wm_run.specs.Monitor.{MonitorView, Advances, BeginsWithHand, HandsAt, RisesBy, hands_of, is_own, is_spawner_fault, monitor_pass, reported, call_of, as_reports}
-use Rattle.wm_run.specs.Floor.{entry_at, last_of, last_order}
+use Rattle.wm_run.specs.Monitor.{MonitorView, Proceeds, Advances, BeginsWithHand, HandsAt, RisesBy, hands_of, is_own, is_spawner_fault, monitor_pass, reported, call_of, as_reports}
 use Rattle.wm_run.specs.View.{view}
 use Rattle.wm_run.specs.declared.monitor.Monitor.{Monitor}
 use Rattle.wm_run.specs.declared.report.Report.{Report}
@@ -54,41 +53,43 @@ count-append xs ys = sum_by-append (λ x. cond (is_spawner_fault x) 1 0) xs ys
 pub RisesBy-then : (a b c m n k : ℕ) → k ≡ m + n → RisesBy a m b → RisesBy b n c → RisesBy a k c
 RisesBy-then a b c m n k e h i = omega arith
 
--- a part that is known by its entries and its reports
-pub Advances-by : (old new : MonitorView) (entries : List Entry) (more : List Call) → new.log ≡ old.log ++ entries → reported new.log new.kept ≡ reported old.log old.kept ++ more → list_all is_own entries ≡ true → Grows old.asked new.asked (orders entries monitor_pass) → Grows old.told new.told more → RisesBy old.misses (count_by is_spawner_fault more) new.misses → Advances old new
-Advances-by old new entries more log grown own asked told misses =
-    let had = reported old.log old.kept in
-    let es : since old.log new.log ≡ entries = ap (since old.log) log ∙ since-append old.log entries in
-    let rs : since had (reported new.log new.kept) ≡ more = ap (since had) grown ∙ since-append had more in
+-- what is known by its entries and its reports
+pub Proceeds-by : (is_mine : Entry → Bool) (old new : MonitorView) (entries : List Entry) (more : List Call) → new.history.opened ≡ old.history.opened → new.history.log ≡ old.history.log ++ entries → reported new.history.log new.kept ≡ reported old.history.log old.kept ++ more → list_all is_mine entries ≡ true → Grows old.asked new.asked (orders entries monitor_pass) → Grows old.told new.told more → RisesBy old.misses (count_by is_spawner_fault more) new.misses → Proceeds is_mine old new
+Proceeds-by is_mine old new entries more same log grown mine asked told misses =
+    let before = old.history.log in
+    let had = reported before old.kept in
+    let es : since before new.history.log ≡ entries = ap (since before) log ∙ since-append before entries in
+    let rs : since had (reported new.history.log new.kept) ≡ more = ap (since had) grown ∙ since-append had more in
     record {
-      log = log ∙ ap (λ xs. old.log ++ xs) (sym es);
-      own = ap (list_all is_own) es ∙ own;
+      opened = same;
+      log = log ∙ ap (λ xs. before ++ xs) (sym es);
+      callers = ap (list_all is_mine) es ∙ mine;
       asked = subst (λ (xs : List Entry). Grows old.asked new.asked (orders xs monitor_pass)) (sym es) asked;
       grown = grown ∙ ap (λ xs. had ++ xs) (sym rs);
       told = subst (λ (xs : List Call). Grows old.told new.told xs) (sym rs) told;
       misses = subst (λ (xs : List Call). RisesBy old.misses (count_by is_spawner_fault xs) new.misses) (sym rs) misses;
     }
 
--- no part at all
-pub Advances-none : (v : MonitorView) → Advances v v
-Advances-none v =
-    Advances-by v v [] [] (sym (append-nil v.log)) (sym (append-nil _)) refl (Grows-none v.asked) (Grows-none v.told) (omega arith)
+-- nothing at all
+pub Proceeds-none : {is_mine : Entry → Bool} (v : MonitorView) → Proceeds is_mine v v
+Proceeds-none {is_mine} v =
+    Proceeds-by is_mine v v [] [] refl (sym (append-nil v.history.log)) (sym (append-nil _)) refl (Grows-none v.asked) (Grows-none v.told) (omega arith)
 
--- one part, and then another
-pub Advances-then : (a b c : MonitorView) → Advances a b → Advances b c → Advances a c
-Advances-then a b c h k =
-    let e = since a.log b.log in
-    let f = since b.log c.log in
-    let ra = reported a.log a.kept in
-    let rb = reported b.log b.kept in
-    let rc = reported c.log c.kept in
-    let log = k.log ∙ (ap (λ xs. xs ++ f) h.log ∙ append_assoc a.log e f) in
+-- one thing, and then another
+pub Proceeds-then : {is_mine : Entry → Bool} (a b c : MonitorView) → Proceeds is_mine a b → Proceeds is_mine b c → Proceeds is_mine a c
+Proceeds-then {is_mine} a b c h k =
+    let e = since a.history.log b.history.log in
+    let f = since b.history.log c.history.log in
+    let ra = reported a.history.log a.kept in
+    let rb = reported b.history.log b.kept in
+    let rc = reported c.history.log c.kept in
+    let log = k.log ∙ (ap (λ xs. xs ++ f) h.log ∙ append_assoc a.history.log e f) in
     let grown = k.grown ∙ (ap (λ xs. xs ++ since rb rc) h.grown ∙ append_assoc ra (since ra rb) (since rb rc)) in
-    let own = list_all-append is_own e f ∙ (ap (λ t. t && list_all is_own f) h.own ∙ k.own) in
+    let mine = list_all-append is_mine e f ∙ (ap (λ t. t && list_all is_mine f) h.callers ∙ k.callers) in
     let asked = subst (λ (xs : List Asked). Grows a.asked c.asked xs) (sym (filter_map-append (ordered monitor_pass) e f)) (Grows-then a.asked b.asked c.asked _ _ h.asked k.asked) in
     let told = Grows-then a.told b.told c.told _ _ h.told k.told in
     let count = count-append (since ra rb) (since rb rc) in
-    Advances-by a c (e ++ f) (since ra rb ++ since rb rc) log grown own asked told (RisesBy-then a.misses b.misses c.misses _ _ _ count h.misses k.misses)
+    Proceeds-by is_mine a c (e ++ f) (since ra rb ++ since rb rc) (k.opened ∙ h.opened) log grown mine asked told (RisesBy-then a.misses b.misses c.misses _ _ _ count h.misses k.misses)
 
 -- a report is a call of a monitor, and no Hand
 own_call : (r : Report) → is_monitor_call (call_of r) ≡ true
@@ -117,92 +118,78 @@ reports-push log e = filter_map-append (reported_in monitor_pass) log (e ∷ [])
 still_reported : (log : List Entry) (kept : List Report) (e : Entry) → filter_map (reported_in monitor_pass) (e ∷ []) ≡ [] → reported (log ++ e ∷ []) kept ≡ reported log kept
 still_reported log kept e none = ap (λ rs. rs ++ map call_of kept) (reports-push log e ∙ (ap (λ xs. reports log monitor_pass ++ xs) none ∙ append-nil _))
 
-slice_get_push : {A : Type 0} (xs : List A) (y : A) → slice_get (xs ++ y ∷ []) (length xs) ≡ Some y
-slice_get_push [] y = refl
-slice_get_push (x ∷ xs) y = slice_get_push xs y
-
--- the last entry of a history with one more
-pub last_of-push : (log : List Entry) (e : Entry) → last_of (log ++ e ∷ []) ≡ Some e
-last_of-push log e =
-    let n : length (log ++ e ∷ []) - 1 ≡ length log = omega (arith, length_push log e) in
-    ap (slice_get (log ++ e ∷ [])) n ∙ slice_get_push log e
-
--- the last order of a history with one more entry
-last_order-push : (log : List Entry) (e : Entry) → last_order (log ++ e ∷ []) ≡ order_in e.reply
-last_order-push log e = ap (option_and_then (λ (x : Entry). order_in x.reply)) (last_of-push log e)
-
 -- Tick
-pub Advances-tick : (log : List Entry) (m : Monitor) (asked : Option (List Asked)) (told : Option (List Told)) (misses : ℕ) (now : ℕ) → Advances (view log m asked told misses) (view (log ++ entry_at log monitor_pass call.Tick now ∷ []) m asked told misses)
-Advances-tick log m asked told misses now =
-    let e = entry_at log monitor_pass call.Tick now in
+pub Advances-tick : (h : History) (m : Monitor) (asked : Option (List Asked)) (told : Option (List Told)) (misses : ℕ) (now : ℕ) → Advances (view h m asked told misses) (view (with_call h monitor_pass call.Tick now) m asked told misses)
+Advances-tick h m asked told misses now =
+    let e = entry_at h monitor_pass call.Tick now in
     let kept = option_to_list m.kept in
-    Advances-by _ _ (e ∷ []) [] refl (still_reported log kept e refl ∙ sym (append-nil _)) refl (Grows-none asked) (Grows-none (as_reports told)) (omega arith)
+    Proceeds-by is_own _ _ (e ∷ []) [] refl refl (still_reported h.log kept e refl ∙ sym (append-nil _)) refl (Grows-none asked) (Grows-none (as_reports told)) (omega arith)
 
 -- the kept report is sent
-pub Advances-sent : (log : List Entry) (r : Report) (asked : Option (List Asked)) (told : Option (List Told)) (misses : ℕ) (now : ℕ) → Advances (view log (record { kept = Some r }) asked told misses) (view (log ++ entry_at log monitor_pass (call_of r) now ∷ []) (record { kept = None }) asked told misses)
-Advances-sent log r asked told misses now =
-    let e = entry_at log monitor_pass (call_of r) now in
+pub Advances-sent : (h : History) (r : Report) (asked : Option (List Asked)) (told : Option (List Told)) (misses : ℕ) (now : ℕ) → Advances (view h (record { kept = Some r }) asked told misses) (view (with_call h monitor_pass (call_of r) now) (record { kept = None }) asked told misses)
+Advances-sent h r asked told misses now =
+    let e = entry_at h monitor_pass (call_of r) now in
     let one : filter_map (reported_in monitor_pass) (e ∷ []) ≡ call_of r ∷ [] = rw (report_call r) refl in
     let none : orders (e ∷ []) monitor_pass ≡ [] = rw (no_hand r) refl in
-    let grown = ap (λ rs. rs ++ []) (reports-push log e ∙ ap (λ xs. reports log monitor_pass ++ xs) one) in
-    Advances-by _ _ (e ∷ []) [] refl grown (rw (own_call r) refl) (subst (λ (xs : List Asked). Grows asked asked xs) (sym none) (Grows-none asked)) (Grows-none (as_reports told)) (omega arith)
+    let grown = ap (λ rs. rs ++ []) (reports-push h.log e ∙ ap (λ xs. reports h.log monitor_pass ++ xs) one) in
+    Proceeds-by is_own _ _ (e ∷ []) [] refl refl grown (rw (own_call r) refl) (subst (λ (xs : List Asked). Grows asked asked xs) (sym none) (Grows-none asked)) (Grows-none (as_reports told)) (omega arith)
 
 -- a Hand that ordered nothing
-pub Advances-nothing : (log : List Entry) (m : Monitor) (asked : Option (List Asked)) (told : Option (List Told)) (misses : ℕ) (now : ℕ) → order_in (entry_at log monitor_pass call.Hand now).reply ≡ None → Advances (view log m asked told misses) (view (log ++ entry_at log monitor_pass call.Hand now ∷ []) m asked told misses)
-Advances-nothing log m asked told misses now none =
-    let e = entry_at log monitor_pass call.Hand now in
+pub Advances-nothing : (h : History) (m : Monitor) (asked : Option (List Asked)) (told : Option (List Told)) (misses : ℕ) (now : ℕ) → order_in (entry_at h monitor_pass call.Hand now).reply ≡ None → Advances (view h m asked told misses) (view (with_call h monitor_pass call.Hand now) m asked told misses)
+Advances-nothing h m asked told misses now none =
+    let e = entry_at h monitor_pass call.Hand now in
     let no_order : orders (e ∷ []) monitor_pass ≡ [] = rw none refl in
-    Advances-by _ _ (e ∷ []) [] refl (still_reported log (option_to_list m.kept) e refl ∙ sym (append-nil _)) refl (subst (λ (xs : List Asked). Grows asked asked xs) (sym no_order) (Grows-none asked)) (Grows-none (as_reports told)) (omega arith)
+    Proceeds-by is_own _ _ (e ∷ []) [] refl refl (still_reported h.log (option_to_list m.kept) e refl ∙ sym (append-nil _)) refl (subst (λ (xs : List Asked). Grows asked asked xs) (sym no_order) (Grows-none asked)) (Grows-none (as_reports told)) (omega arith)
 
 -- a Hand whose order was asked, and whose answer is kept as a report
-pub Advances-asked : (log : List Entry) (a : Asked) (asked asked' : Option (List Asked)) (told told' : Option (List Told)) (misses misses' : ℕ) (now : ℕ) (kept : List Report) → order_in (entry_at log monitor_pass call.Hand now).reply ≡ Some a → Grows asked asked' (a ∷ []) → Grows (as_reports told) (as_reports told') (map call_of kept) → RisesBy misses (count_by is_spawner_fault (map call_of kept)) misses' → Advances (record { log = log; kept = []; asked = asked; told = as_reports told; misses = misses }) (record { log = log ++ entry_at log monitor_pass call.Hand now ∷ []; kept = kept; asked = asked'; told = as_reports told'; misses = misses' })
-Advances-asked log a asked asked' told told' misses misses' now kept order grows tells rises =
-    let e = entry_at log monitor_pass call.Hand now in
+pub Advances-asked : (h : History) (a : Asked) (asked asked' : Option (List Asked)) (told told' : Option (List Told)) (misses misses' : ℕ) (now : ℕ) (kept : List Report) → order_in (entry_at h monitor_pass call.Hand now).reply ≡ Some a → Grows asked asked' (a ∷ []) → Grows (as_reports told) (as_reports told') (map call_of kept) → RisesBy misses (count_by is_spawner_fault (map call_of kept)) misses' → Advances (record { history = h; kept = []; asked = asked; told = as_reports told; misses = misses }) (record { history = with_call h monitor_pass call.Hand now; kept = kept; asked = asked'; told = as_reports told'; misses = misses' })
+Advances-asked h a asked asked' told told' misses misses' now kept order grows tells rises =
+    let e = entry_at h monitor_pass call.Hand now in
     let one_order : orders (e ∷ []) monitor_pass ≡ a ∷ [] = rw order refl in
-    Advances-by _ _ (e ∷ []) (map call_of kept) refl (ap (λ rs. rs ++ map call_of kept) (reports-push log e)) refl (subst (λ (xs : List Asked). Grows asked asked' xs) (sym one_order) grows) tells rises
+    Proceeds-by is_own _ _ (e ∷ []) (map call_of kept) refl refl (ap (λ rs. rs ++ map call_of kept) (reports-push h.log e)) refl (subst (λ (xs : List Asked). Grows asked asked' xs) (sym one_order) grows) tells rises
 
 -- a look whose report is kept
-pub Advances-looked : (log : List Entry) (asked asked' : Option (List Asked)) (told told' : Option (List Told)) (misses misses' : ℕ) (kept : List Report) → Grows asked asked' [] → Grows (as_reports told) (as_reports told') (map call_of kept) → RisesBy misses (count_by is_spawner_fault (map call_of kept)) misses' → Advances (record { log = log; kept = []; asked = asked; told = as_reports told; misses = misses }) (record { log = log; kept = kept; asked = asked'; told = as_reports told'; misses = misses' })
-Advances-looked log asked asked' told told' misses misses' kept grows tells rises =
-    Advances-by _ _ [] (map call_of kept) (sym (append-nil log)) (ap (λ rs. rs ++ map call_of kept) (sym (append-nil (reports log monitor_pass)))) refl grows tells rises
+pub Advances-looked : (h : History) (asked asked' : Option (List Asked)) (told told' : Option (List Told)) (misses misses' : ℕ) (kept : List Report) → Grows asked asked' [] → Grows (as_reports told) (as_reports told') (map call_of kept) → RisesBy misses (count_by is_spawner_fault (map call_of kept)) misses' → Advances (record { history = h; kept = []; asked = asked; told = as_reports told; misses = misses }) (record { history = h; kept = kept; asked = asked'; told = as_reports told'; misses = misses' })
+Advances-looked h asked asked' told told' misses misses' kept grows tells rises =
+    Proceeds-by is_own _ _ [] (map call_of kept) refl (sym (append-nil h.log)) (ap (λ rs. rs ++ map call_of kept) (sym (append-nil (reports h.log monitor_pass)))) refl grows tells rises
 
 -- The same, as the code has them: by equations.
 
-pub tick_part : (old new : List Entry) (m : Monitor) (asked : Option (List Asked)) (told : Option (List Told)) (misses now : ℕ) → new ≡ old ++ entry_at old monitor_pass call.Tick now ∷ [] → Advances (view old m asked told misses) (view new m asked told misses)
+pub tick_part : (old new : History) (m : Monitor) (asked : Option (List Asked)) (told : Option (List Told)) (misses now : ℕ) → new ≡ with_call old monitor_pass call.Tick now → Advances (view old m asked told misses) (view new m asked told misses)
 tick_part old new m asked told misses now e =
-    subst (λ (log : List Entry). Advances (view old m asked told misses) (view log m asked told misses)) (sym e) (Advances-tick old m asked told misses now)
+    subst (λ (h : History). Advances (view old m asked told misses) (view h m asked told misses)) (sym e) (Advances-tick old m asked told misses now)
 
-abbrev kept_view : List Entry → Option Report → Option (List Asked) → Option (List Told) → ℕ → MonitorView
-kept_view log kept asked told misses = view log (record { kept = kept }) asked told misses
+abbrev kept_view : History → Option Report → Option (List Asked) → Option (List Told) → ℕ → MonitorView
+kept_view h kept asked told misses = view h (record { kept = kept }) asked told misses
 
-pub sent_part : (old new : List Entry) (m n : Monitor) (r : Report) (c : Call) (asked : Option (List Asked)) (told : Option (List Told)) (misses now : ℕ) → m.kept ≡ Some r → n.kept ≡ None → c ≡ call_of r → new ≡ old ++ entry_at old monitor_pass c now ∷ [] → Advances (view old m asked told misses) (view new n asked told misses)
+pub sent_part : (old new : History) (m n : Monitor) (r : Report) (c : Call) (asked : Option (List Asked)) (told : Option (List Told)) (misses now : ℕ) → m.kept ≡ Some r → n.kept ≡ None → c ≡ call_of r → new ≡ with_call old monitor_pass c now → Advances (view old m asked told misses) (view new n asked told misses)
 sent_part old new m n r c asked told misses now had none is e =
-    let whole = e ∙ ap (λ (x : Call). old ++ entry_at old monitor_pass x now ∷ []) is in
-    let P : List Entry → Type 0 = λ log. Advances (kept_view old (Some r) asked told misses) (kept_view log None asked told misses) in
+    let whole = e ∙ ap (λ (x : Call). with_call old monitor_pass x now) is in
+    let P : History → Type 0 = λ h. Advances (kept_view old (Some r) asked told misses) (kept_view h None asked told misses) in
     let base = subst P (sym whole) (Advances-sent old r asked told misses now) in
     let Q : Option Report → Type 0 = λ o. Advances (kept_view old o asked told misses) (kept_view new None asked told misses) in
     let R : Option Report → Type 0 = λ o. Advances (kept_view old m.kept asked told misses) (kept_view new o asked told misses) in
     subst R (sym none) (subst Q (sym had) base)
 
-pub nothing_part : (old new : List Entry) (m : Monitor) (o : Option Asked) (asked : Option (List Asked)) (told : Option (List Told)) (misses now : ℕ) → new ≡ old ++ entry_at old monitor_pass call.Hand now ∷ [] → o ≡ last_order new → o ≡ None → Advances (view old m asked told misses) (view new m asked told misses)
+pub nothing_part : (old new : History) (m : Monitor) (o : Option Asked) (asked : Option (List Asked)) (told : Option (List Told)) (misses now : ℕ) → new ≡ with_call old monitor_pass call.Hand now → o ≡ last_order new → o ≡ None → Advances (view old m asked told misses) (view new m asked told misses)
 nothing_part old new m o asked told misses now e last none =
-    let order = sym (last_order-push old (entry_at old monitor_pass call.Hand now)) ∙ (ap last_order (sym e) ∙ (sym last ∙ none)) in
-    subst (λ (log : List Entry). Advances (view old m asked told misses) (view log m asked told misses)) (sym e) (Advances-nothing old m asked told misses now order)
+    let order = sym (last_order-call old monitor_pass call.Hand now) ∙ (ap last_order (sym e) ∙ (sym last ∙ none)) in
+    subst (λ (h : History). Advances (view old m asked told misses) (view h m asked told misses)) (sym e) (Advances-nothing old m asked told misses now order)
 
-pub asked_part : (old new : List Entry) (m n : Monitor) (o : Option Asked) (a : Asked) (asked asked' : Option (List Asked)) (told told' : Option (List Told)) (misses misses' now : ℕ) → m.kept ≡ None → new ≡ old ++ entry_at old monitor_pass call.Hand now ∷ [] → o ≡ last_order new → o ≡ Some a → Grows asked asked' (a ∷ []) → Grows (as_reports told) (as_reports told') (map call_of (option_to_list n.kept)) → RisesBy misses (count_by is_spawner_fault (map call_of (option_to_list n.kept))) misses' → Advances (view old m asked told misses) (view new n asked' told' misses')
+pub asked_part : (old new : History) (m n : Monitor) (o : Option Asked) (a : Asked) (asked asked' : Option (List Asked)) (told told' : Option (List Told)) (misses misses' now : ℕ) → m.kept ≡ None → new ≡ with_call old monitor_pass call.Hand now → o ≡ last_order new → o ≡ Some a → Grows asked asked' (a ∷ []) → Grows (as_reports told) (as_reports told') (map call_of (option_to_list n.kept)) → RisesBy misses (count_by is_spawner_fault (map call_of (option_to_list n.kept))) misses' → Advances (view old m asked told misses) (view new n asked' told' misses')
 asked_part old new m n o a asked asked' told told' misses misses' now none e last some grows tells rises =
-    let order = sym (last_order-push old (entry_at old monitor_pass call.Hand now)) ∙ (ap last_order (sym e) ∙ (sym last ∙ some)) in
+    let order = sym (last_order-call old monitor_pass call.Hand now) ∙ (ap last_order (sym e) ∙ (sym last ∙ some)) in
     let base = Advances-asked old a asked asked' told told' misses misses' now (option_to_list n.kept) order grows tells rises in
-    let P : List Entry → Type 0 = λ log. Advances (kept_view old None asked told misses) (view log n asked' told' misses') in
+    let P : History → Type 0 = λ h. Advances (kept_view old None asked told misses) (view h n asked' told' misses') in
     let Q : Option Report → Type 0 = λ k. Advances (kept_view old k asked told misses) (view new n asked' told' misses') in
     subst Q (sym none) (subst P (sym e) base)
 
-pub looked_part : (log : List Entry) (m n : Monitor) (asked asked' : Option (List Asked)) (told told' : Option (List Told)) (misses misses' : ℕ) → m.kept ≡ None → Grows asked asked' [] → Grows (as_reports told) (as_reports told') (map call_of (option_to_list n.kept)) → RisesBy misses (count_by is_spawner_fault (map call_of (option_to_list n.kept))) misses' → Advances (view log m asked told misses) (view log n asked' told' misses')
-looked_part log m n asked asked' told told' misses misses' none grows tells rises =
-    let Q : Option Report → Type 0 = λ k. Advances (kept_view log k asked told misses) (view log n asked' told' misses') in
-    subst Q (sym none) (Advances-looked log asked asked' told told' misses misses' (option_to_list n.kept) grows tells rises)
+pub looked_part : (h : History) (m n : Monitor) (asked asked' : Option (List Asked)) (told told' : Option (List Told)) (misses misses' : ℕ) → m.kept ≡ None → Grows asked asked' [] → Grows (as_reports told) (as_reports told') (map call_of (option_to_list n.kept)) → RisesBy misses (count_by is_spawner_fault (map call_of (option_to_list n.kept))) misses' → Advances (view h m asked told misses) (view h n asked' told' misses')
+looked_part h m n asked asked' told told' misses misses' none grows tells rises =
+    let Q : Option Report → Type 0 = λ k. Advances (kept_view h k asked told misses) (view h n asked' told' misses') in
+    subst Q (sym none) (Advances-looked h asked asked' told told' misses misses' (option_to_list n.kept) grows tells rises)
 
-pub killed_part : (old new : List Entry) (m : Monitor) (o : Option Asked) (a : Asked) (asked asked' : Option (List Asked)) (told told' : Option (List Told)) (misses misses' now : ℕ) → m.kept ≡ None → new ≡ old ++ entry_at old monitor_pass call.Hand now ∷ [] → o ≡ last_order new → o ≡ Some a → Grows asked asked' (a ∷ []) → Grows (as_reports told) (as_reports told') [] → misses' ≡ misses → Advances (view old m asked told misses) (view new m asked' told' misses')
+pub killed_part : (old new : History) (m : Monitor) (o : Option Asked) (a : Asked) (asked asked' : Option (List Asked)) (told told' : Option (List Told)) (misses misses' now : ℕ) → m.kept ≡ None → new ≡ with_call old monitor_pass call.Hand now → o ≡ last_order new → o ≡ Some a → Grows asked asked' (a ∷ []) → Grows (as_reports told) (as_reports told') [] → misses' ≡ misses → Advances (view old m asked told misses) (view new m asked' told' misses')
 killed_part old new m o a asked asked' told told' misses misses' now none e last some grows tells same =
     let n : Monitor = record { kept = None } in
     let base = asked_part old new m n o a asked asked' told told' misses misses' now none e last some grows tells (omega arith) in
@@ -210,44 +197,45 @@ killed_part old new m o a asked asked' told told' misses misses' now none e last
     subst R (sym none) base
 
 -- a report that a look gave, kept, and then what is done with it
-pub reported_part : (log : List Entry) (m : Monitor) (o : Option Report) (r : Report) (asked asked' : Option (List Asked)) (told told' : Option (List Told)) (misses misses' : ℕ) (v : MonitorView) → m.kept ≡ None → Grows asked asked' [] → Grows (as_reports told) (as_reports told') (map call_of (option_to_list o)) → RisesBy misses (count_by is_spawner_fault (map call_of (option_to_list o))) misses' → o ≡ Some r → Advances (view log (record { kept = Some r }) asked' told' misses') v → Advances (view log m asked told misses) v
-reported_part log m o r asked asked' told told' misses misses' v none grows tells rises is then =
+pub reported_part : (h : History) (m : Monitor) (o : Option Report) (r : Report) (asked asked' : Option (List Asked)) (told told' : Option (List Told)) (misses misses' : ℕ) (v : MonitorView) → m.kept ≡ None → Grows asked asked' [] → Grows (as_reports told) (as_reports told') (map call_of (option_to_list o)) → RisesBy misses (count_by is_spawner_fault (map call_of (option_to_list o))) misses' → o ≡ Some r → Advances (view h (record { kept = Some r }) asked' told' misses') v → Advances (view h m asked told misses) v
+reported_part h m o r asked asked' told told' misses misses' v none grows tells rises is then =
     let n : Monitor = record { kept = Some r } in
     let tells_one = subst (λ (x : Option Report). Grows (as_reports told) (as_reports told') (map call_of (option_to_list x))) is tells in
     let rises_one = subst (λ (x : Option Report). RisesBy misses (count_by is_spawner_fault (map call_of (option_to_list x))) misses') is rises in
-    Advances-then _ _ _ (looked_part log m n asked asked' told told' misses misses' none grows tells_one rises_one) then
+    Proceeds-then _ _ _ (looked_part h m n asked asked' told told' misses misses' none grows tells_one rises_one) then
 
 -- an order that was asked, its report kept, and then what is done with it
-pub started_part : (old new : List Entry) (m : Monitor) (o : Option Asked) (a : Asked) (r : Report) (asked asked' : Option (List Asked)) (told told' : Option (List Told)) (misses misses' now : ℕ) (v : MonitorView) → m.kept ≡ None → new ≡ old ++ entry_at old monitor_pass call.Hand now ∷ [] → o ≡ last_order new → o ≡ Some a → Grows asked asked' (a ∷ []) → Grows (as_reports told) (as_reports told') (call_of r ∷ []) → RisesBy misses (count_by is_spawner_fault (call_of r ∷ [])) misses' → Advances (view new (record { kept = Some r }) asked' told' misses') v → Advances (view old m asked told misses) v
+pub started_part : (old new : History) (m : Monitor) (o : Option Asked) (a : Asked) (r : Report) (asked asked' : Option (List Asked)) (told told' : Option (List Told)) (misses misses' now : ℕ) (v : MonitorView) → m.kept ≡ None → new ≡ with_call old monitor_pass call.Hand now → o ≡ last_order new → o ≡ Some a → Grows asked asked' (a ∷ []) → Grows (as_reports told) (as_reports told') (call_of r ∷ []) → RisesBy misses (count_by is_spawner_fault (call_of r ∷ [])) misses' → Advances (view new (record { kept = Some r }) asked' told' misses') v → Advances (view old m asked told misses) v
 started_part old new m o a r asked asked' told told' misses misses' now v none e last some grows tells rises then =
     let n : Monitor = record { kept = Some r } in
-    Advances-then _ _ _ (asked_part old new m n o a asked asked' told told' misses misses' now none e last some grows tells rises) then
+    Proceeds-then _ _ _ (asked_part old new m n o a asked asked' told told' misses misses' now none e last some grows tells rises) then
 
 -- a look that gave no report
-pub unreported_part : (log : List Entry) (m : Monitor) (asked asked' : Option (List Asked)) (told told' : Option (List Told)) (misses misses' : ℕ) → m.kept ≡ None → Grows asked asked' [] → Grows (as_reports told) (as_reports told') [] → RisesBy misses 0 misses' → Advances (view log m asked told misses) (view log m asked' told' misses')
-unreported_part log m asked asked' told told' misses misses' none grows tells rises =
+pub unreported_part : (h : History) (m : Monitor) (asked asked' : Option (List Asked)) (told told' : Option (List Told)) (misses misses' : ℕ) → m.kept ≡ None → Grows asked asked' [] → Grows (as_reports told) (as_reports told') [] → RisesBy misses 0 misses' → Advances (view h m asked told misses) (view h m asked' told' misses')
+unreported_part h m asked asked' told told' misses misses' none grows tells rises =
     let n : Monitor = record { kept = None } in
-    let R : Option Report → Type 0 = λ k. Advances (view log m asked told misses) (kept_view log k asked' told' misses') in
-    subst R (sym none) (looked_part log m n asked asked' told told' misses misses' none grows tells rises)
+    let R : Option Report → Type 0 = λ k. Advances (view h m asked told misses) (kept_view h k asked' told' misses') in
+    subst R (sym none) (looked_part h m n asked asked' told told' misses misses' none grows tells rises)
 
-pub silent_part : (log : List Entry) (m : Monitor) (o : Option Report) (asked asked' : Option (List Asked)) (told told' : Option (List Told)) (misses misses' : ℕ) → m.kept ≡ None → Grows asked asked' [] → Grows (as_reports told) (as_reports told') (map call_of (option_to_list o)) → RisesBy misses (count_by is_spawner_fault (map call_of (option_to_list o))) misses' → o ≡ None → Advances (view log m asked told misses) (view log m asked' told' misses')
-silent_part log m o asked asked' told told' misses misses' none grows tells rises is =
+pub silent_part : (h : History) (m : Monitor) (o : Option Report) (asked asked' : Option (List Asked)) (told told' : Option (List Told)) (misses misses' : ℕ) → m.kept ≡ None → Grows asked asked' [] → Grows (as_reports told) (as_reports told') (map call_of (option_to_list o)) → RisesBy misses (count_by is_spawner_fault (map call_of (option_to_list o))) misses' → o ≡ None → Advances (view h m asked told misses) (view h m asked' told' misses')
+silent_part h m o asked asked' told told' misses misses' none grows tells rises is =
     let tells_none = subst (λ (x : Option Report). Grows (as_reports told) (as_reports told') (map call_of (option_to_list x))) is tells in
     let rises_none = subst (λ (x : Option Report). RisesBy misses (count_by is_spawner_fault (map call_of (option_to_list x))) misses') is rises in
-    unreported_part log m asked asked' told told' misses misses' none grows tells_none rises_none
+    unreported_part h m asked asked' told told' misses misses' none grows tells_none rises_none
 
--- a call of Hand, and then entries of the monitor
-pub BeginsWithHand-then : (old mid new : List Entry) (e : Entry) → mid ≡ old ++ e ∷ [] → e.call ≡ call.Hand → Extends mid new → BeginsWithHand old new
-BeginsWithHand-then old mid new e made is grown =
+-- a Hand, and then entries of the monitor
+pub BeginsWithHand-then : (old mid new : History) (now : ℕ) → mid ≡ with_call old monitor_pass call.Hand now → Extends mid.log new.log → BeginsWithHand old new
+BeginsWithHand-then old mid new now made grown =
+    let e = entry_at old monitor_pass call.Hand now in
     record {
       entry = e;
-      more = since mid new;
-      whole = grown ∙ (ap (λ (l : List Entry). l ++ since mid new) made ∙ append_assoc old (e ∷ []) (since mid new));
-      call = is;
+      more = since mid.log new.log;
+      whole = grown ∙ (ap (λ (h : History). h.log ++ since mid.log new.log) made ∙ append_assoc old.log (e ∷ []) (since mid.log new.log));
+      call = refl;
     }
 
-pub BeginsWithHand-only : (old new : List Entry) (e : Entry) → new ≡ old ++ e ∷ [] → e.call ≡ call.Hand → BeginsWithHand old new
-BeginsWithHand-only old new e made is = record { entry = e; more = []; whole = made; call = is }
+pub BeginsWithHand-only : (old new : History) (now : ℕ) → new ≡ with_call old monitor_pass call.Hand now → BeginsWithHand old new
+BeginsWithHand-only old new now made = record { entry = entry_at old monitor_pass call.Hand now; more = []; whole = ap (λ (h : History). h.log) made; call = refl }
 
 hands-append : (xs ys : List Entry) → hands_of (xs ++ ys) ≡ hands_of xs + hands_of ys
 hands-append xs ys = sum_by-append (λ (e : Entry). cond (is_hand e.call) 1 0) xs ys
@@ -260,19 +248,19 @@ hands_first e more is =
     omega arith
 
 -- one Hand more
-pub hands_more : (old mid new : List Entry) (n : ℕ) → Extends old mid → Extends mid new → BeginsWithHand mid new → n ≤ hands_of (since old mid) → n + 1 ≤ hands_of (since old new)
+pub hands_more : (old mid new : History) (n : ℕ) → Extends old.log mid.log → Extends mid.log new.log → BeginsWithHand mid new → n ≤ hands_of (since old.log mid.log) → n + 1 ≤ hands_of (since old.log new.log)
 hands_more old mid new n begun grown h some =
-    let more = since-append mid (h.entry ∷ h.more) in
-    let those : since mid new ≡ h.entry ∷ h.more = ap (since mid) h.whole ∙ more in
+    let more = since-append mid.log (h.entry ∷ h.more) in
+    let those : since mid.log new.log ≡ h.entry ∷ h.more = ap (since mid.log) h.whole ∙ more in
     let one = subst (λ (es : List Entry). 1 ≤ hands_of es) (sym those) (hands_first h.entry h.more h.call) in
-    let all = ap hands_of (since-then old mid new begun grown) ∙ hands-append (since old mid) (since mid new) in
+    let all = ap hands_of (since-then old.log mid.log new.log begun grown) ∙ hands-append (since old.log mid.log) (since mid.log new.log) in
     omega arith
 
 -- a Hand has made it longer
-pub longer_hand : (old mid new : List Entry) → Extends old mid → BeginsWithHand mid new → length old < length new
+pub longer_hand : (old mid new : History) → Extends old.log mid.log → BeginsWithHand mid new → length old.log < length new.log
 longer_hand old mid new begun h =
-    let whole = ap length h.whole ∙ length-append mid (h.entry ∷ h.more) in
-    longer_then old mid new begun (omega arith)
+    let whole = ap length h.whole ∙ length-append mid.log (h.entry ∷ h.more) in
+    longer_then old.log mid.log new.log begun (omega arith)
 
 at_most_one : (e : Entry) → hands_of (e ∷ []) ≤ 1
 at_most_one e = go (is_hand e.call) refl
@@ -282,25 +270,27 @@ at_most_one e = go (is_hand e.call) refl
     go false is = let none : hands_of (e ∷ []) ≡ 0 = rw is refl in omega arith
 
 -- at most one Hand more
-pub hands_few : (old mid new : List Entry) (n : ℕ) → Extends old mid → Extends mid new → hands_of (since mid new) ≤ 1 → hands_of (since old mid) ≤ n → hands_of (since old new) ≤ n + 1
+pub hands_few : (old mid new : History) (n : ℕ) → Extends old.log mid.log → Extends mid.log new.log → hands_of (since mid.log new.log) ≤ 1 → hands_of (since old.log mid.log) ≤ n → hands_of (since old.log new.log) ≤ n + 1
 hands_few old mid new n begun grown one few =
-    let all = ap hands_of (since-then old mid new begun grown) ∙ hands-append (since old mid) (since mid new) in
+    let all = ap hands_of (since-then old.log mid.log new.log begun grown) ∙ hands-append (since old.log mid.log) (since mid.log new.log) in
     omega (arith, one, few, all)
 
 -- one call, and behind it no Hand
-pub one_hand : (old mid new : List Entry) (e : Entry) → mid ≡ old ++ e ∷ [] → Extends mid new → hands_of (since mid new) ≡ 0 → hands_of (since old new) ≤ 1
-one_hand old mid new e made grown none =
-    let begun : Extends old mid = subst (λ (l : List Entry). Extends old l) (sym made) (Extends-append old (e ∷ [])) in
-    let first : since old mid ≡ e ∷ [] = ap (since old) made ∙ since-append old (e ∷ []) in
-    let all = ap hands_of (since-then old mid new begun grown) ∙ hands-append (since old mid) (since mid new) in
+pub one_hand : (old mid new : History) (now : ℕ) → mid ≡ with_call old monitor_pass call.Hand now → Extends mid.log new.log → hands_of (since mid.log new.log) ≡ 0 → hands_of (since old.log new.log) ≤ 1
+one_hand old mid new now made grown none =
+    let e = entry_at old monitor_pass call.Hand now in
+    let pushed : mid.log ≡ old.log ++ e ∷ [] = ap (λ (h : History). h.log) made in
+    let begun : Extends old.log mid.log = subst (λ (l : List Entry). Extends old.log l) (sym pushed) (Extends-append old.log (e ∷ [])) in
+    let first : since old.log mid.log ≡ e ∷ [] = ap (since old.log) pushed ∙ since-append old.log (e ∷ []) in
+    let all = ap hands_of (since-then old.log mid.log new.log begun grown) ∙ hands-append (since old.log mid.log) (since mid.log new.log) in
     omega (arith, at_most_one e, ap hands_of first, none, all)
 
 -- a Hand stands first, at the moment that was told
-pub hands_at : (old mid new : List Entry) (now : ℕ) (coming : Option ℕ) → IfSome coming (λ told. now ≡ told) → mid ≡ old ++ entry_at old monitor_pass call.Hand now ∷ [] → Extends mid new → IfSome coming (HandsAt old new)
+pub hands_at : (old mid new : History) (now : ℕ) (coming : Option ℕ) → IfSome coming (λ told. now ≡ told) → mid ≡ with_call old monitor_pass call.Hand now → Extends mid.log new.log → IfSome coming (HandsAt old new)
 hands_at old mid new now None is made grown = tt
 hands_at old mid new now (Some told) is made grown =
-    let at : mid ≡ old ++ entry_at old monitor_pass call.Hand told ∷ [] = subst (λ (m : ℕ). mid ≡ old ++ entry_at old monitor_pass call.Hand m ∷ []) is made in
+    let at : mid ≡ with_call old monitor_pass call.Hand told = subst (λ (m : ℕ). mid ≡ with_call old monitor_pass call.Hand m) is made in
     record {
-      more = since mid new;
-      whole = grown ∙ (ap (λ (l : List Entry). l ++ since mid new) at ∙ append_assoc old (entry_at old monitor_pass call.Hand told ∷ []) (since mid new));
+      more = since mid.log new.log;
+      whole = grown ∙ (ap (λ (h : History). h.log ++ since mid.log new.log) at ∙ append_assoc old.log (entry_at old monitor_pass call.Hand told ∷ []) (since mid.log new.log));
     }

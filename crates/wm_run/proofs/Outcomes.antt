@@ -6,20 +6,22 @@ use Rattle.wm_clwords.specs.Lines.{logical_lines}
 use Rattle.wm_clwords.specs.Part.{Part, fresh, lines_from}
 use Rattle.wm_law.specs.declared.call.Entry.{Entry}
 use Rattle.wm_law.specs.History.{entries_of}
+use Rattle.wm_floor.specs.History.{History}
 use Rattle.wm_outside.specs.Told.{Takes}
 use Rattle.wm_outside.proofs.Telling.{Takes-none}
 use Rattle.wm_run.specs.Lists.{since, Extends}
 use Rattle.wm_run.specs.Outcome.{AnswersEnded, LinesCame, RunCame, SessionCame}
 use Rattle.wm_run.specs.Run.{ended_status}
+use Rattle.wm_run.specs.Serving.{session_entries}
 use Rattle.wm_run.specs.Session.{Answers, AnsweredBy, OneCall, session_pass, start_call, end_call}
 use Rattle.wm_run.specs.Stopped.{AtMostOne, StopsIn}
 use Rattle.wm_run.specs.Taking.{StopsReading, TakesPiece, TakesInput}
-use Rattle.wm_run.specs.declared.stop.Stop.{Stop}
-use Rattle.wm_run.specs.declared.stop.Stop.TheVariants.{ReadFault, InputFull}
+use Rattle.wm_run.specs.declared.halt.Halt.{Halt}
+use Rattle.wm_run.specs.declared.halt.Halt.TheVariants.{ReadFault, InputFull}
 use Rattle.wm_run.proofs.EndedLines.{letter_line}
 use Rattle.wm_run.proofs.InputLoops.{SoFar}
 use Rattle.wm_run.proofs.Inputs.{input_end}
-use Rattle.wm_run.proofs.Runs.{ended_if, full_exactly, full_not, read_status, session_parts, stopped_not, stopped_on}
+use Rattle.wm_run.proofs.Runs.{ended_if, full_exactly, full_not, fault_status, session_parts, stopped_not, stopped_on}
 use Rattle.wm_run.proofs.Servings.{session_entries-then}
 use Rattle.wm_run.proofs.StoppedRuns.{full_later, full_pass, full_read, input_stops, input_stops_in, input_stops_last, input_stops_none, on_err, stopped_begin, stopped_end, stopped_lines}
 use Rattle.wm_run.proofs.Takings.{TakesPiece-lines}
@@ -35,18 +37,18 @@ ended_lines xs b es u v f h =
       answered = h.answered;
     }
 
-if_ok_err : (P : Bool → Type 0) (r : Result Bool Stop) (e : Stop) → r ≡ Err e → IfOk r P
-if_ok_err P r e is = subst (λ (q : Result Bool Stop). IfOk q P) (sym is) tt
+if_ok_err : (P : Bool → Type 0) (r : Result Bool Halt) (e : Halt) → r ≡ Err e → IfOk r P
+if_ok_err P r e is = subst (λ (q : Result Bool Halt). IfOk q P) (sym is) tt
 
 -- a session's lines that stopped
-pub came_stopped : (r : Result Bool Stop) (e : Stop) (bytes : List ℕ) (es : List Entry) (u v : Option (List ℕ)) → r ≡ Err e → StopsIn (logical_lines bytes) es u v → (IsErrOf r ReadFault → AnswersEnded bytes es u v) → (IsErrOf r InputFull ↔ (1000000000 < length bytes)) → LinesCame bytes r es u v
+pub came_stopped : (r : Result Bool Halt) (e : Halt) (bytes : List ℕ) (es : List Entry) (u v : Option (List ℕ)) → r ≡ Err e → StopsIn (logical_lines bytes) es u v → (IsErrOf r ReadFault → AnswersEnded bytes es u v) → (IsErrOf r InputFull ↔ (1000000000 < length bytes)) → LinesCame bytes r es u v
 came_stopped r e bytes es u v is stops cut full = record { answered = if_ok_err (λ faulty. AnsweredBy (Answers (logical_lines bytes)) es u v faulty) r e is; stopped = on_err r stops; cut_off = cut; full = full }
 
-never_full : (r : Result Bool Stop) (bytes : List ℕ) → (IsErrOf r InputFull → ⊥) → length bytes ≤ 1000000000 → IsErrOf r InputFull ↔ (1000000000 < length bytes)
+never_full : (r : Result Bool Halt) (bytes : List ℕ) → (IsErrOf r InputFull → ⊥) → length bytes ≤ 1000000000 → IsErrOf r InputFull ↔ (1000000000 < length bytes)
 never_full r bytes never few = ((λ f. absurd (never f)), (λ more. absurd (omega (arith, more, few))))
 
 -- those that stopped without a fault of reading, and not for the input's length
-pub came_fault : (r : Result Bool Stop) (e : Stop) (bytes : List ℕ) (es : List Entry) (u v : Option (List ℕ)) → r ≡ Err e → StopsIn (logical_lines bytes) es u v → (IsErrOf r ReadFault → ⊥) → (IsErrOf r InputFull → ⊥) → length bytes ≤ 1000000000 → LinesCame bytes r es u v
+pub came_fault : (r : Result Bool Halt) (e : Halt) (bytes : List ℕ) (es : List Entry) (u v : Option (List ℕ)) → r ≡ Err e → StopsIn (logical_lines bytes) es u v → (IsErrOf r ReadFault → ⊥) → (IsErrOf r InputFull → ⊥) → length bytes ≤ 1000000000 → LinesCame bytes r es u v
 came_fault r e bytes es u v is stops read full few = came_stopped r e bytes es u v is stops (λ f. absurd (read f)) (never_full r bytes full few)
 
 -- those that were answered
@@ -54,13 +56,13 @@ pub came_answered : (f : Bool) (bytes : List ℕ) (es : List Entry) (u v : Optio
 came_answered f bytes es u v h few = record { answered = h; stopped = tt; cut_off = λ r. absurd (cc); full = never_full (Ok f) bytes (λ r. absurd (cc)) few }
 
 -- nothing was taken
-pub came_none : (r : Result Bool Stop) (e : Stop) (x : Option (List ℕ)) (log : List Entry) (w : Option (List ℕ)) → r ≡ Err e → (IsErrOf r ReadFault → ⊥) → (IsErrOf r InputFull → ⊥) → TakesInput x x (λ bytes. LinesCame bytes r (entries_of session_pass (since log log)) w w)
-came_none r e x log w is read full =
-    let h = input_stops_none x log w in
-    record { bytes = []; taken = Takes-none x; done = came_fault r e [] (entries_of session_pass (since log log)) w w is h.done read full (omega arith) }
+pub came_none : (r : Result Bool Halt) (e : Halt) (x : Option (List ℕ)) (floor : History) (w : Option (List ℕ)) → r ≡ Err e → (IsErrOf r ReadFault → ⊥) → (IsErrOf r InputFull → ⊥) → TakesInput x x (λ bytes. LinesCame bytes r (session_entries floor floor) w w)
+came_none r e x floor w is read full =
+    let h = input_stops_none x floor w in
+    record { bytes = []; taken = Takes-none x; done = came_fault r e [] (session_entries floor floor) w w is h.done read full (omega arith) }
 
 -- a read stopped it
-pub came_read : (r : Result Bool Stop) (q : Result ℕ Stop) (e d : Stop) (x y z : Option (List ℕ)) (b : Part) (es : List Entry) (u v : Option (List ℕ)) (f : Bool) (sum : ℕ) → q ≡ Err e → r ≡ Err d → d ≡ e → TakesInput x y (λ bytes. SoFar b es u v f sum bytes) → TakesInput y z (λ bytes. StopsReading bytes sum q) → TakesInput x z (λ bytes. LinesCame bytes r es u v)
+pub came_read : (r : Result Bool Halt) (q : Result ℕ Halt) (e d : Halt) (x y z : Option (List ℕ)) (b : Part) (es : List Entry) (u v : Option (List ℕ)) (f : Bool) (sum : ℕ) → q ≡ Err e → r ≡ Err d → d ≡ e → TakesInput x y (λ bytes. SoFar b es u v f sum bytes) → TakesInput y z (λ bytes. StopsReading bytes sum q) → TakesInput x z (λ bytes. LinesCame bytes r es u v)
 came_read r q e d x y z b es u v f sum was is same h k =
     let xs = h.bytes in
     let ys = k.bytes in
@@ -74,31 +76,31 @@ came_read r q e d x y z b es u v f sum was is same h k =
     }
 
 -- the answer of the last line stopped it
-pub came_last : (r : Result Bool Stop) (e : Stop) (x y : Option (List ℕ)) (b : Part) (old mid new : List Entry) (u v w : Option (List ℕ)) (f : Bool) (sum : ℕ) → r ≡ Err e → (IsErrOf r ReadFault → ⊥) → (IsErrOf r InputFull → ⊥) → sum ≤ 1000000000 → Extends old mid → Extends mid new → TakesInput x y (λ bytes. SoFar b (entries_of session_pass (since old mid)) u v f sum bytes) → StopsIn (lines_from b []) (entries_of session_pass (since mid new)) v w → TakesInput x y (λ bytes. LinesCame bytes r (entries_of session_pass (since old new)) u w)
+pub came_last : (r : Result Bool Halt) (e : Halt) (x y : Option (List ℕ)) (b : Part) (old mid new : History) (u v w : Option (List ℕ)) (f : Bool) (sum : ℕ) → r ≡ Err e → (IsErrOf r ReadFault → ⊥) → (IsErrOf r InputFull → ⊥) → sum ≤ 1000000000 → Extends old.log mid.log → Extends mid.log new.log → TakesInput x y (λ bytes. SoFar b (session_entries old mid) u v f sum bytes) → StopsIn (lines_from b []) (session_entries mid new) v w → TakesInput x y (λ bytes. LinesCame bytes r (session_entries old new) u w)
 came_last r e x y b old mid new u v w f sum is read full few begun grown h k =
     let stops = input_stops_last x y b old mid new u v w f begun grown (record { bytes = h.bytes; taken = h.taken; done = h.done.lines }) k in
-    record { bytes = h.bytes; taken = h.taken; done = came_fault r e h.bytes (entries_of session_pass (since old new)) u w is stops.done read full (omega (arith, h.done.count, few)) }
+    record { bytes = h.bytes; taken = h.taken; done = came_fault r e h.bytes (session_entries old new) u w is stops.done read full (omega (arith, h.done.count, few)) }
 
 -- the answer of a line of a piece stopped it
-pub came_in : (r : Result Bool Stop) (e : Stop) (x y z : Option (List ℕ)) (b : Part) (old mid new : List Entry) (u v w : Option (List ℕ)) (f : Bool) (sum : ℕ) (ys : List ℕ) → r ≡ Err e → (IsErrOf r ReadFault → ⊥) → (IsErrOf r InputFull → ⊥) → sum + length ys ≤ 1000000000 → Extends old mid → Extends mid new → TakesInput x y (λ bytes. SoFar b (entries_of session_pass (since old mid)) u v f sum bytes) → Takes y ys z → ((more : List ℕ) → StopsIn (lines_from b (ys ++ more)) (entries_of session_pass (since mid new)) v w) → TakesInput x z (λ bytes. LinesCame bytes r (entries_of session_pass (since old new)) u w)
+pub came_in : (r : Result Bool Halt) (e : Halt) (x y z : Option (List ℕ)) (b : Part) (old mid new : History) (u v w : Option (List ℕ)) (f : Bool) (sum : ℕ) (ys : List ℕ) → r ≡ Err e → (IsErrOf r ReadFault → ⊥) → (IsErrOf r InputFull → ⊥) → sum + length ys ≤ 1000000000 → Extends old.log mid.log → Extends mid.log new.log → TakesInput x y (λ bytes. SoFar b (session_entries old mid) u v f sum bytes) → Takes y ys z → ((more : List ℕ) → StopsIn (lines_from b (ys ++ more)) (session_entries mid new) v w) → TakesInput x z (λ bytes. LinesCame bytes r (session_entries old new) u w)
 came_in r e x y z b old mid new u v w f sum ys is read full few begun grown h more k =
     let stops = input_stops_in x y z b old mid new u v w f ys begun grown (record { bytes = h.bytes; taken = h.taken; done = h.done.lines }) more k in
-    record { bytes = h.bytes ++ ys; taken = stops.taken; done = came_fault r e (h.bytes ++ ys) (entries_of session_pass (since old new)) u w is stops.done read full (omega (arith, length-append h.bytes ys, h.done.count, few)) }
+    record { bytes = h.bytes ++ ys; taken = stops.taken; done = came_fault r e (h.bytes ++ ys) (session_entries old new) u w is stops.done read full (omega (arith, length-append h.bytes ys, h.done.count, few)) }
 
 -- the whole input was answered
-pub came_end : (x y : Option (List ℕ)) (b : Part) (old mid new : List Entry) (u v w : Option (List ℕ)) (f g h : Bool) (sum : ℕ) → h ≡ (f || g) → sum ≤ 1000000000 → Extends old mid → Extends mid new → TakesInput x y (λ bytes. SoFar b (entries_of session_pass (since old mid)) u v f sum bytes) → AnsweredBy (Answers (lines_from b [])) (entries_of session_pass (since mid new)) v w g → TakesInput x y (λ bytes. LinesCame bytes (Ok h) (entries_of session_pass (since old new)) u w)
+pub came_end : (x y : Option (List ℕ)) (b : Part) (old mid new : History) (u v w : Option (List ℕ)) (f g h : Bool) (sum : ℕ) → h ≡ (f || g) → sum ≤ 1000000000 → Extends old.log mid.log → Extends mid.log new.log → TakesInput x y (λ bytes. SoFar b (session_entries old mid) u v f sum bytes) → AnsweredBy (Answers (lines_from b [])) (session_entries mid new) v w g → TakesInput x y (λ bytes. LinesCame bytes (Ok h) (session_entries old new) u w)
 came_end x y b old mid new u v w f g h sum is few begun grown t k =
     let all = input_end x y b old mid new u v w f g h is begun grown (record { bytes = t.bytes; taken = t.taken; done = t.done.lines }) k in
-    record { bytes = t.bytes; taken = t.taken; done = came_answered h t.bytes (entries_of session_pass (since old new)) u w all.done (omega (arith, t.done.count, few)) }
+    record { bytes = t.bytes; taken = t.taken; done = came_answered h t.bytes (session_entries old new) u w all.done (omega (arith, t.done.count, few)) }
 
-on_err_of : {P : Type 0} (r : Result Bool Stop) (e : Stop) → r ≡ Err e → OnErr r P → P
-on_err_of {P} r e is h = subst (λ (q : Result Bool Stop). OnErr q P) is h
+on_err_of : {P : Type 0} (r : Result Bool Halt) (e : Halt) → r ≡ Err e → OnErr r P → P
+on_err_of {P} r e is h = subst (λ (q : Result Bool Halt). OnErr q P) is h
 
-if_ok_of : (P : Bool → Type 0) (r : Result Bool Stop) (f : Bool) → r ≡ Ok f → IfOk r P → P f
-if_ok_of P r f is h = subst (λ (q : Result Bool Stop). IfOk q P) is h
+if_ok_of : (P : Bool → Type 0) (r : Result Bool Halt) (f : Bool) → r ≡ Ok f → IfOk r P → P f
+if_ok_of P r f is h = subst (λ (q : Result Bool Halt). IfOk q P) is h
 
 -- a session that stopped as it began
-pub came_begin : (r : Result Bool Stop) (e : Stop) (x w : Option (List ℕ)) (es : List Entry) → r ≡ Err e → (IsErrOf r ReadFault → ⊥) → (IsErrOf r InputFull → ⊥) → AtMostOne start_call es → TakesInput x x (λ bytes. SessionCame bytes r es w w)
+pub came_begin : (r : Result Bool Halt) (e : Halt) (x w : Option (List ℕ)) (es : List Entry) → r ≡ Err e → (IsErrOf r ReadFault → ⊥) → (IsErrOf r InputFull → ⊥) → AtMostOne start_call es → TakesInput x x (λ bytes. SessionCame bytes r es w w)
 came_begin r e x w es is read full (inl none) =
     let h = stopped_begin x w es (inl none) in
     record { bytes = []; taken = Takes-none x; done = record { session = if_ok_err _ r e is; stopped = on_err r h.done; cut_off = λ f. absurd (read f); full = never_full r [] full (omega arith) } }
@@ -107,7 +109,7 @@ came_begin r e x w es is read full (inr start) =
     record { bytes = []; taken = Takes-none x; done = record { session = if_ok_err _ r e is; stopped = on_err r h.done; cut_off = λ f. absurd (read f); full = never_full r [] full (omega arith) } }
 
 -- one that stopped in its lines
-pub came_lines : (r q : Result Bool Stop) (e d : Stop) (a b c : List Entry) (x y u v : Option (List ℕ)) → q ≡ Err e → r ≡ Err d → d ≡ e → Extends a b → Extends b c → OneCall start_call (entries_of session_pass (since a b)) → TakesInput x y (λ bytes. LinesCame bytes q (entries_of session_pass (since b c)) u v) → TakesInput x y (λ bytes. SessionCame bytes r (entries_of session_pass (since a c)) u v)
+pub came_lines : (r q : Result Bool Halt) (e d : Halt) (a b c : History) (x y u v : Option (List ℕ)) → q ≡ Err e → r ≡ Err d → d ≡ e → Extends a.log b.log → Extends b.log c.log → OneCall start_call (session_entries a b) → TakesInput x y (λ bytes. LinesCame bytes q (session_entries b c) u v) → TakesInput x y (λ bytes. SessionCame bytes r (session_entries a c) u v)
 came_lines r q e d a b c x y u v was is same ab bc start h =
     let stops = stopped_lines a b c x y u v ab bc start (record { bytes = h.bytes; taken = h.taken; done = on_err_of q e was h.done.stopped }) in
     let full = full_pass q r e d x y was is same (record { bytes = h.bytes; taken = h.taken; done = h.done.full }) in
@@ -117,13 +119,13 @@ came_lines r q e d a b c x y u v was is same ab bc start h =
       done = record {
         session = if_ok_err _ r d is;
         stopped = on_err r stops.done;
-        cut_off = λ f. record { first = entries_of session_pass (since a b); middle = entries_of session_pass (since b c); parts = session_entries-then a b c ab bc; start = start; answers = h.done.cut_off (cc) };
+        cut_off = λ f. record { first = session_entries a b; middle = session_entries b c; parts = session_entries-then a b c ab bc; start = start; answers = h.done.cut_off (cc) };
         full = full.done;
       };
     }
 
 -- one that stopped behind them
-pub came_behind : (r q : Result Bool Stop) (e : Stop) (f : Bool) (a b c d : List Entry) (x y u v : Option (List ℕ)) → q ≡ Ok f → r ≡ Err e → (IsErrOf r ReadFault → ⊥) → (IsErrOf r InputFull → ⊥) → Extends a b → Extends b c → Extends c d → OneCall start_call (entries_of session_pass (since a b)) → TakesInput x y (λ bytes. LinesCame bytes q (entries_of session_pass (since b c)) u v) → AtMostOne end_call (entries_of session_pass (since c d)) → TakesInput x y (λ bytes. SessionCame bytes r (entries_of session_pass (since a d)) u v)
+pub came_behind : (r q : Result Bool Halt) (e : Halt) (f : Bool) (a b c d : History) (x y u v : Option (List ℕ)) → q ≡ Ok f → r ≡ Err e → (IsErrOf r ReadFault → ⊥) → (IsErrOf r InputFull → ⊥) → Extends a.log b.log → Extends b.log c.log → Extends c.log d.log → OneCall start_call (session_entries a b) → TakesInput x y (λ bytes. LinesCame bytes q (session_entries b c) u v) → AtMostOne end_call (session_entries c d) → TakesInput x y (λ bytes. SessionCame bytes r (session_entries a d) u v)
 came_behind r q e f a b c d x y u v was is read never ab bc cd start h (inl none) =
     let stops = stopped_end a b c d x y u v f ab bc cd start (record { bytes = h.bytes; taken = h.taken; done = if_ok_of _ q f was h.done.answered }) (inl none) in
     let full = full_later q r f x y was never (record { bytes = h.bytes; taken = h.taken; done = h.done.full }) in
@@ -134,17 +136,17 @@ came_behind r q e f a b c d x y u v was is read never ab bc cd start h (inr end)
     record { bytes = h.bytes; taken = h.taken; done = record { session = if_ok_err _ r e is; stopped = on_err r stops.done; cut_off = λ g. absurd (read g); full = full.done } }
 
 -- one that ended
-pub came_session : (q : Result Bool Stop) (f : Bool) (a b c d : List Entry) (x y u v : Option (List ℕ)) → q ≡ Ok f → Extends a b → Extends b c → Extends c d → OneCall start_call (entries_of session_pass (since a b)) → TakesInput x y (λ bytes. LinesCame bytes q (entries_of session_pass (since b c)) u v) → OneCall end_call (entries_of session_pass (since c d)) → TakesInput x y (λ bytes. SessionCame bytes (Ok f) (entries_of session_pass (since a d)) u v)
+pub came_session : (q : Result Bool Halt) (f : Bool) (a b c d : History) (x y u v : Option (List ℕ)) → q ≡ Ok f → Extends a.log b.log → Extends b.log c.log → Extends c.log d.log → OneCall start_call (session_entries a b) → TakesInput x y (λ bytes. LinesCame bytes q (session_entries b c) u v) → OneCall end_call (session_entries c d) → TakesInput x y (λ bytes. SessionCame bytes (Ok f) (session_entries a d) u v)
 came_session q f a b c d x y u v was ab bc cd start h end =
     let whole = session_parts a b c d x y u v f ab bc cd start (record { bytes = h.bytes; taken = h.taken; done = if_ok_of _ q f was h.done.answered }) end in
     let full = full_later q (Ok f) f x y was (λ g. absurd (cc)) (record { bytes = h.bytes; taken = h.taken; done = h.done.full }) in
     record { bytes = h.bytes; taken = h.taken; done = record { session = whole.done; stopped = tt; cut_off = λ g. absurd (cc); full = full.done } }
 
 -- a run, of a history that begins with nothing
-pub came_run : (r : Result Bool Stop) (status : ℕ) (first log whole : List Entry) (x y u v : Option (List ℕ)) → status ≡ ended_status r → first ≡ [] → whole ≡ log → TakesInput x y (λ bytes. SessionCame bytes r (entries_of session_pass (since first log)) u v) → TakesInput x y (λ bytes. RunCame bytes status (entries_of session_pass whole) u v)
-came_run r status first log whole x y u v is none same h =
-    let from : since first log ≡ log = ap (λ (l : List Entry). since l log) none in
-    let all : entries_of session_pass (since first log) ≡ entries_of session_pass whole = ap (entries_of session_pass) (from ∙ sym same) in
+pub came_run : (r : Result Bool Halt) (status : ℕ) (first last : History) (whole : List Entry) (x y u v : Option (List ℕ)) → status ≡ ended_status r → first.log ≡ [] → whole ≡ last.log → TakesInput x y (λ bytes. SessionCame bytes r (session_entries first last) u v) → TakesInput x y (λ bytes. RunCame bytes status (entries_of session_pass whole) u v)
+came_run r status first last whole x y u v is none same h =
+    let from : since first.log last.log ≡ last.log = ap (λ (l : List Entry). since l last.log) none in
+    let all : session_entries first last ≡ entries_of session_pass whole = ap (entries_of session_pass) (from ∙ sym same) in
     let k : SessionCame h.bytes r (entries_of session_pass whole) u v = subst (λ (es : List Entry). SessionCame h.bytes r es u v) all h.done in
     let full = full_exactly r x y (record { bytes = h.bytes; taken = h.taken; done = k.full }) in
     let P : ℕ → Type 0 = λ n. RunCame h.bytes n (entries_of session_pass whole) u v in
@@ -154,7 +156,7 @@ came_run r status first log whole x y u v is none same h =
       done = subst P (sym is) (record {
         session = ended_if _ r k.session;
         stopped = stopped_on _ r k.stopped;
-        cut_off = λ s. k.cut_off (read_status r s);
+        cut_off = λ s. k.cut_off (fault_status ReadFault r s);
         full = full.done;
       });
     }

@@ -1,5 +1,5 @@
 -- Laws of a run that stops: what its session called and wrote until then.
-use Rattle.std.proofs.Common.{◌≡◌, ◌↔◌, ℕ, ◌+◌, ◌<◌, ◌≤◌, Bool, true, List, [], ◌++◌, length, take, Option, Result, Ok, Err, sym, ap, subst, ◌∙◌, inl, inr, arith}
+use Rattle.std.proofs.Common.{◌≡◌, ◌↔◌, ℕ, ◌+◌, ◌<◌, Bool, true, List, [], ◌++◌, length, take, Option, Result, Ok, Err, sym, ap, subst, ◌∙◌, inl, inr, arith}
 use Rattle.std.specs.Prelude.{IsErrOf, OnErr}
 use Rattle.std.specs.List.{list_all}
 use Rattle.std.proofs.Math.Seq.{take-length}
@@ -9,16 +9,17 @@ use Rattle.wm_clwords.specs.Part.{Part, fresh, lines_from}
 use Rattle.wm_clwords.proofs.LinesLaw.{lines_from-fresh}
 use Rattle.wm_law.specs.declared.call.Call.{Call}
 use Rattle.wm_law.specs.declared.call.Entry.{Entry}
-use Rattle.wm_law.specs.History.{entries_of}
+use Rattle.wm_floor.specs.History.{History}
 use Rattle.wm_outside.specs.Told.{Grows, Takes}
 use Rattle.wm_outside.proofs.Telling.{Grows-none, Takes-none, Takes-then}
 use Rattle.wm_run.specs.Lists.{since, Extends}
 use Rattle.wm_run.specs.Monitor.{is_own}
-use Rattle.wm_run.specs.Session.{Answers, AnsweredBy, OneCall, session_pass, start_call, end_call}
+use Rattle.wm_run.specs.Serving.{session_entries}
+use Rattle.wm_run.specs.Session.{Answers, AnsweredBy, OneCall, start_call, end_call}
 use Rattle.wm_run.specs.Stopped.{AtMostOne, IsStopped, StopsIn, Untouched, WritesSome}
 use Rattle.wm_run.specs.Taking.{TakesInput, TakesPiece}
-use Rattle.wm_run.specs.declared.stop.Stop.{Stop}
-use Rattle.wm_run.specs.declared.stop.Stop.TheVariants.{InputFull}
+use Rattle.wm_run.specs.declared.halt.Halt.{Halt}
+use Rattle.wm_run.specs.declared.halt.Halt.TheVariants.{InputFull}
 use Rattle.wm_run.proofs.Monitors.{Extends-then}
 use Rattle.wm_run.proofs.Runs.{session_parts}
 use Rattle.wm_run.proofs.Servings.{session_entries-none, session_entries-own, session_entries-then}
@@ -35,12 +36,12 @@ pub take_none : (n : ℕ) (xs : List ℕ) → n ≡ 0 → take n xs ≡ []
 take_none n xs is = ap (λ (k : ℕ). take k xs) is
 
 -- no call was made, and nothing written
-pub Untouched-none : (log : List Entry) (w : Option (List ℕ)) → Untouched (entries_of session_pass (since log log)) w w
-Untouched-none log w = record { none = session_entries-none log; written = Grows-none w }
+pub Untouched-none : (floor : History) (w : Option (List ℕ)) → Untouched (session_entries floor floor) w w
+Untouched-none floor w = record { none = session_entries-none floor; written = Grows-none w }
 
 -- a call that was refused for want of memory leaves it so
-pub Untouched-same : (old new : List Entry) (w : Option (List ℕ)) → new ≡ old → Untouched (entries_of session_pass (since old new)) w w
-Untouched-same old new w is = subst (λ (l : List Entry). Untouched (entries_of session_pass (since old l)) w w) (sym is) (Untouched-none old w)
+pub Untouched-same : (old new : History) (w : Option (List ℕ)) → new ≡ old → Untouched (session_entries old new) w w
+Untouched-same old new w is = subst (λ (h : History). Untouched (session_entries old h) w w) (sym is) (Untouched-none old w)
 
 -- all bytes that were due are some of them
 pub WritesSome-all : (Due : List Entry → List ℕ → Bool → Type 0) (es : List Entry) (a b : Option (List ℕ)) (f : Bool) → AnsweredBy Due es a b f → WritesSome Due es a b
@@ -48,12 +49,12 @@ WritesSome-all Due es a b f h =
     record { due = h.bytes; faulty = f; answers = h.answers; count = length h.bytes; written = subst (λ (l : List ℕ). Grows a b l) (sym (take-length h.bytes)) h.written }
 
 -- a call was made or not, and entries of the monitor follow
-pub no_call : {c : Call} (old new : List Entry) → list_all is_own (since old new) ≡ true → AtMostOne c (entries_of session_pass (since old new))
-no_call old new own = inl (session_entries-own (since old new) own)
+pub no_call : {c : Call} (old new : History) → list_all is_own (since old.log new.log) ≡ true → AtMostOne c (session_entries old new)
+no_call old new own = inl (session_entries-own (since old.log new.log) own)
 
 -- and a call that was refused for want of memory
-pub no_call_same : {c : Call} (old mid new : List Entry) → new ≡ mid → list_all is_own (since old mid) ≡ true → AtMostOne c (entries_of session_pass (since old new))
-no_call_same old mid new is own = inl (ap (λ (l : List Entry). entries_of session_pass (since old l)) is ∙ session_entries-own (since old mid) own)
+pub no_call_same : {c : Call} (old mid new : History) → new ≡ mid → list_all is_own (since old.log mid.log) ≡ true → AtMostOne c (session_entries old new)
+no_call_same old mid new is own = inl (ap (session_entries old) is ∙ session_entries-own (since old.log mid.log) own)
 
 -- a session that stopped as it began
 abbrev pub stopped_begin : (x w : Option (List ℕ)) (es : List Entry) → AtMostOne start_call es → TakesInput x x (λ bytes. IsStopped (logical_lines bytes) es w w)
@@ -62,28 +63,28 @@ stopped_begin x w es (inr start) =
     record { bytes = []; taken = Takes-none x; done = inr (inl (record { first = es; middle = []; parts = sym (append-nil es); start = start; stops = StopsIn-none (logical_lines []) w })) }
 
 -- one that stopped in its lines
-abbrev pub stopped_lines : (a b c : List Entry) (x y u v : Option (List ℕ)) → Extends a b → Extends b c → OneCall start_call (entries_of session_pass (since a b)) → TakesInput x y (λ bytes. StopsIn (logical_lines bytes) (entries_of session_pass (since b c)) u v) → TakesInput x y (λ bytes. IsStopped (logical_lines bytes) (entries_of session_pass (since a c)) u v)
+abbrev pub stopped_lines : (a b c : History) (x y u v : Option (List ℕ)) → Extends a.log b.log → Extends b.log c.log → OneCall start_call (session_entries a b) → TakesInput x y (λ bytes. StopsIn (logical_lines bytes) (session_entries b c) u v) → TakesInput x y (λ bytes. IsStopped (logical_lines bytes) (session_entries a c) u v)
 stopped_lines a b c x y u v ab bc start taken =
     record {
       bytes = taken.bytes;
       taken = taken.taken;
-      done = inr (inl (record { first = entries_of session_pass (since a b); middle = entries_of session_pass (since b c); parts = session_entries-then a b c ab bc; start = start; stops = taken.done }));
+      done = inr (inl (record { first = session_entries a b; middle = session_entries b c; parts = session_entries-then a b c ab bc; start = start; stops = taken.done }));
     }
 
 -- one that stopped behind them
-abbrev pub stopped_end : (a b c d : List Entry) (x y u v : Option (List ℕ)) (f : Bool) → Extends a b → Extends b c → Extends c d → OneCall start_call (entries_of session_pass (since a b)) → TakesInput x y (λ bytes. AnsweredBy (Answers (logical_lines bytes)) (entries_of session_pass (since b c)) u v f) → AtMostOne end_call (entries_of session_pass (since c d)) → TakesInput x y (λ bytes. IsStopped (logical_lines bytes) (entries_of session_pass (since a d)) u v)
+abbrev pub stopped_end : (a b c d : History) (x y u v : Option (List ℕ)) (f : Bool) → Extends a.log b.log → Extends b.log c.log → Extends c.log d.log → OneCall start_call (session_entries a b) → TakesInput x y (λ bytes. AnsweredBy (Answers (logical_lines bytes)) (session_entries b c) u v f) → AtMostOne end_call (session_entries c d) → TakesInput x y (λ bytes. IsStopped (logical_lines bytes) (session_entries a d) u v)
 stopped_end a b c d x y u v f ab bc cd start taken (inl none) =
-    let more = session_entries-then a b d ab (Extends-then b c d bc cd) in
-    let rest = session_entries-then b c d bc cd ∙ (ap (λ (es : List Entry). entries_of session_pass (since b c) ++ es) none ∙ append-nil _) in
+    let more = session_entries-then a b d ab (Extends-then b.log c.log d.log bc cd) in
+    let rest = session_entries-then b c d bc cd ∙ (ap (λ (es : List Entry). session_entries b c ++ es) none ∙ append-nil _) in
     record {
       bytes = taken.bytes;
       taken = taken.taken;
       done = inr (inl (record {
-        first = entries_of session_pass (since a b);
-        middle = entries_of session_pass (since b c);
-        parts = more ∙ ap (λ (es : List Entry). entries_of session_pass (since a b) ++ es) rest;
+        first = session_entries a b;
+        middle = session_entries b c;
+        parts = more ∙ ap (λ (es : List Entry). session_entries a b ++ es) rest;
         start = start;
-        stops = StopsIn-whole (logical_lines taken.bytes) (entries_of session_pass (since b c)) u v f taken.done;
+        stops = StopsIn-whole (logical_lines taken.bytes) (session_entries b c) u v f taken.done;
       }));
     }
 stopped_end a b c d x y u v f ab bc cd start taken (inr end) =
@@ -91,7 +92,7 @@ stopped_end a b c d x y u v f ab bc cd start taken (inr end) =
     record { bytes = whole.bytes; taken = whole.taken; done = inr (inr (record { faulty = f; session = whole.done })) }
 
 -- a part of a piece was taken, and its next line's answer was cut short
-pub stops_piece : (a b : Part) (piece rest : List ℕ) (old mid new : List Entry) (u v w : Option (List ℕ)) (f : Bool) → Extends old mid → Extends mid new → TakesPiece a piece b rest (entries_of session_pass (since old mid)) u v f → ((more : List ℕ) → StopsIn (lines_from b (rest ++ more)) (entries_of session_pass (since mid new)) v w) → (more : List ℕ) → StopsIn (lines_from a (piece ++ more)) (entries_of session_pass (since old new)) u w
+pub stops_piece : (a b : Part) (piece rest : List ℕ) (old mid new : History) (u v w : Option (List ℕ)) (f : Bool) → Extends old.log mid.log → Extends mid.log new.log → TakesPiece a piece b rest (session_entries old mid) u v f → ((more : List ℕ) → StopsIn (lines_from b (rest ++ more)) (session_entries mid new) v w) → (more : List ℕ) → StopsIn (lines_from a (piece ++ more)) (session_entries old new) u w
 stops_piece a b piece rest old mid new u v w f begun grown h k more =
     subst (λ (es : List Entry). StopsIn (lines_from a (piece ++ more)) es u w) (sym (session_entries-then old mid new begun grown)) (stops_then a b piece rest _ _ u v w f h k more)
 
@@ -102,8 +103,8 @@ input_same x y z ys none h more =
     record { bytes = h.bytes; taken = subst (λ (l : List ℕ). Takes x l z) whole (Takes-then x y z h.bytes ys h.taken more); done = h.done }
 
 -- nothing was read
-abbrev pub input_stops_none : (x : Option (List ℕ)) (log : List Entry) (w : Option (List ℕ)) → TakesInput x x (λ bytes. StopsIn (logical_lines bytes) (entries_of session_pass (since log log)) w w)
-input_stops_none x log w = record { bytes = []; taken = Takes-none x; done = StopsIn-untouched (logical_lines []) (entries_of session_pass (since log log)) w w (Untouched-none log w) }
+abbrev pub input_stops_none : (x : Option (List ℕ)) (floor : History) (w : Option (List ℕ)) → TakesInput x x (λ bytes. StopsIn (logical_lines bytes) (session_entries floor floor) w w)
+input_stops_none x floor w = record { bytes = []; taken = Takes-none x; done = StopsIn-untouched (logical_lines []) (session_entries floor floor) w w (Untouched-none floor w) }
 
 -- bytes that weren't looked at behind those whose lines were answered
 abbrev pub input_stops : (x y z : Option (List ℕ)) (b : Part) (es : List Entry) (u v : Option (List ℕ)) (f : Bool) (ys : List ℕ) → TakesInput x y (λ bytes. TakesPiece fresh bytes b [] es u v f) → Takes y ys z → TakesInput x z (λ bytes. StopsIn (logical_lines bytes) es u v)
@@ -116,7 +117,7 @@ input_stops x y z b es u v f ys h more =
     }
 
 -- a piece behind them in whose lines it stopped
-abbrev pub input_stops_in : (x y z : Option (List ℕ)) (b : Part) (old mid new : List Entry) (u v w : Option (List ℕ)) (f : Bool) (ys : List ℕ) → Extends old mid → Extends mid new → TakesInput x y (λ bytes. TakesPiece fresh bytes b [] (entries_of session_pass (since old mid)) u v f) → Takes y ys z → ((more : List ℕ) → StopsIn (lines_from b (ys ++ more)) (entries_of session_pass (since mid new)) v w) → TakesInput x z (λ bytes. StopsIn (logical_lines bytes) (entries_of session_pass (since old new)) u w)
+abbrev pub input_stops_in : (x y z : Option (List ℕ)) (b : Part) (old mid new : History) (u v w : Option (List ℕ)) (f : Bool) (ys : List ℕ) → Extends old.log mid.log → Extends mid.log new.log → TakesInput x y (λ bytes. TakesPiece fresh bytes b [] (session_entries old mid) u v f) → Takes y ys z → ((more : List ℕ) → StopsIn (lines_from b (ys ++ more)) (session_entries mid new) v w) → TakesInput x z (λ bytes. StopsIn (logical_lines bytes) (session_entries old new) u w)
 input_stops_in x y z b old mid new u v w f ys begun grown h more k =
     let xs = h.bytes in
     let front = TakesPiece-more fresh b xs ys _ u v f h.done in
@@ -124,12 +125,12 @@ input_stops_in x y z b old mid new u v w f ys begun grown h more k =
     record {
       bytes = xs ++ ys;
       taken = Takes-then x y z xs ys h.taken more;
-      done = subst (λ (l : List (Option (List ℕ))). StopsIn l (entries_of session_pass (since old new)) u w) lines
+      done = subst (λ (l : List (Option (List ℕ))). StopsIn l (session_entries old new) u w) lines
           (stops_piece fresh b (xs ++ ys) ys old mid new u v w f begun grown front k []);
     }
 
 -- the answer of the line that ends with the input was cut short
-abbrev pub input_stops_last : (x y : Option (List ℕ)) (b : Part) (old mid new : List Entry) (u v w : Option (List ℕ)) (f : Bool) → Extends old mid → Extends mid new → TakesInput x y (λ bytes. TakesPiece fresh bytes b [] (entries_of session_pass (since old mid)) u v f) → StopsIn (lines_from b []) (entries_of session_pass (since mid new)) v w → TakesInput x y (λ bytes. StopsIn (logical_lines bytes) (entries_of session_pass (since old new)) u w)
+abbrev pub input_stops_last : (x y : Option (List ℕ)) (b : Part) (old mid new : History) (u v w : Option (List ℕ)) (f : Bool) → Extends old.log mid.log → Extends mid.log new.log → TakesInput x y (λ bytes. TakesPiece fresh bytes b [] (session_entries old mid) u v f) → StopsIn (lines_from b []) (session_entries mid new) v w → TakesInput x y (λ bytes. StopsIn (logical_lines bytes) (session_entries old new) u w)
 input_stops_last x y b old mid new u v w f begun grown h k =
     let xs = h.bytes in
     let d = h.done in
@@ -138,18 +139,18 @@ input_stops_last x y b old mid new u v w f begun grown h k =
       bytes = xs;
       taken = h.taken;
       done = subst (λ (es : List Entry). StopsIn (logical_lines xs) es u w) (sym (session_entries-then old mid new begun grown))
-          (subst (λ (l : List (Option (List ℕ))). StopsIn l (entries_of session_pass (since old mid) ++ entries_of session_pass (since mid new)) u w) (sym lines)
+          (subst (λ (l : List (Option (List ℕ))). StopsIn l (session_entries old mid ++ session_entries mid new) u w) (sym lines)
           (StopsIn-after d.lines (lines_from b []) _ _ u v w f d.answered k));
     }
 
 -- the same of an error that is passed on
-abbrev pub full_pass : {T U : Type 0} (r : Result T Stop) (q : Result U Stop) (e d : Stop) (x y : Option (List ℕ)) → r ≡ Err e → q ≡ Err d → d ≡ e → TakesInput x y (λ bytes. IsErrOf r InputFull ↔ (1000000000 < length bytes)) → TakesInput x y (λ bytes. IsErrOf q InputFull ↔ (1000000000 < length bytes))
+abbrev pub full_pass : {T U : Type 0} (r : Result T Halt) (q : Result U Halt) (e d : Halt) (x y : Option (List ℕ)) → r ≡ Err e → q ≡ Err d → d ≡ e → TakesInput x y (λ bytes. IsErrOf r InputFull ↔ (1000000000 < length bytes)) → TakesInput x y (λ bytes. IsErrOf q InputFull ↔ (1000000000 < length bytes))
 full_pass r q e d x y was is same h =
     let to = h.done in
     record { bytes = h.bytes; taken = h.taken; done = ((λ f. to.0 (cc)), (λ more. let g = to.1 more in cc)) }
 
 -- a read behind so many bytes
-abbrev pub full_read : {T U : Type 0} (r : Result T Stop) (q : Result U Stop) (e d : Stop) (x y z : Option (List ℕ)) (n : ℕ) → r ≡ Err e → q ≡ Err d → d ≡ e → TakesInput x y (λ bytes. length bytes ≡ n) → TakesInput y z (λ bytes. IsErrOf r InputFull ↔ (1000000000 < n + length bytes)) → TakesInput x z (λ bytes. IsErrOf q InputFull ↔ (1000000000 < length bytes))
+abbrev pub full_read : {T U : Type 0} (r : Result T Halt) (q : Result U Halt) (e d : Halt) (x y z : Option (List ℕ)) (n : ℕ) → r ≡ Err e → q ≡ Err d → d ≡ e → TakesInput x y (λ bytes. length bytes ≡ n) → TakesInput y z (λ bytes. IsErrOf r InputFull ↔ (1000000000 < n + length bytes)) → TakesInput x z (λ bytes. IsErrOf q InputFull ↔ (1000000000 < length bytes))
 full_read r q e d x y z n was is same h k =
     let xs = h.bytes in
     let ys = k.bytes in
@@ -162,7 +163,7 @@ full_read r q e d x y z n was is same h k =
     }
 
 -- nor does anything else that ends the run behind the input
-abbrev pub full_later : {T U : Type 0} (r : Result T Stop) (q : Result U Stop) (t : T) (x y : Option (List ℕ)) → r ≡ Ok t → (IsErrOf q InputFull → ⊥) → TakesInput x y (λ bytes. IsErrOf r InputFull ↔ (1000000000 < length bytes)) → TakesInput x y (λ bytes. IsErrOf q InputFull ↔ (1000000000 < length bytes))
+abbrev pub full_later : {T U : Type 0} (r : Result T Halt) (q : Result U Halt) (t : T) (x y : Option (List ℕ)) → r ≡ Ok t → (IsErrOf q InputFull → ⊥) → TakesInput x y (λ bytes. IsErrOf r InputFull ↔ (1000000000 < length bytes)) → TakesInput x y (λ bytes. IsErrOf q InputFull ↔ (1000000000 < length bytes))
 full_later r q t x y is never h =
     let to = h.done in
     record { bytes = h.bytes; taken = h.taken; done = ((λ f. absurd (never f)), (λ more. let g = to.1 more in absurd (cc))) }

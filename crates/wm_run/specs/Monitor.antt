@@ -9,8 +9,7 @@ use Rattle.wm_base.specs.declared.job.StartCause.TheVariants as start
 use Rattle.wm_law.specs.declared.call.Call.{Call}
 use Rattle.wm_law.specs.declared.call.Call.TheVariants as call
 use Rattle.wm_law.specs.declared.call.Entry.{Entry}
-use Rattle.wm_law.specs.History.{after, is_hand, is_monitor_call, orders, reports}
-use Rattle.wm_law.specs.Opening.{opening}
+use Rattle.wm_law.specs.History.{is_hand, is_monitor_call, orders, reports}
 use Rattle.wm_law.specs.Pending.{next_due, starting}
 use Rattle.wm_outside.specs.declared.fault.Failed.{Failed}
 use Rattle.wm_outside.specs.declared.fault.StartFault.{StartFault}
@@ -18,9 +17,9 @@ use Rattle.wm_outside.specs.declared.fault.StartFault.TheVariants as fault
 use Rattle.wm_outside.specs.declared.spawner.Told.{Told}
 use Rattle.wm_outside.specs.declared.spawner.Told.TheVariants.{Began, NotBegan, Happened}
 use Rattle.wm_outside.specs.Told.{Grows, IsEmpty}
+use Rattle.wm_floor.specs.History.{History, reached, with_call, entry_at}
 use Rattle.wm_run.specs.declared.report.Report.{Report}
 use Rattle.wm_run.specs.declared.report.Report.TheVariants.{Started, StartFailed, Finished, UseDone}
-use Rattle.wm_run.specs.Floor.{entry_at}
 use Rattle.wm_run.specs.Lists.{since, Extends}
 
 -- the pass of the monitor
@@ -34,10 +33,12 @@ call_of (StartFailed serial why) = call.StartFailed serial why
 call_of (Finished serial end) = call.Finished serial end
 call_of (UseDone serial) = call.UseDone serial
 
+-- why a job couldn't be started
 abbrev pub start_cause : StartFault → StartCause
 start_cause fault.Failed = start.Spawner
 start_cause fault.NoMemory = start.Memory
 
+-- the report of what a child told
 abbrev pub report_event : Event → Report
 report_event (event.Ended serial end) = Finished serial end
 report_event (event.Used serial) = UseDone serial
@@ -66,6 +67,7 @@ abbrev pub is_start_fault : StartCause → Bool
 is_start_fault start.Spawner = true
 is_start_fault start.Memory = false
 
+-- whether a call reports so
 abbrev pub is_spawner_fault : Call → Bool
 is_spawner_fault (call.Change user c) = false
 is_spawner_fault call.Hand = false
@@ -80,25 +82,25 @@ abbrev pub is_own : Entry → Bool
 is_own e = e.caller == monitor_pass && is_monitor_call e.call
 
 -- the first entry that was added is a Hand
-pub record BeginsWithHand (old new : List Entry) : Type 0 where
+pub record BeginsWithHand (old new : History) : Type 0 where
   pub entry : Entry
   pub more : List Entry
-  pub whole : new ≡ old ++ entry ∷ more
+  pub whole : new.log ≡ old.log ++ entry ∷ more
   pub call : entry.call ≡ call.Hand
 
 -- the first entry that was added is a Hand of this moment
-pub record HandsAt (old new : List Entry) (moment : ℕ) : Type 0 where
+pub record HandsAt (old new : History) (moment : ℕ) : Type 0 where
   pub more : List Entry
-  pub whole : new ≡ old ++ entry_at old monitor_pass call.Hand moment ∷ more
+  pub whole : new.log ≡ old.log ++ entry_at old monitor_pass call.Hand moment ∷ more
 
 -- a Tick was added, at a moment by which the next job was due
-pub record TicksInTime (old : List Entry) (coming : Option ℕ) (new : List Entry) : Type 0 where
+pub record TicksInTime (old : History) (coming : Option ℕ) (new : History) : Type 0 where
   pub due : ℕ
   pub now : ℕ
-  pub next : next_due (after opening old) ≡ Some due
-  pub reached : due ≤ now
+  pub next : next_due (reached old) ≡ Some due
+  pub passed : due ≤ now
   pub moment : IfSome coming (λ told. now ≡ told)
-  pub entry : new ≡ old ++ entry_at old monitor_pass call.Tick now ∷ []
+  pub tick : new ≡ with_call old monitor_pass call.Tick now
 
 -- how many Hands there are
 abbrev pub hands_of : List Entry → ℕ
@@ -106,7 +108,7 @@ hands_of es = count_by (λ e. is_hand e.call) es
 
 -- what stands around a monitor at a moment
 pub record MonitorView : Type 0 where
-  pub log : List Entry
+  pub history : History
   pub kept : List Report
   pub asked : Option (List Asked)
   pub told : Option (List Call)
@@ -116,22 +118,27 @@ pub record MonitorView : Type 0 where
 abbrev pub RisesBy : ℕ → ℕ → ℕ → Type 0
 RisesBy before n now = min (before + n) (2 ^ 64 - 1) ≤ now
 
--- the monitor's part from one moment to another
-pub record Advances (old new : MonitorView) : Type 0 where
-  -- the history has grown by entries of the monitor
-  pub log : Extends old.log new.log
-  pub own : list_all is_own (since old.log new.log) ≡ true
-  -- what was asked is what these entries ordered
-  pub asked : Grows old.asked new.asked (orders (since old.log new.log) monitor_pass)
+-- what is done from one moment to another where each entry passes a test
+pub record Proceeds (is_mine : Entry → Bool) (old new : MonitorView) : Type 0 where
+  -- the history is from the same opened state, and has grown by entries that pass
+  pub opened : new.history.opened ≡ old.history.opened
+  pub log : Extends old.history.log new.history.log
+  pub callers : list_all is_mine (since old.history.log new.history.log) ≡ true
+  -- what was asked is what the monitor's entries among these ordered
+  pub asked : Grows old.asked new.asked (orders (since old.history.log new.history.log) monitor_pass)
   -- what was told is what was reported in them, the kept report counted with them
-  pub grown : Extends (reported old.log old.kept) (reported new.log new.kept)
-  pub told : Grows old.told new.told (since (reported old.log old.kept) (reported new.log new.kept))
+  pub grown : Extends (reported old.history.log old.kept) (reported new.history.log new.kept)
+  pub told : Grows old.told new.told (since (reported old.history.log old.kept) (reported new.history.log new.kept))
   -- each report of a failed start has raised the spawner's count
-  pub misses : RisesBy old.misses (count_by is_spawner_fault (since (reported old.log old.kept) (reported new.log new.kept))) new.misses
+  pub misses : RisesBy old.misses (count_by is_spawner_fault (since (reported old.history.log old.kept) (reported new.history.log new.kept))) new.misses
+
+-- the monitor's part from one moment to another: all entries are its own
+abbrev pub Advances : MonitorView → MonitorView → Type 0
+Advances old new = Proceeds is_own old new
 
 -- a monitor has nothing to do: it keeps no report, no job is due, no order is left and no child has a report
-pub record IsIdle (log : List Entry) (kept : Option Report) (coming : Option ℕ) (reporting : Option (List ℕ)) : Type 0 where
+pub record IsIdle (floor : History) (kept : Option Report) (coming : Option ℕ) (reporting : Option (List ℕ)) : Type 0 where
   pub none : kept ≡ None
-  pub due : IfSome (next_due (after opening log)) (λ due. IfSome coming (λ now. now < due))
-  pub orders : starting (after opening log) ≡ 0
+  pub due : IfSome (next_due (reached floor)) (λ due. IfSome coming (λ now. now < due))
+  pub orders : starting (reached floor) ≡ 0
   pub reports : IsEmpty reporting

@@ -4,8 +4,8 @@ use Rattle.wm_clwords.specs.Lines.{logical_lines}
 use Rattle.wm_law.specs.declared.call.Entry.{Entry}
 use Rattle.wm_run.specs.Session.{Answers, AnsweredBy, IsSession, OneCall, start_call}
 use Rattle.wm_run.specs.Stopped.{IsStopped, StopsIn}
-use Rattle.wm_run.specs.declared.stop.Stop.{Stop}
-use Rattle.wm_run.specs.declared.stop.Stop.TheVariants.{ReadFault, InputFull}
+use Rattle.wm_run.specs.declared.halt.Halt.{Halt}
+use Rattle.wm_run.specs.declared.halt.Halt.TheVariants.{ReadFault, InputFull}
 
 -- these lines have ended in the bytes: all lines but the last, where a letter more stands behind the bytes
 pub record HaveEnded (lines : List (Option (List ℕ))) (bytes : List ℕ) : Type 0 where
@@ -20,7 +20,7 @@ pub record AnswersEnded (bytes : List ℕ) (es : List Entry) (before now : Optio
   pub answered : AnsweredBy (Answers lines) es before now faulty
 
 -- what came of the bytes that were taken: their lines were answered, or the first of them
-pub record LinesCame (bytes : List ℕ) (result : Result Bool Stop) (es : List Entry) (before now : Option (List ℕ)) : Type 0 where
+pub record LinesCame (bytes : List ℕ) (result : Result Bool Halt) (es : List Entry) (before now : Option (List ℕ)) : Type 0 where
   pub answered : IfOk result (λ faulty. AnsweredBy (Answers (logical_lines bytes)) es before now faulty)
   pub stopped : OnErr result (StopsIn (logical_lines bytes) es before now)
   -- where the input couldn't be read, those were answered that had ended
@@ -36,7 +36,7 @@ pub record StopsBehind (bytes : List ℕ) (es : List Entry) (before now : Option
   pub answers : AnswersEnded bytes middle before now
 
 -- the same of a whole session
-pub record SessionCame (bytes : List ℕ) (result : Result Bool Stop) (es : List Entry) (before now : Option (List ℕ)) : Type 0 where
+pub record SessionCame (bytes : List ℕ) (result : Result Bool Halt) (es : List Entry) (before now : Option (List ℕ)) : Type 0 where
   pub session : IfOk result (λ faulty. IsSession (logical_lines bytes) es before now faulty)
   pub stopped : OnErr result (IsStopped (logical_lines bytes) es before now)
   pub cut_off : IsErrOf result ReadFault → StopsBehind bytes es before now

@@ -1,22 +1,33 @@
--- What stands around a run at two moments: the session and the monitor share the history.
-use Rattle.std.specs.Prelude.{◌≡◌, ◌==◌, ◌||◌, Bool, true, count_by}
-use Rattle.std.specs.List.{list_all}
+-- What a run does between two moments: the session and the monitor share the history.
+use Rattle.std.specs.Prelude.{ℕ, ◌==◌, ◌||◌, Bool, List, Option}
+use Rattle.wm_base.specs.declared.job.Asked.{Asked}
 use Rattle.wm_law.specs.declared.call.Entry.{Entry}
-use Rattle.wm_law.specs.History.{orders}
-use Rattle.wm_outside.specs.Told.{Grows}
-use Rattle.wm_run.specs.Lists.{since, Extends}
-use Rattle.wm_run.specs.Monitor.{MonitorView, RisesBy, reported, is_own, is_spawner_fault, monitor_pass}
+use Rattle.wm_law.specs.History.{entries_of}
+use Rattle.wm_floor.specs.History.{History}
+use Rattle.wm_outside.specs.declared.spawner.Told.{Told}
+use Rattle.wm_run.specs.declared.session.Run.{Run}
+use Rattle.wm_run.specs.Lists.{since}
+use Rattle.wm_run.specs.Monitor.{MonitorView, Proceeds, is_own}
 use Rattle.wm_run.specs.Session.{session_pass}
+use Rattle.wm_run.specs.View.{view, MonitorAdvances}
 
 -- an entry of the session, or a monitor's call of the monitor
 abbrev pub is_of_run : Entry → Bool
 is_of_run e = e.caller == session_pass || is_own e
 
 -- as a monitor's part, but beside it the session has entries too
-pub record Serves (old new : MonitorView) : Type 0 where
-  pub log : Extends old.log new.log
-  pub callers : list_all is_of_run (since old.log new.log) ≡ true
-  pub asked : Grows old.asked new.asked (orders (since old.log new.log) monitor_pass)
-  pub grown : Extends (reported old.log old.kept) (reported new.log new.kept)
-  pub told : Grows old.told new.told (since (reported old.log old.kept) (reported new.log new.kept))
-  pub misses : RisesBy old.misses (count_by is_spawner_fault (since (reported old.log old.kept) (reported new.log new.kept))) new.misses
+abbrev pub Serves : MonitorView → MonitorView → Type 0
+Serves old new = Proceeds is_of_run old new
+
+-- the same between two moments of a run, where the spawner tells so much
+abbrev pub RunServes : {P : Type 0} → (P → Option (List Asked)) → (P → Option (List Told)) → (P → ℕ) → Run → P → Run → P → Type 0
+RunServes asked told misses run spawner run' spawner' =
+    Serves (view run.floor run.monitor (asked spawner) (told spawner) (misses spawner)) (view run'.floor run'.monitor (asked spawner') (told spawner') (misses spawner'))
+
+-- and of the monitor's part alone
+abbrev pub RunAdvances : {P : Type 0} → (P → Option (List Asked)) → (P → Option (List Told)) → (P → ℕ) → Run → P → Run → P → Type 0
+RunAdvances asked told misses run spawner run' spawner' = MonitorAdvances asked told misses run.floor run.monitor spawner run'.floor run'.monitor spawner'
+
+-- the session's entries that a history has grown by
+abbrev pub session_entries : History → History → List Entry
+session_entries old new = entries_of session_pass (since old.log new.log)

@@ -9,11 +9,12 @@ use Rattle.wm_law.specs.declared.call.Entry.{Entry}
 use Rattle.wm_desc.specs.Opening.{qbatch}
 use Rattle.wm_clwords.specs.declared.fault.ClFault.TheVariants.{TooLong}
 use Rattle.wm_outside.specs.Told.{Grows}
-use Rattle.wm_run.specs.Reading.{Reads, session_user}
-use Rattle.wm_run.specs.Said.{said_text, fault_answer, is_fault, with_end, not_built, is_refused}
-use Rattle.wm_run.specs.declared.reading.LineFault.TheVariants.{Cl}
-use Rattle.wm_run.specs.declared.reading.Reading.{Reading}
-use Rattle.wm_run.specs.declared.reading.Reading.TheVariants.{Fault, NotBuilt, Call}
+use Rattle.wm_run.specs.Parsed.{Parses, session_user}
+use Rattle.wm_show.specs.Said.{said_text}
+use Rattle.wm_run.specs.Answer.{fault_answer, is_fault, with_end, not_built, is_refused}
+use Rattle.wm_show.specs.declared.line_fault.LineFault.TheVariants.{Cl}
+use Rattle.wm_run.specs.declared.parsed.Parsed.{Parsed}
+use Rattle.wm_run.specs.declared.parsed.Parsed.TheVariants.{Fault, NotBuilt, Call}
 
 -- the pass of the session
 abbrev pub session_pass : ℕ
@@ -41,21 +42,21 @@ pub record Says (due : List ℕ) (wrong : Bool) (es : List Entry) (bytes : List 
   pub says : bytes ≡ due
   pub fault : faulty ≡ wrong
 
--- what a reading is answered by: a fault by its line, a call by what is said of its entry
-abbrev pub AnswersReading : Reading → List Entry → List ℕ → Bool → Type 0
-AnswersReading (Fault fault) es bytes faulty = Says (fault_answer fault) (is_fault fault) es bytes faulty
-AnswersReading NotBuilt es bytes faulty = Says (with_end not_built) true es bytes faulty
-AnswersReading (Call c) es bytes faulty = Calls c es bytes faulty
+-- what answers a parsed line: a fault has its line, a call what is said of its entry
+abbrev pub AnswersParsed : Parsed → List Entry → List ℕ → Bool → Type 0
+AnswersParsed (Fault fault) es bytes faulty = Says (fault_answer fault) (is_fault fault) es bytes faulty
+AnswersParsed NotBuilt es bytes faulty = Says (with_end not_built) true es bytes faulty
+AnswersParsed (Call c) es bytes faulty = Calls c es bytes faulty
 
 -- the entries and the bytes of a text, and whether it got a fault or a refusal
 pub record AnswersText (text : List ℕ) (es : List Entry) (bytes : List ℕ) (faulty : Bool) : Type 0 where
-  pub reading : Reading
-  pub reads : Reads text reading
-  pub answers : AnswersReading reading es bytes faulty
+  pub parsed : Parsed
+  pub parses : Parses text parsed
+  pub answers : AnswersParsed parsed es bytes faulty
 
 -- the same of a logical line, which may be too long
 abbrev pub AnswersLine : Option (List ℕ) → List Entry → List ℕ → Bool → Type 0
-AnswersLine None es bytes faulty = AnswersReading (Fault (Cl TooLong)) es bytes faulty
+AnswersLine None es bytes faulty = AnswersParsed (Fault (Cl TooLong)) es bytes faulty
 AnswersLine (Some text) es bytes faulty = AnswersText text es bytes faulty
 
 -- the first line, and then the rest

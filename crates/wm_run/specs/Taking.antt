@@ -4,8 +4,8 @@ use Rattle.wm_clwords.specs.Part.{Part, lines_from}
 use Rattle.wm_law.specs.declared.call.Entry.{Entry}
 use Rattle.wm_outside.specs.Told.{Takes}
 use Rattle.wm_run.specs.Session.{Answers, AnsweredBy}
-use Rattle.wm_run.specs.declared.stop.Stop.{Stop}
-use Rattle.wm_run.specs.declared.stop.Stop.TheVariants.{ReadFault, InputFull}
+use Rattle.wm_run.specs.declared.halt.Halt.{Halt}
+use Rattle.wm_run.specs.declared.halt.Halt.TheVariants.{ReadFault, InputFull}
 
 -- of a piece a rest is left, and the lines that ended were answered: however the input goes on, its lines are these and those that the rest gives
 pub record TakesPiece (before : Part) (piece : List ℕ) (after : Part) (rest : List ℕ) (es : List Entry) (written_before written_now : Option (List ℕ)) (faulty : Bool) : Type 0 where
@@ -20,6 +20,6 @@ pub record TakesInput (left_before left_now : Option (List ℕ)) (Done : List �
   pub done : Done bytes
 
 -- a read that stopped the run behind so many bytes: a failing one gave none, and one told as too long gave too many
-pub record StopsReading {T : Type 0} (bytes : List ℕ) (total : ℕ) (result : Result T Stop) : Type 0 where
+pub record StopsReading {T : Type 0} (bytes : List ℕ) (total : ℕ) (result : Result T Halt) : Type 0 where
   pub none : IsErrOf result ReadFault → bytes ≡ []
   pub full : IsErrOf result InputFull ↔ (1000000000 < total + length bytes)

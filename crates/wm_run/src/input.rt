@@ -2,15 +2,16 @@
 ghost use Rattle.std.specs.Prelude.{◌≡◌, ◌≤◌, ◌<◌, ◌+◌, ◌||◌, [], ◌∷◌, Ok, Some, IfOk, OnErr, IsErrOf, length, take};
 ghost use Rattle.std.specs.Option.{option_copied};
 ghost use Rattle.std.specs.Io.KnownBytes.{IsAtEnd};
-ghost use Rattle.wm_clwords.specs.Part.{said};
+ghost use Rattle.wm_clwords.specs.Part.{ended_lines};
 ghost use Rattle.wm_outside.specs.Told.{Takes};
 ghost use Rattle.wm_outside.specs.Cause.{raised};
 ghost use Rattle.wm_run.specs.Taking.{StopsReading, TakesInput};
 
+use crate::halt::Halt;
 use crate::session::Run;
-use crate::stop::Stop;
-use std::alloc::{AllocError, Global};
+use std::alloc::Global;
 use std::sync::Wait;
+use wm_base::NoMemory;
 use wm_clwords::{Joiner, LogicalLine};
 use wm_outside::{Clock, Sink, Source, Spawner};
 
@@ -22,7 +23,7 @@ pub const PIECE_LEN: usize = 65536;
 
 // Reads a piece behind so many bytes, and tells a fault as the run's. An input that is too long is told before its
 // bytes are used.
-fn read<I: Source>(input: &mut I, piece: &mut [u8], total: u64) -> Result<usize, Stop>
+fn read<I: Source>(input: &mut I, piece: &mut [u8], total: u64) -> Result<usize, Halt>
     requires few { total ≤ 1000000000 }
     requires whole { length piece.old ≡ 65536 }
     ensures within { IfOk result (λ n. n ≤ length piece.new) }
@@ -32,21 +33,21 @@ fn read<I: Source>(input: &mut I, piece: &mut [u8], total: u64) -> Result<usize,
     ensures end { result ≡ Ok 0 → 0 < length piece.new → IsAtEnd (I.left input.new) }
     ensures stopped { OnErr result (TakesInput (I.left input.old) (I.left input.new) (λ bytes. StopsReading bytes total result)) }
     ensures faults { I.faults input.old ≤ I.faults input.new }
-    ensures read_fault { IsErrOf result Stop.ReadFault → raised (I.faults input.old) ≤ I.faults input.new }
-    ensures no_write { IsErrOf result Stop.WriteFault → ⊥ }
-    ensures no_wait { IsErrOf result Stop.WaitFault → ⊥ }
+    ensures read_fault { IsErrOf result Halt.ReadFault → raised (I.faults input.old) ≤ I.faults input.new }
+    ensures no_write { IsErrOf result Halt.WriteFault → ⊥ }
+    ensures no_wait { IsErrOf result Halt.WaitFault → ⊥ }
 {
     let Ok(n) = input.read(piece) else {
-        return Err(Stop::ReadFault);
+        return Err(Halt::ReadFault);
     };
     if n as u64 > MOST_INPUT - total {
-        return Err(Stop::InputFull);
+        return Err(Halt::InputFull);
     }
     Ok(n)
 }
 
 // The room for a piece. It is made apart from the loop, so that its bytes aren't looked at there.
-fn piece_buffer(alloc: Global) -> Result<Vec<u8>, AllocError>
+fn piece_buffer(alloc: Global) -> Result<Vec<u8>, NoMemory>
     ensures { IfOk result (λ piece. length piece.items ≡ 65536) }
 {
     Ok(vec![in alloc; 0u8; PIECE_LEN]?)
@@ -61,7 +62,7 @@ fn either(a: bool, b: bool) -> bool
 
 // A line that ended, as the session takes it: None is one that is too long.
 fn text_of(line: LogicalLine, joiner: &Joiner) -> Option<&[u8]>
-    ensures { said (Some line) joiner.now ≡ option_copied result ∷ [] }
+    ensures { ended_lines (Some line) joiner.now ≡ option_copied result ∷ [] }
 {
     match line {
         LogicalLine::Command => Some(joiner.line()),
@@ -72,16 +73,13 @@ fn text_of(line: LogicalLine, joiner: &Joiner) -> Option<&[u8]>
 impl Run {
     ghost use Rattle.std.specs.Prelude.{◌≡◌, ◌≤◌, ◌<◌, ◌++◌, [], List, ℕ, Some, IfOk, OnOk, OnErr, length, drop};
     ghost use Rattle.std.specs.Io.KnownBytes.{IsAtEnd};
-    ghost use Rattle.wm_clwords.specs.Part.{lines_from, said};
-    ghost use Rattle.wm_law.specs.History.{entries_of};
-    ghost use Rattle.wm_run.specs.Lists.{since};
+    ghost use Rattle.wm_clwords.specs.Part.{lines_from, ended_lines};
+    ghost use Rattle.wm_run.specs.Halt.{HasCauses, HasInputCauses};
     ghost use Rattle.wm_run.specs.Outcome.{LinesCame};
-    ghost use Rattle.wm_run.specs.Serving.{Serves};
-    ghost use Rattle.wm_run.specs.Session.{Answers, AnsweredBy, session_pass};
-    ghost use Rattle.wm_run.specs.Stop.{HasCauses, HasInputCauses};
+    ghost use Rattle.wm_run.specs.Serving.{RunServes, session_entries};
+    ghost use Rattle.wm_run.specs.Session.{Answers, AnsweredBy};
     ghost use Rattle.wm_run.specs.Stopped.{StopsIn};
     ghost use Rattle.wm_run.specs.Taking.{TakesPiece, TakesInput};
-    ghost use Rattle.wm_run.specs.View.{view};
 
     // Answers the line that a joiner has.
     fn answer_joined<O: Sink, P: Spawner, C: Clock>(
@@ -92,13 +90,12 @@ impl Run {
         clock: &mut C,
         line: LogicalLine,
         joiner: &Joiner,
-    ) -> Result<bool, Stop>
-        ensures serves { Serves (view self.old.floor self.old.monitor (P.asked spawner.old) (P.told spawner.old) (P.misses spawner.old))
-            (view self.new.floor self.new.monitor (P.asked spawner.new) (P.told spawner.new) (P.misses spawner.new)) }
-        ensures answered { IfOk result (λ faulty. AnsweredBy (Answers (said (Some line) joiner.now))
-            (entries_of session_pass (since self.old.floor self.new.floor)) (O.written out.old) (O.written out.new) faulty) }
-        ensures stopped { OnErr result (StopsIn (said (Some line) joiner.now)
-            (entries_of session_pass (since self.old.floor self.new.floor)) (O.written out.old) (O.written out.new)) }
+    ) -> Result<bool, Halt>
+        ensures serves { RunServes P.asked P.told P.misses self.old spawner.old self.new spawner.new }
+        ensures answered { IfOk result (λ faulty. AnsweredBy (Answers (ended_lines (Some line) joiner.now))
+            (session_entries self.old.floor self.new.floor) (O.written out.old) (O.written out.new) faulty) }
+        ensures stopped { OnErr result (StopsIn (ended_lines (Some line) joiner.now)
+            (session_entries self.old.floor self.new.floor) (O.written out.old) (O.written out.new)) }
         ensures causes { HasCauses result (O.faults out.old) (O.faults out.new) (P.faults spawner.old) (P.faults spawner.new) }
     {
         self.answer(alloc, out, spawner, clock, text_of(line, joiner))
@@ -113,15 +110,14 @@ impl Run {
         clock: &mut C,
         joiner: &mut Joiner,
         piece: &[u8],
-    ) -> Result<(usize, bool), Stop>
-        ensures serves { Serves (view self.old.floor self.old.monitor (P.asked spawner.old) (P.told spawner.old) (P.misses spawner.old))
-            (view self.new.floor self.new.monitor (P.asked spawner.new) (P.told spawner.new) (P.misses spawner.new)) }
+    ) -> Result<(usize, bool), Halt>
+        ensures serves { RunServes P.asked P.told P.misses self.old spawner.old self.new spawner.new }
         ensures taken { IfOk result (λ r. TakesPiece joiner.old piece.now joiner.new (drop r.0 piece.now)
-            (entries_of session_pass (since self.old.floor self.new.floor)) (O.written out.old) (O.written out.new) r.1) }
+            (session_entries self.old.floor self.new.floor) (O.written out.old) (O.written out.new) r.1) }
         ensures within { IfOk result (λ r. r.0 ≤ length piece.now) }
         ensures progress { IfOk result (λ r. 0 < length piece.now → 0 < r.0) }
         ensures stopped { OnErr result ((more : List ℕ) → StopsIn (lines_from joiner.old (piece.now ++ more))
-            (entries_of session_pass (since self.old.floor self.new.floor)) (O.written out.old) (O.written out.new)) }
+            (session_entries self.old.floor self.new.floor) (O.written out.old) (O.written out.new)) }
         ensures causes { HasCauses result (O.faults out.old) (O.faults out.new) (P.faults spawner.old) (P.faults spawner.new) }
     {
         let (taken, ended) = joiner.feed(piece);
@@ -141,13 +137,12 @@ impl Run {
         clock: &mut C,
         joiner: &mut Joiner,
         piece: &[u8],
-    ) -> Result<bool, Stop>
-        ensures serves { Serves (view self.old.floor self.old.monitor (P.asked spawner.old) (P.told spawner.old) (P.misses spawner.old))
-            (view self.new.floor self.new.monitor (P.asked spawner.new) (P.told spawner.new) (P.misses spawner.new)) }
+    ) -> Result<bool, Halt>
+        ensures serves { RunServes P.asked P.told P.misses self.old spawner.old self.new spawner.new }
         ensures taken { IfOk result (λ faulty. TakesPiece joiner.old piece.now joiner.new []
-            (entries_of session_pass (since self.old.floor self.new.floor)) (O.written out.old) (O.written out.new) faulty) }
+            (session_entries self.old.floor self.new.floor) (O.written out.old) (O.written out.new) faulty) }
         ensures stopped { OnErr result ((more : List ℕ) → StopsIn (lines_from joiner.old (piece.now ++ more))
-            (entries_of session_pass (since self.old.floor self.new.floor)) (O.written out.old) (O.written out.new)) }
+            (session_entries self.old.floor self.new.floor) (O.written out.old) (O.written out.new)) }
         ensures causes { HasCauses result (O.faults out.old) (O.faults out.new) (P.faults spawner.old) (P.faults spawner.new) }
     {
         let mut faulty = false;
@@ -168,13 +163,12 @@ impl Run {
         spawner: &mut P,
         clock: &mut C,
         joiner: &mut Joiner,
-    ) -> Result<bool, Stop>
-        ensures serves { Serves (view self.old.floor self.old.monitor (P.asked spawner.old) (P.told spawner.old) (P.misses spawner.old))
-            (view self.new.floor self.new.monitor (P.asked spawner.new) (P.told spawner.new) (P.misses spawner.new)) }
+    ) -> Result<bool, Halt>
+        ensures serves { RunServes P.asked P.told P.misses self.old spawner.old self.new spawner.new }
         ensures answered { IfOk result (λ faulty. AnsweredBy (Answers (lines_from joiner.old []))
-            (entries_of session_pass (since self.old.floor self.new.floor)) (O.written out.old) (O.written out.new) faulty) }
+            (session_entries self.old.floor self.new.floor) (O.written out.old) (O.written out.new) faulty) }
         ensures stopped { OnErr result (StopsIn (lines_from joiner.old [])
-            (entries_of session_pass (since self.old.floor self.new.floor)) (O.written out.old) (O.written out.new)) }
+            (session_entries self.old.floor self.new.floor) (O.written out.old) (O.written out.new)) }
         ensures causes { HasCauses result (O.faults out.old) (O.faults out.new) (P.faults spawner.old) (P.faults spawner.new) }
     {
         let Some(line) = joiner.end() else {
@@ -193,12 +187,11 @@ impl Run {
         spawner: &mut P,
         clock: &mut C,
         piece: &mut [u8],
-    ) -> Result<bool, Stop>
+    ) -> Result<bool, Halt>
         requires { length piece.old ≡ 65536 }
-        ensures serves { Serves (view self.old.floor self.old.monitor (P.asked spawner.old) (P.told spawner.old) (P.misses spawner.old))
-            (view self.new.floor self.new.monitor (P.asked spawner.new) (P.told spawner.new) (P.misses spawner.new)) }
+        ensures serves { RunServes P.asked P.told P.misses self.old spawner.old self.new spawner.new }
         ensures input { TakesInput (I.left input.old) (I.left input.new) (λ bytes. LinesCame bytes result
-            (entries_of session_pass (since self.old.floor self.new.floor)) (O.written out.old) (O.written out.new)) }
+            (session_entries self.old.floor self.new.floor) (O.written out.old) (O.written out.new)) }
         ensures end { OnOk result (IsAtEnd (I.left input.new)) }
         ensures causes { HasInputCauses result (I.faults input.old) (I.faults input.new) (O.faults out.old) (O.faults out.new) (P.faults spawner.old) (P.faults spawner.new) }
     {
@@ -227,11 +220,10 @@ impl Run {
         out: &mut O,
         spawner: &mut P,
         clock: &mut C,
-    ) -> Result<bool, Stop>
-        ensures serves { Serves (view self.old.floor self.old.monitor (P.asked spawner.old) (P.told spawner.old) (P.misses spawner.old))
-            (view self.new.floor self.new.monitor (P.asked spawner.new) (P.told spawner.new) (P.misses spawner.new)) }
+    ) -> Result<bool, Halt>
+        ensures serves { RunServes P.asked P.told P.misses self.old spawner.old self.new spawner.new }
         ensures input { TakesInput (I.left input.old) (I.left input.new) (λ bytes. LinesCame bytes result
-            (entries_of session_pass (since self.old.floor self.new.floor)) (O.written out.old) (O.written out.new)) }
+            (session_entries self.old.floor self.new.floor) (O.written out.old) (O.written out.new)) }
         ensures end { OnOk result (IsAtEnd (I.left input.new)) }
         ensures causes { HasInputCauses result (I.faults input.old) (I.faults input.new) (O.faults out.old) (O.faults out.new) (P.faults spawner.old) (P.faults spawner.new) }
     {

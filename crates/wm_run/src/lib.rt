@@ -4,17 +4,16 @@
 //! in `specs/`.
 #![tactic(auto)]
 
+mod answer;
 mod calls;
 mod finish;
-mod floor;
+mod halt;
 mod input;
-mod line;
 mod monitor;
-mod reading;
+mod parse;
+mod parsed;
 mod report;
-mod said;
 mod session;
-mod stop;
 mod whole_run;
 mod write;
 

@@ -6,11 +6,11 @@ ghost use Rattle.wm_outside.specs.Cause.{HasCause};
 ghost use Rattle.wm_run.specs.Monitor.{RisesBy, as_reports, call_of, is_spawner_fault, looked};
 ghost use Rattle.wm_run.specs.declared.monitor.MonitorFault.TheVariants.{WaitFault, NoMemory};
 
-use crate::floor::Floor;
 use crate::report::Report;
 use std::alloc::{AllocError, Global};
 use std::sync::Wait;
-use wm_base::{Asked, Moment, Serial, StartOrder};
+use wm_base::{Asked, Moment, NoMemory, Serial, StartOrder};
+use wm_floor::Floor;
 use wm_law::Call;
 use wm_outside::{Clock, Failed, Spawner};
 
@@ -54,19 +54,15 @@ impl From<AllocError> for MonitorFault {
 }
 
 impl Monitor {
-    ghost use Rattle.std.specs.Prelude.{◌≡◌, ◌⊎◌, ◌<◌, ◌≤◌, ◌+◌, ◌-◌, ◌++◌, ◌∷◌, [], ℕ, List, Option, None, Some, Ok, true, false, length, OnOk, OnErr, IfOk, IfSome, IsErrOf};
-    ghost use Rattle.wm_base.specs.declared.job.Asked.{Asked};
-    ghost use Rattle.wm_outside.specs.declared.spawner.Told.{Told};
+    ghost use Rattle.std.specs.Prelude.{◌≡◌, ◌⊎◌, ◌<◌, ◌≤◌, ◌+◌, ◌-◌, ◌∷◌, [], None, Ok, true, false, length, OnOk, IfOk, IfSome, IsErrOf};
     ghost use Rattle.wm_outside.specs.Told.{Grows, IsEmpty};
     ghost use Rattle.wm_outside.specs.Cause.{raised};
     ghost use Rattle.wm_law.specs.declared.call.Call.{Call};
-    ghost use Rattle.wm_law.specs.History.{after};
-    ghost use Rattle.wm_law.specs.Opening.{opening};
     ghost use Rattle.wm_law.specs.Pending.{next_due, starting};
-    ghost use Rattle.wm_run.specs.Floor.{entry_at};
+    ghost use Rattle.wm_floor.specs.History.{reached, with_call};
     ghost use Rattle.wm_run.specs.Lists.{since};
-    ghost use Rattle.wm_run.specs.Monitor.{Advances, BeginsWithHand, HandsAt, IsIdle, TicksInTime, as_reports, call_of, hands_of, monitor_pass};
-    ghost use Rattle.wm_run.specs.View.{view};
+    ghost use Rattle.wm_run.specs.Monitor.{BeginsWithHand, HandsAt, IsIdle, TicksInTime, as_reports, call_of, hands_of, monitor_pass};
+    ghost use Rattle.wm_run.specs.View.{MonitorAdvances, MonitorCalls};
 
     /// A monitor that keeps nothing.
     pub fn new() -> Monitor
@@ -81,14 +77,13 @@ impl Monitor {
         alloc: Global,
         floor: &mut Floor,
         clock: &mut C,
-    ) -> Result<(), AllocError>
-        ensures part { (asked : Option (List Asked)) (told : Option (List Told)) (misses : ℕ) →
-            Advances (view floor.old self.old asked told misses) (view floor.new self.new asked told misses) }
-        ensures sent { OnOk result (IfSome self.old.kept (λ _. length floor.old < length floor.new)) }
+    ) -> Result<(), NoMemory>
+        ensures part { MonitorCalls floor.old self.old floor.new self.new }
+        ensures sent { OnOk result (IfSome self.old.kept (λ _. length floor.old.log < length floor.new.log)) }
         ensures moment { OnOk result (IfSome self.old.kept (λ report. IfSome (C.coming clock.old) (λ now.
-            floor.new ≡ floor.old ++ entry_at floor.old monitor_pass (call_of report) now ∷ []))) }
-        ensures few { length floor.new ≤ length floor.old + 1 }
-        ensures no_hand { hands_of (since floor.old floor.new) ≡ 0 }
+            floor.new ≡ with_call floor.old monitor_pass (call_of report) now))) }
+        ensures few { length floor.new.log ≤ length floor.old.log + 1 }
+        ensures no_hand { hands_of (since floor.old.log floor.new.log) ≡ 0 }
         ensures unread { self.old.kept ≡ None → C.coming clock.new ≡ C.coming clock.old }
         ensures kept { OnOk result (self.new.kept ≡ None) }
     {
@@ -109,17 +104,16 @@ impl Monitor {
         clock: &mut C,
     ) -> Result<(), MonitorFault>
         requires { self.old.kept ≡ None }
-        ensures part { Advances (view floor.old self.old (P.asked spawner.old) (P.told spawner.old) (P.misses spawner.old))
-            (view floor.new self.new (P.asked spawner.new) (P.told spawner.new) (P.misses spawner.new)) }
-        ensures all { OnOk result ((starting (after opening floor.new) ≡ 0) ⊎ (256 ≤ hands_of (since floor.old floor.new))) }
-        ensures most { hands_of (since floor.old floor.new) ≤ 256 }
-        ensures quiet { OnOk result ((P.reporting spawner.new ≡ P.reporting spawner.old) ⊎ (length floor.old < length floor.new)) }
+        ensures part { MonitorAdvances P.asked P.told P.misses floor.old self.old spawner.old floor.new self.new spawner.new }
+        ensures all { OnOk result ((starting (reached floor.new) ≡ 0) ⊎ (256 ≤ hands_of (since floor.old.log floor.new.log))) }
+        ensures most { hands_of (since floor.old.log floor.new.log) ≤ 256 }
+        ensures quiet { OnOk result ((P.reporting spawner.new ≡ P.reporting spawner.old) ⊎ (length floor.old.log < length floor.new.log)) }
         ensures kept { OnOk result (self.new.kept ≡ None) }
         ensures faults { P.faults spawner.old ≤ P.faults spawner.new }
         ensures wait_fault { IsErrOf result MonitorFault.WaitFault → raised (P.faults spawner.old) ≤ P.faults spawner.new }
     {
         'hands: for _ in 0..MOST_HANDS {
-            if floor.orders() == 0 {
+            if floor.pending().orders == 0 {
                 return Ok(());
             }
             self.hand(alloc, floor, spawner, clock)?;
@@ -136,11 +130,10 @@ impl Monitor {
         clock: &mut C,
     ) -> Result<(), MonitorFault>
         requires { self.old.kept ≡ None }
-        ensures part { Advances (view floor.old self.old (P.asked spawner.old) (P.told spawner.old) (P.misses spawner.old))
-            (view floor.new self.new (P.asked spawner.new) (P.told spawner.new) (P.misses spawner.new)) }
-        ensures all { OnOk result (IsEmpty (P.reporting spawner.old) ⊎ (length floor.old < length floor.new)) }
-        ensures most { length floor.new ≤ length floor.old + 256 }
-        ensures last { OnOk result ((256 ≤ length (since floor.old floor.new)) ⊎
+        ensures part { MonitorAdvances P.asked P.told P.misses floor.old self.old spawner.old floor.new self.new spawner.new }
+        ensures all { OnOk result (IsEmpty (P.reporting spawner.old) ⊎ (length floor.old.log < length floor.new.log)) }
+        ensures most { length floor.new.log ≤ length floor.old.log + 256 }
+        ensures last { OnOk result ((256 ≤ length (since floor.old.log floor.new.log)) ⊎
             ((last : P) × IsEmpty (P.reporting last) × Grows (as_reports (P.told last)) (as_reports (P.told spawner.new)) [])) }
         ensures kept { OnOk result (self.new.kept ≡ None) }
         ensures faults { P.faults spawner.old ≤ P.faults spawner.new }
@@ -163,12 +156,11 @@ impl Monitor {
         spawner: &mut P,
         clock: &mut C,
     ) -> Result<usize, MonitorFault>
-        ensures part { Advances (view floor.old self.old (P.asked spawner.old) (P.told spawner.old) (P.misses spawner.old))
-            (view floor.new self.new (P.asked spawner.new) (P.told spawner.new) (P.misses spawner.new)) }
+        ensures part { MonitorAdvances P.asked P.told P.misses floor.old self.old spawner.old floor.new self.new spawner.new }
         ensures kept { OnOk result (self.new.kept ≡ None) }
         ensures faults { P.faults spawner.old ≤ P.faults spawner.new }
         ensures wait_fault { IsErrOf result MonitorFault.WaitFault → raised (P.faults spawner.old) ≤ P.faults spawner.new }
-        ensures sent { IfOk result (λ sent. sent ≡ length floor.new - length floor.old) }
+        ensures sent { IfOk result (λ sent. sent ≡ length floor.new.log - length floor.old.log) }
         ensures idle { result ≡ Ok 0 → IsIdle floor.old self.old.kept (C.coming clock.old) (P.reporting spawner.old) }
     {
         let before = floor.len();
@@ -189,9 +181,8 @@ impl Monitor {
         clock: &mut C,
         until: Option<Moment>,
     ) -> Result<(), MonitorFault>
-        ensures part { Advances (view floor.old self.old (P.asked spawner.old) (P.told spawner.old) (P.misses spawner.old))
-            (view floor.new self.new (P.asked spawner.new) (P.told spawner.new) (P.misses spawner.new)) }
-        ensures report { OnOk result (until ≡ None → IsEmpty (P.out spawner.old) ⊎ (length floor.old < length floor.new)) }
+        ensures part { MonitorAdvances P.asked P.told P.misses floor.old self.old spawner.old floor.new self.new spawner.new }
+        ensures report { OnOk result (until ≡ None → IsEmpty (P.out spawner.old) ⊎ (length floor.old.log < length floor.new.log)) }
         ensures awaited { OnOk result (Grows (P.awaited spawner.old) (P.awaited spawner.new) (until ∷ [])) }
         ensures kept { OnOk result (self.new.kept ≡ None) }
         ensures faults { P.faults spawner.old ≤ P.faults spawner.new }
@@ -212,16 +203,15 @@ impl Monitor {
         alloc: Global,
         floor: &mut Floor,
         clock: &mut C,
-    ) -> Result<(), AllocError>
-        ensures part { (asked : Option (List Asked)) (told : Option (List Told)) (misses : ℕ) →
-            Advances (view floor.old self.old asked told misses) (view floor.new self.new asked told misses) }
-        ensures due { OnOk result (IfSome (next_due (after opening floor.old)) (λ due. IfSome (C.coming clock.old) (λ now.
-            due ≤ now → floor.new ≡ floor.old ++ entry_at floor.old monitor_pass Call.Tick now ∷ []))) }
+    ) -> Result<(), NoMemory>
+        ensures part { MonitorCalls floor.old self.old floor.new self.new }
+        ensures due { OnOk result (IfSome (next_due (reached floor.old)) (λ due. IfSome (C.coming clock.old) (λ now.
+            due ≤ now → floor.new ≡ with_call floor.old monitor_pass Call.Tick now))) }
         ensures in_time { (floor.new ≡ floor.old) ⊎ TicksInTime floor.old (C.coming clock.old) floor.new }
         ensures kept { self.new ≡ self.old }
     {
         let now = clock.now();
-        match floor.next_due() {
+        match floor.pending().next {
             Some(due) if due <= now => {
                 floor.call(alloc, MONITOR, Call::Tick, now)?;
                 Ok(())
@@ -241,9 +231,8 @@ impl Monitor {
         requires { self.old.kept ≡ None }
         ensures hand { OnOk result (BeginsWithHand floor.old floor.new) }
         ensures moment { OnOk result (IfSome (C.coming clock.old) (HandsAt floor.old floor.new)) }
-        ensures one { hands_of (since floor.old floor.new) ≤ 1 }
-        ensures part { Advances (view floor.old self.old (P.asked spawner.old) (P.told spawner.old) (P.misses spawner.old))
-            (view floor.new self.new (P.asked spawner.new) (P.told spawner.new) (P.misses spawner.new)) }
+        ensures one { hands_of (since floor.old.log floor.new.log) ≤ 1 }
+        ensures part { MonitorAdvances P.asked P.told P.misses floor.old self.old spawner.old floor.new self.new spawner.new }
         ensures kept { OnOk result (self.new.kept ≡ None) }
         ensures faults { P.faults spawner.old ≤ P.faults spawner.new }
         ensures wait_fault { IsErrOf result MonitorFault.WaitFault → raised (P.faults spawner.old) ≤ P.faults spawner.new }
@@ -273,12 +262,11 @@ impl Monitor {
     ) -> Result<bool, MonitorFault>
         requires { self.old.kept ≡ None }
         ensures none { result ≡ Ok false → IsEmpty (P.reporting spawner.old) }
-        ensures sent { result ≡ Ok true → length floor.old < length floor.new }
-        ensures moment { result ≡ Ok true → IfSome (C.coming clock.old) (λ now. (c : Call) × (floor.new ≡ floor.old ++ entry_at floor.old monitor_pass c now ∷ [])) }
-        ensures few { length floor.new ≤ length floor.old + 1 }
+        ensures sent { result ≡ Ok true → length floor.old.log < length floor.new.log }
+        ensures moment { result ≡ Ok true → IfSome (C.coming clock.old) (λ now. (c : Call) × (floor.new ≡ with_call floor.old monitor_pass c now)) }
+        ensures few { length floor.new.log ≤ length floor.old.log + 1 }
         ensures none_told { result ≡ Ok false → Grows (as_reports (P.told spawner.old)) (as_reports (P.told spawner.new)) [] }
-        ensures part { Advances (view floor.old self.old (P.asked spawner.old) (P.told spawner.old) (P.misses spawner.old))
-            (view floor.new self.new (P.asked spawner.new) (P.told spawner.new) (P.misses spawner.new)) }
+        ensures part { MonitorAdvances P.asked P.told P.misses floor.old self.old spawner.old floor.new self.new spawner.new }
         ensures kept { OnOk result (self.new.kept ≡ None) }
         ensures faults { P.faults spawner.old ≤ P.faults spawner.new }
         ensures wait_fault { IsErrOf result MonitorFault.WaitFault → raised (P.faults spawner.old) ≤ P.faults spawner.new }

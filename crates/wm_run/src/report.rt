@@ -37,7 +37,7 @@ fn known_exit(exit: &Exit) -> Exit
 
 impl Report {
     ghost use Rattle.wm_base.specs.declared.job.Event.{Event};
-    ghost use Rattle.wm_law.specs.Fit.{IsCall, IsBuilt};
+    ghost use Rattle.wm_law.specs.Fit.{IsCall, HasCall};
     ghost use Rattle.wm_law.specs.declared.state.State.{State};
     ghost use Rattle.wm_run.specs.Monitor.{call_of, report_event, start_cause, is_spawner_fault};
     ghost use Rattle.std.specs.Prelude.{false};
@@ -46,7 +46,7 @@ impl Report {
     pub fn call(&self) -> Call
         ensures call { result ≡ call_of self.now }
         ensures fit { IsCall result }
-        ensures built { (s : State) → IsBuilt s result }
+        ensures built { (s : State) → HasCall s result }
     {
         match self {
             Report::Started(serial) => Call::Started(known(serial)),

@@ -1,29 +1,25 @@
 // The session's calls and answers, and the monitor's turns between them.
-ghost use Rattle.std.specs.Prelude.{◌≡◌, ◌≤◌, ℕ, Err, OnOk, OnErr, IsErrOf, IfOk, IfSome, take};
-ghost use Rattle.std.specs.Prelude.{string_bytes};
+ghost use Rattle.std.specs.Prelude.{◌≡◌, ◌≤◌, ℕ, Err, OnOk, OnErr, IsErrOf, take};
 ghost use Rattle.wm_outside.specs.Told.{Grows};
 ghost use Rattle.wm_outside.specs.Cause.{raised};
-ghost use Rattle.wm_run.specs.Said.{entry_text, with_end};
 
-use crate::floor::Floor;
-use crate::line::read_line;
+use crate::answer::{NOT_BUILT, entry_line, fault_answer, is_fault, is_refused};
+use crate::halt::Halt;
 use crate::monitor::Monitor;
-use crate::reading::{LineFault, Reading};
-use crate::said::{ended, fault_answer, is_fault, is_refused, said};
-use crate::stop::Stop;
+use crate::parse::parse_line;
+use crate::parsed::Parsed;
 use crate::write::write_all;
-use std::alloc::{AllocError, Global};
+use std::alloc::Global;
 use std::sync::Wait;
-use wm_base::Name;
+use wm_base::{Name, NoMemory};
 use wm_clwords::ClFault;
-use wm_law::{Call, Command, Entry, built_commands_are_had};
+use wm_floor::Floor;
+use wm_law::{Call, Command, built_commands_are_had};
 use wm_outside::{Clock, Sink, Spawner};
+use wm_show::LineFault;
 
 /// The pass of the session.
 pub const SESSION: u32 = 0;
-
-/// What answers a line that isn't built.
-pub const NOT_BUILT: &[u8] = b"CM 9 NOTBUILT\n";
 
 /// The machine, its history and the monitor of a run.
 #[derive(Drop)]
@@ -33,54 +29,36 @@ pub struct Run {
 }
 
 // Writes, and tells a fault as the run's.
-pub(crate) fn put<O: Sink>(out: &mut O, bytes: &[u8]) -> Result<(), Stop>
+pub(crate) fn put<O: Sink>(out: &mut O, bytes: &[u8]) -> Result<(), Halt>
     ensures ok { OnOk result (Grows (O.written out.old) (O.written out.new) bytes.now) }
     ensures some { OnErr result ((n : ℕ) × Grows (O.written out.old) (O.written out.new) (take n bytes.now)) }
     ensures faults { O.faults out.old ≤ O.faults out.new }
-    ensures write_fault { IsErrOf result Stop.WriteFault → raised (O.faults out.old) ≤ O.faults out.new }
-    ensures only { OnErr result (result ≡ Err Stop.WriteFault) }
+    ensures write_fault { IsErrOf result Halt.WriteFault → raised (O.faults out.old) ≤ O.faults out.new }
+    ensures only { OnErr result (result ≡ Err Halt.WriteFault) }
 {
     match write_all(out, bytes) {
         Ok(()) => Ok(()),
-        Err(_) => Err(Stop::WriteFault),
+        Err(_) => Err(Halt::WriteFault),
     }
 }
 
-// What is said of an entry, with the line's end.
-fn entry_line(alloc: Global, entry: &Entry) -> Result<String, AllocError>
-    ensures { IfOk result (λ line. string_bytes line ≡ with_end (entry_text entry.now)) }
-{
-    let text = match &entry.call {
-        Call::Change { command, .. } => said(alloc, command, &entry.reply)?,
-        _ => String::new(alloc),
-    };
-    let line = ended(text)?;
-    Ok(line)
-}
-
 impl Run {
-    ghost use Rattle.std.specs.Prelude.{◌≡◌, ◌⊎◌, ◌<◌, ◌≤◌, ℕ, Err, OnOk, OnErr, IsErrOf, IfOk, IfSome, take, true};
+    ghost use Rattle.std.specs.Prelude.{◌≡◌, ◌⊎◌, ◌<◌, ◌≤◌, ◌+◌, ◌-◌, ◌∷◌, [], ℕ, None, Ok, true, OnOk, OnErr, IsErrOf, IfOk, IfSome, length, take};
     ghost use Rattle.std.specs.Option.{option_copied};
     ghost use Rattle.wm_law.specs.Built.{is_built};
-    ghost use Rattle.wm_law.specs.Fit.{IsCall, IsBuilt, IsCommand};
-    ghost use Rattle.wm_law.specs.History.{after};
-    ghost use Rattle.wm_law.specs.Opening.{opening};
+    ghost use Rattle.wm_law.specs.Fit.{IsCall, HasCall, IsCommand};
     ghost use Rattle.wm_law.specs.Pending.{next_due, starting};
+    ghost use Rattle.wm_floor.specs.History.{reached, with_call, last_of};
     ghost use Rattle.wm_outside.specs.Told.{Grows, IsEmpty};
     ghost use Rattle.wm_outside.specs.Cause.{raised};
-    ghost use Rattle.wm_run.specs.Floor.{entry_at, last_of};
-    ghost use Rattle.wm_run.specs.Said.{entry_text, with_end, is_refused};
-    ghost use Rattle.wm_run.specs.Reading.{IsFitReading};
-    ghost use Rattle.std.specs.Prelude.{◌+◌, ◌-◌, ◌++◌, ◌∷◌, [], None, Ok, length};
-    ghost use Rattle.wm_law.specs.History.{entries_of};
+    ghost use Rattle.wm_run.specs.Answer.{entry_text, with_end, is_refused};
     ghost use Rattle.wm_run.specs.Calls.{Called};
-    ghost use Rattle.wm_run.specs.Lists.{since};
-    ghost use Rattle.wm_run.specs.Monitor.{Advances, IsIdle};
-    ghost use Rattle.wm_run.specs.Serving.{Serves};
-    ghost use Rattle.wm_run.specs.Session.{AnsweredBy, AnswersLine, AnswersReading, Calls, session_pass};
-    ghost use Rattle.wm_run.specs.Stop.{HasCauses, HasMonitorCauses};
+    ghost use Rattle.wm_run.specs.Halt.{HasCauses, HasMonitorCauses};
+    ghost use Rattle.wm_run.specs.Monitor.{IsIdle};
+    ghost use Rattle.wm_run.specs.Parsed.{IsFitParsed};
+    ghost use Rattle.wm_run.specs.Serving.{RunAdvances, RunServes, session_entries};
+    ghost use Rattle.wm_run.specs.Session.{AnsweredBy, AnswersLine, AnswersParsed, Calls, session_pass};
     ghost use Rattle.wm_run.specs.Stopped.{IsCutShort};
-    ghost use Rattle.wm_run.specs.View.{view};
 
     // Makes one call of the session.
     pub(crate) fn call<C: Clock>(
@@ -88,11 +66,11 @@ impl Run {
         alloc: Global,
         clock: &mut C,
         call: Call,
-    ) -> Result<(), AllocError>
+    ) -> Result<(), NoMemory>
         requires fit { IsCall call }
-        requires built { IsBuilt (after opening self.old.floor) call }
+        requires built { HasCall (reached self.old.floor) call }
         ensures ok { OnOk result (Called self.old.floor call self.new.floor) }
-        ensures moment { OnOk result (IfSome (C.coming clock.old) (λ now. self.new.floor ≡ self.old.floor ++ entry_at self.old.floor session_pass call now ∷ [])) }
+        ensures moment { OnOk result (IfSome (C.coming clock.old) (λ now. self.new.floor ≡ with_call self.old.floor session_pass call now)) }
         ensures err { OnErr result (self.new.floor ≡ self.old.floor) }
         ensures monitor { self.new.monitor ≡ self.old.monitor }
     {
@@ -101,16 +79,16 @@ impl Run {
     }
 
     // Writes what is said of the last entry, and answers whether it is a refusal.
-    fn reply<O: Sink>(&self, alloc: Global, out: &mut O) -> Result<bool, Stop>
+    fn reply<O: Sink>(&self, alloc: Global, out: &mut O) -> Result<bool, Halt>
         ensures ok { IfOk result (λ refused. IfSome (last_of self.now.floor) (λ e.
             Grows (O.written out.old) (O.written out.new) (with_end (entry_text e)) × (refused ≡ is_refused e.reply))) }
         ensures some { OnErr result (IfSome (last_of self.now.floor) (λ e.
             (n : ℕ) × Grows (O.written out.old) (O.written out.new) (take n (with_end (entry_text e))))) }
         ensures faults { O.faults out.old ≤ O.faults out.new }
-        ensures write_fault { IsErrOf result Stop.WriteFault → raised (O.faults out.old) ≤ O.faults out.new }
-        ensures no_wait { IsErrOf result Stop.WaitFault → ⊥ }
-        ensures no_read { IsErrOf result Stop.ReadFault → ⊥ }
-        ensures not_full { IsErrOf result Stop.InputFull → ⊥ }
+        ensures write_fault { IsErrOf result Halt.WriteFault → raised (O.faults out.old) ≤ O.faults out.new }
+        ensures no_wait { IsErrOf result Halt.WaitFault → ⊥ }
+        ensures no_read { IsErrOf result Halt.ReadFault → ⊥ }
+        ensures not_full { IsErrOf result Halt.InputFull → ⊥ }
     {
         let Some(entry) = self.floor.last() else {
             return Ok(false);
@@ -126,17 +104,16 @@ impl Run {
         alloc: Global,
         spawner: &mut P,
         clock: &mut C,
-    ) -> Result<usize, Stop>
-        ensures part { Advances (view self.old.floor self.old.monitor (P.asked spawner.old) (P.told spawner.old) (P.misses spawner.old))
-            (view self.new.floor self.new.monitor (P.asked spawner.new) (P.told spawner.new) (P.misses spawner.new)) }
+    ) -> Result<usize, Halt>
+        ensures part { RunAdvances P.asked P.told P.misses self.old spawner.old self.new spawner.new }
         ensures kept { OnOk result (self.new.monitor.kept ≡ None) }
         ensures causes { HasMonitorCauses result (P.faults spawner.old) (P.faults spawner.new) }
-        ensures sent { IfOk result (λ sent. sent ≡ length self.new.floor - length self.old.floor) }
+        ensures sent { IfOk result (λ sent. sent ≡ length self.new.floor.log - length self.old.floor.log) }
         ensures idle { result ≡ Ok 0 → IsIdle self.old.floor self.old.monitor.kept (C.coming clock.old) (P.reporting spawner.old) }
     {
         match self.monitor.turn(alloc, &mut self.floor, spawner, clock) {
             Ok(sent) => Ok(sent),
-            Err(fault) => Err(Stop::from(fault)),
+            Err(fault) => Err(Halt::from(fault)),
         }
     }
 
@@ -147,22 +124,21 @@ impl Run {
         alloc: Global,
         spawner: &mut P,
         clock: &mut C,
-    ) -> Result<(), Stop>
-        ensures part { Advances (view self.old.floor self.old.monitor (P.asked spawner.old) (P.told spawner.old) (P.misses spawner.old))
-            (view self.new.floor self.new.monitor (P.asked spawner.new) (P.told spawner.new) (P.misses spawner.new)) }
-        ensures report { OnOk result (next_due (after opening self.old.floor) ≡ None →
-            IsEmpty (P.out spawner.old) ⊎ (length self.old.floor < length self.new.floor)) }
-        ensures awaited { OnOk result (Grows (P.awaited spawner.old) (P.awaited spawner.new) (next_due (after opening self.old.floor) ∷ [])) }
+    ) -> Result<(), Halt>
+        ensures part { RunAdvances P.asked P.told P.misses self.old spawner.old self.new spawner.new }
+        ensures report { OnOk result (next_due (reached self.old.floor) ≡ None →
+            IsEmpty (P.out spawner.old) ⊎ (length self.old.floor.log < length self.new.floor.log)) }
+        ensures awaited { OnOk result (Grows (P.awaited spawner.old) (P.awaited spawner.new) (next_due (reached self.old.floor) ∷ [])) }
         ensures kept { OnOk result (self.new.monitor.kept ≡ None) }
         ensures causes { HasMonitorCauses result (P.faults spawner.old) (P.faults spawner.new) }
     {
-        let until = self.floor.next_due();
+        let until = self.floor.pending().next;
         match self
             .monitor
             .wait(rt, alloc, &mut self.floor, spawner, clock, until)
         {
             Ok(()) => Ok(()),
-            Err(fault) => Err(Stop::from(fault)),
+            Err(fault) => Err(Halt::from(fault)),
         }
     }
 
@@ -175,17 +151,16 @@ impl Run {
         spawner: &mut P,
         clock: &mut C,
         command: Command,
-    ) -> Result<bool, Stop>
+    ) -> Result<bool, Halt>
         requires fit { IsCommand command }
         requires built { is_built command ≡ true }
-        ensures serves { Serves (view self.old.floor self.old.monitor (P.asked spawner.old) (P.told spawner.old) (P.misses spawner.old))
-            (view self.new.floor self.new.monitor (P.asked spawner.new) (P.told spawner.new) (P.misses spawner.new)) }
+        ensures serves { RunServes P.asked P.told P.misses self.old spawner.old self.new spawner.new }
         ensures answered { IfOk result (λ faulty. AnsweredBy (Calls command)
-            (entries_of session_pass (since self.old.floor self.new.floor)) (O.written out.old) (O.written out.new) faulty) }
+            (session_entries self.old.floor self.new.floor) (O.written out.old) (O.written out.new) faulty) }
         ensures stopped { OnErr result (IsCutShort (Calls command)
-            (entries_of session_pass (since self.old.floor self.new.floor)) (O.written out.old) (O.written out.new)) }
-        ensures orders { OnOk result (length self.new.floor ≡ length self.old.floor + 1 → starting (after opening self.new.floor) ≡ 0) }
-        ensures quiet { OnOk result (length self.new.floor ≡ length self.old.floor + 1 → IsEmpty (P.reporting spawner.old)) }
+            (session_entries self.old.floor self.new.floor) (O.written out.old) (O.written out.new)) }
+        ensures orders { OnOk result (length self.new.floor.log ≡ length self.old.floor.log + 1 → starting (reached self.new.floor) ≡ 0) }
+        ensures quiet { OnOk result (length self.new.floor.log ≡ length self.old.floor.log + 1 → IsEmpty (P.reporting spawner.old)) }
         ensures causes { HasCauses result (O.faults out.old) (O.faults out.new) (P.faults spawner.old) (P.faults spawner.new) }
     {
         built_commands_are_had();
@@ -196,35 +171,34 @@ impl Run {
         Ok(refused)
     }
 
-    // Answers a reading: a fault by its line, a call by its reply.
-    fn answer_reading<O: Sink, P: Spawner, C: Clock>(
+    // Answers a parsed line: a fault by its text, a call by its reply.
+    fn answer_parsed<O: Sink, P: Spawner, C: Clock>(
         &mut self,
         alloc: Global,
         out: &mut O,
         spawner: &mut P,
         clock: &mut C,
-        reading: Reading,
-    ) -> Result<bool, Stop>
-        requires { IsFitReading reading }
-        ensures serves { Serves (view self.old.floor self.old.monitor (P.asked spawner.old) (P.told spawner.old) (P.misses spawner.old))
-            (view self.new.floor self.new.monitor (P.asked spawner.new) (P.told spawner.new) (P.misses spawner.new)) }
-        ensures answered { IfOk result (λ faulty. AnsweredBy (AnswersReading reading)
-            (entries_of session_pass (since self.old.floor self.new.floor)) (O.written out.old) (O.written out.new) faulty) }
-        ensures stopped { OnErr result (IsCutShort (AnswersReading reading)
-            (entries_of session_pass (since self.old.floor self.new.floor)) (O.written out.old) (O.written out.new)) }
+        parsed: Parsed,
+    ) -> Result<bool, Halt>
+        requires { IsFitParsed parsed }
+        ensures serves { RunServes P.asked P.told P.misses self.old spawner.old self.new spawner.new }
+        ensures answered { IfOk result (λ faulty. AnsweredBy (AnswersParsed parsed)
+            (session_entries self.old.floor self.new.floor) (O.written out.old) (O.written out.new) faulty) }
+        ensures stopped { OnErr result (IsCutShort (AnswersParsed parsed)
+            (session_entries self.old.floor self.new.floor) (O.written out.old) (O.written out.new)) }
         ensures causes { HasCauses result (O.faults out.old) (O.faults out.new) (P.faults spawner.old) (P.faults spawner.new) }
     {
-        match reading {
-            Reading::Fault(fault) => {
+        match parsed {
+            Parsed::Fault(fault) => {
                 let line = fault_answer(alloc, &fault)?;
                 put(out, line.as_bytes())?;
                 Ok(is_fault(&fault))
             }
-            Reading::NotBuilt => {
+            Parsed::NotBuilt => {
                 put(out, NOT_BUILT)?;
                 Ok(true)
             }
-            Reading::Call(command) => self.call_command(alloc, out, spawner, clock, command),
+            Parsed::Call(command) => self.call_command(alloc, out, spawner, clock, command),
         }
     }
 
@@ -236,19 +210,18 @@ impl Run {
         spawner: &mut P,
         clock: &mut C,
         line: Option<&[u8]>,
-    ) -> Result<bool, Stop>
-        ensures serves { Serves (view self.old.floor self.old.monitor (P.asked spawner.old) (P.told spawner.old) (P.misses spawner.old))
-            (view self.new.floor self.new.monitor (P.asked spawner.new) (P.told spawner.new) (P.misses spawner.new)) }
+    ) -> Result<bool, Halt>
+        ensures serves { RunServes P.asked P.told P.misses self.old spawner.old self.new spawner.new }
         ensures answered { IfOk result (λ faulty. AnsweredBy (AnswersLine (option_copied line.entry))
-            (entries_of session_pass (since self.old.floor self.new.floor)) (O.written out.old) (O.written out.new) faulty) }
+            (session_entries self.old.floor self.new.floor) (O.written out.old) (O.written out.new) faulty) }
         ensures stopped { OnErr result (IsCutShort (AnswersLine (option_copied line.entry))
-            (entries_of session_pass (since self.old.floor self.new.floor)) (O.written out.old) (O.written out.new)) }
+            (session_entries self.old.floor self.new.floor) (O.written out.old) (O.written out.new)) }
         ensures causes { HasCauses result (O.faults out.old) (O.faults out.new) (P.faults spawner.old) (P.faults spawner.new) }
     {
-        let reading = match line {
-            None => Reading::Fault(LineFault::Cl(ClFault::TooLong)),
-            Some(text) => read_line(alloc, text)?,
+        let parsed = match line {
+            None => Parsed::Fault(LineFault::Cl(ClFault::TooLong)),
+            Some(text) => parse_line(alloc, text)?,
         };
-        self.answer_reading(alloc, out, spawner, clock, reading)
+        self.answer_parsed(alloc, out, spawner, clock, parsed)
     }
 }

@@ -3,22 +3,23 @@ ghost use Rattle.std.specs.Prelude.{◌≡◌, ◌≤◌, None, [], map, option_
 ghost use Rattle.std.specs.Io.KnownBytes.{IsAtEnd};
 ghost use Rattle.std.specs.List.{list_all};
 ghost use Rattle.wm_law.specs.History.{after, entries_of, IsLegal};
-ghost use Rattle.wm_law.specs.Opening.{opening};
 ghost use Rattle.wm_law.specs.Pending.{active};
 ghost use Rattle.wm_outside.specs.Cause.{raised};
 ghost use Rattle.wm_run.specs.Outcome.{RunCame};
-ghost use Rattle.wm_run.specs.Run.{IsRunStatus, IsServed, ended_status, is_run};
+ghost use Rattle.wm_run.specs.Run.{IsRunStatus, IsServed, ended_status, is_run, run_offset, opened_by_run};
 ghost use Rattle.wm_run.specs.Serving.{is_of_run};
 ghost use Rattle.wm_run.specs.Session.{session_pass};
 ghost use Rattle.wm_run.specs.Taking.{TakesInput};
 
-use crate::floor::Floor;
+use crate::halt::Halt;
 use crate::monitor::Monitor;
 use crate::report::Report;
 use crate::session::Run;
-use crate::stop::Stop;
 use std::alloc::Global;
 use std::sync::Wait;
+use wm_core::Setup;
+use wm_desc::qbatch;
+use wm_floor::Floor;
 use wm_law::Entry;
 use wm_outside::{Clock, Sink, Source, Spawner};
 
@@ -49,14 +50,24 @@ fn not_begun(alloc: Global, status: u8) -> Ran
     }
 }
 
+// What a run opens with: the controlling subsystem QGPL/QBATCH, and local time that is UTC.
+fn setup() -> Setup
+    ensures { result.offset_min ≡ run_offset }
+{
+    Setup {
+        ctl: qbatch(),
+        offset_min: 0,
+    }
+}
+
 // The status of a session's end.
-fn ended_status(end: Result<bool, Stop>) -> u8
+fn ended_status(end: Result<bool, Halt>) -> u8
     ensures { result ≡ ended_status end }
 {
     match end {
         Ok(false) => 0,
         Ok(true) => 1,
-        Err(stop) => stop.status(),
+        Err(halt) => halt.status(),
     }
 }
 
@@ -73,16 +84,13 @@ fn is_run(words: &[String]) -> bool
 impl Run {
     ghost use Rattle.std.specs.Prelude.{◌≡◌, OnOk, None};
     ghost use Rattle.std.specs.Io.KnownBytes.{IsAtEnd};
-    ghost use Rattle.wm_law.specs.History.{after, entries_of, IsLegal};
-    ghost use Rattle.wm_law.specs.Opening.{opening};
+    ghost use Rattle.wm_law.specs.History.{IsLegal};
     ghost use Rattle.wm_law.specs.Pending.{active};
-    ghost use Rattle.wm_run.specs.Lists.{since};
+    ghost use Rattle.wm_floor.specs.History.{reached};
+    ghost use Rattle.wm_run.specs.Halt.{HasInputCauses};
     ghost use Rattle.wm_run.specs.Outcome.{SessionCame};
-    ghost use Rattle.wm_run.specs.Serving.{Serves};
-    ghost use Rattle.wm_run.specs.Session.{session_pass};
-    ghost use Rattle.wm_run.specs.Stop.{HasInputCauses};
+    ghost use Rattle.wm_run.specs.Serving.{RunServes, session_entries};
     ghost use Rattle.wm_run.specs.Taking.{TakesInput};
-    ghost use Rattle.wm_run.specs.View.{view};
 
     // The first call, the lines of the input, and the last call.
     fn serve<I: Source, O: Sink, P: Spawner, C: Clock, R: Wait>(
@@ -93,13 +101,12 @@ impl Run {
         out: &mut O,
         spawner: &mut P,
         clock: &mut C,
-    ) -> Result<bool, Stop>
-        ensures serves { Serves (view self.old.floor self.old.monitor (P.asked spawner.old) (P.told spawner.old) (P.misses spawner.old))
-            (view self.new.floor self.new.monitor (P.asked spawner.new) (P.told spawner.new) (P.misses spawner.new)) }
+    ) -> Result<bool, Halt>
+        ensures serves { RunServes P.asked P.told P.misses self.old spawner.old self.new spawner.new }
         ensures input { TakesInput (I.left input.old) (I.left input.new) (λ bytes. SessionCame bytes result
-            (entries_of session_pass (since self.old.floor self.new.floor)) (O.written out.old) (O.written out.new)) }
+            (session_entries self.old.floor self.new.floor) (O.written out.old) (O.written out.new)) }
         ensures end { OnOk result (IsAtEnd (I.left input.new)) }
-        ensures idle { OnOk result (active (after opening self.new.floor) ≡ 0) }
+        ensures idle { OnOk result (active (reached self.new.floor) ≡ 0) }
         ensures kept { OnOk result (self.new.monitor.kept ≡ None) }
         ensures causes { HasInputCauses result (I.faults input.old) (I.faults input.new) (O.faults out.old) (O.faults out.new) (P.faults spawner.old) (P.faults spawner.new) }
     {
@@ -112,9 +119,9 @@ impl Run {
     // The history and the kept report of a run that has ended.
     fn close(self, status: u8) -> Ran
         ensures status { result.status ≡ status }
-        ensures log { result.log.items ≡ self.floor }
+        ensures log { result.log.items ≡ self.floor.log }
         ensures kept { result.kept ≡ self.monitor.kept }
-        ensures legal { IsLegal opening self.floor }
+        ensures legal { IsLegal self.floor.opened self.floor.log }
     {
         let kept = self.monitor.kept;
         Ran {
@@ -140,13 +147,13 @@ pub fn run<I: Source, O: Sink, P: Spawner, C: Clock, R: Wait>(
 ) -> Ran
     ensures words { is_run (map string_bytes words.now) ≡ false → result.status ≡ 2 }
     ensures run { is_run (map string_bytes words.now) ≡ true → result.status ≡ 2 → ⊥ }
-    ensures legal { IsLegal opening result.log.items }
+    ensures legal { IsLegal opened_by_run result.log.items }
     ensures callers { list_all is_of_run result.log.items ≡ true }
     ensures served { IsServed result.log.items (option_to_list result.kept) (P.asked spawner.old) (P.asked spawner.new) (P.told spawner.old) (P.told spawner.new) (P.misses spawner.old) (P.misses spawner.new) }
     ensures input { TakesInput (I.left input.old) (I.left input.new) (λ bytes. RunCame bytes result.status
         (entries_of session_pass result.log.items) (O.written out.old) (O.written out.new)) }
     ensures end { result.status ≤ 1 → IsAtEnd (I.left input.new) }
-    ensures idle { result.status ≤ 1 → active (after opening result.log.items) ≡ 0 }
+    ensures idle { result.status ≤ 1 → active (after opened_by_run result.log.items) ≡ 0 }
     ensures kept { result.status ≤ 1 → result.kept ≡ None }
     ensures read_fault { result.status ≡ 3 → raised (I.faults input.old) ≤ I.faults input.new }
     ensures write_fault { result.status ≡ 4 → raised (O.faults out.old) ≤ O.faults out.new }
@@ -157,7 +164,7 @@ pub fn run<I: Source, O: Sink, P: Spawner, C: Clock, R: Wait>(
     if !is_run(words) {
         return not_begun(alloc, WRONG_WORDS);
     }
-    let Ok(floor) = Floor::open(alloc) else {
+    let Ok(floor) = Floor::open(alloc, &setup()) else {
         return not_begun(alloc, NO_MEMORY);
     };
     let mut run = Run {

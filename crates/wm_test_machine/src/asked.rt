@@ -4,12 +4,11 @@ use crate::machine::Machine;
 use crate::object::{write_copied, write_objects};
 use crate::shown::write_state;
 use crate::text::first_word;
-use anyhow::{Result, ensure};
+use anyhow::Result;
 use std::alloc::Global;
-use wm_base::{Text, is_text};
-use wm_cases::{Subject, bytes_of};
+use wm_cases::Subject;
 use wm_command::print;
-use wm_law::{is_call, opening_commands, values_of};
+use wm_core::opening_commands;
 
 // Adds the text of each command that an empty store opens with.
 fn write_opening(alloc: Global, answer: &mut String) -> Result<()> {
@@ -20,40 +19,15 @@ fn write_opening(alloc: Global, answer: &mut String) -> Result<()> {
     Ok(())
 }
 
-// Adds whether a request is a CALL that is read.
-fn write_is_call(alloc: Global, request: &str, answer: &mut String) -> Result<()> {
-    let request = bytes_of(alloc, request)?;
-    answer.push_str(if is_call(&request) {
-        "CALL\n"
-    } else {
-        "NO CALL\n"
-    })?;
-    Ok(())
-}
-
-// Adds the values of such a request.
-fn write_values(alloc: Global, request: &str, answer: &mut String) -> Result<()> {
-    ensure!(is_text(request.as_bytes()), "no text");
-    let request = Text::from_bytes(alloc, request.as_bytes())?;
-    let values = values_of(alloc, &request)?;
-    for value in values.as_slice() {
-        writeln!(answer, "<{value}>")?;
-    }
-    Ok(())
-}
-
 impl Machine {
     // Adds what is shown of the objects, or else of the state.
     fn show(&self, words: &str, answer: &mut String) -> Result<()> {
         let (what, name) = first_word(words);
         match what {
             "jobs" | "next" | "holder" | "pending" | "power" => write_state(
-                &self.state,
-                what,
-                name,
-                answer,
+                &self.core, what, name, answer,
             ),
-            _ => write_objects(&self.state.objects, what, name, answer),
+            _ => write_objects(&self.core.state.objects, what, name, answer),
         }
     }
 
@@ -64,13 +38,10 @@ impl Machine {
             "monitor" => self.monitor(words, answer),
             "show" => self.show(words, answer),
             "set" => self.set(words),
-            "settle" => Ok(self.state.settle()),
             "times" => self.times(words, answer),
             "built" => self.built(words, answer),
             "opening" => write_opening(self.alloc, answer),
-            "is-call" => write_is_call(self.alloc, words, answer),
-            "values" => write_values(self.alloc, words, answer),
-            "copy" => write_copied(&self.state.objects, answer),
+            "copy" => write_copied(&self.core.state.objects, answer),
             "list" => write_sorted(self.alloc, words, answer),
             _ => self.command(question, answer),
         }

@@ -2,14 +2,15 @@
 ghost use Rattle.std.specs.Prelude.{IfOk, IsTrue};
 ghost use Rattle.wm_command.specs.Printed.{FitsMachine};
 ghost use Rattle.wm_law.specs.declared.command.Command.TheVariants.{Pwrdwnsys as IsPwrdwnsys, Sbmjob as IsSbmjob};
-ghost use Rattle.wm_law.specs.Fit.{HasCommand, IsBuilt};
+ghost use Rattle.wm_law.specs.Fit.{HasCommand, HasCall};
 
 use anyhow::Result;
 use std::alloc::Global;
 use wm_base::Name;
 use wm_clwords::read_command;
 use wm_command::{Line, command};
-use wm_law::{Call, Command, EndOption, Pwrdwnsys, Sbmjob, State, built};
+use wm_core::{Core, built};
+use wm_law::{Call, Command, EndOption, Pwrdwnsys, Sbmjob};
 use wm_when::{DateSpec, TimeSpec};
 
 // The line that a CL text is.
@@ -21,21 +22,21 @@ pub fn line_of(alloc: Global, user: &Name, text: &str) -> Result<Line>
     Ok(line)
 }
 
-fn has_submission(state: &State, command: &Sbmjob) -> bool
-    ensures { IsTrue result → HasCommand state.now (IsSbmjob command.now) }
+fn has_submission(core: &Core, command: &Sbmjob) -> bool
+    ensures { IsTrue result → HasCommand core.now (IsSbmjob command.now) }
 {
     matches!(command.scddate, DateSpec::Current) && matches!(command.scdtime, TimeSpec::Current)
 }
 
-fn has_power_down(state: &State, command: &Pwrdwnsys) -> bool
-    ensures { IsTrue result → HasCommand state.now (IsPwrdwnsys command.now) }
+fn has_power_down(core: &Core, command: &Pwrdwnsys) -> bool
+    ensures { IsTrue result → HasCommand core.now (IsPwrdwnsys command.now) }
 {
-    matches!(command.option, EndOption::Immed) && state.active() == 0
+    matches!(command.option, EndOption::Immed) && core.pending().active == 0
 }
 
 // Whether the machine has the command.
-fn has_command(state: &State, command: &Command) -> bool
-    ensures { IsTrue result → HasCommand state.now command.now }
+fn has_command(core: &Core, command: &Command) -> bool
+    ensures { IsTrue result → HasCommand core.now command.now }
 {
     match command {
         Command::Crtcls(_) => true,
@@ -48,18 +49,18 @@ fn has_command(state: &State, command: &Command) -> bool
         Command::Rmvjobqe(_) => true,
         Command::Rmvrtge(_) => true,
         Command::Strsbs(_) => true,
-        Command::Sbmjob(command) => has_submission(state, command),
-        Command::Pwrdwnsys(command) => has_power_down(state, command),
+        Command::Sbmjob(command) => has_submission(core, command),
+        Command::Pwrdwnsys(command) => has_power_down(core, command),
         _ => false,
     }
 }
 
 /// Whether the machine has the call.
-pub fn has_call(state: &State, call: &Call) -> bool
-    ensures { IsTrue result → IsBuilt state.now call.now }
+pub fn has_call(core: &Core, call: &Call) -> bool
+    ensures { IsTrue result → HasCall core.now call.now }
 {
     match call {
-        Call::Change { command, .. } => has_command(state, command),
+        Call::Change { command, .. } => has_command(core, command),
         _ => true,
     }
 }

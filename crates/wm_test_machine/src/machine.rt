@@ -1,4 +1,4 @@
-// The machine that the cases ask: a state, and the user of its commands.
+// The machine that the cases ask, and the user of its commands.
 use crate::change::{has_call, line_of, write_built};
 use crate::entry::entry_reply;
 use crate::monitor::call_of;
@@ -8,7 +8,9 @@ use anyhow::Result;
 use std::alloc::Global;
 use wm_base::{Moment, Name};
 use wm_command::Line;
-use wm_law::{Call, Command, Reply, State};
+use wm_core::{Core, Setup};
+use wm_desc::qbatch;
+use wm_law::{Call, Command, Reply};
 
 /// The moment of each call.
 const NOW: u64 = 1000;
@@ -20,7 +22,7 @@ const SESSION: u32 = 0;
 pub struct Machine {
     pub alloc: Global,
     pub user: Name,
-    pub state: State,
+    pub core: Core,
 }
 
 impl Machine {
@@ -29,11 +31,15 @@ impl Machine {
 
     /// The state of an empty store, and QUSER as the user of commands.
     pub fn new(alloc: Global) -> Result<Machine> {
-        let state = State::opening(alloc)?;
+        let setup = Setup {
+            ctl: qbatch(),
+            offset_min: 0,
+        };
+        let core = Core::opening(alloc, &setup)?;
         Ok(Machine {
             alloc,
             user: Name::of(b"QUSER"),
-            state,
+            core,
         })
     }
 
@@ -41,14 +47,14 @@ impl Machine {
     fn reply(&mut self, caller: u32, call: &Call) -> Result<Option<Reply>>
         requires { IsCall call.now }
     {
-        if let Some(reply) = entry_reply(&mut self.state.objects, call)? {
+        if let Some(reply) = entry_reply(&mut self.core.state.objects, call)? {
             return Ok(Some(reply));
         }
-        if !has_call(&self.state, call) {
+        if !has_call(&self.core, call) {
             return Ok(None);
         }
         let now = Moment::new(NOW);
-        let reply = self.state.step(self.alloc, caller, call, now)?;
+        let reply = self.core.step(self.alloc, caller, call, now)?;
         Ok(Some(reply))
     }
 

@@ -1,7 +1,7 @@
 //! The cases of the machine and of its objects: what each command, each monitor's call and each refusal comes to.
 //!
 //! The cases are the texts of `data/`, which `wm_cases` plays: a question is a CL text, which is called on a
-//! `wm_law::State`, or one of the words of `asked`. Each case begins with the state of an empty store, by the user
+//! `wm_core::Core`, or one of the words of `asked`. Each case begins with the state of an empty store, by the user
 //! QUSER, at the moment 1000. What is printed, and what must be printed, is the number of answers of each file.
 #![tactic(auto)]
 

@@ -20,10 +20,10 @@ impl Machine {
         let (what, value) = first_word(words);
         match what {
             "user" => self.user = name_of(value)?,
-            "objects" => self.state.objects = Objects::new(self.alloc),
-            "number" => self.state.next_number = u32::try_from(number_of(value)?)?,
-            "clock" => self.state.clock = moment_of(value)?,
-            "power" => self.state.power = power_of(value)?,
+            "objects" => self.core.state.objects = Objects::new(self.alloc),
+            "number" => self.core.state.next_number = u32::try_from(number_of(value)?)?,
+            "clock" => self.core.state.clock = moment_of(value)?,
+            "power" => self.core.state.power = power_of(value)?,
             "started" => self.set_started(value)?,
             _ => bail!("nothing to be set"),
         }
@@ -33,7 +33,7 @@ impl Machine {
     // A subsystem stands last among the started ones.
     fn set_started(&mut self, sbsd: &str) -> Result<()> {
         let sbsd = qname_of(sbsd).context("no qualified name")?;
-        self.state.started.push(Sbs {
+        self.core.state.started.push(Sbs {
             sbsd,
             phase: SbsPhase::Active,
         })?;

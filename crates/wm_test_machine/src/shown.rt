@@ -2,7 +2,9 @@
 use crate::text::qname_of;
 use anyhow::{Context, Result, bail};
 use std::alloc::AllocError;
+use wm_core::Core;
 use wm_law::{Job, Phase, Power, State};
+use wm_pick::Parts;
 
 fn write_phase(phase: &Phase, answer: &mut String) -> Result<(), AllocError> {
     match phase {
@@ -27,8 +29,19 @@ fn write_jobs(state: &State, answer: &mut String) -> Result<()> {
     Ok(())
 }
 
+// The parts that a choice looks at.
+fn parts(state: &State) -> Parts<'_> {
+    Parts {
+        objects: &state.objects,
+        jobs: &state.jobs,
+        started: &state.started,
+        held: &state.held,
+        clock: state.clock,
+    }
+}
+
 fn write_next(state: &State, answer: &mut String) -> Result<()> {
-    match state.next() {
+    match parts(state).next() {
         None => answer.push_str("NONE\n")?,
         Some(candidate) => writeln!(answer, "{}", candidate.serial)?,
     }
@@ -37,21 +50,21 @@ fn write_next(state: &State, answer: &mut String) -> Result<()> {
 
 fn write_holder(state: &State, queue: &str, answer: &mut String) -> Result<()> {
     let queue = qname_of(queue).context("no qualified name")?;
-    match state.holder(&queue) {
+    match parts(state).holder(&queue) {
         None => answer.push_str("NONE\n")?,
         Some(sbs) => writeln!(answer, "{}", sbs.sbsd)?,
     }
     Ok(())
 }
 
-fn write_pending(state: &State, answer: &mut String) -> Result<()> {
+fn write_pending(core: &Core, answer: &mut String) -> Result<()> {
+    let pending = core.pending();
     write!(
         answer,
         "ACTIVE {} STARTING {} DUE ",
-        state.active(),
-        state.starting()
+        pending.active, pending.orders
     )?;
-    match state.next_due() {
+    match pending.next {
         None => answer.push_str("NONE\n")?,
         Some(moment) => writeln!(answer, "{moment}")?,
     }
@@ -70,12 +83,13 @@ fn write_power(state: &State, answer: &mut String) -> Result<()> {
 
 /// Adds what the word says: the `jobs` by serial, the `next` one, the `holder` of a queue, what is `pending`, or the
 /// `power` and how many subsystems are started.
-pub fn write_state(state: &State, what: &str, name: &str, answer: &mut String) -> Result<()> {
+pub fn write_state(core: &Core, what: &str, name: &str, answer: &mut String) -> Result<()> {
+    let state = &core.state;
     match what {
         "jobs" => write_jobs(state, answer),
         "next" => write_next(state, answer),
         "holder" => write_holder(state, name, answer),
-        "pending" => write_pending(state, answer),
+        "pending" => write_pending(core, answer),
         "power" => write_power(state, answer),
         _ => bail!("nothing to be shown"),
     }

@@ -13,7 +13,8 @@ use std::alloc::{AllocError, Global};
 use wm_base::Text;
 use wm_cases::Subject;
 use wm_command::{CmdFault, Line, print};
-use wm_law::{Command, opening_commands};
+use wm_core::opening_commands;
+use wm_law::Command;
 
 /// Commands, their faults and their canonical texts.
 #[derive(Drop)]

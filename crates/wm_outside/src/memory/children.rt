@@ -4,9 +4,9 @@ ghost use Rattle.wm_outside.specs.Spawner.{IfEnded, out_after};
 ghost use Rattle.wm_outside.specs.declared.memory.children.Child.{Child};
 ghost use Rattle.wm_outside.specs.Children.{serials, killed_ones, due_ones, longest_out, lesser, least_of, report_of, awaited_of, wait_report, marked, without, children_after};
 
-use std::alloc::{AllocError, Global};
+use std::alloc::Global;
 use std::marker::Model;
-use wm_base::{Event, Exit, Serial};
+use wm_base::{Event, Exit, NoMemory, Serial};
 
 /// A child that is out.
 #[derive(Clone, Copy, Debug, PartialEq, Eq)]
@@ -149,7 +149,7 @@ impl Children {
         }
     }
 
-    pub fn push(&mut self, child: Child) -> Result<(), AllocError>
+    pub fn push(&mut self, child: Child) -> Result<(), NoMemory>
         ensures ok { OnOk result (self.new ≡ self.old ++ child ∷ []) }
         ensures err { OnErr result (self.new ≡ self.old) }
     {

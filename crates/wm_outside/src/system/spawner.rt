@@ -7,12 +7,12 @@ ghost use Rattle.wm_outside.specs.Programs.{serials_of, HasEnded, HasEndedAt, Is
 
 use super::clock::present;
 use crate::{Failed, Spawner, StartFault};
-use std::alloc::{AllocError, Global};
+use std::alloc::Global;
 use std::process::{Child, Command, ExitStatus, OpenProcess, Processes, Stdio};
 use std::sync::Wait;
 use std::time::Duration;
 use std::{io, rt};
-use wm_base::{Event, Exit, Moment, Serial, StartOrder};
+use wm_base::{Event, Exit, Moment, NoMemory, Serial, StartOrder};
 
 // The pause between two looks of a wait, in microseconds. It grows by half of itself.
 const FIRST_PAUSE: u64 = 100;
@@ -37,7 +37,7 @@ fn exit_of(status: ExitStatus) -> Exit
 }
 
 // The program with its arguments as they are. Its input is empty, and its output is dropped.
-fn command_of(alloc: Global, order: &StartOrder) -> Result<Command, AllocError>
+fn command_of(alloc: Global, order: &StartOrder) -> Result<Command, NoMemory>
     ensures program { IfOk result (λ command. command_program command ≡ order.now.path) }
     ensures args { IfOk result (λ command. command_args command ≡ order.now.args) }
 {
@@ -206,6 +206,7 @@ impl<R: Processes + rt::Clock> SysSpawner<R> {
         ensures gives { GivesUp result (children_out self.old) (children_out self.new) }
         ensures exit { IfOk found (λ found. IfSome found (λ ended. IfOk result (λ report. IfSome report (ReportsExit ended.1)))) }
         ensures none { result ≡ Ok None → found ≡ Ok None }
+        ensures same { result ≡ Ok None → self.new.children ≡ self.old.children }
         ensures cause { HasCause (child_faults self.old) (child_faults self.new) result }
         ensures misses { child_misses self.new ≡ child_misses self.old }
     {
@@ -273,6 +274,7 @@ impl<R: Processes + rt::Clock> Spawner for SysSpawner<R> {
 
     fn ended(&mut self) -> Result<Option<Event>, Failed>
         ensures gives { GivesUp result (children_out self.old) (children_out self.new) }
+        ensures still_out { result ≡ Ok None → (k : ℕ) → IfSome (slice_get self.new.children.items k) (λ child. IsOut child) }
         ensures cause { HasCause (child_faults self.old) (child_faults self.new) result }
         ensures misses { child_misses self.new ≡ child_misses self.old }
     {

@@ -14,4 +14,4 @@ returns-in_default-clause-input g c =
 
 pub returns-clause-input : goal.returns-clause-input
 returns-clause-input g c =
-    came_run c.serve-end.result c.close.result.status c.in-Ok.floor c.serve-end.new.self.floor c.close.result.log.items _ _ _ _ (c.close.ensures.status ∙ c.ended_status.ensures) c.in-Ok.ensures c.close.ensures.log c.serve-end.ensures.input
+    came_run c.serve-end.result c.close.result.status c.in-Ok.floor c.serve-end.new.self.floor c.close.result.log.items _ _ _ _ (c.close.ensures.status ∙ c.ended_status.ensures) c.in-Ok.ensures.log c.close.ensures.log c.serve-end.ensures.input

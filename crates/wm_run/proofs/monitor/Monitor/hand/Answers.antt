@@ -1,6 +1,6 @@
 use Rattle.std.proofs.Common.{Some, None, refl, sym, ap, ◌∙◌}
 use Rattle.wm_base.specs.declared.job.Asked.TheVariants.{Start, Kill}
-use Rattle.wm_run.proofs.Monitors.{BeginsWithHand-only, BeginsWithHand-then, hands_at, nothing_part, killed_part, one_hand, started_part}
+use Rattle.wm_run.proofs.Monitors.{BeginsWithHand-only, BeginsWithHand-then, hands_at, killed_part, nothing_part, one_hand, started_part}
 use Rattle.wm_run.proofs.monitor.Monitor.hand.Goals as goal
 
 pub returns-in-None-clause-part : goal.returns-in-None-clause-part
@@ -42,28 +42,28 @@ returns-in_ok-send_kept-in-Some-Start-clause-part g c =
     started_part c.args.floor.now c.call.new.self c.args.self.now (Some a) a c.start.result (s.asked p) (s.asked q) (s.told p) (s.told q) (s.misses p) (s.misses q) c.now.result _ c.requires c.in_ok-call.ensures.ok (ap Some (sym c.in-Some-Start.field-0-is) ∙ c.in-Some-Start.ensures) refl c.start.ensures.asked c.start.ensures.told c.start.ensures.misses (c.send_kept.ensures.part (s.asked q) (s.told q) (s.misses q))
 
 pub returns-in-None-clause-hand : goal.returns-in-None-clause-hand
-returns-in-None-clause-hand g c = BeginsWithHand-only c.args.floor.now c.call.new.self _ c.in_ok-call.ensures.ok refl
+returns-in-None-clause-hand g c = BeginsWithHand-only c.args.floor.now c.call.new.self c.now.result c.in_ok-call.ensures.ok
 
 pub returns-in_ok-kill-in-Some-Kill-clause-hand : goal.returns-in_ok-kill-in-Some-Kill-clause-hand
-returns-in_ok-kill-in-Some-Kill-clause-hand g c = BeginsWithHand-only c.args.floor.now c.call.new.self _ c.in_ok-call.ensures.ok refl
+returns-in_ok-kill-in-Some-Kill-clause-hand g c = BeginsWithHand-only c.args.floor.now c.call.new.self c.now.result c.in_ok-call.ensures.ok
 
 pub returns-in_ok-send_kept-in-Some-Start-clause-hand : goal.returns-in_ok-send_kept-in-Some-Start-clause-hand
 returns-in_ok-send_kept-in-Some-Start-clause-hand g c =
     let s = g.P.Spawner in
     let q = c.start.new.spawner in
-    BeginsWithHand-then c.args.floor.now c.call.new.self c.send_kept.new.floor _ c.in_ok-call.ensures.ok refl (c.send_kept.ensures.part (s.asked q) (s.told q) (s.misses q)).log
+    BeginsWithHand-then c.args.floor.now c.call.new.self c.send_kept.new.floor c.now.result c.in_ok-call.ensures.ok (c.send_kept.ensures.part (s.asked q) (s.told q) (s.misses q)).log
 
 pub returns-in_err-send_kept-in-Some-Start-clause-one : goal.returns-in_err-send_kept-in-Some-Start-clause-one
 returns-in_err-send_kept-in-Some-Start-clause-one g c =
     let s = g.P.Spawner in
     let q = c.start.new.spawner in
-    one_hand c.args.floor.now c.call.new.self c.send_kept.new.floor _ c.in_ok-call.ensures.ok (c.send_kept.ensures.part (s.asked q) (s.told q) (s.misses q)).log c.send_kept.ensures.no_hand
+    one_hand c.args.floor.now c.call.new.self c.send_kept.new.floor c.now.result c.in_ok-call.ensures.ok (c.send_kept.ensures.part (s.asked q) (s.told q) (s.misses q)).log c.send_kept.ensures.no_hand
 
 pub returns-in_ok-send_kept-in-Some-Start-clause-one : goal.returns-in_ok-send_kept-in-Some-Start-clause-one
 returns-in_ok-send_kept-in-Some-Start-clause-one g c =
     let s = g.P.Spawner in
     let q = c.start.new.spawner in
-    one_hand c.args.floor.now c.call.new.self c.send_kept.new.floor _ c.in_ok-call.ensures.ok (c.send_kept.ensures.part (s.asked q) (s.told q) (s.misses q)).log c.send_kept.ensures.no_hand
+    one_hand c.args.floor.now c.call.new.self c.send_kept.new.floor c.now.result c.in_ok-call.ensures.ok (c.send_kept.ensures.part (s.asked q) (s.told q) (s.misses q)).log c.send_kept.ensures.no_hand
 
 pub returns-in_ok-send_kept-in-Some-Start-clause-moment : goal.returns-in_ok-send_kept-in-Some-Start-clause-moment
 returns-in_ok-send_kept-in-Some-Start-clause-moment g c =

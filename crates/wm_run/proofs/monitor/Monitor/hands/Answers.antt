@@ -1,15 +1,15 @@
 use Rattle.std.proofs.Common.{arith, inr}
-use Rattle.wm_run.proofs.Monitors.{Advances-then, hands_few, hands_more, longer_hand}
+use Rattle.wm_run.proofs.Monitors.{Proceeds-then, hands_few, hands_more, longer_hand}
 use Rattle.wm_run.proofs.monitor.Monitor.hands.Goals as goal
 
 pub returns-in_err-hand-clause-part : goal.returns-in_err-hand-clause-part
 returns-in_err-hand-clause-part g c =
-    Advances-then _ _ _ c.hands.invariant.part c.hand.ensures.part
+    Proceeds-then _ _ _ c.hands.invariant.part c.hand.ensures.part
 
 pub hands-preserved : goal.hands-preserved
 hands-preserved g c =
     record {
-      part = Advances-then _ _ _ c.hands.invariant.part c.hand.ensures.part;
+      part = Proceeds-then _ _ _ c.hands.invariant.part c.hand.ensures.part;
       none = c.in_ok-hand.ensures.kept;
       faults = omega arith;
       hands = hands_more c.args.floor.now c.hands.floor c.hand.new.floor c.hands.counter c.hands.invariant.part.log c.hand.ensures.part.log c.in_ok-hand.ensures.hand c.hands.invariant.hands;

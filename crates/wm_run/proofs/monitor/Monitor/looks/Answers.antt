@@ -1,25 +1,25 @@
 use Rattle.std.proofs.Common.{Ok, ap, ◌∙◌, arith, inr}
-use Rattle.wm_run.proofs.Monitors.{Advances-then, longer_then}
+use Rattle.wm_run.proofs.Monitors.{Proceeds-then, longer_then}
 use Rattle.wm_run.proofs.Turns.{looks_more}
 use Rattle.wm_run.proofs.monitor.Monitor.looks.Goals as goal
 
 pub returns-in_err-look-clause-part : goal.returns-in_err-look-clause-part
 returns-in_err-look-clause-part g c =
-    Advances-then _ _ _ c.looks.invariant.part c.look.ensures.part
+    Proceeds-then _ _ _ c.looks.invariant.part c.look.ensures.part
 
 pub returns-then-not-branch-clause-part : goal.returns-then-not-branch-clause-part
 returns-then-not-branch-clause-part g c =
-    Advances-then _ _ _ c.looks.invariant.part c.look.ensures.part
+    Proceeds-then _ _ _ c.looks.invariant.part c.look.ensures.part
 
 pub looks-preserved : goal.looks-preserved
 looks-preserved g c =
     record {
-      part = Advances-then _ _ _ c.looks.invariant.part c.look.ensures.part;
+      part = Proceeds-then _ _ _ c.looks.invariant.part c.look.ensures.part;
       none = c.in_ok-look.ensures.kept;
       faults = omega arith;
       count = looks_more c.args.floor.now c.looks.floor c.look.new.floor c.looks.counter c.looks.invariant.part.log c.look.ensures.part.log (c.look.ensures.sent (c.in_ok-look.was ∙ ap Ok c.if-not-branch.false)) c.looks.invariant.count;
       most = omega (arith, c.look.ensures.few, c.looks.invariant.most);
-      looks = inr (longer_then c.args.floor.now c.looks.floor c.look.new.floor c.looks.invariant.part.log (c.look.ensures.sent (c.in_ok-look.was ∙ ap Ok c.if-not-branch.false)));
+      looks = inr (longer_then c.args.floor.now.log c.looks.floor.log c.look.new.floor.log c.looks.invariant.part.log (c.look.ensures.sent (c.in_ok-look.was ∙ ap Ok c.if-not-branch.false)));
     }
 
 pub returns-then-not-branch-clause-last : goal.returns-then-not-branch-clause-last

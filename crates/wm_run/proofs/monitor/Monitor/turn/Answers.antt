@@ -1,5 +1,5 @@
 use Rattle.std.proofs.Common.{◌≡◌, ◌-◌, length, refl, arith}
-use Rattle.wm_run.proofs.Monitors.{Advances-then}
+use Rattle.wm_run.proofs.Monitors.{Proceeds-then}
 use Rattle.wm_run.proofs.Turns.{idle_turn, number_of_ok}
 use Rattle.wm_run.proofs.monitor.Monitor.turn.Goals as goal
 
@@ -15,7 +15,7 @@ returns-in_err-tick-clause-part g c =
     let s = g.P.Spawner in
     let p = c.args.spawner.now in
     let kept = c.send_kept.ensures.part (s.asked p) (s.told p) (s.misses p) in
-    let ticked = Advances-then _ _ _ kept (c.tick.ensures.part (s.asked p) (s.told p) (s.misses p)) in
+    let ticked = Proceeds-then _ _ _ kept (c.tick.ensures.part (s.asked p) (s.told p) (s.misses p)) in
     ticked
 
 pub returns-in_err-hands-clause-part : goal.returns-in_err-hands-clause-part
@@ -23,24 +23,24 @@ returns-in_err-hands-clause-part g c =
     let s = g.P.Spawner in
     let p = c.args.spawner.now in
     let kept = c.send_kept.ensures.part (s.asked p) (s.told p) (s.misses p) in
-    let ticked = Advances-then _ _ _ kept (c.tick.ensures.part (s.asked p) (s.told p) (s.misses p)) in
-    Advances-then _ _ _ ticked c.hands.ensures.part
+    let ticked = Proceeds-then _ _ _ kept (c.tick.ensures.part (s.asked p) (s.told p) (s.misses p)) in
+    Proceeds-then _ _ _ ticked c.hands.ensures.part
 
 pub returns-in_err-looks-clause-part : goal.returns-in_err-looks-clause-part
 returns-in_err-looks-clause-part g c =
     let s = g.P.Spawner in
     let p = c.args.spawner.now in
     let kept = c.send_kept.ensures.part (s.asked p) (s.told p) (s.misses p) in
-    let ticked = Advances-then _ _ _ kept (c.tick.ensures.part (s.asked p) (s.told p) (s.misses p)) in
-    Advances-then _ _ _ (Advances-then _ _ _ ticked c.hands.ensures.part) c.looks.ensures.part
+    let ticked = Proceeds-then _ _ _ kept (c.tick.ensures.part (s.asked p) (s.told p) (s.misses p)) in
+    Proceeds-then _ _ _ (Proceeds-then _ _ _ ticked c.hands.ensures.part) c.looks.ensures.part
 
 pub returns-clause-part : goal.returns-clause-part
 returns-clause-part g c =
     let s = g.P.Spawner in
     let p = c.args.spawner.now in
     let kept = c.send_kept.ensures.part (s.asked p) (s.told p) (s.misses p) in
-    let ticked = Advances-then _ _ _ kept (c.tick.ensures.part (s.asked p) (s.told p) (s.misses p)) in
-    Advances-then _ _ _ (Advances-then _ _ _ ticked c.hands.ensures.part) c.looks.ensures.part
+    let ticked = Proceeds-then _ _ _ kept (c.tick.ensures.part (s.asked p) (s.told p) (s.misses p)) in
+    Proceeds-then _ _ _ (Proceeds-then _ _ _ ticked c.hands.ensures.part) c.looks.ensures.part
 
 pub returns-clause-idle : goal.returns-clause-idle
 returns-clause-idle g c is =
@@ -53,5 +53,8 @@ returns-clause-idle g c is =
     let was = c.len-before.ensures in
     let now = c.len.ensures in
     let sent = c.saturating_sub.ensures in
-    let none : length f4 - length f0 ≡ 0 = omega arith in
-    idle_turn f0 c.send_kept.new.floor c.tick.new.floor c.hands.new.floor f4 c.args.self.now.kept (k.coming c.args.clock.now) (k.coming c.send_kept.new.clock) (s.reporting p) (s.reporting c.hands.new.spawner) (c.send_kept.ensures.part (s.asked p) (s.told p) (s.misses p)).log (c.tick.ensures.part (s.asked p) (s.told p) (s.misses p)).log c.hands.ensures.part.log c.looks.ensures.part.log none c.in_ok-send_kept.ensures.sent c.send_kept.ensures.unread c.in_ok-tick.ensures.due c.in_ok-hands.ensures.all c.in_ok-hands.ensures.quiet c.in_ok-looks.ensures.all
+    let none : length f4.log - length f0.log ≡ 0 = omega arith in
+    let kept = c.send_kept.ensures.part (s.asked p) (s.told p) (s.misses p) in
+    let ticked = c.tick.ensures.part (s.asked p) (s.told p) (s.misses p) in
+    let handed = c.hands.ensures.part in
+    idle_turn f0 c.send_kept.new.floor c.tick.new.floor c.hands.new.floor f4 c.args.self.now.kept (k.coming c.args.clock.now) (k.coming c.send_kept.new.clock) (s.reporting p) (s.reporting c.hands.new.spawner) kept.log ticked.log handed.log c.looks.ensures.part.log kept.opened ticked.opened handed.opened none c.in_ok-send_kept.ensures.sent c.send_kept.ensures.unread c.in_ok-tick.ensures.due c.in_ok-hands.ensures.all c.in_ok-hands.ensures.quiet c.in_ok-looks.ensures.all

@@ -1,25 +1,26 @@
-use Rattle.wm_run.proofs.Servings.{Serves-call, Serves-then, Serves-monitor, one_call}
+use Rattle.wm_run.proofs.Servings.{Serves-call, Serves-monitor, one_call}
 use Rattle.std.proofs.Common.{None, Ok, ap, ◌∙◌, inl, inr}
 use Rattle.wm_run.proofs.Turns.{idle_call}
 use Rattle.wm_run.proofs.StoppedRuns.{Untouched-same, on_err}
 use Rattle.wm_run.specs.Session.{start_call}
+use Rattle.wm_run.proofs.Monitors.{Proceeds-then}
 use Rattle.wm_run.proofs.session.Run.begin.Goals as goal
 
 pub returns-in_err-turn-clause-serves : goal.returns-in_err-turn-clause-serves
 returns-in_err-turn-clause-serves g c =
     let s = g.P.Spawner in
     let p = c.args.spawner.now in
-    Serves-then _ _ _ (Serves-call c.args.self.now.floor c.call.new.self.floor c.start_call.result c.args.self.now.monitor c.call.new.self.monitor (s.asked p) (s.told p) (s.misses p) c.in_ok-call.ensures.ok c.call.ensures.monitor) (Serves-monitor _ _ c.turn.ensures.part)
+    Proceeds-then _ _ _ (Serves-call c.args.self.now.floor c.call.new.self.floor c.start_call.result c.args.self.now.monitor c.call.new.self.monitor (s.asked p) (s.told p) (s.misses p) c.in_ok-call.ensures.ok c.call.ensures.monitor) (Serves-monitor _ _ c.turn.ensures.part)
 
 pub returns-clause-serves : goal.returns-clause-serves
 returns-clause-serves g c =
     let s = g.P.Spawner in
     let p = c.args.spawner.now in
-    Serves-then _ _ _ (Serves-call c.args.self.now.floor c.call.new.self.floor c.start_call.result c.args.self.now.monitor c.call.new.self.monitor (s.asked p) (s.told p) (s.misses p) c.in_ok-call.ensures.ok c.call.ensures.monitor) (Serves-monitor _ _ c.turn.ensures.part)
+    Proceeds-then _ _ _ (Serves-call c.args.self.now.floor c.call.new.self.floor c.start_call.result c.args.self.now.monitor c.call.new.self.monitor (s.asked p) (s.told p) (s.misses p) c.in_ok-call.ensures.ok c.call.ensures.monitor) (Serves-monitor _ _ c.turn.ensures.part)
 
 pub returns-clause-begun : goal.returns-clause-begun
 returns-clause-begun g c =
-    one_call c.args.self.now.floor c.call.new.self.floor c.turn.new.self.floor c.start_call.result start_call c.in_ok-call.ensures.ok c.start_call.ensures.call c.turn.ensures.part.log c.turn.ensures.part.own
+    one_call c.args.self.now.floor c.call.new.self.floor c.turn.new.self.floor c.start_call.result start_call c.in_ok-call.ensures.ok c.start_call.ensures.call c.turn.ensures.part.log c.turn.ensures.part.callers
 
 pub returns-in_err-call-clause-not_begun : goal.returns-in_err-call-clause-not_begun
 returns-in_err-call-clause-not_begun g c =
@@ -28,8 +29,8 @@ returns-in_err-call-clause-not_begun g c =
 
 pub returns-in_err-turn-clause-not_begun : goal.returns-in_err-turn-clause-not_begun
 returns-in_err-turn-clause-not_begun g c =
-    on_err _ (inr (one_call c.args.self.now.floor c.call.new.self.floor c.turn.new.self.floor c.start_call.result start_call c.in_ok-call.ensures.ok c.start_call.ensures.call c.turn.ensures.part.log c.turn.ensures.part.own))
+    on_err _ (inr (one_call c.args.self.now.floor c.call.new.self.floor c.turn.new.self.floor c.start_call.result start_call c.in_ok-call.ensures.ok c.start_call.ensures.call c.turn.ensures.part.log c.turn.ensures.part.callers))
 
 pub returns-clause-orders : goal.returns-clause-orders
 returns-clause-orders g c =
-    idle_call c.args.self.now.floor c.call.new.self.floor c.turn.new.self.floor c.start_call.result c.in_ok-call.ensures.ok c.turn.ensures.part.log (λ none. (c.turn.ensures.idle (c.in_ok-turn.was ∙ ap Ok (c.in_ok-turn.ensures.sent ∙ none))).orders)
+    idle_call c.args.self.now.floor c.call.new.self.floor c.turn.new.self.floor c.start_call.result c.in_ok-call.ensures.ok c.turn.ensures.part.log c.turn.ensures.part.opened (λ none. (c.turn.ensures.idle (c.in_ok-turn.was ∙ ap Ok (c.in_ok-turn.ensures.sent ∙ none))).orders)

@@ -1,11 +1,12 @@
 use Rattle.std.proofs.Common.{ℕ, List, Ok, ◌∙◌, ap, inl, inr, subst}
-use Rattle.wm_run.proofs.Commands.{commanded, commanded_some, Serves-same}
-use Rattle.wm_run.proofs.Servings.{Serves-call, Serves-then, Serves-monitor}
+use Rattle.wm_run.proofs.Commands.{commanded, commanded_some}
+use Rattle.wm_run.proofs.Servings.{Serves-call, Serves-monitor, Serves-same}
 use Rattle.wm_run.proofs.StoppedRuns.{Untouched-same, WritesSome-all, on_err}
 use Rattle.wm_run.proofs.Turns.{idle_call}
 use Rattle.wm_law.specs.declared.call.Call.TheVariants.{Change}
 use Rattle.wm_run.specs.Calls.{Called}
-use Rattle.wm_run.specs.Reading.{session_user}
+use Rattle.wm_run.specs.Parsed.{session_user}
+use Rattle.wm_run.proofs.Monitors.{Proceeds-then}
 use Rattle.wm_run.proofs.session.Run.call_command.Goals as goal
 
 pub returns-in_err-call-clause-serves : goal.returns-in_err-call-clause-serves
@@ -25,18 +26,18 @@ returns-in_err-turn-clause-serves g c =
     let s = g.P.Spawner in
     let p = c.args.spawner.now in
     let called = Serves-call c.args.self.now.floor c.call.new.self.floor (Change session_user c.args.command) c.args.self.now.monitor c.call.new.self.monitor (s.asked p) (s.told p) (s.misses p) (subst (λ (user : List ℕ). Called c.args.self.now.floor (Change user c.args.command) c.call.new.self.floor) c.of-user.ensures c.in_ok-call.ensures.ok) c.call.ensures.monitor in
-    Serves-then _ _ _ called (Serves-monitor _ _ c.turn.ensures.part)
+    Proceeds-then _ _ _ called (Serves-monitor _ _ c.turn.ensures.part)
 
 pub returns-clause-serves : goal.returns-clause-serves
 returns-clause-serves g c =
     let s = g.P.Spawner in
     let p = c.args.spawner.now in
     let called = Serves-call c.args.self.now.floor c.call.new.self.floor (Change session_user c.args.command) c.args.self.now.monitor c.call.new.self.monitor (s.asked p) (s.told p) (s.misses p) (subst (λ (user : List ℕ). Called c.args.self.now.floor (Change user c.args.command) c.call.new.self.floor) c.of-user.ensures c.in_ok-call.ensures.ok) c.call.ensures.monitor in
-    Serves-then _ _ _ called (Serves-monitor _ _ c.turn.ensures.part)
+    Proceeds-then _ _ _ called (Serves-monitor _ _ c.turn.ensures.part)
 
 pub returns-clause-answered : goal.returns-clause-answered
 returns-clause-answered g c =
-    commanded c.args.self.now.floor c.call.new.self.floor c.turn.new.self.floor c.args.command _ _ c.in_ok-refused.refused (subst (λ (user : List ℕ). Called c.args.self.now.floor (Change user c.args.command) c.call.new.self.floor) c.of-user.ensures c.in_ok-call.ensures.ok) c.turn.ensures.part.log c.turn.ensures.part.own c.in_ok-refused.ensures.ok
+    commanded c.args.self.now.floor c.call.new.self.floor c.turn.new.self.floor c.args.command _ _ c.in_ok-refused.refused (subst (λ (user : List ℕ). Called c.args.self.now.floor (Change user c.args.command) c.call.new.self.floor) c.of-user.ensures c.in_ok-call.ensures.ok) c.turn.ensures.part.log c.turn.ensures.part.callers c.in_ok-refused.ensures.ok
 
 pub returns-in_err-call-clause-stopped : goal.returns-in_err-call-clause-stopped
 returns-in_err-call-clause-stopped g c =
@@ -49,8 +50,8 @@ returns-in_err-refused-clause-stopped g c =
 pub returns-in_err-turn-clause-stopped : goal.returns-in_err-turn-clause-stopped
 returns-in_err-turn-clause-stopped g c =
     on_err _ (inr (WritesSome-all _ _ _ _ c.in_ok-refused.refused
-    (commanded c.args.self.now.floor c.call.new.self.floor c.turn.new.self.floor c.args.command _ _ c.in_ok-refused.refused (subst (λ (user : List ℕ). Called c.args.self.now.floor (Change user c.args.command) c.call.new.self.floor) c.of-user.ensures c.in_ok-call.ensures.ok) c.turn.ensures.part.log c.turn.ensures.part.own c.in_ok-refused.ensures.ok)))
+    (commanded c.args.self.now.floor c.call.new.self.floor c.turn.new.self.floor c.args.command _ _ c.in_ok-refused.refused (subst (λ (user : List ℕ). Called c.args.self.now.floor (Change user c.args.command) c.call.new.self.floor) c.of-user.ensures c.in_ok-call.ensures.ok) c.turn.ensures.part.log c.turn.ensures.part.callers c.in_ok-refused.ensures.ok)))
 
 pub returns-clause-orders : goal.returns-clause-orders
 returns-clause-orders g c =
-    idle_call c.args.self.now.floor c.call.new.self.floor c.turn.new.self.floor (Change session_user c.args.command) (subst (λ (user : List ℕ). Called c.args.self.now.floor (Change user c.args.command) c.call.new.self.floor) c.of-user.ensures c.in_ok-call.ensures.ok) c.turn.ensures.part.log (λ none. (c.turn.ensures.idle (c.in_ok-turn.was ∙ ap Ok (c.in_ok-turn.ensures.sent ∙ none))).orders)
+    idle_call c.args.self.now.floor c.call.new.self.floor c.turn.new.self.floor (Change session_user c.args.command) (subst (λ (user : List ℕ). Called c.args.self.now.floor (Change user c.args.command) c.call.new.self.floor) c.of-user.ensures c.in_ok-call.ensures.ok) c.turn.ensures.part.log c.turn.ensures.part.opened (λ none. (c.turn.ensures.idle (c.in_ok-turn.was ∙ ap Ok (c.in_ok-turn.ensures.sent ∙ none))).orders)

@@ -1,21 +1,21 @@
 use Rattle.std.proofs.Common.{arith}
 use Rattle.std.proofs.lemmas.Result.{err_from_is_err_and}
-use Rattle.wm_run.proofs.Monitors.{Advances-none, Advances-then}
+use Rattle.wm_run.proofs.Monitors.{Proceeds-none, Proceeds-then}
 use Rattle.wm_run.proofs.Causes.{HasCauses-pass}
 use Rattle.wm_run.proofs.session.Run.drain.Goals as goal
 
 pub turns-init : goal.turns-init
-turns-init g c = record { part = Advances-none _; looked = omega arith }
+turns-init g c = record { part = Proceeds-none _; looked = omega arith }
 
 pub turns-preserved : goal.turns-preserved
 turns-preserved g c =
     record {
-      part = Advances-then _ _ _ c.turns.invariant.part c.turn.ensures.part;
+      part = Proceeds-then _ _ _ c.turns.invariant.part c.turn.ensures.part;
       looked = let i = c.turns.invariant.looked in let k = c.turn.ensures.causes.looked in omega arith;
     }
 
 pub returns-in_err-sent-clause-part : goal.returns-in_err-sent-clause-part
-returns-in_err-sent-clause-part g c = Advances-then _ _ _ c.turns.invariant.part c.turn.ensures.part
+returns-in_err-sent-clause-part g c = Proceeds-then _ _ _ c.turns.invariant.part c.turn.ensures.part
 
 pub returns-in_err-sent-clause-causes : goal.returns-in_err-sent-clause-causes
 returns-in_err-sent-clause-causes g c =
@@ -23,4 +23,4 @@ returns-in_err-sent-clause-causes g c =
     HasCauses-pass c.turn.result c.from_residual.result _ p.0 0 0 0 _ _ _ c.in_err-sent.was p.1 p.2 (omega arith) c.turns.invariant.looked c.turn.ensures.causes
 
 pub returns-then-sent-eq0-clause-part : goal.returns-then-sent-eq0-clause-part
-returns-then-sent-eq0-clause-part g c = Advances-then _ _ _ c.turns.invariant.part c.turn.ensures.part
+returns-then-sent-eq0-clause-part g c = Proceeds-then _ _ _ c.turns.invariant.part c.turn.ensures.part

@@ -1,5 +1,5 @@
 use Rattle.std.proofs.Common.{◌≡◌, ◌++◌, ℕ, List, [], Option, drop, subst}
-use Rattle.wm_clwords.specs.Part.{lines_from, said}
+use Rattle.wm_clwords.specs.Part.{lines_from, ended_lines}
 use Rattle.wm_clwords.specs.declared.line.LogicalLine.{LogicalLine}
 use Rattle.wm_run.proofs.Inputs.{answered_none}
 use Rattle.wm_run.proofs.session.Run.take_line.Goals as goal
@@ -12,6 +12,6 @@ returns-in_default-clause-taken g c =
     let rest = drop c.feed-taken.result.0 piece in
     record {
       lines = [];
-      split = subst (λ (o : Option LogicalLine). (more : List ℕ) → lines_from before (piece ++ more) ≡ said o after ++ lines_from after (rest ++ more)) c.in_default.is c.feed-taken.ensures.lines;
+      split = subst (λ (o : Option LogicalLine). (more : List ℕ) → lines_from before (piece ++ more) ≡ ended_lines o after ++ lines_from after (rest ++ more)) c.in_default.is c.feed-taken.ensures.lines;
       answered = answered_none c.args.self.now.floor (g.O.Sink.written c.args.out.now);
     }

@@ -1,7 +1,5 @@
 use Rattle.std.proofs.Common.{◌-◌, drop, length}
-use Rattle.wm_law.specs.History.{entries_of}
-use Rattle.wm_run.specs.Lists.{since}
-use Rattle.wm_run.specs.Session.{session_pass}
+use Rattle.wm_run.specs.Serving.{session_entries}
 use Rattle.wm_run.specs.Taking.{TakesPiece}
 use Rattle.wm_run.specs.View.{view}
 use Rattle.wm_run.proofs.InputLoops.{PieceLoop}
@@ -16,7 +14,7 @@ invariant-lines g l =
     (view l.self.floor l.self.monitor (s.asked l.spawner) (s.told l.spawner) (s.misses l.spawner))
     (o.faults l.fn.out) (o.faults l.out) (s.faults l.fn.spawner) (s.faults l.spawner)
     l.at l.piece
-    (TakesPiece l.fn.joiner l.piece l.joiner (drop l.at l.piece) (entries_of session_pass (since l.fn.self.floor l.self.floor)) (o.written l.fn.out) (o.written l.out) l.faulty)
+    (TakesPiece l.fn.joiner l.piece l.joiner (drop l.at l.piece) (session_entries l.fn.self.floor l.self.floor) (o.written l.fn.out) (o.written l.out) l.faulty)
 
 abbrev pub decreases-lines : goal.decreases-lines
 decreases-lines g l = length l.piece - l.at

@@ -5,25 +5,25 @@ use Rattle.std.proofs.lemmas.Result.{err_from_is_err_and}
 use Rattle.wm_outside.proofs.Telling.{Takes-none}
 use Rattle.wm_run.proofs.Inputs.{input_none, input_then}
 use Rattle.wm_run.proofs.Outcomes.{came_none, came_read, came_last, came_in, came_end}
-use Rattle.wm_run.proofs.Servings.{Serves-none, Serves-then}
 use Rattle.wm_run.proofs.StoppedRuns.{input_same, take_none}
+use Rattle.wm_run.proofs.Monitors.{Proceeds-none, Proceeds-then}
 use Rattle.wm_run.proofs.session.Run.take_pieces.Goals as goal
 
 pub returns-in_err-wrong-clause-serves : goal.returns-in_err-wrong-clause-serves
-returns-in_err-wrong-clause-serves g c = Serves-then _ _ _ c.reads.invariant.serves c.take_rest.ensures.serves
+returns-in_err-wrong-clause-serves g c = Proceeds-then _ _ _ c.reads.invariant.serves c.take_rest.ensures.serves
 
 pub returns-then-n-eq0-clause-serves : goal.returns-then-n-eq0-clause-serves
-returns-then-n-eq0-clause-serves g c = Serves-then _ _ _ c.reads.invariant.serves c.take_rest.ensures.serves
+returns-then-n-eq0-clause-serves g c = Proceeds-then _ _ _ c.reads.invariant.serves c.take_rest.ensures.serves
 
 pub returns-in_err-wrong-2-clause-serves : goal.returns-in_err-wrong-2-clause-serves
-returns-in_err-wrong-2-clause-serves g c = Serves-then _ _ _ c.reads.invariant.serves c.take_piece.ensures.serves
+returns-in_err-wrong-2-clause-serves g c = Proceeds-then _ _ _ c.reads.invariant.serves c.take_piece.ensures.serves
 
 pub reads-init : goal.reads-init
 reads-init g c =
     let x = g.I.Source.left c.args.input.now in
     let none = input_none c.in_ok-joiner.joiner x c.args.self.now.floor (g.O.Sink.written c.args.out.now) c.in_ok-joiner.ensures in
     record {
-      serves = Serves-none _;
+      serves = Proceeds-none _;
       taken = record { bytes = []; taken = Takes-none x; done = record { lines = none.done; count = refl } };
       read = omega arith;
       written = omega arith;
@@ -44,7 +44,7 @@ reads-preserved g c =
     let some = length-take-le n c.read.new.piece c.in_ok-n.ensures.within in
     let more = input_then (x.left c.args.input.now) (x.left c.reads.input) (x.left c.read.new.input) c.reads.joiner c.take_piece.new.joiner ys c.args.self.now.floor c.reads.self.floor c.take_piece.new.self.floor (o.written c.args.out.now) (o.written c.reads.out) (o.written c.take_piece.new.out) c.reads.faulty c.in_ok-wrong-2.wrong c.either-faulty.result c.either-faulty.ensures i.serves.log k.serves.log (record { bytes = xs; taken = i.taken.taken; done = i.taken.done.lines }) c.in_ok-n.ensures.taken c.in_ok-wrong-2.ensures.taken in
     record {
-      serves = Serves-then _ _ _ i.serves k.serves;
+      serves = Proceeds-then _ _ _ i.serves k.serves;
       taken = record { bytes = xs ++ ys; taken = more.taken; done = record { lines = more.done; count = omega (arith, length-append xs ys, i.taken.done.count, some) } };
       read = let f = c.read.ensures.faults in omega arith;
       written = let f = k.causes.written in omega arith;

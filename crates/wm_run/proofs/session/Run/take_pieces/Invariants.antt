@@ -1,6 +1,4 @@
-use Rattle.wm_law.specs.History.{entries_of}
-use Rattle.wm_run.specs.Lists.{since}
-use Rattle.wm_run.specs.Session.{session_pass}
+use Rattle.wm_run.specs.Serving.{session_entries}
 use Rattle.wm_run.specs.Taking.{TakesInput}
 use Rattle.wm_run.specs.View.{view}
 use Rattle.wm_run.proofs.InputLoops.{InputLoop, SoFar}
@@ -16,4 +14,4 @@ invariant-reads g l =
     (view l.self.floor l.self.monitor (s.asked l.spawner) (s.told l.spawner) (s.misses l.spawner))
     (i.faults l.fn.input) (i.faults l.input) (o.faults l.fn.out) (o.faults l.out) (s.faults l.fn.spawner) (s.faults l.spawner)
     l.total l.piece
-    (TakesInput (i.left l.fn.input) (i.left l.input) (λ bytes. SoFar l.joiner (entries_of session_pass (since l.fn.self.floor l.self.floor)) (o.written l.fn.out) (o.written l.out) l.faulty l.total bytes))
+    (TakesInput (i.left l.fn.input) (i.left l.input) (λ bytes. SoFar l.joiner (session_entries l.fn.self.floor l.self.floor) (o.written l.fn.out) (o.written l.out) l.faulty l.total bytes))

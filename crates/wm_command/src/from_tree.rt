@@ -1,0 +1,158 @@
+// Commands from trees.
+ghost use Rattle.std.specs.Prelude.{◌≡◌, ◌≢◌, IfOk, IfErr, Ok, Err};
+ghost use Rattle.wm_command.specs.Printed.{FitsMachine, KeepsForms, LineHasTexts, LineIsReadBack};
+ghost use Rattle.wm_command.specs.Line.{change_named, read_named, one_request, lacks, own_fault, change_line, read_made, read_line, line_of};
+
+use crate::fault::CmdFault;
+use crate::line::Line;
+use crate::made::change_made;
+use crate::printable::texts_are_printable;
+use crate::reading::all_given;
+use crate::table::{change_rows, change_word, read_rows, read_word};
+use crate::value::Values;
+use crate::verb::{ChangeVerb, ReadVerb};
+use std::alloc::Global;
+use wm_base::{Key, Name};
+use wm_clwords::{Item, Tree};
+use wm_law::Ask;
+
+/// The commands that change the state, in the order of the table.
+pub const CHANGES: [ChangeVerb; 28] = [
+    ChangeVerb::Crtcls,
+    ChangeVerb::Crtjobq,
+    ChangeVerb::Crtpgmref,
+    ChangeVerb::Crtjobd,
+    ChangeVerb::Crtsbsd,
+    ChangeVerb::Addjobqe,
+    ChangeVerb::Addrtge,
+    ChangeVerb::Addaje,
+    ChangeVerb::Addpje,
+    ChangeVerb::Rmvjobqe,
+    ChangeVerb::Rmvrtge,
+    ChangeVerb::Rmvaje,
+    ChangeVerb::Rmvpje,
+    ChangeVerb::Strsbs,
+    ChangeVerb::Endsbs,
+    ChangeVerb::Sbmjob,
+    ChangeVerb::Hldjob,
+    ChangeVerb::Rlsjob,
+    ChangeVerb::Chgjob,
+    ChangeVerb::Endjob,
+    ChangeVerb::Hldjobq,
+    ChangeVerb::Rlsjobq,
+    ChangeVerb::Clrjobq,
+    ChangeVerb::Strpj,
+    ChangeVerb::Endpj,
+    ChangeVerb::Evoke,
+    ChangeVerb::Enduse,
+    ChangeVerb::Pwrdwnsys,
+];
+
+/// The commands that read, in the order of the table.
+pub const READS: [ReadVerb; 6] = [
+    ReadVerb::Wrkactjob,
+    ReadVerb::Wrksbmjob,
+    ReadVerb::Wrksbs,
+    ReadVerb::Dsplog,
+    ReadVerb::Wrkjobq,
+    ReadVerb::Dspjob,
+];
+
+#[tactic(auto, unfolding(crate::specs::Line::change_named))]
+fn change_named(name: &Name) -> Option<ChangeVerb>
+    ensures { result ≡ change_named name.now }
+{
+    CHANGES
+        .iter()
+        .copied()
+        .find(|verb| change_word(*verb).as_bytes() == name.as_bytes())
+}
+
+#[tactic(auto, unfolding(crate::specs::Line::read_named))]
+fn read_named(name: &Name) -> Option<ReadVerb>
+    ensures { result ≡ read_named name.now }
+{
+    READS
+        .iter()
+        .copied()
+        .find(|verb| read_word(*verb).as_bytes() == name.as_bytes())
+}
+
+fn one_request(no_cmd: bool, no_rqsdta: bool) -> Option<CmdFault>
+    ensures { result ≡ one_request no_cmd no_rqsdta }
+{
+    match (no_cmd, no_rqsdta) {
+        (true, true) => Some(CmdFault::Missing(Key::Cmd)),
+        (false, false) => Some(CmdFault::Conflict(Key::Cmd, Key::Rqsdta)),
+        _ => None,
+    }
+}
+
+fn own_fault(verb: ChangeVerb, values: &Values) -> Option<CmdFault>
+    ensures { result ≡ own_fault verb values.now }
+{
+    match verb {
+        ChangeVerb::Sbmjob => one_request(values.lacks(Key::Cmd), values.lacks(Key::Rqsdta)),
+        _ => None,
+    }
+}
+
+fn change_line(alloc: Global, verb: ChangeVerb, items: &[Item]) -> Result<Line, CmdFault>
+    ensures ok { IfOk result (λ line. change_line verb items.now ≡ Ok line) }
+    ensures err { IfErr result (λ e. e ≢ CmdFault.NoMemory → change_line verb items.now ≡ Err e) }
+    ensures texts { IfOk result (λ line. LineHasTexts line) }
+{
+    let values = all_given(alloc, change_rows(verb), items)?;
+    if let Some(fault) = own_fault(verb, &values) {
+        return Err(fault);
+    }
+    let command = change_made(verb, &values)?;
+    texts_are_printable(&command);
+    Ok(Line::Change(command))
+}
+
+fn read_made(user: &Name, verb: ReadVerb, values: &Values) -> Ask
+    ensures { result ≡ read_made user.now verb values.now }
+{
+    match verb {
+        ReadVerb::Wrkactjob => Ask::Active,
+        ReadVerb::Wrksbmjob => Ask::Submitted(*user),
+        ReadVerb::Wrksbs => Ask::Subsystems,
+        ReadVerb::Dsplog => Ask::Log,
+        ReadVerb::Wrkjobq => Ask::Queue(values.object(Key::Jobq)),
+        ReadVerb::Dspjob => Ask::Job(values.job(Key::Job)),
+    }
+}
+
+fn read_line(alloc: Global, user: &Name, verb: ReadVerb, items: &[Item]) -> Result<Line, CmdFault>
+    ensures ok { IfOk result (λ line. read_line user.now verb items.now ≡ Ok line) }
+    ensures err { IfErr result (λ e. e ≢ CmdFault.NoMemory → read_line user.now verb items.now ≡ Err e) }
+    ensures texts { IfOk result (λ line. LineHasTexts line) }
+{
+    let values = all_given(alloc, read_rows(verb), items)?;
+    Ok(Line::Read(read_made(user, verb, &values)))
+}
+
+/// The line that a tree is. The user is the one whom WRKSBMJOB is about.
+pub fn command(alloc: Global, user: &Name, tree: &Tree) -> Result<Line, CmdFault>
+    // A line is that of the table, and a fault the first one in its order.
+    ensures ok { IfOk result (λ line. line_of user.now tree.now.name tree.now.items.items ≡ Ok line) }
+    ensures err { IfErr result (λ e. e ≢ CmdFault.NoMemory → line_of user.now tree.now.name tree.now.items.items ≡ Err e) }
+
+    // A command keeps the forms and the ranges of the table, so what is printed of it is read as that command.
+    ensures forms { IfOk result (λ line. KeepsForms line) }
+    ensures machine { IfOk result (λ line. FitsMachine line) }
+    ensures back { IfOk result (λ line. LineIsReadBack line) }
+{
+    if let Some(verb) = change_named(&tree.name) {
+        let line = change_line(alloc, verb, &tree.items)?;
+        return Ok(line);
+    }
+    match read_named(&tree.name) {
+        None => Err(CmdFault::UnknownCommand),
+        Some(verb) => {
+            let line = read_line(alloc, user, verb, &tree.items)?;
+            Ok(line)
+        }
+    }
+}

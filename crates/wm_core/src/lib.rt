@@ -1,0 +1,23 @@
+//! The machine's program: what computes its steps.
+//!
+//! The contract for the layer above: a contract sees a `Core` as the state of the definitions in `wm_law`.
+//! `Core::opening` is the state that an empty store opens with, and `Core::step` answers what the definition `step`
+//! gives and leaves the state that it gives; after want of memory the state is as before. `Core::pending`
+//! tells what waits for a monitor. `built` says which commands users have.
+#![tactic(auto)]
+
+mod jobs;
+mod machine;
+mod making;
+mod not_built;
+mod opening;
+mod pending;
+mod power;
+mod reports;
+mod settling;
+mod submitting;
+mod subsystems;
+
+pub use machine::Core;
+pub use not_built::{NotBuilt, built};
+pub use opening::{Setup, opening_commands};

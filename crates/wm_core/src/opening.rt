@@ -1,0 +1,194 @@
+// The state that an empty store opens with: what eight commands make of no objects.
+ghost use Rattle.std.specs.Prelude.{◌≡◌, IfOk};
+ghost use Rattle.wm_law.specs.Opening.{crtcls_qbatch, crtpgmref_echo, crtjobq_qbatch, crtjobd, crtjobd_qdftjobd, crtjobd_qbatch, crtsbsd_qbatch, addjobqe_qbatch, addrtge_qbatch, opening_commands, empty};
+
+use crate::Core;
+use std::alloc::Global;
+use wm_base::{Limit, Moment, Name, NoMemory, Priority, QName, Text};
+use wm_desc::{Cmp, Objects, echo, qbatch, qdftjobd};
+use wm_law::{
+    Addjobqe, Addrtge, Command, Crtcls, Crtjobd, Crtjobq, Crtpgmref, Crtsbsd, ListOf, Power, State,
+};
+
+/// What a machine opens with.
+#[derive(Clone, Copy, Debug, PartialEq, Eq)]
+pub struct Setup {
+    /// The controlling subsystem.
+    pub ctl: QName,
+    /// Local time, in minutes from UTC: -1439 to 1439.
+    pub offset_min: i32,
+}
+
+// CRTCLS QBATCH.
+fn crtcls_qbatch() -> Crtcls
+    ensures { result ≡ crtcls_qbatch }
+{
+    Crtcls {
+        cls: qbatch(),
+        runpty: 50,
+        timeslice: 2000,
+        dftwait: Limit::Most(30),
+    }
+}
+
+// CRTPGMREF PGM(ECHO) PATH('/bin/echo').
+fn crtpgmref_echo(alloc: Global) -> Result<Crtpgmref, NoMemory>
+    ensures { IfOk result (λ command. command ≡ crtpgmref_echo) }
+{
+    Ok(Crtpgmref {
+        pgm: echo(),
+        path: Text::from_bytes(alloc, b"/bin/echo")?,
+    })
+}
+
+// CRTJOBQ QBATCH.
+fn crtjobq_qbatch() -> Crtjobq
+    ensures { result ≡ crtjobq_qbatch }
+{
+    Crtjobq { jobq: qbatch() }
+}
+
+// CRTJOBD with its defaults.
+fn crtjobd(alloc: Global, jobd: QName) -> Result<Crtjobd, NoMemory>
+    ensures { IfOk result (λ command. command ≡ crtjobd jobd) }
+{
+    Ok(Crtjobd {
+        jobd,
+        jobq: qbatch(),
+        jobpty: Priority::new(5),
+        rtgdta: Text::from_bytes(alloc, b"QCMDI")?,
+        rqsdta: None,
+        hold: false,
+    })
+}
+
+// CRTJOBD QDFTJOBD.
+fn crtjobd_qdftjobd(alloc: Global) -> Result<Crtjobd, NoMemory>
+    ensures { IfOk result (λ command. command ≡ crtjobd_qdftjobd) }
+{
+    let command = crtjobd(alloc, qdftjobd())?;
+    Ok(command)
+}
+
+// CRTJOBD QBATCH.
+fn crtjobd_qbatch(alloc: Global) -> Result<Crtjobd, NoMemory>
+    ensures { IfOk result (λ command. command ≡ crtjobd_qbatch) }
+{
+    let command = crtjobd(alloc, qbatch())?;
+    Ok(command)
+}
+
+// CRTSBSD QBATCH.
+fn crtsbsd_qbatch() -> Crtsbsd
+    ensures { result ≡ crtsbsd_qbatch }
+{
+    Crtsbsd {
+        sbsd: qbatch(),
+        maxjobs: Limit::NoMax,
+    }
+}
+
+// ADDJOBQE SBSD(QBATCH) JOBQ(QBATCH).
+fn addjobqe_qbatch() -> Addjobqe
+    ensures { result ≡ addjobqe_qbatch }
+{
+    Addjobqe {
+        sbsd: qbatch(),
+        jobq: qbatch(),
+        maxact: Limit::Most(1),
+        seqnbr: 10,
+        maxpty: [Limit::NoMax; 9],
+    }
+}
+
+// ADDRTGE SBSD(QBATCH) SEQNBR(9999) CMPVAL(*ANY) PGM(QSYS/QCMD) CLS(QBATCH).
+fn addrtge_qbatch() -> Addrtge
+    ensures { result ≡ addrtge_qbatch }
+{
+    Addrtge {
+        sbsd: qbatch(),
+        seqnbr: 9999,
+        cmpval: Cmp::Any,
+        pgm: QName {
+            lib: Name::of(b"QSYS"),
+            name: Name::of(b"QCMD"),
+        },
+        cls: qbatch(),
+        maxact: Limit::NoMax,
+        poolid: 1,
+    }
+}
+
+/// The commands whose objects an empty store opens with, in their order.
+pub fn opening_commands(alloc: Global) -> Result<[Command; 8], NoMemory>
+    ensures { IfOk result (λ commands. commands ≡ opening_commands) }
+{
+    let program = crtpgmref_echo(alloc)?;
+    let default = crtjobd_qdftjobd(alloc)?;
+    let batch = crtjobd_qbatch(alloc)?;
+    Ok([
+        Command::Crtcls(crtcls_qbatch()),
+        Command::Crtpgmref(program),
+        Command::Crtjobq(crtjobq_qbatch()),
+        Command::Crtjobd(default),
+        Command::Crtjobd(batch),
+        Command::Crtsbsd(crtsbsd_qbatch()),
+        Command::Addjobqe(addjobqe_qbatch()),
+        Command::Addrtge(addrtge_qbatch()),
+    ])
+}
+
+// No objects and no job.
+fn empty(alloc: Global, offset_min: i32) -> State
+    ensures { result ≡ empty offset_min }
+{
+    State {
+        objects: Objects::new(alloc),
+        jobs: ListOf::new(alloc),
+        started: ListOf::new(alloc),
+        held: ListOf::new(alloc),
+        stopped: ListOf::new(alloc),
+        evokes: ListOf::new(alloc),
+        next_number: 1,
+        next_serial: 1,
+        next_place: 1,
+        clock: Moment::new(0),
+        offset_min,
+        power: Power::On,
+    }
+}
+
+impl Core {
+    ghost use Rattle.std.specs.Prelude.{◌≡◌, IfOk, OnOk, All};
+    ghost use Rattle.wm_law.specs.Fit.{IsCommand};
+    ghost use Rattle.wm_law.specs.Opening.{changed_by, opening};
+
+    // Applies each of the commands.
+    fn change_all(
+        &mut self,
+        alloc: Global,
+        user: &Name,
+        commands: &[Command],
+    ) -> Result<(), NoMemory>
+        requires { All IsCommand commands.now }
+        ensures { OnOk result (self.new ≡ changed_by user.now self.old commands.now) }
+    {
+        for command in commands {
+            self.change(alloc, user, command)?;
+        }
+        Ok(())
+    }
+
+    /// The state of no rows: the objects of the opening commands, and no job. An `Err` is want of memory.
+    #[tactic(auto, unfolding(wm_law::specs::Opening::opening), using(crate::proofs::Opened::commands_fit))]
+    pub fn opening(alloc: Global, setup: &Setup) -> Result<Core, NoMemory>
+        ensures { IfOk result (λ core. core ≡ opening setup.now.offset_min) }
+    {
+        let commands = opening_commands(alloc)?;
+        let mut core = Core {
+            state: empty(alloc, setup.offset_min),
+        };
+        core.change_all(alloc, &Name::of(b"QSYS"), &commands)?;
+        Ok(core)
+    }
+}

@@ -1,0 +1,163 @@
+// SBMJOB: a job is made.
+ghost use Rattle.std.specs.Prelude.{◌≡◌, IfOk, unwrap_or};
+ghost use Rattle.wm_law.specs.Submitting.{queue_of, or_described};
+
+use crate::Core;
+use crate::power::is_on;
+use std::alloc::Global;
+use wm_base::{How, JobName, JobNumber, Kind, Name, NoMemory, QName, Refusal, Serial, Text};
+use wm_clwords::Request;
+use wm_desc::Jobd;
+use wm_law::{Job, JobKind, Phase, Reply, Sbmjob, Wish};
+
+/// All numbers from 1 to below this are job numbers.
+const NUMBERS_END: u32 = 1_000_000;
+
+/// All numbers from 1 to below this are serials, and places.
+const SERIALS_END: u64 = 1_000_000_000_000_000_000;
+
+// The queue of a submitted job.
+fn queue_of(command: &Sbmjob, jobd: &Jobd) -> QName
+    ensures { result ≡ queue_of command.now jobd.now }
+{
+    command.jobq.unwrap_or(jobd.jobq)
+}
+
+// A request of a text, where there is one.
+fn read_request(alloc: Global, text: &Option<Text>) -> Result<Option<Request>, NoMemory>
+    ensures { IfOk result (λ request. request ≡ text.now) }
+{
+    match text {
+        None => Ok(None),
+        Some(text) => Ok(Some(Request::read(alloc, text.clone()?)?)),
+    }
+}
+
+// The request of a submitted job: that of the command, where it says one, else that of the description.
+fn request_of(alloc: Global, command: &Sbmjob, jobd: &Jobd) -> Result<Option<Request>, NoMemory>
+    ensures { IfOk result (λ request. request ≡ or_described command.now.rqsdta jobd.now.rqsdta) }
+{
+    match command.rqsdta {
+        Some(_) => read_request(alloc, &command.rqsdta),
+        None => read_request(alloc, &jobd.rqsdta),
+    }
+}
+
+// Its routing data.
+fn routing_data_of(command: &Sbmjob, jobd: &Jobd) -> Result<Text, NoMemory>
+    ensures { IfOk result (λ text. text ≡ unwrap_or command.now.rtgdta jobd.now.rtgdta) }
+{
+    match &command.rtgdta {
+        Some(text) => text.clone(),
+        None => jobd.rtgdta.clone(),
+    }
+}
+
+impl Core {
+    ghost use Rattle.std.specs.Prelude.{◌≡◌, OnOk, OnErr, IfOk, true};
+    ghost use Rattle.wm_law.specs.Submitting.{has_numbers, submit_refusal, submitted_job, entered, submit};
+
+    fn has_numbers(&self) -> bool
+        ensures { result ≡ has_numbers self.now }
+    {
+        self.state.next_number >= 1
+            && self.state.next_number < NUMBERS_END
+            && self.state.next_serial < SERIALS_END
+            && self.state.next_place < SERIALS_END
+    }
+
+    // Why a job can't be submitted with the description.
+    fn submit_refusal(&self, command: &Sbmjob, jobd: &Jobd) -> Option<Refusal>
+        ensures { result ≡ submit_refusal self.now command.now jobd.now }
+    {
+        if self
+            .state
+            .objects
+            .jobqs
+            .object(&queue_of(command, jobd))
+            .is_none()
+        {
+            return Some(Refusal::NoObject(Kind::Jobq));
+        }
+        if !self.has_numbers() {
+            return Some(Refusal::NumbersUsed);
+        }
+        None
+    }
+
+    // A submitted job, with the next number, serial and place.
+    fn submitted_job(
+        &self,
+        alloc: Global,
+        user: &Name,
+        command: &Sbmjob,
+        jobd: &Jobd,
+    ) -> Result<Job, NoMemory>
+        requires { has_numbers self.now ≡ true }
+        ensures { IfOk result (λ job. job ≡ submitted_job self.now user.now command.now jobd.now) }
+    {
+        let rtgdta = routing_data_of(command, jobd)?;
+        let rqsdta = request_of(alloc, command, jobd)?;
+        Ok(Job {
+            serial: Serial::new(self.state.next_serial),
+            job: JobName {
+                number: JobNumber::new(self.state.next_number),
+                user: *user,
+                name: command.job.unwrap_or(command.jobd.name),
+            },
+            kind: JobKind::Bch,
+            jobq: Some(queue_of(command, jobd)),
+            pty: command.jobpty.unwrap_or(jobd.pty),
+            place: self.state.next_place,
+            rtgdta,
+            rqsdta,
+            held: command.hold.unwrap_or(jobd.hold),
+            due: self.state.clock,
+            phase: Phase::Waiting,
+            how: How::NotYet,
+            wish: Wish::NoWish,
+            uses: 0,
+            evoke: false,
+        })
+    }
+
+    // The job goes last among the jobs, and its numbers are taken.
+    fn enter(&mut self, job: Job) -> Result<(), NoMemory>
+        requires { has_numbers self.old ≡ true }
+        ensures ok { OnOk result (self.new ≡ entered self.old job) }
+        ensures err { OnErr result (self.new ≡ self.old) }
+    {
+        self.state.jobs.push(job)?;
+        self.state.next_number += 1;
+        self.state.next_serial += 1;
+        self.state.next_place += 1;
+        Ok(())
+    }
+
+    /// SBMJOB: a Waiting job.
+    pub(crate) fn submit(
+        &mut self,
+        alloc: Global,
+        user: &Name,
+        command: &Sbmjob,
+    ) -> Result<Reply, NoMemory>
+        ensures reply { IfOk result (λ r. r ≡ (submit self.old user.now command.now).reply) }
+        ensures state { OnOk result (self.new ≡ (submit self.old user.now command.now).state) }
+        ensures err { OnErr result (self.new ≡ self.old) }
+    {
+        if !is_on(&self.state.power) {
+            return Ok(Reply::No(Refusal::PoweringDown));
+        }
+        let Some(jobd) = self.state.objects.jobds.object(&command.jobd) else {
+            return Ok(Reply::No(Refusal::NoObject(Kind::Jobd)));
+        };
+        if let Some(refusal) = self.submit_refusal(command, jobd) {
+            return Ok(Reply::No(refusal));
+        }
+        let queue = queue_of(command, jobd);
+        let job = self.submitted_job(alloc, user, command, jobd)?;
+        let name = job.job;
+        self.enter(job)?;
+        Ok(Reply::Submitted(name, queue))
+    }
+}

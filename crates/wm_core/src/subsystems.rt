@@ -1,0 +1,58 @@
+// STRSBS: a subsystem is started.
+use crate::Core;
+use crate::power::is_on;
+use wm_base::{Kind, Name, NoMemory, QName, Refusal};
+use wm_law::{Reply, Sbs, SbsPhase};
+
+/// How many subsystems may be started.
+const MAX_STARTED: usize = 32;
+
+impl Core {
+    ghost use Rattle.std.specs.Prelude.{◌≡◌, OnOk, OnErr, IfOk};
+    ghost use Rattle.wm_law.specs.Subsystems.{is_started, start_refusal, start_subsystem};
+
+    fn is_started(&self, name: &Name) -> bool
+        ensures { result ≡ is_started self.now name.now }
+    {
+        self.state
+            .started
+            .as_slice()
+            .iter()
+            .any(|sbs| sbs.sbsd.name == *name)
+    }
+
+    // Why a subsystem can't be started.
+    fn start_refusal(&self, q: &QName) -> Option<Refusal>
+        ensures { result ≡ start_refusal self.now q.now }
+    {
+        if !is_on(&self.state.power) {
+            return Some(Refusal::PoweringDown);
+        }
+        if self.state.objects.sbsds.object(q).is_none() {
+            return Some(Refusal::NoObject(Kind::Sbsd));
+        }
+        if self.is_started(&q.name) {
+            return Some(Refusal::AlreadyActive);
+        }
+        if self.state.started.len() >= MAX_STARTED {
+            return Some(Refusal::TableFull(Kind::Sbs, MAX_STARTED as u32));
+        }
+        None
+    }
+
+    /// STRSBS: the subsystem goes last among the started ones.
+    pub(crate) fn start_subsystem(&mut self, q: &QName) -> Result<Reply, NoMemory>
+        ensures reply { IfOk result (λ r. r ≡ (start_subsystem self.old q.now).reply) }
+        ensures state { OnOk result (self.new ≡ (start_subsystem self.old q.now).state) }
+        ensures err { OnErr result (self.new ≡ self.old) }
+    {
+        if let Some(refusal) = self.start_refusal(q) {
+            return Ok(Reply::No(refusal));
+        }
+        self.state.started.push(Sbs {
+            sbsd: *q,
+            phase: SbsPhase::Active,
+        })?;
+        Ok(Reply::SbsStarted(*q))
+    }
+}

@@ -1,0 +1,2 @@
+pub mod FloorInside
+pub mod History

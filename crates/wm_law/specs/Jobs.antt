@@ -1,0 +1,12 @@
+-- A change to one job of the state.
+use Rattle.std.specs.Prelude.{ℕ, ◌==◌, map, if◌then◌else◌}
+use Rattle.wm_law.specs.declared.job.Job.{Job}
+use Rattle.wm_law.specs.declared.state.State.{State}
+
+-- the job changed, where it has that serial
+abbrev pub changed_at : ℕ → (Job → Job) → Job → Job
+changed_at serial change j = if j.serial == serial then change j else j
+
+-- the state with the job of that serial changed
+abbrev pub with_job : State → ℕ → (Job → Job) → State
+with_job s serial change = record s { jobs = map (changed_at serial change) s.jobs }

@@ -1,0 +1,88 @@
+-- The calls of monitors. A monitor is known by the number of its pass.
+use Rattle.std.specs.Prelude.{ℕ, Bool, false, ◌==◌, Option, Some, None, find, if◌then◌else◌}
+use Rattle.wm_base.specs.declared.job.StartOrder.{StartOrder}
+use Rattle.wm_base.specs.declared.job.Asked.TheVariants.{Start}
+use Rattle.wm_base.specs.declared.job.Exit.{Exit}
+use Rattle.wm_base.specs.declared.job.Exit.TheVariants as exit
+use Rattle.wm_base.specs.declared.job.EndCause.{EndCause}
+use Rattle.wm_base.specs.declared.job.EndCause.TheVariants as cause
+use Rattle.wm_base.specs.declared.refusal.Refusal.TheVariants.{NoJob, WrongPhase, NotInUse}
+use Rattle.wm_base.specs.declared.refusal.PhaseWord.{PhaseWord}
+use Rattle.wm_base.specs.declared.refusal.PhaseWord.TheVariants as word
+use Rattle.wm_law.specs.declared.call.Reply.TheVariants.{Order, Nothing, Noted}
+use Rattle.wm_law.specs.declared.job.Job.{Job}
+use Rattle.wm_law.specs.declared.job.Phase.{Phase}
+use Rattle.wm_law.specs.declared.job.Phase.TheVariants.{Waiting, Starting, Handed, Running, Ended}
+use Rattle.wm_law.specs.declared.state.State.{State}
+use Rattle.wm_law.specs.Counts.{is_starting}
+use Rattle.wm_law.specs.Jobs.{changed_at, with_job}
+use Rattle.wm_law.specs.Launch.{order_of}
+use Rattle.wm_law.specs.Stepped.{Stepped, refused}
+
+-- the job in that phase
+abbrev pub in_phase : Phase → Job → Job
+in_phase phase j = record j { phase = phase }
+
+-- the job in that phase, where it has that serial
+abbrev pub phased_at : ℕ → Phase → Job → Job
+phased_at serial phase j = changed_at serial (in_phase phase) j
+
+-- the state with the job of that serial in that phase
+abbrev pub with_phase : State → ℕ → Phase → State
+with_phase s serial phase = with_job s serial (in_phase phase)
+
+abbrev pub hand_order : State → ℕ → Job → Option StartOrder → Stepped
+hand_order s m j None = record { reply = Nothing; state = s }
+hand_order s m j (Some o) = record { reply = Order (Start o); state = with_phase s j.serial (Handed m) }
+
+abbrev pub hand_job : State → ℕ → Option Job → Stepped
+hand_job s m None = record { reply = Nothing; state = s }
+hand_job s m (Some j) = hand_order s m j (order_of s j)
+
+-- the Starting job of least serial is handed to the monitor
+abbrev pub hand : State → ℕ → Stepped
+hand s m = hand_job s m (find (λ j. is_starting j.phase) s.jobs)
+
+-- what a job's phase is called
+abbrev pub phase_word : Phase → PhaseWord
+phase_word Waiting = word.Waiting
+phase_word Starting = word.Starting
+phase_word (Handed m) = word.Active
+phase_word (Running m) = word.Active
+phase_word (Ended c) = word.Ended
+
+abbrev pub is_handed_to : ℕ → Phase → Bool
+is_handed_to m Waiting = false
+is_handed_to m Starting = false
+is_handed_to m (Handed n) = n == m
+is_handed_to m (Running n) = false
+is_handed_to m (Ended c) = false
+
+abbrev pub is_run_by : ℕ → Phase → Bool
+is_run_by m Waiting = false
+is_run_by m Starting = false
+is_run_by m (Handed n) = false
+is_run_by m (Running n) = n == m
+is_run_by m (Ended c) = false
+
+abbrev pub report_on : State → ℕ → (Phase → Bool) → Phase → Option Job → Stepped
+report_on s serial test phase None = refused s NoJob
+report_on s serial test phase (Some j) =
+    if test j.phase then record { reply = Noted; state = with_phase s serial phase } else refused s (WrongPhase (phase_word j.phase))
+
+-- a report moves the job of that serial on, where its phase passes the test
+abbrev pub report : State → ℕ → (Phase → Bool) → Phase → Stepped
+report s serial test phase = report_on s serial test phase (find (λ j. j.serial == serial) s.jobs)
+
+-- the cause of an end with no wish
+abbrev pub end_cause : Exit → EndCause
+end_cause (exit.Code code) = if code == 0 then cause.Completed else cause.Exited code
+end_cause exit.Killed = cause.Killed
+
+abbrev pub done_with : State → ℕ → Option Job → Stepped
+done_with s m None = refused s NoJob
+done_with s m (Some j) = if is_run_by m j.phase then refused s NotInUse else refused s (WrongPhase (phase_word j.phase))
+
+-- no job has a request yet, so none can be done with one
+abbrev pub use_done : State → ℕ → ℕ → Stepped
+use_done s m serial = done_with s m (find (λ j. j.serial == serial) s.jobs)

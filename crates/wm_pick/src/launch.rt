@@ -1,0 +1,101 @@
+// What becomes of a job whose turn has come.
+ghost use Rattle.std.specs.Prelude.{◌≡◌};
+ghost use Rattle.wm_law.specs.Launch.{requested, called_program, ends_by, starts_from};
+
+use crate::Parts;
+use crate::counts::count_by_route;
+use crate::routing::route;
+use wm_base::{EndCause, How, QName};
+use wm_clwords::Request;
+use wm_desc::{RouteEntry, is_qcmd};
+use wm_law::{Job, Launched, Phase};
+
+// The program that a request calls, where there is one and it is a CALL.
+fn requested(request: &Option<Request>) -> Option<QName>
+    ensures { result ≡ requested request.now }
+{
+    match request {
+        None => None,
+        Some(request) => request.program(),
+    }
+}
+
+// The program that the entry's program calls: QSYS/QCMD that of the request, another one itself.
+pub fn called_program(entry: &RouteEntry, request: &Option<Request>) -> Option<QName>
+    ensures { result ≡ called_program entry.now request.now }
+{
+    if !is_qcmd(&entry.pgm) {
+        return Some(entry.pgm);
+    }
+    requested(request)
+}
+
+fn ends_by(cause: EndCause) -> Launched
+    ensures { result ≡ ends_by cause }
+{
+    Launched {
+        phase: Phase::Ended(cause),
+        how: How::NotYet,
+    }
+}
+
+fn starts_from(sbs: &QName, queue: &QName, job: &Job, seq: u32) -> Launched
+    ensures { result ≡ starts_from sbs.now queue.now job.now seq }
+{
+    Launched {
+        phase: Phase::Starting,
+        how: How::FromQueue {
+            sbs: *sbs,
+            jobq: *queue,
+            pty: job.pty,
+            route: seq,
+        },
+    }
+}
+
+impl<'a> Parts<'a> {
+    ghost use Rattle.std.specs.Prelude.{◌≡◌};
+    ghost use Rattle.wm_law.specs.Launch.{program_fault, route_fault, launched};
+
+    // Why what is called can't be started.
+    fn program_fault(&self, pgm: Option<QName>) -> Option<EndCause>
+        ensures { result ≡ program_fault self.now pgm }
+    {
+        match pgm {
+            None => Some(EndCause::BadRequest),
+            Some(pgm) => match self.objects.programs.object(&pgm) {
+                None => Some(EndCause::NoProgram),
+                Some(_) => None,
+            },
+        }
+    }
+
+    // Why a job that the entry matches can't start in the subsystem.
+    fn route_fault(&self, sbs: &QName, entry: &RouteEntry, job: &Job) -> Option<EndCause>
+        ensures { result ≡ route_fault self.now sbs.now entry.now job.now }
+    {
+        let count = count_by_route(sbs, entry.seq, self.jobs.as_slice());
+        if entry.maxact.admits(count) {
+            self.program_fault(called_program(entry, &job.rqsdta))
+        } else {
+            Some(EndCause::RouteFull(entry.seq))
+        }
+    }
+
+    /// What the launch of a job of a queue makes of it in a subsystem.
+    pub fn launched(&self, sbs: &QName, queue: &QName, job: &Job) -> Launched
+        ensures { result ≡ launched self.now sbs.now queue.now job.now }
+    {
+        let entry = match self.objects.sbsds.object(sbs) {
+            None => None,
+            Some(description) => route(description, &job.rtgdta),
+        };
+        let Some(entry) = entry else {
+            return ends_by(EndCause::NoRoute);
+        };
+        match self.route_fault(sbs, entry, job) {
+            Some(cause) => ends_by(cause),
+            None => starts_from(sbs, queue, job, entry.seq),
+        }
+    }
+}

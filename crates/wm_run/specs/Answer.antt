@@ -1,0 +1,48 @@
+-- What answers a line: the text of its reply or of its fault, with the line's end.
+use Rattle.std.specs.Prelude.{ℕ, Bool, true, false, if◌then◌else◌, List, [], ◌∷◌, ◌++◌, codes}
+use Rattle.wm_clwords.specs.declared.fault.ClFault.TheVariants.{Empty}
+use Rattle.wm_law.specs.declared.call.Call.{Call}
+use Rattle.wm_law.specs.declared.call.Call.TheVariants.{Change}
+use Rattle.wm_law.specs.declared.call.Entry.{Entry}
+use Rattle.wm_law.specs.declared.call.Reply.{Reply}
+use Rattle.wm_law.specs.declared.call.Reply.TheVariants.{Made, SbsStarted, Submitted, PowerDown, Order, Nothing, Noted, No}
+use Rattle.wm_show.specs.Said.{said_text, fault_text}
+use Rattle.wm_show.specs.declared.line_fault.LineFault.{LineFault}
+use Rattle.wm_show.specs.declared.line_fault.LineFault.TheVariants.{Cl}
+
+-- what is said of a call's reply: nothing where the call is no command
+abbrev pub call_text : Call → Reply → List ℕ
+call_text (Change user c) reply = said_text c reply
+call_text c reply = []
+
+-- what is said of an entry: that of its command
+abbrev pub entry_text : Entry → List ℕ
+entry_text e = call_text e.call e.reply
+
+-- a line with its end
+abbrev pub with_end : List ℕ → List ℕ
+with_end text = text ++ 10 ∷ []
+
+-- an empty line isn't answered, and is no fault of the session
+abbrev pub is_fault : LineFault → Bool
+is_fault (Cl Empty) = false
+is_fault fault = true
+
+-- what answers a line that is no command
+abbrev pub fault_answer : LineFault → List ℕ
+fault_answer fault = if is_fault fault then with_end (fault_text fault) else []
+
+-- what is said of a line that isn't built
+abbrev pub not_built : List ℕ
+not_built = codes "CM 9 NOTBUILT"
+
+-- whether a reply refuses
+abbrev pub is_refused : Reply → Bool
+is_refused Made = false
+is_refused (SbsStarted sbs) = false
+is_refused (Submitted job jobq) = false
+is_refused PowerDown = false
+is_refused (Order asked) = false
+is_refused Nothing = false
+is_refused Noted = false
+is_refused (No refusal) = true

@@ -1,0 +1,42 @@
+-- Why a run ends early, and with which status.
+use Rattle.std.specs.Prelude.{ℕ, ◌≤◌, Result, IsErrOf}
+use Rattle.wm_outside.specs.Cause.{raised}
+use Rattle.wm_run.specs.declared.monitor.MonitorFault.{MonitorFault}
+use Rattle.wm_run.specs.declared.monitor.MonitorFault.TheVariants as monitor
+use Rattle.wm_run.specs.declared.halt.Halt.{Halt}
+use Rattle.wm_run.specs.declared.halt.Halt.TheVariants.{ReadFault, WriteFault, NoMemory, WaitFault, InputFull}
+
+-- a monitor's fault ends the run
+abbrev pub halt_of : MonitorFault → Halt
+halt_of monitor.WaitFault = WaitFault
+halt_of monitor.NoMemory = NoMemory
+
+-- the status of a run that ends early
+abbrev pub status_of : Halt → ℕ
+status_of ReadFault = 3
+status_of WriteFault = 4
+status_of NoMemory = 6
+status_of WaitFault = 8
+status_of InputFull = 11
+
+-- no count of the sink and of the spawner's looks has fallen, and the faults that are told have raised theirs
+pub record HasCauses {T : Type 0} (result : Result T Halt) (written_before written_now looked_before looked_now : ℕ) : Type 0 where
+  pub written : written_before ≤ written_now
+  pub looked : looked_before ≤ looked_now
+  pub write_fault : IsErrOf result WriteFault → raised written_before ≤ written_now
+  pub wait_fault : IsErrOf result WaitFault → raised looked_before ≤ looked_now
+  pub no_read_fault : IsErrOf result ReadFault → ⊥
+  pub not_full : IsErrOf result InputFull → ⊥
+
+-- the same of a part that writes nothing
+abbrev pub HasMonitorCauses : {T : Type 0} → Result T Halt → ℕ → ℕ → Type 0
+HasMonitorCauses result looked_before looked_now = HasCauses result 0 0 looked_before looked_now
+
+-- the same, where the input is read too
+pub record HasInputCauses {T : Type 0} (result : Result T Halt) (read_before read_now written_before written_now looked_before looked_now : ℕ) : Type 0 where
+  pub read : read_before ≤ read_now
+  pub written : written_before ≤ written_now
+  pub looked : looked_before ≤ looked_now
+  pub read_fault : IsErrOf result ReadFault → raised read_before ≤ read_now
+  pub write_fault : IsErrOf result WriteFault → raised written_before ≤ written_now
+  pub wait_fault : IsErrOf result WaitFault → raised looked_before ≤ looked_now

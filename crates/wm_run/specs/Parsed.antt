@@ -1,0 +1,48 @@
+-- What a logical line comes to.
+use Rattle.std.specs.Prelude.{◌≡◌, ℕ, true, false, List, Result, Ok, Err, codes, ⊤}
+use Rattle.wm_clwords.specs.Faults.{IsCommand, Stands}
+use Rattle.wm_clwords.specs.Items.{list_marks}
+use Rattle.wm_clwords.specs.declared.tree.Item.{Item}
+use Rattle.wm_command.specs.Line.{line_of}
+use Rattle.wm_command.specs.declared.fault.CmdFault.{CmdFault}
+use Rattle.wm_command.specs.declared.line.Line.{Line}
+use Rattle.wm_command.specs.declared.line.Line.TheVariants as line
+use Rattle.wm_law.specs.Built.{is_built}
+use Rattle.wm_law.specs.Fit.{IsCommand as IsFit}
+use Rattle.wm_show.specs.declared.line_fault.LineFault.TheVariants.{Cl, Cm}
+use Rattle.wm_run.specs.declared.parsed.Parsed.{Parsed}
+use Rattle.wm_run.specs.declared.parsed.Parsed.TheVariants.{Fault, NotBuilt, Call}
+
+-- the user of the session
+abbrev pub session_user : List ℕ
+session_user = codes "QUSER"
+
+-- the text spells a command, of which the command table says this
+pub record IsTabled (text : List ℕ) (said : Result Line CmdFault) : Type 0 where
+  pub name : List ℕ
+  pub items : List Item
+  pub command : IsCommand text name (list_marks items)
+  pub tabled : line_of session_user name items ≡ said
+
+-- a reading command, or one that isn't built yet
+abbrev pub IsUnbuilt : Line → Type 0
+IsUnbuilt (line.Change c) = is_built c ≡ false
+IsUnbuilt (line.Read ask) = ⊤
+
+-- a fault of the text, a fault of its command, a command that isn't built, or a call
+abbrev pub Parses : List ℕ → Parsed → Type 0
+Parses text (Fault (Cl fault)) = Stands fault text
+Parses text (Fault (Cm fault)) = IsTabled text (Err fault)
+Parses text NotBuilt = (l : Line) × IsTabled text (Ok l) × IsUnbuilt l
+Parses text (Call c) = IsTabled text (Ok (line.Change c)) × (is_built c ≡ true)
+
+-- a line's command keeps its forms and ranges
+abbrev pub IsFitLine : Line → Type 0
+IsFitLine (line.Change c) = IsFit c
+IsFitLine (line.Read ask) = ⊤
+
+-- and so does the command of a call, which is built
+abbrev pub IsFitParsed : Parsed → Type 0
+IsFitParsed (Fault fault) = ⊤
+IsFitParsed NotBuilt = ⊤
+IsFitParsed (Call c) = IsFit c × (is_built c ≡ true)

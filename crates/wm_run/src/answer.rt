@@ -1,0 +1,57 @@
+// What answers a line: the text of its reply or of its fault, with the line's end.
+ghost use Rattle.std.specs.Prelude.{◌≡◌, IfOk, string_bytes};
+ghost use Rattle.wm_run.specs.Answer.{entry_text, fault_answer, is_fault, is_refused, with_end};
+
+use std::alloc::Global;
+use wm_base::NoMemory;
+use wm_clwords::ClFault;
+use wm_law::{Call, Entry, Reply};
+use wm_show::{LineFault, fault_line, said};
+
+/// What answers a line that isn't built.
+pub const NOT_BUILT: &[u8] = b"CM 9 NOTBUILT\n";
+
+/// Whether a reply refuses.
+pub fn is_refused(reply: &Reply) -> bool
+    ensures { result ≡ is_refused reply.now }
+{
+    matches!(reply, Reply::No(_))
+}
+
+/// Whether a line that is no command is a fault: an empty one isn't.
+pub fn is_fault(fault: &LineFault) -> bool
+    ensures { result ≡ is_fault fault.now }
+{
+    !matches!(fault, LineFault::Cl(ClFault::Empty))
+}
+
+// A text with a line's end.
+fn ended(mut text: String) -> Result<String, NoMemory>
+    ensures { IfOk result (λ line. string_bytes line ≡ with_end (string_bytes text)) }
+{
+    text.push_str("\n")?;
+    Ok(text)
+}
+
+/// What is written for a line that is no command: nothing for an empty one. An `Err` is want of memory.
+pub fn fault_answer(alloc: Global, fault: &LineFault) -> Result<String, NoMemory>
+    ensures { IfOk result (λ line. string_bytes line ≡ fault_answer fault.now) }
+{
+    if !is_fault(fault) {
+        return Ok(String::new(alloc));
+    }
+    let line = ended(fault_line(alloc, fault)?)?;
+    Ok(line)
+}
+
+/// What is said of an entry, with the line's end. An `Err` is want of memory.
+pub fn entry_line(alloc: Global, entry: &Entry) -> Result<String, NoMemory>
+    ensures { IfOk result (λ line. string_bytes line ≡ with_end (entry_text entry.now)) }
+{
+    let text = match &entry.call {
+        Call::Change { command, .. } => said(alloc, command, &entry.reply)?,
+        _ => String::new(alloc),
+    };
+    let line = ended(text)?;
+    Ok(line)
+}

@@ -1,0 +1,66 @@
+// Why a run ends early.
+ghost use Rattle.std.specs.Prelude.{◌≡◌};
+ghost use Rattle.wm_run.specs.declared.halt.Halt.TheVariants.{NoMemory};
+
+use crate::monitor::MonitorFault;
+use std::alloc::{AllocError, AllocFailed};
+
+/// Why a run ends early.
+#[derive(Clone, Copy, Debug, PartialEq, Eq)]
+pub enum Halt {
+    /// The input couldn't be read.
+    ReadFault,
+    /// The output couldn't be written.
+    WriteFault,
+    NoMemory,
+    /// The spawner couldn't kill or look.
+    WaitFault,
+    /// The input has more than 1,000,000,000 bytes.
+    InputFull,
+}
+
+impl From<AllocError> for Halt {
+    ghost from_gives = { λ _ e. e ≡ NoMemory };
+
+    fn from(_e: AllocError) -> Halt {
+        Halt::NoMemory
+    }
+}
+
+impl<T: Drop> From<AllocFailed<T>> for Halt {
+    ghost from_gives = { λ _ e. e ≡ NoMemory };
+
+    fn from(_e: AllocFailed<T>) -> Halt {
+        Halt::NoMemory
+    }
+}
+
+impl From<MonitorFault> for Halt {
+    ghost use Rattle.wm_run.specs.Halt.{halt_of};
+
+    ghost from_gives = { λ fault e. e ≡ halt_of fault };
+
+    fn from(fault: MonitorFault) -> Halt {
+        match fault {
+            MonitorFault::WaitFault => Halt::WaitFault,
+            MonitorFault::NoMemory => Halt::NoMemory,
+        }
+    }
+}
+
+impl Halt {
+    ghost use Rattle.wm_run.specs.Halt.{status_of};
+
+    /// The status that the run ends with.
+    pub fn status(self) -> u8
+        ensures { result ≡ status_of self }
+    {
+        match self {
+            Halt::ReadFault => 3,
+            Halt::WriteFault => 4,
+            Halt::NoMemory => 6,
+            Halt::WaitFault => 8,
+            Halt::InputFull => 11,
+        }
+    }
+}

@@ -1,0 +1,87 @@
+// The texts of replies.
+ghost use Rattle.std.specs.Prelude.{◌≡◌, ◌++◌, IfOk, codes, string_bytes};
+ghost use Rattle.std.specs.Option.{option_copied};
+ghost use Rattle.wm_base.specs.JobName.{job_name_text};
+ghost use Rattle.wm_base.specs.QName.{qname_text};
+ghost use Rattle.wm_show.specs.Said.{made_name, made_text, order_text, said_text};
+
+use std::alloc::Global;
+use wm_base::{Asked, JobName, NoMemory, QName};
+use wm_command::command_word;
+use wm_law::{Command, Reply};
+
+// What is ordered, with the job's serial.
+fn order_text(alloc: Global, asked: &Asked) -> Result<String, NoMemory>
+    ensures { IfOk result (λ text. string_bytes text ≡ order_text asked.now) }
+{
+    match asked {
+        Asked::Start(order) => {
+            let serial = order.serial;
+            format!(in alloc; "ORDER START {serial}")
+        }
+        Asked::Kill(serial) => format!(in alloc; "ORDER KILL {serial}"),
+    }
+}
+
+// The job that was submitted, and its queue.
+fn submitted(alloc: Global, job: &JobName, jobq: &QName) -> Result<String, NoMemory>
+    ensures { IfOk result (λ text. string_bytes text ≡ codes "OK " ++ job_name_text job.now ++ codes " submitted to " ++ qname_text jobq.now) }
+{
+    let mut text = format!(in alloc; "OK {job}")?;
+    text.push_str(" submitted to ")?;
+    let queue = jobq.to_string(alloc)?;
+    text.push_str(queue.as_str())?;
+    Ok(text)
+}
+
+// What a command that makes or changes something names first.
+fn made_name(command: &Command) -> Option<&QName>
+    ensures { option_copied result ≡ made_name command.now }
+{
+    match command {
+        Command::Crtcls(c) => Some(&c.cls),
+        Command::Crtjobq(c) => Some(&c.jobq),
+        Command::Crtpgmref(c) => Some(&c.pgm),
+        Command::Crtjobd(c) => Some(&c.jobd),
+        Command::Crtsbsd(c) => Some(&c.sbsd),
+        Command::Addjobqe(c) => Some(&c.sbsd),
+        Command::Addrtge(c) => Some(&c.sbsd),
+        Command::Addaje(c) => Some(&c.sbsd),
+        Command::Addpje(c) => Some(&c.sbsd),
+        Command::Rmvjobqe(c) => Some(&c.sbsd),
+        Command::Rmvrtge(c) => Some(&c.sbsd),
+        Command::Rmvaje(c) => Some(&c.sbsd),
+        Command::Rmvpje(c) => Some(&c.sbsd),
+        _ => None,
+    }
+}
+
+// The command's word, and that name.
+fn made(alloc: Global, command: &Command) -> Result<String, NoMemory>
+    ensures { IfOk result (λ text. string_bytes text ≡ made_text command.now) }
+{
+    let mut text = String::from_str(alloc, "OK ")?;
+    text.push_str(command_word(command))?;
+    if let Some(name) = made_name(command) {
+        text.push_str(" ")?;
+        let name = name.to_string(alloc)?;
+        text.push_str(name.as_str())?;
+    }
+    Ok(text)
+}
+
+/// What is said of a command's reply, a line without its end. An `Err` is want of memory.
+pub fn said(alloc: Global, command: &Command, reply: &Reply) -> Result<String, NoMemory>
+    ensures { IfOk result (λ text. string_bytes text ≡ said_text command.now reply.now) }
+{
+    match reply {
+        Reply::Made => made(alloc, command),
+        Reply::SbsStarted(sbs) => format!(in alloc; "OK subsystem {sbs} started"),
+        Reply::Submitted(job, jobq) => submitted(alloc, job, jobq),
+        Reply::PowerDown => String::from_str(alloc, "OK power down"),
+        Reply::Order(asked) => order_text(alloc, asked),
+        Reply::Nothing => String::from_str(alloc, "NOTHING"),
+        Reply::Noted => String::from_str(alloc, "NOTED"),
+        Reply::No(refusal) => format!(in alloc; "NO {refusal}"),
+    }
+}
