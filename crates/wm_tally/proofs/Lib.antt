@@ -1,0 +1,3 @@
+pub mod KeysOf
+pub mod RowLemmas
+pub mod TallyLemmas

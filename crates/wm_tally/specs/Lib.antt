@@ -1,0 +1,6 @@
+pub mod Counted
+pub mod How
+pub mod Keys
+pub mod Rows
+pub mod Tally
+pub mod TallyInside
