@@ -1,1 +1,4 @@
+pub mod Due
+pub mod DueRanges
+pub mod Laws
 pub mod Schedule

@@ -1,0 +1,12 @@
+use Rattle.std.proofs.Common.{arith, ◌≡◌}
+use Rattle.jiff_core.specs.Date.{epoch_day}
+use Rattle.jiff_core.proofs.SignedLemmas.{signed_arith}
+use Rattle.wm_when.specs.Due.{month_start, month_of}
+use Rattle.wm_when.proofs.Months.{first_of_month_is}
+use Rattle.wm_when.proofs.days.first_of_month.Goals as goal
+
+pub returns-clause-value : goal.returns-clause-value
+returns-clause-value c =
+    let day : epoch_day c.date_of.result ≡ c.args.day = omega (arith, signed_arith) in
+    let is : epoch_day c.first_of_month.result ≡ month_start (month_of c.args.day) = first_of_month_is c.date_of.result c.first_of_month.result c.args.day day (omega (arith, signed_arith)) c.first_of_month.ensures in
+    omega (arith, signed_arith)
