@@ -1,0 +1,5 @@
+pub mod Cuts
+pub mod Found
+pub mod Opened
+pub mod Sides
+pub mod Tested

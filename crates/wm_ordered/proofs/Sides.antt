@@ -1,0 +1,60 @@
+-- The two sides of an element in a list whose pairs all meet a relation.
+use Rattle.std.proofs.Common.{◌≡◌, ℕ, zero, suc, ◌+◌, ◌<◌, Bool, true, false, cond, List, [], ◌∷◌, ◌++◌, length, get_or, All, AllPairs, filter, subst, arith, length-append, get_or-append-add}
+use Rattle.std.proofs.lemmas.List.{get_or_append_left}
+use Rattle.std.proofs.lemmas.List.Elements.{All-filter}
+use lib.Seq.{get_or-append_seam}
+
+-- what each side is, and how it stands to the element between
+pub record Sides {X : Type 0} (R : X → X → Type 0) (l : List X) (e : X) (r : List X) : Type 0 where
+  pub left : AllPairs R l
+  pub right : AllPairs R r
+  pub below : All (λ x. R x e) l
+  pub above : All (λ x. R e x) r
+
+module _ {X : Type 0} (R : X → X → Type 0) where
+  module _ (l : List X) (e : X) (r : List X) where
+    before : (j : ℕ) (d : X) → j < length l → get_or (l ++ e ∷ r) j d ≡ get_or l j d
+    before j d lt = get_or_append_left l (e ∷ r) d j lt
+
+    seam : (d : X) → get_or (l ++ e ∷ r) (length l) d ≡ e
+    seam d = get_or-append_seam l e r d
+
+    after : (j : ℕ) (d : X) → get_or (l ++ e ∷ r) (length l + suc j) d ≡ get_or r j d
+    after j d = get_or-append-add l (e ∷ r) (suc j) d
+
+    long : length (l ++ e ∷ r) ≡ length l + suc (length r)
+    long = length-append l (e ∷ r)
+
+    pair : (i j : ℕ) (d x y : X) → get_or (l ++ e ∷ r) i d ≡ x → get_or (l ++ e ∷ r) j d ≡ y → i < j → j < length (l ++ e ∷ r) → AllPairs R (l ++ e ∷ r) → R x y
+    pair i j d x y a b lt in_range all =
+        subst (λ u. R u y) a (subst (λ u. R (get_or (l ++ e ∷ r) i d) u) b (all i j d lt in_range))
+
+    pub sides : AllPairs R (l ++ e ∷ r) → Sides R l e r
+    sides all = record {
+      left = λ i j d lt b. pair i j d _ _ (before i d (omega arith)) (before j d b) lt (omega (arith, long)) all;
+      right = λ i j d lt b. pair (length l + suc i) (length l + suc j) d _ _ (after i d) (after j d) (omega arith) (omega (arith, long)) all;
+      below = λ j d b. pair j (length l) d _ _ (before j d b) (seam d) b (omega (arith, long)) all;
+      above = λ j d b. pair (length l) (length l + suc j) d _ _ (seam d) (after j d) (omega arith) (omega (arith, long)) all;
+    }
+
+  pairs-cons : (x : X) (xs : List X) → All (λ y. R x y) xs → AllPairs R xs → AllPairs R (x ∷ xs)
+  pairs-cons x xs above all zero zero d lt b = absurd (omega arith)
+  pairs-cons x xs above all zero (suc j) d lt b = above j d (omega arith)
+  pairs-cons x xs above all (suc i) zero d lt b = absurd (omega arith)
+  pairs-cons x xs above all (suc i) (suc j) d lt b = all i j d (omega arith) (omega arith)
+
+  pairs-tail : (x : X) (xs : List X) → AllPairs R (x ∷ xs) → AllPairs R xs
+  pairs-tail x xs all i j d lt b = all (suc i) (suc j) d (omega arith) (omega arith)
+
+  above-head : (x : X) (xs : List X) → AllPairs R (x ∷ xs) → All (λ y. R x y) xs
+  above-head x xs all j d b = all 0 (suc j) d (omega arith) (omega arith)
+
+  kept : (b : Bool) (x : X) (xs : List X) → All (λ y. R x y) xs → AllPairs R xs → AllPairs R (cond b (x ∷ xs) xs)
+  kept true x xs above all = pairs-cons x xs above all
+  kept false x xs above all = all
+
+  -- what a filter keeps still meets it
+  pub all_pairs_filter : (p : X → Bool) (xs : List X) → AllPairs R xs → AllPairs R (filter p xs)
+  all_pairs_filter p [] all = all
+  all_pairs_filter p (x ∷ xs) all =
+      kept (p x) x (filter p xs) (All-filter p (λ y. R x y) xs (above-head x xs all)) (all_pairs_filter p xs (pairs-tail x xs all))

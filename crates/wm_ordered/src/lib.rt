@@ -1,0 +1,16 @@
+//! An ordered map whose room is taken beforehand.
+//!
+//! The contract for the layer above: an `Ordered<K, V>` is the list of its pairs in ascending order of their keys, each key
+//! once. `Ordered::insert` and `Ordered::remove` take no memory; room for pairs is taken by `Ordered::reserve` alone, and
+//! told by `spare`. A look at a key costs a number of comparisons that grows as the logarithm of the pairs.
+//! The definitions are in `specs/`: `Ordered` has what a contract sees of a map, and what is found in it.
+#![tactic(auto)]
+
+mod edit;
+mod find;
+mod ordered;
+mod spare;
+mod tree;
+mod weight;
+
+pub use ordered::Ordered;

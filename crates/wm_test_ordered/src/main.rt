@@ -1,0 +1,21 @@
+//! The cases of an ordered map: each call beside the same of std's `BTreeMap`, whose answers are the wanted ones.
+//!
+//! Nothing is read. What is printed, and what must be printed, is how many pairs were compared in each round.
+#![tactic(auto)]
+
+mod pair;
+mod rounds;
+
+use anyhow::Result;
+use rounds::{few_calls, rising, scrambled};
+
+fn main(rt: HostRuntime) -> Result<()> {
+    let alloc = rt.alloc();
+    few_calls(alloc)?;
+    println!(rt; "few calls: as wanted")?;
+    let pairs = scrambled(alloc)?;
+    println!(rt; "put in scrambled, taken out in order: {pairs} pairs")?;
+    let pairs = rising(alloc)?;
+    println!(rt; "put in in order, taken out scrambled: {pairs} pairs")?;
+    Ok(())
+}

@@ -1,0 +1,6 @@
+pub mod Bringing
+pub mod Index
+pub mod Keys
+pub mod Orders
+pub mod Waiting
+pub mod WaitingInside

@@ -1,0 +1,70 @@
+-- What a contract sees of the jobs that wait, and which of them is the head.
+use Rattle.std.specs.Prelude.{◌≡◌, ℕ, ◌≤◌, Bool, not, ◌&&◌, ◌==◌, nat_lt, nat_le, nat_eq, min, List, filter, fold, map, Option, Some, None, if◌then◌else◌}
+use Rattle.std.specs.List.{Contains, list_any}
+use Rattle.wm_base.specs.declared.qname.QName.{QName}
+use Rattle.wm_desc.specs.Table.{same_qname}
+use Rattle.wm_waiting.specs.declared.waiter.Waiter.{Waiter}
+
+-- the jobs that wait in the order of their serials, the greatest moment that was made due, and for how many more there is room
+pub record Waiting : Type 0 where
+  pub items : List Waiter
+  pub clock : ℕ
+  pub spare : ℕ
+
+-- what they are sorted by
+abbrev pub serial_of : Waiter → ℕ
+serial_of w = w.serial
+
+-- whether one of them has the place
+abbrev pub has_place : ℕ → List Waiter → Bool
+has_place place items = list_any (λ v. v.place == place) items
+
+-- each has a place of its own
+abbrev pub HavePlaces : List Waiter → Type 0
+HavePlaces items = (v w : Waiter) → Contains items v → Contains items w → v.place ≡ w.place → v ≡ w
+
+-- each has a priority of 1 to 9
+abbrev pub HavePriorities : List Waiter → Type 0
+HavePriorities items = (w : Waiter) → Contains items w → (1 ≤ w.pty) × (w.pty ≤ 9)
+
+-- whether it is of the queue and the priority
+abbrev pub is_of : QName → ℕ → Waiter → Bool
+is_of queue pty w = same_qname w.jobq queue && w.pty == pty
+
+-- whether it isn't held, and is due
+abbrev pub is_up : ℕ → Waiter → Bool
+is_up clock w = not w.held && nat_le w.due clock
+
+-- whether it is due above the clock
+abbrev pub is_ahead : ℕ → Waiter → Bool
+is_ahead clock w = nat_lt clock w.due
+
+-- whether it is of the queue and the priority, isn't held, and is due
+abbrev pub is_turn : QName → ℕ → ℕ → Waiter → Bool
+is_turn queue pty clock w = is_of queue pty w && is_up clock w
+
+-- of two the one of lesser place, the first where neither has it
+abbrev pub nearer : Option Waiter → Waiter → Option Waiter
+nearer None w = Some w
+nearer (Some v) w = if nat_lt w.place v.place then Some w else Some v
+
+-- the head of a queue and a priority: of those that may have their turn, the one of least place
+abbrev pub head_of : QName → ℕ → ℕ → List Waiter → Option Waiter
+head_of queue pty clock items = fold nearer None (filter (is_turn queue pty clock) items)
+
+-- the lesser of two moments, where there is one
+abbrev pub sooner : Option ℕ → ℕ → Option ℕ
+sooner None moment = Some moment
+sooner (Some least) moment = Some (min least moment)
+
+-- the least moment above the clock at which one is due, held or not
+abbrev pub next_due : ℕ → List Waiter → Option ℕ
+next_due clock items = fold (λ least w. if is_ahead clock w then sooner least w.due else least) None items
+
+-- the job, held or not
+abbrev pub with_held : Bool → Waiter → Waiter
+with_held held w = record { serial = w.serial; jobq = w.jobq; pty = w.pty; place = w.place; held = held; due = w.due }
+
+-- the jobs, with the one of a serial held or not
+abbrev pub marked : ℕ → Bool → List Waiter → List Waiter
+marked serial held items = map (λ w. if nat_eq w.serial serial then with_held held w else w) items

@@ -1,0 +1,219 @@
+// The jobs that wait.
+use crate::Waiter;
+use crate::bringing::bring_due;
+use crate::indexes::{enlist, lacking, take_out};
+use crate::keys::{Rise, Spot};
+use std::alloc::{AllocError, Global};
+use std::marker::Model;
+use std::sync::ledger::Ledger;
+use wm_base::{Moment, NoMemory, Priority, QName, Serial, Steps};
+use wm_ordered::Ordered;
+
+/// The jobs that wait. A contract sees them in the order of their serials, with `clock`, the greatest moment that was made
+/// due, and `spare`, for how many more jobs there is room. Each serial and each place stands there once.
+#[derive(Drop)]
+pub struct WaitingJobs {
+    all: Ordered<Serial, Waiter>,
+    // Those that aren't held and are due by the clock.
+    turns: Ordered<Spot, Waiter>,
+    // Those that are due above the clock, held or not.
+    early: Ordered<Rise, Waiter>,
+    clock: Moment,
+    // For how many more jobs each of the three maps has room.
+    room: u32,
+}
+
+impl Model for WaitingJobs {
+    ghost use Rattle.wm_waiting.specs.Waiting.{Waiting};
+
+    ghost Value = { Waiting };
+
+    ghost use Rattle.wm_waiting.specs.WaitingInside.{waiting_of, IsWaitingInside};
+
+    ghost view = { waiting_of };
+
+    ghost invariant = { IsWaitingInside };
+}
+
+impl WaitingJobs {
+    ghost use Rattle.std.specs.Prelude.{◌≡◌, ◌+◌, ◌≤◌, [], false, true, nat_eq, max, length, is_some, if◌then◌else◌, OnOk, OnErr};
+    ghost use Rattle.std.specs.Ordering.{nat_cmp};
+    ghost use Rattle.wm_desc.specs.Sorted.{IsSortedOnce, with_key, has_key, added, removed};
+    ghost use Rattle.wm_waiting.specs.Waiting.{serial_of, has_place, HavePlaces, HavePriorities, head_of, next_due, marked};
+
+    /// None waits, and the clock is 0.
+    pub fn new(alloc: Global) -> WaitingJobs
+        ensures items { result.items ≡ [] }
+        ensures clock { result.clock ≡ 0 }
+        ensures spare { result.spare ≡ 0 }
+    {
+        WaitingJobs {
+            all: Ordered::new(alloc),
+            turns: Ordered::new(alloc),
+            early: Ordered::new(alloc),
+            clock: Moment::new(0),
+            room: 0,
+        }
+    }
+
+    /// How many wait.
+    pub fn len(&self) -> usize
+        ensures len { result ≡ length self.now.items }
+        ensures sorted { IsSortedOnce serial_of nat_cmp self.now.items }
+        ensures places { HavePlaces self.now.items }
+        ensures priorities { HavePriorities self.now.items }
+    {
+        self.all.len()
+    }
+
+    /// Makes room for a number of jobs. An `Err` leaves all as it was.
+    pub fn reserve(&mut self, more: u32) -> Result<(), NoMemory>
+        ensures ok { OnOk result (more ≤ self.new.spare) }
+        ensures items { self.new.items ≡ self.old.items }
+        ensures clock { self.new.clock ≡ self.old.clock }
+        ensures spare { self.old.spare ≤ self.new.spare }
+        ensures err { OnErr result (self.new ≡ self.old) }
+    {
+        if more <= self.room {
+            return Ok(());
+        }
+        let Some(whole) = more.checked_add(self.all.len() as u32) else {
+            return Err(AllocError);
+        };
+        self.turns.reserve(lacking(whole, self.turns.len()))?;
+        self.early.reserve(lacking(whole, self.early.len()))?;
+        self.all.reserve(more)?;
+        self.room = more;
+        Ok(())
+    }
+
+    /// Puts in a job, for which there is room, and whose serial and place are new. It takes no memory.
+    pub fn insert(&mut self, waiter: Waiter)
+        requires spare { 1 ≤ self.old.spare }
+        requires serial { has_key serial_of nat_eq waiter.serial self.old.items ≡ false }
+        requires place { has_place waiter.place self.old.items ≡ false }
+        ensures items { self.new.items ≡ added serial_of nat_cmp waiter self.old.items }
+        ensures clock { self.new.clock ≡ self.old.clock }
+        ensures spare { self.old.spare ≡ self.new.spare + 1 }
+    {
+        // `len` tells that keys differ, so neither index has more rows than there are jobs; `get` tells the range.
+        self.turns.len();
+        self.early.len();
+        waiter.pty.get();
+        enlist(&mut self.turns, &mut self.early, self.clock, &waiter);
+        self.all.insert(waiter.serial, waiter);
+        self.room -= 1;
+    }
+
+    /// Takes out the job of a serial, whose room is spare again. It takes no memory.
+    pub fn remove(&mut self, serial: Serial) -> Option<Waiter>
+        ensures waiter { result ≡ with_key serial_of nat_eq serial self.old.items }
+        ensures items { self.new.items ≡ removed serial_of nat_eq serial self.old.items }
+        ensures clock { self.new.clock ≡ self.old.clock }
+        ensures spare { self.new.spare ≡ self.old.spare + (if is_some result then 1 else 0) }
+    {
+        // `len` tells that serials differ.
+        self.all.len();
+        let Some(waiter) = self.all.remove(&serial) else {
+            return None;
+        };
+        take_out(&mut self.turns, &Spot::of(&waiter));
+        take_out(&mut self.early, &Rise::of(&waiter));
+        self.room += 1;
+        Some(waiter)
+    }
+
+    /// Holds the job of a serial, where there is one. It takes no memory.
+    pub fn hold(&mut self, serial: Serial)
+        ensures items { self.new.items ≡ marked serial true self.old.items }
+        ensures clock { self.new.clock ≡ self.old.clock }
+        ensures spare { self.new.spare ≡ self.old.spare }
+    {
+        self.mark(serial, true);
+    }
+
+    /// Releases the job of a serial, where there is one. It takes no memory.
+    pub fn release(&mut self, serial: Serial)
+        ensures items { self.new.items ≡ marked serial false self.old.items }
+        ensures clock { self.new.clock ≡ self.old.clock }
+        ensures spare { self.new.spare ≡ self.old.spare }
+    {
+        self.mark(serial, false);
+    }
+
+    /// Makes due what is due at a moment, where the clock isn't past it. It takes no memory, and goes through those alone
+    /// that become due.
+    pub fn make_due(&mut self, now: Moment)
+        ensures items { self.new.items ≡ self.old.items }
+        ensures clock { self.new.clock ≡ max self.old.clock now }
+        ensures spare { self.new.spare ≡ self.old.spare }
+    {
+        if now <= self.clock {
+            return;
+        }
+        bring_due(&mut self.turns, &mut self.early, now);
+        self.clock = now;
+    }
+
+    // A job that is marked goes out and comes in again, since its mark says in which index it is.
+    fn mark(&mut self, serial: Serial, held: bool)
+        ensures items { self.new.items ≡ marked serial held self.old.items }
+        ensures clock { self.new.clock ≡ self.old.clock }
+        ensures spare { self.new.spare ≡ self.old.spare }
+    {
+        // `len` tells that serials and places differ.
+        self.len();
+        let Some(mut waiter) = self.remove(serial) else {
+            return;
+        };
+        waiter.held = held;
+        self.insert(waiter);
+    }
+
+    /// The job of a queue and a priority that isn't held, is due by the clock, and has the least place. It is one look.
+    pub fn head<L: Ledger>(
+        &self,
+        jobq: &QName,
+        pty: Priority,
+        steps: &mut Steps<L>,
+    ) -> Option<Waiter>
+        ensures head { result ≡ head_of jobq.now pty self.now.clock self.now.items }
+        ensures look { steps.new ≡ steps.old + 1 }
+    {
+        steps.tick();
+        // `len` tells that spots ascend.
+        self.turns.len();
+        let begin = Spot {
+            jobq: *jobq,
+            pty,
+            place: 0,
+        };
+        let Some((_, waiter)) = self.turns.first_from(&begin) else {
+            return None;
+        };
+        if waiter.is_of(jobq, pty) {
+            Some(waiter)
+        } else {
+            None
+        }
+    }
+
+    /// The greatest moment that was made due.
+    pub fn clock(&self) -> Moment
+        ensures { result ≡ self.now.clock }
+    {
+        self.clock
+    }
+
+    /// The least moment above the clock at which a job is due, held or not.
+    pub fn next_due(&self) -> Option<Moment>
+        ensures { result ≡ next_due self.now.clock self.now.items }
+    {
+        // `len` tells that moments ascend.
+        self.early.len();
+        let Some(row) = self.early.first() else {
+            return None;
+        };
+        Some(row.0.due)
+    }
+}
