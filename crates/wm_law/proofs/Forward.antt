@@ -97,7 +97,7 @@ calls s n = record {
   stays = stays s;
   starts = λ q e j i. (j, i, no_less j);
   enters = λ user c d has j i. (j, in_longer s.jobs (submitted_job s user c d) j i, no_less j);
-  moves = λ serial j phase i e r k. phase_goes_on s serial phase j n i e r;
+  moves = λ serial j phase i e r k. phase_goes_on s serial phase j n i e r.on;
   powers = λ j i. (j, i, no_less j);
   makes = λ o c j i. (j, i, no_less j);
 }

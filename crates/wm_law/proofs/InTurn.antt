@@ -37,7 +37,7 @@ use Rattle.wm_law.proofs.Ranks.{NotBehind, least_of, none_of, not_earlier}
 use Rattle.wm_law.proofs.Settling.{first_lessens, not_waiting, start_jobs-launch, start_jobs-none}
 use Rattle.wm_law.proofs.Tests.{all_four, of_four, same_number}
 
-not_active : (p : Phase) → is_waiting p ≡ true → is_active p ≡ false
+pub not_active : (p : Phase) → is_waiting p ≡ true → is_active p ≡ false
 not_active Waiting h = refl
 not_active Starting h = absurd (cc)
 not_active (Handed m) h = absurd (cc)
@@ -72,7 +72,7 @@ unchanged true l j k n e w = let same = ap (λ (x : Job). is_waiting x.phase) e 
 unchanged false l j k n e w = e
 
 -- the state in which the candidate's job is as it was launched
-abbrev launched_in : State → Candidate → Job → State
+abbrev pub launched_in : State → Candidate → Job → State
 launched_in s c f = with_launched s c.serial (launched s c.sbs c.jobq f)
 
 module _ (s : State) (c : Candidate) (f j : Job) (n : IsNumbered s) (i : IsIn j s.jobs) (w : is_waiting j.phase ≡ true) (same : c.serial ≡ j.serial) where
@@ -90,7 +90,7 @@ module _ (s : State) (c : Candidate) (f j : Job) (n : IsNumbered s) (i : IsIn j 
       (below_still (count_from_queue b.sbsd e.jobq t.jobs) (count_from_queue b.sbsd e.jobq s.jobs) e.maxact (counts (is_from_queue b.sbsd e.jobq)) a.2)
       (below_still (count_from_priority b.sbsd e.jobq pty t.jobs) (count_from_priority b.sbsd e.jobq pty s.jobs) (maxpty_of e pty) (counts (is_from_priority b.sbsd e.jobq pty)) a.3)
 
-  may_before : (k : Job) (u : Turn) → MayStart (launched_in s c f) k u → MayStart s k u
+  pub may_before : (k : Job) (u : Turn) → MayStart (launched_in s c f) k u → MayStart s k u
   may_before k u m = record {
     ready = m.ready;
     queue = m.queue;
@@ -100,7 +100,7 @@ module _ (s : State) (c : Candidate) (f j : Job) (n : IsNumbered s) (i : IsIn j 
     allowed = allowed_before u.sbs u.sbsd u.entry k.pty m.allowed;
   }
 
-  there_before : (k : Job) → IsIn k (launched_in s c f).jobs → is_waiting k.phase ≡ true → IsIn k s.jobs
+  pub there_before : (k : Job) → IsIn k (launched_in s c f).jobs → is_waiting k.phase ≡ true → IsIn k s.jobs
   there_before k m v =
       let l = launched s c.sbs c.jobq f in
       let o = of_mapped (launched_at c.serial l) s.jobs k m in

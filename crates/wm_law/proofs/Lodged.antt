@@ -23,10 +23,10 @@ lodged_longer bs b j h = (h.0, in_longer bs b h.0 h.1, h.2)
 pub lodged_ending : (bs : List Sbs) (j : Job) → IsLodged bs j → IsLodged (map end_now bs) j
 lodged_ending bs j h = (end_now h.0, in_mapped end_now bs h.0 h.1, h.2)
 
-abbrev one : (Job → Bool) → Job → ℕ
+abbrev pub one : (Job → Bool) → Job → ℕ
 one test j = cond (test j) 1 0
 
-counted : (test : Job → Bool) (jobs : List Job) (j : Job) → IsIn j jobs → test j ≡ true → 0 < count_by test jobs
+pub counted : (test : Job → Bool) (jobs : List Job) (j : Job) → IsIn j jobs → test j ≡ true → 0 < count_by test jobs
 counted test [] j i h = absurd i
 counted test (k ∷ jobs) j (inl e) h =
     let this : one test k ≡ 1 = ap (λ (t : Bool). cond t 1 0) (ap test (sym e) ∙ h) in
@@ -35,10 +35,10 @@ counted test (k ∷ jobs) j (inr i) h =
     let rest = counted test jobs j i h in
     rw (sum_by-cons (one test) k jobs) (omega arith)
 
-not_zero : (n : ℕ) → 0 < n → (n == 0) ≡ false
+pub not_zero : (n : ℕ) → 0 < n → (n == 0) ≡ false
 not_zero n h = grind (arith, nat_tests)
 
-not_gone : (a b : Bool) → b ≡ false → not (a && b) ≡ true
+pub not_gone : (a b : Bool) → b ≡ false → not (a && b) ≡ true
 not_gone true b e = ap not e
 not_gone false b e = refl
 

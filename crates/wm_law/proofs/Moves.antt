@@ -1,7 +1,9 @@
 -- What a call can come to, and what a step can do to a state. Here alone the calls are gone over, one by one.
-use Rattle.std.proofs.Common.{◌≡◌, ℕ, ◌≤◌, ◌==◌, Bool, true, false, cond, List, [], ◌∷◌, map, Option, Some, None, refl, arith}
+use Rattle.std.proofs.Common.{◌≡◌, ℕ, ◌<◌, ◌≤◌, ◌==◌, not, Bool, true, false, cond, List, [], ◌∷◌, map, Option, Some, None, is_some, refl, arith}
 use Rattle.std.specs.List.{find}
+use Rattle.std.specs.Option.{IsSome}
 use Rattle.wm_base.specs.declared.job.Asked.TheVariants.{Start}
+use Rattle.wm_base.specs.declared.job.EndCause.TheVariants as cause
 use Rattle.wm_base.specs.declared.job.StartOrder.{StartOrder}
 use Rattle.wm_base.specs.declared.qname.QName.{QName}
 use Rattle.wm_base.specs.declared.refusal.Kind.TheVariants as kind
@@ -25,7 +27,7 @@ use Rattle.wm_law.specs.declared.job.Phase.TheVariants.{Waiting, Starting, Hande
 use Rattle.wm_law.specs.declared.state.State.{State}
 use Rattle.wm_law.specs.declared.state.Power.TheVariants.{DownNow}
 use Rattle.wm_law.specs.Choice.{next}
-use Rattle.wm_law.specs.Counts.{is_starting}
+use Rattle.wm_law.specs.Counts.{is_starting, is_waiting}
 use Rattle.wm_law.specs.Fit.{HasCall}
 use Rattle.wm_law.specs.History.{after, is_hand, stepped}
 use Rattle.wm_law.specs.Kept.{phase_rank}
@@ -34,14 +36,24 @@ use Rattle.wm_law.specs.Laws.{IsIn}
 use Rattle.wm_law.specs.Machine.{apply, step, with_clock, change}
 use Rattle.wm_law.specs.Making.{made_unless}
 use Rattle.wm_law.specs.Power.{end_now, is_on, is_down_now}
-use Rattle.wm_law.specs.Reports.{with_phase, hand_job, hand_order, report_on, is_handed_to, is_run_by, phase_word, done_with}
+use Rattle.wm_law.specs.Reports.{with_phase, hand_job, hand_order, report_on, is_handed_to, is_run_by, phase_word, done_with, end_cause}
 use Rattle.wm_law.specs.Settling.{leave, waiting}
 use Rattle.wm_law.specs.Stepped.{Stepped, refused}
-use Rattle.wm_law.specs.Submitting.{submit_refusal, submit_unless, submit_with, submitted_job, entered, has_numbers}
+use Rattle.wm_law.specs.Submitting.{submit_refusal, submit_unless, submit_with, submitted_job, entered, has_numbers, queue_of}
 use Rattle.wm_law.specs.Subsystems.{start_refusal, start_unless}
 use Rattle.wm_law.proofs.Members.{found_among}
 use Rattle.wm_law.proofs.Objects.{IsObjectChange, class_made, queue_made, program_made, job_description_made, description_made, queue_added, route_added, queue_removed, route_removed}
 use Rattle.wm_law.proofs.Tests.{of_not, same_number, unrefused}
+
+-- a phase past Waiting, and one that isn't before it
+pub record IsOnward (p q : Phase) : Type 0 where
+  pub past : is_waiting p ≡ false
+  pub on : phase_rank p ≤ phase_rank q
+
+-- SBMJOB isn't refused: numbers are left, and the job's queue is an object
+pub record IsAcceptable (s : State) (c : Sbmjob) (d : Jobd) : Type 0 where
+  pub numbers : has_numbers s ≡ true
+  pub queue : IsSome (object_named (queue_of c d) s.objects.jobqs)
 
 -- P holds of whatever the call can come to: of its reply, and of the state before it settles
 pub record HoldsAfterCalls (P : Stepped → Type 0) (s : State) (call : Call) : Type 0 where
@@ -49,9 +61,9 @@ pub record HoldsAfterCalls (P : Stepped → Type 0) (s : State) (call : Call) : 
   pub nothing : (HasCall s call → is_hand call ≡ false → ⊥) → P (record { reply = Nothing; state = s })
   pub notes : P (record { reply = Noted; state = s })
   pub hands : (m : ℕ) (j : Job) (o : StartOrder) → IsIn j s.jobs → is_starting j.phase ≡ true → order_of s j ≡ Some o → P (record { reply = Order (Start o); state = with_phase s j.serial (Handed m) })
-  pub reports : (serial : ℕ) (j : Job) (phase : Phase) → IsIn j s.jobs → j.serial ≡ serial → phase_rank j.phase ≤ phase_rank phase → is_starting phase ≡ false → P (record { reply = Noted; state = with_phase s serial phase })
+  pub reports : (serial : ℕ) (j : Job) (phase : Phase) → IsIn j s.jobs → j.serial ≡ serial → IsOnward j.phase phase → is_starting phase ≡ false → P (record { reply = Noted; state = with_phase s serial phase })
   pub starts : (q : QName) → start_refusal s q ≡ None → P (start_unless s q None)
-  pub enters : (user : List ℕ) (c : Sbmjob) (d : Jobd) → has_numbers s ≡ true → P (submit_unless s user c d None)
+  pub enters : (user : List ℕ) (c : Sbmjob) (d : Jobd) → IsAcceptable s c d → P (submit_unless s user c d None)
   pub powers : P (record { reply = PowerDown; state = record s { started = map end_now s.started; power = DownNow } })
   pub makes : (o : Objects) → IsObjectChange s o → P (record { reply = Made; state = record s { objects = o } })
 
@@ -66,8 +78,9 @@ module _ (P : Stepped → Type 0) (s : State) (call : Call) (h : HoldsAfterCalls
 
   submitted : (user : List ℕ) (c : Sbmjob) (d : Jobd) (o : Option Refusal) → submit_refusal s c d ≡ o → P (submit_unless s user c d o)
   submitted user c d None e =
-      let rest = (unrefused _ _ _ e).1 in
-      h.enters user c d (of_not (has_numbers s) (unrefused _ _ _ rest).0)
+      let queue = unrefused (not (is_some (object_named (queue_of c d) s.objects.jobqs))) _ _ e in
+      let numbers = unrefused (not (has_numbers s)) _ _ queue.1 in
+      h.enters user c d (record { numbers = of_not (has_numbers s) numbers.0; queue = of_not (is_some (object_named (queue_of c d) s.objects.jobqs)) queue.0 })
   submitted user c d (Some x) e = h.refuses x
 
   submitted_with : (user : List ℕ) (c : Sbmjob) (d : Option Jobd) → P (submit_with s user c d)
@@ -86,7 +99,7 @@ module _ (P : Stepped → Type 0) (s : State) (call : Call) (h : HoldsAfterCalls
   handed m None none e = none
   handed m (Some j) none e = let f = found_among (λ (j : Job). is_starting j.phase) s.jobs j e in ordered m j (order_of s j) none f.0 f.1 refl
 
-  reported : (serial : ℕ) (test : Phase → Bool) (phase : Phase) (o : Option Job) → ((p : Phase) → test p ≡ true → phase_rank p ≤ phase_rank phase) → is_starting phase ≡ false → find (λ j. j.serial == serial) s.jobs ≡ o → P (report_on s serial test phase o)
+  reported : (serial : ℕ) (test : Phase → Bool) (phase : Phase) (o : Option Job) → ((p : Phase) → test p ≡ true → IsOnward p phase) → is_starting phase ≡ false → find (λ j. j.serial == serial) s.jobs ≡ o → P (report_on s serial test phase o)
   reported serial test phase None ranks n e = h.refuses NoJob
   reported serial test phase (Some j) ranks n e =
       let f = found_among (λ (j : Job). j.serial == serial) s.jobs j e in
@@ -117,6 +130,24 @@ run_rank m (Handed n) h = absurd (cc)
 run_rank m (Running n) h = refl
 run_rank m (Ended c) h = absurd (cc)
 
+past_waiting : (p : Phase) → 0 < phase_rank p → is_waiting p ≡ false
+past_waiting Waiting h = absurd (omega arith)
+past_waiting Starting h = refl
+past_waiting (Handed m) h = refl
+past_waiting (Running m) h = refl
+past_waiting (Ended c) h = refl
+
+-- what is past Waiting doesn't come to wait
+pub never_waits : (p q : Phase) → IsOnward p q → is_waiting q ≡ false
+never_waits Waiting q r = let past = r.past in absurd (cc)
+never_waits Starting q r = let on = r.on in past_waiting q (omega arith)
+never_waits (Handed m) q r = let on = r.on in past_waiting q (omega arith)
+never_waits (Running m) q r = let on = r.on in past_waiting q (omega arith)
+never_waits (Ended c) q r = let on = r.on in past_waiting q (omega arith)
+
+onward : (p q : Phase) (n : ℕ) → phase_rank p ≡ n → 0 < n → n ≤ phase_rank q → IsOnward p q
+onward p q n e more h = record { past = past_waiting p (omega arith); on = omega arith }
+
 changed : (P : Stepped → Type 0) (s : State) (user : List ℕ) (c : Command) → HoldsAfterCalls P s (Change user c) → P (change s user c)
 changed P s user (command.Crtcls c) h = made P s _ h _ _ (class_made s c)
 changed P s user (command.Crtjobq c) h = made P s _ h _ _ (queue_made s c)
@@ -136,9 +167,9 @@ changed P s user c h = h.nothing (λ b n. b)
 pub call_comes : (P : Stepped → Type 0) (s : State) (caller : ℕ) (call : Call) → HoldsAfterCalls P s call → P (apply s caller call)
 call_comes P s caller (Change user c) h = changed P s user c h
 call_comes P s caller Hand h = handed P s _ h caller (find (λ j. is_starting j.phase) s.jobs) (h.nothing (λ b n. absurd (cc))) refl
-call_comes P s caller (Started serial) h = reported P s _ h serial (is_handed_to caller) _ (find (λ j. j.serial == serial) s.jobs) (λ p e. let r = handed_rank caller p e in omega arith) refl refl
-call_comes P s caller (StartFailed serial why) h = reported P s _ h serial (is_handed_to caller) _ (find (λ j. j.serial == serial) s.jobs) (λ p e. let r = handed_rank caller p e in omega arith) refl refl
-call_comes P s caller (Finished serial end) h = reported P s _ h serial (is_run_by caller) _ (find (λ j. j.serial == serial) s.jobs) (λ p e. let r = run_rank caller p e in omega arith) refl refl
+call_comes P s caller (Started serial) h = reported P s _ h serial (is_handed_to caller) _ (find (λ j. j.serial == serial) s.jobs) (λ p e. onward p (Running caller) 2 (handed_rank caller p e) (omega arith) (omega arith)) refl refl
+call_comes P s caller (StartFailed serial why) h = reported P s _ h serial (is_handed_to caller) _ (find (λ j. j.serial == serial) s.jobs) (λ p e. onward p (Ended (cause.StartFailed why)) 2 (handed_rank caller p e) (omega arith) (omega arith)) refl refl
+call_comes P s caller (Finished serial end) h = reported P s _ h serial (is_run_by caller) _ (find (λ j. j.serial == serial) s.jobs) (λ p e. onward p (Ended (end_cause end)) 3 (run_rank caller p e) (omega arith) (omega arith)) refl refl
 call_comes P s caller (UseDone serial) h = done P s _ h caller (find (λ j. j.serial == serial) s.jobs)
 call_comes P s caller Tick h = h.notes
 
@@ -146,8 +177,8 @@ call_comes P s caller Tick h = h.notes
 pub record HoldsOfStates (P : State → Type 0) (s : State) : Type 0 where
   pub stays : P s
   pub starts : (q : QName) → start_refusal s q ≡ None → P (start_unless s q None).state
-  pub enters : (user : List ℕ) (c : Sbmjob) (d : Jobd) → has_numbers s ≡ true → P (entered s (submitted_job s user c d))
-  pub moves : (serial : ℕ) (j : Job) (phase : Phase) → IsIn j s.jobs → j.serial ≡ serial → phase_rank j.phase ≤ phase_rank phase → is_starting phase ≡ false → P (with_phase s serial phase)
+  pub enters : (user : List ℕ) (c : Sbmjob) (d : Jobd) → IsAcceptable s c d → P (entered s (submitted_job s user c d))
+  pub moves : (serial : ℕ) (j : Job) (phase : Phase) → IsIn j s.jobs → j.serial ≡ serial → IsOnward j.phase phase → is_starting phase ≡ false → P (with_phase s serial phase)
   pub powers : P (record s { started = map end_now s.started; power = DownNow })
   pub makes : (o : Objects) → IsObjectChange s o → P (record s { objects = o })
 
@@ -156,7 +187,7 @@ of_states P s call h = record {
   refuses = λ x. h.stays;
   nothing = λ n. h.stays;
   notes = h.stays;
-  hands = λ m j o i e f. (let r = starting_rank j.phase e in h.moves j.serial j (Handed m) i refl (omega arith) refl);
+  hands = λ m j o i e f. h.moves j.serial j (Handed m) i refl (onward j.phase (Handed m) 1 (starting_rank j.phase e) (omega arith) (omega arith)) refl;
   reports = λ serial j phase i e r n. h.moves serial j phase i e r n;
   starts = λ q e. h.starts q e;
   enters = λ user c d has. h.enters user c d has;

@@ -1,5 +1,5 @@
--- Each step keeps serials, numbers and places given once.
-use Rattle.std.proofs.Common.{◌≡◌, ℕ, ℤ, ◌+◌, ◌<◌, ◌==◌, ◌++◌, true, List, [], ◌∷◌, map, Option, Some, None, refl, sym, ap, subst, inl, inr, nat_lt, nat_le, arith}
+-- Each step keeps serials and numbers given once, and the places of Waiting jobs distinct.
+use Rattle.std.proofs.Common.{◌≡◌, ℕ, ℤ, ◌+◌, ◌<◌, ◌==◌, ◌++◌, true, false, List, [], ◌∷◌, map, Option, Some, None, refl, sym, ap, subst, inl, inr, nat_lt, nat_le, arith}
 use Rattle.std.specs.List.{find}
 use Rattle.std.proofs.lemmas.Bool.Decides.{nat_tests}
 use Rattle.wm_base.specs.Iterate.{IsKept}
@@ -12,8 +12,9 @@ use Rattle.wm_law.specs.declared.launch.Launched.{Launched}
 use Rattle.wm_desc.specs.declared.description.Jobd.{Jobd}
 use Rattle.wm_law.specs.declared.state.State.{State}
 use Rattle.wm_law.specs.Choice.{next}
+use Rattle.wm_law.specs.Counts.{is_waiting}
 use Rattle.wm_law.specs.Fit.{IsBetween}
-use Rattle.wm_law.specs.Kept.{IsDistinct, IsBelow, IsGiven, IsNumbered, OpeningIsNumbered, StepKeepsNumbers, NumbersAreGivenOnce}
+use Rattle.wm_law.specs.Kept.{IsDistinct, IsBelow, IsGiven, IsNumbered, waiting_places, OpeningIsNumbered, StepKeepsNumbers, NumbersAreGivenOnce}
 use Rattle.wm_law.specs.Jobs.{with_job}
 use Rattle.wm_law.specs.Launch.{as_launched, launch, launch_job, launched, with_launched}
 use Rattle.wm_law.specs.Laws.{IsIn}
@@ -23,13 +24,16 @@ use Rattle.wm_law.specs.Settling.{leave}
 use Rattle.wm_law.specs.Machine.{apply, with_clock}
 use Rattle.wm_law.proofs.Opened.{opened, opening_is}
 use Rattle.wm_law.proofs.Changed.{keys_kept}
-use Rattle.wm_law.proofs.Moves.{HoldsOfStates, IsKeptByParts, call_keeps, step_keeps, after_keeps}
+use Rattle.wm_law.proofs.Moves.{HoldsOfStates, IsKeptByParts, call_keeps, never_waits, step_keeps, after_keeps}
+use Rattle.wm_law.proofs.Settling.{not_waiting}
 use Rattle.wm_law.proofs.Tests.{of_four}
+use Rattle.wm_law.proofs.Waits.{still_distinct, waiting_below, waiting_more}
 
--- the same serials, numbers and places, and the same next ones
+-- the same serials, numbers and places, no job that comes to wait, and the same next ones
 pub record SameNumbers (s t : State) : Type 0 where
   pub serials : map (λ j. j.serial) t.jobs ≡ map (λ j. j.serial) s.jobs
   pub numbers : map (λ j. j.job.number) t.jobs ≡ map (λ j. j.job.number) s.jobs
+  pub waiting : IsDistinct (waiting_places s.jobs) → IsDistinct (waiting_places t.jobs)
   pub places : map (λ j. j.place) t.jobs ≡ map (λ j. j.place) s.jobs
   pub next_number : t.next_number ≡ s.next_number
   pub next_serial : t.next_serial ≡ s.next_serial
@@ -38,6 +42,9 @@ pub record SameNumbers (s t : State) : Type 0 where
 given_same : (xs ys : List ℕ) (n m : ℕ) → ys ≡ xs → m ≡ n → IsGiven xs n → IsGiven ys m
 given_same xs ys n m e f h = subst (λ (k : ℕ). IsGiven ys k) (sym f) (subst (λ (l : List ℕ). IsGiven l n) (sym e) h)
 
+below_same : (xs ys : List ℕ) (n m : ℕ) → ys ≡ xs → m ≡ n → IsBelow n xs → IsBelow m ys
+below_same xs ys n m e f h = subst (λ (k : ℕ). IsBelow k ys) (sym f) (subst (λ (l : List ℕ). IsBelow n l) (sym e) h)
+
 between_same : (a b n m : ℕ) → m ≡ n → IsBetween a b n → IsBetween a b m
 between_same a b n m e h = subst (λ (k : ℕ). IsBetween a b k) (sym e) h
 
@@ -45,43 +52,46 @@ numbered_same : (s t : State) → SameNumbers s t → IsNumbered s → IsNumbere
 numbered_same s t e h = record {
   serials = given_same _ _ _ _ e.serials e.next_serial h.serials;
   numbers = given_same _ _ _ _ e.numbers e.next_number h.numbers;
-  places = given_same _ _ _ _ e.places e.next_place h.places;
+  waiting = e.waiting h.waiting;
+  places = below_same _ _ _ _ e.places e.next_place h.places;
   next_number = between_same _ _ _ _ e.next_number h.next_number;
   next_serial = between_same _ _ _ _ e.next_serial h.next_serial;
   next_place = between_same _ _ _ _ e.next_place h.next_place;
 }
 
--- the change leaves a job its serial, its number and its place
+-- the change leaves a job its serial, its number and its place, and after it the job doesn't wait
 record KeepsNumbers (change : Job → Job) : Type 0 where
   serial : (j : Job) → (change j).serial ≡ j.serial
   number : (j : Job) → (change j).job.number ≡ j.job.number
   place : (j : Job) → (change j).place ≡ j.place
+  never : (j : Job) → is_waiting (change j).phase ≡ false
 
 job_same : (s : State) (serial : ℕ) (change : Job → Job) → KeepsNumbers change → SameNumbers s (with_job s serial change)
 job_same s serial change k = record {
   serials = keys_kept (λ j. j.serial) serial change k.serial s.jobs;
   numbers = keys_kept (λ j. j.job.number) serial change k.number s.jobs;
+  waiting = still_distinct change k.never serial s.jobs;
   places = keys_kept (λ j. j.place) serial change k.place s.jobs;
   next_number = refl;
   next_serial = refl;
   next_place = refl;
 }
 
-phase_same : (s : State) (serial : ℕ) (phase : Phase) → SameNumbers s (with_phase s serial phase)
-phase_same s serial phase = job_same s serial (in_phase phase) (record { serial = λ j. refl; number = λ j. refl; place = λ j. refl })
+phase_same : (s : State) (serial : ℕ) (phase : Phase) → is_waiting phase ≡ false → SameNumbers s (with_phase s serial phase)
+phase_same s serial phase n = job_same s serial (in_phase phase) (record { serial = λ j. refl; number = λ j. refl; place = λ j. refl; never = λ j. n })
 
-launched_same : (s : State) (serial : ℕ) (l : Launched) → SameNumbers s (with_launched s serial l)
-launched_same s serial l = job_same s serial (as_launched l) (record { serial = λ j. refl; number = λ j. refl; place = λ j. refl })
+launched_same : (s : State) (serial : ℕ) (l : Launched) → is_waiting l.phase ≡ false → SameNumbers s (with_launched s serial l)
+launched_same s serial l n = job_same s serial (as_launched l) (record { serial = λ j. refl; number = λ j. refl; place = λ j. refl; never = λ j. n })
 
 launch_keeps : (s : State) (c : Candidate) (o : Option Job) → IsNumbered s → IsNumbered (launch_job s c o)
 launch_keeps s c None h = h
-launch_keeps s c (Some j) h = let l = launched s c.sbs c.jobq j in numbered_same s (with_launched s c.serial l) (launched_same s c.serial l) h
+launch_keeps s c (Some j) h = let l = launched s c.sbs c.jobq j in numbered_same s (with_launched s c.serial l) (launched_same s c.serial l (not_waiting s c.sbs c.jobq j)) h
 
 pub launches_keep : IsKept next (λ c t. launch t c) IsNumbered
 launches_keep = record { by_step = λ s c e h. launch_keeps s c (find (λ j. j.serial == c.serial) s.jobs) h }
 
 pub only_started : (s : State) → IsNumbered s → IsNumbered (leave s)
-only_started s h = numbered_same s (leave s) (record { serials = refl; numbers = refl; places = refl; next_number = refl; next_serial = refl; next_place = refl }) h
+only_started s h = numbered_same s (leave s) (record { serials = refl; numbers = refl; waiting = λ d. d; places = refl; next_number = refl; next_serial = refl; next_place = refl }) h
 
 below_more : (n : ℕ) (xs : List ℕ) → IsBelow n xs → IsBelow (n + 1) (xs ++ n ∷ [])
 below_more n [] h = (omega arith, tt)
@@ -120,7 +130,8 @@ entered_keeps s user c d has h =
     record {
       serials = given_entered (λ j. j.serial) s.jobs j s.next_serial refl h.serials;
       numbers = given_entered (λ j. j.job.number) s.jobs j s.next_number refl h.numbers;
-      places = given_entered (λ j. j.place) s.jobs j s.next_place refl h.places;
+      waiting = subst IsDistinct (sym (waiting_more s.jobs j refl)) (distinct_more s.next_place (waiting_places s.jobs) (waiting_below s.jobs s.next_place h.places) h.waiting);
+      places = subst (IsBelow (s.next_place + 1)) (sym (map_more (λ j. j.place) s.jobs j)) (below_more s.next_place (map (λ (i : Job). i.place) s.jobs) h.places);
       next_number = record { least = omega arith; most = omega arith };
       next_serial = record { least = omega arith; most = omega arith };
       next_place = record { least = omega arith; most = omega arith };
@@ -129,18 +140,18 @@ entered_keeps s user c d has h =
 calls : (s : State) → IsNumbered s → HoldsOfStates IsNumbered s
 calls s h = record {
   stays = h;
-  starts = λ q e. numbered_same s _ (record { serials = refl; numbers = refl; places = refl; next_number = refl; next_serial = refl; next_place = refl }) h;
-  enters = λ user c d has. entered_keeps s user c d has h;
-  moves = λ serial j phase i e r n. numbered_same s _ (phase_same s serial phase) h;
-  powers = numbered_same s _ (record { serials = refl; numbers = refl; places = refl; next_number = refl; next_serial = refl; next_place = refl }) h;
-  makes = λ o e. numbered_same s _ (record { serials = refl; numbers = refl; places = refl; next_number = refl; next_serial = refl; next_place = refl }) h;
+  starts = λ q e. numbered_same s _ (record { serials = refl; numbers = refl; waiting = λ d. d; places = refl; next_number = refl; next_serial = refl; next_place = refl }) h;
+  enters = λ user c d a. entered_keeps s user c d a.numbers h;
+  moves = λ serial j phase i e r n. numbered_same s _ (phase_same s serial phase (never_waits j.phase phase r)) h;
+  powers = numbered_same s _ (record { serials = refl; numbers = refl; waiting = λ d. d; places = refl; next_number = refl; next_serial = refl; next_place = refl }) h;
+  makes = λ o e. numbered_same s _ (record { serials = refl; numbers = refl; waiting = λ d. d; places = refl; next_number = refl; next_serial = refl; next_place = refl }) h;
 }
 
 pub apply_keeps : (s : State) (caller : ℕ) (call : Call) → IsNumbered s → IsNumbered (apply s caller call).state
 apply_keeps s caller call h = call_keeps IsNumbered s caller call (calls s h)
 
 pub clock_keeps : (s : State) (moment : ℕ) → IsNumbered s → IsNumbered (with_clock s moment)
-clock_keeps s moment h = numbered_same s _ (record { serials = refl; numbers = refl; places = refl; next_number = refl; next_serial = refl; next_place = refl }) h
+clock_keeps s moment h = numbered_same s _ (record { serials = refl; numbers = refl; waiting = λ d. d; places = refl; next_number = refl; next_serial = refl; next_place = refl }) h
 
 parts : IsKeptByParts IsNumbered
 parts = record { clock = clock_keeps; calls = calls; leaves = only_started; launches = launches_keep }
@@ -155,7 +166,8 @@ opened_is_numbered : (offset : ℤ) → IsNumbered (opened offset)
 opened_is_numbered offset = record {
   serials = record { distinct = tt; below = tt };
   numbers = record { distinct = tt; below = tt };
-  places = record { distinct = tt; below = tt };
+  waiting = tt;
+  places = tt;
   next_number = record { least = omega arith; most = omega arith };
   next_serial = record { least = omega arith; most = omega arith };
   next_place = record { least = omega arith; most = omega arith };

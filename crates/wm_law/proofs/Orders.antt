@@ -249,7 +249,8 @@ only_pair : (t : Bool) (d : Sbsd) → option_map (λ (p : QName × Sbsd). p.1) (
 only_pair true d e = cc
 only_pair false d e = absurd (cc)
 
-only_sbsd : (sbs : QName) (d : Sbsd) → object_named sbs opening_objects.sbsds ≡ Some d → d ≡ batch_sbsd
+-- the one description of the opening objects
+pub only_sbsd : (sbs : QName) (d : Sbsd) → object_named sbs opening_objects.sbsds ≡ Some d → d ≡ batch_sbsd
 only_sbsd sbs d e = only_pair (same_qname qbatch sbs) d e
 
 opening_sorted : (d : Sbsd) → d ≡ batch_sbsd → IsSorted d.routes

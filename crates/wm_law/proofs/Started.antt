@@ -1,5 +1,5 @@
 -- The simple names of the started subsystems stay distinct.
-use Rattle.std.proofs.Common.{◌≡◌, ℕ, ◌++◌, ◌==◌, not, Bool, true, false, cond, List, [], ◌∷◌, map, filter, Option, Some, None, refl, sym, subst, inl, inr, nat_eq}
+use Rattle.std.proofs.Common.{◌≡◌, ℕ, ◌++◌, ◌==◌, not, true, false, List, [], ◌∷◌, map, Option, Some, None, refl, sym, subst, inl, inr, nat_eq}
 use Rattle.std.specs.Prelude.{if◌then◌else◌, length, nat_le, is_some}
 use Rattle.std.specs.List.{list_any, find}
 use Rattle.std.specs.Cmp.Lexicographic.{pointwise}
@@ -19,6 +19,7 @@ use Rattle.wm_law.specs.Power.{is_on, end_now}
 use Rattle.wm_law.specs.Subsystems.{start_refusal, is_started, max_started}
 use Rattle.wm_law.specs.Settling.{is_gone}
 use Rattle.wm_desc.specs.Table.{object_named}
+use Rattle.wm_law.proofs.Distinct.{distinct_last, distinct_left}
 use Rattle.wm_law.proofs.Members.{map_same}
 use Rattle.wm_law.proofs.Moves.{HoldsOfStates, IsKeptByParts, step_keeps, after_keeps}
 use Rattle.wm_law.proofs.Opened.{opening_is}
@@ -39,34 +40,6 @@ not_among name (b ∷ bs) e (inl same) =
     let one = subst (λ (n : List ℕ). pointwise nat_eq n name ≡ true) same (same_name name) in
     absurd (cc)
 not_among name (b ∷ bs) e (inr i) = not_among name bs (of_neither (pointwise nat_eq b.sbsd.name name) (list_any (λ (b : Sbs). pointwise nat_eq b.sbsd.name name) bs) e).1 i
-
-not_last : {X A : Type 0} (key : X → A) (y : X) (xs : List X) (k : A) → (key y ≡ k → ⊥) → (IsIn k (map key xs) → ⊥) → IsIn k (map key (xs ++ y ∷ [])) → ⊥
-not_last key y [] k h n (inl e) = h (sym e)
-not_last key y [] k h n (inr i) = i
-not_last key y (x ∷ xs) k h n (inl e) = n (inl e)
-not_last key y (x ∷ xs) k h n (inr i) = not_last key y xs k h (λ m. n (inr m)) i
-
-distinct_last : {X A : Type 0} (key : X → A) (y : X) (xs : List X) → (IsIn (key y) (map key xs) → ⊥) → IsDistinct (map key xs) → IsDistinct (map key (xs ++ y ∷ []))
-distinct_last key y [] n d = ((λ i. i), tt)
-distinct_last key y (x ∷ xs) n d = (not_last key y xs (key x) (λ e. n (inl e)) d.0, distinct_last key y xs (λ i. n (inr i)) d.1)
-
-in_more : {X A : Type 0} (key : X → A) (t : Bool) (x : X) (ys xs : List X) (k : A) → (IsIn k (map key ys) → IsIn k (map key xs)) → IsIn k (map key (cond t (x ∷ ys) ys)) → IsIn k (map key (x ∷ xs))
-in_more key true x ys xs k h (inl e) = inl e
-in_more key true x ys xs k h (inr i) = inr (h i)
-in_more key false x ys xs k h i = inr (h i)
-
--- what a filter leaves stood in the list
-left_in : {X A : Type 0} (key : X → A) (p : X → Bool) (xs : List X) (k : A) → IsIn k (map key (filter p xs)) → IsIn k (map key xs)
-left_in key p [] k i = i
-left_in key p (x ∷ xs) k i = in_more key (p x) x (filter p xs) xs k (left_in key p xs k) i
-
-distinct_more : {X A : Type 0} (key : X → A) (t : Bool) (x : X) (ys : List X) → (IsIn (key x) (map key ys) → ⊥) → IsDistinct (map key ys) → IsDistinct (map key (cond t (x ∷ ys) ys))
-distinct_more key true x ys n d = (n, d)
-distinct_more key false x ys n d = d
-
-distinct_left : {X A : Type 0} (key : X → A) (p : X → Bool) (xs : List X) → IsDistinct (map key xs) → IsDistinct (map key (filter p xs))
-distinct_left key p [] d = d
-distinct_left key p (x ∷ xs) d = distinct_more key (p x) x (filter p xs) (λ i. d.0 (left_in key p xs (key x) i)) (distinct_left key p xs d.1)
 
 -- STRSBS isn't refused, so no started subsystem has the simple name
 not_started : (s : State) (q : QName) → start_refusal s q ≡ None → is_started s q.name ≡ false

@@ -1,6 +1,6 @@
 -- What every step keeps: numbers that are given once, jobs that only go forward, orders of the jobs that are Starting, and
 -- names of started subsystems that are distinct; and in which order settling starts jobs.
-use Rattle.std.specs.Prelude.{◌≡◌, ◌↔◌, ℕ, ℤ, ◌<◌, ◌≤◌, true, false, List, [], ◌∷◌, map, fold, ⊤, Option, Some, None}
+use Rattle.std.specs.Prelude.{◌≡◌, ◌↔◌, ℕ, ℤ, ◌<◌, ◌≤◌, true, false, List, [], ◌∷◌, map, filter, fold, ⊤, Option, Some, None}
 use Rattle.std.specs.List.{filter_map}
 use Rattle.std.specs.Option.{IsSome, option_and_then}
 use Rattle.std.specs.Ordering.{nat_cmp}
@@ -21,7 +21,7 @@ use Rattle.wm_desc.specs.Sorted.{IsSortedOnce}
 use Rattle.wm_law.specs.declared.state.State.{State}
 use Rattle.wm_law.specs.declared.state.Sbs.{Sbs}
 use Rattle.wm_law.specs.Choice.{is_sbs_active}
-use Rattle.wm_law.specs.Counts.{is_in_sbs}
+use Rattle.wm_law.specs.Counts.{is_in_sbs, is_waiting}
 use Rattle.wm_law.specs.Fit.{IsBetween}
 use Rattle.wm_law.specs.History.{IsLegal, after, order_in}
 use Rattle.wm_law.specs.Launch.{order_of, route}
@@ -49,11 +49,16 @@ pub record IsGiven (given : List ℕ) (next : ℕ) : Type 0 where
   pub distinct : IsDistinct given
   pub below : IsBelow next given
 
--- serials, job numbers and places are given once, and the next ones keep their ranges
+-- the places of the jobs that wait
+abbrev pub waiting_places : List Job → List ℕ
+waiting_places jobs = map (λ j. j.place) (filter (λ j. is_waiting j.phase) jobs)
+
+-- serials and job numbers are given once, no two Waiting jobs have one place, all places are below the next one, and the next ones keep their ranges
 pub record IsNumbered (s : State) : Type 0 where
   pub serials : IsGiven (map (λ j. j.serial) s.jobs) s.next_serial
   pub numbers : IsGiven (map (λ j. j.job.number) s.jobs) s.next_number
-  pub places : IsGiven (map (λ j. j.place) s.jobs) s.next_place
+  pub waiting : IsDistinct (waiting_places s.jobs)
+  pub places : IsBelow s.next_place (map (λ j. j.place) s.jobs)
   pub next_number : IsBetween 1 numbers_end s.next_number
   pub next_serial : IsBetween 1 serials_end s.next_serial
   pub next_place : IsBetween 1 serials_end s.next_place
@@ -128,7 +133,7 @@ OpeningIsNumbered = (offset : ℤ) → IsNumbered (opening offset)
 abbrev pub StepKeepsNumbers : Type 0
 StepKeepsNumbers = (s : State) (caller : ℕ) (call : Call) (moment : ℕ) → IsNumbered s → IsNumbered (step s caller call moment).state
 
--- whatever is called, no serial, job number or place is given twice
+-- whatever is called, no serial or job number is given twice, and no two Waiting jobs have one place
 abbrev pub NumbersAreGivenOnce : Type 0
 NumbersAreGivenOnce = (s : State) (h : List Entry) → IsNumbered s → IsNumbered (after s h)
 

@@ -17,3 +17,7 @@ pub mod Settling
 pub mod Stepped
 pub mod Submitting
 pub mod Subsystems
+pub mod Limits
+pub mod Order
+pub mod Objects
+pub mod Sound

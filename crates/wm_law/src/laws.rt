@@ -1,6 +1,7 @@
 // Laws of the machine: what its definitions come to, each for all states. They are no calls.
 ghost use Rattle.wm_law.specs.Laws.{FirstIsLeast, NoFirstIsNone, NextIsFirst, NoNextIsNone, RouteIsLeast, NoRouteIsNone, SettledHasNoNext, SettledLeavesNone, RefusalLeaves, RefusedStepSettles, BuiltCallsAreAnswered, BuiltIsHad};
 ghost use Rattle.wm_law.specs.Kept.{OpeningIsNumbered, StepKeepsNumbers, NumbersAreGivenOnce, StepGoesOn, SerialsStartOnce, OpeningHasOrders, StepKeepsOrders, StartingJobsHaveOrders, HandGivesAnOrder, ReachedRouteIsLeast, OpeningHasDescriptions, StepKeepsDescriptions, StartedAreDescribed, OpeningIsQuiet, StepKeepsQuiet, NoneIsActiveWithoutPower, OpeningHasDistinctNames, StepKeepsNamesDistinct, StartedNamesAreDistinct, StartsInOrder};
+ghost use Rattle.wm_law.specs.Sound.{OpeningIsSound, StepKeepsSound, StatesAreSound, StepKeepsLimits, LimitsAreKept, StepKeepsOrder, OrderIsKept};
 
 /// The first job of a subsystem may start there, and no other job that may start there stands before
 /// it. Where there is no first job, no job may start there.
@@ -41,7 +42,8 @@ pub fn refusals_leave_the_state()
     ensures step { RefusedStepSettles }
 {}
 
-/// No serial, job number or place is given twice, and the next ones stay in their ranges.
+/// No serial or job number is given twice, and no two Waiting jobs have one place. The next ones stay
+/// in their ranges.
 pub fn numbers_are_given_once()
     ensures opening { OpeningIsNumbered }
     ensures step { StepKeepsNumbers }
@@ -107,4 +109,29 @@ pub fn built_calls_are_answered()
 #[tactic(auto, using(crate::proofs::Had::built_is_had))]
 pub fn built_commands_are_had()
     ensures { BuiltIsHad }
+{}
+
+/// A history from the opening state reaches sound states only, whatever was called.
+pub fn states_are_sound()
+    ensures opening { OpeningIsSound }
+    ensures step { StepKeepsSound }
+    ensures always { StatesAreSound }
+{}
+
+/// No start passes a limit, whatever was called: where a job became Starting in an entry, the count of
+/// its subsystem is then at most MAXJOBS, that of its queue entry at most MAXACT, and that with its
+/// priority at most MAXPTY of the priority.
+pub fn no_start_passes_a_limit()
+    ensures step { StepKeepsLimits }
+    ensures always { LimitsAreKept }
+{}
+
+/// The jobs are launched in their order, whatever was called. After each entry no job is ready and
+/// allowed. Where a job was launched in an entry, each ready job of the same subsystem that stands
+/// before it waits because a limit of its queue entry was reached without the jobs behind it. A
+/// launched job isn't held, nor is its queue; it is due, and its holder is Active; and it starts by its
+/// first matching routing entry, or has ended because that one is full or there is none.
+pub fn jobs_are_launched_in_order()
+    ensures step { StepKeepsOrder }
+    ensures always { OrderIsKept }
 {}

@@ -6,7 +6,9 @@
 //!
 //! The definitions are in `specs/`: `Machine` (a step), and by subject `Making`, `Subsystems`, `Submitting`, `Power`,
 //! `Reports` and `Settling`; `Choice` and `Launch` (which job starts, and what becomes of it); `Jobs` (a change to one
-//! job); `Counts`; `Opening`; `Pending` (what a monitor asks); `Fit` (which calls the machine has, and their ranges); `Laws` and `Kept` (the laws).
+//! job); `Counts`; `Opening`; `Pending` (what a monitor asks); `Fit` (which calls the machine has, and their ranges); `Laws` and `Kept` (the laws);
+//! `Limits` (no start passes a limit), `Order` (jobs are launched in their order), `Objects` (what holds of tables and subsystem descriptions) and `Sound`
+//! (what holds of each state that a history reaches, and over each entry).
 #![tactic(auto)]
 
 mod call;
@@ -29,10 +31,11 @@ pub use command::{
 pub use job::{Job, JobKind, Phase, Why, Wish};
 pub use launch::Launched;
 pub use laws::{
-    built_calls_are_answered, built_commands_are_had, first_job_is_least, jobs_go_forward,
-    jobs_start_in_order, next_job_is_first, none_is_active_without_power, numbers_are_given_once,
+    built_calls_are_answered, built_commands_are_had, first_job_is_least,
+    jobs_are_launched_in_order, jobs_go_forward, jobs_start_in_order, next_job_is_first,
+    no_start_passes_a_limit, none_is_active_without_power, numbers_are_given_once,
     refusals_leave_the_state, routes_are_least, serials_start_once, settling_leaves_none,
-    started_are_described, started_names_are_distinct, starting_jobs_have_orders,
+    started_are_described, started_names_are_distinct, starting_jobs_have_orders, states_are_sound,
 };
 pub use list::ListOf;
 pub use pending::Pending;

@@ -1,0 +1,152 @@
+-- A job that was launched is one that may be, and is as its route has it.
+use Rattle.std.proofs.Common.{◌≡◌, ℕ, ◌≤◌, ◌==◌, not, nat_le, Bool, true, false, cond, List, [], ◌∷◌, Option, Some, None, refl, sym, ap, subst, ◌∙◌, arith}
+use Rattle.std.specs.List.{find}
+use Rattle.std.proofs.lemmas.Bool.Decides.{nat_tests}
+use Rattle.wm_base.specs.declared.job.EndCause.TheVariants.{NoRoute, RouteFull}
+use Rattle.wm_base.specs.Iterate.{IsKept}
+use Rattle.wm_base.specs.Limit.{is_below}
+use Rattle.wm_base.proofs.Iterate.{iterate-keeps}
+use Rattle.wm_desc.specs.declared.entry.RouteEntry.{RouteEntry}
+use Rattle.wm_law.specs.declared.call.Call.{Call}
+use Rattle.wm_law.specs.declared.call.Entry.{Entry}
+use Rattle.wm_law.specs.declared.choice.Candidate.{Candidate}
+use Rattle.wm_law.specs.declared.job.Job.{Job}
+use Rattle.wm_law.specs.declared.job.Phase.{Phase}
+use Rattle.wm_law.specs.declared.job.Phase.TheVariants.{Starting, Ended}
+use Rattle.wm_law.specs.declared.launch.Launched.{Launched}
+use Rattle.wm_law.specs.declared.state.State.{State}
+use Rattle.wm_law.specs.Choice.{has_free_queue, is_held, is_sbs_active, maxpty_of, next}
+use Rattle.wm_law.specs.Counts.{count_by_route, count_from_priority, count_from_queue, count_in_sbs, is_by_route, is_waiting}
+use Rattle.wm_law.specs.History.{stepped}
+use Rattle.wm_law.specs.Kept.{IsNumbered}
+use Rattle.wm_law.specs.Launch.{as_launched, launch, launch_job, launched, launched_at, launched_through, route}
+use Rattle.wm_law.specs.Laws.{IsIn, Turn}
+use Rattle.wm_law.specs.Machine.{apply, step, with_clock}
+use Rattle.wm_law.specs.Order.{IsFit, IsInOrder, KeepsOrder, LaunchesFit, counted_for, was_launched}
+use Rattle.wm_law.specs.Settling.{leave, settle, waiting}
+use Rattle.wm_law.proofs.InTurn.{launched_in}
+use Rattle.wm_law.proofs.Members.{of_mapped}
+use Rattle.wm_law.proofs.Moves.{call_keeps}
+use Rattle.wm_law.proofs.Nexts.{IsNext, is_next}
+use Rattle.wm_law.proofs.Numbers.{apply_keeps, clock_keeps, launches_keep, only_started, step_keeps_numbers}
+use Rattle.wm_law.proofs.Passed.{IsOrderedSince, LaunchesNone, calls_launch_none, counted_all, counted_more, full_still, launched_ordered, one, ordered_yet}
+use Rattle.wm_law.proofs.Routed.{full_through, launched_routed, started_through, unrouted_through}
+use Rattle.wm_law.proofs.Settling.{settled_leaves_none}
+use Rattle.wm_law.proofs.Tests.{of_four, same_number}
+use Rattle.wm_law.proofs.Turns.{has_turn, may_start_in}
+
+of_not_true : (b : Bool) → not b ≡ true → b ≡ false
+of_not_true true e = absurd (cc)
+of_not_true false e = refl
+
+at_most : (n m : ℕ) → nat_le n m ≡ true → n ≤ m
+at_most n m h = grind (arith, nat_tests)
+
+-- in order, and each launched job is fit
+record IsFitSince (s t : State) : Type 0 where
+  ordered : IsOrderedSince s t
+  fit : LaunchesFit s t
+
+module _ (s t : State) (c : Candidate) (f : Job) (x : IsNext t c f) (h : IsFitSince s t) where
+  ready : (is_waiting f.phase ≡ true) × (not f.held ≡ true) × (has_free_queue t f.jobq ≡ true) × (nat_le f.due t.clock ≡ true)
+  ready = of_four (is_waiting f.phase) (not f.held) (has_free_queue t f.jobq) (nat_le f.due t.clock) x.first.may.ready
+
+  active : is_sbs_active x.turn.sbs.phase ≡ true
+  active =
+      let u = x.turn in
+      (of_four (is_sbs_active u.sbs.phase) (is_below (count_in_sbs u.sbs.sbsd t.jobs) u.sbsd.maxjobs) (is_below (count_from_queue u.sbs.sbsd u.entry.jobq t.jobs) u.entry.maxact) (is_below (count_from_priority u.sbs.sbsd u.entry.jobq f.pty t.jobs) (maxpty_of u.entry f.pty)) x.first.may.allowed).0
+
+  free : is_held t x.turn.queue ≡ false
+  free = of_not_true (is_held t x.turn.queue) (ap (has_free_queue t) (sym x.first.may.queue) ∙ ready.2)
+
+  routed : (p : Phase) → (launched t c.sbs c.jobq f).phase ≡ p → (launched_through t x.turn.sbs.sbsd x.turn.queue f (route x.turn.sbsd f.rtgdta)).phase ≡ p
+  routed p e = ap (λ (l : Launched). l.phase) (sym (launched_routed t c f x)) ∙ e
+
+  full_now : (n : ℕ) → (launched t c.sbs c.jobq f).phase ≡ Ended (RouteFull n) → (e : RouteEntry) × (route x.turn.sbsd f.rtgdta ≡ Some e) × (e.seq ≡ n) × (is_below (counted_for s (launched_in t c f) (as_launched (launched t c.sbs c.jobq f) f) (is_by_route x.turn.sbs.sbsd e.seq)) e.maxact ≡ false)
+  full_now n e =
+      let r = full_through t x.turn.sbs.sbsd x.turn.queue x.turn.sbsd f n (route x.turn.sbsd f.rtgdta) refl (routed (Ended (RouteFull n)) e) in
+      (r.0, r.1, r.2, full_still (count_by_route x.turn.sbs.sbsd r.0.seq t.jobs) (counted_for s (launched_in t c f) (as_launched (launched t c.sbs c.jobq f) f) (is_by_route x.turn.sbs.sbsd r.0.seq)) r.0.maxact (counted_all s t c f x h.ordered (is_by_route x.turn.sbs.sbsd r.0.seq)) r.3)
+
+  -- the launched job is fit
+  fit_now : IsFit s (launched_in t c f) (as_launched (launched t c.sbs c.jobq f) f) x.turn
+  fit_now = record {
+    turn = has_turn t f x.turn x.first.may;
+    held = of_not_true f.held ready.1;
+    queue = free;
+    due = at_most f.due t.clock ready.3;
+    active = active;
+    starting = λ e. (
+        let r = started_through t x.turn.sbs.sbsd x.turn.queue x.turn.sbsd f (route x.turn.sbsd f.rtgdta) refl (routed Starting e) in
+        (r.0, r.1, ap (λ (l : Launched). l.how) (launched_routed t c f x) ∙ r.2));
+    route_full = λ n e. full_now n e;
+    no_route = λ e. unrouted_through t x.turn.sbs.sbsd x.turn.queue x.turn.sbsd f (route x.turn.sbsd f.rtgdta) refl (routed (Ended NoRoute) e);
+  }
+
+  -- a job that was fit still is
+  fit_later : (j : Job) (u : Turn) → IsFit s t j u → IsFit s (launched_in t c f) j u
+  fit_later j u k = record {
+    turn = k.turn;
+    held = k.held;
+    queue = k.queue;
+    due = k.due;
+    active = k.active;
+    starting = k.starting;
+    route_full = λ n e. (
+        let r = k.route_full n e in
+        (r.0, r.1, r.2, full_still (counted_for s t j (is_by_route u.sbs.sbsd r.0.seq)) (counted_for s (launched_in t c f) j (is_by_route u.sbs.sbsd r.0.seq)) r.0.maxact (counted_more s t c f x h.ordered j (is_by_route u.sbs.sbsd r.0.seq)) r.3));
+    no_route = k.no_route;
+  }
+
+  fit_at : (i : Job) (b : Bool) (g : Job) → (i.serial == c.serial) ≡ b → IsIn i t.jobs → g ≡ cond b (as_launched (launched t c.sbs c.jobq f) i) i → was_launched s g ≡ true → (u : Turn) × IsFit s (launched_in t c f) g u
+  fit_at i true g e m same w =
+      let l = launched t c.sbs c.jobq f in
+      let now : as_launched l f ≡ g = ap (as_launched l) (sym (one s t c f x h.ordered i m (same_number i.serial c.serial e))) ∙ sym same in
+      (x.turn, subst (λ (y : Job). IsFit s (launched_in t c f) y x.turn) now fit_now)
+  fit_at i false g e m same w =
+      let k = h.fit i m (ap (was_launched s) (sym same) ∙ w) in
+      (k.0, subst (λ (y : Job). IsFit s (launched_in t c f) y k.0) (sym same) (fit_later i k.0 k.1))
+
+  fit_still : LaunchesFit s (launched_in t c f)
+  fit_still g m w =
+      let o = of_mapped (launched_at c.serial (launched t c.sbs c.jobq f)) t.jobs g m in
+      fit_at o.0 (o.0.serial == c.serial) g refl o.1 o.2 w
+
+-- a launch keeps the launched jobs fit
+launched_fit : (s t : State) (c : Candidate) (o : Option Job) → find (λ j. j.serial == c.serial) t.jobs ≡ o → next t ≡ Some c → IsFitSince s t → LaunchesFit s (launch_job t c o)
+launched_fit s t c None f e h = h.fit
+launched_fit s t c (Some j) f e h = fit_still s t c j (is_next t c j e h.ordered.numbered f) h
+
+launches_fit : (s : State) → IsKept next (λ c t. launch t c) (IsFitSince s)
+launches_fit s = record {
+  by_step = λ t c e h. record {
+    ordered = launched_ordered s t c (find (λ (j : Job). j.serial == c.serial) t.jobs) refl e (launches_keep.by_step t c e h.ordered.numbered) h.ordered;
+    fit = launched_fit s t c (find (λ (j : Job). j.serial == c.serial) t.jobs) refl e h;
+  };
+}
+
+-- settling launches the jobs in their order
+settled_in_order : (s t : State) → IsNumbered t → LaunchesNone s t → IsInOrder s (settle t)
+settled_in_order s t n h =
+    let u = leave t in
+    let since : IsFitSince s (settle t) = iterate-keeps (IsFitSince s) (launches_fit s) (waiting u) u (record {
+      ordered = ordered_yet s u (only_started t n) h;
+      fit = λ j m w. (let none = h j m in absurd (cc));
+    }) in
+    record {
+      none_left = λ j v i r e a. settled_leaves_none t j v i (may_start_in (settle t) j v r e a);
+      none_passed = since.ordered.passed;
+      fit = since.fit;
+    }
+
+-- and so does a step
+pub step_order : (s : State) (caller : ℕ) (call : Call) (moment : ℕ) → IsNumbered s → IsInOrder s (step s caller call moment).state
+unfolding step
+step_order s caller call moment n =
+    let c = with_clock s moment in
+    let t = (apply c caller call).state in
+    settled_in_order s t (apply_keeps c caller call (clock_keeps s moment n)) (call_keeps (LaunchesNone c) c caller call (calls_launch_none c))
+
+-- and each entry of a history
+pub order_kept : (s : State) (h : List Entry) → IsNumbered s → KeepsOrder s h
+order_kept s [] n = tt
+order_kept s (e ∷ es) n = (step_order s e.caller e.call e.moment n, order_kept (stepped s e).state es (step_keeps_numbers s e.caller e.call e.moment n))

@@ -1,0 +1,140 @@
+-- Only submitted jobs wait, and the queues of jobs and the held ones stay objects.
+use Rattle.std.proofs.Common.{◌≡◌, ℕ, ℤ, ◌++◌, ◌==◌, Bool, true, false, cond, List, [], ◌∷◌, map, Option, Some, None, refl, sym, subst, ◌∙◌, inl, inr}
+use Rattle.std.specs.List.{find}
+use Rattle.std.specs.Option.{IsSome}
+use Rattle.wm_base.specs.declared.qname.QName.{QName}
+use Rattle.wm_desc.specs.declared.description.Jobd.{Jobd}
+use Rattle.wm_desc.specs.declared.objects.Objects.{Objects}
+use Rattle.wm_desc.specs.Table.{object_named}
+use Rattle.wm_law.specs.declared.call.Call.{Call}
+use Rattle.wm_law.specs.declared.choice.Candidate.{Candidate}
+use Rattle.wm_law.specs.declared.command.Sbmjob.{Sbmjob}
+use Rattle.wm_law.specs.declared.job.Job.{Job}
+use Rattle.wm_law.specs.declared.job.Phase.{Phase}
+use Rattle.wm_law.specs.declared.state.State.{State}
+use Rattle.wm_law.specs.Counts.{is_waiting}
+use Rattle.wm_law.specs.Jobs.{changed_at}
+use Rattle.wm_law.specs.Launch.{as_launched, launch_job, launched}
+use Rattle.wm_law.specs.Laws.{IsIn}
+use Rattle.wm_law.specs.Machine.{step}
+use Rattle.wm_law.specs.Opening.{opening}
+use Rattle.wm_law.specs.Reports.{in_phase}
+use Rattle.wm_law.specs.Sound.{AreQueues, HasQueues, IsQueued}
+use Rattle.wm_law.specs.Submitting.{queue_of, submitted_job}
+use Rattle.wm_law.proofs.Members.{of_last, of_mapped}
+use Rattle.wm_law.proofs.Moves.{HoldsOfStates, IsAcceptable, IsKeptByParts, never_waits, step_keeps}
+use Rattle.wm_law.proofs.Nexts.{some_is}
+use Rattle.wm_law.proofs.Opened.{opened, opening_is}
+use Rattle.wm_law.proofs.Settling.{not_waiting}
+
+-- a change leaves a job its kind and its queue, and after it the job doesn't wait
+record KeepsQueue (change : Job → Job) : Type 0 where
+  kind : (j : Job) → (change j).kind ≡ j.kind
+  jobq : (j : Job) → (change j).jobq ≡ j.jobq
+  never : (j : Job) → is_waiting (change j).phase ≡ false
+
+queued_changed : (o : Objects) (change : Job → Job) (j : Job) → KeepsQueue change → IsQueued o j → IsQueued o (change j)
+queued_changed o change j k h = record {
+  waits = λ w. (let no = k.never j in absurd (cc));
+  has_queue = λ b. subst (λ (q : Option QName). IsSome q) (sym (k.jobq j)) (h.has_queue (sym (k.kind j) ∙ b));
+  is_object = λ q e. h.is_object q (sym (k.jobq j) ∙ e);
+}
+
+queued_at : (o : Objects) (change : Job → Job) (t : Bool) (j : Job) → KeepsQueue change → IsQueued o j → IsQueued o (cond t (change j) j)
+queued_at o change true j k h = queued_changed o change j k h
+queued_at o change false j k h = h
+
+-- each job of a list is queued
+abbrev AllQueued : Objects → List Job → Type 0
+AllQueued o jobs = (j : Job) → IsIn j jobs → IsQueued o j
+
+all_changed : (o : Objects) (jobs : List Job) (serial : ℕ) (change : Job → Job) → KeepsQueue change → AllQueued o jobs → AllQueued o (map (changed_at serial change) jobs)
+all_changed o jobs serial change k h i m =
+    let f = of_mapped (changed_at serial change) jobs i m in
+    subst (IsQueued o) (sym f.2) (queued_at o change (f.0.serial == serial) f.0 k (h f.0 f.1))
+
+submitted_queued : (s : State) (user : List ℕ) (c : Sbmjob) (d : Jobd) → IsAcceptable s c d → IsQueued s.objects (submitted_job s user c d)
+submitted_queued s user c d a = record {
+  waits = λ w. refl;
+  has_queue = λ b. refl;
+  is_object = λ q e. subst (λ (n : QName). IsSome (object_named n s.objects.jobqs)) (some_is (queue_of c d) q e) a.queue;
+}
+
+entered_queued : (s : State) (user : List ℕ) (c : Sbmjob) (d : Jobd) → IsAcceptable s c d → AllQueued s.objects s.jobs → AllQueued s.objects (s.jobs ++ submitted_job s user c d ∷ [])
+entered_queued s user c d a h j i =
+    elim (of_last s.jobs (submitted_job s user c d) j i) as (λ _. IsQueued s.objects j) [
+      | inl m ↦ h j m
+      | inr same ↦ subst (IsQueued s.objects) (sym same) (submitted_queued s user c d a)
+    ]
+
+moved_queued : (s : State) (serial : ℕ) (phase : Phase) → is_waiting phase ≡ false → HasQueues s → AllQueued s.objects (map (changed_at serial (in_phase phase)) s.jobs)
+moved_queued s serial phase n h = all_changed s.objects s.jobs serial (in_phase phase) (record { kind = λ j. refl; jobq = λ j. refl; never = λ j. n }) h
+
+queued_still : (a b : Objects) (j : Job) → ((q : QName) → IsSome (object_named q a.jobqs) → IsSome (object_named q b.jobqs)) → IsQueued a j → IsQueued b j
+queued_still a b j still h = record { waits = h.waits; has_queue = h.has_queue; is_object = λ q e. still q (h.is_object q e) }
+
+launched_queued : (s : State) (c : Candidate) (o : Option Job) → HasQueues s → HasQueues (launch_job s c o)
+launched_queued s c None h = h
+launched_queued s c (Some j) h = all_changed s.objects s.jobs c.serial (as_launched (launched s c.sbs c.jobq j)) (record { kind = λ k. refl; jobq = λ k. refl; never = λ k. not_waiting s c.sbs c.jobq j }) h
+
+queued_calls : (s : State) → HasQueues s → HoldsOfStates HasQueues s
+queued_calls s h = record {
+  stays = h;
+  starts = λ q e. h;
+  enters = λ user c d a. entered_queued s user c d a h;
+  moves = λ serial j phase i e r n. moved_queued s serial phase (never_waits j.phase phase r) h;
+  powers = h;
+  makes = λ o c j i. queued_still s.objects o j c.jobqs (h j i);
+}
+
+queued_parts : IsKeptByParts HasQueues
+queued_parts = record {
+  clock = λ s moment h. h;
+  calls = queued_calls;
+  leaves = λ s h. h;
+  launches = record { by_step = λ s c e h. launched_queued s c (find (λ (j : Job). j.serial == c.serial) s.jobs) h };
+}
+
+pub step_keeps_queues : (s : State) (caller : ℕ) (call : Call) (moment : ℕ) → HasQueues s → HasQueues (step s caller call moment).state
+step_keeps_queues s caller call moment h = step_keeps HasQueues queued_parts s caller call moment h
+
+none_queued : (offset : ℤ) → HasQueues (opened offset)
+none_queued offset j i = absurd i
+
+pub opening_has_queues : (offset : ℤ) → HasQueues (opening offset)
+opening_has_queues offset = subst HasQueues (sym (opening_is offset)) (none_queued offset)
+
+-- the held queues are such
+abbrev HoldsQueues : State → Type 0
+HoldsQueues s = AreQueues s.objects s.held
+
+launched_held : (s : State) (c : Candidate) (o : Option Job) → HoldsQueues s → HoldsQueues (launch_job s c o)
+launched_held s c None h = h
+launched_held s c (Some j) h = h
+
+held_calls : (s : State) → HoldsQueues s → HoldsOfStates HoldsQueues s
+held_calls s h = record {
+  stays = h;
+  starts = λ q e. h;
+  enters = λ user c d a. h;
+  moves = λ serial j phase i e r n. h;
+  powers = h;
+  makes = λ o c. record { once = h.once; are_objects = λ q i. c.jobqs q (h.are_objects q i) };
+}
+
+held_parts : IsKeptByParts HoldsQueues
+held_parts = record {
+  clock = λ s moment h. h;
+  calls = held_calls;
+  leaves = λ s h. h;
+  launches = record { by_step = λ s c e h. launched_held s c (find (λ (j : Job). j.serial == c.serial) s.jobs) h };
+}
+
+pub step_keeps_held : (s : State) (caller : ℕ) (call : Call) (moment : ℕ) → HoldsQueues s → HoldsQueues (step s caller call moment).state
+step_keeps_held s caller call moment h = step_keeps HoldsQueues held_parts s caller call moment h
+
+none_held : (offset : ℤ) → HoldsQueues (opened offset)
+none_held offset = record { once = tt; are_objects = λ q i. absurd i }
+
+pub opening_holds_queues : (offset : ℤ) → HoldsQueues (opening offset)
+opening_holds_queues offset = subst HoldsQueues (sym (opening_is offset)) (none_held offset)

@@ -1,0 +1,63 @@
+-- The jobs stay in the order of their serials.
+use Rattle.std.proofs.Common.{◌≡◌, ◌⊎◌, ℕ, ◌<◌, ◌++◌, ◌==◌, List, [], ◌∷◌, map, Option, Some, None, refl, sym, subst, inl, inr}
+use Rattle.std.specs.List.{find}
+use Rattle.wm_base.specs.Iterate.{IsKept}
+use Rattle.wm_base.proofs.Iterate.{iterate-keeps}
+use Rattle.wm_law.specs.declared.call.Call.{Call}
+use Rattle.wm_law.specs.declared.choice.Candidate.{Candidate}
+use Rattle.wm_law.specs.declared.job.Job.{Job}
+use Rattle.wm_law.specs.declared.state.State.{State}
+use Rattle.wm_law.specs.Choice.{next}
+use Rattle.wm_law.specs.Kept.{IsBelow, IsNumbered}
+use Rattle.wm_law.specs.Launch.{as_launched, launch, launch_job, launched}
+use Rattle.wm_law.specs.Laws.{IsIn}
+use Rattle.wm_law.specs.Machine.{apply, step, with_clock}
+use Rattle.wm_law.specs.Reports.{in_phase}
+use Rattle.wm_law.specs.Settling.{leave, waiting}
+use Rattle.wm_law.specs.Sound.{HasJobsInOrder, IsIncreasing}
+use Rattle.wm_law.specs.Submitting.{submitted_job}
+use Rattle.wm_law.proofs.Changed.{keys_kept}
+use Rattle.wm_law.proofs.Moves.{HoldsOfStates, call_keeps}
+use Rattle.wm_law.proofs.Numbers.{clock_keeps}
+
+abbrev serials : List Job → List ℕ
+serials jobs = map (λ j. j.serial) jobs
+
+of_last : (jobs : List Job) (j : Job) (n : ℕ) → IsIn n (serials (jobs ++ j ∷ [])) → IsIn n (serials jobs) ⊎ (n ≡ j.serial)
+of_last [] j n (inl e) = inr e
+of_last [] j n (inr i) = absurd i
+of_last (k ∷ jobs) j n (inl e) = inl (inl e)
+of_last (k ∷ jobs) j n (inr i) = elim (of_last jobs j n i) as (λ _. IsIn n (serials (k ∷ jobs)) ⊎ (n ≡ j.serial)) [ inl m ↦ inl (inr m) | inr e ↦ inr e ]
+
+-- a job with a greater serial goes last
+last_increasing : (jobs : List Job) (j : Job) → IsBelow j.serial (serials jobs) → IsIncreasing (serials jobs) → IsIncreasing (serials (jobs ++ j ∷ []))
+last_increasing [] j b h = ((λ n i. absurd i), tt)
+last_increasing (k ∷ jobs) j b h = (
+  λ n i. (elim (of_last jobs j n i) as (λ _. k.serial < n) [ inl m ↦ h.0 n m | inr e ↦ subst (λ (x : ℕ). k.serial < x) (sym e) b.0 ]),
+  last_increasing jobs j b.1 h.1,
+)
+
+launched_increasing : (s : State) (c : Candidate) (o : Option Job) → HasJobsInOrder s → HasJobsInOrder (launch_job s c o)
+launched_increasing s c None h = h
+launched_increasing s c (Some j) h = subst IsIncreasing (sym (keys_kept (λ (k : Job). k.serial) c.serial (as_launched (launched s c.sbs c.jobq j)) (λ k. refl) s.jobs)) h
+
+launches_increase : IsKept next (λ c t. launch t c) HasJobsInOrder
+launches_increase = record { by_step = λ t c e h. launched_increasing t c (find (λ (j : Job). j.serial == c.serial) t.jobs) h }
+
+calls_increase : (s : State) → IsNumbered s → HasJobsInOrder s → HoldsOfStates HasJobsInOrder s
+calls_increase s n h = record {
+  stays = h;
+  starts = λ q e. h;
+  enters = λ user c d has. last_increasing s.jobs (submitted_job s user c d) n.serials.below h;
+  moves = λ serial j phase i e r k. subst IsIncreasing (sym (keys_kept (λ (x : Job). x.serial) serial (in_phase phase) (λ x. refl) s.jobs)) h;
+  powers = h;
+  makes = λ o c. h;
+}
+
+pub step_keeps_jobs_in_order : (s : State) (caller : ℕ) (call : Call) (moment : ℕ) → IsNumbered s → HasJobsInOrder s → HasJobsInOrder (step s caller call moment).state
+unfolding step
+step_keeps_jobs_in_order s caller call moment n h =
+    let c = with_clock s moment in
+    let t = (apply c caller call).state in
+    let called : HasJobsInOrder t = call_keeps HasJobsInOrder c caller call (calls_increase c (clock_keeps s moment n) h) in
+    iterate-keeps HasJobsInOrder launches_increase (waiting (leave t)) (leave t) called

@@ -1,0 +1,76 @@
+-- Each state that a history reaches from a sound one is sound; no start on the way passes a limit, and the jobs are launched in their order.
+use Rattle.std.proofs.Common.{ℤ, List, [], ◌∷◌, sym, subst}
+use Rattle.wm_law.specs.declared.call.Entry.{Entry}
+use Rattle.wm_law.specs.declared.state.State.{State}
+use Rattle.wm_law.specs.History.{after, stepped}
+use Rattle.wm_law.specs.Opening.{opening}
+use Rattle.wm_law.specs.Sound.{HasJobsInOrder, HasPlaces, IsSound, LimitsAreKept, OpeningIsSound, OrderIsKept, StatesAreSound, StepKeepsLimits, StepKeepsOrder, StepKeepsSound}
+use Rattle.wm_law.proofs.Fitting.{order_kept, step_order}
+use Rattle.wm_law.proofs.Limits.{limits_kept, step_limits}
+use Rattle.wm_law.proofs.Numbers.{opening_is_numbered, step_keeps_numbers}
+use Rattle.wm_law.proofs.Orders.{opening_has_orders, step_keeps_orders}
+use Rattle.wm_law.proofs.Opened.{opened, opening_is}
+use Rattle.wm_law.proofs.Placed.{step_keeps_places}
+use Rattle.wm_law.proofs.Queued.{opening_has_queues, opening_holds_queues, step_keeps_held, step_keeps_queues}
+use Rattle.wm_law.proofs.Serials.{step_keeps_jobs_in_order}
+use Rattle.wm_law.proofs.Standing.{opening_is_within_started, opening_objects_are_sound, step_keeps_objects, step_keeps_within_started}
+use Rattle.wm_law.proofs.Started.{opening_has_distinct_names, step_keeps_names_distinct}
+use Rattle.wm_law.proofs.Subsystems.{opening_has_descriptions, opening_is_quiet, step_keeps_descriptions, step_keeps_quiet}
+
+opening_has_jobs_in_order : (offset : ℤ) → HasJobsInOrder (opening offset)
+opening_has_jobs_in_order offset = subst HasJobsInOrder (sym (opening_is offset)) tt
+
+none_placed : (offset : ℤ) → HasPlaces (opened offset)
+none_placed offset j i a = absurd i
+
+opening_has_places : (offset : ℤ) → HasPlaces (opening offset)
+opening_has_places offset = subst HasPlaces (sym (opening_is offset)) (none_placed offset)
+
+pub opening_is_sound : OpeningIsSound
+opening_is_sound offset = record {
+  numbered = opening_is_numbered offset;
+  jobs = opening_has_jobs_in_order offset;
+  places = opening_has_places offset;
+  orders = opening_has_orders offset;
+  names = opening_has_distinct_names offset;
+  descriptions = opening_has_descriptions offset;
+  quiet = opening_is_quiet offset;
+  objects = opening_objects_are_sound offset;
+  queues = opening_has_queues offset;
+  held = opening_holds_queues offset;
+  within_started = opening_is_within_started offset;
+}
+
+pub step_keeps_sound : StepKeepsSound
+step_keeps_sound s caller call moment h = record {
+  numbered = step_keeps_numbers s caller call moment h.numbered;
+  jobs = step_keeps_jobs_in_order s caller call moment h.numbered h.jobs;
+  places = step_keeps_places s caller call moment h.numbered h.places;
+  orders = step_keeps_orders s caller call moment h.numbered h.orders;
+  names = step_keeps_names_distinct s caller call moment h.names;
+  descriptions = step_keeps_descriptions s caller call moment h.descriptions;
+  quiet = step_keeps_quiet s caller call moment h.quiet;
+  objects = step_keeps_objects s caller call moment h.objects;
+  queues = step_keeps_queues s caller call moment h.queues;
+  held = step_keeps_held s caller call moment h.held;
+  within_started = step_keeps_within_started s caller call moment h.within_started;
+}
+
+after_is_sound : (s : State) (h : List Entry) → IsSound s → IsSound (after s h)
+after_is_sound s [] h = h
+after_is_sound s (e ∷ es) h = after_is_sound (stepped s e).state es (step_keeps_sound s e.caller e.call e.moment h)
+
+pub states_are_sound : StatesAreSound
+states_are_sound s h sound = after_is_sound s h sound
+
+pub step_keeps_limits : StepKeepsLimits
+step_keeps_limits s caller call moment h = step_limits s caller call moment h.numbered
+
+pub limits_are_kept : LimitsAreKept
+limits_are_kept s h sound = limits_kept s h sound.numbered
+
+pub step_keeps_order : StepKeepsOrder
+step_keeps_order s caller call moment h = step_order s caller call moment h.numbered
+
+pub order_is_kept : OrderIsKept
+order_is_kept s h sound = order_kept s h sound.numbered

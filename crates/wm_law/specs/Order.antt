@@ -1,0 +1,184 @@
+-- Each job started was the first that its descriptions allowed, read off the states before and after an entry.
+use Rattle.std.specs.Prelude.{◌≡◌, ℕ, ◌≤◌, Bool, true, false, not, ◌&&◌, ◌==◌, ◌⊎◌, List, [], ◌∷◌, count_by, Option, Some, None, ⊤}
+use Rattle.std.specs.List.{list_any}
+use Rattle.std.specs.Ordering.{nat_cmp, is_lt, ordering_then}
+use Rattle.wm_base.specs.declared.job.EndCause.{EndCause}
+use Rattle.wm_base.specs.declared.job.EndCause.TheVariants as cause
+use Rattle.wm_base.specs.declared.job.How.{How}
+use Rattle.wm_base.specs.declared.job.How.TheVariants.{FromQueue}
+use Rattle.wm_base.specs.declared.qname.QName.{QName}
+use Rattle.wm_base.specs.Limit.{is_below}
+use Rattle.wm_desc.specs.declared.description.Sbsd.{Sbsd}
+use Rattle.wm_desc.specs.declared.entry.QueueEntry.{QueueEntry}
+use Rattle.wm_desc.specs.declared.entry.RouteEntry.{RouteEntry}
+use Rattle.wm_desc.specs.Table.{object_named, same_qname}
+use Rattle.wm_law.specs.declared.call.Entry.{Entry}
+use Rattle.wm_law.specs.declared.job.Job.{Job}
+use Rattle.wm_law.specs.declared.job.JobKind.{JobKind}
+use Rattle.wm_law.specs.declared.job.JobKind.TheVariants.{Bch, Asj, Pj}
+use Rattle.wm_law.specs.declared.job.Phase.{Phase}
+use Rattle.wm_law.specs.declared.job.Phase.TheVariants.{Waiting, Starting, Handed, Running, Ended}
+use Rattle.wm_law.specs.declared.state.State.{State}
+use Rattle.wm_law.specs.declared.state.Sbs.{Sbs}
+use Rattle.wm_law.specs.Choice.{entry_for, holder, is_allowed, is_held, is_ready, is_sbs_active, maxpty_of}
+use Rattle.wm_law.specs.Counts.{is_active, is_by_route, is_from_priority, is_from_queue, is_waiting}
+use Rattle.wm_law.specs.History.{stepped}
+use Rattle.wm_law.specs.Launch.{route}
+use Rattle.wm_law.specs.Laws.{IsIn, Turn}
+
+-- a turn, where the description has an entry for the queue
+abbrev pub turn_from : QName → Sbs → Sbsd → Option QueueEntry → Option Turn
+turn_from queue b d None = None
+turn_from queue b d (Some e) = Some (record { queue = queue; sbs = b; sbsd = d; entry = e })
+
+-- where the subsystem has a description
+abbrev pub turn_described : QName → Sbs → Option Sbsd → Option Turn
+turn_described queue b None = None
+turn_described queue b (Some d) = turn_from queue b d (entry_for queue d)
+
+-- where the queue has a holder
+abbrev pub turn_held : State → QName → Option Sbs → Option Turn
+turn_held s queue None = None
+turn_held s queue (Some b) = turn_described queue b (object_named b.sbsd s.objects.sbsds)
+
+-- where there is a queue
+abbrev pub turn_queued : State → Option QName → Option Turn
+turn_queued s None = None
+turn_queued s (Some queue) = turn_held s queue (holder s queue)
+
+-- the turn of a job: the holder of its queue, the holder's description, and the description's entry for the queue
+abbrev pub turn_of : State → Job → Option Turn
+turn_of s j = turn_queued s j.jobq
+
+-- the holder is the same, and the triple of entry sequence number, priority and place is less
+abbrev pub is_before : Turn → Job → Turn → Job → Bool
+is_before t j u k =
+    same_qname t.sbs.sbsd u.sbs.sbsd
+    && is_lt (ordering_then (nat_cmp t.entry.seq u.entry.seq) (ordering_then (nat_cmp j.pty k.pty) (nat_cmp j.place k.place)))
+
+-- where both have a turn
+abbrev pub before_by : Option Turn → Job → Option Turn → Job → Bool
+before_by None j u k = false
+before_by (Some t) j None k = false
+before_by (Some t) j (Some u) k = is_before t j u k
+
+-- whether the first job stands before the second
+abbrev pub stands_before : State → Job → Job → Bool
+stands_before s j k = before_by (turn_of s j) j (turn_of s k) k
+
+-- whether a launch ends a job by the cause
+abbrev pub is_launch_cause : EndCause → Bool
+is_launch_cause cause.Completed = false
+is_launch_cause (cause.Exited code) = false
+is_launch_cause cause.Killed = false
+is_launch_cause cause.Endjob = false
+is_launch_cause cause.Endsbs = false
+is_launch_cause cause.Endpj = false
+is_launch_cause cause.Maxuse = false
+is_launch_cause cause.NoRoute = true
+is_launch_cause (cause.RouteFull seq) = true
+is_launch_cause cause.BadRequest = true
+is_launch_cause cause.NoProgram = true
+is_launch_cause (cause.StartFailed why) = false
+is_launch_cause cause.Cleared = false
+is_launch_cause cause.EndedOnQueue = false
+is_launch_cause cause.Restarted = false
+
+-- whether a launch leaves a job so: Starting, or ended by a cause of a launch
+abbrev pub is_launch_phase : Phase → Bool
+is_launch_phase Waiting = false
+is_launch_phase Starting = true
+is_launch_phase (Handed m) = false
+is_launch_phase (Running m) = false
+is_launch_phase (Ended c) = is_launch_cause c
+
+-- whether a job of the serial is past Waiting
+abbrev pub is_past_waiting : List Job → ℕ → Bool
+is_past_waiting jobs serial = list_any (λ i. i.serial == serial && not (is_waiting i.phase)) jobs
+
+-- whether the job was submitted
+abbrev pub is_submitted : JobKind → Bool
+is_submitted Bch = true
+is_submitted Asj = false
+is_submitted Pj = false
+
+-- whether a job, as an entry left it, was launched in the entry: it was submitted, and in the state before the entry it was Waiting or not there
+abbrev pub was_launched : State → Job → Bool
+was_launched s j = is_launch_phase j.phase && not (is_past_waiting s.jobs j.serial) && is_submitted j.kind
+
+-- whether a job is counted for j: it isn't j, nor a job launched in the entry that j stands before
+abbrev pub is_counted_for : State → State → Job → Job → Bool
+is_counted_for s t j i = not (i.serial == j.serial) && not (was_launched s i && stands_before t j i)
+
+-- the jobs active after an entry whose how passes a test, counted for j
+abbrev pub counted_for : State → State → Job → (How → Bool) → ℕ
+counted_for s t j test = count_by (λ i. is_active i.phase && test i.how && is_counted_for s t j i) t.jobs
+
+-- the count of k's entry or of the entry and k's priority, counted for j, has reached its limit
+abbrev pub IsFullFor : State → State → Job → Job → Turn → Type 0
+IsFullFor s t j k u =
+    (is_below (counted_for s t j (is_from_queue u.sbs.sbsd u.entry.jobq)) u.entry.maxact ≡ false)
+    ⊎ (is_below (counted_for s t j (is_from_priority u.sbs.sbsd u.entry.jobq k.pty)) (maxpty_of u.entry k.pty) ≡ false)
+
+-- no job is ready and allowed
+abbrev pub LeavesNone : State → Type 0
+LeavesNone t =
+    (j : Job) (u : Turn)
+    → IsIn j t.jobs
+    → is_ready t j ≡ true
+    → turn_of t j ≡ Some u
+    → is_allowed t u.sbs u.sbsd u.entry j.pty ≡ true
+    → ⊥
+
+-- a job that was launched passed no ready job that stands before it, but where that one's limit was reached
+abbrev pub PassesNone : State → State → Type 0
+PassesNone s t =
+    (j k : Job) (u : Turn)
+    → IsIn j t.jobs
+    → was_launched s j ≡ true
+    → IsIn k t.jobs
+    → is_ready t k ≡ true
+    → turn_of t k ≡ Some u
+    → stands_before t k j ≡ true
+    → IsFullFor s t j k u
+
+-- where the job is Starting, its how names the turn's subsystem and queue, its priority, and the number of its route there
+abbrev pub StartsByRoute : Job → Turn → Type 0
+StartsByRoute j u = j.phase ≡ Starting → (e : RouteEntry) × (route u.sbsd j.rtgdta ≡ Some e) × (j.how ≡ FromQueue u.sbs.sbsd u.queue j.pty e.seq)
+
+-- where it ended by ROUTEFULL, the number is that of its route, whose count, counted for it, has reached MAXACT
+abbrev pub EndsByFullRoute : State → State → Job → Turn → Type 0
+EndsByFullRoute s t j u =
+    (n : ℕ)
+    → j.phase ≡ Ended (cause.RouteFull n)
+    → (e : RouteEntry) × (route u.sbsd j.rtgdta ≡ Some e) × (e.seq ≡ n) × (is_below (counted_for s t j (is_by_route u.sbs.sbsd e.seq)) e.maxact ≡ false)
+
+-- where it ended by NOROUTE, it has no route
+abbrev pub EndsUnrouted : Job → Turn → Type 0
+EndsUnrouted j u = j.phase ≡ Ended cause.NoRoute → route u.sbsd j.rtgdta ≡ None
+
+-- the job may be launched in the turn: neither it nor its queue is held, it is due, and its holder is Active; and it is as its route has it
+pub record IsFit (s t : State) (j : Job) (u : Turn) : Type 0 where
+  pub turn : turn_of t j ≡ Some u
+  pub held : j.held ≡ false
+  pub queue : is_held t u.queue ≡ false
+  pub due : j.due ≤ t.clock
+  pub active : is_sbs_active u.sbs.phase ≡ true
+  pub starting : StartsByRoute j u
+  pub route_full : EndsByFullRoute s t j u
+  pub no_route : EndsUnrouted j u
+
+-- each job that was launched is fit
+abbrev pub LaunchesFit : State → State → Type 0
+LaunchesFit s t = (j : Job) → IsIn j t.jobs → was_launched s j ≡ true → (u : Turn) × IsFit s t j u
+
+-- the jobs are launched in their order over an entry, from the state before it to the state after it
+pub record IsInOrder (s t : State) : Type 0 where
+  pub none_left : LeavesNone t
+  pub none_passed : PassesNone s t
+  pub fit : LaunchesFit s t
+
+-- the jobs are launched in their order over each entry of a history
+abbrev pub KeepsOrder : State → List Entry → Type 0
+KeepsOrder s [] = ⊤
+KeepsOrder s (e ∷ es) = IsInOrder s (stepped s e).state × KeepsOrder (stepped s e).state es

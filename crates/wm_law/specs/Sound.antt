@@ -1,0 +1,116 @@
+-- What holds of each state that a history reaches from the opening one, and what holds over each entry from there.
+use Rattle.std.specs.Prelude.{◌≡◌, ℕ, ◌<◌, ◌≤◌, ℤ, true, List, [], ◌∷◌, length, map, Option, Some, ⊤}
+use Rattle.std.specs.Option.{IsSome}
+use Rattle.wm_base.specs.declared.job.How.{How}
+use Rattle.wm_base.specs.declared.job.How.TheVariants.{FromQueue}
+use Rattle.wm_base.specs.declared.qname.QName.{QName}
+use Rattle.wm_desc.specs.declared.description.Sbsd.{Sbsd}
+use Rattle.wm_desc.specs.declared.entry.QueueEntry.{QueueEntry}
+use Rattle.wm_desc.specs.declared.entry.RouteEntry.{RouteEntry}
+use Rattle.wm_desc.specs.declared.objects.Objects.{Objects}
+use Rattle.wm_desc.specs.Table.{object_named}
+use Rattle.wm_law.specs.declared.call.Call.{Call}
+use Rattle.wm_law.specs.declared.call.Entry.{Entry}
+use Rattle.wm_law.specs.declared.job.Job.{Job}
+use Rattle.wm_law.specs.declared.job.JobKind.TheVariants.{Bch}
+use Rattle.wm_law.specs.declared.state.Sbs.{Sbs}
+use Rattle.wm_law.specs.declared.state.State.{State}
+use Rattle.wm_law.specs.Choice.{entry_for}
+use Rattle.wm_law.specs.Counts.{is_active, is_waiting}
+use Rattle.wm_law.specs.History.{after}
+use Rattle.wm_law.specs.Kept.{IsDistinct, IsNumbered, HasOrders, HasDistinctNames, HasDescriptions, IsQuiet}
+use Rattle.wm_law.specs.Laws.{IsIn}
+use Rattle.wm_law.specs.Limits.{IsWithinLimits, KeepsLimits}
+use Rattle.wm_law.specs.Machine.{step}
+use Rattle.wm_law.specs.Objects.{AreSound}
+use Rattle.wm_law.specs.Opening.{opening}
+use Rattle.wm_law.specs.Order.{IsInOrder, KeepsOrder}
+use Rattle.wm_law.specs.Subsystems.{max_started}
+
+-- each number is below all later ones
+abbrev pub IsIncreasing : List ℕ → Type 0
+IsIncreasing [] = ⊤
+IsIncreasing (n ∷ ns) = ((m : ℕ) → IsIn m ns → n < m) × IsIncreasing ns
+
+-- the jobs stand in the order of their serials
+abbrev pub HasJobsInOrder : State → Type 0
+HasJobsInOrder s = IsIncreasing (map (λ j. j.serial) s.jobs)
+
+-- a how names a started subsystem, a queue that this one's description has an entry for, the priority, and a routing entry of the description
+pub record IsPlaced (subsystems : List Sbs) (objects : Objects) (jobq : Option QName) (pty : ℕ) (how : How) : Type 0 where
+  pub queue : QName
+  pub sbs : Sbs
+  pub sbsd : Sbsd
+  pub entry : QueueEntry
+  pub route : RouteEntry
+  pub started : IsIn sbs subsystems
+  pub described : object_named sbs.sbsd objects.sbsds ≡ Some sbsd
+  pub fed : entry_for queue sbsd ≡ Some entry
+  pub routed : IsIn route sbsd.routes
+  pub has_queue : jobq ≡ Some queue
+  pub is_how : how ≡ FromQueue sbs.sbsd queue pty route.seq
+
+-- the how of each active job names what is there, with the job's queue and priority
+abbrev pub HasPlaces : State → Type 0
+HasPlaces s = (j : Job) → IsIn j s.jobs → is_active j.phase ≡ true → IsPlaced s.started s.objects j.jobq j.pty j.how
+
+-- a job that waits was submitted, a submitted job has a queue, and a job's queue is an object
+pub record IsQueued (objects : Objects) (j : Job) : Type 0 where
+  pub waits : is_waiting j.phase ≡ true → j.kind ≡ Bch
+  pub has_queue : j.kind ≡ Bch → IsSome j.jobq
+  pub is_object : (queue : QName) → j.jobq ≡ Some queue → IsSome (object_named queue objects.jobqs)
+
+-- so it is with each job
+abbrev pub HasQueues : State → Type 0
+HasQueues s = (j : Job) → IsIn j s.jobs → IsQueued s.objects j
+
+-- no queue stands twice in a list of names, and each is an object
+pub record AreQueues (objects : Objects) (queues : List QName) : Type 0 where
+  pub once : IsDistinct queues
+  pub are_objects : (queue : QName) → IsIn queue queues → IsSome (object_named queue objects.jobqs)
+
+-- no more subsystems are started than may be
+abbrev pub IsWithinStarted : State → Type 0
+IsWithinStarted s = length s.started ≤ max_started
+
+-- what holds of each state that a history reaches: numbers and orders, names and power are told in `Kept`, objects in `Objects`, the rest above
+pub record IsSound (s : State) : Type 0 where
+  pub numbered : IsNumbered s
+  pub jobs : HasJobsInOrder s
+  pub places : HasPlaces s
+  pub orders : HasOrders s
+  pub names : HasDistinctNames s
+  pub descriptions : HasDescriptions s
+  pub quiet : IsQuiet s
+  pub objects : AreSound s.objects
+  pub queues : HasQueues s
+  pub held : AreQueues s.objects s.held
+  pub within_started : IsWithinStarted s
+
+-- the opening state is sound
+abbrev pub OpeningIsSound : Type 0
+OpeningIsSound = (offset : ℤ) → IsSound (opening offset)
+
+-- every step keeps a state sound
+abbrev pub StepKeepsSound : Type 0
+StepKeepsSound = (s : State) (caller : ℕ) (call : Call) (moment : ℕ) → IsSound s → IsSound (step s caller call moment).state
+
+-- whatever is called, the state stays sound
+abbrev pub StatesAreSound : Type 0
+StatesAreSound = (s : State) (h : List Entry) → IsSound s → IsSound (after s h)
+
+-- no start passes a limit over any step
+abbrev pub StepKeepsLimits : Type 0
+StepKeepsLimits = (s : State) (caller : ℕ) (call : Call) (moment : ℕ) → IsSound s → IsWithinLimits s (step s caller call moment).state
+
+-- whatever is called from a sound state, no start passes a limit
+abbrev pub LimitsAreKept : Type 0
+LimitsAreKept = (s : State) (h : List Entry) → IsSound s → KeepsLimits s h
+
+-- the jobs are launched in their order over any step
+abbrev pub StepKeepsOrder : Type 0
+StepKeepsOrder = (s : State) (caller : ℕ) (call : Call) (moment : ℕ) → IsSound s → IsInOrder s (step s caller call moment).state
+
+-- whatever is called from a sound state, the jobs are launched in their order
+abbrev pub OrderIsKept : Type 0
+OrderIsKept = (s : State) (h : List Entry) → IsSound s → KeepsOrder s h
