@@ -2,11 +2,12 @@
 //!
 //! The contract for the layer above: a contract sees a `Core` as the state of the definitions in `wm_law`.
 //! `Core::opening` is the state that an empty store opens with, and `Core::step` answers what the definition `step`
-//! gives and leaves the state that it gives; after want of memory the state is as before. `Core::pending`
-//! tells what waits for a monitor. `built` says which commands users have.
+//! gives and leaves the state that it gives; after want of memory the state is as before. The state is sound, so over
+//! a step no start passes a limit, and the jobs are launched in their order. `Core::pending` tells what waits for a
+//! monitor. `built` says which commands users have. `Machine` takes the same steps over any state, sound or not, which
+//! whoever has it may set.
 #![tactic(auto)]
 
-mod jobs;
 mod machine;
 mod making;
 mod not_built;
@@ -15,9 +16,11 @@ mod pending;
 mod power;
 mod reports;
 mod settling;
+mod sound;
 mod submitting;
 mod subsystems;
 
-pub use machine::Core;
+pub use machine::Machine;
 pub use not_built::{NotBuilt, built};
 pub use opening::{Setup, opening_commands};
+pub use sound::Core;

@@ -1,60 +1,83 @@
-// A step of the machine: the clock is set, the call is applied, and the state settles.
-ghost use Rattle.std.specs.Prelude.{◌≡◌, max};
-
+// A step of the machine: the call is applied, the clock is set, and the state settles.
 use std::alloc::Global;
 use std::marker::Model;
 use wm_base::{Moment, Name, NoMemory};
-use wm_law::{Call, Command, Reply, State};
+use wm_desc::Objects;
+use wm_jobs::JobTable;
+use wm_law::{Call, Command, Evokes, Power, QNames, Reply, SbsList, Stops};
 use wm_pick::Parts;
 
-/// The machine with its state, which is plain data. A contract sees it as the state.
+/// The machine over any state. The jobs, their next numbers and the clock are in the job table, all else is plain data.
+/// A contract sees it as the state.
 #[derive(Drop)]
-pub struct Core {
-    pub state: State,
+pub struct Machine {
+    pub objects: Objects,
+    pub started: SbsList,
+    pub held: QNames,
+    pub stopped: Stops,
+    pub evokes: Evokes,
+    pub next_number: u32,
+    pub offset_min: i32,
+    pub power: Power,
+    pub(crate) table: JobTable,
 }
 
-impl Model for Core {
+impl Model for Machine {
     ghost use Rattle.wm_law.specs.declared.state.State.{State};
 
     ghost Value = { State };
 
-    ghost view = { λ c. c.state };
+    ghost use Rattle.wm_core.specs.MachineInside.{state_of};
+
+    ghost view = { state_of };
 }
 
-// The later of two moments.
-fn later(a: Moment, b: Moment) -> Moment
-    ensures { result ≡ max a b }
-{
-    Moment::new(a.get().max(b.get()))
-}
-
-impl Core {
-    ghost use Rattle.std.specs.Prelude.{◌≡◌, OnOk, OnErr, IfOk};
+impl Machine {
+    ghost use Rattle.std.specs.Prelude.{◌≡◌, false, OnOk, OnErr, IfOk};
     ghost use Rattle.wm_law.specs.Fit.{HasCall, IsCall, IsCommand};
     ghost use Rattle.wm_pick.specs.Parts.{parts_of};
-    ghost use Rattle.wm_law.specs.Machine.{change, apply, step};
+    ghost use Rattle.wm_law.specs.Machine.{change, apply, step, with_clock};
+    ghost use Rattle.wm_core.specs.Clocked.{IsStill, is_submission, is_submitting};
 
-    /// The parts that a choice looks at.
-    pub(crate) fn parts(&self) -> Parts<'_>
-        ensures { result ≡ parts_of self.now }
+    /// The jobs, and what they are found by.
+    pub fn jobs(&self) -> &JobTable
+        ensures jobs { result.now.jobs ≡ self.now.jobs }
+        ensures clock { result.now.clock ≡ self.now.clock }
     {
-        Parts {
-            objects: &self.state.objects,
-            jobs: &self.state.jobs,
-            started: &self.state.started,
-            held: &self.state.held,
-            clock: self.state.clock,
-        }
+        &self.table
     }
 
-    /// Applies a command of a user. An `Err` is want of memory and leaves the state.
+    /// The parts that a choice looks at.
+    pub fn parts(&self) -> Parts<'_>
+        ensures { result ≡ parts_of self.now }
+    {
+        Parts::new(
+            &self.objects,
+            self.table.jobs(),
+            &self.started,
+            &self.held,
+            self.table.waiting(),
+            self.table.tally(),
+            self.table.clock(),
+        )
+    }
+
+    /// Sets the clock, which never goes back.
+    pub fn set_clock(&mut self, now: Moment)
+        ensures { self.new ≡ with_clock self.old now }
+    {
+        self.table.make_due(now);
+    }
+
+    /// Applies a command of a user, but for SBMJOB. An `Err` is want of memory and leaves the state.
     pub(crate) fn change(
         &mut self,
         alloc: Global,
         user: &Name,
         command: &Command,
     ) -> Result<Reply, NoMemory>
-        requires { IsCommand command.now }
+        requires ranges { IsCommand command.now }
+        requires other { is_submission command.now ≡ false }
         ensures reply { IfOk result (λ r. r ≡ (change self.old user.now command.now).reply) }
         ensures state { OnOk result (self.new ≡ (change self.old user.now command.now).state) }
         ensures err { OnErr result (self.new ≡ self.old) }
@@ -70,15 +93,16 @@ impl Core {
             Command::Rmvjobqe(command) => Ok(self.remove_queue(command)),
             Command::Rmvrtge(command) => Ok(self.remove_route(command)),
             Command::Strsbs(command) => self.start_subsystem(&command.sbsd),
-            Command::Sbmjob(command) => self.submit(alloc, user, command),
+            Command::Sbmjob(_) => unreachable!(),
             Command::Pwrdwnsys(_) => Ok(self.power_down()),
             _ => Ok(Reply::Nothing),
         }
     }
 
-    // The reply to a call, and the state before it settles.
-    fn apply(&mut self, alloc: Global, caller: u32, call: &Call) -> Result<Reply, NoMemory>
-        requires { IsCall call.now }
+    // The reply to a call that isn't SBMJOB, and the state before it settles. It doesn't look at the clock.
+    fn apply_timeless(&mut self, alloc: Global, caller: u32, call: &Call) -> Result<Reply, NoMemory>
+        requires ranges { IsCall call.now }
+        requires other { is_submitting call.now ≡ false }
         ensures reply { IfOk result (λ r. r ≡ (apply self.old caller call.now).reply) }
         ensures state { OnOk result (self.new ≡ (apply self.old caller call.now).state) }
         ensures err { OnErr result (self.new ≡ self.old) }
@@ -96,6 +120,44 @@ impl Core {
         }
     }
 
+    // The same, where the clock is set behind it.
+    fn apply_other(
+        &mut self,
+        alloc: Global,
+        caller: u32,
+        call: &Call,
+        now: Moment,
+    ) -> Result<Reply, NoMemory>
+        requires ranges { IsCall call.now }
+        requires other { is_submitting call.now ≡ false }
+        ensures ok { IfOk result (λ r. IsStill now r self.new (apply (with_clock self.old now) caller call.now)) }
+        ensures err { OnErr result (self.new ≡ self.old) }
+    {
+        self.apply_timeless(alloc, caller, call)
+    }
+
+    // What a call comes to, where the clock is set behind it: until nothing more can want memory.
+    fn apply(
+        &mut self,
+        alloc: Global,
+        caller: u32,
+        call: &Call,
+        now: Moment,
+    ) -> Result<Reply, NoMemory>
+        requires { IsCall call.now }
+        ensures ok { IfOk result (λ r. IsStill now r self.new (apply (with_clock self.old now) caller call.now)) }
+        ensures err { OnErr result (self.new ≡ self.old) }
+    {
+        if let Call::Change {
+            user,
+            command: Command::Sbmjob(command),
+        } = call
+        {
+            return self.submit(alloc, user, command, now);
+        }
+        self.apply_other(alloc, caller, call, now)
+    }
+
     /// One step. An `Err` is want of memory and leaves the state.
     #[tactic(auto, unfolding(wm_law::specs::Machine::step))]
     pub fn step(
@@ -111,17 +173,9 @@ impl Core {
         ensures state { OnOk result (self.new ≡ (step self.old caller call.now now).state) }
         ensures err { OnErr result (self.new ≡ self.old) }
     {
-        let before = self.state.clock;
-        self.state.clock = later(before, now);
-        match self.apply(alloc, caller, call) {
-            Ok(reply) => {
-                self.settle();
-                Ok(reply)
-            }
-            Err(e) => {
-                self.state.clock = before;
-                Err(e)
-            }
-        }
+        let reply = self.apply(alloc, caller, call, now)?;
+        self.set_clock(now);
+        self.settle();
+        Ok(reply)
     }
 }

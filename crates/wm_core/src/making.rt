@@ -5,7 +5,7 @@ ghost use Rattle.wm_base.specs.declared.refusal.Refusal.{Refusal};
 ghost use Rattle.wm_desc.specs.Refusals.{IsAnswer, answer_of};
 ghost use Rattle.wm_law.specs.Making.{class_of, jobd_of, queue_entry_of, route_entry_of, made_reply, made_objects};
 
-use crate::Core;
+use crate::Machine;
 use std::alloc::{AllocError, Global};
 use wm_base::{Class, NoMemory, QName, Refusal};
 use wm_desc::{DescFault, Jobd, QueueEntry, RouteEntry};
@@ -87,7 +87,7 @@ fn jobd_of(command: &Crtjobd) -> Result<Jobd, NoMemory>
     })
 }
 
-impl Core {
+impl Machine {
     ghost use Rattle.std.specs.Prelude.{◌≡◌, ◌&&◌, IsTrue, OnOk, OnErr, IfOk, is_some};
     ghost use Rattle.wm_desc.specs.Ranges.{class_in_range, path_in_range, jobd_in_range, maxjobs_in_range, queue_in_range, route_in_range};
     ghost use Rattle.wm_desc.specs.Table.{object_named};
@@ -100,7 +100,7 @@ impl Core {
         ensures state { OnOk result (self.new ≡ (make_class self.old command.now).state) }
         ensures err { OnErr result (self.new ≡ self.old) }
     {
-        let reply = made(self.state.objects.add_class(command.cls, class_of(command)))?;
+        let reply = made(self.objects.add_class(command.cls, class_of(command)))?;
         Ok(reply)
     }
 
@@ -110,7 +110,7 @@ impl Core {
         ensures state { OnOk result (self.new ≡ (make_queue self.old command.now).state) }
         ensures err { OnErr result (self.new ≡ self.old) }
     {
-        let reply = made(self.state.objects.add_jobq(command.jobq))?;
+        let reply = made(self.objects.add_jobq(command.jobq))?;
         Ok(reply)
     }
 
@@ -121,11 +121,7 @@ impl Core {
         ensures state { OnOk result (self.new ≡ (make_program self.old command.now).state) }
         ensures err { OnErr result (self.new ≡ self.old) }
     {
-        let reply = made(
-            self.state
-                .objects
-                .add_program(command.pgm, command.path.clone()?),
-        )?;
+        let reply = made(self.objects.add_program(command.pgm, command.path.clone()?))?;
         Ok(reply)
     }
 
@@ -136,7 +132,7 @@ impl Core {
         ensures state { OnOk result (self.new ≡ (make_job_description self.old command.now).state) }
         ensures err { OnErr result (self.new ≡ self.old) }
     {
-        let reply = made(self.state.objects.add_jobd(command.jobd, jobd_of(command)?))?;
+        let reply = made(self.objects.add_jobd(command.jobd, jobd_of(command)?))?;
         Ok(reply)
     }
 
@@ -151,29 +147,21 @@ impl Core {
         ensures state { OnOk result (self.new ≡ (make_description self.old command.now).state) }
         ensures err { OnErr result (self.new ≡ self.old) }
     {
-        let reply = made(
-            self.state
-                .objects
-                .add_sbsd(alloc, command.sbsd, command.maxjobs),
-        )?;
+        let reply = made(self.objects.add_sbsd(alloc, command.sbsd, command.maxjobs))?;
         Ok(reply)
     }
 
     fn is_in_use(&self, sbsd: &QName) -> bool
         ensures { result ≡ is_in_use self.now sbsd.now }
     {
-        self.state
-            .started
-            .as_slice()
-            .iter()
-            .any(|sbs| sbs.sbsd == *sbsd)
+        self.started.as_slice().iter().any(|sbs| sbs.sbsd == *sbsd)
     }
 
     // Whether the description is there, and its subsystem is started.
     fn is_active(&self, sbsd: &QName) -> bool
         ensures { result ≡ (is_some (object_named sbsd.now self.now.objects.sbsds) && is_in_use self.now sbsd.now) }
     {
-        self.state.objects.sbsds.object(sbsd).is_some() && self.is_in_use(sbsd)
+        self.objects.sbsds.object(sbsd).is_some() && self.is_in_use(sbsd)
     }
 
     /// ADDJOBQE.
@@ -187,8 +175,7 @@ impl Core {
             return Ok(Reply::No(Refusal::SbsActive));
         }
         let reply = made(
-            self.state
-                .objects
+            self.objects
                 .add_queue(&command.sbsd, queue_entry_of(command)),
         )?;
         Ok(reply)
@@ -205,7 +192,7 @@ impl Core {
             return Ok(Reply::No(Refusal::SbsActive));
         }
         let entry = route_entry_of(command)?;
-        let reply = made(self.state.objects.add_route(&command.sbsd, entry))?;
+        let reply = made(self.objects.add_route(&command.sbsd, entry))?;
         Ok(reply)
     }
 
@@ -217,11 +204,7 @@ impl Core {
         if self.is_active(&command.sbsd) {
             return Reply::No(Refusal::SbsActive);
         }
-        removed(
-            self.state
-                .objects
-                .remove_queue(&command.sbsd, &command.jobq),
-        )
+        removed(self.objects.remove_queue(&command.sbsd, &command.jobq))
     }
 
     /// RMVRTGE.
@@ -232,10 +215,6 @@ impl Core {
         if self.is_active(&command.sbsd) {
             return Reply::No(Refusal::SbsActive);
         }
-        removed(
-            self.state
-                .objects
-                .remove_route(&command.sbsd, command.seqnbr),
-        )
+        removed(self.objects.remove_route(&command.sbsd, command.seqnbr))
     }
 }

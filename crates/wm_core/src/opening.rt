@@ -1,13 +1,14 @@
 // The state that an empty store opens with: what eight commands make of no objects.
 ghost use Rattle.std.specs.Prelude.{◌≡◌, IfOk};
-ghost use Rattle.wm_law.specs.Opening.{crtcls_qbatch, crtpgmref_echo, crtjobq_qbatch, crtjobd, crtjobd_qdftjobd, crtjobd_qbatch, crtsbsd_qbatch, addjobqe_qbatch, addrtge_qbatch, opening_commands, empty};
+ghost use Rattle.wm_law.specs.Opening.{crtcls_qbatch, crtpgmref_echo, crtjobq_qbatch, crtjobd, crtjobd_qdftjobd, crtjobd_qbatch, crtsbsd_qbatch, addjobqe_qbatch, addrtge_qbatch, opening_commands};
 
-use crate::Core;
+use crate::Machine;
 use std::alloc::Global;
-use wm_base::{Limit, Moment, Name, NoMemory, Priority, QName, Text};
+use wm_base::{Limit, Name, NoMemory, Priority, QName, Text};
 use wm_desc::{Cmp, Objects, echo, qbatch, qdftjobd};
+use wm_jobs::JobTable;
 use wm_law::{
-    Addjobqe, Addrtge, Command, Crtcls, Crtjobd, Crtjobq, Crtpgmref, Crtsbsd, ListOf, Power, State,
+    Addjobqe, Addrtge, Command, Crtcls, Crtjobd, Crtjobq, Crtpgmref, Crtsbsd, ListOf, Power,
 };
 
 /// What a machine opens with.
@@ -138,30 +139,28 @@ pub fn opening_commands(alloc: Global) -> Result<[Command; 8], NoMemory>
     ])
 }
 
-// No objects and no job.
-fn empty(alloc: Global, offset_min: i32) -> State
-    ensures { result ≡ empty offset_min }
-{
-    State {
-        objects: Objects::new(alloc),
-        jobs: ListOf::new(alloc),
-        started: ListOf::new(alloc),
-        held: ListOf::new(alloc),
-        stopped: ListOf::new(alloc),
-        evokes: ListOf::new(alloc),
-        next_number: 1,
-        next_serial: 1,
-        next_place: 1,
-        clock: Moment::new(0),
-        offset_min,
-        power: Power::On,
-    }
-}
-
-impl Core {
-    ghost use Rattle.std.specs.Prelude.{◌≡◌, IfOk, OnOk, All};
+impl Machine {
+    ghost use Rattle.std.specs.Prelude.{◌≡◌, false, IfOk, OnOk, All};
     ghost use Rattle.wm_law.specs.Fit.{IsCommand};
-    ghost use Rattle.wm_law.specs.Opening.{changed_by, opening};
+    ghost use Rattle.wm_law.specs.Opening.{changed_by, empty, opening};
+    ghost use Rattle.wm_core.specs.Clocked.{is_submission};
+
+    /// No objects and no job, for local time so many minutes ahead of UTC.
+    pub fn empty(alloc: Global, offset_min: i32) -> Machine
+        ensures { result ≡ empty offset_min }
+    {
+        Machine {
+            objects: Objects::new(alloc),
+            started: ListOf::new(alloc),
+            held: ListOf::new(alloc),
+            stopped: ListOf::new(alloc),
+            evokes: ListOf::new(alloc),
+            next_number: 1,
+            offset_min,
+            power: Power::On,
+            table: JobTable::new(alloc),
+        }
+    }
 
     // Applies each of the commands.
     fn change_all(
@@ -170,7 +169,8 @@ impl Core {
         user: &Name,
         commands: &[Command],
     ) -> Result<(), NoMemory>
-        requires { All IsCommand commands.now }
+        requires ranges { All IsCommand commands.now }
+        requires others { All (λ c. is_submission c ≡ false) commands.now }
         ensures { OnOk result (self.new ≡ changed_by user.now self.old commands.now) }
     {
         for command in commands {
@@ -181,14 +181,12 @@ impl Core {
 
     /// The state of no rows: the objects of the opening commands, and no job. An `Err` is want of memory.
     #[tactic(auto, unfolding(wm_law::specs::Opening::opening), using(crate::proofs::Opened::commands_fit))]
-    pub fn opening(alloc: Global, setup: &Setup) -> Result<Core, NoMemory>
-        ensures { IfOk result (λ core. core ≡ opening setup.now.offset_min) }
+    pub fn opening(alloc: Global, setup: &Setup) -> Result<Machine, NoMemory>
+        ensures { IfOk result (λ machine. machine ≡ opening setup.now.offset_min) }
     {
         let commands = opening_commands(alloc)?;
-        let mut core = Core {
-            state: empty(alloc, setup.offset_min),
-        };
-        core.change_all(alloc, &Name::of(b"QSYS"), &commands)?;
-        Ok(core)
+        let mut machine = Machine::empty(alloc, setup.offset_min);
+        machine.change_all(alloc, &Name::of(b"QSYS"), &commands)?;
+        Ok(machine)
     }
 }

@@ -2,7 +2,7 @@
 ghost use Rattle.std.specs.Prelude.{◌≡◌, map};
 ghost use Rattle.wm_law.specs.Power.{is_on, is_down_now, end_now};
 
-use crate::Core;
+use crate::Machine;
 use wm_base::Refusal;
 use wm_law::{Power, Reply, Sbs, SbsPhase};
 
@@ -32,7 +32,7 @@ fn end_all_now(started: &mut [Sbs])
     }
 }
 
-impl Core {
+impl Machine {
     ghost use Rattle.std.specs.Prelude.{◌≡◌};
     ghost use Rattle.wm_law.specs.Power.{power_down};
 
@@ -41,11 +41,11 @@ impl Core {
         ensures reply { result ≡ (power_down self.old).reply }
         ensures state { self.new ≡ (power_down self.old).state }
     {
-        if is_down_now(&self.state.power) {
+        if is_down_now(&self.power) {
             return Reply::No(Refusal::PoweringDown);
         }
-        end_all_now(&mut self.state.started.items);
-        self.state.power = Power::DownNow;
+        end_all_now(&mut self.started.items);
+        self.power = Power::DownNow;
         Reply::PowerDown
     }
 }

@@ -2,12 +2,10 @@
 ghost use Rattle.std.specs.Prelude.{◌≡◌};
 ghost use Rattle.wm_law.specs.Reports.{phase_word, is_handed_to, is_run_by, end_cause};
 
-use crate::Core;
-use crate::jobs::{of_serial, set_phase};
+use crate::Machine;
 use std::alloc::Global;
 use wm_base::{Asked, EndCause, Exit, NoMemory, PhaseWord, Refusal, Serial, StartCause};
-use wm_law::{Call, Job, Phase, Reply};
-use wm_pick::is_starting;
+use wm_law::{Call, Phase, Reply};
 
 /// What a job's phase is called in a refusal.
 fn phase_word(phase: &Phase) -> PhaseWord
@@ -50,57 +48,48 @@ fn end_cause(exit: &Exit) -> EndCause
     }
 }
 
-impl Core {
-    ghost use Rattle.std.specs.Prelude.{◌≡◌, OnOk, OnErr, IfOk, find};
-    ghost use Rattle.std.specs.Option.{option_copied};
-    ghost use Rattle.wm_law.specs.Counts.{is_starting};
+impl Machine {
+    ghost use Rattle.std.specs.Prelude.{◌≡◌, false, OnOk, OnErr, IfOk};
+    ghost use Rattle.wm_law.specs.Counts.{is_starting, is_waiting};
     ghost use Rattle.wm_law.specs.Reports.{hand, report, use_done, is_handed_to};
     ghost use Rattle.wm_law.specs.Machine.{apply};
 
     /// Hand: the Starting job of least serial is handed to the monitor. An `Err` leaves the state.
-    pub fn hand(&mut self, alloc: Global, monitor: u32) -> Result<Reply, NoMemory>
+    pub(crate) fn hand(&mut self, alloc: Global, monitor: u32) -> Result<Reply, NoMemory>
         ensures reply { IfOk result (λ r. r ≡ (hand self.old monitor).reply) }
         ensures state { OnOk result (self.new ≡ (hand self.old monitor).state) }
         ensures err { OnErr result (self.new ≡ self.old) }
     {
-        let Some(job) = self.first_starting() else {
+        let Some(job) = self.table.first_starting() else {
             return Ok(Reply::Nothing);
         };
         let serial = job.serial;
         let Some(order) = self.parts().order_of(alloc, job)? else {
             return Ok(Reply::Nothing);
         };
-        set_phase(&mut self.state.jobs, serial, Phase::Handed(monitor));
+        self.table.set_phase(serial, Phase::Handed(monitor));
         Ok(Reply::Order(Asked::Start(order)))
-    }
-
-    fn first_starting(&self) -> Option<&Job>
-        ensures { option_copied result ≡ find (λ j. is_starting j.phase) self.now.jobs }
-    {
-        self.state
-            .jobs
-            .as_slice()
-            .iter()
-            .find(|job| is_starting(&job.phase))
     }
 
     // A report on a job that was handed to the monitor, which it moves on.
     fn report_handed(&mut self, monitor: u32, serial: Serial, phase: Phase) -> Reply
+        requires waits { is_waiting phase ≡ false }
+        requires starts { is_starting phase ≡ false }
         ensures reply { result ≡ (report self.old serial (is_handed_to monitor) phase).reply }
         ensures state { self.new ≡ (report self.old serial (is_handed_to monitor) phase).state }
     {
-        let Some(job) = of_serial(self.state.jobs.as_slice(), serial) else {
+        let Some(job) = self.table.job(serial) else {
             return Reply::No(Refusal::NoJob);
         };
         if !is_handed_to(monitor, &job.phase) {
             return Reply::No(Refusal::WrongPhase(phase_word(&job.phase)));
         }
-        set_phase(&mut self.state.jobs, serial, phase);
+        self.table.set_phase(serial, phase);
         Reply::Noted
     }
 
     /// Started: the job that was handed to the monitor runs.
-    pub fn report_started(&mut self, monitor: u32, serial: Serial) -> Reply
+    pub(crate) fn report_started(&mut self, monitor: u32, serial: Serial) -> Reply
         ensures reply { result ≡ (apply self.old monitor (Call.Started serial)).reply }
         ensures state { self.new ≡ (apply self.old monitor (Call.Started serial)).state }
     {
@@ -108,7 +97,12 @@ impl Core {
     }
 
     /// StartFailed: the job that was handed to the monitor has ended.
-    pub fn report_start_failed(&mut self, monitor: u32, serial: Serial, cause: StartCause) -> Reply
+    pub(crate) fn report_start_failed(
+        &mut self,
+        monitor: u32,
+        serial: Serial,
+        cause: StartCause,
+    ) -> Reply
         ensures reply { result ≡ (apply self.old monitor (Call.StartFailed serial cause)).reply }
         ensures state { self.new ≡ (apply self.old monitor (Call.StartFailed serial cause)).state }
     {
@@ -116,25 +110,25 @@ impl Core {
     }
 
     /// Finished: the job that the monitor runs has ended.
-    pub fn report_finished(&mut self, monitor: u32, serial: Serial, exit: &Exit) -> Reply
+    pub(crate) fn report_finished(&mut self, monitor: u32, serial: Serial, exit: &Exit) -> Reply
         ensures reply { result ≡ (apply self.old monitor (Call.Finished serial exit.now)).reply }
         ensures state { self.new ≡ (apply self.old monitor (Call.Finished serial exit.now)).state }
     {
-        let Some(job) = of_serial(self.state.jobs.as_slice(), serial) else {
+        let Some(job) = self.table.job(serial) else {
             return Reply::No(Refusal::NoJob);
         };
         if !is_run_by(monitor, &job.phase) {
             return Reply::No(Refusal::WrongPhase(phase_word(&job.phase)));
         }
-        set_phase(&mut self.state.jobs, serial, Phase::Ended(end_cause(exit)));
+        self.table.set_phase(serial, Phase::Ended(end_cause(exit)));
         Reply::Noted
     }
 
     /// UseDone: no job has a request yet, so this is always refused.
-    pub fn report_use_done(&self, monitor: u32, serial: Serial) -> Reply
+    pub(crate) fn report_use_done(&self, monitor: u32, serial: Serial) -> Reply
         ensures { result ≡ (use_done self.now monitor serial).reply }
     {
-        match of_serial(self.state.jobs.as_slice(), serial) {
+        match self.table.job(serial) {
             None => Reply::No(Refusal::NoJob),
             Some(job) => {
                 if is_run_by(monitor, &job.phase) {

@@ -1,12 +1,14 @@
 // What settles after a call: ending subsystems leave, and the jobs start whose turn has come.
 ghost use Rattle.std.specs.Prelude.{◌≡◌, not, filter};
-ghost use Rattle.wm_law.specs.Settling.{is_ending, is_gone};
+ghost use Rattle.wm_law.specs.Settling.{is_ending};
+ghost use Rattle.wm_core.specs.Leaving.{is_gone_by};
 
-use crate::Core;
-use crate::jobs::{of_serial, set_launched};
-use wm_base::QName;
-use wm_law::{Candidate, Job, Launched, Sbs, SbsPhase};
-use wm_pick::count_in_sbs;
+use crate::Machine;
+use std::marker::Brand;
+use std::sync::ledger::{Blank, Ledger};
+use wm_base::{QName, Steps};
+use wm_law::{Candidate, Job, Launched, Sbs, SbsList, SbsPhase};
+use wm_tally::{Counted, Tally};
 
 fn is_ending(phase: &SbsPhase) -> bool
     ensures { result ≡ is_ending phase.now }
@@ -18,29 +20,35 @@ fn is_ending(phase: &SbsPhase) -> bool
 }
 
 // An ending subsystem with no active job.
-fn is_gone(jobs: &[Job], sbs: &Sbs) -> bool
-    ensures { result ≡ is_gone jobs.now sbs.now }
+fn is_gone(tally: &Tally, sbs: &Sbs) -> bool
+    ensures { result ≡ is_gone_by tally.now sbs.now }
 {
-    is_ending(&sbs.phase) && count_in_sbs(&sbs.sbsd, jobs) == 0
+    is_ending(&sbs.phase) && tally.count(&Counted::Sbs(sbs.sbsd)) == 0
 }
 
-fn leave(started: &mut Vec<Sbs>, jobs: &[Job])
-    ensures { started.new.items ≡ filter (λ b. not (is_gone jobs.now b)) started.old.items }
+fn leave_all(started: &mut Vec<Sbs>, tally: &Tally)
+    ensures { started.new.items ≡ filter (λ b. not (is_gone_by tally.now b)) started.old.items }
 {
-    started.retain(|sbs| !is_gone(jobs, sbs));
+    started.retain(|sbs| !is_gone(tally, sbs));
 }
 
-impl Core {
-    ghost use Rattle.std.specs.Prelude.{◌≡◌};
+fn leave(started: &mut SbsList, tally: &Tally)
+    ensures { started.new ≡ filter (λ b. not (is_gone_by tally.now b)) started.old }
+{
+    leave_all(&mut started.items, tally);
+}
+
+impl Machine {
+    ghost use Rattle.std.specs.Prelude.{◌≡◌, ◌<◌, Some};
     ghost use Rattle.wm_law.specs.Choice.{next};
     ghost use Rattle.wm_law.specs.Launch.{launched, launch};
     ghost use Rattle.wm_law.specs.Settling.{leave, start_jobs, settle};
 
     // The job that starts next.
-    fn next(&self) -> Option<Candidate>
+    fn next<L: Ledger>(&self, steps: &mut Steps<L>) -> Option<Candidate>
         ensures { result ≡ next self.now }
     {
-        self.parts().next()
+        self.parts().next(steps)
     }
 
     // What the launch of a job of a queue makes of it.
@@ -50,30 +58,42 @@ impl Core {
         self.parts().launched(sbs, queue, job)
     }
 
+    // The candidate is the next job, so it waits.
     fn launch(&mut self, candidate: &Candidate)
+        requires { next self.old ≡ Some candidate.now }
         ensures { self.new ≡ launch self.old candidate.now }
     {
-        let launched = match of_serial(self.state.jobs.as_slice(), candidate.serial) {
+        let launched = match self.table.job(candidate.serial) {
             None => return,
             Some(job) => self.launched(&candidate.sbs, &candidate.jobq, job),
         };
-        set_launched(&mut self.state.jobs, candidate.serial, &launched);
+        self.table.launch(candidate.serial, &launched);
     }
 
     // Each launch leaves one job less that waits.
-    fn start_jobs(&mut self)
+    fn start_jobs<L: Ledger>(&mut self, steps: &mut Steps<L>)
         ensures { self.new ≡ start_jobs self.old }
     {
-        while let Some(candidate) = self.next() {
+        while let Some(candidate) = self.next(steps) {
             self.launch(&candidate);
         }
+    }
+
+    fn settle_counted<L: Ledger>(&mut self, blank: Blank)
+        requires name { blank.name ≡ L.name }
+        requires parts { blank.parts ≡ L.parts }
+        requires some { 0 < blank.parts }
+        ensures { self.new ≡ settle self.old }
+    {
+        leave(&mut self.started, self.table.tally());
+        let mut steps = Steps::<L>::new(blank);
+        self.start_jobs(&mut steps);
     }
 
     /// Ending subsystems leave, and the jobs start whose turn has come.
     pub(crate) fn settle(&mut self)
         ensures { self.new ≡ settle self.old }
     {
-        leave(&mut self.state.started.items, self.state.jobs.as_slice());
-        self.start_jobs();
+        self.settle_counted::<Brand>(Blank::new(1));
     }
 }

@@ -1,11 +1,13 @@
 // SBMJOB: a job is made.
-ghost use Rattle.std.specs.Prelude.{◌≡◌, IfOk, unwrap_or};
+ghost use Rattle.std.specs.Prelude.{◌≡◌, IfOk, max, unwrap_or};
 ghost use Rattle.wm_law.specs.Submitting.{queue_of, or_described};
 
-use crate::Core;
+use crate::Machine;
 use crate::power::is_on;
 use std::alloc::Global;
-use wm_base::{How, JobName, JobNumber, Kind, Name, NoMemory, QName, Refusal, Serial, Text};
+use wm_base::{
+    How, JobName, JobNumber, Kind, Moment, Name, NoMemory, QName, Refusal, Serial, Text,
+};
 use wm_clwords::Request;
 use wm_desc::Jobd;
 use wm_law::{Job, JobKind, Phase, Reply, Sbmjob, Wish};
@@ -15,6 +17,13 @@ const NUMBERS_END: u32 = 1_000_000;
 
 /// All numbers from 1 to below this are serials, and places.
 const SERIALS_END: u64 = 1_000_000_000_000_000_000;
+
+// The later of two moments.
+fn later(a: Moment, b: Moment) -> Moment
+    ensures { result ≡ max a b }
+{
+    Moment::new(a.get().max(b.get()))
+}
 
 // The queue of a submitted job.
 fn queue_of(command: &Sbmjob, jobd: &Jobd) -> QName
@@ -53,17 +62,20 @@ fn routing_data_of(command: &Sbmjob, jobd: &Jobd) -> Result<Text, NoMemory>
     }
 }
 
-impl Core {
-    ghost use Rattle.std.specs.Prelude.{◌≡◌, OnOk, OnErr, IfOk, true};
+impl Machine {
+    ghost use Rattle.std.specs.Prelude.{◌≡◌, OnOk, OnErr, IfOk, is_some, true};
+    ghost use Rattle.wm_law.specs.Counts.{is_waiting};
+    ghost use Rattle.wm_law.specs.Machine.{with_clock};
+    ghost use Rattle.wm_core.specs.Clocked.{IsStill};
     ghost use Rattle.wm_law.specs.Submitting.{has_numbers, submit_refusal, submitted_job, entered, submit};
 
     fn has_numbers(&self) -> bool
         ensures { result ≡ has_numbers self.now }
     {
-        self.state.next_number >= 1
-            && self.state.next_number < NUMBERS_END
-            && self.state.next_serial < SERIALS_END
-            && self.state.next_place < SERIALS_END
+        self.next_number >= 1
+            && self.next_number < NUMBERS_END
+            && self.table.next_serial() < SERIALS_END
+            && self.table.next_place() < SERIALS_END
     }
 
     // Why a job can't be submitted with the description.
@@ -71,7 +83,6 @@ impl Core {
         ensures { result ≡ submit_refusal self.now command.now jobd.now }
     {
         if self
-            .state
             .objects
             .jobqs
             .object(&queue_of(command, jobd))
@@ -92,27 +103,28 @@ impl Core {
         user: &Name,
         command: &Sbmjob,
         jobd: &Jobd,
+        now: Moment,
     ) -> Result<Job, NoMemory>
         requires { has_numbers self.now ≡ true }
-        ensures { IfOk result (λ job. job ≡ submitted_job self.now user.now command.now jobd.now) }
+        ensures { IfOk result (λ job. job ≡ submitted_job (with_clock self.now now) user.now command.now jobd.now) }
     {
         let rtgdta = routing_data_of(command, jobd)?;
         let rqsdta = request_of(alloc, command, jobd)?;
         Ok(Job {
-            serial: Serial::new(self.state.next_serial),
+            serial: Serial::new(self.table.next_serial()),
             job: JobName {
-                number: JobNumber::new(self.state.next_number),
+                number: JobNumber::new(self.next_number),
                 user: *user,
                 name: command.job.unwrap_or(command.jobd.name),
             },
             kind: JobKind::Bch,
             jobq: Some(queue_of(command, jobd)),
             pty: command.jobpty.unwrap_or(jobd.pty),
-            place: self.state.next_place,
+            place: self.table.next_place(),
             rtgdta,
             rqsdta,
             held: command.hold.unwrap_or(jobd.hold),
-            due: self.state.clock,
+            due: later(self.table.clock(), now),
             phase: Phase::Waiting,
             how: How::NotYet,
             wish: Wish::NoWish,
@@ -123,39 +135,42 @@ impl Core {
 
     // The job goes last among the jobs, and its numbers are taken.
     fn enter(&mut self, job: Job) -> Result<(), NoMemory>
-        requires { has_numbers self.old ≡ true }
+        requires numbers { has_numbers self.old ≡ true }
+        requires waits { is_waiting job.phase ≡ true }
+        requires queue { is_some job.jobq ≡ true }
+        requires serial { job.serial ≡ self.old.next_serial }
+        requires place { job.place ≡ self.old.next_place }
         ensures ok { OnOk result (self.new ≡ entered self.old job) }
         ensures err { OnErr result (self.new ≡ self.old) }
     {
-        self.state.jobs.push(job)?;
-        self.state.next_number += 1;
-        self.state.next_serial += 1;
-        self.state.next_place += 1;
+        self.table.reserve(1)?;
+        self.table.push(job);
+        self.next_number += 1;
         Ok(())
     }
 
-    /// SBMJOB: a Waiting job.
+    /// SBMJOB: a Waiting job, which is due at the clock. The clock is set behind it.
     pub(crate) fn submit(
         &mut self,
         alloc: Global,
         user: &Name,
         command: &Sbmjob,
+        now: Moment,
     ) -> Result<Reply, NoMemory>
-        ensures reply { IfOk result (λ r. r ≡ (submit self.old user.now command.now).reply) }
-        ensures state { OnOk result (self.new ≡ (submit self.old user.now command.now).state) }
+        ensures ok { IfOk result (λ r. IsStill now r self.new (submit (with_clock self.old now) user.now command.now)) }
         ensures err { OnErr result (self.new ≡ self.old) }
     {
-        if !is_on(&self.state.power) {
+        if !is_on(&self.power) {
             return Ok(Reply::No(Refusal::PoweringDown));
         }
-        let Some(jobd) = self.state.objects.jobds.object(&command.jobd) else {
+        let Some(jobd) = self.objects.jobds.object(&command.jobd) else {
             return Ok(Reply::No(Refusal::NoObject(Kind::Jobd)));
         };
         if let Some(refusal) = self.submit_refusal(command, jobd) {
             return Ok(Reply::No(refusal));
         }
         let queue = queue_of(command, jobd);
-        let job = self.submitted_job(alloc, user, command, jobd)?;
+        let job = self.submitted_job(alloc, user, command, jobd, now)?;
         let name = job.job;
         self.enter(job)?;
         Ok(Reply::Submitted(name, queue))

@@ -1,5 +1,5 @@
 // STRSBS: a subsystem is started.
-use crate::Core;
+use crate::Machine;
 use crate::power::is_on;
 use wm_base::{Kind, Name, NoMemory, QName, Refusal};
 use wm_law::{Reply, Sbs, SbsPhase};
@@ -7,15 +7,14 @@ use wm_law::{Reply, Sbs, SbsPhase};
 /// How many subsystems may be started.
 const MAX_STARTED: usize = 32;
 
-impl Core {
+impl Machine {
     ghost use Rattle.std.specs.Prelude.{◌≡◌, OnOk, OnErr, IfOk};
     ghost use Rattle.wm_law.specs.Subsystems.{is_started, start_refusal, start_subsystem};
 
     fn is_started(&self, name: &Name) -> bool
         ensures { result ≡ is_started self.now name.now }
     {
-        self.state
-            .started
+        self.started
             .as_slice()
             .iter()
             .any(|sbs| sbs.sbsd.name == *name)
@@ -25,16 +24,16 @@ impl Core {
     fn start_refusal(&self, q: &QName) -> Option<Refusal>
         ensures { result ≡ start_refusal self.now q.now }
     {
-        if !is_on(&self.state.power) {
+        if !is_on(&self.power) {
             return Some(Refusal::PoweringDown);
         }
-        if self.state.objects.sbsds.object(q).is_none() {
+        if self.objects.sbsds.object(q).is_none() {
             return Some(Refusal::NoObject(Kind::Sbsd));
         }
         if self.is_started(&q.name) {
             return Some(Refusal::AlreadyActive);
         }
-        if self.state.started.len() >= MAX_STARTED {
+        if self.started.len() >= MAX_STARTED {
             return Some(Refusal::TableFull(Kind::Sbs, MAX_STARTED as u32));
         }
         None
@@ -49,7 +48,9 @@ impl Core {
         if let Some(refusal) = self.start_refusal(q) {
             return Ok(Reply::No(refusal));
         }
-        self.state.started.push(Sbs {
+        // The clock names the type of the moment that a subsystem's phase may have, which the borrow check asks for.
+        let _clock = self.table.clock();
+        self.started.push(Sbs {
             sbsd: *q,
             phase: SbsPhase::Active,
         })?;

@@ -12,13 +12,13 @@ use std::marker::Model;
 use std::snapshot::Snapshot;
 use wm_base::{Asked, Moment, NoMemory};
 use wm_core::{Core, Setup};
-use wm_law::{Call, Entry, Pending, State};
+use wm_law::{Call, Entry, Pending};
 
 /// The machine and its history. A contract sees it as the history. The state that it was opened with is kept for
 /// contracts alone, and takes no room.
 #[derive(Drop)]
 pub struct Floor {
-    opened: Snapshot<State>,
+    opened: Snapshot<Core>,
     core: Core,
     log: Vec<Entry>,
 }
@@ -43,7 +43,7 @@ impl Floor {
     {
         let core = Core::opening(alloc, setup)?;
         Ok(Floor {
-            opened: Snapshot::of(&core.state),
+            opened: Snapshot::of(&core),
             core,
             log: Vec::new(alloc),
         })

@@ -1,12 +1,18 @@
-// Which job starts next.
+// Which job starts next: the entries of a subsystem in the order of their numbers, and at each the heads of its queue.
 ghost use Rattle.std.specs.Prelude.{◌≡◌};
-ghost use Rattle.wm_law.specs.Choice.{better, maxpty_of, of_sbs};
+ghost use Rattle.std.specs.Ordering.{nat_cmp};
+ghost use Rattle.wm_desc.specs.Sorted.{IsSortedOnce};
+ghost use Rattle.wm_desc.specs.Table.{object_named};
+ghost use Rattle.wm_law.specs.Choice.{better, entry_for, maxpty_of};
+ghost use Rattle.wm_pick.specs.Heads.{is_same_entry, queues_in};
+ghost use Rattle.wm_pick.specs.Parts.{candidate_waiting};
 
 use crate::Parts;
-use crate::counts::{count_from_priority, count_from_queue, count_in_sbs, is_waiting};
-use wm_base::{Limit, Priority, QName};
-use wm_desc::{QueueEntry, Sbsd};
-use wm_law::{Candidate, Job, Rank, Sbs, SbsPhase};
+use std::sync::ledger::Ledger;
+use wm_base::{Limit, Priority, QName, Steps};
+use wm_desc::{Objects, QueueEntry, Sbsd};
+use wm_law::{Candidate, Rank, Sbs, SbsPhase};
+use wm_waiting::Waiter;
 
 // The one of two that stands before the other, the first where neither does.
 fn better(best: Option<Candidate>, other: Option<Candidate>) -> Option<Candidate>
@@ -19,16 +25,6 @@ fn better(best: Option<Candidate>, other: Option<Candidate>) -> Option<Candidate
     }
 }
 
-// The candidate, where it is of the subsystem.
-fn of_sbs(sbs: &QName, candidate: Option<Candidate>) -> Option<Candidate>
-    ensures { result ≡ of_sbs sbs.now candidate }
-{
-    match candidate {
-        Some(c) if c.sbs == *sbs => Some(c),
-        _ => None,
-    }
-}
-
 // An entry's limit for jobs of a priority.
 fn maxpty_of(entry: &QueueEntry, pty: Priority) -> Limit
     ensures { result ≡ maxpty_of entry.now pty }
@@ -36,28 +32,48 @@ fn maxpty_of(entry: &QueueEntry, pty: Priority) -> Limit
     entry.maxpty[usize::from(pty.get()) - 1]
 }
 
+// Whether the entry that its description has for its queue is this one.
+fn is_own_entry(description: &Sbsd, entry: &QueueEntry) -> bool
+    ensures { result ≡ is_same_entry entry.now (entry_for entry.now.jobq description.now) }
+{
+    match description.queues.for_queue(&entry.jobq) {
+        None => false,
+        Some(found) => found.seq == entry.seq,
+    }
+}
+
+// The queue entries of a subsystem's description.
+fn queues_of<'o>(objects: &'o Objects, sbs: &QName) -> &'o [QueueEntry]
+    ensures entries { result.now ≡ queues_in (object_named sbs.now objects.now.sbsds) }
+    ensures sorted { IsSortedOnce (λ e. e.seq) nat_cmp result.now }
+{
+    match objects.sbsds.object(sbs) {
+        None => &[],
+        Some(description) => description.queues.as_slice(),
+    }
+}
+
+// What a job that waits is as the candidate of a subsystem's entry.
+fn candidate_waiting(sbs: &QName, entry: &QueueEntry, waiter: &Waiter) -> Candidate
+    ensures { result ≡ candidate_waiting sbs.now entry.now waiter.now }
+{
+    Candidate {
+        rank: Rank {
+            sbs: sbs.name,
+            seq: entry.seq,
+            pty: waiter.pty,
+            place: waiter.place,
+        },
+        sbs: *sbs,
+        jobq: entry.jobq,
+        serial: waiter.serial,
+    }
+}
+
 impl<'a> Parts<'a> {
-    ghost use Rattle.std.specs.Prelude.{◌≡◌, None, fold};
-    ghost use Rattle.std.specs.Option.{option_copied};
-    ghost use Rattle.wm_law.specs.Choice.{is_held, is_ready, holder, has_entry, entry_for, is_allowed, candidate, candidate_from, candidate_in, first, next};
-
-    fn is_held(&self, queue: &QName) -> bool
-        ensures { result ≡ is_held self.now queue.now }
-    {
-        self.held.as_slice().iter().any(|q| q == queue)
-    }
-
-    fn is_ready(&self, job: &Job) -> bool
-        ensures { result ≡ is_ready self.now job.now }
-    {
-        is_waiting(&job.phase)
-            && !job.held
-            && match &job.jobq {
-                None => false,
-                Some(queue) => !self.is_held(queue),
-            }
-            && job.due <= self.clock
-    }
+    ghost use Rattle.std.specs.Prelude.{◌≡◌, ◌+◌, ◌*◌, ◌≤◌, length, option_copied};
+    ghost use Rattle.wm_law.specs.Choice.{has_entry, holder, first, next};
+    ghost use Rattle.wm_pick.specs.Heads.{started_named, takes_jobs, is_held_by, is_open, head_at, entry_head, open_head, first_head, first_by_heads, queues_of, IsOrderly};
 
     fn has_entry(&self, queue: &QName, sbs: &Sbs) -> bool
         ensures { result ≡ has_entry self.now queue.now sbs.now }
@@ -78,82 +94,151 @@ impl<'a> Parts<'a> {
             .find(|sbs| self.has_entry(queue, sbs))
     }
 
-    fn is_allowed(&self, sbs: &Sbs, description: &Sbsd, entry: &QueueEntry, pty: Priority) -> bool
-        ensures { result ≡ is_allowed self.now sbs.now description.now entry.now pty }
+    // The first started subsystem of a name.
+    fn started_named(&self, sbs: &QName) -> Option<&Sbs>
+        ensures { option_copied result ≡ started_named sbs.now self.now.started }
     {
-        let jobs = self.jobs.as_slice();
+        self.started.as_slice().iter().find(|b| b.sbsd == *sbs)
+    }
+
+    // The queue entries of a subsystem's description: what is lent is orderly there.
+    fn queues_of(&self, sbs: &QName) -> &[QueueEntry]
+        ensures entries { result.now ≡ queues_of self.now sbs.now }
+        ensures orderly { IsOrderly self.now sbs.now }
+    {
+        queues_of(self.objects, sbs)
+    }
+
+    fn takes_jobs(&self, sbs: &Sbs, description: &Sbsd) -> bool
+        ensures { result ≡ takes_jobs self.now sbs.now description.now }
+    {
         matches!(sbs.phase, SbsPhase::Active)
-            && description.maxjobs.admits(count_in_sbs(&sbs.sbsd, jobs))
+            && description
+                .maxjobs
+                .admits(self.count_in_sbs(&sbs.sbsd) as usize)
+    }
+
+    fn is_held_by(&self, sbs: &QName, queue: &QName) -> bool
+        ensures { result ≡ is_held_by sbs.now (holder self.now queue.now) }
+    {
+        match self.holder(queue) {
+            None => false,
+            Some(holder) => holder.sbsd == *sbs,
+        }
+    }
+
+    fn is_open(&self, sbs: &QName, description: &Sbsd, entry: &QueueEntry) -> bool
+        ensures { result ≡ is_open self.now sbs.now description.now entry.now }
+    {
+        self.is_held_by(sbs, &entry.jobq)
+            && is_own_entry(description, entry)
             && entry
                 .maxact
-                .admits(count_from_queue(&sbs.sbsd, &entry.jobq, jobs))
-            && maxpty_of(entry, pty).admits(count_from_priority(&sbs.sbsd, &entry.jobq, pty, jobs))
+                .admits(self.count_from_queue(sbs, &entry.jobq) as usize)
     }
 
-    fn candidate_from(
+    fn head_at<L: Ledger>(
         &self,
-        job: &Job,
-        sbs: &Sbs,
+        sbs: &QName,
+        entry: &QueueEntry,
+        pty: Priority,
+        steps: &mut Steps<L>,
+    ) -> Option<Candidate>
+        ensures head { result ≡ head_at self.now sbs.now entry.now pty }
+        ensures looks { steps.new ≤ steps.old + 1 }
+    {
+        let count = self.count_from_priority(sbs, &entry.jobq, pty) as usize;
+        if !maxpty_of(entry, pty).admits(count) {
+            return None;
+        }
+        let waiter = self.head(&entry.jobq, pty, steps)?;
+        Some(candidate_waiting(sbs, entry, &waiter))
+    }
+
+    // The head of an entry: that of the first priority that is below its limit and has one.
+    fn entry_head<L: Ledger>(
+        &self,
+        sbs: &QName,
+        entry: &QueueEntry,
+        steps: &mut Steps<L>,
+    ) -> Option<Candidate>
+        ensures head { result ≡ entry_head self.now sbs.now entry.now }
+        ensures looks { steps.new ≤ steps.old + 9 }
+    {
+        for pty in 1..10 {
+            let head = self.head_at(sbs, entry, Priority::new(pty), steps);
+            if head.is_some() {
+                return head;
+            }
+        }
+        None
+    }
+
+    fn open_head<L: Ledger>(
+        &self,
+        sbs: &QName,
         description: &Sbsd,
         entry: &QueueEntry,
+        steps: &mut Steps<L>,
     ) -> Option<Candidate>
-        ensures { result ≡ candidate_from self.now job.now sbs.now description.now (Some entry.now) }
+        ensures head { result ≡ open_head self.now sbs.now description.now entry.now }
+        ensures looks { steps.new ≤ steps.old + 9 }
     {
-        if !self.is_allowed(sbs, description, entry, job.pty) {
+        if !self.is_open(sbs, description, entry) {
             return None;
         }
-        Some(Candidate {
-            rank: Rank {
-                sbs: sbs.sbsd.name,
-                seq: entry.seq,
-                pty: job.pty,
-                place: job.place,
-            },
-            sbs: sbs.sbsd,
-            jobq: entry.jobq,
-            serial: job.serial,
-        })
+        self.entry_head(sbs, entry, steps)
     }
 
-    // The job as a candidate, where it is ready and allowed.
-    fn candidate(&self, job: &Job) -> Option<Candidate>
-        ensures { result ≡ candidate self.now job.now }
+    // The first open entry's head, in the order of the entries' numbers.
+    fn first_head<L: Ledger>(
+        &self,
+        sbs: &QName,
+        description: &Sbsd,
+        steps: &mut Steps<L>,
+    ) -> Option<Candidate>
+        ensures head { result ≡ first_head self.now sbs.now description.now }
+        ensures looks { steps.new ≤ steps.old + 9 * length description.now.queues }
     {
-        if !self.is_ready(job) {
-            return None;
+        for entry in description.queues.as_slice() {
+            let head = self.open_head(sbs, description, entry, steps);
+            if head.is_some() {
+                return head;
+            }
         }
-        let queue = job.jobq.as_ref()?;
-        let sbs = self.holder(queue)?;
+        None
+    }
+
+    fn first_by_heads<L: Ledger>(&self, sbs: &QName, steps: &mut Steps<L>) -> Option<Candidate>
+        ensures head { result ≡ first_by_heads self.now sbs.now }
+        ensures looks { steps.new ≤ steps.old + 9 * length (queues_of self.now sbs.now) }
+    {
+        let sbs = self.started_named(sbs)?;
         let description = self.objects.sbsds.object(&sbs.sbsd)?;
-        let entry = description.queues.for_queue(queue)?;
-        self.candidate_from(job, sbs, description, entry)
-    }
-
-    // The job as a candidate of a subsystem, where it is ready and allowed there.
-    fn candidate_in(&self, sbs: &QName, job: &Job) -> Option<Candidate>
-        ensures { result ≡ candidate_in self.now sbs.now job.now }
-    {
-        of_sbs(sbs, self.candidate(job))
-    }
-
-    /// The first of a subsystem: ready and allowed, and no other such job of it stands before it.
-    pub fn first(&self, sbs: &QName) -> Option<Candidate>
-        ensures { result ≡ first self.now sbs.now }
-    {
-        let mut best = None;
-        for job in self.jobs.as_slice() {
-            best = better(best, self.candidate_in(sbs, job));
+        if !self.takes_jobs(sbs, description) {
+            return None;
         }
-        best
+        self.first_head(&sbs.sbsd, description, steps)
+    }
+
+    /// The first of a subsystem: ready and allowed, and no other such job of it stands before it. It takes at most nine
+    /// looks at a head for each queue entry of the subsystem, and goes through no jobs.
+    pub fn first<L: Ledger>(&self, sbs: &QName, steps: &mut Steps<L>) -> Option<Candidate>
+        ensures first { result ≡ first self.now sbs.now }
+        ensures looks { steps.new ≤ steps.old + 9 * length (queues_of self.now sbs.now) }
+    {
+        // For what it tells of the order of entries and places.
+        self.queues_of(sbs);
+        self.first_by_heads(sbs, steps)
     }
 
     /// The job that starts next: the first of the started subsystem of least simple name that has one.
-    pub fn next(&self) -> Option<Candidate>
+    pub fn next<L: Ledger>(&self, steps: &mut Steps<L>) -> Option<Candidate>
         ensures { result ≡ next self.now }
     {
         let mut best = None;
         for sbs in self.started.as_slice() {
-            best = better(best, self.first(&sbs.sbsd));
+            best = better(best, self.first(&sbs.sbsd, steps));
         }
         best
     }

@@ -3,7 +3,6 @@ ghost use Rattle.std.specs.Prelude.{◌≡◌};
 ghost use Rattle.wm_law.specs.Launch.{requested, called_program, ends_by, starts_from};
 
 use crate::Parts;
-use crate::counts::count_by_route;
 use crate::routing::route;
 use wm_base::{EndCause, How, QName};
 use wm_clwords::Request;
@@ -74,8 +73,8 @@ impl<'a> Parts<'a> {
     fn route_fault(&self, sbs: &QName, entry: &RouteEntry, job: &Job) -> Option<EndCause>
         ensures { result ≡ route_fault self.now sbs.now entry.now job.now }
     {
-        let count = count_by_route(sbs, entry.seq, self.jobs.as_slice());
-        if entry.maxact.admits(count) {
+        let count = self.count_by_route(sbs, entry.seq);
+        if entry.maxact.admits(count as usize) {
             self.program_fault(called_program(entry, &job.rqsdta))
         } else {
             Some(EndCause::RouteFull(entry.seq))

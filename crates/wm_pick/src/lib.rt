@@ -3,15 +3,20 @@
 //! The contract for the layer above: `Parts::first` and `Parts::next` are the definitions `first` and `next` of
 //! `wm_law` (`specs/Choice.antt` there), `route` is `route`, `Parts::launched` and `Parts::order_of` are `launched` and
 //! `order_of` (`specs/Launch.antt`). A contract sees the parts as a state that has them (`specs/Parts.antt`).
+//!
+//! The definitions go over all jobs, and the code over none: it reads the jobs that wait and the tally, which are lent
+//! beside the jobs and are theirs (`IsLent`). `laws.rs` has what that rests on: the first of a subsystem is the head of its
+//! first open entry (`specs/Heads.antt`), and a tally has the counts of the jobs (`specs/Tallied.antt`).
 #![tactic(auto)]
 
 mod choice;
-mod counts;
 mod launch;
+mod laws;
+mod lent;
 mod order;
 mod parts;
 mod routing;
 
-pub use counts::{count_in_sbs, is_active, is_starting, is_waiting};
+pub use laws::{heads_are_first, tally_has_counts};
 pub use parts::Parts;
 pub use routing::{has_value, route};

@@ -6,6 +6,7 @@ pub mod Inputs
 pub mod InputLoops
 pub mod Causes
 pub mod Commands
+pub mod Laws
 pub mod Runs
 pub mod Servings
 pub mod Takings

@@ -3,6 +3,8 @@ ghost use Rattle.std.specs.Prelude.{◌≡◌, ◌≤◌, None, [], map, option_
 ghost use Rattle.std.specs.Io.KnownBytes.{IsAtEnd};
 ghost use Rattle.std.specs.List.{list_all};
 ghost use Rattle.wm_law.specs.History.{after, entries_of, IsLegal};
+ghost use Rattle.wm_law.specs.Limits.{KeepsLimits};
+ghost use Rattle.wm_law.specs.Order.{KeepsOrder};
 ghost use Rattle.wm_law.specs.Pending.{active};
 ghost use Rattle.wm_outside.specs.Cause.{raised};
 ghost use Rattle.wm_run.specs.Outcome.{RunCame};
@@ -136,6 +138,7 @@ impl Run {
 /// Status 0 and 1 come where the whole input was taken and every job has ended, 1 where a line got a fault or a refusal;
 /// 2 where the words are others; 3 where the input couldn't be read, 4 where the output couldn't be written, 6 for want
 /// of memory, 8 where the spawner couldn't kill or look, and 11 where the input has more than 1,000,000,000 bytes.
+#[tactic(auto, using(crate::proofs::Laws::limits_kept, crate::proofs::Laws::order_kept))]
 pub fn run<I: Source, O: Sink, P: Spawner, C: Clock, R: Wait>(
     rt: &R,
     alloc: Global,
@@ -148,6 +151,8 @@ pub fn run<I: Source, O: Sink, P: Spawner, C: Clock, R: Wait>(
     ensures words { is_run (map string_bytes words.now) ≡ false → result.status ≡ 2 }
     ensures run { is_run (map string_bytes words.now) ≡ true → result.status ≡ 2 → ⊥ }
     ensures legal { IsLegal opened_by_run result.log.items }
+    ensures limits { KeepsLimits opened_by_run result.log.items }
+    ensures order { KeepsOrder opened_by_run result.log.items }
     ensures callers { list_all is_of_run result.log.items ≡ true }
     ensures served { IsServed result.log.items (option_to_list result.kept) (P.asked spawner.old) (P.asked spawner.new) (P.told spawner.old) (P.told spawner.new) (P.misses spawner.old) (P.misses spawner.new) }
     ensures input { TakesInput (I.left input.old) (I.left input.new) (λ bytes. RunCame bytes result.status

@@ -1,8 +1,8 @@
 // The questions by their first word.
 use crate::list::write_sorted;
-use crate::machine::Machine;
 use crate::object::{write_copied, write_objects};
 use crate::shown::write_state;
+use crate::tested::Tested;
 use crate::text::first_word;
 use anyhow::Result;
 use std::alloc::Global;
@@ -19,15 +19,18 @@ fn write_opening(alloc: Global, answer: &mut String) -> Result<()> {
     Ok(())
 }
 
-impl Machine {
+impl Tested {
     // Adds what is shown of the objects, or else of the state.
     fn show(&self, words: &str, answer: &mut String) -> Result<()> {
         let (what, name) = first_word(words);
         match what {
             "jobs" | "next" | "holder" | "pending" | "power" => write_state(
-                &self.core, what, name, answer,
+                &self.machine,
+                what,
+                name,
+                answer,
             ),
-            _ => write_objects(&self.core.state.objects, what, name, answer),
+            _ => write_objects(&self.machine.objects, what, name, answer),
         }
     }
 
@@ -41,16 +44,16 @@ impl Machine {
             "times" => self.times(words, answer),
             "built" => self.built(words, answer),
             "opening" => write_opening(self.alloc, answer),
-            "copy" => write_copied(&self.core.state.objects, answer),
+            "copy" => write_copied(&self.machine.objects, answer),
             "list" => write_sorted(self.alloc, words, answer),
             _ => self.command(question, answer),
         }
     }
 }
 
-impl Subject for Machine {
+impl Subject for Tested {
     fn begin(&mut self) -> Result<()> {
-        *self = Machine::new(self.alloc)?;
+        *self = Tested::new(self.alloc)?;
         Ok(())
     }
 

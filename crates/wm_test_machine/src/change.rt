@@ -9,7 +9,7 @@ use std::alloc::Global;
 use wm_base::Name;
 use wm_clwords::read_command;
 use wm_command::{Line, command};
-use wm_core::{Core, built};
+use wm_core::{Machine, built};
 use wm_law::{Call, Command, EndOption, Pwrdwnsys, Sbmjob};
 use wm_when::{DateSpec, TimeSpec};
 
@@ -22,21 +22,21 @@ pub fn line_of(alloc: Global, user: &Name, text: &str) -> Result<Line>
     Ok(line)
 }
 
-fn has_submission(core: &Core, command: &Sbmjob) -> bool
-    ensures { IsTrue result → HasCommand core.now (IsSbmjob command.now) }
+fn has_submission(machine: &Machine, command: &Sbmjob) -> bool
+    ensures { IsTrue result → HasCommand machine.now (IsSbmjob command.now) }
 {
     matches!(command.scddate, DateSpec::Current) && matches!(command.scdtime, TimeSpec::Current)
 }
 
-fn has_power_down(core: &Core, command: &Pwrdwnsys) -> bool
-    ensures { IsTrue result → HasCommand core.now (IsPwrdwnsys command.now) }
+fn has_power_down(machine: &Machine, command: &Pwrdwnsys) -> bool
+    ensures { IsTrue result → HasCommand machine.now (IsPwrdwnsys command.now) }
 {
-    matches!(command.option, EndOption::Immed) && core.pending().active == 0
+    matches!(command.option, EndOption::Immed) && machine.pending().active == 0
 }
 
 // Whether the machine has the command.
-fn has_command(core: &Core, command: &Command) -> bool
-    ensures { IsTrue result → HasCommand core.now command.now }
+fn has_command(machine: &Machine, command: &Command) -> bool
+    ensures { IsTrue result → HasCommand machine.now command.now }
 {
     match command {
         Command::Crtcls(_) => true,
@@ -49,18 +49,18 @@ fn has_command(core: &Core, command: &Command) -> bool
         Command::Rmvjobqe(_) => true,
         Command::Rmvrtge(_) => true,
         Command::Strsbs(_) => true,
-        Command::Sbmjob(command) => has_submission(core, command),
-        Command::Pwrdwnsys(command) => has_power_down(core, command),
+        Command::Sbmjob(command) => has_submission(machine, command),
+        Command::Pwrdwnsys(command) => has_power_down(machine, command),
         _ => false,
     }
 }
 
 /// Whether the machine has the call.
-pub fn has_call(core: &Core, call: &Call) -> bool
-    ensures { IsTrue result → HasCall core.now call.now }
+pub fn has_call(machine: &Machine, call: &Call) -> bool
+    ensures { IsTrue result → HasCall machine.now call.now }
 {
     match call {
-        Call::Change { command, .. } => has_command(core, command),
+        Call::Change { command, .. } => has_command(machine, command),
         _ => true,
     }
 }

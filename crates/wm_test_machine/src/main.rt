@@ -1,7 +1,7 @@
 //! The cases of the machine and of its objects: what each command, each monitor's call and each refusal comes to.
 //!
 //! The cases are the texts of `data/`, which `wm_cases` plays: a question is a CL text, which is called on a
-//! `wm_core::Core`, or one of the words of `asked`. Each case begins with the state of an empty store, by the user
+//! `wm_core::Machine`, or one of the words of `asked`. Each case begins with the state of an empty store, by the user
 //! QUSER, at the moment 1000. What is printed, and what must be printed, is the number of answers of each file.
 #![tactic(auto)]
 
@@ -9,17 +9,17 @@ mod asked;
 mod change;
 mod entry;
 mod list;
-mod machine;
 mod monitor;
 mod object;
 mod reply;
 mod set;
 mod shown;
+mod tested;
 mod text;
 mod times;
 
 use anyhow::Result;
-use machine::Machine;
+use tested::Tested;
 use wm_cases::play;
 
 /// The files of cases.
@@ -34,9 +34,9 @@ static FILES: [&str; 7] = [
 ];
 
 fn main(rt: HostRuntime) -> Result<()> {
-    let mut machine = Machine::new(rt.alloc())?;
+    let mut tested = Tested::new(rt.alloc())?;
     for file in &FILES {
-        play(&rt, file, &mut machine)?;
+        play(&rt, file, &mut tested)?;
     }
     Ok(())
 }

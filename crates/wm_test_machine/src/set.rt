@@ -1,6 +1,6 @@
 // What no command makes, set by a word.
-use crate::machine::Machine;
-use crate::text::{first_word, moment_of, name_of, number_of, qname_of};
+use crate::tested::Tested;
+use crate::text::{first_word, name_of, number_of, qname_of};
 use anyhow::{Context, Result, bail};
 use wm_desc::Objects;
 use wm_law::{Power, Sbs, SbsPhase};
@@ -14,16 +14,15 @@ fn power_of(word: &str) -> Result<Power> {
     }
 }
 
-impl Machine {
-    /// Sets what the first word says: `user`, `objects none`, `number`, `clock`, `power` or `started`.
+impl Tested {
+    /// Sets what the first word says: `user`, `objects none`, `number`, `power` or `started`.
     pub fn set(&mut self, words: &str) -> Result<()> {
         let (what, value) = first_word(words);
         match what {
             "user" => self.user = name_of(value)?,
-            "objects" => self.core.state.objects = Objects::new(self.alloc),
-            "number" => self.core.state.next_number = u32::try_from(number_of(value)?)?,
-            "clock" => self.core.state.clock = moment_of(value)?,
-            "power" => self.core.state.power = power_of(value)?,
+            "objects" => self.machine.objects = Objects::new(self.alloc),
+            "number" => self.machine.next_number = u32::try_from(number_of(value)?)?,
+            "power" => self.machine.power = power_of(value)?,
             "started" => self.set_started(value)?,
             _ => bail!("nothing to be set"),
         }
@@ -33,7 +32,9 @@ impl Machine {
     // A subsystem stands last among the started ones.
     fn set_started(&mut self, sbsd: &str) -> Result<()> {
         let sbsd = qname_of(sbsd).context("no qualified name")?;
-        self.core.state.started.push(Sbs {
+        // The clock names the type of the moment that a subsystem's phase may have, which the borrow check asks for.
+        let _clock = self.machine.jobs().clock();
+        self.machine.started.push(Sbs {
             sbsd,
             phase: SbsPhase::Active,
         })?;

@@ -1,10 +1,14 @@
 // The state, as text.
+ghost use Rattle.std.specs.Prelude.{◌≡◌, ◌<◌};
+
 use crate::text::qname_of;
 use anyhow::{Context, Result, bail};
 use std::alloc::AllocError;
-use wm_core::Core;
-use wm_law::{Job, Phase, Power, State};
-use wm_pick::Parts;
+use std::marker::Brand;
+use std::sync::ledger::{Blank, Ledger};
+use wm_base::Steps;
+use wm_core::Machine;
+use wm_law::{Candidate, Job, Phase, Power};
 
 fn write_phase(phase: &Phase, answer: &mut String) -> Result<(), AllocError> {
     match phase {
@@ -22,43 +26,41 @@ fn write_job(job: &Job, answer: &mut String) -> Result<(), AllocError> {
     answer.push('\n')
 }
 
-fn write_jobs(state: &State, answer: &mut String) -> Result<()> {
-    for job in state.jobs.as_slice() {
+fn write_jobs(machine: &Machine, answer: &mut String) -> Result<()> {
+    for job in machine.jobs().jobs() {
         write_job(job, answer)?;
     }
     Ok(())
 }
 
-// The parts that a choice looks at.
-fn parts(state: &State) -> Parts<'_> {
-    Parts {
-        objects: &state.objects,
-        jobs: &state.jobs,
-        started: &state.started,
-        held: &state.held,
-        clock: state.clock,
-    }
+// The next job, whose looks nobody counts.
+fn next<L: Ledger>(machine: &Machine, blank: Blank) -> Option<Candidate>
+    requires name { blank.name ≡ L.name }
+    requires parts { blank.parts ≡ L.parts }
+    requires some { 0 < blank.parts }
+{
+    machine.parts().next(&mut Steps::<L>::new(blank))
 }
 
-fn write_next(state: &State, answer: &mut String) -> Result<()> {
-    match parts(state).next() {
+fn write_next(machine: &Machine, answer: &mut String) -> Result<()> {
+    match next::<Brand>(machine, Blank::new(1)) {
         None => answer.push_str("NONE\n")?,
         Some(candidate) => writeln!(answer, "{}", candidate.serial)?,
     }
     Ok(())
 }
 
-fn write_holder(state: &State, queue: &str, answer: &mut String) -> Result<()> {
+fn write_holder(machine: &Machine, queue: &str, answer: &mut String) -> Result<()> {
     let queue = qname_of(queue).context("no qualified name")?;
-    match parts(state).holder(&queue) {
+    match machine.parts().holder(&queue) {
         None => answer.push_str("NONE\n")?,
         Some(sbs) => writeln!(answer, "{}", sbs.sbsd)?,
     }
     Ok(())
 }
 
-fn write_pending(core: &Core, answer: &mut String) -> Result<()> {
-    let pending = core.pending();
+fn write_pending(machine: &Machine, answer: &mut String) -> Result<()> {
+    let pending = machine.pending();
     write!(
         answer,
         "ACTIVE {} STARTING {} DUE ",
@@ -71,26 +73,25 @@ fn write_pending(core: &Core, answer: &mut String) -> Result<()> {
     Ok(())
 }
 
-fn write_power(state: &State, answer: &mut String) -> Result<()> {
-    let power = match state.power {
+fn write_power(machine: &Machine, answer: &mut String) -> Result<()> {
+    let power = match machine.power {
         Power::On => "ON",
         Power::Down => "DOWN",
         Power::DownNow => "DOWNNOW",
     };
-    writeln!(answer, "{power} STARTED {}", state.started.len())?;
+    writeln!(answer, "{power} STARTED {}", machine.started.len())?;
     Ok(())
 }
 
 /// Adds what the word says: the `jobs` by serial, the `next` one, the `holder` of a queue, what is `pending`, or the
 /// `power` and how many subsystems are started.
-pub fn write_state(core: &Core, what: &str, name: &str, answer: &mut String) -> Result<()> {
-    let state = &core.state;
+pub fn write_state(machine: &Machine, what: &str, name: &str, answer: &mut String) -> Result<()> {
     match what {
-        "jobs" => write_jobs(state, answer),
-        "next" => write_next(state, answer),
-        "holder" => write_holder(state, name, answer),
-        "pending" => write_pending(core, answer),
-        "power" => write_power(state, answer),
+        "jobs" => write_jobs(machine, answer),
+        "next" => write_next(machine, answer),
+        "holder" => write_holder(machine, name, answer),
+        "pending" => write_pending(machine, answer),
+        "power" => write_power(machine, answer),
         _ => bail!("nothing to be shown"),
     }
 }

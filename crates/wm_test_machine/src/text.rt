@@ -1,6 +1,6 @@
 // What words of questions say.
 use anyhow::{Context, Result};
-use wm_base::{Moment, Name, QName};
+use wm_base::{Name, QName};
 
 /// The first word, and what stands behind it.
 pub fn first_word(words: &str) -> (&str, &str) {
@@ -27,9 +27,4 @@ pub fn qname_of(word: &str) -> Option<QName> {
 pub fn number_of(word: &str) -> Result<u64> {
     let number = word.parse::<u64>().context(format_args!("{word}"))?;
     Ok(number)
-}
-
-pub fn moment_of(word: &str) -> Result<Moment> {
-    let seconds = number_of(word)?;
-    Ok(Moment::new(seconds.min(Moment::MAX)))
 }

@@ -1,5 +1,5 @@
 // A question with each number of a range.
-use crate::machine::Machine;
+use crate::tested::Tested;
 use crate::text::{first_word, number_of};
 use anyhow::Result;
 use std::alloc::Global;
@@ -39,7 +39,7 @@ fn numbered(alloc: Global, text: &str, number: u64) -> Result<String> {
     Ok(text)
 }
 
-impl Machine {
+impl Tested {
     // Sets something, or calls a command.
     fn set_or_call(&mut self, question: &str, answer: &mut String) -> Result<()> {
         match question.strip_prefix("set ") {

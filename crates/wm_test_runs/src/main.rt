@@ -18,5 +18,7 @@ fn main(rt: HostRuntime) -> Result<()> {
     let mut runs = Runs::new(&rt, rt.alloc())?;
     play(&rt, "scripts.txt", &mut runs)?;
     play(&rt, "faults.txt", &mut runs)?;
-    play(&rt, "reports.txt", &mut runs)
+    play(&rt, "reports.txt", &mut runs)?;
+    play(&rt, "limits.txt", &mut runs)?;
+    play(&rt, "order.txt", &mut runs)
 }

@@ -5,4 +5,4 @@ use Rattle.wm_pick.proofs.parts.Parts.next.Given as goal
 
 -- the best of the subsystems so far
 abbrev pub invariant-loop-sbs : goal.invariant-loop-sbs
-invariant-loop-sbs l = l.best ≡ fold (λ best b. better best (first l.self b.sbsd)) None (take l.sbs-index l.sbs-items)
+invariant-loop-sbs g l = l.best ≡ fold (λ best b. better best (first l.self b.sbsd)) None (take l.sbs-index l.sbs-items)

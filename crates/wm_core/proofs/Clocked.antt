@@ -1,0 +1,118 @@
+-- Calls other than SBMJOB don't look at the clock: it may be set before them or after them.
+use Rattle.std.proofs.Common.{◌≡◌, ℕ, Bool, true, false, cond, Option, Some, None, List, refl, ap, ◌∙◌, ◌==◌}
+use Rattle.wm_base.specs.declared.qname.QName.{QName}
+use Rattle.wm_base.specs.declared.job.StartOrder.{StartOrder}
+use Rattle.wm_base.specs.declared.refusal.Refusal.{Refusal}
+use Rattle.wm_base.specs.declared.job.EndCause.TheVariants as cause
+use Rattle.wm_law.specs.declared.call.Call.{Call}
+use Rattle.wm_law.specs.declared.call.Reply.{Reply}
+use Rattle.wm_law.specs.declared.call.Call.TheVariants.{Change, Hand, Started, StartFailed, Finished, UseDone, Tick}
+use Rattle.wm_law.specs.declared.command.Command.{Command}
+use Rattle.wm_law.specs.declared.command.Command.TheVariants as command
+use Rattle.wm_law.specs.declared.job.Job.{Job}
+use Rattle.wm_law.specs.declared.job.Phase.TheVariants.{Running, Ended}
+use Rattle.wm_law.specs.declared.job.Phase.{Phase}
+use Rattle.wm_law.specs.declared.state.State.{State}
+use Rattle.wm_law.specs.Launch.{order_of}
+use Rattle.wm_law.specs.Machine.{apply, change, with_clock}
+use Rattle.wm_law.specs.Power.{power_down, is_down_now}
+use Rattle.wm_law.specs.Reports.{done_with, end_cause, is_handed_to, hand, hand_job, hand_order, is_run_by, report, report_on, use_done}
+use Rattle.wm_law.specs.Subsystems.{start_refusal, start_subsystem, start_unless}
+use Rattle.wm_law.specs.Stepped.{Stepped}
+use Rattle.wm_core.specs.Clocked.{IsLate, IsStill, is_submission, is_submitting}
+use Rattle.std.specs.List.{find}
+use Rattle.std.specs.Prelude.{IfOk, OnOk, Result, Ok, Err}
+
+started_by : (s : State) (now : ℕ) (q : QName) (o : Option Refusal) → IsLate now (start_unless s q o) (start_unless (with_clock s now) q o)
+started_by s now q None = record { says = refl; leaves = refl }
+started_by s now q (Some x) = record { says = refl; leaves = refl }
+
+pub start_is_late : (s : State) (now : ℕ) (q : QName) → IsLate now (start_subsystem s q) (start_subsystem (with_clock s now) q)
+start_is_late s now q = started_by s now q (start_refusal s q)
+
+downed_by : (s : State) (now : ℕ) (b : Bool) (t u : Stepped) (v w : Stepped) → IsLate now t v → IsLate now u w → IsLate now (cond b t u) (cond b v w)
+downed_by s now true t u v w h k = h
+downed_by s now false t u v w h k = k
+
+pub power_is_late : (s : State) (now : ℕ) → IsLate now (power_down s) (power_down (with_clock s now))
+power_is_late s now = downed_by s now (is_down_now s.power) _ _ _ _ (record { says = refl; leaves = refl }) (record { says = refl; leaves = refl })
+
+ordered_by : (s : State) (now m : ℕ) (j : Job) (o : Option StartOrder) → IsLate now (hand_order s m j o) (hand_order (with_clock s now) m j o)
+ordered_by s now m j None = record { says = refl; leaves = refl }
+ordered_by s now m j (Some o) = record { says = refl; leaves = refl }
+
+handed_by : (s : State) (now m : ℕ) (o : Option Job) → IsLate now (hand_job s m o) (hand_job (with_clock s now) m o)
+handed_by s now m None = record { says = refl; leaves = refl }
+handed_by s now m (Some j) = ordered_by s now m j (order_of s j)
+
+pub hand_is_late : (s : State) (now m : ℕ) → IsLate now (hand s m) (hand (with_clock s now) m)
+hand_is_late s now m = handed_by s now m _
+
+reported_by : (s : State) (now serial : ℕ) (test : Phase → Bool) (phase : Phase) (o : Option Job) → IsLate now (report_on s serial test phase o) (report_on (with_clock s now) serial test phase o)
+reported_by s now serial test phase None = record { says = refl; leaves = refl }
+reported_by s now serial test phase (Some j) = downed_by s now (test j.phase) _ _ _ _ (record { says = refl; leaves = refl }) (record { says = refl; leaves = refl })
+
+pub report_is_late : (s : State) (now serial : ℕ) (test : Phase → Bool) (phase : Phase) → IsLate now (report s serial test phase) (report (with_clock s now) serial test phase)
+report_is_late s now serial test phase = reported_by s now serial test phase (find (λ j. j.serial == serial) s.jobs)
+
+done_by : (s : State) (now m : ℕ) (o : Option Job) → IsLate now (done_with s m o) (done_with (with_clock s now) m o)
+done_by s now m None = record { says = refl; leaves = refl }
+done_by s now m (Some j) = downed_by s now (is_run_by m j.phase) _ _ _ _ (record { says = refl; leaves = refl }) (record { says = refl; leaves = refl })
+
+pub use_is_late : (s : State) (now m serial : ℕ) → IsLate now (use_done s m serial) (use_done (with_clock s now) m serial)
+use_is_late s now m serial = done_by s now m (find (λ j. j.serial == serial) s.jobs)
+
+-- a command that isn't SBMJOB comes to the same before the clock is set
+change_is_late : (s : State) (now : ℕ) (user : List ℕ) (c : Command) → is_submission c ≡ false → IsLate now (change s user c) (change (with_clock s now) user c)
+change_is_late s now user (command.Crtcls c) other = record { says = refl; leaves = refl }
+change_is_late s now user (command.Crtjobq c) other = record { says = refl; leaves = refl }
+change_is_late s now user (command.Crtpgmref c) other = record { says = refl; leaves = refl }
+change_is_late s now user (command.Crtjobd c) other = record { says = refl; leaves = refl }
+change_is_late s now user (command.Crtsbsd c) other = record { says = refl; leaves = refl }
+change_is_late s now user (command.Addjobqe c) other = record { says = refl; leaves = refl }
+change_is_late s now user (command.Addrtge c) other = record { says = refl; leaves = refl }
+change_is_late s now user (command.Addaje c) other = record { says = refl; leaves = refl }
+change_is_late s now user (command.Addpje c) other = record { says = refl; leaves = refl }
+change_is_late s now user (command.Rmvjobqe c) other = record { says = refl; leaves = refl }
+change_is_late s now user (command.Rmvrtge c) other = record { says = refl; leaves = refl }
+change_is_late s now user (command.Rmvaje c) other = record { says = refl; leaves = refl }
+change_is_late s now user (command.Rmvpje c) other = record { says = refl; leaves = refl }
+change_is_late s now user (command.Strsbs c) other = start_is_late s now c.sbsd
+change_is_late s now user (command.Endsbs c) other = record { says = refl; leaves = refl }
+change_is_late s now user (command.Sbmjob c) other = absurd (cc)
+change_is_late s now user (command.Hldjob c) other = record { says = refl; leaves = refl }
+change_is_late s now user (command.Rlsjob c) other = record { says = refl; leaves = refl }
+change_is_late s now user (command.Chgjob c) other = record { says = refl; leaves = refl }
+change_is_late s now user (command.Endjob c) other = record { says = refl; leaves = refl }
+change_is_late s now user (command.Hldjobq c) other = record { says = refl; leaves = refl }
+change_is_late s now user (command.Rlsjobq c) other = record { says = refl; leaves = refl }
+change_is_late s now user (command.Clrjobq c) other = record { says = refl; leaves = refl }
+change_is_late s now user (command.Strpj c) other = record { says = refl; leaves = refl }
+change_is_late s now user (command.Endpj c) other = record { says = refl; leaves = refl }
+change_is_late s now user (command.Evoke c) other = record { says = refl; leaves = refl }
+change_is_late s now user (command.Enduse c) other = record { says = refl; leaves = refl }
+change_is_late s now user (command.Pwrdwnsys c) other = power_is_late s now
+
+-- and so does each other call
+pub apply_is_late : (s : State) (now caller : ℕ) (call : Call) → is_submitting call ≡ false → IsLate now (apply s caller call) (apply (with_clock s now) caller call)
+apply_is_late s now caller (Change user c) other = change_is_late s now user c other
+apply_is_late s now caller Hand other = hand_is_late s now caller
+apply_is_late s now caller (Started serial) other = report_is_late s now serial (is_handed_to caller) (Running caller)
+apply_is_late s now caller (StartFailed serial why) other = report_is_late s now serial (is_handed_to caller) (Ended (cause.StartFailed why))
+apply_is_late s now caller (Finished serial end) other = report_is_late s now serial (is_run_by caller) (Ended (end_cause end))
+apply_is_late s now caller (UseDone serial) other = use_is_late s now caller serial
+apply_is_late s now caller Tick other = record { says = refl; leaves = refl }
+
+-- what a call that isn't SBMJOB came to before the clock was set
+pub still : (s : State) (now caller : ℕ) (call : Call) (reply : Reply) (state : State) → is_submitting call ≡ false → reply ≡ (apply s caller call).reply → state ≡ (apply s caller call).state → IsStill now reply state (apply (with_clock s now) caller call)
+still s now caller call reply state other h k =
+    let late = apply_is_late s now caller call other in
+    record { says = h ∙ late.says; leaves = ap (λ (t : State). with_clock t now) k ∙ late.leaves }
+
+-- the same of an answer
+pub if_still : {E : Type 0} (o : Result Reply E) (s : State) (now caller : ℕ) (call : Call) (state : State) → is_submitting call ≡ false
+    → IfOk o (λ r. r ≡ (apply s caller call).reply)
+    → OnOk o (state ≡ (apply s caller call).state)
+    → IfOk o (λ r. IsStill now r state (apply (with_clock s now) caller call))
+if_still (Ok r) s now caller call state other h k = still s now caller call r state other h k
+if_still (Err e) s now caller call state other h k = h

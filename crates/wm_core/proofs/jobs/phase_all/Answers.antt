@@ -1,8 +1,0 @@
-use Rattle.std.proofs.Common.{arith}
-use Rattle.std.proofs.lemmas.Grind.{common_steps}
-use Rattle.std.proofs.lemmas.List.Edits.{map_over_more}
-use Rattle.wm_law.specs.Reports.{phased_at}
-use Rattle.wm_core.proofs.jobs.phase_all.Goals as goal
-
-pub loop-job-preserved : goal.loop-job-preserved
-loop-job-preserved c = grind (arith, common_steps, map_over_more (phased_at c.args.serial c.args.phase))

@@ -1,0 +1,7 @@
+pub mod AtEnd
+pub mod AtPlace
+pub mod Changes
+pub mod JobParts
+pub mod One
+pub mod Sifted
+pub mod Splits

@@ -1,0 +1,50 @@
+use Rattle.std.proofs.Common.{◌≡◌, ◌+◌, not, ◌&&◌, cond, true, is_some, refl, ap, ◌∙◌}
+use Rattle.wm_law.specs.declared.job.Job.{Job}
+use Rattle.wm_law.specs.Counts.{is_waiting}
+use Rattle.wm_law.specs.Launch.{as_launched}
+use Rattle.wm_law.specs.Pending.{is_prestart}
+use Rattle.wm_jobs.specs.Table.{serial_of}
+use Rattle.wm_jobs.proofs.Splits.{gap-unchanged}
+use Rattle.wm_jobs.proofs.Changes.{grows, few-hows}
+use Rattle.wm_jobs.proofs.AtPlace.{asked, launch-finds, launched-inside}
+use Rattle.wm_jobs.proofs.table.JobTable.launch.Goals as goal
+
+-- where no job has the serial, none is changed
+pub returns-in_default-clause-jobs : goal.returns-in_default-clause-jobs
+returns-in_default-clause-jobs c =
+    rw (← c.self.view_is) (gap-unchanged serial_of c.args.serial (as_launched c.args.launched.now) c.self.inside.jobs.items c.deref.result.now c.in_default.field-0 c.deref.ensures.value c.in_default.ensures)
+
+pub count_start-requires-clause-spare : goal.count_start-requires-clause-spare
+count_start-requires-clause-spare c =
+    let t = c.self.inside in
+    let x = c.index.result.now in
+    let had = asked t c.self.invariant c.args.serial c.in-Ok.at x c.deref.result.now c.deref.ensures.value c.in-Ok.ensures c.index.ensures (λ (j : Job). is_waiting j.phase ≡ true) c.args.self.now c.self.view_is c.requires.waits in
+    (launch-finds t c.self.invariant c.args.serial c.in-Ok.at x c.deref.result.now c.deref.ensures.value c.in-Ok.ensures c.index.ensures had).0
+
+pub count_start-requires-clause-few : goal.count_start-requires-clause-few
+count_start-requires-clause-few c = few-hows _ _ _ _ _ _ _ _ c.self.invariant.indexed c.self.invariant.room
+
+pub put_order-requires-clause-spare : goal.put_order-requires-clause-spare
+put_order-requires-clause-spare c =
+    let t = c.self.inside in
+    let x = c.index.result.now in
+    let had = asked t c.self.invariant c.args.serial c.in-Ok.at x c.deref.result.now c.deref.ensures.value c.in-Ok.ensures c.index.ensures (λ (j : Job). is_waiting j.phase ≡ true) c.args.self.now c.self.view_is c.requires.waits in
+    (launch-finds t c.self.invariant c.args.serial c.in-Ok.at x c.deref.result.now c.deref.ensures.value c.in-Ok.ensures c.index.ensures had).1
+
+pub put_order-requires-clause-new : goal.put_order-requires-clause-new
+put_order-requires-clause-new c =
+    let t = c.self.inside in
+    let x = c.index.result.now in
+    let had = asked t c.self.invariant c.args.serial c.in-Ok.at x c.deref.result.now c.deref.ensures.value c.in-Ok.ensures c.index.ensures (λ (j : Job). is_waiting j.phase ≡ true) c.args.self.now c.self.view_is c.requires.waits in
+    (launch-finds t c.self.invariant c.args.serial c.in-Ok.at x c.deref.result.now c.deref.ensures.value c.in-Ok.ensures c.index.ensures had).2
+
+pub invariant_of-self : goal.invariant_of-self
+invariant_of-self c =
+    let t = c.self.inside in
+    let x = c.index.result.now in
+    let had = asked t c.self.invariant c.args.serial c.in-Ok.at x c.deref.result.now c.deref.ensures.value c.in-Ok.ensures c.index.ensures (λ (j : Job). is_waiting j.phase ≡ true) c.args.self.now c.self.view_is c.requires.waits in
+    let more = grows (is_some c.remove.result) t.waiting.spare c.remove.new.self.spare c.remove.ensures.spare in
+    let active = c.more-self-inside.ensures ∙ ap (λ b. t.active + cond b 1 0) c.is_active-starts.ensures in
+    let busy = c.more-self-inside-2.ensures ∙ ap (λ b. t.busy + cond b 1 0) (c.counts_as_busy-busy.ensures ∙ ap (λ b. b && not (is_prestart x.kind)) c.is_active-starts.ensures) in
+    launched-inside t c.self.invariant c.args.serial c.in-Ok.at x c.deref.result.now c.deref.ensures.value c.in-Ok.ensures c.index.ensures c.args.launched.now had c.requires.phase _ c.launch_at.ensures.jobs refl refl refl c.launch_at.ensures.capacity
+    c.remove.ensures.items more c.count_start.ensures.hows c.count_start.ensures.spare c.put_order.ensures.items c.put_order.ensures.spare active busy

@@ -1,0 +1,54 @@
+use Rattle.std.proofs.Common.{◌≡◌, arith, refl, ap, length}
+use Rattle.wm_jobs.proofs.AtEnd.{few-waiters, reserved-inside}
+use Rattle.wm_jobs.proofs.table.JobTable.reserve.Goals as goal
+
+pub overflow_cast-launches : goal.overflow_cast-launches
+overflow_cast-launches c =
+    let few = few-waiters c.self.inside c.self.invariant in
+    let room = c.self.invariant.room.few in
+    let len = c.len-2.ensures.len in
+    omega arith
+
+pub overflow_add-launches : goal.overflow_add-launches
+overflow_add-launches c =
+    let few = few-waiters c.self.inside c.self.invariant in
+    let len = c.len-2.ensures.len in
+    omega arith
+
+pub invariant_of-self-in_err-reserve-3 : goal.invariant_of-self-in_err-reserve-3
+invariant_of-self-in_err-reserve-3 c =
+    let o = c.self.invariant.room in
+    let waits : length c.reserve-2.new.self.items ≡ length c.self.inside.waiting.items = ap length c.reserve-2.ensures.items in
+    let stand = o.to_stand in
+    let few = o.few in
+    let wait = o.to_wait in
+    let count = o.to_count in
+    let start = o.to_start in
+    reserved-inside c.self.inside c.self.invariant _ c.reserve.ensures.items c.reserve-2.ensures.items c.reserve-3.ensures.counts refl refl refl refl refl
+    (record { to_stand = omega arith; few = omega arith; to_wait = omega arith; to_count = omega arith; to_start = omega arith })
+
+pub invariant_of-self-in_err-reserve-4 : goal.invariant_of-self-in_err-reserve-4
+invariant_of-self-in_err-reserve-4 c =
+    let o = c.self.invariant.room in
+    let waits : length c.reserve-2.new.self.items ≡ length c.self.inside.waiting.items = ap length c.reserve-2.ensures.items in
+    let stand = o.to_stand in
+    let few = o.few in
+    let wait = o.to_wait in
+    let count = o.to_count in
+    let start = o.to_start in
+    reserved-inside c.self.inside c.self.invariant _ c.reserve.ensures.items c.reserve-2.ensures.items c.reserve-3.ensures.counts c.reserve-4.ensures.items refl refl refl refl
+    (record { to_stand = omega arith; few = omega arith; to_wait = omega arith; to_count = omega arith; to_start = omega arith })
+
+pub invariant_of-self-2 : goal.invariant_of-self-2
+invariant_of-self-2 c =
+    let o = c.self.invariant.room in
+    let waits : length c.reserve-2.new.self.items ≡ length c.self.inside.waiting.items = ap length c.reserve-2.ensures.items in
+    let stand = o.to_stand in
+    let few = o.few in
+    let wait = o.to_wait in
+    let count = o.to_count in
+    let start = o.to_start in
+    let waiters = few-waiters c.self.inside c.self.invariant in
+    let len = c.len-2.ensures.len in
+    reserved-inside c.self.inside c.self.invariant _ c.reserve.ensures.items c.reserve-2.ensures.items c.reserve-3.ensures.counts c.reserve-4.ensures.items refl refl refl refl
+    (record { to_stand = omega (arith, c.in_ok-reserve.ensures.ok); few = omega arith; to_wait = omega (arith, c.in_ok-reserve-2.ensures.ok); to_count = omega (arith, c.in_ok-reserve-3.ensures.ok); to_start = omega (arith, c.in_ok-reserve-4.ensures.ok) })

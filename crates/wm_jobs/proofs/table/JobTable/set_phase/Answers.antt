@@ -1,0 +1,47 @@
+use Rattle.std.proofs.Common.{◌≡◌, ◌+◌, not, ◌&&◌, cond, true, is_some, refl, ap, sym, ◌∙◌}
+use Rattle.wm_law.specs.declared.job.Job.{Job}
+use Rattle.wm_law.specs.Counts.{is_active}
+use Rattle.wm_law.specs.Pending.{is_prestart}
+use Rattle.wm_law.specs.Reports.{in_phase}
+use Rattle.wm_jobs.specs.Table.{serial_of}
+use Rattle.wm_jobs.proofs.Splits.{gap-unchanged}
+use Rattle.wm_jobs.proofs.Changes.{grows}
+use Rattle.wm_jobs.proofs.AtPlace.{asked, end-finds, phased-inside}
+use Rattle.wm_jobs.proofs.table.JobTable.set_phase.Goals as goal
+
+-- where no job has the serial, none is changed
+pub returns-in_default-clause-jobs : goal.returns-in_default-clause-jobs
+returns-in_default-clause-jobs c =
+    rw (← c.self.view_is) (gap-unchanged serial_of c.args.serial (in_phase c.args.phase) c.self.inside.jobs.items c.deref.result.now c.in_default.field-0 c.deref.ensures.value c.in_default.ensures)
+
+pub count_end-requires : goal.count_end-requires
+count_end-requires c =
+    let t = c.self.inside in
+    let x = c.index-job.result.now in
+    let had = asked t c.self.invariant c.args.serial c.in-Ok.at x c.deref.result.now c.deref.ensures.value c.in-Ok.ensures c.index-job.ensures (λ (j : Job). is_active j.phase ≡ true) c.args.self.now c.self.view_is c.requires.active in
+    (end-finds t c.self.invariant c.args.serial c.in-Ok.at x c.deref.result.now c.deref.ensures.value c.in-Ok.ensures c.index-job.ensures c.args.phase had).0
+
+pub fewer-self-inside-requires : goal.fewer-self-inside-requires
+fewer-self-inside-requires c =
+    let t = c.self.inside in
+    let x = c.index-job.result.now in
+    let had = asked t c.self.invariant c.args.serial c.in-Ok.at x c.deref.result.now c.deref.ensures.value c.in-Ok.ensures c.index-job.ensures (λ (j : Job). is_active j.phase ≡ true) c.args.self.now c.self.view_is c.requires.active in
+    rw c.is_active-ends.ensures (end-finds t c.self.invariant c.args.serial c.in-Ok.at x c.deref.result.now c.deref.ensures.value c.in-Ok.ensures c.index-job.ensures c.args.phase had).1
+
+pub fewer-self-inside-requires-2 : goal.fewer-self-inside-requires-2
+fewer-self-inside-requires-2 c =
+    let t = c.self.inside in
+    let x = c.index-job.result.now in
+    let had = asked t c.self.invariant c.args.serial c.in-Ok.at x c.deref.result.now c.deref.ensures.value c.in-Ok.ensures c.index-job.ensures (λ (j : Job). is_active j.phase ≡ true) c.args.self.now c.self.view_is c.requires.active in
+    rw (c.counts_as_busy-busy.ensures, c.is_active-ends.ensures) (end-finds t c.self.invariant c.args.serial c.in-Ok.at x c.deref.result.now c.deref.ensures.value c.in-Ok.ensures c.index-job.ensures c.args.phase had).2
+
+pub invariant_of-self : goal.invariant_of-self
+invariant_of-self c =
+    let t = c.self.inside in
+    let x = c.index-job.result.now in
+    let had = asked t c.self.invariant c.args.serial c.in-Ok.at x c.deref.result.now c.deref.ensures.value c.in-Ok.ensures c.index-job.ensures (λ (j : Job). is_active j.phase ≡ true) c.args.self.now c.self.view_is c.requires.active in
+    let more = grows (is_some c.remove.result) t.starting.spare c.remove.new.self.spare c.remove.ensures.spare in
+    let active = ap (λ b. c.fewer-self-inside.result + cond (not b) 1 0) (sym c.is_active-ends.ensures) ∙ c.fewer-self-inside.ensures in
+    let busy = ap (λ b. c.fewer-self-inside-2.result + cond b 1 0) (sym (c.counts_as_busy-busy.ensures ∙ ap (λ b. not b && not (is_prestart x.kind)) c.is_active-ends.ensures)) ∙ c.fewer-self-inside-2.ensures in
+    phased-inside t c.self.invariant c.args.serial c.in-Ok.at x c.deref.result.now c.deref.ensures.value c.in-Ok.ensures c.index-job.ensures c.args.phase had c.requires.not_waiting c.requires.not_starting _ c.phase_at.ensures.jobs refl refl refl c.phase_at.ensures.capacity
+    refl c.count_end.ensures.hows c.count_end.ensures.spare c.remove.ensures.items more active busy

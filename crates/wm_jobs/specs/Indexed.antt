@@ -1,0 +1,24 @@
+-- What jobs are found and counted by.
+use Rattle.std.specs.Prelude.{◌≡◌, ℕ, Bool, true, false, List, filter_map, Option, Some, None, if◌then◌else◌}
+use Rattle.wm_base.specs.declared.job.How.{How}
+use Rattle.wm_law.specs.declared.job.Job.{Job}
+use Rattle.wm_law.specs.Counts.{is_starting}
+use Rattle.wm_tally.specs.Tally.{Counts, AddsHow, TakesHow}
+
+-- a job that waits for a monitor, by its serial
+abbrev pub order_of : Job → Option (ℕ × Unit {0})
+order_of j = if is_starting j.phase then Some (j.serial, tt) else None
+
+-- the jobs that wait for a monitor, in the order of the jobs
+abbrev pub orders : List Job → List (ℕ × Unit {0})
+orders jobs = filter_map order_of jobs
+
+-- where an active job comes, the tally gains its how
+abbrev pub Starts : Bool → Counts → Counts → How → Type 0
+Starts true old new how = AddsHow old new how
+Starts false old new how = new ≡ old
+
+-- where a job is active no more, the tally loses its how
+abbrev pub Ends : Bool → Counts → Counts → How → Type 0
+Ends true old new how = new ≡ old
+Ends false old new how = TakesHow old new how

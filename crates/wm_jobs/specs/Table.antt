@@ -1,0 +1,37 @@
+-- What a contract sees of the table of jobs, and what is asked of it.
+use Rattle.std.specs.Prelude.{ℕ, Bool, not, ◌&&◌, nat_lt, List, count_by, fold, Option, None, if◌then◌else◌}
+use Rattle.wm_law.specs.declared.job.Job.{Job}
+use Rattle.wm_law.specs.Counts.{is_waiting, is_starting, is_active}
+use Rattle.wm_law.specs.Pending.{is_prestart, sooner}
+
+-- the jobs in the order of their serials, the moment up to which waiting jobs are due, the next serial and place, and for how many more jobs there is room
+pub record Table : Type 0 where
+  pub jobs : List Job
+  pub clock : ℕ
+  pub next_serial : ℕ
+  pub next_place : ℕ
+  pub spare : ℕ
+
+-- what jobs are sorted by
+abbrev pub serial_of : Job → ℕ
+serial_of j = j.serial
+
+-- whether it is active and no prestart job
+abbrev pub is_busy : Job → Bool
+is_busy j = is_active j.phase && not (is_prestart j.kind)
+
+-- how many are active
+abbrev pub active_in : List Job → ℕ
+active_in jobs = count_by (λ j. is_active j.phase) jobs
+
+-- how many active ones aren't prestart jobs
+abbrev pub busy_in : List Job → ℕ
+busy_in jobs = count_by is_busy jobs
+
+-- how many wait for a monitor
+abbrev pub starting_in : List Job → ℕ
+starting_in jobs = count_by (λ j. is_starting j.phase) jobs
+
+-- the least moment above the clock at which a Waiting job is due
+abbrev pub next_due_in : ℕ → List Job → Option ℕ
+next_due_in clock jobs = fold (λ least j. if is_waiting j.phase && nat_lt clock j.due then sooner least j.due else least) None jobs

@@ -1,0 +1,51 @@
+-- What lies in a table of jobs.
+use Rattle.std.specs.Prelude.{◌≡◌, ℕ, ◌+◌, ◌^◌, ◌<◌, ◌≤◌, true, is_some, List, length, All, vec_capacity}
+use Rattle.std.specs.Ordering.{nat_cmp}
+use Rattle.wm_desc.specs.Sorted.{IsSortedOnce}
+use Rattle.wm_law.specs.declared.job.Job.{Job}
+use Rattle.wm_law.specs.Counts.{is_waiting}
+use Rattle.wm_ordered.specs.Ordered.{Pairs}
+use Rattle.wm_tally.specs.Tally.{Counts, IsTally}
+use Rattle.wm_waiting.specs.Waiting.{Waiting}
+use Rattle.wm_pick.specs.Parts.{waiters}
+use Rattle.wm_pick.specs.Tallied.{hows}
+use Rattle.wm_jobs.specs.Indexed.{orders}
+use Rattle.wm_jobs.specs.Table.{Table, serial_of, active_in, busy_in}
+use Rattle.wm_jobs.specs.declared.table.JobTable.TheInside.{Inside}
+
+-- its serial and its place were given, and where it waits it does so on a queue
+pub record IsListed (next_serial next_place : ℕ) (j : Job) : Type 0 where
+  pub serial : j.serial < next_serial
+  pub place : j.place < next_place
+  pub queue : is_waiting j.phase ≡ true → is_some j.jobq ≡ true
+
+-- jobs in ascending order of their serials
+pub record AreListed (next_serial next_place : ℕ) (jobs : List Job) : Type 0 where
+  pub sorted : IsSortedOnce serial_of nat_cmp jobs
+  pub each : All (IsListed next_serial next_place) jobs
+
+-- what the jobs are found and counted by
+pub record IsIndexed (jobs : List Job) (waiting : Waiting) (tally : Counts) (starting : Pairs ℕ (Unit {0})) (active busy : ℕ) : Type 0 where
+  pub waiters_are : waiting.items ≡ waiters jobs
+  pub hows_are : IsTally (hows jobs) tally
+  pub orders_are : starting.items ≡ orders jobs
+  pub active_are : active ≡ active_in jobs
+  pub busy_are : busy ≡ busy_in jobs
+
+-- there is room for so many more jobs, and for the launch of each that waits
+pub record HasRoom (jobs capacity room : ℕ) (waiting : Waiting) (tally : Counts) (starting : Pairs ℕ (Unit {0})) : Type 0 where
+  pub to_stand : jobs + room ≤ capacity
+  pub few : jobs + room + 2 < 2 ^ 32
+  pub to_wait : room ≤ waiting.spare
+  pub to_count : length waiting.items + room ≤ tally.spare
+  pub to_start : length waiting.items + room ≤ starting.spare
+
+-- what a contract sees
+abbrev pub table_of : Inside → Table
+table_of t = record { jobs = t.jobs.items; clock = t.waiting.clock; next_serial = t.next_serial; next_place = t.next_place; spare = t.room }
+
+-- what lies in it agrees
+pub record IsTableInside (t : Inside) : Type 0 where
+  pub listed : AreListed t.next_serial t.next_place t.jobs.items
+  pub indexed : IsIndexed t.jobs.items t.waiting t.tally t.starting t.active t.busy
+  pub room : HasRoom (length t.jobs.items) (vec_capacity t.jobs) t.room t.waiting t.tally t.starting

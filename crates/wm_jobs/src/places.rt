@@ -1,0 +1,45 @@
+// Where a job stands, and its change there.
+ghost use Rattle.std.specs.Prelude.{◌≡◌, map, vec_capacity, MatchResult};
+ghost use Rattle.std.specs.Ordering.{nat_cmp};
+ghost use Rattle.wm_desc.specs.Place.{IsAt, IsGap};
+ghost use Rattle.wm_desc.specs.Sorted.{IsSortedOnce};
+ghost use Rattle.wm_law.specs.Launch.{launched_at};
+ghost use Rattle.wm_law.specs.Reports.{phased_at};
+ghost use Rattle.wm_jobs.specs.Table.{serial_of};
+
+use std::cmp::Ordering;
+use wm_base::Serial;
+use wm_law::{Job, Launched, Phase};
+
+/// Where the job of a serial stands, or where it would go.
+pub(crate) fn place(jobs: &[Job], serial: Serial) -> Result<usize, usize>
+    requires { IsSortedOnce serial_of nat_cmp jobs.now }
+    ensures { MatchResult result (IsAt serial_of nat_cmp serial jobs.now) (IsGap serial_of nat_cmp serial jobs.now) }
+{
+    jobs.binary_search_by(
+        |job: &Job| -> Ordering
+            ensures { result ≡ nat_cmp job.now.serial serial }
+        { job.serial.cmp(&serial) },
+    )
+}
+
+/// Makes of the job of a serial, which stands there, what its launch made of it.
+pub(crate) fn launch_at(jobs: &mut Vec<Job>, at: usize, serial: Serial, launched: &Launched)
+    requires { IsAt serial_of nat_cmp serial jobs.old.items at }
+    ensures jobs { jobs.new.items ≡ map (launched_at serial launched.now) jobs.old.items }
+    ensures capacity { vec_capacity jobs.new ≡ vec_capacity jobs.old }
+{
+    let job = &mut jobs[at];
+    job.phase = launched.phase;
+    job.how = launched.how;
+}
+
+/// Puts the job of a serial, which stands there, into a phase.
+pub(crate) fn phase_at(jobs: &mut Vec<Job>, at: usize, serial: Serial, phase: Phase)
+    requires { IsAt serial_of nat_cmp serial jobs.old.items at }
+    ensures jobs { jobs.new.items ≡ map (phased_at serial phase) jobs.old.items }
+    ensures capacity { vec_capacity jobs.new ≡ vec_capacity jobs.old }
+{
+    let job = &mut jobs[at];
+    job.phase = phase;
+}

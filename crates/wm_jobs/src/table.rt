@@ -1,0 +1,278 @@
+// The job table.
+use crate::counts::{count_end, count_start, fewer, more, put_order};
+use crate::phases::{counts_as_busy, is_active, waiter_of};
+use crate::places::{launch_at, phase_at, place};
+use std::alloc::{AllocError, Global};
+use std::marker::Model;
+use wm_base::{Moment, NoMemory, Serial};
+use wm_law::{Job, Launched, Phase};
+use wm_ordered::Ordered;
+use wm_tally::Tally;
+use wm_waiting::WaitingJobs;
+
+/// How many jobs a table takes at the most.
+const MOST: usize = 0xffff_fffd;
+
+/// The jobs of the machine, with what they are found and counted by. A contract sees the jobs in the order of their serials,
+/// `clock`, the moment up to which waiting jobs are due, the serial and the place that the next job has, and `spare`, for how
+/// many more jobs there is room.
+#[derive(Drop)]
+pub struct JobTable {
+    jobs: Vec<Job>,
+    waiting: WaitingJobs,
+    tally: Tally,
+    // The Starting jobs.
+    starting: Ordered<Serial, ()>,
+    active: usize,
+    // The active jobs that aren't prestart jobs.
+    busy: usize,
+    next_serial: u64,
+    next_place: u64,
+    // For how many more jobs each of these has room.
+    room: u32,
+}
+
+impl Model for JobTable {
+    ghost use Rattle.wm_jobs.specs.Table.{Table};
+
+    ghost Value = { Table };
+
+    ghost use Rattle.wm_jobs.specs.TableInside.{table_of, IsTableInside};
+
+    ghost view = { table_of };
+
+    ghost invariant = { IsTableInside };
+}
+
+impl JobTable {
+    ghost use Rattle.std.specs.Prelude.{◌≡◌, ◌==◌, ◌+◌, ◌∷◌, ◌++◌, ◌^◌, ◌<◌, ◌≤◌, [], true, false, is_some, max, find, map, Some, IfSome, OnOk, OnErr};
+    ghost use Rattle.wm_law.specs.Laws.{IsIn};
+    ghost use Rattle.std.specs.Option.{option_copied};
+    ghost use Rattle.wm_law.specs.Counts.{is_waiting, is_starting, is_active};
+    ghost use Rattle.wm_law.specs.Launch.{launched_at};
+    ghost use Rattle.wm_law.specs.Reports.{phased_at};
+    ghost use Rattle.wm_tally.specs.Tally.{IsTally};
+    ghost use Rattle.wm_pick.specs.Parts.{waiters};
+    ghost use Rattle.wm_pick.specs.Tallied.{hows};
+    ghost use Rattle.wm_jobs.specs.Table.{active_in, busy_in, starting_in, next_due_in};
+
+    /// No jobs; the clock is 0, and serials and places begin at 1.
+    pub fn new(alloc: Global) -> JobTable
+        ensures jobs { result.jobs ≡ [] }
+        ensures clock { result.clock ≡ 0 }
+        ensures next_serial { result.next_serial ≡ 1 }
+        ensures next_place { result.next_place ≡ 1 }
+        ensures spare { result.spare ≡ 0 }
+    {
+        JobTable {
+            jobs: Vec::new(alloc),
+            waiting: WaitingJobs::new(alloc),
+            tally: Tally::new(alloc),
+            starting: Ordered::new(alloc),
+            active: 0,
+            busy: 0,
+            next_serial: 1,
+            next_place: 1,
+            room: 0,
+        }
+    }
+
+    /// Makes room for a number of jobs. An `Err` leaves all as it was.
+    pub fn reserve(&mut self, more: u32) -> Result<(), NoMemory>
+        ensures ok { OnOk result (more ≤ self.new.spare) }
+        ensures jobs { self.new.jobs ≡ self.old.jobs }
+        ensures clock { self.new.clock ≡ self.old.clock }
+        ensures next_serial { self.new.next_serial ≡ self.old.next_serial }
+        ensures next_place { self.new.next_place ≡ self.old.next_place }
+        ensures spare { self.old.spare ≤ self.new.spare }
+        ensures err { OnErr result (self.new ≡ self.old) }
+    {
+        if more <= self.room {
+            return Ok(());
+        }
+        if more as usize + self.jobs.len() > MOST {
+            return Err(AllocError);
+        }
+        let launches = more + self.waiting.len() as u32;
+        self.jobs.reserve(more as usize)?;
+        self.waiting.reserve(more)?;
+        self.tally.reserve(launches)?;
+        self.starting.reserve(launches)?;
+        self.room = more;
+        Ok(())
+    }
+
+    /// Adds a job that waits on a queue, with the next serial and the next place. It takes no memory.
+    pub fn push(&mut self, job: Job)
+        requires spare { 1 ≤ self.old.spare }
+        requires waits { is_waiting job.phase ≡ true }
+        requires queue { is_some job.jobq ≡ true }
+        requires serial { job.serial ≡ self.old.next_serial }
+        requires place { job.place ≡ self.old.next_place }
+        requires serial_fits { self.old.next_serial + 1 < 2 ^ 64 }
+        requires place_fits { self.old.next_place + 1 < 2 ^ 64 }
+        ensures jobs { self.new.jobs ≡ self.old.jobs ++ job ∷ [] }
+        ensures clock { self.new.clock ≡ self.old.clock }
+        ensures next_serial { self.new.next_serial ≡ self.old.next_serial + 1 }
+        ensures next_place { self.new.next_place ≡ self.old.next_place + 1 }
+        ensures spare { self.old.spare ≡ self.new.spare + 1 }
+    {
+        let Some(waiter) = waiter_of(&job) else {
+            unreachable!()
+        };
+        self.waiting.insert(waiter);
+        self.jobs.push_reserved(job);
+        self.next_serial += 1;
+        self.next_place += 1;
+        self.room -= 1;
+    }
+
+    /// Makes of the job of a serial what its launch made of it. It takes no memory.
+    pub fn launch(&mut self, serial: Serial, launched: &Launched)
+        requires phase { is_waiting launched.now.phase ≡ false }
+        requires waits { IfSome (find (λ j. j.serial == serial) self.old.jobs) (λ j. is_waiting j.phase ≡ true) }
+        ensures jobs { self.new.jobs ≡ map (launched_at serial launched.now) self.old.jobs }
+        ensures clock { self.new.clock ≡ self.old.clock }
+        ensures next_serial { self.new.next_serial ≡ self.old.next_serial }
+        ensures next_place { self.new.next_place ≡ self.old.next_place }
+        ensures spare { self.old.spare ≤ self.new.spare }
+    {
+        let Ok(at) = place(&self.jobs, serial) else {
+            return;
+        };
+        let starts = is_active(&launched.phase);
+        let busy = counts_as_busy(starts, &self.jobs[at].kind);
+        self.waiting.remove(serial);
+        count_start(&mut self.tally, &launched.how, &launched.phase);
+        put_order(&mut self.starting, serial, &launched.phase);
+        self.active = more(self.active, starts);
+        self.busy = more(self.busy, busy);
+        launch_at(&mut self.jobs, at, serial, launched);
+    }
+
+    /// Puts the job of a serial, which is active, into a phase behind Starting. It takes no memory.
+    pub fn set_phase(&mut self, serial: Serial, phase: Phase)
+        requires not_waiting { is_waiting phase ≡ false }
+        requires not_starting { is_starting phase ≡ false }
+        requires active { IfSome (find (λ j. j.serial == serial) self.old.jobs) (λ j. is_active j.phase ≡ true) }
+        ensures jobs { self.new.jobs ≡ map (phased_at serial phase) self.old.jobs }
+        ensures clock { self.new.clock ≡ self.old.clock }
+        ensures next_serial { self.new.next_serial ≡ self.old.next_serial }
+        ensures next_place { self.new.next_place ≡ self.old.next_place }
+        ensures spare { self.old.spare ≤ self.new.spare }
+    {
+        let Ok(at) = place(&self.jobs, serial) else {
+            return;
+        };
+        let job = &self.jobs[at];
+        let ends = !is_active(&phase);
+        let busy = counts_as_busy(ends, &job.kind);
+        self.starting.remove(&serial);
+        count_end(&mut self.tally, &job.how, &phase);
+        self.active = fewer(self.active, ends);
+        self.busy = fewer(self.busy, busy);
+        phase_at(&mut self.jobs, at, serial, phase);
+    }
+
+    /// Time goes on to a moment: the jobs that wait up to then are due.
+    pub fn make_due(&mut self, now: Moment)
+        ensures jobs { self.new.jobs ≡ self.old.jobs }
+        ensures clock { self.new.clock ≡ max self.old.clock now }
+        ensures next_serial { self.new.next_serial ≡ self.old.next_serial }
+        ensures next_place { self.new.next_place ≡ self.old.next_place }
+        ensures spare { self.new.spare ≡ self.old.spare }
+    {
+        self.waiting.make_due(now);
+    }
+
+    /// The job of a serial, which is the one job that has it.
+    pub fn job(&self, serial: Serial) -> Option<&Job>
+        ensures found { option_copied result ≡ find (λ j. j.serial == serial) self.now.jobs }
+        ensures one { (j : Job) → IsIn j self.now.jobs → j.serial ≡ serial → option_copied result ≡ Some j }
+    {
+        match place(&self.jobs, serial) {
+            Ok(at) => Some(&self.jobs[at]),
+            Err(_) => None,
+        }
+    }
+
+    /// The Starting job of least serial.
+    pub fn first_starting(&self) -> Option<&Job>
+        ensures first { option_copied result ≡ find (λ j. is_starting j.phase) self.now.jobs }
+        ensures by_serial { (j : Job) → option_copied result ≡ Some j → find (λ k. k.serial == j.serial) self.now.jobs ≡ Some j }
+    {
+        let (serial, _) = self.starting.first()?;
+        self.job(serial)
+    }
+
+    /// The jobs, in the order of their serials.
+    pub fn jobs(&self) -> &[Job]
+        ensures { result.now ≡ self.now.jobs }
+    {
+        &self.jobs
+    }
+
+    /// The jobs that wait.
+    pub fn waiting(&self) -> &WaitingJobs
+        ensures items { result.now.items ≡ waiters self.now.jobs }
+        ensures clock { result.now.clock ≡ self.now.clock }
+    {
+        &self.waiting
+    }
+
+    /// How many active jobs count against each limit.
+    pub fn tally(&self) -> &Tally
+        ensures { IsTally (hows self.now.jobs) result.now }
+    {
+        &self.tally
+    }
+
+    /// How many jobs are active.
+    pub fn active(&self) -> usize
+        ensures { result ≡ active_in self.now.jobs }
+    {
+        self.active
+    }
+
+    /// How many active jobs aren't prestart jobs.
+    pub fn busy(&self) -> usize
+        ensures { result ≡ busy_in self.now.jobs }
+    {
+        self.busy
+    }
+
+    /// How many jobs wait for a monitor.
+    pub fn orders(&self) -> usize
+        ensures { result ≡ starting_in self.now.jobs }
+    {
+        self.starting.len()
+    }
+
+    /// The least moment above the clock at which a Waiting job is due.
+    pub fn next_due(&self) -> Option<Moment>
+        ensures { result ≡ next_due_in self.now.clock self.now.jobs }
+    {
+        self.waiting.next_due()
+    }
+
+    /// The moment up to which waiting jobs are due.
+    pub fn clock(&self) -> Moment
+        ensures { result ≡ self.now.clock }
+    {
+        self.waiting.clock()
+    }
+
+    /// The serial of the next job.
+    pub fn next_serial(&self) -> u64
+        ensures { result ≡ self.now.next_serial }
+    {
+        self.next_serial
+    }
+
+    /// The place of the next job.
+    pub fn next_place(&self) -> u64
+        ensures { result ≡ self.now.next_place }
+    {
+        self.next_place
+    }
+}
