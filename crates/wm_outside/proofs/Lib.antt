@@ -1,6 +1,8 @@
 pub mod Bytes
 pub mod Cause
+pub mod Keeping
 pub mod Programs
 pub mod Removal
 pub mod Reports
+pub mod Sorted
 pub mod Telling

@@ -8,6 +8,10 @@ use Rattle.wm_outside.specs.Cause.{raised}
 abbrev pub is_new : Vec ℕ Global → Calls
 is_new failing = record { made = 0; failed = 0; failing = failing }
 
+-- the same calls, of which none counts as failed any more
+abbrev pub opened_again : Calls → Calls
+opened_again calls = record calls { failed = 0 }
+
 -- one call more, which failed exactly where the list names its number, and was then counted as a fault
 pub record CountsCall (old new : Calls) (failed : Bool) : Type 0 where
   pub made : new.made ≡ raised old.made

@@ -1,10 +1,14 @@
 pub mod Calls
 pub mod Cause
 pub mod Children
+pub mod InOrder
+pub mod Keeping
+pub mod Log
 pub mod MemSpawner
 pub mod Memory
 pub mod Programs
 pub mod Reporting
+pub mod Rows
 pub mod Spawner
 pub mod System
 pub mod Told

@@ -19,6 +19,12 @@ Becomes old None change = ⊤
 Becomes None (Some now) change = ⊥
 Becomes (Some before) (Some now) change = now ≡ change before
 
+-- where it is told, it is as it was
+abbrev pub Stays : {A : Type 0} → Option A → Option A → Type 0
+Stays old None = ⊤
+Stays None (Some now) = ⊥
+Stays (Some before) (Some now) = now ≡ before
+
 -- where it is told, there is nothing in it
 abbrev pub IsEmpty : {A : Type 0} → Option (List A) → Type 0
 IsEmpty None = ⊤

@@ -1,4 +1,5 @@
 // What a call of the outside answers where it fails.
+use std::alloc::{AllocError, AllocFailed};
 use thiserror::Error;
 
 /// A call of the outside that failed, which its object has counted.
@@ -13,4 +14,35 @@ pub enum StartFault {
     Failed,
     #[error("out of memory")]
     NoMemory,
+}
+
+/// Why rows weren't kept or loaded: the keeper or the store failed, which it has counted, or memory was wanting.
+#[derive(Clone, Copy, Debug, PartialEq, Eq, Error)]
+pub enum KeepFault {
+    #[error("the rows could not be kept")]
+    Failed,
+    #[error("out of memory")]
+    NoMemory,
+}
+
+impl From<AllocError> for KeepFault {
+    ghost use Rattle.std.specs.Prelude.{◌≡◌};
+    ghost use Rattle.wm_outside.specs.declared.fault.KeepFault.TheVariants.{NoMemory};
+
+    ghost from_gives = { λ _ fault. fault ≡ NoMemory };
+
+    fn from(_: AllocError) -> Self {
+        KeepFault::NoMemory
+    }
+}
+
+impl<T: Drop> From<AllocFailed<T>> for KeepFault {
+    ghost use Rattle.std.specs.Prelude.{◌≡◌};
+    ghost use Rattle.wm_outside.specs.declared.fault.KeepFault.TheVariants.{NoMemory};
+
+    ghost from_gives = { λ _ fault. fault ≡ NoMemory };
+
+    fn from(_: AllocFailed<T>) -> Self {
+        KeepFault::NoMemory
+    }
 }

@@ -1,13 +1,18 @@
 // The forms in memory. They tell all that they do, fail exactly at the calls that their lists name, and take memory
-// only to record what they were given.
+// only to record what they were given, and for the rows that are loaded.
 mod calls;
 mod children;
 mod clock;
+mod keeper;
 mod sink;
 mod source;
 mod spawner;
+mod store;
+mod tables;
 
 pub use clock::MemClock;
+pub use keeper::MemKeeper;
 pub use sink::MemSink;
 pub use source::MemSource;
 pub use spawner::MemSpawner;
+pub use store::MemStore;

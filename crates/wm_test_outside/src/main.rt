@@ -2,11 +2,12 @@
 //!
 //! The cases are texts, `data/memory.txt` and `data/system.txt`, which `wm_cases` plays. `memory` has the words that
 //! make a form in memory, `system` those that make an adapter; the calls of a source, a sink and a spawner are asked in
-//! the same words of both (`streams`, `spawners`). The children of `system.txt` are real programs.
+//! the same words of both (`streams`, `spawners`); those of a store and its keeper are in `keepers`. The children of `system.txt` are real programs.
 #![tactic(auto)]
 
 mod answers;
 mod flaky;
+mod keepers;
 mod memory;
 mod orders;
 mod spawners;

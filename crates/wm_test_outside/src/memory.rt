@@ -1,5 +1,6 @@
 // The forms in memory.
 use super::answers::{answer_asked, answer_bytes};
+use super::keepers::Keepers;
 use super::spawners::ask_spawner;
 use super::streams::{read, write};
 use super::words::{failing, first_word, moment, named};
@@ -18,6 +19,7 @@ struct Forms {
     sink: MemSink,
     clock: MemClock,
     spawner: MemSpawner,
+    keepers: Keepers,
 }
 
 // How many bytes a call takes or gives at the most, where that is said.
@@ -75,6 +77,7 @@ impl Forms {
             sink: MemSink::new(alloc, Vec::new(alloc)),
             clock: MemClock::new(Moment::new(0), 0),
             spawner: MemSpawner::new(alloc, 0, Vec::new(alloc), Vec::new(alloc), Vec::new(alloc)),
+            keepers: Keepers::empty(alloc),
         }
     }
 }
@@ -111,11 +114,15 @@ impl<R: Wait> Subject for MemoryCases<'_, R> {
             "sink" => forms.sink = sink(alloc, rest)?,
             "clock" => forms.clock = clock(rest)?,
             "spawner" => forms.spawner = spawner(alloc, rest)?,
+            "keeper" => forms.keepers = Keepers::new(alloc, rest)?,
             "read" => read(alloc, &mut forms.source, rest, answer)?,
             "write" => write(alloc, &mut forms.sink, rest, answer)?,
             "written" => answer_bytes(alloc, forms.sink.bytes(), answer)?,
             "now" => writeln!(answer, "{}", forms.clock.now())?,
             "asked" => answer_asked(forms.spawner.asked(), answer)?,
+            "open" | "close" | "apply" | "load" | "store_faults" | "keeper_faults" => {
+                forms.keepers.ask(alloc, question, answer)?
+            }
             _ => ask_spawner(self.rt, alloc, &mut forms.spawner, question, answer)?,
         }
         Ok(())

@@ -4,7 +4,8 @@ use anyhow::{Result, ensure};
 use std::alloc::Global;
 use wm_base::{Args, Class, JobName, JobNumber, Limit, Name, StartOrder, Text, is_text};
 
-fn text(alloc: Global, word: &str) -> Result<Text> {
+/// A text of this word.
+pub fn text(alloc: Global, word: &str) -> Result<Text> {
     ensure!(is_text(word.as_bytes()), "not a text: {word}");
     Ok(Text::from_bytes(alloc, word.as_bytes())?)
 }
