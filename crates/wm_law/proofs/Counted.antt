@@ -1,5 +1,5 @@
 -- How far a change to one job raises a count.
-use Rattle.std.proofs.Common.{◌≡◌, ℕ, ◌≤◌, ◌+◌, ◌==◌, Bool, true, false, cond, List, [], ◌∷◌, map, refl, sym, ap, subst, inl, inr, arith}
+use Rattle.std.proofs.Common.{◌≡◌, ℕ, ◌≤◌, ◌+◌, ◌++◌, ◌==◌, Bool, true, false, cond, List, [], ◌∷◌, map, refl, sym, ap, subst, inl, inr, arith}
 use Rattle.std.specs.List.{count_by}
 use Rattle.std.proofs.lemmas.List.Sums.{sum_by-cons}
 use Rattle.wm_law.specs.declared.job.Job.{Job}
@@ -16,10 +16,10 @@ most true = omega arith
 most false = omega arith
 
 -- one for a job that passes the test
-abbrev one : (Job → Bool) → Job → ℕ
+abbrev pub one : (Job → Bool) → Job → ℕ
 one test j = cond (test j) 1 0
 
-one_most : (test : Job → Bool) (j : Job) → one test j ≤ 1
+pub one_most : (test : Job → Bool) (j : Job) → one test j ≤ 1
 one_most test j = most (test j)
 
 same_at : (test : Job → Bool) (change : Job → Job) (t : Bool) (j : Job) → (t ≡ true → ⊥) → one test (cond t (change j) j) ≤ one test j
@@ -76,3 +76,10 @@ no_fewer p q g (j ∷ jobs) h =
     let this : one p j ≤ one q (g j) = passes (p j) (q (g j)) (h j (inl refl)) in
     let rest = no_fewer p q g jobs (λ i m. h i (inr m)) in
     rw (sum_by-cons (one q) (g j) (map g jobs), sum_by-cons (one p) j jobs) (omega arith)
+
+-- one job more
+pub count_last : (test : Job → Bool) (jobs : List Job) (j : Job) → count_by test (jobs ++ j ∷ []) ≡ count_by test jobs + one test j
+count_last test [] j = rw (sum_by-cons (one test) j []) (omega arith)
+count_last test (k ∷ jobs) j =
+    let rest = count_last test jobs j in
+    rw (sum_by-cons (one test) k (jobs ++ j ∷ []), sum_by-cons (one test) k jobs) (omega arith)

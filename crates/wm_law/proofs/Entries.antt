@@ -1,27 +1,30 @@
 -- What holds of a subsystem description still does where an entry comes or goes, and where objects come.
 use Rattle.std.proofs.Common.{◌≡◌, ◌⊎◌, ℕ, suc, ◌≤◌, ◌&&◌, ◌||◌, not, Bool, true, false, cond, List, [], ◌∷◌, length, map, filter, nat_eq, nat_le, nat_lt, None, refl, sym, ap, subst, ◌∙◌, inl, inr, arith}
+use Rattle.std.specs.Cmp.Lexicographic.{pointwise, slice_cmp, texts_ties}
 use Rattle.std.specs.List.{list_any}
 use Rattle.std.specs.Option.{IsSome}
 use Rattle.std.specs.Ordering.{nat_cmp}
 use Rattle.std.specs.declared.cmp.Ordering.TheVariants.{Less}
 use Rattle.std.proofs.lemmas.Bool.Decides.{nat_tests}
+use Rattle.std.proofs.lemmas.Cmp.{nat_list_cmp_total}
 use Rattle.std.proofs.lemmas.List.Kept.{AllPairs-filter}
 use Rattle.wm_base.specs.declared.limit.Limit.{Limit}
 use Rattle.wm_base.specs.declared.qname.QName.{QName}
 use Rattle.wm_base.specs.declared.refusal.Refusal.TheVariants.{SbsActive}
 use Rattle.wm_desc.proofs.Tables.{test_fails}
 use Rattle.wm_desc.specs.declared.description.Sbsd.{Sbsd}
+use Rattle.wm_desc.specs.declared.entry.AutoEntry.{AutoEntry}
 use Rattle.wm_desc.specs.declared.entry.QueueEntry.{QueueEntry}
 use Rattle.wm_desc.specs.declared.entry.RouteEntry.{RouteEntry}
 use Rattle.wm_desc.specs.declared.objects.Objects.{Objects}
-use Rattle.wm_desc.specs.Objects.{empty_sbsd, with_queue, with_route, without_queue, without_route}
-use Rattle.wm_desc.specs.Refusals.{any_not_last, first_refusal, has_queue, is_any, is_any_before, is_full, queue_tests, route_tests, seq_used}
+use Rattle.wm_desc.specs.Objects.{empty_sbsd, with_auto, with_queue, with_route, without_auto, without_queue, without_route}
+use Rattle.wm_desc.specs.Refusals.{any_not_last, auto_tests, first_refusal, has_auto, has_queue, is_any, is_any_before, is_full, queue_tests, route_tests, seq_used}
 use Rattle.wm_desc.specs.Sorted.{place_of}
 use Rattle.wm_desc.specs.Table.{has_object, is_qcmd, object_named, same_qname}
 use Rattle.wm_law.specs.Objects.{IsDescription, IsProgram}
 use Rattle.wm_law.specs.Laws.{IsIn}
 use Rattle.wm_law.proofs.Distinct.{distinct_inserted, distinct_left}
-use Rattle.wm_law.proofs.InOrder.{in_inserted, inserted_length, number_added}
+use Rattle.wm_law.proofs.InOrder.{in_inserted, inserted_length, number_added, sorted_added}
 use Rattle.wm_law.proofs.Members.{left_in, of_mapped}
 use Rattle.wm_law.proofs.Named.{is_named, own_name}
 use Rattle.wm_law.proofs.Tests.{of_neither, of_not}
@@ -56,6 +59,7 @@ left_length p (x ∷ xs) = left_by (p x) x (filter p xs) xs (left_length p xs)
 pub record IsStillThere (a b : Objects) : Type 0 where
   pub jobqs : (q : QName) → IsSome (object_named q a.jobqs) → IsSome (object_named q b.jobqs)
   pub programs : (q : QName) → IsSome (object_named q a.programs) → IsSome (object_named q b.programs)
+  pub jobds : (q : QName) → IsSome (object_named q a.jobds) → IsSome (object_named q b.jobds)
 
 program_still : (a b : Objects) (pgm : QName) → IsStillThere a b → IsProgram a pgm → IsProgram b pgm
 program_still a b pgm still (inl e) = inl e
@@ -66,6 +70,7 @@ pub description_still : (a b : Objects) (d : Sbsd) → IsStillThere a b → IsDe
 description_still a b d still h = record {
   queues = record { sorted = h.queues.sorted; once = h.queues.once; queues = λ e i. still.jobqs e.jobq (h.queues.queues e i) };
   routes = record { programs = λ e i. program_still a b e.pgm still (h.routes.programs e i); any_last = h.routes.any_last };
+  autos = record { sorted = h.autos.sorted; jobds = λ e i. still.jobds e.jobd (h.autos.jobds e i) };
   sizes = h.sizes;
 }
 
@@ -74,6 +79,7 @@ pub empty_description : (objects : Objects) (maxjobs : Limit) → IsDescription 
 empty_description objects maxjobs = record {
   queues = record { sorted = λ i j e less h. absurd (omega arith); once = tt; queues = λ e i. absurd i };
   routes = record { programs = λ e i. absurd i; any_last = λ e f i. absurd i };
+  autos = record { sorted = λ i j e less h. absurd (omega arith); jobds = λ e i. absurd i };
   sizes = record { queues = omega arith; routes = omega arith; autos = omega arith; pres = omega arith };
 }
 
@@ -97,6 +103,7 @@ queue_in objects entry d accepted h =
         ]);
       };
       routes = h.routes;
+      autos = h.autos;
       sizes = record { queues = one_more 100 d.queues _ room (inserted_length d.queues place entry); routes = h.sizes.routes; autos = h.sizes.autos; pres = h.sizes.pres };
     }
 
@@ -113,6 +120,7 @@ queue_out objects queue d h =
         queues = λ n i. h.queues.queues n (left_in stays d.queues n i);
       };
       routes = h.routes;
+      autos = h.autos;
       sizes = record { queues = omega arith; routes = h.sizes.routes; autos = h.sizes.autos; pres = h.sizes.pres };
     }
 
@@ -168,6 +176,7 @@ route_in objects entry d accepted h =
         ]);
         any_last = λ e f i j. any_last_in entry d.routes last h.routes.any_last e f (in_inserted d.routes place entry e i) (in_inserted d.routes place entry f j);
       };
+      autos = h.autos;
       sizes = record { queues = h.sizes.queues; routes = one_more 999 d.routes _ room (inserted_length d.routes place entry); autos = h.sizes.autos; pres = h.sizes.pres };
     }
 
@@ -183,5 +192,44 @@ route_out objects seq d h =
         programs = λ n i. h.routes.programs n (left_in stays d.routes n i);
         any_last = λ e f i j. h.routes.any_last e f (left_in stays d.routes e i) (left_in stays d.routes f j);
       };
+      autos = h.autos;
       sizes = record { queues = h.sizes.queues; routes = omega arith; autos = h.sizes.autos; pres = h.sizes.pres };
+    }
+
+-- ADDAJE
+pub auto_in : (objects : Objects) (entry : AutoEntry) (d : Sbsd) → first_refusal (auto_tests objects entry d) ≡ None → IsDescription objects d → IsDescription objects (with_auto entry d)
+auto_in objects entry d accepted h =
+    let tests = auto_tests objects entry d in
+    let jobd : not (has_object entry.jobd objects.jobds) ≡ false = test_fails tests 0 SbsActive accepted in
+    let new : has_auto entry.job d.autos ≡ false = test_fails tests 1 SbsActive accepted in
+    let room : is_full 100 d.autos ≡ false = test_fails tests 2 SbsActive accepted in
+    let there : IsSome (object_named entry.jobd objects.jobds) = sym (is_named entry.jobd objects.jobds) ∙ of_not _ jobd in
+    let place = place_of (λ (e : AutoEntry). e.job) (slice_cmp nat_cmp) entry.job d.autos in
+    record {
+      queues = h.queues;
+      routes = h.routes;
+      autos = record {
+        sorted = sorted_added (λ (e : AutoEntry). e.job) (slice_cmp nat_cmp) nat_list_cmp_total (pointwise nat_eq) texts_ties entry d.autos h.autos.sorted new;
+        jobds = λ n i. (elim (in_inserted d.autos place entry n i) as (λ _. IsSome (object_named n.jobd objects.jobds)) [
+          | inl same ↦ subst (λ (x : AutoEntry). IsSome (object_named x.jobd objects.jobds)) (sym same) there
+          | inr was ↦ h.autos.jobds n was
+        ]);
+      };
+      sizes = record { queues = h.sizes.queues; routes = h.sizes.routes; autos = one_more 100 d.autos _ room (inserted_length d.autos place entry); pres = h.sizes.pres };
+    }
+
+-- RMVAJE
+pub auto_out : (objects : Objects) (job : List ℕ) (d : Sbsd) → IsDescription objects d → IsDescription objects (without_auto job d)
+auto_out objects job d h =
+    let stays = λ (e : AutoEntry). not (pointwise nat_eq e.job job) in
+    let fewer = left_length stays d.autos in
+    let was = h.sizes.autos in
+    record {
+      queues = h.queues;
+      routes = h.routes;
+      autos = record {
+        sorted = AllPairs-filter (λ (x y : AutoEntry). slice_cmp nat_cmp x.job y.job ≡ Less) stays d.autos h.autos.sorted;
+        jobds = λ n i. h.autos.jobds n (left_in stays d.autos n i);
+      };
+      sizes = record { queues = h.sizes.queues; routes = h.sizes.routes; autos = omega arith; pres = h.sizes.pres };
     }

@@ -3,6 +3,7 @@ use Rattle.std.proofs.Common.{◌≡◌, ℕ, ◌≤◌, ◌==◌, not, nat_le, 
 use Rattle.std.specs.List.{find}
 use Rattle.std.proofs.lemmas.Bool.Decides.{nat_tests}
 use Rattle.wm_base.specs.declared.job.EndCause.TheVariants.{NoRoute, RouteFull}
+use Rattle.wm_base.specs.declared.job.How.{How}
 use Rattle.wm_base.specs.Iterate.{IsKept}
 use Rattle.wm_base.specs.Limit.{is_below}
 use Rattle.wm_base.proofs.Iterate.{iterate-keeps}
@@ -19,17 +20,20 @@ use Rattle.wm_law.specs.Choice.{has_free_queue, is_held, is_sbs_active, maxpty_o
 use Rattle.wm_law.specs.Counts.{count_by_route, count_from_priority, count_from_queue, count_in_sbs, is_by_route, is_waiting}
 use Rattle.wm_law.specs.History.{stepped}
 use Rattle.wm_law.specs.Kept.{IsNumbered}
-use Rattle.wm_law.specs.Launch.{as_launched, launch, launch_job, launched, launched_at, launched_through, route}
+use Rattle.wm_law.specs.Launch.{as_launched, from_queue, launch, launch_job, launched, launched_at, launched_through, route}
 use Rattle.wm_law.specs.Laws.{IsIn, Turn}
 use Rattle.wm_law.specs.Machine.{apply, step, with_clock}
 use Rattle.wm_law.specs.Order.{IsFit, IsInOrder, KeepsOrder, LaunchesFit, counted_for, was_launched}
 use Rattle.wm_law.specs.Settling.{leave, settle, waiting}
+use Rattle.wm_law.specs.Sound.{HasQueues}
+use Rattle.wm_law.proofs.Autos.{AutosRouted, autos_fit, calls_route_autos}
 use Rattle.wm_law.proofs.InTurn.{launched_in}
 use Rattle.wm_law.proofs.Members.{of_mapped}
 use Rattle.wm_law.proofs.Moves.{call_keeps}
 use Rattle.wm_law.proofs.Nexts.{IsNext, is_next}
 use Rattle.wm_law.proofs.Numbers.{apply_keeps, clock_keeps, launches_keep, only_started, step_keeps_numbers}
 use Rattle.wm_law.proofs.Passed.{IsOrderedSince, LaunchesNone, calls_launch_none, counted_all, counted_more, full_still, launched_ordered, one, ordered_yet}
+use Rattle.wm_law.proofs.Queued.{queued_calls, step_keeps_queues}
 use Rattle.wm_law.proofs.Routed.{full_through, launched_routed, started_through, unrouted_through}
 use Rattle.wm_law.proofs.Settling.{settled_leaves_none}
 use Rattle.wm_law.proofs.Tests.{of_four, same_number}
@@ -59,12 +63,15 @@ module _ (s t : State) (c : Candidate) (f : Job) (x : IsNext t c f) (h : IsFitSi
   free : is_held t x.turn.queue ≡ false
   free = of_not_true (is_held t x.turn.queue) (ap (has_free_queue t) (sym x.first.may.queue) ∙ ready.2)
 
-  routed : (p : Phase) → (launched t c.sbs c.jobq f).phase ≡ p → (launched_through t x.turn.sbs.sbsd x.turn.queue f (route x.turn.sbsd f.rtgdta)).phase ≡ p
+  abbrev by : ℕ → How
+  by = from_queue x.turn.sbs.sbsd x.turn.queue f
+
+  routed : (p : Phase) → (launched t c.sbs c.jobq f).phase ≡ p → (launched_through t x.turn.sbs.sbsd by f (route x.turn.sbsd f.rtgdta)).phase ≡ p
   routed p e = ap (λ (l : Launched). l.phase) (sym (launched_routed t c f x)) ∙ e
 
   full_now : (n : ℕ) → (launched t c.sbs c.jobq f).phase ≡ Ended (RouteFull n) → (e : RouteEntry) × (route x.turn.sbsd f.rtgdta ≡ Some e) × (e.seq ≡ n) × (is_below (counted_for s (launched_in t c f) (as_launched (launched t c.sbs c.jobq f) f) (is_by_route x.turn.sbs.sbsd e.seq)) e.maxact ≡ false)
   full_now n e =
-      let r = full_through t x.turn.sbs.sbsd x.turn.queue x.turn.sbsd f n (route x.turn.sbsd f.rtgdta) refl (routed (Ended (RouteFull n)) e) in
+      let r = full_through t x.turn.sbs.sbsd by x.turn.sbsd f n (route x.turn.sbsd f.rtgdta) refl (routed (Ended (RouteFull n)) e) in
       (r.0, r.1, r.2, full_still (count_by_route x.turn.sbs.sbsd r.0.seq t.jobs) (counted_for s (launched_in t c f) (as_launched (launched t c.sbs c.jobq f) f) (is_by_route x.turn.sbs.sbsd r.0.seq)) r.0.maxact (counted_all s t c f x h.ordered (is_by_route x.turn.sbs.sbsd r.0.seq)) r.3)
 
   -- the launched job is fit
@@ -76,10 +83,10 @@ module _ (s t : State) (c : Candidate) (f : Job) (x : IsNext t c f) (h : IsFitSi
     due = at_most f.due t.clock ready.3;
     active = active;
     starting = λ e. (
-        let r = started_through t x.turn.sbs.sbsd x.turn.queue x.turn.sbsd f (route x.turn.sbsd f.rtgdta) refl (routed Starting e) in
+        let r = started_through t x.turn.sbs.sbsd by x.turn.sbsd f (route x.turn.sbsd f.rtgdta) refl (routed Starting e) in
         (r.0, r.1, ap (λ (l : Launched). l.how) (launched_routed t c f x) ∙ r.2));
     route_full = λ n e. full_now n e;
-    no_route = λ e. unrouted_through t x.turn.sbs.sbsd x.turn.queue x.turn.sbsd f (route x.turn.sbsd f.rtgdta) refl (routed (Ended NoRoute) e);
+    no_route = λ e. unrouted_through t x.turn.sbs.sbsd by x.turn.sbsd f (route x.turn.sbsd f.rtgdta) refl (routed (Ended NoRoute) e);
   }
 
   -- a job that was fit still is
@@ -125,8 +132,8 @@ launches_fit s = record {
 }
 
 -- settling launches the jobs in their order
-settled_in_order : (s t : State) → IsNumbered t → LaunchesNone s t → IsInOrder s (settle t)
-settled_in_order s t n h =
+settled_in_order : (s t : State) → IsNumbered t → HasQueues t → LaunchesNone s t → AutosRouted s t → IsInOrder s (settle t)
+settled_in_order s t n q h a =
     let u = leave t in
     let since : IsFitSince s (settle t) = iterate-keeps (IsFitSince s) (launches_fit s) (waiting u) u (record {
       ordered = ordered_yet s u (only_started t n) h;
@@ -136,17 +143,20 @@ settled_in_order s t n h =
       none_left = λ j v i r e a. settled_leaves_none t j v i (may_start_in (settle t) j v r e a);
       none_passed = since.ordered.passed;
       fit = since.fit;
+      autos = autos_fit s t n q a;
     }
 
 -- and so does a step
-pub step_order : (s : State) (caller : ℕ) (call : Call) (moment : ℕ) → IsNumbered s → IsInOrder s (step s caller call moment).state
+pub step_order : (s : State) (caller : ℕ) (call : Call) (moment : ℕ) → IsNumbered s → HasQueues s → IsInOrder s (step s caller call moment).state
 unfolding step
-step_order s caller call moment n =
+step_order s caller call moment n q =
     let c = with_clock s moment in
     let t = (apply c caller call).state in
-    settled_in_order s t (apply_keeps c caller call (clock_keeps s moment n)) (call_keeps (LaunchesNone c) c caller call (calls_launch_none c))
+    settled_in_order s t (apply_keeps c caller call (clock_keeps s moment n)) (call_keeps HasQueues c caller call (queued_calls c q))
+    (call_keeps (LaunchesNone c) c caller call (calls_launch_none c))
+    (call_keeps (AutosRouted c) c caller call (calls_route_autos c))
 
 -- and each entry of a history
-pub order_kept : (s : State) (h : List Entry) → IsNumbered s → KeepsOrder s h
-order_kept s [] n = tt
-order_kept s (e ∷ es) n = (step_order s e.caller e.call e.moment n, order_kept (stepped s e).state es (step_keeps_numbers s e.caller e.call e.moment n))
+pub order_kept : (s : State) (h : List Entry) → IsNumbered s → HasQueues s → KeepsOrder s h
+order_kept s [] n q = tt
+order_kept s (e ∷ es) n q = (step_order s e.caller e.call e.moment n q, order_kept (stepped s e).state es (step_keeps_numbers s e.caller e.call e.moment n) (step_keeps_queues s e.caller e.call e.moment q))

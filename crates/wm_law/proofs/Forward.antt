@@ -9,6 +9,7 @@ use Rattle.wm_law.specs.declared.job.Job.{Job}
 use Rattle.wm_law.specs.declared.job.Phase.{Phase}
 use Rattle.wm_law.specs.declared.job.Phase.TheVariants.{Waiting, Starting, Handed, Running, Ended}
 use Rattle.wm_law.specs.declared.state.State.{State}
+use Rattle.wm_law.specs.Autos.{auto_job, auto_launched, auto_made}
 use Rattle.wm_law.specs.Choice.{next}
 use Rattle.wm_law.specs.Counts.{is_waiting}
 use Rattle.wm_law.specs.Kept.{IsDistinct, IsNumbered, phase_rank, IsLater, GoesOn, StepGoesOn}
@@ -96,6 +97,7 @@ calls : (s : State) → IsNumbered s → HoldsOfStates (GoesOn s) s
 calls s n = record {
   stays = stays s;
   starts = λ q e j i. (j, i, no_less j);
+  autos = λ q t e d m h. goes_on_still s t (auto_made t q e d) h (λ j i. (j, in_longer t.jobs (auto_launched t q (auto_job t e d)) j i, no_less j));
   enters = λ user c d has j i. (j, in_longer s.jobs (submitted_job s user c d) j i, no_less j);
   moves = λ serial j phase i e r k. phase_goes_on s serial phase j n i e r.on;
   powers = λ j i. (j, i, no_less j);

@@ -30,13 +30,14 @@ pub mod Subsystems
 pub mod Opened
 pub mod Counted
 pub mod Nexts
+pub mod Routed
+pub mod Queued
 pub mod Limits
+pub mod Autos
 pub mod Turns
 pub mod Passed
-pub mod Routed
 pub mod Fitting
 pub mod Serials
 pub mod Placed
-pub mod Queued
 pub mod Standing
 pub mod Sound

@@ -1,8 +1,9 @@
 -- No start passes a limit.
-use Rattle.std.proofs.Common.{◌≡◌, ◌⊎◌, ℕ, ◌<◌, ◌≤◌, ◌+◌, ◌==◌, ◌&&◌, Bool, true, false, cond, List, [], ◌∷◌, map, Option, Some, None, refl, sym, ap, subst, ◌∙◌, inl, inr, nat_lt, arith}
+use Rattle.std.proofs.Common.{◌≡◌, ◌⊎◌, ℕ, ◌<◌, ◌≤◌, ◌+◌, ◌++◌, ◌==◌, ◌&&◌, Bool, true, false, cond, List, [], ◌∷◌, map, Option, Some, None, refl, sym, ap, subst, ◌∙◌, inl, inr, nat_lt, arith}
 use Rattle.std.specs.List.{find}
 use Rattle.std.proofs.lemmas.Bool.Decides.{nat_tests}
 use Rattle.wm_base.specs.declared.job.How.{How}
+use Rattle.wm_base.specs.declared.job.How.TheVariants.{Auto}
 use Rattle.wm_base.specs.declared.limit.Limit.{Limit}
 use Rattle.wm_base.specs.declared.limit.Limit.TheVariants.{NoMax, Most}
 use Rattle.wm_base.specs.declared.qname.QName.{QName}
@@ -11,7 +12,9 @@ use Rattle.wm_base.specs.Limit.{is_below}
 use Rattle.wm_base.proofs.Iterate.{iterate-keeps}
 use Rattle.wm_desc.specs.declared.description.Jobd.{Jobd}
 use Rattle.wm_desc.specs.declared.description.Sbsd.{Sbsd}
+use Rattle.wm_desc.specs.declared.entry.AutoEntry.{AutoEntry}
 use Rattle.wm_desc.specs.declared.entry.QueueEntry.{QueueEntry}
+use Rattle.wm_desc.specs.declared.entry.RouteEntry.{RouteEntry}
 use Rattle.wm_desc.specs.declared.objects.Objects.{Objects}
 use Rattle.wm_desc.specs.Table.{object_named}
 use Rattle.wm_law.specs.declared.call.Call.{Call}
@@ -19,26 +22,34 @@ use Rattle.wm_law.specs.declared.call.Entry.{Entry}
 use Rattle.wm_law.specs.declared.choice.Candidate.{Candidate}
 use Rattle.wm_law.specs.declared.command.Sbmjob.{Sbmjob}
 use Rattle.wm_law.specs.declared.job.Job.{Job}
+use Rattle.wm_law.specs.declared.job.JobKind.{JobKind}
+use Rattle.wm_law.specs.declared.job.JobKind.TheVariants.{Asj}
 use Rattle.wm_law.specs.declared.job.Phase.{Phase}
 use Rattle.wm_law.specs.declared.job.Phase.TheVariants.{Waiting, Starting}
 use Rattle.wm_law.specs.declared.launch.Launched.{Launched}
+use Rattle.wm_law.specs.declared.state.Power.TheVariants.{DownNow}
 use Rattle.wm_law.specs.declared.state.State.{State}
+use Rattle.wm_law.specs.Autos.{auto_job, auto_launched, auto_made}
 use Rattle.wm_law.specs.Choice.{entry_for, maxpty_of, next}
-use Rattle.wm_law.specs.Counts.{count_active, is_active, is_from_priority, is_from_queue, is_in_sbs, is_starting}
+use Rattle.wm_law.specs.Counts.{count_active, is_active, is_by_route, is_from_priority, is_from_queue, is_in_sbs, is_starting}
 use Rattle.wm_law.specs.History.{stepped}
-use Rattle.wm_law.specs.Kept.{IsNumbered}
-use Rattle.wm_law.specs.Launch.{as_launched, launch, launch_job, launched, launched_at, with_launched}
+use Rattle.wm_law.specs.Kept.{HasOrders, IsNumbered, IsRouted}
+use Rattle.wm_law.specs.Launch.{as_auto, as_launched, entry_numbered, from_queue, launch, launch_job, launched, launched_at, with_launched}
 use Rattle.wm_law.specs.Laws.{IsIn}
-use Rattle.wm_law.specs.Limits.{BecameStarting, IsStarting, IsWithin, IsWithinLimits, KeepsLimits}
+use Rattle.wm_law.specs.Limits.{BecameStarting, IsStarting, IsWithin, IsWithinLimits, KeepsLimits, is_autostart}
 use Rattle.wm_law.specs.Machine.{apply, step, with_clock}
+use Rattle.wm_law.specs.Power.{end_now}
 use Rattle.wm_law.specs.Reports.{in_phase, phased_at, with_phase}
 use Rattle.wm_law.specs.Settling.{leave, settle, start_jobs, waiting}
 use Rattle.wm_law.specs.Submitting.{entered, submitted_job}
-use Rattle.wm_law.proofs.Counted.{no_more, one_more}
+use Rattle.wm_law.specs.Subsystems.{begun}
+use Rattle.wm_law.proofs.Counted.{count_last, no_more, one, one_more, one_most}
 use Rattle.wm_law.proofs.Members.{of_last, of_mapped}
 use Rattle.wm_law.proofs.Moves.{HoldsOfStates, call_keeps}
 use Rattle.wm_law.proofs.Nexts.{IsNext, below_maxact, below_maxjobs, below_maxpty, is_next}
 use Rattle.wm_law.proofs.Numbers.{apply_keeps, clock_keeps, launches_keep, only_started, step_keeps_numbers}
+use Rattle.wm_law.proofs.Orders.{apply_keeps_orders, clock_keeps_orders, step_keeps_orders}
+use Rattle.wm_law.proofs.Routed.{below_route, by_route}
 use Rattle.wm_law.proofs.Tests.{of_both}
 
 less_of : (n most : ℕ) → nat_lt n most ≡ true → n < most
@@ -59,35 +70,39 @@ within_still n m (Most most) h w =
     let within : m ≤ most = omega arith in
     within
 
--- of the Starting jobs whose how passes the test, each one's serial was Starting in the state
-abbrev NoneNew : State → (How → Bool) → List Job → Type 0
-NoneNew s test jobs = (j : Job) → IsIn j jobs → j.phase ≡ Starting → test j.how ≡ true → IsStarting s j.serial
+-- of the Starting jobs whose how passes the test, those of the kinds that are left out aside, each one's serial was Starting in the state
+abbrev NoneNew : State → (How → Bool) → (JobKind → Bool) → List Job → Type 0
+NoneNew s test aside jobs = (j : Job) → IsIn j jobs → j.phase ≡ Starting → test j.how ≡ true → aside j.kind ≡ false → IsStarting s j.serial
 
-none_new_at : (s : State) (test : How → Bool) (l : Launched) (t : Bool) (j k : Job) → (is_active l.phase && test l.how) ≡ false → (j.phase ≡ Starting → test j.how ≡ true → IsStarting s j.serial) → k ≡ cond t (as_launched l j) j → k.phase ≡ Starting → test k.how ≡ true → IsStarting s k.serial
-none_new_at s test l true j k n h e p q =
+-- no kind is left out
+abbrev none_aside : JobKind → Bool
+none_aside kind = false
+
+none_new_at : (s : State) (test : How → Bool) (aside : JobKind → Bool) (l : Launched) (t : Bool) (j k : Job) → (is_active l.phase && test l.how) ≡ false → (j.phase ≡ Starting → test j.how ≡ true → aside j.kind ≡ false → IsStarting s j.serial) → k ≡ cond t (as_launched l j) j → k.phase ≡ Starting → test k.how ≡ true → aside k.kind ≡ false → IsStarting s k.serial
+none_new_at s test aside l true j k n h e p q v =
     let yes : (is_active k.phase && test k.how) ≡ true = ap (λ (x : Phase). is_active x && test k.how) p ∙ q in
     let same : (is_active k.phase && test k.how) ≡ (is_active l.phase && test l.how) = ap (λ (x : Job). is_active x.phase && test x.how) e in
     absurd (cc)
-none_new_at s test l false j k n h e p q = subst (λ (x : Job). x.phase ≡ Starting → test x.how ≡ true → IsStarting s x.serial) (sym e) h p q
+none_new_at s test aside l false j k n h e p q v = subst (λ (x : Job). x.phase ≡ Starting → test x.how ≡ true → aside x.kind ≡ false → IsStarting s x.serial) (sym e) h p q v
 
 -- a launch that isn't counted makes no counted job Starting
-none_new : (s : State) (test : How → Bool) (serial : ℕ) (l : Launched) (jobs : List Job) → (is_active l.phase && test l.how) ≡ false → NoneNew s test jobs → NoneNew s test (map (launched_at serial l) jobs)
-none_new s test serial l jobs n h k m p q =
+none_new : (s : State) (test : How → Bool) (aside : JobKind → Bool) (serial : ℕ) (l : Launched) (jobs : List Job) → (is_active l.phase && test l.how) ≡ false → NoneNew s test aside jobs → NoneNew s test aside (map (launched_at serial l) jobs)
+none_new s test aside serial l jobs n h k m p q v =
     let o = of_mapped (launched_at serial l) jobs k m in
-    none_new_at s test l (o.0.serial == serial) o.0 k n (h o.0 o.1) o.2 p q
+    none_new_at s test aside l (o.0.serial == serial) o.0 k n (h o.0 o.1) o.2 p q v
 
 -- a launch that adds to the count comes where the count is below the limit
-abbrev Admits : State → (How → Bool) → Limit → Type 0
-Admits s test limit = (t : State) (c : Candidate) (j : Job) → t.objects ≡ s.objects → IsNext t c j → test (launched t c.sbs c.jobq j).how ≡ true → is_below (count_active test t.jobs) limit ≡ true
+abbrev Admits : Objects → (How → Bool) → Limit → Type 0
+Admits o test limit = (t : State) (c : Candidate) (j : Job) → t.objects ≡ o → IsNext t c j → test (launched t c.sbs c.jobq j).how ≡ true → is_below (count_active test t.jobs) limit ≡ true
 
 -- no counted job became Starting since a state, or the count is within the limit
-abbrev NoneOrWithin : State → (How → Bool) → Limit → List Job → Type 0
-NoneOrWithin s test limit jobs = NoneNew s test jobs ⊎ IsWithin (count_active test jobs) limit
+abbrev NoneOrWithin : State → (How → Bool) → (JobKind → Bool) → Limit → List Job → Type 0
+NoneOrWithin s test aside limit jobs = NoneNew s test aside jobs ⊎ IsWithin (count_active test jobs) limit
 
-record IsWithinSince (s : State) (test : How → Bool) (limit : Limit) (t : State) : Type 0 where
+record IsWithinSince (s : State) (o : Objects) (test : How → Bool) (aside : JobKind → Bool) (limit : Limit) (t : State) : Type 0 where
   numbered : IsNumbered t
-  objects : t.objects ≡ s.objects
-  within : NoneOrWithin s test limit t.jobs
+  objects : t.objects ≡ o
+  within : NoneOrWithin s test aside limit t.jobs
 
 -- the state in which the candidate's job is as it was launched
 abbrev launched_in : State → Candidate → Job → State
@@ -97,8 +112,8 @@ objects_same : (s : State) (c : Candidate) (o : Option Job) → (launch_job s c 
 objects_same s c None = refl
 objects_same s c (Some j) = refl
 
-module _ (s : State) (test : How → Bool) (limit : Limit) (admits : Admits s test limit) where
-  within_by : (t : State) (c : Candidate) (j : Job) (b : Bool) → (is_active (launched t c.sbs c.jobq j).phase && test (launched t c.sbs c.jobq j).how) ≡ b → IsNext t c j → IsWithinSince s test limit t → NoneOrWithin s test limit (launched_in t c j).jobs
+module _ (s : State) (o : Objects) (test : How → Bool) (aside : JobKind → Bool) (limit : Limit) (admits : Admits o test limit) where
+  within_by : (t : State) (c : Candidate) (j : Job) (b : Bool) → (is_active (launched t c.sbs c.jobq j).phase && test (launched t c.sbs c.jobq j).how) ≡ b → IsNext t c j → IsWithinSince s o test aside limit t → NoneOrWithin s test aside limit (launched_in t c j).jobs
   within_by t c j true e n h =
       let l = launched t c.sbs c.jobq j in
       let more = one_more (λ (k : Job). is_active k.phase && test k.how) c.serial (as_launched l) t.jobs h.numbered.serials.distinct in
@@ -107,18 +122,18 @@ module _ (s : State) (test : How → Bool) (limit : Limit) (admits : Admits s te
   within_by t c j false e n h =
       let l = launched t c.sbs c.jobq j in
       let more = no_more (λ (k : Job). is_active k.phase && test k.how) c.serial (as_launched l) (λ k. e) t.jobs in
-      elim (h.within) as (λ _. NoneOrWithin s test limit (launched_in t c j).jobs) [
-        | inl none ↦ inl (none_new s test c.serial l t.jobs e none)
+      elim (h.within) as (λ _. NoneOrWithin s test aside limit (launched_in t c j).jobs) [
+        | inl none ↦ inl (none_new s test aside c.serial l t.jobs e none)
         | inr w ↦ inr (within_still (count_active test t.jobs) (count_active test (launched_in t c j).jobs) limit more w)
       ]
 
-  within_launched : (t : State) (c : Candidate) (o : Option Job) → find (λ j. j.serial == c.serial) t.jobs ≡ o → next t ≡ Some c → IsWithinSince s test limit t → NoneOrWithin s test limit (launch_job t c o).jobs
+  within_launched : (t : State) (c : Candidate) (f : Option Job) → find (λ j. j.serial == c.serial) t.jobs ≡ f → next t ≡ Some c → IsWithinSince s o test aside limit t → NoneOrWithin s test aside limit (launch_job t c f).jobs
   within_launched t c None f e h = h.within
   within_launched t c (Some j) f e h =
       let l = launched t c.sbs c.jobq j in
       within_by t c j (is_active l.phase && test l.how) refl (is_next t c j e h.numbered f) h
 
-  launches_within : IsKept next (λ c t. launch t c) (IsWithinSince s test limit)
+  launches_within : IsKept next (λ c t. launch t c) (IsWithinSince s o test aside limit)
   launches_within = record {
     by_step = λ t c e h. record {
       numbered = launches_keep.by_step t c e h.numbered;
@@ -128,14 +143,14 @@ module _ (s : State) (test : How → Bool) (limit : Limit) (admits : Admits s te
   }
 
   -- so it is where jobs have started
-  started_within : IsNumbered s → IsWithinSince s test limit (start_jobs s)
-  started_within n = iterate-keeps (IsWithinSince s test limit) launches_within (waiting s) s (record { numbered = n; objects = refl; within = inl (λ j i p q. (j, i, refl, p)) })
+  started_within : (t : State) → IsWithinSince s o test aside limit t → IsWithinSince s o test aside limit (start_jobs t)
+  started_within t h = iterate-keeps (IsWithinSince s o test aside limit) launches_within (waiting t) t h
 
 -- each Starting job of the second state has a serial that was Starting in the first
-abbrev StartsNone : State → State → Type 0
+abbrev pub StartsNone : State → State → Type 0
 StartsNone s t = (j : Job) → IsIn j t.jobs → j.phase ≡ Starting → IsStarting s j.serial
 
-entered_starts_none : (s : State) (user : List ℕ) (c : Sbmjob) (d : Jobd) → StartsNone s (entered s (submitted_job s user c d))
+pub entered_starts_none : (s : State) (user : List ℕ) (c : Sbmjob) (d : Jobd) → StartsNone s (entered s (submitted_job s user c d))
 entered_starts_none s user c d k i p =
     elim (of_last s.jobs (submitted_job s user c d) k i) as (λ _. IsStarting s k.serial) [
       | inl m ↦ (k, m, refl, p)
@@ -149,30 +164,111 @@ moved_at s phase true j k n i e p =
     absurd (cc)
 moved_at s phase false j k n i e p = (j, i, ap (λ (x : Job). x.serial) (sym e), ap (λ (x : Job). x.phase) (sym e) ∙ p)
 
-moved_starts_none : (s : State) (serial : ℕ) (phase : Phase) → is_starting phase ≡ false → StartsNone s (with_phase s serial phase)
+pub moved_starts_none : (s : State) (serial : ℕ) (phase : Phase) → is_starting phase ≡ false → StartsNone s (with_phase s serial phase)
 moved_starts_none s serial phase n k m p =
     let o = of_mapped (phased_at serial phase) s.jobs k m in
     moved_at s phase (o.0.serial == serial) o.0 k n o.1 o.2 p
 
--- no call makes a job Starting before the state settles
-calls_start_none : (s : State) → HoldsOfStates (StartsNone s) s
-calls_start_none s = record {
-  stays = λ j i p. (j, i, refl, p);
-  starts = λ q e j i p. (j, i, refl, p);
-  enters = λ user c d has. entered_starts_none s user c d;
-  moves = λ serial j phase i e r n. moved_starts_none s serial phase n;
-  powers = λ j i p. (j, i, refl, p);
-  makes = λ o c j i p. (j, i, refl, p);
+-- the job started with a subsystem
+abbrev IsAutoStart : Job → Type 0
+IsAutoStart j = (j.kind ≡ Asj) × ((sbs : QName) × ((seq : ℕ) × (j.how ≡ Auto sbs seq)))
+
+-- so it is, where its serial wasn't Starting in the first state
+abbrev StartsAutos : State → State → Type 0
+StartsAutos s t = (j : Job) → IsIn j t.jobs → j.phase ≡ Starting → IsStarting s j.serial ⊎ IsAutoStart j
+
+auto_starts : (t : State) (q : QName) (e : AutoEntry) (d : Jobd) → (auto_launched t q (auto_job t e d)).phase ≡ Starting → IsAutoStart (auto_launched t q (auto_job t e d))
+auto_starts t q e d p = let r = by_route t q (as_auto q) (auto_job t e d) p in (refl, (q, (r.entry.seq, r.is_how)))
+
+autos_start : (s t : State) (q : QName) (e : AutoEntry) (d : Jobd) → StartsAutos s t → StartsAutos s (auto_made t q e d)
+autos_start s t q e d h k i p =
+    elim (of_last t.jobs (auto_launched t q (auto_job t e d)) k i) as (λ _. IsStarting s k.serial ⊎ IsAutoStart k) [
+      | inl m ↦ h k m p
+      | inr same ↦ inr (subst IsAutoStart (sym same) (auto_starts t q e d (ap (λ (j : Job). j.phase) (sym same) ∙ p)))
+    ]
+
+-- no call makes a job Starting before the state settles, but an autostart job
+calls_start_autos : (s : State) → HoldsOfStates (StartsAutos s) s
+calls_start_autos s = record {
+  stays = λ j i p. inl (j, i, refl, p);
+  starts = λ q e j i p. inl (j, i, refl, p);
+  autos = λ q t e d m h. autos_start s t q e d h;
+  enters = λ user c d has j i p. inl (entered_starts_none s user c d j i p);
+  moves = λ serial j phase i e r n k m p. inl (moved_starts_none s serial phase n k m p);
+  powers = λ j i p. inl (j, i, refl, p);
+  makes = λ o c j i p. inl (j, i, refl, p);
 }
 
--- a job that became Starting in settling, whose how passes the test, finds the count within the limit
-settled_within : (s t : State) (test : How → Bool) (limit : Limit) → IsNumbered t → StartsNone s t → Admits (leave t) test limit → (j : Job) → BecameStarting s (settle t) j → test j.how ≡ true → IsWithin (count_active test (settle t).jobs) limit
-settled_within s t test limit n h a j b its =
-    let since = started_within (leave t) test limit a (only_started t n) in
+-- a test that leaves out autostart jobs, or that their how doesn't pass, finds none that is new
+none_new_yet : (s t : State) (test : How → Bool) (aside : JobKind → Bool) → StartsAutos s t → ((sbs : QName) (seq : ℕ) → test (Auto sbs seq) ≡ true → aside Asj ≡ true) → NoneNew s test aside t.jobs
+none_new_yet s t test aside h none j i p q v =
+    elim (h j i p) as (λ _. IsStarting s j.serial) [
+      | inl was ↦ was
+      | inr a ↦ (
+          let passes : test (Auto a.1.0 a.1.1.0) ≡ true = ap test (sym a.1.1.1) ∙ q in
+          let left_out : aside j.kind ≡ true = ap aside a.0 ∙ none a.1.0 a.1.1.0 passes in
+          absurd (cc))
+    ]
+
+-- no job became Starting through a routing entry since a state, or its count is within MAXACT
+abbrev RoutesWithin : State → State → Type 0
+RoutesWithin s t = (sbs : QName) (seq : ℕ) (d : Sbsd) (e : RouteEntry) → IsRouted t.objects → object_named sbs t.objects.sbsds ≡ Some d → entry_numbered seq d ≡ Some e → NoneOrWithin s (is_by_route sbs seq) none_aside e.maxact t.jobs
+
+-- one that starts none
+route_within_yet : (s t : State) → StartsNone s t → RoutesWithin s t
+route_within_yet s t h sbs seq d e r k f = inl (λ j i p q v. h j i p)
+
+module _ (s : State) (test : How → Bool) (limit : Limit) (jobs : List Job) (j : Job) where
+  last_count : count_active test (jobs ++ j ∷ []) ≡ count_active test jobs + one (λ (k : Job). is_active k.phase && test k.how) j
+  last_count = count_last (λ (k : Job). is_active k.phase && test k.how) jobs j
+
+  last_new : (is_active j.phase && test j.how) ≡ false → NoneNew s test none_aside jobs → NoneNew s test none_aside (jobs ++ j ∷ [])
+  last_new n h k i p q v =
+      elim (of_last jobs j k i) as (λ _. IsStarting s k.serial) [
+        | inl m ↦ h k m p q v
+        | inr same ↦ (
+            let yes : (is_active k.phase && test k.how) ≡ true = ap (λ (x : Phase). is_active x && test k.how) p ∙ q in
+            let no : (is_active k.phase && test k.how) ≡ false = ap (λ (x : Job). is_active x.phase && test x.how) same ∙ n in
+            absurd (cc))
+      ]
+
+  -- one more job that is counted comes where the count is below the limit
+  last_within : (b : Bool) → (is_active j.phase && test j.how) ≡ b → (test j.how ≡ true → is_below (count_active test jobs) limit ≡ true) → NoneOrWithin s test none_aside limit jobs → NoneOrWithin s test none_aside limit (jobs ++ j ∷ [])
+  last_within true e below h =
+      let count = last_count in
+      let most = one_most (λ (k : Job). is_active k.phase && test k.how) j in
+      inr (within_one (count_active test jobs) (count_active test (jobs ++ j ∷ [])) limit (below (of_both (is_active j.phase) (test j.how) e).1) (omega arith))
+  last_within false e below (inl none) = inl (last_new e none)
+  last_within false e below (inr w) =
+      let count = last_count in
+      let none : one (λ (k : Job). is_active k.phase && test k.how) j ≡ 0 = ap (λ (t : Bool). cond t 1 0) e in
+      inr (within_still (count_active test jobs) (count_active test (jobs ++ j ∷ [])) limit (omega arith) w)
+
+auto_within : (s t : State) (q : QName) (e : AutoEntry) (d : Jobd) → RoutesWithin s t → RoutesWithin s (auto_made t q e d)
+auto_within s t q e d h sbs seq c n r k f =
+    let j = auto_launched t q (auto_job t e d) in
+    last_within s (is_by_route sbs seq) n.maxact t.jobs j (is_active j.phase && is_by_route sbs seq j.how) refl
+    (λ its. below_route t q (as_auto q) (auto_job t e d) sbs seq c n (λ x y z. refl) r k f its)
+    (h sbs seq c n r k f)
+
+-- no call passes the limit of a routing entry before the state settles
+calls_within_routes : (s : State) → HoldsOfStates (RoutesWithin s) s
+calls_within_routes s = record {
+  stays = route_within_yet s s (λ j i p. (j, i, refl, p));
+  starts = λ q e. route_within_yet s (begun s q) (λ j i p. (j, i, refl, p));
+  autos = λ q t e d m h. auto_within s t q e d h;
+  enters = λ user c d has. route_within_yet s (entered s (submitted_job s user c d)) (entered_starts_none s user c d);
+  moves = λ serial j phase i e r n. route_within_yet s (with_phase s serial phase) (moved_starts_none s serial phase n);
+  powers = route_within_yet s (record s { started = map end_now s.started; power = DownNow }) (λ j i p. (j, i, refl, p));
+  makes = λ o c. route_within_yet s (record s { objects = o }) (λ j i p. (j, i, refl, p));
+}
+
+-- a job that became Starting, whose how passes the test, finds the count within the limit
+settled_within : (s t : State) (test : How → Bool) (aside : JobKind → Bool) (limit : Limit) → IsNumbered t → NoneOrWithin s test aside limit t.jobs → Admits t.objects test limit → (j : Job) → BecameStarting s (settle t) j → test j.how ≡ true → aside j.kind ≡ false → IsWithin (count_active test (settle t).jobs) limit
+settled_within s t test aside limit n h a j b its kind =
+    let since = started_within s t.objects test aside limit a (leave t) (record { numbered = only_started t n; objects = refl; within = h }) in
     elim (since.within) as (λ _. IsWithin (count_active test (settle t).jobs) limit) [
-      | inl none ↦ (
-          let was = none j b.job b.starting its in
-          absurd (b.new (subst (IsStarting s) was.2 (h was.0 was.1 was.3))))
+      | inl none ↦ absurd (b.new (none j b.job b.starting its kind))
       | inr w ↦ w
     ]
 
@@ -180,41 +276,48 @@ launches_keep_objects : (o : Objects) → IsKept next (λ c t. launch t c) (λ t
 launches_keep_objects o = record { by_step = λ t c e h. objects_same t c (find (λ (j : Job). j.serial == c.serial) t.jobs) ∙ h }
 
 -- settling changes no object
-settled_objects : (t : State) → (settle t).objects ≡ t.objects
+pub settled_objects : (t : State) → (settle t).objects ≡ t.objects
 settled_objects t = iterate-keeps (λ (u : State). u.objects ≡ t.objects) (launches_keep_objects t.objects) (waiting (leave t)) (leave t) refl
 
 described : (t : State) (sbs : QName) (d : Sbsd) → object_named sbs (settle t).objects.sbsds ≡ Some d → object_named sbs t.objects.sbsds ≡ Some d
 described t sbs d k = ap (λ (o : Objects). object_named sbs o.sbsds) (sym (settled_objects t)) ∙ k
 
-named : (s t : State) (sbs : QName) (d : Sbsd) → t.objects ≡ s.objects → object_named sbs s.objects.sbsds ≡ Some d → object_named sbs t.objects.sbsds ≡ Some d
-named s t sbs d e k = ap (λ (o : Objects). object_named sbs o.sbsds) e ∙ k
+named : (o p : Objects) (sbs : QName) (d : Sbsd) → p ≡ o → object_named sbs o.sbsds ≡ Some d → object_named sbs p.sbsds ≡ Some d
+named o p sbs d e k = ap (λ (x : Objects). object_named sbs x.sbsds) e ∙ k
 
-admits_maxjobs : (s : State) (sbs : QName) (d : Sbsd) → object_named sbs s.objects.sbsds ≡ Some d → Admits s (is_in_sbs sbs) d.maxjobs
-admits_maxjobs s sbs d k t c j e n h = below_maxjobs t c j sbs d n (named s t sbs d e k) h
+admits_maxjobs : (o : Objects) (sbs : QName) (d : Sbsd) → object_named sbs o.sbsds ≡ Some d → Admits o (is_in_sbs sbs) d.maxjobs
+admits_maxjobs o sbs d k t c j e n h = below_maxjobs t c j sbs d n (named o t.objects sbs d e k) h
 
-admits_maxact : (s : State) (sbs queue : QName) (d : Sbsd) (e : QueueEntry) → object_named sbs s.objects.sbsds ≡ Some d → entry_for queue d ≡ Some e → Admits s (is_from_queue sbs queue) e.maxact
-admits_maxact s sbs queue d e k f t c j g n h = below_maxact t c j sbs queue d e n (named s t sbs d g k) f h
+admits_maxact : (o : Objects) (sbs queue : QName) (d : Sbsd) (e : QueueEntry) → object_named sbs o.sbsds ≡ Some d → entry_for queue d ≡ Some e → Admits o (is_from_queue sbs queue) e.maxact
+admits_maxact o sbs queue d e k f t c j g n h = below_maxact t c j sbs queue d e n (named o t.objects sbs d g k) f h
 
-admits_maxpty : (s : State) (sbs queue : QName) (pty : ℕ) (d : Sbsd) (e : QueueEntry) → object_named sbs s.objects.sbsds ≡ Some d → entry_for queue d ≡ Some e → Admits s (is_from_priority sbs queue pty) (maxpty_of e pty)
-admits_maxpty s sbs queue pty d e k f t c j g n h = below_maxpty t c j sbs queue pty d e n (named s t sbs d g k) f h
+admits_maxpty : (o : Objects) (sbs queue : QName) (pty : ℕ) (d : Sbsd) (e : QueueEntry) → object_named sbs o.sbsds ≡ Some d → entry_for queue d ≡ Some e → Admits o (is_from_priority sbs queue pty) (maxpty_of e pty)
+admits_maxpty o sbs queue pty d e k f t c j g n h = below_maxpty t c j sbs queue pty d e n (named o t.objects sbs d g k) f h
 
--- no start passes a limit in settling
-settled_limits : (s t : State) → IsNumbered t → StartsNone s t → IsWithinLimits s (settle t)
-settled_limits s t n h = record {
-  maxjobs = λ j sbs d b its k. settled_within s t (is_in_sbs sbs) d.maxjobs n h (admits_maxjobs (leave t) sbs d (described t sbs d k)) j b its;
-  maxact = λ j sbs queue d e b its k f. settled_within s t (is_from_queue sbs queue) e.maxact n h (admits_maxact (leave t) sbs queue d e (described t sbs d k) f) j b its;
-  maxpty = λ j sbs queue pty d e b its k f. settled_within s t (is_from_priority sbs queue pty) (maxpty_of e pty) n h (admits_maxpty (leave t) sbs queue pty d e (described t sbs d k) f) j b its;
+admits_route : (o : Objects) (sbs : QName) (seq : ℕ) (d : Sbsd) (e : RouteEntry) → IsRouted o → object_named sbs o.sbsds ≡ Some d → entry_numbered seq d ≡ Some e → Admits o (is_by_route sbs seq) e.maxact
+admits_route o sbs seq d e r k f t c j g n h =
+    below_route t c.sbs (from_queue c.sbs c.jobq j) j sbs seq d e (λ x y z. refl) (subst IsRouted (sym g) r) (named o t.objects sbs d g k) f h
+
+-- no start passes a limit, where the call started only autostart jobs, and those within the limits of their routing entries
+settled_limits : (s t : State) → IsNumbered t → IsRouted t.objects → StartsAutos s t → RoutesWithin s t → IsWithinLimits s (settle t)
+settled_limits s t n r h w = record {
+  maxjobs = λ j sbs d b kind its k. settled_within s t (is_in_sbs sbs) is_autostart d.maxjobs n (inl (none_new_yet s t (is_in_sbs sbs) is_autostart h (λ x y e. refl))) (admits_maxjobs t.objects sbs d (described t sbs d k)) j b its kind;
+  maxact = λ j sbs queue d e b its k f. settled_within s t (is_from_queue sbs queue) none_aside e.maxact n (inl (none_new_yet s t (is_from_queue sbs queue) none_aside h (λ x y e. absurd (cc)))) (admits_maxact t.objects sbs queue d e (described t sbs d k) f) j b its refl;
+  maxpty = λ j sbs queue pty d e b its k f. settled_within s t (is_from_priority sbs queue pty) none_aside (maxpty_of e pty) n (inl (none_new_yet s t (is_from_priority sbs queue pty) none_aside h (λ x y e. absurd (cc)))) (admits_maxpty t.objects sbs queue pty d e (described t sbs d k) f) j b its refl;
+  routes = λ j sbs seq d e b its k f. settled_within s t (is_by_route sbs seq) none_aside e.maxact n (w sbs seq d e r (described t sbs d k) f) (admits_route t.objects sbs seq d e r (described t sbs d k) f) j b its refl;
 }
 
 -- nor over a step
-pub step_limits : (s : State) (caller : ℕ) (call : Call) (moment : ℕ) → IsNumbered s → IsWithinLimits s (step s caller call moment).state
+pub step_limits : (s : State) (caller : ℕ) (call : Call) (moment : ℕ) → IsNumbered s → HasOrders s → IsWithinLimits s (step s caller call moment).state
 unfolding step
-step_limits s caller call moment n =
+step_limits s caller call moment n h =
     let c = with_clock s moment in
     let t = (apply c caller call).state in
-    settled_limits s t (apply_keeps c caller call (clock_keeps s moment n)) (call_keeps (StartsNone c) c caller call (calls_start_none c))
+    settled_limits s t (apply_keeps c caller call (clock_keeps s moment n)) (apply_keeps_orders c caller call (clock_keeps_orders s moment h)).routed
+    (call_keeps (StartsAutos c) c caller call (calls_start_autos c))
+    (call_keeps (RoutesWithin c) c caller call (calls_within_routes c))
 
 -- nor over any entry of a history
-pub limits_kept : (s : State) (h : List Entry) → IsNumbered s → KeepsLimits s h
-limits_kept s [] n = tt
-limits_kept s (e ∷ es) n = (step_limits s e.caller e.call e.moment n, limits_kept (stepped s e).state es (step_keeps_numbers s e.caller e.call e.moment n))
+pub limits_kept : (s : State) (h : List Entry) → IsNumbered s → HasOrders s → KeepsLimits s h
+limits_kept s [] n o = tt
+limits_kept s (e ∷ es) n o = (step_limits s e.caller e.call e.moment n o, limits_kept (stepped s e).state es (step_keeps_numbers s e.caller e.call e.moment n) (step_keeps_orders s e.caller e.call e.moment n o))

@@ -14,6 +14,10 @@ in_longer [] y x i = absurd i
 in_longer (z ∷ xs) y x (inl e) = inl e
 in_longer (z ∷ xs) y x (inr i) = inr (in_longer xs y x i)
 
+pub last_in : {X : Type 0} (xs : List X) (y : X) → IsIn y (xs ++ y ∷ [])
+last_in [] y = inl refl
+last_in (z ∷ xs) y = inr (last_in xs y)
+
 pub of_mapped : {X Y : Type 0} (f : X → Y) (xs : List X) (y : Y) → IsIn y (map f xs) → (x : X) × IsIn x xs × (y ≡ f x)
 of_mapped f [] y i = absurd i
 of_mapped f (x ∷ xs) y (inl e) = (x, inl refl, e)

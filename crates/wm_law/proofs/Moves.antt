@@ -1,7 +1,9 @@
 -- What a call can come to, and what a step can do to a state. Here alone the calls are gone over, one by one.
-use Rattle.std.proofs.Common.{◌≡◌, ℕ, ◌<◌, ◌≤◌, ◌==◌, not, Bool, true, false, cond, List, [], ◌∷◌, map, Option, Some, None, is_some, refl, arith}
+use Rattle.std.proofs.Common.{◌≡◌, ℕ, ◌<◌, ◌≤◌, ◌-◌, ◌==◌, not, Bool, true, false, cond, List, [], ◌∷◌, length, map, fold, Option, Some, None, is_some, nat_le, nat_lt, min, refl, arith}
 use Rattle.std.specs.List.{find}
 use Rattle.std.specs.Option.{IsSome}
+use Rattle.std.proofs.lemmas.Bool.Decides.{nat_tests}
+use Rattle.std.proofs.Math.Nat.{min-le_left, min-le_right}
 use Rattle.wm_base.specs.declared.job.Asked.TheVariants.{Start}
 use Rattle.wm_base.specs.declared.job.EndCause.TheVariants as cause
 use Rattle.wm_base.specs.declared.job.StartOrder.{StartOrder}
@@ -12,6 +14,7 @@ use Rattle.wm_base.specs.declared.refusal.Refusal.TheVariants.{NoJob, NoObject, 
 use Rattle.wm_base.specs.Iterate.{IsKept}
 use Rattle.wm_base.proofs.Iterate.{iterate-keeps}
 use Rattle.wm_desc.specs.declared.description.Jobd.{Jobd}
+use Rattle.wm_desc.specs.declared.entry.AutoEntry.{AutoEntry}
 use Rattle.wm_desc.specs.declared.objects.Objects.{Objects}
 use Rattle.wm_desc.specs.Table.{object_named}
 use Rattle.wm_law.specs.declared.call.Call.{Call}
@@ -24,8 +27,11 @@ use Rattle.wm_law.specs.declared.command.Sbmjob.{Sbmjob}
 use Rattle.wm_law.specs.declared.job.Job.{Job}
 use Rattle.wm_law.specs.declared.job.Phase.{Phase}
 use Rattle.wm_law.specs.declared.job.Phase.TheVariants.{Waiting, Starting, Handed, Running, Ended}
+use Rattle.wm_law.specs.declared.state.Sbs.{Sbs}
 use Rattle.wm_law.specs.declared.state.State.{State}
 use Rattle.wm_law.specs.declared.state.Power.TheVariants.{DownNow}
+use Rattle.wm_law.specs.declared.state.SbsPhase.TheVariants.{Active}
+use Rattle.wm_law.specs.Autos.{auto_described, auto_made, autos_of, make_auto}
 use Rattle.wm_law.specs.Choice.{next}
 use Rattle.wm_law.specs.Counts.{is_starting, is_waiting}
 use Rattle.wm_law.specs.Fit.{HasCall}
@@ -39,10 +45,10 @@ use Rattle.wm_law.specs.Power.{end_now, is_on, is_down_now}
 use Rattle.wm_law.specs.Reports.{with_phase, hand_job, hand_order, report_on, is_handed_to, is_run_by, phase_word, done_with, end_cause}
 use Rattle.wm_law.specs.Settling.{leave, waiting}
 use Rattle.wm_law.specs.Stepped.{Stepped, refused}
-use Rattle.wm_law.specs.Submitting.{submit_refusal, submit_unless, submit_with, submitted_job, entered, has_numbers, queue_of}
-use Rattle.wm_law.specs.Subsystems.{start_refusal, start_unless}
-use Rattle.wm_law.proofs.Members.{found_among}
-use Rattle.wm_law.proofs.Objects.{IsObjectChange, class_made, queue_made, program_made, job_description_made, description_made, queue_added, route_added, queue_removed, route_removed}
+use Rattle.wm_law.specs.Submitting.{submit_refusal, submit_unless, submit_with, submitted_job, entered, has_numbers, numbers_end, numbers_left, queue_of, serials_end}
+use Rattle.wm_law.specs.Subsystems.{begun, is_started, max_started, start_refusal, start_unless}
+use Rattle.wm_law.proofs.Members.{found_among, last_in}
+use Rattle.wm_law.proofs.Objects.{IsObjectChange, class_made, queue_made, program_made, job_description_made, description_made, queue_added, route_added, auto_added, queue_removed, route_removed, auto_removed}
 use Rattle.wm_law.proofs.Tests.{of_not, same_number, unrefused}
 
 -- a phase past Waiting, and one that isn't before it
@@ -55,6 +61,29 @@ pub record IsAcceptable (s : State) (c : Sbmjob) (d : Jobd) : Type 0 where
   pub numbers : has_numbers s ≡ true
   pub queue : IsSome (object_named (queue_of c d) s.objects.jobqs)
 
+-- STRSBS isn't refused: the power is On, the description is there, no started subsystem has its simple name, and there is room, and numbers for the autostart jobs
+pub record IsStartable (s : State) (q : QName) : Type 0 where
+  pub on : is_on s.power ≡ true
+  pub there : IsSome (object_named q s.objects.sbsds)
+  pub fresh : is_started s q.name ≡ false
+  pub room : nat_le max_started (length s.started) ≡ false
+  pub numbers : nat_lt (numbers_left s) (length (autos_of s q)) ≡ false
+
+startable : (s : State) (q : QName) → start_refusal s q ≡ None → IsStartable s q
+startable s q e =
+    let on = unrefused (not (is_on s.power)) _ _ e in
+    let there = unrefused (not (is_some (object_named q s.objects.sbsds))) _ _ on.1 in
+    let fresh = unrefused (is_started s q.name) _ _ there.1 in
+    let room = unrefused (nat_le max_started (length s.started)) _ _ fresh.1 in
+    let numbers = unrefused (nat_lt (numbers_left s) (length (autos_of s q))) _ _ room.1 in
+    record {
+      on = of_not (is_on s.power) on.0;
+      there = of_not (is_some (object_named q s.objects.sbsds)) there.0;
+      fresh = fresh.0;
+      room = room.0;
+      numbers = numbers.0;
+    }
+
 -- P holds of whatever the call can come to: of its reply, and of the state before it settles
 pub record HoldsAfterCalls (P : Stepped → Type 0) (s : State) (call : Call) : Type 0 where
   pub refuses : (x : Refusal) → P (refused s x)
@@ -62,7 +91,7 @@ pub record HoldsAfterCalls (P : Stepped → Type 0) (s : State) (call : Call) : 
   pub notes : P (record { reply = Noted; state = s })
   pub hands : (m : ℕ) (j : Job) (o : StartOrder) → IsIn j s.jobs → is_starting j.phase ≡ true → order_of s j ≡ Some o → P (record { reply = Order (Start o); state = with_phase s j.serial (Handed m) })
   pub reports : (serial : ℕ) (j : Job) (phase : Phase) → IsIn j s.jobs → j.serial ≡ serial → IsOnward j.phase phase → is_starting phase ≡ false → P (record { reply = Noted; state = with_phase s serial phase })
-  pub starts : (q : QName) → start_refusal s q ≡ None → P (start_unless s q None)
+  pub starts : (q : QName) → IsStartable s q → P (start_unless s q None)
   pub enters : (user : List ℕ) (c : Sbmjob) (d : Jobd) → IsAcceptable s c d → P (submit_unless s user c d None)
   pub powers : P (record { reply = PowerDown; state = record s { started = map end_now s.started; power = DownNow } })
   pub makes : (o : Objects) → IsObjectChange s o → P (record { reply = Made; state = record s { objects = o } })
@@ -73,7 +102,7 @@ module _ (P : Stepped → Type 0) (s : State) (call : Call) (h : HoldsAfterCalls
   either false t u k l = l refl
 
   start : (q : QName) (o : Option Refusal) → start_refusal s q ≡ o → P (start_unless s q o)
-  start q None e = h.starts q e
+  start q None e = h.starts q (startable s q e)
   start q (Some x) e = h.refuses x
 
   submitted : (user : List ℕ) (c : Sbmjob) (d : Jobd) (o : Option Refusal) → submit_refusal s c d ≡ o → P (submit_unless s user c d o)
@@ -156,8 +185,10 @@ changed P s user (command.Crtjobd c) h = made P s _ h _ _ (job_description_made 
 changed P s user (command.Crtsbsd c) h = made P s _ h _ _ (description_made s c)
 changed P s user (command.Addjobqe c) h = made P s _ h _ _ (queue_added s c)
 changed P s user (command.Addrtge c) h = made P s _ h _ _ (route_added s c)
+changed P s user (command.Addaje c) h = made P s _ h _ _ (auto_added s c)
 changed P s user (command.Rmvjobqe c) h = made P s _ h _ _ (queue_removed s c)
 changed P s user (command.Rmvrtge c) h = made P s _ h _ _ (route_removed s c)
+changed P s user (command.Rmvaje c) h = made P s _ h _ _ (auto_removed s c)
 changed P s user (command.Strsbs c) h = start P s _ h c.sbsd (start_refusal s c.sbsd) refl
 changed P s user (command.Sbmjob c) h = either P s _ h (is_on s.power) _ _ (λ t. submitted_with P s _ h user c (object_named c.jobd s.objects.jobds)) (λ t. h.refuses PoweringDown)
 changed P s user (command.Pwrdwnsys c) h = either P s _ h (is_down_now s.power) _ _ (λ t. h.refuses PoweringDown) (λ t. h.powers)
@@ -173,10 +204,64 @@ call_comes P s caller (Finished serial end) h = reported P s _ h serial (is_run_
 call_comes P s caller (UseDone serial) h = done P s _ h caller (find (λ j. j.serial == serial) s.jobs)
 call_comes P s caller Tick h = h.notes
 
--- P holds of whatever state a call can leave before it settles
+-- a job can be made and launched in a subsystem: a number and a serial are left, and the subsystem is started
+pub record IsMakeable (q : QName) (t : State) : Type 0 where
+  pub number : t.next_number < numbers_end
+  pub serial : t.next_serial < serials_end
+  pub sbs : Sbs
+  pub started : IsIn sbs t.started
+  pub named : sbs.sbsd ≡ q
+
+-- so it is with one job after another
+record AreMakeable (q : QName) (es : List AutoEntry) (t : State) : Type 0 where
+  numbers : length es ≤ numbers_end - t.next_number
+  serials : length es ≤ serials_end - t.next_serial
+  sbs : Sbs
+  started : IsIn sbs t.started
+  named : sbs.sbsd ≡ q
+
+-- what each autostart job keeps, all keep
+module _ (P : State → Type 0) (q : QName) (keeps : (t : State) (e : AutoEntry) (d : Jobd) → IsMakeable q t → P t → P (auto_made t q e d)) where
+  made_one : (e : AutoEntry) (es : List AutoEntry) (t : State) (o : Option Jobd) → AreMakeable q (e ∷ es) t → P t → P (auto_described t q e o)
+  made_one e es t None m p = p
+  made_one e es t (Some d) m p =
+      let numbers = m.numbers in
+      let serials = m.serials in
+      keeps t e d (record { number = omega arith; serial = omega arith; sbs = m.sbs; started = m.started; named = m.named }) p
+
+  made_rest : (e : AutoEntry) (es : List AutoEntry) (t : State) (o : Option Jobd) → AreMakeable q (e ∷ es) t → AreMakeable q es (auto_described t q e o)
+  made_rest e es t None m =
+      let numbers = m.numbers in
+      let serials = m.serials in
+      record { numbers = omega arith; serials = omega arith; sbs = m.sbs; started = m.started; named = m.named }
+  made_rest e es t (Some d) m =
+      let numbers = m.numbers in
+      let serials = m.serials in
+      record { numbers = omega arith; serials = omega arith; sbs = m.sbs; started = m.started; named = m.named }
+
+  made_all : (es : List AutoEntry) (t : State) → AreMakeable q es t → P t → P (fold (make_auto q) t es)
+  made_all [] t m p = p
+  made_all (e ∷ es) t m p =
+      made_all es (make_auto q t e) (made_rest e es t (object_named e.jobd t.objects.jobds) m) (made_one e es t (object_named e.jobd t.objects.jobds) m p)
+
+enough : (numbered : Bool) (a b n : ℕ) → nat_lt (cond numbered (min a b) 0) n ≡ false → (n ≤ a) × (n ≤ b)
+enough false a b n h = let none : n ≤ 0 = grind (arith, nat_tests) in (omega arith, omega arith)
+enough true a b n h =
+    let all : n ≤ min a b = grind (arith, nat_tests) in
+    let left = min-le_left a b in
+    let right = min-le_right a b in
+    (omega arith, omega arith)
+
+makeable : (s : State) (q : QName) → IsStartable s q → AreMakeable q (autos_of s q) (begun s q)
+makeable s q h =
+    let left = enough (nat_le 1 s.next_number) (numbers_end - s.next_number) (serials_end - s.next_serial) (length (autos_of s q)) h.numbers in
+    record { numbers = left.0; serials = left.1; sbs = record { sbsd = q; phase = Active }; started = last_in s.started (record { sbsd = q; phase = Active }); named = refl }
+
+-- P holds of whatever state a call can leave before it settles: a subsystem that starts keeps it, and so does each of its autostart jobs
 pub record HoldsOfStates (P : State → Type 0) (s : State) : Type 0 where
   pub stays : P s
-  pub starts : (q : QName) → start_refusal s q ≡ None → P (start_unless s q None).state
+  pub starts : (q : QName) → IsStartable s q → P (begun s q)
+  pub autos : (q : QName) (t : State) (e : AutoEntry) (d : Jobd) → IsMakeable q t → P t → P (auto_made t q e d)
   pub enters : (user : List ℕ) (c : Sbmjob) (d : Jobd) → IsAcceptable s c d → P (entered s (submitted_job s user c d))
   pub moves : (serial : ℕ) (j : Job) (phase : Phase) → IsIn j s.jobs → j.serial ≡ serial → IsOnward j.phase phase → is_starting phase ≡ false → P (with_phase s serial phase)
   pub powers : P (record s { started = map end_now s.started; power = DownNow })
@@ -189,7 +274,7 @@ of_states P s call h = record {
   notes = h.stays;
   hands = λ m j o i e f. h.moves j.serial j (Handed m) i refl (onward j.phase (Handed m) 1 (starting_rank j.phase e) (omega arith) (omega arith)) refl;
   reports = λ serial j phase i e r n. h.moves serial j phase i e r n;
-  starts = λ q e. h.starts q e;
+  starts = λ q e. made_all P q (h.autos q) (autos_of s q) (begun s q) (makeable s q e) (h.starts q e);
   enters = λ user c d has. h.enters user c d has;
   powers = h.powers;
   makes = λ o c. h.makes o c;

@@ -17,7 +17,7 @@ use Rattle.wm_law.specs.declared.state.State.{State}
 use Rattle.wm_law.specs.Choice.{entry_for, is_sbs_active, maxpty_of, next}
 use Rattle.wm_law.specs.Counts.{count_from_priority, count_from_queue, count_in_sbs, is_from_priority, is_from_queue, is_in_sbs}
 use Rattle.wm_law.specs.Kept.{IsNumbered}
-use Rattle.wm_law.specs.Launch.{launched, launched_by, launched_through, route, route_fault}
+use Rattle.wm_law.specs.Launch.{from_queue, launched, launched_as, launched_by, launched_through, route, route_fault}
 use Rattle.wm_law.specs.Laws.{IsFirst, MayStart, Turn}
 use Rattle.wm_law.proofs.Firsts.{next_is_first}
 use Rattle.wm_law.proofs.Forward.{only_one}
@@ -45,17 +45,21 @@ is_next s c j e n f =
     let same : first.0 ≡ j = only_one s.jobs n.serials.distinct first.0 j is_first.job k.0 (sym named.serial ∙ serial) in
     record { turn = turn; first = subst (λ (x : Job). IsFirst s x turn) same is_first; serial = serial; sbs = named.sbs; jobq = named.jobq }
 
-came_by : (test : How → Bool) (sbs jobq : QName) (j : Job) (seq : ℕ) (o : Option EndCause) → test NotYet ≡ false → test (launched_by sbs jobq j seq o).how ≡ true → (n : ℕ) × ((launched_by sbs jobq j seq o).how ≡ FromQueue sbs jobq j.pty n)
-came_by test sbs jobq j seq None n h = (seq, refl)
-came_by test sbs jobq j seq (Some cause) n h = let yes : test NotYet ≡ true = h in absurd (cc)
+came_by : (test : How → Bool) (how : ℕ → How) (seq : ℕ) (o : Option EndCause) → test NotYet ≡ false → test (launched_by how seq o).how ≡ true → (n : ℕ) × ((launched_by how seq o).how ≡ how n)
+came_by test how seq None n h = (seq, refl)
+came_by test how seq (Some cause) n h = let yes : test NotYet ≡ true = h in absurd (cc)
 
-came_through : (test : How → Bool) (s : State) (sbs jobq : QName) (j : Job) (o : Option RouteEntry) → test NotYet ≡ false → test (launched_through s sbs jobq j o).how ≡ true → (n : ℕ) × ((launched_through s sbs jobq j o).how ≡ FromQueue sbs jobq j.pty n)
-came_through test s sbs jobq j None n h = let yes : test NotYet ≡ true = h in absurd (cc)
-came_through test s sbs jobq j (Some e) n h = came_by test sbs jobq j e.seq (route_fault s sbs e j) n h
+came_through : (test : How → Bool) (s : State) (sbs : QName) (how : ℕ → How) (j : Job) (o : Option RouteEntry) → test NotYet ≡ false → test (launched_through s sbs how j o).how ≡ true → (n : ℕ) × ((launched_through s sbs how j o).how ≡ how n)
+came_through test s sbs how j None n h = let yes : test NotYet ≡ true = h in absurd (cc)
+came_through test s sbs how j (Some e) n h = came_by test how e.seq (route_fault s sbs e j) n h
 
--- a launch whose how passes a test that jobs not yet started don't pass is one from the queue
+-- a launch whose how passes a test that jobs not yet started don't pass is by a routing entry
+came_as : (test : How → Bool) (s : State) (sbs : QName) (how : ℕ → How) (j : Job) → test NotYet ≡ false → test (launched_as s sbs how j).how ≡ true → (n : ℕ) × ((launched_as s sbs how j).how ≡ how n)
+came_as test s sbs how j n h = came_through test s sbs how j (option_and_then (λ d. route d j.rtgdta) (object_named sbs s.objects.sbsds)) n h
+
+-- so that of a job of a queue is one from the queue
 came_from : (test : How → Bool) (s : State) (sbs jobq : QName) (j : Job) → test NotYet ≡ false → test (launched s sbs jobq j).how ≡ true → (n : ℕ) × ((launched s sbs jobq j).how ≡ FromQueue sbs jobq j.pty n)
-came_from test s sbs jobq j n h = came_through test s sbs jobq j (option_and_then (λ d. route d j.rtgdta) (object_named sbs s.objects.sbsds)) n h
+came_from test s sbs jobq j n h = came_as test s sbs (from_queue sbs jobq j) j n h
 
 -- the counts are below their limits
 record IsBelowLimits (s : State) (t : Turn) (pty : ℕ) : Type 0 where

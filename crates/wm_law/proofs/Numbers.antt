@@ -2,6 +2,7 @@
 use Rattle.std.proofs.Common.{◌≡◌, ℕ, ℤ, ◌+◌, ◌<◌, ◌==◌, ◌++◌, true, false, List, [], ◌∷◌, map, Option, Some, None, refl, sym, ap, subst, inl, inr, nat_lt, nat_le, arith}
 use Rattle.std.specs.List.{find}
 use Rattle.std.proofs.lemmas.Bool.Decides.{nat_tests}
+use Rattle.wm_base.specs.declared.qname.QName.{QName}
 use Rattle.wm_base.specs.Iterate.{IsKept}
 use Rattle.wm_law.specs.declared.call.Call.{Call}
 use Rattle.wm_law.specs.declared.command.Sbmjob.{Sbmjob}
@@ -10,13 +11,15 @@ use Rattle.wm_law.specs.declared.job.Job.{Job}
 use Rattle.wm_law.specs.declared.job.Phase.{Phase}
 use Rattle.wm_law.specs.declared.launch.Launched.{Launched}
 use Rattle.wm_desc.specs.declared.description.Jobd.{Jobd}
+use Rattle.wm_desc.specs.declared.entry.AutoEntry.{AutoEntry}
 use Rattle.wm_law.specs.declared.state.State.{State}
+use Rattle.wm_law.specs.Autos.{auto_job, auto_launched, auto_made}
 use Rattle.wm_law.specs.Choice.{next}
 use Rattle.wm_law.specs.Counts.{is_waiting}
 use Rattle.wm_law.specs.Fit.{IsBetween}
 use Rattle.wm_law.specs.Kept.{IsDistinct, IsBelow, IsGiven, IsNumbered, waiting_places, OpeningIsNumbered, StepKeepsNumbers, NumbersAreGivenOnce}
 use Rattle.wm_law.specs.Jobs.{with_job}
-use Rattle.wm_law.specs.Launch.{as_launched, launch, launch_job, launched, with_launched}
+use Rattle.wm_law.specs.Launch.{as_auto, as_launched, launch, launch_job, launched, with_launched}
 use Rattle.wm_law.specs.Laws.{IsIn}
 use Rattle.wm_law.specs.Submitting.{submitted_job, entered, has_numbers, numbers_end, serials_end}
 use Rattle.wm_law.specs.Reports.{in_phase, with_phase}
@@ -24,10 +27,10 @@ use Rattle.wm_law.specs.Settling.{leave}
 use Rattle.wm_law.specs.Machine.{apply, with_clock}
 use Rattle.wm_law.proofs.Opened.{opened, opening_is}
 use Rattle.wm_law.proofs.Changed.{keys_kept}
-use Rattle.wm_law.proofs.Moves.{HoldsOfStates, IsKeptByParts, call_keeps, never_waits, step_keeps, after_keeps}
-use Rattle.wm_law.proofs.Settling.{not_waiting}
+use Rattle.wm_law.proofs.Moves.{HoldsOfStates, IsKeptByParts, IsMakeable, call_keeps, never_waits, step_keeps, after_keeps}
+use Rattle.wm_law.proofs.Settling.{launch_never_waits, not_waiting}
 use Rattle.wm_law.proofs.Tests.{of_four}
-use Rattle.wm_law.proofs.Waits.{still_distinct, waiting_below, waiting_more}
+use Rattle.wm_law.proofs.Waits.{still_distinct, waiting_below, waiting_more, waiting_same}
 
 -- the same serials, numbers and places, no job that comes to wait, and the same next ones
 pub record SameNumbers (s t : State) : Type 0 where
@@ -137,10 +140,33 @@ entered_keeps s user c d has h =
       next_place = record { least = omega arith; most = omega arith };
     }
 
-calls : (s : State) → IsNumbered s → HoldsOfStates IsNumbered s
+below_last : (n m : ℕ) (xs : List ℕ) → m < n → IsBelow n xs → IsBelow n (xs ++ m ∷ [])
+below_last n m [] less h = (less, tt)
+below_last n m (x ∷ xs) less h = (h.0, below_last n m xs less h.1)
+
+-- an autostart job takes a number and a serial, and no place, and doesn't wait
+auto_keeps : (q : QName) (s : State) (e : AutoEntry) (d : Jobd) → IsMakeable q s → IsNumbered s → IsNumbered (auto_made s q e d)
+auto_keeps q s e d m h =
+    let j = auto_launched s q (auto_job s e d) in
+    let idle : is_waiting j.phase ≡ false = launch_never_waits s q (as_auto q) (auto_job s e d) in
+    let a = m.number in
+    let b = m.serial in
+    let least = h.next_place.least in
+    record {
+      serials = given_entered (λ j. j.serial) s.jobs j s.next_serial refl h.serials;
+      numbers = given_entered (λ j. j.job.number) s.jobs j s.next_number refl h.numbers;
+      waiting = subst IsDistinct (sym (waiting_same s.jobs j idle)) h.waiting;
+      places = subst (IsBelow s.next_place) (sym (map_more (λ j. j.place) s.jobs j)) (below_last s.next_place 0 (map (λ (i : Job). i.place) s.jobs) (omega arith) h.places);
+      next_number = record { least = omega arith; most = omega arith };
+      next_serial = record { least = omega arith; most = omega arith };
+      next_place = h.next_place;
+    }
+
+pub calls : (s : State) → IsNumbered s → HoldsOfStates IsNumbered s
 calls s h = record {
   stays = h;
   starts = λ q e. numbered_same s _ (record { serials = refl; numbers = refl; waiting = λ d. d; places = refl; next_number = refl; next_serial = refl; next_place = refl }) h;
+  autos = auto_keeps;
   enters = λ user c d a. entered_keeps s user c d a.numbers h;
   moves = λ serial j phase i e r n. numbered_same s _ (phase_same s serial phase (never_waits j.phase phase r)) h;
   powers = numbered_same s _ (record { serials = refl; numbers = refl; waiting = λ d. d; places = refl; next_number = refl; next_serial = refl; next_place = refl }) h;

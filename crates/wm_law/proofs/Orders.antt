@@ -4,12 +4,11 @@ use Rattle.std.specs.List.{find, count_by}
 use Rattle.std.specs.Option.{IsSome, option_and_then, option_map}
 use Rattle.std.proofs.lemmas.List.Sums.{sum_by-cons}
 use Rattle.wm_base.specs.declared.job.Class.{Class}
-use Rattle.wm_base.specs.declared.job.EndCause.{EndCause}
 use Rattle.wm_base.specs.declared.job.How.{How}
 use Rattle.wm_base.specs.declared.job.How.TheVariants.{FromQueue}
 use Rattle.wm_base.specs.declared.job.StartOrder.{StartOrder}
 use Rattle.wm_base.specs.declared.qname.QName.{QName}
-use Rattle.wm_base.specs.Limit.{is_below}
+use Rattle.wm_law.specs.declared.call.Call.{Call}
 use Rattle.wm_law.specs.declared.call.Entry.{Entry}
 use Rattle.wm_law.specs.declared.call.Reply.TheVariants.{Nothing}
 use Rattle.wm_law.specs.declared.command.Sbmjob.{Sbmjob}
@@ -21,17 +20,19 @@ use Rattle.wm_law.specs.declared.launch.Launched.{Launched}
 use Rattle.wm_desc.specs.declared.description.Jobd.{Jobd}
 use Rattle.wm_desc.specs.declared.objects.Objects.{Objects}
 use Rattle.wm_desc.specs.declared.description.Program.{Program}
+use Rattle.wm_desc.specs.declared.entry.AutoEntry.{AutoEntry}
 use Rattle.wm_desc.specs.declared.entry.RouteEntry.{RouteEntry}
 use Rattle.wm_desc.specs.declared.description.Sbsd.{Sbsd}
 use Rattle.wm_law.specs.declared.state.State.{State}
 use Rattle.wm_base.specs.Iterate.{IsKept}
 use Rattle.wm_base.proofs.Iterate.{iterate-keeps}
 use Rattle.wm_law.specs.declared.state.Sbs.{Sbs}
+use Rattle.wm_law.specs.Autos.{auto_job, auto_launched, auto_made}
 use Rattle.wm_law.specs.Choice.{has_entry, next}
-use Rattle.wm_law.specs.Counts.{is_in_sbs, is_starting, count_by_route}
+use Rattle.wm_law.specs.Counts.{is_in_sbs, is_starting}
 use Rattle.wm_law.specs.Kept.{IsLodged, IsNumbered, IsRouted, HasOrders, OpeningHasOrders, StepKeepsOrders, StartingJobsHaveOrders, HandGivesAnOrder, ReachedRouteIsLeast}
 use Rattle.wm_law.specs.Jobs.{changed_at}
-use Rattle.wm_law.specs.Launch.{as_launched, called_args, called_program, entry_numbered, is_match, launch, launch_job, launched, launched_at, launched_by, launched_through, missing_program, order_by, order_called, order_of, order_through, order_with, program_fault, route, route_fault}
+use Rattle.wm_law.specs.Launch.{as_auto, as_launched, called_args, called_program, entry_numbered, from_queue, is_match, launch, launch_job, launched, launched_as, launched_at, missing_program, order_by, order_called, order_of, order_through, order_with, program_fault, route_entry}
 use Rattle.wm_law.specs.Laws.{IsIn}
 use Rattle.wm_law.specs.Submitting.{submitted_job}
 use Rattle.wm_law.specs.Reports.{hand_job, hand_order, in_phase, phased_at}
@@ -46,14 +47,15 @@ use Rattle.wm_law.proofs.Lodged.{lodged_longer, lodged_ending, lodged_left}
 use Rattle.wm_law.proofs.Named.{own_name}
 use Rattle.wm_law.proofs.Remade.{order_kept}
 use Rattle.wm_law.proofs.Forward.{only_one}
+use Rattle.wm_law.proofs.Routed.{by_route}
 use Rattle.wm_law.proofs.Routes.{IsSorted, numbered_once, route_is_least}
 use Rattle.wm_law.proofs.Members.{found_among, of_last, of_mapped}
-use Rattle.wm_law.proofs.Moves.{HoldsOfStates, call_keeps}
+use Rattle.wm_law.proofs.Moves.{HoldsOfStates, IsMakeable, call_keeps}
 use Rattle.wm_law.proofs.Numbers.{apply_keeps, clock_keeps, launches_keep, only_started, step_keeps_numbers}
 use Rattle.wm_law.proofs.Tests.{same_number, unrefused}
 
 -- what a launch to Starting stands on: the routing entry, and the program that it calls
-record IsLed (s : State) (sbs jobq : QName) (j : Job) (l : Launched) : Type 0 where
+record IsLed (s : State) (sbs : QName) (by : ℕ → How) (j : Job) (l : Launched) : Type 0 where
   sbsd : Sbsd
   entry : RouteEntry
   pgm : QName
@@ -62,11 +64,7 @@ record IsLed (s : State) (sbs jobq : QName) (j : Job) (l : Launched) : Type 0 wh
   stands : IsIn entry sbsd.routes
   called : called_program entry j.rqsdta ≡ Some pgm
   found : object_named pgm s.objects.programs ≡ Some program
-  how : l.how ≡ FromQueue sbs jobq j.pty entry.seq
-
-of_none : {X : Type 0} (t : Bool) (o : Option X) (x : X) → cond t o (Some x) ≡ None → o ≡ None
-of_none true o x e = e
-of_none false o x e = absurd (cc)
+  how : l.how ≡ by entry.seq
 
 by_program : (s : State) (pgm : QName) (o : Option Program) → object_named pgm s.objects.programs ≡ o → missing_program o ≡ None → (p : Program) × (object_named pgm s.objects.programs ≡ Some p)
 by_program s pgm None e h = absurd (cc)
@@ -76,48 +74,41 @@ by_called : (s : State) (e : RouteEntry) (j : Job) (o : Option QName) → called
 by_called s e j None f h = absurd (cc)
 by_called s e j (Some pgm) f h = (pgm, f, by_program s pgm (object_named pgm s.objects.programs) refl h)
 
-by_cause : (sbs jobq : QName) (j : Job) (seq : ℕ) (o : Option EndCause) → (launched_by sbs jobq j seq o).phase ≡ Starting → (o ≡ None) × ((launched_by sbs jobq j seq o).how ≡ FromQueue sbs jobq j.pty seq)
-by_cause sbs jobq j seq None e = (refl, refl)
-by_cause sbs jobq j seq (Some cause) e = absurd (cc)
-
-by_route : (s : State) (sbs jobq : QName) (j : Job) (d : Sbsd) (o : Option RouteEntry) → object_named sbs s.objects.sbsds ≡ Some d → route d j.rtgdta ≡ o → (launched_through s sbs jobq j o).phase ≡ Starting → IsLed s sbs jobq j (launched_through s sbs jobq j o)
-by_route s sbs jobq j d None k r h = absurd (cc)
-by_route s sbs jobq j d (Some e) k r h =
-    let cause = by_cause sbs jobq j e.seq (route_fault s sbs e j) h in
-    let called = by_called s e j (called_program e j.rqsdta) refl (of_none (is_below (count_by_route sbs e.seq s.jobs) e.maxact) _ _ cause.0) in
+is_led : (s : State) (sbs : QName) (by : ℕ → How) (j : Job) → (launched_as s sbs by j).phase ≡ Starting → IsLed s sbs by j (launched_as s sbs by j)
+is_led s sbs by j h =
+    let r = by_route s sbs by j h in
+    let called = by_called s r.entry j (called_program r.entry j.rqsdta) refl r.startable in
     let program = called.2 in
     record {
-      sbsd = d;
-      entry = e;
+      sbsd = r.sbsd;
+      entry = r.entry;
       pgm = called.0;
       program = program.0;
-      description = k;
-      stands = (found_among (λ (x : RouteEntry). is_match x.cmp j.rtgdta) d.routes e r).0;
+      description = r.described;
+      stands = (found_among (λ (x : RouteEntry). is_match x.cmp j.rtgdta) r.sbsd.routes r.entry r.routed).0;
       called = called.1;
       found = program.1;
-      how = cause.1;
+      how = r.is_how;
     }
-
-by_description : (s : State) (sbs jobq : QName) (j : Job) (o : Option Sbsd) → object_named sbs s.objects.sbsds ≡ o → (launched_through s sbs jobq j (option_and_then (λ d. route d j.rtgdta) o)).phase ≡ Starting → IsLed s sbs jobq j (launched_through s sbs jobq j (option_and_then (λ d. route d j.rtgdta) o))
-by_description s sbs jobq j None k h = absurd (cc)
-by_description s sbs jobq j (Some d) k h = by_route s sbs jobq j d (route d j.rtgdta) k refl h
-
-is_led : (s : State) (sbs jobq : QName) (j : Job) → (launched s sbs jobq j).phase ≡ Starting → IsLed s sbs jobq j (launched s sbs jobq j)
-is_led s sbs jobq j h = by_description s sbs jobq j (object_named sbs s.objects.sbsds) refl h
 
 with_class : (j : Job) (args : List (List ℕ)) (p : Program) (o : Option Class) → IsSome o → IsSome (order_with j args (Some p) o)
 with_class j args p None h = absurd (cc)
 with_class j args p (Some cls) h = refl
 
+-- the order of a job with the how is that by the routing entry of the number
+abbrev Leads : State → QName → (ℕ → How) → Type 0
+Leads s sbs by = (j : Job) (seq : ℕ) → order_by s j (by seq) ≡ order_through s j (route_entry s sbs seq)
+
 -- so a job that was launched to Starting has its order
-has_order : (s : State) (sbs jobq : QName) (j : Job) (l : Launched) → IsRouted s.objects → IsLed s sbs jobq j l → IsSome (order_of s (record j { phase = l.phase; how = l.how }))
-has_order s sbs jobq j l routed led =
+has_order : (s : State) (sbs : QName) (by : ℕ → How) (j : Job) (l : Launched) → Leads s sbs by → IsRouted s.objects → IsLed s sbs by j l → IsSome (order_of s (record j { phase = l.phase; how = l.how }))
+has_order s sbs by j l leads routed led =
     let e = led.entry in
     let k = record j { phase = l.phase; how = l.how } in
     let numbered : entry_numbered e.seq led.sbsd ≡ Some e = numbered_once led.sbsd.routes e (routed.sorted sbs led.sbsd led.description) led.stands in
     let cls = routed.classes sbs led.sbsd e led.description led.stands in
     let same : order_of s k ≡ order_with k (called_args e k.rqsdta) (Some led.program) (object_named e.cls s.objects.classes) =
     ap (λ (h : How). order_by s k h) led.how
+    ∙ leads k e.seq
     ∙ ap (λ (o : Option Sbsd). order_through s k (option_and_then (entry_numbered e.seq) o)) led.description
     ∙ ap (order_through s k) numbered
     ∙ ap (order_called s k e) led.called
@@ -134,12 +125,16 @@ AllOrdered s jobs = OfStarting (λ j. IsSome (order_of s j)) jobs
 abbrev AllLodged : List Sbs → List Job → Type 0
 AllLodged started jobs = OfStarting (λ j. IsLodged started j) jobs
 
-entered : (Q : Job → Type 0) (s : State) (user : List ℕ) (c : Sbmjob) (d : Jobd) → OfStarting Q s.jobs → OfStarting Q (s.jobs ++ submitted_job s user c d ∷ [])
-entered Q s user c d h k i e =
-    elim (of_last s.jobs (submitted_job s user c d) k i) as (λ _. Q k) [
+-- one more job, for which Q holds if it is Starting
+last_of : (Q : Job → Type 0) (jobs : List Job) (j : Job) → (j.phase ≡ Starting → Q j) → OfStarting Q jobs → OfStarting Q (jobs ++ j ∷ [])
+last_of Q jobs j new h k i e =
+    elim (of_last jobs j k i) as (λ _. Q k) [
       | inl m ↦ h k m e
-      | inr same ↦ (let waiting : Waiting ≡ Starting = ap (λ (j : Job). j.phase) (sym same) ∙ e in absurd (cc))
+      | inr same ↦ subst Q (sym same) (new (ap (λ (x : Job). x.phase) (sym same) ∙ e))
     ]
+
+entered : (Q : Job → Type 0) (s : State) (user : List ℕ) (c : Sbmjob) (d : Jobd) → OfStarting Q s.jobs → OfStarting Q (s.jobs ++ submitted_job s user c d ∷ [])
+entered Q s user c d h = last_of Q s.jobs (submitted_job s user c d) (λ e. absurd (cc)) h
 
 changed_one : (Q : Job → Type 0) (change : Job → Job) (t : Bool) (j : Job) → (t ≡ true → (change j).phase ≡ Starting → Q (change j)) → (j.phase ≡ Starting → Q j) → (cond t (change j) j).phase ≡ Starting → Q (cond t (change j) j)
 changed_one Q change true j new h e = new refl e
@@ -161,7 +156,7 @@ launched_all s c f n h i same =
     changed_of (λ j. IsSome (order_of s j)) s.jobs c.serial (as_launched l)
     (λ j m t starts.
     let one = only_one s.jobs n.serials.distinct f j i m (same ∙ sym (same_number j.serial c.serial t)) in
-    subst (λ (x : Job). IsSome (order_of s (record x { phase = l.phase; how = l.how }))) one (has_order s c.sbs c.jobq f l h.routed (is_led s c.sbs c.jobq f starts)))
+    subst (λ (x : Job). IsSome (order_of s (record x { phase = l.phase; how = l.how }))) one (has_order s c.sbs (from_queue c.sbs c.jobq f) f l (λ x seq. refl) h.routed (is_led s c.sbs (from_queue c.sbs c.jobq f) f starts)))
     h.starting
 
 -- a subsystem that the next job's candidate names is started: it holds the job's queue
@@ -181,7 +176,7 @@ launched_lodged s c f e h =
     let l = launched s c.sbs c.jobq f in
     let b = named_started s c e in
     changed_of (IsLodged s.started) s.jobs c.serial (as_launched l)
-    (λ j m t starts. (let led = is_led s c.sbs c.jobq f starts in (b.0, b.1, came_into c.sbs c.jobq b.0.sbsd f.pty led.entry.seq l.how led.how b.2)))
+    (λ j m t starts. (let led = is_led s c.sbs (from_queue c.sbs c.jobq f) f starts in (b.0, b.1, came_into c.sbs c.jobq b.0.sbsd f.pty led.entry.seq l.how led.how b.2)))
     h.lodged
 
 -- numbered, and each Starting job has its order
@@ -214,10 +209,23 @@ alike s t e f lodged h = record {
   lodged = subst (λ (jobs : List Job). AllLodged t.started jobs) (sym f) lodged;
 }
 
+-- an autostart job that is Starting has its order, in the subsystem that it started with
+auto_ordered : (q : QName) (t : State) (e : AutoEntry) (d : Jobd) → IsMakeable q t → HasOrders t → HasOrders (auto_made t q e d)
+auto_ordered q t e d m h =
+    let j = auto_job t e d in
+    let l = launched_as t q (as_auto q) j in
+    let u = routed t h (t.jobs ++ auto_launched t q j ∷ [])
+    (last_of (λ k. IsSome (order_of t k)) t.jobs (auto_launched t q j) (λ starts. has_order t q (as_auto q) j l (λ x seq. refl) h.routed (is_led t q (as_auto q) j starts)) h.starting)
+    (last_of (IsLodged t.started) t.jobs (auto_launched t q j)
+    (λ starts. (m.sbs, m.started, ap (is_in_sbs m.sbs.sbsd) (is_led t q (as_auto q) j starts).how ∙ subst (λ (n : QName). same_qname q n ≡ true) (sym m.named) (own_name q)))
+    h.lodged) in
+    alike (record t { jobs = t.jobs ++ auto_launched t q j ∷ [] }) _ refl refl u.lodged u
+
 calls : (s : State) → HasOrders s → HoldsOfStates HasOrders s
 calls s h = record {
   stays = h;
   starts = λ q e. alike s _ refl refl (λ j i p. lodged_longer s.started _ j (h.lodged j i p)) h;
+  autos = auto_ordered;
   enters = λ user c d has. (let t = routed s h _ (entered (λ j. IsSome (order_of s j)) s user c d h.starting) (entered (IsLodged s.started) s user c d h.lodged) in alike (record s { jobs = s.jobs ++ submitted_job s user c d ∷ [] }) _ refl refl t.lodged t);
   moves = λ serial j phase i same r e. routed s h _ (moved (λ j. IsSome (order_of s j)) s.jobs serial phase e h.starting) (moved (IsLodged s.started) s.jobs serial phase e h.lodged);
   powers = alike s _ refl refl (λ j i p. lodged_ending s.started j (h.lodged j i p)) h;
@@ -231,13 +239,19 @@ calls s h = record {
 leaves : (t : State) → HasOrders t → HasOrders (leave t)
 leaves t h = alike t (leave t) refl refl (λ j i p. lodged_left t j i p (h.lodged j i p)) h
 
+pub clock_keeps_orders : (s : State) (moment : ℕ) → HasOrders s → HasOrders (with_clock s moment)
+clock_keeps_orders s moment h = alike s (with_clock s moment) refl refl h.lodged h
+
+pub apply_keeps_orders : (s : State) (caller : ℕ) (call : Call) → HasOrders s → HasOrders (apply s caller call).state
+apply_keeps_orders s caller call h = call_keeps HasOrders s caller call (calls s h)
+
 pub step_keeps_orders : StepKeepsOrders
 unfolding step
 step_keeps_orders s caller call moment n h =
     let c = with_clock s moment in
     let t = (apply c caller call).state in
     let numbered : IsNumbered t = apply_keeps c caller call (clock_keeps s moment n) in
-    let orders : HasOrders t = call_keeps HasOrders c caller call (calls c (alike s c refl refl h.lodged h)) in
+    let orders : HasOrders t = apply_keeps_orders c caller call (clock_keeps_orders s moment h) in
     (iterate-keeps IsOrdered launches_leave_orders (waiting (leave t)) (leave t) (record { numbered = only_started t numbered; orders = leaves t orders })).orders
 
 after_is_ordered : (s : State) (h : List Entry) → IsOrdered s → IsOrdered (after s h)

@@ -7,10 +7,12 @@ use Rattle.std.proofs.lemmas.Bool.Decides.{nat_tests}
 use Rattle.wm_base.specs.declared.job.How.{How}
 use Rattle.wm_base.specs.declared.limit.Limit.{Limit}
 use Rattle.wm_base.specs.declared.limit.Limit.TheVariants.{NoMax, Most}
+use Rattle.wm_base.specs.declared.qname.QName.{QName}
 use Rattle.wm_base.specs.Iterate.{IsKept}
 use Rattle.wm_base.specs.Limit.{is_below}
 use Rattle.wm_desc.specs.declared.description.Jobd.{Jobd}
 use Rattle.wm_desc.specs.declared.description.Sbsd.{Sbsd}
+use Rattle.wm_desc.specs.declared.entry.AutoEntry.{AutoEntry}
 use Rattle.wm_desc.specs.Table.{same_qname}
 use Rattle.wm_law.specs.declared.choice.Candidate.{Candidate}
 use Rattle.wm_law.specs.declared.command.Sbmjob.{Sbmjob}
@@ -19,6 +21,7 @@ use Rattle.wm_law.specs.declared.job.Phase.{Phase}
 use Rattle.wm_law.specs.declared.job.Phase.TheVariants.{Waiting, Starting, Handed, Running, Ended}
 use Rattle.wm_law.specs.declared.state.Sbs.{Sbs}
 use Rattle.wm_law.specs.declared.state.State.{State}
+use Rattle.wm_law.specs.Autos.{auto_job, auto_launched, auto_made}
 use Rattle.wm_law.specs.Choice.{is_allowed, is_ready, is_sbs_active, maxpty_of, next}
 use Rattle.wm_law.specs.Counts.{count_active, count_from_priority, count_from_queue, count_in_sbs, is_active, is_from_priority, is_from_queue, is_waiting}
 use Rattle.wm_law.specs.Kept.{IsNumbered}
@@ -235,6 +238,10 @@ launch_past (Handed m) h = absurd (cc)
 launch_past (Running m) h = absurd (cc)
 launch_past (Ended c) h = absurd (cc)
 
+and_false : (b : Bool) → (b && false) ≡ false
+and_false true = refl
+and_false false = refl
+
 never : (a b : Bool) → b ≡ true → (a && not b) ≡ false
 never true b e = ap not e
 never false b e = refl
@@ -257,6 +264,14 @@ entered_none s user c d i m =
       | inr same ↦ ap (was_launched s) same
     ]
 
+-- nor was an autostart job
+auto_none : (s t : State) (q : QName) (e : AutoEntry) (d : Jobd) → LaunchesNone s t → LaunchesNone s (auto_made t q e d)
+auto_none s t q e d h i m =
+    elim (of_last t.jobs (auto_launched t q (auto_job t e d)) i m) as (λ _. was_launched s i ≡ false) [
+      | inl n ↦ h i n
+      | inr same ↦ ap (was_launched s) same ∙ and_false (is_launch_phase (auto_launched t q (auto_job t e d)).phase && not (is_past_waiting s.jobs t.next_serial))
+    ]
+
 moved_none_at : (s : State) (serial : ℕ) (phase : Phase) (j : Job) (b : Bool) (i k : Job) → IsIn j s.jobs → j.serial ≡ serial → is_waiting j.phase ≡ false → (i.serial == serial) ≡ b → IsIn i s.jobs → k ≡ cond b (in_phase phase i) i → was_launched s k ≡ false
 moved_none_at s serial phase j true i k n e w f m same =
     not_launched s j k n w (e ∙ sym (same_number i.serial serial f) ∙ ap (λ (x : Job). x.serial) (sym same))
@@ -272,6 +287,7 @@ pub calls_launch_none : (s : State) → HoldsOfStates (LaunchesNone s) s
 calls_launch_none s = record {
   stays = λ i m. none_yet s i m;
   starts = λ q e i m. none_yet s i m;
+  autos = λ q t e d m h. auto_none s t q e d h;
   enters = λ user c d has. entered_none s user c d;
   moves = λ serial j phase i e r n. moved_none s serial j phase i e r.past;
   powers = λ i m. none_yet s i m;

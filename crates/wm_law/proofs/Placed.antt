@@ -1,65 +1,77 @@
 -- The entries by which active jobs came stay.
 use Rattle.std.proofs.Common.{◌≡◌, ℕ, ◌≤◌, ◌++◌, ◌==◌, ◌&&◌, not, Bool, true, false, cond, List, [], ◌∷◌, map, Option, Some, None, is_some, refl, sym, ap, subst, ◌∙◌, inl, inr, arith}
 use Rattle.std.specs.List.{find}
+use Rattle.std.specs.Option.{option_and_then}
 use Rattle.wm_base.specs.declared.job.EndCause.{EndCause}
 use Rattle.wm_base.specs.declared.job.How.{How}
+use Rattle.wm_base.specs.declared.job.How.TheVariants.{FromQueue, Auto}
 use Rattle.wm_base.specs.declared.qname.QName.{QName}
 use Rattle.wm_base.specs.Iterate.{IsKept}
 use Rattle.wm_base.proofs.Iterate.{iterate-keeps}
 use Rattle.wm_desc.specs.declared.description.Jobd.{Jobd}
+use Rattle.wm_desc.specs.declared.description.Sbsd.{Sbsd}
+use Rattle.wm_desc.specs.declared.entry.AutoEntry.{AutoEntry}
 use Rattle.wm_desc.specs.declared.entry.RouteEntry.{RouteEntry}
 use Rattle.wm_desc.specs.declared.objects.Objects.{Objects}
 use Rattle.wm_desc.specs.Table.{object_named}
 use Rattle.wm_law.specs.declared.call.Call.{Call}
 use Rattle.wm_law.specs.declared.choice.Candidate.{Candidate}
-use Rattle.wm_law.specs.declared.command.Sbmjob.{Sbmjob}
 use Rattle.wm_law.specs.declared.job.Job.{Job}
+use Rattle.wm_law.specs.declared.job.JobKind.{JobKind}
+use Rattle.wm_law.specs.declared.job.JobKind.TheVariants.{Bch, Asj, Pj}
 use Rattle.wm_law.specs.declared.job.Phase.{Phase}
 use Rattle.wm_law.specs.declared.job.Phase.TheVariants.{Waiting, Starting, Handed, Running, Ended}
 use Rattle.wm_law.specs.declared.launch.Launched.{Launched}
 use Rattle.wm_law.specs.declared.state.Sbs.{Sbs}
+use Rattle.wm_law.specs.declared.state.SbsPhase.TheVariants.{Active}
 use Rattle.wm_law.specs.declared.state.State.{State}
+use Rattle.wm_law.specs.Autos.{auto_job, auto_launched, auto_made}
 use Rattle.wm_law.specs.Choice.{next}
 use Rattle.wm_law.specs.Counts.{count_in_sbs, is_active, is_in_sbs, is_waiting}
 use Rattle.wm_law.specs.Kept.{IsNumbered, phase_rank}
-use Rattle.wm_law.specs.Launch.{as_launched, is_match, launch, launch_job, launched, launched_at, launched_by, launched_through, route, route_fault}
+use Rattle.wm_law.specs.Launch.{as_auto, as_launched, from_queue, is_match, launch, launch_job, launched, launched_as, launched_at, launched_by, launched_through, route, route_fault}
 use Rattle.wm_law.specs.Laws.{IsIn}
 use Rattle.wm_law.specs.Machine.{apply, step, with_clock}
 use Rattle.wm_law.specs.Power.{end_now}
 use Rattle.wm_law.specs.Reports.{in_phase, phased_at, with_phase}
 use Rattle.wm_law.specs.Settling.{is_ending, is_gone, leave, waiting}
-use Rattle.wm_law.specs.Sound.{HasPlaces, IsPlaced}
-use Rattle.wm_law.specs.Submitting.{entered, submitted_job}
-use Rattle.wm_law.proofs.Firsts.{holder_started}
+use Rattle.wm_law.specs.Sound.{CameFromQueue, HasPlaces, HasQueues, IsPlaced}
+use Rattle.wm_law.specs.Submitting.{submitted_job}
+use Rattle.wm_law.proofs.Firsts.{holder_started, ready_waits}
 use Rattle.wm_law.proofs.Forward.{only_one}
 use Rattle.wm_law.proofs.Lodged.{counted, not_gone, not_zero}
 use Rattle.wm_law.proofs.Members.{found_among, in_left, in_longer, in_mapped, of_last, of_mapped}
-use Rattle.wm_law.proofs.Moves.{HoldsOfStates, IsOnward, call_keeps}
+use Rattle.wm_law.proofs.Moves.{HoldsOfStates, IsMakeable, IsOnward, call_keeps}
 use Rattle.wm_law.proofs.Named.{own_name}
 use Rattle.wm_law.proofs.Nexts.{IsNext, is_next}
 use Rattle.wm_law.proofs.Numbers.{apply_keeps, clock_keeps, launches_keep, only_started}
 use Rattle.wm_law.proofs.Objects.{IsObjectChange}
-use Rattle.wm_law.proofs.Routed.{launched_routed, started_through}
+use Rattle.wm_law.proofs.Queued.{launches_queued, queued_calls}
+use Rattle.wm_law.proofs.Routed.{by_route, launched_routed, started_through}
 use Rattle.wm_law.proofs.Tests.{same_number}
 
-active_by : (sbs queue : QName) (j : Job) (seq : ℕ) (o : Option EndCause) → is_active (launched_by sbs queue j seq o).phase ≡ true → (launched_by sbs queue j seq o).phase ≡ Starting
-active_by sbs queue j seq None h = refl
-active_by sbs queue j seq (Some c) h = absurd (cc)
+active_by : (how : ℕ → How) (seq : ℕ) (o : Option EndCause) → is_active (launched_by how seq o).phase ≡ true → (launched_by how seq o).phase ≡ Starting
+active_by how seq None h = refl
+active_by how seq (Some c) h = absurd (cc)
 
 -- a launch that leaves a job active leaves it Starting
-active_through : (s : State) (sbs queue : QName) (j : Job) (o : Option RouteEntry) → is_active (launched_through s sbs queue j o).phase ≡ true → (launched_through s sbs queue j o).phase ≡ Starting
-active_through s sbs queue j None h = absurd (cc)
-active_through s sbs queue j (Some e) h = active_by sbs queue j e.seq (route_fault s sbs e j) h
+active_through : (s : State) (sbs : QName) (how : ℕ → How) (j : Job) (o : Option RouteEntry) → is_active (launched_through s sbs how j o).phase ≡ true → (launched_through s sbs how j o).phase ≡ Starting
+active_through s sbs how j None h = absurd (cc)
+active_through s sbs how j (Some e) h = active_by how e.seq (route_fault s sbs e j) h
+
+active_as : (s : State) (sbs : QName) (how : ℕ → How) (j : Job) → is_active (launched_as s sbs how j).phase ≡ true → (launched_as s sbs how j).phase ≡ Starting
+active_as s sbs how j h = active_through s sbs how j (option_and_then (λ d. route d j.rtgdta) (object_named sbs s.objects.sbsds)) h
 
 -- the launched job came by the entries of its turn
-placed_now : (s : State) (c : Candidate) (j : Job) → IsNext s c j → is_active (launched s c.sbs c.jobq j).phase ≡ true → IsPlaced s.started s.objects j.jobq j.pty (launched s c.sbs c.jobq j).how
+placed_now : (s : State) (c : Candidate) (j : Job) → IsNext s c j → is_active (launched s c.sbs c.jobq j).phase ≡ true → CameFromQueue s.started s.objects j.jobq j.pty (launched s c.sbs c.jobq j).how
 placed_now s c j n a =
     let t = n.turn in
     let m = n.first.may in
     let o = route t.sbsd j.rtgdta in
     let same = launched_routed s c j n in
-    let active : is_active (launched_through s t.sbs.sbsd t.queue j o).phase ≡ true = ap (λ (l : Launched). is_active l.phase) (sym same) ∙ a in
-    let r = started_through s t.sbs.sbsd t.queue t.sbsd j o refl (active_through s t.sbs.sbsd t.queue j o active) in
+    let how = from_queue t.sbs.sbsd t.queue j in
+    let active : is_active (launched_through s t.sbs.sbsd how j o).phase ≡ true = ap (λ (l : Launched). is_active l.phase) (sym same) ∙ a in
+    let r = started_through s t.sbs.sbsd how t.sbsd j o refl (active_through s t.sbs.sbsd how j o active) in
     record {
       queue = t.queue;
       sbs = t.sbs;
@@ -74,32 +86,43 @@ placed_now s c j n a =
       is_how = ap (λ (l : Launched). l.how) same ∙ r.2;
     }
 
-placed_at : (s : State) (c : Candidate) (f : Job) (i : Job) (b : Bool) (k : Job) → (i.serial == c.serial) ≡ b → IsIn i s.jobs → IsNumbered s → IsNext s c f → HasPlaces s → k ≡ cond b (as_launched (launched s c.sbs c.jobq f) i) i → is_active k.phase ≡ true → IsPlaced s.started s.objects k.jobq k.pty k.how
-placed_at s c f i true k e m n x h same a =
+-- the active job is so placed
+abbrev IsPlacedIn : State → Job → Type 0
+IsPlacedIn s j = IsPlaced s.started s.objects j.kind j.jobq j.pty j.how
+
+-- a submitted job that came from a queue is in its place
+submitted : (bs : List Sbs) (o : Objects) (kind : JobKind) (jobq : Option QName) (pty : ℕ) (how : How) → kind ≡ Bch → CameFromQueue bs o jobq pty how → IsPlaced bs o kind jobq pty how
+submitted bs o kind jobq pty how e p = subst (λ (k : JobKind). IsPlaced bs o k jobq pty how) (sym e) p
+
+placed_at : (s : State) (c : Candidate) (f : Job) (i : Job) (b : Bool) (k : Job) → (i.serial == c.serial) ≡ b → IsIn i s.jobs → IsNumbered s → HasQueues s → IsNext s c f → HasPlaces s → k ≡ cond b (as_launched (launched s c.sbs c.jobq f) i) i → is_active k.phase ≡ true → IsPlacedIn s k
+placed_at s c f i true k e m n q x h same a =
     let l = launched s c.sbs c.jobq f in
     let its : i ≡ f = only_one s.jobs n.serials.distinct i f m x.first.job (same_number i.serial c.serial e ∙ x.serial) in
     let active : is_active l.phase ≡ true = ap (λ (y : Job). is_active y.phase) (sym same) ∙ a in
-    let placed : IsPlaced s.started s.objects (as_launched l f).jobq (as_launched l f).pty (as_launched l f).how = placed_now s c f x active in
-    subst (λ (y : Job). IsPlaced s.started s.objects y.jobq y.pty y.how) (ap (as_launched l) (sym its) ∙ sym same) placed
-placed_at s c f i false k e m n x h same a =
-    subst (λ (y : Job). IsPlaced s.started s.objects y.jobq y.pty y.how) (sym same) (h i m (ap (λ (y : Job). is_active y.phase) (sym same) ∙ a))
+    let bch : f.kind ≡ Bch = (q f x.first.job).waits (ready_waits s f x.first.may.ready) in
+    let placed : IsPlacedIn s (as_launched l f) = submitted s.started s.objects f.kind f.jobq f.pty l.how bch (placed_now s c f x active) in
+    subst (IsPlacedIn s) (ap (as_launched l) (sym its) ∙ sym same) placed
+placed_at s c f i false k e m n q x h same a =
+    subst (IsPlacedIn s) (sym same) (h i m (ap (λ (y : Job). is_active y.phase) (sym same) ∙ a))
 
-launched_placed : (s : State) (c : Candidate) (o : Option Job) → find (λ j. j.serial == c.serial) s.jobs ≡ o → next s ≡ Some c → IsNumbered s → HasPlaces s → HasPlaces (launch_job s c o)
-launched_placed s c None f e n h = h
-launched_placed s c (Some j) f e n h = λ k m a. (
+launched_placed : (s : State) (c : Candidate) (o : Option Job) → find (λ j. j.serial == c.serial) s.jobs ≡ o → next s ≡ Some c → IsNumbered s → HasQueues s → HasPlaces s → HasPlaces (launch_job s c o)
+launched_placed s c None f e n q h = h
+launched_placed s c (Some j) f e n q h = λ k m a. (
     let o = of_mapped (launched_at c.serial (launched s c.sbs c.jobq j)) s.jobs k m in
-    placed_at s c j o.0 (o.0.serial == c.serial) k refl o.1 n (is_next s c j e n f) h o.2 a)
+    placed_at s c j o.0 (o.0.serial == c.serial) k refl o.1 n q (is_next s c j e n f) h o.2 a)
 
--- numbered, and active jobs have their places
+-- numbered, the jobs have their queues, and active jobs have their places
 record IsSettled (s : State) : Type 0 where
   numbered : IsNumbered s
+  queues : HasQueues s
   places : HasPlaces s
 
 launches_placed : IsKept next (λ c t. launch t c) IsSettled
 launches_placed = record {
   by_step = λ t c e h. record {
     numbered = launches_keep.by_step t c e h.numbered;
-    places = launched_placed t c (find (λ (j : Job). j.serial == c.serial) t.jobs) refl e h.numbered h.places;
+    queues = launches_queued.by_step t c e h.queues;
+    places = launched_placed t c (find (λ (j : Job). j.serial == c.serial) t.jobs) refl e h.numbered h.queues h.places;
   };
 }
 
@@ -115,115 +138,121 @@ active_before (Ended c) (Handed m) w r a = absurd (omega arith)
 active_before (Ended c) (Running m) w r a = absurd (omega arith)
 active_before (Ended c) (Ended d) w r a = absurd (cc)
 
-moved_at : (s : State) (serial : ℕ) (phase : Phase) (j i : Job) (b : Bool) (k : Job) → IsNumbered s → HasPlaces s → IsIn j s.jobs → j.serial ≡ serial → IsOnward j.phase phase → (i.serial == serial) ≡ b → IsIn i s.jobs → k ≡ cond b (in_phase phase i) i → is_active k.phase ≡ true → IsPlaced s.started s.objects k.jobq k.pty k.how
+moved_at : (s : State) (serial : ℕ) (phase : Phase) (j i : Job) (b : Bool) (k : Job) → IsNumbered s → HasPlaces s → IsIn j s.jobs → j.serial ≡ serial → IsOnward j.phase phase → (i.serial == serial) ≡ b → IsIn i s.jobs → k ≡ cond b (in_phase phase i) i → is_active k.phase ≡ true → IsPlacedIn s k
 moved_at s serial phase j i true k n h m e r f o same a =
     let its : j ≡ i = only_one s.jobs n.serials.distinct j i m o (e ∙ sym (same_number i.serial serial f)) in
     let active : is_active phase ≡ true = ap (λ (y : Job). is_active y.phase) (sym same) ∙ a in
     let was : is_active i.phase ≡ true = ap (λ (y : Job). is_active y.phase) (sym its) ∙ active_before j.phase phase r.past r.on active in
-    let placed : IsPlaced s.started s.objects (in_phase phase i).jobq (in_phase phase i).pty (in_phase phase i).how = h i o was in
-    subst (λ (y : Job). IsPlaced s.started s.objects y.jobq y.pty y.how) (sym same) placed
+    let placed : IsPlacedIn s (in_phase phase i) = h i o was in
+    subst (IsPlacedIn s) (sym same) placed
 moved_at s serial phase j i false k n h m e r f o same a =
-    subst (λ (y : Job). IsPlaced s.started s.objects y.jobq y.pty y.how) (sym same) (h i o (ap (λ (y : Job). is_active y.phase) (sym same) ∙ a))
+    subst (IsPlacedIn s) (sym same) (h i o (ap (λ (y : Job). is_active y.phase) (sym same) ∙ a))
 
 moved_placed : (s : State) (serial : ℕ) (j : Job) (phase : Phase) → IsNumbered s → HasPlaces s → IsIn j s.jobs → j.serial ≡ serial → IsOnward j.phase phase → HasPlaces (with_phase s serial phase)
 moved_placed s serial j phase n h m e r k i a =
     let o = of_mapped (phased_at serial phase) s.jobs k i in
     moved_at s serial phase j o.0 (o.0.serial == serial) k n h m e r refl o.1 o.2 a
 
-entered_placed : (s : State) (user : List ℕ) (c : Sbmjob) (d : Jobd) → HasPlaces s → HasPlaces (entered s (submitted_job s user c d))
-entered_placed s user c d h k i a =
-    elim (of_last s.jobs (submitted_job s user c d) k i) as (λ _. IsPlaced s.started s.objects k.jobq k.pty k.how) [
+-- one more job, which is in its place if it is active
+last_placed : (s : State) (j : Job) → (is_active j.phase ≡ true → IsPlacedIn s j) → HasPlaces s → (k : Job) → IsIn k (s.jobs ++ j ∷ []) → is_active k.phase ≡ true → IsPlacedIn s k
+last_placed s j new h k i a =
+    elim (of_last s.jobs j k i) as (λ _. IsPlacedIn s k) [
       | inl m ↦ h k m a
-      | inr same ↦ (let idle : is_active Waiting ≡ true = ap (λ (y : Job). is_active y.phase) (sym same) ∙ a in absurd (cc))
+      | inr same ↦ subst (IsPlacedIn s) (sym same) (new (ap (λ (y : Job). is_active y.phase) (sym same) ∙ a))
     ]
 
--- one more subsystem is started
-longer : (bs : List Sbs) (b : Sbs) (o : Objects) (jobq : Option QName) (pty : ℕ) (how : How) → IsPlaced bs o jobq pty how → IsPlaced (bs ++ b ∷ []) o jobq pty how
-longer bs b o jobq pty how p = record {
-  queue = p.queue;
-  sbs = p.sbs;
-  sbsd = p.sbsd;
-  entry = p.entry;
-  route = p.route;
-  started = in_longer bs b p.sbs p.started;
-  described = p.described;
-  fed = p.fed;
-  routed = p.routed;
-  has_queue = p.has_queue;
-  is_how = p.is_how;
-}
+-- an autostart job came with the subsystem in which it is made
+auto_placed : (q : QName) (t : State) (e : AutoEntry) (d : Jobd) → IsMakeable q t → HasPlaces t → HasPlaces (auto_made t q e d)
+auto_placed q t e d m h =
+    let j = auto_job t e d in
+    last_placed t (auto_launched t q j)
+    (λ a.
+    let r = by_route t q (as_auto q) j (active_as t q (as_auto q) j a) in
+    record {
+      sbs = m.sbs;
+      sbsd = r.sbsd;
+      route = r.entry;
+      started = m.started;
+      described = ap (λ (n : QName). object_named n t.objects.sbsds) m.named ∙ r.described;
+      routed = (found_among (λ (x : RouteEntry). is_match x.cmp j.rtgdta) r.sbsd.routes r.entry r.routed).0;
+      is_how = r.is_how ∙ ap (λ (n : QName). Auto n r.entry.seq) (sym m.named);
+    })
+    h
 
--- the subsystems end
-ending : (bs : List Sbs) (o : Objects) (jobq : Option QName) (pty : ℕ) (how : How) → IsPlaced bs o jobq pty how → IsPlaced (map end_now bs) o jobq pty how
-ending bs o jobq pty how p = record {
-  queue = p.queue;
-  sbs = end_now p.sbs;
-  sbsd = p.sbsd;
-  entry = p.entry;
-  route = p.route;
-  started = in_mapped end_now bs p.sbs p.started;
-  described = p.described;
-  fed = p.fed;
-  routed = p.routed;
-  has_queue = p.has_queue;
-  is_how = p.is_how;
-}
+-- what a how names among subsystems and objects is named among others, too
+abbrev IsStillNamed : List Sbs → Objects → List Sbs → Objects → How → Type 0
+IsStillNamed bs o cs p how = (b : Sbs) (d : Sbsd) → IsIn b bs → is_in_sbs b.sbsd how ≡ true → object_named b.sbsd o.sbsds ≡ Some d → (c : Sbs) × IsIn c cs × (c.sbsd ≡ b.sbsd) × (object_named c.sbsd p.sbsds ≡ Some d)
+
+-- a job that is in its place stays there
+placed_still : (bs : List Sbs) (o : Objects) (cs : List Sbs) (p : Objects) (kind : JobKind) (jobq : Option QName) (pty : ℕ) (how : How) → IsStillNamed bs o cs p how → IsPlaced bs o kind jobq pty how → IsPlaced cs p kind jobq pty how
+placed_still bs o cs p Bch jobq pty how still h =
+    let n = still h.sbs h.sbsd h.started (ap (is_in_sbs h.sbs.sbsd) h.is_how ∙ own_name h.sbs.sbsd) h.described in
+    record {
+      queue = h.queue;
+      sbs = n.0;
+      sbsd = h.sbsd;
+      entry = h.entry;
+      route = h.route;
+      started = n.1;
+      described = n.3;
+      fed = h.fed;
+      routed = h.routed;
+      has_queue = h.has_queue;
+      is_how = h.is_how ∙ ap (λ (q : QName). FromQueue q h.queue pty h.route.seq) (sym n.2);
+    }
+placed_still bs o cs p Asj jobq pty how still h =
+    let n = still h.sbs h.sbsd h.started (ap (is_in_sbs h.sbs.sbsd) h.is_how ∙ own_name h.sbs.sbsd) h.described in
+    record {
+      sbs = n.0;
+      sbsd = h.sbsd;
+      route = h.route;
+      started = n.1;
+      described = n.3;
+      routed = h.routed;
+      is_how = h.is_how ∙ ap (λ (q : QName). Auto q h.route.seq) (sym n.2);
+    }
+placed_still bs o cs p Pj jobq pty how still h = absurd h
 
 some_there : {X : Type 0} (o : Option X) (x : X) → o ≡ Some x → is_some o ≡ true
 some_there o x e = ap is_some e
 
--- objects change
-remade : (s : State) (o : Objects) (jobq : Option QName) (pty : ℕ) (how : How) → IsObjectChange s o → IsPlaced s.started s.objects jobq pty how → IsPlaced s.started o jobq pty how
-remade s o jobq pty how c p = record {
-  queue = p.queue;
-  sbs = p.sbs;
-  sbsd = p.sbsd;
-  entry = p.entry;
-  route = p.route;
-  started = p.started;
-  described = c.described p.sbs p.started (some_there (object_named p.sbs.sbsd s.objects.sbsds) p.sbsd p.described) ∙ p.described;
-  fed = p.fed;
-  routed = p.routed;
-  has_queue = p.has_queue;
-  is_how = p.is_how;
-}
+-- so where one more subsystem starts, where the subsystems end, and where objects change
+longer : (s : State) (b : Sbs) (j : Job) → IsStillNamed s.started s.objects (s.started ++ b ∷ []) s.objects j.how
+longer s b j x d i its k = (x, in_longer s.started b x i, refl, k)
+
+ending : (s : State) (j : Job) → IsStillNamed s.started s.objects (map end_now s.started) s.objects j.how
+ending s j x d i its k = (end_now x, in_mapped end_now s.started x i, refl, k)
+
+remade : (s : State) (o : Objects) (j : Job) → IsObjectChange s o → IsStillNamed s.started s.objects s.started o j.how
+remade s o j c x d i its k = (x, i, refl, c.described x i (some_there (object_named x.sbsd s.objects.sbsds) d k) ∙ k)
 
 calls_place : (s : State) → IsNumbered s → HasPlaces s → HoldsOfStates HasPlaces s
 calls_place s n h = record {
   stays = h;
-  starts = λ q e j i a. longer s.started _ s.objects j.jobq j.pty j.how (h j i a);
-  enters = λ user c d has. entered_placed s user c d h;
+  starts = λ q e j i a. placed_still s.started s.objects _ _ j.kind j.jobq j.pty j.how (longer s (record { sbsd = q; phase = Active }) j) (h j i a);
+  autos = auto_placed;
+  enters = λ user c d has. last_placed s (submitted_job s user c d) (λ a. absurd (cc)) h;
   moves = λ serial j phase i e r k. moved_placed s serial j phase n h i e r;
-  powers = λ j i a. ending s.started s.objects j.jobq j.pty j.how (h j i a);
-  makes = λ o c j i a. remade s o j.jobq j.pty j.how c (h j i a);
+  powers = λ j i a. placed_still s.started s.objects _ _ j.kind j.jobq j.pty j.how (ending s j) (h j i a);
+  makes = λ o c j i a. placed_still s.started s.objects _ _ j.kind j.jobq j.pty j.how (remade s o j c) (h j i a);
 }
 
 -- a subsystem with an active job doesn't leave
-left_placed : (s : State) → HasPlaces s → HasPlaces (leave s)
-left_placed s h j i a =
-    let p = h j i a in
-    let in_it : is_in_sbs p.sbs.sbsd j.how ≡ true = ap (is_in_sbs p.sbs.sbsd) p.is_how ∙ own_name p.sbs.sbsd in
-    let both : (is_active j.phase && is_in_sbs p.sbs.sbsd j.how) ≡ true = ap (λ (b : Bool). b && is_in_sbs p.sbs.sbsd j.how) a ∙ in_it in
-    let more = counted (λ (k : Job). is_active k.phase && is_in_sbs p.sbs.sbsd k.how) s.jobs j i both in
-    record {
-      queue = p.queue;
-      sbs = p.sbs;
-      sbsd = p.sbsd;
-      entry = p.entry;
-      route = p.route;
-      started = in_left (λ (x : Sbs). not (is_gone s.jobs x)) s.started p.sbs (not_gone (is_ending p.sbs.phase) (count_in_sbs p.sbs.sbsd s.jobs == 0) (not_zero (count_in_sbs p.sbs.sbsd s.jobs) more)) p.started;
-      described = p.described;
-      fed = p.fed;
-      routed = p.routed;
-      has_queue = p.has_queue;
-      is_how = p.is_how;
-    }
+stays_started : (s : State) (j : Job) → IsIn j s.jobs → is_active j.phase ≡ true → IsStillNamed s.started s.objects (leave s).started s.objects j.how
+stays_started s j i a x d m its k =
+    let both : (is_active j.phase && is_in_sbs x.sbsd j.how) ≡ true = ap (λ (b : Bool). b && is_in_sbs x.sbsd j.how) a ∙ its in
+    let more = counted (λ (y : Job). is_active y.phase && is_in_sbs x.sbsd y.how) s.jobs j i both in
+    (x, in_left (λ (y : Sbs). not (is_gone s.jobs y)) s.started x (not_gone (is_ending x.phase) (count_in_sbs x.sbsd s.jobs == 0) (not_zero (count_in_sbs x.sbsd s.jobs) more)) m, refl, k)
 
-pub step_keeps_places : (s : State) (caller : ℕ) (call : Call) (moment : ℕ) → IsNumbered s → HasPlaces s → HasPlaces (step s caller call moment).state
+left_placed : (s : State) → HasPlaces s → HasPlaces (leave s)
+left_placed s h j i a = placed_still s.started s.objects (leave s).started s.objects j.kind j.jobq j.pty j.how (stays_started s j i a) (h j i a)
+
+pub step_keeps_places : (s : State) (caller : ℕ) (call : Call) (moment : ℕ) → IsNumbered s → HasQueues s → HasPlaces s → HasPlaces (step s caller call moment).state
 unfolding step
-step_keeps_places s caller call moment n h =
+step_keeps_places s caller call moment n q h =
     let c = with_clock s moment in
     let t = (apply c caller call).state in
     let numbered : IsNumbered t = apply_keeps c caller call (clock_keeps s moment n) in
+    let queues : HasQueues t = call_keeps HasQueues c caller call (queued_calls c q) in
     let called : HasPlaces t = call_keeps HasPlaces c caller call (calls_place c (clock_keeps s moment n) h) in
-    (iterate-keeps IsSettled launches_placed (waiting (leave t)) (leave t) (record { numbered = only_started t numbered; places = left_placed t called })).places
+    (iterate-keeps IsSettled launches_placed (waiting (leave t)) (leave t) (record { numbered = only_started t numbered; queues = queues; places = left_placed t called })).places

@@ -3,7 +3,9 @@ use Rattle.std.proofs.Common.{◌≡◌, ℕ, ℤ, ◌++◌, ◌==◌, Bool, tru
 use Rattle.std.specs.List.{find}
 use Rattle.std.specs.Option.{IsSome}
 use Rattle.wm_base.specs.declared.qname.QName.{QName}
+use Rattle.wm_base.specs.Iterate.{IsKept}
 use Rattle.wm_desc.specs.declared.description.Jobd.{Jobd}
+use Rattle.wm_desc.specs.declared.entry.AutoEntry.{AutoEntry}
 use Rattle.wm_desc.specs.declared.objects.Objects.{Objects}
 use Rattle.wm_desc.specs.Table.{object_named}
 use Rattle.wm_law.specs.declared.call.Call.{Call}
@@ -12,25 +14,28 @@ use Rattle.wm_law.specs.declared.command.Sbmjob.{Sbmjob}
 use Rattle.wm_law.specs.declared.job.Job.{Job}
 use Rattle.wm_law.specs.declared.job.Phase.{Phase}
 use Rattle.wm_law.specs.declared.state.State.{State}
+use Rattle.wm_law.specs.Autos.{auto_job, auto_launched}
+use Rattle.wm_law.specs.Choice.{next}
 use Rattle.wm_law.specs.Counts.{is_waiting}
 use Rattle.wm_law.specs.Jobs.{changed_at}
-use Rattle.wm_law.specs.Launch.{as_launched, launch_job, launched}
+use Rattle.wm_law.specs.Launch.{as_auto, as_launched, launch, launch_job, launched}
 use Rattle.wm_law.specs.Laws.{IsIn}
 use Rattle.wm_law.specs.Machine.{step}
 use Rattle.wm_law.specs.Opening.{opening}
 use Rattle.wm_law.specs.Reports.{in_phase}
-use Rattle.wm_law.specs.Sound.{AreQueues, HasQueues, IsQueued}
+use Rattle.wm_law.specs.Sound.{AreQueues, HasAutoValues, HasQueues, IsQueued}
 use Rattle.wm_law.specs.Submitting.{queue_of, submitted_job}
 use Rattle.wm_law.proofs.Members.{of_last, of_mapped}
 use Rattle.wm_law.proofs.Moves.{HoldsOfStates, IsAcceptable, IsKeptByParts, never_waits, step_keeps}
 use Rattle.wm_law.proofs.Nexts.{some_is}
 use Rattle.wm_law.proofs.Opened.{opened, opening_is}
-use Rattle.wm_law.proofs.Settling.{not_waiting}
+use Rattle.wm_law.proofs.Settling.{launch_never_waits, not_waiting}
 
--- a change leaves a job its kind and its queue, and after it the job doesn't wait
+-- a change leaves a job its kind, its queue and its other values, and after it the job doesn't wait
 record KeepsQueue (change : Job → Job) : Type 0 where
   kind : (j : Job) → (change j).kind ≡ j.kind
   jobq : (j : Job) → (change j).jobq ≡ j.jobq
+  values : (j : Job) → HasAutoValues j → HasAutoValues (change j)
   never : (j : Job) → is_waiting (change j).phase ≡ false
 
 queued_changed : (o : Objects) (change : Job → Job) (j : Job) → KeepsQueue change → IsQueued o j → IsQueued o (change j)
@@ -38,6 +43,7 @@ queued_changed o change j k h = record {
   waits = λ w. (let no = k.never j in absurd (cc));
   has_queue = λ b. subst (λ (q : Option QName). IsSome q) (sym (k.jobq j)) (h.has_queue (sym (k.kind j) ∙ b));
   is_object = λ q e. h.is_object q (sym (k.jobq j) ∙ e);
+  auto = λ a. k.values j (h.auto (sym (k.kind j) ∙ a));
 }
 
 queued_at : (o : Objects) (change : Job → Job) (t : Bool) (j : Job) → KeepsQueue change → IsQueued o j → IsQueued o (cond t (change j) j)
@@ -58,42 +64,48 @@ submitted_queued s user c d a = record {
   waits = λ w. refl;
   has_queue = λ b. refl;
   is_object = λ q e. subst (λ (n : QName). IsSome (object_named n s.objects.jobqs)) (some_is (queue_of c d) q e) a.queue;
+  auto = λ k. absurd (cc);
 }
 
-entered_queued : (s : State) (user : List ℕ) (c : Sbmjob) (d : Jobd) → IsAcceptable s c d → AllQueued s.objects s.jobs → AllQueued s.objects (s.jobs ++ submitted_job s user c d ∷ [])
-entered_queued s user c d a h j i =
-    elim (of_last s.jobs (submitted_job s user c d) j i) as (λ _. IsQueued s.objects j) [
-      | inl m ↦ h j m
-      | inr same ↦ subst (IsQueued s.objects) (sym same) (submitted_queued s user c d a)
-    ]
+-- an autostart job doesn't wait, and has no queue
+auto_queued : (q : QName) (s : State) (e : AutoEntry) (d : Jobd) → IsQueued s.objects (auto_launched s q (auto_job s e d))
+auto_queued q s e d = record {
+  waits = λ w. (let no = launch_never_waits s q (as_auto q) (auto_job s e d) in absurd (cc));
+  has_queue = λ b. absurd (cc);
+  is_object = λ n f. absurd (cc);
+  auto = λ a. record { jobq = refl; pty = refl; place = refl; held = refl };
+}
+
+last_queued : (o : Objects) (jobs : List Job) (last : Job) → IsQueued o last → AllQueued o jobs → AllQueued o (jobs ++ last ∷ [])
+last_queued o jobs last q h j i =
+    elim (of_last jobs last j i) as (λ _. IsQueued o j) [ inl m ↦ h j m | inr same ↦ subst (IsQueued o) (sym same) q ]
 
 moved_queued : (s : State) (serial : ℕ) (phase : Phase) → is_waiting phase ≡ false → HasQueues s → AllQueued s.objects (map (changed_at serial (in_phase phase)) s.jobs)
-moved_queued s serial phase n h = all_changed s.objects s.jobs serial (in_phase phase) (record { kind = λ j. refl; jobq = λ j. refl; never = λ j. n }) h
+moved_queued s serial phase n h = all_changed s.objects s.jobs serial (in_phase phase) (record { kind = λ j. refl; jobq = λ j. refl; values = λ j v. record { jobq = v.jobq; pty = v.pty; place = v.place; held = v.held }; never = λ j. n }) h
 
 queued_still : (a b : Objects) (j : Job) → ((q : QName) → IsSome (object_named q a.jobqs) → IsSome (object_named q b.jobqs)) → IsQueued a j → IsQueued b j
-queued_still a b j still h = record { waits = h.waits; has_queue = h.has_queue; is_object = λ q e. still q (h.is_object q e) }
+queued_still a b j still h = record { waits = h.waits; has_queue = h.has_queue; is_object = λ q e. still q (h.is_object q e); auto = h.auto }
 
 launched_queued : (s : State) (c : Candidate) (o : Option Job) → HasQueues s → HasQueues (launch_job s c o)
 launched_queued s c None h = h
-launched_queued s c (Some j) h = all_changed s.objects s.jobs c.serial (as_launched (launched s c.sbs c.jobq j)) (record { kind = λ k. refl; jobq = λ k. refl; never = λ k. not_waiting s c.sbs c.jobq j }) h
+launched_queued s c (Some j) h = all_changed s.objects s.jobs c.serial (as_launched (launched s c.sbs c.jobq j)) (record { kind = λ k. refl; jobq = λ k. refl; values = λ k v. record { jobq = v.jobq; pty = v.pty; place = v.place; held = v.held }; never = λ k. not_waiting s c.sbs c.jobq j }) h
 
-queued_calls : (s : State) → HasQueues s → HoldsOfStates HasQueues s
+pub queued_calls : (s : State) → HasQueues s → HoldsOfStates HasQueues s
 queued_calls s h = record {
   stays = h;
   starts = λ q e. h;
-  enters = λ user c d a. entered_queued s user c d a h;
+  autos = λ q t e d m k. last_queued t.objects t.jobs (auto_launched t q (auto_job t e d)) (auto_queued q t e d) k;
+  enters = λ user c d a. last_queued s.objects s.jobs (submitted_job s user c d) (submitted_queued s user c d a) h;
   moves = λ serial j phase i e r n. moved_queued s serial phase (never_waits j.phase phase r) h;
   powers = h;
   makes = λ o c j i. queued_still s.objects o j c.jobqs (h j i);
 }
 
+pub launches_queued : IsKept next (λ c t. launch t c) HasQueues
+launches_queued = record { by_step = λ s c e h. launched_queued s c (find (λ (j : Job). j.serial == c.serial) s.jobs) h }
+
 queued_parts : IsKeptByParts HasQueues
-queued_parts = record {
-  clock = λ s moment h. h;
-  calls = queued_calls;
-  leaves = λ s h. h;
-  launches = record { by_step = λ s c e h. launched_queued s c (find (λ (j : Job). j.serial == c.serial) s.jobs) h };
-}
+queued_parts = record { clock = λ s moment h. h; calls = queued_calls; leaves = λ s h. h; launches = launches_queued }
 
 pub step_keeps_queues : (s : State) (caller : ℕ) (call : Call) (moment : ℕ) → HasQueues s → HasQueues (step s caller call moment).state
 step_keeps_queues s caller call moment h = step_keeps HasQueues queued_parts s caller call moment h
@@ -116,6 +128,7 @@ held_calls : (s : State) → HoldsQueues s → HoldsOfStates HoldsQueues s
 held_calls s h = record {
   stays = h;
   starts = λ q e. h;
+  autos = λ q t e d m k. k;
   enters = λ user c d a. h;
   moves = λ serial j phase i e r n. h;
   powers = h;

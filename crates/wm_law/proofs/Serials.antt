@@ -7,6 +7,7 @@ use Rattle.wm_law.specs.declared.call.Call.{Call}
 use Rattle.wm_law.specs.declared.choice.Candidate.{Candidate}
 use Rattle.wm_law.specs.declared.job.Job.{Job}
 use Rattle.wm_law.specs.declared.state.State.{State}
+use Rattle.wm_law.specs.Autos.{auto_job, auto_launched}
 use Rattle.wm_law.specs.Choice.{next}
 use Rattle.wm_law.specs.Kept.{IsBelow, IsNumbered}
 use Rattle.wm_law.specs.Launch.{as_launched, launch, launch_job, launched}
@@ -18,7 +19,7 @@ use Rattle.wm_law.specs.Sound.{HasJobsInOrder, IsIncreasing}
 use Rattle.wm_law.specs.Submitting.{submitted_job}
 use Rattle.wm_law.proofs.Changed.{keys_kept}
 use Rattle.wm_law.proofs.Moves.{HoldsOfStates, call_keeps}
-use Rattle.wm_law.proofs.Numbers.{clock_keeps}
+use Rattle.wm_law.proofs.Numbers.{calls, clock_keeps}
 
 abbrev serials : List Job → List ℕ
 serials jobs = map (λ j. j.serial) jobs
@@ -44,20 +45,29 @@ launched_increasing s c (Some j) h = subst IsIncreasing (sym (keys_kept (λ (k :
 launches_increase : IsKept next (λ c t. launch t c) HasJobsInOrder
 launches_increase = record { by_step = λ t c e h. launched_increasing t c (find (λ (j : Job). j.serial == c.serial) t.jobs) h }
 
-calls_increase : (s : State) → IsNumbered s → HasJobsInOrder s → HoldsOfStates HasJobsInOrder s
-calls_increase s n h = record {
-  stays = h;
-  starts = λ q e. h;
-  enters = λ user c d has. last_increasing s.jobs (submitted_job s user c d) n.serials.below h;
-  moves = λ serial j phase i e r k. subst IsIncreasing (sym (keys_kept (λ (x : Job). x.serial) serial (in_phase phase) (λ x. refl) s.jobs)) h;
-  powers = h;
-  makes = λ o c. h;
-}
+-- numbered, and the jobs stand in order
+record IsInLine (s : State) : Type 0 where
+  numbered : IsNumbered s
+  increasing : HasJobsInOrder s
+
+calls_increase : (s : State) → IsInLine s → HoldsOfStates IsInLine s
+calls_increase s l =
+    let n = calls s l.numbered in
+    let h = l.increasing in
+    record {
+      stays = l;
+      starts = λ q e. record { numbered = n.starts q e; increasing = h };
+      autos = λ q t e d m k. record { numbered = n.autos q t e d m k.numbered; increasing = last_increasing t.jobs (auto_launched t q (auto_job t e d)) k.numbered.serials.below k.increasing };
+      enters = λ user c d has. record { numbered = n.enters user c d has; increasing = last_increasing s.jobs (submitted_job s user c d) l.numbered.serials.below h };
+      moves = λ serial j phase i e r k. record { numbered = n.moves serial j phase i e r k; increasing = subst IsIncreasing (sym (keys_kept (λ (x : Job). x.serial) serial (in_phase phase) (λ x. refl) s.jobs)) h };
+      powers = record { numbered = n.powers; increasing = h };
+      makes = λ o c. record { numbered = n.makes o c; increasing = h };
+    }
 
 pub step_keeps_jobs_in_order : (s : State) (caller : ℕ) (call : Call) (moment : ℕ) → IsNumbered s → HasJobsInOrder s → HasJobsInOrder (step s caller call moment).state
 unfolding step
 step_keeps_jobs_in_order s caller call moment n h =
     let c = with_clock s moment in
     let t = (apply c caller call).state in
-    let called : HasJobsInOrder t = call_keeps HasJobsInOrder c caller call (calls_increase c (clock_keeps s moment n) h) in
-    iterate-keeps HasJobsInOrder launches_increase (waiting (leave t)) (leave t) called
+    let called : IsInLine t = call_keeps IsInLine c caller call (calls_increase c (record { numbered = clock_keeps s moment n; increasing = h })) in
+    iterate-keeps HasJobsInOrder launches_increase (waiting (leave t)) (leave t) called.increasing

@@ -1,10 +1,14 @@
 -- Each state that a history reaches from a sound one is sound; no start on the way passes a limit, and the jobs are launched in their order.
-use Rattle.std.proofs.Common.{ℤ, List, [], ◌∷◌, sym, subst}
+use Rattle.std.proofs.Common.{◌≡◌, ℤ, Bool, true, false, List, [], ◌∷◌, refl, sym, ap, subst, ◌∙◌}
 use Rattle.wm_law.specs.declared.call.Entry.{Entry}
+use Rattle.wm_law.specs.declared.job.JobKind.{JobKind}
+use Rattle.wm_law.specs.declared.job.JobKind.TheVariants.{Bch, Asj}
 use Rattle.wm_law.specs.declared.state.State.{State}
+use Rattle.wm_law.specs.Counts.{is_waiting}
 use Rattle.wm_law.specs.History.{after, stepped}
+use Rattle.wm_law.specs.Limits.{is_autostart}
 use Rattle.wm_law.specs.Opening.{opening}
-use Rattle.wm_law.specs.Sound.{HasJobsInOrder, HasPlaces, IsSound, LimitsAreKept, OpeningIsSound, OrderIsKept, StatesAreSound, StepKeepsLimits, StepKeepsOrder, StepKeepsSound}
+use Rattle.wm_law.specs.Sound.{AutostartJobsNeverWait, HasJobsInOrder, HasPlaces, IsSound, LimitsAreKept, OpeningIsSound, OrderIsKept, StatesAreSound, StepKeepsLimits, StepKeepsOrder, StepKeepsSound}
 use Rattle.wm_law.proofs.Fitting.{order_kept, step_order}
 use Rattle.wm_law.proofs.Limits.{limits_kept, step_limits}
 use Rattle.wm_law.proofs.Numbers.{opening_is_numbered, step_keeps_numbers}
@@ -45,7 +49,7 @@ pub step_keeps_sound : StepKeepsSound
 step_keeps_sound s caller call moment h = record {
   numbered = step_keeps_numbers s caller call moment h.numbered;
   jobs = step_keeps_jobs_in_order s caller call moment h.numbered h.jobs;
-  places = step_keeps_places s caller call moment h.numbered h.places;
+  places = step_keeps_places s caller call moment h.numbered h.queues h.places;
   orders = step_keeps_orders s caller call moment h.numbered h.orders;
   names = step_keeps_names_distinct s caller call moment h.names;
   descriptions = step_keeps_descriptions s caller call moment h.descriptions;
@@ -63,14 +67,27 @@ after_is_sound s (e ∷ es) h = after_is_sound (stepped s e).state es (step_keep
 pub states_are_sound : StatesAreSound
 states_are_sound s h sound = after_is_sound s h sound
 
+not_waiting : (b : Bool) (k : JobKind) → b ≡ true → (b ≡ true → k ≡ Bch) → k ≡ Asj → ⊥
+not_waiting b k e h a =
+    let kinds : Asj ≡ Bch = sym a ∙ h e in
+    let no : true ≡ false = ap is_autostart kinds in
+    absurd (cc)
+
+never_waits : (b : Bool) (k : JobKind) → (b ≡ true → k ≡ Bch) → k ≡ Asj → b ≡ false
+never_waits true k h a = absurd (not_waiting true k refl h a)
+never_waits false k h a = refl
+
+pub autostart_jobs_never_wait : AutostartJobsNeverWait
+autostart_jobs_never_wait s h j sound i a = never_waits (is_waiting j.phase) j.kind ((states_are_sound s h sound).queues j i).waits a
+
 pub step_keeps_limits : StepKeepsLimits
-step_keeps_limits s caller call moment h = step_limits s caller call moment h.numbered
+step_keeps_limits s caller call moment h = step_limits s caller call moment h.numbered h.orders
 
 pub limits_are_kept : LimitsAreKept
-limits_are_kept s h sound = limits_kept s h sound.numbered
+limits_are_kept s h sound = limits_kept s h sound.numbered sound.orders
 
 pub step_keeps_order : StepKeepsOrder
-step_keeps_order s caller call moment h = step_order s caller call moment h.numbered
+step_keeps_order s caller call moment h = step_order s caller call moment h.numbered h.queues
 
 pub order_is_kept : OrderIsKept
-order_is_kept s h sound = order_kept s h sound.numbered
+order_is_kept s h sound = order_kept s h sound.numbered sound.queues

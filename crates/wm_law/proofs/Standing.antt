@@ -1,6 +1,6 @@
 -- Objects stay sound, and no more subsystems are started than may be.
 use Rattle.std.proofs.Common.{◌≡◌, ℕ, ℤ, ◌≤◌, ◌++◌, ◌==◌, not, true, false, List, [], ◌∷◌, length, Option, Some, None, refl, sym, ap, subst, ◌∙◌, inl, inr, arith}
-use Rattle.std.specs.Prelude.{if◌then◌else◌, nat_le, is_some}
+use Rattle.std.specs.Prelude.{nat_le}
 use Rattle.std.specs.List.{find}
 use Rattle.std.specs.Option.{IsSome}
 use Rattle.std.specs.declared.cmp.Ordering.TheVariants.{Less}
@@ -9,8 +9,6 @@ use Rattle.std.proofs.lemmas.List.{length-map, length_push}
 use Rattle.std.proofs.lemmas.List.Elements.{All-cons, All-nil}
 use Rattle.std.proofs.lemmas.List.Kept.{AllPairs-cons}
 use Rattle.wm_base.specs.declared.qname.QName.{QName}
-use Rattle.wm_base.specs.declared.refusal.Kind.TheVariants as kind
-use Rattle.wm_base.specs.declared.refusal.Refusal.TheVariants.{PoweringDown, NoObject, AlreadyActive, TableFull}
 use Rattle.wm_desc.specs.declared.description.Jobd.{Jobd}
 use Rattle.wm_desc.specs.declared.entry.QueueEntry.{QueueEntry}
 use Rattle.wm_desc.specs.declared.entry.RouteEntry.{RouteEntry}
@@ -29,15 +27,14 @@ use Rattle.wm_law.specs.Machine.{step}
 use Rattle.wm_law.specs.Making.{jobd_of}
 use Rattle.wm_law.specs.Objects.{AreSound, HasTables, IsDescription, IsProgram, IsTable}
 use Rattle.wm_law.specs.Opening.{crtjobd_qbatch, crtjobd_qdftjobd, opening}
-use Rattle.wm_law.specs.Power.{end_now, is_on}
+use Rattle.wm_law.specs.Power.{end_now}
 use Rattle.wm_law.specs.Settling.{is_gone}
 use Rattle.wm_law.specs.Sound.{IsWithinStarted}
-use Rattle.wm_law.specs.Subsystems.{is_started, max_started, start_refusal}
+use Rattle.wm_law.specs.Subsystems.{max_started}
 use Rattle.wm_law.proofs.Entries.{left_length}
 use Rattle.wm_law.proofs.Moves.{HoldsOfStates, IsKeptByParts, step_keeps}
 use Rattle.wm_law.proofs.Opened.{batch_sbsd, opened, opening_is, opening_objects}
 use Rattle.wm_law.proofs.Orders.{only_sbsd}
-use Rattle.wm_law.proofs.Tests.{unrefused}
 
 -- the objects of a state are sound
 abbrev HasSoundObjects : State → Type 0
@@ -51,6 +48,7 @@ sound_calls : (s : State) → HasSoundObjects s → HoldsOfStates HasSoundObject
 sound_calls s h = record {
   stays = h;
   starts = λ q e. h;
+  autos = λ q t e d m k. k;
   enters = λ user c d a. h;
   moves = λ serial j phase i e r n. h;
   powers = h;
@@ -105,6 +103,7 @@ opening_description : IsDescription opening_objects batch_sbsd
 opening_description = record {
   queues = record { sorted = λ i j d less within. absurd (omega arith); once = ((λ i. i), tt); queues = only_queue };
   routes = record { programs = only_program; any_last = only_route };
+  autos = record { sorted = λ i j d less within. absurd (omega arith); jobds = λ e i. absurd i };
   sizes = record { queues = omega arith; routes = omega arith; autos = omega arith; pres = omega arith };
 }
 
@@ -114,14 +113,7 @@ opened_sound offset = record { tables = opening_tables; described = λ sbs d k. 
 pub opening_objects_are_sound : (offset : ℤ) → AreSound (opening offset).objects
 opening_objects_are_sound offset = subst HasSoundObjects (sym (opening_is offset)) (opened_sound offset)
 
--- STRSBS isn't refused, so there is room for one more
-room : (s : State) (q : QName) → start_refusal s q ≡ None → nat_le max_started (length s.started) ≡ false
-room s q e =
-    let on = (unrefused (not (is_on s.power)) PoweringDown _ e).1 in
-    let there = (unrefused (not (is_some (object_named q s.objects.sbsds))) (NoObject kind.Sbsd) _ on).1 in
-    let other = (unrefused (is_started s q.name) AlreadyActive (if nat_le max_started (length s.started) then Some (TableFull kind.Sbs max_started) else None) there).1 in
-    (unrefused (nat_le max_started (length s.started)) (TableFull kind.Sbs max_started) None other).0
-
+-- where there is room for one more
 one_more : (bs : List Sbs) (b : Sbs) → nat_le max_started (length bs) ≡ false → length (bs ++ b ∷ []) ≤ max_started
 one_more bs b h =
     let more = length_push bs b in
@@ -135,7 +127,8 @@ launched_within s c (Some j) h = h
 within_calls : (s : State) → IsWithinStarted s → HoldsOfStates IsWithinStarted s
 within_calls s h = record {
   stays = h;
-  starts = λ q e. one_more s.started (record { sbsd = q; phase = Active }) (room s q e);
+  starts = λ q e. one_more s.started (record { sbsd = q; phase = Active }) e.room;
+  autos = λ q t e d m k. k;
   enters = λ user c d a. h;
   moves = λ serial j phase i e r n. h;
   powers = subst (λ (n : ℕ). n ≤ max_started) (sym (length-map s.started end_now)) h;

@@ -1,12 +1,9 @@
 -- The simple names of the started subsystems stay distinct.
-use Rattle.std.proofs.Common.{◌≡◌, ℕ, ◌++◌, ◌==◌, not, true, false, List, [], ◌∷◌, map, Option, Some, None, refl, sym, subst, inl, inr, nat_eq}
-use Rattle.std.specs.Prelude.{if◌then◌else◌, length, nat_le, is_some}
+use Rattle.std.proofs.Common.{◌≡◌, ℕ, ◌==◌, not, true, false, List, [], ◌∷◌, map, Option, Some, None, refl, sym, subst, inl, inr, nat_eq}
 use Rattle.std.specs.List.{list_any, find}
 use Rattle.std.specs.Cmp.Lexicographic.{pointwise}
 use Rattle.std.proofs.lemmas.Bool.{eq-eqb}
 use Rattle.wm_base.specs.declared.qname.QName.{QName}
-use Rattle.wm_base.specs.declared.refusal.Kind.TheVariants as kind
-use Rattle.wm_base.specs.declared.refusal.Refusal.TheVariants.{PoweringDown, NoObject, AlreadyActive, TableFull}
 use Rattle.wm_law.specs.declared.choice.Candidate.{Candidate}
 use Rattle.wm_law.specs.declared.job.Job.{Job}
 use Rattle.wm_law.specs.declared.state.Sbs.{Sbs}
@@ -15,15 +12,14 @@ use Rattle.wm_law.specs.declared.state.State.{State}
 use Rattle.wm_law.specs.Kept.{IsDistinct, HasDistinctNames, OpeningHasDistinctNames, StepKeepsNamesDistinct, StartedNamesAreDistinct}
 use Rattle.wm_law.specs.Launch.{launch_job}
 use Rattle.wm_law.specs.Laws.{IsIn}
-use Rattle.wm_law.specs.Power.{is_on, end_now}
-use Rattle.wm_law.specs.Subsystems.{start_refusal, is_started, max_started}
+use Rattle.wm_law.specs.Power.{end_now}
+use Rattle.wm_law.specs.Subsystems.{begun, is_started}
 use Rattle.wm_law.specs.Settling.{is_gone}
-use Rattle.wm_desc.specs.Table.{object_named}
 use Rattle.wm_law.proofs.Distinct.{distinct_last, distinct_left}
 use Rattle.wm_law.proofs.Members.{map_same}
 use Rattle.wm_law.proofs.Moves.{HoldsOfStates, IsKeptByParts, step_keeps, after_keeps}
 use Rattle.wm_law.proofs.Opened.{opening_is}
-use Rattle.wm_law.proofs.Tests.{of_neither, unrefused}
+use Rattle.wm_law.proofs.Tests.{of_neither}
 
 abbrev name_of : Sbs → List ℕ
 name_of b = b.sbsd.name
@@ -41,15 +37,8 @@ not_among name (b ∷ bs) e (inl same) =
     absurd (cc)
 not_among name (b ∷ bs) e (inr i) = not_among name bs (of_neither (pointwise nat_eq b.sbsd.name name) (list_any (λ (b : Sbs). pointwise nat_eq b.sbsd.name name) bs) e).1 i
 
--- STRSBS isn't refused, so no started subsystem has the simple name
-not_started : (s : State) (q : QName) → start_refusal s q ≡ None → is_started s q.name ≡ false
-not_started s q e =
-    let on = (unrefused (not (is_on s.power)) PoweringDown _ e).1 in
-    let there = (unrefused (not (is_some (object_named q s.objects.sbsds))) (NoObject kind.Sbsd) _ on).1 in
-    (unrefused (is_started s q.name) AlreadyActive (if nat_le max_started (length s.started) then Some (TableFull kind.Sbs max_started) else None) there).0
-
-started : (s : State) (q : QName) → start_refusal s q ≡ None → HasDistinctNames s → HasDistinctNames (record s { started = s.started ++ record { sbsd = q; phase = Active } ∷ [] })
-started s q e h = distinct_last name_of (record { sbsd = q; phase = Active }) s.started (not_among q.name s.started (not_started s q e)) h
+started : (s : State) (q : QName) → is_started s q.name ≡ false → HasDistinctNames s → HasDistinctNames (begun s q)
+started s q fresh h = distinct_last name_of (record { sbsd = q; phase = Active }) s.started (not_among q.name s.started fresh) h
 
 launched : (s : State) (c : Candidate) (o : Option Job) → HasDistinctNames s → HasDistinctNames (launch_job s c o)
 launched s c None h = h
@@ -58,7 +47,8 @@ launched s c (Some j) h = h
 calls : (s : State) → HasDistinctNames s → HoldsOfStates HasDistinctNames s
 calls s h = record {
   stays = h;
-  starts = λ q e. started s q e h;
+  starts = λ q e. started s q e.fresh h;
+  autos = λ q t e d m k. k;
   enters = λ user c d has. h;
   moves = λ serial j phase i e r n. h;
   powers = subst IsDistinct (sym (map_same name_of end_now (λ b. refl) s.started)) h;

@@ -1,11 +1,8 @@
 -- Each started subsystem has its description, and none is Active where the power isn't On.
-use Rattle.std.proofs.Common.{◌≡◌, ℤ, ◌++◌, ◌==◌, not, true, [], ◌∷◌, Option, Some, None, sym, ap, subst, inl, inr}
-use Rattle.std.specs.Prelude.{if◌then◌else◌, length, nat_le}
+use Rattle.std.proofs.Common.{ℤ, ◌==◌, not, Option, Some, None, sym, ap, subst, inl, inr}
 use Rattle.std.specs.List.{find}
-use Rattle.std.specs.Option.{IsSome, is_some}
+use Rattle.std.specs.Option.{IsSome}
 use Rattle.wm_base.specs.declared.qname.QName.{QName}
-use Rattle.wm_base.specs.declared.refusal.Kind.TheVariants as kind
-use Rattle.wm_base.specs.declared.refusal.Refusal.TheVariants.{PoweringDown, NoObject, AlreadyActive, TableFull}
 use Rattle.wm_desc.specs.declared.description.Sbsd.{Sbsd}
 use Rattle.wm_desc.specs.Table.{object_named}
 use Rattle.wm_law.specs.declared.choice.Candidate.{Candidate}
@@ -16,28 +13,18 @@ use Rattle.wm_law.specs.declared.state.State.{State}
 use Rattle.wm_law.specs.Choice.{is_sbs_active}
 use Rattle.wm_law.specs.Kept.{HasDescriptions, IsQuiet, OpeningHasDescriptions, OpeningIsQuiet, StepKeepsDescriptions, StartedAreDescribed, StepKeepsQuiet, NoneIsActiveWithoutPower}
 use Rattle.wm_law.specs.Launch.{launch_job}
-use Rattle.wm_law.specs.Power.{is_on, end_now}
-use Rattle.wm_law.specs.Subsystems.{start_refusal, is_started, max_started}
+use Rattle.wm_law.specs.Power.{end_now}
+use Rattle.wm_law.specs.Subsystems.{begun}
 use Rattle.wm_law.specs.Settling.{is_gone}
 use Rattle.wm_law.proofs.Members.{of_last, of_mapped, left_in}
 use Rattle.wm_law.proofs.Opened.{opened, opening_is}
 use Rattle.wm_law.proofs.Moves.{HoldsOfStates, IsKeptByParts, step_keeps, after_keeps}
-use Rattle.wm_law.proofs.Tests.{of_not, unrefused}
 
--- STRSBS isn't refused, so the power is On and the description is there
-powered : (s : State) (q : QName) → start_refusal s q ≡ None → is_on s.power ≡ true
-powered s q e = of_not (is_on s.power) (unrefused (not (is_on s.power)) PoweringDown (if not (is_some (object_named q s.objects.sbsds)) then Some (NoObject kind.Sbsd) else if is_started s q.name then Some AlreadyActive else if nat_le max_started (length s.started) then Some (TableFull kind.Sbs max_started) else None) e).0
-
-there : (s : State) (q : QName) → start_refusal s q ≡ None → IsSome (object_named q s.objects.sbsds)
-there s q e =
-    let on = (unrefused (not (is_on s.power)) PoweringDown _ e).1 in
-    of_not (is_some (object_named q s.objects.sbsds)) (unrefused (not (is_some (object_named q s.objects.sbsds))) (NoObject kind.Sbsd) (if is_started s q.name then Some AlreadyActive else if nat_le max_started (length s.started) then Some (TableFull kind.Sbs max_started) else None) on).0
-
-described : (s : State) (q : QName) → start_refusal s q ≡ None → HasDescriptions s → HasDescriptions (record s { started = s.started ++ record { sbsd = q; phase = Active } ∷ [] })
-described s q e h b i =
+described : (s : State) (q : QName) → IsSome (object_named q s.objects.sbsds) → HasDescriptions s → HasDescriptions (begun s q)
+described s q there h b i =
     elim (of_last s.started (record { sbsd = q; phase = Active }) b i) as (λ _. IsSome (object_named b.sbsd s.objects.sbsds)) [
       | inl m ↦ h b m
-      | inr same ↦ subst (λ (x : Sbs). IsSome (object_named x.sbsd s.objects.sbsds)) (sym same) (there s q e)
+      | inr same ↦ subst (λ (x : Sbs). IsSome (object_named x.sbsd s.objects.sbsds)) (sym same) there
     ]
 
 described_launched : (s : State) (c : Candidate) (o : Option Job) → HasDescriptions s → HasDescriptions (launch_job s c o)
@@ -47,7 +34,8 @@ described_launched s c (Some j) h = h
 described_calls : (s : State) → HasDescriptions s → HoldsOfStates HasDescriptions s
 described_calls s h = record {
   stays = h;
-  starts = λ q e. described s q e h;
+  starts = λ q e. described s q e.there h;
+  autos = λ q t e d m k. k;
   enters = λ user c d has. h;
   moves = λ serial j phase i e r n. h;
   powers = λ b i. (let m = of_mapped end_now s.started b i in subst (λ (x : Sbs). IsSome (object_named x.sbsd s.objects.sbsds)) (sym m.2) (h m.0 m.1));
@@ -69,7 +57,8 @@ quiet_launched s c (Some j) h = h
 quiet_calls : (s : State) → IsQuiet s → HoldsOfStates IsQuiet s
 quiet_calls s h = record {
   stays = h;
-  starts = λ q e off b i. (let on = powered s q e in absurd (cc));
+  starts = λ q e off b i. (let on = e.on in absurd (cc));
+  autos = λ q t e d m k. k;
   enters = λ user c d has. h;
   moves = λ serial j phase i e r n. h;
   powers = λ off b i. (let m = of_mapped end_now s.started b i in ap (λ (x : Sbs). is_sbs_active x.phase) m.2);

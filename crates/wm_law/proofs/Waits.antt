@@ -71,3 +71,12 @@ more_by false i new old n e = e
 pub waiting_more : (jobs : List Job) (j : Job) → is_waiting j.phase ≡ true → waiting_places (jobs ++ j ∷ []) ≡ waiting_places jobs ++ j.place ∷ []
 waiting_more [] j w = ap (λ (t : Bool). map place (cond t (j ∷ []) [])) w
 waiting_more (i ∷ jobs) j w = more_by (is_waiting i.phase) i (waiting (jobs ++ j ∷ [])) (waiting jobs) j.place (waiting_more jobs j w)
+
+same_by : (t : Bool) (i : Job) (new old : List Job) → map place new ≡ map place old → map place (cond t (i ∷ new) new) ≡ map place (cond t (i ∷ old) old)
+same_by true i new old e = ap (λ (ns : List ℕ). i.place ∷ ns) e
+same_by false i new old e = e
+
+-- one that doesn't wait brings none
+pub waiting_same : (jobs : List Job) (j : Job) → is_waiting j.phase ≡ false → waiting_places (jobs ++ j ∷ []) ≡ waiting_places jobs
+waiting_same [] j w = ap (λ (t : Bool). map place (cond t (j ∷ []) [])) w
+waiting_same (i ∷ jobs) j w = same_by (is_waiting i.phase) i (waiting (jobs ++ j ∷ [])) (waiting jobs) (waiting_same jobs j w)

@@ -1,25 +1,12 @@
 -- Which commands of users are built.
 use Rattle.std.specs.Prelude.{Bool, true, false, ◌&&◌}
-use Rattle.wm_base.specs.declared.limit.Limit.{Limit}
-use Rattle.wm_base.specs.declared.limit.Limit.TheVariants.{NoMax, Most}
-use Rattle.wm_desc.specs.Refusals.{is_any}
-use Rattle.wm_desc.specs.Table.{is_qcmd}
 use Rattle.wm_when.specs.declared.schedule.DateSpec.{DateSpec}
 use Rattle.wm_when.specs.declared.schedule.DateSpec.TheVariants.{Current, MonthStart, MonthEnd, Weekday, Day}
 use Rattle.wm_when.specs.declared.schedule.TimeSpec.{TimeSpec}
 use Rattle.wm_when.specs.declared.schedule.TimeSpec.TheVariants.{Current as Now, At}
-use Rattle.wm_law.specs.declared.command.Addrtge.{Addrtge}
 use Rattle.wm_law.specs.declared.command.Command.{Command}
 use Rattle.wm_law.specs.declared.command.Command.TheVariants as command
 use Rattle.wm_law.specs.declared.command.Sbmjob.{Sbmjob}
-
-abbrev pub is_no_max : Limit → Bool
-is_no_max NoMax = true
-is_no_max (Most n) = false
-
--- CMPVAL(*ANY) PGM(QSYS/QCMD) MAXACT(*NOMAX)
-abbrev pub is_open_route : Addrtge → Bool
-is_open_route c = is_any c.cmpval && is_qcmd c.pgm && is_no_max c.maxact
 
 abbrev pub is_current_date : DateSpec → Bool
 is_current_date Current = true
@@ -36,7 +23,7 @@ is_current_time (At second) = false
 abbrev pub is_at_once : Sbmjob → Bool
 is_at_once c = is_current_date c.scddate && is_current_time c.scdtime
 
--- the commands that make objects, those on queue entries and RMVRTGE, ADDRTGE of an open route, STRSBS, and SBMJOB without a schedule
+-- the commands that make objects, those on queue, routing and autostart entries, STRSBS, and SBMJOB without a schedule
 abbrev pub is_built : Command → Bool
 is_built (command.Crtcls c) = true
 is_built (command.Crtjobq c) = true
@@ -44,9 +31,11 @@ is_built (command.Crtpgmref c) = true
 is_built (command.Crtjobd c) = true
 is_built (command.Crtsbsd c) = true
 is_built (command.Addjobqe c) = true
-is_built (command.Addrtge c) = is_open_route c
+is_built (command.Addrtge c) = true
+is_built (command.Addaje c) = true
 is_built (command.Rmvjobqe c) = true
 is_built (command.Rmvrtge c) = true
+is_built (command.Rmvaje c) = true
 is_built (command.Strsbs c) = true
 is_built (command.Sbmjob c) = is_at_once c
 is_built c = false

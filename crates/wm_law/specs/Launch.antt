@@ -80,20 +80,31 @@ route_fault s sbs e j =
 abbrev pub ends_by : EndCause → Launched
 ends_by cause = record { phase = Ended cause; how = NotYet }
 
-abbrev pub starts_from : QName → QName → Job → ℕ → Launched
-starts_from sbs queue j seq = record { phase = Starting; how = FromQueue sbs queue j.pty seq }
+abbrev pub starts_as : How → Launched
+starts_as how = record { phase = Starting; how = how }
 
-abbrev pub launched_by : QName → QName → Job → ℕ → Option EndCause → Launched
-launched_by sbs queue j seq None = starts_from sbs queue j seq
-launched_by sbs queue j seq (Some cause) = ends_by cause
+-- what a job's how is, by the number of its routing entry: that of a job of a queue, and that of an autostart job
+abbrev pub from_queue : QName → QName → Job → ℕ → How
+from_queue sbs queue j = λ seq. FromQueue sbs queue j.pty seq
 
-abbrev pub launched_through : State → QName → QName → Job → Option RouteEntry → Launched
-launched_through s sbs queue j None = ends_by NoRoute
-launched_through s sbs queue j (Some e) = launched_by sbs queue j e.seq (route_fault s sbs e j)
+abbrev pub as_auto : QName → ℕ → How
+as_auto sbs = λ seq. Auto sbs seq
 
--- the launch of a job of a queue in a subsystem: no entry matches, the entry is full, the request is no CALL, the program is missing, or it starts
+abbrev pub launched_by : (ℕ → How) → ℕ → Option EndCause → Launched
+launched_by how seq None = starts_as (how seq)
+launched_by how seq (Some cause) = ends_by cause
+
+abbrev pub launched_through : State → QName → (ℕ → How) → Job → Option RouteEntry → Launched
+launched_through s sbs how j None = ends_by NoRoute
+launched_through s sbs how j (Some e) = launched_by how e.seq (route_fault s sbs e j)
+
+-- the launch of a job in a subsystem: no entry matches, the entry is full, the request is no CALL, the program is missing, or it starts
+abbrev pub launched_as : State → QName → (ℕ → How) → Job → Launched
+launched_as s sbs how j = launched_through s sbs how j (option_and_then (λ d. route d j.rtgdta) (object_named sbs s.objects.sbsds))
+
+-- that of a job of a queue
 abbrev pub launched : State → QName → QName → Job → Launched
-launched s sbs queue j = launched_through s sbs queue j (option_and_then (λ d. route d j.rtgdta) (object_named sbs s.objects.sbsds))
+launched s sbs queue j = launched_as s sbs (from_queue sbs queue j) j
 
 -- the job as launched
 abbrev pub as_launched : Launched → Job → Job

@@ -1,3 +1,4 @@
+pub mod Autos
 pub mod Built
 pub mod Choice
 pub mod Counts

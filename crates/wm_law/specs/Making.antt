@@ -6,15 +6,17 @@ use Rattle.wm_base.specs.declared.qname.QName.{QName}
 use Rattle.wm_base.specs.declared.refusal.Kind.TheVariants as kind
 use Rattle.wm_base.specs.declared.refusal.Refusal.{Refusal}
 use Rattle.wm_base.specs.declared.refusal.Refusal.TheVariants.{SbsActive}
-use Rattle.wm_desc.specs.Objects.{with_class, with_jobq, with_program, with_jobd, with_sbsd, with_description, with_queue, with_route, without_queue, without_route}
-use Rattle.wm_desc.specs.Refusals.{object_refusal, program_refusal, queue_refusal, route_refusal, remove_queue_refusal, remove_route_refusal}
+use Rattle.wm_desc.specs.Objects.{with_class, with_jobq, with_program, with_jobd, with_sbsd, with_description, with_queue, with_route, with_auto, without_queue, without_route, without_auto}
+use Rattle.wm_desc.specs.Refusals.{object_refusal, program_refusal, queue_refusal, route_refusal, auto_refusal, remove_queue_refusal, remove_route_refusal, remove_auto_refusal}
 use Rattle.wm_desc.specs.Table.{same_qname, object_named}
 use Rattle.wm_desc.specs.declared.description.Jobd.{Jobd}
+use Rattle.wm_desc.specs.declared.entry.AutoEntry.{AutoEntry}
 use Rattle.wm_desc.specs.declared.entry.QueueEntry.{QueueEntry}
 use Rattle.wm_desc.specs.declared.entry.RouteEntry.{RouteEntry}
 use Rattle.wm_desc.specs.declared.objects.Objects.{Objects}
 use Rattle.wm_law.specs.declared.call.Reply.{Reply}
 use Rattle.wm_law.specs.declared.call.Reply.TheVariants.{Made, No}
+use Rattle.wm_law.specs.declared.command.Addaje.{Addaje}
 use Rattle.wm_law.specs.declared.command.Addjobqe.{Addjobqe}
 use Rattle.wm_law.specs.declared.command.Addrtge.{Addrtge}
 use Rattle.wm_law.specs.declared.command.Crtcls.{Crtcls}
@@ -22,6 +24,7 @@ use Rattle.wm_law.specs.declared.command.Crtjobd.{Crtjobd}
 use Rattle.wm_law.specs.declared.command.Crtjobq.{Crtjobq}
 use Rattle.wm_law.specs.declared.command.Crtpgmref.{Crtpgmref}
 use Rattle.wm_law.specs.declared.command.Crtsbsd.{Crtsbsd}
+use Rattle.wm_law.specs.declared.command.Rmvaje.{Rmvaje}
 use Rattle.wm_law.specs.declared.command.Rmvjobqe.{Rmvjobqe}
 use Rattle.wm_law.specs.declared.command.Rmvrtge.{Rmvrtge}
 use Rattle.wm_law.specs.declared.state.State.{State}
@@ -84,6 +87,14 @@ add_route s c =
     made_unless s (with_description c.sbsd (with_route (route_entry_of c)) s.objects)
     (unless_in_use s c.sbsd (route_refusal s.objects c.sbsd (route_entry_of c)))
 
+abbrev pub auto_entry_of : Addaje → AutoEntry
+auto_entry_of c = record { job = c.job; jobd = c.jobd }
+
+abbrev pub add_auto : State → Addaje → Stepped
+add_auto s c =
+    made_unless s (with_description c.sbsd (with_auto (auto_entry_of c)) s.objects)
+    (unless_in_use s c.sbsd (auto_refusal s.objects c.sbsd (auto_entry_of c)))
+
 abbrev pub remove_queue : State → Rmvjobqe → Stepped
 remove_queue s c =
     made_unless s (with_description c.sbsd (without_queue c.jobq) s.objects)
@@ -93,3 +104,8 @@ abbrev pub remove_route : State → Rmvrtge → Stepped
 remove_route s c =
     made_unless s (with_description c.sbsd (without_route c.seqnbr) s.objects)
     (unless_in_use s c.sbsd (remove_route_refusal s.objects c.sbsd c.seqnbr))
+
+abbrev pub remove_auto : State → Rmvaje → Stepped
+remove_auto s c =
+    made_unless s (with_description c.sbsd (without_auto c.job) s.objects)
+    (unless_in_use s c.sbsd (remove_auto_refusal s.objects c.sbsd c.job))

@@ -1,9 +1,11 @@
 -- What holds of the objects of each state: tables and entries stand in order and within their limits, and the names in subsystem descriptions are of objects.
 use Rattle.std.specs.Prelude.{◌≡◌, ◌⊎◌, ◌≤◌, true, List, length, map, Some}
 use Rattle.std.specs.Option.{IsSome}
+use Rattle.std.specs.Cmp.Lexicographic.{slice_cmp}
 use Rattle.std.specs.Ordering.{nat_cmp}
 use Rattle.wm_base.specs.declared.qname.QName.{QName}
 use Rattle.wm_desc.specs.declared.description.Sbsd.{Sbsd}
+use Rattle.wm_desc.specs.declared.entry.AutoEntry.{AutoEntry}
 use Rattle.wm_desc.specs.declared.entry.QueueEntry.{QueueEntry}
 use Rattle.wm_desc.specs.declared.entry.RouteEntry.{RouteEntry}
 use Rattle.wm_desc.specs.declared.objects.Objects.{Objects}
@@ -41,6 +43,11 @@ pub record HasRoutingEntries (objects : Objects) (entries : List RouteEntry) : T
   pub programs : (e : RouteEntry) → IsIn e entries → IsProgram objects e.pgm
   pub any_last : (e f : RouteEntry) → IsIn e entries → IsIn f entries → is_any e.cmp ≡ true → f.seq ≤ e.seq
 
+-- autostart entries stand in the order of their job names, each name once; each job description is an object
+pub record HasAutostartEntries (objects : Objects) (entries : List AutoEntry) : Type 0 where
+  pub sorted : IsSortedOnce (λ e. e.job) (slice_cmp nat_cmp) entries
+  pub jobds : (e : AutoEntry) → IsIn e entries → IsSome (object_named e.jobd objects.jobds)
+
 -- no entry list is above its limit
 pub record IsWithinSizes (d : Sbsd) : Type 0 where
   pub queues : length d.queues ≤ 100
@@ -48,10 +55,11 @@ pub record IsWithinSizes (d : Sbsd) : Type 0 where
   pub autos : length d.autos ≤ 100
   pub pres : length d.pres ≤ 100
 
--- what holds of a description: its queue entries, its routing entries, and how many there are
+-- what holds of a description: its queue entries, its routing entries, its autostart entries, and how many there are
 pub record IsDescription (objects : Objects) (d : Sbsd) : Type 0 where
   pub queues : HasQueueEntries objects d.queues
   pub routes : HasRoutingEntries objects d.routes
+  pub autos : HasAutostartEntries objects d.autos
   pub sizes : IsWithinSizes d
 
 -- what holds of the objects: their tables, and each subsystem description

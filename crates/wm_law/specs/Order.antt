@@ -5,12 +5,13 @@ use Rattle.std.specs.Ordering.{nat_cmp, is_lt, ordering_then}
 use Rattle.wm_base.specs.declared.job.EndCause.{EndCause}
 use Rattle.wm_base.specs.declared.job.EndCause.TheVariants as cause
 use Rattle.wm_base.specs.declared.job.How.{How}
-use Rattle.wm_base.specs.declared.job.How.TheVariants.{FromQueue}
+use Rattle.wm_base.specs.declared.job.How.TheVariants.{FromQueue, Auto}
 use Rattle.wm_base.specs.declared.qname.QName.{QName}
 use Rattle.wm_base.specs.Limit.{is_below}
 use Rattle.wm_desc.specs.declared.description.Sbsd.{Sbsd}
 use Rattle.wm_desc.specs.declared.entry.QueueEntry.{QueueEntry}
 use Rattle.wm_desc.specs.declared.entry.RouteEntry.{RouteEntry}
+use Rattle.wm_desc.specs.declared.objects.Objects.{Objects}
 use Rattle.wm_desc.specs.Table.{object_named, same_qname}
 use Rattle.wm_law.specs.declared.call.Entry.{Entry}
 use Rattle.wm_law.specs.declared.job.Job.{Job}
@@ -25,6 +26,7 @@ use Rattle.wm_law.specs.Counts.{is_active, is_by_route, is_from_priority, is_fro
 use Rattle.wm_law.specs.History.{stepped}
 use Rattle.wm_law.specs.Launch.{route}
 use Rattle.wm_law.specs.Laws.{IsIn, Turn}
+use Rattle.wm_law.specs.Limits.{BecameStarting}
 
 -- a turn, where the description has an entry for the queue
 abbrev pub turn_from : QName → Sbs → Sbsd → Option QueueEntry → Option Turn
@@ -172,11 +174,25 @@ pub record IsFit (s t : State) (j : Job) (u : Turn) : Type 0 where
 abbrev pub LaunchesFit : State → State → Type 0
 LaunchesFit s t = (j : Job) → IsIn j t.jobs → was_launched s j ≡ true → (u : Turn) × IsFit s t j u
 
+-- a how names a subsystem as one that the job started with, and the number of the job's route there
+pub record IsAutoRouted (objects : Objects) (j : Job) : Type 0 where
+  pub sbs : QName
+  pub sbsd : Sbsd
+  pub entry : RouteEntry
+  pub described : object_named sbs objects.sbsds ≡ Some sbsd
+  pub routed : route sbsd j.rtgdta ≡ Some entry
+  pub is_how : j.how ≡ Auto sbs entry.seq
+
+-- so it is with each autostart job that became Starting
+abbrev pub AutosFit : State → State → Type 0
+AutosFit s t = (j : Job) → BecameStarting s t j → j.kind ≡ Asj → IsAutoRouted t.objects j
+
 -- the jobs are launched in their order over an entry, from the state before it to the state after it
 pub record IsInOrder (s t : State) : Type 0 where
   pub none_left : LeavesNone t
   pub none_passed : PassesNone s t
   pub fit : LaunchesFit s t
+  pub autos : AutosFit s t
 
 -- the jobs are launched in their order over each entry of a history
 abbrev pub KeepsOrder : State → List Entry → Type 0

@@ -1,8 +1,8 @@
 -- What holds of each state that a history reaches from the opening one, and what holds over each entry from there.
-use Rattle.std.specs.Prelude.{◌≡◌, ℕ, ◌<◌, ◌≤◌, ℤ, true, List, [], ◌∷◌, length, map, Option, Some, ⊤}
+use Rattle.std.specs.Prelude.{◌≡◌, ℕ, ◌<◌, ◌≤◌, ℤ, true, false, List, [], ◌∷◌, length, map, Option, Some, None, ⊤}
 use Rattle.std.specs.Option.{IsSome}
 use Rattle.wm_base.specs.declared.job.How.{How}
-use Rattle.wm_base.specs.declared.job.How.TheVariants.{FromQueue}
+use Rattle.wm_base.specs.declared.job.How.TheVariants.{FromQueue, Auto}
 use Rattle.wm_base.specs.declared.qname.QName.{QName}
 use Rattle.wm_desc.specs.declared.description.Sbsd.{Sbsd}
 use Rattle.wm_desc.specs.declared.entry.QueueEntry.{QueueEntry}
@@ -12,7 +12,8 @@ use Rattle.wm_desc.specs.Table.{object_named}
 use Rattle.wm_law.specs.declared.call.Call.{Call}
 use Rattle.wm_law.specs.declared.call.Entry.{Entry}
 use Rattle.wm_law.specs.declared.job.Job.{Job}
-use Rattle.wm_law.specs.declared.job.JobKind.TheVariants.{Bch}
+use Rattle.wm_law.specs.declared.job.JobKind.{JobKind}
+use Rattle.wm_law.specs.declared.job.JobKind.TheVariants.{Bch, Asj, Pj}
 use Rattle.wm_law.specs.declared.state.Sbs.{Sbs}
 use Rattle.wm_law.specs.declared.state.State.{State}
 use Rattle.wm_law.specs.Choice.{entry_for}
@@ -37,7 +38,7 @@ abbrev pub HasJobsInOrder : State → Type 0
 HasJobsInOrder s = IsIncreasing (map (λ j. j.serial) s.jobs)
 
 -- a how names a started subsystem, a queue that this one's description has an entry for, the priority, and a routing entry of the description
-pub record IsPlaced (subsystems : List Sbs) (objects : Objects) (jobq : Option QName) (pty : ℕ) (how : How) : Type 0 where
+pub record CameFromQueue (subsystems : List Sbs) (objects : Objects) (jobq : Option QName) (pty : ℕ) (how : How) : Type 0 where
   pub queue : QName
   pub sbs : Sbs
   pub sbsd : Sbsd
@@ -50,15 +51,39 @@ pub record IsPlaced (subsystems : List Sbs) (objects : Objects) (jobq : Option Q
   pub has_queue : jobq ≡ Some queue
   pub is_how : how ≡ FromQueue sbs.sbsd queue pty route.seq
 
--- the how of each active job names what is there, with the job's queue and priority
-abbrev pub HasPlaces : State → Type 0
-HasPlaces s = (j : Job) → IsIn j s.jobs → is_active j.phase ≡ true → IsPlaced s.started s.objects j.jobq j.pty j.how
+-- a how names a started subsystem as one that the job started with, and a routing entry of its description
+pub record CameAsAuto (subsystems : List Sbs) (objects : Objects) (how : How) : Type 0 where
+  pub sbs : Sbs
+  pub sbsd : Sbsd
+  pub route : RouteEntry
+  pub started : IsIn sbs subsystems
+  pub described : object_named sbs.sbsd objects.sbsds ≡ Some sbsd
+  pub routed : IsIn route sbsd.routes
+  pub is_how : how ≡ Auto sbs.sbsd route.seq
 
--- a job that waits was submitted, a submitted job has a queue, and a job's queue is an object
+-- by its kind a job came from a queue or started with a subsystem; no prestart job is active yet
+abbrev pub IsPlaced : List Sbs → Objects → JobKind → Option QName → ℕ → How → Type 0
+IsPlaced subsystems objects Bch jobq pty how = CameFromQueue subsystems objects jobq pty how
+IsPlaced subsystems objects Asj jobq pty how = CameAsAuto subsystems objects how
+IsPlaced subsystems objects Pj jobq pty how = ⊥
+
+-- the how of each active job names what is there, that of a submitted job with the job's queue and priority
+abbrev pub HasPlaces : State → Type 0
+HasPlaces s = (j : Job) → IsIn j s.jobs → is_active j.phase ≡ true → IsPlaced s.started s.objects j.kind j.jobq j.pty j.how
+
+-- an autostart job has no queue, priority 5 and place 0, and isn't held
+pub record HasAutoValues (j : Job) : Type 0 where
+  pub jobq : j.jobq ≡ None
+  pub pty : j.pty ≡ 5
+  pub place : j.place ≡ 0
+  pub held : j.held ≡ false
+
+-- a job that waits was submitted, a submitted job has a queue, a job's queue is an object, and an autostart job has its values
 pub record IsQueued (objects : Objects) (j : Job) : Type 0 where
   pub waits : is_waiting j.phase ≡ true → j.kind ≡ Bch
   pub has_queue : j.kind ≡ Bch → IsSome j.jobq
   pub is_object : (queue : QName) → j.jobq ≡ Some queue → IsSome (object_named queue objects.jobqs)
+  pub auto : j.kind ≡ Asj → HasAutoValues j
 
 -- so it is with each job
 abbrev pub HasQueues : State → Type 0
@@ -98,6 +123,10 @@ StepKeepsSound = (s : State) (caller : ℕ) (call : Call) (moment : ℕ) → IsS
 -- whatever is called, the state stays sound
 abbrev pub StatesAreSound : Type 0
 StatesAreSound = (s : State) (h : List Entry) → IsSound s → IsSound (after s h)
+
+-- whatever is called from a sound state, no autostart job waits
+abbrev pub AutostartJobsNeverWait : Type 0
+AutostartJobsNeverWait = (s : State) (h : List Entry) (j : Job) → IsSound s → IsIn j (after s h).jobs → j.kind ≡ Asj → is_waiting j.phase ≡ false
 
 -- no start passes a limit over any step
 abbrev pub StepKeepsLimits : Type 0

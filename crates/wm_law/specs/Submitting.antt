@@ -1,5 +1,5 @@
 -- SBMJOB: a job is made.
-use Rattle.std.specs.Prelude.{ℕ, Bool, false, not, ◌+◌, ◌&&◌, [], ◌∷◌, ◌++◌, List, Option, Some, None, nat_lt, nat_le, if◌then◌else◌, unwrap_or, is_some}
+use Rattle.std.specs.Prelude.{ℕ, Bool, false, not, ◌+◌, ◌-◌, min, ◌&&◌, [], ◌∷◌, ◌++◌, List, Option, Some, None, nat_lt, nat_le, if◌then◌else◌, unwrap_or, is_some}
 use Rattle.wm_base.specs.declared.qname.QName.{QName}
 use Rattle.wm_base.specs.declared.job.JobName.{JobName}
 use Rattle.wm_base.specs.declared.job.How.TheVariants.{NotYet}
@@ -29,6 +29,10 @@ serials_end = 1000000000000000000
 -- a job number, a serial and a place are left
 abbrev pub has_numbers : State → Bool
 has_numbers s = nat_le 1 s.next_number && nat_lt s.next_number numbers_end && nat_lt s.next_serial serials_end && nat_lt s.next_place serials_end
+
+-- how many jobs can still be made: none where what comes next is no number
+abbrev pub numbers_left : State → ℕ
+numbers_left s = if nat_le 1 s.next_number then min (numbers_end - s.next_number) (serials_end - s.next_serial) else 0
 
 -- the queue of a submitted job
 abbrev pub queue_of : Sbmjob → Jobd → QName

@@ -1,17 +1,19 @@
--- STRSBS: a subsystem is started.
-use Rattle.std.specs.Prelude.{ℕ, Bool, not, [], ◌∷◌, ◌++◌, List, length, Option, Some, None, nat_eq, nat_le, if◌then◌else◌, is_some}
+-- STRSBS: a subsystem is started, and with it its autostart jobs.
+use Rattle.std.specs.Prelude.{ℕ, Bool, not, [], ◌∷◌, ◌++◌, List, length, fold, Option, Some, None, nat_eq, nat_le, nat_lt, if◌then◌else◌, is_some}
 use Rattle.std.specs.List.{list_any}
 use Rattle.std.specs.Cmp.Lexicographic.{pointwise}
 use Rattle.wm_base.specs.declared.qname.QName.{QName}
 use Rattle.wm_base.specs.declared.refusal.Refusal.{Refusal}
-use Rattle.wm_base.specs.declared.refusal.Refusal.TheVariants.{NoObject, AlreadyActive, TableFull, PoweringDown}
+use Rattle.wm_base.specs.declared.refusal.Refusal.TheVariants.{NoObject, AlreadyActive, TableFull, NumbersUsed, PoweringDown}
 use Rattle.wm_base.specs.declared.refusal.Kind.TheVariants as kind
 use Rattle.wm_law.specs.declared.call.Reply.TheVariants.{SbsStarted}
 use Rattle.wm_law.specs.declared.state.State.{State}
 use Rattle.wm_law.specs.declared.state.SbsPhase.TheVariants.{Active}
 use Rattle.wm_law.specs.Stepped.{Stepped, refused}
 use Rattle.wm_desc.specs.Table.{object_named}
+use Rattle.wm_law.specs.Autos.{autos_of, make_auto}
 use Rattle.wm_law.specs.Power.{is_on}
+use Rattle.wm_law.specs.Submitting.{numbers_left}
 
 -- how many subsystems may be started
 abbrev pub max_started : ℕ
@@ -28,12 +30,21 @@ start_refusal s q =
     else if not (is_some (object_named q s.objects.sbsds)) then Some (NoObject kind.Sbsd)
     else if is_started s q.name then Some AlreadyActive
     else if nat_le max_started (length s.started) then Some (TableFull kind.Sbs max_started)
+    else if nat_lt (numbers_left s) (length (autos_of s q)) then Some NumbersUsed
     else None
+
+-- the subsystem goes last among the started ones, Active
+abbrev pub begun : State → QName → State
+begun s q = record s { started = s.started ++ record { sbsd = q; phase = Active } ∷ [] }
+
+-- and then the jobs of its autostart entries are made and launched
+abbrev pub started_up : State → QName → State
+started_up s q = fold (make_auto q) (begun s q) (autos_of s q)
 
 abbrev pub start_unless : State → QName → Option Refusal → Stepped
 start_unless s q (Some x) = refused s x
-start_unless s q None = record { reply = SbsStarted q; state = record s { started = s.started ++ record { sbsd = q; phase = Active } ∷ [] } }
+start_unless s q None = record { reply = SbsStarted q; state = started_up s q }
 
--- the subsystem goes last among the started ones, Active
+-- the subsystem starts with its autostart jobs
 abbrev pub start_subsystem : State → QName → Stepped
 start_subsystem s q = start_unless s q (start_refusal s q)

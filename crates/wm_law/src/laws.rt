@@ -1,7 +1,7 @@
 // Laws of the machine: what its definitions come to, each for all states. They are no calls.
 ghost use Rattle.wm_law.specs.Laws.{FirstIsLeast, NoFirstIsNone, NextIsFirst, NoNextIsNone, RouteIsLeast, NoRouteIsNone, SettledHasNoNext, SettledLeavesNone, RefusalLeaves, RefusedStepSettles, BuiltCallsAreAnswered, BuiltIsHad};
 ghost use Rattle.wm_law.specs.Kept.{OpeningIsNumbered, StepKeepsNumbers, NumbersAreGivenOnce, StepGoesOn, SerialsStartOnce, OpeningHasOrders, StepKeepsOrders, StartingJobsHaveOrders, HandGivesAnOrder, ReachedRouteIsLeast, OpeningHasDescriptions, StepKeepsDescriptions, StartedAreDescribed, OpeningIsQuiet, StepKeepsQuiet, NoneIsActiveWithoutPower, OpeningHasDistinctNames, StepKeepsNamesDistinct, StartedNamesAreDistinct, StartsInOrder};
-ghost use Rattle.wm_law.specs.Sound.{OpeningIsSound, StepKeepsSound, StatesAreSound, StepKeepsLimits, LimitsAreKept, StepKeepsOrder, OrderIsKept};
+ghost use Rattle.wm_law.specs.Sound.{AutostartJobsNeverWait, OpeningIsSound, StepKeepsSound, StatesAreSound, StepKeepsLimits, LimitsAreKept, StepKeepsOrder, OrderIsKept};
 
 /// The first job of a subsystem may start there, and no other job that may start there stands before
 /// it. Where there is no first job, no job may start there.
@@ -118,9 +118,16 @@ pub fn states_are_sound()
     ensures always { StatesAreSound }
 {}
 
+/// An autostart job is launched as it is made, so it never waits, whatever was called.
+#[tactic(auto, using(crate::proofs::Sound::autostart_jobs_never_wait))]
+pub fn autostart_jobs_never_wait()
+    ensures { AutostartJobsNeverWait }
+{}
+
 /// No start passes a limit, whatever was called: where a job became Starting in an entry, the count of
-/// its subsystem is then at most MAXJOBS, that of its queue entry at most MAXACT, and that with its
-/// priority at most MAXPTY of the priority.
+/// its queue entry is then at most MAXACT, that with its priority at most MAXPTY of the priority, and
+/// that of its routing entry at most MAXACT. That of its subsystem is at most MAXJOBS, where the job
+/// isn't an autostart job.
 pub fn no_start_passes_a_limit()
     ensures step { StepKeepsLimits }
     ensures always { LimitsAreKept }
@@ -130,7 +137,8 @@ pub fn no_start_passes_a_limit()
 /// allowed. Where a job was launched in an entry, each ready job of the same subsystem that stands
 /// before it waits because a limit of its queue entry was reached without the jobs behind it. A
 /// launched job isn't held, nor is its queue; it is due, and its holder is Active; and it starts by its
-/// first matching routing entry, or has ended because that one is full or there is none.
+/// first matching routing entry, or has ended because that one is full or there is none. An autostart
+/// job that started did so by its first matching routing entry, too.
 pub fn jobs_are_launched_in_order()
     ensures step { StepKeepsOrder }
     ensures always { OrderIsKept }

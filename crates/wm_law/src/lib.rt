@@ -4,7 +4,7 @@
 //! leaves, and `specs/History.antt` which histories are legal; the laws of `laws.rs` hold for all of them. No program
 //! stands here: `wm_pick` and `wm_core` compute what these definitions say.
 //!
-//! The definitions are in `specs/`: `Machine` (a step), and by subject `Making`, `Subsystems`, `Submitting`, `Power`,
+//! The definitions are in `specs/`: `Machine` (a step), and by subject `Making`, `Subsystems`, `Autos`, `Submitting`, `Power`,
 //! `Reports` and `Settling`; `Choice` and `Launch` (which job starts, and what becomes of it); `Jobs` (a change to one
 //! job); `Counts`; `Opening`; `Pending` (what a monitor asks); `Fit` (which calls the machine has, and their ranges); `Laws` and `Kept` (the laws);
 //! `Limits` (no start passes a limit), `Order` (jobs are launched in their order), `Objects` (what holds of tables and subsystem descriptions) and `Sound`
@@ -31,11 +31,12 @@ pub use command::{
 pub use job::{Job, JobKind, Phase, Why, Wish};
 pub use launch::Launched;
 pub use laws::{
-    built_calls_are_answered, built_commands_are_had, first_job_is_least,
-    jobs_are_launched_in_order, jobs_go_forward, jobs_start_in_order, next_job_is_first,
-    no_start_passes_a_limit, none_is_active_without_power, numbers_are_given_once,
-    refusals_leave_the_state, routes_are_least, serials_start_once, settling_leaves_none,
-    started_are_described, started_names_are_distinct, starting_jobs_have_orders, states_are_sound,
+    autostart_jobs_never_wait, built_calls_are_answered, built_commands_are_had,
+    first_job_is_least, jobs_are_launched_in_order, jobs_go_forward, jobs_start_in_order,
+    next_job_is_first, no_start_passes_a_limit, none_is_active_without_power,
+    numbers_are_given_once, refusals_leave_the_state, routes_are_least, serials_start_once,
+    settling_leaves_none, started_are_described, started_names_are_distinct,
+    starting_jobs_have_orders, states_are_sound,
 };
 pub use list::ListOf;
 pub use pending::Pending;

@@ -1,0 +1,63 @@
+-- Autostart jobs: made and launched one after another as their subsystem starts.
+use Rattle.std.specs.Prelude.{ℕ, false, ◌+◌, codes, List, [], ◌∷◌, ◌++◌, Option, Some, None}
+use Rattle.std.specs.Option.{option_map_or}
+use Rattle.wm_base.specs.declared.job.How.TheVariants.{NotYet}
+use Rattle.wm_base.specs.declared.qname.QName.{QName}
+use Rattle.wm_desc.specs.declared.description.Jobd.{Jobd}
+use Rattle.wm_desc.specs.declared.entry.AutoEntry.{AutoEntry}
+use Rattle.wm_desc.specs.Table.{object_named}
+use Rattle.wm_law.specs.declared.job.Job.{Job}
+use Rattle.wm_law.specs.declared.job.JobKind.TheVariants.{Asj}
+use Rattle.wm_law.specs.declared.job.Phase.TheVariants.{Waiting}
+use Rattle.wm_law.specs.declared.job.Wish.TheVariants.{NoWish}
+use Rattle.wm_law.specs.declared.state.State.{State}
+use Rattle.wm_law.specs.Launch.{as_auto, as_launched, launched_as}
+
+-- the user of autostart jobs
+abbrev pub auto_user : List ℕ
+auto_user = codes "QUSER"
+
+-- an autostart entry's job with the entry's job description, as the launch takes it
+abbrev pub auto_job : State → AutoEntry → Jobd → Job
+auto_job s e d =
+    record {
+      serial = s.next_serial;
+      job = record { number = s.next_number; user = auto_user; name = e.job };
+      kind = Asj;
+      jobq = None;
+      pty = 5;
+      place = 0;
+      rtgdta = d.rtgdta;
+      rqsdta = d.rqsdta;
+      held = false;
+      due = s.clock;
+      phase = Waiting;
+      how = NotYet;
+      wish = NoWish;
+      uses = 0;
+      evoke = false;
+    }
+
+-- as the launch leaves it, whatever MAXJOBS is
+abbrev pub auto_launched : State → QName → Job → Job
+auto_launched s sbs j = as_launched (launched_as s sbs (as_auto sbs) j) j
+
+-- the job goes last among the jobs, and its number and serial are taken, but no place
+abbrev pub joined : State → Job → State
+joined s j = record s { jobs = s.jobs ++ j ∷ []; next_number = s.next_number + 1; next_serial = s.next_serial + 1 }
+
+-- the entry's job is made and launched at once, so it never waits
+abbrev pub auto_made : State → QName → AutoEntry → Jobd → State
+auto_made s sbs e d = joined s (auto_launched s sbs (auto_job s e d))
+
+-- where its job description is an object, as it always is
+abbrev pub auto_described : State → QName → AutoEntry → Option Jobd → State
+auto_described s sbs e None = s
+auto_described s sbs e (Some d) = auto_made s sbs e d
+
+abbrev pub make_auto : QName → State → AutoEntry → State
+make_auto sbs s e = auto_described s sbs e (object_named e.jobd s.objects.jobds)
+
+-- the autostart entries of a description, in the order of their job names
+abbrev pub autos_of : State → QName → List AutoEntry
+autos_of s sbs = option_map_or (λ d. d.autos) (object_named sbs s.objects.sbsds) []
