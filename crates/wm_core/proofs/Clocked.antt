@@ -1,8 +1,6 @@
--- Calls other than SBMJOB don't look at the clock: it may be set before them or after them.
+-- Calls other than SBMJOB and STRSBS don't look at the clock: it may be set before them or after them.
 use Rattle.std.proofs.Common.{◌≡◌, ℕ, Bool, true, false, cond, Option, Some, None, List, refl, ap, ◌∙◌, ◌==◌}
-use Rattle.wm_base.specs.declared.qname.QName.{QName}
 use Rattle.wm_base.specs.declared.job.StartOrder.{StartOrder}
-use Rattle.wm_base.specs.declared.refusal.Refusal.{Refusal}
 use Rattle.wm_base.specs.declared.job.EndCause.TheVariants as cause
 use Rattle.wm_law.specs.declared.call.Call.{Call}
 use Rattle.wm_law.specs.declared.call.Reply.{Reply}
@@ -17,18 +15,10 @@ use Rattle.wm_law.specs.Launch.{order_of}
 use Rattle.wm_law.specs.Machine.{apply, change, with_clock}
 use Rattle.wm_law.specs.Power.{power_down, is_down_now}
 use Rattle.wm_law.specs.Reports.{done_with, end_cause, is_handed_to, hand, hand_job, hand_order, is_run_by, report, report_on, use_done}
-use Rattle.wm_law.specs.Subsystems.{start_refusal, start_subsystem, start_unless}
 use Rattle.wm_law.specs.Stepped.{Stepped}
-use Rattle.wm_core.specs.Clocked.{IsLate, IsStill, is_submission, is_submitting}
+use Rattle.wm_core.specs.Clocked.{IsLate, IsStill, makes_jobs, is_job_making}
 use Rattle.std.specs.List.{find}
 use Rattle.std.specs.Prelude.{IfOk, OnOk, Result, Ok, Err}
-
-started_by : (s : State) (now : ℕ) (q : QName) (o : Option Refusal) → IsLate now (start_unless s q o) (start_unless (with_clock s now) q o)
-started_by s now q None = record { says = refl; leaves = refl }
-started_by s now q (Some x) = record { says = refl; leaves = refl }
-
-pub start_is_late : (s : State) (now : ℕ) (q : QName) → IsLate now (start_subsystem s q) (start_subsystem (with_clock s now) q)
-start_is_late s now q = started_by s now q (start_refusal s q)
 
 downed_by : (s : State) (now : ℕ) (b : Bool) (t u : Stepped) (v w : Stepped) → IsLate now t v → IsLate now u w → IsLate now (cond b t u) (cond b v w)
 downed_by s now true t u v w h k = h
@@ -62,8 +52,8 @@ done_by s now m (Some j) = downed_by s now (is_run_by m j.phase) _ _ _ _ (record
 pub use_is_late : (s : State) (now m serial : ℕ) → IsLate now (use_done s m serial) (use_done (with_clock s now) m serial)
 use_is_late s now m serial = done_by s now m (find (λ j. j.serial == serial) s.jobs)
 
--- a command that isn't SBMJOB comes to the same before the clock is set
-change_is_late : (s : State) (now : ℕ) (user : List ℕ) (c : Command) → is_submission c ≡ false → IsLate now (change s user c) (change (with_clock s now) user c)
+-- a command that makes no jobs comes to the same before the clock is set
+change_is_late : (s : State) (now : ℕ) (user : List ℕ) (c : Command) → makes_jobs c ≡ false → IsLate now (change s user c) (change (with_clock s now) user c)
 change_is_late s now user (command.Crtcls c) other = record { says = refl; leaves = refl }
 change_is_late s now user (command.Crtjobq c) other = record { says = refl; leaves = refl }
 change_is_late s now user (command.Crtpgmref c) other = record { says = refl; leaves = refl }
@@ -77,7 +67,7 @@ change_is_late s now user (command.Rmvjobqe c) other = record { says = refl; lea
 change_is_late s now user (command.Rmvrtge c) other = record { says = refl; leaves = refl }
 change_is_late s now user (command.Rmvaje c) other = record { says = refl; leaves = refl }
 change_is_late s now user (command.Rmvpje c) other = record { says = refl; leaves = refl }
-change_is_late s now user (command.Strsbs c) other = start_is_late s now c.sbsd
+change_is_late s now user (command.Strsbs c) other = absurd (cc)
 change_is_late s now user (command.Endsbs c) other = record { says = refl; leaves = refl }
 change_is_late s now user (command.Sbmjob c) other = absurd (cc)
 change_is_late s now user (command.Hldjob c) other = record { says = refl; leaves = refl }
@@ -94,7 +84,7 @@ change_is_late s now user (command.Enduse c) other = record { says = refl; leave
 change_is_late s now user (command.Pwrdwnsys c) other = power_is_late s now
 
 -- and so does each other call
-pub apply_is_late : (s : State) (now caller : ℕ) (call : Call) → is_submitting call ≡ false → IsLate now (apply s caller call) (apply (with_clock s now) caller call)
+pub apply_is_late : (s : State) (now caller : ℕ) (call : Call) → is_job_making call ≡ false → IsLate now (apply s caller call) (apply (with_clock s now) caller call)
 apply_is_late s now caller (Change user c) other = change_is_late s now user c other
 apply_is_late s now caller Hand other = hand_is_late s now caller
 apply_is_late s now caller (Started serial) other = report_is_late s now serial (is_handed_to caller) (Running caller)
@@ -103,14 +93,14 @@ apply_is_late s now caller (Finished serial end) other = report_is_late s now se
 apply_is_late s now caller (UseDone serial) other = use_is_late s now caller serial
 apply_is_late s now caller Tick other = record { says = refl; leaves = refl }
 
--- what a call that isn't SBMJOB came to before the clock was set
-pub still : (s : State) (now caller : ℕ) (call : Call) (reply : Reply) (state : State) → is_submitting call ≡ false → reply ≡ (apply s caller call).reply → state ≡ (apply s caller call).state → IsStill now reply state (apply (with_clock s now) caller call)
+-- what a call that makes no jobs came to before the clock was set
+pub still : (s : State) (now caller : ℕ) (call : Call) (reply : Reply) (state : State) → is_job_making call ≡ false → reply ≡ (apply s caller call).reply → state ≡ (apply s caller call).state → IsStill now reply state (apply (with_clock s now) caller call)
 still s now caller call reply state other h k =
     let late = apply_is_late s now caller call other in
     record { says = h ∙ late.says; leaves = ap (λ (t : State). with_clock t now) k ∙ late.leaves }
 
 -- the same of an answer
-pub if_still : {E : Type 0} (o : Result Reply E) (s : State) (now caller : ℕ) (call : Call) (state : State) → is_submitting call ≡ false
+pub if_still : {E : Type 0} (o : Result Reply E) (s : State) (now caller : ℕ) (call : Call) (state : State) → is_job_making call ≡ false
     → IfOk o (λ r. r ≡ (apply s caller call).reply)
     → OnOk o (state ≡ (apply s caller call).state)
     → IfOk o (λ r. IsStill now r state (apply (with_clock s now) caller call))

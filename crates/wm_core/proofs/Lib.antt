@@ -1,3 +1,4 @@
+pub mod ByDrafts
 pub mod Clocked
 pub mod Launches
 pub mod Leaving

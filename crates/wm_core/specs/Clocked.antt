@@ -3,7 +3,7 @@ use Rattle.std.specs.Prelude.{◌≡◌, ℕ, Bool, true, false}
 use Rattle.wm_law.specs.declared.call.Call.{Call}
 use Rattle.wm_law.specs.declared.call.Call.TheVariants.{Change, Hand, Started, StartFailed, Finished, UseDone, Tick}
 use Rattle.wm_law.specs.declared.command.Command.{Command}
-use Rattle.wm_law.specs.declared.command.Command.TheVariants.{Sbmjob}
+use Rattle.wm_law.specs.declared.command.Command.TheVariants.{Sbmjob, Strsbs}
 use Rattle.wm_law.specs.declared.call.Reply.{Reply}
 use Rattle.wm_law.specs.declared.state.State.{State}
 use Rattle.wm_law.specs.Machine.{with_clock}
@@ -18,17 +18,18 @@ pub record IsStill (now : ℕ) (reply : Reply) (state : State) (whole : Stepped)
 abbrev pub IsLate : ℕ → Stepped → Stepped → Type 0
 IsLate now late whole = IsStill now late.reply late.state whole
 
--- SBMJOB, which is the one command that looks at the clock
-abbrev pub is_submission : Command → Bool
-is_submission (Sbmjob c) = true
-is_submission c = false
+-- SBMJOB and STRSBS, which look at the clock: the jobs that they make are due at it
+abbrev pub makes_jobs : Command → Bool
+makes_jobs (Sbmjob c) = true
+makes_jobs (Strsbs c) = true
+makes_jobs c = false
 
--- whether a call is that command
-abbrev pub is_submitting : Call → Bool
-is_submitting (Change user c) = is_submission c
-is_submitting Hand = false
-is_submitting (Started serial) = false
-is_submitting (StartFailed serial why) = false
-is_submitting (Finished serial end) = false
-is_submitting (UseDone serial) = false
-is_submitting Tick = false
+-- whether a call is one of these commands
+abbrev pub is_job_making : Call → Bool
+is_job_making (Change user c) = makes_jobs c
+is_job_making Hand = false
+is_job_making (Started serial) = false
+is_job_making (StartFailed serial why) = false
+is_job_making (Finished serial end) = false
+is_job_making (UseDone serial) = false
+is_job_making Tick = false

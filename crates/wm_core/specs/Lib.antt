@@ -1,3 +1,4 @@
 pub mod Clocked
+pub mod Drafts
 pub mod Leaving
 pub mod MachineInside

@@ -8,6 +8,8 @@
 //! whoever has it may set.
 #![tactic(auto)]
 
+mod autos;
+mod draft;
 mod machine;
 mod making;
 mod not_built;

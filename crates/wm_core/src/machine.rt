@@ -37,7 +37,7 @@ impl Machine {
     ghost use Rattle.wm_law.specs.Fit.{HasCall, IsCall, IsCommand};
     ghost use Rattle.wm_pick.specs.Parts.{parts_of};
     ghost use Rattle.wm_law.specs.Machine.{change, apply, step, with_clock};
-    ghost use Rattle.wm_core.specs.Clocked.{IsStill, is_submission, is_submitting};
+    ghost use Rattle.wm_core.specs.Clocked.{IsStill, makes_jobs, is_job_making};
 
     /// The jobs, and what they are found by.
     pub fn jobs(&self) -> &JobTable
@@ -69,7 +69,7 @@ impl Machine {
         self.table.make_due(now);
     }
 
-    /// Applies a command of a user, but for SBMJOB. An `Err` is want of memory and leaves the state.
+    /// Applies a command of a user, but for those that make jobs. An `Err` is want of memory and leaves the state.
     pub(crate) fn change(
         &mut self,
         alloc: Global,
@@ -77,7 +77,7 @@ impl Machine {
         command: &Command,
     ) -> Result<Reply, NoMemory>
         requires ranges { IsCommand command.now }
-        requires other { is_submission command.now ≡ false }
+        requires other { makes_jobs command.now ≡ false }
         ensures reply { IfOk result (λ r. r ≡ (change self.old user.now command.now).reply) }
         ensures state { OnOk result (self.new ≡ (change self.old user.now command.now).state) }
         ensures err { OnErr result (self.new ≡ self.old) }
@@ -90,19 +90,20 @@ impl Machine {
             Command::Crtsbsd(command) => self.make_description(alloc, command),
             Command::Addjobqe(command) => self.add_queue(command),
             Command::Addrtge(command) => self.add_route(command),
+            Command::Addaje(command) => self.add_auto(command),
             Command::Rmvjobqe(command) => Ok(self.remove_queue(command)),
             Command::Rmvrtge(command) => Ok(self.remove_route(command)),
-            Command::Strsbs(command) => self.start_subsystem(&command.sbsd),
-            Command::Sbmjob(_) => unreachable!(),
+            Command::Rmvaje(command) => Ok(self.remove_auto(command)),
+            Command::Strsbs(_) | Command::Sbmjob(_) => unreachable!(),
             Command::Pwrdwnsys(_) => Ok(self.power_down()),
             _ => Ok(Reply::Nothing),
         }
     }
 
-    // The reply to a call that isn't SBMJOB, and the state before it settles. It doesn't look at the clock.
+    // The reply to a call that makes no jobs, and the state before it settles. It doesn't look at the clock.
     fn apply_timeless(&mut self, alloc: Global, caller: u32, call: &Call) -> Result<Reply, NoMemory>
         requires ranges { IsCall call.now }
-        requires other { is_submitting call.now ≡ false }
+        requires other { is_job_making call.now ≡ false }
         ensures reply { IfOk result (λ r. r ≡ (apply self.old caller call.now).reply) }
         ensures state { OnOk result (self.new ≡ (apply self.old caller call.now).state) }
         ensures err { OnErr result (self.new ≡ self.old) }
@@ -129,7 +130,7 @@ impl Machine {
         now: Moment,
     ) -> Result<Reply, NoMemory>
         requires ranges { IsCall call.now }
-        requires other { is_submitting call.now ≡ false }
+        requires other { is_job_making call.now ≡ false }
         ensures ok { IfOk result (λ r. IsStill now r self.new (apply (with_clock self.old now) caller call.now)) }
         ensures err { OnErr result (self.new ≡ self.old) }
     {
@@ -148,14 +149,17 @@ impl Machine {
         ensures ok { IfOk result (λ r. IsStill now r self.new (apply (with_clock self.old now) caller call.now)) }
         ensures err { OnErr result (self.new ≡ self.old) }
     {
-        if let Call::Change {
-            user,
-            command: Command::Sbmjob(command),
-        } = call
-        {
-            return self.submit(alloc, user, command, now);
+        match call {
+            Call::Change {
+                user,
+                command: Command::Sbmjob(command),
+            } => self.submit(alloc, user, command, now),
+            Call::Change {
+                command: Command::Strsbs(command),
+                ..
+            } => self.start_subsystem(alloc, &command.sbsd, now),
+            _ => self.apply_other(alloc, caller, call, now),
         }
-        self.apply_other(alloc, caller, call, now)
     }
 
     /// One step. An `Err` is want of memory and leaves the state.

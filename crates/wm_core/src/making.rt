@@ -3,14 +3,15 @@ ghost use Rattle.std.specs.Prelude.{◌≡◌, Option, IfOk, OnOk, OnErr};
 ghost use Rattle.wm_desc.specs.declared.objects.Objects.{Objects};
 ghost use Rattle.wm_base.specs.declared.refusal.Refusal.{Refusal};
 ghost use Rattle.wm_desc.specs.Refusals.{IsAnswer, answer_of};
-ghost use Rattle.wm_law.specs.Making.{class_of, jobd_of, queue_entry_of, route_entry_of, made_reply, made_objects};
+ghost use Rattle.wm_law.specs.Making.{class_of, jobd_of, queue_entry_of, route_entry_of, auto_entry_of, made_reply, made_objects};
 
 use crate::Machine;
 use std::alloc::{AllocError, Global};
 use wm_base::{Class, NoMemory, QName, Refusal};
-use wm_desc::{DescFault, Jobd, QueueEntry, RouteEntry};
+use wm_desc::{AutoEntry, DescFault, Jobd, QueueEntry, RouteEntry};
 use wm_law::{
-    Addjobqe, Addrtge, Crtcls, Crtjobd, Crtjobq, Crtpgmref, Crtsbsd, Reply, Rmvjobqe, Rmvrtge,
+    Addaje, Addjobqe, Addrtge, Crtcls, Crtjobd, Crtjobq, Crtpgmref, Crtsbsd, Reply, Rmvaje,
+    Rmvjobqe, Rmvrtge,
 };
 
 // The reply to what the objects answered.
@@ -62,6 +63,15 @@ fn route_entry_of(command: &Addrtge) -> Result<RouteEntry, NoMemory>
     })
 }
 
+fn auto_entry_of(command: &Addaje) -> AutoEntry
+    ensures { result ≡ auto_entry_of command.now }
+{
+    AutoEntry {
+        job: command.job,
+        jobd: command.jobd,
+    }
+}
+
 fn class_of(command: &Crtcls) -> Class
     ensures { result ≡ class_of command.now }
 {
@@ -91,7 +101,7 @@ impl Machine {
     ghost use Rattle.std.specs.Prelude.{◌≡◌, ◌&&◌, IsTrue, OnOk, OnErr, IfOk, is_some};
     ghost use Rattle.wm_desc.specs.Ranges.{class_in_range, path_in_range, jobd_in_range, maxjobs_in_range, queue_in_range, route_in_range};
     ghost use Rattle.wm_desc.specs.Table.{object_named};
-    ghost use Rattle.wm_law.specs.Making.{class_of, jobd_of, make_class, make_queue, make_program, make_job_description, make_description, queue_entry_of, route_entry_of, is_in_use, add_queue, add_route, remove_queue, remove_route};
+    ghost use Rattle.wm_law.specs.Making.{class_of, jobd_of, make_class, make_queue, make_program, make_job_description, make_description, queue_entry_of, route_entry_of, is_in_use, add_queue, add_route, add_auto, remove_queue, remove_route, remove_auto};
 
     /// CRTCLS.
     pub(crate) fn make_class(&mut self, command: &Crtcls) -> Result<Reply, NoMemory>
@@ -196,6 +206,19 @@ impl Machine {
         Ok(reply)
     }
 
+    /// ADDAJE.
+    pub(crate) fn add_auto(&mut self, command: &Addaje) -> Result<Reply, NoMemory>
+        ensures reply { IfOk result (λ r. r ≡ (add_auto self.old command.now).reply) }
+        ensures state { OnOk result (self.new ≡ (add_auto self.old command.now).state) }
+        ensures err { OnErr result (self.new ≡ self.old) }
+    {
+        if self.is_active(&command.sbsd) {
+            return Ok(Reply::No(Refusal::SbsActive));
+        }
+        let reply = made(self.objects.add_auto(&command.sbsd, auto_entry_of(command)))?;
+        Ok(reply)
+    }
+
     /// RMVJOBQE.
     pub(crate) fn remove_queue(&mut self, command: &Rmvjobqe) -> Reply
         ensures reply { result ≡ (remove_queue self.old command.now).reply }
@@ -216,5 +239,16 @@ impl Machine {
             return Reply::No(Refusal::SbsActive);
         }
         removed(self.objects.remove_route(&command.sbsd, command.seqnbr))
+    }
+
+    /// RMVAJE.
+    pub(crate) fn remove_auto(&mut self, command: &Rmvaje) -> Reply
+        ensures reply { result ≡ (remove_auto self.old command.now).reply }
+        ensures state { self.new ≡ (remove_auto self.old command.now).state }
+    {
+        if self.is_active(&command.sbsd) {
+            return Reply::No(Refusal::SbsActive);
+        }
+        removed(self.objects.remove_auto(&command.sbsd, &command.job))
     }
 }

@@ -143,7 +143,7 @@ impl Machine {
     ghost use Rattle.std.specs.Prelude.{◌≡◌, false, IfOk, OnOk, All};
     ghost use Rattle.wm_law.specs.Fit.{IsCommand};
     ghost use Rattle.wm_law.specs.Opening.{changed_by, empty, opening};
-    ghost use Rattle.wm_core.specs.Clocked.{is_submission};
+    ghost use Rattle.wm_core.specs.Clocked.{makes_jobs};
 
     /// No objects and no job, for local time so many minutes ahead of UTC.
     pub fn empty(alloc: Global, offset_min: i32) -> Machine
@@ -170,7 +170,7 @@ impl Machine {
         commands: &[Command],
     ) -> Result<(), NoMemory>
         requires ranges { All IsCommand commands.now }
-        requires others { All (λ c. is_submission c ≡ false) commands.now }
+        requires others { All (λ c. makes_jobs c ≡ false) commands.now }
         ensures { OnOk result (self.new ≡ changed_by user.now self.old commands.now) }
     {
         for command in commands {

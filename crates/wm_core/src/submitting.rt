@@ -13,13 +13,13 @@ use wm_desc::Jobd;
 use wm_law::{Job, JobKind, Phase, Reply, Sbmjob, Wish};
 
 /// All numbers from 1 to below this are job numbers.
-const NUMBERS_END: u32 = 1_000_000;
+pub(crate) const NUMBERS_END: u32 = 1_000_000;
 
 /// All numbers from 1 to below this are serials, and places.
-const SERIALS_END: u64 = 1_000_000_000_000_000_000;
+pub(crate) const SERIALS_END: u64 = 1_000_000_000_000_000_000;
 
 // The later of two moments.
-fn later(a: Moment, b: Moment) -> Moment
+pub(crate) fn later(a: Moment, b: Moment) -> Moment
     ensures { result ≡ max a b }
 {
     Moment::new(a.get().max(b.get()))
@@ -33,7 +33,7 @@ fn queue_of(command: &Sbmjob, jobd: &Jobd) -> QName
 }
 
 // A request of a text, where there is one.
-fn read_request(alloc: Global, text: &Option<Text>) -> Result<Option<Request>, NoMemory>
+pub(crate) fn read_request(alloc: Global, text: &Option<Text>) -> Result<Option<Request>, NoMemory>
     ensures { IfOk result (λ request. request ≡ text.now) }
 {
     match text {

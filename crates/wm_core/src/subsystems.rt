@@ -1,15 +1,25 @@
-// STRSBS: a subsystem is started.
+// STRSBS: a subsystem is started, and with it its autostart jobs.
 use crate::Machine;
+use crate::autos::{drafts, enter_drafts};
+use crate::draft::{Draft, Site};
 use crate::power::is_on;
-use wm_base::{Kind, Name, NoMemory, QName, Refusal};
+use crate::submitting::{NUMBERS_END, SERIALS_END};
+use std::alloc::Global;
+use wm_base::{Kind, Moment, Name, NoMemory, QName, Refusal};
+use wm_desc::AutoEntry;
 use wm_law::{Reply, Sbs, SbsPhase};
 
 /// How many subsystems may be started.
 const MAX_STARTED: usize = 32;
 
 impl Machine {
-    ghost use Rattle.std.specs.Prelude.{◌≡◌, OnOk, OnErr, IfOk};
-    ghost use Rattle.wm_law.specs.Subsystems.{is_started, start_refusal, start_subsystem};
+    ghost use Rattle.std.specs.Prelude.{◌≡◌, ◌≤◌, length, fold, OnOk, OnErr, IfOk};
+    ghost use Rattle.wm_law.specs.Autos.{autos_of};
+    ghost use Rattle.wm_law.specs.Machine.{with_clock};
+    ghost use Rattle.wm_law.specs.Submitting.{numbers_left};
+    ghost use Rattle.wm_law.specs.Subsystems.{is_started, start_refusal, begun, start_subsystem};
+    ghost use Rattle.wm_core.specs.Clocked.{IsStill};
+    ghost use Rattle.wm_core.specs.Drafts.{enter_draft};
 
     fn is_started(&self, name: &Name) -> bool
         ensures { result ≡ is_started self.now name.now }
@@ -18,6 +28,27 @@ impl Machine {
             .as_slice()
             .iter()
             .any(|sbs| sbs.sbsd.name == *name)
+    }
+
+    // The autostart entries of a description, in the order of their job names.
+    fn autos_of(&self, q: &QName) -> &[AutoEntry]
+        ensures { result.now ≡ autos_of self.now q.now }
+    {
+        match self.objects.sbsds.object(q) {
+            None => &[],
+            Some(description) => description.autos.as_slice(),
+        }
+    }
+
+    // How many jobs can still be made.
+    fn numbers_left(&self) -> u64
+        ensures { result ≡ numbers_left self.now }
+    {
+        if self.next_number < 1 {
+            return 0;
+        }
+        let numbers = u64::from(NUMBERS_END.saturating_sub(self.next_number));
+        numbers.min(SERIALS_END.saturating_sub(self.table.next_serial()))
     }
 
     // Why a subsystem can't be started.
@@ -36,24 +67,52 @@ impl Machine {
         if self.started.len() >= MAX_STARTED {
             return Some(Refusal::TableFull(Kind::Sbs, MAX_STARTED as u32));
         }
+        if self.numbers_left() < self.autos_of(q).len() as u64 {
+            return Some(Refusal::NumbersUsed);
+        }
         None
     }
 
-    /// STRSBS: the subsystem goes last among the started ones.
-    pub(crate) fn start_subsystem(&mut self, q: &QName) -> Result<Reply, NoMemory>
-        ensures reply { IfOk result (λ r. r ≡ (start_subsystem self.old q.now).reply) }
-        ensures state { OnOk result (self.new ≡ (start_subsystem self.old q.now).state) }
+    // The subsystem goes last among the started ones, and then the job of each draft is made. All memory is taken before
+    // anything is changed.
+    fn start_up(&mut self, q: &QName, drafts: Vec<Draft>, now: Moment) -> Result<(), NoMemory>
+        requires numbers { length drafts.items ≤ numbers_left self.old }
+        ensures ok { OnOk result (with_clock self.new now ≡ fold (enter_draft q.now) (begun (with_clock self.old now) q.now) drafts.items) }
+        ensures err { OnErr result (self.new ≡ self.old) }
+    {
+        self.table.reserve(drafts.len() as u32)?;
+        // This names the type of what a subsystem's phase may have, which the borrow check asks for.
+        let _due = self.table.next_due();
+        self.started.push(Sbs {
+            sbsd: *q,
+            phase: SbsPhase::Active,
+        })?;
+        let site = Site {
+            sbs: *q,
+            objects: &self.objects,
+            started: &self.started,
+            held: &self.held,
+            moment: now,
+        };
+        enter_drafts(&mut self.table, &mut self.next_number, &site, drafts);
+        Ok(())
+    }
+
+    /// STRSBS: the subsystem starts with its autostart jobs, which are due at the clock. The clock is set behind it.
+    pub(crate) fn start_subsystem(
+        &mut self,
+        alloc: Global,
+        q: &QName,
+        now: Moment,
+    ) -> Result<Reply, NoMemory>
+        ensures ok { IfOk result (λ r. IsStill now r self.new (start_subsystem (with_clock self.old now) q.now)) }
         ensures err { OnErr result (self.new ≡ self.old) }
     {
         if let Some(refusal) = self.start_refusal(q) {
             return Ok(Reply::No(refusal));
         }
-        // The clock names the type of the moment that a subsystem's phase may have, which the borrow check asks for.
-        let _clock = self.table.clock();
-        self.started.push(Sbs {
-            sbsd: *q,
-            phase: SbsPhase::Active,
-        })?;
+        let drafts = drafts(alloc, &self.objects.jobds, self.autos_of(q))?;
+        self.start_up(q, drafts, now)?;
         Ok(Reply::SbsStarted(*q))
     }
 }

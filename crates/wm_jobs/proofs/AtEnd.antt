@@ -29,9 +29,9 @@ use Rattle.wm_jobs.proofs.JobParts.{waiting-inactive, waiting-unstarted, waiter-
 pub same-tally : (hs : List How) (old new : Counts) → new.counts ≡ old.counts → IsTally hs old → IsTally hs new
 same-tally hs old new same h = λ k. ap (number_at same_counted k) same ∙ h k
 
-pub new-inside : (new : Inside) → new.jobs.items ≡ [] → new.waiting.items ≡ [] → IsTally [] new.tally → new.starting.items ≡ [] → new.active ≡ 0 → new.busy ≡ 0 → new.room ≡ 0 → IsTableInside new
-new-inside new jobs waiting tally starting active busy room = record {
-  listed = subst (λ js. AreListed new.next_serial new.next_place js) (sym jobs) (record { sorted = λ i j d lt in_range. absurd (omega arith); each = All-nil (IsListed new.next_serial new.next_place) });
+pub new-inside : (new : Inside) → new.jobs.items ≡ [] → new.waiting.items ≡ [] → IsTally [] new.tally → new.starting.items ≡ [] → new.active ≡ 0 → new.busy ≡ 0 → new.room ≡ 0 → new.next_place ≡ 1 → IsTableInside new
+new-inside new jobs waiting tally starting active busy room np = record {
+  listed = subst (λ js. AreListed new.next_serial new.next_place js) (sym jobs) (record { first_place = omega arith; sorted = λ i j d lt in_range. absurd (omega arith); each = All-nil (IsListed new.next_serial new.next_place) });
   indexed = subst (λ js. IsIndexed js new.waiting new.tally new.starting new.active new.busy) (sym jobs) (record { waiters_are = waiting; hows_are = tally; orders_are = starting; active_are = active; busy_are = busy });
   room = (let n : length new.jobs.items ≡ 0 = ap length jobs in let m : length new.waiting.items ≡ 0 = ap length waiting in
       record { to_stand = omega arith; few = omega arith; to_wait = omega arith; to_count = omega arith; to_start = omega arith });
@@ -97,6 +97,7 @@ module _ (t : Inside) (h : IsTableInside t) where
         let come : new.waiting.items ≡ waiters (t.jobs.items ++ j ∷ []) = we ∙ (ap (λ us. added waiting.serial_of nat_cmp w us) h.indexed.waiters_are ∙ pushed-comes serial_of waiter_of waiting.serial_of waiter-keyed t.next_serial t.jobs.items lower j w picked serial_is) in
         record {
           listed = subst (λ js. AreListed new.next_serial new.next_place js) (sym jobs) (record {
+            first_place = (let first = h.listed.first_place in omega arith);
             sorted = sorted-pushed serial_of t.next_serial t.jobs.items j serial_is lower h.listed.sorted;
             each = All-append (IsListed new.next_serial new.next_place) t.jobs.items (j ∷ [])
                 (All-weaker (IsListed t.next_serial t.next_place) (IsListed new.next_serial new.next_place) (λ k l. let a = l.serial in let b = l.place in record { serial = omega arith; place = omega arith; queue = l.queue }) t.jobs.items h.listed.each)

@@ -64,6 +64,7 @@ module _ (s : ℕ) (l r : List Job) (j : Job) (here : j.serial ≡ s) (lower : A
 
   pub listed : (ns np : ℕ) (k : Job) → k.serial ≡ j.serial → k.place ≡ j.place → is_waiting k.phase ≡ false → AreListed ns np (l ++ j ∷ r) → AreListed ns np (l ++ k ∷ r)
   listed ns np k serial place goes h = record {
+    first_place = h.first_place;
     sorted = sorted-changed serial_of s (l ++ j ∷ r) l r j k (record { whole = refl; here = here; lower = lower; higher = higher }) serial h.sorted;
     each = all-changed (IsListed ns np) l r j k (let old = all-there (IsListed ns np) l r j h.each in record {
       serial = subst (λ n. n < ns) (sym serial) old.serial;

@@ -1,4 +1,5 @@
 pub mod AtEnd
+pub mod AtLaunch
 pub mod AtPlace
 pub mod Changes
 pub mod JobParts

@@ -19,8 +19,9 @@ pub record IsListed (next_serial next_place : ℕ) (j : Job) : Type 0 where
   pub place : j.place < next_place
   pub queue : is_waiting j.phase ≡ true → is_some j.jobq ≡ true
 
--- jobs in ascending order of their serials
+-- jobs in ascending order of their serials; the first place is 1
 pub record AreListed (next_serial next_place : ℕ) (jobs : List Job) : Type 0 where
+  pub first_place : 1 ≤ next_place
   pub sorted : IsSortedOnce serial_of nat_cmp jobs
   pub each : All (IsListed next_serial next_place) jobs
 
@@ -32,7 +33,7 @@ pub record IsIndexed (jobs : List Job) (waiting : Waiting) (tally : Counts) (sta
   pub active_are : active ≡ active_in jobs
   pub busy_are : busy ≡ busy_in jobs
 
--- there is room for so many more jobs, and for the launch of each that waits
+-- there is room for so many more jobs, and for the launch of each of them and of each that waits
 pub record HasRoom (jobs capacity room : ℕ) (waiting : Waiting) (tally : Counts) (starting : Pairs ℕ (Unit {0})) : Type 0 where
   pub to_stand : jobs + room ≤ capacity
   pub few : jobs + room + 2 < 2 ^ 32

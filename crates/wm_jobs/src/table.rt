@@ -127,6 +127,31 @@ impl JobTable {
         self.room -= 1;
     }
 
+    /// Adds a job that was launched as it was made, with the next serial. It never waits, so it has no place. It takes no
+    /// memory.
+    pub fn push_launched(&mut self, job: Job)
+        requires spare { 1 ≤ self.old.spare }
+        requires launched { is_waiting job.phase ≡ false }
+        requires serial { job.serial ≡ self.old.next_serial }
+        requires place { job.place ≡ 0 }
+        requires serial_fits { self.old.next_serial + 1 < 2 ^ 64 }
+        ensures jobs { self.new.jobs ≡ self.old.jobs ++ job ∷ [] }
+        ensures clock { self.new.clock ≡ self.old.clock }
+        ensures next_serial { self.new.next_serial ≡ self.old.next_serial + 1 }
+        ensures next_place { self.new.next_place ≡ self.old.next_place }
+        ensures spare { self.old.spare ≡ self.new.spare + 1 }
+    {
+        let starts = is_active(&job.phase);
+        let busy = counts_as_busy(starts, &job.kind);
+        count_start(&mut self.tally, &job.how, &job.phase);
+        put_order(&mut self.starting, job.serial, &job.phase);
+        self.active = more(self.active, starts);
+        self.busy = more(self.busy, busy);
+        self.jobs.push_reserved(job);
+        self.next_serial += 1;
+        self.room -= 1;
+    }
+
     /// Makes of the job of a serial what its launch made of it. It takes no memory.
     pub fn launch(&mut self, serial: Serial, launched: &Launched)
         requires phase { is_waiting launched.now.phase ≡ false }

@@ -1,6 +1,6 @@
 // What becomes of a job whose turn has come.
 ghost use Rattle.std.specs.Prelude.{◌≡◌};
-ghost use Rattle.wm_law.specs.Launch.{requested, called_program, ends_by, starts_from};
+ghost use Rattle.wm_law.specs.Launch.{requested, called_program, ends_by, starts_as};
 
 use crate::Parts;
 use crate::routing::route;
@@ -38,23 +38,20 @@ fn ends_by(cause: EndCause) -> Launched
     }
 }
 
-fn starts_from(sbs: &QName, queue: &QName, job: &Job, seq: u32) -> Launched
-    ensures { result ≡ starts_from sbs.now queue.now job.now seq }
+fn starts_as(how: How) -> Launched
+    ensures { result ≡ starts_as how }
 {
     Launched {
         phase: Phase::Starting,
-        how: How::FromQueue {
-            sbs: *sbs,
-            jobq: *queue,
-            pty: job.pty,
-            route: seq,
-        },
+        how,
     }
 }
 
 impl<'a> Parts<'a> {
-    ghost use Rattle.std.specs.Prelude.{◌≡◌};
-    ghost use Rattle.wm_law.specs.Launch.{program_fault, route_fault, launched};
+    ghost use Rattle.std.specs.Prelude.{◌≡◌, ℕ};
+    ghost use Rattle.wm_base.specs.declared.job.How.{How};
+    ghost use Rattle.wm_law.specs.Launch.{program_fault, route_fault, as_auto, launched_as, launched};
+    ghost use Rattle.wm_pick.specs.Routed.{as_routed};
 
     // Why what is called can't be started.
     fn program_fault(&self, pgm: Option<QName>) -> Option<EndCause>
@@ -81,20 +78,48 @@ impl<'a> Parts<'a> {
         }
     }
 
-    /// What the launch of a job of a queue makes of it in a subsystem.
-    pub fn launched(&self, sbs: &QName, queue: &QName, job: &Job) -> Launched
-        ensures { result ≡ launched self.now sbs.now queue.now job.now }
+    // The number of the routing entry by which a job starts in a subsystem, or why it ends.
+    fn routed(&self, sbs: &QName, job: &Job) -> Result<u32, EndCause>
+        ensures { (how : ℕ → How) → launched_as self.now sbs.now how job.now ≡ as_routed how result }
     {
         let entry = match self.objects.sbsds.object(sbs) {
             None => None,
             Some(description) => route(description, &job.rtgdta),
         };
         let Some(entry) = entry else {
-            return ends_by(EndCause::NoRoute);
+            return Err(EndCause::NoRoute);
         };
         match self.route_fault(sbs, entry, job) {
-            Some(cause) => ends_by(cause),
-            None => starts_from(sbs, queue, job, entry.seq),
+            Some(cause) => Err(cause),
+            None => Ok(entry.seq),
+        }
+    }
+
+    /// What the launch of a job of a queue makes of it in a subsystem.
+    pub fn launched(&self, sbs: &QName, queue: &QName, job: &Job) -> Launched
+        ensures { result ≡ launched self.now sbs.now queue.now job.now }
+    {
+        match self.routed(sbs, job) {
+            Err(cause) => ends_by(cause),
+            Ok(seq) => starts_as(How::FromQueue {
+                sbs: *sbs,
+                jobq: *queue,
+                pty: job.pty,
+                route: seq,
+            }),
+        }
+    }
+
+    /// What the launch of an autostart job makes of it in a subsystem.
+    pub fn launched_auto(&self, sbs: &QName, job: &Job) -> Launched
+        ensures { result ≡ launched_as self.now sbs.now (as_auto sbs.now) job.now }
+    {
+        match self.routed(sbs, job) {
+            Err(cause) => ends_by(cause),
+            Ok(seq) => starts_as(How::Auto {
+                sbs: *sbs,
+                route: seq,
+            }),
         }
     }
 }

@@ -1,9 +1,9 @@
-// The commands on autostart and prestart entries. The machine hasn't them yet, so the objects alone are called.
+// The commands on prestart entries. The machine hasn't them yet, so the objects alone are called.
 use anyhow::{Result, ensure};
 use std::alloc::AllocError;
 use wm_base::Refusal;
-use wm_desc::{AutoEntry, DescFault, Objects, PreEntry};
-use wm_law::{Addaje, Addpje, Call, Command, Reply};
+use wm_desc::{DescFault, Objects, PreEntry};
+use wm_law::{Addpje, Call, Command, Reply};
 
 fn added(answer: Result<(), DescFault>) -> Result<Reply, AllocError> {
     match answer {
@@ -18,14 +18,6 @@ fn removed(answer: Result<(), Refusal>) -> Reply {
         Ok(()) => Reply::Made,
         Err(refusal) => Reply::No(refusal),
     }
-}
-
-fn add_auto(objects: &mut Objects, command: &Addaje) -> Result<Reply, AllocError> {
-    let entry = AutoEntry {
-        job: command.job,
-        jobd: command.jobd,
-    };
-    added(objects.add_auto(&command.sbsd, entry))
 }
 
 fn add_pre(objects: &mut Objects, command: &Addpje) -> Result<Reply> {
@@ -49,12 +41,7 @@ fn add_pre(objects: &mut Objects, command: &Addpje) -> Result<Reply> {
 // The objects' reply to such a command.
 fn command_reply(objects: &mut Objects, command: &Command) -> Result<Option<Reply>> {
     match command {
-        Command::Addaje(command) => Ok(Some(add_auto(objects, command)?)),
         Command::Addpje(command) => Ok(Some(add_pre(objects, command)?)),
-        Command::Rmvaje(command) => Ok(Some(removed(objects.remove_auto(
-            &command.sbsd,
-            &command.job,
-        )))),
         Command::Rmvpje(command) => Ok(Some(removed(objects.remove_pre(
             &command.sbsd,
             &command.pgm,

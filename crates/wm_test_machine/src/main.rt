@@ -23,13 +23,14 @@ use tested::Tested;
 use wm_cases::play;
 
 /// The files of cases.
-static FILES: [&str; 7] = [
+static FILES: [&str; 8] = [
     "objects.txt",
     "descriptions.txt",
     "opening.txt",
     "jobs.txt",
     "refusals.txt",
     "routing.txt",
+    "launches.txt",
     "built.txt",
 ];
 

@@ -20,5 +20,6 @@ fn main(rt: HostRuntime) -> Result<()> {
     play(&rt, "faults.txt", &mut runs)?;
     play(&rt, "reports.txt", &mut runs)?;
     play(&rt, "limits.txt", &mut runs)?;
-    play(&rt, "order.txt", &mut runs)
+    play(&rt, "order.txt", &mut runs)?;
+    play(&rt, "launches.txt", &mut runs)
 }

@@ -1,0 +1,61 @@
+-- The autostart jobs of a subsystem: what of them wants memory is taken before anything is changed, and then they are made.
+use Rattle.std.specs.Prelude.{ℕ, max, false, List, fold, filter_map, Option, None, option_map}
+use Rattle.wm_base.specs.declared.job.How.TheVariants.{NotYet}
+use Rattle.wm_base.specs.declared.qname.QName.{QName}
+use Rattle.wm_desc.specs.declared.description.Jobd.{Jobd}
+use Rattle.wm_desc.specs.declared.entry.AutoEntry.{AutoEntry}
+use Rattle.wm_desc.specs.Table.{object_named}
+use Rattle.wm_law.specs.declared.job.Job.{Job}
+use Rattle.wm_law.specs.declared.job.JobKind.TheVariants.{Asj}
+use Rattle.wm_law.specs.declared.job.Phase.TheVariants.{Waiting}
+use Rattle.wm_law.specs.declared.job.Wish.TheVariants.{NoWish}
+use Rattle.wm_law.specs.declared.state.State.{State}
+use Rattle.wm_law.specs.Autos.{auto_launched, auto_user, joined}
+use Rattle.wm_pick.specs.Parts.{with_parts}
+use Rattle.wm_jobs.specs.Table.{Table}
+use Rattle.wm_core.specs.declared.draft.Draft.{Draft}
+use Rattle.wm_core.specs.declared.draft.Site.{Site}
+
+-- what an entry's job has of its job description
+abbrev pub draft_of : AutoEntry → Jobd → Draft
+draft_of e d = record { name = e.job; rtgdta = d.rtgdta; rqsdta = d.rqsdta }
+
+abbrev pub draft_in : List (QName × Jobd) → AutoEntry → Option Draft
+draft_in jobds e = option_map (draft_of e) (object_named e.jobd jobds)
+
+-- those of the entries whose job description is an object
+abbrev pub drafts : List (QName × Jobd) → List AutoEntry → List Draft
+drafts jobds entries = filter_map (draft_in jobds) entries
+
+-- the job of a draft, as the launch takes it
+abbrev pub drafted_job : State → Draft → Job
+drafted_job s d =
+    record {
+      serial = s.next_serial;
+      job = record { number = s.next_number; user = auto_user; name = d.name };
+      kind = Asj;
+      jobq = None;
+      pty = 5;
+      place = 0;
+      rtgdta = d.rtgdta;
+      rqsdta = d.rqsdta;
+      held = false;
+      due = s.clock;
+      phase = Waiting;
+      how = NotYet;
+      wish = NoWish;
+      uses = 0;
+      evoke = false;
+    }
+
+-- the job of a draft is launched as it is made
+abbrev pub enter_draft : QName → State → Draft → State
+enter_draft sbs s d = joined s (auto_launched s sbs (drafted_job s d))
+
+-- the state that has what the making of autostart jobs looks at and changes, and else nothing
+abbrev pub site_state : Site → Table → ℕ → State
+site_state site t number = record (with_parts site.objects.now t.jobs site.started.now site.held.now (max t.clock site.moment)) { next_number = number; next_serial = t.next_serial }
+
+-- with the job of each draft
+abbrev pub enter_drafts : Site → Table → ℕ → List Draft → State
+enter_drafts site t number ds = fold (enter_draft site.sbs) (site_state site t number) ds
