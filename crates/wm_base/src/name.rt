@@ -20,7 +20,7 @@ pub const NAME_LEN: usize = 10;
 pub struct Name {
     // Zeros stand behind the name.
     bytes: [u8; NAME_LEN],
-    len: usize,
+    len: u8,
 }
 
 impl Model for Name {
@@ -90,7 +90,7 @@ impl Name {
         kept[..bytes.len()].copy_from_slice(bytes);
         Name {
             bytes: kept,
-            len: bytes.len(),
+            len: bytes.len() as u8,
         }
     }
 
@@ -98,7 +98,7 @@ impl Name {
         ensures value { result.now ≡ self.now }
         ensures name { IsName self.now }
     {
-        &self.bytes[..self.len]
+        &self.bytes[..self.len as usize]
     }
 
     pub fn as_str(&self) -> &str

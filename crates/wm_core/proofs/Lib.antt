@@ -1,6 +1,5 @@
 pub mod ByDrafts
 pub mod Clocked
-pub mod Launches
 pub mod Leaving
 pub mod Opened
 pub mod Phases

@@ -1,16 +1,12 @@
 -- The autostart jobs of a subsystem: what of them wants memory is taken before anything is changed, and then they are made.
-use Rattle.std.specs.Prelude.{ℕ, max, false, List, fold, filter_map, Option, None, option_map}
-use Rattle.wm_base.specs.declared.job.How.TheVariants.{NotYet}
+use Rattle.std.specs.Prelude.{ℕ, max, List, fold, filter_map, Option, option_map}
 use Rattle.wm_base.specs.declared.qname.QName.{QName}
 use Rattle.wm_desc.specs.declared.description.Jobd.{Jobd}
 use Rattle.wm_desc.specs.declared.entry.AutoEntry.{AutoEntry}
 use Rattle.wm_desc.specs.Table.{object_named}
 use Rattle.wm_law.specs.declared.job.Job.{Job}
-use Rattle.wm_law.specs.declared.job.JobKind.TheVariants.{Asj}
-use Rattle.wm_law.specs.declared.job.Phase.TheVariants.{Waiting}
-use Rattle.wm_law.specs.declared.job.Wish.TheVariants.{NoWish}
 use Rattle.wm_law.specs.declared.state.State.{State}
-use Rattle.wm_law.specs.Autos.{auto_launched, auto_user, joined}
+use Rattle.wm_law.specs.Autos.{auto_launched, joined, new_auto_job}
 use Rattle.wm_pick.specs.Parts.{with_parts}
 use Rattle.wm_jobs.specs.Table.{Table}
 use Rattle.wm_core.specs.declared.draft.Draft.{Draft}
@@ -29,24 +25,7 @@ drafts jobds entries = filter_map (draft_in jobds) entries
 
 -- the job of a draft, as the launch takes it
 abbrev pub drafted_job : State → Draft → Job
-drafted_job s d =
-    record {
-      serial = s.next_serial;
-      job = record { number = s.next_number; user = auto_user; name = d.name };
-      kind = Asj;
-      jobq = None;
-      pty = 5;
-      place = 0;
-      rtgdta = d.rtgdta;
-      rqsdta = d.rqsdta;
-      held = false;
-      due = s.clock;
-      phase = Waiting;
-      how = NotYet;
-      wish = NoWish;
-      uses = 0;
-      evoke = false;
-    }
+drafted_job s d = new_auto_job s d.name d.rtgdta d.rqsdta
 
 -- the job of a draft is launched as it is made
 abbrev pub enter_draft : QName → State → Draft → State

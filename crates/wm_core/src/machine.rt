@@ -62,8 +62,8 @@ impl Machine {
         )
     }
 
-    /// Sets the clock, which never goes back.
-    pub fn set_clock(&mut self, now: Moment)
+    // Sets the clock, which never goes back.
+    fn set_clock(&mut self, now: Moment)
         ensures { self.new ≡ with_clock self.old now }
     {
         self.table.make_due(now);

@@ -120,7 +120,7 @@ fn addrtge_qbatch() -> Addrtge
     }
 }
 
-/// The commands whose objects an empty store opens with, in their order.
+/// The commands whose objects an empty store opens with, in their order. An `Err` is want of memory.
 pub fn opening_commands(alloc: Global) -> Result<[Command; 8], NoMemory>
     ensures { IfOk result (λ commands. commands ≡ opening_commands) }
 {
@@ -145,8 +145,8 @@ impl Machine {
     ghost use Rattle.wm_law.specs.Opening.{changed_by, empty, opening};
     ghost use Rattle.wm_core.specs.Clocked.{makes_jobs};
 
-    /// No objects and no job, for local time so many minutes ahead of UTC.
-    pub fn empty(alloc: Global, offset_min: i32) -> Machine
+    // No objects and no job, for local time so many minutes ahead of UTC.
+    fn empty(alloc: Global, offset_min: i32) -> Machine
         ensures { result ≡ empty offset_min }
     {
         Machine {

@@ -124,7 +124,7 @@ impl Machine {
         Reply::Noted
     }
 
-    /// UseDone: no job has a request yet, so this is always refused.
+    // UseDone: no job has a request yet, so this is always refused.
     pub(crate) fn report_use_done(&self, monitor: u32, serial: Serial) -> Reply
         ensures { result ≡ (use_done self.now monitor serial).reply }
     {

@@ -25,6 +25,7 @@ pub mod Orders
 pub mod Started
 pub mod Ascending
 pub mod InTurn
+pub mod ByNumber
 pub mod Routes
 pub mod Subsystems
 pub mod Opened

@@ -11,47 +11,14 @@ use Rattle.wm_desc.specs.declared.entry.RouteEntry.{RouteEntry}
 use Rattle.wm_desc.specs.Sorted.{IsSortedOnce}
 use Rattle.wm_law.specs.Launch.{is_match}
 use Rattle.wm_law.specs.Laws.{IsIn, RouteIsLeast, NoRouteIsNone}
+use Rattle.wm_law.proofs.ByNumber.{first_less, rest_sorted}
 use Rattle.wm_law.proofs.Members.{found_among}
 
+abbrev number : RouteEntry → ℕ
+number e = e.seq
+
 abbrev pub IsSorted : List RouteEntry → Type 0
-IsSorted entries = IsSortedOnce (λ (e : RouteEntry). e.seq) nat_cmp entries
-
-behind : (x : RouteEntry) (xs : List RouteEntry) (k : ℕ) (d : RouteEntry) → slice_index_or (x ∷ xs) (k + 1) d ≡ slice_index_or xs k d
-behind x xs k d = grind (arith, common_steps)
-
-longer : (x : RouteEntry) (xs : List RouteEntry) → length (x ∷ xs) ≡ length xs + 1
-longer x xs = grind (arith, common_steps)
-
--- where an entry stands
-place : (y : RouteEntry) (xs : List RouteEntry) → IsIn y xs → (k : ℕ) × (k < length xs) × (slice_index_or xs k y ≡ y)
-place y [] i = absurd i
-place y (x ∷ xs) (inl e) = let more = longer x xs in (0, omega arith, sym e)
-place y (x ∷ xs) (inr i) =
-    let p = place y xs i in
-    let more = longer x xs in
-    let less : p.0 < length xs = p.1 in
-    (p.0 + 1, omega arith, behind x xs p.0 y ∙ p.2)
-
-less_of : (a b : ℕ) → nat_cmp a b ≡ Less → a < b
-less_of a b e =
-    by_ranked (a < b) (a ≡ b) (b < a) (nat_cmp a b) (ranked a b (nat_cmp a b) refl)
-    (λ h (k : a < b). k)
-    (λ h (k : a ≡ b). absurd (cc))
-    (λ h (k : b < a). absurd (cc))
-
-rest_sorted : (x : RouteEntry) (xs : List RouteEntry) → IsSorted (x ∷ xs) → IsSorted xs
-rest_sorted x xs s i j d less h =
-    let more = longer x xs in
-    let whole = s (i + 1) (j + 1) d (omega arith) (omega arith) in
-    subst (λ (e : RouteEntry). nat_cmp e.seq (slice_index_or xs j d).seq ≡ Less) (behind x xs i d) (subst (λ (e : RouteEntry). nat_cmp (slice_index_or (x ∷ xs) (i + 1) d).seq e.seq ≡ Less) (behind x xs j d) whole)
-
-first_less : (x : RouteEntry) (xs : List RouteEntry) → IsSorted (x ∷ xs) → (y : RouteEntry) → IsIn y xs → x.seq < y.seq
-first_less x xs s y i =
-    let p = place y xs i in
-    let less : p.0 < length xs = p.1 in
-    let more = longer x xs in
-    let whole = s 0 (p.0 + 1) y (omega arith) (omega arith) in
-    less_of x.seq y.seq (subst (λ (e : RouteEntry). nat_cmp x.seq e.seq ≡ Less) (behind x xs p.0 y ∙ p.2) whole)
+IsSorted entries = IsSortedOnce number nat_cmp entries
 
 other_number : (a b : ℕ) → a < b → nat_eq a b ≡ false
 other_number a b h = grind (arith, nat_tests)
@@ -60,7 +27,7 @@ other_number a b h = grind (arith, nat_tests)
 pub numbered_once : (xs : List RouteEntry) (e : RouteEntry) → IsSorted xs → IsIn e xs → find (λ x. nat_eq x.seq e.seq) xs ≡ Some e
 numbered_once [] e s i = absurd i
 numbered_once (x ∷ xs) e s (inl same) = rw (eq-eqb x.seq e.seq (ap (λ (n : RouteEntry). n.seq) (sym same))) (ap Some (sym same))
-numbered_once (x ∷ xs) e s (inr i) = rw (other_number x.seq e.seq (first_less x xs s e i)) (numbered_once xs e (rest_sorted x xs s) i)
+numbered_once (x ∷ xs) e s (inr i) = rw (other_number x.seq e.seq (first_less number x xs s e i)) (numbered_once xs e (rest_sorted number x xs s) i)
 
 least_by : (p : RouteEntry → Bool) (x : RouteEntry) (xs : List RouteEntry) (e : RouteEntry) (t : Bool) → p x ≡ t → IsSorted (x ∷ xs) → cond t (Some x) (find p xs) ≡ Some e → (find p xs ≡ Some e → (o : RouteEntry) → IsIn o xs → p o ≡ true → e.seq ≤ o.seq) → (o : RouteEntry) → IsIn o (x ∷ xs) → p o ≡ true → e.seq ≤ o.seq
 least_by p x xs e true b s f h o (inl same) m =
@@ -70,14 +37,14 @@ least_by p x xs e true b s f h o (inl same) m =
 least_by p x xs e true b s f h o (inr i) m =
     let first : x ≡ e = cc in
     let one : x.seq ≡ e.seq = ap (λ (n : RouteEntry). n.seq) first in
-    let less = first_less x xs s o i in
+    let less = first_less number x xs s o i in
     omega arith
 least_by p x xs e false b s f h o (inl same) m = let not : p o ≡ false = ap p same ∙ b in absurd (cc)
 least_by p x xs e false b s f h o (inr i) m = h f o i m
 
 least : (p : RouteEntry → Bool) (xs : List RouteEntry) (e : RouteEntry) → IsSorted xs → find p xs ≡ Some e → (o : RouteEntry) → IsIn o xs → p o ≡ true → e.seq ≤ o.seq
 least p [] e s f o i m = absurd (cc)
-least p (x ∷ xs) e s f o i m = least_by p x xs e (p x) refl s f (least p xs e (rest_sorted x xs s)) o i m
+least p (x ∷ xs) e s f o i m = least_by p x xs e (p x) refl s f (least p xs e (rest_sorted number x xs s)) o i m
 
 none_by : (p : RouteEntry → Bool) (x : RouteEntry) (xs : List RouteEntry) (t : Bool) → p x ≡ t → cond t (Some x) (find p xs) ≡ None → (find p xs ≡ None → (o : RouteEntry) → IsIn o xs → p o ≡ true → ⊥) → (o : RouteEntry) → IsIn o (x ∷ xs) → p o ≡ true → ⊥
 none_by p x xs true b f h o i m = absurd (cc)

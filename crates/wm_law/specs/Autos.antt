@@ -17,18 +17,18 @@ use Rattle.wm_law.specs.Launch.{as_auto, as_launched, launched_as}
 abbrev pub auto_user : List ℕ
 auto_user = codes "QUSER"
 
--- an autostart entry's job with the entry's job description, as the launch takes it
-abbrev pub auto_job : State → AutoEntry → Jobd → Job
-auto_job s e d =
+-- an autostart job with its name, routing data and request, as the launch takes it
+abbrev pub new_auto_job : State → List ℕ → List ℕ → Option (List ℕ) → Job
+new_auto_job s name rtgdta rqsdta =
     record {
       serial = s.next_serial;
-      job = record { number = s.next_number; user = auto_user; name = e.job };
+      job = record { number = s.next_number; user = auto_user; name = name };
       kind = Asj;
       jobq = None;
       pty = 5;
       place = 0;
-      rtgdta = d.rtgdta;
-      rqsdta = d.rqsdta;
+      rtgdta = rtgdta;
+      rqsdta = rqsdta;
       held = false;
       due = s.clock;
       phase = Waiting;
@@ -37,6 +37,10 @@ auto_job s e d =
       uses = 0;
       evoke = false;
     }
+
+-- that of an entry with the entry's job description
+abbrev pub auto_job : State → AutoEntry → Jobd → Job
+auto_job s e d = new_auto_job s e.job d.rtgdta d.rqsdta
 
 -- as the launch leaves it, whatever MAXJOBS is
 abbrev pub auto_launched : State → QName → Job → Job

@@ -51,7 +51,7 @@ impl<K: Ord + Copy, V: Copy> Ordered<K, V> {
         }
     }
 
-    /// Makes room for a number of pairs. An `Err` leaves all as it was.
+    /// Makes room for a number of pairs. An `Err` is want of memory, or of numbers for so many pairs; it leaves all as it was.
     pub fn reserve(&mut self, more: u32) -> Result<(), NoMemory>
         ensures ok { OnOk result (more ≤ self.new.spare) }
         ensures items { self.new.items ≡ self.old.items }

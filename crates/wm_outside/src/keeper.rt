@@ -18,14 +18,15 @@ pub trait Keeper {
     /// All tables that it has had, the present ones last, told where `tables` is told.
     ghost trail: { Self → Option (List (List Row)) };
 
-    /// The rows.
+    /// The rows. An `Err` is want of memory, or a fault that was counted, and leaves them.
     fn load(&mut self) -> Result<Vec<Row>, KeepFault>
         ensures rows { IfOk result (λ rows. IfSome (tables self.old) (λ told. rows.items ≡ told)) }
         ensures tables { Stays (tables self.old) (tables self.new) }
         ensures trail { Stays (trail self.old) (trail self.new) }
         ensures cause { HasKeepCause (faults self.old) (faults self.new) result };
 
-    /// Makes the changes in their order, all or none. An `Err` changes nothing.
+    /// Makes the changes in their order, all or none. An `Err` is want of memory, or a fault that was counted, and changes
+    /// nothing.
     fn apply(&mut self, changes: &[RowChange]) -> Result<(), KeepFault>
         ensures tables { OnOk result (Becomes (tables self.old) (tables self.new) (changed changes.now)) }
         ensures trail { OnOk result (IfSome (tables self.new) (λ rows. Grows (trail self.old) (trail self.new) (new_tables changes.now rows))) }

@@ -20,7 +20,8 @@ pub trait Store {
     /// All tables that there were, the present ones last, told where `tables` is told.
     ghost trail: { Self → Option (List (List Row)) };
 
-    /// Gives a keeper of the rows, which has counted no fault. After an `Err` the store has its rows.
+    /// Gives a keeper of the rows, which has counted no fault. An `Err` is want of memory, or a fault that was counted; after
+    /// it the store has its rows.
     fn open(&mut self, path: &str) -> Result<Self::K, KeepFault>
         ensures fresh { IfOk result (λ keeper. Self.K.faults keeper ≡ 0) }
         ensures tables { IfOk result (λ keeper. Stays (tables self.old) (Self.K.tables keeper)) }

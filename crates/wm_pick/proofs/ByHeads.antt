@@ -16,12 +16,13 @@ use Rattle.wm_law.specs.declared.state.State.{State}
 use Rattle.wm_law.specs.Choice.{entry_for, first, has_entry, holder, is_allowed, is_ready, is_sbs_active, maxpty_of}
 use Rattle.wm_law.specs.Counts.{count_in_sbs, count_from_queue, count_from_priority}
 use Rattle.wm_law.specs.Laws.{IsIn, Turn, MayStart, IsBefore, IsFirst}
+use Rattle.wm_law.proofs.ByNumber.{IsAscending, ascends, same_numbered}
 use Rattle.wm_law.proofs.Firsts.{candidate_of, first_of, no_first_is_none}
 use Rattle.wm_law.proofs.Members.{found_among, in_left, left_in}
 use Rattle.wm_law.proofs.Named.{one_name, own_name}
 use Rattle.wm_law.proofs.Tests.{all_four, guarded, of_both, of_four, same_number}
 use Rattle.wm_pick.specs.Heads.{IsOrderly, HeadsAreFirst, candidate_by, entry_head, first_by_heads, first_described, first_head, first_started, head_at, head_of, is_held_by, is_on, is_open, is_same_entry, is_turn, open_head, priorities, queues_in, queues_of, started_named, takes_jobs}
-use Rattle.wm_pick.proofs.FirstGiven.{IsAscending, ascends, in_priorities, is_given, none_given, priorities_ascend, same_numbered}
+use Rattle.wm_pick.proofs.FirstGiven.{in_priorities, is_given, none_given, priorities_ascend}
 use Rattle.wm_pick.proofs.Nearest.{nearest, none_nearest, passes}
 
 of_three : (a b c : Bool) → (a && b && c) ≡ true → (a ≡ true) × (b ≡ true) × (c ≡ true)

@@ -96,18 +96,18 @@ module _ (s : State) (queue : QName) (pty : ℕ) (free : is_held s queue ≡ fal
       ∙ by_turn j jobs best (is_turn s queue pty j) (same_heads jobs)
 
 -- the head of a queue that isn't held, by the jobs that wait
-by_waiting : (s : State) (queue : QName) (pty : ℕ) (lines : Waiting) (tally : Counts) → IsLent s.jobs s.clock lines tally → is_held s queue ≡ false → waits.head_of queue pty lines.clock lines.items ≡ option_map (waiter_on queue) (head_of s queue pty)
-by_waiting s queue pty lines tally lent free =
-    ap (λ (clock : ℕ). waits.head_of queue pty clock lines.items) lent.up_to
+by_waiting : (s : State) (queue : QName) (pty : ℕ) (waiting : Waiting) (tally : Counts) → IsLent s.jobs s.clock waiting tally → is_held s queue ≡ false → waits.head_of queue pty waiting.clock waiting.items ≡ option_map (waiter_on queue) (head_of s queue pty)
+by_waiting s queue pty waiting tally lent free =
+    ap (λ (clock : ℕ). waits.head_of queue pty clock waiting.items) lent.up_to
     ∙ ap (λ (items : List Waiter). waits.head_of queue pty s.clock items) lent.items
     ∙ same_heads s queue pty free s.jobs None
 
-lent_still : (t s : State) (lines : Waiting) (tally : Counts) → t ≡ s → IsLent t.jobs t.clock lines tally → IsLent s.jobs s.clock lines tally
-lent_still t s lines tally same lent = subst (λ (x : State). IsLent x.jobs x.clock lines tally) same lent
+lent_still : (t s : State) (waiting : Waiting) (tally : Counts) → t ≡ s → IsLent t.jobs t.clock waiting tally → IsLent s.jobs s.clock waiting tally
+lent_still t s waiting tally same lent = subst (λ (x : State). IsLent x.jobs x.clock waiting tally) same lent
 
 -- so is the answer of a look at it
-pub head_by_waiting : (t s : State) (queue : QName) (pty : ℕ) (lines : Waiting) (tally : Counts) (o : Option Waiter) (held : Bool) → t ≡ s → IsLent t.jobs t.clock lines tally → held ≡ is_held s queue → held ≡ false → o ≡ waits.head_of queue pty lines.clock lines.items → o ≡ option_map (waiter_on queue) (head_of s queue pty)
-head_by_waiting t s queue pty lines tally o held same lent is free e = e ∙ by_waiting s queue pty lines tally (lent_still t s lines tally same lent) (sym is ∙ free)
+pub head_by_waiting : (t s : State) (queue : QName) (pty : ℕ) (waiting : Waiting) (tally : Counts) (o : Option Waiter) (held : Bool) → t ≡ s → IsLent t.jobs t.clock waiting tally → held ≡ is_held s queue → held ≡ false → o ≡ waits.head_of queue pty waiting.clock waiting.items → o ≡ option_map (waiter_on queue) (head_of s queue pty)
+head_by_waiting t s queue pty waiting tally o held same lent is free e = e ∙ by_waiting s queue pty waiting tally (lent_still t s waiting tally same lent) (sym is ∙ free)
 
 held_by_head : (s : State) (queue : QName) (pty : ℕ) (o : Option Job) → is_held s queue ≡ true → head_of s queue pty ≡ o → o ≡ None
 held_by_head s queue pty None held e = refl
@@ -148,8 +148,8 @@ waits_on s j r =
     let q = queued s j.jobq f.2 in
     (q.0, q.1, ap (λ (t : Bool). cond t (option_map (λ (n : QName). waiter_on n j) j.jobq) None) f.0 ∙ ap (option_map (λ (n : QName). waiter_on n j)) q.1)
 
-module _ (s : State) (lines : Waiting) (tally : Counts) (lent : IsLent s.jobs s.clock lines tally) where
-  among : (j : Job) (q : QName) → IsIn j s.jobs → waiter_of j ≡ Some (waiter_on q j) → Contains lines.items (waiter_on q j)
+module _ (s : State) (waiting : Waiting) (tally : Counts) (lent : IsLent s.jobs s.clock waiting tally) where
+  among : (j : Job) (q : QName) → IsIn j s.jobs → waiter_of j ≡ Some (waiter_on q j) → Contains waiting.items (waiter_on q j)
   among j q i e = subst (λ (ws : List Waiter). Contains ws (waiter_on q j)) (sym lent.items) (in_waiters s.jobs j (waiter_on q j) i e)
 
   same_waiter : (j k : Job) → IsIn j s.jobs → IsIn k s.jobs → is_ready s j ≡ true → is_ready s k ≡ true → j.place ≡ k.place → (j.serial ≡ k.serial) × (j.jobq ≡ k.jobq)
@@ -172,7 +172,7 @@ module _ (s : State) (lines : Waiting) (tally : Counts) (lent : IsLent s.jobs s.
   }
 
 -- what is lent is orderly
-pub lent_is_orderly : (t s : State) (lines : Waiting) (tally : Counts) (sbs : QName) (entries : List QueueEntry) → t ≡ s → IsLent t.jobs t.clock lines tally → entries ≡ queues_of t sbs → IsSortedOnce (λ (e : QueueEntry). e.seq) nat_cmp entries → IsOrderly s sbs
-lent_is_orderly t s lines tally sbs entries same lent are sorted =
-    is_orderly s lines tally (lent_still t s lines tally same lent) sbs
+pub lent_is_orderly : (t s : State) (waiting : Waiting) (tally : Counts) (sbs : QName) (entries : List QueueEntry) → t ≡ s → IsLent t.jobs t.clock waiting tally → entries ≡ queues_of t sbs → IsSortedOnce (λ (e : QueueEntry). e.seq) nat_cmp entries → IsOrderly s sbs
+lent_is_orderly t s waiting tally sbs entries same lent are sorted =
+    is_orderly s waiting tally (lent_still t s waiting tally same lent) sbs
     (subst (λ (es : List QueueEntry). IsSortedOnce (λ (e : QueueEntry). e.seq) nat_cmp es) (are ∙ ap (λ (x : State). queues_of x sbs) same) sorted)

@@ -53,9 +53,9 @@ abbrev pub candidate_waiting : QName → QueueEntry → Waiter → Candidate
 candidate_waiting sbs e w = record { rank = record { sbs = sbs.name; seq = e.seq; pty = w.pty; place = w.place }; sbs = sbs; jobq = e.jobq; serial = w.serial }
 
 -- what is lent beside the jobs is theirs: who waits, up to the same clock, and the tally of the active jobs' hows
-pub record IsLent (jobs : List Job) (clock : ℕ) (lines : Waiting) (tally : Counts) : Type 0 where
-  pub items : lines.items ≡ waiters jobs
-  pub up_to : lines.clock ≡ clock
+pub record IsLent (jobs : List Job) (clock : ℕ) (waiting : Waiting) (tally : Counts) : Type 0 where
+  pub items : waiting.items ≡ waiters jobs
+  pub up_to : waiting.clock ≡ clock
   pub counts : IsTally (hows jobs) tally
-  pub places : HavePlaces lines.items
-  pub priorities : HavePriorities lines.items
+  pub places : HavePlaces waiting.items
+  pub priorities : HavePriorities waiting.items

@@ -20,7 +20,7 @@ fn requested(request: &Option<Request>) -> Option<QName>
 }
 
 // The program that the entry's program calls: QSYS/QCMD that of the request, another one itself.
-pub fn called_program(entry: &RouteEntry, request: &Option<Request>) -> Option<QName>
+pub(crate) fn called_program(entry: &RouteEntry, request: &Option<Request>) -> Option<QName>
     ensures { result ≡ called_program entry.now request.now }
 {
     if !is_qcmd(&entry.pgm) {

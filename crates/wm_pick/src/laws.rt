@@ -2,7 +2,8 @@
 ghost use Rattle.wm_pick.specs.Heads.{HeadsAreFirst};
 ghost use Rattle.wm_pick.specs.Tallied.{TallyHasCounts};
 
-/// Where Waiting jobs have distinct places, the head of a subsystem's first open entry is the first of all its jobs.
+/// Where Waiting jobs have distinct places and priorities from 1 to 9, and entries stand by their numbers, the head of a
+/// subsystem's first open entry is the first of all its jobs.
 #[tactic(auto, using(crate::proofs::ByHeads::heads_are_first))]
 pub fn heads_are_first()
     ensures { HeadsAreFirst }

@@ -24,23 +24,23 @@ impl<'a> Parts<'a> {
         jobs: &'a [Job],
         started: &'a SbsList,
         held: &'a QNames,
-        lines: &'a WaitingJobs,
+        waiting: &'a WaitingJobs,
         tally: &'a Tally,
         clock: Moment,
     ) -> Parts<'a>
-        requires waiting { lines.now.items ≡ waiters jobs.now }
-        requires due { lines.now.clock ≡ clock }
+        requires waiting { waiting.now.items ≡ waiters jobs.now }
+        requires due { waiting.now.clock ≡ clock }
         requires counts { IsTally (hows jobs.now) tally.now }
         ensures { result ≡ with_parts objects.now jobs.now started.now held.now clock }
     {
         // For what it tells of places and priorities.
-        lines.len();
+        waiting.len();
         Parts {
             objects,
             jobs,
             started,
             held,
-            lines,
+            waiting,
             tally,
             clock,
         }
@@ -93,6 +93,6 @@ impl<'a> Parts<'a> {
         if self.is_held(queue) {
             return None;
         }
-        self.lines.head(queue, pty, steps)
+        self.waiting.head(queue, pty, steps)
     }
 }

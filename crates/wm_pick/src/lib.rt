@@ -19,4 +19,4 @@ mod routing;
 
 pub use laws::{heads_are_first, tally_has_counts};
 pub use parts::Parts;
-pub use routing::{has_value, route};
+pub use routing::route;

@@ -51,7 +51,8 @@ impl<'a> Parts<'a> {
         entry_numbered(self.objects.sbsds.object(sbs)?, seq)
     }
 
-    /// The order of a Starting job: its routing entry's program with the entry's class.
+    /// The order of a Starting job: its routing entry's program with the entry's class. `None` where one of these isn't
+    /// there. An `Err` is want of memory.
     pub fn order_of(&self, alloc: Global, job: &Job) -> Result<Option<StartOrder>, NoMemory>
         ensures { IfOk result (λ order. order ≡ order_of self.now job.now) }
     {

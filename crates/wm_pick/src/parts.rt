@@ -15,7 +15,7 @@ pub struct Parts<'a> {
     pub(crate) jobs: &'a [Job],
     pub(crate) started: &'a SbsList,
     pub(crate) held: &'a QNames,
-    pub(crate) lines: &'a WaitingJobs,
+    pub(crate) waiting: &'a WaitingJobs,
     pub(crate) tally: &'a Tally,
     pub(crate) clock: Moment,
 }
@@ -29,5 +29,5 @@ impl<'a> Model for Parts<'a> {
 
     ghost view = { λ p. with_parts p.objects.now p.jobs.now p.started.now p.held.now p.clock };
 
-    ghost invariant = { λ p. IsLent p.jobs.now p.clock p.lines.now p.tally.now };
+    ghost invariant = { λ p. IsLent p.jobs.now p.clock p.waiting.now p.tally.now };
 }

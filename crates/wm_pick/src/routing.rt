@@ -19,8 +19,8 @@ fn extended(rtgdta: &[u8]) -> [u8; ROUTING_DATA]
     bytes
 }
 
-/// Whether routing data, extended with blanks to 80 characters, have the value from a position, counted from 1.
-pub fn has_value(value: &[u8], start: u32, rtgdta: &[u8]) -> bool
+// Whether routing data, extended with blanks to 80 characters, have the value from a position, counted from 1.
+pub(crate) fn has_value(value: &[u8], start: u32, rtgdta: &[u8]) -> bool
     ensures { result ≡ has_value value.now start rtgdta.now }
 {
     let bytes = extended(rtgdta);
@@ -49,8 +49,8 @@ pub fn route<'a>(description: &'a Sbsd, rtgdta: &Text) -> Option<&'a RouteEntry>
         .find(|entry| is_match(&entry.cmp, rtgdta))
 }
 
-/// A description's routing entry of a number.
-pub fn entry_numbered(description: &Sbsd, seq: u32) -> Option<&RouteEntry>
+// A description's routing entry of a number.
+pub(crate) fn entry_numbered(description: &Sbsd, seq: u32) -> Option<&RouteEntry>
     ensures { option_copied result ≡ entry_numbered seq description.now }
 {
     description.routes.get(&seq)

@@ -66,7 +66,7 @@ impl WaitingJobs {
         self.all.len()
     }
 
-    /// Makes room for a number of jobs. An `Err` leaves all as it was.
+    /// Makes room for a number of jobs. An `Err` is want of memory, or of numbers for so many jobs; it leaves all as it was.
     pub fn reserve(&mut self, more: u32) -> Result<(), NoMemory>
         ensures ok { OnOk result (more ≤ self.new.spare) }
         ensures items { self.new.items ≡ self.old.items }

@@ -1,5 +1,5 @@
 // A store in memory.
-ghost use Rattle.std.specs.Prelude.{◌≡◌, ◌↔◌, Some, None, IsErr, IfOk, IfSome, OnErr, IsErrOf};
+ghost use Rattle.std.specs.Prelude.{◌≡◌, ◌↔◌, ◌<◌, Some, None, IsErr, IfOk, IfSome, OnErr, IsErrOf};
 ghost use Rattle.wm_outside.specs.Cause.{HasKeepCause, PassesOn, raised};
 ghost use Rattle.wm_outside.specs.declared.fault.KeepFault.TheVariants.{Failed, NoMemory};
 
@@ -70,6 +70,7 @@ impl Store for MemStore {
     fn close(&mut self, keeper: MemKeeper)
         ensures keeper { store_keeper self.new ≡ Some keeper }
         ensures faults { PassesOn (keeper_calls keeper).failed (store_faults self.old) (store_faults self.new) }
+        ensures by_one { 0 < (keeper_calls keeper).failed → store_faults self.new ≡ raised (store_faults self.old) }
     {
         if keeper.faults() > 0 {
             self.faults = self.faults.saturating_add(1);

@@ -9,12 +9,12 @@ use Rattle.wm_law.specs.Counts.{is_waiting}
 use Rattle.wm_law.specs.Launch.{launched, launched_at, launch_job}
 use Rattle.wm_law.specs.Laws.{IsIn}
 use Rattle.wm_law.proofs.Firsts.{next_waits}
+use Rattle.wm_law.proofs.Settling.{not_waiting}
 use Rattle.wm_core.specs.MachineInside.{state_of}
-use Rattle.wm_core.proofs.Launches.{launched_waits_not}
 use Rattle.wm_core.proofs.machine.Machine.launch.Goals as goal
 
 pub launch-requires-clause-phase : goal.launch-requires-clause-phase
-launch-requires-clause-phase c = rw (c.launched-launched.ensures) (launched_waits_not c.args.self.now c.args.candidate.now.sbs c.args.candidate.now.jobq c.in-Some.job.now)
+launch-requires-clause-phase c = rw (c.launched-launched.ensures) (not_waiting c.args.self.now c.args.candidate.now.sbs c.args.candidate.now.jobq c.in-Some.job.now)
 
 pub launch-requires-clause-waits : goal.launch-requires-clause-waits
 launch-requires-clause-waits c =

@@ -6,5 +6,5 @@ returns-then-is_held-clause-head g c = no_head_held c.args.self.now c.args.queue
 
 pub returns-clause-head : goal.returns-clause-head
 returns-clause-head g c =
-    head_by_waiting _ c.args.self.now c.args.queue.now c.args.pty c.self.inside.lines.now c.self.inside.tally.now c.head.result c.is_held.result
+    head_by_waiting _ c.args.self.now c.args.queue.now c.args.pty c.self.inside.waiting.now c.self.inside.tally.now c.head.result c.is_held.result
     c.self.view_is c.self.invariant c.is_held.ensures c.if-is_held.false c.head.ensures.head
