@@ -10,7 +10,7 @@ use crate::ExactClone;
 use std::alloc::Global;
 use std::cmp::Ordering;
 use std::marker::Model;
-use wm_base::NoMemory;
+use wm_base::{NoMemory, QName};
 
 /// What a sorted list may have as its elements.
 pub trait Keyed {
@@ -21,6 +21,17 @@ pub trait Keyed {
 
     fn key(&self) -> &Self::By
         ensures { result.now ≡ key self.now };
+}
+
+/// A name is its own key.
+impl Keyed for QName {
+    type By = QName;
+
+    ghost key = { λ name. name };
+
+    fn key(&self) -> &QName {
+        self
+    }
 }
 
 /// A list in ascending order of its elements' keys, with each key once. A contract sees it as the plain list.

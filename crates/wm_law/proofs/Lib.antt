@@ -9,6 +9,7 @@ pub mod InOrder
 pub mod Entries
 pub mod Tables
 pub mod Objects
+pub mod Alterations
 pub mod Moves
 pub mod Refusals
 pub mod Answered

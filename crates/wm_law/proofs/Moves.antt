@@ -1,6 +1,7 @@
 -- What a call can come to, and what a step can do to a state. Here alone the calls are gone over, one by one.
-use Rattle.std.proofs.Common.{◌≡◌, ℕ, ◌<◌, ◌≤◌, ◌-◌, ◌==◌, not, Bool, true, false, cond, List, [], ◌∷◌, length, map, fold, Option, Some, None, is_some, nat_le, nat_lt, min, refl, arith}
-use Rattle.std.specs.List.{find}
+use Rattle.std.proofs.Common.{◌≡◌, ℕ, ◌<◌, ◌≤◌, ◌-◌, ◌+◌, ◌==◌, not, Bool, true, false, cond, List, [], ◌∷◌, length, map, fold, Option, Some, None, is_some, nat_le, nat_lt, min, refl, inl, inr, arith}
+use Rattle.std.specs.List.{count_by, find}
+use Rattle.std.specs.Prelude.{Result, Ok, Err}
 use Rattle.std.specs.Option.{IsSome}
 use Rattle.std.proofs.lemmas.Bool.Decides.{nat_tests}
 use Rattle.std.proofs.Math.Nat.{min-le_left, min-le_right}
@@ -10,19 +11,22 @@ use Rattle.wm_base.specs.declared.job.StartOrder.{StartOrder}
 use Rattle.wm_base.specs.declared.qname.QName.{QName}
 use Rattle.wm_base.specs.declared.refusal.Kind.TheVariants as kind
 use Rattle.wm_base.specs.declared.refusal.Refusal.{Refusal}
-use Rattle.wm_base.specs.declared.refusal.Refusal.TheVariants.{NoJob, NoObject, NotInUse, PoweringDown, WrongPhase}
+use Rattle.wm_base.specs.declared.refusal.Refusal.TheVariants.{HeldAlready, NoJob, NoObject, NotHeld, NotInUse, NumbersUsed, PoweringDown, WrongPhase}
 use Rattle.wm_base.specs.Iterate.{IsKept}
 use Rattle.wm_base.proofs.Iterate.{iterate-keeps}
 use Rattle.wm_desc.specs.declared.description.Jobd.{Jobd}
 use Rattle.wm_desc.specs.declared.entry.AutoEntry.{AutoEntry}
 use Rattle.wm_desc.specs.declared.objects.Objects.{Objects}
-use Rattle.wm_desc.specs.Table.{object_named}
+use Rattle.wm_desc.specs.Sorted.{added, removed}
+use Rattle.wm_desc.specs.Table.{object_named, qname_cmp, same_qname}
 use Rattle.wm_law.specs.declared.call.Call.{Call}
 use Rattle.wm_law.specs.declared.call.Call.TheVariants.{Change, Hand, Started, StartFailed, Finished, UseDone, Tick}
 use Rattle.wm_law.specs.declared.call.Entry.{Entry}
-use Rattle.wm_law.specs.declared.call.Reply.TheVariants.{Made, PowerDown, Order, Nothing, Noted}
+use Rattle.wm_law.specs.declared.call.Reply.{Reply}
+use Rattle.wm_law.specs.declared.call.Reply.TheVariants.{Made, PowerDown, Order, Nothing, Noted, Submitted, Held, Released, Changed, QueueHeld, QueueReleased, QueueCleared}
 use Rattle.wm_law.specs.declared.command.Command.{Command}
 use Rattle.wm_law.specs.declared.command.Command.TheVariants as command
+use Rattle.wm_law.specs.declared.command.Chgjob.{Chgjob}
 use Rattle.wm_law.specs.declared.command.Sbmjob.{Sbmjob}
 use Rattle.wm_law.specs.declared.job.Job.{Job}
 use Rattle.wm_law.specs.declared.job.Phase.{Phase}
@@ -32,7 +36,6 @@ use Rattle.wm_law.specs.declared.state.State.{State}
 use Rattle.wm_law.specs.declared.state.Power.TheVariants.{DownNow}
 use Rattle.wm_law.specs.declared.state.SbsPhase.TheVariants.{Active}
 use Rattle.wm_law.specs.Autos.{auto_described, auto_made, autos_of, make_auto}
-use Rattle.wm_law.specs.Choice.{next}
 use Rattle.wm_law.specs.Counts.{is_starting, is_waiting}
 use Rattle.wm_law.specs.Fit.{HasCall}
 use Rattle.wm_law.specs.History.{after, is_hand, stepped}
@@ -45,7 +48,15 @@ use Rattle.wm_law.specs.Power.{end_now, is_on, is_down_now}
 use Rattle.wm_law.specs.Reports.{with_phase, hand_job, hand_order, report_on, is_handed_to, is_run_by, phase_word, done_with, end_cause}
 use Rattle.wm_law.specs.Settling.{leave, waiting}
 use Rattle.wm_law.specs.Stepped.{Stepped, refused}
-use Rattle.wm_law.specs.Submitting.{submit_refusal, submit_unless, submit_with, submitted_job, entered, has_numbers, numbers_end, numbers_left, queue_of, serials_end}
+use Rattle.wm_law.specs.Submitting.{submit_due, submit_with, submitted_job, entered, has_numbers, job_name, numbers_end, numbers_left, queue_of, serials_end}
+use Rattle.wm_law.specs.Schedules.{rescheduled, scheduled}
+use Rattle.wm_law.specs.Named.{waiting_named}
+use Rattle.wm_law.specs.Holding.{hold_found, release_found, with_held}
+use Rattle.wm_law.specs.Changing.{change_due, change_found, has_queue, moved_to, stays, with_due}
+use Rattle.wm_law.specs.Queues.{clear_queue, cleared_from, hold_queue, own_name, release_queue, waits_on}
+use Rattle.wm_law.specs.Jobs.{waiting_at}
+use Rattle.wm_law.specs.Choice.{is_held, next}
+use Rattle.wm_law.proofs.Alterations.{IsAlteration, IsHolding, IsPlain, altered, clearing_alters, due_alters, holding_alters, moving_alters, plain_changed, plain_cleared, plain_held, plain_queue_held, plain_queue_released, plain_released}
 use Rattle.wm_law.specs.Subsystems.{begun, is_started, max_started, start_refusal, start_unless}
 use Rattle.wm_law.proofs.Members.{found_among, last_in}
 use Rattle.wm_law.proofs.Objects.{IsObjectChange, class_made, queue_made, program_made, job_description_made, description_made, queue_added, route_added, auto_added, queue_removed, route_removed, auto_removed}
@@ -56,8 +67,9 @@ pub record IsOnward (p q : Phase) : Type 0 where
   pub past : is_waiting p ≡ false
   pub on : phase_rank p ≤ phase_rank q
 
--- SBMJOB isn't refused: numbers are left, and the job's queue is an object
-pub record IsAcceptable (s : State) (c : Sbmjob) (d : Jobd) : Type 0 where
+-- SBMJOB isn't refused: there is a due moment, numbers are left, and the job's queue is an object
+pub record IsAcceptable (s : State) (c : Sbmjob) (d : Jobd) (due : ℕ) : Type 0 where
+  pub scheduled : scheduled s c.scddate c.scdtime ≡ Ok due
   pub numbers : has_numbers s ≡ true
   pub queue : IsSome (object_named (queue_of c d) s.objects.jobqs)
 
@@ -92,7 +104,9 @@ pub record HoldsAfterCalls (P : Stepped → Type 0) (s : State) (call : Call) : 
   pub hands : (m : ℕ) (j : Job) (o : StartOrder) → IsIn j s.jobs → is_starting j.phase ≡ true → order_of s j ≡ Some o → P (record { reply = Order (Start o); state = with_phase s j.serial (Handed m) })
   pub reports : (serial : ℕ) (j : Job) (phase : Phase) → IsIn j s.jobs → j.serial ≡ serial → IsOnward j.phase phase → is_starting phase ≡ false → P (record { reply = Noted; state = with_phase s serial phase })
   pub starts : (q : QName) → IsStartable s q → P (start_unless s q None)
-  pub enters : (user : List ℕ) (c : Sbmjob) (d : Jobd) → IsAcceptable s c d → P (submit_unless s user c d None)
+  pub enters : (user : List ℕ) (c : Sbmjob) (d : Jobd) (due : ℕ) → IsAcceptable s c d due → P (record { reply = Submitted (job_name s user c) (queue_of c d); state = entered s (submitted_job s user c d due) })
+  pub alters : (reply : Reply) (change : Job → Job) (place : ℕ) → IsPlain reply → IsAlteration s change place → P (record { reply = reply; state = altered s change place })
+  pub holds : (reply : Reply) (held : List QName) → IsPlain reply → IsHolding s held → P (record { reply = reply; state = record s { held = held } })
   pub powers : P (record { reply = PowerDown; state = record s { started = map end_now s.started; power = DownNow } })
   pub makes : (o : Objects) → IsObjectChange s o → P (record { reply = Made; state = record s { objects = o } })
 
@@ -105,16 +119,51 @@ module _ (P : Stepped → Type 0) (s : State) (call : Call) (h : HoldsAfterCalls
   start q None e = h.starts q (startable s q e)
   start q (Some x) e = h.refuses x
 
-  submitted : (user : List ℕ) (c : Sbmjob) (d : Jobd) (o : Option Refusal) → submit_refusal s c d ≡ o → P (submit_unless s user c d o)
-  submitted user c d None e =
-      let queue = unrefused (not (is_some (object_named (queue_of c d) s.objects.jobqs))) _ _ e in
-      let numbers = unrefused (not (has_numbers s)) _ _ queue.1 in
-      h.enters user c d (record { numbers = of_not (has_numbers s) numbers.0; queue = of_not (is_some (object_named (queue_of c d) s.objects.jobqs)) queue.0 })
-  submitted user c d (Some x) e = h.refuses x
+  submitted : (user : List ℕ) (c : Sbmjob) (d : Jobd) (r : Result ℕ Refusal) → scheduled s c.scddate c.scdtime ≡ r → IsSome (object_named (queue_of c d) s.objects.jobqs) → P (submit_due s user c d r)
+  submitted user c d (Err x) e queue = h.refuses x
+  submitted user c d (Ok due) e queue =
+      either (has_numbers s) _ _ (λ t. h.enters user c d due (record { scheduled = e; numbers = t; queue = queue })) (λ t. h.refuses NumbersUsed)
 
   submitted_with : (user : List ℕ) (c : Sbmjob) (d : Option Jobd) → P (submit_with s user c d)
   submitted_with user c None = h.refuses (NoObject kind.Jobd)
-  submitted_with user c (Some d) = submitted user c d (submit_refusal s c d) refl
+  submitted_with user c (Some d) =
+      either (is_some (object_named (queue_of c d) s.objects.jobqs)) _ _ (λ t. submitted user c d (scheduled s c.scddate c.scdtime) refl t) (λ t. h.refuses (NoObject kind.Jobq))
+
+  held_found : (r : Result Job Refusal) → P (hold_found s r)
+  held_found (Err x) = h.refuses x
+  held_found (Ok j) = either j.held _ _ (λ t. h.refuses HeldAlready) (λ t. h.alters (Held j.job) (waiting_at j.serial (with_held true)) s.next_place (plain_held j.job) (holding_alters s j.serial true))
+
+  released_found : (r : Result Job Refusal) → P (release_found s r)
+  released_found (Err x) = h.refuses x
+  released_found (Ok j) = either j.held _ _ (λ t. h.alters (Released j.job) (waiting_at j.serial (with_held false)) s.next_place (plain_released j.job) (holding_alters s j.serial false)) (λ t. h.refuses NotHeld)
+
+  due_changed : (c : Chgjob) (j : Job) (r : Result ℕ Refusal) → has_queue s c.jobq ≡ true → P (change_due s c j r)
+  due_changed c j (Err x) q = h.refuses x
+  due_changed c j (Ok due) q =
+      either (stays c j) _ _ (λ t. h.alters (Changed j.job) (waiting_at j.serial (with_due due)) s.next_place (plain_changed j.job) (due_alters s j.serial due))
+      (λ t. either (nat_lt s.next_place serials_end) _ _ (λ u. h.alters (Changed j.job) (waiting_at j.serial (moved_to c s.next_place due)) (s.next_place + 1) (plain_changed j.job) (moving_alters s c j.serial due u q)) (λ u. h.refuses NumbersUsed))
+
+  changed_found : (c : Chgjob) (r : Result Job Refusal) → P (change_found s c r)
+  changed_found c (Err x) = h.refuses x
+  changed_found c (Ok j) = either (has_queue s c.jobq) _ _ (λ t. due_changed c j (rescheduled s j.due c.scddate c.scdtime) t) (λ t. h.refuses (NoObject kind.Jobq))
+
+  queue_held : (q : QName) → P (hold_queue s q)
+  queue_held q =
+      either (is_some (object_named q s.objects.jobqs)) _ _
+      (λ t. either (is_held s q) _ _ (λ u. h.refuses HeldAlready) (λ u. h.holds QueueHeld (added own_name qname_cmp q s.held) plain_queue_held (inl (record { queue = q; is_object = t; new = u; is_with = refl }))))
+      (λ t. h.refuses (NoObject kind.Jobq))
+
+  queue_released : (q : QName) → P (release_queue s q)
+  queue_released q =
+      either (is_some (object_named q s.objects.jobqs)) _ _
+      (λ t. either (is_held s q) _ _ (λ u. h.holds QueueReleased (removed own_name same_qname q s.held) plain_queue_released (inr (record { queue = q; is_without = refl }))) (λ u. h.refuses NotHeld))
+      (λ t. h.refuses (NoObject kind.Jobq))
+
+  queue_cleared : (q : QName) → P (clear_queue s q)
+  queue_cleared q =
+      either (is_some (object_named q s.objects.jobqs)) _ _
+      (λ t. h.alters (QueueCleared (count_by (waits_on q) s.jobs)) (cleared_from q) s.next_place (plain_cleared (count_by (waits_on q) s.jobs)) (clearing_alters s q))
+      (λ t. h.refuses (NoObject kind.Jobq))
 
   made : (objects : Objects) (o : Option Refusal) → (o ≡ None → IsObjectChange s objects) → P (made_unless s objects o)
   made objects None e = h.makes objects (e refl)
@@ -191,6 +240,12 @@ changed P s user (command.Rmvrtge c) h = made P s _ h _ _ (route_removed s c)
 changed P s user (command.Rmvaje c) h = made P s _ h _ _ (auto_removed s c)
 changed P s user (command.Strsbs c) h = start P s _ h c.sbsd (start_refusal s c.sbsd) refl
 changed P s user (command.Sbmjob c) h = either P s _ h (is_on s.power) _ _ (λ t. submitted_with P s _ h user c (object_named c.jobd s.objects.jobds)) (λ t. h.refuses PoweringDown)
+changed P s user (command.Hldjob c) h = held_found P s _ h (waiting_named s c.job)
+changed P s user (command.Rlsjob c) h = released_found P s _ h (waiting_named s c.job)
+changed P s user (command.Chgjob c) h = changed_found P s _ h c (waiting_named s c.job)
+changed P s user (command.Hldjobq c) h = queue_held P s _ h c.jobq
+changed P s user (command.Rlsjobq c) h = queue_released P s _ h c.jobq
+changed P s user (command.Clrjobq c) h = queue_cleared P s _ h c.jobq
 changed P s user (command.Pwrdwnsys c) h = either P s _ h (is_down_now s.power) _ _ (λ t. h.refuses PoweringDown) (λ t. h.powers)
 changed P s user c h = h.nothing (λ b n. b)
 
@@ -262,7 +317,9 @@ pub record HoldsOfStates (P : State → Type 0) (s : State) : Type 0 where
   pub stays : P s
   pub starts : (q : QName) → IsStartable s q → P (begun s q)
   pub autos : (q : QName) (t : State) (e : AutoEntry) (d : Jobd) → IsMakeable q t → P t → P (auto_made t q e d)
-  pub enters : (user : List ℕ) (c : Sbmjob) (d : Jobd) → IsAcceptable s c d → P (entered s (submitted_job s user c d))
+  pub enters : (user : List ℕ) (c : Sbmjob) (d : Jobd) (due : ℕ) → IsAcceptable s c d due → P (entered s (submitted_job s user c d due))
+  pub alters : (change : Job → Job) (place : ℕ) → IsAlteration s change place → P (altered s change place)
+  pub holds : (held : List QName) → IsHolding s held → P (record s { held = held })
   pub moves : (serial : ℕ) (j : Job) (phase : Phase) → IsIn j s.jobs → j.serial ≡ serial → IsOnward j.phase phase → is_starting phase ≡ false → P (with_phase s serial phase)
   pub powers : P (record s { started = map end_now s.started; power = DownNow })
   pub makes : (o : Objects) → IsObjectChange s o → P (record s { objects = o })
@@ -275,7 +332,9 @@ of_states P s call h = record {
   hands = λ m j o i e f. h.moves j.serial j (Handed m) i refl (onward j.phase (Handed m) 1 (starting_rank j.phase e) (omega arith) (omega arith)) refl;
   reports = λ serial j phase i e r n. h.moves serial j phase i e r n;
   starts = λ q e. made_all P q (h.autos q) (autos_of s q) (begun s q) (makeable s q e) (h.starts q e);
-  enters = λ user c d has. h.enters user c d has;
+  enters = λ user c d due has. h.enters user c d due has;
+  alters = λ reply change place p a. h.alters change place a;
+  holds = λ reply held p a. h.holds held a;
   powers = h.powers;
   makes = λ o c. h.makes o c;
 }

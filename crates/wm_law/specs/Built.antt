@@ -1,29 +1,9 @@
 -- Which commands of users are built.
-use Rattle.std.specs.Prelude.{Bool, true, false, ◌&&◌}
-use Rattle.wm_when.specs.declared.schedule.DateSpec.{DateSpec}
-use Rattle.wm_when.specs.declared.schedule.DateSpec.TheVariants.{Current, MonthStart, MonthEnd, Weekday, Day}
-use Rattle.wm_when.specs.declared.schedule.TimeSpec.{TimeSpec}
-use Rattle.wm_when.specs.declared.schedule.TimeSpec.TheVariants.{Current as Now, At}
+use Rattle.std.specs.Prelude.{Bool, true, false}
 use Rattle.wm_law.specs.declared.command.Command.{Command}
 use Rattle.wm_law.specs.declared.command.Command.TheVariants as command
-use Rattle.wm_law.specs.declared.command.Sbmjob.{Sbmjob}
 
-abbrev pub is_current_date : DateSpec → Bool
-is_current_date Current = true
-is_current_date MonthStart = false
-is_current_date MonthEnd = false
-is_current_date (Weekday day) = false
-is_current_date (Day day) = false
-
-abbrev pub is_current_time : TimeSpec → Bool
-is_current_time Now = true
-is_current_time (At second) = false
-
--- SCDDATE(*CURRENT) SCDTIME(*CURRENT)
-abbrev pub is_at_once : Sbmjob → Bool
-is_at_once c = is_current_date c.scddate && is_current_time c.scdtime
-
--- the commands that make objects, those on queue, routing and autostart entries, STRSBS, and SBMJOB without a schedule
+-- the commands that make objects, those on queue, routing and autostart entries, STRSBS, SBMJOB, and those on waiting jobs and on queues
 abbrev pub is_built : Command → Bool
 is_built (command.Crtcls c) = true
 is_built (command.Crtjobq c) = true
@@ -37,5 +17,11 @@ is_built (command.Rmvjobqe c) = true
 is_built (command.Rmvrtge c) = true
 is_built (command.Rmvaje c) = true
 is_built (command.Strsbs c) = true
-is_built (command.Sbmjob c) = is_at_once c
+is_built (command.Sbmjob c) = true
+is_built (command.Hldjob c) = true
+is_built (command.Rlsjob c) = true
+is_built (command.Chgjob c) = true
+is_built (command.Hldjobq c) = true
+is_built (command.Rlsjobq c) = true
+is_built (command.Clrjobq c) = true
 is_built c = false

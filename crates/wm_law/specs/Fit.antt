@@ -11,8 +11,6 @@ use Rattle.wm_desc.specs.declared.entry.Cmp.{Cmp}
 use Rattle.wm_desc.specs.declared.entry.Cmp.TheVariants.{Any, Val}
 use Rattle.wm_desc.specs.declared.entry.PreEntry.{PreEntry}
 use Rattle.wm_when.specs.Schedule.{date_in_range, time_in_range}
-use Rattle.wm_when.specs.declared.schedule.DateSpec.TheVariants.{Current}
-use Rattle.wm_when.specs.declared.schedule.TimeSpec.TheVariants.{Current as Now}
 use Rattle.wm_law.specs.declared.call.Call.{Call}
 use Rattle.wm_law.specs.declared.call.Call.TheVariants.{Change, Hand, Started, StartFailed, Finished, UseDone, Tick}
 use Rattle.wm_law.specs.declared.command.Command.{Command}
@@ -180,7 +178,7 @@ IsCall (Finished serial end) = IsSerial serial × IsExit end
 IsCall (UseDone serial) = IsSerial serial
 IsCall Tick = ⊤
 
--- the commands that the machine has: SBMJOB without a schedule, and PWRDWNSYS only with OPTION(*IMMED) and where no job is active
+-- the commands that the machine has: PWRDWNSYS only with OPTION(*IMMED) and where no job is active
 abbrev pub HasCommand : State → Command → Type 0
 HasCommand s (command.Crtcls c) = ⊤
 HasCommand s (command.Crtjobq c) = ⊤
@@ -194,7 +192,13 @@ HasCommand s (command.Rmvjobqe c) = ⊤
 HasCommand s (command.Rmvrtge c) = ⊤
 HasCommand s (command.Rmvaje c) = ⊤
 HasCommand s (command.Strsbs c) = ⊤
-HasCommand s (command.Sbmjob c) = (c.scddate ≡ Current) × (c.scdtime ≡ Now)
+HasCommand s (command.Sbmjob c) = ⊤
+HasCommand s (command.Hldjob c) = ⊤
+HasCommand s (command.Rlsjob c) = ⊤
+HasCommand s (command.Chgjob c) = ⊤
+HasCommand s (command.Hldjobq c) = ⊤
+HasCommand s (command.Rlsjobq c) = ⊤
+HasCommand s (command.Clrjobq c) = ⊤
 HasCommand s (command.Pwrdwnsys c) = (c.option ≡ Immed) × (active s ≡ 0)
 HasCommand s c = ⊥
 

@@ -6,7 +6,7 @@ use Rattle.wm_law.specs.declared.call.Call.{Call}
 use Rattle.wm_law.specs.declared.call.Call.TheVariants.{Change, Hand, Started, StartFailed, Finished, UseDone, Tick}
 use Rattle.wm_law.specs.declared.call.Entry.{Entry}
 use Rattle.wm_law.specs.declared.call.Reply.{Reply}
-use Rattle.wm_law.specs.declared.call.Reply.TheVariants.{Made, SbsStarted, Submitted, PowerDown, Order, Nothing, Noted, No}
+use Rattle.wm_law.specs.declared.call.Reply.TheVariants.{Made, SbsStarted, Submitted, Held, Released, Changed, QueueHeld, QueueReleased, QueueCleared, PowerDown, Order, Nothing, Noted, No}
 use Rattle.wm_law.specs.declared.state.State.{State}
 use Rattle.wm_law.specs.Fit.{IsCall, HasCall}
 use Rattle.wm_law.specs.Machine.{step}
@@ -53,6 +53,12 @@ abbrev pub order_in : Reply → Option Asked
 order_in Made = None
 order_in (SbsStarted sbs) = None
 order_in (Submitted job jobq) = None
+order_in (Held job) = None
+order_in (Released job) = None
+order_in (Changed job) = None
+order_in QueueHeld = None
+order_in QueueReleased = None
+order_in (QueueCleared count) = None
 order_in PowerDown = None
 order_in (Order asked) = Some asked
 order_in Nothing = None

@@ -9,6 +9,9 @@ use Rattle.wm_law.specs.declared.call.Reply.TheVariants.{Nothing, Noted}
 use Rattle.wm_law.specs.declared.job.Phase.TheVariants.{Running, Ended}
 use Rattle.wm_law.specs.declared.state.State.{State}
 use Rattle.wm_law.specs.Making.{make_class, make_queue, make_program, make_job_description, make_description, add_queue, add_route, add_auto, remove_queue, remove_route, remove_auto}
+use Rattle.wm_law.specs.Changing.{change_job}
+use Rattle.wm_law.specs.Holding.{hold_job, release_job}
+use Rattle.wm_law.specs.Queues.{clear_queue, hold_queue, release_queue}
 use Rattle.wm_law.specs.Stepped.{Stepped}
 use Rattle.wm_law.specs.Power.{power_down}
 use Rattle.wm_law.specs.Subsystems.{start_subsystem}
@@ -34,6 +37,12 @@ change s user (command.Rmvrtge c) = remove_route s c
 change s user (command.Rmvaje c) = remove_auto s c
 change s user (command.Strsbs c) = start_subsystem s c.sbsd
 change s user (command.Sbmjob c) = submit s user c
+change s user (command.Hldjob c) = hold_job s c.job
+change s user (command.Rlsjob c) = release_job s c.job
+change s user (command.Chgjob c) = change_job s c
+change s user (command.Hldjobq c) = hold_queue s c.jobq
+change s user (command.Rlsjobq c) = release_queue s c.jobq
+change s user (command.Clrjobq c) = clear_queue s c.jobq
 change s user (command.Pwrdwnsys c) = power_down s
 change s user c = unbuilt s
 

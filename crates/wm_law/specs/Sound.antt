@@ -8,7 +8,8 @@ use Rattle.wm_desc.specs.declared.description.Sbsd.{Sbsd}
 use Rattle.wm_desc.specs.declared.entry.QueueEntry.{QueueEntry}
 use Rattle.wm_desc.specs.declared.entry.RouteEntry.{RouteEntry}
 use Rattle.wm_desc.specs.declared.objects.Objects.{Objects}
-use Rattle.wm_desc.specs.Table.{object_named}
+use Rattle.wm_desc.specs.Sorted.{IsSortedOnce}
+use Rattle.wm_desc.specs.Table.{object_named, qname_cmp}
 use Rattle.wm_law.specs.declared.call.Call.{Call}
 use Rattle.wm_law.specs.declared.call.Entry.{Entry}
 use Rattle.wm_law.specs.declared.job.Job.{Job}
@@ -19,13 +20,14 @@ use Rattle.wm_law.specs.declared.state.State.{State}
 use Rattle.wm_law.specs.Choice.{entry_for}
 use Rattle.wm_law.specs.Counts.{is_active, is_waiting}
 use Rattle.wm_law.specs.History.{after}
-use Rattle.wm_law.specs.Kept.{IsDistinct, IsNumbered, HasOrders, HasDistinctNames, HasDescriptions, IsQuiet}
+use Rattle.wm_law.specs.Kept.{IsNumbered, HasOrders, HasDistinctNames, HasDescriptions, IsQuiet}
 use Rattle.wm_law.specs.Laws.{IsIn}
 use Rattle.wm_law.specs.Limits.{IsWithinLimits, KeepsLimits}
 use Rattle.wm_law.specs.Machine.{step}
 use Rattle.wm_law.specs.Objects.{AreSound}
 use Rattle.wm_law.specs.Opening.{opening}
 use Rattle.wm_law.specs.Order.{IsInOrder, KeepsOrder}
+use Rattle.wm_law.specs.Queues.{own_name}
 use Rattle.wm_law.specs.Subsystems.{max_started}
 
 -- each number is below all later ones
@@ -89,9 +91,9 @@ pub record IsQueued (objects : Objects) (j : Job) : Type 0 where
 abbrev pub HasQueues : State → Type 0
 HasQueues s = (j : Job) → IsIn j s.jobs → IsQueued s.objects j
 
--- no queue stands twice in a list of names, and each is an object
+-- queues stand in the order of their names, each once, and each is an object
 pub record AreQueues (objects : Objects) (queues : List QName) : Type 0 where
-  pub once : IsDistinct queues
+  pub sorted : IsSortedOnce own_name qname_cmp queues
   pub are_objects : (queue : QName) → IsIn queue queues → IsSome (object_named queue objects.jobqs)
 
 -- no more subsystems are started than may be

@@ -1,5 +1,5 @@
 -- SBMJOB: a job is made.
-use Rattle.std.specs.Prelude.{ℕ, Bool, false, not, ◌+◌, ◌-◌, min, ◌&&◌, [], ◌∷◌, ◌++◌, List, Option, Some, None, nat_lt, nat_le, if◌then◌else◌, unwrap_or, is_some}
+use Rattle.std.specs.Prelude.{ℕ, Bool, false, ◌+◌, ◌-◌, min, ◌&&◌, [], ◌∷◌, ◌++◌, List, Option, Some, None, Result, Ok, Err, nat_lt, nat_le, if◌then◌else◌, unwrap_or, is_some}
 use Rattle.wm_base.specs.declared.qname.QName.{QName}
 use Rattle.wm_base.specs.declared.job.JobName.{JobName}
 use Rattle.wm_base.specs.declared.job.How.TheVariants.{NotYet}
@@ -17,6 +17,7 @@ use Rattle.wm_law.specs.declared.state.State.{State}
 use Rattle.wm_law.specs.Stepped.{Stepped, refused}
 use Rattle.wm_desc.specs.Table.{object_named}
 use Rattle.wm_law.specs.Power.{is_on}
+use Rattle.wm_law.specs.Schedules.{scheduled}
 
 -- all numbers from 1 to below this are job numbers
 abbrev pub numbers_end : ℕ
@@ -43,20 +44,13 @@ abbrev pub or_described : {V : Type 0} → Option V → Option V → Option V
 or_described None inside = inside
 or_described (Some v) inside = Some v
 
--- why a job can't be submitted with the description
-abbrev pub submit_refusal : State → Sbmjob → Jobd → Option Refusal
-submit_refusal s c d =
-    if not (is_some (object_named (queue_of c d) s.objects.jobqs)) then Some (NoObject kind.Jobq)
-    else if not (has_numbers s) then Some NumbersUsed
-    else None
-
 -- the name of a submitted job
 abbrev pub job_name : State → List ℕ → Sbmjob → JobName
 job_name s user c = record { number = s.next_number; user = user; name = unwrap_or c.job c.jobd.name }
 
--- a submitted job
-abbrev pub submitted_job : State → List ℕ → Sbmjob → Jobd → Job
-submitted_job s user c d =
+-- a submitted job, which is due at a moment
+abbrev pub submitted_job : State → List ℕ → Sbmjob → Jobd → ℕ → Job
+submitted_job s user c d due =
     record {
       serial = s.next_serial;
       job = job_name s user c;
@@ -67,7 +61,7 @@ submitted_job s user c d =
       rtgdta = unwrap_or c.rtgdta d.rtgdta;
       rqsdta = or_described c.rqsdta d.rqsdta;
       held = unwrap_or c.hold d.hold;
-      due = s.clock;
+      due = due;
       phase = Waiting;
       how = NotYet;
       wish = NoWish;
@@ -79,13 +73,25 @@ submitted_job s user c d =
 abbrev pub entered : State → Job → State
 entered s j = record s { jobs = s.jobs ++ j ∷ []; next_number = s.next_number + 1; next_serial = s.next_serial + 1; next_place = s.next_place + 1 }
 
-abbrev pub submit_unless : State → List ℕ → Sbmjob → Jobd → Option Refusal → Stepped
-submit_unless s user c d (Some x) = refused s x
-submit_unless s user c d None = record { reply = Submitted (job_name s user c) (queue_of c d); state = entered s (submitted_job s user c d) }
+abbrev pub submit_numbered : State → List ℕ → Sbmjob → Jobd → ℕ → Stepped
+submit_numbered s user c d due =
+    if has_numbers s
+    then record { reply = Submitted (job_name s user c) (queue_of c d); state = entered s (submitted_job s user c d due) }
+    else refused s NumbersUsed
+
+abbrev pub submit_due : State → List ℕ → Sbmjob → Jobd → Result ℕ Refusal → Stepped
+submit_due s user c d (Err x) = refused s x
+submit_due s user c d (Ok due) = submit_numbered s user c d due
+
+abbrev pub submit_described : State → List ℕ → Sbmjob → Jobd → Stepped
+submit_described s user c d =
+    if is_some (object_named (queue_of c d) s.objects.jobqs)
+    then submit_due s user c d (scheduled s c.scddate c.scdtime)
+    else refused s (NoObject kind.Jobq)
 
 abbrev pub submit_with : State → List ℕ → Sbmjob → Option Jobd → Stepped
 submit_with s user c None = refused s (NoObject kind.Jobd)
-submit_with s user c (Some d) = submit_unless s user c d (submit_refusal s c d)
+submit_with s user c (Some d) = submit_described s user c d
 
 -- a Waiting job with the next number, serial and place
 abbrev pub submit : State → List ℕ → Sbmjob → Stepped

@@ -21,6 +21,13 @@ pub enum Reply {
     Made,
     SbsStarted(QName),
     Submitted(JobName, QName),
+    Held(JobName),
+    Released(JobName),
+    Changed(JobName),
+    QueueHeld,
+    QueueReleased,
+    /// How many jobs it ended.
+    QueueCleared(u32),
     PowerDown,
     Order(Asked),
     Nothing,

@@ -1,7 +1,7 @@
 // The state of the machine.
 use crate::{Job, ListOf};
 use wm_base::{Moment, Name, QName};
-use wm_desc::Objects;
+use wm_desc::{Objects, SortedList};
 
 /// Whether a started subsystem takes jobs, is to end at some moment or by itself, or ends now.
 #[derive(Clone, Copy, Debug, PartialEq, Eq)]
@@ -47,8 +47,8 @@ pub type Jobs = ListOf<Job>;
 /// Started subsystems, in the order of their start.
 pub type SbsList = ListOf<Sbs>;
 
-/// Names of queues.
-pub type QNames = ListOf<QName>;
+/// Names of queues, in their order.
+pub type QNames = SortedList<QName>;
 
 /// Prestart entries that make no jobs.
 pub type Stops = ListOf<Stop>;

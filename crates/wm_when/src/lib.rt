@@ -11,6 +11,7 @@ mod days;
 mod fault;
 mod laws;
 mod moment;
+mod offset;
 mod schedule;
 mod words;
 
@@ -18,4 +19,5 @@ pub use date::{days_in_month, is_date, is_leap_year};
 pub use fault::DueFault;
 pub use laws::days_are_in_months;
 pub use moment::{due, is_offset};
+pub use offset::Offset;
 pub use schedule::{DateSpec, SchedSpec, TimeSpec};
