@@ -1,5 +1,5 @@
 -- What commands on waiting jobs and on held queues do to a state.
-use Rattle.std.proofs.Common.{◌≡◌, ◌⊎◌, ℕ, ◌<◌, ◌+◌, ◌&&◌, ◌==◌, Bool, true, false, cond, List, map, Option, Some, None, is_some, nat_lt, refl, sym, ap, ◌∙◌, inl, inr, arith}
+use Rattle.std.proofs.Common.{◌≡◌, ◌⊎◌, ℕ, ◌<◌, ◌+◌, ◌&&◌, ◌==◌, Bool, true, false, cond, List, map, Option, Some, None, is_some, nat_lt, refl, sym, ap, subst, ◌∙◌, inl, inr, arith}
 use Rattle.std.specs.Prelude.{unwrap_or}
 use Rattle.std.specs.Option.{IsSome, option_or}
 use Rattle.std.proofs.lemmas.Bool.Decides.{nat_tests}
@@ -14,17 +14,20 @@ use Rattle.wm_law.specs.declared.call.Reply.TheVariants.{Changed, Held, No, Noth
 use Rattle.wm_law.specs.declared.command.Chgjob.{Chgjob}
 use Rattle.wm_law.specs.declared.job.Job.{Job}
 use Rattle.wm_law.specs.declared.job.Phase.{Phase}
-use Rattle.wm_law.specs.declared.job.Phase.TheVariants.{Ended}
+use Rattle.wm_law.specs.declared.job.Phase.TheVariants.{Waiting, Starting, Handed, Running, Ended}
 use Rattle.wm_law.specs.declared.state.State.{State}
 use Rattle.wm_law.specs.Changing.{has_queue, moved_to, with_due}
 use Rattle.wm_law.specs.Choice.{is_held}
-use Rattle.wm_law.specs.Counts.{is_waiting}
+use Rattle.wm_law.specs.Counts.{is_active, is_waiting}
 use Rattle.wm_law.specs.History.{order_in}
 use Rattle.wm_law.specs.Holding.{with_held}
 use Rattle.wm_law.specs.Jobs.{waiting_at}
+use Rattle.wm_law.specs.Laws.{IsIn}
+use Rattle.wm_law.specs.Order.{is_launch_phase}
 use Rattle.wm_law.specs.Queues.{cleared_from, is_on_queue, own_name, waits_on}
 use Rattle.wm_law.specs.Reports.{in_phase}
 use Rattle.wm_law.specs.Submitting.{serials_end}
+use Rattle.wm_law.proofs.Members.{of_mapped}
 use Rattle.wm_law.proofs.Tests.{of_both, same_number}
 
 -- a reply that orders nothing, refuses nothing, and says something
@@ -168,3 +171,62 @@ clearing_alters s queue = record {
   each = λ j. cleared_by s queue j (waits_on queue j) refl;
   places = inl (record { same = λ j. place_at (in_phase (Ended Cleared)) j (waits_on queue j) refl; next = refl });
 }
+
+-- a job among the changed ones is as one was, or is an altered one
+pub of_altered : (s : State) (change : Job → Job) (place : ℕ) → IsAlteration s change place → (k : Job) → IsIn k (map change s.jobs) → (j : Job) × IsIn j s.jobs × ((k ≡ j) ⊎ IsAltered s j k)
+of_altered s change place a k i =
+    let o = of_mapped change s.jobs k i in (
+      o.0,
+      o.1,
+      elim (a.each o.0) as (λ _. (k ≡ o.0) ⊎ IsAltered s o.0 k) [ inl same ↦ inl (o.2 ∙ same) | inr b ↦ inr (subst (IsAltered s o.0) (sym o.2) b) ],
+    )
+
+-- what holds of each job, and of each altered one, holds of each of the changed jobs
+pub each_altered : (P : Job → Type 0) (s : State) (change : Job → Job) (place : ℕ) → IsAlteration s change place → ((j : Job) → IsIn j s.jobs → P j) → ((j k : Job) → IsIn j s.jobs → IsAltered s j k → P k) → (k : Job) → IsIn k (map change s.jobs) → P k
+each_altered P s change place a same new k i =
+    let o = of_altered s change place a k i in
+    elim (o.2) as (λ _. P k) [ inl e ↦ subst P (sym e) (same o.0 o.1) | inr b ↦ new o.0 k o.1 b ]
+
+-- no launch leaves a job waiting
+pub launch_waits : (p : Phase) → is_waiting p ≡ true → is_launch_phase p ≡ false
+launch_waits Waiting h = refl
+launch_waits Starting h = absurd (cc)
+launch_waits (Handed m) h = absurd (cc)
+launch_waits (Running m) h = absurd (cc)
+launch_waits (Ended c) h = absurd (cc)
+
+idle_by : (p : Phase) → (is_waiting p ≡ true) ⊎ (p ≡ Ended Cleared) → is_active p ≡ false
+idle_by Waiting (inl w) = refl
+idle_by Starting (inl w) = absurd (cc)
+idle_by (Handed m) (inl w) = absurd (cc)
+idle_by (Running m) (inl w) = absurd (cc)
+idle_by (Ended c) (inl w) = refl
+idle_by p (inr e) = ap is_active e
+
+-- an altered job isn't active
+pub idle : (s : State) (j k : Job) → IsAltered s j k → is_active k.phase ≡ false
+idle s j k a = idle_by k.phase a.phase
+
+-- nor is it Starting
+pub unstarted : (s : State) (j k : Job) → IsAltered s j k → k.phase ≡ Starting → ⊥
+unstarted s j k a e =
+    let no = idle s j k a in
+    let yes : is_active k.phase ≡ true = ap is_active e in
+    absurd (cc)
+
+-- and no launch leaves a job so
+pub unlaunched : (s : State) (j k : Job) → IsAltered s j k → is_launch_phase k.phase ≡ false
+unlaunched s j k a = elim (a.phase) as (λ _. is_launch_phase k.phase ≡ false) [ inl w ↦ launch_waits k.phase w | inr e ↦ ap is_launch_phase e ]
+
+-- a changed job has its serial and its name, and waits only where it waited
+pub same_serial : (s : State) (j k : Job) → (k ≡ j) ⊎ IsAltered s j k → k.serial ≡ j.serial
+same_serial s j k (inl e) = ap (λ (x : Job). x.serial) e
+same_serial s j k (inr a) = a.serial
+
+pub same_job : (s : State) (j k : Job) → (k ≡ j) ⊎ IsAltered s j k → k.job ≡ j.job
+same_job s j k (inl e) = ap (λ (x : Job). x.job) e
+same_job s j k (inr a) = a.job
+
+pub waited : (s : State) (j k : Job) → (k ≡ j) ⊎ IsAltered s j k → is_waiting k.phase ≡ true → is_waiting j.phase ≡ true
+waited s j k (inl e) w = ap (λ (x : Job). is_waiting x.phase) (sym e) ∙ w
+waited s j k (inr a) w = a.waits

@@ -25,7 +25,9 @@ answers s call = record {
   hands = λ m j o i k f b n e. absurd (cc);
   reports = λ serial j phase i k r l b n e. absurd (cc);
   starts = λ q k b n e. absurd (cc);
-  enters = λ user c d has b n e. absurd (cc);
+  enters = λ user c d due has b n e. absurd (cc);
+  alters = λ reply change place p a b n e. p.says e;
+  holds = λ reply held p a b n e. p.says e;
   powers = λ b n e. absurd (cc);
   makes = λ o c b n e. absurd (cc);
 }

@@ -22,7 +22,7 @@ use Rattle.wm_law.specs.Settling.{leave, settle, waiting}
 use Rattle.wm_law.specs.Sound.{HasQueues}
 use Rattle.wm_law.proofs.Firsts.{ready_waits}
 use Rattle.wm_law.proofs.Forward.{only_one}
-use Rattle.wm_law.proofs.Limits.{entered_starts_none, moved_starts_none}
+use Rattle.wm_law.proofs.Limits.{altered_starts_none, entered_starts_none, moved_starts_none}
 use Rattle.wm_law.proofs.Members.{of_last, of_mapped}
 use Rattle.wm_law.proofs.Moves.{HoldsOfStates}
 use Rattle.wm_law.proofs.Nexts.{IsNext, is_next}
@@ -53,7 +53,9 @@ calls_route_autos s = record {
   stays = λ j i p v. inl (j, i, refl, p);
   starts = λ q e j i p v. inl (j, i, refl, p);
   autos = λ q t e d m h. autos_routed s t q e d h;
-  enters = λ user c d has j i p v. inl (entered_starts_none s user c d j i p);
+  enters = λ user c d due has j i p v. inl (entered_starts_none s user c d due j i p);
+  alters = λ change place a j i p v. inl (altered_starts_none s change place a j i p);
+  holds = λ held a j i p v. inl (j, i, refl, p);
   moves = λ serial j phase i e r n k m p v. inl (moved_starts_none s serial phase n k m p);
   powers = λ j i p v. inl (j, i, refl, p);
   makes = λ o c j i p v. inl (j, i, refl, p);

@@ -1,5 +1,5 @@
 -- No step loses a job or takes its phase back.
-use Rattle.std.proofs.Common.{◌≡◌, ℕ, ◌≤◌, ◌==◌, Bool, true, false, cond, List, [], ◌∷◌, map, Option, Some, None, refl, sym, ap, subst, ◌∙◌, inl, inr, arith}
+use Rattle.std.proofs.Common.{◌≡◌, ◌⊎◌, ℕ, ◌≤◌, ◌==◌, Bool, true, false, cond, List, [], ◌∷◌, map, Option, Some, None, refl, sym, ap, subst, ◌∙◌, inl, inr, arith}
 use Rattle.std.specs.List.{find}
 use Rattle.wm_base.specs.Iterate.{IsKept}
 use Rattle.wm_base.proofs.Iterate.{iterate-keeps}
@@ -20,6 +20,7 @@ use Rattle.wm_law.specs.Submitting.{submitted_job}
 use Rattle.wm_law.specs.Reports.{in_phase, with_phase}
 use Rattle.wm_law.specs.Settling.{settle, leave, waiting}
 use Rattle.wm_law.specs.Machine.{apply, step, with_clock}
+use Rattle.wm_law.proofs.Alterations.{IsAltered}
 use Rattle.wm_law.proofs.Members.{in_longer, in_mapped}
 use Rattle.wm_law.proofs.Moves.{HoldsOfStates, call_keeps}
 use Rattle.wm_law.proofs.Numbers.{launches_keep, apply_keeps, clock_keeps, only_started}
@@ -92,13 +93,19 @@ launches_go_on s = record {
 pub settle_goes_on : (s : State) → IsNumbered s → GoesOn s (settle s)
 settle_goes_on s h = (iterate-keeps (IsOn s) (launches_go_on s) (waiting (leave s)) (leave s) (record { numbered = only_started s h; on = λ j i. (j, i, no_less j) })).on
 
+later_altered : (s : State) (j k : Job) → (k ≡ j) ⊎ IsAltered s j k → IsLater j k
+later_altered s j k (inl e) = subst (IsLater j) (sym e) (no_less j)
+later_altered s j k (inr a) = record { serial = a.serial; job = a.job; phase = waiting_least j.phase (phase_rank k.phase) a.waits }
+
 -- no call loses a job or takes its phase back
 calls : (s : State) → IsNumbered s → HoldsOfStates (GoesOn s) s
 calls s n = record {
   stays = stays s;
   starts = λ q e j i. (j, i, no_less j);
   autos = λ q t e d m h. goes_on_still s t (auto_made t q e d) h (λ j i. (j, in_longer t.jobs (auto_launched t q (auto_job t e d)) j i, no_less j));
-  enters = λ user c d has j i. (j, in_longer s.jobs (submitted_job s user c d) j i, no_less j);
+  enters = λ user c d due has j i. (j, in_longer s.jobs (submitted_job s user c d due) j i, no_less j);
+  alters = λ change place a j i. (change j, in_mapped change s.jobs j i, later_altered s j (change j) (a.each j));
+  holds = λ held a j i. (j, i, no_less j);
   moves = λ serial j phase i e r k. phase_goes_on s serial phase j n i e r.on;
   powers = λ j i. (j, i, no_less j);
   makes = λ o c j i. (j, i, no_less j);

@@ -43,6 +43,7 @@ use Rattle.wm_law.specs.Reports.{in_phase, phased_at, with_phase}
 use Rattle.wm_law.specs.Settling.{leave, settle, start_jobs, waiting}
 use Rattle.wm_law.specs.Submitting.{entered, submitted_job}
 use Rattle.wm_law.specs.Subsystems.{begun}
+use Rattle.wm_law.proofs.Alterations.{IsAlteration, altered, each_altered, unstarted}
 use Rattle.wm_law.proofs.Counted.{count_last, no_more, one, one_more, one_most}
 use Rattle.wm_law.proofs.Members.{of_last, of_mapped}
 use Rattle.wm_law.proofs.Moves.{HoldsOfStates, call_keeps}
@@ -150,12 +151,16 @@ module _ (s : State) (o : Objects) (test : How → Bool) (aside : JobKind → Bo
 abbrev pub StartsNone : State → State → Type 0
 StartsNone s t = (j : Job) → IsIn j t.jobs → j.phase ≡ Starting → IsStarting s j.serial
 
-pub entered_starts_none : (s : State) (user : List ℕ) (c : Sbmjob) (d : Jobd) → StartsNone s (entered s (submitted_job s user c d))
-entered_starts_none s user c d k i p =
-    elim (of_last s.jobs (submitted_job s user c d) k i) as (λ _. IsStarting s k.serial) [
+pub entered_starts_none : (s : State) (user : List ℕ) (c : Sbmjob) (d : Jobd) (due : ℕ) → StartsNone s (entered s (submitted_job s user c d due))
+entered_starts_none s user c d due k i p =
+    elim (of_last s.jobs (submitted_job s user c d due) k i) as (λ _. IsStarting s k.serial) [
       | inl m ↦ (k, m, refl, p)
       | inr same ↦ (let waiting : Waiting ≡ Starting = ap (λ (j : Job). j.phase) (sym same) ∙ p in absurd (cc))
     ]
+
+pub altered_starts_none : (s : State) (change : Job → Job) (place : ℕ) → IsAlteration s change place → StartsNone s (altered s change place)
+altered_starts_none s change place a =
+    each_altered (λ (k : Job). k.phase ≡ Starting → IsStarting s k.serial) s change place a (λ j i p. (j, i, refl, p)) (λ j k i b p. absurd (unstarted s j k b p))
 
 moved_at : (s : State) (phase : Phase) (t : Bool) (j k : Job) → is_starting phase ≡ false → IsIn j s.jobs → k ≡ cond t (in_phase phase j) j → k.phase ≡ Starting → IsStarting s k.serial
 moved_at s phase true j k n i e p =
@@ -193,7 +198,9 @@ calls_start_autos s = record {
   stays = λ j i p. inl (j, i, refl, p);
   starts = λ q e j i p. inl (j, i, refl, p);
   autos = λ q t e d m h. autos_start s t q e d h;
-  enters = λ user c d has j i p. inl (entered_starts_none s user c d j i p);
+  enters = λ user c d due has j i p. inl (entered_starts_none s user c d due j i p);
+  alters = λ change place a j i p. inl (altered_starts_none s change place a j i p);
+  holds = λ held a j i p. inl (j, i, refl, p);
   moves = λ serial j phase i e r n k m p. inl (moved_starts_none s serial phase n k m p);
   powers = λ j i p. inl (j, i, refl, p);
   makes = λ o c j i p. inl (j, i, refl, p);
@@ -257,7 +264,9 @@ calls_within_routes s = record {
   stays = route_within_yet s s (λ j i p. (j, i, refl, p));
   starts = λ q e. route_within_yet s (begun s q) (λ j i p. (j, i, refl, p));
   autos = λ q t e d m h. auto_within s t q e d h;
-  enters = λ user c d has. route_within_yet s (entered s (submitted_job s user c d)) (entered_starts_none s user c d);
+  enters = λ user c d due has. route_within_yet s (entered s (submitted_job s user c d due)) (entered_starts_none s user c d due);
+  alters = λ change place a. route_within_yet s (altered s change place) (altered_starts_none s change place a);
+  holds = λ held a. route_within_yet s (record s { held = held }) (λ j i p. (j, i, refl, p));
   moves = λ serial j phase i e r n. route_within_yet s (with_phase s serial phase) (moved_starts_none s serial phase n);
   powers = route_within_yet s (record s { started = map end_now s.started; power = DownNow }) (λ j i p. (j, i, refl, p));
   makes = λ o c. route_within_yet s (record s { objects = o }) (λ j i p. (j, i, refl, p));

@@ -1,7 +1,9 @@
 -- Each step keeps serials and numbers given once, and the places of Waiting jobs distinct.
-use Rattle.std.proofs.Common.{◌≡◌, ℕ, ℤ, ◌+◌, ◌<◌, ◌==◌, ◌++◌, true, false, List, [], ◌∷◌, map, Option, Some, None, refl, sym, ap, subst, inl, inr, nat_lt, nat_le, arith}
+use Rattle.std.proofs.Common.{◌≡◌, ◌⊎◌, ℕ, ℤ, ◌+◌, ◌<◌, ◌==◌, ◌++◌, Bool, true, false, List, [], ◌∷◌, map, Option, Some, None, refl, sym, ap, subst, inl, inr, nat_lt, nat_le, arith}
 use Rattle.std.specs.List.{find}
+use Rattle.std.proofs.lemmas.Bool.{eq-eqb}
 use Rattle.std.proofs.lemmas.Bool.Decides.{nat_tests}
+use Rattle.wm_base.specs.declared.job.JobName.{JobName}
 use Rattle.wm_base.specs.declared.qname.QName.{QName}
 use Rattle.wm_base.specs.Iterate.{IsKept}
 use Rattle.wm_law.specs.declared.call.Call.{Call}
@@ -26,11 +28,13 @@ use Rattle.wm_law.specs.Reports.{in_phase, with_phase}
 use Rattle.wm_law.specs.Settling.{leave}
 use Rattle.wm_law.specs.Machine.{apply, with_clock}
 use Rattle.wm_law.proofs.Opened.{opened, opening_is}
+use Rattle.wm_law.proofs.Alterations.{IsAlteration, IsAltered, PlaceIsTaken, PlacesStay, altered, same_job, same_serial, waited}
 use Rattle.wm_law.proofs.Changed.{keys_kept}
+use Rattle.wm_law.proofs.Members.{map_same}
 use Rattle.wm_law.proofs.Moves.{HoldsOfStates, IsKeptByParts, IsMakeable, call_keeps, never_waits, step_keeps, after_keeps}
 use Rattle.wm_law.proofs.Settling.{launch_never_waits, not_waiting}
-use Rattle.wm_law.proofs.Tests.{of_four}
-use Rattle.wm_law.proofs.Waits.{still_distinct, waiting_below, waiting_more, waiting_same}
+use Rattle.wm_law.proofs.Tests.{of_four, same_number}
+use Rattle.wm_law.proofs.Waits.{fewer_distinct, still_distinct, taken_below, taken_distinct, waiting_below, waiting_more, waiting_same}
 
 -- the same serials, numbers and places, no job that comes to wait, and the same next ones
 pub record SameNumbers (s t : State) : Type 0 where
@@ -123,9 +127,9 @@ given_entered key jobs j n e h = subst (λ (l : List ℕ). IsGiven l (n + 1)) (s
 below_of : (a b : ℕ) → nat_lt a b ≡ true → a < b
 below_of a b h = grind (arith, nat_tests)
 
-entered_keeps : (s : State) (user : List ℕ) (c : Sbmjob) (d : Jobd) → has_numbers s ≡ true → IsNumbered s → IsNumbered (entered s (submitted_job s user c d))
-entered_keeps s user c d has h =
-    let j = submitted_job s user c d in
+entered_keeps : (s : State) (user : List ℕ) (c : Sbmjob) (d : Jobd) (due : ℕ) → has_numbers s ≡ true → IsNumbered s → IsNumbered (entered s (submitted_job s user c d due))
+entered_keeps s user c d due has h =
+    let j = submitted_job s user c d due in
     let tests = of_four (nat_le 1 s.next_number) (nat_lt s.next_number numbers_end) (nat_lt s.next_serial serials_end) (nat_lt s.next_place serials_end) has in
     let a : s.next_number < numbers_end = below_of s.next_number numbers_end tests.1 in
     let b : s.next_serial < serials_end = below_of s.next_serial serials_end tests.2 in
@@ -162,12 +166,53 @@ auto_keeps q s e d m h =
       next_place = h.next_place;
     }
 
+-- changed jobs have their serials
+pub serials_stay : (s : State) (change : Job → Job) (place : ℕ) → IsAlteration s change place → map (λ j. j.serial) (map change s.jobs) ≡ map (λ j. j.serial) s.jobs
+serials_stay s change place a = map_same (λ (j : Job). j.serial) change (λ j. same_serial s j (change j) (a.each j)) s.jobs
+
+numbers_stay : (s : State) (change : Job → Job) (place : ℕ) → IsAlteration s change place → map (λ j. j.job.number) (map change s.jobs) ≡ map (λ j. j.job.number) s.jobs
+numbers_stay s change place a = map_same (λ (j : Job). j.job.number) change (λ j. ap (λ (n : JobName). n.number) (same_job s j (change j) (a.each j))) s.jobs
+
+-- a job stays as it is, or it has the serial and takes the next place
+moved_by : (s : State) (change : Job → Job) (place : ℕ) (p : PlaceIsTaken s change place) (j : Job) (b : Bool) → (j.serial == p.serial) ≡ b → (change j ≡ j) ⊎ IsAltered s j (change j) → (change j ≡ j) ⊎ ((j.serial ≡ p.serial) × ((change j).place ≡ s.next_place))
+moved_by s change place p j b e (inl same) = inl same
+moved_by s change place p j true e (inr a) = let its = same_number j.serial p.serial e in inr (its, p.taken j a.waits its)
+moved_by s change place p j false e (inr a) = inl (p.other j (λ f. (let yes = eq-eqb j.serial p.serial f in absurd (cc))))
+
+altered_keeps : (s : State) (change : Job → Job) (place : ℕ) → IsAlteration s change place → IsNumbered s → PlacesStay s change place ⊎ PlaceIsTaken s change place → IsNumbered (altered s change place)
+altered_keeps s change place a h (inl p) =
+    numbered_same s (altered s change place)
+    (record {
+      serials = serials_stay s change place a;
+      numbers = numbers_stay s change place a;
+      waiting = fewer_distinct change p.same (λ j. waited s j (change j) (a.each j)) s.jobs;
+      places = map_same (λ (j : Job). j.place) change p.same s.jobs;
+      next_number = refl;
+      next_serial = refl;
+      next_place = p.next;
+    })
+    h
+altered_keeps s change place a h (inr p) =
+    let moves = λ (j : Job). moved_by s change place p j (j.serial == p.serial) refl (a.each j) in
+    let left : s.next_place < serials_end = p.left in
+    record {
+      serials = given_same (map (λ (j : Job). j.serial) s.jobs) (map (λ (j : Job). j.serial) (map change s.jobs)) s.next_serial s.next_serial (serials_stay s change place a) refl h.serials;
+      numbers = given_same (map (λ (j : Job). j.job.number) s.jobs) (map (λ (j : Job). j.job.number) (map change s.jobs)) s.next_number s.next_number (numbers_stay s change place a) refl h.numbers;
+      waiting = taken_distinct change p.serial s.next_place p.other moves s.jobs h.serials.distinct h.places h.waiting;
+      places = subst (λ (n : ℕ). IsBelow n (map (λ (j : Job). j.place) (map change s.jobs))) (sym p.next) (taken_below change p.serial s.next_place p.other moves s.jobs h.places);
+      next_number = h.next_number;
+      next_serial = h.next_serial;
+      next_place = subst (IsBetween 1 serials_end) (sym p.next) (record { least = omega arith; most = omega arith });
+    }
+
 pub calls : (s : State) → IsNumbered s → HoldsOfStates IsNumbered s
 calls s h = record {
   stays = h;
   starts = λ q e. numbered_same s _ (record { serials = refl; numbers = refl; waiting = λ d. d; places = refl; next_number = refl; next_serial = refl; next_place = refl }) h;
   autos = auto_keeps;
-  enters = λ user c d a. entered_keeps s user c d a.numbers h;
+  enters = λ user c d due a. entered_keeps s user c d due a.numbers h;
+  alters = λ change place a. altered_keeps s change place a h a.places;
+  holds = λ held a. numbered_same s _ (record { serials = refl; numbers = refl; waiting = λ d. d; places = refl; next_number = refl; next_serial = refl; next_place = refl }) h;
   moves = λ serial j phase i e r n. numbered_same s _ (phase_same s serial phase (never_waits j.phase phase r)) h;
   powers = numbered_same s _ (record { serials = refl; numbers = refl; waiting = λ d. d; places = refl; next_number = refl; next_serial = refl; next_place = refl }) h;
   makes = λ o e. numbered_same s _ (record { serials = refl; numbers = refl; waiting = λ d. d; places = refl; next_number = refl; next_serial = refl; next_place = refl }) h;

@@ -41,6 +41,7 @@ use Rattle.wm_law.specs.Machine.{apply, step, with_clock}
 use Rattle.wm_desc.specs.Table.{object_named, same_qname}
 use Rattle.wm_desc.specs.Opening.{qbatch}
 use Rattle.wm_law.specs.History.{after, stepped}
+use Rattle.wm_law.proofs.Alterations.{IsAlteration, each_altered, unstarted}
 use Rattle.wm_law.proofs.Opened.{batch_sbsd, opening_objects, opened, opening_is}
 use Rattle.wm_law.proofs.Firsts.{next_is_first}
 use Rattle.wm_law.proofs.Lodged.{lodged_longer, lodged_ending, lodged_left}
@@ -133,8 +134,11 @@ last_of Q jobs j new h k i e =
       | inr same ↦ subst Q (sym same) (new (ap (λ (x : Job). x.phase) (sym same) ∙ e))
     ]
 
-entered : (Q : Job → Type 0) (s : State) (user : List ℕ) (c : Sbmjob) (d : Jobd) → OfStarting Q s.jobs → OfStarting Q (s.jobs ++ submitted_job s user c d ∷ [])
-entered Q s user c d h = last_of Q s.jobs (submitted_job s user c d) (λ e. absurd (cc)) h
+entered : (Q : Job → Type 0) (s : State) (user : List ℕ) (c : Sbmjob) (d : Jobd) (due : ℕ) → OfStarting Q s.jobs → OfStarting Q (s.jobs ++ submitted_job s user c d due ∷ [])
+entered Q s user c d due h = last_of Q s.jobs (submitted_job s user c d due) (λ e. absurd (cc)) h
+
+altered_of : (Q : Job → Type 0) (s : State) (change : Job → Job) (place : ℕ) → IsAlteration s change place → OfStarting Q s.jobs → OfStarting Q (map change s.jobs)
+altered_of Q s change place a h = each_altered (λ (k : Job). k.phase ≡ Starting → Q k) s change place a h (λ j k i b p. absurd (unstarted s j k b p))
 
 changed_one : (Q : Job → Type 0) (change : Job → Job) (t : Bool) (j : Job) → (t ≡ true → (change j).phase ≡ Starting → Q (change j)) → (j.phase ≡ Starting → Q j) → (cond t (change j) j).phase ≡ Starting → Q (cond t (change j) j)
 changed_one Q change true j new h e = new refl e
@@ -226,7 +230,9 @@ calls s h = record {
   stays = h;
   starts = λ q e. alike s _ refl refl (λ j i p. lodged_longer s.started _ j (h.lodged j i p)) h;
   autos = auto_ordered;
-  enters = λ user c d has. (let t = routed s h _ (entered (λ j. IsSome (order_of s j)) s user c d h.starting) (entered (IsLodged s.started) s user c d h.lodged) in alike (record s { jobs = s.jobs ++ submitted_job s user c d ∷ [] }) _ refl refl t.lodged t);
+  enters = λ user c d due has. (let t = routed s h _ (entered (λ j. IsSome (order_of s j)) s user c d due h.starting) (entered (IsLodged s.started) s user c d due h.lodged) in alike (record s { jobs = s.jobs ++ submitted_job s user c d due ∷ [] }) _ refl refl t.lodged t);
+  alters = λ change place a. (let t = routed s h _ (altered_of (λ j. IsSome (order_of s j)) s change place a h.starting) (altered_of (IsLodged s.started) s change place a h.lodged) in alike (record s { jobs = map change s.jobs }) _ refl refl t.lodged t);
+  holds = λ held a. alike s _ refl refl h.lodged h;
   moves = λ serial j phase i same r e. routed s h _ (moved (λ j. IsSome (order_of s j)) s.jobs serial phase e h.starting) (moved (IsLodged s.started) s.jobs serial phase e h.lodged);
   powers = alike s _ refl refl (λ j i p. lodged_ending s.started j (h.lodged j i p)) h;
   makes = λ o e. record {

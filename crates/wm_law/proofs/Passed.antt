@@ -30,6 +30,7 @@ use Rattle.wm_law.specs.Laws.{IsIn, MayStart, Turn}
 use Rattle.wm_law.specs.Order.{IsFullFor, PassesNone, counted_for, is_before, is_counted_for, is_launch_phase, is_past_waiting, is_submitted, stands_before, turn_of, was_launched}
 use Rattle.wm_law.specs.Reports.{in_phase, phased_at, with_phase}
 use Rattle.wm_law.specs.Submitting.{entered, submitted_job}
+use Rattle.wm_law.proofs.Alterations.{IsAlteration, altered, each_altered, launch_waits, unlaunched}
 use Rattle.wm_law.proofs.Counted.{no_fewer}
 use Rattle.wm_law.proofs.Firsts.{ready_waits}
 use Rattle.wm_law.proofs.Forward.{only_one}
@@ -231,13 +232,6 @@ any_in p (y ∷ ys) x (inr i) e = or_true (p y) (list_any p ys) (any_in p ys x i
 past : (s : State) (i : Job) → IsIn i s.jobs → is_waiting i.phase ≡ false → is_past_waiting s.jobs i.serial ≡ true
 past s i m w = any_in (λ (k : Job). k.serial == i.serial && not (is_waiting k.phase)) s.jobs i m (ap (λ (b : Bool). b && not (is_waiting i.phase)) (eq-eqb i.serial i.serial refl) ∙ ap not w)
 
-launch_past : (p : Phase) → is_waiting p ≡ true → is_launch_phase p ≡ false
-launch_past Waiting h = refl
-launch_past Starting h = absurd (cc)
-launch_past (Handed m) h = absurd (cc)
-launch_past (Running m) h = absurd (cc)
-launch_past (Ended c) h = absurd (cc)
-
 and_false : (b : Bool) → (b && false) ≡ false
 and_false true = refl
 and_false false = refl
@@ -251,18 +245,24 @@ not_launched : (s : State) (j k : Job) → IsIn j s.jobs → is_waiting j.phase 
 not_launched s j k m w e = ap (λ (b : Bool). b && is_submitted k.kind) (never (is_launch_phase k.phase) (is_past_waiting s.jobs k.serial) (subst (λ (n : ℕ). is_past_waiting s.jobs n ≡ true) e (past s j m w)))
 
 none_by : (s : State) (i : Job) (b : Bool) → is_waiting i.phase ≡ b → IsIn i s.jobs → was_launched s i ≡ false
-none_by s i true e m = ap (λ (b : Bool). b && not (is_past_waiting s.jobs i.serial) && is_submitted i.kind) (launch_past i.phase e)
+none_by s i true e m = ap (λ (b : Bool). b && not (is_past_waiting s.jobs i.serial) && is_submitted i.kind) (launch_waits i.phase e)
 none_by s i false e m = not_launched s i i m e refl
 
 none_yet : (s : State) → LaunchesNone s s
 none_yet s i m = none_by s i (is_waiting i.phase) refl m
 
-entered_none : (s : State) (user : List ℕ) (c : Sbmjob) (d : Jobd) → LaunchesNone s (entered s (submitted_job s user c d))
-entered_none s user c d i m =
-    elim (of_last s.jobs (submitted_job s user c d) i m) as (λ _. was_launched s i ≡ false) [
+entered_none : (s : State) (user : List ℕ) (c : Sbmjob) (d : Jobd) (due : ℕ) → LaunchesNone s (entered s (submitted_job s user c d due))
+entered_none s user c d due i m =
+    elim (of_last s.jobs (submitted_job s user c d due) i m) as (λ _. was_launched s i ≡ false) [
       | inl n ↦ none_yet s i n
       | inr same ↦ ap (was_launched s) same
     ]
+
+-- nor was an altered job
+altered_none : (s : State) (change : Job → Job) (place : ℕ) → IsAlteration s change place → LaunchesNone s (altered s change place)
+altered_none s change place a =
+    each_altered (λ (k : Job). was_launched s k ≡ false) s change place a (none_yet s)
+    (λ j k i b. ap (λ (t : Bool). t && not (is_past_waiting s.jobs k.serial) && is_submitted k.kind) (unlaunched s j k b))
 
 -- nor was an autostart job
 auto_none : (s t : State) (q : QName) (e : AutoEntry) (d : Jobd) → LaunchesNone s t → LaunchesNone s (auto_made t q e d)
@@ -288,7 +288,9 @@ calls_launch_none s = record {
   stays = λ i m. none_yet s i m;
   starts = λ q e i m. none_yet s i m;
   autos = λ q t e d m h. auto_none s t q e d h;
-  enters = λ user c d has. entered_none s user c d;
+  enters = λ user c d due has. entered_none s user c d due;
+  alters = altered_none s;
+  holds = λ held a i m. none_yet s i m;
   moves = λ serial j phase i e r n. moved_none s serial j phase i e r.past;
   powers = λ i m. none_yet s i m;
   makes = λ o c i m. none_yet s i m;

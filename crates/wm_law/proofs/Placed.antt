@@ -37,6 +37,7 @@ use Rattle.wm_law.specs.Reports.{in_phase, phased_at, with_phase}
 use Rattle.wm_law.specs.Settling.{is_ending, is_gone, leave, waiting}
 use Rattle.wm_law.specs.Sound.{CameFromQueue, HasPlaces, HasQueues, IsPlaced}
 use Rattle.wm_law.specs.Submitting.{submitted_job}
+use Rattle.wm_law.proofs.Alterations.{IsAlteration, altered, each_altered, idle}
 use Rattle.wm_law.proofs.Firsts.{holder_started, ready_waits}
 use Rattle.wm_law.proofs.Forward.{only_one}
 use Rattle.wm_law.proofs.Lodged.{counted, not_gone, not_zero}
@@ -161,6 +162,11 @@ last_placed s j new h k i a =
       | inr same ↦ subst (IsPlacedIn s) (sym same) (new (ap (λ (y : Job). is_active y.phase) (sym same) ∙ a))
     ]
 
+-- no altered job is active
+altered_placed : (s : State) (change : Job → Job) (place : ℕ) → IsAlteration s change place → HasPlaces s → HasPlaces (altered s change place)
+altered_placed s change place a h =
+    each_altered (λ (k : Job). is_active k.phase ≡ true → IsPlacedIn s k) s change place a h (λ j k i b active. (let no = idle s j k b in absurd (cc)))
+
 -- an autostart job came with the subsystem in which it is made
 auto_placed : (q : QName) (t : State) (e : AutoEntry) (d : Jobd) → IsMakeable q t → HasPlaces t → HasPlaces (auto_made t q e d)
 auto_placed q t e d m h =
@@ -231,7 +237,9 @@ calls_place s n h = record {
   stays = h;
   starts = λ q e j i a. placed_still s.started s.objects _ _ j.kind j.jobq j.pty j.how (longer s (record { sbsd = q; phase = Active }) j) (h j i a);
   autos = auto_placed;
-  enters = λ user c d has. last_placed s (submitted_job s user c d) (λ a. absurd (cc)) h;
+  enters = λ user c d due has. last_placed s (submitted_job s user c d due) (λ a. absurd (cc)) h;
+  alters = λ change place a. altered_placed s change place a h;
+  holds = λ held a. h;
   moves = λ serial j phase i e r k. moved_placed s serial j phase n h i e r;
   powers = λ j i a. placed_still s.started s.objects _ _ j.kind j.jobq j.pty j.how (ending s j) (h j i a);
   makes = λ o c j i a. placed_still s.started s.objects _ _ j.kind j.jobq j.pty j.how (remade s o j c) (h j i a);

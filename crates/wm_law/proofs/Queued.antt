@@ -1,17 +1,22 @@
 -- Only submitted jobs wait, and the queues of jobs and the held ones stay objects.
-use Rattle.std.proofs.Common.{◌≡◌, ℕ, ℤ, ◌++◌, ◌==◌, Bool, true, false, cond, List, [], ◌∷◌, map, Option, Some, None, refl, sym, subst, ◌∙◌, inl, inr}
+use Rattle.std.proofs.Common.{◌≡◌, ℕ, ℤ, ◌++◌, ◌==◌, not, Bool, true, false, cond, List, [], ◌∷◌, map, Option, Some, None, refl, sym, subst, ◌∙◌, inl, inr, arith}
 use Rattle.std.specs.List.{find}
 use Rattle.std.specs.Option.{IsSome}
+use Rattle.std.specs.declared.cmp.Ordering.TheVariants.{Less}
+use Rattle.std.proofs.lemmas.List.Kept.{AllPairs-filter}
 use Rattle.wm_base.specs.declared.qname.QName.{QName}
 use Rattle.wm_base.specs.Iterate.{IsKept}
 use Rattle.wm_desc.specs.declared.description.Jobd.{Jobd}
 use Rattle.wm_desc.specs.declared.entry.AutoEntry.{AutoEntry}
 use Rattle.wm_desc.specs.declared.objects.Objects.{Objects}
-use Rattle.wm_desc.specs.Table.{object_named}
+use Rattle.wm_desc.proofs.Tables.{qname_ties, qname_total}
+use Rattle.wm_desc.specs.Sorted.{place_of}
+use Rattle.wm_desc.specs.Table.{object_named, qname_cmp, same_qname}
 use Rattle.wm_law.specs.declared.call.Call.{Call}
 use Rattle.wm_law.specs.declared.choice.Candidate.{Candidate}
 use Rattle.wm_law.specs.declared.command.Sbmjob.{Sbmjob}
 use Rattle.wm_law.specs.declared.job.Job.{Job}
+use Rattle.wm_law.specs.declared.job.JobKind.TheVariants.{Bch, Asj}
 use Rattle.wm_law.specs.declared.job.Phase.{Phase}
 use Rattle.wm_law.specs.declared.state.State.{State}
 use Rattle.wm_law.specs.Autos.{auto_job, auto_launched}
@@ -22,10 +27,13 @@ use Rattle.wm_law.specs.Launch.{as_auto, as_launched, launch, launch_job, launch
 use Rattle.wm_law.specs.Laws.{IsIn}
 use Rattle.wm_law.specs.Machine.{step}
 use Rattle.wm_law.specs.Opening.{opening}
+use Rattle.wm_law.specs.Queues.{own_name}
 use Rattle.wm_law.specs.Reports.{in_phase}
 use Rattle.wm_law.specs.Sound.{AreQueues, HasAutoValues, HasQueues, IsQueued}
 use Rattle.wm_law.specs.Submitting.{queue_of, submitted_job}
-use Rattle.wm_law.proofs.Members.{of_last, of_mapped}
+use Rattle.wm_law.proofs.Alterations.{IsAlteration, IsAltered, IsHolding, each_altered}
+use Rattle.wm_law.proofs.InOrder.{in_inserted, sorted_added}
+use Rattle.wm_law.proofs.Members.{left_in, of_last, of_mapped}
 use Rattle.wm_law.proofs.Moves.{HoldsOfStates, IsAcceptable, IsKeptByParts, never_waits, step_keeps}
 use Rattle.wm_law.proofs.Nexts.{some_is}
 use Rattle.wm_law.proofs.Opened.{opened, opening_is}
@@ -59,13 +67,25 @@ all_changed o jobs serial change k h i m =
     let f = of_mapped (changed_at serial change) jobs i m in
     subst (IsQueued o) (sym f.2) (queued_at o change (f.0.serial == serial) f.0 k (h f.0 f.1))
 
-submitted_queued : (s : State) (user : List ℕ) (c : Sbmjob) (d : Jobd) → IsAcceptable s c d → IsQueued s.objects (submitted_job s user c d)
-submitted_queued s user c d a = record {
+submitted_queued : (s : State) (user : List ℕ) (c : Sbmjob) (d : Jobd) (due : ℕ) → IsAcceptable s c d due → IsQueued s.objects (submitted_job s user c d due)
+submitted_queued s user c d due a = record {
   waits = λ w. refl;
   has_queue = λ b. refl;
   is_object = λ q e. subst (λ (n : QName). IsSome (object_named n s.objects.jobqs)) (some_is (queue_of c d) q e) a.queue;
   auto = λ k. absurd (cc);
 }
+
+-- an altered job was submitted, and its queue is an object
+altered_queued : (s : State) (j k : Job) → IsAltered s j k → IsQueued s.objects j → IsQueued s.objects k
+altered_queued s j k a h = record {
+  waits = λ w. a.kind ∙ h.waits a.waits;
+  has_queue = λ b. a.queue (h.has_queue (sym a.kind ∙ b));
+  is_object = λ q e. (elim (a.is_object q e) as (λ _. IsSome (object_named q s.objects.jobqs)) [ inl was ↦ h.is_object q was | inr there ↦ there ]);
+  auto = λ b. (let kinds : Bch ≡ Asj = sym (h.waits a.waits) ∙ sym a.kind ∙ b in absurd (cc));
+}
+
+all_altered : (s : State) (change : Job → Job) (place : ℕ) → IsAlteration s change place → HasQueues s → AllQueued s.objects (map change s.jobs)
+all_altered s change place a h = each_altered (IsQueued s.objects) s change place a h (λ j k i b. altered_queued s j k b (h j i))
 
 -- an autostart job doesn't wait, and has no queue
 auto_queued : (q : QName) (s : State) (e : AutoEntry) (d : Jobd) → IsQueued s.objects (auto_launched s q (auto_job s e d))
@@ -95,7 +115,9 @@ queued_calls s h = record {
   stays = h;
   starts = λ q e. h;
   autos = λ q t e d m k. last_queued t.objects t.jobs (auto_launched t q (auto_job t e d)) (auto_queued q t e d) k;
-  enters = λ user c d a. last_queued s.objects s.jobs (submitted_job s user c d) (submitted_queued s user c d a) h;
+  enters = λ user c d due a. last_queued s.objects s.jobs (submitted_job s user c d due) (submitted_queued s user c d due a) h;
+  alters = λ change place a. all_altered s change place a h;
+  holds = λ held a. h;
   moves = λ serial j phase i e r n. moved_queued s serial phase (never_waits j.phase phase r) h;
   powers = h;
   makes = λ o c j i. queued_still s.objects o j c.jobqs (h j i);
@@ -124,15 +146,35 @@ launched_held : (s : State) (c : Candidate) (o : Option Job) → HoldsQueues s �
 launched_held s c None h = h
 launched_held s c (Some j) h = h
 
+-- one more held queue goes to its place, or one goes
+still_queues : (s : State) (held : List QName) → IsHolding s held → HoldsQueues s → AreQueues s.objects held
+still_queues s held (inl x) h =
+    let place = place_of own_name qname_cmp x.queue s.held in
+    subst (AreQueues s.objects) (sym x.is_with) (record {
+      sorted = sorted_added own_name qname_cmp qname_total same_qname qname_ties x.queue s.held h.sorted x.new;
+      are_objects = λ q i. (elim (in_inserted s.held place x.queue q i) as (λ _. IsSome (object_named q s.objects.jobqs)) [
+        | inl same ↦ subst (λ (n : QName). IsSome (object_named n s.objects.jobqs)) (sym same) x.is_object
+        | inr was ↦ h.are_objects q was
+      ]);
+    })
+still_queues s held (inr x) h =
+    let stays = λ (q : QName). not (same_qname q x.queue) in
+    subst (AreQueues s.objects) (sym x.is_without) (record {
+      sorted = AllPairs-filter (λ (a b : QName). qname_cmp a b ≡ Less) stays s.held h.sorted;
+      are_objects = λ q i. h.are_objects q (left_in stays s.held q i);
+    })
+
 held_calls : (s : State) → HoldsQueues s → HoldsOfStates HoldsQueues s
 held_calls s h = record {
   stays = h;
   starts = λ q e. h;
   autos = λ q t e d m k. k;
-  enters = λ user c d a. h;
+  enters = λ user c d due a. h;
+  alters = λ change place a. h;
+  holds = λ held a. still_queues s held a h;
   moves = λ serial j phase i e r n. h;
   powers = h;
-  makes = λ o c. record { once = h.once; are_objects = λ q i. c.jobqs q (h.are_objects q i) };
+  makes = λ o c. record { sorted = h.sorted; are_objects = λ q i. c.jobqs q (h.are_objects q i) };
 }
 
 held_parts : IsKeptByParts HoldsQueues
@@ -147,7 +189,7 @@ pub step_keeps_held : (s : State) (caller : ℕ) (call : Call) (moment : ℕ) �
 step_keeps_held s caller call moment h = step_keeps HoldsQueues held_parts s caller call moment h
 
 none_held : (offset : ℤ) → HoldsQueues (opened offset)
-none_held offset = record { once = tt; are_objects = λ q i. absurd i }
+none_held offset = record { sorted = λ i j d less within. absurd (omega arith); are_objects = λ q i. absurd i }
 
 pub opening_holds_queues : (offset : ℤ) → HoldsQueues (opening offset)
 opening_holds_queues offset = subst HoldsQueues (sym (opening_is offset)) (none_held offset)

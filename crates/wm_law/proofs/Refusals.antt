@@ -22,7 +22,9 @@ leaves s call = record {
   hands = λ m j o i k f x e. absurd (cc);
   reports = λ serial j phase i k r n x e. absurd (cc);
   starts = λ q k x e. absurd (cc);
-  enters = λ user c d has x e. absurd (cc);
+  enters = λ user c d due has x e. absurd (cc);
+  alters = λ reply change place p a x e. absurd (p.refuses_none x e);
+  holds = λ reply held p a x e. absurd (p.refuses_none x e);
   powers = λ x e. absurd (cc);
   makes = λ o c x e. absurd (cc);
 }

@@ -19,7 +19,7 @@ use Rattle.wm_law.specs.Sound.{HasJobsInOrder, IsIncreasing}
 use Rattle.wm_law.specs.Submitting.{submitted_job}
 use Rattle.wm_law.proofs.Changed.{keys_kept}
 use Rattle.wm_law.proofs.Moves.{HoldsOfStates, call_keeps}
-use Rattle.wm_law.proofs.Numbers.{calls, clock_keeps}
+use Rattle.wm_law.proofs.Numbers.{calls, clock_keeps, serials_stay}
 
 abbrev serials : List Job → List ℕ
 serials jobs = map (λ j. j.serial) jobs
@@ -58,7 +58,9 @@ calls_increase s l =
       stays = l;
       starts = λ q e. record { numbered = n.starts q e; increasing = h };
       autos = λ q t e d m k. record { numbered = n.autos q t e d m k.numbered; increasing = last_increasing t.jobs (auto_launched t q (auto_job t e d)) k.numbered.serials.below k.increasing };
-      enters = λ user c d has. record { numbered = n.enters user c d has; increasing = last_increasing s.jobs (submitted_job s user c d) l.numbered.serials.below h };
+      enters = λ user c d due has. record { numbered = n.enters user c d due has; increasing = last_increasing s.jobs (submitted_job s user c d due) l.numbered.serials.below h };
+      alters = λ change place a. record { numbered = n.alters change place a; increasing = subst IsIncreasing (sym (serials_stay s change place a)) h };
+      holds = λ held a. record { numbered = n.holds held a; increasing = h };
       moves = λ serial j phase i e r k. record { numbered = n.moves serial j phase i e r k; increasing = subst IsIncreasing (sym (keys_kept (λ (x : Job). x.serial) serial (in_phase phase) (λ x. refl) s.jobs)) h };
       powers = record { numbered = n.powers; increasing = h };
       makes = λ o c. record { numbered = n.makes o c; increasing = h };

@@ -2,6 +2,7 @@
 use Rattle.std.proofs.Common.{◌≡◌, ℕ, ◌≤◌, ◌⊎◌, true, List, [], ◌∷◌, Option, Some, None, refl, sym, ap, ◌∙◌, inl, inr, arith}
 use Rattle.std.specs.List.{cons_option}
 use Rattle.std.specs.Option.{option_and_then}
+use Rattle.wm_base.specs.declared.job.Asked.{Asked}
 use Rattle.wm_base.specs.declared.job.Asked.TheVariants.{Start}
 use Rattle.wm_base.specs.declared.job.StartOrder.{StartOrder}
 use Rattle.wm_base.specs.declared.job.Class.{Class}
@@ -27,6 +28,7 @@ use Rattle.wm_law.specs.Reports.{in_phase, with_phase}
 use Rattle.wm_law.specs.Settling.{settle}
 use Rattle.wm_law.specs.Machine.{apply, step, with_clock}
 use Rattle.wm_desc.specs.Table.{object_named}
+use Rattle.wm_law.proofs.Alterations.{IsPlain}
 use Rattle.wm_law.proofs.Forward.{only_one, settle_goes_on, step_goes_on}
 use Rattle.wm_law.proofs.Changed.{in_changed}
 use Rattle.wm_law.proofs.Moves.{HoldsAfterCalls, call_comes, starting_rank}
@@ -75,6 +77,11 @@ handed_one s m i o k h f x e =
     let same = sym (by_serial s i i.how o f) ∙ told_serial in
     record { job = i; before = k; serial = same; starting = starting_rank i.phase h; later = record i { phase = Handed m }; now = in_changed (in_phase (Handed m)) i s.jobs k; same = same; past = omega arith }
 
+none_told : (reply : Reply) → IsPlain reply → (x : ℕ) → told reply ≡ Some x → ⊥
+none_told reply p x e =
+    let none : told reply ≡ None = ap (λ (o : Option Asked). option_and_then start_told o) p.orders_none in
+    absurd (cc)
+
 hands_over : (s : State) (call : Call) → HoldsAfterCalls (Hands s) s call
 hands_over s call = record {
   refuses = λ y x e. absurd (cc);
@@ -83,7 +90,9 @@ hands_over s call = record {
   hands = handed_one s;
   reports = λ serial j phase i k r n x e. absurd (cc);
   starts = λ q k x e. absurd (cc);
-  enters = λ user c d has x e. absurd (cc);
+  enters = λ user c d due has x e. absurd (cc);
+  alters = λ reply change place p a x e. absurd (none_told reply p x e);
+  holds = λ reply held p a x e. absurd (none_told reply p x e);
   powers = λ x e. absurd (cc);
   makes = λ o c x e. absurd (cc);
 }

@@ -36,7 +36,9 @@ described_calls s h = record {
   stays = h;
   starts = λ q e. described s q e.there h;
   autos = λ q t e d m k. k;
-  enters = λ user c d has. h;
+  enters = λ user c d due has. h;
+  alters = λ change place a. h;
+  holds = λ held a. h;
   moves = λ serial j phase i e r n. h;
   powers = λ b i. (let m = of_mapped end_now s.started b i in subst (λ (x : Sbs). IsSome (object_named x.sbsd s.objects.sbsds)) (sym m.2) (h m.0 m.1));
   makes = λ o e b i. subst (λ (d : Option Sbsd). IsSome d) (sym (e.described b i (h b i))) (h b i);
@@ -59,7 +61,9 @@ quiet_calls s h = record {
   stays = h;
   starts = λ q e off b i. (let on = e.on in absurd (cc));
   autos = λ q t e d m k. k;
-  enters = λ user c d has. h;
+  enters = λ user c d due has. h;
+  alters = λ change place a. h;
+  holds = λ held a. h;
   moves = λ serial j phase i e r n. h;
   powers = λ off b i. (let m = of_mapped end_now s.started b i in ap (λ (x : Sbs). is_sbs_active x.phase) m.2);
   makes = λ o e. h;
