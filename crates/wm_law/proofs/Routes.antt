@@ -1,12 +1,9 @@
 -- The route is the matching entry of least number.
-use Rattle.std.proofs.Common.{◌≡◌, ℕ, ◌<◌, ◌≤◌, ◌+◌, Bool, true, false, cond, List, [], ◌∷◌, length, Some, None, slice_index_or, nat_eq, refl, sym, ap, subst, ◌∙◌, inl, inr, arith}
+use Rattle.std.proofs.Common.{◌≡◌, ℕ, ◌<◌, ◌≤◌, Bool, true, false, cond, List, [], ◌∷◌, Some, None, nat_eq, refl, sym, ap, ◌∙◌, inl, inr, arith}
 use Rattle.std.specs.List.{find}
 use Rattle.std.specs.Ordering.{nat_cmp}
-use Rattle.std.specs.declared.cmp.Ordering.TheVariants.{Less}
 use Rattle.std.proofs.lemmas.Bool.{eq-eqb}
 use Rattle.std.proofs.lemmas.Bool.Decides.{nat_tests}
-use Rattle.std.proofs.lemmas.Cmp.{ranked, by_ranked}
-use Rattle.std.proofs.lemmas.Grind.{common_steps}
 use Rattle.wm_desc.specs.declared.entry.RouteEntry.{RouteEntry}
 use Rattle.wm_desc.specs.Sorted.{IsSortedOnce}
 use Rattle.wm_law.specs.Launch.{is_match}
