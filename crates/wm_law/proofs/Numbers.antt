@@ -179,6 +179,7 @@ moved_by s change place p j b e (inl same) = inl same
 moved_by s change place p j true e (inr a) = let its = same_number j.serial p.serial e in inr (its, p.taken j a.waits its)
 moved_by s change place p j false e (inr a) = inl (p.other j (λ f. (let yes = eq-eqb j.serial p.serial f in absurd (cc))))
 
+-- changed jobs keep a state numbered, whether their places stay or one is taken
 altered_keeps : (s : State) (change : Job → Job) (place : ℕ) → IsAlteration s change place → IsNumbered s → PlacesStay s change place ⊎ PlaceIsTaken s change place → IsNumbered (altered s change place)
 altered_keeps s change place a h (inl p) =
     numbered_same s (altered s change place)
