@@ -1,7 +1,10 @@
--- Calls other than SBMJOB and STRSBS don't look at the clock: it may be set before them or after them.
-use Rattle.std.proofs.Common.{◌≡◌, ℕ, Bool, true, false, cond, Option, Some, None, List, refl, ap, ◌∙◌, ◌==◌}
+-- Calls other than SBMJOB, STRSBS and CHGJOB don't look at the clock: it may be set before them or after them.
+use Rattle.std.proofs.Common.{◌≡◌, ℕ, Bool, true, false, cond, Option, Some, None, List, is_some, refl, ap, ◌∙◌, ◌==◌}
 use Rattle.wm_base.specs.declared.job.StartOrder.{StartOrder}
 use Rattle.wm_base.specs.declared.job.EndCause.TheVariants as cause
+use Rattle.wm_base.specs.declared.qname.QName.{QName}
+use Rattle.wm_base.specs.declared.refusal.Refusal.{Refusal}
+use Rattle.wm_desc.specs.Table.{object_named}
 use Rattle.wm_law.specs.declared.call.Call.{Call}
 use Rattle.wm_law.specs.declared.call.Reply.{Reply}
 use Rattle.wm_law.specs.declared.call.Call.TheVariants.{Change, Hand, Started, StartFailed, Finished, UseDone, Tick}
@@ -11,12 +14,16 @@ use Rattle.wm_law.specs.declared.job.Job.{Job}
 use Rattle.wm_law.specs.declared.job.Phase.TheVariants.{Running, Ended}
 use Rattle.wm_law.specs.declared.job.Phase.{Phase}
 use Rattle.wm_law.specs.declared.state.State.{State}
+use Rattle.wm_law.specs.Choice.{is_held}
+use Rattle.wm_law.specs.Holding.{hold_found, release_found}
 use Rattle.wm_law.specs.Launch.{order_of}
 use Rattle.wm_law.specs.Machine.{apply, change, with_clock}
+use Rattle.wm_law.specs.Named.{waiting_named}
 use Rattle.wm_law.specs.Power.{power_down, is_down_now}
+use Rattle.wm_law.specs.Queues.{clear_queue, hold_queue, release_queue}
 use Rattle.wm_law.specs.Reports.{done_with, end_cause, is_handed_to, hand, hand_job, hand_order, is_run_by, report, report_on, use_done}
 use Rattle.wm_law.specs.Stepped.{Stepped}
-use Rattle.wm_core.specs.Clocked.{IsLate, IsStill, makes_jobs, is_job_making}
+use Rattle.wm_core.specs.Clocked.{IsLate, IsStill, looks_at_clock, is_timed}
 use Rattle.std.specs.List.{find}
 use Rattle.std.specs.Prelude.{IfOk, OnOk, Result, Ok, Err}
 
@@ -52,8 +59,31 @@ done_by s now m (Some j) = downed_by s now (is_run_by m j.phase) _ _ _ _ (record
 pub use_is_late : (s : State) (now m serial : ℕ) → IsLate now (use_done s m serial) (use_done (with_clock s now) m serial)
 use_is_late s now m serial = done_by s now m (find (λ j. j.serial == serial) s.jobs)
 
--- a command that makes no jobs comes to the same before the clock is set
-change_is_late : (s : State) (now : ℕ) (user : List ℕ) (c : Command) → makes_jobs c ≡ false → IsLate now (change s user c) (change (with_clock s now) user c)
+hold_is_late : (s : State) (now : ℕ) (r : Result Job Refusal) → IsLate now (hold_found s r) (hold_found (with_clock s now) r)
+hold_is_late s now (Err x) = record { says = refl; leaves = refl }
+hold_is_late s now (Ok j) = downed_by s now j.held _ _ _ _ (record { says = refl; leaves = refl }) (record { says = refl; leaves = refl })
+
+release_is_late : (s : State) (now : ℕ) (r : Result Job Refusal) → IsLate now (release_found s r) (release_found (with_clock s now) r)
+release_is_late s now (Err x) = record { says = refl; leaves = refl }
+release_is_late s now (Ok j) = downed_by s now j.held _ _ _ _ (record { says = refl; leaves = refl }) (record { says = refl; leaves = refl })
+
+queue_hold_is_late : (s : State) (now : ℕ) (q : QName) → IsLate now (hold_queue s q) (hold_queue (with_clock s now) q)
+queue_hold_is_late s now q =
+    downed_by s now (is_some (object_named q s.objects.jobqs)) _ _ _ _
+    (downed_by s now (is_held s q) _ _ _ _ (record { says = refl; leaves = refl }) (record { says = refl; leaves = refl }))
+    (record { says = refl; leaves = refl })
+
+queue_release_is_late : (s : State) (now : ℕ) (q : QName) → IsLate now (release_queue s q) (release_queue (with_clock s now) q)
+queue_release_is_late s now q =
+    downed_by s now (is_some (object_named q s.objects.jobqs)) _ _ _ _
+    (downed_by s now (is_held s q) _ _ _ _ (record { says = refl; leaves = refl }) (record { says = refl; leaves = refl }))
+    (record { says = refl; leaves = refl })
+
+queue_clear_is_late : (s : State) (now : ℕ) (q : QName) → IsLate now (clear_queue s q) (clear_queue (with_clock s now) q)
+queue_clear_is_late s now q = downed_by s now (is_some (object_named q s.objects.jobqs)) _ _ _ _ (record { says = refl; leaves = refl }) (record { says = refl; leaves = refl })
+
+-- another command comes to the same before the clock is set
+change_is_late : (s : State) (now : ℕ) (user : List ℕ) (c : Command) → looks_at_clock c ≡ false → IsLate now (change s user c) (change (with_clock s now) user c)
 change_is_late s now user (command.Crtcls c) other = record { says = refl; leaves = refl }
 change_is_late s now user (command.Crtjobq c) other = record { says = refl; leaves = refl }
 change_is_late s now user (command.Crtpgmref c) other = record { says = refl; leaves = refl }
@@ -70,13 +100,13 @@ change_is_late s now user (command.Rmvpje c) other = record { says = refl; leave
 change_is_late s now user (command.Strsbs c) other = absurd (cc)
 change_is_late s now user (command.Endsbs c) other = record { says = refl; leaves = refl }
 change_is_late s now user (command.Sbmjob c) other = absurd (cc)
-change_is_late s now user (command.Hldjob c) other = record { says = refl; leaves = refl }
-change_is_late s now user (command.Rlsjob c) other = record { says = refl; leaves = refl }
-change_is_late s now user (command.Chgjob c) other = record { says = refl; leaves = refl }
+change_is_late s now user (command.Hldjob c) other = hold_is_late s now (waiting_named s c.job)
+change_is_late s now user (command.Rlsjob c) other = release_is_late s now (waiting_named s c.job)
+change_is_late s now user (command.Chgjob c) other = absurd (cc)
 change_is_late s now user (command.Endjob c) other = record { says = refl; leaves = refl }
-change_is_late s now user (command.Hldjobq c) other = record { says = refl; leaves = refl }
-change_is_late s now user (command.Rlsjobq c) other = record { says = refl; leaves = refl }
-change_is_late s now user (command.Clrjobq c) other = record { says = refl; leaves = refl }
+change_is_late s now user (command.Hldjobq c) other = queue_hold_is_late s now c.jobq
+change_is_late s now user (command.Rlsjobq c) other = queue_release_is_late s now c.jobq
+change_is_late s now user (command.Clrjobq c) other = queue_clear_is_late s now c.jobq
 change_is_late s now user (command.Strpj c) other = record { says = refl; leaves = refl }
 change_is_late s now user (command.Endpj c) other = record { says = refl; leaves = refl }
 change_is_late s now user (command.Evoke c) other = record { says = refl; leaves = refl }
@@ -84,7 +114,7 @@ change_is_late s now user (command.Enduse c) other = record { says = refl; leave
 change_is_late s now user (command.Pwrdwnsys c) other = power_is_late s now
 
 -- and so does each other call
-pub apply_is_late : (s : State) (now caller : ℕ) (call : Call) → is_job_making call ≡ false → IsLate now (apply s caller call) (apply (with_clock s now) caller call)
+pub apply_is_late : (s : State) (now caller : ℕ) (call : Call) → is_timed call ≡ false → IsLate now (apply s caller call) (apply (with_clock s now) caller call)
 apply_is_late s now caller (Change user c) other = change_is_late s now user c other
 apply_is_late s now caller Hand other = hand_is_late s now caller
 apply_is_late s now caller (Started serial) other = report_is_late s now serial (is_handed_to caller) (Running caller)
@@ -93,14 +123,14 @@ apply_is_late s now caller (Finished serial end) other = report_is_late s now se
 apply_is_late s now caller (UseDone serial) other = use_is_late s now caller serial
 apply_is_late s now caller Tick other = record { says = refl; leaves = refl }
 
--- what a call that makes no jobs came to before the clock was set
-pub still : (s : State) (now caller : ℕ) (call : Call) (reply : Reply) (state : State) → is_job_making call ≡ false → reply ≡ (apply s caller call).reply → state ≡ (apply s caller call).state → IsStill now reply state (apply (with_clock s now) caller call)
+-- what another call came to before the clock was set
+pub still : (s : State) (now caller : ℕ) (call : Call) (reply : Reply) (state : State) → is_timed call ≡ false → reply ≡ (apply s caller call).reply → state ≡ (apply s caller call).state → IsStill now reply state (apply (with_clock s now) caller call)
 still s now caller call reply state other h k =
     let late = apply_is_late s now caller call other in
     record { says = h ∙ late.says; leaves = ap (λ (t : State). with_clock t now) k ∙ late.leaves }
 
 -- the same of an answer
-pub if_still : {E : Type 0} (o : Result Reply E) (s : State) (now caller : ℕ) (call : Call) (state : State) → is_job_making call ≡ false
+pub if_still : {E : Type 0} (o : Result Reply E) (s : State) (now caller : ℕ) (call : Call) (state : State) → is_timed call ≡ false
     → IfOk o (λ r. r ≡ (apply s caller call).reply)
     → OnOk o (state ≡ (apply s caller call).state)
     → IfOk o (λ r. IsStill now r state (apply (with_clock s now) caller call))

@@ -3,7 +3,7 @@ use Rattle.std.specs.Prelude.{◌≡◌, ℕ, Bool, true, false}
 use Rattle.wm_law.specs.declared.call.Call.{Call}
 use Rattle.wm_law.specs.declared.call.Call.TheVariants.{Change, Hand, Started, StartFailed, Finished, UseDone, Tick}
 use Rattle.wm_law.specs.declared.command.Command.{Command}
-use Rattle.wm_law.specs.declared.command.Command.TheVariants.{Sbmjob, Strsbs}
+use Rattle.wm_law.specs.declared.command.Command.TheVariants.{Chgjob, Sbmjob, Strsbs}
 use Rattle.wm_law.specs.declared.call.Reply.{Reply}
 use Rattle.wm_law.specs.declared.state.State.{State}
 use Rattle.wm_law.specs.Machine.{with_clock}
@@ -18,18 +18,19 @@ pub record IsStill (now : ℕ) (reply : Reply) (state : State) (whole : Stepped)
 abbrev pub IsLate : ℕ → Stepped → Stepped → Type 0
 IsLate now late whole = IsStill now late.reply late.state whole
 
--- SBMJOB and STRSBS, which look at the clock: the jobs that they make are due at it
-abbrev pub makes_jobs : Command → Bool
-makes_jobs (Sbmjob c) = true
-makes_jobs (Strsbs c) = true
-makes_jobs c = false
+-- SBMJOB, STRSBS and CHGJOB, which look at the clock: by it jobs become due
+abbrev pub looks_at_clock : Command → Bool
+looks_at_clock (Sbmjob c) = true
+looks_at_clock (Strsbs c) = true
+looks_at_clock (Chgjob c) = true
+looks_at_clock c = false
 
 -- whether a call is one of these commands
-abbrev pub is_job_making : Call → Bool
-is_job_making (Change user c) = makes_jobs c
-is_job_making Hand = false
-is_job_making (Started serial) = false
-is_job_making (StartFailed serial why) = false
-is_job_making (Finished serial end) = false
-is_job_making (UseDone serial) = false
-is_job_making Tick = false
+abbrev pub is_timed : Call → Bool
+is_timed (Change user c) = looks_at_clock c
+is_timed Hand = false
+is_timed (Started serial) = false
+is_timed (StartFailed serial why) = false
+is_timed (Finished serial end) = false
+is_timed (UseDone serial) = false
+is_timed Tick = false

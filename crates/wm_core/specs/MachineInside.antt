@@ -16,6 +16,6 @@ state_of m =
       next_serial = m.table.next_serial;
       next_place = m.table.next_place;
       clock = m.table.clock;
-      offset_min = m.offset_min;
+      offset_min = m.offset;
       power = m.power;
     }

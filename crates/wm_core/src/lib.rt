@@ -9,14 +9,18 @@
 #![tactic(auto)]
 
 mod autos;
+mod changing;
 mod draft;
+mod holding;
 mod machine;
 mod making;
 mod not_built;
 mod opening;
 mod pending;
 mod power;
+mod queues;
 mod reports;
+mod schedules;
 mod settling;
 mod sound;
 mod submitting;

@@ -6,6 +6,7 @@ use wm_desc::Objects;
 use wm_jobs::JobTable;
 use wm_law::{Call, Command, Evokes, Power, QNames, Reply, SbsList, Stops};
 use wm_pick::Parts;
+use wm_when::Offset;
 
 /// The machine over any state. The jobs, their next numbers and the clock are in the job table, all else is plain data.
 /// A contract sees it as the state.
@@ -17,7 +18,7 @@ pub struct Machine {
     pub stopped: Stops,
     pub evokes: Evokes,
     pub next_number: u32,
-    pub offset_min: i32,
+    pub offset: Offset,
     pub power: Power,
     pub(crate) table: JobTable,
 }
@@ -37,7 +38,7 @@ impl Machine {
     ghost use Rattle.wm_law.specs.Fit.{HasCall, IsCall, IsCommand};
     ghost use Rattle.wm_pick.specs.Parts.{parts_of};
     ghost use Rattle.wm_law.specs.Machine.{change, apply, step, with_clock};
-    ghost use Rattle.wm_core.specs.Clocked.{IsStill, makes_jobs, is_job_making};
+    ghost use Rattle.wm_core.specs.Clocked.{IsStill, looks_at_clock, is_timed};
 
     /// The jobs, and what they are found by.
     pub fn jobs(&self) -> &JobTable
@@ -69,7 +70,7 @@ impl Machine {
         self.table.make_due(now);
     }
 
-    /// Applies a command of a user, but for those that make jobs. An `Err` is want of memory and leaves the state.
+    /// Applies a command of a user, but for those that look at the clock. An `Err` is want of memory and leaves the state.
     pub(crate) fn change(
         &mut self,
         alloc: Global,
@@ -77,7 +78,7 @@ impl Machine {
         command: &Command,
     ) -> Result<Reply, NoMemory>
         requires ranges { IsCommand command.now }
-        requires other { makes_jobs command.now ≡ false }
+        requires other { looks_at_clock command.now ≡ false }
         ensures reply { IfOk result (λ r. r ≡ (change self.old user.now command.now).reply) }
         ensures state { OnOk result (self.new ≡ (change self.old user.now command.now).state) }
         ensures err { OnErr result (self.new ≡ self.old) }
@@ -94,16 +95,21 @@ impl Machine {
             Command::Rmvjobqe(command) => Ok(self.remove_queue(command)),
             Command::Rmvrtge(command) => Ok(self.remove_route(command)),
             Command::Rmvaje(command) => Ok(self.remove_auto(command)),
-            Command::Strsbs(_) | Command::Sbmjob(_) => unreachable!(),
+            Command::Strsbs(_) | Command::Sbmjob(_) | Command::Chgjob(_) => unreachable!(),
+            Command::Hldjob(command) => Ok(self.hold_job(&command.job)),
+            Command::Rlsjob(command) => Ok(self.release_job(&command.job)),
+            Command::Hldjobq(command) => self.hold_queue(&command.jobq),
+            Command::Rlsjobq(command) => Ok(self.release_queue(&command.jobq)),
+            Command::Clrjobq(command) => Ok(self.clear_queue(&command.jobq)),
             Command::Pwrdwnsys(_) => Ok(self.power_down()),
             _ => Ok(Reply::Nothing),
         }
     }
 
-    // The reply to a call that makes no jobs, and the state before it settles. It doesn't look at the clock.
+    // The reply to a call that doesn't look at the clock, and the state before it settles.
     fn apply_timeless(&mut self, alloc: Global, caller: u32, call: &Call) -> Result<Reply, NoMemory>
         requires ranges { IsCall call.now }
-        requires other { is_job_making call.now ≡ false }
+        requires other { is_timed call.now ≡ false }
         ensures reply { IfOk result (λ r. r ≡ (apply self.old caller call.now).reply) }
         ensures state { OnOk result (self.new ≡ (apply self.old caller call.now).state) }
         ensures err { OnErr result (self.new ≡ self.old) }
@@ -130,7 +136,7 @@ impl Machine {
         now: Moment,
     ) -> Result<Reply, NoMemory>
         requires ranges { IsCall call.now }
-        requires other { is_job_making call.now ≡ false }
+        requires other { is_timed call.now ≡ false }
         ensures ok { IfOk result (λ r. IsStill now r self.new (apply (with_clock self.old now) caller call.now)) }
         ensures err { OnErr result (self.new ≡ self.old) }
     {
@@ -158,6 +164,10 @@ impl Machine {
                 command: Command::Strsbs(command),
                 ..
             } => self.start_subsystem(alloc, &command.sbsd, now),
+            Call::Change {
+                command: Command::Chgjob(command),
+                ..
+            } => Ok(self.change_job(command, now)),
             _ => self.apply_other(alloc, caller, call, now),
         }
     }

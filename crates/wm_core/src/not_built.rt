@@ -1,20 +1,12 @@
 // Which commands of users are built.
 ghost use Rattle.std.specs.Prelude.{◌≡◌, ◌↔◌, IsOk, IsTrue};
-ghost use Rattle.wm_law.specs.Built.{is_at_once, is_built};
+ghost use Rattle.wm_law.specs.Built.{is_built};
 
-use wm_law::{Command, Sbmjob};
-use wm_when::{DateSpec, TimeSpec};
+use wm_law::Command;
 
 /// A command isn't built yet.
 #[derive(Clone, Copy, Debug, PartialEq, Eq)]
 pub struct NotBuilt;
-
-// SCDDATE(*CURRENT) SCDTIME(*CURRENT).
-fn is_at_once(command: &Sbmjob) -> bool
-    ensures { result ≡ is_at_once command.now }
-{
-    matches!(command.scddate, DateSpec::Current) && matches!(command.scdtime, TimeSpec::Current)
-}
 
 fn is_built(command: &Command) -> bool
     ensures { result ≡ is_built command.now }
@@ -32,7 +24,13 @@ fn is_built(command: &Command) -> bool
         Command::Rmvrtge(_) => true,
         Command::Rmvaje(_) => true,
         Command::Strsbs(_) => true,
-        Command::Sbmjob(command) => is_at_once(command),
+        Command::Sbmjob(_) => true,
+        Command::Hldjob(_) => true,
+        Command::Rlsjob(_) => true,
+        Command::Chgjob(_) => true,
+        Command::Hldjobq(_) => true,
+        Command::Rlsjobq(_) => true,
+        Command::Clrjobq(_) => true,
         _ => false,
     }
 }

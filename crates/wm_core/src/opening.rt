@@ -5,19 +5,19 @@ ghost use Rattle.wm_law.specs.Opening.{crtcls_qbatch, crtpgmref_echo, crtjobq_qb
 use crate::Machine;
 use std::alloc::Global;
 use wm_base::{Limit, Name, NoMemory, Priority, QName, Text};
-use wm_desc::{Cmp, Objects, echo, qbatch, qdftjobd};
+use wm_desc::{Cmp, Objects, SortedList, echo, qbatch, qdftjobd};
 use wm_jobs::JobTable;
 use wm_law::{
     Addjobqe, Addrtge, Command, Crtcls, Crtjobd, Crtjobq, Crtpgmref, Crtsbsd, ListOf, Power,
 };
+use wm_when::Offset;
 
 /// What a machine opens with.
 #[derive(Clone, Copy, Debug, PartialEq, Eq)]
 pub struct Setup {
     /// The controlling subsystem.
     pub ctl: QName,
-    /// Local time, in minutes from UTC: -1439 to 1439.
-    pub offset_min: i32,
+    pub offset: Offset,
 }
 
 // CRTCLS QBATCH.
@@ -143,20 +143,20 @@ impl Machine {
     ghost use Rattle.std.specs.Prelude.{◌≡◌, false, IfOk, OnOk, All};
     ghost use Rattle.wm_law.specs.Fit.{IsCommand};
     ghost use Rattle.wm_law.specs.Opening.{changed_by, empty, opening};
-    ghost use Rattle.wm_core.specs.Clocked.{makes_jobs};
+    ghost use Rattle.wm_core.specs.Clocked.{looks_at_clock};
 
-    // No objects and no job, for local time so many minutes ahead of UTC.
-    fn empty(alloc: Global, offset_min: i32) -> Machine
-        ensures { result ≡ empty offset_min }
+    // No objects and no job.
+    fn empty(alloc: Global, offset: Offset) -> Machine
+        ensures { result ≡ empty offset }
     {
         Machine {
             objects: Objects::new(alloc),
             started: ListOf::new(alloc),
-            held: ListOf::new(alloc),
+            held: SortedList::new(alloc),
             stopped: ListOf::new(alloc),
             evokes: ListOf::new(alloc),
             next_number: 1,
-            offset_min,
+            offset,
             power: Power::On,
             table: JobTable::new(alloc),
         }
@@ -170,7 +170,7 @@ impl Machine {
         commands: &[Command],
     ) -> Result<(), NoMemory>
         requires ranges { All IsCommand commands.now }
-        requires others { All (λ c. makes_jobs c ≡ false) commands.now }
+        requires others { All (λ c. looks_at_clock c ≡ false) commands.now }
         ensures { OnOk result (self.new ≡ changed_by user.now self.old commands.now) }
     {
         for command in commands {
@@ -182,10 +182,10 @@ impl Machine {
     /// The state of no rows: the objects of the opening commands, and no job. An `Err` is want of memory.
     #[tactic(auto, unfolding(wm_law::specs::Opening::opening), using(crate::proofs::Opened::commands_fit))]
     pub fn opening(alloc: Global, setup: &Setup) -> Result<Machine, NoMemory>
-        ensures { IfOk result (λ machine. machine ≡ opening setup.now.offset_min) }
+        ensures { IfOk result (λ machine. machine ≡ opening setup.now.offset) }
     {
         let commands = opening_commands(alloc)?;
-        let mut machine = Machine::empty(alloc, setup.offset_min);
+        let mut machine = Machine::empty(alloc, setup.offset);
         machine.change_all(alloc, &Name::of(b"QSYS"), &commands)?;
         Ok(machine)
     }

@@ -8,7 +8,7 @@ use wm_base::{Asked, EndCause, Exit, NoMemory, PhaseWord, Refusal, Serial, Start
 use wm_law::{Call, Phase, Reply};
 
 /// What a job's phase is called in a refusal.
-fn phase_word(phase: &Phase) -> PhaseWord
+pub(crate) fn phase_word(phase: &Phase) -> PhaseWord
     ensures { result ≡ phase_word phase.now }
 {
     match phase {

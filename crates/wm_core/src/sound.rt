@@ -35,7 +35,7 @@ impl Core {
     /// The state of no rows: the objects of the opening commands, and no job. An `Err` is want of memory.
     #[tactic(auto, using(wm_law::proofs::Sound::opening_is_sound))]
     pub fn opening(alloc: Global, setup: &Setup) -> Result<Core, NoMemory>
-        ensures { IfOk result (λ core. core ≡ opening setup.now.offset_min) }
+        ensures { IfOk result (λ core. core ≡ opening setup.now.offset) }
     {
         let machine = Machine::opening(alloc, setup)?;
         Ok(Core { machine })

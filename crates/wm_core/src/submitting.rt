@@ -67,7 +67,8 @@ impl Machine {
     ghost use Rattle.wm_law.specs.Counts.{is_waiting};
     ghost use Rattle.wm_law.specs.Machine.{with_clock};
     ghost use Rattle.wm_core.specs.Clocked.{IsStill};
-    ghost use Rattle.wm_law.specs.Submitting.{has_numbers, submit_refusal, submitted_job, entered, submit};
+    ghost use Rattle.wm_law.specs.Fit.{IsSubmission};
+    ghost use Rattle.wm_law.specs.Submitting.{has_numbers, submitted_job, entered, submit};
 
     fn has_numbers(&self) -> bool
         ensures { result ≡ has_numbers self.now }
@@ -78,35 +79,17 @@ impl Machine {
             && self.table.next_place() < SERIALS_END
     }
 
-    // Why a job can't be submitted with the description.
-    fn submit_refusal(&self, command: &Sbmjob, jobd: &Jobd) -> Option<Refusal>
-        ensures { result ≡ submit_refusal self.now command.now jobd.now }
-    {
-        if self
-            .objects
-            .jobqs
-            .object(&queue_of(command, jobd))
-            .is_none()
-        {
-            return Some(Refusal::NoObject(Kind::Jobq));
-        }
-        if !self.has_numbers() {
-            return Some(Refusal::NumbersUsed);
-        }
-        None
-    }
-
-    // A submitted job, with the next number, serial and place.
+    // A submitted job, with the next number, serial and place, which is due at a moment.
     fn submitted_job(
         &self,
         alloc: Global,
         user: &Name,
         command: &Sbmjob,
         jobd: &Jobd,
-        now: Moment,
+        due: Moment,
     ) -> Result<Job, NoMemory>
         requires { has_numbers self.now ≡ true }
-        ensures { IfOk result (λ job. job ≡ submitted_job (with_clock self.now now) user.now command.now jobd.now) }
+        ensures { IfOk result (λ job. job ≡ submitted_job self.now user.now command.now jobd.now due) }
     {
         let rtgdta = routing_data_of(command, jobd)?;
         let rqsdta = request_of(alloc, command, jobd)?;
@@ -124,7 +107,7 @@ impl Machine {
             rtgdta,
             rqsdta,
             held: command.hold.unwrap_or(jobd.hold),
-            due: later(self.table.clock(), now),
+            due,
             phase: Phase::Waiting,
             how: How::NotYet,
             wish: Wish::NoWish,
@@ -149,7 +132,7 @@ impl Machine {
         Ok(())
     }
 
-    /// SBMJOB: a Waiting job, which is due at the clock. The clock is set behind it.
+    /// SBMJOB: a Waiting job, which is due by its schedule. The clock is set behind it.
     pub(crate) fn submit(
         &mut self,
         alloc: Global,
@@ -157,6 +140,7 @@ impl Machine {
         command: &Sbmjob,
         now: Moment,
     ) -> Result<Reply, NoMemory>
+        requires { IsSubmission command.now }
         ensures ok { IfOk result (λ r. IsStill now r self.new (submit (with_clock self.old now) user.now command.now)) }
         ensures err { OnErr result (self.new ≡ self.old) }
     {
@@ -166,11 +150,18 @@ impl Machine {
         let Some(jobd) = self.objects.jobds.object(&command.jobd) else {
             return Ok(Reply::No(Refusal::NoObject(Kind::Jobd)));
         };
-        if let Some(refusal) = self.submit_refusal(command, jobd) {
-            return Ok(Reply::No(refusal));
-        }
         let queue = queue_of(command, jobd);
-        let job = self.submitted_job(alloc, user, command, jobd, now)?;
+        if self.objects.jobqs.object(&queue).is_none() {
+            return Ok(Reply::No(Refusal::NoObject(Kind::Jobq)));
+        }
+        let due = match self.scheduled(command.scddate, command.scdtime, now) {
+            Ok(due) => due,
+            Err(refusal) => return Ok(Reply::No(refusal)),
+        };
+        if !self.has_numbers() {
+            return Ok(Reply::No(Refusal::NumbersUsed));
+        }
+        let job = self.submitted_job(alloc, user, command, jobd, due)?;
         let name = job.job;
         self.enter(job)?;
         Ok(Reply::Submitted(name, queue))

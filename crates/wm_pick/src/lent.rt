@@ -77,7 +77,7 @@ impl<'a> Parts<'a> {
     pub(crate) fn is_held(&self, queue: &QName) -> bool
         ensures { result ≡ is_held self.now queue.now }
     {
-        self.held.as_slice().iter().any(|q| q == queue)
+        self.held.contains(queue)
     }
 
     // The head of a queue and priority, by one look.

@@ -1,0 +1,81 @@
+// CHGJOB: a job that waits gets another queue, priority or schedule.
+ghost use Rattle.std.specs.Prelude.{◌≡◌};
+ghost use Rattle.wm_law.specs.Changing.{is_queue, keeps_queue, stays};
+
+use crate::Machine;
+use crate::submitting::SERIALS_END;
+use wm_base::{Kind, Moment, QName, Refusal};
+use wm_law::{Chgjob, Job, Reply};
+
+// Whether a queue that is asked for is the present one.
+fn is_queue(queue: &QName, present: &Option<QName>) -> bool
+    ensures { result ≡ is_queue queue.now present.now }
+{
+    match present {
+        None => false,
+        Some(present) => queue == present,
+    }
+}
+
+fn keeps_queue(wanted: &Option<QName>, present: &Option<QName>) -> bool
+    ensures { result ≡ keeps_queue wanted.now present.now }
+{
+    match wanted {
+        None => true,
+        Some(queue) => is_queue(queue, present),
+    }
+}
+
+// Whether queue and priority stay.
+fn stays(command: &Chgjob, job: &Job) -> bool
+    ensures { result ≡ stays command.now job.now }
+{
+    keeps_queue(&command.jobq, &job.jobq) && command.jobpty.unwrap_or(job.pty) == job.pty
+}
+
+impl Machine {
+    ghost use Rattle.std.specs.Prelude.{◌≡◌};
+    ghost use Rattle.wm_law.specs.Changing.{has_queue, change_job};
+    ghost use Rattle.wm_law.specs.Fit.{IsJobChange};
+    ghost use Rattle.wm_law.specs.Machine.{with_clock};
+    ghost use Rattle.wm_core.specs.Clocked.{IsStill};
+
+    // Whether the queue that is asked for is an object, where one is.
+    fn has_queue(&self, wanted: &Option<QName>) -> bool
+        ensures { result ≡ has_queue self.now wanted.now }
+    {
+        match wanted {
+            None => true,
+            Some(queue) => self.objects.jobqs.object(queue).is_some(),
+        }
+    }
+
+    /// CHGJOB. The clock is set behind it. It takes no memory.
+    pub(crate) fn change_job(&mut self, command: &Chgjob, now: Moment) -> Reply
+        requires { IsJobChange command.now }
+        ensures { IsStill now result self.new (change_job (with_clock self.old now) command.now) }
+    {
+        let job = match self.waiting_named(&command.job) {
+            Ok(job) => job,
+            Err(refusal) => return Reply::No(refusal),
+        };
+        if !self.has_queue(&command.jobq) {
+            return Reply::No(Refusal::NoObject(Kind::Jobq));
+        }
+        let due = match self.rescheduled(job.due, command.scddate, command.scdtime, now) {
+            Ok(due) => due,
+            Err(refusal) => return Reply::No(refusal),
+        };
+        let serial = job.serial;
+        let name = job.job;
+        if stays(command, job) {
+            self.table.set_due(serial, due);
+            return Reply::Changed(name);
+        }
+        if self.table.next_place() >= SERIALS_END {
+            return Reply::No(Refusal::NumbersUsed);
+        }
+        self.table.move_to(serial, command, due);
+        Reply::Changed(name)
+    }
+}

@@ -1,0 +1,52 @@
+// HLDJOBQ, RLSJOBQ and CLRJOBQ: a queue is held or released, or its jobs end.
+use crate::Machine;
+use wm_base::{Kind, NoMemory, QName, Refusal};
+use wm_law::Reply;
+
+impl Machine {
+    ghost use Rattle.std.specs.Prelude.{◌≡◌, IfOk, OnOk, OnErr};
+    ghost use Rattle.wm_law.specs.Queues.{hold_queue, release_queue, clear_queue};
+
+    /// HLDJOBQ. An `Err` is want of memory and leaves the state.
+    pub(crate) fn hold_queue(&mut self, queue: &QName) -> Result<Reply, NoMemory>
+        ensures reply { IfOk result (λ r. r ≡ (hold_queue self.old queue.now).reply) }
+        ensures state { OnOk result (self.new ≡ (hold_queue self.old queue.now).state) }
+        ensures err { OnErr result (self.new ≡ self.old) }
+    {
+        if self.objects.jobqs.object(queue).is_none() {
+            return Ok(Reply::No(Refusal::NoObject(Kind::Jobq)));
+        }
+        if self.held.contains(queue) {
+            return Ok(Reply::No(Refusal::HeldAlready));
+        }
+        self.held.insert(*queue)?;
+        Ok(Reply::QueueHeld)
+    }
+
+    /// RLSJOBQ. It takes no memory.
+    pub(crate) fn release_queue(&mut self, queue: &QName) -> Reply
+        ensures reply { result ≡ (release_queue self.old queue.now).reply }
+        ensures state { self.new ≡ (release_queue self.old queue.now).state }
+    {
+        if self.objects.jobqs.object(queue).is_none() {
+            return Reply::No(Refusal::NoObject(Kind::Jobq));
+        }
+        if !self.held.contains(queue) {
+            return Reply::No(Refusal::NotHeld);
+        }
+        self.held.remove(queue);
+        Reply::QueueReleased
+    }
+
+    /// CLRJOBQ: each job that waits on the queue ends. It takes no memory.
+    pub(crate) fn clear_queue(&mut self, queue: &QName) -> Reply
+        ensures reply { result ≡ (clear_queue self.old queue.now).reply }
+        ensures state { self.new ≡ (clear_queue self.old queue.now).state }
+    {
+        if self.objects.jobqs.object(queue).is_none() {
+            return Reply::No(Refusal::NoObject(Kind::Jobq));
+        }
+        let count = self.table.clear(queue);
+        Reply::QueueCleared(count)
+    }
+}
