@@ -1,11 +1,12 @@
 // The calls of the machine, its replies, and the entries of its history.
+use crate::boxed::Boxed;
 use crate::command::Command;
 use wm_base::{Asked, Exit, JobName, Moment, Name, QName, Refusal, Serial, StartCause};
 
 /// What is called: a command by a user, or a call of a monitor.
 #[derive(Clone, Debug, PartialEq, Eq, Drop)]
 pub enum Call {
-    Change { user: Name, command: Command },
+    Change { user: Name, command: Boxed<Command> },
     Hand,
     Started(Serial),
     StartFailed(Serial, StartCause),
@@ -22,7 +23,7 @@ pub enum Reply {
     SbsStarted(QName),
     Submitted(JobName, QName),
     PowerDown,
-    Order(Asked),
+    Order(Boxed<Asked>),
     Nothing,
     Noted,
     No(Refusal),
@@ -47,7 +48,7 @@ impl Reply {
         ensures { option_copied result ≡ order_in self.now }
     {
         match self {
-            Reply::Order(asked) => Some(asked),
+            Reply::Order(asked) => Some(asked.get()),
             _ => None,
         }
     }
