@@ -115,7 +115,7 @@ impl Machine {
         ensures err { OnErr result (self.new ≡ self.old) }
     {
         match call {
-            Call::Change { user, command } => self.change(alloc, user, command),
+            Call::Change { user, command } => self.change(alloc, user, command.get()),
             Call::Hand => self.hand(alloc, caller),
             Call::Started(serial) => Ok(self.report_started(caller, *serial)),
             Call::StartFailed(serial, cause) => Ok(self.report_start_failed(
@@ -156,18 +156,12 @@ impl Machine {
         ensures err { OnErr result (self.new ≡ self.old) }
     {
         match call {
-            Call::Change {
-                user,
-                command: Command::Sbmjob(command),
-            } => self.submit(alloc, user, command, now),
-            Call::Change {
-                command: Command::Strsbs(command),
-                ..
-            } => self.start_subsystem(alloc, &command.sbsd, now),
-            Call::Change {
-                command: Command::Chgjob(command),
-                ..
-            } => Ok(self.change_job(command, now)),
+            Call::Change { user, command } => match command.get() {
+                Command::Sbmjob(command) => self.submit(alloc, user, command, now),
+                Command::Strsbs(command) => self.start_subsystem(alloc, &command.sbsd, now),
+                Command::Chgjob(command) => Ok(self.change_job(command, now)),
+                _ => self.apply_other(alloc, caller, call, now),
+            },
             _ => self.apply_other(alloc, caller, call, now),
         }
     }

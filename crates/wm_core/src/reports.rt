@@ -5,7 +5,7 @@ ghost use Rattle.wm_law.specs.Reports.{phase_word, is_handed_to, is_run_by, end_
 use crate::Machine;
 use std::alloc::Global;
 use wm_base::{Asked, EndCause, Exit, NoMemory, PhaseWord, Refusal, Serial, StartCause};
-use wm_law::{Call, Phase, Reply};
+use wm_law::{Boxed, Call, Phase, Reply};
 
 /// What a job's phase is called in a refusal.
 pub(crate) fn phase_word(phase: &Phase) -> PhaseWord
@@ -67,8 +67,9 @@ impl Machine {
         let Some(order) = self.parts().order_of(alloc, job)? else {
             return Ok(Reply::Nothing);
         };
+        let asked = Boxed::new(alloc, Asked::Start(order))?;
         self.table.set_phase(serial, Phase::Handed(monitor));
-        Ok(Reply::Order(Asked::Start(order)))
+        Ok(Reply::Order(asked))
     }
 
     // A report on a job that was handed to the monitor, which it moves on.

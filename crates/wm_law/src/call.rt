@@ -1,11 +1,12 @@
 // The calls of the machine, its replies, and the entries of its history.
+use crate::boxed::Boxed;
 use crate::command::Command;
 use wm_base::{Asked, Exit, JobName, Moment, Name, QName, Refusal, Serial, StartCause};
 
 /// What is called: a command by a user, or a call of a monitor.
 #[derive(Clone, Debug, PartialEq, Eq, Drop)]
 pub enum Call {
-    Change { user: Name, command: Command },
+    Change { user: Name, command: Boxed<Command> },
     Hand,
     Started(Serial),
     StartFailed(Serial, StartCause),
@@ -29,7 +30,7 @@ pub enum Reply {
     /// How many jobs it ended.
     QueueCleared(u32),
     PowerDown,
-    Order(Asked),
+    Order(Boxed<Asked>),
     Nothing,
     Noted,
     No(Refusal),
@@ -54,7 +55,7 @@ impl Reply {
         ensures { option_copied result ≡ order_in self.now }
     {
         match self {
-            Reply::Order(asked) => Some(asked),
+            Reply::Order(asked) => Some(asked.get()),
             _ => None,
         }
     }

@@ -11,6 +11,7 @@
 //! (what holds of each state that a history reaches, and over each entry).
 #![tactic(auto)]
 
+mod boxed;
 mod call;
 mod choice;
 mod command;
@@ -21,6 +22,7 @@ mod list;
 mod pending;
 mod state;
 
+pub use boxed::Boxed;
 pub use call::{Call, Entry, Reply};
 pub use choice::{Candidate, Rank};
 pub use command::{

@@ -49,7 +49,7 @@ pub fn entry_line(alloc: Global, entry: &Entry) -> Result<String, NoMemory>
     ensures { IfOk result (λ line. string_bytes line ≡ with_end (entry_text entry.now)) }
 {
     let text = match &entry.call {
-        Call::Change { command, .. } => said(alloc, command, &entry.reply)?,
+        Call::Change { command, .. } => said(alloc, command.get(), &entry.reply)?,
         _ => String::new(alloc),
     };
     let line = ended(text)?;

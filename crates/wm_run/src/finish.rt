@@ -76,7 +76,8 @@ impl Run {
         ensures quiet { OnOk result (length self.new.floor.log ≡ length self.old.floor.log + 1 → IsEmpty (P.reporting spawner.old)) }
         ensures causes { HasMonitorCauses result (P.faults spawner.old) (P.faults spawner.new) }
     {
-        self.call(alloc, clock, start_call())?;
+        let start = start_call(alloc)?;
+        self.call(alloc, clock, start)?;
         self.turn(alloc, spawner, clock)?;
         Ok(())
     }
@@ -97,7 +98,8 @@ impl Run {
         ensures causes { HasMonitorCauses result (P.faults spawner.old) (P.faults spawner.new) }
     {
         self.wait_for_jobs(rt, alloc, spawner, clock)?;
-        self.call(alloc, clock, end_call())?;
+        let end = end_call(alloc)?;
+        self.call(alloc, clock, end)?;
         self.wait_for_jobs(rt, alloc, spawner, clock)?;
         Ok(())
     }

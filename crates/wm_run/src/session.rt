@@ -4,6 +4,7 @@ ghost use Rattle.wm_outside.specs.Told.{Grows};
 ghost use Rattle.wm_outside.specs.Cause.{raised};
 
 use crate::answer::{NOT_BUILT, entry_line, fault_answer, is_fault, is_refused};
+use crate::calls::user_call;
 use crate::halt::Halt;
 use crate::monitor::Monitor;
 use crate::parse::parse_line;
@@ -11,7 +12,7 @@ use crate::parsed::Parsed;
 use crate::write::write_all;
 use std::alloc::Global;
 use std::sync::Wait;
-use wm_base::{Name, NoMemory};
+use wm_base::NoMemory;
 use wm_clwords::ClFault;
 use wm_floor::Floor;
 use wm_law::{Call, Command, built_commands_are_had};
@@ -164,8 +165,8 @@ impl Run {
         ensures causes { HasCauses result (O.faults out.old) (O.faults out.new) (P.faults spawner.old) (P.faults spawner.new) }
     {
         built_commands_are_had();
-        let user = Name::of(b"QUSER");
-        self.call(alloc, clock, Call::Change { user, command })?;
+        let change = user_call(alloc, command)?;
+        self.call(alloc, clock, change)?;
         let refused = self.reply(alloc, out)?;
         self.turn(alloc, spawner, clock)?;
         Ok(refused)

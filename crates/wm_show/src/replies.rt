@@ -79,7 +79,7 @@ pub fn said(alloc: Global, command: &Command, reply: &Reply) -> Result<String, N
         Reply::SbsStarted(sbs) => format!(in alloc; "OK subsystem {sbs} started"),
         Reply::Submitted(job, jobq) => submitted(alloc, job, jobq),
         Reply::PowerDown => String::from_str(alloc, "OK power down"),
-        Reply::Order(asked) => order_text(alloc, asked),
+        Reply::Order(asked) => order_text(alloc, asked.get()),
         Reply::Nothing => String::from_str(alloc, "NOTHING"),
         Reply::Noted => String::from_str(alloc, "NOTED"),
         Reply::No(refusal) => format!(in alloc; "NO {refusal}"),
