@@ -38,7 +38,7 @@ impl Model for Floor {
 impl Floor {
     /// The machine's opening state, with no history. An `Err` is want of memory.
     pub fn open(alloc: Global, setup: &Setup) -> Result<Floor, NoMemory>
-        ensures opened { IfOk result (λ floor. floor.opened ≡ opening setup.now.offset_min) }
+        ensures opened { IfOk result (λ floor. floor.opened ≡ opening setup.now.offset) }
         ensures log { IfOk result (λ floor. floor.log ≡ []) }
     {
         let core = Core::opening(alloc, setup)?;

@@ -24,6 +24,7 @@ use wm_desc::qbatch;
 use wm_floor::Floor;
 use wm_law::Entry;
 use wm_outside::{Clock, Sink, Source, Spawner};
+use wm_when::Offset;
 
 /// What a run answers for: its status, its history, and the report that it had not sent.
 #[derive(Drop)]
@@ -54,11 +55,11 @@ fn not_begun(alloc: Global, status: u8) -> Ran
 
 // What a run opens with: the controlling subsystem QGPL/QBATCH, and local time that is UTC.
 fn setup() -> Setup
-    ensures { result.offset_min ≡ run_offset }
+    ensures { result.offset ≡ run_offset }
 {
     Setup {
         ctl: qbatch(),
-        offset_min: 0,
+        offset: Offset::new(0),
     }
 }
 

@@ -19,7 +19,7 @@ use Rattle.wm_command.specs.declared.fault.CmdFault.TheVariants as cm
 use Rattle.wm_law.specs.declared.command.Command.{Command}
 use Rattle.wm_law.specs.declared.command.Command.TheVariants as command
 use Rattle.wm_law.specs.declared.call.Reply.{Reply}
-use Rattle.wm_law.specs.declared.call.Reply.TheVariants.{Made, SbsStarted, Submitted, PowerDown, Order, Nothing, Noted, No}
+use Rattle.wm_law.specs.declared.call.Reply.TheVariants.{Made, SbsStarted, Submitted, Held, Released, Changed, QueueHeld, QueueReleased, QueueCleared, PowerDown, Order, Nothing, Noted, No}
 use Rattle.wm_show.specs.declared.line_fault.LineFault.{LineFault}
 use Rattle.wm_show.specs.declared.line_fault.LineFault.TheVariants.{Cl, Cm}
 
@@ -28,7 +28,7 @@ abbrev pub order_text : Asked → List ℕ
 order_text (Start o) = codes "ORDER START " ++ decimal o.serial
 order_text (Kill serial) = codes "ORDER KILL " ++ decimal serial
 
--- what a command that makes or changes something names first
+-- what a command that makes or changes an object names first, or one that is about a queue
 abbrev pub made_name : Command → Option QName
 made_name (command.Crtcls c) = Some c.cls
 made_name (command.Crtjobq c) = Some c.jobq
@@ -43,6 +43,9 @@ made_name (command.Rmvjobqe c) = Some c.sbsd
 made_name (command.Rmvrtge c) = Some c.sbsd
 made_name (command.Rmvaje c) = Some c.sbsd
 made_name (command.Rmvpje c) = Some c.sbsd
+made_name (command.Hldjobq c) = Some c.jobq
+made_name (command.Rlsjobq c) = Some c.jobq
+made_name (command.Clrjobq c) = Some c.jobq
 made_name c = None
 
 -- a blank and the name, where there is one
@@ -54,11 +57,21 @@ behind_blank (Some q) = codes " " ++ qname_text q
 abbrev pub made_text : Command → List ℕ
 made_text c = codes "OK " ++ change_word (verb_of c) ++ behind_blank (made_name c)
 
+-- what is said of a command about a queue
+abbrev pub queue_text : Command → List ℕ → List ℕ
+queue_text c end = codes "OK queue" ++ behind_blank (made_name c) ++ end
+
 -- what is said of a command's reply
 abbrev pub said_text : Command → Reply → List ℕ
 said_text c Made = made_text c
 said_text c (SbsStarted sbs) = codes "OK subsystem " ++ qname_text sbs ++ codes " started"
 said_text c (Submitted job jobq) = codes "OK " ++ job_name_text job ++ codes " submitted to " ++ qname_text jobq
+said_text c (Held job) = codes "OK " ++ job_name_text job ++ codes " held"
+said_text c (Released job) = codes "OK " ++ job_name_text job ++ codes " released"
+said_text c (Changed job) = codes "OK " ++ job_name_text job ++ codes " changed"
+said_text c QueueHeld = queue_text c (codes " held")
+said_text c QueueReleased = queue_text c (codes " released")
+said_text c (QueueCleared count) = queue_text c (codes " cleared of " ++ decimal count ++ codes " jobs")
 said_text c PowerDown = codes "OK power down"
 said_text c (Order asked) = order_text asked
 said_text c Nothing = codes "NOTHING"

@@ -1,9 +1,10 @@
 // The texts of replies.
-ghost use Rattle.std.specs.Prelude.{◌≡◌, ◌++◌, IfOk, codes, string_bytes};
+ghost use Rattle.std.specs.Prelude.{◌≡◌, ◌++◌, IfOk, OnOk, codes, string_bytes};
 ghost use Rattle.std.specs.Option.{option_copied};
 ghost use Rattle.wm_base.specs.JobName.{job_name_text};
 ghost use Rattle.wm_base.specs.QName.{qname_text};
-ghost use Rattle.wm_show.specs.Said.{made_name, made_text, order_text, said_text};
+ghost use Rattle.std.specs.Fmt.{decimal};
+ghost use Rattle.wm_show.specs.Said.{behind_blank, made_name, made_text, order_text, queue_text, said_text};
 
 use std::alloc::Global;
 use wm_base::{Asked, JobName, NoMemory, QName};
@@ -34,7 +35,7 @@ fn submitted(alloc: Global, job: &JobName, jobq: &QName) -> Result<String, NoMem
     Ok(text)
 }
 
-// What a command that makes or changes something names first.
+// What a command that makes or changes an object names first, or one that is about a queue.
 fn made_name(command: &Command) -> Option<&QName>
     ensures { option_copied result ≡ made_name command.now }
 {
@@ -52,8 +53,23 @@ fn made_name(command: &Command) -> Option<&QName>
         Command::Rmvrtge(c) => Some(&c.sbsd),
         Command::Rmvaje(c) => Some(&c.sbsd),
         Command::Rmvpje(c) => Some(&c.sbsd),
+        Command::Hldjobq(c) => Some(&c.jobq),
+        Command::Rlsjobq(c) => Some(&c.jobq),
+        Command::Clrjobq(c) => Some(&c.jobq),
         _ => None,
     }
+}
+
+// Adds a blank and that name, where there is one.
+fn push_name(text: &mut String, alloc: Global, command: &Command) -> Result<(), NoMemory>
+    ensures { OnOk result (string_bytes text.new ≡ string_bytes text.old ++ behind_blank (made_name command.now)) }
+{
+    if let Some(name) = made_name(command) {
+        text.push_str(" ")?;
+        let name = name.to_string(alloc)?;
+        text.push_str(name.as_str())?;
+    }
+    Ok(())
 }
 
 // The command's word, and that name.
@@ -62,11 +78,26 @@ fn made(alloc: Global, command: &Command) -> Result<String, NoMemory>
 {
     let mut text = String::from_str(alloc, "OK ")?;
     text.push_str(command_word(command))?;
-    if let Some(name) = made_name(command) {
-        text.push_str(" ")?;
-        let name = name.to_string(alloc)?;
-        text.push_str(name.as_str())?;
-    }
+    push_name(&mut text, alloc, command)?;
+    Ok(text)
+}
+
+// The queue that a command is about, and what became of it.
+fn queue(alloc: Global, command: &Command, end: &str) -> Result<String, NoMemory>
+    ensures { IfOk result (λ text. string_bytes text ≡ queue_text command.now end.now) }
+{
+    let mut text = String::from_str(alloc, "OK queue")?;
+    push_name(&mut text, alloc, command)?;
+    text.push_str(end)?;
+    Ok(text)
+}
+
+// That the queue was cleared, and of how many jobs.
+fn cleared(alloc: Global, command: &Command, count: u32) -> Result<String, NoMemory>
+    ensures { IfOk result (λ text. string_bytes text ≡ queue_text command.now (codes " cleared of " ++ decimal count ++ codes " jobs")) }
+{
+    let end = format!(in alloc; " cleared of {count} jobs")?;
+    let text = queue(alloc, command, end.as_str())?;
     Ok(text)
 }
 
@@ -78,6 +109,12 @@ pub fn said(alloc: Global, command: &Command, reply: &Reply) -> Result<String, N
         Reply::Made => made(alloc, command),
         Reply::SbsStarted(sbs) => format!(in alloc; "OK subsystem {sbs} started"),
         Reply::Submitted(job, jobq) => submitted(alloc, job, jobq),
+        Reply::Held(job) => format!(in alloc; "OK {job} held"),
+        Reply::Released(job) => format!(in alloc; "OK {job} released"),
+        Reply::Changed(job) => format!(in alloc; "OK {job} changed"),
+        Reply::QueueHeld => queue(alloc, command, " held"),
+        Reply::QueueReleased => queue(alloc, command, " released"),
+        Reply::QueueCleared(count) => cleared(alloc, command, *count),
         Reply::PowerDown => String::from_str(alloc, "OK power down"),
         Reply::Order(asked) => order_text(alloc, asked.get()),
         Reply::Nothing => String::from_str(alloc, "NOTHING"),

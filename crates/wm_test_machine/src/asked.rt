@@ -24,7 +24,7 @@ impl Tested {
     fn show(&self, words: &str, answer: &mut String) -> Result<()> {
         let (what, name) = first_word(words);
         match what {
-            "jobs" | "next" | "holder" | "pending" | "power" => write_state(
+            "jobs" | "waiting" | "next" | "holder" | "pending" | "power" => write_state(
                 &self.machine,
                 what,
                 name,

@@ -2,6 +2,7 @@
 use crate::tested::Tested;
 use crate::text::{first_word, name_of, number_of, qname_of};
 use anyhow::{Context, Result, bail};
+use wm_base::Moment;
 use wm_desc::Objects;
 use wm_law::{Power, Sbs, SbsPhase};
 
@@ -15,7 +16,8 @@ fn power_of(word: &str) -> Result<Power> {
 }
 
 impl Tested {
-    /// Sets what the first word says: `user`, `objects none`, `number`, `power` or `started`.
+    /// Sets what the first word says: `user`, `objects none`, `number`, `power`, `started`, or `now`, the moment of the
+    /// calls that follow.
     pub fn set(&mut self, words: &str) -> Result<()> {
         let (what, value) = first_word(words);
         match what {
@@ -24,8 +26,17 @@ impl Tested {
             "number" => self.machine.next_number = u32::try_from(number_of(value)?)?,
             "power" => self.machine.power = power_of(value)?,
             "started" => self.set_started(value)?,
+            "now" => self.set_now(number_of(value)?)?,
             _ => bail!("nothing to be set"),
         }
+        Ok(())
+    }
+
+    fn set_now(&mut self, now: u64) -> Result<()> {
+        if now > Moment::MAX {
+            bail!("no moment");
+        }
+        self.now = Moment::new(now);
         Ok(())
     }
 

@@ -33,6 +33,27 @@ fn write_jobs(machine: &Machine, answer: &mut String) -> Result<()> {
     Ok(())
 }
 
+// A Waiting job by its serial, name, queue, priority, place and moment, and whether it is held.
+fn write_waiting_job(job: &Job, answer: &mut String) -> Result<()> {
+    let queue = job.jobq.context("a queue")?;
+    let held = if job.held { " HELD" } else { "" };
+    writeln!(
+        answer,
+        "{} {} {queue} {} {} DUE {}{held}",
+        job.serial, job.job.name, job.pty, job.place, job.due
+    )?;
+    Ok(())
+}
+
+fn write_waiting(machine: &Machine, answer: &mut String) -> Result<()> {
+    for job in machine.jobs().jobs() {
+        if let Phase::Waiting = job.phase {
+            write_waiting_job(job, answer)?;
+        }
+    }
+    Ok(())
+}
+
 // The next job, whose looks nobody counts.
 fn next<L: Ledger>(machine: &Machine, blank: Blank) -> Option<Candidate>
     requires name { blank.name ≡ L.name }
@@ -83,11 +104,12 @@ fn write_power(machine: &Machine, answer: &mut String) -> Result<()> {
     Ok(())
 }
 
-/// Adds what the word says: the `jobs` by serial, the `next` one, the `holder` of a queue, what is `pending`, or the
+/// Adds what the word says: the `jobs` by serial, the `waiting` ones, the `next` one, the `holder` of a queue, what is `pending`, or the
 /// `power` and how many subsystems are started.
 pub fn write_state(machine: &Machine, what: &str, name: &str, answer: &mut String) -> Result<()> {
     match what {
         "jobs" => write_jobs(machine, answer),
+        "waiting" => write_waiting(machine, answer),
         "next" => write_next(machine, answer),
         "holder" => write_holder(machine, name, answer),
         "pending" => write_pending(machine, answer),

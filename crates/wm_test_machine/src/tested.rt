@@ -10,9 +10,10 @@ use wm_base::{Moment, Name};
 use wm_command::Line;
 use wm_core::{Machine, Setup};
 use wm_desc::qbatch;
-use wm_law::{Call, Command, Reply};
+use wm_law::{Boxed, Call, Command, Reply};
+use wm_when::Offset;
 
-/// The moment of each call.
+/// The moment of each call, where no other is set.
 const NOW: u64 = 1000;
 
 /// The pass of a session.
@@ -23,6 +24,8 @@ pub struct Tested {
     pub alloc: Global,
     pub user: Name,
     pub machine: Machine,
+    /// The moment of the calls.
+    pub now: Moment,
 }
 
 impl Tested {
@@ -33,13 +36,14 @@ impl Tested {
     pub fn new(alloc: Global) -> Result<Tested> {
         let setup = Setup {
             ctl: qbatch(),
-            offset_min: 0,
+            offset: Offset::new(0),
         };
         let machine = Machine::opening(alloc, &setup)?;
         Ok(Tested {
             alloc,
             user: Name::of(b"QUSER"),
             machine,
+            now: Moment::new(NOW),
         })
     }
 
@@ -53,8 +57,7 @@ impl Tested {
         if !has_call(&self.machine, call) {
             return Ok(None);
         }
-        let now = Moment::new(NOW);
-        let reply = self.machine.step(self.alloc, caller, call, now)?;
+        let reply = self.machine.step(self.alloc, caller, call, self.now)?;
         Ok(Some(reply))
     }
 
