@@ -6,3 +6,4 @@ pub mod JobParts
 pub mod One
 pub mod Sifted
 pub mod Splits
+pub mod Waits
