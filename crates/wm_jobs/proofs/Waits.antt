@@ -5,10 +5,14 @@ use Rattle.std.specs.Ordering.{nat_cmp}
 use Rattle.std.proofs.lemmas.Bool.{cases_Bool}
 use Rattle.std.proofs.lemmas.List.{length-append, length-map}
 use mathlib.Core.Bool.{false≢true}
+use Rattle.std.specs.Option.{option_or}
 use Rattle.wm_base.specs.declared.job.How.{How}
+use Rattle.wm_base.specs.declared.qname.QName.{QName}
 use Rattle.wm_desc.specs.Place.{IsAt, IsGap}
+use Rattle.wm_law.specs.declared.command.Chgjob.{Chgjob}
 use Rattle.wm_law.specs.declared.job.Job.{Job}
 use Rattle.wm_law.specs.declared.job.Phase.{Phase}
+use Rattle.wm_law.specs.Changing.{moved_to}
 use Rattle.wm_law.specs.Counts.{is_waiting, is_starting, is_active}
 use Rattle.wm_law.specs.Jobs.{waiting_at}
 use Rattle.wm_law.specs.Pending.{is_prestart}
@@ -69,6 +73,14 @@ pub record Keeps (np : ℕ) (change : Job → Job) : Type 0 where
   pub how : (j : Job) → (change j).how ≡ j.how
   pub queue : (j : Job) → is_some j.jobq ≡ true → is_some (change j).jobq ≡ true
   pub place : (j : Job) → j.place < np → (change j).place < np
+
+or-some : (a b : Option QName) → is_some b ≡ true → is_some (option_or a b) ≡ true
+or-some None b has = has
+or-some (Some q) b has = refl
+
+-- a job that is moved has the place before the next
+pub keeps-moved : (c : Chgjob) (place due : ℕ) → Keeps (place + 1) (moved_to c place due)
+keeps-moved c place due = record { serial = λ _. refl; phase = λ _. refl; kind = λ _. refl; how = λ _. refl; queue = λ j has. or-some c.jobq j.jobq has; place = λ _ _. omega arith }
 
 either : (P : Job → Type 0) (b : Bool) (j k : Job) → P k → P j → P (cond b k j)
 either P true j k changed same = changed

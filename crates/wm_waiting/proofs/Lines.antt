@@ -68,6 +68,40 @@ fold-earlier (x ∷ xs) a w there least beyond =
       ]
     ]
 
+-- the fold finds one of those that it goes through, or keeps the one that it begins with
+found-among : (xs : List Waiter) (a : Option Waiter) (w : Waiter) → fold earlier a xs ≡ Some w → (a ≡ Some w) ⊎ Contains xs w
+found-among [] a w found = inl found
+found-among (x ∷ xs) a w found = elim (found-among xs (earlier a x) w found) [ inl e ↦ better a e | inr later ↦ inr (Contains-cons x w xs later) ]
+  where
+    of-two : (b : Bool) (v : Waiter) → cond b (Some x) (Some v) ≡ Some w → (◌≡◌ {A = Option Waiter} (Some v) (Some w)) ⊎ Contains (x ∷ xs) w
+    of-two true v e = let same : x ≡ w = cc e in inr (subst (λ z. Contains (x ∷ xs) z) same (Contains-head x xs))
+    of-two false v e = inl e
+
+    better : (a : Option Waiter) → earlier a x ≡ Some w → (a ≡ Some w) ⊎ Contains (x ∷ xs) w
+    better None e = let same : x ≡ w = cc e in inr (subst (λ z. Contains (x ∷ xs) z) same (Contains-head x xs))
+    better (Some v) e = of-two (is_before x v) v e
+
+never-none : (xs : List Waiter) (w : Waiter) → fold earlier (Some w) xs ≡ None → ⊥
+never-none [] w none = cc none
+never-none (x ∷ xs) w none = on (is_before x w) (never-none xs x) (never-none xs w) none
+  where
+    on : (b : Bool) → (fold earlier (Some x) xs ≡ None → ⊥) → (fold earlier (Some w) xs ≡ None → ⊥) → fold earlier (cond b (Some x) (Some w)) xs ≡ None → ⊥
+    on true x_never w_never e = x_never e
+    on false x_never w_never e = w_never e
+
+no-element : (xs : List Waiter) → fold earlier None xs ≡ None → xs ≡ []
+no-element [] none = refl
+no-element (x ∷ xs) none = absurd (never-none xs x none)
+
+-- where there is no first, none is on the queue
+pub first_on-None : (queue : QName) (items : List Waiter) → first_on queue items ≡ None → filter (is_on queue) items ≡ []
+first_on-None queue items none = no-element (filter (is_on queue) items) none
+
+-- the first is one on the queue
+pub first_on-Some : (queue : QName) (items : List Waiter) (w : Waiter) → first_on queue items ≡ Some w → Contains items w × (is_on queue w ≡ true)
+first_on-Some queue items w found =
+    elim (found-among (filter (is_on queue) items) None w found) [ inl e ↦ absurd (cc e) | inr there ↦ Contains-from_filter (is_on queue) items w there ]
+
 -- one on the queue is no earlier than the begin of the queue
 same-queue : (queue : QName) (w : Waiter) → is_on queue w ≡ true → qname_cmp w.jobq queue ≡ Equal
 same-queue queue w on = is_eq-Equal _ (sym (qname_ties w.jobq queue) ∙ on)
