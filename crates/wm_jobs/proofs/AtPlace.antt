@@ -41,13 +41,13 @@ room-same : {n m cap cap' room room' : ℕ} {w : Waiting} {t : Counts} {o : Pair
 room-same e f g h = rw (e, f, g) h
 
 -- the places of those that wait were given
-pub places-below : (t : Inside) → IsTableInside t → All (λ (u : Waiter). u.place < t.next_place) t.waiting.items
+places-below : (t : Inside) → IsTableInside t → All (λ (u : Waiter). u.place < t.next_place) t.waiting.items
 places-below t h =
     subst (λ (ws : List Waiter). All (λ (u : Waiter). u.place < t.next_place) ws) (sym h.indexed.waiters_are)
     (picked-keys (λ k. k.place) waiter_of (λ u. u.place) waiter-placed (λ n. n < t.next_place) t.jobs.items (All-weaker (IsListed t.next_serial t.next_place) (λ (k : Job). k.place < t.next_place) (λ k l. l.place) t.jobs.items h.listed.each))
 
 -- what stands at a place is the same by each default
-pub stands-itself : (s at : ℕ) (xs js : List Job) (d : Job) → js ≡ xs → IsAt serial_of nat_cmp s js at → get_or xs at d ≡ get_or xs at (get_or xs at d)
+stands-itself : (s at : ℕ) (xs js : List Job) (d : Job) → js ≡ xs → IsAt serial_of nat_cmp s js at → get_or xs at d ≡ get_or xs at (get_or xs at d)
 stands-itself s at xs js d same there = get_or_default xs at d (get_or xs at d) (subst (λ (ks : List Job). at < length ks) same there.in_range)
 
 module _ (t : Inside) (h : IsTableInside t) (s at : ℕ) (x : Job) (js : List Job) (same : js ≡ t.jobs.items) (there : IsAt serial_of nat_cmp s js at) (is : x ≡ get_or t.jobs.items at x) where
@@ -120,7 +120,7 @@ module _ (t : Inside) (h : IsTableInside t) (s at : ℕ) (x : Job) (js : List Jo
     abbrev after : Job
     after = if_waiting change x
 
-    pub waiting-changed : (ks : List Job) → ks ≡ map (waiting_at s change) t.jobs.items → ks ≡ before ++ after ∷ behind
+    waiting-changed : (ks : List Job) → ks ≡ map (waiting_at s change) t.jobs.items → ks ≡ before ++ after ∷ behind
     waiting-changed ks jobs = jobs ∙ (map-waiting s change t.jobs.items ∙ map-split serial_of s (if_waiting change) t.jobs.items before behind x split)
 
     -- where it doesn't wait, none is changed
@@ -128,7 +128,7 @@ module _ (t : Inside) (h : IsTableInside t) (s at : ℕ) (x : Job) (js : List Jo
     not-changed waits = split.whole ∙ (ap (λ b. before ++ cond b (change x) x ∷ behind) (sym waits) ∙ sym (waiting-changed (map (waiting_at s change) t.jobs.items) refl))
 
     -- it stands where it stood
-    pub stands-changed : (ks : List Job) (y : Job) → ks ≡ map (waiting_at s change) t.jobs.items → y ≡ get_or ks at y → y ≡ after
+    stands-changed : (ks : List Job) (y : Job) → ks ≡ map (waiting_at s change) t.jobs.items → y ≡ get_or ks at y → y ≡ after
     stands-changed ks y jobs y_is =
         y_is
         ∙ (ap (λ (ls : List Job). get_or ls at y) jobs
@@ -151,7 +151,7 @@ module _ (t : Inside) (h : IsTableInside t) (s at : ℕ) (x : Job) (js : List Jo
       alike : is_some (waiter_of after) ≡ is_some (waiter_of x)
       alike = is-waiter after has-queue ∙ (ap is_waiting (kept.phase x) ∙ sym (is-waiter x had-queue))
 
-      pub renewed-inside : (new : Inside) → new.jobs.items ≡ map (waiting_at s change) t.jobs.items → new.next_serial ≡ t.next_serial → new.next_place ≡ np → new.room ≡ t.room → vec_capacity new.jobs ≡ vec_capacity t.jobs → new.waiting.items ≡ renewed (waiter_of after) t.waiting.items → new.waiting.spare ≡ t.waiting.spare → new.tally ≡ t.tally → new.starting ≡ t.starting → new.active ≡ t.active → new.busy ≡ t.busy → IsTableInside new
+      renewed-inside : (new : Inside) → new.jobs.items ≡ map (waiting_at s change) t.jobs.items → new.next_serial ≡ t.next_serial → new.next_place ≡ np → new.room ≡ t.room → vec_capacity new.jobs ≡ vec_capacity t.jobs → new.waiting.items ≡ renewed (waiter_of after) t.waiting.items → new.waiting.spare ≡ t.waiting.spare → new.tally ≡ t.tally → new.starting ≡ t.starting → new.active ≡ t.active → new.busy ≡ t.busy → IsTableInside new
       renewed-inside new jobs ns np_is room capacity we ws te se ae be =
           let changed : new.jobs.items ≡ before ++ after ∷ behind = waiting-changed new.jobs.items jobs in
           record {
@@ -165,7 +165,7 @@ module _ (t : Inside) (h : IsTableInside t) (s at : ℕ) (x : Job) (js : List Jo
       waited w w_is = ap is_waiting (sym (kept.phase x)) ∙ (sym (is-waiter after has-queue) ∙ ap (λ (o : Option Waiter). is_some o) w_is)
 
       -- it keeps its place
-      pub owns-its : waiting.HavePlaces t.waiting.items → ((j : Job) → (change j).place ≡ j.place) → OwnsPlace (waiter_of after) t.waiting.items
+      owns-its : waiting.HavePlaces t.waiting.items → ((j : Job) → (change j).place ≡ j.place) → OwnsPlace (waiter_of after) t.waiting.items
       owns-its places stays =
           owns (waiter_of after) t.waiting.items (λ w w_is v v_there place.
           let waits = waited w w_is in
@@ -178,7 +178,7 @@ module _ (t : Inside) (h : IsTableInside t) (s at : ℕ) (x : Job) (js : List Jo
           ap (λ (z : Waiter). z.serial) one ∙ (waiter-keyed x u.0 u.1 ∙ (sym (kept.serial x) ∙ sym (waiter-keyed after w w_is))))
 
       -- it has the next place
-      pub owns-next : ((j : Job) → (change j).place ≡ t.next_place) → OwnsPlace (waiter_of after) t.waiting.items
+      owns-next : ((j : Job) → (change j).place ≡ t.next_place) → OwnsPlace (waiter_of after) t.waiting.items
       owns-next takes =
           owns (waiter_of after) t.waiting.items (λ w w_is v v_there place.
           let is_after : after ≡ change x = ap (λ b. cond b (change x) x) (waited w w_is) in
@@ -206,3 +206,24 @@ module _ (t : Inside) (h : IsTableInside t) (s at : ℕ) (x : Job) (js : List Jo
         let tally : t.tally.spare ≤ new.tally.spare + 1 = (let same : new.tally.spare ≡ t.tally.spare = ap (λ (k : Counts). k.spare) te in omega arith) in
         let starting : t.starting.spare ≤ new.starting.spare + 1 = (let same : new.starting.spare ≡ t.starting.spare = ap (λ (o : Pairs ℕ (Unit {0})). o.spare) se in omega arith) in
         launched-inside ends waits refl new (phased-launched new.jobs.items jobs) ns np room capacity we ws te tally (ap (λ (o : Pairs ℕ (Unit {0})). o.items) se) starting (omega (arith, ae)) (omega (arith, be))
+
+-- the job that stands at the place after the change is the one that stood there, changed where it waits
+module _ (t : Inside) (h : IsTableInside t) (s at : ℕ) (js : List Job) (same : js ≡ t.jobs.items) (there : IsAt serial_of nat_cmp s js at) (change : Job → Job) (np : ℕ) (le : t.next_place ≤ np) (keeps : Keeps np change) (ks : List Job) (jobs : ks ≡ map (waiting_at s change) t.jobs.items) (y : Job) (y_is : y ≡ get_or ks at y) where
+  abbrev had : Job
+  had = get_or t.jobs.items at y
+
+  had_is : had ≡ get_or t.jobs.items at had
+  had_is = stands-itself s at t.jobs.items js y same there
+
+  changed_is : y ≡ if_waiting change had
+  changed_is = stands-changed t h s at had js same there had_is change ks y jobs y_is
+
+  pub keeps-its : waiting.HavePlaces t.waiting.items → ((j : Job) → (change j).place ≡ j.place) → OwnsPlace (waiter_of y) t.waiting.items
+  keeps-its places stays = subst (λ (k : Job). OwnsPlace (waiter_of k) t.waiting.items) (sym changed_is) (owns-its t h s at had js same there had_is change np le keeps places stays)
+
+  pub takes-next : ((j : Job) → (change j).place ≡ t.next_place) → OwnsPlace (waiter_of y) t.waiting.items
+  takes-next takes = subst (λ (k : Job). OwnsPlace (waiter_of k) t.waiting.items) (sym changed_is) (owns-next t h s at had js same there had_is change np le keeps takes)
+
+  pub changed-inside : (new : Inside) → new.jobs.items ≡ map (waiting_at s change) t.jobs.items → new.next_serial ≡ t.next_serial → new.next_place ≡ np → new.room ≡ t.room → vec_capacity new.jobs ≡ vec_capacity t.jobs → new.waiting.items ≡ renewed (waiter_of y) t.waiting.items → new.waiting.spare ≡ t.waiting.spare → new.tally ≡ t.tally → new.starting ≡ t.starting → new.active ≡ t.active → new.busy ≡ t.busy → IsTableInside new
+  changed-inside new jobs_are ns np_is room capacity we ws te se ae be =
+      renewed-inside t h s at had js same there had_is change np le keeps new jobs_are ns np_is room capacity (we ∙ ap (λ (k : Job). renewed (waiter_of k) t.waiting.items) changed_is) ws te se ae be
