@@ -9,7 +9,7 @@ use Rattle.wm_names.specs.declared.namesakes.Namesakes.{Namesakes}
 use Rattle.wm_names.specs.Namesakes.{joined, same_ref, namesakes_at, IsAmong, IsOneSerial}
 use Rattle.wm_names.specs.Names.{Names, IsNames, namesakes_in}
 use Rattle.wm_names.specs.Refs.{AreFew, AreThere, is_named_open}
-use Rattle.wm_names.proofs.JobLemmas.{IsSmall, total, joined-injective, total-middle, total-push, total-bounds, total-one, total-among, small-replaced, small-push}
+use Rattle.wm_names.proofs.JobLemmas.{total, joined-injective, total-middle, total-push, total-bounds, total-one, total-among, small-replaced, small-push}
 
 -- a reference names a job by its full name or without the number
 full_ref : (r : JobRef) (j : Job) (n : Namesakes) → joined (same_ref (Full j.job) r) j.serial (joined (is_named_open r j) j.serial n) ≡ joined (is_named r j) j.serial n

@@ -1,5 +1,5 @@
 -- What the row of a key is after an edit of the row of another key, or of its own.
-use Rattle.std.proofs.Common.{◌≡◌, ℕ, ◌+◌, ◌<◌, ◌≤◌, Bool, true, false, not, cond, List, [], ◌∷◌, ◌++◌, take, drop, Option, Some, None, option_map, is_some, unwrap_or, nat_lt, refl, ap, sym, ◌∙◌, subst, arith}
+use Rattle.std.proofs.Common.{◌≡◌, ℕ, ◌≤◌, Bool, true, false, not, cond, List, [], ◌∷◌, take, drop, Option, Some, None, option_map, is_some, unwrap_or, nat_lt, refl, ap, sym, ◌∙◌, arith}
 use Rattle.std.specs.List.{filter, find, insert}
 use Rattle.std.specs.Option.{option_or}
 use Rattle.std.specs.Ordering.{is_eq}
@@ -9,12 +9,13 @@ use Rattle.std.specs.declared.cmp.Ordering.TheVariants.{Less, Equal, Greater}
 use Rattle.std.proofs.lemmas.Bool.{false≢true}
 use Rattle.std.proofs.lemmas.Cmp.{alike_right}
 use Rattle.std.proofs.lemmas.List.{take-append-drop}
+use Rattle.std.proofs.lemmas.List.Elements.{All-append, All-cons, All-take, All-drop, All-filter}
 use Rattle.std.proofs.lemmas.List.Folds.{find-append}
 use Rattle.wm_desc.specs.Sorted.{has_key, added, removed, place_of}
 use Rattle.wm_desc.proofs.Places.{list_any-find}
 use Rattle.wm_ordered.specs.Ordered.{key_of, value_at}
 use Rattle.wm_names.specs.declared.namesakes.Namesakes.{Namesakes}
-use Rattle.wm_names.specs.Namesakes.{nobody, joined, namesakes_at, IsAmong}
+use Rattle.wm_names.specs.Namesakes.{nobody, joined, namesakes_at, HaveJobs, IsAmong}
 
 left_none : {X : Type 0} (a b : Option X) → option_or a b ≡ None → a ≡ None
 left_none None b h = refl
@@ -145,6 +146,20 @@ module _ {K : Type 0} (eq : K → K → Bool) (cmp : K → K → Ordering) (o : 
 
     pub gone-row : joined true serial nobody ≡ namesakes_at eq key rows → joined (eq key k) serial (namesakes_at eq k (removed key_of eq key rows)) ≡ namesakes_at eq k rows
     gone-row is = row-gone (eq key k) refl is
+
+module _ {K : Type 0} (eq : K → K → Bool) (cmp : K → K → Ordering) (key : K) (rows : List (K × Namesakes)) where
+  -- a removal leaves rows that have a job
+  pub kept-removed : HaveJobs rows → HaveJobs (removed key_of eq key rows)
+  kept-removed have = All-filter (λ (x : K × Namesakes). not (eq x.0 key)) (λ (x : K × Namesakes). 1 ≤ x.1.count) rows have
+
+  -- and so does one that has a job and is put in
+  pub kept-added : (v : Namesakes) → 1 ≤ v.count → HaveJobs rows → HaveJobs (added key_of cmp (key, v) (removed key_of eq key rows))
+  kept-added v some have =
+      let others = removed key_of eq key rows in
+      let i : ℕ = place_of key_of cmp key others in
+      let left = kept-removed have in
+      let P : K × Namesakes → Type 0 = λ x. 1 ≤ x.1.count in
+      All-append P (take i others) ((key, v) ∷ drop i others) (All-take P i others left) (All-cons P (key, v) (drop i others) some (All-drop P i others left))
 
 -- where a job is among those of a row, and there aren't several, it is alone
 pub last : (serial : ℕ) (row : Namesakes) → IsAmong serial row → nat_lt 1 row.count ≡ false → joined true serial nobody ≡ row

@@ -1,5 +1,5 @@
 -- What lies in a row of names, and how a job joins it.
-use Rattle.std.specs.Prelude.{◌≡◌, ℕ, zero, suc, ◌+◌, ◌^◌, ◌<◌, ◌≤◌, Bool, true, false, List, Result, Ok, Err, unwrap_or}
+use Rattle.std.specs.Prelude.{◌≡◌, ℕ, zero, suc, ◌+◌, ◌^◌, ◌<◌, ◌≤◌, Bool, true, false, List, All, Result, Ok, Err, unwrap_or}
 use Rattle.wm_base.specs.declared.refusal.Refusal.{Refusal}
 use Rattle.wm_base.specs.declared.refusal.Refusal.TheVariants.{Ambiguous, NoJob}
 use Rattle.wm_law.specs.declared.command.JobRef.{JobRef}
@@ -23,6 +23,10 @@ joined false serial row = row
 -- the row of a key; a key without a row has no job
 abbrev pub namesakes_at : {K : Type 0} → (K → K → Bool) → K → List (K × Namesakes) → Namesakes
 namesakes_at eq key rows = unwrap_or (value_at eq key rows) nobody
+
+-- each row has a job
+abbrev pub HaveJobs : {K : Type 0} → List (K × Namesakes) → Type 0
+HaveJobs rows = All (λ row. 1 ≤ row.1.count) rows
 
 -- a job of the serial is among these; where it is alone, the sum is its serial
 pub record IsAmong (serial : ℕ) (row : Namesakes) : Type 0 where

@@ -86,9 +86,6 @@ impl JobNames {
     pub fn find(&self, reference: &JobRef) -> Result<Serial, Refusal>
         ensures { (jobs : List Job) → IsNames jobs self.now → result ≡ serial_of_one (only_one (filter (is_named reference.now) jobs)) }
     {
-        self.rows
-            .get(reference)
-            .unwrap_or(Namesakes::nobody())
-            .only()
+        Namesakes::of(self.rows.get(reference)).only()
     }
 }

@@ -9,17 +9,17 @@ pub(crate) struct Namesakes {
 }
 
 impl Namesakes {
-    ghost use Rattle.std.specs.Prelude.{◌≡◌, ◌+◌, ◌^◌, ◌<◌, ◌≤◌, true, nat_lt};
+    ghost use Rattle.std.specs.Prelude.{◌≡◌, ◌+◌, ◌^◌, ◌<◌, ◌≤◌, true, nat_lt, unwrap_or};
     ghost use Rattle.wm_names.specs.Namesakes.{nobody, joined, only, IsAmong, IsOneSerial};
 
-    /// Those of a reference that names no job.
-    pub(crate) fn nobody() -> Namesakes
-        ensures { result ≡ nobody }
+    /// Those of a row, where there is one.
+    pub(crate) fn of(row: Option<Namesakes>) -> Namesakes
+        ensures { result ≡ unwrap_or row nobody }
     {
-        Namesakes {
+        row.unwrap_or(Namesakes {
             count: 0,
             serials: 0,
-        }
+        })
     }
 
     /// These and one job more.

@@ -1,6 +1,5 @@
-use Rattle.std.proofs.Common.{◌≡◌, ◌+◌, ◌^◌, ◌<◌, ◌≤◌, ◌∷◌, ◌++◌, [], ap, sym, ◌∙◌, subst, arith}
+use Rattle.std.proofs.Common.{◌∷◌, ◌++◌, [], sym, subst}
 use Rattle.wm_law.specs.declared.command.JobRef.TheVariants.{Full}
-use Rattle.wm_names.specs.Namesakes.{same_ref, namesakes_at}
 use Rattle.wm_names.specs.Names.{Names, IsNames}
 use Rattle.wm_names.specs.NamesInside.{names_of}
 use Rattle.wm_names.proofs.NameLemmas.{few_rows, added-names, names-one}
@@ -32,7 +31,10 @@ invariant_of-self c =
     let job = c.args.job.now in
     let old = subst (λ (n : Names). IsNames jobs n) (sym c.self.view_is) c.requires.few.are in
     let new : Names = record { rows = c.join.new.rows.items; spare = 0 } in
-    names-one new (jobs ++ job ∷ []) (added-names (names_of c.self.inside) new job c.join_open.new.rows.items c.join_open.ensures.rows c.join.ensures.rows c.get.ensures.range jobs old)
+    record {
+      kept = c.join.ensures.kept (c.join_open.ensures.kept c.self.invariant.kept);
+      serials = names-one new (jobs ++ job ∷ []) (added-names (names_of c.self.inside) new job c.join_open.new.rows.items c.join_open.ensures.rows c.join.ensures.rows c.get.ensures.range jobs old);
+    }
 
 pub returns-clause-names : goal.returns-clause-names
 returns-clause-names c = λ jobs are.

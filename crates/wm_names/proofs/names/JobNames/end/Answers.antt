@@ -22,7 +22,10 @@ invariant_of-self c =
     let old = subst (λ (n : Names). IsNames (before ++ job ∷ behind) n) (sym c.self.view_is) c.requires.are in
     let ended : Job = record job { phase = Ended Completed } in
     let new : Names = record { rows = c.leave_open.new.rows.items; spare = 0 } in
-    names-one new (before ++ ended ∷ behind) (ended-names (names_of c.self.inside) new job c.leave_open.ensures.rows before behind ended refl refl refl old)
+    record {
+      kept = c.leave_open.ensures.kept c.self.invariant.kept;
+      serials = names-one new (before ++ ended ∷ behind) (ended-names (names_of c.self.inside) new job c.leave_open.ensures.rows before behind ended refl refl refl old);
+    }
 
 pub returns-clause-names : goal.returns-clause-names
 returns-clause-names c = λ before behind ended serial name ends are.
