@@ -5,7 +5,8 @@
 //! `JobNames::end` of the same jobs with one of them ended, both without memory; `JobNames::find` answers the serial of the
 //! one job that a reference names, or its refusal, without a walk over the jobs. Room is taken by `JobNames::reserve` alone,
 //! and told by `spare`.
-//! The definitions are in `specs/`: `Names` has what a contract sees of the names, `Namesakes` what lies in a row of them.
+//! The definitions are in `specs/`: `Names` has what a contract sees of the names and of which jobs they are, `Namesakes` a
+//! row and how a job joins it, `Refs` the references without a number, `NamesInside` what lies in a `JobNames`.
 #![tactic(auto)]
 
 mod names;
