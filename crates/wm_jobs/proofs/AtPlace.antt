@@ -1,33 +1,54 @@
 -- What a call finds and leaves in a table where the job of a serial stands.
-use Rattle.std.proofs.Common.{◌≡◌, ℕ, suc, ◌+◌, ◌≤◌, true, false, not, ◌&&◌, ◌==◌, cond, List, ◌∷◌, ◌++◌, length, get_or, take, drop, map, Option, Some, IfSome, vec_capacity, refl, ap, sym, ◌∙◌, subst, nat_eq}
+use Rattle.std.proofs.Common.{◌≡◌, ℕ, suc, ◌+◌, ◌<◌, ◌≤◌, true, false, not, ◌&&◌, ◌==◌, cond, List, ◌∷◌, ◌++◌, length, get_or, take, drop, map, Option, Some, IfSome, is_some, vec_capacity, refl, ap, sym, ◌∙◌, subst, arith, nat_eq, eq-eqb, All, Contains}
 use Rattle.std.specs.List.{find}
 use Rattle.std.specs.Ordering.{nat_cmp}
+use Rattle.std.proofs.lemmas.List.{get_or-map, get_or_default}
+use Rattle.std.proofs.lemmas.List.Elements.{All-contains, All-weaker, Contains-append_right}
+use Rattle.wm_base.specs.declared.job.EndCause.{EndCause}
 use Rattle.wm_desc.specs.Sorted.{has_key, added, removed}
 use Rattle.wm_desc.specs.Place.{IsAt}
 use Rattle.wm_law.specs.declared.job.Job.{Job}
 use Rattle.wm_law.specs.declared.job.Phase.{Phase}
+use Rattle.wm_law.specs.declared.job.Phase.TheVariants.{Ended}
 use Rattle.wm_law.specs.declared.launch.Launched.{Launched}
 use Rattle.wm_law.specs.Counts.{is_waiting, is_starting, is_active}
+use Rattle.wm_law.specs.Jobs.{waiting_at}
 use Rattle.wm_law.specs.Launch.{as_launched, launched_at}
 use Rattle.wm_law.specs.Pending.{is_prestart}
 use Rattle.wm_law.specs.Reports.{in_phase, phased_at}
 use Rattle.wm_ordered.specs.Ordered.{Pairs, key_of}
 use Rattle.wm_tally.specs.Tally.{Counts, HasStarted}
+use Rattle.wm_waiting.specs.declared.waiter.Waiter.{Waiter}
 use Rattle.wm_waiting.specs.Waiting.{Waiting}
 use Rattle.wm_waiting.specs.Waiting as waiting
+use Rattle.wm_waiting.proofs.Members.{Contains-head}
+use Rattle.wm_pick.specs.Parts.{waiter_of, waiters}
 use Rattle.wm_jobs.specs.Indexed.{Starts, Ends}
+use Rattle.wm_jobs.specs.Renewed.{renewed, OwnsPlace}
 use Rattle.wm_jobs.specs.Table.{Table, serial_of}
-use Rattle.wm_jobs.specs.TableInside.{table_of, AreListed, IsIndexed, HasRoom, IsTableInside}
+use Rattle.wm_jobs.specs.TableInside.{table_of, IsListed, AreListed, IsIndexed, HasRoom, IsTableInside}
 use Rattle.wm_jobs.specs.declared.table.JobTable.TheInside.{Inside}
 use Rattle.wm_jobs.proofs.Splits.{IsSplit, split-at, found-at, map-split}
-use Rattle.wm_jobs.proofs.JobParts.{has-started}
-use Rattle.wm_jobs.proofs.Changes.{listed, launched-indexed, launched-room, launch-spare, launch-new, phased-indexed, phased-room, phased-active, phased-busy}
+use Rattle.wm_jobs.proofs.JobParts.{has-started, waiter-keyed, waiter-placed, waiter-some}
+use Rattle.wm_jobs.proofs.Sifted.{picked-keys, picked-parts}
+use Rattle.wm_jobs.proofs.Waits.{if_waiting, one-waiting, map-waiting, Keeps, keeps-where, is-waiter, owns, renewed-listed, renewed-indexed, renewed-room}
+use Rattle.wm_jobs.proofs.Changes.{all-there, listed, launched-indexed, launched-room, launch-spare, launch-new, phased-indexed, phased-room, phased-active, phased-busy}
 
 length-same : {js ks : List Job} → js ≡ ks → length js ≡ length ks
 length-same e = ap length e
 
 room-same : {n m cap cap' room room' : ℕ} {w : Waiting} {t : Counts} {o : Pairs ℕ (Unit {0})} → m ≡ n → cap' ≡ cap → room' ≡ room → HasRoom n cap room w t o → HasRoom m cap' room' w t o
 room-same e f g h = rw (e, f, g) h
+
+-- the places of those that wait were given
+places-below : (t : Inside) → IsTableInside t → All (λ (u : Waiter). u.place < t.next_place) t.waiting.items
+places-below t h =
+    subst (λ (ws : List Waiter). All (λ (u : Waiter). u.place < t.next_place) ws) (sym h.indexed.waiters_are)
+    (picked-keys (λ k. k.place) waiter_of (λ u. u.place) waiter-placed (λ n. n < t.next_place) t.jobs.items (All-weaker (IsListed t.next_serial t.next_place) (λ (k : Job). k.place < t.next_place) (λ k l. l.place) t.jobs.items h.listed.each))
+
+-- what stands at a place is the same by each default
+stands-itself : (s at : ℕ) (xs js : List Job) (d : Job) → js ≡ xs → IsAt serial_of nat_cmp s js at → get_or xs at d ≡ get_or xs at (get_or xs at d)
+stands-itself s at xs js d same there = get_or_default xs at d (get_or xs at d) (subst (λ (ks : List Job). at < length ks) same there.in_range)
 
 module _ (t : Inside) (h : IsTableInside t) (s at : ℕ) (x : Job) (js : List Job) (same : js ≡ t.jobs.items) (there : IsAt serial_of nat_cmp s js at) (is : x ≡ get_or t.jobs.items at x) where
   stands : IsAt serial_of nat_cmp s t.jobs.items at
@@ -93,3 +114,116 @@ module _ (t : Inside) (h : IsTableInside t) (s at : ℕ) (x : Job) (js : List Jo
         indexed = rw (phased, we) (phased-indexed s before behind x split.here split.lower split.higher phase active goes unstarted t.waiting t.tally new.tally t.starting new.starting t.active new.active t.busy new.busy around_indexed te se ae be);
         room = subst (λ (w : Waiting). HasRoom (length new.jobs.items) (vec_capacity new.jobs) new.room w new.tally new.starting) (sym we) (room-same (length-same phased) capacity room (phased-room s before behind x split.here split.lower split.higher phase active goes unstarted (vec_capacity t.jobs) t.room t.waiting t.tally new.tally t.starting new.starting around_room ts ss));
       }
+
+  -- the job changed, where it waits
+  module _ (change : Job → Job) where
+    abbrev after : Job
+    after = if_waiting change x
+
+    waiting-changed : (ks : List Job) → ks ≡ map (waiting_at s change) t.jobs.items → ks ≡ before ++ after ∷ behind
+    waiting-changed ks jobs = jobs ∙ (map-waiting s change t.jobs.items ∙ map-split serial_of s (if_waiting change) t.jobs.items before behind x split)
+
+    -- where it doesn't wait, none is changed
+    pub not-changed : is_waiting x.phase ≡ false → t.jobs.items ≡ map (waiting_at s change) t.jobs.items
+    not-changed waits = split.whole ∙ (ap (λ b. before ++ cond b (change x) x ∷ behind) (sym waits) ∙ sym (waiting-changed (map (waiting_at s change) t.jobs.items) refl))
+
+    -- it stands where it stood
+    stands-changed : (ks : List Job) (y : Job) → ks ≡ map (waiting_at s change) t.jobs.items → y ≡ get_or ks at y → y ≡ after
+    stands-changed ks y jobs y_is =
+        y_is
+        ∙ (ap (λ (ls : List Job). get_or ls at y) jobs
+        ∙ (get_or-map (waiting_at s change) t.jobs.items at x y stands.in_range
+        ∙ (ap (waiting_at s change) (sym is) ∙ (one-waiting s change x ∙ ap (λ b. cond b after x) (eq-eqb x.serial s split.here)))))
+
+    module _ (np : ℕ) (le : t.next_place ≤ np) (keeps : Keeps np change) where
+      kept : Keeps np (if_waiting change)
+      kept = keeps-where np change keeps
+
+      had-place : x.place < np
+      had-place = let below = (all-there (IsListed t.next_serial t.next_place) before behind x around_listed.each).place in omega arith
+
+      had-queue : is_waiting x.phase ≡ true → is_some x.jobq ≡ true
+      had-queue = (all-there (IsListed t.next_serial t.next_place) before behind x around_listed.each).queue
+
+      has-queue : is_waiting after.phase ≡ true → is_some after.jobq ≡ true
+      has-queue waits = kept.queue x (had-queue (ap is_waiting (sym (kept.phase x)) ∙ waits))
+
+      alike : is_some (waiter_of after) ≡ is_some (waiter_of x)
+      alike = is-waiter after has-queue ∙ (ap is_waiting (kept.phase x) ∙ sym (is-waiter x had-queue))
+
+      renewed-inside : (new : Inside) → new.jobs.items ≡ map (waiting_at s change) t.jobs.items → new.next_serial ≡ t.next_serial → new.next_place ≡ np → new.room ≡ t.room → vec_capacity new.jobs ≡ vec_capacity t.jobs → new.waiting.items ≡ renewed (waiter_of after) t.waiting.items → new.waiting.spare ≡ t.waiting.spare → new.tally ≡ t.tally → new.starting ≡ t.starting → new.active ≡ t.active → new.busy ≡ t.busy → IsTableInside new
+      renewed-inside new jobs ns np_is room capacity we ws te se ae be =
+          let changed : new.jobs.items ≡ before ++ after ∷ behind = waiting-changed new.jobs.items jobs in
+          record {
+            listed = rw (changed, ns, np_is) (renewed-listed s before behind x after split.here split.lower split.higher (kept.serial x) t.next_serial t.next_place np le (kept.place x had-place) has-queue around_listed);
+            indexed = rw (changed, te, se, ae, be) (renewed-indexed s before behind x after split.here split.lower split.higher (kept.serial x) (kept.phase x) (kept.kind x) (kept.how x) t.waiting new.waiting t.tally t.starting t.active t.busy alike around_indexed we);
+            room = rw (te, se) (room-same (length-same changed) capacity room (renewed-room s before behind x after split.here split.lower split.higher (kept.serial x) (vec_capacity t.jobs) t.room t.waiting new.waiting t.tally t.starting around_room we ws));
+          }
+
+      -- it waits where it is among those that wait
+      waited : (w : Waiter) → waiter_of after ≡ Some w → is_waiting x.phase ≡ true
+      waited w w_is = ap is_waiting (sym (kept.phase x)) ∙ (sym (is-waiter after has-queue) ∙ ap (λ (o : Option Waiter). is_some o) w_is)
+
+      -- it keeps its place
+      owns-its : waiting.HavePlaces t.waiting.items → ((j : Job) → (change j).place ≡ j.place) → OwnsPlace (waiter_of after) t.waiting.items
+      owns-its places stays =
+          owns (waiter_of after) t.waiting.items (λ w w_is v v_there place.
+          let waits = waited w w_is in
+          let u = waiter-some x waits (had-queue waits) in
+          let parts : t.waiting.items ≡ waiters before ++ u.0 ∷ waiters behind = around_indexed.waiters_are ∙ picked-parts serial_of waiter_of waiting.serial_of waiter-keyed before behind x (Some u.0) u.1 in
+          let there : Contains t.waiting.items u.0 = subst (λ (ws : List Waiter). Contains ws u.0) (sym parts) (Contains-append_right (waiters before) (u.0 ∷ waiters behind) u.0 (Contains-head u.0 (waiters behind))) in
+          let is_after : after ≡ change x = ap (λ b. cond b (change x) x) waits in
+          let stayed : w.place ≡ u.0.place = waiter-placed after w w_is ∙ (ap (λ (k : Job). k.place) is_after ∙ (stays x ∙ sym (waiter-placed x u.0 u.1))) in
+          let one : v ≡ u.0 = places v u.0 v_there there (place ∙ stayed) in
+          ap (λ (z : Waiter). z.serial) one ∙ (waiter-keyed x u.0 u.1 ∙ (sym (kept.serial x) ∙ sym (waiter-keyed after w w_is))))
+
+      -- it has the next place
+      owns-next : ((j : Job) → (change j).place ≡ t.next_place) → OwnsPlace (waiter_of after) t.waiting.items
+      owns-next takes =
+          owns (waiter_of after) t.waiting.items (λ w w_is v v_there place.
+          let is_after : after ≡ change x = ap (λ b. cond b (change x) x) (waited w w_is) in
+          let next : w.place ≡ t.next_place = waiter-placed after w w_is ∙ (ap (λ (k : Job). k.place) is_after ∙ takes x) in
+          let below : v.place < t.next_place = All-contains (λ (u : Waiter). u.place < t.next_place) t.waiting.items v (places-below t h) v_there in
+          absurd (omega arith))
+
+  -- the job ended, which waits
+  module _ (cause : EndCause) (waits : is_waiting x.phase ≡ true) where
+    abbrev ends : Launched
+    ends = record { phase = Ended cause; how = x.how }
+
+    phased-launched : (ks : List Job) → ks ≡ map (phased_at s (Ended cause)) t.jobs.items → ks ≡ map (launched_at s ends) t.jobs.items
+    phased-launched ks jobs =
+        jobs ∙ (map-split serial_of s (in_phase (Ended cause)) t.jobs.items before behind x split ∙ sym (map-split serial_of s (as_launched ends) t.jobs.items before behind x split))
+
+    pub ended-jobs : (ks : List Job) → ks ≡ map (phased_at s (Ended cause)) t.jobs.items → ks ≡ map (waiting_at s (in_phase (Ended cause))) t.jobs.items
+    ended-jobs ks jobs =
+        jobs
+        ∙ (map-split serial_of s (in_phase (Ended cause)) t.jobs.items before behind x split
+        ∙ (ap (λ b. before ++ cond b (in_phase (Ended cause) x) x ∷ behind) (sym waits) ∙ sym (waiting-changed (in_phase (Ended cause)) (map (waiting_at s (in_phase (Ended cause))) t.jobs.items) refl)))
+
+    pub ended-inside : (new : Inside) → new.jobs.items ≡ map (phased_at s (Ended cause)) t.jobs.items → new.next_serial ≡ t.next_serial → new.next_place ≡ t.next_place → new.room ≡ t.room → vec_capacity new.jobs ≡ vec_capacity t.jobs → new.waiting.items ≡ removed waiting.serial_of nat_eq s t.waiting.items → t.waiting.spare ≤ new.waiting.spare → new.tally ≡ t.tally → new.starting ≡ t.starting → new.active ≡ t.active → new.busy ≡ t.busy → IsTableInside new
+    ended-inside new jobs ns np room capacity we ws te se ae be =
+        let tally : t.tally.spare ≤ new.tally.spare + 1 = (let same : new.tally.spare ≡ t.tally.spare = ap (λ (k : Counts). k.spare) te in omega arith) in
+        let starting : t.starting.spare ≤ new.starting.spare + 1 = (let same : new.starting.spare ≡ t.starting.spare = ap (λ (o : Pairs ℕ (Unit {0})). o.spare) se in omega arith) in
+        launched-inside ends waits refl new (phased-launched new.jobs.items jobs) ns np room capacity we ws te tally (ap (λ (o : Pairs ℕ (Unit {0})). o.items) se) starting (omega (arith, ae)) (omega (arith, be))
+
+-- the job that stands at the place after the change is the one that stood there, changed where it waits
+module _ (t : Inside) (h : IsTableInside t) (s at : ℕ) (js : List Job) (same : js ≡ t.jobs.items) (there : IsAt serial_of nat_cmp s js at) (change : Job → Job) (np : ℕ) (le : t.next_place ≤ np) (keeps : Keeps np change) (ks : List Job) (jobs : ks ≡ map (waiting_at s change) t.jobs.items) (y : Job) (y_is : y ≡ get_or ks at y) where
+  abbrev had : Job
+  had = get_or t.jobs.items at y
+
+  had_is : had ≡ get_or t.jobs.items at had
+  had_is = stands-itself s at t.jobs.items js y same there
+
+  changed_is : y ≡ if_waiting change had
+  changed_is = stands-changed t h s at had js same there had_is change ks y jobs y_is
+
+  pub keeps-its : waiting.HavePlaces t.waiting.items → ((j : Job) → (change j).place ≡ j.place) → OwnsPlace (waiter_of y) t.waiting.items
+  keeps-its places stays = subst (λ (k : Job). OwnsPlace (waiter_of k) t.waiting.items) (sym changed_is) (owns-its t h s at had js same there had_is change np le keeps places stays)
+
+  pub takes-next : ((j : Job) → (change j).place ≡ t.next_place) → OwnsPlace (waiter_of y) t.waiting.items
+  takes-next takes = subst (λ (k : Job). OwnsPlace (waiter_of k) t.waiting.items) (sym changed_is) (owns-next t h s at had js same there had_is change np le keeps takes)
+
+  pub changed-inside : (new : Inside) → new.jobs.items ≡ map (waiting_at s change) t.jobs.items → new.next_serial ≡ t.next_serial → new.next_place ≡ np → new.room ≡ t.room → vec_capacity new.jobs ≡ vec_capacity t.jobs → new.waiting.items ≡ renewed (waiter_of y) t.waiting.items → new.waiting.spare ≡ t.waiting.spare → new.tally ≡ t.tally → new.starting ≡ t.starting → new.active ≡ t.active → new.busy ≡ t.busy → IsTableInside new
+  changed-inside new jobs_are ns np_is room capacity we ws te se ae be =
+      renewed-inside t h s at had js same there had_is change np le keeps new jobs_are ns np_is room capacity (we ∙ ap (λ (k : Job). renewed (waiter_of k) t.waiting.items) changed_is) ws te se ae be

@@ -2,7 +2,9 @@ pub mod AtEnd
 pub mod AtLaunch
 pub mod AtPlace
 pub mod Changes
+pub mod Cleared
 pub mod JobParts
 pub mod One
 pub mod Sifted
 pub mod Splits
+pub mod Waits

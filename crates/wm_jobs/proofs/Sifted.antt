@@ -104,7 +104,8 @@ module _ {X E : Type 0} (serial : X → ℕ) (pick : X → Option E) (key : E �
   picked-keys P (x ∷ xs) all =
       keys-cons (λ e. P (key e)) (pick x) (filter_map pick xs) (λ e is. subst P (sym (keyed x e is)) (All-head (λ y. P (serial y)) x xs all)) (picked-keys P xs (All-tail (λ y. P (serial y)) x xs all))
 
-  picked-parts : (l r : List X) (x : X) (o : Option E) → pick x ≡ o → filter_map pick (l ++ x ∷ r) ≡ filter_map pick l ++ cons_option o (filter_map pick r)
+  -- what is picked, around an element
+  pub picked-parts : (l r : List X) (x : X) (o : Option E) → pick x ≡ o → filter_map pick (l ++ x ∷ r) ≡ filter_map pick l ++ cons_option o (filter_map pick r)
   picked-parts l r x o is = filter_map-append pick l (x ∷ r) ∙ ap (λ q. filter_map pick l ++ cons_option q (filter_map pick r)) is
 
   module _ (s : ℕ) (l r : List X) (lower : All (λ x. serial x < s) l) (higher : All (λ x. s < serial x) r) where

@@ -1,3 +1,4 @@
 pub mod Indexed
+pub mod Renewed
 pub mod Table
 pub mod TableInside

@@ -7,7 +7,7 @@ ghost use Rattle.wm_pick.specs.Parts.{waiter_of};
 use wm_law::{Job, JobKind, Phase};
 use wm_waiting::Waiter;
 
-fn is_waiting(phase: &Phase) -> bool
+pub(crate) fn is_waiting(phase: &Phase) -> bool
     ensures { result ≡ is_waiting phase.now }
 {
     matches!(phase, Phase::Waiting)

@@ -3,13 +3,17 @@ ghost use Rattle.std.specs.Prelude.{◌≡◌, map, vec_capacity, MatchResult};
 ghost use Rattle.std.specs.Ordering.{nat_cmp};
 ghost use Rattle.wm_desc.specs.Place.{IsAt, IsGap};
 ghost use Rattle.wm_desc.specs.Sorted.{IsSortedOnce};
+ghost use Rattle.wm_law.specs.Changing.{moved_to, with_due};
+ghost use Rattle.wm_law.specs.Holding.{with_held};
+ghost use Rattle.wm_law.specs.Jobs.{waiting_at};
 ghost use Rattle.wm_law.specs.Launch.{launched_at};
 ghost use Rattle.wm_law.specs.Reports.{phased_at};
 ghost use Rattle.wm_jobs.specs.Table.{serial_of};
 
+use crate::phases::is_waiting;
 use std::cmp::Ordering;
-use wm_base::Serial;
-use wm_law::{Job, Launched, Phase};
+use wm_base::{Moment, Serial};
+use wm_law::{Chgjob, Job, Launched, Phase};
 
 /// Where the job of a serial stands, or where it would go.
 pub(crate) fn place(jobs: &[Job], serial: Serial) -> Result<usize, usize>
@@ -42,4 +46,51 @@ pub(crate) fn phase_at(jobs: &mut Vec<Job>, at: usize, serial: Serial, phase: Ph
 {
     let job = &mut jobs[at];
     job.phase = phase;
+}
+
+/// Holds the job of a serial, which stands there, or releases it, where it waits.
+pub(crate) fn hold_at(jobs: &mut Vec<Job>, at: usize, serial: Serial, held: bool)
+    requires { IsAt serial_of nat_cmp serial jobs.old.items at }
+    ensures jobs { jobs.new.items ≡ map (waiting_at serial (with_held held)) jobs.old.items }
+    ensures capacity { vec_capacity jobs.new ≡ vec_capacity jobs.old }
+{
+    let job = &mut jobs[at];
+    if is_waiting(&job.phase) {
+        job.held = held;
+    }
+}
+
+/// Gives the job of a serial, which stands there, another due moment, where it waits.
+pub(crate) fn due_at(jobs: &mut Vec<Job>, at: usize, serial: Serial, due: Moment)
+    requires { IsAt serial_of nat_cmp serial jobs.old.items at }
+    ensures jobs { jobs.new.items ≡ map (waiting_at serial (with_due due)) jobs.old.items }
+    ensures capacity { vec_capacity jobs.new ≡ vec_capacity jobs.old }
+{
+    let job = &mut jobs[at];
+    if is_waiting(&job.phase) {
+        job.due = due;
+    }
+}
+
+/// Gives the job of a serial, which stands there, the queue and the priority of a command, a place and a due moment, where it
+/// waits.
+pub(crate) fn move_at(
+    jobs: &mut Vec<Job>,
+    at: usize,
+    serial: Serial,
+    command: &Chgjob,
+    place: u64,
+    due: Moment,
+)
+    requires { IsAt serial_of nat_cmp serial jobs.old.items at }
+    ensures jobs { jobs.new.items ≡ map (waiting_at serial (moved_to command.now place due)) jobs.old.items }
+    ensures capacity { vec_capacity jobs.new ≡ vec_capacity jobs.old }
+{
+    let job = &mut jobs[at];
+    if is_waiting(&job.phase) {
+        job.jobq = command.jobq.or(job.jobq);
+        job.pty = command.jobpty.unwrap_or(job.pty);
+        job.place = place;
+        job.due = due;
+    }
 }

@@ -18,8 +18,8 @@ const MOST: usize = 0xffff_fffd;
 /// many more jobs there is room.
 #[derive(Drop)]
 pub struct JobTable {
-    jobs: Vec<Job>,
-    waiting: WaitingJobs,
+    pub(crate) jobs: Vec<Job>,
+    pub(crate) waiting: WaitingJobs,
     tally: Tally,
     // The Starting jobs.
     starting: Ordered<Serial, ()>,
@@ -27,7 +27,7 @@ pub struct JobTable {
     // The active jobs that aren't prestart jobs.
     busy: usize,
     next_serial: u64,
-    next_place: u64,
+    pub(crate) next_place: u64,
     // For how many more jobs each of these has room.
     room: u32,
 }

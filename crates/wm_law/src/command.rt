@@ -12,7 +12,7 @@ pub enum EndOption {
 }
 
 /// How a command names a job.
-#[derive(Clone, Copy, Debug, PartialEq, Eq)]
+#[derive(Clone, Copy, Debug, PartialEq, Eq, PartialOrd, Ord)]
 pub enum JobRef {
     Simple(Name),
     /// The user, and the job's name.

@@ -18,7 +18,8 @@ use Rattle.wm_waiting.specs.Orders.{same_spot, same_rise}
 use Rattle.wm_waiting.specs.Waiting.{serial_of, has_place, HavePlaces, HavePriorities, is_up, is_ahead}
 use Rattle.wm_waiting.specs.WaitingInside.{Agrees}
 use Rattle.wm_waiting.proofs.IndexLemmas.{index-shrinks}
-use Rattle.wm_waiting.proofs.Members.{Contains-insert_cases, Contains-from_filter, find-Some, find-None, find-before, filter-whole, list_any-false}
+use Rattle.wm_waiting.proofs.Marks.{alone as only}
+use Rattle.wm_waiting.proofs.Members.{Contains-insert_cases, Contains-from_filter, find-Some, find-None, filter-whole, list_any-false}
 use Rattle.wm_waiting.proofs.Orders.{same_spot-place, same_rise-serial, same_spot-itself, same_rise-itself, eqb-same}
 use Rattle.wm_waiting.proofs.Rows.{keyed-added, waiters-added, keyed-removed, waiters-removed, value-waiter, sorted-waiters, length-added, length-removed}
 
@@ -59,31 +60,34 @@ priorities-insert : (w : Waiter) (items : List Waiter) (i : ℕ) → (1 ≤ w.pt
 priorities-insert w items i here all v there =
     elim (Contains-insert_cases items i w v there) [ inl e ↦ subst (λ (x : Waiter). (1 ≤ x.pty) × (x.pty ≤ 9)) e here | inr old ↦ all v old ]
 
-module _ (by_serial : Pairs ℕ Waiter) (by_spot : Pairs Spot Waiter) (by_rise : Pairs Rise Waiter) (clock spare : ℕ) (agrees : Agrees by_serial by_spot by_rise clock spare) where
+module _ (by_serial : Pairs ℕ Waiter) (by_spot : Pairs Spot Waiter) (by_rise : Pairs Rise Waiter) (by_line : Pairs Spot Waiter) (clock spare : ℕ) (agrees : Agrees by_serial by_spot by_rise by_line clock spare) where
   abbrev items : List Waiter
   items = waiters_of by_serial.items
 
   -- the same rows, with other room
-  pub agrees-roomier : (all : Pairs ℕ Waiter) (turns : Pairs Spot Waiter) (early : Pairs Rise Waiter) (room : ℕ) → all.items ≡ by_serial.items → turns.items ≡ by_spot.items → early.items ≡ by_rise.items → length all.items + room < 2 ^ 32 → length all.items + room ≤ capacity_of all → length all.items + room ≤ capacity_of turns → length all.items + room ≤ capacity_of early → Agrees all turns early clock room
-  agrees-roomier all turns early room same_all same_turns same_early most in_all in_turns in_early = record {
+  pub agrees-roomier : (all : Pairs ℕ Waiter) (turns : Pairs Spot Waiter) (early : Pairs Rise Waiter) (lines : Pairs Spot Waiter) (room : ℕ) → all.items ≡ by_serial.items → turns.items ≡ by_spot.items → early.items ≡ by_rise.items → lines.items ≡ by_line.items → length all.items + room < 2 ^ 32 → length all.items + room ≤ capacity_of all → length all.items + room ≤ capacity_of turns → length all.items + room ≤ capacity_of early → length all.items + room ≤ capacity_of lines → Agrees all turns early lines clock room
+  agrees-roomier all turns early lines room same_all same_turns same_early same_lines most in_all in_turns in_early in_lines = record {
     keyed = subst (λ l. l ≡ map row_of (waiters_of l)) (sym same_all) agrees.keyed;
     places = subst (λ (l : List (ℕ × Waiter)). HavePlaces (waiters_of l)) (sym same_all) agrees.places;
     priorities = subst (λ (l : List (ℕ × Waiter)). HavePriorities (waiters_of l)) (sym same_all) agrees.priorities;
     turns = subst (λ (l : List (ℕ × Waiter)). IsIndex spot_of (is_up clock) (waiters_of l) turns.items) (sym same_all) (subst (λ l. IsIndex spot_of (is_up clock) items l) (sym same_turns) agrees.turns);
     early = subst (λ (l : List (ℕ × Waiter)). IsIndex rise_of (is_ahead clock) (waiters_of l) early.items) (sym same_all) (subst (λ l. IsIndex rise_of (is_ahead clock) items l) (sym same_early) agrees.early);
+    lines = subst (λ (l : List (ℕ × Waiter)). IsIndex spot_of (λ w. true) (waiters_of l) lines.items) (sym same_all) (subst (λ l. IsIndex spot_of (λ w. true) items l) (sym same_lines) agrees.lines);
     most = most;
     room = in_all;
     room_in_turns = in_turns;
     room_in_early = in_early;
+    room_in_lines = in_lines;
   }
 
   -- a waiter more
-  pub agrees-insert : (w : Waiter) (all : Pairs ℕ Waiter) (turns : Pairs Spot Waiter) (early : Pairs Rise Waiter) → 1 ≤ spare → has_place w.place items ≡ false → (1 ≤ w.pty) × (w.pty ≤ 9)
+  pub agrees-insert : (w : Waiter) (all : Pairs ℕ Waiter) (turns : Pairs Spot Waiter) (early : Pairs Rise Waiter) (lines : Pairs Spot Waiter) → 1 ≤ spare → has_place w.place items ≡ false → (1 ≤ w.pty) × (w.pty ≤ 9)
       → all.items ≡ added key_of nat_cmp (row_of w) by_serial.items → by_serial.spare ≡ all.spare + 1
       → ((ws : List Waiter) (i : ℕ) → IsIndex spot_of (is_up clock) ws by_spot.items → IsIndex spot_of (is_up clock) (insert ws i w) turns.items)
       → ((ws : List Waiter) (i : ℕ) → IsIndex rise_of (is_ahead clock) ws by_rise.items → IsIndex rise_of (is_ahead clock) (insert ws i w) early.items)
-      → capacity_of turns ≡ capacity_of by_spot → capacity_of early ≡ capacity_of by_rise → Agrees all turns early clock (spare - 1)
-  agrees-insert w all turns early some fresh pty is less in_turns in_early same_turns same_early =
+      → ((ws : List Waiter) (i : ℕ) → IsIndex spot_of (λ v. true) ws by_line.items → IsIndex spot_of (λ v. true) (insert ws i w) lines.items)
+      → capacity_of turns ≡ capacity_of by_spot → capacity_of early ≡ capacity_of by_rise → capacity_of lines ≡ capacity_of by_line → Agrees all turns early lines clock (spare - 1)
+  agrees-insert w all turns early lines some fresh pty is less in_turns in_early in_lines same_turns same_early same_lines =
       let new : waiters_of all.items ≡ added serial_of nat_cmp w items = ap (λ (l : List (ℕ × Waiter)). waiters_of l) is ∙ waiters-added by_serial.items agrees.keyed nat_cmp w in
       let i : ℕ = place_of serial_of nat_cmp w.serial items in
       let more : length all.items ≡ length by_serial.items + 1 = ap (λ (l : List (ℕ × Waiter)). length l) is ∙ length-added key_of nat_cmp (row_of w) by_serial.items in
@@ -93,33 +97,37 @@ module _ (by_serial : Pairs ℕ Waiter) (by_spot : Pairs Spot Waiter) (by_rise :
         priorities = subst HavePriorities (sym new) (priorities-insert w items i pty agrees.priorities);
         turns = subst (λ l. IsIndex spot_of (is_up clock) l turns.items) (sym new) (in_turns items i agrees.turns);
         early = subst (λ l. IsIndex rise_of (is_ahead clock) l early.items) (sym new) (in_early items i agrees.early);
+        lines = subst (λ l. IsIndex spot_of (λ v. true) l lines.items) (sym new) (in_lines items i agrees.lines);
         most = omega (arith, more, some, agrees.most);
         room = omega (arith, more, some, less, agrees.room);
         room_in_turns = omega (arith, more, some, same_turns, agrees.room_in_turns);
         room_in_early = omega (arith, more, some, same_early, agrees.room_in_early);
+        room_in_lines = omega (arith, more, some, same_lines, agrees.room_in_lines);
       }
 
   -- a later clock
   pub agrees-due : (now : ℕ) (turns : Pairs Spot Waiter) (early : Pairs Rise Waiter) → IsIndex spot_of (is_up now) items turns.items → IsIndex rise_of (is_ahead now) items early.items
-      → capacity_of turns ≡ capacity_of by_spot → capacity_of early ≡ capacity_of by_rise → Agrees by_serial turns early now spare
+      → capacity_of turns ≡ capacity_of by_spot → capacity_of early ≡ capacity_of by_rise → Agrees by_serial turns early by_line now spare
   agrees-due now turns early in_turns in_early same_turns same_early = record {
     keyed = agrees.keyed;
     places = agrees.places;
     priorities = agrees.priorities;
     turns = in_turns;
     early = in_early;
+    lines = agrees.lines;
     most = agrees.most;
     room = agrees.room;
     room_in_turns = omega (arith, same_turns, agrees.room_in_turns);
     room_in_early = omega (arith, same_early, agrees.room_in_early);
+    room_in_lines = agrees.room_in_lines;
   }
 
   -- a serial that none has
-  pub agrees-lacks : (serial : ℕ) (all : Pairs ℕ Waiter) → value_at nat_eq serial by_serial.items ≡ None → all.items ≡ removed key_of nat_eq serial by_serial.items → all.spare ≡ by_serial.spare + 0 → Agrees all by_spot by_rise clock spare
+  pub agrees-lacks : (serial : ℕ) (all : Pairs ℕ Waiter) → value_at nat_eq serial by_serial.items ≡ None → all.items ≡ removed key_of nat_eq serial by_serial.items → all.spare ≡ by_serial.spare + 0 → Agrees all by_spot by_rise by_line clock spare
   agrees-lacks serial all none is same =
       let whole : all.items ≡ by_serial.items = is ∙ filter-whole (λ r. not (nat_eq r.0 serial)) by_serial.items (λ r there. not_from_false _ (find-None (λ r. nat_eq r.0 serial) by_serial.items r (unmapped _ none) there)) in
       let n : length all.items ≡ length by_serial.items = ap (λ (l : List (ℕ × Waiter)). length l) whole in
-      agrees-roomier all by_spot by_rise spare whole refl refl (omega (arith, n, agrees.most)) (omega (arith, n, same, agrees.room)) (omega (arith, n, agrees.room_in_turns)) (omega (arith, n, agrees.room_in_early))
+      agrees-roomier all by_spot by_rise by_line spare whole refl refl refl (omega (arith, n, agrees.most)) (omega (arith, n, same, agrees.room)) (omega (arith, n, agrees.room_in_turns)) (omega (arith, n, agrees.room_in_early)) (omega (arith, n, agrees.room_in_lines))
     where
       unmapped : (o : Option (ℕ × Waiter)) → option_map (λ r. r.1) o ≡ None → o ≡ None
       unmapped None e = refl
@@ -137,20 +145,13 @@ module _ (by_serial : Pairs ℕ Waiter) (by_spot : Pairs Spot Waiter) (by_rise :
 
     -- no other has the serial
     alone : (v : Waiter) → Contains items v → nat_eq v.serial serial ≡ true → v ≡ w
-    alone v v_there e =
-        elim (find-before (λ (a b : Waiter). nat_cmp a.serial b.serial ≡ Less) (λ (u : Waiter). nat_eq u.serial serial) items w v (sorted-waiters by_serial.items agrees.keyed nat_cmp sorted) with v_there e) [
-          | inl same ↦ same
-          | inr lt ↦ absurd (not_less w.serial v.serial (eqb-same w.serial serial named ∙ sym (eqb-same v.serial serial e)) lt)
-        ]
-      where
-        not_less : (m n : ℕ) → m ≡ n → nat_cmp m n ≡ Less → ⊥
-        not_less m n same lt = grind arith
+    alone = only serial w items (sorted-waiters by_serial.items agrees.keyed nat_cmp sorted) with
 
     -- a waiter less
-    pub agrees-remove : (all : Pairs ℕ Waiter) (turns : Pairs Spot Waiter) (early : Pairs Rise Waiter) → all.items ≡ removed key_of nat_eq serial by_serial.items → all.spare ≡ by_serial.spare + 1
-        → turns.items ≡ removed key_of same_spot (spot_of w) by_spot.items → early.items ≡ removed key_of same_rise (rise_of w) by_rise.items
-        → capacity_of turns ≡ capacity_of by_spot → capacity_of early ≡ capacity_of by_rise → Agrees all turns early clock (spare + 1)
-    agrees-remove all turns early is more turns_is early_is same_turns same_early =
+    pub agrees-remove : (all : Pairs ℕ Waiter) (turns : Pairs Spot Waiter) (early : Pairs Rise Waiter) (lines : Pairs Spot Waiter) → all.items ≡ removed key_of nat_eq serial by_serial.items → all.spare ≡ by_serial.spare + 1
+        → turns.items ≡ removed key_of same_spot (spot_of w) by_spot.items → early.items ≡ removed key_of same_rise (rise_of w) by_rise.items → lines.items ≡ removed key_of same_spot (spot_of w) by_line.items
+        → capacity_of turns ≡ capacity_of by_spot → capacity_of early ≡ capacity_of by_rise → capacity_of lines ≡ capacity_of by_line → Agrees all turns early lines clock (spare + 1)
+    agrees-remove all turns early lines is more turns_is early_is lines_is same_turns same_early same_lines =
         let new : waiters_of all.items ≡ removed serial_of nat_eq serial items = ap (λ (l : List (ℕ × Waiter)). waiters_of l) is ∙ waiters-removed by_serial.items agrees.keyed nat_eq serial in
         let all_less = length-removed nat_eq nat_cmp nat_cmp_total unsigned_ties serial by_serial.items sorted in
         let one : ◌≡◌ {A = ℕ} (cond (is_some (value_at nat_eq serial by_serial.items)) 1 0) 1 = ap (λ (o : Option Waiter). cond (is_some o) 1 0) found in
@@ -163,10 +164,13 @@ module _ (by_serial : Pairs ℕ Waiter) (by_spot : Pairs Spot Waiter) (by_rise :
               (index-shrinks spot_of (is_up clock) items by_spot.items agrees.turns same_spot w serial (same_spot-itself w) (λ v v_there e. agrees.places v w v_there there (same_spot-place v w e)) named alone));
           early = subst (λ l. IsIndex rise_of (is_ahead clock) l early.items) (sym new) (subst (λ l. IsIndex rise_of (is_ahead clock) (removed serial_of nat_eq serial items) l) (sym early_is)
               (index-shrinks rise_of (is_ahead clock) items by_rise.items agrees.early same_rise w serial (same_rise-itself w) (λ v v_there e. alone v v_there (ap (λ n. nat_eq n serial) (same_rise-serial v w e) ∙ named)) named alone));
+          lines = subst (λ l. IsIndex spot_of (λ v. true) l lines.items) (sym new) (subst (λ l. IsIndex spot_of (λ v. true) (removed serial_of nat_eq serial items) l) (sym lines_is)
+              (index-shrinks spot_of (λ v. true) items by_line.items agrees.lines same_spot w serial (same_spot-itself w) (λ v v_there e. agrees.places v w v_there there (same_spot-place v w e)) named alone));
           most = omega (arith, n, all_less, one, agrees.most);
           room = omega (arith, n, all_less, one, more, agrees.room);
           room_in_turns = omega (arith, n, all_less, one, same_turns, agrees.room_in_turns);
           room_in_early = omega (arith, n, all_less, one, same_early, agrees.room_in_early);
+          room_in_lines = omega (arith, n, all_less, one, same_lines, agrees.room_in_lines);
         }
       where
         old : (all : Pairs ℕ Waiter) → waiters_of all.items ≡ removed serial_of nat_eq serial items → (v : Waiter) → Contains (waiters_of all.items) v → Contains items v

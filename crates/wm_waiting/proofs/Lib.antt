@@ -2,6 +2,7 @@ pub mod Agreement
 pub mod Brought
 pub mod Heads
 pub mod IndexLemmas
+pub mod Lines
 pub mod Marks
 pub mod Members
 pub mod Orders

@@ -27,7 +27,7 @@ then_assoc Less b c = refl
 then_assoc Equal b c = refl
 then_assoc Greater b c = refl
 
-spot_cmp-fields : (a b : Spot) → spot_cmp a b ≡ ordering_then (qname_cmp a.jobq b.jobq) (ordering_then (nat_cmp a.pty b.pty) (nat_cmp a.place b.place))
+pub spot_cmp-fields : (a b : Spot) → spot_cmp a b ≡ ordering_then (qname_cmp a.jobq b.jobq) (ordering_then (nat_cmp a.pty b.pty) (nat_cmp a.place b.place))
 spot_cmp-fields a b = refl
 
 -- first the line, then the place
@@ -46,7 +46,7 @@ equal_both Equal b h = (refl, h)
 equal_both Less b h = absurd (cc h)
 equal_both Greater b h = absurd (cc h)
 
-is_eq-Equal : (o : Ordering) → is_eq o ≡ true → o ≡ Equal
+pub is_eq-Equal : (o : Ordering) → is_eq o ≡ true → o ≡ Equal
 is_eq-Equal Equal h = refl
 is_eq-Equal Less h = absurd (false≢true h)
 is_eq-Equal Greater h = absurd (false≢true h)
@@ -72,7 +72,7 @@ pub from_begin : (queue : QName) (pty : ℕ) (w : Waiter) → is_of queue pty w 
 from_begin queue pty w h =
     ap is_lt (spot_cmp-line (spot_of w) (begin_of queue pty) ∙ ap (λ o. ordering_then o (nat_cmp w.place 0)) (line-Equal queue pty w h)) ∙ not_below_zero w.place
 
-between : (a b : Ordering) (p q : Ordering) → is_lt (ordering_then a p) ≡ false → ordering_then b q ≡ Less → b ≡ a → a ≡ Equal
+pub between : (a b : Ordering) (p q : Ordering) → is_lt (ordering_then a p) ≡ false → ordering_then b q ≡ Less → b ≡ a → a ≡ Equal
 between Equal b p q low high same = refl
 between Less b p q low high same = absurd (false≢true (sym low))
 between Greater Greater p q low high same = absurd (cc high)
@@ -89,7 +89,7 @@ is_of-between queue pty r w of low high =
 nat_cmp-Less : (m n : ℕ) → nat_cmp m n ≡ Less → m < n
 nat_cmp-Less m n h = grind arith
 
-then_Less : (a b : Ordering) → ordering_then a b ≡ Less → a ≡ Equal → b ≡ Less
+pub then_Less : (a b : Ordering) → ordering_then a b ≡ Less → a ≡ Equal → b ≡ Less
 then_Less a b h e = sym (ap (λ o. ordering_then o b) e) ∙ h
 
 -- of two of one line the one before has the lesser place

@@ -4,7 +4,7 @@ use Rattle.wm_waiting.specs.declared.waiter.Waiter.{Waiter}
 use Rattle.wm_waiting.specs.declared.keys.Spot.{Spot}
 use Rattle.wm_waiting.specs.declared.keys.Rise.{Rise}
 
--- where one that may have its turn stands
+-- where one stands on its queue
 abbrev pub spot_of : Waiter → Spot
 spot_of w = record { jobq = w.jobq; pty = w.pty; place = w.place }
 

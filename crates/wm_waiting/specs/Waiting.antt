@@ -1,5 +1,5 @@
--- What a contract sees of the jobs that wait, and which of them is the head.
-use Rattle.std.specs.Prelude.{◌≡◌, ℕ, ◌≤◌, Bool, not, ◌&&◌, ◌==◌, nat_lt, nat_le, nat_eq, min, List, filter, fold, map, Option, Some, None, if◌then◌else◌}
+-- What a contract sees of the jobs that wait, and which of them is the head, or the first on a queue.
+use Rattle.std.specs.Prelude.{◌≡◌, ℕ, ◌≤◌, Bool, not, ◌&&◌, ◌||◌, ◌==◌, nat_lt, nat_le, nat_eq, min, List, filter, fold, map, Option, Some, None, if◌then◌else◌}
 use Rattle.std.specs.List.{Contains, list_any}
 use Rattle.wm_base.specs.declared.qname.QName.{QName}
 use Rattle.wm_desc.specs.Table.{same_qname}
@@ -52,6 +52,23 @@ nearer (Some v) w = if nat_lt w.place v.place then Some w else Some v
 abbrev pub head_of : QName → ℕ → ℕ → List Waiter → Option Waiter
 head_of queue pty clock items = fold nearer None (filter (is_turn queue pty clock) items)
 
+-- whether it is on the queue
+abbrev pub is_on : QName → Waiter → Bool
+is_on queue w = same_qname w.jobq queue
+
+-- whether it comes before another of its queue: by priority, then by place
+abbrev pub is_before : Waiter → Waiter → Bool
+is_before w v = nat_lt w.pty v.pty || (w.pty == v.pty && nat_lt w.place v.place)
+
+-- of two the one that comes before the other, the first where neither does
+abbrev pub earlier : Option Waiter → Waiter → Option Waiter
+earlier None w = Some w
+earlier (Some v) w = if is_before w v then Some w else Some v
+
+-- the first of those on a queue, held or not, due or not
+abbrev pub first_on : QName → List Waiter → Option Waiter
+first_on queue items = fold earlier None (filter (is_on queue) items)
+
 -- the lesser of two moments, where there is one
 abbrev pub sooner : Option ℕ → ℕ → Option ℕ
 sooner None moment = Some moment
@@ -68,3 +85,11 @@ with_held held w = record { serial = w.serial; jobq = w.jobq; pty = w.pty; place
 -- the jobs, with the one of a serial held or not
 abbrev pub marked : ℕ → Bool → List Waiter → List Waiter
 marked serial held items = map (λ w. if nat_eq w.serial serial then with_held held w else w) items
+
+-- another has its place only where that one has its serial too
+abbrev pub HasOwnPlace : Waiter → List Waiter → Type 0
+HasOwnPlace waiter items = (v : Waiter) → Contains items v → v.place ≡ waiter.place → v.serial ≡ waiter.serial
+
+-- the jobs, with another in the place of the one of its serial
+abbrev pub replaced : Waiter → List Waiter → List Waiter
+replaced waiter items = map (λ v. if nat_eq v.serial waiter.serial then waiter else v) items

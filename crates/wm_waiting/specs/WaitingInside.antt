@@ -1,5 +1,5 @@
 -- What lies in a `WaitingJobs`.
-use Rattle.std.specs.Prelude.{◌≡◌, ℕ, ◌+◌, ◌^◌, ◌<◌, ◌≤◌, length, map}
+use Rattle.std.specs.Prelude.{◌≡◌, ℕ, ◌+◌, ◌^◌, ◌<◌, ◌≤◌, true, length, map}
 use Rattle.wm_ordered.specs.Ordered.{Pairs}
 use Rattle.wm_waiting.specs.declared.waiter.Waiter.{Waiter}
 use Rattle.wm_waiting.specs.declared.keys.Spot.{Spot}
@@ -10,20 +10,22 @@ use Rattle.wm_waiting.specs.Keys.{row_of, waiters_of, spot_of, rise_of}
 use Rattle.wm_waiting.specs.Waiting.{Waiting, HavePlaces, HavePriorities, is_up, is_ahead}
 
 -- what lies in it agrees: each index has the rows of its waiters, and each map has room for all and for `spare` more
-pub record Agrees (by_serial : Pairs ℕ Waiter) (by_spot : Pairs Spot Waiter) (by_rise : Pairs Rise Waiter) (clock spare : ℕ) : Type 0 where
+pub record Agrees (by_serial : Pairs ℕ Waiter) (by_spot : Pairs Spot Waiter) (by_rise : Pairs Rise Waiter) (by_line : Pairs Spot Waiter) (clock spare : ℕ) : Type 0 where
   pub keyed : by_serial.items ≡ map row_of (waiters_of by_serial.items)
   pub places : HavePlaces (waiters_of by_serial.items)
   pub priorities : HavePriorities (waiters_of by_serial.items)
   pub turns : IsIndex spot_of (is_up clock) (waiters_of by_serial.items) by_spot.items
   pub early : IsIndex rise_of (is_ahead clock) (waiters_of by_serial.items) by_rise.items
+  pub lines : IsIndex spot_of (λ w. true) (waiters_of by_serial.items) by_line.items
   pub most : length by_serial.items + spare < 2 ^ 32
   pub room : length by_serial.items + spare ≤ capacity_of by_serial
   pub room_in_turns : length by_serial.items + spare ≤ capacity_of by_spot
   pub room_in_early : length by_serial.items + spare ≤ capacity_of by_rise
+  pub room_in_lines : length by_serial.items + spare ≤ capacity_of by_line
 
 -- what a contract sees
 abbrev pub waiting_of : Inside → Waiting
 waiting_of t = record { items = waiters_of t.all.items; clock = t.clock; spare = t.room }
 
 abbrev pub IsWaitingInside : Inside → Type 0
-IsWaitingInside t = Agrees t.all t.turns t.early t.clock t.room
+IsWaitingInside t = Agrees t.all t.turns t.early t.lines t.clock t.room

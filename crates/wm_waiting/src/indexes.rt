@@ -39,6 +39,16 @@ fn put_early(early: &mut Ordered<Rise, Waiter>, waiter: &Waiter)
     early.insert(Rise::of(waiter), *waiter);
 }
 
+/// Puts in the row of a job on its queue.
+pub(crate) fn put_line(lines: &mut Ordered<Spot, Waiter>, waiter: &Waiter)
+    requires spare { 1 ≤ lines.old.spare }
+    requires new { has_key key_of same_spot (spot_of waiter.now) lines.old.items ≡ false }
+    ensures index { (items : List Waiter) (i : ℕ) → IsIndex spot_of (λ w. true) items lines.old.items → IsIndex spot_of (λ w. true) (insert items i waiter.now) lines.new.items }
+    ensures capacity { capacity_of lines.new ≡ capacity_of lines.old }
+{
+    lines.insert(Spot::of(waiter), *waiter);
+}
+
 /// Puts a job into the index of its kind, where it has one.
 pub(crate) fn enlist(
     turns: &mut Ordered<Spot, Waiter>,

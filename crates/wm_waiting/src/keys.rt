@@ -2,7 +2,7 @@
 use crate::Waiter;
 use wm_base::{Moment, Priority, QName, Serial};
 
-/// Where a job that may have its turn stands: by queue, then priority, then place.
+/// Where a job stands: by queue, then priority, then place.
 #[derive(Clone, Copy, Debug, PartialEq, Eq, PartialOrd, Ord)]
 pub(crate) struct Spot {
     pub(crate) jobq: QName,

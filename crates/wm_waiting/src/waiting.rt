@@ -1,7 +1,7 @@
 // The jobs that wait.
 use crate::Waiter;
 use crate::bringing::bring_due;
-use crate::indexes::{enlist, lacking, take_out};
+use crate::indexes::{enlist, lacking, put_line, take_out};
 use crate::keys::{Rise, Spot};
 use std::alloc::{AllocError, Global};
 use std::marker::Model;
@@ -18,8 +18,10 @@ pub struct WaitingJobs {
     turns: Ordered<Spot, Waiter>,
     // Those that are due above the clock, held or not.
     early: Ordered<Rise, Waiter>,
+    // All of them.
+    lines: Ordered<Spot, Waiter>,
     clock: Moment,
-    // For how many more jobs each of the three maps has room.
+    // For how many more jobs each of the four maps has room.
     room: u32,
 }
 
@@ -39,7 +41,7 @@ impl WaitingJobs {
     ghost use Rattle.std.specs.Prelude.{◌≡◌, ◌+◌, ◌≤◌, [], false, true, nat_eq, max, length, is_some, if◌then◌else◌, OnOk, OnErr};
     ghost use Rattle.std.specs.Ordering.{nat_cmp};
     ghost use Rattle.wm_desc.specs.Sorted.{IsSortedOnce, with_key, has_key, added, removed};
-    ghost use Rattle.wm_waiting.specs.Waiting.{serial_of, has_place, HavePlaces, HavePriorities, head_of, next_due, marked};
+    ghost use Rattle.wm_waiting.specs.Waiting.{serial_of, has_place, HavePlaces, HavePriorities, HasOwnPlace, head_of, first_on, next_due, marked, replaced};
 
     /// None waits, and the clock is 0.
     pub fn new(alloc: Global) -> WaitingJobs
@@ -51,6 +53,7 @@ impl WaitingJobs {
             all: Ordered::new(alloc),
             turns: Ordered::new(alloc),
             early: Ordered::new(alloc),
+            lines: Ordered::new(alloc),
             clock: Moment::new(0),
             room: 0,
         }
@@ -82,6 +85,7 @@ impl WaitingJobs {
         };
         self.turns.reserve(lacking(whole, self.turns.len()))?;
         self.early.reserve(lacking(whole, self.early.len()))?;
+        self.lines.reserve(lacking(whole, self.lines.len()))?;
         self.all.reserve(more)?;
         self.room = more;
         Ok(())
@@ -96,11 +100,13 @@ impl WaitingJobs {
         ensures clock { self.new.clock ≡ self.old.clock }
         ensures spare { self.old.spare ≡ self.new.spare + 1 }
     {
-        // `len` tells that keys differ, so neither index has more rows than there are jobs; `get` tells the range.
+        // `len` tells that keys differ, so no index has more rows than there are jobs; `get` tells the range.
         self.turns.len();
         self.early.len();
+        self.lines.len();
         waiter.pty.get();
         enlist(&mut self.turns, &mut self.early, self.clock, &waiter);
+        put_line(&mut self.lines, &waiter);
         self.all.insert(waiter.serial, waiter);
         self.room -= 1;
     }
@@ -119,8 +125,25 @@ impl WaitingJobs {
         };
         take_out(&mut self.turns, &Spot::of(&waiter));
         take_out(&mut self.early, &Rise::of(&waiter));
+        take_out(&mut self.lines, &Spot::of(&waiter));
         self.room += 1;
         Some(waiter)
+    }
+
+    /// Puts a job in the place of the one with its serial, where there is one; where it stands on its queue is as that one
+    /// did, or new. It takes no memory.
+    pub fn replace(&mut self, waiter: Waiter)
+        requires place { HasOwnPlace waiter self.old.items }
+        ensures items { self.new.items ≡ replaced waiter self.old.items }
+        ensures clock { self.new.clock ≡ self.old.clock }
+        ensures spare { self.new.spare ≡ self.old.spare }
+    {
+        // It goes out and comes in again, since what it is says in which index it is. `len` tells that serials differ.
+        self.len();
+        let Some(_) = self.remove(waiter.serial) else {
+            return;
+        };
+        self.insert(waiter);
     }
 
     /// Holds the job of a serial, where there is one. It takes no memory.
@@ -155,7 +178,7 @@ impl WaitingJobs {
         self.clock = now;
     }
 
-    // A job that is marked goes out and comes in again, since its mark says in which index it is.
+    // A job that is marked takes its own place again.
     fn mark(&mut self, serial: Serial, held: bool)
         ensures items { self.new.items ≡ marked serial held self.old.items }
         ensures clock { self.new.clock ≡ self.old.clock }
@@ -163,11 +186,18 @@ impl WaitingJobs {
     {
         // `len` tells that serials and places differ.
         self.len();
-        let Some(mut waiter) = self.remove(serial) else {
+        let Some(mut waiter) = self.waiter(serial) else {
             return;
         };
         waiter.held = held;
-        self.insert(waiter);
+        self.replace(waiter);
+    }
+
+    // The job of a serial.
+    fn waiter(&self, serial: Serial) -> Option<Waiter>
+        ensures { result ≡ with_key serial_of nat_eq serial self.now.items }
+    {
+        self.all.get(&serial)
     }
 
     /// The job of a queue and a priority that isn't held, is due by the clock, and has the least place. It is one look.
@@ -192,6 +222,27 @@ impl WaitingJobs {
             return None;
         };
         if waiter.is_of(jobq, pty) {
+            Some(waiter)
+        } else {
+            None
+        }
+    }
+
+    /// The first of the jobs on a queue, held and early ones too: by priority, then by place.
+    pub fn first_on(&self, jobq: &QName) -> Option<Waiter>
+        ensures { result ≡ first_on jobq.now self.now.items }
+    {
+        // `len` tells that spots ascend.
+        self.lines.len();
+        let begin = Spot {
+            jobq: *jobq,
+            pty: Priority::new(1),
+            place: 0,
+        };
+        let Some((_, waiter)) = self.lines.first_from(&begin) else {
+            return None;
+        };
+        if waiter.is_on(jobq) {
             Some(waiter)
         } else {
             None

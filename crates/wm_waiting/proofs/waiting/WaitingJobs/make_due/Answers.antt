@@ -22,6 +22,6 @@ pub invariant_of-self : goal.invariant_of-self
 invariant_of-self c =
     let later = above_from_le c.args.now c.self.inside.clock c.if-le.ensures in
     let underway : IsUnderway c.args.now (waiters_of c.self.inside.all.items) c.self.inside.turns.items c.self.inside.early.items = underway-begins c.args.now (waiters_of c.self.inside.all.items) c.self.inside.turns.items c.self.inside.early.items c.self.inside.clock (omega (arith, later)) c.self.invariant.turns c.self.invariant.early in
-    agrees-due c.self.inside.all c.self.inside.turns c.self.inside.early c.self.inside.clock c.self.inside.room c.self.invariant c.args.now c.bring_due.new.turns c.bring_due.new.early
+    agrees-due c.self.inside.all c.self.inside.turns c.self.inside.early c.self.inside.lines c.self.inside.clock c.self.inside.room c.self.invariant c.args.now c.bring_due.new.turns c.bring_due.new.early
     (c.bring_due.ensures.turns (waiters_of c.self.inside.all.items) c.self.invariant.places underway) (c.bring_due.ensures.early (waiters_of c.self.inside.all.items) c.self.invariant.places underway)
     c.bring_due.ensures.capacity_turns c.bring_due.ensures.capacity_early

@@ -1,0 +1,87 @@
+// What is done to a job that waits.
+use crate::JobTable;
+use crate::phases::is_waiting;
+use crate::places::{due_at, hold_at, move_at, phase_at, place};
+use crate::renewing::renew;
+use wm_base::{EndCause, Moment, Serial};
+use wm_law::{Chgjob, Phase};
+
+impl JobTable {
+    ghost use Rattle.std.specs.Prelude.{◌≡◌, ◌+◌, ◌^◌, ◌<◌, ◌≤◌, map};
+    ghost use Rattle.wm_law.specs.declared.job.Phase.TheVariants.{Ended};
+    ghost use Rattle.wm_law.specs.Changing.{moved_to, with_due};
+    ghost use Rattle.wm_law.specs.Holding.{with_held};
+    ghost use Rattle.wm_law.specs.Jobs.{waiting_at};
+    ghost use Rattle.wm_law.specs.Reports.{in_phase};
+
+    /// Holds the job of a serial, where it waits, or releases it. It takes no memory.
+    pub fn set_held(&mut self, serial: Serial, held: bool)
+        ensures jobs { self.new.jobs ≡ map (waiting_at serial (with_held held)) self.old.jobs }
+        ensures clock { self.new.clock ≡ self.old.clock }
+        ensures next_serial { self.new.next_serial ≡ self.old.next_serial }
+        ensures next_place { self.new.next_place ≡ self.old.next_place }
+        ensures spare { self.old.spare ≤ self.new.spare }
+    {
+        // `len` tells that places differ.
+        self.waiting.len();
+        let Ok(at) = place(&self.jobs, serial) else {
+            return;
+        };
+        hold_at(&mut self.jobs, at, serial, held);
+        renew(&mut self.waiting, &self.jobs[at]);
+    }
+
+    /// Gives the job of a serial, where it waits, another due moment. It takes no memory.
+    pub fn set_due(&mut self, serial: Serial, due: Moment)
+        ensures jobs { self.new.jobs ≡ map (waiting_at serial (with_due due)) self.old.jobs }
+        ensures clock { self.new.clock ≡ self.old.clock }
+        ensures next_serial { self.new.next_serial ≡ self.old.next_serial }
+        ensures next_place { self.new.next_place ≡ self.old.next_place }
+        ensures spare { self.old.spare ≤ self.new.spare }
+    {
+        // `len` tells that places differ.
+        self.waiting.len();
+        let Ok(at) = place(&self.jobs, serial) else {
+            return;
+        };
+        due_at(&mut self.jobs, at, serial, due);
+        renew(&mut self.waiting, &self.jobs[at]);
+    }
+
+    /// Gives the job of a serial, where it waits, the queue and the priority of a command, the next place, and a due moment.
+    /// It takes no memory.
+    pub fn move_to(&mut self, serial: Serial, command: &Chgjob, due: Moment)
+        requires place_fits { self.old.next_place + 1 < 2 ^ 64 }
+        ensures jobs { self.new.jobs ≡ map (waiting_at serial (moved_to command.now self.old.next_place due)) self.old.jobs }
+        ensures clock { self.new.clock ≡ self.old.clock }
+        ensures next_serial { self.new.next_serial ≡ self.old.next_serial }
+        ensures next_place { self.new.next_place ≡ self.old.next_place + 1 }
+        ensures spare { self.old.spare ≤ self.new.spare }
+    {
+        let next = self.next_place;
+        self.next_place += 1;
+        let Ok(at) = place(&self.jobs, serial) else {
+            return;
+        };
+        move_at(&mut self.jobs, at, serial, command, next, due);
+        renew(&mut self.waiting, &self.jobs[at]);
+    }
+
+    /// Ends the job of a serial, where it waits. It takes no memory.
+    pub fn end_waiting(&mut self, serial: Serial, cause: EndCause)
+        ensures jobs { self.new.jobs ≡ map (waiting_at serial (in_phase (Ended cause))) self.old.jobs }
+        ensures clock { self.new.clock ≡ self.old.clock }
+        ensures next_serial { self.new.next_serial ≡ self.old.next_serial }
+        ensures next_place { self.new.next_place ≡ self.old.next_place }
+        ensures spare { self.old.spare ≤ self.new.spare }
+    {
+        let Ok(at) = place(&self.jobs, serial) else {
+            return;
+        };
+        if !is_waiting(&self.jobs[at].phase) {
+            return;
+        }
+        self.waiting.remove(serial);
+        phase_at(&mut self.jobs, at, serial, Phase::Ended(cause));
+    }
+}

@@ -1,0 +1,4 @@
+pub mod Names
+pub mod NamesInside
+pub mod Namesakes
+pub mod Refs
