@@ -36,7 +36,6 @@ pub fn settling_leaves_none()
 {}
 
 /// A refused call changes nothing but the clock and what the clock brings in settling.
-#[tactic(auto, using(crate::proofs::Refusals::refusal_leaves, crate::proofs::Refusals::refused_step_settles))]
 pub fn refusals_leave_the_state()
     ensures call { RefusalLeaves }
     ensures step { RefusedStepSettles }
