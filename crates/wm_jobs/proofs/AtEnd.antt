@@ -9,6 +9,7 @@ use Rattle.wm_desc.specs.Sorted.{has_key, added}
 use Rattle.wm_law.specs.declared.job.Job.{Job}
 use Rattle.wm_law.specs.Counts.{is_waiting, is_active}
 use Rattle.wm_law.specs.Pending.{is_prestart}
+use Rattle.wm_names.specs.Names.{IsNames}
 use Rattle.wm_ordered.specs.Ordered.{Pairs}
 use Rattle.wm_tally.specs.Counted.{same_counted}
 use Rattle.wm_tally.specs.Rows.{number_at}
@@ -20,8 +21,9 @@ use Rattle.wm_pick.specs.Parts.{waiter_of, waiters}
 use Rattle.wm_pick.specs.Tallied.{hows}
 use Rattle.wm_jobs.specs.Indexed.{order_of}
 use Rattle.wm_jobs.specs.Table.{Table, serial_of, is_busy}
-use Rattle.wm_jobs.specs.TableInside.{table_of, IsListed, AreListed, IsIndexed, HasRoom, IsTableInside}
+use Rattle.wm_jobs.specs.TableInside.{table_of, IsListed, AreListed, IsIndexed, HasRoom, HasNames, IsTableInside}
 use Rattle.wm_jobs.specs.declared.table.JobTable.TheInside.{Inside}
+use Rattle.wm_jobs.proofs.NameParts.{names-pushed, names-rows}
 use Rattle.wm_jobs.proofs.Sifted.{lower_differs, picked-few, picked-keys, picked-length, pushed-lacks, pushed-comes, pushed-same}
 use Rattle.wm_jobs.proofs.Splits.{sorted-pushed}
 use Rattle.wm_jobs.proofs.JobParts.{waiting-inactive, waiting-unstarted, waiter-keyed, waiter-placed, order-keyed, order-none, hows-pushed, count-pushed}
@@ -29,12 +31,13 @@ use Rattle.wm_jobs.proofs.JobParts.{waiting-inactive, waiting-unstarted, waiter-
 pub same-tally : (hs : List How) (old new : Counts) → new.counts ≡ old.counts → IsTally hs old → IsTally hs new
 same-tally hs old new same h = λ k. ap (number_at same_counted k) same ∙ h k
 
-pub new-inside : (new : Inside) → new.jobs.items ≡ [] → new.waiting.items ≡ [] → IsTally [] new.tally → new.starting.items ≡ [] → new.active ≡ 0 → new.busy ≡ 0 → new.room ≡ 0 → new.next_place ≡ 1 → IsTableInside new
-new-inside new jobs waiting tally starting active busy room np = record {
+pub new-inside : (new : Inside) → new.jobs.items ≡ [] → new.waiting.items ≡ [] → IsTally [] new.tally → new.starting.items ≡ [] → new.active ≡ 0 → new.busy ≡ 0 → new.room ≡ 0 → new.next_place ≡ 1 → IsNames [] new.names → IsTableInside new
+new-inside new jobs waiting tally starting active busy room np names = record {
   listed = subst (λ js. AreListed new.next_serial new.next_place js) (sym jobs) (record { first_place = omega arith; sorted = λ i j d lt in_range. absurd (omega arith); each = All-nil (IsListed new.next_serial new.next_place) });
   indexed = subst (λ js. IsIndexed js new.waiting new.tally new.starting new.active new.busy) (sym jobs) (record { waiters_are = waiting; hows_are = tally; orders_are = starting; active_are = active; busy_are = busy });
   room = (let n : length new.jobs.items ≡ 0 = ap length jobs in let m : length new.waiting.items ≡ 0 = ap length waiting in
       record { to_stand = omega arith; few = omega arith; to_wait = omega arith; to_count = omega arith; to_start = omega arith });
+  named = subst (λ js. HasNames js new.room new.names) (sym jobs) (record { are = names; to_name = omega arith });
 }
 
 module _ (t : Inside) (h : IsTableInside t) where
@@ -42,8 +45,8 @@ module _ (t : Inside) (h : IsTableInside t) where
   pub few-waiters : length t.waiting.items ≤ length t.jobs.items
   few-waiters = let n : length t.waiting.items ≡ length (waiters t.jobs.items) = ap length h.indexed.waiters_are in let few = picked-few waiter_of t.jobs.items in omega arith
 
-  pub reserved-inside : (new : Inside) → new.jobs.items ≡ t.jobs.items → new.waiting.items ≡ t.waiting.items → new.tally.counts ≡ t.tally.counts → new.starting.items ≡ t.starting.items → new.active ≡ t.active → new.busy ≡ t.busy → new.next_serial ≡ t.next_serial → new.next_place ≡ t.next_place → HasRoom (length t.jobs.items) (vec_capacity new.jobs) new.room new.waiting new.tally new.starting → IsTableInside new
-  reserved-inside new jobs waiting tally starting active busy ns np room = record {
+  pub reserved-inside : (new : Inside) → new.jobs.items ≡ t.jobs.items → new.waiting.items ≡ t.waiting.items → new.tally.counts ≡ t.tally.counts → new.starting.items ≡ t.starting.items → new.active ≡ t.active → new.busy ≡ t.busy → new.next_serial ≡ t.next_serial → new.next_place ≡ t.next_place → HasRoom (length t.jobs.items) (vec_capacity new.jobs) new.room new.waiting new.tally new.starting → new.names.rows ≡ t.names.rows → new.room ≤ new.names.spare → IsTableInside new
+  reserved-inside new jobs waiting tally starting active busy ns np room rows name = record {
     listed = subst (λ js. AreListed new.next_serial new.next_place js) (sym jobs) (rw (ns, np) h.listed);
     indexed = subst (λ js. IsIndexed js new.waiting new.tally new.starting new.active new.busy) (sym jobs) (record {
       waiters_are = waiting ∙ h.indexed.waiters_are;
@@ -53,6 +56,7 @@ module _ (t : Inside) (h : IsTableInside t) where
       busy_are = busy ∙ h.indexed.busy_are;
     });
     room = subst (λ n. HasRoom n (vec_capacity new.jobs) new.room new.waiting new.tally new.starting) (ap length (sym jobs)) room;
+    named = subst (λ js. HasNames js new.room new.names) (sym jobs) (record { are = names-rows t.jobs.items t.names new.names rows h.named.are; to_name = name });
   }
 
   module _ (v : Table) (view : table_of t ≡ v) (j : Job) (w : Waiter) (picked : waiter_of j ≡ Some w) (serial : j.serial ≡ v.next_serial) (place : j.place ≡ v.next_place) where
@@ -92,8 +96,8 @@ module _ (t : Inside) (h : IsTableInside t) where
         let start = h.room.to_start in
         record { to_stand = omega arith; few = omega arith; to_wait = omega arith; to_count = omega arith; to_start = omega arith }
 
-    pub pushed-inside : is_waiting j.phase ≡ true → is_some j.jobq ≡ true → (new : Inside) → new.jobs.items ≡ t.jobs.items ++ j ∷ [] → vec_capacity new.jobs ≡ vec_capacity t.jobs → new.waiting.items ≡ added waiting.serial_of nat_cmp w t.waiting.items → t.waiting.spare ≡ new.waiting.spare + 1 → new.tally ≡ t.tally → new.starting ≡ t.starting → new.active ≡ t.active → new.busy ≡ t.busy → new.next_serial ≡ t.next_serial + 1 → new.next_place ≡ t.next_place + 1 → new.room + 1 ≡ t.room → IsTableInside new
-    pushed-inside waits queue new jobs capacity we ws te se ae be ns np room =
+    pub pushed-inside : is_waiting j.phase ≡ true → is_some j.jobq ≡ true → (new : Inside) → new.jobs.items ≡ t.jobs.items ++ j ∷ [] → vec_capacity new.jobs ≡ vec_capacity t.jobs → new.waiting.items ≡ added waiting.serial_of nat_cmp w t.waiting.items → t.waiting.spare ≡ new.waiting.spare + 1 → new.tally ≡ t.tally → new.starting ≡ t.starting → new.active ≡ t.active → new.busy ≡ t.busy → new.next_serial ≡ t.next_serial + 1 → new.next_place ≡ t.next_place + 1 → new.room + 1 ≡ t.room → ((js : List Job) → IsNames js t.names → IsNames (js ++ j ∷ []) new.names) → t.names.spare ≤ new.names.spare + 1 → IsTableInside new
+    pushed-inside waits queue new jobs capacity we ws te se ae be ns np room add name =
         let come : new.waiting.items ≡ waiters (t.jobs.items ++ j ∷ []) = we ∙ (ap (λ us. added waiting.serial_of nat_cmp w us) h.indexed.waiters_are ∙ pushed-comes serial_of waiter_of waiting.serial_of waiter-keyed t.next_serial t.jobs.items lower j w picked serial_is) in
         record {
           listed = subst (λ js. AreListed new.next_serial new.next_place js) (sym jobs) (record {
@@ -111,4 +115,5 @@ module _ (t : Inside) (h : IsTableInside t) where
             busy_are = be ∙ (h.indexed.busy_are ∙ sym (count-pushed is_busy t.jobs.items j (ap (λ b. b && not (is_prestart j.kind)) (waiting-inactive j.phase waits))));
           });
           room = pushed-room new jobs capacity come ws te se room;
+          named = subst (λ js. HasNames js new.room new.names) (sym jobs) (names-pushed t.jobs.items j t.names new.names t.room new.room h.named room add name);
         }

@@ -11,6 +11,7 @@ use Rattle.wm_law.specs.declared.job.Job.{Job}
 use Rattle.wm_law.specs.declared.job.Phase.TheVariants.{Waiting}
 use Rattle.wm_law.specs.Counts.{is_waiting, is_starting, is_active}
 use Rattle.wm_law.specs.Pending.{is_prestart}
+use Rattle.wm_names.specs.Names.{IsNames}
 use Rattle.wm_ordered.specs.Ordered.{key_of}
 use Rattle.wm_tally.specs.Tally.{Counts, IsTally}
 use Rattle.wm_waiting.specs.Waiting as waiting
@@ -18,8 +19,9 @@ use Rattle.wm_pick.specs.Parts.{waiter_of}
 use Rattle.wm_pick.specs.Tallied.{hows}
 use Rattle.wm_jobs.specs.Indexed.{order_of, orders, Starts}
 use Rattle.wm_jobs.specs.Table.{Table, serial_of, is_busy}
-use Rattle.wm_jobs.specs.TableInside.{table_of, IsListed, AreListed, IsIndexed, HasRoom, IsTableInside}
+use Rattle.wm_jobs.specs.TableInside.{table_of, IsListed, AreListed, IsIndexed, HasRoom, HasNames, IsTableInside}
 use Rattle.wm_jobs.specs.declared.table.JobTable.TheInside.{Inside}
+use Rattle.wm_jobs.proofs.NameParts.{names-pushed}
 use Rattle.wm_jobs.proofs.Sifted.{pushed-lacks, pushed-comes, pushed-same}
 use Rattle.wm_jobs.proofs.Splits.{sorted-pushed}
 use Rattle.wm_jobs.proofs.JobParts.{waiter-keyed, waiter-none, order-keyed, order-none, order-some, hows-pushed, tally-starts, count-more, count-pushed}
@@ -68,8 +70,9 @@ module _ (t : Inside) (h : IsTableInside t) (v : Table) (view : table_of t ≡ v
       let start = h.room.to_start in
       record { to_stand = omega arith; few = omega arith; to_wait = omega arith; to_count = omega arith; to_start = omega arith }
 
-  pub launched-pushed : (new : Inside) → new.jobs.items ≡ t.jobs.items ++ j ∷ [] → vec_capacity new.jobs ≡ vec_capacity t.jobs → new.waiting ≡ t.waiting → Starts (is_active j.phase) t.tally new.tally j.how → t.tally.spare ≤ new.tally.spare + 1 → new.starting.items ≡ cond (is_starting j.phase) (added key_of nat_cmp (j.serial, tt) t.starting.items) t.starting.items → t.starting.spare ≤ new.starting.spare + 1 → new.active ≡ t.active + cond (is_active j.phase) 1 0 → new.busy ≡ t.busy + cond (is_active j.phase && not (is_prestart j.kind)) 1 0 → new.next_serial ≡ t.next_serial + 1 → new.next_place ≡ t.next_place → new.room + 1 ≡ t.room → IsTableInside new
-  launched-pushed new jobs capacity we te ts se ss ae be ns np room = record {
+  pub launched-pushed : (new : Inside) → new.jobs.items ≡ t.jobs.items ++ j ∷ [] → vec_capacity new.jobs ≡ vec_capacity t.jobs → new.waiting ≡ t.waiting → Starts (is_active j.phase) t.tally new.tally j.how → t.tally.spare ≤ new.tally.spare + 1 → new.starting.items ≡ cond (is_starting j.phase) (added key_of nat_cmp (j.serial, tt) t.starting.items) t.starting.items → t.starting.spare ≤ new.starting.spare + 1 → new.active ≡ t.active + cond (is_active j.phase) 1 0 → new.busy ≡ t.busy + cond (is_active j.phase && not (is_prestart j.kind)) 1 0 → new.next_serial ≡ t.next_serial + 1 → new.next_place ≡ t.next_place → new.room + 1 ≡ t.room → ((js : List Job) → IsNames js t.names → IsNames (js ++ j ∷ []) new.names) → t.names.spare ≤ new.names.spare + 1 → IsTableInside new
+  launched-pushed new jobs capacity we te ts se ss ae be ns np room add name = record {
+    named = subst (λ js. HasNames js new.room new.names) (sym jobs) (names-pushed t.jobs.items j t.names new.names t.room new.room h.named room add name);
     listed = subst (λ js. AreListed new.next_serial new.next_place js) (sym jobs) (record {
       first_place = (let first = h.listed.first_place in omega arith);
       sorted = sorted-pushed serial_of t.next_serial t.jobs.items j serial_is lower h.listed.sorted;

@@ -14,8 +14,10 @@ use Rattle.wm_law.specs.declared.launch.Launched.{Launched}
 use Rattle.wm_law.specs.Counts.{is_waiting, is_starting, is_active}
 use Rattle.wm_law.specs.Jobs.{waiting_at}
 use Rattle.wm_law.specs.Launch.{as_launched, launched_at}
+use Rattle.wm_law.specs.Named.{is_ended}
 use Rattle.wm_law.specs.Pending.{is_prestart}
 use Rattle.wm_law.specs.Reports.{in_phase, phased_at}
+use Rattle.wm_names.specs.Names.{Names, HasNamed}
 use Rattle.wm_ordered.specs.Ordered.{Pairs, key_of}
 use Rattle.wm_tally.specs.Tally.{Counts, HasStarted}
 use Rattle.wm_waiting.specs.declared.waiter.Waiter.{Waiter}
@@ -23,13 +25,14 @@ use Rattle.wm_waiting.specs.Waiting.{Waiting}
 use Rattle.wm_waiting.specs.Waiting as waiting
 use Rattle.wm_waiting.proofs.Members.{Contains-head}
 use Rattle.wm_pick.specs.Parts.{waiter_of, waiters}
-use Rattle.wm_jobs.specs.Indexed.{Starts, Ends}
+use Rattle.wm_jobs.specs.Indexed.{Starts, Ends, NamesInPhase}
 use Rattle.wm_jobs.specs.Renewed.{renewed, OwnsPlace}
 use Rattle.wm_jobs.specs.Table.{Table, serial_of}
-use Rattle.wm_jobs.specs.TableInside.{table_of, IsListed, AreListed, IsIndexed, HasRoom, IsTableInside}
+use Rattle.wm_jobs.specs.TableInside.{table_of, IsListed, AreListed, IsIndexed, HasRoom, HasNames, IsTableInside}
 use Rattle.wm_jobs.specs.declared.table.JobTable.TheInside.{Inside}
 use Rattle.wm_jobs.proofs.Splits.{IsSplit, split-at, found-at, map-split}
 use Rattle.wm_jobs.proofs.JobParts.{has-started, waiter-keyed, waiter-placed, waiter-some}
+use Rattle.wm_jobs.proofs.NameParts.{names-alike}
 use Rattle.wm_jobs.proofs.Sifted.{picked-keys, picked-parts}
 use Rattle.wm_jobs.proofs.Waits.{if_waiting, one-waiting, map-waiting, Keeps, keeps-where, is-waiter, owns, renewed-listed, renewed-indexed, renewed-room}
 use Rattle.wm_jobs.proofs.Changes.{all-there, listed, launched-indexed, launched-room, launch-spare, launch-new, phased-indexed, phased-room, phased-active, phased-busy}
@@ -78,6 +81,20 @@ module _ (t : Inside) (h : IsTableInside t) (s at : ℕ) (x : Job) (js : List Jo
   around_room : HasRoom (length (before ++ x ∷ behind)) (vec_capacity t.jobs) t.room t.waiting t.tally t.starting
   around_room = subst (λ js. HasRoom (length js) (vec_capacity t.jobs) t.room t.waiting t.tally t.starting) split.whole h.room
 
+  around_named : HasNames (before ++ x ∷ behind) t.room t.names
+  around_named = subst (λ js. HasNames js t.room t.names) split.whole h.named
+
+  -- the names of a job that comes into a phase
+  names-phased : (y : Job) (ks : List Job) (room : ℕ) (names : Names) → ks ≡ before ++ y ∷ behind → y.serial ≡ x.serial → y.job ≡ x.job → room ≡ t.room → NamesInPhase y.phase t.names names x → t.names.spare ≤ names.spare → HasNames ks room names
+  names-phased y ks room names is serial job same_room ends spare = subst (λ js. HasNames js room names) (sym is) (record {
+    are = ends before behind y serial job refl around_named.are;
+    to_name = (let name = around_named.to_name in omega arith);
+  })
+
+  -- a job that hasn't ended is named
+  pub finds-named : is_ended x.phase ≡ false → HasNamed t.names x
+  finds-named lasts = record { before = before; behind = behind; are = around_named.are; lasts = lasts }
+
   -- a launch finds room, and no order of the serial
   pub launch-finds : is_waiting x.phase ≡ true → (1 ≤ t.tally.spare) × (1 ≤ t.starting.spare) × (has_key key_of nat_eq s t.starting.items ≡ false)
   launch-finds waits =
@@ -88,8 +105,9 @@ module _ (t : Inside) (h : IsTableInside t) (s at : ℕ) (x : Job) (js : List Jo
     launched : new.jobs.items ≡ before ++ as_launched a x ∷ behind
     launched = jobs ∙ map-split serial_of s (as_launched a) t.jobs.items before behind x split
 
-    pub launched-inside : new.next_serial ≡ t.next_serial → new.next_place ≡ t.next_place → new.room ≡ t.room → vec_capacity new.jobs ≡ vec_capacity t.jobs → new.waiting.items ≡ removed waiting.serial_of nat_eq s t.waiting.items → t.waiting.spare ≤ new.waiting.spare → Starts (is_active a.phase) t.tally new.tally a.how → t.tally.spare ≤ new.tally.spare + 1 → new.starting.items ≡ cond (is_starting a.phase) (added key_of nat_cmp (s, tt) t.starting.items) t.starting.items → t.starting.spare ≤ new.starting.spare + 1 → new.active ≡ t.active + cond (is_active a.phase) 1 0 → new.busy ≡ t.busy + cond (is_active a.phase && not (is_prestart x.kind)) 1 0 → IsTableInside new
-    launched-inside ns np room capacity we ws te ts se ss ae be = record {
+    pub launched-inside : new.next_serial ≡ t.next_serial → new.next_place ≡ t.next_place → new.room ≡ t.room → vec_capacity new.jobs ≡ vec_capacity t.jobs → new.waiting.items ≡ removed waiting.serial_of nat_eq s t.waiting.items → t.waiting.spare ≤ new.waiting.spare → Starts (is_active a.phase) t.tally new.tally a.how → t.tally.spare ≤ new.tally.spare + 1 → new.starting.items ≡ cond (is_starting a.phase) (added key_of nat_cmp (s, tt) t.starting.items) t.starting.items → t.starting.spare ≤ new.starting.spare + 1 → new.active ≡ t.active + cond (is_active a.phase) 1 0 → new.busy ≡ t.busy + cond (is_active a.phase && not (is_prestart x.kind)) 1 0 → NamesInPhase a.phase t.names new.names x → t.names.spare ≤ new.names.spare → IsTableInside new
+    launched-inside ns np room capacity we ws te ts se ss ae be ends name = record {
+      named = names-phased (as_launched a x) new.jobs.items new.room new.names launched refl refl room ends name;
       listed = rw (launched, ns, np) (listed s before behind x split.here split.lower split.higher t.next_serial t.next_place (as_launched a x) refl refl goes around_listed);
       indexed = rw launched (launched-indexed s before behind x split.here split.lower split.higher a waits goes t.waiting new.waiting t.tally new.tally t.starting new.starting t.active new.active t.busy new.busy around_indexed we te se ae be);
       room = room-same (length-same launched) capacity room (launched-room s before behind x split.here split.lower split.higher a waits goes t.next_serial t.next_place (vec_capacity t.jobs) t.room t.waiting new.waiting t.tally new.tally t.starting new.starting t.active t.busy around_listed around_indexed around_room we ws ts ss);
@@ -108,8 +126,9 @@ module _ (t : Inside) (h : IsTableInside t) (s at : ℕ) (x : Job) (js : List Jo
       phased : new.jobs.items ≡ before ++ in_phase phase x ∷ behind
       phased = jobs ∙ map-split serial_of s (in_phase phase) t.jobs.items before behind x split
 
-      pub phased-inside : new.next_serial ≡ t.next_serial → new.next_place ≡ t.next_place → new.room ≡ t.room → vec_capacity new.jobs ≡ vec_capacity t.jobs → new.waiting ≡ t.waiting → Ends (is_active phase) t.tally new.tally x.how → t.tally.spare ≤ new.tally.spare → new.starting.items ≡ removed key_of nat_eq s t.starting.items → t.starting.spare ≤ new.starting.spare → new.active + cond (not (is_active phase)) 1 0 ≡ t.active → new.busy + cond (not (is_active phase) && not (is_prestart x.kind)) 1 0 ≡ t.busy → IsTableInside new
-      phased-inside ns np room capacity we te ts se ss ae be = record {
+      pub phased-inside : new.next_serial ≡ t.next_serial → new.next_place ≡ t.next_place → new.room ≡ t.room → vec_capacity new.jobs ≡ vec_capacity t.jobs → new.waiting ≡ t.waiting → Ends (is_active phase) t.tally new.tally x.how → t.tally.spare ≤ new.tally.spare → new.starting.items ≡ removed key_of nat_eq s t.starting.items → t.starting.spare ≤ new.starting.spare → new.active + cond (not (is_active phase)) 1 0 ≡ t.active → new.busy + cond (not (is_active phase) && not (is_prestart x.kind)) 1 0 ≡ t.busy → NamesInPhase phase t.names new.names x → t.names.spare ≤ new.names.spare → IsTableInside new
+      phased-inside ns np room capacity we te ts se ss ae be ends name = record {
+        named = names-phased (in_phase phase x) new.jobs.items new.room new.names phased refl refl room ends name;
         listed = rw (phased, ns, np) (listed s before behind x split.here split.lower split.higher t.next_serial t.next_place (in_phase phase x) refl refl goes around_listed);
         indexed = rw (phased, we) (phased-indexed s before behind x split.here split.lower split.higher phase active goes unstarted t.waiting t.tally new.tally t.starting new.starting t.active new.active t.busy new.busy around_indexed te se ae be);
         room = subst (λ (w : Waiting). HasRoom (length new.jobs.items) (vec_capacity new.jobs) new.room w new.tally new.starting) (sym we) (room-same (length-same phased) capacity room (phased-room s before behind x split.here split.lower split.higher phase active goes unstarted (vec_capacity t.jobs) t.room t.waiting t.tally new.tally t.starting new.starting around_room ts ss));
@@ -151,10 +170,11 @@ module _ (t : Inside) (h : IsTableInside t) (s at : ℕ) (x : Job) (js : List Jo
       alike : is_some (waiter_of after) ≡ is_some (waiter_of x)
       alike = is-waiter after has-queue ∙ (ap is_waiting (kept.phase x) ∙ sym (is-waiter x had-queue))
 
-      renewed-inside : (new : Inside) → new.jobs.items ≡ map (waiting_at s change) t.jobs.items → new.next_serial ≡ t.next_serial → new.next_place ≡ np → new.room ≡ t.room → vec_capacity new.jobs ≡ vec_capacity t.jobs → new.waiting.items ≡ renewed (waiter_of after) t.waiting.items → new.waiting.spare ≡ t.waiting.spare → new.tally ≡ t.tally → new.starting ≡ t.starting → new.active ≡ t.active → new.busy ≡ t.busy → IsTableInside new
-      renewed-inside new jobs ns np_is room capacity we ws te se ae be =
+      renewed-inside : (new : Inside) → new.jobs.items ≡ map (waiting_at s change) t.jobs.items → new.next_serial ≡ t.next_serial → new.next_place ≡ np → new.room ≡ t.room → vec_capacity new.jobs ≡ vec_capacity t.jobs → new.waiting.items ≡ renewed (waiter_of after) t.waiting.items → new.waiting.spare ≡ t.waiting.spare → new.tally ≡ t.tally → new.starting ≡ t.starting → new.active ≡ t.active → new.busy ≡ t.busy → new.names ≡ t.names → IsTableInside new
+      renewed-inside new jobs ns np_is room capacity we ws te se ae be ne =
           let changed : new.jobs.items ≡ before ++ after ∷ behind = waiting-changed new.jobs.items jobs in
           record {
+            named = rw (changed, room, ne) (record { are = names-alike before behind x after t.names (kept.serial x) (kept.job x) (ap is_ended (kept.phase x)) around_named.are; to_name = around_named.to_name });
             listed = rw (changed, ns, np_is) (renewed-listed s before behind x after split.here split.lower split.higher (kept.serial x) t.next_serial t.next_place np le (kept.place x had-place) has-queue around_listed);
             indexed = rw (changed, te, se, ae, be) (renewed-indexed s before behind x after split.here split.lower split.higher (kept.serial x) (kept.phase x) (kept.kind x) (kept.how x) t.waiting new.waiting t.tally t.starting t.active t.busy alike around_indexed we);
             room = rw (te, se) (room-same (length-same changed) capacity room (renewed-room s before behind x after split.here split.lower split.higher (kept.serial x) (vec_capacity t.jobs) t.room t.waiting new.waiting t.tally t.starting around_room we ws));
@@ -201,11 +221,11 @@ module _ (t : Inside) (h : IsTableInside t) (s at : ℕ) (x : Job) (js : List Jo
         ∙ (map-split serial_of s (in_phase (Ended cause)) t.jobs.items before behind x split
         ∙ (ap (λ b. before ++ cond b (in_phase (Ended cause) x) x ∷ behind) (sym waits) ∙ sym (waiting-changed (in_phase (Ended cause)) (map (waiting_at s (in_phase (Ended cause))) t.jobs.items) refl)))
 
-    pub ended-inside : (new : Inside) → new.jobs.items ≡ map (phased_at s (Ended cause)) t.jobs.items → new.next_serial ≡ t.next_serial → new.next_place ≡ t.next_place → new.room ≡ t.room → vec_capacity new.jobs ≡ vec_capacity t.jobs → new.waiting.items ≡ removed waiting.serial_of nat_eq s t.waiting.items → t.waiting.spare ≤ new.waiting.spare → new.tally ≡ t.tally → new.starting ≡ t.starting → new.active ≡ t.active → new.busy ≡ t.busy → IsTableInside new
-    ended-inside new jobs ns np room capacity we ws te se ae be =
+    pub ended-inside : (new : Inside) → new.jobs.items ≡ map (phased_at s (Ended cause)) t.jobs.items → new.next_serial ≡ t.next_serial → new.next_place ≡ t.next_place → new.room ≡ t.room → vec_capacity new.jobs ≡ vec_capacity t.jobs → new.waiting.items ≡ removed waiting.serial_of nat_eq s t.waiting.items → t.waiting.spare ≤ new.waiting.spare → new.tally ≡ t.tally → new.starting ≡ t.starting → new.active ≡ t.active → new.busy ≡ t.busy → NamesInPhase (Ended cause) t.names new.names x → t.names.spare ≤ new.names.spare → IsTableInside new
+    ended-inside new jobs ns np room capacity we ws te se ae be names name =
         let tally : t.tally.spare ≤ new.tally.spare + 1 = (let same : new.tally.spare ≡ t.tally.spare = ap (λ (k : Counts). k.spare) te in omega arith) in
         let starting : t.starting.spare ≤ new.starting.spare + 1 = (let same : new.starting.spare ≡ t.starting.spare = ap (λ (o : Pairs ℕ (Unit {0})). o.spare) se in omega arith) in
-        launched-inside ends waits refl new (phased-launched new.jobs.items jobs) ns np room capacity we ws te tally (ap (λ (o : Pairs ℕ (Unit {0})). o.items) se) starting (omega (arith, ae)) (omega (arith, be))
+        launched-inside ends waits refl new (phased-launched new.jobs.items jobs) ns np room capacity we ws te tally (ap (λ (o : Pairs ℕ (Unit {0})). o.items) se) starting (omega (arith, ae)) (omega (arith, be)) names name
 
 -- the job that stands at the place after the change is the one that stood there, changed where it waits
 module _ (t : Inside) (h : IsTableInside t) (s at : ℕ) (js : List Job) (same : js ≡ t.jobs.items) (there : IsAt serial_of nat_cmp s js at) (change : Job → Job) (np : ℕ) (le : t.next_place ≤ np) (keeps : Keeps np change) (ks : List Job) (jobs : ks ≡ map (waiting_at s change) t.jobs.items) (y : Job) (y_is : y ≡ get_or ks at y) where
@@ -224,6 +244,6 @@ module _ (t : Inside) (h : IsTableInside t) (s at : ℕ) (js : List Job) (same :
   pub takes-next : ((j : Job) → (change j).place ≡ t.next_place) → OwnsPlace (waiter_of y) t.waiting.items
   takes-next takes = subst (λ (k : Job). OwnsPlace (waiter_of k) t.waiting.items) (sym changed_is) (owns-next t h s at had js same there had_is change np le keeps takes)
 
-  pub changed-inside : (new : Inside) → new.jobs.items ≡ map (waiting_at s change) t.jobs.items → new.next_serial ≡ t.next_serial → new.next_place ≡ np → new.room ≡ t.room → vec_capacity new.jobs ≡ vec_capacity t.jobs → new.waiting.items ≡ renewed (waiter_of y) t.waiting.items → new.waiting.spare ≡ t.waiting.spare → new.tally ≡ t.tally → new.starting ≡ t.starting → new.active ≡ t.active → new.busy ≡ t.busy → IsTableInside new
-  changed-inside new jobs_are ns np_is room capacity we ws te se ae be =
-      renewed-inside t h s at had js same there had_is change np le keeps new jobs_are ns np_is room capacity (we ∙ ap (λ (k : Job). renewed (waiter_of k) t.waiting.items) changed_is) ws te se ae be
+  pub changed-inside : (new : Inside) → new.jobs.items ≡ map (waiting_at s change) t.jobs.items → new.next_serial ≡ t.next_serial → new.next_place ≡ np → new.room ≡ t.room → vec_capacity new.jobs ≡ vec_capacity t.jobs → new.waiting.items ≡ renewed (waiter_of y) t.waiting.items → new.waiting.spare ≡ t.waiting.spare → new.tally ≡ t.tally → new.starting ≡ t.starting → new.active ≡ t.active → new.busy ≡ t.busy → new.names ≡ t.names → IsTableInside new
+  changed-inside new jobs_are ns np_is room capacity we ws te se ae be ne =
+      renewed-inside t h s at had js same there had_is change np le keeps new jobs_are ns np_is room capacity (we ∙ ap (λ (k : Job). renewed (waiter_of k) t.waiting.items) changed_is) ws te se ae be ne

@@ -1,13 +1,11 @@
 -- The jobs that wait on a queue end one by one.
-use Rattle.std.proofs.Common.{◌≡◌, ◌⊎◌, ℕ, suc, ◌+◌, ◌<◌, ◌≤◌, Bool, true, false, ◌&&◌, cond, List, [], ◌∷◌, ◌++◌, length, get_or, take, drop, map, Option, Some, None, option_map, inl, inr, refl, ap, sym, ◌∙◌, subst, arith, nat_eq, eq-eqb, Contains}
+use Rattle.std.proofs.Common.{◌≡◌, ℕ, suc, ◌+◌, ◌≤◌, Bool, true, false, ◌&&◌, cond, List, [], ◌∷◌, ◌++◌, length, get_or, take, drop, map, Option, Some, None, option_map, inl, inr, refl, ap, sym, ◌∙◌, subst, arith, Contains}
 use Rattle.std.specs.List.{filter, filter_map, cons_option, count_by}
 use Rattle.std.specs.declared.cmp.Ordering.TheVariants.{Less, Equal, Greater}
-use Rattle.std.specs.Cmp.{IsTotalOrder}
 use Rattle.std.specs.Ordering.{nat_cmp}
 use Rattle.std.proofs.lemmas.Bool.Decides.{nat_tests}
 use Rattle.std.proofs.lemmas.List.{get_or_default, length-map, map-append}
 use Rattle.std.proofs.lemmas.List.Sums.{count_by-le-length}
-use mathlib.Core.Bool.{false≢true}
 use Rattle.wm_base.specs.declared.job.EndCause.TheVariants.{Cleared}
 use Rattle.wm_base.specs.declared.qname.QName.{QName}
 use Rattle.wm_desc.specs.Place.{IsAt}

@@ -4,6 +4,7 @@ pub mod AtPlace
 pub mod Changes
 pub mod Cleared
 pub mod JobParts
+pub mod NameParts
 pub mod One
 pub mod Sifted
 pub mod Splits

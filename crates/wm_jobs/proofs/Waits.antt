@@ -30,7 +30,7 @@ use Rattle.wm_jobs.specs.TableInside.{IsListed, AreListed, IsIndexed, HasRoom}
 use Rattle.wm_jobs.proofs.Changes.{all-changed, all-there}
 use Rattle.wm_jobs.proofs.JobParts.{hows-active, hows-inactive, count-changed, order-keyed, waiter-keyed, waiter-none, waiter-some}
 use Rattle.wm_jobs.proofs.Sifted.{picked-keys, picked-parts, picked-same}
-use Rattle.wm_jobs.proofs.Splits.{IsSplit, changed-one, gap-unchanged, map-split, sorted-changed}
+use Rattle.wm_jobs.proofs.Splits.{changed-one, gap-unchanged, map-split, sorted-changed}
 
 -- the job changed, where it waits
 abbrev pub if_waiting : (Job → Job) → Job → Job
@@ -65,9 +65,10 @@ module _ (s : ℕ) (change : Job → Job) where
   pub waiting-gap : (xs ys : List Job) (i : ℕ) → ys ≡ xs → IsGap serial_of nat_cmp s ys i → xs ≡ map (waiting_at s change) xs
   waiting-gap xs ys i same h = gap-unchanged serial_of s (if_waiting change) xs ys i same h ∙ sym (map-waiting xs)
 
--- the change leaves what a job is counted by, and gives a place below a number
+-- the change leaves what a job is named and counted by, and gives a place below a number
 pub record Keeps (np : ℕ) (change : Job → Job) : Type 0 where
   pub serial : (j : Job) → (change j).serial ≡ j.serial
+  pub job : (j : Job) → (change j).job ≡ j.job
   pub phase : (j : Job) → (change j).phase ≡ j.phase
   pub kind : (j : Job) → (change j).kind ≡ j.kind
   pub how : (j : Job) → (change j).how ≡ j.how
@@ -80,7 +81,7 @@ or-some (Some q) b has = refl
 
 -- a job that is moved has the place before the next
 pub keeps-moved : (c : Chgjob) (place due : ℕ) → Keeps (place + 1) (moved_to c place due)
-keeps-moved c place due = record { serial = λ _. refl; phase = λ _. refl; kind = λ _. refl; how = λ _. refl; queue = λ j has. or-some c.jobq j.jobq has; place = λ _ _. omega arith }
+keeps-moved c place due = record { serial = λ _. refl; job = λ _. refl; phase = λ _. refl; kind = λ _. refl; how = λ _. refl; queue = λ j has. or-some c.jobq j.jobq has; place = λ _ _. omega arith }
 
 either : (P : Job → Type 0) (b : Bool) (j k : Job) → P k → P j → P (cond b k j)
 either P true j k changed same = changed
@@ -89,6 +90,7 @@ either P false j k changed same = same
 pub keeps-where : (np : ℕ) (change : Job → Job) → Keeps np change → Keeps np (if_waiting change)
 keeps-where np change keeps = record {
   serial = λ j. either (λ k. k.serial ≡ j.serial) (is_waiting j.phase) j (change j) (keeps.serial j) refl;
+  job = λ j. either (λ k. k.job ≡ j.job) (is_waiting j.phase) j (change j) (keeps.job j) refl;
   phase = λ j. either (λ k. k.phase ≡ j.phase) (is_waiting j.phase) j (change j) (keeps.phase j) refl;
   kind = λ j. either (λ k. k.kind ≡ j.kind) (is_waiting j.phase) j (change j) (keeps.kind j) refl;
   how = λ j. either (λ k. k.how ≡ j.how) (is_waiting j.phase) j (change j) (keeps.how j) refl;

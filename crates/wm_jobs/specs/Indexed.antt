@@ -1,8 +1,10 @@
 -- What jobs are found and counted by.
-use Rattle.std.specs.Prelude.{◌≡◌, ℕ, Bool, true, false, List, filter_map, Option, Some, None, if◌then◌else◌}
+use Rattle.std.specs.Prelude.{◌≡◌, ℕ, Bool, true, false, List, ◌∷◌, ◌++◌, filter_map, Option, Some, None, if◌then◌else◌}
 use Rattle.wm_base.specs.declared.job.How.{How}
 use Rattle.wm_law.specs.declared.job.Job.{Job}
+use Rattle.wm_law.specs.declared.job.Phase.{Phase}
 use Rattle.wm_law.specs.Counts.{is_starting}
+use Rattle.wm_names.specs.Names.{Names, IsNames}
 use Rattle.wm_tally.specs.Tally.{Counts, AddsHow, TakesHow}
 
 -- a job that waits for a monitor, by its serial
@@ -22,3 +24,7 @@ Starts false old new how = new ≡ old
 abbrev pub Ends : Bool → Counts → Counts → How → Type 0
 Ends true old new how = new ≡ old
 Ends false old new how = TakesHow old new how
+
+-- where a job comes into a phase, the names of the jobs come to be those of the jobs with it in that phase
+abbrev pub NamesInPhase : Phase → Names → Names → Job → Type 0
+NamesInPhase phase old new job = (before behind : List Job) (after : Job) → after.serial ≡ job.serial → after.job ≡ job.job → after.phase ≡ phase → IsNames (before ++ job ∷ behind) old → IsNames (before ++ after ∷ behind) new

@@ -4,6 +4,7 @@ use Rattle.std.specs.Ordering.{nat_cmp}
 use Rattle.wm_desc.specs.Sorted.{IsSortedOnce}
 use Rattle.wm_law.specs.declared.job.Job.{Job}
 use Rattle.wm_law.specs.Counts.{is_waiting}
+use Rattle.wm_names.specs.Names.{Names, IsNames}
 use Rattle.wm_ordered.specs.Ordered.{Pairs}
 use Rattle.wm_tally.specs.Tally.{Counts, IsTally}
 use Rattle.wm_waiting.specs.Waiting.{Waiting}
@@ -41,6 +42,11 @@ pub record HasRoom (jobs capacity room : ℕ) (waiting : Waiting) (tally : Count
   pub to_count : length waiting.items + room ≤ tally.spare
   pub to_start : length waiting.items + room ≤ starting.spare
 
+-- the names are those of the jobs, with room for those of so many more
+pub record HasNames (jobs : List Job) (room : ℕ) (names : Names) : Type 0 where
+  pub are : IsNames jobs names
+  pub to_name : room ≤ names.spare
+
 -- what a contract sees
 abbrev pub table_of : Inside → Table
 table_of t = record { jobs = t.jobs.items; clock = t.waiting.clock; next_serial = t.next_serial; next_place = t.next_place; spare = t.room }
@@ -50,3 +56,4 @@ pub record IsTableInside (t : Inside) : Type 0 where
   pub listed : AreListed t.next_serial t.next_place t.jobs.items
   pub indexed : IsIndexed t.jobs.items t.waiting t.tally t.starting t.active t.busy
   pub room : HasRoom (length t.jobs.items) (vec_capacity t.jobs) t.room t.waiting t.tally t.starting
+  pub named : HasNames t.jobs.items t.room t.names

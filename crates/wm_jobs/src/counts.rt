@@ -5,11 +5,13 @@ ghost use Rattle.wm_desc.specs.Sorted.{has_key, added};
 ghost use Rattle.wm_law.specs.Counts.{is_starting, is_active};
 ghost use Rattle.wm_ordered.specs.Ordered.{key_of};
 ghost use Rattle.wm_tally.specs.Tally.{HasFew, HasStarted};
-ghost use Rattle.wm_jobs.specs.Indexed.{Starts, Ends};
+ghost use Rattle.wm_names.specs.Names.{HasNamed};
+ghost use Rattle.wm_jobs.specs.Indexed.{Starts, Ends, NamesInPhase};
 
-use crate::phases::{is_active, is_starting};
+use crate::phases::{is_active, is_ended, is_starting};
 use wm_base::{How, Serial};
-use wm_law::Phase;
+use wm_law::{Job, Phase};
+use wm_names::JobNames;
 use wm_ordered::Ordered;
 use wm_tally::Tally;
 
@@ -45,6 +47,17 @@ pub(crate) fn put_order(starting: &mut Ordered<Serial, ()>, serial: Serial, phas
 {
     if is_starting(phase) {
         starting.insert(serial, ());
+    }
+}
+
+/// Takes the names that a job without an end has from it, where it comes into its end.
+pub(crate) fn end_names(names: &mut JobNames, job: &Job, phase: &Phase)
+    requires { HasNamed names.old job.now }
+    ensures names { NamesInPhase phase.now names.old names.new job.now }
+    ensures spare { names.old.spare ≤ names.new.spare }
+{
+    if is_ended(phase) {
+        names.end(job);
     }
 }
 

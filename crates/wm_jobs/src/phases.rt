@@ -1,6 +1,7 @@
 // Which phases wait, are handed out, and count.
 ghost use Rattle.std.specs.Prelude.{◌≡◌, ◌&&◌, not};
 ghost use Rattle.wm_law.specs.Counts.{is_waiting, is_starting, is_active};
+ghost use Rattle.wm_law.specs.Named.{is_ended};
 ghost use Rattle.wm_law.specs.Pending.{is_prestart};
 ghost use Rattle.wm_pick.specs.Parts.{waiter_of};
 
@@ -26,6 +27,12 @@ pub(crate) fn is_active(phase: &Phase) -> bool
         phase,
         Phase::Starting | Phase::Handed(_) | Phase::Running(_)
     )
+}
+
+pub(crate) fn is_ended(phase: &Phase) -> bool
+    ensures { result ≡ is_ended phase.now }
+{
+    matches!(phase, Phase::Ended(_))
 }
 
 fn is_prestart(kind: &JobKind) -> bool

@@ -1,11 +1,12 @@
 // The job table.
-use crate::counts::{count_end, count_start, fewer, more, put_order};
+use crate::counts::{count_end, count_start, end_names, fewer, more, put_order};
 use crate::phases::{counts_as_busy, is_active, waiter_of};
 use crate::places::{launch_at, phase_at, place};
 use std::alloc::{AllocError, Global};
 use std::marker::Model;
 use wm_base::{Moment, NoMemory, Serial};
 use wm_law::{Job, Launched, Phase};
+use wm_names::JobNames;
 use wm_ordered::Ordered;
 use wm_tally::Tally;
 use wm_waiting::WaitingJobs;
@@ -23,6 +24,8 @@ pub struct JobTable {
     tally: Tally,
     // The Starting jobs.
     starting: Ordered<Serial, ()>,
+    // Which of the jobs a command names.
+    pub(crate) names: JobNames,
     active: usize,
     // The active jobs that aren't prestart jobs.
     busy: usize,
@@ -69,6 +72,7 @@ impl JobTable {
             waiting: WaitingJobs::new(alloc),
             tally: Tally::new(alloc),
             starting: Ordered::new(alloc),
+            names: JobNames::new(alloc),
             active: 0,
             busy: 0,
             next_serial: 1,
@@ -99,6 +103,7 @@ impl JobTable {
         self.waiting.reserve(more)?;
         self.tally.reserve(launches)?;
         self.starting.reserve(launches)?;
+        self.names.reserve(more)?;
         self.room = more;
         Ok(())
     }
@@ -122,6 +127,7 @@ impl JobTable {
             unreachable!()
         };
         self.waiting.insert(waiter);
+        self.names.add(&job);
         self.jobs.push_reserved(job);
         self.next_serial += 1;
         self.next_place += 1;
@@ -146,6 +152,7 @@ impl JobTable {
         let busy = counts_as_busy(starts, &job.kind);
         count_start(&mut self.tally, &job.how, &job.phase);
         put_order(&mut self.starting, job.serial, &job.phase);
+        self.names.add(&job);
         self.active = more(self.active, starts);
         self.busy = more(self.busy, busy);
         self.jobs.push_reserved(job);
@@ -166,11 +173,13 @@ impl JobTable {
         let Ok(at) = place(&self.jobs, serial) else {
             return;
         };
+        let job = &self.jobs[at];
         let starts = is_active(&launched.phase);
-        let busy = counts_as_busy(starts, &self.jobs[at].kind);
+        let busy = counts_as_busy(starts, &job.kind);
         self.waiting.remove(serial);
         count_start(&mut self.tally, &launched.how, &launched.phase);
         put_order(&mut self.starting, serial, &launched.phase);
+        end_names(&mut self.names, job, &launched.phase);
         self.active = more(self.active, starts);
         self.busy = more(self.busy, busy);
         launch_at(&mut self.jobs, at, serial, launched);
@@ -195,6 +204,7 @@ impl JobTable {
         let busy = counts_as_busy(ends, &job.kind);
         self.starting.remove(&serial);
         count_end(&mut self.tally, &job.how, &phase);
+        end_names(&mut self.names, job, &phase);
         self.active = fewer(self.active, ends);
         self.busy = fewer(self.busy, busy);
         phase_at(&mut self.jobs, at, serial, phase);

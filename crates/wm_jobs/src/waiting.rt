@@ -78,10 +78,12 @@ impl JobTable {
         let Ok(at) = place(&self.jobs, serial) else {
             return;
         };
-        if !is_waiting(&self.jobs[at].phase) {
+        let job = &self.jobs[at];
+        if !is_waiting(&job.phase) {
             return;
         }
         self.waiting.remove(serial);
+        self.names.end(job);
         phase_at(&mut self.jobs, at, serial, Phase::Ended(cause));
     }
 }

@@ -1,6 +1,4 @@
-use Rattle.std.proofs.Common.{◌≡◌, ◌+◌, ap, sym, ◌∙◌, arith}
-use Rattle.std.specs.List.{count_by}
-use Rattle.wm_law.specs.Queues.{waits_on}
+use Rattle.std.proofs.Common.{sym, ◌∙◌, arith}
 use Rattle.wm_jobs.proofs.Cleared.{step, none-left, few-waited}
 use Rattle.wm_jobs.proofs.table.JobTable.clear.Goals as goal
 

@@ -1,9 +1,10 @@
-use Rattle.std.proofs.Common.{is_some, refl, sym, ◌∙◌}
-use Rattle.std.proofs.lemmas.Bool.{not-true, not-false}
+use Rattle.std.proofs.Common.{is_some, refl, ap, sym, ◌∙◌}
 use Rattle.wm_law.specs.declared.job.Phase.TheVariants.{Ended}
+use Rattle.wm_law.specs.Named.{is_ended}
 use Rattle.wm_law.specs.Reports.{in_phase}
 use Rattle.wm_jobs.proofs.Changes.{grows}
-use Rattle.wm_jobs.proofs.AtPlace.{not-changed, ended-jobs, ended-inside}
+use Rattle.wm_jobs.proofs.AtPlace.{finds-named, not-changed, ended-jobs, ended-inside}
+use Rattle.wm_jobs.proofs.NameParts.{waiting-lasts}
 use Rattle.wm_jobs.proofs.Waits.{waiting-gap}
 use Rattle.wm_jobs.proofs.table.JobTable.end_waiting.Goals as goal
 
@@ -14,15 +15,19 @@ returns-in_default-clause-jobs c =
 
 pub returns-then-not-is_waiting-clause-jobs : goal.returns-then-not-is_waiting-clause-jobs
 returns-then-not-is_waiting-clause-jobs c =
-    rw (← c.self.view_is) (not-changed c.self.inside c.self.invariant c.args.serial c.in-Ok.at c.index.result.now c.deref.result.now c.deref.ensures.value c.in-Ok.ensures c.index.ensures (in_phase (Ended c.args.cause)) (sym c.is_waiting.ensures ∙ c.if-not-is_waiting.true))
+    rw (← c.self.view_is) (not-changed c.self.inside c.self.invariant c.args.serial c.in-Ok.at c.index-job.result.now c.deref.result.now c.deref.ensures.value c.in-Ok.ensures c.index-job.ensures (in_phase (Ended c.args.cause)) (sym c.is_waiting.ensures ∙ c.if-not-is_waiting.true))
+
+pub end-requires : goal.end-requires
+end-requires c =
+    finds-named c.self.inside c.self.invariant c.args.serial c.in-Ok.at c.index-job.result.now c.deref.result.now c.deref.ensures.value c.in-Ok.ensures c.index-job.ensures (waiting-lasts c.index-job.result.now.phase (sym c.is_waiting.ensures ∙ c.if-not-is_waiting.false))
 
 pub invariant_of-self : goal.invariant_of-self
 invariant_of-self c =
     let t = c.self.inside in
     let more = grows (is_some c.remove.result) t.waiting.spare c.remove.new.self.spare c.remove.ensures.spare in
-    ended-inside t c.self.invariant c.args.serial c.in-Ok.at c.index.result.now c.deref.result.now c.deref.ensures.value c.in-Ok.ensures c.index.ensures c.args.cause (sym c.is_waiting.ensures ∙ c.if-not-is_waiting.false) _ c.phase_at.ensures.jobs refl refl refl c.phase_at.ensures.capacity
-    c.remove.ensures.items more refl refl refl refl
+    ended-inside t c.self.invariant c.args.serial c.in-Ok.at c.index-job.result.now c.deref.result.now c.deref.ensures.value c.in-Ok.ensures c.index-job.ensures c.args.cause (sym c.is_waiting.ensures ∙ c.if-not-is_waiting.false) _ c.phase_at.ensures.jobs refl refl refl c.phase_at.ensures.capacity
+    c.remove.ensures.items more refl refl refl refl (λ before behind after serial job phase. c.end.ensures.names before behind after serial job (ap is_ended phase)) c.end.ensures.spare
 
 pub returns-clause-jobs : goal.returns-clause-jobs
 returns-clause-jobs c =
-    rw (← c.self.view_is) (ended-jobs c.self.inside c.self.invariant c.args.serial c.in-Ok.at c.index.result.now c.deref.result.now c.deref.ensures.value c.in-Ok.ensures c.index.ensures c.args.cause (sym c.is_waiting.ensures ∙ c.if-not-is_waiting.false) c.phase_at.new.jobs.items c.phase_at.ensures.jobs)
+    rw (← c.self.view_is) (ended-jobs c.self.inside c.self.invariant c.args.serial c.in-Ok.at c.index-job.result.now c.deref.result.now c.deref.ensures.value c.in-Ok.ensures c.index-job.ensures c.args.cause (sym c.is_waiting.ensures ∙ c.if-not-is_waiting.false) c.phase_at.new.jobs.items c.phase_at.ensures.jobs)

@@ -6,7 +6,8 @@ use Rattle.wm_law.specs.Pending.{is_prestart}
 use Rattle.wm_jobs.specs.Table.{serial_of}
 use Rattle.wm_jobs.proofs.Splits.{gap-unchanged}
 use Rattle.wm_jobs.proofs.Changes.{grows, few-hows}
-use Rattle.wm_jobs.proofs.AtPlace.{asked, launch-finds, launched-inside}
+use Rattle.wm_jobs.proofs.AtPlace.{asked, finds-named, launch-finds, launched-inside}
+use Rattle.wm_jobs.proofs.NameParts.{waiting-lasts}
 use Rattle.wm_jobs.proofs.table.JobTable.launch.Goals as goal
 
 -- where no job has the serial, none is changed
@@ -17,9 +18,9 @@ returns-in_default-clause-jobs c =
 pub count_start-requires-clause-spare : goal.count_start-requires-clause-spare
 count_start-requires-clause-spare c =
     let t = c.self.inside in
-    let x = c.index.result.now in
-    let had = asked t c.self.invariant c.args.serial c.in-Ok.at x c.deref.result.now c.deref.ensures.value c.in-Ok.ensures c.index.ensures (λ (j : Job). is_waiting j.phase ≡ true) c.args.self.now c.self.view_is c.requires.waits in
-    (launch-finds t c.self.invariant c.args.serial c.in-Ok.at x c.deref.result.now c.deref.ensures.value c.in-Ok.ensures c.index.ensures had).0
+    let x = c.index-job.result.now in
+    let had = asked t c.self.invariant c.args.serial c.in-Ok.at x c.deref.result.now c.deref.ensures.value c.in-Ok.ensures c.index-job.ensures (λ (j : Job). is_waiting j.phase ≡ true) c.args.self.now c.self.view_is c.requires.waits in
+    (launch-finds t c.self.invariant c.args.serial c.in-Ok.at x c.deref.result.now c.deref.ensures.value c.in-Ok.ensures c.index-job.ensures had).0
 
 pub count_start-requires-clause-few : goal.count_start-requires-clause-few
 count_start-requires-clause-few c = few-hows _ _ _ _ _ _ _ _ c.self.invariant.indexed c.self.invariant.room
@@ -27,24 +28,31 @@ count_start-requires-clause-few c = few-hows _ _ _ _ _ _ _ _ c.self.invariant.in
 pub put_order-requires-clause-spare : goal.put_order-requires-clause-spare
 put_order-requires-clause-spare c =
     let t = c.self.inside in
-    let x = c.index.result.now in
-    let had = asked t c.self.invariant c.args.serial c.in-Ok.at x c.deref.result.now c.deref.ensures.value c.in-Ok.ensures c.index.ensures (λ (j : Job). is_waiting j.phase ≡ true) c.args.self.now c.self.view_is c.requires.waits in
-    (launch-finds t c.self.invariant c.args.serial c.in-Ok.at x c.deref.result.now c.deref.ensures.value c.in-Ok.ensures c.index.ensures had).1
+    let x = c.index-job.result.now in
+    let had = asked t c.self.invariant c.args.serial c.in-Ok.at x c.deref.result.now c.deref.ensures.value c.in-Ok.ensures c.index-job.ensures (λ (j : Job). is_waiting j.phase ≡ true) c.args.self.now c.self.view_is c.requires.waits in
+    (launch-finds t c.self.invariant c.args.serial c.in-Ok.at x c.deref.result.now c.deref.ensures.value c.in-Ok.ensures c.index-job.ensures had).1
 
 pub put_order-requires-clause-new : goal.put_order-requires-clause-new
 put_order-requires-clause-new c =
     let t = c.self.inside in
-    let x = c.index.result.now in
-    let had = asked t c.self.invariant c.args.serial c.in-Ok.at x c.deref.result.now c.deref.ensures.value c.in-Ok.ensures c.index.ensures (λ (j : Job). is_waiting j.phase ≡ true) c.args.self.now c.self.view_is c.requires.waits in
-    (launch-finds t c.self.invariant c.args.serial c.in-Ok.at x c.deref.result.now c.deref.ensures.value c.in-Ok.ensures c.index.ensures had).2
+    let x = c.index-job.result.now in
+    let had = asked t c.self.invariant c.args.serial c.in-Ok.at x c.deref.result.now c.deref.ensures.value c.in-Ok.ensures c.index-job.ensures (λ (j : Job). is_waiting j.phase ≡ true) c.args.self.now c.self.view_is c.requires.waits in
+    (launch-finds t c.self.invariant c.args.serial c.in-Ok.at x c.deref.result.now c.deref.ensures.value c.in-Ok.ensures c.index-job.ensures had).2
+
+pub end_names-requires : goal.end_names-requires
+end_names-requires c =
+    let t = c.self.inside in
+    let x = c.index-job.result.now in
+    let had = asked t c.self.invariant c.args.serial c.in-Ok.at x c.deref.result.now c.deref.ensures.value c.in-Ok.ensures c.index-job.ensures (λ (j : Job). is_waiting j.phase ≡ true) c.args.self.now c.self.view_is c.requires.waits in
+    finds-named t c.self.invariant c.args.serial c.in-Ok.at x c.deref.result.now c.deref.ensures.value c.in-Ok.ensures c.index-job.ensures (waiting-lasts x.phase had)
 
 pub invariant_of-self : goal.invariant_of-self
 invariant_of-self c =
     let t = c.self.inside in
-    let x = c.index.result.now in
-    let had = asked t c.self.invariant c.args.serial c.in-Ok.at x c.deref.result.now c.deref.ensures.value c.in-Ok.ensures c.index.ensures (λ (j : Job). is_waiting j.phase ≡ true) c.args.self.now c.self.view_is c.requires.waits in
+    let x = c.index-job.result.now in
+    let had = asked t c.self.invariant c.args.serial c.in-Ok.at x c.deref.result.now c.deref.ensures.value c.in-Ok.ensures c.index-job.ensures (λ (j : Job). is_waiting j.phase ≡ true) c.args.self.now c.self.view_is c.requires.waits in
     let more = grows (is_some c.remove.result) t.waiting.spare c.remove.new.self.spare c.remove.ensures.spare in
     let active = c.more-self-inside.ensures ∙ ap (λ b. t.active + cond b 1 0) c.is_active-starts.ensures in
     let busy = c.more-self-inside-2.ensures ∙ ap (λ b. t.busy + cond b 1 0) (c.counts_as_busy-busy.ensures ∙ ap (λ b. b && not (is_prestart x.kind)) c.is_active-starts.ensures) in
-    launched-inside t c.self.invariant c.args.serial c.in-Ok.at x c.deref.result.now c.deref.ensures.value c.in-Ok.ensures c.index.ensures c.args.launched.now had c.requires.phase _ c.launch_at.ensures.jobs refl refl refl c.launch_at.ensures.capacity
-    c.remove.ensures.items more c.count_start.ensures.hows c.count_start.ensures.spare c.put_order.ensures.items c.put_order.ensures.spare active busy
+    launched-inside t c.self.invariant c.args.serial c.in-Ok.at x c.deref.result.now c.deref.ensures.value c.in-Ok.ensures c.index-job.ensures c.args.launched.now had c.requires.phase _ c.launch_at.ensures.jobs refl refl refl c.launch_at.ensures.capacity
+    c.remove.ensures.items more c.count_start.ensures.hows c.count_start.ensures.spare c.put_order.ensures.items c.put_order.ensures.spare active busy c.end_names.ensures.names c.end_names.ensures.spare

@@ -20,4 +20,4 @@ pub invariant_of-self-2 : goal.invariant_of-self-2
 invariant_of-self-2 c =
     let t = c.self.inside in
     let keeps : Keeps (t.next_place + 1) (moved_to c.args.command.now t.next_place c.args.due) = keeps-moved c.args.command.now t.next_place c.args.due in
-    changed-inside t c.self.invariant c.args.serial c.in-Ok.at c.deref.result.now c.deref.ensures.value c.in-Ok.ensures (moved_to c.args.command.now t.next_place c.args.due) (t.next_place + 1) (omega arith) keeps c.move_at.new.jobs.items c.move_at.ensures.jobs c.index.result.now c.index.ensures _ c.move_at.ensures.jobs refl refl refl c.move_at.ensures.capacity c.renew.ensures.items c.renew.ensures.spare refl refl refl refl
+    changed-inside t c.self.invariant c.args.serial c.in-Ok.at c.deref.result.now c.deref.ensures.value c.in-Ok.ensures (moved_to c.args.command.now t.next_place c.args.due) (t.next_place + 1) (omega arith) keeps c.move_at.new.jobs.items c.move_at.ensures.jobs c.index.result.now c.index.ensures _ c.move_at.ensures.jobs refl refl refl c.move_at.ensures.capacity c.renew.ensures.items c.renew.ensures.spare refl refl refl refl refl

@@ -6,7 +6,8 @@ use Rattle.wm_law.specs.Reports.{in_phase}
 use Rattle.wm_jobs.specs.Table.{serial_of}
 use Rattle.wm_jobs.proofs.Splits.{gap-unchanged}
 use Rattle.wm_jobs.proofs.Changes.{grows}
-use Rattle.wm_jobs.proofs.AtPlace.{asked, end-finds, phased-inside}
+use Rattle.wm_jobs.proofs.AtPlace.{asked, finds-named, end-finds, phased-inside}
+use Rattle.wm_jobs.proofs.NameParts.{active-lasts}
 use Rattle.wm_jobs.proofs.table.JobTable.set_phase.Goals as goal
 
 -- where no job has the serial, none is changed
@@ -35,6 +36,13 @@ fewer-self-inside-requires-2 c =
     let had = asked t c.self.invariant c.args.serial c.in-Ok.at x c.deref.result.now c.deref.ensures.value c.in-Ok.ensures c.index-job.ensures (λ (j : Job). is_active j.phase ≡ true) c.args.self.now c.self.view_is c.requires.active in
     rw (c.counts_as_busy-busy.ensures, c.is_active-ends.ensures) (end-finds t c.self.invariant c.args.serial c.in-Ok.at x c.deref.result.now c.deref.ensures.value c.in-Ok.ensures c.index-job.ensures c.args.phase had).2
 
+pub end_names-requires : goal.end_names-requires
+end_names-requires c =
+    let t = c.self.inside in
+    let x = c.index-job.result.now in
+    let had = asked t c.self.invariant c.args.serial c.in-Ok.at x c.deref.result.now c.deref.ensures.value c.in-Ok.ensures c.index-job.ensures (λ (j : Job). is_active j.phase ≡ true) c.args.self.now c.self.view_is c.requires.active in
+    finds-named t c.self.invariant c.args.serial c.in-Ok.at x c.deref.result.now c.deref.ensures.value c.in-Ok.ensures c.index-job.ensures (active-lasts x.phase had)
+
 pub invariant_of-self : goal.invariant_of-self
 invariant_of-self c =
     let t = c.self.inside in
@@ -44,4 +52,4 @@ invariant_of-self c =
     let active = ap (λ b. c.fewer-self-inside.result + cond (not b) 1 0) (sym c.is_active-ends.ensures) ∙ c.fewer-self-inside.ensures in
     let busy = ap (λ b. c.fewer-self-inside-2.result + cond b 1 0) (sym (c.counts_as_busy-busy.ensures ∙ ap (λ b. not b && not (is_prestart x.kind)) c.is_active-ends.ensures)) ∙ c.fewer-self-inside-2.ensures in
     phased-inside t c.self.invariant c.args.serial c.in-Ok.at x c.deref.result.now c.deref.ensures.value c.in-Ok.ensures c.index-job.ensures c.args.phase had c.requires.not_waiting c.requires.not_starting _ c.phase_at.ensures.jobs refl refl refl c.phase_at.ensures.capacity
-    refl c.count_end.ensures.hows c.count_end.ensures.spare c.remove.ensures.items more active busy
+    refl c.count_end.ensures.hows c.count_end.ensures.spare c.remove.ensures.items more active busy c.end_names.ensures.names c.end_names.ensures.spare
