@@ -10,7 +10,7 @@ use wm_base::{Moment, Name};
 use wm_command::Line;
 use wm_core::{Machine, Setup};
 use wm_desc::qbatch;
-use wm_law::{Call, Command, Reply};
+use wm_law::{Boxed, Call, Command, Reply};
 
 /// The moment of each call.
 const NOW: u64 = 1000;
@@ -73,7 +73,7 @@ impl Tested {
         let _user = self.user.as_bytes();
         let call = Call::Change {
             user: self.user,
-            command,
+            command: Boxed::new(self.alloc, command)?,
         };
         self.call(SESSION, &call, answer)
     }
