@@ -43,7 +43,7 @@ pub fn has_call(machine: &Machine, call: &Call) -> bool
     ensures { IsTrue result → HasCall machine.now call.now }
 {
     match call {
-        Call::Change { command, .. } => has_command(machine, command),
+        Call::Change { command, .. } => has_command(machine, command.get()),
         _ => true,
     }
 }

@@ -53,7 +53,7 @@ fn command_reply(objects: &mut Objects, command: &Command) -> Result<Option<Repl
 /// The objects' reply to a call of such a command, `None` to any other call.
 pub fn entry_reply(objects: &mut Objects, call: &Call) -> Result<Option<Reply>> {
     match call {
-        Call::Change { command, .. } => command_reply(objects, command),
+        Call::Change { command, .. } => command_reply(objects, command.get()),
         _ => Ok(None),
     }
 }

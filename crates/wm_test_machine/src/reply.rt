@@ -21,8 +21,10 @@ impl fmt::Display for Answer<'_> {
             Reply::QueueReleased => f.write_str("OK queue released"),
             Reply::QueueCleared(count) => write!(f, "OK queue cleared of {count}"),
             Reply::PowerDown => f.write_str("OK power down"),
-            Reply::Order(Asked::Start(order)) => write!(f, "START {}", order.serial),
-            Reply::Order(Asked::Kill(serial)) => write!(f, "KILL {serial}"),
+            Reply::Order(asked) => match asked.get() {
+                Asked::Start(order) => write!(f, "START {}", order.serial),
+                Asked::Kill(serial) => write!(f, "KILL {serial}"),
+            },
             Reply::Nothing => f.write_str("NOTHING"),
             Reply::Noted => f.write_str("NOTED"),
             Reply::No(refusal) => write!(f, "NO {refusal}"),
@@ -67,8 +69,8 @@ fn write_order(order: &StartOrder, answer: &mut String) -> Result<()> {
 
 /// Adds the line of a reply, and all of its order where it is one.
 pub fn write_ordered(reply: &Option<Reply>, answer: &mut String) -> Result<()> {
-    match reply {
-        Some(Reply::Order(Asked::Start(order))) => write_order(order, answer),
-        _ => write_reply(reply, answer),
+    if let Some(Asked::Start(order)) = reply.as_ref().and_then(|reply| reply.order()) {
+        return write_order(order, answer);
     }
+    write_reply(reply, answer)
 }

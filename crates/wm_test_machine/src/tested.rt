@@ -76,7 +76,7 @@ impl Tested {
         let _user = self.user.as_bytes();
         let call = Call::Change {
             user: self.user,
-            command,
+            command: Boxed::new(self.alloc, command)?,
         };
         self.call(SESSION, &call, answer)
     }

@@ -8,7 +8,10 @@ use wm_law::{Call, Entry, Reply};
 // A call by its word, and what it tells.
 fn call_text(alloc: Global, call: &Call) -> Result<String> {
     let text = match call {
-        Call::Change { user, command } => format!(in alloc; "{user} {}", command_word(command))?,
+        Call::Change { user, command } => format!(in alloc;
+            "{user} {}",
+            command_word(command.get())
+        )?,
         Call::Hand => "HAND".to_string(alloc)?,
         Call::Started(serial) => format!(in alloc; "STARTED {serial}")?,
         Call::StartFailed(serial, cause) => format!(in alloc; "STARTFAILED {serial} {cause}")?,
@@ -21,8 +24,10 @@ fn call_text(alloc: Global, call: &Call) -> Result<String> {
 
 fn reply_text(alloc: Global, reply: &Reply) -> Result<String> {
     let text = match reply {
-        Reply::Order(Asked::Start(order)) => format!(in alloc; "ORDER START {}", order.serial)?,
-        Reply::Order(Asked::Kill(serial)) => format!(in alloc; "ORDER KILL {serial}")?,
+        Reply::Order(asked) => match asked.get() {
+            Asked::Start(order) => format!(in alloc; "ORDER START {}", order.serial)?,
+            Asked::Kill(serial) => format!(in alloc; "ORDER KILL {serial}")?,
+        },
         Reply::Nothing => "NOTHING".to_string(alloc)?,
         Reply::Noted => "NOTED".to_string(alloc)?,
         Reply::No(refusal) => format!(in alloc; "NO {refusal}")?,
