@@ -23,7 +23,7 @@ use tested::Tested;
 use wm_cases::play;
 
 /// The files of cases.
-static FILES: [&str; 8] = [
+static FILES: [&str; 9] = [
     "objects.txt",
     "descriptions.txt",
     "opening.txt",
@@ -31,6 +31,7 @@ static FILES: [&str; 8] = [
     "refusals.txt",
     "routing.txt",
     "launches.txt",
+    "waiting.txt",
     "built.txt",
 ];
 

@@ -21,5 +21,6 @@ fn main(rt: HostRuntime) -> Result<()> {
     play(&rt, "reports.txt", &mut runs)?;
     play(&rt, "limits.txt", &mut runs)?;
     play(&rt, "order.txt", &mut runs)?;
-    play(&rt, "launches.txt", &mut runs)
+    play(&rt, "launches.txt", &mut runs)?;
+    play(&rt, "waiting.txt", &mut runs)
 }
