@@ -50,7 +50,7 @@ pub(crate) fn put_order(starting: &mut Ordered<Serial, ()>, serial: Serial, phas
     }
 }
 
-/// Takes the names that a job without an end has from it, where it comes into its end.
+/// A job that hasn't ended comes into a phase: where it ends, a reference without its number names it no more.
 pub(crate) fn end_names(names: &mut JobNames, job: &Job, phase: &Phase)
     requires { HasNamed names.old job.now }
     ensures names { NamesInPhase phase.now names.old names.new job.now }

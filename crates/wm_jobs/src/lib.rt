@@ -2,9 +2,9 @@
 //!
 //! The contract for the layer above: a `JobTable` is seen as the list of its jobs in the order of their serials, the moment
 //! up to which waiting jobs are due, the next serial and place, and for how many more jobs there is room. Beside the list it
-//! keeps the jobs that wait, the tally of the active ones, those that wait for a monitor, the counts of these, and which jobs
-//! commands name, so that
-//! no call goes through the jobs; `clear` goes through those alone that it ends. Room is taken by `reserve` alone.
+//! keeps the jobs that wait, the tally of the active ones, those that wait for a monitor, the counts of these, and which of
+//! them a command names, so that no call goes through the jobs; `clear` goes through those alone that it ends. Room is taken
+//! by `reserve` alone.
 //! The definitions are in `specs/`: `Table` has what a contract sees, `Indexed` what jobs are found and counted by,
 //! `Renewed` what a change makes of those that wait, `TableInside` what lies in a table.
 #![tactic(auto)]

@@ -1,7 +1,6 @@
 -- What the edits of a `WaitingJobs` leave of its agreement.
 use Rattle.std.proofs.Common.{◌≡◌, ℕ, ◌+◌, ◌-◌, ◌^◌, ◌<◌, ◌≤◌, true, false, not, ◌==◌, List, length, map, Option, Some, None, option_map, is_some, inl, inr, refl, ap, sym, ◌∙◌, subst, arith, Contains, nat_eq, cond, eq-eqb}
 use Rattle.std.specs.List.{insert}
-use Rattle.std.specs.declared.cmp.Ordering.TheVariants.{Less}
 use Rattle.std.specs.Cmp.{unsigned_ties}
 use Rattle.std.specs.Ordering.{nat_cmp}
 use mathlib.Core.Bool.{false≢true}
@@ -20,7 +19,7 @@ use Rattle.wm_waiting.specs.WaitingInside.{Agrees}
 use Rattle.wm_waiting.proofs.IndexLemmas.{index-shrinks}
 use Rattle.wm_waiting.proofs.Marks.{alone as only}
 use Rattle.wm_waiting.proofs.Members.{Contains-insert_cases, Contains-from_filter, find-Some, find-None, filter-whole, list_any-false}
-use Rattle.wm_waiting.proofs.Orders.{same_spot-place, same_rise-serial, same_spot-itself, same_rise-itself, eqb-same}
+use Rattle.wm_waiting.proofs.Orders.{same_spot-place, same_rise-serial, same_spot-itself, same_rise-itself}
 use Rattle.wm_waiting.proofs.Rows.{keyed-added, waiters-added, keyed-removed, waiters-removed, value-waiter, sorted-waiters, length-added, length-removed}
 
 -- a waiter whose place is new has a spot of its own

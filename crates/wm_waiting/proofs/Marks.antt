@@ -1,5 +1,5 @@
 -- A waiter that goes out while another of its serial comes in is replaced in its place; so it is marked.
-use Rattle.std.proofs.Common.{◌≡◌, ℕ, suc, ◌+◌, Bool, true, false, not, ◌==◌, cond, List, [], ◌∷◌, Some, None, inl, inr, refl, ap, sym, ◌∙◌, subst, arith, Contains, nat_eq, eq-eqb}
+use Rattle.std.proofs.Common.{◌≡◌, ℕ, suc, ◌+◌, Bool, true, false, not, ◌==◌, cond, List, [], ◌∷◌, Some, None, inl, inr, refl, ap, sym, ◌∙◌, arith, Contains, nat_eq, eq-eqb}
 use Rattle.std.specs.List.{insert, count_by, AllPairs}
 use Rattle.std.specs.declared.cmp.Ordering.TheVariants.{Less}
 use Rattle.std.specs.Ordering.{nat_cmp, is_lt}
