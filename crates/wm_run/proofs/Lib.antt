@@ -10,6 +10,7 @@ pub mod Laws
 pub mod Runs
 pub mod Servings
 pub mod Takings
+pub mod Ticks
 pub mod EndedLines
 pub mod Outcomes
 pub mod StoppedLines

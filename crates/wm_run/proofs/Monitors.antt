@@ -11,17 +11,18 @@ use Rattle.wm_law.specs.declared.call.Call.{Call}
 use Rattle.wm_law.specs.declared.call.Entry.{Entry}
 use Rattle.wm_law.specs.History.{is_monitor_call, is_hand, is_report, order_in, ordered, orders, reported_in, reports}
 use Rattle.wm_law.specs.declared.call.Call.TheVariants as call
-use Rattle.wm_floor.specs.History.{History, entry_at, with_call, last_order}
+use Rattle.wm_floor.specs.History.{History, entry_at, reached, with_call, last_order}
 use Rattle.wm_floor.proofs.Histories.{last_order-call}
 use Rattle.wm_outside.specs.declared.spawner.Told.{Told}
 use Rattle.wm_outside.specs.Told.{Grows}
 use Rattle.wm_outside.proofs.Telling.{Grows-none, Grows-then}
 use Rattle.wm_run.specs.Lists.{since, Extends}
-use Rattle.wm_run.specs.Monitor.{MonitorView, Proceeds, Advances, BeginsWithHand, HandsAt, RisesBy, hands_of, is_own, is_spawner_fault, monitor_pass, reported, call_of, as_reports}
+use Rattle.wm_run.specs.Monitor.{MonitorView, Proceeds, Advances, BeginsWithHand, HandsAt, IsDueBy, RisesBy, TicksAreDue, hands_of, is_own, is_spawner_fault, monitor_pass, reported, call_of, as_reports}
 use Rattle.wm_run.specs.View.{view}
 use Rattle.wm_run.specs.declared.monitor.Monitor.{Monitor}
 use Rattle.wm_run.specs.declared.report.Report.{Report}
 use Rattle.wm_run.specs.declared.report.Report.TheVariants.{Started, StartFailed, Finished, UseDone}
+use Rattle.wm_run.proofs.Ticks.{TicksAreDue-then, TicksAreDue-other, TicksAreDue-tick, report_no_tick, hand_no_tick}
 
 -- a list grows by what is put at its end
 pub since-append : {A : Type 0} (old more : List A) → since old (old ++ more) ≡ more
@@ -54,8 +55,8 @@ pub RisesBy-then : (a b c m n k : ℕ) → k ≡ m + n → RisesBy a m b → Ris
 RisesBy-then a b c m n k e h i = omega arith
 
 -- what is known by its entries and its reports
-pub Proceeds-by : (is_mine : Entry → Bool) (old new : MonitorView) (entries : List Entry) (more : List Call) → new.history.opened ≡ old.history.opened → new.history.log ≡ old.history.log ++ entries → reported new.history.log new.kept ≡ reported old.history.log old.kept ++ more → list_all is_mine entries ≡ true → Grows old.asked new.asked (orders entries monitor_pass) → Grows old.told new.told more → RisesBy old.misses (count_by is_spawner_fault more) new.misses → Proceeds is_mine old new
-Proceeds-by is_mine old new entries more same log grown mine asked told misses =
+pub Proceeds-by : (is_mine : Entry → Bool) (old new : MonitorView) (entries : List Entry) (more : List Call) → new.history.opened ≡ old.history.opened → new.history.log ≡ old.history.log ++ entries → reported new.history.log new.kept ≡ reported old.history.log old.kept ++ more → list_all is_mine entries ≡ true → TicksAreDue (reached old.history) entries → Grows old.asked new.asked (orders entries monitor_pass) → Grows old.told new.told more → RisesBy old.misses (count_by is_spawner_fault more) new.misses → Proceeds is_mine old new
+Proceeds-by is_mine old new entries more same log grown mine ticks asked told misses =
     let before = old.history.log in
     let had = reported before old.kept in
     let es : since before new.history.log ≡ entries = ap (since before) log ∙ since-append before entries in
@@ -64,6 +65,7 @@ Proceeds-by is_mine old new entries more same log grown mine asked told misses =
       opened = same;
       log = log ∙ ap (λ xs. before ++ xs) (sym es);
       callers = ap (list_all is_mine) es ∙ mine;
+      ticks = subst (λ (xs : List Entry). TicksAreDue (reached old.history) xs) (sym es) ticks;
       asked = subst (λ (xs : List Entry). Grows old.asked new.asked (orders xs monitor_pass)) (sym es) asked;
       grown = grown ∙ ap (λ xs. had ++ xs) (sym rs);
       told = subst (λ (xs : List Call). Grows old.told new.told xs) (sym rs) told;
@@ -73,7 +75,7 @@ Proceeds-by is_mine old new entries more same log grown mine asked told misses =
 -- nothing at all
 pub Proceeds-none : {is_mine : Entry → Bool} (v : MonitorView) → Proceeds is_mine v v
 Proceeds-none {is_mine} v =
-    Proceeds-by is_mine v v [] [] refl (sym (append-nil v.history.log)) (sym (append-nil _)) refl (Grows-none v.asked) (Grows-none v.told) (omega arith)
+    Proceeds-by is_mine v v [] [] refl (sym (append-nil v.history.log)) (sym (append-nil _)) refl tt (Grows-none v.asked) (Grows-none v.told) (omega arith)
 
 -- one thing, and then another
 pub Proceeds-then : {is_mine : Entry → Bool} (a b c : MonitorView) → Proceeds is_mine a b → Proceeds is_mine b c → Proceeds is_mine a c
@@ -86,10 +88,11 @@ Proceeds-then {is_mine} a b c h k =
     let log = k.log ∙ (ap (λ xs. xs ++ f) h.log ∙ append_assoc a.history.log e f) in
     let grown = k.grown ∙ (ap (λ xs. xs ++ since rb rc) h.grown ∙ append_assoc ra (since ra rb) (since rb rc)) in
     let mine = list_all-append is_mine e f ∙ (ap (λ t. t && list_all is_mine f) h.callers ∙ k.callers) in
+    let ticks = TicksAreDue-then a.history b.history e f h.opened h.log h.ticks k.ticks in
     let asked = subst (λ (xs : List Asked). Grows a.asked c.asked xs) (sym (filter_map-append (ordered monitor_pass) e f)) (Grows-then a.asked b.asked c.asked _ _ h.asked k.asked) in
     let told = Grows-then a.told b.told c.told _ _ h.told k.told in
     let count = count-append (since ra rb) (since rb rc) in
-    Proceeds-by is_mine a c (e ++ f) (since ra rb ++ since rb rc) (k.opened ∙ h.opened) log grown mine asked told (RisesBy-then a.misses b.misses c.misses _ _ _ count h.misses k.misses)
+    Proceeds-by is_mine a c (e ++ f) (since ra rb ++ since rb rc) (k.opened ∙ h.opened) log grown mine ticks asked told (RisesBy-then a.misses b.misses c.misses _ _ _ count h.misses k.misses)
 
 -- a report is a call of a monitor, and no Hand
 own_call : (r : Report) → is_monitor_call (call_of r) ≡ true
@@ -119,11 +122,11 @@ still_reported : (log : List Entry) (kept : List Report) (e : Entry) → filter_
 still_reported log kept e none = ap (λ rs. rs ++ map call_of kept) (reports-push log e ∙ (ap (λ xs. reports log monitor_pass ++ xs) none ∙ append-nil _))
 
 -- Tick
-pub Advances-tick : (h : History) (m : Monitor) (asked : Option (List Asked)) (told : Option (List Told)) (misses : ℕ) (now : ℕ) → Advances (view h m asked told misses) (view (with_call h monitor_pass call.Tick now) m asked told misses)
-Advances-tick h m asked told misses now =
+pub Advances-tick : (h : History) (m : Monitor) (asked : Option (List Asked)) (told : Option (List Told)) (misses : ℕ) (now : ℕ) → IsDueBy (reached h) now → Advances (view h m asked told misses) (view (with_call h monitor_pass call.Tick now) m asked told misses)
+Advances-tick h m asked told misses now due =
     let e = entry_at h monitor_pass call.Tick now in
     let kept = option_to_list m.kept in
-    Proceeds-by is_own _ _ (e ∷ []) [] refl refl (still_reported h.log kept e refl ∙ sym (append-nil _)) refl (Grows-none asked) (Grows-none (as_reports told)) (omega arith)
+    Proceeds-by is_own _ _ (e ∷ []) [] refl refl (still_reported h.log kept e refl ∙ sym (append-nil _)) refl (TicksAreDue-tick (reached h) e due) (Grows-none asked) (Grows-none (as_reports told)) (omega arith)
 
 -- the kept report is sent
 pub Advances-sent : (h : History) (r : Report) (asked : Option (List Asked)) (told : Option (List Told)) (misses : ℕ) (now : ℕ) → Advances (view h (record { kept = Some r }) asked told misses) (view (with_call h monitor_pass (call_of r) now) (record { kept = None }) asked told misses)
@@ -132,32 +135,32 @@ Advances-sent h r asked told misses now =
     let one : filter_map (reported_in monitor_pass) (e ∷ []) ≡ call_of r ∷ [] = rw (report_call r) refl in
     let none : orders (e ∷ []) monitor_pass ≡ [] = rw (no_hand r) refl in
     let grown = ap (λ rs. rs ++ []) (reports-push h.log e ∙ ap (λ xs. reports h.log monitor_pass ++ xs) one) in
-    Proceeds-by is_own _ _ (e ∷ []) [] refl refl grown (rw (own_call r) refl) (subst (λ (xs : List Asked). Grows asked asked xs) (sym none) (Grows-none asked)) (Grows-none (as_reports told)) (omega arith)
+    Proceeds-by is_own _ _ (e ∷ []) [] refl refl grown (rw (own_call r) refl) (TicksAreDue-other (reached h) e (report_no_tick (call_of r) (report_call r))) (subst (λ (xs : List Asked). Grows asked asked xs) (sym none) (Grows-none asked)) (Grows-none (as_reports told)) (omega arith)
 
 -- a Hand that ordered nothing
 pub Advances-nothing : (h : History) (m : Monitor) (asked : Option (List Asked)) (told : Option (List Told)) (misses : ℕ) (now : ℕ) → order_in (entry_at h monitor_pass call.Hand now).reply ≡ None → Advances (view h m asked told misses) (view (with_call h monitor_pass call.Hand now) m asked told misses)
 Advances-nothing h m asked told misses now none =
     let e = entry_at h monitor_pass call.Hand now in
     let no_order : orders (e ∷ []) monitor_pass ≡ [] = rw none refl in
-    Proceeds-by is_own _ _ (e ∷ []) [] refl refl (still_reported h.log (option_to_list m.kept) e refl ∙ sym (append-nil _)) refl (subst (λ (xs : List Asked). Grows asked asked xs) (sym no_order) (Grows-none asked)) (Grows-none (as_reports told)) (omega arith)
+    Proceeds-by is_own _ _ (e ∷ []) [] refl refl (still_reported h.log (option_to_list m.kept) e refl ∙ sym (append-nil _)) refl (TicksAreDue-other (reached h) e hand_no_tick) (subst (λ (xs : List Asked). Grows asked asked xs) (sym no_order) (Grows-none asked)) (Grows-none (as_reports told)) (omega arith)
 
 -- a Hand whose order was asked, and whose answer is kept as a report
 pub Advances-asked : (h : History) (a : Asked) (asked asked' : Option (List Asked)) (told told' : Option (List Told)) (misses misses' : ℕ) (now : ℕ) (kept : List Report) → order_in (entry_at h monitor_pass call.Hand now).reply ≡ Some a → Grows asked asked' (a ∷ []) → Grows (as_reports told) (as_reports told') (map call_of kept) → RisesBy misses (count_by is_spawner_fault (map call_of kept)) misses' → Advances (record { history = h; kept = []; asked = asked; told = as_reports told; misses = misses }) (record { history = with_call h monitor_pass call.Hand now; kept = kept; asked = asked'; told = as_reports told'; misses = misses' })
 Advances-asked h a asked asked' told told' misses misses' now kept order grows tells rises =
     let e = entry_at h monitor_pass call.Hand now in
     let one_order : orders (e ∷ []) monitor_pass ≡ a ∷ [] = rw order refl in
-    Proceeds-by is_own _ _ (e ∷ []) (map call_of kept) refl refl (ap (λ rs. rs ++ map call_of kept) (reports-push h.log e)) refl (subst (λ (xs : List Asked). Grows asked asked' xs) (sym one_order) grows) tells rises
+    Proceeds-by is_own _ _ (e ∷ []) (map call_of kept) refl refl (ap (λ rs. rs ++ map call_of kept) (reports-push h.log e)) refl (TicksAreDue-other (reached h) e hand_no_tick) (subst (λ (xs : List Asked). Grows asked asked' xs) (sym one_order) grows) tells rises
 
 -- a look whose report is kept
 pub Advances-looked : (h : History) (asked asked' : Option (List Asked)) (told told' : Option (List Told)) (misses misses' : ℕ) (kept : List Report) → Grows asked asked' [] → Grows (as_reports told) (as_reports told') (map call_of kept) → RisesBy misses (count_by is_spawner_fault (map call_of kept)) misses' → Advances (record { history = h; kept = []; asked = asked; told = as_reports told; misses = misses }) (record { history = h; kept = kept; asked = asked'; told = as_reports told'; misses = misses' })
 Advances-looked h asked asked' told told' misses misses' kept grows tells rises =
-    Proceeds-by is_own _ _ [] (map call_of kept) refl (sym (append-nil h.log)) (ap (λ rs. rs ++ map call_of kept) (sym (append-nil (reports h.log monitor_pass)))) refl grows tells rises
+    Proceeds-by is_own _ _ [] (map call_of kept) refl (sym (append-nil h.log)) (ap (λ rs. rs ++ map call_of kept) (sym (append-nil (reports h.log monitor_pass)))) refl tt grows tells rises
 
 -- The same, as the code has them: by equations.
 
-pub tick_part : (old new : History) (m : Monitor) (asked : Option (List Asked)) (told : Option (List Told)) (misses now : ℕ) → new ≡ with_call old monitor_pass call.Tick now → Advances (view old m asked told misses) (view new m asked told misses)
-tick_part old new m asked told misses now e =
-    subst (λ (h : History). Advances (view old m asked told misses) (view h m asked told misses)) (sym e) (Advances-tick old m asked told misses now)
+pub tick_part : (old new : History) (m : Monitor) (asked : Option (List Asked)) (told : Option (List Told)) (misses now : ℕ) → IsDueBy (reached old) now → new ≡ with_call old monitor_pass call.Tick now → Advances (view old m asked told misses) (view new m asked told misses)
+tick_part old new m asked told misses now due e =
+    subst (λ (h : History). Advances (view old m asked told misses) (view h m asked told misses)) (sym e) (Advances-tick old m asked told misses now due)
 
 abbrev kept_view : History → Option Report → Option (List Asked) → Option (List Told) → ℕ → MonitorView
 kept_view h kept asked told misses = view h (record { kept = kept }) asked told misses

@@ -8,8 +8,8 @@ use Rattle.std.proofs.lemmas.List.Elements.{filter-append}
 use Rattle.wm_base.specs.declared.job.Asked.{Asked}
 use Rattle.wm_law.specs.declared.call.Call.{Call}
 use Rattle.wm_law.specs.declared.call.Entry.{Entry}
-use Rattle.wm_law.specs.History.{entries_of}
-use Rattle.wm_floor.specs.History.{History, entry_at, with_call}
+use Rattle.wm_law.specs.History.{entries_of, is_report}
+use Rattle.wm_floor.specs.History.{History, entry_at, reached, with_call}
 use Rattle.wm_outside.specs.declared.spawner.Told.{Told}
 use Rattle.wm_outside.proofs.Telling.{Grows-none}
 use Rattle.wm_run.specs.Calls.{Called}
@@ -20,6 +20,7 @@ use Rattle.wm_run.specs.Session.{OneCall, session_pass}
 use Rattle.wm_run.specs.View.{view}
 use Rattle.wm_run.specs.declared.monitor.Monitor.{Monitor}
 use Rattle.wm_run.proofs.Monitors.{since-append, since-then, Extends-append, Extends-then, Proceeds-by, Proceeds-none, reports-push}
+use Rattle.wm_run.proofs.Ticks.{TicksAreDue-other, report_no_tick}
 
 own_is_ours : (e : Entry) → is_own e ≡ true → is_of_run e ≡ true
 own_is_ours e h = grind (arith, nat_tests)
@@ -35,6 +36,7 @@ Serves-monitor a b h =
       opened = h.opened;
       log = h.log;
       callers = own_are_ours (since a.history.log b.history.log) h.callers;
+      ticks = h.ticks;
       asked = h.asked;
       grown = h.grown;
       told = h.told;
@@ -42,12 +44,12 @@ Serves-monitor a b h =
     }
 
 -- so is a call of the session
-pub Serves-called : (old new : History) (c : Call) (m : Monitor) (asked : Option (List Asked)) (told : Option (List Told)) (misses : ℕ) → Called old c new → Serves (view old m asked told misses) (view new m asked told misses)
-Serves-called old new c m asked told misses h =
+pub Serves-called : (old new : History) (c : Call) (m : Monitor) (asked : Option (List Asked)) (told : Option (List Told)) (misses : ℕ) → is_report c ≡ true → Called old c new → Serves (view old m asked told misses) (view new m asked told misses)
+Serves-called old new c m asked told misses report h =
     let e = entry_at old session_pass c h.now in
     let kept = map call_of (option_to_list m.kept) in
     let rs = ap (λ rs. rs ++ kept) (reports-push old.log e ∙ append-nil _) ∙ sym (append-nil _) in
-    let made : Serves (view old m asked told misses) (view (with_call old session_pass c h.now) m asked told misses) = Proceeds-by is_of_run _ _ (e ∷ []) [] refl refl rs refl (Grows-none asked) (Grows-none (as_reports told)) (omega arith) in
+    let made : Serves (view old m asked told misses) (view (with_call old session_pass c h.now) m asked told misses) = Proceeds-by is_of_run _ _ (e ∷ []) [] refl refl rs refl (TicksAreDue-other (reached old) e (report_no_tick c report)) (Grows-none asked) (Grows-none (as_reports told)) (omega arith) in
     subst (λ (x : History). Serves (view old m asked told misses) (view x m asked told misses)) (sym h.made) made
 
 -- the session's entries of two parts, one after the other
@@ -73,9 +75,9 @@ pub Extends-called : (old new : History) (c : Call) → Called old c new → Ext
 Extends-called old new c h = subst (λ (x : History). Extends old.log x.log) (sym h.made) (Extends-append old.log (entry_at old session_pass c h.now ∷ []))
 
 -- a call that leaves the monitor, and then what is done after it
-pub Serves-call : (old new : History) (c : Call) (m n : Monitor) (asked : Option (List Asked)) (told : Option (List Told)) (misses : ℕ) → Called old c new → n ≡ m → Serves (view old m asked told misses) (view new n asked told misses)
-Serves-call old new c m n asked told misses h same =
-    subst (λ (x : Monitor). Serves (view old m asked told misses) (view new x asked told misses)) (sym same) (Serves-called old new c m asked told misses h)
+pub Serves-call : (old new : History) (c : Call) (m n : Monitor) (asked : Option (List Asked)) (told : Option (List Told)) (misses : ℕ) → is_report c ≡ true → Called old c new → n ≡ m → Serves (view old m asked told misses) (view new n asked told misses)
+Serves-call old new c m n asked told misses report h same =
+    subst (λ (x : Monitor). Serves (view old m asked told misses) (view new x asked told misses)) (sym same) (Serves-called old new c m asked told misses report h)
 
 -- a history has nothing since itself
 pub session_entries-none : (h : History) → session_entries h h ≡ []

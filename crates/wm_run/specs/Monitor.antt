@@ -1,5 +1,5 @@
 -- What a monitor does between two moments: it asks what it was ordered, and reports what it was told.
-use Rattle.std.specs.Prelude.{◌≡◌, ℕ, ◌+◌, ◌-◌, ◌^◌, ◌<◌, ◌≤◌, ◌==◌, ◌&&◌, Bool, true, false, min, List, [], ◌∷◌, ◌++◌, map, Option, Some, None, IfSome, option_map, option_to_list, Result, Ok, Err, count_by}
+use Rattle.std.specs.Prelude.{◌≡◌, ℕ, ◌+◌, ◌-◌, ◌^◌, ◌<◌, ◌≤◌, ◌==◌, ◌&&◌, ⊤, Bool, true, false, min, List, [], ◌∷◌, ◌++◌, map, Option, Some, None, IfSome, option_map, option_to_list, Result, Ok, Err, count_by}
 use Rattle.std.specs.List.{list_all}
 use Rattle.wm_base.specs.declared.job.Asked.{Asked}
 use Rattle.wm_base.specs.declared.job.Event.{Event}
@@ -9,7 +9,8 @@ use Rattle.wm_base.specs.declared.job.StartCause.TheVariants as start
 use Rattle.wm_law.specs.declared.call.Call.{Call}
 use Rattle.wm_law.specs.declared.call.Call.TheVariants as call
 use Rattle.wm_law.specs.declared.call.Entry.{Entry}
-use Rattle.wm_law.specs.History.{is_hand, is_monitor_call, orders, reports}
+use Rattle.wm_law.specs.declared.state.State.{State}
+use Rattle.wm_law.specs.History.{is_hand, is_monitor_call, orders, reports, stepped}
 use Rattle.wm_law.specs.Pending.{next_due, starting}
 use Rattle.wm_outside.specs.declared.fault.Failed.{Failed}
 use Rattle.wm_outside.specs.declared.fault.StartFault.{StartFault}
@@ -102,6 +103,17 @@ pub record TicksInTime (old : History) (coming : Option ℕ) (new : History) : T
   pub moment : IfSome coming (λ told. now ≡ told)
   pub tick : new ≡ with_call old monitor_pass call.Tick now
 
+-- a job was due above the clock, and by the moment
+pub record IsDueBy (s : State) (moment : ℕ) : Type 0 where
+  pub due : ℕ
+  pub next : next_due s ≡ Some due
+  pub passed : due ≤ moment
+
+-- each Tick came where a job was due above the clock, and by the Tick's moment
+abbrev pub TicksAreDue : State → List Entry → Type 0
+TicksAreDue s [] = ⊤
+TicksAreDue s (e ∷ es) = (e.call ≡ call.Tick → IsDueBy s e.moment) × TicksAreDue (stepped s e).state es
+
 -- how many Hands there are
 abbrev pub hands_of : List Entry → ℕ
 hands_of es = count_by (λ e. is_hand e.call) es
@@ -124,6 +136,8 @@ pub record Proceeds (is_mine : Entry → Bool) (old new : MonitorView) : Type 0 
   pub opened : new.history.opened ≡ old.history.opened
   pub log : Extends old.history.log new.history.log
   pub callers : list_all is_mine (since old.history.log new.history.log) ≡ true
+  -- each Tick among them came where a job was due
+  pub ticks : TicksAreDue (reached old.history) (since old.history.log new.history.log)
   -- what was asked is what the monitor's entries among these ordered
   pub asked : Grows old.asked new.asked (orders (since old.history.log new.history.log) monitor_pass)
   -- what was told is what was reported in them, the kept report counted with them

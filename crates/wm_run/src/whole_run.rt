@@ -7,6 +7,7 @@ ghost use Rattle.wm_law.specs.Limits.{KeepsLimits};
 ghost use Rattle.wm_law.specs.Order.{KeepsOrder};
 ghost use Rattle.wm_law.specs.Pending.{active};
 ghost use Rattle.wm_outside.specs.Cause.{raised};
+ghost use Rattle.wm_run.specs.Monitor.{TicksAreDue};
 ghost use Rattle.wm_run.specs.Outcome.{RunCame};
 ghost use Rattle.wm_run.specs.Run.{IsRunStatus, IsServed, ended_status, is_run, run_offset, opened_by_run};
 ghost use Rattle.wm_run.specs.Serving.{is_of_run};
@@ -154,6 +155,7 @@ pub fn run<I: Source, O: Sink, P: Spawner, C: Clock, R: Wait>(
     ensures legal { IsLegal opened_by_run result.log.items }
     ensures limits { KeepsLimits opened_by_run result.log.items }
     ensures order { KeepsOrder opened_by_run result.log.items }
+    ensures ticks { TicksAreDue opened_by_run result.log.items }
     ensures callers { list_all is_of_run result.log.items ≡ true }
     ensures served { IsServed result.log.items (option_to_list result.kept) (P.asked spawner.old) (P.asked spawner.new) (P.told spawner.old) (P.told spawner.new) (P.misses spawner.old) (P.misses spawner.new) }
     ensures input { TakesInput (I.left input.old) (I.left input.new) (λ bytes. RunCame bytes result.status

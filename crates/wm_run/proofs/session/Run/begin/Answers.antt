@@ -2,6 +2,7 @@ use Rattle.wm_run.proofs.Servings.{Serves-call, Serves-monitor, one_call}
 use Rattle.std.proofs.Common.{None, Ok, ap, ◌∙◌, inl, inr}
 use Rattle.wm_run.proofs.Turns.{idle_call}
 use Rattle.wm_run.proofs.StoppedRuns.{Untouched-same, on_err}
+use Rattle.wm_law.specs.History.{is_report}
 use Rattle.wm_run.specs.Session.{start_call}
 use Rattle.wm_run.proofs.Monitors.{Proceeds-then}
 use Rattle.wm_run.proofs.session.Run.begin.Goals as goal
@@ -10,13 +11,13 @@ pub returns-in_err-turn-clause-serves : goal.returns-in_err-turn-clause-serves
 returns-in_err-turn-clause-serves g c =
     let s = g.P.Spawner in
     let p = c.args.spawner.now in
-    Proceeds-then _ _ _ (Serves-call c.args.self.now.floor c.call.new.self.floor c.in_ok-start.start c.args.self.now.monitor c.call.new.self.monitor (s.asked p) (s.told p) (s.misses p) c.in_ok-call.ensures.ok c.call.ensures.monitor) (Serves-monitor _ _ c.turn.ensures.part)
+    Proceeds-then _ _ _ (Serves-call c.args.self.now.floor c.call.new.self.floor c.in_ok-start.start c.args.self.now.monitor c.call.new.self.monitor (s.asked p) (s.told p) (s.misses p) (ap is_report c.in_ok-start.ensures.call) c.in_ok-call.ensures.ok c.call.ensures.monitor) (Serves-monitor _ _ c.turn.ensures.part)
 
 pub returns-clause-serves : goal.returns-clause-serves
 returns-clause-serves g c =
     let s = g.P.Spawner in
     let p = c.args.spawner.now in
-    Proceeds-then _ _ _ (Serves-call c.args.self.now.floor c.call.new.self.floor c.in_ok-start.start c.args.self.now.monitor c.call.new.self.monitor (s.asked p) (s.told p) (s.misses p) c.in_ok-call.ensures.ok c.call.ensures.monitor) (Serves-monitor _ _ c.turn.ensures.part)
+    Proceeds-then _ _ _ (Serves-call c.args.self.now.floor c.call.new.self.floor c.in_ok-start.start c.args.self.now.monitor c.call.new.self.monitor (s.asked p) (s.told p) (s.misses p) (ap is_report c.in_ok-start.ensures.call) c.in_ok-call.ensures.ok c.call.ensures.monitor) (Serves-monitor _ _ c.turn.ensures.part)
 
 pub returns-clause-begun : goal.returns-clause-begun
 returns-clause-begun g c =

@@ -1,4 +1,4 @@
-use Rattle.std.proofs.Common.{Ok, ◌∙◌, ap, inl, inr, subst}
+use Rattle.std.proofs.Common.{Ok, ◌∙◌, ap, inl, inr, refl, subst}
 use Rattle.wm_run.proofs.Commands.{commanded, commanded_some}
 use Rattle.wm_run.proofs.Servings.{Serves-call, Serves-monitor, Serves-same}
 use Rattle.wm_run.proofs.StoppedRuns.{Untouched-none, Untouched-same, WritesSome-all, on_err}
@@ -20,20 +20,20 @@ pub returns-in_err-refused-clause-serves : goal.returns-in_err-refused-clause-se
 returns-in_err-refused-clause-serves g c =
     let s = g.P.Spawner in
     let p = c.args.spawner.now in
-    Serves-call c.args.self.now.floor c.call.new.self.floor (Change session_user c.args.command) c.args.self.now.monitor c.call.new.self.monitor (s.asked p) (s.told p) (s.misses p) (subst (λ (call : Call). Called c.args.self.now.floor call c.call.new.self.floor) c.in_ok-change.ensures.call c.in_ok-call.ensures.ok) c.call.ensures.monitor
+    Serves-call c.args.self.now.floor c.call.new.self.floor (Change session_user c.args.command) c.args.self.now.monitor c.call.new.self.monitor (s.asked p) (s.told p) (s.misses p) refl (subst (λ (call : Call). Called c.args.self.now.floor call c.call.new.self.floor) c.in_ok-change.ensures.call c.in_ok-call.ensures.ok) c.call.ensures.monitor
 
 pub returns-in_err-turn-clause-serves : goal.returns-in_err-turn-clause-serves
 returns-in_err-turn-clause-serves g c =
     let s = g.P.Spawner in
     let p = c.args.spawner.now in
-    let called = Serves-call c.args.self.now.floor c.call.new.self.floor (Change session_user c.args.command) c.args.self.now.monitor c.call.new.self.monitor (s.asked p) (s.told p) (s.misses p) (subst (λ (call : Call). Called c.args.self.now.floor call c.call.new.self.floor) c.in_ok-change.ensures.call c.in_ok-call.ensures.ok) c.call.ensures.monitor in
+    let called = Serves-call c.args.self.now.floor c.call.new.self.floor (Change session_user c.args.command) c.args.self.now.monitor c.call.new.self.monitor (s.asked p) (s.told p) (s.misses p) refl (subst (λ (call : Call). Called c.args.self.now.floor call c.call.new.self.floor) c.in_ok-change.ensures.call c.in_ok-call.ensures.ok) c.call.ensures.monitor in
     Proceeds-then _ _ _ called (Serves-monitor _ _ c.turn.ensures.part)
 
 pub returns-clause-serves : goal.returns-clause-serves
 returns-clause-serves g c =
     let s = g.P.Spawner in
     let p = c.args.spawner.now in
-    let called = Serves-call c.args.self.now.floor c.call.new.self.floor (Change session_user c.args.command) c.args.self.now.monitor c.call.new.self.monitor (s.asked p) (s.told p) (s.misses p) (subst (λ (call : Call). Called c.args.self.now.floor call c.call.new.self.floor) c.in_ok-change.ensures.call c.in_ok-call.ensures.ok) c.call.ensures.monitor in
+    let called = Serves-call c.args.self.now.floor c.call.new.self.floor (Change session_user c.args.command) c.args.self.now.monitor c.call.new.self.monitor (s.asked p) (s.told p) (s.misses p) refl (subst (λ (call : Call). Called c.args.self.now.floor call c.call.new.self.floor) c.in_ok-change.ensures.call c.in_ok-call.ensures.ok) c.call.ensures.monitor in
     Proceeds-then _ _ _ called (Serves-monitor _ _ c.turn.ensures.part)
 
 pub returns-clause-answered : goal.returns-clause-answered

@@ -1,6 +1,7 @@
 use Rattle.wm_run.proofs.Servings.{Serves-call, Serves-same, Serves-monitor, last_call}
-use Rattle.std.proofs.Common.{inr}
+use Rattle.std.proofs.Common.{ap, inr}
 use Rattle.wm_run.proofs.StoppedRuns.{no_call, no_call_same, on_err}
+use Rattle.wm_law.specs.History.{is_report}
 use Rattle.wm_run.specs.Session.{end_call}
 use Rattle.wm_run.proofs.Monitors.{Proceeds-then}
 use Rattle.wm_run.proofs.session.Run.finish.Goals as goal
@@ -24,7 +25,7 @@ returns-in_err-wait_for_jobs-2-clause-serves g c =
     let p = c.wait_for_jobs.new.spawner in
     Proceeds-then _ _ _ (Serves-monitor _ _ c.wait_for_jobs.ensures.part)
     (Proceeds-then _ _ _
-    (Serves-call c.wait_for_jobs.new.self.floor c.call.new.self.floor c.in_ok-end.end c.wait_for_jobs.new.self.monitor c.call.new.self.monitor (s.asked p) (s.told p) (s.misses p) c.in_ok-call.ensures.ok c.call.ensures.monitor)
+    (Serves-call c.wait_for_jobs.new.self.floor c.call.new.self.floor c.in_ok-end.end c.wait_for_jobs.new.self.monitor c.call.new.self.monitor (s.asked p) (s.told p) (s.misses p) (ap is_report c.in_ok-end.ensures.call) c.in_ok-call.ensures.ok c.call.ensures.monitor)
     (Serves-monitor _ _ c.wait_for_jobs-2.ensures.part))
 
 pub returns-clause-serves : goal.returns-clause-serves
@@ -33,7 +34,7 @@ returns-clause-serves g c =
     let p = c.wait_for_jobs.new.spawner in
     Proceeds-then _ _ _ (Serves-monitor _ _ c.wait_for_jobs.ensures.part)
     (Proceeds-then _ _ _
-    (Serves-call c.wait_for_jobs.new.self.floor c.call.new.self.floor c.in_ok-end.end c.wait_for_jobs.new.self.monitor c.call.new.self.monitor (s.asked p) (s.told p) (s.misses p) c.in_ok-call.ensures.ok c.call.ensures.monitor)
+    (Serves-call c.wait_for_jobs.new.self.floor c.call.new.self.floor c.in_ok-end.end c.wait_for_jobs.new.self.monitor c.call.new.self.monitor (s.asked p) (s.told p) (s.misses p) (ap is_report c.in_ok-end.ensures.call) c.in_ok-call.ensures.ok c.call.ensures.monitor)
     (Serves-monitor _ _ c.wait_for_jobs-2.ensures.part))
 
 pub returns-clause-ended : goal.returns-clause-ended
