@@ -144,24 +144,25 @@ impl Machine {
         ensures ok { IfOk result (λ r. IsStill now r self.new (submit (with_clock self.old now) user.now command.now)) }
         ensures err { OnErr result (self.new ≡ self.old) }
     {
-        if !is_on(&self.power) {
+        let machine = &*self;
+        if !is_on(&machine.power) {
             return Ok(Reply::No(Refusal::PoweringDown));
         }
-        let Some(jobd) = self.objects.jobds.object(&command.jobd) else {
+        let Some(jobd) = machine.objects.jobds.object(&command.jobd) else {
             return Ok(Reply::No(Refusal::NoObject(Kind::Jobd)));
         };
         let queue = queue_of(command, jobd);
-        if self.objects.jobqs.object(&queue).is_none() {
+        if machine.objects.jobqs.object(&queue).is_none() {
             return Ok(Reply::No(Refusal::NoObject(Kind::Jobq)));
         }
-        let due = match self.scheduled(command.scddate, command.scdtime, now) {
+        let due = match machine.scheduled(command.scddate, command.scdtime, now) {
             Ok(due) => due,
             Err(refusal) => return Ok(Reply::No(refusal)),
         };
-        if !self.has_numbers() {
+        if !machine.has_numbers() {
             return Ok(Reply::No(Refusal::NumbersUsed));
         }
-        let job = self.submitted_job(alloc, user, command, jobd, due)?;
+        let job = machine.submitted_job(alloc, user, command, jobd, due)?;
         let name = job.job;
         self.enter(job)?;
         Ok(Reply::Submitted(name, queue))
