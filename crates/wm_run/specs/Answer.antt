@@ -5,7 +5,7 @@ use Rattle.wm_law.specs.declared.call.Call.{Call}
 use Rattle.wm_law.specs.declared.call.Call.TheVariants.{Change}
 use Rattle.wm_law.specs.declared.call.Entry.{Entry}
 use Rattle.wm_law.specs.declared.call.Reply.{Reply}
-use Rattle.wm_law.specs.declared.call.Reply.TheVariants.{Made, SbsStarted, Submitted, PowerDown, Order, Nothing, Noted, No}
+use Rattle.wm_law.specs.declared.call.Reply.TheVariants.{Made, SbsStarted, Submitted, Held, Released, Changed, QueueHeld, QueueReleased, QueueCleared, PowerDown, Order, Nothing, Noted, No}
 use Rattle.wm_show.specs.Said.{said_text, fault_text}
 use Rattle.wm_show.specs.declared.line_fault.LineFault.{LineFault}
 use Rattle.wm_show.specs.declared.line_fault.LineFault.TheVariants.{Cl}
@@ -41,6 +41,12 @@ abbrev pub is_refused : Reply → Bool
 is_refused Made = false
 is_refused (SbsStarted sbs) = false
 is_refused (Submitted job jobq) = false
+is_refused (Held job) = false
+is_refused (Released job) = false
+is_refused (Changed job) = false
+is_refused QueueHeld = false
+is_refused QueueReleased = false
+is_refused (QueueCleared count) = false
 is_refused PowerDown = false
 is_refused (Order asked) = false
 is_refused Nothing = false
