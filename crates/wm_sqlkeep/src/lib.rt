@@ -1,0 +1,10 @@
+//! Rows kept in SQLite.
+#![tactic(auto)]
+
+mod database;
+mod faults;
+mod keeper;
+mod store;
+
+pub use keeper::SqlKeeper;
+pub use store::SqlStore;

@@ -1,0 +1,61 @@
+// A store of databases.
+ghost use Rattle.std.specs.Prelude.{◌≡◌, None, refl};
+
+use crate::database;
+use crate::faults::counted;
+use crate::SqlKeeper;
+use std::rt::HostRuntime;
+use wm_outside::{KeepFault, Store};
+
+/// A store of rows in SQLite's files.
+#[derive(Drop)]
+pub struct SqlStore {
+    rt: HostRuntime,
+    faults: u64,
+}
+
+impl SqlStore {
+    ghost use Rattle.wm_sqlkeep.specs.Faults.{store_faults};
+
+    pub fn new(rt: &HostRuntime) -> SqlStore
+        ensures { store_faults result ≡ 0 }
+    {
+        SqlStore { rt: *rt, faults: 0 }
+    }
+
+    /// How many openings failed, and how many keepers came back that had failed.
+    pub fn faults(&self) -> u64
+        ensures { result ≡ store_faults self.now }
+    {
+        self.faults
+    }
+}
+
+impl Store for SqlStore {
+    ghost use Rattle.wm_sqlkeep.specs.Faults.{store_faults};
+
+    type K = SqlKeeper;
+
+    ghost faults = { store_faults };
+
+    ghost tables = { λ _. None };
+
+    ghost trail = { λ _. None };
+
+    fn open(&mut self, path: &str) -> Result<SqlKeeper, KeepFault> {
+        let opened = database::open(&self.rt, path);
+        let database = counted(&mut self.faults, opened)?;
+        Ok(SqlKeeper::new(self.rt.alloc(), database))
+    }
+
+    fn close(&mut self, keeper: SqlKeeper) {
+        if keeper.faults() > 0 {
+            self.faults = self.faults.saturating_add(1);
+        }
+        keeper.into_database().close();
+    }
+
+    ghost tables_in_order = { λ _. tt };
+
+    ghost trail_with_tables = { λ _. refl };
+}
