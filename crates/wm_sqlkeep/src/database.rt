@@ -1,8 +1,10 @@
 // A connection to a file or to memory.
 use crate::faults::keep_fault;
+use crate::table::{self, Writes};
 use sqlite::{Connection, File, FileStore, MemStore};
+use std::alloc::Global;
 use std::rt::HostRuntime;
-use wm_outside::KeepFault;
+use wm_outside::{KeepFault, Row, RowChange};
 
 pub(crate) enum Database {
     Memory(Connection<MemStore>),
@@ -40,6 +42,34 @@ pub(crate) fn open(rt: &HostRuntime, path: &str) -> Result<Database, KeepFault> 
 }
 
 impl Database {
+    /// Makes the table where there is none, and prepares what writes it.
+    pub(crate) fn begin(&mut self) -> Result<Writes, KeepFault> {
+        match self {
+            Database::Memory(conn) => table::begin(conn),
+            Database::File(conn) => table::begin(conn),
+        }
+    }
+
+    /// All rows, in their order.
+    pub(crate) fn load(&mut self, alloc: Global) -> Result<Vec<Row>, KeepFault> {
+        match self {
+            Database::Memory(conn) => table::load(alloc, conn),
+            Database::File(conn) => table::load(alloc, conn),
+        }
+    }
+
+    /// Makes the changes in their order, all or none.
+    pub(crate) fn apply(
+        &mut self,
+        writes: &Writes,
+        changes: &[RowChange],
+    ) -> Result<(), KeepFault> {
+        match self {
+            Database::Memory(conn) => table::apply(conn, writes, changes),
+            Database::File(conn) => table::apply(conn, writes, changes),
+        }
+    }
+
     /// Closes it.
     pub(crate) fn close(self) {
         match self {

@@ -1,27 +1,45 @@
 // A keeper over a database.
-ghost use Rattle.std.specs.Prelude.{◌≡◌, None, refl};
+ghost use Rattle.std.specs.Prelude.{◌≡◌, None, refl, IfOk};
+ghost use Rattle.wm_sqlkeep.specs.Faults.{keeper_faults};
 
-use crate::database::Database;
-use wm_outside::{KeepFault, Keeper, Row, RowChange};
+use crate::database::{self, Database};
+use crate::faults::counted;
+use crate::table::Writes;
 use std::alloc::Global;
+use std::rt::HostRuntime;
+use wm_outside::{KeepFault, Keeper, Row, RowChange};
 
 /// A keeper of the rows in a database.
 #[derive(Drop)]
 pub struct SqlKeeper {
     database: Database,
+    writes: Writes,
     alloc: Global,
     faults: u64,
 }
 
+// A keeper of an opened database, in which the table is made if it isn't there.
+fn begun(alloc: Global, mut database: Database) -> Result<SqlKeeper, KeepFault>
+    ensures { IfOk result (λ keeper. keeper_faults keeper ≡ 0) }
+{
+    let writes = database.begin()?;
+    Ok(SqlKeeper {
+        database,
+        writes,
+        alloc,
+        faults: 0,
+    })
+}
+
+/// Opens the file, or memory for `:memory:`.
+pub(crate) fn open(rt: &HostRuntime, path: &str) -> Result<SqlKeeper, KeepFault>
+    ensures { IfOk result (λ keeper. keeper_faults keeper ≡ 0) }
+{
+    let database = database::open(rt, path)?;
+    Ok(begun(rt.alloc(), database)?)
+}
+
 impl SqlKeeper {
-    ghost use Rattle.wm_sqlkeep.specs.Faults.{keeper_faults};
-
-    pub(crate) fn new(alloc: Global, database: Database) -> SqlKeeper
-        ensures { keeper_faults result ≡ 0 }
-    {
-        SqlKeeper { database, alloc, faults: 0 }
-    }
-
     /// How many calls failed since it was opened.
     pub fn faults(&self) -> u64
         ensures { result ≡ keeper_faults self.now }
@@ -29,14 +47,13 @@ impl SqlKeeper {
         self.faults
     }
 
-    pub(crate) fn into_database(self) -> Database {
-        self.database
+    // The rows are kept whether or not this goes well: what was applied is in the file or in its log.
+    pub(crate) fn close(self) {
+        self.database.close();
     }
 }
 
 impl Keeper for SqlKeeper {
-    ghost use Rattle.wm_sqlkeep.specs.Faults.{keeper_faults};
-
     ghost faults = { keeper_faults };
 
     ghost tables = { λ _. None };
@@ -44,11 +61,13 @@ impl Keeper for SqlKeeper {
     ghost trail = { λ _. None };
 
     fn load(&mut self) -> Result<Vec<Row>, KeepFault> {
-        Ok(Vec::new(self.alloc))
+        let loaded = self.database.load(self.alloc);
+        counted(&mut self.faults, loaded)
     }
 
     fn apply(&mut self, changes: &[RowChange]) -> Result<(), KeepFault> {
-        Ok(())
+        let applied = self.database.apply(&self.writes, changes);
+        counted(&mut self.faults, applied)
     }
 
     ghost tables_in_order = { λ _. tt };

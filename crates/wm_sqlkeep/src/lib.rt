@@ -5,6 +5,7 @@ mod database;
 mod faults;
 mod keeper;
 mod store;
+mod table;
 
 pub use keeper::SqlKeeper;
 pub use store::SqlStore;

@@ -1,9 +1,9 @@
 // A store of databases.
 ghost use Rattle.std.specs.Prelude.{◌≡◌, None, refl};
 
-use crate::database;
-use crate::faults::counted;
 use crate::SqlKeeper;
+use crate::faults::counted;
+use crate::keeper;
 use std::rt::HostRuntime;
 use wm_outside::{KeepFault, Store};
 
@@ -43,16 +43,15 @@ impl Store for SqlStore {
     ghost trail = { λ _. None };
 
     fn open(&mut self, path: &str) -> Result<SqlKeeper, KeepFault> {
-        let opened = database::open(&self.rt, path);
-        let database = counted(&mut self.faults, opened)?;
-        Ok(SqlKeeper::new(self.rt.alloc(), database))
+        let opened = keeper::open(&self.rt, path);
+        counted(&mut self.faults, opened)
     }
 
     fn close(&mut self, keeper: SqlKeeper) {
         if keeper.faults() > 0 {
             self.faults = self.faults.saturating_add(1);
         }
-        keeper.into_database().close();
+        keeper.close();
     }
 
     ghost tables_in_order = { λ _. tt };
