@@ -8,7 +8,7 @@ use wm_outside::{KeepFault, Row, RowChange};
 
 const MAKE: &str = "CREATE TABLE IF NOT EXISTS wmrow (tab INTEGER NOT NULL, k TEXT NOT NULL, body TEXT NOT NULL, PRIMARY KEY (tab, k)) STRICT";
 
-// SQLite keeps the text that made a table, without `IF NOT EXISTS`.
+// What SQLite itself keeps of that text.
 const MADE: &str = "CREATE TABLE wmrow (tab INTEGER NOT NULL, k TEXT NOT NULL, body TEXT NOT NULL, PRIMARY KEY (tab, k)) STRICT";
 
 const FIND: &str = "SELECT sql FROM sqlite_schema WHERE type = 'table' AND name = 'wmrow'";
@@ -33,10 +33,10 @@ fn make<S: Alter>(conn: &mut Connection<S>) -> Result<(), KeepFault> {
     }
 }
 
-// Whether this row of the schema is the table that `MAKE` makes.
+// Whether this row of the schema has the text of the table that `MAKE` makes.
 fn is_made(row: &sqlite::Row) -> bool {
     match row.get_ref(0) {
-        Ok(ValueRef::Text(text)) => text == MADE.as_bytes(),
+        Ok(ValueRef::Text(text)) => text == MAKE.as_bytes() || text == MADE.as_bytes(),
         _ => false,
     }
 }
