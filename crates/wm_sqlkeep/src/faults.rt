@@ -17,10 +17,7 @@ pub(crate) fn keep_fault(error: Error) -> KeepFault
 }
 
 /// Counts a fault, but not want of memory.
-pub(crate) fn counted<T>(
-    faults: &mut u64,
-    answered: Result<T, KeepFault>,
-) -> Result<T, KeepFault>
+pub(crate) fn counted<T>(faults: &mut u64, answered: Result<T, KeepFault>) -> Result<T, KeepFault>
     ensures same { result ≡ answered }
     ensures cause { HasKeepCause faults.old faults.new result }
 {

@@ -1,9 +1,8 @@
 // A store of databases.
 ghost use Rattle.std.specs.Prelude.{◌≡◌, None, refl};
 
-use crate::SqlKeeper;
 use crate::faults::counted;
-use crate::keeper;
+use crate::{SqlKeeper, keeper};
 use std::rt::HostRuntime;
 use wm_outside::{KeepFault, Store};
 

@@ -1,4 +1,10 @@
 // The table of rows, by SQL: how it is made, read and written. All rows stand in one table, `wmrow`.
+ghost use Rattle.std.specs.Prelude.{◌≡◌, pos, IsTrue, IfOk, IfSome, OnOk, OnErr};
+ghost use Rattle.sqlite.specs.Order.{column};
+ghost use Rattle.sqlite.specs.declared.types.Value.TheVariants.{Int, Text as Words};
+ghost use Rattle.sqlite.specs.State.{HasCleanDisk, KeepsCommit, Survives};
+ghost use Rattle.sqlite.specs.Held.{state};
+
 use crate::faults::keep_fault;
 use sqlite::types::ValueRef;
 use sqlite::{Alter, Connection, Rows, Statement, Transaction, params};
@@ -6,16 +12,19 @@ use std::alloc::Global;
 use wm_base::{Text, is_text};
 use wm_outside::{KeepFault, Row, RowChange};
 
-const MAKE: &str = "CREATE TABLE IF NOT EXISTS wmrow (tab INTEGER NOT NULL, k TEXT NOT NULL, body TEXT NOT NULL, PRIMARY KEY (tab, k)) STRICT";
+const MAKE: &str =
+    "CREATE TABLE IF NOT EXISTS wmrow (tab INTEGER NOT NULL, k TEXT NOT NULL, body TEXT NOT NULL, PRIMARY KEY (tab, k)) STRICT";
 
 // What SQLite itself keeps of that text.
-const MADE: &str = "CREATE TABLE wmrow (tab INTEGER NOT NULL, k TEXT NOT NULL, body TEXT NOT NULL, PRIMARY KEY (tab, k)) STRICT";
+const MADE: &str =
+    "CREATE TABLE wmrow (tab INTEGER NOT NULL, k TEXT NOT NULL, body TEXT NOT NULL, PRIMARY KEY (tab, k)) STRICT";
 
 const FIND: &str = "SELECT sql FROM sqlite_schema WHERE type = 'table' AND name = 'wmrow'";
 
 const LOAD: &str = "SELECT tab, k, body FROM wmrow ORDER BY tab, k";
 
-const PUT: &str = "INSERT INTO wmrow (tab, k, body) VALUES (?1, ?2, ?3) ON CONFLICT (tab, k) DO UPDATE SET body = excluded.body";
+const PUT: &str =
+    "INSERT INTO wmrow (tab, k, body) VALUES (?1, ?2, ?3) ON CONFLICT (tab, k) DO UPDATE SET body = excluded.body";
 
 const DEL: &str = "DELETE FROM wmrow WHERE tab = ?1 AND k = ?2";
 
@@ -66,14 +75,18 @@ pub(crate) fn begin<S: Alter>(conn: &mut Connection<S>) -> Result<Writes, KeepFa
     Ok(Writes { put, del })
 }
 
-fn tab_of(row: &sqlite::Row) -> Option<u8> {
+fn tab_of(row: &sqlite::Row) -> Option<u8>
+    ensures { IfSome result (λ tab. column row.now 0 ≡ Int (pos tab)) }
+{
     match row.get_ref(0) {
         Ok(ValueRef::Int(tab)) => u8::try_from(tab).ok(),
         _ => None,
     }
 }
 
-fn text_of(alloc: Global, row: &sqlite::Row, at: usize) -> Result<Text, KeepFault> {
+fn text_of(alloc: Global, row: &sqlite::Row, at: usize) -> Result<Text, KeepFault>
+    ensures { IfOk result (λ text. column row.now at ≡ Words text) }
+{
     match row.get_ref(at) {
         Ok(ValueRef::Text(bytes)) if is_text(bytes) => Ok(Text::from_bytes(alloc, bytes)?),
         _ => Err(KeepFault::Failed),
@@ -81,7 +94,11 @@ fn text_of(alloc: Global, row: &sqlite::Row, at: usize) -> Result<Text, KeepFaul
 }
 
 // The row of three columns. Values that make none are a fault.
-fn row_of(alloc: Global, row: &sqlite::Row) -> Result<Row, KeepFault> {
+fn row_of(alloc: Global, row: &sqlite::Row) -> Result<Row, KeepFault>
+    ensures tab { IfOk result (λ made. column row.now 0 ≡ Int (pos made.tab)) }
+    ensures key { IfOk result (λ made. column row.now 1 ≡ Words made.key) }
+    ensures body { IfOk result (λ made. column row.now 2 ≡ Words made.body) }
+{
     let Some(tab) = tab_of(row) else {
         return Err(KeepFault::Failed);
     };
@@ -125,7 +142,12 @@ fn write<S: Alter>(
     tx: &mut Transaction<'_, S>,
     writes: &Writes,
     change: &RowChange,
-) -> Result<(), KeepFault> {
+) -> Result<(), KeepFault>
+    ensures same_reference { tx.new.conn.ghost_name ≡ tx.old.conn.ghost_name }
+    ensures kept { HasCleanDisk (state S.Store tx.new.conn.now) → KeepsCommit (state S.Store tx.old.conn.now) (state S.Store tx.new.conn.now) }
+    ensures inside { HasCleanDisk (state S.Store tx.new.conn.now) → OnOk result (IsTrue tx.new.conn.now.in_transaction) }
+    ensures survives { Survives (state S.Store tx.old.conn.now) (state S.Store tx.new.conn.now) (λ _. ⊥) }
+{
     let written = match change {
         RowChange::Put(row) => tx.execute_prepared(
             &writes.put,
@@ -147,7 +169,10 @@ pub(crate) fn apply<S: Alter>(
     conn: &mut Connection<S>,
     writes: &Writes,
     changes: &[RowChange],
-) -> Result<(), KeepFault> {
+) -> Result<(), KeepFault>
+    ensures neither { HasCleanDisk (state S.Store conn.new) → IsTrue (state S.Store conn.new).is_open
+        → OnErr result (((state S.Store conn.new).now ≡ (state S.Store conn.old).now) × ((state S.Store conn.new).committed ≡ (state S.Store conn.old).committed)) }
+{
     if changes.is_empty() {
         return Ok(());
     }
@@ -155,7 +180,7 @@ pub(crate) fn apply<S: Alter>(
         return Err(KeepFault::Failed);
     }
     let mut tx = conn.transaction();
-    for change in changes {
+    'changes: for change in changes {
         write(&mut tx, writes, change)?;
     }
     match tx.commit() {
