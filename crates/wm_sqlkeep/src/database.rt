@@ -1,4 +1,4 @@
-// A connection to a file or to memory.
+// A connection to a file or to memory, which are two types.
 use crate::faults::keep_fault;
 use crate::table::{self, Writes};
 use sqlite::{Connection, File, FileStore, MemStore};
@@ -70,7 +70,7 @@ impl Database {
         }
     }
 
-    /// Closes it.
+    /// Closes it, and copies a file's log into the file. What was applied is kept where that fails, too: the log has it.
     pub(crate) fn close(self) {
         match self {
             Database::Memory(_) => {}

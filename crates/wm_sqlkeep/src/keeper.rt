@@ -9,7 +9,7 @@ use std::alloc::Global;
 use std::rt::HostRuntime;
 use wm_outside::{KeepFault, Keeper, Row, RowChange};
 
-/// A keeper of the rows in a database.
+/// A keeper of the rows in a file of SQLite, or in memory. It tells no rows.
 #[derive(Drop)]
 pub struct SqlKeeper {
     database: Database,
@@ -40,14 +40,13 @@ pub(crate) fn open(rt: &HostRuntime, path: &str) -> Result<SqlKeeper, KeepFault>
 }
 
 impl SqlKeeper {
-    /// How many calls failed since it was opened.
+    /// How many calls of `load` and `apply` failed, but for want of memory.
     pub fn faults(&self) -> u64
         ensures { result ≡ keeper_faults self.now }
     {
         self.faults
     }
 
-    // The rows are kept whether or not this goes well: what was applied is in the file or in its log.
     pub(crate) fn close(self) {
         self.database.close();
     }

@@ -1,4 +1,4 @@
-// A store of databases.
+// A store over the files of a system.
 ghost use Rattle.std.specs.Prelude.{◌≡◌, None, refl};
 
 use crate::faults::counted;
@@ -6,7 +6,7 @@ use crate::{SqlKeeper, keeper};
 use std::rt::HostRuntime;
 use wm_outside::{KeepFault, Store};
 
-/// A store of rows in SQLite's files.
+/// A store of rows in files of SQLite. Each opening of `:memory:` gives a keeper without rows, which end with it.
 #[derive(Drop)]
 pub struct SqlStore {
     rt: HostRuntime,
@@ -22,7 +22,7 @@ impl SqlStore {
         SqlStore { rt: *rt, faults: 0 }
     }
 
-    /// How many openings failed, and how many keepers came back that had failed.
+    /// How many openings failed, but for want of memory, and how many keepers came back that had failed.
     pub fn faults(&self) -> u64
         ensures { result ≡ store_faults self.now }
     {

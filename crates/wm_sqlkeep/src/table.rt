@@ -1,9 +1,10 @@
-// The table of rows, by SQL: how it is made, read and written. All rows stand in one table, `wmrow`.
+// The SQL: how the table of all rows is made, read and written.
 ghost use Rattle.std.specs.Prelude.{◌≡◌, pos, IsTrue, IfOk, IfSome, OnOk, OnErr};
 ghost use Rattle.sqlite.specs.Order.{column};
 ghost use Rattle.sqlite.specs.declared.types.Value.TheVariants.{Int, Text as Words};
 ghost use Rattle.sqlite.specs.State.{HasCleanDisk, KeepsCommit, Survives};
 ghost use Rattle.sqlite.specs.Held.{state};
+ghost use Rattle.wm_sqlkeep.specs.Changes.{IsAsItWas};
 
 use crate::faults::keep_fault;
 use sqlite::types::ValueRef;
@@ -50,7 +51,7 @@ fn is_made(row: &sqlite::Row) -> bool {
     }
 }
 
-// Refuses a table of another shape.
+// Finds the table. One of another shape, as its text tells, is a fault.
 fn find<S: Alter>(conn: &mut Connection<S>) -> Result<(), KeepFault> {
     match conn.query_row(FIND, &[]) {
         Ok(row) if is_made(&row) => Ok(()),
@@ -66,7 +67,8 @@ fn prepared<S: Alter>(conn: &mut Connection<S>, sql: &str) -> Result<Statement, 
     }
 }
 
-/// Makes the table where there is none, and prepares what writes it. A table of another shape is a fault, and stays as it is.
+/// Makes the table where there is none, and prepares what writes it. A table of another shape is a fault, and stays as it
+/// is.
 pub(crate) fn begin<S: Alter>(conn: &mut Connection<S>) -> Result<Writes, KeepFault> {
     make(conn)?;
     find(conn)?;
@@ -138,6 +140,7 @@ pub(crate) fn load<S: Alter>(
     Err(KeepFault::Failed)
 }
 
+// Makes one change, which isn't committed.
 fn write<S: Alter>(
     tx: &mut Transaction<'_, S>,
     writes: &Writes,
@@ -164,14 +167,14 @@ fn write<S: Alter>(
     }
 }
 
-/// Makes the changes in their order, all or none: a transaction that is dropped rolls back.
+/// Makes the changes in their order, all or none: a transaction that is dropped rolls back. None is open before it, since
+/// each call ends its own.
 pub(crate) fn apply<S: Alter>(
     conn: &mut Connection<S>,
     writes: &Writes,
     changes: &[RowChange],
 ) -> Result<(), KeepFault>
-    ensures neither { HasCleanDisk (state S.Store conn.new) → IsTrue (state S.Store conn.new).is_open
-        → OnErr result (((state S.Store conn.new).now ≡ (state S.Store conn.old).now) × ((state S.Store conn.new).committed ≡ (state S.Store conn.old).committed)) }
+    ensures err { OnErr result (IsAsItWas (state S.Store conn.old) (state S.Store conn.new)) }
 {
     if changes.is_empty() {
         return Ok(());

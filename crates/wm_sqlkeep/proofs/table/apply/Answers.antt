@@ -3,6 +3,7 @@ use Rattle.sqlite.specs.State.{State, HasCleanDisk, KeepsCommit, IsRolledBack}
 use Rattle.sqlite.specs.Held.{state}
 use Rattle.sqlite.specs.Steps.{FailsToCommit}
 use Rattle.sqlite.specs.declared.error.Error.{Error}
+use Rattle.wm_sqlkeep.specs.Changes.{IsAsItWas}
 use Rattle.sqlite.proofs.InsideLemmas.{keeps_then}
 use Rattle.wm_sqlkeep.proofs.table.apply.Goals as goal
 
@@ -41,7 +42,7 @@ returns-in_err-write g c =
     let old = state g.S.Store c.args.conn.now in
     let mid = state g.S.Store c.write.new.tx.conn.now in
     let end = state g.S.Store c.drop-tx.new.self.0 in
-    let all : HasCleanDisk end → IsTrue end.is_open → (end.now ≡ old.now) × (end.committed ≡ old.committed) = λ clean.
+    let all : IsAsItWas old end = λ clean.
     let early : HasCleanDisk mid = omega (arith, c.drop-tx.ensures.survives.clean, clean) in
     let before : HasCleanDisk (state g.S.Store c.changes.tx.conn.now) = omega (arith, c.write.ensures.survives.clean, early) in
     let kept = keeps_then old (state g.S.Store c.changes.tx.conn.now) mid (c.changes.invariant.1 before).0 (c.write.ensures.kept early) in
@@ -53,7 +54,7 @@ returns-in-Err g c =
     let old = state g.S.Store c.args.conn.now in
     let mid = state g.S.Store c.changes.tx.conn.now in
     let end = state g.S.Store c.commit.new.self.0 in
-    let all : HasCleanDisk end → IsTrue end.is_open → (end.now ≡ old.now) × (end.committed ≡ old.committed) = λ clean.
+    let all : IsAsItWas old end = λ clean.
     let early : HasCleanDisk mid = omega (arith, c.commit.ensures.survives.clean, clean) in
     uncommitted old mid end (c.if-not-is_autocommit.ensures.settled refl) (c.changes.invariant.1 early).0 c.in-Err.error (c.changes.invariant.1 early).1 (c.in-Err.ensures.err clean) in
     search (rules, on_err)
