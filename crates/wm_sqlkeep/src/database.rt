@@ -1,4 +1,8 @@
 // A connection to a file or to memory, which are two types.
+ghost use Rattle.std.specs.Prelude.{◌≡◌, OnErr};
+ghost use Rattle.sqlite.specs.Held.{state};
+ghost use Rattle.sqlite.specs.Steps.{over_memory};
+
 use crate::faults::keep_fault;
 use crate::table::{self, Writes};
 use sqlite::{Connection, File, FileStore, MemStore};
@@ -41,6 +45,17 @@ pub(crate) fn open(rt: &HostRuntime, path: &str) -> Result<Database, KeepFault> 
     }
 }
 
+// In memory nothing is left of a call that fails.
+fn apply_in_memory(
+    conn: &mut Connection<MemStore>,
+    writes: &Writes,
+    changes: &[RowChange],
+) -> Result<(), KeepFault>
+    ensures err { OnErr result ((state over_memory conn.new).now ≡ (state over_memory conn.old).now) }
+{
+    table::apply(conn, writes, changes)
+}
+
 impl Database {
     /// Makes the table where there is none, and prepares what writes it.
     pub(crate) fn begin(&mut self) -> Result<Writes, KeepFault> {
@@ -65,7 +80,7 @@ impl Database {
         changes: &[RowChange],
     ) -> Result<(), KeepFault> {
         match self {
-            Database::Memory(conn) => table::apply(conn, writes, changes),
+            Database::Memory(conn) => apply_in_memory(conn, writes, changes),
             Database::File(conn) => table::apply(conn, writes, changes),
         }
     }

@@ -1,6 +1,6 @@
 // What SQLite's errors are for a keeper, and how they are counted.
-ghost use Rattle.std.specs.Prelude.{◌≡◌};
-ghost use Rattle.wm_outside.specs.Cause.{HasKeepCause};
+ghost use Rattle.std.specs.Prelude.{◌≡◌, false, IsTrue};
+ghost use Rattle.wm_outside.specs.Cause.{HasKeepCause, keep_missed, raised};
 ghost use Rattle.wm_sqlkeep.specs.Faults.{keep_fault};
 
 use sqlite::{Error, ErrorCode};
@@ -20,6 +20,8 @@ pub(crate) fn keep_fault(error: Error) -> KeepFault
 pub(crate) fn counted<T>(faults: &mut u64, answered: Result<T, KeepFault>) -> Result<T, KeepFault>
     ensures same { result ≡ answered }
     ensures cause { HasKeepCause faults.old faults.new result }
+    ensures missed { IsTrue (keep_missed answered) → faults.new ≡ raised faults.old }
+    ensures not_missed { keep_missed answered ≡ false → faults.new ≡ faults.old }
 {
     if let Err(KeepFault::Failed) = &answered {
         *faults = faults.saturating_add(1);

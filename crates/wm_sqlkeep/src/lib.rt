@@ -4,8 +4,8 @@
 //! The contract for the layer above is that of `Store` and `Keeper` of `wm_outside`: a call answers `Failed` only where its
 //! count rose, a keeper comes with a count of 0, and a store passes on that a keeper has failed. They tell no rows, so
 //! nothing is promised of what a file holds; cases show it (`wm_test_sqlkeep`). Inside, a loaded row has the values of its
-//! columns, and where an `apply` fails, the database is as it was (`table`), as far as `sqlite` says so: always in memory,
-//! and on a file while the disk returns what was written.
+//! columns, and where an `apply` fails, the database is as it was (`table`): always in memory, and on a file as far as
+//! `sqlite` says so, while the disk returns what was written.
 //!
 //! A keeper has its file alone from its opening to its end. An `apply` is one transaction, which is on the disk where it is
 //! Ok. Where the disk fails in the middle of it, the keeper fails from then on, and the file has all changes of that call or
