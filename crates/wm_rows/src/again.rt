@@ -4,9 +4,7 @@ ghost use Rattle.wm_rows.specs.Again.{crtcls_of, crtpgmref_of, crtjobq_of, crtjo
 
 use wm_base::{Class, NoMemory, QName};
 use wm_desc::{AutoEntry, Jobd, PreEntry, Program, QueueEntry, RouteEntry, Sbsd};
-use wm_law::{
-    Addaje, Addjobqe, Addpje, Addrtge, Crtcls, Crtjobd, Crtjobq, Crtpgmref, Crtsbsd,
-};
+use wm_law::{Addaje, Addjobqe, Addpje, Addrtge, Crtcls, Crtjobd, Crtjobq, Crtpgmref, Crtsbsd};
 
 pub fn crtcls_of(name: &QName, cls: &Class) -> Crtcls
     ensures { result ≡ crtcls_of name.now cls.now }

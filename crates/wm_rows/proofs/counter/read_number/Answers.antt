@@ -1,5 +1,4 @@
-use Rattle.std.proofs.Common.{◌≡◌, ℕ, ◌<◌, ◌^◌, Option, Some, None, Result, Ok, Err, sym, ◌∙◌, ap}
-use Rattle.std.specs.Fmt.{decimal}
+use Rattle.std.proofs.Common.{ℕ, Option, Some, None, Result, Ok, Err, sym, ◌∙◌, ap}
 use Rattle.std.proofs.lemmas.Fmt.{parse-decimal}
 use Rattle.wm_rows.proofs.counter.read_number.Goals as goal
 

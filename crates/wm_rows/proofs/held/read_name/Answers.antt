@@ -1,8 +1,5 @@
-use Rattle.std.proofs.Common.{◌≡◌, inl, inr, refl, ◌∙◌}
-use Rattle.wm_base.specs.QName.{qname_text}
-use Rattle.wm_base.specs.declared.qname.QName.{QName}
+use Rattle.std.proofs.Common.{inr, refl, ◌∙◌}
 use Rattle.wm_clwords.specs.Grammar.{Quoted}
-use Rattle.wm_law.specs.Fit.{IsQName}
 use Rattle.wm_rows.proofs.held.read_name.Goals as goal
 
 pub returns-in-None-clause-exactly : goal.returns-in-None-clause-exactly
