@@ -1,0 +1,7 @@
+pub mod Digits
+pub mod Doubling
+pub mod FieldsBack
+pub mod PhaseBack
+pub mod ReadBack
+pub mod Seams
+pub mod Texts

@@ -1,0 +1,214 @@
+// Reading the text of a stored job.
+ghost use Rattle.std.specs.Prelude.{◌≡◌, ◌≤◌, IfOk, IfSome, length};
+ghost use Rattle.wm_job_rows.specs.Reading.{names_with, names_of, queueing_with, queueing_of, state_with, state_of, behind_four};
+ghost use Rattle.wm_job_rows.specs.Scan.{request_by, request_of, whole, text_tail, read_text};
+
+use crate::pieces::{behind, behind_four, rest, value};
+use crate::scan::{Quoted, quoted_of};
+use crate::stored::{StoredJob, StoredPhase};
+use crate::values::{
+    job_number_of, jobq_of, kind_of, moment_of, name_of, number_of, phase_of, priority_of, same,
+};
+use std::alloc::Global;
+use wm_base::{JobNumber, Moment, Name, NoMemory, Priority, QName, Text};
+use wm_law::JobKind;
+
+/// How a job is named.
+#[derive(Clone, Copy, Debug)]
+pub struct Names {
+    pub serial: u64,
+    pub number: JobNumber,
+    pub user: Name,
+    pub name: Name,
+}
+
+/// Its kind, and where it stands on which queue.
+#[derive(Clone, Copy, Debug)]
+pub struct Queueing {
+    pub kind: JobKind,
+    pub jobq: Option<QName>,
+    pub pty: Priority,
+    pub place: u64,
+}
+
+/// How it stands.
+#[derive(Clone, Copy, Debug)]
+pub struct Standing {
+    pub held: bool,
+    pub due: Moment,
+    pub phase: StoredPhase,
+}
+
+/// A request, or none, and how many bytes it has with its apostrophes.
+#[derive(Debug, Drop)]
+pub struct Requested {
+    pub text: Option<Text>,
+    pub len: usize,
+}
+
+fn names_with(
+    serial: Option<u64>,
+    number: Option<JobNumber>,
+    user: Option<Name>,
+    name: Option<Name>,
+) -> Option<Names>
+    ensures { result ≡ names_with serial number user name }
+{
+    Some(Names {
+        serial: serial?,
+        number: number?,
+        user: user?,
+        name: name?,
+    })
+}
+
+fn names_of(text: &[u8]) -> Option<Names>
+    ensures { result ≡ names_of text.now }
+{
+    let second = rest(text);
+    let third = rest(second);
+    let fourth = rest(third);
+    names_with(
+        number_of(value(text)),
+        job_number_of(value(second)),
+        name_of(value(third)),
+        name_of(value(fourth)),
+    )
+}
+
+fn queueing_with(
+    kind: JobKind,
+    jobq: Option<Option<QName>>,
+    pty: Option<Priority>,
+    place: Option<u64>,
+) -> Option<Queueing>
+    ensures { result ≡ queueing_with kind jobq pty place }
+{
+    Some(Queueing {
+        kind,
+        jobq: jobq?,
+        pty: pty?,
+        place: place?,
+    })
+}
+
+fn queueing_of(text: &[u8]) -> Option<Queueing>
+    ensures { result ≡ queueing_of text.now }
+{
+    let second = rest(text);
+    let third = rest(second);
+    let fourth = rest(third);
+    queueing_with(
+        kind_of(value(text)),
+        jobq_of(value(second)),
+        priority_of(value(third)),
+        number_of(value(fourth)),
+    )
+}
+
+fn state_with(held: bool, due: Option<Moment>, phase: Option<StoredPhase>) -> Option<Standing>
+    ensures { result ≡ state_with held due phase }
+{
+    Some(Standing {
+        held,
+        due: due?,
+        phase: phase?,
+    })
+}
+
+fn state_of(text: &[u8]) -> Option<Standing>
+    ensures { result ≡ state_of text.now }
+{
+    let second = rest(text);
+    let third = rest(second);
+    state_with(
+        same(value(text), b"*YES"),
+        moment_of(value(second)),
+        phase_of(value(third)),
+    )
+}
+
+fn request_by(quoted: Option<Quoted>) -> Option<Requested>
+    requires { IfSome quoted (λ q. q.len < usize.MAX) }
+    ensures { result ≡ request_by quoted }
+{
+    let quoted = quoted?;
+    Some(Requested {
+        text: Some(quoted.text),
+        len: quoted.len + 1,
+    })
+}
+
+// What begins with an apostrophe is a request, anything else none.
+fn request_of(alloc: Global, text: &[u8]) -> Result<Option<Requested>, NoMemory>
+    ensures value { IfOk result (λ o. o ≡ request_of text.now) }
+    ensures short { IfOk result (λ o. IfSome o (λ r. r.len ≤ length text.now)) }
+{
+    match text {
+        [b'\'', inside @ ..] => {
+            let quoted = quoted_of(alloc, inside)?;
+            Ok(request_by(quoted))
+        }
+        _ => Ok(Some(Requested { text: None, len: 0 })),
+    }
+}
+
+fn whole(
+    names: Option<Names>,
+    queueing: Option<Queueing>,
+    state: Option<Standing>,
+    rtgdta: Text,
+    rqsdta: Option<Text>,
+) -> Option<StoredJob>
+    ensures { result ≡ whole names queueing state rtgdta rqsdta }
+{
+    let names = names?;
+    let queueing = queueing?;
+    let state = state?;
+    Some(StoredJob {
+        serial: names.serial,
+        number: names.number,
+        user: names.user,
+        name: names.name,
+        kind: queueing.kind,
+        jobq: queueing.jobq,
+        pty: queueing.pty,
+        place: queueing.place,
+        rtgdta,
+        rqsdta,
+        held: state.held,
+        due: state.due,
+        phase: state.phase,
+    })
+}
+
+// The job, where the request and what stands behind it is the tail of the text.
+fn text_tail(
+    alloc: Global,
+    text: &[u8],
+    rtgdta: Text,
+    tail: &[u8],
+) -> Result<Option<StoredJob>, NoMemory>
+    ensures { IfOk result (λ o. o ≡ text_tail text.now rtgdta (request_of tail.now) tail.now) }
+{
+    let Some(request) = request_of(alloc, tail)? else {
+        return Ok(None);
+    };
+    let state = state_of(&tail[request.len..]);
+    let names = names_of(text);
+    let queueing = queueing_of(behind_four(text));
+    Ok(whole(names, queueing, state, rtgdta, request.text))
+}
+
+/// The stored job whose text this would be, by where its values stand.
+pub fn read_text(alloc: Global, text: &[u8]) -> Result<Option<StoredJob>, NoMemory>
+    ensures { IfOk result (λ o. o ≡ read_text text.now) }
+{
+    let data = behind(b'\'', behind_four(behind_four(text)));
+    let Some(routing) = quoted_of(alloc, data)? else {
+        return Ok(None);
+    };
+    let tail = behind(b'(', &data[routing.len..]);
+    let job = text_tail(alloc, text, routing.text, tail)?;
+    Ok(job)
+}
