@@ -14,7 +14,7 @@ use wm_base::{JobNumber, Moment, Name, NoMemory, Priority, QName, Text};
 use wm_law::JobKind;
 
 /// How a job is named.
-#[derive(Clone, Copy, Debug)]
+#[derive(Clone, Copy)]
 pub struct Names {
     pub serial: u64,
     pub number: JobNumber,
@@ -23,7 +23,7 @@ pub struct Names {
 }
 
 /// Its kind, and where it stands on which queue.
-#[derive(Clone, Copy, Debug)]
+#[derive(Clone, Copy)]
 pub struct Queueing {
     pub kind: JobKind,
     pub jobq: Option<QName>,
@@ -32,7 +32,7 @@ pub struct Queueing {
 }
 
 /// How it stands.
-#[derive(Clone, Copy, Debug)]
+#[derive(Clone, Copy)]
 pub struct Standing {
     pub held: bool,
     pub due: Moment,
@@ -40,7 +40,7 @@ pub struct Standing {
 }
 
 /// A request, or none, and how many bytes it has with its apostrophes.
-#[derive(Debug, Drop)]
+#[derive(Drop)]
 pub struct Requested {
     pub text: Option<Text>,
     pub len: usize,

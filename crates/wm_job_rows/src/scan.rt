@@ -7,7 +7,7 @@ use wm_base::{NoMemory, Text, is_text};
 use wm_law::ListOf;
 
 /// What is known behind some bytes of a text in apostrophes.
-#[derive(Debug, Drop)]
+#[derive(Drop)]
 pub struct Scan {
     /// The text so far.
     pub text: ListOf<u8>,
@@ -20,7 +20,7 @@ pub struct Scan {
 }
 
 /// A text, and how many bytes it has up to its end, with that apostrophe.
-#[derive(Debug, Drop)]
+#[derive(Drop)]
 pub struct Quoted {
     pub text: Text,
     pub len: usize,
