@@ -11,12 +11,12 @@ use Rattle.wm_job_rows.specs.declared.scan.Scan.{Scan}
 use Rattle.wm_job_rows.specs.declared.scan.Quoted.{Quoted}
 use Rattle.wm_job_rows.specs.Scan.{begun, scanned, opened, pushed, ended, quoted_by, quoted_of}
 
--- inside a text, with no apostrophe open
+-- inside a text, with no apostrophe last
 abbrev so_far : List ℕ → ℕ → Scan
-so_far text n = record { text = text; open = false; ended = false; len = n }
+so_far text n = record { text = text; quote = false; ended = false; len = n }
 
 abbrev by_test : Bool → Scan → ℕ → Scan
-by_test c s byte = cond s.ended s (cond c (cond s.open (pushed s byte) (opened s)) (cond s.open (ended s) (pushed s byte)))
+by_test c s byte = cond s.ended s (cond c (cond s.quote (pushed s byte) (opened s)) (cond s.quote (ended s) (pushed s byte)))
 
 abbrev doubled_by : Bool → ℕ → List ℕ
 doubled_by c byte = cond c (39 ∷ 39 ∷ []) (byte ∷ [])
@@ -40,7 +40,7 @@ scanned_text (byte ∷ t) text n =
     ∙ (λ i. so_far (append_assoc text (byte ∷ []) t i) (long i))
 
 -- what stands behind the end changes nothing
-stays : (text : List ℕ) (n : ℕ) (bytes : List ℕ) → fold scanned (record { text = text; open = true; ended = true; len = n }) bytes ≡ record { text = text; open = true; ended = true; len = n }
+stays : (text : List ℕ) (n : ℕ) (bytes : List ℕ) → fold scanned (record { text = text; quote = true; ended = true; len = n }) bytes ≡ record { text = text; quote = true; ended = true; len = n }
 stays text n [] = refl
 stays text n (byte ∷ bytes) = stays text n bytes
 

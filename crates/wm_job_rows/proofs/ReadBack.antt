@@ -6,7 +6,8 @@ use Rattle.wm_job_rows.specs.declared.line.Names.{Names}
 use Rattle.wm_job_rows.specs.declared.line.Queueing.{Queueing}
 use Rattle.wm_job_rows.specs.declared.line.Standing.{Standing}
 use Rattle.wm_job_rows.specs.declared.stored.StoredJob.{StoredJob}
-use Rattle.wm_job_rows.specs.JobText.{field, request_text, name_fields, queue_fields, data_fields, state_fields, job_text}
+use Rattle.wm_outside.specs.declared.row.Row.{Row}
+use Rattle.wm_job_rows.specs.JobText.{field, job_row, request_text, name_fields, queue_fields, data_fields, state_fields, job_text}
 use Rattle.wm_job_rows.specs.Reading.{behind, behind_four, names_of, queueing_of, state_of}
 use Rattle.wm_job_rows.specs.Scan.{quoted_of, request_by, request_of, no_request, whole, text_tail, text_data, read_text}
 use Rattle.wm_job_rows.specs.Stored.{IsStored, IsRequest}
@@ -55,8 +56,23 @@ text_back j h =
     let e : job_text j ≡ text = four_parts (codes "JOB") (name_fields j) (queue_fields j) (data_fields j) state in
     let first = behind_names j last h in
     let second = ap behind_four first ∙ behind_queueing j (data_fields j ++ state) h in
-    let data : behind 39 (behind_four (behind_four text)) ≡ doubled j.rtgdta ++ 39 ∷ 41 ∷ (field (codes "RQSDTA") (request_text j.rqsdta) ++ state) =
+    let inside : behind 39 (behind_four (behind_four text)) ≡ doubled j.rtgdta ++ 39 ∷ 41 ∷ (field (codes "RQSDTA") (request_text j.rqsdta) ++ state) =
         ap (behind 39) (second ∙ append_assoc (field (codes "RTGDTA") (quoted j.rtgdta)) (field (codes "RQSDTA") (request_text j.rqsdta)) state) ∙ data_begins j.rtgdta (field (codes "RQSDTA") (request_text j.rqsdta) ++ state) in
     ap read_text e
-    ∙ ap (λ d. text_data text (quoted_of d) d) data
+    ∙ ap (λ d. text_data text (quoted_of d) d) inside
     ∙ data_back j h text (names_back j last h) (ap queueing_of first ∙ queueing_back j (data_fields j ++ state) h)
+
+-- so a row of a job is read as that job
+pub row_back : (row : Row) (job : StoredJob) → IsStored job → job_row job ≡ row → read_text row.body ≡ Some job
+row_back row job h same = ap (λ r. read_text r.body) (sym same) ∙ text_back job h
+
+pub row_read : (row : Row) (job : StoredJob) → IsStored job → job_row job ≡ row → read_text row.body ≡ None → ⊥
+row_read row job h same none = let e : None ≡ Some job = sym none ∙ row_back row job h same in cc
+
+abbrev or_that : StoredJob → Option StoredJob → StoredJob
+or_that that None = that
+or_that that (Some job) = job
+
+-- and what is printed of what was read is the row
+pub row_again : (row printed : Row) (job found : StoredJob) → IsStored job → job_row job ≡ row → read_text row.body ≡ Some found → printed ≡ job_row found → printed ≡ row
+row_again row printed job found h same read again = again ∙ ap (λ o. job_row (or_that found o)) (sym read ∙ row_back row job h same) ∙ same

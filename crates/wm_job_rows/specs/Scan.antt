@@ -12,15 +12,15 @@ use Rattle.wm_job_rows.specs.declared.stored.StoredJob.{StoredJob}
 use Rattle.wm_job_rows.specs.Reading.{behind, behind_four, names_of, queueing_of, state_of}
 
 abbrev pub begun : Scan
-begun = record { text = []; open = false; ended = false; len = 0 }
+begun = record { text = []; quote = false; ended = false; len = 0 }
 
--- an apostrophe, where none is open
+-- an apostrophe, behind another byte
 abbrev pub opened : Scan → Scan
-opened s = record s { open = true; len = s.len + 1 }
+opened s = record s { quote = true; len = s.len + 1 }
 
 -- one byte more of the text
 abbrev pub pushed : Scan → ℕ → Scan
-pushed s byte = record s { text = s.text ++ byte ∷ []; open = false; len = s.len + 1 }
+pushed s byte = record s { text = s.text ++ byte ∷ []; quote = false; len = s.len + 1 }
 
 abbrev pub ended : Scan → Scan
 ended s = record s { ended = true }
@@ -29,8 +29,8 @@ ended s = record s { ended = true }
 abbrev pub scanned : Scan → ℕ → Scan
 scanned s byte =
     if s.ended then s
-    else if byte == 39 then (if s.open then pushed s byte else opened s)
-    else if s.open then ended s
+    else if byte == 39 then (if s.quote then pushed s byte else opened s)
+    else if s.quote then ended s
     else pushed s byte
 
 abbrev pub quoted_by : Scan → Option Quoted
@@ -80,12 +80,12 @@ text_tail text rtgdta None tail = None
 text_tail text rtgdta (Some request) tail =
     whole (names_of text) (queueing_of (behind_four text)) (state_of (drop request.len tail)) rtgdta request.text
 
--- the same, with this routing data, which stands first in the data
+-- the same, with this routing data, which stands first in what is inside
 abbrev pub text_data : List ℕ → Option Quoted → List ℕ → Option StoredJob
-text_data text None data = None
-text_data text (Some q) data =
-    let tail = behind 40 (drop q.len data) in text_tail text q.text (request_of tail) tail
+text_data text None inside = None
+text_data text (Some q) inside =
+    let tail = behind 40 (drop q.len inside) in text_tail text q.text (request_of tail) tail
 
 -- the job whose text this would be
 unfoldable pub read_text : List ℕ → Option StoredJob
-read_text text = let data = behind 39 (behind_four (behind_four text)) in text_data text (quoted_of data) data
+read_text text = let inside = behind 39 (behind_four (behind_four text)) in text_data text (quoted_of inside) inside

@@ -1,7 +1,7 @@
 // Reading the text of a stored job.
-ghost use Rattle.std.specs.Prelude.{◌≡◌, ◌≤◌, IfOk, IfSome, length};
+ghost use Rattle.std.specs.Prelude.{◌≡◌, ◌≤◌, ◌<◌, IfOk, IfSome, length};
 ghost use Rattle.wm_job_rows.specs.Reading.{names_with, names_of, queueing_with, queueing_of, state_with, state_of, behind_four};
-ghost use Rattle.wm_job_rows.specs.Scan.{request_by, request_of, whole, text_tail, read_text};
+ghost use Rattle.wm_job_rows.specs.Scan.{request_by, request_of, whole, text_tail, text_data, read_text};
 
 use crate::pieces::{behind, behind_four, rest, value};
 use crate::scan::{Quoted, quoted_of};
@@ -182,33 +182,48 @@ fn whole(
     })
 }
 
-// The job, where the request and what stands behind it is the tail of the text.
+// The job of a text that has this request, where the request stands first in the tail.
 fn text_tail(
-    alloc: Global,
     text: &[u8],
     rtgdta: Text,
+    request: Option<Requested>,
     tail: &[u8],
-) -> Result<Option<StoredJob>, NoMemory>
-    ensures { IfOk result (λ o. o ≡ text_tail text.now rtgdta (request_of tail.now) tail.now) }
+) -> Option<StoredJob>
+    requires { IfSome request (λ r. r.len ≤ length tail.now) }
+    ensures { result ≡ text_tail text.now rtgdta request tail.now }
 {
-    let Some(request) = request_of(alloc, tail)? else {
-        return Ok(None);
-    };
+    let request = request?;
     let state = state_of(&tail[request.len..]);
     let names = names_of(text);
     let queueing = queueing_of(behind_four(text));
-    Ok(whole(names, queueing, state, rtgdta, request.text))
+    whole(names, queueing, state, rtgdta, request.text)
+}
+
+// The same, with this routing data, which stands first in what is inside.
+fn text_data(
+    alloc: Global,
+    text: &[u8],
+    quoted: Option<Quoted>,
+    inside: &[u8],
+) -> Result<Option<StoredJob>, NoMemory>
+    requires { IfSome quoted (λ q. q.len ≤ length inside.now) }
+    ensures { IfOk result (λ o. o ≡ text_data text.now quoted inside.now) }
+{
+    let Some(quoted) = quoted else {
+        return Ok(None);
+    };
+    let tail = behind(b'(', &inside[quoted.len..]);
+    let request = request_of(alloc, tail)?;
+    Ok(text_tail(text, quoted.text, request, tail))
 }
 
 /// The stored job whose text this would be, by where its values stand.
+#[tactic(auto, unfolding(crate::specs::Scan::read_text))]
 pub fn read_text(alloc: Global, text: &[u8]) -> Result<Option<StoredJob>, NoMemory>
     ensures { IfOk result (λ o. o ≡ read_text text.now) }
 {
-    let data = behind(b'\'', behind_four(behind_four(text)));
-    let Some(routing) = quoted_of(alloc, data)? else {
-        return Ok(None);
-    };
-    let tail = behind(b'(', &data[routing.len..]);
-    let job = text_tail(alloc, text, routing.text, tail)?;
+    let inside = behind(b'\'', behind_four(behind_four(text)));
+    let quoted = quoted_of(alloc, inside)?;
+    let job = text_data(alloc, text, quoted, inside)?;
     Ok(job)
 }

@@ -190,6 +190,7 @@ fn push_state(alloc: Global, out: &mut Text, job: &StoredJob) -> Result<(), NoMe
 }
 
 /// The text of a stored job.
+#[tactic(auto, unfolding(crate::specs::JobText::job_text))]
 pub fn job_text(alloc: Global, job: &StoredJob) -> Result<Text, NoMemory>
     ensures { IfOk result (λ text. text ≡ job_text job.now) }
 {

@@ -12,7 +12,7 @@ pub struct Scan {
     /// The text so far.
     pub text: ListOf<u8>,
     /// Whether the last byte is an apostrophe that ends the text, or is the first of two.
-    pub open: bool,
+    pub quote: bool,
     /// Whether the text has ended.
     pub ended: bool,
     /// How many bytes there are up to the end, with its apostrophe.
@@ -31,7 +31,7 @@ fn begun(alloc: Global) -> Scan
 {
     Scan {
         text: ListOf::new(alloc),
-        open: false,
+        quote: false,
         ended: false,
         len: 0,
     }
@@ -44,22 +44,22 @@ fn step(scan: &mut Scan, byte: u8) -> Result<(), NoMemory>
     if scan.ended {
         return Ok(());
     }
-    match (byte == b'\'', scan.open) {
-        (true, false) => scan.open = true,
+    match (byte == b'\'', scan.quote) {
+        (true, false) => scan.quote = true,
         (false, true) => {
             scan.ended = true;
             return Ok(());
         }
         (_, _) => {
             scan.text.push(byte)?;
-            scan.open = false;
+            scan.quote = false;
         }
     }
     scan.len += 1;
     Ok(())
 }
 
-fn scan(alloc: Global, text: &[u8]) -> Result<Scan, NoMemory>
+fn scan_all(alloc: Global, text: &[u8]) -> Result<Scan, NoMemory>
     ensures value { IfOk result (λ s. s ≡ fold scanned begun text.now) }
     ensures short { IfOk result (λ s. s.len ≤ length text.now) }
 {
@@ -85,11 +85,12 @@ fn quoted_by(alloc: Global, scan: &Scan) -> Result<Option<Quoted>, NoMemory>
 }
 
 /// The text that stands from behind its first apostrophe on.
+#[tactic(auto, unfolding(crate::specs::Scan::quoted_of))]
 pub fn quoted_of(alloc: Global, text: &[u8]) -> Result<Option<Quoted>, NoMemory>
     ensures value { IfOk result (λ o. o ≡ quoted_of text.now) }
     ensures short { IfOk result (λ o. IfSome o (λ q. q.len ≤ length text.now)) }
 {
-    let scan = scan(alloc, text)?;
+    let scan = scan_all(alloc, text)?;
     let quoted = quoted_by(alloc, &scan)?;
     Ok(quoted)
 }
