@@ -103,6 +103,7 @@ abbrev pub names : StoredJob → Names
 names j = record { serial = j.serial; number = j.number; user = j.user; name = j.name }
 
 pub names_back : (j : StoredJob) (more : List ℕ) → IsStored j → names_of (codes "JOB" ++ (name_fields j ++ more)) ≡ Some (names j)
+unfolding names_of
 names_back j more h =
     let small : j.number < 2 ^ 64 = omega (arith, h.number_most) in
     let p = codes "JOB" in
@@ -174,6 +175,7 @@ abbrev pub queueing : StoredJob → Queueing
 queueing j = record { kind = j.kind; jobq = j.jobq; pty = j.pty; place = j.place }
 
 pub queueing_back : (j : StoredJob) (more : List ℕ) → IsStored j → queueing_of (queue_fields j ++ more) ≡ Some (queueing j)
+unfolding queueing_of
 queueing_back j more h =
     let small : j.pty < 2 ^ 64 = omega (arith, h.pty_most) in
     let k = codes "TYPE" in

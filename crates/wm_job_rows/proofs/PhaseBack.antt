@@ -99,6 +99,7 @@ standing j = record { held = j.held; due = j.due; phase = j.phase }
 
 -- the last three fields
 pub standing_back : (p : List ℕ) (j : StoredJob) → Lacks 40 p → IsStored j → state_of (p ++ state_fields j) ≡ Some (standing j)
+unfolding state_of
 standing_back p j hp h =
     let small : j.due < 2 ^ 64 = omega (arith, h.due) in
     let k = codes "HOLD" in

@@ -136,7 +136,7 @@ names_with (Some serial) (Some number) (Some user) None = None
 names_with (Some serial) (Some number) (Some user) (Some name) = Some (record { serial = serial; number = number; user = user; name = name })
 
 -- how the job is named, by the first four values
-abbrev pub names_of : List ℕ → Option Names
+unfoldable pub names_of : List ℕ → Option Names
 names_of text =
     names_with (number_of (value text)) (kept 1 999999 (number_of (value (rest text))))
     (name_of (value (rest (rest text)))) (name_of (value (rest (rest (rest text)))))
@@ -148,7 +148,7 @@ queueing_with kind (Some jobq) (Some pty) None = None
 queueing_with kind (Some jobq) (Some pty) (Some place) = Some (record { kind = kind; jobq = jobq; pty = pty; place = place })
 
 -- its kind, and where it stands on which queue
-abbrev pub queueing_of : List ℕ → Option Queueing
+unfoldable pub queueing_of : List ℕ → Option Queueing
 queueing_of text =
     queueing_with (kind_of (value text)) (jobq_of (value (rest text)))
     (kept 1 9 (number_of (value (rest (rest text))))) (number_of (value (rest (rest (rest text)))))
@@ -159,7 +159,7 @@ state_with held (Some due) None = None
 state_with held (Some due) (Some phase) = Some (record { held = held; due = due; phase = phase })
 
 -- how it stands
-abbrev pub state_of : List ℕ → Option Standing
+unfoldable pub state_of : List ℕ → Option Standing
 state_of text =
     state_with (same (value text) (codes "*YES")) (kept 0 253402214399 (number_of (value (rest text))))
     (phase_of (value (rest (rest text))))

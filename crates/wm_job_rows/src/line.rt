@@ -3,7 +3,7 @@ ghost use Rattle.std.specs.Prelude.{◌≡◌, ◌≤◌, ◌<◌, IfOk, IfSome,
 ghost use Rattle.wm_job_rows.specs.Reading.{names_with, names_of, queueing_with, queueing_of, state_with, state_of, behind_four};
 ghost use Rattle.wm_job_rows.specs.Scan.{request_by, request_of, whole, text_tail, text_data, read_text};
 
-use crate::pieces::{behind, behind_four, rest, value};
+use crate::pieces::{behind, behind_four, rest, value, without};
 use crate::scan::{Quoted, quoted_of};
 use crate::stored::{StoredJob, StoredPhase};
 use crate::values::{
@@ -62,6 +62,7 @@ fn names_with(
     })
 }
 
+#[tactic(auto, unfolding(crate::specs::Reading::names_of))]
 fn names_of(text: &[u8]) -> Option<Names>
     ensures { result ≡ names_of text.now }
 {
@@ -92,6 +93,7 @@ fn queueing_with(
     })
 }
 
+#[tactic(auto, unfolding(crate::specs::Reading::queueing_of))]
 fn queueing_of(text: &[u8]) -> Option<Queueing>
     ensures { result ≡ queueing_of text.now }
 {
@@ -116,6 +118,7 @@ fn state_with(held: bool, due: Option<Moment>, phase: Option<StoredPhase>) -> Op
     })
 }
 
+#[tactic(auto, unfolding(crate::specs::Reading::state_of))]
 fn state_of(text: &[u8]) -> Option<Standing>
     ensures { result ≡ state_of text.now }
 {
@@ -193,7 +196,7 @@ fn text_tail(
     ensures { result ≡ text_tail text.now rtgdta request tail.now }
 {
     let request = request?;
-    let state = state_of(&tail[request.len..]);
+    let state = state_of(without(request.len, tail));
     let names = names_of(text);
     let queueing = queueing_of(behind_four(text));
     whole(names, queueing, state, rtgdta, request.text)
@@ -212,7 +215,7 @@ fn text_data(
     let Some(quoted) = quoted else {
         return Ok(None);
     };
-    let tail = behind(b'(', &inside[quoted.len..]);
+    let tail = behind(b'(', without(quoted.len, inside));
     let request = request_of(alloc, tail)?;
     Ok(text_tail(text, quoted.text, request, tail))
 }

@@ -1,5 +1,5 @@
 // Where the values stand in a text.
-ghost use Rattle.std.specs.Prelude.{◌≡◌, ◌≤◌, length, take_while};
+ghost use Rattle.std.specs.Prelude.{◌≡◌, ◌≤◌, length, drop, take_while};
 ghost use Rattle.wm_job_rows.specs.Reading.{is_other, before, behind, value, rest, behind_four};
 
 // How many bytes stand before the first of these.
@@ -48,4 +48,12 @@ pub fn behind_four(text: &[u8]) -> &[u8]
     ensures { result.now ≡ behind_four text.now }
 {
     rest(rest(rest(rest(text))))
+}
+
+/// What stands behind so many bytes.
+pub fn without(count: usize, text: &[u8]) -> &[u8]
+    requires { count ≤ length text.now }
+    ensures { result.now ≡ drop count text.now }
+{
+    &text[count..]
 }

@@ -3,7 +3,7 @@ use Rattle.wm_job_rows.specs.declared.stored.StoredJob.{StoredJob}
 use Rattle.wm_job_rows.specs.JobText.{job_row}
 use Rattle.wm_job_rows.specs.Scan.{read_text}
 use Rattle.wm_job_rows.specs.Stored.{IsStored}
-use Rattle.wm_job_rows.proofs.ReadBack.{row_read, row_again}
+use Rattle.wm_job_rows.proofs.ReadBack.{row_read, row_again, row_found}
 use Rattle.wm_job_rows.proofs.row.read_job.Goals as goal
 
 pub returns-in_default-clause-exactly : goal.returns-in_default-clause-exactly
@@ -14,8 +14,5 @@ pub returns-else-eq-clause-exactly : goal.returns-else-eq-clause-exactly
 returns-else-eq-clause-exactly c =
     λ n job stored same.
     let read : read_text c.args.row.now.body ≡ Some c.in-Some.job = ap read_text (sym c.as_bytes.ensures.value) ∙ sym c.in_ok-job.ensures ∙ c.in-Some.is in
-    let k = row_again c.args.row.now c.in_ok-printed.printed job c.in-Some.job stored same read c.in_ok-printed.ensures in
-    let e = c.eq.ensures in
-    let f = c.if-eq.false in
-    let g = c.if-eq.ensures in
-    ?
+    let again = row_again c.args.row.now c.in_ok-printed.printed job c.in-Some.job stored same read c.in_ok-printed.ensures in
+    row_found c.in_ok-printed.printed c.args.row.now again c.if-eq.ensures
