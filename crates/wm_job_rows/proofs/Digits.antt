@@ -1,13 +1,11 @@
 -- A number's digits are read as that number.
-use Rattle.std.proofs.Common.{◌≡◌, ℕ, ◌+◌, ◌-◌, ◌*◌, ◌/◌, ◌%◌, ◌<◌, ◌≤◌, ◌^◌, ◌++◌, ◌&&◌, true, cond, nat_lt, nat_le, List, [], ◌∷◌, fold, Some, None, ◌∙◌, ap, refl, arith}
+use Rattle.std.proofs.Common.{◌≡◌, ℕ, ◌+◌, ◌-◌, ◌*◌, ◌/◌, ◌%◌, ◌<◌, ◌≤◌, ◌^◌, true, cond, nat_lt, nat_le, [], ◌∷◌, fold, Some, None, ◌∙◌, ap, arith}
 use Rattle.std.specs.Fmt.{decimal}
-use Rattle.std.specs.List.{list_all}
-use Rattle.std.proofs.lemmas.Bool.{and_parts, and_from, lt-ltb, le-leb}
+use Rattle.std.proofs.lemmas.Bool.{and_from, lt-ltb, le-leb}
 use Rattle.std.proofs.lemmas.Bool.Decides.{nat_tests}
 use Rattle.std.proofs.lemmas.Fmt.{decimal_by_steps}
 use Rattle.std.proofs.lemmas.List.Sums.{fold-append}
-use Rattle.std.proofs.lemmas.List.Folds.{list_all-append}
-use Rattle.wm_job_rows.specs.Reading.{is_digit, is_other, push_digit, number_of, kept}
+use Rattle.wm_job_rows.specs.Reading.{is_digit, push_digit, number_of, kept}
 use Rattle.wm_job_rows.proofs.Seams.{Lacks, Lacks-append}
 
 digit_of : (d : ℕ) → d < 10 → is_digit (48 + d) ≡ true

@@ -1,11 +1,10 @@
 -- A text in apostrophes is read back.
-use Rattle.std.proofs.Common.{◌≡◌, ℕ, ◌+◌, ◌++◌, eqb, Bool, true, false, cond, List, [], ◌∷◌, length, drop, fold, Some, None, sym, ◌∙◌, ap, subst, refl, arith, append_assoc, add_assoc}
-use Rattle.std.specs.List.{list_all}
+use Rattle.std.proofs.Common.{◌≡◌, ℕ, ◌+◌, ◌++◌, eqb, Bool, true, false, cond, List, [], ◌∷◌, length, drop, fold, Some, None, sym, ◌∙◌, ap, refl, arith, append_assoc}
 use Rattle.std.proofs.Math.Seq.{drop-append-add}
 use Rattle.std.proofs.lemmas.Bool.{eqb-true}
 use Rattle.std.proofs.lemmas.List.{length-append, append-nil}
 use Rattle.std.proofs.lemmas.List.Sums.{fold-append}
-use Rattle.wm_base.specs.Text.{IsText, is_printable}
+use Rattle.wm_base.specs.Text.{IsText}
 use Rattle.wm_clwords.specs.Quote.{doubled_byte, doubled}
 use Rattle.wm_job_rows.specs.declared.scan.Scan.{Scan}
 use Rattle.wm_job_rows.specs.declared.scan.Quoted.{Quoted}

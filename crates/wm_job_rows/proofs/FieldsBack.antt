@@ -1,30 +1,22 @@
 -- The fields of a printed job are read back.
-use Rattle.std.proofs.Common.{◌≡◌, ℕ, ◌+◌, ◌<◌, ◌≤◌, ◌^◌, ◌++◌, ◌&&◌, not, eqb, Bool, true, false, cond, List, [], ◌∷◌, length, drop, Option, Some, None, codes, sym, ◌∙◌, ap, refl, arith, append_assoc}
+use Rattle.std.proofs.Common.{◌≡◌, ℕ, ◌<◌, ◌≤◌, ◌^◌, ◌++◌, ◌&&◌, eqb, true, false, cond, List, [], ◌∷◌, Option, Some, None, codes, ◌∙◌, ap, refl, arith, append_assoc}
 use Rattle.std.specs.Fmt.{decimal}
 use Rattle.std.specs.List.{list_all}
 use Rattle.std.proofs.lemmas.Bool.{and_parts, and_from}
 use Rattle.std.proofs.lemmas.Bool.Decides.{nat_tests}
-use Rattle.std.proofs.lemmas.List.{append-nil}
-use Rattle.wm_base.specs.declared.job.EndCause.{EndCause}
-use Rattle.wm_base.specs.declared.job.EndCause.TheVariants as cause
-use Rattle.wm_base.specs.declared.job.StartCause.TheVariants as start
 use Rattle.wm_base.specs.declared.qname.QName.{QName}
-use Rattle.wm_base.specs.EndCause.{end_cause_number}
-use Rattle.wm_base.specs.Name.{IsName, continues_name, is_name}
+use Rattle.wm_base.specs.Name.{IsName, continues_name}
 use Rattle.wm_base.specs.QName.{qname_text}
 use Rattle.wm_law.specs.declared.job.JobKind.{JobKind}
 use Rattle.wm_law.specs.declared.job.JobKind.TheVariants.{Bch, Asj, Pj}
 use Rattle.wm_job_rows.specs.declared.line.Names.{Names}
 use Rattle.wm_job_rows.specs.declared.line.Queueing.{Queueing}
-use Rattle.wm_job_rows.specs.declared.line.Standing.{Standing}
 use Rattle.wm_job_rows.specs.declared.stored.StoredJob.{StoredJob}
-use Rattle.wm_job_rows.specs.declared.stored.StoredPhase.{StoredPhase}
-use Rattle.wm_job_rows.specs.declared.stored.StoredPhase.TheVariants.{Waiting, Active, Ended}
-use Rattle.wm_job_rows.specs.JobText.{field, kind_word, held_word, jobq_text, value_text, cause_text, phase_text, name_fields, queue_fields, state_fields}
-use Rattle.wm_job_rows.specs.Reading.{is_other, before, behind, value, rest, behind_four, number_of, kept, name_of, same, qname_with, some_queue, jobq_of, kind_of, exited, route_full, cause_by, cause_of, phase_by, ended_of, phase_of, names_with, names_of, queueing_with, queueing_of, state_with, state_of}
-use Rattle.wm_job_rows.specs.Stored.{IsStored, IsQueue, IsCause, IsPhase}
+use Rattle.wm_job_rows.specs.JobText.{field, kind_word, jobq_text, name_fields, queue_fields}
+use Rattle.wm_job_rows.specs.Reading.{is_other, before, behind, value, rest, behind_four, number_of, kept, name_of, same, qname_with, some_queue, jobq_of, kind_of, names_with, names_of, queueing_with, queueing_of}
+use Rattle.wm_job_rows.specs.Stored.{IsStored, IsQueue}
 use Rattle.wm_job_rows.proofs.Digits.{number_back, kept_back, lacks_decimal}
-use Rattle.wm_job_rows.proofs.Seams.{Lacks, Lacks-append, before_first, behind_first, before_none, behind_none, field_value, field_rest}
+use Rattle.wm_job_rows.proofs.Seams.{Lacks, Lacks-append, before_first, behind_first, field_value, field_rest}
 
 -- names have no parentheses and no slash
 lacks_begin : (b : ℕ) → continues_name b ≡ true → is_other 41 b ≡ true

@@ -1,19 +1,16 @@
 -- How a printed job stands is read back.
-use Rattle.std.proofs.Common.{◌≡◌, ℕ, ◌+◌, ◌<◌, ◌≤◌, ◌^◌, ◌++◌, Bool, true, false, List, [], ◌∷◌, Option, Some, None, codes, sym, ◌∙◌, ap, refl, arith, append_assoc}
+use Rattle.std.proofs.Common.{◌≡◌, ℕ, ◌<◌, ◌^◌, ◌++◌, Bool, true, false, List, [], ◌∷◌, Some, codes, sym, ◌∙◌, ap, refl, arith, append_assoc}
 use Rattle.std.specs.Fmt.{decimal}
-use Rattle.std.specs.List.{list_all}
 use Rattle.std.proofs.lemmas.List.{append-nil}
 use Rattle.wm_base.specs.declared.job.EndCause.{EndCause}
 use Rattle.wm_base.specs.declared.job.EndCause.TheVariants as cause
-use Rattle.wm_base.specs.declared.job.StartCause.{StartCause}
 use Rattle.wm_base.specs.declared.job.StartCause.TheVariants as start
-use Rattle.wm_base.specs.EndCause.{end_cause_number}
 use Rattle.wm_job_rows.specs.declared.line.Standing.{Standing}
 use Rattle.wm_job_rows.specs.declared.stored.StoredJob.{StoredJob}
 use Rattle.wm_job_rows.specs.declared.stored.StoredPhase.{StoredPhase}
 use Rattle.wm_job_rows.specs.declared.stored.StoredPhase.TheVariants.{Waiting, Active, Ended}
-use Rattle.wm_job_rows.specs.JobText.{field, held_word, value_text, cause_text, phase_text, state_fields}
-use Rattle.wm_job_rows.specs.Reading.{is_other, before, behind, value, rest, number_of, kept, same, exited, route_full, cause_by, cause_of, phase_by, ended_of, phase_of, state_with, state_of}
+use Rattle.wm_job_rows.specs.JobText.{field, held_word, cause_text, phase_text, state_fields}
+use Rattle.wm_job_rows.specs.Reading.{before, behind, value, rest, number_of, kept, same, exited, route_full, cause_of, phase_by, ended_of, phase_of, state_with, state_of}
 use Rattle.wm_job_rows.specs.Stored.{IsStored, IsCause, IsPhase}
 use Rattle.wm_job_rows.proofs.Digits.{number_back, kept_back, lacks_decimal}
 use Rattle.wm_job_rows.proofs.Seams.{Lacks, Lacks-append, before_first, behind_first, before_none, behind_none, field_value, field_rest}
@@ -111,7 +108,7 @@ standing_back p j hp h =
     let b = lacks_decimal 41 j.due (omega arith) small in
     let c = phase_closed j.phase h.phase in
     let e : p ++ state_fields j ≡ p ++ (field k (held_word j.held) ++ second) =
-        ap (λ t. p ++ t) (append_assoc (field k (held_word j.held)) (field l (decimal j.due)) (field m (phase_text j.phase)) ∙ ap (λ t. field k (held_word j.held) ++ (field l (decimal j.due) ++ t)) (sym (append-nil (field m (phase_text j.phase))))) in
+    ap (λ t. p ++ t) (append_assoc (field k (held_word j.held)) (field l (decimal j.due)) (field m (phase_text j.phase)) ∙ ap (λ t. field k (held_word j.held) ++ (field l (decimal j.due) ++ t)) (sym (append-nil (field m (phase_text j.phase))))) in
     let one = field_rest p k (held_word j.held) second hp refl a in
     let two = ap rest one ∙ field_rest [] l (decimal j.due) third refl refl b in
     let first_value = field_value p k (held_word j.held) second hp refl a in

@@ -4,14 +4,11 @@ use Rattle.std.specs.Cmp.Lexicographic.{pointwise}
 use Rattle.std.proofs.Math.Seq.{drop-append-add}
 use Rattle.std.proofs.lemmas.Bool.{and_from, eq-eqb}
 use Rattle.wm_clwords.specs.Quote.{doubled, quoted}
-use Rattle.wm_job_rows.specs.declared.line.Names.{Names}
-use Rattle.wm_job_rows.specs.declared.line.Queueing.{Queueing}
-use Rattle.wm_job_rows.specs.declared.line.Standing.{Standing}
 use Rattle.wm_job_rows.specs.declared.stored.StoredJob.{StoredJob}
 use Rattle.wm_outside.specs.declared.row.Row.{Row}
 use Rattle.wm_job_rows.specs.JobText.{field, job_row, request_text, name_fields, queue_fields, data_fields, state_fields, job_text}
 use Rattle.wm_job_rows.specs.Reading.{behind, behind_four, names_of, queueing_of, state_of}
-use Rattle.wm_job_rows.specs.Scan.{quoted_of, request_by, request_of, no_request, whole, text_tail, text_data, read_text}
+use Rattle.wm_job_rows.specs.Scan.{quoted_of, request_by, request_of, whole, text_tail, text_data, read_text}
 use Rattle.wm_job_rows.specs.Stored.{IsStored, IsRequest}
 use Rattle.wm_job_rows.proofs.Doubling.{read, quoted_back, behind_quoted}
 use Rattle.wm_job_rows.proofs.FieldsBack.{names, queueing, four_parts, names_back, behind_names, queueing_back, behind_queueing}
@@ -33,7 +30,7 @@ module _ (j : StoredJob) (h : IsStored j) (text : List ℕ) (n : names_of text �
       let e : quoted request ++ 41 ∷ state_fields j ≡ 39 ∷ (doubled request ++ 39 ∷ 41 ∷ state_fields j) = ap (λ l. 39 ∷ l) (append_assoc (doubled request) (39 ∷ []) (41 ∷ state_fields j)) in
       let long : length (doubled request) + 1 + 1 ≡ length (39 ∷ doubled request) + 1 = omega arith in
       let left : drop (length (doubled request) + 1 + 1) (39 ∷ (doubled request ++ 39 ∷ 41 ∷ state_fields j)) ≡ 41 ∷ state_fields j =
-          ap (λ k. drop k (39 ∷ (doubled request ++ 39 ∷ 41 ∷ state_fields j))) long ∙ drop-append-add (39 ∷ doubled request) (39 ∷ 41 ∷ state_fields j) 1 in
+      ap (λ k. drop k (39 ∷ (doubled request ++ 39 ∷ 41 ∷ state_fields j))) long ∙ drop-append-add (39 ∷ doubled request) (39 ∷ 41 ∷ state_fields j) 1 in
       ap (λ l. text_tail text j.rtgdta (request_of l) l) e
       ∙ ap (λ o. text_tail text j.rtgdta (request_by o) (39 ∷ (doubled request ++ 39 ∷ 41 ∷ state_fields j))) (quoted_back request (state_fields j) t)
       ∙ (λ i. whole (n i) (q i) (state_of (left i)) j.rtgdta (Some request))
@@ -43,7 +40,7 @@ module _ (j : StoredJob) (h : IsStored j) (text : List ℕ) (n : names_of text �
   data_back =
       let more = field (codes "RQSDTA") (request_text j.rqsdta) ++ state_fields j in
       let tail : behind 40 (drop (length (doubled j.rtgdta) + 1) (doubled j.rtgdta ++ 39 ∷ 41 ∷ more)) ≡ request_text j.rqsdta ++ 41 ∷ state_fields j =
-          ap (behind 40) (behind_quoted j.rtgdta more) ∙ field_inside (41 ∷ []) (codes "RQSDTA") (request_text j.rqsdta) (state_fields j) refl refl in
+      ap (behind 40) (behind_quoted j.rtgdta more) ∙ field_inside (41 ∷ []) (codes "RQSDTA") (request_text j.rqsdta) (state_fields j) refl refl in
       ap (λ o. text_data text o (doubled j.rtgdta ++ 39 ∷ 41 ∷ more)) (quoted_back j.rtgdta more h.rtgdta)
       ∙ ap (λ l. text_tail text j.rtgdta (request_of l) l) tail
       ∙ tail_back j.rqsdta h.rqsdta
@@ -59,7 +56,7 @@ text_back j h =
     let first = behind_names j last h in
     let second = ap behind_four first ∙ behind_queueing j (data_fields j ++ state) h in
     let inside : behind 39 (behind_four (behind_four text)) ≡ doubled j.rtgdta ++ 39 ∷ 41 ∷ (field (codes "RQSDTA") (request_text j.rqsdta) ++ state) =
-        ap (behind 39) (second ∙ append_assoc (field (codes "RTGDTA") (quoted j.rtgdta)) (field (codes "RQSDTA") (request_text j.rqsdta)) state) ∙ data_begins j.rtgdta (field (codes "RQSDTA") (request_text j.rqsdta) ++ state) in
+    ap (behind 39) (second ∙ append_assoc (field (codes "RTGDTA") (quoted j.rtgdta)) (field (codes "RQSDTA") (request_text j.rqsdta)) state) ∙ data_begins j.rtgdta (field (codes "RQSDTA") (request_text j.rqsdta) ++ state) in
     ap read_text e
     ∙ ap (λ d. text_data text (quoted_of d) d) inside
     ∙ data_back j h text (names_back j last h) (ap queueing_of first ∙ queueing_back j (data_fields j ++ state) h)

@@ -1,9 +1,9 @@
 -- The parts of a text at its first byte of a kind.
-use Rattle.std.proofs.Common.{◌≡◌, ℕ, ◌+◌, ◌<◌, ◌≤◌, ◌++◌, ◌&&◌, not, eqb, Bool, true, false, cond, List, [], ◌∷◌, length, take, drop, take_while, sym, ◌∙◌, ap, refl, arith, append_assoc}
+use Rattle.std.proofs.Common.{◌≡◌, ℕ, ◌+◌, ◌++◌, not, true, false, cond, List, [], ◌∷◌, length, take, drop, take_while, sym, ◌∙◌, ap, refl, arith, append_assoc}
 use Rattle.std.specs.List.{list_all}
 use Rattle.std.proofs.Math.Seq.{take-append_seam, drop-append-add}
 use Rattle.std.proofs.lemmas.Bool.{and_parts, and_from, eq-eqb}
-use Rattle.std.proofs.lemmas.List.{length-append, append-nil, drop_all}
+use Rattle.std.proofs.lemmas.List.{append-nil, drop_all}
 use Rattle.std.proofs.lemmas.List.Folds.{list_all-append}
 use Rattle.std.proofs.lemmas.List.Sums.{take_while-cons}
 use Rattle.wm_job_rows.specs.JobText.{field}

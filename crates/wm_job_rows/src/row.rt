@@ -49,5 +49,9 @@ pub fn read_job(alloc: Global, row: &Row) -> Result<Option<StoredJob>, NoMemory>
         return Ok(None);
     };
     let printed = stored_row(alloc, &job)?;
-    if printed == *row { Ok(Some(job)) } else { Ok(None) }
+    if printed == *row {
+        Ok(Some(job))
+    } else {
+        Ok(None)
+    }
 }

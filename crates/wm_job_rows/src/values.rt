@@ -114,10 +114,7 @@ pub fn jobq_of(text: &[u8]) -> Option<Option<QName>>
     if same(text, b"*NONE") {
         Some(None)
     } else {
-        some_queue(qname_with(
-            name_of(before(b'/', text)),
-            name_of(behind(b'/', text)),
-        ))
+        some_queue(qname_with(name_of(before(b'/', text)), name_of(behind(b'/', text))))
     }
 }
 

@@ -1,8 +1,5 @@
-use Rattle.std.proofs.Common.{◌≡◌, ◌∙◌, sym, ap, Option, Some, None}
-use Rattle.wm_job_rows.specs.declared.stored.StoredJob.{StoredJob}
-use Rattle.wm_job_rows.specs.JobText.{job_row}
+use Rattle.std.proofs.Common.{◌≡◌, ◌∙◌, sym, ap, Some}
 use Rattle.wm_job_rows.specs.Scan.{read_text}
-use Rattle.wm_job_rows.specs.Stored.{IsStored}
 use Rattle.wm_job_rows.proofs.ReadBack.{row_read, row_again, row_found}
 use Rattle.wm_job_rows.proofs.row.read_job.Goals as goal
 
