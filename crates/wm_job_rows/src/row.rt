@@ -1,5 +1,5 @@
 // The row of a job.
-ghost use Rattle.std.specs.Prelude.{◌≡◌, IfOk, IfSome, None};
+ghost use Rattle.std.specs.Prelude.{◌≡◌, IfOk, IfSome, None, Some};
 ghost use Rattle.wm_base.specs.Number.{zero_padded};
 ghost use Rattle.wm_job_rows.specs.Stored.{stored_of, IsStored};
 ghost use Rattle.wm_job_rows.specs.JobText.{job_row};
@@ -44,6 +44,7 @@ pub fn job_row(alloc: Global, job: &Job) -> Result<Row, NoMemory>
 pub fn read_job(alloc: Global, row: &Row) -> Result<Option<StoredJob>, NoMemory>
     ensures value { IfOk result (λ o. IfSome o (λ job. job_row job ≡ row.now)) }
     ensures exactly { IfOk result (λ o. o ≡ None → (job : StoredJob) → IsStored job → job_row job ≡ row.now → ⊥) }
+    ensures one { IfOk result (λ o. (job : StoredJob) → IsStored job → job_row job ≡ row.now → o ≡ Some job) }
 {
     let Some(job) = read_text(alloc, row.body.as_bytes())? else {
         return Ok(None);
