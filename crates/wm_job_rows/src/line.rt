@@ -1,5 +1,6 @@
 // Reading the text of a stored job.
 ghost use Rattle.std.specs.Prelude.{◌≡◌, ◌≤◌, ◌<◌, IfOk, IfSome, length};
+ghost use Rattle.wm_job_rows.specs.Stored.{IsPhase};
 ghost use Rattle.wm_job_rows.specs.Reading.{names_with, names_of, queueing_with, queueing_of, state_with, state_of, behind_four};
 ghost use Rattle.wm_job_rows.specs.Scan.{request_by, request_of, whole, text_tail, text_data, read_text};
 
@@ -109,7 +110,9 @@ fn queueing_of(text: &[u8]) -> Option<Queueing>
 }
 
 fn state_with(held: bool, due: Option<Moment>, phase: Option<StoredPhase>) -> Option<Standing>
-    ensures { result ≡ state_with held due phase }
+    requires { IfSome phase IsPhase }
+    ensures value { result ≡ state_with held due phase }
+    ensures range { IfSome result (λ s. IsPhase s.phase) }
 {
     Some(Standing {
         held,
@@ -120,7 +123,8 @@ fn state_with(held: bool, due: Option<Moment>, phase: Option<StoredPhase>) -> Op
 
 #[tactic(auto, unfolding(crate::specs::Reading::state_of))]
 fn state_of(text: &[u8]) -> Option<Standing>
-    ensures { result ≡ state_of text.now }
+    ensures value { result ≡ state_of text.now }
+    ensures range { IfSome result (λ s. IsPhase s.phase) }
 {
     let second = rest(text);
     let third = rest(second);
@@ -163,7 +167,9 @@ fn whole(
     rtgdta: Text,
     rqsdta: Option<Text>,
 ) -> Option<StoredJob>
-    ensures { result ≡ whole names queueing state rtgdta rqsdta }
+    requires { IfSome state (λ s. IsPhase s.phase) }
+    ensures value { result ≡ whole names queueing state rtgdta rqsdta }
+    ensures range { IfSome result (λ job. IsPhase job.phase) }
 {
     let names = names?;
     let queueing = queueing?;
@@ -193,7 +199,8 @@ fn text_tail(
     tail: &[u8],
 ) -> Option<StoredJob>
     requires { IfSome request (λ r. r.len ≤ length tail.now) }
-    ensures { result ≡ text_tail text.now rtgdta request tail.now }
+    ensures value { result ≡ text_tail text.now rtgdta request tail.now }
+    ensures range { IfSome result (λ job. IsPhase job.phase) }
 {
     let request = request?;
     let state = state_of(without(request.len, tail));
@@ -210,7 +217,8 @@ fn text_data(
     inside: &[u8],
 ) -> Result<Option<StoredJob>, NoMemory>
     requires { IfSome quoted (λ q. q.len ≤ length inside.now) }
-    ensures { IfOk result (λ o. o ≡ text_data text.now quoted inside.now) }
+    ensures value { IfOk result (λ o. o ≡ text_data text.now quoted inside.now) }
+    ensures range { IfOk result (λ o. IfSome o (λ job. IsPhase job.phase)) }
 {
     let Some(quoted) = quoted else {
         return Ok(None);
@@ -223,7 +231,8 @@ fn text_data(
 /// The stored job whose text this would be, by where its values stand.
 #[tactic(auto, unfolding(crate::specs::Scan::read_text))]
 pub fn read_text(alloc: Global, text: &[u8]) -> Result<Option<StoredJob>, NoMemory>
-    ensures { IfOk result (λ o. o ≡ read_text text.now) }
+    ensures value { IfOk result (λ o. o ≡ read_text text.now) }
+    ensures range { IfOk result (λ o. IfSome o (λ job. IsPhase job.phase)) }
 {
     let inside = behind(b'\'', behind_four(behind_four(text)));
     let quoted = quoted_of(alloc, inside)?;

@@ -1,7 +1,7 @@
 // The row of a job.
 ghost use Rattle.std.specs.Prelude.{◌≡◌, IfOk, IfSome, None, Some};
 ghost use Rattle.wm_base.specs.Number.{zero_padded};
-ghost use Rattle.wm_job_rows.specs.Stored.{stored_of, IsStored};
+ghost use Rattle.wm_job_rows.specs.Stored.{stored_of, IsStored, IsPhase};
 ghost use Rattle.wm_job_rows.specs.JobText.{job_row};
 ghost use Rattle.wm_job_rows.specs.declared.stored.StoredJob.{StoredJob};
 
@@ -43,6 +43,7 @@ pub fn job_row(alloc: Global, job: &Job) -> Result<Row, NoMemory>
 /// The stored job whose row this is, or None where the row is no job's. An `Err` is want of memory.
 pub fn read_job(alloc: Global, row: &Row) -> Result<Option<StoredJob>, NoMemory>
     ensures value { IfOk result (λ o. IfSome o (λ job. job_row job ≡ row.now)) }
+    ensures range { IfOk result (λ o. IfSome o (λ job. IsPhase job.phase)) }
     ensures exactly { IfOk result (λ o. o ≡ None → (job : StoredJob) → IsStored job → job_row job ≡ row.now → ⊥) }
     ensures one { IfOk result (λ o. (job : StoredJob) → IsStored job → job_row job ≡ row.now → o ≡ Some job) }
 {

@@ -1,5 +1,6 @@
 // What values say.
 ghost use Rattle.std.specs.Prelude.{◌≡◌, IsTrue, IfSome, codes};
+ghost use Rattle.wm_job_rows.specs.Stored.{IsCause, IsPhase};
 ghost use Rattle.wm_job_rows.specs.Reading.{within, push_digit, number_of, kept, name_of, same, qname_with, some_queue, jobq_of, kind_of, exited, route_full, plain_cause, cause_by, cause_of, phase_by, ended_of, phase_of};
 
 use crate::pieces::{before, behind};
@@ -132,21 +133,25 @@ pub fn kind_of(text: &[u8]) -> JobKind
 }
 
 fn exited(code: Option<u64>) -> Option<EndCause>
-    ensures { result ≡ exited (kept 0 255 code) }
+    ensures value { result ≡ exited (kept 0 255 code) }
+    ensures range { IfSome result IsCause }
 {
     let code = kept(0, 255, code)?;
     Some(EndCause::Exited(code as u8))
 }
 
 fn route_full(seq: Option<u64>) -> Option<EndCause>
-    ensures { result ≡ route_full (kept 1 9999 seq) }
+    ensures value { result ≡ route_full (kept 1 9999 seq) }
+    ensures range { IfSome result IsCause }
 {
     let seq = kept(1, 9999, seq)?;
     Some(EndCause::RouteFull(seq as u32))
 }
 
+#[tactic(auto, using(crate::proofs::Ranges::plain_in_range))]
 fn plain_cause(number: u64) -> Option<EndCause>
-    ensures { result ≡ plain_cause number }
+    ensures value { result ≡ plain_cause number }
+    ensures range { IfSome result IsCause }
 {
     PLAIN
         .iter()
@@ -155,7 +160,8 @@ fn plain_cause(number: u64) -> Option<EndCause>
 }
 
 fn cause_by(number: u64, value: Option<u64>) -> Option<EndCause>
-    ensures { result ≡ cause_by number value }
+    ensures value { result ≡ cause_by number value }
+    ensures range { IfSome result IsCause }
 {
     if number == 2 {
         exited(value)
@@ -167,20 +173,24 @@ fn cause_by(number: u64, value: Option<u64>) -> Option<EndCause>
 }
 
 fn cause_of(number: Option<u64>, value: Option<u64>) -> Option<EndCause>
-    ensures { result ≡ cause_of number value }
+    ensures value { result ≡ cause_of number value }
+    ensures range { IfSome result IsCause }
 {
     cause_by(number?, value)
 }
 
 fn phase_by(cause: Option<EndCause>) -> Option<StoredPhase>
-    ensures { result ≡ phase_by cause }
+    requires { IfSome cause IsCause }
+    ensures value { result ≡ phase_by cause }
+    ensures range { IfSome result IsPhase }
 {
     let cause = cause?;
     Some(StoredPhase::Ended(cause))
 }
 
 fn ended_of(text: &[u8]) -> Option<StoredPhase>
-    ensures { result ≡ ended_of text.now }
+    ensures value { result ≡ ended_of text.now }
+    ensures range { IfSome result IsPhase }
 {
     let number = number_of(before(b' ', text));
     let value = number_of(behind(b' ', text));
@@ -189,7 +199,8 @@ fn ended_of(text: &[u8]) -> Option<StoredPhase>
 
 /// The phase. What has a blank is taken for ENDED with the cause behind it.
 pub fn phase_of(text: &[u8]) -> Option<StoredPhase>
-    ensures { result ≡ phase_of text.now }
+    ensures value { result ≡ phase_of text.now }
+    ensures range { IfSome result IsPhase }
 {
     if same(text, b"WAITING") {
         Some(StoredPhase::Waiting)
