@@ -1,5 +1,5 @@
 -- The causes that have no value keep their ranges.
-use Rattle.std.proofs.Common.{ℕ, Bool, true, false, cond, ◌==◌, Option, Some, None, IfSome, find, List, [], ◌∷◌}
+use Rattle.std.proofs.Common.{ℕ, Bool, true, false, cond, ◌==◌, Option, Some, IfSome, find, List, [], ◌∷◌}
 use Rattle.wm_base.specs.declared.job.EndCause.{EndCause}
 use Rattle.wm_base.specs.EndCause.{end_cause_number}
 use Rattle.wm_job_rows.specs.declared.values.TheConstants.{PLAIN}
