@@ -1,0 +1,4 @@
+pub mod JobText
+pub mod Reading
+pub mod Scan
+pub mod Stored
