@@ -36,7 +36,8 @@ fn is_built(command: &Command) -> bool
 }
 
 /// Whether a command of a user is built: the commands that make objects, those on queue, routing and autostart entries,
-/// STRSBS, and SBMJOB without a schedule. The machine has more than these: the end of power.
+/// STRSBS, SBMJOB, and those on jobs that wait and on queues. `Err` comes exactly where it isn't. The machine has more than
+/// these: the end of power.
 pub fn built(command: &Command) -> Result<(), NotBuilt>
     ensures { IsOk result ↔ IsTrue (is_built command.now) }
 {

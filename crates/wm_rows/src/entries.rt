@@ -1,4 +1,4 @@
-// The rows of a subsystem description's entries. An `Err` is want of memory.
+// The rows of a subsystem description's entries.
 ghost use Rattle.std.specs.Prelude.{◌≡◌, IfOk};
 ghost use Rattle.wm_rows.specs.Rows.{queue_entry_row, route_entry_row, auto_entry_row, pre_entry_row};
 
@@ -12,7 +12,7 @@ use wm_desc::{AutoEntry, PreEntry, QueueEntry, RouteEntry};
 use wm_law::Command;
 use wm_outside::Row;
 
-/// A queue entry's row.
+/// A queue entry's row. An `Err` is want of memory.
 pub fn queue_entry_row(alloc: Global, sbsd: &QName, entry: &QueueEntry) -> Result<Row, NoMemory>
     ensures { IfOk result (λ row. row ≡ queue_entry_row sbsd.now entry.now) }
 {
@@ -22,7 +22,7 @@ pub fn queue_entry_row(alloc: Global, sbsd: &QName, entry: &QueueEntry) -> Resul
     Ok(row)
 }
 
-/// A routing entry's row.
+/// A routing entry's row. An `Err` is want of memory.
 pub fn route_entry_row(alloc: Global, sbsd: &QName, entry: &RouteEntry) -> Result<Row, NoMemory>
     ensures { IfOk result (λ row. row ≡ route_entry_row sbsd.now entry.now) }
 {
@@ -32,7 +32,7 @@ pub fn route_entry_row(alloc: Global, sbsd: &QName, entry: &RouteEntry) -> Resul
     Ok(row)
 }
 
-/// An autostart entry's row.
+/// An autostart entry's row. An `Err` is want of memory.
 pub fn auto_entry_row(alloc: Global, sbsd: &QName, entry: &AutoEntry) -> Result<Row, NoMemory>
     ensures { IfOk result (λ row. row ≡ auto_entry_row sbsd.now entry.now) }
 {
@@ -42,7 +42,7 @@ pub fn auto_entry_row(alloc: Global, sbsd: &QName, entry: &AutoEntry) -> Result<
     Ok(row)
 }
 
-/// A prestart entry's row.
+/// A prestart entry's row. An `Err` is want of memory.
 pub fn pre_entry_row(alloc: Global, sbsd: &QName, entry: &PreEntry) -> Result<Row, NoMemory>
     ensures { IfOk result (λ row. row ≡ pre_entry_row sbsd.now entry.now) }
 {

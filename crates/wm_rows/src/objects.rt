@@ -1,4 +1,4 @@
-// The rows of objects. An `Err` is want of memory.
+// The rows of objects.
 ghost use Rattle.std.specs.Prelude.{◌≡◌, IfOk};
 ghost use Rattle.wm_rows.specs.Rows.{class_row, program_row, queue_row, jobd_row, sbsd_row};
 
@@ -12,7 +12,7 @@ use wm_desc::{Jobd, Jobq, Program, Sbsd};
 use wm_law::Command;
 use wm_outside::Row;
 
-/// A class's row.
+/// A class's row. An `Err` is want of memory.
 pub fn class_row(alloc: Global, name: &QName, cls: &Class) -> Result<Row, NoMemory>
     ensures { IfOk result (λ row. row ≡ class_row (name.now, cls.now)) }
 {
@@ -22,7 +22,7 @@ pub fn class_row(alloc: Global, name: &QName, cls: &Class) -> Result<Row, NoMemo
     Ok(row)
 }
 
-/// A program's row.
+/// A program's row. An `Err` is want of memory.
 pub fn program_row(alloc: Global, name: &QName, program: &Program) -> Result<Row, NoMemory>
     ensures { IfOk result (λ row. row ≡ program_row (name.now, program.now)) }
 {
@@ -32,7 +32,7 @@ pub fn program_row(alloc: Global, name: &QName, program: &Program) -> Result<Row
     Ok(row)
 }
 
-/// A job queue's row.
+/// A job queue's row. An `Err` is want of memory.
 pub fn queue_row(alloc: Global, name: &QName, jobq: &Jobq) -> Result<Row, NoMemory>
     ensures { IfOk result (λ row. row ≡ queue_row (name.now, jobq.now)) }
 {
@@ -42,7 +42,7 @@ pub fn queue_row(alloc: Global, name: &QName, jobq: &Jobq) -> Result<Row, NoMemo
     Ok(row)
 }
 
-/// A job description's row.
+/// A job description's row. An `Err` is want of memory.
 pub fn jobd_row(alloc: Global, name: &QName, jobd: &Jobd) -> Result<Row, NoMemory>
     ensures { IfOk result (λ row. row ≡ jobd_row (name.now, jobd.now)) }
 {
@@ -52,7 +52,7 @@ pub fn jobd_row(alloc: Global, name: &QName, jobd: &Jobd) -> Result<Row, NoMemor
     Ok(row)
 }
 
-/// A subsystem description's row. Its entries have rows of their own.
+/// A subsystem description's row. Its entries have rows of their own. An `Err` is want of memory.
 pub fn sbsd_row(alloc: Global, name: &QName, sbsd: &Sbsd) -> Result<Row, NoMemory>
     ensures { IfOk result (λ row. row ≡ sbsd_row (name.now, sbsd.now)) }
 {

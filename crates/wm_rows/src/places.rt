@@ -31,7 +31,7 @@ fn push_name(out: &mut Text, name: &Name) -> Result<(), NoMemory>
     Ok(())
 }
 
-/// An object's place.
+/// An object's place. An `Err` is want of memory.
 pub fn object_place(alloc: Global, tab: u8, name: &QName) -> Result<Place, NoMemory>
     ensures { IfOk result (λ place. place ≡ object_place tab name.now) }
 {
@@ -40,7 +40,7 @@ pub fn object_place(alloc: Global, tab: u8, name: &QName) -> Result<Place, NoMem
     Ok(Place { tab, key })
 }
 
-/// The place of an entry with a sequence number.
+/// The place of an entry with a sequence number. An `Err` is want of memory.
 pub fn numbered_place(alloc: Global, tab: u8, sbsd: &QName, seq: u32) -> Result<Place, NoMemory>
     ensures { IfOk result (λ place. place ≡ numbered_place tab sbsd.now seq) }
 {
@@ -51,7 +51,7 @@ pub fn numbered_place(alloc: Global, tab: u8, sbsd: &QName, seq: u32) -> Result<
     Ok(Place { tab, key })
 }
 
-/// The place of an autostart entry.
+/// The place of an autostart entry. An `Err` is want of memory.
 pub fn auto_place(alloc: Global, sbsd: &QName, job: &Name) -> Result<Place, NoMemory>
     ensures { IfOk result (λ place. place ≡ entry_place 8 sbsd.now job.now) }
 {
@@ -65,7 +65,7 @@ pub fn auto_place(alloc: Global, sbsd: &QName, job: &Name) -> Result<Place, NoMe
     })
 }
 
-/// The place of a prestart entry.
+/// The place of a prestart entry. An `Err` is want of memory.
 pub fn pre_place(alloc: Global, sbsd: &QName, pgm: &QName) -> Result<Place, NoMemory>
     ensures { IfOk result (λ place. place ≡ entry_place 9 sbsd.now (qname_text pgm.now)) }
 {
