@@ -1,5 +1,5 @@
 -- What is found at a node of sorted pairs, and what is left without it, by how its key stands to the one that is sought.
-use Rattle.std.proofs.Common.{◌≡◌, Bool, true, false, not, List, ◌∷◌, ◌++◌, All, Some, option_map, refl, ap, sym, ◌∙◌, subst}
+use Rattle.std.proofs.Common.{◌≡◌, Bool, true, false, not, List, ◌∷◌, ◌++◌, All, Some, option_map, is_some, refl, ap, sym, ◌∙◌, subst}
 use Rattle.std.specs.declared.cmp.Ordering.{Ordering}
 use Rattle.std.specs.declared.cmp.Ordering.TheVariants.{Less, Equal, Greater}
 use Rattle.std.specs.Cmp.{IsTotalOrder}
@@ -7,10 +7,10 @@ use Rattle.std.specs.Option.{option_or}
 use Rattle.std.specs.Ordering.{is_lt, is_eq, ordering_reverse}
 use Rattle.std.proofs.lemmas.Bool.{false≢true}
 use Rattle.std.proofs.lemmas.Cmp.{alike_right}
-use Rattle.wm_desc.specs.Sorted.{IsSortedOnce, removed}
-use Rattle.wm_ordered.specs.Ordered.{key_of, value_at, first_from}
+use Rattle.wm_desc.specs.Sorted.{IsSortedOnce, has_key, removed}
+use Rattle.wm_ordered.specs.Ordered.{key_of, value_at, with_value, first_from}
 use Rattle.wm_ordered.proofs.Sides.{Sides, sides}
-use Rattle.wm_ordered.proofs.Tested.{find-right, find-left, find-here, find-left_or, filter-right, filter-left, filter-here}
+use Rattle.wm_ordered.proofs.Tested.{find-right, find-left, find-here, find-left_or, filter-right, filter-left, filter-here, map-right, map-left, map-here, list_any-part}
 
 pub is_lt-Less : (c : Ordering) → is_lt c ≡ true → c ≡ Less
 is_lt-Less Less h = refl
@@ -63,6 +63,28 @@ module _ {K V : Type 0} (cmp : K → K → Ordering) (o : IsTotalOrder cmp) (k :
 
     pub value-left : cmp e.0 k ≡ Greater → value_at eq k d ≡ value_at eq k l
     value-left h = ap (λ xs. value_at eq k xs) is ∙ ap (option_map (λ pair. pair.1)) (find-left (λ x. eq x.0 k) l e r (as_tested Greater h) (apart r Greater refl (right_of_greater h)))
+
+    tested : (xs : List (K × V)) → has_key key_of eq k xs ≡ is_some (value_at eq k xs)
+    tested xs = list_any-part (λ pair. eq pair.0 k) (λ pair. pair.1) xs
+
+    pub has-right : cmp e.0 k ≡ Less → has_key key_of eq k d ≡ has_key key_of eq k r
+    has-right h = tested d ∙ (ap is_some (value-right h) ∙ sym (tested r))
+
+    pub has-here : cmp e.0 k ≡ Equal → has_key key_of eq k d ≡ true
+    has-here h = tested d ∙ ap is_some (value-here h)
+
+    pub has-left : cmp e.0 k ≡ Greater → has_key key_of eq k d ≡ has_key key_of eq k l
+    has-left h = tested d ∙ (ap is_some (value-left h) ∙ sym (tested l))
+
+    module _ (v : V) where
+      pub set-right : cmp e.0 k ≡ Less → with_value eq k v d ≡ l ++ e ∷ with_value eq k v r
+      set-right h = ap (λ xs. with_value eq k v xs) is ∙ map-right (λ x. eq x.0 k) (λ x. (x.0, v)) l e r (apart l Less refl (left_of_less h)) (as_tested Less h)
+
+      pub set-here : cmp e.0 k ≡ Equal → with_value eq k v d ≡ l ++ (e.0, v) ∷ r
+      set-here h = ap (λ xs. with_value eq k v xs) is ∙ map-here (λ x. eq x.0 k) (λ x. (x.0, v)) l e r (apart l Less refl (left_of_equal h)) (as_tested Equal h) (apart r Greater refl (right_of_equal h))
+
+      pub set-left : cmp e.0 k ≡ Greater → with_value eq k v d ≡ with_value eq k v l ++ e ∷ r
+      set-left h = ap (λ xs. with_value eq k v xs) is ∙ map-left (λ x. eq x.0 k) (λ x. (x.0, v)) l e r (as_tested Greater h) (apart r Greater refl (right_of_greater h))
 
     pub removed-right : cmp e.0 k ≡ Less → removed key_of eq k d ≡ l ++ e ∷ removed key_of eq k r
     removed-right h = ap (λ xs. removed key_of eq k xs) is ∙ filter-right (λ x. eq x.0 k) l e r (apart l Less refl (left_of_less h)) (as_tested Less h)

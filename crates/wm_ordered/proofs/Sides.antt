@@ -1,6 +1,6 @@
 -- The two sides of an element in a list whose pairs all meet a relation.
-use Rattle.std.proofs.Common.{◌≡◌, ℕ, zero, suc, ◌+◌, ◌<◌, Bool, true, false, cond, List, [], ◌∷◌, ◌++◌, length, get_or, All, AllPairs, filter, subst, arith, length-append, get_or-append-add}
-use Rattle.std.proofs.lemmas.List.{get_or_append_left}
+use Rattle.std.proofs.Common.{◌≡◌, ℕ, zero, suc, ◌+◌, ◌<◌, Bool, true, false, cond, List, [], ◌∷◌, ◌++◌, length, get_or, All, AllPairs, map, filter, ap, sym, refl, ◌∙◌, subst, arith, length-append, get_or-append-add}
+use Rattle.std.proofs.lemmas.List.{get_or_append_left, get_or-map, length-map}
 use Rattle.std.proofs.lemmas.List.Elements.{All-filter}
 use lib.Seq.{get_or-append_seam}
 
@@ -58,3 +58,21 @@ module _ {X : Type 0} (R : X → X → Type 0) where
   all_pairs_filter p [] all = all
   all_pairs_filter p (x ∷ xs) all =
       kept (p x) x (filter p xs) (All-filter p (λ y. R x y) xs (above-head x xs all)) (all_pairs_filter p xs (pairs-tail x xs all))
+
+-- what a relation of keys holds of, it holds of with other values at these keys
+module _ {K V : Type 0} (R : K → K → Type 0) (f : K × V → K × V) (same : (x : K × V) → (f x).0 ≡ x.0) where
+  all_pairs_map : (xs : List (K × V)) → AllPairs (λ x y. R x.0 y.0) xs → AllPairs (λ x y. R x.0 y.0) (map f xs)
+  all_pairs_map xs all i j d lt b =
+      let n = length-map xs f in
+      subst (λ k. R k (get_or (map f xs) j d).0) (sym (key_at i (omega arith))) (subst (λ k. R (get_or xs i d).0 k) (sym (key_at j (omega arith))) (all i j d lt (omega arith)))
+    where
+      key_at : (k : ℕ) → k < length xs → (get_or (map f xs) k d).0 ≡ (get_or xs k d).0
+      key_at k below = ap (λ x. x.0) (get_or-map f xs k d d below) ∙ same (get_or xs k d)
+
+own_key : {K V : Type 0} (b : Bool) (x : K × V) (v : V) → (cond b (x.0, v) x).0 ≡ x.0
+own_key true x v = refl
+own_key false x v = refl
+
+-- another value at a key leaves the order as it was
+pub all_pairs_with_value : {K V : Type 0} (R : K → K → Type 0) (p : K → Bool) (v : V) (xs : List (K × V)) → AllPairs (λ x y. R x.0 y.0) xs → AllPairs (λ x y. R x.0 y.0) (map (λ x. cond (p x.0) (x.0, v) x) xs)
+all_pairs_with_value R p v xs all = all_pairs_map R (λ x. cond (p x.0) (x.0, v) x) (λ x. own_key (p x.0) x v) xs all

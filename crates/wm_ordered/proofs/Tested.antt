@@ -1,5 +1,5 @@
 -- What a test finds and leaves out of a list, where it is known on both sides of an element.
-use Rattle.std.proofs.Common.{◌≡◌, Bool, true, false, not, cond, List, [], ◌∷◌, ◌++◌, All, filter, find, Option, Some, None, option_map, is_some, slice_get, refl, ap, ◌∙◌, arith}
+use Rattle.std.proofs.Common.{◌≡◌, Bool, true, false, not, cond, List, [], ◌∷◌, ◌++◌, All, map, filter, find, Option, Some, None, option_map, is_some, slice_get, refl, ap, ◌∙◌, arith}
 use Rattle.std.specs.List.{list_any}
 use Rattle.std.specs.Option.{option_or}
 use Rattle.std.proofs.lemmas.Bool.{or_parts}
@@ -52,6 +52,24 @@ module _ {X : Type 0} (p : X → Bool) where
   pub filter-here : (l : List X) (e : X) (r : List X) → All (λ x. p x ≡ false) l → p e ≡ true → All (λ x. p x ≡ false) r → filter (λ x. not (p x)) (l ++ e ∷ r) ≡ l ++ r
   filter-here [] e r low here high = rw here (all_kept r high)
   filter-here (x ∷ l) e r low here high = rw (All-head Fails x l low) (ap (λ ys. x ∷ ys) (filter-here l e r (All-tail Fails x l low) here high))
+
+  -- one element changes, and the others stay
+  module _ (g : X → X) where
+    all_same : (xs : List X) → All (λ x. p x ≡ false) xs → map (λ x. cond (p x) (g x) x) xs ≡ xs
+    all_same [] none = refl
+    all_same (x ∷ xs) none = rw (All-head Fails x xs none) (ap (λ ys. x ∷ ys) (all_same xs (All-tail Fails x xs none)))
+
+    pub map-right : (l : List X) (e : X) (r : List X) → All (λ x. p x ≡ false) l → p e ≡ false → map (λ x. cond (p x) (g x) x) (l ++ e ∷ r) ≡ l ++ e ∷ map (λ x. cond (p x) (g x) x) r
+    map-right [] e r none here = rw here refl
+    map-right (x ∷ l) e r none here = rw (All-head Fails x l none) (ap (λ ys. x ∷ ys) (map-right l e r (All-tail Fails x l none) here))
+
+    pub map-left : (l : List X) (e : X) (r : List X) → p e ≡ false → All (λ x. p x ≡ false) r → map (λ x. cond (p x) (g x) x) (l ++ e ∷ r) ≡ map (λ x. cond (p x) (g x) x) l ++ e ∷ r
+    map-left [] e r here none = rw here (ap (λ ys. e ∷ ys) (all_same r none))
+    map-left (x ∷ l) e r here none = ap (λ ys. cond (p x) (g x) x ∷ ys) (map-left l e r here none)
+
+    pub map-here : (l : List X) (e : X) (r : List X) → All (λ x. p x ≡ false) l → p e ≡ true → All (λ x. p x ≡ false) r → map (λ x. cond (p x) (g x) x) (l ++ e ∷ r) ≡ l ++ g e ∷ r
+    map-here [] e r low here high = rw here (ap (λ ys. g e ∷ ys) (all_same r high))
+    map-here (x ∷ l) e r low here high = rw (All-head Fails x l low) (ap (λ ys. x ∷ ys) (map-here l e r (All-tail Fails x l low) here high))
 
 some_part : {X Y : Type 0} (f : X → Y) (found : Option X) → is_some found ≡ is_some (option_map f found)
 some_part f None = refl

@@ -1,12 +1,11 @@
 // The map.
-use crate::edit::{fork, merge, split, take_out};
+use crate::edit::{put_in, set_value, take_out};
 use crate::find::{least, least_from, value_of};
 use crate::spare::empty_nodes;
 use crate::tree::{Node, Tree};
 use crate::weight::mixed;
 use std::alloc::{AllocError, Global};
 use std::marker::Model;
-use std::mem;
 use wm_base::NoMemory;
 
 /// Pairs in ascending order of their keys, each key once. `spare` is for how many more pairs there is room.
@@ -36,7 +35,7 @@ impl<K: Ord + Copy, V: Copy> Model for Ordered<K, V> {
 impl<K: Ord + Copy, V: Copy> Ordered<K, V> {
     ghost use Rattle.std.specs.Prelude.{◌≡◌, ◌+◌, ◌≤◌, [], length, false, is_some, slice_get, OnOk, OnErr, if◌then◌else◌};
     ghost use Rattle.wm_desc.specs.Sorted.{IsSortedOnce, has_key, added, removed};
-    ghost use Rattle.wm_ordered.specs.Ordered.{key_of, value_at, first_from};
+    ghost use Rattle.wm_ordered.specs.Ordered.{key_of, value_at, with_value, first_from};
 
     /// The map without a pair.
     pub fn new(alloc: Global) -> Ordered<K, V>
@@ -88,16 +87,7 @@ impl<K: Ord + Copy, V: Copy> Ordered<K, V> {
             unreachable!()
         };
         self.made = self.made.wrapping_add(1);
-        let alone = fork(
-            place,
-            (key, value),
-            mixed(self.made),
-            Tree::Leaf,
-            Tree::Leaf,
-        );
-        let tree = mem::replace(&mut self.tree, Tree::Leaf);
-        let (low, high) = split(tree, &key);
-        self.tree = merge(merge(low, alone), high);
+        put_in(&mut self.tree, place, (key, value), mixed(self.made));
         self.len += 1;
     }
 
@@ -107,10 +97,7 @@ impl<K: Ord + Copy, V: Copy> Ordered<K, V> {
         ensures items { self.new.items ≡ removed key_of K.eq key.now self.old.items }
         ensures spare { self.new.spare ≡ self.old.spare + (if is_some result then 1 else 0) }
     {
-        let tree = mem::replace(&mut self.tree, Tree::Leaf);
-        let (tree, found) = take_out(tree, key);
-        self.tree = tree;
-        match found {
+        match take_out(&mut self.tree, key) {
             None => None,
             Some((value, place)) => {
                 self.spare.push_reserved(place);
@@ -118,6 +105,15 @@ impl<K: Ord + Copy, V: Copy> Ordered<K, V> {
                 Some(value)
             }
         }
+    }
+
+    /// Gives a key that is there another value, and answers whether it is there. It takes no memory.
+    pub fn set(&mut self, key: &K, value: V) -> bool
+        ensures there { result ≡ has_key key_of K.eq key.now self.old.items }
+        ensures items { self.new.items ≡ with_value K.eq key.now value self.old.items }
+        ensures spare { self.new.spare ≡ self.old.spare }
+    {
+        set_value(&mut self.tree, key, value)
     }
 
     /// The value of a key.

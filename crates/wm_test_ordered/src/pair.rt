@@ -30,6 +30,16 @@ impl MapPair {
         Ok(())
     }
 
+    /// Gives a key another value, where it is there.
+    pub fn set(&mut self, key: u32, value: u64) -> Result<()> {
+        let is_set = self.ours.set(&key, value);
+        ensure!(is_set == self.other.contains_key(&key), "set {key}");
+        if is_set {
+            self.other.insert(key, value)?;
+        }
+        Ok(())
+    }
+
     /// Takes out a key that may not be there.
     pub fn take(&mut self, key: u32) -> Result<()> {
         let ours = self.ours.remove(&key);

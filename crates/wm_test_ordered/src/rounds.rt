@@ -21,6 +21,12 @@ pub fn few_calls(alloc: Global) -> Result<()> {
             maps.compare(other)?;
         }
     }
+    for key in [4, 5, 9, 5] {
+        maps.set(key, u64::from(key) + 100)?;
+        for other in 0..11 {
+            maps.compare(other)?;
+        }
+    }
     for key in [3, 5, 2, 5, 9] {
         maps.take(key)?;
         for other in 0..11 {
@@ -48,13 +54,14 @@ pub fn scrambled(alloc: Global) -> Result<usize> {
     Ok(pairs)
 }
 
-/// Put in in order, every third key, and taken out by a scrambled order.
+/// Put in in order, every third key, with some set on the way, and taken out by a scrambled order.
 pub fn rising(alloc: Global) -> Result<usize> {
     let mut maps = MapPair::new(alloc);
     for key in 0..KEYS {
         if key % 3 == 0 {
             maps.put(key, u64::from(key))?;
         }
+        maps.set(scrambled_key(key), u64::from(key))?;
         maps.compare(scrambled_key(key))?;
     }
     let pairs = maps.len();
