@@ -5,5 +5,6 @@ pub mod IndexLemmas
 pub mod Lines
 pub mod Marks
 pub mod Members
+pub mod Moves
 pub mod Orders
 pub mod Rows

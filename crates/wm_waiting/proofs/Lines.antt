@@ -1,5 +1,5 @@
 -- The first of the jobs on a queue stands at the first spot from the begin of the queue on.
-use Rattle.std.proofs.Common.{◌≡◌, ◌⊎◌, ℕ, ◌≤◌, Bool, true, false, not, ◌&&◌, ◌||◌, ◌==◌, nat_lt, cond, List, [], ◌∷◌, Option, Some, None, fold, inl, inr, refl, ap, sym, ◌∙◌, subst, arith, Contains}
+use Rattle.std.proofs.Common.{◌≡◌, ◌⊎◌, ℕ, ◌≤◌, Bool, true, false, not, ◌&&◌, ◌||◌, ◌==◌, nat_lt, cond, List, [], ◌∷◌, Option, Some, None, fold, inl, inr, refl, ap, sym, ◌∙◌, subst, arith, Contains, nat_eq}
 use Rattle.std.specs.List.{filter}
 use Rattle.std.specs.declared.cmp.Ordering.TheVariants.{Less, Equal}
 use Rattle.std.specs.Ordering.{is_lt, is_eq, nat_cmp, ordering_then}
@@ -8,8 +8,8 @@ use Rattle.std.proofs.lemmas.Bool.{cases_Bool, not-true, not_from_false}
 use Rattle.std.proofs.lemmas.Bool.Decides.{nat_tests}
 use Rattle.std.proofs.lemmas.Cmp.{alike_right}
 use Rattle.wm_base.specs.declared.qname.QName.{QName}
-use Rattle.wm_desc.specs.Sorted.{IsSortedOnce}
-use Rattle.wm_desc.specs.Table.{qname_cmp}
+use Rattle.wm_desc.specs.Sorted.{IsSortedOnce, with_key}
+use Rattle.wm_desc.specs.Table.{same_qname, qname_cmp}
 use Rattle.wm_desc.proofs.Tables.{qname_total, qname_ties}
 use Rattle.wm_ordered.specs.Ordered.{key_of, first_from}
 use Rattle.wm_waiting.specs.declared.waiter.Waiter.{Waiter}
@@ -17,7 +17,8 @@ use Rattle.wm_waiting.specs.declared.keys.Spot.{Spot}
 use Rattle.wm_waiting.specs.Keys.{spot_of}
 use Rattle.wm_waiting.specs.Index.{IsIndex}
 use Rattle.wm_waiting.specs.Orders.{spot_cmp}
-use Rattle.wm_waiting.specs.Waiting.{HavePriorities, is_on, is_before, earlier, first_on}
+use Rattle.wm_waiting.specs.Waiting.{serial_of, HavePlaces, HavePriorities, is_on, is_before, earlier, first_on}
+use Rattle.wm_waiting.proofs.Marks.{found-there}
 use Rattle.wm_waiting.proofs.Members.{Contains-head, Contains-cons, Contains-nil, Contains-cases, Contains-filter, Contains-from_filter, filter-empty, find-Some, find-None, find-before}
 use Rattle.wm_waiting.proofs.Orders.{begin_of, between, is_eq-Equal, spot_cmp-fields, then_Less}
 
@@ -134,11 +135,11 @@ spot-precedes queue r w on_r on_w less =
     let rest : ordering_then (nat_cmp r.pty w.pty) (nat_cmp r.place w.place) ≡ Less = then_Less _ _ (sym (spot_cmp-fields (spot_of r) (spot_of w)) ∙ less) (same ∙ same-queue queue r on_r) in
     (lesser-before r.pty w.pty r.place w.place rest, greater-not r.pty w.pty r.place w.place rest)
 
-module _ (queue : QName) (items : List Waiter) (rows : List (Spot × Waiter)) (priorities : HavePriorities items) (index : IsIndex spot_of (λ w. true) items rows) (sorted : IsSortedOnce key_of spot_cmp rows) where
-  abbrev from : Spot × Waiter → Bool
+module _ (queue : QName) (items : List Waiter) (rows : List (Spot × ℕ)) (priorities : HavePriorities items) (index : IsIndex spot_of serial_of (λ w. true) items rows) (sorted : IsSortedOnce key_of spot_cmp rows) where
+  abbrev from : Spot × ℕ → Bool
   from e = not (is_lt (spot_cmp e.0 (begin_of queue 1)))
 
-  row-from : (v : Waiter) → Contains items v → is_on queue v ≡ true → from (spot_of v, v) ≡ true
+  row-from : (v : Waiter) → Contains items v → is_on queue v ≡ true → from (spot_of v, v.serial) ≡ true
   row-from v there on = not_from_false _ (from_begin queue v on (priorities v there).0)
 
   none-on : ((v : Waiter) → Contains items v → is_on queue v ≡ false) → first_on queue items ≡ None
@@ -147,36 +148,49 @@ module _ (queue : QName) (items : List Waiter) (rows : List (Spot × Waiter)) (p
   pub first-absent : first_from spot_cmp (begin_of queue 1) rows ≡ None → first_on queue items ≡ None
   first-absent none =
       none-on (λ v there. elim (cases_Bool (is_on queue v)) [
-        | inl on ↦ absurd (false≢true (sym (find-None from rows (spot_of v, v) none (index.whole v there refl)) ∙ row-from v there on))
+        | inl on ↦ absurd (false≢true (sym (find-None from rows (spot_of v, v.serial) none (index.whole v there refl)) ∙ row-from v there on))
         | inr e ↦ e
       ])
 
-  module _ (r : Spot × Waiter) (found : first_from spot_cmp (begin_of queue 1) rows ≡ Some r) where
-    low : is_lt (spot_cmp (spot_of r.1) (begin_of queue 1)) ≡ false
-    low = let there = find-Some from rows r found in
-        subst (λ k. is_lt (spot_cmp k (begin_of queue 1)) ≡ false) (index.sound r there.0).0 (not-true _ there.1)
+  -- the row that was found is that of r
+  module _ (places : HavePlaces items) (r : Waiter) (item : Contains items r) (found : first_from spot_cmp (begin_of queue 1) rows ≡ Some (spot_of r, r.serial)) where
+    low : is_lt (spot_cmp (spot_of r) (begin_of queue 1)) ≡ false
+    low = not-true _ (find-Some from rows (spot_of r, r.serial) found).1
 
     -- what is on the queue is what was found, or stands behind it
-    behind : (v : Waiter) → Contains items v → is_on queue v ≡ true → (v ≡ r.1) ⊎ (spot_cmp (spot_of r.1) (spot_of v) ≡ Less)
+    behind : (v : Waiter) → Contains items v → is_on queue v ≡ true → (v ≡ r) ⊎ (spot_cmp (spot_of r) (spot_of v) ≡ Less)
     behind v there on =
-        elim (find-before (λ (a b : Spot × Waiter). spot_cmp a.0 b.0 ≡ Less) from rows r (spot_of v, v) sorted found (index.whole v there refl) (row-from v there on)) [
-          | inl e ↦ inl (ap (λ (q : Spot × Waiter). q.1) e)
-          | inr lt ↦ inr (subst (λ k. spot_cmp k (spot_of v) ≡ Less) (index.sound r (find-Some from rows r found).0).0 lt)
+        elim (find-before (λ (a b : Spot × ℕ). spot_cmp a.0 b.0 ≡ Less) from rows (spot_of r, r.serial) (spot_of v, v.serial) sorted found (index.whole v there refl) (row-from v there on)) [
+          | inl e ↦ inl (places v r there item (ap (λ (q : Spot × ℕ). q.0.place) e))
+          | inr lt ↦ inr lt
         ]
 
-    pub first-elsewhere : is_on queue r.1 ≡ false → first_on queue items ≡ None
+    first-elsewhere : is_on queue r ≡ false → first_on queue items ≡ None
     first-elsewhere other =
         none-on (λ v there. elim (cases_Bool (is_on queue v)) [
           | inl on ↦ elim (behind v there on) [
             | inl e ↦ absurd (false≢true (sym other ∙ (ap (is_on queue) (sym e) ∙ on)))
-            | inr lt ↦ absurd (false≢true (sym other ∙ on-between queue r.1 v on low lt))
+            | inr lt ↦ absurd (false≢true (sym other ∙ on-between queue r v on low lt))
           ]
           | inr e ↦ e
         ])
 
-    pub first-here : is_on queue r.1 ≡ true → first_on queue items ≡ Some r.1
+    first-here : is_on queue r ≡ true → first_on queue items ≡ Some r
     first-here on =
-        let s = index.sound r (find-Some from rows r found).0 in
-        fold-earlier (filter (is_on queue) items) None r.1 (Contains-filter (is_on queue) items r.1 s.2 on) (λ v h.
+        fold-earlier (filter (is_on queue) items) None r (Contains-filter (is_on queue) items r item on) (λ v h.
         let parts = Contains-from_filter (is_on queue) items v h in
-        elim (behind v parts.0 parts.1) [ inl e ↦ inl e | inr lt ↦ inr (spot-precedes queue r.1 v on parts.1 lt) ]) tt
+        elim (behind v parts.0 parts.1) [ inl e ↦ inl e | inr lt ↦ inr (spot-precedes queue r v on parts.1 lt) ]) tt
+
+  module _ (places : HavePlaces items) (serials : IsSortedOnce serial_of nat_cmp items) (q : Spot × ℕ) (found : first_from spot_cmp (begin_of queue 1) rows ≡ Some q) where
+    -- what was found is on another queue
+    pub first-other : same_qname q.0.jobq queue ≡ false → first_on queue items ≡ None
+    first-other other =
+        let s = index.sound q (find-Some from rows q found).0 in
+        first-elsewhere places s.0 s.3 (found ∙ ap Some s.1) (ap (λ (p : Spot × ℕ). same_qname p.0.jobq queue) (sym s.1) ∙ other)
+
+    -- what was found is the first
+    pub first-found : same_qname q.0.jobq queue ≡ true → first_on queue items ≡ with_key serial_of nat_eq q.1 items
+    first-found on =
+        let s = index.sound q (find-Some from rows q found).0 in
+        first-here places s.0 s.3 (found ∙ ap Some s.1) (ap (λ (p : Spot × ℕ). same_qname p.0.jobq queue) (sym s.1) ∙ on)
+        ∙ (sym (found-there items serials s.0 s.3) ∙ ap (λ (p : Spot × ℕ). with_key serial_of nat_eq p.1 items) (sym s.1))

@@ -1,5 +1,5 @@
 -- A waiter that goes out while another of its serial comes in is replaced in its place; so it is marked.
-use Rattle.std.proofs.Common.{◌≡◌, ℕ, suc, ◌+◌, Bool, true, false, not, ◌==◌, cond, List, [], ◌∷◌, Some, None, inl, inr, refl, ap, sym, ◌∙◌, arith, Contains, nat_eq, eq-eqb}
+use Rattle.std.proofs.Common.{◌≡◌, ◌⊎◌, ℕ, suc, ◌+◌, Bool, true, false, not, ◌==◌, cond, List, [], ◌∷◌, Option, Some, None, inl, inr, refl, ap, sym, ◌∙◌, subst, arith, Contains, nat_eq, eq-eqb}
 use Rattle.std.specs.List.{insert, count_by, AllPairs}
 use Rattle.std.specs.declared.cmp.Ordering.TheVariants.{Less}
 use Rattle.std.specs.Ordering.{nat_cmp, is_lt}
@@ -9,7 +9,7 @@ use Rattle.std.proofs.lemmas.List.Sums.{sum_by-cons}
 use Rattle.wm_desc.specs.Sorted.{IsSortedOnce, with_key, has_key, place_of, added, removed}
 use Rattle.wm_waiting.specs.declared.waiter.Waiter.{Waiter}
 use Rattle.wm_waiting.specs.Waiting.{serial_of, has_place, HavePlaces, HasOwnPlace, with_held, marked, replaced}
-use Rattle.wm_waiting.proofs.Members.{Contains-head, Contains-cons, Contains-from_filter, find-Some, find-None, find-before, filter-whole, list_any-none, AllPairs-head, AllPairs-tail}
+use Rattle.wm_waiting.proofs.Members.{Contains-head, Contains-cons, Contains-mapped, Contains-from_mapped, Contains-from_filter, find-Some, find-None, find-before, filter-whole, list_any-none, AllPairs-head, AllPairs-tail}
 use Rattle.wm_waiting.proofs.Orders.{eqb-same}
 
 count_by-none : {X : Type 0} (p : X → Bool) (xs : List X) → ((y : X) → Contains xs y → p y ≡ false) → count_by p xs ≡ 0
@@ -49,11 +49,40 @@ module _ (serial : ℕ) (w : Waiter) (items : List Waiter) (sorted : IsSortedOnc
         | inr lt ↦ absurd (not_less w.serial v.serial (eqb-same w.serial serial named ∙ sym (eqb-same v.serial serial e)) lt)
       ]
 
+-- one that is there is found by its serial
+pub found-there : (items : List Waiter) → IsSortedOnce serial_of nat_cmp items → (w : Waiter) → Contains items w → with_key serial_of nat_eq w.serial items ≡ Some w
+found-there items sorted w there = as_found (with_key serial_of nat_eq w.serial items) refl
+  where
+    as_found : (o : Option Waiter) → with_key serial_of nat_eq w.serial items ≡ o → with_key serial_of nat_eq w.serial items ≡ Some w
+    as_found None e = absurd (false≢true (sym (find-None (λ (v : Waiter). nat_eq v.serial w.serial) items w e there) ∙ eq-eqb w.serial w.serial refl))
+    as_found (Some v) e = e ∙ ap Some (sym (alone w.serial v items sorted e w there (eq-eqb w.serial w.serial refl)))
+
+-- no two have one serial
+pub one_serial : (items : List Waiter) → IsSortedOnce serial_of nat_cmp items → (v w : Waiter) → Contains items v → Contains items w → v.serial ≡ w.serial → v ≡ w
+one_serial items sorted v w v_there w_there same = alone w.serial w items sorted (found-there items sorted w w_there) v v_there (eq-eqb v.serial w.serial same)
+
 module _ (new : Waiter) where
   -- none has the serial
   replaced-none : (items : List Waiter) → ((v : Waiter) → Contains items v → nat_eq v.serial new.serial ≡ false) → replaced new items ≡ items
   replaced-none [] none = refl
   replaced-none (x ∷ xs) none = rw (none x (Contains-head x xs)) (ap (λ l. x ∷ l) (replaced-none xs (λ v h. none v (Contains-cons x v xs h))))
+
+  -- what stands among the items afterwards
+  pub Contains-replaced_new : (items : List Waiter) (old : Waiter) → Contains items old → nat_eq old.serial new.serial ≡ true → Contains (replaced new items) new
+  Contains-replaced_new items old there named =
+      subst (λ (v : Waiter). Contains (replaced new items) v) (ap (λ b. cond b new old) named) (Contains-mapped (λ (v : Waiter). cond (nat_eq v.serial new.serial) new v) items old there)
+
+  pub Contains-replaced_old : (items : List Waiter) (v : Waiter) → Contains items v → nat_eq v.serial new.serial ≡ false → Contains (replaced new items) v
+  Contains-replaced_old items v there apart =
+      subst (λ (u : Waiter). Contains (replaced new items) u) (ap (λ b. cond b new v) apart) (Contains-mapped (λ (u : Waiter). cond (nat_eq u.serial new.serial) new u) items v there)
+
+  pub Contains-replaced_cases : (items : List Waiter) (v : Waiter) → Contains (replaced new items) v → (new ≡ v) ⊎ (Contains items v × (nat_eq v.serial new.serial ≡ false))
+  Contains-replaced_cases items v there =
+      let was = Contains-from_mapped (λ (u : Waiter). cond (nat_eq u.serial new.serial) new u) items v there in
+      elim (cases_Bool (nat_eq was.0.serial new.serial)) [
+        | inl e ↦ inl (sym (ap (λ b. cond b new was.0) e) ∙ was.2)
+        | inr e ↦ (let same : was.0 ≡ v = sym (ap (λ b. cond b new was.0) e) ∙ was.2 in inr (subst (λ (u : Waiter). Contains items u) same was.1, subst (λ (u : Waiter). nat_eq u.serial new.serial ≡ false) same e))
+      ]
 
   put_back : (b : Bool) (w x : Waiter) (xs : List Waiter) → nat_eq x.serial new.serial ≡ b → AllPairs before (x ∷ xs) → cond b (Some x) (with_key serial_of nat_eq new.serial xs) ≡ Some w
       → (with_key serial_of nat_eq new.serial xs ≡ Some w → added serial_of nat_cmp new (removed serial_of nat_eq new.serial xs) ≡ replaced new xs)
@@ -75,10 +104,8 @@ module _ (new : Waiter) where
   replaced-Some w [] sorted found = absurd (cc found)
   replaced-Some w (x ∷ xs) sorted found = put_back (nat_eq x.serial new.serial) w x xs refl sorted found (λ later. replaced-Some w xs (AllPairs-tail before x xs sorted) later)
 
-  pub replaced-None : (items : List Waiter) → with_key serial_of nat_eq new.serial items ≡ None → removed serial_of nat_eq new.serial items ≡ replaced new items
-  replaced-None items none =
-      let others : (v : Waiter) → Contains items v → nat_eq v.serial new.serial ≡ false = λ v h. find-None (λ (u : Waiter). nat_eq u.serial new.serial) items v none h in
-      filter-whole (λ v. not (nat_eq v.serial new.serial)) items (λ v h. not_from_false _ (others v h)) ∙ sym (replaced-none items others)
+  pub replaced-None : (items : List Waiter) → with_key serial_of nat_eq new.serial items ≡ None → items ≡ replaced new items
+  replaced-None items none = sym (replaced-none items (λ v h. find-None (λ (u : Waiter). nat_eq u.serial new.serial) items v none h))
 
   -- what was taken out isn't there
   pub lacks-serial : (items : List Waiter) → has_key serial_of nat_eq new.serial (removed serial_of nat_eq new.serial items) ≡ false

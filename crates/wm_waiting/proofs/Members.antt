@@ -1,5 +1,5 @@
 -- What stands in a list after an edit, and what a search finds.
-use Rattle.std.proofs.Common.{◌≡◌, ◌⊎◌, ℕ, zero, suc, ◌<◌, ◌≤◌, Bool, true, false, ◌||◌, cond, List, [], ◌∷◌, length, get_or, take, drop, Option, Some, None, inl, inr, refl, ap, sym, ◌∙◌, subst, arith, Contains}
+use Rattle.std.proofs.Common.{◌≡◌, ◌⊎◌, ℕ, zero, suc, ◌<◌, ◌≤◌, Bool, true, false, ◌||◌, cond, List, [], ◌∷◌, length, get_or, map, take, drop, Option, Some, None, inl, inr, refl, ap, sym, ◌∙◌, subst, arith, Contains}
 use Rattle.std.specs.List.{filter, find, insert, list_any, AllPairs, slice_get}
 use mathlib.Core.Bool.{false≢true}
 use Rattle.std.proofs.lemmas.List.{take-append-drop}
@@ -183,3 +183,21 @@ module _ {X : Type 0} where
   pub first-none : (xs : List X) (y : X) → slice_get xs 0 ≡ None → Contains xs y → ⊥
   first-none [] y found there = Contains-nil y there
   first-none (x ∷ xs) y found there = cc found
+
+-- what a map makes
+module _ {X Y : Type 0} (f : X → Y) where
+  pub Contains-mapped : (xs : List X) (x : X) → Contains xs x → Contains (map f xs) (f x)
+  Contains-mapped [] x h = absurd (Contains-nil x h)
+  Contains-mapped (y ∷ ys) x h =
+      elim (Contains-cases y x ys h) [
+        | inl same ↦ subst (λ z. Contains (f y ∷ map f ys) (f z)) same (Contains-head (f y) (map f ys))
+        | inr later ↦ Contains-cons (f y) (f x) (map f ys) (Contains-mapped ys x later)
+      ]
+
+  pub Contains-from_mapped : (xs : List X) (y : Y) → Contains (map f xs) y → (x : X) × Contains xs x × (f x ≡ y)
+  Contains-from_mapped [] y h = absurd (Contains-nil y h)
+  Contains-from_mapped (x ∷ xs) y h =
+      elim (Contains-cases (f x) y (map f xs) h) [
+        | inl same ↦ (x, Contains-head x xs, same)
+        | inr later ↦ (let rest = Contains-from_mapped xs y later in (rest.0, Contains-cons x rest.0 xs rest.1, rest.2))
+      ]

@@ -1,5 +1,5 @@
 -- Rows by key: those of waiters by their serials, how many rows there are, and what room an edit leaves.
-use Rattle.std.proofs.Common.{◌≡◌, ℕ, ◌+◌, ◌≤◌, Bool, true, false, not, ◌||◌, cond, List, [], ◌∷◌, ◌++◌, length, get_or, map, take, drop, Option, Some, None, option_map, is_some, inl, inr, refl, ap, sym, ◌∙◌, subst, arith, Contains}
+use Rattle.std.proofs.Common.{◌≡◌, ℕ, ◌+◌, ◌≤◌, Bool, true, false, not, ◌||◌, cond, List, [], ◌∷◌, ◌++◌, length, get_or, map, take, drop, Option, Some, None, option_map, is_some, inl, inr, refl, ap, sym, ◌∙◌, subst, arith, Contains, nat_eq}
 use Rattle.std.specs.List.{filter, find, insert, list_any, AllPairs, count_by}
 use Rattle.std.specs.declared.cmp.Ordering.{Ordering}
 use Rattle.std.specs.declared.cmp.Ordering.TheVariants.{Less, Equal, Greater}
@@ -11,10 +11,11 @@ use Rattle.std.proofs.lemmas.List.{take-map, drop-map, map-append, length-map, g
 use Rattle.std.proofs.lemmas.List.Edits.{length-insert}
 use Rattle.std.proofs.lemmas.List.Sums.{count_by-le-length, sum_by-cons}
 use Rattle.wm_desc.specs.Sorted.{IsSortedOnce, with_key, has_key, place_of, added, removed}
-use Rattle.wm_ordered.specs.Ordered.{key_of, value_at}
+use Rattle.wm_ordered.specs.Ordered.{key_of, value_at, with_value}
 use Rattle.wm_waiting.specs.declared.waiter.Waiter.{Waiter}
-use Rattle.wm_waiting.specs.Waiting.{serial_of}
+use Rattle.wm_waiting.specs.Waiting.{serial_of, replaced}
 use Rattle.wm_waiting.specs.Keys.{waiters_of, row_of}
+use Rattle.wm_waiting.proofs.Orders.{eqb-same}
 use Rattle.wm_waiting.proofs.Members.{Contains-head, Contains-cons, Contains-nil, Contains-cases, filter-whole, AllPairs-head, AllPairs-tail}
 
 module _ {X Y : Type 0} (f : X → Y) where
@@ -54,6 +55,16 @@ same_again : (o : Option Waiter) → option_map (λ (r : ℕ × Waiter). r.1) (o
 same_again None = refl
 same_again (Some w) = refl
 
+row-replaced : (b : Bool) (w v : Waiter) → nat_eq v.serial w.serial ≡ b → cond b (v.serial, w) (row_of v) ≡ row_of (cond b w v)
+row-replaced true w v e = ap (λ n. (n, w)) (eqb-same v.serial w.serial e)
+row-replaced false w v e = refl
+
+replaced-rows : (w : Waiter) (ws : List Waiter) → with_value nat_eq w.serial w (map row_of ws) ≡ map row_of (replaced w ws)
+replaced-rows w [] = refl
+replaced-rows w (v ∷ ws) =
+    ap (λ (r : ℕ × Waiter). r ∷ with_value nat_eq w.serial w (map row_of ws)) (row-replaced (nat_eq v.serial w.serial) w v refl)
+    ∙ ap (λ l. row_of (cond (nat_eq v.serial w.serial) w v) ∷ l) (replaced-rows w ws)
+
 -- the rows of waiters by their serials
 module _ (rows : List (ℕ × Waiter)) (keyed : rows ≡ map row_of (waiters_of rows)) where
   rows-added : (cmp : ℕ → ℕ → Ordering) (w : Waiter) → added key_of cmp (row_of w) rows ≡ map row_of (added serial_of cmp w (waiters_of rows))
@@ -76,6 +87,15 @@ module _ (rows : List (ℕ × Waiter)) (keyed : rows ≡ map row_of (waiters_of 
 
   pub keyed-removed : (eq : ℕ → ℕ → Bool) (s : ℕ) → removed key_of eq s rows ≡ map row_of (waiters_of (removed key_of eq s rows))
   keyed-removed eq s = rows-removed eq s ∙ ap (λ l. map row_of l) (sym (waiters-removed eq s))
+
+  rows-replaced : (w : Waiter) → with_value nat_eq w.serial w rows ≡ map row_of (replaced w (waiters_of rows))
+  rows-replaced w = ap (λ l. with_value nat_eq w.serial w l) keyed ∙ replaced-rows w (waiters_of rows)
+
+  pub waiters-replaced : (w : Waiter) → waiters_of (with_value nat_eq w.serial w rows) ≡ replaced w (waiters_of rows)
+  waiters-replaced w = ap (λ (l : List (ℕ × Waiter)). waiters_of l) (rows-replaced w) ∙ waiters-rows (replaced w (waiters_of rows))
+
+  pub keyed-replaced : (w : Waiter) → with_value nat_eq w.serial w rows ≡ map row_of (waiters_of (with_value nat_eq w.serial w rows))
+  keyed-replaced w = rows-replaced w ∙ ap (λ l. map row_of l) (sym (waiters-replaced w))
 
   pub value-waiter : (eq : ℕ → ℕ → Bool) (s : ℕ) → value_at eq s rows ≡ with_key serial_of eq s (waiters_of rows)
   value-waiter eq s = ap (λ l. value_at eq s l) keyed ∙ (ap (λ o. option_map (λ (r : ℕ × Waiter). r.1) o) (find-map row_of (λ r. eq r.0 s) (waiters_of rows)) ∙ same_again (with_key serial_of eq s (waiters_of rows)))

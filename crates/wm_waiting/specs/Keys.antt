@@ -1,5 +1,7 @@
 -- What the jobs that wait are found by.
-use Rattle.std.specs.Prelude.{ℕ, List, map}
+use Rattle.std.specs.Prelude.{ℕ, Bool, ◌&&◌, ◌==◌, List, map}
+use Rattle.wm_base.specs.declared.qname.QName.{QName}
+use Rattle.wm_desc.specs.Table.{same_qname}
 use Rattle.wm_waiting.specs.declared.waiter.Waiter.{Waiter}
 use Rattle.wm_waiting.specs.declared.keys.Spot.{Spot}
 use Rattle.wm_waiting.specs.declared.keys.Rise.{Rise}
@@ -8,9 +10,17 @@ use Rattle.wm_waiting.specs.declared.keys.Rise.{Rise}
 abbrev pub spot_of : Waiter → Spot
 spot_of w = record { jobq = w.jobq; pty = w.pty; place = w.place }
 
+-- whether a spot is of the queue and the priority
+abbrev pub is_at : QName → ℕ → Spot → Bool
+is_at queue pty s = same_qname s.jobq queue && s.pty == pty
+
 -- when one becomes due
 abbrev pub rise_of : Waiter → Rise
 rise_of w = record { due = w.due; serial = w.serial }
+
+-- what is told of one whose key says all
+abbrev pub nothing_of : Waiter → Unit {0}
+nothing_of w = tt
 
 -- the row of a waiter by its serial
 abbrev pub row_of : Waiter → ℕ × Waiter

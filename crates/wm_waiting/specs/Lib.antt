@@ -1,6 +1,7 @@
 pub mod Bringing
 pub mod Index
 pub mod Keys
+pub mod Moving
 pub mod Orders
 pub mod Waiting
 pub mod WaitingInside

@@ -6,17 +6,17 @@ use Rattle.wm_waiting.specs.declared.keys.Spot.{Spot}
 use Rattle.wm_waiting.specs.declared.keys.Rise.{Rise}
 use Rattle.wm_waiting.specs.declared.waiting.WaitingJobs.TheInside.{Inside}
 use Rattle.wm_waiting.specs.Index.{IsIndex, capacity_of}
-use Rattle.wm_waiting.specs.Keys.{row_of, waiters_of, spot_of, rise_of}
-use Rattle.wm_waiting.specs.Waiting.{Waiting, HavePlaces, HavePriorities, is_up, is_ahead}
+use Rattle.wm_waiting.specs.Keys.{row_of, waiters_of, spot_of, rise_of, nothing_of}
+use Rattle.wm_waiting.specs.Waiting.{Waiting, serial_of, HavePlaces, HavePriorities, is_up, is_ahead}
 
 -- what lies in it agrees: each index has the rows of its waiters, and each map has room for all and for `spare` more
-pub record Agrees (by_serial : Pairs ℕ Waiter) (by_spot : Pairs Spot Waiter) (by_rise : Pairs Rise Waiter) (by_line : Pairs Spot Waiter) (clock spare : ℕ) : Type 0 where
+pub record Agrees (by_serial : Pairs ℕ Waiter) (by_spot : Pairs Spot ℕ) (by_rise : Pairs Rise (Unit {0})) (by_line : Pairs Spot ℕ) (clock spare : ℕ) : Type 0 where
   pub keyed : by_serial.items ≡ map row_of (waiters_of by_serial.items)
   pub places : HavePlaces (waiters_of by_serial.items)
   pub priorities : HavePriorities (waiters_of by_serial.items)
-  pub turns : IsIndex spot_of (is_up clock) (waiters_of by_serial.items) by_spot.items
-  pub early : IsIndex rise_of (is_ahead clock) (waiters_of by_serial.items) by_rise.items
-  pub lines : IsIndex spot_of (λ w. true) (waiters_of by_serial.items) by_line.items
+  pub turns : IsIndex spot_of serial_of (is_up clock) (waiters_of by_serial.items) by_spot.items
+  pub early : IsIndex rise_of nothing_of (is_ahead clock) (waiters_of by_serial.items) by_rise.items
+  pub lines : IsIndex spot_of serial_of (λ w. true) (waiters_of by_serial.items) by_line.items
   pub most : length by_serial.items + spare < 2 ^ 32
   pub room : length by_serial.items + spare ≤ capacity_of by_serial
   pub room_in_turns : length by_serial.items + spare ≤ capacity_of by_spot

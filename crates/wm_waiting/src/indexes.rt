@@ -2,14 +2,14 @@
 ghost use Rattle.std.specs.Prelude.{◌≡◌, ℕ, ◌+◌, ◌≤◌, List, false, true, insert};
 ghost use Rattle.wm_desc.specs.Sorted.{has_key, removed};
 ghost use Rattle.wm_ordered.specs.Ordered.{key_of};
-ghost use Rattle.wm_waiting.specs.Keys.{spot_of, rise_of};
+ghost use Rattle.wm_waiting.specs.Keys.{spot_of, rise_of, nothing_of};
 ghost use Rattle.wm_waiting.specs.Orders.{same_spot, same_rise};
-ghost use Rattle.wm_waiting.specs.Waiting.{is_up, is_ahead};
+ghost use Rattle.wm_waiting.specs.Waiting.{serial_of, is_up, is_ahead};
 ghost use Rattle.wm_waiting.specs.Index.{IsIndex, capacity_of};
 
 use crate::Waiter;
 use crate::keys::{Rise, Spot};
-use wm_base::Moment;
+use wm_base::{Moment, Serial};
 use wm_ordered::Ordered;
 
 /// What is lacking for a whole.
@@ -20,39 +20,39 @@ pub(crate) fn lacking(whole: u32, there: usize) -> u32
 }
 
 // Puts in the row of a job that may have its turn.
-fn put_turn(turns: &mut Ordered<Spot, Waiter>, waiter: &Waiter)
+fn put_turn(turns: &mut Ordered<Spot, Serial>, waiter: &Waiter)
     requires spare { 1 ≤ turns.old.spare }
     requires new { has_key key_of same_spot (spot_of waiter.now) turns.old.items ≡ false }
-    ensures index { (clock : ℕ) (items : List Waiter) (i : ℕ) → is_up clock waiter.now ≡ true → IsIndex spot_of (is_up clock) items turns.old.items → IsIndex spot_of (is_up clock) (insert items i waiter.now) turns.new.items }
+    ensures index { (clock : ℕ) (items : List Waiter) (i : ℕ) → is_up clock waiter.now ≡ true → IsIndex spot_of serial_of (is_up clock) items turns.old.items → IsIndex spot_of serial_of (is_up clock) (insert items i waiter.now) turns.new.items }
     ensures capacity { capacity_of turns.new ≡ capacity_of turns.old }
 {
-    turns.insert(Spot::of(waiter), *waiter);
+    turns.insert(Spot::of(waiter), waiter.serial);
 }
 
 // Puts in the row of a job that becomes due.
-fn put_early(early: &mut Ordered<Rise, Waiter>, waiter: &Waiter)
+fn put_early(early: &mut Ordered<Rise, ()>, waiter: &Waiter)
     requires spare { 1 ≤ early.old.spare }
     requires new { has_key key_of same_rise (rise_of waiter.now) early.old.items ≡ false }
-    ensures index { (clock : ℕ) (items : List Waiter) (i : ℕ) → is_ahead clock waiter.now ≡ true → IsIndex rise_of (is_ahead clock) items early.old.items → IsIndex rise_of (is_ahead clock) (insert items i waiter.now) early.new.items }
+    ensures index { (clock : ℕ) (items : List Waiter) (i : ℕ) → is_ahead clock waiter.now ≡ true → IsIndex rise_of nothing_of (is_ahead clock) items early.old.items → IsIndex rise_of nothing_of (is_ahead clock) (insert items i waiter.now) early.new.items }
     ensures capacity { capacity_of early.new ≡ capacity_of early.old }
 {
-    early.insert(Rise::of(waiter), *waiter);
+    early.insert(Rise::of(waiter), ());
 }
 
 /// Puts in the row of a job on its queue.
-pub(crate) fn put_line(lines: &mut Ordered<Spot, Waiter>, waiter: &Waiter)
+pub(crate) fn put_line(lines: &mut Ordered<Spot, Serial>, waiter: &Waiter)
     requires spare { 1 ≤ lines.old.spare }
     requires new { has_key key_of same_spot (spot_of waiter.now) lines.old.items ≡ false }
-    ensures index { (items : List Waiter) (i : ℕ) → IsIndex spot_of (λ w. true) items lines.old.items → IsIndex spot_of (λ w. true) (insert items i waiter.now) lines.new.items }
+    ensures index { (items : List Waiter) (i : ℕ) → IsIndex spot_of serial_of (λ w. true) items lines.old.items → IsIndex spot_of serial_of (λ w. true) (insert items i waiter.now) lines.new.items }
     ensures capacity { capacity_of lines.new ≡ capacity_of lines.old }
 {
-    lines.insert(Spot::of(waiter), *waiter);
+    lines.insert(Spot::of(waiter), waiter.serial);
 }
 
 /// Puts a job into the index of its kind, where it has one.
 pub(crate) fn enlist(
-    turns: &mut Ordered<Spot, Waiter>,
-    early: &mut Ordered<Rise, Waiter>,
+    turns: &mut Ordered<Spot, Serial>,
+    early: &mut Ordered<Rise, ()>,
     clock: Moment,
     waiter: &Waiter,
 )
@@ -60,8 +60,8 @@ pub(crate) fn enlist(
     requires spare_early { 1 ≤ early.old.spare }
     requires new_turn { has_key key_of same_spot (spot_of waiter.now) turns.old.items ≡ false }
     requires new_early { has_key key_of same_rise (rise_of waiter.now) early.old.items ≡ false }
-    ensures turns { (items : List Waiter) (i : ℕ) → IsIndex spot_of (is_up clock) items turns.old.items → IsIndex spot_of (is_up clock) (insert items i waiter.now) turns.new.items }
-    ensures early { (items : List Waiter) (i : ℕ) → IsIndex rise_of (is_ahead clock) items early.old.items → IsIndex rise_of (is_ahead clock) (insert items i waiter.now) early.new.items }
+    ensures turns { (items : List Waiter) (i : ℕ) → IsIndex spot_of serial_of (is_up clock) items turns.old.items → IsIndex spot_of serial_of (is_up clock) (insert items i waiter.now) turns.new.items }
+    ensures early { (items : List Waiter) (i : ℕ) → IsIndex rise_of nothing_of (is_ahead clock) items early.old.items → IsIndex rise_of nothing_of (is_ahead clock) (insert items i waiter.now) early.new.items }
     ensures capacity_turns { capacity_of turns.new ≡ capacity_of turns.old }
     ensures capacity_early { capacity_of early.new ≡ capacity_of early.old }
 {
@@ -73,7 +73,7 @@ pub(crate) fn enlist(
 }
 
 /// Takes out the row of a key, where it has one.
-pub(crate) fn take_out<K: Ord + Copy>(rows: &mut Ordered<K, Waiter>, key: &K)
+pub(crate) fn take_out<K: Ord + Copy, V: Copy>(rows: &mut Ordered<K, V>, key: &K)
     ensures items { rows.new.items ≡ removed key_of K.eq key.now rows.old.items }
     ensures capacity { capacity_of rows.new ≡ capacity_of rows.old }
 {

@@ -11,6 +11,7 @@
 mod bringing;
 mod indexes;
 mod keys;
+mod moving;
 mod waiter;
 mod waiting;
 

@@ -3,6 +3,7 @@ use crate::Waiter;
 use crate::bringing::bring_due;
 use crate::indexes::{enlist, lacking, put_line, take_out};
 use crate::keys::{Rise, Spot};
+use crate::moving::{move_line, relist};
 use std::alloc::{AllocError, Global};
 use std::marker::Model;
 use std::sync::ledger::Ledger;
@@ -15,11 +16,11 @@ use wm_ordered::Ordered;
 pub struct WaitingJobs {
     all: Ordered<Serial, Waiter>,
     // Those that aren't held and are due by the clock.
-    turns: Ordered<Spot, Waiter>,
+    turns: Ordered<Spot, Serial>,
     // Those that are due above the clock, held or not.
-    early: Ordered<Rise, Waiter>,
+    early: Ordered<Rise, ()>,
     // All of them.
-    lines: Ordered<Spot, Waiter>,
+    lines: Ordered<Spot, Serial>,
     clock: Moment,
     // For how many more jobs each of the four maps has room.
     room: u32,
@@ -138,12 +139,16 @@ impl WaitingJobs {
         ensures clock { self.new.clock ≡ self.old.clock }
         ensures spare { self.new.spare ≡ self.old.spare }
     {
-        // It goes out and comes in again, since what it is says in which index it is. `len` tells that serials differ.
+        // `len` tells that serials and places differ; `get` tells the range.
         self.len();
-        let Some(_) = self.remove(waiter.serial) else {
+        let serial = waiter.serial;
+        let Some(old) = self.waiter(serial) else {
             return;
         };
-        self.insert(waiter);
+        waiter.pty.get();
+        self.all.set(&serial, waiter);
+        relist(&mut self.turns, &mut self.early, self.clock, &old, &waiter);
+        move_line(&mut self.lines, &old, &waiter);
     }
 
     /// Holds the job of a serial, where there is one. It takes no memory.
@@ -174,7 +179,7 @@ impl WaitingJobs {
         if now <= self.clock {
             return;
         }
-        bring_due(&mut self.turns, &mut self.early, now);
+        bring_due(&self.all, &mut self.turns, &mut self.early, now);
         self.clock = now;
     }
 
@@ -211,18 +216,19 @@ impl WaitingJobs {
         ensures look { steps.new ≡ steps.old + 1 }
     {
         steps.tick();
-        // `len` tells that spots ascend.
+        // `len` tells that spots ascend, and that serials and places differ.
+        self.len();
         self.turns.len();
         let begin = Spot {
             jobq: *jobq,
             pty,
             place: 0,
         };
-        let Some((_, waiter)) = self.turns.first_from(&begin) else {
+        let Some((spot, serial)) = self.turns.first_from(&begin) else {
             return None;
         };
-        if waiter.is_of(jobq, pty) {
-            Some(waiter)
+        if spot.is_of(jobq, pty) {
+            self.waiter(serial)
         } else {
             None
         }
@@ -232,18 +238,19 @@ impl WaitingJobs {
     pub fn first_on(&self, jobq: &QName) -> Option<Waiter>
         ensures { result ≡ first_on jobq.now self.now.items }
     {
-        // `len` tells that spots ascend.
+        // `len` tells that spots ascend, and that serials and places differ.
+        self.len();
         self.lines.len();
         let begin = Spot {
             jobq: *jobq,
             pty: Priority::new(1),
             place: 0,
         };
-        let Some((_, waiter)) = self.lines.first_from(&begin) else {
+        let Some((spot, serial)) = self.lines.first_from(&begin) else {
             return None;
         };
-        if waiter.is_on(jobq) {
-            Some(waiter)
+        if spot.is_on(jobq) {
+            self.waiter(serial)
         } else {
             None
         }

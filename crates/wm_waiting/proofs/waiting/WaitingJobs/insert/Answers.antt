@@ -2,7 +2,7 @@ use Rattle.std.proofs.Common.{◌≡◌, ◌≤◌, ℕ, true, false, nat_eq, Li
 use Rattle.std.specs.Ordering.{nat_cmp}
 use Rattle.wm_desc.specs.Sorted.{has_key, added}
 use Rattle.wm_waiting.specs.declared.waiter.Waiter.{Waiter}
-use Rattle.wm_waiting.specs.Keys.{waiters_of, spot_of, rise_of}
+use Rattle.wm_waiting.specs.Keys.{waiters_of, spot_of, rise_of, nothing_of}
 use Rattle.wm_waiting.specs.Orders.{spot_cmp, rise_cmp, same_spot, same_rise}
 use Rattle.wm_waiting.specs.Waiting.{Waiting, serial_of, has_place, is_up, is_ahead}
 use Rattle.wm_waiting.proofs.Agreement.{agrees-insert, apart-spots, apart-rises}
@@ -13,14 +13,14 @@ use Rattle.wm_waiting.proofs.waiting.WaitingJobs.insert.Goals as goal
 
 pub enlist-requires-clause-spare_turn : goal.enlist-requires-clause-spare_turn
 enlist-requires-clause-spare_turn c =
-    let few = index-length spot_of (is_up c.self.inside.clock) (waiters_of c.self.inside.all.items) c.self.inside.turns.items c.self.invariant.turns spot_cmp spot-itself c.len.ensures.sorted in
+    let few = index-length spot_of serial_of (is_up c.self.inside.clock) (waiters_of c.self.inside.all.items) c.self.inside.turns.items c.self.invariant.turns spot_cmp spot-itself c.len.ensures.sorted in
     let n = length-waiters c.self.inside.all.items in
     let spare : c.self.inside.room ≡ c.args.self.now.spare = ap (λ (p : Waiting). p.spare) c.self.view_is in
     omega (arith, few, n, spare, c.requires.spare, c.self.invariant.room_in_turns)
 
 pub enlist-requires-clause-spare_early : goal.enlist-requires-clause-spare_early
 enlist-requires-clause-spare_early c =
-    let few = index-length rise_of (is_ahead c.self.inside.clock) (waiters_of c.self.inside.all.items) c.self.inside.early.items c.self.invariant.early rise_cmp rise-itself c.len-2.ensures.sorted in
+    let few = index-length rise_of nothing_of (is_ahead c.self.inside.clock) (waiters_of c.self.inside.all.items) c.self.inside.early.items c.self.invariant.early rise_cmp rise-itself c.len-2.ensures.sorted in
     let n = length-waiters c.self.inside.all.items in
     let spare : c.self.inside.room ≡ c.args.self.now.spare = ap (λ (p : Waiting). p.spare) c.self.view_is in
     omega (arith, few, n, spare, c.requires.spare, c.self.invariant.room_in_early)
@@ -28,16 +28,16 @@ enlist-requires-clause-spare_early c =
 pub enlist-requires-clause-new_turn : goal.enlist-requires-clause-new_turn
 enlist-requires-clause-new_turn c =
     let fresh : has_place c.args.waiter.place (waiters_of c.self.inside.all.items) ≡ false = subst (λ (p : Waiting). has_place c.args.waiter.place p.items ≡ false) (sym c.self.view_is) c.requires.place in
-    index-lacks spot_of (is_up c.self.inside.clock) (waiters_of c.self.inside.all.items) c.self.inside.turns.items c.self.invariant.turns same_spot c.args.waiter (apart-spots c.args.waiter (waiters_of c.self.inside.all.items) fresh)
+    index-lacks spot_of serial_of (is_up c.self.inside.clock) (waiters_of c.self.inside.all.items) c.self.inside.turns.items c.self.invariant.turns same_spot c.args.waiter (apart-spots c.args.waiter (waiters_of c.self.inside.all.items) fresh)
 
 pub enlist-requires-clause-new_early : goal.enlist-requires-clause-new_early
 enlist-requires-clause-new_early c =
     let fresh : has_key serial_of nat_eq c.args.waiter.serial (waiters_of c.self.inside.all.items) ≡ false = subst (λ (p : Waiting). has_key serial_of nat_eq c.args.waiter.serial p.items ≡ false) (sym c.self.view_is) c.requires.serial in
-    index-lacks rise_of (is_ahead c.self.inside.clock) (waiters_of c.self.inside.all.items) c.self.inside.early.items c.self.invariant.early same_rise c.args.waiter (apart-rises c.args.waiter (waiters_of c.self.inside.all.items) fresh)
+    index-lacks rise_of nothing_of (is_ahead c.self.inside.clock) (waiters_of c.self.inside.all.items) c.self.inside.early.items c.self.invariant.early same_rise c.args.waiter (apart-rises c.args.waiter (waiters_of c.self.inside.all.items) fresh)
 
 pub put_line-requires-clause-spare : goal.put_line-requires-clause-spare
 put_line-requires-clause-spare c =
-    let few = index-length spot_of (λ w. true) (waiters_of c.self.inside.all.items) c.self.inside.lines.items c.self.invariant.lines spot_cmp spot-itself c.len-3.ensures.sorted in
+    let few = index-length spot_of serial_of (λ w. true) (waiters_of c.self.inside.all.items) c.self.inside.lines.items c.self.invariant.lines spot_cmp spot-itself c.len-3.ensures.sorted in
     let n = length-waiters c.self.inside.all.items in
     let spare : c.self.inside.room ≡ c.args.self.now.spare = ap (λ (p : Waiting). p.spare) c.self.view_is in
     omega (arith, few, n, spare, c.requires.spare, c.self.invariant.room_in_lines)
@@ -45,7 +45,7 @@ put_line-requires-clause-spare c =
 pub put_line-requires-clause-new : goal.put_line-requires-clause-new
 put_line-requires-clause-new c =
     let fresh : has_place c.args.waiter.place (waiters_of c.self.inside.all.items) ≡ false = subst (λ (p : Waiting). has_place c.args.waiter.place p.items ≡ false) (sym c.self.view_is) c.requires.place in
-    index-lacks spot_of (λ w. true) (waiters_of c.self.inside.all.items) c.self.inside.lines.items c.self.invariant.lines same_spot c.args.waiter (apart-spots c.args.waiter (waiters_of c.self.inside.all.items) fresh)
+    index-lacks spot_of serial_of (λ w. true) (waiters_of c.self.inside.all.items) c.self.inside.lines.items c.self.invariant.lines same_spot c.args.waiter (apart-spots c.args.waiter (waiters_of c.self.inside.all.items) fresh)
 
 pub insert-requires-clause-new : goal.insert-requires-clause-new
 insert-requires-clause-new c =

@@ -1,27 +1,21 @@
 use Rattle.std.proofs.Common.{arith}
-use Rattle.wm_waiting.specs.Bringing.{IsUnderway}
 use Rattle.wm_waiting.specs.Keys.{waiters_of}
 use Rattle.wm_waiting.proofs.Agreement.{agrees-due}
 use Rattle.wm_waiting.proofs.Brought.{underway-begins}
 use Rattle.wm_waiting.proofs.Orders.{above_from_le}
-use Rattle.wm_waiting.proofs.Rows.{length-waiters}
 use Rattle.wm_waiting.proofs.waiting.WaitingJobs.make_due.Goals as goal
 
 pub bring_due-requires : goal.bring_due-requires
 bring_due-requires c =
     let later = above_from_le c.args.now c.self.inside.clock c.if-le.ensures in
-    let n = length-waiters c.self.inside.all.items in
     record {
-      items = waiters_of c.self.inside.all.items;
+      keyed = c.self.invariant.keyed;
       places = c.self.invariant.places;
       underway = underway-begins c.args.now (waiters_of c.self.inside.all.items) c.self.inside.turns.items c.self.inside.early.items c.self.inside.clock (omega (arith, later)) c.self.invariant.turns c.self.invariant.early;
-      room = omega (arith, n, c.self.invariant.room_in_turns);
+      room = omega (arith, c.self.invariant.room_in_turns);
     }
 
 pub invariant_of-self : goal.invariant_of-self
 invariant_of-self c =
-    let later = above_from_le c.args.now c.self.inside.clock c.if-le.ensures in
-    let underway : IsUnderway c.args.now (waiters_of c.self.inside.all.items) c.self.inside.turns.items c.self.inside.early.items = underway-begins c.args.now (waiters_of c.self.inside.all.items) c.self.inside.turns.items c.self.inside.early.items c.self.inside.clock (omega (arith, later)) c.self.invariant.turns c.self.invariant.early in
     agrees-due c.self.inside.all c.self.inside.turns c.self.inside.early c.self.inside.lines c.self.inside.clock c.self.inside.room c.self.invariant c.args.now c.bring_due.new.turns c.bring_due.new.early
-    (c.bring_due.ensures.turns (waiters_of c.self.inside.all.items) c.self.invariant.places underway) (c.bring_due.ensures.early (waiters_of c.self.inside.all.items) c.self.invariant.places underway)
-    c.bring_due.ensures.capacity_turns c.bring_due.ensures.capacity_early
+    c.bring_due.ensures.turns c.bring_due.ensures.early c.bring_due.ensures.capacity_turns c.bring_due.ensures.capacity_early

@@ -1,22 +1,59 @@
-use Rattle.std.proofs.Common.{◌≡◌, nat_eq, List, false, sym, ap, subst, ◌∙◌}
+use Rattle.std.proofs.Common.{◌≡◌, ℕ, nat_eq, List, Some, sym, ap, subst, ◌∙◌, arith}
 use Rattle.std.specs.Ordering.{nat_cmp}
-use Rattle.wm_desc.specs.Sorted.{added, has_key}
+use Rattle.wm_desc.specs.Sorted.{IsSortedOnce, with_key}
 use Rattle.wm_waiting.specs.declared.waiter.Waiter.{Waiter}
-use Rattle.wm_waiting.specs.Waiting.{serial_of, has_place}
-use Rattle.wm_waiting.proofs.Marks.{replaced-Some, replaced-None, lacks-serial, lacks-place}
+use Rattle.wm_waiting.specs.Keys.{waiters_of}
+use Rattle.wm_waiting.specs.Moving.{Replaces}
+use Rattle.wm_waiting.specs.Waiting.{Waiting, serial_of, HasOwnPlace, replaced}
+use Rattle.wm_waiting.proofs.Agreement.{agrees-replace}
+use Rattle.wm_waiting.proofs.Marks.{replaced-None}
+use Rattle.wm_waiting.proofs.Rows.{length-waiters, waiters-replaced}
 use Rattle.wm_waiting.proofs.waiting.WaitingJobs.replace.Goals as goal
 
 pub returns-in_default-clause-items : goal.returns-in_default-clause-items
-returns-in_default-clause-items c = c.remove.ensures.items ∙ replaced-None c.args.waiter c.args.self.now.items (sym c.in_default.ensures.waiter)
+returns-in_default-clause-items c = replaced-None c.args.waiter c.args.self.now.items (sym c.in_default.ensures)
 
-pub insert-requires-clause-serial : goal.insert-requires-clause-serial
-insert-requires-clause-serial c =
-    subst (λ (l : List Waiter). has_key serial_of nat_eq c.args.waiter.serial l ≡ false) (sym c.remove.ensures.items) (lacks-serial c.args.waiter c.args.self.now.items)
+pub relist-requires-clause-turns : goal.relist-requires-clause-turns
+relist-requires-clause-turns c =
+    let items = waiters_of c.self.inside.all.items in
+    let serials = subst (λ (p : Waiting). IsSortedOnce serial_of nat_cmp p.items) (sym c.self.view_is) c.len.ensures.sorted in
+    let own : HasOwnPlace c.args.waiter items = subst (λ (p : Waiting). HasOwnPlace c.args.waiter p.items) (sym c.self.view_is) c.requires.place in
+    let found = subst (λ (p : Waiting). with_key serial_of nat_eq c.args.waiter.serial p.items ≡ Some c.in-Some.old) (sym c.self.view_is) (sym c.in-Some.ensures) in
+    let replaces : Replaces c.args.waiter c.in-Some.old items = record { old_one = record { sorted = serials; places = c.self.invariant.places; found = found }; own = own } in
+    let n = length-waiters c.self.inside.all.items in
+    record { items = items; replaces = replaces; index = c.self.invariant.turns; room = omega (arith, n, c.self.invariant.room_in_turns) }
 
-pub insert-requires-clause-place : goal.insert-requires-clause-place
-insert-requires-clause-place c =
-    subst (λ (l : List Waiter). has_place c.args.waiter.place l ≡ false) (sym c.remove.ensures.items) (lacks-place c.args.waiter c.args.self.now.items c.requires.place)
+pub relist-requires-clause-early : goal.relist-requires-clause-early
+relist-requires-clause-early c =
+    let items = waiters_of c.self.inside.all.items in
+    let serials = subst (λ (p : Waiting). IsSortedOnce serial_of nat_cmp p.items) (sym c.self.view_is) c.len.ensures.sorted in
+    let own : HasOwnPlace c.args.waiter items = subst (λ (p : Waiting). HasOwnPlace c.args.waiter p.items) (sym c.self.view_is) c.requires.place in
+    let found = subst (λ (p : Waiting). with_key serial_of nat_eq c.args.waiter.serial p.items ≡ Some c.in-Some.old) (sym c.self.view_is) (sym c.in-Some.ensures) in
+    let replaces : Replaces c.args.waiter c.in-Some.old items = record { old_one = record { sorted = serials; places = c.self.invariant.places; found = found }; own = own } in
+    let n = length-waiters c.self.inside.all.items in
+    record { items = items; replaces = replaces; index = c.self.invariant.early; room = omega (arith, n, c.self.invariant.room_in_early) }
+
+pub move_line-requires : goal.move_line-requires
+move_line-requires c =
+    let items = waiters_of c.self.inside.all.items in
+    let serials = subst (λ (p : Waiting). IsSortedOnce serial_of nat_cmp p.items) (sym c.self.view_is) c.len.ensures.sorted in
+    let own : HasOwnPlace c.args.waiter items = subst (λ (p : Waiting). HasOwnPlace c.args.waiter p.items) (sym c.self.view_is) c.requires.place in
+    let found = subst (λ (p : Waiting). with_key serial_of nat_eq c.args.waiter.serial p.items ≡ Some c.in-Some.old) (sym c.self.view_is) (sym c.in-Some.ensures) in
+    let replaces : Replaces c.args.waiter c.in-Some.old items = record { old_one = record { sorted = serials; places = c.self.invariant.places; found = found }; own = own } in
+    let n = length-waiters c.self.inside.all.items in
+    record { items = items; replaces = replaces; index = c.self.invariant.lines; room = omega (arith, n, c.self.invariant.room_in_lines) }
+
+pub invariant_of-self : goal.invariant_of-self
+invariant_of-self c =
+    let items = waiters_of c.self.inside.all.items in
+    let serials = subst (λ (p : Waiting). IsSortedOnce serial_of nat_cmp p.items) (sym c.self.view_is) c.len.ensures.sorted in
+    let own : HasOwnPlace c.args.waiter items = subst (λ (p : Waiting). HasOwnPlace c.args.waiter p.items) (sym c.self.view_is) c.requires.place in
+    let found = subst (λ (p : Waiting). with_key serial_of nat_eq c.args.waiter.serial p.items ≡ Some c.in-Some.old) (sym c.self.view_is) (sym c.in-Some.ensures) in
+    let replaces : Replaces c.args.waiter c.in-Some.old items = record { old_one = record { sorted = serials; places = c.self.invariant.places; found = found }; own = own } in
+    agrees-replace c.self.inside.all c.self.inside.turns c.self.inside.early c.self.inside.lines c.self.inside.clock c.self.inside.room c.self.invariant c.args.waiter c.set.new.self c.relist.new.turns c.relist.new.early c.move_line.new.lines own (c.get.ensures.least, c.get.ensures.greatest)
+    c.set.ensures.items c.set.ensures.spare (c.relist.ensures.turns items replaces c.self.invariant.turns) (c.relist.ensures.early items replaces c.self.invariant.early) (c.move_line.ensures.index items replaces c.self.invariant.lines)
+    c.relist.ensures.capacity_turns c.relist.ensures.capacity_early c.move_line.ensures.capacity
 
 pub returns-clause-items : goal.returns-clause-items
 returns-clause-items c =
-    c.insert.ensures.items ∙ (ap (λ (l : List Waiter). added serial_of nat_cmp c.args.waiter l) c.remove.ensures.items ∙ replaced-Some c.args.waiter c.in-Some.field-0 c.args.self.now.items c.len.ensures.sorted (sym c.in-Some.ensures.waiter))
+    ap (λ (l : List (ℕ × Waiter)). waiters_of l) c.set.ensures.items ∙ (waiters-replaced c.self.inside.all.items c.self.invariant.keyed c.args.waiter ∙ ap (λ (p : Waiting). replaced c.args.waiter p.items) c.self.view_is)

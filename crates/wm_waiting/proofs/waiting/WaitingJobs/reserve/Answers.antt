@@ -8,9 +8,9 @@ use Rattle.wm_waiting.proofs.waiting.WaitingJobs.reserve.Goals as goal
 pub invariant_of-self-in_err-reserve-4 : goal.invariant_of-self-in_err-reserve-4
 invariant_of-self-in_err-reserve-4 c =
     let n : length c.reserve-4.new.self.items ≡ length c.self.inside.all.items = ap (λ (l : List (ℕ × Waiter)). length l) c.reserve-4.ensures.items in
-    let n_turns : length c.reserve.new.self.items ≡ length c.self.inside.turns.items = ap (λ (l : List (Spot × Waiter)). length l) c.reserve.ensures.items in
-    let n_early : length c.reserve-2.new.self.items ≡ length c.self.inside.early.items = ap (λ (l : List (Rise × Waiter)). length l) c.reserve-2.ensures.items in
-    let n_lines : length c.reserve-3.new.self.items ≡ length c.self.inside.lines.items = ap (λ (l : List (Spot × Waiter)). length l) c.reserve-3.ensures.items in
+    let n_turns : length c.reserve.new.self.items ≡ length c.self.inside.turns.items = ap (λ (l : List (Spot × ℕ)). length l) c.reserve.ensures.items in
+    let n_early : length c.reserve-2.new.self.items ≡ length c.self.inside.early.items = ap (λ (l : List (Rise × Unit {0})). length l) c.reserve-2.ensures.items in
+    let n_lines : length c.reserve-3.new.self.items ≡ length c.self.inside.lines.items = ap (λ (l : List (Spot × ℕ)). length l) c.reserve-3.ensures.items in
     agrees-roomier c.self.inside.all c.self.inside.turns c.self.inside.early c.self.inside.lines c.self.inside.clock c.self.inside.room c.self.invariant c.reserve-4.new.self c.reserve.new.self c.reserve-2.new.self c.reserve-3.new.self c.self.inside.room
     c.reserve-4.ensures.items c.reserve.ensures.items c.reserve-2.ensures.items c.reserve-3.ensures.items
     (omega (arith, n, c.self.invariant.most)) (omega (arith, n, c.reserve-4.ensures.spare, c.self.invariant.room)) (omega (arith, n, n_turns, c.reserve.ensures.spare, c.self.invariant.room_in_turns)) (omega (arith, n, n_early, c.reserve-2.ensures.spare, c.self.invariant.room_in_early)) (omega (arith, n, n_lines, c.reserve-3.ensures.spare, c.self.invariant.room_in_lines))
@@ -18,9 +18,9 @@ invariant_of-self-in_err-reserve-4 c =
 pub invariant_of-self-2 : goal.invariant_of-self-2
 invariant_of-self-2 c =
     let n : length c.reserve-4.new.self.items ≡ length c.self.inside.all.items = ap (λ (l : List (ℕ × Waiter)). length l) c.reserve-4.ensures.items in
-    let n_turns : length c.reserve.new.self.items ≡ length c.self.inside.turns.items = ap (λ (l : List (Spot × Waiter)). length l) c.reserve.ensures.items in
-    let n_early : length c.reserve-2.new.self.items ≡ length c.self.inside.early.items = ap (λ (l : List (Rise × Waiter)). length l) c.reserve-2.ensures.items in
-    let n_lines : length c.reserve-3.new.self.items ≡ length c.self.inside.lines.items = ap (λ (l : List (Spot × Waiter)). length l) c.reserve-3.ensures.items in
+    let n_turns : length c.reserve.new.self.items ≡ length c.self.inside.turns.items = ap (λ (l : List (Spot × ℕ)). length l) c.reserve.ensures.items in
+    let n_early : length c.reserve-2.new.self.items ≡ length c.self.inside.early.items = ap (λ (l : List (Rise × Unit {0})). length l) c.reserve-2.ensures.items in
+    let n_lines : length c.reserve-3.new.self.items ≡ length c.self.inside.lines.items = ap (λ (l : List (Spot × ℕ)). length l) c.reserve-3.ensures.items in
     let sum = c.in-Some.ensures in
     let turns = c.lacking.ensures in
     let early = c.lacking-2.ensures in
