@@ -36,7 +36,7 @@ pub(crate) fn split<K: Ord + Copy, V: Copy>(tree: Tree<K, V>, key: &K) -> (Tree<
     let Tree::Fork(mut place) = tree else {
         return (Tree::Leaf, Tree::Leaf);
     };
-    let Some(pair) = place.pair else {
+    let Some(pair) = &place.pair else {
         return (Tree::Leaf, Tree::Leaf);
     };
     if pair.0.cmp(key).is_lt() {
@@ -63,14 +63,14 @@ pub(crate) fn merge<K: Copy, V: Copy>(first: Tree<K, V>, second: Tree<K, V>) -> 
         return Tree::Fork(upper);
     };
     if upper.weight >= lower.weight {
-        let Some(_) = upper.pair else {
+        let Some(_) = &upper.pair else {
             return Tree::Fork(lower);
         };
         let right = mem::replace(&mut upper.right, Tree::Leaf);
         upper.right = merge(right, Tree::Fork(lower));
         Tree::Fork(upper)
     } else {
-        let Some(_) = lower.pair else {
+        let Some(_) = &lower.pair else {
             return Tree::Fork(upper);
         };
         let left = mem::replace(&mut lower.left, Tree::Leaf);
@@ -88,7 +88,7 @@ pub(crate) fn set_value<K: Ord + Copy, V: Copy>(tree: &mut Tree<K, V>, key: &K, 
         return false;
     };
     let node: &mut Node<K, V> = place;
-    let Some(pair) = node.pair else {
+    let Some(pair) = &node.pair else {
         return false;
     };
     match pair.0.cmp(key) {
@@ -112,7 +112,7 @@ pub(crate) fn put_in<K: Ord + Copy, V: Copy>(
 {
     if let Tree::Fork(above) = tree {
         let node: &mut Node<K, V> = above;
-        if let Some(there) = node.pair {
+        if let Some(there) = &node.pair {
             if node.weight >= weight {
                 if there.0.cmp(&pair.0).is_lt() {
                     put_in(&mut node.right, place, pair, weight);
@@ -153,19 +153,20 @@ pub(crate) fn take_out<K: Ord + Copy, V: Copy>(
         return None;
     };
     let node: &mut Node<K, V> = place;
-    let Some(pair) = node.pair else {
+    let Some(pair) = &node.pair else {
         return None;
     };
     match pair.0.cmp(key) {
         Ordering::Less => take_out(&mut node.right, key),
         Ordering::Equal => {
+            let value = pair.1;
             node.pair = None;
             let left = mem::replace(&mut node.left, Tree::Leaf);
             let right = mem::replace(&mut node.right, Tree::Leaf);
             let Tree::Fork(place) = mem::replace(tree, merge(left, right)) else {
                 return None;
             };
-            Some((pair.1, place))
+            Some((value, place))
         }
         Ordering::Greater => take_out(&mut node.left, key),
     }

@@ -15,7 +15,7 @@ pub(crate) fn value_of<K: Ord + Copy, V: Copy>(tree: &Tree<K, V>, key: &K) -> Op
         return None;
     };
     let node: &Node<K, V> = place;
-    let Some(pair) = node.pair else {
+    let Some(pair) = &node.pair else {
         return None;
     };
     match pair.0.cmp(key) {
@@ -33,10 +33,10 @@ pub(crate) fn least<K: Copy, V: Copy>(tree: &Tree<K, V>) -> Option<(K, V)>
         return None;
     };
     let node: &Node<K, V> = place;
-    let Some(pair) = node.pair else {
+    let Some(pair) = &node.pair else {
         return None;
     };
-    least(&node.left).or(Some(pair))
+    least(&node.left).or(Some(*pair))
 }
 
 /// The pair of the least key that isn't below a key.
@@ -47,12 +47,12 @@ pub(crate) fn least_from<K: Ord + Copy, V: Copy>(tree: &Tree<K, V>, key: &K) -> 
         return None;
     };
     let node: &Node<K, V> = place;
-    let Some(pair) = node.pair else {
+    let Some(pair) = &node.pair else {
         return None;
     };
     if pair.0.cmp(key).is_lt() {
         least_from(&node.right, key)
     } else {
-        least_from(&node.left, key).or(Some(pair))
+        least_from(&node.left, key).or(Some(*pair))
     }
 }

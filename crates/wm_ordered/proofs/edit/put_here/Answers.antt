@@ -1,4 +1,4 @@
-use Rattle.std.proofs.Common.{◌≡◌, ap, sym, ◌∙◌, subst}
+use Rattle.std.proofs.Common.{ap, sym, ◌∙◌, subst}
 use Rattle.wm_desc.specs.Sorted.{IsSortedOnce, added}
 use Rattle.wm_ordered.specs.Ordered.{key_of}
 use Rattle.wm_ordered.specs.Tree.{pairs_in}

@@ -1,7 +1,6 @@
 use Rattle.std.proofs.Common.{◌≡◌, length, false, ap, sym, ◌∙◌, subst, arith}
 use Rattle.wm_desc.specs.Sorted.{IsSortedOnce, has_key, added}
 use Rattle.wm_ordered.specs.Ordered.{key_of, Pairs}
-use Rattle.wm_ordered.specs.Tree.{pairs_in}
 use Rattle.wm_ordered.proofs.Cuts.{sorted-added, length-added}
 use Rattle.wm_ordered.proofs.ordered.Ordered.insert.Goals as goal
 
