@@ -20,7 +20,7 @@ pub record Replaces (new old : Waiter) (items : List Waiter) : Type 0 where
   pub own : HasOwnPlace new items
 
 -- the rows are those of items among which it may, with room for each
-pub record HasReplaced {K V : Type 0} (key : Waiter → K) (told : Waiter → V) (test : Waiter → Bool) (old new : Waiter) (rows : Pairs K V) : Type 0 where
+pub record HasReplaced {K V : Type 0} (key : Waiter → K) (told : Waiter → V) (test : Waiter → Bool) (new old : Waiter) (rows : Pairs K V) : Type 0 where
   pub items : List Waiter
   pub replaces : Replaces new old items
   pub index : IsIndex key told test items rows.items

@@ -49,8 +49,8 @@ pub(crate) fn relist(
     old: &Waiter,
     new: &Waiter,
 )
-    requires turns { HasReplaced spot_of serial_of (is_up clock) old.now new.now turns.old }
-    requires early { HasReplaced rise_of nothing_of (is_ahead clock) old.now new.now early.old }
+    requires turns { HasReplaced spot_of serial_of (is_up clock) new.now old.now turns.old }
+    requires early { HasReplaced rise_of nothing_of (is_ahead clock) new.now old.now early.old }
     ensures turns { (items : List Waiter) → Replaces new.now old.now items → IsIndex spot_of serial_of (is_up clock) items turns.old.items → IsIndex spot_of serial_of (is_up clock) (replaced new.now items) turns.new.items }
     ensures early { (items : List Waiter) → Replaces new.now old.now items → IsIndex rise_of nothing_of (is_ahead clock) items early.old.items → IsIndex rise_of nothing_of (is_ahead clock) (replaced new.now items) early.new.items }
     ensures capacity_turns { capacity_of turns.new ≡ capacity_of turns.old }
@@ -68,7 +68,7 @@ pub(crate) fn relist(
 
 /// Puts a job on its queue in the place of the one of its serial. What stays there isn't touched.
 pub(crate) fn move_line(lines: &mut Ordered<Spot, Serial>, old: &Waiter, new: &Waiter)
-    requires { HasReplaced spot_of serial_of (λ w. true) old.now new.now lines.old }
+    requires { HasReplaced spot_of serial_of (λ w. true) new.now old.now lines.old }
     ensures index { (items : List Waiter) → Replaces new.now old.now items → IsIndex spot_of serial_of (λ w. true) items lines.old.items → IsIndex spot_of serial_of (λ w. true) (replaced new.now items) lines.new.items }
     ensures capacity { capacity_of lines.new ≡ capacity_of lines.old }
 {
