@@ -1,3 +1,4 @@
+pub mod FullRows
 pub mod JobLemmas
 pub mod NameLemmas
 pub mod RowLemmas

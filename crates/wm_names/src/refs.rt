@@ -1,12 +1,17 @@
 // The references that name a job without its number, which they do until it has ended.
-ghost use Rattle.std.specs.Prelude.{◌≡◌, ◌+◌, ◌≤◌, false};
-ghost use Rattle.wm_law.specs.Named.{is_ended};
-ghost use Rattle.wm_names.specs.Namesakes.{joined, same_ref, namesakes_at, HaveJobs};
-ghost use Rattle.wm_names.specs.Refs.{AreFew, AreThere, is_named_open};
+ghost use Rattle.std.specs.Prelude.{◌≡◌, ◌+◌, ◌≤◌, List, ℕ};
+ghost use Rattle.wm_law.specs.declared.command.JobRef.TheVariants.{Simple, ByUser};
+ghost use Rattle.wm_law.specs.Named.{is_ended, is_named};
+ghost use Rattle.wm_names.specs.declared.keys.UserName.{UserName};
+ghost use Rattle.wm_names.specs.Names.{same_simple, same_by_user};
+ghost use Rattle.wm_names.specs.Namesakes.{joined, namesakes_at, AreFew, HaveJobs};
+ghost use Rattle.wm_names.specs.Refs.{user_name_of};
 
+use crate::keys::UserName;
 use crate::namesakes::Namesakes;
-use crate::rows::{join, leave};
-use wm_law::{Job, JobRef, Phase};
+use crate::rows::join;
+use wm_base::Name;
+use wm_law::{Job, Phase};
 use wm_ordered::Ordered;
 
 fn is_ended(phase: &Phase) -> bool
@@ -15,31 +20,38 @@ fn is_ended(phase: &Phase) -> bool
     matches!(phase, Phase::Ended(_))
 }
 
-/// Adds a job to the rows of the references without its number, where it hasn't ended.
-pub(crate) fn join_open(rows: &mut Ordered<JobRef, Namesakes>, job: &Job)
-    requires spare { 2 ≤ rows.old.spare }
-    requires few { AreFew rows.old.items }
-    ensures rows { (r : JobRef) → namesakes_at same_ref r rows.new.items ≡ joined (is_named_open r job.now) job.now.serial (namesakes_at same_ref r rows.old.items) }
-    ensures kept { HaveJobs rows.old.items → HaveJobs rows.new.items }
-    ensures spare { rows.old.spare ≤ rows.new.spare + 2 }
+/// A job's name by user.
+pub(crate) fn user_name(job: &Job) -> UserName
+    ensures { result ≡ user_name_of job.now }
 {
-    if is_ended(&job.phase) {
-        return;
+    UserName {
+        user: job.job.user,
+        name: job.job.name,
     }
-    let named = &job.job;
-    join(rows, &JobRef::Simple(named.name), job.serial);
-    join(rows, &JobRef::ByUser(named.user, named.name), job.serial);
 }
 
-/// Takes a job that hasn't ended out of the rows of the references without its number.
-pub(crate) fn leave_open(rows: &mut Ordered<JobRef, Namesakes>, job: &Job)
-    requires lasts { is_ended job.now.phase ≡ false }
-    requires there { AreThere job.now rows.old.items }
-    ensures rows { (r : JobRef) → joined (is_named_open r job.now) job.now.serial (namesakes_at same_ref r rows.new.items) ≡ namesakes_at same_ref r rows.old.items }
+/// Adds a job to the row of its simple name, where it hasn't ended.
+pub(crate) fn join_simple(rows: &mut Ordered<Name, Namesakes>, job: &Job)
+    requires spare { 1 ≤ rows.old.spare }
+    requires few { AreFew same_simple rows.old.items }
+    ensures rows { (name : List ℕ) → namesakes_at same_simple name rows.new.items ≡ joined (is_named (Simple name) job.now) job.now.serial (namesakes_at same_simple name rows.old.items) }
     ensures kept { HaveJobs rows.old.items → HaveJobs rows.new.items }
-    ensures spare { rows.old.spare ≤ rows.new.spare }
+    ensures spare { rows.old.spare ≤ rows.new.spare + 1 }
 {
-    let named = &job.job;
-    leave(rows, &JobRef::Simple(named.name), job.serial);
-    leave(rows, &JobRef::ByUser(named.user, named.name), job.serial);
+    if !is_ended(&job.phase) {
+        join(rows, &job.job.name, job.serial);
+    }
+}
+
+/// Adds a job to the row of its name by user, where it hasn't ended.
+pub(crate) fn join_by_user(rows: &mut Ordered<UserName, Namesakes>, job: &Job)
+    requires spare { 1 ≤ rows.old.spare }
+    requires few { AreFew same_by_user rows.old.items }
+    ensures rows { (name : UserName) → namesakes_at same_by_user name rows.new.items ≡ joined (is_named (ByUser name.user name.name) job.now) job.now.serial (namesakes_at same_by_user name rows.old.items) }
+    ensures kept { HaveJobs rows.old.items → HaveJobs rows.new.items }
+    ensures spare { rows.old.spare ≤ rows.new.spare + 1 }
+{
+    if !is_ended(&job.phase) {
+        join(rows, &user_name(job), job.serial);
+    }
 }

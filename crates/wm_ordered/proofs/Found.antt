@@ -49,10 +49,10 @@ module _ {K V : Type 0} (cmp : K → K → Ordering) (o : IsTotalOrder cmp) (k :
   right_of_greater h j d lt = greater cmp o _ _ (o.trans _ _ _ (lesser cmp o _ _ h) (parts.above j d lt))
 
   module _ (eq : K → K → Bool) (ties : (a b : K) → eq a b ≡ is_eq (cmp a b)) where
-    as_tested : (c : Ordering) → cmp e.0 k ≡ c → eq e.0 k ≡ is_eq c
+    pub as_tested : (c : Ordering) → cmp e.0 k ≡ c → eq e.0 k ≡ is_eq c
     as_tested c h = ties e.0 k ∙ ap is_eq h
 
-    apart : (xs : List (K × V)) (c : Ordering) → is_eq c ≡ false → All (λ x. cmp x.0 k ≡ c) xs → All (λ x. eq x.0 k ≡ false) xs
+    pub apart : (xs : List (K × V)) (c : Ordering) → is_eq c ≡ false → All (λ x. cmp x.0 k ≡ c) xs → All (λ x. eq x.0 k ≡ false) xs
     apart xs c differs h j d lt = ties _ _ ∙ (ap is_eq (h j d lt) ∙ differs)
 
     pub value-right : cmp e.0 k ≡ Less → value_at eq k d ≡ value_at eq k r

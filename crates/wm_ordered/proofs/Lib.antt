@@ -3,3 +3,4 @@ pub mod Found
 pub mod Opened
 pub mod Sides
 pub mod Tested
+pub mod Valued

@@ -1,5 +1,5 @@
 -- What a contract sees of an ordered map.
-use Rattle.std.specs.Prelude.{ℕ, Bool, not, List, find, Option, option_map}
+use Rattle.std.specs.Prelude.{ℕ, Bool, not, List, map, find, Option, option_map, if◌then◌else◌}
 use Rattle.std.specs.Ordering.{is_lt}
 use Rattle.std.specs.declared.cmp.Ordering.{Ordering}
 use Rattle.wm_desc.specs.Sorted.{with_key}
@@ -16,6 +16,10 @@ key_of pair = pair.0
 -- the value of a key, where it has one
 abbrev pub value_at : {K V : Type 0} → (K → K → Bool) → K → List (K × V) → Option V
 value_at eq key items = option_map (λ pair. pair.1) (with_key key_of eq key items)
+
+-- the pairs, with another value at a key
+abbrev pub with_value : {K V : Type 0} → (K → K → Bool) → K → V → List (K × V) → List (K × V)
+with_value eq key value items = map (λ pair. if eq pair.0 key then (pair.0, value) else pair) items
 
 -- the first pair whose key isn't below a key
 abbrev pub first_from : {K V : Type 0} → (K → K → Ordering) → K → List (K × V) → Option (K × V)

@@ -1,8 +1,8 @@
 // Trees that are cut and joined. All of these take nodes and give them, and want no memory.
 // Where a tree isn't sorted they end as well, so that is no condition of the calls: then less is known of what they give.
 ghost use Rattle.std.specs.Prelude.{◌≡◌, ◌+◌, ◌∷◌, ◌++◌, length, is_some, option_map, if◌then◌else◌};
-ghost use Rattle.wm_desc.specs.Sorted.{IsSortedOnce, removed};
-ghost use Rattle.wm_ordered.specs.Ordered.{key_of, value_at};
+ghost use Rattle.wm_desc.specs.Sorted.{IsSortedOnce, has_key, removed};
+ghost use Rattle.wm_ordered.specs.Ordered.{key_of, value_at, with_value};
 ghost use Rattle.wm_ordered.specs.Tree.{pairs_in, IsCut};
 
 use crate::tree::{Node, Tree};
@@ -118,5 +118,27 @@ pub(crate) fn take_out<K: Ord + Copy, V: Copy>(
             let (left, found) = take_out(left, key);
             (fork(place, pair, weight, left, right), found)
         }
+    }
+}
+
+/// Gives a key that is there another value, and answers whether it is there.
+pub(crate) fn set_value<K: Ord + Copy, V: Copy>(tree: &mut Tree<K, V>, key: &K, value: V) -> bool
+    ensures there { IsSortedOnce key_of K.cmp (pairs_in tree.old) → result ≡ has_key key_of K.eq key.now (pairs_in tree.old) }
+    ensures items { IsSortedOnce key_of K.cmp (pairs_in tree.old) → pairs_in tree.new ≡ with_value K.eq key.now value (pairs_in tree.old) }
+{
+    let Tree::Fork(place) = tree else {
+        return false;
+    };
+    let node: &mut Node<K, V> = place;
+    let Some(pair) = node.pair else {
+        return false;
+    };
+    match pair.0.cmp(key) {
+        Ordering::Less => set_value(&mut node.right, key, value),
+        Ordering::Equal => {
+            node.pair = Some((pair.0, value));
+            true
+        }
+        Ordering::Greater => set_value(&mut node.left, key, value),
     }
 }

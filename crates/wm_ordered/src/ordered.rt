@@ -1,5 +1,5 @@
 // The map.
-use crate::edit::{fork, merge, split, take_out};
+use crate::edit::{fork, merge, set_value, split, take_out};
 use crate::find::{least, least_from, value_of};
 use crate::spare::empty_nodes;
 use crate::tree::{Node, Tree};
@@ -36,7 +36,7 @@ impl<K: Ord + Copy, V: Copy> Model for Ordered<K, V> {
 impl<K: Ord + Copy, V: Copy> Ordered<K, V> {
     ghost use Rattle.std.specs.Prelude.{◌≡◌, ◌+◌, ◌≤◌, [], length, false, is_some, slice_get, OnOk, OnErr, if◌then◌else◌};
     ghost use Rattle.wm_desc.specs.Sorted.{IsSortedOnce, has_key, added, removed};
-    ghost use Rattle.wm_ordered.specs.Ordered.{key_of, value_at, first_from};
+    ghost use Rattle.wm_ordered.specs.Ordered.{key_of, value_at, first_from, with_value};
 
     /// The map without a pair.
     pub fn new(alloc: Global) -> Ordered<K, V>
@@ -118,6 +118,15 @@ impl<K: Ord + Copy, V: Copy> Ordered<K, V> {
                 Some(value)
             }
         }
+    }
+
+    /// Gives a key that is there another value, and answers whether it is there. It takes no memory.
+    pub fn set(&mut self, key: &K, value: V) -> bool
+        ensures there { result ≡ has_key key_of K.eq key.now self.old.items }
+        ensures items { self.new.items ≡ with_value K.eq key.now value self.old.items }
+        ensures spare { self.new.spare ≡ self.old.spare }
+    {
+        set_value(&mut self.tree, key, value)
     }
 
     /// The value of a key.
