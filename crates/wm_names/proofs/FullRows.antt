@@ -8,6 +8,7 @@ use Rattle.std.specs.Ordering.{is_lt, is_le, is_gt, is_eq, ordering_reverse}
 use Rattle.std.specs.declared.cmp.Ordering.{Ordering}
 use Rattle.std.specs.declared.cmp.Ordering.TheVariants.{Less, Equal, Greater}
 use Rattle.std.proofs.lemmas.Bool.{false≢true, cases_lt}
+use Rattle.std.proofs.lemmas.List.{get_or_default}
 use Rattle.std.proofs.lemmas.Cmp.{alike_right, on_total, then_total, nat_cmp_total, nat_list_cmp_total}
 use Rattle.std.proofs.lemmas.List.Edits.{length-insert, get_or-insert_below, get_or-insert_at, get_or-insert_above}
 use Rattle.std.proofs.lemmas.List.Sums.{sum_by-cons}
@@ -89,7 +90,7 @@ module _ (job : JobName) where
     up_to_last order last is up_to = (each, λ j d le lt. absurd (omega arith))
       where
         at_end : (d : FullName) → 0 < length rows → is_up_to job (get_or rows (length rows - 1) d) ≡ true
-        at_end d some = subst (λ row. is_up_to job row ≡ true) (is ∙ any_default rows (length rows - 1) last d (omega arith)) up_to
+        at_end d some = subst (λ row. is_up_to job row ≡ true) (is ∙ get_or_default rows (length rows - 1) last d (omega arith)) up_to
 
         each : AllWithin (λ row. is_up_to job row ≡ true) rows 0 (length rows)
         each j d le lt = parted-up_to order j (length rows - 1) d (omega arith) (omega arith) (at_end d (omega arith))

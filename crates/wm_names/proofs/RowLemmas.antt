@@ -230,6 +230,10 @@ module _ {K : Type 0} (eq : K → K → Bool) (cmp : K → K → Ordering) (key 
     pub kept-set : HaveJobs (with_value eq key v rows)
     kept-set = All-map (λ (x : K × Namesakes). 1 ≤ x.1.count) (λ (x : K × Namesakes). cond (eq x.0 key) (x.0, v) x) rows (λ i d lt. one-set (eq (get_or rows i d).0 key) (get_or rows i d) (have i d lt))
 
+pub none-there : {X : Type 0} (o : Option X) → is_some o ≡ false → o ≡ None
+none-there None h = refl
+none-there (Some x) h = absurd (false≢true (sym h))
+
 -- where a key has a job, it has a row
 pub there-value : {K : Type 0} (o : Option Namesakes) → 1 ≤ (unwrap_or o nobody).count → is_some o ≡ true
 there-value None some = absurd (omega (arith, some))

@@ -30,6 +30,8 @@ pub(crate) fn leave<K: Ord + Copy>(rows: &mut Ordered<K, Namesakes>, key: &K, se
     ensures kept { HaveJobs rows.old.items → HaveJobs rows.new.items }
     ensures spare { rows.old.spare ≤ rows.new.spare }
 {
+    // `get` tells the range.
+    serial.get();
     let row = Namesakes::of(rows.get(key));
     if row.are_several() {
         rows.set(key, row.without(serial));
