@@ -1,5 +1,5 @@
 -- The order of full names, and what lies where in rows that have it.
-use Rattle.std.proofs.Common.{◌≡◌, ℕ, zero, suc, ◌+◌, ◌-◌, ◌%◌, ◌<◌, ◌≤◌, Bool, true, false, cond, List, [], ◌∷◌, length, get_or, count_by, Result, Ok, Err, inl, inr, refl, ap, sym, ◌∙◌, subst, arith}
+use Rattle.std.proofs.Common.{◌≡◌, ℕ, zero, suc, ◌+◌, ◌-◌, ◌%◌, ◌<◌, ◌≤◌, Bool, true, false, cond, List, [], ◌∷◌, length, get_or, count_by, inl, inr, refl, ap, sym, ◌∙◌, subst, arith}
 use Rattle.std.specs.List.{AllWithin, insert}
 use Rattle.std.specs.List.Sorted.{IsPartitionPoint, IsPartitionedBy}
 use Rattle.std.specs.Cmp.{IsTotalOrder, unsigned_ties, both_tied}
@@ -13,12 +13,9 @@ use Rattle.std.proofs.lemmas.Cmp.{alike_right, on_total, then_total, nat_cmp_tot
 use Rattle.std.proofs.lemmas.List.Edits.{length-insert, get_or-insert_below, get_or-insert_at, get_or-insert_above}
 use Rattle.std.proofs.lemmas.List.Sums.{sum_by-cons}
 use Rattle.wm_base.specs.declared.job.JobName.{JobName}
-use Rattle.wm_base.specs.declared.refusal.Refusal.{Refusal}
-use Rattle.wm_base.specs.declared.refusal.Refusal.TheVariants.{Ambiguous}
 use Rattle.wm_desc.proofs.Places.{count_by-split}
 use Rattle.wm_names.specs.declared.keys.FullName.{FullName}
 use Rattle.wm_names.specs.FullNames.{name_cmp, same_name, is_of, is_below, is_up_to, AreInOrder}
-use Rattle.wm_names.specs.Namesakes.{only_of}
 
 pub name_total : IsTotalOrder name_cmp
 name_total = then_total (on_total (λ n. n.number) nat_cmp_total) (then_total (on_total (λ n. n.user) nat_list_cmp_total) (on_total (λ n. n.name) nat_list_cmp_total))
@@ -116,10 +113,16 @@ order-insert row rows i order in_place point a b d lt in_range =
     let upper : (j : ℕ) → i < j → get_or new j d ≡ get_or rows (j - 1) d = λ j hi. subst (λ q. get_or new q d ≡ get_or rows (j - 1) d) {x = j - 1 + 1} (omega arith) (get_or-insert_above rows i row d (j - 1) (omega arith) in_place) in
     let before : a < i → is_up_to row.job (get_or rows a d) ≡ true = λ lo. point.0 a d (omega arith) lo in
     let after : i < b → is_up_to (get_or rows (b - 1) d).job row ≡ true = λ hi. above_by _ (get_or rows (b - 1) d).job row.job refl (point.1 (b - 1) d (omega arith) (omega arith)) in
-    grind (arith, lower a, here a, upper a, lower b, here b, upper b, before, after, order a b d, order a (b - 1) d, order (a - 1) (b - 1) d)
-
--- two or more are several
-pub several : (n serials : ℕ) → 2 ≤ n → only_of n serials ≡ Err (Ambiguous n)
-several zero serials h = absurd (omega (arith, h))
-several (suc zero) serials h = absurd (omega (arith, h))
-several (suc (suc n)) serials h = refl
+    elim (cases_lt b i) [
+      | inl b_low ↦ rw (lower a (omega arith), lower b b_low) (order a b d lt (omega arith))
+      | inr b_high ↦ elim (cases_lt a i) [
+        | inl a_low ↦ elim (cases_lt i b) [
+          | inl b_up ↦ rw (lower a a_low, upper b b_up) (order a (b - 1) d (omega arith) (omega (arith, n, in_range)))
+          | inr b_at ↦ rw (lower a a_low, here b (omega arith)) (before a_low)
+        ]
+        | inr a_high ↦ elim (cases_lt i a) [
+          | inl a_up ↦ rw (upper a a_up, upper b (omega arith)) (order (a - 1) (b - 1) d (omega arith) (omega (arith, n, in_range)))
+          | inr a_at ↦ rw (here a (omega arith), upper b (omega arith)) (after (omega arith))
+        ]
+      ]
+    ]

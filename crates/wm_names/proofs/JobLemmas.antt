@@ -1,10 +1,12 @@
 -- How many of some jobs, or of some rows of jobs, pass a test, and the sum of their serials.
-use Rattle.std.proofs.Common.{◌≡◌, ℕ, suc, ◌+◌, ◌-◌, ◌%◌, ◌^◌, ◌<◌, ◌≤◌, Bool, true, false, cond, List, [], ◌∷◌, ◌++◌, length, take, drop, get_or, All, sum_by, filter, count_by, Ok, Err, refl, ap, sym, ◌∙◌, subst, arith}
+use Rattle.std.proofs.Common.{◌≡◌, ℕ, zero, suc, ◌+◌, ◌-◌, ◌%◌, ◌^◌, ◌<◌, ◌≤◌, Bool, true, false, cond, List, [], ◌∷◌, ◌++◌, length, take, drop, get_or, All, sum_by, filter, count_by, Ok, Err, refl, ap, sym, ◌∙◌, subst, arith}
 use Rattle.std.proofs.Math.Nat.{mod-add-mod, add-mod_right, mod-eq_of_lt, mod-lt}
 use Rattle.std.proofs.Math.Seq.{split_at}
+use Rattle.std.specs.List.{insert}
+use Rattle.std.proofs.lemmas.List.{take-append-drop}
 use Rattle.std.proofs.lemmas.List.Elements.{All-head, All-tail, All-cons, All-filter}
 use Rattle.std.proofs.lemmas.List.Sums.{sum_by-cons, length-filter, count_by-le-length}
-use Rattle.wm_base.specs.declared.refusal.Refusal.TheVariants.{Ambiguous}
+use Rattle.wm_base.specs.declared.refusal.Refusal.TheVariants.{Ambiguous, NoJob}
 use Rattle.wm_law.specs.declared.job.Job.{Job}
 use Rattle.wm_law.specs.Named.{only_one}
 use Rattle.wm_names.specs.declared.namesakes.Namesakes.{Namesakes}
@@ -18,13 +20,13 @@ pair a b c d e f = ap (λ (n : ℕ). record { count = n; serials = b }) e ∙ ap
 sum-swap : (n s t m : ℕ) → ((n + s) % m + t) % m ≡ ((n + t) % m + s) % m
 sum-swap n s t m =
     let other : n + s + t ≡ n + t + s = omega arith in
-    mod-add-mod (n + s) t m ∙ (ap (λ (k : ℕ). k % m) other ∙ sym (mod-add-mod (n + t) s m))
+    mod-add-mod (n + s) m t ∙ (ap (λ (k : ℕ). k % m) other ∙ sym (mod-add-mod (n + t) m s))
 
 -- a serial that joined a sum and left it again
 sum-back : (n s m : ℕ) → s < m → n < m → ((n + s) % m + (m - s)) % m ≡ n
 sum-back n s m le lt =
     let whole : n + s + (m - s) ≡ n + m = omega arith in
-    mod-add-mod (n + s) (m - s) m ∙ (ap (λ (k : ℕ). k % m) whole ∙ (add-mod_right n m ∙ mod-eq_of_lt lt))
+    mod-add-mod (n + s) m (m - s) ∙ (ap (λ (k : ℕ). k % m) whole ∙ (add-mod_right n m ∙ mod-eq_of_lt lt))
 
 -- two jobs join in any order
 joined-swap : (a b : Bool) (s t : ℕ) (row : Namesakes) → joined a s (joined b t row) ≡ joined b t (joined a s row)
@@ -56,7 +58,7 @@ module _ {E : Type 0} (serial_of : E → ℕ) where
         let n : ℕ = serials_of (filter p xs) in
         let sum : serials_of (e ∷ filter p xs) ≡ n + serial_of e = omega (arith, sum_by-cons serial_of e (filter p xs)) in
         pair (1 + count_by p xs) (serials_of (e ∷ filter p xs) % 2 ^ 64) (count_by p xs + 1) ((n % 2 ^ 64 + serial_of e) % 2 ^ 64) (omega arith)
-            (ap (λ (k : ℕ). k % 2 ^ 64) sum ∙ sym (mod-add-mod n (serial_of e) (2 ^ 64)))
+        (ap (λ (k : ℕ). k % 2 ^ 64) sum ∙ sym (mod-add-mod n (2 ^ 64) (serial_of e)))
     total_by false e xs = pair (0 + count_by p xs) (serials_of (filter p xs) % 2 ^ 64) (count_by p xs) (serials_of (filter p xs) % 2 ^ 64) (omega arith) refl
 
     total-cons : (e : E) (xs : List E) → total (e ∷ xs) ≡ joined (p e) (serial_of e) (total xs)
@@ -99,8 +101,11 @@ module _ {E : Type 0} (serial_of : E → ℕ) where
         let is = total-cons x xs in
         ap (λ (r : Namesakes). r.serials) is ∙ joined-none (p x) (serial_of x) (total xs) (sym (ap (λ (r : Namesakes). r.count) is) ∙ none) (total-none xs)
 
+    alone_by : (n s : ℕ) → n ≡ 0 → n + s ≡ s
+    alone_by n s e = omega (arith, e)
+
     among : (b : Bool) (s : ℕ) (row : Namesakes) → b ≡ true → s < 2 ^ 64 → (row.count ≡ 0 → row.serials ≡ 0) → IsAmong s (joined b s row)
-    among true s row e lt none = record { some = omega arith; alone = λ one. ap (λ (n : ℕ). (n + s) % 2 ^ 64) (none (omega (arith, one))) ∙ mod-eq_of_lt lt }
+    among true s row e lt none = record { some = omega arith; alone = λ one. ap (λ (n : ℕ). n % 2 ^ 64) (alone_by row.serials s (none (omega (arith, one)))) ∙ mod-eq_of_lt lt }
     among false s row e lt none = absurd (subst (λ c. cond c ⊥ (Unit {0})) e tt)
 
     -- one that passes the test is among those that do
@@ -112,6 +117,10 @@ module _ {E : Type 0} (serial_of : E → ℕ) where
     total-at xs i d in_range lt h =
         let e : E = get_or xs i d in
         subst (λ (ys : List E). IsAmong (serial_of e) (total ys)) (sym (split_at xs i d in_range)) (total-among (take i xs) e (drop (suc i) xs) lt h)
+
+    -- one that is put in
+    pub total-insert : (xs : List E) (i : ℕ) (e : E) → total (insert xs i e) ≡ joined (p e) (serial_of e) (total xs)
+    total-insert xs i e = total-middle (take i xs) e (drop i xs) ∙ ap (λ (l : List E). joined (p e) (serial_of e) (total l)) (take-append-drop i xs)
 
     -- no more than there are
     pub total-few : (xs : List E) → (total xs).count ≤ length xs
@@ -133,6 +142,31 @@ only-list (j ∷ k ∷ jobs) small =
 pub total-only : (p : Job → Bool) (jobs : List Job) → All (IsSmall job_serial) jobs → only (total job_serial p jobs) ≡ serial_of_one (only_one (filter p jobs))
 total-only p jobs small =
     ap (λ (n : ℕ). only_of n (serials_of job_serial (filter p jobs) % 2 ^ 64)) (sym (length-filter p jobs)) ∙ only-list (filter p jobs) (All-filter p (IsSmall job_serial) jobs small)
+
+only-none_by : (n serials : ℕ) → n ≡ 0 → only_of n serials ≡ Err NoJob
+only-none_by zero serials e = refl
+only-none_by (suc n) serials e = absurd (omega (arith, e))
+
+only-one_by : (n serials : ℕ) → n ≡ 1 → only_of n serials ≡ Ok serials
+only-one_by zero serials e = absurd (omega (arith, e))
+only-one_by (suc zero) serials e = refl
+only-one_by (suc (suc n)) serials e = absurd (omega (arith, e))
+
+only-several_by : (n serials : ℕ) → 2 ≤ n → only_of n serials ≡ Err (Ambiguous n)
+only-several_by zero serials h = absurd (omega (arith, h))
+only-several_by (suc zero) serials h = absurd (omega (arith, h))
+only-several_by (suc (suc n)) serials h = refl
+
+-- the only one of none, of one and of several
+module _ (row : Namesakes) where
+  pub only-none : row.count ≡ 0 → only row ≡ Err NoJob
+  only-none e = only-none_by row.count row.serials e
+
+  pub only-one : row.count ≡ 1 → only row ≡ Ok row.serials
+  only-one e = only-one_by row.count row.serials e
+
+  pub only-several : 2 ≤ row.count → only row ≡ Err (Ambiguous row.count)
+  only-several h = only-several_by row.count row.serials h
 
 -- the serials of jobs where another stands in the place of one
 pub small-replaced : (before : List Job) (j k : Job) (behind : List Job) → k.serial ≡ j.serial → All (IsSmall job_serial) (before ++ j ∷ behind) → All (IsSmall job_serial) (before ++ k ∷ behind)

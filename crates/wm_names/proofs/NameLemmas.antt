@@ -1,18 +1,18 @@
 -- Of which jobs rows are the names when a job joins them or ends.
-use Rattle.std.proofs.Common.{◌≡◌, ℕ, ◌+◌, ◌^◌, ◌<◌, Bool, true, false, not, ◌&&◌, List, [], ◌∷◌, ◌++◌, length, count_by, nat_eq, refl, ap, sym, ◌∙◌, subst, arith}
+use Rattle.std.proofs.Common.{◌≡◌, ℕ, ◌+◌, ◌^◌, ◌<◌, Bool, true, false, not, ◌&&◌, List, [], ◌∷◌, ◌++◌, length, filter, count_by, nat_eq, refl, ap, sym, ◌∙◌, subst, arith}
 use Rattle.std.specs.Cmp.Lexicographic.{pointwise, nat_list_eq_equiv}
 use Rattle.wm_base.specs.declared.job.JobName.{JobName}
 use Rattle.wm_law.specs.declared.command.JobRef.{JobRef}
 use Rattle.wm_law.specs.declared.command.JobRef.TheVariants.{Simple, ByUser, Full}
 use Rattle.wm_law.specs.declared.job.Job.{Job}
-use Rattle.wm_law.specs.Named.{is_ended, is_named, has_name, has_user_name}
+use Rattle.wm_law.specs.Named.{is_ended, is_named, has_name, has_user_name, only_one}
 use Rattle.wm_names.specs.declared.keys.UserName.{UserName}
 use Rattle.wm_names.specs.declared.namesakes.Namesakes.{Namesakes}
 use Rattle.wm_names.specs.FullNames.{serial_of, is_of, same_name}
-use Rattle.wm_names.specs.Namesakes.{joined, parted, namesakes_at, namesakes_among, AreFew, IsAmong}
-use Rattle.wm_names.specs.Names.{Rows, Names, IsNames, same_simple, same_by_user, namesakes_of, namesakes_in}
+use Rattle.wm_names.specs.Namesakes.{joined, parted, namesakes_at, namesakes_among, AreFew, IsAmong, only}
+use Rattle.wm_names.specs.Names.{Rows, Names, IsNames, same_simple, same_by_user, namesakes_of, namesakes_in, serial_of_one}
 use Rattle.wm_names.specs.Refs.{user_name_of}
-use Rattle.wm_names.proofs.JobLemmas.{job_serial, IsSmall, total, total-middle, total-push, total-parted, total-among, total-few, small-replaced, small-middle, small-push}
+use Rattle.wm_names.proofs.JobLemmas.{job_serial, IsSmall, total, total-middle, total-push, total-parted, total-among, total-few, total-only, small-replaced, small-middle, small-push}
 
 -- rows of few jobs have room for one more
 module _ (names : Names) (jobs : List Job) (are : IsNames jobs names) where
@@ -32,6 +32,10 @@ module _ (names : Names) (jobs : List Job) (are : IsNames jobs names) where
   few_full few job =
       let count = ap (λ (n : Namesakes). n.count) (are.rows (Full job)) in
       omega (arith, count, total-few job_serial (is_named (Full job)) jobs, few)
+
+  -- what a reference names by the rows is what it names among the jobs
+  pub only-named : (r : JobRef) → only (namesakes_of r names.rows) ≡ serial_of_one (only_one (filter (is_named r) jobs))
+  only-named r = ap only (are.rows r) ∙ total-only (is_named r) jobs are.serials
 
 -- a job that hasn't ended is named by its own names
 module _ (j : Job) (lasts : is_ended j.phase ≡ false) where
@@ -100,7 +104,7 @@ module _ (old new : Names) (j : Job) where
           open_row (Simple name) (same_simple j.job.name name) (ap (λ (b : Bool). not b && has_name name j.job) lasts) (ap (λ (b : Bool). not b && has_name name ended.job) ends) (simple name)
       row (ByUser user name) =
           open_row (ByUser user name) (same_by_user (user_name_of j) (record { user = user; name = name })) (ap (λ (b : Bool). not b && has_user_name user name j.job) lasts)
-              (ap (λ (b : Bool). not b && has_user_name user name ended.job) ends) (by_user (record { user = user; name = name }))
+          (ap (λ (b : Bool). not b && has_user_name user name ended.job) ends) (by_user (record { user = user; name = name }))
       row (Full full_name) =
           ap (λ rows. namesakes_among serial_of (is_of full_name) rows) full
           ∙ (are.rows (Full full_name)

@@ -103,13 +103,13 @@ module _ {K V : Type 0} (q : K → Bool) (v : V) where
     find-unchanged [] = refl
     find-unchanged (x ∷ xs) = kept_by (p x.0) (q x.0) x xs refl refl (find-unchanged xs)
 
-same_some : {X Y : Type 0} {f : X → Y} (o : Option X) → is_some o ≡ is_some (option_map f o)
-same_some None = refl
-same_some (Some x) = refl
+same_some : {X Y : Type 0} (f : X → Y) (o : Option X) → is_some o ≡ is_some (option_map f o)
+same_some f None = refl
+same_some f (Some x) = refl
 
-no_value : {X Y : Type 0} {f : X → Y} (o : Option X) → option_map f o ≡ None → o ≡ None
-no_value None h = refl
-no_value (Some x) h = absurd (cc h)
+no_value : {X Y : Type 0} (f : X → Y) (o : Option X) → option_map f o ≡ None → o ≡ None
+no_value f None h = refl
+no_value f (Some x) h = absurd (cc h)
 
 is_eq-Equal : (c : Ordering) → is_eq c ≡ true → c ≡ Equal
 is_eq-Equal Equal h = refl
@@ -137,7 +137,7 @@ module _ {K : Type 0} (eq : K → K → Bool) (cmp : K → K → Ordering) (o : 
   module _ {V : Type 0} (key : K) (rows : List (K × V)) where
     -- a key has a row where it has a value
     pub has_key-value : has_key key_of eq key rows ≡ is_some (value_at eq key rows)
-    has_key-value = list_any-find (λ (x : K × V). eq x.0 key) rows ∙ same_some (find (λ (x : K × V). eq x.0 key) rows)
+    has_key-value = list_any-find (λ (x : K × V). eq x.0 key) rows ∙ same_some (λ (x : K × V). x.1) (find (λ (x : K × V). eq x.0 key) rows)
 
     module _ (k : K) where
       value-same : eq key k ≡ true → value_at eq k rows ≡ value_at eq key rows
@@ -153,7 +153,7 @@ module _ {K : Type 0} (eq : K → K → Bool) (cmp : K → K → Ordering) (o : 
         -- a row that is put in
         value-new : eq key k ≡ true → value_at eq key rows ≡ None → value_at eq k (added key_of cmp (key, v) rows) ≡ Some v
         value-new h none =
-            ap (option_map (λ (x : K × V). x.1)) (find-insert_true (λ (x : K × V). eq x.0 k) rows (place_of key_of cmp key rows) (key, v) h (no_value (find (λ (x : K × V). eq x.0 k) rows) (value-same h ∙ none)))
+            ap (option_map (λ (x : K × V). x.1)) (find-insert_true (λ (x : K × V). eq x.0 k) rows (place_of key_of cmp key rows) (key, v) h (no_value (λ (x : K × V). x.1) (find (λ (x : K × V). eq x.0 k) rows) (value-same h ∙ none)))
 
         value-kept : eq key k ≡ false → value_at eq k (added key_of cmp (key, v) rows) ≡ value_at eq k rows
         value-kept h = ap (option_map (λ (x : K × V). x.1)) (find-insert_false (λ (x : K × V). eq x.0 k) rows (place_of key_of cmp key rows) (key, v) h)
@@ -162,7 +162,7 @@ module _ {K : Type 0} (eq : K → K → Bool) (cmp : K → K → Ordering) (o : 
         value-changed : eq key k ≡ true → is_some (value_at eq key rows) ≡ true → value_at eq k (with_value eq key v rows) ≡ Some v
         value-changed h some =
             ap (option_map (λ (x : K × V). x.1)) (find-same (λ (x : K × V). eq x.0 k) (λ (x : K × V). eq x.0 key) (λ x. alike key k h x.0) (with_value eq key v rows))
-            ∙ find-changed (λ a. eq a key) v rows (same_some (find (λ (x : K × V). eq x.0 key) rows) ∙ some)
+            ∙ find-changed (λ a. eq a key) v rows (same_some (λ (x : K × V). x.1) (find (λ (x : K × V). eq x.0 key) rows) ∙ some)
 
         value-unchanged : eq key k ≡ false → value_at eq k (with_value eq key v rows) ≡ value_at eq k rows
         value-unchanged h = find-unchanged (λ a. eq a key) v (λ a. eq a k) (λ a is. apart key k h a is) rows
@@ -235,7 +235,7 @@ none-there None h = refl
 none-there (Some x) h = absurd (false≢true (sym h))
 
 -- where a key has a job, it has a row
-pub there-value : {K : Type 0} (o : Option Namesakes) → 1 ≤ (unwrap_or o nobody).count → is_some o ≡ true
+pub there-value : (o : Option Namesakes) → 1 ≤ (unwrap_or o nobody).count → is_some o ≡ true
 there-value None some = absurd (omega (arith, some))
 there-value (Some x) some = refl
 

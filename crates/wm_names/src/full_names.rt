@@ -1,5 +1,5 @@
 // The rows of full names, which stay. They are in ascending order, so those of one name lie side by side.
-ghost use Rattle.std.specs.Prelude.{◌≡◌, ◌+◌, ◌^◌, ◌<◌, ◌≤◌, true, false, length, count_by, vec_len, vec_capacity};
+ghost use Rattle.std.specs.Prelude.{◌≡◌, ◌+◌, ◌^◌, ◌<◌, ◌≤◌, true, false, length, count_by, insert, vec_len, vec_capacity};
 ghost use Rattle.std.specs.List.Sorted.{IsPartitionPoint};
 ghost use Rattle.wm_base.specs.declared.job.JobName.{JobName};
 ghost use Rattle.wm_names.specs.FullNames.{serial_of, is_of, is_below, is_up_to, AreInOrder};
@@ -46,6 +46,17 @@ fn end_from_last(rows: &[FullName], job: &JobName) -> usize
     }
 }
 
+// Puts in a row at a place, for which there is room.
+fn put_at(rows: &mut Vec<FullName>, at: usize, row: FullName)
+    requires in_range { at ≤ vec_len rows.old }
+    requires room { vec_len rows.old < vec_capacity rows.old }
+    ensures items { rows.new.items ≡ insert rows.old.items at row }
+    ensures len { vec_len rows.new ≡ vec_len rows.old + 1 }
+    ensures capacity { vec_capacity rows.new ≡ vec_capacity rows.old }
+{
+    rows.insert(at, row).unwrap();
+}
+
 /// Puts in the row of a job, for which there is room.
 pub(crate) fn put(rows: &mut Vec<FullName>, row: FullName)
     requires in_order { AreInOrder rows.old.items }
@@ -56,7 +67,7 @@ pub(crate) fn put(rows: &mut Vec<FullName>, row: FullName)
     ensures capacity { vec_capacity rows.new ≡ vec_capacity rows.old }
 {
     let at = end_from_last(rows.as_slice(), &row.job);
-    rows.insert(at, row).unwrap();
+    put_at(rows, at, row);
 }
 
 /// The serial of the only job of a full name: none is NOJOB, several are AMBIGUOUS with their number.
@@ -66,14 +77,15 @@ pub(crate) fn only(rows: &[FullName], job: &JobName) -> Result<Serial, Refusal>
     ensures { result ≡ only (namesakes_among serial_of (is_of job.now) rows.now) }
 {
     let at = begin(rows, job);
-    match end(rows, job) - at {
-        0 => Err(Refusal::NoJob),
-        1 => {
-            let serial = rows[at].serial;
-            // `get` tells the range.
-            serial.get();
-            Ok(serial)
-        }
-        several => Err(Refusal::Ambiguous(several as u32)),
+    let count = end(rows, job) - at;
+    if count == 0 {
+        return Err(Refusal::NoJob);
     }
+    if count > 1 {
+        return Err(Refusal::Ambiguous(count as u32));
+    }
+    let serial = rows[at].serial;
+    // `get` tells the range.
+    serial.get();
+    Ok(serial)
 }

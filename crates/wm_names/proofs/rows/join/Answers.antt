@@ -1,4 +1,4 @@
-use Rattle.std.proofs.Common.{ap, sym, ◌∙◌, is_some, unwrap_or, arith}
+use Rattle.std.proofs.Common.{true, ap, sym, ◌∙◌, is_some, unwrap_or, arith}
 use Rattle.wm_names.specs.declared.namesakes.Namesakes.{Namesakes}
 use Rattle.wm_names.specs.Namesakes.{nobody, joined}
 use Rattle.wm_names.proofs.RowLemmas.{has_key-value, none-there, joined-set, joined-added, kept-set, kept-added}

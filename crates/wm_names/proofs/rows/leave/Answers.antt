@@ -1,4 +1,4 @@
-use Rattle.std.proofs.Common.{ap, sym, ◌∙◌, subst, unwrap_or, arith}
+use Rattle.std.proofs.Common.{true, ap, sym, ◌∙◌, subst, unwrap_or, arith}
 use Rattle.wm_names.specs.declared.namesakes.Namesakes.{Namesakes}
 use Rattle.wm_names.specs.Namesakes.{nobody, parted, IsAmong}
 use Rattle.wm_ordered.specs.Ordered.{value_at}
