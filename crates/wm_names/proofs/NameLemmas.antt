@@ -78,11 +78,10 @@ module _ (old new : Names) (j : Job) where
 
   -- a job that ends leaves the rows of the references without its number
   pub ended-names : new.rows.full ≡ old.rows.full
-      → ((name : UserName) → namesakes_at same_by_user name new.rows.by_user ≡ parted (same_by_user (user_name_of j) name) j.serial (namesakes_at same_by_user name old.rows.by_user))
-      → ((name : List ℕ) → namesakes_at same_simple name new.rows.simple ≡ parted (same_simple j.job.name name) j.serial (namesakes_at same_simple name old.rows.simple))
-      → is_ended j.phase ≡ false
+      → ((name : UserName) → namesakes_at same_by_user name new.rows.by_user ≡ parted (is_named (ByUser name.user name.name) j) j.serial (namesakes_at same_by_user name old.rows.by_user))
+      → ((name : List ℕ) → namesakes_at same_simple name new.rows.simple ≡ parted (is_named (Simple name) j) j.serial (namesakes_at same_simple name old.rows.simple))
       → (before behind : List Job) (ended : Job) → ended.serial ≡ j.serial → ended.job ≡ j.job → is_ended ended.phase ≡ true → IsNames (before ++ j ∷ behind) old → IsNames (before ++ ended ∷ behind) new
-  ended-names full by_user simple lasts before behind ended serial job ends are = record {
+  ended-names full by_user simple before behind ended serial job ends are = record {
     serials = small-replaced before j ended behind serial are.serials;
     rows = λ r. row r ∙ sym (total-middle job_serial (is_named r) before ended behind);
   }
@@ -90,21 +89,16 @@ module _ (old new : Names) (j : Job) where
       others : (r : JobRef) → Namesakes
       others r = total job_serial (is_named r) (before ++ behind)
 
-      -- the rows are those of the others, where a reference names none that has ended
-      open_row : (r : JobRef) (b : Bool) → is_named r j ≡ b → is_named r ended ≡ false → namesakes_of r new.rows ≡ parted b j.serial (namesakes_of r old.rows)
-          → namesakes_of r new.rows ≡ joined (is_named r ended) ended.serial (others r)
-      open_row r b is none left =
+      -- the rows are those of the others, where a reference doesn't name a job that has ended
+      open_row : (r : JobRef) → is_named r ended ≡ false → namesakes_of r new.rows ≡ parted (is_named r j) j.serial (namesakes_of r old.rows) → namesakes_of r new.rows ≡ joined (is_named r ended) ended.serial (others r)
+      open_row r none left =
           left
-          ∙ (ap (λ (c : Bool). parted c j.serial (namesakes_of r old.rows)) (sym is)
           ∙ (ap (λ (n : Namesakes). parted (is_named r j) j.serial n) (are.rows r)
-          ∙ (total-parted job_serial (is_named r) before j behind (small-middle before j behind are.serials) ∙ ap (λ (c : Bool). joined c ended.serial (others r)) (sym none))))
+          ∙ (total-parted job_serial (is_named r) before j behind (small-middle before j behind are.serials) ∙ ap (λ (c : Bool). joined c ended.serial (others r)) (sym none)))
 
       row : (r : JobRef) → namesakes_of r new.rows ≡ joined (is_named r ended) ended.serial (others r)
-      row (Simple name) =
-          open_row (Simple name) (same_simple j.job.name name) (ap (λ (b : Bool). not b && has_name name j.job) lasts) (ap (λ (b : Bool). not b && has_name name ended.job) ends) (simple name)
-      row (ByUser user name) =
-          open_row (ByUser user name) (same_by_user (user_name_of j) (record { user = user; name = name })) (ap (λ (b : Bool). not b && has_user_name user name j.job) lasts)
-          (ap (λ (b : Bool). not b && has_user_name user name ended.job) ends) (by_user (record { user = user; name = name }))
+      row (Simple name) = open_row (Simple name) (ap (λ (b : Bool). not b && has_name name ended.job) ends) (simple name)
+      row (ByUser user name) = open_row (ByUser user name) (ap (λ (b : Bool). not b && has_user_name user name ended.job) ends) (by_user (record { user = user; name = name }))
       row (Full full_name) =
           ap (λ rows. namesakes_among serial_of (is_of full_name) rows) full
           ∙ (are.rows (Full full_name)

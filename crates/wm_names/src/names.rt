@@ -2,8 +2,7 @@
 use crate::full_names::{only, put};
 use crate::keys::{FullName, UserName};
 use crate::namesakes::Namesakes;
-use crate::refs::{join_by_user, join_simple, user_name};
-use crate::rows::leave;
+use crate::refs::{join_open, leave_open};
 use std::alloc::Global;
 use std::marker::Model;
 use wm_base::{Name, NoMemory, Refusal, Serial};
@@ -80,15 +79,12 @@ impl JobNames {
     {
         // `get` tells the range.
         job.serial.get();
-        put(
-            &mut self.full,
-            FullName {
-                job: job.job,
-                serial: job.serial,
-            },
-        );
-        join_by_user(&mut self.by_user, job);
-        join_simple(&mut self.simple, job);
+        let row = FullName {
+            job: job.job,
+            serial: job.serial,
+        };
+        put(&mut self.full, row);
+        join_open(&mut self.by_user, &mut self.simple, job);
         self.room -= 1;
     }
 
@@ -98,8 +94,7 @@ impl JobNames {
         ensures names { (before behind : List Job) (ended : Job) → ended.serial ≡ job.now.serial → ended.job ≡ job.now.job → is_ended ended.phase ≡ true → IsNames (before ++ job.now ∷ behind) self.old → IsNames (before ++ ended ∷ behind) self.new }
         ensures spare { self.old.spare ≤ self.new.spare }
     {
-        leave(&mut self.by_user, &user_name(job), job.serial);
-        leave(&mut self.simple, &job.job.name, job.serial);
+        leave_open(&mut self.by_user, &mut self.simple, job);
     }
 
     /// The serial of the one job that a reference names: none is NOJOB, several are AMBIGUOUS with their number.
