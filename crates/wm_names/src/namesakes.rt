@@ -1,8 +1,8 @@
 // The jobs that one reference names.
 use wm_base::{Refusal, Serial};
 
-/// How many jobs a reference names, and the sum of their serials, modulo 2^64. Where it names one alone, the sum is that job's
-/// serial.
+/// How many jobs a reference names, and the sum of their serials, modulo 2^64. Where it names one alone, the sum is that
+/// job's serial.
 #[derive(Clone, Copy, Debug, PartialEq, Eq)]
 pub(crate) struct Namesakes {
     count: u32,
