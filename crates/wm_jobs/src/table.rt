@@ -82,7 +82,7 @@ impl JobTable {
     }
 
     /// Makes room for a number of jobs. An `Err` is want of memory, or comes where there would be more than 4,294,967,293
-    /// jobs, or for more than 1,431,655,765 at once, since each may have three names; it leaves all as it was.
+    /// jobs; it leaves all as it was.
     pub fn reserve(&mut self, more: u32) -> Result<(), NoMemory>
         ensures ok { OnOk result (more ≤ self.new.spare) }
         ensures jobs { self.new.jobs ≡ self.old.jobs }

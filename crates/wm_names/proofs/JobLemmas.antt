@@ -1,126 +1,183 @@
--- How many of some jobs pass a test, and the sum of their serials.
-use Rattle.std.proofs.Common.{◌≡◌, ℕ, suc, ◌+◌, ◌*◌, ◌^◌, ◌<◌, ◌≤◌, Bool, true, false, cond, List, [], ◌∷◌, ◌++◌, length, All, sum_by, filter, count_by, Ok, Err, refl, ap, sym, ◌∙◌, subst, arith}
-use Rattle.std.proofs.lemmas.List.Elements.{All-head, All-tail, All-cons}
-use Rattle.std.proofs.lemmas.List.Sums.{sum_by-cons, length-filter}
-use Rattle.wm_base.specs.declared.refusal.Refusal.TheVariants.{Ambiguous}
+-- How many of some jobs, or of some rows of jobs, pass a test, and the sum of their serials.
+use Rattle.std.proofs.Common.{◌≡◌, ℕ, zero, suc, ◌+◌, ◌-◌, ◌%◌, ◌^◌, ◌<◌, ◌≤◌, Bool, true, false, cond, List, [], ◌∷◌, ◌++◌, length, take, drop, get_or, All, sum_by, filter, count_by, Ok, Err, refl, ap, sym, ◌∙◌, subst, arith}
+use Rattle.std.proofs.Math.Nat.{mod-add-mod, add-mod_right, mod-eq_of_lt, mod-lt}
+use Rattle.std.proofs.Math.Seq.{split_at}
+use Rattle.std.specs.List.{insert}
+use Rattle.std.proofs.lemmas.List.{take-append-drop}
+use Rattle.std.proofs.lemmas.List.Elements.{All-head, All-tail, All-cons, All-filter}
+use Rattle.std.proofs.lemmas.List.Sums.{sum_by-cons, length-filter, count_by-le-length}
+use Rattle.wm_base.specs.declared.refusal.Refusal.TheVariants.{Ambiguous, NoJob}
 use Rattle.wm_law.specs.declared.job.Job.{Job}
 use Rattle.wm_law.specs.Named.{only_one}
 use Rattle.wm_names.specs.declared.namesakes.Namesakes.{Namesakes}
-use Rattle.wm_names.specs.Namesakes.{joined, only, only_of, IsAmong, IsOneSerial}
+use Rattle.wm_names.specs.Namesakes.{joined, parted, namesakes_among, only, only_of, IsAmong}
 use Rattle.wm_names.specs.Names.{serial_of_one}
-
-abbrev pub IsSmall : Job → Type 0
-IsSmall j = j.serial < 2 ^ 64
-
-abbrev pub serials_of : List Job → ℕ
-serials_of jobs = sum_by (λ (j : Job). j.serial) jobs
-
-abbrev pub total : (Job → Bool) → List Job → Namesakes
-total p jobs = record { count = count_by p jobs; serials = serials_of (filter p jobs) }
 
 pair : (a b c d : ℕ) → a ≡ c → b ≡ d → ◌≡◌ {A = Namesakes} (record { count = a; serials = b }) (record { count = c; serials = d })
 pair a b c d e f = ap (λ (n : ℕ). record { count = n; serials = b }) e ∙ ap (λ (n : ℕ). record { count = c; serials = n }) f
 
+-- two serials join a sum in any order
+sum-swap : (n s t m : ℕ) → ((n + s) % m + t) % m ≡ ((n + t) % m + s) % m
+sum-swap n s t m =
+    let other : n + s + t ≡ n + t + s = omega arith in
+    mod-add-mod (n + s) m t ∙ (ap (λ (k : ℕ). k % m) other ∙ sym (mod-add-mod (n + t) m s))
+
+-- a serial that joined a sum and left it again
+sum-back : (n s m : ℕ) → s < m → n < m → ((n + s) % m + (m - s)) % m ≡ n
+sum-back n s m le lt =
+    let whole : n + s + (m - s) ≡ n + m = omega arith in
+    mod-add-mod (n + s) m (m - s) ∙ (ap (λ (k : ℕ). k % m) whole ∙ (add-mod_right n m ∙ mod-eq_of_lt lt))
+
 -- two jobs join in any order
 joined-swap : (a b : Bool) (s t : ℕ) (row : Namesakes) → joined a s (joined b t row) ≡ joined b t (joined a s row)
-joined-swap true true s t row = pair (row.count + 1 + 1) (row.serials + t + s) (row.count + 1 + 1) (row.serials + s + t) refl (omega arith)
+joined-swap true true s t row =
+    pair (row.count + 1 + 1) (((row.serials + t) % 2 ^ 64 + s) % 2 ^ 64) (row.count + 1 + 1) (((row.serials + s) % 2 ^ 64 + t) % 2 ^ 64) refl (sum-swap row.serials t s (2 ^ 64))
 joined-swap true false s t row = refl
 joined-swap false true s t row = refl
 joined-swap false false s t row = refl
 
-pub joined-injective : (b : Bool) (s : ℕ) (m n : Namesakes) → joined b s m ≡ joined b s n → m ≡ n
-joined-injective true s m n e =
-    let counts : m.count + 1 ≡ n.count + 1 = ap (λ (r : Namesakes). r.count) e in
-    let serials : m.serials + s ≡ n.serials + s = ap (λ (r : Namesakes). r.serials) e in
-    pair m.count m.serials n.count n.serials (omega arith) (omega arith)
-joined-injective false s m n e = e
+-- a job that joined and left again
+pub parted-joined : (b : Bool) (s : ℕ) (row : Namesakes) → s < 2 ^ 64 → row.serials < 2 ^ 64 → parted b s (joined b s row) ≡ row
+parted-joined true s row lt below =
+    pair (row.count + 1 - 1) (((row.serials + s) % 2 ^ 64 + (2 ^ 64 - s)) % 2 ^ 64) row.count row.serials (omega arith) (sum-back row.serials s (2 ^ 64) lt below)
+parted-joined false s row lt below = refl
 
-module _ (p : Job → Bool) where
-  total_by : (b : Bool) (j : Job) (jobs : List Job) → ◌≡◌ {A = Namesakes} (record { count = cond b 1 0 + count_by p jobs; serials = serials_of (cond b (j ∷ filter p jobs) (filter p jobs)) }) (joined b j.serial (total p jobs))
-  total_by true j jobs =
-      pair (1 + count_by p jobs) (serials_of (j ∷ filter p jobs)) (count_by p jobs + 1) (serials_of (filter p jobs) + j.serial) (omega arith) (omega (arith, sum_by-cons (λ (k : Job). k.serial) j (filter p jobs)))
-  total_by false j jobs = pair (0 + count_by p jobs) (serials_of (filter p jobs)) (count_by p jobs) (serials_of (filter p jobs)) (omega arith) refl
+module _ {E : Type 0} (serial_of : E → ℕ) where
+  abbrev pub IsSmall : E → Type 0
+  IsSmall e = serial_of e < 2 ^ 64
 
-  total-cons : (j : Job) (jobs : List Job) → total p (j ∷ jobs) ≡ joined (p j) j.serial (total p jobs)
-  total-cons j jobs =
-      ap (λ (n : ℕ). record { count = n; serials = serials_of (filter p (j ∷ jobs)) }) (sum_by-cons (λ (k : Job). cond (p k) 1 0) j jobs) ∙ total_by (p j) j jobs
+  abbrev pub serials_of : List E → ℕ
+  serials_of xs = sum_by serial_of xs
 
-  -- one job of some joins the others
-  pub total-middle : (before : List Job) (j : Job) (behind : List Job) → total p (before ++ j ∷ behind) ≡ joined (p j) j.serial (total p (before ++ behind))
-  total-middle [] j behind = total-cons j behind
-  total-middle (k ∷ before) j behind =
-      total-cons k (before ++ j ∷ behind)
-      ∙ (ap (λ (r : Namesakes). joined (p k) k.serial r) (total-middle before j behind)
-      ∙ (joined-swap (p k) (p j) k.serial j.serial (total p (before ++ behind)) ∙ ap (λ (r : Namesakes). joined (p j) j.serial r) (sym (total-cons k (before ++ behind)))))
+  module _ (p : E → Bool) where
+    abbrev pub total : List E → Namesakes
+    total xs = namesakes_among serial_of p xs
 
-  all_nil : (jobs : List Job) → jobs ++ [] ≡ jobs
-  all_nil [] = refl
-  all_nil (j ∷ jobs) = ap (λ l. j ∷ l) (all_nil jobs)
+    total_by : (b : Bool) (e : E) (xs : List E) → ◌≡◌ {A = Namesakes} (record { count = cond b 1 0 + count_by p xs; serials = serials_of (cond b (e ∷ filter p xs) (filter p xs)) % 2 ^ 64 }) (joined b (serial_of e) (total xs))
+    total_by true e xs =
+        let n : ℕ = serials_of (filter p xs) in
+        let sum : serials_of (e ∷ filter p xs) ≡ n + serial_of e = omega (arith, sum_by-cons serial_of e (filter p xs)) in
+        pair (1 + count_by p xs) (serials_of (e ∷ filter p xs) % 2 ^ 64) (count_by p xs + 1) ((n % 2 ^ 64 + serial_of e) % 2 ^ 64) (omega arith)
+        (ap (λ (k : ℕ). k % 2 ^ 64) sum ∙ sym (mod-add-mod n (2 ^ 64) (serial_of e)))
+    total_by false e xs = pair (0 + count_by p xs) (serials_of (filter p xs) % 2 ^ 64) (count_by p xs) (serials_of (filter p xs) % 2 ^ 64) (omega arith) refl
 
-  -- one job more
-  pub total-push : (jobs : List Job) (j : Job) → total p (jobs ++ j ∷ []) ≡ joined (p j) j.serial (total p jobs)
-  total-push jobs j = total-middle jobs j [] ∙ ap (λ (l : List Job). joined (p j) j.serial (total p l)) (all_nil jobs)
+    total-cons : (e : E) (xs : List E) → total (e ∷ xs) ≡ joined (p e) (serial_of e) (total xs)
+    total-cons e xs =
+        ap (λ (n : ℕ). record { count = n; serials = serials_of (filter p (e ∷ xs)) % 2 ^ 64 }) (sum_by-cons (λ (x : E). cond (p x) 1 0) e xs) ∙ total_by (p e) e xs
 
-  joined-bounds : (b : Bool) (s n : ℕ) (row : Namesakes) → s < 2 ^ 64 → row.count ≤ n → row.serials ≤ row.count * 2 ^ 64 → ((joined b s row).count ≤ suc n) × ((joined b s row).serials ≤ (joined b s row).count * 2 ^ 64)
-  joined-bounds true s n row lt le sum = (omega arith, omega arith)
-  joined-bounds false s n row lt le sum = (omega arith, sum)
+    -- one of some joins the others
+    pub total-middle : (before : List E) (e : E) (behind : List E) → total (before ++ e ∷ behind) ≡ joined (p e) (serial_of e) (total (before ++ behind))
+    total-middle [] e behind = total-cons e behind
+    total-middle (x ∷ before) e behind =
+        total-cons x (before ++ e ∷ behind)
+        ∙ (ap (λ (r : Namesakes). joined (p x) (serial_of x) r) (total-middle before e behind)
+        ∙ (joined-swap (p x) (p e) (serial_of x) (serial_of e) (total (before ++ behind)) ∙ ap (λ (r : Namesakes). joined (p e) (serial_of e) r) (sym (total-cons x (before ++ behind)))))
 
-  -- as many as there are at the most, each of a serial below 2^64
-  pub total-bounds : (jobs : List Job) → All IsSmall jobs → ((total p jobs).count ≤ length jobs) × ((total p jobs).serials ≤ (total p jobs).count * 2 ^ 64)
-  total-bounds [] small = (omega arith, omega arith)
-  total-bounds (j ∷ jobs) small =
-      let rest = total-bounds jobs (All-tail IsSmall j jobs small) in
-      subst (λ (r : Namesakes). (r.count ≤ length (j ∷ jobs)) × (r.serials ≤ r.count * 2 ^ 64)) (sym (total-cons j jobs)) (joined-bounds (p j) j.serial (length jobs) (total p jobs) (All-head IsSmall j jobs small) rest.0 rest.1)
+    all_nil : (xs : List E) → xs ++ [] ≡ xs
+    all_nil [] = refl
+    all_nil (x ∷ xs) = ap (λ l. x ∷ l) (all_nil xs)
 
-  joined-none : (b : Bool) (s : ℕ) (row : Namesakes) → (joined b s row).count ≡ 0 → (row.count ≡ 0 → row.serials ≡ 0) → (joined b s row).serials ≡ 0
-  joined-none true s row none h = absurd (omega (arith, none))
-  joined-none false s row none h = h none
+    -- one more
+    pub total-push : (xs : List E) (e : E) → total (xs ++ e ∷ []) ≡ joined (p e) (serial_of e) (total xs)
+    total-push xs e = total-middle xs e [] ∙ ap (λ (l : List E). joined (p e) (serial_of e) (total l)) (all_nil xs)
 
-  -- none has no serials
-  total-none : (jobs : List Job) → (total p jobs).count ≡ 0 → (total p jobs).serials ≡ 0
-  total-none [] none = refl
-  total-none (j ∷ jobs) none =
-      let is = total-cons j jobs in
-      ap (λ (r : Namesakes). r.serials) is ∙ joined-none (p j) j.serial (total p jobs) (sym (ap (λ (r : Namesakes). r.count) is) ∙ none) (total-none jobs)
+    -- the sum is below 2^64
+    pub total-below : (xs : List E) → (total xs).serials < 2 ^ 64
+    total-below xs = mod-lt (serials_of (filter p xs)) (omega arith)
 
-  joined-one : (b : Bool) (s : ℕ) (row : Namesakes) → s < 2 ^ 64 → (row.count ≡ 0 → row.serials ≡ 0) → IsOneSerial row → IsOneSerial (joined b s row)
-  joined-one true s row lt none one h =
-      let zero_there : row.count ≡ 0 = omega (arith, h) in
-      omega (arith, none zero_there, lt)
-  joined-one false s row lt none one h = one h
+    -- one that leaves is no more among them
+    pub total-parted : (before : List E) (e : E) (behind : List E) → IsSmall e → parted (p e) (serial_of e) (total (before ++ e ∷ behind)) ≡ total (before ++ behind)
+    total-parted before e behind lt =
+        ap (λ (r : Namesakes). parted (p e) (serial_of e) r) (total-middle before e behind) ∙ parted-joined (p e) (serial_of e) (total (before ++ behind)) lt (total-below (before ++ behind))
 
-  -- one has its serial
-  pub total-one : (jobs : List Job) → All IsSmall jobs → IsOneSerial (total p jobs)
-  total-one [] small h = absurd (omega (arith, h))
-  total-one (j ∷ jobs) small h =
-      subst (λ (r : Namesakes). IsOneSerial r) (sym (total-cons j jobs)) (joined-one (p j) j.serial (total p jobs) (All-head IsSmall j jobs small) (total-none jobs) (total-one jobs (All-tail IsSmall j jobs small))) h
+    joined-none : (b : Bool) (s : ℕ) (row : Namesakes) → (joined b s row).count ≡ 0 → (row.count ≡ 0 → row.serials ≡ 0) → (joined b s row).serials ≡ 0
+    joined-none true s row none h = absurd (omega (arith, none))
+    joined-none false s row none h = h none
 
-  among : (b : Bool) (s : ℕ) (row : Namesakes) → b ≡ true → (row.count ≡ 0 → row.serials ≡ 0) → IsAmong s (joined b s row)
-  among true s row e none = record { some = omega arith; sum = omega arith; alone = λ one. omega (arith, none (omega (arith, one))) }
-  among false s row e none = absurd (subst (λ c. cond c ⊥ (Unit {0})) e tt)
+    -- none has no serials
+    total-none : (xs : List E) → (total xs).count ≡ 0 → (total xs).serials ≡ 0
+    total-none [] none = refl
+    total-none (x ∷ xs) none =
+        let is = total-cons x xs in
+        ap (λ (r : Namesakes). r.serials) is ∙ joined-none (p x) (serial_of x) (total xs) (sym (ap (λ (r : Namesakes). r.count) is) ∙ none) (total-none xs)
 
-  -- a job that passes the test is among those that do
-  pub total-among : (before : List Job) (j : Job) (behind : List Job) → p j ≡ true → IsAmong j.serial (total p (before ++ j ∷ behind))
-  total-among before j behind h =
-      subst (λ (r : Namesakes). IsAmong j.serial r) (sym (total-middle before j behind)) (among (p j) j.serial (total p (before ++ behind)) h (total-none (before ++ behind)))
+    alone_by : (n s : ℕ) → n ≡ 0 → n + s ≡ s
+    alone_by n s e = omega (arith, e)
 
-only-list : (jobs : List Job) → only_of (length jobs) (serials_of jobs) ≡ serial_of_one (only_one jobs)
-only-list [] = refl
-only-list (j ∷ []) = ap Ok (sum_by-cons (λ (k : Job). k.serial) j [] ∙ omega arith)
-only-list (j ∷ k ∷ jobs) =
+    among : (b : Bool) (s : ℕ) (row : Namesakes) → b ≡ true → s < 2 ^ 64 → (row.count ≡ 0 → row.serials ≡ 0) → IsAmong s (joined b s row)
+    among true s row e lt none = record { some = omega arith; alone = λ one. ap (λ (n : ℕ). n % 2 ^ 64) (alone_by row.serials s (none (omega (arith, one)))) ∙ mod-eq_of_lt lt }
+    among false s row e lt none = absurd (subst (λ c. cond c ⊥ (Unit {0})) e tt)
+
+    -- one that passes the test is among those that do
+    pub total-among : (before : List E) (e : E) (behind : List E) → IsSmall e → p e ≡ true → IsAmong (serial_of e) (total (before ++ e ∷ behind))
+    total-among before e behind lt h =
+        subst (λ (r : Namesakes). IsAmong (serial_of e) r) (sym (total-middle before e behind)) (among (p e) (serial_of e) (total (before ++ behind)) h lt (total-none (before ++ behind)))
+
+    pub total-at : (xs : List E) (i : ℕ) (d : E) → i < length xs → IsSmall (get_or xs i d) → p (get_or xs i d) ≡ true → IsAmong (serial_of (get_or xs i d)) (total xs)
+    total-at xs i d in_range lt h =
+        let e : E = get_or xs i d in
+        subst (λ (ys : List E). IsAmong (serial_of e) (total ys)) (sym (split_at xs i d in_range)) (total-among (take i xs) e (drop (suc i) xs) lt h)
+
+    -- one that is put in
+    pub total-insert : (xs : List E) (i : ℕ) (e : E) → total (insert xs i e) ≡ joined (p e) (serial_of e) (total xs)
+    total-insert xs i e = total-middle (take i xs) e (drop i xs) ∙ ap (λ (l : List E). joined (p e) (serial_of e) (total l)) (take-append-drop i xs)
+
+    -- no more than there are
+    pub total-few : (xs : List E) → (total xs).count ≤ length xs
+    total-few xs = count_by-le-length p xs
+
+abbrev pub job_serial : Job → ℕ
+job_serial j = j.serial
+
+only-list : (jobs : List Job) → All (IsSmall job_serial) jobs → only_of (length jobs) (serials_of job_serial jobs % 2 ^ 64) ≡ serial_of_one (only_one jobs)
+only-list [] small = refl
+only-list (j ∷ []) small =
+    let sum : serials_of job_serial (j ∷ []) ≡ j.serial = sum_by-cons job_serial j [] ∙ omega arith in
+    ap (λ (n : ℕ). Ok (n % 2 ^ 64)) sum ∙ ap Ok (mod-eq_of_lt (All-head (IsSmall job_serial) j [] small))
+only-list (j ∷ k ∷ jobs) small =
     let several : suc (suc (length jobs)) ≡ length jobs + 2 = omega arith in
     ap (λ (n : ℕ). Err (Ambiguous n)) several
 
 -- the only one of those that pass the test
-pub total-only : (p : Job → Bool) (jobs : List Job) → only (total p jobs) ≡ serial_of_one (only_one (filter p jobs))
-total-only p jobs = ap (λ (n : ℕ). only_of n (serials_of (filter p jobs))) (sym (length-filter p jobs)) ∙ only-list (filter p jobs)
+pub total-only : (p : Job → Bool) (jobs : List Job) → All (IsSmall job_serial) jobs → only (total job_serial p jobs) ≡ serial_of_one (only_one (filter p jobs))
+total-only p jobs small =
+    ap (λ (n : ℕ). only_of n (serials_of job_serial (filter p jobs) % 2 ^ 64)) (sym (length-filter p jobs)) ∙ only-list (filter p jobs) (All-filter p (IsSmall job_serial) jobs small)
+
+only-none_by : (n serials : ℕ) → n ≡ 0 → only_of n serials ≡ Err NoJob
+only-none_by zero serials e = refl
+only-none_by (suc n) serials e = absurd (omega (arith, e))
+
+only-one_by : (n serials : ℕ) → n ≡ 1 → only_of n serials ≡ Ok serials
+only-one_by zero serials e = absurd (omega (arith, e))
+only-one_by (suc zero) serials e = refl
+only-one_by (suc (suc n)) serials e = absurd (omega (arith, e))
+
+only-several_by : (n serials : ℕ) → 2 ≤ n → only_of n serials ≡ Err (Ambiguous n)
+only-several_by zero serials h = absurd (omega (arith, h))
+only-several_by (suc zero) serials h = absurd (omega (arith, h))
+only-several_by (suc (suc n)) serials h = refl
+
+-- the only one of none, of one and of several
+module _ (row : Namesakes) where
+  pub only-none : row.count ≡ 0 → only row ≡ Err NoJob
+  only-none e = only-none_by row.count row.serials e
+
+  pub only-one : row.count ≡ 1 → only row ≡ Ok row.serials
+  only-one e = only-one_by row.count row.serials e
+
+  pub only-several : 2 ≤ row.count → only row ≡ Err (Ambiguous row.count)
+  only-several h = only-several_by row.count row.serials h
 
 -- the serials of jobs where another stands in the place of one
-pub small-replaced : (before : List Job) (j k : Job) (behind : List Job) → k.serial ≡ j.serial → All IsSmall (before ++ j ∷ behind) → All IsSmall (before ++ k ∷ behind)
-small-replaced [] j k behind e small = All-cons IsSmall k behind (subst (λ (n : ℕ). n < 2 ^ 64) (sym e) (All-head IsSmall j behind small)) (All-tail IsSmall j behind small)
+pub small-replaced : (before : List Job) (j k : Job) (behind : List Job) → k.serial ≡ j.serial → All (IsSmall job_serial) (before ++ j ∷ behind) → All (IsSmall job_serial) (before ++ k ∷ behind)
+small-replaced [] j k behind e small = All-cons (IsSmall job_serial) k behind (subst (λ (n : ℕ). n < 2 ^ 64) (sym e) (All-head (IsSmall job_serial) j behind small)) (All-tail (IsSmall job_serial) j behind small)
 small-replaced (i ∷ before) j k behind e small =
-    All-cons IsSmall i (before ++ k ∷ behind) (All-head IsSmall i (before ++ j ∷ behind) small) (small-replaced before j k behind e (All-tail IsSmall i (before ++ j ∷ behind) small))
+    All-cons (IsSmall job_serial) i (before ++ k ∷ behind) (All-head (IsSmall job_serial) i (before ++ j ∷ behind) small) (small-replaced before j k behind e (All-tail (IsSmall job_serial) i (before ++ j ∷ behind) small))
 
-pub small-push : (jobs : List Job) (j : Job) → IsSmall j → All IsSmall jobs → All IsSmall (jobs ++ j ∷ [])
-small-push [] j lt small = All-cons IsSmall j [] lt small
-small-push (i ∷ jobs) j lt small = All-cons IsSmall i (jobs ++ j ∷ []) (All-head IsSmall i jobs small) (small-push jobs j lt (All-tail IsSmall i jobs small))
+pub small-middle : (before : List Job) (j : Job) (behind : List Job) → All (IsSmall job_serial) (before ++ j ∷ behind) → IsSmall job_serial j
+small-middle [] j behind small = All-head (IsSmall job_serial) j behind small
+small-middle (i ∷ before) j behind small = small-middle before j behind (All-tail (IsSmall job_serial) i (before ++ j ∷ behind) small)
+
+pub small-push : (jobs : List Job) (j : Job) → IsSmall job_serial j → All (IsSmall job_serial) jobs → All (IsSmall job_serial) (jobs ++ j ∷ [])
+small-push [] j lt small = All-cons (IsSmall job_serial) j [] lt small
+small-push (i ∷ jobs) j lt small = All-cons (IsSmall job_serial) i (jobs ++ j ∷ []) (All-head (IsSmall job_serial) i jobs small) (small-push jobs j lt (All-tail (IsSmall job_serial) i jobs small))

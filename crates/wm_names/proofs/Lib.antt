@@ -1,3 +1,5 @@
+pub mod FullRows
+pub mod InsideLemmas
 pub mod JobLemmas
 pub mod NameLemmas
 pub mod RowLemmas

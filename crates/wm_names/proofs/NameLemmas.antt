@@ -1,81 +1,107 @@
--- Which references name a job, before its end and after it, and of which jobs rows are then the names.
-use Rattle.std.proofs.Common.{◌≡◌, ℕ, ◌+◌, ◌*◌, ◌^◌, ◌<◌, ◌≤◌, Bool, true, false, not, ◌&&◌, ◌==◌, List, [], ◌∷◌, ◌++◌, length, refl, ap, sym, ◌∙◌, subst, arith}
+-- Of which jobs rows are the names when a job joins them or ends.
+use Rattle.std.proofs.Common.{◌≡◌, ℕ, ◌+◌, ◌^◌, ◌<◌, Bool, true, false, not, ◌&&◌, List, [], ◌∷◌, ◌++◌, length, filter, count_by, nat_eq, refl, ap, sym, ◌∙◌, subst, arith}
+use Rattle.std.specs.Cmp.Lexicographic.{pointwise, nat_list_eq_equiv}
 use Rattle.wm_base.specs.declared.job.JobName.{JobName}
 use Rattle.wm_law.specs.declared.command.JobRef.{JobRef}
 use Rattle.wm_law.specs.declared.command.JobRef.TheVariants.{Simple, ByUser, Full}
 use Rattle.wm_law.specs.declared.job.Job.{Job}
-use Rattle.wm_law.specs.Named.{is_ended, is_named, has_name, has_user_name}
+use Rattle.wm_law.specs.Named.{is_ended, is_named, has_name, has_user_name, only_one}
+use Rattle.wm_names.specs.declared.keys.UserName.{UserName}
 use Rattle.wm_names.specs.declared.namesakes.Namesakes.{Namesakes}
-use Rattle.wm_names.specs.Namesakes.{joined, same_ref, namesakes_at, IsAmong, IsOneSerial}
-use Rattle.wm_names.specs.Names.{Names, IsNames, namesakes_in}
-use Rattle.wm_names.specs.Refs.{AreFew, AreThere, is_named_open}
-use Rattle.wm_names.proofs.JobLemmas.{total, joined-injective, total-middle, total-push, total-bounds, total-one, total-among, small-replaced, small-push}
+use Rattle.wm_names.specs.FullNames.{serial_of, is_of, same_name}
+use Rattle.wm_names.specs.Namesakes.{joined, parted, namesakes_at, namesakes_among, AreFew, IsAmong, only}
+use Rattle.wm_names.specs.Names.{Rows, Names, IsNames, same_simple, same_by_user, namesakes_of, namesakes_in, serial_of_one}
+use Rattle.wm_names.specs.Refs.{user_name_of}
+use Rattle.wm_names.proofs.JobLemmas.{job_serial, IsSmall, total, total-middle, total-push, total-parted, total-among, total-few, total-only, small-replaced, small-middle, small-push}
 
--- a reference names a job by its full name or without the number
-full_ref : (r : JobRef) (j : Job) (n : Namesakes) → joined (same_ref (Full j.job) r) j.serial (joined (is_named_open r j) j.serial n) ≡ joined (is_named r j) j.serial n
-full_ref (Simple name) j n = refl
-full_ref (ByUser user name) j n = refl
-full_ref (Full job) j n = refl
+-- rows of few jobs have room for one more
+module _ (names : Names) (jobs : List Job) (are : IsNames jobs names) where
+  few_row : (r : JobRef) → length jobs + 1 < 2 ^ 32 → (namesakes_of r names.rows).count + 1 < 2 ^ 32
+  few_row r few =
+      let count = ap (λ (n : Namesakes). n.count) (are.rows r) in
+      omega (arith, count, total-few job_serial (is_named r) jobs, few)
 
--- a job that has ended is named by its full name alone
-ended_ref : (r : JobRef) (j ended : Job) (m n : Namesakes) → ended.serial ≡ j.serial → ended.job ≡ j.job → is_ended ended.phase ≡ true
-    → joined (is_named_open r j) j.serial m ≡ joined (is_named r j) j.serial n → m ≡ joined (is_named r ended) ended.serial n
-ended_ref (Simple name) j ended m n serial job ends e =
-    let none : is_named (Simple name) ended ≡ false = ap (λ (b : Bool). not b && has_name name ended.job) ends in
-    joined-injective (is_named (Simple name) j) j.serial m n e ∙ ap (λ (b : Bool). joined b ended.serial n) (sym none)
-ended_ref (ByUser user name) j ended m n serial job ends e =
-    let none : is_named (ByUser user name) ended ≡ false = ap (λ (b : Bool). not b && has_user_name user name ended.job) ends in
-    joined-injective (is_named (ByUser user name) j) j.serial m n e ∙ ap (λ (b : Bool). joined b ended.serial n) (sym none)
-ended_ref (Full job) j ended m n serial same ends e =
-    e ∙ (ap (λ (s : ℕ). joined (is_named (Full job) j) s n) (sym serial) ∙ ap (λ (name : JobName). joined (name.number == job.number && has_user_name job.user job.name name) ended.serial n) (sym same))
+  pub few_simple : length jobs + 1 < 2 ^ 32 → AreFew same_simple names.rows.simple
+  few_simple few = λ name. few_row (Simple name) few
 
-module _ (names : Names) where
-  bounds : (count serials len : ℕ) → count ≤ len → serials ≤ count * 2 ^ 64 → len + 1 < 2 ^ 32 → (count + 1 < 2 ^ 32) × (serials + 2 ^ 64 ≤ 2 ^ 128)
-  bounds count serials len le sum few = (omega arith, omega arith)
+  pub few_by_user : length jobs + 1 < 2 ^ 32 → AreFew same_by_user names.rows.by_user
+  few_by_user few = λ name. few_row (ByUser name.user name.name) few
 
-  -- rows of few jobs have room for one more
-  pub few_rows : (jobs : List Job) → IsNames jobs names → length jobs + 1 < 2 ^ 32 → AreFew names.rows
-  few_rows jobs are few = record {
-    counts = λ r. (few_row r).0;
-    serials = λ r. (few_row r).1;
+  -- the rows of a full name can be counted, where the jobs can
+  pub few_full : length jobs < 2 ^ 32 → (job : JobName) → count_by (is_of job) names.rows.full < 2 ^ 32
+  few_full few job =
+      let count = ap (λ (n : Namesakes). n.count) (are.rows (Full job)) in
+      omega (arith, count, total-few job_serial (is_named (Full job)) jobs, few)
+
+  -- what a reference names by the rows is what it names among the jobs
+  pub only-named : (r : JobRef) → only (namesakes_of r names.rows) ≡ serial_of_one (only_one (filter (is_named r) jobs))
+  only-named r = ap only (are.rows r) ∙ total-only (is_named r) jobs are.serials
+
+-- a job that hasn't ended is named by its own names
+module _ (j : Job) (lasts : is_ended j.phase ≡ false) where
+  same : (name : List ℕ) → pointwise nat_eq name name ≡ true
+  same name = nat_list_eq_equiv.refl name
+
+  simple-named : is_named (Simple j.job.name) j ≡ true
+  simple-named = ap (λ (b : Bool). not b && has_name j.job.name j.job) lasts ∙ same j.job.name
+
+  by_user-named : is_named (ByUser j.job.user j.job.name) j ≡ true
+  by_user-named =
+      ap (λ (b : Bool). not b && has_user_name j.job.user j.job.name j.job) lasts
+      ∙ (ap (λ (b : Bool). b && has_name j.job.name j.job) (same j.job.user) ∙ same j.job.name)
+
+  module _ (names : Names) (before behind : List Job) (are : IsNames (before ++ j ∷ behind) names) where
+    named : (r : JobRef) → is_named r j ≡ true → IsAmong j.serial (namesakes_of r names.rows)
+    named r h = subst (λ (n : Namesakes). IsAmong j.serial n) (sym (are.rows r)) (total-among job_serial (is_named r) before j behind (small-middle before j behind are.serials) h)
+
+    pub named_simple : IsAmong j.serial (namesakes_at same_simple j.job.name names.rows.simple)
+    named_simple = named (Simple j.job.name) simple-named
+
+    pub named_by_user : IsAmong j.serial (namesakes_at same_by_user (user_name_of j) names.rows.by_user)
+    named_by_user = named (ByUser j.job.user j.job.name) by_user-named
+
+module _ (old new : Names) (j : Job) where
+  -- a job joins the rows of the references that name it
+  pub added-names : ((job : JobName) → namesakes_among serial_of (is_of job) new.rows.full ≡ joined (same_name j.job job) j.serial (namesakes_among serial_of (is_of job) old.rows.full))
+      → ((name : UserName) → namesakes_at same_by_user name new.rows.by_user ≡ joined (is_named (ByUser name.user name.name) j) j.serial (namesakes_at same_by_user name old.rows.by_user))
+      → ((name : List ℕ) → namesakes_at same_simple name new.rows.simple ≡ joined (is_named (Simple name) j) j.serial (namesakes_at same_simple name old.rows.simple))
+      → j.serial < 2 ^ 64 → (jobs : List Job) → IsNames jobs old → IsNames (jobs ++ j ∷ []) new
+  added-names full by_user simple small jobs are = record {
+    serials = small-push jobs j small are.serials;
+    rows = λ r. row r ∙ (ap (λ (n : Namesakes). joined (is_named r j) j.serial n) (are.rows r) ∙ sym (total-push job_serial (is_named r) jobs j));
   }
     where
-      few_row : (r : JobRef) → ((namesakes_at same_ref r names.rows).count + 1 < 2 ^ 32) × ((namesakes_at same_ref r names.rows).serials + 2 ^ 64 ≤ 2 ^ 128)
-      few_row r =
-          let whole = total-bounds (is_named r) jobs are.serials in
-          subst (λ (n : Namesakes). (n.count + 1 < 2 ^ 32) × (n.serials + 2 ^ 64 ≤ 2 ^ 128)) (sym (are.rows r)) (bounds (namesakes_in r jobs).count (namesakes_in r jobs).serials (length jobs) whole.0 whole.1 few)
+      row : (r : JobRef) → namesakes_of r new.rows ≡ joined (is_named r j) j.serial (namesakes_of r old.rows)
+      row (Simple name) = simple name
+      row (ByUser user name) = by_user (record { user = user; name = name })
+      row (Full job) = full job
 
-  -- where a reference names one job, the sum of its row is a serial
-  pub names-one : (jobs : List Job) → IsNames jobs names → (r : JobRef) → IsOneSerial (namesakes_at same_ref r names.rows)
-  names-one jobs are r = subst (λ (n : Namesakes). IsOneSerial n) (sym (are.rows r)) (total-one (is_named r) jobs are.serials)
-
-  -- a job that hasn't ended is in the rows that name it
-  pub named_there : (before : List Job) (j : Job) (behind : List Job) → IsNames (before ++ j ∷ behind) names → AreThere j names.rows
-  named_there before j behind are = λ r h. subst (λ (n : Namesakes). IsAmong j.serial n) (sym (are.rows r)) (total-among (is_named r) before j behind (is_open r h))
+  -- a job that ends leaves the rows of the references without its number
+  pub ended-names : new.rows.full ≡ old.rows.full
+      → ((name : UserName) → namesakes_at same_by_user name new.rows.by_user ≡ parted (is_named (ByUser name.user name.name) j) j.serial (namesakes_at same_by_user name old.rows.by_user))
+      → ((name : List ℕ) → namesakes_at same_simple name new.rows.simple ≡ parted (is_named (Simple name) j) j.serial (namesakes_at same_simple name old.rows.simple))
+      → (before behind : List Job) (ended : Job) → ended.serial ≡ j.serial → ended.job ≡ j.job → is_ended ended.phase ≡ true → IsNames (before ++ j ∷ behind) old → IsNames (before ++ ended ∷ behind) new
+  ended-names full by_user simple before behind ended serial job ends are = record {
+    serials = small-replaced before j ended behind serial are.serials;
+    rows = λ r. row r ∙ sym (total-middle job_serial (is_named r) before ended behind);
+  }
     where
-      is_open : (r : JobRef) → is_named_open r j ≡ true → is_named r j ≡ true
-      is_open (Simple name) h = h
-      is_open (ByUser user name) h = h
-      is_open (Full job) h = absurd (cc)
+      others : (r : JobRef) → Namesakes
+      others r = total job_serial (is_named r) (before ++ behind)
 
-  module _ (new : Names) (j : Job) where
-    pub added-names : (between : List (JobRef × Namesakes))
-        → ((r : JobRef) → namesakes_at same_ref r between ≡ joined (is_named_open r j) j.serial (namesakes_at same_ref r names.rows))
-        → ((r : JobRef) → namesakes_at same_ref r new.rows ≡ joined (same_ref (Full j.job) r) j.serial (namesakes_at same_ref r between))
-        → j.serial < 2 ^ 64 → (jobs : List Job) → IsNames jobs names → IsNames (jobs ++ j ∷ []) new
-    added-names between first second small jobs are = record {
-      serials = small-push jobs j small are.serials;
-      rows = λ r.
-          second r ∙ (ap (λ (n : Namesakes). joined (same_ref (Full j.job) r) j.serial n) (first r)
-          ∙ (full_ref r j (namesakes_at same_ref r names.rows)
-          ∙ (ap (λ (n : Namesakes). joined (is_named r j) j.serial n) (are.rows r) ∙ sym (total-push (is_named r) jobs j))));
-    }
+      -- the rows are those of the others, where a reference doesn't name a job that has ended
+      open_row : (r : JobRef) → is_named r ended ≡ false → namesakes_of r new.rows ≡ parted (is_named r j) j.serial (namesakes_of r old.rows) → namesakes_of r new.rows ≡ joined (is_named r ended) ended.serial (others r)
+      open_row r none left =
+          left
+          ∙ (ap (λ (n : Namesakes). parted (is_named r j) j.serial n) (are.rows r)
+          ∙ (total-parted job_serial (is_named r) before j behind (small-middle before j behind are.serials) ∙ ap (λ (c : Bool). joined c ended.serial (others r)) (sym none)))
 
-    pub ended-names : ((r : JobRef) → joined (is_named_open r j) j.serial (namesakes_at same_ref r new.rows) ≡ namesakes_at same_ref r names.rows)
-        → (before behind : List Job) (ended : Job) → ended.serial ≡ j.serial → ended.job ≡ j.job → is_ended ended.phase ≡ true → IsNames (before ++ j ∷ behind) names → IsNames (before ++ ended ∷ behind) new
-    ended-names left before behind ended serial job ends are = record {
-      serials = small-replaced before j ended behind serial are.serials;
-      rows = λ r.
-          ended_ref r j ended (namesakes_at same_ref r new.rows) (total (is_named r) (before ++ behind)) serial job ends (left r ∙ (are.rows r ∙ total-middle (is_named r) before j behind))
-          ∙ sym (total-middle (is_named r) before ended behind);
-    }
+      row : (r : JobRef) → namesakes_of r new.rows ≡ joined (is_named r ended) ended.serial (others r)
+      row (Simple name) = open_row (Simple name) (ap (λ (b : Bool). not b && has_name name ended.job) ends) (simple name)
+      row (ByUser user name) = open_row (ByUser user name) (ap (λ (b : Bool). not b && has_user_name user name ended.job) ends) (by_user (record { user = user; name = name }))
+      row (Full full_name) =
+          ap (λ rows. namesakes_among serial_of (is_of full_name) rows) full
+          ∙ (are.rows (Full full_name)
+          ∙ (total-middle job_serial (is_named (Full full_name)) before j behind
+          ∙ (ap (λ (s : ℕ). joined (is_named (Full full_name) j) s (others (Full full_name))) (sym serial)
+          ∙ ap (λ (name : JobName). joined (same_name name full_name) ended.serial (others (Full full_name))) (sym job))))

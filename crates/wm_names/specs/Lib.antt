@@ -1,3 +1,4 @@
+pub mod FullNames
 pub mod Names
 pub mod NamesInside
 pub mod Namesakes

@@ -1,26 +1,52 @@
 -- What a contract sees of the names of jobs, and of which jobs they are the names.
-use Rattle.std.specs.Prelude.{◌≡◌, ℕ, ◌+◌, ◌^◌, ◌<◌, false, List, ◌∷◌, ◌++◌, length, filter, count_by, sum_by, All, Result, Ok, Err}
+use Rattle.std.specs.Prelude.{◌≡◌, ℕ, ◌+◌, ◌^◌, ◌<◌, Bool, false, List, ◌∷◌, ◌++◌, length, All, Result, Ok, Err}
 use Rattle.wm_base.specs.declared.refusal.Refusal.{Refusal}
+use Rattle.wm_base.specs.contracts.name.NamePartialEq.TheImpl as name_by_eq
 use Rattle.wm_law.specs.declared.command.JobRef.{JobRef}
+use Rattle.wm_law.specs.declared.command.JobRef.TheVariants.{Simple, ByUser, Full}
 use Rattle.wm_law.specs.declared.job.Job.{Job}
 use Rattle.wm_law.specs.Named.{is_ended, is_named}
+use Rattle.wm_names.specs.declared.keys.FullName.{FullName}
+use Rattle.wm_names.specs.declared.keys.UserName.{UserName}
 use Rattle.wm_names.specs.declared.namesakes.Namesakes.{Namesakes}
-use Rattle.wm_names.specs.Namesakes.{same_ref, namesakes_at}
+use Rattle.wm_names.specs.contracts.keys.UserNamePartialEq.TheImpl as user_name_by_eq
+use Rattle.wm_names.specs.FullNames.{serial_of, is_of}
+use Rattle.wm_names.specs.Namesakes.{namesakes_at, namesakes_among}
 
--- a row for each reference that names a job, and for how many more jobs there is room
+-- whether two simple names are one, as `==` answers
+abbrev pub same_simple : List ℕ → List ℕ → Bool
+same_simple = (name_by_eq.ghosts).eq
+
+-- whether two names by user are one, as `==` answers
+abbrev pub same_by_user : UserName → UserName → Bool
+same_by_user = (user_name_by_eq.ghosts).eq
+
+-- a row for each job that was added, and one for each simple name and each name by user that a job has which hasn't ended
+pub record Rows : Type 0 where
+  pub full : List FullName
+  pub by_user : List (UserName × Namesakes)
+  pub simple : List (List ℕ × Namesakes)
+
+-- the rows, and for how many more jobs there is room
 pub record Names : Type 0 where
-  pub rows : List (JobRef × Namesakes)
+  pub rows : Rows
   pub spare : ℕ
+
+-- how many jobs a reference names by the rows, and the sum of their serials
+abbrev pub namesakes_of : JobRef → Rows → Namesakes
+namesakes_of (Simple name) rows = namesakes_at same_simple name rows.simple
+namesakes_of (ByUser user name) rows = namesakes_at same_by_user (record { user = user; name = name }) rows.by_user
+namesakes_of (Full job) rows = namesakes_among serial_of (is_of job) rows.full
 
 -- how many of some jobs a reference names, and the sum of their serials
 abbrev pub namesakes_in : JobRef → List Job → Namesakes
-namesakes_in r jobs = record { count = count_by (is_named r) jobs; serials = sum_by (λ j. j.serial) (filter (is_named r) jobs) }
+namesakes_in r jobs = namesakes_among (λ j. j.serial) (is_named r) jobs
 
 -- the names are those of these jobs, in whatever order: each reference has the number of those that it names and the sum of
 -- their serials, each of which is below 2^64
 pub record IsNames (jobs : List Job) (names : Names) : Type 0 where
   pub serials : All (λ j. j.serial < 2 ^ 64) jobs
-  pub rows : (r : JobRef) → namesakes_at same_ref r names.rows ≡ namesakes_in r jobs
+  pub rows : (r : JobRef) → namesakes_of r names.rows ≡ namesakes_in r jobs
 
 -- they are the names of fewer than 4,294,967,295 jobs
 pub record HasFew (names : Names) : Type 0 where

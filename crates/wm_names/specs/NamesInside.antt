@@ -1,15 +1,27 @@
 -- What lies in a `JobNames`.
-use Rattle.std.specs.Prelude.{◌/◌}
-use Rattle.wm_law.specs.declared.command.JobRef.{JobRef}
-use Rattle.wm_names.specs.Namesakes.{same_ref, namesakes_at, HaveJobs, IsOneSerial}
-use Rattle.wm_names.specs.Names.{Names}
+use Rattle.std.specs.Prelude.{ℕ, ◌+◌, ◌^◌, ◌<◌, ◌≤◌, length, count_by, vec_capacity}
+use Rattle.wm_base.specs.declared.job.JobName.{JobName}
+use Rattle.wm_names.specs.FullNames.{is_of, AreInOrder}
+use Rattle.wm_names.specs.Namesakes.{HaveJobs}
+use Rattle.wm_names.specs.Names.{Rows, Names}
 use Rattle.wm_names.specs.declared.names.JobNames.TheInside.{Inside}
 
--- the rows, and room for the three that a job has at the most
-abbrev pub names_of : Inside → Names
-names_of n = record { rows = n.rows.items; spare = n.rows.spare / 3 }
+abbrev pub rows_of : Inside → Rows
+rows_of n = record { full = n.full.items; by_user = n.by_user.items; simple = n.simple.items }
 
--- each row has a job, and where a reference names one job alone, the sum of its row is a serial
+abbrev pub names_of : Inside → Names
+names_of n = record { rows = rows_of n; spare = n.room }
+
+-- there is a place for each job for which there is room, in each of the three
+pub record HasPlaces (n : Inside) : Type 0 where
+  pub full : length n.full.items + n.room ≤ vec_capacity n.full
+  pub by_user : n.room ≤ n.by_user.spare
+  pub simple : n.room ≤ n.simple.spare
+
+-- the rows of full names are in order, those of each name can be counted, and each of the other rows has a job
 pub record IsNamesInside (n : Inside) : Type 0 where
-  pub kept : HaveJobs n.rows.items
-  pub serials : (r : JobRef) → IsOneSerial (namesakes_at same_ref r n.rows.items)
+  pub places : HasPlaces n
+  pub in_order : AreInOrder n.full.items
+  pub counted : (job : JobName) → count_by (is_of job) n.full.items < 2 ^ 32
+  pub by_user : HaveJobs n.by_user.items
+  pub simple : HaveJobs n.simple.items

@@ -1,24 +1,27 @@
--- What lies in a row of names, and how a job joins it.
-use Rattle.std.specs.Prelude.{◌≡◌, ℕ, zero, suc, ◌+◌, ◌^◌, ◌<◌, ◌≤◌, Bool, true, false, List, All, Result, Ok, Err, unwrap_or}
+-- The jobs that one reference names, and how a job joins them and leaves them.
+use Rattle.std.specs.Prelude.{◌≡◌, ℕ, zero, suc, ◌+◌, ◌-◌, ◌%◌, ◌^◌, ◌<◌, ◌≤◌, Bool, true, false, List, All, filter, count_by, sum_by, Result, Ok, Err, unwrap_or}
 use Rattle.wm_base.specs.declared.refusal.Refusal.{Refusal}
 use Rattle.wm_base.specs.declared.refusal.Refusal.TheVariants.{Ambiguous, NoJob}
-use Rattle.wm_law.specs.declared.command.JobRef.{JobRef}
-use Rattle.wm_law.specs.contracts.command.JobRefPartialEq.TheImpl as by_eq
 use Rattle.wm_ordered.specs.Ordered.{value_at}
 use Rattle.wm_names.specs.declared.namesakes.Namesakes.{Namesakes}
-
--- whether two references are one, as `==` answers
-abbrev pub same_ref : JobRef → JobRef → Bool
-same_ref = (by_eq.ghosts).eq
 
 -- no job
 abbrev pub nobody : Namesakes
 nobody = record { count = 0; serials = 0 }
 
+-- how many of some elements pass a test, and the sum of their serials, modulo 2^64
+abbrev pub namesakes_among : {E : Type 0} → (E → ℕ) → (E → Bool) → List E → Namesakes
+namesakes_among serial_of test xs = record { count = count_by test xs; serials = sum_by serial_of (filter test xs) % 2 ^ 64 }
+
 -- with a job of a serial more, where it joins
 abbrev pub joined : Bool → ℕ → Namesakes → Namesakes
-joined true serial row = record { count = row.count + 1; serials = row.serials + serial }
+joined true serial row = record { count = row.count + 1; serials = (row.serials + serial) % 2 ^ 64 }
 joined false serial row = row
+
+-- with a job of a serial less, where it leaves
+abbrev pub parted : Bool → ℕ → Namesakes → Namesakes
+parted true serial row = record { count = row.count - 1; serials = (row.serials + (2 ^ 64 - serial)) % 2 ^ 64 }
+parted false serial row = row
 
 -- the row of a key; a key without a row has no job
 abbrev pub namesakes_at : {K : Type 0} → (K → K → Bool) → K → List (K × Namesakes) → Namesakes
@@ -28,15 +31,14 @@ namesakes_at eq key rows = unwrap_or (value_at eq key rows) nobody
 abbrev pub HaveJobs : {K : Type 0} → List (K × Namesakes) → Type 0
 HaveJobs rows = All (λ row. 1 ≤ row.1.count) rows
 
+-- one more job fits into each row
+abbrev pub AreFew : {K : Type 0} → (K → K → Bool) → List (K × Namesakes) → Type 0
+AreFew {K} eq rows = (key : K) → (namesakes_at eq key rows).count + 1 < 2 ^ 32
+
 -- a job of the serial is among these; where it is alone, the sum is its serial
 pub record IsAmong (serial : ℕ) (row : Namesakes) : Type 0 where
   pub some : 1 ≤ row.count
-  pub sum : serial ≤ row.serials
   pub alone : row.count ≡ 1 → row.serials ≡ serial
-
--- where there is one job, the sum is a serial
-abbrev pub IsOneSerial : Namesakes → Type 0
-IsOneSerial row = row.count ≡ 1 → row.serials < 2 ^ 64
 
 -- the serial of the only job, by the number and the sum
 abbrev pub only_of : ℕ → ℕ → Result ℕ Refusal

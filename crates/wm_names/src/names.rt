@@ -1,21 +1,25 @@
 // Which jobs references name.
+use crate::full_names::{only, put};
+use crate::keys::{FullName, UserName};
 use crate::namesakes::Namesakes;
 use crate::refs::{join_open, leave_open};
-use crate::rows::join;
-use std::alloc::{AllocError, Global};
+use std::alloc::Global;
 use std::marker::Model;
-use wm_base::{NoMemory, Refusal, Serial};
+use wm_base::{Name, NoMemory, Refusal, Serial};
 use wm_law::{Job, JobRef};
 use wm_ordered::Ordered;
-
-/// How many rows a job has at the most: those of its simple name, of its name by user and of its full name.
-const ROWS: u32 = 3;
 
 /// Which jobs are named by which references. The jobs themselves aren't kept: a contract sees the rows, and says of which
 /// jobs they are the names. `spare` is for how many more jobs there is room.
 #[derive(Drop)]
 pub struct JobNames {
-    rows: Ordered<JobRef, Namesakes>,
+    // A row for each job, in ascending order of the full names.
+    full: Vec<FullName>,
+    // The jobs that haven't ended, by the references without a number.
+    by_user: Ordered<UserName, Namesakes>,
+    simple: Ordered<Name, Namesakes>,
+    // For how many more jobs there is room.
+    room: u32,
 }
 
 impl Model for JobNames {
@@ -42,21 +46,27 @@ impl JobNames {
         ensures spare { result.spare ≡ 0 }
     {
         JobNames {
-            rows: Ordered::new(alloc),
+            full: Vec::new(alloc),
+            by_user: Ordered::new(alloc),
+            simple: Ordered::new(alloc),
+            room: 0,
         }
     }
 
-    /// Makes room for a number of jobs. An `Err` is want of memory, or of numbers for so many; it leaves all as it was.
+    /// Makes room for a number of jobs. An `Err` is want of memory; it leaves all as it was.
     pub fn reserve(&mut self, more: u32) -> Result<(), NoMemory>
         ensures ok { OnOk result (more ≤ self.new.spare) }
         ensures rows { self.new.rows ≡ self.old.rows }
         ensures spare { self.old.spare ≤ self.new.spare }
         ensures err { OnErr result (self.new ≡ self.old) }
     {
-        let Some(rows) = more.checked_mul(ROWS) else {
-            return Err(AllocError);
-        };
-        self.rows.reserve(rows)?;
+        if more <= self.room {
+            return Ok(());
+        }
+        self.full.reserve(more as usize)?;
+        self.by_user.reserve(more)?;
+        self.simple.reserve(more)?;
+        self.room = more;
         Ok(())
     }
 
@@ -69,8 +79,13 @@ impl JobNames {
     {
         // `get` tells the range.
         job.serial.get();
-        join_open(&mut self.rows, job);
-        join(&mut self.rows, &JobRef::Full(job.job), job.serial);
+        let row = FullName {
+            job: job.job,
+            serial: job.serial,
+        };
+        put(&mut self.full, row);
+        join_open(&mut self.by_user, &mut self.simple, job);
+        self.room -= 1;
     }
 
     /// A job ends, so a reference without its number names it no more. `job` is what it was before. It takes no memory.
@@ -79,13 +94,23 @@ impl JobNames {
         ensures names { (before behind : List Job) (ended : Job) → ended.serial ≡ job.now.serial → ended.job ≡ job.now.job → is_ended ended.phase ≡ true → IsNames (before ++ job.now ∷ behind) self.old → IsNames (before ++ ended ∷ behind) self.new }
         ensures spare { self.old.spare ≤ self.new.spare }
     {
-        leave_open(&mut self.rows, job);
+        leave_open(&mut self.by_user, &mut self.simple, job);
     }
 
     /// The serial of the one job that a reference names: none is NOJOB, several are AMBIGUOUS with their number.
     pub fn find(&self, reference: &JobRef) -> Result<Serial, Refusal>
         ensures { (jobs : List Job) → IsNames jobs self.now → result ≡ serial_of_one (only_one (filter (is_named reference.now) jobs)) }
     {
-        Namesakes::of(self.rows.get(reference)).only()
+        match reference {
+            JobRef::Simple(name) => Namesakes::of(self.simple.get(name)).only(),
+            JobRef::ByUser(user, name) => {
+                let key = UserName {
+                    user: *user,
+                    name: *name,
+                };
+                Namesakes::of(self.by_user.get(&key)).only()
+            }
+            JobRef::Full(job) => only(&self.full, job),
+        }
     }
 }

@@ -1,16 +1,17 @@
 // The jobs that one reference names.
 use wm_base::{Refusal, Serial};
 
-/// How many jobs a reference names, and the sum of their serials. Where it names one alone, the sum is that job's serial.
+/// How many jobs a reference names, and the sum of their serials, modulo 2^64. Where it names one alone, the sum is that
+/// job's serial.
 #[derive(Clone, Copy, Debug, PartialEq, Eq)]
 pub(crate) struct Namesakes {
     count: u32,
-    serials: u128,
+    serials: u64,
 }
 
 impl Namesakes {
     ghost use Rattle.std.specs.Prelude.{◌≡◌, ◌+◌, ◌^◌, ◌<◌, ◌≤◌, true, nat_lt, unwrap_or};
-    ghost use Rattle.wm_names.specs.Namesakes.{nobody, joined, only, IsAmong, IsOneSerial};
+    ghost use Rattle.wm_names.specs.Namesakes.{nobody, joined, parted, only};
 
     /// Those of a row, where there is one.
     pub(crate) fn of(row: Option<Namesakes>) -> Namesakes
@@ -24,24 +25,23 @@ impl Namesakes {
 
     /// These and one job more.
     pub(crate) fn with(self, serial: Serial) -> Namesakes
-        requires count { self.count + 1 < 2 ^ 32 }
-        requires serials { self.serials + 2 ^ 64 ≤ 2 ^ 128 }
+        requires { self.count + 1 < 2 ^ 32 }
         ensures { result ≡ joined true serial self }
     {
         Namesakes {
             count: self.count + 1,
-            serials: self.serials + u128::from(serial.get()),
+            serials: self.serials.wrapping_add(serial.get()),
         }
     }
 
-    /// These and one job less, which is among them.
+    /// These and one job less.
     pub(crate) fn without(self, serial: Serial) -> Namesakes
-        requires { IsAmong serial self }
-        ensures { joined true serial result ≡ self }
+        requires { 1 ≤ self.count }
+        ensures { result ≡ parted true serial self }
     {
         Namesakes {
             count: self.count - 1,
-            serials: self.serials - u128::from(serial.get()),
+            serials: self.serials.wrapping_sub(serial.get()),
         }
     }
 
@@ -54,12 +54,11 @@ impl Namesakes {
 
     /// The serial of the only one: none is NOJOB, several are AMBIGUOUS with their number.
     pub(crate) fn only(&self) -> Result<Serial, Refusal>
-        requires { IsOneSerial self.now }
         ensures { result ≡ only self.now }
     {
         match self.count {
             0 => Err(Refusal::NoJob),
-            1 => Ok(Serial::new(self.serials as u64)),
+            1 => Ok(Serial::new(self.serials)),
             several => Err(Refusal::Ambiguous(several)),
         }
     }

@@ -1,28 +1,18 @@
-use Rattle.std.proofs.Common.{◌∷◌, ◌++◌, [], sym, subst}
-use Rattle.wm_law.specs.declared.command.JobRef.TheVariants.{Full}
+use Rattle.std.proofs.Common.{◌∷◌, ◌++◌, [], length-append, sym, subst, arith}
 use Rattle.wm_names.specs.Names.{Names, IsNames}
 use Rattle.wm_names.specs.NamesInside.{names_of}
-use Rattle.wm_names.proofs.NameLemmas.{few_rows, added-names, names-one}
+use Rattle.wm_names.proofs.NameLemmas.{few_by_user, few_simple, few_full, added-names}
 use Rattle.wm_names.proofs.names.JobNames.add.Goals as goal
 
-pub join_open-requires-clause-few : goal.join_open-requires-clause-few
-join_open-requires-clause-few c =
+pub join_open-requires-clause-by_user_few : goal.join_open-requires-clause-by_user_few
+join_open-requires-clause-by_user_few c =
     let old = subst (λ (n : Names). IsNames c.requires.few.jobs n) (sym c.self.view_is) c.requires.few.are in
-    few_rows (names_of c.self.inside) c.requires.few.jobs old c.requires.few.few
+    few_by_user (names_of c.self.inside) c.requires.few.jobs old c.requires.few.few
 
-pub join-requires-clause-count : goal.join-requires-clause-count
-join-requires-clause-count c =
+pub join_open-requires-clause-simple_few : goal.join_open-requires-clause-simple_few
+join_open-requires-clause-simple_few c =
     let old = subst (λ (n : Names). IsNames c.requires.few.jobs n) (sym c.self.view_is) c.requires.few.are in
-    let few = few_rows (names_of c.self.inside) c.requires.few.jobs old c.requires.few.few in
-    let full = Full c.args.job.now.job in
-    rw (c.join_open.ensures.rows full) (few.counts full)
-
-pub join-requires-clause-serials : goal.join-requires-clause-serials
-join-requires-clause-serials c =
-    let old = subst (λ (n : Names). IsNames c.requires.few.jobs n) (sym c.self.view_is) c.requires.few.are in
-    let few = few_rows (names_of c.self.inside) c.requires.few.jobs old c.requires.few.few in
-    let full = Full c.args.job.now.job in
-    rw (c.join_open.ensures.rows full) (few.serials full)
+    few_simple (names_of c.self.inside) c.requires.few.jobs old c.requires.few.few
 
 -- the new rows are those of the jobs that are known, with this one
 pub invariant_of-self : goal.invariant_of-self
@@ -30,13 +20,23 @@ invariant_of-self c =
     let jobs = c.requires.few.jobs in
     let job = c.args.job.now in
     let old = subst (λ (n : Names). IsNames jobs n) (sym c.self.view_is) c.requires.few.are in
-    let new : Names = record { rows = c.join.new.rows.items; spare = 0 } in
+    let places = c.self.invariant.places in
+    let new : Names = record { rows = record { full = c.put.new.rows.items; by_user = c.join_open.new.by_user.items; simple = c.join_open.new.simple.items }; spare = 0 } in
+    let are = added-names (names_of c.self.inside) new job c.put.ensures.rows c.join_open.ensures.by_user c.join_open.ensures.simple c.get.ensures.range jobs old in
+    let few = c.requires.few.few in
     record {
-      kept = c.join.ensures.kept (c.join_open.ensures.kept c.self.invariant.kept);
-      serials = names-one new (jobs ++ job ∷ []) (added-names (names_of c.self.inside) new job c.join_open.new.rows.items c.join_open.ensures.rows c.join.ensures.rows c.get.ensures.range jobs old);
+      places = record {
+        full = omega (arith, places.full, c.put.ensures.len, c.put.ensures.capacity);
+        by_user = omega (arith, places.by_user, c.join_open.ensures.by_user_spare);
+        simple = omega (arith, places.simple, c.join_open.ensures.simple_spare);
+      };
+      in_order = c.put.ensures.in_order;
+      counted = few_full new (jobs ++ job ∷ []) are (omega (arith, few, length-append jobs (job ∷ [])));
+      by_user = c.join_open.ensures.by_user_kept c.self.invariant.by_user;
+      simple = c.join_open.ensures.simple_kept c.self.invariant.simple;
     }
 
 pub returns-clause-names : goal.returns-clause-names
 returns-clause-names c = λ jobs are.
     let old = subst (λ (n : Names). IsNames jobs n) (sym c.self.view_is) are in
-    added-names (names_of c.self.inside) _ c.args.job.now c.join_open.new.rows.items c.join_open.ensures.rows c.join.ensures.rows c.get.ensures.range jobs old
+    added-names (names_of c.self.inside) _ c.args.job.now c.put.ensures.rows c.join_open.ensures.by_user c.join_open.ensures.simple c.get.ensures.range jobs old

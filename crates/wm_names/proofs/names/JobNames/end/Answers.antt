@@ -1,34 +1,33 @@
-use Rattle.std.proofs.Common.{◌∷◌, ◌++◌, refl, sym, subst}
-use Rattle.wm_base.specs.declared.job.EndCause.TheVariants.{Completed}
-use Rattle.wm_law.specs.declared.job.Job.{Job}
-use Rattle.wm_law.specs.declared.job.Phase.TheVariants.{Ended}
+use Rattle.std.proofs.Common.{◌∷◌, ◌++◌, refl, sym, subst, arith}
 use Rattle.wm_names.specs.Names.{Names, IsNames}
 use Rattle.wm_names.specs.NamesInside.{names_of}
-use Rattle.wm_names.proofs.NameLemmas.{named_there, ended-names, names-one}
+use Rattle.wm_names.proofs.NameLemmas.{named_simple, named_by_user, ended-names}
 use Rattle.wm_names.proofs.names.JobNames.end.Goals as goal
 
-pub leave_open-requires-clause-there : goal.leave_open-requires-clause-there
-leave_open-requires-clause-there c =
+pub leave_open-requires-clause-by_user : goal.leave_open-requires-clause-by_user
+leave_open-requires-clause-by_user c =
     let job = c.args.job.now in
     let old = subst (λ (n : Names). IsNames (c.requires.before ++ job ∷ c.requires.behind) n) (sym c.self.view_is) c.requires.are in
-    named_there (names_of c.self.inside) c.requires.before job c.requires.behind old
+    named_by_user job c.requires.lasts (names_of c.self.inside) c.requires.before c.requires.behind old
 
--- the new rows are those of the jobs that are known, with this one ended
+pub leave_open-requires-clause-simple : goal.leave_open-requires-clause-simple
+leave_open-requires-clause-simple c =
+    let job = c.args.job.now in
+    let old = subst (λ (n : Names). IsNames (c.requires.before ++ job ∷ c.requires.behind) n) (sym c.self.view_is) c.requires.are in
+    named_simple job c.requires.lasts (names_of c.self.inside) c.requires.before c.requires.behind old
+
 pub invariant_of-self : goal.invariant_of-self
 invariant_of-self c =
-    let job = c.args.job.now in
-    let before = c.requires.before in
-    let behind = c.requires.behind in
-    let old = subst (λ (n : Names). IsNames (before ++ job ∷ behind) n) (sym c.self.view_is) c.requires.are in
-    let ended : Job = record job { phase = Ended Completed } in
-    let new : Names = record { rows = c.leave_open.new.rows.items; spare = 0 } in
+    let inside = c.self.invariant in
     record {
-      kept = c.leave_open.ensures.kept c.self.invariant.kept;
-      serials = names-one new (before ++ ended ∷ behind) (ended-names (names_of c.self.inside) new job c.leave_open.ensures.rows before behind ended refl refl refl old);
+      places = record { full = inside.places.full; by_user = omega (arith, inside.places.by_user, c.leave_open.ensures.by_user_spare); simple = omega (arith, inside.places.simple, c.leave_open.ensures.simple_spare) };
+      in_order = inside.in_order;
+      counted = inside.counted;
+      by_user = c.leave_open.ensures.by_user_kept inside.by_user;
+      simple = c.leave_open.ensures.simple_kept inside.simple;
     }
 
 pub returns-clause-names : goal.returns-clause-names
 returns-clause-names c = λ before behind ended serial name ends are.
-    let job = c.args.job.now in
-    let old = subst (λ (n : Names). IsNames (before ++ job ∷ behind) n) (sym c.self.view_is) are in
-    ended-names (names_of c.self.inside) _ job c.leave_open.ensures.rows before behind ended serial name ends old
+    let old = subst (λ (n : Names). IsNames (before ++ c.args.job.now ∷ behind) n) (sym c.self.view_is) are in
+    ended-names (names_of c.self.inside) _ c.args.job.now refl c.leave_open.ensures.by_user c.leave_open.ensures.simple before behind ended serial name ends old
