@@ -1,5 +1,5 @@
 -- Of which jobs rows are the names when a job joins them or ends.
-use Rattle.std.proofs.Common.{◌≡◌, ℕ, ◌+◌, ◌^◌, ◌<◌, Bool, true, false, not, ◌&&◌, List, [], ◌∷◌, ◌++◌, length, filter, count_by, nat_eq, refl, ap, sym, ◌∙◌, subst, arith}
+use Rattle.std.proofs.Common.{◌≡◌, ℕ, ◌+◌, ◌^◌, ◌<◌, Bool, true, false, not, ◌&&◌, List, [], ◌∷◌, ◌++◌, length, filter, count_by, nat_eq, ap, sym, ◌∙◌, subst, arith}
 use Rattle.std.specs.Cmp.Lexicographic.{pointwise, nat_list_eq_equiv}
 use Rattle.wm_base.specs.declared.job.JobName.{JobName}
 use Rattle.wm_law.specs.declared.command.JobRef.{JobRef}
@@ -10,9 +10,9 @@ use Rattle.wm_names.specs.declared.keys.UserName.{UserName}
 use Rattle.wm_names.specs.declared.namesakes.Namesakes.{Namesakes}
 use Rattle.wm_names.specs.FullNames.{serial_of, is_of, same_name}
 use Rattle.wm_names.specs.Namesakes.{joined, parted, namesakes_at, namesakes_among, AreFew, IsAmong, only}
-use Rattle.wm_names.specs.Names.{Rows, Names, IsNames, same_simple, same_by_user, namesakes_of, namesakes_in, serial_of_one}
+use Rattle.wm_names.specs.Names.{Names, IsNames, same_simple, same_by_user, namesakes_of, serial_of_one}
 use Rattle.wm_names.specs.Refs.{user_name_of}
-use Rattle.wm_names.proofs.JobLemmas.{job_serial, IsSmall, total, total-middle, total-push, total-parted, total-among, total-few, total-only, small-replaced, small-middle, small-push}
+use Rattle.wm_names.proofs.JobLemmas.{job_serial, total, total-middle, total-push, total-parted, total-among, total-few, total-only, small-replaced, small-middle, small-push}
 
 -- rows of few jobs have room for one more
 module _ (names : Names) (jobs : List Job) (are : IsNames jobs names) where

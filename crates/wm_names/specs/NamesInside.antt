@@ -1,5 +1,5 @@
 -- What lies in a `JobNames`.
-use Rattle.std.specs.Prelude.{ℕ, ◌+◌, ◌^◌, ◌<◌, ◌≤◌, length, count_by, vec_capacity}
+use Rattle.std.specs.Prelude.{◌+◌, ◌^◌, ◌<◌, ◌≤◌, length, count_by, vec_capacity}
 use Rattle.wm_base.specs.declared.job.JobName.{JobName}
 use Rattle.wm_names.specs.FullNames.{is_of, AreInOrder}
 use Rattle.wm_names.specs.Namesakes.{HaveJobs}

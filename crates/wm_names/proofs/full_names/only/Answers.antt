@@ -1,4 +1,4 @@
-use Rattle.std.proofs.Common.{◌≡◌, ◌-◌, ◌<◌, ◌≤◌, Ok, count_by, get_or, ap, sym, ◌∙◌, arith}
+use Rattle.std.proofs.Common.{◌≡◌, ◌-◌, ◌<◌, ◌≤◌, Ok, count_by, ap, sym, ◌∙◌, arith}
 use Rattle.wm_names.specs.FullNames.{serial_of, is_of}
 use Rattle.wm_names.proofs.FullRows.{count-between, is_of-first}
 use Rattle.wm_names.proofs.JobLemmas.{total, total-at, only-none, only-one, only-several}
