@@ -51,7 +51,7 @@ impl Core {
     ghost use Rattle.wm_core.specs.Stored.{kept_state};
 
     /// The machine of what a store has: no subsystem is started, the clock is 0, and the power is On. An `Err` is want of
-    /// memory.
+    /// memory, or comes where there are more jobs than a table takes.
     pub fn stored(alloc: Global, kept: Kept) -> Result<Core, NoMemory>
         requires sound { IsSound (kept_state kept) }
         requires inactive { All (λ j. is_active j.phase ≡ false) (kept_state kept).jobs }
