@@ -1,5 +1,6 @@
 pub mod ByDrafts
 pub mod Clocked
+pub mod FromStore
 pub mod Leaving
 pub mod Opened
 pub mod Phases

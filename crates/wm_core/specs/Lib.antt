@@ -2,3 +2,4 @@ pub mod Clocked
 pub mod Drafts
 pub mod Leaving
 pub mod MachineInside
+pub mod Stored

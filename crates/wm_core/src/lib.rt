@@ -1,11 +1,11 @@
 //! The machine's program: what computes its steps.
 //!
 //! The contract for the layer above: a contract sees a `Core` as the state of the definitions in `wm_law`.
-//! `Core::opening` is the state that an empty store opens with, and `Core::step` answers what the definition `step`
-//! gives and leaves the state that it gives; after want of memory the state is as before. The state is sound, so over
-//! a step no start passes a limit, and the jobs are launched in their order. `Core::pending` tells what waits for a
-//! monitor. `built` says which commands users have. `Machine` takes the same steps over any state, sound or not, which
-//! whoever has it may set.
+//! `Core::opening` is the state that an empty store opens with, `Core::stored` the state that a machine has from a store,
+//! and `Core::step` answers what the definition `step` gives and leaves the state that it gives; after want of memory the
+//! state is as before. The state is sound, so over a step no start passes a limit, and the jobs are launched in their
+//! order. `Core::pending` tells what waits for a monitor. `built` says which commands users have. `Machine` takes the same
+//! steps over any state, sound or not, which whoever has it may set.
 #![tactic(auto)]
 
 mod autos;
@@ -23,6 +23,7 @@ mod reports;
 mod schedules;
 mod settling;
 mod sound;
+mod stored;
 mod submitting;
 mod subsystems;
 
@@ -30,3 +31,4 @@ pub use machine::Machine;
 pub use not_built::{NotBuilt, built};
 pub use opening::{Setup, opening_commands};
 pub use sound::Core;
+pub use stored::Kept;

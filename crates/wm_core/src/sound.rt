@@ -14,10 +14,11 @@ use std::marker::Model;
 use wm_base::{Moment, NoMemory};
 use wm_law::{Call, Pending, Reply};
 
-/// A machine whose state is sound: it was opened, and then changed by steps alone. A contract sees it as the state.
+/// A machine whose state is sound: it was opened, or came from a store, and then changed by steps alone. A contract sees it
+/// as the state.
 #[derive(Drop)]
 pub struct Core {
-    machine: Machine,
+    pub(crate) machine: Machine,
 }
 
 impl Model for Core {

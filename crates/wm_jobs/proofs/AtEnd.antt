@@ -31,7 +31,7 @@ use Rattle.wm_jobs.proofs.JobParts.{waiting-inactive, waiting-unstarted, waiter-
 pub same-tally : (hs : List How) (old new : Counts) → new.counts ≡ old.counts → IsTally hs old → IsTally hs new
 same-tally hs old new same h = λ k. ap (number_at same_counted k) same ∙ h k
 
-pub new-inside : (new : Inside) → new.jobs.items ≡ [] → new.waiting.items ≡ [] → IsTally [] new.tally → new.starting.items ≡ [] → new.active ≡ 0 → new.busy ≡ 0 → new.room ≡ 0 → new.next_place ≡ 1 → IsNames [] new.names → IsTableInside new
+pub new-inside : (new : Inside) → new.jobs.items ≡ [] → new.waiting.items ≡ [] → IsTally [] new.tally → new.starting.items ≡ [] → new.active ≡ 0 → new.busy ≡ 0 → new.room ≡ 0 → 1 ≤ new.next_place → IsNames [] new.names → IsTableInside new
 new-inside new jobs waiting tally starting active busy room np names = record {
   listed = subst (λ js. AreListed new.next_serial new.next_place js) (sym jobs) (record { first_place = omega arith; sorted = λ i j d lt in_range. absurd (omega arith); each = All-nil (IsListed new.next_serial new.next_place) });
   indexed = subst (λ js. IsIndexed js new.waiting new.tally new.starting new.active new.busy) (sym jobs) (record { waiters_are = waiting; hows_are = tally; orders_are = starting; active_are = active; busy_are = busy });

@@ -1,6 +1,7 @@
 pub mod AtEnd
 pub mod AtLaunch
 pub mod AtPlace
+pub mod AtStored
 pub mod Changes
 pub mod Cleared
 pub mod JobParts

@@ -4,9 +4,10 @@
 //! up to which waiting jobs are due, the next serial and place, and for how many more jobs there is room. Beside the list it
 //! keeps the jobs that wait, the tally of the active ones, those that wait for a monitor, the counts of these, and which of
 //! them a command names, so that no call goes through the jobs; `clear` goes through those alone that it ends. Room is taken
-//! by `reserve` alone.
+//! by `reserve` alone. `stored` makes the table of the jobs that a store has, one after the other.
 //! The definitions are in `specs/`: `Table` has what a contract sees, `Indexed` what jobs are found and counted by,
-//! `Renewed` what a change makes of those that wait, `TableInside` what lies in a table.
+//! `Renewed` what a change makes of those that wait, `Stored` what is asked of the jobs of a store, `TableInside` what lies in
+//! a table.
 #![tactic(auto)]
 
 mod clearing;
@@ -15,6 +16,7 @@ mod naming;
 mod phases;
 mod places;
 mod renewing;
+mod stored;
 mod table;
 mod waiting;
 

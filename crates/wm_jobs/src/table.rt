@@ -32,7 +32,7 @@ pub struct JobTable {
     next_serial: u64,
     pub(crate) next_place: u64,
     // For how many more jobs each of these has room.
-    room: u32,
+    pub(crate) room: u32,
 }
 
 impl Model for JobTable {
@@ -67,6 +67,18 @@ impl JobTable {
         ensures next_place { result.next_place ≡ 1 }
         ensures spare { result.spare ≡ 0 }
     {
+        JobTable::empty(alloc, 1, 1)
+    }
+
+    // No jobs; the clock is 0, and serials and places go on from these.
+    pub(crate) fn empty(alloc: Global, next_serial: u64, next_place: u64) -> JobTable
+        requires { 1 ≤ next_place }
+        ensures jobs { result.jobs ≡ [] }
+        ensures clock { result.clock ≡ 0 }
+        ensures next_serial { result.next_serial ≡ next_serial }
+        ensures next_place { result.next_place ≡ next_place }
+        ensures spare { result.spare ≡ 0 }
+    {
         JobTable {
             jobs: Vec::new(alloc),
             waiting: WaitingJobs::new(alloc),
@@ -75,8 +87,8 @@ impl JobTable {
             names: JobNames::new(alloc),
             active: 0,
             busy: 0,
-            next_serial: 1,
-            next_place: 1,
+            next_serial,
+            next_place,
             room: 0,
         }
     }
