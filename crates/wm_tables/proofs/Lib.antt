@@ -1,0 +1,4 @@
+pub mod Passing
+pub mod OneMore
+pub mod RowOrder
+pub mod Digits
