@@ -2,3 +2,8 @@ pub mod Passing
 pub mod OneMore
 pub mod RowOrder
 pub mod Digits
+pub mod Made
+pub mod Joining
+pub mod Building
+pub mod Ends
+pub mod Restarts

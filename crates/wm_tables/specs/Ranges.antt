@@ -1,5 +1,5 @@
 -- Which states keep the ranges of what is stored of them.
-use Rattle.std.specs.Prelude.{◌≡◌}
+use Rattle.std.specs.Prelude.{◌≤◌}
 use Rattle.wm_base.specs.declared.qname.QName.{QName}
 use Rattle.wm_base.specs.declared.job.Class.{Class}
 use Rattle.wm_desc.specs.declared.description.Jobd.{Jobd}
@@ -42,8 +42,9 @@ pub record IsJobInRange (objects : Objects) (j : Job) : Type 0 where
   pub lengths : HasLengths (stored_of j)
   pub kind : IsOfKind objects j.kind (stored_of j)
 
--- all that is stored of a state keeps its ranges
+-- all that is stored of a state keeps its ranges, and so does the clock, by which autostart jobs are due
 pub record IsInRange (s : State) : Type 0 where
   pub objects : AreInRange s.objects
   pub held : (q : QName) → IsIn q s.held → IsQName q
   pub jobs : (j : Job) → IsIn j s.jobs → IsJobInRange s.objects j
+  pub clock : s.clock ≤ 253402214399
