@@ -60,7 +60,7 @@ other_words : (xs ys : List ℕ) (a b : ℕ) → xs ≡ ys → get_or xs 1 0 ≡
 other_words xs ys a b e f g other = other (sym f ∙ ap (λ (zs : List ℕ). get_or zs 1 0) e ∙ g)
 
 -- counters are told apart by their words
-one_counter : (c d : Counter) → counter_word c ≡ counter_word d → c ≡ d
+pub one_counter : (c d : Counter) → counter_word c ≡ counter_word d → c ≡ d
 one_counter counter.Number counter.Number e = refl
 one_counter counter.Number counter.Place e = absurd (other_words (counter_word counter.Number) (counter_word counter.Place) 85 76 e refl refl (λ n. absurd (omega arith)))
 one_counter counter.Number counter.Schema e = absurd (other_words (counter_word counter.Number) (counter_word counter.Schema) 85 67 e refl refl (λ n. absurd (omega arith)))

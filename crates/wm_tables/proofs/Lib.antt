@@ -2,8 +2,12 @@ pub mod Passing
 pub mod OneMore
 pub mod RowOrder
 pub mod Digits
+pub mod Keys
 pub mod Made
+pub mod OwnPlaces
 pub mod Joining
 pub mod Building
 pub mod Ends
 pub mod Restarts
+pub mod RowsOf
+pub mod OwnRows
