@@ -11,3 +11,4 @@ pub mod Ends
 pub mod Restarts
 pub mod RowsOf
 pub mod OwnRows
+pub mod Parts

@@ -6,6 +6,7 @@ use Rattle.std.specs.Ordering.{nat_cmp}
 use Rattle.std.proofs.lemmas.Bool.{and_parts}
 use Rattle.std.proofs.lemmas.Bool.Decides.{nat_tests}
 use Rattle.std.proofs.lemmas.Cmp.{nat_cmp_total, nat_list_cmp_total}
+use Rattle.wm_base.specs.Number.{zero_padded}
 use Rattle.wm_base.specs.declared.job.Class.{Class}
 use Rattle.wm_base.specs.declared.qname.QName.{QName}
 use Rattle.wm_desc.specs.declared.description.Jobd.{Jobd}
@@ -22,14 +23,14 @@ use Rattle.wm_outside.specs.declared.row.Row.{Row}
 use Rattle.wm_outside.specs.Rows.{place_of}
 use Rattle.wm_law.specs.Fit.{IsQName}
 use Rattle.wm_law.specs.Laws.{IsIn}
-use Rattle.wm_law.specs.Objects.{IsDescription}
+use Rattle.wm_law.specs.Objects.{HasTables, IsDescription}
 use Rattle.wm_law.specs.Queues.{own_name}
 use Rattle.wm_law.specs.Sound.{IsIncreasing, IsSound}
 use Rattle.wm_law.specs.declared.job.Job.{Job}
 use Rattle.wm_law.specs.declared.state.State.{State}
 use Rattle.wm_law.proofs.Members.{in_mapped, of_mapped}
 use Rattle.wm_rows.specs.Rows.{class_row, program_row, queue_row, jobd_row, sbsd_row, queue_entry_row, route_entry_row, auto_entry_row, pre_entry_row, held_row, counter_row}
-use Rattle.wm_rows.specs.Tables.{queue_entry_rows, route_entry_rows, auto_entry_rows, pre_entry_rows, held_rows, counter_rows}
+use Rattle.wm_rows.specs.Tables.{queue_entry_rows, route_entry_rows, auto_entry_rows, pre_entry_rows, sbsd_rows, held_rows, counter_rows}
 use Rattle.wm_rows.specs.declared.stored.Counter.{Counter}
 use Rattle.wm_rows.specs.declared.stored.Counter.TheVariants as counter
 use Rattle.wm_job_rows.specs.JobText.{job_row}
@@ -38,7 +39,8 @@ use Rattle.wm_tables.specs.Ranges.{IsInRange}
 use Rattle.wm_tables.specs.Tables.{job_rows, rows_of}
 use Rattle.wm_tables.proofs.Ends.{one_counter}
 use Rattle.wm_tables.proofs.Keys.{one_entry, one_number, one_text}
-use Rattle.wm_tables.proofs.OwnPlaces.{HasTab, HasTabsTo, own_flat, own_mapped, own_next, same_key, tab_flat, tab_mapped, tabs_both}
+use Rattle.wm_tables.proofs.OwnPlaces.{HasTab, HasTabsTo, of_flat, own_both, own_flat, own_mapped, same_key, same_tab, tab_flat, tab_mapped}
+use Rattle.wm_tables.proofs.Passing.{of_parts}
 use Rattle.wm_tables.proofs.RowOrder.{HasOwnPlaces}
 use Rattle.wm_tables.proofs.RowsOf.{named_in}
 
@@ -51,7 +53,7 @@ queue_seq e h = at_most 1 9999 e.seq (and_parts _ (limit_within 0 1000 e.maxact)
 pub route_seq : (e : RouteEntry) → route_in_range e ≡ true → e.seq ≤ 9999
 route_seq e h = at_most 1 9999 e.seq (and_parts _ (cmp_in_range e.cmp) (and_parts _ (limit_within 0 1000 e.maxact) (and_parts _ (within 1 10 e.poolid) h).0).0).0
 
-one_seq : (a b : ℕ) → a ≤ 9999 → b ≤ 9999 → Rattle.wm_base.specs.Number.zero_padded 4 a ≡ Rattle.wm_base.specs.Number.zero_padded 4 b → a ≡ b
+one_seq : (a b : ℕ) → a ≤ 9999 → b ≤ 9999 → zero_padded 4 a ≡ zero_padded 4 b → a ≡ b
 one_seq a b f g e = one_number 3 a b (omega arith) (omega arith) (omega arith) (omega arith) e
 
 -- jobs in the order of their serials
@@ -105,7 +107,7 @@ none_own [] h = tt
 none_own (r ∷ rows) h = absurd (h r (inl refl))
 
 module _ (s : State) (sound : IsSound s) (range : IsInRange s) where
-  abbrev tables : Rattle.wm_law.specs.Objects.HasTables s.objects
+  abbrev tables : HasTables s.objects
   tables = sound.objects.tables
 
   own_classes : HasOwnPlaces (map class_row s.objects.classes)
@@ -174,7 +176,7 @@ module _ (s : State) (sound : IsSound s) (range : IsInRange s) where
   own_pre_entries =
       none_own (flat_map pre_entry_rows s.objects.sbsds)
       (λ r i.
-      let f = Rattle.wm_tables.proofs.OwnPlaces.of_flat pre_entry_rows s.objects.sbsds r i in
+      let f = of_flat pre_entry_rows s.objects.sbsds r i in
       let m = of_mapped (pre_entry_row f.0.0) f.0.1.pres r f.2 in
       (range.objects.entries f.0 f.1).pres m.0 m.1)
 
@@ -184,9 +186,39 @@ module _ (s : State) (sound : IsSound s) (range : IsInRange s) where
   tab_entries : {E : Type 0} (n : ℕ) (f : QName → E → Row) (g : Sbsd → List E) → ((q : QName) (e : E) → (f q e).tab ≡ n) → HasTab n (flat_map (λ (x : QName × Sbsd). map (f x.0) (g x.1)) s.objects.sbsds)
   tab_entries n f g h = tab_flat n (λ (x : QName × Sbsd). map (f x.0) (g x.1)) s.objects.sbsds (λ x. tab_mapped n (f x.0) (g x.1) (h x.0))
 
-  record IsOwn (n : ℕ) (rows : List Row) : Type 0 where
+  -- no two of these rows have one place, and all are of tables from one to another
+  record IsOwn (low high : ℕ) (rows : List Row) : Type 0 where
     own : HasOwnPlaces rows
-    tabs : HasTabsTo n rows
+    from : (r : Row) → IsIn r rows → low ≤ r.tab
+    upto : HasTabsTo high rows
 
-  next : (n m : ℕ) (xs ys : List Row) → n < m → HasTab m ys → HasOwnPlaces ys → IsOwn n xs → IsOwn m (xs ++ ys)
-  next n m xs ys less tab own h = record { own = own_next n m xs ys less h.tabs tab h.own own; tabs = tabs_both n m xs ys less h.tabs tab }
+  one : (n : ℕ) (rows : List Row) → HasTab n rows → HasOwnPlaces rows → IsOwn n n rows
+  one n rows tab own = record { own = own; from = λ r i. (let at : r.tab ≡ n = tab r i in omega arith); upto = to_tab n rows tab }
+
+  next : (low n m high : ℕ) (xs ys : List Row) → n < m → low ≤ m → n ≤ high → IsOwn low n xs → IsOwn m high ys → IsOwn low high (xs ++ ys)
+  next low n m high xs ys less first last h g = record {
+    own = own_both xs ys (λ r q i j e. (let a = h.upto r i in let b = g.from q j in let same = same_tab q r e in absurd (omega arith))) h.own g.own;
+    from = λ r i. (elim (of_parts xs ys r i) as (λ _. low ≤ r.tab) [ inl k ↦ h.from r k | inr k ↦ (let b = g.from r k in omega arith) ]);
+    upto = λ r i. (elim (of_parts xs ys r i) as (λ _. r.tab ≤ high) [ inl k ↦ (let a = h.upto r k in omega arith) | inr k ↦ g.upto r k ]);
+  }
+
+  first_four : IsOwn 1 4 (map class_row s.objects.classes ++ map program_row s.objects.programs ++ map queue_row s.objects.jobqs ++ map jobd_row s.objects.jobds)
+  first_four =
+      let two = next 1 1 2 2 _ _ (omega arith) (omega arith) (omega arith) (one 1 _ (tab_mapped 1 class_row s.objects.classes (λ x. refl)) own_classes) (one 2 _ (tab_mapped 2 program_row s.objects.programs (λ x. refl)) own_programs) in
+      let three = next 1 2 3 3 _ _ (omega arith) (omega arith) (omega arith) two (one 3 _ (tab_mapped 3 queue_row s.objects.jobqs (λ x. refl)) own_queues) in
+      next 1 3 4 4 _ _ (omega arith) (omega arith) (omega arith) three (one 4 _ (tab_mapped 4 jobd_row s.objects.jobds (λ x. refl)) own_jobds)
+
+  descriptions : IsOwn 5 9 (sbsd_rows s.objects.sbsds)
+  descriptions =
+      let two = next 5 5 6 6 _ _ (omega arith) (omega arith) (omega arith) (one 5 _ (tab_mapped 5 sbsd_row s.objects.sbsds (λ x. refl)) own_sbsds) (one 6 (flat_map queue_entry_rows s.objects.sbsds) (tab_entries 6 queue_entry_row (λ d. d.queues) (λ q e. refl)) own_queue_entries) in
+      let three = next 5 6 7 7 _ _ (omega arith) (omega arith) (omega arith) two (one 7 (flat_map route_entry_rows s.objects.sbsds) (tab_entries 7 route_entry_row (λ d. d.routes) (λ q e. refl)) own_route_entries) in
+      let four = next 5 7 8 8 _ _ (omega arith) (omega arith) (omega arith) three (one 8 (flat_map auto_entry_rows s.objects.sbsds) (tab_entries 8 auto_entry_row (λ d. d.autos) (λ q e. refl)) own_auto_entries) in
+      next 5 8 9 9 _ _ (omega arith) (omega arith) (omega arith) four (one 9 (flat_map pre_entry_rows s.objects.sbsds) (tab_entries 9 pre_entry_row (λ d. d.pres) (λ q e. refl)) own_pre_entries)
+
+  -- so it is with all rows of the state
+  pub own_rows : HasOwnPlaces (rows_of s)
+  own_rows =
+      let objects = next 1 4 5 9 _ _ (omega arith) (omega arith) (omega arith) first_four descriptions in
+      let held = next 1 9 10 10 _ _ (omega arith) (omega arith) (omega arith) objects (one 10 (held_rows s.held) (tab_mapped 10 held_row s.held (λ x. refl)) own_held) in
+      let jobs = next 1 10 11 11 _ _ (omega arith) (omega arith) (omega arith) held (one 11 (job_rows s.jobs) (tab_mapped 11 (λ (j : Job). job_row (stored_of j)) s.jobs (λ x. refl)) (own_jobs s.jobs (λ j i. (range.jobs j i).stored.serial) sound.jobs)) in
+      (next 1 11 12 12 _ _ (omega arith) (omega arith) (omega arith) jobs (one 12 (counter_rows s.next_number s.next_place s.next_serial) (tab_counters s.next_number s.next_place s.next_serial) (own_counters s.next_number s.next_place s.next_serial))).own
