@@ -12,3 +12,5 @@ pub mod Restarts
 pub mod RowsOf
 pub mod OwnRows
 pub mod Parts
+pub mod Unrefused
+pub mod StepObjects
