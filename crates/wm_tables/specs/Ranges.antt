@@ -1,5 +1,5 @@
 -- Which states keep the ranges of what is stored of them.
-use Rattle.std.specs.Prelude.{◌≤◌}
+use Rattle.std.specs.Prelude.{◌≡◌, ◌≤◌, false}
 use Rattle.wm_base.specs.declared.qname.QName.{QName}
 use Rattle.wm_base.specs.declared.job.Class.{Class}
 use Rattle.wm_desc.specs.declared.description.Jobd.{Jobd}
@@ -11,6 +11,7 @@ use Rattle.wm_desc.specs.declared.entry.PreEntry.{PreEntry}
 use Rattle.wm_desc.specs.declared.entry.QueueEntry.{QueueEntry}
 use Rattle.wm_desc.specs.declared.entry.RouteEntry.{RouteEntry}
 use Rattle.wm_desc.specs.declared.objects.Objects.{Objects}
+use Rattle.wm_desc.specs.Table.{is_qcmd}
 use Rattle.wm_law.specs.Fit.{IsCommand, IsQName}
 use Rattle.wm_law.specs.Laws.{IsIn}
 use Rattle.wm_law.specs.declared.command.Command.TheVariants as command
@@ -27,10 +28,11 @@ pub record HasEntriesInRange (sbsd : QName) (d : Sbsd) : Type 0 where
   pub autos : (e : AutoEntry) → IsIn e d.autos → IsCommand (command.Addaje (addaje_of sbsd e))
   pub pres : (e : PreEntry) → IsIn e d.pres → ⊥
 
--- the command that makes each object again keeps its ranges, and so do those of the entries
+-- the command that makes each object again keeps its ranges, and so do those of the entries; QSYS/QCMD is no object
 pub record AreInRange (objects : Objects) : Type 0 where
   pub classes : (o : QName × Class) → IsIn o objects.classes → IsCommand (command.Crtcls (crtcls_of o.0 o.1))
   pub programs : (o : QName × Program) → IsIn o objects.programs → IsCommand (command.Crtpgmref (crtpgmref_of o.0 o.1))
+  pub no_qcmd : (o : QName × Program) → IsIn o objects.programs → is_qcmd o.0 ≡ false
   pub jobqs : (o : QName × Jobq) → IsIn o objects.jobqs → IsCommand (command.Crtjobq (crtjobq_of o.0))
   pub jobds : (o : QName × Jobd) → IsIn o objects.jobds → IsCommand (command.Crtjobd (crtjobd_of o.0 o.1))
   pub sbsds : (o : QName × Sbsd) → IsIn o objects.sbsds → IsCommand (command.Crtsbsd (crtsbsd_of o.0 o.1))
