@@ -14,3 +14,6 @@ pub mod OwnRows
 pub mod Parts
 pub mod Unrefused
 pub mod StepObjects
+pub mod StepEntries
+pub mod StepRest
+pub mod Rebuilt

@@ -88,3 +88,9 @@ tabs_rise a b h =
           absurd (cc)
       | inr on ↦ on
     ]
+
+less_is : (a b : ℕ) → a < b → nat_cmp a b ≡ Less
+less_is a b h = grind (arith, nat_tests)
+
+pub tab_before : (a b : Row) → a.tab < b.tab → is_before a b ≡ true
+tab_before a b h = ap (λ (r : Ordering). is_lt (ordering_then r (slice_cmp nat_cmp a.key b.key))) (less_is a.tab b.tab h)

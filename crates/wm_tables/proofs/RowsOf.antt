@@ -72,6 +72,23 @@ module _ {V : Type 0} where
       (other_named y.0 x.0 (same_qname y.0 x.0) refl (not_same name qname_cmp qname_total y.0 x.0 (first_below name qname_cmp qname_total y ys x s i)))
       (named_in ys x (rest_sorted name qname_cmp qname_total y ys s) i)
 
+-- and so is a changed one with the same name
+module _ {V : Type 0} (f : QName × V → QName × V) (keeps : (x : QName × V) → (f x).0 ≡ x.0) where
+  changed_first : (t : Bool) (x y : QName × V) (xs : List (QName × V)) → t ≡ false → option_map (λ o. o.1) (find (λ o. same_qname o.0 x.0) xs) ≡ Some (f x).1 → option_map (λ o. o.1) (cond t (Some y) (find (λ o. same_qname o.0 x.0) xs)) ≡ Some (f x).1
+  changed_first true x y xs e h = absurd (cc)
+  changed_first false x y xs e h = h
+
+  pub named_changed : (xs : List (QName × V)) (x : QName × V) → IsSortedOnce name_of qname_cmp xs → IsIn x xs → object_named x.0 (map f xs) ≡ Some (f x).1
+  named_changed [] x s i = absurd i
+  named_changed (y ∷ ys) x s (inl same) =
+      let yes : same_qname (f y).0 x.0 ≡ true = subst (λ (q : QName). same_qname q x.0 ≡ true) (ap name same ∙ sym (keeps y)) (its_own x.0) in
+      ap (λ (t : Bool). option_map (λ (o : QName × V). o.1) (cond t (Some (f y)) (find (λ (o : QName × V). same_qname o.0 x.0) (map f ys)))) yes
+      ∙ ap (λ (o : QName × V). Some (f o).1) (sym same)
+  named_changed (y ∷ ys) x s (inr i) =
+      changed_first (same_qname (f y).0 x.0) x (f y) (map f ys)
+      (ap (λ (q : QName). same_qname q x.0) (keeps y) ∙ other_named y.0 x.0 (same_qname y.0 x.0) refl (not_same (name {V = V}) qname_cmp qname_total y.0 x.0 (first_below (name {V = V}) qname_cmp qname_total y ys x s i)))
+      (named_changed ys x (rest_sorted (name {V = V}) qname_cmp qname_total y ys s) i)
+
 -- what a row of a state is the row of
 pub data IsRowOf (s : State) (r : Row) : Type 0 where
   of_class : (x : QName × Class) → IsIn x s.objects.classes → r ≡ class_row x → IsRowOf s r

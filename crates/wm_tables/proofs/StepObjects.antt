@@ -43,7 +43,7 @@ use Rattle.wm_tables.proofs.Passing.{left_none}
 use Rattle.wm_tables.proofs.RowsOf.{IsRowOf, in_rows, of_class, of_program, of_queue, of_jobd, of_sbsd, of_queue_entry, of_route_entry, of_auto_entry}
 use Rattle.wm_tables.proofs.Unrefused.{command_makes, object_free, program_free}
 
-apart : (a b c : ℕ) → b ≡ c → (a ≡ b → ⊥) → a ≡ c → ⊥
+pub apart : (a b c : ℕ) → b ≡ c → (a ≡ b → ⊥) → a ≡ c → ⊥
 apart a b c e n f = n (f ∙ sym e)
 
 -- an element more among changed ones that keep their keys

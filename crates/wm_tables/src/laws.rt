@@ -1,8 +1,15 @@
 // Laws of tables and of restarts, each for all states and rows. They are no calls.
-ghost use Rattle.wm_tables.specs.Laws.{RestartIsSound};
+ghost use Rattle.wm_tables.specs.Laws.{RestartIsSound, TablesMakeTheirState};
 
 /// A run opens with a sound state, whatever good rows it finds.
 #[tactic(auto, using(crate::proofs::Restarts::restart_is_sound))]
 pub fn restarts_are_sound()
     ensures { RestartIsSound }
+{}
+
+/// The tables of a sound state in range are good rows, and a run that opens with them has of that state what a stop
+/// leaves of it: its objects, its held queues, its jobs and its counters.
+#[tactic(auto, using(crate::proofs::Rebuilt::tables_make_their_state))]
+pub fn tables_make_their_state()
+    ensures { TablesMakeTheirState }
 {}
