@@ -17,3 +17,5 @@ pub mod StepObjects
 pub mod StepEntries
 pub mod StepRest
 pub mod Rebuilt
+pub mod RangedObjects
+pub mod RangedJobs
