@@ -19,3 +19,4 @@ pub mod StepRest
 pub mod Rebuilt
 pub mod RangedObjects
 pub mod RangedJobs
+pub mod RangedRestarts

@@ -40,7 +40,7 @@ pub jobs_still : (a b : Objects) (jobs : List Job) → ((q : QName) → IsSome (
 jobs_still a b jobs still each j i = let h = each j i in record { stored = h.stored; lengths = h.lengths; kind = kind_more a b j.kind (stored_of j) still h.kind }
 
 -- a job in another phase
-phased_stored : (a : StoredJob) (p : StoredPhase) → IsPhase p → IsStored a → IsStored (record a { phase = p })
+pub phased_stored : (a : StoredJob) (p : StoredPhase) → IsPhase p → IsStored a → IsStored (record a { phase = p })
 phased_stored a p h s = record {
   serial = s.serial;
   number_least = s.number_least;
@@ -57,7 +57,7 @@ phased_stored a p h s = record {
   phase = h;
 }
 
-phased_kind : (o : Objects) (k : JobKind) (a : StoredJob) (p : StoredPhase) → IsOfKind o k a → IsOfKind o k (record a { phase = p })
+pub phased_kind : (o : Objects) (k : JobKind) (a : StoredJob) (p : StoredPhase) → IsOfKind o k a → IsOfKind o k (record a { phase = p })
 phased_kind o Bch a p h = h
 phased_kind o Asj a p h = record { jobq = h.jobq; pty = h.pty; place = h.place; held = h.held }
 phased_kind o Pj a p h = (record { jobq = h.0.jobq; pty = h.0.pty; place = h.0.place; held = h.0.held }, h.1, h.2)

@@ -1,5 +1,5 @@
 // Laws of tables and of restarts, each for all states and rows. They are no calls.
-ghost use Rattle.wm_tables.specs.Laws.{RestartIsSound, TablesMakeTheirState};
+ghost use Rattle.wm_tables.specs.Laws.{OpeningIsInRange, RestartIsInRange, RestartIsSound, TablesMakeTheirState};
 
 /// A run opens with a sound state, whatever good rows it finds.
 #[tactic(auto, using(crate::proofs::Restarts::restart_is_sound))]
@@ -12,4 +12,11 @@ pub fn restarts_are_sound()
 #[tactic(auto, using(crate::proofs::Rebuilt::tables_make_their_state))]
 pub fn tables_make_their_state()
     ensures { TablesMakeTheirState }
+{}
+
+/// A run opens with a state that keeps its ranges, whether it finds rows or none.
+#[tactic(auto, using(crate::proofs::RangedRestarts::opening_is_in_range, crate::proofs::RangedRestarts::restart_is_in_range))]
+pub fn restarts_are_in_range()
+    ensures opening { OpeningIsInRange }
+    ensures restart { RestartIsInRange }
 {}
