@@ -20,3 +20,5 @@ pub mod Rebuilt
 pub mod RangedObjects
 pub mod RangedJobs
 pub mod RangedRestarts
+pub mod RangedMoments
+pub mod RangedLaunches

@@ -15,7 +15,6 @@ pub fn tables_make_their_state()
 {}
 
 /// A run opens with a state that keeps its ranges, whether it finds rows or none.
-#[tactic(auto, using(crate::proofs::RangedRestarts::opening_is_in_range, crate::proofs::RangedRestarts::restart_is_in_range))]
 pub fn restarts_are_in_range()
     ensures opening { OpeningIsInRange }
     ensures restart { RestartIsInRange }
