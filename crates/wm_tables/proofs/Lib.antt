@@ -22,3 +22,5 @@ pub mod RangedJobs
 pub mod RangedRestarts
 pub mod RangedMoments
 pub mod RangedLaunches
+pub mod RangedCalls
+pub mod RangedSteps

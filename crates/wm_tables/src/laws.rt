@@ -1,5 +1,5 @@
 // Laws of tables and of restarts, each for all states and rows. They are no calls.
-ghost use Rattle.wm_tables.specs.Laws.{OpeningIsInRange, RestartIsInRange, RestartIsSound, TablesMakeTheirState};
+ghost use Rattle.wm_tables.specs.Laws.{OpeningIsInRange, RestartIsInRange, RestartIsSound, StepKeepsRanges, TablesMakeTheirState};
 
 /// A run opens with a sound state, whatever good rows it finds.
 #[tactic(auto, using(crate::proofs::Restarts::restart_is_sound))]
@@ -18,4 +18,10 @@ pub fn tables_make_their_state()
 pub fn restarts_are_in_range()
     ensures opening { OpeningIsInRange }
     ensures restart { RestartIsInRange }
+{}
+
+/// Every step of a call in range, at a moment that there is, keeps a sound state in range.
+#[tactic(auto, using(crate::proofs::RangedSteps::step_keeps_ranges))]
+pub fn steps_keep_ranges()
+    ensures { StepKeepsRanges }
 {}
