@@ -21,7 +21,6 @@ pub fn restarts_are_in_range()
 {}
 
 /// Every step of a call in range, at a moment that there is, keeps a sound state in range.
-#[tactic(auto, using(crate::proofs::RangedSteps::step_keeps_ranges))]
 pub fn steps_keep_ranges()
     ensures { StepKeepsRanges }
 {}
