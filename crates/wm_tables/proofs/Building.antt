@@ -47,18 +47,26 @@ use Rattle.wm_tables.proofs.Joining.{below_end, below_rise, distinct_end, given_
 use Rattle.wm_tables.proofs.Made.{IsHeldNow, IsMaking, row_holds, row_makes}
 use Rattle.wm_tables.proofs.RowOrder.{IsAscending}
 
+-- serials, numbers and places are given once, and the next ones are 1 or more
+pub record AreNumbered (jobs : List Job) (number serial place : ℕ) : Type 0 where
+  pub serials : IsGiven (map (λ j. j.serial) jobs) serial
+  pub numbers : IsGiven (map (λ j. j.job.number) jobs) number
+  pub waiting : IsDistinct (waiting_places jobs)
+  pub places : IsBelow place (map (λ j. j.place) jobs)
+  pub number_least : 1 ≤ number
+  pub serial_least : 1 ≤ serial
+  pub place_least : 1 ≤ place
+
+-- the jobs stand in the order of their serials, which are what a u64 can be, and none is active
+pub record AreIdle (jobs : List Job) : Type 0 where
+  pub increasing : IsIncreasing (map (λ j. j.serial) jobs)
+  pub idle : (j : Job) → IsIn j jobs → is_active j.phase ≡ false
+  pub fit : (j : Job) → IsIn j jobs → j.serial < 2 ^ 64
+
 -- all that holds of sound states but the upper ends of the next numbers; no job is active, and no subsystem is started
 pub record IsBuilt (s : State) : Type 0 where
-  pub serials : IsGiven (map (λ j. j.serial) s.jobs) s.next_serial
-  pub numbers : IsGiven (map (λ j. j.job.number) s.jobs) s.next_number
-  pub waiting : IsDistinct (waiting_places s.jobs)
-  pub places : IsBelow s.next_place (map (λ j. j.place) s.jobs)
-  pub number_least : 1 ≤ s.next_number
-  pub serial_least : 1 ≤ s.next_serial
-  pub place_least : 1 ≤ s.next_place
-  pub jobs : HasJobsInOrder s
-  pub idle : (j : Job) → IsIn j s.jobs → is_active j.phase ≡ false
-  pub fit : (j : Job) → IsIn j s.jobs → j.serial < 2 ^ 64
+  pub numbered : AreNumbered s.jobs s.next_number s.next_serial s.next_place
+  pub jobs : AreIdle s.jobs
   pub started : s.started ≡ []
   pub routed : IsRouted s.objects
   pub objects : AreSound s.objects
@@ -67,16 +75,16 @@ pub record IsBuilt (s : State) : Type 0 where
 
 pub empty_built : (offset : ℤ) → IsBuilt (empty offset)
 empty_built offset = record {
-  serials = record { distinct = tt; below = tt };
-  numbers = record { distinct = tt; below = tt };
-  waiting = tt;
-  places = tt;
-  number_least = omega arith;
-  serial_least = omega arith;
-  place_least = omega arith;
-  jobs = tt;
-  idle = λ j i. absurd i;
-  fit = λ j i. absurd i;
+  numbered = record {
+    serials = record { distinct = tt; below = tt };
+    numbers = record { distinct = tt; below = tt };
+    waiting = tt;
+    places = tt;
+    number_least = omega arith;
+    serial_least = omega arith;
+    place_least = omega arith;
+  };
+  jobs = record { increasing = tt; idle = λ j i. absurd i; fit = λ j i. absurd i };
   started = refl;
   routed = record { sorted = λ sbs d e. absurd (cc); classes = λ sbs d e k i. absurd (cc) };
   objects = record {
@@ -99,16 +107,8 @@ still_queued s o j c h = record { waits = h.waits; has_queue = h.has_queue; is_o
 
 pub made_built : (s : State) (o : Objects) → IsObjectChange s o → IsBuilt s → IsBuilt (record s { objects = o })
 made_built s o c b = record {
-  serials = b.serials;
-  numbers = b.numbers;
-  waiting = b.waiting;
-  places = b.places;
-  number_least = b.number_least;
-  serial_least = b.serial_least;
-  place_least = b.place_least;
+  numbered = b.numbered;
   jobs = b.jobs;
-  idle = b.idle;
-  fit = b.fit;
   started = b.started;
   routed = c.routed b.routed;
   objects = c.sound b.objects;
@@ -119,16 +119,8 @@ made_built s o c b = record {
 -- so does a queue that becomes held
 pub held_built : (s : State) (q : QName) (t : State) → IsHeldNow s q t → IsBuilt s → IsBuilt (with_held_queue s q)
 held_built s q t h b = record {
-  serials = b.serials;
-  numbers = b.numbers;
-  waiting = b.waiting;
-  places = b.places;
-  number_least = b.number_least;
-  serial_least = b.serial_least;
-  place_least = b.place_least;
+  numbered = b.numbered;
   jobs = b.jobs;
-  idle = b.idle;
-  fit = b.fit;
   started = b.started;
   routed = b.routed;
   objects = b.objects;
@@ -215,20 +207,25 @@ of_both P jobs last each p j i = elim (of_last jobs last j i) as (λ _. P j) [ i
 pub stored_built : (s : State) (j : StoredJob) → IsGoodJob s j → ((k : Job) → IsIn k s.jobs → k.serial < j.serial) → IsBuilt s → IsBuilt (with_stored s j)
 stored_built s j g above b =
     let less : (n : ℕ) → IsIn n (map (λ k. k.serial) s.jobs) → n < j.serial = λ n i. (let m = of_mapped (λ (k : Job). k.serial) s.jobs n i in subst (λ (x : ℕ). x < j.serial) (sym m.2) (above m.0 m.1)) in
-    let number = b.number_least in
-    let serial = b.serial_least in
-    let place = b.place_least in
+    let n = b.numbered in
+    let number = n.number_least in
+    let serial = n.serial_least in
+    let place = n.place_least in
     record {
-      serials = given_end (λ k. k.serial) s.jobs (job_of j) s.next_serial (λ i. (let under : j.serial < j.serial = less j.serial i in absurd (omega arith))) b.serials;
-      numbers = given_end (λ k. k.job.number) s.jobs (job_of j) s.next_number (none_used j.number s.jobs g.number) b.numbers;
-      waiting = job_places s.jobs (job_of j) (is_waiting (phase_of j.phase)) refl (λ w. none_taken j.place s.jobs (g.place (waits_as j.phase w))) b.waiting;
-      places = subst (IsBelow (max s.next_place (j.place + 1))) (sym (key_end (λ k. k.place) s.jobs (job_of j))) (below_end j.place s.next_place (max s.next_place (j.place + 1)) (map (λ (k : Job). k.place) s.jobs) (omega arith) (omega arith) b.places);
-      number_least = omega arith;
-      serial_least = omega arith;
-      place_least = omega arith;
-      jobs = subst IsIncreasing (sym (key_end (λ k. k.serial) s.jobs (job_of j))) (increasing_end j.serial (map (λ (k : Job). k.serial) s.jobs) less b.jobs);
-      idle = of_both (λ (k : Job). is_active k.phase ≡ false) s.jobs (job_of j) b.idle (idle_as j.phase);
-      fit = of_both (λ (k : Job). k.serial < 2 ^ 64) s.jobs (job_of j) b.fit g.stored.serial;
+      numbered = record {
+        serials = given_end (λ k. k.serial) s.jobs (job_of j) s.next_serial (λ i. (let under : j.serial < j.serial = less j.serial i in absurd (omega arith))) n.serials;
+        numbers = given_end (λ k. k.job.number) s.jobs (job_of j) s.next_number (none_used j.number s.jobs g.number) n.numbers;
+        waiting = job_places s.jobs (job_of j) (is_waiting (phase_of j.phase)) refl (λ w. none_taken j.place s.jobs (g.place (waits_as j.phase w))) n.waiting;
+        places = subst (IsBelow (max s.next_place (j.place + 1))) (sym (key_end (λ k. k.place) s.jobs (job_of j))) (below_end j.place s.next_place (max s.next_place (j.place + 1)) (map (λ (k : Job). k.place) s.jobs) (omega arith) (omega arith) n.places);
+        number_least = omega arith;
+        serial_least = omega arith;
+        place_least = omega arith;
+      };
+      jobs = record {
+        increasing = subst IsIncreasing (sym (key_end (λ k. k.serial) s.jobs (job_of j))) (increasing_end j.serial (map (λ (k : Job). k.serial) s.jobs) less b.jobs.increasing);
+        idle = of_both (λ (k : Job). is_active k.phase ≡ false) s.jobs (job_of j) b.jobs.idle (idle_as j.phase);
+        fit = of_both (λ (k : Job). k.serial < 2 ^ 64) s.jobs (job_of j) b.jobs.fit g.stored.serial;
+      };
       started = b.started;
       routed = b.routed;
       objects = b.objects;
@@ -240,8 +237,8 @@ stored_built s j g above b =
 given_rise : (ns : List ℕ) (next more : ℕ) → next ≤ more → IsGiven ns next → IsGiven ns more
 given_rise ns next more rise g = record { distinct = g.distinct; below = below_rise next more ns rise g.below }
 
-pub counted_built : (s : State) (c : Counter) (n : ℕ) → IsGoodCount s c n → IsBuilt s → IsBuilt (with_counter s c n)
-counted_built s counter.Number n g b =
+counted_numbers : (s : State) (c : Counter) (n : ℕ) → IsGoodCount s c n → AreNumbered s.jobs s.next_number s.next_serial s.next_place → AreNumbered s.jobs (with_counter s c n).next_number (with_counter s c n).next_serial (with_counter s c n).next_place
+counted_numbers s counter.Number n g b =
     let least = b.number_least in
     let more = g.least in
     record {
@@ -252,16 +249,8 @@ counted_built s counter.Number n g b =
       number_least = omega arith;
       serial_least = b.serial_least;
       place_least = b.place_least;
-      jobs = b.jobs;
-      idle = b.idle;
-      fit = b.fit;
-      started = b.started;
-      routed = b.routed;
-      objects = b.objects;
-      queues = b.queues;
-      held = b.held;
     }
-counted_built s counter.Place n g b =
+counted_numbers s counter.Place n g b =
     let least = b.place_least in
     let more = g.least in
     record {
@@ -272,17 +261,9 @@ counted_built s counter.Place n g b =
       number_least = b.number_least;
       serial_least = b.serial_least;
       place_least = omega arith;
-      jobs = b.jobs;
-      idle = b.idle;
-      fit = b.fit;
-      started = b.started;
-      routed = b.routed;
-      objects = b.objects;
-      queues = b.queues;
-      held = b.held;
     }
-counted_built s counter.Schema n g b = b
-counted_built s counter.Serial n g b =
+counted_numbers s counter.Schema n g b = b
+counted_numbers s counter.Serial n g b =
     let least = b.serial_least in
     let more = g.least in
     record {
@@ -293,15 +274,25 @@ counted_built s counter.Serial n g b =
       number_least = b.number_least;
       serial_least = omega arith;
       place_least = b.place_least;
-      jobs = b.jobs;
-      idle = b.idle;
-      fit = b.fit;
-      started = b.started;
-      routed = b.routed;
-      objects = b.objects;
-      queues = b.queues;
-      held = b.held;
     }
+
+-- a counter leaves all else
+same_else : (s t : State) → IsBuilt s → t.jobs ≡ s.jobs → t.started ≡ s.started → t.objects ≡ s.objects → t.held ≡ s.held → AreNumbered t.jobs t.next_number t.next_serial t.next_place → IsBuilt t
+same_else s t b jobs started objects held numbered = record {
+  numbered = numbered;
+  jobs = subst AreIdle (sym jobs) b.jobs;
+  started = started ∙ b.started;
+  routed = subst IsRouted (sym objects) b.routed;
+  objects = subst AreSound (sym objects) b.objects;
+  queues = λ j i. subst (λ (o : Objects). IsQueued o j) (sym objects) (b.queues j (subst (IsIn j) jobs i));
+  held = subst (λ (o : Objects). AreQueues o t.held) (sym objects) (subst (AreQueues s.objects) (sym held) b.held);
+}
+
+pub counted_built : (s : State) (c : Counter) (n : ℕ) → IsGoodCount s c n → IsBuilt s → IsBuilt (with_counter s c n)
+counted_built s counter.Number n g b = same_else s _ b refl refl refl refl (counted_numbers s counter.Number n g b.numbered)
+counted_built s counter.Place n g b = same_else s _ b refl refl refl refl (counted_numbers s counter.Place n g b.numbered)
+counted_built s counter.Schema n g b = b
+counted_built s counter.Serial n g b = same_else s _ b refl refl refl refl (counted_numbers s counter.Serial n g b.numbered)
 
 -- what one row leaves: the state is built, and the rows to come stand ahead of its jobs
 record IsOn (s : State) (rows : List Row) : Type 0 where
@@ -328,7 +319,7 @@ takes_on s row rows u up h (inr (inl m)) =
     let held = row_holds s m.queue m.accepted in
     subst (λ (t : State). IsOn t rows) (sym (m.makes ∙ held.is_with)) (record { built = held_built s m.queue _ held h.built; ahead = rest_ahead s row rows h.ahead })
 takes_on s row rows u up h (inr (inr (inl m))) =
-    let above : (k : Job) → IsIn k s.jobs → k.serial < m.job.serial = λ k i. serial_lower k.serial m.job.serial (h.built.fit k i) (subst (StandsBefore k.serial) (sym m.is_row) (h.ahead k i row (inl refl))) in
+    let above : (k : Job) → IsIn k s.jobs → k.serial < m.job.serial = λ k i. serial_lower k.serial m.job.serial (h.built.jobs.fit k i) (subst (StandsBefore k.serial) (sym m.is_row) (h.ahead k i row (inl refl))) in
     let first : (r : Row) → IsIn r rows → StandsBefore m.job.serial r = λ r i. subst (λ (q : Row). is_before q r ≡ true) (sym m.is_row) (up.0 r i) in
     subst (λ (t : State). IsOn t rows) (sym m.makes)
     (record {

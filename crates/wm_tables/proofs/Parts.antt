@@ -1,5 +1,6 @@
 -- The part of a state whose rows pass a test, and the step to a part with one row more.
-use Rattle.std.proofs.Common.{◌≡◌, ◌⊎◌, ℕ, ℤ, ◌<◌, ◌≤◌, ◌+◌, Bool, true, false, cond, List, [], ◌∷◌, ◌++◌, map, filter, fold, max, refl, sym, ap, subst, ◌∙◌, inl, inr, arith}
+use Rattle.std.proofs.Common.{◌≡◌, ◌⊎◌, ℕ, ℤ, ◌<◌, ◌≤◌, ◌+◌, Bool, true, false, cond, nat_eq, List, [], ◌∷◌, map, filter, fold, max, refl, sym, ap, subst, ◌∙◌, inl, inr, arith}
+use Rattle.std.proofs.lemmas.Bool.{eq-eqb}
 use Rattle.wm_base.specs.declared.job.Class.{Class}
 use Rattle.wm_base.specs.declared.qname.QName.{QName}
 use Rattle.wm_desc.specs.declared.description.Jobd.{Jobd}
@@ -82,8 +83,8 @@ abbrev pub serial_part : (Row → Bool) → State → ℕ
 serial_part p s = cond (p (counter_row counter.Serial s.next_serial)) s.next_serial (reached (λ j. j.serial) (jobs_left p s))
 
 -- a state of these parts
-abbrev pub of_parts : ℤ → List (QName × Class) → List (QName × Program) → List (QName × Jobq) → List (QName × Jobd) → List (QName × Sbsd) → List QName → List Job → ℕ → ℕ → ℕ → State
-of_parts offset classes programs queues jobds sbsds held jobs number place serial =
+abbrev pub state_of : ℤ → List (QName × Class) → List (QName × Program) → List (QName × Jobq) → List (QName × Jobd) → List (QName × Sbsd) → List QName → List Job → ℕ → ℕ → ℕ → State
+state_of offset classes programs queues jobds sbsds held jobs number place serial =
     record (empty offset) {
       objects = record { classes = classes; jobqs = queues; programs = programs; jobds = jobds; sbsds = sbsds };
       jobs = jobs;
@@ -95,20 +96,20 @@ of_parts offset classes programs queues jobds sbsds held jobs number place seria
 
 -- the part of a state whose rows pass
 abbrev pub state_part : (Row → Bool) → ℤ → State → State
-state_part p offset s = of_parts offset (class_part p s) (program_part p s) (queue_part p s) (jobd_part p s) (sbsds_part p s) (held_part p s) (jobs_part p s) (number_part p s) (place_part p s) (serial_part p s)
+state_part p offset s = state_of offset (class_part p s) (program_part p s) (queue_part p s) (jobd_part p s) (sbsds_part p s) (held_part p s) (jobs_part p s) (number_part p s) (place_part p s) (serial_part p s)
 
-pub same_parts : (o : ℤ) {c0 c1 : List (QName × Class)} {p0 p1 : List (QName × Program)} {q0 q1 : List (QName × Jobq)} {d0 d1 : List (QName × Jobd)} {s0 s1 : List (QName × Sbsd)} {h0 h1 : List QName} {j0 j1 : List Job} {n0 n1 m0 m1 k0 k1 : ℕ} → c0 ≡ c1 → p0 ≡ p1 → q0 ≡ q1 → d0 ≡ d1 → s0 ≡ s1 → h0 ≡ h1 → j0 ≡ j1 → n0 ≡ n1 → m0 ≡ m1 → k0 ≡ k1 → of_parts o c0 p0 q0 d0 s0 h0 j0 n0 m0 k0 ≡ of_parts o c1 p1 q1 d1 s1 h1 j1 n1 m1 k1
+pub same_parts : (o : ℤ) {c0 c1 : List (QName × Class)} {p0 p1 : List (QName × Program)} {q0 q1 : List (QName × Jobq)} {d0 d1 : List (QName × Jobd)} {s0 s1 : List (QName × Sbsd)} {h0 h1 : List QName} {j0 j1 : List Job} {n0 n1 m0 m1 k0 k1 : ℕ} → c0 ≡ c1 → p0 ≡ p1 → q0 ≡ q1 → d0 ≡ d1 → s0 ≡ s1 → h0 ≡ h1 → j0 ≡ j1 → n0 ≡ n1 → m0 ≡ m1 → k0 ≡ k1 → state_of o c0 p0 q0 d0 s0 h0 j0 n0 m0 k0 ≡ state_of o c1 p1 q1 d1 s1 h1 j1 n1 m1 k1
 same_parts o {c0 = c0} {c1 = c1} {p0 = p0} {p1 = p1} {q0 = q0} {q1 = q1} {d0 = d0} {d1 = d1} {s0 = s0} {s1 = s1} {h0 = h0} {h1 = h1} {j0 = j0} {j1 = j1} {n0 = n0} {n1 = n1} {m0 = m0} {m1 = m1} {k0 = k0} {k1 = k1} a b c d e f g h i j =
-    ap (λ (x : List (QName × Class)). of_parts o x p0 q0 d0 s0 h0 j0 n0 m0 k0) a
-    ∙ ap (λ (x : List (QName × Program)). of_parts o c1 x q0 d0 s0 h0 j0 n0 m0 k0) b
-    ∙ ap (λ (x : List (QName × Jobq)). of_parts o c1 p1 x d0 s0 h0 j0 n0 m0 k0) c
-    ∙ ap (λ (x : List (QName × Jobd)). of_parts o c1 p1 q1 x s0 h0 j0 n0 m0 k0) d
-    ∙ ap (λ (x : List (QName × Sbsd)). of_parts o c1 p1 q1 d1 x h0 j0 n0 m0 k0) e
-    ∙ ap (λ (x : List QName). of_parts o c1 p1 q1 d1 s1 x j0 n0 m0 k0) f
-    ∙ ap (λ (x : List Job). of_parts o c1 p1 q1 d1 s1 h1 x n0 m0 k0) g
-    ∙ ap (λ (x : ℕ). of_parts o c1 p1 q1 d1 s1 h1 j1 x m0 k0) h
-    ∙ ap (λ (x : ℕ). of_parts o c1 p1 q1 d1 s1 h1 j1 n1 x k0) i
-    ∙ ap (λ (x : ℕ). of_parts o c1 p1 q1 d1 s1 h1 j1 n1 m1 x) j
+    ap (λ (x : List (QName × Class)). state_of o x p0 q0 d0 s0 h0 j0 n0 m0 k0) a
+    ∙ ap (λ (x : List (QName × Program)). state_of o c1 x q0 d0 s0 h0 j0 n0 m0 k0) b
+    ∙ ap (λ (x : List (QName × Jobq)). state_of o c1 p1 x d0 s0 h0 j0 n0 m0 k0) c
+    ∙ ap (λ (x : List (QName × Jobd)). state_of o c1 p1 q1 x s0 h0 j0 n0 m0 k0) d
+    ∙ ap (λ (x : List (QName × Sbsd)). state_of o c1 p1 q1 d1 x h0 j0 n0 m0 k0) e
+    ∙ ap (λ (x : List QName). state_of o c1 p1 q1 d1 s1 x j0 n0 m0 k0) f
+    ∙ ap (λ (x : List Job). state_of o c1 p1 q1 d1 s1 h1 x n0 m0 k0) g
+    ∙ ap (λ (x : ℕ). state_of o c1 p1 q1 d1 s1 h1 j1 x m0 k0) h
+    ∙ ap (λ (x : ℕ). state_of o c1 p1 q1 d1 s1 h1 j1 n1 x k0) i
+    ∙ ap (λ (x : ℕ). state_of o c1 p1 q1 d1 s1 h1 j1 n1 m1 x) j
 
 -- the row passes the second test and not the first, and all rows else pass both or none; those before it pass
 pub record IsStep (s : State) (row : Row) (p q : Row → Bool) : Type 0 where
@@ -121,6 +122,15 @@ pub record IsStep (s : State) (row : Row) (p q : Row → Bool) : Type 0 where
 pub map_each : {X Y : Type 0} (f g : X → Y) (xs : List X) → ((x : X) → IsIn x xs → f x ≡ g x) → map f xs ≡ map g xs
 map_each f g [] h = refl
 map_each f g (x ∷ xs) h = ap (λ (y : _). y ∷ map f xs) (h x (inl refl)) ∙ ap (λ (ys : List _). g x ∷ ys) (map_each f g xs (λ y i. h y (inr i)))
+
+not_equal : (a b c : ℕ) → b ≡ c → nat_eq a b ≡ false → a ≡ c → ⊥
+not_equal a b c e other same =
+    let yes : nat_eq a b ≡ true = eq-eqb a b (same ∙ sym e) in
+    absurd (cc)
+
+-- a row of that table isn't of another
+pub far : {b c : ℕ} (a : ℕ) → b ≡ c → nat_eq a b ≡ false → a ≡ c → ⊥
+far {b = b} {c = c} a e other = not_equal a b c e other
 
 -- descriptions with the same entries
 pub same_description : (p q : Row → Bool) (x : QName × Sbsd) → filter (λ e. q (queue_entry_row x.0 e)) x.1.queues ≡ filter (λ e. p (queue_entry_row x.0 e)) x.1.queues → filter (λ e. q (route_entry_row x.0 e)) x.1.routes ≡ filter (λ e. p (route_entry_row x.0 e)) x.1.routes → filter (λ e. q (auto_entry_row x.0 e)) x.1.autos ≡ filter (λ e. p (auto_entry_row x.0 e)) x.1.autos → sbsd_part q x ≡ sbsd_part p x

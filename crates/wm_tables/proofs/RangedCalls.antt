@@ -125,51 +125,44 @@ as_bch o k a e h = subst (λ (x : JobKind). IsOfKind o x a) e h
 of_bch : (o : Objects) (k : JobKind) (a : StoredJob) → k ≡ Bch → IsOfKind o Bch a → IsOfKind o k a
 of_bch o k a e h = subst (λ (x : JobKind). IsOfKind o x a) (sym e) h
 
+-- a job that waits, with another queue and priority, at another place, held or not, due at another moment
+waiting_stored : (a : StoredJob) (jobq : Option QName) (pty place : ℕ) (held : Bool) (due : ℕ) → IsQueue jobq → IsBetween 1 9 pty → place < 2 ^ 64 → due ≤ 253402214399 → IsStored a → IsStored (record a { jobq = jobq; pty = pty; place = place; held = held; due = due })
+waiting_stored a jobq pty place held due queue priority fits late h = record {
+  serial = h.serial;
+  number_least = h.number_least;
+  number_most = h.number_most;
+  user = h.user;
+  name = h.name;
+  jobq = queue;
+  pty_least = priority.least;
+  pty_most = priority.most;
+  place = fits;
+  rtgdta = h.rtgdta;
+  rqsdta = h.rqsdta;
+  due = late;
+  phase = h.phase;
+}
+
+waiting_job : (o : Objects) (j : Job) (jobq : Option QName) (pty place : ℕ) (held : Bool) (due : ℕ) → j.kind ≡ Bch → IsStored (record (stored_of j) { jobq = jobq; pty = pty; place = place; held = held; due = due }) → (q : QName) × (jobq ≡ Some q) × IsSome (object_named q o.jobqs) → IsJobInRange o j → IsJobInRange o (record j { jobq = jobq; pty = pty; place = place; held = held; due = due })
+waiting_job o j jobq pty place held due e stored queue h = record {
+  stored = stored;
+  lengths = record { rtgdta = h.lengths.rtgdta; rqsdta = h.lengths.rqsdta };
+  kind = of_bch o j.kind (stored_of (record j { jobq = jobq; pty = pty; place = place; held = held; due = due })) e queue;
+}
+
+-- its priority
+priority : (a : StoredJob) → IsStored a → IsBetween 1 9 a.pty
+priority a h = record { least = h.pty_least; most = h.pty_most }
+
 held_job : (o : Objects) (held : Bool) (j : Job) → j.kind ≡ Bch → IsJobInRange o j → IsJobInRange o (with_held held j)
 held_job o held j e h =
-    let s = h.stored in
-    record {
-      stored = record {
-        serial = s.serial;
-        number_least = s.number_least;
-        number_most = s.number_most;
-        user = s.user;
-        name = s.name;
-        jobq = s.jobq;
-        pty_least = s.pty_least;
-        pty_most = s.pty_most;
-        place = s.place;
-        rtgdta = s.rtgdta;
-        rqsdta = s.rqsdta;
-        due = s.due;
-        phase = s.phase;
-      };
-      lengths = record { rtgdta = h.lengths.rtgdta; rqsdta = h.lengths.rqsdta };
-      kind = of_bch o j.kind (stored_of (with_held held j)) e (as_bch o j.kind (stored_of j) e h.kind);
-    }
+    let a = h.stored in
+    waiting_job o j j.jobq j.pty j.place held j.due e (waiting_stored (stored_of j) j.jobq j.pty j.place held j.due a.jobq (priority (stored_of j) a) a.place a.due a) (as_bch o j.kind (stored_of j) e h.kind) h
 
 due_job : (o : Objects) (due : ℕ) (j : Job) → due ≤ 253402214399 → j.kind ≡ Bch → IsJobInRange o j → IsJobInRange o (with_due due j)
-due_job o due j d e h =
-    let s = h.stored in
-    record {
-      stored = record {
-        serial = s.serial;
-        number_least = s.number_least;
-        number_most = s.number_most;
-        user = s.user;
-        name = s.name;
-        jobq = s.jobq;
-        pty_least = s.pty_least;
-        pty_most = s.pty_most;
-        place = s.place;
-        rtgdta = s.rtgdta;
-        rqsdta = s.rqsdta;
-        due = d;
-        phase = s.phase;
-      };
-      lengths = record { rtgdta = h.lengths.rtgdta; rqsdta = h.lengths.rqsdta };
-      kind = of_bch o j.kind (stored_of (with_due due j)) e (as_bch o j.kind (stored_of j) e h.kind);
-    }
+due_job o due j late e h =
+    let a = h.stored in
+    waiting_job o j j.jobq j.pty j.place j.held due e (waiting_stored (stored_of j) j.jobq j.pty j.place j.held due a.jobq (priority (stored_of j) a) a.place late a) (as_bch o j.kind (stored_of j) e h.kind) h
 
 pty_or : (wanted : Option ℕ) (pty : ℕ) → IfSome wanted (IsBetween 1 9) → IsBetween 1 9 pty → IsBetween 1 9 (unwrap_or wanted pty)
 pty_or None pty w h = h
@@ -184,28 +177,14 @@ kind_or s None present w h = h
 kind_or s (Some q) present w h = (q, refl, w)
 
 moved_job : (s : State) (c : Chgjob) (due : ℕ) (j : Job) → due ≤ 253402214399 → s.next_place < 2 ^ 64 → IsJobChange c → has_queue s c.jobq ≡ true → j.kind ≡ Bch → IsJobInRange s.objects j → IsJobInRange s.objects (moved_to c s.next_place due j)
-moved_job s c due j d place fit queue e h =
+moved_job s c due j late place fit queue e h =
     let a = h.stored in
-    let pty = pty_or c.jobpty j.pty fit.jobpty (record { least = a.pty_least; most = a.pty_most }) in
-    record {
-      stored = record {
-        serial = a.serial;
-        number_least = a.number_least;
-        number_most = a.number_most;
-        user = a.user;
-        name = a.name;
-        jobq = queue_or c.jobq j.jobq fit.jobq a.jobq;
-        pty_least = pty.least;
-        pty_most = pty.most;
-        place = place;
-        rtgdta = a.rtgdta;
-        rqsdta = a.rqsdta;
-        due = d;
-        phase = a.phase;
-      };
-      lengths = record { rtgdta = h.lengths.rtgdta; rqsdta = h.lengths.rqsdta };
-      kind = of_bch s.objects j.kind (stored_of (moved_to c s.next_place due j)) e (kind_or s c.jobq j.jobq queue (as_bch s.objects j.kind (stored_of j) e h.kind));
-    }
+    let jobq = option_or c.jobq j.jobq in
+    let pty = unwrap_or c.jobpty j.pty in
+    waiting_job s.objects j jobq pty s.next_place j.held due e
+    (waiting_stored (stored_of j) jobq pty s.next_place j.held due (queue_or c.jobq j.jobq fit.jobq a.jobq) (pty_or c.jobpty j.pty fit.jobpty (priority (stored_of j) a)) place late a)
+    (kind_or s c.jobq j.jobq queue (as_bch s.objects j.kind (stored_of j) e h.kind))
+    h
 
 hold_range : (s : State) (o : Result Job Refusal) → IsSound s → IsInRange s → IsInRange (hold_found s o).state
 hold_range s (Err x) sound r = r

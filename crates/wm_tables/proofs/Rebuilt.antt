@@ -26,7 +26,7 @@ use Rattle.wm_tables.specs.Ranges.{IsInRange}
 use Rattle.wm_tables.specs.Restart.{AreGood, HasCounters, IsRead, IsRestart, Takes, restarted, restarted_job}
 use Rattle.wm_tables.specs.Tables.{rows_of, tables}
 use Rattle.wm_tables.proofs.OwnRows.{own_rows}
-use Rattle.wm_tables.proofs.Parts.{IsStep, jobs_left, map_each, of_parts, reached, same_parts, sbsd_part, sbsds_left, state_part}
+use Rattle.wm_tables.proofs.Parts.{IsStep, jobs_left, map_each, reached, same_parts, sbsd_part, sbsds_left, state_part}
 use Rattle.wm_tables.proofs.Passing.{left_all, left_none}
 use Rattle.wm_tables.proofs.RowOrder.{IsAscending, ascending, in_tables, never_before, of_tables, put_in_order}
 use Rattle.wm_tables.proofs.RowsOf.{IsRowOf, in_rows, of_rows, of_class, of_program, of_queue, of_jobd, of_sbsd, of_queue_entry, of_route_entry, of_auto_entry, of_held, of_job, of_number, of_place, of_schema, of_serial}

@@ -24,7 +24,7 @@ use Rattle.wm_tables.proofs.RowOrder.{ascending}
 
 none_starting : (s : State) (j : Job) → IsBuilt s → IsIn j s.jobs → j.phase ≡ Starting → ⊥
 none_starting s j b i e =
-    let idle : is_active j.phase ≡ false = b.idle j i in
+    let idle : is_active j.phase ≡ false = b.jobs.idle j i in
     let active : is_active j.phase ≡ true = ap is_active e in
     absurd (cc)
 
@@ -35,16 +35,16 @@ none_started s b built i = subst (IsIn b) built.started i
 pub built_is_sound : (s : State) → IsBuilt s → ((c : Counter) → IsWithin c s) → IsSound s
 built_is_sound s b within = record {
   numbered = record {
-    serials = b.serials;
-    numbers = b.numbers;
-    waiting = b.waiting;
-    places = b.places;
-    next_number = record { least = b.number_least; most = within counter.Number };
-    next_serial = record { least = b.serial_least; most = within counter.Serial };
-    next_place = record { least = b.place_least; most = within counter.Place };
+    serials = b.numbered.serials;
+    numbers = b.numbered.numbers;
+    waiting = b.numbered.waiting;
+    places = b.numbered.places;
+    next_number = record { least = b.numbered.number_least; most = within counter.Number };
+    next_serial = record { least = b.numbered.serial_least; most = within counter.Serial };
+    next_place = record { least = b.numbered.place_least; most = within counter.Place };
   };
-  jobs = b.jobs;
-  places = λ j i a. (let idle : is_active j.phase ≡ false = b.idle j i in absurd (cc));
+  jobs = b.jobs.increasing;
+  places = λ j i a. (let idle : is_active j.phase ≡ false = b.jobs.idle j i in absurd (cc));
   orders = record { routed = b.routed; starting = λ j i e. absurd (none_starting s j b i e); lodged = λ j i e. absurd (none_starting s j b i e) };
   names = subst (λ (bs : List Sbs). IsDistinct (map (λ x. x.sbsd.name) bs)) (sym b.started) tt;
   descriptions = λ x i. absurd (none_started s x b i);

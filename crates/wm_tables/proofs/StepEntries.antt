@@ -41,10 +41,9 @@ use Rattle.wm_tables.specs.Restart.{Makes}
 use Rattle.wm_tables.proofs.Made.{tab_before}
 use Rattle.wm_tables.proofs.OneMore.{IsOneMore, next_added, next_new, one_of_key}
 use Rattle.wm_tables.proofs.OwnRows.{description, one_queue_entry, one_route_entry, one_auto_entry}
-use Rattle.wm_tables.proofs.Parts.{IsStep, state_part, same_parts, class_part, program_part, queue_part, jobd_part, sbsds_left, sbsds_part, sbsd_part, classes_same, programs_same, queues_same, jobds_same, left_sbsds_same, queue_entries_same, route_entries_same, auto_entries_same, same_description, held_same, jobs_same, number_same, place_same, serial_same, not_counter}
+use Rattle.wm_tables.proofs.Parts.{IsStep, far, state_part, same_parts, class_part, program_part, queue_part, jobd_part, sbsds_left, sbsds_part, sbsd_part, classes_same, programs_same, queues_same, jobds_same, left_sbsds_same, queue_entries_same, route_entries_same, auto_entries_same, same_description, held_same, jobs_same, number_same, place_same, serial_same, not_counter}
 use Rattle.wm_tables.proofs.Passing.{fewer, left_all, left_passes, left_same, none_passes}
 use Rattle.wm_tables.proofs.RowsOf.{IsRowOf, in_rows, named_changed, named_in, of_class, of_program, of_queue, of_jobd, of_sbsd, of_queue_entry, of_route_entry, of_auto_entry}
-use Rattle.wm_tables.proofs.StepObjects.{apart}
 use Rattle.wm_tables.proofs.Unrefused.{command_makes, described_free, never_in_use, none_refuses, not_full}
 
 -- of elements with distinct keys no two have one
@@ -146,9 +145,9 @@ module _ (offset : ℤ) (s : State) (sound : IsSound s) (range : IsInRange s) (r
       record {
         this =
             ap (λ (l : List QueueEntry). (x.0, record { maxjobs = x.1.maxjobs; queues = l; routes = filter (λ d. p (route_entry_row x.0 d)) x.1.routes; autos = filter (λ d. p (auto_entry_row x.0 d)) x.1.autos; pres = [] })) (next_added (λ (d : QueueEntry). d.seq) nat_cmp nat_cmp_total (λ d. p (queue_entry_row x.0 d)) (λ d. q (queue_entry_row x.0 d)) x.1.queues e (description s sound range x i).queues.sorted j (queue_more x e i j same))
-            ∙ ap (λ (l : List RouteEntry). (x.0, record { maxjobs = x.1.maxjobs; queues = filter (λ d. q (queue_entry_row x.0 d)) x.1.queues; routes = l; autos = filter (λ d. p (auto_entry_row x.0 d)) x.1.autos; pres = [] })) (sym (route_entries_same s row p q h (apart 7 6 row.tab tab (λ n. absurd (omega arith))) x i))
-            ∙ ap (λ (l : List AutoEntry). (x.0, record { maxjobs = x.1.maxjobs; queues = filter (λ d. q (queue_entry_row x.0 d)) x.1.queues; routes = filter (λ d. q (route_entry_row x.0 d)) x.1.routes; autos = l; pres = [] })) (sym (auto_entries_same s row p q h (apart 8 6 row.tab tab (λ n. absurd (omega arith))) x i));
-        other = λ y m n. same_description p q y (left_same (λ d. p (queue_entry_row y.0 d)) (λ d. q (queue_entry_row y.0 d)) y.1.queues (λ d k. h.others (queue_entry_row y.0 d) (in_rows s (queue_entry_row y.0 d) (of_queue_entry y d m k refl)) (λ f. n (one_queue_entry s sound range y x d e m i k j (f ∙ ap place_of (sym same))).0))) (route_entries_same s row p q h (apart 7 6 row.tab tab (λ n. absurd (omega arith))) y m) (auto_entries_same s row p q h (apart 8 6 row.tab tab (λ n. absurd (omega arith))) y m);
+            ∙ ap (λ (l : List RouteEntry). (x.0, record { maxjobs = x.1.maxjobs; queues = filter (λ d. q (queue_entry_row x.0 d)) x.1.queues; routes = l; autos = filter (λ d. p (auto_entry_row x.0 d)) x.1.autos; pres = [] })) (sym (route_entries_same s row p q h (far 7 tab refl) x i))
+            ∙ ap (λ (l : List AutoEntry). (x.0, record { maxjobs = x.1.maxjobs; queues = filter (λ d. q (queue_entry_row x.0 d)) x.1.queues; routes = filter (λ d. q (route_entry_row x.0 d)) x.1.routes; autos = l; pres = [] })) (sym (auto_entries_same s row p q h (far 8 tab refl) x i));
+        other = λ y m n. same_description p q y (left_same (λ d. p (queue_entry_row y.0 d)) (λ d. q (queue_entry_row y.0 d)) y.1.queues (λ d k. h.others (queue_entry_row y.0 d) (in_rows s (queue_entry_row y.0 d) (of_queue_entry y d m k refl)) (λ f. n (one_queue_entry s sound range y x d e m i k j (f ∙ ap place_of (sym same))).0))) (route_entries_same s row p q h (far 7 tab refl) y m) (auto_entries_same s row p q h (far 8 tab refl) y m);
       }
 
   fed_by : (x : QName × Sbsd) (e d : QueueEntry) (t : Bool) → IsIn x s.objects.sbsds → IsIn e x.1.queues → p (queue_entry_row x.0 e) ≡ false → IsIn d (filter (λ c. p (queue_entry_row x.0 c)) x.1.queues) → same_qname d.jobq e.jobq ≡ t → t ≡ false
@@ -177,16 +176,16 @@ module _ (offset : ℤ) (s : State) (sound : IsSound s) (range : IsInRange s) (r
       ((range.objects.entries x i).queues e j)
       (ap (λ (r : Row). Some r) same)
       (same_parts offset
-        (classes_same s row p q h (apart 1 6 row.tab tab (λ n. absurd (omega arith))))
-        (programs_same s row p q h (apart 2 6 row.tab tab (λ n. absurd (omega arith))))
-        (queues_same s row p q h (apart 3 6 row.tab tab (λ n. absurd (omega arith))))
-        (jobds_same s row p q h (apart 4 6 row.tab tab (λ n. absurd (omega arith))))
-        (changed_part (later_tab 5 6 tab (omega arith)) (apart 5 6 row.tab tab (λ n. absurd (omega arith))) x (with_queue e) i (queue_change x e i j same))
-        (held_same s row p q h (apart 10 6 row.tab tab (λ n. absurd (omega arith))))
-        (jobs_same s row p q h (apart 11 6 row.tab tab (λ n. absurd (omega arith))))
-        (number_same s row p q h (apart 11 6 row.tab tab (λ n. absurd (omega arith))) (not_counter s row p q h counter.Number s.next_number (apart 12 6 row.tab tab (λ n. absurd (omega arith)))))
-        (place_same s row p q h (apart 11 6 row.tab tab (λ n. absurd (omega arith))) (not_counter s row p q h counter.Place s.next_place (apart 12 6 row.tab tab (λ n. absurd (omega arith)))))
-        (serial_same s row p q h (apart 11 6 row.tab tab (λ n. absurd (omega arith))) (not_counter s row p q h counter.Serial s.next_serial (apart 12 6 row.tab tab (λ n. absurd (omega arith))))))
+        (classes_same s row p q h (far 1 tab refl))
+        (programs_same s row p q h (far 2 tab refl))
+        (queues_same s row p q h (far 3 tab refl))
+        (jobds_same s row p q h (far 4 tab refl))
+        (changed_part (later_tab 5 6 tab (omega arith)) (far 5 tab refl) x (with_queue e) i (queue_change x e i j same))
+        (held_same s row p q h (far 10 tab refl))
+        (jobs_same s row p q h (far 11 tab refl))
+        (number_same s row p q h (far 11 tab refl) (not_counter s row p q h counter.Number s.next_number (far 12 tab refl)))
+        (place_same s row p q h (far 11 tab refl) (not_counter s row p q h counter.Place s.next_place (far 12 tab refl)))
+        (serial_same s row p q h (far 11 tab refl) (not_counter s row p q h counter.Serial s.next_serial (far 12 tab refl))))
 
   route_more : (x : QName × Sbsd) (e : RouteEntry) → IsIn x s.objects.sbsds → IsIn e x.1.routes → route_entry_row x.0 e ≡ row → IsOneMore (λ (d : RouteEntry). d.seq) nat_cmp nat_cmp_total (λ d. p (route_entry_row x.0 d)) (λ d. q (route_entry_row x.0 d)) x.1.routes e
   route_more x e i j same = record {
@@ -201,9 +200,9 @@ module _ (offset : ℤ) (s : State) (sound : IsSound s) (range : IsInRange s) (r
       record {
         this =
             ap (λ (l : List RouteEntry). (x.0, record { maxjobs = x.1.maxjobs; queues = filter (λ d. p (queue_entry_row x.0 d)) x.1.queues; routes = l; autos = filter (λ d. p (auto_entry_row x.0 d)) x.1.autos; pres = [] })) (next_added (λ (d : RouteEntry). d.seq) nat_cmp nat_cmp_total (λ d. p (route_entry_row x.0 d)) (λ d. q (route_entry_row x.0 d)) x.1.routes e (sound.orders.routed.sorted x.0 x.1 (named_in s.objects.sbsds x sound.objects.tables.sbsds.sorted i)) j (route_more x e i j same))
-            ∙ ap (λ (l : List QueueEntry). (x.0, record { maxjobs = x.1.maxjobs; queues = l; routes = filter (λ d. q (route_entry_row x.0 d)) x.1.routes; autos = filter (λ d. p (auto_entry_row x.0 d)) x.1.autos; pres = [] })) (sym (queue_entries_same s row p q h (apart 6 7 row.tab tab (λ n. absurd (omega arith))) x i))
-            ∙ ap (λ (l : List AutoEntry). (x.0, record { maxjobs = x.1.maxjobs; queues = filter (λ d. q (queue_entry_row x.0 d)) x.1.queues; routes = filter (λ d. q (route_entry_row x.0 d)) x.1.routes; autos = l; pres = [] })) (sym (auto_entries_same s row p q h (apart 8 7 row.tab tab (λ n. absurd (omega arith))) x i));
-        other = λ y m n. same_description p q y (queue_entries_same s row p q h (apart 6 7 row.tab tab (λ n. absurd (omega arith))) y m) (left_same (λ d. p (route_entry_row y.0 d)) (λ d. q (route_entry_row y.0 d)) y.1.routes (λ d k. h.others (route_entry_row y.0 d) (in_rows s (route_entry_row y.0 d) (of_route_entry y d m k refl)) (λ f. n (one_route_entry s sound range y x d e m i k j (f ∙ ap place_of (sym same))).0))) (auto_entries_same s row p q h (apart 8 7 row.tab tab (λ n. absurd (omega arith))) y m);
+            ∙ ap (λ (l : List QueueEntry). (x.0, record { maxjobs = x.1.maxjobs; queues = l; routes = filter (λ d. q (route_entry_row x.0 d)) x.1.routes; autos = filter (λ d. p (auto_entry_row x.0 d)) x.1.autos; pres = [] })) (sym (queue_entries_same s row p q h (far 6 tab refl) x i))
+            ∙ ap (λ (l : List AutoEntry). (x.0, record { maxjobs = x.1.maxjobs; queues = filter (λ d. q (queue_entry_row x.0 d)) x.1.queues; routes = filter (λ d. q (route_entry_row x.0 d)) x.1.routes; autos = l; pres = [] })) (sym (auto_entries_same s row p q h (far 8 tab refl) x i));
+        other = λ y m n. same_description p q y (queue_entries_same s row p q h (far 6 tab refl) y m) (left_same (λ d. p (route_entry_row y.0 d)) (λ d. q (route_entry_row y.0 d)) y.1.routes (λ d k. h.others (route_entry_row y.0 d) (in_rows s (route_entry_row y.0 d) (of_route_entry y d m k refl)) (λ f. n (one_route_entry s sound range y x d e m i k j (f ∙ ap place_of (sym same))).0))) (auto_entries_same s row p q h (far 8 tab refl) y m);
       }
 
   program_there : (x : QName × Sbsd) (e : RouteEntry) → 2 < row.tab → IsIn x s.objects.sbsds → IsIn e x.1.routes → not (is_qcmd e.pgm || has_object e.pgm (program_part p s)) ≡ false
@@ -239,16 +238,16 @@ module _ (offset : ℤ) (s : State) (sound : IsSound s) (range : IsInRange s) (r
       ((range.objects.entries x i).routes e j)
       (ap (λ (r : Row). Some r) same)
       (same_parts offset
-        (classes_same s row p q h (apart 1 7 row.tab tab (λ n. absurd (omega arith))))
-        (programs_same s row p q h (apart 2 7 row.tab tab (λ n. absurd (omega arith))))
-        (queues_same s row p q h (apart 3 7 row.tab tab (λ n. absurd (omega arith))))
-        (jobds_same s row p q h (apart 4 7 row.tab tab (λ n. absurd (omega arith))))
-        (changed_part (later_tab 5 7 tab (omega arith)) (apart 5 7 row.tab tab (λ n. absurd (omega arith))) x (with_route e) i (route_change x e i j same))
-        (held_same s row p q h (apart 10 7 row.tab tab (λ n. absurd (omega arith))))
-        (jobs_same s row p q h (apart 11 7 row.tab tab (λ n. absurd (omega arith))))
-        (number_same s row p q h (apart 11 7 row.tab tab (λ n. absurd (omega arith))) (not_counter s row p q h counter.Number s.next_number (apart 12 7 row.tab tab (λ n. absurd (omega arith)))))
-        (place_same s row p q h (apart 11 7 row.tab tab (λ n. absurd (omega arith))) (not_counter s row p q h counter.Place s.next_place (apart 12 7 row.tab tab (λ n. absurd (omega arith)))))
-        (serial_same s row p q h (apart 11 7 row.tab tab (λ n. absurd (omega arith))) (not_counter s row p q h counter.Serial s.next_serial (apart 12 7 row.tab tab (λ n. absurd (omega arith))))))
+        (classes_same s row p q h (far 1 tab refl))
+        (programs_same s row p q h (far 2 tab refl))
+        (queues_same s row p q h (far 3 tab refl))
+        (jobds_same s row p q h (far 4 tab refl))
+        (changed_part (later_tab 5 7 tab (omega arith)) (far 5 tab refl) x (with_route e) i (route_change x e i j same))
+        (held_same s row p q h (far 10 tab refl))
+        (jobs_same s row p q h (far 11 tab refl))
+        (number_same s row p q h (far 11 tab refl) (not_counter s row p q h counter.Number s.next_number (far 12 tab refl)))
+        (place_same s row p q h (far 11 tab refl) (not_counter s row p q h counter.Place s.next_place (far 12 tab refl)))
+        (serial_same s row p q h (far 11 tab refl) (not_counter s row p q h counter.Serial s.next_serial (far 12 tab refl))))
 
   auto_more : (x : QName × Sbsd) (e : AutoEntry) → IsIn x s.objects.sbsds → IsIn e x.1.autos → auto_entry_row x.0 e ≡ row → IsOneMore (λ (d : AutoEntry). d.job) (slice_cmp nat_cmp) nat_list_cmp_total (λ d. p (auto_entry_row x.0 d)) (λ d. q (auto_entry_row x.0 d)) x.1.autos e
   auto_more x e i j same = record {
@@ -263,9 +262,9 @@ module _ (offset : ℤ) (s : State) (sound : IsSound s) (range : IsInRange s) (r
       record {
         this =
             ap (λ (l : List AutoEntry). (x.0, record { maxjobs = x.1.maxjobs; queues = filter (λ d. p (queue_entry_row x.0 d)) x.1.queues; routes = filter (λ d. p (route_entry_row x.0 d)) x.1.routes; autos = l; pres = [] })) (next_added (λ (d : AutoEntry). d.job) (slice_cmp nat_cmp) nat_list_cmp_total (λ d. p (auto_entry_row x.0 d)) (λ d. q (auto_entry_row x.0 d)) x.1.autos e (description s sound range x i).autos.sorted j (auto_more x e i j same))
-            ∙ ap (λ (l : List QueueEntry). (x.0, record { maxjobs = x.1.maxjobs; queues = l; routes = filter (λ d. p (route_entry_row x.0 d)) x.1.routes; autos = filter (λ d. q (auto_entry_row x.0 d)) x.1.autos; pres = [] })) (sym (queue_entries_same s row p q h (apart 6 8 row.tab tab (λ n. absurd (omega arith))) x i))
-            ∙ ap (λ (l : List RouteEntry). (x.0, record { maxjobs = x.1.maxjobs; queues = filter (λ d. q (queue_entry_row x.0 d)) x.1.queues; routes = l; autos = filter (λ d. q (auto_entry_row x.0 d)) x.1.autos; pres = [] })) (sym (route_entries_same s row p q h (apart 7 8 row.tab tab (λ n. absurd (omega arith))) x i));
-        other = λ y m n. same_description p q y (queue_entries_same s row p q h (apart 6 8 row.tab tab (λ n. absurd (omega arith))) y m) (route_entries_same s row p q h (apart 7 8 row.tab tab (λ n. absurd (omega arith))) y m) (left_same (λ d. p (auto_entry_row y.0 d)) (λ d. q (auto_entry_row y.0 d)) y.1.autos (λ d k. h.others (auto_entry_row y.0 d) (in_rows s (auto_entry_row y.0 d) (of_auto_entry y d m k refl)) (λ f. n (one_auto_entry s sound range y x d e m i (f ∙ ap place_of (sym same))).0)));
+            ∙ ap (λ (l : List QueueEntry). (x.0, record { maxjobs = x.1.maxjobs; queues = l; routes = filter (λ d. p (route_entry_row x.0 d)) x.1.routes; autos = filter (λ d. q (auto_entry_row x.0 d)) x.1.autos; pres = [] })) (sym (queue_entries_same s row p q h (far 6 tab refl) x i))
+            ∙ ap (λ (l : List RouteEntry). (x.0, record { maxjobs = x.1.maxjobs; queues = filter (λ d. q (queue_entry_row x.0 d)) x.1.queues; routes = l; autos = filter (λ d. q (auto_entry_row x.0 d)) x.1.autos; pres = [] })) (sym (route_entries_same s row p q h (far 7 tab refl) x i));
+        other = λ y m n. same_description p q y (queue_entries_same s row p q h (far 6 tab refl) y m) (route_entries_same s row p q h (far 7 tab refl) y m) (left_same (λ d. p (auto_entry_row y.0 d)) (λ d. q (auto_entry_row y.0 d)) y.1.autos (λ d k. h.others (auto_entry_row y.0 d) (in_rows s (auto_entry_row y.0 d) (of_auto_entry y d m k refl)) (λ f. n (one_auto_entry s sound range y x d e m i (f ∙ ap place_of (sym same))).0)));
       }
 
   pub auto_made : (x : QName × Sbsd) (e : AutoEntry) → IsIn x s.objects.sbsds → IsIn e x.1.autos → auto_entry_row x.0 e ≡ row → Makes (state_part p offset s) row (state_part q offset s)
@@ -283,13 +282,13 @@ module _ (offset : ℤ) (s : State) (sound : IsSound s) (range : IsInRange s) (r
       ((range.objects.entries x i).autos e j)
       (ap (λ (r : Row). Some r) same)
       (same_parts offset
-        (classes_same s row p q h (apart 1 8 row.tab tab (λ n. absurd (omega arith))))
-        (programs_same s row p q h (apart 2 8 row.tab tab (λ n. absurd (omega arith))))
-        (queues_same s row p q h (apart 3 8 row.tab tab (λ n. absurd (omega arith))))
-        (jobds_same s row p q h (apart 4 8 row.tab tab (λ n. absurd (omega arith))))
-        (changed_part (later_tab 5 8 tab (omega arith)) (apart 5 8 row.tab tab (λ n. absurd (omega arith))) x (with_auto e) i (auto_change x e i j same))
-        (held_same s row p q h (apart 10 8 row.tab tab (λ n. absurd (omega arith))))
-        (jobs_same s row p q h (apart 11 8 row.tab tab (λ n. absurd (omega arith))))
-        (number_same s row p q h (apart 11 8 row.tab tab (λ n. absurd (omega arith))) (not_counter s row p q h counter.Number s.next_number (apart 12 8 row.tab tab (λ n. absurd (omega arith)))))
-        (place_same s row p q h (apart 11 8 row.tab tab (λ n. absurd (omega arith))) (not_counter s row p q h counter.Place s.next_place (apart 12 8 row.tab tab (λ n. absurd (omega arith)))))
-        (serial_same s row p q h (apart 11 8 row.tab tab (λ n. absurd (omega arith))) (not_counter s row p q h counter.Serial s.next_serial (apart 12 8 row.tab tab (λ n. absurd (omega arith))))))
+        (classes_same s row p q h (far 1 tab refl))
+        (programs_same s row p q h (far 2 tab refl))
+        (queues_same s row p q h (far 3 tab refl))
+        (jobds_same s row p q h (far 4 tab refl))
+        (changed_part (later_tab 5 8 tab (omega arith)) (far 5 tab refl) x (with_auto e) i (auto_change x e i j same))
+        (held_same s row p q h (far 10 tab refl))
+        (jobs_same s row p q h (far 11 tab refl))
+        (number_same s row p q h (far 11 tab refl) (not_counter s row p q h counter.Number s.next_number (far 12 tab refl)))
+        (place_same s row p q h (far 11 tab refl) (not_counter s row p q h counter.Place s.next_place (far 12 tab refl)))
+        (serial_same s row p q h (far 11 tab refl) (not_counter s row p q h counter.Serial s.next_serial (far 12 tab refl))))

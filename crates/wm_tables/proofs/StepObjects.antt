@@ -38,13 +38,10 @@ use Rattle.wm_tables.specs.Restart.{Makes}
 use Rattle.wm_tables.proofs.Keys.{one_text}
 use Rattle.wm_tables.proofs.OneMore.{IsOneMore, next_added}
 use Rattle.wm_tables.proofs.OwnPlaces.{same_key}
-use Rattle.wm_tables.proofs.Parts.{IsStep, state_part, of_parts, same_parts, class_part, program_part, queue_part, jobd_part, sbsds_left, sbsds_part, sbsd_part, classes_same, programs_same, queues_same, jobds_same, left_sbsds_same, description_same, sbsds_same, held_same, jobs_same, number_same, place_same, serial_same, not_counter, map_each, other_tab}
+use Rattle.wm_tables.proofs.Parts.{IsStep, far, state_part, same_parts, class_part, program_part, queue_part, jobd_part, sbsds_left, sbsds_part, sbsd_part, classes_same, programs_same, queues_same, jobds_same, left_sbsds_same, description_same, sbsds_same, held_same, jobs_same, number_same, place_same, serial_same, not_counter, map_each, other_tab}
 use Rattle.wm_tables.proofs.Passing.{left_none}
 use Rattle.wm_tables.proofs.RowsOf.{IsRowOf, in_rows, of_class, of_program, of_queue, of_jobd, of_sbsd, of_queue_entry, of_route_entry, of_auto_entry}
 use Rattle.wm_tables.proofs.Unrefused.{command_makes, object_free, program_free}
-
-pub apart : (a b c : ℕ) → b ≡ c → (a ≡ b → ⊥) → a ≡ c → ⊥
-apart a b c e n f = n (f ∙ sym e)
 
 -- an element more among changed ones that keep their keys
 module _ {E K : Type 0} (key : E → K) (cmp : K → K → Ordering) (f : E → E) (same : (x : E) → key (f x) ≡ key x) where
@@ -104,15 +101,15 @@ module _ (offset : ℤ) (s : State) (sound : IsSound s) (range : IsInRange s) (r
       (ap (λ (r : Row). Some r) e)
       (same_parts offset
         (sym (next_added (λ (y : QName × Class). y.0) qname_cmp qname_total (λ y. p (class_row y)) (λ y. q (class_row y)) s.objects.classes x sound.objects.tables.classes.sorted i (class_more x i e)))
-        (programs_same s row p q h (apart 2 1 row.tab tab (λ n. absurd (omega arith))))
-        (queues_same s row p q h (apart 3 1 row.tab tab (λ n. absurd (omega arith))))
-        (jobds_same s row p q h (apart 4 1 row.tab tab (λ n. absurd (omega arith))))
-        (sbsds_same s row p q h (apart 5 1 row.tab tab (λ n. absurd (omega arith))) (apart 6 1 row.tab tab (λ n. absurd (omega arith))) (apart 7 1 row.tab tab (λ n. absurd (omega arith))) (apart 8 1 row.tab tab (λ n. absurd (omega arith))))
-        (held_same s row p q h (apart 10 1 row.tab tab (λ n. absurd (omega arith))))
-        (jobs_same s row p q h (apart 11 1 row.tab tab (λ n. absurd (omega arith))))
-        (number_same s row p q h (apart 11 1 row.tab tab (λ n. absurd (omega arith))) (not_counter s row p q h counter.Number s.next_number (apart 12 1 row.tab tab (λ n. absurd (omega arith)))))
-        (place_same s row p q h (apart 11 1 row.tab tab (λ n. absurd (omega arith))) (not_counter s row p q h counter.Place s.next_place (apart 12 1 row.tab tab (λ n. absurd (omega arith)))))
-        (serial_same s row p q h (apart 11 1 row.tab tab (λ n. absurd (omega arith))) (not_counter s row p q h counter.Serial s.next_serial (apart 12 1 row.tab tab (λ n. absurd (omega arith))))))
+        (programs_same s row p q h (far 2 tab refl))
+        (queues_same s row p q h (far 3 tab refl))
+        (jobds_same s row p q h (far 4 tab refl))
+        (sbsds_same s row p q h (far 5 tab refl) (far 6 tab refl) (far 7 tab refl) (far 8 tab refl))
+        (held_same s row p q h (far 10 tab refl))
+        (jobs_same s row p q h (far 11 tab refl))
+        (number_same s row p q h (far 11 tab refl) (not_counter s row p q h counter.Number s.next_number (far 12 tab refl)))
+        (place_same s row p q h (far 11 tab refl) (not_counter s row p q h counter.Place s.next_place (far 12 tab refl)))
+        (serial_same s row p q h (far 11 tab refl) (not_counter s row p q h counter.Serial s.next_serial (far 12 tab refl))))
 
   queue_more : (x : QName × Jobq) → IsIn x s.objects.jobqs → queue_row x ≡ row → IsOneMore (λ (y : QName × Jobq). y.0) qname_cmp qname_total (λ y. p (queue_row y)) (λ y. q (queue_row y)) s.objects.jobqs x
   queue_more x i e = record {
@@ -130,16 +127,16 @@ module _ (offset : ℤ) (s : State) (sound : IsSound s) (range : IsInRange s) (r
       (range.objects.jobqs x i)
       (ap (λ (r : Row). Some r) e)
       (same_parts offset
-        (classes_same s row p q h (apart 1 3 row.tab tab (λ n. absurd (omega arith))))
-        (programs_same s row p q h (apart 2 3 row.tab tab (λ n. absurd (omega arith))))
+        (classes_same s row p q h (far 1 tab refl))
+        (programs_same s row p q h (far 2 tab refl))
         (sym (next_added (λ (y : QName × Jobq). y.0) qname_cmp qname_total (λ y. p (queue_row y)) (λ y. q (queue_row y)) s.objects.jobqs x sound.objects.tables.jobqs.sorted i (queue_more x i e)))
-        (jobds_same s row p q h (apart 4 3 row.tab tab (λ n. absurd (omega arith))))
-        (sbsds_same s row p q h (apart 5 3 row.tab tab (λ n. absurd (omega arith))) (apart 6 3 row.tab tab (λ n. absurd (omega arith))) (apart 7 3 row.tab tab (λ n. absurd (omega arith))) (apart 8 3 row.tab tab (λ n. absurd (omega arith))))
-        (held_same s row p q h (apart 10 3 row.tab tab (λ n. absurd (omega arith))))
-        (jobs_same s row p q h (apart 11 3 row.tab tab (λ n. absurd (omega arith))))
-        (number_same s row p q h (apart 11 3 row.tab tab (λ n. absurd (omega arith))) (not_counter s row p q h counter.Number s.next_number (apart 12 3 row.tab tab (λ n. absurd (omega arith)))))
-        (place_same s row p q h (apart 11 3 row.tab tab (λ n. absurd (omega arith))) (not_counter s row p q h counter.Place s.next_place (apart 12 3 row.tab tab (λ n. absurd (omega arith)))))
-        (serial_same s row p q h (apart 11 3 row.tab tab (λ n. absurd (omega arith))) (not_counter s row p q h counter.Serial s.next_serial (apart 12 3 row.tab tab (λ n. absurd (omega arith))))))
+        (jobds_same s row p q h (far 4 tab refl))
+        (sbsds_same s row p q h (far 5 tab refl) (far 6 tab refl) (far 7 tab refl) (far 8 tab refl))
+        (held_same s row p q h (far 10 tab refl))
+        (jobs_same s row p q h (far 11 tab refl))
+        (number_same s row p q h (far 11 tab refl) (not_counter s row p q h counter.Number s.next_number (far 12 tab refl)))
+        (place_same s row p q h (far 11 tab refl) (not_counter s row p q h counter.Place s.next_place (far 12 tab refl)))
+        (serial_same s row p q h (far 11 tab refl) (not_counter s row p q h counter.Serial s.next_serial (far 12 tab refl))))
 
   jobd_more : (x : QName × Jobd) → IsIn x s.objects.jobds → jobd_row x ≡ row → IsOneMore (λ (y : QName × Jobd). y.0) qname_cmp qname_total (λ y. p (jobd_row y)) (λ y. q (jobd_row y)) s.objects.jobds x
   jobd_more x i e = record {
@@ -157,16 +154,16 @@ module _ (offset : ℤ) (s : State) (sound : IsSound s) (range : IsInRange s) (r
       (range.objects.jobds x i)
       (ap (λ (r : Row). Some r) e)
       (same_parts offset
-        (classes_same s row p q h (apart 1 4 row.tab tab (λ n. absurd (omega arith))))
-        (programs_same s row p q h (apart 2 4 row.tab tab (λ n. absurd (omega arith))))
-        (queues_same s row p q h (apart 3 4 row.tab tab (λ n. absurd (omega arith))))
+        (classes_same s row p q h (far 1 tab refl))
+        (programs_same s row p q h (far 2 tab refl))
+        (queues_same s row p q h (far 3 tab refl))
         (sym (next_added (λ (y : QName × Jobd). y.0) qname_cmp qname_total (λ y. p (jobd_row y)) (λ y. q (jobd_row y)) s.objects.jobds x sound.objects.tables.jobds.sorted i (jobd_more x i e)))
-        (sbsds_same s row p q h (apart 5 4 row.tab tab (λ n. absurd (omega arith))) (apart 6 4 row.tab tab (λ n. absurd (omega arith))) (apart 7 4 row.tab tab (λ n. absurd (omega arith))) (apart 8 4 row.tab tab (λ n. absurd (omega arith))))
-        (held_same s row p q h (apart 10 4 row.tab tab (λ n. absurd (omega arith))))
-        (jobs_same s row p q h (apart 11 4 row.tab tab (λ n. absurd (omega arith))))
-        (number_same s row p q h (apart 11 4 row.tab tab (λ n. absurd (omega arith))) (not_counter s row p q h counter.Number s.next_number (apart 12 4 row.tab tab (λ n. absurd (omega arith)))))
-        (place_same s row p q h (apart 11 4 row.tab tab (λ n. absurd (omega arith))) (not_counter s row p q h counter.Place s.next_place (apart 12 4 row.tab tab (λ n. absurd (omega arith)))))
-        (serial_same s row p q h (apart 11 4 row.tab tab (λ n. absurd (omega arith))) (not_counter s row p q h counter.Serial s.next_serial (apart 12 4 row.tab tab (λ n. absurd (omega arith))))))
+        (sbsds_same s row p q h (far 5 tab refl) (far 6 tab refl) (far 7 tab refl) (far 8 tab refl))
+        (held_same s row p q h (far 10 tab refl))
+        (jobs_same s row p q h (far 11 tab refl))
+        (number_same s row p q h (far 11 tab refl) (not_counter s row p q h counter.Number s.next_number (far 12 tab refl)))
+        (place_same s row p q h (far 11 tab refl) (not_counter s row p q h counter.Place s.next_place (far 12 tab refl)))
+        (serial_same s row p q h (far 11 tab refl) (not_counter s row p q h counter.Serial s.next_serial (far 12 tab refl))))
 
   program_more : (x : QName × Program) → IsIn x s.objects.programs → program_row x ≡ row → IsOneMore (λ (y : QName × Program). y.0) qname_cmp qname_total (λ y. p (program_row y)) (λ y. q (program_row y)) s.objects.programs x
   program_more x i e = record {
@@ -184,16 +181,16 @@ module _ (offset : ℤ) (s : State) (sound : IsSound s) (range : IsInRange s) (r
       (range.objects.programs x i)
       (ap (λ (r : Row). Some r) e)
       (same_parts offset
-        (classes_same s row p q h (apart 1 2 row.tab tab (λ n. absurd (omega arith))))
+        (classes_same s row p q h (far 1 tab refl))
         (sym (next_added (λ (y : QName × Program). y.0) qname_cmp qname_total (λ y. p (program_row y)) (λ y. q (program_row y)) s.objects.programs x sound.objects.tables.programs.sorted i (program_more x i e)))
-        (queues_same s row p q h (apart 3 2 row.tab tab (λ n. absurd (omega arith))))
-        (jobds_same s row p q h (apart 4 2 row.tab tab (λ n. absurd (omega arith))))
-        (sbsds_same s row p q h (apart 5 2 row.tab tab (λ n. absurd (omega arith))) (apart 6 2 row.tab tab (λ n. absurd (omega arith))) (apart 7 2 row.tab tab (λ n. absurd (omega arith))) (apart 8 2 row.tab tab (λ n. absurd (omega arith))))
-        (held_same s row p q h (apart 10 2 row.tab tab (λ n. absurd (omega arith))))
-        (jobs_same s row p q h (apart 11 2 row.tab tab (λ n. absurd (omega arith))))
-        (number_same s row p q h (apart 11 2 row.tab tab (λ n. absurd (omega arith))) (not_counter s row p q h counter.Number s.next_number (apart 12 2 row.tab tab (λ n. absurd (omega arith)))))
-        (place_same s row p q h (apart 11 2 row.tab tab (λ n. absurd (omega arith))) (not_counter s row p q h counter.Place s.next_place (apart 12 2 row.tab tab (λ n. absurd (omega arith)))))
-        (serial_same s row p q h (apart 11 2 row.tab tab (λ n. absurd (omega arith))) (not_counter s row p q h counter.Serial s.next_serial (apart 12 2 row.tab tab (λ n. absurd (omega arith))))))
+        (queues_same s row p q h (far 3 tab refl))
+        (jobds_same s row p q h (far 4 tab refl))
+        (sbsds_same s row p q h (far 5 tab refl) (far 6 tab refl) (far 7 tab refl) (far 8 tab refl))
+        (held_same s row p q h (far 10 tab refl))
+        (jobs_same s row p q h (far 11 tab refl))
+        (number_same s row p q h (far 11 tab refl) (not_counter s row p q h counter.Number s.next_number (far 12 tab refl)))
+        (place_same s row p q h (far 11 tab refl) (not_counter s row p q h counter.Place s.next_place (far 12 tab refl)))
+        (serial_same s row p q h (far 11 tab refl) (not_counter s row p q h counter.Serial s.next_serial (far 12 tab refl))))
 
   sbsd_more : (x : QName × Sbsd) → IsIn x s.objects.sbsds → sbsd_row x ≡ row → IsOneMore (λ (y : QName × Sbsd). y.0) qname_cmp qname_total (λ y. p (sbsd_row y)) (λ y. q (sbsd_row y)) s.objects.sbsds x
   sbsd_more x i e = record {
@@ -207,9 +204,9 @@ module _ (offset : ℤ) (s : State) (sound : IsSound s) (range : IsInRange s) (r
   bare x i e =
       let tab : 5 ≡ row.tab = ap (λ (r : Row). r.tab) e in
       let later = λ (r : Row) (m : IsRowOf s r) (k : is_before (sbsd_row x) r ≡ true). h.later r (in_rows s r m) (subst (λ (b : Row). is_before b r ≡ true) e k) in
-      let queues = none_left (λ d. p (queue_entry_row x.0 d)) (λ d. q (queue_entry_row x.0 d)) x.1.queues (λ d j. other_tab s row p q h (queue_entry_row x.0 d) (of_queue_entry x d i j refl) (apart 6 5 row.tab tab (λ n. absurd (omega arith)))) (λ d j. later (queue_entry_row x.0 d) (of_queue_entry x d i j refl) refl) in
-      let routes = none_left (λ d. p (route_entry_row x.0 d)) (λ d. q (route_entry_row x.0 d)) x.1.routes (λ d j. other_tab s row p q h (route_entry_row x.0 d) (of_route_entry x d i j refl) (apart 7 5 row.tab tab (λ n. absurd (omega arith)))) (λ d j. later (route_entry_row x.0 d) (of_route_entry x d i j refl) refl) in
-      let autos = none_left (λ d. p (auto_entry_row x.0 d)) (λ d. q (auto_entry_row x.0 d)) x.1.autos (λ d j. other_tab s row p q h (auto_entry_row x.0 d) (of_auto_entry x d i j refl) (apart 8 5 row.tab tab (λ n. absurd (omega arith)))) (λ d j. later (auto_entry_row x.0 d) (of_auto_entry x d i j refl) refl) in
+      let queues = none_left (λ d. p (queue_entry_row x.0 d)) (λ d. q (queue_entry_row x.0 d)) x.1.queues (λ d j. other_tab s row p q h (queue_entry_row x.0 d) (of_queue_entry x d i j refl) (far 6 tab refl)) (λ d j. later (queue_entry_row x.0 d) (of_queue_entry x d i j refl) refl) in
+      let routes = none_left (λ d. p (route_entry_row x.0 d)) (λ d. q (route_entry_row x.0 d)) x.1.routes (λ d j. other_tab s row p q h (route_entry_row x.0 d) (of_route_entry x d i j refl) (far 7 tab refl)) (λ d j. later (route_entry_row x.0 d) (of_route_entry x d i j refl) refl) in
+      let autos = none_left (λ d. p (auto_entry_row x.0 d)) (λ d. q (auto_entry_row x.0 d)) x.1.autos (λ d j. other_tab s row p q h (auto_entry_row x.0 d) (of_auto_entry x d i j refl) (far 8 tab refl)) (λ d j. later (auto_entry_row x.0 d) (of_auto_entry x d i j refl) refl) in
       ap (λ (l : List QueueEntry). (x.0, record { maxjobs = x.1.maxjobs; queues = l; routes = filter (λ d. q (route_entry_row x.0 d)) x.1.routes; autos = filter (λ d. q (auto_entry_row x.0 d)) x.1.autos; pres = [] })) queues
       ∙ ap (λ (l : List RouteEntry). (x.0, record { maxjobs = x.1.maxjobs; queues = []; routes = l; autos = filter (λ d. q (auto_entry_row x.0 d)) x.1.autos; pres = [] })) routes
       ∙ ap (λ (l : List AutoEntry). (x.0, record { maxjobs = x.1.maxjobs; queues = []; routes = []; autos = l; pres = [] })) autos
@@ -217,8 +214,7 @@ module _ (offset : ℤ) (s : State) (sound : IsSound s) (range : IsInRange s) (r
   sbsd_added : (x : QName × Sbsd) → IsIn x s.objects.sbsds → sbsd_row x ≡ row → sbsds_part q s ≡ with_object x.0 (empty_sbsd x.1.maxjobs) (sbsds_part p s)
   sbsd_added x i e =
       let tab : 5 ≡ row.tab = ap (λ (r : Row). r.tab) e in
-      let far = λ (n : ℕ) (other : n ≡ 5 → ⊥). apart n 5 row.tab tab other in
-      let same : map (sbsd_part q) (sbsds_left p s) ≡ sbsds_part p s = map_each (sbsd_part q) (sbsd_part p) (sbsds_left p s) (λ y j. description_same s row p q h (far 6 (λ n. absurd (omega arith))) (far 7 (λ n. absurd (omega arith))) (far 8 (λ n. absurd (omega arith))) y (left_in (λ (z : QName × Sbsd). p (sbsd_row z)) s.objects.sbsds y j)) in
+      let same : map (sbsd_part q) (sbsds_left p s) ≡ sbsds_part p s = map_each (sbsd_part q) (sbsd_part p) (sbsds_left p s) (λ y j. description_same s row p q h (far 6 tab refl) (far 7 tab refl) (far 8 tab refl) y (left_in (λ (z : QName × Sbsd). p (sbsd_row z)) s.objects.sbsds y j)) in
       ap (map (sbsd_part q)) (sym (next_added (λ (y : QName × Sbsd). y.0) qname_cmp qname_total (λ y. p (sbsd_row y)) (λ y. q (sbsd_row y)) s.objects.sbsds x sound.objects.tables.sbsds.sorted i (sbsd_more x i e)))
       ∙ sym (added_mapped (λ (y : QName × Sbsd). y.0) qname_cmp (sbsd_part q) (λ y. refl) x (sbsds_left p s))
       ∙ ap (λ (y : QName × Sbsd). added (λ (z : QName × Sbsd). z.0) qname_cmp y (map (sbsd_part q) (sbsds_left p s))) (bare x i e)
@@ -238,13 +234,13 @@ module _ (offset : ℤ) (s : State) (sound : IsSound s) (range : IsInRange s) (r
       (range.objects.sbsds x i)
       (ap (λ (r : Row). Some r) e)
       (same_parts offset
-        (classes_same s row p q h (apart 1 5 row.tab tab (λ n. absurd (omega arith))))
-        (programs_same s row p q h (apart 2 5 row.tab tab (λ n. absurd (omega arith))))
-        (queues_same s row p q h (apart 3 5 row.tab tab (λ n. absurd (omega arith))))
-        (jobds_same s row p q h (apart 4 5 row.tab tab (λ n. absurd (omega arith))))
+        (classes_same s row p q h (far 1 tab refl))
+        (programs_same s row p q h (far 2 tab refl))
+        (queues_same s row p q h (far 3 tab refl))
+        (jobds_same s row p q h (far 4 tab refl))
         (sbsd_added x i e)
-        (held_same s row p q h (apart 10 5 row.tab tab (λ n. absurd (omega arith))))
-        (jobs_same s row p q h (apart 11 5 row.tab tab (λ n. absurd (omega arith))))
-        (number_same s row p q h (apart 11 5 row.tab tab (λ n. absurd (omega arith))) (not_counter s row p q h counter.Number s.next_number (apart 12 5 row.tab tab (λ n. absurd (omega arith)))))
-        (place_same s row p q h (apart 11 5 row.tab tab (λ n. absurd (omega arith))) (not_counter s row p q h counter.Place s.next_place (apart 12 5 row.tab tab (λ n. absurd (omega arith)))))
-        (serial_same s row p q h (apart 11 5 row.tab tab (λ n. absurd (omega arith))) (not_counter s row p q h counter.Serial s.next_serial (apart 12 5 row.tab tab (λ n. absurd (omega arith))))))
+        (held_same s row p q h (far 10 tab refl))
+        (jobs_same s row p q h (far 11 tab refl))
+        (number_same s row p q h (far 11 tab refl) (not_counter s row p q h counter.Number s.next_number (far 12 tab refl)))
+        (place_same s row p q h (far 11 tab refl) (not_counter s row p q h counter.Place s.next_place (far 12 tab refl)))
+        (serial_same s row p q h (far 11 tab refl) (not_counter s row p q h counter.Serial s.next_serial (far 12 tab refl))))

@@ -51,12 +51,11 @@ use Rattle.wm_tables.proofs.Joining.{each_below}
 use Rattle.wm_tables.proofs.Keys.{one_number, one_text}
 use Rattle.wm_tables.proofs.OneMore.{IsOneMore, next_added, next_new}
 use Rattle.wm_tables.proofs.OwnPlaces.{same_key}
-use Rattle.wm_tables.proofs.Parts.{IsStep, state_part, same_parts, queue_part, held_part, jobs_left, jobs_part, number_part, place_part, serial_part, reached, classes_same, programs_same, queues_same, jobds_same, sbsds_same, held_same, jobs_same, left_jobs_same, number_same, place_same, serial_same, not_counter, other_tab}
+use Rattle.wm_tables.proofs.Parts.{IsStep, far, state_part, same_parts, queue_part, held_part, jobs_left, jobs_part, number_part, place_part, serial_part, reached, classes_same, programs_same, queues_same, jobds_same, sbsds_same, held_same, jobs_same, left_jobs_same, number_same, place_same, serial_same, not_counter, other_tab}
 use Rattle.wm_tables.proofs.Passing.{left_none, left_passes, none_passes}
 use Rattle.wm_tables.proofs.RowsOf.{IsRowOf, in_rows, of_held, of_job, of_number, of_place, of_schema, of_serial}
 use Rattle.wm_tables.proofs.Made.{tab_before}
 use Rattle.wm_tables.proofs.StepEntries.{all_queues, one_distinct}
-use Rattle.wm_tables.proofs.StepObjects.{apart}
 
 -- the part with one job more behind it
 record IsLastMore (a b : Job → Bool) (jobs : List Job) (j : Job) : Type 0 where
@@ -158,16 +157,16 @@ module _ (offset : ℤ) (s : State) (sound : IsSound s) (range : IsInRange s) (r
         accepted = ap (λ (t : Stepped). t.reply) result;
         makes =
             same_parts offset
-            (classes_same s row p q h (apart 1 10 row.tab tab (λ n. absurd (omega arith))))
-            (programs_same s row p q h (apart 2 10 row.tab tab (λ n. absurd (omega arith))))
-            (queues_same s row p q h (apart 3 10 row.tab tab (λ n. absurd (omega arith))))
-            (jobds_same s row p q h (apart 4 10 row.tab tab (λ n. absurd (omega arith))))
-            (sbsds_same s row p q h (apart 5 10 row.tab tab (λ n. absurd (omega arith))) (apart 6 10 row.tab tab (λ n. absurd (omega arith))) (apart 7 10 row.tab tab (λ n. absurd (omega arith))) (apart 8 10 row.tab tab (λ n. absurd (omega arith))))
+            (classes_same s row p q h (far 1 tab refl))
+            (programs_same s row p q h (far 2 tab refl))
+            (queues_same s row p q h (far 3 tab refl))
+            (jobds_same s row p q h (far 4 tab refl))
+            (sbsds_same s row p q h (far 5 tab refl) (far 6 tab refl) (far 7 tab refl) (far 8 tab refl))
             (sym (next_added own_name qname_cmp qname_total (λ y. p (held_row y)) (λ y. q (held_row y)) s.held x sound.held.sorted i (held_more x i e)))
-            (jobs_same s row p q h (apart 11 10 row.tab tab (λ n. absurd (omega arith))))
-            (number_same s row p q h (apart 11 10 row.tab tab (λ n. absurd (omega arith))) (not_counter s row p q h counter.Number s.next_number (apart 12 10 row.tab tab (λ n. absurd (omega arith)))))
-            (place_same s row p q h (apart 11 10 row.tab tab (λ n. absurd (omega arith))) (not_counter s row p q h counter.Place s.next_place (apart 12 10 row.tab tab (λ n. absurd (omega arith)))))
-            (serial_same s row p q h (apart 11 10 row.tab tab (λ n. absurd (omega arith))) (not_counter s row p q h counter.Serial s.next_serial (apart 12 10 row.tab tab (λ n. absurd (omega arith)))))
+            (jobs_same s row p q h (far 11 tab refl))
+            (number_same s row p q h (far 11 tab refl) (not_counter s row p q h counter.Number s.next_number (far 12 tab refl)))
+            (place_same s row p q h (far 11 tab refl) (not_counter s row p q h counter.Place s.next_place (far 12 tab refl)))
+            (serial_same s row p q h (far 11 tab refl) (not_counter s row p q h counter.Serial s.next_serial (far 12 tab refl)))
             ∙ sym (ap (λ (t : Stepped). t.state) result);
       }
 
@@ -263,12 +262,12 @@ module _ (offset : ℤ) (s : State) (sound : IsSound s) (range : IsInRange s) (r
         };
         makes =
             same_parts offset
-            (classes_same s row p q h (apart 1 11 row.tab tab (λ n. absurd (omega arith))))
-            (programs_same s row p q h (apart 2 11 row.tab tab (λ n. absurd (omega arith))))
-            (queues_same s row p q h (apart 3 11 row.tab tab (λ n. absurd (omega arith))))
-            (jobds_same s row p q h (apart 4 11 row.tab tab (λ n. absurd (omega arith))))
-            (sbsds_same s row p q h (apart 5 11 row.tab tab (λ n. absurd (omega arith))) (apart 6 11 row.tab tab (λ n. absurd (omega arith))) (apart 7 11 row.tab tab (λ n. absurd (omega arith))) (apart 8 11 row.tab tab (λ n. absurd (omega arith))))
-            (held_same s row p q h (apart 10 11 row.tab tab (λ n. absurd (omega arith))))
+            (classes_same s row p q h (far 1 tab refl))
+            (programs_same s row p q h (far 2 tab refl))
+            (queues_same s row p q h (far 3 tab refl))
+            (jobds_same s row p q h (far 4 tab refl))
+            (sbsds_same s row p q h (far 5 tab refl) (far 6 tab refl) (far 7 tab refl) (far 8 tab refl))
+            (held_same s row p q h (far 10 tab refl))
             (ap (map restarted_job) more ∙ map_last restarted_job (jobs_left p s) j ∙ ap (λ (x : Job). map restarted_job (jobs_left p s) ++ x ∷ []) (sym (job_again j)))
             (counted (λ k. k.job.number) s.next_number j _ _ number.0 number.1 more)
             (counted (λ k. k.place) s.next_place j _ _ place.0 place.1 more)
@@ -293,16 +292,16 @@ module _ (offset : ℤ) (s : State) (sound : IsSound s) (range : IsInRange s) (r
         good = record { least = subst (λ (t : Bool). cond t s.next_number (reached (λ j. j.job.number) (jobs_left p s)) ≤ s.next_number) (sym free) low; most = bounds.most };
         makes =
             same_parts offset
-            (classes_same s row p q h (apart 1 12 row.tab tab (λ n. absurd (omega arith))))
-            (programs_same s row p q h (apart 2 12 row.tab tab (λ n. absurd (omega arith))))
-            (queues_same s row p q h (apart 3 12 row.tab tab (λ n. absurd (omega arith))))
-            (jobds_same s row p q h (apart 4 12 row.tab tab (λ n. absurd (omega arith))))
-            (sbsds_same s row p q h (apart 5 12 row.tab tab (λ n. absurd (omega arith))) (apart 6 12 row.tab tab (λ n. absurd (omega arith))) (apart 7 12 row.tab tab (λ n. absurd (omega arith))) (apart 8 12 row.tab tab (λ n. absurd (omega arith))))
-            (held_same s row p q h (apart 10 12 row.tab tab (λ n. absurd (omega arith))))
-            (jobs_same s row p q h (apart 11 12 row.tab tab (λ n. absurd (omega arith))))
+            (classes_same s row p q h (far 1 tab refl))
+            (programs_same s row p q h (far 2 tab refl))
+            (queues_same s row p q h (far 3 tab refl))
+            (jobds_same s row p q h (far 4 tab refl))
+            (sbsds_same s row p q h (far 5 tab refl) (far 6 tab refl) (far 7 tab refl) (far 8 tab refl))
+            (held_same s row p q h (far 10 tab refl))
+            (jobs_same s row p q h (far 11 tab refl))
             (ap (λ (t : Bool). cond t s.next_number (reached (λ j. j.job.number) (jobs_left q s))) (ap q e ∙ h.after))
-            (place_same s row p q h (apart 11 12 row.tab tab (λ n. absurd (omega arith))) (other_counter counter.Place counter.Number s.next_place s.next_number (λ k. absurd (cc)) e))
-            (serial_same s row p q h (apart 11 12 row.tab tab (λ n. absurd (omega arith))) (other_counter counter.Serial counter.Number s.next_serial s.next_number (λ k. absurd (cc)) e));
+            (place_same s row p q h (far 11 tab refl) (other_counter counter.Place counter.Number s.next_place s.next_number (λ k. absurd (cc)) e))
+            (serial_same s row p q h (far 11 tab refl) (other_counter counter.Serial counter.Number s.next_serial s.next_number (λ k. absurd (cc)) e));
       }
 
   pub place_counts : counter_row counter.Place s.next_place ≡ row → Counts (state_part p offset s) row (state_part q offset s)
@@ -319,16 +318,16 @@ module _ (offset : ℤ) (s : State) (sound : IsSound s) (range : IsInRange s) (r
         good = record { least = subst (λ (t : Bool). cond t s.next_place (reached (λ j. j.place) (jobs_left p s)) ≤ s.next_place) (sym free) low; most = bounds.most };
         makes =
             same_parts offset
-            (classes_same s row p q h (apart 1 12 row.tab tab (λ n. absurd (omega arith))))
-            (programs_same s row p q h (apart 2 12 row.tab tab (λ n. absurd (omega arith))))
-            (queues_same s row p q h (apart 3 12 row.tab tab (λ n. absurd (omega arith))))
-            (jobds_same s row p q h (apart 4 12 row.tab tab (λ n. absurd (omega arith))))
-            (sbsds_same s row p q h (apart 5 12 row.tab tab (λ n. absurd (omega arith))) (apart 6 12 row.tab tab (λ n. absurd (omega arith))) (apart 7 12 row.tab tab (λ n. absurd (omega arith))) (apart 8 12 row.tab tab (λ n. absurd (omega arith))))
-            (held_same s row p q h (apart 10 12 row.tab tab (λ n. absurd (omega arith))))
-            (jobs_same s row p q h (apart 11 12 row.tab tab (λ n. absurd (omega arith))))
-            (number_same s row p q h (apart 11 12 row.tab tab (λ n. absurd (omega arith))) (other_counter counter.Number counter.Place s.next_number s.next_place (λ k. absurd (cc)) e))
+            (classes_same s row p q h (far 1 tab refl))
+            (programs_same s row p q h (far 2 tab refl))
+            (queues_same s row p q h (far 3 tab refl))
+            (jobds_same s row p q h (far 4 tab refl))
+            (sbsds_same s row p q h (far 5 tab refl) (far 6 tab refl) (far 7 tab refl) (far 8 tab refl))
+            (held_same s row p q h (far 10 tab refl))
+            (jobs_same s row p q h (far 11 tab refl))
+            (number_same s row p q h (far 11 tab refl) (other_counter counter.Number counter.Place s.next_number s.next_place (λ k. absurd (cc)) e))
             (ap (λ (t : Bool). cond t s.next_place (reached (λ j. j.place) (jobs_left q s))) (ap q e ∙ h.after))
-            (serial_same s row p q h (apart 11 12 row.tab tab (λ n. absurd (omega arith))) (other_counter counter.Serial counter.Place s.next_serial s.next_place (λ k. absurd (cc)) e));
+            (serial_same s row p q h (far 11 tab refl) (other_counter counter.Serial counter.Place s.next_serial s.next_place (λ k. absurd (cc)) e));
       }
 
   pub serial_counts : counter_row counter.Serial s.next_serial ≡ row → Counts (state_part p offset s) row (state_part q offset s)
@@ -345,15 +344,15 @@ module _ (offset : ℤ) (s : State) (sound : IsSound s) (range : IsInRange s) (r
         good = record { least = subst (λ (t : Bool). cond t s.next_serial (reached (λ j. j.serial) (jobs_left p s)) ≤ s.next_serial) (sym free) low; most = bounds.most };
         makes =
             same_parts offset
-            (classes_same s row p q h (apart 1 12 row.tab tab (λ n. absurd (omega arith))))
-            (programs_same s row p q h (apart 2 12 row.tab tab (λ n. absurd (omega arith))))
-            (queues_same s row p q h (apart 3 12 row.tab tab (λ n. absurd (omega arith))))
-            (jobds_same s row p q h (apart 4 12 row.tab tab (λ n. absurd (omega arith))))
-            (sbsds_same s row p q h (apart 5 12 row.tab tab (λ n. absurd (omega arith))) (apart 6 12 row.tab tab (λ n. absurd (omega arith))) (apart 7 12 row.tab tab (λ n. absurd (omega arith))) (apart 8 12 row.tab tab (λ n. absurd (omega arith))))
-            (held_same s row p q h (apart 10 12 row.tab tab (λ n. absurd (omega arith))))
-            (jobs_same s row p q h (apart 11 12 row.tab tab (λ n. absurd (omega arith))))
-            (number_same s row p q h (apart 11 12 row.tab tab (λ n. absurd (omega arith))) (other_counter counter.Number counter.Serial s.next_number s.next_serial (λ k. absurd (cc)) e))
-            (place_same s row p q h (apart 11 12 row.tab tab (λ n. absurd (omega arith))) (other_counter counter.Place counter.Serial s.next_place s.next_serial (λ k. absurd (cc)) e))
+            (classes_same s row p q h (far 1 tab refl))
+            (programs_same s row p q h (far 2 tab refl))
+            (queues_same s row p q h (far 3 tab refl))
+            (jobds_same s row p q h (far 4 tab refl))
+            (sbsds_same s row p q h (far 5 tab refl) (far 6 tab refl) (far 7 tab refl) (far 8 tab refl))
+            (held_same s row p q h (far 10 tab refl))
+            (jobs_same s row p q h (far 11 tab refl))
+            (number_same s row p q h (far 11 tab refl) (other_counter counter.Number counter.Serial s.next_number s.next_serial (λ k. absurd (cc)) e))
+            (place_same s row p q h (far 11 tab refl) (other_counter counter.Place counter.Serial s.next_place s.next_serial (λ k. absurd (cc)) e))
             (ap (λ (t : Bool). cond t s.next_serial (reached (λ j. j.serial) (jobs_left q s))) (ap q e ∙ h.after));
       }
 
@@ -367,14 +366,14 @@ module _ (offset : ℤ) (s : State) (sound : IsSound s) (range : IsInRange s) (r
         good = refl;
         makes =
             same_parts offset
-            (classes_same s row p q h (apart 1 12 row.tab tab (λ n. absurd (omega arith))))
-            (programs_same s row p q h (apart 2 12 row.tab tab (λ n. absurd (omega arith))))
-            (queues_same s row p q h (apart 3 12 row.tab tab (λ n. absurd (omega arith))))
-            (jobds_same s row p q h (apart 4 12 row.tab tab (λ n. absurd (omega arith))))
-            (sbsds_same s row p q h (apart 5 12 row.tab tab (λ n. absurd (omega arith))) (apart 6 12 row.tab tab (λ n. absurd (omega arith))) (apart 7 12 row.tab tab (λ n. absurd (omega arith))) (apart 8 12 row.tab tab (λ n. absurd (omega arith))))
-            (held_same s row p q h (apart 10 12 row.tab tab (λ n. absurd (omega arith))))
-            (jobs_same s row p q h (apart 11 12 row.tab tab (λ n. absurd (omega arith))))
-            (number_same s row p q h (apart 11 12 row.tab tab (λ n. absurd (omega arith))) (other_counter counter.Number counter.Schema s.next_number 1 (λ k. absurd (cc)) e))
-            (place_same s row p q h (apart 11 12 row.tab tab (λ n. absurd (omega arith))) (other_counter counter.Place counter.Schema s.next_place 1 (λ k. absurd (cc)) e))
-            (serial_same s row p q h (apart 11 12 row.tab tab (λ n. absurd (omega arith))) (other_counter counter.Serial counter.Schema s.next_serial 1 (λ k. absurd (cc)) e));
+            (classes_same s row p q h (far 1 tab refl))
+            (programs_same s row p q h (far 2 tab refl))
+            (queues_same s row p q h (far 3 tab refl))
+            (jobds_same s row p q h (far 4 tab refl))
+            (sbsds_same s row p q h (far 5 tab refl) (far 6 tab refl) (far 7 tab refl) (far 8 tab refl))
+            (held_same s row p q h (far 10 tab refl))
+            (jobs_same s row p q h (far 11 tab refl))
+            (number_same s row p q h (far 11 tab refl) (other_counter counter.Number counter.Schema s.next_number 1 (λ k. absurd (cc)) e))
+            (place_same s row p q h (far 11 tab refl) (other_counter counter.Place counter.Schema s.next_place 1 (λ k. absurd (cc)) e))
+            (serial_same s row p q h (far 11 tab refl) (other_counter counter.Serial counter.Schema s.next_serial 1 (λ k. absurd (cc)) e));
       }
