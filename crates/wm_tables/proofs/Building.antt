@@ -1,14 +1,12 @@
 -- What holds of a state that rows make, whichever counters they have.
-use Rattle.std.proofs.Common.{◌≡◌, ◌⊎◌, ℕ, ◌≤◌, ◌<◌, ◌+◌, ◌++◌, ◌^◌, Bool, true, false, List, [], ◌∷◌, length, map, max, Option, Some, None, ℤ, refl, sym, ap, subst, ◌∙◌, inl, inr, arith}
+use Rattle.std.proofs.Common.{◌≡◌, ℕ, ◌≤◌, ◌<◌, ◌+◌, ◌++◌, ◌^◌, Bool, true, false, List, [], ◌∷◌, map, max, Option, Some, None, ℤ, refl, sym, ap, subst, ◌∙◌, inl, inr, arith}
 use Rattle.std.specs.Cmp.Lexicographic.{slice_cmp}
 use Rattle.std.specs.Option.{IsSome}
 use Rattle.std.specs.Ordering.{is_lt, nat_cmp, ordering_reverse}
-use Rattle.std.specs.declared.cmp.Ordering.{Ordering}
-use Rattle.std.specs.declared.cmp.Ordering.TheVariants.{Less, Equal, Greater}
+use Rattle.std.specs.declared.cmp.Ordering.TheVariants.{Equal, Greater}
 use Rattle.std.proofs.lemmas.Bool.{cases_lt}
 use Rattle.std.proofs.lemmas.Cmp.{nat_list_cmp_total, tied_itself}
 use Rattle.wm_base.specs.Number.{zero_padded}
-use Rattle.wm_base.specs.declared.job.EndCause.TheVariants.{Restarted}
 use Rattle.wm_base.specs.declared.qname.QName.{QName}
 use Rattle.wm_desc.proofs.Tables.{qname_ties, qname_total}
 use Rattle.wm_desc.specs.Sorted.{place_of}
@@ -23,12 +21,10 @@ use Rattle.wm_law.specs.Laws.{IsIn}
 use Rattle.wm_law.specs.Objects.{AreSound}
 use Rattle.wm_law.specs.Opening.{empty}
 use Rattle.wm_law.specs.Queues.{own_name, with_held_queue}
-use Rattle.wm_law.specs.Sound.{AreQueues, HasAutoValues, HasJobsInOrder, HasQueues, IsIncreasing, IsQueued}
+use Rattle.wm_law.specs.Sound.{AreQueues, HasAutoValues, HasQueues, IsIncreasing, IsQueued}
 use Rattle.wm_law.specs.declared.job.Job.{Job}
 use Rattle.wm_law.specs.declared.job.JobKind.{JobKind}
 use Rattle.wm_law.specs.declared.job.JobKind.TheVariants.{Bch, Asj, Pj}
-use Rattle.wm_law.specs.declared.job.Phase.{Phase}
-use Rattle.wm_law.specs.declared.job.Phase.TheVariants as phase
 use Rattle.wm_law.specs.declared.state.State.{State}
 use Rattle.wm_law.proofs.InOrder.{in_inserted, sorted_added}
 use Rattle.wm_law.proofs.Members.{of_last, of_mapped}
@@ -37,14 +33,13 @@ use Rattle.wm_law.proofs.Objects.{IsObjectChange}
 use Rattle.wm_law.proofs.Waits.{waiting_more, waiting_same}
 use Rattle.wm_rows.specs.declared.stored.Counter.{Counter}
 use Rattle.wm_rows.specs.declared.stored.Counter.TheVariants as counter
-use Rattle.wm_job_rows.specs.JobText.{job_row}
 use Rattle.wm_job_rows.specs.declared.stored.StoredJob.{StoredJob}
 use Rattle.wm_job_rows.specs.declared.stored.StoredPhase.{StoredPhase}
 use Rattle.wm_job_rows.specs.declared.stored.StoredPhase.TheVariants.{Waiting, Active, Ended}
-use Rattle.wm_tables.specs.Restart.{job_of, phase_of, with_stored, with_counter, HasOwnValues, IsOfKind, IsGoodJob, IsGoodCount, Makes, Holds, Enters, Counts, Takes, IsRead}
+use Rattle.wm_tables.specs.Restart.{job_of, phase_of, with_stored, with_counter, HasOwnValues, IsOfKind, IsGoodJob, IsGoodCount, Takes, IsRead}
 use Rattle.wm_tables.proofs.Digits.{padded_less}
 use Rattle.wm_tables.proofs.Joining.{below_end, below_rise, distinct_end, given_end, increasing_end, key_end, none_taken, none_used}
-use Rattle.wm_tables.proofs.Made.{IsHeldNow, IsMaking, row_holds, row_makes}
+use Rattle.wm_tables.proofs.Made.{IsHeldNow, row_holds, row_makes}
 use Rattle.wm_tables.proofs.RowOrder.{IsAscending}
 
 -- serials, numbers and places are given once, and the next ones are 1 or more
@@ -187,9 +182,9 @@ serial_lower a b fits h =
     elim (cases_lt a b) [
       | inl less ↦ less
       | inr back ↦ (elim (cases_lt b a) [
-          | inl more ↦ let no : is_lt (slice_cmp nat_cmp (zero_padded 20 a) (zero_padded 20 b)) ≡ false = ap is_lt (greater_padded a b more fits) in absurd (cc)
-          | inr on ↦ let same : a ≡ b = omega arith in let no : is_lt (slice_cmp nat_cmp (zero_padded 20 a) (zero_padded 20 b)) ≡ false = ap is_lt (equal_padded a b same) in absurd (cc)
-        ])
+        | inl more ↦ let no : is_lt (slice_cmp nat_cmp (zero_padded 20 a) (zero_padded 20 b)) ≡ false = ap is_lt (greater_padded a b more fits) in absurd (cc)
+        | inr on ↦ let same : a ≡ b = omega arith in let no : is_lt (slice_cmp nat_cmp (zero_padded 20 a) (zero_padded 20 b)) ≡ false = ap is_lt (equal_padded a b same) in absurd (cc)
+      ])
     ]
 
 -- the rows to come stand behind those of the jobs

@@ -1,7 +1,6 @@
 -- Digits of one length stand in the order of their numbers.
-use Rattle.std.proofs.Common.{◌≡◌, ◌⊎◌, ℕ, zero, suc, ◌+◌, ◌-◌, ◌*◌, ◌/◌, ◌%◌, ◌^◌, ◌<◌, ◌≤◌, ◌++◌, nat_lt, ◌==◌, Bool, true, false, cond, List, [], ◌∷◌, length, replicate, refl, sym, ap, subst, ◌∙◌, inl, inr, append_assoc, arith}
+use Rattle.std.proofs.Common.{◌≡◌, ℕ, zero, suc, ◌+◌, ◌-◌, ◌/◌, ◌%◌, ◌^◌, ◌<◌, ◌≤◌, ◌++◌, List, [], ◌∷◌, length, replicate, refl, sym, ap, ◌∙◌, inl, inr, append_assoc, arith}
 use Rattle.std.specs.Cmp.Lexicographic.{slice_cmp}
-use Rattle.std.specs.Fmt.{decimal}
 use Rattle.std.specs.Ordering.{nat_cmp, ordering_then}
 use Rattle.std.specs.declared.cmp.Ordering.{Ordering}
 use Rattle.std.specs.declared.cmp.Ordering.TheVariants.{Less, Equal, Greater}
@@ -50,14 +49,14 @@ digits_less (suc width) a b less top =
     let same : length (digits width (a / 10)) ≡ length (digits width (b / 10)) = length_digits width (a / 10) ∙ sym (length_digits width (b / 10)) in
     with_last (digits width (a / 10)) (digits width (b / 10)) (48 + a % 10) (48 + b % 10) same
     ∙ (elim (cases_lt (a / 10) (b / 10)) [
-        | inl front ↦ ap (λ (r : Ordering). ordering_then r (nat_cmp (48 + a % 10) (48 + b % 10))) (digits_less width (a / 10) (b / 10) front (omega arith))
-        | inr back ↦
-            let equal : a / 10 ≡ b / 10 = omega arith in
-            let last : 48 + a % 10 < 48 + b % 10 = omega arith in
-            ap (λ (n : ℕ). ordering_then (slice_cmp nat_cmp (digits width n) (digits width (b / 10))) (nat_cmp (48 + a % 10) (48 + b % 10))) equal
-            ∙ ap (λ (r : Ordering). ordering_then r (nat_cmp (48 + a % 10) (48 + b % 10))) (tied_itself nat_list_cmp_total (digits width (b / 10)))
-            ∙ less_is (48 + a % 10) (48 + b % 10) last
-      ])
+      | inl front ↦ ap (λ (r : Ordering). ordering_then r (nat_cmp (48 + a % 10) (48 + b % 10))) (digits_less width (a / 10) (b / 10) front (omega arith))
+      | inr back ↦
+          let equal : a / 10 ≡ b / 10 = omega arith in
+          let last : 48 + a % 10 < 48 + b % 10 = omega arith in
+          ap (λ (n : ℕ). ordering_then (slice_cmp nat_cmp (digits width n) (digits width (b / 10))) (nat_cmp (48 + a % 10) (48 + b % 10))) equal
+          ∙ ap (λ (r : Ordering). ordering_then r (nat_cmp (48 + a % 10) (48 + b % 10))) (tied_itself nat_list_cmp_total (digits width (b / 10)))
+          ∙ less_is (48 + a % 10) (48 + b % 10) last
+    ])
 
 zero_more : (n : ℕ) → ◌++◌ {A = ℕ} (replicate n 48) (48 ∷ []) ≡ replicate (suc n) 48
 zero_more zero = refl

@@ -1,9 +1,8 @@
 -- Good counters keep the next numbers within their ranges.
-use Rattle.std.proofs.Common.{◌≡◌, ◌⊎◌, ℕ, zero, suc, ◌≤◌, ◌<◌, Bool, true, false, List, [], ◌∷◌, length, get_or, Some, refl, sym, ap, subst, ◌∙◌, inl, inr, arith}
+use Rattle.std.proofs.Common.{◌≡◌, ℕ, zero, suc, ◌≤◌, List, [], ◌∷◌, get_or, refl, sym, ap, subst, ◌∙◌, inl, inr, arith}
 use Rattle.std.specs.Prelude.{⊤}
 use Rattle.std.specs.List.{Contains}
 use Rattle.wm_outside.specs.declared.row.Row.{Row}
-use Rattle.wm_outside.specs.Rows.{is_before}
 use Rattle.wm_law.specs.Laws.{IsIn}
 use Rattle.wm_law.specs.Submitting.{numbers_end, serials_end}
 use Rattle.wm_law.specs.declared.state.State.{State}

@@ -1,5 +1,5 @@
 -- What holds of the numbers and places of jobs, where one job more stands behind them.
-use Rattle.std.proofs.Common.{◌≡◌, ◌⊎◌, ℕ, ◌≤◌, ◌<◌, ◌+◌, ◌++◌, ◌==◌, ◌&&◌, ◌||◌, Bool, true, false, cond, List, [], ◌∷◌, map, filter, max, refl, sym, ap, subst, ◌∙◌, inl, inr, arith}
+use Rattle.std.proofs.Common.{◌≡◌, ℕ, ◌≤◌, ◌<◌, ◌+◌, ◌++◌, ◌==◌, ◌&&◌, Bool, true, false, List, [], ◌∷◌, map, filter, max, refl, sym, ap, subst, ◌∙◌, inl, inr, arith}
 use Rattle.std.proofs.lemmas.Bool.{eq-eqb}
 use Rattle.wm_law.specs.Counts.{is_waiting}
 use Rattle.wm_law.specs.Kept.{IsBelow, IsDistinct, IsGiven, waiting_places}
@@ -42,9 +42,6 @@ each_below top (m ∷ ns) n b (inr i) = each_below top ns n b.1 i
 pub key_end : (key : Job → ℕ) (jobs : List Job) (j : Job) → map key (jobs ++ j ∷ []) ≡ map key jobs ++ key j ∷ []
 key_end key [] j = refl
 key_end key (k ∷ jobs) j = ap (λ (ns : List ℕ). key k ∷ ns) (key_end key jobs j)
-
-max_left : (a b : ℕ) → a ≤ max a b
-max_left a b = omega arith
 
 -- where the new number isn't among those given
 pub given_end : (key : Job → ℕ) (jobs : List Job) (j : Job) (next : ℕ) → (IsIn (key j) (map key jobs) → ⊥) → IsGiven (map key jobs) next → IsGiven (map key (jobs ++ j ∷ [])) (max next (key j + 1))

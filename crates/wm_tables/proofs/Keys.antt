@@ -1,9 +1,8 @@
 -- The keys of rows tell apart what they are the keys of.
-use Rattle.std.proofs.Common.{◌≡◌, ◌⊎◌, ℕ, suc, ◌^◌, ◌<◌, ◌≤◌, ◌++◌, Bool, true, false, List, [], ◌∷◌, codes, refl, sym, ap, subst, ◌∙◌, inl, inr, append_assoc, arith}
+use Rattle.std.proofs.Common.{◌≡◌, ℕ, suc, ◌^◌, ◌<◌, ◌++◌, Bool, true, false, List, [], ◌∷◌, codes, refl, sym, ap, subst, ◌∙◌, inl, inr, append_assoc, arith}
 use Rattle.std.specs.Cmp.Lexicographic.{slice_cmp}
 use Rattle.std.specs.List.{list_all}
 use Rattle.std.specs.Ordering.{nat_cmp}
-use Rattle.std.specs.declared.cmp.Ordering.{Ordering}
 use Rattle.std.specs.declared.cmp.Ordering.TheVariants.{Less, Equal}
 use Rattle.std.proofs.lemmas.Bool.{and_parts, cases_lt}
 use Rattle.std.proofs.lemmas.Cmp.{nat_list_cmp_total, tied_itself}
@@ -83,7 +82,7 @@ one_number width a b f g h k e =
     elim (cases_lt a b) [
       | inl less ↦ absurd (apart width a b less g k e)
       | inr back ↦ (elim (cases_lt b a) [
-          | inl more ↦ absurd (apart width b a more f h (sym e))
-          | inr on ↦ omega arith
-        ])
+        | inl more ↦ absurd (apart width b a more f h (sym e))
+        | inr on ↦ omega arith
+      ])
     ]

@@ -1,9 +1,9 @@
 -- What one row makes, by its table.
-use Rattle.std.proofs.Common.{◌≡◌, ◌⊎◌, ℕ, ◌≤◌, ◌<◌, Bool, true, false, cond, is_some, List, [], ◌∷◌, Option, Some, None, refl, sym, ap, subst, ◌∙◌, inl, inr, arith}
+use Rattle.std.proofs.Common.{◌≡◌, ℕ, ◌≤◌, ◌<◌, Bool, true, false, cond, is_some, List, Option, Some, None, refl, ap, inl, inr, arith}
 use Rattle.std.specs.Ordering.{is_lt, nat_cmp, ordering_then}
 use Rattle.std.specs.Cmp.Lexicographic.{slice_cmp}
 use Rattle.std.specs.declared.cmp.Ordering.{Ordering}
-use Rattle.std.specs.declared.cmp.Ordering.TheVariants.{Less, Equal, Greater}
+use Rattle.std.specs.declared.cmp.Ordering.TheVariants.{Less, Greater}
 use Rattle.std.proofs.lemmas.Bool.{cases_lt}
 use Rattle.std.proofs.lemmas.Bool.Decides.{nat_tests}
 use Rattle.wm_base.specs.declared.qname.QName.{QName}
@@ -11,13 +11,13 @@ use Rattle.wm_base.specs.declared.refusal.Kind.TheVariants as kind
 use Rattle.wm_base.specs.declared.refusal.Refusal.{Refusal}
 use Rattle.wm_base.specs.declared.refusal.Refusal.TheVariants.{HeldAlready, NoObject}
 use Rattle.wm_outside.specs.declared.row.Row.{Row}
-use Rattle.wm_outside.specs.Rows.{place_of, is_before}
+use Rattle.wm_outside.specs.Rows.{is_before}
 use Rattle.wm_desc.specs.Table.{object_named}
 use Rattle.wm_desc.specs.declared.objects.Objects.{Objects}
 use Rattle.wm_law.specs.Choice.{is_held}
 use Rattle.wm_law.specs.Machine.{change}
 use Rattle.wm_law.specs.Making.{made_unless}
-use Rattle.wm_law.specs.Queues.{hold_known, hold_queue, with_held_queue}
+use Rattle.wm_law.specs.Queues.{hold_queue, with_held_queue}
 use Rattle.wm_law.specs.Stepped.{refused}
 use Rattle.wm_law.specs.declared.call.Reply.TheVariants.{Made, QueueHeld}
 use Rattle.wm_law.specs.declared.command.Command.{Command}

@@ -1,5 +1,5 @@
 -- Lists of rows of which no two have one place.
-use Rattle.std.proofs.Common.{◌≡◌, ◌⊎◌, ℕ, ◌<◌, ◌≤◌, ◌++◌, List, [], ◌∷◌, map, refl, sym, ap, subst, ◌∙◌, inl, inr, arith}
+use Rattle.std.proofs.Common.{◌≡◌, ℕ, ◌≤◌, ◌++◌, List, [], ◌∷◌, map, refl, sym, ap, subst, ◌∙◌, inl, inr}
 use Rattle.std.specs.Cmp.{IsTotalOrder}
 use Rattle.std.specs.List.{flat_map}
 use Rattle.std.specs.declared.cmp.Ordering.{Ordering}
@@ -7,7 +7,7 @@ use Rattle.wm_outside.specs.declared.row.Row.{Row}
 use Rattle.wm_outside.specs.Rows.{place_of}
 use Rattle.wm_desc.specs.Sorted.{IsSortedOnce}
 use Rattle.wm_law.specs.Laws.{IsIn}
-use Rattle.wm_law.proofs.Members.{in_mapped, of_mapped}
+use Rattle.wm_law.proofs.Members.{of_mapped}
 use Rattle.wm_tables.proofs.Keys.{first_same, rest_same}
 use Rattle.wm_tables.proofs.OneMore.{first_below, not_same, rest_sorted}
 use Rattle.wm_tables.proofs.Passing.{in_left_part, in_right_part, of_parts}
@@ -33,20 +33,6 @@ HasTab n rows = (r : Row) → IsIn r rows → r.tab ≡ n
 
 abbrev pub HasTabsTo : ℕ → List Row → Type 0
 HasTabsTo n rows = (r : Row) → IsIn r rows → r.tab ≤ n
-
-pub tabs_both : (n m : ℕ) (xs ys : List Row) → n < m → HasTabsTo n xs → HasTab m ys → HasTabsTo m (xs ++ ys)
-tabs_both n m xs ys less h g r i = elim (of_parts xs ys r i) as (λ _. r.tab ≤ m) [ inl k ↦ (let at : r.tab ≤ n = h r k in omega arith) | inr k ↦ (let at : r.tab ≡ m = g r k in omega arith) ]
-
--- rows of a later table
-pub own_next : (n m : ℕ) (xs ys : List Row) → n < m → HasTabsTo n xs → HasTab m ys → HasOwnPlaces xs → HasOwnPlaces ys → HasOwnPlaces (xs ++ ys)
-own_next n m xs ys less h g a b =
-    own_both xs ys
-    (λ r q i j e.
-    let low : r.tab ≤ n = h r i in
-    let high : q.tab ≡ m = g q j in
-    let same = same_tab q r e in
-    absurd (omega arith))
-    a b
 
 pub tab_mapped : {X : Type 0} (n : ℕ) (f : X → Row) (xs : List X) → ((x : X) → (f x).tab ≡ n) → HasTab n (map f xs)
 tab_mapped n f xs h r i = let m = of_mapped f xs r i in ap (λ (q : Row). q.tab) m.2 ∙ h m.0

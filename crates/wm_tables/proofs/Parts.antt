@@ -1,5 +1,5 @@
 -- The part of a state whose rows pass a test, and the step to a part with one row more.
-use Rattle.std.proofs.Common.{◌≡◌, ◌⊎◌, ℕ, ℤ, ◌<◌, ◌≤◌, ◌+◌, Bool, true, false, cond, nat_eq, List, [], ◌∷◌, map, filter, fold, max, refl, sym, ap, subst, ◌∙◌, inl, inr, arith}
+use Rattle.std.proofs.Common.{◌<◌, ◌≡◌, ℕ, ℤ, ◌+◌, Bool, true, false, cond, nat_eq, List, [], ◌∷◌, map, filter, fold, max, refl, sym, ap, ◌∙◌, inl, inr, arith}
 use Rattle.std.proofs.lemmas.Bool.{eq-eqb}
 use Rattle.wm_base.specs.declared.job.Class.{Class}
 use Rattle.wm_base.specs.declared.qname.QName.{QName}
@@ -25,7 +25,7 @@ use Rattle.wm_job_rows.specs.Stored.{stored_of}
 use Rattle.wm_tables.specs.Restart.{restarted_job}
 use Rattle.wm_tables.specs.Tables.{rows_of}
 use Rattle.wm_tables.proofs.OwnPlaces.{same_tab}
-use Rattle.wm_tables.proofs.Passing.{left_all, left_none, left_same}
+use Rattle.wm_tables.proofs.Passing.{left_same}
 use Rattle.wm_tables.proofs.RowsOf.{IsRowOf, in_rows, of_class, of_program, of_queue, of_jobd, of_sbsd, of_queue_entry, of_route_entry, of_auto_entry, of_held, of_job, of_number, of_place, of_serial}
 
 -- a description with the entries whose rows pass
@@ -203,3 +203,14 @@ module _ (s : State) (row : Row) (p q : Row → Bool) (h : IsStep s row p q) whe
   -- a row that isn't of a counter
   pub not_counter : (c : Counter) (n : ℕ) → (12 ≡ row.tab → ⊥) → place_of (counter_row c n) ≡ place_of row → ⊥
   not_counter c n other e = other (same_tab (counter_row c n) row e)
+
+  -- a row of an object or an entry leaves the held queues, the jobs and what comes next
+  pub objects_step : (offset : ℤ) {classes : List (QName × Class)} {programs : List (QName × Program)} {queues : List (QName × Jobq)} {jobds : List (QName × Jobd)} {sbsds : List (QName × Sbsd)} → row.tab < 10 → class_part q s ≡ classes → program_part q s ≡ programs → queue_part q s ≡ queues → jobd_part q s ≡ jobds → sbsds_part q s ≡ sbsds → state_part q offset s ≡ state_of offset classes programs queues jobds sbsds (held_part p s) (jobs_part p s) (number_part p s) (place_part p s) (serial_part p s)
+  objects_step offset less a b c d e =
+      let no_count = λ (n : Counter) (m : ℕ). not_counter n m (λ same. absurd (omega arith)) in
+      same_parts offset a b c d e
+      (held_same (λ same. absurd (omega arith)))
+      (jobs_same (λ same. absurd (omega arith)))
+      (number_same (λ same. absurd (omega arith)) (no_count counter.Number s.next_number))
+      (place_same (λ same. absurd (omega arith)) (no_count counter.Place s.next_place))
+      (serial_same (λ same. absurd (omega arith)) (no_count counter.Serial s.next_serial))

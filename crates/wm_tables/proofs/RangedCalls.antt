@@ -1,5 +1,5 @@
 -- Calls in range keep the ranges of a state.
-use Rattle.std.proofs.Common.{◌≡◌, ◌⊎◌, ◌≤◌, ◌<◌, ◌+◌, ◌++◌, ◌==◌, ◌&&◌, ◌^◌, not, ℕ, Bool, true, false, cond, max, nat_le, nat_lt, unwrap_or, is_some, List, [], ◌∷◌, length, map, filter, Option, Some, None, Result, Ok, Err, refl, sym, ap, subst, ◌∙◌, inl, inr, arith}
+use Rattle.std.proofs.Common.{◌≡◌, ◌≤◌, ◌<◌, ◌+◌, ◌==◌, ◌&&◌, ◌^◌, not, ℕ, Bool, true, false, cond, nat_le, nat_lt, unwrap_or, is_some, List, [], ◌∷◌, length, map, filter, Option, Some, None, Result, Ok, Err, refl, sym, subst, inl, arith}
 use Rattle.std.specs.List.{find}
 use Rattle.std.specs.Option.{IfSome, IsSome, option_or}
 use Rattle.std.proofs.lemmas.Bool.{and_parts}
@@ -9,11 +9,9 @@ use Rattle.wm_base.specs.Text.{IsText}
 use Rattle.wm_base.specs.declared.job.Exit.{Exit}
 use Rattle.wm_base.specs.declared.job.Exit.TheVariants as exit
 use Rattle.wm_base.specs.declared.job.EndCause.TheVariants as cause
-use Rattle.wm_base.specs.declared.job.EndCause.{EndCause}
 use Rattle.wm_base.specs.declared.qname.QName.{QName}
 use Rattle.wm_base.specs.declared.refusal.Refusal.{Refusal}
 use Rattle.wm_base.specs.declared.refusal.Refusal.TheVariants.{WrongPhase}
-use Rattle.wm_base.proofs.Iterate.{iterate-keeps}
 use Rattle.wm_desc.specs.Ranges.{jobd_in_range, request_in_range, within}
 use Rattle.wm_desc.specs.Table.{object_named, same_qname}
 use Rattle.wm_desc.specs.declared.description.Jobd.{Jobd}
@@ -26,15 +24,14 @@ use Rattle.wm_law.specs.Holding.{hold_found, release_found, with_held}
 use Rattle.wm_law.specs.Jobs.{changed_at, waiting_at}
 use Rattle.wm_law.specs.Launch.{order_of}
 use Rattle.wm_law.specs.Laws.{IsIn}
-use Rattle.wm_law.specs.Machine.{apply, change, step, with_clock}
-use Rattle.wm_law.specs.Named.{if_waiting, is_named, job_named, only_one, waiting_named}
+use Rattle.wm_law.specs.Machine.{apply, change}
+use Rattle.wm_law.specs.Named.{if_waiting, is_named, only_one, waiting_named}
 use Rattle.wm_law.specs.Power.{is_down_now, is_on}
 use Rattle.wm_law.specs.Queues.{cleared_from, clear_queue, hold_queue, release_queue, waits_on}
 use Rattle.wm_law.specs.Reports.{done_with, end_cause, hand_job, hand_order, in_phase, is_handed_to, is_run_by, phase_word, report_on, with_phase}
 use Rattle.wm_law.specs.Schedules.{rescheduled, scheduled}
-use Rattle.wm_law.specs.Settling.{leave, waiting}
 use Rattle.wm_law.specs.Sound.{IsSound}
-use Rattle.wm_law.specs.Submitting.{entered, has_numbers, or_described, queue_of, submit_due, submit_with, submitted_job, numbers_end, serials_end}
+use Rattle.wm_law.specs.Submitting.{has_numbers, or_described, queue_of, submit_due, submit_with, submitted_job, numbers_end, serials_end}
 use Rattle.wm_law.specs.Subsystems.{start_refusal}
 use Rattle.wm_law.specs.declared.call.Call.{Call}
 use Rattle.wm_law.specs.declared.call.Call.TheVariants.{Change, Hand, Started, StartFailed, Finished, UseDone, Tick}
@@ -55,10 +52,10 @@ use Rattle.wm_law.proofs.Objects.{class_made, queue_made, program_made, job_desc
 use Rattle.wm_law.proofs.Tests.{of_four}
 use Rattle.wm_job_rows.specs.Stored.{IsCause, IsPhase, IsQueue, IsRequest, IsStored, stored_of, stored_phase}
 use Rattle.wm_job_rows.specs.declared.stored.StoredJob.{StoredJob}
-use Rattle.wm_tables.specs.Ranges.{AreInRange, IsInRange, IsJobInRange}
-use Rattle.wm_tables.specs.Restart.{HasLengths, IsOfKind}
+use Rattle.wm_tables.specs.Ranges.{IsInRange, IsJobInRange}
+use Rattle.wm_tables.specs.Restart.{IsOfKind}
 use Rattle.wm_tables.proofs.RangedJobs.{AreJobs, jobs_last, jobs_mapped, made_range, phased}
-use Rattle.wm_tables.proofs.RangedLaunches.{at_one, data_length, described_in, launch_range, request_text, started_range}
+use Rattle.wm_tables.proofs.RangedLaunches.{at_one, data_length, described_in, request_text, started_range}
 use Rattle.wm_tables.proofs.RangedMoments.{again_within, due_within}
 use Rattle.wm_tables.proofs.RangedObjects.{class_range, program_range, queue_range, jobd_range, sbsd_range, queue_entry_range, route_entry_range, auto_entry_range, without_queue_range, without_route_range, without_auto_range}
 use Rattle.wm_tables.proofs.RangedRestarts.{held_range}
@@ -200,8 +197,8 @@ due_range s c j (Ok due) d fit q sound r =
     either (stays c j) _ _
     (λ t. waiting_range s j.serial s.next_place (with_due due) (λ k i w x. due_job s.objects due k (d due refl) (waits_bch s k sound i w) x) r)
     (λ t. either (nat_lt s.next_place serials_end) _ _
-      (λ u. (let most = sound.numbered.next_place.most in waiting_range s j.serial (s.next_place + 1) (moved_to c s.next_place due) (λ k i w x. moved_job s c due k (d due refl) (omega arith) fit q (waits_bch s k sound i w) x) r))
-      (λ u. r))
+    (λ u. (let most = sound.numbered.next_place.most in waiting_range s j.serial (s.next_place + 1) (moved_to c s.next_place due) (λ k i w x. moved_job s c due k (d due refl) (omega arith) fit q (waits_bch s k sound i w) x) r))
+    (λ u. r))
 
 one_waits : (k j : Job) (x : Refusal) (t : Bool) → cond t (Ok k) (Err x) ≡ Ok j → j ≡ k
 one_waits k j x true e = let same : k ≡ j = cc in sym same

@@ -1,5 +1,5 @@
 -- What keeps the ranges of jobs.
-use Rattle.std.proofs.Common.{◌≡◌, ◌⊎◌, ◌≤◌, ◌++◌, ℕ, Bool, true, false, cond, List, [], ◌∷◌, map, Option, Some, None, refl, sym, ap, subst, ◌∙◌, inl, inr}
+use Rattle.std.proofs.Common.{◌≡◌, ◌++◌, List, [], ◌∷◌, map, Option, Some, None, refl, sym, subst, inl, inr}
 use Rattle.std.specs.Option.{IsSome}
 use Rattle.wm_base.specs.declared.qname.QName.{QName}
 use Rattle.wm_base.specs.declared.refusal.Refusal.{Refusal}
@@ -10,7 +10,6 @@ use Rattle.wm_law.specs.Making.{made_unless}
 use Rattle.wm_law.specs.declared.job.Job.{Job}
 use Rattle.wm_law.specs.declared.job.JobKind.{JobKind}
 use Rattle.wm_law.specs.declared.job.JobKind.TheVariants.{Bch, Asj, Pj}
-use Rattle.wm_law.specs.declared.job.Phase.{Phase}
 use Rattle.wm_law.specs.declared.state.State.{State}
 use Rattle.wm_law.proofs.Members.{of_last, of_mapped}
 use Rattle.wm_law.proofs.Objects.{IsObjectChange}
@@ -18,7 +17,7 @@ use Rattle.wm_job_rows.specs.Stored.{IsPhase, IsStored, stored_of, stored_phase}
 use Rattle.wm_job_rows.specs.declared.stored.StoredJob.{StoredJob}
 use Rattle.wm_job_rows.specs.declared.stored.StoredPhase.{StoredPhase}
 use Rattle.wm_tables.specs.Ranges.{AreInRange, IsInRange, IsJobInRange}
-use Rattle.wm_tables.specs.Restart.{HasLengths, HasOwnValues, IsOfKind}
+use Rattle.wm_tables.specs.Restart.{HasLengths, IsOfKind}
 
 -- each job keeps its ranges
 abbrev pub AreJobs : Objects → List Job → Type 0

@@ -1,15 +1,14 @@
 -- Launches keep the ranges of jobs, and so do the autostart jobs of a subsystem that starts.
-use Rattle.std.proofs.Common.{◌≡◌, ◌⊎◌, ◌≤◌, ◌<◌, ◌-◌, ◌+◌, ◌++◌, ◌==◌, ◌&&◌, ◌^◌, not, ℕ, Bool, true, false, cond, codes, min, nat_le, nat_lt, is_some, List, [], ◌∷◌, length, map, fold, Option, Some, None, refl, sym, ap, subst, ◌∙◌, inl, inr, arith}
+use Rattle.std.proofs.Common.{◌≡◌, ◌≤◌, ◌-◌, ◌+◌, ◌==◌, not, ℕ, Bool, true, false, cond, min, nat_le, nat_lt, is_some, List, [], ◌∷◌, length, fold, Option, Some, None, refl, sym, subst, inl, inr, arith}
 use Rattle.std.specs.List.{find}
-use Rattle.std.specs.Option.{IfSome, IsSome, option_and_then, option_map, option_map_or}
+use Rattle.std.specs.Option.{IfSome, option_and_then, option_map, option_map_or}
 use Rattle.std.proofs.lemmas.Bool.{and_parts}
 use Rattle.std.proofs.lemmas.Bool.Decides.{nat_tests}
 use Rattle.std.proofs.Math.Nat.{min-le_left, min-le_right}
 use Rattle.wm_base.specs.Limit.{is_below}
 use Rattle.wm_base.specs.Name.{IsName}
 use Rattle.wm_base.specs.Text.{IsText}
-use Rattle.wm_base.specs.declared.job.EndCause.{EndCause}
-use Rattle.wm_base.specs.declared.job.EndCause.TheVariants.{NoRoute, RouteFull}
+use Rattle.wm_base.specs.declared.job.EndCause.TheVariants.{RouteFull}
 use Rattle.wm_base.specs.declared.job.How.{How}
 use Rattle.wm_base.specs.declared.qname.QName.{QName}
 use Rattle.wm_base.specs.declared.refusal.Refusal.{Refusal}
@@ -21,25 +20,24 @@ use Rattle.wm_desc.specs.declared.description.Sbsd.{Sbsd}
 use Rattle.wm_desc.specs.declared.entry.AutoEntry.{AutoEntry}
 use Rattle.wm_desc.specs.declared.entry.RouteEntry.{RouteEntry}
 use Rattle.wm_desc.specs.declared.objects.Objects.{Objects}
-use Rattle.wm_law.specs.Autos.{auto_described, auto_job, auto_launched, auto_made, auto_user, autos_of, joined, make_auto}
+use Rattle.wm_law.specs.Autos.{auto_described, auto_job, auto_launched, autos_of, make_auto}
 use Rattle.wm_law.specs.Counts.{count_by_route}
 use Rattle.wm_law.specs.Fit.{IsBetween}
 use Rattle.wm_law.specs.Jobs.{changed_at}
-use Rattle.wm_law.specs.Launch.{as_auto, as_launched, called_program, from_queue, is_match, launch, launch_job, launched, launched_as, launched_by, launched_through, missing_program, program_fault, route, route_fault}
+use Rattle.wm_law.specs.Launch.{as_auto, as_launched, called_program, from_queue, is_match, launch, launch_job, launched, launched_as, launched_by, launched_through, missing_program, program_fault, route}
 use Rattle.wm_law.specs.Laws.{IsIn}
 use Rattle.wm_law.specs.Power.{is_on}
 use Rattle.wm_law.specs.Submitting.{numbers_end, numbers_left, serials_end}
-use Rattle.wm_law.specs.Subsystems.{begun, is_started, max_started, start_refusal, start_unless, started_up}
+use Rattle.wm_law.specs.Subsystems.{begun, is_started, max_started, start_refusal, start_unless}
 use Rattle.wm_law.specs.declared.choice.Candidate.{Candidate}
 use Rattle.wm_law.specs.declared.job.Job.{Job}
 use Rattle.wm_law.specs.declared.launch.Launched.{Launched}
 use Rattle.wm_law.specs.declared.state.State.{State}
 use Rattle.wm_law.proofs.Members.{found_among}
 use Rattle.wm_law.proofs.Tests.{unrefused}
-use Rattle.wm_job_rows.specs.Stored.{IsPhase, IsRequest, IsStored, stored_of, stored_phase}
-use Rattle.wm_tables.specs.Ranges.{AreInRange, HasEntriesInRange, IsInRange, IsJobInRange}
-use Rattle.wm_tables.specs.Restart.{HasLengths, HasOwnValues}
-use Rattle.wm_tables.proofs.RangedJobs.{AreJobs, jobs_last, jobs_mapped, phased}
+use Rattle.wm_job_rows.specs.Stored.{IsPhase, IsRequest, stored_phase}
+use Rattle.wm_tables.specs.Ranges.{AreInRange, IsInRange, IsJobInRange}
+use Rattle.wm_tables.proofs.RangedJobs.{jobs_last, jobs_mapped, phased}
 
 -- what is found by a name stands among the objects
 described_by : {V : Type 0} (q : QName) (xs : List (QName × V)) (d : V) (o : Option (QName × V)) → find (λ x. same_qname x.0 q) xs ≡ o → option_map (λ x. x.1) o ≡ Some d → (x : QName × V) × IsIn x xs × (x.1 ≡ d)

@@ -1,5 +1,5 @@
 -- The moment that a schedule names is one that there is.
-use Rattle.std.proofs.Common.{◌≡◌, ◌||◌, ℕ, ◌≤◌, ℤ, pos, negsuc, Bool, true, false, cond, nat_lt, unsigned_abs, Result, Ok, Err, Option, Some, None, refl, sym, ap, subst, ◌∙◌, arith}
+use Rattle.std.proofs.Common.{◌≡◌, ◌||◌, ℕ, ◌≤◌, ℤ, pos, negsuc, Bool, true, false, cond, nat_lt, unsigned_abs, Result, Ok, Err, Option, Some, None, refl, subst, arith}
 use Rattle.std.specs.Prelude.{int_lt}
 use Rattle.std.proofs.lemmas.Bool.Decides.{nat_tests}
 use Rattle.wm_base.specs.declared.refusal.Refusal.{Refusal}

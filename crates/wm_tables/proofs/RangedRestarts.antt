@@ -1,5 +1,5 @@
 -- The opening state and that of a restart keep their ranges.
-use Rattle.std.proofs.Common.{◌≡◌, ◌⊎◌, ◌≤◌, ℤ, ℕ, false, List, [], ◌∷◌, Some, None, refl, sym, ap, subst, ◌∙◌, inl, inr, arith}
+use Rattle.std.proofs.Common.{◌≡◌, ℤ, ℕ, false, List, [], ◌∷◌, Some, refl, sym, subst, ◌∙◌, inl, inr, arith}
 use Rattle.wm_base.specs.declared.job.Class.{Class}
 use Rattle.wm_base.specs.declared.qname.QName.{QName}
 use Rattle.wm_desc.specs.declared.description.Jobd.{Jobd}
@@ -15,7 +15,7 @@ use Rattle.wm_outside.specs.declared.row.Row.{Row}
 use Rattle.wm_law.specs.Fit.{IsCommand, IsQName}
 use Rattle.wm_law.specs.Laws.{IsIn}
 use Rattle.wm_law.specs.Machine.{change}
-use Rattle.wm_law.specs.Opening.{empty, opening, opening_commands}
+use Rattle.wm_law.specs.Opening.{empty, opening_commands}
 use Rattle.wm_law.specs.Queues.{own_name, with_held_queue}
 use Rattle.wm_law.specs.declared.command.Command.{Command}
 use Rattle.wm_law.specs.declared.command.Command.TheVariants as command
@@ -33,8 +33,8 @@ use Rattle.wm_job_rows.specs.declared.stored.StoredPhase.{StoredPhase}
 use Rattle.wm_job_rows.specs.declared.stored.StoredPhase.TheVariants.{Waiting, Active, Ended}
 use Rattle.wm_tables.specs.Laws.{OpeningIsInRange, RestartIsInRange}
 use Rattle.wm_tables.specs.Ranges.{AreInRange, HasEntriesInRange, IsInRange, IsJobInRange}
-use Rattle.wm_tables.specs.Restart.{job_of, phase_of, with_counter, with_stored, HasLengths, IsGoodJob, IsRead, Takes}
-use Rattle.wm_tables.proofs.Made.{IsHeldNow, row_holds}
+use Rattle.wm_tables.specs.Restart.{job_of, phase_of, with_counter, with_stored, IsGoodJob, IsRead, Takes}
+use Rattle.wm_tables.proofs.Made.{row_holds}
 use Rattle.wm_tables.proofs.OneMore.{all_in}
 use Rattle.wm_tables.proofs.RangedJobs.{jobs_last, made_range, phased_kind, phased_stored}
 use Rattle.wm_tables.proofs.RangedObjects.{class_range, program_range, queue_range, jobd_range, sbsd_range, queue_entry_range, route_entry_range, auto_entry_range}

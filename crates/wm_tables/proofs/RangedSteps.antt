@@ -1,14 +1,12 @@
 -- Steps of calls in range keep a sound state in range.
-use Rattle.std.proofs.Common.{◌≡◌, ◌≤◌, ℕ, max, arith}
+use Rattle.std.proofs.Common.{◌≤◌, ℕ, arith}
 use Rattle.wm_base.specs.Iterate.{IsKept}
 use Rattle.wm_base.proofs.Iterate.{iterate-keeps}
 use Rattle.wm_law.specs.Choice.{next}
-use Rattle.wm_law.specs.Fit.{IsCall}
 use Rattle.wm_law.specs.Launch.{launch}
 use Rattle.wm_law.specs.Machine.{apply, step, with_clock}
 use Rattle.wm_law.specs.Settling.{leave, waiting}
 use Rattle.wm_law.specs.Sound.{IsSound}
-use Rattle.wm_law.specs.declared.call.Call.{Call}
 use Rattle.wm_law.specs.declared.state.State.{State}
 use Rattle.wm_law.proofs.Numbers.{clock_keeps}
 use Rattle.wm_tables.specs.Laws.{StepKeepsRanges}

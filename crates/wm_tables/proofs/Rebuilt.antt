@@ -1,11 +1,7 @@
 -- The tables of a sound state in range make of none what a stop leaves of the state.
-use Rattle.std.proofs.Common.{◌≡◌, ◌⊎◌, ℕ, ℤ, zero, suc, ◌+◌, ◌<◌, Bool, true, false, cond, List, [], ◌∷◌, length, get_or, map, filter, refl, sym, ap, subst, ◌∙◌, inl, inr, arith}
+use Rattle.std.proofs.Common.{◌≡◌, ◌⊎◌, ℤ, zero, suc, Bool, true, false, cond, List, [], ◌∷◌, map, filter, refl, sym, ap, subst, ◌∙◌, inl, inr, arith}
 use Rattle.std.specs.List.{Contains}
-use Rattle.wm_base.specs.declared.job.Class.{Class}
 use Rattle.wm_base.specs.declared.qname.QName.{QName}
-use Rattle.wm_desc.specs.declared.description.Jobd.{Jobd}
-use Rattle.wm_desc.specs.declared.description.Jobq.{Jobq}
-use Rattle.wm_desc.specs.declared.description.Program.{Program}
 use Rattle.wm_desc.specs.declared.description.Sbsd.{Sbsd}
 use Rattle.wm_desc.specs.declared.entry.PreEntry.{PreEntry}
 use Rattle.wm_outside.specs.declared.row.Row.{Row}
@@ -14,10 +10,8 @@ use Rattle.wm_outside.specs.InOrder.{before_later}
 use Rattle.wm_law.specs.Laws.{IsIn}
 use Rattle.wm_law.specs.Opening.{empty}
 use Rattle.wm_law.specs.Sound.{IsSound}
-use Rattle.wm_law.specs.declared.job.Job.{Job}
 use Rattle.wm_law.specs.declared.state.State.{State}
-use Rattle.wm_rows.specs.Rows.{class_row, program_row, queue_row, jobd_row, sbsd_row, queue_entry_row, route_entry_row, auto_entry_row, held_row, counter_row}
-use Rattle.wm_rows.specs.declared.stored.Counter.{Counter}
+use Rattle.wm_rows.specs.Rows.{class_row, program_row, queue_row, jobd_row, sbsd_row, held_row}
 use Rattle.wm_rows.specs.declared.stored.Counter.TheVariants as counter
 use Rattle.wm_job_rows.specs.JobText.{job_row}
 use Rattle.wm_job_rows.specs.Stored.{stored_of}
@@ -26,7 +20,7 @@ use Rattle.wm_tables.specs.Ranges.{IsInRange}
 use Rattle.wm_tables.specs.Restart.{AreGood, HasCounters, IsRead, IsRestart, Takes, restarted, restarted_job}
 use Rattle.wm_tables.specs.Tables.{rows_of, tables}
 use Rattle.wm_tables.proofs.OwnRows.{own_rows}
-use Rattle.wm_tables.proofs.Parts.{IsStep, jobs_left, map_each, reached, same_parts, sbsd_part, sbsds_left, state_part}
+use Rattle.wm_tables.proofs.Parts.{IsStep, jobs_left, reached, same_parts, sbsd_part, state_part}
 use Rattle.wm_tables.proofs.Passing.{left_all, left_none}
 use Rattle.wm_tables.proofs.RowOrder.{IsAscending, ascending, in_tables, never_before, of_tables, put_in_order}
 use Rattle.wm_tables.proofs.RowsOf.{IsRowOf, in_rows, of_rows, of_class, of_program, of_queue, of_jobd, of_sbsd, of_queue_entry, of_route_entry, of_auto_entry, of_held, of_job, of_number, of_place, of_schema, of_serial}

@@ -1,14 +1,12 @@
 -- A run opens with a sound state.
-use Rattle.std.proofs.Common.{◌≡◌, ◌≤◌, ℤ, true, false, List, [], ◌∷◌, length, map, refl, sym, ap, subst, ◌∙◌, arith}
+use Rattle.std.proofs.Common.{◌≡◌, ◌≤◌, ℤ, true, false, List, [], ◌∷◌, length, map, sym, ap, subst, arith}
 use Rattle.wm_outside.specs.declared.row.Row.{Row}
 use Rattle.wm_law.specs.Counts.{is_active}
-use Rattle.wm_law.specs.Kept.{HasOrders, IsDistinct, IsNumbered}
+use Rattle.wm_law.specs.Kept.{IsDistinct}
 use Rattle.wm_law.specs.Laws.{IsIn}
 use Rattle.wm_law.specs.Opening.{empty}
 use Rattle.wm_law.specs.Sound.{IsSound}
-use Rattle.wm_law.specs.Submitting.{numbers_end, serials_end}
 use Rattle.wm_law.specs.declared.job.Job.{Job}
-use Rattle.wm_law.specs.declared.job.Phase.{Phase}
 use Rattle.wm_law.specs.declared.job.Phase.TheVariants.{Starting}
 use Rattle.wm_law.specs.declared.state.Sbs.{Sbs}
 use Rattle.wm_law.specs.declared.state.State.{State}

@@ -1,20 +1,17 @@
 -- The order of rows, and which rows stand in tables after rows were put.
-use Rattle.std.proofs.Common.{◌≡◌, ◌⊎◌, ℕ, zero, suc, ◌+◌, ◌&&◌, ◌==◌, nat_eq, Bool, true, false, cond, List, [], ◌∷◌, length, map, fold, refl, sym, ap, subst, ◌∙◌, inl, inr, arith}
+use Rattle.std.proofs.Common.{◌≡◌, ◌⊎◌, ℕ, zero, suc, ◌==◌, nat_eq, Bool, true, false, cond, List, [], ◌∷◌, map, refl, sym, ap, subst, ◌∙◌, inl, inr, arith}
 use Rattle.std.specs.Prelude.{⊤}
-use Rattle.std.specs.Cmp.{IsTotalOrder}
-use Rattle.std.specs.Cmp.Lexicographic.{on_texts, pointwise, slice_cmp}
-use Rattle.std.specs.List.{All, count_by, insert}
-use Rattle.std.specs.Ordering.{is_lt, nat_cmp, ordering_reverse}
-use Rattle.std.specs.declared.cmp.Ordering.{Ordering}
-use Rattle.std.specs.declared.cmp.Ordering.TheVariants.{Less, Equal, Greater}
+use Rattle.std.specs.Cmp.Lexicographic.{on_texts, pointwise}
+use Rattle.std.specs.List.{count_by, insert}
+use Rattle.std.specs.Ordering.{is_lt}
 use Rattle.std.proofs.lemmas.Bool.{and_parts}
 use Rattle.std.proofs.lemmas.Cmp.{tied_itself}
 use Rattle.std.proofs.lemmas.Slice.Eq.{bytes_eq-Decides}
 use Rattle.wm_outside.specs.declared.row.Row.{Row}
 use Rattle.wm_outside.specs.declared.row.RowChange.{RowChange}
 use Rattle.wm_outside.specs.declared.row.RowChange.TheVariants.{Put}
-use Rattle.wm_outside.specs.InOrder.{before_later, changed_in_order}
-use Rattle.wm_outside.specs.Rows.{place_of, is_before, is_of, IsInOrder, without, placed, put, changed_by, changed}
+use Rattle.wm_outside.specs.InOrder.{changed_in_order}
+use Rattle.wm_outside.specs.Rows.{place_of, is_before, is_of, IsInOrder, without, placed, put, changed}
 use Rattle.wm_outside.specs.Spawner.{without_first}
 use Rattle.wm_law.specs.Laws.{IsIn}
 use Rattle.wm_law.proofs.InOrder.{in_inserted}

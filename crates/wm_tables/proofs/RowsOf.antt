@@ -1,13 +1,7 @@
 -- The rows of a state: what they are the rows of, and that no two have one place.
-use Rattle.std.proofs.Common.{◌≡◌, ◌⊎◌, ℕ, suc, ◌<◌, ◌≤◌, ◌^◌, ◌++◌, nat_le, ◌&&◌, Bool, true, false, cond, codes, List, [], ◌∷◌, map, Option, Some, None, refl, sym, ap, subst, ◌∙◌, inl, inr, arith}
-use Rattle.std.specs.List.{find, flat_map, list_all}
-use Rattle.std.specs.Cmp.Lexicographic.{slice_cmp}
+use Rattle.std.proofs.Common.{◌≡◌, ◌++◌, Bool, true, false, cond, List, [], ◌∷◌, map, Some, refl, sym, ap, subst, ◌∙◌, inl, inr}
+use Rattle.std.specs.List.{find, flat_map}
 use Rattle.std.specs.Option.{option_map}
-use Rattle.std.specs.Ordering.{nat_cmp}
-use Rattle.std.proofs.lemmas.Bool.{and_parts}
-use Rattle.std.proofs.lemmas.Bool.Decides.{nat_tests}
-use Rattle.std.proofs.lemmas.Cmp.{nat_cmp_total, nat_list_cmp_total}
-use Rattle.wm_base.specs.Number.{zero_padded}
 use Rattle.wm_base.specs.declared.job.Class.{Class}
 use Rattle.wm_base.specs.declared.qname.QName.{QName}
 use Rattle.wm_desc.specs.declared.description.Jobd.{Jobd}
@@ -17,36 +11,26 @@ use Rattle.wm_desc.specs.declared.description.Sbsd.{Sbsd}
 use Rattle.wm_desc.specs.declared.entry.AutoEntry.{AutoEntry}
 use Rattle.wm_desc.specs.declared.entry.QueueEntry.{QueueEntry}
 use Rattle.wm_desc.specs.declared.entry.RouteEntry.{RouteEntry}
-use Rattle.wm_desc.specs.Ranges.{cmp_in_range, limit_within, within}
 use Rattle.wm_desc.specs.Sorted.{IsSortedOnce}
 use Rattle.wm_desc.specs.Table.{name_of, object_named, qname_cmp, same_qname}
 use Rattle.wm_desc.proofs.Tables.{qname_total}
 use Rattle.wm_outside.specs.declared.row.Row.{Row}
-use Rattle.wm_outside.specs.Rows.{place_of}
-use Rattle.wm_law.specs.Fit.{IsQName}
 use Rattle.wm_law.specs.Laws.{IsIn}
-use Rattle.wm_law.specs.Objects.{IsDescription}
-use Rattle.wm_law.specs.Queues.{own_name}
-use Rattle.wm_law.specs.Sound.{IsIncreasing, IsSound}
 use Rattle.wm_law.specs.declared.job.Job.{Job}
 use Rattle.wm_law.specs.declared.state.State.{State}
 use Rattle.wm_law.proofs.Members.{in_mapped, of_mapped}
 use Rattle.wm_law.proofs.Named.{one_name}
 use Rattle.wm_law.proofs.Named.{own_name as its_own}
 use Rattle.wm_rows.specs.Rows.{class_row, program_row, queue_row, jobd_row, sbsd_row, queue_entry_row, route_entry_row, auto_entry_row, pre_entry_row, held_row, counter_row}
-use Rattle.wm_rows.specs.Tables.{queue_entry_rows, route_entry_rows, auto_entry_rows, pre_entry_rows, sbsd_rows, object_rows, held_rows, counter_rows}
-use Rattle.wm_rows.specs.declared.stored.Counter.{Counter}
+use Rattle.wm_rows.specs.Tables.{queue_entry_rows, route_entry_rows, auto_entry_rows, pre_entry_rows, held_rows, counter_rows}
 use Rattle.wm_rows.specs.declared.stored.Counter.TheVariants as counter
 use Rattle.wm_job_rows.specs.JobText.{job_row}
 use Rattle.wm_job_rows.specs.Stored.{stored_of}
-use Rattle.wm_tables.specs.Ranges.{AreInRange, HasEntriesInRange, IsInRange}
+use Rattle.wm_tables.specs.Ranges.{IsInRange}
 use Rattle.wm_tables.specs.Tables.{job_rows, rows_of}
-use Rattle.wm_tables.proofs.Ends.{one_counter}
-use Rattle.wm_tables.proofs.Keys.{one_entry, one_number, one_text}
 use Rattle.wm_tables.proofs.OneMore.{first_below, not_same, rest_sorted}
-use Rattle.wm_tables.proofs.OwnPlaces.{HasTab, HasTabsTo, in_flat, of_flat, own_flat, own_mapped, own_next, same_key, tab_flat, tab_mapped, tabs_both}
+use Rattle.wm_tables.proofs.OwnPlaces.{in_flat, of_flat}
 use Rattle.wm_tables.proofs.Passing.{in_left_part, in_right_part, of_parts}
-use Rattle.wm_tables.proofs.RowOrder.{HasOwnPlaces}
 
 other_named : (a b : QName) (t : Bool) → same_qname a b ≡ t → (a ≡ b → ⊥) → t ≡ false
 other_named a b true e h = absurd (h (one_name a b e))
@@ -231,12 +215,12 @@ module _ (s : State) where
     of_first r i =
         elim (of_parts first_three jobds r i) as (λ _. IsRowOf s r) [
           | inl a ↦ (elim (of_parts first_two queues r a) as (λ _. IsRowOf s r) [
-              | inl b ↦ (elim (of_parts classes programs r b) as (λ _. IsRowOf s r) [
-                  | inl c ↦ (let m = of_mapped class_row s.objects.classes r c in of_class m.0 m.1 m.2)
-                  | inr c ↦ (let m = of_mapped program_row s.objects.programs r c in of_program m.0 m.1 m.2)
-                ])
-              | inr b ↦ (let m = of_mapped queue_row s.objects.jobqs r b in of_queue m.0 m.1 m.2)
+            | inl b ↦ (elim (of_parts classes programs r b) as (λ _. IsRowOf s r) [
+              | inl c ↦ (let m = of_mapped class_row s.objects.classes r c in of_class m.0 m.1 m.2)
+              | inr c ↦ (let m = of_mapped program_row s.objects.programs r c in of_program m.0 m.1 m.2)
             ])
+            | inr b ↦ (let m = of_mapped queue_row s.objects.jobqs r b in of_queue m.0 m.1 m.2)
+          ])
           | inr a ↦ (let m = of_mapped jobd_row s.objects.jobds r a in of_jobd m.0 m.1 m.2)
         ]
 
@@ -244,15 +228,15 @@ module _ (s : State) where
     of_descriptions r i =
         elim (of_parts to_auto_entries pre_entries r i) as (λ _. IsRowOf s r) [
           | inl a ↦ (elim (of_parts to_route_entries auto_entries r a) as (λ _. IsRowOf s r) [
-              | inl b ↦ (elim (of_parts to_queue_entries route_entries r b) as (λ _. IsRowOf s r) [
-                  | inl c ↦ (elim (of_parts sbsds queue_entries r c) as (λ _. IsRowOf s r) [
-                      | inl d ↦ (let m = of_mapped sbsd_row s.objects.sbsds r d in of_sbsd m.0 m.1 m.2)
-                      | inr d ↦ (let f = of_flat queue_entry_rows s.objects.sbsds r d in let m = of_mapped (queue_entry_row f.0.0) f.0.1.queues r f.2 in of_queue_entry f.0 m.0 f.1 m.1 m.2)
-                    ])
-                  | inr c ↦ (let f = of_flat route_entry_rows s.objects.sbsds r c in let m = of_mapped (route_entry_row f.0.0) f.0.1.routes r f.2 in of_route_entry f.0 m.0 f.1 m.1 m.2)
-                ])
-              | inr b ↦ (let f = of_flat auto_entry_rows s.objects.sbsds r b in let m = of_mapped (auto_entry_row f.0.0) f.0.1.autos r f.2 in of_auto_entry f.0 m.0 f.1 m.1 m.2)
+            | inl b ↦ (elim (of_parts to_queue_entries route_entries r b) as (λ _. IsRowOf s r) [
+              | inl c ↦ (elim (of_parts sbsds queue_entries r c) as (λ _. IsRowOf s r) [
+                | inl d ↦ (let m = of_mapped sbsd_row s.objects.sbsds r d in of_sbsd m.0 m.1 m.2)
+                | inr d ↦ (let f = of_flat queue_entry_rows s.objects.sbsds r d in let m = of_mapped (queue_entry_row f.0.0) f.0.1.queues r f.2 in of_queue_entry f.0 m.0 f.1 m.1 m.2)
+              ])
+              | inr c ↦ (let f = of_flat route_entry_rows s.objects.sbsds r c in let m = of_mapped (route_entry_row f.0.0) f.0.1.routes r f.2 in of_route_entry f.0 m.0 f.1 m.1 m.2)
             ])
+            | inr b ↦ (let f = of_flat auto_entry_rows s.objects.sbsds r b in let m = of_mapped (auto_entry_row f.0.0) f.0.1.autos r f.2 in of_auto_entry f.0 m.0 f.1 m.1 m.2)
+          ])
           | inr a ↦ absurd (no_pre r a)
         ]
 
@@ -261,11 +245,11 @@ module _ (s : State) where
     of_rows r i =
         elim (of_parts to_jobs counters r i) as (λ _. IsRowOf s r) [
           | inl a ↦ (elim (of_parts to_held jobs r a) as (λ _. IsRowOf s r) [
-              | inl b ↦ (elim (of_parts objects held r b) as (λ _. IsRowOf s r) [
-                  | inl c ↦ (elim (of_parts first_four descriptions r c) as (λ _. IsRowOf s r) [ inl d ↦ of_first r d | inr d ↦ of_descriptions r d ])
-                  | inr c ↦ (let m = of_mapped held_row s.held r c in of_held m.0 m.1 m.2)
-                ])
-              | inr b ↦ (let m = of_mapped (λ (k : Job). job_row (stored_of k)) s.jobs r b in of_job m.0 m.1 m.2)
+            | inl b ↦ (elim (of_parts objects held r b) as (λ _. IsRowOf s r) [
+              | inl c ↦ (elim (of_parts first_four descriptions r c) as (λ _. IsRowOf s r) [ inl d ↦ of_first r d | inr d ↦ of_descriptions r d ])
+              | inr c ↦ (let m = of_mapped held_row s.held r c in of_held m.0 m.1 m.2)
             ])
+            | inr b ↦ (let m = of_mapped (λ (k : Job). job_row (stored_of k)) s.jobs r b in of_job m.0 m.1 m.2)
+          ])
           | inr a ↦ of_counters r a
         ]

@@ -1,16 +1,12 @@
 -- A row of an entry makes the part of a state with this entry more.
-use Rattle.std.proofs.Common.{◌≡◌, ◌⊎◌, ℕ, ℤ, ◌<◌, ◌≤◌, ◌||◌, ◌&&◌, not, nat_eq, nat_lt, Bool, true, false, cond, List, [], ◌∷◌, length, map, filter, Option, Some, None, is_some, refl, sym, ap, subst, ◌∙◌, inl, inr, arith}
+use Rattle.std.proofs.Common.{◌≡◌, ◌⊎◌, ℕ, ℤ, ◌<◌, ◌≤◌, ◌||◌, ◌&&◌, not, nat_eq, nat_lt, Bool, true, false, cond, List, [], ◌∷◌, length, map, filter, Some, is_some, refl, sym, ap, subst, ◌∙◌, inl, inr, arith}
 use Rattle.std.specs.Cmp.Lexicographic.{pointwise, slice_cmp}
-use Rattle.std.specs.List.{list_any}
-use Rattle.std.specs.Option.{IsSome}
 use Rattle.std.specs.Ordering.{nat_cmp}
-use Rattle.std.proofs.lemmas.Bool.{cases_Bool}
 use Rattle.std.proofs.lemmas.Bool.Decides.{nat_tests}
 use Rattle.std.proofs.lemmas.Cmp.{nat_cmp_total, nat_list_cmp_total}
 use Rattle.std.proofs.lemmas.Slice.Eq.{bytes_eq-Decides}
 use Rattle.wm_base.specs.declared.job.Class.{Class}
 use Rattle.wm_base.specs.declared.qname.QName.{QName}
-use Rattle.wm_base.specs.declared.refusal.Refusal.{Refusal}
 use Rattle.wm_desc.specs.declared.description.Jobd.{Jobd}
 use Rattle.wm_desc.specs.declared.description.Jobq.{Jobq}
 use Rattle.wm_desc.specs.declared.description.Program.{Program}
@@ -19,15 +15,13 @@ use Rattle.wm_desc.specs.declared.entry.AutoEntry.{AutoEntry}
 use Rattle.wm_desc.specs.declared.entry.QueueEntry.{QueueEntry}
 use Rattle.wm_desc.specs.declared.entry.RouteEntry.{RouteEntry}
 use Rattle.wm_desc.specs.Objects.{with_queue, with_route, with_auto}
-use Rattle.wm_desc.specs.Refusals.{any_not_last, auto_tests, first_refusal, has_auto, has_queue, is_any, is_any_before, is_full, queue_tests, route_tests, seq_used}
-use Rattle.wm_desc.specs.Sorted.{IsSortedOnce, added}
+use Rattle.wm_desc.specs.Refusals.{auto_tests, first_refusal, is_any, is_any_before, is_full, queue_tests, route_tests}
 use Rattle.wm_desc.specs.Table.{changed, has_object, is_qcmd, object_named, qname_cmp, same_qname}
 use Rattle.wm_desc.proofs.Tables.{qname_total}
 use Rattle.wm_outside.specs.declared.row.Row.{Row}
 use Rattle.wm_outside.specs.Rows.{place_of}
 use Rattle.wm_law.specs.Kept.{IsDistinct}
 use Rattle.wm_law.specs.Laws.{IsIn}
-use Rattle.wm_law.specs.Objects.{IsProgram}
 use Rattle.wm_law.specs.Sound.{IsSound}
 use Rattle.wm_law.specs.declared.command.Command.TheVariants as command
 use Rattle.wm_law.specs.declared.state.State.{State}
@@ -35,13 +29,12 @@ use Rattle.wm_law.proofs.Members.{in_mapped, left_in}
 use Rattle.wm_law.proofs.Named.{is_named, one_name, own_name}
 use Rattle.wm_rows.specs.Again.{addjobqe_of, addrtge_of, addaje_of}
 use Rattle.wm_rows.specs.Rows.{class_row, program_row, queue_row, jobd_row, sbsd_row, queue_entry_row, route_entry_row, auto_entry_row}
-use Rattle.wm_rows.specs.declared.stored.Counter.TheVariants as counter
 use Rattle.wm_tables.specs.Ranges.{IsInRange}
 use Rattle.wm_tables.specs.Restart.{Makes}
 use Rattle.wm_tables.proofs.Made.{tab_before}
 use Rattle.wm_tables.proofs.OneMore.{IsOneMore, next_added, next_new, one_of_key}
 use Rattle.wm_tables.proofs.OwnRows.{description, one_queue_entry, one_route_entry, one_auto_entry}
-use Rattle.wm_tables.proofs.Parts.{IsStep, far, state_part, same_parts, class_part, program_part, queue_part, jobd_part, sbsds_left, sbsds_part, sbsd_part, classes_same, programs_same, queues_same, jobds_same, left_sbsds_same, queue_entries_same, route_entries_same, auto_entries_same, same_description, held_same, jobs_same, number_same, place_same, serial_same, not_counter}
+use Rattle.wm_tables.proofs.Parts.{IsStep, far, objects_step, state_part, class_part, program_part, queue_part, jobd_part, sbsds_left, sbsds_part, sbsd_part, classes_same, programs_same, queues_same, jobds_same, left_sbsds_same, queue_entries_same, route_entries_same, auto_entries_same, same_description}
 use Rattle.wm_tables.proofs.Passing.{fewer, left_all, left_passes, left_same, none_passes}
 use Rattle.wm_tables.proofs.RowsOf.{IsRowOf, in_rows, named_changed, named_in, of_class, of_program, of_queue, of_jobd, of_sbsd, of_queue_entry, of_route_entry, of_auto_entry}
 use Rattle.wm_tables.proofs.Unrefused.{command_makes, described_free, never_in_use, none_refuses, not_full}
@@ -175,17 +168,12 @@ module _ (offset : ℤ) (s : State) (sound : IsSound s) (range : IsInRange s) (r
       ))))
       ((range.objects.entries x i).queues e j)
       (ap (λ (r : Row). Some r) same)
-      (same_parts offset
-        (classes_same s row p q h (far 1 tab refl))
-        (programs_same s row p q h (far 2 tab refl))
-        (queues_same s row p q h (far 3 tab refl))
-        (jobds_same s row p q h (far 4 tab refl))
-        (changed_part (later_tab 5 6 tab (omega arith)) (far 5 tab refl) x (with_queue e) i (queue_change x e i j same))
-        (held_same s row p q h (far 10 tab refl))
-        (jobs_same s row p q h (far 11 tab refl))
-        (number_same s row p q h (far 11 tab refl) (not_counter s row p q h counter.Number s.next_number (far 12 tab refl)))
-        (place_same s row p q h (far 11 tab refl) (not_counter s row p q h counter.Place s.next_place (far 12 tab refl)))
-        (serial_same s row p q h (far 11 tab refl) (not_counter s row p q h counter.Serial s.next_serial (far 12 tab refl))))
+      (objects_step s row p q h offset (omega arith)
+      (classes_same s row p q h (far 1 tab refl))
+      (programs_same s row p q h (far 2 tab refl))
+      (queues_same s row p q h (far 3 tab refl))
+      (jobds_same s row p q h (far 4 tab refl))
+      (changed_part (later_tab 5 6 tab (omega arith)) (far 5 tab refl) x (with_queue e) i (queue_change x e i j same)))
 
   route_more : (x : QName × Sbsd) (e : RouteEntry) → IsIn x s.objects.sbsds → IsIn e x.1.routes → route_entry_row x.0 e ≡ row → IsOneMore (λ (d : RouteEntry). d.seq) nat_cmp nat_cmp_total (λ d. p (route_entry_row x.0 d)) (λ d. q (route_entry_row x.0 d)) x.1.routes e
   route_more x e i j same = record {
@@ -237,17 +225,12 @@ module _ (offset : ℤ) (s : State) (sound : IsSound s) (range : IsInRange s) (r
       ))))
       ((range.objects.entries x i).routes e j)
       (ap (λ (r : Row). Some r) same)
-      (same_parts offset
-        (classes_same s row p q h (far 1 tab refl))
-        (programs_same s row p q h (far 2 tab refl))
-        (queues_same s row p q h (far 3 tab refl))
-        (jobds_same s row p q h (far 4 tab refl))
-        (changed_part (later_tab 5 7 tab (omega arith)) (far 5 tab refl) x (with_route e) i (route_change x e i j same))
-        (held_same s row p q h (far 10 tab refl))
-        (jobs_same s row p q h (far 11 tab refl))
-        (number_same s row p q h (far 11 tab refl) (not_counter s row p q h counter.Number s.next_number (far 12 tab refl)))
-        (place_same s row p q h (far 11 tab refl) (not_counter s row p q h counter.Place s.next_place (far 12 tab refl)))
-        (serial_same s row p q h (far 11 tab refl) (not_counter s row p q h counter.Serial s.next_serial (far 12 tab refl))))
+      (objects_step s row p q h offset (omega arith)
+      (classes_same s row p q h (far 1 tab refl))
+      (programs_same s row p q h (far 2 tab refl))
+      (queues_same s row p q h (far 3 tab refl))
+      (jobds_same s row p q h (far 4 tab refl))
+      (changed_part (later_tab 5 7 tab (omega arith)) (far 5 tab refl) x (with_route e) i (route_change x e i j same)))
 
   auto_more : (x : QName × Sbsd) (e : AutoEntry) → IsIn x s.objects.sbsds → IsIn e x.1.autos → auto_entry_row x.0 e ≡ row → IsOneMore (λ (d : AutoEntry). d.job) (slice_cmp nat_cmp) nat_list_cmp_total (λ d. p (auto_entry_row x.0 d)) (λ d. q (auto_entry_row x.0 d)) x.1.autos e
   auto_more x e i j same = record {
@@ -281,14 +264,9 @@ module _ (offset : ℤ) (s : State) (sound : IsSound s) (range : IsInRange s) (r
       ))))
       ((range.objects.entries x i).autos e j)
       (ap (λ (r : Row). Some r) same)
-      (same_parts offset
-        (classes_same s row p q h (far 1 tab refl))
-        (programs_same s row p q h (far 2 tab refl))
-        (queues_same s row p q h (far 3 tab refl))
-        (jobds_same s row p q h (far 4 tab refl))
-        (changed_part (later_tab 5 8 tab (omega arith)) (far 5 tab refl) x (with_auto e) i (auto_change x e i j same))
-        (held_same s row p q h (far 10 tab refl))
-        (jobs_same s row p q h (far 11 tab refl))
-        (number_same s row p q h (far 11 tab refl) (not_counter s row p q h counter.Number s.next_number (far 12 tab refl)))
-        (place_same s row p q h (far 11 tab refl) (not_counter s row p q h counter.Place s.next_place (far 12 tab refl)))
-        (serial_same s row p q h (far 11 tab refl) (not_counter s row p q h counter.Serial s.next_serial (far 12 tab refl))))
+      (objects_step s row p q h offset (omega arith)
+      (classes_same s row p q h (far 1 tab refl))
+      (programs_same s row p q h (far 2 tab refl))
+      (queues_same s row p q h (far 3 tab refl))
+      (jobds_same s row p q h (far 4 tab refl))
+      (changed_part (later_tab 5 8 tab (omega arith)) (far 5 tab refl) x (with_auto e) i (auto_change x e i j same)))

@@ -1,6 +1,5 @@
 -- A row of an object makes the part of a state with this object more.
-use Rattle.std.proofs.Common.{◌≡◌, ◌⊎◌, ℕ, ℤ, zero, suc, ◌<◌, ◌≤◌, ◌||◌, nat_le, Bool, true, false, cond, List, [], ◌∷◌, map, filter, None, Some, refl, sym, ap, subst, ◌∙◌, inl, inr, arith}
-use Rattle.std.specs.Cmp.{IsTotalOrder}
+use Rattle.std.proofs.Common.{◌≡◌, ℕ, ℤ, zero, suc, ◌||◌, nat_le, Bool, true, false, cond, List, [], ◌∷◌, map, filter, None, Some, refl, sym, ap, subst, ◌∙◌, arith}
 use Rattle.std.specs.List.{insert}
 use Rattle.std.specs.Ordering.{is_lt}
 use Rattle.std.specs.declared.cmp.Ordering.{Ordering}
@@ -18,9 +17,9 @@ use Rattle.wm_desc.specs.declared.description.Jobd.{Jobd}
 use Rattle.wm_desc.specs.declared.description.Jobq.{Jobq}
 use Rattle.wm_desc.specs.declared.description.Program.{Program}
 use Rattle.wm_desc.specs.declared.description.Sbsd.{Sbsd}
-use Rattle.wm_desc.specs.Objects.{with_object, with_class, with_program, with_jobq, with_jobd, with_sbsd, empty_sbsd}
-use Rattle.wm_desc.specs.Sorted.{IsSortedOnce, added, place_of}
-use Rattle.wm_desc.specs.Table.{has_object, name_of, qname_cmp, same_qname}
+use Rattle.wm_desc.specs.Objects.{with_object, empty_sbsd}
+use Rattle.wm_desc.specs.Sorted.{added, place_of}
+use Rattle.wm_desc.specs.Table.{has_object, qname_cmp, same_qname}
 use Rattle.wm_desc.proofs.Tables.{qname_total}
 use Rattle.wm_outside.specs.declared.row.Row.{Row}
 use Rattle.wm_outside.specs.Rows.{is_before}
@@ -32,13 +31,12 @@ use Rattle.wm_law.specs.declared.state.State.{State}
 use Rattle.wm_law.proofs.Members.{left_in}
 use Rattle.wm_rows.specs.Again.{crtcls_of, crtpgmref_of, crtjobq_of, crtjobd_of, crtsbsd_of}
 use Rattle.wm_rows.specs.Rows.{class_row, program_row, queue_row, jobd_row, sbsd_row, queue_entry_row, route_entry_row, auto_entry_row}
-use Rattle.wm_rows.specs.declared.stored.Counter.TheVariants as counter
 use Rattle.wm_tables.specs.Ranges.{IsInRange}
 use Rattle.wm_tables.specs.Restart.{Makes}
 use Rattle.wm_tables.proofs.Keys.{one_text}
 use Rattle.wm_tables.proofs.OneMore.{IsOneMore, next_added}
 use Rattle.wm_tables.proofs.OwnPlaces.{same_key}
-use Rattle.wm_tables.proofs.Parts.{IsStep, far, state_part, same_parts, class_part, program_part, queue_part, jobd_part, sbsds_left, sbsds_part, sbsd_part, classes_same, programs_same, queues_same, jobds_same, left_sbsds_same, description_same, sbsds_same, held_same, jobs_same, number_same, place_same, serial_same, not_counter, map_each, other_tab}
+use Rattle.wm_tables.proofs.Parts.{IsStep, far, objects_step, state_part, sbsds_left, sbsds_part, sbsd_part, classes_same, programs_same, queues_same, jobds_same, description_same, sbsds_same, map_each, other_tab}
 use Rattle.wm_tables.proofs.Passing.{left_none}
 use Rattle.wm_tables.proofs.RowsOf.{IsRowOf, in_rows, of_class, of_program, of_queue, of_jobd, of_sbsd, of_queue_entry, of_route_entry, of_auto_entry}
 use Rattle.wm_tables.proofs.Unrefused.{command_makes, object_free, program_free}
@@ -83,7 +81,6 @@ none_left : {X : Type 0} (a b : X → Bool) (xs : List X) → ((x : X) → IsIn 
 none_left a b xs h g = left_none b xs (λ x i. h x i ∙ g x i)
 
 module _ (offset : ℤ) (s : State) (sound : IsSound s) (range : IsInRange s) (row : Row) (p q : Row → Bool) (h : IsStep s row p q) where
-
   class_more : (x : QName × Class) → IsIn x s.objects.classes → class_row x ≡ row → IsOneMore (λ (y : QName × Class). y.0) qname_cmp qname_total (λ y. p (class_row y)) (λ y. q (class_row y)) s.objects.classes x
   class_more x i e = record {
     before = ap p e ∙ h.before;
@@ -99,17 +96,12 @@ module _ (offset : ℤ) (s : State) (sound : IsSound s) (range : IsInRange s) (r
       (object_free (λ (y : QName × Class). p (class_row y)) s.objects.classes x sound.objects.tables.classes.sorted i free kind.Cls sound.objects.tables.classes.most)
       (range.objects.classes x i)
       (ap (λ (r : Row). Some r) e)
-      (same_parts offset
-        (sym (next_added (λ (y : QName × Class). y.0) qname_cmp qname_total (λ y. p (class_row y)) (λ y. q (class_row y)) s.objects.classes x sound.objects.tables.classes.sorted i (class_more x i e)))
-        (programs_same s row p q h (far 2 tab refl))
-        (queues_same s row p q h (far 3 tab refl))
-        (jobds_same s row p q h (far 4 tab refl))
-        (sbsds_same s row p q h (far 5 tab refl) (far 6 tab refl) (far 7 tab refl) (far 8 tab refl))
-        (held_same s row p q h (far 10 tab refl))
-        (jobs_same s row p q h (far 11 tab refl))
-        (number_same s row p q h (far 11 tab refl) (not_counter s row p q h counter.Number s.next_number (far 12 tab refl)))
-        (place_same s row p q h (far 11 tab refl) (not_counter s row p q h counter.Place s.next_place (far 12 tab refl)))
-        (serial_same s row p q h (far 11 tab refl) (not_counter s row p q h counter.Serial s.next_serial (far 12 tab refl))))
+      (objects_step s row p q h offset (omega arith)
+      (sym (next_added (λ (y : QName × Class). y.0) qname_cmp qname_total (λ y. p (class_row y)) (λ y. q (class_row y)) s.objects.classes x sound.objects.tables.classes.sorted i (class_more x i e)))
+      (programs_same s row p q h (far 2 tab refl))
+      (queues_same s row p q h (far 3 tab refl))
+      (jobds_same s row p q h (far 4 tab refl))
+      (sbsds_same s row p q h (far 5 tab refl) (far 6 tab refl) (far 7 tab refl) (far 8 tab refl)))
 
   queue_more : (x : QName × Jobq) → IsIn x s.objects.jobqs → queue_row x ≡ row → IsOneMore (λ (y : QName × Jobq). y.0) qname_cmp qname_total (λ y. p (queue_row y)) (λ y. q (queue_row y)) s.objects.jobqs x
   queue_more x i e = record {
@@ -126,17 +118,12 @@ module _ (offset : ℤ) (s : State) (sound : IsSound s) (range : IsInRange s) (r
       (object_free (λ (y : QName × Jobq). p (queue_row y)) s.objects.jobqs x sound.objects.tables.jobqs.sorted i free kind.Jobq sound.objects.tables.jobqs.most)
       (range.objects.jobqs x i)
       (ap (λ (r : Row). Some r) e)
-      (same_parts offset
-        (classes_same s row p q h (far 1 tab refl))
-        (programs_same s row p q h (far 2 tab refl))
-        (sym (next_added (λ (y : QName × Jobq). y.0) qname_cmp qname_total (λ y. p (queue_row y)) (λ y. q (queue_row y)) s.objects.jobqs x sound.objects.tables.jobqs.sorted i (queue_more x i e)))
-        (jobds_same s row p q h (far 4 tab refl))
-        (sbsds_same s row p q h (far 5 tab refl) (far 6 tab refl) (far 7 tab refl) (far 8 tab refl))
-        (held_same s row p q h (far 10 tab refl))
-        (jobs_same s row p q h (far 11 tab refl))
-        (number_same s row p q h (far 11 tab refl) (not_counter s row p q h counter.Number s.next_number (far 12 tab refl)))
-        (place_same s row p q h (far 11 tab refl) (not_counter s row p q h counter.Place s.next_place (far 12 tab refl)))
-        (serial_same s row p q h (far 11 tab refl) (not_counter s row p q h counter.Serial s.next_serial (far 12 tab refl))))
+      (objects_step s row p q h offset (omega arith)
+      (classes_same s row p q h (far 1 tab refl))
+      (programs_same s row p q h (far 2 tab refl))
+      (sym (next_added (λ (y : QName × Jobq). y.0) qname_cmp qname_total (λ y. p (queue_row y)) (λ y. q (queue_row y)) s.objects.jobqs x sound.objects.tables.jobqs.sorted i (queue_more x i e)))
+      (jobds_same s row p q h (far 4 tab refl))
+      (sbsds_same s row p q h (far 5 tab refl) (far 6 tab refl) (far 7 tab refl) (far 8 tab refl)))
 
   jobd_more : (x : QName × Jobd) → IsIn x s.objects.jobds → jobd_row x ≡ row → IsOneMore (λ (y : QName × Jobd). y.0) qname_cmp qname_total (λ y. p (jobd_row y)) (λ y. q (jobd_row y)) s.objects.jobds x
   jobd_more x i e = record {
@@ -153,17 +140,12 @@ module _ (offset : ℤ) (s : State) (sound : IsSound s) (range : IsInRange s) (r
       (object_free (λ (y : QName × Jobd). p (jobd_row y)) s.objects.jobds x sound.objects.tables.jobds.sorted i free kind.Jobd sound.objects.tables.jobds.most)
       (range.objects.jobds x i)
       (ap (λ (r : Row). Some r) e)
-      (same_parts offset
-        (classes_same s row p q h (far 1 tab refl))
-        (programs_same s row p q h (far 2 tab refl))
-        (queues_same s row p q h (far 3 tab refl))
-        (sym (next_added (λ (y : QName × Jobd). y.0) qname_cmp qname_total (λ y. p (jobd_row y)) (λ y. q (jobd_row y)) s.objects.jobds x sound.objects.tables.jobds.sorted i (jobd_more x i e)))
-        (sbsds_same s row p q h (far 5 tab refl) (far 6 tab refl) (far 7 tab refl) (far 8 tab refl))
-        (held_same s row p q h (far 10 tab refl))
-        (jobs_same s row p q h (far 11 tab refl))
-        (number_same s row p q h (far 11 tab refl) (not_counter s row p q h counter.Number s.next_number (far 12 tab refl)))
-        (place_same s row p q h (far 11 tab refl) (not_counter s row p q h counter.Place s.next_place (far 12 tab refl)))
-        (serial_same s row p q h (far 11 tab refl) (not_counter s row p q h counter.Serial s.next_serial (far 12 tab refl))))
+      (objects_step s row p q h offset (omega arith)
+      (classes_same s row p q h (far 1 tab refl))
+      (programs_same s row p q h (far 2 tab refl))
+      (queues_same s row p q h (far 3 tab refl))
+      (sym (next_added (λ (y : QName × Jobd). y.0) qname_cmp qname_total (λ y. p (jobd_row y)) (λ y. q (jobd_row y)) s.objects.jobds x sound.objects.tables.jobds.sorted i (jobd_more x i e)))
+      (sbsds_same s row p q h (far 5 tab refl) (far 6 tab refl) (far 7 tab refl) (far 8 tab refl)))
 
   program_more : (x : QName × Program) → IsIn x s.objects.programs → program_row x ≡ row → IsOneMore (λ (y : QName × Program). y.0) qname_cmp qname_total (λ y. p (program_row y)) (λ y. q (program_row y)) s.objects.programs x
   program_more x i e = record {
@@ -180,17 +162,12 @@ module _ (offset : ℤ) (s : State) (sound : IsSound s) (range : IsInRange s) (r
       (program_free (λ (y : QName × Program). p (program_row y)) s.objects.programs x sound.objects.tables.programs.sorted i free (range.objects.no_qcmd x i) sound.objects.tables.programs.most)
       (range.objects.programs x i)
       (ap (λ (r : Row). Some r) e)
-      (same_parts offset
-        (classes_same s row p q h (far 1 tab refl))
-        (sym (next_added (λ (y : QName × Program). y.0) qname_cmp qname_total (λ y. p (program_row y)) (λ y. q (program_row y)) s.objects.programs x sound.objects.tables.programs.sorted i (program_more x i e)))
-        (queues_same s row p q h (far 3 tab refl))
-        (jobds_same s row p q h (far 4 tab refl))
-        (sbsds_same s row p q h (far 5 tab refl) (far 6 tab refl) (far 7 tab refl) (far 8 tab refl))
-        (held_same s row p q h (far 10 tab refl))
-        (jobs_same s row p q h (far 11 tab refl))
-        (number_same s row p q h (far 11 tab refl) (not_counter s row p q h counter.Number s.next_number (far 12 tab refl)))
-        (place_same s row p q h (far 11 tab refl) (not_counter s row p q h counter.Place s.next_place (far 12 tab refl)))
-        (serial_same s row p q h (far 11 tab refl) (not_counter s row p q h counter.Serial s.next_serial (far 12 tab refl))))
+      (objects_step s row p q h offset (omega arith)
+      (classes_same s row p q h (far 1 tab refl))
+      (sym (next_added (λ (y : QName × Program). y.0) qname_cmp qname_total (λ y. p (program_row y)) (λ y. q (program_row y)) s.objects.programs x sound.objects.tables.programs.sorted i (program_more x i e)))
+      (queues_same s row p q h (far 3 tab refl))
+      (jobds_same s row p q h (far 4 tab refl))
+      (sbsds_same s row p q h (far 5 tab refl) (far 6 tab refl) (far 7 tab refl) (far 8 tab refl)))
 
   sbsd_more : (x : QName × Sbsd) → IsIn x s.objects.sbsds → sbsd_row x ≡ row → IsOneMore (λ (y : QName × Sbsd). y.0) qname_cmp qname_total (λ y. p (sbsd_row y)) (λ y. q (sbsd_row y)) s.objects.sbsds x
   sbsd_more x i e = record {
@@ -233,14 +210,9 @@ module _ (offset : ℤ) (s : State) (sound : IsSound s) (range : IsInRange s) (r
       (sbsd_free x i free)
       (range.objects.sbsds x i)
       (ap (λ (r : Row). Some r) e)
-      (same_parts offset
-        (classes_same s row p q h (far 1 tab refl))
-        (programs_same s row p q h (far 2 tab refl))
-        (queues_same s row p q h (far 3 tab refl))
-        (jobds_same s row p q h (far 4 tab refl))
-        (sbsd_added x i e)
-        (held_same s row p q h (far 10 tab refl))
-        (jobs_same s row p q h (far 11 tab refl))
-        (number_same s row p q h (far 11 tab refl) (not_counter s row p q h counter.Number s.next_number (far 12 tab refl)))
-        (place_same s row p q h (far 11 tab refl) (not_counter s row p q h counter.Place s.next_place (far 12 tab refl)))
-        (serial_same s row p q h (far 11 tab refl) (not_counter s row p q h counter.Serial s.next_serial (far 12 tab refl))))
+      (objects_step s row p q h offset (omega arith)
+      (classes_same s row p q h (far 1 tab refl))
+      (programs_same s row p q h (far 2 tab refl))
+      (queues_same s row p q h (far 3 tab refl))
+      (jobds_same s row p q h (far 4 tab refl))
+      (sbsd_added x i e))

@@ -1,16 +1,12 @@
 -- A row of a held queue, a job or a counter makes the part of a state with this more.
-use Rattle.std.proofs.Common.{◌≡◌, ◌⊎◌, ℕ, ℤ, ◌<◌, ◌≤◌, ◌+◌, ◌++◌, ◌&&◌, ◌==◌, ◌^◌, Bool, true, false, cond, is_some, List, [], ◌∷◌, map, filter, fold, max, Option, Some, None, refl, sym, ap, subst, ◌∙◌, inl, inr, arith}
-use Rattle.std.specs.Cmp.Lexicographic.{slice_cmp}
-use Rattle.std.specs.List.{list_any}
+use Rattle.std.proofs.Common.{◌≡◌, ℕ, ℤ, ◌<◌, ◌≤◌, ◌+◌, ◌++◌, ◌&&◌, ◌==◌, Bool, true, false, cond, is_some, List, [], ◌∷◌, map, filter, fold, max, refl, sym, ap, subst, ◌∙◌, inl, inr, arith}
 use Rattle.std.specs.Option.{IsSome}
-use Rattle.std.specs.Ordering.{is_lt, nat_cmp}
-use Rattle.std.specs.declared.cmp.Ordering.{Ordering}
-use Rattle.std.proofs.lemmas.Bool.{and_parts, cases_lt}
+use Rattle.std.specs.Ordering.{is_lt}
+use Rattle.std.proofs.lemmas.Bool.{and_parts}
 use Rattle.std.proofs.lemmas.List.Sums.{fold-append}
 use Rattle.wm_base.specs.declared.qname.QName.{QName}
 use Rattle.wm_base.specs.declared.refusal.Kind.TheVariants as kind
 use Rattle.wm_base.specs.declared.refusal.Refusal.TheVariants.{HeldAlready, NoObject}
-use Rattle.wm_desc.specs.Sorted.{added}
 use Rattle.wm_desc.specs.Table.{object_named, qname_cmp, same_qname}
 use Rattle.wm_desc.proofs.Tables.{qname_total}
 use Rattle.wm_desc.specs.declared.description.Jobq.{Jobq}
@@ -19,12 +15,10 @@ use Rattle.wm_outside.specs.declared.row.Row.{Row}
 use Rattle.wm_outside.specs.Rows.{is_before, place_of}
 use Rattle.wm_law.specs.Choice.{is_held}
 use Rattle.wm_law.specs.Counts.{is_waiting}
-use Rattle.wm_law.specs.Kept.{IsBelow, IsDistinct}
 use Rattle.wm_law.specs.Laws.{IsIn}
 use Rattle.wm_law.specs.Queues.{hold_known, hold_queue, own_name, with_held_queue}
 use Rattle.wm_law.specs.Sound.{IsIncreasing, IsSound}
 use Rattle.wm_law.specs.Stepped.{Stepped, refused}
-use Rattle.wm_law.specs.Submitting.{numbers_end, serials_end}
 use Rattle.wm_law.specs.declared.call.Reply.TheVariants.{QueueHeld}
 use Rattle.wm_law.specs.declared.job.Job.{Job}
 use Rattle.wm_law.specs.declared.job.JobKind.{JobKind}
@@ -35,25 +29,24 @@ use Rattle.wm_law.specs.declared.state.State.{State}
 use Rattle.wm_law.proofs.Members.{in_left, in_mapped, left_in, of_mapped}
 use Rattle.wm_law.proofs.Named.{one_name}
 use Rattle.wm_law.proofs.Tests.{same_number}
-use Rattle.wm_rows.specs.Rows.{held_row, counter_row, queue_row}
+use Rattle.wm_rows.specs.Rows.{held_row, counter_row}
 use Rattle.wm_rows.specs.declared.stored.Counter.{Counter}
 use Rattle.wm_rows.specs.declared.stored.Counter.TheVariants as counter
 use Rattle.wm_job_rows.specs.JobText.{job_row}
 use Rattle.wm_job_rows.specs.Stored.{stored_of, stored_phase}
 use Rattle.wm_job_rows.specs.declared.stored.StoredJob.{StoredJob}
-use Rattle.wm_job_rows.specs.declared.stored.StoredPhase.{StoredPhase}
 use Rattle.wm_job_rows.specs.declared.stored.StoredPhase.TheVariants.{Waiting}
 use Rattle.wm_tables.specs.Ranges.{IsInRange}
-use Rattle.wm_tables.specs.Restart.{restarted_job, restarted_phase, job_of, phase_of, with_stored, with_counter, is_taken, is_used, IsOfKind, IsGoodJob, Holds, Enters, Counts}
+use Rattle.wm_tables.specs.Restart.{restarted_job, restarted_phase, job_of, phase_of, is_taken, is_used, IsOfKind, Holds, Enters, Counts}
 use Rattle.wm_tables.proofs.Digits.{padded_less}
 use Rattle.wm_tables.proofs.Ends.{one_counter}
 use Rattle.wm_tables.proofs.Joining.{each_below}
 use Rattle.wm_tables.proofs.Keys.{one_number, one_text}
 use Rattle.wm_tables.proofs.OneMore.{IsOneMore, next_added, next_new}
 use Rattle.wm_tables.proofs.OwnPlaces.{same_key}
-use Rattle.wm_tables.proofs.Parts.{IsStep, far, state_part, same_parts, queue_part, held_part, jobs_left, jobs_part, number_part, place_part, serial_part, reached, classes_same, programs_same, queues_same, jobds_same, sbsds_same, held_same, jobs_same, left_jobs_same, number_same, place_same, serial_same, not_counter, other_tab}
+use Rattle.wm_tables.proofs.Parts.{IsStep, far, state_part, same_parts, jobs_left, jobs_part, reached, classes_same, programs_same, queues_same, jobds_same, sbsds_same, held_same, jobs_same, number_same, place_same, serial_same, not_counter, other_tab}
 use Rattle.wm_tables.proofs.Passing.{left_none, left_passes, none_passes}
-use Rattle.wm_tables.proofs.RowsOf.{IsRowOf, in_rows, of_held, of_job, of_number, of_place, of_schema, of_serial}
+use Rattle.wm_tables.proofs.RowsOf.{IsRowOf, in_rows, of_held, of_job, of_number, of_place, of_serial}
 use Rattle.wm_tables.proofs.Made.{tab_before}
 use Rattle.wm_tables.proofs.StepEntries.{all_queues, one_distinct}
 

@@ -1,5 +1,5 @@
 -- What follows from the tables of states and from what rows make, each for all.
-use Rattle.std.specs.Prelude.{◌≡◌, ◌≤◌, ◌+◌, ◌<◌, ◌^◌, ℕ, ℤ, List}
+use Rattle.std.specs.Prelude.{◌≤◌, ℕ, ℤ, List}
 use Rattle.wm_outside.specs.declared.row.Row.{Row}
 use Rattle.wm_law.specs.Fit.{IsCall}
 use Rattle.wm_law.specs.Machine.{step}

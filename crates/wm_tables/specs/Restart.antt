@@ -1,5 +1,5 @@
 -- The state that rows make, and which row isn't good.
-use Rattle.std.specs.Prelude.{◌≡◌, ◌⊎◌, ℕ, ◌+◌, ◌≤◌, ℤ, true, false, ◌&&◌, ◌==◌, Bool, List, [], ◌∷◌, ◌++◌, length, map, max, take, slice_get, Option, Some, None, codes, IsTrue, if◌then◌else◌}
+use Rattle.std.specs.Prelude.{◌≡◌, ◌⊎◌, ℕ, ◌+◌, ◌≤◌, ℤ, false, ◌&&◌, ◌==◌, Bool, List, [], ◌∷◌, ◌++◌, length, map, max, take, slice_get, Option, Some, None, codes, IsTrue}
 use Rattle.std.specs.List.{Contains, list_any}
 use Rattle.std.specs.Option.{IsSome}
 use Rattle.wm_base.specs.declared.job.EndCause.TheVariants.{Restarted}

@@ -9,4 +9,6 @@
 
 mod laws;
 
-pub use laws::{restarts_are_in_range, restarts_are_sound, steps_keep_ranges, tables_make_their_state};
+pub use laws::{
+    restarts_are_in_range, restarts_are_sound, steps_keep_ranges, tables_make_their_state,
+};
