@@ -24,3 +24,4 @@ pub mod RangedMoments
 pub mod RangedLaunches
 pub mod RangedCalls
 pub mod RangedSteps
+pub mod CommandsFit
