@@ -1,5 +1,5 @@
 -- A row's command that keeps the forms and ranges of the machine keeps those of the command table.
-use Rattle.std.proofs.Common.{◌≡◌, ◌≤◌, ◌&&◌, ℕ, zero, suc, Bool, true, false, List, [], ◌∷◌, length, Option, Some, None, IfSome, nat_le, refl, sym, ap, subst, ◌∙◌, arith}
+use Rattle.std.proofs.Common.{◌≡◌, ℕ, zero, suc, true, List, [], ◌∷◌, length, Option, Some, None, IfSome, nat_le, refl, arith}
 use Rattle.std.specs.List.{list_all}
 use Rattle.std.specs.Prelude.{slice_index_or}
 use Rattle.std.proofs.lemmas.Bool.{and_parts, and_from}
@@ -12,11 +12,9 @@ use Rattle.wm_base.specs.declared.refusal.Key.TheVariants as key
 use Rattle.wm_desc.specs.Ranges.{cmp_in_range, limit_within, request_in_range, within}
 use Rattle.wm_desc.specs.declared.entry.Cmp.{Cmp}
 use Rattle.wm_desc.specs.declared.entry.Cmp.TheVariants.{Any, Val}
-use Rattle.wm_outside.specs.declared.row.Row.{Row}
-use Rattle.wm_law.specs.Fit.{IsBetween, IsCommand, IsCompared, IsQName}
-use Rattle.wm_law.specs.declared.command.Command.{Command}
+use Rattle.wm_law.specs.Fit.{IsBetween, IsCompared, IsQName}
 use Rattle.wm_law.specs.declared.command.Command.TheVariants as command
-use Rattle.wm_command.specs.Printed.{FitsCompare, FitsRow, IsFit, IsQualified}
+use Rattle.wm_command.specs.Printed.{FitsCompare, FitsRow, IsQualified}
 use Rattle.wm_command.specs.Shown.{limit_value, or_special, crtcls_values, crtpgmref_values, crtjobd_values, crtsbsd_values, addjobqe_values, addrtge_values, addaje_values, addpje_values}
 use Rattle.wm_command.specs.Table.{change_rows, or_word}
 use Rattle.wm_command.specs.declared.row.Default.TheVariants as default
@@ -26,7 +24,6 @@ use Rattle.wm_command.specs.declared.row.Row.{Row as TableRow}
 use Rattle.wm_command.specs.declared.row.Special.{Special}
 use Rattle.wm_command.specs.declared.row.Special.TheVariants as special
 use Rattle.wm_command.specs.declared.value.Value.TheVariants as value
-use Rattle.wm_rows.specs.Rows.{command_row}
 use Rattle.wm_tables.specs.Laws.{RowCommandsFit}
 
 qualified : (q : QName) → IsQName q → IsQualified q

@@ -10,5 +10,6 @@
 mod laws;
 
 pub use laws::{
-    restarts_are_in_range, restarts_are_sound, row_commands_fit, steps_keep_ranges, tables_make_their_state,
+    restarts_are_in_range, restarts_are_sound, row_commands_fit, steps_keep_ranges,
+    tables_make_their_state,
 };
