@@ -1,0 +1,47 @@
+-- Steps of calls in range keep a sound state in range.
+use Rattle.std.proofs.Common.{◌≤◌, ℕ, arith}
+use Rattle.wm_base.specs.Iterate.{IsKept}
+use Rattle.wm_base.proofs.Iterate.{iterate-keeps}
+use Rattle.wm_law.specs.Choice.{next}
+use Rattle.wm_law.specs.Launch.{launch}
+use Rattle.wm_law.specs.Machine.{apply, step, with_clock}
+use Rattle.wm_law.specs.Settling.{leave, waiting}
+use Rattle.wm_law.specs.Sound.{IsSound}
+use Rattle.wm_law.specs.declared.state.State.{State}
+use Rattle.wm_law.proofs.Numbers.{clock_keeps}
+use Rattle.wm_tables.specs.Laws.{StepKeepsRanges}
+use Rattle.wm_tables.specs.Ranges.{IsInRange}
+use Rattle.wm_tables.proofs.RangedCalls.{apply_keeps}
+use Rattle.wm_tables.proofs.RangedLaunches.{launch_range}
+
+clock_range : (s : State) (moment : ℕ) → moment ≤ 253402214399 → IsInRange s → IsInRange (with_clock s moment)
+clock_range s moment h r = let most = r.clock in record { objects = r.objects; held = r.held; jobs = r.jobs; clock = omega arith }
+
+-- the clock has no part in what is sound
+clock_sound : (s : State) (moment : ℕ) → IsSound s → IsSound (with_clock s moment)
+clock_sound s moment h = record {
+  numbered = clock_keeps s moment h.numbered;
+  jobs = h.jobs;
+  places = h.places;
+  orders = record { routed = h.orders.routed; starting = h.orders.starting; lodged = h.orders.lodged };
+  names = h.names;
+  descriptions = h.descriptions;
+  quiet = h.quiet;
+  objects = h.objects;
+  queues = h.queues;
+  held = h.held;
+  within_started = h.within_started;
+}
+
+leave_range : (s : State) → IsInRange s → IsInRange (leave s)
+leave_range s r = record { objects = r.objects; held = r.held; jobs = r.jobs; clock = r.clock }
+
+launches_range : IsKept next (λ c t. launch t c) IsInRange
+launches_range = record { by_step = λ s c e r. launch_range s c r }
+
+pub step_keeps_ranges : StepKeepsRanges
+unfolding step
+step_keeps_ranges s caller call moment late fit sound r =
+    let t = (apply (with_clock s moment) caller call).state in
+    let called : IsInRange t = apply_keeps (with_clock s moment) caller call fit (clock_sound s moment sound) (clock_range s moment late r) in
+    iterate-keeps IsInRange launches_range (waiting (leave t)) (leave t) (leave_range t called)

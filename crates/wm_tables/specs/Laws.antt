@@ -1,0 +1,39 @@
+-- What follows from the tables of states and from what rows make, each for all.
+use Rattle.std.specs.Prelude.{◌≡◌, ◌≤◌, ℕ, ℤ, List, Some}
+use Rattle.wm_outside.specs.declared.row.Row.{Row}
+use Rattle.wm_command.specs.Printed.{IsFit}
+use Rattle.wm_law.specs.Fit.{IsCall, IsCommand}
+use Rattle.wm_law.specs.Machine.{step}
+use Rattle.wm_law.specs.Opening.{opening}
+use Rattle.wm_law.specs.Sound.{IsSound}
+use Rattle.wm_law.specs.declared.call.Call.{Call}
+use Rattle.wm_law.specs.declared.command.Command.{Command}
+use Rattle.wm_law.specs.declared.state.State.{State}
+use Rattle.wm_rows.specs.Rows.{command_row}
+use Rattle.wm_tables.specs.Ranges.{IsInRange}
+use Rattle.wm_tables.specs.Restart.{IsRestart, restarted}
+use Rattle.wm_tables.specs.Tables.{tables}
+
+-- a run opens with a sound state
+abbrev pub RestartIsSound : Type 0
+RestartIsSound = (offset : ℤ) (rows : List Row) (s : State) → IsRestart offset rows s → IsSound s
+
+-- and with one that keeps its ranges
+abbrev pub RestartIsInRange : Type 0
+RestartIsInRange = (offset : ℤ) (rows : List Row) (s : State) → IsRestart offset rows s → IsInRange s
+
+-- the opening state keeps its ranges
+abbrev pub OpeningIsInRange : Type 0
+OpeningIsInRange = (offset : ℤ) → IsInRange (opening offset)
+
+-- every step of a call in range keeps a sound state in range
+abbrev pub StepKeepsRanges : Type 0
+StepKeepsRanges = (s : State) (caller : ℕ) (call : Call) (moment : ℕ) → moment ≤ 253402214399 → IsCall call → IsSound s → IsInRange s → IsInRange (step s caller call moment).state
+
+-- the tables of a sound state in range are good, and a run that opens with them has of that state what a stop leaves of it
+abbrev pub TablesMakeTheirState : Type 0
+TablesMakeTheirState = (offset : ℤ) (s : State) → IsSound s → IsInRange s → IsRestart offset (tables s) (restarted offset s)
+
+-- a row's command that keeps the forms and ranges of the machine keeps those of the command table too
+abbrev pub RowCommandsFit : Type 0
+RowCommandsFit = (c : Command) (row : Row) → IsCommand c → command_row c ≡ Some row → IsFit c

@@ -1,0 +1,4 @@
+pub mod Laws
+pub mod Ranges
+pub mod Restart
+pub mod Tables

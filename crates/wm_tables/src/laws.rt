@@ -1,0 +1,31 @@
+// Laws of tables and of restarts, each for all states and rows. They are no calls.
+ghost use Rattle.wm_tables.specs.Laws.{OpeningIsInRange, RestartIsInRange, RestartIsSound, RowCommandsFit, StepKeepsRanges, TablesMakeTheirState};
+
+/// A run opens with a sound state, whatever good rows it finds.
+#[tactic(auto, using(crate::proofs::Restarts::restart_is_sound))]
+pub fn restarts_are_sound()
+    ensures { RestartIsSound }
+{}
+
+/// The tables of a sound state in range are good rows, and a run that opens with them has of that state what a stop
+/// leaves of it: its objects, its held queues, its jobs and its counters.
+#[tactic(auto, using(crate::proofs::Rebuilt::tables_make_their_state))]
+pub fn tables_make_their_state()
+    ensures { TablesMakeTheirState }
+{}
+
+/// A run opens with a state that keeps its ranges, whether it finds rows or none.
+pub fn restarts_are_in_range()
+    ensures opening { OpeningIsInRange }
+    ensures restart { RestartIsInRange }
+{}
+
+/// Every step of a call in range, at a moment that there is, keeps a sound state in range.
+pub fn steps_keep_ranges()
+    ensures { StepKeepsRanges }
+{}
+
+/// A row's command that keeps the forms and ranges of the machine keeps those of the command table too, so its row is read.
+pub fn row_commands_fit()
+    ensures { RowCommandsFit }
+{}
