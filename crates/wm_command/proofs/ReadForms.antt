@@ -51,21 +51,21 @@ InKind kind.Call (value.Text t) = IsTrue (within 0 1000 (length t))
 InKind k v = FitsKind k v
 
 -- a key may have no value where its row has none for it
-abbrev pub MayLack : Default → Type 0
-MayLack default.Nothing = Unit {0}
-MayLack d = ⊥
+abbrev pub may_lack : Default → Bool
+may_lack default.Nothing = true
+may_lack d = false
 
 -- what is dropped is none
-abbrev pub DropsRight : Kind → Default → Type 0
-DropsRight kind.Anything d = MayLack d
-DropsRight k d = Unit {0}
+abbrev pub is_right_drop : Kind → Default → Bool
+is_right_drop kind.Anything d = may_lack d
+is_right_drop k d = true
 
 abbrev pub row_of : Key → Kind → Special → Default → Row
 row_of key k s d = record { 0 = key; 1 = k; 2 = s; 3 = d }
 
 abbrev pub InRow : Row → Value → Type 0
 InRow row (value.Special s) = (s ≡ row.2) × (is_never s ≡ false)
-InRow row value.Nothing = MayLack row.3
+InRow row value.Nothing = IsTrue (may_lack row.3)
 InRow row v = InKind row.1 v
 
 -- answers
@@ -308,7 +308,7 @@ call_is key s d place [] v e = absurd (err_ok (NotCall place) v e)
 call_is key s d place (item ∷ items) v e = word_call key s d place (call_of items) v (is_word item (codes "CALL")) e
 
 -- the value of a row
-pub value_is : (key : Key) (k : Kind) (s : Special) (d : Default) (place : ℕ) (items : List Item) (v : Value) → DropsRight k d → row_value k s place items ≡ Ok v → InRow (row_of key k s d) v
+pub value_is : (key : Key) (k : Kind) (s : Special) (d : Default) (place : ℕ) (items : List Item) (v : Value) → is_right_drop k d ≡ true → row_value k s place items ≡ Ok v → InRow (row_of key k s d) v
 value_is key kind.Compare s d place items v drops e = compared_is key s d place items v e
 value_is key kind.Call s d place items v drops e = call_is key s d place items v e
 value_is key kind.Anything s d place items v drops e = subst (InRow (row_of key kind.Anything s d)) (ok_same value.Nothing v e) drops

@@ -1,5 +1,5 @@
 -- The text that is printed of a value, read by the value's row, is that value.
-use Rattle.std.proofs.Common.{◌≡◌, ℕ, ◌/◌, ◌<◌, ◌≤◌, ◌++◌, ◌&&◌, Bool, true, false, not, cond, nat_lt, nat_eq, List, [], ◌∷◌, zero, suc, Some, None, Ok, subst, sym, ◌∙◌, ap, refl, arith, codes, inl, inr}
+use Rattle.std.proofs.Common.{◌≡◌, ℕ, ◌/◌, ◌<◌, ◌≤◌, ◌++◌, ◌&&◌, drop, Bool, true, false, not, cond, nat_lt, nat_eq, List, [], ◌∷◌, zero, suc, Some, None, Ok, subst, sym, ◌∙◌, ap, refl, arith, codes, inl, inr}
 use Rattle.std.specs.Cmp.Lexicographic.{pointwise}
 use Rattle.std.specs.Fmt.{decimal}
 use Rattle.std.specs.Option.{option_map}
@@ -128,12 +128,7 @@ both_only (item ∷ items) t w e P f =
 not_special : (s : Special) (span : Span) (w : List ℕ) → Plain w → is_special s (ItemWord span w) ≡ false
 unfolding special_word
 not_special special.Never span w p = refl
-not_special special.Nomax span w p = plain_no_star w (codes "NOMAX") p
-not_special special.None span w p = plain_no_star w (codes "NONE") p
-not_special special.Jobd span w p = plain_no_star w (codes "JOBD") p
-not_special special.Same span w p = plain_no_star w (codes "SAME") p
-not_special special.Nolimit span w p = plain_no_star w (codes "NOLIMIT") p
-not_special special.Sbsd span w p = plain_no_star w (codes "SBSD") p
+not_special s span w p = plain_no_star w (drop 1 (special_word s)) p
 
 -- words that are told apart from each special word
 abbrev is_own : List ℕ → Bool

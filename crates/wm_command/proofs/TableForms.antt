@@ -1,12 +1,15 @@
 -- What a command's keys have, given or by the table, has the forms and the ranges of the table.
-use Rattle.std.proofs.Common.{◌≡◌, ℕ, ◌++◌, ◌||◌, Bool, true, false, cond, List, [], ◌∷◌, find, Option, Some, None, Result, Ok, Err, codes, subst, sym, ◌∙◌, ap, refl}
+use Rattle.std.proofs.Common.{◌≡◌, ℕ, ◌++◌, ◌||◌, ◌&&◌, Bool, true, false, not, cond, List, [], ◌∷◌, length, map, find, Option, Some, None, Result, Ok, Err, codes, subst, sym, ◌∙◌, ap, refl}
+use Rattle.std.specs.List.{list_all}
 use Rattle.std.specs.Option.{option_map}
-use Rattle.std.proofs.lemmas.Bool.{false≢true}
+use Rattle.std.proofs.lemmas.Bool.{and_parts, false≢true}
 use Rattle.std.proofs.lemmas.Slice.Eq.{bytes_eq-Decides}
 use Rattle.wm_base.specs.Key.{key_word}
+use Rattle.wm_base.specs.Name.{is_name}
 use Rattle.wm_base.specs.declared.refusal.Key.{Key}
 use Rattle.wm_clwords.specs.declared.tree.Item.{Item}
 use Rattle.wm_desc.specs.Opening.{qbatch, qdftjobd}
+use Rattle.wm_when.specs.Schedule.{within, date_in_range, time_in_range}
 use Rattle.wm_when.specs.declared.schedule.DateSpec.TheVariants as date
 use Rattle.wm_when.specs.declared.schedule.TimeSpec.TheVariants as time
 use Rattle.wm_law.specs.declared.command.EndOption.TheVariants.{Cntrld}
@@ -14,6 +17,7 @@ use Rattle.wm_command.specs.declared.fault.CmdFault.{CmdFault}
 use Rattle.wm_command.specs.declared.row.Default.{Default}
 use Rattle.wm_command.specs.declared.row.Default.TheVariants as default
 use Rattle.wm_command.specs.declared.row.Kind.{Kind}
+use Rattle.wm_command.specs.declared.row.Kind.TheVariants as kind
 use Rattle.wm_command.specs.declared.row.Row.{Row}
 use Rattle.wm_command.specs.declared.row.Special.{Special}
 use Rattle.wm_command.specs.declared.value.Value.{Value}
@@ -25,7 +29,7 @@ use Rattle.wm_command.specs.Reading.{same_key, is_given, row_named, row_value, w
 use Rattle.wm_command.specs.Values.{is_never}
 use Rattle.wm_command.specs.Words.{same}
 use Rattle.wm_command.specs.Written.{place_of, key_of, listed}
-use Rattle.wm_command.proofs.ReadForms.{InKind, InRow, DropsRight, row_of, none_some, some_same, err_ok, ok_same, value_is}
+use Rattle.wm_command.proofs.ReadForms.{InKind, InRow, is_right_drop, row_of, none_some, some_same, err_ok, ok_same, value_is}
 
 -- each key has what its row takes
 abbrev AllIn : List Row → List Given → Type 0
@@ -36,26 +40,66 @@ all_push : (rows : List Row) (given : List Given) (g : Given) → AllIn rows giv
 all_push rows [] g all h = (h, tt)
 all_push rows (x ∷ given) g all h = (all.0, all_push rows given g all.1 h)
 
--- a default has the form and the range of its row
-abbrev pub FitsDefault : Default → Kind → Special → Type 0
-FitsDefault default.Required k s = Unit {0}
-FitsDefault default.Nothing k s = Unit {0}
-FitsDefault default.Special k s = is_never s ≡ false
-FitsDefault (default.Number n) k s = InKind k (value.Number n)
-FitsDefault default.Yes k s = InKind k (value.Flag true)
-FitsDefault default.No k s = InKind k (value.Flag false)
-FitsDefault default.Cntrld k s = InKind k (value.Ending Cntrld)
-FitsDefault default.Qbatch k s = InKind k (value.Object qbatch)
-FitsDefault default.Qdftjobd k s = InKind k (value.Object qdftjobd)
-FitsDefault default.Qcmdi k s = InKind k (value.Text (codes "QCMDI"))
-FitsDefault default.Qcmdb k s = InKind k (value.Text (codes "QCMDB"))
-FitsDefault default.Today k s = InKind k (value.Date date.Current)
-FitsDefault default.Now k s = InKind k (value.Time time.Current)
+-- a value that a row may have for its default is of the row's kind
+abbrev is_of_kind : Kind → Value → Bool
+is_of_kind kind.Object (value.Object q) = is_name q.lib && is_name q.name
+is_of_kind (kind.Text low high) (value.Text t) = within low high (length t)
+is_of_kind (kind.Number low high) (value.Number n) = within low high n
+is_of_kind kind.Flag (value.Flag b) = true
+is_of_kind kind.Ending (value.Ending e) = true
+is_of_kind kind.Date (value.Date d) = date_in_range d
+is_of_kind kind.Time (value.Time t) = time_in_range t
+is_of_kind k v = false
 
--- what the rows of a table keep to: each is found by its key, and what it drops and its default are right
+of_kind : (k : Kind) (v : Value) → is_of_kind k v ≡ true → InKind k v
+of_kind kind.Object (value.Object q) h = and_parts (is_name q.lib) (is_name q.name) h
+of_kind (kind.Text low high) (value.Text t) h = h
+of_kind (kind.Number low high) (value.Number n) h = h
+of_kind kind.Flag (value.Flag b) h = tt
+of_kind kind.Ending (value.Ending e) h = tt
+of_kind kind.Date (value.Date d) h = h
+of_kind kind.Time (value.Time t) h = h
+of_kind k v h = absurd (false≢true h)
+
+-- a default has the form and the range of its row
+abbrev pub is_right_default : Default → Kind → Special → Bool
+is_right_default default.Required k s = true
+is_right_default default.Nothing k s = true
+is_right_default default.Special k s = not (is_never s)
+is_right_default (default.Number n) k s = is_of_kind k (value.Number n)
+is_right_default default.Yes k s = is_of_kind k (value.Flag true)
+is_right_default default.No k s = is_of_kind k (value.Flag false)
+is_right_default default.Cntrld k s = is_of_kind k (value.Ending Cntrld)
+is_right_default default.Qbatch k s = is_of_kind k (value.Object qbatch)
+is_right_default default.Qdftjobd k s = is_of_kind k (value.Object qdftjobd)
+is_right_default default.Qcmdi k s = is_of_kind k (value.Text (codes "QCMDI"))
+is_right_default default.Qcmdb k s = is_of_kind k (value.Text (codes "QCMDB"))
+is_right_default default.Today k s = is_of_kind k (value.Date date.Current)
+is_right_default default.Now k s = is_of_kind k (value.Time time.Current)
+
+-- a row drops what has no value, and its default is right
+abbrev pub is_right : Row → Bool
+is_right row = is_right_drop row.1 row.3 && is_right_default row.3 row.1 row.2
+
+-- what the rows of a table keep to: each is found by its key, and is right
 abbrev pub RightRows : List Row → List Row → Type 0
 RightRows rows [] = Unit {0}
-RightRows rows (row ∷ rest) = (row_named (key_word row.0) rows ≡ Some row) × DropsRight row.1 row.3 × FitsDefault row.3 row.1 row.2 × RightRows rows rest
+RightRows rows (row ∷ rest) = (row_named (key_word row.0) rows ≡ Some row) × (is_right_drop row.1 row.3 ≡ true) × (is_right_default row.3 row.1 row.2 ≡ true) × RightRows rows rest
+
+abbrev pub by_key : List Row → Row → Option Row
+by_key rows row = row_named (key_word row.0) rows
+
+pub same_rows : (a b : Option Row) (x y : List (Option Row)) → ◌≡◌ {A = List (Option Row)} (a ∷ x) (b ∷ y) → (a ≡ b) × (x ≡ y)
+same_rows a b x y e = (cc, cc)
+
+-- both are tests of the whole table
+pub right_rows : (rows rest : List Row) → map (by_key rows) rest ≡ map Some rest → list_all is_right rest ≡ true → RightRows rows rest
+right_rows rows [] e h = tt
+right_rows rows (row ∷ rest) e h =
+    let both = and_parts (is_right row) (list_all is_right rest) h in
+    let own = and_parts (is_right_drop row.1 row.3) (is_right_default row.3 row.1 row.2) both.0 in
+    let found = same_rows (by_key rows row) (Some row) (map (by_key rows) rest) (map Some rest) e in
+    (found.0, own.0, own.1, right_rows rows rest found.1 both.1)
 
 -- answers that are good
 
@@ -76,13 +120,17 @@ no_err false e r out h = h
 same_word : (a b : List ℕ) → same a b ≡ true → a ≡ b
 same_word a b h = (bytes_eq-Decides a b).0 h
 
+pub false_of : (b : Bool) → not b ≡ true → b ≡ false
+false_of false e = refl
+false_of true e = absurd (false≢true e)
+
 same_self : (a : List ℕ) → same a a ≡ true
 same_self a = (bytes_eq-Decides a a).1 refl
 
 abbrev Named : List ℕ → Row → Type 0
-Named word row = (same (key_word row.0) word ≡ true) × DropsRight row.1 row.3
+Named word row = (same (key_word row.0) word ≡ true) × (is_right_drop row.1 row.3 ≡ true)
 
-named_by : (first : Row) (rest : List Row) (word : List ℕ) (row : Row) (c : Bool) → DropsRight first.1 first.3 → (find (λ r. same (key_word r.0) word) rest ≡ Some row → Named word row)
+named_by : (first : Row) (rest : List Row) (word : List ℕ) (row : Row) (c : Bool) → is_right_drop first.1 first.3 ≡ true → (find (λ r. same (key_word r.0) word) rest ≡ Some row → Named word row)
     → same (key_word first.0) word ≡ c → cond c (Some first) (find (λ r. same (key_word r.0) word) rest) ≡ Some row → Named word row
 named_by first rest word row true drops f h e = subst (Named word) (some_same first row e) (h, drops)
 named_by first rest word row false drops f h e = f e
@@ -100,7 +148,7 @@ named_is rows word row right e = named rows rows word row right e
 one_row : (rows : List Row) (row other : Row) → row_named (key_word row.0) rows ≡ Some row → row_named (key_word row.0) rows ≡ Some other → row ≡ other
 one_row rows row other e f = some_same row other (sym e ∙ f)
 
-given_in : (rows : List Row) (row : Row) (place : ℕ) (items : List Item) (v : Value) → row_named (key_word row.0) rows ≡ Some row → DropsRight row.1 row.3 → row_value row.1 row.2 place items ≡ Ok v
+given_in : (rows : List Row) (row : Row) (place : ℕ) (items : List Item) (v : Value) → row_named (key_word row.0) rows ≡ Some row → is_right_drop row.1 row.3 ≡ true → row_value row.1 row.2 place items ≡ Ok v
     → (other : Row) → row_named (key_word row.0) rows ≡ Some other → InRow other v
 given_in rows row place items v e drops h other f =
     subst (λ (r : Row). InRow r v) (one_row rows row other e f) (value_is row.0 row.1 row.2 row.3 place items v drops h)
@@ -152,20 +200,20 @@ items_in rows out (item ∷ items) right e =
 
 -- what is completed
 
-default_in : (key : Key) (k : Kind) (s : Special) (d : Default) (v : Value) → FitsDefault d k s → default_value d key s ≡ Ok v → InRow (row_of key k s d) v
+default_in : (key : Key) (k : Kind) (s : Special) (d : Default) (v : Value) → is_right_default d k s ≡ true → default_value d key s ≡ Ok v → InRow (row_of key k s d) v
 default_in key k s default.Required v h e = absurd (err_ok _ v e)
-default_in key k s default.Nothing v h e = subst (InRow (row_of key k s default.Nothing)) (ok_same value.Nothing v e) tt
-default_in key k s default.Special v h e = subst (InRow (row_of key k s default.Special)) (ok_same (value.Special s) v e) (refl, h)
-default_in key k s (default.Number n) v h e = subst (InRow (row_of key k s (default.Number n))) (ok_same (value.Number n) v e) h
-default_in key k s default.Yes v h e = subst (InRow (row_of key k s default.Yes)) (ok_same (value.Flag true) v e) h
-default_in key k s default.No v h e = subst (InRow (row_of key k s default.No)) (ok_same (value.Flag false) v e) h
-default_in key k s default.Cntrld v h e = subst (InRow (row_of key k s default.Cntrld)) (ok_same (value.Ending Cntrld) v e) h
-default_in key k s default.Qbatch v h e = subst (InRow (row_of key k s default.Qbatch)) (ok_same (value.Object qbatch) v e) h
-default_in key k s default.Qdftjobd v h e = subst (InRow (row_of key k s default.Qdftjobd)) (ok_same (value.Object qdftjobd) v e) h
-default_in key k s default.Qcmdi v h e = subst (InRow (row_of key k s default.Qcmdi)) (ok_same (value.Text (codes "QCMDI")) v e) h
-default_in key k s default.Qcmdb v h e = subst (InRow (row_of key k s default.Qcmdb)) (ok_same (value.Text (codes "QCMDB")) v e) h
-default_in key k s default.Today v h e = subst (InRow (row_of key k s default.Today)) (ok_same (value.Date date.Current) v e) h
-default_in key k s default.Now v h e = subst (InRow (row_of key k s default.Now)) (ok_same (value.Time time.Current) v e) h
+default_in key k s default.Nothing v h e = subst (InRow (row_of key k s default.Nothing)) (ok_same value.Nothing v e) refl
+default_in key k s default.Special v h e = subst (InRow (row_of key k s default.Special)) (ok_same (value.Special s) v e) (refl, false_of (is_never s) h)
+default_in key k s (default.Number n) v h e = subst (InRow (row_of key k s (default.Number n))) (ok_same (value.Number n) v e) (of_kind k (value.Number n) h)
+default_in key k s default.Yes v h e = subst (InRow (row_of key k s default.Yes)) (ok_same (value.Flag true) v e) (of_kind k (value.Flag true) h)
+default_in key k s default.No v h e = subst (InRow (row_of key k s default.No)) (ok_same (value.Flag false) v e) (of_kind k (value.Flag false) h)
+default_in key k s default.Cntrld v h e = subst (InRow (row_of key k s default.Cntrld)) (ok_same (value.Ending Cntrld) v e) (of_kind k (value.Ending Cntrld) h)
+default_in key k s default.Qbatch v h e = subst (InRow (row_of key k s default.Qbatch)) (ok_same (value.Object qbatch) v e) (of_kind k (value.Object qbatch) h)
+default_in key k s default.Qdftjobd v h e = subst (InRow (row_of key k s default.Qdftjobd)) (ok_same (value.Object qdftjobd) v e) (of_kind k (value.Object qdftjobd) h)
+default_in key k s default.Qcmdi v h e = subst (InRow (row_of key k s default.Qcmdi)) (ok_same (value.Text (codes "QCMDI")) v e) (of_kind k (value.Text (codes "QCMDI")) h)
+default_in key k s default.Qcmdb v h e = subst (InRow (row_of key k s default.Qcmdb)) (ok_same (value.Text (codes "QCMDB")) v e) (of_kind k (value.Text (codes "QCMDB")) h)
+default_in key k s default.Today v h e = subst (InRow (row_of key k s default.Today)) (ok_same (value.Date date.Current) v e) (of_kind k (value.Date date.Current) h)
+default_in key k s default.Now v h e = subst (InRow (row_of key k s default.Now)) (ok_same (value.Time time.Current) v e) (of_kind k (value.Time time.Current) h)
 
 key_self : (k : Key) → same_key k k ≡ true
 unfolding same_key
@@ -192,7 +240,7 @@ record Completed (rows : List Row) (key : Key) (given out : List Given) : Type 0
   has : is_given key out ≡ true
   kept : (k : Key) → is_given k given ≡ true → is_given k out ≡ true
 
-complete_in : (rows : List Row) (row : Row) (given out : List Given) → row_named (key_word row.0) rows ≡ Some row → FitsDefault row.3 row.1 row.2 → AllIn rows given → complete given row ≡ Ok out
+complete_in : (rows : List Row) (row : Row) (given out : List Given) → row_named (key_word row.0) rows ≡ Some row → is_right_default row.3 row.1 row.2 ≡ true → AllIn rows given → complete given row ≡ Ok out
     → Completed rows row.0 given out
 unfolding complete
 complete_in rows row given out f fits all e = by_test (is_given row.0 given) refl e
