@@ -174,7 +174,7 @@ value_fits k kd s d sbsd v firm shown right q t h = kind_fits k kd s d sbsd v re
 
 -- all rows that are shown
 
-lift : (P : Option Value → Type 0) (row : Row) (g : List Given) → ((v : Value) → InRow row v → P (Some v)) → Has row g → P (value_of row.0 g)
+lift : (P : Option Value → Type 0) (row : Row) (g : List Given) → ((v : Value) → InRow row v → P (Some v)) → Has row g → P (value_of row.key g)
 lift P row g f h = subst P (sym h.1) (f h.0 h.2)
 
 -- the description whose name *SBSD stands for
@@ -191,18 +191,18 @@ sbsd_fits d g firm h =
 
 -- a row is shown, has a value, and keeps to what a priority is
 abbrev pub is_made : Row → Bool
-is_made row = not (may_lack row.3) && is_shown row.1 && is_right_priority row.0 row.1
+is_made row = not (may_lack row.otherwise) && is_shown row.kind && is_right_priority row.key row.kind
 
 abbrev pub is_sbsd : Special → Bool
 is_sbsd special.Sbsd = true
 is_sbsd s = false
 
 abbrev pub has_class : List Row → Bool
-has_class rows = list_any (λ row. is_sbsd row.2) rows
+has_class rows = list_any (λ row. is_sbsd row.special) rows
 
 abbrev pub shown_of : List Row → List Given → List Given
 shown_of [] g = []
-shown_of (row ∷ rows) g = with_key row.0 (shown_value row.0 row.1 row.2 (sbsd_of g) (value_of row.0 g)) ∷ shown_of rows g
+shown_of (row ∷ rows) g = with_key row.key (shown_value row.key row.kind row.special (sbsd_of g) (value_of row.key g)) ∷ shown_of rows g
 
 -- the texts that are shown are printable
 abbrev pub And : Kind → Value → Type 0 → Type 0
@@ -213,7 +213,7 @@ And kd v rest = rest
 
 abbrev pub TextsOf : List Row → List Given → Type 0
 TextsOf [] g = Unit {0}
-TextsOf (row ∷ rows) g = And row.1 (shown_value row.0 row.1 row.2 (sbsd_of g) (value_of row.0 g)) (TextsOf rows g)
+TextsOf (row ∷ rows) g = And row.kind (shown_value row.key row.kind row.special (sbsd_of g) (value_of row.key g)) (TextsOf rows g)
 
 both_texts : (kd : Kind) (v : Value) (Rest : Type 0) → And kd v Rest → PrintableOf kd v × Rest
 both_texts (kind.Text low high) v Rest h = h
@@ -221,13 +221,13 @@ both_texts kind.Path v Rest h = h
 both_texts kind.Compare v Rest h = h
 both_texts kd v Rest h = (tt, h)
 
-row_fits : (row : Row) (g : List Given) → is_made row ≡ true → (is_sbsd row.2 ≡ true → IsQualified (sbsd_of g)) → PrintableOf row.1 (shown_value row.0 row.1 row.2 (sbsd_of g) (value_of row.0 g)) → Has row g
-    → FitsRow row (shown_value row.0 row.1 row.2 (sbsd_of g) (value_of row.0 g))
+row_fits : (row : Row) (g : List Given) → is_made row ≡ true → (is_sbsd row.special ≡ true → IsQualified (sbsd_of g)) → PrintableOf row.kind (shown_value row.key row.kind row.special (sbsd_of g) (value_of row.key g)) → Has row g
+    → FitsRow row (shown_value row.key row.kind row.special (sbsd_of g) (value_of row.key g))
 row_fits row g made sbsd text h =
-    let both = and_parts (not (may_lack row.3) && is_shown row.1) (is_right_priority row.0 row.1) made in
-    let own = and_parts (not (may_lack row.3)) (is_shown row.1) both.0 in
-    lift (λ o. PrintableOf row.1 (shown_value row.0 row.1 row.2 (sbsd_of g) o) → FitsRow row (shown_value row.0 row.1 row.2 (sbsd_of g) o)) row g
-    (λ v i t. value_fits row.0 row.1 row.2 row.3 (sbsd_of g) v (false_of (may_lack row.3) own.0) own.1 both.1 (λ e. sbsd (ap is_sbsd e)) t i) h text
+    let both = and_parts (not (may_lack row.otherwise) && is_shown row.kind) (is_right_priority row.key row.kind) made in
+    let own = and_parts (not (may_lack row.otherwise)) (is_shown row.kind) both.0 in
+    lift (λ o. PrintableOf row.kind (shown_value row.key row.kind row.special (sbsd_of g) o) → FitsRow row (shown_value row.key row.kind row.special (sbsd_of g) o)) row g
+    (λ v i t. value_fits row.key row.kind row.special row.otherwise (sbsd_of g) v (false_of (may_lack row.otherwise) own.0) own.1 both.1 (λ e. sbsd (ap is_sbsd e)) t i) h text
 
 or_first : (a b : Bool) → a ≡ true → (a || b) ≡ true
 or_first true b h = refl
@@ -241,10 +241,9 @@ pub rows_fit : (rows : List Row) (g : List Given) → AllHave rows g → list_al
 rows_fit [] g have made sbsd texts = tt
 rows_fit (row ∷ rows) g have made sbsd texts =
     let own = and_parts (is_made row) (list_all is_made rows) made in
-    let t = both_texts row.1 (shown_value row.0 row.1 row.2 (sbsd_of g) (value_of row.0 g)) (TextsOf rows g) texts in
-    (
-      row_fits row g own.0 (λ e. sbsd (or_first (is_sbsd row.2) (has_class rows) e)) t.0 have.0,
-      rows_fit rows g have.1 own.1 (λ e. sbsd (or_second (is_sbsd row.2) (has_class rows) e)) t.1,
+    let t = both_texts row.kind (shown_value row.key row.kind row.special (sbsd_of g) (value_of row.key g)) (TextsOf rows g) texts in (
+      row_fits row g own.0 (λ e. sbsd (or_first (is_sbsd row.special) (has_class rows) e)) t.0 have.0,
+      rows_fit rows g have.1 own.1 (λ e. sbsd (or_second (is_sbsd row.special) (has_class rows) e)) t.1,
     )
 
 -- of the keys that have what their rows take, those that are shown
@@ -254,7 +253,7 @@ have_by row rows g false h all = all
 
 pub have_shown : (rows : List Row) (g : List Given) → AllHave rows g → AllHave (shown_rows rows) g
 have_shown [] g h = tt
-have_shown (row ∷ rows) g h = have_by row (shown_rows rows) g (is_shown row.1) h.0 (have_shown rows g h.1)
+have_shown (row ∷ rows) g h = have_by row (shown_rows rows) g (is_shown row.kind) h.0 (have_shown rows g h.1)
 
 -- a text that may be a special word
 pub text_or_word : (s : Special) (o : Option (List ℕ)) → IfSome o IsText → IsPrintable (or_special s value.Text o)

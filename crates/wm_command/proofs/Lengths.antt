@@ -46,7 +46,7 @@ kind_room kind.Path = 520
 kind_room k = 200
 
 abbrev pub row_room : Row → ℕ
-row_room row = 12 + kind_room row.1
+row_room row = 12 + kind_room row.kind
 
 abbrev pub rows_room : List Row → ℕ
 rows_room [] = 0
@@ -152,10 +152,10 @@ kind_short kind.Date s (value.Date d) sound h = date_short d h
 kind_short kind.Time s (value.Time t) sound h = time_short t h
 kind_short k s v sound h = absurd h
 
-row_short : (row : Row) (v : Value) → is_sound row.1 row.2 ≡ true → FitsRow row v → length (value_text v) ≤ kind_room row.1
+row_short : (row : Row) (v : Value) → is_sound row.kind row.special ≡ true → FitsRow row v → length (value_text v) ≤ kind_room row.kind
 unfolding value_text
-row_short row (value.Special s) sound h = omega (arith, special_short s, room_for_word row.1)
-row_short row v sound h = kind_short row.1 row.2 v sound h
+row_short row (value.Special s) sound h = omega (arith, special_short s, room_for_word row.kind)
+row_short row v sound h = kind_short row.kind row.special v sound h
 
 -- a key with its value
 
@@ -163,6 +163,6 @@ key_short : (k : Key) → length (key_word k) ≤ 9
 key_short key.Cls = lit≤ tt
 key_short k = lit≤ tt
 
-pub given_short : (row : Row) (g : Given) → is_sound row.1 row.2 ≡ true → FitsRow row g.value → length (given_text g) ≤ row_room row
+pub given_short : (row : Row) (g : Given) → is_sound row.kind row.special ≡ true → FitsRow row g.value → length (given_text g) ≤ row_room row
 given_short row g sound h =
     simp length-append (omega (arith, key_short g.key, row_short row g.value sound h))

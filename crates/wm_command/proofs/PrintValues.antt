@@ -76,10 +76,10 @@ fills_kind kind.Date s (value.Date d) sound h = fills_date d h
 fills_kind kind.Time s (value.Time t) sound h = fills_time t h
 fills_kind k s v sound h = absurd h
 
-fills_row : (row : Row) (v : Value) → is_sound row.1 row.2 ≡ true → FitsRow row v → Fills (value_text v) (value_tokens v)
+fills_row : (row : Row) (v : Value) → is_sound row.kind row.special ≡ true → FitsRow row v → Fills (value_text v) (value_tokens v)
 unfolding value_text
 fills_row row (value.Special s) sound h = fills_special s h.1
-fills_row row v sound h = fills_kind row.1 row.2 v sound h
+fills_row row v sound h = fills_kind row.kind row.special v sound h
 
 -- keys are words in capitals
 key_is : (k : Key) → is_word (key_word k) ≡ true
@@ -98,12 +98,12 @@ given_tokens g = KeyToken (key_word g.key) ∷ value_tokens g.value ++ Close ∷
 abbrev pub bare_text : Given → List ℕ
 bare_text g = ((key_word g.key ++ 40 ∷ []) ++ value_text g.value) ++ 41 ∷ []
 
-pub prints_bare : (row : Row) (g : Given) → is_sound row.1 row.2 ≡ true → FitsRow row g.value → Prints (bare_text g) (given_tokens g)
+pub prints_bare : (row : Row) (g : Given) → is_sound row.kind row.special ≡ true → FitsRow row g.value → Prints (bare_text g) (given_tokens g)
 prints_bare row g sound h =
     subst (λ (l : List ℕ). Prints (l ++ 41 ∷ []) (given_tokens g)) (sym (append_assoc (key_word g.key) (40 ∷ []) (value_text g.value)))
     (subst (λ (u : List ℕ). Prints (key_word g.key ++ 40 ∷ value_text g.value ++ 41 ∷ []) (KeyToken u ∷ value_tokens g.value ++ Close ∷ [])) (key_upper g.key)
     (prints_keyed (key_word g.key) (value_text g.value) (value_tokens g.value) (key_is g.key) (fills_row row g.value sound h)))
 
 -- the same behind a blank
-pub prints_given : (row : Row) (g : Given) → is_sound row.1 row.2 ≡ true → FitsRow row g.value → Prints (given_text g) (given_tokens g)
+pub prints_given : (row : Row) (g : Given) → is_sound row.kind row.special ≡ true → FitsRow row g.value → Prints (given_text g) (given_tokens g)
 prints_given row g sound h = prints_blank (bare_text g) (given_tokens g) (prints_bare row g sound h)

@@ -61,12 +61,12 @@ is_right_drop kind.Anything d = may_lack d
 is_right_drop k d = true
 
 abbrev pub row_of : Key → Kind → Special → Default → Row
-row_of key k s d = record { 0 = key; 1 = k; 2 = s; 3 = d }
+row_of key k s d = record { key = key; kind = k; special = s; otherwise = d }
 
 abbrev pub InRow : Row → Value → Type 0
-InRow row (value.Special s) = (s ≡ row.2) × (is_never s ≡ false)
-InRow row value.Nothing = IsTrue (may_lack row.3)
-InRow row v = InKind row.1 v
+InRow row (value.Special s) = (s ≡ row.special) × (is_never s ≡ false)
+InRow row value.Nothing = IsTrue (may_lack row.otherwise)
+InRow row v = InKind row.kind v
 
 -- answers
 

@@ -8,55 +8,13 @@ use crate::line::Line;
 use crate::made::change_made;
 use crate::printable::texts_are_printable;
 use crate::reading::all_given;
-use crate::table::{change_rows, change_word, read_rows, read_word};
+use crate::table::{CHANGES, READS, change_rows, change_word, read_rows, read_word};
 use crate::value::Values;
 use crate::verb::{ChangeVerb, ReadVerb};
 use std::alloc::Global;
 use wm_base::{Key, Name};
 use wm_clwords::{Item, Tree};
 use wm_law::Ask;
-
-/// The commands that change the state, in the order of the table.
-pub const CHANGES: [ChangeVerb; 28] = [
-    ChangeVerb::Crtcls,
-    ChangeVerb::Crtjobq,
-    ChangeVerb::Crtpgmref,
-    ChangeVerb::Crtjobd,
-    ChangeVerb::Crtsbsd,
-    ChangeVerb::Addjobqe,
-    ChangeVerb::Addrtge,
-    ChangeVerb::Addaje,
-    ChangeVerb::Addpje,
-    ChangeVerb::Rmvjobqe,
-    ChangeVerb::Rmvrtge,
-    ChangeVerb::Rmvaje,
-    ChangeVerb::Rmvpje,
-    ChangeVerb::Strsbs,
-    ChangeVerb::Endsbs,
-    ChangeVerb::Sbmjob,
-    ChangeVerb::Hldjob,
-    ChangeVerb::Rlsjob,
-    ChangeVerb::Chgjob,
-    ChangeVerb::Endjob,
-    ChangeVerb::Hldjobq,
-    ChangeVerb::Rlsjobq,
-    ChangeVerb::Clrjobq,
-    ChangeVerb::Strpj,
-    ChangeVerb::Endpj,
-    ChangeVerb::Evoke,
-    ChangeVerb::Enduse,
-    ChangeVerb::Pwrdwnsys,
-];
-
-/// The commands that read, in the order of the table.
-pub const READS: [ReadVerb; 6] = [
-    ReadVerb::Wrkactjob,
-    ReadVerb::Wrksbmjob,
-    ReadVerb::Wrksbs,
-    ReadVerb::Dsplog,
-    ReadVerb::Wrkjobq,
-    ReadVerb::Dspjob,
-];
 
 #[tactic(auto, unfolding(crate::specs::Line::change_named))]
 fn change_named(name: &Name) -> Option<ChangeVerb>

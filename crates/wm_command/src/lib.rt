@@ -38,11 +38,11 @@ mod words;
 mod written;
 
 pub use fault::CmdFault;
-pub use from_tree::{CHANGES, READS, command};
+pub use from_tree::command;
 pub use laws::{printed_command_is_read, shown_values_make_the_command};
 pub use line::Line;
 pub use printing::print;
 pub use row::{Default as RowDefault, Kind as ValueKind, Row, Special};
 pub use shown::command_word;
-pub use table::{change_rows, change_word, read_rows, read_word};
+pub use table::{CHANGES, READS, change_rows, change_word, read_rows, read_word};
 pub use verb::{ChangeVerb, ReadVerb};
