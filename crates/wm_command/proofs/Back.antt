@@ -16,12 +16,15 @@ use Rattle.wm_command.specs.declared.row.Kind.TheVariants as kind
 use Rattle.wm_command.specs.declared.value.Value.TheVariants as value
 use Rattle.wm_command.specs.declared.verb.ChangeVerb.TheVariants as change
 use Rattle.wm_base.specs.declared.refusal.Key.TheVariants as key
-use Rattle.wm_command.specs.Fields.{object_or, name_or, text_or, number_or, limit_or, flag_or, date_or, time_or, priority_or, is_word_value, maybe, value_of, object_in, name_in, text_in, number_in, limit_in, flag_in, ending_in, job_in, compare_in, date_in, time_in, priority_in, is_word_in, class_in, maxpty_in, request_in}
+use Rattle.wm_command.specs.Fields.{object_or, name_or, text_or, number_or, limit_or, flag_or, date_or, time_or, priority_or, is_word_value, maybe, value_of, object_in, name_in, text_in, number_in, limit_in, flag_in, ending_in, job_in, compare_in, date_in, time_in, priority_in, is_word_in, class_in, maxpty_in, request_in, limit_value, or_special}
 use Rattle.wm_command.specs.Line.{lacks}
-use Rattle.wm_command.specs.Made.{crtcls, crtpgmref, crtjobd, crtsbsd, addjobqe, addrtge, addaje, addpje, rmvjobqe, rmvrtge, rmvaje, rmvpje, endsbs, sbmjob, chgjob, endjob, strpj, endpj, evoke, pwrdwnsys}
+use Rattle.wm_command.specs.Objects.{crtcls, crtpgmref, crtjobd, crtsbsd, crtcls_values, crtpgmref_values, crtjobd_values, crtsbsd_values}
+use Rattle.wm_command.specs.Entries.{addjobqe, addrtge, addaje, addpje, rmvjobqe, rmvrtge, rmvaje, rmvpje, addjobqe_values, addrtge_values, addaje_values, addpje_values, rmvjobqe_values, rmvrtge_values, rmvaje_values, rmvpje_values}
+use Rattle.wm_command.specs.Control.{endsbs, strpj, endpj, evoke, pwrdwnsys, endsbs_values, strpj_values, endpj_values, evoke_values, pwrdwnsys_values}
+use Rattle.wm_command.specs.Jobs.{sbmjob, chgjob, endjob, sbmjob_values, chgjob_values, endjob_values}
 use Rattle.wm_command.specs.Printed.{FitsRow, IsFit, completed, ShownValuesMakeTheCommand}
 use Rattle.wm_command.specs.Reading.{complete, same_key}
-use Rattle.wm_command.specs.Shown.{limit_value, or_special, values_of, crtcls_values, crtpgmref_values, crtjobd_values, crtsbsd_values, addjobqe_values, addrtge_values, addaje_values, addpje_values, rmvjobqe_values, rmvrtge_values, rmvaje_values, rmvpje_values, endsbs_values, sbmjob_values, chgjob_values, endjob_values, strpj_values, endpj_values, evoke_values, pwrdwnsys_values}
+use Rattle.wm_command.specs.Shown.{values_of}
 use Rattle.wm_command.specs.Table.{or_word, change_rows}
 
 -- each kind of field

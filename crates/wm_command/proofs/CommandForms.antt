@@ -18,10 +18,13 @@ use Rattle.wm_command.specs.declared.verb.ReadVerb.{ReadVerb}
 use Rattle.wm_command.specs.Each.{go_on}
 use Rattle.wm_command.specs.Fields.{object_or, value_of, object_in, name_in, text_in, number_in, limit_in, flag_in, ending_in, job_in, compare_in, date_in, time_in, priority_in, is_word_in, class_in, maxpty_in, request_in}
 use Rattle.wm_command.specs.Line.{change_named, read_named, own_fault, unless, read_by, read_made, line_by, line_of}
-use Rattle.wm_command.specs.Made.{change_made, crtcls, crtpgmref, crtjobd, crtsbsd, addjobqe, addrtge, addaje, addpje, rmvjobqe, rmvrtge, rmvaje, rmvpje, endsbs, sbmjob, chgjob, endjob, strpj, endpj, evoke, pwrdwnsys}
+use Rattle.wm_command.specs.Made.{change_made}
+use Rattle.wm_command.specs.Objects.{crtcls, crtpgmref, crtjobd, crtsbsd, crtcls_values, crtpgmref_values, crtjobd_values, crtsbsd_values}
+use Rattle.wm_command.specs.Entries.{addjobqe, addrtge, addaje, addpje, rmvjobqe, rmvrtge, rmvaje, rmvpje, addjobqe_values, addrtge_values, addaje_values, addpje_values, rmvjobqe_values, rmvrtge_values, rmvaje_values, rmvpje_values}
+use Rattle.wm_command.specs.Control.{endsbs, strpj, endpj, evoke, pwrdwnsys, endsbs_values, strpj_values, endpj_values, evoke_values, pwrdwnsys_values}
+use Rattle.wm_command.specs.Jobs.{sbmjob, chgjob, endjob, sbmjob_values, chgjob_values, endjob_values}
 use Rattle.wm_command.specs.Printed.{HasTexts, IsQualified, IsFit, FitRows, LineHasTexts, KeepsForms, LineIsReadBack, shown_rows}
 use Rattle.wm_command.specs.Reading.{row_named, same_key, all_given}
-use Rattle.wm_command.specs.Shown.{crtcls_values, crtpgmref_values, crtjobd_values, crtsbsd_values, addjobqe_values, addrtge_values, addaje_values, addpje_values, rmvjobqe_values, rmvrtge_values, rmvaje_values, rmvpje_values, endsbs_values, sbmjob_values, chgjob_values, endjob_values, strpj_values, endpj_values, evoke_values, pwrdwnsys_values}
 use Rattle.wm_command.specs.Table.{change_rows, read_rows}
 use Rattle.wm_command.proofs.ReadBack.{printed_back}
 use Rattle.wm_command.proofs.ReadForms.{err_ok, ok_same}

@@ -21,9 +21,8 @@ use Rattle.wm_command.specs.declared.row.Special.TheVariants as special
 use Rattle.wm_command.specs.declared.value.Value.{Value}
 use Rattle.wm_command.specs.declared.value.Value.TheVariants as value
 use Rattle.wm_command.specs.declared.value.Given.{Given}
-use Rattle.wm_command.specs.Fields.{object_or, name_or, text_or, number_or, limit_or, flag_or, ending_or, job_or, compare_or, date_or, time_or, priority_or, is_word_value, maybe, request_or, value_of}
+use Rattle.wm_command.specs.Fields.{object_or, name_or, text_or, number_or, limit_or, flag_or, ending_or, job_or, compare_or, date_or, time_or, priority_or, is_word_value, maybe, request_or, value_of, with_key, limit_value, or_special}
 use Rattle.wm_command.specs.Printed.{IsQualified, FitsCompare, FitsRow, FitRows, HasText, is_shown, shown_rows}
-use Rattle.wm_command.specs.Shown.{with_key, limit_value, or_special}
 use Rattle.wm_command.specs.Table.{plain, or_word}
 use Rattle.wm_command.specs.Values.{is_never}
 use Rattle.wm_command.proofs.ReadForms.{InKind, InRow, may_lack, row_of}

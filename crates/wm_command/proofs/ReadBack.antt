@@ -33,7 +33,11 @@ use Rattle.wm_command.specs.Made.{change_made}
 use Rattle.wm_command.specs.Print.{given_text, command_text}
 use Rattle.wm_command.specs.Printed.{FitsRow, FitRows, shown_rows, IsFit, PrintedCommandIsRead}
 use Rattle.wm_command.specs.Reading.{same_key, is_given, row_named, row_value, with_value, keyed, keyed_by, next_item, first_item, first_by, items_given, complete}
-use Rattle.wm_command.specs.Shown.{values_of, verb_of, crtcls_values, crtpgmref_values, crtjobd_values, crtsbsd_values, addjobqe_values, addrtge_values, addaje_values, addpje_values, rmvjobqe_values, rmvrtge_values, rmvaje_values, rmvpje_values, endsbs_values, sbmjob_values, chgjob_values, endjob_values, strpj_values, endpj_values, evoke_values, pwrdwnsys_values}
+use Rattle.wm_command.specs.Shown.{values_of, verb_of}
+use Rattle.wm_command.specs.Objects.{crtcls_values, crtpgmref_values, crtjobd_values, crtsbsd_values}
+use Rattle.wm_command.specs.Entries.{addjobqe_values, addrtge_values, addaje_values, addpje_values, rmvjobqe_values, rmvrtge_values, rmvaje_values, rmvpje_values}
+use Rattle.wm_command.specs.Control.{endsbs_values, strpj_values, endpj_values, evoke_values, pwrdwnsys_values}
+use Rattle.wm_command.specs.Jobs.{sbmjob_values, chgjob_values, endjob_values}
 use Rattle.wm_command.specs.Table.{row_key, change_rows, change_word}
 use Rattle.wm_command.specs.Values.{special_word, is_never}
 use Rattle.wm_command.specs.Written.{place_of, key_of, listed}

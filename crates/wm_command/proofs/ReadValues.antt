@@ -36,12 +36,12 @@ use Rattle.wm_command.specs.declared.row.Special.{Special}
 use Rattle.wm_command.specs.declared.row.Special.TheVariants as special
 use Rattle.wm_command.specs.declared.value.Value.{Value}
 use Rattle.wm_command.specs.declared.value.Value.TheVariants as value
-use Rattle.wm_command.specs.Print.{flag_text, ending_text, job_text, weekday_text, date_text, time_text, second_text}
+use Rattle.wm_command.specs.Print.{job_text, date_text, time_text, second_text}
 use Rattle.wm_command.specs.Printed.{IsQualified, FitsJob, FitsCompare, FitsKind}
 use Rattle.wm_command.specs.Reading.{row_value}
 use Rattle.wm_command.specs.Values.{kind_value, special_word, is_never, is_special, or_bad, compared, text_from}
 use Rattle.wm_command.specs.Values.{one_value as one_read}
-use Rattle.wm_command.specs.Words.{before_slash, behind_slash, name_of, job_with, job_behind, job_of, by_user_of, full_of, simple_of, date_word_of, day_of, date_with, date_of, second_of, number_of, time_of}
+use Rattle.wm_command.specs.Words.{flag_text, ending_text, weekday_text, before_slash, behind_slash, name_of, job_with, job_behind, job_of, by_user_of, full_of, simple_of, date_word_of, day_of, date_with, date_of, second_of, number_of, time_of}
 use Rattle.wm_command.proofs.Digits.{number_decimal, number_six, number_eight, second_back, within_high, decimal_digits, decimal_some, padded_digits, padded_some, six_digits, six_some}
 use Rattle.wm_command.proofs.Plain.{Plain, plain_no_star, plain_name, plain_digits, plain_join, name_unslashed, digits_unslashed, before_first, behind_first, before_none, behind_none, ap_two, ap_three}
 

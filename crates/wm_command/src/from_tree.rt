@@ -3,9 +3,9 @@ ghost use Rattle.std.specs.Prelude.{◌≡◌, ◌≢◌, IfOk, IfErr, Ok, Err};
 ghost use Rattle.wm_command.specs.Printed.{FitsMachine, KeepsForms, LineHasTexts, LineIsReadBack};
 ghost use Rattle.wm_command.specs.Line.{change_named, read_named, one_request, lacks, own_fault, change_line, read_made, read_line, line_of};
 
+use crate::commands::change_made;
 use crate::fault::CmdFault;
 use crate::line::Line;
-use crate::made::change_made;
 use crate::printable::texts_are_printable;
 use crate::reading::all_given;
 use crate::table::{CHANGES, READS, change_rows, change_word, read_rows, read_word};

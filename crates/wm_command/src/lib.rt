@@ -11,25 +11,20 @@
 #![tactic(auto)]
 
 mod call;
+mod commands;
+mod control;
+mod entries;
 mod fault;
 mod fields;
 mod from_tree;
+mod jobs;
 mod laws;
 mod line;
-mod made;
-mod made_control;
-mod made_create;
-mod made_entry;
-mod made_job;
+mod objects;
 mod printable;
 mod printing;
 mod reading;
 mod row;
-mod shown;
-mod shown_control;
-mod shown_create;
-mod shown_entry;
-mod shown_job;
 mod table;
 mod value;
 mod values;
@@ -37,12 +32,12 @@ mod verb;
 mod words;
 mod written;
 
+pub use commands::command_word;
 pub use fault::CmdFault;
 pub use from_tree::command;
 pub use laws::{printed_command_is_read, shown_values_make_the_command};
 pub use line::Line;
 pub use printing::print;
 pub use row::{Default as RowDefault, Kind as ValueKind, Row, Special};
-pub use shown::command_word;
 pub use table::{CHANGES, READS, change_rows, change_word, read_rows, read_word};
 pub use verb::{ChangeVerb, ReadVerb};

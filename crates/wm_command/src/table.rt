@@ -1,10 +1,12 @@
 // The command table.
 ghost use Rattle.std.specs.Prelude.{◌≡◌};
+ghost use Rattle.wm_command.specs.Shown.{verb_of};
 ghost use Rattle.wm_command.specs.Table.{change_rows, change_word, read_rows, read_word};
 
 use crate::row::{Default, Kind, Row, Special};
 use crate::verb::{ChangeVerb, ReadVerb};
 use wm_base::Key;
+use wm_law::Command;
 
 /// The commands that change the state, in the order of the table. The rows of each have its word for their name.
 macro_rules! changes {
@@ -77,6 +79,13 @@ macro_rules! rows_of {
     };
 }
 
+/// The name of a command.
+macro_rules! name_of {
+    ($verbs:ident ($of:expr) $($verb:ident $rows:ident)*) => {
+        match $of { $(Command::$verb(_) => $verbs::$verb,)* }
+    };
+}
+
 /// The commands that change the state, in the order of the table.
 pub const CHANGES: [ChangeVerb; 28] = changes!(all_verbs());
 
@@ -97,6 +106,13 @@ pub fn read_word(verb: ReadVerb) -> &'static str
     ensures { result.now ≡ read_word verb }
 {
     reads!(word_of(verb))
+}
+
+/// Which command it is.
+pub fn verb_of(command: &Command) -> ChangeVerb
+    ensures { result ≡ verb_of command.now }
+{
+    changes!(name_of(command))
 }
 
 /// The keys of a command in their order.

@@ -1,7 +1,8 @@
 // What texts say: numbers, names, dates and times.
 ghost use Rattle.std.specs.Prelude.{◌≡◌, ◌≤◌, length, take, drop, take_while, codes, fold, Some, nat_eq, IsTrue, ◌<◌, ◌^◌, IfSome};
 ghost use Rattle.std.specs.Option.{option_copied};
-ghost use Rattle.wm_command.specs.Words.{is_digit, push_digit, digits, kept_within, number_of, name_of, is_no_slash, before_slash, behind_slash, simple_of, by_user_of, full_of, job_behind, job_with, job_of, same, flag_of, ending_of, weekday_of, date_word_of, day_of, date_with, date_of, second_of, time_of};
+ghost use Rattle.wm_base.specs.Text.{IsText};
+ghost use Rattle.wm_command.specs.Words.{is_digit, push_digit, digits, kept_within, number_of, name_of, is_no_slash, before_slash, behind_slash, simple_of, by_user_of, full_of, job_behind, job_with, job_of, flag_text, flag_of, ending_text, ending_of, weekday_text, date_word, date_word_of, day_of, date_with, date_of, second_of, time_of};
 ghost use Rattle.wm_when.specs.Schedule.{within};
 
 use wm_base::{JobName, JobNumber, Name};
@@ -85,12 +86,6 @@ fn behind_slash(text: &[u8]) -> Option<&[u8]>
     }
 }
 
-fn same(text: &[u8], word: &[u8]) -> bool
-    ensures { result ≡ same text.now word.now }
-{
-    text == word
-}
-
 fn simple_of(name: Option<Name>) -> Option<JobRef>
     ensures { result ≡ simple_of name }
 {
@@ -150,64 +145,97 @@ pub fn job_of(text: &[u8]) -> Option<JobRef>
     }
 }
 
+/// The word of a flag.
+pub fn flag_word(flag: bool) -> &'static str
+    ensures value { result.now ≡ flag_text flag }
+    ensures text { IsText result.now }
+{
+    if flag { "*YES" } else { "*NO" }
+}
+
+const FLAGS: [bool; 2] = [true, false];
+
 pub fn flag_of(text: &[u8]) -> Option<bool>
     ensures { result ≡ flag_of text.now }
 {
-    if same(text, b"*YES") {
-        Some(true)
-    } else if same(text, b"*NO") {
-        Some(false)
-    } else {
-        None
+    FLAGS
+        .iter()
+        .copied()
+        .find(|flag| text == flag_word(*flag).as_bytes())
+}
+
+/// The word of an ending.
+pub fn ending_word(ending: EndOption) -> &'static str
+    ensures value { result.now ≡ ending_text ending }
+    ensures text { IsText result.now }
+{
+    match ending {
+        EndOption::Cntrld => "*CNTRLD",
+        EndOption::Immed => "*IMMED",
     }
 }
+
+const ENDINGS: [EndOption; 2] = [EndOption::Cntrld, EndOption::Immed];
 
 pub fn ending_of(text: &[u8]) -> Option<EndOption>
     ensures { result ≡ ending_of text.now }
 {
-    if same(text, b"*CNTRLD") {
-        Some(EndOption::Cntrld)
-    } else if same(text, b"*IMMED") {
-        Some(EndOption::Immed)
-    } else {
-        None
+    ENDINGS
+        .iter()
+        .copied()
+        .find(|ending| text == ending_word(*ending).as_bytes())
+}
+
+// Monday is 1.
+fn weekday_word(day: u8) -> &'static str
+    ensures value { result.now ≡ weekday_text day }
+    ensures text { IsText result.now }
+{
+    match day {
+        1 => "*MON",
+        2 => "*TUE",
+        3 => "*WED",
+        4 => "*THU",
+        5 => "*FRI",
+        6 => "*SAT",
+        _ => "*SUN",
     }
 }
 
-fn weekday_of(text: &[u8]) -> Option<DateSpec>
-    ensures { result ≡ weekday_of text.now }
+/// The word of a date, or nothing for a day.
+pub fn date_word(date: DateSpec) -> &'static str
+    ensures value { result.now ≡ date_word date }
+    ensures text { IsText result.now }
 {
-    if same(text, b"*MON") {
-        Some(DateSpec::Weekday(1))
-    } else if same(text, b"*TUE") {
-        Some(DateSpec::Weekday(2))
-    } else if same(text, b"*WED") {
-        Some(DateSpec::Weekday(3))
-    } else if same(text, b"*THU") {
-        Some(DateSpec::Weekday(4))
-    } else if same(text, b"*FRI") {
-        Some(DateSpec::Weekday(5))
-    } else if same(text, b"*SAT") {
-        Some(DateSpec::Weekday(6))
-    } else if same(text, b"*SUN") {
-        Some(DateSpec::Weekday(7))
-    } else {
-        None
+    match date {
+        DateSpec::Current => "*CURRENT",
+        DateSpec::MonthStart => "*MONTHSTR",
+        DateSpec::MonthEnd => "*MONTHEND",
+        DateSpec::Weekday(day) => weekday_word(day),
+        DateSpec::Day(_) => "",
     }
 }
+
+const DATES: [DateSpec; 10] = [
+    DateSpec::Current,
+    DateSpec::MonthStart,
+    DateSpec::MonthEnd,
+    DateSpec::Weekday(1),
+    DateSpec::Weekday(2),
+    DateSpec::Weekday(3),
+    DateSpec::Weekday(4),
+    DateSpec::Weekday(5),
+    DateSpec::Weekday(6),
+    DateSpec::Weekday(7),
+];
 
 fn date_word_of(text: &[u8]) -> Option<DateSpec>
     ensures { result ≡ date_word_of text.now }
 {
-    if same(text, b"*CURRENT") {
-        Some(DateSpec::Current)
-    } else if same(text, b"*MONTHSTR") {
-        Some(DateSpec::MonthStart)
-    } else if same(text, b"*MONTHEND") {
-        Some(DateSpec::MonthEnd)
-    } else {
-        weekday_of(text)
-    }
+    DATES
+        .iter()
+        .copied()
+        .find(|date| text == date_word(*date).as_bytes())
 }
 
 fn day_of(n: Option<u32>) -> Option<DateSpec>
@@ -251,7 +279,7 @@ fn second_of(n: Option<u32>) -> Option<TimeSpec>
 pub fn time_of(is_word: bool, text: &[u8]) -> Option<TimeSpec>
     ensures { result ≡ time_of is_word text.now }
 {
-    if is_word && same(text, b"*CURRENT") {
+    if is_word && text == b"*CURRENT".as_slice() {
         Some(TimeSpec::Current)
     } else {
         second_of(number_of(6, 6, 0, 999_999, text))
