@@ -1,5 +1,5 @@
 -- The values that are shown of a command make that command again.
-use Rattle.std.proofs.Common.{◌≡◌, ℕ, Bool, cond, List, [], ◌∷◌, length, Option, Some, None, Ok, slice_index_or, IsTrue, refl, ap, arith}
+use Rattle.std.proofs.Common.{◌≡◌, ℕ, Bool, cond, List, [], ◌∷◌, length, Option, Some, None, Ok, slice_index_or, IsTrue, refl, ◌∙◌, ap, arith}
 use Rattle.wm_base.specs.declared.limit.Limit.{Limit}
 use Rattle.wm_base.specs.declared.limit.Limit.TheVariants.{NoMax, Most}
 use Rattle.wm_base.specs.declared.qname.QName.{QName}
@@ -33,22 +33,22 @@ limit_back : (l : Limit) → limit_or (Some (limit_value l)) ≡ l
 limit_back NoMax = refl
 limit_back (Most n) = refl
 
+-- a list of nine is what stands at its nine places
+pub nine_are : (l : List Limit) → length l ≡ 9
+    → slice_index_or l 0 NoMax ∷ slice_index_or l 1 NoMax ∷ slice_index_or l 2 NoMax ∷ slice_index_or l 3 NoMax ∷ slice_index_or l 4 NoMax ∷ slice_index_or l 5 NoMax
+    ∷ slice_index_or l 6 NoMax ∷ slice_index_or l 7 NoMax ∷ slice_index_or l 8 NoMax ∷ [] ≡ l
+nine_are (a ∷ b ∷ c ∷ d ∷ e ∷ f ∷ g ∷ x ∷ y ∷ []) h = refl
+nine_are l h = absurd (omega arith)
+
 nine_back : (l : List Limit) → length l ≡ 9
     → limit_or (Some (limit_value (slice_index_or l 0 NoMax))) ∷ limit_or (Some (limit_value (slice_index_or l 1 NoMax))) ∷ limit_or (Some (limit_value (slice_index_or l 2 NoMax)))
     ∷ limit_or (Some (limit_value (slice_index_or l 3 NoMax))) ∷ limit_or (Some (limit_value (slice_index_or l 4 NoMax))) ∷ limit_or (Some (limit_value (slice_index_or l 5 NoMax)))
     ∷ limit_or (Some (limit_value (slice_index_or l 6 NoMax))) ∷ limit_or (Some (limit_value (slice_index_or l 7 NoMax))) ∷ limit_or (Some (limit_value (slice_index_or l 8 NoMax))) ∷ [] ≡ l
-nine_back [] h = absurd (omega arith)
-nine_back (a ∷ []) h = absurd (omega arith)
-nine_back (a ∷ b ∷ []) h = absurd (omega arith)
-nine_back (a ∷ b ∷ c ∷ []) h = absurd (omega arith)
-nine_back (a ∷ b ∷ c ∷ d ∷ []) h = absurd (omega arith)
-nine_back (a ∷ b ∷ c ∷ d ∷ e ∷ []) h = absurd (omega arith)
-nine_back (a ∷ b ∷ c ∷ d ∷ e ∷ f ∷ []) h = absurd (omega arith)
-nine_back (a ∷ b ∷ c ∷ d ∷ e ∷ f ∷ g ∷ []) h = absurd (omega arith)
-nine_back (a ∷ b ∷ c ∷ d ∷ e ∷ f ∷ g ∷ x ∷ []) h = absurd (omega arith)
-nine_back (a ∷ b ∷ c ∷ d ∷ e ∷ f ∷ g ∷ x ∷ y ∷ []) h =
-    λ i. limit_back a i ∷ limit_back b i ∷ limit_back c i ∷ limit_back d i ∷ limit_back e i ∷ limit_back f i ∷ limit_back g i ∷ limit_back x i ∷ limit_back y i ∷ []
-nine_back (a ∷ b ∷ c ∷ d ∷ e ∷ f ∷ g ∷ x ∷ y ∷ z ∷ l) h = absurd (omega arith)
+nine_back l h =
+    (λ i. limit_back (slice_index_or l 0 NoMax) i ∷ limit_back (slice_index_or l 1 NoMax) i ∷ limit_back (slice_index_or l 2 NoMax) i
+    ∷ limit_back (slice_index_or l 3 NoMax) i ∷ limit_back (slice_index_or l 4 NoMax) i ∷ limit_back (slice_index_or l 5 NoMax) i
+    ∷ limit_back (slice_index_or l 6 NoMax) i ∷ limit_back (slice_index_or l 7 NoMax) i ∷ limit_back (slice_index_or l 8 NoMax) i ∷ [])
+    ∙ nine_are l h
 
 priority_back : (n : ℕ) → IsTrue (within 1 9 n) → priority_or n ≡ n
 priority_back n h = ap (λ c. cond c n 5) h

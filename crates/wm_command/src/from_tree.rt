@@ -1,7 +1,7 @@
 // Commands from trees.
 ghost use Rattle.std.specs.Prelude.{◌≡◌, ◌≢◌, IfOk, IfErr, Ok, Err};
 ghost use Rattle.wm_command.specs.Printed.{FitsMachine, KeepsForms, LineHasTexts, LineIsReadBack};
-ghost use Rattle.wm_command.specs.Line.{change_named, read_named, one_request, lacks, own_fault, change_line, read_made, read_line, line_of};
+ghost use Rattle.wm_command.specs.Line.{change_named, read_named, lacks, own_fault, change_line, read_made, read_line, line_of};
 
 use crate::commands::change_made;
 use crate::fault::CmdFault;
@@ -36,21 +36,16 @@ fn read_named(name: &Name) -> Option<ReadVerb>
         .find(|verb| read_word(*verb).as_bytes() == name.as_bytes())
 }
 
-fn one_request(no_cmd: bool, no_rqsdta: bool) -> Option<CmdFault>
-    ensures { result ≡ one_request no_cmd no_rqsdta }
-{
-    match (no_cmd, no_rqsdta) {
-        (true, true) => Some(CmdFault::Missing(Key::Cmd)),
-        (false, false) => Some(CmdFault::Conflict(Key::Cmd, Key::Rqsdta)),
-        _ => None,
-    }
-}
-
+// SBMJOB has a request, and not two.
 fn own_fault(verb: ChangeVerb, values: &Values) -> Option<CmdFault>
     ensures { result ≡ own_fault verb values.now }
 {
-    match verb {
-        ChangeVerb::Sbmjob => one_request(values.lacks(Key::Cmd), values.lacks(Key::Rqsdta)),
+    if verb != ChangeVerb::Sbmjob {
+        return None;
+    }
+    match (values.lacks(Key::Cmd), values.lacks(Key::Rqsdta)) {
+        (true, true) => Some(CmdFault::Missing(Key::Cmd)),
+        (false, false) => Some(CmdFault::Conflict(Key::Cmd, Key::Rqsdta)),
         _ => None,
     }
 }

@@ -5,9 +5,10 @@
 //! table's forms and ranges, so that its canonical text is read as the same command.
 //!
 //! The definitions are in `specs/`: `Table` (what each command's keys take), `Words` (what texts say), `Values` and `Call`
-//! (what the values behind a key are read as), `Reading` (what items give keys), `Fields` and `Made` (commands of values),
-//! `Line` (what a tree is), `Shown` and `Print` (what a command is as text), `Printed` (that this text is read as the
-//! command again).
+//! (what the values behind a key are read as), `Reading` (what items give keys), `Fields` (values and what a command's fields
+//! hold), `Objects`, `Entries`, `Jobs` and `Control` (each command of its values, and its values again), with `Made` and
+//! `Shown` over all of them, `Line` (what a tree is), `Print` (what a command is as text), `Printed` (that this text is read
+//! as the command again).
 #![tactic(auto)]
 
 mod call;

@@ -34,23 +34,17 @@ fn digits(text: &[u8]) -> Option<u32>
     text.iter().fold(Some(0), |n, byte| push_digit(n, *byte))
 }
 
-fn kept_within(low: u32, high: u32, n: Option<u32>) -> Option<u32>
-    ensures { result ≡ kept_within low high n }
-{
-    let n = n?;
-    if low <= n && n <= high { Some(n) } else { None }
-}
-
 /// A number of `fewest` to `most` digits, from `low` to `high`.
 #[tactic(auto, unfolding(crate::specs::Words::number_of))]
 pub fn number_of(fewest: usize, most: usize, low: u32, high: u32, text: &[u8]) -> Option<u32>
-    ensures { result ≡ number_of fewest most low high text.now }
+    ensures value { result ≡ number_of fewest most low high text.now }
+    ensures range { IfSome result (λ n. IsTrue (within low high n)) }
 {
-    if within(fewest, most, text.len()) {
-        kept_within(low, high, digits(text))
-    } else {
-        None
+    if !within(fewest, most, text.len()) {
+        return None;
     }
+    let n = digits(text)?;
+    if low <= n && n <= high { Some(n) } else { None }
 }
 
 pub fn name_of(text: &[u8]) -> Option<Name>
@@ -86,51 +80,18 @@ fn behind_slash(text: &[u8]) -> Option<&[u8]>
     }
 }
 
-fn simple_of(name: Option<Name>) -> Option<JobRef>
-    ensures { result ≡ simple_of name }
-{
-    let name = name?;
-    Some(JobRef::Simple(name))
-}
-
-fn by_user_of(user: Option<Name>, name: Option<Name>) -> Option<JobRef>
-    ensures { result ≡ by_user_of user name }
-{
-    let user = user?;
-    let name = name?;
-    Some(JobRef::ByUser(user, name))
-}
-
-fn full_of(number: Option<u32>, user: Option<Name>, name: Option<Name>) -> Option<JobRef>
-    requires { IfSome number (λ n. IsTrue (within 1 999999 n)) }
-    ensures { result ≡ full_of number user name }
-{
-    let number = JobNumber::new(number?);
-    let user = user?;
-    let name = name?;
-    Some(JobRef::Full(JobName { number, user, name }))
-}
-
-// A job's number: 1 to 6 digits, not zero.
-#[tactic(auto, unfolding(crate::specs::Words::number_of))]
-fn job_number_of(text: &[u8]) -> Option<u32>
-    ensures value { result ≡ number_of 1 6 1 999999 text.now }
-    ensures range { IfSome result (λ n. IsTrue (within 1 999999 n)) }
-{
-    if within(1, 6, text.len()) {
-        kept_within(1, 999_999, digits(text))
-    } else {
-        None
-    }
-}
-
 fn job_behind(first: &[u8], second: &[u8], third: Option<&[u8]>) -> Option<JobRef>
     ensures { result ≡ job_behind first.now second.now (option_copied third.entry) }
 {
-    match third {
-        None => by_user_of(name_of(first), name_of(second)),
-        Some(third) => full_of(job_number_of(first), name_of(second), name_of(third)),
-    }
+    let Some(third) = third else {
+        let user = name_of(first)?;
+        let name = name_of(second)?;
+        return Some(JobRef::ByUser(user, name));
+    };
+    let number = JobNumber::new(number_of(1, 6, 1, 999_999, first)?);
+    let user = name_of(second)?;
+    let name = name_of(third)?;
+    Some(JobRef::Full(JobName { number, user, name }))
 }
 
 /// `NAME`, `USER/NAME` or `NUMBER/USER/NAME`, the number of 1 to 6 digits.
@@ -140,7 +101,7 @@ pub fn job_of(text: &[u8]) -> Option<JobRef>
 {
     let first = before_slash(text);
     match behind_slash(text) {
-        None => simple_of(name_of(first)),
+        None => name_of(first).map(JobRef::Simple),
         Some(rest) => job_behind(first, before_slash(rest), behind_slash(rest)),
     }
 }
@@ -238,17 +199,6 @@ fn date_word_of(text: &[u8]) -> Option<DateSpec>
         .find(|date| text == date_word(*date).as_bytes())
 }
 
-fn day_of(n: Option<u32>) -> Option<DateSpec>
-    ensures { result ≡ day_of n }
-{
-    let n = n?;
-    if is_date(n) {
-        Some(DateSpec::Day(n))
-    } else {
-        None
-    }
-}
-
 /// A special word, but not in apostrophes, or `yyyymmdd`.
 #[tactic(auto, unfolding(crate::specs::Words::date_of))]
 pub fn date_of(is_word: bool, text: &[u8]) -> Option<DateSpec>
@@ -256,21 +206,14 @@ pub fn date_of(is_word: bool, text: &[u8]) -> Option<DateSpec>
 {
     match date_word_of(text) {
         Some(spec) => { if is_word { Some(spec) } else { None } }
-        None => day_of(number_of(8, 8, 0, 99_999_999, text)),
-    }
-}
-
-fn second_of(n: Option<u32>) -> Option<TimeSpec>
-    ensures { result ≡ second_of n }
-{
-    let n = n?;
-    let hour = n / 10_000;
-    let minute = n / 100 % 100;
-    let second = n % 100;
-    if hour < 24 && minute < 60 && second < 60 {
-        Some(TimeSpec::At(hour * 3600 + minute * 60 + second))
-    } else {
-        None
+        None => {
+            let n = number_of(8, 8, 0, 99_999_999, text)?;
+            if is_date(n) {
+                Some(DateSpec::Day(n))
+            } else {
+                None
+            }
+        }
     }
 }
 
@@ -280,8 +223,15 @@ pub fn time_of(is_word: bool, text: &[u8]) -> Option<TimeSpec>
     ensures { result ≡ time_of is_word text.now }
 {
     if is_word && text == b"*CURRENT".as_slice() {
-        Some(TimeSpec::Current)
+        return Some(TimeSpec::Current);
+    }
+    let n = number_of(6, 6, 0, 999_999, text)?;
+    let hour = n / 10_000;
+    let minute = n / 100 % 100;
+    let second = n % 100;
+    if hour < 24 && minute < 60 && second < 60 {
+        Some(TimeSpec::At(hour * 3600 + minute * 60 + second))
     } else {
-        second_of(number_of(6, 6, 0, 999_999, text))
+        None
     }
 }
