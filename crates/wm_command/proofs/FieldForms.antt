@@ -204,17 +204,17 @@ shown_of [] g = []
 shown_of (row ∷ rows) g = with_key row.key (shown_value row.key row.kind row.special (sbsd_of g) (value_of row.key g)) ∷ shown_of rows g
 
 -- the texts that are shown are printable
-abbrev pub And : Kind → Value → Type 0 → Type 0
-And (kind.Text low high) v rest = IsPrintable v × rest
-And kind.Path v rest = IsPrintable v × rest
-And kind.Compare v rest = IsPrintable v × rest
-And kd v rest = rest
+abbrev pub WithText : Kind → Value → Type 0 → Type 0
+WithText (kind.Text low high) v rest = IsPrintable v × rest
+WithText kind.Path v rest = IsPrintable v × rest
+WithText kind.Compare v rest = IsPrintable v × rest
+WithText kd v rest = rest
 
 abbrev pub TextsOf : List Row → List Given → Type 0
 TextsOf [] g = Unit {0}
-TextsOf (row ∷ rows) g = And row.kind (shown_value row.key row.kind row.special (sbsd_of g) (value_of row.key g)) (TextsOf rows g)
+TextsOf (row ∷ rows) g = WithText row.kind (shown_value row.key row.kind row.special (sbsd_of g) (value_of row.key g)) (TextsOf rows g)
 
-both_texts : (kd : Kind) (v : Value) (Rest : Type 0) → And kd v Rest → PrintableOf kd v × Rest
+both_texts : (kd : Kind) (v : Value) (Rest : Type 0) → WithText kd v Rest → PrintableOf kd v × Rest
 both_texts (kind.Text low high) v Rest h = h
 both_texts kind.Path v Rest h = h
 both_texts kind.Compare v Rest h = h

@@ -44,7 +44,7 @@ use Rattle.wm_command.specs.Written.{place_of, key_of, listed}
 use Rattle.wm_command.proofs.Back.{shown_back}
 use Rattle.wm_command.proofs.Lengths.{rows_room, given_short}
 use Rattle.wm_command.proofs.PrintValues.{given_tokens, bare_text, prints_bare, prints_given}
-use Rattle.wm_command.proofs.TableForms.{by_key, same_rows, false_of}
+use Rattle.wm_command.proofs.TableForms.{row_by_key, same_rows, false_of}
 use Rattle.wm_command.proofs.ReadValues.{value_tokens, is_sound, value_read, special_back}
 
 -- what holds of each printed row of a table, behind keys that are given already
@@ -62,12 +62,12 @@ abbrev is_ready : List Key → List Row → Bool
 is_ready keys [] = true
 is_ready keys (row ∷ rest) = not (key_among row.key keys) && is_sound row.kind row.special && is_ready (keys ++ row.key ∷ []) rest
 
-ready : (rows : List Row) (keys : List Key) (rest : List Row) → map (by_key rows) rest ≡ map Some rest → is_ready keys rest ≡ true → Ready rows keys rest
+ready : (rows : List Row) (keys : List Key) (rest : List Row) → map (row_by_key rows) rest ≡ map Some rest → is_ready keys rest ≡ true → Ready rows keys rest
 ready rows keys [] e h = tt
 ready rows keys (row ∷ rest) e h =
     let both = and_parts (not (key_among row.key keys) && is_sound row.kind row.special) (is_ready (keys ++ row.key ∷ []) rest) h in
     let own = and_parts (not (key_among row.key keys)) (is_sound row.kind row.special) both.0 in
-    let found = same_rows (by_key rows row) (Some row) (map (by_key rows) rest) (map Some rest) e in
+    let found = same_rows (row_by_key rows row) (Some row) (map (row_by_key rows) rest) (map Some rest) e in
     (found.0, false_of (key_among row.key keys) own.0, own.1, ready rows (keys ++ row.key ∷ []) rest found.1 both.1)
 
 abbrev IsSome : List Row → Type 0

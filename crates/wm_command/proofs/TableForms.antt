@@ -86,19 +86,19 @@ abbrev pub RightRows : List Row → List Row → Type 0
 RightRows rows [] = Unit {0}
 RightRows rows (row ∷ rest) = (row_named (key_word row.key) rows ≡ Some row) × (is_right_drop row.kind row.otherwise ≡ true) × (is_right_default row.otherwise row.kind row.special ≡ true) × RightRows rows rest
 
-abbrev pub by_key : List Row → Row → Option Row
-by_key rows row = row_named (key_word row.key) rows
+abbrev pub row_by_key : List Row → Row → Option Row
+row_by_key rows row = row_named (key_word row.key) rows
 
 pub same_rows : (a b : Option Row) (x y : List (Option Row)) → ◌≡◌ {A = List (Option Row)} (a ∷ x) (b ∷ y) → (a ≡ b) × (x ≡ y)
 same_rows a b x y e = (cc, cc)
 
 -- both are tests of the whole table
-pub right_rows : (rows rest : List Row) → map (by_key rows) rest ≡ map Some rest → list_all is_right rest ≡ true → RightRows rows rest
+pub right_rows : (rows rest : List Row) → map (row_by_key rows) rest ≡ map Some rest → list_all is_right rest ≡ true → RightRows rows rest
 right_rows rows [] e h = tt
 right_rows rows (row ∷ rest) e h =
     let both = and_parts (is_right row) (list_all is_right rest) h in
     let own = and_parts (is_right_drop row.kind row.otherwise) (is_right_default row.otherwise row.kind row.special) both.0 in
-    let found = same_rows (by_key rows row) (Some row) (map (by_key rows) rest) (map Some rest) e in
+    let found = same_rows (row_by_key rows row) (Some row) (map (row_by_key rows) rest) (map Some rest) e in
     (found.0, own.0, own.1, right_rows rows rest found.1 both.1)
 
 -- answers that are good

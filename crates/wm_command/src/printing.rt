@@ -4,14 +4,13 @@ ghost use Rattle.std.specs.List.{flat_map};
 ghost use Rattle.std.specs.Fmt.{decimal};
 ghost use Rattle.wm_base.specs.Number.{zero_padded};
 ghost use Rattle.wm_base.specs.Text.{IsText};
-ghost use Rattle.wm_law.specs.declared.command.JobRef.{JobRef};
-ghost use Rattle.wm_command.specs.Print.{job_text, cmp_text, date_text, second_text, time_text, value_text, given_text, command_text};
+ghost use Rattle.wm_command.specs.Print.{job_text, cmp_text, date_text, time_text, value_text, given_text, command_text};
 
 use crate::commands::{command_word, values_of};
 use crate::value::{Given, Value};
 use crate::words::{date_word, ending_word, flag_word};
 use std::alloc::Global;
-use wm_base::{JobName, Name, NoMemory, Text};
+use wm_base::{Name, NoMemory, Text};
 use wm_clwords::{push_qname, push_quoted};
 use wm_desc::Cmp;
 use wm_law::{Command, JobRef};
@@ -69,17 +68,6 @@ fn push_six(alloc: Global, out: &mut Text, n: u32) -> Result<(), NoMemory>
     Ok(())
 }
 
-fn push_full(alloc: Global, out: &mut Text, job: &JobName) -> Result<(), NoMemory>
-    ensures { OnOk result (out.new ≡ out.old ++ job_text (JobRef.Full job.now)) }
-{
-    push_six(alloc, out, job.number.get())?;
-    out.push_bytes(b"/")?;
-    push_name(out, &job.user)?;
-    out.push_bytes(b"/")?;
-    push_name(out, &job.name)?;
-    Ok(())
-}
-
 fn push_job(alloc: Global, out: &mut Text, job: &JobRef) -> Result<(), NoMemory>
     ensures { OnOk result (out.new ≡ out.old ++ job_text job.now) }
 {
@@ -95,7 +83,11 @@ fn push_job(alloc: Global, out: &mut Text, job: &JobRef) -> Result<(), NoMemory>
             Ok(())
         }
         JobRef::Full(job) => {
-            push_full(alloc, out, job)?;
+            push_six(alloc, out, job.number.get())?;
+            out.push_bytes(b"/")?;
+            push_name(out, &job.user)?;
+            out.push_bytes(b"/")?;
+            push_name(out, &job.name)?;
             Ok(())
         }
     }
@@ -133,15 +125,6 @@ fn push_date(alloc: Global, out: &mut Text, date: &DateSpec) -> Result<(), NoMem
     }
 }
 
-fn push_second(alloc: Global, out: &mut Text, n: u32) -> Result<(), NoMemory>
-    ensures { OnOk result (out.new ≡ out.old ++ second_text n) }
-{
-    push_two(alloc, out, n / 3600)?;
-    push_two(alloc, out, n / 60 % 60)?;
-    push_two(alloc, out, n % 60)?;
-    Ok(())
-}
-
 fn push_time(alloc: Global, out: &mut Text, time: &TimeSpec) -> Result<(), NoMemory>
     ensures { OnOk result (out.new ≡ out.old ++ time_text time.now) }
 {
@@ -151,7 +134,9 @@ fn push_time(alloc: Global, out: &mut Text, time: &TimeSpec) -> Result<(), NoMem
             Ok(())
         }
         TimeSpec::At(n) => {
-            push_second(alloc, out, *n)?;
+            push_two(alloc, out, *n / 3600)?;
+            push_two(alloc, out, *n / 60 % 60)?;
+            push_two(alloc, out, *n % 60)?;
             Ok(())
         }
     }
