@@ -1,6 +1,6 @@
 // What table.txt asks:
 //
-// > table    the command table as docs/FORMATS.md has it
+// > table    the command table, which .ci/run compares with docs/FORMATS.md
 use anyhow::{Result, ensure};
 use wm_cases::Subject;
 use wm_command::{
