@@ -24,7 +24,6 @@ use Rattle.wm_command.specs.Control.{endsbs, strpj, endpj, evoke, pwrdwnsys, end
 use Rattle.wm_command.specs.Jobs.{sbmjob, chgjob, endjob, sbmjob_values, chgjob_values, endjob_values}
 use Rattle.wm_command.specs.Printed.{FitsRow, IsFit, completed, ShownValuesMakeTheCommand}
 use Rattle.wm_command.specs.Reading.{complete, same_key}
-use Rattle.wm_command.specs.Shown.{values_of}
 use Rattle.wm_command.specs.Table.{or_word, change_rows}
 
 -- each kind of field
