@@ -1,4 +1,5 @@
--- The commands that control subsystems, queues and prestart jobs, as made of their keys' values, and the values of each in the order of the table.
+-- The commands that control subsystems, queues and prestart jobs: each made of its keys' values,
+-- and its values in the order of the table.
 use Rattle.std.specs.Prelude.{List, [], ◌∷◌}
 use Rattle.wm_base.specs.declared.refusal.Key.TheVariants as key
 use Rattle.wm_law.specs.declared.command.Endsbs.{Endsbs}

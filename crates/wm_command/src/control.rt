@@ -1,4 +1,5 @@
-// The commands that control subsystems, queues and prestart jobs, as made of their keys' values, and the values of each in the order of the table.
+// The commands that control subsystems, queues and prestart jobs: each made of its keys' values,
+// and its values in the order of the table.
 ghost use Rattle.std.specs.Prelude.{◌≡◌, IfOk};
 ghost use Rattle.wm_command.specs.Control.{endsbs, endsbs_values, strpj, strpj_values, endpj, endpj_values, evoke, evoke_values, pwrdwnsys, pwrdwnsys_values};
 

@@ -1,4 +1,5 @@
-// The commands that change subsystem descriptions, as made of their keys' values, and the values of each in the order of the table.
+// The commands that change subsystem descriptions: each made of its keys' values,
+// and its values in the order of the table.
 ghost use Rattle.std.specs.Prelude.{◌≡◌, IfOk};
 ghost use Rattle.wm_command.specs.Entries.{addjobqe, addjobqe_values, addrtge, addrtge_values, addaje, addaje_values, addpje, addpje_values, rmvjobqe, rmvjobqe_values, rmvrtge, rmvrtge_values, rmvaje, rmvaje_values, rmvpje, rmvpje_values};
 

@@ -1,4 +1,4 @@
-// The commands that submit and control jobs, as made of their keys' values, and the values of each in the order of the table.
+// The commands that submit and control jobs: each made of its keys' values, and its values in the order of the table.
 ghost use Rattle.std.specs.Prelude.{◌≡◌, IfOk};
 ghost use Rattle.wm_command.specs.Jobs.{sbmjob, sbmjob_values, chgjob, chgjob_values, endjob, endjob_values};
 

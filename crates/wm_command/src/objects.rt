@@ -1,4 +1,4 @@
-// The commands that make objects, as made of their keys' values, and the values of each in the order of the table.
+// The commands that make objects: each made of its keys' values, and its values in the order of the table.
 ghost use Rattle.std.specs.Prelude.{◌≡◌, IfOk};
 ghost use Rattle.wm_command.specs.Objects.{crtcls, crtcls_values, crtpgmref, crtpgmref_values, crtjobd, crtjobd_values, crtsbsd, crtsbsd_values};
 
