@@ -1,17 +1,19 @@
--- Each kind of field, of what its key has, keeps the form and the range of its row.
-use Rattle.std.proofs.Common.{◌≡◌, ℕ, true, false, cond, List, length, Option, Some, IfSome, IsTrue, subst, sym, ◌∙◌, ap, refl}
-use Rattle.std.proofs.lemmas.Bool.{false≢true}
-use Rattle.wm_base.specs.Name.{IsName}
+-- What is shown of a row's key, made of what the key has, keeps the form and the range of the row.
+use Rattle.std.proofs.Common.{◌≡◌, ℕ, ◌&&◌, ◌||◌, Bool, true, false, not, cond, nat_le, List, [], ◌∷◌, Option, Some, None, IfSome, subst, sym, ◌∙◌, ap, refl, arith}
+use Rattle.std.specs.List.{list_all, list_any}
+use Rattle.std.proofs.lemmas.Bool.{and_parts, false≢true}
+use Rattle.std.proofs.lemmas.Bool.Decides.{nat_tests}
 use Rattle.wm_base.specs.Text.{IsText}
 use Rattle.wm_base.specs.declared.qname.QName.{QName}
 use Rattle.wm_base.specs.declared.refusal.Key.{Key}
 use Rattle.wm_base.specs.declared.refusal.Key.TheVariants as key
-use Rattle.wm_desc.specs.Ranges.{path_in_range, cmp_in_range}
+use Rattle.wm_desc.specs.Ranges.{cmp_in_range}
 use Rattle.wm_desc.specs.declared.entry.Cmp.{Cmp}
 use Rattle.wm_desc.specs.declared.entry.Cmp.TheVariants.{Any, Val}
-use Rattle.wm_when.specs.Schedule.{within, date_in_range, time_in_range}
+use Rattle.wm_when.specs.Schedule.{within}
 use Rattle.wm_command.specs.declared.row.Default.{Default}
 use Rattle.wm_command.specs.declared.row.Default.TheVariants as default
+use Rattle.wm_command.specs.declared.row.Kind.{Kind}
 use Rattle.wm_command.specs.declared.row.Kind.TheVariants as kind
 use Rattle.wm_command.specs.declared.row.Row.{Row}
 use Rattle.wm_command.specs.declared.row.Special.{Special}
@@ -19,246 +21,264 @@ use Rattle.wm_command.specs.declared.row.Special.TheVariants as special
 use Rattle.wm_command.specs.declared.value.Value.{Value}
 use Rattle.wm_command.specs.declared.value.Value.TheVariants as value
 use Rattle.wm_command.specs.declared.value.Given.{Given}
-use Rattle.wm_command.specs.Fields.{object_or, name_or, text_or, number_or, limit_or, flag_or, job_or, compare_or, date_or, time_or, priority_or, is_word_value, maybe, request_or, value_of}
-use Rattle.wm_command.specs.Printed.{IsQualified, FitsJob, FitsCompare, FitsRow, HasText}
-use Rattle.wm_command.specs.Shown.{limit_value, or_special}
+use Rattle.wm_command.specs.Fields.{object_or, name_or, text_or, number_or, limit_or, flag_or, ending_or, job_or, compare_or, date_or, time_or, priority_or, is_word_value, maybe, request_or, value_of, with_key, limit_value, or_special}
+use Rattle.wm_command.specs.Printed.{IsQualified, FitsCompare, FitsRow, FitRows, HasText, is_shown, shown_rows}
 use Rattle.wm_command.specs.Table.{plain, or_word}
 use Rattle.wm_command.specs.Values.{is_never}
-use Rattle.wm_command.proofs.ReadForms.{InRow, MayLack}
-use Rattle.wm_command.proofs.TableForms.{Has}
+use Rattle.wm_command.proofs.ReadForms.{InKind, InRow, may_lack, row_of}
+use Rattle.wm_command.proofs.TableForms.{Has, AllHave, false_of}
 
-pub lift : (P : Option Value → Type 0) (row : Row) (g : List Given) → ((v : Value) → InRow row v → P (Some v)) → Has row g → P (value_of row.0 g)
-lift P row g f h = subst P (sym h.1) (f h.0 h.2)
+-- a priority's number is from 1 to 9, and any other is as it was given
+abbrev pub number_by : Key → ℕ → ℕ
+number_by key.Jobpty n = priority_or n
+number_by k n = n
 
-pub no_word : (s : Special) → (s ≡ special.Never) × (is_never s ≡ false) → ⊥
+abbrev pub is_right_priority : Key → Kind → Bool
+is_right_priority key.Jobpty (kind.Number low high) = nat_le 1 low && nat_le high 9
+is_right_priority k kd = true
+
+-- what is shown of a key that has a value, and of one that may have its row's special word
+abbrev pub plain_value : Key → Kind → Option Value → Value
+plain_value k kind.Object o = value.Object (object_or o)
+plain_value k kind.Program o = value.Object (object_or o)
+plain_value k kind.Name o = value.Name (name_or o)
+plain_value k (kind.Text low high) o = value.Text (text_or o)
+plain_value k kind.Path o = value.Text (text_or o)
+plain_value k (kind.Number low high) o = value.Number (number_by k (number_or o))
+plain_value k kind.Flag o = value.Flag (flag_or o)
+plain_value k kind.Ending o = value.Ending (ending_or o)
+plain_value k kind.Job o = value.Job (job_or o)
+plain_value k kind.Compare o = value.Compare (compare_or o)
+plain_value k kind.Date o = value.Date (date_or o)
+plain_value k kind.Time o = value.Time (time_or o)
+plain_value k kind.Call o = value.Nothing
+plain_value k kind.Anything o = value.Nothing
+
+abbrev pub word_value : Key → Kind → Special → Option Value → Value
+word_value k kind.Object s o = or_special s value.Object (maybe (is_word_value o) (object_or o))
+word_value k kind.Program s o = or_special s value.Object (maybe (is_word_value o) (object_or o))
+word_value k kind.Name s o = or_special s value.Name (maybe (is_word_value o) (name_or o))
+word_value k (kind.Text low high) s o = or_special s value.Text (maybe (is_word_value o) (text_or o))
+word_value k kind.Path s o = or_special s value.Text (maybe (is_word_value o) (text_or o))
+word_value k (kind.Number low high) s o = or_special s value.Number (maybe (is_word_value o) (number_by k (number_or o)))
+word_value k kind.Flag s o = or_special s value.Flag (maybe (is_word_value o) (flag_or o))
+word_value k kind.Ending s o = or_special s value.Ending (maybe (is_word_value o) (ending_or o))
+word_value k kind.Job s o = or_special s value.Job (maybe (is_word_value o) (job_or o))
+word_value k kind.Compare s o = or_special s value.Compare (maybe (is_word_value o) (compare_or o))
+word_value k kind.Date s o = or_special s value.Date (maybe (is_word_value o) (date_or o))
+word_value k kind.Time s o = or_special s value.Time (maybe (is_word_value o) (time_or o))
+word_value k kind.Call s o = value.Nothing
+word_value k kind.Anything s o = value.Nothing
+
+-- *NOMAX is a limit, and *SBSD the class with the description's name
+abbrev pub shown_value : Key → Kind → Special → QName → Option Value → Value
+shown_value k kd special.Never sbsd o = plain_value k kd o
+shown_value k (kind.Number low high) special.Nomax sbsd o = limit_value (limit_or o)
+shown_value k kind.Object special.Sbsd sbsd o = value.Object (cond (is_word_value o) sbsd (object_or o))
+shown_value k kd s sbsd o = word_value k kd s o
+
+-- what is asked of a text beside its range
+abbrev pub IsPrintable : Value → Type 0
+IsPrintable (value.Text t) = IsText t
+IsPrintable (value.Compare c) = HasText c
+IsPrintable v = Unit {0}
+
+abbrev PrintableOf : Kind → Value → Type 0
+PrintableOf (kind.Text low high) v = IsPrintable v
+PrintableOf kind.Path v = IsPrintable v
+PrintableOf kind.Compare v = IsPrintable v
+PrintableOf kd v = Unit {0}
+
+-- each kind of value
+
+no_word : (s : Special) → (s ≡ special.Never) × (is_never s ≡ false) → ⊥
 no_word s h = false≢true (sym (subst (λ (x : Special). is_never x ≡ false) h.0 h.1))
 
-pub own_word : (s t : Special) → (t ≡ s) × (is_never t ≡ false) → (s ≡ s) × (is_never s ≡ false)
+own_word : (s t : Special) → (t ≡ s) × (is_never t ≡ false) → (s ≡ s) × (is_never s ≡ false)
 own_word s t h = (refl, subst (λ (x : Special). is_never x ≡ false) h.0 h.1)
 
-pub object_plain_by : (k : Key) (d : Default) (v : Value) → (MayLack d → ⊥) → InRow (plain k kind.Object d) v → IsQualified (object_or (Some v))
-object_plain_by k d (value.Special s) firm h = absurd (no_word s h)
-object_plain_by k d value.Nothing firm h = absurd (firm h)
-object_plain_by k d (value.Object q) firm h = h
-object_plain_by k d v firm h = absurd h
+priority_is : (low high n : ℕ) → (nat_le 1 low && nat_le high 9) ≡ true → within low high n ≡ true → within 1 9 n ≡ true
+priority_is low high n right h = grind (arith, nat_tests)
 
-pub object_plain : (k : Key) (d : Default) (g : List Given) → (MayLack d → ⊥) → Has (plain k kind.Object d) g → IsQualified (object_or (value_of k g))
-object_plain k d g firm h = lift (λ o. IsQualified (object_or o)) (plain k kind.Object d) g (λ v i. object_plain_by k d v firm i) h
+number_is : (k : Key) (low high n : ℕ) → is_right_priority k (kind.Number low high) ≡ true → within low high n ≡ true → number_by k n ≡ n
+number_is key.Jobpty low high n right h = ap (λ c. cond c n 5) (priority_is low high n right h)
+number_is k low high n right h = refl
 
-pub program_plain_by : (k : Key) (d : Default) (v : Value) → (MayLack d → ⊥) → InRow (plain k kind.Program d) v → IsQualified (object_or (Some v))
-program_plain_by k d (value.Special s) firm h = absurd (no_word s h)
-program_plain_by k d value.Nothing firm h = absurd (firm h)
-program_plain_by k d (value.Object q) firm h = h
-program_plain_by k d v firm h = absurd h
-
-pub program_plain : (k : Key) (d : Default) (g : List Given) → (MayLack d → ⊥) → Has (plain k kind.Program d) g → IsQualified (object_or (value_of k g))
-program_plain k d g firm h = lift (λ o. IsQualified (object_or o)) (plain k kind.Program d) g (λ v i. program_plain_by k d v firm i) h
-
-pub name_plain_by : (k : Key) (d : Default) (v : Value) → (MayLack d → ⊥) → InRow (plain k kind.Name d) v → IsName (name_or (Some v))
-name_plain_by k d (value.Special s) firm h = absurd (no_word s h)
-name_plain_by k d value.Nothing firm h = absurd (firm h)
-name_plain_by k d (value.Name n) firm h = h
-name_plain_by k d v firm h = absurd h
-
-pub name_plain : (k : Key) (d : Default) (g : List Given) → (MayLack d → ⊥) → Has (plain k kind.Name d) g → IsName (name_or (value_of k g))
-name_plain k d g firm h = lift (λ o. IsName (name_or o)) (plain k kind.Name d) g (λ v i. name_plain_by k d v firm i) h
-
-pub text_plain_by : (k : Key) (low high : ℕ) (d : Default) (v : Value) → (MayLack d → ⊥) → InRow (plain k (kind.Text low high) d) v → IsTrue (within low high (length (text_or (Some v))))
-text_plain_by k low high d (value.Special s) firm h = absurd (no_word s h)
-text_plain_by k low high d value.Nothing firm h = absurd (firm h)
-text_plain_by k low high d (value.Text t) firm h = h
-text_plain_by k low high d v firm h = absurd h
-
-pub text_plain : (k : Key) (low high : ℕ) (d : Default) (g : List Given) → (MayLack d → ⊥) → Has (plain k (kind.Text low high) d) g → IsTrue (within low high (length (text_or (value_of k g))))
-text_plain k low high d g firm h = lift (λ o. IsTrue (within low high (length (text_or o)))) (plain k (kind.Text low high) d) g (λ v i. text_plain_by k low high d v firm i) h
-
-pub path_plain_by : (k : Key) (d : Default) (v : Value) → (MayLack d → ⊥) → InRow (plain k kind.Path d) v → IsTrue (path_in_range (text_or (Some v)))
-path_plain_by k d (value.Special s) firm h = absurd (no_word s h)
-path_plain_by k d value.Nothing firm h = absurd (firm h)
-path_plain_by k d (value.Text t) firm h = h
-path_plain_by k d v firm h = absurd h
-
-pub path_plain : (k : Key) (d : Default) (g : List Given) → (MayLack d → ⊥) → Has (plain k kind.Path d) g → IsTrue (path_in_range (text_or (value_of k g)))
-path_plain k d g firm h = lift (λ o. IsTrue (path_in_range (text_or o))) (plain k kind.Path d) g (λ v i. path_plain_by k d v firm i) h
-
-pub number_plain_by : (k : Key) (low high : ℕ) (d : Default) (v : Value) → (MayLack d → ⊥) → InRow (plain k (kind.Number low high) d) v → IsTrue (within low high (number_or (Some v)))
-number_plain_by k low high d (value.Special s) firm h = absurd (no_word s h)
-number_plain_by k low high d value.Nothing firm h = absurd (firm h)
-number_plain_by k low high d (value.Number n) firm h = h
-number_plain_by k low high d v firm h = absurd h
-
-pub number_plain : (k : Key) (low high : ℕ) (d : Default) (g : List Given) → (MayLack d → ⊥) → Has (plain k (kind.Number low high) d) g → IsTrue (within low high (number_or (value_of k g)))
-number_plain k low high d g firm h = lift (λ o. IsTrue (within low high (number_or o))) (plain k (kind.Number low high) d) g (λ v i. number_plain_by k low high d v firm i) h
-
-pub priority_is : (n : ℕ) → within 1 9 n ≡ true → within 1 9 (priority_or n) ≡ true
-priority_is n h = ap (λ c. within 1 9 (cond c n 5)) h ∙ h
-
-pub priority_plain_by : (k : Key) (d : Default) (v : Value) → (MayLack d → ⊥) → InRow (plain k (kind.Number 1 9) d) v → IsTrue (within 1 9 (priority_or (number_or (Some v))))
-priority_plain_by k d (value.Special s) firm h = absurd (no_word s h)
-priority_plain_by k d value.Nothing firm h = absurd (firm h)
-priority_plain_by k d (value.Number n) firm h = priority_is n h
-priority_plain_by k d v firm h = absurd h
-
-pub priority_plain : (k : Key) (d : Default) (g : List Given) → (MayLack d → ⊥) → Has (plain k (kind.Number 1 9) d) g → IsTrue (within 1 9 (priority_or (number_or (value_of k g))))
-priority_plain k d g firm h = lift (λ o. IsTrue (within 1 9 (priority_or (number_or o)))) (plain k (kind.Number 1 9) d) g (λ v i. priority_plain_by k d v firm i) h
-
-pub job_plain_by : (k : Key) (d : Default) (v : Value) → (MayLack d → ⊥) → InRow (plain k kind.Job d) v → FitsJob (job_or (Some v))
-job_plain_by k d (value.Special s) firm h = absurd (no_word s h)
-job_plain_by k d value.Nothing firm h = absurd (firm h)
-job_plain_by k d (value.Job j) firm h = h
-job_plain_by k d v firm h = absurd h
-
-pub job_plain : (k : Key) (d : Default) (g : List Given) → (MayLack d → ⊥) → Has (plain k kind.Job d) g → FitsJob (job_or (value_of k g))
-job_plain k d g firm h = lift (λ o. FitsJob (job_or o)) (plain k kind.Job d) g (λ v i. job_plain_by k d v firm i) h
-
-pub date_plain_by : (k : Key) (d : Default) (v : Value) → (MayLack d → ⊥) → InRow (plain k kind.Date d) v → IsTrue (date_in_range (date_or (Some v)))
-date_plain_by k d (value.Special s) firm h = absurd (no_word s h)
-date_plain_by k d value.Nothing firm h = absurd (firm h)
-date_plain_by k d (value.Date a) firm h = h
-date_plain_by k d v firm h = absurd h
-
-pub date_plain : (k : Key) (d : Default) (g : List Given) → (MayLack d → ⊥) → Has (plain k kind.Date d) g → IsTrue (date_in_range (date_or (value_of k g)))
-date_plain k d g firm h = lift (λ o. IsTrue (date_in_range (date_or o))) (plain k kind.Date d) g (λ v i. date_plain_by k d v firm i) h
-
-pub time_plain_by : (k : Key) (d : Default) (v : Value) → (MayLack d → ⊥) → InRow (plain k kind.Time d) v → IsTrue (time_in_range (time_or (Some v)))
-time_plain_by k d (value.Special s) firm h = absurd (no_word s h)
-time_plain_by k d value.Nothing firm h = absurd (firm h)
-time_plain_by k d (value.Time a) firm h = h
-time_plain_by k d v firm h = absurd h
-
-pub time_plain : (k : Key) (d : Default) (g : List Given) → (MayLack d → ⊥) → Has (plain k kind.Time d) g → IsTrue (time_in_range (time_or (value_of k g)))
-time_plain k d g firm h = lift (λ o. IsTrue (time_in_range (time_or o))) (plain k kind.Time d) g (λ v i. time_plain_by k d v firm i) h
-
-pub compare_fits : (c : Cmp) → HasText c → cmp_in_range c ≡ true → FitsCompare c
+compare_fits : (c : Cmp) → HasText c → cmp_in_range c ≡ true → FitsCompare c
 compare_fits Any t h = tt
 compare_fits (Val text start) t h = (t, h)
 
-pub compare_range_by : (k : Key) (d : Default) (v : Value) → (MayLack d → ⊥) → InRow (plain k kind.Compare d) v → IsTrue (cmp_in_range (compare_or (Some v)))
-compare_range_by k d (value.Special s) firm h = absurd (no_word s h)
-compare_range_by k d value.Nothing firm h = absurd (firm h)
-compare_range_by k d (value.Compare c) firm h = h
-compare_range_by k d v firm h = absurd h
+plain_fits : (k : Key) (kd : Kind) (s : Special) (d : Default) (v : Value) → is_shown kd ≡ true → is_right_priority k kd ≡ true → PrintableOf kd (plain_value k kd (Some v)) → InKind kd v
+    → FitsRow (row_of k kd s d) (plain_value k kd (Some v))
+plain_fits k kind.Object s d (value.Object q) shown right t h = h
+plain_fits k kind.Program s d (value.Object q) shown right t h = h
+plain_fits k kind.Name s d (value.Name n) shown right t h = h
+plain_fits k (kind.Text low high) s d (value.Text x) shown right t h = (t, h)
+plain_fits k kind.Path s d (value.Text x) shown right t h = (t, h)
+plain_fits k (kind.Number low high) s d (value.Number n) shown right t h = subst (λ (m : ℕ). within low high m ≡ true) (sym (number_is k low high n right h)) h
+plain_fits k kind.Flag s d (value.Flag b) shown right t h = tt
+plain_fits k kind.Ending s d (value.Ending e) shown right t h = tt
+plain_fits k kind.Job s d (value.Job j) shown right t h = h
+plain_fits k kind.Compare s d (value.Compare c) shown right t h = compare_fits c t h
+plain_fits k kind.Date s d (value.Date x) shown right t h = h
+plain_fits k kind.Time s d (value.Time x) shown right t h = h
+plain_fits k kind.Call s d v shown right t h = absurd (false≢true shown)
+plain_fits k kd s d v shown right t h = absurd h
 
-pub compare_range : (k : Key) (d : Default) (g : List Given) → (MayLack d → ⊥) → Has (plain k kind.Compare d) g → IsTrue (cmp_in_range (compare_or (value_of k g)))
-compare_range k d g firm h = lift (λ o. IsTrue (cmp_in_range (compare_or o))) (plain k kind.Compare d) g (λ v i. compare_range_by k d v firm i) h
+-- a value that is no special word is shown as it is where one may stand too
+word_plain : (k : Key) (kd : Kind) (s : Special) (v : Value) → is_word_value (Some v) ≡ false → word_value k kd s (Some v) ≡ plain_value k kd (Some v)
+word_plain k kind.Object s v e = λ i. or_special s value.Object (maybe (e i) (object_or (Some v)))
+word_plain k kind.Program s v e = λ i. or_special s value.Object (maybe (e i) (object_or (Some v)))
+word_plain k kind.Name s v e = λ i. or_special s value.Name (maybe (e i) (name_or (Some v)))
+word_plain k (kind.Text low high) s v e = λ i. or_special s value.Text (maybe (e i) (text_or (Some v)))
+word_plain k kind.Path s v e = λ i. or_special s value.Text (maybe (e i) (text_or (Some v)))
+word_plain k (kind.Number low high) s v e = λ i. or_special s value.Number (maybe (e i) (number_by k (number_or (Some v))))
+word_plain k kind.Flag s v e = λ i. or_special s value.Flag (maybe (e i) (flag_or (Some v)))
+word_plain k kind.Ending s v e = λ i. or_special s value.Ending (maybe (e i) (ending_or (Some v)))
+word_plain k kind.Job s v e = λ i. or_special s value.Job (maybe (e i) (job_or (Some v)))
+word_plain k kind.Compare s v e = λ i. or_special s value.Compare (maybe (e i) (compare_or (Some v)))
+word_plain k kind.Date s v e = λ i. or_special s value.Date (maybe (e i) (date_or (Some v)))
+word_plain k kind.Time s v e = λ i. or_special s value.Time (maybe (e i) (time_or (Some v)))
+word_plain k kd s v e = refl
 
-pub compare_plain : (k : Key) (d : Default) (g : List Given) → (MayLack d → ⊥) → HasText (compare_or (value_of k g)) → Has (plain k kind.Compare d) g → FitsCompare (compare_or (value_of k g))
-compare_plain k d g firm t h = compare_fits (compare_or (value_of k g)) t (compare_range k d g firm h)
+own_shown : (k : Key) (kd : Kind) (s t : Special) → is_shown kd ≡ true → word_value k kd s (Some (value.Special t)) ≡ value.Special s
+own_shown k kind.Call s t shown = absurd (false≢true shown)
+own_shown k kind.Anything s t shown = absurd (false≢true shown)
+own_shown k kd s t shown = refl
 
-pub limit_word_by : (k : Key) (low high : ℕ) (d : Default) (v : Value) → (MayLack d → ⊥) → InRow (or_word k (kind.Number low high) special.Nomax d) v → FitsRow (or_word k (kind.Number low high) special.Nomax d) (limit_value (limit_or (Some v)))
-limit_word_by k low high d (value.Special t) firm h = own_word special.Nomax t h
-limit_word_by k low high d value.Nothing firm h = absurd (firm h)
-limit_word_by k low high d (value.Number n) firm h = h
-limit_word_by k low high d v firm h = absurd h
+-- the special word of a row, and any other value
 
-pub limit_word : (k : Key) (low high : ℕ) (d : Default) (g : List Given) → (MayLack d → ⊥) → Has (or_word k (kind.Number low high) special.Nomax d) g → FitsRow (or_word k (kind.Number low high) special.Nomax d) (limit_value (limit_or (value_of k g)))
-limit_word k low high d g firm h = lift (λ o. FitsRow (or_word k (kind.Number low high) special.Nomax d) (limit_value (limit_or o))) (or_word k (kind.Number low high) special.Nomax d) g (λ v i. limit_word_by k low high d v firm i) h
+word_fits : (k : Key) (kd : Kind) (s : Special) (d : Default) (sbsd : QName) (t : Special) → is_shown kd ≡ true → (s ≡ special.Sbsd → IsQualified sbsd) → (t ≡ s) × (is_never t ≡ false)
+    → FitsRow (row_of k kd s d) (shown_value k kd s sbsd (Some (value.Special t)))
+word_fits k kd special.Never d sbsd t shown q h = absurd (no_word t h)
+word_fits k (kind.Number low high) special.Nomax d sbsd t shown q h = own_word special.Nomax t h
+word_fits k kind.Object special.Sbsd d sbsd t shown q h = q refl
+word_fits k kd s d sbsd t shown q h = subst (FitsRow (row_of k kd s d)) (sym (own_shown k kd s t shown)) (own_word s t h)
 
-pub number_word_by : (k : Key) (low high : ℕ) (s : Special) (d : Default) (v : Value) → (MayLack d → ⊥) → InRow (or_word k (kind.Number low high) s d) v → FitsRow (or_word k (kind.Number low high) s d) (or_special s value.Number (maybe (is_word_value (Some v)) (number_or (Some v))))
-number_word_by k low high s d (value.Special t) firm h = own_word s t h
-number_word_by k low high s d value.Nothing firm h = absurd (firm h)
-number_word_by k low high s d (value.Number n) firm h = h
-number_word_by k low high s d v firm h = absurd h
+kind_fits : (k : Key) (kd : Kind) (s : Special) (d : Default) (sbsd : QName) (v : Value) → is_word_value (Some v) ≡ false → is_shown kd ≡ true → is_right_priority k kd ≡ true
+    → PrintableOf kd (shown_value k kd s sbsd (Some v)) → InKind kd v → FitsRow (row_of k kd s d) (shown_value k kd s sbsd (Some v))
+kind_fits k kd special.Never d sbsd v e shown right t h = plain_fits k kd special.Never d v shown right t h
+kind_fits k (kind.Number low high) special.Nomax d sbsd (value.Number n) e shown right t h = h
+kind_fits k (kind.Number low high) special.Nomax d sbsd v e shown right t h = absurd h
+kind_fits k kind.Object special.Sbsd d sbsd (value.Object q) e shown right t h = h
+kind_fits k kind.Object special.Sbsd d sbsd v e shown right t h = absurd h
+kind_fits k kd s d sbsd v e shown right t h =
+    subst (FitsRow (row_of k kd s d)) (sym (word_plain k kd s v e)) (plain_fits k kd s d v shown right (subst (PrintableOf kd) (word_plain k kd s v e) t) h)
 
-pub number_word : (k : Key) (low high : ℕ) (s : Special) (d : Default) (g : List Given) → (MayLack d → ⊥) → Has (or_word k (kind.Number low high) s d) g → FitsRow (or_word k (kind.Number low high) s d) (or_special s value.Number (maybe (is_word_value (value_of k g)) (number_or (value_of k g))))
-number_word k low high s d g firm h = lift (λ o. FitsRow (or_word k (kind.Number low high) s d) (or_special s value.Number (maybe (is_word_value o) (number_or o)))) (or_word k (kind.Number low high) s d) g (λ v i. number_word_by k low high s d v firm i) h
+value_fits : (k : Key) (kd : Kind) (s : Special) (d : Default) (sbsd : QName) (v : Value) → may_lack d ≡ false → is_shown kd ≡ true → is_right_priority k kd ≡ true → (s ≡ special.Sbsd → IsQualified sbsd)
+    → PrintableOf kd (shown_value k kd s sbsd (Some v)) → InRow (row_of k kd s d) v → FitsRow (row_of k kd s d) (shown_value k kd s sbsd (Some v))
+value_fits k kd s d sbsd (value.Special w) firm shown right q t h = word_fits k kd s d sbsd w shown q h
+value_fits k kd s d sbsd value.Nothing firm shown right q t h = absurd (false≢true (sym firm ∙ h))
+value_fits k kd s d sbsd v firm shown right q t h = kind_fits k kd s d sbsd v refl shown right t h
 
-pub priority_word_by : (s : Special) (d : Default) (v : Value) → (MayLack d → ⊥) → InRow (or_word key.Jobpty (kind.Number 1 9) s d) v → FitsRow (or_word key.Jobpty (kind.Number 1 9) s d) (or_special s value.Number (maybe (is_word_value (Some v)) (priority_or (number_or (Some v)))))
-priority_word_by s d (value.Special t) firm h = own_word s t h
-priority_word_by s d value.Nothing firm h = absurd (firm h)
-priority_word_by s d (value.Number n) firm h = priority_is n h
-priority_word_by s d v firm h = absurd h
+-- all rows that are shown
 
-pub priority_word : (s : Special) (d : Default) (g : List Given) → (MayLack d → ⊥) → Has (or_word key.Jobpty (kind.Number 1 9) s d) g → FitsRow (or_word key.Jobpty (kind.Number 1 9) s d) (or_special s value.Number (maybe (is_word_value (value_of key.Jobpty g)) (priority_or (number_or (value_of key.Jobpty g)))))
-priority_word s d g firm h = lift (λ o. FitsRow (or_word key.Jobpty (kind.Number 1 9) s d) (or_special s value.Number (maybe (is_word_value o) (priority_or (number_or o))))) (or_word key.Jobpty (kind.Number 1 9) s d) g (λ v i. priority_word_by s d v firm i) h
+lift : (P : Option Value → Type 0) (row : Row) (g : List Given) → ((v : Value) → InRow row v → P (Some v)) → Has row g → P (value_of row.key g)
+lift P row g f h = subst P (sym h.1) (f h.0 h.2)
 
-pub name_word_by : (k : Key) (s : Special) (d : Default) (v : Value) → (MayLack d → ⊥) → InRow (or_word k kind.Name s d) v → FitsRow (or_word k kind.Name s d) (or_special s value.Name (maybe (is_word_value (Some v)) (name_or (Some v))))
-name_word_by k s d (value.Special t) firm h = own_word s t h
-name_word_by k s d value.Nothing firm h = absurd (firm h)
-name_word_by k s d (value.Name n) firm h = h
-name_word_by k s d v firm h = absurd h
+-- the description whose name *SBSD stands for
+abbrev sbsd_of : List Given → QName
+sbsd_of g = object_or (value_of key.Sbsd g)
 
-pub name_word : (k : Key) (s : Special) (d : Default) (g : List Given) → (MayLack d → ⊥) → Has (or_word k kind.Name s d) g → FitsRow (or_word k kind.Name s d) (or_special s value.Name (maybe (is_word_value (value_of k g)) (name_or (value_of k g))))
-name_word k s d g firm h = lift (λ o. FitsRow (or_word k kind.Name s d) (or_special s value.Name (maybe (is_word_value o) (name_or o)))) (or_word k kind.Name s d) g (λ v i. name_word_by k s d v firm i) h
+pub sbsd_fits : (d : Default) (g : List Given) → may_lack d ≡ false → Has (plain key.Sbsd kind.Object d) g → IsQualified (sbsd_of g)
+sbsd_fits d g firm h =
+    lift (λ o. IsQualified (object_or o)) (plain key.Sbsd kind.Object d) g
+    (λ v i. value_fits key.Sbsd kind.Object special.Never d (sbsd_of g) v firm refl refl (λ e. absurd (no_sbsd e)) tt i) h
+  where
+    no_sbsd : special.Never ≡ special.Sbsd → ⊥
+    no_sbsd e = cc
 
-pub object_word_by : (k : Key) (s : Special) (d : Default) (v : Value) → (MayLack d → ⊥) → InRow (or_word k kind.Object s d) v → FitsRow (or_word k kind.Object s d) (or_special s value.Object (maybe (is_word_value (Some v)) (object_or (Some v))))
-object_word_by k s d (value.Special t) firm h = own_word s t h
-object_word_by k s d value.Nothing firm h = absurd (firm h)
-object_word_by k s d (value.Object q) firm h = h
-object_word_by k s d v firm h = absurd h
+-- a row is shown, has a value, and keeps to what a priority is
+abbrev pub is_made : Row → Bool
+is_made row = not (may_lack row.otherwise) && is_shown row.kind && is_right_priority row.key row.kind
 
-pub object_word : (k : Key) (s : Special) (d : Default) (g : List Given) → (MayLack d → ⊥) → Has (or_word k kind.Object s d) g → FitsRow (or_word k kind.Object s d) (or_special s value.Object (maybe (is_word_value (value_of k g)) (object_or (value_of k g))))
-object_word k s d g firm h = lift (λ o. FitsRow (or_word k kind.Object s d) (or_special s value.Object (maybe (is_word_value o) (object_or o)))) (or_word k kind.Object s d) g (λ v i. object_word_by k s d v firm i) h
+abbrev pub is_sbsd : Special → Bool
+is_sbsd special.Sbsd = true
+is_sbsd s = false
 
-pub flag_word_by : (k : Key) (s : Special) (d : Default) (v : Value) → (MayLack d → ⊥) → InRow (or_word k kind.Flag s d) v → FitsRow (or_word k kind.Flag s d) (or_special s value.Flag (maybe (is_word_value (Some v)) (flag_or (Some v))))
-flag_word_by k s d (value.Special t) firm h = own_word s t h
-flag_word_by k s d value.Nothing firm h = absurd (firm h)
-flag_word_by k s d (value.Flag b) firm h = tt
-flag_word_by k s d v firm h = absurd h
+abbrev pub has_class : List Row → Bool
+has_class rows = list_any (λ row. is_sbsd row.special) rows
 
-pub flag_word : (k : Key) (s : Special) (d : Default) (g : List Given) → (MayLack d → ⊥) → Has (or_word k kind.Flag s d) g → FitsRow (or_word k kind.Flag s d) (or_special s value.Flag (maybe (is_word_value (value_of k g)) (flag_or (value_of k g))))
-flag_word k s d g firm h = lift (λ o. FitsRow (or_word k kind.Flag s d) (or_special s value.Flag (maybe (is_word_value o) (flag_or o)))) (or_word k kind.Flag s d) g (λ v i. flag_word_by k s d v firm i) h
+abbrev pub shown_of : List Row → List Given → List Given
+shown_of [] g = []
+shown_of (row ∷ rows) g = with_key row.key (shown_value row.key row.kind row.special (sbsd_of g) (value_of row.key g)) ∷ shown_of rows g
 
-pub date_word_by : (k : Key) (s : Special) (d : Default) (v : Value) → (MayLack d → ⊥) → InRow (or_word k kind.Date s d) v → FitsRow (or_word k kind.Date s d) (or_special s value.Date (maybe (is_word_value (Some v)) (date_or (Some v))))
-date_word_by k s d (value.Special t) firm h = own_word s t h
-date_word_by k s d value.Nothing firm h = absurd (firm h)
-date_word_by k s d (value.Date a) firm h = h
-date_word_by k s d v firm h = absurd h
+-- the texts that are shown are printable
+abbrev pub WithText : Kind → Value → Type 0 → Type 0
+WithText (kind.Text low high) v rest = IsPrintable v × rest
+WithText kind.Path v rest = IsPrintable v × rest
+WithText kind.Compare v rest = IsPrintable v × rest
+WithText kd v rest = rest
 
-pub date_word : (k : Key) (s : Special) (d : Default) (g : List Given) → (MayLack d → ⊥) → Has (or_word k kind.Date s d) g → FitsRow (or_word k kind.Date s d) (or_special s value.Date (maybe (is_word_value (value_of k g)) (date_or (value_of k g))))
-date_word k s d g firm h = lift (λ o. FitsRow (or_word k kind.Date s d) (or_special s value.Date (maybe (is_word_value o) (date_or o)))) (or_word k kind.Date s d) g (λ v i. date_word_by k s d v firm i) h
+abbrev pub TextsOf : List Row → List Given → Type 0
+TextsOf [] g = Unit {0}
+TextsOf (row ∷ rows) g = WithText row.kind (shown_value row.key row.kind row.special (sbsd_of g) (value_of row.key g)) (TextsOf rows g)
 
-pub time_word_by : (k : Key) (s : Special) (d : Default) (v : Value) → (MayLack d → ⊥) → InRow (or_word k kind.Time s d) v → FitsRow (or_word k kind.Time s d) (or_special s value.Time (maybe (is_word_value (Some v)) (time_or (Some v))))
-time_word_by k s d (value.Special t) firm h = own_word s t h
-time_word_by k s d value.Nothing firm h = absurd (firm h)
-time_word_by k s d (value.Time a) firm h = h
-time_word_by k s d v firm h = absurd h
+both_texts : (kd : Kind) (v : Value) (Rest : Type 0) → WithText kd v Rest → PrintableOf kd v × Rest
+both_texts (kind.Text low high) v Rest h = h
+both_texts kind.Path v Rest h = h
+both_texts kind.Compare v Rest h = h
+both_texts kd v Rest h = (tt, h)
 
-pub time_word : (k : Key) (s : Special) (d : Default) (g : List Given) → (MayLack d → ⊥) → Has (or_word k kind.Time s d) g → FitsRow (or_word k kind.Time s d) (or_special s value.Time (maybe (is_word_value (value_of k g)) (time_or (value_of k g))))
-time_word k s d g firm h = lift (λ o. FitsRow (or_word k kind.Time s d) (or_special s value.Time (maybe (is_word_value o) (time_or o)))) (or_word k kind.Time s d) g (λ v i. time_word_by k s d v firm i) h
+row_fits : (row : Row) (g : List Given) → is_made row ≡ true → (is_sbsd row.special ≡ true → IsQualified (sbsd_of g)) → PrintableOf row.kind (shown_value row.key row.kind row.special (sbsd_of g) (value_of row.key g)) → Has row g
+    → FitsRow row (shown_value row.key row.kind row.special (sbsd_of g) (value_of row.key g))
+row_fits row g made sbsd text h =
+    let both = and_parts (not (may_lack row.otherwise) && is_shown row.kind) (is_right_priority row.key row.kind) made in
+    let own = and_parts (not (may_lack row.otherwise)) (is_shown row.kind) both.0 in
+    lift (λ o. PrintableOf row.kind (shown_value row.key row.kind row.special (sbsd_of g) o) → FitsRow row (shown_value row.key row.kind row.special (sbsd_of g) o)) row g
+    (λ v i t. value_fits row.key row.kind row.special row.otherwise (sbsd_of g) v (false_of (may_lack row.otherwise) own.0) own.1 both.1 (λ e. sbsd (ap is_sbsd e)) t i) h text
 
-pub text_word_by : (k : Key) (low high : ℕ) (s : Special) (d : Default) (v : Value) → (MayLack d → ⊥) → InRow (or_word k (kind.Text low high) s d) v → IfSome (maybe (is_word_value (Some v)) (text_or (Some v))) IsText → FitsRow (or_word k (kind.Text low high) s d) (or_special s value.Text (maybe (is_word_value (Some v)) (text_or (Some v))))
-text_word_by k low high s d (value.Special t) firm h x = own_word s t h
-text_word_by k low high s d value.Nothing firm h x = absurd (firm h)
-text_word_by k low high s d (value.Text t) firm h x = (x, h)
-text_word_by k low high s d v firm h x = absurd h
+or_first : (a b : Bool) → a ≡ true → (a || b) ≡ true
+or_first true b h = refl
+or_first false b h = absurd (false≢true h)
 
-pub text_word : (k : Key) (low high : ℕ) (s : Special) (d : Default) (g : List Given) → (MayLack d → ⊥) → Has (or_word k (kind.Text low high) s d) g → IfSome (maybe (is_word_value (value_of k g)) (text_or (value_of k g))) IsText → FitsRow (or_word k (kind.Text low high) s d) (or_special s value.Text (maybe (is_word_value (value_of k g)) (text_or (value_of k g))))
-text_word k low high s d g firm h x = lift (λ o. IfSome (maybe (is_word_value o) (text_or o)) IsText → FitsRow (or_word k (kind.Text low high) s d) (or_special s value.Text (maybe (is_word_value o) (text_or o)))) (or_word k (kind.Text low high) s d) g (λ v i. text_word_by k low high s d v firm i) h x
+or_second : (a b : Bool) → b ≡ true → (a || b) ≡ true
+or_second true b h = refl
+or_second false b h = h
 
--- *SBSD is the class with the description's name
-pub class_by : (v : Value) (q : QName) → IsQualified q → InRow (or_word key.Cls kind.Object special.Sbsd default.Special) v → IsQualified (cond (is_word_value (Some v)) q (object_or (Some v)))
-class_by (value.Special s) q n h = n
-class_by value.Nothing q n h = absurd h
-class_by (value.Object p) q n h = h
-class_by v q n h = absurd h
+pub rows_fit : (rows : List Row) (g : List Given) → AllHave rows g → list_all is_made rows ≡ true → (has_class rows ≡ true → IsQualified (sbsd_of g)) → TextsOf rows g → FitRows rows (shown_of rows g)
+rows_fit [] g have made sbsd texts = tt
+rows_fit (row ∷ rows) g have made sbsd texts =
+    let own = and_parts (is_made row) (list_all is_made rows) made in
+    let t = both_texts row.kind (shown_value row.key row.kind row.special (sbsd_of g) (value_of row.key g)) (TextsOf rows g) texts in (
+      row_fits row g own.0 (λ e. sbsd (or_first (is_sbsd row.special) (has_class rows) e)) t.0 have.0,
+      rows_fit rows g have.1 own.1 (λ e. sbsd (or_second (is_sbsd row.special) (has_class rows) e)) t.1,
+    )
 
-pub class_word : (g : List Given) → Has (plain key.Sbsd kind.Object default.Required) g → Has (or_word key.Cls kind.Object special.Sbsd default.Special) g
-    → IsQualified (cond (is_word_value (value_of key.Cls g)) (object_or (value_of key.Sbsd g)) (object_or (value_of key.Cls g)))
-class_word g sbsd h =
-    lift (λ o. IsQualified (cond (is_word_value o) (object_or (value_of key.Sbsd g)) (object_or o))) (or_word key.Cls kind.Object special.Sbsd default.Special) g
-    (λ v i. class_by v (object_or (value_of key.Sbsd g)) (object_plain key.Sbsd default.Required g (λ x. x) sbsd) i) h
+-- of the keys that have what their rows take, those that are shown
+have_by : (row : Row) (rows : List Row) (g : List Given) (c : Bool) → Has row g → AllHave rows g → AllHave (cond c (row ∷ rows) rows) g
+have_by row rows g true h all = (h, all)
+have_by row rows g false h all = all
+
+pub have_shown : (rows : List Row) (g : List Given) → AllHave rows g → AllHave (shown_rows rows) g
+have_shown [] g h = tt
+have_shown (row ∷ rows) g h = have_by row (shown_rows rows) g (is_shown row.kind) h.0 (have_shown rows g h.1)
+
+-- a text that may be a special word
+pub text_or_word : (s : Special) (o : Option (List ℕ)) → IfSome o IsText → IsPrintable (or_special s value.Text o)
+text_or_word s None h = tt
+text_or_word s (Some t) h = h
 
 -- CMD's text, or RQSDTA
 
 abbrev pub request_row : Row
 request_row = or_word key.Rqsdta (kind.Text 0 1000) special.Jobd default.Nothing
 
-pub request_rest : (w : Value) → InRow request_row w → IfSome (maybe (is_word_value (Some w)) (text_or (Some w))) IsText → FitsRow request_row (or_special special.Jobd value.Text (maybe (is_word_value (Some w)) (text_or (Some w))))
+request_rest : (w : Value) → InRow request_row w → IfSome (maybe (is_word_value (Some w)) (text_or (Some w))) IsText → FitsRow request_row (or_special special.Jobd value.Text (maybe (is_word_value (Some w)) (text_or (Some w))))
 request_rest (value.Special s) h x = (refl, refl)
 request_rest value.Nothing h x = (x, refl)
 request_rest (value.Text t) h x = (x, h)
 request_rest w h x = absurd h
 
-pub request_by : (v w : Value) → InRow (plain key.Cmd kind.Call default.Nothing) v → InRow request_row w → IfSome (request_or (Some v) (Some w)) IsText
+request_by : (v w : Value) → InRow (plain key.Cmd kind.Call default.Nothing) v → InRow request_row w → IfSome (request_or (Some v) (Some w)) IsText
     → FitsRow request_row (or_special special.Jobd value.Text (request_or (Some v) (Some w)))
 request_by (value.Text t) w h k x = (x, h)
 request_by value.Nothing w h k x = request_rest w k x
 request_by (value.Special s) w h k x = absurd (no_word s h)
 request_by v w h k x = absurd h
 
-pub request_word : (g : List Given) → Has (plain key.Cmd kind.Call default.Nothing) g → Has request_row g → IfSome (request_or (value_of key.Cmd g) (value_of key.Rqsdta g)) IsText
+pub request_fits : (g : List Given) → Has (plain key.Cmd kind.Call default.Nothing) g → Has request_row g → IfSome (request_or (value_of key.Cmd g) (value_of key.Rqsdta g)) IsText
     → FitsRow request_row (or_special special.Jobd value.Text (request_or (value_of key.Cmd g) (value_of key.Rqsdta g)))
-request_word g cmd h x =
+request_fits g cmd h x =
     lift (λ o. IfSome (request_or o (value_of key.Rqsdta g)) IsText → FitsRow request_row (or_special special.Jobd value.Text (request_or o (value_of key.Rqsdta g)))) (plain key.Cmd kind.Call default.Nothing) g
     (λ v i. lift (λ p. IfSome (request_or (Some v) p) IsText → FitsRow request_row (or_special special.Jobd value.Text (request_or (Some v) p))) request_row g (λ w j. request_by v w i j) h) cmd x

@@ -1,5 +1,5 @@
 -- A command that keeps the forms and ranges of the table keeps those that the machine asks of its calls.
-use Rattle.std.proofs.Common.{◌≡◌, ℕ, ◌&&◌, Bool, true, false, List, [], ◌∷◌, length, Option, Some, None, IfSome, IsTrue, refl, arith}
+use Rattle.std.proofs.Common.{◌≡◌, ℕ, ◌&&◌, Bool, true, false, List, length, Option, Some, None, IfSome, IsTrue, subst, refl, arith}
 use Rattle.std.specs.Prelude.{slice_index_or}
 use Rattle.std.specs.List.{list_all}
 use Rattle.std.proofs.lemmas.Bool.Decides.{nat_tests}
@@ -28,8 +28,13 @@ use Rattle.wm_command.specs.declared.row.Special.{Special}
 use Rattle.wm_command.specs.declared.row.Special.TheVariants as special
 use Rattle.wm_command.specs.declared.value.Value.TheVariants as value
 use Rattle.wm_command.specs.Printed.{IsQualified, FitsJob, FitsCompare, FitsRow, IsFit}
-use Rattle.wm_command.specs.Shown.{limit_value, or_special, crtcls_values, crtpgmref_values, crtjobd_values, crtsbsd_values, addjobqe_values, addrtge_values, addaje_values, addpje_values, rmvjobqe_values, rmvrtge_values, rmvaje_values, rmvpje_values, endsbs_values, sbmjob_values, chgjob_values, endjob_values, strpj_values, endpj_values, evoke_values, pwrdwnsys_values}
+use Rattle.wm_command.specs.Fields.{limit_value, or_special}
+use Rattle.wm_command.specs.Objects.{crtcls_values, crtpgmref_values, crtjobd_values, crtsbsd_values}
+use Rattle.wm_command.specs.Entries.{addjobqe_values, addrtge_values, addaje_values, addpje_values, rmvjobqe_values, rmvrtge_values, rmvaje_values, rmvpje_values}
+use Rattle.wm_command.specs.Control.{endsbs_values, strpj_values, endpj_values, evoke_values, pwrdwnsys_values}
+use Rattle.wm_command.specs.Jobs.{sbmjob_values, chgjob_values, endjob_values}
 use Rattle.wm_command.specs.Table.{or_word, change_rows}
+use Rattle.wm_command.proofs.Back.{nine_are}
 
 both : (a b : Bool) → a ≡ true → b ≡ true → (a && b) ≡ true
 both true true e f = refl
@@ -105,18 +110,9 @@ nine : (l : List Limit) → length l ≡ 9
     → limit_within 0 99 (slice_index_or l 3 NoMax) ≡ true → limit_within 0 99 (slice_index_or l 4 NoMax) ≡ true → limit_within 0 99 (slice_index_or l 5 NoMax) ≡ true
     → limit_within 0 99 (slice_index_or l 6 NoMax) ≡ true → limit_within 0 99 (slice_index_or l 7 NoMax) ≡ true → limit_within 0 99 (slice_index_or l 8 NoMax) ≡ true
     → list_all (limit_within 0 99) l ≡ true
-nine [] h p q r s t u v w x = absurd (omega arith)
-nine (a ∷ []) h p q r s t u v w x = absurd (omega arith)
-nine (a ∷ b ∷ []) h p q r s t u v w x = absurd (omega arith)
-nine (a ∷ b ∷ c ∷ []) h p q r s t u v w x = absurd (omega arith)
-nine (a ∷ b ∷ c ∷ d ∷ []) h p q r s t u v w x = absurd (omega arith)
-nine (a ∷ b ∷ c ∷ d ∷ e ∷ []) h p q r s t u v w x = absurd (omega arith)
-nine (a ∷ b ∷ c ∷ d ∷ e ∷ f ∷ []) h p q r s t u v w x = absurd (omega arith)
-nine (a ∷ b ∷ c ∷ d ∷ e ∷ f ∷ g ∷ []) h p q r s t u v w x = absurd (omega arith)
-nine (a ∷ b ∷ c ∷ d ∷ e ∷ f ∷ g ∷ i ∷ []) h p q r s t u v w x = absurd (omega arith)
-nine (a ∷ b ∷ c ∷ d ∷ e ∷ f ∷ g ∷ i ∷ j ∷ []) h p q r s t u v w x =
-    both _ _ p (both _ _ q (both _ _ r (both _ _ s (both _ _ t (both _ _ u (both _ _ v (both _ _ w (both _ _ x refl))))))))
-nine (a ∷ b ∷ c ∷ d ∷ e ∷ f ∷ g ∷ i ∷ j ∷ k ∷ l) h p q r s t u v w x = absurd (omega arith)
+nine l h p q r s t u v w x =
+    subst (λ (m : List Limit). list_all (limit_within 0 99) m ≡ true) (nine_are l h)
+    (both _ _ p (both _ _ q (both _ _ r (both _ _ s (both _ _ t (both _ _ u (both _ _ v (both _ _ w (both _ _ x refl)))))))))
 
 pub machine_command : (c : Command) → IsFit c → IsCommand c
 unfolding change_rows crtcls_values crtpgmref_values crtjobd_values crtsbsd_values addjobqe_values addrtge_values addaje_values addpje_values rmvjobqe_values rmvrtge_values rmvaje_values rmvpje_values endsbs_values sbmjob_values chgjob_values endjob_values strpj_values endpj_values evoke_values pwrdwnsys_values

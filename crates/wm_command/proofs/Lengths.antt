@@ -46,7 +46,7 @@ kind_room kind.Path = 520
 kind_room k = 200
 
 abbrev pub row_room : Row → ℕ
-row_room row = 12 + kind_room row.1
+row_room row = 12 + kind_room row.kind
 
 abbrev pub rows_room : List Row → ℕ
 rows_room [] = 0
@@ -57,12 +57,7 @@ rows_room (row ∷ rows) = row_room row + rows_room rows
 special_short : (s : Special) → length (special_word s) ≤ 10
 unfolding special_word
 special_short special.Never = lit≤ tt
-special_short special.Nomax = lit≤ tt
-special_short special.None = lit≤ tt
-special_short special.Jobd = lit≤ tt
-special_short special.Same = lit≤ tt
-special_short special.Nolimit = lit≤ tt
-special_short special.Sbsd = lit≤ tt
+special_short s = lit≤ tt
 
 room_for_word : (k : Kind) → 10 ≤ kind_room k
 room_for_word (kind.Text low high) = omega arith
@@ -157,57 +152,17 @@ kind_short kind.Date s (value.Date d) sound h = date_short d h
 kind_short kind.Time s (value.Time t) sound h = time_short t h
 kind_short k s v sound h = absurd h
 
-row_short : (row : Row) (v : Value) → is_sound row.1 row.2 ≡ true → FitsRow row v → length (value_text v) ≤ kind_room row.1
+row_short : (row : Row) (v : Value) → is_sound row.kind row.special ≡ true → FitsRow row v → length (value_text v) ≤ kind_room row.kind
 unfolding value_text
-row_short row (value.Special s) sound h = omega (arith, special_short s, room_for_word row.1)
-row_short row v sound h = kind_short row.1 row.2 v sound h
+row_short row (value.Special s) sound h = omega (arith, special_short s, room_for_word row.kind)
+row_short row v sound h = kind_short row.kind row.special v sound h
 
 -- a key with its value
 
 key_short : (k : Key) → length (key_word k) ≤ 9
 key_short key.Cls = lit≤ tt
-key_short key.Runpty = lit≤ tt
-key_short key.Timeslice = lit≤ tt
-key_short key.Dftwait = lit≤ tt
-key_short key.Jobq = lit≤ tt
-key_short key.Pgm = lit≤ tt
-key_short key.Path = lit≤ tt
-key_short key.Jobd = lit≤ tt
-key_short key.Jobpty = lit≤ tt
-key_short key.Rtgdta = lit≤ tt
-key_short key.Rqsdta = lit≤ tt
-key_short key.Hold = lit≤ tt
-key_short key.Sbsd = lit≤ tt
-key_short key.Maxjobs = lit≤ tt
-key_short key.Maxact = lit≤ tt
-key_short key.Seqnbr = lit≤ tt
-key_short key.Maxpty1 = lit≤ tt
-key_short key.Maxpty2 = lit≤ tt
-key_short key.Maxpty3 = lit≤ tt
-key_short key.Maxpty4 = lit≤ tt
-key_short key.Maxpty5 = lit≤ tt
-key_short key.Maxpty6 = lit≤ tt
-key_short key.Maxpty7 = lit≤ tt
-key_short key.Maxpty8 = lit≤ tt
-key_short key.Maxpty9 = lit≤ tt
-key_short key.Cmpval = lit≤ tt
-key_short key.Poolid = lit≤ tt
-key_short key.Job = lit≤ tt
-key_short key.Strjobs = lit≤ tt
-key_short key.Inljobs = lit≤ tt
-key_short key.Threshold = lit≤ tt
-key_short key.Adljobs = lit≤ tt
-key_short key.Maxuse = lit≤ tt
-key_short key.Wait = lit≤ tt
-key_short key.Sbs = lit≤ tt
-key_short key.Option = lit≤ tt
-key_short key.Delay = lit≤ tt
-key_short key.Cmd = lit≤ tt
-key_short key.Scddate = lit≤ tt
-key_short key.Scdtime = lit≤ tt
-key_short key.Text = lit≤ tt
-key_short key.Pools = lit≤ tt
+key_short k = lit≤ tt
 
-pub given_short : (row : Row) (g : Given) → is_sound row.1 row.2 ≡ true → FitsRow row g.value → length (given_text g) ≤ row_room row
+pub given_short : (row : Row) (g : Given) → is_sound row.kind row.special ≡ true → FitsRow row g.value → length (given_text g) ≤ row_room row
 given_short row g sound h =
     simp length-append (omega (arith, key_short g.key, row_short row g.value sound h))

@@ -39,12 +39,7 @@ fills_plain w p = subst (λ (u : List ℕ). Fills w (Word u ∷ [])) (plain_uppe
 fills_special : (s : Special) → is_never s ≡ false → Fills (special_word s) (Word (special_word s) ∷ [])
 unfolding special_word
 fills_special special.Never n = absurd (false≢true (sym n))
-fills_special special.Nomax n = fills_word (codes "*NOMAX") refl
-fills_special special.None n = fills_word (codes "*NONE") refl
-fills_special special.Jobd n = fills_word (codes "*JOBD") refl
-fills_special special.Same n = fills_word (codes "*SAME") refl
-fills_special special.Nolimit n = fills_word (codes "*NOLIMIT") refl
-fills_special special.Sbsd n = fills_word (codes "*SBSD") refl
+fills_special s n = fills_word (special_word s) refl
 
 fills_date : (d : DateSpec) → FitsKind kind.Date (value.Date d) → Fills (date_text d) (Word (date_text d) ∷ [])
 fills_date date.Current h = fills_word (codes "*CURRENT") refl
@@ -81,99 +76,19 @@ fills_kind kind.Date s (value.Date d) sound h = fills_date d h
 fills_kind kind.Time s (value.Time t) sound h = fills_time t h
 fills_kind k s v sound h = absurd h
 
-fills_row : (row : Row) (v : Value) → is_sound row.1 row.2 ≡ true → FitsRow row v → Fills (value_text v) (value_tokens v)
+fills_row : (row : Row) (v : Value) → is_sound row.kind row.special ≡ true → FitsRow row v → Fills (value_text v) (value_tokens v)
 unfolding value_text
 fills_row row (value.Special s) sound h = fills_special s h.1
-fills_row row v sound h = fills_kind row.1 row.2 v sound h
+fills_row row v sound h = fills_kind row.kind row.special v sound h
 
 -- keys are words in capitals
 key_is : (k : Key) → is_word (key_word k) ≡ true
 key_is key.Cls = refl
-key_is key.Runpty = refl
-key_is key.Timeslice = refl
-key_is key.Dftwait = refl
-key_is key.Jobq = refl
-key_is key.Pgm = refl
-key_is key.Path = refl
-key_is key.Jobd = refl
-key_is key.Jobpty = refl
-key_is key.Rtgdta = refl
-key_is key.Rqsdta = refl
-key_is key.Hold = refl
-key_is key.Sbsd = refl
-key_is key.Maxjobs = refl
-key_is key.Maxact = refl
-key_is key.Seqnbr = refl
-key_is key.Maxpty1 = refl
-key_is key.Maxpty2 = refl
-key_is key.Maxpty3 = refl
-key_is key.Maxpty4 = refl
-key_is key.Maxpty5 = refl
-key_is key.Maxpty6 = refl
-key_is key.Maxpty7 = refl
-key_is key.Maxpty8 = refl
-key_is key.Maxpty9 = refl
-key_is key.Cmpval = refl
-key_is key.Poolid = refl
-key_is key.Job = refl
-key_is key.Strjobs = refl
-key_is key.Inljobs = refl
-key_is key.Threshold = refl
-key_is key.Adljobs = refl
-key_is key.Maxuse = refl
-key_is key.Wait = refl
-key_is key.Sbs = refl
-key_is key.Option = refl
-key_is key.Delay = refl
-key_is key.Cmd = refl
-key_is key.Scddate = refl
-key_is key.Scdtime = refl
-key_is key.Text = refl
-key_is key.Pools = refl
+key_is k = refl
 
 key_upper : (k : Key) → upper (key_word k) ≡ key_word k
 key_upper key.Cls = refl
-key_upper key.Runpty = refl
-key_upper key.Timeslice = refl
-key_upper key.Dftwait = refl
-key_upper key.Jobq = refl
-key_upper key.Pgm = refl
-key_upper key.Path = refl
-key_upper key.Jobd = refl
-key_upper key.Jobpty = refl
-key_upper key.Rtgdta = refl
-key_upper key.Rqsdta = refl
-key_upper key.Hold = refl
-key_upper key.Sbsd = refl
-key_upper key.Maxjobs = refl
-key_upper key.Maxact = refl
-key_upper key.Seqnbr = refl
-key_upper key.Maxpty1 = refl
-key_upper key.Maxpty2 = refl
-key_upper key.Maxpty3 = refl
-key_upper key.Maxpty4 = refl
-key_upper key.Maxpty5 = refl
-key_upper key.Maxpty6 = refl
-key_upper key.Maxpty7 = refl
-key_upper key.Maxpty8 = refl
-key_upper key.Maxpty9 = refl
-key_upper key.Cmpval = refl
-key_upper key.Poolid = refl
-key_upper key.Job = refl
-key_upper key.Strjobs = refl
-key_upper key.Inljobs = refl
-key_upper key.Threshold = refl
-key_upper key.Adljobs = refl
-key_upper key.Maxuse = refl
-key_upper key.Wait = refl
-key_upper key.Sbs = refl
-key_upper key.Option = refl
-key_upper key.Delay = refl
-key_upper key.Cmd = refl
-key_upper key.Scddate = refl
-key_upper key.Scdtime = refl
-key_upper key.Text = refl
-key_upper key.Pools = refl
+key_upper k = refl
 
 -- the tokens of a key with its value
 abbrev pub given_tokens : Given → List Token
@@ -183,12 +98,12 @@ given_tokens g = KeyToken (key_word g.key) ∷ value_tokens g.value ++ Close ∷
 abbrev pub bare_text : Given → List ℕ
 bare_text g = ((key_word g.key ++ 40 ∷ []) ++ value_text g.value) ++ 41 ∷ []
 
-pub prints_bare : (row : Row) (g : Given) → is_sound row.1 row.2 ≡ true → FitsRow row g.value → Prints (bare_text g) (given_tokens g)
+pub prints_bare : (row : Row) (g : Given) → is_sound row.kind row.special ≡ true → FitsRow row g.value → Prints (bare_text g) (given_tokens g)
 prints_bare row g sound h =
     subst (λ (l : List ℕ). Prints (l ++ 41 ∷ []) (given_tokens g)) (sym (append_assoc (key_word g.key) (40 ∷ []) (value_text g.value)))
     (subst (λ (u : List ℕ). Prints (key_word g.key ++ 40 ∷ value_text g.value ++ 41 ∷ []) (KeyToken u ∷ value_tokens g.value ++ Close ∷ [])) (key_upper g.key)
     (prints_keyed (key_word g.key) (value_text g.value) (value_tokens g.value) (key_is g.key) (fills_row row g.value sound h)))
 
 -- the same behind a blank
-pub prints_given : (row : Row) (g : Given) → is_sound row.1 row.2 ≡ true → FitsRow row g.value → Prints (given_text g) (given_tokens g)
+pub prints_given : (row : Row) (g : Given) → is_sound row.kind row.special ≡ true → FitsRow row g.value → Prints (given_text g) (given_tokens g)
 prints_given row g sound h = prints_blank (bare_text g) (given_tokens g) (prints_bare row g sound h)

@@ -1,6 +1,7 @@
 -- The text that is printed of a command is read as that command.
-use Rattle.std.proofs.Common.{◌≡◌, ℕ, ◌≤◌, ◌+◌, ◌-◌, ◌++◌, ◌||◌, Bool, true, false, cond, List, [], ◌∷◌, length, map, Some, Ok, Err, lit≤, subst, sym, ◌∙◌, ap, refl, arith}
+use Rattle.std.proofs.Common.{◌≡◌, ℕ, ◌≤◌, ◌+◌, ◌-◌, ◌++◌, ◌||◌, ◌&&◌, Bool, not, true, false, cond, List, [], ◌∷◌, length, map, Some, Ok, Err, lit≤, subst, sym, ◌∙◌, ap, refl, arith}
 use Rattle.std.specs.List.{flat_map, list_any}
+use Rattle.std.proofs.lemmas.Bool.{and_parts}
 use Rattle.std.proofs.lemmas.List.{append_assoc, append-nil, length-append, map-append}
 use Rattle.wm_base.specs.Key.{key_word}
 use Rattle.wm_base.specs.Name.{IsName}
@@ -32,13 +33,18 @@ use Rattle.wm_command.specs.Made.{change_made}
 use Rattle.wm_command.specs.Print.{given_text, command_text}
 use Rattle.wm_command.specs.Printed.{FitsRow, FitRows, shown_rows, IsFit, PrintedCommandIsRead}
 use Rattle.wm_command.specs.Reading.{same_key, is_given, row_named, row_value, with_value, keyed, keyed_by, next_item, first_item, first_by, items_given, complete}
-use Rattle.wm_command.specs.Shown.{values_of, verb_of, crtcls_values, crtpgmref_values, crtjobd_values, crtsbsd_values, addjobqe_values, addrtge_values, addaje_values, addpje_values, rmvjobqe_values, rmvrtge_values, rmvaje_values, rmvpje_values, endsbs_values, sbmjob_values, chgjob_values, endjob_values, strpj_values, endpj_values, evoke_values, pwrdwnsys_values}
-use Rattle.wm_command.specs.Table.{change_rows, change_word}
+use Rattle.wm_command.specs.Shown.{values_of, verb_of}
+use Rattle.wm_command.specs.Objects.{crtcls_values, crtpgmref_values, crtjobd_values, crtsbsd_values}
+use Rattle.wm_command.specs.Entries.{addjobqe_values, addrtge_values, addaje_values, addpje_values, rmvjobqe_values, rmvrtge_values, rmvaje_values, rmvpje_values}
+use Rattle.wm_command.specs.Control.{endsbs_values, strpj_values, endpj_values, evoke_values, pwrdwnsys_values}
+use Rattle.wm_command.specs.Jobs.{sbmjob_values, chgjob_values, endjob_values}
+use Rattle.wm_command.specs.Table.{row_key, change_rows, change_word}
 use Rattle.wm_command.specs.Values.{special_word, is_never}
 use Rattle.wm_command.specs.Written.{place_of, key_of, listed}
 use Rattle.wm_command.proofs.Back.{shown_back}
 use Rattle.wm_command.proofs.Lengths.{rows_room, given_short}
 use Rattle.wm_command.proofs.PrintValues.{given_tokens, bare_text, prints_bare, prints_given}
+use Rattle.wm_command.proofs.TableForms.{row_by_key, same_rows, false_of}
 use Rattle.wm_command.proofs.ReadValues.{value_tokens, is_sound, value_read, special_back}
 
 -- what holds of each printed row of a table, behind keys that are given already
@@ -49,7 +55,20 @@ key_among k keys = list_any (λ other. same_key other k) keys
 abbrev Ready : List Row → List Key → List Row → Type 0
 Ready rows keys [] = Unit {0}
 Ready rows keys (row ∷ rest) =
-    (row_named (key_word row.0) rows ≡ Some row) × (key_among row.0 keys ≡ false) × (is_sound row.1 row.2 ≡ true) × Ready rows (keys ++ row.0 ∷ []) rest
+    (row_named (key_word row.key) rows ≡ Some row) × (key_among row.key keys ≡ false) × (is_sound row.kind row.special ≡ true) × Ready rows (keys ++ row.key ∷ []) rest
+
+-- the part of it that is a test
+abbrev is_ready : List Key → List Row → Bool
+is_ready keys [] = true
+is_ready keys (row ∷ rest) = not (key_among row.key keys) && is_sound row.kind row.special && is_ready (keys ++ row.key ∷ []) rest
+
+ready : (rows : List Row) (keys : List Key) (rest : List Row) → map (row_by_key rows) rest ≡ map Some rest → is_ready keys rest ≡ true → Ready rows keys rest
+ready rows keys [] e h = tt
+ready rows keys (row ∷ rest) e h =
+    let both = and_parts (not (key_among row.key keys) && is_sound row.kind row.special) (is_ready (keys ++ row.key ∷ []) rest) h in
+    let own = and_parts (not (key_among row.key keys)) (is_sound row.kind row.special) both.0 in
+    let found = same_rows (row_by_key rows row) (Some row) (map (row_by_key rows) rest) (map Some rest) e in
+    (found.0, false_of (key_among row.key keys) own.0, own.1, ready rows (keys ++ row.key ∷ []) rest found.1 both.1)
 
 abbrev IsSome : List Row → Type 0
 IsSome [] = ⊥
@@ -64,73 +83,37 @@ record Sound (verb : ChangeVerb) : Type 0 where
 
 sound : (verb : ChangeVerb) → Sound verb
 unfolding change_rows change_word change_named row_named same_key
-sound change.Crtcls = record { ready = (refl, refl, refl, (refl, refl, refl, (refl, refl, refl, (refl, refl, refl, tt)))); some = tt; named = refl; word = refl; room = lit≤ tt }
-sound change.Crtjobq = record { ready = (refl, refl, refl, tt); some = tt; named = refl; word = refl; room = lit≤ tt }
-sound change.Crtpgmref = record { ready = (refl, refl, refl, (refl, refl, refl, tt)); some = tt; named = refl; word = refl; room = lit≤ tt }
-sound change.Crtjobd = record { ready = (refl, refl, refl, (refl, refl, refl, (refl, refl, refl, (refl, refl, refl, (refl, refl, refl, (refl, refl, refl, tt)))))); some = tt; named = refl; word = refl; room = lit≤ tt }
-sound change.Crtsbsd = record { ready = (refl, refl, refl, (refl, refl, refl, tt)); some = tt; named = refl; word = refl; room = lit≤ tt }
-sound change.Addjobqe = record { ready = (refl, refl, refl, (refl, refl, refl, (refl, refl, refl, (refl, refl, refl, (refl, refl, refl, (refl, refl, refl, (refl, refl, refl, (refl, refl, refl, (refl, refl, refl, (refl, refl, refl, (refl, refl, refl, (refl, refl, refl, (refl, refl, refl, tt))))))))))))); some = tt; named = refl; word = refl; room = lit≤ tt }
-sound change.Addrtge = record { ready = (refl, refl, refl, (refl, refl, refl, (refl, refl, refl, (refl, refl, refl, (refl, refl, refl, (refl, refl, refl, (refl, refl, refl, tt))))))); some = tt; named = refl; word = refl; room = lit≤ tt }
-sound change.Addaje = record { ready = (refl, refl, refl, (refl, refl, refl, (refl, refl, refl, tt))); some = tt; named = refl; word = refl; room = lit≤ tt }
-sound change.Addpje = record { ready = (refl, refl, refl, (refl, refl, refl, (refl, refl, refl, (refl, refl, refl, (refl, refl, refl, (refl, refl, refl, (refl, refl, refl, (refl, refl, refl, (refl, refl, refl, (refl, refl, refl, (refl, refl, refl, tt))))))))))); some = tt; named = refl; word = refl; room = lit≤ tt }
-sound change.Rmvjobqe = record { ready = (refl, refl, refl, (refl, refl, refl, tt)); some = tt; named = refl; word = refl; room = lit≤ tt }
-sound change.Rmvrtge = record { ready = (refl, refl, refl, (refl, refl, refl, tt)); some = tt; named = refl; word = refl; room = lit≤ tt }
-sound change.Rmvaje = record { ready = (refl, refl, refl, (refl, refl, refl, tt)); some = tt; named = refl; word = refl; room = lit≤ tt }
-sound change.Rmvpje = record { ready = (refl, refl, refl, (refl, refl, refl, tt)); some = tt; named = refl; word = refl; room = lit≤ tt }
-sound change.Strsbs = record { ready = (refl, refl, refl, tt); some = tt; named = refl; word = refl; room = lit≤ tt }
-sound change.Endsbs = record { ready = (refl, refl, refl, (refl, refl, refl, (refl, refl, refl, tt))); some = tt; named = refl; word = refl; room = lit≤ tt }
-sound change.Sbmjob = record { ready = (refl, refl, refl, (refl, refl, refl, (refl, refl, refl, (refl, refl, refl, (refl, refl, refl, (refl, refl, refl, (refl, refl, refl, (refl, refl, refl, (refl, refl, refl, tt))))))))); some = tt; named = refl; word = refl; room = lit≤ tt }
-sound change.Hldjob = record { ready = (refl, refl, refl, tt); some = tt; named = refl; word = refl; room = lit≤ tt }
-sound change.Rlsjob = record { ready = (refl, refl, refl, tt); some = tt; named = refl; word = refl; room = lit≤ tt }
-sound change.Chgjob = record { ready = (refl, refl, refl, (refl, refl, refl, (refl, refl, refl, (refl, refl, refl, (refl, refl, refl, tt))))); some = tt; named = refl; word = refl; room = lit≤ tt }
-sound change.Endjob = record { ready = (refl, refl, refl, (refl, refl, refl, (refl, refl, refl, tt))); some = tt; named = refl; word = refl; room = lit≤ tt }
-sound change.Hldjobq = record { ready = (refl, refl, refl, tt); some = tt; named = refl; word = refl; room = lit≤ tt }
-sound change.Rlsjobq = record { ready = (refl, refl, refl, tt); some = tt; named = refl; word = refl; room = lit≤ tt }
-sound change.Clrjobq = record { ready = (refl, refl, refl, tt); some = tt; named = refl; word = refl; room = lit≤ tt }
-sound change.Strpj = record { ready = (refl, refl, refl, (refl, refl, refl, tt)); some = tt; named = refl; word = refl; room = lit≤ tt }
-sound change.Endpj = record { ready = (refl, refl, refl, (refl, refl, refl, (refl, refl, refl, (refl, refl, refl, tt)))); some = tt; named = refl; word = refl; room = lit≤ tt }
-sound change.Evoke = record { ready = (refl, refl, refl, (refl, refl, refl, tt)); some = tt; named = refl; word = refl; room = lit≤ tt }
-sound change.Enduse = record { ready = (refl, refl, refl, tt); some = tt; named = refl; word = refl; room = lit≤ tt }
-sound change.Pwrdwnsys = record { ready = (refl, refl, refl, (refl, refl, refl, tt)); some = tt; named = refl; word = refl; room = lit≤ tt }
+sound change.Crtcls = record { ready = ready (change_rows change.Crtcls) [] (shown_rows (change_rows change.Crtcls)) refl refl; some = tt; named = refl; word = refl; room = lit≤ tt }
+sound verb = record { ready = ready (change_rows verb) [] (shown_rows (change_rows verb)) refl refl; some = tt; named = refl; word = refl; room = lit≤ tt }
 
 -- the keys of the values that are shown are those of the rows
+
+abbrev given_key : Given → Key
+given_key g = g.key
 
 abbrev SameKeys : List Row → List Given → Type 0
 SameKeys [] [] = Unit {0}
 SameKeys [] (g ∷ given) = ⊥
 SameKeys (row ∷ rows) [] = ⊥
-SameKeys (row ∷ rows) (g ∷ given) = (g.key ≡ row.0) × SameKeys rows given
+SameKeys (row ∷ rows) (g ∷ given) = (g.key ≡ row.key) × SameKeys rows given
+
+same_first : (a b : Key) (x y : List Key) → ◌≡◌ {A = List Key} (a ∷ x) (b ∷ y) → (a ≡ b) × (x ≡ y)
+same_first a b x y e = (cc, cc)
+
+no_key : (a : Key) (x : List Key) → ◌≡◌ {A = List Key} [] (a ∷ x) → ⊥
+no_key a x e = cc
+
+keys_by : (rows : List Row) (given : List Given) → map given_key given ≡ map row_key rows → SameKeys rows given
+keys_by [] [] e = tt
+keys_by [] (g ∷ given) e = no_key g.key (map given_key given) (sym e)
+keys_by (row ∷ rows) [] e = no_key row.key (map row_key rows) e
+keys_by (row ∷ rows) (g ∷ given) e =
+    let h = same_first g.key row.key (map given_key given) (map row_key rows) e in (h.0, keys_by rows given h.1)
 
 same_keys : (c : Command) → SameKeys (shown_rows (change_rows (verb_of c))) (values_of c)
 unfolding change_rows crtcls_values crtpgmref_values crtjobd_values crtsbsd_values addjobqe_values addrtge_values addaje_values addpje_values rmvjobqe_values rmvrtge_values rmvaje_values rmvpje_values endsbs_values sbmjob_values chgjob_values endjob_values strpj_values endpj_values evoke_values pwrdwnsys_values
-same_keys (command.Crtcls c) = (refl, (refl, (refl, (refl, tt))))
-same_keys (command.Crtjobq c) = (refl, tt)
-same_keys (command.Crtpgmref c) = (refl, (refl, tt))
-same_keys (command.Crtjobd c) = (refl, (refl, (refl, (refl, (refl, (refl, tt))))))
-same_keys (command.Crtsbsd c) = (refl, (refl, tt))
-same_keys (command.Addjobqe c) = (refl, (refl, (refl, (refl, (refl, (refl, (refl, (refl, (refl, (refl, (refl, (refl, (refl, tt)))))))))))))
-same_keys (command.Addrtge c) = (refl, (refl, (refl, (refl, (refl, (refl, (refl, tt)))))))
-same_keys (command.Addaje c) = (refl, (refl, (refl, tt)))
-same_keys (command.Addpje c) = (refl, (refl, (refl, (refl, (refl, (refl, (refl, (refl, (refl, (refl, (refl, tt)))))))))))
-same_keys (command.Rmvjobqe c) = (refl, (refl, tt))
-same_keys (command.Rmvrtge c) = (refl, (refl, tt))
-same_keys (command.Rmvaje c) = (refl, (refl, tt))
-same_keys (command.Rmvpje c) = (refl, (refl, tt))
-same_keys (command.Strsbs c) = (refl, tt)
-same_keys (command.Endsbs c) = (refl, (refl, (refl, tt)))
-same_keys (command.Sbmjob c) = (refl, (refl, (refl, (refl, (refl, (refl, (refl, (refl, (refl, tt)))))))))
-same_keys (command.Hldjob c) = (refl, tt)
-same_keys (command.Rlsjob c) = (refl, tt)
-same_keys (command.Chgjob c) = (refl, (refl, (refl, (refl, (refl, tt)))))
-same_keys (command.Endjob c) = (refl, (refl, (refl, tt)))
-same_keys (command.Hldjobq c) = (refl, tt)
-same_keys (command.Rlsjobq c) = (refl, tt)
-same_keys (command.Clrjobq c) = (refl, tt)
-same_keys (command.Strpj c) = (refl, (refl, tt))
-same_keys (command.Endpj c) = (refl, (refl, (refl, (refl, tt))))
-same_keys (command.Evoke c) = (refl, (refl, tt))
-same_keys (command.Enduse c) = (refl, tt)
-same_keys (command.Pwrdwnsys c) = (refl, (refl, tt))
+same_keys (command.Crtcls c) = keys_by (shown_rows (change_rows change.Crtcls)) (values_of (command.Crtcls c)) refl
+same_keys c = keys_by (shown_rows (change_rows (verb_of c))) (values_of c) refl
 
 -- an item that is a key with values
 
@@ -174,20 +157,20 @@ has_key (Keyed' span word shape row) key values e =
 
 -- the next item gives the key of a row its value
 
-row_read : (row : Row) (v : Value) (place : ℕ) (items : List Item) → is_sound row.1 row.2 ≡ true → FitsRow row v → list_tokens items ≡ value_tokens v → row_value row.1 row.2 place items ≡ Ok v
+row_read : (row : Row) (v : Value) (place : ℕ) (items : List Item) → is_sound row.kind row.special ≡ true → FitsRow row v → list_tokens items ≡ value_tokens v → row_value row.kind row.special place items ≡ Ok v
 row_read row (value.Special s) place items sound h e =
-    special_back row.1 row.2 place items sound (subst (λ (x : Special). is_never x ≡ false) h.0 h.1) (e ∙ ap (λ x. Word (special_word x) ∷ []) h.0) ∙ ap (λ x. Ok (value.Special x)) (sym h.0)
-row_read row v place items sound h e = value_read row.1 row.2 v place items sound h e
+    special_back row.kind row.special place items sound (subst (λ (x : Special). is_never x ≡ false) h.0 h.1) (e ∙ ap (λ x. Word (special_word x) ∷ []) h.0) ∙ ap (λ x. Ok (value.Special x)) (sym h.0)
+row_read row v place items sound h e = value_read row.kind row.special v place items sound h e
 
-next_read : (rows : List Row) (given : List Given) (item : Item) (row : Row) (g : Given) → g.key ≡ row.0 → row_named (key_word row.0) rows ≡ Some row → is_given row.0 given ≡ false
-    → is_sound row.1 row.2 ≡ true → FitsRow row g.value → item_tokens item ≡ given_tokens g → next_item rows given item ≡ Ok (given ++ g ∷ [])
+next_read : (rows : List Row) (given : List Given) (item : Item) (row : Row) (g : Given) → g.key ≡ row.key → row_named (key_word row.key) rows ≡ Some row → is_given row.key given ≡ false
+    → is_sound row.kind row.special ≡ true → FitsRow row g.value → item_tokens item ≡ given_tokens g → next_item rows given item ≡ Ok (given ++ g ∷ [])
 unfolding next_item
 next_read rows given item row g k named new sound fits e =
     let h = has_key item (key_word g.key) (value_tokens g.value) e in
     ap (keyed_by rows given item) (h.named ∙ ap (λ x. Some (key_word x)) k)
     ∙ ap (keyed given (place_of item) (listed item)) named
-    ∙ ap (λ c. cond c (Err (Twice (place_of item))) (with_value given row.0 (row_value row.1 row.2 (place_of item) (listed item)))) new
-    ∙ ap (with_value given row.0) (row_read row g.value (place_of item) (listed item) sound fits h.behind)
+    ∙ ap (λ c. cond c (Err (Twice (place_of item))) (with_value given row.key (row_value row.kind row.special (place_of item) (listed item)))) new
+    ∙ ap (with_value given row.key) (row_read row g.value (place_of item) (listed item) sound fits h.behind)
     ∙ ap (λ x. Ok (given ++ record { key = x; value = g.value } ∷ [])) (sym k)
 
 -- all items, one after another
@@ -205,9 +188,6 @@ values_are value.Nothing = tt
 values_are (value.Compare Any) = (refl, tt)
 values_are (value.Compare (Val text start)) = (refl, (refl, tt))
 values_are v = (refl, tt)
-
-abbrev given_key : Given → Key
-given_key g = g.key
 
 given_among : (k : Key) (given : List Given) → is_given k given ≡ key_among k (map given_key given)
 given_among k [] = refl
@@ -229,8 +209,8 @@ items_read rows (row ∷ rest) given (g ∷ todo) [] ready same fits e = absurd 
 items_read rows (row ∷ rest) given (g ∷ todo) (item ∷ items) ready same fits e =
     let c = cut_keyed item (key_word g.key) (value_tokens g.value) (value_texts g.value) (list_tokens items) (flat_map given_tokens todo) (values_are g.value) (sym (list_tokens-cons item items) ∙ e) in
     ap (λ r. go_on r (λ t. each (next_item rows) t items))
-    (next_read rows given item row g same.0 ready.0 (given_among row.0 given ∙ ready.1) ready.2 fits.0 c.0)
-    ∙ items_read rows rest (given ++ g ∷ []) todo items (subst (λ (keys : List Key). Ready rows keys rest) (sym (keys_push given g row.0 same.0)) ready.3) same.1 fits.1 c.1
+    (next_read rows given item row g same.0 ready.0 (given_among row.key given ∙ ready.1) ready.2 fits.0 c.0)
+    ∙ items_read rows rest (given ++ g ∷ []) todo items (subst (λ (keys : List Key). Ready rows keys rest) (sym (keys_push given g row.key same.0)) ready.3) same.1 fits.1 c.1
     ∙ ap Ok (append_assoc given (g ∷ []) todo)
 
 -- the first item is a key too
@@ -265,7 +245,7 @@ prints_all rows [] keys [] ready fits = prints_nil
 prints_all rows [] keys (g ∷ given) ready fits = absurd fits
 prints_all rows (row ∷ rest) keys [] ready fits = absurd fits
 prints_all rows (row ∷ rest) keys (g ∷ given) ready fits =
-    prints_append (given_text g) (flat_map given_text given) (given_tokens g) (flat_map given_tokens given) (prints_given row g ready.2 fits.0) (prints_all rows rest (keys ++ row.0 ∷ []) given ready.3 fits.1)
+    prints_append (given_text g) (flat_map given_text given) (given_tokens g) (flat_map given_tokens given) (prints_given row g ready.2 fits.0) (prints_all rows rest (keys ++ row.key ∷ []) given ready.3 fits.1)
 
 spelled_by : (name : List ℕ) (rows shown : List Row) (given : List Given) → IsName name → Ready rows [] shown → IsSome shown → FitRows shown given → length (name ++ flat_map given_text given) ≤ 8192
     → Printed (name ++ flat_map given_text given) name (flat_map given_tokens given)
@@ -273,7 +253,7 @@ spelled_by name rows [] given n ready some fits short = absurd some
 spelled_by name rows (row ∷ rest) [] n ready some fits short = absurd fits
 spelled_by name rows (row ∷ rest) (g ∷ given) n ready some fits short =
     command_printed name (bare_text g ++ flat_map given_text given) (flat_map given_tokens (g ∷ given)) n
-    (prints_append (bare_text g) (flat_map given_text given) (given_tokens g) (flat_map given_tokens given) (prints_bare row g ready.2 fits.0) (prints_all rows rest (row.0 ∷ []) given ready.3 fits.1))
+    (prints_append (bare_text g) (flat_map given_text given) (given_tokens g) (flat_map given_tokens given) (prints_bare row g ready.2 fits.0) (prints_all rows rest (row.key ∷ []) given ready.3 fits.1))
     short
 
 -- the ranges of the table bound each text
@@ -283,7 +263,7 @@ all_short rows [] keys [] ready fits = lit≤ tt
 all_short rows [] keys (g ∷ given) ready fits = absurd fits
 all_short rows (row ∷ rest) keys [] ready fits = absurd fits
 all_short rows (row ∷ rest) keys (g ∷ given) ready fits =
-    omega (arith, length-append (given_text g) (flat_map given_text given), given_short row g ready.2 fits.0, all_short rows rest (keys ++ row.0 ∷ []) given ready.3 fits.1)
+    omega (arith, length-append (given_text g) (flat_map given_text given), given_short row g ready.2 fits.0, all_short rows rest (keys ++ row.key ∷ []) given ready.3 fits.1)
 
 text_short : (c : Command) → IsFit c → length (command_text c) ≤ 8192
 text_short c h =

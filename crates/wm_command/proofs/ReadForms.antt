@@ -1,6 +1,7 @@
 -- What is read as a key's value has the form and the range of the key's row.
-use Rattle.std.proofs.Common.{◌≡◌, ℕ, ◌+◌, ◌*◌, ◌/◌, ◌%◌, ◌&&◌, Bool, true, false, cond, nat_lt, nat_le, nat_eq, List, [], ◌∷◌, length, Option, Some, None, Result, Ok, Err, IsTrue, codes, subst, sym, refl, inl, inr, arith}
+use Rattle.std.proofs.Common.{◌≡◌, ℕ, ◌+◌, ◌*◌, ◌/◌, ◌%◌, ◌&&◌, Bool, true, false, cond, nat_lt, nat_le, nat_eq, List, [], ◌∷◌, length, find, Option, Some, None, Result, Ok, Err, IsTrue, codes, subst, sym, refl, inl, inr, arith}
 use Rattle.std.specs.Cmp.Lexicographic.{pointwise}
+use Rattle.std.specs.List.{list_all}
 use Rattle.std.specs.Option.{option_map}
 use Rattle.std.proofs.lemmas.Bool.{and_parts, false≢true}
 use Rattle.std.proofs.lemmas.Bool.Decides.{nat_tests}
@@ -39,7 +40,7 @@ use Rattle.wm_command.specs.Call.{call_value, called_text}
 use Rattle.wm_command.specs.Printed.{IsQualified, FitsJob, FitsKind}
 use Rattle.wm_command.specs.Reading.{row_value}
 use Rattle.wm_command.specs.Values.{kind_value, special_word, is_never, is_special, item_value, text_value, or_bad, one_value, compared, one_compared, two_compared, text_from, start_of, if_word}
-use Rattle.wm_command.specs.Words.{before_slash, behind_slash, name_of, job_with, job_behind, job_of, by_user_of, full_of, simple_of, same, flag_of, ending_of, weekday_of, date_word_of, day_of, date_with, date_of, second_of, kept_within, digits, number_of, time_of}
+use Rattle.wm_command.specs.Words.{before_slash, behind_slash, name_of, job_with, job_behind, job_of, by_user_of, full_of, simple_of, same, flag_of, ending_of, date_word, dates_with_words, date_word_of, day_of, date_with, date_of, second_of, kept_within, digits, number_of, time_of}
 use Rattle.wm_command.specs.Written.{text_of, is_word, is_bare}
 
 -- a value has the range of its kind; that its text is printable is no part of it
@@ -51,22 +52,22 @@ InKind kind.Call (value.Text t) = IsTrue (within 0 1000 (length t))
 InKind k v = FitsKind k v
 
 -- a key may have no value where its row has none for it
-abbrev pub MayLack : Default → Type 0
-MayLack default.Nothing = Unit {0}
-MayLack d = ⊥
+abbrev pub may_lack : Default → Bool
+may_lack default.Nothing = true
+may_lack d = false
 
 -- what is dropped is none
-abbrev pub DropsRight : Kind → Default → Type 0
-DropsRight kind.Anything d = MayLack d
-DropsRight k d = Unit {0}
+abbrev pub is_right_drop : Kind → Default → Bool
+is_right_drop kind.Anything d = may_lack d
+is_right_drop k d = true
 
 abbrev pub row_of : Key → Kind → Special → Default → Row
-row_of key k s d = record { 0 = key; 1 = k; 2 = s; 3 = d }
+row_of key k s d = record { key = key; kind = k; special = s; otherwise = d }
 
 abbrev pub InRow : Row → Value → Type 0
-InRow row (value.Special s) = (s ≡ row.2) × (is_never s ≡ false)
-InRow row value.Nothing = MayLack row.3
-InRow row v = InKind row.1 v
+InRow row (value.Special s) = (s ≡ row.special) × (is_never s ≡ false)
+InRow row value.Nothing = IsTrue (may_lack row.otherwise)
+InRow row v = InKind row.kind v
 
 -- answers
 
@@ -173,21 +174,11 @@ choice_is : (c : Bool) (a : DateSpec) (o : Option DateSpec) (d : DateSpec) → d
 choice_is true a o d h f e = subst (λ (x : DateSpec). date_in_range x ≡ true) (some_same a d e) h
 choice_is false a o d h f e = f e
 
-weekday_is : (text : List ℕ) (d : DateSpec) → weekday_of text ≡ Some d → date_in_range d ≡ true
-weekday_is text d e =
-    choice_is (same text (codes "*MON")) (date.Weekday 1) _ d refl
-    (choice_is (same text (codes "*TUE")) (date.Weekday 2) _ d refl
-    (choice_is (same text (codes "*WED")) (date.Weekday 3) _ d refl
-    (choice_is (same text (codes "*THU")) (date.Weekday 4) _ d refl
-    (choice_is (same text (codes "*FRI")) (date.Weekday 5) _ d refl
-    (choice_is (same text (codes "*SAT")) (date.Weekday 6) _ d refl
-    (choice_is (same text (codes "*SUN")) (date.Weekday 7) None d refl (λ n. absurd (none_some d n)))))))) e
-
-date_word_is : (text : List ℕ) (d : DateSpec) → date_word_of text ≡ Some d → date_in_range d ≡ true
-date_word_is text d e =
-    choice_is (same text (codes "*CURRENT")) date.Current _ d refl
-    (choice_is (same text (codes "*MONTHSTR")) date.MonthStart _ d refl
-    (choice_is (same text (codes "*MONTHEND")) date.MonthEnd _ d refl (weekday_is text d))) e
+found_is : (text : List ℕ) (specs : List DateSpec) (d : DateSpec) → list_all date_in_range specs ≡ true → find (λ spec. same text (date_word spec)) specs ≡ Some d → date_in_range d ≡ true
+found_is text [] d h e = absurd (none_some d e)
+found_is text (spec ∷ specs) d h e =
+    let both = and_parts (date_in_range spec) (list_all date_in_range specs) h in
+    choice_is (same text (date_word spec)) spec (find (λ other. same text (date_word other)) specs) d both.0 (found_is text specs d both.1) e
 
 day_is : (o : Option ℕ) (d : DateSpec) → day_of o ≡ Some d → date_in_range d ≡ true
 day_is None d e = absurd (none_some d e)
@@ -199,7 +190,7 @@ date_with_is w text None d f e = day_is (number_of 8 8 0 99999999 text) d e
 
 date_is : (w : Bool) (text : List ℕ) (d : DateSpec) → date_of w text ≡ Some d → date_in_range d ≡ true
 unfolding date_of
-date_is w text d e = date_with_is w text (date_word_of text) d (date_word_is text) e
+date_is w text d e = date_with_is w text (date_word_of text) d (λ x. found_is text dates_with_words x refl) e
 
 seconds : (h m s : ℕ) → (nat_lt h 24 && nat_lt m 60 && nat_lt s 60) ≡ true → nat_lt (h * 3600 + m * 60 + s) 86400 ≡ true
 seconds h m s e =
@@ -308,7 +299,7 @@ call_is key s d place [] v e = absurd (err_ok (NotCall place) v e)
 call_is key s d place (item ∷ items) v e = word_call key s d place (call_of items) v (is_word item (codes "CALL")) e
 
 -- the value of a row
-pub value_is : (key : Key) (k : Kind) (s : Special) (d : Default) (place : ℕ) (items : List Item) (v : Value) → DropsRight k d → row_value k s place items ≡ Ok v → InRow (row_of key k s d) v
+pub value_is : (key : Key) (k : Kind) (s : Special) (d : Default) (place : ℕ) (items : List Item) (v : Value) → is_right_drop k d ≡ true → row_value k s place items ≡ Ok v → InRow (row_of key k s d) v
 value_is key kind.Compare s d place items v drops e = compared_is key s d place items v e
 value_is key kind.Call s d place items v drops e = call_is key s d place items v e
 value_is key kind.Anything s d place items v drops e = subst (InRow (row_of key kind.Anything s d)) (ok_same value.Nothing v e) drops

@@ -1,5 +1,5 @@
 -- The text that is printed of a value, read by the value's row, is that value.
-use Rattle.std.proofs.Common.{◌≡◌, ℕ, ◌/◌, ◌<◌, ◌≤◌, ◌++◌, ◌&&◌, Bool, true, false, not, cond, nat_lt, nat_eq, List, [], ◌∷◌, zero, suc, Some, None, Ok, subst, sym, ◌∙◌, ap, refl, arith, codes, inl, inr}
+use Rattle.std.proofs.Common.{◌≡◌, ℕ, ◌/◌, ◌<◌, ◌≤◌, ◌++◌, ◌&&◌, drop, Bool, true, false, not, cond, nat_lt, nat_eq, List, [], ◌∷◌, zero, suc, Some, None, Ok, subst, sym, ◌∙◌, ap, refl, arith, codes, inl, inr}
 use Rattle.std.specs.Cmp.Lexicographic.{pointwise}
 use Rattle.std.specs.Fmt.{decimal}
 use Rattle.std.specs.Option.{option_map}
@@ -36,12 +36,12 @@ use Rattle.wm_command.specs.declared.row.Special.{Special}
 use Rattle.wm_command.specs.declared.row.Special.TheVariants as special
 use Rattle.wm_command.specs.declared.value.Value.{Value}
 use Rattle.wm_command.specs.declared.value.Value.TheVariants as value
-use Rattle.wm_command.specs.Print.{flag_text, ending_text, job_text, weekday_text, date_text, time_text, second_text}
+use Rattle.wm_command.specs.Print.{job_text, date_text, time_text, second_text}
 use Rattle.wm_command.specs.Printed.{IsQualified, FitsJob, FitsCompare, FitsKind}
 use Rattle.wm_command.specs.Reading.{row_value}
 use Rattle.wm_command.specs.Values.{kind_value, special_word, is_never, is_special, or_bad, compared, text_from}
 use Rattle.wm_command.specs.Values.{one_value as one_read}
-use Rattle.wm_command.specs.Words.{before_slash, behind_slash, name_of, job_with, job_behind, job_of, by_user_of, full_of, simple_of, date_word_of, day_of, date_with, date_of, second_of, number_of, time_of}
+use Rattle.wm_command.specs.Words.{flag_text, ending_text, weekday_text, before_slash, behind_slash, name_of, job_with, job_behind, job_of, by_user_of, full_of, simple_of, date_word_of, day_of, date_with, date_of, second_of, number_of, time_of}
 use Rattle.wm_command.proofs.Digits.{number_decimal, number_six, number_eight, second_back, within_high, decimal_digits, decimal_some, padded_digits, padded_some, six_digits, six_some}
 use Rattle.wm_command.proofs.Plain.{Plain, plain_no_star, plain_name, plain_digits, plain_join, name_unslashed, digits_unslashed, before_first, behind_first, before_none, behind_none, ap_two, ap_three}
 
@@ -128,12 +128,7 @@ both_only (item ∷ items) t w e P f =
 not_special : (s : Special) (span : Span) (w : List ℕ) → Plain w → is_special s (ItemWord span w) ≡ false
 unfolding special_word
 not_special special.Never span w p = refl
-not_special special.Nomax span w p = plain_no_star w (codes "NOMAX") p
-not_special special.None span w p = plain_no_star w (codes "NONE") p
-not_special special.Jobd span w p = plain_no_star w (codes "JOBD") p
-not_special special.Same span w p = plain_no_star w (codes "SAME") p
-not_special special.Nolimit span w p = plain_no_star w (codes "NOLIMIT") p
-not_special special.Sbsd span w p = plain_no_star w (codes "SBSD") p
+not_special s span w p = plain_no_star w (drop 1 (special_word s)) p
 
 -- words that are told apart from each special word
 abbrev is_own : List ℕ → Bool

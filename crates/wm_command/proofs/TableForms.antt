@@ -1,12 +1,15 @@
 -- What a command's keys have, given or by the table, has the forms and the ranges of the table.
-use Rattle.std.proofs.Common.{◌≡◌, ℕ, ◌++◌, ◌||◌, Bool, true, false, cond, List, [], ◌∷◌, find, Option, Some, None, Result, Ok, Err, codes, subst, sym, ◌∙◌, ap, refl}
+use Rattle.std.proofs.Common.{◌≡◌, ℕ, ◌++◌, ◌||◌, ◌&&◌, Bool, true, false, not, cond, List, [], ◌∷◌, length, map, find, Option, Some, None, Result, Ok, Err, codes, subst, sym, ◌∙◌, ap, refl}
+use Rattle.std.specs.List.{list_all}
 use Rattle.std.specs.Option.{option_map}
-use Rattle.std.proofs.lemmas.Bool.{false≢true}
+use Rattle.std.proofs.lemmas.Bool.{and_parts, false≢true}
 use Rattle.std.proofs.lemmas.Slice.Eq.{bytes_eq-Decides}
 use Rattle.wm_base.specs.Key.{key_word}
+use Rattle.wm_base.specs.Name.{is_name}
 use Rattle.wm_base.specs.declared.refusal.Key.{Key}
 use Rattle.wm_clwords.specs.declared.tree.Item.{Item}
 use Rattle.wm_desc.specs.Opening.{qbatch, qdftjobd}
+use Rattle.wm_when.specs.Schedule.{within, date_in_range, time_in_range}
 use Rattle.wm_when.specs.declared.schedule.DateSpec.TheVariants as date
 use Rattle.wm_when.specs.declared.schedule.TimeSpec.TheVariants as time
 use Rattle.wm_law.specs.declared.command.EndOption.TheVariants.{Cntrld}
@@ -14,6 +17,7 @@ use Rattle.wm_command.specs.declared.fault.CmdFault.{CmdFault}
 use Rattle.wm_command.specs.declared.row.Default.{Default}
 use Rattle.wm_command.specs.declared.row.Default.TheVariants as default
 use Rattle.wm_command.specs.declared.row.Kind.{Kind}
+use Rattle.wm_command.specs.declared.row.Kind.TheVariants as kind
 use Rattle.wm_command.specs.declared.row.Row.{Row}
 use Rattle.wm_command.specs.declared.row.Special.{Special}
 use Rattle.wm_command.specs.declared.value.Value.{Value}
@@ -25,7 +29,7 @@ use Rattle.wm_command.specs.Reading.{same_key, is_given, row_named, row_value, w
 use Rattle.wm_command.specs.Values.{is_never}
 use Rattle.wm_command.specs.Words.{same}
 use Rattle.wm_command.specs.Written.{place_of, key_of, listed}
-use Rattle.wm_command.proofs.ReadForms.{InKind, InRow, DropsRight, row_of, none_some, some_same, err_ok, ok_same, value_is}
+use Rattle.wm_command.proofs.ReadForms.{InKind, InRow, is_right_drop, row_of, none_some, some_same, err_ok, ok_same, value_is}
 
 -- each key has what its row takes
 abbrev AllIn : List Row → List Given → Type 0
@@ -36,26 +40,66 @@ all_push : (rows : List Row) (given : List Given) (g : Given) → AllIn rows giv
 all_push rows [] g all h = (h, tt)
 all_push rows (x ∷ given) g all h = (all.0, all_push rows given g all.1 h)
 
--- a default has the form and the range of its row
-abbrev pub FitsDefault : Default → Kind → Special → Type 0
-FitsDefault default.Required k s = Unit {0}
-FitsDefault default.Nothing k s = Unit {0}
-FitsDefault default.Special k s = is_never s ≡ false
-FitsDefault (default.Number n) k s = InKind k (value.Number n)
-FitsDefault default.Yes k s = InKind k (value.Flag true)
-FitsDefault default.No k s = InKind k (value.Flag false)
-FitsDefault default.Cntrld k s = InKind k (value.Ending Cntrld)
-FitsDefault default.Qbatch k s = InKind k (value.Object qbatch)
-FitsDefault default.Qdftjobd k s = InKind k (value.Object qdftjobd)
-FitsDefault default.Qcmdi k s = InKind k (value.Text (codes "QCMDI"))
-FitsDefault default.Qcmdb k s = InKind k (value.Text (codes "QCMDB"))
-FitsDefault default.Today k s = InKind k (value.Date date.Current)
-FitsDefault default.Now k s = InKind k (value.Time time.Current)
+-- a value that a row may have for its default is of the row's kind
+abbrev is_of_kind : Kind → Value → Bool
+is_of_kind kind.Object (value.Object q) = is_name q.lib && is_name q.name
+is_of_kind (kind.Text low high) (value.Text t) = within low high (length t)
+is_of_kind (kind.Number low high) (value.Number n) = within low high n
+is_of_kind kind.Flag (value.Flag b) = true
+is_of_kind kind.Ending (value.Ending e) = true
+is_of_kind kind.Date (value.Date d) = date_in_range d
+is_of_kind kind.Time (value.Time t) = time_in_range t
+is_of_kind k v = false
 
--- what the rows of a table keep to: each is found by its key, and what it drops and its default are right
+of_kind : (k : Kind) (v : Value) → is_of_kind k v ≡ true → InKind k v
+of_kind kind.Object (value.Object q) h = and_parts (is_name q.lib) (is_name q.name) h
+of_kind (kind.Text low high) (value.Text t) h = h
+of_kind (kind.Number low high) (value.Number n) h = h
+of_kind kind.Flag (value.Flag b) h = tt
+of_kind kind.Ending (value.Ending e) h = tt
+of_kind kind.Date (value.Date d) h = h
+of_kind kind.Time (value.Time t) h = h
+of_kind k v h = absurd (false≢true h)
+
+-- a default has the form and the range of its row
+abbrev pub is_right_default : Default → Kind → Special → Bool
+is_right_default default.Required k s = true
+is_right_default default.Nothing k s = true
+is_right_default default.Special k s = not (is_never s)
+is_right_default (default.Number n) k s = is_of_kind k (value.Number n)
+is_right_default default.Yes k s = is_of_kind k (value.Flag true)
+is_right_default default.No k s = is_of_kind k (value.Flag false)
+is_right_default default.Cntrld k s = is_of_kind k (value.Ending Cntrld)
+is_right_default default.Qbatch k s = is_of_kind k (value.Object qbatch)
+is_right_default default.Qdftjobd k s = is_of_kind k (value.Object qdftjobd)
+is_right_default default.Qcmdi k s = is_of_kind k (value.Text (codes "QCMDI"))
+is_right_default default.Qcmdb k s = is_of_kind k (value.Text (codes "QCMDB"))
+is_right_default default.Today k s = is_of_kind k (value.Date date.Current)
+is_right_default default.Now k s = is_of_kind k (value.Time time.Current)
+
+-- a row drops what has no value, and its default is right
+abbrev pub is_right : Row → Bool
+is_right row = is_right_drop row.kind row.otherwise && is_right_default row.otherwise row.kind row.special
+
+-- what the rows of a table keep to: each is found by its key, and is right
 abbrev pub RightRows : List Row → List Row → Type 0
 RightRows rows [] = Unit {0}
-RightRows rows (row ∷ rest) = (row_named (key_word row.0) rows ≡ Some row) × DropsRight row.1 row.3 × FitsDefault row.3 row.1 row.2 × RightRows rows rest
+RightRows rows (row ∷ rest) = (row_named (key_word row.key) rows ≡ Some row) × (is_right_drop row.kind row.otherwise ≡ true) × (is_right_default row.otherwise row.kind row.special ≡ true) × RightRows rows rest
+
+abbrev pub row_by_key : List Row → Row → Option Row
+row_by_key rows row = row_named (key_word row.key) rows
+
+pub same_rows : (a b : Option Row) (x y : List (Option Row)) → ◌≡◌ {A = List (Option Row)} (a ∷ x) (b ∷ y) → (a ≡ b) × (x ≡ y)
+same_rows a b x y e = (cc, cc)
+
+-- both are tests of the whole table
+pub right_rows : (rows rest : List Row) → map (row_by_key rows) rest ≡ map Some rest → list_all is_right rest ≡ true → RightRows rows rest
+right_rows rows [] e h = tt
+right_rows rows (row ∷ rest) e h =
+    let both = and_parts (is_right row) (list_all is_right rest) h in
+    let own = and_parts (is_right_drop row.kind row.otherwise) (is_right_default row.otherwise row.kind row.special) both.0 in
+    let found = same_rows (row_by_key rows row) (Some row) (map (row_by_key rows) rest) (map Some rest) e in
+    (found.0, own.0, own.1, right_rows rows rest found.1 both.1)
 
 -- answers that are good
 
@@ -76,34 +120,38 @@ no_err false e r out h = h
 same_word : (a b : List ℕ) → same a b ≡ true → a ≡ b
 same_word a b h = (bytes_eq-Decides a b).0 h
 
+pub false_of : (b : Bool) → not b ≡ true → b ≡ false
+false_of false e = refl
+false_of true e = absurd (false≢true e)
+
 same_self : (a : List ℕ) → same a a ≡ true
 same_self a = (bytes_eq-Decides a a).1 refl
 
 abbrev Named : List ℕ → Row → Type 0
-Named word row = (same (key_word row.0) word ≡ true) × DropsRight row.1 row.3
+Named word row = (same (key_word row.key) word ≡ true) × (is_right_drop row.kind row.otherwise ≡ true)
 
-named_by : (first : Row) (rest : List Row) (word : List ℕ) (row : Row) (c : Bool) → DropsRight first.1 first.3 → (find (λ r. same (key_word r.0) word) rest ≡ Some row → Named word row)
-    → same (key_word first.0) word ≡ c → cond c (Some first) (find (λ r. same (key_word r.0) word) rest) ≡ Some row → Named word row
+named_by : (first : Row) (rest : List Row) (word : List ℕ) (row : Row) (c : Bool) → is_right_drop first.kind first.otherwise ≡ true → (find (λ r. same (key_word r.key) word) rest ≡ Some row → Named word row)
+    → same (key_word first.key) word ≡ c → cond c (Some first) (find (λ r. same (key_word r.key) word) rest) ≡ Some row → Named word row
 named_by first rest word row true drops f h e = subst (Named word) (some_same first row e) (h, drops)
 named_by first rest word row false drops f h e = f e
 
-named : (rows rest : List Row) (word : List ℕ) (row : Row) → RightRows rows rest → find (λ r. same (key_word r.0) word) rest ≡ Some row → Named word row
+named : (rows rest : List Row) (word : List ℕ) (row : Row) → RightRows rows rest → find (λ r. same (key_word r.key) word) rest ≡ Some row → Named word row
 named rows [] word row right e = absurd (none_some row e)
 named rows (first ∷ rest) word row right e =
-    named_by first rest word row (same (key_word first.0) word) right.1 (λ f. named rows rest word row right.3 f) refl e
+    named_by first rest word row (same (key_word first.key) word) right.1 (λ f. named rows rest word row right.3 f) refl e
 
 named_is : (rows : List Row) (word : List ℕ) (row : Row) → RightRows rows rows → row_named word rows ≡ Some row → Named word row
 unfolding row_named
 named_is rows word row right e = named rows rows word row right e
 
 -- the row of its key is the row
-one_row : (rows : List Row) (row other : Row) → row_named (key_word row.0) rows ≡ Some row → row_named (key_word row.0) rows ≡ Some other → row ≡ other
+one_row : (rows : List Row) (row other : Row) → row_named (key_word row.key) rows ≡ Some row → row_named (key_word row.key) rows ≡ Some other → row ≡ other
 one_row rows row other e f = some_same row other (sym e ∙ f)
 
-given_in : (rows : List Row) (row : Row) (place : ℕ) (items : List Item) (v : Value) → row_named (key_word row.0) rows ≡ Some row → DropsRight row.1 row.3 → row_value row.1 row.2 place items ≡ Ok v
-    → (other : Row) → row_named (key_word row.0) rows ≡ Some other → InRow other v
+given_in : (rows : List Row) (row : Row) (place : ℕ) (items : List Item) (v : Value) → row_named (key_word row.key) rows ≡ Some row → is_right_drop row.kind row.otherwise ≡ true → row_value row.kind row.special place items ≡ Ok v
+    → (other : Row) → row_named (key_word row.key) rows ≡ Some other → InRow other v
 given_in rows row place items v e drops h other f =
-    subst (λ (r : Row). InRow r v) (one_row rows row other e f) (value_is row.0 row.1 row.2 row.3 place items v drops h)
+    subst (λ (r : Row). InRow r v) (one_row rows row other e f) (value_is row.key row.kind row.special row.otherwise place items v drops h)
 
 -- what is given
 
@@ -112,9 +160,9 @@ keyed_in : (rows : List Row) (given out : List Given) (word : List ℕ) (place :
 keyed_in rows given out word place items None right all f e = absurd (err_ok _ out e)
 keyed_in rows given out word place items (Some row) right all f e =
     let n = named_is rows word row right f in
-    let g = with_good given out row.0 (row_value row.1 row.2 place items) (no_err (is_given row.0 given) _ (with_value given row.0 (row_value row.1 row.2 place items)) out e) in
-    let found : row_named (key_word row.0) rows ≡ Some row = ap (λ w. row_named w rows) (same_word (key_word row.0) word n.0) ∙ f in
-    subst (AllIn rows) g.2 (all_push rows given (record { key = row.0; value = g.0 }) all (given_in rows row place items g.0 found n.1 g.1))
+    let g = with_good given out row.key (row_value row.kind row.special place items) (no_err (is_given row.key given) _ (with_value given row.key (row_value row.kind row.special place items)) out e) in
+    let found : row_named (key_word row.key) rows ≡ Some row = ap (λ w. row_named w rows) (same_word (key_word row.key) word n.0) ∙ f in
+    subst (AllIn rows) g.2 (all_push rows given (record { key = row.key; value = g.0 }) all (given_in rows row place items g.0 found n.1 g.1))
 
 keyed_by_in : (rows : List Row) (given out : List Given) (item : Item) (o : Option (List ℕ)) → RightRows rows rows → AllIn rows given → keyed_by rows given item o ≡ Ok out → AllIn rows out
 keyed_by_in rows given out item None right all e = absurd (err_ok _ out e)
@@ -133,7 +181,7 @@ each_in rows given out (item ∷ items) right all e =
 alone_in : (rows rest : List Row) (out : List Given) (place : ℕ) (items : List Item) → RightRows rows rest → stands_alone rest place items ≡ Ok out → AllIn rows out
 alone_in rows [] out place items right e = absurd (err_ok _ out e)
 alone_in rows (row ∷ rest) out place items right e =
-    let g = with_good [] out row.0 (row_value row.1 row.2 place items) e in
+    let g = with_good [] out row.key (row_value row.kind row.special place items) e in
     subst (AllIn rows) g.2 (given_in rows row place items g.0 right.0 right.1 g.1, tt)
 
 first_by_in : (rows : List Row) (out : List Given) (item : Item) (o : Option (List ℕ)) → RightRows rows rows → first_by rows item o ≡ Ok out → AllIn rows out
@@ -152,20 +200,20 @@ items_in rows out (item ∷ items) right e =
 
 -- what is completed
 
-default_in : (key : Key) (k : Kind) (s : Special) (d : Default) (v : Value) → FitsDefault d k s → default_value d key s ≡ Ok v → InRow (row_of key k s d) v
+default_in : (key : Key) (k : Kind) (s : Special) (d : Default) (v : Value) → is_right_default d k s ≡ true → default_value d key s ≡ Ok v → InRow (row_of key k s d) v
 default_in key k s default.Required v h e = absurd (err_ok _ v e)
-default_in key k s default.Nothing v h e = subst (InRow (row_of key k s default.Nothing)) (ok_same value.Nothing v e) tt
-default_in key k s default.Special v h e = subst (InRow (row_of key k s default.Special)) (ok_same (value.Special s) v e) (refl, h)
-default_in key k s (default.Number n) v h e = subst (InRow (row_of key k s (default.Number n))) (ok_same (value.Number n) v e) h
-default_in key k s default.Yes v h e = subst (InRow (row_of key k s default.Yes)) (ok_same (value.Flag true) v e) h
-default_in key k s default.No v h e = subst (InRow (row_of key k s default.No)) (ok_same (value.Flag false) v e) h
-default_in key k s default.Cntrld v h e = subst (InRow (row_of key k s default.Cntrld)) (ok_same (value.Ending Cntrld) v e) h
-default_in key k s default.Qbatch v h e = subst (InRow (row_of key k s default.Qbatch)) (ok_same (value.Object qbatch) v e) h
-default_in key k s default.Qdftjobd v h e = subst (InRow (row_of key k s default.Qdftjobd)) (ok_same (value.Object qdftjobd) v e) h
-default_in key k s default.Qcmdi v h e = subst (InRow (row_of key k s default.Qcmdi)) (ok_same (value.Text (codes "QCMDI")) v e) h
-default_in key k s default.Qcmdb v h e = subst (InRow (row_of key k s default.Qcmdb)) (ok_same (value.Text (codes "QCMDB")) v e) h
-default_in key k s default.Today v h e = subst (InRow (row_of key k s default.Today)) (ok_same (value.Date date.Current) v e) h
-default_in key k s default.Now v h e = subst (InRow (row_of key k s default.Now)) (ok_same (value.Time time.Current) v e) h
+default_in key k s default.Nothing v h e = subst (InRow (row_of key k s default.Nothing)) (ok_same value.Nothing v e) refl
+default_in key k s default.Special v h e = subst (InRow (row_of key k s default.Special)) (ok_same (value.Special s) v e) (refl, false_of (is_never s) h)
+default_in key k s (default.Number n) v h e = subst (InRow (row_of key k s (default.Number n))) (ok_same (value.Number n) v e) (of_kind k (value.Number n) h)
+default_in key k s default.Yes v h e = subst (InRow (row_of key k s default.Yes)) (ok_same (value.Flag true) v e) (of_kind k (value.Flag true) h)
+default_in key k s default.No v h e = subst (InRow (row_of key k s default.No)) (ok_same (value.Flag false) v e) (of_kind k (value.Flag false) h)
+default_in key k s default.Cntrld v h e = subst (InRow (row_of key k s default.Cntrld)) (ok_same (value.Ending Cntrld) v e) (of_kind k (value.Ending Cntrld) h)
+default_in key k s default.Qbatch v h e = subst (InRow (row_of key k s default.Qbatch)) (ok_same (value.Object qbatch) v e) (of_kind k (value.Object qbatch) h)
+default_in key k s default.Qdftjobd v h e = subst (InRow (row_of key k s default.Qdftjobd)) (ok_same (value.Object qdftjobd) v e) (of_kind k (value.Object qdftjobd) h)
+default_in key k s default.Qcmdi v h e = subst (InRow (row_of key k s default.Qcmdi)) (ok_same (value.Text (codes "QCMDI")) v e) (of_kind k (value.Text (codes "QCMDI")) h)
+default_in key k s default.Qcmdb v h e = subst (InRow (row_of key k s default.Qcmdb)) (ok_same (value.Text (codes "QCMDB")) v e) (of_kind k (value.Text (codes "QCMDB")) h)
+default_in key k s default.Today v h e = subst (InRow (row_of key k s default.Today)) (ok_same (value.Date date.Current) v e) (of_kind k (value.Date date.Current) h)
+default_in key k s default.Now v h e = subst (InRow (row_of key k s default.Now)) (ok_same (value.Time time.Current) v e) (of_kind k (value.Time time.Current) h)
 
 key_self : (k : Key) → same_key k k ≡ true
 unfolding same_key
@@ -192,30 +240,30 @@ record Completed (rows : List Row) (key : Key) (given out : List Given) : Type 0
   has : is_given key out ≡ true
   kept : (k : Key) → is_given k given ≡ true → is_given k out ≡ true
 
-complete_in : (rows : List Row) (row : Row) (given out : List Given) → row_named (key_word row.0) rows ≡ Some row → FitsDefault row.3 row.1 row.2 → AllIn rows given → complete given row ≡ Ok out
-    → Completed rows row.0 given out
+complete_in : (rows : List Row) (row : Row) (given out : List Given) → row_named (key_word row.key) rows ≡ Some row → is_right_default row.otherwise row.kind row.special ≡ true → AllIn rows given → complete given row ≡ Ok out
+    → Completed rows row.key given out
 unfolding complete
-complete_in rows row given out f fits all e = by_test (is_given row.0 given) refl e
+complete_in rows row given out f fits all e = by_test (is_given row.key given) refl e
   where
-    pushed : (v : Value) → default_value row.3 row.0 row.2 ≡ Ok v → Completed rows row.0 given (given ++ record { key = row.0; value = v } ∷ [])
+    pushed : (v : Value) → default_value row.otherwise row.key row.special ≡ Ok v → Completed rows row.key given (given ++ record { key = row.key; value = v } ∷ [])
     pushed v h =
         record {
-          all = all_push rows given (record { key = row.0; value = v }) all
-              (λ other k. subst (λ (r : Row). InRow r v) (one_row rows row other f k) (default_in row.0 row.1 row.2 row.3 v fits h));
-          has = given_last row.0 given v;
-          kept = λ k h. given_push k given (record { key = row.0; value = v }) h;
+          all = all_push rows given (record { key = row.key; value = v }) all
+              (λ other k. subst (λ (r : Row). InRow r v) (one_row rows row other f k) (default_in row.key row.kind row.special row.otherwise v fits h));
+          has = given_last row.key given v;
+          kept = λ k h. given_push k given (record { key = row.key; value = v }) h;
         }
 
-    by_test : (c : Bool) → is_given row.0 given ≡ c → cond c (Ok given) (with_value given row.0 (default_value row.3 row.0 row.2)) ≡ Ok out → Completed rows row.0 given out
-    by_test true h e = subst (Completed rows row.0 given) (ok_same given out e) (record { all = all; has = h; kept = λ k h. h })
+    by_test : (c : Bool) → is_given row.key given ≡ c → cond c (Ok given) (with_value given row.key (default_value row.otherwise row.key row.special)) ≡ Ok out → Completed rows row.key given out
+    by_test true h e = subst (Completed rows row.key given) (ok_same given out e) (record { all = all; has = h; kept = λ k h. h })
     by_test false h e =
-        let g = with_good given out row.0 (default_value row.3 row.0 row.2) e in
-        subst (Completed rows row.0 given) g.2 (pushed g.0 g.1)
+        let g = with_good given out row.key (default_value row.otherwise row.key row.special) e in
+        subst (Completed rows row.key given) g.2 (pushed g.0 g.1)
 
 -- each of these rows' keys is given
 abbrev AllGiven : List Row → List Given → Type 0
 AllGiven [] out = Unit {0}
-AllGiven (row ∷ rest) out = (is_given row.0 out ≡ true) × AllGiven rest out
+AllGiven (row ∷ rest) out = (is_given row.key out ≡ true) × AllGiven rest out
 
 record CompletedAll (rows rest : List Row) (given out : List Given) : Type 0 where
   all : AllIn rows out
@@ -228,32 +276,32 @@ each_complete rows (row ∷ rest) given out right all e =
     let g = go_good (complete given row) (λ t. each complete t rest) out e in
     let step = complete_in rows row given g.0 right.0 right.2 all g.1 in
     let more = each_complete rows rest g.0 out right.3 step.all g.2 in
-    record { all = more.all; has = (more.kept row.0 step.has, more.has); kept = λ k h. more.kept k (step.kept k h) }
+    record { all = more.all; has = (more.kept row.key step.has, more.has); kept = λ k h. more.kept k (step.kept k h) }
 
 abbrev option_value : Option Given → Option Value
 option_value o = option_map (λ g. g.value) o
 
 -- a key of a row has a value of the row
 abbrev pub Has : Row → List Given → Type 0
-Has row given = (v : Value) × (value_of row.0 given ≡ Some v) × InRow row v
+Has row given = (v : Value) × (value_of row.key given ≡ Some v) × InRow row v
 
 abbrev keyed_first : Bool → Key → Given → List Given → Option Value
 keyed_first c key g given = option_value (cond c (Some g) (find (λ x. same_key x.key key) given))
 
-has_first : (rows : List Row) (row : Row) (g : Given) (given : List Given) (c : Bool) → row_named (key_word row.0) rows ≡ Some row
-    → ((other : Row) → row_named (key_word g.key) rows ≡ Some other → InRow other g.value) → (is_given row.0 given ≡ true → Has row given)
-    → same_key g.key row.0 ≡ c → (c || is_given row.0 given) ≡ true → Has row (g ∷ given)
+has_first : (rows : List Row) (row : Row) (g : Given) (given : List Given) (c : Bool) → row_named (key_word row.key) rows ≡ Some row
+    → ((other : Row) → row_named (key_word g.key) rows ≡ Some other → InRow other g.value) → (is_given row.key given ≡ true → Has row given)
+    → same_key g.key row.key ≡ c → (c || is_given row.key given) ≡ true → Has row (g ∷ given)
 unfolding value_of same_key
 has_first rows row g given true f own rest t h =
-    (g.value, ap (λ c. keyed_first c row.0 g given) t, own row (ap (λ w. row_named w rows) (same_word (key_word g.key) (key_word row.0) t) ∙ f))
+    (g.value, ap (λ c. keyed_first c row.key g given) t, own row (ap (λ w. row_named w rows) (same_word (key_word g.key) (key_word row.key) t) ∙ f))
 has_first rows row g given false f own rest t h =
     let r = rest h in
-    (r.0, ap (λ c. keyed_first c row.0 g given) t ∙ r.1, r.2)
+    (r.0, ap (λ c. keyed_first c row.key g given) t ∙ r.1, r.2)
 
-has_value : (rows : List Row) (row : Row) (given : List Given) → row_named (key_word row.0) rows ≡ Some row → AllIn rows given → is_given row.0 given ≡ true → Has row given
+has_value : (rows : List Row) (row : Row) (given : List Given) → row_named (key_word row.key) rows ≡ Some row → AllIn rows given → is_given row.key given ≡ true → Has row given
 has_value rows row [] f all h = absurd (false≢true h)
 has_value rows row (g ∷ given) f all h =
-    has_first rows row g given (same_key g.key row.0) f all.0 (λ k. has_value rows row given f all.1 k) refl h
+    has_first rows row g given (same_key g.key row.key) f all.0 (λ k. has_value rows row given f all.1 k) refl h
 
 abbrev pub AllHave : List Row → List Given → Type 0
 AllHave [] given = Unit {0}

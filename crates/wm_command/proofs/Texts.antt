@@ -21,88 +21,17 @@ use Rattle.wm_command.specs.Table.{change_word}
 
 pub IsText-key : (k : Key) → IsText (key_word k)
 IsText-key key.Cls = refl
-IsText-key key.Runpty = refl
-IsText-key key.Timeslice = refl
-IsText-key key.Dftwait = refl
-IsText-key key.Jobq = refl
-IsText-key key.Pgm = refl
-IsText-key key.Path = refl
-IsText-key key.Jobd = refl
-IsText-key key.Jobpty = refl
-IsText-key key.Rtgdta = refl
-IsText-key key.Rqsdta = refl
-IsText-key key.Hold = refl
-IsText-key key.Sbsd = refl
-IsText-key key.Maxjobs = refl
-IsText-key key.Maxact = refl
-IsText-key key.Seqnbr = refl
-IsText-key key.Maxpty1 = refl
-IsText-key key.Maxpty2 = refl
-IsText-key key.Maxpty3 = refl
-IsText-key key.Maxpty4 = refl
-IsText-key key.Maxpty5 = refl
-IsText-key key.Maxpty6 = refl
-IsText-key key.Maxpty7 = refl
-IsText-key key.Maxpty8 = refl
-IsText-key key.Maxpty9 = refl
-IsText-key key.Cmpval = refl
-IsText-key key.Poolid = refl
-IsText-key key.Job = refl
-IsText-key key.Strjobs = refl
-IsText-key key.Inljobs = refl
-IsText-key key.Threshold = refl
-IsText-key key.Adljobs = refl
-IsText-key key.Maxuse = refl
-IsText-key key.Wait = refl
-IsText-key key.Sbs = refl
-IsText-key key.Option = refl
-IsText-key key.Delay = refl
-IsText-key key.Cmd = refl
-IsText-key key.Scddate = refl
-IsText-key key.Scdtime = refl
-IsText-key key.Text = refl
-IsText-key key.Pools = refl
+IsText-key k = refl
 
 pub IsText-special : (s : Special) → IsText (special_word s)
 unfolding special_word
 IsText-special special.Never = refl
-IsText-special special.Nomax = refl
-IsText-special special.None = refl
-IsText-special special.Jobd = refl
-IsText-special special.Same = refl
-IsText-special special.Nolimit = refl
-IsText-special special.Sbsd = refl
+IsText-special s = refl
 
 pub IsText-verb : (v : ChangeVerb) → IsText (change_word v)
 unfolding change_word
 IsText-verb change.Crtcls = refl
-IsText-verb change.Crtjobq = refl
-IsText-verb change.Crtpgmref = refl
-IsText-verb change.Crtjobd = refl
-IsText-verb change.Crtsbsd = refl
-IsText-verb change.Addjobqe = refl
-IsText-verb change.Addrtge = refl
-IsText-verb change.Addaje = refl
-IsText-verb change.Addpje = refl
-IsText-verb change.Rmvjobqe = refl
-IsText-verb change.Rmvrtge = refl
-IsText-verb change.Rmvaje = refl
-IsText-verb change.Rmvpje = refl
-IsText-verb change.Strsbs = refl
-IsText-verb change.Endsbs = refl
-IsText-verb change.Sbmjob = refl
-IsText-verb change.Hldjob = refl
-IsText-verb change.Rlsjob = refl
-IsText-verb change.Chgjob = refl
-IsText-verb change.Endjob = refl
-IsText-verb change.Hldjobq = refl
-IsText-verb change.Rlsjobq = refl
-IsText-verb change.Clrjobq = refl
-IsText-verb change.Strpj = refl
-IsText-verb change.Endpj = refl
-IsText-verb change.Evoke = refl
-IsText-verb change.Enduse = refl
-IsText-verb change.Pwrdwnsys = refl
+IsText-verb v = refl
 
 pub IsText-append : (xs ys : List ℕ) → IsText xs → IsText ys → IsText (xs ++ ys)
 IsText-append [] ys h g = g

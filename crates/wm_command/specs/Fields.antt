@@ -1,6 +1,6 @@
--- The values of keys as what a command's fields hold. Where a key has a value of another kind, which no row gives it, the
+-- The values of keys as what a command's fields hold, and fields as values. Where a key has a value of another kind, which no row gives it, the
 -- field holds the first that comes to hand.
-use Rattle.std.specs.Prelude.{ℕ, Bool, true, false, Option, Some, None, List, [], ◌∷◌, find, if◌then◌else◌, codes}
+use Rattle.std.specs.Prelude.{ℕ, Bool, true, false, Option, Some, None, List, [], ◌∷◌, find, if◌then◌else◌, codes, slice_index_or}
 use Rattle.std.specs.Option.{option_map}
 use Rattle.wm_base.specs.declared.qname.QName.{QName}
 use Rattle.wm_base.specs.declared.limit.Limit.{Limit}
@@ -19,6 +19,8 @@ use Rattle.wm_law.specs.declared.command.EndOption.{EndOption}
 use Rattle.wm_law.specs.declared.command.EndOption.TheVariants.{Cntrld}
 use Rattle.wm_law.specs.declared.command.JobRef.{JobRef}
 use Rattle.wm_law.specs.declared.command.JobRef.TheVariants.{Simple}
+use Rattle.wm_command.specs.declared.row.Special.{Special}
+use Rattle.wm_command.specs.declared.row.Special.TheVariants as special
 use Rattle.wm_command.specs.declared.value.Value.{Value}
 use Rattle.wm_command.specs.declared.value.Value.TheVariants as value
 use Rattle.wm_command.specs.declared.value.Given.{Given}
@@ -142,3 +144,24 @@ request_or cmd rqsdta = maybe (is_word_value rqsdta) (text_or rqsdta)
 -- the text of CMD's CALL, or RQSDTA
 unfoldable pub request_in : List Given → Option (List ℕ)
 request_in g = request_or (value_of key.Cmd g) (value_of key.Rqsdta g)
+
+-- The values that are shown of fields
+
+abbrev pub with_key : Key → Value → Given
+with_key k v = record { key = k; value = v }
+
+abbrev pub limit_value : Limit → Value
+limit_value NoMax = value.Special special.Nomax
+limit_value (Most n) = value.Number n
+
+-- the special word of the row, where there is no value
+abbrev pub word_or : Special → Option Value → Value
+word_or s None = value.Special s
+word_or s (Some v) = v
+
+abbrev pub or_special : {V : Type 0} → Special → (V → Value) → Option V → Value
+or_special s made v = word_or s (option_map made v)
+
+-- MAXPTY1 to MAXPTY9, of nine limits
+abbrev pub maxpty_value : Key → ℕ → List Limit → Given
+maxpty_value k i limits = with_key k (limit_value (slice_index_or limits i NoMax))

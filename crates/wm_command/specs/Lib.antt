@@ -1,8 +1,12 @@
 pub mod Call
+pub mod Control
 pub mod Each
+pub mod Entries
 pub mod Fields
+pub mod Jobs
 pub mod Line
 pub mod Made
+pub mod Objects
 pub mod Print
 pub mod Printed
 pub mod Reading

@@ -1,5 +1,5 @@
 -- The canonical text of a command.
-use Rattle.std.specs.Prelude.{ℕ, Bool, true, false, List, [], ◌++◌, ◌/◌, ◌%◌, ◌==◌, if◌then◌else◌, codes}
+use Rattle.std.specs.Prelude.{ℕ, List, [], ◌++◌, ◌/◌, ◌%◌, codes}
 use Rattle.std.specs.List.{flat_map}
 use Rattle.std.specs.Fmt.{decimal}
 use Rattle.wm_base.specs.Key.{key_word}
@@ -14,8 +14,6 @@ use Rattle.wm_when.specs.declared.schedule.DateSpec.TheVariants as date
 use Rattle.wm_when.specs.declared.schedule.TimeSpec.{TimeSpec}
 use Rattle.wm_when.specs.declared.schedule.TimeSpec.TheVariants as time
 use Rattle.wm_law.specs.declared.command.Command.{Command}
-use Rattle.wm_law.specs.declared.command.EndOption.{EndOption}
-use Rattle.wm_law.specs.declared.command.EndOption.TheVariants.{Cntrld, Immed}
 use Rattle.wm_law.specs.declared.command.JobRef.{JobRef}
 use Rattle.wm_law.specs.declared.command.JobRef.TheVariants.{Simple, ByUser, Full}
 use Rattle.wm_command.specs.declared.value.Value.{Value}
@@ -24,14 +22,7 @@ use Rattle.wm_command.specs.declared.value.Given.{Given}
 use Rattle.wm_command.specs.Shown.{values_of, verb_of}
 use Rattle.wm_command.specs.Table.{change_word}
 use Rattle.wm_command.specs.Values.{special_word}
-
-abbrev pub flag_text : Bool → List ℕ
-flag_text true = codes "*YES"
-flag_text false = codes "*NO"
-
-abbrev pub ending_text : EndOption → List ℕ
-ending_text Cntrld = codes "*CNTRLD"
-ending_text Immed = codes "*IMMED"
+use Rattle.wm_command.specs.Words.{flag_text, ending_text, date_word}
 
 abbrev pub job_text : JobRef → List ℕ
 job_text (Simple name) = name
@@ -42,23 +33,9 @@ abbrev pub cmp_text : Cmp → List ℕ
 cmp_text Any = codes "*ANY"
 cmp_text (Val text start) = quoted text ++ codes " " ++ decimal start
 
--- Monday is 1
-abbrev pub weekday_text : ℕ → List ℕ
-weekday_text n =
-    if n == 1 then codes "*MON"
-    else if n == 2 then codes "*TUE"
-    else if n == 3 then codes "*WED"
-    else if n == 4 then codes "*THU"
-    else if n == 5 then codes "*FRI"
-    else if n == 6 then codes "*SAT"
-    else codes "*SUN"
-
 abbrev pub date_text : DateSpec → List ℕ
-date_text date.Current = codes "*CURRENT"
-date_text date.MonthStart = codes "*MONTHSTR"
-date_text date.MonthEnd = codes "*MONTHEND"
-date_text (date.Weekday n) = weekday_text n
 date_text (date.Day n) = zero_padded 8 n
+date_text spec = date_word spec
 
 -- `hhmmss`
 abbrev pub second_text : ℕ → List ℕ

@@ -17,24 +17,24 @@ use Rattle.wm_command.specs.declared.verb.ReadVerb.TheVariants as read
 -- the parts of a row: its key, what that takes, its special word, and what it has where it isn't given
 
 abbrev pub row_key : Row → Key
-row_key row = row.0
+row_key row = row.key
 
 abbrev pub row_kind : Row → Kind
-row_kind row = row.1
+row_kind row = row.kind
 
 abbrev pub row_special : Row → Special
-row_special row = row.2
+row_special row = row.special
 
 abbrev pub row_otherwise : Row → Default
-row_otherwise row = row.3
+row_otherwise row = row.otherwise
 
 -- a key that takes its kind of value alone
 abbrev pub plain : Key → Kind → Default → Row
-plain k takes otherwise = record { 0 = k; 1 = takes; 2 = special.Never; 3 = otherwise }
+plain k takes otherwise = record { key = k; kind = takes; special = special.Never; otherwise = otherwise }
 
 -- a key that takes a special word too
 abbrev pub or_word : Key → Kind → Special → Default → Row
-or_word k takes word otherwise = record { 0 = k; 1 = takes; 2 = word; 3 = otherwise }
+or_word k takes word otherwise = record { key = k; kind = takes; special = word; otherwise = otherwise }
 
 unfoldable pub change_rows : ChangeVerb → List Row
 change_rows change.Crtcls =

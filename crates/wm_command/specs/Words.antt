@@ -1,5 +1,5 @@
 -- What texts say: numbers, names, dates and times.
-use Rattle.std.specs.Prelude.{ℕ, Bool, true, false, not, Option, Some, None, List, length, take, drop, ◌+◌, ◌-◌, ◌*◌, ◌/◌, ◌%◌, ◌==◌, ◌&&◌, nat_lt, nat_le, nat_eq, if◌then◌else◌, codes, take_while, fold}
+use Rattle.std.specs.Prelude.{ℕ, Bool, true, false, not, Option, Some, None, List, length, take, drop, ◌+◌, ◌-◌, ◌*◌, ◌/◌, ◌%◌, ◌==◌, ◌&&◌, nat_lt, nat_le, nat_eq, if◌then◌else◌, codes, [], ◌∷◌, find, take_while, fold}
 use Rattle.std.specs.Cmp.Lexicographic.{pointwise}
 use Rattle.wm_base.specs.Name.{is_name}
 use Rattle.wm_when.specs.Schedule.{within, is_date}
@@ -82,37 +82,53 @@ job_with first (Some rest) = job_behind first (before_slash rest) (behind_slash 
 unfoldable pub job_of : List ℕ → Option JobRef
 job_of text = job_with (before_slash text) (behind_slash text)
 
--- Choices
+-- Words, each with what it says
 
 abbrev pub same : List ℕ → List ℕ → Bool
 same text word = pointwise nat_eq text word
 
+abbrev pub flag_text : Bool → List ℕ
+flag_text true = codes "*YES"
+flag_text false = codes "*NO"
+
 abbrev pub flag_of : List ℕ → Option Bool
-flag_of text = if same text (codes "*YES") then Some true else (if same text (codes "*NO") then Some false else None)
+flag_of text = find (λ flag. same text (flag_text flag)) (true ∷ false ∷ [])
+
+abbrev pub ending_text : EndOption → List ℕ
+ending_text Cntrld = codes "*CNTRLD"
+ending_text Immed = codes "*IMMED"
 
 abbrev pub ending_of : List ℕ → Option EndOption
-ending_of text = if same text (codes "*CNTRLD") then Some Cntrld else (if same text (codes "*IMMED") then Some Immed else None)
-
--- Dates and times
+ending_of text = find (λ ending. same text (ending_text ending)) (Cntrld ∷ Immed ∷ [])
 
 -- Monday is 1
-abbrev pub weekday_of : List ℕ → Option DateSpec
-weekday_of text =
-    if same text (codes "*MON") then Some (date.Weekday 1)
-    else if same text (codes "*TUE") then Some (date.Weekday 2)
-    else if same text (codes "*WED") then Some (date.Weekday 3)
-    else if same text (codes "*THU") then Some (date.Weekday 4)
-    else if same text (codes "*FRI") then Some (date.Weekday 5)
-    else if same text (codes "*SAT") then Some (date.Weekday 6)
-    else if same text (codes "*SUN") then Some (date.Weekday 7)
-    else None
+abbrev pub weekday_text : ℕ → List ℕ
+weekday_text n =
+    if n == 1 then codes "*MON"
+    else if n == 2 then codes "*TUE"
+    else if n == 3 then codes "*WED"
+    else if n == 4 then codes "*THU"
+    else if n == 5 then codes "*FRI"
+    else if n == 6 then codes "*SAT"
+    else codes "*SUN"
+
+-- a day has none
+abbrev pub date_word : DateSpec → List ℕ
+date_word date.Current = codes "*CURRENT"
+date_word date.MonthStart = codes "*MONTHSTR"
+date_word date.MonthEnd = codes "*MONTHEND"
+date_word (date.Weekday n) = weekday_text n
+date_word (date.Day n) = []
+
+abbrev pub dates_with_words : List DateSpec
+dates_with_words =
+    date.Current ∷ date.MonthStart ∷ date.MonthEnd ∷ date.Weekday 1 ∷ date.Weekday 2 ∷ date.Weekday 3 ∷ date.Weekday 4
+    ∷ date.Weekday 5 ∷ date.Weekday 6 ∷ date.Weekday 7 ∷ []
 
 abbrev pub date_word_of : List ℕ → Option DateSpec
-date_word_of text =
-    if same text (codes "*CURRENT") then Some date.Current
-    else if same text (codes "*MONTHSTR") then Some date.MonthStart
-    else if same text (codes "*MONTHEND") then Some date.MonthEnd
-    else weekday_of text
+date_word_of text = find (λ spec. same text (date_word spec)) dates_with_words
+
+-- Dates and times
 
 abbrev pub day_of : Option ℕ → Option DateSpec
 day_of None = None

@@ -1,8 +1,10 @@
-// The values of keys as what a command's fields hold.
-ghost use Rattle.std.specs.Prelude.{◌≡◌};
-ghost use Rattle.wm_command.specs.Fields.{maybe};
+// The values of keys as what a command's fields hold, and fields as values.
+ghost use Rattle.std.specs.Prelude.{◌≡◌, IfOk};
+ghost use Rattle.wm_command.specs.Fields.{maybe, limit_value, word_or, or_special};
+ghost use Rattle.wm_command.specs.declared.value.Value.TheVariants as value;
 
 use crate::reading::same_key;
+use crate::row::Special;
 use crate::value::{Value, Values};
 use wm_base::{Key, Limit, Name, NoMemory, Priority, QName, Text};
 use wm_desc::{Cmp, qbatch};
@@ -14,6 +16,43 @@ pub fn maybe<V: Drop>(is_word: bool, value: V) -> Option<V>
     ensures { result ≡ maybe is_word value }
 {
     if is_word { None } else { Some(value) }
+}
+
+pub fn limit_value(limit: Limit) -> Value
+    ensures { result ≡ limit_value limit }
+{
+    match limit {
+        Limit::NoMax => Value::Special(Special::Nomax),
+        Limit::Most(n) => Value::Number(n),
+    }
+}
+
+/// The special word of the row, where there is no value.
+pub fn word_or(special: Special, value: Option<Value>) -> Value
+    ensures { result ≡ word_or special value }
+{
+    match value {
+        None => Value::Special(special),
+        Some(value) => value,
+    }
+}
+
+pub fn text_or(special: Special, text: &Option<Text>) -> Result<Value, NoMemory>
+    ensures { IfOk result (λ v. v ≡ or_special special value.Text text.now) }
+{
+    match text {
+        None => Ok(Value::Special(special)),
+        Some(text) => Ok(Value::Text(text.clone()?)),
+    }
+}
+
+pub fn priority_or(special: Special, priority: Option<Priority>) -> Value
+    ensures { result ≡ or_special special value.Number priority }
+{
+    match priority {
+        None => Value::Special(special),
+        Some(priority) => Value::Number(priority.get() as u32),
+    }
 }
 
 impl Values {

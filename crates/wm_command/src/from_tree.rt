@@ -1,62 +1,20 @@
 // Commands from trees.
 ghost use Rattle.std.specs.Prelude.{◌≡◌, ◌≢◌, IfOk, IfErr, Ok, Err};
 ghost use Rattle.wm_command.specs.Printed.{FitsMachine, KeepsForms, LineHasTexts, LineIsReadBack};
-ghost use Rattle.wm_command.specs.Line.{change_named, read_named, one_request, lacks, own_fault, change_line, read_made, read_line, line_of};
+ghost use Rattle.wm_command.specs.Line.{change_named, read_named, lacks, own_fault, change_line, read_made, read_line, line_of};
 
+use crate::commands::change_made;
 use crate::fault::CmdFault;
 use crate::line::Line;
-use crate::made::change_made;
 use crate::printable::texts_are_printable;
 use crate::reading::all_given;
-use crate::table::{change_rows, change_word, read_rows, read_word};
+use crate::table::{CHANGES, READS, change_rows, change_word, read_rows, read_word};
 use crate::value::Values;
 use crate::verb::{ChangeVerb, ReadVerb};
 use std::alloc::Global;
 use wm_base::{Key, Name};
 use wm_clwords::{Item, Tree};
 use wm_law::Ask;
-
-/// The commands that change the state, in the order of the table.
-pub const CHANGES: [ChangeVerb; 28] = [
-    ChangeVerb::Crtcls,
-    ChangeVerb::Crtjobq,
-    ChangeVerb::Crtpgmref,
-    ChangeVerb::Crtjobd,
-    ChangeVerb::Crtsbsd,
-    ChangeVerb::Addjobqe,
-    ChangeVerb::Addrtge,
-    ChangeVerb::Addaje,
-    ChangeVerb::Addpje,
-    ChangeVerb::Rmvjobqe,
-    ChangeVerb::Rmvrtge,
-    ChangeVerb::Rmvaje,
-    ChangeVerb::Rmvpje,
-    ChangeVerb::Strsbs,
-    ChangeVerb::Endsbs,
-    ChangeVerb::Sbmjob,
-    ChangeVerb::Hldjob,
-    ChangeVerb::Rlsjob,
-    ChangeVerb::Chgjob,
-    ChangeVerb::Endjob,
-    ChangeVerb::Hldjobq,
-    ChangeVerb::Rlsjobq,
-    ChangeVerb::Clrjobq,
-    ChangeVerb::Strpj,
-    ChangeVerb::Endpj,
-    ChangeVerb::Evoke,
-    ChangeVerb::Enduse,
-    ChangeVerb::Pwrdwnsys,
-];
-
-/// The commands that read, in the order of the table.
-pub const READS: [ReadVerb; 6] = [
-    ReadVerb::Wrkactjob,
-    ReadVerb::Wrksbmjob,
-    ReadVerb::Wrksbs,
-    ReadVerb::Dsplog,
-    ReadVerb::Wrkjobq,
-    ReadVerb::Dspjob,
-];
 
 #[tactic(auto, unfolding(crate::specs::Line::change_named))]
 fn change_named(name: &Name) -> Option<ChangeVerb>
@@ -78,21 +36,16 @@ fn read_named(name: &Name) -> Option<ReadVerb>
         .find(|verb| read_word(*verb).as_bytes() == name.as_bytes())
 }
 
-fn one_request(no_cmd: bool, no_rqsdta: bool) -> Option<CmdFault>
-    ensures { result ≡ one_request no_cmd no_rqsdta }
-{
-    match (no_cmd, no_rqsdta) {
-        (true, true) => Some(CmdFault::Missing(Key::Cmd)),
-        (false, false) => Some(CmdFault::Conflict(Key::Cmd, Key::Rqsdta)),
-        _ => None,
-    }
-}
-
+// SBMJOB has a request, and not two.
 fn own_fault(verb: ChangeVerb, values: &Values) -> Option<CmdFault>
     ensures { result ≡ own_fault verb values.now }
 {
-    match verb {
-        ChangeVerb::Sbmjob => one_request(values.lacks(Key::Cmd), values.lacks(Key::Rqsdta)),
+    if verb != ChangeVerb::Sbmjob {
+        return None;
+    }
+    match (values.lacks(Key::Cmd), values.lacks(Key::Rqsdta)) {
+        (true, true) => Some(CmdFault::Missing(Key::Cmd)),
+        (false, false) => Some(CmdFault::Conflict(Key::Cmd, Key::Rqsdta)),
         _ => None,
     }
 }

@@ -5,31 +5,27 @@
 //! table's forms and ranges, so that its canonical text is read as the same command.
 //!
 //! The definitions are in `specs/`: `Table` (what each command's keys take), `Words` (what texts say), `Values` and `Call`
-//! (what the values behind a key are read as), `Reading` (what items give keys), `Fields` and `Made` (commands of values),
-//! `Line` (what a tree is), `Shown` and `Print` (what a command is as text), `Printed` (that this text is read as the
-//! command again).
+//! (what the values behind a key are read as), `Reading` (what items give keys), `Fields` (values and what a command's fields
+//! hold), `Objects`, `Entries`, `Jobs` and `Control` (each command of its values, and its values again), with `Made` and
+//! `Shown` over all of them, `Line` (what a tree is), `Print` (what a command is as text), `Printed` (that this text is read
+//! as the command again).
 #![tactic(auto)]
 
 mod call;
+mod commands;
+mod control;
+mod entries;
 mod fault;
 mod fields;
 mod from_tree;
+mod jobs;
 mod laws;
 mod line;
-mod made;
-mod made_control;
-mod made_create;
-mod made_entry;
-mod made_job;
+mod objects;
 mod printable;
 mod printing;
 mod reading;
 mod row;
-mod shown;
-mod shown_control;
-mod shown_create;
-mod shown_entry;
-mod shown_job;
 mod table;
 mod value;
 mod values;
@@ -37,12 +33,12 @@ mod verb;
 mod words;
 mod written;
 
+pub use commands::command_word;
 pub use fault::CmdFault;
-pub use from_tree::{CHANGES, READS, command};
+pub use from_tree::command;
 pub use laws::{printed_command_is_read, shown_values_make_the_command};
 pub use line::Line;
 pub use printing::print;
 pub use row::{Default as RowDefault, Kind as ValueKind, Row, Special};
-pub use shown::command_word;
-pub use table::{change_rows, change_word, read_rows, read_word};
+pub use table::{CHANGES, READS, change_rows, change_word, read_rows, read_word};
 pub use verb::{ChangeVerb, ReadVerb};

@@ -4,23 +4,25 @@ ghost use Rattle.std.specs.List.{flat_map};
 ghost use Rattle.std.specs.Fmt.{decimal};
 ghost use Rattle.wm_base.specs.Number.{zero_padded};
 ghost use Rattle.wm_base.specs.Text.{IsText};
-ghost use Rattle.wm_base.specs.Key.{key_word};
-ghost use Rattle.wm_command.specs.Table.{change_word};
-ghost use Rattle.wm_command.specs.Values.{special_word};
-ghost use Rattle.wm_law.specs.declared.command.JobRef.{JobRef};
-ghost use Rattle.wm_command.specs.Print.{flag_text, ending_text, job_text, cmp_text, weekday_text, date_text, second_text, time_text, value_text, given_text, command_text};
+ghost use Rattle.wm_command.specs.Print.{job_text, cmp_text, date_text, time_text, value_text, given_text, command_text};
 
-use crate::row::Special;
-use crate::shown::{values_of, verb_of};
-use crate::table::change_word;
+use crate::commands::{command_word, values_of};
 use crate::value::{Given, Value};
-use crate::verb::ChangeVerb;
+use crate::words::{date_word, ending_word, flag_word};
 use std::alloc::Global;
-use wm_base::{JobName, Key, Name, NoMemory, Text};
+use wm_base::{Name, NoMemory, Text};
 use wm_clwords::{push_qname, push_quoted};
 use wm_desc::Cmp;
-use wm_law::{Command, EndOption, JobRef};
+use wm_law::{Command, JobRef};
 use wm_when::{DateSpec, TimeSpec};
+
+fn push_word(out: &mut Text, word: &str) -> Result<(), NoMemory>
+    requires { IsText word.now }
+    ensures { OnOk result (out.new ≡ out.old ++ word.now) }
+{
+    out.push_bytes(word.as_bytes())?;
+    Ok(())
+}
 
 #[tactic(auto, using(crate::proofs::Texts::texts))]
 fn push_name(out: &mut Text, name: &Name) -> Result<(), NoMemory>
@@ -66,43 +68,6 @@ fn push_six(alloc: Global, out: &mut Text, n: u32) -> Result<(), NoMemory>
     Ok(())
 }
 
-fn push_flag(out: &mut Text, flag: bool) -> Result<(), NoMemory>
-    ensures { OnOk result (out.new ≡ out.old ++ flag_text flag) }
-{
-    if flag {
-        out.push_bytes(b"*YES")?;
-    } else {
-        out.push_bytes(b"*NO")?;
-    }
-    Ok(())
-}
-
-fn push_ending(out: &mut Text, ending: EndOption) -> Result<(), NoMemory>
-    ensures { OnOk result (out.new ≡ out.old ++ ending_text ending) }
-{
-    match ending {
-        EndOption::Cntrld => {
-            out.push_bytes(b"*CNTRLD")?;
-            Ok(())
-        }
-        EndOption::Immed => {
-            out.push_bytes(b"*IMMED")?;
-            Ok(())
-        }
-    }
-}
-
-fn push_full(alloc: Global, out: &mut Text, job: &JobName) -> Result<(), NoMemory>
-    ensures { OnOk result (out.new ≡ out.old ++ job_text (JobRef.Full job.now)) }
-{
-    push_six(alloc, out, job.number.get())?;
-    out.push_bytes(b"/")?;
-    push_name(out, &job.user)?;
-    out.push_bytes(b"/")?;
-    push_name(out, &job.name)?;
-    Ok(())
-}
-
 fn push_job(alloc: Global, out: &mut Text, job: &JobRef) -> Result<(), NoMemory>
     ensures { OnOk result (out.new ≡ out.old ++ job_text job.now) }
 {
@@ -118,7 +83,11 @@ fn push_job(alloc: Global, out: &mut Text, job: &JobRef) -> Result<(), NoMemory>
             Ok(())
         }
         JobRef::Full(job) => {
-            push_full(alloc, out, job)?;
+            push_six(alloc, out, job.number.get())?;
+            out.push_bytes(b"/")?;
+            push_name(out, &job.user)?;
+            out.push_bytes(b"/")?;
+            push_name(out, &job.name)?;
             Ok(())
         }
     }
@@ -141,55 +110,19 @@ fn push_cmp(alloc: Global, out: &mut Text, cmp: &Cmp) -> Result<(), NoMemory>
     }
 }
 
-fn weekday(day: u8) -> &'static [u8]
-    ensures value { result.now ≡ weekday_text day }
-    ensures text { IsText result.now }
-{
-    match day {
-        1 => b"*MON",
-        2 => b"*TUE",
-        3 => b"*WED",
-        4 => b"*THU",
-        5 => b"*FRI",
-        6 => b"*SAT",
-        _ => b"*SUN",
-    }
-}
-
 fn push_date(alloc: Global, out: &mut Text, date: &DateSpec) -> Result<(), NoMemory>
     ensures { OnOk result (out.new ≡ out.old ++ date_text date.now) }
 {
     match date {
-        DateSpec::Current => {
-            out.push_bytes(b"*CURRENT")?;
-            Ok(())
-        }
-        DateSpec::MonthStart => {
-            out.push_bytes(b"*MONTHSTR")?;
-            Ok(())
-        }
-        DateSpec::MonthEnd => {
-            out.push_bytes(b"*MONTHEND")?;
-            Ok(())
-        }
-        DateSpec::Weekday(day) => {
-            out.push_bytes(weekday(*day))?;
-            Ok(())
-        }
         DateSpec::Day(day) => {
             push_eight(alloc, out, *day)?;
             Ok(())
         }
+        word => {
+            push_word(out, date_word(*word))?;
+            Ok(())
+        }
     }
-}
-
-fn push_second(alloc: Global, out: &mut Text, n: u32) -> Result<(), NoMemory>
-    ensures { OnOk result (out.new ≡ out.old ++ second_text n) }
-{
-    push_two(alloc, out, n / 3600)?;
-    push_two(alloc, out, n / 60 % 60)?;
-    push_two(alloc, out, n % 60)?;
-    Ok(())
 }
 
 fn push_time(alloc: Global, out: &mut Text, time: &TimeSpec) -> Result<(), NoMemory>
@@ -201,33 +134,27 @@ fn push_time(alloc: Global, out: &mut Text, time: &TimeSpec) -> Result<(), NoMem
             Ok(())
         }
         TimeSpec::At(n) => {
-            push_second(alloc, out, *n)?;
+            push_two(alloc, out, *n / 3600)?;
+            push_two(alloc, out, *n / 60 % 60)?;
+            push_two(alloc, out, *n % 60)?;
             Ok(())
         }
     }
 }
 
-#[tactic(auto, using(crate::proofs::Texts::texts))]
-fn push_special(out: &mut Text, special: Special) -> Result<(), NoMemory>
-    ensures { OnOk result (out.new ≡ out.old ++ special_word special) }
-{
-    out.push_bytes(special.word().as_bytes())?;
-    Ok(())
-}
-
-#[tactic(auto, unfolding(crate::specs::Print::value_text))]
+#[tactic(auto, using(crate::proofs::Texts::texts), unfolding(crate::specs::Print::value_text))]
 fn push_value(alloc: Global, out: &mut Text, value: &Value) -> Result<(), NoMemory>
     ensures { OnOk result (out.new ≡ out.old ++ value_text value.now) }
 {
     match value {
         Value::Nothing => {}
-        Value::Special(special) => push_special(out, *special)?,
+        Value::Special(special) => push_word(out, special.word())?,
         Value::Object(q) => push_qname(out, q)?,
         Value::Name(name) => push_name(out, name)?,
         Value::Text(text) => push_quoted(out, text)?,
         Value::Number(n) => push_number(alloc, out, *n)?,
-        Value::Flag(flag) => push_flag(out, *flag)?,
-        Value::Ending(ending) => push_ending(out, *ending)?,
+        Value::Flag(flag) => push_word(out, flag_word(*flag))?,
+        Value::Ending(ending) => push_word(out, ending_word(*ending))?,
         Value::Job(job) => push_job(alloc, out, job)?,
         Value::Compare(cmp) => push_cmp(alloc, out, cmp)?,
         Value::Date(date) => push_date(alloc, out, date)?,
@@ -237,26 +164,11 @@ fn push_value(alloc: Global, out: &mut Text, value: &Value) -> Result<(), NoMemo
 }
 
 #[tactic(auto, using(crate::proofs::Texts::texts))]
-fn push_key(out: &mut Text, key: Key) -> Result<(), NoMemory>
-    ensures { OnOk result (out.new ≡ out.old ++ key_word key) }
-{
-    out.push_bytes(key.word().as_bytes())?;
-    Ok(())
-}
-
-#[tactic(auto, using(crate::proofs::Texts::texts))]
-fn push_verb(out: &mut Text, verb: ChangeVerb) -> Result<(), NoMemory>
-    ensures { OnOk result (out.new ≡ out.old ++ change_word verb) }
-{
-    out.push_bytes(change_word(verb).as_bytes())?;
-    Ok(())
-}
-
 fn push_given(alloc: Global, out: &mut Text, given: &Given) -> Result<(), NoMemory>
     ensures { OnOk result (out.new ≡ out.old ++ given_text given.now) }
 {
     out.push_bytes(b" ")?;
-    push_key(out, given.key)?;
+    push_word(out, given.key.word())?;
     out.push_bytes(b"(")?;
     push_value(alloc, out, &given.value)?;
     out.push_bytes(b")")?;
@@ -274,12 +186,13 @@ fn push_all(alloc: Global, out: &mut Text, all: &[Given]) -> Result<(), NoMemory
 
 /// The canonical text of a command: its name, and every key of the table in order with its value. CMD isn't printed,
 /// its text stands in RQSDTA. An `Err` is want of memory.
+#[tactic(auto, using(crate::proofs::Texts::texts))]
 pub fn print(alloc: Global, command: &Command) -> Result<Text, NoMemory>
     ensures { IfOk result (λ text. text ≡ command_text command.now) }
 {
     let values = values_of(alloc, command)?;
     let mut text = Text::new(alloc);
-    push_verb(&mut text, verb_of(command))?;
+    push_word(&mut text, command_word(command))?;
     push_all(alloc, &mut text, values.as_slice())?;
     Ok(text)
 }

@@ -44,7 +44,7 @@ fn row_named(word: &[u8], rows: &[Row]) -> Option<Row>
 {
     rows.iter()
         .copied()
-        .find(|row| row.0.word().as_bytes() == word)
+        .find(|row| row.key.word().as_bytes() == word)
 }
 
 /// The value of a key, whose item begins at `place`.
@@ -52,11 +52,11 @@ fn row_value(alloc: Global, row: &Row, place: u32, items: &[Item]) -> Result<Val
     ensures ok { IfOk result (λ v. row_value (row_kind row.now) (row_special row.now) place items.now ≡ Ok v) }
     ensures err { IfErr result (λ e. e ≢ CmdFault.NoMemory → row_value (row_kind row.now) (row_special row.now) place items.now ≡ Err e) }
 {
-    match row.1 {
+    match row.kind {
         Kind::Compare => compared(place, items),
         Kind::Call => call_value(alloc, place, items),
         Kind::Anything => Ok(Value::Nothing),
-        kind => one_value(kind, row.2, place, items),
+        kind => one_value(kind, row.special, place, items),
     }
 }
 
@@ -70,11 +70,11 @@ fn keyed(
     ensures ok { OnOk result (keyed values.old place items.now (Some row.now) ≡ Ok values.new) }
     ensures err { IfErr result (λ e. e ≢ CmdFault.NoMemory → keyed values.old place items.now (Some row.now) ≡ Err e) }
 {
-    if is_given(row.0, values) {
+    if is_given(row.key, values) {
         return Err(CmdFault::Twice(place));
     }
     let value = row_value(alloc, row, place, items)?;
-    values.push(row.0, value)?;
+    values.push(row.key, value)?;
     Ok(())
 }
 
@@ -121,7 +121,7 @@ fn stands_alone(alloc: Global, rows: &[Row], place: u32, items: &[Item]) -> Resu
         [row, ..] => {
             let value = row_value(alloc, row, place, items)?;
             let mut values = Values::new(alloc);
-            values.push(row.0, value)?;
+            values.push(row.key, value)?;
             Ok(values)
         }
     }
@@ -167,10 +167,10 @@ fn default_value(alloc: Global, row: &Row) -> Result<Value, CmdFault>
     ensures ok { IfOk result (λ v. default_value (row_otherwise row.now) (row_key row.now) (row_special row.now) ≡ Ok v) }
     ensures err { IfErr result (λ e. e ≢ CmdFault.NoMemory → default_value (row_otherwise row.now) (row_key row.now) (row_special row.now) ≡ Err e) }
 {
-    match row.3 {
-        Default::Required => Err(CmdFault::Missing(row.0)),
+    match row.otherwise {
+        Default::Required => Err(CmdFault::Missing(row.key)),
         Default::Nothing => Ok(Value::Nothing),
-        Default::Special => Ok(Value::Special(row.2)),
+        Default::Special => Ok(Value::Special(row.special)),
         Default::Number(n) => Ok(Value::Number(n)),
         Default::Yes => Ok(Value::Flag(true)),
         Default::No => Ok(Value::Flag(false)),
@@ -195,11 +195,11 @@ fn complete(alloc: Global, values: &mut Values, row: &Row) -> Result<(), CmdFaul
     ensures ok { OnOk result (complete values.old row.now ≡ Ok values.new) }
     ensures err { IfErr result (λ e. e ≢ CmdFault.NoMemory → complete values.old row.now ≡ Err e) }
 {
-    if is_given(row.0, values) {
+    if is_given(row.key, values) {
         return Ok(());
     }
     let value = default_value(alloc, row)?;
-    values.push(row.0, value)?;
+    values.push(row.key, value)?;
     Ok(())
 }
 

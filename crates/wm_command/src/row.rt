@@ -69,4 +69,9 @@ pub enum Default {
 
 /// A key of a command, what it takes, and what it has where it isn't given.
 #[derive(Clone, Copy, Debug, PartialEq, Eq)]
-pub struct Row(pub Key, pub Kind, pub Special, pub Default);
+pub struct Row {
+    pub key: Key,
+    pub kind: Kind,
+    pub special: Special,
+    pub otherwise: Default,
+}

@@ -1,458 +1,103 @@
 // The command table.
 ghost use Rattle.std.specs.Prelude.{◌≡◌};
+ghost use Rattle.wm_command.specs.Shown.{verb_of};
 ghost use Rattle.wm_command.specs.Table.{change_rows, change_word, read_rows, read_word};
 
 use crate::row::{Default, Kind, Row, Special};
 use crate::verb::{ChangeVerb, ReadVerb};
 use wm_base::Key;
+use wm_law::Command;
 
-const CRTCLS: [Row; 5] = [
-    Row(Key::Cls, Kind::Object, Special::Never, Default::Required),
-    Row(
-        Key::Runpty,
-        Kind::Number(1, 99),
-        Special::Never,
-        Default::Number(50),
-    ),
-    Row(
-        Key::Timeslice,
-        Kind::Number(1, 9_999_999),
-        Special::Never,
-        Default::Number(2_000),
-    ),
-    Row(
-        Key::Dftwait,
-        Kind::Number(1, 9_999_999),
-        Special::Nomax,
-        Default::Number(30),
-    ),
-    Row(Key::Text, Kind::Anything, Special::Never, Default::Nothing),
-];
-
-const CRTJOBQ: [Row; 2] = [
-    Row(Key::Jobq, Kind::Object, Special::Never, Default::Required),
-    Row(Key::Text, Kind::Anything, Special::Never, Default::Nothing),
-];
-
-const CRTPGMREF: [Row; 3] = [
-    Row(Key::Pgm, Kind::Program, Special::Never, Default::Required),
-    Row(Key::Path, Kind::Path, Special::Never, Default::Required),
-    Row(Key::Text, Kind::Anything, Special::Never, Default::Nothing),
-];
-
-const CRTJOBD: [Row; 7] = [
-    Row(Key::Jobd, Kind::Object, Special::Never, Default::Required),
-    Row(Key::Jobq, Kind::Object, Special::Never, Default::Qbatch),
-    Row(
-        Key::Jobpty,
-        Kind::Number(1, 9),
-        Special::Never,
-        Default::Number(5),
-    ),
-    Row(
-        Key::Rtgdta,
-        Kind::Text(1, 80),
-        Special::Never,
-        Default::Qcmdi,
-    ),
-    Row(
-        Key::Rqsdta,
-        Kind::Text(0, 1_000),
-        Special::None,
-        Default::Special,
-    ),
-    Row(Key::Hold, Kind::Flag, Special::Never, Default::No),
-    Row(Key::Text, Kind::Anything, Special::Never, Default::Nothing),
-];
-
-const CRTSBSD: [Row; 4] = [
-    Row(Key::Sbsd, Kind::Object, Special::Never, Default::Required),
-    Row(
-        Key::Maxjobs,
-        Kind::Number(0, 1_000),
-        Special::Nomax,
-        Default::Special,
-    ),
-    Row(Key::Pools, Kind::Anything, Special::Never, Default::Nothing),
-    Row(Key::Text, Kind::Anything, Special::Never, Default::Nothing),
-];
-
-const ADDJOBQE: [Row; 13] = [
-    Row(Key::Sbsd, Kind::Object, Special::Never, Default::Required),
-    Row(Key::Jobq, Kind::Object, Special::Never, Default::Required),
-    Row(
-        Key::Maxact,
-        Kind::Number(0, 1_000),
-        Special::Nomax,
-        Default::Number(1),
-    ),
-    Row(
-        Key::Seqnbr,
-        Kind::Number(1, 9_999),
-        Special::Never,
-        Default::Number(10),
-    ),
-    Row(
-        Key::Maxpty1,
-        Kind::Number(0, 99),
-        Special::Nomax,
-        Default::Special,
-    ),
-    Row(
-        Key::Maxpty2,
-        Kind::Number(0, 99),
-        Special::Nomax,
-        Default::Special,
-    ),
-    Row(
-        Key::Maxpty3,
-        Kind::Number(0, 99),
-        Special::Nomax,
-        Default::Special,
-    ),
-    Row(
-        Key::Maxpty4,
-        Kind::Number(0, 99),
-        Special::Nomax,
-        Default::Special,
-    ),
-    Row(
-        Key::Maxpty5,
-        Kind::Number(0, 99),
-        Special::Nomax,
-        Default::Special,
-    ),
-    Row(
-        Key::Maxpty6,
-        Kind::Number(0, 99),
-        Special::Nomax,
-        Default::Special,
-    ),
-    Row(
-        Key::Maxpty7,
-        Kind::Number(0, 99),
-        Special::Nomax,
-        Default::Special,
-    ),
-    Row(
-        Key::Maxpty8,
-        Kind::Number(0, 99),
-        Special::Nomax,
-        Default::Special,
-    ),
-    Row(
-        Key::Maxpty9,
-        Kind::Number(0, 99),
-        Special::Nomax,
-        Default::Special,
-    ),
-];
-
-const ADDRTGE: [Row; 7] = [
-    Row(Key::Sbsd, Kind::Object, Special::Never, Default::Required),
-    Row(
-        Key::Seqnbr,
-        Kind::Number(1, 9_999),
-        Special::Never,
-        Default::Required,
-    ),
-    Row(
-        Key::Cmpval,
-        Kind::Compare,
-        Special::Never,
-        Default::Required,
-    ),
-    Row(Key::Pgm, Kind::Program, Special::Never, Default::Required),
-    Row(Key::Cls, Kind::Object, Special::Sbsd, Default::Special),
-    Row(
-        Key::Maxact,
-        Kind::Number(0, 1_000),
-        Special::Nomax,
-        Default::Special,
-    ),
-    Row(
-        Key::Poolid,
-        Kind::Number(1, 10),
-        Special::Never,
-        Default::Number(1),
-    ),
-];
-
-const ADDAJE: [Row; 3] = [
-    Row(Key::Sbsd, Kind::Object, Special::Never, Default::Required),
-    Row(Key::Job, Kind::Name, Special::Never, Default::Required),
-    Row(Key::Jobd, Kind::Object, Special::Never, Default::Qdftjobd),
-];
-
-const ADDPJE: [Row; 11] = [
-    Row(Key::Sbsd, Kind::Object, Special::Never, Default::Required),
-    Row(Key::Pgm, Kind::Program, Special::Never, Default::Required),
-    Row(Key::Strjobs, Kind::Flag, Special::Never, Default::Yes),
-    Row(
-        Key::Inljobs,
-        Kind::Number(1, 9_999),
-        Special::Never,
-        Default::Number(3),
-    ),
-    Row(
-        Key::Threshold,
-        Kind::Number(1, 9_999),
-        Special::Never,
-        Default::Number(2),
-    ),
-    Row(
-        Key::Adljobs,
-        Kind::Number(0, 999),
-        Special::Never,
-        Default::Number(2),
-    ),
-    Row(
-        Key::Maxjobs,
-        Kind::Number(1, 9_999),
-        Special::Nomax,
-        Default::Special,
-    ),
-    Row(
-        Key::Maxuse,
-        Kind::Number(1, 1_000),
-        Special::Nomax,
-        Default::Number(200),
-    ),
-    Row(Key::Wait, Kind::Flag, Special::Never, Default::Yes),
-    Row(Key::Cls, Kind::Object, Special::Sbsd, Default::Special),
-    Row(
-        Key::Poolid,
-        Kind::Number(1, 10),
-        Special::Never,
-        Default::Number(1),
-    ),
-];
-
-const RMVJOBQE: [Row; 2] = [
-    Row(Key::Sbsd, Kind::Object, Special::Never, Default::Required),
-    Row(Key::Jobq, Kind::Object, Special::Never, Default::Required),
-];
-
-const RMVRTGE: [Row; 2] = [
-    Row(Key::Sbsd, Kind::Object, Special::Never, Default::Required),
-    Row(
-        Key::Seqnbr,
-        Kind::Number(1, 9_999),
-        Special::Never,
-        Default::Required,
-    ),
-];
-
-const RMVAJE: [Row; 2] = [
-    Row(Key::Sbsd, Kind::Object, Special::Never, Default::Required),
-    Row(Key::Job, Kind::Name, Special::Never, Default::Required),
-];
-
-const RMVPJE: [Row; 2] = [
-    Row(Key::Sbsd, Kind::Object, Special::Never, Default::Required),
-    Row(Key::Pgm, Kind::Program, Special::Never, Default::Required),
-];
-
-const STRSBS: [Row; 1] = [Row(Key::Sbsd, Kind::Object, Special::Never, Default::Required)];
-
-const ENDSBS: [Row; 3] = [
-    Row(Key::Sbs, Kind::Name, Special::Never, Default::Required),
-    Row(Key::Option, Kind::Ending, Special::Never, Default::Cntrld),
-    Row(
-        Key::Delay,
-        Kind::Number(1, 99_999),
-        Special::Nolimit,
-        Default::Special,
-    ),
-];
-
-const SBMJOB: [Row; 10] = [
-    Row(Key::Cmd, Kind::Call, Special::Never, Default::Nothing),
-    Row(
-        Key::Rqsdta,
-        Kind::Text(0, 1_000),
-        Special::Jobd,
-        Default::Nothing,
-    ),
-    Row(Key::Job, Kind::Name, Special::Jobd, Default::Special),
-    Row(Key::Jobd, Kind::Object, Special::Never, Default::Qdftjobd),
-    Row(Key::Jobq, Kind::Object, Special::Jobd, Default::Special),
-    Row(
-        Key::Jobpty,
-        Kind::Number(1, 9),
-        Special::Jobd,
-        Default::Special,
-    ),
-    Row(
-        Key::Rtgdta,
-        Kind::Text(1, 80),
-        Special::Jobd,
-        Default::Qcmdb,
-    ),
-    Row(Key::Hold, Kind::Flag, Special::Jobd, Default::Special),
-    Row(Key::Scddate, Kind::Date, Special::Never, Default::Today),
-    Row(Key::Scdtime, Kind::Time, Special::Never, Default::Now),
-];
-
-const HLDJOB: [Row; 1] = [Row(Key::Job, Kind::Job, Special::Never, Default::Required)];
-
-const RLSJOB: [Row; 1] = [Row(Key::Job, Kind::Job, Special::Never, Default::Required)];
-
-const CHGJOB: [Row; 5] = [
-    Row(Key::Job, Kind::Job, Special::Never, Default::Required),
-    Row(
-        Key::Jobpty,
-        Kind::Number(1, 9),
-        Special::Same,
-        Default::Special,
-    ),
-    Row(Key::Jobq, Kind::Object, Special::Same, Default::Special),
-    Row(Key::Scddate, Kind::Date, Special::Same, Default::Special),
-    Row(Key::Scdtime, Kind::Time, Special::Same, Default::Special),
-];
-
-const ENDJOB: [Row; 3] = [
-    Row(Key::Job, Kind::Job, Special::Never, Default::Required),
-    Row(Key::Option, Kind::Ending, Special::Never, Default::Cntrld),
-    Row(
-        Key::Delay,
-        Kind::Number(1, 999_999),
-        Special::Never,
-        Default::Number(30),
-    ),
-];
-
-const HLDJOBQ: [Row; 1] = [Row(Key::Jobq, Kind::Object, Special::Never, Default::Required)];
-
-const RLSJOBQ: [Row; 1] = [Row(Key::Jobq, Kind::Object, Special::Never, Default::Required)];
-
-const CLRJOBQ: [Row; 1] = [Row(Key::Jobq, Kind::Object, Special::Never, Default::Required)];
-
-const STRPJ: [Row; 2] = [
-    Row(Key::Sbs, Kind::Name, Special::Never, Default::Required),
-    Row(Key::Pgm, Kind::Program, Special::Never, Default::Required),
-];
-
-const ENDPJ: [Row; 4] = [
-    Row(Key::Sbs, Kind::Name, Special::Never, Default::Required),
-    Row(Key::Pgm, Kind::Program, Special::Never, Default::Required),
-    Row(Key::Option, Kind::Ending, Special::Never, Default::Cntrld),
-    Row(
-        Key::Delay,
-        Kind::Number(1, 99_999),
-        Special::Nolimit,
-        Default::Special,
-    ),
-];
-
-const EVOKE: [Row; 2] = [
-    Row(Key::Sbs, Kind::Name, Special::Never, Default::Required),
-    Row(Key::Pgm, Kind::Program, Special::Never, Default::Required),
-];
-
-const ENDUSE: [Row; 1] = [Row(Key::Job, Kind::Job, Special::Never, Default::Required)];
-
-const PWRDWNSYS: [Row; 2] = [
-    Row(Key::Option, Kind::Ending, Special::Never, Default::Cntrld),
-    Row(
-        Key::Delay,
-        Kind::Number(1, 99_999),
-        Special::Nolimit,
-        Default::Number(3_600),
-    ),
-];
-
-const WRKJOBQ: [Row; 1] = [Row(Key::Jobq, Kind::Object, Special::Never, Default::Required)];
-
-const DSPJOB: [Row; 1] = [Row(Key::Job, Kind::Job, Special::Never, Default::Required)];
-
-/// The keys of a command in their order.
-#[tactic(auto, unfolding(crate::specs::Table::change_rows))]
-pub fn change_rows(verb: ChangeVerb) -> &'static [Row]
-    ensures { result.now ≡ change_rows verb }
-{
-    match verb {
-        ChangeVerb::Crtcls => &CRTCLS,
-        ChangeVerb::Crtjobq => &CRTJOBQ,
-        ChangeVerb::Crtpgmref => &CRTPGMREF,
-        ChangeVerb::Crtjobd => &CRTJOBD,
-        ChangeVerb::Crtsbsd => &CRTSBSD,
-        ChangeVerb::Addjobqe => &ADDJOBQE,
-        ChangeVerb::Addrtge => &ADDRTGE,
-        ChangeVerb::Addaje => &ADDAJE,
-        ChangeVerb::Addpje => &ADDPJE,
-        ChangeVerb::Rmvjobqe => &RMVJOBQE,
-        ChangeVerb::Rmvrtge => &RMVRTGE,
-        ChangeVerb::Rmvaje => &RMVAJE,
-        ChangeVerb::Rmvpje => &RMVPJE,
-        ChangeVerb::Strsbs => &STRSBS,
-        ChangeVerb::Endsbs => &ENDSBS,
-        ChangeVerb::Sbmjob => &SBMJOB,
-        ChangeVerb::Hldjob => &HLDJOB,
-        ChangeVerb::Rlsjob => &RLSJOB,
-        ChangeVerb::Chgjob => &CHGJOB,
-        ChangeVerb::Endjob => &ENDJOB,
-        ChangeVerb::Hldjobq => &HLDJOBQ,
-        ChangeVerb::Rlsjobq => &RLSJOBQ,
-        ChangeVerb::Clrjobq => &CLRJOBQ,
-        ChangeVerb::Strpj => &STRPJ,
-        ChangeVerb::Endpj => &ENDPJ,
-        ChangeVerb::Evoke => &EVOKE,
-        ChangeVerb::Enduse => &ENDUSE,
-        ChangeVerb::Pwrdwnsys => &PWRDWNSYS,
-    }
+/// The commands that change the state, in the order of the table. The rows of each have its word for their name.
+macro_rules! changes {
+    ($write:ident($($given:tt)*)) => {
+        $write! { ChangeVerb ($($given)*)
+            Crtcls CRTCLS
+            Crtjobq CRTJOBQ
+            Crtpgmref CRTPGMREF
+            Crtjobd CRTJOBD
+            Crtsbsd CRTSBSD
+            Addjobqe ADDJOBQE
+            Addrtge ADDRTGE
+            Addaje ADDAJE
+            Addpje ADDPJE
+            Rmvjobqe RMVJOBQE
+            Rmvrtge RMVRTGE
+            Rmvaje RMVAJE
+            Rmvpje RMVPJE
+            Strsbs STRSBS
+            Endsbs ENDSBS
+            Sbmjob SBMJOB
+            Hldjob HLDJOB
+            Rlsjob RLSJOB
+            Chgjob CHGJOB
+            Endjob ENDJOB
+            Hldjobq HLDJOBQ
+            Rlsjobq RLSJOBQ
+            Clrjobq CLRJOBQ
+            Strpj STRPJ
+            Endpj ENDPJ
+            Evoke EVOKE
+            Enduse ENDUSE
+            Pwrdwnsys PWRDWNSYS
+        }
+    };
 }
+
+/// The commands that read, in the order of the table.
+macro_rules! reads {
+    ($write:ident($($given:tt)*)) => {
+        $write! { ReadVerb ($($given)*)
+            Wrkactjob WRKACTJOB
+            Wrksbmjob WRKSBMJOB
+            Wrksbs WRKSBS
+            Dsplog DSPLOG
+            Wrkjobq WRKJOBQ
+            Dspjob DSPJOB
+        }
+    };
+}
+
+/// The commands as a list.
+macro_rules! all_verbs {
+    ($verbs:ident () $($verb:ident $rows:ident)*) => {
+        [$($verbs::$verb),*]
+    };
+}
+
+/// The word of a command.
+macro_rules! word_of {
+    ($verbs:ident ($of:expr) $($verb:ident $rows:ident)*) => {
+        match $of { $($verbs::$verb => stringify!($rows),)* }
+    };
+}
+
+/// The rows of a command.
+macro_rules! rows_of {
+    ($verbs:ident ($of:expr) $($verb:ident $rows:ident)*) => {
+        match $of { $($verbs::$verb => &$rows,)* }
+    };
+}
+
+/// The name of a command.
+macro_rules! name_of {
+    ($verbs:ident ($of:expr) $($verb:ident $rows:ident)*) => {
+        match $of { $(Command::$verb(_) => $verbs::$verb,)* }
+    };
+}
+
+/// The commands that change the state, in the order of the table.
+pub const CHANGES: [ChangeVerb; 28] = changes!(all_verbs());
+
+/// The commands that read, in the order of the table.
+pub const READS: [ReadVerb; 6] = reads!(all_verbs());
 
 /// The command's name.
 #[tactic(auto, unfolding(crate::specs::Table::change_word))]
 pub fn change_word(verb: ChangeVerb) -> &'static str
     ensures { result.now ≡ change_word verb }
 {
-    match verb {
-        ChangeVerb::Crtcls => "CRTCLS",
-        ChangeVerb::Crtjobq => "CRTJOBQ",
-        ChangeVerb::Crtpgmref => "CRTPGMREF",
-        ChangeVerb::Crtjobd => "CRTJOBD",
-        ChangeVerb::Crtsbsd => "CRTSBSD",
-        ChangeVerb::Addjobqe => "ADDJOBQE",
-        ChangeVerb::Addrtge => "ADDRTGE",
-        ChangeVerb::Addaje => "ADDAJE",
-        ChangeVerb::Addpje => "ADDPJE",
-        ChangeVerb::Rmvjobqe => "RMVJOBQE",
-        ChangeVerb::Rmvrtge => "RMVRTGE",
-        ChangeVerb::Rmvaje => "RMVAJE",
-        ChangeVerb::Rmvpje => "RMVPJE",
-        ChangeVerb::Strsbs => "STRSBS",
-        ChangeVerb::Endsbs => "ENDSBS",
-        ChangeVerb::Sbmjob => "SBMJOB",
-        ChangeVerb::Hldjob => "HLDJOB",
-        ChangeVerb::Rlsjob => "RLSJOB",
-        ChangeVerb::Chgjob => "CHGJOB",
-        ChangeVerb::Endjob => "ENDJOB",
-        ChangeVerb::Hldjobq => "HLDJOBQ",
-        ChangeVerb::Rlsjobq => "RLSJOBQ",
-        ChangeVerb::Clrjobq => "CLRJOBQ",
-        ChangeVerb::Strpj => "STRPJ",
-        ChangeVerb::Endpj => "ENDPJ",
-        ChangeVerb::Evoke => "EVOKE",
-        ChangeVerb::Enduse => "ENDUSE",
-        ChangeVerb::Pwrdwnsys => "PWRDWNSYS",
-    }
-}
-
-/// The keys of a command in their order.
-#[tactic(auto, unfolding(crate::specs::Table::read_rows))]
-pub fn read_rows(verb: ReadVerb) -> &'static [Row]
-    ensures { result.now ≡ read_rows verb }
-{
-    match verb {
-        ReadVerb::Wrkactjob => &[],
-        ReadVerb::Wrksbmjob => &[],
-        ReadVerb::Wrksbs => &[],
-        ReadVerb::Dsplog => &[],
-        ReadVerb::Wrkjobq => &WRKJOBQ,
-        ReadVerb::Dspjob => &DSPJOB,
-    }
+    changes!(word_of(verb))
 }
 
 /// The command's name.
@@ -460,12 +105,246 @@ pub fn read_rows(verb: ReadVerb) -> &'static [Row]
 pub fn read_word(verb: ReadVerb) -> &'static str
     ensures { result.now ≡ read_word verb }
 {
-    match verb {
-        ReadVerb::Wrkactjob => "WRKACTJOB",
-        ReadVerb::Wrksbmjob => "WRKSBMJOB",
-        ReadVerb::Wrksbs => "WRKSBS",
-        ReadVerb::Dsplog => "DSPLOG",
-        ReadVerb::Wrkjobq => "WRKJOBQ",
-        ReadVerb::Dspjob => "DSPJOB",
-    }
+    reads!(word_of(verb))
 }
+
+/// Which command it is.
+pub fn verb_of(command: &Command) -> ChangeVerb
+    ensures { result ≡ verb_of command.now }
+{
+    changes!(name_of(command))
+}
+
+/// The keys of a command in their order.
+#[tactic(auto, unfolding(crate::specs::Table::change_rows))]
+pub fn change_rows(verb: ChangeVerb) -> &'static [Row]
+    ensures { result.now ≡ change_rows verb }
+{
+    changes!(rows_of(verb))
+}
+
+/// The keys of a command in their order.
+#[tactic(auto, unfolding(crate::specs::Table::read_rows))]
+pub fn read_rows(verb: ReadVerb) -> &'static [Row]
+    ensures { result.now ≡ read_rows verb }
+{
+    reads!(rows_of(verb))
+}
+
+/// The rows of a command, one for each key.
+macro_rules! rows {
+    ($({
+        key: $key:ident,
+        kind: $kind:ident $(($($bound:literal),*))?,
+        special: $special:ident,
+        otherwise: $otherwise:ident $(($number:literal))?
+    })*) => {
+        [$(Row {
+            key: Key::$key,
+            kind: Kind::$kind $(($($bound),*))?,
+            special: Special::$special,
+            otherwise: Default::$otherwise $(($number))?,
+        }),*]
+    };
+}
+
+const CRTCLS: [Row; 5] = rows! {
+    { key: Cls, kind: Object, special: Never, otherwise: Required }
+    { key: Runpty, kind: Number(1, 99), special: Never, otherwise: Number(50) }
+    { key: Timeslice, kind: Number(1, 9_999_999), special: Never, otherwise: Number(2_000) }
+    { key: Dftwait, kind: Number(1, 9_999_999), special: Nomax, otherwise: Number(30) }
+    { key: Text, kind: Anything, special: Never, otherwise: Nothing }
+};
+
+const CRTJOBQ: [Row; 2] = rows! {
+    { key: Jobq, kind: Object, special: Never, otherwise: Required }
+    { key: Text, kind: Anything, special: Never, otherwise: Nothing }
+};
+
+const CRTPGMREF: [Row; 3] = rows! {
+    { key: Pgm, kind: Program, special: Never, otherwise: Required }
+    { key: Path, kind: Path, special: Never, otherwise: Required }
+    { key: Text, kind: Anything, special: Never, otherwise: Nothing }
+};
+
+const CRTJOBD: [Row; 7] = rows! {
+    { key: Jobd, kind: Object, special: Never, otherwise: Required }
+    { key: Jobq, kind: Object, special: Never, otherwise: Qbatch }
+    { key: Jobpty, kind: Number(1, 9), special: Never, otherwise: Number(5) }
+    { key: Rtgdta, kind: Text(1, 80), special: Never, otherwise: Qcmdi }
+    { key: Rqsdta, kind: Text(0, 1_000), special: None, otherwise: Special }
+    { key: Hold, kind: Flag, special: Never, otherwise: No }
+    { key: Text, kind: Anything, special: Never, otherwise: Nothing }
+};
+
+const CRTSBSD: [Row; 4] = rows! {
+    { key: Sbsd, kind: Object, special: Never, otherwise: Required }
+    { key: Maxjobs, kind: Number(0, 1_000), special: Nomax, otherwise: Special }
+    { key: Pools, kind: Anything, special: Never, otherwise: Nothing }
+    { key: Text, kind: Anything, special: Never, otherwise: Nothing }
+};
+
+const ADDJOBQE: [Row; 13] = rows! {
+    { key: Sbsd, kind: Object, special: Never, otherwise: Required }
+    { key: Jobq, kind: Object, special: Never, otherwise: Required }
+    { key: Maxact, kind: Number(0, 1_000), special: Nomax, otherwise: Number(1) }
+    { key: Seqnbr, kind: Number(1, 9_999), special: Never, otherwise: Number(10) }
+    { key: Maxpty1, kind: Number(0, 99), special: Nomax, otherwise: Special }
+    { key: Maxpty2, kind: Number(0, 99), special: Nomax, otherwise: Special }
+    { key: Maxpty3, kind: Number(0, 99), special: Nomax, otherwise: Special }
+    { key: Maxpty4, kind: Number(0, 99), special: Nomax, otherwise: Special }
+    { key: Maxpty5, kind: Number(0, 99), special: Nomax, otherwise: Special }
+    { key: Maxpty6, kind: Number(0, 99), special: Nomax, otherwise: Special }
+    { key: Maxpty7, kind: Number(0, 99), special: Nomax, otherwise: Special }
+    { key: Maxpty8, kind: Number(0, 99), special: Nomax, otherwise: Special }
+    { key: Maxpty9, kind: Number(0, 99), special: Nomax, otherwise: Special }
+};
+
+const ADDRTGE: [Row; 7] = rows! {
+    { key: Sbsd, kind: Object, special: Never, otherwise: Required }
+    { key: Seqnbr, kind: Number(1, 9_999), special: Never, otherwise: Required }
+    { key: Cmpval, kind: Compare, special: Never, otherwise: Required }
+    { key: Pgm, kind: Program, special: Never, otherwise: Required }
+    { key: Cls, kind: Object, special: Sbsd, otherwise: Special }
+    { key: Maxact, kind: Number(0, 1_000), special: Nomax, otherwise: Special }
+    { key: Poolid, kind: Number(1, 10), special: Never, otherwise: Number(1) }
+};
+
+const ADDAJE: [Row; 3] = rows! {
+    { key: Sbsd, kind: Object, special: Never, otherwise: Required }
+    { key: Job, kind: Name, special: Never, otherwise: Required }
+    { key: Jobd, kind: Object, special: Never, otherwise: Qdftjobd }
+};
+
+const ADDPJE: [Row; 11] = rows! {
+    { key: Sbsd, kind: Object, special: Never, otherwise: Required }
+    { key: Pgm, kind: Program, special: Never, otherwise: Required }
+    { key: Strjobs, kind: Flag, special: Never, otherwise: Yes }
+    { key: Inljobs, kind: Number(1, 9_999), special: Never, otherwise: Number(3) }
+    { key: Threshold, kind: Number(1, 9_999), special: Never, otherwise: Number(2) }
+    { key: Adljobs, kind: Number(0, 999), special: Never, otherwise: Number(2) }
+    { key: Maxjobs, kind: Number(1, 9_999), special: Nomax, otherwise: Special }
+    { key: Maxuse, kind: Number(1, 1_000), special: Nomax, otherwise: Number(200) }
+    { key: Wait, kind: Flag, special: Never, otherwise: Yes }
+    { key: Cls, kind: Object, special: Sbsd, otherwise: Special }
+    { key: Poolid, kind: Number(1, 10), special: Never, otherwise: Number(1) }
+};
+
+const RMVJOBQE: [Row; 2] = rows! {
+    { key: Sbsd, kind: Object, special: Never, otherwise: Required }
+    { key: Jobq, kind: Object, special: Never, otherwise: Required }
+};
+
+const RMVRTGE: [Row; 2] = rows! {
+    { key: Sbsd, kind: Object, special: Never, otherwise: Required }
+    { key: Seqnbr, kind: Number(1, 9_999), special: Never, otherwise: Required }
+};
+
+const RMVAJE: [Row; 2] = rows! {
+    { key: Sbsd, kind: Object, special: Never, otherwise: Required }
+    { key: Job, kind: Name, special: Never, otherwise: Required }
+};
+
+const RMVPJE: [Row; 2] = rows! {
+    { key: Sbsd, kind: Object, special: Never, otherwise: Required }
+    { key: Pgm, kind: Program, special: Never, otherwise: Required }
+};
+
+const STRSBS: [Row; 1] = rows! {
+    { key: Sbsd, kind: Object, special: Never, otherwise: Required }
+};
+
+const ENDSBS: [Row; 3] = rows! {
+    { key: Sbs, kind: Name, special: Never, otherwise: Required }
+    { key: Option, kind: Ending, special: Never, otherwise: Cntrld }
+    { key: Delay, kind: Number(1, 99_999), special: Nolimit, otherwise: Special }
+};
+
+const SBMJOB: [Row; 10] = rows! {
+    { key: Cmd, kind: Call, special: Never, otherwise: Nothing }
+    { key: Rqsdta, kind: Text(0, 1_000), special: Jobd, otherwise: Nothing }
+    { key: Job, kind: Name, special: Jobd, otherwise: Special }
+    { key: Jobd, kind: Object, special: Never, otherwise: Qdftjobd }
+    { key: Jobq, kind: Object, special: Jobd, otherwise: Special }
+    { key: Jobpty, kind: Number(1, 9), special: Jobd, otherwise: Special }
+    { key: Rtgdta, kind: Text(1, 80), special: Jobd, otherwise: Qcmdb }
+    { key: Hold, kind: Flag, special: Jobd, otherwise: Special }
+    { key: Scddate, kind: Date, special: Never, otherwise: Today }
+    { key: Scdtime, kind: Time, special: Never, otherwise: Now }
+};
+
+const HLDJOB: [Row; 1] = rows! {
+    { key: Job, kind: Job, special: Never, otherwise: Required }
+};
+
+const RLSJOB: [Row; 1] = rows! {
+    { key: Job, kind: Job, special: Never, otherwise: Required }
+};
+
+const CHGJOB: [Row; 5] = rows! {
+    { key: Job, kind: Job, special: Never, otherwise: Required }
+    { key: Jobpty, kind: Number(1, 9), special: Same, otherwise: Special }
+    { key: Jobq, kind: Object, special: Same, otherwise: Special }
+    { key: Scddate, kind: Date, special: Same, otherwise: Special }
+    { key: Scdtime, kind: Time, special: Same, otherwise: Special }
+};
+
+const ENDJOB: [Row; 3] = rows! {
+    { key: Job, kind: Job, special: Never, otherwise: Required }
+    { key: Option, kind: Ending, special: Never, otherwise: Cntrld }
+    { key: Delay, kind: Number(1, 999_999), special: Never, otherwise: Number(30) }
+};
+
+const HLDJOBQ: [Row; 1] = rows! {
+    { key: Jobq, kind: Object, special: Never, otherwise: Required }
+};
+
+const RLSJOBQ: [Row; 1] = rows! {
+    { key: Jobq, kind: Object, special: Never, otherwise: Required }
+};
+
+const CLRJOBQ: [Row; 1] = rows! {
+    { key: Jobq, kind: Object, special: Never, otherwise: Required }
+};
+
+const STRPJ: [Row; 2] = rows! {
+    { key: Sbs, kind: Name, special: Never, otherwise: Required }
+    { key: Pgm, kind: Program, special: Never, otherwise: Required }
+};
+
+const ENDPJ: [Row; 4] = rows! {
+    { key: Sbs, kind: Name, special: Never, otherwise: Required }
+    { key: Pgm, kind: Program, special: Never, otherwise: Required }
+    { key: Option, kind: Ending, special: Never, otherwise: Cntrld }
+    { key: Delay, kind: Number(1, 99_999), special: Nolimit, otherwise: Special }
+};
+
+const EVOKE: [Row; 2] = rows! {
+    { key: Sbs, kind: Name, special: Never, otherwise: Required }
+    { key: Pgm, kind: Program, special: Never, otherwise: Required }
+};
+
+const ENDUSE: [Row; 1] = rows! {
+    { key: Job, kind: Job, special: Never, otherwise: Required }
+};
+
+const PWRDWNSYS: [Row; 2] = rows! {
+    { key: Option, kind: Ending, special: Never, otherwise: Cntrld }
+    { key: Delay, kind: Number(1, 99_999), special: Nolimit, otherwise: Number(3_600) }
+};
+
+const WRKACTJOB: [Row; 0] = [];
+
+const WRKSBMJOB: [Row; 0] = [];
+
+const WRKSBS: [Row; 0] = [];
+
+const DSPLOG: [Row; 0] = [];
+
+const WRKJOBQ: [Row; 1] = rows! {
+    { key: Jobq, kind: Object, special: Never, otherwise: Required }
+};
+
+const DSPJOB: [Row; 1] = rows! {
+    { key: Job, kind: Job, special: Never, otherwise: Required }
+};

@@ -1,7 +1,9 @@
 // What the values behind a key are read as.
-ghost use Rattle.std.specs.Prelude.{◌≡◌, ◌≢◌, IfOk, IfErr, Ok, Err, Some, codes};
+ghost use Rattle.std.specs.Prelude.{◌≡◌, ◌≢◌, IfOk, IfErr, Ok, Err, Some, None, length, if◌then◌else◌};
 ghost use Rattle.std.specs.Option.{option_copied};
-ghost use Rattle.wm_command.specs.Values.{text_within, path_of, if_word, kind_value, special_word, is_never, is_special, text_value, item_value, cmp_kept, text_from, start_of, one_compared, two_compared, or_bad, one_value, compared};
+ghost use Rattle.wm_when.specs.Schedule.{within};
+ghost use Rattle.wm_command.specs.declared.value.Value.TheVariants as value;
+ghost use Rattle.wm_command.specs.Values.{if_word, kind_value, is_special, text_value, item_value, text_from, start_of, one_compared, two_compared, or_bad, one_value, compared};
 
 use crate::fault::CmdFault;
 use crate::row::{Kind, Special};
@@ -12,20 +14,16 @@ use wm_base::{NoMemory, Text};
 use wm_clwords::{Item, read_object, read_program};
 use wm_desc::{Cmp, path_in_range};
 
-fn text_within(low: u32, high: u32, text: &Text) -> Result<Option<Value>, NoMemory>
-    ensures { IfOk result (λ v. v ≡ text_within low high text.now) }
+fn has_length(low: u32, high: u32, text: &Text) -> bool
+    ensures { result ≡ within low high (length text.now) }
 {
-    if low as usize <= text.len() && text.len() <= high as usize {
-        Ok(Some(Value::Text(text.clone()?)))
-    } else {
-        Ok(None)
-    }
+    low as usize <= text.len() && text.len() <= high as usize
 }
 
-fn path_of(text: &Text) -> Result<Option<Value>, NoMemory>
-    ensures { IfOk result (λ v. v ≡ path_of text.now) }
+fn text_if(is_in_range: bool, text: &Text) -> Result<Option<Value>, NoMemory>
+    ensures { IfOk result (λ v. v ≡ (if is_in_range then Some (value.Text text.now) else None)) }
 {
-    if path_in_range(text) {
+    if is_in_range {
         Ok(Some(Value::Text(text.clone()?)))
     } else {
         Ok(None)
@@ -48,8 +46,8 @@ fn kind_value(kind: Kind, item: &Item, text: &Text) -> Result<Option<Value>, NoM
         Kind::Object => Ok(read_object(item).map(Value::Object)),
         Kind::Program => Ok(read_program(item).map(Value::Object)),
         Kind::Name => Ok(name_of(bytes).map(Value::Name)),
-        Kind::Text(low, high) => text_within(low, high, text),
-        Kind::Path => path_of(text),
+        Kind::Text(low, high) => text_if(has_length(low, high, text), text),
+        Kind::Path => text_if(path_in_range(text), text),
         Kind::Number(low, high) => Ok(number_of(1, 9, low, high, bytes).map(Value::Number)),
         Kind::Flag => Ok(if_word(is_bare(item), flag_of(bytes)).map(Value::Flag)),
         Kind::Ending => Ok(if_word(is_bare(item), ending_of(bytes)).map(Value::Ending)),
@@ -62,7 +60,7 @@ fn kind_value(kind: Kind, item: &Item, text: &Text) -> Result<Option<Value>, NoM
 
 impl Special {
     ghost use Rattle.std.specs.Prelude.{◌≡◌};
-    ghost use Rattle.wm_command.specs.Values.{special_word, is_never};
+    ghost use Rattle.wm_command.specs.Values.{special_word};
 
     /// The word, or nothing where there is none.
     #[tactic(auto, unfolding(crate::specs::Values::special_word))]
@@ -79,22 +77,12 @@ impl Special {
             Special::Sbsd => "*SBSD",
         }
     }
-
-    fn is_never(self) -> bool
-        ensures { result ≡ is_never self }
-    {
-        matches!(self, Special::Never)
-    }
 }
 
 fn is_special(special: Special, item: &Item) -> bool
     ensures { result ≡ is_special special item.now }
 {
-    if special.is_never() {
-        false
-    } else {
-        is_word(item, special.word().as_bytes())
-    }
+    !matches!(special, Special::Never) && is_word(item, special.word().as_bytes())
 }
 
 /// The row's special word, or a value of its kind.
@@ -110,16 +98,6 @@ fn item_value(kind: Kind, special: Special, item: &Item) -> Result<Option<Value>
     }
 }
 
-fn cmp_kept(cmp: Cmp) -> Option<Value>
-    ensures { result ≡ cmp_kept cmp }
-{
-    if cmp.is_in_range() {
-        Some(Value::Compare(cmp))
-    } else {
-        None
-    }
-}
-
 fn text_from(text: Option<&Text>, start: Option<u32>) -> Result<Option<Value>, NoMemory>
     ensures { IfOk result (λ v. v ≡ text_from (option_copied text.entry) start) }
 {
@@ -127,7 +105,12 @@ fn text_from(text: Option<&Text>, start: Option<u32>) -> Result<Option<Value>, N
         return Ok(None);
     };
     let value = text.clone()?;
-    Ok(cmp_kept(Cmp::Val { value, start }))
+    let cmp = Cmp::Val { value, start };
+    if cmp.is_in_range() {
+        Ok(Some(Value::Compare(cmp)))
+    } else {
+        Ok(None)
+    }
 }
 
 fn start_of(text: Option<&Text>) -> Option<u32>

@@ -1,7 +1,8 @@
 // What texts say: numbers, names, dates and times.
 ghost use Rattle.std.specs.Prelude.{◌≡◌, ◌≤◌, length, take, drop, take_while, codes, fold, Some, nat_eq, IsTrue, ◌<◌, ◌^◌, IfSome};
 ghost use Rattle.std.specs.Option.{option_copied};
-ghost use Rattle.wm_command.specs.Words.{is_digit, push_digit, digits, kept_within, number_of, name_of, is_no_slash, before_slash, behind_slash, simple_of, by_user_of, full_of, job_behind, job_with, job_of, same, flag_of, ending_of, weekday_of, date_word_of, day_of, date_with, date_of, second_of, time_of};
+ghost use Rattle.wm_base.specs.Text.{IsText};
+ghost use Rattle.wm_command.specs.Words.{is_digit, push_digit, digits, kept_within, number_of, name_of, is_no_slash, before_slash, behind_slash, simple_of, by_user_of, full_of, job_behind, job_with, job_of, flag_text, flag_of, ending_text, ending_of, weekday_text, date_word, date_word_of, day_of, date_with, date_of, second_of, time_of};
 ghost use Rattle.wm_when.specs.Schedule.{within};
 
 use wm_base::{JobName, JobNumber, Name};
@@ -33,23 +34,17 @@ fn digits(text: &[u8]) -> Option<u32>
     text.iter().fold(Some(0), |n, byte| push_digit(n, *byte))
 }
 
-fn kept_within(low: u32, high: u32, n: Option<u32>) -> Option<u32>
-    ensures { result ≡ kept_within low high n }
-{
-    let n = n?;
-    if low <= n && n <= high { Some(n) } else { None }
-}
-
 /// A number of `fewest` to `most` digits, from `low` to `high`.
 #[tactic(auto, unfolding(crate::specs::Words::number_of))]
 pub fn number_of(fewest: usize, most: usize, low: u32, high: u32, text: &[u8]) -> Option<u32>
-    ensures { result ≡ number_of fewest most low high text.now }
+    ensures value { result ≡ number_of fewest most low high text.now }
+    ensures range { IfSome result (λ n. IsTrue (within low high n)) }
 {
-    if within(fewest, most, text.len()) {
-        kept_within(low, high, digits(text))
-    } else {
-        None
+    if !within(fewest, most, text.len()) {
+        return None;
     }
+    let n = digits(text)?;
+    if low <= n && n <= high { Some(n) } else { None }
 }
 
 pub fn name_of(text: &[u8]) -> Option<Name>
@@ -85,57 +80,18 @@ fn behind_slash(text: &[u8]) -> Option<&[u8]>
     }
 }
 
-fn same(text: &[u8], word: &[u8]) -> bool
-    ensures { result ≡ same text.now word.now }
-{
-    text == word
-}
-
-fn simple_of(name: Option<Name>) -> Option<JobRef>
-    ensures { result ≡ simple_of name }
-{
-    let name = name?;
-    Some(JobRef::Simple(name))
-}
-
-fn by_user_of(user: Option<Name>, name: Option<Name>) -> Option<JobRef>
-    ensures { result ≡ by_user_of user name }
-{
-    let user = user?;
-    let name = name?;
-    Some(JobRef::ByUser(user, name))
-}
-
-fn full_of(number: Option<u32>, user: Option<Name>, name: Option<Name>) -> Option<JobRef>
-    requires { IfSome number (λ n. IsTrue (within 1 999999 n)) }
-    ensures { result ≡ full_of number user name }
-{
-    let number = JobNumber::new(number?);
-    let user = user?;
-    let name = name?;
-    Some(JobRef::Full(JobName { number, user, name }))
-}
-
-// A job's number: 1 to 6 digits, not zero.
-#[tactic(auto, unfolding(crate::specs::Words::number_of))]
-fn job_number_of(text: &[u8]) -> Option<u32>
-    ensures value { result ≡ number_of 1 6 1 999999 text.now }
-    ensures range { IfSome result (λ n. IsTrue (within 1 999999 n)) }
-{
-    if within(1, 6, text.len()) {
-        kept_within(1, 999_999, digits(text))
-    } else {
-        None
-    }
-}
-
 fn job_behind(first: &[u8], second: &[u8], third: Option<&[u8]>) -> Option<JobRef>
     ensures { result ≡ job_behind first.now second.now (option_copied third.entry) }
 {
-    match third {
-        None => by_user_of(name_of(first), name_of(second)),
-        Some(third) => full_of(job_number_of(first), name_of(second), name_of(third)),
-    }
+    let Some(third) = third else {
+        let user = name_of(first)?;
+        let name = name_of(second)?;
+        return Some(JobRef::ByUser(user, name));
+    };
+    let number = JobNumber::new(number_of(1, 6, 1, 999_999, first)?);
+    let user = name_of(second)?;
+    let name = name_of(third)?;
+    Some(JobRef::Full(JobName { number, user, name }))
 }
 
 /// `NAME`, `USER/NAME` or `NUMBER/USER/NAME`, the number of 1 to 6 digits.
@@ -145,80 +101,102 @@ pub fn job_of(text: &[u8]) -> Option<JobRef>
 {
     let first = before_slash(text);
     match behind_slash(text) {
-        None => simple_of(name_of(first)),
+        None => name_of(first).map(JobRef::Simple),
         Some(rest) => job_behind(first, before_slash(rest), behind_slash(rest)),
     }
 }
 
+/// The word of a flag.
+pub fn flag_word(flag: bool) -> &'static str
+    ensures value { result.now ≡ flag_text flag }
+    ensures text { IsText result.now }
+{
+    if flag { "*YES" } else { "*NO" }
+}
+
+const FLAGS: [bool; 2] = [true, false];
+
 pub fn flag_of(text: &[u8]) -> Option<bool>
     ensures { result ≡ flag_of text.now }
 {
-    if same(text, b"*YES") {
-        Some(true)
-    } else if same(text, b"*NO") {
-        Some(false)
-    } else {
-        None
+    FLAGS
+        .iter()
+        .copied()
+        .find(|flag| text == flag_word(*flag).as_bytes())
+}
+
+/// The word of an ending.
+pub fn ending_word(ending: EndOption) -> &'static str
+    ensures value { result.now ≡ ending_text ending }
+    ensures text { IsText result.now }
+{
+    match ending {
+        EndOption::Cntrld => "*CNTRLD",
+        EndOption::Immed => "*IMMED",
     }
 }
+
+const ENDINGS: [EndOption; 2] = [EndOption::Cntrld, EndOption::Immed];
 
 pub fn ending_of(text: &[u8]) -> Option<EndOption>
     ensures { result ≡ ending_of text.now }
 {
-    if same(text, b"*CNTRLD") {
-        Some(EndOption::Cntrld)
-    } else if same(text, b"*IMMED") {
-        Some(EndOption::Immed)
-    } else {
-        None
+    ENDINGS
+        .iter()
+        .copied()
+        .find(|ending| text == ending_word(*ending).as_bytes())
+}
+
+// Monday is 1.
+fn weekday_word(day: u8) -> &'static str
+    ensures value { result.now ≡ weekday_text day }
+    ensures text { IsText result.now }
+{
+    match day {
+        1 => "*MON",
+        2 => "*TUE",
+        3 => "*WED",
+        4 => "*THU",
+        5 => "*FRI",
+        6 => "*SAT",
+        _ => "*SUN",
     }
 }
 
-fn weekday_of(text: &[u8]) -> Option<DateSpec>
-    ensures { result ≡ weekday_of text.now }
+/// The word of a date, or nothing for a day.
+pub fn date_word(date: DateSpec) -> &'static str
+    ensures value { result.now ≡ date_word date }
+    ensures text { IsText result.now }
 {
-    if same(text, b"*MON") {
-        Some(DateSpec::Weekday(1))
-    } else if same(text, b"*TUE") {
-        Some(DateSpec::Weekday(2))
-    } else if same(text, b"*WED") {
-        Some(DateSpec::Weekday(3))
-    } else if same(text, b"*THU") {
-        Some(DateSpec::Weekday(4))
-    } else if same(text, b"*FRI") {
-        Some(DateSpec::Weekday(5))
-    } else if same(text, b"*SAT") {
-        Some(DateSpec::Weekday(6))
-    } else if same(text, b"*SUN") {
-        Some(DateSpec::Weekday(7))
-    } else {
-        None
+    match date {
+        DateSpec::Current => "*CURRENT",
+        DateSpec::MonthStart => "*MONTHSTR",
+        DateSpec::MonthEnd => "*MONTHEND",
+        DateSpec::Weekday(day) => weekday_word(day),
+        DateSpec::Day(_) => "",
     }
 }
+
+const DATES: [DateSpec; 10] = [
+    DateSpec::Current,
+    DateSpec::MonthStart,
+    DateSpec::MonthEnd,
+    DateSpec::Weekday(1),
+    DateSpec::Weekday(2),
+    DateSpec::Weekday(3),
+    DateSpec::Weekday(4),
+    DateSpec::Weekday(5),
+    DateSpec::Weekday(6),
+    DateSpec::Weekday(7),
+];
 
 fn date_word_of(text: &[u8]) -> Option<DateSpec>
     ensures { result ≡ date_word_of text.now }
 {
-    if same(text, b"*CURRENT") {
-        Some(DateSpec::Current)
-    } else if same(text, b"*MONTHSTR") {
-        Some(DateSpec::MonthStart)
-    } else if same(text, b"*MONTHEND") {
-        Some(DateSpec::MonthEnd)
-    } else {
-        weekday_of(text)
-    }
-}
-
-fn day_of(n: Option<u32>) -> Option<DateSpec>
-    ensures { result ≡ day_of n }
-{
-    let n = n?;
-    if is_date(n) {
-        Some(DateSpec::Day(n))
-    } else {
-        None
-    }
+    DATES
+        .iter()
+        .copied()
+        .find(|date| text == date_word(*date).as_bytes())
 }
 
 /// A special word, but not in apostrophes, or `yyyymmdd`.
@@ -228,21 +206,14 @@ pub fn date_of(is_word: bool, text: &[u8]) -> Option<DateSpec>
 {
     match date_word_of(text) {
         Some(spec) => { if is_word { Some(spec) } else { None } }
-        None => day_of(number_of(8, 8, 0, 99_999_999, text)),
-    }
-}
-
-fn second_of(n: Option<u32>) -> Option<TimeSpec>
-    ensures { result ≡ second_of n }
-{
-    let n = n?;
-    let hour = n / 10_000;
-    let minute = n / 100 % 100;
-    let second = n % 100;
-    if hour < 24 && minute < 60 && second < 60 {
-        Some(TimeSpec::At(hour * 3600 + minute * 60 + second))
-    } else {
-        None
+        None => {
+            let n = number_of(8, 8, 0, 99_999_999, text)?;
+            if is_date(n) {
+                Some(DateSpec::Day(n))
+            } else {
+                None
+            }
+        }
     }
 }
 
@@ -251,9 +222,16 @@ fn second_of(n: Option<u32>) -> Option<TimeSpec>
 pub fn time_of(is_word: bool, text: &[u8]) -> Option<TimeSpec>
     ensures { result ≡ time_of is_word text.now }
 {
-    if is_word && same(text, b"*CURRENT") {
-        Some(TimeSpec::Current)
+    if is_word && text == b"*CURRENT".as_slice() {
+        return Some(TimeSpec::Current);
+    }
+    let n = number_of(6, 6, 0, 999_999, text)?;
+    let hour = n / 10_000;
+    let minute = n / 100 % 100;
+    let second = n % 100;
+    if hour < 24 && minute < 60 && second < 60 {
+        Some(TimeSpec::At(hour * 3600 + minute * 60 + second))
     } else {
-        second_of(number_of(6, 6, 0, 999_999, text))
+        None
     }
 }

@@ -1,6 +1,6 @@
 // What table.txt asks:
 //
-// > table    the command table as docs/FORMATS.md has it
+// > table    the command table, which .ci/run compares with docs/FORMATS.md
 use anyhow::{Result, ensure};
 use wm_cases::Subject;
 use wm_command::{
@@ -48,11 +48,11 @@ fn push_command(word: &str, rows: &[Row], page: &mut String) -> Result<()> {
 }
 
 fn push_row(word: &str, row: &Row, page: &mut String) -> Result<()> {
-    let special = row.2.word();
-    write!(page, "| {word} | {} | ", row.0)?;
-    push_kind(row.1, page)?;
+    let special = row.special.word();
+    write!(page, "| {word} | {} | ", row.key)?;
+    push_kind(row.kind, page)?;
     push_special(special, page)?;
-    push_default(row.3, special, page)
+    push_default(row.otherwise, special, page)
 }
 
 fn push_special(word: &str, page: &mut String) -> Result<()> {

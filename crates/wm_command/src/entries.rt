@@ -1,14 +1,28 @@
-// The values of the commands that change subsystem descriptions, in the order of the table.
+// The commands that change subsystem descriptions: each made of its keys' values,
+// and its values in the order of the table.
 ghost use Rattle.std.specs.Prelude.{◌≡◌, IfOk};
-ghost use Rattle.wm_command.specs.Shown.{addjobqe_values, addrtge_values, addaje_values, addpje_values, rmvjobqe_values, rmvrtge_values, rmvaje_values, rmvpje_values};
+ghost use Rattle.wm_command.specs.Entries.{addjobqe, addjobqe_values, addrtge, addrtge_values, addaje, addaje_values, addpje, addpje_values, rmvjobqe, rmvjobqe_values, rmvrtge, rmvrtge_values, rmvaje, rmvaje_values, rmvpje, rmvpje_values};
 
-use crate::shown::limit_value;
+use crate::fields::limit_value;
 use crate::value::{Value, Values};
 use std::alloc::Global;
 use wm_base::{Key, NoMemory};
 use wm_law::{Addaje, Addjobqe, Addpje, Addrtge, Rmvaje, Rmvjobqe, Rmvpje, Rmvrtge};
 
-#[tactic(auto, unfolding(crate::specs::Shown::addjobqe_values))]
+#[tactic(auto, unfolding(crate::specs::Entries::addjobqe))]
+pub fn addjobqe(values: &Values) -> Addjobqe
+    ensures { result ≡ addjobqe values.now }
+{
+    Addjobqe {
+        sbsd: values.object(Key::Sbsd),
+        jobq: values.object(Key::Jobq),
+        maxact: values.limit(Key::Maxact),
+        seqnbr: values.number(Key::Seqnbr),
+        maxpty: values.maxpty(),
+    }
+}
+
+#[tactic(auto, unfolding(crate::specs::Entries::addjobqe_values))]
 pub fn addjobqe_values(alloc: Global, c: &Addjobqe) -> Result<Values, NoMemory>
     ensures { IfOk result (λ v. v ≡ addjobqe_values c.now) }
 {
@@ -29,7 +43,22 @@ pub fn addjobqe_values(alloc: Global, c: &Addjobqe) -> Result<Values, NoMemory>
     Ok(values)
 }
 
-#[tactic(auto, unfolding(crate::specs::Shown::addrtge_values))]
+#[tactic(auto, unfolding(crate::specs::Entries::addrtge))]
+pub fn addrtge(values: &Values) -> Result<Addrtge, NoMemory>
+    ensures { IfOk result (λ c. c ≡ addrtge values.now) }
+{
+    Ok(Addrtge {
+        sbsd: values.object(Key::Sbsd),
+        seqnbr: values.number(Key::Seqnbr),
+        cmpval: values.compare(Key::Cmpval)?,
+        pgm: values.object(Key::Pgm),
+        cls: values.class(Key::Cls),
+        maxact: values.limit(Key::Maxact),
+        poolid: values.number(Key::Poolid),
+    })
+}
+
+#[tactic(auto, unfolding(crate::specs::Entries::addrtge_values))]
 pub fn addrtge_values(alloc: Global, c: &Addrtge) -> Result<Values, NoMemory>
     ensures { IfOk result (λ v. v ≡ addrtge_values c.now) }
 {
@@ -44,7 +73,18 @@ pub fn addrtge_values(alloc: Global, c: &Addrtge) -> Result<Values, NoMemory>
     Ok(values)
 }
 
-#[tactic(auto, unfolding(crate::specs::Shown::addaje_values))]
+#[tactic(auto, unfolding(crate::specs::Entries::addaje))]
+pub fn addaje(values: &Values) -> Addaje
+    ensures { result ≡ addaje values.now }
+{
+    Addaje {
+        sbsd: values.object(Key::Sbsd),
+        job: values.name(Key::Job),
+        jobd: values.object(Key::Jobd),
+    }
+}
+
+#[tactic(auto, unfolding(crate::specs::Entries::addaje_values))]
 pub fn addaje_values(alloc: Global, c: &Addaje) -> Result<Values, NoMemory>
     ensures { IfOk result (λ v. v ≡ addaje_values c.now) }
 {
@@ -55,7 +95,26 @@ pub fn addaje_values(alloc: Global, c: &Addaje) -> Result<Values, NoMemory>
     Ok(values)
 }
 
-#[tactic(auto, unfolding(crate::specs::Shown::addpje_values))]
+#[tactic(auto, unfolding(crate::specs::Entries::addpje))]
+pub fn addpje(values: &Values) -> Addpje
+    ensures { result ≡ addpje values.now }
+{
+    Addpje {
+        sbsd: values.object(Key::Sbsd),
+        pgm: values.object(Key::Pgm),
+        strjobs: values.flag(Key::Strjobs),
+        inljobs: values.number(Key::Inljobs),
+        threshold: values.number(Key::Threshold),
+        adljobs: values.number(Key::Adljobs),
+        maxjobs: values.limit(Key::Maxjobs),
+        maxuse: values.limit(Key::Maxuse),
+        wait: values.flag(Key::Wait),
+        cls: values.class(Key::Cls),
+        poolid: values.number(Key::Poolid),
+    }
+}
+
+#[tactic(auto, unfolding(crate::specs::Entries::addpje_values))]
 pub fn addpje_values(alloc: Global, c: &Addpje) -> Result<Values, NoMemory>
     ensures { IfOk result (λ v. v ≡ addpje_values c.now) }
 {
@@ -74,7 +133,17 @@ pub fn addpje_values(alloc: Global, c: &Addpje) -> Result<Values, NoMemory>
     Ok(values)
 }
 
-#[tactic(auto, unfolding(crate::specs::Shown::rmvjobqe_values))]
+#[tactic(auto, unfolding(crate::specs::Entries::rmvjobqe))]
+pub fn rmvjobqe(values: &Values) -> Rmvjobqe
+    ensures { result ≡ rmvjobqe values.now }
+{
+    Rmvjobqe {
+        sbsd: values.object(Key::Sbsd),
+        jobq: values.object(Key::Jobq),
+    }
+}
+
+#[tactic(auto, unfolding(crate::specs::Entries::rmvjobqe_values))]
 pub fn rmvjobqe_values(alloc: Global, c: &Rmvjobqe) -> Result<Values, NoMemory>
     ensures { IfOk result (λ v. v ≡ rmvjobqe_values c.now) }
 {
@@ -84,7 +153,17 @@ pub fn rmvjobqe_values(alloc: Global, c: &Rmvjobqe) -> Result<Values, NoMemory>
     Ok(values)
 }
 
-#[tactic(auto, unfolding(crate::specs::Shown::rmvrtge_values))]
+#[tactic(auto, unfolding(crate::specs::Entries::rmvrtge))]
+pub fn rmvrtge(values: &Values) -> Rmvrtge
+    ensures { result ≡ rmvrtge values.now }
+{
+    Rmvrtge {
+        sbsd: values.object(Key::Sbsd),
+        seqnbr: values.number(Key::Seqnbr),
+    }
+}
+
+#[tactic(auto, unfolding(crate::specs::Entries::rmvrtge_values))]
 pub fn rmvrtge_values(alloc: Global, c: &Rmvrtge) -> Result<Values, NoMemory>
     ensures { IfOk result (λ v. v ≡ rmvrtge_values c.now) }
 {
@@ -94,7 +173,17 @@ pub fn rmvrtge_values(alloc: Global, c: &Rmvrtge) -> Result<Values, NoMemory>
     Ok(values)
 }
 
-#[tactic(auto, unfolding(crate::specs::Shown::rmvaje_values))]
+#[tactic(auto, unfolding(crate::specs::Entries::rmvaje))]
+pub fn rmvaje(values: &Values) -> Rmvaje
+    ensures { result ≡ rmvaje values.now }
+{
+    Rmvaje {
+        sbsd: values.object(Key::Sbsd),
+        job: values.name(Key::Job),
+    }
+}
+
+#[tactic(auto, unfolding(crate::specs::Entries::rmvaje_values))]
 pub fn rmvaje_values(alloc: Global, c: &Rmvaje) -> Result<Values, NoMemory>
     ensures { IfOk result (λ v. v ≡ rmvaje_values c.now) }
 {
@@ -104,7 +193,17 @@ pub fn rmvaje_values(alloc: Global, c: &Rmvaje) -> Result<Values, NoMemory>
     Ok(values)
 }
 
-#[tactic(auto, unfolding(crate::specs::Shown::rmvpje_values))]
+#[tactic(auto, unfolding(crate::specs::Entries::rmvpje))]
+pub fn rmvpje(values: &Values) -> Rmvpje
+    ensures { result ≡ rmvpje values.now }
+{
+    Rmvpje {
+        sbsd: values.object(Key::Sbsd),
+        pgm: values.object(Key::Pgm),
+    }
+}
+
+#[tactic(auto, unfolding(crate::specs::Entries::rmvpje_values))]
 pub fn rmvpje_values(alloc: Global, c: &Rmvpje) -> Result<Values, NoMemory>
     ensures { IfOk result (λ v. v ≡ rmvpje_values c.now) }
 {

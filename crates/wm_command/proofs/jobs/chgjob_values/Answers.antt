@@ -1,8 +1,8 @@
 use Rattle.std.proofs.Common.{rules, ◌≡◌}
 use Rattle.std.specs.Option.{option_map}
 use Rattle.wm_command.specs.declared.value.Value.TheVariants as value
-use Rattle.wm_command.specs.Shown.{chgjob_values}
-use Rattle.wm_command.proofs.shown_job.chgjob_values.Goals as goal
+use Rattle.wm_command.specs.Jobs.{chgjob_values}
+use Rattle.wm_command.proofs.jobs.chgjob_values.Goals as goal
 
 pub returns : goal.returns
 unfolding chgjob_values

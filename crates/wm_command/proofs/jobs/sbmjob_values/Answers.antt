@@ -1,8 +1,8 @@
 use Rattle.std.proofs.Common.{rules, ◌≡◌}
 use Rattle.std.specs.Option.{option_map}
 use Rattle.wm_command.specs.declared.value.Value.TheVariants as value
-use Rattle.wm_command.specs.Shown.{sbmjob_values}
-use Rattle.wm_command.proofs.shown_job.sbmjob_values.Goals as goal
+use Rattle.wm_command.specs.Jobs.{sbmjob_values}
+use Rattle.wm_command.proofs.jobs.sbmjob_values.Goals as goal
 
 pub returns : goal.returns
 unfolding sbmjob_values

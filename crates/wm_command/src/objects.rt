@@ -1,0 +1,102 @@
+// The commands that make objects: each made of its keys' values, and its values in the order of the table.
+ghost use Rattle.std.specs.Prelude.{◌≡◌, IfOk};
+ghost use Rattle.wm_command.specs.Objects.{crtcls, crtcls_values, crtpgmref, crtpgmref_values, crtjobd, crtjobd_values, crtsbsd, crtsbsd_values};
+
+use crate::fields::{limit_value, text_or};
+use crate::row::Special;
+use crate::value::{Value, Values};
+use std::alloc::Global;
+use wm_base::{Key, NoMemory};
+use wm_law::{Crtcls, Crtjobd, Crtpgmref, Crtsbsd};
+
+#[tactic(auto, unfolding(crate::specs::Objects::crtcls))]
+pub fn crtcls(values: &Values) -> Crtcls
+    ensures { result ≡ crtcls values.now }
+{
+    Crtcls {
+        cls: values.object(Key::Cls),
+        runpty: values.number(Key::Runpty),
+        timeslice: values.number(Key::Timeslice),
+        dftwait: values.limit(Key::Dftwait),
+    }
+}
+
+#[tactic(auto, unfolding(crate::specs::Objects::crtcls_values))]
+pub fn crtcls_values(alloc: Global, c: &Crtcls) -> Result<Values, NoMemory>
+    ensures { IfOk result (λ v. v ≡ crtcls_values c.now) }
+{
+    let mut values = Values::new(alloc);
+    values.push(Key::Cls, Value::Object(c.cls))?;
+    values.push(Key::Runpty, Value::Number(c.runpty))?;
+    values.push(Key::Timeslice, Value::Number(c.timeslice))?;
+    values.push(Key::Dftwait, limit_value(c.dftwait))?;
+    Ok(values)
+}
+
+#[tactic(auto, unfolding(crate::specs::Objects::crtpgmref))]
+pub fn crtpgmref(values: &Values) -> Result<Crtpgmref, NoMemory>
+    ensures { IfOk result (λ c. c ≡ crtpgmref values.now) }
+{
+    Ok(Crtpgmref {
+        pgm: values.object(Key::Pgm),
+        path: values.text(Key::Path)?,
+    })
+}
+
+#[tactic(auto, unfolding(crate::specs::Objects::crtpgmref_values))]
+pub fn crtpgmref_values(alloc: Global, c: &Crtpgmref) -> Result<Values, NoMemory>
+    ensures { IfOk result (λ v. v ≡ crtpgmref_values c.now) }
+{
+    let mut values = Values::new(alloc);
+    values.push(Key::Pgm, Value::Object(c.pgm))?;
+    values.push(Key::Path, Value::Text(c.path.clone()?))?;
+    Ok(values)
+}
+
+#[tactic(auto, unfolding(crate::specs::Objects::crtjobd))]
+pub fn crtjobd(values: &Values) -> Result<Crtjobd, NoMemory>
+    ensures { IfOk result (λ c. c ≡ crtjobd values.now) }
+{
+    Ok(Crtjobd {
+        jobd: values.object(Key::Jobd),
+        jobq: values.object(Key::Jobq),
+        jobpty: values.priority(Key::Jobpty),
+        rtgdta: values.text(Key::Rtgdta)?,
+        rqsdta: values.maybe_text(Key::Rqsdta)?,
+        hold: values.flag(Key::Hold),
+    })
+}
+
+#[tactic(auto, unfolding(crate::specs::Objects::crtjobd_values))]
+pub fn crtjobd_values(alloc: Global, c: &Crtjobd) -> Result<Values, NoMemory>
+    ensures { IfOk result (λ v. v ≡ crtjobd_values c.now) }
+{
+    let mut values = Values::new(alloc);
+    values.push(Key::Jobd, Value::Object(c.jobd))?;
+    values.push(Key::Jobq, Value::Object(c.jobq))?;
+    values.push(Key::Jobpty, Value::Number(c.jobpty.get() as u32))?;
+    values.push(Key::Rtgdta, Value::Text(c.rtgdta.clone()?))?;
+    values.push(Key::Rqsdta, text_or(Special::None, &c.rqsdta)?)?;
+    values.push(Key::Hold, Value::Flag(c.hold))?;
+    Ok(values)
+}
+
+#[tactic(auto, unfolding(crate::specs::Objects::crtsbsd))]
+pub fn crtsbsd(values: &Values) -> Crtsbsd
+    ensures { result ≡ crtsbsd values.now }
+{
+    Crtsbsd {
+        sbsd: values.object(Key::Sbsd),
+        maxjobs: values.limit(Key::Maxjobs),
+    }
+}
+
+#[tactic(auto, unfolding(crate::specs::Objects::crtsbsd_values))]
+pub fn crtsbsd_values(alloc: Global, c: &Crtsbsd) -> Result<Values, NoMemory>
+    ensures { IfOk result (λ v. v ≡ crtsbsd_values c.now) }
+{
+    let mut values = Values::new(alloc);
+    values.push(Key::Sbsd, Value::Object(c.sbsd))?;
+    values.push(Key::Maxjobs, limit_value(c.maxjobs))?;
+    Ok(values)
+}
