@@ -58,7 +58,7 @@ free-waiters p (j ∷ js) free = on (is_waiting j.phase) j.jobq free (free-waite
     on true None none rest = rest (λ i. none (inr i))
     on true (Some queue) none rest = All-cons (λ (w : Waiter). (w.place == p) ≡ false) (waiter_on queue j) (waiters js) (differs j.place p (λ e. none (inl (sym e)))) (rest (λ i. none (inr i)))
 
--- the jobs before one of those that a store has
+-- the jobs before another have lesser serials
 behind-others : (l r : List Job) (j : Job) → IsSortedOnce serial_of nat_cmp (l ++ j ∷ r) → All (λ (k : Job). k.serial < j.serial) l
 behind-others [] r j sorted = All-nil (λ (k : Job). k.serial < j.serial)
 behind-others (k ∷ ks) r j sorted =
@@ -70,6 +70,7 @@ between : (ms ns : List ℕ) (p : ℕ) → IsIn p (ms ++ p ∷ ns)
 between [] ns p = inl refl
 between (m ∷ ms) ns p = inr (between ms ns p)
 
+-- what stands before another is another
 not-before : (ms ns : List ℕ) (p : ℕ) → IsDistinct (ms ++ p ∷ ns) → IsIn p ms → ⊥
 not-before [] ns p d i = i
 not-before (m ∷ ms) ns p d (inl e) = d.0 (subst (λ (n : ℕ). IsIn n (ms ++ p ∷ ns)) e (between ms ns p))
@@ -81,6 +82,7 @@ places-parts l r j waits =
     ∙ (map-append (λ (k : Job). k.place) (filter (λ (k : Job). is_waiting k.phase) l) (filter (λ (k : Job). is_waiting k.phase) (j ∷ r))
     ∙ ap (λ b. waiting_places l ++ map (λ (k : Job). k.place) (cond b (j ∷ filter (λ (k : Job). is_waiting k.phase) r) (filter (λ (k : Job). is_waiting k.phase) r))) waits)
 
+-- no job that waits before another has its place
 place-free : (l r : List Job) (j : Job) → IsDistinct (waiting_places (l ++ j ∷ r)) → is_waiting j.phase ≡ true → IsIn j.place (waiting_places l) → ⊥
 place-free l r j distinct waits = not-before (waiting_places l) (waiting_places r) j.place (subst (λ (ns : List ℕ). IsDistinct ns) (places-parts l r j waits) distinct)
 
