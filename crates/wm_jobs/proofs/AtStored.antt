@@ -3,7 +3,7 @@ use Rattle.std.proofs.Common.{◌≡◌, ℕ, suc, ◌+◌, ◌<◌, ◌≤◌, 
 use mathlib.Core.Bool.{false≢true}
 use Rattle.std.specs.List.{filter, cons_option}
 use Rattle.std.specs.Ordering.{nat_cmp}
-use Rattle.std.proofs.lemmas.List.{append-nil, append_assoc, length-append, map-append}
+use Rattle.std.proofs.lemmas.List.{length-append, map-append}
 use Rattle.std.proofs.lemmas.List.Elements.{All-nil, All-cons, All-append, filter-append}
 use Rattle.std.proofs.lemmas.List.Folds.{list_any_none}
 use Rattle.wm_base.specs.declared.qname.QName.{QName}
@@ -58,8 +58,8 @@ free-waiters p (j ∷ js) free = on (is_waiting j.phase) j.jobq free (free-waite
     on true None none rest = rest (λ i. none (inr i))
     on true (Some queue) none rest = All-cons (λ (w : Waiter). (w.place == p) ≡ false) (waiter_on queue j) (waiters js) (differs j.place p (λ e. none (inl (sym e)))) (rest (λ i. none (inr i)))
 
--- the jobs before one of those that a store has
-pub behind-others : (l r : List Job) (j : Job) → IsSortedOnce serial_of nat_cmp (l ++ j ∷ r) → All (λ (k : Job). k.serial < j.serial) l
+-- the jobs before another have lesser serials
+behind-others : (l r : List Job) (j : Job) → IsSortedOnce serial_of nat_cmp (l ++ j ∷ r) → All (λ (k : Job). k.serial < j.serial) l
 behind-others [] r j sorted = All-nil (λ (k : Job). k.serial < j.serial)
 behind-others (k ∷ ks) r j sorted =
     All-cons (λ (i : Job). i.serial < j.serial) k ks
@@ -70,6 +70,7 @@ between : (ms ns : List ℕ) (p : ℕ) → IsIn p (ms ++ p ∷ ns)
 between [] ns p = inl refl
 between (m ∷ ms) ns p = inr (between ms ns p)
 
+-- what stands before another is another
 not-before : (ms ns : List ℕ) (p : ℕ) → IsDistinct (ms ++ p ∷ ns) → IsIn p ms → ⊥
 not-before [] ns p d i = i
 not-before (m ∷ ms) ns p d (inl e) = d.0 (subst (λ (n : ℕ). IsIn n (ms ++ p ∷ ns)) e (between ms ns p))
@@ -81,39 +82,20 @@ places-parts l r j waits =
     ∙ (map-append (λ (k : Job). k.place) (filter (λ (k : Job). is_waiting k.phase) l) (filter (λ (k : Job). is_waiting k.phase) (j ∷ r))
     ∙ ap (λ b. waiting_places l ++ map (λ (k : Job). k.place) (cond b (j ∷ filter (λ (k : Job). is_waiting k.phase) r) (filter (λ (k : Job). is_waiting k.phase) r))) waits)
 
-pub place-free : (l r : List Job) (j : Job) → IsDistinct (waiting_places (l ++ j ∷ r)) → is_waiting j.phase ≡ true → IsIn j.place (waiting_places l) → ⊥
+-- no job that waits before another has its place
+place-free : (l r : List Job) (j : Job) → IsDistinct (waiting_places (l ++ j ∷ r)) → is_waiting j.phase ≡ true → IsIn j.place (waiting_places l) → ⊥
 place-free l r j distinct waits = not-before (waiting_places l) (waiting_places r) j.place (subst (λ (ns : List ℕ). IsDistinct ns) (places-parts l r j waits) distinct)
 
--- a job that is next of those that a store has may come behind those before it
-pub record IsNext (next_serial next_place : ℕ) (jobs : List Job) (j : Job) : Type 0 where
-  pub inactive : is_active j.phase ≡ false
-  pub queue : is_waiting j.phase ≡ true → is_some j.jobq ≡ true
-  pub serial : j.serial < next_serial
-  pub place : j.place < next_place
+-- its serial is above those of the jobs before it, and none of them that waits has its place where it waits
+pub record IsNext (jobs : List Job) (j : Job) : Type 0 where
   pub behind : All (λ (k : Job). k.serial < j.serial) jobs
   pub free : is_waiting j.phase ≡ true → IsIn j.place (waiting_places jobs) → ⊥
 
-next-of-stored : (ns np : ℕ) (l r : List Job) (j : Job) → AreStored ns np (l ++ j ∷ r) → IsNext ns np l j
-next-of-stored ns np l r j h =
-    let this = all-there (IsListed ns np) l r j h.listed.each in
-    record {
-      inactive = all-there (λ (k : Job). is_active k.phase ≡ false) l r j h.inactive;
-      queue = this.queue;
-      serial = this.serial;
-      place = this.place;
-      behind = behind-others l r j h.listed.sorted;
-      free = place-free l r j h.places;
-    }
-
-pub next-left : (ns np : ℕ) (all taken left rest : List Job) (j : Job) → AreStored ns np all → taken ++ left ≡ all → left ≡ j ∷ rest → IsNext ns np taken j
-next-left ns np all taken left rest j h whole steps = next-of-stored ns np taken rest j (subst (λ (js : List Job). AreStored ns np js) (sym whole ∙ ap (λ (js : List Job). taken ++ js) steps) h)
-
-pub taken-more : (all taken left rest more : List Job) (j : Job) → taken ++ left ≡ all → left ≡ j ∷ rest → more ≡ taken ++ j ∷ [] → more ++ rest ≡ all
-taken-more all taken left rest more j whole steps is = ap (λ (js : List Job). js ++ rest) is ∙ (append_assoc taken (j ∷ []) rest ∙ (ap (λ (js : List Job). taken ++ js) (sym steps) ∙ whole))
-
-pub taken-all : (all taken left : List Job) → taken ++ left ≡ all → length left ≡ 0 → taken ≡ all
-taken-all all taken [] whole none = sym (append-nil taken) ∙ whole
-taken-all all taken (j ∷ js) whole none = absurd (omega arith)
+-- so it is with the first job that is left of those that a store has
+pub next-left : (ns np : ℕ) (all taken left rest : List Job) (j : Job) → AreStored ns np all → taken ++ left ≡ all → left ≡ j ∷ rest → IsNext taken j
+next-left ns np all taken left rest j h whole steps =
+    let parts = subst (λ (js : List Job). AreStored ns np js) (sym whole ∙ ap (λ (js : List Job). taken ++ js) steps) h in
+    record { behind = behind-others taken rest j parts.listed.sorted; free = place-free taken rest j parts.places }
 
 few-more : (o : Option Waiter) → length (cons_option o []) ≤ 1
 few-more None = omega arith
