@@ -12,7 +12,8 @@ use std::alloc::Global;
 use wm_base::{NoMemory, Text};
 use wm_outside::Row;
 
-fn counter_word(counter: Counter) -> &'static [u8]
+/// The key of a counter's row.
+pub fn counter_word(counter: Counter) -> &'static [u8]
     ensures value { result.now ≡ counter_word counter }
     ensures text { IsText result.now }
 {

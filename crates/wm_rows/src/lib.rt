@@ -23,12 +23,12 @@ mod reading;
 mod rows;
 mod stored;
 
-pub use counter::counter_row;
+pub use counter::{counter_row, counter_word};
 pub use entries::{auto_entry_row, pre_entry_row, queue_entry_row, route_entry_row};
 pub use held::held_row;
 pub use laws::{commands_have_rows, things_are_made_again};
 pub use objects::{class_row, jobd_row, program_row, queue_row, sbsd_row};
-pub use place::{HELD, Place, QUEUE_ENTRIES, ROUTE_ENTRIES};
+pub use place::{COUNTERS, HELD, Place, QUEUE_ENTRIES, ROUTE_ENTRIES};
 pub use places::{auto_place, numbered_place, object_place, place_of, pre_place};
 pub use reading::read_row;
 pub use rows::{command_row, row_of};

@@ -1,0 +1,5 @@
+mod Made
+mod InRead
+mod TakenAs
+mod Tests
+mod Waits

@@ -1,0 +1,4 @@
+pub mod Making
+pub mod Plausible
+pub mod ReadingInside
+pub mod Restarted
