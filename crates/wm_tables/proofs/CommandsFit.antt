@@ -15,7 +15,9 @@ use Rattle.wm_desc.specs.declared.entry.Cmp.TheVariants.{Any, Val}
 use Rattle.wm_law.specs.Fit.{IsBetween, IsCompared, IsQName}
 use Rattle.wm_law.specs.declared.command.Command.TheVariants as command
 use Rattle.wm_command.specs.Printed.{FitsCompare, FitsRow, IsQualified}
-use Rattle.wm_command.specs.Shown.{limit_value, or_special, crtcls_values, crtpgmref_values, crtjobd_values, crtsbsd_values, addjobqe_values, addrtge_values, addaje_values, addpje_values}
+use Rattle.wm_command.specs.Entries.{addjobqe_values, addrtge_values, addaje_values, addpje_values}
+use Rattle.wm_command.specs.Fields.{limit_value, or_special}
+use Rattle.wm_command.specs.Objects.{crtcls_values, crtpgmref_values, crtjobd_values, crtsbsd_values}
 use Rattle.wm_command.specs.Table.{change_rows, or_word}
 use Rattle.wm_command.specs.declared.row.Default.TheVariants as default
 use Rattle.wm_command.specs.declared.row.Kind.{Kind}
