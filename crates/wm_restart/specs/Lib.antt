@@ -1,4 +1,5 @@
 pub mod Making
+pub mod Parts
 pub mod Plausible
 pub mod ReadingInside
 pub mod Restarted

@@ -2,7 +2,8 @@
 //!
 //! The contract for the layer above: `read_rows` gives the state that rows make, as `AreGood` and `HasCounters` of `wm_tables`
 //! say, or the number of the first row that isn't good, as `IsBad` says.
-//! The definitions are those of `wm_tables`; `specs/` has what lies in a `Reading`.
+//! The definitions are those of `wm_tables`; `specs/` has the parts of the state that is read (`Parts`) and
+//! what lies in a `Reading`.
 #![tactic(auto)]
 
 mod job;
@@ -11,5 +12,5 @@ mod marks;
 mod reading;
 mod restart;
 
-pub use reading::Reading;
+pub use reading::{ReadParts, Reading};
 pub use restart::{RestartFault, read_rows};

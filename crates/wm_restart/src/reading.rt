@@ -22,12 +22,25 @@ const SERIALS_END: u64 = 1_000_000_000_000_000_000;
 /// The table of jobs.
 const JOBS: u8 = 11;
 
-/// What the rows that were read make. A contract sees it as the state.
+/// What rows make of a state. The next serial and place are at most 2^64; where no counter lacks, at most
+/// 1,000,000,000,000,000,000.
 #[derive(Drop)]
-pub struct Reading {
+pub struct ReadParts {
     pub objects: Objects,
     pub held: QNames,
     pub jobs: Vec<Job>,
+    pub next_number: u32,
+    pub next_serial: u128,
+    pub next_place: u128,
+    pub offset: Offset,
+}
+
+/// What the rows that were read make. A contract sees it as the state.
+#[derive(Drop)]
+pub struct Reading {
+    objects: Objects,
+    held: QNames,
+    jobs: Vec<Job>,
     // The numbers of the jobs.
     numbers: Ordered<u32, ()>,
     // The places of those that wait.
@@ -60,6 +73,7 @@ impl Reading {
     ghost use Rattle.wm_law.specs.declared.call.Reply.TheVariants.{Made, QueueHeld};
     ghost use Rattle.wm_law.specs.declared.state.State.{State};
     ghost use Rattle.wm_rows.specs.Places.{place_of};
+    ghost use Rattle.wm_restart.specs.Parts.{parts_state};
     ghost use Rattle.wm_job_rows.specs.Stored.{IsPhase};
     ghost use Rattle.wm_restart.specs.Plausible.{IsApart, TakesNone};
     ghost use Rattle.wm_tables.specs.Restart.{IsGoodCount, IsGoodJob, Takes, with_counter, with_stored};
@@ -81,25 +95,19 @@ impl Reading {
         }
     }
 
-    /// The next job's number.
-    pub fn next_number(&self) -> u32
-        ensures { result ≡ self.now.next_number }
+    /// What was read, for the machine that is made of it.
+    pub fn parts(self) -> ReadParts
+        ensures { parts_state result ≡ self }
     {
-        self.next_number
-    }
-
-    /// The next job's serial. It is at most 2^64; where no counter lacks, at most 1,000,000,000,000,000,000.
-    pub fn next_serial(&self) -> u128
-        ensures { result ≡ self.now.next_serial }
-    {
-        self.next_serial
-    }
-
-    /// The place of the next job that waits, in the same range.
-    pub fn next_place(&self) -> u128
-        ensures { result ≡ self.now.next_place }
-    {
-        self.next_place
+        ReadParts {
+            objects: self.objects,
+            held: self.held,
+            jobs: self.jobs,
+            next_number: self.next_number,
+            next_serial: self.next_serial,
+            next_place: self.next_place,
+            offset: self.offset,
+        }
     }
 
     // Makes what a row's command makes, and answers whether the machine takes it.

@@ -11,7 +11,7 @@ use wm_cases::Subject;
 use wm_desc::Sbsd;
 use wm_law::Job;
 use wm_outside::Row;
-use wm_restart::{Reading, RestartFault, read_rows};
+use wm_restart::{ReadParts, RestartFault, read_rows};
 use wm_when::Offset;
 
 /// The rows of a store.
@@ -45,15 +45,15 @@ impl Subject for RestartCases {
             bail!("no question: {question}");
         }
         match read_rows(self.alloc, &self.rows, Offset::new(0)) {
-            Ok(reading) => push_reading(&reading, answer),
+            Ok(reading) => push_read(&reading.parts(), answer),
             Err(RestartFault::BadRow(n)) => Ok(writeln!(answer, "BAD {n}")?),
             Err(RestartFault::NoMemory) => bail!("out of memory"),
         }
     }
 }
 
-fn push_reading(reading: &Reading, answer: &mut String) -> Result<()> {
-    let objects = &reading.objects;
+fn push_read(read: &ReadParts, answer: &mut String) -> Result<()> {
+    let objects = &read.objects;
     let entries: usize = objects
         .sbsds
         .as_slice()
@@ -68,16 +68,16 @@ fn push_reading(reading: &Reading, answer: &mut String) -> Result<()> {
         objects.jobqs.len(),
         objects.jobds.len(),
         objects.sbsds.len(),
-        reading.held.len()
+        read.held.len()
     )?;
     writeln!(
         answer,
         "NEXT {} {} {}",
-        reading.next_number(),
-        reading.next_place(),
-        reading.next_serial()
+        read.next_number,
+        read.next_place,
+        read.next_serial
     )?;
-    for job in reading.jobs.iter() {
+    for job in read.jobs.iter() {
         push_job(job, answer)?;
     }
     Ok(())
