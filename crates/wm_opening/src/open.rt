@@ -1,5 +1,5 @@
 // The machine that a run opens with.
-ghost use Rattle.std.specs.Prelude.{◌≡◌, ℕ, ◌≤◌, false, Err, All, IfOk};
+ghost use Rattle.std.specs.Prelude.{◌≡◌, ℕ, ◌≤◌, length, Err, IfOk};
 ghost use Rattle.wm_core.specs.Stored.{kept_state};
 ghost use Rattle.wm_law.specs.Submitting.{serials_end};
 ghost use Rattle.wm_restart.specs.Parts.{parts_state};
@@ -34,9 +34,13 @@ fn open_found(alloc: Global, rows: &[Row], setup: &Setup) -> Result<Core, Restar
     ensures ok { IfOk result (λ core. IsRestart setup.now.offset rows.now core) }
     ensures bad { (n : ℕ) → result ≡ Err (BadRow n) → IsBad setup.now.offset rows.now n }
 {
-    let read = read_rows(alloc, rows, setup.offset)?.parts();
-    let core = Core::stored(alloc, kept_of(read))?;
-    Ok(core)
+    match read_rows(alloc, rows, setup.offset) {
+        Err(fault) => Err(fault),
+        Ok(reading) => {
+            let core = Core::stored(alloc, kept_of(reading.parts()))?;
+            Ok(core)
+        }
+    }
 }
 
 /// The machine that a run opens with: that of the opening commands where there are no rows, else that of the rows. An `Err`

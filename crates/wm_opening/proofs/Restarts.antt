@@ -1,0 +1,30 @@
+-- What holds of the state that good rows make.
+use Rattle.std.proofs.Common.{◌≡◌, ℕ, ◌≤◌, ℤ, false, List, [], ◌∷◌, length, All, refl, inl, inr, arith}
+use Rattle.std.proofs.lemmas.List.Elements.{All-nil, All-cons}
+use Rattle.wm_outside.specs.declared.row.Row.{Row}
+use Rattle.wm_law.specs.Counts.{is_active}
+use Rattle.wm_law.specs.Laws.{IsIn}
+use Rattle.wm_law.specs.Opening.{empty}
+use Rattle.wm_law.specs.Sound.{IsSound}
+use Rattle.wm_law.specs.declared.job.Job.{Job}
+use Rattle.wm_law.specs.declared.state.State.{State}
+use Rattle.wm_tables.specs.Restart.{AreGood, HasCounters, IsRestart}
+use Rattle.wm_tables.proofs.Building.{built}
+use Rattle.wm_tables.proofs.Restarts.{restart_is_sound}
+use Rattle.wm_tables.proofs.RowOrder.{ascending}
+
+pub restart_of : (offset : ℤ) (rows : List Row) (s : State) → 1 ≤ length rows → AreGood offset rows s → HasCounters rows → IsRestart offset rows s
+restart_of offset [] s some good counters = absurd (omega arith)
+restart_of offset (row ∷ rows) s some good counters = (good, counters)
+
+pub sound : (offset : ℤ) (rows : List Row) (s : State) → 1 ≤ length rows → AreGood offset rows s → HasCounters rows → IsSound s
+sound offset rows s some good counters = restart_is_sound offset rows s (restart_of offset rows s some good counters)
+
+all_of : {X : Type 0} (P : X → Type 0) (xs : List X) → ((x : X) → IsIn x xs → P x) → All P xs
+all_of P [] h = All-nil P
+all_of P (x ∷ xs) h = All-cons P x xs (h x (inl refl)) (all_of P xs (λ y i. h y (inr i)))
+
+pub none_active : (offset : ℤ) (rows : List Row) (s : State) → AreGood offset rows s → All (λ j. is_active j.phase ≡ false) s.jobs
+none_active offset rows s good =
+    let b = built offset rows s (ascending rows good.order) good.read in
+    all_of (λ (j : Job). is_active j.phase ≡ false) s.jobs b.jobs.idle
