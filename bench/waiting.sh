@@ -1,7 +1,8 @@
 #!/usr/bin/env bash
-# What a line costs that releases, holds or changes a job that waits, with 100, 1,000 and 10,000 of them, and what the one
-# line costs that clears their queue. The jobs J1 to Jn are submitted held, to a queue that no subsystem has, so none starts.
-# The cost of a line is the processor's time of a run with these lines less that of a run with the lines before them alone.
+# What a line costs that releases, holds or changes a job that waits, with 100, 1,000 and 10,000 of them, what a line costs
+# that clears a queue of five jobs beside them, and what the one line costs that clears them all. The jobs J1 to Jn are
+# submitted held, to a queue that no subsystem has, so none starts. The cost of a line is the processor's time of a run with
+# these lines less that of a run with the lines before them alone.
 set -eu
 cd "$(dirname "$0")/.."
 bin/wrkmgr run </dev/null
@@ -23,6 +24,14 @@ lines() {
 submits() {
   echo 'CRTJOBQ WAITING'
   lines "$1" 'SBMJOB CMD(CALL PGM(ECHO) PARM(#)) JOB(J#) JOBQ(WAITING) HOLD(*YES)'
+}
+
+# queues: twenty queues more, with five held jobs on each
+queues() {
+  lines 20 'CRTJOBQ Q#'
+  for n in 1 2 3 4 5; do
+    lines 20 "SBMJOB CMD(CALL PGM(ECHO) PARM(#)) JOB(K#N$n) JOBQ(Q#) HOLD(*YES)"
+  done
 }
 
 # seconds TIMES FILE: of a processor, of so many runs of the file, one after another
@@ -54,7 +63,10 @@ for count in 100 1000 10000; do
   measure 'release, in full' "$count" "$count" 'RLSJOB #/QUSER/J#'
   measure 'release, by name' "$count" "$count" 'RLSJOB J#'
   measure 'change' "$count" "$count" 'CHGJOB J# JOBPTY(1)'
-  measure 'clear' "$count" 1 'CLRJOBQ WAITING'
+  measure 'clear all' "$count" 1 'CLRJOBQ WAITING'
+  { submits "$count"; queues; } >"$before"
+  measure 'clear five' "$count" 20 'CLRJOBQ Q#'
+  submits "$count" >"$before"
   lines "$count" 'RLSJOB J#' >>"$before"
   measure 'hold, in full' "$count" "$count" 'HLDJOB #/QUSER/J#'
   measure 'hold, by name' "$count" "$count" 'HLDJOB J#'
