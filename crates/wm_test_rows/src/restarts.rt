@@ -73,9 +73,7 @@ fn push_read(read: &ReadParts, answer: &mut String) -> Result<()> {
     writeln!(
         answer,
         "NEXT {} {} {}",
-        read.next_number,
-        read.next_place,
-        read.next_serial
+        read.next_number, read.next_place, read.next_serial
     )?;
     for job in read.jobs.iter() {
         push_job(job, answer)?;
