@@ -54,12 +54,10 @@ impl Subject for RestartCases {
 
 fn push_read(read: &ReadParts, answer: &mut String) -> Result<()> {
     let objects = &read.objects;
-    let entries: usize = objects
-        .sbsds
-        .as_slice()
-        .iter()
-        .map(|(_, d)| entries_of(d))
-        .sum();
+    let mut entries = 0_usize;
+    for (_, description) in objects.sbsds.as_slice() {
+        entries = entries.saturating_add(entries_of(description));
+    }
     writeln!(
         answer,
         "OBJECTS {} {} {} {} {} ENTRIES {entries} HELD {}",
@@ -82,10 +80,12 @@ fn push_read(read: &ReadParts, answer: &mut String) -> Result<()> {
 }
 
 fn entries_of(description: &Sbsd) -> usize {
-    description.queues.len()
-        + description.routes.len()
-        + description.autos.len()
-        + description.pres.len()
+    description
+        .queues
+        .len()
+        .saturating_add(description.routes.len())
+        .saturating_add(description.autos.len())
+        .saturating_add(description.pres.len())
 }
 
 fn push_job(job: &Job, answer: &mut String) -> Result<()> {
