@@ -1,8 +1,8 @@
 #!/usr/bin/env bash
-# What a line costs that releases, holds or changes a job that waits, with 100, 1,000 and 10,000 of them, what a line costs
-# that clears a queue of five jobs beside them, and what the one line costs that clears them all. The jobs J1 to Jn are
-# submitted held, to a queue that no subsystem has, so none starts. The cost of a line is the processor's time of a run with
-# these lines less that of a run with the lines before them alone.
+# What a line costs that releases, holds or changes a job that waits, with 100, 1,000 and 10,000 of them, and what it costs
+# to clear 10,000 jobs in queues of 20 to 10,000. The jobs are submitted held, to queues that no subsystem has, so none
+# starts. Each case has as many lines, or clears as many jobs, at each size. The cost is the processor's time of a run with
+# these lines less that of a run with the lines before them alone: the least of nine runs of each, by turns.
 set -eu
 cd "$(dirname "$0")/.."
 bin/wrkmgr run </dev/null
@@ -26,48 +26,56 @@ submits() {
   lines "$1" 'SBMJOB CMD(CALL PGM(ECHO) PARM(#)) JOB(J#) JOBQ(WAITING) HOLD(*YES)'
 }
 
-# queues: twenty queues more, with five held jobs on each
+# queues SIZE: so many queues of so many held jobs that they are 10,000
 queues() {
-  lines 20 'CRTJOBQ Q#'
-  for n in 1 2 3 4 5; do
-    lines 20 "SBMJOB CMD(CALL PGM(ECHO) PARM(#)) JOB(K#N$n) JOBQ(Q#) HOLD(*YES)"
+  local many=$((10000 / $1))
+  lines "$many" 'CRTJOBQ Q#'
+  for ((n = 0; n < $1; n++)); do
+    lines "$many" 'SBMJOB CMD(CALL PGM(ECHO) PARM(#)) JOB(J#) JOBQ(Q#) HOLD(*YES)'
   done
 }
 
-# seconds TIMES FILE: of a processor, of so many runs of the file, one after another
-seconds() {
-  local TIMEFORMAT='%U %S'
-  { time for ((i = 0; i < $1; i++)); do "$program" run <"$2" >/dev/null || true; done; } 2>&1 | awk '{ print $1 + $2 }'
+# rounds COUNT TEXT TEXT: 20,000 lines, each text for all of so many jobs by turns
+rounds() {
+  for ((n = 0; n < 10000 / $1; n++)); do
+    lines "$1" "$2"
+    lines "$1" "$3"
+  done
 }
 
-# measure CASE JOBS LINES TEXT: so many lines of the text, behind the lines of $before. A refusal would show another cost.
+# least: the seconds of a processor that a run of $before and a run of $script take, each the least of nine
+least() {
+  local TIMEFORMAT='%U %S'
+  for _ in 1 2 3 4 5 6 7 8 9; do
+    { time "$program" run <"$before" >/dev/null; } 2>&1
+    { time "$program" run <"$script" >/dev/null; } 2>&1
+  done | awk '{ used = $1 + $2; side = NR % 2; if (NR <= 2 || used < best[side]) best[side] = used }
+    END { print best[1], best[0] }'
+}
+
+# measure CASE SIZE COUNT: what the lines of standard input cost behind those of $before, divided by the count. A refusal
+# would show another cost.
 measure() {
-  local times=100 alone all
-  case $2 in 1000) times=20 ;; 10000) times=5 ;; esac
-  { cat "$before"; lines "$3" "$4"; } >"$script"
+  local alone all
+  cat "$before" - >"$script"
   if ! "$program" run <"$script" >/dev/null; then
     echo "$1: a line is refused" >&2
     exit 1
   fi
-  alone=$(seconds "$times" "$before")
-  all=$(seconds "$times" "$script")
-  awk -v name="$1" -v jobs="$2" -v lines="$3" -v times="$times" -v alone="$alone" -v all="$all" 'BEGIN {
-    used = 1e6 * (all - alone) / times
-    printf "%-18s %8d %8d %18.1f %17.2f\n", name, jobs, lines, used / lines, used / jobs
+  read -r alone all < <(least)
+  awk -v name="$1" -v size="$2" -v count="$3" -v alone="$alone" -v all="$all" 'BEGIN {
+    printf "%-22s %8d %14.2f\n", name, size, 1e6 * (all - alone) / count
   }'
 }
 
-printf '%-18s %8s %8s %18s %17s\n' case jobs lines 'processor us/line' 'processor us/job'
+printf '%-22s %8s %14s\n' case jobs 'processor us'
 for count in 100 1000 10000; do
   submits "$count" >"$before"
-  measure 'release, in full' "$count" "$count" 'RLSJOB #/QUSER/J#'
-  measure 'release, by name' "$count" "$count" 'RLSJOB J#'
-  measure 'change' "$count" "$count" 'CHGJOB J# JOBPTY(1)'
-  measure 'clear all' "$count" 1 'CLRJOBQ WAITING'
-  { submits "$count"; queues; } >"$before"
-  measure 'clear five' "$count" 20 'CLRJOBQ Q#'
-  submits "$count" >"$before"
-  lines "$count" 'RLSJOB J#' >>"$before"
-  measure 'hold, in full' "$count" "$count" 'HLDJOB #/QUSER/J#'
-  measure 'hold, by name' "$count" "$count" 'HLDJOB J#'
+  rounds "$count" 'RLSJOB #/QUSER/J#' 'HLDJOB #/QUSER/J#' | measure 'a line, in full' "$count" 20000
+  rounds "$count" 'RLSJOB J#' 'HLDJOB J#' | measure 'a line, by name' "$count" 20000
+  rounds "$count" 'CHGJOB J# JOBPTY(1)' 'CHGJOB J# JOBPTY(5)' | measure 'a line, change' "$count" 20000
+done
+for size in 20 100 1000 10000; do
+  queues "$size" >"$before"
+  lines $((10000 / size)) 'CLRJOBQ Q#' | measure 'a job that is cleared' "$size" 10000
 done
