@@ -23,7 +23,7 @@ use Rattle.wm_jobs.specs.Indexed.{order_of}
 use Rattle.wm_jobs.specs.Table.{Table, serial_of, is_busy}
 use Rattle.wm_jobs.specs.TableInside.{table_of, IsListed, AreListed, IsIndexed, HasRoom, HasNames, IsTableInside}
 use Rattle.wm_jobs.specs.declared.table.JobTable.TheInside.{Inside}
-use Rattle.wm_jobs.proofs.NameParts.{names-pushed, names-rows}
+use Rattle.wm_jobs.proofs.NameParts.{names-pushed}
 use Rattle.wm_jobs.proofs.Sifted.{lower_differs, picked-few, picked-keys, picked-length, pushed-lacks, pushed-comes, pushed-same}
 use Rattle.wm_jobs.proofs.Splits.{sorted-pushed}
 use Rattle.wm_jobs.proofs.JobParts.{waiting-inactive, waiting-unstarted, waiter-keyed, waiter-placed, order-keyed, order-none, hows-pushed, count-pushed}
@@ -45,8 +45,8 @@ module _ (t : Inside) (h : IsTableInside t) where
   pub few-waiters : length t.waiting.items ≤ length t.jobs.items
   few-waiters = let n : length t.waiting.items ≡ length (waiters t.jobs.items) = ap length h.indexed.waiters_are in let few = picked-few waiter_of t.jobs.items in omega arith
 
-  pub reserved-inside : (new : Inside) → new.jobs.items ≡ t.jobs.items → new.waiting.items ≡ t.waiting.items → new.tally.counts ≡ t.tally.counts → new.starting.items ≡ t.starting.items → new.active ≡ t.active → new.busy ≡ t.busy → new.next_serial ≡ t.next_serial → new.next_place ≡ t.next_place → HasRoom (length t.jobs.items) (vec_capacity new.jobs) new.room new.waiting new.tally new.starting → new.names.rows ≡ t.names.rows → new.room ≤ new.names.spare → IsTableInside new
-  reserved-inside new jobs waiting tally starting active busy ns np room rows name = record {
+  pub reserved-inside : (new : Inside) → new.jobs.items ≡ t.jobs.items → new.waiting.items ≡ t.waiting.items → new.tally.counts ≡ t.tally.counts → new.starting.items ≡ t.starting.items → new.active ≡ t.active → new.busy ≡ t.busy → new.next_serial ≡ t.next_serial → new.next_place ≡ t.next_place → HasRoom (length t.jobs.items) (vec_capacity new.jobs) new.room new.waiting new.tally new.starting → (IsNames t.jobs.items t.names → IsNames t.jobs.items new.names) → new.room ≤ new.names.spare → IsTableInside new
+  reserved-inside new jobs waiting tally starting active busy ns np room names name = record {
     listed = subst (λ js. AreListed new.next_serial new.next_place js) (sym jobs) (rw (ns, np) h.listed);
     indexed = subst (λ js. IsIndexed js new.waiting new.tally new.starting new.active new.busy) (sym jobs) (record {
       waiters_are = waiting ∙ h.indexed.waiters_are;
@@ -56,7 +56,7 @@ module _ (t : Inside) (h : IsTableInside t) where
       busy_are = busy ∙ h.indexed.busy_are;
     });
     room = subst (λ n. HasRoom n (vec_capacity new.jobs) new.room new.waiting new.tally new.starting) (ap length (sym jobs)) room;
-    named = subst (λ js. HasNames js new.room new.names) (sym jobs) (record { are = names-rows t.jobs.items t.names new.names rows h.named.are; to_name = name });
+    named = subst (λ js. HasNames js new.room new.names) (sym jobs) (record { are = names h.named.are; to_name = name });
   }
 
   module _ (v : Table) (view : table_of t ≡ v) (j : Job) (w : Waiter) (picked : waiter_of j ≡ Some w) (serial : j.serial ≡ v.next_serial) (place : j.place ≡ v.next_place) where

@@ -4,6 +4,7 @@ pub mod AtPlace
 pub mod AtStored
 pub mod Changes
 pub mod Cleared
+pub mod Counted
 pub mod JobParts
 pub mod NameParts
 pub mod One

@@ -13,7 +13,7 @@ use Rattle.wm_law.specs.Counts.{is_waiting, is_active}
 use Rattle.wm_law.specs.Laws.{IsIn}
 use Rattle.wm_law.specs.Named.{is_ended, is_named, has_name, has_user_name, only_one}
 use Rattle.wm_names.specs.Namesakes.{joined}
-use Rattle.wm_names.specs.Names.{Rows, Names, IsNames, HasFew, namesakes_of, serial_of_one}
+use Rattle.wm_names.specs.Names.{Names, IsNames, HasFew, serial_of_one}
 use Rattle.wm_names.proofs.JobLemmas.{job_serial, total, total-middle, small-replaced}
 use Rattle.wm_jobs.specs.TableInside.{HasNames}
 
@@ -47,9 +47,6 @@ names-alike l r x y names serial job ended are = record {
       ∙ (ap (λ b. joined b x.serial (total job_serial (is_named ref) (l ++ r))) (sym (same-named ref x y job ended))
       ∙ (ap (λ (n : ℕ). joined (is_named ref y) n (total job_serial (is_named ref) (l ++ r))) (sym serial) ∙ sym (total-middle job_serial (is_named ref) l y r))));
 }
-
-pub names-rows : (jobs : List Job) (old new : Names) → new.rows ≡ old.rows → IsNames jobs old → IsNames jobs new
-names-rows jobs old new same are = record { serials = are.serials; rows = λ ref. ap (λ (rows : Rows). namesakes_of ref rows) same ∙ are.rows ref }
 
 -- one that comes into a list of names
 pub names-pushed : (jobs : List Job) (j : Job) (old new : Names) (was is : ℕ) → HasNames jobs was old → is + 1 ≡ was → ((js : List Job) → IsNames js old → IsNames (js ++ j ∷ []) new) → old.spare ≤ new.spare + 1 → HasNames (jobs ++ j ∷ []) is new

@@ -1,5 +1,5 @@
 // Where a job stands, and its change there.
-ghost use Rattle.std.specs.Prelude.{◌≡◌, map, vec_capacity, MatchResult};
+ghost use Rattle.std.specs.Prelude.{◌≡◌, map, vec_capacity, IfSome, MatchResult};
 ghost use Rattle.std.specs.Ordering.{nat_cmp};
 ghost use Rattle.wm_desc.specs.Place.{IsAt, IsGap};
 ghost use Rattle.wm_desc.specs.Sorted.{IsSortedOnce};
@@ -15,8 +15,33 @@ use std::cmp::Ordering;
 use wm_base::{Moment, Serial};
 use wm_law::{Chgjob, Job, Launched, Phase};
 
-/// Where the job of a serial stands, or where it would go.
+// Where the job of a serial stands where all serials from the first on are given, which they are but in some stores.
+fn place_by_count(jobs: &[Job], serial: Serial) -> Option<usize>
+    requires { IsSortedOnce serial_of nat_cmp jobs.now }
+    ensures { IfSome result (IsAt serial_of nat_cmp serial jobs.now) }
+{
+    let first = jobs.first()?;
+    let at = serial.get().checked_sub(first.serial.get())? as usize;
+    if jobs.get(at)?.serial == serial {
+        Some(at)
+    } else {
+        None
+    }
+}
+
+/// Where the job of a serial stands, or where it would go. It is one look where serials follow one another.
 pub(crate) fn place(jobs: &[Job], serial: Serial) -> Result<usize, usize>
+    requires { IsSortedOnce serial_of nat_cmp jobs.now }
+    ensures { MatchResult result (IsAt serial_of nat_cmp serial jobs.now) (IsGap serial_of nat_cmp serial jobs.now) }
+{
+    match place_by_count(jobs, serial) {
+        Some(at) => Ok(at),
+        None => search(jobs, serial),
+    }
+}
+
+// The same, by halves.
+fn search(jobs: &[Job], serial: Serial) -> Result<usize, usize>
     requires { IsSortedOnce serial_of nat_cmp jobs.now }
     ensures { MatchResult result (IsAt serial_of nat_cmp serial jobs.now) (IsGap serial_of nat_cmp serial jobs.now) }
 {

@@ -6,12 +6,13 @@ use Rattle.wm_law.specs.declared.command.JobRef.{JobRef}
 use Rattle.wm_law.specs.declared.command.JobRef.TheVariants.{Simple, ByUser, Full}
 use Rattle.wm_law.specs.declared.job.Job.{Job}
 use Rattle.wm_law.specs.Named.{is_ended, is_named, has_name, has_user_name, only_one}
+use Rattle.wm_names.specs.declared.keys.SimpleName.{SimpleName}
 use Rattle.wm_names.specs.declared.keys.UserName.{UserName}
 use Rattle.wm_names.specs.declared.namesakes.Namesakes.{Namesakes}
 use Rattle.wm_names.specs.FullNames.{serial_of, is_of, same_name}
 use Rattle.wm_names.specs.Namesakes.{joined, parted, namesakes_at, namesakes_among, AreFew, IsAmong, only}
 use Rattle.wm_names.specs.Names.{Names, IsNames, same_simple, same_by_user, namesakes_of, serial_of_one}
-use Rattle.wm_names.specs.Refs.{user_name_of}
+use Rattle.wm_names.specs.Refs.{simple_name_of, user_name_of}
 use Rattle.wm_names.proofs.JobLemmas.{job_serial, total, total-middle, total-push, total-parted, total-among, total-few, total-only, small-replaced, small-middle, small-push}
 
 -- rows of few jobs have room for one more
@@ -22,7 +23,7 @@ module _ (names : Names) (jobs : List Job) (are : IsNames jobs names) where
       omega (arith, count, total-few job_serial (is_named r) jobs, few)
 
   pub few_simple : length jobs + 1 < 2 ^ 32 → AreFew same_simple names.rows.simple
-  few_simple few = λ name. few_row (Simple name) few
+  few_simple few = λ name. few_row (Simple name.name) few
 
   pub few_by_user : length jobs + 1 < 2 ^ 32 → AreFew same_by_user names.rows.by_user
   few_by_user few = λ name. few_row (ByUser name.user name.name) few
@@ -54,7 +55,7 @@ module _ (j : Job) (lasts : is_ended j.phase ≡ false) where
     named : (r : JobRef) → is_named r j ≡ true → IsAmong j.serial (namesakes_of r names.rows)
     named r h = subst (λ (n : Namesakes). IsAmong j.serial n) (sym (are.rows r)) (total-among job_serial (is_named r) before j behind (small-middle before j behind are.serials) h)
 
-    pub named_simple : IsAmong j.serial (namesakes_at same_simple j.job.name names.rows.simple)
+    pub named_simple : IsAmong j.serial (namesakes_at same_simple (simple_name_of j) names.rows.simple)
     named_simple = named (Simple j.job.name) simple-named
 
     pub named_by_user : IsAmong j.serial (namesakes_at same_by_user (user_name_of j) names.rows.by_user)
@@ -64,7 +65,7 @@ module _ (old new : Names) (j : Job) where
   -- a job joins the rows of the references that name it
   pub added-names : ((job : JobName) → namesakes_among serial_of (is_of job) new.rows.full ≡ joined (same_name j.job job) j.serial (namesakes_among serial_of (is_of job) old.rows.full))
       → ((name : UserName) → namesakes_at same_by_user name new.rows.by_user ≡ joined (is_named (ByUser name.user name.name) j) j.serial (namesakes_at same_by_user name old.rows.by_user))
-      → ((name : List ℕ) → namesakes_at same_simple name new.rows.simple ≡ joined (is_named (Simple name) j) j.serial (namesakes_at same_simple name old.rows.simple))
+      → ((name : SimpleName) → namesakes_at same_simple name new.rows.simple ≡ joined (is_named (Simple name.name) j) j.serial (namesakes_at same_simple name old.rows.simple))
       → j.serial < 2 ^ 64 → (jobs : List Job) → IsNames jobs old → IsNames (jobs ++ j ∷ []) new
   added-names full by_user simple small jobs are = record {
     serials = small-push jobs j small are.serials;
@@ -72,14 +73,14 @@ module _ (old new : Names) (j : Job) where
   }
     where
       row : (r : JobRef) → namesakes_of r new.rows ≡ joined (is_named r j) j.serial (namesakes_of r old.rows)
-      row (Simple name) = simple name
+      row (Simple name) = simple (record { name = name })
       row (ByUser user name) = by_user (record { user = user; name = name })
       row (Full job) = full job
 
   -- a job that ends leaves the rows of the references without its number
   pub ended-names : new.rows.full ≡ old.rows.full
       → ((name : UserName) → namesakes_at same_by_user name new.rows.by_user ≡ parted (is_named (ByUser name.user name.name) j) j.serial (namesakes_at same_by_user name old.rows.by_user))
-      → ((name : List ℕ) → namesakes_at same_simple name new.rows.simple ≡ parted (is_named (Simple name) j) j.serial (namesakes_at same_simple name old.rows.simple))
+      → ((name : SimpleName) → namesakes_at same_simple name new.rows.simple ≡ parted (is_named (Simple name.name) j) j.serial (namesakes_at same_simple name old.rows.simple))
       → (before behind : List Job) (ended : Job) → ended.serial ≡ j.serial → ended.job ≡ j.job → is_ended ended.phase ≡ true → IsNames (before ++ j ∷ behind) old → IsNames (before ++ ended ∷ behind) new
   ended-names full by_user simple before behind ended serial job ends are = record {
     serials = small-replaced before j ended behind serial are.serials;
@@ -97,7 +98,7 @@ module _ (old new : Names) (j : Job) where
           ∙ (total-parted job_serial (is_named r) before j behind (small-middle before j behind are.serials) ∙ ap (λ (c : Bool). joined c ended.serial (others r)) (sym none)))
 
       row : (r : JobRef) → namesakes_of r new.rows ≡ joined (is_named r ended) ended.serial (others r)
-      row (Simple name) = open_row (Simple name) (ap (λ (b : Bool). not b && has_name name ended.job) ends) (simple name)
+      row (Simple name) = open_row (Simple name) (ap (λ (b : Bool). not b && has_name name ended.job) ends) (simple (record { name = name }))
       row (ByUser user name) = open_row (ByUser user name) (ap (λ (b : Bool). not b && has_user_name user name ended.job) ends) (by_user (record { user = user; name = name }))
       row (Full full_name) =
           ap (λ rows. namesakes_among serial_of (is_of full_name) rows) full

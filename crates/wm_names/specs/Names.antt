@@ -1,21 +1,22 @@
 -- What a contract sees of the names of jobs, and of which jobs they are the names.
 use Rattle.std.specs.Prelude.{◌≡◌, ℕ, ◌+◌, ◌^◌, ◌<◌, Bool, false, List, ◌∷◌, ◌++◌, length, All, Result, Ok, Err}
 use Rattle.wm_base.specs.declared.refusal.Refusal.{Refusal}
-use Rattle.wm_base.specs.contracts.name.NamePartialEq.TheImpl as name_by_eq
 use Rattle.wm_law.specs.declared.command.JobRef.{JobRef}
 use Rattle.wm_law.specs.declared.command.JobRef.TheVariants.{Simple, ByUser, Full}
 use Rattle.wm_law.specs.declared.job.Job.{Job}
 use Rattle.wm_law.specs.Named.{is_ended, is_named}
 use Rattle.wm_names.specs.declared.keys.FullName.{FullName}
+use Rattle.wm_names.specs.declared.keys.SimpleName.{SimpleName}
 use Rattle.wm_names.specs.declared.keys.UserName.{UserName}
 use Rattle.wm_names.specs.declared.namesakes.Namesakes.{Namesakes}
+use Rattle.wm_names.specs.contracts.keys.SimpleNamePartialEq.TheImpl as simple_name_by_eq
 use Rattle.wm_names.specs.contracts.keys.UserNamePartialEq.TheImpl as user_name_by_eq
 use Rattle.wm_names.specs.FullNames.{serial_of, is_of}
 use Rattle.wm_names.specs.Namesakes.{namesakes_at, namesakes_among}
 
 -- whether two simple names are one, as `==` answers
-abbrev pub same_simple : List ℕ → List ℕ → Bool
-same_simple = (name_by_eq.ghosts).eq
+abbrev pub same_simple : SimpleName → SimpleName → Bool
+same_simple = (simple_name_by_eq.ghosts).eq
 
 -- whether two names by user are one, as `==` answers
 abbrev pub same_by_user : UserName → UserName → Bool
@@ -25,7 +26,7 @@ same_by_user = (user_name_by_eq.ghosts).eq
 pub record Rows : Type 0 where
   pub full : List FullName
   pub by_user : List (UserName × Namesakes)
-  pub simple : List (List ℕ × Namesakes)
+  pub simple : List (SimpleName × Namesakes)
 
 -- the rows, and for how many more jobs there is room
 pub record Names : Type 0 where
@@ -34,7 +35,7 @@ pub record Names : Type 0 where
 
 -- how many jobs a reference names by the rows, and the sum of their serials
 abbrev pub namesakes_of : JobRef → Rows → Namesakes
-namesakes_of (Simple name) rows = namesakes_at same_simple name rows.simple
+namesakes_of (Simple name) rows = namesakes_at same_simple (record { name = name }) rows.simple
 namesakes_of (ByUser user name) rows = namesakes_at same_by_user (record { user = user; name = name }) rows.by_user
 namesakes_of (Full job) rows = namesakes_among serial_of (is_of job) rows.full
 

@@ -1,8 +1,8 @@
 -- The jobs that one reference names, and how a job joins them and leaves them.
-use Rattle.std.specs.Prelude.{◌≡◌, ℕ, zero, suc, ◌+◌, ◌-◌, ◌%◌, ◌^◌, ◌<◌, ◌≤◌, Bool, true, false, List, All, filter, count_by, sum_by, Result, Ok, Err, unwrap_or}
+use Rattle.std.specs.Prelude.{◌≡◌, ℕ, zero, suc, ◌+◌, ◌-◌, ◌%◌, ◌^◌, ◌<◌, ◌≤◌, Bool, true, false, List, filter, count_by, sum_by, Result, Ok, Err, Some, unwrap_or}
+use Rattle.std.specs.Map.{lookup}
 use Rattle.wm_base.specs.declared.refusal.Refusal.{Refusal}
 use Rattle.wm_base.specs.declared.refusal.Refusal.TheVariants.{Ambiguous, NoJob}
-use Rattle.wm_ordered.specs.Ordered.{value_at}
 use Rattle.wm_names.specs.declared.namesakes.Namesakes.{Namesakes}
 
 -- no job
@@ -25,11 +25,11 @@ parted false serial row = row
 
 -- the row of a key; a key without a row has no job
 abbrev pub namesakes_at : {K : Type 0} → (K → K → Bool) → K → List (K × Namesakes) → Namesakes
-namesakes_at eq key rows = unwrap_or (value_at eq key rows) nobody
+namesakes_at eq key rows = unwrap_or (lookup (eq key) rows) nobody
 
 -- each row has a job
-abbrev pub HaveJobs : {K : Type 0} → List (K × Namesakes) → Type 0
-HaveJobs rows = All (λ row. 1 ≤ row.1.count) rows
+abbrev pub HaveJobs : {K : Type 0} → (K → K → Bool) → List (K × Namesakes) → Type 0
+HaveJobs {K} eq rows = (key : K) (row : Namesakes) → lookup (eq key) rows ≡ Some row → 1 ≤ row.count
 
 -- one more job fits into each row
 abbrev pub AreFew : {K : Type 0} → (K → K → Bool) → List (K × Namesakes) → Type 0

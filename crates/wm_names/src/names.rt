@@ -1,13 +1,13 @@
 // Which jobs references name.
 use crate::full_names::{only, put};
-use crate::keys::{FullName, UserName};
+use crate::keys::{FullName, SimpleName, UserName};
 use crate::namesakes::Namesakes;
 use crate::refs::{join_open, leave_open};
 use std::alloc::Global;
+use std::collections::HashMap;
 use std::marker::Model;
-use wm_base::{Name, NoMemory, Refusal, Serial};
+use wm_base::{NoMemory, Refusal, Serial};
 use wm_law::{Job, JobRef};
-use wm_ordered::Ordered;
 
 /// Which jobs are named by which references. The jobs themselves aren't kept: a contract sees the rows, and says of which
 /// jobs they are the names. `spare` is for how many more jobs there is room.
@@ -16,8 +16,8 @@ pub struct JobNames {
     // A row for each job, in ascending order of the full names.
     full: Vec<FullName>,
     // The jobs that haven't ended, by the references without a number.
-    by_user: Ordered<UserName, Namesakes>,
-    simple: Ordered<Name, Namesakes>,
+    by_user: HashMap<UserName, Namesakes>,
+    simple: HashMap<SimpleName, Namesakes>,
     // For how many more jobs there is room.
     room: u32,
 }
@@ -47,25 +47,25 @@ impl JobNames {
     {
         JobNames {
             full: Vec::new(alloc),
-            by_user: Ordered::new(alloc),
-            simple: Ordered::new(alloc),
+            by_user: HashMap::new(alloc),
+            simple: HashMap::new(alloc),
             room: 0,
         }
     }
 
-    /// Makes room for a number of jobs. An `Err` is want of memory; it leaves all as it was.
+    /// Makes room for a number of jobs. An `Err` is want of memory; there is as much room then as there was.
     pub fn reserve(&mut self, more: u32) -> Result<(), NoMemory>
         ensures ok { OnOk result (more ≤ self.new.spare) }
-        ensures rows { self.new.rows ≡ self.old.rows }
+        ensures names { (jobs : List Job) → IsNames jobs self.old → IsNames jobs self.new }
         ensures spare { self.old.spare ≤ self.new.spare }
-        ensures err { OnErr result (self.new ≡ self.old) }
+        ensures err { OnErr result (self.new.spare ≡ self.old.spare) }
     {
         if more <= self.room {
             return Ok(());
         }
         self.full.reserve(more as usize)?;
-        self.by_user.reserve(more)?;
-        self.simple.reserve(more)?;
+        self.by_user.reserve(more as usize)?;
+        self.simple.reserve(more as usize)?;
         self.room = more;
         Ok(())
     }
@@ -102,13 +102,16 @@ impl JobNames {
         ensures { (jobs : List Job) → IsNames jobs self.now → result ≡ serial_of_one (only_one (filter (is_named reference.now) jobs)) }
     {
         match reference {
-            JobRef::Simple(name) => Namesakes::of(self.simple.get(name)).only(),
+            JobRef::Simple(name) => {
+                let key = SimpleName { name: *name };
+                Namesakes::of(self.simple.get(&key).copied()).only()
+            }
             JobRef::ByUser(user, name) => {
                 let key = UserName {
                     user: *user,
                     name: *name,
                 };
-                Namesakes::of(self.by_user.get(&key)).only()
+                Namesakes::of(self.by_user.get(&key).copied()).only()
             }
             JobRef::Full(job) => only(&self.full, job),
         }

@@ -64,18 +64,6 @@ module _ {K V : Type 0} (cmp : K → K → Ordering) (o : IsTotalOrder cmp) (k :
     pub value-left : cmp e.0 k ≡ Greater → value_at eq k d ≡ value_at eq k l
     value-left h = ap (λ xs. value_at eq k xs) is ∙ ap (option_map (λ pair. pair.1)) (find-left (λ x. eq x.0 k) l e r (as_tested Greater h) (apart r Greater refl (right_of_greater h)))
 
-    tested : (xs : List (K × V)) → has_key key_of eq k xs ≡ is_some (value_at eq k xs)
-    tested xs = list_any-part (λ pair. eq pair.0 k) (λ pair. pair.1) xs
-
-    pub has-right : cmp e.0 k ≡ Less → has_key key_of eq k d ≡ has_key key_of eq k r
-    has-right h = tested d ∙ (ap is_some (value-right h) ∙ sym (tested r))
-
-    pub has-here : cmp e.0 k ≡ Equal → has_key key_of eq k d ≡ true
-    has-here h = tested d ∙ ap is_some (value-here h)
-
-    pub has-left : cmp e.0 k ≡ Greater → has_key key_of eq k d ≡ has_key key_of eq k l
-    has-left h = tested d ∙ (ap is_some (value-left h) ∙ sym (tested l))
-
     module _ (v : V) where
       pub set-right : cmp e.0 k ≡ Less → with_value eq k v d ≡ l ++ e ∷ with_value eq k v r
       set-right h = ap (λ xs. with_value eq k v xs) is ∙ map-right (λ x. eq x.0 k) (λ x. (x.0, v)) l e r (apart l Less refl (left_of_less h)) (as_tested Less h)

@@ -2,7 +2,7 @@
 // the place of a change isn't moved.
 // Where a tree isn't sorted they end as well, so that is no condition of the calls: then less is known of what they give.
 ghost use Rattle.std.specs.Prelude.{◌≡◌, ◌+◌, ◌∷◌, ◌++◌, length, is_some, option_map, if◌then◌else◌};
-ghost use Rattle.wm_desc.specs.Sorted.{IsSortedOnce, has_key, added, removed};
+ghost use Rattle.wm_desc.specs.Sorted.{IsSortedOnce, added, removed};
 ghost use Rattle.wm_ordered.specs.Ordered.{key_of, value_at, with_value};
 ghost use Rattle.wm_ordered.specs.Tree.{pairs_in, IsCut};
 
@@ -79,23 +79,28 @@ pub(crate) fn merge<K: Copy, V: Copy>(first: Tree<K, V>, second: Tree<K, V>) -> 
     }
 }
 
-/// Gives a key that is there another value, and answers whether it is there.
-pub(crate) fn set_value<K: Ord + Copy, V: Copy>(tree: &mut Tree<K, V>, key: &K, value: V) -> bool
-    ensures there { IsSortedOnce key_of K.cmp (pairs_in tree.old) → result ≡ has_key key_of K.eq key.now (pairs_in tree.old) }
+/// Gives a key that is there another value, and answers the one that it had.
+pub(crate) fn set_value<K: Ord + Copy, V: Copy>(
+    tree: &mut Tree<K, V>,
+    key: &K,
+    value: V,
+) -> Option<V>
+    ensures was { IsSortedOnce key_of K.cmp (pairs_in tree.old) → result ≡ value_at K.eq key.now (pairs_in tree.old) }
     ensures items { IsSortedOnce key_of K.cmp (pairs_in tree.old) → pairs_in tree.new ≡ with_value K.eq key.now value (pairs_in tree.old) }
 {
     let Tree::Fork(place) = tree else {
-        return false;
+        return None;
     };
     let node: &mut Node<K, V> = place;
     let Some(pair) = &node.pair else {
-        return false;
+        return None;
     };
     match pair.0.cmp(key) {
         Ordering::Less => set_value(&mut node.right, key, value),
         Ordering::Equal => {
+            let was = pair.1;
             node.pair = Some((pair.0, value));
-            true
+            Some(was)
         }
         Ordering::Greater => set_value(&mut node.left, key, value),
     }

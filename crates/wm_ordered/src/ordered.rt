@@ -107,9 +107,9 @@ impl<K: Ord + Copy, V: Copy> Ordered<K, V> {
         }
     }
 
-    /// Gives a key that is there another value, and answers whether it is there. It takes no memory.
-    pub fn set(&mut self, key: &K, value: V) -> bool
-        ensures there { result ≡ has_key key_of K.eq key.now self.old.items }
+    /// Gives a key that is there another value, and answers the one that it had. It takes no memory.
+    pub fn set(&mut self, key: &K, value: V) -> Option<V>
+        ensures was { result ≡ value_at K.eq key.now self.old.items }
         ensures items { self.new.items ≡ with_value K.eq key.now value self.old.items }
         ensures spare { self.new.spare ≡ self.old.spare }
     {

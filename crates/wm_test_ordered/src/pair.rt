@@ -32,9 +32,9 @@ impl MapPair {
 
     /// Gives a key another value, where it is there.
     pub fn set(&mut self, key: u32, value: u64) -> Result<()> {
-        let is_set = self.ours.set(&key, value);
-        ensure!(is_set == self.other.contains_key(&key), "set {key}");
-        if is_set {
+        let was = self.ours.set(&key, value);
+        ensure!(was == self.other.get(&key).copied(), "set {key}");
+        if was.is_some() {
             self.other.insert(key, value)?;
         }
         Ok(())

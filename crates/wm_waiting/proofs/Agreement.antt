@@ -176,6 +176,12 @@ module _ (by_serial : Pairs ℕ Waiter) (by_spot : Pairs Spot ℕ) (by_rise : Pa
       unmapped None e = refl
       unmapped (Some r) e = absurd (cc e)
 
+  -- where all rows stay
+  pub agrees-same : (all : Pairs ℕ Waiter) → all.items ≡ by_serial.items → all.spare ≡ by_serial.spare → Agrees all by_spot by_rise by_line clock spare
+  agrees-same all whole same =
+      let n : length all.items ≡ length by_serial.items = ap (λ (l : List (ℕ × Waiter)). length l) whole in
+      agrees-roomier all by_spot by_rise by_line spare whole refl refl refl (omega (arith, n, agrees.most)) (omega (arith, n, same, agrees.room)) (omega (arith, n, agrees.room_in_turns)) (omega (arith, n, agrees.room_in_early)) (omega (arith, n, agrees.room_in_lines))
+
   module _ (serial : ℕ) (w : Waiter) (sorted : IsSortedOnce key_of nat_cmp by_serial.items) (found : value_at nat_eq serial by_serial.items ≡ Some w) where
     with : with_key serial_of nat_eq serial items ≡ Some w
     with = sym (value-waiter by_serial.items agrees.keyed nat_eq serial) ∙ found

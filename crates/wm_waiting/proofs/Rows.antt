@@ -47,6 +47,16 @@ module _ {X Y : Type 0} (f : X → Y) where
   list_any-map p [] = refl
   list_any-map p (x ∷ xs) = ap (λ b. p (f x) || b) (list_any-map p xs)
 
+-- a key without a value gets none
+module _ {K V : Type 0} (eq : K → K → Bool) (key : K) (v : V) where
+  lacks_by : (b : Bool) (x : K × V) (xs : List (K × V)) → eq x.0 key ≡ b → value_at eq key (x ∷ xs) ≡ None → (value_at eq key xs ≡ None → with_value eq key v xs ≡ xs) → cond b (x.0, v) x ∷ with_value eq key v xs ≡ x ∷ xs
+  lacks_by true x xs e none rest = absurd (cc (ap (λ c. option_map (λ (p : K × V). p.1) (cond c (Some x) (find (λ (p : K × V). eq p.0 key) xs))) (sym e) ∙ none))
+  lacks_by false x xs e none rest = ap (λ l. x ∷ l) (rest (ap (λ c. option_map (λ (p : K × V). p.1) (cond c (Some x) (find (λ (p : K × V). eq p.0 key) xs))) (sym e) ∙ none))
+
+  pub with_value-lacks : (xs : List (K × V)) → value_at eq key xs ≡ None → with_value eq key v xs ≡ xs
+  with_value-lacks [] none = refl
+  with_value-lacks (x ∷ xs) none = lacks_by (eq x.0 key) x xs refl none (with_value-lacks xs)
+
 waiters-rows : (ws : List Waiter) → waiters_of (map row_of ws) ≡ ws
 waiters-rows [] = refl
 waiters-rows (w ∷ ws) = ap (λ l. w ∷ l) (waiters-rows ws)

@@ -141,12 +141,11 @@ impl WaitingJobs {
     {
         // `len` tells that serials and places differ; `get` tells the range.
         self.len();
+        waiter.pty.get();
         let serial = waiter.serial;
-        let Some(old) = self.waiter(serial) else {
+        let Some(old) = self.all.set(&serial, waiter) else {
             return;
         };
-        waiter.pty.get();
-        self.all.set(&serial, waiter);
         relist(&mut self.turns, &mut self.early, self.clock, &old, &waiter);
         move_line(&mut self.lines, &old, &waiter);
     }

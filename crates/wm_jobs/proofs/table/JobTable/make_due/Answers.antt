@@ -11,4 +11,4 @@ invariant_of-self c =
     let count = o.to_count in
     let start = o.to_start in
     reserved-inside c.self.inside c.self.invariant _ refl c.make_due.ensures.items refl refl refl refl refl refl
-    (record { to_stand = o.to_stand; few = o.few; to_wait = omega arith; to_count = omega arith; to_start = omega arith }) refl c.self.invariant.named.to_name
+    (record { to_stand = o.to_stand; few = o.few; to_wait = omega arith; to_count = omega arith; to_start = omega arith }) (λ are. are) c.self.invariant.named.to_name

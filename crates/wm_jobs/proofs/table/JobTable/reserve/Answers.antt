@@ -25,7 +25,7 @@ invariant_of-self-in_err-reserve-3 c =
     let count = o.to_count in
     let start = o.to_start in
     reserved-inside c.self.inside c.self.invariant _ c.reserve.ensures.items c.reserve-2.ensures.items c.reserve-3.ensures.counts refl refl refl refl refl
-    (record { to_stand = omega arith; few = omega arith; to_wait = omega arith; to_count = omega arith; to_start = omega arith }) refl c.self.invariant.named.to_name
+    (record { to_stand = omega arith; few = omega arith; to_wait = omega arith; to_count = omega arith; to_start = omega arith }) (λ are. are) c.self.invariant.named.to_name
 
 pub invariant_of-self-in_err-reserve-4 : goal.invariant_of-self-in_err-reserve-4
 invariant_of-self-in_err-reserve-4 c =
@@ -37,7 +37,7 @@ invariant_of-self-in_err-reserve-4 c =
     let count = o.to_count in
     let start = o.to_start in
     reserved-inside c.self.inside c.self.invariant _ c.reserve.ensures.items c.reserve-2.ensures.items c.reserve-3.ensures.counts c.reserve-4.ensures.items refl refl refl refl
-    (record { to_stand = omega arith; few = omega arith; to_wait = omega arith; to_count = omega arith; to_start = omega arith }) refl c.self.invariant.named.to_name
+    (record { to_stand = omega arith; few = omega arith; to_wait = omega arith; to_count = omega arith; to_start = omega arith }) (λ are. are) c.self.invariant.named.to_name
 
 pub invariant_of-self-in_err-reserve-5 : goal.invariant_of-self-in_err-reserve-5
 invariant_of-self-in_err-reserve-5 c =
@@ -49,7 +49,7 @@ invariant_of-self-in_err-reserve-5 c =
     let count = o.to_count in
     let start = o.to_start in
     reserved-inside c.self.inside c.self.invariant _ c.reserve.ensures.items c.reserve-2.ensures.items c.reserve-3.ensures.counts c.reserve-4.ensures.items refl refl refl refl
-    (record { to_stand = omega arith; few = omega arith; to_wait = omega arith; to_count = omega arith; to_start = omega arith }) c.reserve-5.ensures.rows (let name = c.self.invariant.named.to_name in let more = c.reserve-5.ensures.spare in omega arith)
+    (record { to_stand = omega arith; few = omega arith; to_wait = omega arith; to_count = omega arith; to_start = omega arith }) (c.reserve-5.ensures.names _) (let name = c.self.invariant.named.to_name in let more = c.reserve-5.ensures.spare in omega arith)
 
 pub invariant_of-self-2 : goal.invariant_of-self-2
 invariant_of-self-2 c =
@@ -63,4 +63,4 @@ invariant_of-self-2 c =
     let waiters = few-waiters c.self.inside c.self.invariant in
     let len = c.len-2.ensures.len in
     reserved-inside c.self.inside c.self.invariant _ c.reserve.ensures.items c.reserve-2.ensures.items c.reserve-3.ensures.counts c.reserve-4.ensures.items refl refl refl refl
-    (record { to_stand = omega (arith, c.in_ok-reserve.ensures.ok); few = omega arith; to_wait = omega (arith, c.in_ok-reserve-2.ensures.ok); to_count = omega (arith, c.in_ok-reserve-3.ensures.ok); to_start = omega (arith, c.in_ok-reserve-4.ensures.ok) }) c.reserve-5.ensures.rows (omega (arith, c.in_ok-reserve-5.ensures.ok))
+    (record { to_stand = omega (arith, c.in_ok-reserve.ensures.ok); few = omega arith; to_wait = omega (arith, c.in_ok-reserve-2.ensures.ok); to_count = omega (arith, c.in_ok-reserve-3.ensures.ok); to_start = omega (arith, c.in_ok-reserve-4.ensures.ok) }) (c.reserve-5.ensures.names _) (omega (arith, c.in_ok-reserve-5.ensures.ok))

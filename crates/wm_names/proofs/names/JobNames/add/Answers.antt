@@ -21,7 +21,7 @@ invariant_of-self c =
     let job = c.args.job.now in
     let old = subst (λ (n : Names). IsNames jobs n) (sym c.self.view_is) c.requires.few.are in
     let places = c.self.invariant.places in
-    let new : Names = record { rows = record { full = c.put.new.rows.items; by_user = c.join_open.new.by_user.items; simple = c.join_open.new.simple.items }; spare = 0 } in
+    let new : Names = record { rows = record { full = c.put.new.rows.items; by_user = c.join_open.new.by_user.entries; simple = c.join_open.new.simple.entries }; spare = 0 } in
     let are = added-names (names_of c.self.inside) new job c.put.ensures.rows c.join_open.ensures.by_user c.join_open.ensures.simple c.get.ensures.range jobs old in
     let few = c.requires.few.few in
     record {

@@ -14,14 +14,14 @@ only-requires-in-Full-clause-counted c = subst (λ rows. count_by (is_of c.in-Fu
 pub returns-in-Simple : goal.returns-in-Simple
 returns-in-Simple c = λ jobs are.
     let known = subst (λ (n : Names). IsNames jobs n) (sym c.self.view_is) are in
-    let was = c.of.ensures ∙ ap (λ o. unwrap_or o nobody) c.get.ensures in
+    let was = c.of.ensures ∙ ap (λ o. unwrap_or o nobody) (c.copied.ensures ∙ c.get.ensures.value) in
     let found = c.only.ensures ∙ (ap only was ∙ only-named (names_of c.self.inside) jobs known (Simple c.in-Simple.name)) in
     subst (λ r. c.only.result ≡ serial_of_one (only_one (filter (is_named r) jobs))) (sym c.in-Simple.is) found
 
 pub returns-in-ByUser : goal.returns-in-ByUser
 returns-in-ByUser c = λ jobs are.
     let known = subst (λ (n : Names). IsNames jobs n) (sym c.self.view_is) are in
-    let was = c.of-in-ByUser.ensures ∙ ap (λ o. unwrap_or o nobody) c.get-in-ByUser.ensures in
+    let was = c.of-in-ByUser.ensures ∙ ap (λ o. unwrap_or o nobody) (c.copied-in-ByUser.ensures ∙ c.get-in-ByUser.ensures.value) in
     let found = c.only-in-ByUser.ensures ∙ (ap only was ∙ only-named (names_of c.self.inside) jobs known (ByUser c.in-ByUser.user c.in-ByUser.name)) in
     subst (λ r. c.only-in-ByUser.result ≡ serial_of_one (only_one (filter (is_named r) jobs))) (sym c.in-ByUser.is) found
 

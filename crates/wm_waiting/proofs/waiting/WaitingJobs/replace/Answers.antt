@@ -5,20 +5,25 @@ use Rattle.wm_waiting.specs.declared.waiter.Waiter.{Waiter}
 use Rattle.wm_waiting.specs.Keys.{waiters_of}
 use Rattle.wm_waiting.specs.Moving.{Replaces}
 use Rattle.wm_waiting.specs.Waiting.{Waiting, serial_of, HasOwnPlace, replaced}
-use Rattle.wm_waiting.proofs.Agreement.{agrees-replace}
-use Rattle.wm_waiting.proofs.Marks.{replaced-None}
-use Rattle.wm_waiting.proofs.Rows.{length-waiters, waiters-replaced}
+use Rattle.wm_waiting.proofs.Agreement.{agrees-replace, agrees-same}
+use Rattle.wm_waiting.proofs.Rows.{length-waiters, value-waiter, waiters-replaced, with_value-lacks}
 use Rattle.wm_waiting.proofs.waiting.WaitingJobs.replace.Goals as goal
 
+pub invariant_of-self : goal.invariant_of-self
+invariant_of-self c =
+    agrees-same c.self.inside.all c.self.inside.turns c.self.inside.early c.self.inside.lines c.self.inside.clock c.self.inside.room c.self.invariant c.set.new.self
+    (c.set.ensures.items ∙ with_value-lacks nat_eq c.args.waiter.serial c.args.waiter c.self.inside.all.items (sym c.in_default.ensures.was)) c.set.ensures.spare
+
 pub returns-in_default-clause-items : goal.returns-in_default-clause-items
-returns-in_default-clause-items c = replaced-None c.args.waiter c.args.self.now.items (sym c.in_default.ensures)
+returns-in_default-clause-items c =
+    ap (λ (l : List (ℕ × Waiter)). waiters_of l) c.set.ensures.items ∙ (waiters-replaced c.self.inside.all.items c.self.invariant.keyed c.args.waiter ∙ ap (λ (p : Waiting). replaced c.args.waiter p.items) c.self.view_is)
 
 pub relist-requires-clause-turns : goal.relist-requires-clause-turns
 relist-requires-clause-turns c =
     let items = waiters_of c.self.inside.all.items in
     let serials = subst (λ (p : Waiting). IsSortedOnce serial_of nat_cmp p.items) (sym c.self.view_is) c.len.ensures.sorted in
     let own : HasOwnPlace c.args.waiter items = subst (λ (p : Waiting). HasOwnPlace c.args.waiter p.items) (sym c.self.view_is) c.requires.place in
-    let found = subst (λ (p : Waiting). with_key serial_of nat_eq c.args.waiter.serial p.items ≡ Some c.in-Some.old) (sym c.self.view_is) (sym c.in-Some.ensures) in
+    let found : with_key serial_of nat_eq c.args.waiter.serial items ≡ Some c.in-Some.old = sym (c.in-Some.ensures.was ∙ value-waiter c.self.inside.all.items c.self.invariant.keyed nat_eq c.args.waiter.serial) in
     let replaces : Replaces c.args.waiter c.in-Some.old items = record { old_one = record { sorted = serials; places = c.self.invariant.places; found = found }; own = own } in
     let n = length-waiters c.self.inside.all.items in
     record { items = items; replaces = replaces; index = c.self.invariant.turns; room = omega (arith, n, c.self.invariant.room_in_turns) }
@@ -28,7 +33,7 @@ relist-requires-clause-early c =
     let items = waiters_of c.self.inside.all.items in
     let serials = subst (λ (p : Waiting). IsSortedOnce serial_of nat_cmp p.items) (sym c.self.view_is) c.len.ensures.sorted in
     let own : HasOwnPlace c.args.waiter items = subst (λ (p : Waiting). HasOwnPlace c.args.waiter p.items) (sym c.self.view_is) c.requires.place in
-    let found = subst (λ (p : Waiting). with_key serial_of nat_eq c.args.waiter.serial p.items ≡ Some c.in-Some.old) (sym c.self.view_is) (sym c.in-Some.ensures) in
+    let found : with_key serial_of nat_eq c.args.waiter.serial items ≡ Some c.in-Some.old = sym (c.in-Some.ensures.was ∙ value-waiter c.self.inside.all.items c.self.invariant.keyed nat_eq c.args.waiter.serial) in
     let replaces : Replaces c.args.waiter c.in-Some.old items = record { old_one = record { sorted = serials; places = c.self.invariant.places; found = found }; own = own } in
     let n = length-waiters c.self.inside.all.items in
     record { items = items; replaces = replaces; index = c.self.invariant.early; room = omega (arith, n, c.self.invariant.room_in_early) }
@@ -38,17 +43,17 @@ move_line-requires c =
     let items = waiters_of c.self.inside.all.items in
     let serials = subst (λ (p : Waiting). IsSortedOnce serial_of nat_cmp p.items) (sym c.self.view_is) c.len.ensures.sorted in
     let own : HasOwnPlace c.args.waiter items = subst (λ (p : Waiting). HasOwnPlace c.args.waiter p.items) (sym c.self.view_is) c.requires.place in
-    let found = subst (λ (p : Waiting). with_key serial_of nat_eq c.args.waiter.serial p.items ≡ Some c.in-Some.old) (sym c.self.view_is) (sym c.in-Some.ensures) in
+    let found : with_key serial_of nat_eq c.args.waiter.serial items ≡ Some c.in-Some.old = sym (c.in-Some.ensures.was ∙ value-waiter c.self.inside.all.items c.self.invariant.keyed nat_eq c.args.waiter.serial) in
     let replaces : Replaces c.args.waiter c.in-Some.old items = record { old_one = record { sorted = serials; places = c.self.invariant.places; found = found }; own = own } in
     let n = length-waiters c.self.inside.all.items in
     record { items = items; replaces = replaces; index = c.self.invariant.lines; room = omega (arith, n, c.self.invariant.room_in_lines) }
 
-pub invariant_of-self : goal.invariant_of-self
-invariant_of-self c =
+pub invariant_of-self-2 : goal.invariant_of-self-2
+invariant_of-self-2 c =
     let items = waiters_of c.self.inside.all.items in
     let serials = subst (λ (p : Waiting). IsSortedOnce serial_of nat_cmp p.items) (sym c.self.view_is) c.len.ensures.sorted in
     let own : HasOwnPlace c.args.waiter items = subst (λ (p : Waiting). HasOwnPlace c.args.waiter p.items) (sym c.self.view_is) c.requires.place in
-    let found = subst (λ (p : Waiting). with_key serial_of nat_eq c.args.waiter.serial p.items ≡ Some c.in-Some.old) (sym c.self.view_is) (sym c.in-Some.ensures) in
+    let found : with_key serial_of nat_eq c.args.waiter.serial items ≡ Some c.in-Some.old = sym (c.in-Some.ensures.was ∙ value-waiter c.self.inside.all.items c.self.invariant.keyed nat_eq c.args.waiter.serial) in
     let replaces : Replaces c.args.waiter c.in-Some.old items = record { old_one = record { sorted = serials; places = c.self.invariant.places; found = found }; own = own } in
     agrees-replace c.self.inside.all c.self.inside.turns c.self.inside.early c.self.inside.lines c.self.inside.clock c.self.inside.room c.self.invariant c.args.waiter c.set.new.self c.relist.new.turns c.relist.new.early c.move_line.new.lines own (c.get.ensures.least, c.get.ensures.greatest)
     c.set.ensures.items c.set.ensures.spare (c.relist.ensures.turns items replaces c.self.invariant.turns) (c.relist.ensures.early items replaces c.self.invariant.early) (c.move_line.ensures.index items replaces c.self.invariant.lines)

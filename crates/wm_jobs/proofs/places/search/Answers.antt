@@ -4,7 +4,7 @@ use Rattle.std.proofs.lemmas.Fn.{always_returns_same}
 use Rattle.std.specs.Ordering.{nat_cmp}
 use Rattle.wm_desc.proofs.SortedLists.{searched}
 use Rattle.wm_jobs.specs.Table.{serial_of}
-use Rattle.wm_jobs.proofs.places.place.Goals as goal
+use Rattle.wm_jobs.proofs.places.search.Goals as goal
 
 -- the closure compares a job's serial with the one that is sought
 pub returns : goal.returns
