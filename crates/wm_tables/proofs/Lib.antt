@@ -25,3 +25,7 @@ pub mod RangedLaunches
 pub mod RangedCalls
 pub mod RangedSteps
 pub mod CommandsFit
+pub mod SameRows
+pub mod Gained
+pub mod Found
+pub mod NewRows

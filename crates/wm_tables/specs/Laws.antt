@@ -1,8 +1,10 @@
 -- What follows from the tables of states and from what rows make, each for all.
-use Rattle.std.specs.Prelude.{◌≡◌, ◌≤◌, ℕ, ℤ, List, Some}
+use Rattle.std.specs.Prelude.{◌≡◌, ◌≤◌, ℕ, ℤ, List, ◌∷◌, Some}
 use Rattle.wm_outside.specs.declared.row.Row.{Row}
+use Rattle.wm_outside.specs.Rows.{changed}
 use Rattle.wm_command.specs.Printed.{IsFit}
 use Rattle.wm_law.specs.Fit.{IsCall, IsCommand}
+use Rattle.wm_law.specs.Laws.{IsIn}
 use Rattle.wm_law.specs.Machine.{step}
 use Rattle.wm_law.specs.Opening.{opening}
 use Rattle.wm_law.specs.Sound.{IsSound}
@@ -10,9 +12,10 @@ use Rattle.wm_law.specs.declared.call.Call.{Call}
 use Rattle.wm_law.specs.declared.command.Command.{Command}
 use Rattle.wm_law.specs.declared.state.State.{State}
 use Rattle.wm_rows.specs.Rows.{command_row}
+use Rattle.wm_tables.specs.Opened.{new_rows, IsEnded}
 use Rattle.wm_tables.specs.Ranges.{IsInRange}
 use Rattle.wm_tables.specs.Restart.{IsRestart, restarted}
-use Rattle.wm_tables.specs.Tables.{tables}
+use Rattle.wm_tables.specs.Tables.{puts, tables}
 
 -- a run opens with a sound state
 abbrev pub RestartIsSound : Type 0
@@ -33,6 +36,14 @@ StepKeepsRanges = (s : State) (caller : ℕ) (call : Call) (moment : ℕ) → mo
 -- the tables of a sound state in range are good, and a run that opens with them has of that state what a stop leaves of it
 abbrev pub TablesMakeTheirState : Type 0
 TablesMakeTheirState = (offset : ℤ) (s : State) → IsSound s → IsInRange s → IsRestart offset (tables s) (restarted offset s)
+
+-- the rows that a run finds, with those of its state put that aren't among them, are the tables of its state
+abbrev pub NewRowsMakeTables : Type 0
+NewRowsMakeTables = (offset : ℤ) (found : List Row) (s : State) → IsRestart offset found s → changed (puts (new_rows found s)) found ≡ tables s
+
+-- where a run finds rows, the only ones of its state that aren't among them are those of jobs that were active
+abbrev pub OnlyEndedJobsAreNew : Type 0
+OnlyEndedJobsAreNew = (offset : ℤ) (first : Row) (found : List Row) (s : State) → IsRestart offset (first ∷ found) s → (row : Row) → IsIn row (new_rows (first ∷ found) s) → IsEnded (first ∷ found) row
 
 -- a row's command that keeps the forms and ranges of the machine keeps those of the command table too
 abbrev pub RowCommandsFit : Type 0

@@ -1,4 +1,5 @@
 pub mod Laws
+pub mod Opened
 pub mod Ranges
 pub mod Restart
 pub mod Tables

@@ -1,5 +1,5 @@
 // Laws of tables and of restarts, each for all states and rows. They are no calls.
-ghost use Rattle.wm_tables.specs.Laws.{OpeningIsInRange, RestartIsInRange, RestartIsSound, RowCommandsFit, StepKeepsRanges, TablesMakeTheirState};
+ghost use Rattle.wm_tables.specs.Laws.{NewRowsMakeTables, OnlyEndedJobsAreNew, OpeningIsInRange, RestartIsInRange, RestartIsSound, RowCommandsFit, StepKeepsRanges, TablesMakeTheirState};
 
 /// A run opens with a sound state, whatever good rows it finds.
 #[tactic(auto, using(crate::proofs::Restarts::restart_is_sound))]
@@ -23,6 +23,13 @@ pub fn restarts_are_in_range()
 /// Every step of a call in range, at a moment that there is, keeps a sound state in range.
 pub fn steps_keep_ranges()
     ensures { StepKeepsRanges }
+{}
+
+/// The rows that a run finds become the tables of its state where the new ones are put. All of the opening state are new; of
+/// found rows only those of jobs that were active change.
+pub fn new_rows_make_tables()
+    ensures tables { NewRowsMakeTables }
+    ensures ended { OnlyEndedJobsAreNew }
 {}
 
 /// A row's command that keeps the forms and ranges of the machine keeps those of the command table too, so its row is read.
