@@ -4,7 +4,7 @@ ghost use Rattle.wm_law.specs.Changing.{is_queue, keeps_queue, stays};
 
 use crate::Machine;
 use crate::submitting::SERIALS_END;
-use wm_base::{Kind, Moment, QName, Refusal};
+use wm_base::{Kind, Moment, NoMemory, QName, Refusal};
 use wm_law::{Chgjob, Job, Reply};
 
 // Whether a queue that is asked for is the present one.
@@ -34,7 +34,7 @@ fn stays(command: &Chgjob, job: &Job) -> bool
 }
 
 impl Machine {
-    ghost use Rattle.std.specs.Prelude.{◌≡◌};
+    ghost use Rattle.std.specs.Prelude.{◌≡◌, OnErr, IfOk};
     ghost use Rattle.wm_law.specs.Changing.{has_queue, change_job};
     ghost use Rattle.wm_law.specs.Fit.{IsJobChange};
     ghost use Rattle.wm_law.specs.Machine.{with_clock};
@@ -50,32 +50,35 @@ impl Machine {
         }
     }
 
-    /// CHGJOB. The clock is set behind it. It takes no memory.
-    pub(crate) fn change_job(&mut self, command: &Chgjob, now: Moment) -> Reply
+    /// CHGJOB. The clock is set behind it. An `Err` is want of memory and leaves the state.
+    pub(crate) fn change_job(&mut self, command: &Chgjob, now: Moment) -> Result<Reply, NoMemory>
         requires { IsJobChange command.now }
-        ensures { IsStill now result self.new (change_job (with_clock self.old now) command.now) }
+        ensures ok { IfOk result (λ r. IsStill now r self.new (change_job (with_clock self.old now) command.now)) }
+        ensures err { OnErr result (self.new ≡ self.old) }
     {
         let job = match self.waiting_named(&command.job) {
             Ok(job) => job,
-            Err(refusal) => return Reply::No(refusal),
+            Err(refusal) => return Ok(Reply::No(refusal)),
         };
         if !self.has_queue(&command.jobq) {
-            return Reply::No(Refusal::NoObject(Kind::Jobq));
+            return Ok(Reply::No(Refusal::NoObject(Kind::Jobq)));
         }
         let due = match self.rescheduled(job.due, command.scddate, command.scdtime, now) {
             Ok(due) => due,
-            Err(refusal) => return Reply::No(refusal),
+            Err(refusal) => return Ok(Reply::No(refusal)),
         };
         let serial = job.serial;
         let name = job.job;
         if stays(command, job) {
+            self.table.reserve(0)?;
             self.table.set_due(serial, due);
-            return Reply::Changed(name);
+            return Ok(Reply::Changed(name));
         }
         if self.table.next_place() >= SERIALS_END {
-            return Reply::No(Refusal::NumbersUsed);
+            return Ok(Reply::No(Refusal::NumbersUsed));
         }
+        self.table.reserve(0)?;
         self.table.move_to(serial, command, due);
-        Reply::Changed(name)
+        Ok(Reply::Changed(name))
     }
 }

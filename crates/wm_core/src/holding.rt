@@ -1,11 +1,11 @@
 // HLDJOB and RLSJOB: a job that waits is held, or released.
 use crate::Machine;
 use crate::reports::phase_word;
-use wm_base::Refusal;
+use wm_base::{NoMemory, Refusal};
 use wm_law::{Job, JobRef, Phase, Reply};
 
 impl Machine {
-    ghost use Rattle.std.specs.Prelude.{◌≡◌, MatchResult, Ok, Err};
+    ghost use Rattle.std.specs.Prelude.{◌≡◌, MatchResult, Ok, Err, OnOk, OnErr, IfOk};
     ghost use Rattle.wm_law.specs.Holding.{hold_job, release_job};
     ghost use Rattle.wm_law.specs.Named.{waiting_named};
 
@@ -23,39 +23,43 @@ impl Machine {
         }
     }
 
-    /// HLDJOB. It takes no memory.
-    pub(crate) fn hold_job(&mut self, reference: &JobRef) -> Reply
-        ensures reply { result ≡ (hold_job self.old reference.now).reply }
-        ensures state { self.new ≡ (hold_job self.old reference.now).state }
+    /// HLDJOB. An `Err` is want of memory and leaves the state.
+    pub(crate) fn hold_job(&mut self, reference: &JobRef) -> Result<Reply, NoMemory>
+        ensures reply { IfOk result (λ r. r ≡ (hold_job self.old reference.now).reply) }
+        ensures state { OnOk result (self.new ≡ (hold_job self.old reference.now).state) }
+        ensures err { OnErr result (self.new ≡ self.old) }
     {
         let job = match self.waiting_named(reference) {
             Ok(job) => job,
-            Err(refusal) => return Reply::No(refusal),
+            Err(refusal) => return Ok(Reply::No(refusal)),
         };
         if job.held {
-            return Reply::No(Refusal::HeldAlready);
+            return Ok(Reply::No(Refusal::HeldAlready));
         }
         let serial = job.serial;
         let name = job.job;
+        self.table.reserve(0)?;
         self.table.set_held(serial, true);
-        Reply::Held(name)
+        Ok(Reply::Held(name))
     }
 
-    /// RLSJOB. It takes no memory.
-    pub(crate) fn release_job(&mut self, reference: &JobRef) -> Reply
-        ensures reply { result ≡ (release_job self.old reference.now).reply }
-        ensures state { self.new ≡ (release_job self.old reference.now).state }
+    /// RLSJOB. An `Err` is want of memory and leaves the state.
+    pub(crate) fn release_job(&mut self, reference: &JobRef) -> Result<Reply, NoMemory>
+        ensures reply { IfOk result (λ r. r ≡ (release_job self.old reference.now).reply) }
+        ensures state { OnOk result (self.new ≡ (release_job self.old reference.now).state) }
+        ensures err { OnErr result (self.new ≡ self.old) }
     {
         let job = match self.waiting_named(reference) {
             Ok(job) => job,
-            Err(refusal) => return Reply::No(refusal),
+            Err(refusal) => return Ok(Reply::No(refusal)),
         };
         if !job.held {
-            return Reply::No(Refusal::NotHeld);
+            return Ok(Reply::No(Refusal::NotHeld));
         }
         let serial = job.serial;
         let name = job.job;
+        self.table.reserve(0)?;
         self.table.set_held(serial, false);
-        Reply::Released(name)
+        Ok(Reply::Released(name))
     }
 }

@@ -96,8 +96,8 @@ impl Machine {
             Command::Rmvrtge(command) => Ok(self.remove_route(command)),
             Command::Rmvaje(command) => Ok(self.remove_auto(command)),
             Command::Strsbs(_) | Command::Sbmjob(_) | Command::Chgjob(_) => unreachable!(),
-            Command::Hldjob(command) => Ok(self.hold_job(&command.job)),
-            Command::Rlsjob(command) => Ok(self.release_job(&command.job)),
+            Command::Hldjob(command) => self.hold_job(&command.job),
+            Command::Rlsjob(command) => self.release_job(&command.job),
             Command::Hldjobq(command) => self.hold_queue(&command.jobq),
             Command::Rlsjobq(command) => Ok(self.release_queue(&command.jobq)),
             Command::Clrjobq(command) => Ok(self.clear_queue(&command.jobq)),
@@ -117,11 +117,9 @@ impl Machine {
         match call {
             Call::Change { user, command } => self.change(alloc, user, command.get()),
             Call::Hand => self.hand(alloc, caller),
-            Call::Started(serial) => Ok(self.report_started(caller, *serial)),
-            Call::StartFailed(serial, cause) => Ok(self.report_start_failed(
-                caller, *serial, *cause,
-            )),
-            Call::Finished(serial, exit) => Ok(self.report_finished(caller, *serial, exit)),
+            Call::Started(serial) => self.report_started(caller, *serial),
+            Call::StartFailed(serial, cause) => self.report_start_failed(caller, *serial, *cause),
+            Call::Finished(serial, exit) => self.report_finished(caller, *serial, exit),
             Call::UseDone(serial) => Ok(self.report_use_done(caller, *serial)),
             Call::Tick => Ok(Reply::Noted),
         }
@@ -159,7 +157,7 @@ impl Machine {
             Call::Change { user, command } => match command.get() {
                 Command::Sbmjob(command) => self.submit(alloc, user, command, now),
                 Command::Strsbs(command) => self.start_subsystem(alloc, &command.sbsd, now),
-                Command::Chgjob(command) => Ok(self.change_job(command, now)),
+                Command::Chgjob(command) => self.change_job(command, now),
                 _ => self.apply_other(alloc, caller, call, now),
             },
             _ => self.apply_other(alloc, caller, call, now),
@@ -181,6 +179,7 @@ impl Machine {
         ensures state { OnOk result (self.new ≡ (step self.old caller call.now now).state) }
         ensures err { OnErr result (self.new ≡ self.old) }
     {
+        self.table.mark();
         let reply = self.apply(alloc, caller, call, now)?;
         self.set_clock(now);
         self.settle();

@@ -68,31 +68,40 @@ impl Machine {
             return Ok(Reply::Nothing);
         };
         let asked = Boxed::new(alloc, Asked::Start(order))?;
+        self.table.reserve(0)?;
         self.table.set_phase(serial, Phase::Handed(monitor));
         Ok(Reply::Order(asked))
     }
 
     // A report on a job that was handed to the monitor, which it moves on.
-    fn report_handed(&mut self, monitor: u32, serial: Serial, phase: Phase) -> Reply
+    fn report_handed(
+        &mut self,
+        monitor: u32,
+        serial: Serial,
+        phase: Phase,
+    ) -> Result<Reply, NoMemory>
         requires waits { is_waiting phase ≡ false }
         requires starts { is_starting phase ≡ false }
-        ensures reply { result ≡ (report self.old serial (is_handed_to monitor) phase).reply }
-        ensures state { self.new ≡ (report self.old serial (is_handed_to monitor) phase).state }
+        ensures reply { IfOk result (λ r. r ≡ (report self.old serial (is_handed_to monitor) phase).reply) }
+        ensures state { OnOk result (self.new ≡ (report self.old serial (is_handed_to monitor) phase).state) }
+        ensures err { OnErr result (self.new ≡ self.old) }
     {
         let Some(job) = self.table.job(serial) else {
-            return Reply::No(Refusal::NoJob);
+            return Ok(Reply::No(Refusal::NoJob));
         };
         if !is_handed_to(monitor, &job.phase) {
-            return Reply::No(Refusal::WrongPhase(phase_word(&job.phase)));
+            return Ok(Reply::No(Refusal::WrongPhase(phase_word(&job.phase))));
         }
+        self.table.reserve(0)?;
         self.table.set_phase(serial, phase);
-        Reply::Noted
+        Ok(Reply::Noted)
     }
 
-    /// Started: the job that was handed to the monitor runs.
-    pub(crate) fn report_started(&mut self, monitor: u32, serial: Serial) -> Reply
-        ensures reply { result ≡ (apply self.old monitor (Call.Started serial)).reply }
-        ensures state { self.new ≡ (apply self.old monitor (Call.Started serial)).state }
+    /// Started: the job that was handed to the monitor runs. An `Err` leaves the state, here and in the reports below.
+    pub(crate) fn report_started(&mut self, monitor: u32, serial: Serial) -> Result<Reply, NoMemory>
+        ensures reply { IfOk result (λ r. r ≡ (apply self.old monitor (Call.Started serial)).reply) }
+        ensures state { OnOk result (self.new ≡ (apply self.old monitor (Call.Started serial)).state) }
+        ensures err { OnErr result (self.new ≡ self.old) }
     {
         self.report_handed(monitor, serial, Phase::Running(monitor))
     }
@@ -103,26 +112,34 @@ impl Machine {
         monitor: u32,
         serial: Serial,
         cause: StartCause,
-    ) -> Reply
-        ensures reply { result ≡ (apply self.old monitor (Call.StartFailed serial cause)).reply }
-        ensures state { self.new ≡ (apply self.old monitor (Call.StartFailed serial cause)).state }
+    ) -> Result<Reply, NoMemory>
+        ensures reply { IfOk result (λ r. r ≡ (apply self.old monitor (Call.StartFailed serial cause)).reply) }
+        ensures state { OnOk result (self.new ≡ (apply self.old monitor (Call.StartFailed serial cause)).state) }
+        ensures err { OnErr result (self.new ≡ self.old) }
     {
         self.report_handed(monitor, serial, Phase::Ended(EndCause::StartFailed(cause)))
     }
 
     /// Finished: the job that the monitor runs has ended.
-    pub(crate) fn report_finished(&mut self, monitor: u32, serial: Serial, exit: &Exit) -> Reply
-        ensures reply { result ≡ (apply self.old monitor (Call.Finished serial exit.now)).reply }
-        ensures state { self.new ≡ (apply self.old monitor (Call.Finished serial exit.now)).state }
+    pub(crate) fn report_finished(
+        &mut self,
+        monitor: u32,
+        serial: Serial,
+        exit: &Exit,
+    ) -> Result<Reply, NoMemory>
+        ensures reply { IfOk result (λ r. r ≡ (apply self.old monitor (Call.Finished serial exit.now)).reply) }
+        ensures state { OnOk result (self.new ≡ (apply self.old monitor (Call.Finished serial exit.now)).state) }
+        ensures err { OnErr result (self.new ≡ self.old) }
     {
         let Some(job) = self.table.job(serial) else {
-            return Reply::No(Refusal::NoJob);
+            return Ok(Reply::No(Refusal::NoJob));
         };
         if !is_run_by(monitor, &job.phase) {
-            return Reply::No(Refusal::WrongPhase(phase_word(&job.phase)));
+            return Ok(Reply::No(Refusal::WrongPhase(phase_word(&job.phase))));
         }
+        self.table.reserve(0)?;
         self.table.set_phase(serial, Phase::Ended(end_cause(exit)));
-        Reply::Noted
+        Ok(Reply::Noted)
     }
 
     // UseDone: no job has a request yet, so this is always refused.

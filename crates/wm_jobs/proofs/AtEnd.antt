@@ -21,7 +21,7 @@ use Rattle.wm_pick.specs.Parts.{waiter_of, waiters}
 use Rattle.wm_pick.specs.Tallied.{hows}
 use Rattle.wm_jobs.specs.Indexed.{order_of}
 use Rattle.wm_jobs.specs.Table.{Table, serial_of, is_busy}
-use Rattle.wm_jobs.specs.TableInside.{table_of, IsListed, AreListed, IsIndexed, HasRoom, HasNames, IsTableInside}
+use Rattle.wm_jobs.specs.TableInside.{table_of, IsListed, AreListed, IsIndexed, HasRoom, HasNames, IsKept}
 use Rattle.wm_jobs.specs.declared.table.JobTable.TheInside.{Inside}
 use Rattle.wm_jobs.proofs.NameParts.{names-pushed}
 use Rattle.wm_jobs.proofs.Sifted.{lower_differs, picked-few, picked-keys, picked-length, pushed-lacks, pushed-comes, pushed-same}
@@ -31,7 +31,7 @@ use Rattle.wm_jobs.proofs.JobParts.{waiting-inactive, waiting-unstarted, waiter-
 pub same-tally : (hs : List How) (old new : Counts) → new.counts ≡ old.counts → IsTally hs old → IsTally hs new
 same-tally hs old new same h = λ k. ap (number_at same_counted k) same ∙ h k
 
-pub new-inside : (new : Inside) → new.jobs.items ≡ [] → new.waiting.items ≡ [] → IsTally [] new.tally → new.starting.items ≡ [] → new.active ≡ 0 → new.busy ≡ 0 → new.room ≡ 0 → 1 ≤ new.next_place → IsNames [] new.names → IsTableInside new
+pub new-inside : (new : Inside) → new.jobs.items ≡ [] → new.waiting.items ≡ [] → IsTally [] new.tally → new.starting.items ≡ [] → new.active ≡ 0 → new.busy ≡ 0 → new.room ≡ 0 → 1 ≤ new.next_place → IsNames [] new.names → IsKept new
 new-inside new jobs waiting tally starting active busy room np names = record {
   listed = subst (λ js. AreListed new.next_serial new.next_place js) (sym jobs) (record { first_place = omega arith; sorted = λ i j d lt in_range. absurd (omega arith); each = All-nil (IsListed new.next_serial new.next_place) });
   indexed = subst (λ js. IsIndexed js new.waiting new.tally new.starting new.active new.busy) (sym jobs) (record { waiters_are = waiting; hows_are = tally; orders_are = starting; active_are = active; busy_are = busy });
@@ -40,12 +40,12 @@ new-inside new jobs waiting tally starting active busy room np names = record {
   named = subst (λ js. HasNames js new.room new.names) (sym jobs) (record { are = names; to_name = omega arith });
 }
 
-module _ (t : Inside) (h : IsTableInside t) where
+module _ (t : Inside) (h : IsKept t) where
   -- fewer than 4,294,967,294 jobs wait
   pub few-waiters : length t.waiting.items ≤ length t.jobs.items
   few-waiters = let n : length t.waiting.items ≡ length (waiters t.jobs.items) = ap length h.indexed.waiters_are in let few = picked-few waiter_of t.jobs.items in omega arith
 
-  pub reserved-inside : (new : Inside) → new.jobs.items ≡ t.jobs.items → new.waiting.items ≡ t.waiting.items → new.tally.counts ≡ t.tally.counts → new.starting.items ≡ t.starting.items → new.active ≡ t.active → new.busy ≡ t.busy → new.next_serial ≡ t.next_serial → new.next_place ≡ t.next_place → HasRoom (length t.jobs.items) (vec_capacity new.jobs) new.room new.waiting new.tally new.starting → (IsNames t.jobs.items t.names → IsNames t.jobs.items new.names) → new.room ≤ new.names.spare → IsTableInside new
+  pub reserved-inside : (new : Inside) → new.jobs.items ≡ t.jobs.items → new.waiting.items ≡ t.waiting.items → new.tally.counts ≡ t.tally.counts → new.starting.items ≡ t.starting.items → new.active ≡ t.active → new.busy ≡ t.busy → new.next_serial ≡ t.next_serial → new.next_place ≡ t.next_place → HasRoom (length t.jobs.items) (vec_capacity new.jobs) new.room new.waiting new.tally new.starting → (IsNames t.jobs.items t.names → IsNames t.jobs.items new.names) → new.room ≤ new.names.spare → IsKept new
   reserved-inside new jobs waiting tally starting active busy ns np room names name = record {
     listed = subst (λ js. AreListed new.next_serial new.next_place js) (sym jobs) (rw (ns, np) h.listed);
     indexed = subst (λ js. IsIndexed js new.waiting new.tally new.starting new.active new.busy) (sym jobs) (record {
@@ -96,7 +96,7 @@ module _ (t : Inside) (h : IsTableInside t) where
         let start = h.room.to_start in
         record { to_stand = omega arith; few = omega arith; to_wait = omega arith; to_count = omega arith; to_start = omega arith }
 
-    pub pushed-inside : is_waiting j.phase ≡ true → is_some j.jobq ≡ true → (new : Inside) → new.jobs.items ≡ t.jobs.items ++ j ∷ [] → vec_capacity new.jobs ≡ vec_capacity t.jobs → new.waiting.items ≡ added waiting.serial_of nat_cmp w t.waiting.items → t.waiting.spare ≡ new.waiting.spare + 1 → new.tally ≡ t.tally → new.starting ≡ t.starting → new.active ≡ t.active → new.busy ≡ t.busy → new.next_serial ≡ t.next_serial + 1 → new.next_place ≡ t.next_place + 1 → new.room + 1 ≡ t.room → ((js : List Job) → IsNames js t.names → IsNames (js ++ j ∷ []) new.names) → t.names.spare ≤ new.names.spare + 1 → IsTableInside new
+    pub pushed-inside : is_waiting j.phase ≡ true → is_some j.jobq ≡ true → (new : Inside) → new.jobs.items ≡ t.jobs.items ++ j ∷ [] → vec_capacity new.jobs ≡ vec_capacity t.jobs → new.waiting.items ≡ added waiting.serial_of nat_cmp w t.waiting.items → t.waiting.spare ≡ new.waiting.spare + 1 → new.tally ≡ t.tally → new.starting ≡ t.starting → new.active ≡ t.active → new.busy ≡ t.busy → new.next_serial ≡ t.next_serial + 1 → new.next_place ≡ t.next_place + 1 → new.room + 1 ≡ t.room → ((js : List Job) → IsNames js t.names → IsNames (js ++ j ∷ []) new.names) → t.names.spare ≤ new.names.spare + 1 → IsKept new
     pushed-inside waits queue new jobs capacity we ws te se ae be ns np room add name =
         let come : new.waiting.items ≡ waiters (t.jobs.items ++ j ∷ []) = we ∙ (ap (λ us. added waiting.serial_of nat_cmp w us) h.indexed.waiters_are ∙ pushed-comes serial_of waiter_of waiting.serial_of waiter-keyed t.next_serial t.jobs.items lower j w picked serial_is) in
         record {

@@ -19,7 +19,7 @@ use Rattle.wm_pick.specs.Parts.{waiter_of}
 use Rattle.wm_pick.specs.Tallied.{hows}
 use Rattle.wm_jobs.specs.Indexed.{order_of, orders, Starts}
 use Rattle.wm_jobs.specs.Table.{Table, serial_of, is_busy}
-use Rattle.wm_jobs.specs.TableInside.{table_of, IsListed, AreListed, IsIndexed, HasRoom, HasNames, IsTableInside}
+use Rattle.wm_jobs.specs.TableInside.{table_of, IsListed, AreListed, IsIndexed, HasRoom, HasNames, IsKept}
 use Rattle.wm_jobs.specs.declared.table.JobTable.TheInside.{Inside}
 use Rattle.wm_jobs.proofs.NameParts.{names-pushed}
 use Rattle.wm_jobs.proofs.Sifted.{pushed-lacks, pushed-comes, pushed-same}
@@ -34,7 +34,7 @@ unlaunched j = record j { phase = Waiting }
 one-passes : (p : Job → Bool) (jobs : List Job) (j : Job) → p (unlaunched j) ≡ false → count_by p (jobs ++ j ∷ []) ≡ count_by p jobs + cond (p j) 1 0
 one-passes p jobs j none = count-more p jobs [] (unlaunched j) j none ∙ ap (λ (n : ℕ). n + cond (p j) 1 0) (count-pushed p jobs (unlaunched j) none)
 
-module _ (t : Inside) (h : IsTableInside t) (v : Table) (view : table_of t ≡ v) (j : Job) (serial : j.serial ≡ v.next_serial) (place : j.place ≡ 0) (goes : is_waiting j.phase ≡ false) where
+module _ (t : Inside) (h : IsKept t) (v : Table) (view : table_of t ≡ v) (j : Job) (serial : j.serial ≡ v.next_serial) (place : j.place ≡ 0) (goes : is_waiting j.phase ≡ false) where
   serial_is : j.serial ≡ t.next_serial
   serial_is = serial ∙ ap (λ (u : Table). u.next_serial) (sym view)
 
@@ -70,7 +70,7 @@ module _ (t : Inside) (h : IsTableInside t) (v : Table) (view : table_of t ≡ v
       let start = h.room.to_start in
       record { to_stand = omega arith; few = omega arith; to_wait = omega arith; to_count = omega arith; to_start = omega arith }
 
-  pub launched-pushed : (new : Inside) → new.jobs.items ≡ t.jobs.items ++ j ∷ [] → vec_capacity new.jobs ≡ vec_capacity t.jobs → new.waiting ≡ t.waiting → Starts (is_active j.phase) t.tally new.tally j.how → t.tally.spare ≤ new.tally.spare + 1 → new.starting.items ≡ cond (is_starting j.phase) (added key_of nat_cmp (j.serial, tt) t.starting.items) t.starting.items → t.starting.spare ≤ new.starting.spare + 1 → new.active ≡ t.active + cond (is_active j.phase) 1 0 → new.busy ≡ t.busy + cond (is_active j.phase && not (is_prestart j.kind)) 1 0 → new.next_serial ≡ t.next_serial + 1 → new.next_place ≡ t.next_place → new.room + 1 ≡ t.room → ((js : List Job) → IsNames js t.names → IsNames (js ++ j ∷ []) new.names) → t.names.spare ≤ new.names.spare + 1 → IsTableInside new
+  pub launched-pushed : (new : Inside) → new.jobs.items ≡ t.jobs.items ++ j ∷ [] → vec_capacity new.jobs ≡ vec_capacity t.jobs → new.waiting ≡ t.waiting → Starts (is_active j.phase) t.tally new.tally j.how → t.tally.spare ≤ new.tally.spare + 1 → new.starting.items ≡ cond (is_starting j.phase) (added key_of nat_cmp (j.serial, tt) t.starting.items) t.starting.items → t.starting.spare ≤ new.starting.spare + 1 → new.active ≡ t.active + cond (is_active j.phase) 1 0 → new.busy ≡ t.busy + cond (is_active j.phase && not (is_prestart j.kind)) 1 0 → new.next_serial ≡ t.next_serial + 1 → new.next_place ≡ t.next_place → new.room + 1 ≡ t.room → ((js : List Job) → IsNames js t.names → IsNames (js ++ j ∷ []) new.names) → t.names.spare ≤ new.names.spare + 1 → IsKept new
   launched-pushed new jobs capacity we te ts se ss ae be ns np room add name = record {
     named = subst (λ js. HasNames js new.room new.names) (sym jobs) (names-pushed t.jobs.items j t.names new.names t.room new.room h.named room add name);
     listed = subst (λ js. AreListed new.next_serial new.next_place js) (sym jobs) (record {

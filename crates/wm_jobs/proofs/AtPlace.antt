@@ -1,5 +1,5 @@
 -- What a call finds and leaves in a table where the job of a serial stands.
-use Rattle.std.proofs.Common.{◌≡◌, ℕ, suc, ◌+◌, ◌<◌, ◌≤◌, true, false, not, ◌&&◌, ◌==◌, cond, List, ◌∷◌, ◌++◌, length, get_or, take, drop, map, Option, Some, IfSome, is_some, vec_capacity, refl, ap, sym, ◌∙◌, subst, arith, nat_eq, eq-eqb, All, Contains}
+use Rattle.std.proofs.Common.{◌≡◌, ℕ, suc, ◌+◌, ◌<◌, ◌≤◌, true, false, not, ◌&&◌, ◌==◌, cond, List, [], ◌∷◌, ◌++◌, length, get_or, take, drop, map, Option, Some, IfSome, is_some, vec_capacity, refl, ap, sym, ◌∙◌, subst, arith, nat_eq, eq-eqb, All, Contains}
 use Rattle.std.specs.List.{find}
 use Rattle.std.specs.Ordering.{nat_cmp}
 use Rattle.std.proofs.lemmas.List.{get_or-map, get_or_default}
@@ -25,17 +25,20 @@ use Rattle.wm_waiting.specs.Waiting.{Waiting}
 use Rattle.wm_waiting.specs.Waiting as waiting
 use Rattle.wm_waiting.proofs.Members.{Contains-head}
 use Rattle.wm_pick.specs.Parts.{waiter_of, waiters}
+use Rattle.wm_jobs.specs.declared.touched.Touched.{Touched}
 use Rattle.wm_jobs.specs.Indexed.{Starts, Ends, NamesInPhase}
+use Rattle.wm_jobs.specs.Marked.{standing_of, touched_of, standing_as, marked_by}
 use Rattle.wm_jobs.specs.Renewed.{renewed, OwnsPlace}
 use Rattle.wm_jobs.specs.Table.{Table, serial_of}
-use Rattle.wm_jobs.specs.TableInside.{table_of, IsListed, AreListed, IsIndexed, HasRoom, HasNames, IsTableInside}
+use Rattle.wm_jobs.specs.TableInside.{table_of, IsListed, AreListed, IsIndexed, HasRoom, HasNames, IsKept}
 use Rattle.wm_jobs.specs.declared.table.JobTable.TheInside.{Inside}
 use Rattle.wm_jobs.proofs.Splits.{IsSplit, split-at, found-at, map-split}
 use Rattle.wm_jobs.proofs.JobParts.{has-started, waiter-keyed, waiter-placed, waiter-some}
 use Rattle.wm_jobs.proofs.NameParts.{names-alike}
 use Rattle.wm_jobs.proofs.Sifted.{picked-keys, picked-parts}
 use Rattle.wm_jobs.proofs.Waits.{if_waiting, one-waiting, map-waiting, Keeps, keeps-where, is-waiter, owns, renewed-listed, renewed-indexed, renewed-room}
-use Rattle.wm_jobs.proofs.Changes.{all-there, listed, launched-indexed, launched-room, launch-spare, launch-new, phased-indexed, phased-room, phased-active, phased-busy}
+use Rattle.wm_jobs.proofs.Changes.{all-there, listed, launched-indexed, launched-fewer, launched-room, launch-spare, launch-new, some-waits, phased-indexed, phased-room, phased-active, phased-busy}
+use Rattle.wm_jobs.proofs.Undone.{back-where, serial-where, marked-changed}
 
 length-same : {js ks : List Job} → js ≡ ks → length js ≡ length ks
 length-same e = ap length e
@@ -44,7 +47,7 @@ room-same : {n m cap cap' room room' : ℕ} {w : Waiting} {t : Counts} {o : Pair
 room-same e f g h = rw (e, f, g) h
 
 -- the places of those that wait were given
-places-below : (t : Inside) → IsTableInside t → All (λ (u : Waiter). u.place < t.next_place) t.waiting.items
+places-below : (t : Inside) → IsKept t → All (λ (u : Waiter). u.place < t.next_place) t.waiting.items
 places-below t h =
     subst (λ (ws : List Waiter). All (λ (u : Waiter). u.place < t.next_place) ws) (sym h.indexed.waiters_are)
     (picked-keys (λ k. k.place) waiter_of (λ u. u.place) waiter-placed (λ n. n < t.next_place) t.jobs.items (All-weaker (IsListed t.next_serial t.next_place) (λ (k : Job). k.place < t.next_place) (λ k l. l.place) t.jobs.items h.listed.each))
@@ -53,7 +56,7 @@ places-below t h =
 stands-itself : (s at : ℕ) (xs js : List Job) (d : Job) → js ≡ xs → IsAt serial_of nat_cmp s js at → get_or xs at d ≡ get_or xs at (get_or xs at d)
 stands-itself s at xs js d same there = get_or_default xs at d (get_or xs at d) (subst (λ (ks : List Job). at < length ks) same there.in_range)
 
-module _ (t : Inside) (h : IsTableInside t) (s at : ℕ) (x : Job) (js : List Job) (same : js ≡ t.jobs.items) (there : IsAt serial_of nat_cmp s js at) (is : x ≡ get_or t.jobs.items at x) where
+module _ (t : Inside) (h : IsKept t) (s at : ℕ) (x : Job) (js : List Job) (same : js ≡ t.jobs.items) (there : IsAt serial_of nat_cmp s js at) (is : x ≡ get_or t.jobs.items at x) where
   stands : IsAt serial_of nat_cmp s t.jobs.items at
   stands = subst (λ (ks : List Job). IsAt serial_of nat_cmp s ks at) same there
 
@@ -95,6 +98,32 @@ module _ (t : Inside) (h : IsTableInside t) (s at : ℕ) (x : Job) (js : List Jo
   pub finds-named : is_ended x.phase ≡ false → HasNamed t.names x
   finds-named lasts = record { before = before; behind = behind; are = around_named.are; lasts = lasts }
 
+  -- where it waits, there is room to note it
+  pub one-waits : is_waiting x.phase ≡ true → 1 ≤ length t.waiting.items
+  one-waits waits = some-waits s before behind x split.here split.lower split.higher t.next_serial t.next_place t.waiting t.tally t.starting t.active t.busy waits around_listed around_indexed
+
+  -- one less waits where it is launched
+  pub one-less : (a : Launched) → is_waiting x.phase ≡ true → is_waiting a.phase ≡ false → (ws : List Waiter) → ws ≡ removed waiting.serial_of nat_eq s t.waiting.items → length ws + 1 ≡ length t.waiting.items
+  one-less a waits goes ws we = launched-fewer s before behind x split.here split.lower split.higher a waits goes t.next_serial t.next_place t.waiting ws t.tally t.starting t.active t.busy around_listed around_indexed we
+
+  pub ended-less : (cause : EndCause) → is_waiting x.phase ≡ true → (ws : List Waiter) → ws ≡ removed waiting.serial_of nat_eq s t.waiting.items → length ws + 1 ≡ length t.waiting.items
+  ended-less cause waits ws we = one-less (record { phase = Ended cause; how = x.how }) waits refl ws we
+
+  -- a change that is noted leaves what was at the mark
+  module _ (us : List Touched) (ks : List Job) (noted : us ≡ t.touched.items ++ touched_of x ∷ []) where
+    newest : marked_by t.mark us ks ≡ marked_by t.mark (t.touched.items ++ touched_of x ∷ []) ks
+    newest = ap (λ vs. marked_by t.mark vs ks) noted
+
+    pub launched-back : (a : Launched) → ks ≡ map (launched_at s a) t.jobs.items → marked_by t.mark us ks ≡ marked_by t.mark t.touched.items t.jobs.items
+    launched-back a jobs = newest ∙ marked-changed t.mark t.touched.items s t.jobs.items ks before behind x (as_launched a) split refl refl jobs
+
+    pub phased-back : (phase : Phase) → ks ≡ map (phased_at s phase) t.jobs.items → marked_by t.mark us ks ≡ marked_by t.mark t.touched.items t.jobs.items
+    phased-back phase jobs = newest ∙ marked-changed t.mark t.touched.items s t.jobs.items ks before behind x (in_phase phase) split refl refl jobs
+
+    pub waiting-back : (change : Job → Job) → (change x).serial ≡ x.serial → standing_as (standing_of x) (change x) ≡ x → ks ≡ map (waiting_at s change) t.jobs.items → marked_by t.mark us ks ≡ marked_by t.mark t.touched.items t.jobs.items
+    waiting-back change serial back jobs =
+        newest ∙ marked-changed t.mark t.touched.items s t.jobs.items ks before behind x (if_waiting change) split (serial-where change x (is_waiting x.phase) serial) (back-where change x (is_waiting x.phase) back) (jobs ∙ map-waiting s change t.jobs.items)
+
   -- a launch finds room, and no order of the serial
   pub launch-finds : is_waiting x.phase ≡ true → (1 ≤ t.tally.spare) × (1 ≤ t.starting.spare) × (has_key key_of nat_eq s t.starting.items ≡ false)
   launch-finds waits =
@@ -105,7 +134,7 @@ module _ (t : Inside) (h : IsTableInside t) (s at : ℕ) (x : Job) (js : List Jo
     launched : new.jobs.items ≡ before ++ as_launched a x ∷ behind
     launched = jobs ∙ map-split serial_of s (as_launched a) t.jobs.items before behind x split
 
-    pub launched-inside : new.next_serial ≡ t.next_serial → new.next_place ≡ t.next_place → new.room ≡ t.room → vec_capacity new.jobs ≡ vec_capacity t.jobs → new.waiting.items ≡ removed waiting.serial_of nat_eq s t.waiting.items → t.waiting.spare ≤ new.waiting.spare → Starts (is_active a.phase) t.tally new.tally a.how → t.tally.spare ≤ new.tally.spare + 1 → new.starting.items ≡ cond (is_starting a.phase) (added key_of nat_cmp (s, tt) t.starting.items) t.starting.items → t.starting.spare ≤ new.starting.spare + 1 → new.active ≡ t.active + cond (is_active a.phase) 1 0 → new.busy ≡ t.busy + cond (is_active a.phase && not (is_prestart x.kind)) 1 0 → NamesInPhase a.phase t.names new.names x → t.names.spare ≤ new.names.spare → IsTableInside new
+    pub launched-inside : new.next_serial ≡ t.next_serial → new.next_place ≡ t.next_place → new.room ≡ t.room → vec_capacity new.jobs ≡ vec_capacity t.jobs → new.waiting.items ≡ removed waiting.serial_of nat_eq s t.waiting.items → t.waiting.spare ≤ new.waiting.spare → Starts (is_active a.phase) t.tally new.tally a.how → t.tally.spare ≤ new.tally.spare + 1 → new.starting.items ≡ cond (is_starting a.phase) (added key_of nat_cmp (s, tt) t.starting.items) t.starting.items → t.starting.spare ≤ new.starting.spare + 1 → new.active ≡ t.active + cond (is_active a.phase) 1 0 → new.busy ≡ t.busy + cond (is_active a.phase && not (is_prestart x.kind)) 1 0 → NamesInPhase a.phase t.names new.names x → t.names.spare ≤ new.names.spare → IsKept new
     launched-inside ns np room capacity we ws te ts se ss ae be ends name = record {
       named = names-phased (as_launched a x) new.jobs.items new.room new.names launched refl refl room ends name;
       listed = rw (launched, ns, np) (listed s before behind x split.here split.lower split.higher t.next_serial t.next_place (as_launched a x) refl refl goes around_listed);
@@ -126,7 +155,7 @@ module _ (t : Inside) (h : IsTableInside t) (s at : ℕ) (x : Job) (js : List Jo
       phased : new.jobs.items ≡ before ++ in_phase phase x ∷ behind
       phased = jobs ∙ map-split serial_of s (in_phase phase) t.jobs.items before behind x split
 
-      pub phased-inside : new.next_serial ≡ t.next_serial → new.next_place ≡ t.next_place → new.room ≡ t.room → vec_capacity new.jobs ≡ vec_capacity t.jobs → new.waiting ≡ t.waiting → Ends (is_active phase) t.tally new.tally x.how → t.tally.spare ≤ new.tally.spare → new.starting.items ≡ removed key_of nat_eq s t.starting.items → t.starting.spare ≤ new.starting.spare → new.active + cond (not (is_active phase)) 1 0 ≡ t.active → new.busy + cond (not (is_active phase) && not (is_prestart x.kind)) 1 0 ≡ t.busy → NamesInPhase phase t.names new.names x → t.names.spare ≤ new.names.spare → IsTableInside new
+      pub phased-inside : new.next_serial ≡ t.next_serial → new.next_place ≡ t.next_place → new.room ≡ t.room → vec_capacity new.jobs ≡ vec_capacity t.jobs → new.waiting ≡ t.waiting → Ends (is_active phase) t.tally new.tally x.how → t.tally.spare ≤ new.tally.spare → new.starting.items ≡ removed key_of nat_eq s t.starting.items → t.starting.spare ≤ new.starting.spare → new.active + cond (not (is_active phase)) 1 0 ≡ t.active → new.busy + cond (not (is_active phase) && not (is_prestart x.kind)) 1 0 ≡ t.busy → NamesInPhase phase t.names new.names x → t.names.spare ≤ new.names.spare → IsKept new
       phased-inside ns np room capacity we te ts se ss ae be ends name = record {
         named = names-phased (in_phase phase x) new.jobs.items new.room new.names phased refl refl room ends name;
         listed = rw (phased, ns, np) (listed s before behind x split.here split.lower split.higher t.next_serial t.next_place (in_phase phase x) refl refl goes around_listed);
@@ -170,7 +199,7 @@ module _ (t : Inside) (h : IsTableInside t) (s at : ℕ) (x : Job) (js : List Jo
       alike : is_some (waiter_of after) ≡ is_some (waiter_of x)
       alike = is-waiter after has-queue ∙ (ap is_waiting (kept.phase x) ∙ sym (is-waiter x had-queue))
 
-      renewed-inside : (new : Inside) → new.jobs.items ≡ map (waiting_at s change) t.jobs.items → new.next_serial ≡ t.next_serial → new.next_place ≡ np → new.room ≡ t.room → vec_capacity new.jobs ≡ vec_capacity t.jobs → new.waiting.items ≡ renewed (waiter_of after) t.waiting.items → new.waiting.spare ≡ t.waiting.spare → new.tally ≡ t.tally → new.starting ≡ t.starting → new.active ≡ t.active → new.busy ≡ t.busy → new.names ≡ t.names → IsTableInside new
+      renewed-inside : (new : Inside) → new.jobs.items ≡ map (waiting_at s change) t.jobs.items → new.next_serial ≡ t.next_serial → new.next_place ≡ np → new.room ≡ t.room → vec_capacity new.jobs ≡ vec_capacity t.jobs → new.waiting.items ≡ renewed (waiter_of after) t.waiting.items → new.waiting.spare ≡ t.waiting.spare → new.tally ≡ t.tally → new.starting ≡ t.starting → new.active ≡ t.active → new.busy ≡ t.busy → new.names ≡ t.names → IsKept new
       renewed-inside new jobs ns np_is room capacity we ws te se ae be ne =
           let changed : new.jobs.items ≡ before ++ after ∷ behind = waiting-changed new.jobs.items jobs in
           record {
@@ -221,14 +250,14 @@ module _ (t : Inside) (h : IsTableInside t) (s at : ℕ) (x : Job) (js : List Jo
         ∙ (map-split serial_of s (in_phase (Ended cause)) t.jobs.items before behind x split
         ∙ (ap (λ b. before ++ cond b (in_phase (Ended cause) x) x ∷ behind) (sym waits) ∙ sym (waiting-changed (in_phase (Ended cause)) (map (waiting_at s (in_phase (Ended cause))) t.jobs.items) refl)))
 
-    pub ended-inside : (new : Inside) → new.jobs.items ≡ map (phased_at s (Ended cause)) t.jobs.items → new.next_serial ≡ t.next_serial → new.next_place ≡ t.next_place → new.room ≡ t.room → vec_capacity new.jobs ≡ vec_capacity t.jobs → new.waiting.items ≡ removed waiting.serial_of nat_eq s t.waiting.items → t.waiting.spare ≤ new.waiting.spare → new.tally ≡ t.tally → new.starting ≡ t.starting → new.active ≡ t.active → new.busy ≡ t.busy → NamesInPhase (Ended cause) t.names new.names x → t.names.spare ≤ new.names.spare → IsTableInside new
+    pub ended-inside : (new : Inside) → new.jobs.items ≡ map (phased_at s (Ended cause)) t.jobs.items → new.next_serial ≡ t.next_serial → new.next_place ≡ t.next_place → new.room ≡ t.room → vec_capacity new.jobs ≡ vec_capacity t.jobs → new.waiting.items ≡ removed waiting.serial_of nat_eq s t.waiting.items → t.waiting.spare ≤ new.waiting.spare → new.tally ≡ t.tally → new.starting ≡ t.starting → new.active ≡ t.active → new.busy ≡ t.busy → NamesInPhase (Ended cause) t.names new.names x → t.names.spare ≤ new.names.spare → IsKept new
     ended-inside new jobs ns np room capacity we ws te se ae be names name =
         let tally : t.tally.spare ≤ new.tally.spare + 1 = (let same : new.tally.spare ≡ t.tally.spare = ap (λ (k : Counts). k.spare) te in omega arith) in
         let starting : t.starting.spare ≤ new.starting.spare + 1 = (let same : new.starting.spare ≡ t.starting.spare = ap (λ (o : Pairs ℕ (Unit {0})). o.spare) se in omega arith) in
         launched-inside ends waits refl new (phased-launched new.jobs.items jobs) ns np room capacity we ws te tally (ap (λ (o : Pairs ℕ (Unit {0})). o.items) se) starting (omega (arith, ae)) (omega (arith, be)) names name
 
 -- the job that stands at the place after the change is the one that stood there, changed where it waits
-module _ (t : Inside) (h : IsTableInside t) (s at : ℕ) (js : List Job) (same : js ≡ t.jobs.items) (there : IsAt serial_of nat_cmp s js at) (change : Job → Job) (np : ℕ) (le : t.next_place ≤ np) (keeps : Keeps np change) (ks : List Job) (jobs : ks ≡ map (waiting_at s change) t.jobs.items) (y : Job) (y_is : y ≡ get_or ks at y) where
+module _ (t : Inside) (h : IsKept t) (s at : ℕ) (js : List Job) (same : js ≡ t.jobs.items) (there : IsAt serial_of nat_cmp s js at) (change : Job → Job) (np : ℕ) (le : t.next_place ≤ np) (keeps : Keeps np change) (ks : List Job) (jobs : ks ≡ map (waiting_at s change) t.jobs.items) (y : Job) (y_is : y ≡ get_or ks at y) where
   abbrev had : Job
   had = get_or t.jobs.items at y
 
@@ -244,6 +273,6 @@ module _ (t : Inside) (h : IsTableInside t) (s at : ℕ) (js : List Job) (same :
   pub takes-next : ((j : Job) → (change j).place ≡ t.next_place) → OwnsPlace (waiter_of y) t.waiting.items
   takes-next takes = subst (λ (k : Job). OwnsPlace (waiter_of k) t.waiting.items) (sym changed_is) (owns-next t h s at had js same there had_is change np le keeps takes)
 
-  pub changed-inside : (new : Inside) → new.jobs.items ≡ map (waiting_at s change) t.jobs.items → new.next_serial ≡ t.next_serial → new.next_place ≡ np → new.room ≡ t.room → vec_capacity new.jobs ≡ vec_capacity t.jobs → new.waiting.items ≡ renewed (waiter_of y) t.waiting.items → new.waiting.spare ≡ t.waiting.spare → new.tally ≡ t.tally → new.starting ≡ t.starting → new.active ≡ t.active → new.busy ≡ t.busy → new.names ≡ t.names → IsTableInside new
+  pub changed-inside : (new : Inside) → new.jobs.items ≡ map (waiting_at s change) t.jobs.items → new.next_serial ≡ t.next_serial → new.next_place ≡ np → new.room ≡ t.room → vec_capacity new.jobs ≡ vec_capacity t.jobs → new.waiting.items ≡ renewed (waiter_of y) t.waiting.items → new.waiting.spare ≡ t.waiting.spare → new.tally ≡ t.tally → new.starting ≡ t.starting → new.active ≡ t.active → new.busy ≡ t.busy → new.names ≡ t.names → IsKept new
   changed-inside new jobs_are ns np_is room capacity we ws te se ae be ne =
       renewed-inside t h s at had js same there had_is change np le keeps new jobs_are ns np_is room capacity (we ∙ ap (λ (k : Job). renewed (waiter_of k) t.waiting.items) changed_is) ws te se ae be ne

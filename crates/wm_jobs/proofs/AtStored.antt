@@ -21,11 +21,12 @@ use Rattle.wm_tally.specs.Tally.{Counts}
 use Rattle.wm_waiting.specs.declared.waiter.Waiter.{Waiter}
 use Rattle.wm_waiting.specs.Waiting.{has_place}
 use Rattle.wm_waiting.specs.Waiting as waiting
+use Rattle.wm_waiting.proofs.Rows.{length-added}
 use Rattle.wm_pick.specs.Parts.{waiter_on, waiter_of, waiters}
 use Rattle.wm_jobs.specs.Indexed.{order_of}
 use Rattle.wm_jobs.specs.Stored.{AreStored, joined_by, IsOther}
 use Rattle.wm_jobs.specs.Table.{serial_of, is_busy}
-use Rattle.wm_jobs.specs.TableInside.{IsListed, AreListed, IsIndexed, HasRoom, HasNames, IsTableInside}
+use Rattle.wm_jobs.specs.TableInside.{IsListed, AreListed, IsIndexed, HasRoom, HasNames, IsKept}
 use Rattle.wm_jobs.specs.declared.table.JobTable.TheInside.{Inside}
 use Rattle.wm_jobs.proofs.Changes.{all-there}
 use Rattle.wm_jobs.proofs.JobParts.{waiter-keyed, waiter-placed, order-keyed, order-none, hows-pushed, count-pushed}
@@ -101,7 +102,12 @@ few-more : (o : Option Waiter) → length (cons_option o []) ≤ 1
 few-more None = omega arith
 few-more (Some w) = omega arith
 
-module _ (t : Inside) (h : IsTableInside t) (j : Job) (behind : All (λ (k : Job). k.serial < j.serial) t.jobs.items) where
+-- at the most one joins
+pub joined-most : (o : Option Waiter) (items : List Waiter) → length (joined_by o items) ≤ length items + 1
+joined-most None items = omega arith
+joined-most (Some w) items = let n = length-added waiting.serial_of nat_cmp w items in omega arith
+
+module _ (t : Inside) (h : IsKept t) (j : Job) (behind : All (λ (k : Job). k.serial < j.serial) t.jobs.items) where
   -- its serial and its place are new among the jobs that wait
   other-by : (o : Option Waiter) → waiter_of j ≡ o → (is_waiting j.phase ≡ true → IsIn j.place (waiting_places t.jobs.items) → ⊥) → IsOther o t.waiting.items
   other-by None is free = tt
@@ -144,7 +150,7 @@ module _ (t : Inside) (h : IsTableInside t) (j : Job) (behind : All (λ (k : Job
           (All-cons (IsListed t.next_serial t.next_place) j [] (record { serial = serial; place = place; queue = queue }) (All-nil (IsListed t.next_serial t.next_place)));
     }
 
-    pub stored-inside : (new : Inside) → new.jobs.items ≡ t.jobs.items ++ j ∷ [] → vec_capacity new.jobs ≡ vec_capacity t.jobs → new.waiting.items ≡ joined_by (waiter_of j) t.waiting.items → t.waiting.spare ≤ new.waiting.spare + 1 → new.tally ≡ t.tally → new.starting ≡ t.starting → new.active ≡ t.active → new.busy ≡ t.busy → new.next_serial ≡ t.next_serial → new.next_place ≡ t.next_place → new.room + 1 ≡ t.room → ((js : List Job) → IsNames js t.names → IsNames (js ++ j ∷ []) new.names) → t.names.spare ≤ new.names.spare + 1 → IsTableInside new
+    pub stored-inside : (new : Inside) → new.jobs.items ≡ t.jobs.items ++ j ∷ [] → vec_capacity new.jobs ≡ vec_capacity t.jobs → new.waiting.items ≡ joined_by (waiter_of j) t.waiting.items → t.waiting.spare ≤ new.waiting.spare + 1 → new.tally ≡ t.tally → new.starting ≡ t.starting → new.active ≡ t.active → new.busy ≡ t.busy → new.next_serial ≡ t.next_serial → new.next_place ≡ t.next_place → new.room + 1 ≡ t.room → ((js : List Job) → IsNames js t.names → IsNames (js ++ j ∷ []) new.names) → t.names.spare ≤ new.names.spare + 1 → IsKept new
     stored-inside new jobs capacity we ws te se ae be ns np room add name =
         let come : new.waiting.items ≡ waiters (t.jobs.items ++ j ∷ []) = we ∙ (ap (λ us. joined_by (waiter_of j) us) h.indexed.waiters_are ∙ waiters-joined (waiter_of j) refl) in
         record {

@@ -102,6 +102,14 @@ module _ (s : ℕ) (l r : List Job) (j : Job) (here : j.serial ≡ s) (lower : A
       busy_are = be ∙ (ap (λ n. n + cond (is_active a.phase && not (is_prestart j.kind)) 1 0) i.busy_are ∙ sym (count-more is_busy l r j (as_launched a j) (ap (λ b. b && not (is_prestart j.kind)) (waiting-inactive j.phase waits))));
     }
 
+    -- one less waits
+    pub launched-fewer : (ns np : ℕ) (w0 : Waiting) (ws : List Waiter) (t0 : Counts) (s0 : Pairs ℕ (Unit {0})) (a0 b0 : ℕ) → AreListed ns np (l ++ j ∷ r) → IsIndexed (l ++ j ∷ r) w0 t0 s0 a0 b0 → ws ≡ removed waiting.serial_of nat_eq s w0.items → length ws + 1 ≡ length w0.items
+    launched-fewer ns np w0 ws t0 s0 a0 b0 h i we =
+        let w = waits-on ns np waits h in
+        let before : length w0.items ≡ length (waiters l) + (length (waiters r) + 1) = ap length i.waiters_are ∙ one-waiter w.0 w.1 in
+        let after : length ws ≡ length (waiters l) + length (waiters r) = ap length (we ∙ (ap (λ us. removed waiting.serial_of nat_eq s us) i.waiters_are ∙ waiters-launched)) ∙ no-waiter (as_launched a j) (waiter-none (as_launched a j) goes) in
+        omega arith
+
     pub launched-room : (ns np cap room : ℕ) (w0 w1 : Waiting) (t0 t1 : Counts) (s0 s1 : Pairs ℕ (Unit {0})) (a0 b0 : ℕ) → AreListed ns np (l ++ j ∷ r) → IsIndexed (l ++ j ∷ r) w0 t0 s0 a0 b0 → HasRoom (length (l ++ j ∷ r)) cap room w0 t0 s0 → w1.items ≡ removed waiting.serial_of nat_eq s w0.items → w0.spare ≤ w1.spare → t0.spare ≤ t1.spare + 1 → s0.spare ≤ s1.spare + 1 → HasRoom (length (l ++ as_launched a j ∷ r)) cap room w1 t1 s1
     launched-room ns np cap room w0 w1 t0 t1 s0 s1 a0 b0 h i o we ws ts ss =
         let w = waits-on ns np waits h in
@@ -114,6 +122,12 @@ module _ (s : ℕ) (l r : List Job) (j : Job) (here : j.serial ≡ s) (lower : A
         let count = o.to_count in
         let start = o.to_start in
         record { to_stand = omega arith; few = omega arith; to_wait = omega arith; to_count = omega arith; to_start = omega arith }
+
+  pub some-waits : (ns np : ℕ) (w0 : Waiting) (t0 : Counts) (s0 : Pairs ℕ (Unit {0})) (a0 b0 : ℕ) → is_waiting j.phase ≡ true → AreListed ns np (l ++ j ∷ r) → IsIndexed (l ++ j ∷ r) w0 t0 s0 a0 b0 → 1 ≤ length w0.items
+  some-waits ns np w0 t0 s0 a0 b0 waits h i =
+      let w = waits-on ns np waits h in
+      let before : length w0.items ≡ length (waiters l) + (length (waiters r) + 1) = ap length i.waiters_are ∙ one-waiter w.0 w.1 in
+      omega arith
 
   -- what a launch asks for
   pub launch-spare : (ns np cap room : ℕ) (w0 : Waiting) (t0 : Counts) (s0 : Pairs ℕ (Unit {0})) (a0 b0 : ℕ) → is_waiting j.phase ≡ true → AreListed ns np (l ++ j ∷ r) → IsIndexed (l ++ j ∷ r) w0 t0 s0 a0 b0 → HasRoom (length (l ++ j ∷ r)) cap room w0 t0 s0 → (1 ≤ t0.spare) × (1 ≤ s0.spare)

@@ -10,4 +10,5 @@ pub mod NameParts
 pub mod One
 pub mod Sifted
 pub mod Splits
+pub mod Undone
 pub mod Waits

@@ -1,4 +1,5 @@
 pub mod Indexed
+pub mod Marked
 pub mod Renewed
 pub mod Stored
 pub mod Table

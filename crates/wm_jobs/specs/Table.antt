@@ -3,14 +3,21 @@ use Rattle.std.specs.Prelude.{ℕ, Bool, not, ◌&&◌, nat_lt, List, count_by, 
 use Rattle.wm_law.specs.declared.job.Job.{Job}
 use Rattle.wm_law.specs.Counts.{is_waiting, is_starting, is_active}
 use Rattle.wm_law.specs.Pending.{is_prestart, sooner}
+use Rattle.wm_jobs.specs.Marked.{Marked}
 
--- the jobs in the order of their serials, the moment up to which waiting jobs are due, the next serial and place, and for how many more jobs there is room
+-- the jobs in the order of their serials, the moment up to which waiting jobs are due, the next serial and place, for how many more jobs there is room, for how many changes of a job beside launches and ends of those that wait, and what it was at the mark
 pub record Table : Type 0 where
   pub jobs : List Job
   pub clock : ℕ
   pub next_serial : ℕ
   pub next_place : ℕ
   pub spare : ℕ
+  pub changes : ℕ
+  pub marked : Marked
+
+-- what the next mark keeps of it
+abbrev pub present : Table → Marked
+present t = record { jobs = t.jobs; clock = t.clock; next_serial = t.next_serial; next_place = t.next_place }
 
 -- what jobs are sorted by
 abbrev pub serial_of : Job → ℕ

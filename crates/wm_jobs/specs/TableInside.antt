@@ -11,6 +11,7 @@ use Rattle.wm_waiting.specs.Waiting.{Waiting}
 use Rattle.wm_pick.specs.Parts.{waiters}
 use Rattle.wm_pick.specs.Tallied.{hows}
 use Rattle.wm_jobs.specs.Indexed.{orders}
+use Rattle.wm_jobs.specs.Marked.{marked_by}
 use Rattle.wm_jobs.specs.Table.{Table, serial_of, active_in, busy_in}
 use Rattle.wm_jobs.specs.declared.table.JobTable.TheInside.{Inside}
 
@@ -47,13 +48,32 @@ pub record HasNames (jobs : List Job) (room : ℕ) (names : Names) : Type 0 wher
   pub are : IsNames jobs names
   pub to_name : room ≤ names.spare
 
+-- the jobs of the mark are there, and there is room for the change of each job that waits or for which there is room, and for more
+pub record IsMarked (marked jobs touched capacity waiting room changes : ℕ) : Type 0 where
+  pub there : marked ≤ jobs
+  pub to_touch : touched + waiting + room + changes ≤ capacity
+
 -- what a contract sees
 abbrev pub table_of : Inside → Table
-table_of t = record { jobs = t.jobs.items; clock = t.waiting.clock; next_serial = t.next_serial; next_place = t.next_place; spare = t.room }
+table_of t =
+    record {
+      jobs = t.jobs.items;
+      clock = t.waiting.clock;
+      next_serial = t.next_serial;
+      next_place = t.next_place;
+      spare = t.room;
+      changes = t.changes;
+      marked = marked_by t.mark t.touched.items t.jobs.items;
+    }
 
--- what lies in it agrees
-pub record IsTableInside (t : Inside) : Type 0 where
+-- what lies in it beside what was touched agrees
+pub record IsKept (t : Inside) : Type 0 where
   pub listed : AreListed t.next_serial t.next_place t.jobs.items
   pub indexed : IsIndexed t.jobs.items t.waiting t.tally t.starting t.active t.busy
   pub room : HasRoom (length t.jobs.items) (vec_capacity t.jobs) t.room t.waiting t.tally t.starting
   pub named : HasNames t.jobs.items t.room t.names
+
+-- what lies in it agrees
+pub record IsTableInside (t : Inside) : Type 0 where
+  pub kept : IsKept t
+  pub marked : IsMarked t.mark.jobs (length t.jobs.items) (length t.touched.items) (vec_capacity t.touched) (length t.waiting.items) t.room t.changes

@@ -22,6 +22,8 @@ impl JobTable {
         ensures next_serial { self.new.next_serial ≡ self.old.next_serial }
         ensures next_place { self.new.next_place ≡ self.old.next_place }
         ensures spare { self.old.spare ≤ self.new.spare }
+        ensures changes { self.new.changes ≡ self.old.changes }
+        ensures marked { self.new.marked ≡ self.old.marked }
     {
         let mut cleared = 0;
         while let Some(serial) = self.first_on(queue) {

@@ -5,19 +5,24 @@
 //! keeps the jobs that wait, the tally of the active ones, those that wait for a monitor, the counts of these, and which of
 //! them a command names, so that no call goes through the jobs; `clear` goes through those alone that it ends. Room is taken
 //! by `reserve` alone. `stored` makes the table of the jobs that a store has, one after the other.
-//! The definitions are in `specs/`: `Table` has what a contract sees, `Indexed` what jobs are found and counted by,
-//! `Renewed` what a change makes of those that wait, `Stored` what is asked of the jobs of a store, `TableInside` what lies in
-//! a table.
+//! A table also keeps what was done to its jobs since its mark: each call but `mark` leaves what it was then, and `touched`
+//! tells which jobs may have changed.
+//! The definitions are in `specs/`: `Table` has what a contract sees, `Marked` what a table was at its mark, `Indexed` what
+//! jobs are found and counted by, `Renewed` what a change makes of those that wait, `Stored` what is asked of the jobs of a
+//! store, `TableInside` what lies in a table.
 #![tactic(auto)]
 
 mod clearing;
 mod counts;
+mod marking;
 mod naming;
 mod phases;
 mod places;
 mod renewing;
 mod stored;
 mod table;
+mod touched;
 mod waiting;
 
 pub use table::JobTable;
+pub use touched::{Standing, Touched};

@@ -66,6 +66,8 @@ impl JobTable {
         ensures next_serial { self.new.next_serial ≡ self.old.next_serial }
         ensures next_place { self.new.next_place ≡ self.old.next_place }
         ensures spare { self.old.spare ≡ self.new.spare + 1 }
+        ensures changes { self.new.changes ≡ self.old.changes }
+        ensures marked { self.new.marked ≡ self.old.marked }
     {
         put_waiter(&mut self.waiting, &job);
         self.names.add(&job);

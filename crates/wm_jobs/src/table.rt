@@ -1,7 +1,9 @@
 // The job table.
 use crate::counts::{count_end, count_start, end_names, fewer, more, put_order};
+use crate::marking::note;
 use crate::phases::{counts_as_busy, is_active, waiter_of};
 use crate::places::{launch_at, phase_at, place};
+use crate::touched::{Mark, Touched};
 use std::alloc::{AllocError, Global};
 use std::marker::Model;
 use wm_base::{Moment, NoMemory, Serial};
@@ -15,8 +17,9 @@ use wm_waiting::WaitingJobs;
 const MOST: usize = 0xffff_fffd;
 
 /// The jobs of the machine, with what they are found and counted by. A contract sees the jobs in the order of their serials,
-/// `clock`, the moment up to which waiting jobs are due, the serial and the place that the next job has, and `spare`, for how
-/// many more jobs there is room.
+/// `clock`, the moment up to which waiting jobs are due, the serial and the place that the next job has, `spare`, for how many
+/// more jobs there is room, `changes`, for how many changes of a job beside launches and ends of those that wait, and `marked`,
+/// what it was at the mark.
 #[derive(Drop)]
 pub struct JobTable {
     pub(crate) jobs: Vec<Job>,
@@ -29,10 +32,15 @@ pub struct JobTable {
     active: usize,
     // The active jobs that aren't prestart jobs.
     busy: usize,
-    next_serial: u64,
+    pub(crate) next_serial: u64,
     pub(crate) next_place: u64,
     // For how many more jobs each of these has room.
     pub(crate) room: u32,
+    // What was touched since the mark, the newest last, and what the table was there.
+    pub(crate) touched: Vec<Touched>,
+    pub(crate) mark: Mark,
+    // For how many changes of a job there is room in what was touched, beside launches and ends of those that wait.
+    pub(crate) changes: u32,
 }
 
 impl Model for JobTable {
@@ -57,7 +65,7 @@ impl JobTable {
     ghost use Rattle.wm_tally.specs.Tally.{IsTally};
     ghost use Rattle.wm_pick.specs.Parts.{waiters};
     ghost use Rattle.wm_pick.specs.Tallied.{hows};
-    ghost use Rattle.wm_jobs.specs.Table.{active_in, busy_in, starting_in, next_due_in};
+    ghost use Rattle.wm_jobs.specs.Table.{active_in, busy_in, starting_in, next_due_in, present};
 
     /// No jobs; the clock is 0, and serials and places begin at 1.
     pub fn new(alloc: Global) -> JobTable
@@ -66,6 +74,7 @@ impl JobTable {
         ensures next_serial { result.next_serial ≡ 1 }
         ensures next_place { result.next_place ≡ 1 }
         ensures spare { result.spare ≡ 0 }
+        ensures marked { result.marked ≡ present result }
     {
         JobTable::empty(alloc, 1, 1)
     }
@@ -78,6 +87,7 @@ impl JobTable {
         ensures next_serial { result.next_serial ≡ next_serial }
         ensures next_place { result.next_place ≡ next_place }
         ensures spare { result.spare ≡ 0 }
+        ensures marked { result.marked ≡ present result }
     {
         JobTable {
             jobs: Vec::new(alloc),
@@ -90,13 +100,23 @@ impl JobTable {
             next_serial,
             next_place,
             room: 0,
+            touched: Vec::new(alloc),
+            mark: Mark {
+                jobs: 0,
+                clock: Moment::new(0),
+                next_serial,
+                next_place,
+            },
+            changes: 0,
         }
     }
 
-    /// Makes room for a number of jobs. An `Err` is want of memory, or comes where there would be more than 4,294,967,293
-    /// jobs; it leaves all as it was.
+    /// Makes room for a number of jobs, and for two changes. An `Err` is want of memory, or comes where there would be more
+    /// than 4,294,967,293 jobs; it leaves all as it was.
     pub fn reserve(&mut self, more: u32) -> Result<(), NoMemory>
         ensures ok { OnOk result (more ≤ self.new.spare) }
+        ensures changes { OnOk result (2 ≤ self.new.changes) }
+        ensures marked { self.new.marked ≡ self.old.marked }
         ensures jobs { self.new.jobs ≡ self.old.jobs }
         ensures clock { self.new.clock ≡ self.old.clock }
         ensures next_serial { self.new.next_serial ≡ self.old.next_serial }
@@ -104,9 +124,10 @@ impl JobTable {
         ensures spare { self.old.spare ≤ self.new.spare }
         ensures err { OnErr result (self.new ≡ self.old) }
     {
-        if more <= self.room {
+        if more <= self.room && 2 <= self.changes {
             return Ok(());
         }
+        let more = more.max(self.room);
         if more as usize + self.jobs.len() > MOST {
             return Err(AllocError);
         }
@@ -116,7 +137,9 @@ impl JobTable {
         self.tally.reserve(launches)?;
         self.starting.reserve(launches)?;
         self.names.reserve(more)?;
+        self.touched.reserve(launches as usize + 2)?;
         self.room = more;
+        self.changes = 2;
         Ok(())
     }
 
@@ -134,6 +157,8 @@ impl JobTable {
         ensures next_serial { self.new.next_serial ≡ self.old.next_serial + 1 }
         ensures next_place { self.new.next_place ≡ self.old.next_place + 1 }
         ensures spare { self.old.spare ≡ self.new.spare + 1 }
+        ensures changes { self.new.changes ≡ self.old.changes }
+        ensures marked { self.new.marked ≡ self.old.marked }
     {
         let Some(waiter) = waiter_of(&job) else {
             unreachable!()
@@ -159,6 +184,8 @@ impl JobTable {
         ensures next_serial { self.new.next_serial ≡ self.old.next_serial + 1 }
         ensures next_place { self.new.next_place ≡ self.old.next_place }
         ensures spare { self.old.spare ≡ self.new.spare + 1 }
+        ensures changes { self.new.changes ≡ self.old.changes }
+        ensures marked { self.new.marked ≡ self.old.marked }
     {
         let starts = is_active(&job.phase);
         let busy = counts_as_busy(starts, &job.kind);
@@ -181,6 +208,8 @@ impl JobTable {
         ensures next_serial { self.new.next_serial ≡ self.old.next_serial }
         ensures next_place { self.new.next_place ≡ self.old.next_place }
         ensures spare { self.old.spare ≤ self.new.spare }
+        ensures changes { self.new.changes ≡ self.old.changes }
+        ensures marked { self.new.marked ≡ self.old.marked }
     {
         let Ok(at) = place(&self.jobs, serial) else {
             return;
@@ -194,6 +223,7 @@ impl JobTable {
         end_names(&mut self.names, job, &launched.phase);
         self.active = more(self.active, starts);
         self.busy = more(self.busy, busy);
+        note(&mut self.touched, job);
         launch_at(&mut self.jobs, at, serial, launched);
     }
 
@@ -202,11 +232,14 @@ impl JobTable {
         requires not_waiting { is_waiting phase ≡ false }
         requires not_starting { is_starting phase ≡ false }
         requires active { IfSome (find (λ j. j.serial == serial) self.old.jobs) (λ j. is_active j.phase ≡ true) }
+        requires changes { 1 ≤ self.old.changes }
         ensures jobs { self.new.jobs ≡ map (phased_at serial phase) self.old.jobs }
         ensures clock { self.new.clock ≡ self.old.clock }
         ensures next_serial { self.new.next_serial ≡ self.old.next_serial }
         ensures next_place { self.new.next_place ≡ self.old.next_place }
         ensures spare { self.old.spare ≤ self.new.spare }
+        ensures changes { self.old.changes ≤ self.new.changes + 1 }
+        ensures marked { self.new.marked ≡ self.old.marked }
     {
         let Ok(at) = place(&self.jobs, serial) else {
             return;
@@ -219,6 +252,8 @@ impl JobTable {
         end_names(&mut self.names, job, &phase);
         self.active = fewer(self.active, ends);
         self.busy = fewer(self.busy, busy);
+        note(&mut self.touched, job);
+        self.changes -= 1;
         phase_at(&mut self.jobs, at, serial, phase);
     }
 
@@ -229,6 +264,8 @@ impl JobTable {
         ensures next_serial { self.new.next_serial ≡ self.old.next_serial }
         ensures next_place { self.new.next_place ≡ self.old.next_place }
         ensures spare { self.new.spare ≡ self.old.spare }
+        ensures changes { self.new.changes ≡ self.old.changes }
+        ensures marked { self.new.marked ≡ self.old.marked }
     {
         self.waiting.make_due(now);
     }

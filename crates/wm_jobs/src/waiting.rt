@@ -1,5 +1,6 @@
 // What is done to a job that waits.
 use crate::JobTable;
+use crate::marking::note;
 use crate::phases::is_waiting;
 use crate::places::{due_at, hold_at, move_at, phase_at, place};
 use crate::renewing::renew;
@@ -16,34 +17,44 @@ impl JobTable {
 
     /// Holds the job of a serial, where it waits, or releases it. It takes no memory.
     pub fn set_held(&mut self, serial: Serial, held: bool)
+        requires changes { 1 ≤ self.old.changes }
         ensures jobs { self.new.jobs ≡ map (waiting_at serial (with_held held)) self.old.jobs }
         ensures clock { self.new.clock ≡ self.old.clock }
         ensures next_serial { self.new.next_serial ≡ self.old.next_serial }
         ensures next_place { self.new.next_place ≡ self.old.next_place }
         ensures spare { self.old.spare ≤ self.new.spare }
+        ensures changes { self.old.changes ≤ self.new.changes + 1 }
+        ensures marked { self.new.marked ≡ self.old.marked }
     {
         // `len` tells that places differ.
         self.waiting.len();
         let Ok(at) = place(&self.jobs, serial) else {
             return;
         };
+        note(&mut self.touched, &self.jobs[at]);
+        self.changes -= 1;
         hold_at(&mut self.jobs, at, serial, held);
         renew(&mut self.waiting, &self.jobs[at]);
     }
 
     /// Gives the job of a serial, where it waits, another due moment. It takes no memory.
     pub fn set_due(&mut self, serial: Serial, due: Moment)
+        requires changes { 1 ≤ self.old.changes }
         ensures jobs { self.new.jobs ≡ map (waiting_at serial (with_due due)) self.old.jobs }
         ensures clock { self.new.clock ≡ self.old.clock }
         ensures next_serial { self.new.next_serial ≡ self.old.next_serial }
         ensures next_place { self.new.next_place ≡ self.old.next_place }
         ensures spare { self.old.spare ≤ self.new.spare }
+        ensures changes { self.old.changes ≤ self.new.changes + 1 }
+        ensures marked { self.new.marked ≡ self.old.marked }
     {
         // `len` tells that places differ.
         self.waiting.len();
         let Ok(at) = place(&self.jobs, serial) else {
             return;
         };
+        note(&mut self.touched, &self.jobs[at]);
+        self.changes -= 1;
         due_at(&mut self.jobs, at, serial, due);
         renew(&mut self.waiting, &self.jobs[at]);
     }
@@ -52,17 +63,22 @@ impl JobTable {
     /// It takes no memory.
     pub fn move_to(&mut self, serial: Serial, command: &Chgjob, due: Moment)
         requires place_fits { self.old.next_place + 1 < 2 ^ 64 }
+        requires changes { 1 ≤ self.old.changes }
         ensures jobs { self.new.jobs ≡ map (waiting_at serial (moved_to command.now self.old.next_place due)) self.old.jobs }
         ensures clock { self.new.clock ≡ self.old.clock }
         ensures next_serial { self.new.next_serial ≡ self.old.next_serial }
         ensures next_place { self.new.next_place ≡ self.old.next_place + 1 }
         ensures spare { self.old.spare ≤ self.new.spare }
+        ensures changes { self.old.changes ≤ self.new.changes + 1 }
+        ensures marked { self.new.marked ≡ self.old.marked }
     {
         let next = self.next_place;
         self.next_place += 1;
         let Ok(at) = place(&self.jobs, serial) else {
             return;
         };
+        note(&mut self.touched, &self.jobs[at]);
+        self.changes -= 1;
         move_at(&mut self.jobs, at, serial, command, next, due);
         renew(&mut self.waiting, &self.jobs[at]);
     }
@@ -74,6 +90,8 @@ impl JobTable {
         ensures next_serial { self.new.next_serial ≡ self.old.next_serial }
         ensures next_place { self.new.next_place ≡ self.old.next_place }
         ensures spare { self.old.spare ≤ self.new.spare }
+        ensures changes { self.new.changes ≡ self.old.changes }
+        ensures marked { self.new.marked ≡ self.old.marked }
     {
         let Ok(at) = place(&self.jobs, serial) else {
             return;
@@ -84,6 +102,7 @@ impl JobTable {
         }
         self.waiting.remove(serial);
         self.names.end(job);
+        note(&mut self.touched, job);
         phase_at(&mut self.jobs, at, serial, Phase::Ended(cause));
     }
 }

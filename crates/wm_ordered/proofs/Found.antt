@@ -4,11 +4,11 @@ use Rattle.std.specs.declared.cmp.Ordering.{Ordering}
 use Rattle.std.specs.declared.cmp.Ordering.TheVariants.{Less, Equal, Greater}
 use Rattle.std.specs.Cmp.{IsTotalOrder}
 use Rattle.std.specs.Option.{option_or}
-use Rattle.std.specs.Ordering.{is_lt, is_eq, ordering_reverse}
+use Rattle.std.specs.Ordering.{is_lt, is_eq, is_gt, ordering_reverse}
 use Rattle.std.proofs.lemmas.Bool.{false≢true}
 use Rattle.std.proofs.lemmas.Cmp.{alike_right}
 use Rattle.wm_desc.specs.Sorted.{IsSortedOnce, has_key, removed}
-use Rattle.wm_ordered.specs.Ordered.{key_of, value_at, with_value, first_from}
+use Rattle.wm_ordered.specs.Ordered.{key_of, value_at, with_value, first_from, first_above}
 use Rattle.wm_ordered.proofs.Sides.{Sides, sides}
 use Rattle.wm_ordered.proofs.Tested.{find-right, find-left, find-here, find-left_or, filter-right, filter-left, filter-here, map-right, map-left, map-here, list_any-part}
 
@@ -16,6 +16,9 @@ pub is_lt-Less : (c : Ordering) → is_lt c ≡ true → c ≡ Less
 is_lt-Less Less h = refl
 is_lt-Less Equal h = absurd (false≢true h)
 is_lt-Less Greater h = absurd (false≢true h)
+
+Less-not_gt : (c : Ordering) → c ≡ Less → is_gt c ≡ false
+Less-not_gt c h = ap is_gt h
 
 module _ {K : Type 0} (cmp : K → K → Ordering) (o : IsTotalOrder cmp) where
   greater : (a b : K) → cmp a b ≡ Less → cmp b a ≡ Greater
@@ -88,3 +91,17 @@ module _ {K V : Type 0} (cmp : K → K → Ordering) (o : IsTotalOrder cmp) (k :
 
   pub from-left : is_lt (cmp e.0 k) ≡ false → first_from cmp k d ≡ option_or (first_from cmp k l) (Some e)
   from-left h = ap (λ xs. first_from cmp k xs) is ∙ find-left_or (λ x. not (is_lt (cmp x.0 k))) l e r (ap not h)
+
+  -- what lies left of a key that isn't above the one that is sought isn't above it either
+  left_not_above : (c : Ordering) → cmp e.0 k ≡ c → is_gt c ≡ false → All (λ x. cmp x.0 k ≡ Less) l
+  left_not_above Less h not_above = left_of_less h
+  left_not_above Equal h not_above = left_of_equal h
+  left_not_above Greater h not_above = absurd (false≢true (sym not_above))
+
+  pub above-right : is_gt (cmp e.0 k) ≡ false → first_above cmp k d ≡ first_above cmp k r
+  above-right h =
+      ap (λ xs. first_above cmp k xs) is
+      ∙ find-right (λ x. is_gt (cmp x.0 k)) l e r (λ j d lt. Less-not_gt _ (left_not_above (cmp e.0 k) refl h j d lt)) h
+
+  pub above-left : is_gt (cmp e.0 k) ≡ true → first_above cmp k d ≡ option_or (first_above cmp k l) (Some e)
+  above-left h = ap (λ xs. first_above cmp k xs) is ∙ find-left_or (λ x. is_gt (cmp x.0 k)) l e r h

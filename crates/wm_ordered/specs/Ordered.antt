@@ -1,6 +1,6 @@
 -- What a contract sees of an ordered map.
 use Rattle.std.specs.Prelude.{ℕ, Bool, not, List, map, find, Option, option_map, if◌then◌else◌}
-use Rattle.std.specs.Ordering.{is_lt}
+use Rattle.std.specs.Ordering.{is_lt, is_gt}
 use Rattle.std.specs.declared.cmp.Ordering.{Ordering}
 use Rattle.wm_desc.specs.Sorted.{with_key}
 
@@ -24,3 +24,7 @@ with_value eq key value items = map (λ pair. if eq pair.0 key then (pair.0, val
 -- the first pair whose key isn't below a key
 abbrev pub first_from : {K V : Type 0} → (K → K → Ordering) → K → List (K × V) → Option (K × V)
 first_from cmp key items = find (λ pair. not (is_lt (cmp pair.0 key))) items
+
+-- the first pair whose key is above a key
+abbrev pub first_above : {K V : Type 0} → (K → K → Ordering) → K → List (K × V) → Option (K × V)
+first_above cmp key items = find (λ pair. is_gt (cmp pair.0 key)) items

@@ -1,7 +1,7 @@
 // What is found in a tree, where it is sorted.
 ghost use Rattle.std.specs.Prelude.{◌≡◌, slice_get};
 ghost use Rattle.wm_desc.specs.Sorted.{IsSortedOnce};
-ghost use Rattle.wm_ordered.specs.Ordered.{key_of, value_at, first_from};
+ghost use Rattle.wm_ordered.specs.Ordered.{key_of, value_at, first_from, first_above};
 ghost use Rattle.wm_ordered.specs.Tree.{pairs_in};
 
 use crate::tree::{Node, Tree};
@@ -54,5 +54,23 @@ pub(crate) fn least_from<K: Ord + Copy, V: Copy>(tree: &Tree<K, V>, key: &K) -> 
         least_from(&node.right, key)
     } else {
         least_from(&node.left, key).or(Some(*pair))
+    }
+}
+
+/// The pair of the least key above a key.
+pub(crate) fn least_above<K: Ord + Copy, V: Copy>(tree: &Tree<K, V>, key: &K) -> Option<(K, V)>
+    ensures { IsSortedOnce key_of K.cmp (pairs_in tree.now) → result ≡ first_above K.cmp key.now (pairs_in tree.now) }
+{
+    let Tree::Fork(place) = tree else {
+        return None;
+    };
+    let node: &Node<K, V> = place;
+    let Some(pair) = &node.pair else {
+        return None;
+    };
+    if pair.0.cmp(key).is_gt() {
+        least_above(&node.left, key).or(Some(*pair))
+    } else {
+        least_above(&node.right, key)
     }
 }

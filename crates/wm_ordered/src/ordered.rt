@@ -1,6 +1,6 @@
 // The map.
 use crate::edit::{put_in, set_value, take_out};
-use crate::find::{least, least_from, value_of};
+use crate::find::{least, least_above, least_from, value_of};
 use crate::spare::empty_nodes;
 use crate::tree::{Node, Tree};
 use crate::weight::mixed;
@@ -35,7 +35,7 @@ impl<K: Ord + Copy, V: Copy> Model for Ordered<K, V> {
 impl<K: Ord + Copy, V: Copy> Ordered<K, V> {
     ghost use Rattle.std.specs.Prelude.{◌≡◌, ◌+◌, ◌≤◌, [], length, false, is_some, slice_get, OnOk, OnErr, if◌then◌else◌};
     ghost use Rattle.wm_desc.specs.Sorted.{IsSortedOnce, has_key, added, removed};
-    ghost use Rattle.wm_ordered.specs.Ordered.{key_of, value_at, with_value, first_from};
+    ghost use Rattle.wm_ordered.specs.Ordered.{key_of, value_at, with_value, first_from, first_above};
 
     /// The map without a pair.
     pub fn new(alloc: Global) -> Ordered<K, V>
@@ -142,5 +142,12 @@ impl<K: Ord + Copy, V: Copy> Ordered<K, V> {
         ensures { result ≡ first_from K.cmp key.now self.now.items }
     {
         least_from(&self.tree, key)
+    }
+
+    /// The pair of the least key above a key.
+    pub fn first_above(&self, key: &K) -> Option<(K, V)>
+        ensures { result ≡ first_above K.cmp key.now self.now.items }
+    {
+        least_above(&self.tree, key)
     }
 }

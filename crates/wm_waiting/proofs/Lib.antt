@@ -8,3 +8,4 @@ pub mod Members
 pub mod Moves
 pub mod Orders
 pub mod Rows
+pub mod Turned

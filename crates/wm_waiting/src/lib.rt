@@ -4,7 +4,7 @@
 //! greatest moment that was made due, and for how many more jobs there is room. `head` answers the job of a queue and a
 //! priority that may have its turn and has the least place, and is one look; `first_on` the first of all on a queue, held and
 //! early ones too; `next_due` the least moment that is to come. `replace` changes a job in its place.
-//! Room is taken by `reserve` alone. No call goes through the jobs.
+//! Room is taken by `reserve` alone. No call goes through the jobs but `turn_back`, which turns the clock back.
 //! The definitions are in `specs/`: `Waiting` has what a contract sees, `WaitingInside` what lies in it.
 #![tactic(auto)]
 
@@ -12,6 +12,7 @@ mod bringing;
 mod indexes;
 mod keys;
 mod moving;
+mod turning;
 mod waiter;
 mod waiting;
 

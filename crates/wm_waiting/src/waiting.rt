@@ -4,6 +4,7 @@ use crate::bringing::bring_due;
 use crate::indexes::{enlist, lacking, put_line, take_out};
 use crate::keys::{Rise, Spot};
 use crate::moving::{move_line, relist};
+use crate::turning::{list_all, take_all};
 use std::alloc::{AllocError, Global};
 use std::marker::Model;
 use std::sync::ledger::Ledger;
@@ -39,7 +40,7 @@ impl Model for WaitingJobs {
 }
 
 impl WaitingJobs {
-    ghost use Rattle.std.specs.Prelude.{◌≡◌, ◌+◌, ◌≤◌, [], false, true, nat_eq, max, length, is_some, if◌then◌else◌, OnOk, OnErr};
+    ghost use Rattle.std.specs.Prelude.{◌≡◌, ◌+◌, ◌≤◌, [], false, true, nat_eq, max, min, length, is_some, if◌then◌else◌, OnOk, OnErr};
     ghost use Rattle.std.specs.Ordering.{nat_cmp};
     ghost use Rattle.wm_desc.specs.Sorted.{IsSortedOnce, with_key, has_key, added, removed};
     ghost use Rattle.wm_waiting.specs.Waiting.{serial_of, has_place, HavePlaces, HavePriorities, HasOwnPlace, head_of, first_on, next_due, marked, replaced};
@@ -272,5 +273,20 @@ impl WaitingJobs {
             return None;
         };
         Some(row.0.due)
+    }
+
+    /// Turns the clock back to a moment, where it is past it. It takes no memory, and goes through all jobs.
+    pub fn turn_back(&mut self, moment: Moment)
+        ensures items { self.new.items ≡ self.old.items }
+        ensures clock { self.new.clock ≡ min self.old.clock moment }
+        ensures spare { self.new.spare ≡ self.old.spare }
+    {
+        if self.clock <= moment {
+            return;
+        }
+        take_all(&mut self.turns);
+        take_all(&mut self.early);
+        list_all(&self.all, &mut self.turns, &mut self.early, moment);
+        self.clock = moment;
     }
 }

@@ -25,6 +25,8 @@ loop-serial-preserved c =
       next_serial = c.end_waiting.ensures.next_serial ∙ before.next_serial;
       next_place = c.end_waiting.ensures.next_place ∙ before.next_place;
       spare = omega (arith, c.end_waiting.ensures.spare, before.spare);
+      changes = c.end_waiting.ensures.changes ∙ before.changes;
+      marked = c.end_waiting.ensures.marked ∙ before.marked;
     }
 
 pub returns-clause-count : goal.returns-clause-count

@@ -12,6 +12,8 @@ invariant-loop-serial l = record {
   next_serial : l.self.next_serial ≡ l.fn.self.next_serial;
   next_place : l.self.next_place ≡ l.fn.self.next_place;
   spare : l.fn.self.spare ≤ l.self.spare;
+  changes : l.self.changes ≡ l.fn.self.changes;
+  marked : l.self.marked ≡ l.fn.self.marked;
 }
 
 abbrev pub decreases-loop-serial : goal.decreases-loop-serial

@@ -1,6 +1,10 @@
-use Rattle.std.proofs.Common.{refl}
+use Rattle.std.proofs.Common.{◌≡◌, length, refl, ap, arith}
 use Rattle.wm_jobs.proofs.AtEnd.{new-inside}
 use Rattle.wm_jobs.proofs.table.JobTable.empty.Goals as goal
 
 pub invariant_of-result : goal.invariant_of-result
-invariant_of-result c = new-inside _ c.new.ensures.items c.new-2.ensures.items c.new-3.ensures.hows c.new-4.ensures.items refl refl refl c.requires c.new-5.ensures.names
+invariant_of-result c =
+    record {
+      kept = new-inside _ c.new.ensures.items c.new-2.ensures.items c.new-3.ensures.hows c.new-4.ensures.items refl refl refl c.requires c.new-5.ensures.names;
+      marked = record { there = omega arith; to_touch = (let none : length c.new-2.result.items ≡ 0 = ap length c.new-2.ensures.items in let untouched : length c.new-6.result.items ≡ 0 = ap length c.new-6.ensures.items in omega arith) };
+    }

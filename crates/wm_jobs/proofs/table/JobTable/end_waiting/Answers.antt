@@ -1,10 +1,13 @@
-use Rattle.std.proofs.Common.{is_some, refl, ap, sym, ◌∙◌}
+use Rattle.std.proofs.Common.{length, vec_capacity, is_some, refl, ap, sym, ◌∙◌, arith}
 use Rattle.wm_law.specs.declared.job.Phase.TheVariants.{Ended}
 use Rattle.wm_law.specs.Named.{is_ended}
-use Rattle.wm_law.specs.Reports.{in_phase}
+use Rattle.wm_law.specs.Reports.{in_phase, phased_at}
+use Rattle.wm_jobs.specs.Marked.{touched_of}
+use Rattle.wm_jobs.specs.Table.{Table}
 use Rattle.wm_jobs.proofs.Changes.{grows}
-use Rattle.wm_jobs.proofs.AtPlace.{finds-named, not-changed, ended-jobs, ended-inside}
+use Rattle.wm_jobs.proofs.AtPlace.{finds-named, not-changed, ended-jobs, ended-inside, ended-less, one-waits, phased-back}
 use Rattle.wm_jobs.proofs.NameParts.{waiting-lasts}
+use Rattle.wm_jobs.proofs.Undone.{noted}
 use Rattle.wm_jobs.proofs.Waits.{waiting-gap}
 use Rattle.wm_jobs.proofs.table.JobTable.end_waiting.Goals as goal
 
@@ -15,19 +18,33 @@ returns-in_default-clause-jobs c =
 
 pub returns-then-not-is_waiting-clause-jobs : goal.returns-then-not-is_waiting-clause-jobs
 returns-then-not-is_waiting-clause-jobs c =
-    rw (← c.self.view_is) (not-changed c.self.inside c.self.invariant c.args.serial c.in-Ok.at c.index-job.result.now c.deref.result.now c.deref.ensures.value c.in-Ok.ensures c.index-job.ensures (in_phase (Ended c.args.cause)) (sym c.is_waiting.ensures ∙ c.if-not-is_waiting.true))
+    rw (← c.self.view_is) (not-changed c.self.inside c.self.invariant.kept c.args.serial c.in-Ok.at c.index-job.result.now c.deref.result.now c.deref.ensures.value c.in-Ok.ensures c.index-job.ensures (in_phase (Ended c.args.cause)) (sym c.is_waiting.ensures ∙ c.if-not-is_waiting.true))
 
 pub end-requires : goal.end-requires
 end-requires c =
-    finds-named c.self.inside c.self.invariant c.args.serial c.in-Ok.at c.index-job.result.now c.deref.result.now c.deref.ensures.value c.in-Ok.ensures c.index-job.ensures (waiting-lasts c.index-job.result.now.phase (sym c.is_waiting.ensures ∙ c.if-not-is_waiting.false))
+    finds-named c.self.inside c.self.invariant.kept c.args.serial c.in-Ok.at c.index-job.result.now c.deref.result.now c.deref.ensures.value c.in-Ok.ensures c.index-job.ensures (waiting-lasts c.index-job.result.now.phase (sym c.is_waiting.ensures ∙ c.if-not-is_waiting.false))
 
 pub invariant_of-self : goal.invariant_of-self
 invariant_of-self c =
     let t = c.self.inside in
     let more = grows (is_some c.remove.result) t.waiting.spare c.remove.new.self.spare c.remove.ensures.spare in
-    ended-inside t c.self.invariant c.args.serial c.in-Ok.at c.index-job.result.now c.deref.result.now c.deref.ensures.value c.in-Ok.ensures c.index-job.ensures c.args.cause (sym c.is_waiting.ensures ∙ c.if-not-is_waiting.false) _ c.phase_at.ensures.jobs refl refl refl c.phase_at.ensures.capacity
-    c.remove.ensures.items more refl refl refl refl (λ before behind after serial job phase. c.end.ensures.names before behind after serial job (ap is_ended phase)) c.end.ensures.spare
+    let x = c.index-job.result.now in
+    let less = ended-less t c.self.invariant.kept c.args.serial c.in-Ok.at x c.deref.result.now c.deref.ensures.value c.in-Ok.ensures c.index-job.ensures c.args.cause (sym c.is_waiting.ensures ∙ c.if-not-is_waiting.false) c.remove.new.self.items c.remove.ensures.items in
+    record {
+      kept = ended-inside t c.self.invariant.kept c.args.serial c.in-Ok.at c.index-job.result.now c.deref.result.now c.deref.ensures.value c.in-Ok.ensures c.index-job.ensures c.args.cause (sym c.is_waiting.ensures ∙ c.if-not-is_waiting.false) _ c.phase_at.ensures.jobs refl refl refl c.phase_at.ensures.capacity
+          c.remove.ensures.items more refl refl refl refl (λ before behind after serial job phase. c.end.ensures.names before behind after serial job (ap is_ended phase)) c.end.ensures.spare;
+      marked = noted t.jobs.items c.phase_at.new.jobs.items t.touched.items c.note.new.touched.items (touched_of x) (phased_at c.args.serial (Ended c.args.cause)) t.mark.jobs (vec_capacity t.touched) (vec_capacity c.note.new.touched) (length t.waiting.items) (length c.remove.new.self.items) t.room t.room t.changes t.changes c.self.invariant.marked c.phase_at.ensures.jobs c.note.ensures.items c.note.ensures.capacity (omega (arith, less));
+    }
+
+pub note-requires : goal.note-requires
+note-requires c =
+    let one = one-waits c.self.inside c.self.invariant.kept c.args.serial c.in-Ok.at c.index-job.result.now c.deref.result.now c.deref.ensures.value c.in-Ok.ensures c.index-job.ensures (sym c.is_waiting.ensures ∙ c.if-not-is_waiting.false) in
+    omega (arith, one, c.self.invariant.marked.to_touch)
+
+pub returns-clause-marked : goal.returns-clause-marked
+returns-clause-marked c =
+    phased-back c.self.inside c.self.invariant.kept c.args.serial c.in-Ok.at c.index-job.result.now c.deref.result.now c.deref.ensures.value c.in-Ok.ensures c.index-job.ensures c.note.new.touched.items c.phase_at.new.jobs.items c.note.ensures.items (Ended c.args.cause) c.phase_at.ensures.jobs ∙ ap (λ (v : Table). v.marked) c.self.view_is
 
 pub returns-clause-jobs : goal.returns-clause-jobs
 returns-clause-jobs c =
-    rw (← c.self.view_is) (ended-jobs c.self.inside c.self.invariant c.args.serial c.in-Ok.at c.index-job.result.now c.deref.result.now c.deref.ensures.value c.in-Ok.ensures c.index-job.ensures c.args.cause (sym c.is_waiting.ensures ∙ c.if-not-is_waiting.false) c.phase_at.new.jobs.items c.phase_at.ensures.jobs)
+    rw (← c.self.view_is) (ended-jobs c.self.inside c.self.invariant.kept c.args.serial c.in-Ok.at c.index-job.result.now c.deref.result.now c.deref.ensures.value c.in-Ok.ensures c.index-job.ensures c.args.cause (sym c.is_waiting.ensures ∙ c.if-not-is_waiting.false) c.phase_at.new.jobs.items c.phase_at.ensures.jobs)

@@ -9,14 +9,14 @@ use Rattle.wm_jobs.proofs.table.JobTable.first_starting.Goals as goal
 pub returns-in_err-serial-clause-first : goal.returns-in_err-serial-clause-first
 returns-in_err-serial-clause-first c =
     let jobs = c.self.inside.jobs.items in
-    let none : slice_get (orders jobs) 0 ≡ None = ap (λ os. slice_get os 0) (sym c.self.invariant.indexed.orders_are) ∙ (sym c.first.ensures ∙ c.in_err-serial.was) in
+    let none : slice_get (orders jobs) 0 ≡ None = ap (λ os. slice_get os 0) (sym c.self.invariant.kept.indexed.orders_are) ∙ (sym c.first.ensures ∙ c.in_err-serial.was) in
     rw (c.from_residual.ensures, ← c.self.view_is) (sym (first-none jobs none))
 
 pub returns-clause-first : goal.returns-clause-first
 returns-clause-first c =
     let jobs = c.self.inside.jobs.items in
-    let first : slice_get (orders jobs) 0 ≡ Some (c.in_ok-serial.serial, c.in_ok-serial.field-0-1) = ap (λ os. slice_get os 0) (sym c.self.invariant.indexed.orders_are) ∙ (sym c.first.ensures ∙ c.in_ok-serial.was) in
-    c.job.ensures.found ∙ rw (← c.self.view_is) (first-found jobs c.in_ok-serial.serial c.in_ok-serial.field-0-1 c.self.invariant.listed.sorted first)
+    let first : slice_get (orders jobs) 0 ≡ Some (c.in_ok-serial.serial, c.in_ok-serial.field-0-1) = ap (λ os. slice_get os 0) (sym c.self.invariant.kept.indexed.orders_are) ∙ (sym c.first.ensures ∙ c.in_ok-serial.was) in
+    c.job.ensures.found ∙ rw (← c.self.view_is) (first-found jobs c.in_ok-serial.serial c.in_ok-serial.field-0-1 c.self.invariant.kept.listed.sorted first)
 
 pub returns-clause-by_serial : goal.returns-clause-by_serial
 returns-clause-by_serial c j e =

@@ -1,12 +1,14 @@
-use Rattle.std.proofs.Common.{◌≡◌, ◌+◌, not, ◌&&◌, cond, true, is_some, refl, ap, ◌∙◌}
+use Rattle.std.proofs.Common.{◌≡◌, ◌+◌, not, ◌&&◌, cond, true, length, vec_capacity, is_some, refl, ap, ◌∙◌, arith}
 use Rattle.wm_law.specs.declared.job.Job.{Job}
 use Rattle.wm_law.specs.Counts.{is_waiting}
-use Rattle.wm_law.specs.Launch.{as_launched}
+use Rattle.wm_law.specs.Launch.{as_launched, launched_at}
 use Rattle.wm_law.specs.Pending.{is_prestart}
-use Rattle.wm_jobs.specs.Table.{serial_of}
+use Rattle.wm_jobs.specs.Marked.{touched_of}
+use Rattle.wm_jobs.specs.Table.{Table, serial_of}
 use Rattle.wm_jobs.proofs.Splits.{gap-unchanged}
 use Rattle.wm_jobs.proofs.Changes.{grows, few-hows}
-use Rattle.wm_jobs.proofs.AtPlace.{asked, finds-named, launch-finds, launched-inside}
+use Rattle.wm_jobs.proofs.AtPlace.{asked, finds-named, launch-finds, launched-inside, one-waits, one-less, launched-back}
+use Rattle.wm_jobs.proofs.Undone.{noted}
 use Rattle.wm_jobs.proofs.NameParts.{waiting-lasts}
 use Rattle.wm_jobs.proofs.table.JobTable.launch.Goals as goal
 
@@ -19,40 +21,58 @@ pub count_start-requires-clause-spare : goal.count_start-requires-clause-spare
 count_start-requires-clause-spare c =
     let t = c.self.inside in
     let x = c.index-job.result.now in
-    let had = asked t c.self.invariant c.args.serial c.in-Ok.at x c.deref.result.now c.deref.ensures.value c.in-Ok.ensures c.index-job.ensures (λ (j : Job). is_waiting j.phase ≡ true) c.args.self.now c.self.view_is c.requires.waits in
-    (launch-finds t c.self.invariant c.args.serial c.in-Ok.at x c.deref.result.now c.deref.ensures.value c.in-Ok.ensures c.index-job.ensures had).0
+    let had = asked t c.self.invariant.kept c.args.serial c.in-Ok.at x c.deref.result.now c.deref.ensures.value c.in-Ok.ensures c.index-job.ensures (λ (j : Job). is_waiting j.phase ≡ true) c.args.self.now c.self.view_is c.requires.waits in
+    (launch-finds t c.self.invariant.kept c.args.serial c.in-Ok.at x c.deref.result.now c.deref.ensures.value c.in-Ok.ensures c.index-job.ensures had).0
 
 pub count_start-requires-clause-few : goal.count_start-requires-clause-few
-count_start-requires-clause-few c = few-hows _ _ _ _ _ _ _ _ c.self.invariant.indexed c.self.invariant.room
+count_start-requires-clause-few c = few-hows _ _ _ _ _ _ _ _ c.self.invariant.kept.indexed c.self.invariant.kept.room
 
 pub put_order-requires-clause-spare : goal.put_order-requires-clause-spare
 put_order-requires-clause-spare c =
     let t = c.self.inside in
     let x = c.index-job.result.now in
-    let had = asked t c.self.invariant c.args.serial c.in-Ok.at x c.deref.result.now c.deref.ensures.value c.in-Ok.ensures c.index-job.ensures (λ (j : Job). is_waiting j.phase ≡ true) c.args.self.now c.self.view_is c.requires.waits in
-    (launch-finds t c.self.invariant c.args.serial c.in-Ok.at x c.deref.result.now c.deref.ensures.value c.in-Ok.ensures c.index-job.ensures had).1
+    let had = asked t c.self.invariant.kept c.args.serial c.in-Ok.at x c.deref.result.now c.deref.ensures.value c.in-Ok.ensures c.index-job.ensures (λ (j : Job). is_waiting j.phase ≡ true) c.args.self.now c.self.view_is c.requires.waits in
+    (launch-finds t c.self.invariant.kept c.args.serial c.in-Ok.at x c.deref.result.now c.deref.ensures.value c.in-Ok.ensures c.index-job.ensures had).1
 
 pub put_order-requires-clause-new : goal.put_order-requires-clause-new
 put_order-requires-clause-new c =
     let t = c.self.inside in
     let x = c.index-job.result.now in
-    let had = asked t c.self.invariant c.args.serial c.in-Ok.at x c.deref.result.now c.deref.ensures.value c.in-Ok.ensures c.index-job.ensures (λ (j : Job). is_waiting j.phase ≡ true) c.args.self.now c.self.view_is c.requires.waits in
-    (launch-finds t c.self.invariant c.args.serial c.in-Ok.at x c.deref.result.now c.deref.ensures.value c.in-Ok.ensures c.index-job.ensures had).2
+    let had = asked t c.self.invariant.kept c.args.serial c.in-Ok.at x c.deref.result.now c.deref.ensures.value c.in-Ok.ensures c.index-job.ensures (λ (j : Job). is_waiting j.phase ≡ true) c.args.self.now c.self.view_is c.requires.waits in
+    (launch-finds t c.self.invariant.kept c.args.serial c.in-Ok.at x c.deref.result.now c.deref.ensures.value c.in-Ok.ensures c.index-job.ensures had).2
 
 pub end_names-requires : goal.end_names-requires
 end_names-requires c =
     let t = c.self.inside in
     let x = c.index-job.result.now in
-    let had = asked t c.self.invariant c.args.serial c.in-Ok.at x c.deref.result.now c.deref.ensures.value c.in-Ok.ensures c.index-job.ensures (λ (j : Job). is_waiting j.phase ≡ true) c.args.self.now c.self.view_is c.requires.waits in
-    finds-named t c.self.invariant c.args.serial c.in-Ok.at x c.deref.result.now c.deref.ensures.value c.in-Ok.ensures c.index-job.ensures (waiting-lasts x.phase had)
+    let had = asked t c.self.invariant.kept c.args.serial c.in-Ok.at x c.deref.result.now c.deref.ensures.value c.in-Ok.ensures c.index-job.ensures (λ (j : Job). is_waiting j.phase ≡ true) c.args.self.now c.self.view_is c.requires.waits in
+    finds-named t c.self.invariant.kept c.args.serial c.in-Ok.at x c.deref.result.now c.deref.ensures.value c.in-Ok.ensures c.index-job.ensures (waiting-lasts x.phase had)
+
+pub note-requires : goal.note-requires
+note-requires c =
+    let t = c.self.inside in
+    let x = c.index-job.result.now in
+    let had = asked t c.self.invariant.kept c.args.serial c.in-Ok.at x c.deref.result.now c.deref.ensures.value c.in-Ok.ensures c.index-job.ensures (λ (j : Job). is_waiting j.phase ≡ true) c.args.self.now c.self.view_is c.requires.waits in
+    let one = one-waits t c.self.invariant.kept c.args.serial c.in-Ok.at x c.deref.result.now c.deref.ensures.value c.in-Ok.ensures c.index-job.ensures had in
+    omega (arith, one, c.self.invariant.marked.to_touch)
 
 pub invariant_of-self : goal.invariant_of-self
 invariant_of-self c =
     let t = c.self.inside in
     let x = c.index-job.result.now in
-    let had = asked t c.self.invariant c.args.serial c.in-Ok.at x c.deref.result.now c.deref.ensures.value c.in-Ok.ensures c.index-job.ensures (λ (j : Job). is_waiting j.phase ≡ true) c.args.self.now c.self.view_is c.requires.waits in
+    let had = asked t c.self.invariant.kept c.args.serial c.in-Ok.at x c.deref.result.now c.deref.ensures.value c.in-Ok.ensures c.index-job.ensures (λ (j : Job). is_waiting j.phase ≡ true) c.args.self.now c.self.view_is c.requires.waits in
     let more = grows (is_some c.remove.result) t.waiting.spare c.remove.new.self.spare c.remove.ensures.spare in
     let active = c.more-self-inside.ensures ∙ ap (λ b. t.active + cond b 1 0) c.is_active-starts.ensures in
     let busy = c.more-self-inside-2.ensures ∙ ap (λ b. t.busy + cond b 1 0) (c.counts_as_busy-busy.ensures ∙ ap (λ b. b && not (is_prestart x.kind)) c.is_active-starts.ensures) in
-    launched-inside t c.self.invariant c.args.serial c.in-Ok.at x c.deref.result.now c.deref.ensures.value c.in-Ok.ensures c.index-job.ensures c.args.launched.now had c.requires.phase _ c.launch_at.ensures.jobs refl refl refl c.launch_at.ensures.capacity
-    c.remove.ensures.items more c.count_start.ensures.hows c.count_start.ensures.spare c.put_order.ensures.items c.put_order.ensures.spare active busy c.end_names.ensures.names c.end_names.ensures.spare
+    let less = one-less t c.self.invariant.kept c.args.serial c.in-Ok.at x c.deref.result.now c.deref.ensures.value c.in-Ok.ensures c.index-job.ensures c.args.launched.now had c.requires.phase c.remove.new.self.items c.remove.ensures.items in
+    record {
+      kept = launched-inside t c.self.invariant.kept c.args.serial c.in-Ok.at x c.deref.result.now c.deref.ensures.value c.in-Ok.ensures c.index-job.ensures c.args.launched.now had c.requires.phase _ c.launch_at.ensures.jobs refl refl refl c.launch_at.ensures.capacity
+          c.remove.ensures.items more c.count_start.ensures.hows c.count_start.ensures.spare c.put_order.ensures.items c.put_order.ensures.spare active busy c.end_names.ensures.names c.end_names.ensures.spare;
+      marked = noted t.jobs.items c.launch_at.new.jobs.items t.touched.items c.note.new.touched.items (touched_of x) (launched_at c.args.serial c.args.launched.now) t.mark.jobs (vec_capacity t.touched) (vec_capacity c.note.new.touched) (length t.waiting.items) (length c.remove.new.self.items) t.room t.room t.changes t.changes c.self.invariant.marked c.launch_at.ensures.jobs c.note.ensures.items c.note.ensures.capacity (omega (arith, less));
+    }
+
+pub returns-clause-marked : goal.returns-clause-marked
+returns-clause-marked c =
+    let t = c.self.inside in
+    let x = c.index-job.result.now in
+    launched-back t c.self.invariant.kept c.args.serial c.in-Ok.at x c.deref.result.now c.deref.ensures.value c.in-Ok.ensures c.index-job.ensures c.note.new.touched.items c.launch_at.new.jobs.items c.note.ensures.items c.args.launched.now c.launch_at.ensures.jobs ∙ ap (λ (v : Table). v.marked) c.self.view_is

@@ -1,7 +1,12 @@
-use Rattle.std.proofs.Common.{◌+◌, refl, arith}
+use Rattle.std.proofs.Common.{◌≡◌, ◌+◌, ◌-◌, length, vec_capacity, refl, ap, ◌∙◌, arith}
 use Rattle.wm_law.specs.Changing.{moved_to}
-use Rattle.wm_jobs.proofs.AtPlace.{takes-next, changed-inside}
-use Rattle.wm_jobs.proofs.Waits.{Keeps, keeps-moved, waiting-gap}
+use Rattle.wm_law.specs.Jobs.{waiting_at}
+use Rattle.wm_pick.specs.Parts.{waiter_of}
+use Rattle.wm_jobs.specs.Marked.{touched_of}
+use Rattle.wm_jobs.specs.Table.{Table}
+use Rattle.wm_jobs.proofs.AtPlace.{takes-next, changed-inside, waiting-back}
+use Rattle.wm_jobs.proofs.Undone.{noted}
+use Rattle.wm_jobs.proofs.Waits.{Keeps, keeps-moved, length-renewed, waiting-gap}
 use Rattle.wm_jobs.proofs.table.JobTable.move_to.Goals as goal
 
 -- where no job has the serial, none is changed
@@ -14,10 +19,25 @@ pub renew-requires : goal.renew-requires
 renew-requires c =
     let t = c.self.inside in
     let keeps : Keeps (t.next_place + 1) (moved_to c.args.command.now t.next_place c.args.due) = keeps-moved c.args.command.now t.next_place c.args.due in
-    takes-next t c.self.invariant c.args.serial c.in-Ok.at c.deref.result.now c.deref.ensures.value c.in-Ok.ensures (moved_to c.args.command.now t.next_place c.args.due) (t.next_place + 1) (omega arith) keeps c.move_at.new.jobs.items c.move_at.ensures.jobs c.index.result.now c.index.ensures (λ _. refl)
+    takes-next t c.self.invariant.kept c.args.serial c.in-Ok.at c.deref.result.now c.deref.ensures.value c.in-Ok.ensures (moved_to c.args.command.now t.next_place c.args.due) (t.next_place + 1) (omega arith) keeps c.move_at.new.jobs.items c.move_at.ensures.jobs c.index-2.result.now c.index-2.ensures (λ _. refl)
 
 pub invariant_of-self-2 : goal.invariant_of-self-2
 invariant_of-self-2 c =
     let t = c.self.inside in
     let keeps : Keeps (t.next_place + 1) (moved_to c.args.command.now t.next_place c.args.due) = keeps-moved c.args.command.now t.next_place c.args.due in
-    changed-inside t c.self.invariant c.args.serial c.in-Ok.at c.deref.result.now c.deref.ensures.value c.in-Ok.ensures (moved_to c.args.command.now t.next_place c.args.due) (t.next_place + 1) (omega arith) keeps c.move_at.new.jobs.items c.move_at.ensures.jobs c.index.result.now c.index.ensures _ c.move_at.ensures.jobs refl refl refl c.move_at.ensures.capacity c.renew.ensures.items c.renew.ensures.spare refl refl refl refl refl
+    let some : t.changes ≡ c.args.self.now.changes = ap (λ (v : Table). v.changes) c.self.view_is in
+    let same : length c.renew.new.waiting.items ≡ length t.waiting.items = ap length c.renew.ensures.items ∙ length-renewed (waiter_of c.index-2.result.now) t.waiting.items in
+    record {
+      kept = changed-inside t c.self.invariant.kept c.args.serial c.in-Ok.at c.deref.result.now c.deref.ensures.value c.in-Ok.ensures (moved_to c.args.command.now t.next_place c.args.due) (t.next_place + 1) (omega arith) keeps c.move_at.new.jobs.items c.move_at.ensures.jobs c.index-2.result.now c.index-2.ensures _ c.move_at.ensures.jobs refl refl refl c.move_at.ensures.capacity c.renew.ensures.items c.renew.ensures.spare refl refl refl refl refl;
+      marked = noted t.jobs.items c.move_at.new.jobs.items t.touched.items c.note.new.touched.items (touched_of c.index.result.now) (waiting_at c.args.serial (moved_to c.args.command.now t.next_place c.args.due)) t.mark.jobs (vec_capacity t.touched) (vec_capacity c.note.new.touched) (length t.waiting.items) (length c.renew.new.waiting.items) t.room t.room t.changes (t.changes - 1) c.self.invariant.marked c.move_at.ensures.jobs c.note.ensures.items c.note.ensures.capacity (omega (arith, some, same, c.requires.changes));
+    }
+
+pub note-requires : goal.note-requires
+note-requires c =
+    let some : c.self.inside.changes ≡ c.args.self.now.changes = ap (λ (v : Table). v.changes) c.self.view_is in
+    omega (arith, some, c.requires.changes, c.self.invariant.marked.to_touch)
+
+pub returns-clause-marked : goal.returns-clause-marked
+returns-clause-marked c =
+    let t = c.self.inside in
+    waiting-back t c.self.invariant.kept c.args.serial c.in-Ok.at c.index.result.now c.deref.result.now c.deref.ensures.value c.in-Ok.ensures c.index.ensures c.note.new.touched.items c.move_at.new.jobs.items c.note.ensures.items (moved_to c.args.command.now t.next_place c.args.due) refl refl c.move_at.ensures.jobs ∙ ap (λ (v : Table). v.marked) c.self.view_is

@@ -11,5 +11,5 @@ use Rattle.wm_jobs.proofs.table.JobTable.next_due.Goals as goal
 pub returns : goal.returns
 returns c =
     let t = c.self.inside in
-    let queues = All-weaker (IsListed t.next_serial t.next_place) (λ (j : Job). is_waiting j.phase ≡ true → is_some j.jobq ≡ true) (λ j h. h.queue) t.jobs.items c.self.invariant.listed.each in
-    rw (← c.self.view_is) (c.next_due.ensures ∙ (ap (λ (ws : List Waiter). next_due t.waiting.clock ws) c.self.invariant.indexed.waiters_are ∙ due-waiters t.waiting.clock t.jobs.items None queues))
+    let queues = All-weaker (IsListed t.next_serial t.next_place) (λ (j : Job). is_waiting j.phase ≡ true → is_some j.jobq ≡ true) (λ j h. h.queue) t.jobs.items c.self.invariant.kept.listed.each in
+    rw (← c.self.view_is) (c.next_due.ensures ∙ (ap (λ (ws : List Waiter). next_due t.waiting.clock ws) c.self.invariant.kept.indexed.waiters_are ∙ due-waiters t.waiting.clock t.jobs.items None queues))

@@ -3,4 +3,4 @@ use Rattle.wm_jobs.proofs.JobParts.{orders-counted}
 use Rattle.wm_jobs.proofs.table.JobTable.orders.Goals as goal
 
 pub returns : goal.returns
-returns c = rw (← c.self.view_is) (c.len.ensures.len ∙ (ap length c.self.invariant.indexed.orders_are ∙ orders-counted c.self.inside.jobs.items))
+returns c = rw (← c.self.view_is) (c.len.ensures.len ∙ (ap length c.self.invariant.kept.indexed.orders_are ∙ orders-counted c.self.inside.jobs.items))

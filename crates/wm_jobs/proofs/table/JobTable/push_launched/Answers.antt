@@ -1,24 +1,25 @@
-use Rattle.std.proofs.Common.{◌≡◌, ◌+◌, ◌-◌, not, ◌&&◌, cond, refl, ap, ◌∙◌, arith}
+use Rattle.std.proofs.Common.{◌≡◌, ◌+◌, ◌-◌, not, ◌&&◌, cond, length, vec_capacity, refl, ap, ◌∙◌, arith}
 use Rattle.wm_law.specs.Pending.{is_prestart}
 use Rattle.wm_jobs.specs.Table.{Table}
 use Rattle.wm_jobs.proofs.AtLaunch.{launched-finds, launched-pushed}
 use Rattle.wm_jobs.proofs.Changes.{few-hows}
 use Rattle.wm_jobs.proofs.NameParts.{few-names}
+use Rattle.wm_jobs.proofs.Undone.{marked-came, marked-pushed}
 use Rattle.wm_jobs.proofs.table.JobTable.push_launched.Goals as goal
 
 pub count_start-requires-clause-few : goal.count_start-requires-clause-few
-count_start-requires-clause-few c = few-hows _ _ _ _ _ _ _ _ c.self.invariant.indexed c.self.invariant.room
+count_start-requires-clause-few c = few-hows _ _ _ _ _ _ _ _ c.self.invariant.kept.indexed c.self.invariant.kept.room
 
 pub put_order-requires-clause-new : goal.put_order-requires-clause-new
-put_order-requires-clause-new c = launched-finds c.self.inside c.self.invariant c.args.self.now c.self.view_is c.args.job c.requires.serial c.requires.place c.requires.launched
+put_order-requires-clause-new c = launched-finds c.self.inside c.self.invariant.kept c.args.self.now c.self.view_is c.args.job c.requires.serial c.requires.place c.requires.launched
 
 pub add-requires-clause-spare : goal.add-requires-clause-spare
 add-requires-clause-spare c =
     let spare : c.self.inside.room ≡ c.args.self.now.spare = ap (λ (v : Table). v.spare) c.self.view_is in
-    omega (arith, spare, c.requires.spare, c.self.invariant.named.to_name)
+    omega (arith, spare, c.requires.spare, c.self.invariant.kept.named.to_name)
 
 pub add-requires-clause-few : goal.add-requires-clause-few
-add-requires-clause-few c = few-names c.self.inside.jobs.items c.self.inside.names c.self.inside.room c.self.invariant.named c.self.invariant.room.few
+add-requires-clause-few c = few-names c.self.inside.jobs.items c.self.inside.names c.self.inside.room c.self.invariant.kept.named c.self.invariant.kept.room.few
 
 pub invariant_of-self : goal.invariant_of-self
 invariant_of-self c =
@@ -28,5 +29,13 @@ invariant_of-self c =
     let left : t.room - 1 + 1 ≡ t.room = omega (arith, c.requires.spare) in
     let active = c.more-self-inside.ensures ∙ ap (λ b. t.active + cond b 1 0) c.is_active-starts.ensures in
     let busy = c.more-self-inside-2.ensures ∙ ap (λ b. t.busy + cond b 1 0) (c.counts_as_busy-busy.ensures ∙ ap (λ b. b && not (is_prestart j.kind)) c.is_active-starts.ensures) in
-    launched-pushed t c.self.invariant c.args.self.now c.self.view_is j c.requires.serial c.requires.place c.requires.launched _ c.push_reserved.ensures.items c.push_reserved.ensures.capacity refl
-    c.count_start.ensures.hows c.count_start.ensures.spare c.put_order.ensures.items c.put_order.ensures.spare active busy refl refl left c.add.ensures.names c.add.ensures.spare
+    record {
+      kept = launched-pushed t c.self.invariant.kept c.args.self.now c.self.view_is j c.requires.serial c.requires.place c.requires.launched _ c.push_reserved.ensures.items c.push_reserved.ensures.capacity refl
+          c.count_start.ensures.hows c.count_start.ensures.spare c.put_order.ensures.items c.put_order.ensures.spare active busy refl refl left c.add.ensures.names c.add.ensures.spare;
+      marked = marked-came t.jobs.items c.push_reserved.new.self.items j t.mark.jobs (length t.touched.items) (vec_capacity t.touched) (length t.waiting.items) (length t.waiting.items) t.room (t.room - 1) t.changes c.self.invariant.marked c.push_reserved.ensures.items (omega (arith, left));
+    }
+
+pub returns-clause-marked : goal.returns-clause-marked
+returns-clause-marked c =
+    let t = c.self.inside in
+    marked-pushed t.mark t.touched.items t.jobs.items c.push_reserved.new.self.items c.args.job c.self.invariant.marked.there c.push_reserved.ensures.items ∙ ap (λ (v : Table). v.marked) c.self.view_is

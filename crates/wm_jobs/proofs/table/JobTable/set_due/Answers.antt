@@ -1,7 +1,12 @@
-use Rattle.std.proofs.Common.{refl, arith}
+use Rattle.std.proofs.Common.{◌≡◌, ◌-◌, length, vec_capacity, refl, ap, ◌∙◌, arith}
 use Rattle.wm_law.specs.Changing.{with_due}
-use Rattle.wm_jobs.proofs.AtPlace.{keeps-its, changed-inside}
-use Rattle.wm_jobs.proofs.Waits.{Keeps, waiting-gap}
+use Rattle.wm_law.specs.Jobs.{waiting_at}
+use Rattle.wm_pick.specs.Parts.{waiter_of}
+use Rattle.wm_jobs.specs.Marked.{touched_of}
+use Rattle.wm_jobs.specs.Table.{Table}
+use Rattle.wm_jobs.proofs.AtPlace.{keeps-its, changed-inside, waiting-back}
+use Rattle.wm_jobs.proofs.Undone.{noted}
+use Rattle.wm_jobs.proofs.Waits.{Keeps, length-renewed, waiting-gap}
 use Rattle.wm_jobs.proofs.table.JobTable.set_due.Goals as goal
 
 -- where no job has the serial, none is changed
@@ -14,10 +19,25 @@ pub renew-requires : goal.renew-requires
 renew-requires c =
     let t = c.self.inside in
     let keeps : Keeps t.next_place (with_due c.args.due) = record { serial = λ _. refl; job = λ _. refl; phase = λ _. refl; kind = λ _. refl; how = λ _. refl; queue = λ _ has. has; place = λ _ below. below } in
-    keeps-its t c.self.invariant c.args.serial c.in-Ok.at c.deref.result.now c.deref.ensures.value c.in-Ok.ensures (with_due c.args.due) t.next_place (omega arith) keeps c.due_at.new.jobs.items c.due_at.ensures.jobs c.index.result.now c.index.ensures c.len.ensures.places (λ _. refl)
+    keeps-its t c.self.invariant.kept c.args.serial c.in-Ok.at c.deref.result.now c.deref.ensures.value c.in-Ok.ensures (with_due c.args.due) t.next_place (omega arith) keeps c.due_at.new.jobs.items c.due_at.ensures.jobs c.index-2.result.now c.index-2.ensures c.len.ensures.places (λ _. refl)
 
 pub invariant_of-self : goal.invariant_of-self
 invariant_of-self c =
     let t = c.self.inside in
     let keeps : Keeps t.next_place (with_due c.args.due) = record { serial = λ _. refl; job = λ _. refl; phase = λ _. refl; kind = λ _. refl; how = λ _. refl; queue = λ _ has. has; place = λ _ below. below } in
-    changed-inside t c.self.invariant c.args.serial c.in-Ok.at c.deref.result.now c.deref.ensures.value c.in-Ok.ensures (with_due c.args.due) t.next_place (omega arith) keeps c.due_at.new.jobs.items c.due_at.ensures.jobs c.index.result.now c.index.ensures _ c.due_at.ensures.jobs refl refl refl c.due_at.ensures.capacity c.renew.ensures.items c.renew.ensures.spare refl refl refl refl refl
+    let some : t.changes ≡ c.args.self.now.changes = ap (λ (v : Table). v.changes) c.self.view_is in
+    let same : length c.renew.new.waiting.items ≡ length t.waiting.items = ap length c.renew.ensures.items ∙ length-renewed (waiter_of c.index-2.result.now) t.waiting.items in
+    record {
+      kept = changed-inside t c.self.invariant.kept c.args.serial c.in-Ok.at c.deref.result.now c.deref.ensures.value c.in-Ok.ensures (with_due c.args.due) t.next_place (omega arith) keeps c.due_at.new.jobs.items c.due_at.ensures.jobs c.index-2.result.now c.index-2.ensures _ c.due_at.ensures.jobs refl refl refl c.due_at.ensures.capacity c.renew.ensures.items c.renew.ensures.spare refl refl refl refl refl;
+      marked = noted t.jobs.items c.due_at.new.jobs.items t.touched.items c.note.new.touched.items (touched_of c.index.result.now) (waiting_at c.args.serial (with_due c.args.due)) t.mark.jobs (vec_capacity t.touched) (vec_capacity c.note.new.touched) (length t.waiting.items) (length c.renew.new.waiting.items) t.room t.room t.changes (t.changes - 1) c.self.invariant.marked c.due_at.ensures.jobs c.note.ensures.items c.note.ensures.capacity (omega (arith, some, same, c.requires.changes));
+    }
+
+pub note-requires : goal.note-requires
+note-requires c =
+    let some : c.self.inside.changes ≡ c.args.self.now.changes = ap (λ (v : Table). v.changes) c.self.view_is in
+    omega (arith, some, c.requires.changes, c.self.invariant.marked.to_touch)
+
+pub returns-clause-marked : goal.returns-clause-marked
+returns-clause-marked c =
+    let t = c.self.inside in
+    waiting-back t c.self.invariant.kept c.args.serial c.in-Ok.at c.index.result.now c.deref.result.now c.deref.ensures.value c.in-Ok.ensures c.index.ensures c.note.new.touched.items c.due_at.new.jobs.items c.note.ensures.items (with_due c.args.due) refl refl c.due_at.ensures.jobs ∙ ap (λ (v : Table). v.marked) c.self.view_is

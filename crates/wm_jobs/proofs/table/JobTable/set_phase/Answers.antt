@@ -1,12 +1,14 @@
-use Rattle.std.proofs.Common.{◌≡◌, ◌+◌, not, ◌&&◌, cond, true, is_some, refl, ap, sym, ◌∙◌}
+use Rattle.std.proofs.Common.{◌≡◌, ◌+◌, ◌-◌, length, vec_capacity, not, ◌&&◌, cond, true, is_some, refl, ap, sym, ◌∙◌, arith}
 use Rattle.wm_law.specs.declared.job.Job.{Job}
 use Rattle.wm_law.specs.Counts.{is_active}
 use Rattle.wm_law.specs.Pending.{is_prestart}
-use Rattle.wm_law.specs.Reports.{in_phase}
-use Rattle.wm_jobs.specs.Table.{serial_of}
+use Rattle.wm_law.specs.Reports.{in_phase, phased_at}
+use Rattle.wm_jobs.specs.Marked.{touched_of}
+use Rattle.wm_jobs.specs.Table.{Table, serial_of}
 use Rattle.wm_jobs.proofs.Splits.{gap-unchanged}
 use Rattle.wm_jobs.proofs.Changes.{grows}
-use Rattle.wm_jobs.proofs.AtPlace.{asked, finds-named, end-finds, phased-inside}
+use Rattle.wm_jobs.proofs.AtPlace.{asked, finds-named, end-finds, phased-inside, phased-back}
+use Rattle.wm_jobs.proofs.Undone.{noted}
 use Rattle.wm_jobs.proofs.NameParts.{active-lasts}
 use Rattle.wm_jobs.proofs.table.JobTable.set_phase.Goals as goal
 
@@ -19,37 +21,52 @@ pub count_end-requires : goal.count_end-requires
 count_end-requires c =
     let t = c.self.inside in
     let x = c.index-job.result.now in
-    let had = asked t c.self.invariant c.args.serial c.in-Ok.at x c.deref.result.now c.deref.ensures.value c.in-Ok.ensures c.index-job.ensures (λ (j : Job). is_active j.phase ≡ true) c.args.self.now c.self.view_is c.requires.active in
-    (end-finds t c.self.invariant c.args.serial c.in-Ok.at x c.deref.result.now c.deref.ensures.value c.in-Ok.ensures c.index-job.ensures c.args.phase had).0
+    let had = asked t c.self.invariant.kept c.args.serial c.in-Ok.at x c.deref.result.now c.deref.ensures.value c.in-Ok.ensures c.index-job.ensures (λ (j : Job). is_active j.phase ≡ true) c.args.self.now c.self.view_is c.requires.active in
+    (end-finds t c.self.invariant.kept c.args.serial c.in-Ok.at x c.deref.result.now c.deref.ensures.value c.in-Ok.ensures c.index-job.ensures c.args.phase had).0
 
 pub fewer-self-inside-requires : goal.fewer-self-inside-requires
 fewer-self-inside-requires c =
     let t = c.self.inside in
     let x = c.index-job.result.now in
-    let had = asked t c.self.invariant c.args.serial c.in-Ok.at x c.deref.result.now c.deref.ensures.value c.in-Ok.ensures c.index-job.ensures (λ (j : Job). is_active j.phase ≡ true) c.args.self.now c.self.view_is c.requires.active in
-    rw c.is_active-ends.ensures (end-finds t c.self.invariant c.args.serial c.in-Ok.at x c.deref.result.now c.deref.ensures.value c.in-Ok.ensures c.index-job.ensures c.args.phase had).1
+    let had = asked t c.self.invariant.kept c.args.serial c.in-Ok.at x c.deref.result.now c.deref.ensures.value c.in-Ok.ensures c.index-job.ensures (λ (j : Job). is_active j.phase ≡ true) c.args.self.now c.self.view_is c.requires.active in
+    rw c.is_active-ends.ensures (end-finds t c.self.invariant.kept c.args.serial c.in-Ok.at x c.deref.result.now c.deref.ensures.value c.in-Ok.ensures c.index-job.ensures c.args.phase had).1
 
 pub fewer-self-inside-requires-2 : goal.fewer-self-inside-requires-2
 fewer-self-inside-requires-2 c =
     let t = c.self.inside in
     let x = c.index-job.result.now in
-    let had = asked t c.self.invariant c.args.serial c.in-Ok.at x c.deref.result.now c.deref.ensures.value c.in-Ok.ensures c.index-job.ensures (λ (j : Job). is_active j.phase ≡ true) c.args.self.now c.self.view_is c.requires.active in
-    rw (c.counts_as_busy-busy.ensures, c.is_active-ends.ensures) (end-finds t c.self.invariant c.args.serial c.in-Ok.at x c.deref.result.now c.deref.ensures.value c.in-Ok.ensures c.index-job.ensures c.args.phase had).2
+    let had = asked t c.self.invariant.kept c.args.serial c.in-Ok.at x c.deref.result.now c.deref.ensures.value c.in-Ok.ensures c.index-job.ensures (λ (j : Job). is_active j.phase ≡ true) c.args.self.now c.self.view_is c.requires.active in
+    rw (c.counts_as_busy-busy.ensures, c.is_active-ends.ensures) (end-finds t c.self.invariant.kept c.args.serial c.in-Ok.at x c.deref.result.now c.deref.ensures.value c.in-Ok.ensures c.index-job.ensures c.args.phase had).2
 
 pub end_names-requires : goal.end_names-requires
 end_names-requires c =
     let t = c.self.inside in
     let x = c.index-job.result.now in
-    let had = asked t c.self.invariant c.args.serial c.in-Ok.at x c.deref.result.now c.deref.ensures.value c.in-Ok.ensures c.index-job.ensures (λ (j : Job). is_active j.phase ≡ true) c.args.self.now c.self.view_is c.requires.active in
-    finds-named t c.self.invariant c.args.serial c.in-Ok.at x c.deref.result.now c.deref.ensures.value c.in-Ok.ensures c.index-job.ensures (active-lasts x.phase had)
+    let had = asked t c.self.invariant.kept c.args.serial c.in-Ok.at x c.deref.result.now c.deref.ensures.value c.in-Ok.ensures c.index-job.ensures (λ (j : Job). is_active j.phase ≡ true) c.args.self.now c.self.view_is c.requires.active in
+    finds-named t c.self.invariant.kept c.args.serial c.in-Ok.at x c.deref.result.now c.deref.ensures.value c.in-Ok.ensures c.index-job.ensures (active-lasts x.phase had)
 
 pub invariant_of-self : goal.invariant_of-self
 invariant_of-self c =
     let t = c.self.inside in
     let x = c.index-job.result.now in
-    let had = asked t c.self.invariant c.args.serial c.in-Ok.at x c.deref.result.now c.deref.ensures.value c.in-Ok.ensures c.index-job.ensures (λ (j : Job). is_active j.phase ≡ true) c.args.self.now c.self.view_is c.requires.active in
+    let had = asked t c.self.invariant.kept c.args.serial c.in-Ok.at x c.deref.result.now c.deref.ensures.value c.in-Ok.ensures c.index-job.ensures (λ (j : Job). is_active j.phase ≡ true) c.args.self.now c.self.view_is c.requires.active in
     let more = grows (is_some c.remove.result) t.starting.spare c.remove.new.self.spare c.remove.ensures.spare in
     let active = ap (λ b. c.fewer-self-inside.result + cond (not b) 1 0) (sym c.is_active-ends.ensures) ∙ c.fewer-self-inside.ensures in
     let busy = ap (λ b. c.fewer-self-inside-2.result + cond b 1 0) (sym (c.counts_as_busy-busy.ensures ∙ ap (λ b. not b && not (is_prestart x.kind)) c.is_active-ends.ensures)) ∙ c.fewer-self-inside-2.ensures in
-    phased-inside t c.self.invariant c.args.serial c.in-Ok.at x c.deref.result.now c.deref.ensures.value c.in-Ok.ensures c.index-job.ensures c.args.phase had c.requires.not_waiting c.requires.not_starting _ c.phase_at.ensures.jobs refl refl refl c.phase_at.ensures.capacity
-    refl c.count_end.ensures.hows c.count_end.ensures.spare c.remove.ensures.items more active busy c.end_names.ensures.names c.end_names.ensures.spare
+    let some : t.changes ≡ c.args.self.now.changes = ap (λ (v : Table). v.changes) c.self.view_is in
+    record {
+      kept = phased-inside t c.self.invariant.kept c.args.serial c.in-Ok.at x c.deref.result.now c.deref.ensures.value c.in-Ok.ensures c.index-job.ensures c.args.phase had c.requires.not_waiting c.requires.not_starting _ c.phase_at.ensures.jobs refl refl refl c.phase_at.ensures.capacity
+          refl c.count_end.ensures.hows c.count_end.ensures.spare c.remove.ensures.items more active busy c.end_names.ensures.names c.end_names.ensures.spare;
+      marked = noted t.jobs.items c.phase_at.new.jobs.items t.touched.items c.note.new.touched.items (touched_of x) (phased_at c.args.serial c.args.phase) t.mark.jobs (vec_capacity t.touched) (vec_capacity c.note.new.touched) (length t.waiting.items) (length t.waiting.items) t.room t.room t.changes (t.changes - 1) c.self.invariant.marked c.phase_at.ensures.jobs c.note.ensures.items c.note.ensures.capacity (omega (arith, some, c.requires.changes));
+    }
+
+pub note-requires : goal.note-requires
+note-requires c =
+    let some : c.self.inside.changes ≡ c.args.self.now.changes = ap (λ (v : Table). v.changes) c.self.view_is in
+    omega (arith, some, c.requires.changes, c.self.invariant.marked.to_touch)
+
+pub returns-clause-marked : goal.returns-clause-marked
+returns-clause-marked c =
+    let t = c.self.inside in
+    let x = c.index-job.result.now in
+    phased-back t c.self.invariant.kept c.args.serial c.in-Ok.at x c.deref.result.now c.deref.ensures.value c.in-Ok.ensures c.index-job.ensures c.note.new.touched.items c.phase_at.new.jobs.items c.note.ensures.items c.args.phase c.phase_at.ensures.jobs ∙ ap (λ (v : Table). v.marked) c.self.view_is

@@ -1,0 +1,67 @@
+// What was changed since the mark.
+ghost use Rattle.std.specs.Prelude.{◌≡◌, ◌<◌, ◌∷◌, ◌++◌, [], length, vec_capacity};
+ghost use Rattle.wm_jobs.specs.Marked.{touched_of};
+
+use crate::JobTable;
+use crate::touched::{Mark, Standing, Touched};
+use wm_law::Job;
+
+/// Notes how a job stands that is to be changed. It takes no memory.
+pub(crate) fn note(touched: &mut Vec<Touched>, job: &Job)
+    requires { length touched.old.items < vec_capacity touched.old }
+    ensures items { touched.new.items ≡ touched.old.items ++ touched_of job.now ∷ [] }
+    ensures capacity { vec_capacity touched.new ≡ vec_capacity touched.old }
+{
+    let was = Standing {
+        phase: job.phase,
+        how: job.how,
+        held: job.held,
+        due: job.due,
+        jobq: job.jobq,
+        pty: job.pty,
+        place: job.place,
+    };
+    touched.push_reserved(Touched {
+        serial: job.serial,
+        was,
+    });
+}
+
+impl JobTable {
+    ghost use Rattle.std.specs.Prelude.{◌≡◌, length, take, filter};
+    ghost use Rattle.wm_jobs.specs.Marked.{is_untouched};
+    ghost use Rattle.wm_jobs.specs.Table.{present};
+
+    /// From here on changes can be taken back. What was changed before is kept as it is. It takes no memory.
+    pub fn mark(&mut self)
+        ensures jobs { self.new.jobs ≡ self.old.jobs }
+        ensures clock { self.new.clock ≡ self.old.clock }
+        ensures next_serial { self.new.next_serial ≡ self.old.next_serial }
+        ensures next_place { self.new.next_place ≡ self.old.next_place }
+        ensures spare { self.new.spare ≡ self.old.spare }
+        ensures changes { self.new.changes ≡ self.old.changes }
+        ensures marked { self.new.marked ≡ present self.old }
+    {
+        self.touched.clear();
+        self.mark = Mark {
+            jobs: self.jobs.len(),
+            clock: self.waiting.clock(),
+            next_serial: self.next_serial,
+            next_place: self.next_place,
+        };
+    }
+
+    /// How many jobs there were at the mark. Those that came since stand behind them.
+    pub fn marked_jobs(&self) -> usize
+        ensures { result ≡ length self.now.marked.jobs }
+    {
+        self.mark.jobs
+    }
+
+    /// What was touched since the mark. All other jobs from before are what they were then.
+    pub fn touched(&self) -> &[Touched]
+        ensures { filter (is_untouched result.now) (take (length self.now.marked.jobs) self.now.jobs) ≡ filter (is_untouched result.now) self.now.marked.jobs }
+    {
+        &self.touched
+    }
+}
