@@ -1,1 +1,4 @@
 mod Restarts
+mod Lookup
+mod JobChanges
+mod FirstChanges

@@ -1,5 +1,5 @@
 -- What holds of the state that good rows make.
-use Rattle.std.proofs.Common.{◌≡◌, ℕ, ◌≤◌, ℤ, false, List, [], ◌∷◌, length, All, refl, inl, inr, arith}
+use Rattle.std.proofs.Common.{◌≡◌, ℕ, ◌≤◌, ℤ, suc, ◌==◌, true, false, List, [], ◌∷◌, length, All, refl, inl, inr, arith}
 use Rattle.std.proofs.lemmas.List.Elements.{All-nil, All-cons}
 use Rattle.wm_outside.specs.declared.row.Row.{Row}
 use Rattle.wm_law.specs.Counts.{is_active}
@@ -8,10 +8,16 @@ use Rattle.wm_law.specs.Opening.{empty}
 use Rattle.wm_law.specs.Sound.{IsSound}
 use Rattle.wm_law.specs.declared.job.Job.{Job}
 use Rattle.wm_law.specs.declared.state.State.{State}
+use Rattle.wm_law.proofs.Tests.{same_number}
+use Rattle.wm_job_rows.specs.JobText.{job_row}
+use Rattle.wm_job_rows.specs.Stored.{stored_of}
 use Rattle.wm_tables.specs.Restart.{AreGood, HasCounters, IsRestart}
 use Rattle.wm_tables.proofs.Building.{built}
+use Rattle.wm_tables.proofs.NewRows.{job_stands}
 use Rattle.wm_tables.proofs.Restarts.{restart_is_sound}
 use Rattle.wm_tables.proofs.RowOrder.{ascending}
+use Rattle.wm_tables.proofs.SameRows.{there_found}
+use Rattle.wm_opening.specs.Written.{Stands}
 
 pub restart_of : (offset : ℤ) (rows : List Row) (s : State) → 1 ≤ length rows → AreGood offset rows s → HasCounters rows → IsRestart offset rows s
 restart_of offset [] s some good counters = absurd (omega arith)
@@ -28,3 +34,12 @@ pub none_active : (offset : ℤ) (rows : List Row) (s : State) → AreGood offse
 none_active offset rows s good =
     let b = built offset rows s (ascending rows good.order) good.read in
     all_of (λ (j : Job). is_active j.phase ≡ false) s.jobs b.jobs.idle
+
+-- a job that no restart has ended has its row among the good ones
+pub stand : (offset : ℤ) (rows : List Row) (s : State) → AreGood offset rows s → All (Stands rows) s.jobs
+stand offset rows s good = all_of (Stands rows) s.jobs (λ j i. λ other. there_found rows (job_row (stored_of j)) (job_stands offset rows s good j i other))
+
+-- rows of which there are none
+pub none_there : (rows : List Row) → (length rows == 0) ≡ true → rows ≡ []
+none_there [] h = refl
+none_there (row ∷ rows) h = let none : suc (length rows) ≡ 0 = same_number (suc (length rows)) 0 h in absurd (omega arith)

@@ -117,7 +117,7 @@ fn has_lengths(job: &StoredJob) -> bool
     1 <= length && length <= 80 && request_in_range(&job.rqsdta)
 }
 
-fn is_queue(queue: &Option<QName>)
+fn queue_keeps_ranges(queue: &Option<QName>)
     ensures { IsQueue queue.now }
 {
     if let Some(queue) = queue {
@@ -126,7 +126,7 @@ fn is_queue(queue: &Option<QName>)
     }
 }
 
-fn is_request(request: &Option<Text>)
+fn request_keeps_ranges(request: &Option<Text>)
     ensures { IsRequest request.now }
 {
     if let Some(request) = request {
@@ -145,10 +145,10 @@ pub(crate) fn keeps_ranges(job: &StoredJob)
     job.number.get();
     job.user.as_bytes();
     job.name.as_bytes();
-    is_queue(&job.jobq);
+    queue_keeps_ranges(&job.jobq);
     job.pty.get();
     job.rtgdta.as_bytes();
-    is_request(&job.rqsdta);
+    request_keeps_ranges(&job.rqsdta);
     job.due.get();
 }
 

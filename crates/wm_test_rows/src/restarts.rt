@@ -4,13 +4,17 @@
 // > open                 what a run makes of the rows: `BAD N` with the number of the first that isn't good, else how many
 //                        objects there are of each kind, how many entries and held queues, the next number, place and
 //                        serial, and each job as `SERIAL NUMBER/USER/NAME PHASE`
+// > write                what a run writes as it opens with the rows, or with none: `BAD N`, else each row that it puts as
+//                        `TAB|KEY|BODY`, and behind these their number
 use crate::words;
 use anyhow::{Result, bail};
 use std::alloc::Global;
 use wm_cases::Subject;
-use wm_desc::Sbsd;
+use wm_core::Setup;
+use wm_desc::{Sbsd, qbatch};
 use wm_law::Job;
-use wm_outside::Row;
+use wm_opening::open_rows;
+use wm_outside::{Row, RowChange};
 use wm_restart::{ReadParts, RestartFault, read_rows};
 use wm_when::Offset;
 
@@ -41,14 +45,51 @@ impl Subject for RestartCases {
             self.rows.push(words::row(self.alloc, written)?)?;
             return Ok(());
         }
-        if question != "open" || self.rows.is_empty() {
-            bail!("no question: {question}");
+        match question {
+            "open" if !self.rows.is_empty() => tell_read(self.alloc, &self.rows, answer),
+            "write" => tell_written(self.alloc, &self.rows, answer),
+            _ => bail!("no question: {question}"),
         }
-        match read_rows(self.alloc, &self.rows, Offset::new(0)) {
-            Ok(reading) => push_read(&reading.parts(), answer),
-            Err(RestartFault::BadRow(n)) => Ok(writeln!(answer, "BAD {n}")?),
-            Err(RestartFault::NoMemory) => bail!("out of memory"),
-        }
+    }
+}
+
+fn tell_read(alloc: Global, rows: &[Row], answer: &mut String) -> Result<()> {
+    match read_rows(alloc, rows, Offset::new(0)) {
+        Ok(reading) => push_read(&reading.parts(), answer),
+        Err(fault) => push_fault(&fault, answer),
+    }
+}
+
+fn tell_written(alloc: Global, rows: &[Row], answer: &mut String) -> Result<()> {
+    let setup = Setup {
+        ctl: qbatch(),
+        offset: Offset::new(0),
+    };
+    match open_rows(alloc, rows, &setup) {
+        Ok(opened) => push_changes(&opened.changes, answer),
+        Err(fault) => push_fault(&fault, answer),
+    }
+}
+
+fn push_fault(fault: &RestartFault, answer: &mut String) -> Result<()> {
+    match fault {
+        RestartFault::BadRow(n) => Ok(writeln!(answer, "BAD {n}")?),
+        RestartFault::NoMemory => bail!("out of memory"),
+    }
+}
+
+fn push_changes(changes: &[RowChange], answer: &mut String) -> Result<()> {
+    for change in changes {
+        push_change(change, answer)?;
+    }
+    writeln!(answer, "{} rows", changes.len())?;
+    Ok(())
+}
+
+fn push_change(change: &RowChange, answer: &mut String) -> Result<()> {
+    match change {
+        RowChange::Put(row) => Ok(writeln!(answer, "{}|{}|{}", row.tab, row.key, row.body)?),
+        RowChange::Del(tab, key) => bail!("a row is deleted: {tab}|{key}"),
     }
 }
 
