@@ -46,7 +46,7 @@ impl Subject for RestartCases {
             return Ok(());
         }
         match question {
-            "open" if !self.rows.is_empty() => tell_read(self.alloc, &self.rows, answer),
+            "open" => tell_read(self.alloc, &self.rows, answer),
             "write" => tell_written(self.alloc, &self.rows, answer),
             _ => bail!("no question: {question}"),
         }
@@ -54,6 +54,9 @@ impl Subject for RestartCases {
 }
 
 fn tell_read(alloc: Global, rows: &[Row], answer: &mut String) -> Result<()> {
+    if rows.is_empty() {
+        bail!("no rows");
+    }
     match read_rows(alloc, rows, Offset::new(0)) {
         Ok(reading) => push_read(&reading.parts(), answer),
         Err(fault) => push_fault(&fault, answer),
