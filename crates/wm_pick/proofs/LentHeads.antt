@@ -1,5 +1,5 @@
 -- The head by the jobs that wait is the head by the jobs, and what is lent is orderly.
-use Rattle.std.proofs.Common.{◌≡◌, ◌⊎◌, ℕ, suc, ◌≤◌, ◌==◌, ◌&&◌, not, Bool, true, false, cond, List, [], ◌∷◌, Contains, Option, Some, None, filter, fold, nat_le, nat_lt, option_map, refl, sym, ap, subst, ◌∙◌, inl, inr, arith}
+use Rattle.std.proofs.Common.{◌≡◌, ◌⊎◌, ℕ, suc, ◌≤◌, ◌==◌, ◌&&◌, not, Bool, true, false, cond, List, [], ◌∷◌, Contains, Option, Some, None, MatchOption, filter, fold, nat_le, nat_lt, option_map, refl, sym, ap, subst, ◌∙◌, inl, inr, arith}
 use Rattle.std.specs.List.{cons_option}
 use Rattle.std.specs.Ordering.{nat_cmp}
 use Rattle.wm_base.specs.declared.qname.QName.{QName}
@@ -15,9 +15,11 @@ use Rattle.wm_law.proofs.Named.{one_name, own_name}
 use Rattle.wm_law.proofs.Tests.{of_four}
 use Rattle.wm_tally.specs.Tally.{Counts}
 use Rattle.wm_waiting.specs.declared.waiter.Waiter.{Waiter}
+use Rattle.wm_waiting.specs.NextHeads as next
 use Rattle.wm_waiting.specs.Waiting as waits
 use Rattle.wm_waiting.specs.Waiting.{Waiting}
 use Rattle.wm_pick.specs.Heads.{IsOrderly, head_of, is_on, is_turn, nearer, queues_of}
+use Rattle.wm_pick.specs.NextHeads.{HasNoHead, IsNextHead}
 use Rattle.wm_pick.specs.Parts.{IsLent, waiter_on, waiter_of, waiters}
 use Rattle.wm_pick.proofs.ByHeads.{is_head}
 
@@ -105,10 +107,6 @@ by_waiting s queue pty waiting tally lent free =
 lent_still : (t s : State) (waiting : Waiting) (tally : Counts) → t ≡ s → IsLent t.jobs t.clock waiting tally → IsLent s.jobs s.clock waiting tally
 lent_still t s waiting tally same lent = subst (λ (x : State). IsLent x.jobs x.clock waiting tally) same lent
 
--- so is the answer of a look at it
-pub head_by_waiting : (t s : State) (queue : QName) (pty : ℕ) (waiting : Waiting) (tally : Counts) (o : Option Waiter) (held : Bool) → t ≡ s → IsLent t.jobs t.clock waiting tally → held ≡ is_held s queue → held ≡ false → o ≡ waits.head_of queue pty waiting.clock waiting.items → o ≡ option_map (waiter_on queue) (head_of s queue pty)
-head_by_waiting t s queue pty waiting tally o held same lent is free e = e ∙ by_waiting s queue pty waiting tally (lent_still t s waiting tally same lent) (sym is ∙ free)
-
 held_by_head : (s : State) (queue : QName) (pty : ℕ) (o : Option Job) → is_held s queue ≡ true → head_of s queue pty ≡ o → o ≡ None
 held_by_head s queue pty None held e = refl
 held_by_head s queue pty (Some j) held e =
@@ -119,8 +117,24 @@ held_by_head s queue pty (Some j) held e =
     absurd (cc)
 
 -- a queue that is held has no head
-pub no_head_held : (s : State) (queue : QName) (pty : ℕ) (held : Bool) → held ≡ is_held s queue → held ≡ true → None ≡ option_map (waiter_on queue) (head_of s queue pty)
-no_head_held s queue pty held is e = sym (ap (option_map (waiter_on queue)) (held_by_head s queue pty (head_of s queue pty) (sym is ∙ e) refl))
+pub no_heads_held : (s : State) (queue : QName) (pty : ℕ) (held : Bool) → held ≡ is_held s queue → held ≡ true → HasNoHead s queue pty
+no_heads_held s queue pty held is e p le = held_by_head s queue p (head_of s queue p) (sym is ∙ e) refl
+
+unmapped : (queue : QName) (o : Option Job) → option_map (waiter_on queue) o ≡ None → o ≡ None
+unmapped queue None e = refl
+unmapped queue (Some j) e = absurd (cc e)
+
+module _ (s : State) (queue : QName) (waiting : Waiting) (tally : Counts) (lent : IsLent s.jobs s.clock waiting tally) (free : is_held s queue ≡ false) where
+  lacks : (p : ℕ) → waits.head_of queue p waiting.clock waiting.items ≡ None → head_of s queue p ≡ None
+  lacks p none = unmapped queue (head_of s queue p) (sym (by_waiting s queue p waiting tally lent free) ∙ none)
+
+  next_by_waiting : (pty : ℕ) (o : Option Waiter) → MatchOption o (next.HasNoHead queue pty waiting.clock waiting.items) (next.IsNextHead queue pty waiting.clock waiting.items) → MatchOption o (HasNoHead s queue pty) (IsNextHead s queue pty)
+  next_by_waiting pty None h = λ p le. lacks p (h p le)
+  next_by_waiting pty (Some w) h = record { from = h.from; head = sym h.head ∙ by_waiting s queue w.pty waiting tally lent free; first = λ p le less. lacks p (h.first p le less) }
+
+-- the next head by the jobs that wait is the next head by the jobs
+pub next_head_by_waiting : (t s : State) (queue : QName) (pty : ℕ) (waiting : Waiting) (tally : Counts) (o : Option Waiter) (held : Bool) → t ≡ s → IsLent t.jobs t.clock waiting tally → held ≡ is_held s queue → held ≡ false → MatchOption o (next.HasNoHead queue pty waiting.clock waiting.items) (next.IsNextHead queue pty waiting.clock waiting.items) → MatchOption o (HasNoHead s queue pty) (IsNextHead s queue pty)
+next_head_by_waiting t s queue pty waiting tally o held same lent is free h = next_by_waiting s queue waiting tally (lent_still t s waiting tally same lent) (sym is ∙ free) pty o h
 
 in_behind : (w v : Waiter) (ws : List Waiter) → Contains ws w → Contains (v ∷ ws) w
 in_behind w v ws c = (suc c.0, omega (arith, c.1), c.2)

@@ -3,4 +3,5 @@ pub mod Extended
 pub mod FirstGiven
 pub mod LentHeads
 pub mod Nearest
+pub mod Skipped
 pub mod TalliedJobs

@@ -73,6 +73,7 @@ fn candidate_waiting(sbs: &QName, entry: &QueueEntry, waiter: &Waiter) -> Candid
 impl<'a> Parts<'a> {
     ghost use Rattle.std.specs.Prelude.{◌≡◌, ◌+◌, ◌*◌, ◌≤◌, length, option_copied};
     ghost use Rattle.wm_law.specs.Choice.{has_entry, holder, first, next};
+    ghost use Rattle.wm_pick.specs.NextHeads.{IsHead};
     ghost use Rattle.wm_pick.specs.Heads.{started_named, takes_jobs, is_held_by, is_open, head_at, entry_head, open_head, first_head, first_by_heads, queues_of, IsOrderly};
 
     fn has_entry(&self, queue: &QName, sbs: &Sbs) -> bool
@@ -137,25 +138,21 @@ impl<'a> Parts<'a> {
                 .admits(self.count_from_queue(sbs, &entry.jobq) as usize)
     }
 
-    fn head_at<L: Ledger>(
-        &self,
-        sbs: &QName,
-        entry: &QueueEntry,
-        pty: Priority,
-        steps: &mut Steps<L>,
-    ) -> Option<Candidate>
-        ensures head { result ≡ head_at self.now sbs.now entry.now pty }
-        ensures looks { steps.new ≤ steps.old + 1 }
+    // What the head of a priority is as a candidate of an entry, where the count of that priority is below its limit.
+    fn head_at(&self, sbs: &QName, entry: &QueueEntry, waiter: &Waiter) -> Option<Candidate>
+        requires { IsHead self.now entry.now.jobq waiter.now }
+        ensures { result ≡ head_at self.now sbs.now entry.now waiter.now.pty }
     {
+        let pty = waiter.pty;
         let count = self.count_from_priority(sbs, &entry.jobq, pty) as usize;
         if !maxpty_of(entry, pty).admits(count) {
             return None;
         }
-        let waiter = self.head(&entry.jobq, pty, steps)?;
-        Some(candidate_waiting(sbs, entry, &waiter))
+        Some(candidate_waiting(sbs, entry, waiter))
     }
 
-    // The head of an entry: that of the first priority that is below its limit and has one.
+    // The head of an entry: that of the first priority that is below its limit and has one. A priority without a head isn't
+    // looked at.
     fn entry_head<L: Ledger>(
         &self,
         sbs: &QName,
@@ -165,11 +162,17 @@ impl<'a> Parts<'a> {
         ensures head { result ≡ entry_head self.now sbs.now entry.now }
         ensures looks { steps.new ≤ steps.old + 9 }
     {
-        for pty in 1..10 {
-            let head = self.head_at(sbs, entry, Priority::new(pty), steps);
+        let mut pty = 1;
+        while pty < 10 {
+            let Some(waiter) = self.next_head(&entry.jobq, Priority::new(pty), steps) else {
+                return None;
+            };
+            let at = waiter.pty.get();
+            let head = self.head_at(sbs, entry, &waiter);
             if head.is_some() {
                 return head;
             }
+            pty = at + 1;
         }
         None
     }

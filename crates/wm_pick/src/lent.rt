@@ -1,5 +1,5 @@
 // The lending of a state's parts, and what is read of them by the jobs that wait and by the tally.
-ghost use Rattle.std.specs.Prelude.{◌≡◌, ◌+◌, ◌≤◌, option_map};
+ghost use Rattle.std.specs.Prelude.{◌≡◌, ◌+◌, ◌≤◌, MatchOption};
 ghost use Rattle.wm_waiting.specs.declared.waiter.Waiter.{Waiter};
 
 use crate::Parts;
@@ -13,8 +13,8 @@ use wm_waiting::{Waiter, WaitingJobs};
 impl<'a> Parts<'a> {
     ghost use Rattle.wm_law.specs.Choice.{is_held};
     ghost use Rattle.wm_law.specs.Counts.{count_in_sbs, count_from_queue, count_from_priority, count_by_route};
-    ghost use Rattle.wm_pick.specs.Heads.{head_of};
-    ghost use Rattle.wm_pick.specs.Parts.{with_parts, waiters, waiter_on};
+    ghost use Rattle.wm_pick.specs.NextHeads.{HasNoHead, IsNextHead};
+    ghost use Rattle.wm_pick.specs.Parts.{with_parts, waiters};
     ghost use Rattle.wm_pick.specs.Tallied.{hows};
     ghost use Rattle.wm_tally.specs.Tally.{IsTally};
 
@@ -80,19 +80,19 @@ impl<'a> Parts<'a> {
         self.held.contains(queue)
     }
 
-    // The head of a queue and priority, by one look.
-    pub(crate) fn head<L: Ledger>(
+    // The head of the first priority of a queue that has one, from a priority on, by one look.
+    pub(crate) fn next_head<L: Ledger>(
         &self,
         queue: &QName,
         pty: Priority,
         steps: &mut Steps<L>,
     ) -> Option<Waiter>
-        ensures head { result ≡ option_map (waiter_on queue.now) (head_of self.now queue.now pty) }
+        ensures head { MatchOption result (HasNoHead self.now queue.now pty) (IsNextHead self.now queue.now pty) }
         ensures looks { steps.new ≤ steps.old + 1 }
     {
         if self.is_held(queue) {
             return None;
         }
-        self.waiting.head(queue, pty, steps)
+        self.waiting.next_head(queue, pty, steps)
     }
 }

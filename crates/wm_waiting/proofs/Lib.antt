@@ -6,6 +6,7 @@ pub mod Lines
 pub mod Marks
 pub mod Members
 pub mod Moves
+pub mod NextHeads
 pub mod Orders
 pub mod Rows
 pub mod Turned

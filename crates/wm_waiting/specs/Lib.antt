@@ -2,6 +2,7 @@ pub mod Bringing
 pub mod Index
 pub mod Keys
 pub mod Moving
+pub mod NextHeads
 pub mod Orders
 pub mod Turning
 pub mod Waiting

@@ -17,7 +17,7 @@ use wm_ordered::Ordered;
 pub struct WaitingJobs {
     all: Ordered<Serial, Waiter>,
     // Those that aren't held and are due by the clock.
-    turns: Ordered<Spot, Serial>,
+    pub(crate) turns: Ordered<Spot, Serial>,
     // Those that are due above the clock, held or not.
     early: Ordered<Rise, ()>,
     // All of them.
@@ -199,7 +199,7 @@ impl WaitingJobs {
     }
 
     // The job of a serial.
-    fn waiter(&self, serial: Serial) -> Option<Waiter>
+    pub(crate) fn waiter(&self, serial: Serial) -> Option<Waiter>
         ensures { result ≡ with_key serial_of nat_eq serial self.now.items }
     {
         self.all.get(&serial)
