@@ -137,8 +137,7 @@ module _ (queue : QName) (pty clock : ℕ) (items : List Waiter) (rows : List (S
     -- what was found is the next head
     pub next_head-found : same_qname q.0.jobq queue ≡ true → (w : Waiter) × (with_key serial_of nat_eq q.1 items ≡ Some w) × IsNextHead queue pty clock items w
     next_head-found on =
-        let s = index.sound q (find-Some from rows q found).0 in
-        (
+        let s = index.sound q (find-Some from rows q found).0 in (
           s.0,
           ap (λ (p : Spot × ℕ). with_key serial_of nat_eq p.1 items) s.1 ∙ found-there items serials s.0 s.3,
           here places s.0 s.3 s.2 (found ∙ ap Some s.1) (ap (λ (p : Spot × ℕ). same_qname p.0.jobq queue) (sym s.1) ∙ on),

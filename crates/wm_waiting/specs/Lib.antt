@@ -4,6 +4,7 @@ pub mod Keys
 pub mod Moving
 pub mod NextHeads
 pub mod Orders
+pub mod SpotOrder
 pub mod Turning
 pub mod Waiting
 pub mod WaitingInside
