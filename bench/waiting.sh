@@ -15,9 +15,12 @@ before=$(mktemp)
 script=$(mktemp)
 trap 'rm -f "$before" "$script"' EXIT
 
-# lines COUNT TEXT: the text so many times, with the number of the line in place of #
+# lines COUNT TEXT: the text so many times, with the number of the line in place of #, in five digits, so that a line is as
+# long whatever its number
 lines() {
-  awk -v count="$1" -v text="$2" 'BEGIN { for (n = 1; n <= count; n++) { line = text; gsub(/#/, n, line); print line } }'
+  awk -v count="$1" -v text="$2" 'BEGIN {
+    for (n = 1; n <= count; n++) { line = text; gsub(/#/, sprintf("%05d", n), line); print line }
+  }'
 }
 
 # submits COUNT: a queue, and so many held jobs on it
@@ -71,7 +74,7 @@ measure() {
 printf '%-22s %8s %14s\n' case jobs 'processor us'
 for count in 100 1000 10000; do
   submits "$count" >"$before"
-  rounds "$count" 'RLSJOB #/QUSER/J#' 'HLDJOB #/QUSER/J#' | measure 'a line, in full' "$count" 20000
+  rounds "$count" 'RLSJOB 0#/QUSER/J#' 'HLDJOB 0#/QUSER/J#' | measure 'a line, in full' "$count" 20000
   rounds "$count" 'RLSJOB J#' 'HLDJOB J#' | measure 'a line, by name' "$count" 20000
   rounds "$count" 'CHGJOB J# JOBPTY(1)' 'CHGJOB J# JOBPTY(5)' | measure 'a line, change' "$count" 20000
 done
