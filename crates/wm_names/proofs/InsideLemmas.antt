@@ -6,7 +6,7 @@ use Rattle.wm_law.specs.declared.command.JobRef.TheVariants.{Simple, ByUser, Ful
 use Rattle.wm_law.specs.declared.job.Job.{Job}
 use Rattle.wm_names.specs.declared.keys.FullName.{FullName}
 use Rattle.wm_names.specs.declared.namesakes.Namesakes.{Namesakes}
-use Rattle.wm_names.specs.FullNames.{serial_of, is_of, AreInOrder}
+use Rattle.wm_names.specs.FullNames.{serial_of, is_of, is_row, AreInOrder}
 use Rattle.wm_names.specs.Namesakes.{nobody, namesakes_among, HaveJobs}
 use Rattle.wm_names.specs.Names.{Names, IsNames, same_by_user, same_simple, namesakes_of}
 use Rattle.wm_names.specs.NamesInside.{HasPlaces, IsNamesInside}
@@ -31,7 +31,7 @@ same-rows old new full by_user simple places inside = record {
 
 -- they are the names of the same jobs
 pub same-names : (old new : Names) → new.rows.full ≡ old.rows.full → FindSame same_by_user old.rows.by_user new.rows.by_user → FindSame same_simple old.rows.simple new.rows.simple → (jobs : List Job) → IsNames jobs old → IsNames jobs new
-same-names old new full by_user simple jobs are = record { serials = are.serials; rows = λ r. row r ∙ are.rows r }
+same-names old new full by_user simple jobs are = record { serials = are.serials; rows = λ r. row r ∙ are.rows r; each = λ x. ap (λ (rows : List FullName). count_by (is_row x) rows) full ∙ are.each x }
   where
     row : (r : JobRef) → namesakes_of r new.rows ≡ namesakes_of r old.rows
     row (Simple name) = ap (λ o. unwrap_or o nobody) (simple (record { name = name }))

@@ -1,10 +1,10 @@
 -- How many of some jobs, or of some rows of jobs, pass a test, and the sum of their serials.
-use Rattle.std.proofs.Common.{◌≡◌, ℕ, zero, suc, ◌+◌, ◌-◌, ◌%◌, ◌^◌, ◌<◌, ◌≤◌, Bool, true, false, cond, List, [], ◌∷◌, ◌++◌, length, take, drop, get_or, All, sum_by, filter, count_by, Ok, Err, refl, ap, sym, ◌∙◌, subst, arith}
+use Rattle.std.proofs.Common.{◌≡◌, ℕ, zero, suc, ◌+◌, ◌-◌, ◌%◌, ◌^◌, ◌<◌, ◌≤◌, Bool, true, false, cond, List, [], ◌∷◌, ◌++◌, length, take, drop, get_or, All, sum_by, filter, count_by, Some, Ok, Err, refl, ap, sym, ◌∙◌, subst, arith}
 use Rattle.std.proofs.Math.Nat.{mod-add-mod, add-mod_right, mod-eq_of_lt, mod-lt}
 use Rattle.std.proofs.Math.Seq.{split_at}
-use Rattle.std.specs.List.{insert}
+use Rattle.std.specs.List.{insert, remove}
 use Rattle.std.proofs.lemmas.List.{take-append-drop}
-use Rattle.std.proofs.lemmas.List.Elements.{All-head, All-tail, All-cons, All-filter}
+use Rattle.std.proofs.lemmas.List.Elements.{All-head, All-tail, All-cons, All-pop, All-filter}
 use Rattle.std.proofs.lemmas.List.Sums.{sum_by-cons, length-filter, count_by-le-length}
 use Rattle.wm_base.specs.declared.refusal.Refusal.TheVariants.{Ambiguous, NoJob}
 use Rattle.wm_law.specs.declared.job.Job.{Job}
@@ -41,6 +41,11 @@ pub parted-joined : (b : Bool) (s : ℕ) (row : Namesakes) → s < 2 ^ 64 → ro
 parted-joined true s row lt below =
     pair (row.count + 1 - 1) (((row.serials + s) % 2 ^ 64 + (2 ^ 64 - s)) % 2 ^ 64) row.count row.serials (omega arith) (sum-back row.serials s (2 ^ 64) lt below)
 parted-joined false s row lt below = refl
+
+-- one that leaves isn't counted again
+pub parted-fewer : (b : Bool) (s : ℕ) (row : Namesakes) → (parted b s row).count ≤ row.count
+parted-fewer true s row = omega arith
+parted-fewer false s row = omega arith
 
 module _ {E : Type 0} (serial_of : E → ℕ) where
   abbrev pub IsSmall : E → Type 0
@@ -90,6 +95,13 @@ module _ {E : Type 0} (serial_of : E → ℕ) where
     total-parted before e behind lt =
         ap (λ (r : Namesakes). parted (p e) (serial_of e) r) (total-middle before e behind) ∙ parted-joined (p e) (serial_of e) (total (before ++ behind)) lt (total-below (before ++ behind))
 
+    pub total-pop : (xs : List E) (e : E) → IsSmall e → parted (p e) (serial_of e) (total (xs ++ e ∷ [])) ≡ total xs
+    total-pop xs e lt = ap (λ (r : Namesakes). parted (p e) (serial_of e) r) (total-push xs e) ∙ parted-joined (p e) (serial_of e) (total xs) lt (total-below xs)
+
+    -- one that fails the test is passed over
+    pub total-pass : (before : List E) (e : E) (behind : List E) → p e ≡ false → total (before ++ e ∷ behind) ≡ total (before ++ behind)
+    total-pass before e behind h = total-middle before e behind ∙ ap (λ (b : Bool). joined b (serial_of e) (total (before ++ behind))) h
+
     joined-none : (b : Bool) (s : ℕ) (row : Namesakes) → (joined b s row).count ≡ 0 → (row.count ≡ 0 → row.serials ≡ 0) → (joined b s row).serials ≡ 0
     joined-none true s row none h = absurd (omega (arith, none))
     joined-none false s row none h = h none
@@ -121,6 +133,12 @@ module _ {E : Type 0} (serial_of : E → ℕ) where
     -- one that is put in
     pub total-insert : (xs : List E) (i : ℕ) (e : E) → total (insert xs i e) ≡ joined (p e) (serial_of e) (total xs)
     total-insert xs i e = total-middle (take i xs) e (drop i xs) ∙ ap (λ (l : List E). joined (p e) (serial_of e) (total l)) (take-append-drop i xs)
+
+    -- one that is taken out
+    pub total-remove : (xs : List E) (i : ℕ) (e : E) → i < length xs → get_or xs i e ≡ e → IsSmall e → total (remove xs i) ≡ parted (p e) (serial_of e) (total xs)
+    total-remove xs i e in_range is lt =
+        let parts = split_at xs i e in_range ∙ ap (λ (x : E). take i xs ++ x ∷ drop (suc i) xs) is in
+        sym (ap (λ (ys : List E). parted (p e) (serial_of e) (total ys)) parts ∙ total-parted (take i xs) e (drop (suc i) xs) lt)
 
     -- no more than there are
     pub total-few : (xs : List E) → (total xs).count ≤ length xs
@@ -181,3 +199,6 @@ small-middle (i ∷ before) j behind small = small-middle before j behind (All-t
 pub small-push : (jobs : List Job) (j : Job) → IsSmall job_serial j → All (IsSmall job_serial) jobs → All (IsSmall job_serial) (jobs ++ j ∷ [])
 small-push [] j lt small = All-cons (IsSmall job_serial) j [] lt small
 small-push (i ∷ jobs) j lt small = All-cons (IsSmall job_serial) i (jobs ++ j ∷ []) (All-head (IsSmall job_serial) i jobs small) (small-push jobs j lt (All-tail (IsSmall job_serial) i jobs small))
+
+pub small-front : (jobs : List Job) (j : Job) → All (IsSmall job_serial) (jobs ++ j ∷ []) → All (IsSmall job_serial) jobs
+small-front jobs j small = (All-pop (IsSmall job_serial) (jobs ++ j ∷ []) jobs (Some j) refl small).0

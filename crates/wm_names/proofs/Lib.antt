@@ -1,3 +1,4 @@
+pub mod EachRow
 pub mod FullRows
 pub mod InsideLemmas
 pub mod JobLemmas

@@ -1,19 +1,21 @@
--- Of which jobs rows are the names when a job joins them or ends.
-use Rattle.std.proofs.Common.{◌≡◌, ℕ, ◌+◌, ◌^◌, ◌<◌, Bool, true, false, not, ◌&&◌, List, [], ◌∷◌, ◌++◌, length, filter, count_by, nat_eq, ap, sym, ◌∙◌, subst, arith}
+-- Of which jobs rows are the names when a job joins them, ends, joins them again or is forgotten.
+use Rattle.std.proofs.Common.{◌≡◌, ℕ, ◌+◌, ◌^◌, ◌<◌, Bool, true, false, cond, not, ◌&&◌, List, [], ◌∷◌, ◌++◌, length, filter, count_by, nat_eq, ap, sym, ◌∙◌, subst, arith}
 use Rattle.std.specs.Cmp.Lexicographic.{pointwise, nat_list_eq_equiv}
 use Rattle.wm_base.specs.declared.job.JobName.{JobName}
 use Rattle.wm_law.specs.declared.command.JobRef.{JobRef}
 use Rattle.wm_law.specs.declared.command.JobRef.TheVariants.{Simple, ByUser, Full}
 use Rattle.wm_law.specs.declared.job.Job.{Job}
 use Rattle.wm_law.specs.Named.{is_ended, is_named, has_name, has_user_name, only_one}
+use Rattle.wm_names.specs.declared.keys.FullName.{FullName}
 use Rattle.wm_names.specs.declared.keys.SimpleName.{SimpleName}
 use Rattle.wm_names.specs.declared.keys.UserName.{UserName}
 use Rattle.wm_names.specs.declared.namesakes.Namesakes.{Namesakes}
-use Rattle.wm_names.specs.FullNames.{serial_of, is_of, same_name}
+use Rattle.wm_names.specs.FullNames.{serial_of, is_of, is_row, same_name}
 use Rattle.wm_names.specs.Namesakes.{joined, parted, namesakes_at, namesakes_among, AreFew, IsAmong, only}
-use Rattle.wm_names.specs.Names.{Names, IsNames, same_simple, same_by_user, namesakes_of, serial_of_one}
+use Rattle.wm_names.specs.Names.{Names, IsNames, same_simple, same_by_user, namesakes_of, namesakes_in, has_row, serial_of_one}
 use Rattle.wm_names.specs.Refs.{simple_name_of, user_name_of}
-use Rattle.wm_names.proofs.JobLemmas.{job_serial, total, total-middle, total-push, total-parted, total-among, total-few, total-only, small-replaced, small-middle, small-push}
+use Rattle.wm_names.proofs.EachRow.{each-push, each-replaced}
+use Rattle.wm_names.proofs.JobLemmas.{job_serial, total-middle, total-push, total-pop, total-pass, total-parted, total-among, total-few, total-only, small-replaced, small-middle, small-push, small-front}
 
 -- rows of few jobs have room for one more
 module _ (names : Names) (jobs : List Job) (are : IsNames jobs names) where
@@ -61,15 +63,33 @@ module _ (j : Job) (lasts : is_ended j.phase ≡ false) where
     pub named_by_user : IsAmong j.serial (namesakes_at same_by_user (user_name_of j) names.rows.by_user)
     named_by_user = named (ByUser j.job.user j.job.name) by_user-named
 
+-- a job that has ended is named by its full name alone
+module _ (j : Job) (ended : is_ended j.phase ≡ true) where
+  unnamed_simple : (name : List ℕ) → is_named (Simple name) j ≡ false
+  unnamed_simple name = ap (λ (b : Bool). not b && has_name name j.job) ended
+
+  unnamed_by_user : (user name : List ℕ) → is_named (ByUser user name) j ≡ false
+  unnamed_by_user user name = ap (λ (b : Bool). not b && has_user_name user name j.job) ended
+
+-- full names have the same jobs where another of the same full name and serial stands in the place of one
+full-replaced : (before : List Job) (j k : Job) (behind : List Job) → k.serial ≡ j.serial → k.job ≡ j.job → (name : JobName) → namesakes_in (Full name) (before ++ j ∷ behind) ≡ namesakes_in (Full name) (before ++ k ∷ behind)
+full-replaced before j k behind serial job name =
+    let others : Namesakes = namesakes_in (Full name) (before ++ behind) in
+    total-middle job_serial (is_named (Full name)) before j behind
+    ∙ (ap (λ (s : ℕ). joined (same_name j.job name) s others) (sym serial)
+    ∙ (ap (λ (n : JobName). joined (same_name n name) k.serial others) (sym job) ∙ sym (total-middle job_serial (is_named (Full name)) before k behind)))
+
 module _ (old new : Names) (j : Job) where
   -- a job joins the rows of the references that name it
   pub added-names : ((job : JobName) → namesakes_among serial_of (is_of job) new.rows.full ≡ joined (same_name j.job job) j.serial (namesakes_among serial_of (is_of job) old.rows.full))
+      → ((x : FullName) → count_by (is_row x) new.rows.full ≡ count_by (is_row x) old.rows.full + cond (has_row x j) 1 0)
       → ((name : UserName) → namesakes_at same_by_user name new.rows.by_user ≡ joined (is_named (ByUser name.user name.name) j) j.serial (namesakes_at same_by_user name old.rows.by_user))
       → ((name : SimpleName) → namesakes_at same_simple name new.rows.simple ≡ joined (is_named (Simple name.name) j) j.serial (namesakes_at same_simple name old.rows.simple))
       → j.serial < 2 ^ 64 → (jobs : List Job) → IsNames jobs old → IsNames (jobs ++ j ∷ []) new
-  added-names full by_user simple small jobs are = record {
+  added-names full each by_user simple small jobs are = record {
     serials = small-push jobs j small are.serials;
     rows = λ r. row r ∙ (ap (λ (n : Namesakes). joined (is_named r j) j.serial n) (are.rows r) ∙ sym (total-push job_serial (is_named r) jobs j));
+    each = λ x. each x ∙ (ap (λ (n : ℕ). n + cond (has_row x j) 1 0) (are.each x) ∙ sym (each-push jobs j x));
   }
     where
       row : (r : JobRef) → namesakes_of r new.rows ≡ joined (is_named r j) j.serial (namesakes_of r old.rows)
@@ -77,32 +97,67 @@ module _ (old new : Names) (j : Job) where
       row (ByUser user name) = by_user (record { user = user; name = name })
       row (Full job) = full job
 
-  -- a job that ends leaves the rows of the references without its number
-  pub ended-names : new.rows.full ≡ old.rows.full
-      → ((name : UserName) → namesakes_at same_by_user name new.rows.by_user ≡ parted (is_named (ByUser name.user name.name) j) j.serial (namesakes_at same_by_user name old.rows.by_user))
-      → ((name : SimpleName) → namesakes_at same_simple name new.rows.simple ≡ parted (is_named (Simple name.name) j) j.serial (namesakes_at same_simple name old.rows.simple))
-      → (before behind : List Job) (ended : Job) → ended.serial ≡ j.serial → ended.job ≡ j.job → is_ended ended.phase ≡ true → IsNames (before ++ j ∷ behind) old → IsNames (before ++ ended ∷ behind) new
-  ended-names full by_user simple before behind ended serial job ends are = record {
-    serials = small-replaced before j ended behind serial are.serials;
-    rows = λ r. row r ∙ sym (total-middle job_serial (is_named r) before ended behind);
+  -- the last job, which has ended, leaves the rows of full names
+  pub forgotten-names : ((name : JobName) → namesakes_among serial_of (is_of name) new.rows.full ≡ parted (same_name j.job name) j.serial (namesakes_among serial_of (is_of name) old.rows.full))
+      → ((x : FullName) → count_by (is_row x) new.rows.full + cond (has_row x j) 1 0 ≡ count_by (is_row x) old.rows.full)
+      → new.rows.by_user ≡ old.rows.by_user → new.rows.simple ≡ old.rows.simple
+      → is_ended j.phase ≡ true → (jobs : List Job) → IsNames (jobs ++ j ∷ []) old → IsNames jobs new
+  forgotten-names full each by_user simple ended jobs are = record {
+    serials = small-front jobs j are.serials;
+    rows = row;
+    each = λ x. omega (arith, each x, are.each x, each-push jobs j x);
   }
     where
-      others : (r : JobRef) → Namesakes
-      others r = total job_serial (is_named r) (before ++ behind)
+      unnamed : (r : JobRef) → is_named r j ≡ false → namesakes_of r old.rows ≡ namesakes_in r jobs
+      unnamed r none = are.rows r ∙ (total-push job_serial (is_named r) jobs j ∙ ap (λ (b : Bool). joined b j.serial (namesakes_in r jobs)) none)
 
-      -- the rows are those of the others, where a reference doesn't name a job that has ended
-      open_row : (r : JobRef) → is_named r ended ≡ false → namesakes_of r new.rows ≡ parted (is_named r j) j.serial (namesakes_of r old.rows) → namesakes_of r new.rows ≡ joined (is_named r ended) ended.serial (others r)
-      open_row r none left =
-          left
-          ∙ (ap (λ (n : Namesakes). parted (is_named r j) j.serial n) (are.rows r)
-          ∙ (total-parted job_serial (is_named r) before j behind (small-middle before j behind are.serials) ∙ ap (λ (c : Bool). joined c ended.serial (others r)) (sym none)))
+      row : (r : JobRef) → namesakes_of r new.rows ≡ namesakes_in r jobs
+      row (Simple name) = ap (λ rows. namesakes_at same_simple (record { name = name }) rows) simple ∙ unnamed (Simple name) (unnamed_simple j ended name)
+      row (ByUser user name) = ap (λ rows. namesakes_at same_by_user (record { user = user; name = name }) rows) by_user ∙ unnamed (ByUser user name) (unnamed_by_user j ended user name)
+      row (Full name) =
+          full name
+          ∙ (ap (λ (n : Namesakes). parted (same_name j.job name) j.serial n) (are.rows (Full name)) ∙ total-pop job_serial (is_named (Full name)) jobs j (small-middle jobs j [] are.serials))
 
-      row : (r : JobRef) → namesakes_of r new.rows ≡ joined (is_named r ended) ended.serial (others r)
-      row (Simple name) = open_row (Simple name) (ap (λ (b : Bool). not b && has_name name ended.job) ends) (simple (record { name = name }))
-      row (ByUser user name) = open_row (ByUser user name) (ap (λ (b : Bool). not b && has_user_name user name ended.job) ends) (by_user (record { user = user; name = name }))
-      row (Full full_name) =
-          ap (λ rows. namesakes_among serial_of (is_of full_name) rows) full
-          ∙ (are.rows (Full full_name)
-          ∙ (total-middle job_serial (is_named (Full full_name)) before j behind
-          ∙ (ap (λ (s : ℕ). joined (is_named (Full full_name) j) s (others (Full full_name))) (sym serial)
-          ∙ ap (λ (name : JobName). joined (same_name name full_name) ended.serial (others (Full full_name))) (sym job))))
+  module _ (full : new.rows.full ≡ old.rows.full) (before behind : List Job) (ended : Job) (serial : ended.serial ≡ j.serial) (job : ended.job ≡ j.job) (ends : is_ended ended.phase ≡ true) where
+    -- a job that ends leaves the rows of the references without its number
+    pub ended-names : ((name : UserName) → namesakes_at same_by_user name new.rows.by_user ≡ parted (is_named (ByUser name.user name.name) j) j.serial (namesakes_at same_by_user name old.rows.by_user))
+        → ((name : SimpleName) → namesakes_at same_simple name new.rows.simple ≡ parted (is_named (Simple name.name) j) j.serial (namesakes_at same_simple name old.rows.simple))
+        → IsNames (before ++ j ∷ behind) old → IsNames (before ++ ended ∷ behind) new
+    ended-names by_user simple are = record {
+      serials = small-replaced before j ended behind serial are.serials;
+      rows = row;
+      each = λ x. ap (λ rows. count_by (is_row x) rows) full ∙ (are.each x ∙ each-replaced before j ended behind serial job x);
+    }
+      where
+        -- the rows are those of the others, where a reference doesn't name a job that has ended
+        open_row : (r : JobRef) → is_named r ended ≡ false → namesakes_of r new.rows ≡ parted (is_named r j) j.serial (namesakes_of r old.rows) → namesakes_of r new.rows ≡ namesakes_in r (before ++ ended ∷ behind)
+        open_row r none left =
+            left
+            ∙ (ap (λ (n : Namesakes). parted (is_named r j) j.serial n) (are.rows r)
+            ∙ (total-parted job_serial (is_named r) before j behind (small-middle before j behind are.serials) ∙ sym (total-pass job_serial (is_named r) before ended behind none)))
+
+        row : (r : JobRef) → namesakes_of r new.rows ≡ namesakes_in r (before ++ ended ∷ behind)
+        row (Simple name) = open_row (Simple name) (unnamed_simple ended ends name) (simple (record { name = name }))
+        row (ByUser user name) = open_row (ByUser user name) (unnamed_by_user ended ends user name) (by_user (record { user = user; name = name }))
+        row (Full name) = ap (λ rows. namesakes_among serial_of (is_of name) rows) full ∙ (are.rows (Full name) ∙ full-replaced before j ended behind serial job name)
+
+    -- a job that had ended joins the rows of the references without its number
+    pub rejoined-names : ((name : UserName) → namesakes_at same_by_user name new.rows.by_user ≡ joined (is_named (ByUser name.user name.name) j) j.serial (namesakes_at same_by_user name old.rows.by_user))
+        → ((name : SimpleName) → namesakes_at same_simple name new.rows.simple ≡ joined (is_named (Simple name.name) j) j.serial (namesakes_at same_simple name old.rows.simple))
+        → IsNames (before ++ ended ∷ behind) old → IsNames (before ++ j ∷ behind) new
+    rejoined-names by_user simple are = record {
+      serials = small-replaced before ended j behind (sym serial) are.serials;
+      rows = row;
+      each = λ x. ap (λ rows. count_by (is_row x) rows) full ∙ (are.each x ∙ each-replaced before ended j behind (sym serial) (sym job) x);
+    }
+      where
+        open_row : (r : JobRef) → is_named r ended ≡ false → namesakes_of r new.rows ≡ joined (is_named r j) j.serial (namesakes_of r old.rows) → namesakes_of r new.rows ≡ namesakes_in r (before ++ j ∷ behind)
+        open_row r none joins =
+            joins
+            ∙ (ap (λ (n : Namesakes). joined (is_named r j) j.serial n) (are.rows r ∙ total-pass job_serial (is_named r) before ended behind none)
+            ∙ sym (total-middle job_serial (is_named r) before j behind))
+
+        row : (r : JobRef) → namesakes_of r new.rows ≡ namesakes_in r (before ++ j ∷ behind)
+        row (Simple name) = open_row (Simple name) (unnamed_simple ended ends name) (simple (record { name = name }))
+        row (ByUser user name) = open_row (ByUser user name) (unnamed_by_user ended ends user name) (by_user (record { user = user; name = name }))
+        row (Full name) = ap (λ rows. namesakes_among serial_of (is_of name) rows) full ∙ (are.rows (Full name) ∙ full-replaced before ended j behind (sym serial) (sym job) name)

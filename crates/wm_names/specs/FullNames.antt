@@ -6,6 +6,7 @@ use Rattle.wm_base.specs.declared.job.JobName.{JobName}
 use Rattle.wm_base.specs.contracts.job.JobNameOrd.TheImpl as by_cmp
 use Rattle.wm_base.specs.contracts.job.JobNamePartialEq.TheImpl as by_eq
 use Rattle.wm_names.specs.declared.keys.FullName.{FullName}
+use Rattle.wm_names.specs.contracts.keys.FullNamePartialEq.TheImpl as row_by_eq
 
 -- how two full names stand to each other, as `cmp` answers
 abbrev pub name_cmp : JobName → JobName → Ordering
@@ -15,6 +16,10 @@ name_cmp = (by_cmp.ghosts).cmp
 abbrev pub same_name : JobName → JobName → Bool
 same_name = (by_eq.ghosts).eq
 
+-- whether two rows are one, as `==` answers
+abbrev pub same_row : FullName → FullName → Bool
+same_row = (row_by_eq.ghosts).eq
+
 -- the serial of a row
 abbrev pub serial_of : FullName → ℕ
 serial_of row = row.serial
@@ -22,6 +27,10 @@ serial_of row = row.serial
 -- whether a row is of a name
 abbrev pub is_of : JobName → FullName → Bool
 is_of job row = same_name row.job job
+
+-- whether a row is of the name and the serial of this one
+abbrev pub is_row : FullName → FullName → Bool
+is_row row other = same_row other row
 
 -- whether a row is of a name below this one
 abbrev pub is_below : JobName → FullName → Bool

@@ -1,5 +1,5 @@
 // Which jobs references name.
-use crate::full_names::{only, put};
+use crate::full_names::{only, put, row_of, take_out};
 use crate::keys::{FullName, SimpleName, UserName};
 use crate::namesakes::Namesakes;
 use crate::refs::{join_open, leave_open};
@@ -38,7 +38,7 @@ impl JobNames {
     ghost use Rattle.std.specs.Prelude.{◌≡◌, ◌+◌, ◌∷◌, ◌++◌, ◌≤◌, [], true, List, filter, OnOk, OnErr};
     ghost use Rattle.wm_law.specs.declared.job.Job.{Job};
     ghost use Rattle.wm_law.specs.Named.{is_ended, is_named, only_one};
-    ghost use Rattle.wm_names.specs.Names.{IsNames, HasFew, HasNamed, serial_of_one};
+    ghost use Rattle.wm_names.specs.Names.{IsNames, HasFew, HasNamed, HasLast, serial_of_one};
 
     /// The names of no job.
     pub fn new(alloc: Global) -> JobNames
@@ -77,13 +77,7 @@ impl JobNames {
         ensures names { (jobs : List Job) → IsNames jobs self.old → IsNames (jobs ++ job.now ∷ []) self.new }
         ensures spare { self.old.spare ≤ self.new.spare + 1 }
     {
-        // `get` tells the range.
-        job.serial.get();
-        let row = FullName {
-            job: job.job,
-            serial: job.serial,
-        };
-        put(&mut self.full, row);
+        put(&mut self.full, row_of(job));
         join_open(&mut self.by_user, &mut self.simple, job);
         self.room -= 1;
     }
@@ -95,6 +89,28 @@ impl JobNames {
         ensures spare { self.old.spare ≤ self.new.spare }
     {
         leave_open(&mut self.by_user, &mut self.simple, job);
+    }
+
+    /// A job that had ended comes to be one that hasn't, so a reference without its number names it again. `job` is what it
+    /// comes to be. It takes no memory.
+    pub fn rejoin(&mut self, job: &Job)
+        requires spare { 1 ≤ self.old.spare }
+        requires few { HasFew self.old }
+        ensures names { (before behind : List Job) (ended : Job) → ended.serial ≡ job.now.serial → ended.job ≡ job.now.job → is_ended ended.phase ≡ true → IsNames (before ++ ended ∷ behind) self.old → IsNames (before ++ job.now ∷ behind) self.new }
+        ensures spare { self.old.spare ≤ self.new.spare + 1 }
+    {
+        // The row of its full name has stayed.
+        join_open(&mut self.by_user, &mut self.simple, job);
+        self.room -= 1;
+    }
+
+    /// Forgets the last job of the list, which has ended. It takes no memory.
+    pub fn forget(&mut self, job: &Job)
+        requires { HasLast self.old job.now }
+        ensures names { (jobs : List Job) → IsNames (jobs ++ job.now ∷ []) self.old → IsNames jobs self.new }
+        ensures spare { self.old.spare ≤ self.new.spare }
+    {
+        take_out(&mut self.full, &row_of(job));
     }
 
     /// The serial of the one job that a reference names: none is NOJOB, several are AMBIGUOUS with their number.

@@ -22,7 +22,9 @@ invariant_of-self c =
     let old = subst (λ (n : Names). IsNames jobs n) (sym c.self.view_is) c.requires.few.are in
     let places = c.self.invariant.places in
     let new : Names = record { rows = record { full = c.put.new.rows.items; by_user = c.join_open.new.by_user.entries; simple = c.join_open.new.simple.entries }; spare = 0 } in
-    let are = added-names (names_of c.self.inside) new job c.put.ensures.rows c.join_open.ensures.by_user c.join_open.ensures.simple c.get.ensures.range jobs old in
+    let rows = rw c.row_of.ensures.value at c.put.ensures.rows in
+    let each = rw c.row_of.ensures.value at c.put.ensures.each in
+    let are = added-names (names_of c.self.inside) new job rows each c.join_open.ensures.by_user c.join_open.ensures.simple c.row_of.ensures.range jobs old in
     let few = c.requires.few.few in
     record {
       places = record {
@@ -39,4 +41,6 @@ invariant_of-self c =
 pub returns-clause-names : goal.returns-clause-names
 returns-clause-names c = λ jobs are.
     let old = subst (λ (n : Names). IsNames jobs n) (sym c.self.view_is) are in
-    added-names (names_of c.self.inside) _ c.args.job.now c.put.ensures.rows c.join_open.ensures.by_user c.join_open.ensures.simple c.get.ensures.range jobs old
+    let rows = rw c.row_of.ensures.value at c.put.ensures.rows in
+    let each = rw c.row_of.ensures.value at c.put.ensures.each in
+    added-names (names_of c.self.inside) _ c.args.job.now rows each c.join_open.ensures.by_user c.join_open.ensures.simple c.row_of.ensures.range jobs old

@@ -30,4 +30,4 @@ invariant_of-self c =
 pub returns-clause-names : goal.returns-clause-names
 returns-clause-names c = λ before behind ended serial name ends are.
     let old = subst (λ (n : Names). IsNames (before ++ c.args.job.now ∷ behind) n) (sym c.self.view_is) are in
-    ended-names (names_of c.self.inside) _ c.args.job.now refl c.leave_open.ensures.by_user c.leave_open.ensures.simple before behind ended serial name ends old
+    ended-names (names_of c.self.inside) _ c.args.job.now refl before behind ended serial name ends c.leave_open.ensures.by_user c.leave_open.ensures.simple old

@@ -1,5 +1,7 @@
-use Rattle.std.proofs.Common.{ap, refl, length, arith}
-use Rattle.wm_names.proofs.InsideLemmas.{same-rows}
+use Rattle.std.proofs.Common.{ap, refl, sym, subst, length, arith}
+use Rattle.wm_names.specs.Names.{Names, IsNames}
+use Rattle.wm_names.specs.NamesInside.{names_of}
+use Rattle.wm_names.proofs.InsideLemmas.{same-rows, same-names}
 use Rattle.wm_names.proofs.names.JobNames.reserve.Goals as goal
 
 pub invariant_of-self : goal.invariant_of-self
@@ -29,3 +31,13 @@ invariant_of-self-2 c =
     let s = c.in_ok-reserve-2.ensures in
     let t = c.in_ok-reserve-3.ensures in
     same-rows c.self.inside _ r.items s.entries.2 t.entries.2 (record { full = omega (arith, r.ok); by_user = s.ok; simple = t.ok }) c.self.invariant
+
+pub returns-in_err-reserve-3-clause-names : goal.returns-in_err-reserve-3-clause-names
+returns-in_err-reserve-3-clause-names c = λ jobs are.
+    let old = subst (λ (n : Names). IsNames jobs n) (sym c.self.view_is) are in
+    same-names (names_of c.self.inside) _ c.reserve.ensures.items c.reserve-2.ensures.entries.2 c.reserve-3.ensures.entries.2 jobs old
+
+pub returns-clause-names : goal.returns-clause-names
+returns-clause-names c = λ jobs are.
+    let old = subst (λ (n : Names). IsNames jobs n) (sym c.self.view_is) are in
+    same-names (names_of c.self.inside) _ c.in_ok-reserve.ensures.items c.in_ok-reserve-2.ensures.entries.2 c.in_ok-reserve-3.ensures.entries.2 jobs old
