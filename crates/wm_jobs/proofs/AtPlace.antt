@@ -1,5 +1,5 @@
 -- What a call finds and leaves in a table where the job of a serial stands.
-use Rattle.std.proofs.Common.{◌≡◌, ℕ, suc, ◌+◌, ◌<◌, ◌≤◌, true, false, not, ◌&&◌, ◌==◌, cond, List, [], ◌∷◌, ◌++◌, length, get_or, take, drop, map, Option, Some, IfSome, is_some, vec_capacity, refl, ap, sym, ◌∙◌, subst, arith, nat_eq, eq-eqb, All, Contains}
+use Rattle.std.proofs.Common.{◌≡◌, ℕ, suc, ◌+◌, ◌<◌, ◌≤◌, true, false, not, ◌&&◌, ◌==◌, cond, List, ◌∷◌, ◌++◌, length, get_or, take, drop, map, Option, Some, IfSome, is_some, vec_capacity, refl, ap, sym, ◌∙◌, subst, arith, nat_eq, eq-eqb, All, Contains}
 use Rattle.std.specs.List.{find}
 use Rattle.std.specs.Ordering.{nat_cmp}
 use Rattle.std.proofs.lemmas.List.{get_or-map, get_or_default}
@@ -25,9 +25,8 @@ use Rattle.wm_waiting.specs.Waiting.{Waiting}
 use Rattle.wm_waiting.specs.Waiting as waiting
 use Rattle.wm_waiting.proofs.Members.{Contains-head}
 use Rattle.wm_pick.specs.Parts.{waiter_of, waiters}
-use Rattle.wm_jobs.specs.declared.touched.Touched.{Touched}
 use Rattle.wm_jobs.specs.Indexed.{Starts, Ends, NamesInPhase}
-use Rattle.wm_jobs.specs.Marked.{standing_of, touched_of, standing_as, marked_by}
+use Rattle.wm_jobs.specs.Marked.{standing_of, touched_of, standing_as, restored}
 use Rattle.wm_jobs.specs.Renewed.{renewed, OwnsPlace}
 use Rattle.wm_jobs.specs.Table.{Table, serial_of}
 use Rattle.wm_jobs.specs.TableInside.{table_of, IsListed, AreListed, IsIndexed, HasRoom, HasNames, IsKept}
@@ -38,7 +37,7 @@ use Rattle.wm_jobs.proofs.NameParts.{names-alike}
 use Rattle.wm_jobs.proofs.Sifted.{picked-keys, picked-parts}
 use Rattle.wm_jobs.proofs.Waits.{if_waiting, one-waiting, map-waiting, Keeps, keeps-where, is-waiter, owns, renewed-listed, renewed-indexed, renewed-room}
 use Rattle.wm_jobs.proofs.Changes.{all-there, listed, launched-indexed, launched-fewer, launched-room, launch-spare, launch-new, some-waits, phased-indexed, phased-room, phased-active, phased-busy}
-use Rattle.wm_jobs.proofs.Undone.{back-where, serial-where, marked-changed}
+use Rattle.wm_jobs.proofs.Undone.{back-where, serial-where, first-back}
 
 length-same : {js ks : List Job} → js ≡ ks → length js ≡ length ks
 length-same e = ap length e
@@ -60,13 +59,13 @@ module _ (t : Inside) (h : IsKept t) (s at : ℕ) (x : Job) (js : List Job) (sam
   stands : IsAt serial_of nat_cmp s t.jobs.items at
   stands = subst (λ (ks : List Job). IsAt serial_of nat_cmp s ks at) same there
 
-  abbrev before : List Job
+  abbrev pub before : List Job
   before = take at t.jobs.items
 
-  abbrev behind : List Job
+  abbrev pub behind : List Job
   behind = drop (suc at) t.jobs.items
 
-  split : IsSplit serial_of s t.jobs.items before behind x
+  pub split : IsSplit serial_of s t.jobs.items before behind x
   split = subst (λ (y : Job). IsSplit serial_of s t.jobs.items before behind y) (sym is) (split-at serial_of s t.jobs.items at x stands)
 
   -- what is asked of the job of the serial holds of the one that stands there
@@ -109,20 +108,16 @@ module _ (t : Inside) (h : IsKept t) (s at : ℕ) (x : Job) (js : List Job) (sam
   pub ended-less : (cause : EndCause) → is_waiting x.phase ≡ true → (ws : List Waiter) → ws ≡ removed waiting.serial_of nat_eq s t.waiting.items → length ws + 1 ≡ length t.waiting.items
   ended-less cause waits ws we = one-less (record { phase = Ended cause; how = x.how }) waits refl ws we
 
-  -- a change that is noted leaves what was at the mark
-  module _ (us : List Touched) (ks : List Job) (noted : us ≡ t.touched.items ++ touched_of x ∷ []) where
-    newest : marked_by t.mark us ks ≡ marked_by t.mark (t.touched.items ++ touched_of x ∷ []) ks
-    newest = ap (λ vs. marked_by t.mark vs ks) noted
+  -- the first jobs are what they were once the change is undone
+  pub launched-first : (n : ℕ) (ks : List Job) (a : Launched) → ks ≡ map (launched_at s a) t.jobs.items → restored (touched_of x) (take n ks) ≡ take n t.jobs.items
+  launched-first n ks a jobs = first-back n s t.jobs.items ks before behind x (as_launched a) split refl refl jobs
 
-    pub launched-back : (a : Launched) → ks ≡ map (launched_at s a) t.jobs.items → marked_by t.mark us ks ≡ marked_by t.mark t.touched.items t.jobs.items
-    launched-back a jobs = newest ∙ marked-changed t.mark t.touched.items s t.jobs.items ks before behind x (as_launched a) split refl refl jobs
+  pub phased-first : (n : ℕ) (ks : List Job) (phase : Phase) → ks ≡ map (phased_at s phase) t.jobs.items → restored (touched_of x) (take n ks) ≡ take n t.jobs.items
+  phased-first n ks phase jobs = first-back n s t.jobs.items ks before behind x (in_phase phase) split refl refl jobs
 
-    pub phased-back : (phase : Phase) → ks ≡ map (phased_at s phase) t.jobs.items → marked_by t.mark us ks ≡ marked_by t.mark t.touched.items t.jobs.items
-    phased-back phase jobs = newest ∙ marked-changed t.mark t.touched.items s t.jobs.items ks before behind x (in_phase phase) split refl refl jobs
-
-    pub waiting-back : (change : Job → Job) → (change x).serial ≡ x.serial → standing_as (standing_of x) (change x) ≡ x → ks ≡ map (waiting_at s change) t.jobs.items → marked_by t.mark us ks ≡ marked_by t.mark t.touched.items t.jobs.items
-    waiting-back change serial back jobs =
-        newest ∙ marked-changed t.mark t.touched.items s t.jobs.items ks before behind x (if_waiting change) split (serial-where change x (is_waiting x.phase) serial) (back-where change x (is_waiting x.phase) back) (jobs ∙ map-waiting s change t.jobs.items)
+  pub waiting-first : (n : ℕ) (ks : List Job) (change : Job → Job) → (change x).serial ≡ x.serial → standing_as (standing_of x) (change x) ≡ x → ks ≡ map (waiting_at s change) t.jobs.items → restored (touched_of x) (take n ks) ≡ take n t.jobs.items
+  waiting-first n ks change serial back jobs =
+      first-back n s t.jobs.items ks before behind x (if_waiting change) split (serial-where change x (is_waiting x.phase) serial) (back-where change x (is_waiting x.phase) back) (jobs ∙ map-waiting s change t.jobs.items)
 
   -- a launch finds room, and no order of the serial
   pub launch-finds : is_waiting x.phase ≡ true → (1 ≤ t.tally.spare) × (1 ≤ t.starting.spare) × (has_key key_of nat_eq s t.starting.items ≡ false)

@@ -60,7 +60,7 @@ free-waiters p (j ∷ js) free = on (is_waiting j.phase) j.jobq free (free-waite
     on true (Some queue) none rest = All-cons (λ (w : Waiter). (w.place == p) ≡ false) (waiter_on queue j) (waiters js) (differs j.place p (λ e. none (inl (sym e)))) (rest (λ i. none (inr i)))
 
 -- the jobs before another have lesser serials
-behind-others : (l r : List Job) (j : Job) → IsSortedOnce serial_of nat_cmp (l ++ j ∷ r) → All (λ (k : Job). k.serial < j.serial) l
+pub behind-others : (l r : List Job) (j : Job) → IsSortedOnce serial_of nat_cmp (l ++ j ∷ r) → All (λ (k : Job). k.serial < j.serial) l
 behind-others [] r j sorted = All-nil (λ (k : Job). k.serial < j.serial)
 behind-others (k ∷ ks) r j sorted =
     All-cons (λ (i : Job). i.serial < j.serial) k ks

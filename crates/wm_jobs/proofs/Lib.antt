@@ -2,6 +2,7 @@ pub mod AtEnd
 pub mod AtLaunch
 pub mod AtPlace
 pub mod AtStored
+pub mod AtUndo
 pub mod Changes
 pub mod Cleared
 pub mod Counted
@@ -10,5 +11,7 @@ pub mod NameParts
 pub mod One
 pub mod Sifted
 pub mod Splits
+pub mod Stood
+pub mod Undoes
 pub mod Undone
 pub mod Waits

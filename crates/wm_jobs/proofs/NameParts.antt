@@ -14,6 +14,7 @@ use Rattle.wm_law.specs.Laws.{IsIn}
 use Rattle.wm_law.specs.Named.{is_ended, is_named, has_name, has_user_name, only_one}
 use Rattle.wm_names.specs.Namesakes.{joined}
 use Rattle.wm_names.specs.Names.{Names, IsNames, HasFew, serial_of_one}
+use Rattle.wm_names.proofs.EachRow.{each-replaced}
 use Rattle.wm_names.proofs.JobLemmas.{job_serial, total, total-middle, small-replaced}
 use Rattle.wm_jobs.specs.TableInside.{HasNames}
 
@@ -46,6 +47,7 @@ names-alike l r x y names serial job ended are = record {
       ∙ (total-middle job_serial (is_named ref) l x r
       ∙ (ap (λ b. joined b x.serial (total job_serial (is_named ref) (l ++ r))) (sym (same-named ref x y job ended))
       ∙ (ap (λ (n : ℕ). joined (is_named ref y) n (total job_serial (is_named ref) (l ++ r))) (sym serial) ∙ sym (total-middle job_serial (is_named ref) l y r))));
+  each = λ row. are.each row ∙ each-replaced l x y r serial job row;
 }
 
 -- one that comes into a list of names

@@ -58,13 +58,18 @@ module _ (s : ℕ) (x : Job) (here : x.serial ≡ s) (change : Job → Job) (ser
 abbrev with_jobs : Mark → List Job → Marked
 with_jobs m js = record { jobs = js; clock = m.clock; next_serial = m.next_serial; next_place = m.next_place }
 
+-- the first jobs are what they were once the newest change is undone
+pub first-back : (n s : ℕ) (js ks l r : List Job) (x : Job) (change : Job → Job) → IsSplit serial_of s js l r x → (change x).serial ≡ x.serial → standing_as (standing_of x) (change x) ≡ x → ks ≡ map (λ (j : Job). cond (nat_eq (serial_of j) s) (change j) j) js → restored (touched_of x) (take n ks) ≡ take n js
+first-back n s js ks l r x change split serial back is =
+    let f : Job → Job = λ j. cond (nat_eq (serial_of j) s) (change j) j in
+    let first : take n ks ≡ map f (take n js) = ap (take n) is ∙ take-map f n js in
+    ap (restored (touched_of x)) first ∙ all-back s x split.here change serial back (take n js) (All-take (λ (j : Job). j.serial ≡ s → j ≡ x) n js (only-there s js l r x split))
+
 module _ (m : Mark) (ts : List Touched) where
-  -- a job that is noted before it changes
-  pub marked-changed : (s : ℕ) (js ks l r : List Job) (x : Job) (change : Job → Job) → IsSplit serial_of s js l r x → (change x).serial ≡ x.serial → standing_as (standing_of x) (change x) ≡ x → ks ≡ map (λ (j : Job). cond (nat_eq (serial_of j) s) (change j) j) js → marked_by m (ts ++ touched_of x ∷ []) ks ≡ marked_by m ts js
-  marked-changed s js ks l r x change split serial back is =
-      let f : Job → Job = λ j. cond (nat_eq (serial_of j) s) (change j) j in
-      let first : take m.jobs ks ≡ map f (take m.jobs js) = ap (take m.jobs) is ∙ take-map f m.jobs js in
-      ap (with_jobs m) (undone-newest ts (touched_of x) (take m.jobs ks) ∙ ap (undone ts) (ap (restored (touched_of x)) first ∙ all-back s x split.here change serial back (take m.jobs js) (All-take (λ (j : Job). j.serial ≡ s → j ≡ x) m.jobs js (only-there s js l r x split))))
+  -- a change that is noted
+  pub marked-noted : (us : List Touched) (t : Touched) (js ks : List Job) → us ≡ ts ++ t ∷ [] → restored t (take m.jobs ks) ≡ take m.jobs js → marked_by m us ks ≡ marked_by m ts js
+  marked-noted us t js ks noted back =
+      ap (with_jobs m) (ap (λ vs. undone vs (take m.jobs ks)) noted ∙ (undone-newest ts t (take m.jobs ks) ∙ ap (undone ts) back))
 
   -- a job that comes behind the others
   pub marked-pushed : (js ks : List Job) (j : Job) → m.jobs ≤ length js → ks ≡ js ++ j ∷ [] → marked_by m ts ks ≡ marked_by m ts js
@@ -120,12 +125,13 @@ any-at q [] k d lt h = absurd (omega arith)
 any-at q (x ∷ xs) zero d lt h = or_left (q x) (list_any q xs) h
 any-at q (x ∷ xs) (suc k) d lt h = or_right (q x) (list_any q xs) (any-at q xs k d (omega arith) h)
 
+pub marked-length : (m : Mark) (ts : List Touched) (js : List Job) → m.jobs ≤ length js → length (undone ts (take m.jobs js)) ≡ m.jobs
+marked-length m ts js there = let len = length-take m.jobs js in length-undone ts (take m.jobs js) ∙ (omega arith)
+
 pub untouched-same : (m : Mark) (ts : List Touched) (js : List Job) → m.jobs ≤ length js → filter (is_untouched ts) (take (length (undone ts (take m.jobs js))) js) ≡ filter (is_untouched ts) (undone ts (take m.jobs js))
 untouched-same m ts js there =
     let p : ℕ → Bool = λ n. not (list_any (λ (t : Touched). n == t.serial) ts) in
-    let len = length-take m.jobs js in
-    let n : length (undone ts (take m.jobs js)) ≡ m.jobs = length-undone ts (take m.jobs js) ∙ (omega arith) in
-    ap (λ k. filter (is_untouched ts) (take k js)) n
+    ap (λ k. filter (is_untouched ts) (take k js)) (marked-length m ts js there)
     ∙ sym (undone-kept p ts (λ k d lt. not_from_true _ (any-at (λ (t : Touched). (get_or ts k d).serial == t.serial) ts k d lt (eq-eqb (get_or ts k d).serial (get_or ts k d).serial refl))) (take m.jobs js))
 
 -- what is noted takes the room of one that waits, or of a change

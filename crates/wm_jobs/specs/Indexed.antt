@@ -1,11 +1,14 @@
 -- What jobs are found and counted by.
-use Rattle.std.specs.Prelude.{◌≡◌, ℕ, Bool, true, false, List, ◌∷◌, ◌++◌, filter_map, Option, Some, None, if◌then◌else◌}
+use Rattle.std.specs.Prelude.{◌≡◌, ℕ, ◌≤◌, Bool, true, false, List, ◌∷◌, ◌++◌, filter_map, Option, Some, None, if◌then◌else◌}
 use Rattle.wm_base.specs.declared.job.How.{How}
 use Rattle.wm_law.specs.declared.job.Job.{Job}
 use Rattle.wm_law.specs.declared.job.Phase.{Phase}
 use Rattle.wm_law.specs.Counts.{is_starting}
+use Rattle.wm_law.specs.Named.{is_ended}
 use Rattle.wm_names.specs.Names.{Names, IsNames}
+use Rattle.wm_ordered.specs.Ordered.{Pairs}
 use Rattle.wm_tally.specs.Tally.{Counts, AddsHow, TakesHow}
+use Rattle.wm_waiting.specs.Waiting.{Waiting}
 
 -- a job that waits for a monitor, by its serial
 abbrev pub order_of : Job → Option (ℕ × Unit {0})
@@ -28,3 +31,18 @@ Ends false old new how = TakesHow old new how
 -- where a job comes into a phase, the names of the jobs come to be those of the jobs with it in that phase
 abbrev pub NamesInPhase : Phase → Names → Names → Job → Type 0
 NamesInPhase phase old new job = (before behind : List Job) (after : Job) → after.serial ≡ job.serial → after.job ≡ job.job → after.phase ≡ phase → IsNames (before ++ job ∷ behind) old → IsNames (before ++ after ∷ behind) new
+
+-- where a job has ended, the names come to be those of the jobs with it ended
+abbrev pub NamesEnded : Names → Names → Job → Type 0
+NamesEnded old new job = (before behind : List Job) (ended : Job) → ended.serial ≡ job.serial → ended.job ≡ job.job → is_ended ended.phase ≡ true → IsNames (before ++ job ∷ behind) old → IsNames (before ++ ended ∷ behind) new
+
+-- where a job had ended, the names come to be those of the jobs with it as it is
+abbrev pub NamesAgain : Names → Names → Job → Type 0
+NamesAgain old new job = (before behind : List Job) (ended : Job) → ended.serial ≡ job.serial → ended.job ≡ job.job → is_ended ended.phase ≡ true → IsNames (before ++ ended ∷ behind) old → IsNames (before ++ job ∷ behind) new
+
+-- each has room for so many jobs more, or for so many starts more
+pub record HasTaken (jobs starts : ℕ) (waiting : Waiting) (tally : Counts) (starting : Pairs ℕ (Unit {0})) (names : Names) : Type 0 where
+  pub to_wait : jobs ≤ waiting.spare
+  pub to_count : starts ≤ tally.spare
+  pub to_start : starts ≤ starting.spare
+  pub to_name : jobs ≤ names.spare

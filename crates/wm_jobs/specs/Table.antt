@@ -1,11 +1,12 @@
 -- What a contract sees of the table of jobs, and what is asked of it.
-use Rattle.std.specs.Prelude.{ℕ, Bool, not, ◌&&◌, nat_lt, List, count_by, fold, Option, None, if◌then◌else◌}
+use Rattle.std.specs.Prelude.{ℕ, ◌+◌, ◌≤◌, Bool, not, ◌&&◌, nat_lt, List, length, count_by, fold, Option, None, if◌then◌else◌}
 use Rattle.wm_law.specs.declared.job.Job.{Job}
 use Rattle.wm_law.specs.Counts.{is_waiting, is_starting, is_active}
 use Rattle.wm_law.specs.Pending.{is_prestart, sooner}
 use Rattle.wm_jobs.specs.Marked.{Marked}
+use Rattle.wm_jobs.specs.declared.touched.Touched.{Touched}
 
--- the jobs in the order of their serials, the moment up to which waiting jobs are due, the next serial and place, for how many more jobs there is room, for how many changes of a job beside launches and ends of those that wait, and what it was at the mark
+-- the jobs in the order of their serials, the moment up to which waiting jobs are due, the next serial and place, for how many more jobs there is room, for how many changes of a job beside launches and ends of those that wait, how many wait, what was noted since the mark, how much of that can be taken back for certain, and what it was at the mark
 pub record Table : Type 0 where
   pub jobs : List Job
   pub clock : ℕ
@@ -13,11 +14,18 @@ pub record Table : Type 0 where
   pub next_place : ℕ
   pub spare : ℕ
   pub changes : ℕ
+  pub waits : ℕ
+  pub touched : List Touched
+  pub undos : ℕ
   pub marked : Marked
 
 -- what the next mark keeps of it
 abbrev pub present : Table → Marked
 present t = record { jobs = t.jobs; clock = t.clock; next_serial = t.next_serial; next_place = t.next_place }
+
+-- what was noted can be taken back, and so can what launches, ends and changes note yet
+abbrev pub IsReady : Table → Type 0
+IsReady t = t.waits + t.spare + t.changes + length t.touched ≤ t.undos
 
 -- what jobs are sorted by
 abbrev pub serial_of : Job → ℕ

@@ -1,5 +1,5 @@
 -- What lies in a table of jobs.
-use Rattle.std.specs.Prelude.{◌≡◌, ℕ, ◌+◌, ◌^◌, ◌<◌, ◌≤◌, true, is_some, List, length, All, vec_capacity}
+use Rattle.std.specs.Prelude.{◌≡◌, ℕ, ◌+◌, ◌^◌, ◌<◌, ◌≤◌, true, is_some, List, [], ◌∷◌, length, take, All, vec_capacity}
 use Rattle.std.specs.Ordering.{nat_cmp}
 use Rattle.wm_desc.specs.Sorted.{IsSortedOnce}
 use Rattle.wm_law.specs.declared.job.Job.{Job}
@@ -7,13 +7,15 @@ use Rattle.wm_law.specs.Counts.{is_waiting}
 use Rattle.wm_names.specs.Names.{Names, IsNames}
 use Rattle.wm_ordered.specs.Ordered.{Pairs}
 use Rattle.wm_tally.specs.Tally.{Counts, IsTally}
-use Rattle.wm_waiting.specs.Waiting.{Waiting}
+use Rattle.wm_waiting.specs.Waiting.{Waiting, HavePlaces}
 use Rattle.wm_pick.specs.Parts.{waiters}
 use Rattle.wm_pick.specs.Tallied.{hows}
 use Rattle.wm_jobs.specs.Indexed.{orders}
-use Rattle.wm_jobs.specs.Marked.{marked_by}
+use Rattle.wm_jobs.specs.Marked.{undone, marked_by}
 use Rattle.wm_jobs.specs.Table.{Table, serial_of, active_in, busy_in}
 use Rattle.wm_jobs.specs.declared.table.JobTable.TheInside.{Inside}
+use Rattle.wm_jobs.specs.declared.touched.Mark.{Mark}
+use Rattle.wm_jobs.specs.declared.touched.Touched.{Touched}
 
 -- its serial and its place were given, and where it waits it does so on a queue
 pub record IsListed (next_serial next_place : ℕ) (j : Job) : Type 0 where
@@ -53,6 +55,29 @@ pub record IsMarked (marked jobs touched capacity waiting room changes : ℕ) : 
   pub there : marked ≤ jobs
   pub to_touch : touched + waiting + room + changes ≤ capacity
 
+-- there is room to take back so many of the changes that were noted, beside the room for more jobs and for launches
+pub record HasUndos (undos room : ℕ) (waiting : Waiting) (tally : Counts) (starting : Pairs ℕ (Unit {0})) (names : Names) : Type 0 where
+  pub to_wait : room + undos ≤ waiting.spare
+  pub to_count : length waiting.items + room + undos ≤ tally.spare
+  pub to_start : length waiting.items + room + undos ≤ starting.spare
+  pub to_name : room + undos ≤ names.spare
+
+-- jobs stand as a table lists them, and those that wait have places of their own
+pub record AreInPlace (next_serial next_place : ℕ) (jobs : List Job) : Type 0 where
+  pub listed : AreListed next_serial next_place jobs
+  pub places : HavePlaces (waiters jobs)
+
+-- they stand so, and stood so before each thing that was done to them, the newest last
+abbrev pub StoodInPlace : ℕ → ℕ → List Touched → List Job → Type 0
+StoodInPlace next_serial next_place [] jobs = AreInPlace next_serial next_place jobs
+StoodInPlace next_serial next_place (t ∷ ts) jobs = AreInPlace next_serial next_place (undone (t ∷ ts) jobs) × StoodInPlace next_serial next_place ts jobs
+
+-- the jobs of the mark stood in place ever since, at the mark with its numbers, and the clock hasn't gone back
+pub record IsUndoable (mark : Mark) (touched : List Touched) (jobs : List Job) (next_serial next_place now : ℕ) : Type 0 where
+  pub stood : StoodInPlace next_serial next_place touched (take mark.jobs jobs)
+  pub began : AreListed mark.next_serial mark.next_place (undone touched (take mark.jobs jobs))
+  pub clock : mark.clock ≤ now
+
 -- what a contract sees
 abbrev pub table_of : Inside → Table
 table_of t =
@@ -63,6 +88,9 @@ table_of t =
       next_place = t.next_place;
       spare = t.room;
       changes = t.changes;
+      waits = length t.waiting.items;
+      touched = t.touched.items;
+      undos = t.undos;
       marked = marked_by t.mark t.touched.items t.jobs.items;
     }
 
@@ -76,4 +104,6 @@ pub record IsKept (t : Inside) : Type 0 where
 -- what lies in it agrees
 pub record IsTableInside (t : Inside) : Type 0 where
   pub kept : IsKept t
+  pub undos : HasUndos t.undos t.room t.waiting t.tally t.starting t.names
+  pub undoable : IsUndoable t.mark t.touched.items t.jobs.items t.next_serial t.next_place t.waiting.clock
   pub marked : IsMarked t.mark.jobs (length t.jobs.items) (length t.touched.items) (vec_capacity t.touched) (length t.waiting.items) t.room t.changes

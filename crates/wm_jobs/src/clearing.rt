@@ -11,7 +11,7 @@ impl JobTable {
     ghost use Rattle.wm_waiting.specs.Waiting.{first_on};
     ghost use Rattle.wm_waiting.specs.Waiting.{serial_of as waiter_serial};
     ghost use Rattle.wm_pick.specs.Parts.{waiters};
-    ghost use Rattle.wm_jobs.specs.Table.{serial_of};
+    ghost use Rattle.wm_jobs.specs.Table.{serial_of, IsReady};
 
     /// Ends by CLEARED each job that waits on a queue, held ones too, and tells how many. It goes through those alone, and
     /// takes no memory.
@@ -23,6 +23,7 @@ impl JobTable {
         ensures next_place { self.new.next_place ≡ self.old.next_place }
         ensures spare { self.old.spare ≤ self.new.spare }
         ensures changes { self.new.changes ≡ self.old.changes }
+        ensures ready { IsReady self.old → IsReady self.new }
         ensures marked { self.new.marked ≡ self.old.marked }
     {
         let mut cleared = 0;

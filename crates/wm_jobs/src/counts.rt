@@ -1,19 +1,29 @@
 // What a job that starts or ends is to what it is counted by.
-ghost use Rattle.std.specs.Prelude.{◌≡◌, ◌+◌, ◌^◌, ◌<◌, ◌≤◌, false, not, nat_eq, if◌then◌else◌};
+ghost use Rattle.std.specs.Prelude.{◌≡◌, ◌+◌, ◌^◌, ◌<◌, ◌≤◌, true, false, not, nat_eq, if◌then◌else◌, List, [], ◌∷◌, ◌++◌, OnOk};
 ghost use Rattle.std.specs.Ordering.{nat_cmp};
-ghost use Rattle.wm_desc.specs.Sorted.{has_key, added};
+ghost use Rattle.wm_desc.specs.Sorted.{has_key, added, removed};
 ghost use Rattle.wm_law.specs.Counts.{is_starting, is_active};
 ghost use Rattle.wm_ordered.specs.Ordered.{key_of};
 ghost use Rattle.wm_tally.specs.Tally.{HasFew, HasStarted};
-ghost use Rattle.wm_names.specs.Names.{HasNamed};
-ghost use Rattle.wm_jobs.specs.Indexed.{Starts, Ends, NamesInPhase};
+ghost use Rattle.wm_law.specs.declared.job.Job.{Job};
+ghost use Rattle.wm_base.specs.declared.job.EndCause.TheVariants.{Restarted};
+ghost use Rattle.wm_law.specs.declared.job.Phase.TheVariants.{Ended};
+ghost use Rattle.wm_law.specs.Named.{is_ended};
+ghost use Rattle.wm_law.specs.Reports.{in_phase};
+ghost use Rattle.wm_names.specs.Names.{HasNamed, HasLast, IsNames};
+ghost use Rattle.wm_names.specs.Names as few;
+ghost use Rattle.wm_waiting.specs.Waiting.{serial_of as waiter_serial};
+ghost use Rattle.wm_pick.specs.Parts.{waiter_of};
+ghost use Rattle.wm_jobs.specs.Stored.{joined_by, IsOther};
+ghost use Rattle.wm_jobs.specs.Indexed.{Starts, Ends, NamesInPhase, NamesEnded, NamesAgain, HasTaken};
 
-use crate::phases::{is_active, is_ended, is_starting};
-use wm_base::{How, Serial};
+use crate::phases::{is_active, is_ended, is_starting, waiter_of};
+use wm_base::{EndCause, How, NoMemory, Serial};
 use wm_law::{Job, Phase};
 use wm_names::JobNames;
 use wm_ordered::Ordered;
 use wm_tally::Tally;
+use wm_waiting::WaitingJobs;
 
 /// Counts the how of a job that comes into a phase from Waiting.
 pub(crate) fn count_start(tally: &mut Tally, how: &How, phase: &Phase)
@@ -21,6 +31,7 @@ pub(crate) fn count_start(tally: &mut Tally, how: &How, phase: &Phase)
     requires few { HasFew tally.old }
     ensures hows { Starts (is_active phase.now) tally.old tally.new how.now }
     ensures spare { tally.old.spare ≤ tally.new.spare + 1 }
+    ensures kept { is_active phase.now ≡ false → tally.old.spare ≤ tally.new.spare }
 {
     if is_active(phase) {
         tally.start(how);
@@ -44,6 +55,7 @@ pub(crate) fn put_order(starting: &mut Ordered<Serial, ()>, serial: Serial, phas
     requires new { has_key key_of nat_eq serial starting.old.items ≡ false }
     ensures items { starting.new.items ≡ (if is_starting phase.now then added key_of nat_cmp (serial, tt) starting.old.items else starting.old.items) }
     ensures spare { starting.old.spare ≤ starting.new.spare + 1 }
+    ensures kept { is_starting phase.now ≡ false → starting.old.spare ≤ starting.new.spare }
 {
     if is_starting(phase) {
         starting.insert(serial, ());
@@ -75,4 +87,137 @@ pub(crate) fn fewer(count: usize, counted: bool) -> usize
     ensures { result + (if counted then 1 else 0) ≡ count }
 {
     if counted { count - 1 } else { count }
+}
+
+/// Makes room in what jobs are found and counted by: for so many jobs more, and for so many starts more. An `Err` is want of
+/// memory; none has less room then than it had.
+pub(crate) fn reserve_all(
+    waiting: &mut WaitingJobs,
+    tally: &mut Tally,
+    starting: &mut Ordered<Serial, ()>,
+    names: &mut JobNames,
+    jobs: u32,
+    starts: u32,
+) -> Result<(), NoMemory>
+    ensures ok { OnOk result (HasTaken jobs starts waiting.new tally.new starting.new names.new) }
+    ensures items { waiting.new.items ≡ waiting.old.items }
+    ensures clock { waiting.new.clock ≡ waiting.old.clock }
+    ensures counts { tally.new.counts ≡ tally.old.counts }
+    ensures orders { starting.new.items ≡ starting.old.items }
+    ensures names { (named : List Job) → IsNames named names.old → IsNames named names.new }
+    ensures waiting_spare { waiting.old.spare ≤ waiting.new.spare }
+    ensures tally_spare { tally.old.spare ≤ tally.new.spare }
+    ensures starting_spare { starting.old.spare ≤ starting.new.spare }
+    ensures names_spare { names.old.spare ≤ names.new.spare }
+{
+    waiting.reserve(jobs)?;
+    tally.reserve(starts)?;
+    starting.reserve(starts)?;
+    names.reserve(jobs)?;
+    Ok(())
+}
+
+/// Puts a job among those that wait, where it does.
+pub(crate) fn put_waiter(waiting: &mut WaitingJobs, job: &Job)
+    requires spare { 1 ≤ waiting.old.spare }
+    requires other { IsOther (waiter_of job.now) waiting.old.items }
+    ensures items { waiting.new.items ≡ joined_by (waiter_of job.now) waiting.old.items }
+    ensures clock { waiting.new.clock ≡ waiting.old.clock }
+    ensures spare { waiting.old.spare ≤ waiting.new.spare + 1 }
+{
+    if let Some(waiter) = waiter_of(job) {
+        waiting.insert(waiter);
+    }
+}
+
+// Counts a job no more, where it is active.
+fn count_out(tally: &mut Tally, job: &Job)
+    requires { is_active job.now.phase ≡ true → HasStarted tally.old job.now.how }
+    ensures hows { Ends (not (is_active job.now.phase)) tally.old tally.new job.now.how }
+    ensures spare { tally.old.spare ≤ tally.new.spare }
+{
+    if is_active(&job.phase) {
+        tally.end(&job.how);
+    }
+}
+
+// Takes a job out of the names that lack its number, where it hasn't ended.
+fn name_out(names: &mut JobNames, job: &Job)
+    requires { is_ended job.now.phase ≡ false → HasNamed names.old job.now }
+    ensures names { NamesEnded names.old names.new job.now }
+    ensures spare { names.old.spare ≤ names.new.spare }
+{
+    if !is_ended(&job.phase) {
+        names.end(job);
+    }
+}
+
+/// Takes a job out of what jobs are found and counted by, as if it had ended. It takes no memory.
+pub(crate) fn take_out(
+    waiting: &mut WaitingJobs,
+    tally: &mut Tally,
+    starting: &mut Ordered<Serial, ()>,
+    names: &mut JobNames,
+    job: &Job,
+)
+    requires counted { is_active job.now.phase ≡ true → HasStarted tally.old job.now.how }
+    requires named { is_ended job.now.phase ≡ false → HasNamed names.old job.now }
+    ensures items { waiting.new.items ≡ removed waiter_serial nat_eq job.now.serial waiting.old.items }
+    ensures clock { waiting.new.clock ≡ waiting.old.clock }
+    ensures hows { Ends (not (is_active job.now.phase)) tally.old tally.new job.now.how }
+    ensures orders { starting.new.items ≡ removed key_of nat_eq job.now.serial starting.old.items }
+    ensures names { NamesEnded names.old names.new job.now }
+    ensures waiting_spare { waiting.old.spare ≤ waiting.new.spare }
+    ensures tally_spare { tally.old.spare ≤ tally.new.spare }
+    ensures starting_spare { starting.old.spare ≤ starting.new.spare }
+    ensures names_spare { names.old.spare ≤ names.new.spare }
+{
+    waiting.remove(job.serial);
+    count_out(tally, job);
+    starting.remove(&job.serial);
+    name_out(names, job);
+}
+
+/// Puts a job that was taken out into what jobs are found and counted by. It takes no memory.
+pub(crate) fn put_in(
+    waiting: &mut WaitingJobs,
+    tally: &mut Tally,
+    starting: &mut Ordered<Serial, ()>,
+    names: &mut JobNames,
+    job: &Job,
+)
+    requires waiting_spare { 1 ≤ waiting.old.spare }
+    requires other { IsOther (waiter_of job.now) waiting.old.items }
+    requires tally_spare { 1 ≤ tally.old.spare }
+    requires few { HasFew tally.old }
+    requires starting_spare { 1 ≤ starting.old.spare }
+    requires new { has_key key_of nat_eq job.now.serial starting.old.items ≡ false }
+    requires names_spare { 1 ≤ names.old.spare }
+    requires few_names { few.HasFew names.old }
+    ensures items { waiting.new.items ≡ joined_by (waiter_of job.now) waiting.old.items }
+    ensures clock { waiting.new.clock ≡ waiting.old.clock }
+    ensures hows { Starts (is_active job.now.phase) tally.old tally.new job.now.how }
+    ensures orders { starting.new.items ≡ (if is_starting job.now.phase then added key_of nat_cmp (job.now.serial, tt) starting.old.items else starting.old.items) }
+    ensures names { NamesAgain names.old names.new job.now }
+    ensures waiting_spare { waiting.old.spare ≤ waiting.new.spare + 1 }
+    ensures tally_spare { tally.old.spare ≤ tally.new.spare + 1 }
+    ensures tally_kept { is_active job.now.phase ≡ false → tally.old.spare ≤ tally.new.spare }
+    ensures starting_spare { starting.old.spare ≤ starting.new.spare + 1 }
+    ensures starting_kept { is_starting job.now.phase ≡ false → starting.old.spare ≤ starting.new.spare }
+    ensures names_spare { names.old.spare ≤ names.new.spare + 1 }
+{
+    put_waiter(waiting, job);
+    count_start(tally, &job.how, &job.phase);
+    put_order(starting, job.serial, &job.phase);
+    names.rejoin(job);
+}
+
+/// Forgets the last job of the list that the names are of, as if it had ended.
+pub(crate) fn forget(names: &mut JobNames, mut job: Job)
+    requires { HasLast names.old (in_phase (Ended Restarted) job) }
+    ensures names { (jobs : List Job) → IsNames (jobs ++ in_phase (Ended Restarted) job ∷ []) names.old → IsNames jobs names.new }
+    ensures spare { names.old.spare ≤ names.new.spare }
+{
+    job.phase = Phase::Ended(EndCause::Restarted);
+    names.forget(&job);
 }

@@ -5,11 +5,11 @@
 //! keeps the jobs that wait, the tally of the active ones, those that wait for a monitor, the counts of these, and which of
 //! them a command names, so that no call goes through the jobs; `clear` goes through those alone that it ends. Room is taken
 //! by `reserve` alone. `stored` makes the table of the jobs that a store has, one after the other.
-//! A table also keeps what was done to its jobs since its mark: each call but `mark` leaves what it was then, and `touched`
-//! tells which jobs may have changed.
+//! A table also keeps what was done to its jobs since its mark: each call but `mark` leaves what it was then, `touched` tells
+//! which jobs may have changed and how they stood, and `take_back` makes of the table what it was, without memory.
 //! The definitions are in `specs/`: `Table` has what a contract sees, `Marked` what a table was at its mark, `Indexed` what
 //! jobs are found and counted by, `Renewed` what a change makes of those that wait, `Stored` what is asked of the jobs of a
-//! store, `TableInside` what lies in a table.
+//! store, `TableInside` what lies in a table, with how its jobs stood since the mark.
 #![tactic(auto)]
 
 mod clearing;
@@ -22,6 +22,7 @@ mod renewing;
 mod stored;
 mod table;
 mod touched;
+mod undoing;
 mod waiting;
 
 pub use table::JobTable;

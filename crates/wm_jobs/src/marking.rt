@@ -28,11 +28,11 @@ pub(crate) fn note(touched: &mut Vec<Touched>, job: &Job)
 }
 
 impl JobTable {
-    ghost use Rattle.std.specs.Prelude.{◌≡◌, length, take, filter};
-    ghost use Rattle.wm_jobs.specs.Marked.{is_untouched};
-    ghost use Rattle.wm_jobs.specs.Table.{present};
+    ghost use Rattle.std.specs.Prelude.{◌≡◌, ◌≤◌, length, take, filter};
+    ghost use Rattle.wm_jobs.specs.Marked.{undone, is_untouched};
+    ghost use Rattle.wm_jobs.specs.Table.{present, IsReady};
 
-    /// From here on changes can be taken back. What was changed before is kept as it is. It takes no memory.
+    /// From here on changes can be taken back (`take_back`). What was changed before is kept as it is. It takes no memory.
     pub fn mark(&mut self)
         ensures jobs { self.new.jobs ≡ self.old.jobs }
         ensures clock { self.new.clock ≡ self.old.clock }
@@ -40,8 +40,11 @@ impl JobTable {
         ensures next_place { self.new.next_place ≡ self.old.next_place }
         ensures spare { self.new.spare ≡ self.old.spare }
         ensures changes { self.new.changes ≡ self.old.changes }
+        ensures ready { IsReady self.old → IsReady self.new }
         ensures marked { self.new.marked ≡ present self.old }
     {
+        // `len` tells that places differ.
+        self.waiting.len();
         self.touched.clear();
         self.mark = Mark {
             jobs: self.jobs.len(),
@@ -53,14 +56,17 @@ impl JobTable {
 
     /// How many jobs there were at the mark. Those that came since stand behind them.
     pub fn marked_jobs(&self) -> usize
-        ensures { result ≡ length self.now.marked.jobs }
+        ensures count { result ≡ length self.now.marked.jobs }
+        ensures there { result ≤ length self.now.jobs }
     {
         self.mark.jobs
     }
 
-    /// What was touched since the mark. All other jobs from before are what they were then.
+    /// What was touched since the mark, the newest last. All other jobs from before are what they were then.
     pub fn touched(&self) -> &[Touched]
-        ensures { filter (is_untouched result.now) (take (length self.now.marked.jobs) self.now.jobs) ≡ filter (is_untouched result.now) self.now.marked.jobs }
+        ensures list { result.now ≡ self.now.touched }
+        ensures before { self.now.marked.jobs ≡ undone result.now (take (length self.now.marked.jobs) self.now.jobs) }
+        ensures others { filter (is_untouched result.now) (take (length self.now.marked.jobs) self.now.jobs) ≡ filter (is_untouched result.now) self.now.marked.jobs }
     {
         &self.touched
     }

@@ -5,12 +5,14 @@ ghost use Rattle.wm_desc.specs.Place.{IsAt, IsGap};
 ghost use Rattle.wm_desc.specs.Sorted.{IsSortedOnce};
 ghost use Rattle.wm_law.specs.Changing.{moved_to, with_due};
 ghost use Rattle.wm_law.specs.Holding.{with_held};
-ghost use Rattle.wm_law.specs.Jobs.{waiting_at};
+ghost use Rattle.wm_law.specs.Jobs.{changed_at, waiting_at};
 ghost use Rattle.wm_law.specs.Launch.{launched_at};
 ghost use Rattle.wm_law.specs.Reports.{phased_at};
+ghost use Rattle.wm_jobs.specs.Marked.{standing_as};
 ghost use Rattle.wm_jobs.specs.Table.{serial_of};
 
 use crate::phases::is_waiting;
+use crate::touched::Standing;
 use std::cmp::Ordering;
 use wm_base::{Moment, Serial};
 use wm_law::{Chgjob, Job, Launched, Phase};
@@ -118,4 +120,20 @@ pub(crate) fn move_at(
         job.place = place;
         job.due = due;
     }
+}
+
+/// Has the job of a serial, which stands there, stand as it did.
+pub(crate) fn stand_at(jobs: &mut Vec<Job>, at: usize, serial: Serial, was: &Standing)
+    requires { IsAt serial_of nat_cmp serial jobs.old.items at }
+    ensures jobs { jobs.new.items ≡ map (changed_at serial (standing_as was.now)) jobs.old.items }
+    ensures capacity { vec_capacity jobs.new ≡ vec_capacity jobs.old }
+{
+    let job = &mut jobs[at];
+    job.phase = was.phase;
+    job.how = was.how;
+    job.held = was.held;
+    job.due = was.due;
+    job.jobq = was.jobq;
+    job.pty = was.pty;
+    job.place = was.place;
 }

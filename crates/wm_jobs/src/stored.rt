@@ -1,27 +1,10 @@
 // A table of the jobs that a store has.
-ghost use Rattle.std.specs.Prelude.{◌≡◌, ◌+◌, ◌≤◌};
-ghost use Rattle.wm_pick.specs.Parts.{waiter_of};
-ghost use Rattle.wm_jobs.specs.Stored.{joined_by, IsOther};
 
 use crate::JobTable;
-use crate::phases::waiter_of;
+use crate::counts::put_waiter;
 use std::alloc::Global;
 use wm_base::NoMemory;
 use wm_law::Job;
-use wm_waiting::WaitingJobs;
-
-// Puts a job among those that wait, where it does.
-fn put_waiter(waiting: &mut WaitingJobs, job: &Job)
-    requires spare { 1 ≤ waiting.old.spare }
-    requires other { IsOther (waiter_of job.now) waiting.old.items }
-    ensures items { waiting.new.items ≡ joined_by (waiter_of job.now) waiting.old.items }
-    ensures clock { waiting.new.clock ≡ waiting.old.clock }
-    ensures spare { waiting.old.spare ≤ waiting.new.spare + 1 }
-{
-    if let Some(waiter) = waiter_of(job) {
-        waiting.insert(waiter);
-    }
-}
 
 impl JobTable {
     ghost use Rattle.std.specs.Prelude.{◌≡◌, ◌+◌, ◌∷◌, ◌++◌, ◌<◌, ◌≤◌, [], true, false, is_some, All, IfOk};

@@ -1,5 +1,5 @@
 // The job table.
-use crate::counts::{count_end, count_start, end_names, fewer, more, put_order};
+use crate::counts::{count_end, count_start, end_names, fewer, more, put_order, reserve_all};
 use crate::marking::note;
 use crate::phases::{counts_as_busy, is_active, waiter_of};
 use crate::places::{launch_at, phase_at, place};
@@ -14,24 +14,25 @@ use wm_tally::Tally;
 use wm_waiting::WaitingJobs;
 
 /// How many jobs a table takes at the most.
-const MOST: usize = 0xffff_fffd;
+const MOST: usize = 0x3fff_ffff;
 
 /// The jobs of the machine, with what they are found and counted by. A contract sees the jobs in the order of their serials,
 /// `clock`, the moment up to which waiting jobs are due, the serial and the place that the next job has, `spare`, for how many
-/// more jobs there is room, `changes`, for how many changes of a job beside launches and ends of those that wait, and `marked`,
-/// what it was at the mark.
+/// more jobs there is room, `changes`, for how many changes of a job beside launches and ends of those that wait, `touched`,
+/// what was noted since the mark, `undos`, how much of that can be taken back for certain, and `marked`, what it was at the
+/// mark.
 #[derive(Drop)]
 pub struct JobTable {
     pub(crate) jobs: Vec<Job>,
     pub(crate) waiting: WaitingJobs,
-    tally: Tally,
+    pub(crate) tally: Tally,
     // The Starting jobs.
-    starting: Ordered<Serial, ()>,
+    pub(crate) starting: Ordered<Serial, ()>,
     // Which of the jobs a command names.
     pub(crate) names: JobNames,
-    active: usize,
+    pub(crate) active: usize,
     // The active jobs that aren't prestart jobs.
-    busy: usize,
+    pub(crate) busy: usize,
     pub(crate) next_serial: u64,
     pub(crate) next_place: u64,
     // For how many more jobs each of these has room.
@@ -41,6 +42,8 @@ pub struct JobTable {
     pub(crate) mark: Mark,
     // For how many changes of a job there is room in what was touched, beside launches and ends of those that wait.
     pub(crate) changes: u32,
+    // How many of the changes that were noted there is room to take back.
+    pub(crate) undos: u32,
 }
 
 impl Model for JobTable {
@@ -65,7 +68,7 @@ impl JobTable {
     ghost use Rattle.wm_tally.specs.Tally.{IsTally};
     ghost use Rattle.wm_pick.specs.Parts.{waiters};
     ghost use Rattle.wm_pick.specs.Tallied.{hows};
-    ghost use Rattle.wm_jobs.specs.Table.{active_in, busy_in, starting_in, next_due_in, present};
+    ghost use Rattle.wm_jobs.specs.Table.{active_in, busy_in, starting_in, next_due_in, present, IsReady};
 
     /// No jobs; the clock is 0, and serials and places begin at 1.
     pub fn new(alloc: Global) -> JobTable
@@ -108,14 +111,16 @@ impl JobTable {
                 next_place,
             },
             changes: 0,
+            undos: 0,
         }
     }
 
-    /// Makes room for a number of jobs, and for two changes. An `Err` is want of memory, or comes where there would be more
-    /// than 4,294,967,293 jobs; it leaves all as it was.
+    /// Makes room for a number of jobs and for two changes, and to take back all that is done from the mark on. An `Err` is
+    /// want of memory, or comes where there would be more than 1,073,741,823 jobs; it leaves all as it was.
     pub fn reserve(&mut self, more: u32) -> Result<(), NoMemory>
         ensures ok { OnOk result (more ≤ self.new.spare) }
         ensures changes { OnOk result (2 ≤ self.new.changes) }
+        ensures ready { OnOk result (IsReady self.new) }
         ensures marked { self.new.marked ≡ self.old.marked }
         ensures jobs { self.new.jobs ≡ self.old.jobs }
         ensures clock { self.new.clock ≡ self.old.clock }
@@ -124,23 +129,39 @@ impl JobTable {
         ensures spare { self.old.spare ≤ self.new.spare }
         ensures err { OnErr result (self.new ≡ self.old) }
     {
-        if more <= self.room && 2 <= self.changes {
+        if more <= self.room && 2 <= self.changes && self.is_ready() {
             return Ok(());
         }
         let more = more.max(self.room);
-        if more as usize + self.jobs.len() > MOST {
+        if more as usize + self.jobs.len() > MOST || self.touched.len() > MOST {
             return Err(AllocError);
         }
         let launches = more + self.waiting.len() as u32;
+        let undos = launches + 2 + self.touched.len() as u32;
         self.jobs.reserve(more as usize)?;
-        self.waiting.reserve(more)?;
-        self.tally.reserve(launches)?;
-        self.starting.reserve(launches)?;
-        self.names.reserve(more)?;
         self.touched.reserve(launches as usize + 2)?;
+        reserve_all(
+            &mut self.waiting,
+            &mut self.tally,
+            &mut self.starting,
+            &mut self.names,
+            more + undos,
+            launches + undos,
+        )?;
         self.room = more;
         self.changes = 2;
+        self.undos = undos;
         Ok(())
+    }
+
+    // Whether all that is noted can be taken back, and what is done yet.
+    fn is_ready(&self) -> bool
+        ensures { result ≡ true → IsReady self.now }
+    {
+        let noted = self.touched.len();
+        noted <= MOST
+            && self.waiting.len() + self.room as usize + self.changes as usize + noted
+                <= self.undos as usize
     }
 
     /// Adds a job that waits on a queue, with the next serial and the next place. It takes no memory.
@@ -158,6 +179,7 @@ impl JobTable {
         ensures next_place { self.new.next_place ≡ self.old.next_place + 1 }
         ensures spare { self.old.spare ≡ self.new.spare + 1 }
         ensures changes { self.new.changes ≡ self.old.changes }
+        ensures ready { IsReady self.old → IsReady self.new }
         ensures marked { self.new.marked ≡ self.old.marked }
     {
         let Some(waiter) = waiter_of(&job) else {
@@ -169,6 +191,8 @@ impl JobTable {
         self.next_serial += 1;
         self.next_place += 1;
         self.room -= 1;
+        // `len` tells that places differ.
+        self.waiting.len();
     }
 
     /// Adds a job that was launched as it was made, with the next serial. It never waits, so it has no place. It takes no
@@ -185,6 +209,7 @@ impl JobTable {
         ensures next_place { self.new.next_place ≡ self.old.next_place }
         ensures spare { self.old.spare ≡ self.new.spare + 1 }
         ensures changes { self.new.changes ≡ self.old.changes }
+        ensures ready { IsReady self.old → IsReady self.new }
         ensures marked { self.new.marked ≡ self.old.marked }
     {
         let starts = is_active(&job.phase);
@@ -209,6 +234,7 @@ impl JobTable {
         ensures next_place { self.new.next_place ≡ self.old.next_place }
         ensures spare { self.old.spare ≤ self.new.spare }
         ensures changes { self.new.changes ≡ self.old.changes }
+        ensures ready { IsReady self.old → IsReady self.new }
         ensures marked { self.new.marked ≡ self.old.marked }
     {
         let Ok(at) = place(&self.jobs, serial) else {
@@ -225,6 +251,8 @@ impl JobTable {
         self.busy = more(self.busy, busy);
         note(&mut self.touched, job);
         launch_at(&mut self.jobs, at, serial, launched);
+        // `len` tells that places differ.
+        self.waiting.len();
     }
 
     /// Puts the job of a serial, which is active, into a phase behind Starting. It takes no memory.
@@ -239,6 +267,7 @@ impl JobTable {
         ensures next_place { self.new.next_place ≡ self.old.next_place }
         ensures spare { self.old.spare ≤ self.new.spare }
         ensures changes { self.old.changes ≤ self.new.changes + 1 }
+        ensures ready { IsReady self.old → IsReady self.new }
         ensures marked { self.new.marked ≡ self.old.marked }
     {
         let Ok(at) = place(&self.jobs, serial) else {
@@ -255,6 +284,8 @@ impl JobTable {
         note(&mut self.touched, job);
         self.changes -= 1;
         phase_at(&mut self.jobs, at, serial, phase);
+        // `len` tells that places differ.
+        self.waiting.len();
     }
 
     /// Time goes on to a moment: the jobs that wait up to then are due.
@@ -265,6 +296,7 @@ impl JobTable {
         ensures next_place { self.new.next_place ≡ self.old.next_place }
         ensures spare { self.new.spare ≡ self.old.spare }
         ensures changes { self.new.changes ≡ self.old.changes }
+        ensures ready { IsReady self.old → IsReady self.new }
         ensures marked { self.new.marked ≡ self.old.marked }
     {
         self.waiting.make_due(now);

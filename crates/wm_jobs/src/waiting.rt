@@ -14,6 +14,7 @@ impl JobTable {
     ghost use Rattle.wm_law.specs.Holding.{with_held};
     ghost use Rattle.wm_law.specs.Jobs.{waiting_at};
     ghost use Rattle.wm_law.specs.Reports.{in_phase};
+    ghost use Rattle.wm_jobs.specs.Table.{IsReady};
 
     /// Holds the job of a serial, where it waits, or releases it. It takes no memory.
     pub fn set_held(&mut self, serial: Serial, held: bool)
@@ -24,6 +25,7 @@ impl JobTable {
         ensures next_place { self.new.next_place ≡ self.old.next_place }
         ensures spare { self.old.spare ≤ self.new.spare }
         ensures changes { self.old.changes ≤ self.new.changes + 1 }
+        ensures ready { IsReady self.old → IsReady self.new }
         ensures marked { self.new.marked ≡ self.old.marked }
     {
         // `len` tells that places differ.
@@ -35,6 +37,7 @@ impl JobTable {
         self.changes -= 1;
         hold_at(&mut self.jobs, at, serial, held);
         renew(&mut self.waiting, &self.jobs[at]);
+        self.waiting.len();
     }
 
     /// Gives the job of a serial, where it waits, another due moment. It takes no memory.
@@ -46,6 +49,7 @@ impl JobTable {
         ensures next_place { self.new.next_place ≡ self.old.next_place }
         ensures spare { self.old.spare ≤ self.new.spare }
         ensures changes { self.old.changes ≤ self.new.changes + 1 }
+        ensures ready { IsReady self.old → IsReady self.new }
         ensures marked { self.new.marked ≡ self.old.marked }
     {
         // `len` tells that places differ.
@@ -57,6 +61,7 @@ impl JobTable {
         self.changes -= 1;
         due_at(&mut self.jobs, at, serial, due);
         renew(&mut self.waiting, &self.jobs[at]);
+        self.waiting.len();
     }
 
     /// Gives the job of a serial, where it waits, the queue and the priority of a command, the next place, and a due moment.
@@ -70,6 +75,7 @@ impl JobTable {
         ensures next_place { self.new.next_place ≡ self.old.next_place + 1 }
         ensures spare { self.old.spare ≤ self.new.spare }
         ensures changes { self.old.changes ≤ self.new.changes + 1 }
+        ensures ready { IsReady self.old → IsReady self.new }
         ensures marked { self.new.marked ≡ self.old.marked }
     {
         let next = self.next_place;
@@ -81,6 +87,7 @@ impl JobTable {
         self.changes -= 1;
         move_at(&mut self.jobs, at, serial, command, next, due);
         renew(&mut self.waiting, &self.jobs[at]);
+        self.waiting.len();
     }
 
     /// Ends the job of a serial, where it waits. It takes no memory.
@@ -91,6 +98,7 @@ impl JobTable {
         ensures next_place { self.new.next_place ≡ self.old.next_place }
         ensures spare { self.old.spare ≤ self.new.spare }
         ensures changes { self.new.changes ≡ self.old.changes }
+        ensures ready { IsReady self.old → IsReady self.new }
         ensures marked { self.new.marked ≡ self.old.marked }
     {
         let Ok(at) = place(&self.jobs, serial) else {
@@ -104,5 +112,7 @@ impl JobTable {
         self.names.end(job);
         note(&mut self.touched, job);
         phase_at(&mut self.jobs, at, serial, Phase::Ended(cause));
+        // `len` tells that places differ.
+        self.waiting.len();
     }
 }

@@ -26,6 +26,7 @@ loop-serial-preserved c =
       next_place = c.end_waiting.ensures.next_place ∙ before.next_place;
       spare = omega (arith, c.end_waiting.ensures.spare, before.spare);
       changes = c.end_waiting.ensures.changes ∙ before.changes;
+      ready = λ ready. c.end_waiting.ensures.ready (before.ready ready);
       marked = c.end_waiting.ensures.marked ∙ before.marked;
     }
 

@@ -1,6 +1,7 @@
 use Rattle.std.proofs.Common.{◌≡◌, ◌+◌, ◌≤◌, map}
 use Rattle.std.specs.List.{count_by}
 use Rattle.wm_law.specs.Queues.{waits_on, cleared_from}
+use Rattle.wm_jobs.specs.Table.{IsReady}
 use Rattle.wm_jobs.proofs.table.JobTable.clear.Given as goal
 
 -- what was cleared and what still waits are all that waited, and what is left comes to the same
@@ -13,6 +14,7 @@ invariant-loop-serial l = record {
   next_place : l.self.next_place ≡ l.fn.self.next_place;
   spare : l.fn.self.spare ≤ l.self.spare;
   changes : l.self.changes ≡ l.fn.self.changes;
+  ready : IsReady l.fn.self → IsReady l.self;
   marked : l.self.marked ≡ l.fn.self.marked;
 }
 

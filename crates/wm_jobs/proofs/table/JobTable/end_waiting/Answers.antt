@@ -1,14 +1,16 @@
-use Rattle.std.proofs.Common.{length, vec_capacity, is_some, refl, ap, sym, ◌∙◌, arith}
+use Rattle.std.proofs.lemmas.List.{length-append}
+use Rattle.std.proofs.Common.{length, vec_capacity, is_some, refl, ap, sym, ◌∙◌, arith, ◌≡◌, ◌+◌, ◌∷◌, []}
 use Rattle.wm_law.specs.declared.job.Phase.TheVariants.{Ended}
 use Rattle.wm_law.specs.Named.{is_ended}
 use Rattle.wm_law.specs.Reports.{in_phase, phased_at}
 use Rattle.wm_jobs.specs.Marked.{touched_of}
 use Rattle.wm_jobs.specs.Table.{Table}
 use Rattle.wm_jobs.proofs.Changes.{grows}
-use Rattle.wm_jobs.proofs.AtPlace.{finds-named, not-changed, ended-jobs, ended-inside, ended-less, one-waits, phased-back}
+use Rattle.wm_jobs.proofs.AtPlace.{finds-named, not-changed, ended-jobs, ended-inside, ended-less, one-waits, phased-first}
 use Rattle.wm_jobs.proofs.NameParts.{waiting-lasts}
-use Rattle.wm_jobs.proofs.Undone.{noted}
+use Rattle.wm_jobs.proofs.Undone.{noted, marked-noted}
 use Rattle.wm_jobs.proofs.Waits.{waiting-gap}
+use Rattle.wm_jobs.proofs.Stood.{agrees, undoable-noted, ready-goes}
 use Rattle.wm_jobs.proofs.table.JobTable.end_waiting.Goals as goal
 
 -- where no job has the serial, none is changed
@@ -30,11 +32,11 @@ invariant_of-self c =
     let more = grows (is_some c.remove.result) t.waiting.spare c.remove.new.self.spare c.remove.ensures.spare in
     let x = c.index-job.result.now in
     let less = ended-less t c.self.invariant.kept c.args.serial c.in-Ok.at x c.deref.result.now c.deref.ensures.value c.in-Ok.ensures c.index-job.ensures c.args.cause (sym c.is_waiting.ensures ∙ c.if-not-is_waiting.false) c.remove.new.self.items c.remove.ensures.items in
-    record {
-      kept = ended-inside t c.self.invariant.kept c.args.serial c.in-Ok.at c.index-job.result.now c.deref.result.now c.deref.ensures.value c.in-Ok.ensures c.index-job.ensures c.args.cause (sym c.is_waiting.ensures ∙ c.if-not-is_waiting.false) _ c.phase_at.ensures.jobs refl refl refl c.phase_at.ensures.capacity
-          c.remove.ensures.items more refl refl refl refl (λ before behind after serial job phase. c.end.ensures.names before behind after serial job (ap is_ended phase)) c.end.ensures.spare;
-      marked = noted t.jobs.items c.phase_at.new.jobs.items t.touched.items c.note.new.touched.items (touched_of x) (phased_at c.args.serial (Ended c.args.cause)) t.mark.jobs (vec_capacity t.touched) (vec_capacity c.note.new.touched) (length t.waiting.items) (length c.remove.new.self.items) t.room t.room t.changes t.changes c.self.invariant.marked c.phase_at.ensures.jobs c.note.ensures.items c.note.ensures.capacity (omega (arith, less));
-    }
+    agrees _
+    (ended-inside t c.self.invariant.kept c.args.serial c.in-Ok.at c.index-job.result.now c.deref.result.now c.deref.ensures.value c.in-Ok.ensures c.index-job.ensures c.args.cause (sym c.is_waiting.ensures ∙ c.if-not-is_waiting.false) _ c.phase_at.ensures.jobs refl refl refl c.phase_at.ensures.capacity c.remove.ensures.items more refl refl refl refl (λ before behind after serial job phase. c.end.ensures.names before behind after serial job (ap is_ended phase)) c.end.ensures.spare)
+    (let had = c.self.invariant.undos in let wait = had.to_wait in let count = had.to_count in let start = had.to_start in let name = had.to_name in record { to_wait = omega (arith, more); to_count = omega (arith, less); to_start = omega (arith, less); to_name = omega (arith, c.end.ensures.spare) })
+    (λ kept. undoable-noted t.mark t.touched.items t.jobs.items t.next_serial t.next_place t.waiting.clock c.self.invariant.undoable _ kept c.len.ensures.places refl (omega arith) (omega arith) (omega (arith, c.remove.ensures.clock)) (touched_of x) c.note.ensures.items (phased-first t c.self.invariant.kept c.args.serial c.in-Ok.at c.index-job.result.now c.deref.result.now c.deref.ensures.value c.in-Ok.ensures c.index-job.ensures t.mark.jobs c.phase_at.new.jobs.items (Ended c.args.cause) c.phase_at.ensures.jobs))
+    (noted t.jobs.items c.phase_at.new.jobs.items t.touched.items c.note.new.touched.items (touched_of x) (phased_at c.args.serial (Ended c.args.cause)) t.mark.jobs (vec_capacity t.touched) (vec_capacity c.note.new.touched) (length t.waiting.items) (length c.remove.new.self.items) t.room t.room t.changes t.changes c.self.invariant.marked c.phase_at.ensures.jobs c.note.ensures.items c.note.ensures.capacity (omega (arith, less)))
 
 pub note-requires : goal.note-requires
 note-requires c =
@@ -43,8 +45,17 @@ note-requires c =
 
 pub returns-clause-marked : goal.returns-clause-marked
 returns-clause-marked c =
-    phased-back c.self.inside c.self.invariant.kept c.args.serial c.in-Ok.at c.index-job.result.now c.deref.result.now c.deref.ensures.value c.in-Ok.ensures c.index-job.ensures c.note.new.touched.items c.phase_at.new.jobs.items c.note.ensures.items (Ended c.args.cause) c.phase_at.ensures.jobs ∙ ap (λ (v : Table). v.marked) c.self.view_is
+    let t = c.self.inside in
+    marked-noted t.mark t.touched.items c.note.new.touched.items (touched_of c.index-job.result.now) t.jobs.items c.phase_at.new.jobs.items c.note.ensures.items (phased-first t c.self.invariant.kept c.args.serial c.in-Ok.at c.index-job.result.now c.deref.result.now c.deref.ensures.value c.in-Ok.ensures c.index-job.ensures t.mark.jobs c.phase_at.new.jobs.items (Ended c.args.cause) c.phase_at.ensures.jobs) ∙ ap (λ (v : Table). v.marked) c.self.view_is
 
 pub returns-clause-jobs : goal.returns-clause-jobs
 returns-clause-jobs c =
     rw (← c.self.view_is) (ended-jobs c.self.inside c.self.invariant.kept c.args.serial c.in-Ok.at c.index-job.result.now c.deref.result.now c.deref.ensures.value c.in-Ok.ensures c.index-job.ensures c.args.cause (sym c.is_waiting.ensures ∙ c.if-not-is_waiting.false) c.phase_at.new.jobs.items c.phase_at.ensures.jobs)
+
+pub returns-clause-ready : goal.returns-clause-ready
+returns-clause-ready c ready =
+    let t = c.self.inside in
+    let x = c.index-job.result.now in
+    let less = ended-less t c.self.invariant.kept c.args.serial c.in-Ok.at x c.deref.result.now c.deref.ensures.value c.in-Ok.ensures c.index-job.ensures c.args.cause (sym c.is_waiting.ensures ∙ c.if-not-is_waiting.false) c.remove.new.self.items c.remove.ensures.items in
+    let noted : length c.note.new.touched.items ≡ length t.touched.items + 1 = ap length c.note.ensures.items ∙ length-append t.touched.items (touched_of x ∷ []) in
+    ready-goes t c.args.self.now c.self.view_is _ _ _ _ _ (omega (arith, less, noted)) refl ready

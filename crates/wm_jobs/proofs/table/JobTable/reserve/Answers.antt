@@ -1,6 +1,6 @@
-use Rattle.std.proofs.Common.{◌≡◌, arith, refl, ap, length, vec_capacity}
+use Rattle.std.proofs.Common.{◌≡◌, arith, refl, ap, length, take}
 use Rattle.wm_jobs.proofs.AtEnd.{few-waiters, reserved-inside}
-use Rattle.wm_jobs.proofs.Undone.{marked-roomier}
+use Rattle.wm_jobs.proofs.Stood.{undoable-same}
 use Rattle.wm_jobs.proofs.table.JobTable.reserve.Goals as goal
 
 pub overflow_cast-launches : goal.overflow_cast-launches
@@ -16,84 +16,62 @@ overflow_add-launches c =
     let len = c.len-2.ensures.len in
     omega arith
 
-pub invariant_of-self-in_err-reserve-3 : goal.invariant_of-self-in_err-reserve-3
-invariant_of-self-in_err-reserve-3 c =
-    let o = c.self.invariant.kept.room in
-    let waits : length c.reserve-2.new.self.items ≡ length c.self.inside.waiting.items = ap length c.reserve-2.ensures.items in
-    let stand = o.to_stand in
-    let few = o.few in
-    let wait = o.to_wait in
-    let count = o.to_count in
-    let start = o.to_start in
-    record {
-      kept = reserved-inside c.self.inside c.self.invariant.kept _ c.reserve.ensures.items c.reserve-2.ensures.items c.reserve-3.ensures.counts refl refl refl refl refl
-          (record { to_stand = omega arith; few = omega arith; to_wait = omega arith; to_count = omega arith; to_start = omega arith }) (λ are. are) c.self.invariant.kept.named.to_name;
-      marked = marked-roomier c.self.inside.jobs.items c.reserve.new.self.items c.self.inside.mark.jobs (length c.self.inside.touched.items) (vec_capacity c.self.inside.touched) (vec_capacity c.self.inside.touched) (length c.self.inside.waiting.items) (length c.reserve-2.new.self.items) c.self.inside.room c.self.inside.changes c.self.invariant.marked c.reserve.ensures.items (omega arith) waits;
-    }
+pub overflow_add-undos : goal.overflow_add-undos
+overflow_add-undos c =
+    let few = few-waiters c.self.inside c.self.invariant.kept in
+    let len = c.len-2.ensures.len in
+    omega arith
 
-pub invariant_of-self-in_err-reserve-4 : goal.invariant_of-self-in_err-reserve-4
-invariant_of-self-in_err-reserve-4 c =
-    let o = c.self.invariant.kept.room in
-    let waits : length c.reserve-2.new.self.items ≡ length c.self.inside.waiting.items = ap length c.reserve-2.ensures.items in
-    let stand = o.to_stand in
-    let few = o.few in
-    let wait = o.to_wait in
-    let count = o.to_count in
-    let start = o.to_start in
-    record {
-      kept = reserved-inside c.self.inside c.self.invariant.kept _ c.reserve.ensures.items c.reserve-2.ensures.items c.reserve-3.ensures.counts c.reserve-4.ensures.items refl refl refl refl
-          (record { to_stand = omega arith; few = omega arith; to_wait = omega arith; to_count = omega arith; to_start = omega arith }) (λ are. are) c.self.invariant.kept.named.to_name;
-      marked = marked-roomier c.self.inside.jobs.items c.reserve.new.self.items c.self.inside.mark.jobs (length c.self.inside.touched.items) (vec_capacity c.self.inside.touched) (vec_capacity c.self.inside.touched) (length c.self.inside.waiting.items) (length c.reserve-2.new.self.items) c.self.inside.room c.self.inside.changes c.self.invariant.marked c.reserve.ensures.items (omega arith) waits;
-    }
+pub overflow_add-undos-2 : goal.overflow_add-undos-2
+overflow_add-undos-2 c =
+    let few = few-waiters c.self.inside c.self.invariant.kept in
+    let len = c.len-2.ensures.len in
+    omega arith
 
-pub invariant_of-self-in_err-reserve-5 : goal.invariant_of-self-in_err-reserve-5
-invariant_of-self-in_err-reserve-5 c =
-    let o = c.self.invariant.kept.room in
-    let waits : length c.reserve-2.new.self.items ≡ length c.self.inside.waiting.items = ap length c.reserve-2.ensures.items in
-    let stand = o.to_stand in
-    let few = o.few in
-    let wait = o.to_wait in
-    let count = o.to_count in
-    let start = o.to_start in
-    record {
-      kept = reserved-inside c.self.inside c.self.invariant.kept _ c.reserve.ensures.items c.reserve-2.ensures.items c.reserve-3.ensures.counts c.reserve-4.ensures.items refl refl refl refl
-          (record { to_stand = omega arith; few = omega arith; to_wait = omega arith; to_count = omega arith; to_start = omega arith }) (c.reserve-5.ensures.names _) (let name = c.self.invariant.kept.named.to_name in let more = c.reserve-5.ensures.spare in omega arith);
-      marked = marked-roomier c.self.inside.jobs.items c.reserve.new.self.items c.self.inside.mark.jobs (length c.self.inside.touched.items) (vec_capacity c.self.inside.touched) (vec_capacity c.self.inside.touched) (length c.self.inside.waiting.items) (length c.reserve-2.new.self.items) c.self.inside.room c.self.inside.changes c.self.invariant.marked c.reserve.ensures.items (omega arith) waits;
-    }
+pub overflow_add-more-2 : goal.overflow_add-more-2
+overflow_add-more-2 c =
+    let few = few-waiters c.self.inside c.self.invariant.kept in
+    let len = c.len-2.ensures.len in
+    omega arith
 
-pub invariant_of-self-in_err-reserve-6 : goal.invariant_of-self-in_err-reserve-6
-invariant_of-self-in_err-reserve-6 c =
+pub overflow_add-launches-3 : goal.overflow_add-launches-3
+overflow_add-launches-3 c =
+    let few = few-waiters c.self.inside c.self.invariant.kept in
+    let len = c.len-2.ensures.len in
+    omega arith
+
+pub invariant_of-self-in_err-reserve_all : goal.invariant_of-self-in_err-reserve_all
+invariant_of-self-in_err-reserve_all c =
+    let t = c.self.inside in
     let o = c.self.invariant.kept.room in
-    let waits : length c.reserve-2.new.self.items ≡ length c.self.inside.waiting.items = ap length c.reserve-2.ensures.items in
-    let stand = o.to_stand in
-    let few = o.few in
-    let wait = o.to_wait in
-    let count = o.to_count in
-    let start = o.to_start in
-    let n : length c.reserve.new.self.items ≡ length c.self.inside.jobs.items = ap length c.reserve.ensures.items in
-    let touched : length c.reserve-6.new.self.items ≡ length c.self.inside.touched.items = ap length c.reserve-6.ensures.items in
+    let had = c.self.invariant.undos in
+    let waits : length c.reserve_all.new.waiting.items ≡ length t.waiting.items = ap length c.reserve_all.ensures.items in
+    let n : length c.reserve.new.self.items ≡ length t.jobs.items = ap length c.reserve.ensures.items in
+    let touched : length c.reserve-2.new.self.items ≡ length t.touched.items = ap length c.reserve-2.ensures.items in
+    let more-waits = c.reserve_all.ensures.waiting_spare in
+    let more-counts = c.reserve_all.ensures.tally_spare in
+    let more-starts = c.reserve_all.ensures.starting_spare in
+    let more-names = c.reserve_all.ensures.names_spare in
     record {
-      kept = reserved-inside c.self.inside c.self.invariant.kept _ c.reserve.ensures.items c.reserve-2.ensures.items c.reserve-3.ensures.counts c.reserve-4.ensures.items refl refl refl refl
-          (record { to_stand = omega arith; few = omega arith; to_wait = omega arith; to_count = omega arith; to_start = omega arith }) (c.reserve-5.ensures.names _) (let name = c.self.invariant.kept.named.to_name in let more = c.reserve-5.ensures.spare in omega arith);
-      marked = record { there = omega (arith, n, c.self.invariant.marked.there); to_touch = omega (arith, touched, waits, c.reserve-6.ensures.capacity, c.self.invariant.marked.to_touch) };
+      kept = reserved-inside t c.self.invariant.kept _ c.reserve.ensures.items c.reserve_all.ensures.items c.reserve_all.ensures.counts c.reserve_all.ensures.orders refl refl refl refl (record { to_stand = omega (arith, o.to_stand); few = omega (arith, o.few); to_wait = omega (arith, o.to_wait); to_count = omega (arith, o.to_count); to_start = omega (arith, o.to_start) }) (c.reserve_all.ensures.names t.jobs.items) (omega (arith, c.self.invariant.kept.named.to_name));
+      undos = record { to_wait = omega (arith, had.to_wait); to_count = omega (arith, had.to_count); to_start = omega (arith, had.to_start); to_name = omega (arith, had.to_name) };
+      undoable = undoable-same t.mark t.touched.items c.reserve-2.new.self.items t.jobs.items c.reserve.new.self.items t.next_serial t.next_place t.waiting.clock t.next_serial t.next_place c.reserve_all.new.waiting.clock c.self.invariant.undoable c.reserve-2.ensures.items (ap (take t.mark.jobs) c.reserve.ensures.items) (omega arith) (omega arith) (omega (arith, c.reserve_all.ensures.clock));
+      marked = record { there = omega (arith, n, c.self.invariant.marked.there); to_touch = omega (arith, touched, waits, c.reserve-2.ensures.capacity, c.self.invariant.marked.to_touch) };
     }
 
 pub invariant_of-self-2 : goal.invariant_of-self-2
 invariant_of-self-2 c =
+    let t = c.self.inside in
     let o = c.self.invariant.kept.room in
-    let waits : length c.reserve-2.new.self.items ≡ length c.self.inside.waiting.items = ap length c.reserve-2.ensures.items in
-    let stand = o.to_stand in
-    let few = o.few in
-    let wait = o.to_wait in
-    let count = o.to_count in
-    let start = o.to_start in
-    let waiters = few-waiters c.self.inside c.self.invariant.kept in
+    let taken = c.in_ok-reserve_all.ensures.ok in
+    let waits : length c.reserve_all.new.waiting.items ≡ length t.waiting.items = ap length c.reserve_all.ensures.items in
+    let n : length c.reserve.new.self.items ≡ length t.jobs.items = ap length c.reserve.ensures.items in
+    let touched : length c.reserve-2.new.self.items ≡ length t.touched.items = ap length c.reserve-2.ensures.items in
+    let few = few-waiters t c.self.invariant.kept in
     let len = c.len-2.ensures.len in
-    let fits = c.self.invariant.marked.to_touch in
-    let n : length c.reserve.new.self.items ≡ length c.self.inside.jobs.items = ap length c.reserve.ensures.items in
-    let touched : length c.reserve-6.new.self.items ≡ length c.self.inside.touched.items = ap length c.reserve-6.ensures.items in
     record {
-      kept = reserved-inside c.self.inside c.self.invariant.kept _ c.reserve.ensures.items c.reserve-2.ensures.items c.reserve-3.ensures.counts c.reserve-4.ensures.items refl refl refl refl
-          (record { to_stand = omega (arith, c.in_ok-reserve.ensures.ok); few = omega arith; to_wait = omega (arith, c.in_ok-reserve-2.ensures.ok); to_count = omega (arith, c.in_ok-reserve-3.ensures.ok); to_start = omega (arith, c.in_ok-reserve-4.ensures.ok) }) (c.reserve-5.ensures.names _) (omega (arith, c.in_ok-reserve-5.ensures.ok));
-      marked = record { there = omega (arith, n, c.self.invariant.marked.there); to_touch = omega (arith, c.in_ok-reserve-6.ensures.ok, touched) };
+      kept = reserved-inside t c.self.invariant.kept _ c.reserve.ensures.items c.reserve_all.ensures.items c.reserve_all.ensures.counts c.reserve_all.ensures.orders refl refl refl refl (record { to_stand = omega (arith, c.in_ok-reserve.ensures.ok); few = omega arith; to_wait = omega (arith, taken.to_wait); to_count = omega (arith, taken.to_count, waits); to_start = omega (arith, taken.to_start, waits) }) (c.reserve_all.ensures.names t.jobs.items) (omega (arith, taken.to_name));
+      undos = record { to_wait = omega (arith, taken.to_wait); to_count = omega (arith, taken.to_count, waits); to_start = omega (arith, taken.to_start, waits); to_name = omega (arith, taken.to_name) };
+      undoable = undoable-same t.mark t.touched.items c.reserve-2.new.self.items t.jobs.items c.reserve.new.self.items t.next_serial t.next_place t.waiting.clock t.next_serial t.next_place c.reserve_all.new.waiting.clock c.self.invariant.undoable c.reserve-2.ensures.items (ap (take t.mark.jobs) c.reserve.ensures.items) (omega arith) (omega arith) (omega (arith, c.reserve_all.ensures.clock));
+      marked = record { there = omega (arith, n, c.self.invariant.marked.there); to_touch = omega (arith, touched, waits, c.in_ok-reserve-2.ensures.ok) };
     }

@@ -1,0 +1,122 @@
+// What was done since the mark is taken back.
+use crate::JobTable;
+use crate::counts::{fewer, forget, more, put_in, take_out};
+use crate::phases::{counts_as_busy, is_active};
+use crate::places::{place, stand_at};
+
+impl JobTable {
+    ghost use Rattle.std.specs.Prelude.{◌≡◌, ◌+◌, ◌<◌, ◌≤◌, [], length};
+
+    /// Takes back all that was done since the mark. It takes no memory, and goes through what was noted and the jobs that
+    /// came since, but through all that wait where the clock went on.
+    pub fn take_back(&mut self)
+        requires { length self.old.touched ≤ self.old.undos }
+        ensures jobs { self.new.jobs ≡ self.old.marked.jobs }
+        ensures clock { self.new.clock ≡ self.old.marked.clock }
+        ensures next_serial { self.new.next_serial ≡ self.old.marked.next_serial }
+        ensures next_place { self.new.next_place ≡ self.old.marked.next_place }
+        ensures marked { self.new.marked ≡ self.old.marked }
+    {
+        self.drop_new();
+        self.undo_touched();
+        self.waiting.turn_back(self.mark.clock);
+        self.next_serial = self.mark.next_serial;
+        self.next_place = self.mark.next_place;
+    }
+
+    // The jobs that came since the mark leave.
+    fn drop_new(&mut self)
+        ensures jobs { length self.new.jobs ≡ length self.old.marked.jobs }
+        ensures touched { self.new.touched ≡ self.old.touched }
+        ensures undos { self.new.undos ≡ self.old.undos }
+        ensures marked { self.new.marked ≡ self.old.marked }
+    {
+        while self.marked_jobs() < self.jobs.len() {
+            self.drop_last();
+        }
+    }
+
+    // What was noted is undone, the newest first.
+    fn undo_touched(&mut self)
+        requires room { length self.old.touched ≤ self.old.undos }
+        requires all { length self.old.jobs ≡ length self.old.marked.jobs }
+        ensures jobs { length self.new.jobs ≡ length self.old.jobs }
+        ensures touched { self.new.touched ≡ [] }
+        ensures marked { self.new.marked ≡ self.old.marked }
+    {
+        while !self.touched.is_empty() {
+            self.undo_last();
+        }
+    }
+
+    // The last job leaves, which came since the mark. There is no room for more jobs then.
+    fn drop_last(&mut self)
+        requires { length self.old.marked.jobs < length self.old.jobs }
+        ensures jobs { length self.old.jobs ≡ length self.new.jobs + 1 }
+        ensures touched { self.new.touched ≡ self.old.touched }
+        ensures undos { self.new.undos ≡ self.old.undos }
+        ensures marked { self.new.marked ≡ self.old.marked }
+    {
+        let Some(job) = self.jobs.pop() else {
+            unreachable!()
+        };
+        let active = is_active(&job.phase);
+        let busy = counts_as_busy(active, &job.kind);
+        take_out(
+            &mut self.waiting,
+            &mut self.tally,
+            &mut self.starting,
+            &mut self.names,
+            &job,
+        );
+        self.active = fewer(self.active, active);
+        self.busy = fewer(self.busy, busy);
+        forget(&mut self.names, job);
+        // `len` tells that places differ.
+        self.waiting.len();
+    }
+
+    // What was noted last is undone.
+    fn undo_last(&mut self)
+        requires some { 1 ≤ length self.old.touched }
+        requires room { length self.old.touched ≤ self.old.undos }
+        requires all { length self.old.jobs ≡ length self.old.marked.jobs }
+        ensures jobs { length self.new.jobs ≡ length self.old.jobs }
+        ensures touched { length self.old.touched ≡ length self.new.touched + 1 }
+        ensures room { length self.new.touched ≤ self.new.undos }
+        ensures marked { self.new.marked ≡ self.old.marked }
+    {
+        let Some(touched) = self.touched.pop() else {
+            unreachable!()
+        };
+        let Ok(at) = place(&self.jobs, touched.serial) else {
+            return;
+        };
+        let job = &self.jobs[at];
+        let was_active = is_active(&job.phase);
+        let was_busy = counts_as_busy(was_active, &job.kind);
+        take_out(
+            &mut self.waiting,
+            &mut self.tally,
+            &mut self.starting,
+            &mut self.names,
+            job,
+        );
+        self.active = fewer(self.active, was_active);
+        self.busy = fewer(self.busy, was_busy);
+        stand_at(&mut self.jobs, at, touched.serial, &touched.was);
+        let job = &self.jobs[at];
+        let active = is_active(&job.phase);
+        let busy = counts_as_busy(active, &job.kind);
+        put_in(
+            &mut self.waiting,
+            &mut self.tally,
+            &mut self.starting,
+            &mut self.names,
+            job,
+        );
+        self.active = more(self.active, active);
+        self.busy = more(self.busy, busy);
+        self.undos -= 1;
+    }
+}
