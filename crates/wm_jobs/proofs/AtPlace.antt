@@ -1,11 +1,12 @@
 -- What a call finds and leaves in a table where the job of a serial stands.
-use Rattle.std.proofs.Common.{◌≡◌, ℕ, suc, ◌+◌, ◌<◌, ◌≤◌, true, false, not, ◌&&◌, ◌==◌, cond, List, ◌∷◌, ◌++◌, length, get_or, take, drop, map, Option, Some, IfSome, is_some, vec_capacity, refl, ap, sym, ◌∙◌, subst, arith, nat_eq, eq-eqb, All, Contains}
+use Rattle.std.proofs.Common.{◌≡◌, ℕ, suc, ◌+◌, ◌<◌, ◌≤◌, true, false, not, ◌&&◌, ◌==◌, cond, List, ◌∷◌, ◌++◌, length, get_or, take, drop, map, Option, Some, None, IfSome, is_some, vec_capacity, refl, ap, sym, ◌∙◌, subst, arith, nat_eq, eq-eqb, All, Contains}
+use mathlib.Core.Bool.{false≢true}
 use Rattle.std.specs.List.{find}
 use Rattle.std.specs.Ordering.{nat_cmp}
 use Rattle.std.proofs.lemmas.List.{get_or-map, get_or_default}
 use Rattle.std.proofs.lemmas.List.Elements.{All-contains, All-weaker, Contains-append_right}
 use Rattle.wm_base.specs.declared.job.EndCause.{EndCause}
-use Rattle.wm_desc.specs.Sorted.{has_key, added, removed}
+use Rattle.wm_desc.specs.Sorted.{with_key, has_key, added, removed}
 use Rattle.wm_desc.specs.Place.{IsAt}
 use Rattle.wm_law.specs.declared.job.Job.{Job}
 use Rattle.wm_law.specs.declared.job.Phase.{Phase}
@@ -23,7 +24,7 @@ use Rattle.wm_tally.specs.Tally.{Counts, HasStarted}
 use Rattle.wm_waiting.specs.declared.waiter.Waiter.{Waiter}
 use Rattle.wm_waiting.specs.Waiting.{Waiting}
 use Rattle.wm_waiting.specs.Waiting as waiting
-use Rattle.wm_waiting.proofs.Members.{Contains-head}
+use Rattle.wm_waiting.proofs.Members.{Contains-head, find-None}
 use Rattle.wm_pick.specs.Parts.{waiter_of, waiters}
 use Rattle.wm_jobs.specs.Indexed.{Starts, Ends, NamesInPhase}
 use Rattle.wm_jobs.specs.Marked.{standing_of, touched_of, standing_as, restored}
@@ -100,6 +101,15 @@ module _ (t : Inside) (h : IsKept t) (s at : ℕ) (x : Job) (js : List Job) (sam
   -- where it waits, there is room to note it
   pub one-waits : is_waiting x.phase ≡ true → 1 ≤ length t.waiting.items
   one-waits waits = some-waits s before behind x split.here split.lower split.higher t.next_serial t.next_place t.waiting t.tally t.starting t.active t.busy waits around_listed around_indexed
+
+  -- its room is spare again where it leaves those that wait
+  pub leaves-room : is_waiting x.phase ≡ true → (o : Option Waiter) → o ≡ with_key waiting.serial_of nat_eq s t.waiting.items → (old new : ℕ) → new ≡ old + cond (is_some o) 1 0 → new ≡ old + 1
+  leaves-room waits None found old new more =
+      let w = waiter-some x waits ((all-there (IsListed t.next_serial t.next_place) before behind x around_listed.each).queue waits) in
+      let parts : t.waiting.items ≡ waiters before ++ w.0 ∷ waiters behind = around_indexed.waiters_are ∙ picked-parts serial_of waiter_of waiting.serial_of waiter-keyed before behind x (Some w.0) w.1 in
+      let there : Contains t.waiting.items w.0 = subst (λ (ws : List Waiter). Contains ws w.0) (sym parts) (Contains-append_right (waiters before) (w.0 ∷ waiters behind) w.0 (Contains-head w.0 (waiters behind))) in
+      absurd (false≢true (sym (find-None (λ (v : Waiter). nat_eq v.serial s) t.waiting.items w.0 (sym found) there) ∙ eq-eqb w.0.serial s (waiter-keyed x w.0 w.1 ∙ split.here)))
+  leaves-room waits (Some v) found old new more = more
 
   -- one less waits where it is launched
   pub one-less : (a : Launched) → is_waiting x.phase ≡ true → is_waiting a.phase ≡ false → (ws : List Waiter) → ws ≡ removed waiting.serial_of nat_eq s t.waiting.items → length ws + 1 ≡ length t.waiting.items

@@ -40,9 +40,9 @@ NamesEnded old new job = (before behind : List Job) (ended : Job) → ended.seri
 abbrev pub NamesAgain : Names → Names → Job → Type 0
 NamesAgain old new job = (before behind : List Job) (ended : Job) → ended.serial ≡ job.serial → ended.job ≡ job.job → is_ended ended.phase ≡ true → IsNames (before ++ ended ∷ behind) old → IsNames (before ++ job ∷ behind) new
 
--- each has room for so many jobs more, or for so many starts more
-pub record HasTaken (jobs starts : ℕ) (waiting : Waiting) (tally : Counts) (starting : Pairs ℕ (Unit {0})) (names : Names) : Type 0 where
-  pub to_wait : jobs ≤ waiting.spare
+-- each has room for so many more that wait, for so many starts more, or for so many more names
+pub record HasTaken (waits starts named : ℕ) (waiting : Waiting) (tally : Counts) (starting : Pairs ℕ (Unit {0})) (names : Names) : Type 0 where
+  pub to_wait : waits ≤ waiting.spare
   pub to_count : starts ≤ tally.spare
   pub to_start : starts ≤ starting.spare
-  pub to_name : jobs ≤ names.spare
+  pub to_name : named ≤ names.spare

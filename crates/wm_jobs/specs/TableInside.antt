@@ -55,9 +55,9 @@ pub record IsMarked (marked jobs touched capacity waiting room changes : ℕ) : 
   pub there : marked ≤ jobs
   pub to_touch : touched + waiting + room + changes ≤ capacity
 
--- there is room to take back so many of the changes that were noted, beside the room for more jobs and for launches
-pub record HasUndos (undos room : ℕ) (waiting : Waiting) (tally : Counts) (starting : Pairs ℕ (Unit {0})) (names : Names) : Type 0 where
-  pub to_wait : room + undos ≤ waiting.spare
+-- there is room to take back so many of the changes that were noted, beside the room for more jobs, for changes and for launches; what waited has left its room among those that wait
+pub record HasUndos (undos room changes touched : ℕ) (waiting : Waiting) (tally : Counts) (starting : Pairs ℕ (Unit {0})) (names : Names) : Type 0 where
+  pub to_wait : room + changes + touched ≤ waiting.spare
   pub to_count : length waiting.items + room + undos ≤ tally.spare
   pub to_start : length waiting.items + room + undos ≤ starting.spare
   pub to_name : room + undos ≤ names.spare
@@ -104,6 +104,6 @@ pub record IsKept (t : Inside) : Type 0 where
 -- what lies in it agrees
 pub record IsTableInside (t : Inside) : Type 0 where
   pub kept : IsKept t
-  pub undos : HasUndos t.undos t.room t.waiting t.tally t.starting t.names
+  pub undos : HasUndos t.undos t.room t.changes (length t.touched.items) t.waiting t.tally t.starting t.names
   pub undoable : IsUndoable t.mark t.touched.items t.jobs.items t.next_serial t.next_place t.waiting.clock
   pub marked : IsMarked t.mark.jobs (length t.jobs.items) (length t.touched.items) (vec_capacity t.touched) (length t.waiting.items) t.room t.changes

@@ -89,31 +89,32 @@ pub(crate) fn fewer(count: usize, counted: bool) -> usize
     if counted { count - 1 } else { count }
 }
 
-/// Makes room in what jobs are found and counted by: for so many jobs more, and for so many starts more. An `Err` is want of
-/// memory; none has less room then than it had.
+/// Makes room in what jobs are found and counted by: for so many more that wait, for so many starts more, and for so many
+/// more names. An `Err` is want of memory; none has less room then than it had.
 pub(crate) fn reserve_all(
     waiting: &mut WaitingJobs,
     tally: &mut Tally,
     starting: &mut Ordered<Serial, ()>,
     names: &mut JobNames,
-    jobs: u32,
+    waits: u32,
     starts: u32,
+    named: u32,
 ) -> Result<(), NoMemory>
-    ensures ok { OnOk result (HasTaken jobs starts waiting.new tally.new starting.new names.new) }
+    ensures ok { OnOk result (HasTaken waits starts named waiting.new tally.new starting.new names.new) }
     ensures items { waiting.new.items ≡ waiting.old.items }
     ensures clock { waiting.new.clock ≡ waiting.old.clock }
     ensures counts { tally.new.counts ≡ tally.old.counts }
     ensures orders { starting.new.items ≡ starting.old.items }
-    ensures names { (named : List Job) → IsNames named names.old → IsNames named names.new }
+    ensures names { (jobs : List Job) → IsNames jobs names.old → IsNames jobs names.new }
     ensures waiting_spare { waiting.old.spare ≤ waiting.new.spare }
     ensures tally_spare { tally.old.spare ≤ tally.new.spare }
     ensures starting_spare { starting.old.spare ≤ starting.new.spare }
     ensures names_spare { names.old.spare ≤ names.new.spare }
 {
-    waiting.reserve(jobs)?;
+    waiting.reserve(waits)?;
     tally.reserve(starts)?;
     starting.reserve(starts)?;
-    names.reserve(jobs)?;
+    names.reserve(named)?;
     Ok(())
 }
 

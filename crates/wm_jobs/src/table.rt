@@ -137,7 +137,8 @@ impl JobTable {
             return Err(AllocError);
         }
         let launches = more + self.waiting.len() as u32;
-        let undos = launches + 2 + self.touched.len() as u32;
+        let notes = 2 + self.touched.len() as u32;
+        let undos = launches + notes;
         self.jobs.reserve(more as usize)?;
         self.touched.reserve(launches as usize + 2)?;
         reserve_all(
@@ -145,8 +146,9 @@ impl JobTable {
             &mut self.tally,
             &mut self.starting,
             &mut self.names,
-            more + undos,
+            more + notes,
             launches + undos,
+            more + undos,
         )?;
         self.room = more;
         self.changes = 2;

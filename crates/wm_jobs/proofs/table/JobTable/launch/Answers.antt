@@ -8,7 +8,7 @@ use Rattle.wm_jobs.specs.Marked.{touched_of}
 use Rattle.wm_jobs.specs.Table.{Table, serial_of}
 use Rattle.wm_jobs.proofs.Splits.{gap-unchanged}
 use Rattle.wm_jobs.proofs.Changes.{grows, few-hows}
-use Rattle.wm_jobs.proofs.AtPlace.{asked, finds-named, launch-finds, launched-inside, one-waits, one-less, launched-first}
+use Rattle.wm_jobs.proofs.AtPlace.{asked, finds-named, launch-finds, launched-inside, one-waits, one-less, launched-first, leaves-room}
 use Rattle.wm_jobs.proofs.Undone.{noted, marked-noted}
 use Rattle.wm_jobs.proofs.NameParts.{waiting-lasts}
 use Rattle.wm_jobs.proofs.Stood.{agrees, undoable-noted, ready-goes}
@@ -67,9 +67,11 @@ invariant_of-self c =
     let active = c.more-self-inside.ensures ∙ ap (λ b. t.active + cond b 1 0) c.is_active-starts.ensures in
     let busy = c.more-self-inside-2.ensures ∙ ap (λ b. t.busy + cond b 1 0) (c.counts_as_busy-busy.ensures ∙ ap (λ b. b && not (is_prestart x.kind)) c.is_active-starts.ensures) in
     let less = one-less t c.self.invariant.kept c.args.serial c.in-Ok.at x c.deref.result.now c.deref.ensures.value c.in-Ok.ensures c.index-job.ensures c.args.launched.now had c.requires.phase c.remove.new.self.items c.remove.ensures.items in
+    let left = leaves-room t c.self.invariant.kept c.args.serial c.in-Ok.at x c.deref.result.now c.deref.ensures.value c.in-Ok.ensures c.index-job.ensures had c.remove.result c.remove.ensures.waiter t.waiting.spare c.remove.new.self.spare c.remove.ensures.spare in
+    let noted-more : length c.note.new.touched.items ≡ length t.touched.items + 1 = ap length c.note.ensures.items ∙ length-append t.touched.items (touched_of x ∷ []) in
     agrees _
     (launched-inside t c.self.invariant.kept c.args.serial c.in-Ok.at x c.deref.result.now c.deref.ensures.value c.in-Ok.ensures c.index-job.ensures c.args.launched.now had c.requires.phase _ c.launch_at.ensures.jobs refl refl refl c.launch_at.ensures.capacity c.remove.ensures.items more c.count_start.ensures.hows c.count_start.ensures.spare c.put_order.ensures.items c.put_order.ensures.spare active busy c.end_names.ensures.names c.end_names.ensures.spare)
-    (let had = c.self.invariant.undos in let wait = had.to_wait in let count = had.to_count in let start = had.to_start in let name = had.to_name in record { to_wait = omega (arith, more); to_count = omega (arith, less, c.count_start.ensures.spare); to_start = omega (arith, less, c.put_order.ensures.spare); to_name = omega (arith, c.end_names.ensures.spare) })
+    (let had = c.self.invariant.undos in let wait = had.to_wait in let count = had.to_count in let start = had.to_start in let name = had.to_name in record { to_wait = omega (arith, noted-more, left); to_count = omega (arith, less, c.count_start.ensures.spare); to_start = omega (arith, less, c.put_order.ensures.spare); to_name = omega (arith, c.end_names.ensures.spare) })
     (λ kept. undoable-noted t.mark t.touched.items t.jobs.items t.next_serial t.next_place t.waiting.clock c.self.invariant.undoable _ kept c.len.ensures.places refl (omega arith) (omega arith) (omega (arith, c.remove.ensures.clock)) (touched_of x) c.note.ensures.items (launched-first t c.self.invariant.kept c.args.serial c.in-Ok.at x c.deref.result.now c.deref.ensures.value c.in-Ok.ensures c.index-job.ensures t.mark.jobs c.launch_at.new.jobs.items c.args.launched.now c.launch_at.ensures.jobs))
     (noted t.jobs.items c.launch_at.new.jobs.items t.touched.items c.note.new.touched.items (touched_of x) (launched_at c.args.serial c.args.launched.now) t.mark.jobs (vec_capacity t.touched) (vec_capacity c.note.new.touched) (length t.waiting.items) (length c.remove.new.self.items) t.room t.room t.changes t.changes c.self.invariant.marked c.launch_at.ensures.jobs c.note.ensures.items c.note.ensures.capacity (omega (arith, less)))
 

@@ -22,8 +22,8 @@ overflow_add-undos c =
     let len = c.len-2.ensures.len in
     omega arith
 
-pub overflow_add-undos-2 : goal.overflow_add-undos-2
-overflow_add-undos-2 c =
+pub overflow_add-more-3 : goal.overflow_add-more-3
+overflow_add-more-3 c =
     let few = few-waiters c.self.inside c.self.invariant.kept in
     let len = c.len-2.ensures.len in
     omega arith
@@ -54,7 +54,7 @@ invariant_of-self-in_err-reserve_all c =
     let more-names = c.reserve_all.ensures.names_spare in
     record {
       kept = reserved-inside t c.self.invariant.kept _ c.reserve.ensures.items c.reserve_all.ensures.items c.reserve_all.ensures.counts c.reserve_all.ensures.orders refl refl refl refl (record { to_stand = omega (arith, o.to_stand); few = omega (arith, o.few); to_wait = omega (arith, o.to_wait); to_count = omega (arith, o.to_count); to_start = omega (arith, o.to_start) }) (c.reserve_all.ensures.names t.jobs.items) (omega (arith, c.self.invariant.kept.named.to_name));
-      undos = record { to_wait = omega (arith, had.to_wait); to_count = omega (arith, had.to_count); to_start = omega (arith, had.to_start); to_name = omega (arith, had.to_name) };
+      undos = record { to_wait = omega (arith, had.to_wait, touched); to_count = omega (arith, had.to_count); to_start = omega (arith, had.to_start); to_name = omega (arith, had.to_name) };
       undoable = undoable-same t.mark t.touched.items c.reserve-2.new.self.items t.jobs.items c.reserve.new.self.items t.next_serial t.next_place t.waiting.clock t.next_serial t.next_place c.reserve_all.new.waiting.clock c.self.invariant.undoable c.reserve-2.ensures.items (ap (take t.mark.jobs) c.reserve.ensures.items) (omega arith) (omega arith) (omega (arith, c.reserve_all.ensures.clock));
       marked = record { there = omega (arith, n, c.self.invariant.marked.there); to_touch = omega (arith, touched, waits, c.reserve-2.ensures.capacity, c.self.invariant.marked.to_touch) };
     }
@@ -71,7 +71,7 @@ invariant_of-self-2 c =
     let len = c.len-2.ensures.len in
     record {
       kept = reserved-inside t c.self.invariant.kept _ c.reserve.ensures.items c.reserve_all.ensures.items c.reserve_all.ensures.counts c.reserve_all.ensures.orders refl refl refl refl (record { to_stand = omega (arith, c.in_ok-reserve.ensures.ok); few = omega arith; to_wait = omega (arith, taken.to_wait); to_count = omega (arith, taken.to_count, waits); to_start = omega (arith, taken.to_start, waits) }) (c.reserve_all.ensures.names t.jobs.items) (omega (arith, taken.to_name));
-      undos = record { to_wait = omega (arith, taken.to_wait); to_count = omega (arith, taken.to_count, waits); to_start = omega (arith, taken.to_start, waits); to_name = omega (arith, taken.to_name) };
+      undos = record { to_wait = omega (arith, taken.to_wait, touched); to_count = omega (arith, taken.to_count, waits); to_start = omega (arith, taken.to_start, waits); to_name = omega (arith, taken.to_name) };
       undoable = undoable-same t.mark t.touched.items c.reserve-2.new.self.items t.jobs.items c.reserve.new.self.items t.next_serial t.next_place t.waiting.clock t.next_serial t.next_place c.reserve_all.new.waiting.clock c.self.invariant.undoable c.reserve-2.ensures.items (ap (take t.mark.jobs) c.reserve.ensures.items) (omega arith) (omega arith) (omega (arith, c.reserve_all.ensures.clock));
       marked = record { there = omega (arith, n, c.self.invariant.marked.there); to_touch = omega (arith, touched, waits, c.in_ok-reserve-2.ensures.ok) };
     }

@@ -56,9 +56,10 @@ invariant_of-self c =
     let active = ap (λ b. c.fewer-self-inside.result + cond (not b) 1 0) (sym c.is_active-ends.ensures) ∙ c.fewer-self-inside.ensures in
     let busy = ap (λ b. c.fewer-self-inside-2.result + cond b 1 0) (sym (c.counts_as_busy-busy.ensures ∙ ap (λ b. not b && not (is_prestart x.kind)) c.is_active-ends.ensures)) ∙ c.fewer-self-inside-2.ensures in
     let some : t.changes ≡ c.args.self.now.changes = ap (λ (v : Table). v.changes) c.self.view_is in
+    let noted-more : length c.note.new.touched.items ≡ length t.touched.items + 1 = ap length c.note.ensures.items ∙ length-append t.touched.items (touched_of x ∷ []) in
     agrees _
     (phased-inside t c.self.invariant.kept c.args.serial c.in-Ok.at x c.deref.result.now c.deref.ensures.value c.in-Ok.ensures c.index-job.ensures c.args.phase had c.requires.not_waiting c.requires.not_starting _ c.phase_at.ensures.jobs refl refl refl c.phase_at.ensures.capacity refl c.count_end.ensures.hows c.count_end.ensures.spare c.remove.ensures.items more active busy c.end_names.ensures.names c.end_names.ensures.spare)
-    (let had = c.self.invariant.undos in let wait = had.to_wait in let count = had.to_count in let start = had.to_start in let name = had.to_name in record { to_wait = omega (arith); to_count = omega (arith, c.count_end.ensures.spare); to_start = omega (arith, more); to_name = omega (arith, c.end_names.ensures.spare) })
+    (let had = c.self.invariant.undos in let wait = had.to_wait in let count = had.to_count in let start = had.to_start in let name = had.to_name in record { to_wait = omega (arith, noted-more, some, c.requires.changes); to_count = omega (arith, c.count_end.ensures.spare); to_start = omega (arith, more); to_name = omega (arith, c.end_names.ensures.spare) })
     (λ kept. undoable-noted t.mark t.touched.items t.jobs.items t.next_serial t.next_place t.waiting.clock c.self.invariant.undoable _ kept c.len.ensures.places refl (omega arith) (omega arith) (omega arith) (touched_of x) c.note.ensures.items (phased-first t c.self.invariant.kept c.args.serial c.in-Ok.at x c.deref.result.now c.deref.ensures.value c.in-Ok.ensures c.index-job.ensures t.mark.jobs c.phase_at.new.jobs.items c.args.phase c.phase_at.ensures.jobs))
     (noted t.jobs.items c.phase_at.new.jobs.items t.touched.items c.note.new.touched.items (touched_of x) (phased_at c.args.serial c.args.phase) t.mark.jobs (vec_capacity t.touched) (vec_capacity c.note.new.touched) (length t.waiting.items) (length t.waiting.items) t.room t.room t.changes (t.changes - 1) c.self.invariant.marked c.phase_at.ensures.jobs c.note.ensures.items c.note.ensures.capacity (omega (arith, some, c.requires.changes)))
 

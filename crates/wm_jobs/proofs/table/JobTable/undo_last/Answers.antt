@@ -30,7 +30,7 @@ invariant_of-self c =
     let undos = h.undos in
     record {
       kept = record { listed = kept.listed; indexed = kept.indexed; room = kept.room; named = kept.named };
-      undos = record { to_wait = undos.to_wait; to_count = undos.to_count; to_start = undos.to_start; to_name = undos.to_name };
+      undos = record { to_wait = omega (arith, less, undos.to_wait); to_count = undos.to_count; to_start = undos.to_start; to_name = undos.to_name };
       undoable = before-undoable t h ts u popped all t.jobs.items same;
       marked = record { there = h.marked.there; to_touch = omega (arith, less, c.in-Some.ensures.capacity, h.marked.to_touch) };
     }
@@ -166,7 +166,7 @@ invariant_of-self-2 c =
             busy = c.more-self-inside-2.ensures ∙ ap (λ b. c.fewer-self-inside-2.result + cond b 1 0) (c.counts_as_busy-busy.ensures ∙ ap (λ b. b && not (is_prestart z.kind)) c.is_active-active.ensures);
           })
           refl refl (record { to_stand = omega (arith, c.stand_at.ensures.capacity); few = omega arith; to_wait = omega arith; to_count = omega arith; to_start = omega arith }) (omega arith);
-      undos = record { to_wait = omega arith; to_count = omega arith; to_start = omega arith; to_name = omega arith };
+      undos = record { to_wait = omega (arith, left); to_count = omega arith; to_start = omega arith; to_name = omega arith };
       undoable = subst (λ (n : ℕ). IsUndoable t.mark ts c.stand_at.new.jobs.items t.next_serial t.next_place n) (sym (c.put_in.ensures.clock ∙ c.take_out.ensures.clock)) (before-undoable t h ts u popped all c.stand_at.new.jobs.items c.stand_at.ensures.jobs);
       marked = (let n : length c.stand_at.new.jobs.items ≡ length t.jobs.items = ap length c.stand_at.ensures.jobs ∙ length-map t.jobs.items (changed_at u.serial (standing_as u.was)) in record { there = omega (arith, n, h.marked.there); to_touch = omega (arith, left, c.in-Some.ensures.capacity, h.marked.to_touch) });
     }
