@@ -49,7 +49,7 @@ impl JobTable {
         }
     }
 
-    // The last job leaves, which came since the mark. There is no room for more jobs then.
+    // The last job leaves, which came since the mark.
     fn drop_last(&mut self)
         requires { length self.old.marked.jobs < length self.old.jobs }
         ensures jobs { length self.old.jobs ≡ length self.new.jobs + 1 }
@@ -72,8 +72,6 @@ impl JobTable {
         self.active = fewer(self.active, active);
         self.busy = fewer(self.busy, busy);
         forget(&mut self.names, job);
-        // `len` tells that places differ.
-        self.waiting.len();
     }
 
     // What was noted last is undone.
