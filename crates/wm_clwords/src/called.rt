@@ -22,14 +22,14 @@ use wm_base::{Args, NoMemory, QName, Text};
 const MAX_PARMS: usize = 40;
 
 /// A CALL: its program and the values of PARM, none where there is no PARM.
-#[derive(Debug, Drop)]
+#[derive(Drop)]
 pub struct CallText {
     pub pgm: QName,
     pub parms: Args,
 }
 
 /// Why no CALL was read.
-#[derive(Clone, Copy, Debug, PartialEq, Eq, Error)]
+#[derive(Clone, Copy, Debug, Error)]
 pub enum CallFault {
     #[error("no CALL")]
     NotCall,

@@ -1,7 +1,7 @@
 // Where the reader of a command stands.
 
 /// What the bytes so far end with.
-#[derive(Clone, Copy, Debug, PartialEq, Eq)]
+#[derive(Clone, Copy)]
 pub enum Mode {
     /// An item or a gap may begin.
     Free,

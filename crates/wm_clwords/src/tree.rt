@@ -3,7 +3,7 @@
 use wm_base::{Name, Text};
 
 /// Where an item stands in the text.
-#[derive(Clone, Copy, Debug, PartialEq, Eq)]
+#[derive(Clone, Copy)]
 pub struct Span {
     /// The place of its first byte, counted from 0.
     pub place: u32,
@@ -12,7 +12,7 @@ pub struct Span {
 }
 
 /// An item of a command. Words and keys are in capitals.
-#[derive(Debug, Drop)]
+#[derive(Drop)]
 pub enum Item {
     Word(Span, Text),
     /// The text without its apostrophes, where a doubled one stands for one.
@@ -23,7 +23,7 @@ pub enum Item {
 }
 
 /// A command: its name, and the items behind it.
-#[derive(Debug, Drop)]
+#[derive(Drop)]
 pub struct Tree {
     pub name: Name,
     pub items: Vec<Item>,

@@ -20,7 +20,7 @@ use crate::objects::{
     crtsbsd_values,
 };
 use crate::table::{change_word, verb_of};
-use crate::value::{Value, Values};
+use crate::value::{Given, Value, Values};
 use crate::verb::ChangeVerb;
 use std::alloc::Global;
 use wm_base::{Key, NoMemory};
@@ -69,9 +69,8 @@ pub fn change_made(verb: ChangeVerb, values: &Values) -> Result<Command, NoMemor
 fn alone(alloc: Global, key: Key, value: Value) -> Result<Values, NoMemory>
     ensures { IfOk result (λ v. v ≡ with_key key value ∷ []) }
 {
-    let mut values = Values::new(alloc);
-    values.push(key, value)?;
-    Ok(values)
+    let items = vec![in alloc; Given::new(key, value)]?;
+    Ok(Values::from_vec(alloc, items))
 }
 
 /// All keys but CMD, TEXT and POOLS, with their values. An `Err` is want of memory.

@@ -3,9 +3,9 @@
 ghost use Rattle.std.specs.Prelude.{◌≡◌, IfOk};
 ghost use Rattle.wm_command.specs.Control.{endsbs, endsbs_values, strpj, strpj_values, endpj, endpj_values, evoke, evoke_values, pwrdwnsys, pwrdwnsys_values};
 
-use crate::fields::{maybe, word_or};
+use crate::fields::{maybe, number_or};
 use crate::row::Special;
-use crate::value::{Value, Values};
+use crate::value::{Given, Value, Values};
 use std::alloc::Global;
 use wm_base::{Key, NoMemory};
 use wm_law::{Endpj, Endsbs, EvokeCommand, Pwrdwnsys, Strpj};
@@ -25,14 +25,12 @@ pub fn endsbs(values: &Values) -> Endsbs
 pub fn endsbs_values(alloc: Global, c: &Endsbs) -> Result<Values, NoMemory>
     ensures { IfOk result (λ v. v ≡ endsbs_values c.now) }
 {
-    let mut values = Values::new(alloc);
-    values.push(Key::Sbs, Value::Name(c.sbs))?;
-    values.push(Key::Option, Value::Ending(c.option))?;
-    values.push(
-        Key::Delay,
-        word_or(Special::Nolimit, c.delay.map(Value::Number)),
-    )?;
-    Ok(values)
+    let items = vec![in alloc;
+        Given::new(Key::Sbs, Value::Name(c.sbs)),
+        Given::new(Key::Option, Value::Ending(c.option)),
+        Given::new(Key::Delay, number_or(Special::Nolimit, c.delay)),
+    ]?;
+    Ok(Values::from_vec(alloc, items))
 }
 
 #[tactic(auto, unfolding(crate::specs::Control::strpj))]
@@ -49,10 +47,11 @@ pub fn strpj(values: &Values) -> Strpj
 pub fn strpj_values(alloc: Global, c: &Strpj) -> Result<Values, NoMemory>
     ensures { IfOk result (λ v. v ≡ strpj_values c.now) }
 {
-    let mut values = Values::new(alloc);
-    values.push(Key::Sbs, Value::Name(c.sbs))?;
-    values.push(Key::Pgm, Value::Object(c.pgm))?;
-    Ok(values)
+    let items = vec![in alloc;
+        Given::new(Key::Sbs, Value::Name(c.sbs)),
+        Given::new(Key::Pgm, Value::Object(c.pgm)),
+    ]?;
+    Ok(Values::from_vec(alloc, items))
 }
 
 #[tactic(auto, unfolding(crate::specs::Control::endpj))]
@@ -71,15 +70,13 @@ pub fn endpj(values: &Values) -> Endpj
 pub fn endpj_values(alloc: Global, c: &Endpj) -> Result<Values, NoMemory>
     ensures { IfOk result (λ v. v ≡ endpj_values c.now) }
 {
-    let mut values = Values::new(alloc);
-    values.push(Key::Sbs, Value::Name(c.sbs))?;
-    values.push(Key::Pgm, Value::Object(c.pgm))?;
-    values.push(Key::Option, Value::Ending(c.option))?;
-    values.push(
-        Key::Delay,
-        word_or(Special::Nolimit, c.delay.map(Value::Number)),
-    )?;
-    Ok(values)
+    let items = vec![in alloc;
+        Given::new(Key::Sbs, Value::Name(c.sbs)),
+        Given::new(Key::Pgm, Value::Object(c.pgm)),
+        Given::new(Key::Option, Value::Ending(c.option)),
+        Given::new(Key::Delay, number_or(Special::Nolimit, c.delay)),
+    ]?;
+    Ok(Values::from_vec(alloc, items))
 }
 
 #[tactic(auto, unfolding(crate::specs::Control::evoke))]
@@ -96,10 +93,11 @@ pub fn evoke(values: &Values) -> EvokeCommand
 pub fn evoke_values(alloc: Global, c: &EvokeCommand) -> Result<Values, NoMemory>
     ensures { IfOk result (λ v. v ≡ evoke_values c.now) }
 {
-    let mut values = Values::new(alloc);
-    values.push(Key::Sbs, Value::Name(c.sbs))?;
-    values.push(Key::Pgm, Value::Object(c.pgm))?;
-    Ok(values)
+    let items = vec![in alloc;
+        Given::new(Key::Sbs, Value::Name(c.sbs)),
+        Given::new(Key::Pgm, Value::Object(c.pgm)),
+    ]?;
+    Ok(Values::from_vec(alloc, items))
 }
 
 #[tactic(auto, unfolding(crate::specs::Control::pwrdwnsys))]
@@ -116,11 +114,9 @@ pub fn pwrdwnsys(values: &Values) -> Pwrdwnsys
 pub fn pwrdwnsys_values(alloc: Global, c: &Pwrdwnsys) -> Result<Values, NoMemory>
     ensures { IfOk result (λ v. v ≡ pwrdwnsys_values c.now) }
 {
-    let mut values = Values::new(alloc);
-    values.push(Key::Option, Value::Ending(c.option))?;
-    values.push(
-        Key::Delay,
-        word_or(Special::Nolimit, c.delay.map(Value::Number)),
-    )?;
-    Ok(values)
+    let items = vec![in alloc;
+        Given::new(Key::Option, Value::Ending(c.option)),
+        Given::new(Key::Delay, number_or(Special::Nolimit, c.delay)),
+    ]?;
+    Ok(Values::from_vec(alloc, items))
 }

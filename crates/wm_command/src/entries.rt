@@ -4,7 +4,7 @@ ghost use Rattle.std.specs.Prelude.{◌≡◌, IfOk};
 ghost use Rattle.wm_command.specs.Entries.{addjobqe, addjobqe_values, addrtge, addrtge_values, addaje, addaje_values, addpje, addpje_values, rmvjobqe, rmvjobqe_values, rmvrtge, rmvrtge_values, rmvaje, rmvaje_values, rmvpje, rmvpje_values};
 
 use crate::fields::limit_value;
-use crate::value::{Value, Values};
+use crate::value::{Given, Value, Values};
 use std::alloc::Global;
 use wm_base::{Key, NoMemory};
 use wm_law::{Addaje, Addjobqe, Addpje, Addrtge, Rmvaje, Rmvjobqe, Rmvpje, Rmvrtge};
@@ -26,21 +26,22 @@ pub fn addjobqe(values: &Values) -> Addjobqe
 pub fn addjobqe_values(alloc: Global, c: &Addjobqe) -> Result<Values, NoMemory>
     ensures { IfOk result (λ v. v ≡ addjobqe_values c.now) }
 {
-    let mut values = Values::new(alloc);
-    values.push(Key::Sbsd, Value::Object(c.sbsd))?;
-    values.push(Key::Jobq, Value::Object(c.jobq))?;
-    values.push(Key::Maxact, limit_value(c.maxact))?;
-    values.push(Key::Seqnbr, Value::Number(c.seqnbr))?;
-    values.push(Key::Maxpty1, limit_value(c.maxpty[0]))?;
-    values.push(Key::Maxpty2, limit_value(c.maxpty[1]))?;
-    values.push(Key::Maxpty3, limit_value(c.maxpty[2]))?;
-    values.push(Key::Maxpty4, limit_value(c.maxpty[3]))?;
-    values.push(Key::Maxpty5, limit_value(c.maxpty[4]))?;
-    values.push(Key::Maxpty6, limit_value(c.maxpty[5]))?;
-    values.push(Key::Maxpty7, limit_value(c.maxpty[6]))?;
-    values.push(Key::Maxpty8, limit_value(c.maxpty[7]))?;
-    values.push(Key::Maxpty9, limit_value(c.maxpty[8]))?;
-    Ok(values)
+    let items = vec![in alloc;
+        Given::new(Key::Sbsd, Value::Object(c.sbsd)),
+        Given::new(Key::Jobq, Value::Object(c.jobq)),
+        Given::new(Key::Maxact, limit_value(c.maxact)),
+        Given::new(Key::Seqnbr, Value::Number(c.seqnbr)),
+        Given::new(Key::Maxpty1, limit_value(c.maxpty[0])),
+        Given::new(Key::Maxpty2, limit_value(c.maxpty[1])),
+        Given::new(Key::Maxpty3, limit_value(c.maxpty[2])),
+        Given::new(Key::Maxpty4, limit_value(c.maxpty[3])),
+        Given::new(Key::Maxpty5, limit_value(c.maxpty[4])),
+        Given::new(Key::Maxpty6, limit_value(c.maxpty[5])),
+        Given::new(Key::Maxpty7, limit_value(c.maxpty[6])),
+        Given::new(Key::Maxpty8, limit_value(c.maxpty[7])),
+        Given::new(Key::Maxpty9, limit_value(c.maxpty[8])),
+    ]?;
+    Ok(Values::from_vec(alloc, items))
 }
 
 #[tactic(auto, unfolding(crate::specs::Entries::addrtge))]
@@ -62,15 +63,17 @@ pub fn addrtge(values: &Values) -> Result<Addrtge, NoMemory>
 pub fn addrtge_values(alloc: Global, c: &Addrtge) -> Result<Values, NoMemory>
     ensures { IfOk result (λ v. v ≡ addrtge_values c.now) }
 {
-    let mut values = Values::new(alloc);
-    values.push(Key::Sbsd, Value::Object(c.sbsd))?;
-    values.push(Key::Seqnbr, Value::Number(c.seqnbr))?;
-    values.push(Key::Cmpval, Value::Compare(c.cmpval.clone()?))?;
-    values.push(Key::Pgm, Value::Object(c.pgm))?;
-    values.push(Key::Cls, Value::Object(c.cls))?;
-    values.push(Key::Maxact, limit_value(c.maxact))?;
-    values.push(Key::Poolid, Value::Number(c.poolid))?;
-    Ok(values)
+    let cmpval = c.cmpval.clone()?;
+    let items = vec![in alloc;
+        Given::new(Key::Sbsd, Value::Object(c.sbsd)),
+        Given::new(Key::Seqnbr, Value::Number(c.seqnbr)),
+        Given::new(Key::Cmpval, Value::Compare(cmpval)),
+        Given::new(Key::Pgm, Value::Object(c.pgm)),
+        Given::new(Key::Cls, Value::Object(c.cls)),
+        Given::new(Key::Maxact, limit_value(c.maxact)),
+        Given::new(Key::Poolid, Value::Number(c.poolid)),
+    ]?;
+    Ok(Values::from_vec(alloc, items))
 }
 
 #[tactic(auto, unfolding(crate::specs::Entries::addaje))]
@@ -88,11 +91,12 @@ pub fn addaje(values: &Values) -> Addaje
 pub fn addaje_values(alloc: Global, c: &Addaje) -> Result<Values, NoMemory>
     ensures { IfOk result (λ v. v ≡ addaje_values c.now) }
 {
-    let mut values = Values::new(alloc);
-    values.push(Key::Sbsd, Value::Object(c.sbsd))?;
-    values.push(Key::Job, Value::Name(c.job))?;
-    values.push(Key::Jobd, Value::Object(c.jobd))?;
-    Ok(values)
+    let items = vec![in alloc;
+        Given::new(Key::Sbsd, Value::Object(c.sbsd)),
+        Given::new(Key::Job, Value::Name(c.job)),
+        Given::new(Key::Jobd, Value::Object(c.jobd)),
+    ]?;
+    Ok(Values::from_vec(alloc, items))
 }
 
 #[tactic(auto, unfolding(crate::specs::Entries::addpje))]
@@ -118,19 +122,20 @@ pub fn addpje(values: &Values) -> Addpje
 pub fn addpje_values(alloc: Global, c: &Addpje) -> Result<Values, NoMemory>
     ensures { IfOk result (λ v. v ≡ addpje_values c.now) }
 {
-    let mut values = Values::new(alloc);
-    values.push(Key::Sbsd, Value::Object(c.sbsd))?;
-    values.push(Key::Pgm, Value::Object(c.pgm))?;
-    values.push(Key::Strjobs, Value::Flag(c.strjobs))?;
-    values.push(Key::Inljobs, Value::Number(c.inljobs))?;
-    values.push(Key::Threshold, Value::Number(c.threshold))?;
-    values.push(Key::Adljobs, Value::Number(c.adljobs))?;
-    values.push(Key::Maxjobs, limit_value(c.maxjobs))?;
-    values.push(Key::Maxuse, limit_value(c.maxuse))?;
-    values.push(Key::Wait, Value::Flag(c.wait))?;
-    values.push(Key::Cls, Value::Object(c.cls))?;
-    values.push(Key::Poolid, Value::Number(c.poolid))?;
-    Ok(values)
+    let items = vec![in alloc;
+        Given::new(Key::Sbsd, Value::Object(c.sbsd)),
+        Given::new(Key::Pgm, Value::Object(c.pgm)),
+        Given::new(Key::Strjobs, Value::Flag(c.strjobs)),
+        Given::new(Key::Inljobs, Value::Number(c.inljobs)),
+        Given::new(Key::Threshold, Value::Number(c.threshold)),
+        Given::new(Key::Adljobs, Value::Number(c.adljobs)),
+        Given::new(Key::Maxjobs, limit_value(c.maxjobs)),
+        Given::new(Key::Maxuse, limit_value(c.maxuse)),
+        Given::new(Key::Wait, Value::Flag(c.wait)),
+        Given::new(Key::Cls, Value::Object(c.cls)),
+        Given::new(Key::Poolid, Value::Number(c.poolid)),
+    ]?;
+    Ok(Values::from_vec(alloc, items))
 }
 
 #[tactic(auto, unfolding(crate::specs::Entries::rmvjobqe))]
@@ -147,10 +152,11 @@ pub fn rmvjobqe(values: &Values) -> Rmvjobqe
 pub fn rmvjobqe_values(alloc: Global, c: &Rmvjobqe) -> Result<Values, NoMemory>
     ensures { IfOk result (λ v. v ≡ rmvjobqe_values c.now) }
 {
-    let mut values = Values::new(alloc);
-    values.push(Key::Sbsd, Value::Object(c.sbsd))?;
-    values.push(Key::Jobq, Value::Object(c.jobq))?;
-    Ok(values)
+    let items = vec![in alloc;
+        Given::new(Key::Sbsd, Value::Object(c.sbsd)),
+        Given::new(Key::Jobq, Value::Object(c.jobq)),
+    ]?;
+    Ok(Values::from_vec(alloc, items))
 }
 
 #[tactic(auto, unfolding(crate::specs::Entries::rmvrtge))]
@@ -167,10 +173,11 @@ pub fn rmvrtge(values: &Values) -> Rmvrtge
 pub fn rmvrtge_values(alloc: Global, c: &Rmvrtge) -> Result<Values, NoMemory>
     ensures { IfOk result (λ v. v ≡ rmvrtge_values c.now) }
 {
-    let mut values = Values::new(alloc);
-    values.push(Key::Sbsd, Value::Object(c.sbsd))?;
-    values.push(Key::Seqnbr, Value::Number(c.seqnbr))?;
-    Ok(values)
+    let items = vec![in alloc;
+        Given::new(Key::Sbsd, Value::Object(c.sbsd)),
+        Given::new(Key::Seqnbr, Value::Number(c.seqnbr)),
+    ]?;
+    Ok(Values::from_vec(alloc, items))
 }
 
 #[tactic(auto, unfolding(crate::specs::Entries::rmvaje))]
@@ -187,10 +194,11 @@ pub fn rmvaje(values: &Values) -> Rmvaje
 pub fn rmvaje_values(alloc: Global, c: &Rmvaje) -> Result<Values, NoMemory>
     ensures { IfOk result (λ v. v ≡ rmvaje_values c.now) }
 {
-    let mut values = Values::new(alloc);
-    values.push(Key::Sbsd, Value::Object(c.sbsd))?;
-    values.push(Key::Job, Value::Name(c.job))?;
-    Ok(values)
+    let items = vec![in alloc;
+        Given::new(Key::Sbsd, Value::Object(c.sbsd)),
+        Given::new(Key::Job, Value::Name(c.job)),
+    ]?;
+    Ok(Values::from_vec(alloc, items))
 }
 
 #[tactic(auto, unfolding(crate::specs::Entries::rmvpje))]
@@ -207,8 +215,9 @@ pub fn rmvpje(values: &Values) -> Rmvpje
 pub fn rmvpje_values(alloc: Global, c: &Rmvpje) -> Result<Values, NoMemory>
     ensures { IfOk result (λ v. v ≡ rmvpje_values c.now) }
 {
-    let mut values = Values::new(alloc);
-    values.push(Key::Sbsd, Value::Object(c.sbsd))?;
-    values.push(Key::Pgm, Value::Object(c.pgm))?;
-    Ok(values)
+    let items = vec![in alloc;
+        Given::new(Key::Sbsd, Value::Object(c.sbsd)),
+        Given::new(Key::Pgm, Value::Object(c.pgm)),
+    ]?;
+    Ok(Values::from_vec(alloc, items))
 }

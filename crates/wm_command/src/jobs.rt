@@ -2,9 +2,9 @@
 ghost use Rattle.std.specs.Prelude.{◌≡◌, IfOk};
 ghost use Rattle.wm_command.specs.Jobs.{sbmjob, sbmjob_values, chgjob, chgjob_values, endjob, endjob_values};
 
-use crate::fields::{maybe, priority_or, text_or, word_or};
+use crate::fields::{date_or, flag_or, maybe, name_or, object_or, priority_or, text_or, time_or};
 use crate::row::Special;
-use crate::value::{Value, Values};
+use crate::value::{Given, Value, Values};
 use std::alloc::Global;
 use wm_base::{Key, NoMemory};
 use wm_law::{Chgjob, Endjob, Sbmjob};
@@ -30,17 +30,20 @@ pub fn sbmjob(values: &Values) -> Result<Sbmjob, NoMemory>
 pub fn sbmjob_values(alloc: Global, c: &Sbmjob) -> Result<Values, NoMemory>
     ensures { IfOk result (λ v. v ≡ sbmjob_values c.now) }
 {
-    let mut values = Values::new(alloc);
-    values.push(Key::Rqsdta, text_or(Special::Jobd, &c.rqsdta)?)?;
-    values.push(Key::Job, word_or(Special::Jobd, c.job.map(Value::Name)))?;
-    values.push(Key::Jobd, Value::Object(c.jobd))?;
-    values.push(Key::Jobq, word_or(Special::Jobd, c.jobq.map(Value::Object)))?;
-    values.push(Key::Jobpty, priority_or(Special::Jobd, c.jobpty))?;
-    values.push(Key::Rtgdta, text_or(Special::Jobd, &c.rtgdta)?)?;
-    values.push(Key::Hold, word_or(Special::Jobd, c.hold.map(Value::Flag)))?;
-    values.push(Key::Scddate, Value::Date(c.scddate))?;
-    values.push(Key::Scdtime, Value::Time(c.scdtime))?;
-    Ok(values)
+    let rqsdta = text_or(Special::Jobd, &c.rqsdta)?;
+    let rtgdta = text_or(Special::Jobd, &c.rtgdta)?;
+    let items = vec![in alloc;
+        Given::new(Key::Rqsdta, rqsdta),
+        Given::new(Key::Job, name_or(Special::Jobd, c.job)),
+        Given::new(Key::Jobd, Value::Object(c.jobd)),
+        Given::new(Key::Jobq, object_or(Special::Jobd, c.jobq)),
+        Given::new(Key::Jobpty, priority_or(Special::Jobd, c.jobpty)),
+        Given::new(Key::Rtgdta, rtgdta),
+        Given::new(Key::Hold, flag_or(Special::Jobd, c.hold)),
+        Given::new(Key::Scddate, Value::Date(c.scddate)),
+        Given::new(Key::Scdtime, Value::Time(c.scdtime)),
+    ]?;
+    Ok(Values::from_vec(alloc, items))
 }
 
 #[tactic(auto, unfolding(crate::specs::Jobs::chgjob))]
@@ -60,19 +63,14 @@ pub fn chgjob(values: &Values) -> Chgjob
 pub fn chgjob_values(alloc: Global, c: &Chgjob) -> Result<Values, NoMemory>
     ensures { IfOk result (λ v. v ≡ chgjob_values c.now) }
 {
-    let mut values = Values::new(alloc);
-    values.push(Key::Job, Value::Job(c.job))?;
-    values.push(Key::Jobpty, priority_or(Special::Same, c.jobpty))?;
-    values.push(Key::Jobq, word_or(Special::Same, c.jobq.map(Value::Object)))?;
-    values.push(
-        Key::Scddate,
-        word_or(Special::Same, c.scddate.map(Value::Date)),
-    )?;
-    values.push(
-        Key::Scdtime,
-        word_or(Special::Same, c.scdtime.map(Value::Time)),
-    )?;
-    Ok(values)
+    let items = vec![in alloc;
+        Given::new(Key::Job, Value::Job(c.job)),
+        Given::new(Key::Jobpty, priority_or(Special::Same, c.jobpty)),
+        Given::new(Key::Jobq, object_or(Special::Same, c.jobq)),
+        Given::new(Key::Scddate, date_or(Special::Same, c.scddate)),
+        Given::new(Key::Scdtime, time_or(Special::Same, c.scdtime)),
+    ]?;
+    Ok(Values::from_vec(alloc, items))
 }
 
 #[tactic(auto, unfolding(crate::specs::Jobs::endjob))]
@@ -90,9 +88,10 @@ pub fn endjob(values: &Values) -> Endjob
 pub fn endjob_values(alloc: Global, c: &Endjob) -> Result<Values, NoMemory>
     ensures { IfOk result (λ v. v ≡ endjob_values c.now) }
 {
-    let mut values = Values::new(alloc);
-    values.push(Key::Job, Value::Job(c.job))?;
-    values.push(Key::Option, Value::Ending(c.option))?;
-    values.push(Key::Delay, Value::Number(c.delay))?;
-    Ok(values)
+    let items = vec![in alloc;
+        Given::new(Key::Job, Value::Job(c.job)),
+        Given::new(Key::Option, Value::Ending(c.option)),
+        Given::new(Key::Delay, Value::Number(c.delay)),
+    ]?;
+    Ok(Values::from_vec(alloc, items))
 }

@@ -4,7 +4,7 @@ ghost use Rattle.wm_command.specs.Objects.{crtcls, crtcls_values, crtpgmref, crt
 
 use crate::fields::{limit_value, text_or};
 use crate::row::Special;
-use crate::value::{Value, Values};
+use crate::value::{Given, Value, Values};
 use std::alloc::Global;
 use wm_base::{Key, NoMemory};
 use wm_law::{Crtcls, Crtjobd, Crtpgmref, Crtsbsd};
@@ -25,12 +25,13 @@ pub fn crtcls(values: &Values) -> Crtcls
 pub fn crtcls_values(alloc: Global, c: &Crtcls) -> Result<Values, NoMemory>
     ensures { IfOk result (λ v. v ≡ crtcls_values c.now) }
 {
-    let mut values = Values::new(alloc);
-    values.push(Key::Cls, Value::Object(c.cls))?;
-    values.push(Key::Runpty, Value::Number(c.runpty))?;
-    values.push(Key::Timeslice, Value::Number(c.timeslice))?;
-    values.push(Key::Dftwait, limit_value(c.dftwait))?;
-    Ok(values)
+    let items = vec![in alloc;
+        Given::new(Key::Cls, Value::Object(c.cls)),
+        Given::new(Key::Runpty, Value::Number(c.runpty)),
+        Given::new(Key::Timeslice, Value::Number(c.timeslice)),
+        Given::new(Key::Dftwait, limit_value(c.dftwait)),
+    ]?;
+    Ok(Values::from_vec(alloc, items))
 }
 
 #[tactic(auto, unfolding(crate::specs::Objects::crtpgmref))]
@@ -47,10 +48,12 @@ pub fn crtpgmref(values: &Values) -> Result<Crtpgmref, NoMemory>
 pub fn crtpgmref_values(alloc: Global, c: &Crtpgmref) -> Result<Values, NoMemory>
     ensures { IfOk result (λ v. v ≡ crtpgmref_values c.now) }
 {
-    let mut values = Values::new(alloc);
-    values.push(Key::Pgm, Value::Object(c.pgm))?;
-    values.push(Key::Path, Value::Text(c.path.clone()?))?;
-    Ok(values)
+    let path = c.path.clone()?;
+    let items = vec![in alloc;
+        Given::new(Key::Pgm, Value::Object(c.pgm)),
+        Given::new(Key::Path, Value::Text(path)),
+    ]?;
+    Ok(Values::from_vec(alloc, items))
 }
 
 #[tactic(auto, unfolding(crate::specs::Objects::crtjobd))]
@@ -71,14 +74,17 @@ pub fn crtjobd(values: &Values) -> Result<Crtjobd, NoMemory>
 pub fn crtjobd_values(alloc: Global, c: &Crtjobd) -> Result<Values, NoMemory>
     ensures { IfOk result (λ v. v ≡ crtjobd_values c.now) }
 {
-    let mut values = Values::new(alloc);
-    values.push(Key::Jobd, Value::Object(c.jobd))?;
-    values.push(Key::Jobq, Value::Object(c.jobq))?;
-    values.push(Key::Jobpty, Value::Number(c.jobpty.get() as u32))?;
-    values.push(Key::Rtgdta, Value::Text(c.rtgdta.clone()?))?;
-    values.push(Key::Rqsdta, text_or(Special::None, &c.rqsdta)?)?;
-    values.push(Key::Hold, Value::Flag(c.hold))?;
-    Ok(values)
+    let rtgdta = c.rtgdta.clone()?;
+    let rqsdta = text_or(Special::None, &c.rqsdta)?;
+    let items = vec![in alloc;
+        Given::new(Key::Jobd, Value::Object(c.jobd)),
+        Given::new(Key::Jobq, Value::Object(c.jobq)),
+        Given::new(Key::Jobpty, Value::Number(c.jobpty.get() as u32)),
+        Given::new(Key::Rtgdta, Value::Text(rtgdta)),
+        Given::new(Key::Rqsdta, rqsdta),
+        Given::new(Key::Hold, Value::Flag(c.hold)),
+    ]?;
+    Ok(Values::from_vec(alloc, items))
 }
 
 #[tactic(auto, unfolding(crate::specs::Objects::crtsbsd))]
@@ -95,8 +101,9 @@ pub fn crtsbsd(values: &Values) -> Crtsbsd
 pub fn crtsbsd_values(alloc: Global, c: &Crtsbsd) -> Result<Values, NoMemory>
     ensures { IfOk result (λ v. v ≡ crtsbsd_values c.now) }
 {
-    let mut values = Values::new(alloc);
-    values.push(Key::Sbsd, Value::Object(c.sbsd))?;
-    values.push(Key::Maxjobs, limit_value(c.maxjobs))?;
-    Ok(values)
+    let items = vec![in alloc;
+        Given::new(Key::Sbsd, Value::Object(c.sbsd)),
+        Given::new(Key::Maxjobs, limit_value(c.maxjobs)),
+    ]?;
+    Ok(Values::from_vec(alloc, items))
 }

@@ -2,7 +2,7 @@
 use wm_base::Key;
 
 /// What a value is, where it is no special word.
-#[derive(Clone, Copy, Debug, PartialEq, Eq)]
+#[derive(Clone, Copy)]
 pub enum Kind {
     /// A qualified name.
     Object,
@@ -31,7 +31,7 @@ pub enum Kind {
 }
 
 /// The word with an asterisk that may stand in place of a value.
-#[derive(Clone, Copy, Debug, PartialEq, Eq)]
+#[derive(Clone, Copy)]
 pub enum Special {
     Never,
     Nomax,
@@ -43,7 +43,7 @@ pub enum Special {
 }
 
 /// What a key has where it isn't given.
-#[derive(Clone, Copy, Debug, PartialEq, Eq)]
+#[derive(Clone, Copy)]
 pub enum Default {
     /// It has to be given.
     Required,
@@ -68,7 +68,7 @@ pub enum Default {
 }
 
 /// A key of a command, what it takes, and what it has where it isn't given.
-#[derive(Clone, Copy, Debug, PartialEq, Eq)]
+#[derive(Clone, Copy)]
 pub struct Row {
     pub key: Key,
     pub kind: Kind,

@@ -8,7 +8,7 @@ use wm_law::{EndOption, JobRef};
 use wm_when::{DateSpec, TimeSpec};
 
 /// What a key has.
-#[derive(Debug, PartialEq, Eq, Drop)]
+#[derive(Drop)]
 pub enum Value {
     /// Nothing: it wasn't given, or what was given is dropped.
     Nothing,
@@ -27,14 +27,24 @@ pub enum Value {
 }
 
 /// A key with its value.
-#[derive(Debug, PartialEq, Eq, Drop)]
+#[derive(Drop)]
 pub struct Given {
     pub key: Key,
     pub value: Value,
 }
 
+impl Given {
+    ghost use Rattle.std.specs.Prelude.{◌≡◌};
+
+    pub fn new(key: Key, value: Value) -> Given
+        ensures { result ≡ record { key = key; value = value } }
+    {
+        Given { key, value }
+    }
+}
+
 /// Keys with their values, in the order in which they came. A contract sees it as their list.
-#[derive(Debug, Drop)]
+#[derive(Drop)]
 pub struct Values {
     alloc: Global,
     items: Vec<Given>,
@@ -59,6 +69,13 @@ impl Values {
             alloc,
             items: Vec::new(alloc),
         }
+    }
+
+    /// Keys with their values, which may take more memory from `alloc`.
+    pub fn from_vec(alloc: Global, items: Vec<Given>) -> Values
+        ensures { result ≡ items.items }
+    {
+        Values { alloc, items }
     }
 
     /// Adds a key with its value at the end. An `Err` is want of memory, and they are as before.

@@ -1,7 +1,7 @@
 // The commands by name.
 
 /// A command that changes the state.
-#[derive(Clone, Copy, Debug, PartialEq, Eq)]
+#[derive(Clone, Copy, PartialEq, Eq)]
 pub enum ChangeVerb {
     Crtcls,
     Crtjobq,
@@ -34,7 +34,7 @@ pub enum ChangeVerb {
 }
 
 /// A command that reads.
-#[derive(Clone, Copy, Debug, PartialEq, Eq)]
+#[derive(Clone, Copy)]
 pub enum ReadVerb {
     Wrkactjob,
     Wrksbmjob,

@@ -4,17 +4,17 @@ use std::alloc::Global;
 use wm_base::{Class, Limit, Priority, QName, Text};
 
 /// A job queue.
-#[derive(Clone, Copy, Debug, PartialEq, Eq)]
+#[derive(Clone, Copy, PartialEq, Eq)]
 pub struct Jobq {}
 
 /// A program: where the one that is started lies.
-#[derive(Clone, Debug, PartialEq, Eq, Drop)]
+#[derive(Clone, PartialEq, Eq, Drop)]
 pub struct Program {
     pub path: Text,
 }
 
 /// A job description: what a submitted or autostart job gets where its command doesn't say.
-#[derive(Clone, Debug, PartialEq, Eq, Drop)]
+#[derive(Clone, PartialEq, Eq, Drop)]
 pub struct Jobd {
     pub jobq: QName,
     pub pty: Priority,
@@ -24,7 +24,7 @@ pub struct Jobd {
 }
 
 /// A subsystem description.
-#[derive(Clone, Debug, PartialEq, Eq, Drop)]
+#[derive(Clone, PartialEq, Eq, Drop)]
 pub struct Sbsd {
     pub maxjobs: Limit,
     pub queues: QueueEntries,

@@ -4,7 +4,7 @@ use thiserror::Error;
 use wm_base::Refusal;
 
 /// Why something wasn't added: a rule refuses it, or memory is wanting.
-#[derive(Clone, Copy, Debug, PartialEq, Eq, Error)]
+#[derive(Clone, Copy, Debug, Error)]
 pub enum DescFault {
     #[error("refused: {0:?}")]
     No(Refusal),

@@ -1,11 +1,13 @@
 // Whether a rule refuses an object or an entry.
-ghost use Rattle.std.specs.Prelude.{◌≡◌};
-ghost use Rattle.wm_desc.specs.Refusals.{object_refusal, program_refusal, queue_refusal, is_any_before, any_not_last, route_refusal, auto_refusal, is_above, first_refusal, relation_tests, pre_refusal, remove_queue_refusal, remove_route_refusal, remove_auto_refusal, remove_pre_refusal};
+ghost use Rattle.std.specs.Prelude.{◌≡◌, ◌∷◌, ◌++◌, []};
+ghost use Rattle.wm_base.specs.declared.refusal.Kind.TheVariants as kind;
+ghost use Rattle.wm_base.specs.declared.refusal.Refusal.TheVariants.{TableFull};
+ghost use Rattle.wm_desc.specs.Refusals.{object_refusal, program_refusal, queue_refusal, is_any_before, any_not_last, route_refusal, auto_refusal, is_full, is_above, first_refusal, relation_tests, pre_refusal, remove_queue_refusal, remove_route_refusal, remove_auto_refusal, remove_pre_refusal};
 ghost use Rattle.wm_desc.specs.Table.{is_qcmd};
 
 use crate::{
-    AutoEntry, Cmp, MAX_AUTOS, MAX_OBJECTS, MAX_PRES, MAX_QUEUES, MAX_ROUTES, Objects, PreEntry,
-    Programs, QueueEntry, RouteEntry, Table,
+    AutoEntry, Cmp, MAX_AUTOS, MAX_OBJECTS, MAX_PRES, MAX_QUEUES, MAX_ROUTES, Objects, PreEntries,
+    PreEntry, Programs, QueueEntry, RouteEntry, Table,
 };
 use wm_base::{Key, Kind, Limit, Name, QName, Refusal};
 
@@ -133,6 +135,19 @@ fn relation_refusal(entry: &PreEntry) -> Option<Refusal>
     }
 }
 
+// What of an entry's own values, or of how many entries there are, refuses it.
+fn pre_entry_refusal(entry: &PreEntry, pres: &PreEntries) -> Option<Refusal>
+    ensures { result ≡ first_refusal (relation_tests entry.now ++ (is_full 100 pres.now, TableFull kind.Pje 100) ∷ []) }
+{
+    if let Some(refusal) = relation_refusal(entry) {
+        Some(refusal)
+    } else if pres.len() >= MAX_PRES {
+        Some(Refusal::TableFull(Kind::Pje, MAX_PRES as u32))
+    } else {
+        None
+    }
+}
+
 pub(crate) fn pre_refusal(objects: &Objects, sbsd: &QName, entry: &PreEntry) -> Option<Refusal>
     ensures { result ≡ pre_refusal objects.now sbsd.now entry.now }
 {
@@ -145,12 +160,8 @@ pub(crate) fn pre_refusal(objects: &Objects, sbsd: &QName, entry: &PreEntry) -> 
         Some(Refusal::NoObject(Kind::Cls))
     } else if description.pres.contains(&entry.pgm) {
         Some(Refusal::Exists(Kind::Pje))
-    } else if let Some(refusal) = relation_refusal(entry) {
-        Some(refusal)
-    } else if description.pres.len() >= MAX_PRES {
-        Some(Refusal::TableFull(Kind::Pje, MAX_PRES as u32))
     } else {
-        None
+        pre_entry_refusal(entry, &description.pres)
     }
 }
 

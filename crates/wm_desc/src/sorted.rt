@@ -36,7 +36,7 @@ impl Keyed for QName {
 
 /// A list in ascending order of its elements' keys, with each key once. A contract sees it as the plain list.
 /// A look-up by key halves the list at each step.
-#[derive(Debug, Drop)]
+#[derive(Drop)]
 pub struct SortedList<E: Keyed> {
     pub(crate) items: Vec<E>,
 }

@@ -3,7 +3,7 @@ use wm_base::{EndCause, JobNumber, Moment, Name, Priority, QName, Text};
 use wm_law::JobKind;
 
 /// The phase of a stored job. Which active phase a job has isn't stored.
-#[derive(Clone, Copy, Debug, PartialEq, Eq)]
+#[derive(Clone, Copy, Debug)]
 pub enum StoredPhase {
     Waiting,
     Active,
@@ -11,7 +11,7 @@ pub enum StoredPhase {
 }
 
 /// What is stored of a job. Its place in a subsystem, its wish to end and its uses aren't: no active job outlives a stop.
-#[derive(Clone, Debug, PartialEq, Eq, Drop)]
+#[derive(Drop)]
 pub struct StoredJob {
     pub serial: u64,
     pub number: JobNumber,

@@ -2,7 +2,6 @@
 ghost use Rattle.std.specs.Prelude.{◌≡◌, IfOk};
 
 use std::alloc::Global;
-use std::fmt;
 use std::marker::Model;
 use wm_base::NoMemory;
 
@@ -34,35 +33,5 @@ impl<T> Boxed<T> {
         ensures { result.now ≡ self.now }
     {
         &self.value
-    }
-}
-
-impl<T: Clone> Clone for Boxed<T> {
-    ghost is_clone = { T.is_clone };
-
-    fn clone(&self) -> Result<Boxed<T>, NoMemory> {
-        Ok(Boxed {
-            value: self.value.clone()?,
-        })
-    }
-}
-
-impl<T: PartialEq> PartialEq for Boxed<T> {
-    ghost eq = { T.eq };
-
-    ghost laws = { T.laws };
-
-    fn eq(&self, other: &Boxed<T>) -> bool {
-        *self.get() == *other.get()
-    }
-}
-
-impl<T: Eq> Eq for Boxed<T> {
-    ghost laws = { T.Eq.laws };
-}
-
-impl<T: fmt::Debug> fmt::Debug for Boxed<T> {
-    fn fmt<W: fmt::Write>(&self, f: &mut fmt::Formatter<W>) -> fmt::Result {
-        fmt::Debug::fmt(self.get(), f)
     }
 }

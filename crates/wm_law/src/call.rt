@@ -4,7 +4,7 @@ use crate::command::Command;
 use wm_base::{Asked, Exit, JobName, Moment, Name, QName, Refusal, Serial, StartCause};
 
 /// What is called: a command by a user, or a call of a monitor.
-#[derive(Clone, Debug, PartialEq, Eq, Drop)]
+#[derive(Drop)]
 pub enum Call {
     Change { user: Name, command: Boxed<Command> },
     Hand,
@@ -16,7 +16,7 @@ pub enum Call {
 }
 
 /// What the machine answers.
-#[derive(Clone, Debug, PartialEq, Eq, Drop)]
+#[derive(Drop)]
 pub enum Reply {
     /// An object was made, or a subsystem description was changed.
     Made,
@@ -37,7 +37,7 @@ pub enum Reply {
 }
 
 /// One entry of the history: the pass that called, its call, the moment and the reply.
-#[derive(Clone, Debug, PartialEq, Eq, Drop)]
+#[derive(Drop)]
 pub struct Entry {
     pub caller: u32,
     pub call: Call,

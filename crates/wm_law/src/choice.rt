@@ -3,7 +3,7 @@ use wm_base::{Name, Priority, QName, Serial};
 
 /// What orders the jobs that may start: the simple name of the subsystem, and there the entry's
 /// sequence number, the job's priority and its place.
-#[derive(Clone, Copy, Debug, PartialEq, Eq, PartialOrd, Ord)]
+#[derive(Clone, Copy, PartialEq, Eq, PartialOrd, Ord)]
 pub struct Rank {
     pub sbs: Name,
     pub seq: u32,
@@ -12,7 +12,7 @@ pub struct Rank {
 }
 
 /// A job that is ready and allowed.
-#[derive(Clone, Copy, Debug, PartialEq, Eq)]
+#[derive(Clone, Copy)]
 pub struct Candidate {
     pub rank: Rank,
     pub sbs: QName,

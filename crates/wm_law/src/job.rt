@@ -3,7 +3,7 @@ use wm_base::{EndCause, How, JobName, Moment, Priority, QName, Serial, Text};
 use wm_clwords::Request;
 
 /// How a job came to be: submitted (BCH), autostart (ASJ) or prestart (PJ).
-#[derive(Clone, Copy, Debug, PartialEq, Eq)]
+#[derive(Clone, Copy)]
 pub enum JobKind {
     Bch,
     Asj,
@@ -12,7 +12,7 @@ pub enum JobKind {
 
 /// Where a job is. It goes forward only: Waiting, Starting, Handed, Running, Ended.
 /// The number is the pass of the monitor that has the job.
-#[derive(Clone, Copy, Debug, PartialEq, Eq)]
+#[derive(Clone, Copy, Debug)]
 pub enum Phase {
     Waiting,
     Starting,
@@ -22,7 +22,7 @@ pub enum Phase {
 }
 
 /// On whose account a job is to end.
-#[derive(Clone, Copy, Debug, PartialEq, Eq)]
+#[derive(Clone, Copy)]
 pub enum Why {
     Endjob,
     Endsbs,
@@ -31,7 +31,7 @@ pub enum Why {
 }
 
 /// Whether an active job is to end: not, at some moment, or now.
-#[derive(Clone, Copy, Debug, PartialEq, Eq)]
+#[derive(Clone, Copy)]
 pub enum Wish {
     NoWish,
     Later { until: Option<Moment>, why: Why },
@@ -39,7 +39,7 @@ pub enum Wish {
 }
 
 /// A job. `place` orders the jobs of one queue and priority, `due` is the moment from which it may start.
-#[derive(Debug, Drop)]
+#[derive(Drop)]
 pub struct Job {
     pub serial: Serial,
     pub job: JobName,

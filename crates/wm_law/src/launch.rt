@@ -3,7 +3,7 @@ use crate::Phase;
 use wm_base::How;
 
 /// What a launch makes of a job.
-#[derive(Clone, Copy, Debug, PartialEq, Eq)]
+#[derive(Clone, Copy)]
 pub struct Launched {
     pub phase: Phase,
     pub how: How,

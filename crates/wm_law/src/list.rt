@@ -6,7 +6,7 @@ use std::marker::Model;
 use wm_base::NoMemory;
 
 /// A list of the state, made from a `Vec` and giving it back. A contract sees it as the list of its items.
-#[derive(Debug, Drop)]
+#[derive(Drop)]
 pub struct ListOf<T> {
     pub items: Vec<T>,
 }

@@ -3,7 +3,7 @@ use crate::Power;
 use wm_base::Moment;
 
 /// What waits for a monitor.
-#[derive(Clone, Copy, Debug, PartialEq, Eq)]
+#[derive(Clone, Copy)]
 pub struct Pending {
     /// How many orders Hand would give, one after another.
     pub orders: usize,

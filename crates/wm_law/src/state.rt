@@ -4,7 +4,7 @@ use wm_base::{Moment, Name, QName};
 use wm_desc::{Objects, SortedList};
 
 /// Whether a started subsystem takes jobs, is to end at some moment or by itself, or ends now.
-#[derive(Clone, Copy, Debug, PartialEq, Eq)]
+#[derive(Clone, Copy)]
 pub enum SbsPhase {
     Active,
     Ending(Option<Moment>),
@@ -12,21 +12,21 @@ pub enum SbsPhase {
 }
 
 /// A started subsystem, by its description's name.
-#[derive(Clone, Copy, Debug, PartialEq, Eq)]
+#[derive(Clone, Copy)]
 pub struct Sbs {
     pub sbsd: QName,
     pub phase: SbsPhase,
 }
 
 /// A prestart entry that makes no jobs.
-#[derive(Clone, Copy, Debug, PartialEq, Eq)]
+#[derive(Clone, Copy)]
 pub struct Stop {
     pub sbs: QName,
     pub pgm: QName,
 }
 
 /// A program start request that waits for a prestart job.
-#[derive(Clone, Copy, Debug, PartialEq, Eq)]
+#[derive(Clone, Copy)]
 pub struct Evoke {
     pub user: Name,
     pub sbs: QName,
@@ -34,7 +34,7 @@ pub struct Evoke {
 }
 
 /// Whether the system takes work.
-#[derive(Clone, Copy, Debug, PartialEq, Eq)]
+#[derive(Clone, Copy)]
 pub enum Power {
     On,
     Down,
@@ -58,7 +58,7 @@ pub type Evokes = ListOf<Evoke>;
 
 /// The state of the machine. `jobs` stands in the order of serials, `started` in the order of start,
 /// `held` has the held queues.
-#[derive(Debug, Drop)]
+#[derive(Drop)]
 pub struct State {
     pub objects: Objects,
     pub jobs: Jobs,

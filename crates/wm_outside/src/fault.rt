@@ -3,12 +3,12 @@ use std::alloc::{AllocError, AllocFailed};
 use thiserror::Error;
 
 /// A call of the outside that failed, which its object has counted.
-#[derive(Clone, Copy, Debug, PartialEq, Eq, Error)]
+#[derive(Clone, Copy, Debug, Error)]
 #[error("a call of the outside failed")]
 pub struct Failed;
 
 /// Why a child wasn't started: the spawner failed, which it has counted, or memory was wanting.
-#[derive(Clone, Copy, Debug, PartialEq, Eq, Error)]
+#[derive(Clone, Copy, Debug, Error)]
 pub enum StartFault {
     #[error("the child could not be started")]
     Failed,
@@ -17,7 +17,7 @@ pub enum StartFault {
 }
 
 /// Why rows weren't kept or loaded: the keeper or the store failed, which it has counted, or memory was wanting.
-#[derive(Clone, Copy, Debug, PartialEq, Eq, Error)]
+#[derive(Clone, Copy, Debug, Error)]
 pub enum KeepFault {
     #[error("the rows could not be kept")]
     Failed,

@@ -2,7 +2,7 @@
 use wm_base::Text;
 
 /// A row: its table, its key and its body. A table has each key once.
-#[derive(Clone, Debug, PartialEq, Eq, Drop)]
+#[derive(Clone, PartialEq, Eq, Drop)]
 pub struct Row {
     pub tab: u8,
     pub key: Text,
@@ -11,7 +11,7 @@ pub struct Row {
 
 /// A change of the tables: a row that is put, in place of the one of its table and key, or the table and key of one that
 /// is deleted.
-#[derive(Clone, Debug, PartialEq, Eq, Drop)]
+#[derive(Clone, Drop)]
 pub enum RowChange {
     Put(Row),
     Del(u8, Text),

@@ -10,7 +10,7 @@ use std::sync::Wait;
 use wm_base::{Event, Moment, Serial, StartOrder};
 
 /// What a spawner answered: a child began or it didn't, and what a child reported.
-#[derive(Clone, Copy, Debug, PartialEq, Eq)]
+#[derive(Clone, Copy)]
 pub enum Told {
     Began(Serial),
     NotBegan(Serial, StartFault),

@@ -16,7 +16,7 @@ use wm_rows::{COUNTERS, Counter, counter_word};
 use wm_when::Offset;
 
 /// Why rows make no state.
-#[derive(Debug, PartialEq, Eq, Drop, Error)]
+#[derive(Debug, Drop, Error)]
 pub enum RestartFault {
     /// The number of the first row that isn't good, counted from 0; the number of rows, where all are good but a counter lacks.
     #[error("row {0} isn't good")]

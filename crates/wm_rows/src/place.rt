@@ -2,7 +2,7 @@
 use wm_base::Text;
 
 /// Where a row stands: its table, and its key there.
-#[derive(Debug, Drop)]
+#[derive(Drop)]
 pub struct Place {
     pub tab: u8,
     pub key: Text,

@@ -3,7 +3,7 @@ use wm_base::QName;
 use wm_law::Command;
 
 /// A number that goes on over the runs of a store.
-#[derive(Clone, Copy, Debug, PartialEq, Eq)]
+#[derive(Clone, Copy)]
 pub enum Counter {
     /// The next job's number.
     Number,
@@ -16,7 +16,7 @@ pub enum Counter {
 }
 
 /// What a row holds.
-#[derive(Debug, Drop)]
+#[derive(Drop)]
 pub enum Stored {
     /// An object or an entry, as the command that makes it again.
     Made(Command),

@@ -9,7 +9,7 @@ use std::marker::Model;
 use wm_base::{Event, Exit, NoMemory, Serial};
 
 /// A child that is out.
-#[derive(Clone, Copy, Debug, PartialEq, Eq)]
+#[derive(Clone, Copy)]
 pub struct Child {
     pub serial: Serial,
     /// Whether it is a prestart job, which no look ends.
