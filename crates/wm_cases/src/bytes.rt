@@ -1,5 +1,5 @@
 // Bytes as a case writes them.
-use anyhow::{Result, anyhow};
+use anyhow::{Context, Result};
 use std::alloc::{AllocError, Global};
 
 // What stands behind a backslash, and how many bytes that took.
@@ -28,7 +28,7 @@ fn without_escapes(alloc: Global, text: &[u8]) -> Result<Vec<u8>> {
         if skip > 0 {
             skip -= 1;
         } else if *byte == b'\\' {
-            let (escaped, taken) = escaped(&text[at..][1..]).ok_or(anyhow!("a lone backslash"))?;
+            let (escaped, taken) = escaped(&text[at..][1..]).context("a lone backslash")?;
             bytes.push(escaped)?;
             skip = taken;
         } else {
@@ -40,9 +40,10 @@ fn without_escapes(alloc: Global, text: &[u8]) -> Result<Vec<u8>> {
 
 // `8193 A` stands for 8,193 times `A`.
 fn push_repeated(bytes: &mut Vec<u8>, alloc: Global, repeated: &str) -> Result<()> {
-    let (count, what) = repeated.split_once(' ').ok_or(anyhow!("no count"))?;
+    let (count, what) = repeated.split_once(' ').context("no count")?;
+    let count = count.parse::<u32>()?;
     let what = without_escapes(alloc, what.as_bytes())?;
-    for _ in 0..count.parse::<u32>()? {
+    for _ in 0..count {
         bytes.extend_from_slice(&what)?;
     }
     Ok(())
@@ -77,8 +78,7 @@ pub fn visible(alloc: Global, bytes: &[u8]) -> Result<String, AllocError> {
         if (0x20..=0x7e).contains(byte) {
             text.push(char::from(*byte))?;
         } else {
-            let shown = format!(in alloc; "\\x{byte:02x}")?;
-            text.push_str(shown.as_str())?;
+            write!(text, "\\x{byte:02x}")?;
         }
     }
     Ok(text)

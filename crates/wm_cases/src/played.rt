@@ -1,8 +1,8 @@
 // Asking what a file asks, and comparing the answers.
 use anyhow::Result;
 use std::alloc::Global;
-use std::fs;
 use std::rt::Files;
+use std::{fs, io};
 
 /// What is asked by the cases of a file.
 pub trait Subject {
@@ -25,19 +25,32 @@ struct Open<'a> {
 }
 
 impl<'a> Open<'a> {
+    // Prints the wanted answer and the other one.
+    fn tell<R: Print>(&self, rt: &R, question: &str) -> io::Result<()> {
+        let (case, wanted, got) = (self.case, self.wanted.as_str(), self.got.as_str());
+        print!(rt; "== {case}\n> {question}\n-- wanted\n{wanted}-- answered\n{got}")
+    }
+
     // Compares the answer to the open question, where there is one.
     fn close<R: Print>(&mut self, rt: &R) -> Result<()> {
         if let Some(question) = self.question.take() {
             self.asked = self.asked.saturating_add(1);
             if self.got.as_str() != self.wanted.as_str() {
                 self.wrong = self.wrong.saturating_add(1);
-                println!(rt; "== {}\n> {question}\n-- wanted", self.case)?;
-                print!(rt; "{}-- answered\n{}", self.wanted, self.got)?;
+                self.tell(rt, question)?;
             }
         }
         self.got.clear();
         self.wanted.clear();
         Ok(())
+    }
+
+    // Prints how many answers there were, or how many of them weren't the wanted ones.
+    fn sum_up<R: Print>(&self, rt: &R, path: &str) -> io::Result<()> {
+        match self.wrong {
+            0 => println!(rt; "{path}: {} answers", self.asked),
+            wrong => println!(rt; "{path}: {wrong} of {} answers are others", self.asked),
+        }
     }
 
     fn line<R: Print, S: Subject>(&mut self, rt: &R, subject: &mut S, line: &'a str) -> Result<()> {
@@ -78,9 +91,6 @@ pub fn play<R: AllocGlobal + Files + Print, S: Subject>(
         open.line(rt, subject, line)?;
     }
     open.close(rt)?;
-    match open.wrong {
-        0 => println!(rt; "{path}: {} answers", open.asked)?,
-        wrong => println!(rt; "{path}: {wrong} of {} answers are others", open.asked)?,
-    }
+    open.sum_up(rt, path)?;
     Ok(())
 }

@@ -2,21 +2,28 @@
 use anyhow::{Result, bail};
 use wm_when::{DateSpec, TimeSpec};
 
+fn date_word(word: &str) -> Option<DateSpec> {
+    match word {
+        "current" => Some(DateSpec::Current),
+        "monthstart" => Some(DateSpec::MonthStart),
+        "monthend" => Some(DateSpec::MonthEnd),
+        "mon" => Some(DateSpec::Weekday(1)),
+        "tue" => Some(DateSpec::Weekday(2)),
+        "wed" => Some(DateSpec::Weekday(3)),
+        "thu" => Some(DateSpec::Weekday(4)),
+        "fri" => Some(DateSpec::Weekday(5)),
+        "sat" => Some(DateSpec::Weekday(6)),
+        "sun" => Some(DateSpec::Weekday(7)),
+        _ => None,
+    }
+}
+
 /// `current`, `monthstart`, `monthend`, `mon` to `sun`, or a date as `yyyymmdd`.
 pub fn date_of(word: &str) -> Result<DateSpec> {
-    Ok(match word {
-        "current" => DateSpec::Current,
-        "monthstart" => DateSpec::MonthStart,
-        "monthend" => DateSpec::MonthEnd,
-        "mon" => DateSpec::Weekday(1),
-        "tue" => DateSpec::Weekday(2),
-        "wed" => DateSpec::Weekday(3),
-        "thu" => DateSpec::Weekday(4),
-        "fri" => DateSpec::Weekday(5),
-        "sat" => DateSpec::Weekday(6),
-        "sun" => DateSpec::Weekday(7),
-        _ => DateSpec::Day(word.parse::<u32>()?),
-    })
+    match date_word(word) {
+        Some(date) => Ok(date),
+        None => Ok(DateSpec::Day(word.parse::<u32>()?)),
+    }
 }
 
 /// `current`, or a time as `hhmmss`.

@@ -3,7 +3,8 @@
 // > due WORD TIME NOW OFFSET    from which moment on a job may start, or `past` or `out of range`: WORD and TIME as
 //                               `asked.rt` reads them, the moment NOW, and local time OFFSET minutes ahead of UTC
 use crate::asked;
-use anyhow::{Result, anyhow, bail};
+use anyhow::{Context, Result, bail};
+use std::alloc::AllocError;
 use wm_base::Moment;
 use wm_cases::Subject;
 use wm_when::{DueFault, SchedSpec, due, is_offset};
@@ -18,10 +19,10 @@ impl Subject for DueCases {
     }
 
     fn answer(&mut self, question: &str, answer: &mut String) -> Result<()> {
-        let words = question.strip_prefix("due ").ok_or(anyhow!("no question"))?;
-        let (date, words) = words.split_once(' ').ok_or(anyhow!("a time"))?;
-        let (time, words) = words.split_once(' ').ok_or(anyhow!("a moment"))?;
-        let (now, offset) = words.split_once(' ').ok_or(anyhow!("an offset"))?;
+        let words = question.strip_prefix("due ").context("no question")?;
+        let (date, words) = words.split_once(' ').context("a time")?;
+        let (time, words) = words.split_once(' ').context("a moment")?;
+        let (now, offset) = words.split_once(' ').context("an offset")?;
         let schedule = SchedSpec {
             date: asked::date_of(date)?,
             time: asked::time_of(time)?,
@@ -39,10 +40,14 @@ fn tell_due(schedule: &SchedSpec, now: u64, offset: i32, answer: &mut String) ->
     if !schedule.is_in_range() || now > Moment::MAX || !is_offset(offset) {
         bail!("out of the range of the question");
     }
-    match due(schedule, Moment::new(now), offset) {
-        Ok(moment) => writeln!(answer, "{moment}")?,
-        Err(DueFault::Past) => writeln!(answer, "past")?,
-        Err(DueFault::OutOfRange) => writeln!(answer, "out of range")?,
-    }
+    push_due(&due(schedule, Moment::new(now), offset), answer)?;
     Ok(())
+}
+
+fn push_due(due: &Result<Moment, DueFault>, answer: &mut String) -> Result<(), AllocError> {
+    match due {
+        Ok(moment) => writeln!(answer, "{moment}"),
+        Err(DueFault::Past) => answer.push_str("past\n"),
+        Err(DueFault::OutOfRange) => answer.push_str("out of range\n"),
+    }
 }

@@ -1,9 +1,9 @@
 // Answers as a case writes them.
 use super::words::BAR;
 use anyhow::Result;
-use std::alloc::Global;
+use std::alloc::{AllocError, Global};
 use std::fmt::Write;
-use wm_base::{Asked, Event, StartOrder};
+use wm_base::{Args, Asked, Class, Event, StartOrder, Text};
 use wm_cases::visible;
 use wm_outside::{Failed, StartFault};
 
@@ -30,51 +30,59 @@ pub fn answer_start(started: Result<(), StartFault>, answer: &mut String) -> Res
 /// Whether a child that was to be killed was out.
 pub fn answer_kill(was_out: Result<bool, Failed>, answer: &mut String) -> Result<()> {
     match was_out {
-        Ok(was_out) => writeln!(answer, "{was_out}")?,
-        Err(Failed) => answer.push_str(FAILED)?,
+        Ok(was_out) => Ok(writeln!(answer, "{was_out}")?),
+        Err(Failed) => Ok(answer.push_str(FAILED)?),
     }
-    Ok(())
 }
 
 fn answer_event(event: &Event, answer: &mut String) -> Result<()> {
     match event {
-        Event::Ended(serial, exit) => writeln!(answer, "{serial} {exit}")?,
-        Event::Used(serial) => writeln!(answer, "{serial} USED")?,
+        Event::Ended(serial, exit) => Ok(writeln!(answer, "{serial} {exit}")?),
+        Event::Used(serial) => Ok(writeln!(answer, "{serial} USED")?),
     }
-    Ok(())
 }
 
 /// What a look or a wait found.
 pub fn answer_look(found: Result<Option<Event>, Failed>, answer: &mut String) -> Result<()> {
     match found {
-        Ok(Some(event)) => answer_event(&event, answer)?,
-        Ok(None) => answer.push_str("NONE\n")?,
-        Err(Failed) => answer.push_str(FAILED)?,
+        Ok(Some(event)) => answer_event(&event, answer),
+        Ok(None) => Ok(answer.push_str("NONE\n")?),
+        Err(Failed) => Ok(answer.push_str(FAILED)?),
     }
-    Ok(())
+}
+
+fn answer_class(cls: &Class, answer: &mut String) -> Result<(), AllocError> {
+    write!(answer, "{} {} {} ", cls.runpty, cls.timeslice, cls.dftwait)
+}
+
+fn answer_program(path: &Text, args: &Args, answer: &mut String) -> Result<(), AllocError> {
+    write!(answer, "{path}")?;
+    for arg in args.as_slice() {
+        write!(answer, "{BAR}{arg}")?;
+    }
+    answer.push('\n')
 }
 
 // All that an order says, in one line.
 fn answer_order(order: &StartOrder, answer: &mut String) -> Result<()> {
-    let cls = &order.cls;
     let pre = if order.pre { "pre " } else { "" };
     write!(answer, "start {pre}{} {} ", order.serial, order.job)?;
-    write!(answer, "{} {} {} ", cls.runpty, cls.timeslice, cls.dftwait)?;
-    write!(answer, "{}", order.path)?;
-    for arg in order.args.as_slice() {
-        write!(answer, "{BAR}{arg}")?;
-    }
-    answer.push('\n')?;
+    answer_class(&order.cls, answer)?;
+    answer_program(&order.path, &order.args, answer)?;
     Ok(())
+}
+
+fn answer_one(asked: &Asked, answer: &mut String) -> Result<()> {
+    match asked {
+        Asked::Start(order) => answer_order(order, answer),
+        Asked::Kill(serial) => Ok(writeln!(answer, "kill {serial}")?),
+    }
 }
 
 /// The starts and kills that a spawner was asked for, a line each.
 pub fn answer_asked(all_asked: &[Asked], answer: &mut String) -> Result<()> {
     for asked in all_asked {
-        match asked {
-            Asked::Start(order) => answer_order(order, answer)?,
-            Asked::Kill(serial) => writeln!(answer, "kill {serial}")?,
-        }
+        answer_one(asked, answer)?;
     }
     Ok(())
 }

@@ -2,14 +2,16 @@
 use super::answers::FAILED;
 use super::orders::text;
 use super::words::{BAR, failing, first_word, named, unknown};
-use anyhow::{Result, anyhow, ensure};
+use anyhow::{Context, Result, bail, ensure};
 use std::alloc::Global;
 use std::fmt::Write;
 use wm_outside::{KeepFault, Keeper, MemKeeper, MemStore, Row, RowChange, Store, are_in_order};
 
+const NO_KEEPER: &str = "no keeper is out";
+
 // The row of `1 A = x`: its table, its key and its body.
 fn row(alloc: Global, words: &str) -> Result<Row> {
-    let (place, body) = words.split_once(" = ").ok_or(anyhow!("no body"))?;
+    let (place, body) = words.split_once(" = ").context("no body")?;
     let (tab, key) = first_word(place);
     Ok(Row {
         tab: tab.parse::<u8>()?,
@@ -18,10 +20,14 @@ fn row(alloc: Global, words: &str) -> Result<Row> {
     })
 }
 
+fn push_row(alloc: Global, rows: &mut Vec<Row>, words: &str) -> Result<()> {
+    Ok(rows.push(row(alloc, words)?)?)
+}
+
 fn rows(alloc: Global, words: &str) -> Result<Vec<Row>> {
     let mut rows = Vec::new(alloc);
     for words in words.split(BAR) {
-        rows.push(row(alloc, words)?)?;
+        push_row(alloc, &mut rows, words)?;
     }
     Ok(rows)
 }
@@ -35,8 +41,12 @@ fn change(alloc: Global, words: &str) -> Result<RowChange> {
             let (tab, key) = first_word(rest);
             Ok(RowChange::Del(tab.parse::<u8>()?, text(alloc, key)?))
         }
-        _ => Err(anyhow!("no such change: {words}")),
+        _ => bail!("no such change: {words}"),
     }
+}
+
+fn push_change(alloc: Global, changes: &mut Vec<RowChange>, words: &str) -> Result<()> {
+    Ok(changes.push(change(alloc, words)?)?)
 }
 
 fn changes(alloc: Global, words: &str) -> Result<Vec<RowChange>> {
@@ -45,7 +55,7 @@ fn changes(alloc: Global, words: &str) -> Result<Vec<RowChange>> {
         return Ok(changes);
     }
     for words in words.split(BAR) {
-        changes.push(change(alloc, words)?)?;
+        push_change(alloc, &mut changes, words)?;
     }
     Ok(changes)
 }
@@ -60,9 +70,20 @@ fn answer_fault(fault: KeepFault, answer: &mut String) -> Result<()> {
 
 // Applies `put 1 A = x | del 1 A`, or nothing.
 fn apply<K: Keeper>(alloc: Global, keeper: &mut K, words: &str, answer: &mut String) -> Result<()> {
-    match keeper.apply(&changes(alloc, words)?) {
-        Ok(()) => answer.push_str("APPLIED\n")?,
-        Err(fault) => answer_fault(fault, answer)?,
+    let changes = changes(alloc, words)?;
+    answer_applied(keeper.apply(&changes), answer)
+}
+
+fn answer_applied(applied: Result<(), KeepFault>, answer: &mut String) -> Result<()> {
+    match applied {
+        Ok(()) => Ok(answer.push_str("APPLIED\n")?),
+        Err(fault) => answer_fault(fault, answer),
+    }
+}
+
+fn answer_rows(rows: &[Row], answer: &mut String) -> Result<()> {
+    for row in rows {
+        writeln!(answer, "{} {} = {}", row.tab, row.key, row.body)?;
     }
     Ok(())
 }
@@ -70,14 +91,30 @@ fn apply<K: Keeper>(alloc: Global, keeper: &mut K, words: &str, answer: &mut Str
 // Answers the rows, a line each.
 fn load<K: Keeper>(keeper: &mut K, answer: &mut String) -> Result<()> {
     match keeper.load() {
-        Ok(rows) => {
-            for row in &rows {
-                writeln!(answer, "{} {} = {}", row.tab, row.key, row.body)?;
-            }
-        }
-        Err(fault) => answer_fault(fault, answer)?,
+        Ok(rows) => answer_rows(&rows, answer),
+        Err(fault) => answer_fault(fault, answer),
     }
+}
+
+fn answer_number(number: u64, answer: &mut String) -> Result<()> {
+    writeln!(answer, "{number}")?;
     Ok(())
+}
+
+// Answers of the keeper that is out `apply put 1 A = x | del 1 A`, `load` and `keeper_faults`.
+fn ask_keeper(
+    alloc: Global,
+    keeper: &mut MemKeeper,
+    question: &str,
+    answer: &mut String,
+) -> Result<()> {
+    let (word, rest) = first_word(question);
+    match word {
+        "apply" => apply(alloc, keeper, rest, answer),
+        "load" => load(keeper, answer),
+        "keeper_faults" => answer_number(keeper.faults(), answer),
+        _ => unknown(question),
+    }
 }
 
 /// A store in memory, and its keeper while that is out.
@@ -113,41 +150,34 @@ impl Keepers {
         match self.store.open("") {
             Ok(keeper) => {
                 self.out = Some(keeper);
-                answer.push_str("OPENED\n")?;
+                Ok(answer.push_str("OPENED\n")?)
             }
-            Err(fault) => answer_fault(fault, answer)?,
+            Err(fault) => answer_fault(fault, answer),
         }
-        Ok(())
     }
 
     fn close(&mut self) -> Result<()> {
-        let keeper = self.out.take().ok_or(anyhow!("no keeper is out"))?;
+        let keeper = self.out.take().context(NO_KEEPER)?;
         self.store.close(keeper);
         Ok(())
+    }
+
+    fn ask_out(&mut self, alloc: Global, question: &str, answer: &mut String) -> Result<()> {
+        match &mut self.out {
+            None => bail!(NO_KEEPER),
+            Some(keeper) => ask_keeper(alloc, keeper, question, answer),
+        }
     }
 
     /// Answers `open`, `close` and `store_faults`, and of the keeper that is out `apply put 1 A = x | del 1 A`, `load` and
     /// `keeper_faults`.
     pub fn ask(&mut self, alloc: Global, question: &str, answer: &mut String) -> Result<()> {
-        let (word, rest) = first_word(question);
+        let (word, _) = first_word(question);
         match word {
-            "open" => return self.open(answer),
-            "close" => return self.close(),
-            "store_faults" => {
-                writeln!(answer, "{}", self.store.faults())?;
-                return Ok(());
-            }
-            _ => {}
-        }
-        let keeper = self.out.as_mut().ok_or(anyhow!("no keeper is out"))?;
-        match word {
-            "apply" => apply(alloc, keeper, rest, answer),
-            "load" => load(keeper, answer),
-            "keeper_faults" => {
-                writeln!(answer, "{}", keeper.faults())?;
-                Ok(())
-            }
-            _ => unknown(question),
+            "open" => self.open(answer),
+            "close" => self.close(),
+            "store_faults" => answer_number(self.store.faults(), answer),
+            _ => self.ask_out(alloc, question, answer),
         }
     }
 }

@@ -4,7 +4,7 @@ use super::keepers::Keepers;
 use super::spawners::ask_spawner;
 use super::streams::{read, write};
 use super::words::{failing, first_word, moment, named};
-use anyhow::{Result, anyhow, ensure};
+use anyhow::{Context, Result, ensure};
 use std::alloc::Global;
 use std::fmt::Write;
 use std::sync::Wait;
@@ -60,7 +60,7 @@ fn clock(words: &str) -> Result<MemClock> {
 
 // The spawner of `lag 1, failing starts 2, failing kills 1, failing looks 1`.
 fn spawner(alloc: Global, options: &str) -> Result<MemSpawner> {
-    let lag = named(options, "lag ").ok_or(anyhow!("no lag"))?;
+    let lag = named(options, "lag ").context("no lag")?;
     Ok(MemSpawner::new(
         alloc,
         lag.parse::<u32>()?,
@@ -78,6 +78,29 @@ impl Forms {
             clock: MemClock::new(Moment::new(0), 0),
             spawner: MemSpawner::new(alloc, 0, Vec::new(alloc), Vec::new(alloc), Vec::new(alloc)),
             keepers: Keepers::empty(alloc),
+        }
+    }
+
+    // Makes the form of the word, in place of the one that was.
+    fn make(&mut self, alloc: Global, word: &str, options: &str) -> Result<()> {
+        match word {
+            "source" => self.source = source(alloc, options)?,
+            "sink" => self.sink = sink(alloc, options)?,
+            "clock" => self.clock = clock(options)?,
+            "spawner" => self.spawner = spawner(alloc, options)?,
+            _ => self.keepers = Keepers::new(alloc, options)?,
+        }
+        Ok(())
+    }
+
+    // The calls of a source, a sink and a clock, and what a sink and a spawner have got.
+    fn call(&mut self, alloc: Global, word: &str, rest: &str, answer: &mut String) -> Result<()> {
+        match word {
+            "read" => read(alloc, &mut self.source, rest, answer),
+            "write" => write(alloc, &mut self.sink, rest, answer),
+            "written" => answer_bytes(alloc, self.sink.bytes(), answer),
+            "asked" => answer_asked(self.spawner.asked(), answer),
+            _ => Ok(writeln!(answer, "{}", self.clock.now())?),
         }
     }
 }
@@ -110,21 +133,14 @@ impl<R: Wait> Subject for MemoryCases<'_, R> {
         let (word, rest) = first_word(question);
         let (alloc, forms) = (self.alloc, &mut self.forms);
         match word {
-            "source" => forms.source = source(alloc, rest)?,
-            "sink" => forms.sink = sink(alloc, rest)?,
-            "clock" => forms.clock = clock(rest)?,
-            "spawner" => forms.spawner = spawner(alloc, rest)?,
-            "keeper" => forms.keepers = Keepers::new(alloc, rest)?,
-            "read" => read(alloc, &mut forms.source, rest, answer)?,
-            "write" => write(alloc, &mut forms.sink, rest, answer)?,
-            "written" => answer_bytes(alloc, forms.sink.bytes(), answer)?,
-            "now" => writeln!(answer, "{}", forms.clock.now())?,
-            "asked" => answer_asked(forms.spawner.asked(), answer)?,
-            "open" | "close" | "apply" | "load" | "store_faults" | "keeper_faults" => {
-                forms.keepers.ask(alloc, question, answer)?
+            "source" | "sink" | "clock" | "spawner" | "keeper" => forms.make(alloc, word, rest),
+            "read" | "write" | "written" | "asked" | "now" => {
+                forms.call(alloc, word, rest, answer)
             }
-            _ => ask_spawner(self.rt, alloc, &mut forms.spawner, question, answer)?,
+            "open" | "close" | "apply" | "load" | "store_faults" | "keeper_faults" => {
+                forms.keepers.ask(alloc, question, answer)
+            }
+            _ => ask_spawner(self.rt, alloc, &mut forms.spawner, question, answer),
         }
-        Ok(())
     }
 }

@@ -18,13 +18,17 @@ fn job() -> Result<JobName> {
     })
 }
 
+fn push_argument(alloc: Global, args: &mut Args, word: &str) -> Result<()> {
+    Ok(args.push(text(alloc, word)?)?)
+}
+
 // The path and the arguments of `/bin/a | x | y`.
 fn program(alloc: Global, words: &str) -> Result<(Text, Args)> {
     let mut words = words.split(BAR);
     let path = text(alloc, words.next().unwrap_or(""))?;
     let mut args = Args::new(alloc);
     for word in words {
-        args.push(text(alloc, word)?)?;
+        push_argument(alloc, &mut args, word)?;
     }
     Ok((path, args))
 }

@@ -7,6 +7,19 @@ use std::fmt::Write;
 use wm_cases::bytes_of;
 use wm_outside::{Failed, Sink, Source};
 
+fn read_once<S: Source>(
+    alloc: Global,
+    source: &mut S,
+    buf: &mut [u8],
+    answer: &mut String,
+) -> Result<()> {
+    match source.read(buf) {
+        Ok(0) => Ok(answer.push_str("END\n")?),
+        Ok(n) => answer_bytes(alloc, &buf[..n], answer),
+        Err(Failed) => Ok(answer.push_str(FAILED)?),
+    }
+}
+
 /// Reads once for each of the lengths, with a buffer that is as long.
 pub fn read<S: Source>(
     alloc: Global,
@@ -16,22 +29,23 @@ pub fn read<S: Source>(
 ) -> Result<()> {
     for length in lengths.split(BAR) {
         let mut buf = vec![in alloc; 0u8; usize::from(length.parse::<u16>()?)]?;
-        match source.read(&mut buf) {
-            Ok(0) => answer.push_str("END\n")?,
-            Ok(n) => answer_bytes(alloc, &buf[..n], answer)?,
-            Err(Failed) => answer.push_str(FAILED)?,
-        }
+        read_once(alloc, source, &mut buf, answer)?;
     }
     Ok(())
+}
+
+fn answer_taken(taken: Result<usize, Failed>, answer: &mut String) -> Result<()> {
+    match taken {
+        Ok(taken) => Ok(writeln!(answer, "{taken}")?),
+        Err(Failed) => Ok(answer.push_str(FAILED)?),
+    }
 }
 
 /// Writes each of the texts once, and answers how many of its bytes were taken.
 pub fn write<S: Sink>(alloc: Global, sink: &mut S, texts: &str, answer: &mut String) -> Result<()> {
     for text in texts.split(BAR) {
-        match sink.write(&bytes_of(alloc, text)?) {
-            Ok(taken) => writeln!(answer, "{taken}")?,
-            Err(Failed) => answer.push_str(FAILED)?,
-        }
+        let bytes = bytes_of(alloc, text)?;
+        answer_taken(sink.write(&bytes), answer)?;
     }
     Ok(())
 }

@@ -4,56 +4,68 @@ use super::flaky::{Flaky, Full, SetBack, Stopped};
 use super::spawners::ask_spawner;
 use super::streams::{read, write};
 use super::words::{BAR, first_word, unknown};
-use anyhow::{Result, anyhow};
+use anyhow::{Context, Result};
 use std::alloc::Global;
 use std::fmt::Write;
 use std::process::Processes;
 use std::rt;
 use std::sync::Wait;
 use std::time::Duration;
-use wm_base::Event;
+use wm_base::{Event, Moment};
 use wm_cases::{Subject, bytes_of};
 use wm_outside::{Clock, Failed, ReadSource, Spawner, SysClock, SysSpawner, WriteSink};
 
 // Reads of `flaky | 2 | 2`, and of `slice ab | 2 | 2`.
 fn read_reader(alloc: Global, words: &str, answer: &mut String) -> Result<()> {
-    let (reader, lengths) = words.split_once(BAR).ok_or(anyhow!("no lengths"))?;
+    let (reader, lengths) = words.split_once(BAR).context("no lengths")?;
     match first_word(reader) {
         ("flaky", _) => read(alloc, &mut ReadSource::new(Flaky::new()), lengths, answer),
-        ("slice", text) => {
-            let bytes = bytes_of(alloc, text)?;
-            read(
-                alloc,
-                &mut ReadSource::new(bytes.as_slice()),
-                lengths,
-                answer,
-            )
-        }
+        ("slice", text) => read_slice(alloc, text, lengths, answer),
         _ => unknown(reader),
     }
 }
 
+fn read_slice(alloc: Global, text: &str, lengths: &str, answer: &mut String) -> Result<()> {
+    let bytes = bytes_of(alloc, text)?;
+    let mut source = ReadSource::new(bytes.as_slice());
+    read(alloc, &mut source, lengths, answer)
+}
+
 // Writes to `flaky | ab | b`, to `full | a` and to `vector | ab`, whose bytes are answered too.
 fn write_writer(alloc: Global, words: &str, answer: &mut String) -> Result<()> {
-    let (writer, texts) = words.split_once(BAR).ok_or(anyhow!("no texts"))?;
+    let (writer, texts) = words.split_once(BAR).context("no texts")?;
     match writer {
         "flaky" => write(alloc, &mut WriteSink::new(Flaky::new()), texts, answer),
         "full" => write(alloc, &mut WriteSink::new(Full), texts, answer),
-        "vector" => {
-            let mut bytes: Vec<u8> = Vec::new(alloc);
-            write(alloc, &mut WriteSink::new(&mut bytes), texts, answer)?;
-            answer_bytes(alloc, &bytes, answer)
-        }
+        "vector" => write_vector(alloc, texts, answer),
         _ => unknown(writer),
     }
+}
+
+fn write_vector(alloc: Global, texts: &str, answer: &mut String) -> Result<()> {
+    let mut bytes: Vec<u8> = Vec::new(alloc);
+    write(alloc, &mut WriteSink::new(&mut bytes), texts, answer)?;
+    answer_bytes(alloc, &bytes, answer)
 }
 
 // The moments of a clock that is `back 1000 900`.
 fn ask_set_back(words: &str, answer: &mut String) -> Result<()> {
     let (first, later) = first_word(words);
-    let mut clock = SysClock::new(SetBack::new(first.parse::<u64>()?, later.parse::<u64>()?));
-    writeln!(answer, "{}", clock.now())?;
-    writeln!(answer, "{}", clock.now())?;
+    let set_back = SetBack::new(first.parse::<u64>()?, later.parse::<u64>()?);
+    let mut clock = SysClock::new(set_back);
+    let (first, later) = (clock.now(), clock.now());
+    writeln!(answer, "{first}\n{later}")?;
+    Ok(())
+}
+
+fn answer_moment(moment: Moment, answer: &mut String) -> Result<()> {
+    writeln!(answer, "{moment}")?;
+    Ok(())
+}
+
+fn answer_past<C: rt::Clock>(real: &C, seconds: u64, answer: &mut String) -> Result<()> {
+    let is_past = SysClock::new(real).now().get() > seconds;
+    writeln!(answer, "{is_past}")?;
     Ok(())
 }
 
@@ -62,17 +74,13 @@ fn ask_clock<C: rt::Clock>(real: &C, words: &str, answer: &mut String) -> Result
     match first_word(words) {
         ("at", seconds) => {
             let stopped = Stopped(Some(seconds.parse::<u64>()?));
-            writeln!(answer, "{}", SysClock::new(stopped).now())?;
+            answer_moment(SysClock::new(stopped).now(), answer)
         }
-        ("back", seconds) => ask_set_back(seconds, answer)?,
-        ("unreadable", _) => writeln!(answer, "{}", SysClock::new(Stopped(None)).now())?,
-        ("past", seconds) => {
-            let is_past = SysClock::new(real).now().get() > seconds.parse::<u64>()?;
-            writeln!(answer, "{is_past}")?;
-        }
-        _ => unknown(words)?,
+        ("back", seconds) => ask_set_back(seconds, answer),
+        ("unreadable", _) => answer_moment(SysClock::new(Stopped(None)).now(), answer),
+        ("past", seconds) => answer_past(real, seconds.parse::<u64>()?, answer),
+        _ => unknown(words),
     }
-    Ok(())
 }
 
 // The pause between two looks, in milliseconds.

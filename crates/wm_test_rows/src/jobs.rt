@@ -4,8 +4,9 @@
 //                        `SERIAL NUMBER/USER/NAME HELD|FREE PHASE [ROUTING DATA] [REQUEST]`, without the last where there
 //                        is no request
 use crate::words;
-use anyhow::{Result, anyhow};
-use std::alloc::Global;
+use anyhow::{Context, Result};
+use std::alloc::{AllocError, Global};
+use wm_base::Text;
 use wm_cases::Subject;
 use wm_job_rows::{StoredJob, read_job};
 
@@ -27,7 +28,7 @@ impl Subject for JobCases {
     }
 
     fn answer(&mut self, question: &str, answer: &mut String) -> Result<()> {
-        let written = question.strip_prefix("job ").ok_or(anyhow!("no question"))?;
+        let written = question.strip_prefix("job ").context("no question")?;
         let row = words::row(self.alloc, written)?;
         let job = read_job(self.alloc, &row)?;
         push_read(&job, answer)
@@ -36,30 +37,32 @@ impl Subject for JobCases {
 
 fn push_read(job: &Option<StoredJob>, answer: &mut String) -> Result<()> {
     match job {
-        None => answer.push_str("NONE")?,
+        None => answer.push_str("NONE\n")?,
         Some(job) => push_job(job, answer)?,
     }
-    answer.push('\n')?;
     Ok(())
 }
 
-fn push_job(job: &StoredJob, answer: &mut String) -> Result<()> {
+fn push_job(job: &StoredJob, answer: &mut String) -> Result<(), AllocError> {
     write!(
         answer,
         "{} {}/{}/{}",
         job.serial, job.number, job.user, job.name
     )?;
-    write!(
-        answer,
-        " {} {:?} [{}]",
-        held_word(job.held),
-        job.phase,
-        job.rtgdta
-    )?;
-    if let Some(request) = &job.rqsdta {
-        write!(answer, " [{request}]")?;
+    push_stage(job, answer)?;
+    push_request(&job.rqsdta, answer)
+}
+
+fn push_stage(job: &StoredJob, answer: &mut String) -> Result<(), AllocError> {
+    let held = held_word(job.held);
+    write!(answer, " {held} {:?} [{}]", job.phase, job.rtgdta)
+}
+
+fn push_request(request: &Option<Text>, answer: &mut String) -> Result<(), AllocError> {
+    match request {
+        None => answer.push('\n'),
+        Some(request) => writeln!(answer, " [{request}]"),
     }
-    Ok(())
 }
 
 fn held_word(held: bool) -> &'static str {

@@ -11,7 +11,7 @@ use anyhow::{Result, bail};
 use std::alloc::Global;
 use wm_cases::Subject;
 use wm_core::Setup;
-use wm_desc::{Sbsd, qbatch};
+use wm_desc::{Objects, Sbsd, qbatch};
 use wm_law::Job;
 use wm_opening::open_rows;
 use wm_outside::{Row, RowChange};
@@ -34,6 +34,15 @@ impl RestartCases {
     }
 }
 
+impl RestartCases {
+    fn add(&mut self, question: &str) -> Result<()> {
+        match question.strip_prefix("row ") {
+            None => words::unknown(question),
+            Some(written) => Ok(self.rows.push(words::row(self.alloc, written)?)?),
+        }
+    }
+}
+
 impl Subject for RestartCases {
     fn begin(&mut self) -> Result<()> {
         self.rows.clear();
@@ -41,14 +50,10 @@ impl Subject for RestartCases {
     }
 
     fn answer(&mut self, question: &str, answer: &mut String) -> Result<()> {
-        if let Some(written) = question.strip_prefix("row ") {
-            self.rows.push(words::row(self.alloc, written)?)?;
-            return Ok(());
-        }
         match question {
             "open" => tell_read(self.alloc, &self.rows, answer),
             "write" => tell_written(self.alloc, &self.rows, answer),
-            _ => bail!("no question: {question}"),
+            _ => self.add(question),
         }
     }
 }
@@ -97,27 +102,40 @@ fn push_change(change: &RowChange, answer: &mut String) -> Result<()> {
 }
 
 fn push_read(read: &ReadParts, answer: &mut String) -> Result<()> {
-    let objects = &read.objects;
-    let mut entries = 0_usize;
-    for (_, description) in objects.sbsds.as_slice() {
-        entries = entries.saturating_add(entries_of(description));
-    }
-    writeln!(
-        answer,
-        "OBJECTS {} {} {} {} {} ENTRIES {entries} HELD {}",
-        objects.classes.len(),
-        objects.programs.len(),
-        objects.jobqs.len(),
-        objects.jobds.len(),
-        objects.sbsds.len(),
-        read.held.len()
-    )?;
+    push_counts(&read.objects, read.held.len(), answer)?;
     writeln!(
         answer,
         "NEXT {} {} {}",
         read.next_number, read.next_place, read.next_serial
     )?;
-    for job in read.jobs.iter() {
+    push_jobs(&read.jobs, answer)
+}
+
+// How many objects there are of each kind, how many entries, and how many held queues.
+fn push_counts(objects: &Objects, held: usize, answer: &mut String) -> Result<()> {
+    write!(
+        answer,
+        "OBJECTS {} {} {} ",
+        objects.classes.len(),
+        objects.programs.len(),
+        objects.jobqs.len()
+    )?;
+    let (jobds, sbsds) = (objects.jobds.len(), objects.sbsds.len());
+    let entries = count_entries(objects);
+    writeln!(answer, "{jobds} {sbsds} ENTRIES {entries} HELD {held}")?;
+    Ok(())
+}
+
+fn count_entries(objects: &Objects) -> usize {
+    let mut entries = 0_usize;
+    for (_, description) in objects.sbsds.as_slice() {
+        entries = entries.saturating_add(entries_of(description));
+    }
+    entries
+}
+
+fn push_jobs(jobs: &[Job], answer: &mut String) -> Result<()> {
+    for job in jobs {
         push_job(job, answer)?;
     }
     Ok(())

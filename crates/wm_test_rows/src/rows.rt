@@ -34,7 +34,7 @@ impl Subject for RowCases {
         match question.split_once(' ') {
             Some(("row", text)) => tell_row(self.alloc, text, answer),
             Some(("read", written)) => tell_read(self.alloc, written, answer),
-            _ => bail!("no question: {question}"),
+            _ => words::unknown(question),
         }
     }
 }

@@ -1,5 +1,5 @@
 // Rows as a case writes them.
-use anyhow::{Result, anyhow, ensure};
+use anyhow::{Context, Result, bail, ensure};
 use std::alloc::Global;
 use wm_base::{Text, is_text};
 use wm_cases::bytes_of;
@@ -13,11 +13,16 @@ fn text(alloc: Global, written: &str) -> Result<Text> {
 
 /// The row of `1|QGPL/NIGHT|BODY`: its table, its key and its body. A blank at an end stands as `\x20`.
 pub fn row(alloc: Global, written: &str) -> Result<Row> {
-    let (tab, rest) = written.split_once('|').ok_or(anyhow!("a table"))?;
-    let (key, body) = rest.split_once('|').ok_or(anyhow!("a key"))?;
+    let (tab, rest) = written.split_once('|').context("a table")?;
+    let (key, body) = rest.split_once('|').context("a key")?;
     Ok(Row {
         tab: tab.parse::<u8>()?,
         key: text(alloc, key)?,
         body: text(alloc, body)?,
     })
+}
+
+/// The fault of a question that no case has.
+pub fn unknown(question: &str) -> Result<()> {
+    bail!("no question: {question}")
 }

@@ -1,6 +1,7 @@
 // What a run is given.
-use anyhow::{Result, anyhow};
+use anyhow::{Context, Result};
 use std::alloc::{AllocError, Global};
+use wm_cases::bytes_of;
 
 // Which call fails: the number, from 1, of a read, a write, a start, a kill or a look.
 #[derive(Clone, Copy, PartialEq, Eq)]
@@ -25,6 +26,17 @@ impl Failing {
     }
 }
 
+fn push_word(alloc: Global, words: &mut Vec<String>, word: &str) -> Result<()> {
+    words.push(String::from_str(alloc, word)?)?;
+    Ok(())
+}
+
+/// The answer to a word that no case has.
+pub fn unknown(answer: &mut String) -> Result<()> {
+    answer.push_str("no such question\n")?;
+    Ok(())
+}
+
 /// The words, the input, the calls that fail, and the numbers that the forms in memory are made with.
 #[derive(Drop)]
 pub struct Given {
@@ -45,7 +57,7 @@ impl Given {
     /// The word `run`, no input, children that end at once, a clock that stands at 1000, and nothing that fails.
     pub fn new(alloc: Global) -> Result<Given> {
         let mut words = Vec::new(alloc);
-        words.push(String::from_str(alloc, "run")?)?;
+        push_word(alloc, &mut words, "run")?;
         Ok(Given {
             words,
             input: Vec::new(alloc),
@@ -58,11 +70,59 @@ impl Given {
         })
     }
 
-    /// Sets the words, which are parted by blanks.
-    pub fn words(&mut self, alloc: Global, text: &str) -> Result<()> {
+    /// Sets what the word says by its text.
+    pub fn set(
+        &mut self,
+        alloc: Global,
+        word: &str,
+        text: &str,
+        answer: &mut String,
+    ) -> Result<()> {
+        match word {
+            "words" => self.words(alloc, text),
+            "line" => self.line(alloc, text),
+            "bytes" => self.bytes(alloc, text),
+            "fail" => self.fail(text),
+            "lag" => self.lag(text),
+            "pieces" => self.pieces(text),
+            "clock" => self.clock(text),
+            "look" => self.look(alloc, text),
+            _ => unknown(answer),
+        }
+    }
+
+    fn line(&mut self, alloc: Global, text: &str) -> Result<()> {
+        self.bytes(alloc, text)?;
+        self.input.push(b'\n')?;
+        Ok(())
+    }
+
+    fn bytes(&mut self, alloc: Global, text: &str) -> Result<()> {
+        let bytes = bytes_of(alloc, text)?;
+        self.input.extend_from_slice(&bytes)?;
+        Ok(())
+    }
+
+    fn lag(&mut self, text: &str) -> Result<()> {
+        self.lag = text.parse::<u32>()?;
+        Ok(())
+    }
+
+    fn pieces(&mut self, text: &str) -> Result<()> {
+        self.most = text.parse::<usize>()?;
+        Ok(())
+    }
+
+    fn look(&mut self, alloc: Global, text: &str) -> Result<()> {
+        self.tells.push(String::from_str(alloc, text)?)?;
+        Ok(())
+    }
+
+    // Sets the words, which are parted by blanks.
+    fn words(&mut self, alloc: Global, text: &str) -> Result<()> {
         self.words.clear();
         for word in text.split_whitespace() {
-            self.words.push(String::from_str(alloc, word)?)?;
+            push_word(alloc, &mut self.words, word)?;
         }
         Ok(())
     }
@@ -78,17 +138,17 @@ impl Given {
         Ok(numbers)
     }
 
-    /// Sets `fail look 2`.
-    pub fn fail(&mut self, text: &str) -> Result<()> {
-        let (word, number) = text.split_once(' ').ok_or(anyhow!("no number"))?;
-        let failing = Failing::of(word).ok_or(anyhow!("no such call"))?;
+    // Sets `fail look 2`.
+    fn fail(&mut self, text: &str) -> Result<()> {
+        let (word, number) = text.split_once(' ').context("no number")?;
+        let failing = Failing::of(word).context("no such call")?;
         self.failing.push((failing, number.parse::<u32>()?))?;
         Ok(())
     }
 
-    /// Sets `clock 1000 7`.
-    pub fn clock(&mut self, text: &str) -> Result<()> {
-        let (first, step) = text.split_once(' ').ok_or(anyhow!("no step"))?;
+    // Sets `clock 1000 7`.
+    fn clock(&mut self, text: &str) -> Result<()> {
+        let (first, step) = text.split_once(' ').context("no step")?;
         self.first = first.parse::<u64>()?;
         self.step = step.parse::<u64>()?;
         Ok(())

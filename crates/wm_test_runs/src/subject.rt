@@ -1,12 +1,12 @@
 // The questions, and the run that they are about.
-use crate::given::{Failing, Given};
+use crate::given::{Failing, Given, unknown};
 use crate::shown::{push_asked, push_entry};
 use crate::told::Telling;
 use anyhow::Result;
 use std::alloc::Global;
 use std::sync::Wait;
 use wm_base::Moment;
-use wm_cases::{Subject, bytes_of};
+use wm_cases::Subject;
 use wm_outside::{MemClock, MemSink, MemSource, MemSpawner, Spawner};
 use wm_run::{Ran, run};
 
@@ -65,7 +65,7 @@ impl<'a, W: Wait> Runs<'a, W> {
         self.written = written.to_vec(self.alloc)?;
         self.log.clear();
         for entry in ran.log.iter() {
-            push_entry(&mut self.log, self.alloc, entry)?;
+            push_entry(&mut self.log, entry)?;
         }
         Ok(())
     }
@@ -83,7 +83,7 @@ impl<'a, W: Wait> Runs<'a, W> {
         self.run_with(&mut spawner)?;
         self.asked.clear();
         for asked in spawner.asked() {
-            push_asked(&mut self.asked, self.alloc, asked)?;
+            push_asked(&mut self.asked, asked)?;
         }
         Ok(())
     }
@@ -96,46 +96,27 @@ impl<'a, W: Wait> Runs<'a, W> {
         self.run_with(&mut spawner)
     }
 
-    // What is set by a word and its text. It answers whether there is such a word.
-    fn set(&mut self, word: &str, text: &str) -> Result<bool> {
-        match word {
-            "words" => self.given.words(self.alloc, text)?,
-            "line" => {
-                let bytes = bytes_of(self.alloc, text)?;
-                self.given.input.extend_from_slice(&bytes)?;
-                self.given.input.push(b'\n')?;
-            }
-            "bytes" => {
-                let bytes = bytes_of(self.alloc, text)?;
-                self.given.input.extend_from_slice(&bytes)?;
-            }
-            "fail" => self.given.fail(text)?,
-            "lag" => self.given.lag = text.parse::<u32>()?,
-            "pieces" => self.given.most = text.parse::<usize>()?,
-            "clock" => self.given.clock(text)?,
-            "look" => self.given.tells.push(String::from_str(self.alloc, text)?)?,
-            _ => return Ok(false),
-        }
-        Ok(true)
+    fn run_and_tell(&mut self, answer: &mut String) -> Result<()> {
+        self.run()?;
+        writeln!(answer, "status {}", self.status)?;
+        Ok(())
     }
 
+    fn show_written(&self, answer: &mut String) -> Result<()> {
+        let text = String::from_utf8_lossy(self.alloc, &self.written)?;
+        answer.push_str(text.as_str())?;
+        Ok(())
+    }
+
+    // Answers a question of one word.
     fn show(&mut self, question: &str, answer: &mut String) -> Result<()> {
         match question {
-            "no words" => self.given.words.clear(),
-            "run" => {
-                self.run()?;
-                let line = format!(in self.alloc; "status {}\n", self.status)?;
-                answer.push_str(line.as_str())?;
-            }
-            "written" => {
-                let text = String::from_utf8_lossy(self.alloc, &self.written)?;
-                answer.push_str(text.as_str())?;
-            }
-            "asked" => answer.push_str(self.asked.as_str())?,
-            "log" => answer.push_str(self.log.as_str())?,
-            _ => answer.push_str("no such question\n")?,
+            "run" => self.run_and_tell(answer),
+            "written" => self.show_written(answer),
+            "asked" => Ok(answer.push_str(self.asked.as_str())?),
+            "log" => Ok(answer.push_str(self.log.as_str())?),
+            _ => unknown(answer),
         }
-        Ok(())
     }
 }
 
@@ -146,11 +127,13 @@ impl<'a, W: Wait> Subject for Runs<'a, W> {
     }
 
     fn answer(&mut self, question: &str, answer: &mut String) -> Result<()> {
-        if let Some((word, text)) = question.split_once(' ') {
-            if self.set(word, text)? {
-                return Ok(());
+        match question.split_once(' ') {
+            None => self.show(question, answer),
+            Some(("no", "words")) => {
+                self.given.words.clear();
+                Ok(())
             }
+            Some((word, text)) => self.given.set(self.alloc, word, text, answer),
         }
-        self.show(question, answer)
     }
 }

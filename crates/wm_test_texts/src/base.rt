@@ -14,7 +14,7 @@
 // > exit CODE, > causes, > refusals, > kinds, > phases, > keywords      what each has, as it is printed
 // > count               how many bytes a count of steps has
 use crate::{asked, causes, names, numbers};
-use anyhow::{Result, bail};
+use anyhow::Result;
 use std::alloc::Global;
 use wm_cases::Subject;
 
@@ -65,7 +65,7 @@ impl BaseCases {
             "kinds" => causes::kinds(answer),
             "phases" => causes::phases(answer),
             "keywords" => causes::keywords(answer),
-            _ => bail!("no question: {asked}"),
+            _ => asked::unknown(asked),
         }
     }
 }

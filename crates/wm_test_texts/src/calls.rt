@@ -8,7 +8,7 @@
 // > names TEXT               for each item of a command, the object and the program that it names
 use crate::asked;
 use crate::names::two;
-use anyhow::{Result, bail, ensure};
+use anyhow::{Result, ensure};
 use std::alloc::Global;
 use wm_base::{Args, QName, Text, is_text};
 use wm_cases::{Subject, bytes_of};
@@ -42,7 +42,7 @@ impl Subject for CallCases {
             "values" => count_values(self.alloc, text, answer),
             "items" => read_lists(self.alloc, text, answer),
             "names" => read_names(self.alloc, text, answer),
-            _ => bail!("no question: {asked}"),
+            _ => asked::unknown(asked),
         }
     }
 }

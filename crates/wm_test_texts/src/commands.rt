@@ -41,7 +41,7 @@ impl Subject for CommandCases {
             "value" => write_value(self.alloc, text, answer),
             "opening" if text.is_empty() => count_opening(self.alloc, answer),
             "opening" => compare_opening(self.alloc, text, answer),
-            _ => bail!("no question: {asked}"),
+            _ => asked::unknown(asked),
         }
     }
 }
@@ -59,16 +59,24 @@ fn without_caret(alloc: Global, text: &str) -> Result<Vec<u8>, AllocError> {
 fn push_fault(fault: CmdFault, caret: usize, answer: &mut String) -> Result<()> {
     let (number, place) = numbered(fault);
     write!(answer, "{number}")?;
-    match fault {
-        CmdFault::Missing(key) => write!(answer, " {key}")?,
-        CmdFault::Conflict(key, other) => write!(answer, " {key} {other}")?,
-        _ => {}
-    }
-    if place != caret {
-        write!(answer, " at {place}")?;
-    }
-    answer.push('\n')?;
+    push_keys(fault, answer)?;
+    push_place(place, caret, answer)?;
     Ok(())
+}
+
+fn push_keys(fault: CmdFault, answer: &mut String) -> Result<(), AllocError> {
+    match fault {
+        CmdFault::Missing(key) => write!(answer, " {key}"),
+        CmdFault::Conflict(key, other) => write!(answer, " {key} {other}"),
+        _ => Ok(()),
+    }
+}
+
+fn push_place(place: usize, caret: usize, answer: &mut String) -> Result<(), AllocError> {
+    if place == caret {
+        return answer.push('\n');
+    }
+    writeln!(answer, " at {place}")
 }
 
 fn check(alloc: Global, text: &str, answer: &mut String) -> Result<()> {

@@ -5,7 +5,7 @@
 //                            neither, and each day that is a date in one of them alone
 // > schedule DATE, TIME      whether the words of a schedule are in range
 use crate::{asked, schedules};
-use anyhow::{Result, bail};
+use anyhow::Result;
 use jiff::civil::Date;
 use wm_cases::Subject;
 use wm_when::is_date;
@@ -25,7 +25,7 @@ impl Subject for DateCases {
             "date" => tell_date(text, answer),
             "calendar" => compare_years(text, answer),
             "schedule" => schedules::range(text, answer),
-            _ => bail!("no question: {asked}"),
+            _ => asked::unknown(asked),
         }
     }
 }

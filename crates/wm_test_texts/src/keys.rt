@@ -14,7 +14,7 @@
 // The answer has each item that was answered otherwise than it should, and is empty where none was.
 use crate::asked;
 use crate::properties::Tried;
-use anyhow::{Result, anyhow, bail};
+use anyhow::{Context, Result, bail};
 use std::alloc::{AllocError, Global};
 use std::collections::BTreeMap;
 use wm_cases::Subject;
@@ -52,9 +52,14 @@ impl KeyCases {
         }
     }
 
+    fn try_text(&mut self, asked: &str, text: &str, answer: &mut String) -> Result<()> {
+        let fields = fields(self.alloc, text)?;
+        self.try_fields(asked, &fields, answer)
+    }
+
     // Asks what the fields say of a key, a command or a length.
     fn try_fields(&mut self, asked: &str, fields: &[&str], answer: &mut String) -> Result<()> {
-        let (head, others) = fields.split_first().ok_or(anyhow!("no fields"))?;
+        let (head, others) = fields.split_first().context("no fields")?;
         let mut tried = Tried::new(self.alloc, *head, answer);
         self.try_others(asked, others, &mut tried)?;
         self.tried = self.tried.saturating_add(tried.count());
@@ -66,7 +71,7 @@ impl KeyCases {
             "key" => self.try_key(others, tried),
             "command" => self.try_command(others, tried),
             "length" => try_length(others, tried),
-            _ => bail!("no question: {asked}"),
+            _ => asked::unknown(asked),
         }
     }
 
@@ -95,15 +100,16 @@ impl Subject for KeyCases {
     fn answer(&mut self, question: &str, answer: &mut String) -> Result<()> {
         let (asked, text) = asked::parts(question);
         match asked {
-            "list" => self.list(text)?,
-            "asked" => writeln!(answer, "{}", self.tried)?,
-            _ => {
-                let fields = fields(self.alloc, text)?;
-                self.try_fields(asked, &fields, answer)?;
-            }
+            "list" => self.list(text),
+            "asked" => write_count(self.tried, answer),
+            _ => self.try_text(asked, text, answer),
         }
-        Ok(())
     }
+}
+
+fn write_count(count: u64, answer: &mut String) -> Result<()> {
+    writeln!(answer, "{count}")?;
+    Ok(())
 }
 
 fn try_length(fields: &[&str], tried: &mut Tried) -> Result<()> {

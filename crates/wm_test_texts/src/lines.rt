@@ -9,7 +9,7 @@
 //
 // An input is joined in pieces of each size, and a size that gives other lines is told.
 use crate::asked;
-use anyhow::{Result, bail};
+use anyhow::Result;
 use std::alloc::{AllocError, Global};
 use wm_cases::{Subject, bytes_of, visible};
 use wm_clwords::{Joiner, LogicalLine};
@@ -78,7 +78,7 @@ impl Subject for LineCases {
             "feed" => self.feed(text, answer),
             "end" => self.end(answer),
             "line" => self.line(text, answer),
-            _ => bail!("no question: {asked}"),
+            _ => asked::unknown(asked),
         }
     }
 }
@@ -91,13 +91,15 @@ fn push_line(
     lines: &mut String,
 ) -> Result<()> {
     match line {
-        None => {}
-        Some(LogicalLine::Long) => lines.push_str("too long\n")?,
-        Some(LogicalLine::Command) => {
-            let text = visible(alloc, joiner.line())?;
-            writeln!(lines, "<{text}>")?;
-        }
+        None => Ok(()),
+        Some(LogicalLine::Long) => Ok(lines.push_str("too long\n")?),
+        Some(LogicalLine::Command) => push_bytes(alloc, joiner.line(), lines),
     }
+}
+
+fn push_bytes(alloc: Global, line: &[u8], lines: &mut String) -> Result<()> {
+    let text = visible(alloc, line)?;
+    writeln!(lines, "<{text}>")?;
     Ok(())
 }
 

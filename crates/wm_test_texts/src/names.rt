@@ -1,6 +1,6 @@
 // Names, texts, arguments, and the names that have several parts.
 use crate::numbers::job_number;
-use anyhow::{Result, anyhow, ensure};
+use anyhow::{Context, Result, ensure};
 use std::alloc::Global;
 use wm_base::{Args, JobName, Name, QName, Text, is_text};
 use wm_cases::{bytes_of, visible};
@@ -25,7 +25,7 @@ pub fn views(alloc: Global, text: &str, answer: &mut String) -> Result<()> {
 
 /// Two names that are parted by this character.
 pub fn two(text: &str, parted: char) -> Result<(Name, Name)> {
-    let (first, second) = text.split_once(parted).ok_or(anyhow!("two names"))?;
+    let (first, second) = text.split_once(parted).context("two names")?;
     Ok((
         Name::read(first.as_bytes())?,
         Name::read(second.as_bytes())?,
@@ -35,13 +35,14 @@ pub fn two(text: &str, parted: char) -> Result<(Name, Name)> {
 /// How two names are ordered.
 pub fn order(text: &str, answer: &mut String) -> Result<()> {
     let (first, second) = two(text, ' ')?;
-    if first == Name::of(second.as_bytes()) {
-        answer.push_str("equal\n")?;
+    let order = if first == Name::of(second.as_bytes()) {
+        "equal\n"
     } else if first < second {
-        answer.push_str("less\n")?;
+        "less\n"
     } else {
-        answer.push_str("greater\n")?;
-    }
+        "greater\n"
+    };
+    answer.push_str(order)?;
     Ok(())
 }
 
@@ -94,9 +95,19 @@ fn is_copied(alloc: Global, text: &Text) -> Result<bool> {
 pub fn args(alloc: Global, texts: &str, answer: &mut String) -> Result<()> {
     let mut args = Args::new(alloc);
     for text in texts.split_whitespace() {
-        args.push(text_of(alloc, text.as_bytes())?)?;
+        push_argument(alloc, &mut args, text)?;
     }
     write_args(&args, answer)?;
+    write_copied(args, answer)
+}
+
+fn push_argument(alloc: Global, args: &mut Args, text: &str) -> Result<()> {
+    args.push(text_of(alloc, text.as_bytes())?)?;
+    Ok(())
+}
+
+// Whether a copy has the same texts, also when it is made again of them.
+fn write_copied(args: Args, answer: &mut String) -> Result<()> {
     let copy = args.clone()?;
     let same = copy == args;
     let items: Vec<Text> = args.into();
@@ -122,7 +133,7 @@ pub fn qname(text: &str, answer: &mut String) -> Result<()> {
 
 /// A job's full name as it is printed.
 pub fn job(text: &str, answer: &mut String) -> Result<()> {
-    let (number, names) = text.split_once(' ').ok_or(anyhow!("a number"))?;
+    let (number, names) = text.split_once(' ').context("a number")?;
     let (user, name) = two(names, ' ')?;
     let number = job_number(number)?;
     writeln!(answer, "{}", JobName { number, user, name })?;

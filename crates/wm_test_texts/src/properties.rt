@@ -42,12 +42,10 @@ impl<'a> Tried<'a> {
     // The fault of an item behind a head is the one with this number, and stands at the item.
     fn expect_behind(&mut self, head: &str, item: &str, number: u8) -> Result<()> {
         let line = format!(in self.alloc; "{head} {item}")?;
-        let (got, place) = match found(self.alloc, line.as_bytes())? {
-            None => (TAKEN, head.len().saturating_add(1)),
-            Some(fault) => numbered(fault),
-        };
+        let at = head.len().saturating_add(1);
+        let (got, place) = answered(found(self.alloc, line.as_bytes())?, at);
         self.count = self.count.saturating_add(1);
-        if got != number || place != head.len().saturating_add(1) {
+        if got != number || place != at {
             writeln!(self.answer, "{line}: {got} at {place}")?;
         }
         Ok(())
@@ -159,6 +157,14 @@ impl<'a> Tried<'a> {
         self.expect_letters(around, least, TAKEN)?;
         self.expect_letters(around, most, TAKEN)?;
         self.expect_letters(around, most.saturating_add(1), number)
+    }
+}
+
+// The number and the place of a fault of an item that stands there, which itself is its place where it is taken.
+fn answered(fault: Option<CmdFault>, at: usize) -> (u8, usize) {
+    match fault {
+        None => (TAKEN, at),
+        Some(fault) => numbered(fault),
     }
 }
 

@@ -3,8 +3,8 @@
 // > read TEXT    the name of the command that the bytes are, and each item with its place and its length, those of a
 //                list two blanks deeper; or the fault
 use crate::asked;
-use anyhow::{Result, bail};
-use std::alloc::Global;
+use anyhow::Result;
+use std::alloc::{AllocError, Global};
 use wm_cases::{Subject, bytes_of};
 use wm_clwords::{ClFault, Item, Tree, read_command};
 
@@ -29,7 +29,7 @@ impl Subject for TreeCases {
         let (asked, text) = asked::parts(question);
         match asked {
             "read" => read(self.alloc, text, answer),
-            _ => bail!("no question: {asked}"),
+            _ => asked::unknown(asked),
         }
     }
 }
@@ -58,21 +58,21 @@ fn push_tree(tree: &Tree, answer: &mut String) -> Result<()> {
 // An item, and those in it two blanks deeper.
 fn push_item(item: &Item, depth: usize, answer: &mut String) -> Result<()> {
     write!(answer, "{:depth$}", "")?;
-    match item {
-        Item::Word(span, text) => writeln!(answer, "{} {} word {text}", span.place, span.len)?,
-        Item::Quoted(span, text) => writeln!(answer, "{} {} text {text}", span.place, span.len)?,
-        Item::List(span, items) => {
-            writeln!(answer, "{} {} list", span.place, span.len)?;
-            for item in items {
-                push_item(item, depth.saturating_add(2), answer)?;
-            }
-        }
-        Item::Keyed(span, key, items) => {
-            writeln!(answer, "{} {} key {key}", span.place, span.len)?;
-            for item in items {
-                push_item(item, depth.saturating_add(2), answer)?;
-            }
+    push_head(item, answer)?;
+    if let Item::List(_, items) | Item::Keyed(_, _, items) = item {
+        for item in items {
+            push_item(item, depth.saturating_add(2), answer)?;
         }
     }
     Ok(())
+}
+
+// An item's place and length, and what it is.
+fn push_head(item: &Item, answer: &mut String) -> Result<(), AllocError> {
+    match item {
+        Item::Word(span, text) => writeln!(answer, "{} {} word {text}", span.place, span.len),
+        Item::Quoted(span, text) => writeln!(answer, "{} {} text {text}", span.place, span.len),
+        Item::List(span, _) => writeln!(answer, "{} {} list", span.place, span.len),
+        Item::Keyed(span, key, _) => writeln!(answer, "{} {} key {key}", span.place, span.len),
+    }
 }
