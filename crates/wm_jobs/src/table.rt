@@ -116,7 +116,7 @@ impl JobTable {
     }
 
     /// Makes room for a number of jobs and for two changes, and to take back all that is done from the mark on. An `Err` is
-    /// want of memory, or comes where there would be more than 1,073,741,823 jobs; it leaves all as it was.
+    /// want of memory, or comes where there would be more than 1,073,741,823 jobs, or notes; it leaves all as it was.
     pub fn reserve(&mut self, more: u32) -> Result<(), NoMemory>
         ensures ok { OnOk result (more ≤ self.new.spare) }
         ensures changes { OnOk result (2 ≤ self.new.changes) }
