@@ -4,3 +4,5 @@ pub mod FromStore
 pub mod Leaving
 pub mod Opened
 pub mod Phases
+pub mod PutBack
+pub mod Undone

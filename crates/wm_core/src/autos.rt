@@ -2,6 +2,7 @@
 ghost use Rattle.std.specs.Prelude.{◌≡◌, ◌+◌, ◌++◌, ◌^◌, ◌<◌, ◌≤◌, length, option_to_list, IfOk, OnOk};
 ghost use Rattle.wm_law.specs.Launch.{as_auto, launched_as};
 ghost use Rattle.wm_law.specs.Submitting.{numbers_end};
+ghost use Rattle.wm_jobs.specs.Table.{IsReady};
 ghost use Rattle.wm_core.specs.Drafts.{draft_of, draft_in, drafts, drafted_job, enter_draft, site_state, enter_drafts};
 
 use crate::draft::{Draft, Site};
@@ -113,6 +114,8 @@ fn enter_draft(table: &mut JobTable, number: &mut u32, site: &Site<'_>, draft: D
     ensures next_place { table.new.next_place ≡ table.old.next_place }
     ensures number { number.new ≡ number.old + 1 }
     ensures spare { table.old.spare ≡ table.new.spare + 1 }
+    ensures ready { IsReady table.old → IsReady table.new }
+    ensures marked { table.new.marked ≡ table.old.marked }
 {
     let mut job = drafted_job(table, *number, site, draft);
     let launched = launched(table, *number, site, &job);
@@ -136,6 +139,8 @@ pub(crate) fn enter_drafts(
     ensures state { site_state site.now table.new number.new ≡ enter_drafts site.now table.old number.old drafts.items }
     ensures clock { table.new.clock ≡ table.old.clock }
     ensures next_place { table.new.next_place ≡ table.old.next_place }
+    ensures ready { IsReady table.old → IsReady table.new }
+    ensures marked { table.new.marked ≡ table.old.marked }
 {
     for draft in drafts {
         enter_draft(table, number, site, draft);

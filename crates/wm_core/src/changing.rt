@@ -42,7 +42,7 @@ impl Machine {
 
     // Whether the queue that is asked for is an object, where one is.
     fn has_queue(&self, wanted: &Option<QName>) -> bool
-        ensures { result ≡ has_queue self.now wanted.now }
+        ensures { result ≡ has_queue self.now.state wanted.now }
     {
         match wanted {
             None => true,
@@ -53,7 +53,8 @@ impl Machine {
     /// CHGJOB. The clock is set behind it. An `Err` is want of memory and leaves the state.
     pub(crate) fn change_job(&mut self, command: &Chgjob, now: Moment) -> Result<Reply, NoMemory>
         requires { IsJobChange command.now }
-        ensures ok { IfOk result (λ r. IsStill now r self.new (change_job (with_clock self.old now) command.now)) }
+        ensures ok { IfOk result (λ r. IsStill now r self.new.state (change_job (with_clock self.old.state now) command.now)) }
+        ensures marks { OnOk result (self.new.marks ≡ self.old.marks) }
         ensures err { OnErr result (self.new ≡ self.old) }
     {
         let job = match self.waiting_named(&command.job) {

@@ -11,7 +11,7 @@ impl Machine {
 
     // The Waiting job that a reference names.
     pub(crate) fn waiting_named(&self, reference: &JobRef) -> Result<&Job, Refusal>
-        ensures { MatchResult result (λ job. waiting_named self.now reference.now ≡ Ok job.now) (λ x. waiting_named self.now reference.now ≡ Err x) }
+        ensures { MatchResult result (λ job. waiting_named self.now.state reference.now ≡ Ok job.now) (λ x. waiting_named self.now.state reference.now ≡ Err x) }
     {
         let job = match self.table.named(reference) {
             Ok(job) => job,
@@ -25,8 +25,9 @@ impl Machine {
 
     /// HLDJOB. An `Err` is want of memory and leaves the state.
     pub(crate) fn hold_job(&mut self, reference: &JobRef) -> Result<Reply, NoMemory>
-        ensures reply { IfOk result (λ r. r ≡ (hold_job self.old reference.now).reply) }
-        ensures state { OnOk result (self.new ≡ (hold_job self.old reference.now).state) }
+        ensures reply { IfOk result (λ r. r ≡ (hold_job self.old.state reference.now).reply) }
+        ensures state { OnOk result (self.new.state ≡ (hold_job self.old.state reference.now).state) }
+        ensures marks { OnOk result (self.new.marks ≡ self.old.marks) }
         ensures err { OnErr result (self.new ≡ self.old) }
     {
         let job = match self.waiting_named(reference) {
@@ -45,8 +46,9 @@ impl Machine {
 
     /// RLSJOB. An `Err` is want of memory and leaves the state.
     pub(crate) fn release_job(&mut self, reference: &JobRef) -> Result<Reply, NoMemory>
-        ensures reply { IfOk result (λ r. r ≡ (release_job self.old reference.now).reply) }
-        ensures state { OnOk result (self.new ≡ (release_job self.old reference.now).state) }
+        ensures reply { IfOk result (λ r. r ≡ (release_job self.old.state reference.now).reply) }
+        ensures state { OnOk result (self.new.state ≡ (release_job self.old.state reference.now).state) }
+        ensures marks { OnOk result (self.new.marks ≡ self.old.marks) }
         ensures err { OnErr result (self.new ≡ self.old) }
     {
         let job = match self.waiting_named(reference) {

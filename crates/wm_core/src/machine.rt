@@ -1,4 +1,5 @@
 // A step of the machine: the call is applied, the clock is set, and the state settles.
+use crate::mark::Mark;
 use std::alloc::Global;
 use std::marker::Model;
 use wm_base::{Moment, Name, NoMemory};
@@ -9,7 +10,7 @@ use wm_pick::Parts;
 use wm_when::Offset;
 
 /// The machine over any state. The jobs, their next numbers and the clock are in the job table, all else is plain data.
-/// A contract sees it as the state.
+/// A contract sees the state, and what is kept of the state before the last step.
 #[derive(Drop)]
 pub struct Machine {
     pub objects: Objects,
@@ -21,36 +22,43 @@ pub struct Machine {
     pub offset: Offset,
     pub power: Power,
     pub(crate) table: JobTable,
+    pub(crate) mark: Mark,
 }
 
 impl Model for Machine {
-    ghost use Rattle.wm_law.specs.declared.state.State.{State};
+    ghost use Rattle.wm_core.specs.MachineInside.{Seen};
 
-    ghost Value = { State };
+    ghost Value = { Seen };
 
-    ghost use Rattle.wm_core.specs.MachineInside.{state_of};
+    ghost use Rattle.wm_core.specs.MachineInside.{seen_of, IsMachineInside};
 
-    ghost view = { state_of };
+    ghost view = { seen_of };
+
+    ghost invariant = { IsMachineInside };
 }
 
 impl Machine {
-    ghost use Rattle.std.specs.Prelude.{◌≡◌, false, OnOk, OnErr, IfOk};
+    ghost use Rattle.std.specs.Prelude.{◌≡◌, ◌⊎◌, false, OnOk, OnErr, IfOk};
     ghost use Rattle.wm_law.specs.Fit.{HasCall, IsCall, IsCommand};
     ghost use Rattle.wm_pick.specs.Parts.{parts_of};
     ghost use Rattle.wm_law.specs.Machine.{change, apply, step, with_clock};
     ghost use Rattle.wm_core.specs.Clocked.{IsStill, looks_at_clock, is_timed};
+    ghost use Rattle.wm_core.specs.Marks.{marks_at};
 
     /// The jobs, and what they are found by.
     pub fn jobs(&self) -> &JobTable
-        ensures jobs { result.now.jobs ≡ self.now.jobs }
-        ensures clock { result.now.clock ≡ self.now.clock }
+        ensures jobs { result.now.jobs ≡ self.now.state.jobs }
+        ensures clock { result.now.clock ≡ self.now.state.clock }
+        ensures next_serial { result.now.next_serial ≡ self.now.state.next_serial }
+        ensures next_place { result.now.next_place ≡ self.now.state.next_place }
+        ensures marked { result.now.marked ≡ self.now.marks.jobs }
     {
         &self.table
     }
 
     /// The parts that a choice looks at.
     pub fn parts(&self) -> Parts<'_>
-        ensures { result ≡ parts_of self.now }
+        ensures { result ≡ parts_of self.now.state }
     {
         Parts::new(
             &self.objects,
@@ -65,7 +73,8 @@ impl Machine {
 
     // Sets the clock, which never goes back.
     fn set_clock(&mut self, now: Moment)
-        ensures { self.new ≡ with_clock self.old now }
+        ensures state { self.new.state ≡ with_clock self.old.state now }
+        ensures marks { self.new.marks ≡ self.old.marks }
     {
         self.table.make_due(now);
     }
@@ -79,8 +88,9 @@ impl Machine {
     ) -> Result<Reply, NoMemory>
         requires ranges { IsCommand command.now }
         requires other { looks_at_clock command.now ≡ false }
-        ensures reply { IfOk result (λ r. r ≡ (change self.old user.now command.now).reply) }
-        ensures state { OnOk result (self.new ≡ (change self.old user.now command.now).state) }
+        ensures reply { IfOk result (λ r. r ≡ (change self.old.state user.now command.now).reply) }
+        ensures state { OnOk result (self.new.state ≡ (change self.old.state user.now command.now).state) }
+        ensures marks { OnOk result (self.new.marks ≡ self.old.marks) }
         ensures err { OnErr result (self.new ≡ self.old) }
     {
         match command {
@@ -110,8 +120,9 @@ impl Machine {
     fn apply_timeless(&mut self, alloc: Global, caller: u32, call: &Call) -> Result<Reply, NoMemory>
         requires ranges { IsCall call.now }
         requires other { is_timed call.now ≡ false }
-        ensures reply { IfOk result (λ r. r ≡ (apply self.old caller call.now).reply) }
-        ensures state { OnOk result (self.new ≡ (apply self.old caller call.now).state) }
+        ensures reply { IfOk result (λ r. r ≡ (apply self.old.state caller call.now).reply) }
+        ensures state { OnOk result (self.new.state ≡ (apply self.old.state caller call.now).state) }
+        ensures marks { OnOk result (self.new.marks ≡ self.old.marks) }
         ensures err { OnErr result (self.new ≡ self.old) }
     {
         match call {
@@ -135,7 +146,8 @@ impl Machine {
     ) -> Result<Reply, NoMemory>
         requires ranges { IsCall call.now }
         requires other { is_timed call.now ≡ false }
-        ensures ok { IfOk result (λ r. IsStill now r self.new (apply (with_clock self.old now) caller call.now)) }
+        ensures ok { IfOk result (λ r. IsStill now r self.new.state (apply (with_clock self.old.state now) caller call.now)) }
+        ensures marks { OnOk result (self.new.marks ≡ self.old.marks) }
         ensures err { OnErr result (self.new ≡ self.old) }
     {
         self.apply_timeless(alloc, caller, call)
@@ -150,7 +162,8 @@ impl Machine {
         now: Moment,
     ) -> Result<Reply, NoMemory>
         requires { IsCall call.now }
-        ensures ok { IfOk result (λ r. IsStill now r self.new (apply (with_clock self.old now) caller call.now)) }
+        ensures ok { IfOk result (λ r. IsStill now r self.new.state (apply (with_clock self.old.state now) caller call.now)) }
+        ensures marks { OnOk result (self.new.marks ≡ self.old.marks) }
         ensures err { OnErr result (self.new ≡ self.old) }
     {
         match call {
@@ -164,7 +177,7 @@ impl Machine {
         }
     }
 
-    /// One step. An `Err` is want of memory and leaves the state.
+    /// One step, which can be taken back. An `Err` is want of memory and leaves the state.
     #[tactic(auto, unfolding(wm_law::specs::Machine::step))]
     pub fn step(
         &mut self,
@@ -174,12 +187,14 @@ impl Machine {
         now: Moment,
     ) -> Result<Reply, NoMemory>
         requires ranges { IsCall call.now }
-        requires built { HasCall self.old call.now }
-        ensures reply { IfOk result (λ r. r ≡ (step self.old caller call.now now).reply) }
-        ensures state { OnOk result (self.new ≡ (step self.old caller call.now now).state) }
-        ensures err { OnErr result (self.new ≡ self.old) }
+        requires built { HasCall self.old.state call.now }
+        ensures reply { IfOk result (λ r. r ≡ (step self.old.state caller call.now now).reply) }
+        ensures state { OnOk result (self.new.state ≡ (step self.old.state caller call.now now).state) }
+        ensures marks { OnOk result (self.new.marks ≡ marks_at self.old.state call.now) }
+        ensures err { OnErr result (self.new.state ≡ self.old.state) }
+        ensures err_marks { OnErr result ((self.new.marks ≡ self.old.marks) ⊎ (self.new.marks ≡ marks_at self.old.state call.now)) }
     {
-        self.table.mark();
+        self.begin(call)?;
         let reply = self.apply(alloc, caller, call, now)?;
         self.set_clock(now);
         self.settle();

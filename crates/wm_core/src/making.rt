@@ -106,8 +106,9 @@ impl Machine {
     /// CRTCLS.
     pub(crate) fn make_class(&mut self, command: &Crtcls) -> Result<Reply, NoMemory>
         requires { IsTrue (class_in_range (class_of command.now)) }
-        ensures reply { IfOk result (λ r. r ≡ (make_class self.old command.now).reply) }
-        ensures state { OnOk result (self.new ≡ (make_class self.old command.now).state) }
+        ensures reply { IfOk result (λ r. r ≡ (make_class self.old.state command.now).reply) }
+        ensures state { OnOk result (self.new.state ≡ (make_class self.old.state command.now).state) }
+        ensures marks { OnOk result (self.new.marks ≡ self.old.marks) }
         ensures err { OnErr result (self.new ≡ self.old) }
     {
         let reply = made(self.objects.add_class(command.cls, class_of(command)))?;
@@ -116,8 +117,9 @@ impl Machine {
 
     /// CRTJOBQ.
     pub(crate) fn make_queue(&mut self, command: &Crtjobq) -> Result<Reply, NoMemory>
-        ensures reply { IfOk result (λ r. r ≡ (make_queue self.old command.now).reply) }
-        ensures state { OnOk result (self.new ≡ (make_queue self.old command.now).state) }
+        ensures reply { IfOk result (λ r. r ≡ (make_queue self.old.state command.now).reply) }
+        ensures state { OnOk result (self.new.state ≡ (make_queue self.old.state command.now).state) }
+        ensures marks { OnOk result (self.new.marks ≡ self.old.marks) }
         ensures err { OnErr result (self.new ≡ self.old) }
     {
         let reply = made(self.objects.add_jobq(command.jobq))?;
@@ -127,8 +129,9 @@ impl Machine {
     /// CRTPGMREF.
     pub(crate) fn make_program(&mut self, command: &Crtpgmref) -> Result<Reply, NoMemory>
         requires { IsTrue (path_in_range command.now.path) }
-        ensures reply { IfOk result (λ r. r ≡ (make_program self.old command.now).reply) }
-        ensures state { OnOk result (self.new ≡ (make_program self.old command.now).state) }
+        ensures reply { IfOk result (λ r. r ≡ (make_program self.old.state command.now).reply) }
+        ensures state { OnOk result (self.new.state ≡ (make_program self.old.state command.now).state) }
+        ensures marks { OnOk result (self.new.marks ≡ self.old.marks) }
         ensures err { OnErr result (self.new ≡ self.old) }
     {
         let reply = made(self.objects.add_program(command.pgm, command.path.clone()?))?;
@@ -138,8 +141,9 @@ impl Machine {
     /// CRTJOBD.
     pub(crate) fn make_job_description(&mut self, command: &Crtjobd) -> Result<Reply, NoMemory>
         requires { IsTrue (jobd_in_range (jobd_of command.now)) }
-        ensures reply { IfOk result (λ r. r ≡ (make_job_description self.old command.now).reply) }
-        ensures state { OnOk result (self.new ≡ (make_job_description self.old command.now).state) }
+        ensures reply { IfOk result (λ r. r ≡ (make_job_description self.old.state command.now).reply) }
+        ensures state { OnOk result (self.new.state ≡ (make_job_description self.old.state command.now).state) }
+        ensures marks { OnOk result (self.new.marks ≡ self.old.marks) }
         ensures err { OnErr result (self.new ≡ self.old) }
     {
         let reply = made(self.objects.add_jobd(command.jobd, jobd_of(command)?))?;
@@ -153,8 +157,9 @@ impl Machine {
         command: &Crtsbsd,
     ) -> Result<Reply, NoMemory>
         requires { IsTrue (maxjobs_in_range command.now.maxjobs) }
-        ensures reply { IfOk result (λ r. r ≡ (make_description self.old command.now).reply) }
-        ensures state { OnOk result (self.new ≡ (make_description self.old command.now).state) }
+        ensures reply { IfOk result (λ r. r ≡ (make_description self.old.state command.now).reply) }
+        ensures state { OnOk result (self.new.state ≡ (make_description self.old.state command.now).state) }
+        ensures marks { OnOk result (self.new.marks ≡ self.old.marks) }
         ensures err { OnErr result (self.new ≡ self.old) }
     {
         let reply = made(self.objects.add_sbsd(alloc, command.sbsd, command.maxjobs))?;
@@ -162,14 +167,14 @@ impl Machine {
     }
 
     fn is_in_use(&self, sbsd: &QName) -> bool
-        ensures { result ≡ is_in_use self.now sbsd.now }
+        ensures { result ≡ is_in_use self.now.state sbsd.now }
     {
         self.started.as_slice().iter().any(|sbs| sbs.sbsd == *sbsd)
     }
 
     // Whether the description is there, and its subsystem is started.
     fn is_active(&self, sbsd: &QName) -> bool
-        ensures { result ≡ (is_some (object_named sbsd.now self.now.objects.sbsds) && is_in_use self.now sbsd.now) }
+        ensures { result ≡ (is_some (object_named sbsd.now self.now.state.objects.sbsds) && is_in_use self.now.state sbsd.now) }
     {
         self.objects.sbsds.object(sbsd).is_some() && self.is_in_use(sbsd)
     }
@@ -177,8 +182,9 @@ impl Machine {
     /// ADDJOBQE.
     pub(crate) fn add_queue(&mut self, command: &Addjobqe) -> Result<Reply, NoMemory>
         requires { IsTrue (queue_in_range (queue_entry_of command.now)) }
-        ensures reply { IfOk result (λ r. r ≡ (add_queue self.old command.now).reply) }
-        ensures state { OnOk result (self.new ≡ (add_queue self.old command.now).state) }
+        ensures reply { IfOk result (λ r. r ≡ (add_queue self.old.state command.now).reply) }
+        ensures state { OnOk result (self.new.state ≡ (add_queue self.old.state command.now).state) }
+        ensures marks { OnOk result (self.new.marks ≡ self.old.marks) }
         ensures err { OnErr result (self.new ≡ self.old) }
     {
         if self.is_active(&command.sbsd) {
@@ -194,8 +200,9 @@ impl Machine {
     /// ADDRTGE.
     pub(crate) fn add_route(&mut self, command: &Addrtge) -> Result<Reply, NoMemory>
         requires { IsTrue (route_in_range (route_entry_of command.now)) }
-        ensures reply { IfOk result (λ r. r ≡ (add_route self.old command.now).reply) }
-        ensures state { OnOk result (self.new ≡ (add_route self.old command.now).state) }
+        ensures reply { IfOk result (λ r. r ≡ (add_route self.old.state command.now).reply) }
+        ensures state { OnOk result (self.new.state ≡ (add_route self.old.state command.now).state) }
+        ensures marks { OnOk result (self.new.marks ≡ self.old.marks) }
         ensures err { OnErr result (self.new ≡ self.old) }
     {
         if self.is_active(&command.sbsd) {
@@ -208,8 +215,9 @@ impl Machine {
 
     /// ADDAJE.
     pub(crate) fn add_auto(&mut self, command: &Addaje) -> Result<Reply, NoMemory>
-        ensures reply { IfOk result (λ r. r ≡ (add_auto self.old command.now).reply) }
-        ensures state { OnOk result (self.new ≡ (add_auto self.old command.now).state) }
+        ensures reply { IfOk result (λ r. r ≡ (add_auto self.old.state command.now).reply) }
+        ensures state { OnOk result (self.new.state ≡ (add_auto self.old.state command.now).state) }
+        ensures marks { OnOk result (self.new.marks ≡ self.old.marks) }
         ensures err { OnErr result (self.new ≡ self.old) }
     {
         if self.is_active(&command.sbsd) {
@@ -221,8 +229,9 @@ impl Machine {
 
     /// RMVJOBQE.
     pub(crate) fn remove_queue(&mut self, command: &Rmvjobqe) -> Reply
-        ensures reply { result ≡ (remove_queue self.old command.now).reply }
-        ensures state { self.new ≡ (remove_queue self.old command.now).state }
+        ensures reply { result ≡ (remove_queue self.old.state command.now).reply }
+        ensures state { self.new.state ≡ (remove_queue self.old.state command.now).state }
+        ensures marks { self.new.marks ≡ self.old.marks }
     {
         if self.is_active(&command.sbsd) {
             return Reply::No(Refusal::SbsActive);
@@ -232,8 +241,9 @@ impl Machine {
 
     /// RMVRTGE.
     pub(crate) fn remove_route(&mut self, command: &Rmvrtge) -> Reply
-        ensures reply { result ≡ (remove_route self.old command.now).reply }
-        ensures state { self.new ≡ (remove_route self.old command.now).state }
+        ensures reply { result ≡ (remove_route self.old.state command.now).reply }
+        ensures state { self.new.state ≡ (remove_route self.old.state command.now).state }
+        ensures marks { self.new.marks ≡ self.old.marks }
     {
         if self.is_active(&command.sbsd) {
             return Reply::No(Refusal::SbsActive);
@@ -243,8 +253,9 @@ impl Machine {
 
     /// RMVAJE.
     pub(crate) fn remove_auto(&mut self, command: &Rmvaje) -> Reply
-        ensures reply { result ≡ (remove_auto self.old command.now).reply }
-        ensures state { self.new ≡ (remove_auto self.old command.now).state }
+        ensures reply { result ≡ (remove_auto self.old.state command.now).reply }
+        ensures state { self.new.state ≡ (remove_auto self.old.state command.now).state }
+        ensures marks { self.new.marks ≡ self.old.marks }
     {
         if self.is_active(&command.sbsd) {
             return Reply::No(Refusal::SbsActive);

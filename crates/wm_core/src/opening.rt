@@ -3,6 +3,7 @@ ghost use Rattle.std.specs.Prelude.{◌≡◌, IfOk};
 ghost use Rattle.wm_law.specs.Opening.{crtcls_qbatch, crtpgmref_echo, crtjobq_qbatch, crtjobd, crtjobd_qdftjobd, crtjobd_qbatch, crtsbsd_qbatch, addjobqe_qbatch, addrtge_qbatch, opening_commands};
 
 use crate::Machine;
+use crate::mark::Mark;
 use std::alloc::Global;
 use wm_base::{Limit, Name, NoMemory, Priority, QName, Text};
 use wm_desc::{Cmp, Objects, SortedList, echo, qbatch, qdftjobd};
@@ -147,7 +148,8 @@ impl Machine {
 
     // No objects and no job.
     fn empty(alloc: Global, offset: Offset) -> Machine
-        ensures { result ≡ empty offset }
+        ensures state { result.state ≡ empty offset }
+        ensures undoable { result.marks.mark.undoable ≡ false }
     {
         Machine {
             objects: Objects::new(alloc),
@@ -159,6 +161,7 @@ impl Machine {
             offset,
             power: Power::On,
             table: JobTable::new(alloc),
+            mark: Mark::new(alloc),
         }
     }
 
@@ -171,7 +174,8 @@ impl Machine {
     ) -> Result<(), NoMemory>
         requires ranges { All IsCommand commands.now }
         requires others { All (λ c. looks_at_clock c ≡ false) commands.now }
-        ensures { OnOk result (self.new ≡ changed_by user.now self.old commands.now) }
+        ensures state { OnOk result (self.new.state ≡ changed_by user.now self.old.state commands.now) }
+        ensures marks { OnOk result (self.new.marks ≡ self.old.marks) }
     {
         for command in commands {
             self.change(alloc, user, command)?;
@@ -182,7 +186,8 @@ impl Machine {
     /// The state of no rows: the objects of the opening commands, and no job. An `Err` is want of memory.
     #[tactic(auto, unfolding(wm_law::specs::Opening::opening), using(crate::proofs::Opened::commands_fit))]
     pub fn opening(alloc: Global, setup: &Setup) -> Result<Machine, NoMemory>
-        ensures { IfOk result (λ machine. machine ≡ opening setup.now.offset) }
+        ensures state { IfOk result (λ machine. machine.state ≡ opening setup.now.offset) }
+        ensures undoable { IfOk result (λ machine. machine.marks.mark.undoable ≡ false) }
     {
         let commands = opening_commands(alloc)?;
         let mut machine = Machine::empty(alloc, setup.offset);

@@ -8,7 +8,7 @@ impl Machine {
 
     /// What waits for a monitor. It takes no memory.
     pub fn pending(&self) -> Pending
-        ensures { result ≡ pending self.now }
+        ensures { result ≡ pending self.now.state }
     {
         Pending {
             orders: self.table.orders(),

@@ -38,8 +38,9 @@ impl Machine {
 
     /// PWRDWNSYS OPTION(*IMMED) where no job is active: each subsystem ends now.
     pub(crate) fn power_down(&mut self) -> Reply
-        ensures reply { result ≡ (power_down self.old).reply }
-        ensures state { self.new ≡ (power_down self.old).state }
+        ensures reply { result ≡ (power_down self.old.state).reply }
+        ensures state { self.new.state ≡ (power_down self.old.state).state }
+        ensures marks { self.new.marks ≡ self.old.marks }
     {
         if is_down_now(&self.power) {
             return Reply::No(Refusal::PoweringDown);

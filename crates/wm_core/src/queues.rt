@@ -9,8 +9,9 @@ impl Machine {
 
     /// HLDJOBQ. An `Err` is want of memory and leaves the state.
     pub(crate) fn hold_queue(&mut self, queue: &QName) -> Result<Reply, NoMemory>
-        ensures reply { IfOk result (λ r. r ≡ (hold_queue self.old queue.now).reply) }
-        ensures state { OnOk result (self.new ≡ (hold_queue self.old queue.now).state) }
+        ensures reply { IfOk result (λ r. r ≡ (hold_queue self.old.state queue.now).reply) }
+        ensures state { OnOk result (self.new.state ≡ (hold_queue self.old.state queue.now).state) }
+        ensures marks { OnOk result (self.new.marks ≡ self.old.marks) }
         ensures err { OnErr result (self.new ≡ self.old) }
     {
         if self.objects.jobqs.object(queue).is_none() {
@@ -25,8 +26,9 @@ impl Machine {
 
     /// RLSJOBQ. It takes no memory.
     pub(crate) fn release_queue(&mut self, queue: &QName) -> Reply
-        ensures reply { result ≡ (release_queue self.old queue.now).reply }
-        ensures state { self.new ≡ (release_queue self.old queue.now).state }
+        ensures reply { result ≡ (release_queue self.old.state queue.now).reply }
+        ensures state { self.new.state ≡ (release_queue self.old.state queue.now).state }
+        ensures marks { self.new.marks ≡ self.old.marks }
     {
         if self.objects.jobqs.object(queue).is_none() {
             return Reply::No(Refusal::NoObject(Kind::Jobq));
@@ -40,8 +42,9 @@ impl Machine {
 
     /// CLRJOBQ: each job that waits on the queue ends. It takes no memory.
     pub(crate) fn clear_queue(&mut self, queue: &QName) -> Reply
-        ensures reply { result ≡ (clear_queue self.old queue.now).reply }
-        ensures state { self.new ≡ (clear_queue self.old queue.now).state }
+        ensures reply { result ≡ (clear_queue self.old.state queue.now).reply }
+        ensures state { self.new.state ≡ (clear_queue self.old.state queue.now).state }
+        ensures marks { self.new.marks ≡ self.old.marks }
     {
         if self.objects.jobqs.object(queue).is_none() {
             return Reply::No(Refusal::NoObject(Kind::Jobq));

@@ -56,8 +56,9 @@ impl Machine {
 
     /// Hand: the Starting job of least serial is handed to the monitor. An `Err` leaves the state.
     pub(crate) fn hand(&mut self, alloc: Global, monitor: u32) -> Result<Reply, NoMemory>
-        ensures reply { IfOk result (λ r. r ≡ (hand self.old monitor).reply) }
-        ensures state { OnOk result (self.new ≡ (hand self.old monitor).state) }
+        ensures reply { IfOk result (λ r. r ≡ (hand self.old.state monitor).reply) }
+        ensures state { OnOk result (self.new.state ≡ (hand self.old.state monitor).state) }
+        ensures marks { OnOk result (self.new.marks ≡ self.old.marks) }
         ensures err { OnErr result (self.new ≡ self.old) }
     {
         let Some(job) = self.table.first_starting() else {
@@ -82,8 +83,9 @@ impl Machine {
     ) -> Result<Reply, NoMemory>
         requires waits { is_waiting phase ≡ false }
         requires starts { is_starting phase ≡ false }
-        ensures reply { IfOk result (λ r. r ≡ (report self.old serial (is_handed_to monitor) phase).reply) }
-        ensures state { OnOk result (self.new ≡ (report self.old serial (is_handed_to monitor) phase).state) }
+        ensures reply { IfOk result (λ r. r ≡ (report self.old.state serial (is_handed_to monitor) phase).reply) }
+        ensures state { OnOk result (self.new.state ≡ (report self.old.state serial (is_handed_to monitor) phase).state) }
+        ensures marks { OnOk result (self.new.marks ≡ self.old.marks) }
         ensures err { OnErr result (self.new ≡ self.old) }
     {
         let Some(job) = self.table.job(serial) else {
@@ -99,8 +101,9 @@ impl Machine {
 
     /// Started: the job that was handed to the monitor runs. An `Err` leaves the state, here and in the reports below.
     pub(crate) fn report_started(&mut self, monitor: u32, serial: Serial) -> Result<Reply, NoMemory>
-        ensures reply { IfOk result (λ r. r ≡ (apply self.old monitor (Call.Started serial)).reply) }
-        ensures state { OnOk result (self.new ≡ (apply self.old monitor (Call.Started serial)).state) }
+        ensures reply { IfOk result (λ r. r ≡ (apply self.old.state monitor (Call.Started serial)).reply) }
+        ensures state { OnOk result (self.new.state ≡ (apply self.old.state monitor (Call.Started serial)).state) }
+        ensures marks { OnOk result (self.new.marks ≡ self.old.marks) }
         ensures err { OnErr result (self.new ≡ self.old) }
     {
         self.report_handed(monitor, serial, Phase::Running(monitor))
@@ -113,8 +116,9 @@ impl Machine {
         serial: Serial,
         cause: StartCause,
     ) -> Result<Reply, NoMemory>
-        ensures reply { IfOk result (λ r. r ≡ (apply self.old monitor (Call.StartFailed serial cause)).reply) }
-        ensures state { OnOk result (self.new ≡ (apply self.old monitor (Call.StartFailed serial cause)).state) }
+        ensures reply { IfOk result (λ r. r ≡ (apply self.old.state monitor (Call.StartFailed serial cause)).reply) }
+        ensures state { OnOk result (self.new.state ≡ (apply self.old.state monitor (Call.StartFailed serial cause)).state) }
+        ensures marks { OnOk result (self.new.marks ≡ self.old.marks) }
         ensures err { OnErr result (self.new ≡ self.old) }
     {
         self.report_handed(monitor, serial, Phase::Ended(EndCause::StartFailed(cause)))
@@ -127,8 +131,9 @@ impl Machine {
         serial: Serial,
         exit: &Exit,
     ) -> Result<Reply, NoMemory>
-        ensures reply { IfOk result (λ r. r ≡ (apply self.old monitor (Call.Finished serial exit.now)).reply) }
-        ensures state { OnOk result (self.new ≡ (apply self.old monitor (Call.Finished serial exit.now)).state) }
+        ensures reply { IfOk result (λ r. r ≡ (apply self.old.state monitor (Call.Finished serial exit.now)).reply) }
+        ensures state { OnOk result (self.new.state ≡ (apply self.old.state monitor (Call.Finished serial exit.now)).state) }
+        ensures marks { OnOk result (self.new.marks ≡ self.old.marks) }
         ensures err { OnErr result (self.new ≡ self.old) }
     {
         let Some(job) = self.table.job(serial) else {
@@ -144,7 +149,7 @@ impl Machine {
 
     // UseDone: no job has a request yet, so this is always refused.
     pub(crate) fn report_use_done(&self, monitor: u32, serial: Serial) -> Reply
-        ensures { result ≡ (use_done self.now monitor serial).reply }
+        ensures { result ≡ (use_done self.now.state monitor serial).reply }
     {
         match self.table.job(serial) {
             None => Reply::No(Refusal::NoJob),

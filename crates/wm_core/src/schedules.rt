@@ -31,7 +31,7 @@ impl Machine {
     ) -> Result<Moment, Refusal>
         requires date { IsTrue (date_in_range date) }
         requires time { IsTrue (time_in_range time) }
-        ensures { result ≡ scheduled (with_clock self.now now) date time }
+        ensures { result ≡ scheduled (with_clock self.now.state now) date time }
     {
         let clock = later(self.table.clock(), now);
         match due(&SchedSpec { date, time }, clock, self.offset.minutes()) {
@@ -50,7 +50,7 @@ impl Machine {
     ) -> Result<Moment, Refusal>
         requires date { IfSome date (λ d. IsTrue (date_in_range d)) }
         requires time { IfSome time (λ t. IsTrue (time_in_range t)) }
-        ensures { result ≡ rescheduled (with_clock self.now now) due date time }
+        ensures { result ≡ rescheduled (with_clock self.now.state now) due date time }
     {
         match (date, time) {
             (None, None) => Ok(due),

@@ -46,22 +46,23 @@ impl Machine {
 
     // The job that starts next.
     fn next<L: Ledger>(&self, steps: &mut Steps<L>) -> Option<Candidate>
-        ensures { result ≡ next self.now }
+        ensures { result ≡ next self.now.state }
     {
         self.parts().next(steps)
     }
 
     // What the launch of a job of a queue makes of it.
     fn launched(&self, sbs: &QName, queue: &QName, job: &Job) -> Launched
-        ensures { result ≡ launched self.now sbs.now queue.now job.now }
+        ensures { result ≡ launched self.now.state sbs.now queue.now job.now }
     {
         self.parts().launched(sbs, queue, job)
     }
 
     // The candidate is the next job, so it waits.
     fn launch(&mut self, candidate: &Candidate)
-        requires { next self.old ≡ Some candidate.now }
-        ensures { self.new ≡ launch self.old candidate.now }
+        requires { next self.old.state ≡ Some candidate.now }
+        ensures state { self.new.state ≡ launch self.old.state candidate.now }
+        ensures marks { self.new.marks ≡ self.old.marks }
     {
         let launched = match self.table.job(candidate.serial) {
             None => return,
@@ -72,7 +73,8 @@ impl Machine {
 
     // Each launch leaves one job less that waits.
     fn start_jobs<L: Ledger>(&mut self, steps: &mut Steps<L>)
-        ensures { self.new ≡ start_jobs self.old }
+        ensures state { self.new.state ≡ start_jobs self.old.state }
+        ensures marks { self.new.marks ≡ self.old.marks }
     {
         while let Some(candidate) = self.next(steps) {
             self.launch(&candidate);
@@ -83,7 +85,8 @@ impl Machine {
         requires name { blank.name ≡ L.name }
         requires parts { blank.parts ≡ L.parts }
         requires some { 0 < blank.parts }
-        ensures { self.new ≡ settle self.old }
+        ensures state { self.new.state ≡ settle self.old.state }
+        ensures marks { self.new.marks ≡ self.old.marks }
     {
         leave(&mut self.started, self.table.tally());
         let mut steps = Steps::<L>::new(blank);
@@ -92,7 +95,8 @@ impl Machine {
 
     /// Ending subsystems leave, and the jobs start whose turn has come.
     pub(crate) fn settle(&mut self)
-        ensures { self.new ≡ settle self.old }
+        ensures state { self.new.state ≡ settle self.old.state }
+        ensures marks { self.new.marks ≡ self.old.marks }
     {
         self.settle_counted::<Brand>(Blank::new(1));
     }

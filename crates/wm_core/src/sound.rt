@@ -1,5 +1,5 @@
 // The machine whose state is sound.
-ghost use Rattle.std.specs.Prelude.{◌≡◌, OnOk, OnErr, IfOk};
+ghost use Rattle.std.specs.Prelude.{◌≡◌, true, false, OnOk, OnErr, IfOk};
 ghost use Rattle.wm_law.specs.Fit.{HasCall, IsCall};
 ghost use Rattle.wm_law.specs.Limits.{IsWithinLimits};
 ghost use Rattle.wm_law.specs.Machine.{step};
@@ -12,37 +12,40 @@ use crate::{Machine, Setup};
 use std::alloc::Global;
 use std::marker::Model;
 use wm_base::{Moment, NoMemory};
+use wm_desc::Objects;
+use wm_jobs::JobTable;
 use wm_law::{Call, Pending, Reply};
 
-/// A machine whose state is sound: it was opened, or came from a store, and then changed by steps alone. A contract sees it
-/// as the state.
+/// A machine whose state is sound: it was opened, or came from a store, and then changed by steps alone, of which the last
+/// may be taken back. A contract sees the state, the one before the last step, and whether that step can be taken back.
 #[derive(Drop)]
 pub struct Core {
     pub(crate) machine: Machine,
 }
 
 impl Model for Core {
-    ghost use Rattle.wm_law.specs.Sound.{IsSound};
-    ghost use Rattle.wm_law.specs.declared.state.State.{State};
+    ghost use Rattle.wm_core.specs.LastStep.{LastStep};
 
-    ghost Value = { State };
+    ghost Value = { LastStep };
 
-    ghost view = { λ c. c.machine };
+    ghost use Rattle.wm_core.specs.LastStep.{last_step_of, IsCoreInside};
 
-    ghost invariant = { λ c. IsSound c.machine };
+    ghost view = { last_step_of };
+
+    ghost invariant = { IsCoreInside };
 }
 
 impl Core {
     /// The state of no rows: the objects of the opening commands, and no job. An `Err` is want of memory.
-    #[tactic(auto, using(wm_law::proofs::Sound::opening_is_sound))]
     pub fn opening(alloc: Global, setup: &Setup) -> Result<Core, NoMemory>
-        ensures { IfOk result (λ core. core ≡ opening setup.now.offset) }
+        ensures state { IfOk result (λ core. core.state ≡ opening setup.now.offset) }
+        ensures undoable { IfOk result (λ core. core.undoable ≡ false) }
     {
         let machine = Machine::opening(alloc, setup)?;
         Ok(Core { machine })
     }
 
-    /// One step. An `Err` is want of memory and leaves the state.
+    /// One step, which can be taken back. An `Err` is want of memory and leaves the state.
     pub fn step(
         &mut self,
         alloc: Global,
@@ -51,21 +54,56 @@ impl Core {
         now: Moment,
     ) -> Result<Reply, NoMemory>
         requires ranges { IsCall call.now }
-        requires built { HasCall self.old call.now }
-        ensures reply { IfOk result (λ r. r ≡ (step self.old caller call.now now).reply) }
-        ensures state { OnOk result (self.new ≡ (step self.old caller call.now now).state) }
-        ensures err { OnErr result (self.new ≡ self.old) }
-        ensures limits { OnOk result (IsWithinLimits self.old self.new) }
-        ensures order { OnOk result (IsInOrder self.old self.new) }
+        requires built { HasCall self.old.state call.now }
+        ensures reply { IfOk result (λ r. r ≡ (step self.old.state caller call.now now).reply) }
+        ensures state { OnOk result (self.new.state ≡ (step self.old.state caller call.now now).state) }
+        ensures before { OnOk result (self.new.before ≡ self.old.state) }
+        ensures undoable { OnOk result (self.new.undoable ≡ true) }
+        ensures err { OnErr result (self.new.state ≡ self.old.state) }
+        ensures limits { OnOk result (IsWithinLimits self.old.state self.new.state) }
+        ensures order { OnOk result (IsInOrder self.old.state self.new.state) }
     {
         let reply = self.machine.step(alloc, caller, call, now)?;
         Ok(reply)
     }
 
+    /// The last step is taken back. It takes no memory.
+    pub fn take_back(&mut self)
+        requires { self.old.undoable ≡ true }
+        ensures state { self.new.state ≡ self.old.before }
+        ensures undoable { self.new.undoable ≡ false }
+    {
+        self.machine.take_back();
+    }
+
     /// What waits for a monitor. It takes no memory.
     pub fn pending(&self) -> Pending
-        ensures { result ≡ pending self.now }
+        ensures { result ≡ pending self.now.state }
     {
         self.machine.pending()
+    }
+
+    /// The objects.
+    pub fn objects(&self) -> &Objects
+        ensures { result.now ≡ self.now.state.objects }
+    {
+        &self.machine.objects
+    }
+
+    /// The jobs, with what became of them in the last step.
+    pub fn jobs(&self) -> &JobTable
+        ensures jobs { result.now.jobs ≡ self.now.state.jobs }
+        ensures next_serial { result.now.next_serial ≡ self.now.state.next_serial }
+        ensures next_place { result.now.next_place ≡ self.now.state.next_place }
+        ensures before { result.now.marked.jobs ≡ self.now.before.jobs }
+    {
+        self.machine.jobs()
+    }
+
+    /// The number of the next job.
+    pub fn next_number(&self) -> u32
+        ensures { result ≡ self.now.state.next_number }
+    {
+        self.machine.next_number
     }
 }

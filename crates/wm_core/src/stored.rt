@@ -1,4 +1,5 @@
 // The machine of what a store has.
+use crate::mark::Mark;
 use crate::{Core, Machine};
 use std::alloc::Global;
 use wm_base::NoMemory;
@@ -27,7 +28,8 @@ impl Machine {
     // The machine of what a store has, sound or not.
     fn stored(alloc: Global, kept: Kept) -> Result<Machine, NoMemory>
         requires { AreStored kept.next_serial kept.next_place kept.jobs.items }
-        ensures { IfOk result (λ machine. machine ≡ kept_state kept) }
+        ensures state { IfOk result (λ machine. machine.state ≡ kept_state kept) }
+        ensures undoable { IfOk result (λ machine. machine.marks.mark.undoable ≡ false) }
     {
         let table = JobTable::stored(alloc, kept.jobs, kept.next_serial, kept.next_place)?;
         Ok(Machine {
@@ -40,6 +42,7 @@ impl Machine {
             offset: kept.offset,
             power: Power::On,
             table,
+            mark: Mark::new(alloc),
         })
     }
 }
@@ -55,7 +58,8 @@ impl Core {
     pub fn stored(alloc: Global, kept: Kept) -> Result<Core, NoMemory>
         requires sound { IsSound (kept_state kept) }
         requires inactive { All (λ j. is_active j.phase ≡ false) (kept_state kept).jobs }
-        ensures { IfOk result (λ core. core ≡ kept_state kept) }
+        ensures state { IfOk result (λ core. core.state ≡ kept_state kept) }
+        ensures undoable { IfOk result (λ core. core.undoable ≡ false) }
     {
         let machine = Machine::stored(alloc, kept)?;
         Ok(Core { machine })

@@ -71,7 +71,7 @@ impl Machine {
     ghost use Rattle.wm_law.specs.Submitting.{has_numbers, submitted_job, entered, submit};
 
     fn has_numbers(&self) -> bool
-        ensures { result ≡ has_numbers self.now }
+        ensures { result ≡ has_numbers self.now.state }
     {
         self.next_number >= 1
             && self.next_number < NUMBERS_END
@@ -88,8 +88,8 @@ impl Machine {
         jobd: &Jobd,
         due: Moment,
     ) -> Result<Job, NoMemory>
-        requires { has_numbers self.now ≡ true }
-        ensures { IfOk result (λ job. job ≡ submitted_job self.now user.now command.now jobd.now due) }
+        requires { has_numbers self.now.state ≡ true }
+        ensures { IfOk result (λ job. job ≡ submitted_job self.now.state user.now command.now jobd.now due) }
     {
         let rtgdta = routing_data_of(command, jobd)?;
         let rqsdta = request_of(alloc, command, jobd)?;
@@ -118,12 +118,13 @@ impl Machine {
 
     // The job goes last among the jobs, and its numbers are taken.
     fn enter(&mut self, job: Job) -> Result<(), NoMemory>
-        requires numbers { has_numbers self.old ≡ true }
+        requires numbers { has_numbers self.old.state ≡ true }
         requires waits { is_waiting job.phase ≡ true }
         requires queue { is_some job.jobq ≡ true }
-        requires serial { job.serial ≡ self.old.next_serial }
-        requires place { job.place ≡ self.old.next_place }
-        ensures ok { OnOk result (self.new ≡ entered self.old job) }
+        requires serial { job.serial ≡ self.old.state.next_serial }
+        requires place { job.place ≡ self.old.state.next_place }
+        ensures ok { OnOk result (self.new.state ≡ entered self.old.state job) }
+        ensures marks { OnOk result (self.new.marks ≡ self.old.marks) }
         ensures err { OnErr result (self.new ≡ self.old) }
     {
         self.table.reserve(1)?;
@@ -141,7 +142,8 @@ impl Machine {
         now: Moment,
     ) -> Result<Reply, NoMemory>
         requires { IsSubmission command.now }
-        ensures ok { IfOk result (λ r. IsStill now r self.new (submit (with_clock self.old now) user.now command.now)) }
+        ensures ok { IfOk result (λ r. IsStill now r self.new.state (submit (with_clock self.old.state now) user.now command.now)) }
+        ensures marks { OnOk result (self.new.marks ≡ self.old.marks) }
         ensures err { OnErr result (self.new ≡ self.old) }
     {
         let machine = &*self;

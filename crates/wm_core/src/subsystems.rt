@@ -22,7 +22,7 @@ impl Machine {
     ghost use Rattle.wm_core.specs.Drafts.{enter_draft};
 
     fn is_started(&self, name: &Name) -> bool
-        ensures { result ≡ is_started self.now name.now }
+        ensures { result ≡ is_started self.now.state name.now }
     {
         self.started
             .as_slice()
@@ -32,7 +32,7 @@ impl Machine {
 
     // The autostart entries of a description, in the order of their job names.
     fn autos_of(&self, q: &QName) -> &[AutoEntry]
-        ensures { result.now ≡ autos_of self.now q.now }
+        ensures { result.now ≡ autos_of self.now.state q.now }
     {
         match self.objects.sbsds.object(q) {
             None => &[],
@@ -42,7 +42,7 @@ impl Machine {
 
     // How many jobs can still be made.
     fn numbers_left(&self) -> u64
-        ensures { result ≡ numbers_left self.now }
+        ensures { result ≡ numbers_left self.now.state }
     {
         if self.next_number < 1 {
             return 0;
@@ -53,7 +53,7 @@ impl Machine {
 
     // Why a subsystem can't be started.
     fn start_refusal(&self, q: &QName) -> Option<Refusal>
-        ensures { result ≡ start_refusal self.now q.now }
+        ensures { result ≡ start_refusal self.now.state q.now }
     {
         if !is_on(&self.power) {
             return Some(Refusal::PoweringDown);
@@ -76,8 +76,9 @@ impl Machine {
     // The subsystem goes last among the started ones, and then the job of each draft is made. All memory is taken before
     // anything is changed.
     fn start_up(&mut self, q: &QName, drafts: Vec<Draft>, now: Moment) -> Result<(), NoMemory>
-        requires numbers { length drafts.items ≤ numbers_left self.old }
-        ensures ok { OnOk result (with_clock self.new now ≡ fold (enter_draft q.now) (begun (with_clock self.old now) q.now) drafts.items) }
+        requires numbers { length drafts.items ≤ numbers_left self.old.state }
+        ensures ok { OnOk result (with_clock self.new.state now ≡ fold (enter_draft q.now) (begun (with_clock self.old.state now) q.now) drafts.items) }
+        ensures marks { OnOk result (self.new.marks ≡ self.old.marks) }
         ensures err { OnErr result (self.new ≡ self.old) }
     {
         self.table.reserve(drafts.len() as u32)?;
@@ -105,7 +106,8 @@ impl Machine {
         q: &QName,
         now: Moment,
     ) -> Result<Reply, NoMemory>
-        ensures ok { IfOk result (λ r. IsStill now r self.new (start_subsystem (with_clock self.old now) q.now)) }
+        ensures ok { IfOk result (λ r. IsStill now r self.new.state (start_subsystem (with_clock self.old.state now) q.now)) }
+        ensures marks { OnOk result (self.new.marks ≡ self.old.marks) }
         ensures err { OnErr result (self.new ≡ self.old) }
     {
         if let Some(refusal) = self.start_refusal(q) {

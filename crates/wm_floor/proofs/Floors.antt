@@ -13,9 +13,9 @@ use Rattle.wm_floor.specs.History.{History, reached, with_call}
 use Rattle.wm_floor.specs.declared.floor.Floor.TheInside.{Inside}
 
 -- the state and the history after a step
-pub IsFloor-step : (old new : Inside) (caller : ℕ) (call : Call) (now : ℕ) (reply : Reply) → IsFloor old → caller < 2 ^ 32 → IsCall call → HasCall (reached (history_of old)) call → now ≤ 253402214399 → reply ≡ (step old.core caller call now).reply → new.opened.value ≡ old.opened.value → new.core ≡ (step old.core caller call now).state → new.log.items ≡ old.log.items ++ record { caller = caller; call = call; moment = now; reply = reply } ∷ [] → IsFloor new
+pub IsFloor-step : (old new : Inside) (caller : ℕ) (call : Call) (now : ℕ) (reply : Reply) → IsFloor old → caller < 2 ^ 32 → IsCall call → HasCall (reached (history_of old)) call → now ≤ 253402214399 → reply ≡ (step old.core.state caller call now).reply → new.opened.value.state ≡ old.opened.value.state → new.core.state ≡ (step old.core.state caller call now).state → new.log.items ≡ old.log.items ++ record { caller = caller; call = call; moment = now; reply = reply } ∷ [] → IsFloor new
 IsFloor-step old new caller call now reply floor seat fit built moment replied kept moved pushed =
-    let opened = old.opened.value in
+    let opened = old.opened.value.state in
     let log = old.log.items in
     let e : Entry = record { caller = caller; call = call; moment = now; reply = reply } in
     let entry : IsEntry (after opened log) e = record {
@@ -25,17 +25,17 @@ IsFloor-step old new caller call now reply floor seat fit built moment replied k
       moment = moment;
       reply = subst (λ (s : State). reply ≡ (step s caller call now).reply) floor.state replied;
     } in
-    let state : new.core ≡ after opened new.log.items = moved ∙ (ap (λ (s : State). (step s caller call now).state) floor.state ∙ (sym (after-append opened log (e ∷ [])) ∙ ap (after opened) (sym pushed))) in
+    let state : new.core.state ≡ after opened new.log.items = moved ∙ (ap (λ (s : State). (step s caller call now).state) floor.state ∙ (sym (after-append opened log (e ∷ [])) ∙ ap (after opened) (sym pushed))) in
     let legal : IsLegal opened new.log.items = subst (IsLegal opened) (sym pushed) (IsLegal-push opened log e floor.legal entry) in
     record {
-      state = subst (λ (s : State). new.core ≡ after s new.log.items) (sym kept) state;
+      state = subst (λ (s : State). new.core.state ≡ after s new.log.items) (sym kept) state;
       legal = subst (λ (s : State). IsLegal s new.log.items) (sym kept) legal;
     }
 
 -- the history after a step
-pub with_call-step : (old : Inside) (h : History) (log : List Entry) (caller : ℕ) (call : Call) (now : ℕ) (reply : Reply) → IsFloor old → history_of old ≡ h → reply ≡ (step old.core caller call now).reply → log ≡ old.log.items ++ record { caller = caller; call = call; moment = now; reply = reply } ∷ [] → record { opened = old.opened.value; log = log } ≡ with_call h caller call now
+pub with_call-step : (old : Inside) (h : History) (log : List Entry) (caller : ℕ) (call : Call) (now : ℕ) (reply : Reply) → IsFloor old → history_of old ≡ h → reply ≡ (step old.core.state caller call now).reply → log ≡ old.log.items ++ record { caller = caller; call = call; moment = now; reply = reply } ∷ [] → record { opened = old.opened.value.state; log = log } ≡ with_call h caller call now
 with_call-step old h log caller call now reply floor seen replied pushed =
-    let opened = old.opened.value in
+    let opened = old.opened.value.state in
     let whole : List Entry → History = λ es. record { opened = opened; log = es } in
     let behind : Reply → List Entry = λ r. old.log.items ++ record { caller = caller; call = call; moment = now; reply = r } ∷ [] in
     let said = replied ∙ ap (λ (s : State). (step s caller call now).reply) floor.state in

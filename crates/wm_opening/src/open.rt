@@ -44,8 +44,8 @@ fn kept_of(read: ReadParts) -> Kept
 
 // The machine of no rows.
 fn open_none(alloc: Global, setup: &Setup) -> Result<Opened, NoMemory>
-    ensures ok { IfOk result (λ opened. IsRestart setup.now.offset [] opened.core) }
-    ensures changes { IfOk result (λ opened. changed opened.changes.items [] ≡ tables opened.core) }
+    ensures ok { IfOk result (λ opened. IsRestart setup.now.offset [] opened.core.state) }
+    ensures changes { IfOk result (λ opened. changed opened.changes.items [] ≡ tables opened.core.state) }
     ensures new { IfOk result (λ opened. PutsNew [] opened.changes.items) }
 {
     let changes = first_changes(alloc)?;
@@ -56,8 +56,8 @@ fn open_none(alloc: Global, setup: &Setup) -> Result<Opened, NoMemory>
 // The machine of one row or more.
 fn open_found(alloc: Global, rows: &[Row], setup: &Setup) -> Result<Opened, RestartFault>
     requires { 1 ≤ length rows.now }
-    ensures ok { IfOk result (λ opened. IsRestart setup.now.offset rows.now opened.core) }
-    ensures changes { IfOk result (λ opened. changed opened.changes.items rows.now ≡ tables opened.core) }
+    ensures ok { IfOk result (λ opened. IsRestart setup.now.offset rows.now opened.core.state) }
+    ensures changes { IfOk result (λ opened. changed opened.changes.items rows.now ≡ tables opened.core.state) }
     ensures new { IfOk result (λ opened. PutsNew rows.now opened.changes.items) }
     ensures bad { (n : ℕ) → result ≡ Err (BadRow n) → IsBad setup.now.offset rows.now n }
 {
@@ -76,9 +76,9 @@ fn open_found(alloc: Global, rows: &[Row], setup: &Setup) -> Result<Opened, Rest
 /// rows of it; else that of the rows, with those of jobs that were active. An `Err` is want of memory, or more jobs than a
 /// machine takes, or has the number of the first row that isn't good.
 pub fn open_rows(alloc: Global, rows: &[Row], setup: &Setup) -> Result<Opened, RestartFault>
-    ensures ok { IfOk result (λ opened. IsRestart setup.now.offset rows.now opened.core) }
+    ensures ok { IfOk result (λ opened. IsRestart setup.now.offset rows.now opened.core.state) }
     // Where its changes are made, the found rows are those of the machine's state; and no row is put that stands there.
-    ensures changes { IfOk result (λ opened. changed opened.changes.items rows.now ≡ tables opened.core) }
+    ensures changes { IfOk result (λ opened. changed opened.changes.items rows.now ≡ tables opened.core.state) }
     ensures new { IfOk result (λ opened. PutsNew rows.now opened.changes.items) }
     ensures bad { (n : ℕ) → result ≡ Err (BadRow n) → IsBad setup.now.offset rows.now n }
 {

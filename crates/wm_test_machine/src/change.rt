@@ -22,7 +22,7 @@ pub fn line_of(alloc: Global, user: &Name, text: &str) -> Result<Line>
 }
 
 fn has_power_down(machine: &Machine, command: &Pwrdwnsys) -> bool
-    ensures { IsTrue result → HasCommand machine.now (IsPwrdwnsys command.now) }
+    ensures { IsTrue result → HasCommand machine.now.state (IsPwrdwnsys command.now) }
 {
     matches!(command.option, EndOption::Immed) && machine.pending().active == 0
 }
@@ -30,7 +30,7 @@ fn has_power_down(machine: &Machine, command: &Pwrdwnsys) -> bool
 // Whether the machine has the command: it has each that is built for users.
 #[tactic(auto, using(wm_law::proofs::Had::built_is_had))]
 fn has_command(machine: &Machine, command: &Command) -> bool
-    ensures { IsTrue result → HasCommand machine.now command.now }
+    ensures { IsTrue result → HasCommand machine.now.state command.now }
 {
     match command {
         Command::Pwrdwnsys(command) => has_power_down(machine, command),
@@ -40,7 +40,7 @@ fn has_command(machine: &Machine, command: &Command) -> bool
 
 /// Whether the machine has the call.
 pub fn has_call(machine: &Machine, call: &Call) -> bool
-    ensures { IsTrue result → HasCall machine.now call.now }
+    ensures { IsTrue result → HasCall machine.now.state call.now }
 {
     match call {
         Call::Change { command, .. } => has_command(machine, command.get()),

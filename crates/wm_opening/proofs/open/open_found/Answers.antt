@@ -52,7 +52,7 @@ stored-requires-clause-inactive c =
 pub returns-in_ok-core-in-Ok-clause-ok : goal.returns-in_ok-core-in-Ok-clause-ok
 returns-in_ok-core-in-Ok-clause-ok c =
     let restart = restart_of c.args.setup.now.offset c.args.rows.now c.in-Ok.reading c.requires c.in-Ok.ensures.good c.in-Ok.ensures.counters in
-    subst (IsRestart c.args.setup.now.offset c.args.rows.now) (sym (c.in_ok-core-in-Ok.ensures ∙ (c.kept_of.ensures ∙ c.parts-read.ensures))) restart
+    subst (IsRestart c.args.setup.now.offset c.args.rows.now) (sym (c.in_ok-core-in-Ok.ensures.state ∙ (c.kept_of.ensures ∙ c.parts-read.ensures))) restart
 
 pub returns-in_ok-core-in-Ok-clause-changes : goal.returns-in_ok-core-in-Ok-clause-changes
 returns-in_ok-core-in-Ok-clause-changes c =
@@ -60,7 +60,7 @@ returns-in_ok-core-in-Ok-clause-changes c =
     let made = c.in_ok-changes-in-Ok.ensures ∙ ap (job_changes c.args.rows.now) jobs in
     ap (λ (cs : List RowChange). changed cs c.args.rows.now) made
     ∙ (jobs_make_tables c.args.setup.now.offset c.args.rows.now c.in-Ok.reading c.in-Ok.ensures.good c.in-Ok.ensures.counters
-    ∙ ap tables (sym (c.in_ok-core-in-Ok.ensures ∙ (c.kept_of.ensures ∙ c.parts-read.ensures))))
+    ∙ ap tables (sym (c.in_ok-core-in-Ok.ensures.state ∙ (c.kept_of.ensures ∙ c.parts-read.ensures))))
 
 pub returns-in_ok-core-in-Ok-clause-new : goal.returns-in_ok-core-in-Ok-clause-new
 returns-in_ok-core-in-Ok-clause-new c =

@@ -7,7 +7,7 @@ use Rattle.wm_opening.proofs.FirstChanges.{first_are_new, first_make_tables}
 use Rattle.wm_opening.proofs.open.open_none.Goals as goal
 
 pub returns-clause-changes : goal.returns-clause-changes
-returns-clause-changes c = ap (λ (cs : List RowChange). changed cs []) c.in_ok-changes.ensures ∙ (first_make_tables c.args.setup.now.offset ∙ ap tables (sym c.in_ok-core.ensures))
+returns-clause-changes c = ap (λ (cs : List RowChange). changed cs []) c.in_ok-changes.ensures ∙ (first_make_tables c.args.setup.now.offset ∙ ap tables (sym c.in_ok-core.ensures.state))
 
 pub returns-clause-new : goal.returns-clause-new
 returns-clause-new c = subst (PutsNew []) (sym c.in_ok-changes.ensures) first_are_new

@@ -10,7 +10,7 @@ use Rattle.wm_law.specs.Launch.{order_of}
 use Rattle.wm_law.specs.Reports.{hand_job, hand_order, phased_at}
 use Rattle.wm_law.proofs.Members.{found_among}
 use Rattle.wm_pick.specs.Parts.{parts_of}
-use Rattle.wm_core.specs.MachineInside.{state_of}
+use Rattle.wm_core.specs.MachineInside.{Seen, state_of}
 use Rattle.wm_core.proofs.Phases.{starting_active}
 use Rattle.wm_core.proofs.machine.Machine.hand.Goals as goal
 
@@ -29,7 +29,7 @@ returns-clause-state c =
     let m = c.args.monitor in
     let job : Job = c.in-Some.job.now in
     let found : find (λ (j : Job). is_starting j.phase) s.jobs ≡ Some job = sym c.first_starting.ensures.first ∙ ap option_copied c.in-Some.is in
-    let parts = c.parts.ensures ∙ ap parts_of (sym c.self.view_is) in
+    let parts = c.parts.ensures ∙ ap (λ (t : Seen). parts_of t.state) (sym c.self.view_is) in
     let ordered : order_of s job ≡ Some c.in-Some-2.order = sym (c.in_ok-order.ensures ∙ ap (λ (t : State). order_of t job) parts) ∙ c.in-Some-2.is in
     let jobs : c.set_phase.new.self.jobs ≡ map (phased_at job.serial (Handed m)) s.jobs = c.set_phase.ensures.jobs ∙ ap (λ (js : List Job). map (phased_at job.serial (Handed m)) js) c.reserve.ensures.jobs in
     rw (← c.self.view_is, c.set_phase.ensures.clock, c.reserve.ensures.clock, c.set_phase.ensures.next_serial, c.reserve.ensures.next_serial, c.set_phase.ensures.next_place, c.reserve.ensures.next_place) (ap (λ (js : List Job). record s { jobs = js }) jobs ∙ sym (ap (λ (o : Option Job). (hand_job s m o).state) found ∙ ap (λ (o : Option StartOrder). (hand_order s m job o).state) ordered))

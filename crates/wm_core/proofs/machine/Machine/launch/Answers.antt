@@ -10,26 +10,26 @@ use Rattle.wm_law.specs.Launch.{launched, launched_at, launch_job}
 use Rattle.wm_law.specs.Laws.{IsIn}
 use Rattle.wm_law.proofs.Firsts.{next_waits}
 use Rattle.wm_law.proofs.Settling.{not_waiting}
-use Rattle.wm_core.specs.MachineInside.{state_of}
+use Rattle.wm_core.specs.MachineInside.{Seen, state_of}
 use Rattle.wm_core.proofs.machine.Machine.launch.Goals as goal
 
 pub launch-requires-clause-phase : goal.launch-requires-clause-phase
-launch-requires-clause-phase c = rw (c.launched-launched.ensures) (not_waiting c.args.self.now c.args.candidate.now.sbs c.args.candidate.now.jobq c.in-Some.job.now)
+launch-requires-clause-phase c = rw (c.launched-launched.ensures) (not_waiting c.args.self.now.state c.args.candidate.now.sbs c.args.candidate.now.jobq c.in-Some.job.now)
 
 pub launch-requires-clause-waits : goal.launch-requires-clause-waits
 launch-requires-clause-waits c =
-    let w = next_waits c.args.self.now c.args.candidate.now c.requires in
-    let stands = subst (λ (t : State). IsIn w.0 t.jobs) (sym c.self.view_is) w.1 in
+    let w = next_waits c.args.self.now.state c.args.candidate.now c.requires in
+    let stands = subst (λ (t : Seen). IsIn w.0 t.state.jobs) (sym c.self.view_is) w.1 in
     let one = sym c.job.ensures.found ∙ c.job.ensures.one w.0 stands (sym w.3) in
     subst (λ (o : Option Job). IfSome o (λ (j : Job). is_waiting j.phase ≡ true)) (sym one) w.2
 
-pub returns : goal.returns
-returns c =
+pub returns-clause-state : goal.returns-clause-state
+returns-clause-state c =
     let s = state_of c.self.inside in
     let candidate = c.args.candidate.now in
     let job : Job = c.in-Some.job.now in
     let found : find (λ (j : Job). j.serial == candidate.serial) s.jobs ≡ Some job = sym c.job.ensures.found ∙ ap option_copied c.in-Some.is in
-    let same = ap (λ (t : State). launched t candidate.sbs candidate.jobq job) (sym c.self.view_is) in
+    let same = ap (λ (t : Seen). launched t.state candidate.sbs candidate.jobq job) (sym c.self.view_is) in
     let jobs : c.launch.new.self.jobs ≡ map (launched_at candidate.serial (launched s candidate.sbs candidate.jobq job)) s.jobs =
     c.launch.ensures.jobs ∙ ap (λ (l : Launched). map (launched_at candidate.serial l) s.jobs) (c.launched-launched.ensures ∙ same) in
     rw (← c.self.view_is, c.launch.ensures.clock, c.launch.ensures.next_serial, c.launch.ensures.next_place) (ap (λ (js : List Job). record s { jobs = js }) jobs ∙ sym (ap (launch_job s candidate) found))

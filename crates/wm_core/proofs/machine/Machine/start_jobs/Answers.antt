@@ -6,14 +6,17 @@ use Rattle.wm_core.proofs.machine.Machine.start_jobs.Goals as goal
 
 pub loop-candidate-smaller : goal.loop-candidate-smaller
 loop-candidate-smaller g c =
-    let s = c.loop-candidate.self in
+    let s = c.loop-candidate.self.state in
     let e = sym c.next.ensures ∙ c.in-Some.is in
-    subst (λ (t : State). waiting t < waiting s) (sym c.launch.ensures) (launches_lessen.by_step s c.in-Some.candidate e)
+    subst (λ (t : State). waiting t < waiting s) (sym c.launch.ensures.state) (launches_lessen.by_step s c.in-Some.candidate e)
 
 pub loop-candidate-preserved : goal.loop-candidate-preserved
 loop-candidate-preserved g c =
     let e = sym c.next.ensures ∙ c.in-Some.is in
-    ap start_jobs c.launch.ensures ∙ (sym (start_jobs-launch c.loop-candidate.self c.in-Some.candidate e) ∙ c.loop-candidate.invariant)
+    record {
+      state = ap start_jobs c.launch.ensures.state ∙ (sym (start_jobs-launch c.loop-candidate.self.state c.in-Some.candidate e) ∙ c.loop-candidate.invariant.state);
+      marks = c.launch.ensures.marks ∙ c.loop-candidate.invariant.marks;
+    }
 
-pub returns : goal.returns
-returns g c = sym (start_jobs-none c.loop-candidate.self (sym c.next.ensures ∙ c.in_default.is)) ∙ c.loop-candidate.invariant
+pub returns-clause-state : goal.returns-clause-state
+returns-clause-state g c = sym (start_jobs-none c.loop-candidate.self.state (sym c.next.ensures ∙ c.in_default.is)) ∙ c.loop-candidate.invariant.state

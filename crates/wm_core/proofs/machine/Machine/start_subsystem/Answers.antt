@@ -7,25 +7,26 @@ use Rattle.wm_law.specs.Machine.{with_clock}
 use Rattle.wm_law.specs.Subsystems.{begun, start_refusal, start_unless}
 use Rattle.wm_core.specs.declared.draft.Draft.{Draft}
 use Rattle.wm_core.specs.Drafts.{drafts, enter_draft}
+use Rattle.wm_core.specs.MachineInside.{Seen}
 use Rattle.wm_core.proofs.ByDrafts.{by_drafts, numbers-suffice}
 use Rattle.wm_core.proofs.machine.Machine.start_subsystem.Goals as goal
 
 pub start_up-requires : goal.start_up-requires
 start_up-requires c =
-    let s = c.args.self.now in
+    let s = c.args.self.now.state in
     let q = c.args.q.now in
     let items : c.in_ok-drafts.drafts.items ≡ drafts s.objects.jobds (autos_of s q) =
-    c.in_ok-drafts.ensures ∙ (ap (λ (t : State). drafts t.objects.jobds c.autos_of.result.now) c.self.view_is ∙ ap (λ (es : List AutoEntry). drafts s.objects.jobds es) c.autos_of.ensures) in
+    c.in_ok-drafts.ensures ∙ (ap (λ (t : Seen). drafts t.state.objects.jobds c.autos_of.result.now) c.self.view_is ∙ ap (λ (es : List AutoEntry). drafts s.objects.jobds es) c.autos_of.ensures) in
     record { numbers = numbers-suffice s q (sym c.start_refusal.ensures ∙ c.in_default.is) c.in_ok-drafts.drafts.items items }
 
 pub returns-clause-ok : goal.returns-clause-ok
 returns-clause-ok c =
-    let s = c.args.self.now in
+    let s = c.args.self.now.state in
     let q = c.args.q.now in
     let t = with_clock s c.args.now in
     let none : start_refusal s q ≡ None = sym c.start_refusal.ensures ∙ c.in_default.is in
     let items : c.in_ok-drafts.drafts.items ≡ drafts s.objects.jobds (autos_of s q) =
-    c.in_ok-drafts.ensures ∙ (ap (λ (u : State). drafts u.objects.jobds c.autos_of.result.now) c.self.view_is ∙ ap (λ (es : List AutoEntry). drafts s.objects.jobds es) c.autos_of.ensures) in
+    c.in_ok-drafts.ensures ∙ (ap (λ (u : Seen). drafts u.state.objects.jobds c.autos_of.result.now) c.self.view_is ∙ ap (λ (es : List AutoEntry). drafts s.objects.jobds es) c.autos_of.ensures) in
     record {
       says = sym (ap (λ (o : Option Refusal). (start_unless t q o).reply) none);
       leaves =

@@ -5,14 +5,14 @@ use Rattle.wm_law.specs.Machine.{with_clock}
 use Rattle.wm_law.specs.Submitting.{numbers_left}
 use Rattle.wm_law.specs.Subsystems.{begun}
 use Rattle.wm_core.specs.Drafts.{enter_draft}
-use Rattle.wm_core.specs.MachineInside.{state_of}
+use Rattle.wm_core.specs.MachineInside.{Seen, state_of}
 use Rattle.wm_core.proofs.ByDrafts.{numbers-fit, same-parts, site_parts, whole-entered}
 use Rattle.wm_core.proofs.machine.Machine.start_up.Goals as goal
 
 pub enter_drafts-requires-clause-serials : goal.enter_drafts-requires-clause-serials
 enter_drafts-requires-clause-serials c = λ some.
     let s = state_of c.self.inside in
-    let numbers : length c.args.drafts.items ≤ numbers_left s = subst (λ (t : State). length c.args.drafts.items ≤ numbers_left t) (sym c.self.view_is) c.requires.numbers in
+    let numbers : length c.args.drafts.items ≤ numbers_left s = subst (λ (t : Seen). length c.args.drafts.items ≤ numbers_left t.state) (sym c.self.view_is) c.requires.numbers in
     let fit = (numbers-fit s (length c.args.drafts.items) numbers some).2 in
     let same = c.reserve.ensures.next_serial in
     omega arith
@@ -20,13 +20,13 @@ enter_drafts-requires-clause-serials c = λ some.
 pub enter_drafts-requires-clause-least : goal.enter_drafts-requires-clause-least
 enter_drafts-requires-clause-least c = λ some.
     let s = state_of c.self.inside in
-    let numbers : length c.args.drafts.items ≤ numbers_left s = subst (λ (t : State). length c.args.drafts.items ≤ numbers_left t) (sym c.self.view_is) c.requires.numbers in
+    let numbers : length c.args.drafts.items ≤ numbers_left s = subst (λ (t : Seen). length c.args.drafts.items ≤ numbers_left t.state) (sym c.self.view_is) c.requires.numbers in
     (numbers-fit s (length c.args.drafts.items) numbers some).0
 
 pub enter_drafts-requires-clause-greatest : goal.enter_drafts-requires-clause-greatest
 enter_drafts-requires-clause-greatest c = λ some.
     let s = state_of c.self.inside in
-    let numbers : length c.args.drafts.items ≤ numbers_left s = subst (λ (t : State). length c.args.drafts.items ≤ numbers_left t) (sym c.self.view_is) c.requires.numbers in
+    let numbers : length c.args.drafts.items ≤ numbers_left s = subst (λ (t : Seen). length c.args.drafts.items ≤ numbers_left t.state) (sym c.self.view_is) c.requires.numbers in
     (numbers-fit s (length c.args.drafts.items) numbers some).1
 
 pub returns-clause-ok : goal.returns-clause-ok

@@ -1,5 +1,10 @@
+use Rattle.std.proofs.Common.{true, false, sym, ◌∙◌}
+use mathlib.Core.Bool.{true≢false}
 use Rattle.wm_law.proofs.Sound.{opening_is_sound}
 use Rattle.wm_core.proofs.sound.Core.opening.Goals as goal
 
 pub invariant_of-result : goal.invariant_of-result
-invariant_of-result c = rw c.in_ok-machine.ensures (opening_is_sound c.args.setup.now.offset)
+invariant_of-result c = record {
+  state = rw c.in_ok-machine.ensures.state (opening_is_sound c.args.setup.now.offset);
+  before = λ undoable. absurd (true≢false (sym undoable ∙ c.in_ok-machine.ensures.undoable));
+}

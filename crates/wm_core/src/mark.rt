@@ -1,0 +1,42 @@
+// What is kept of the state before a step, so that the step can be taken back.
+use std::alloc::Global;
+use wm_base::{Kind, QName};
+use wm_desc::Sbsd;
+use wm_law::{ListOf, Power, QNames, SbsList};
+
+/// What a call may change of the objects and the held queues, as it was before: nothing, an object that wasn't there, the
+/// description of a subsystem, or the held queues.
+#[derive(Drop)]
+pub enum Saved {
+    Nothing,
+    New(Kind, QName),
+    Description(QName, Sbsd),
+    Held(QNames),
+}
+
+/// What is kept of the state before a step beside its jobs, and whether the step can be taken back.
+#[derive(Drop)]
+pub struct Mark {
+    pub(crate) saved: Saved,
+    pub(crate) started: SbsList,
+    pub(crate) next_number: u32,
+    pub(crate) power: Power,
+    pub(crate) undoable: bool,
+}
+
+impl Mark {
+    ghost use Rattle.std.specs.Prelude.{◌≡◌, false};
+
+    /// Nothing is kept, since there was no step.
+    pub(crate) fn new(alloc: Global) -> Mark
+        ensures { result.undoable ≡ false }
+    {
+        Mark {
+            saved: Saved::Nothing,
+            started: ListOf::new(alloc),
+            next_number: 0,
+            power: Power::On,
+            undoable: false,
+        }
+    }
+}
