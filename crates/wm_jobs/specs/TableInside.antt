@@ -55,7 +55,7 @@ pub record IsMarked (marked jobs touched capacity waiting room changes : ℕ) : 
   pub there : marked ≤ jobs
   pub to_touch : touched + waiting + room + changes ≤ capacity
 
--- there is room to take back so many of the changes that were noted, beside the room for more jobs, for changes and for launches; what waited has left its room among those that wait
+-- there is room to take back so many of the changes that were noted, beside the room for more jobs, for changes and for launches; what waited has left its room among those that wait, and so has what was an order among the orders
 pub record HasUndos (undos room changes touched : ℕ) (waiting : Waiting) (tally : Counts) (names : Names) : Type 0 where
   pub to_wait : room + changes + touched ≤ waiting.spare
   pub to_count : length waiting.items + room + undos ≤ tally.spare

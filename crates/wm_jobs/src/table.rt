@@ -20,11 +20,11 @@ use wm_waiting::WaitingJobs;
 /// How many jobs a table takes at the most.
 const MOST: usize = 0x3fff_ffff;
 
-/// For how many jobs a list takes room at the first time. What isn't used of a large block costs no memory, and a block that
-/// grows isn't there twice.
+/// For how many jobs the lists take room at once. What isn't used of a large block costs no memory, while one that grows is
+/// there twice until it has been copied.
 const FIRST: usize = 4096;
 
-// For how many more a list takes room that has so many, where it is to have room for some more.
+// For how many more a list takes room that has so many and is to have room for some more.
 fn room_for(more: u32, there: usize) -> u32
     ensures { more ≤ result }
 {
