@@ -9,6 +9,7 @@ pub mod Counted
 pub mod JobParts
 pub mod NameParts
 pub mod One
+pub mod Pending
 pub mod Sifted
 pub mod Splits
 pub mod Stood

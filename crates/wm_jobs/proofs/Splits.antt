@@ -57,7 +57,7 @@ module _ {X : Type 0} (serial : X → ℕ) (s : ℕ) where
   found-none xs i h = with_key-gap serial nat_cmp nat_cmp_total s xs i nat_eq nat_ties h
 
   module _ (change : X → X) where
-    map-apart : (xs : List X) → All (λ y. nat_eq (serial y) s ≡ false) xs → map (λ y. cond (nat_eq (serial y) s) (change y) y) xs ≡ xs
+    pub map-apart : (xs : List X) → All (λ y. nat_eq (serial y) s ≡ false) xs → map (λ y. cond (nat_eq (serial y) s) (change y) y) xs ≡ xs
     map-apart [] all = refl
     map-apart (x ∷ xs) all = rw (All-head (λ y. nat_eq (serial y) s ≡ false) x xs all) (ap (λ ys. x ∷ ys) (map-apart xs (All-tail (λ y. nat_eq (serial y) s ≡ false) x xs all)))
 

@@ -1,6 +1,5 @@
 -- What dropping the last job and undoing the newest change make of a table.
-use Rattle.std.proofs.Common.{◌≡◌, ℕ, suc, ◌+◌, ◌-◌, ◌<◌, ◌≤◌, Bool, true, false, not, ◌&&◌, cond, List, [], ◌∷◌, ◌++◌, length, get_or, map, take, drop, take_all, Option, vec_capacity, refl, ap, sym, ◌∙◌, subst, arith, nat_eq, eq-eqb, inl, inr, All}
-use mathlib.Core.Bool.{false≢true}
+use Rattle.std.proofs.Common.{◌≡◌, ℕ, suc, ◌+◌, ◌-◌, ◌<◌, ◌≤◌, Bool, true, false, not, ◌&&◌, cond, List, [], ◌∷◌, ◌++◌, length, get_or, map, take, drop, take_all, Option, Some, None, vec_capacity, refl, ap, sym, ◌∙◌, subst, arith, nat_eq, eq-eqb, inl, inr, All}
 use Rattle.std.specs.List.{filter}
 use Rattle.std.specs.Ordering.{nat_cmp}
 use Rattle.std.proofs.lemmas.Bool.{cases_Bool}
@@ -9,8 +8,6 @@ use Rattle.std.proofs.lemmas.List.Elements.{All-nil}
 use Rattle.wm_desc.specs.Place.{IsAt}
 use Rattle.wm_desc.specs.Sorted.{has_key, added, removed}
 use Rattle.wm_law.specs.declared.job.Job.{Job}
-use Rattle.wm_law.specs.declared.job.Phase.{Phase}
-use Rattle.wm_law.specs.declared.job.Phase.TheVariants as phase
 use Rattle.wm_law.specs.Counts.{is_starting, is_active}
 use Rattle.wm_law.specs.Jobs.{changed_at}
 use Rattle.wm_law.specs.Named.{is_ended}
@@ -22,19 +19,20 @@ use Rattle.wm_tally.specs.Tally.{Counts, IsTally, HasFew, HasStarted}
 use Rattle.wm_waiting.specs.declared.waiter.Waiter.{Waiter}
 use Rattle.wm_waiting.specs.Waiting.{Waiting}
 use Rattle.wm_waiting.specs.Waiting as waiting
-use Rattle.wm_pick.specs.Parts.{waiter_of}
+use Rattle.wm_pick.specs.Parts.{waiter_of, waiters}
 use Rattle.wm_pick.specs.Tallied.{hows}
 use Rattle.wm_jobs.specs.declared.touched.Touched.{Touched}
 use Rattle.wm_jobs.specs.Marked.{standing_as, restored, undone, marked_by}
-use Rattle.wm_jobs.specs.Indexed.{Starts, Ends, NamesEnded, NamesAgain}
+use Rattle.wm_jobs.specs.Indexed.{order_of, orders, nodes_of, Starts, Ends, NamesEnded, NamesAgain}
 use Rattle.wm_jobs.specs.Stored.{joined_by, IsOther}
 use Rattle.wm_jobs.specs.Table.{Table, serial_of}
-use Rattle.wm_jobs.specs.TableInside.{table_of, AreListed, IsIndexed, HasRoom, HasNames, AreInPlace, StoodInPlace, IsUndoable, IsKept, IsTableInside}
+use Rattle.wm_jobs.specs.TableInside.{table_of, pending_of, AreListed, IsIndexed, HasRoom, HasNames, AreInPlace, StoodInPlace, IsUndoable, IsKept, IsTableInside}
 use Rattle.wm_jobs.specs.declared.table.JobTable.TheInside.{Inside}
 use Rattle.wm_jobs.proofs.AtPlace.{split, end-finds, finds-named}
 use Rattle.wm_jobs.proofs.AtStored.{behind-others, joined-most}
 use Rattle.wm_jobs.proofs.AtUndo.{as_ended, taken-indexed, put-indexed, put-lacks, put-other, dropped-indexed}
-use Rattle.wm_jobs.proofs.JobParts.{active-unwaiting, waiter-none, has-started, hows-few}
+use Rattle.wm_jobs.proofs.JobParts.{active-unwaiting, waiter-none, order-keyed, order-none, order-some, has-started, hows-few}
+use Rattle.wm_jobs.proofs.Sifted.{picked-length}
 use Rattle.wm_jobs.proofs.Splits.{IsSplit, split-at, map-split}
 use Rattle.wm_jobs.proofs.Stood.{listed-front, stood-now, stood-undone}
 use Rattle.wm_jobs.proofs.Undone.{undone-newest, marked-length, marked-noted, marked-pushed, marked-same}
@@ -52,15 +50,7 @@ one-of y ws =
       | inr e ↦ (let most = joined-most (waiter_of y) ws in rw e (omega arith))
     ]
 
--- what doesn't count isn't handed out
-unstarted : (p : Phase) → is_active p ≡ false → is_starting p ≡ false
-unstarted phase.Waiting none = refl
-unstarted phase.Starting none = absurd (false≢true (sym none))
-unstarted (phase.Handed m) none = refl
-unstarted (phase.Running m) none = refl
-unstarted (phase.Ended c) none = refl
-
--- so it takes the room of one in those that wait, or in the tally, or among the orders
+-- so it takes the room of one in those that wait, or in the tally
 module _ (y : Job) (ws : List Waiter) (old new : ℕ) (most : old ≤ new + 1) where
   pub waits-or-counts : (is_active y.phase ≡ false → old ≤ new) → length (joined_by (waiter_of y) ws) + old ≤ length ws + new + 1
   waits-or-counts kept =
@@ -69,9 +59,6 @@ module _ (y : Job) (ws : List Waiter) (old new : ℕ) (most : old ≤ new + 1) w
         | inl e ↦ (let bit : cond {A = ℕ} (is_active y.phase) 1 0 ≡ 1 = ap (λ b. cond b 1 0) e in omega arith)
         | inr e ↦ (let same = kept e in omega arith)
       ]
-
-  pub waits-or-starts : (is_starting y.phase ≡ false → old ≤ new) → length (joined_by (waiter_of y) ws) + old ≤ length ws + new + 1
-  waits-or-starts kept = waits-or-counts (λ none. kept (unstarted y.phase none))
 
 -- there is one to spend
 pub spends : (t : Inside) (v : Table) → table_of t ≡ v → 1 ≤ length v.touched → length v.touched ≤ v.undos → t.undos - 1 + 1 ≡ t.undos
@@ -90,17 +77,20 @@ module _ (t : Inside) (h : IsTableInside t) (ts : List Touched) (u : Touched) (p
   whole-before : take t.mark.jobs before ≡ before
   whole-before = take_all t.mark.jobs before (let n = length-map t.jobs.items (changed_at u.serial (standing_as u.was)) in omega (arith, all))
 
-  stood : StoodInPlace t.next_serial t.next_place ts before
-  stood = stood-undone t.next_serial t.next_place ts u t.jobs.items (subst (λ (us : List Touched). StoodInPlace t.next_serial t.next_place us t.jobs.items) popped (subst (λ (js : List Job). StoodInPlace t.next_serial t.next_place t.touched.items js) whole h.undoable.stood))
+  abbrev most : ℕ
+  most = pending_of t.starting t.room
+
+  stood : StoodInPlace t.next_serial t.next_place most ts before
+  stood = stood-undone t.next_serial t.next_place most ts u t.jobs.items (subst (λ (us : List Touched). StoodInPlace t.next_serial t.next_place most us t.jobs.items) popped (subst (λ (js : List Job). StoodInPlace t.next_serial t.next_place most t.touched.items js) whole h.undoable.stood))
 
   -- the jobs stood in place before the change
-  pub before-in-place : AreInPlace t.next_serial t.next_place before
-  before-in-place = stood-now t.next_serial t.next_place ts before stood
+  pub before-in-place : AreInPlace t.next_serial t.next_place most before
+  before-in-place = stood-now t.next_serial t.next_place most ts before stood
 
   -- and what was done before it can be undone
-  pub before-undoable : (ks : List Job) → ks ≡ before → IsUndoable t.mark ts ks t.next_serial t.next_place t.waiting.clock
-  before-undoable ks is = subst (λ (js : List Job). IsUndoable t.mark ts js t.next_serial t.next_place t.waiting.clock) (sym is) (record {
-    stood = subst (λ (js : List Job). StoodInPlace t.next_serial t.next_place ts js) (sym whole-before) stood;
+  pub before-undoable : (ks : List Job) → ks ≡ before → IsUndoable t.mark ts ks t.next_serial t.next_place most t.waiting.clock
+  before-undoable ks is = subst (λ (js : List Job). IsUndoable t.mark ts js t.next_serial t.next_place most t.waiting.clock) (sym is) (record {
+    stood = subst (λ (js : List Job). StoodInPlace t.next_serial t.next_place most ts js) (sym whole-before) stood;
     began = subst (λ (js : List Job). AreListed t.mark.next_serial t.mark.next_place js)
         (ap (undone t.touched.items) whole ∙ (ap (λ (us : List Touched). undone us t.jobs.items) popped ∙ (undone-newest ts u t.jobs.items ∙ ap (undone ts) (sym whole-before)))) h.undoable.began;
     clock = h.undoable.clock;
@@ -217,8 +207,8 @@ module _ (t : Inside) (h : IsTableInside t) (ts : List Touched) (u : Touched) (p
   stood-there : restored u t.jobs.items ≡ l ++ y ∷ r
   stood-there = map-split serial_of u.serial (standing_as u.was) t.jobs.items l r x split-x
 
-  in-place : AreInPlace t.next_serial t.next_place (l ++ y ∷ r)
-  in-place = subst (λ (ls : List Job). AreInPlace t.next_serial t.next_place ls) stood-there (before-in-place t h ts u popped all)
+  in-place : AreInPlace t.next_serial t.next_place (pending_of t.starting t.room) (l ++ y ∷ r)
+  in-place = subst (λ (ls : List Job). AreInPlace t.next_serial t.next_place (pending_of t.starting t.room) ls) stood-there (before-in-place t h ts u popped all)
 
   length-there : (z : Job) → length (l ++ z ∷ r) ≡ length t.jobs.items
   length-there z = length-append l (z ∷ r) ∙ (sym (length-append l (x ∷ r)) ∙ sym (ap length split-x.whole))
@@ -249,17 +239,31 @@ module _ (t : Inside) (h : IsTableInside t) (ts : List Touched) (u : Touched) (p
       pub undo-lacks : has_key key_of nat_eq y.serial s1.items ≡ false
       undo-lacks = ap (λ (os : List (ℕ × Unit {0})). has_key key_of nat_eq y.serial os) (taken a1 b1 ae be).orders_are ∙ put-lacks u.serial l r x split-x.here split-x.lower split-x.higher y split-x.here
 
+      -- where it was an order, there is room for it
+      pub undo-orders : nodes_of s1 ≡ nodes_of t.starting → is_starting y.phase ≡ true → 1 ≤ s1.spare
+      undo-orders nodes starts =
+          let there : length s1.items ≡ length (orders (l ++ as_ended x ∷ r)) = ap length (taken a1 b1 ae be).orders_are in
+          let without : length (orders (l ++ as_ended x ∷ r)) ≡ length (orders l) + length (orders r) = picked-length serial_of order_of key_of order-keyed l r (as_ended x) None (order-none (as_ended x) refl) in
+          let with : length (orders (l ++ y ∷ r)) ≡ length (orders l) + suc (length (orders r)) = picked-length serial_of order_of key_of order-keyed l r y (Some (y.serial, tt)) (order-some y y.serial refl starts) in
+          let few = in-place.few in
+          omega arith
+
       pub undo-few-names : names.HasFew n1
       undo-few-names = record { jobs = l ++ as_ended x ∷ r; are = names-taken; few = (let m = length-there (as_ended x) in let f = h.kept.room.few in omega arith) }
 
       -- what comes of a table where it is put in
-      pub undone-kept : (z : Job) → z ≡ y → (new : Inside) → new.jobs.items ≡ restored u t.jobs.items → IsPutIn z w1 t1 s1 n1 a1 b1 new → new.next_serial ≡ t.next_serial → new.next_place ≡ t.next_place → HasRoom (length t.jobs.items) (vec_capacity new.jobs) new.room new.waiting new.tally new.starting → new.room ≤ new.names.spare → IsKept new
-      undone-kept z is new jobs put ns np room name =
+      pub undone-kept : (z : Job) → z ≡ y → (new : Inside) → new.jobs.items ≡ restored u t.jobs.items → IsPutIn z w1 t1 s1 n1 a1 b1 new → new.next_serial ≡ t.next_serial → new.next_place ≡ t.next_place → new.room ≡ t.room → nodes_of new.starting ≡ nodes_of t.starting → (length new.waiting.items + new.room ≤ new.starting.spare → HasRoom (length t.jobs.items) (vec_capacity new.jobs) new.room new.waiting new.tally new.starting) → new.room ≤ new.names.spare → IsKept new
+      undone-kept z is new jobs put ns np same_room nodes room name =
           let p = subst (λ (k : Job). IsPutIn k w1 t1 s1 n1 a1 b1 new) is put in
           let so : new.jobs.items ≡ l ++ y ∷ r = jobs ∙ stood-there in
+          let indexed = put-indexed u.serial l r x split-x.here split-x.lower split-x.higher y split-x.here w1 new.waiting t1 new.tally s1 new.starting a1 new.active b1 new.busy (taken a1 b1 ae be) p.items p.hows p.orders p.active p.busy in
+          let waits : length new.waiting.items ≡ length (waiters (l ++ y ∷ r)) = ap length indexed.waiters_are in
+          let starts : length new.starting.items ≡ length (orders (l ++ y ∷ r)) = ap length indexed.orders_are in
+          let few = in-place.few in
+          let had = h.kept.room.to_start in
           record {
             listed = rw (so, ns, np) in-place.listed;
-            indexed = rw so (put-indexed u.serial l r x split-x.here split-x.lower split-x.higher y split-x.here w1 new.waiting t1 new.tally s1 new.starting a1 new.active b1 new.busy (taken a1 b1 ae be) p.items p.hows p.orders p.active p.busy);
-            room = subst (λ n. HasRoom n (vec_capacity new.jobs) new.room new.waiting new.tally new.starting) (sym (ap length so ∙ length-there y)) room;
+            indexed = rw so indexed;
+            room = subst (λ n. HasRoom n (vec_capacity new.jobs) new.room new.waiting new.tally new.starting) (sym (ap length so ∙ length-there y)) (room (omega arith));
             named = rw so (record { are = p.names l r (as_ended x) refl refl refl names-taken; to_name = name });
           }

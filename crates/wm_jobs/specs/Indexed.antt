@@ -1,5 +1,5 @@
 -- What jobs are found and counted by.
-use Rattle.std.specs.Prelude.{◌≡◌, ℕ, ◌≤◌, Bool, true, false, List, ◌∷◌, ◌++◌, filter_map, Option, Some, None, if◌then◌else◌}
+use Rattle.std.specs.Prelude.{◌≡◌, ℕ, ◌+◌, ◌≤◌, Bool, true, false, List, ◌∷◌, ◌++◌, length, filter_map, Option, Some, None, if◌then◌else◌}
 use Rattle.wm_base.specs.declared.job.How.{How}
 use Rattle.wm_law.specs.declared.job.Job.{Job}
 use Rattle.wm_law.specs.declared.job.Phase.{Phase}
@@ -17,6 +17,10 @@ order_of j = if is_starting j.phase then Some (j.serial, tt) else None
 -- the jobs that wait for a monitor, in the order of the jobs
 abbrev pub orders : List Job → List (ℕ × Unit {0})
 orders jobs = filter_map order_of jobs
+
+-- for how many orders there is room in all, those that are there with them
+abbrev pub nodes_of : Pairs ℕ (Unit {0}) → ℕ
+nodes_of starting = length starting.items + starting.spare
 
 -- where an active job comes, the tally gains its how
 abbrev pub Starts : Bool → Counts → Counts → How → Type 0
@@ -40,9 +44,9 @@ NamesEnded old new job = (before behind : List Job) (ended : Job) → ended.seri
 abbrev pub NamesAgain : Names → Names → Job → Type 0
 NamesAgain old new job = (before behind : List Job) (ended : Job) → ended.serial ≡ job.serial → ended.job ≡ job.job → is_ended ended.phase ≡ true → IsNames (before ++ ended ∷ behind) old → IsNames (before ++ job ∷ behind) new
 
--- each has room for so many more that wait, for so many starts more, or for so many more names
-pub record HasTaken (waits starts named : ℕ) (waiting : Waiting) (tally : Counts) (starting : Pairs ℕ (Unit {0})) (names : Names) : Type 0 where
+-- each has room for so many more that wait, for so many starts more, for so many more orders, or for so many more names
+pub record HasTaken (waits starts orders named : ℕ) (waiting : Waiting) (tally : Counts) (starting : Pairs ℕ (Unit {0})) (names : Names) : Type 0 where
   pub to_wait : waits ≤ waiting.spare
   pub to_count : starts ≤ tally.spare
-  pub to_start : starts ≤ starting.spare
+  pub to_start : orders ≤ starting.spare
   pub to_name : named ≤ names.spare

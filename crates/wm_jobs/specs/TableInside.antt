@@ -1,5 +1,5 @@
 -- What lies in a table of jobs.
-use Rattle.std.specs.Prelude.{◌≡◌, ℕ, ◌+◌, ◌^◌, ◌<◌, ◌≤◌, true, is_some, List, [], ◌∷◌, length, take, All, vec_capacity}
+use Rattle.std.specs.Prelude.{◌≡◌, ℕ, ◌+◌, ◌-◌, ◌^◌, ◌<◌, ◌≤◌, true, is_some, List, [], ◌∷◌, length, take, All, vec_capacity}
 use Rattle.std.specs.Ordering.{nat_cmp}
 use Rattle.wm_desc.specs.Sorted.{IsSortedOnce}
 use Rattle.wm_law.specs.declared.job.Job.{Job}
@@ -10,7 +10,7 @@ use Rattle.wm_tally.specs.Tally.{Counts, IsTally}
 use Rattle.wm_waiting.specs.Waiting.{Waiting, HavePlaces}
 use Rattle.wm_pick.specs.Parts.{waiters}
 use Rattle.wm_pick.specs.Tallied.{hows}
-use Rattle.wm_jobs.specs.Indexed.{orders}
+use Rattle.wm_jobs.specs.Indexed.{orders, nodes_of}
 use Rattle.wm_jobs.specs.Marked.{undone, marked_by}
 use Rattle.wm_jobs.specs.Table.{Table, serial_of, active_in, busy_in}
 use Rattle.wm_jobs.specs.declared.table.JobTable.TheInside.{Inside}
@@ -55,26 +55,30 @@ pub record IsMarked (marked jobs touched capacity waiting room changes : ℕ) : 
   pub there : marked ≤ jobs
   pub to_touch : touched + waiting + room + changes ≤ capacity
 
--- there is room to take back so many of the changes that were noted, beside the room for more jobs, for changes and for launches; what waited has left its room among those that wait
-pub record HasUndos (undos room changes touched : ℕ) (waiting : Waiting) (tally : Counts) (starting : Pairs ℕ (Unit {0})) (names : Names) : Type 0 where
+-- there is room to take back so many of the changes that were noted, beside the room for more jobs, for changes and for launches; what waited has left its room among those that wait, and so has what was an order among the orders
+pub record HasUndos (undos room changes touched : ℕ) (waiting : Waiting) (tally : Counts) (names : Names) : Type 0 where
   pub to_wait : room + changes + touched ≤ waiting.spare
   pub to_count : length waiting.items + room + undos ≤ tally.spare
-  pub to_start : length waiting.items + room + undos ≤ starting.spare
   pub to_name : room + undos ≤ names.spare
 
--- jobs stand as a table lists them, and those that wait have places of their own
-pub record AreInPlace (next_serial next_place : ℕ) (jobs : List Job) : Type 0 where
+-- how many jobs can wait or be orders at once, beside those for which there is room: each takes the room of one order
+abbrev pub pending_of : Pairs ℕ (Unit {0}) → ℕ → ℕ
+pending_of starting room = nodes_of starting - room
+
+-- jobs stand as a table lists them, those that wait have places of their own, and so many at the most wait or are orders
+pub record AreInPlace (next_serial next_place pending : ℕ) (jobs : List Job) : Type 0 where
   pub listed : AreListed next_serial next_place jobs
   pub places : HavePlaces (waiters jobs)
+  pub few : length (waiters jobs) + length (orders jobs) ≤ pending
 
 -- they stand so, and stood so before each thing that was done to them, the newest last
-abbrev pub StoodInPlace : ℕ → ℕ → List Touched → List Job → Type 0
-StoodInPlace next_serial next_place [] jobs = AreInPlace next_serial next_place jobs
-StoodInPlace next_serial next_place (t ∷ ts) jobs = AreInPlace next_serial next_place (undone (t ∷ ts) jobs) × StoodInPlace next_serial next_place ts jobs
+abbrev pub StoodInPlace : ℕ → ℕ → ℕ → List Touched → List Job → Type 0
+StoodInPlace next_serial next_place pending [] jobs = AreInPlace next_serial next_place pending jobs
+StoodInPlace next_serial next_place pending (t ∷ ts) jobs = AreInPlace next_serial next_place pending (undone (t ∷ ts) jobs) × StoodInPlace next_serial next_place pending ts jobs
 
 -- the jobs of the mark stood in place ever since, at the mark with its numbers, and the clock hasn't gone back
-pub record IsUndoable (mark : Mark) (touched : List Touched) (jobs : List Job) (next_serial next_place now : ℕ) : Type 0 where
-  pub stood : StoodInPlace next_serial next_place touched (take mark.jobs jobs)
+pub record IsUndoable (mark : Mark) (touched : List Touched) (jobs : List Job) (next_serial next_place pending now : ℕ) : Type 0 where
+  pub stood : StoodInPlace next_serial next_place pending touched (take mark.jobs jobs)
   pub began : AreListed mark.next_serial mark.next_place (undone touched (take mark.jobs jobs))
   pub clock : mark.clock ≤ now
 
@@ -104,6 +108,6 @@ pub record IsKept (t : Inside) : Type 0 where
 -- what lies in it agrees
 pub record IsTableInside (t : Inside) : Type 0 where
   pub kept : IsKept t
-  pub undos : HasUndos t.undos t.room t.changes (length t.touched.items) t.waiting t.tally t.starting t.names
-  pub undoable : IsUndoable t.mark t.touched.items t.jobs.items t.next_serial t.next_place t.waiting.clock
+  pub undos : HasUndos t.undos t.room t.changes (length t.touched.items) t.waiting t.tally t.names
+  pub undoable : IsUndoable t.mark t.touched.items t.jobs.items t.next_serial t.next_place (pending_of t.starting t.room) t.waiting.clock
   pub marked : IsMarked t.mark.jobs (length t.jobs.items) (length t.touched.items) (vec_capacity t.touched) (length t.waiting.items) t.room t.changes

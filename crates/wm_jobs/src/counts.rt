@@ -15,7 +15,7 @@ ghost use Rattle.wm_names.specs.Names as few;
 ghost use Rattle.wm_waiting.specs.Waiting.{serial_of as waiter_serial};
 ghost use Rattle.wm_pick.specs.Parts.{waiter_of};
 ghost use Rattle.wm_jobs.specs.Stored.{joined_by, IsOther};
-ghost use Rattle.wm_jobs.specs.Indexed.{Starts, Ends, NamesInPhase, NamesEnded, NamesAgain, HasTaken};
+ghost use Rattle.wm_jobs.specs.Indexed.{Starts, Ends, NamesInPhase, NamesEnded, NamesAgain, HasTaken, nodes_of};
 
 use crate::phases::{is_active, is_ended, is_starting, waiter_of};
 use wm_base::{EndCause, How, NoMemory, Serial};
@@ -51,15 +51,26 @@ pub(crate) fn count_end(tally: &mut Tally, how: &How, phase: &Phase)
 
 /// Puts a job that comes into a phase among those that wait for a monitor, where it does.
 pub(crate) fn put_order(starting: &mut Ordered<Serial, ()>, serial: Serial, phase: &Phase)
-    requires spare { 1 ≤ starting.old.spare }
+    requires spare { is_starting phase.now ≡ true → 1 ≤ starting.old.spare }
     requires new { has_key key_of nat_eq serial starting.old.items ≡ false }
     ensures items { starting.new.items ≡ (if is_starting phase.now then added key_of nat_cmp (serial, tt) starting.old.items else starting.old.items) }
     ensures spare { starting.old.spare ≤ starting.new.spare + 1 }
-    ensures kept { is_starting phase.now ≡ false → starting.old.spare ≤ starting.new.spare }
+    ensures nodes { nodes_of starting.new ≡ nodes_of starting.old }
 {
     if is_starting(phase) {
         starting.insert(serial, ());
     }
+}
+
+/// Takes the job of a serial out of those that wait for a monitor, where it does. Its room is spare again.
+pub(crate) fn take_order(starting: &mut Ordered<Serial, ()>, serial: Serial)
+    ensures items { starting.new.items ≡ removed key_of nat_eq serial starting.old.items }
+    ensures spare { starting.old.spare ≤ starting.new.spare }
+    ensures nodes { nodes_of starting.new ≡ nodes_of starting.old }
+{
+    // `len` tells that serials differ.
+    starting.len();
+    starting.remove(&serial);
 }
 
 /// A job that hasn't ended comes into a phase: where it ends, a reference without its number names it no more.
@@ -89,8 +100,8 @@ pub(crate) fn fewer(count: usize, counted: bool) -> usize
     if counted { count - 1 } else { count }
 }
 
-/// Makes room in what jobs are found and counted by: for so many more that wait, for so many starts more, and for so many
-/// more names. An `Err` is want of memory; none has less room then than it had.
+/// Makes room in what jobs are found and counted by: for so many more that wait, for so many starts more, for so many more
+/// orders, and for so many more names. An `Err` is want of memory; none has less room then than it had.
 pub(crate) fn reserve_all(
     waiting: &mut WaitingJobs,
     tally: &mut Tally,
@@ -98,9 +109,10 @@ pub(crate) fn reserve_all(
     names: &mut JobNames,
     waits: u32,
     starts: u32,
+    orders: u32,
     named: u32,
 ) -> Result<(), NoMemory>
-    ensures ok { OnOk result (HasTaken waits starts named waiting.new tally.new starting.new names.new) }
+    ensures ok { OnOk result (HasTaken waits starts orders named waiting.new tally.new starting.new names.new) }
     ensures items { waiting.new.items ≡ waiting.old.items }
     ensures clock { waiting.new.clock ≡ waiting.old.clock }
     ensures counts { tally.new.counts ≡ tally.old.counts }
@@ -113,7 +125,7 @@ pub(crate) fn reserve_all(
 {
     waiting.reserve(waits)?;
     tally.reserve(starts)?;
-    starting.reserve(starts)?;
+    starting.reserve(orders)?;
     names.reserve(named)?;
     Ok(())
 }
@@ -171,11 +183,12 @@ pub(crate) fn take_out(
     ensures waiting_spare { waiting.old.spare ≤ waiting.new.spare }
     ensures tally_spare { tally.old.spare ≤ tally.new.spare }
     ensures starting_spare { starting.old.spare ≤ starting.new.spare }
+    ensures nodes { nodes_of starting.new ≡ nodes_of starting.old }
     ensures names_spare { names.old.spare ≤ names.new.spare }
 {
     waiting.remove(job.serial);
     count_out(tally, job);
-    starting.remove(&job.serial);
+    take_order(starting, job.serial);
     name_out(names, job);
 }
 
@@ -191,7 +204,7 @@ pub(crate) fn put_in(
     requires other { IsOther (waiter_of job.now) waiting.old.items }
     requires tally_spare { 1 ≤ tally.old.spare }
     requires few { HasFew tally.old }
-    requires starting_spare { 1 ≤ starting.old.spare }
+    requires starting_spare { is_starting job.now.phase ≡ true → 1 ≤ starting.old.spare }
     requires new { has_key key_of nat_eq job.now.serial starting.old.items ≡ false }
     requires names_spare { 1 ≤ names.old.spare }
     requires few_names { few.HasFew names.old }
@@ -203,8 +216,7 @@ pub(crate) fn put_in(
     ensures waiting_spare { waiting.old.spare ≤ waiting.new.spare + 1 }
     ensures tally_spare { tally.old.spare ≤ tally.new.spare + 1 }
     ensures tally_kept { is_active job.now.phase ≡ false → tally.old.spare ≤ tally.new.spare }
-    ensures starting_spare { starting.old.spare ≤ starting.new.spare + 1 }
-    ensures starting_kept { is_starting job.now.phase ≡ false → starting.old.spare ≤ starting.new.spare }
+    ensures nodes { nodes_of starting.new ≡ nodes_of starting.old }
     ensures names_spare { names.old.spare ≤ names.new.spare + 1 }
 {
     put_waiter(waiting, job);

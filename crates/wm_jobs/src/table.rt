@@ -1,5 +1,9 @@
 // The job table.
-use crate::counts::{count_end, count_start, end_names, fewer, more, put_order, reserve_all};
+ghost use Rattle.std.specs.Prelude.{◌≤◌};
+
+use crate::counts::{
+    count_end, count_start, end_names, fewer, more, put_order, reserve_all, take_order,
+};
 use crate::marking::note;
 use crate::phases::{counts_as_busy, is_active, waiter_of};
 use crate::places::{launch_at, phase_at, place};
@@ -15,6 +19,17 @@ use wm_waiting::WaitingJobs;
 
 /// How many jobs a table takes at the most.
 const MOST: usize = 0x3fff_ffff;
+
+/// For how many jobs the lists take room at once. What isn't used of a large block costs no memory, while one that grows is
+/// there twice until it has been copied.
+const FIRST: usize = 4096;
+
+// For how many more a list takes room that has so many and is to have room for some more.
+fn room_for(more: u32, there: usize) -> u32
+    ensures { more ≤ result }
+{
+    more.max(FIRST.saturating_sub(there) as u32)
+}
 
 /// The jobs of the machine, with what they are found and counted by. A contract sees the jobs in the order of their serials,
 /// `clock`, the moment up to which waiting jobs are due, the serial and the place that the next job has, `spare`, for how many
@@ -139,15 +154,17 @@ impl JobTable {
         let launches = more + self.waiting.len() as u32;
         let notes = 2 + self.touched.len() as u32;
         let undos = launches + notes;
-        self.jobs.reserve(more as usize)?;
-        self.touched.reserve(launches as usize + 2)?;
+        self.jobs.reserve(room_for(more, self.jobs.len()) as usize)?;
+        self.touched
+            .reserve(room_for(launches + 2, self.touched.len()) as usize)?;
         reserve_all(
             &mut self.waiting,
             &mut self.tally,
             &mut self.starting,
             &mut self.names,
             more + notes,
-            launches + undos,
+            room_for(launches + undos, self.active),
+            undos,
             more + undos,
         )?;
         self.room = more;
@@ -278,7 +295,7 @@ impl JobTable {
         let job = &self.jobs[at];
         let ends = !is_active(&phase);
         let busy = counts_as_busy(ends, &job.kind);
-        self.starting.remove(&serial);
+        take_order(&mut self.starting, serial);
         count_end(&mut self.tally, &job.how, &phase);
         end_names(&mut self.names, job, &phase);
         self.active = fewer(self.active, ends);

@@ -1,6 +1,7 @@
 use Rattle.std.proofs.Common.{◌+◌, not, ◌&&◌, cond, refl, ap, sym, ◌∙◌, arith}
 use Rattle.wm_law.specs.Pending.{is_prestart}
 use Rattle.wm_jobs.specs.Table.{Table}
+use Rattle.wm_jobs.specs.TableInside.{pending_of}
 use Rattle.wm_jobs.proofs.Stood.{agrees, undoable-same, first-pushed}
 use Rattle.wm_jobs.proofs.Undoes.{taken-few, length-all, drop-started, drop-last, dropped-kept, dropped-marked, marked-there}
 use Rattle.wm_jobs.proofs.table.JobTable.drop_last.Goals as goal
@@ -25,13 +26,12 @@ invariant_of-self c =
     let all = length-all t h js x whole in
     let wait = h.undos.to_wait in
     let count = h.undos.to_count in
-    let start = h.undos.to_start in
     let name = h.undos.to_name in
     let fits = h.marked.to_touch in
     agrees _
     (dropped-kept t h js x whole _ c.take_out.new.names refl refl refl refl c.in-Some.ensures.capacity c.take_out.ensures.items c.take_out.ensures.waiting_spare c.take_out.ensures.hows c.take_out.ensures.tally_spare c.take_out.ensures.orders c.take_out.ensures.starting_spare active busy c.take_out.ensures.names c.take_out.ensures.names_spare c.forget.ensures.names c.forget.ensures.spare)
-    (record { to_wait = omega (arith, c.take_out.ensures.waiting_spare); to_count = omega (arith, fewer, c.take_out.ensures.tally_spare); to_start = omega (arith, fewer, c.take_out.ensures.starting_spare); to_name = omega (arith, c.take_out.ensures.names_spare, c.forget.ensures.spare) })
-    (λ kept. undoable-same t.mark t.touched.items t.touched.items t.jobs.items js t.next_serial t.next_place t.waiting.clock t.next_serial t.next_place c.take_out.new.waiting.clock h.undoable refl (sym (first-pushed t.mark.jobs js t.jobs.items x there whole)) (omega arith) (omega arith) (omega (arith, c.take_out.ensures.clock)))
+    (record { to_wait = omega (arith, c.take_out.ensures.waiting_spare); to_count = omega (arith, fewer, c.take_out.ensures.tally_spare); to_name = omega (arith, c.take_out.ensures.names_spare, c.forget.ensures.spare) })
+    (λ kept. undoable-same t.mark t.touched.items t.touched.items t.jobs.items js t.next_serial t.next_place (pending_of t.starting t.room) t.waiting.clock t.next_serial t.next_place _ c.take_out.new.waiting.clock h.undoable refl (sym (first-pushed t.mark.jobs js t.jobs.items x there whole)) (omega arith) (omega arith) (omega (arith, c.take_out.ensures.nodes)) (omega (arith, c.take_out.ensures.clock)))
     (record { there = there; to_touch = omega (arith, fewer) })
 
 pub returns-clause-marked : goal.returns-clause-marked

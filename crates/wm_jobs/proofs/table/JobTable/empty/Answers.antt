@@ -10,6 +10,6 @@ invariant_of-result c =
     let untouched : length c.new-6.result.items ≡ 0 = ap length c.new-6.ensures.items in
     agrees _
     (new-inside _ c.new.ensures.items c.new-2.ensures.items c.new-3.ensures.hows c.new-4.ensures.items refl refl refl c.requires c.new-5.ensures.names)
-    (record { to_wait = omega (arith, untouched); to_count = omega arith; to_start = omega arith; to_name = omega arith })
+    (record { to_wait = omega (arith, untouched); to_count = omega arith; to_name = omega arith })
     (λ kept. undoable-here _ _ _ kept (none-placed _ c.new-2.ensures.items) c.new-6.ensures.items (omega (arith, none-yet)) refl refl (omega arith))
     (record { there = omega arith; to_touch = omega arith })

@@ -6,6 +6,7 @@ use Rattle.wm_law.specs.Launch.{as_launched, launched_at}
 use Rattle.wm_law.specs.Pending.{is_prestart}
 use Rattle.wm_jobs.specs.Marked.{touched_of}
 use Rattle.wm_jobs.specs.Table.{Table, serial_of}
+use Rattle.wm_jobs.specs.TableInside.{pending_of}
 use Rattle.wm_jobs.proofs.Splits.{gap-unchanged}
 use Rattle.wm_jobs.proofs.Changes.{grows, few-hows}
 use Rattle.wm_jobs.proofs.AtPlace.{asked, finds-named, launch-finds, launched-inside, one-waits, one-less, launched-first, leaves-room}
@@ -30,7 +31,7 @@ pub count_start-requires-clause-few : goal.count_start-requires-clause-few
 count_start-requires-clause-few c = few-hows _ _ _ _ _ _ _ _ c.self.invariant.kept.indexed c.self.invariant.kept.room
 
 pub put_order-requires-clause-spare : goal.put_order-requires-clause-spare
-put_order-requires-clause-spare c =
+put_order-requires-clause-spare c = λ _.
     let t = c.self.inside in
     let x = c.index-job.result.now in
     let had = asked t c.self.invariant.kept c.args.serial c.in-Ok.at x c.deref.result.now c.deref.ensures.value c.in-Ok.ensures c.index-job.ensures (λ (j : Job). is_waiting j.phase ≡ true) c.args.self.now c.self.view_is c.requires.waits in
@@ -71,8 +72,8 @@ invariant_of-self c =
     let noted-more : length c.note.new.touched.items ≡ length t.touched.items + 1 = ap length c.note.ensures.items ∙ length-append t.touched.items (touched_of x ∷ []) in
     agrees _
     (launched-inside t c.self.invariant.kept c.args.serial c.in-Ok.at x c.deref.result.now c.deref.ensures.value c.in-Ok.ensures c.index-job.ensures c.args.launched.now had c.requires.phase _ c.launch_at.ensures.jobs refl refl refl c.launch_at.ensures.capacity c.remove.ensures.items more c.count_start.ensures.hows c.count_start.ensures.spare c.put_order.ensures.items c.put_order.ensures.spare active busy c.end_names.ensures.names c.end_names.ensures.spare)
-    (let had = c.self.invariant.undos in let wait = had.to_wait in let count = had.to_count in let start = had.to_start in let name = had.to_name in record { to_wait = omega (arith, noted-more, left); to_count = omega (arith, less, c.count_start.ensures.spare); to_start = omega (arith, less, c.put_order.ensures.spare); to_name = omega (arith, c.end_names.ensures.spare) })
-    (λ kept. undoable-noted t.mark t.touched.items t.jobs.items t.next_serial t.next_place t.waiting.clock c.self.invariant.undoable _ kept c.len.ensures.places refl (omega arith) (omega arith) (omega (arith, c.remove.ensures.clock)) (touched_of x) c.note.ensures.items (launched-first t c.self.invariant.kept c.args.serial c.in-Ok.at x c.deref.result.now c.deref.ensures.value c.in-Ok.ensures c.index-job.ensures t.mark.jobs c.launch_at.new.jobs.items c.args.launched.now c.launch_at.ensures.jobs))
+    (let had = c.self.invariant.undos in let wait = had.to_wait in let count = had.to_count in let name = had.to_name in record { to_wait = omega (arith, noted-more, left); to_count = omega (arith, less, c.count_start.ensures.spare); to_name = omega (arith, c.end_names.ensures.spare) })
+    (λ kept. undoable-noted t.mark t.touched.items t.jobs.items t.next_serial t.next_place (pending_of t.starting t.room) t.waiting.clock c.self.invariant.undoable _ kept c.len.ensures.places refl (omega arith) (omega arith) (omega (arith, c.put_order.ensures.nodes)) (omega (arith, c.remove.ensures.clock)) (touched_of x) c.note.ensures.items (launched-first t c.self.invariant.kept c.args.serial c.in-Ok.at x c.deref.result.now c.deref.ensures.value c.in-Ok.ensures c.index-job.ensures t.mark.jobs c.launch_at.new.jobs.items c.args.launched.now c.launch_at.ensures.jobs))
     (noted t.jobs.items c.launch_at.new.jobs.items t.touched.items c.note.new.touched.items (touched_of x) (launched_at c.args.serial c.args.launched.now) t.mark.jobs (vec_capacity t.touched) (vec_capacity c.note.new.touched) (length t.waiting.items) (length c.remove.new.self.items) t.room t.room t.changes t.changes c.self.invariant.marked c.launch_at.ensures.jobs c.note.ensures.items c.note.ensures.capacity (omega (arith, less)))
 
 pub returns-clause-marked : goal.returns-clause-marked

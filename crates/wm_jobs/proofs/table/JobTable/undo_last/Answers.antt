@@ -1,7 +1,8 @@
-use Rattle.std.proofs.Common.{◌≡◌, ◌+◌, ◌-◌, not, ◌&&◌, cond, ℕ, false, [], ◌∷◌, length, nat_eq, refl, ap, sym, ◌∙◌, subst, arith}
+use Rattle.std.proofs.Common.{◌≡◌, ◌+◌, ◌-◌, not, ◌&&◌, cond, true, false, ◌≤◌, [], ◌∷◌, length, nat_eq, refl, ap, sym, ◌∙◌, subst, arith}
 use Rattle.std.proofs.lemmas.List.{length-append, length-map}
 use Rattle.wm_desc.specs.Sorted.{has_key}
 use Rattle.wm_law.specs.declared.job.Job.{Job}
+use Rattle.wm_law.specs.Counts.{is_starting}
 use Rattle.wm_law.specs.Jobs.{changed_at}
 use Rattle.wm_law.specs.Pending.{is_prestart}
 use Rattle.wm_ordered.specs.Ordered.{key_of}
@@ -9,10 +10,9 @@ use Rattle.wm_pick.specs.Parts.{waiter_of}
 use Rattle.wm_jobs.specs.Marked.{standing_as}
 use Rattle.wm_jobs.specs.Stored.{joined_by, IsOther}
 use Rattle.wm_jobs.specs.Table.{Table, serial_of}
-use Rattle.wm_jobs.specs.TableInside.{IsUndoable}
 use Rattle.wm_jobs.proofs.AtStored.{joined-most}
 use Rattle.wm_jobs.proofs.Splits.{gap-unchanged}
-use Rattle.wm_jobs.proofs.Undoes.{all-marked, before-undoable, before-marked, undo-started, undo-named, undo-other, undo-few, undo-lacks, undo-few-names, undone-kept, stands-again, taken-few, waits-or-counts, waits-or-starts, spends}
+use Rattle.wm_jobs.proofs.Undoes.{all-marked, before-undoable, before-marked, undo-started, undo-named, undo-other, undo-few, undo-lacks, undo-few-names, undone-kept, stands-again, taken-few, undo-orders, waits-or-counts, spends}
 use Rattle.wm_jobs.proofs.table.JobTable.undo_last.Goals as goal
 
 -- where no job has the serial, none is changed
@@ -30,7 +30,7 @@ invariant_of-self c =
     let undos = h.undos in
     record {
       kept = record { listed = kept.listed; indexed = kept.indexed; room = kept.room; named = kept.named };
-      undos = record { to_wait = omega (arith, less, undos.to_wait); to_count = undos.to_count; to_start = undos.to_start; to_name = undos.to_name };
+      undos = record { to_wait = omega (arith, less, undos.to_wait); to_count = undos.to_count; to_name = undos.to_name };
       undoable = before-undoable t h ts u popped all t.jobs.items same;
       marked = record { there = h.marked.there; to_touch = omega (arith, less, c.in-Some.ensures.capacity, h.marked.to_touch) };
     }
@@ -94,6 +94,21 @@ put_in-requires-clause-few c =
     let busy = ap (λ b. c.fewer-self-inside-2.result + cond b 1 0) (sym (c.counts_as_busy-was_busy.ensures ∙ ap (λ b. b && not (is_prestart x.kind)) c.is_active-was_active.ensures)) ∙ c.fewer-self-inside-2.ensures in
     undo-few t h ts u popped all c.in-Ok.at x c.deref.result.now c.deref.ensures.value c.in-Ok.ensures c.index-job.ensures c.take_out.new.waiting c.take_out.new.tally c.take_out.new.starting c.take_out.new.names c.take_out.ensures.items c.take_out.ensures.hows c.take_out.ensures.orders c.take_out.ensures.names c.fewer-self-inside.result c.fewer-self-inside-2.result active busy
 
+pub put_in-requires-clause-starting_spare : goal.put_in-requires-clause-starting_spare
+put_in-requires-clause-starting_spare c =
+    let t = c.self.inside in
+    let h = c.self.invariant in
+    let ts = c.pop.new.self.items in
+    let u = c.in-Some.touched in
+    let popped = c.in-Some.ensures.items in
+    let all = all-marked t h c.args.self.now c.self.view_is c.requires.all in
+    let x = c.index-job.result.now in
+    let active = ap (λ b. c.fewer-self-inside.result + cond b 1 0) (sym c.is_active-was_active.ensures) ∙ c.fewer-self-inside.ensures in
+    let busy = ap (λ b. c.fewer-self-inside-2.result + cond b 1 0) (sym (c.counts_as_busy-was_busy.ensures ∙ ap (λ b. b && not (is_prestart x.kind)) c.is_active-was_active.ensures)) ∙ c.fewer-self-inside-2.ensures in
+    let z = c.index-job-2.result.now in
+    let z_is : z ≡ standing_as u.was x = stands-again t u.serial c.in-Ok.at x c.deref.result.now c.deref.ensures.value c.in-Ok.ensures c.index-job.ensures (standing_as u.was) c.stand_at.new.jobs.items c.stand_at.ensures.jobs z c.index-job-2.ensures in
+    subst (λ (k : Job). is_starting k.phase ≡ true → 1 ≤ c.take_out.new.starting.spare) (sym z_is) (undo-orders t h ts u popped all c.in-Ok.at x c.deref.result.now c.deref.ensures.value c.in-Ok.ensures c.index-job.ensures c.take_out.new.waiting c.take_out.new.tally c.take_out.new.starting c.take_out.new.names c.take_out.ensures.items c.take_out.ensures.hows c.take_out.ensures.orders c.take_out.ensures.names c.fewer-self-inside.result c.fewer-self-inside-2.result active busy c.take_out.ensures.nodes)
+
 pub put_in-requires-clause-new : goal.put_in-requires-clause-new
 put_in-requires-clause-new c =
     let t = c.self.inside in
@@ -140,19 +155,17 @@ invariant_of-self-2 c =
     let fewer = taken-few x.serial t.waiting.items c.take_out.new.waiting.items c.take_out.ensures.items in
     let joined : length c.put_in.new.waiting.items ≡ length (joined_by (waiter_of z) c.take_out.new.waiting.items) = ap length c.put_in.ensures.items in
     let counts = waits-or-counts z c.take_out.new.waiting.items c.take_out.new.tally.spare c.put_in.new.tally.spare c.put_in.ensures.tally_spare c.put_in.ensures.tally_kept in
-    let starts = waits-or-starts z c.take_out.new.waiting.items c.take_out.new.starting.spare c.put_in.new.starting.spare c.put_in.ensures.starting_spare c.put_in.ensures.starting_kept in
     let most = joined-most (waiter_of z) c.take_out.new.waiting.items in
     let o = h.kept.room in
     let stand = o.to_stand in
     let few = o.few in
     let wait = h.undos.to_wait in
     let count = h.undos.to_count in
-    let start = h.undos.to_start in
     let name = h.undos.to_name in
     let more-waits = c.take_out.ensures.waiting_spare in
     let less-waits = c.put_in.ensures.waiting_spare in
     let more-counts = c.take_out.ensures.tally_spare in
-    let more-starts = c.take_out.ensures.starting_spare in
+    let nodes = c.put_in.ensures.nodes ∙ c.take_out.ensures.nodes in
     let more-names = c.take_out.ensures.names_spare in
     let less-names = c.put_in.ensures.names_spare in
     record {
@@ -165,9 +178,9 @@ invariant_of-self-2 c =
             active = c.more-self-inside.ensures ∙ ap (λ b. c.fewer-self-inside.result + cond b 1 0) c.is_active-active.ensures;
             busy = c.more-self-inside-2.ensures ∙ ap (λ b. c.fewer-self-inside-2.result + cond b 1 0) (c.counts_as_busy-busy.ensures ∙ ap (λ b. b && not (is_prestart z.kind)) c.is_active-active.ensures);
           })
-          refl refl (record { to_stand = omega (arith, c.stand_at.ensures.capacity); few = omega arith; to_wait = omega arith; to_count = omega arith; to_start = omega arith }) (omega arith);
-      undos = record { to_wait = omega (arith, left); to_count = omega arith; to_start = omega arith; to_name = omega arith };
-      undoable = subst (λ (n : ℕ). IsUndoable t.mark ts c.stand_at.new.jobs.items t.next_serial t.next_place n) (sym (c.put_in.ensures.clock ∙ c.take_out.ensures.clock)) (before-undoable t h ts u popped all c.stand_at.new.jobs.items c.stand_at.ensures.jobs);
+          refl refl refl nodes (λ starts. record { to_stand = omega (arith, c.stand_at.ensures.capacity); few = omega arith; to_wait = omega arith; to_count = omega arith; to_start = starts }) (omega arith);
+      undos = record { to_wait = omega (arith, left); to_count = omega arith; to_name = omega arith };
+      undoable = rw (c.put_in.ensures.clock, c.take_out.ensures.clock, nodes) (before-undoable t h ts u popped all c.stand_at.new.jobs.items c.stand_at.ensures.jobs);
       marked = (let n : length c.stand_at.new.jobs.items ≡ length t.jobs.items = ap length c.stand_at.ensures.jobs ∙ length-map t.jobs.items (changed_at u.serial (standing_as u.was)) in record { there = omega (arith, n, h.marked.there); to_touch = omega (arith, left, c.in-Some.ensures.capacity, h.marked.to_touch) });
     }
 
