@@ -127,6 +127,13 @@ impl<V: Copy> Slots<V> {
         }
     }
 
+    /// Whether a serial is there.
+    pub fn contains(&self, serial: Serial) -> bool
+        ensures { result ≡ has_key key_of nat_eq serial self.now.items }
+    {
+        self.get(serial).is_some()
+    }
+
     /// The pair of the least serial.
     pub fn first(&self) -> Option<(Serial, V)>
         ensures { result ≡ slice_get self.now.items 0 }
