@@ -10,10 +10,11 @@ use crate::indexes::take_out;
 use crate::keys::{Rise, Spot};
 use wm_base::{Moment, Serial};
 use wm_ordered::Ordered;
+use wm_slots::Slots;
 
 // Brings the first where it is due by a moment, and answers whether it was.
 fn bring_first(
-    all: &Ordered<Serial, Waiter>,
+    all: &Slots<Waiter>,
     turns: &mut Ordered<Spot, Serial>,
     early: &mut Ordered<Rise, ()>,
     now: Moment,
@@ -37,7 +38,7 @@ fn bring_first(
     if rise.due > now {
         return false;
     }
-    let Some(waiter) = all.get(&rise.serial) else {
+    let Some(waiter) = all.get(rise.serial) else {
         unreachable!()
     };
     take_out(early, &rise);
@@ -50,7 +51,7 @@ fn bring_first(
 
 /// Brings all that are due by a moment.
 pub(crate) fn bring_due(
-    all: &Ordered<Serial, Waiter>,
+    all: &Slots<Waiter>,
     turns: &mut Ordered<Spot, Serial>,
     early: &mut Ordered<Rise, ()>,
     now: Moment,

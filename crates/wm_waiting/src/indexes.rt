@@ -1,9 +1,9 @@
 // Rows of the jobs that wait, by a key of theirs.
 ghost use Rattle.std.specs.Prelude.{◌≡◌, ℕ, ◌+◌, ◌≤◌, List, false, true, insert};
 ghost use Rattle.wm_desc.specs.Sorted.{has_key, removed};
-ghost use Rattle.wm_ordered.specs.Ordered.{key_of};
+ghost use Rattle.wm_ordered.specs.Ordered.{key_of, first_from};
 ghost use Rattle.wm_waiting.specs.Keys.{spot_of, rise_of, nothing_of};
-ghost use Rattle.wm_waiting.specs.Orders.{same_spot, same_rise};
+ghost use Rattle.wm_waiting.specs.Orders.{spot_cmp, same_spot, same_rise};
 ghost use Rattle.wm_waiting.specs.Waiting.{serial_of, is_up, is_ahead};
 ghost use Rattle.wm_waiting.specs.Index.{IsIndex, capacity_of};
 
@@ -80,4 +80,17 @@ pub(crate) fn take_out<K: Ord + Copy, V: Copy>(rows: &mut Ordered<K, V>, key: &K
     // `len` tells that a key has one row.
     rows.len();
     rows.remove(key);
+}
+
+/// The first row from a spot on. The first of all is looked at before, which compares once.
+pub(crate) fn row_from(rows: &Ordered<Spot, Serial>, begin: &Spot) -> Option<(Spot, Serial)>
+    ensures { result ≡ first_from spot_cmp begin.now rows.now.items }
+{
+    let Some(first) = rows.first() else {
+        return None;
+    };
+    if first.0.cmp(begin).is_lt() {
+        return rows.first_from(begin);
+    }
+    Some(first)
 }

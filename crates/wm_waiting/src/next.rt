@@ -1,4 +1,5 @@
 // The heads of a queue, one after another.
+use crate::indexes::row_from;
 use crate::keys::Spot;
 use crate::{Waiter, WaitingJobs};
 use std::sync::ledger::Ledger;
@@ -27,7 +28,7 @@ impl WaitingJobs {
             pty,
             place: 0,
         };
-        let Some((spot, serial)) = self.turns.first_from(&begin) else {
+        let Some((spot, serial)) = row_from(&self.turns, &begin) else {
             return None;
         };
         if spot.is_on(jobq) {

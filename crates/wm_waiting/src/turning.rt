@@ -10,6 +10,7 @@ use crate::indexes::{enlist, take_out};
 use crate::keys::{Rise, Spot};
 use wm_base::{Moment, Serial};
 use wm_ordered::Ordered;
+use wm_slots::Slots;
 
 /// Takes out all rows.
 pub(crate) fn take_all<K: Ord + Copy, V: Copy>(rows: &mut Ordered<K, V>)
@@ -22,18 +23,18 @@ pub(crate) fn take_all<K: Ord + Copy, V: Copy>(rows: &mut Ordered<K, V>)
 }
 
 // The row behind that of a serial, or the first of all.
-fn row_behind(all: &Ordered<Serial, Waiter>, last: Option<Serial>) -> Option<(Serial, Waiter)>
+fn row_behind(all: &Slots<Waiter>, last: Option<Serial>) -> Option<(Serial, Waiter)>
     ensures { result ≡ row_behind last all.now.items }
 {
     match last {
         None => all.first(),
-        Some(serial) => all.first_above(&serial),
+        Some(serial) => all.first_above(serial),
     }
 }
 
 /// Puts all jobs into the indexes of their kinds, in which there is none.
 pub(crate) fn list_all(
-    all: &Ordered<Serial, Waiter>,
+    all: &Slots<Waiter>,
     turns: &mut Ordered<Spot, Serial>,
     early: &mut Ordered<Rise, ()>,
     clock: Moment,

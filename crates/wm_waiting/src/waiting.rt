@@ -1,7 +1,7 @@
 // The jobs that wait.
 use crate::Waiter;
 use crate::bringing::bring_due;
-use crate::indexes::{enlist, lacking, put_line, take_out};
+use crate::indexes::{enlist, lacking, put_line, row_from, take_out};
 use crate::keys::{Rise, Spot};
 use crate::moving::{move_line, relist};
 use crate::turning::{list_all, take_all};
@@ -10,12 +10,13 @@ use std::marker::Model;
 use std::sync::ledger::Ledger;
 use wm_base::{Moment, NoMemory, Priority, QName, Serial, Steps};
 use wm_ordered::Ordered;
+use wm_slots::Slots;
 
 /// The jobs that wait. A contract sees them in the order of their serials, with `clock`, the greatest moment that was made
 /// due, and `spare`, for how many more jobs there is room. Each serial and each place stands there once.
 #[derive(Drop)]
 pub struct WaitingJobs {
-    all: Ordered<Serial, Waiter>,
+    all: Slots<Waiter>,
     // Those that aren't held and are due by the clock.
     pub(crate) turns: Ordered<Spot, Serial>,
     // Those that are due above the clock, held or not.
@@ -52,7 +53,7 @@ impl WaitingJobs {
         ensures spare { result.spare ≡ 0 }
     {
         WaitingJobs {
-            all: Ordered::new(alloc),
+            all: Slots::new(alloc),
             turns: Ordered::new(alloc),
             early: Ordered::new(alloc),
             lines: Ordered::new(alloc),
@@ -122,7 +123,7 @@ impl WaitingJobs {
     {
         // `len` tells that serials differ.
         self.all.len();
-        let Some(waiter) = self.all.remove(&serial) else {
+        let Some(waiter) = self.all.remove(serial) else {
             return None;
         };
         take_out(&mut self.turns, &Spot::of(&waiter));
@@ -143,8 +144,7 @@ impl WaitingJobs {
         // `len` tells that serials and places differ; `get` tells the range.
         self.len();
         waiter.pty.get();
-        let serial = waiter.serial;
-        let Some(old) = self.all.set(&serial, waiter) else {
+        let Some(old) = self.all.set(waiter.serial, waiter) else {
             return;
         };
         relist(&mut self.turns, &mut self.early, self.clock, &old, &waiter);
@@ -202,7 +202,7 @@ impl WaitingJobs {
     pub(crate) fn waiter(&self, serial: Serial) -> Option<Waiter>
         ensures { result ≡ with_key serial_of nat_eq serial self.now.items }
     {
-        self.all.get(&serial)
+        self.all.get(serial)
     }
 
     /// The job of a queue and a priority that isn't held, is due by the clock, and has the least place. It is one look.
@@ -224,7 +224,7 @@ impl WaitingJobs {
             pty,
             place: 0,
         };
-        let Some((spot, serial)) = self.turns.first_from(&begin) else {
+        let Some((spot, serial)) = row_from(&self.turns, &begin) else {
             return None;
         };
         if spot.is_of(jobq, pty) {
@@ -246,7 +246,7 @@ impl WaitingJobs {
             pty: Priority::new(1),
             place: 0,
         };
-        let Some((spot, serial)) = self.lines.first_from(&begin) else {
+        let Some((spot, serial)) = row_from(&self.lines, &begin) else {
             return None;
         };
         if spot.is_on(jobq) {

@@ -1,0 +1,4 @@
+pub mod Around
+pub mod Counted
+pub mod Parts
+pub mod Placed

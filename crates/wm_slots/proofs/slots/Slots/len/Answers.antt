@@ -1,0 +1,10 @@
+use Rattle.std.proofs.Common.{ℕ, subst}
+use Rattle.std.specs.Ordering.{nat_cmp}
+use Rattle.wm_desc.specs.Sorted.{IsSortedOnce}
+use Rattle.wm_ordered.specs.Ordered.{Pairs, key_of}
+use Rattle.wm_slots.proofs.Parts.{sorted-pairs}
+use Rattle.wm_slots.proofs.slots.Slots.len.Goals as goal
+
+pub returns-clause-sorted : goal.returns-clause-sorted
+returns-clause-sorted g c =
+    subst (λ (p : Pairs ℕ g.row.V.Denot). IsSortedOnce key_of nat_cmp p.items) c.self.view_is (sorted-pairs c.self.inside.slots.items c.self.invariant.sorted)
