@@ -53,7 +53,7 @@ use Rattle.wm_law.specs.declared.job.Job.{Job}
 use Rattle.wm_law.specs.declared.job.Phase.{Phase}
 use Rattle.wm_law.specs.declared.state.State.{State}
 use Rattle.wm_law.proofs.Tests.{of_not}
-use Rattle.wm_rows.specs.Rows.{class_row, program_row, queue_row, jobd_row, sbsd_row, queue_entry_row, route_entry_row, auto_entry_row, held_row}
+use Rattle.wm_rows.specs.Rows.{class_row, program_row, queue_row, jobd_row, sbsd_row, queue_entry_row, route_entry_row, auto_entry_row, pre_entry_row, held_row}
 use Rattle.wm_rows.specs.Places.{numbered_place, entry_place}
 use Rattle.wm_rows.specs.Tables.{queue_entry_rows, route_entry_rows, auto_entry_rows, pre_entry_rows, held_rows, object_rows, sbsd_rows}
 use Rattle.wm_tables.proofs.Made.{tab_before}

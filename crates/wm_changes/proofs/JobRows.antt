@@ -30,7 +30,7 @@ row_of j = job_row (stored_of j)
 
 -- Their order
 
-serial_before : (j k : Job) → j.serial < k.serial → k.serial < 2 ^ 64 → is_before (row_of j) (row_of k) ≡ true
+pub serial_before : (j k : Job) → j.serial < k.serial → k.serial < 2 ^ 64 → is_before (row_of j) (row_of k) ≡ true
 serial_before j k less fits =
     let digits : slice_cmp nat_cmp (zero_padded 20 j.serial) (zero_padded 20 k.serial) ≡ _ = padded_less 19 j.serial k.serial less fits (omega arith) in
     ap is_lt digits

@@ -97,12 +97,11 @@ route_less sbsd seq d sorted used =
     let test = λ (n : RouteEntry). nat_eq n.seq seq in
     let m = any_found test d.routes used in
     let among = found_among test d.routes m.item m.found in
-    let is : m.item.seq ≡ seq = sure_number m.item.seq seq among.1 in
-    (
+    let is : m.item.seq ≡ seq = sure_number m.item.seq seq among.1 in (
       m.item,
       is,
       less_filtered (route_entry_row sbsd) (λ (n : RouteEntry). n.seq) nat_cmp nat_cmp_total (λ (n : RouteEntry). not (nat_eq n.seq seq)) d.routes m.item sorted among.0 (ap not among.1)
-      (λ n k other. not_by (nat_eq n.seq seq) (λ yes. other (sure_number n.seq seq yes ∙ sym is))),
+          (λ n k other. not_by (nat_eq n.seq seq) (λ yes. other (sure_number n.seq seq yes ∙ sym is))),
     )
 
 -- that of a job's name
@@ -111,12 +110,11 @@ auto_less sbsd job d sorted used =
     let test = λ (n : AutoEntry). pointwise nat_eq n.job job in
     let m = any_found test d.autos used in
     let among = found_among test d.autos m.item m.found in
-    let is : m.item.job ≡ job = (bytes_eq-Decides m.item.job job).0 among.1 in
-    (
+    let is : m.item.job ≡ job = (bytes_eq-Decides m.item.job job).0 among.1 in (
       m.item,
       is,
       less_filtered (auto_entry_row sbsd) (λ (n : AutoEntry). n.job) (slice_cmp nat_cmp) nat_list_cmp_total (λ (n : AutoEntry). not (pointwise nat_eq n.job job)) d.autos m.item sorted among.0 (ap not among.1)
-      (λ n k other. not_by (pointwise nat_eq n.job job) (λ yes. other ((bytes_eq-Decides n.job job).0 yes ∙ sym is))),
+          (λ n k other. not_by (pointwise nat_eq n.job job) (λ yes. other ((bytes_eq-Decides n.job job).0 yes ∙ sym is))),
     )
 
 -- a held queue

@@ -8,3 +8,5 @@ pub mod Commands
 pub mod JobRows
 pub mod CounterRows
 pub mod Steps
+pub mod NotedPairs
+pub mod TouchedRows

@@ -9,6 +9,7 @@ use Rattle.wm_outside.specs.declared.row.RowChange.{RowChange}
 use Rattle.wm_law.specs.Choice.{next}
 use Rattle.wm_law.specs.Fit.{IsCall}
 use Rattle.wm_law.specs.Launch.{launch, launch_job}
+use Rattle.wm_law.specs.Kept.{GoesOn}
 use Rattle.wm_law.specs.Laws.{IsIn}
 use Rattle.wm_law.specs.Machine.{apply, step, with_clock}
 use Rattle.wm_law.specs.Settling.{leave, settle, waiting}
@@ -181,6 +182,10 @@ own_before u t e f own = record {
 settled_differ : (s u : State) (cs : List RowChange) → Differs (own_part s) (own_part u) cs → Differs (own_part s) (own_part (settle u)) cs
 settled_differ s u cs d = subst (λ (rows : List Row). Differs (own_part s) rows cs) (sym (same_part u (settle u) (settled_objects u) (settled_held u))) d
 
+-- each job stands there still, by its serial
+successor : (s t : State) → GoesOn s t → (j : Job) → IsIn j s.jobs → (k : Job) × IsIn k t.jobs × (k.serial ≡ j.serial)
+successor s t on j i = let k = on j i in (k.0, k.1, k.2.serial)
+
 pub step_changes_are_difference : StepChangesAreDifference
 unfolding step
 step_changes_are_difference s caller call moment changes sound range fit late e =
@@ -191,6 +196,5 @@ step_changes_are_difference s caller call moment changes sound range fit late e 
     let own : HasOwn (with_clock s moment) = (let o = own_of s sound range in record { objects = o.objects; held = o.held }) in
     let now : HasOwn u = own_before u t (settled_objects u) (settled_held u) (own_of t after in_range) in
     let called = call_differs (with_clock s moment) (clock_sound s moment sound) own caller call now in
-    let goes_on = λ (j : Job) (i : IsIn j s.jobs). (let k = step_goes_on s caller call moment sound.numbered j i in (k.0, k.1, k.2.serial)) in
-    let whole = is_their_difference s t sound range after in_range goes_on (call_change (removed_number s.objects call) call (apply (with_clock s moment) caller call).reply) (settled_differ (with_clock s moment) u _ called) in
+    let whole = is_their_difference s t sound range after in_range (successor s t (step_goes_on s caller call moment sound.numbered)) (call_change (removed_number s.objects call) call (apply (with_clock s moment) caller call).reply) (settled_differ (with_clock s moment) u _ called) in
     subst (IsDifference (tables s) (tables t)) (sym e) whole
