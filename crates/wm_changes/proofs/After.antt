@@ -10,7 +10,6 @@ use Rattle.wm_outside.specs.declared.row.RowChange.{RowChange}
 use Rattle.wm_outside.specs.declared.row.RowChange.TheVariants.{Put, Del}
 use Rattle.wm_outside.specs.InOrder.{changed_in_order}
 use Rattle.wm_outside.specs.Rows.{changed, changed_by, is_of, place_of, put, without, IsInOrder}
-use Rattle.wm_outside.specs.Spawner.{without_first}
 use Rattle.wm_law.specs.Laws.{IsIn}
 use Rattle.wm_tables.proofs.Keys.{first_same, rest_same}
 use Rattle.wm_tables.proofs.RowOrder.{IsAscending, ascending, of_place, of_put}

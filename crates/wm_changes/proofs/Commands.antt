@@ -1,11 +1,10 @@
 -- What a call changes of the rows of objects, entries and held queues.
-use Rattle.std.proofs.Common.{◌≡◌, ◌⊎◌, ℕ, ◌+◌, ◌<◌, ◌≤◌, ◌==◌, ◌++◌, not, Bool, true, false, cond, List, [], ◌∷◌, Option, Some, None, is_some, map, fold, nat_lt, refl, sym, ap, subst, ◌∙◌, inl, inr, arith}
+use Rattle.std.proofs.Common.{◌≡◌, ℕ, ◌<◌, ◌≤◌, ◌==◌, ◌++◌, not, Bool, true, false, cond, List, [], ◌∷◌, Option, Some, None, is_some, map, fold, nat_lt, refl, sym, ap, subst, ◌∙◌, inl, inr, arith}
 use Rattle.std.specs.Cmp.Lexicographic.{slice_cmp}
-use Rattle.std.specs.List.{find, flat_map, list_any}
+use Rattle.std.specs.List.{find, flat_map}
 use Rattle.std.specs.Option.{option_map, option_to_list}
 use Rattle.std.specs.Ordering.{nat_cmp}
 use Rattle.std.specs.Prelude.{Result, Ok, Err}
-use Rattle.wm_base.specs.declared.job.EndCause.TheVariants as cause
 use Rattle.wm_base.specs.declared.job.StartOrder.{StartOrder}
 use Rattle.wm_base.specs.declared.qname.QName.{QName}
 use Rattle.wm_base.specs.declared.refusal.Kind.TheVariants as kind
@@ -26,17 +25,16 @@ use Rattle.wm_outside.specs.declared.row.Row.{Row}
 use Rattle.wm_outside.specs.declared.row.RowChange.{RowChange}
 use Rattle.wm_outside.specs.declared.row.RowChange.TheVariants.{Put, Del}
 use Rattle.wm_law.specs.Autos.{auto_described, autos_of, make_auto}
-use Rattle.wm_law.specs.Changing.{change_due, change_found, has_queue as has_its_queue, moved, stays}
+use Rattle.wm_law.specs.Changing.{change_due, change_found, has_queue as has_its_queue, stays}
 use Rattle.wm_law.specs.Choice.{entry_for, is_held}
 use Rattle.wm_law.specs.Counts.{is_starting}
 use Rattle.wm_law.specs.Holding.{hold_found, release_found}
-use Rattle.wm_law.specs.Laws.{IsIn}
 use Rattle.wm_law.specs.Launch.{order_of}
 use Rattle.wm_law.specs.Machine.{apply, change}
 use Rattle.wm_law.specs.Making.{auto_entry_of, class_of, jobd_of, made_unless, queue_entry_of, route_entry_of, unless_in_use}
 use Rattle.wm_law.specs.Named.{waiting_named}
 use Rattle.wm_law.specs.Power.{is_down_now, is_on}
-use Rattle.wm_law.specs.Queues.{hold_queue, own_name, release_queue, waits_on, with_held_queue, without_held_queue}
+use Rattle.wm_law.specs.Queues.{hold_queue, own_name, release_queue, with_held_queue, without_held_queue}
 use Rattle.wm_law.specs.Reports.{done_with, hand_job, hand_order, is_handed_to, is_run_by, report_on}
 use Rattle.wm_law.specs.Schedules.{rescheduled, scheduled}
 use Rattle.wm_law.specs.Sound.{IsSound}
@@ -55,7 +53,7 @@ use Rattle.wm_law.specs.declared.state.State.{State}
 use Rattle.wm_law.proofs.Tests.{of_not}
 use Rattle.wm_rows.specs.Rows.{class_row, program_row, queue_row, jobd_row, sbsd_row, queue_entry_row, route_entry_row, auto_entry_row, pre_entry_row, held_row}
 use Rattle.wm_rows.specs.Places.{numbered_place, entry_place}
-use Rattle.wm_rows.specs.Tables.{queue_entry_rows, route_entry_rows, auto_entry_rows, pre_entry_rows, held_rows, object_rows, sbsd_rows}
+use Rattle.wm_rows.specs.Tables.{queue_entry_rows, route_entry_rows, auto_entry_rows, pre_entry_rows, held_rows, object_rows}
 use Rattle.wm_tables.proofs.Made.{tab_before}
 use Rattle.wm_tables.proofs.OwnPlaces.{HasTab, HasTabsTo, tab_flat, tab_mapped}
 use Rattle.wm_tables.proofs.Passing.{of_parts}

@@ -16,8 +16,8 @@ use Rattle.wm_rows.specs.declared.stored.Counter.{Counter}
 use Rattle.wm_rows.specs.declared.stored.Counter.TheVariants as counter
 use Rattle.wm_changes.specs.Changes.{counter_change, counter_changes}
 use Rattle.wm_changes.specs.declared.counts.Counts.{Counts}
-use Rattle.wm_changes.specs.Difference.{AreInOrder, HasRowAt}
-use Rattle.wm_changes.proofs.Differs.{AreApart, Differs, HasChangeAt, both_differ, both_ordered, same_rows}
+use Rattle.wm_changes.specs.Difference.{AreInOrder}
+use Rattle.wm_changes.proofs.Differs.{AreApart, Differs, both_differ, both_ordered, same_rows}
 
 -- one row in the place of another
 module _ (a b : Row) (place : place_of b ≡ place_of a) (other : b ≡ a → ⊥) where

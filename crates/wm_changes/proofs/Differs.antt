@@ -1,5 +1,5 @@
 -- How rows differ, part by part.
-use Rattle.std.proofs.Common.{◌≡◌, ◌⊎◌, ℕ, ◌++◌, Bool, true, false, List, [], ◌∷◌, refl, sym, ap, subst, ◌∙◌, inl, inr}
+use Rattle.std.proofs.Common.{◌≡◌, ◌⊎◌, ℕ, ◌++◌, true, List, [], ◌∷◌, refl, sym, subst, ◌∙◌, inl, inr}
 use Rattle.std.specs.Cmp.Lexicographic.{slice_cmp}
 use Rattle.std.specs.Ordering.{is_lt, nat_cmp}
 use Rattle.wm_outside.specs.declared.row.Row.{Row}
@@ -9,7 +9,7 @@ use Rattle.wm_outside.specs.InOrder.{changed_in_order}
 use Rattle.wm_outside.specs.Rows.{changed, is_before, place_of, IsInOrder}
 use Rattle.wm_law.specs.Laws.{IsIn}
 use Rattle.wm_tables.proofs.Passing.{in_left_part, in_right_part, of_parts}
-use Rattle.wm_tables.proofs.RowOrder.{IsAscending, ascending}
+use Rattle.wm_tables.proofs.RowOrder.{ascending}
 use Rattle.wm_tables.proofs.SameRows.{one_list, one_place, two_places}
 use Rattle.wm_changes.specs.Difference.{AreInOrder, change_place, HasRowAt, IsDifference}
 use Rattle.wm_changes.proofs.After.{after_was, stands_after}

@@ -1,11 +1,10 @@
 -- One thing more in a list, and the rows of these.
-use Rattle.std.proofs.Common.{◌≡◌, ◌⊎◌, ℕ, zero, suc, ◌++◌, not, Bool, true, false, cond, List, [], ◌∷◌, map, filter, append_assoc, refl, sym, ap, subst, ◌∙◌, inl, inr}
+use Rattle.std.proofs.Common.{◌≡◌, ◌⊎◌, ℕ, zero, suc, ◌++◌, Bool, true, false, cond, List, [], ◌∷◌, map, filter, append_assoc, refl, sym, ap, subst, ◌∙◌, inl, inr}
 use Rattle.std.specs.Cmp.{IsTotalOrder}
 use Rattle.std.specs.List.{insert}
 use Rattle.std.specs.declared.cmp.Ordering.{Ordering}
 use Rattle.wm_desc.specs.Sorted.{IsSortedOnce}
 use Rattle.wm_outside.specs.declared.row.Row.{Row}
-use Rattle.wm_outside.specs.declared.row.RowChange.{RowChange}
 use Rattle.wm_outside.specs.declared.row.RowChange.TheVariants.{Put, Del}
 use Rattle.wm_outside.specs.Rows.{place_of}
 use Rattle.wm_law.specs.Laws.{IsIn}

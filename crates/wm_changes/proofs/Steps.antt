@@ -1,5 +1,5 @@
 -- The changes of a step are the difference of the tables before and after it.
-use Rattle.std.proofs.Common.{◌≡◌, ◌⊎◌, ℕ, ◌<◌, ◌≤◌, ◌^◌, ◌++◌, ◌==◌, Bool, List, [], ◌∷◌, Option, Some, None, find, map, refl, sym, ap, subst, ◌∙◌, inl, inr, arith}
+use Rattle.std.proofs.Common.{◌≡◌, ℕ, ◌≤◌, ◌++◌, ◌==◌, List, Option, Some, None, find, refl, sym, ap, subst, ◌∙◌, inl, inr, arith}
 use Rattle.std.specs.Option.{option_to_list}
 use Rattle.wm_base.specs.Iterate.{IsKept}
 use Rattle.wm_base.proofs.Iterate.{iterate-keeps}
@@ -7,14 +7,12 @@ use Rattle.wm_base.specs.declared.qname.QName.{QName}
 use Rattle.wm_outside.specs.declared.row.Row.{Row}
 use Rattle.wm_outside.specs.declared.row.RowChange.{RowChange}
 use Rattle.wm_law.specs.Choice.{next}
-use Rattle.wm_law.specs.Fit.{IsCall}
 use Rattle.wm_law.specs.Launch.{launch, launch_job}
 use Rattle.wm_law.specs.Kept.{GoesOn}
 use Rattle.wm_law.specs.Laws.{IsIn}
 use Rattle.wm_law.specs.Machine.{apply, step, with_clock}
 use Rattle.wm_law.specs.Settling.{leave, settle, waiting}
 use Rattle.wm_law.specs.Sound.{IsSound}
-use Rattle.wm_law.specs.declared.call.Call.{Call}
 use Rattle.wm_law.specs.declared.choice.Candidate.{Candidate}
 use Rattle.wm_law.specs.declared.job.Job.{Job}
 use Rattle.wm_law.specs.declared.state.State.{State}
@@ -32,7 +30,7 @@ use Rattle.wm_tables.proofs.OwnRows.{own_rows}
 use Rattle.wm_tables.proofs.Passing.{of_parts}
 use Rattle.wm_tables.proofs.RangedSteps.{step_keeps_ranges}
 use Rattle.wm_tables.proofs.RowOrder.{HasOwnPlaces, in_tables, of_tables, put_in_order}
-use Rattle.wm_changes.specs.Changes.{AreKept, AreStepChanges, call_change, counter_changes, counts_of, new_job_rows, removed_number}
+use Rattle.wm_changes.specs.Changes.{AreKept, call_change, counter_changes, counts_of, new_job_rows, removed_number}
 use Rattle.wm_changes.specs.Difference.{AreInOrder, IsDifference}
 use Rattle.wm_changes.specs.Laws.{StepChangesAreDifference}
 use Rattle.wm_changes.proofs.Commands.{HasOwn, apart_tabs, call_differs, held_tab, objects_to_nine, own_part}

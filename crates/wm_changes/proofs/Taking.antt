@@ -1,5 +1,5 @@
 -- What is made of what is given of a step are its changes.
-use Rattle.std.proofs.Common.{◌≡◌, ℕ, ◌++◌, List, length, take, map, Option, refl, sym, ap, subst, ◌∙◌}
+use Rattle.std.proofs.Common.{◌≡◌, ℕ, ◌++◌, List, length, take, map, Option, sym, ap, subst, ◌∙◌}
 use Rattle.std.specs.Option.{option_to_list}
 use Rattle.wm_outside.specs.declared.row.RowChange.{RowChange}
 use Rattle.wm_law.specs.Laws.{IsIn}
@@ -13,7 +13,7 @@ use Rattle.wm_job_rows.specs.Stored.{IsStored, stored_of}
 use Rattle.wm_jobs.specs.Marked.{undone}
 use Rattle.wm_jobs.specs.Table.{Table}
 use Rattle.wm_tables.specs.Tables.{puts}
-use Rattle.wm_changes.specs.Changes.{AreKept, AreStepChanges, IsTaken, call_change, counter_changes, counts_of, new_job_rows, removed_number}
+use Rattle.wm_changes.specs.Changes.{AreStepChanges, IsTaken, call_change, counter_changes, counts_of, new_job_rows, removed_number}
 use Rattle.wm_changes.specs.Noted.{with_jobs}
 use Rattle.wm_changes.specs.declared.counts.Counts.{Counts}
 use Rattle.wm_changes.proofs.TouchedRows.{with_jobs_are}

@@ -1,13 +1,11 @@
 -- The rows of touched and of new jobs are those of jobs that aren't among the rows from before.
-use Rattle.std.proofs.Common.{◌≡◌, ◌⊎◌, ℕ, ◌<◌, ◌^◌, ◌++◌, ◌==◌, ◌&&◌, nat_eq, nat_lt, not, Bool, true, false, cond, List, [], ◌∷◌, length, take, drop, filter, find, fold, map, slice_get, if◌then◌else◌, Option, Some, None, option_and_then, append_assoc, refl, sym, ap, subst, ◌∙◌, inl, inr, arith}
+use Rattle.std.proofs.Common.{◌≡◌, ◌⊎◌, ℕ, ◌<◌, ◌^◌, ◌++◌, ◌==◌, ◌&&◌, not, Bool, true, false, cond, List, [], ◌∷◌, length, take, find, fold, map, if◌then◌else◌, Option, Some, None, option_and_then, append_assoc, refl, sym, ap, subst, ◌∙◌, inl, inr, arith}
 use Rattle.std.specs.Ordering.{nat_cmp}
 use Rattle.std.specs.declared.cmp.Ordering.TheVariants.{Less}
 use Rattle.std.proofs.lemmas.Bool.{and_parts, eq-eqb}
 use Rattle.std.proofs.lemmas.Bool.Decides.{nat_tests}
 use Rattle.std.proofs.lemmas.Cmp.{nat_cmp_total}
 use Rattle.std.proofs.lemmas.List.{take-append-drop}
-use Rattle.wm_base.specs.EndCause.{end_cause_number}
-use Rattle.wm_base.specs.declared.job.EndCause.{EndCause}
 use Rattle.wm_base.specs.declared.job.EndCause.TheVariants as cause
 use Rattle.wm_base.specs.declared.job.StartCause.TheVariants as start
 use Rattle.wm_base.specs.declared.qname.QName.{QName}
@@ -16,12 +14,10 @@ use Rattle.wm_outside.specs.declared.row.RowChange.{RowChange}
 use Rattle.wm_outside.specs.declared.row.RowChange.TheVariants.{Put}
 use Rattle.wm_outside.specs.Rows.{is_before}
 use Rattle.wm_desc.specs.Sorted.{IsSortedOnce}
-use Rattle.wm_desc.specs.Table.{same_qname}
 use Rattle.wm_ordered.specs.Ordered.{key_of}
 use Rattle.wm_law.specs.Laws.{IsIn}
 use Rattle.wm_law.specs.Sound.{IsIncreasing}
 use Rattle.wm_law.specs.declared.job.Job.{Job}
-use Rattle.wm_law.specs.declared.job.Phase.{Phase}
 use Rattle.wm_law.proofs.Members.{found_among, in_left, in_mapped, left_in, of_mapped}
 use Rattle.wm_law.proofs.Named.{one_name}
 use Rattle.wm_law.proofs.Named.{own_name as its_own}
@@ -42,7 +38,7 @@ use Rattle.wm_tables.proofs.Passing.{in_left_part, in_right_part, left_passes, o
 use Rattle.wm_tables.proofs.RowOrder.{IsAscending}
 use Rattle.wm_tables.proofs.SameRows.{found_there, one_list, there_found}
 use Rattle.wm_changes.specs.Changes.{new_job_rows}
-use Rattle.wm_changes.specs.Noted.{cause_value, is_old, is_stored_as, new_jobs, noted, other_row, phase_numbers, same_flag, same_numbers, same_queue, touched_row, with_jobs, with_put, with_row, with_touched}
+use Rattle.wm_changes.specs.Noted.{is_old, is_stored_as, new_jobs, noted, other_row, phase_numbers, same_flag, same_numbers, same_queue, touched_row, with_jobs, with_put, with_row, with_touched}
 use Rattle.wm_changes.proofs.JobRows.{filter_ascending, jobs_ascending, row_of, serial_before}
 use Rattle.wm_changes.proofs.NotedPairs.{Pair, first_noted, first_of, noted_first, noted_sorted, stood, undone_stood}
 

@@ -20,7 +20,6 @@ use Rattle.wm_job_rows.specs.declared.stored.StoredPhase.TheVariants.{Waiting, A
 use Rattle.wm_jobs.specs.Table.{Table}
 use Rattle.wm_jobs.specs.declared.touched.Standing.{Standing}
 use Rattle.wm_jobs.specs.declared.touched.Touched.{Touched}
-use Rattle.wm_tables.specs.Tables.{job_rows, puts}
 
 -- What is stored of two standings
 

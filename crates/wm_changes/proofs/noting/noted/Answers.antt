@@ -1,4 +1,4 @@
-use Rattle.std.proofs.Common.{◌≡◌, List, [], take, sym, ap, ◌∙◌}
+use Rattle.std.proofs.Common.{List, [], take, sym, ap, ◌∙◌}
 use Rattle.std.proofs.lemmas.List.Sums.{fold_more}
 use Rattle.wm_changes.specs.Noted.{with_noted, noted}
 use Rattle.wm_changes.proofs.NotedPairs.{Pair}
