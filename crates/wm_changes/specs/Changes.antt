@@ -42,6 +42,7 @@ abbrev pub number_of : Objects → Command → Option ℕ
 number_of objects (command.Rmvjobqe c) = number_in c.jobq (object_named c.sbsd objects.sbsds)
 number_of objects c = None
 
+-- that of the entry that a call removes so
 abbrev pub removed_number : Objects → Call → Option ℕ
 removed_number objects (Change user c) = number_of objects c
 removed_number objects Hand = None
@@ -71,6 +72,7 @@ is_accepted QueueHeld = true
 is_accepted QueueReleased = true
 is_accepted reply = false
 
+-- what a call changes of these, where its reply accepts it
 abbrev pub call_change : Option ℕ → Call → Reply → Option RowChange
 call_change number (Change user c) reply = if is_accepted reply then command_change number c else None
 call_change number Hand reply = None
@@ -88,6 +90,7 @@ new_job_rows before after = filter (λ row. not (is_found (job_rows before) row)
 
 -- Counters
 
+-- the numbers that come next
 abbrev pub counts_of : State → Counts
 counts_of s = record { next_number = s.next_number; next_place = s.next_place; next_serial = s.next_serial }
 
@@ -95,6 +98,7 @@ counts_of s = record { next_number = s.next_number; next_place = s.next_place; n
 abbrev pub counter_change : Counter → ℕ → ℕ → List RowChange
 counter_change c before after = if before == after then [] else Put (counter_row c after) ∷ []
 
+-- those of the three counters that steps change
 abbrev pub counter_changes : Counts → Counts → List RowChange
 counter_changes before after =
     counter_change counter.Number before.next_number after.next_number

@@ -35,9 +35,11 @@ phase_numbers Waiting = (0, 0)
 phase_numbers Active = (17, 0)
 phase_numbers (Ended cause) = (end_cause_number cause, cause_value cause)
 
+-- whether two of these are one
 abbrev pub same_numbers : ℕ × ℕ → ℕ × ℕ → Bool
 same_numbers a b = a.0 == b.0 && a.1 == b.1
 
+-- whether two flags are one
 abbrev pub same_flag : Bool → Bool → Bool
 same_flag true b = b
 same_flag false b = not b
@@ -90,6 +92,7 @@ abbrev pub with_put : List RowChange → Option Row → List RowChange
 with_put changes None = changes
 with_put changes (Some row) = changes ++ Put row ∷ []
 
+-- the changes, with that of a touched job
 abbrev pub with_touched : Table → List RowChange → ℕ × Standing → List RowChange
 with_touched t changes pair = with_put changes (touched_row t pair)
 
