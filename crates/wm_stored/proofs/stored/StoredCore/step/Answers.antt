@@ -28,15 +28,17 @@ made g c =
       was = kept_of s c.self.invariant.sound c.self.invariant.range;
       is = step_kept_ranges s c.args.caller call c.args.now c.requires.ranges c.get-moment.ensures.range c.self.invariant.sound c.self.invariant.range;
     } in
-    let applied = c.in-Ok.ensures.ok s t last in
-    (applied.0, record {
-      was = c.self.invariant;
-      fit = c.requires.ranges;
-      late = c.get-moment.ensures.range;
-      are = applied.1;
-      applied = applied.2;
-      both = g.met.K.Keeper.trail_with_tables c.keep_step-kept.new.keeper;
-    })
+    let applied = c.in-Ok.ensures.ok s t last in (
+      applied.0,
+      record {
+        was = c.self.invariant;
+        fit = c.requires.ranges;
+        late = c.get-moment.ensures.range;
+        are = applied.1;
+        applied = applied.2;
+        both = g.met.K.Keeper.trail_with_tables c.keep_step-kept.new.keeper;
+      },
+    )
 
 pub invariant_of-self-in-Ok : goal.invariant_of-self-in-Ok
 invariant_of-self-in-Ok g c =
