@@ -9,7 +9,6 @@ use Rattle.wm_law.specs.declared.state.State.{State}
 use Rattle.wm_law.specs.History.{after, stepped}
 use Rattle.wm_tables.specs.Tables.{tables}
 use Rattle.wm_stored.specs.Keeping.{added, Telling, IsOpened}
-use Rattle.wm_journal.specs.History.{History, reached}
 use Rattle.wm_journal.specs.Trail.{tables_along, without_repeats, HasTrail}
 
 -- what is told is as it is

@@ -3,7 +3,7 @@ use Rattle.std.proofs.Common.{◌≡◌, ℤ, List, [], ◌∷◌, ◌++◌, Opt
 use Rattle.std.specs.List.{count_by}
 use Rattle.wm_outside.specs.declared.row.Row.{Row}
 use Rattle.wm_outside.specs.declared.row.RowChange.{RowChange}
-use Rattle.wm_outside.specs.declared.row.RowChange.TheVariants.{Put, Del}
+use Rattle.wm_outside.specs.declared.row.RowChange.TheVariants.{Put}
 use Rattle.wm_outside.specs.Rows.{changed, changed_by, is_before, put, without}
 use Rattle.wm_outside.specs.Told.{Grows, Stays}
 use Rattle.wm_law.specs.Laws.{IsIn}

@@ -1,5 +1,5 @@
 -- What a step keeps.
-use Rattle.std.proofs.Common.{◌≡◌, ◌≤◌, ℕ, List, [], IfSome, is_some, refl, sym, ap, subst, ◌∙◌}
+use Rattle.std.proofs.Common.{◌≡◌, ◌≤◌, ℕ, List, [], is_some, refl, subst}
 use Rattle.wm_outside.specs.declared.row.Row.{Row}
 use Rattle.wm_outside.specs.declared.row.RowChange.{RowChange}
 use Rattle.wm_law.specs.Fit.{IsCall}

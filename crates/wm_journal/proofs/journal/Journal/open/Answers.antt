@@ -1,6 +1,6 @@
 use Rattle.std.proofs.Common.{List, [], refl, sym, subst, arith}
 use Rattle.wm_law.specs.declared.call.Entry.{Entry}
-use Rattle.wm_stored.specs.Keeping.{telling, Telling}
+use Rattle.wm_stored.specs.Keeping.{telling}
 use Rattle.wm_stored.specs.Stored.{Stored}
 use Rattle.wm_journal.specs.Journaled.{IsJournal}
 use Rattle.wm_journal.proofs.Trails.{trail_opened}

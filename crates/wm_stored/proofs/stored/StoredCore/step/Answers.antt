@@ -1,10 +1,10 @@
-use Rattle.std.proofs.Common.{◌≡◌, List, subst, sym, refl, ap, ◌∙◌}
+use Rattle.std.proofs.Common.{List, subst, sym, ap, ◌∙◌}
 use Rattle.wm_outside.specs.declared.row.RowChange.{RowChange}
 use Rattle.wm_desc.specs.declared.objects.Objects.{Objects}
 use Rattle.wm_law.specs.Machine.{step}
 use Rattle.wm_law.specs.declared.state.State.{State}
-use Rattle.wm_changes.specs.Changes.{removed_number, AreStepChanges}
-use Rattle.wm_stored.specs.Keeping.{telling, IsApplied, IsKept}
+use Rattle.wm_changes.specs.Changes.{removed_number}
+use Rattle.wm_stored.specs.Keeping.{telling, IsKept}
 use Rattle.wm_stored.specs.Stored.{Stored, IsInStep}
 use Rattle.wm_stored.specs.Taken.{IsLastStep}
 use Rattle.wm_stored.proofs.Steps.{kept_of, step_kept_ranges, step_kept, step_in_step, IsStoredStep}
