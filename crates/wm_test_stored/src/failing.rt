@@ -55,6 +55,11 @@ fn ask_all(
     Ok(None)
 }
 
+// The lines before one, and that line with those behind it.
+fn split(script: &[String], at: usize) -> (&[String], &[String]) {
+    script.split_at(at.min(script.len()))
+}
+
 fn write_log(alloc: Global, log: &[Entry], left: &mut String) -> Result<()> {
     for entry in log {
         write!(left, "{} {} ", entry.caller, entry.moment)?;
@@ -87,7 +92,8 @@ fn run_until(alloc: Global, script: &[String], fail: u32) -> Result<Run> {
 fn run_on(alloc: Global, script: &[String], fail: u32) -> Result<String> {
     let mut journal = opened(alloc, fail)?;
     if let Some(at) = ask_all(alloc, &mut journal, script)? {
-        let again = ask_all(alloc, &mut journal, &script[at..])?;
+        let (_, behind) = split(script, at);
+        let again = ask_all(alloc, &mut journal, behind)?;
         ensure!(again.is_none(), "the keeper fails again");
     }
     left(alloc, journal)
@@ -108,7 +114,8 @@ fn fails_once(alloc: Global, script: &[String], fail: u32, answer: &mut String) 
     let Some(at) = run.failed else {
         return Ok(false);
     };
-    let before = run_until(alloc, &script[..at], 0)?;
+    let (ahead, _) = split(script, at);
+    let before = run_until(alloc, ahead, 0)?;
     compare(fail, run.left.as_str(), before.left.as_str(), answer)?;
     let (again, whole) = (run_on(alloc, script, fail)?, run_on(alloc, script, 0)?);
     compare(fail, again.as_str(), whole.as_str(), answer)?;
