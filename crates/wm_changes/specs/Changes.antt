@@ -116,12 +116,12 @@ pub record AreKept (s : State) : Type 0 where
   pub stored : (j : Job) → IsIn j s.jobs → IsStored (stored_of j)
 
 -- what is given of a step: its reply, the table of jobs after it that was marked before it, the number of a removed entry, and the counters before and after it
-pub record IsTaken (s : State) (call : Call) (t : Stepped) (reply : Reply) (jobs : Table) (removed : Option ℕ) (before after : Counts) : Type 0 where
-  pub reply : reply ≡ t.reply
-  pub marked : jobs.marked.jobs ≡ s.jobs
-  pub jobs : jobs.jobs ≡ t.state.jobs
-  pub removed : removed ≡ removed_number s.objects call
-  pub before : before ≡ counts_of s
-  pub after : after ≡ counts_of t.state
+pub record IsTaken (s : State) (call : Call) (t : Stepped) (answer : Reply) (table : Table) (number : Option ℕ) (old new : Counts) : Type 0 where
+  pub reply : answer ≡ t.reply
+  pub marked : table.marked.jobs ≡ s.jobs
+  pub jobs : table.jobs ≡ t.state.jobs
+  pub removed : number ≡ removed_number s.objects call
+  pub before : old ≡ counts_of s
+  pub after : new ≡ counts_of t.state
   pub was : AreKept s
   pub is : AreKept t.state

@@ -19,10 +19,10 @@ AreInOrder [] = ⊤
 AreInOrder (change ∷ changes) = ((later : RowChange) → IsIn later changes → is_lt (slice_cmp nat_cmp (change_place change) (change_place later)) ≡ true) × AreInOrder changes
 
 -- a row stands at a place
-pub record HasRowAt (rows : List Row) (place : List ℕ) : Type 0 where
+pub record HasRowAt (rows : List Row) (at : List ℕ) : Type 0 where
   pub row : Row
   pub stands : IsIn row rows
-  pub place : place_of row ≡ place
+  pub place : place_of row ≡ at
 
 -- the changes, in the order of tables and keys, make the second rows of the first; each puts a row that wasn't there, or deletes one that was
 pub record IsDifference (before after : List Row) (changes : List RowChange) : Type 0 where

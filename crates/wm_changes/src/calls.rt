@@ -32,7 +32,7 @@ fn number_of(objects: &Objects, command: &Command) -> Option<u32>
     ensures { result ≡ number_of objects.now command.now }
 {
     match command {
-        Command::Rmvjobqe(c) => number_in(&c.jobq, objects.sbsds.named(&c.sbsd)),
+        Command::Rmvjobqe(c) => number_in(&c.jobq, objects.sbsds.object(&c.sbsd)),
         _ => None,
     }
 }

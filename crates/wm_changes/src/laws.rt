@@ -3,13 +3,11 @@ ghost use Rattle.wm_changes.specs.Laws.{DifferencesAreOne, StepChangesAreDiffere
 
 /// Two tables have one difference: changes in the order of their places that make the second of the first, each of which
 /// says something new, are these and no others.
-#[tactic(auto, using(crate::proofs::OneDifference::differences_are_one))]
 pub fn differences_are_one()
     ensures { DifferencesAreOne }
 {}
 
 /// The changes of a step of a sound state in range are the difference of its tables and those of the state after it.
-#[tactic(auto, using(crate::proofs::Steps::step_changes_are_difference))]
 pub fn step_changes_are_difference()
     ensures { StepChangesAreDifference }
 {}

@@ -3,7 +3,7 @@ use Rattle.std.proofs.Common.{◌≡◌, ◌∙◌, ℕ, zero, suc, ◌<◌, ◌
 use Rattle.std.specs.List.{insert}
 use Rattle.std.specs.Prelude.{Result, Ok, Err, MatchResult}
 use Rattle.std.specs.Ordering.{is_eq, ordering_reverse}
-use Rattle.std.specs.declared.cmp.Ordering.TheVariants.{Less, Greater}
+use Rattle.std.specs.declared.cmp.Ordering.TheVariants.{Less}
 use Rattle.wm_base.specs.declared.qname.QName.{QName}
 use Rattle.wm_desc.specs.Objects.{with_object}
 use Rattle.wm_desc.specs.Sorted.{IsSortedOnce, place_of, removed}
@@ -63,25 +63,27 @@ module _ {V : Type 0} (name : QName) where
   changed_back f d [] s e = refl
   changed_back f d (x ∷ xs) s e =
       ap (λ (y : QName × V). y ∷ changed name (λ _. d) (changed name f xs)) (twice f d (same_qname x.0 name) x refl ∙ is_own d (same_qname x.0 name) x (find (λ (z : QName × V). same_qname z.0 name) xs) e)
-      ∙ ap (λ (l : List (QName × V)). x ∷ l) (tail (same_qname x.0 name) refl e)
+      ∙ ap (λ (l : List (QName × V)). x ∷ l) (tail (same_qname x.0 name) refl e (changed_back f d xs (λ i j g lt within. s (suc i) (suc j) g (omega arith) (omega arith))))
     where
-      tail : (t : Bool) → same_qname x.0 name ≡ t → option_map (λ (z : QName × V). z.1) (cond t (Some x) (find (λ (z : QName × V). same_qname z.0 name) xs)) ≡ Some d → changed name (λ _. d) (changed name f xs) ≡ xs
-      tail true t e =
+      tail : (t : Bool) → same_qname x.0 name ≡ t → option_map (λ (z : QName × V). z.1) (cond t (Some x) (find (λ (z : QName × V). same_qname z.0 name) xs)) ≡ Some d
+          → (object_named name xs ≡ Some d → changed name (λ _. d) (changed name f xs) ≡ xs) → changed name (λ _. d) (changed name f xs) ≡ xs
+      tail true t e rest =
           let ahead : (j : ℕ) (g : QName × V) → j < length xs → qname_cmp name (get_or xs j g).0 ≡ Less =
           λ j g lt. subst (λ (q : QName). qname_cmp q (get_or xs j g).0 ≡ Less) (one_name x.0 name t) (s 0 (suc j) g (omega arith) (omega arith)) in
           ap (changed name (λ _. d)) (behind f xs ahead) ∙ behind (λ _. d) xs ahead
-      tail false t e = changed_back f d xs (λ i j g lt within. s (suc i) (suc j) g (omega arith) (omega arith)) e
+      tail false t e rest = rest e
 
   -- and so is one that wasn't changed
   pub own_back : (d : V) (objects : List (QName × V)) → IsSortedOnce name_of qname_cmp objects → object_named name objects ≡ Some d → changed name (λ _. d) objects ≡ objects
   own_back d [] s e = refl
   own_back d (x ∷ xs) s e =
       ap (λ (y : QName × V). y ∷ changed name (λ _. d) xs) (is_own d (same_qname x.0 name) x (find (λ (z : QName × V). same_qname z.0 name) xs) e)
-      ∙ ap (λ (l : List (QName × V)). x ∷ l) (tail (same_qname x.0 name) refl e)
+      ∙ ap (λ (l : List (QName × V)). x ∷ l) (tail (same_qname x.0 name) refl e (own_back d xs (λ i j g lt within. s (suc i) (suc j) g (omega arith) (omega arith))))
     where
-      tail : (t : Bool) → same_qname x.0 name ≡ t → option_map (λ (z : QName × V). z.1) (cond t (Some x) (find (λ (z : QName × V). same_qname z.0 name) xs)) ≡ Some d → changed name (λ _. d) xs ≡ xs
-      tail true t e = behind (λ _. d) xs (λ j g lt. subst (λ (q : QName). qname_cmp q (get_or xs j g).0 ≡ Less) (one_name x.0 name t) (s 0 (suc j) g (omega arith) (omega arith)))
-      tail false t e = own_back d xs (λ i j g lt within. s (suc i) (suc j) g (omega arith) (omega arith)) e
+      tail : (t : Bool) → same_qname x.0 name ≡ t → option_map (λ (z : QName × V). z.1) (cond t (Some x) (find (λ (z : QName × V). same_qname z.0 name) xs)) ≡ Some d
+          → (object_named name xs ≡ Some d → changed name (λ _. d) xs ≡ xs) → changed name (λ _. d) xs ≡ xs
+      tail true t e rest = behind (λ _. d) xs (λ j g lt. subst (λ (q : QName). qname_cmp q (get_or xs j g).0 ≡ Less) (one_name x.0 name t) (s 0 (suc j) g (omega arith) (omega arith)))
+      tail false t e rest = rest e
 
 -- what a search finds in descriptions
 pub placed : {V : Type 0} (name : QName) (objects : List (QName × V)) (r : Result ℕ ℕ) → MatchResult r (IsAt name_of qname_cmp name objects) (IsGap name_of qname_cmp name objects) → MatchResult r (StandsAt name objects) (λ _. object_named name objects ≡ None)

@@ -1,8 +1,6 @@
 -- A step that is taken back leaves the state before it.
 use Rattle.std.proofs.Common.{◌≡◌, ◌∙◌, ◌==◌, ◌||◌, ℕ, Bool, true, false, cond, List, [], ◌∷◌, fold, find, Option, Some, None, is_some, nat_lt, refl, ap, sym}
 use Rattle.std.specs.Prelude.{Result, Ok, Err}
-use Rattle.std.specs.Cmp.Lexicographic.{pointwise}
-use Rattle.wm_base.specs.Iterate.{IsKept}
 use Rattle.wm_base.proofs.Iterate.{iterate-keeps}
 use Rattle.wm_base.specs.declared.qname.QName.{QName}
 use Rattle.wm_base.specs.declared.refusal.Kind.{Kind}
@@ -36,28 +34,30 @@ use Rattle.wm_law.specs.declared.command.Command.TheVariants as command
 use Rattle.wm_law.specs.declared.command.Sbmjob.{Sbmjob}
 use Rattle.wm_law.specs.declared.job.Job.{Job}
 use Rattle.wm_law.specs.declared.job.Phase.{Phase}
+use Rattle.wm_law.specs.declared.state.Sbs.{Sbs}
 use Rattle.wm_law.specs.declared.state.State.{State}
+use Rattle.wm_jobs.specs.Marked.{Marked}
 use Rattle.wm_law.specs.Autos.{auto_described, autos_of, make_auto}
-use Rattle.wm_law.specs.Changing.{change_due, change_found, change_job, has_queue, stays}
-use Rattle.wm_law.specs.Choice.{is_held, next}
+use Rattle.wm_law.specs.Changing.{change_due, change_found, has_queue, stays}
+use Rattle.wm_law.specs.Choice.{is_held}
 use Rattle.wm_law.specs.Holding.{hold_found, release_found}
-use Rattle.wm_law.specs.Launch.{launch, launch_job, order_of}
+use Rattle.wm_law.specs.Launch.{launch_job, order_of}
 use Rattle.wm_law.specs.Machine.{apply, change, step, with_clock}
 use Rattle.wm_law.specs.Counts.{is_starting}
-use Rattle.wm_law.specs.Making.{class_of, jobd_of, made_objects, made_unless, make_class, make_description, make_job_description, make_program, make_queue}
+use Rattle.wm_law.specs.Making.{class_of, jobd_of, made_unless, make_class, make_description, make_job_description, make_program, make_queue}
 use Rattle.wm_law.specs.Named.{waiting_named}
 use Rattle.wm_law.specs.Objects.{AreSound}
-use Rattle.wm_law.specs.Power.{is_down_now, is_on, power_down}
+use Rattle.wm_law.specs.Power.{is_down_now, is_on}
 use Rattle.wm_law.specs.Queues.{clear_queue, hold_queue, release_queue}
 use Rattle.wm_law.specs.Reports.{done_with, hand_job, hand_order, is_run_by, report_on}
 use Rattle.wm_law.specs.Schedules.{rescheduled, scheduled}
 use Rattle.wm_law.specs.Settling.{leave, settle, waiting}
 use Rattle.wm_law.specs.Stepped.{Stepped}
-use Rattle.wm_law.specs.Submitting.{has_numbers, queue_of, serials_end, submit, submit_due, submit_with}
+use Rattle.wm_law.specs.Submitting.{has_numbers, queue_of, serials_end, submit_due, submit_with}
 use Rattle.wm_law.specs.Subsystems.{begun, start_refusal, start_unless}
 use Rattle.wm_core.specs.declared.mark.Saved.{Saved}
 use Rattle.wm_core.specs.declared.mark.Saved.TheVariants.{Nothing, New, Description, Held}
-use Rattle.wm_core.specs.Marks.{before, described, marks_at, old_held, old_objects, saved_by, saved_object, saved_of, without_object}
+use Rattle.wm_core.specs.Marks.{Marks, before, described, marks_at, old_held, old_objects, saved_by, saved_object, saved_of, without_object}
 use Rattle.wm_core.proofs.PutBack.{added_removed, changed_back, none_changed, none_removed, own_back}
 
 -- with what was kept put back, all that a step doesn't mark otherwise is as it was
@@ -263,3 +263,12 @@ pub step_is_undone : (s : State) (caller : ℕ) (call : Call) (moment : ℕ) →
 step_is_undone s caller call moment sound =
     let h = stepped s caller call moment sound in
     rw (h.objects, h.held, h.stopped, h.evokes, h.offset) refl
+
+pub back_from : (s : State) (caller : ℕ) (call : Call) (moment : ℕ) (m : Marks) (t : State) → AreSound s.objects → m ≡ marks_at s call → t ≡ (step s caller call moment).state → before m t ≡ s
+back_from s caller call moment m t sound marks is = ap (λ (n : Marks). before n t) marks ∙ (ap (before (marks_at s call)) is ∙ step_is_undone s caller call moment sound)
+
+-- what is kept as a call begins
+pub same_marks : (s : State) (call : Call) (saved : Saved) (started : List Sbs) (marked : Marked) → saved ≡ saved_of s.objects s.held call → started ≡ s.started
+    → marked ≡ record { jobs = s.jobs; clock = s.clock; next_serial = s.next_serial; next_place = s.next_place }
+    → record { mark = record { saved = saved; started = started; next_number = s.next_number; power = s.power; undoable = true }; jobs = marked } ≡ marks_at s call
+same_marks s call saved started marked e f g = rw (e, f, g) refl

@@ -1,5 +1,5 @@
 -- What a machine keeps of the state before its last step, and which state that was.
-use Rattle.std.specs.Prelude.{Bool, true, List, Option, Some, None, if◌then◌else◌}
+use Rattle.std.specs.Prelude.{true, List, Option, Some, None, if◌then◌else◌}
 use Rattle.wm_base.specs.declared.qname.QName.{QName}
 use Rattle.wm_base.specs.declared.refusal.Kind.{Kind}
 use Rattle.wm_base.specs.declared.refusal.Kind.TheVariants as kind

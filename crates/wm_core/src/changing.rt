@@ -34,7 +34,7 @@ fn stays(command: &Chgjob, job: &Job) -> bool
 }
 
 impl Machine {
-    ghost use Rattle.std.specs.Prelude.{◌≡◌, OnErr, IfOk};
+    ghost use Rattle.std.specs.Prelude.{◌≡◌, OnOk, OnErr, IfOk};
     ghost use Rattle.wm_law.specs.Changing.{has_queue, change_job};
     ghost use Rattle.wm_law.specs.Fit.{IsJobChange};
     ghost use Rattle.wm_law.specs.Machine.{with_clock};

@@ -38,7 +38,7 @@ impl Model for Machine {
 }
 
 impl Machine {
-    ghost use Rattle.std.specs.Prelude.{◌≡◌, ◌⊎◌, false, OnOk, OnErr, IfOk};
+    ghost use Rattle.std.specs.Prelude.{◌≡◌, false, OnOk, OnErr, IfOk};
     ghost use Rattle.wm_law.specs.Fit.{HasCall, IsCall, IsCommand};
     ghost use Rattle.wm_pick.specs.Parts.{parts_of};
     ghost use Rattle.wm_law.specs.Machine.{change, apply, step, with_clock};
@@ -192,10 +192,17 @@ impl Machine {
         ensures state { OnOk result (self.new.state ≡ (step self.old.state caller call.now now).state) }
         ensures marks { OnOk result (self.new.marks ≡ marks_at self.old.state call.now) }
         ensures err { OnErr result (self.new.state ≡ self.old.state) }
-        ensures err_marks { OnErr result ((self.new.marks ≡ self.old.marks) ⊎ (self.new.marks ≡ marks_at self.old.state call.now)) }
+        ensures no_way_back { OnErr result (self.new.marks.mark.undoable ≡ false) }
     {
-        self.begin(call)?;
-        let reply = self.apply(alloc, caller, call, now)?;
+        self.mark.undoable = false;
+        self.begin(alloc, call)?;
+        let reply = match self.apply(alloc, caller, call, now) {
+            Ok(reply) => reply,
+            Err(fault) => {
+                self.mark.undoable = false;
+                return Err(fault);
+            }
+        };
         self.set_clock(now);
         self.settle();
         Ok(reply)

@@ -60,6 +60,7 @@ impl Core {
         ensures before { OnOk result (self.new.before ≡ self.old.state) }
         ensures undoable { OnOk result (self.new.undoable ≡ true) }
         ensures err { OnErr result (self.new.state ≡ self.old.state) }
+        ensures no_way_back { OnErr result (self.new.undoable ≡ false) }
         ensures limits { OnOk result (IsWithinLimits self.old.state self.new.state) }
         ensures order { OnOk result (IsInOrder self.old.state self.new.state) }
     {

@@ -21,7 +21,7 @@ pub struct Kept {
 }
 
 impl Machine {
-    ghost use Rattle.std.specs.Prelude.{◌≡◌, IfOk};
+    ghost use Rattle.std.specs.Prelude.{◌≡◌, false, IfOk};
     ghost use Rattle.wm_jobs.specs.Stored.{AreStored};
     ghost use Rattle.wm_core.specs.Stored.{kept_state};
 

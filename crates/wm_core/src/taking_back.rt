@@ -6,8 +6,9 @@ ghost use Rattle.wm_core.specs.Marks.{saved_object, saved_description, saved_by,
 
 use crate::Machine;
 use crate::mark::{Mark, Saved};
+use std::alloc::Global;
 use std::cmp::Ordering;
-use std::mem::{replace, replace_with, swap};
+use std::mem::{replace, swap};
 use wm_base::{Kind, NoMemory, QName};
 use wm_desc::{Objects, Sbsd, Sbsds, SortedList, Table};
 use wm_law::{Call, Command, ListOf, QNames};
@@ -34,14 +35,20 @@ fn saved_description(name: &QName, objects: &Objects) -> Result<Saved, NoMemory>
 }
 
 // The held queues.
-fn saved_held(held: &QNames) -> Result<Saved, NoMemory>
+fn saved_held(alloc: Global, held: &QNames) -> Result<Saved, NoMemory>
     ensures { IfOk result (λ saved. saved ≡ Saved.Held held.now) }
 {
-    Ok(Saved::Held(held.clone()?))
+    let queues = held.as_slice().to_vec(alloc)?;
+    Ok(Saved::Held(SortedList::from_vec(queues)))
 }
 
 // What a command may change.
-fn saved_by(objects: &Objects, held: &QNames, command: &Command) -> Result<Saved, NoMemory>
+fn saved_by(
+    alloc: Global,
+    objects: &Objects,
+    held: &QNames,
+    command: &Command,
+) -> Result<Saved, NoMemory>
     ensures { IfOk result (λ saved. saved ≡ saved_by objects.now held.now command.now) }
 {
     match command {
@@ -58,17 +65,17 @@ fn saved_by(objects: &Objects, held: &QNames, command: &Command) -> Result<Saved
         Command::Rmvjobqe(command) => saved_description(&command.sbsd, objects),
         Command::Rmvrtge(command) => saved_description(&command.sbsd, objects),
         Command::Rmvaje(command) => saved_description(&command.sbsd, objects),
-        Command::Hldjobq(_) | Command::Rlsjobq(_) => saved_held(held),
+        Command::Hldjobq(_) | Command::Rlsjobq(_) => saved_held(alloc, held),
         _ => Ok(Saved::Nothing),
     }
 }
 
 // What a call may change.
-fn saved_of(objects: &Objects, held: &QNames, call: &Call) -> Result<Saved, NoMemory>
+fn saved_of(alloc: Global, objects: &Objects, held: &QNames, call: &Call) -> Result<Saved, NoMemory>
     ensures { IfOk result (λ saved. saved ≡ saved_of objects.now held.now call.now) }
 {
     match call {
-        Call::Change { command, .. } => saved_by(objects, held, command.get()),
+        Call::Change { command, .. } => saved_by(alloc, objects, held, command.get()),
         _ => Ok(Saved::Nothing),
     }
 }
@@ -114,14 +121,18 @@ fn redescribed(sbsds: Sbsds, name: &QName, description: Sbsd) -> Sbsds
     ensures { result ≡ changed name.now (λ _. description) sbsds }
 {
     let mut objects = sbsds.into_vec();
-    if let Ok(at) = place(&objects, name) {
-        objects[at].1 = description;
+    match place(&objects, name) {
+        Err(_) => SortedList::from_vec(objects),
+        Ok(at) => {
+            let object = &mut objects[at];
+            object.1 = description;
+            SortedList::from_vec(objects)
+        }
     }
-    SortedList::from_vec(objects)
 }
 
 // What was kept is put back.
-fn put_back(objects: &mut Objects, held: &mut QNames, saved: Saved)
+fn put_back(alloc: Global, objects: &mut Objects, held: &mut QNames, saved: Saved)
     ensures objects { objects.new ≡ old_objects saved objects.old }
     ensures held { held.new ≡ old_held saved held.old }
 {
@@ -129,9 +140,8 @@ fn put_back(objects: &mut Objects, held: &mut QNames, saved: Saved)
         Saved::Nothing => {}
         Saved::New(kind, name) => remove_object(objects, kind, &name),
         Saved::Description(name, description) => {
-            replace_with(&mut objects.sbsds, description, |sbsds, description| {
-                (redescribed(sbsds, &name, description), ())
-            })
+            let sbsds = replace(&mut objects.sbsds, SortedList::new(alloc));
+            objects.sbsds = redescribed(sbsds, &name, description);
         }
         Saved::Held(queues) => *held = queues,
     }
@@ -143,13 +153,13 @@ impl Machine {
 
     /// What the call may change is kept, so that from here on all can be taken back. An `Err` is want of memory and leaves
     /// the machine.
-    pub(crate) fn begin(&mut self, call: &Call) -> Result<(), NoMemory>
+    pub(crate) fn begin(&mut self, alloc: Global, call: &Call) -> Result<(), NoMemory>
         ensures state { OnOk result (self.new.state ≡ self.old.state) }
         ensures marks { OnOk result (self.new.marks ≡ marks_at self.old.state call.now) }
         ensures err { OnErr result (self.new ≡ self.old) }
     {
-        let saved = saved_of(&self.objects, &self.held, call)?;
-        let started = ListOf::from(self.started.items.clone()?);
+        let saved = saved_of(alloc, &self.objects, &self.held, call)?;
+        let started = ListOf::from(self.started.as_slice().to_vec(alloc)?);
         self.table.reserve(0)?;
         self.table.mark();
         self.mark = Mark {
@@ -168,8 +178,9 @@ impl Machine {
         ensures state { self.new.state ≡ before self.old.marks self.old.state }
         ensures undoable { self.new.marks.mark.undoable ≡ false }
     {
+        let alloc = *self.started.items.allocator();
         let saved = replace(&mut self.mark.saved, Saved::Nothing);
-        put_back(&mut self.objects, &mut self.held, saved);
+        put_back(alloc, &mut self.objects, &mut self.held, saved);
         swap(&mut self.started, &mut self.mark.started);
         self.next_number = self.mark.next_number;
         self.power = self.mark.power;

@@ -4,7 +4,6 @@ use Rattle.std.specs.Option.{IfSome, option_copied}
 use Rattle.std.specs.Prelude.{Option}
 use Rattle.wm_law.specs.declared.job.Job.{Job}
 use Rattle.wm_law.specs.declared.launch.Launched.{Launched}
-use Rattle.wm_law.specs.declared.state.State.{State}
 use Rattle.wm_law.specs.Counts.{is_waiting}
 use Rattle.wm_law.specs.Launch.{launched, launched_at, launch_job}
 use Rattle.wm_law.specs.Laws.{IsIn}

@@ -1,7 +1,6 @@
 use Rattle.std.proofs.Common.{◌≡◌, ◌∙◌, List, Option, None, ap, sym, fold}
 use Rattle.wm_base.specs.declared.refusal.Refusal.{Refusal}
 use Rattle.wm_desc.specs.declared.entry.AutoEntry.{AutoEntry}
-use Rattle.wm_law.specs.declared.state.State.{State}
 use Rattle.wm_law.specs.Autos.{autos_of}
 use Rattle.wm_law.specs.Machine.{with_clock}
 use Rattle.wm_law.specs.Subsystems.{begun, start_refusal, start_unless}

@@ -1,4 +1,4 @@
-use Rattle.std.proofs.Common.{true, false, sym, ◌∙◌}
+use Rattle.std.proofs.Common.{sym, ◌∙◌}
 use mathlib.Core.Bool.{true≢false}
 use Rattle.wm_law.proofs.Sound.{opening_is_sound}
 use Rattle.wm_core.proofs.sound.Core.opening.Goals as goal

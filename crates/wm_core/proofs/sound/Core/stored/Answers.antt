@@ -1,4 +1,4 @@
-use Rattle.std.proofs.Common.{true, false, sym, ◌∙◌}
+use Rattle.std.proofs.Common.{sym, ◌∙◌}
 use mathlib.Core.Bool.{true≢false}
 use Rattle.wm_core.specs.Stored.{kept_state}
 use Rattle.wm_core.proofs.FromStore.{sound-stored}

@@ -1,0 +1,12 @@
+pub mod After
+pub mod Differs
+pub mod OneDifference
+pub mod OneMore
+pub mod Descriptions
+pub mod Left
+pub mod Commands
+pub mod JobRows
+pub mod CounterRows
+pub mod Steps
+pub mod NotedPairs
+pub mod TouchedRows

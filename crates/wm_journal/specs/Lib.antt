@@ -1,0 +1,5 @@
+pub mod Fault
+pub mod History
+pub mod Journaled
+pub mod Limit
+pub mod Trail

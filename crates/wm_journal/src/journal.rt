@@ -1,0 +1,170 @@
+// The machine with its history and its keeper.
+ghost use Rattle.std.specs.Prelude.{◌≡◌, ◌<◌, ◌≤◌, ℕ, [], length, Err, IfOk, IfErr, OnOk, OnErr};
+ghost use Rattle.std.specs.Option.{option_copied};
+ghost use Rattle.wm_law.specs.Fit.{HasCall, IsCall};
+ghost use Rattle.wm_law.specs.History.{IsLegal};
+ghost use Rattle.wm_law.specs.Pending.{pending};
+ghost use Rattle.wm_stored.specs.Fault.{IsCounted, NamesBad};
+ghost use Rattle.wm_stored.specs.Keeping.{telling, IsKept, IsLeft, IsOpened};
+ghost use Rattle.wm_stored.specs.Stored.{HasTables};
+ghost use Rattle.wm_journal.specs.Fault.{HasCallCause};
+ghost use Rattle.wm_journal.specs.History.{last_of, last_order, reached, with_call};
+ghost use Rattle.wm_journal.specs.Limit.{limit_of};
+ghost use Rattle.wm_journal.specs.Trail.{HasTrail};
+
+use crate::CallFault;
+use crate::limit::limit_of;
+use std::alloc::Global;
+use std::marker::Model;
+use std::snapshot::Snapshot;
+use wm_base::{Asked, Moment};
+use wm_core::Setup;
+use wm_law::{Call, Entry, Pending};
+use wm_outside::Keeper;
+use wm_stored::{OpenFault, StoredCore};
+
+/// The machine, its history, and the keeper of its rows. A contract sees the history, the limit of users' commands, and the
+/// keeper as it was found and as it is. What the machine was opened with, and the keeper that was found, are kept for
+/// contracts alone, and take no room.
+#[derive(Drop)]
+pub struct Journal<K: Keeper> {
+    found: Snapshot<K>,
+    opened: Snapshot<StoredCore<K>>,
+    stored: StoredCore<K>,
+    log: Vec<Entry>,
+    limit: u32,
+}
+
+/// What is left of a journal: the entries, which are legal from the state that it was opened with, and the keeper, which has
+/// the rows of the last state.
+#[derive(Drop)]
+pub struct Closed<K> {
+    pub log: Vec<Entry>,
+    pub keeper: K,
+}
+
+impl<K: Keeper> Model for Journal<K> {
+    ghost use Rattle.wm_stored.specs.Keeping.{telling};
+    ghost use Rattle.wm_journal.specs.Journaled.{Journaled, IsJournal};
+
+    ghost Value = { Journaled K };
+
+    ghost view = { λ j. record { history = record { opened = j.opened.value.state; log = j.log.items }; limit = j.limit; found = j.found.value; keeper = j.stored.keeper } };
+
+    ghost invariant = { λ j. IsJournal (record { opened = j.opened.value.state; log = j.log.items }) j.limit j.stored.state (telling K.tables K.trail j.found.value) (telling K.tables K.trail j.stored.keeper) };
+}
+
+impl<K: Keeper> Journal<K> {
+    /// The machine of the rows that a keeper has, with no history. It takes users' commands while there are fewer entries than
+    /// the limit. An `Err` hands the keeper back, with its rows as they were.
+    pub fn open(
+        alloc: Global,
+        keeper: K,
+        setup: &Setup,
+        limit: u32,
+    ) -> Result<Journal<K>, (K, OpenFault)>
+        requires some { 1 ≤ limit }
+        requires most { limit ≤ 1000000 }
+        ensures ok { IfOk result (λ journal. IsOpened setup.now.offset journal.history.opened (telling K.tables K.trail keeper) (telling K.tables K.trail journal.keeper)) }
+        ensures ok_faults { IfOk result (λ journal. K.faults journal.keeper ≡ K.faults keeper) }
+        ensures log { IfOk result (λ journal. journal.history.log ≡ []) }
+        ensures limit { IfOk result (λ journal. journal.limit ≡ limit) }
+        ensures found { IfOk result (λ journal. journal.found ≡ keeper) }
+        ensures err { IfErr result (λ back. IsLeft (telling K.tables K.trail keeper) (telling K.tables K.trail back.0)) }
+        ensures bad { IfErr result (λ back. NamesBad setup.now.offset (K.tables keeper) back.1) }
+        ensures faults { IfErr result (λ back. IsCounted (K.faults keeper) (K.faults back.0) back.1) }
+    {
+        let found = Snapshot::of(&keeper);
+        match StoredCore::open(alloc, keeper, setup) {
+            Ok(stored) => Ok(Journal {
+                found,
+                opened: Snapshot::of(&stored),
+                stored,
+                log: Vec::new(alloc),
+                limit,
+            }),
+            Err(back) => Err(back),
+        }
+    }
+
+    /// Makes one call of a caller, whose rows are kept before its entry is the last of the history. An `Err` leaves the
+    /// history, the state and the rows.
+    pub fn call(
+        &mut self,
+        alloc: Global,
+        caller: u32,
+        call: Call,
+        now: Moment,
+    ) -> Result<(), CallFault>
+        requires fit { IsCall call }
+        requires built { HasCall (reached self.old.history) call }
+        ensures ok { OnOk result (self.new.history ≡ with_call self.old.history caller call now) }
+        ensures kept { OnOk result (IsKept (reached self.old.history) (reached self.new.history) (telling K.tables K.trail self.old.keeper) (telling K.tables K.trail self.new.keeper)) }
+        ensures err { OnErr result (self.new.history ≡ self.old.history) }
+        ensures left { OnErr result (IsLeft (telling K.tables K.trail self.old.keeper) (telling K.tables K.trail self.new.keeper)) }
+        ensures limit { self.new.limit ≡ self.old.limit }
+        ensures found { self.new.found ≡ self.old.found }
+        ensures full { limit_of call self.old.limit ≤ length self.old.history.log → result ≡ Err (CallFault.LogFull (limit_of call self.old.limit)) }
+        ensures not_full { length self.old.history.log < limit_of call self.old.limit → (n : ℕ) → result ≡ Err (CallFault.LogFull n) → ⊥ }
+        ensures cause { HasCallCause (K.faults self.old.keeper) (K.faults self.new.keeper) result }
+    {
+        let limit = limit_of(&call, self.limit);
+        if self.log.len() >= limit as usize {
+            return Err(CallFault::LogFull(limit));
+        }
+        self.log.reserve(1)?;
+        // The range of the moment is what `legal` needs of the entry.
+        let _moment = now.get();
+        let reply = self.stored.step(alloc, caller, &call, now)?;
+        self.log.push_reserved(Entry {
+            caller,
+            call,
+            moment: now,
+            reply,
+        });
+        Ok(())
+    }
+
+    /// The last entry.
+    pub fn last(&self) -> Option<&Entry>
+        ensures { option_copied result ≡ last_of self.now.history }
+    {
+        self.log.last()
+    }
+
+    /// What the last entry orders.
+    pub fn order(&self) -> Option<&Asked>
+        ensures { option_copied result ≡ last_order self.now.history }
+    {
+        self.last()?.reply.order()
+    }
+
+    /// How many entries there are.
+    pub fn len(&self) -> usize
+        ensures len { result ≡ length self.now.history.log }
+        ensures most { length self.now.history.log ≤ 4000000 }
+    {
+        self.log.len()
+    }
+
+    /// What waits for a monitor. It takes no memory.
+    pub fn pending(&self) -> Pending
+        ensures { result ≡ pending (reached self.now.history) }
+    {
+        self.stored.pending()
+    }
+
+    /// The entries and the keeper.
+    pub fn close(self) -> Closed<K>
+        ensures log { result.log.items ≡ self.history.log }
+        ensures keeper { result.keeper ≡ self.keeper }
+        ensures legal { IsLegal self.history.opened self.history.log }
+        ensures tables { HasTables (reached self.history) (K.tables result.keeper) }
+        ensures trail { HasTrail self.history (telling K.tables K.trail self.found) (telling K.tables K.trail result.keeper) }
+    {
+        Closed {
+            log: self.log,
+            keeper: self.stored.close(),
+        }
+    }
+}

@@ -1,0 +1,64 @@
+use Rattle.std.proofs.Common.{◌≡◌, List, subst, sym, refl, ap, ◌∙◌}
+use Rattle.wm_outside.specs.declared.row.RowChange.{RowChange}
+use Rattle.wm_desc.specs.declared.objects.Objects.{Objects}
+use Rattle.wm_law.specs.Machine.{step}
+use Rattle.wm_law.specs.declared.state.State.{State}
+use Rattle.wm_changes.specs.Changes.{removed_number, AreStepChanges}
+use Rattle.wm_stored.specs.Keeping.{telling, IsApplied, IsKept}
+use Rattle.wm_stored.specs.Stored.{Stored, IsInStep}
+use Rattle.wm_stored.specs.Taken.{IsLastStep}
+use Rattle.wm_stored.proofs.Steps.{kept_of, step_kept_ranges, step_kept, step_in_step, IsStoredStep}
+use Rattle.wm_stored.proofs.stored.StoredCore.step.Goals as goal
+
+pub invariant_of-self-in-Ok : goal.invariant_of-self-in-Ok
+invariant_of-self-in-Ok g c =
+    let s = c.self.inside.core.state in
+    let call = c.args.call.now in
+    let t = step s c.args.caller call c.args.now in
+    let T = telling g.K.Keeper.tables g.K.Keeper.trail in
+    let last : IsLastStep s call t c.step.new.self c.in_ok-reply.reply c.removed_number-removed.result c.counts-before.result = record {
+      reply = c.in_ok-reply.ensures.reply;
+      before = c.in_ok-reply.ensures.before;
+      state = c.in_ok-reply.ensures.state;
+      removed = c.removed_number-removed.ensures ∙ ap (λ (o : Objects). removed_number o call) c.objects.ensures;
+      counts = c.counts-before.ensures;
+      was = kept_of s c.self.invariant.sound c.self.invariant.range;
+      is = step_kept_ranges s c.args.caller call c.args.now c.requires.ranges c.get-moment.ensures.range c.self.invariant.sound c.self.invariant.range;
+    } in
+    let made = c.in-Ok.ensures.ok s t last in
+    let stored : IsStoredStep s c.args.caller call c.args.now made.0 (T c.self.inside.keeper) (T c.keep_step-kept.new.keeper) = record {
+      was = c.self.invariant;
+      fit = c.requires.ranges;
+      late = c.get-moment.ensures.range;
+      are = made.1;
+      applied = made.2;
+      both = g.met.K.Keeper.trail_with_tables c.keep_step-kept.new.keeper;
+    } in
+    subst (λ (u : State). IsInStep u (g.K.Keeper.tables c.keep_step-kept.new.keeper)) (sym c.in_ok-reply.ensures.state) (step_in_step s c.args.caller call c.args.now made.0 (T c.self.inside.keeper) (T c.keep_step-kept.new.keeper) stored)
+
+pub returns-in-Ok-clause-kept : goal.returns-in-Ok-clause-kept
+returns-in-Ok-clause-kept g c =
+    let s = c.self.inside.core.state in
+    let call = c.args.call.now in
+    let t = step s c.args.caller call c.args.now in
+    let T = telling g.K.Keeper.tables g.K.Keeper.trail in
+    let last : IsLastStep s call t c.step.new.self c.in_ok-reply.reply c.removed_number-removed.result c.counts-before.result = record {
+      reply = c.in_ok-reply.ensures.reply;
+      before = c.in_ok-reply.ensures.before;
+      state = c.in_ok-reply.ensures.state;
+      removed = c.removed_number-removed.ensures ∙ ap (λ (o : Objects). removed_number o call) c.objects.ensures;
+      counts = c.counts-before.ensures;
+      was = kept_of s c.self.invariant.sound c.self.invariant.range;
+      is = step_kept_ranges s c.args.caller call c.args.now c.requires.ranges c.get-moment.ensures.range c.self.invariant.sound c.self.invariant.range;
+    } in
+    let made = c.in-Ok.ensures.ok s t last in
+    let stored : IsStoredStep s c.args.caller call c.args.now made.0 (T c.self.inside.keeper) (T c.keep_step-kept.new.keeper) = record {
+      was = c.self.invariant;
+      fit = c.requires.ranges;
+      late = c.get-moment.ensures.range;
+      are = made.1;
+      applied = made.2;
+      both = g.met.K.Keeper.trail_with_tables c.keep_step-kept.new.keeper;
+    } in
+    let kept = subst (λ (u : State). IsKept s u (T c.self.inside.keeper) (T c.keep_step-kept.new.keeper)) (sym c.in_ok-reply.ensures.state) (step_kept s c.args.caller call c.args.now made.0 (T c.self.inside.keeper) (T c.keep_step-kept.new.keeper) stored) in
+    subst (λ (now : Stored _). IsKept now.state c.step.new.self.state (T now.keeper) (T c.keep_step-kept.new.keeper)) c.self.view_is kept

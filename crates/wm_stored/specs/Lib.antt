@@ -1,0 +1,4 @@
+pub mod Fault
+pub mod Keeping
+pub mod Stored
+pub mod Taken
