@@ -25,13 +25,13 @@ rows() {
 > row 3|QGPL/QBATCH|CRTJOBQ JOBQ(QGPL/QBATCH)
 > row 5|QGPL/QBATCH|CRTSBSD SBSD(QGPL/QBATCH) MAXJOBS(*NOMAX)
 ROWS
-  awk -v count="$1" 'BEGIN {
+  awk -v count="$1" -v q="'" 'BEGIN {
     for (n = 1; n <= count; n++) {
       printf "> row 11|%020d|JOB SERIAL(%d) NUMBER(%d) USER(QUSER) NAME(J%06d) TYPE(BCH) JOBQ(QGPL/QBATCH) JOBPTY(5) PLACE(%d) ", n, n, n, n, n
       printf "RTGDTA(%sQCMDB%s) RQSDTA(%sCALL PGM(QGPL/ECHO)%s) HOLD(*YES) DUE(1000) PHASE(WAITING)\n", q, q, q, q
     }
     printf "> row 12|NUMBER|%d\n> row 12|PLACE|%d\n> row 12|SCHEMA|1\n> row 12|SERIAL|%d\n> keeper\n", n, n, n
-  }' q="'"
+  }'
 }
 
 # lines COUNT: 100,000 lines with their answers, which release and hold so many jobs by turns
