@@ -10,3 +10,5 @@ pub mod CounterRows
 pub mod Steps
 pub mod NotedPairs
 pub mod TouchedRows
+pub mod Leaving
+pub mod Taking

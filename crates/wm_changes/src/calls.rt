@@ -1,6 +1,6 @@
 // What a call changes of objects, entries and held queues.
 ghost use Rattle.std.specs.Prelude.{◌≡◌, IfOk, Some, option_map};
-ghost use Rattle.std.specs.Option.{option_copied};
+ghost use Rattle.wm_desc.specs.Table.{object_named};
 ghost use Rattle.wm_outside.specs.declared.row.RowChange.TheVariants.{Put};
 ghost use Rattle.wm_rows.specs.Places.{numbered_place};
 ghost use Rattle.wm_rows.specs.Rows.{command_row, held_row};
@@ -8,7 +8,7 @@ ghost use Rattle.wm_changes.specs.Changes.{number_in, number_of, removed_number,
 
 use std::alloc::Global;
 use wm_base::{NoMemory, QName};
-use wm_desc::{Objects, Sbsd};
+use wm_desc::Objects;
 use wm_law::{Call, Command, Reply};
 use wm_outside::RowChange;
 use wm_rows::{
@@ -16,10 +16,10 @@ use wm_rows::{
     object_place,
 };
 
-fn number_in(jobq: &QName, description: Option<&Sbsd>) -> Option<u32>
-    ensures { result ≡ number_in jobq.now (option_copied description) }
+fn number_in(objects: &Objects, sbsd: &QName, jobq: &QName) -> Option<u32>
+    ensures { result ≡ number_in jobq.now (object_named sbsd.now objects.now.sbsds) }
 {
-    match description {
+    match objects.sbsds.object(sbsd) {
         None => None,
         Some(description) => match description.queues.for_queue(jobq) {
             None => None,
@@ -32,7 +32,7 @@ fn number_of(objects: &Objects, command: &Command) -> Option<u32>
     ensures { result ≡ number_of objects.now command.now }
 {
     match command {
-        Command::Rmvjobqe(c) => number_in(&c.jobq, objects.sbsds.object(&c.sbsd)),
+        Command::Rmvjobqe(c) => number_in(objects, &c.sbsd, &c.jobq),
         _ => None,
     }
 }

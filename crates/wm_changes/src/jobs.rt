@@ -1,6 +1,8 @@
 // Which rows of jobs a step changes.
-ghost use Rattle.std.specs.Prelude.{◌≡◌, ◌≤◌, ◌∷◌, length, drop, fold, take, IfOk, OnOk, option_and_then};
+ghost use Rattle.std.specs.Prelude.{◌≡◌, ◌≤◌, ◌∷◌, length, drop, fold, nat_eq, take, IfOk, OnOk};
+ghost use Rattle.wm_desc.specs.Sorted.{removed};
 ghost use Rattle.wm_jobs.specs.Marked.{undone};
+ghost use Rattle.wm_ordered.specs.Ordered.{key_of};
 ghost use Rattle.wm_changes.specs.Noted.{new_jobs, is_old, other_row, touched_row, with_put, with_touched, with_row, with_jobs};
 
 use crate::noting::{is_stored_as, noted};
@@ -78,6 +80,12 @@ fn put_touched(
     Ok(())
 }
 
+fn take_out(noted: &mut Ordered<Serial, Standing>, serial: Serial)
+    ensures { noted.new.items ≡ removed key_of nat_eq serial noted.old.items }
+{
+    noted.remove(&serial);
+}
+
 // Puts the rows of touched jobs, in the order of their serials.
 fn put_noted(
     alloc: Global,
@@ -88,9 +96,9 @@ fn put_noted(
     ensures { OnOk result (changes.new.items ≡ fold (with_touched jobs.now) changes.old.items noted.items) }
 {
     for _ in 0..noted.len() {
-        if let Some((serial, was)) = noted.first() {
-            noted.remove(&serial);
-            put_touched(alloc, jobs, serial, &was, changes)?;
+        if let Some(first) = noted.first() {
+            take_out(&mut noted, first.0);
+            put_touched(alloc, jobs, first.0, &first.1, changes)?;
         }
     }
     Ok(())

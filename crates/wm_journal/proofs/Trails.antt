@@ -1,5 +1,5 @@
 -- How a trail grows with a history.
-use Rattle.std.proofs.Common.{◌≡◌, List, [], ◌∷◌, ◌++◌, Option, Some, None, IfSome, append_assoc, refl, sym, ap, subst, ◌∙◌}
+use Rattle.std.proofs.Common.{◌≡◌, ℤ, List, [], ◌∷◌, ◌++◌, Option, Some, None, IfSome, append_assoc, refl, sym, ap, subst, ◌∙◌}
 use Rattle.std.proofs.lemmas.List.{append-nil}
 use Rattle.wm_outside.specs.declared.row.Row.{Row}
 use Rattle.wm_outside.specs.Told.{Grows, Stays}
@@ -8,7 +8,7 @@ use Rattle.wm_law.specs.declared.call.Entry.{Entry}
 use Rattle.wm_law.specs.declared.state.State.{State}
 use Rattle.wm_law.specs.History.{after, stepped}
 use Rattle.wm_tables.specs.Tables.{tables}
-use Rattle.wm_stored.specs.Keeping.{added, Telling}
+use Rattle.wm_stored.specs.Keeping.{added, Telling, IsOpened}
 use Rattle.wm_journal.specs.History.{History, reached}
 use Rattle.wm_journal.specs.Trail.{tables_along, without_repeats, HasTrail}
 
@@ -20,6 +20,16 @@ stays (Some now) = refl
 -- a history of no entry has the tables of its state
 pub none_along : (rows : List Row) (s : State) → without_repeats rows (tables_along s []) ≡ added rows (tables s)
 none_along rows s = append-nil (added rows (tables s))
+
+-- a journal opens with the trail of its state
+pub trail_opened : (offset : ℤ) (s : State) (old new : Telling) → IsOpened offset s old new → HasTrail (record { opened = s; log = [] }) old new
+trail_opened offset s old new h = by old.tables h.told
+  where
+    by : (told : Option (List Row)) → IfSome told (λ rows. rows ≡ h.found) → IfSome told (λ rows. Grows old.trail new.trail (without_repeats rows (tables_along s [])))
+    by None is = tt
+    by (Some rows) is =
+        let same : added h.found (tables s) ≡ without_repeats rows (tables_along s []) = ap (λ (found : List Row). added found (tables s)) (sym is) ∙ sym (none_along rows s) in
+        subst (λ (xs : List (List Row)). Grows old.trail new.trail xs) same h.trail
 
 -- one more entry adds the tables after it to those before it
 pub one_more : (rows : List Row) (s : State) (log : List Entry) (e : Entry) → without_repeats rows (tables_along s (log ++ e ∷ [])) ≡ without_repeats rows (tables_along s log) ++ added (tables (after s log)) (tables (after s (log ++ e ∷ [])))

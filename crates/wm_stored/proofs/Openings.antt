@@ -66,10 +66,9 @@ loaded_rows rows old None were h = tt
 loaded_rows rows None (Some then) were h = absurd h
 loaded_rows rows (Some was) (Some then) were h = h ∙ sym were
 
--- what holds of rows, holds of those told
-of_told : (P : List Row → Type 0) (rows : List Row) (told : Option (List Row)) → IfSome told (λ were. rows ≡ were) → P rows → IfSome told P
-of_told P rows None were p = tt
-of_told P rows (Some was) were p = subst P were p
+told_rows : (rows : List Row) (told : Option (List Row)) → IfSome told (λ were. rows ≡ were) → IfSome told (λ were. were ≡ rows)
+told_rows rows None h = tt
+told_rows rows (Some was) h = sym h
 
 module _ (offset : ℤ) (s : State) (rows : List Row) (changes : List RowChange) (old loaded new : Telling) (h : IsMade offset s rows changes old loaded new) (both : is_some new.trail ≡ is_some new.tables) where
   moves : IsMoved rows (tables s) loaded new
@@ -77,9 +76,11 @@ module _ (offset : ℤ) (s : State) (rows : List Row) (changes : List RowChange)
 
   pub opened : IsOpened offset s old new
   opened = record {
-    restart = of_told (λ (told : List Row). IsRestart offset told s) rows old.tables h.were h.restart;
+    found = rows;
+    told = told_rows rows old.tables h.were;
+    restart = h.restart;
     rows = moves.rows;
-    trail = of_told (λ (told : List Row). Grows old.trail new.trail (added told (tables s))) rows old.tables h.were (grown_left old.trail loaded.trail new.trail (added rows (tables s)) h.trail moves.trail);
+    trail = grown_left old.trail loaded.trail new.trail (added rows (tables s)) h.trail moves.trail;
   }
 
   pub opened_in_step : IsInStep s new.tables

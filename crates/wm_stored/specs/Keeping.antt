@@ -42,8 +42,10 @@ pub record IsKept (s t : State) (old new : Telling) : Type 0 where
   pub rows : HasTables t new.tables
   pub trail : Grows old.trail new.trail (added (tables s) (tables t))
 
--- a run opened with the rows that were told; the tables are those of its state, and the trail has them behind the rows, unless they are the same
+-- a run opened with rows, which are those that were told; the tables are those of its state, and the trail has them behind the rows, unless they are the same
 pub record IsOpened (offset : ℤ) (s : State) (old new : Telling) : Type 0 where
-  pub restart : IfSome old.tables (λ rows. IsRestart offset rows s)
+  pub found : List Row
+  pub told : IfSome old.tables (λ rows. rows ≡ found)
+  pub restart : IsRestart offset found s
   pub rows : HasTables s new.tables
-  pub trail : IfSome old.tables (λ rows. Grows old.trail new.trail (added rows (tables s)))
+  pub trail : Grows old.trail new.trail (added found (tables s))

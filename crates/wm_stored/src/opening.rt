@@ -17,8 +17,8 @@ pub(crate) fn open_core<K: Keeper>(
     keeper: &mut K,
     setup: &Setup,
 ) -> Result<Core, OpenFault>
-    ensures ok { IfOk result (λ core. IsOpened setup.now.offset core.state (telling K.tables K.trail keeper.old) (telling K.tables K.trail keeper.new)) }
-    ensures in_step { IfOk result (λ core. IsInStep core.state (K.tables keeper.new)) }
+    ensures ok { IfOk result (λ core. IsOpened setup.now.offset core.state (telling K.tables K.trail keeper.old) (telling K.tables K.trail keeper.new)
+        × IsInStep core.state (K.tables keeper.new)) }
     ensures err { OnErr result (IsLeft (telling K.tables K.trail keeper.old) (telling K.tables K.trail keeper.new)) }
     ensures bad { IfErr result (λ fault. NamesBad setup.now.offset (K.tables keeper.old) fault) }
     ensures ok_faults { OnOk result (K.faults keeper.new ≡ K.faults keeper.old) }
@@ -26,6 +26,11 @@ pub(crate) fn open_core<K: Keeper>(
 {
     let rows = keeper.load()?;
     let opened = open_rows(alloc, &rows, setup)?;
-    apply(keeper, &opened.changes)?;
-    Ok(opened.core)
+    match apply(keeper, &opened.changes) {
+        Ok(()) => Ok(opened.core),
+        Err(fault) => {
+            drop(opened);
+            Err(OpenFault::from(fault))
+        }
+    }
 }

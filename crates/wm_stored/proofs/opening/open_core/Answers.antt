@@ -8,36 +8,21 @@ use Rattle.wm_stored.specs.Keeping.{telling}
 use Rattle.wm_stored.proofs.Openings.{opened, opened_in_step, IsMade}
 use Rattle.wm_stored.proofs.opening.open_core.Goals as goal
 
-pub returns-clause-ok : goal.returns-clause-ok
-returns-clause-ok g c =
+pub returns-in-Ok-clause-ok : goal.returns-in-Ok-clause-ok
+returns-in-Ok-clause-ok g c =
+    let offset = c.args.setup.now.offset in
+    let s = c.in_ok-opened.opened.core.state in
     let rows = c.deref.result.now in
     let changes = c.deref-2.result.now in
-    let s = c.in_ok-opened.opened.core.state in
     let T = telling g.K.Keeper.tables g.K.Keeper.trail in
-    let made : IsMade c.args.setup.now.offset s rows changes (T c.args.keeper.now) (T c.load.new.self) (T c.apply.new.keeper) = record {
+    let made : IsMade offset s rows changes (T c.args.keeper.now) (T c.load.new.self) (T c.apply.new.keeper) = record {
       restart = c.in_ok-opened.ensures.ok;
       makes = subst (λ (cs : List RowChange). changed cs rows ≡ tables s) (sym c.deref-2.ensures.value) c.in_ok-opened.ensures.changes;
       puts = subst (λ (cs : List RowChange). PutsNew rows cs) (sym c.deref-2.ensures.value) c.in_ok-opened.ensures.new;
       were = subst (λ (rs : List Row). IfSome (g.K.Keeper.tables c.args.keeper.now) (λ told. rs ≡ told)) (sym c.deref.ensures.value) c.in_ok-rows.ensures.rows;
       tables = c.in_ok-rows.ensures.tables;
       trail = c.in_ok-rows.ensures.trail;
-      applied = c.in_ok-apply.ensures.ok;
+      applied = c.in-Ok.ensures.ok;
     } in
-    opened c.args.setup.now.offset s rows changes (T c.args.keeper.now) (T c.load.new.self) (T c.apply.new.keeper) made (g.met.K.Keeper.trail_with_tables c.apply.new.keeper)
-
-pub returns-clause-in_step : goal.returns-clause-in_step
-returns-clause-in_step g c =
-    let rows = c.deref.result.now in
-    let changes = c.deref-2.result.now in
-    let s = c.in_ok-opened.opened.core.state in
-    let T = telling g.K.Keeper.tables g.K.Keeper.trail in
-    let made : IsMade c.args.setup.now.offset s rows changes (T c.args.keeper.now) (T c.load.new.self) (T c.apply.new.keeper) = record {
-      restart = c.in_ok-opened.ensures.ok;
-      makes = subst (λ (cs : List RowChange). changed cs rows ≡ tables s) (sym c.deref-2.ensures.value) c.in_ok-opened.ensures.changes;
-      puts = subst (λ (cs : List RowChange). PutsNew rows cs) (sym c.deref-2.ensures.value) c.in_ok-opened.ensures.new;
-      were = subst (λ (rs : List Row). IfSome (g.K.Keeper.tables c.args.keeper.now) (λ told. rs ≡ told)) (sym c.deref.ensures.value) c.in_ok-rows.ensures.rows;
-      tables = c.in_ok-rows.ensures.tables;
-      trail = c.in_ok-rows.ensures.trail;
-      applied = c.in_ok-apply.ensures.ok;
-    } in
-    opened_in_step c.args.setup.now.offset s rows changes (T c.args.keeper.now) (T c.load.new.self) (T c.apply.new.keeper) made (g.met.K.Keeper.trail_with_tables c.apply.new.keeper)
+    let both = g.met.K.Keeper.trail_with_tables c.apply.new.keeper in
+    (opened offset s rows changes (T c.args.keeper.now) (T c.load.new.self) (T c.apply.new.keeper) made both, opened_in_step offset s rows changes (T c.args.keeper.now) (T c.load.new.self) (T c.apply.new.keeper) made both)

@@ -1,4 +1,4 @@
-use Rattle.std.proofs.Common.{List, [], ◌∷◌, ◌++◌, sym, subst, ap, ◌∙◌, arith}
+use Rattle.std.proofs.Common.{◌≡◌, List, [], ◌∷◌, ◌++◌, sym, subst, ap, ◌∙◌, arith}
 use Rattle.wm_law.specs.declared.call.Entry.{Entry}
 use Rattle.wm_law.specs.Fit.{HasCall}
 use Rattle.wm_stored.specs.Keeping.{telling, IsKept}
@@ -28,7 +28,7 @@ invariant_of-self-2 g c =
       state = c.in_ok-reply.ensures.state;
       kept = c.in_ok-reply.ensures.kept;
     } in
-    let pushed = c.push_reserved.ensures.items ∙ ap (λ (es : List Entry). es ++ e ∷ []) c.reserve.ensures.items in
+    let pushed : c.push_reserved.new.self.items ≡ j.log.items ++ e ∷ [] = c.push_reserved.ensures.items ∙ ap (λ (es : List Entry). es ++ e ∷ []) c.reserve.ensures.items in
     subst (λ (es : List Entry). IsJournal (record { opened = h.opened; log = es }) j.limit c.step.new.self.state (T j.found.value) (T c.step.new.self.keeper)) (sym pushed) (journal_with h j.limit j.stored.state c.step.new.self.state c.args.caller c.args.call c.args.now c.in_ok-reply.reply (T j.found.value) (T j.stored.keeper) (T c.step.new.self.keeper) k)
 
 pub returns-clause-kept : goal.returns-clause-kept
@@ -48,7 +48,7 @@ returns-clause-kept g c =
       state = c.in_ok-reply.ensures.state;
       kept = c.in_ok-reply.ensures.kept;
     } in
-    let pushed = c.push_reserved.ensures.items ∙ ap (λ (es : List Entry). es ++ e ∷ []) c.reserve.ensures.items in
+    let pushed : c.push_reserved.new.self.items ≡ j.log.items ++ e ∷ [] = c.push_reserved.ensures.items ∙ ap (λ (es : List Entry). es ++ e ∷ []) c.reserve.ensures.items in
     let kept = kept_with h j.limit j.stored.state c.step.new.self.state c.args.caller c.args.call c.args.now c.in_ok-reply.reply (T j.found.value) (T j.stored.keeper) (T c.step.new.self.keeper) k in
     let now = subst (λ (es : List Entry). IsKept (reached h) (reached (record { opened = h.opened; log = es })) (T j.stored.keeper) (T c.step.new.self.keeper)) (sym pushed) kept in
     subst (λ (was : Journaled _). IsKept (reached was.history) (reached (record { opened = h.opened; log = c.push_reserved.new.self.items })) (T was.keeper) (T c.step.new.self.keeper)) c.self.view_is now
