@@ -60,10 +60,14 @@ fn split(script: &[String], at: usize) -> (&[String], &[String]) {
     script.split_at(at.min(script.len()))
 }
 
+fn write_logged(alloc: Global, entry: &Entry, left: &mut String) -> Result<()> {
+    write!(left, "{} {} ", entry.caller, entry.moment)?;
+    write_entry(alloc, entry, left)
+}
+
 fn write_log(alloc: Global, log: &[Entry], left: &mut String) -> Result<()> {
     for entry in log {
-        write!(left, "{} {} ", entry.caller, entry.moment)?;
-        write_entry(alloc, entry, left)?;
+        write_logged(alloc, entry, left)?;
     }
     Ok(())
 }
@@ -88,14 +92,21 @@ fn run_until(alloc: Global, script: &[String], fail: u32) -> Result<Run> {
     })
 }
 
+// Asks the lines, and where the keeper fails at one, that line again and those behind it.
+fn ask_through(alloc: Global, journal: &mut Journal<MemKeeper>, script: &[String]) -> Result<()> {
+    let Some(at) = ask_all(alloc, journal, script)? else {
+        return Ok(());
+    };
+    let (_, behind) = split(script, at);
+    let again = ask_all(alloc, journal, behind)?;
+    ensure!(again.is_none(), "the keeper fails again");
+    Ok(())
+}
+
 // What a run leaves where the line that the keeper fails at is asked again, and those behind it.
 fn run_on(alloc: Global, script: &[String], fail: u32) -> Result<String> {
     let mut journal = opened(alloc, fail)?;
-    if let Some(at) = ask_all(alloc, &mut journal, script)? {
-        let (_, behind) = split(script, at);
-        let again = ask_all(alloc, &mut journal, behind)?;
-        ensure!(again.is_none(), "the keeper fails again");
-    }
+    ask_through(alloc, &mut journal, script)?;
     left(alloc, journal)
 }
 
