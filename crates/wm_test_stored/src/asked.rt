@@ -1,0 +1,147 @@
+// What an open journal is asked:
+//
+// > TEXT                 the command of this CL text, which QUSER calls: the number of its entry and the reply, `LOGFULL N` or
+//                        `KEEPERFAULT`
+// > as USER TEXT         the same of another user
+// > monitor 1 hand       a call of a monitor, by the words of `monitor`, and the answers of a command
+// > log                  how many entries there are
+// > pending              what waits for a monitor: how many jobs are active, how many orders there are, and the next moment
+ghost use Rattle.std.specs.Prelude.{IfOk};
+ghost use Rattle.wm_command.specs.Printed.{FitsMachine};
+ghost use Rattle.wm_law.specs.Fit.{IsCall, IsCommand, HasCall};
+ghost use Rattle.wm_law.specs.declared.state.State.{State};
+
+use crate::monitor::call_of;
+use crate::replies::write_called;
+use crate::words::first_word;
+use anyhow::{Context, Result, bail, ensure};
+use std::alloc::Global;
+use wm_base::{Moment, Name};
+use wm_clwords::read_command;
+use wm_command::{Line, command};
+use wm_core::built;
+use wm_journal::Journal;
+use wm_law::{Boxed, Call, Command, Pending, built_commands_are_had};
+use wm_outside::MemKeeper;
+
+/// The moment of each call.
+const NOW: u64 = 1000;
+
+/// The pass of a session.
+const SESSION: u32 = 0;
+
+fn line_of(alloc: Global, user: &Name, text: &str) -> Result<Line>
+    ensures { IfOk result FitsMachine }
+{
+    let tree = read_command(alloc, text.as_bytes())?;
+    let line = command(alloc, user, &tree)?;
+    Ok(line)
+}
+
+// The call of a user's command.
+fn user_call(alloc: Global, user: &Name, command: Command) -> Result<Call>
+    requires { IsCommand command }
+    ensures fit { IfOk result IsCall }
+    ensures had { IfOk result (λ call. (s : State) → HasCall s call) }
+{
+    built_commands_are_had();
+    ensure!(built(&command).is_ok(), "a command that isn't built");
+    let _user = user.as_bytes();
+    Ok(Call::Change {
+        user: *user,
+        command: Boxed::new(alloc, command)?,
+    })
+}
+
+fn line_call(alloc: Global, user: &Name, line: Line) -> Result<Call>
+    requires { FitsMachine line }
+    ensures fit { IfOk result IsCall }
+    ensures had { IfOk result (λ call. (s : State) → HasCall s call) }
+{
+    match line {
+        Line::Change(command) => {
+            let call = user_call(alloc, user, command)?;
+            Ok(call)
+        }
+        Line::Read(_) => bail!("a command that reads"),
+    }
+}
+
+// Makes a call, and adds what became of it.
+fn call(
+    alloc: Global,
+    journal: &mut Journal<MemKeeper>,
+    caller: u32,
+    call: Call,
+    answer: &mut String,
+) -> Result<()>
+    requires fit { IsCall call }
+    requires had { (s : State) → HasCall s call }
+{
+    let called = journal.call(alloc, caller, call, Moment::new(NOW));
+    write_called(alloc, journal, called, answer)
+}
+
+// Calls the command that a CL text is.
+fn change(
+    alloc: Global,
+    journal: &mut Journal<MemKeeper>,
+    user: &Name,
+    text: &str,
+    answer: &mut String,
+) -> Result<()> {
+    let line = line_of(alloc, user, text)?;
+    let made = line_call(alloc, user, line)?;
+    call(alloc, journal, SESSION, made, answer)
+}
+
+fn change_as(
+    alloc: Global,
+    journal: &mut Journal<MemKeeper>,
+    words: &str,
+    answer: &mut String,
+) -> Result<()> {
+    let (user, text) = first_word(words);
+    let user = Name::read(user.as_bytes()).context("no user")?;
+    change(alloc, journal, &user, text, answer)
+}
+
+fn report(
+    alloc: Global,
+    journal: &mut Journal<MemKeeper>,
+    words: &str,
+    answer: &mut String,
+) -> Result<()> {
+    let (monitor, words) = first_word(words);
+    let monitor = monitor.parse::<u32>()?;
+    let made = call_of(words)?;
+    call(alloc, journal, monitor, made, answer)
+}
+
+/// Adds what waits for a monitor.
+pub fn write_pending(pending: &Pending, answer: &mut String) -> Result<()> {
+    let (active, orders) = (pending.active, pending.orders);
+    write!(answer, "ACTIVE {active} STARTING {orders} DUE ")?;
+    match pending.next {
+        None => answer.push_str("NONE\n")?,
+        Some(moment) => writeln!(answer, "{moment}")?,
+    }
+    Ok(())
+}
+
+/// Answers by the first word, which is the name of a command where it is none of these.
+pub fn ask(
+    alloc: Global,
+    journal: &mut Journal<MemKeeper>,
+    question: &str,
+    answer: &mut String,
+) -> Result<()> {
+    let (word, words) = first_word(question);
+    match word {
+        "as" => change_as(alloc, journal, words, answer),
+        "monitor" => report(alloc, journal, words, answer),
+        "log" => Ok(writeln!(answer, "{}", journal.len())?),
+        "pending" => write_pending(&journal.pending(), answer),
+        _ => change(alloc, journal, &Name::of(b"QUSER"), question, answer),
+    }
+}

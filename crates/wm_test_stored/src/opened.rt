@@ -1,0 +1,40 @@
+// Opening a journal over a keeper in memory.
+use anyhow::{Result, ensure};
+use std::alloc::Global;
+use wm_core::Setup;
+use wm_desc::qbatch;
+use wm_journal::Journal;
+use wm_outside::{MemKeeper, Row, are_in_order};
+use wm_stored::OpenFault;
+use wm_when::Offset;
+
+/// The most that a history takes, where a case names no other.
+const MOST: u32 = 1_000_000;
+
+/// A keeper of rows that stand in their order, which fails at these calls of `apply`.
+pub fn keeper_of(rows: Vec<Row>, fail: Vec<u32>) -> Result<MemKeeper> {
+    ensure!(are_in_order(&rows), "rows that aren't in order");
+    Ok(MemKeeper::new(rows, fail))
+}
+
+fn limit_of(words: &str) -> Result<u32> {
+    match words.strip_prefix("limit ") {
+        None => Ok(MOST),
+        Some(limit) => Ok(limit.parse::<u32>()?),
+    }
+}
+
+/// A journal over the keeper, with the limit of `limit 3`, or with the greatest. An `Err` hands the keeper back.
+pub fn open(
+    alloc: Global,
+    keeper: MemKeeper,
+    words: &str,
+) -> Result<Result<Journal<MemKeeper>, (MemKeeper, OpenFault)>> {
+    let limit = limit_of(words)?;
+    ensure!((1..=MOST).contains(&limit), "no limit");
+    let setup = Setup {
+        ctl: qbatch(),
+        offset: Offset::new(0),
+    };
+    Ok(Journal::open(alloc, keeper, &setup, limit))
+}
