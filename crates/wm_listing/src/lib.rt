@@ -1,0 +1,13 @@
+//! The bytes of what a reading command shows: a listing of lines with columns.
+//!
+//! The contract for the layer above: `listing` gives the bytes `listing_text` of `specs/Listing.antt`. The columns are in
+//! `specs/Columns.antt`, the words of a status and of a kind in `specs/Words.antt`.
+#![tactic(auto)]
+
+mod columns;
+mod heads;
+mod lines;
+mod whole;
+mod words;
+
+pub use whole::listing;

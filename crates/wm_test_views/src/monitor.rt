@@ -1,0 +1,42 @@
+// What monitors call, by its words.
+ghost use Rattle.std.specs.Prelude.{IfOk};
+ghost use Rattle.wm_law.specs.Fit.{IsCall};
+
+use anyhow::{Result, bail};
+use wm_base::{Exit, Name, QName, Serial, StartCause};
+use wm_law::Call;
+
+/// The first word, and what stands behind it.
+pub fn first_word(words: &str) -> (&str, &str) {
+    match words.split_once(' ') {
+        None => (words, ""),
+        Some(split) => split,
+    }
+}
+
+/// `LIB/NAME`.
+pub fn qname_of(word: &str) -> Option<QName> {
+    let (lib, name) = word.split_once('/')?;
+    Some(QName {
+        lib: Name::read(lib.as_bytes()).ok()?,
+        name: Name::read(name.as_bytes()).ok()?,
+    })
+}
+
+/// The call that words are: `hand`, or a report as `finished 2` of the job of serial 2.
+pub fn call_of(words: &str) -> Result<Call>
+    ensures { IfOk result IsCall }
+{
+    let (report, serial) = first_word(words);
+    if report == "hand" {
+        return Ok(Call::Hand);
+    }
+    let serial = Serial::new(serial.parse::<u64>()?);
+    match report {
+        "started" => Ok(Call::Started(serial)),
+        "failed" => Ok(Call::StartFailed(serial, StartCause::Spawner)),
+        "exited" => Ok(Call::Finished(serial, Exit::Code(3))),
+        "finished" => Ok(Call::Finished(serial, Exit::Code(0))),
+        _ => bail!("no such report"),
+    }
+}

@@ -1,0 +1,2 @@
+pub mod OfParts
+pub mod OnlyOne

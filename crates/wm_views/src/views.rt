@@ -1,0 +1,195 @@
+// What a reading command shows.
+ghost use Rattle.std.specs.Prelude.{◌≡◌, map, IfOk};
+
+use crate::choosing::{active_jobs, is_active_in, is_ending, submitted_jobs, waiting_jobs};
+use crate::lines::job_line;
+use crate::named::named;
+use crate::shown::Placed;
+use crate::sorting::sorted;
+use crate::{
+    ActiveLine, ActiveLines, JobLine, JobLines, JobShown, Parts, QueueShown, SbsLine, SbsLines,
+    Shown,
+};
+use std::alloc::Global;
+use wm_base::{Kind, Limit, Name, NoMemory, QName, Refusal};
+use wm_law::{Ask, Job, JobRef, Sbs};
+
+// The lines without their places.
+fn lines_alone(alloc: Global, placed: &[Placed]) -> Result<Vec<JobLine>, NoMemory>
+    ensures { IfOk result (λ lines. lines.items ≡ map (λ p. p.line) placed.now) }
+{
+    placed.iter().map(|placed| placed.line).collect(alloc)
+}
+
+impl<'a> Parts<'a> {
+    ghost use Rattle.std.specs.Prelude.{◌≡◌, map, IfOk};
+    ghost use Rattle.wm_law.specs.declared.state.State.{State};
+    ghost use Rattle.wm_law.specs.Counts.{count_in_sbs};
+    ghost use Rattle.wm_law.specs.Named.{job_named};
+    ghost use Rattle.wm_views.specs.Parts.{parts_of};
+    ghost use Rattle.wm_views.specs.Sorted.{sorted};
+    ghost use Rattle.wm_desc.specs.Table.{object_named};
+    ghost use Rattle.wm_views.specs.Views.{by_name, active_jobs, active_line, active_lines, waiting_jobs, queue_shown, queue_view, submitted_lines, maxjobs_of, sbs_line, sbs_lines, job_shown, job_or_no, shown};
+
+    // The started subsystems by their names.
+    fn by_name(&self, alloc: Global) -> Result<Vec<Sbs>, NoMemory>
+        ensures { IfOk result (λ list. list.items ≡ sorted by_name self.now.started) }
+    {
+        sorted(alloc, self.started.as_slice())
+    }
+
+    // The active jobs of a subsystem, by number.
+    fn active_jobs(&self, alloc: Global, sbs: &QName) -> Result<JobLines, NoMemory>
+        ensures { IfOk result (λ lines. lines ≡ active_jobs self.now sbs.now) }
+    {
+        let lines = active_jobs(alloc, self.clock, self.jobs, sbs)?;
+        Ok(JobLines::from(sorted(alloc, &lines)?))
+    }
+
+    fn active_line(&self, alloc: Global, sbs: &Sbs) -> Result<ActiveLine, NoMemory>
+        ensures { IfOk result (λ line. line ≡ active_line self.now sbs.now) }
+    {
+        Ok(ActiveLine {
+            sbs: sbs.sbsd,
+            ending: is_ending(sbs),
+            jobs: self.active_jobs(alloc, &sbs.sbsd)?,
+        })
+    }
+
+    fn lines_of(&self, alloc: Global, started: &[Sbs]) -> Result<Vec<ActiveLine>, NoMemory>
+        ensures { IfOk result (λ lines. lines.items ≡ map (active_line self.now) started.now) }
+    {
+        let mut lines = Vec::new(alloc);
+        for sbs in started {
+            lines.push(self.active_line(alloc, sbs)?)?;
+        }
+        Ok(lines)
+    }
+
+    fn active_lines(&self, alloc: Global) -> Result<ActiveLines, NoMemory>
+        ensures { IfOk result (λ lines. lines ≡ active_lines self.now) }
+    {
+        let started = self.by_name(alloc)?;
+        let lines = self.lines_of(alloc, &started)?;
+        Ok(ActiveLines::from(lines))
+    }
+
+    // The jobs that wait on a queue, in their turn.
+    fn waiting_jobs(&self, alloc: Global, jobq: &QName) -> Result<JobLines, NoMemory>
+        ensures { IfOk result (λ lines. lines ≡ waiting_jobs self.now jobq.now) }
+    {
+        let waiting = waiting_jobs(alloc, self.clock, self.jobs, jobq)?;
+        let waiting = sorted(alloc, &waiting)?;
+        let lines = lines_alone(alloc, &waiting)?;
+        Ok(JobLines::from(lines))
+    }
+
+    fn queue_shown(&self, alloc: Global, jobq: &QName) -> Result<QueueShown, NoMemory>
+        ensures { IfOk result (λ queue. queue ≡ queue_shown self.now jobq.now) }
+    {
+        Ok(QueueShown {
+            jobq: *jobq,
+            held: self.held.contains(jobq),
+            jobs: self.waiting_jobs(alloc, jobq)?,
+        })
+    }
+
+    fn queue_view(&self, alloc: Global, jobq: &QName) -> Result<Shown, NoMemory>
+        ensures { IfOk result (λ view. view ≡ queue_view self.now jobq.now) }
+    {
+        if self.objects.jobqs.object(jobq).is_some() {
+            Ok(Shown::Queue(self.queue_shown(alloc, jobq)?))
+        } else {
+            Ok(Shown::No(Refusal::NoObject(Kind::Jobq)))
+        }
+    }
+
+    fn submitted_lines(&self, alloc: Global, user: &Name) -> Result<JobLines, NoMemory>
+        ensures { IfOk result (λ lines. lines ≡ submitted_lines self.now user.now) }
+    {
+        let lines = submitted_jobs(alloc, self.clock, self.jobs, user)?;
+        Ok(JobLines::from(lines))
+    }
+
+    fn count_in_sbs(&self, sbs: &QName) -> u32
+        ensures { result ≡ count_in_sbs sbs.now self.now.jobs }
+    {
+        self.jobs
+            .iter()
+            .filter(|job| is_active_in(sbs, job))
+            .count() as u32
+    }
+
+    fn maxjobs_of(&self, sbs: &QName) -> Limit
+        ensures { result ≡ maxjobs_of (object_named sbs.now self.now.objects.sbsds) }
+    {
+        match self.objects.sbsds.object(sbs) {
+            None => Limit::NoMax,
+            Some(description) => description.maxjobs,
+        }
+    }
+
+    fn sbs_line(&self, sbs: &Sbs) -> SbsLine
+        ensures { result ≡ sbs_line self.now sbs.now }
+    {
+        SbsLine {
+            sbs: sbs.sbsd,
+            count: self.count_in_sbs(&sbs.sbsd),
+            maxjobs: self.maxjobs_of(&sbs.sbsd),
+            ending: is_ending(sbs),
+        }
+    }
+
+    fn counts_of(&self, alloc: Global, started: &[Sbs]) -> Result<Vec<SbsLine>, NoMemory>
+        ensures { IfOk result (λ lines. lines.items ≡ map (sbs_line self.now) started.now) }
+    {
+        started.iter().map(|sbs| self.sbs_line(sbs)).collect(alloc)
+    }
+
+    fn sbs_lines(&self, alloc: Global) -> Result<SbsLines, NoMemory>
+        ensures { IfOk result (λ lines. lines ≡ sbs_lines self.now) }
+    {
+        let started = self.by_name(alloc)?;
+        let lines = self.counts_of(alloc, &started)?;
+        Ok(SbsLines::from(lines))
+    }
+
+    fn job_shown(&self, job: &Job) -> JobShown
+        ensures { result ≡ job_shown self.now job.now }
+    {
+        JobShown {
+            line: job_line(self.clock, job),
+            jobq: job.jobq,
+        }
+    }
+
+    fn job_view(&self, reference: &JobRef) -> Shown
+        ensures { result ≡ job_or_no self.now (job_named self.now reference.now) }
+    {
+        match named(self.jobs, reference) {
+            Err(refusal) => Shown::No(refusal),
+            Ok(job) => Shown::Job(self.job_shown(job)),
+        }
+    }
+
+    // What is shown of these parts.
+    fn shown(&self, alloc: Global, ask: &Ask) -> Result<Shown, NoMemory>
+        ensures { IfOk result (λ view. view ≡ shown self.now ask.now) }
+    {
+        match ask {
+            Ask::Active => Ok(Shown::Active(self.active_lines(alloc)?)),
+            Ask::Queue(jobq) => Ok(self.queue_view(alloc, jobq)?),
+            Ask::Submitted(user) => Ok(Shown::Submitted(self.submitted_lines(alloc, user)?)),
+            Ask::Subsystems => Ok(Shown::Subsystems(self.sbs_lines(alloc)?)),
+            Ask::Job(reference) => Ok(self.job_view(reference)),
+            Ask::Log | Ask::Pending(_) => Ok(Shown::NoView),
+        }
+    }
+
+    /// What a reading command shows of a state that has these parts. An `Err` is want of memory.
+    pub fn view(&self, alloc: Global, ask: &Ask) -> Result<Shown, NoMemory>
+        ensures { (s : State) → self.now ≡ parts_of s → IfOk result (λ view. view ≡ shown s ask.now) }
+    {
+        self.shown(alloc, ask)
+    }
+}
