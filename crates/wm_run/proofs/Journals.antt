@@ -1,5 +1,5 @@
 -- Laws of the journal that a run calls: nothing, and one part after another.
-use Rattle.std.proofs.Common.{◌≡◌, ℕ, ◌≤◌, List, Option, None, refl, ◌∙◌, arith}
+use Rattle.std.proofs.Common.{ℕ, List, Option, refl, ◌∙◌, arith}
 use Rattle.wm_journal.specs.Journaled.{Journaled}
 use Rattle.wm_outside.specs.declared.row.Row.{Row}
 use Rattle.wm_run.specs.Journal.{HasJournalCauses}

@@ -1,5 +1,5 @@
 -- Laws of a run that opens: what its rows come to, and what it leaves of them.
-use Rattle.std.proofs.Common.{◌≡◌, ℕ, ◌<◌, ◌≤◌, Bool, true, false, List, [], ◌++◌, Option, Some, None, IfSome, is_some, refl, sym, ap, subst, ◌∙◌, inl, inr, arith}
+use Rattle.std.proofs.Common.{◌≡◌, ℕ, ◌<◌, ◌≤◌, true, List, [], ◌++◌, Option, Some, None, IfSome, is_some, refl, sym, ap, subst, ◌∙◌, inl, inr, arith}
 use Rattle.std.proofs.lemmas.Bool.{true≢false, false≢true}
 use Rattle.wm_journal.specs.History.{History, reached}
 use Rattle.wm_journal.specs.Trail.{HasTrail, tables_along, without_repeats}
@@ -16,7 +16,7 @@ use Rattle.wm_run.specs.Kept.{HasHistory, HasOpened, open_status, store_status}
 use Rattle.wm_run.specs.Lists.{since}
 use Rattle.wm_run.specs.Monitor.{TicksAreDue}
 use Rattle.wm_run.specs.Run.{run_offset}
-use Rattle.wm_stored.specs.Keeping.{Telling, IsLeft, IsOpened}
+use Rattle.wm_stored.specs.Keeping.{Telling, IsOpened}
 use Rattle.wm_stored.specs.Stored.{HasTables}
 use Rattle.wm_stored.specs.declared.fault.OpenFault.{OpenFault}
 use Rattle.wm_stored.specs.declared.fault.OpenFault.TheVariants.{KeeperFault, BadRow, NoMemory}
