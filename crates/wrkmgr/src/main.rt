@@ -7,6 +7,7 @@ ghost use Rattle.std.specs.Prelude.{◌≡◌, ◌⊎◌, IfErr};
 use std::env;
 use std::io::ErrorKind;
 use std::process::ExitCode;
+use std::sync::Wait;
 use wm_outside::{MemKeeper, MemStore, ReadSource, Store, SysClock, SysSpawner, WriteSink};
 use wm_run::{NO_MEMORY, WRONG_WORDS, run, store_path};
 use wm_sqlkeep::SqlStore;
@@ -27,14 +28,14 @@ fn words(rt: &HostRuntime) -> Result<Vec<String>, u8>
 }
 
 // The one call of `run`, over the objects of the system and a store.
-fn run_over<S: Store>(rt: &HostRuntime, words: &[String], store: &mut S) -> u8 {
-    let mut input = ReadSource::new(rt.stdin());
-    let mut out = WriteSink::new(rt.stdout());
-    let mut spawner = SysSpawner::new(rt.alloc(), rt);
-    let mut clock = SysClock::new(rt);
+fn run_over<S: Store, R: Wait>(rt: &R, host: &HostRuntime, words: &[String], store: &mut S) -> u8 {
+    let mut input = ReadSource::new(host.stdin());
+    let mut out = WriteSink::new(host.stdout());
+    let mut spawner = SysSpawner::new(host.alloc(), host);
+    let mut clock = SysClock::new(host);
     let ran = run(
         rt,
-        rt.alloc(),
+        host.alloc(),
         words,
         &mut input,
         &mut out,
@@ -46,16 +47,16 @@ fn run_over<S: Store>(rt: &HostRuntime, words: &[String], store: &mut S) -> u8 {
 }
 
 // A run whose rows end with it.
-fn run_in_memory(rt: &HostRuntime, words: &[String]) -> u8 {
-    let keeper = MemKeeper::new(Vec::new(rt.alloc()), Vec::new(rt.alloc()));
+fn run_in_memory<R: Wait>(rt: &R, host: &HostRuntime, words: &[String]) -> u8 {
+    let keeper = MemKeeper::new(Vec::new(host.alloc()), Vec::new(host.alloc()));
     let mut store = MemStore::new(keeper);
-    run_over(rt, words, &mut store)
+    run_over(rt, host, words, &mut store)
 }
 
 // A run over the rows of a file.
-fn run_on_file(rt: &HostRuntime, words: &[String]) -> u8 {
-    let mut store = SqlStore::new(rt);
-    run_over(rt, words, &mut store)
+fn run_on_file<R: Wait>(rt: &R, host: &HostRuntime, words: &[String]) -> u8 {
+    let mut store = SqlStore::new(host);
+    run_over(rt, host, words, &mut store)
 }
 
 // Whether the words name a file.
@@ -72,9 +73,9 @@ fn main(rt: HostRuntime) -> ExitCode {
         Err(status) => return ExitCode::from(status),
     };
     let status = if names_file(&words) {
-        run_on_file(&rt, &words)
+        run_on_file(&rt, &rt, &words)
     } else {
-        run_in_memory(&rt, &words)
+        run_in_memory(&rt, &rt, &words)
     };
     ExitCode::from(status)
 }
