@@ -57,8 +57,8 @@ impl<K: Keeper> StoredCore<K> {
         }
     }
 
-    /// One step, whose rows are kept in one call, unless there are none, before it answers. An `Err` leaves the state and
-    /// the rows.
+    /// One step, whose rows are kept in one call, unless there are none, before it answers. An `Err` is a fault of the keeper,
+    /// which it has counted, or want of memory, here or there; it leaves the state and the rows.
     pub fn step(
         &mut self,
         alloc: Global,
