@@ -5,8 +5,8 @@ use Rattle.std.specs.Option.{IfSome}
 use Rattle.wm_law.specs.declared.call.Call.TheVariants.{Change}
 use Rattle.wm_law.specs.declared.call.Entry.{Entry}
 use Rattle.wm_law.specs.declared.command.Command.{Command}
-use Rattle.wm_floor.specs.History.{History, entry_at, last_of}
-use Rattle.wm_floor.proofs.Histories.{last_of-call}
+use Rattle.wm_journal.specs.History.{History, entry_at, last_of}
+use Rattle.wm_run.proofs.Histories.{last_of-call}
 use Rattle.wm_outside.specs.Told.{Grows}
 use Rattle.wm_run.specs.Answer.{entry_text, with_end, is_refused}
 use Rattle.wm_run.specs.Calls.{Called}

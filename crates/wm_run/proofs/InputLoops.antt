@@ -7,12 +7,13 @@ use Rattle.wm_run.specs.Serving.{Serves}
 use Rattle.wm_run.specs.Taking.{TakesPiece}
 
 -- what stays true while the lines of a piece are taken
-pub record PieceLoop (old new : MonitorView) (written_before written_now looked_before looked_now : ℕ) (at : ℕ) (piece : List ℕ) (Taken : Type 0) : Type 0 where
+pub record PieceLoop (old new : MonitorView) (written_before written_now looked_before looked_now : ℕ) (at : ℕ) (piece : List ℕ) (Taken Kept : Type 0) : Type 0 where
   pub within : at ≤ length piece
   pub serves : Serves old new
   pub taken : Taken
   pub written : written_before ≤ written_now
   pub looked : looked_before ≤ looked_now
+  pub journal : Kept
 
 -- so many bytes of the input have been taken, and the lines that have ended in them were answered
 pub record SoFar (b : Part) (es : List Entry) (u v : Option (List ℕ)) (f : Bool) (sum : ℕ) (bytes : List ℕ) : Type 0 where
@@ -20,11 +21,12 @@ pub record SoFar (b : Part) (es : List Entry) (u v : Option (List ℕ)) (f : Boo
   pub count : length bytes ≡ sum
 
 -- what stays true while the input is read
-pub record InputLoop (old new : MonitorView) (read_before read_now written_before written_now looked_before looked_now : ℕ) (sum : ℕ) (buf : List ℕ) (Taken : Type 0) : Type 0 where
+pub record InputLoop (old new : MonitorView) (read_before read_now written_before written_now looked_before looked_now : ℕ) (sum : ℕ) (buf : List ℕ) (Taken Kept : Type 0) : Type 0 where
   pub serves : Serves old new
   pub taken : Taken
   pub read : read_before ≤ read_now
   pub written : written_before ≤ written_now
   pub looked : looked_before ≤ looked_now
+  pub journal : Kept
   pub total : sum ≤ 1000000000
   pub piece : length buf ≡ 65536

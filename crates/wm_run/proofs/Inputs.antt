@@ -5,7 +5,7 @@ use Rattle.wm_clwords.specs.Lines.{logical_lines}
 use Rattle.wm_clwords.specs.Part.{Part, fresh, lines_from}
 use Rattle.wm_clwords.proofs.LinesLaw.{lines_from-fresh}
 use Rattle.wm_law.specs.declared.call.Entry.{Entry}
-use Rattle.wm_floor.specs.History.{History}
+use Rattle.wm_journal.specs.History.{History}
 use Rattle.wm_outside.specs.Told.{Takes}
 use Rattle.wm_outside.proofs.Telling.{Takes-none, Takes-then}
 use Rattle.wm_run.specs.Lists.{Extends}
@@ -16,12 +16,12 @@ use Rattle.wm_run.proofs.Servings.{session_entries-none, session_entries-then}
 use Rattle.wm_run.proofs.Takings.{AnsweredBy-append, AnsweredBy-none, TakesPiece-none, TakesPiece-then, TakesPiece-more, TakesPiece-lines}
 
 -- no entry and no line
-pub answered_none : (floor : History) (w : Option (List ℕ)) → AnsweredBy (Answers []) (session_entries floor floor) w w false
-answered_none floor w = subst (λ (es : List Entry). AnsweredBy (Answers []) es w w false) (sym (session_entries-none floor)) (AnsweredBy-none w)
+pub answered_none : (history : History) (w : Option (List ℕ)) → AnsweredBy (Answers []) (session_entries history history) w w false
+answered_none history w = subst (λ (es : List Entry). AnsweredBy (Answers []) es w w false) (sym (session_entries-none history)) (AnsweredBy-none w)
 
 -- nothing taken, with the session's entries
-pub taken_none : (a b : Part) (piece : List ℕ) (floor : History) (w : Option (List ℕ)) → ((more : List ℕ) → lines_from a more ≡ lines_from b more) → TakesPiece a piece b piece (session_entries floor floor) w w false
-taken_none a b piece floor w same = subst (λ (es : List Entry). TakesPiece a piece b piece es w w false) (sym (session_entries-none floor)) (TakesPiece-none a b piece w same)
+pub taken_none : (a b : Part) (piece : List ℕ) (history : History) (w : Option (List ℕ)) → ((more : List ℕ) → lines_from a more ≡ lines_from b more) → TakesPiece a piece b piece (session_entries history history) w w false
+taken_none a b piece history w same = subst (λ (es : List Entry). TakesPiece a piece b piece es w w false) (sym (session_entries-none history)) (TakesPiece-none a b piece w same)
 
 -- a part of a piece, and then some of the rest
 pub taken_then : (a b c : Part) (piece rest last : List ℕ) (old mid new : History) (u v w : Option (List ℕ)) (f g h : Bool) → h ≡ (f || g) → Extends old.log mid.log → Extends mid.log new.log → TakesPiece a piece b rest (session_entries old mid) u v f → TakesPiece b rest c last (session_entries mid new) v w g → TakesPiece a piece c last (session_entries old new) u w h
@@ -30,9 +30,9 @@ taken_then a b c piece rest last old mid new u v w f g h is begun grown first se
     (subst (λ (es : List Entry). TakesPiece a piece c last es u w (f || g)) (sym (session_entries-then old mid new begun grown)) (TakesPiece-then a b c piece rest last _ _ u v w f g first second))
 
 -- no input taken
-abbrev pub input_none : (b : Part) (x : Option (List ℕ)) (floor : History) (w : Option (List ℕ)) → ((bytes : List ℕ) → lines_from b bytes ≡ logical_lines bytes) → TakesInput x x (λ bytes. TakesPiece fresh bytes b [] (session_entries floor floor) w w false)
-input_none b x floor w begins =
-    record { bytes = []; taken = Takes-none x; done = taken_none fresh b [] floor w (λ more. lines_from-fresh more ∙ sym (begins more)) }
+abbrev pub input_none : (b : Part) (x : Option (List ℕ)) (history : History) (w : Option (List ℕ)) → ((bytes : List ℕ) → lines_from b bytes ≡ logical_lines bytes) → TakesInput x x (λ bytes. TakesPiece fresh bytes b [] (session_entries history history) w w false)
+input_none b x history w begins =
+    record { bytes = []; taken = Takes-none x; done = taken_none fresh b [] history w (λ more. lines_from-fresh more ∙ sym (begins more)) }
 
 -- some of it, and then some more
 abbrev pub input_then : (x y z : Option (List ℕ)) (b c : Part) (ys : List ℕ) (old mid new : History) (u v w : Option (List ℕ)) (f g h : Bool) → h ≡ (f || g) → Extends old.log mid.log → Extends mid.log new.log → TakesInput x y (λ bytes. TakesPiece fresh bytes b [] (session_entries old mid) u v f) → Takes y ys z → TakesPiece b ys c [] (session_entries mid new) v w g → TakesInput x z (λ bytes. TakesPiece fresh bytes c [] (session_entries old new) u w h)

@@ -4,9 +4,11 @@ pub mod MonitorLoops
 pub mod Writes
 pub mod Inputs
 pub mod InputLoops
+pub mod Histories
 pub mod Causes
+pub mod Journals
 pub mod Commands
-pub mod Laws
+pub mod Openings
 pub mod Runs
 pub mod Servings
 pub mod Takings

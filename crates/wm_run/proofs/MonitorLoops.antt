@@ -5,32 +5,36 @@ use Rattle.wm_run.specs.Monitor.{MonitorView, Advances, hands_of}
 use Rattle.wm_run.specs.declared.report.Report.{Report}
 
 -- a part has been done, no report is kept, and no count has fallen
-pub record MonitorLoop (old new : MonitorView) (before now : ℕ) (kept : Option Report) : Type 0 where
+pub record MonitorLoop (old new : MonitorView) (before now : ℕ) (kept : Option Report) (Kept : Type 0) : Type 0 where
   pub part : Advances old new
   pub none : kept ≡ None
   pub faults : before ≤ now
+  pub journal : Kept
 
 -- a part has been done, and no count has fallen
-pub record TurnLoop (old new : MonitorView) (before now : ℕ) : Type 0 where
+pub record TurnLoop (old new : MonitorView) (before now : ℕ) (Kept : Type 0) : Type 0 where
   pub part : Advances old new
   pub looked : before ≤ now
+  pub journal : Kept
 
 -- a part has been done with so many Hands, no report is kept, and no count has fallen; the same children have
 -- a report, or the history is longer
-pub record HandLoop (old new : MonitorView) (before now : ℕ) (kept : Option Report) (reporting_before reporting_now : Option (List ℕ)) (made : ℕ) : Type 0 where
+pub record HandLoop (old new : MonitorView) (before now : ℕ) (kept : Option Report) (reporting_before reporting_now : Option (List ℕ)) (made : ℕ) (Kept : Type 0) : Type 0 where
   pub part : Advances old new
   pub none : kept ≡ None
   pub faults : before ≤ now
+  pub journal : Kept
   pub hands : made ≤ hands_of (since old.history.log new.history.log)
   pub most : hands_of (since old.history.log new.history.log) ≤ made
   pub quiet : (reporting_now ≡ reporting_before) ⊎ (length old.history.log < length new.history.log)
 
 -- a part has been done with so many looks, each with an entry, no report is kept, and no count has fallen; no look has
 -- been made yet, or the history is longer
-pub record LookLoop (old new : MonitorView) (before now : ℕ) (kept : Option Report) (reporting_before reporting_now : Option (List ℕ)) (made : ℕ) : Type 0 where
+pub record LookLoop (old new : MonitorView) (before now : ℕ) (kept : Option Report) (reporting_before reporting_now : Option (List ℕ)) (made : ℕ) (Kept : Type 0) : Type 0 where
   pub part : Advances old new
   pub none : kept ≡ None
   pub faults : before ≤ now
+  pub journal : Kept
   pub count : made ≤ length (since old.history.log new.history.log)
   pub most : length new.history.log ≤ length old.history.log + made
   pub looks : ((made ≡ 0) × (reporting_now ≡ reporting_before)) ⊎ (length old.history.log < length new.history.log)

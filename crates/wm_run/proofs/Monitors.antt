@@ -11,8 +11,8 @@ use Rattle.wm_law.specs.declared.call.Call.{Call}
 use Rattle.wm_law.specs.declared.call.Entry.{Entry}
 use Rattle.wm_law.specs.History.{is_monitor_call, is_hand, is_report, order_in, ordered, orders, reported_in, reports}
 use Rattle.wm_law.specs.declared.call.Call.TheVariants as call
-use Rattle.wm_floor.specs.History.{History, entry_at, reached, with_call, last_order}
-use Rattle.wm_floor.proofs.Histories.{last_order-call}
+use Rattle.wm_journal.specs.History.{History, entry_at, reached, with_call, last_order}
+use Rattle.wm_run.proofs.Histories.{last_order-call}
 use Rattle.wm_outside.specs.declared.spawner.Told.{Told}
 use Rattle.wm_outside.specs.Told.{Grows}
 use Rattle.wm_outside.proofs.Telling.{Grows-none, Grows-then}

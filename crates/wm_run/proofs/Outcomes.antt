@@ -6,7 +6,7 @@ use Rattle.wm_clwords.specs.Lines.{logical_lines}
 use Rattle.wm_clwords.specs.Part.{Part, fresh, lines_from}
 use Rattle.wm_law.specs.declared.call.Entry.{Entry}
 use Rattle.wm_law.specs.History.{entries_of}
-use Rattle.wm_floor.specs.History.{History}
+use Rattle.wm_journal.specs.History.{History}
 use Rattle.wm_outside.specs.Told.{Takes}
 use Rattle.wm_outside.proofs.Telling.{Takes-none}
 use Rattle.wm_run.specs.Lists.{since, Extends}
@@ -56,10 +56,10 @@ pub came_answered : (f : Bool) (bytes : List ℕ) (es : List Entry) (u v : Optio
 came_answered f bytes es u v h few = record { answered = h; stopped = tt; cut_off = λ r. absurd (cc); full = never_full (Ok f) bytes (λ r. absurd (cc)) few }
 
 -- nothing was taken
-pub came_none : (r : Result Bool Halt) (e : Halt) (x : Option (List ℕ)) (floor : History) (w : Option (List ℕ)) → r ≡ Err e → (IsErrOf r ReadFault → ⊥) → (IsErrOf r InputFull → ⊥) → TakesInput x x (λ bytes. LinesCame bytes r (session_entries floor floor) w w)
-came_none r e x floor w is read full =
-    let h = input_stops_none x floor w in
-    record { bytes = []; taken = Takes-none x; done = came_fault r e [] (session_entries floor floor) w w is h.done read full (omega arith) }
+pub came_none : (r : Result Bool Halt) (e : Halt) (x : Option (List ℕ)) (history : History) (w : Option (List ℕ)) → r ≡ Err e → (IsErrOf r ReadFault → ⊥) → (IsErrOf r InputFull → ⊥) → TakesInput x x (λ bytes. LinesCame bytes r (session_entries history history) w w)
+came_none r e x history w is read full =
+    let h = input_stops_none x history w in
+    record { bytes = []; taken = Takes-none x; done = came_fault r e [] (session_entries history history) w w is h.done read full (omega arith) }
 
 -- a read stopped it
 pub came_read : (r : Result Bool Halt) (q : Result ℕ Halt) (e d : Halt) (x y z : Option (List ℕ)) (b : Part) (es : List Entry) (u v : Option (List ℕ)) (f : Bool) (sum : ℕ) → q ≡ Err e → r ≡ Err d → d ≡ e → TakesInput x y (λ bytes. SoFar b es u v f sum bytes) → TakesInput y z (λ bytes. StopsReading bytes sum q) → TakesInput x z (λ bytes. LinesCame bytes r es u v)

@@ -4,7 +4,7 @@ use Rattle.std.specs.Prelude.{◌↔◌, if◌then◌else◌, IfOk, OnErr, IsErr
 use Rattle.wm_clwords.specs.Lines.{logical_lines}
 use Rattle.wm_law.specs.declared.call.Entry.{Entry}
 use Rattle.wm_law.specs.History.{entries_of}
-use Rattle.wm_floor.specs.History.{History}
+use Rattle.wm_journal.specs.History.{History}
 use Rattle.wm_outside.proofs.Telling.{Grows-none, Takes-none}
 use Rattle.wm_run.specs.Halt.{status_of}
 use Rattle.wm_run.specs.Lists.{Extends}
@@ -14,7 +14,7 @@ use Rattle.wm_run.specs.Session.{Answers, AnsweredBy, IsSession, OneCall, sessio
 use Rattle.wm_run.specs.Stopped.{IsStopped}
 use Rattle.wm_run.specs.Taking.{TakesInput}
 use Rattle.wm_run.specs.declared.halt.Halt.{Halt}
-use Rattle.wm_run.specs.declared.halt.Halt.TheVariants.{ReadFault, WriteFault, NoMemory, WaitFault, InputFull}
+use Rattle.wm_run.specs.declared.halt.Halt.TheVariants.{ReadFault, WriteFault, KeeperFault, NoMemory, LogFull, WaitFault, InputFull}
 use Rattle.wm_run.proofs.Monitors.{Extends-then}
 use Rattle.wm_run.proofs.Servings.{session_entries-then}
 
@@ -43,7 +43,9 @@ ended_if P (Ok true) h low = h
 ended_if P (Ok false) h low = h
 ended_if P (Err ReadFault) h low = absurd (omega arith)
 ended_if P (Err WriteFault) h low = absurd (omega arith)
+ended_if P (Err KeeperFault) h low = absurd (omega arith)
 ended_if P (Err NoMemory) h low = absurd (omega arith)
+ended_if P (Err LogFull) h low = absurd (omega arith)
 ended_if P (Err WaitFault) h low = absurd (omega arith)
 ended_if P (Err InputFull) h low = absurd (omega arith)
 
@@ -54,16 +56,20 @@ end_at n =
     else (if n == 1 then Ok true
     else (if n == 3 then Err ReadFault
     else (if n == 4 then Err WriteFault
+    else (if n == 5 then Err KeeperFault
+    else (if n == 7 then Err LogFull
     else (if n == 8 then Err WaitFault
     else (if n == 11 then Err InputFull
-    else Err NoMemory)))))
+    else Err NoMemory)))))))
 
 end_of_status : (r : Result Bool Halt) → end_at (ended_status r) ≡ r
 end_of_status (Ok true) = refl
 end_of_status (Ok false) = refl
 end_of_status (Err ReadFault) = refl
 end_of_status (Err WriteFault) = refl
+end_of_status (Err KeeperFault) = refl
 end_of_status (Err NoMemory) = refl
+end_of_status (Err LogFull) = refl
 end_of_status (Err WaitFault) = refl
 end_of_status (Err InputFull) = refl
 

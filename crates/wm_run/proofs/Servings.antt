@@ -9,7 +9,7 @@ use Rattle.wm_base.specs.declared.job.Asked.{Asked}
 use Rattle.wm_law.specs.declared.call.Call.{Call}
 use Rattle.wm_law.specs.declared.call.Entry.{Entry}
 use Rattle.wm_law.specs.History.{entries_of, is_report}
-use Rattle.wm_floor.specs.History.{History, entry_at, reached, with_call}
+use Rattle.wm_journal.specs.History.{History, entry_at, reached, with_call}
 use Rattle.wm_outside.specs.declared.spawner.Told.{Told}
 use Rattle.wm_outside.proofs.Telling.{Grows-none}
 use Rattle.wm_run.specs.Calls.{Called}

@@ -9,7 +9,7 @@ use Rattle.wm_clwords.specs.Part.{Part, fresh, lines_from}
 use Rattle.wm_clwords.proofs.LinesLaw.{lines_from-fresh}
 use Rattle.wm_law.specs.declared.call.Call.{Call}
 use Rattle.wm_law.specs.declared.call.Entry.{Entry}
-use Rattle.wm_floor.specs.History.{History}
+use Rattle.wm_journal.specs.History.{History}
 use Rattle.wm_outside.specs.Told.{Grows, Takes}
 use Rattle.wm_outside.proofs.Telling.{Grows-none, Takes-none, Takes-then}
 use Rattle.wm_run.specs.Lists.{since, Extends}
@@ -36,8 +36,8 @@ pub take_none : (n : ℕ) (xs : List ℕ) → n ≡ 0 → take n xs ≡ []
 take_none n xs is = ap (λ (k : ℕ). take k xs) is
 
 -- no call was made, and nothing written
-pub Untouched-none : (floor : History) (w : Option (List ℕ)) → Untouched (session_entries floor floor) w w
-Untouched-none floor w = record { none = session_entries-none floor; written = Grows-none w }
+pub Untouched-none : (history : History) (w : Option (List ℕ)) → Untouched (session_entries history history) w w
+Untouched-none history w = record { none = session_entries-none history; written = Grows-none w }
 
 -- a call that was refused for want of memory leaves it so
 pub Untouched-same : (old new : History) (w : Option (List ℕ)) → new ≡ old → Untouched (session_entries old new) w w
@@ -103,8 +103,8 @@ input_same x y z ys none h more =
     record { bytes = h.bytes; taken = subst (λ (l : List ℕ). Takes x l z) whole (Takes-then x y z h.bytes ys h.taken more); done = h.done }
 
 -- nothing was read
-abbrev pub input_stops_none : (x : Option (List ℕ)) (floor : History) (w : Option (List ℕ)) → TakesInput x x (λ bytes. StopsIn (logical_lines bytes) (session_entries floor floor) w w)
-input_stops_none x floor w = record { bytes = []; taken = Takes-none x; done = StopsIn-untouched (logical_lines []) (session_entries floor floor) w w (Untouched-none floor w) }
+abbrev pub input_stops_none : (x : Option (List ℕ)) (history : History) (w : Option (List ℕ)) → TakesInput x x (λ bytes. StopsIn (logical_lines bytes) (session_entries history history) w w)
+input_stops_none x history w = record { bytes = []; taken = Takes-none x; done = StopsIn-untouched (logical_lines []) (session_entries history history) w w (Untouched-none history w) }
 
 -- bytes that weren't looked at behind those whose lines were answered
 abbrev pub input_stops : (x y z : Option (List ℕ)) (b : Part) (es : List Entry) (u v : Option (List ℕ)) (f : Bool) (ys : List ℕ) → TakesInput x y (λ bytes. TakesPiece fresh bytes b [] es u v f) → Takes y ys z → TakesInput x z (λ bytes. StopsIn (logical_lines bytes) es u v)

@@ -10,7 +10,7 @@ use Rattle.wm_law.specs.declared.state.State.{State}
 use Rattle.wm_law.specs.History.{after, is_report, stepped}
 use Rattle.wm_law.specs.Pending.{pending}
 use Rattle.wm_law.proofs.History.{after-append}
-use Rattle.wm_floor.specs.History.{History, reached}
+use Rattle.wm_journal.specs.History.{History, reached}
 use Rattle.wm_run.specs.Monitor.{IsDueBy, TicksAreDue}
 
 -- Ticks of entries, and then of more entries

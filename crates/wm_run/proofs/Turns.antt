@@ -9,7 +9,7 @@ use Rattle.wm_law.specs.declared.call.Call.TheVariants as call
 use Rattle.wm_law.specs.declared.call.Entry.{Entry}
 use Rattle.wm_law.specs.History.{after}
 use Rattle.wm_law.specs.Pending.{next_due, starting}
-use Rattle.wm_floor.specs.History.{History, reached, entry_at, with_call}
+use Rattle.wm_journal.specs.History.{History, reached, entry_at, with_call}
 use Rattle.wm_outside.specs.Told.{IsEmpty}
 use Rattle.wm_run.specs.Calls.{Called}
 use Rattle.wm_run.specs.Lists.{since, Extends}

@@ -1,7 +1,7 @@
 -- A call of the session.
 use Rattle.std.specs.Prelude.{◌≡◌, ℕ}
 use Rattle.wm_law.specs.declared.call.Call.{Call}
-use Rattle.wm_floor.specs.History.{History, with_call}
+use Rattle.wm_journal.specs.History.{History, with_call}
 use Rattle.wm_run.specs.Session.{session_pass}
 
 -- the history has the call's entry at its end

@@ -4,18 +4,22 @@ use Rattle.wm_outside.specs.Cause.{raised}
 use Rattle.wm_run.specs.declared.monitor.MonitorFault.{MonitorFault}
 use Rattle.wm_run.specs.declared.monitor.MonitorFault.TheVariants as monitor
 use Rattle.wm_run.specs.declared.halt.Halt.{Halt}
-use Rattle.wm_run.specs.declared.halt.Halt.TheVariants.{ReadFault, WriteFault, NoMemory, WaitFault, InputFull}
+use Rattle.wm_run.specs.declared.halt.Halt.TheVariants.{ReadFault, WriteFault, KeeperFault, NoMemory, LogFull, WaitFault, InputFull}
 
 -- a monitor's fault ends the run
 abbrev pub halt_of : MonitorFault → Halt
 halt_of monitor.WaitFault = WaitFault
+halt_of monitor.KeeperFault = KeeperFault
+halt_of monitor.LogFull = LogFull
 halt_of monitor.NoMemory = NoMemory
 
 -- the status of a run that ends early
 abbrev pub status_of : Halt → ℕ
 status_of ReadFault = 3
 status_of WriteFault = 4
+status_of KeeperFault = 5
 status_of NoMemory = 6
+status_of LogFull = 7
 status_of WaitFault = 8
 status_of InputFull = 11
 

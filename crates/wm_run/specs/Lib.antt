@@ -1,6 +1,8 @@
 pub mod Answer
 pub mod Calls
 pub mod Halt
+pub mod Journal
+pub mod Kept
 pub mod Lists
 pub mod Monitor
 pub mod Outcome
@@ -11,3 +13,4 @@ pub mod Session
 pub mod Stopped
 pub mod Taking
 pub mod View
+pub mod Words

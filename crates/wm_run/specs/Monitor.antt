@@ -18,7 +18,7 @@ use Rattle.wm_outside.specs.declared.fault.StartFault.TheVariants as fault
 use Rattle.wm_outside.specs.declared.spawner.Told.{Told}
 use Rattle.wm_outside.specs.declared.spawner.Told.TheVariants.{Began, NotBegan, Happened}
 use Rattle.wm_outside.specs.Told.{Grows, IsEmpty}
-use Rattle.wm_floor.specs.History.{History, reached, with_call, entry_at}
+use Rattle.wm_journal.specs.History.{History, reached, with_call, entry_at}
 use Rattle.wm_run.specs.declared.report.Report.{Report}
 use Rattle.wm_run.specs.declared.report.Report.TheVariants.{Started, StartFailed, Finished, UseDone}
 use Rattle.wm_run.specs.Lists.{since, Extends}
@@ -151,8 +151,8 @@ abbrev pub Advances : MonitorView → MonitorView → Type 0
 Advances old new = Proceeds is_own old new
 
 -- a monitor has nothing to do: it keeps no report, no job is due, no order is left and no child has a report
-pub record IsIdle (floor : History) (kept : Option Report) (coming : Option ℕ) (reporting : Option (List ℕ)) : Type 0 where
+pub record IsIdle (h : History) (kept : Option Report) (coming : Option ℕ) (reporting : Option (List ℕ)) : Type 0 where
   pub none : kept ≡ None
-  pub due : IfSome (next_due (reached floor)) (λ due. IfSome coming (λ now. now < due))
-  pub orders : starting (reached floor) ≡ 0
+  pub due : IfSome (next_due (reached h)) (λ due. IfSome coming (λ now. now < due))
+  pub orders : starting (reached h) ≡ 0
   pub reports : IsEmpty reporting

@@ -1,12 +1,9 @@
 -- What a whole run answers for.
-use Rattle.std.specs.Prelude.{◌≡◌, ℕ, ℤ, pos, ◌≤◌, Bool, true, false, List, [], ◌∷◌, length, Option, Result, Ok, Err, codes, count_by, nat_eq}
+use Rattle.std.specs.Prelude.{◌≡◌, ℕ, ℤ, pos, ◌≤◌, Bool, true, false, List, [], ◌∷◌, length, Option, Result, Ok, Err, count_by, nat_eq}
 use Rattle.std.specs.List.{list_any}
-use Rattle.std.specs.Cmp.Lexicographic.{pointwise}
 use Rattle.wm_base.specs.declared.job.Asked.{Asked}
 use Rattle.wm_law.specs.declared.call.Entry.{Entry}
-use Rattle.wm_law.specs.declared.state.State.{State}
 use Rattle.wm_law.specs.History.{orders}
-use Rattle.wm_law.specs.Opening.{opening}
 use Rattle.wm_outside.specs.declared.spawner.Told.{Told}
 use Rattle.wm_outside.specs.Told.{Grows}
 use Rattle.wm_run.specs.Monitor.{RisesBy, as_reports, reported, is_spawner_fault, monitor_pass}
@@ -14,19 +11,9 @@ use Rattle.wm_run.specs.Halt.{status_of}
 use Rattle.wm_run.specs.declared.report.Report.{Report}
 use Rattle.wm_run.specs.declared.halt.Halt.{Halt}
 
--- the words are the one word `run`
-abbrev pub is_run : List (List ℕ) → Bool
-is_run [] = false
-is_run (word ∷ []) = pointwise nat_eq word (codes "run")
-is_run (word ∷ next ∷ words) = false
-
 -- local time of a run, in minutes ahead of UTC
 abbrev pub run_offset : ℤ
 run_offset = pos 0
-
--- the state that a run opens with: the machine's of no rows
-abbrev pub opened_by_run : State
-opened_by_run = opening run_offset
 
 -- the status of a session's end: 0, or 1 where a line got a fault or a refusal
 abbrev pub ended_status : Result Bool Halt → ℕ
@@ -36,7 +23,7 @@ ended_status (Err halt) = status_of halt
 
 -- the statuses of a run
 abbrev pub run_statuses : List ℕ
-run_statuses = 0 ∷ 1 ∷ 2 ∷ 3 ∷ 4 ∷ 6 ∷ 8 ∷ 11 ∷ []
+run_statuses = 0 ∷ 1 ∷ 2 ∷ 3 ∷ 4 ∷ 5 ∷ 6 ∷ 7 ∷ 8 ∷ 9 ∷ 11 ∷ []
 
 -- a status is one of these
 abbrev pub IsRunStatus : ℕ → Type 0

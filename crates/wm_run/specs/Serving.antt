@@ -3,13 +3,13 @@ use Rattle.std.specs.Prelude.{ℕ, ◌==◌, ◌||◌, Bool, List, Option}
 use Rattle.wm_base.specs.declared.job.Asked.{Asked}
 use Rattle.wm_law.specs.declared.call.Entry.{Entry}
 use Rattle.wm_law.specs.History.{entries_of}
-use Rattle.wm_floor.specs.History.{History}
+use Rattle.wm_journal.specs.History.{History}
 use Rattle.wm_outside.specs.declared.spawner.Told.{Told}
-use Rattle.wm_run.specs.declared.session.Run.{Run}
+use Rattle.wm_run.specs.declared.monitor.Monitor.{Monitor}
 use Rattle.wm_run.specs.Lists.{since}
 use Rattle.wm_run.specs.Monitor.{MonitorView, Proceeds, is_own}
 use Rattle.wm_run.specs.Session.{session_pass}
-use Rattle.wm_run.specs.View.{view, MonitorAdvances}
+use Rattle.wm_run.specs.View.{view}
 
 -- an entry of the session, or a monitor's call of the monitor
 abbrev pub is_of_run : Entry → Bool
@@ -20,13 +20,9 @@ abbrev pub Serves : MonitorView → MonitorView → Type 0
 Serves old new = Proceeds is_of_run old new
 
 -- the same between two moments of a run, where the spawner tells so much
-abbrev pub RunServes : {P : Type 0} → (P → Option (List Asked)) → (P → Option (List Told)) → (P → ℕ) → Run → P → Run → P → Type 0
-RunServes asked told misses run spawner run' spawner' =
-    Serves (view run.floor run.monitor (asked spawner) (told spawner) (misses spawner)) (view run'.floor run'.monitor (asked spawner') (told spawner') (misses spawner'))
-
--- and of the monitor's part alone
-abbrev pub RunAdvances : {P : Type 0} → (P → Option (List Asked)) → (P → Option (List Told)) → (P → ℕ) → Run → P → Run → P → Type 0
-RunAdvances asked told misses run spawner run' spawner' = MonitorAdvances asked told misses run.floor run.monitor spawner run'.floor run'.monitor spawner'
+abbrev pub RunServes : {P : Type 0} → (P → Option (List Asked)) → (P → Option (List Told)) → (P → ℕ) → History → Monitor → P → History → Monitor → P → Type 0
+RunServes asked told misses history monitor spawner history' monitor' spawner' =
+    Serves (view history monitor (asked spawner) (told spawner) (misses spawner)) (view history' monitor' (asked spawner') (told spawner') (misses spawner'))
 
 -- the session's entries that a history has grown by
 abbrev pub session_entries : History → History → List Entry

@@ -1,21 +1,21 @@
--- How a monitor's part is seen in the floor, the monitor and the spawner.
+-- How a monitor's part is seen in the history, the monitor and the spawner.
 use Rattle.std.specs.Prelude.{ℕ, List, Option, option_to_list}
 use Rattle.wm_base.specs.declared.job.Asked.{Asked}
-use Rattle.wm_floor.specs.History.{History}
+use Rattle.wm_journal.specs.History.{History}
 use Rattle.wm_outside.specs.declared.spawner.Told.{Told}
 use Rattle.wm_run.specs.declared.monitor.Monitor.{Monitor}
 use Rattle.wm_run.specs.Monitor.{MonitorView, Advances, as_reports}
 
 -- what stands around a monitor
 abbrev pub view : History → Monitor → Option (List Asked) → Option (List Told) → ℕ → MonitorView
-view floor monitor asked told misses = record { history = floor; kept = option_to_list monitor.kept; asked = asked; told = as_reports told; misses = misses }
+view h monitor asked told misses = record { history = h; kept = option_to_list monitor.kept; asked = asked; told = as_reports told; misses = misses }
 
 -- the monitor's part between two moments, where the spawner tells so much
 abbrev pub MonitorAdvances : {P : Type 0} → (P → Option (List Asked)) → (P → Option (List Told)) → (P → ℕ) → History → Monitor → P → History → Monitor → P → Type 0
-MonitorAdvances asked told misses floor monitor spawner floor' monitor' spawner' =
-    Advances (view floor monitor (asked spawner) (told spawner) (misses spawner)) (view floor' monitor' (asked spawner') (told spawner') (misses spawner'))
+MonitorAdvances asked told misses history monitor spawner history' monitor' spawner' =
+    Advances (view history monitor (asked spawner) (told spawner) (misses spawner)) (view history' monitor' (asked spawner') (told spawner') (misses spawner'))
 
 -- the same where the spawner isn't called, whatever it tells
 abbrev pub MonitorCalls : History → Monitor → History → Monitor → Type 0
-MonitorCalls floor monitor floor' monitor' =
-    (asked : Option (List Asked)) (told : Option (List Told)) (misses : ℕ) → Advances (view floor monitor asked told misses) (view floor' monitor' asked told misses)
+MonitorCalls history monitor history' monitor' =
+    (asked : Option (List Asked)) (told : Option (List Told)) (misses : ℕ) → Advances (view history monitor asked told misses) (view history' monitor' asked told misses)

@@ -12,7 +12,11 @@ pub enum Halt {
     ReadFault,
     /// The output couldn't be written.
     WriteFault,
+    /// The keeper of the rows failed.
+    KeeperFault,
     NoMemory,
+    /// The log takes no such call.
+    LogFull,
     /// The spawner couldn't kill or look.
     WaitFault,
     /// The input has more than 1,000,000,000 bytes.
@@ -43,6 +47,8 @@ impl From<MonitorFault> for Halt {
     fn from(fault: MonitorFault) -> Halt {
         match fault {
             MonitorFault::WaitFault => Halt::WaitFault,
+            MonitorFault::KeeperFault => Halt::KeeperFault,
+            MonitorFault::LogFull => Halt::LogFull,
             MonitorFault::NoMemory => Halt::NoMemory,
         }
     }
@@ -58,7 +64,9 @@ impl Halt {
         match self {
             Halt::ReadFault => 3,
             Halt::WriteFault => 4,
+            Halt::KeeperFault => 5,
             Halt::NoMemory => 6,
+            Halt::LogFull => 7,
             Halt::WaitFault => 8,
             Halt::InputFull => 11,
         }

@@ -13,7 +13,7 @@ use std::alloc::Global;
 use std::sync::Wait;
 use wm_base::NoMemory;
 use wm_clwords::{Joiner, LogicalLine};
-use wm_outside::{Clock, Sink, Source, Spawner};
+use wm_outside::{Clock, Keeper, Sink, Source, Spawner};
 
 /// How many bytes of input a run takes at the most.
 pub const MOST_INPUT: u64 = 1_000_000_000;
@@ -36,6 +36,8 @@ fn read<I: Source>(input: &mut I, piece: &mut [u8], total: u64) -> Result<usize,
     ensures read_fault { IsErrOf result Halt.ReadFault → raised (I.faults input.old) ≤ I.faults input.new }
     ensures no_write { IsErrOf result Halt.WriteFault → ⊥ }
     ensures no_wait { IsErrOf result Halt.WaitFault → ⊥ }
+    ensures no_keeper { IsErrOf result Halt.KeeperFault → ⊥ }
+    ensures no_log { IsErrOf result Halt.LogFull → ⊥ }
 {
     let Ok(n) = input.read(piece) else {
         return Err(Halt::ReadFault);
@@ -70,11 +72,12 @@ fn text_of(line: LogicalLine, joiner: &Joiner) -> Option<&[u8]>
     }
 }
 
-impl Run {
-    ghost use Rattle.std.specs.Prelude.{◌≡◌, ◌≤◌, ◌<◌, ◌++◌, [], List, ℕ, Some, IfOk, OnOk, OnErr, length, drop};
+impl<K: Keeper> Run<K> {
+    ghost use Rattle.std.specs.Prelude.{◌≡◌, ◌≤◌, ◌<◌, ◌++◌, [], List, ℕ, Some, IfOk, OnOk, OnErr, IsErrOf, length, drop};
     ghost use Rattle.std.specs.Io.KnownBytes.{IsAtEnd};
     ghost use Rattle.wm_clwords.specs.Part.{lines_from, ended_lines};
     ghost use Rattle.wm_run.specs.Halt.{HasCauses, HasInputCauses};
+    ghost use Rattle.wm_run.specs.Journal.{HasJournalCauses};
     ghost use Rattle.wm_run.specs.Outcome.{LinesCame};
     ghost use Rattle.wm_run.specs.Serving.{RunServes, session_entries};
     ghost use Rattle.wm_run.specs.Session.{Answers, AnsweredBy};
@@ -91,12 +94,13 @@ impl Run {
         line: LogicalLine,
         joiner: &Joiner,
     ) -> Result<bool, Halt>
-        ensures serves { RunServes P.asked P.told P.misses self.old spawner.old self.new spawner.new }
+        ensures serves { RunServes P.asked P.told P.misses self.old.journal.history self.old.monitor spawner.old self.new.journal.history self.new.monitor spawner.new }
         ensures answered { IfOk result (λ faulty. AnsweredBy (Answers (ended_lines (Some line) joiner.now))
-            (session_entries self.old.floor self.new.floor) (O.written out.old) (O.written out.new) faulty) }
+            (session_entries self.old.journal.history self.new.journal.history) (O.written out.old) (O.written out.new) faulty) }
         ensures stopped { OnErr result (StopsIn (ended_lines (Some line) joiner.now)
-            (session_entries self.old.floor self.new.floor) (O.written out.old) (O.written out.new)) }
+            (session_entries self.old.journal.history self.new.journal.history) (O.written out.old) (O.written out.new)) }
         ensures causes { HasCauses result (O.faults out.old) (O.faults out.new) (P.faults spawner.old) (P.faults spawner.new) }
+        ensures journal { HasJournalCauses K.faults K.trail (IsErrOf result Halt.KeeperFault) (IsErrOf result Halt.LogFull) self.old.journal self.new.journal }
     {
         self.answer(alloc, out, spawner, clock, text_of(line, joiner))
     }
@@ -111,14 +115,15 @@ impl Run {
         joiner: &mut Joiner,
         piece: &[u8],
     ) -> Result<(usize, bool), Halt>
-        ensures serves { RunServes P.asked P.told P.misses self.old spawner.old self.new spawner.new }
+        ensures serves { RunServes P.asked P.told P.misses self.old.journal.history self.old.monitor spawner.old self.new.journal.history self.new.monitor spawner.new }
         ensures taken { IfOk result (λ r. TakesPiece joiner.old piece.now joiner.new (drop r.0 piece.now)
-            (session_entries self.old.floor self.new.floor) (O.written out.old) (O.written out.new) r.1) }
+            (session_entries self.old.journal.history self.new.journal.history) (O.written out.old) (O.written out.new) r.1) }
         ensures within { IfOk result (λ r. r.0 ≤ length piece.now) }
         ensures progress { IfOk result (λ r. 0 < length piece.now → 0 < r.0) }
         ensures stopped { OnErr result ((more : List ℕ) → StopsIn (lines_from joiner.old (piece.now ++ more))
-            (session_entries self.old.floor self.new.floor) (O.written out.old) (O.written out.new)) }
+            (session_entries self.old.journal.history self.new.journal.history) (O.written out.old) (O.written out.new)) }
         ensures causes { HasCauses result (O.faults out.old) (O.faults out.new) (P.faults spawner.old) (P.faults spawner.new) }
+        ensures journal { HasJournalCauses K.faults K.trail (IsErrOf result Halt.KeeperFault) (IsErrOf result Halt.LogFull) self.old.journal self.new.journal }
     {
         let (taken, ended) = joiner.feed(piece);
         let Some(line) = ended else {
@@ -138,12 +143,13 @@ impl Run {
         joiner: &mut Joiner,
         piece: &[u8],
     ) -> Result<bool, Halt>
-        ensures serves { RunServes P.asked P.told P.misses self.old spawner.old self.new spawner.new }
+        ensures serves { RunServes P.asked P.told P.misses self.old.journal.history self.old.monitor spawner.old self.new.journal.history self.new.monitor spawner.new }
         ensures taken { IfOk result (λ faulty. TakesPiece joiner.old piece.now joiner.new []
-            (session_entries self.old.floor self.new.floor) (O.written out.old) (O.written out.new) faulty) }
+            (session_entries self.old.journal.history self.new.journal.history) (O.written out.old) (O.written out.new) faulty) }
         ensures stopped { OnErr result ((more : List ℕ) → StopsIn (lines_from joiner.old (piece.now ++ more))
-            (session_entries self.old.floor self.new.floor) (O.written out.old) (O.written out.new)) }
+            (session_entries self.old.journal.history self.new.journal.history) (O.written out.old) (O.written out.new)) }
         ensures causes { HasCauses result (O.faults out.old) (O.faults out.new) (P.faults spawner.old) (P.faults spawner.new) }
+        ensures journal { HasJournalCauses K.faults K.trail (IsErrOf result Halt.KeeperFault) (IsErrOf result Halt.LogFull) self.old.journal self.new.journal }
     {
         let mut faulty = false;
         let mut at = 0;
@@ -164,12 +170,13 @@ impl Run {
         clock: &mut C,
         joiner: &mut Joiner,
     ) -> Result<bool, Halt>
-        ensures serves { RunServes P.asked P.told P.misses self.old spawner.old self.new spawner.new }
+        ensures serves { RunServes P.asked P.told P.misses self.old.journal.history self.old.monitor spawner.old self.new.journal.history self.new.monitor spawner.new }
         ensures answered { IfOk result (λ faulty. AnsweredBy (Answers (lines_from joiner.old []))
-            (session_entries self.old.floor self.new.floor) (O.written out.old) (O.written out.new) faulty) }
+            (session_entries self.old.journal.history self.new.journal.history) (O.written out.old) (O.written out.new) faulty) }
         ensures stopped { OnErr result (StopsIn (lines_from joiner.old [])
-            (session_entries self.old.floor self.new.floor) (O.written out.old) (O.written out.new)) }
+            (session_entries self.old.journal.history self.new.journal.history) (O.written out.old) (O.written out.new)) }
         ensures causes { HasCauses result (O.faults out.old) (O.faults out.new) (P.faults spawner.old) (P.faults spawner.new) }
+        ensures journal { HasJournalCauses K.faults K.trail (IsErrOf result Halt.KeeperFault) (IsErrOf result Halt.LogFull) self.old.journal self.new.journal }
     {
         let Some(line) = joiner.end() else {
             return Ok(false);
@@ -189,11 +196,12 @@ impl Run {
         piece: &mut [u8],
     ) -> Result<bool, Halt>
         requires { length piece.old ≡ 65536 }
-        ensures serves { RunServes P.asked P.told P.misses self.old spawner.old self.new spawner.new }
+        ensures serves { RunServes P.asked P.told P.misses self.old.journal.history self.old.monitor spawner.old self.new.journal.history self.new.monitor spawner.new }
         ensures input { TakesInput (I.left input.old) (I.left input.new) (λ bytes. LinesCame bytes result
-            (session_entries self.old.floor self.new.floor) (O.written out.old) (O.written out.new)) }
+            (session_entries self.old.journal.history self.new.journal.history) (O.written out.old) (O.written out.new)) }
         ensures end { OnOk result (IsAtEnd (I.left input.new)) }
         ensures causes { HasInputCauses result (I.faults input.old) (I.faults input.new) (O.faults out.old) (O.faults out.new) (P.faults spawner.old) (P.faults spawner.new) }
+        ensures journal { HasJournalCauses K.faults K.trail (IsErrOf result Halt.KeeperFault) (IsErrOf result Halt.LogFull) self.old.journal self.new.journal }
     {
         let mut joiner = Joiner::new(alloc)?;
         let mut faulty = false;
@@ -221,11 +229,12 @@ impl Run {
         spawner: &mut P,
         clock: &mut C,
     ) -> Result<bool, Halt>
-        ensures serves { RunServes P.asked P.told P.misses self.old spawner.old self.new spawner.new }
+        ensures serves { RunServes P.asked P.told P.misses self.old.journal.history self.old.monitor spawner.old self.new.journal.history self.new.monitor spawner.new }
         ensures input { TakesInput (I.left input.old) (I.left input.new) (λ bytes. LinesCame bytes result
-            (session_entries self.old.floor self.new.floor) (O.written out.old) (O.written out.new)) }
+            (session_entries self.old.journal.history self.new.journal.history) (O.written out.old) (O.written out.new)) }
         ensures end { OnOk result (IsAtEnd (I.left input.new)) }
         ensures causes { HasInputCauses result (I.faults input.old) (I.faults input.new) (O.faults out.old) (O.faults out.new) (P.faults spawner.old) (P.faults spawner.new) }
+        ensures journal { HasJournalCauses K.faults K.trail (IsErrOf result Halt.KeeperFault) (IsErrOf result Halt.LogFull) self.old.journal self.new.journal }
     {
         let mut piece = piece_buffer(alloc)?;
         self.take_pieces(rt, alloc, input, out, spawner, clock, &mut piece)

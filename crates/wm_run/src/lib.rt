@@ -1,21 +1,25 @@
 //! A whole run: commands are read, the machine is called, the jobs are started and reported, and the replies are written.
 //!
-//! The contract for the program is that of `run`, which speaks of any source, sink, spawner and clock. The definitions are
+//! The contract for the program is that of `run`, which speaks of any source, sink, store, spawner and clock. The definitions are
 //! in `specs/`.
 #![tactic(auto)]
 
 mod answer;
 mod calls;
+mod enter;
 mod finish;
 mod halt;
 mod input;
+mod kept_run;
 mod monitor;
 mod parse;
 mod parsed;
 mod report;
 mod session;
 mod whole_run;
+mod words;
 mod write;
 
 pub use report::Report;
 pub use whole_run::{NO_MEMORY, Ran, WRONG_WORDS, run};
+pub use words::store_path;

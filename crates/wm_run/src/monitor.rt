@@ -4,15 +4,16 @@ ghost use Rattle.wm_base.specs.declared.job.Asked.TheVariants.{Start, Kill};
 ghost use Rattle.wm_outside.specs.Told.{Grows, IsEmpty};
 ghost use Rattle.wm_outside.specs.Cause.{HasCause};
 ghost use Rattle.wm_run.specs.Monitor.{RisesBy, as_reports, call_of, is_spawner_fault, looked};
-ghost use Rattle.wm_run.specs.declared.monitor.MonitorFault.TheVariants.{WaitFault, NoMemory};
+ghost use Rattle.wm_run.specs.declared.monitor.MonitorFault.TheVariants.{WaitFault};
 
+use crate::enter::enter;
 use crate::report::Report;
-use std::alloc::{AllocError, Global};
+use std::alloc::Global;
 use std::sync::Wait;
-use wm_base::{Asked, Moment, NoMemory, Serial, StartOrder};
-use wm_floor::Floor;
+use wm_base::{Asked, Moment, Serial, StartOrder};
+use wm_journal::Journal;
 use wm_law::Call;
-use wm_outside::{Clock, Failed, Spawner};
+use wm_outside::{Clock, Failed, Keeper, Spawner};
 
 /// The pass of the monitor.
 pub const MONITOR: u32 = 1;
@@ -23,7 +24,7 @@ pub const MOST_HANDS: u32 = 256;
 /// How many looks a turn makes at the most.
 pub const MOST_LOOKS: u32 = 256;
 
-/// A monitor. It keeps the report that the floor didn't take, to send it first in its next call.
+/// A monitor. It keeps the report that the journal didn't take, to send it first in its next call.
 #[derive(Clone, Copy, Debug, PartialEq, Eq)]
 pub struct Monitor {
     pub(crate) kept: Option<Report>,
@@ -34,6 +35,10 @@ pub struct Monitor {
 pub enum MonitorFault {
     /// A kill or a look of the spawner failed.
     WaitFault,
+    /// The keeper of the rows failed.
+    KeeperFault,
+    /// The log takes no such call.
+    LogFull,
     NoMemory,
 }
 
@@ -45,21 +50,14 @@ impl From<Failed> for MonitorFault {
     }
 }
 
-impl From<AllocError> for MonitorFault {
-    ghost from_gives = { λ _ e. e ≡ NoMemory };
-
-    fn from(_e: AllocError) -> MonitorFault {
-        MonitorFault::NoMemory
-    }
-}
-
 impl Monitor {
     ghost use Rattle.std.specs.Prelude.{◌≡◌, ◌⊎◌, ◌<◌, ◌≤◌, ◌+◌, ◌-◌, ◌∷◌, [], None, Ok, true, false, length, OnOk, IfOk, IfSome, IsErrOf};
     ghost use Rattle.wm_outside.specs.Told.{Grows, IsEmpty};
     ghost use Rattle.wm_outside.specs.Cause.{raised};
     ghost use Rattle.wm_law.specs.declared.call.Call.{Call};
     ghost use Rattle.wm_law.specs.Pending.{next_due, starting};
-    ghost use Rattle.wm_floor.specs.History.{reached, with_call};
+    ghost use Rattle.wm_journal.specs.History.{reached, with_call};
+    ghost use Rattle.wm_run.specs.Journal.{HasJournalCauses};
     ghost use Rattle.wm_run.specs.Lists.{since};
     ghost use Rattle.wm_run.specs.Monitor.{BeginsWithHand, HandsAt, IsIdle, TicksInTime, as_reports, call_of, hands_of, monitor_pass};
     ghost use Rattle.wm_run.specs.View.{MonitorAdvances, MonitorCalls};
@@ -71,76 +69,80 @@ impl Monitor {
         Monitor { kept: None }
     }
 
-    // Sends the report that is kept, which the floor may refuse to take for want of memory.
-    fn send_kept<C: Clock>(
+    // Sends the report that is kept, which the journal may fail to take.
+    fn send_kept<K: Keeper, C: Clock>(
         &mut self,
         alloc: Global,
-        floor: &mut Floor,
+        journal: &mut Journal<K>,
         clock: &mut C,
-    ) -> Result<(), NoMemory>
-        ensures part { MonitorCalls floor.old self.old floor.new self.new }
-        ensures sent { OnOk result (IfSome self.old.kept (λ _. length floor.old.log < length floor.new.log)) }
+    ) -> Result<(), MonitorFault>
+        ensures part { MonitorCalls journal.old.history self.old journal.new.history self.new }
+        ensures sent { OnOk result (IfSome self.old.kept (λ _. length journal.old.history.log < length journal.new.history.log)) }
         ensures moment { OnOk result (IfSome self.old.kept (λ report. IfSome (C.coming clock.old) (λ now.
-            floor.new ≡ with_call floor.old monitor_pass (call_of report) now))) }
-        ensures few { length floor.new.log ≤ length floor.old.log + 1 }
-        ensures no_hand { hands_of (since floor.old.log floor.new.log) ≡ 0 }
+            journal.new.history ≡ with_call journal.old.history monitor_pass (call_of report) now))) }
+        ensures few { length journal.new.history.log ≤ length journal.old.history.log + 1 }
+        ensures no_hand { hands_of (since journal.old.history.log journal.new.history.log) ≡ 0 }
         ensures unread { self.old.kept ≡ None → C.coming clock.new ≡ C.coming clock.old }
         ensures kept { OnOk result (self.new.kept ≡ None) }
+        ensures no_wait { IsErrOf result MonitorFault.WaitFault → ⊥ }
+        ensures journal { HasJournalCauses K.faults K.trail (IsErrOf result MonitorFault.KeeperFault) (IsErrOf result MonitorFault.LogFull) journal.old journal.new }
     {
         let Some(report) = self.kept else {
             return Ok(());
         };
-        floor.call(alloc, MONITOR, report.call(), clock.now())?;
+        enter(alloc, journal, MONITOR, report.call(), clock.now())?;
         self.kept = None;
         Ok(())
     }
 
     // Makes the calls of what Hand orders, while there are orders.
-    fn hands<P: Spawner, C: Clock>(
+    fn hands<K: Keeper, P: Spawner, C: Clock>(
         &mut self,
         alloc: Global,
-        floor: &mut Floor,
+        journal: &mut Journal<K>,
         spawner: &mut P,
         clock: &mut C,
     ) -> Result<(), MonitorFault>
         requires { self.old.kept ≡ None }
-        ensures part { MonitorAdvances P.asked P.told P.misses floor.old self.old spawner.old floor.new self.new spawner.new }
-        ensures all { OnOk result ((starting (reached floor.new) ≡ 0) ⊎ (256 ≤ hands_of (since floor.old.log floor.new.log))) }
-        ensures most { hands_of (since floor.old.log floor.new.log) ≤ 256 }
-        ensures quiet { OnOk result ((P.reporting spawner.new ≡ P.reporting spawner.old) ⊎ (length floor.old.log < length floor.new.log)) }
+        ensures part { MonitorAdvances P.asked P.told P.misses journal.old.history self.old spawner.old journal.new.history self.new spawner.new }
+        ensures all { OnOk result ((starting (reached journal.new.history) ≡ 0) ⊎ (256 ≤ hands_of (since journal.old.history.log journal.new.history.log))) }
+        ensures most { hands_of (since journal.old.history.log journal.new.history.log) ≤ 256 }
+        ensures quiet { OnOk result ((P.reporting spawner.new ≡ P.reporting spawner.old) ⊎ (length journal.old.history.log < length journal.new.history.log)) }
         ensures kept { OnOk result (self.new.kept ≡ None) }
         ensures faults { P.faults spawner.old ≤ P.faults spawner.new }
         ensures wait_fault { IsErrOf result MonitorFault.WaitFault → raised (P.faults spawner.old) ≤ P.faults spawner.new }
+        ensures journal { HasJournalCauses K.faults K.trail (IsErrOf result MonitorFault.KeeperFault) (IsErrOf result MonitorFault.LogFull) journal.old journal.new }
     {
         'hands: for _ in 0..MOST_HANDS {
-            if floor.pending().orders == 0 {
+            if journal.pending().orders == 0 {
                 return Ok(());
             }
-            self.hand(alloc, floor, spawner, clock)?;
+            self.hand(alloc, journal, spawner, clock)?;
         }
         Ok(())
     }
 
     // Makes the calls of the reports that are there.
-    fn looks<P: Spawner, C: Clock>(
+    fn looks<K: Keeper, P: Spawner, C: Clock>(
         &mut self,
         alloc: Global,
-        floor: &mut Floor,
+        journal: &mut Journal<K>,
         spawner: &mut P,
         clock: &mut C,
     ) -> Result<(), MonitorFault>
         requires { self.old.kept ≡ None }
-        ensures part { MonitorAdvances P.asked P.told P.misses floor.old self.old spawner.old floor.new self.new spawner.new }
-        ensures all { OnOk result (IsEmpty (P.reporting spawner.old) ⊎ (length floor.old.log < length floor.new.log)) }
-        ensures most { length floor.new.log ≤ length floor.old.log + 256 }
-        ensures last { OnOk result ((256 ≤ length (since floor.old.log floor.new.log)) ⊎
+        ensures part { MonitorAdvances P.asked P.told P.misses journal.old.history self.old spawner.old journal.new.history self.new spawner.new }
+        ensures all { OnOk result (IsEmpty (P.reporting spawner.old) ⊎ (length journal.old.history.log < length journal.new.history.log)) }
+        ensures most { length journal.new.history.log ≤ length journal.old.history.log + 256 }
+        ensures last { OnOk result ((256 ≤ length (since journal.old.history.log journal.new.history.log)) ⊎
             ((last : P) × IsEmpty (P.reporting last) × Grows (as_reports (P.told last)) (as_reports (P.told spawner.new)) [])) }
         ensures kept { OnOk result (self.new.kept ≡ None) }
         ensures faults { P.faults spawner.old ≤ P.faults spawner.new }
         ensures wait_fault { IsErrOf result MonitorFault.WaitFault → raised (P.faults spawner.old) ≤ P.faults spawner.new }
+        ensures journal { HasJournalCauses K.faults K.trail (IsErrOf result MonitorFault.KeeperFault) (IsErrOf result MonitorFault.LogFull) journal.old journal.new }
     {
         'looks: for _ in 0..MOST_LOOKS {
-            if !self.look(alloc, floor, spawner, clock)? {
+            if !self.look(alloc, journal, spawner, clock)? {
                 return Ok(());
             }
         }
@@ -149,71 +151,75 @@ impl Monitor {
 
     /// One turn: the kept report, the time where a job is due, at most 256 Hands with their orders, and at
     /// most 256 looks with their reports. It answers how many entries it made.
-    pub fn turn<P: Spawner, C: Clock>(
+    pub fn turn<K: Keeper, P: Spawner, C: Clock>(
         &mut self,
         alloc: Global,
-        floor: &mut Floor,
+        journal: &mut Journal<K>,
         spawner: &mut P,
         clock: &mut C,
     ) -> Result<usize, MonitorFault>
-        ensures part { MonitorAdvances P.asked P.told P.misses floor.old self.old spawner.old floor.new self.new spawner.new }
+        ensures part { MonitorAdvances P.asked P.told P.misses journal.old.history self.old spawner.old journal.new.history self.new spawner.new }
         ensures kept { OnOk result (self.new.kept ≡ None) }
         ensures faults { P.faults spawner.old ≤ P.faults spawner.new }
         ensures wait_fault { IsErrOf result MonitorFault.WaitFault → raised (P.faults spawner.old) ≤ P.faults spawner.new }
-        ensures sent { IfOk result (λ sent. sent ≡ length floor.new.log - length floor.old.log) }
-        ensures idle { result ≡ Ok 0 → IsIdle floor.old self.old.kept (C.coming clock.old) (P.reporting spawner.old) }
+        ensures journal { HasJournalCauses K.faults K.trail (IsErrOf result MonitorFault.KeeperFault) (IsErrOf result MonitorFault.LogFull) journal.old journal.new }
+        ensures sent { IfOk result (λ sent. sent ≡ length journal.new.history.log - length journal.old.history.log) }
+        ensures idle { result ≡ Ok 0 → IsIdle journal.old.history self.old.kept (C.coming clock.old) (P.reporting spawner.old) }
     {
-        let before = floor.len();
-        self.send_kept(alloc, floor, clock)?;
-        self.tick(alloc, floor, clock)?;
-        self.hands(alloc, floor, spawner, clock)?;
-        self.looks(alloc, floor, spawner, clock)?;
-        Ok(floor.len().saturating_sub(before))
+        let before = journal.len();
+        self.send_kept(alloc, journal, clock)?;
+        self.tick(alloc, journal, clock)?;
+        self.hands(alloc, journal, spawner, clock)?;
+        self.looks(alloc, journal, spawner, clock)?;
+        Ok(journal.len().saturating_sub(before))
     }
 
     /// Waits for a report, until the moment at the latest where one is given, and makes its call.
-    pub fn wait<P: Spawner, C: Clock, R: Wait>(
+    pub fn wait<K: Keeper, P: Spawner, C: Clock, R: Wait>(
         &mut self,
         rt: &R,
         alloc: Global,
-        floor: &mut Floor,
+        journal: &mut Journal<K>,
         spawner: &mut P,
         clock: &mut C,
         until: Option<Moment>,
     ) -> Result<(), MonitorFault>
-        ensures part { MonitorAdvances P.asked P.told P.misses floor.old self.old spawner.old floor.new self.new spawner.new }
-        ensures report { OnOk result (until ≡ None → IsEmpty (P.out spawner.old) ⊎ (length floor.old.log < length floor.new.log)) }
+        ensures part { MonitorAdvances P.asked P.told P.misses journal.old.history self.old spawner.old journal.new.history self.new spawner.new }
+        ensures report { OnOk result (until ≡ None → IsEmpty (P.out spawner.old) ⊎ (length journal.old.history.log < length journal.new.history.log)) }
         ensures awaited { OnOk result (Grows (P.awaited spawner.old) (P.awaited spawner.new) (until ∷ [])) }
         ensures kept { OnOk result (self.new.kept ≡ None) }
         ensures faults { P.faults spawner.old ≤ P.faults spawner.new }
         ensures wait_fault { IsErrOf result MonitorFault.WaitFault → raised (P.faults spawner.old) ≤ P.faults spawner.new }
+        ensures journal { HasJournalCauses K.faults K.trail (IsErrOf result MonitorFault.KeeperFault) (IsErrOf result MonitorFault.LogFull) journal.old journal.new }
     {
-        self.send_kept(alloc, floor, clock)?;
+        self.send_kept(alloc, journal, clock)?;
         let Some(report) = wait(rt, spawner, until)? else {
             return Ok(());
         };
         self.kept = Some(report);
-        self.send_kept(alloc, floor, clock)?;
+        self.send_kept(alloc, journal, clock)?;
         Ok(())
     }
 
     // Lets the machine see the time, where a job is due by now.
-    fn tick<C: Clock>(
+    fn tick<K: Keeper, C: Clock>(
         &mut self,
         alloc: Global,
-        floor: &mut Floor,
+        journal: &mut Journal<K>,
         clock: &mut C,
-    ) -> Result<(), NoMemory>
-        ensures part { MonitorCalls floor.old self.old floor.new self.new }
-        ensures due { OnOk result (IfSome (next_due (reached floor.old)) (λ due. IfSome (C.coming clock.old) (λ now.
-            due ≤ now → floor.new ≡ with_call floor.old monitor_pass Call.Tick now))) }
-        ensures in_time { (floor.new ≡ floor.old) ⊎ TicksInTime floor.old (C.coming clock.old) floor.new }
+    ) -> Result<(), MonitorFault>
+        ensures part { MonitorCalls journal.old.history self.old journal.new.history self.new }
+        ensures due { OnOk result (IfSome (next_due (reached journal.old.history)) (λ due. IfSome (C.coming clock.old) (λ now.
+            due ≤ now → journal.new.history ≡ with_call journal.old.history monitor_pass Call.Tick now))) }
+        ensures in_time { (journal.new.history ≡ journal.old.history) ⊎ TicksInTime journal.old.history (C.coming clock.old) journal.new.history }
         ensures kept { self.new ≡ self.old }
+        ensures no_wait { IsErrOf result MonitorFault.WaitFault → ⊥ }
+        ensures journal { HasJournalCauses K.faults K.trail (IsErrOf result MonitorFault.KeeperFault) (IsErrOf result MonitorFault.LogFull) journal.old journal.new }
     {
         let now = clock.now();
-        match floor.pending().next {
+        match journal.pending().next {
             Some(due) if due <= now => {
-                floor.call(alloc, MONITOR, Call::Tick, now)?;
+                enter(alloc, journal, MONITOR, Call::Tick, now)?;
                 Ok(())
             }
             _ => Ok(()),
@@ -221,24 +227,25 @@ impl Monitor {
     }
 
     // Makes one Hand and does its order.
-    fn hand<P: Spawner, C: Clock>(
+    fn hand<K: Keeper, P: Spawner, C: Clock>(
         &mut self,
         alloc: Global,
-        floor: &mut Floor,
+        journal: &mut Journal<K>,
         spawner: &mut P,
         clock: &mut C,
     ) -> Result<(), MonitorFault>
         requires { self.old.kept ≡ None }
-        ensures hand { OnOk result (BeginsWithHand floor.old floor.new) }
-        ensures moment { OnOk result (IfSome (C.coming clock.old) (HandsAt floor.old floor.new)) }
-        ensures one { hands_of (since floor.old.log floor.new.log) ≤ 1 }
-        ensures part { MonitorAdvances P.asked P.told P.misses floor.old self.old spawner.old floor.new self.new spawner.new }
+        ensures hand { OnOk result (BeginsWithHand journal.old.history journal.new.history) }
+        ensures moment { OnOk result (IfSome (C.coming clock.old) (HandsAt journal.old.history journal.new.history)) }
+        ensures one { hands_of (since journal.old.history.log journal.new.history.log) ≤ 1 }
+        ensures part { MonitorAdvances P.asked P.told P.misses journal.old.history self.old spawner.old journal.new.history self.new spawner.new }
         ensures kept { OnOk result (self.new.kept ≡ None) }
         ensures faults { P.faults spawner.old ≤ P.faults spawner.new }
         ensures wait_fault { IsErrOf result MonitorFault.WaitFault → raised (P.faults spawner.old) ≤ P.faults spawner.new }
+        ensures journal { HasJournalCauses K.faults K.trail (IsErrOf result MonitorFault.KeeperFault) (IsErrOf result MonitorFault.LogFull) journal.old journal.new }
     {
-        floor.call(alloc, MONITOR, Call::Hand, clock.now())?;
-        match floor.order() {
+        enter(alloc, journal, MONITOR, Call::Hand, clock.now())?;
+        match journal.order() {
             None => Ok(()),
             Some(Asked::Kill(serial)) => {
                 kill(spawner, *serial)?;
@@ -246,36 +253,37 @@ impl Monitor {
             }
             Some(Asked::Start(order)) => {
                 self.kept = Some(start(spawner, order));
-                self.send_kept(alloc, floor, clock)?;
+                self.send_kept(alloc, journal, clock)?;
                 Ok(())
             }
         }
     }
 
     // Looks once for a report, and makes its call. It answers whether there was one.
-    fn look<P: Spawner, C: Clock>(
+    fn look<K: Keeper, P: Spawner, C: Clock>(
         &mut self,
         alloc: Global,
-        floor: &mut Floor,
+        journal: &mut Journal<K>,
         spawner: &mut P,
         clock: &mut C,
     ) -> Result<bool, MonitorFault>
         requires { self.old.kept ≡ None }
         ensures none { result ≡ Ok false → IsEmpty (P.reporting spawner.old) }
-        ensures sent { result ≡ Ok true → length floor.old.log < length floor.new.log }
-        ensures moment { result ≡ Ok true → IfSome (C.coming clock.old) (λ now. (c : Call) × (floor.new ≡ with_call floor.old monitor_pass c now)) }
-        ensures few { length floor.new.log ≤ length floor.old.log + 1 }
+        ensures sent { result ≡ Ok true → length journal.old.history.log < length journal.new.history.log }
+        ensures moment { result ≡ Ok true → IfSome (C.coming clock.old) (λ now. (c : Call) × (journal.new.history ≡ with_call journal.old.history monitor_pass c now)) }
+        ensures few { length journal.new.history.log ≤ length journal.old.history.log + 1 }
         ensures none_told { result ≡ Ok false → Grows (as_reports (P.told spawner.old)) (as_reports (P.told spawner.new)) [] }
-        ensures part { MonitorAdvances P.asked P.told P.misses floor.old self.old spawner.old floor.new self.new spawner.new }
+        ensures part { MonitorAdvances P.asked P.told P.misses journal.old.history self.old spawner.old journal.new.history self.new spawner.new }
         ensures kept { OnOk result (self.new.kept ≡ None) }
         ensures faults { P.faults spawner.old ≤ P.faults spawner.new }
         ensures wait_fault { IsErrOf result MonitorFault.WaitFault → raised (P.faults spawner.old) ≤ P.faults spawner.new }
+        ensures journal { HasJournalCauses K.faults K.trail (IsErrOf result MonitorFault.KeeperFault) (IsErrOf result MonitorFault.LogFull) journal.old journal.new }
     {
         let Some(report) = look(spawner)? else {
             return Ok(false);
         };
         self.kept = Some(report);
-        self.send_kept(alloc, floor, clock)?;
+        self.send_kept(alloc, journal, clock)?;
         Ok(true)
     }
 }

@@ -5,6 +5,7 @@ ghost use Rattle.wm_outside.specs.Cause.{raised};
 
 use crate::answer::{NOT_BUILT, entry_line, fault_answer, is_fault, is_refused};
 use crate::calls::user_call;
+use crate::enter::enter;
 use crate::halt::Halt;
 use crate::monitor::Monitor;
 use crate::parse::parse_line;
@@ -12,20 +13,19 @@ use crate::parsed::Parsed;
 use crate::write::write_all;
 use std::alloc::Global;
 use std::sync::Wait;
-use wm_base::NoMemory;
 use wm_clwords::ClFault;
-use wm_floor::Floor;
+use wm_journal::Journal;
 use wm_law::{Call, Command, built_commands_are_had};
-use wm_outside::{Clock, Sink, Spawner};
+use wm_outside::{Clock, Keeper, Sink, Spawner};
 use wm_show::LineFault;
 
 /// The pass of the session.
 pub const SESSION: u32 = 0;
 
-/// The machine, its history and the monitor of a run.
+/// The journal and the monitor of a run.
 #[derive(Drop)]
-pub struct Run {
-    pub floor: Floor,
+pub struct Run<K: Keeper> {
+    pub journal: Journal<K>,
     pub monitor: Monitor,
 }
 
@@ -43,55 +43,66 @@ pub(crate) fn put<O: Sink>(out: &mut O, bytes: &[u8]) -> Result<(), Halt>
     }
 }
 
-impl Run {
+impl<K: Keeper> Run<K> {
     ghost use Rattle.std.specs.Prelude.{◌≡◌, ◌⊎◌, ◌<◌, ◌≤◌, ◌+◌, ◌-◌, ◌∷◌, [], ℕ, None, Ok, true, OnOk, OnErr, IsErrOf, IfOk, IfSome, length, take};
     ghost use Rattle.std.specs.Option.{option_copied};
     ghost use Rattle.wm_law.specs.Built.{is_built};
     ghost use Rattle.wm_law.specs.Fit.{IsCall, HasCall, IsCommand};
     ghost use Rattle.wm_law.specs.Pending.{next_due, starting};
-    ghost use Rattle.wm_floor.specs.History.{reached, with_call, last_of};
+    ghost use Rattle.wm_journal.specs.History.{reached, with_call, last_of};
     ghost use Rattle.wm_outside.specs.Told.{Grows, IsEmpty};
     ghost use Rattle.wm_outside.specs.Cause.{raised};
     ghost use Rattle.wm_run.specs.Answer.{entry_text, with_end, is_refused};
     ghost use Rattle.wm_run.specs.Calls.{Called};
     ghost use Rattle.wm_run.specs.Halt.{HasCauses, HasMonitorCauses};
+    ghost use Rattle.wm_run.specs.Journal.{HasJournalCauses};
     ghost use Rattle.wm_run.specs.Monitor.{IsIdle};
     ghost use Rattle.wm_run.specs.Parsed.{IsFitParsed};
-    ghost use Rattle.wm_run.specs.Serving.{RunAdvances, RunServes, session_entries};
+    ghost use Rattle.wm_run.specs.Serving.{RunServes, session_entries};
     ghost use Rattle.wm_run.specs.Session.{AnsweredBy, AnswersLine, AnswersParsed, Calls, session_pass};
     ghost use Rattle.wm_run.specs.Stopped.{IsCutShort};
+    ghost use Rattle.wm_run.specs.View.{MonitorAdvances};
 
-    // Makes one call of the session.
+    // Makes one call of the session. An `Err` leaves the history.
     pub(crate) fn call<C: Clock>(
         &mut self,
         alloc: Global,
         clock: &mut C,
         call: Call,
-    ) -> Result<(), NoMemory>
+    ) -> Result<(), Halt>
         requires fit { IsCall call }
-        requires built { HasCall (reached self.old.floor) call }
-        ensures ok { OnOk result (Called self.old.floor call self.new.floor) }
-        ensures moment { OnOk result (IfSome (C.coming clock.old) (λ now. self.new.floor ≡ with_call self.old.floor session_pass call now)) }
-        ensures err { OnErr result (self.new.floor ≡ self.old.floor) }
+        requires built { HasCall (reached self.old.journal.history) call }
+        ensures ok { OnOk result (Called self.old.journal.history call self.new.journal.history) }
+        ensures moment { OnOk result (IfSome (C.coming clock.old) (λ now. self.new.journal.history ≡ with_call self.old.journal.history session_pass call now)) }
+        ensures err { OnErr result (self.new.journal.history ≡ self.old.journal.history) }
         ensures monitor { self.new.monitor ≡ self.old.monitor }
+        ensures no_write { IsErrOf result Halt.WriteFault → ⊥ }
+        ensures no_wait { IsErrOf result Halt.WaitFault → ⊥ }
+        ensures no_read { IsErrOf result Halt.ReadFault → ⊥ }
+        ensures not_full { IsErrOf result Halt.InputFull → ⊥ }
+        ensures journal { HasJournalCauses K.faults K.trail (IsErrOf result Halt.KeeperFault) (IsErrOf result Halt.LogFull) self.old.journal self.new.journal }
     {
-        self.floor.call(alloc, SESSION, call, clock.now())?;
-        Ok(())
+        match enter(alloc, &mut self.journal, SESSION, call, clock.now()) {
+            Ok(()) => Ok(()),
+            Err(fault) => Err(Halt::from(fault)),
+        }
     }
 
     // Writes what is said of the last entry, and answers whether it is a refusal.
     fn reply<O: Sink>(&self, alloc: Global, out: &mut O) -> Result<bool, Halt>
-        ensures ok { IfOk result (λ refused. IfSome (last_of self.now.floor) (λ e.
+        ensures ok { IfOk result (λ refused. IfSome (last_of self.now.journal.history) (λ e.
             Grows (O.written out.old) (O.written out.new) (with_end (entry_text e)) × (refused ≡ is_refused e.reply))) }
-        ensures some { OnErr result (IfSome (last_of self.now.floor) (λ e.
+        ensures some { OnErr result (IfSome (last_of self.now.journal.history) (λ e.
             (n : ℕ) × Grows (O.written out.old) (O.written out.new) (take n (with_end (entry_text e))))) }
         ensures faults { O.faults out.old ≤ O.faults out.new }
         ensures write_fault { IsErrOf result Halt.WriteFault → raised (O.faults out.old) ≤ O.faults out.new }
         ensures no_wait { IsErrOf result Halt.WaitFault → ⊥ }
         ensures no_read { IsErrOf result Halt.ReadFault → ⊥ }
         ensures not_full { IsErrOf result Halt.InputFull → ⊥ }
+        ensures no_keeper { IsErrOf result Halt.KeeperFault → ⊥ }
+        ensures no_log { IsErrOf result Halt.LogFull → ⊥ }
     {
-        let Some(entry) = self.floor.last() else {
+        let Some(entry) = self.journal.last() else {
             return Ok(false);
         };
         let line = entry_line(alloc, entry)?;
@@ -106,13 +117,14 @@ impl Run {
         spawner: &mut P,
         clock: &mut C,
     ) -> Result<usize, Halt>
-        ensures part { RunAdvances P.asked P.told P.misses self.old spawner.old self.new spawner.new }
+        ensures part { MonitorAdvances P.asked P.told P.misses self.old.journal.history self.old.monitor spawner.old self.new.journal.history self.new.monitor spawner.new }
         ensures kept { OnOk result (self.new.monitor.kept ≡ None) }
         ensures causes { HasMonitorCauses result (P.faults spawner.old) (P.faults spawner.new) }
-        ensures sent { IfOk result (λ sent. sent ≡ length self.new.floor.log - length self.old.floor.log) }
-        ensures idle { result ≡ Ok 0 → IsIdle self.old.floor self.old.monitor.kept (C.coming clock.old) (P.reporting spawner.old) }
+        ensures journal { HasJournalCauses K.faults K.trail (IsErrOf result Halt.KeeperFault) (IsErrOf result Halt.LogFull) self.old.journal self.new.journal }
+        ensures sent { IfOk result (λ sent. sent ≡ length self.new.journal.history.log - length self.old.journal.history.log) }
+        ensures idle { result ≡ Ok 0 → IsIdle self.old.journal.history self.old.monitor.kept (C.coming clock.old) (P.reporting spawner.old) }
     {
-        match self.monitor.turn(alloc, &mut self.floor, spawner, clock) {
+        match self.monitor.turn(alloc, &mut self.journal, spawner, clock) {
             Ok(sent) => Ok(sent),
             Err(fault) => Err(Halt::from(fault)),
         }
@@ -126,17 +138,18 @@ impl Run {
         spawner: &mut P,
         clock: &mut C,
     ) -> Result<(), Halt>
-        ensures part { RunAdvances P.asked P.told P.misses self.old spawner.old self.new spawner.new }
-        ensures report { OnOk result (next_due (reached self.old.floor) ≡ None →
-            IsEmpty (P.out spawner.old) ⊎ (length self.old.floor.log < length self.new.floor.log)) }
-        ensures awaited { OnOk result (Grows (P.awaited spawner.old) (P.awaited spawner.new) (next_due (reached self.old.floor) ∷ [])) }
+        ensures part { MonitorAdvances P.asked P.told P.misses self.old.journal.history self.old.monitor spawner.old self.new.journal.history self.new.monitor spawner.new }
+        ensures report { OnOk result (next_due (reached self.old.journal.history) ≡ None →
+            IsEmpty (P.out spawner.old) ⊎ (length self.old.journal.history.log < length self.new.journal.history.log)) }
+        ensures awaited { OnOk result (Grows (P.awaited spawner.old) (P.awaited spawner.new) (next_due (reached self.old.journal.history) ∷ [])) }
         ensures kept { OnOk result (self.new.monitor.kept ≡ None) }
         ensures causes { HasMonitorCauses result (P.faults spawner.old) (P.faults spawner.new) }
+        ensures journal { HasJournalCauses K.faults K.trail (IsErrOf result Halt.KeeperFault) (IsErrOf result Halt.LogFull) self.old.journal self.new.journal }
     {
-        let until = self.floor.pending().next;
+        let until = self.journal.pending().next;
         match self
             .monitor
-            .wait(rt, alloc, &mut self.floor, spawner, clock, until)
+            .wait(rt, alloc, &mut self.journal, spawner, clock, until)
         {
             Ok(()) => Ok(()),
             Err(fault) => Err(Halt::from(fault)),
@@ -155,14 +168,15 @@ impl Run {
     ) -> Result<bool, Halt>
         requires fit { IsCommand command }
         requires built { is_built command ≡ true }
-        ensures serves { RunServes P.asked P.told P.misses self.old spawner.old self.new spawner.new }
+        ensures serves { RunServes P.asked P.told P.misses self.old.journal.history self.old.monitor spawner.old self.new.journal.history self.new.monitor spawner.new }
         ensures answered { IfOk result (λ faulty. AnsweredBy (Calls command)
-            (session_entries self.old.floor self.new.floor) (O.written out.old) (O.written out.new) faulty) }
+            (session_entries self.old.journal.history self.new.journal.history) (O.written out.old) (O.written out.new) faulty) }
         ensures stopped { OnErr result (IsCutShort (Calls command)
-            (session_entries self.old.floor self.new.floor) (O.written out.old) (O.written out.new)) }
-        ensures orders { OnOk result (length self.new.floor.log ≡ length self.old.floor.log + 1 → starting (reached self.new.floor) ≡ 0) }
-        ensures quiet { OnOk result (length self.new.floor.log ≡ length self.old.floor.log + 1 → IsEmpty (P.reporting spawner.old)) }
+            (session_entries self.old.journal.history self.new.journal.history) (O.written out.old) (O.written out.new)) }
+        ensures orders { OnOk result (length self.new.journal.history.log ≡ length self.old.journal.history.log + 1 → starting (reached self.new.journal.history) ≡ 0) }
+        ensures quiet { OnOk result (length self.new.journal.history.log ≡ length self.old.journal.history.log + 1 → IsEmpty (P.reporting spawner.old)) }
         ensures causes { HasCauses result (O.faults out.old) (O.faults out.new) (P.faults spawner.old) (P.faults spawner.new) }
+        ensures journal { HasJournalCauses K.faults K.trail (IsErrOf result Halt.KeeperFault) (IsErrOf result Halt.LogFull) self.old.journal self.new.journal }
     {
         built_commands_are_had();
         let change = user_call(alloc, command)?;
@@ -182,12 +196,13 @@ impl Run {
         parsed: Parsed,
     ) -> Result<bool, Halt>
         requires { IsFitParsed parsed }
-        ensures serves { RunServes P.asked P.told P.misses self.old spawner.old self.new spawner.new }
+        ensures serves { RunServes P.asked P.told P.misses self.old.journal.history self.old.monitor spawner.old self.new.journal.history self.new.monitor spawner.new }
         ensures answered { IfOk result (λ faulty. AnsweredBy (AnswersParsed parsed)
-            (session_entries self.old.floor self.new.floor) (O.written out.old) (O.written out.new) faulty) }
+            (session_entries self.old.journal.history self.new.journal.history) (O.written out.old) (O.written out.new) faulty) }
         ensures stopped { OnErr result (IsCutShort (AnswersParsed parsed)
-            (session_entries self.old.floor self.new.floor) (O.written out.old) (O.written out.new)) }
+            (session_entries self.old.journal.history self.new.journal.history) (O.written out.old) (O.written out.new)) }
         ensures causes { HasCauses result (O.faults out.old) (O.faults out.new) (P.faults spawner.old) (P.faults spawner.new) }
+        ensures journal { HasJournalCauses K.faults K.trail (IsErrOf result Halt.KeeperFault) (IsErrOf result Halt.LogFull) self.old.journal self.new.journal }
     {
         match parsed {
             Parsed::Fault(fault) => {
@@ -212,12 +227,13 @@ impl Run {
         clock: &mut C,
         line: Option<&[u8]>,
     ) -> Result<bool, Halt>
-        ensures serves { RunServes P.asked P.told P.misses self.old spawner.old self.new spawner.new }
+        ensures serves { RunServes P.asked P.told P.misses self.old.journal.history self.old.monitor spawner.old self.new.journal.history self.new.monitor spawner.new }
         ensures answered { IfOk result (λ faulty. AnsweredBy (AnswersLine (option_copied line.entry))
-            (session_entries self.old.floor self.new.floor) (O.written out.old) (O.written out.new) faulty) }
+            (session_entries self.old.journal.history self.new.journal.history) (O.written out.old) (O.written out.new) faulty) }
         ensures stopped { OnErr result (IsCutShort (AnswersLine (option_copied line.entry))
-            (session_entries self.old.floor self.new.floor) (O.written out.old) (O.written out.new)) }
+            (session_entries self.old.journal.history self.new.journal.history) (O.written out.old) (O.written out.new)) }
         ensures causes { HasCauses result (O.faults out.old) (O.faults out.new) (P.faults spawner.old) (P.faults spawner.new) }
+        ensures journal { HasJournalCauses K.faults K.trail (IsErrOf result Halt.KeeperFault) (IsErrOf result Halt.LogFull) self.old.journal self.new.journal }
     {
         let parsed = match line {
             None => Parsed::Fault(LineFault::Cl(ClFault::TooLong)),

@@ -1,13 +1,17 @@
 // What a run is given.
+use crate::rows::row;
 use anyhow::{Context, Result};
 use std::alloc::{AllocError, Global};
 use wm_cases::bytes_of;
+use wm_outside::Row;
 
-// Which call fails: the number, from 1, of a read, a write, a start, a kill or a look.
+// Which call fails: the number, from 1, of a read, a write, an `apply`, a start, a kill or a look; or the opening of the store.
 #[derive(Clone, Copy, PartialEq, Eq)]
 pub enum Failing {
     Read,
     Write,
+    Open,
+    Apply,
     Start,
     Kill,
     Look,
@@ -18,6 +22,8 @@ impl Failing {
         match word {
             "read" => Some(Failing::Read),
             "write" => Some(Failing::Write),
+            "open" => Some(Failing::Open),
+            "apply" => Some(Failing::Apply),
             "start" => Some(Failing::Start),
             "kill" => Some(Failing::Kill),
             "look" => Some(Failing::Look),
@@ -37,12 +43,14 @@ pub fn unknown(answer: &mut String) -> Result<()> {
     Ok(())
 }
 
-/// The words, the input, the calls that fail, and the numbers that the forms in memory are made with.
+/// The words, the input, the rows, the calls that fail, and the numbers that the forms in memory are made with.
 #[derive(Drop)]
 pub struct Given {
     pub words: Vec<String>,
     pub input: Vec<u8>,
     pub failing: Vec<(Failing, u32)>,
+    /// The rows that the store has.
+    pub rows: Vec<Row>,
     /// How many looks a child is out before it has its report.
     pub lag: u32,
     /// How many bytes a read or a write takes at the most.
@@ -54,7 +62,7 @@ pub struct Given {
 }
 
 impl Given {
-    /// The word `run`, no input, children that end at once, a clock that stands at 1000, and nothing that fails.
+    /// The word `run`, no input, no rows, children that end at once, a clock that stands at 1000, and nothing that fails.
     pub fn new(alloc: Global) -> Result<Given> {
         let mut words = Vec::new(alloc);
         push_word(alloc, &mut words, "run")?;
@@ -62,6 +70,7 @@ impl Given {
             words,
             input: Vec::new(alloc),
             failing: Vec::new(alloc),
+            rows: Vec::new(alloc),
             lag: 0,
             most: 4096,
             first: 1000,
@@ -83,6 +92,7 @@ impl Given {
             "line" => self.line(alloc, text),
             "bytes" => self.bytes(alloc, text),
             "fail" => self.fail(text),
+            "row" => self.row(alloc, text),
             "lag" => self.lag(text),
             "pieces" => self.pieces(text),
             "clock" => self.clock(text),
@@ -100,6 +110,11 @@ impl Given {
     fn bytes(&mut self, alloc: Global, text: &str) -> Result<()> {
         let bytes = bytes_of(alloc, text)?;
         self.input.extend_from_slice(&bytes)?;
+        Ok(())
+    }
+
+    fn row(&mut self, alloc: Global, text: &str) -> Result<()> {
+        self.rows.push(row(alloc, text)?)?;
         Ok(())
     }
 

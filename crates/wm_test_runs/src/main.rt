@@ -6,6 +6,7 @@
 #![tactic(auto)]
 
 mod given;
+mod rows;
 mod shown;
 mod subject;
 mod told;
@@ -18,6 +19,7 @@ fn main(rt: HostRuntime) -> Result<()> {
     let mut runs = Runs::new(&rt, rt.alloc())?;
     play(&rt, "scripts.txt", &mut runs)?;
     play(&rt, "faults.txt", &mut runs)?;
+    play(&rt, "stores.txt", &mut runs)?;
     play(&rt, "reports.txt", &mut runs)?;
     play(&rt, "limits.txt", &mut runs)?;
     play(&rt, "order.txt", &mut runs)?;

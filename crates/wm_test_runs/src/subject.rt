@@ -1,5 +1,7 @@
-// The questions, and the run that they are about.
+// The questions, and the run that they are about. `run` runs over a store of the given rows, `again` over the one that the run
+// before has left; `rows 11` shows the rows of a table of it.
 use crate::given::{Failing, Given, unknown};
+use crate::rows::{store_of, write_table};
 use crate::shown::{push_asked, push_entry};
 use crate::told::Telling;
 use anyhow::Result;
@@ -7,7 +9,7 @@ use std::alloc::Global;
 use std::sync::Wait;
 use wm_base::Moment;
 use wm_cases::Subject;
-use wm_outside::{MemClock, MemSink, MemSource, MemSpawner, Spawner};
+use wm_outside::{MemClock, MemSink, MemSource, MemSpawner, MemStore, Spawner, Store};
 use wm_run::{Ran, run};
 
 /// What a run did, and what the next one is given.
@@ -16,6 +18,8 @@ pub struct Runs<'a, W: Wait> {
     rt: &'a W,
     alloc: Global,
     given: Given,
+    // The store of the last run.
+    store: MemStore,
     status: u8,
     written: Vec<u8>,
     log: String,
@@ -29,6 +33,7 @@ impl<'a, W: Wait> Runs<'a, W> {
             rt,
             alloc,
             given: Given::new(alloc)?,
+            store: store_of(Vec::new(alloc), Vec::new(alloc))?,
             status: 0,
             written: Vec::new(alloc),
             log: String::new(alloc),
@@ -54,6 +59,7 @@ impl<'a, W: Wait> Runs<'a, W> {
             &given.words,
             &mut source,
             &mut sink,
+            &mut self.store,
             spawner,
             &mut clock,
         );
@@ -96,6 +102,17 @@ impl<'a, W: Wait> Runs<'a, W> {
         self.run_with(&mut spawner)
     }
 
+    // A store of the given rows. Its keeper is out where the opening is to fail.
+    fn new_store(&mut self) -> Result<()> {
+        let given = &self.given;
+        let rows = given.rows.to_vec(self.alloc)?;
+        self.store = store_of(rows, given.fails(self.alloc, Failing::Apply)?)?;
+        if !given.fails(self.alloc, Failing::Open)?.is_empty() {
+            self.store.open("")?;
+        }
+        Ok(())
+    }
+
     fn run_and_tell(&mut self, answer: &mut String) -> Result<()> {
         self.run()?;
         writeln!(answer, "status {}", self.status)?;
@@ -111,7 +128,11 @@ impl<'a, W: Wait> Runs<'a, W> {
     // Answers a question of one word.
     fn show(&mut self, question: &str, answer: &mut String) -> Result<()> {
         match question {
-            "run" => self.run_and_tell(answer),
+            "run" => {
+                self.new_store()?;
+                self.run_and_tell(answer)
+            }
+            "again" => self.run_and_tell(answer),
             "written" => self.show_written(answer),
             "asked" => Ok(answer.push_str(self.asked.as_str())?),
             "log" => Ok(answer.push_str(self.log.as_str())?),
@@ -123,7 +144,7 @@ impl<'a, W: Wait> Runs<'a, W> {
 impl<'a, W: Wait> Subject for Runs<'a, W> {
     fn begin(&mut self) -> Result<()> {
         self.given = Given::new(self.alloc)?;
-        Ok(())
+        self.new_store()
     }
 
     fn answer(&mut self, question: &str, answer: &mut String) -> Result<()> {
@@ -133,6 +154,7 @@ impl<'a, W: Wait> Subject for Runs<'a, W> {
                 self.given.words.clear();
                 Ok(())
             }
+            Some(("rows", tab)) => write_table(&mut self.store, tab, answer),
             Some((word, text)) => self.given.set(self.alloc, word, text, answer),
         }
     }

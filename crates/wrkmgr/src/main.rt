@@ -1,5 +1,5 @@
-//! The program `wrkmgr`: `main` reads the words of the command line, makes the real objects, makes the one call of `run`
-//! and ends with its status. What is promised is the contract of `run` of `wm_run`.
+//! The program `wrkmgr`: `main` reads the words of the command line, makes the store that they name and the other real
+//! objects, makes the one call of `run` and ends with its status. What is promised is the contract of `run` of `wm_run`.
 #![tactic(auto)]
 
 ghost use Rattle.std.specs.Prelude.{◌≡◌, ◌⊎◌, IfErr};
@@ -7,8 +7,10 @@ ghost use Rattle.std.specs.Prelude.{◌≡◌, ◌⊎◌, IfErr};
 use std::env;
 use std::io::ErrorKind;
 use std::process::ExitCode;
-use wm_outside::{ReadSource, SysClock, SysSpawner, WriteSink};
-use wm_run::{NO_MEMORY, WRONG_WORDS, run};
+use std::sync::Wait;
+use wm_outside::{MemKeeper, MemStore, ReadSource, Store, SysClock, SysSpawner, WriteSink};
+use wm_run::{NO_MEMORY, WRONG_WORDS, run, store_path};
+use wm_sqlkeep::SqlStore;
 
 // The words behind the program's name, or the status where they can't be had. A word that isn't UTF-8 is a wrong one.
 fn words(rt: &HostRuntime) -> Result<Vec<String>, u8>
@@ -25,23 +27,55 @@ fn words(rt: &HostRuntime) -> Result<Vec<String>, u8>
     }
 }
 
+// The one call of `run`, over the objects of the system and a store.
+fn run_over<S: Store, R: Wait>(rt: &R, host: &HostRuntime, words: &[String], store: &mut S) -> u8 {
+    let mut input = ReadSource::new(host.stdin());
+    let mut out = WriteSink::new(host.stdout());
+    let mut spawner = SysSpawner::new(host.alloc(), host);
+    let mut clock = SysClock::new(host);
+    let ran = run(
+        rt,
+        host.alloc(),
+        words,
+        &mut input,
+        &mut out,
+        store,
+        &mut spawner,
+        &mut clock,
+    );
+    ran.status
+}
+
+// A run whose rows end with it.
+fn run_in_memory<R: Wait>(rt: &R, host: &HostRuntime, words: &[String]) -> u8 {
+    let keeper = MemKeeper::new(Vec::new(host.alloc()), Vec::new(host.alloc()));
+    let mut store = MemStore::new(keeper);
+    run_over(rt, host, words, &mut store)
+}
+
+// A run over the rows of a file.
+fn run_on_file<R: Wait>(rt: &R, host: &HostRuntime, words: &[String]) -> u8 {
+    let mut store = SqlStore::new(host);
+    run_over(rt, host, words, &mut store)
+}
+
+// Whether the words name a file.
+fn names_file(words: &[String]) -> bool {
+    match store_path(words) {
+        Some(path) => path != ":memory:",
+        None => false,
+    }
+}
+
 fn main(rt: HostRuntime) -> ExitCode {
     let words = match words(&rt) {
         Ok(words) => words,
         Err(status) => return ExitCode::from(status),
     };
-    let mut input = ReadSource::new(rt.stdin());
-    let mut out = WriteSink::new(rt.stdout());
-    let mut spawner = SysSpawner::new(rt.alloc(), &rt);
-    let mut clock = SysClock::new(&rt);
-    let ran = run(
-        &rt,
-        rt.alloc(),
-        &words,
-        &mut input,
-        &mut out,
-        &mut spawner,
-        &mut clock,
-    );
-    ExitCode::from(ran.status)
+    let status = if names_file(&words) {
+        run_on_file(&rt, &rt, &words)
+    } else {
+        run_in_memory(&rt, &rt, &words)
+    };
+    ExitCode::from(status)
 }

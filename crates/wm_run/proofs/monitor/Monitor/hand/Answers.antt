@@ -7,7 +7,7 @@ pub returns-in-None-clause-part : goal.returns-in-None-clause-part
 returns-in-None-clause-part g c =
     let s = g.P.Spawner in
     let p = c.args.spawner.now in
-    nothing_part c.args.floor.now c.call.new.self c.args.self.now None (s.asked p) (s.told p) (s.misses p) c.now.result c.in_ok-call.ensures.ok c.in-None.ensures refl
+    nothing_part c.args.journal.now.history c.enter.new.journal.history c.args.self.now None (s.asked p) (s.told p) (s.misses p) c.now.result c.in_ok-enter.ensures.ok c.in-None.ensures refl
 
 pub returns-in_err-kill-in-Some-Kill-clause-part : goal.returns-in_err-kill-in-Some-Kill-clause-part
 returns-in_err-kill-in-Some-Kill-clause-part g c =
@@ -15,7 +15,7 @@ returns-in_err-kill-in-Some-Kill-clause-part g c =
     let p = c.args.spawner.now in
     let q = c.kill.new.spawner in
     let a = Kill c.in-Some-Kill.serial in
-    killed_part c.args.floor.now c.call.new.self c.args.self.now (Some a) a (s.asked p) (s.asked q) (s.told p) (s.told q) (s.misses p) (s.misses q) c.now.result c.requires c.in_ok-call.ensures.ok (ap Some (sym c.in-Some-Kill.field-0-is) ∙ c.in-Some-Kill.ensures) refl c.kill.ensures.asked c.kill.ensures.told c.kill.ensures.misses
+    killed_part c.args.journal.now.history c.enter.new.journal.history c.args.self.now (Some a) a (s.asked p) (s.asked q) (s.told p) (s.told q) (s.misses p) (s.misses q) c.now.result c.requires c.in_ok-enter.ensures.ok (ap Some (sym c.in-Some-Kill.field-0-is) ∙ c.in-Some-Kill.ensures) refl c.kill.ensures.asked c.kill.ensures.told c.kill.ensures.misses
 
 pub returns-in_ok-kill-in-Some-Kill-clause-part : goal.returns-in_ok-kill-in-Some-Kill-clause-part
 returns-in_ok-kill-in-Some-Kill-clause-part g c =
@@ -23,7 +23,7 @@ returns-in_ok-kill-in-Some-Kill-clause-part g c =
     let p = c.args.spawner.now in
     let q = c.kill.new.spawner in
     let a = Kill c.in-Some-Kill.serial in
-    killed_part c.args.floor.now c.call.new.self c.args.self.now (Some a) a (s.asked p) (s.asked q) (s.told p) (s.told q) (s.misses p) (s.misses q) c.now.result c.requires c.in_ok-call.ensures.ok (ap Some (sym c.in-Some-Kill.field-0-is) ∙ c.in-Some-Kill.ensures) refl c.kill.ensures.asked c.kill.ensures.told c.kill.ensures.misses
+    killed_part c.args.journal.now.history c.enter.new.journal.history c.args.self.now (Some a) a (s.asked p) (s.asked q) (s.told p) (s.told q) (s.misses p) (s.misses q) c.now.result c.requires c.in_ok-enter.ensures.ok (ap Some (sym c.in-Some-Kill.field-0-is) ∙ c.in-Some-Kill.ensures) refl c.kill.ensures.asked c.kill.ensures.told c.kill.ensures.misses
 
 pub returns-in_err-send_kept-in-Some-Start-clause-part : goal.returns-in_err-send_kept-in-Some-Start-clause-part
 returns-in_err-send_kept-in-Some-Start-clause-part g c =
@@ -31,7 +31,7 @@ returns-in_err-send_kept-in-Some-Start-clause-part g c =
     let p = c.args.spawner.now in
     let q = c.start.new.spawner in
     let a = Start c.in-Some-Start.order in
-    started_part c.args.floor.now c.call.new.self c.args.self.now (Some a) a c.start.result (s.asked p) (s.asked q) (s.told p) (s.told q) (s.misses p) (s.misses q) c.now.result _ c.requires c.in_ok-call.ensures.ok (ap Some (sym c.in-Some-Start.field-0-is) ∙ c.in-Some-Start.ensures) refl c.start.ensures.asked c.start.ensures.told c.start.ensures.misses (c.send_kept.ensures.part (s.asked q) (s.told q) (s.misses q))
+    started_part c.args.journal.now.history c.enter.new.journal.history c.args.self.now (Some a) a c.start.result (s.asked p) (s.asked q) (s.told p) (s.told q) (s.misses p) (s.misses q) c.now.result _ c.requires c.in_ok-enter.ensures.ok (ap Some (sym c.in-Some-Start.field-0-is) ∙ c.in-Some-Start.ensures) refl c.start.ensures.asked c.start.ensures.told c.start.ensures.misses (c.send_kept.ensures.part (s.asked q) (s.told q) (s.misses q))
 
 pub returns-in_ok-send_kept-in-Some-Start-clause-part : goal.returns-in_ok-send_kept-in-Some-Start-clause-part
 returns-in_ok-send_kept-in-Some-Start-clause-part g c =
@@ -39,34 +39,34 @@ returns-in_ok-send_kept-in-Some-Start-clause-part g c =
     let p = c.args.spawner.now in
     let q = c.start.new.spawner in
     let a = Start c.in-Some-Start.order in
-    started_part c.args.floor.now c.call.new.self c.args.self.now (Some a) a c.start.result (s.asked p) (s.asked q) (s.told p) (s.told q) (s.misses p) (s.misses q) c.now.result _ c.requires c.in_ok-call.ensures.ok (ap Some (sym c.in-Some-Start.field-0-is) ∙ c.in-Some-Start.ensures) refl c.start.ensures.asked c.start.ensures.told c.start.ensures.misses (c.send_kept.ensures.part (s.asked q) (s.told q) (s.misses q))
+    started_part c.args.journal.now.history c.enter.new.journal.history c.args.self.now (Some a) a c.start.result (s.asked p) (s.asked q) (s.told p) (s.told q) (s.misses p) (s.misses q) c.now.result _ c.requires c.in_ok-enter.ensures.ok (ap Some (sym c.in-Some-Start.field-0-is) ∙ c.in-Some-Start.ensures) refl c.start.ensures.asked c.start.ensures.told c.start.ensures.misses (c.send_kept.ensures.part (s.asked q) (s.told q) (s.misses q))
 
 pub returns-in-None-clause-hand : goal.returns-in-None-clause-hand
-returns-in-None-clause-hand g c = BeginsWithHand-only c.args.floor.now c.call.new.self c.now.result c.in_ok-call.ensures.ok
+returns-in-None-clause-hand g c = BeginsWithHand-only c.args.journal.now.history c.enter.new.journal.history c.now.result c.in_ok-enter.ensures.ok
 
 pub returns-in_ok-kill-in-Some-Kill-clause-hand : goal.returns-in_ok-kill-in-Some-Kill-clause-hand
-returns-in_ok-kill-in-Some-Kill-clause-hand g c = BeginsWithHand-only c.args.floor.now c.call.new.self c.now.result c.in_ok-call.ensures.ok
+returns-in_ok-kill-in-Some-Kill-clause-hand g c = BeginsWithHand-only c.args.journal.now.history c.enter.new.journal.history c.now.result c.in_ok-enter.ensures.ok
 
 pub returns-in_ok-send_kept-in-Some-Start-clause-hand : goal.returns-in_ok-send_kept-in-Some-Start-clause-hand
 returns-in_ok-send_kept-in-Some-Start-clause-hand g c =
     let s = g.P.Spawner in
     let q = c.start.new.spawner in
-    BeginsWithHand-then c.args.floor.now c.call.new.self c.send_kept.new.floor c.now.result c.in_ok-call.ensures.ok (c.send_kept.ensures.part (s.asked q) (s.told q) (s.misses q)).log
+    BeginsWithHand-then c.args.journal.now.history c.enter.new.journal.history c.send_kept.new.journal.history c.now.result c.in_ok-enter.ensures.ok (c.send_kept.ensures.part (s.asked q) (s.told q) (s.misses q)).log
 
 pub returns-in_err-send_kept-in-Some-Start-clause-one : goal.returns-in_err-send_kept-in-Some-Start-clause-one
 returns-in_err-send_kept-in-Some-Start-clause-one g c =
     let s = g.P.Spawner in
     let q = c.start.new.spawner in
-    one_hand c.args.floor.now c.call.new.self c.send_kept.new.floor c.now.result c.in_ok-call.ensures.ok (c.send_kept.ensures.part (s.asked q) (s.told q) (s.misses q)).log c.send_kept.ensures.no_hand
+    one_hand c.args.journal.now.history c.enter.new.journal.history c.send_kept.new.journal.history c.now.result c.in_ok-enter.ensures.ok (c.send_kept.ensures.part (s.asked q) (s.told q) (s.misses q)).log c.send_kept.ensures.no_hand
 
 pub returns-in_ok-send_kept-in-Some-Start-clause-one : goal.returns-in_ok-send_kept-in-Some-Start-clause-one
 returns-in_ok-send_kept-in-Some-Start-clause-one g c =
     let s = g.P.Spawner in
     let q = c.start.new.spawner in
-    one_hand c.args.floor.now c.call.new.self c.send_kept.new.floor c.now.result c.in_ok-call.ensures.ok (c.send_kept.ensures.part (s.asked q) (s.told q) (s.misses q)).log c.send_kept.ensures.no_hand
+    one_hand c.args.journal.now.history c.enter.new.journal.history c.send_kept.new.journal.history c.now.result c.in_ok-enter.ensures.ok (c.send_kept.ensures.part (s.asked q) (s.told q) (s.misses q)).log c.send_kept.ensures.no_hand
 
 pub returns-in_ok-send_kept-in-Some-Start-clause-moment : goal.returns-in_ok-send_kept-in-Some-Start-clause-moment
 returns-in_ok-send_kept-in-Some-Start-clause-moment g c =
     let s = g.P.Spawner in
     let q = c.start.new.spawner in
-    hands_at c.args.floor.now c.call.new.self c.send_kept.new.floor c.now.result (g.C.Clock.coming c.args.clock.now) c.now.ensures.told c.in_ok-call.ensures.ok (c.send_kept.ensures.part (s.asked q) (s.told q) (s.misses q)).log
+    hands_at c.args.journal.now.history c.enter.new.journal.history c.send_kept.new.journal.history c.now.result (g.C.Clock.coming c.args.clock.now) c.now.ensures.told c.in_ok-enter.ensures.ok (c.send_kept.ensures.part (s.asked q) (s.told q) (s.misses q)).log

@@ -1,5 +1,6 @@
 use Rattle.std.proofs.Common.{arith, inr}
 use Rattle.wm_run.proofs.Monitors.{Proceeds-then, hands_few, hands_more, longer_hand}
+use Rattle.wm_run.proofs.Journals.{HasJournalCauses-more}
 use Rattle.wm_run.proofs.monitor.Monitor.hands.Goals as goal
 
 pub returns-in_err-hand-clause-part : goal.returns-in_err-hand-clause-part
@@ -12,7 +13,8 @@ hands-preserved g c =
       part = Proceeds-then _ _ _ c.hands.invariant.part c.hand.ensures.part;
       none = c.in_ok-hand.ensures.kept;
       faults = omega arith;
-      hands = hands_more c.args.floor.now c.hands.floor c.hand.new.floor c.hands.counter c.hands.invariant.part.log c.hand.ensures.part.log c.in_ok-hand.ensures.hand c.hands.invariant.hands;
-      most = hands_few c.args.floor.now c.hands.floor c.hand.new.floor c.hands.counter c.hands.invariant.part.log c.hand.ensures.part.log c.hand.ensures.one c.hands.invariant.most;
-      quiet = inr (longer_hand c.args.floor.now c.hands.floor c.hand.new.floor c.hands.invariant.part.log c.in_ok-hand.ensures.hand);
+      journal = HasJournalCauses-more _ _ _ c.hands.invariant.journal c.hand.ensures.journal;
+      hands = hands_more c.args.journal.now.history c.hands.journal.history c.hand.new.journal.history c.hands.counter c.hands.invariant.part.log c.hand.ensures.part.log c.in_ok-hand.ensures.hand c.hands.invariant.hands;
+      most = hands_few c.args.journal.now.history c.hands.journal.history c.hand.new.journal.history c.hands.counter c.hands.invariant.part.log c.hand.ensures.part.log c.hand.ensures.one c.hands.invariant.most;
+      quiet = inr (longer_hand c.args.journal.now.history c.hands.journal.history c.hand.new.journal.history c.hands.invariant.part.log c.in_ok-hand.ensures.hand);
     }

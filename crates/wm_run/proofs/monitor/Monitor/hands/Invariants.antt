@@ -1,3 +1,4 @@
+use Rattle.wm_run.specs.Journal.{HasJournalCauses}
 use Rattle.wm_run.specs.View.{view}
 use Rattle.wm_run.proofs.MonitorLoops.{HandLoop}
 use Rattle.wm_run.proofs.monitor.Monitor.hands.Given as goal
@@ -6,11 +7,12 @@ abbrev pub invariant-hands : goal.invariant-hands
 invariant-hands g l =
     let s = g.P.Spawner in
     HandLoop
-    (view l.fn.floor l.fn.self (s.asked l.fn.spawner) (s.told l.fn.spawner) (s.misses l.fn.spawner))
-    (view l.floor l.self (s.asked l.spawner) (s.told l.spawner) (s.misses l.spawner))
+    (view l.fn.journal.history l.fn.self (s.asked l.fn.spawner) (s.told l.fn.spawner) (s.misses l.fn.spawner))
+    (view l.journal.history l.self (s.asked l.spawner) (s.told l.spawner) (s.misses l.spawner))
     (s.faults l.fn.spawner)
     (s.faults l.spawner)
     l.self.kept
     (s.reporting l.fn.spawner)
     (s.reporting l.spawner)
     l.counter
+    (HasJournalCauses g.K.Keeper.faults g.K.Keeper.trail ⊥ ⊥ l.fn.journal l.journal)

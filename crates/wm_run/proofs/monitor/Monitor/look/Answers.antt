@@ -6,11 +6,11 @@ returns-in_err-send_kept-clause-part g c =
     let s = g.P.Spawner in
     let p = c.args.spawner.now in
     let q = c.look.new.spawner in
-    reported_part c.args.floor.now c.args.self.now c.in_ok-report.field-0 c.in-Some.report (s.asked p) (s.asked q) (s.told p) (s.told q) (s.misses p) (s.misses q) _ c.requires c.in_ok-report.ensures.asked c.in_ok-report.ensures.told c.in_ok-report.ensures.misses c.in-Some.is (c.send_kept.ensures.part (s.asked q) (s.told q) (s.misses q))
+    reported_part c.args.journal.now.history c.args.self.now c.in_ok-report.field-0 c.in-Some.report (s.asked p) (s.asked q) (s.told p) (s.told q) (s.misses p) (s.misses q) _ c.requires c.in_ok-report.ensures.asked c.in_ok-report.ensures.told c.in_ok-report.ensures.misses c.in-Some.is (c.send_kept.ensures.part (s.asked q) (s.told q) (s.misses q))
 
 pub returns-clause-part : goal.returns-clause-part
 returns-clause-part g c =
     let s = g.P.Spawner in
     let p = c.args.spawner.now in
     let q = c.look.new.spawner in
-    reported_part c.args.floor.now c.args.self.now c.in_ok-report.field-0 c.in-Some.report (s.asked p) (s.asked q) (s.told p) (s.told q) (s.misses p) (s.misses q) _ c.requires c.in_ok-report.ensures.asked c.in_ok-report.ensures.told c.in_ok-report.ensures.misses c.in-Some.is (c.send_kept.ensures.part (s.asked q) (s.told q) (s.misses q))
+    reported_part c.args.journal.now.history c.args.self.now c.in_ok-report.field-0 c.in-Some.report (s.asked p) (s.asked q) (s.told p) (s.told q) (s.misses p) (s.misses q) _ c.requires c.in_ok-report.ensures.asked c.in_ok-report.ensures.told c.in_ok-report.ensures.misses c.in-Some.is (c.send_kept.ensures.part (s.asked q) (s.told q) (s.misses q))

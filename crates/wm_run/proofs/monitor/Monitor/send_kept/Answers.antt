@@ -6,4 +6,4 @@ use Rattle.wm_run.proofs.monitor.Monitor.send_kept.Goals as goal
 pub returns-clause-part : goal.returns-clause-part
 returns-clause-part g c asked told misses =
     let none : Monitor = record { kept = None } in
-    sent_part c.args.floor.now c.call-2.new.self c.args.self.now none c.in-Some.report c.call.result asked told misses c.now.result c.in-Some.is refl c.call.ensures.call c.in_ok-call.ensures.ok
+    sent_part c.args.journal.now.history c.enter.new.journal.history c.args.self.now none c.in-Some.report c.call.result asked told misses c.now.result c.in-Some.is refl c.call.ensures.call c.in_ok-enter.ensures.ok

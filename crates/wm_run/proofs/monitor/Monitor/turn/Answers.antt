@@ -47,8 +47,8 @@ returns-clause-idle g c is =
     let s = g.P.Spawner in
     let p = c.args.spawner.now in
     let k = g.C.Clock in
-    let f0 = c.args.floor.now in
-    let f4 = c.looks.new.floor in
+    let f0 = c.args.journal.now.history in
+    let f4 = c.looks.new.journal.history in
     let made : c.saturating_sub.result ≡ 0 = number_of_ok _ _ _ refl is in
     let was = c.len-before.ensures in
     let now = c.len.ensures in
@@ -57,4 +57,4 @@ returns-clause-idle g c is =
     let kept = c.send_kept.ensures.part (s.asked p) (s.told p) (s.misses p) in
     let ticked = c.tick.ensures.part (s.asked p) (s.told p) (s.misses p) in
     let handed = c.hands.ensures.part in
-    idle_turn f0 c.send_kept.new.floor c.tick.new.floor c.hands.new.floor f4 c.args.self.now.kept (k.coming c.args.clock.now) (k.coming c.send_kept.new.clock) (s.reporting p) (s.reporting c.hands.new.spawner) kept.log ticked.log handed.log c.looks.ensures.part.log kept.opened ticked.opened handed.opened none c.in_ok-send_kept.ensures.sent c.send_kept.ensures.unread c.in_ok-tick.ensures.due c.in_ok-hands.ensures.all c.in_ok-hands.ensures.quiet c.in_ok-looks.ensures.all
+    idle_turn f0 c.send_kept.new.journal.history c.tick.new.journal.history c.hands.new.journal.history f4 c.args.self.now.kept (k.coming c.args.clock.now) (k.coming c.send_kept.new.clock) (s.reporting p) (s.reporting c.hands.new.spawner) kept.log ticked.log handed.log c.looks.ensures.part.log kept.opened ticked.opened handed.opened none c.in_ok-send_kept.ensures.sent c.send_kept.ensures.unread c.in_ok-tick.ensures.due c.in_ok-hands.ensures.all c.in_ok-hands.ensures.quiet c.in_ok-looks.ensures.all

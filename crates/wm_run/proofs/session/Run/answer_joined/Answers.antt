@@ -12,7 +12,7 @@ returns-clause-answered g c =
     let o = g.O.Sink in
     let v = o.written c.args.out.now in
     let w = o.written c.answer.new.out in
-    let es = session_entries c.args.self.now.floor c.answer.new.self.floor in
+    let es = session_entries c.args.self.now.journal.history c.answer.new.self.journal.history in
     IfOk-weaker c.answer.result _ _ (λ f h. subst (λ (l : List (Option (List ℕ))). AnsweredBy (Answers l) es v w f) (sym c.text_of.ensures) (AnsweredBy-one _ es v w f h)) c.answer.ensures.answered
 
 pub returns-clause-stopped : goal.returns-clause-stopped
@@ -20,5 +20,5 @@ returns-clause-stopped g c =
     let o = g.O.Sink in
     let v = o.written c.args.out.now in
     let w = o.written c.answer.new.out in
-    let es = session_entries c.args.self.now.floor c.answer.new.self.floor in
+    let es = session_entries c.args.self.now.journal.history c.answer.new.self.journal.history in
     on_err_weaker c.answer.result (λ h. subst (λ (l : List (Option (List ℕ))). StopsIn l es v w) (sym c.text_of.ensures) (StopsIn-line _ es v w h)) c.answer.ensures.stopped

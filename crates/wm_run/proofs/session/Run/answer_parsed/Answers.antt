@@ -14,16 +14,16 @@ pub returns-in_err-put-in-Fault-clause-stopped : goal.returns-in_err-put-in-Faul
 returns-in_err-put-in-Fault-clause-stopped g c =
     let o = g.O.Sink in
     let fault = c.in-Fault.fault in
-    let floor = c.args.self.now.floor in
+    let history = c.args.self.now.journal.history in
     let some = c.in_err-put-in-Fault.ensures.some in
     let bytes : c.as_bytes.result.now ≡ fault_answer fault = c.as_bytes.ensures.value ∙ c.in_ok-line-in-Fault.ensures in
-    let cut : IsCutShort (AnswersParsed (Fault fault)) (session_entries floor floor) (o.written c.args.out.now) (o.written c.put.new.out) =
+    let cut : IsCutShort (AnswersParsed (Fault fault)) (session_entries history history) (o.written c.args.out.now) (o.written c.put.new.out) =
     inr (record {
       due = fault_answer fault;
       faulty = is_fault fault;
-      answers = record { none = session_entries-none floor; says = refl; fault = refl };
+      answers = record { none = session_entries-none history; says = refl; fault = refl };
       count = some.0;
       written = subst (λ (b : List ℕ). Grows (o.written c.args.out.now) (o.written c.put.new.out) (take some.0 b)) bytes some.1;
     }) in
     on_err c.from_residual-in_err-put-in-Fault.result
-    (subst (λ (r : Parsed). IsCutShort (AnswersParsed r) (session_entries floor floor) (o.written c.args.out.now) (o.written c.put.new.out)) (sym c.in-Fault.is) cut)
+    (subst (λ (r : Parsed). IsCutShort (AnswersParsed r) (session_entries history history) (o.written c.args.out.now) (o.written c.put.new.out)) (sym c.in-Fault.is) cut)

@@ -11,27 +11,27 @@ pub returns-in_err-turn-clause-serves : goal.returns-in_err-turn-clause-serves
 returns-in_err-turn-clause-serves g c =
     let s = g.P.Spawner in
     let p = c.args.spawner.now in
-    Proceeds-then _ _ _ (Serves-call c.args.self.now.floor c.call.new.self.floor c.in_ok-start.start c.args.self.now.monitor c.call.new.self.monitor (s.asked p) (s.told p) (s.misses p) (ap is_report c.in_ok-start.ensures.call) c.in_ok-call.ensures.ok c.call.ensures.monitor) (Serves-monitor _ _ c.turn.ensures.part)
+    Proceeds-then _ _ _ (Serves-call c.args.self.now.journal.history c.call.new.self.journal.history c.in_ok-start.start c.args.self.now.monitor c.call.new.self.monitor (s.asked p) (s.told p) (s.misses p) (ap is_report c.in_ok-start.ensures.call) c.in_ok-call.ensures.ok c.call.ensures.monitor) (Serves-monitor _ _ c.turn.ensures.part)
 
 pub returns-clause-serves : goal.returns-clause-serves
 returns-clause-serves g c =
     let s = g.P.Spawner in
     let p = c.args.spawner.now in
-    Proceeds-then _ _ _ (Serves-call c.args.self.now.floor c.call.new.self.floor c.in_ok-start.start c.args.self.now.monitor c.call.new.self.monitor (s.asked p) (s.told p) (s.misses p) (ap is_report c.in_ok-start.ensures.call) c.in_ok-call.ensures.ok c.call.ensures.monitor) (Serves-monitor _ _ c.turn.ensures.part)
+    Proceeds-then _ _ _ (Serves-call c.args.self.now.journal.history c.call.new.self.journal.history c.in_ok-start.start c.args.self.now.monitor c.call.new.self.monitor (s.asked p) (s.told p) (s.misses p) (ap is_report c.in_ok-start.ensures.call) c.in_ok-call.ensures.ok c.call.ensures.monitor) (Serves-monitor _ _ c.turn.ensures.part)
 
 pub returns-clause-begun : goal.returns-clause-begun
 returns-clause-begun g c =
-    one_call c.args.self.now.floor c.call.new.self.floor c.turn.new.self.floor c.in_ok-start.start start_call c.in_ok-call.ensures.ok c.in_ok-start.ensures.call c.turn.ensures.part.log c.turn.ensures.part.callers
+    one_call c.args.self.now.journal.history c.call.new.self.journal.history c.turn.new.self.journal.history c.in_ok-start.start start_call c.in_ok-call.ensures.ok c.in_ok-start.ensures.call c.turn.ensures.part.log c.turn.ensures.part.callers
 
 pub returns-in_err-call-clause-not_begun : goal.returns-in_err-call-clause-not_begun
 returns-in_err-call-clause-not_begun g c =
-    let none = Untouched-same c.args.self.now.floor c.call.new.self.floor None c.in_err-call.ensures.err in
+    let none = Untouched-same c.args.self.now.journal.history c.call.new.self.journal.history None c.in_err-call.ensures.err in
     on_err _ (inl none.none)
 
 pub returns-in_err-turn-clause-not_begun : goal.returns-in_err-turn-clause-not_begun
 returns-in_err-turn-clause-not_begun g c =
-    on_err _ (inr (one_call c.args.self.now.floor c.call.new.self.floor c.turn.new.self.floor c.in_ok-start.start start_call c.in_ok-call.ensures.ok c.in_ok-start.ensures.call c.turn.ensures.part.log c.turn.ensures.part.callers))
+    on_err _ (inr (one_call c.args.self.now.journal.history c.call.new.self.journal.history c.turn.new.self.journal.history c.in_ok-start.start start_call c.in_ok-call.ensures.ok c.in_ok-start.ensures.call c.turn.ensures.part.log c.turn.ensures.part.callers))
 
 pub returns-clause-orders : goal.returns-clause-orders
 returns-clause-orders g c =
-    idle_call c.args.self.now.floor c.call.new.self.floor c.turn.new.self.floor c.in_ok-start.start c.in_ok-call.ensures.ok c.turn.ensures.part.log c.turn.ensures.part.opened (λ none. (c.turn.ensures.idle (c.in_ok-turn.was ∙ ap Ok (c.in_ok-turn.ensures.sent ∙ none))).orders)
+    idle_call c.args.self.now.journal.history c.call.new.self.journal.history c.turn.new.self.journal.history c.in_ok-start.start c.in_ok-call.ensures.ok c.turn.ensures.part.log c.turn.ensures.part.opened (λ none. (c.turn.ensures.idle (c.in_ok-turn.was ∙ ap Ok (c.in_ok-turn.ensures.sent ∙ none))).orders)

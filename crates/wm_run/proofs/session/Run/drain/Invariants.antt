@@ -1,3 +1,4 @@
+use Rattle.wm_run.specs.Journal.{HasJournalCauses}
 use Rattle.wm_run.specs.View.{view}
 use Rattle.wm_run.proofs.MonitorLoops.{TurnLoop}
 use Rattle.wm_run.proofs.session.Run.drain.Given as goal
@@ -6,7 +7,8 @@ abbrev pub invariant-turns : goal.invariant-turns
 invariant-turns g l =
     let s = g.P.Spawner in
     TurnLoop
-    (view l.fn.self.floor l.fn.self.monitor (s.asked l.fn.spawner) (s.told l.fn.spawner) (s.misses l.fn.spawner))
-    (view l.self.floor l.self.monitor (s.asked l.spawner) (s.told l.spawner) (s.misses l.spawner))
+    (view l.fn.self.journal.history l.fn.self.monitor (s.asked l.fn.spawner) (s.told l.fn.spawner) (s.misses l.fn.spawner))
+    (view l.self.journal.history l.self.monitor (s.asked l.spawner) (s.told l.spawner) (s.misses l.spawner))
     (s.faults l.fn.spawner)
     (s.faults l.spawner)
+    (HasJournalCauses g.K.Keeper.faults g.K.Keeper.trail ⊥ ⊥ l.fn.self.journal l.self.journal)

@@ -13,5 +13,5 @@ returns-in_default-clause-taken g c =
     record {
       lines = [];
       split = subst (λ (o : Option LogicalLine). (more : List ℕ) → lines_from before (piece ++ more) ≡ ended_lines o after ++ lines_from after (rest ++ more)) c.in_default.is c.feed-taken.ensures.lines;
-      answered = answered_none c.args.self.now.floor (g.O.Sink.written c.args.out.now);
+      answered = answered_none c.args.self.now.journal.history (g.O.Sink.written c.args.out.now);
     }

@@ -10,6 +10,7 @@ use Rattle.wm_run.proofs.Inputs.{taken_none, taken_then}
 use Rattle.wm_run.proofs.StoppedRuns.{on_err, stops_piece}
 use Rattle.wm_run.proofs.Writes.{rest_of}
 use Rattle.wm_run.proofs.Monitors.{Proceeds-none, Proceeds-then}
+use Rattle.wm_run.proofs.Journals.{HasJournalCauses-none, HasJournalCauses-more}
 use Rattle.wm_run.proofs.session.Run.take_piece.Goals as goal
 
 pub lines-init : goal.lines-init
@@ -17,9 +18,10 @@ lines-init g c =
     record {
       within = omega arith;
       serves = Proceeds-none _;
-      taken = taken_none c.args.joiner.now c.args.joiner.now c.args.piece.now c.args.self.now.floor (g.O.Sink.written c.args.out.now) (λ more. refl);
+      taken = taken_none c.args.joiner.now c.args.joiner.now c.args.piece.now c.args.self.now.journal.history (g.O.Sink.written c.args.out.now) (λ more. refl);
       written = omega arith;
       looked = omega arith;
+      journal = HasJournalCauses-none _ (λ f. f) (λ f. f);
     }
 
 pub lines-preserved : goal.lines-preserved
@@ -35,15 +37,16 @@ lines-preserved g c =
     let w = o.written c.take_line.new.out in
     let f = c.in_ok-taken.wrong in
     let same = rest_of at piece in
-    let es = session_entries c.lines.self.floor c.take_line.new.self.floor in
+    let es = session_entries c.lines.self.journal.history c.take_line.new.self.journal.history in
     let some = subst (λ (xs : List ℕ). TakesPiece c.lines.joiner xs c.take_line.new.joiner (drop n xs) es v w f) same c.in_ok-taken.ensures.taken in
     let next = subst (λ (xs : List ℕ). TakesPiece c.lines.joiner (drop at piece) c.take_line.new.joiner xs es v w f) (drop-drop n at piece) some in
     record {
       within = let few = c.in_ok-taken.ensures.within in omega (arith, ap length same, length-drop {A = ℕ} at piece);
       serves = Proceeds-then _ _ _ i.serves k.serves;
-      taken = taken_then c.args.joiner.now c.lines.joiner c.take_line.new.joiner piece (drop at piece) (drop (at + n) piece) c.args.self.now.floor c.lines.self.floor c.take_line.new.self.floor u v w c.lines.faulty f c.either-faulty.result c.either-faulty.ensures i.serves.log k.serves.log i.taken next;
+      taken = taken_then c.args.joiner.now c.lines.joiner c.take_line.new.joiner piece (drop at piece) (drop (at + n) piece) c.args.self.now.journal.history c.lines.self.journal.history c.take_line.new.self.journal.history u v w c.lines.faulty f c.either-faulty.result c.either-faulty.ensures i.serves.log k.serves.log i.taken next;
       written = let f = k.causes.written in omega arith;
       looked = let f = k.causes.looked in omega arith;
+      journal = HasJournalCauses-more _ _ _ i.journal k.journal;
     }
 
 pub returns-in_err-taken-clause-serves : goal.returns-in_err-taken-clause-serves
@@ -62,12 +65,12 @@ returns-in_err-taken-clause-stopped g c =
     let piece = c.args.piece.now in
     let v = o.written c.lines.out in
     let w = o.written c.take_line.new.out in
-    let stop = subst (λ (xs : List ℕ). (more : List ℕ) → StopsIn (lines_from c.lines.joiner (xs ++ more)) (session_entries c.lines.self.floor c.take_line.new.self.floor) v w) (rest_of c.lines.at piece) c.in_err-taken.ensures.stopped in
-    on_err _ (stops_piece c.args.joiner.now c.lines.joiner piece (drop c.lines.at piece) c.args.self.now.floor c.lines.self.floor c.take_line.new.self.floor (o.written c.args.out.now) v w c.lines.faulty i.serves.log c.take_line.ensures.serves.log i.taken stop)
+    let stop = subst (λ (xs : List ℕ). (more : List ℕ) → StopsIn (lines_from c.lines.joiner (xs ++ more)) (session_entries c.lines.self.journal.history c.take_line.new.self.journal.history) v w) (rest_of c.lines.at piece) c.in_err-taken.ensures.stopped in
+    on_err _ (stops_piece c.args.joiner.now c.lines.joiner piece (drop c.lines.at piece) c.args.self.now.journal.history c.lines.self.journal.history c.take_line.new.self.journal.history (o.written c.args.out.now) v w c.lines.faulty i.serves.log c.take_line.ensures.serves.log i.taken stop)
 
 pub returns-clause-taken : goal.returns-clause-taken
 returns-clause-taken g c =
     let o = g.O.Sink in
     let i = c.lines.invariant in
     let all = drop_all c.lines.at c.args.piece.now (omega arith) in
-    subst (λ (xs : List ℕ). TakesPiece c.args.joiner.now c.args.piece.now c.lines.joiner xs (session_entries c.args.self.now.floor c.lines.self.floor) (o.written c.args.out.now) (o.written c.lines.out) c.lines.faulty) all i.taken
+    subst (λ (xs : List ℕ). TakesPiece c.args.joiner.now c.args.piece.now c.lines.joiner xs (session_entries c.args.self.now.journal.history c.lines.self.journal.history) (o.written c.args.out.now) (o.written c.lines.out) c.lines.faulty) all i.taken

@@ -1,4 +1,5 @@
 use Rattle.std.proofs.Common.{◌-◌, drop, length}
+use Rattle.wm_run.specs.Journal.{HasJournalCauses}
 use Rattle.wm_run.specs.Serving.{session_entries}
 use Rattle.wm_run.specs.Taking.{TakesPiece}
 use Rattle.wm_run.specs.View.{view}
@@ -10,11 +11,12 @@ invariant-lines g l =
     let s = g.P.Spawner in
     let o = g.O.Sink in
     PieceLoop
-    (view l.fn.self.floor l.fn.self.monitor (s.asked l.fn.spawner) (s.told l.fn.spawner) (s.misses l.fn.spawner))
-    (view l.self.floor l.self.monitor (s.asked l.spawner) (s.told l.spawner) (s.misses l.spawner))
+    (view l.fn.self.journal.history l.fn.self.monitor (s.asked l.fn.spawner) (s.told l.fn.spawner) (s.misses l.fn.spawner))
+    (view l.self.journal.history l.self.monitor (s.asked l.spawner) (s.told l.spawner) (s.misses l.spawner))
     (o.faults l.fn.out) (o.faults l.out) (s.faults l.fn.spawner) (s.faults l.spawner)
     l.at l.piece
-    (TakesPiece l.fn.joiner l.piece l.joiner (drop l.at l.piece) (session_entries l.fn.self.floor l.self.floor) (o.written l.fn.out) (o.written l.out) l.faulty)
+    (TakesPiece l.fn.joiner l.piece l.joiner (drop l.at l.piece) (session_entries l.fn.self.journal.history l.self.journal.history) (o.written l.fn.out) (o.written l.out) l.faulty)
+    (HasJournalCauses g.K.Keeper.faults g.K.Keeper.trail ⊥ ⊥ l.fn.self.journal l.self.journal)
 
 abbrev pub decreases-lines : goal.decreases-lines
 decreases-lines g l = length l.piece - l.at

@@ -7,6 +7,7 @@ use Rattle.wm_run.proofs.Inputs.{input_none, input_then}
 use Rattle.wm_run.proofs.Outcomes.{came_none, came_read, came_last, came_in, came_end}
 use Rattle.wm_run.proofs.StoppedRuns.{input_same, take_none}
 use Rattle.wm_run.proofs.Monitors.{Proceeds-none, Proceeds-then}
+use Rattle.wm_run.proofs.Journals.{HasJournalCauses-none, HasJournalCauses-more}
 use Rattle.wm_run.proofs.session.Run.take_pieces.Goals as goal
 
 pub returns-in_err-wrong-clause-serves : goal.returns-in_err-wrong-clause-serves
@@ -21,13 +22,14 @@ returns-in_err-wrong-2-clause-serves g c = Proceeds-then _ _ _ c.reads.invariant
 pub reads-init : goal.reads-init
 reads-init g c =
     let x = g.I.Source.left c.args.input.now in
-    let none = input_none c.in_ok-joiner.joiner x c.args.self.now.floor (g.O.Sink.written c.args.out.now) c.in_ok-joiner.ensures in
+    let none = input_none c.in_ok-joiner.joiner x c.args.self.now.journal.history (g.O.Sink.written c.args.out.now) c.in_ok-joiner.ensures in
     record {
       serves = Proceeds-none _;
       taken = record { bytes = []; taken = Takes-none x; done = record { lines = none.done; count = refl } };
       read = omega arith;
       written = omega arith;
       looked = omega arith;
+      journal = HasJournalCauses-none _ (λ f. f) (λ f. f);
       total = omega arith;
       piece = c.requires;
     }
@@ -42,13 +44,14 @@ reads-preserved g c =
     let xs = i.taken.bytes in
     let ys = take n c.read.new.piece in
     let some = length-take-le n c.read.new.piece c.in_ok-n.ensures.within in
-    let more = input_then (x.left c.args.input.now) (x.left c.reads.input) (x.left c.read.new.input) c.reads.joiner c.take_piece.new.joiner ys c.args.self.now.floor c.reads.self.floor c.take_piece.new.self.floor (o.written c.args.out.now) (o.written c.reads.out) (o.written c.take_piece.new.out) c.reads.faulty c.in_ok-wrong-2.wrong c.either-faulty.result c.either-faulty.ensures i.serves.log k.serves.log (record { bytes = xs; taken = i.taken.taken; done = i.taken.done.lines }) c.in_ok-n.ensures.taken c.in_ok-wrong-2.ensures.taken in
+    let more = input_then (x.left c.args.input.now) (x.left c.reads.input) (x.left c.read.new.input) c.reads.joiner c.take_piece.new.joiner ys c.args.self.now.journal.history c.reads.self.journal.history c.take_piece.new.self.journal.history (o.written c.args.out.now) (o.written c.reads.out) (o.written c.take_piece.new.out) c.reads.faulty c.in_ok-wrong-2.wrong c.either-faulty.result c.either-faulty.ensures i.serves.log k.serves.log (record { bytes = xs; taken = i.taken.taken; done = i.taken.done.lines }) c.in_ok-n.ensures.taken c.in_ok-wrong-2.ensures.taken in
     record {
       serves = Proceeds-then _ _ _ i.serves k.serves;
       taken = record { bytes = xs ++ ys; taken = more.taken; done = record { lines = more.done; count = omega (arith, length-append xs ys, i.taken.done.count, some) } };
       read = let f = c.read.ensures.faults in omega arith;
       written = let f = k.causes.written in omega arith;
       looked = let f = k.causes.looked in omega arith;
+      journal = HasJournalCauses-more _ _ _ i.journal k.journal;
       total = c.in_ok-n.ensures.room;
       piece = let a = c.read.ensures.len in let b = i.piece in omega arith;
     }
@@ -58,7 +61,7 @@ returns-in_err-joiner-clause-input g c =
     let p = err_from_is_err_and c.from_residual.result c.from_residual.ensures.1 in
     let is = p.1 in
     let same = p.2 in
-    came_none c.from_residual.result p.0 (g.I.Source.left c.args.input.now) c.args.self.now.floor (g.O.Sink.written c.args.out.now) p.1 (λ f. absurd (cc)) (λ f. absurd (cc))
+    came_none c.from_residual.result p.0 (g.I.Source.left c.args.input.now) c.args.self.now.journal.history (g.O.Sink.written c.args.out.now) p.1 (λ f. absurd (cc)) (λ f. absurd (cc))
 
 pub returns-in_err-n-clause-input : goal.returns-in_err-n-clause-input
 returns-in_err-n-clause-input g c =
@@ -79,7 +82,7 @@ returns-in_err-wrong-clause-input g c =
     let t = c.if-n-eq0.true in
     let none : c.in_ok-n.n ≡ 0 = grind (arith, nat_tests) in
     let all = input_same (x.left c.args.input.now) (x.left c.reads.input) (x.left c.read.new.input) (take c.in_ok-n.n c.read.new.piece) (take_none c.in_ok-n.n c.read.new.piece none) i.taken c.in_ok-n.ensures.taken in
-    came_last c.from_residual-in_err-wrong.result p.0 (x.left c.args.input.now) (x.left c.read.new.input) c.reads.joiner c.args.self.now.floor c.reads.self.floor c.take_rest.new.self.floor (o.written c.args.out.now) (o.written c.reads.out) (o.written c.take_rest.new.out) c.reads.faulty c.reads.total p.1 (λ f. c.take_rest.ensures.causes.no_read_fault (cc)) (λ f. c.take_rest.ensures.causes.not_full (cc)) i.total i.serves.log c.take_rest.ensures.serves.log all c.in_err-wrong.ensures.stopped
+    came_last c.from_residual-in_err-wrong.result p.0 (x.left c.args.input.now) (x.left c.read.new.input) c.reads.joiner c.args.self.now.journal.history c.reads.self.journal.history c.take_rest.new.self.journal.history (o.written c.args.out.now) (o.written c.reads.out) (o.written c.take_rest.new.out) c.reads.faulty c.reads.total p.1 (λ f. c.take_rest.ensures.causes.no_read_fault (cc)) (λ f. c.take_rest.ensures.causes.not_full (cc)) i.total i.serves.log c.take_rest.ensures.serves.log all c.in_err-wrong.ensures.stopped
 
 pub returns-then-n-eq0-clause-input : goal.returns-then-n-eq0-clause-input
 returns-then-n-eq0-clause-input g c =
@@ -89,7 +92,7 @@ returns-then-n-eq0-clause-input g c =
     let t = c.if-n-eq0.true in
     let none : c.in_ok-n.n ≡ 0 = grind (arith, nat_tests) in
     let all = input_same (x.left c.args.input.now) (x.left c.reads.input) (x.left c.read.new.input) (take c.in_ok-n.n c.read.new.piece) (take_none c.in_ok-n.n c.read.new.piece none) i.taken c.in_ok-n.ensures.taken in
-    came_end (x.left c.args.input.now) (x.left c.read.new.input) c.reads.joiner c.args.self.now.floor c.reads.self.floor c.take_rest.new.self.floor (o.written c.args.out.now) (o.written c.reads.out) (o.written c.take_rest.new.out) c.reads.faulty c.in_ok-wrong.wrong c.either.result c.reads.total c.either.ensures i.total i.serves.log c.take_rest.ensures.serves.log all c.in_ok-wrong.ensures.answered
+    came_end (x.left c.args.input.now) (x.left c.read.new.input) c.reads.joiner c.args.self.now.journal.history c.reads.self.journal.history c.take_rest.new.self.journal.history (o.written c.args.out.now) (o.written c.reads.out) (o.written c.take_rest.new.out) c.reads.faulty c.in_ok-wrong.wrong c.either.result c.reads.total c.either.ensures i.total i.serves.log c.take_rest.ensures.serves.log all c.in_ok-wrong.ensures.answered
 
 pub returns-in_err-wrong-2-clause-input : goal.returns-in_err-wrong-2-clause-input
 returns-in_err-wrong-2-clause-input g c =
@@ -104,4 +107,4 @@ returns-in_err-wrong-2-clause-input g c =
     let was = c.in_err-wrong-2.was in
     let is = p.1 in
     let same = p.2 in
-    came_in c.from_residual-in_err-wrong-2.result p.0 (x.left c.args.input.now) (x.left c.reads.input) (x.left c.read.new.input) c.reads.joiner c.args.self.now.floor c.reads.self.floor c.take_piece.new.self.floor (o.written c.args.out.now) (o.written c.reads.out) (o.written c.take_piece.new.out) c.reads.faulty c.reads.total ys p.1 (λ f. c.take_piece.ensures.causes.no_read_fault (cc)) (λ f. c.take_piece.ensures.causes.not_full (cc)) (omega (arith, some, room)) i.serves.log c.take_piece.ensures.serves.log i.taken c.in_ok-n.ensures.taken c.in_err-wrong-2.ensures.stopped
+    came_in c.from_residual-in_err-wrong-2.result p.0 (x.left c.args.input.now) (x.left c.reads.input) (x.left c.read.new.input) c.reads.joiner c.args.self.now.journal.history c.reads.self.journal.history c.take_piece.new.self.journal.history (o.written c.args.out.now) (o.written c.reads.out) (o.written c.take_piece.new.out) c.reads.faulty c.reads.total ys p.1 (λ f. c.take_piece.ensures.causes.no_read_fault (cc)) (λ f. c.take_piece.ensures.causes.not_full (cc)) (omega (arith, some, room)) i.serves.log c.take_piece.ensures.serves.log i.taken c.in_ok-n.ensures.taken c.in_err-wrong-2.ensures.stopped

@@ -1,3 +1,4 @@
+use Rattle.wm_run.specs.Journal.{HasJournalCauses}
 use Rattle.wm_run.specs.Serving.{session_entries}
 use Rattle.wm_run.specs.Taking.{TakesInput}
 use Rattle.wm_run.specs.View.{view}
@@ -10,8 +11,9 @@ invariant-reads g l =
     let o = g.O.Sink in
     let i = g.I.Source in
     InputLoop
-    (view l.fn.self.floor l.fn.self.monitor (s.asked l.fn.spawner) (s.told l.fn.spawner) (s.misses l.fn.spawner))
-    (view l.self.floor l.self.monitor (s.asked l.spawner) (s.told l.spawner) (s.misses l.spawner))
+    (view l.fn.self.journal.history l.fn.self.monitor (s.asked l.fn.spawner) (s.told l.fn.spawner) (s.misses l.fn.spawner))
+    (view l.self.journal.history l.self.monitor (s.asked l.spawner) (s.told l.spawner) (s.misses l.spawner))
     (i.faults l.fn.input) (i.faults l.input) (o.faults l.fn.out) (o.faults l.out) (s.faults l.fn.spawner) (s.faults l.spawner)
     l.total l.piece
-    (TakesInput (i.left l.fn.input) (i.left l.input) (λ bytes. SoFar l.joiner (session_entries l.fn.self.floor l.self.floor) (o.written l.fn.out) (o.written l.out) l.faulty l.total bytes))
+    (TakesInput (i.left l.fn.input) (i.left l.input) (λ bytes. SoFar l.joiner (session_entries l.fn.self.journal.history l.self.journal.history) (o.written l.fn.out) (o.written l.out) l.faulty l.total bytes))
+    (HasJournalCauses g.K.Keeper.faults g.K.Keeper.trail ⊥ ⊥ l.fn.self.journal l.self.journal)

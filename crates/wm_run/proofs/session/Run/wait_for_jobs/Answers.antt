@@ -1,5 +1,6 @@
 use Rattle.std.proofs.Common.{arith}
 use Rattle.wm_run.proofs.Monitors.{Proceeds-then}
+use Rattle.wm_run.proofs.Journals.{HasJournalCauses-more}
 use Rattle.wm_run.proofs.session.Run.wait_for_jobs.Goals as goal
 
 pub returns-in_err-wait-clause-part : goal.returns-in_err-wait-clause-part
@@ -14,4 +15,5 @@ waits-preserved g c =
       part = Proceeds-then _ _ _ (Proceeds-then _ _ _ c.waits.invariant.part c.wait.ensures.part) c.drain-in-waits.ensures.part;
       none = c.in_ok-drain-2.ensures.kept;
       faults = let i = c.waits.invariant.faults in let w = c.wait.ensures.causes.looked in let d = c.drain-in-waits.ensures.causes.looked in omega arith;
+      journal = HasJournalCauses-more _ _ _ (HasJournalCauses-more _ _ _ c.waits.invariant.journal c.wait.ensures.journal) c.drain-in-waits.ensures.journal;
     }

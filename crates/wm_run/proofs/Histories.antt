@@ -6,7 +6,7 @@ use Rattle.std.specs.Option.{option_and_then}
 use Rattle.wm_law.specs.declared.call.Call.{Call}
 use Rattle.wm_law.specs.declared.call.Entry.{Entry}
 use Rattle.wm_law.specs.History.{order_in}
-use Rattle.wm_floor.specs.History.{History, entry_at, with_call, last_of, last_order}
+use Rattle.wm_journal.specs.History.{History, entry_at, with_call, last_of, last_order}
 
 slice_get_push : {A : Type 0} (xs : List A) (y : A) → slice_get (xs ++ y ∷ []) (length xs) ≡ Some y
 slice_get_push [] y = refl

@@ -1,2 +1,0 @@
-pub mod FloorInside
-pub mod History

@@ -1,0 +1,183 @@
+-- Laws of a run that opens: what its rows come to, and what it leaves of them.
+use Rattle.std.proofs.Common.{◌≡◌, ℕ, ◌<◌, ◌≤◌, true, List, [], ◌++◌, Option, Some, None, IfSome, is_some, refl, sym, ap, subst, ◌∙◌, inl, inr, arith}
+use Rattle.std.proofs.lemmas.Bool.{true≢false, false≢true}
+use Rattle.wm_journal.specs.History.{History, reached}
+use Rattle.wm_journal.specs.Trail.{HasTrail, tables_along, without_repeats}
+use Rattle.wm_law.specs.History.{after, IsLegal}
+use Rattle.wm_law.specs.Pending.{active}
+use Rattle.wm_law.specs.declared.call.Entry.{Entry}
+use Rattle.wm_law.specs.declared.state.State.{State}
+use Rattle.wm_law.proofs.Sound.{limits_are_kept, order_is_kept}
+use Rattle.wm_outside.specs.declared.fault.KeepFault.{KeepFault}
+use Rattle.wm_outside.specs.declared.fault.KeepFault.TheVariants as keep
+use Rattle.wm_outside.specs.declared.row.Row.{Row}
+use Rattle.wm_outside.specs.Told.{Grows, Stays}
+use Rattle.wm_run.specs.Kept.{HasHistory, HasOpened, open_status, store_status}
+use Rattle.wm_run.specs.Lists.{since}
+use Rattle.wm_run.specs.Monitor.{TicksAreDue}
+use Rattle.wm_run.specs.Run.{run_offset}
+use Rattle.wm_stored.specs.Keeping.{Telling, IsOpened}
+use Rattle.wm_stored.specs.Stored.{HasTables}
+use Rattle.wm_stored.specs.declared.fault.OpenFault.{OpenFault}
+use Rattle.wm_stored.specs.declared.fault.OpenFault.TheVariants.{KeeperFault, BadRow, NoMemory}
+use Rattle.wm_tables.proofs.Restarts.{restart_is_sound}
+
+-- What is told later was told before
+
+-- what has stayed twice has stayed
+pub Stays-then : {A : Type 0} (a b c : Option A) → Stays a b → Stays b c → Stays a c
+Stays-then a b None h k = tt
+Stays-then a None (Some z) h k = absurd k
+Stays-then None (Some y) (Some z) h k = absurd h
+Stays-then (Some x) (Some y) (Some z) h k = k ∙ h
+
+pub Grows-stays : {A : Type 0} (a b c : Option (List A)) (more : List A) → Grows a b more → Stays b c → Grows a c more
+Grows-stays a b None more h k = tt
+Grows-stays a None (Some z) more h k = absurd k
+Grows-stays None (Some y) (Some z) more h k = absurd h
+Grows-stays (Some x) (Some y) (Some z) more h k = k ∙ h
+
+pub Stays-grows : {A : Type 0} (a b c : Option (List A)) (more : List A) → Stays a b → Grows b c more → Grows a c more
+Stays-grows a b None more h k = tt
+Stays-grows a None (Some z) more h k = absurd k
+Stays-grows None (Some y) (Some z) more h k = absurd h
+Stays-grows (Some x) (Some y) (Some z) more h k = k ∙ ap (λ (l : List _). l ++ more) h
+
+is_told : {A : Type 0} (told : Option A) → is_some told ≡ true → told ≡ None → ⊥
+is_told told some none = absurd (false≢true (sym (ap is_some none) ∙ some))
+
+-- a fact of what stayed
+pub stays_if : {A : Type 0} (P : A → Type 0) (a b : Option A) → Stays a b → IfSome a P → IfSome b P
+stays_if P a None h k = tt
+stays_if P None (Some y) h k = absurd h
+stays_if P (Some x) (Some y) h k = subst P (sym h) k
+
+pub stays_back : {A : Type 0} (x : A) (a b : Option A) → Stays a b → b ≡ Some x → a ≡ Some x
+stays_back x a None h is = absurd (true≢false (sym (ap is_some is)))
+stays_back x None (Some y) h is = absurd h
+stays_back x (Some z) (Some y) h is = sym (ap Some h) ∙ is
+
+-- The history of a run from the rows that it found
+
+-- the rows that a machine opened with are those that were told, where the tables are told to the end
+rows_found : (tables : Option (List Row)) (trail trail' trail'' : Option (List (List Row))) (tables'' : Option (List Row)) (rows : List Row) (more : List (List Row)) → IfSome tables (λ told. told ≡ rows) → Grows trail trail' more → (trail' ≡ None → trail'' ≡ None) → is_some trail ≡ is_some tables → is_some trail'' ≡ is_some tables'' → IfSome tables'' (λ (_ : List Row). tables ≡ Some rows)
+rows_found tables trail trail' trail'' None rows more told grown untold both both' = tt
+rows_found tables trail None trail'' (Some last) rows more told grown untold both both' = absurd (is_told trail'' both' (untold refl))
+rows_found tables None (Some mid) trail'' (Some last) rows more told grown untold both both' = absurd grown
+rows_found None (Some first) (Some mid) trail'' (Some last) rows more told grown untold both both' = absurd (true≢false both)
+rows_found (Some x) (Some first) (Some mid) trail'' (Some last) rows more told grown untold both both' = ap Some told
+
+-- a run over a keeper that opened
+pub opened_run : (status : ℕ) (log : List Entry) (first last : History) (found opened closed : Telling) → IsOpened run_offset first.opened found opened → first.log ≡ [] → last.opened ≡ first.opened → log ≡ last.log → IsLegal last.opened last.log → TicksAreDue (reached first) (since first.log last.log) → (status ≤ 1 → active (reached last) ≡ 0) → HasTables (reached last) closed.tables → HasTrail last found closed → (opened.trail ≡ None → closed.trail ≡ None) → is_some found.trail ≡ is_some found.tables → is_some closed.trail ≡ is_some closed.tables → HasOpened status log found closed
+opened_run status log first last found opened closed h none same is legal ticks idle tables trail untold both both' =
+    let s = first.opened in
+    let P : List Entry → Type 0 = λ es. HasOpened status es found closed in
+    let at : reached first ≡ s = ap (after s) none in
+    let from : since first.log last.log ≡ last.log = ap (λ (l : List Entry). since l last.log) none in
+    let whole : last ≡ record { opened = s; log = last.log } = ap (λ (t : State). record { opened = t; log = last.log }) same in
+    let sound = restart_is_sound run_offset h.found s h.restart in
+    let due : TicksAreDue s last.log = subst (λ (es : List Entry). TicksAreDue s es) from (subst (λ (t : State). TicksAreDue t (since first.log last.log)) at ticks) in
+    subst P (sym is) (record {
+      opened = s;
+      rows = h.found;
+      found = rows_found found.tables found.trail opened.trail closed.trail closed.tables h.found _ h.told h.trail untold both both';
+      restart = h.restart;
+      legal = subst (λ (t : State). IsLegal t last.log) same legal;
+      limits = limits_are_kept s last.log sound;
+      order = order_is_kept s last.log sound;
+      ticks = due;
+      idle = λ low. subst (λ (g : History). active (reached g) ≡ 0) whole (idle low);
+      tables = subst (λ (g : History). HasTables (reached g) closed.tables) whole tables;
+      trail = subst (λ (g : History). HasTrail g found closed) whole trail;
+    })
+
+-- The same, as the store tells it whose keeper it was
+
+trail_of_store : (h : History) (old found closed new : Telling) (rows : List Row) → IfSome new.tables (λ _. found.tables ≡ Some rows) → Stays old.tables found.tables → Stays old.trail found.trail → Stays closed.trail new.trail → is_some new.trail ≡ is_some new.tables → HasTrail h found closed → HasTrail h old new
+trail_of_store h old found closed new rows were tables trail trail' both has = go old.tables tables new.trail trail' both
+  where
+    along : List Row → List (List Row)
+    along rs = without_repeats rs (tables_along h.opened h.log)
+
+    -- where the tables are told to the end
+    grown : (told : List Row) → Stays (Some told) found.tables → (now : List (List Row)) → Stays closed.trail (Some now) → found.tables ≡ Some rows → Grows old.trail (Some now) (along told)
+    grown told stays now trails is =
+        let first : Some told ≡ Some rows = stays_back rows (Some told) found.tables stays is in
+        let its : IfSome (Some rows) (λ rs. Grows found.trail closed.trail (along rs)) = subst (λ (o : Option (List Row)). IfSome o (λ rs. Grows found.trail closed.trail (along rs))) is has in
+        let grows = Stays-grows old.trail found.trail (Some now) (along rows) trail (Grows-stays found.trail closed.trail (Some now) (along rows) its trails) in
+        subst (λ (o : Option (List Row)). IfSome o (λ rs. Grows old.trail (Some now) (along rs))) (sym first) grows
+
+    by : (o : Option (List Row)) → IfSome o (λ _. found.tables ≡ Some rows) → is_some o ≡ true → found.tables ≡ Some rows
+    by None h none = absurd (false≢true none)
+    by (Some last) h some = h
+
+    go : (o : Option (List Row)) → Stays o found.tables → (t : Option (List (List Row))) → Stays closed.trail t → is_some t ≡ is_some new.tables → IfSome o (λ rs. Grows old.trail t (along rs))
+    go None s t k e = tt
+    go (Some told) s None k e = tt
+    go (Some told) s (Some now) k e = grown told s now k (by new.tables were (sym e))
+
+pub opened_of_store : (status : ℕ) (log : List Entry) (old found closed new : Telling) → Stays old.tables found.tables → Stays old.trail found.trail → Stays closed.tables new.tables → Stays closed.trail new.trail → is_some new.trail ≡ is_some new.tables → HasOpened status log found closed → HasOpened status log old new
+opened_of_store status log old found closed new tables trail tables' trail' both h =
+    let were : IfSome new.tables (λ _. found.tables ≡ Some h.rows) = stays_if (λ _. found.tables ≡ Some h.rows) closed.tables new.tables tables' h.found in
+    record {
+      opened = h.opened;
+      rows = h.rows;
+      found = stays_if_told new.tables were;
+      restart = h.restart;
+      legal = h.legal;
+      limits = h.limits;
+      order = h.order;
+      ticks = h.ticks;
+      idle = h.idle;
+      tables = stays_if _ closed.tables new.tables tables' h.tables;
+      trail = trail_of_store (record { opened = h.opened; log = log }) old found closed new h.rows were tables trail trail' both h.trail;
+    }
+  where
+    stays_if_told : (o : Option (List Row)) → IfSome o (λ _. found.tables ≡ Some h.rows) → IfSome o (λ _. old.tables ≡ Some h.rows)
+    stays_if_told None k = tt
+    stays_if_told (Some last) k = stays_back h.rows old.tables found.tables tables k
+
+pub history_of_store : (status : ℕ) (log : List Entry) (old found closed new : Telling) → Stays old.tables found.tables → Stays old.trail found.trail → Stays closed.tables new.tables → Stays closed.trail new.trail → is_some new.trail ≡ is_some new.tables → HasHistory status log found closed → HasHistory status log old new
+history_of_store status log old found closed new tables trail tables' trail' both (inl h) = inl (opened_of_store status log old found closed new tables trail tables' trail' both h)
+history_of_store status log old found closed new tables trail tables' trail' both (inr h) =
+    inr (record {
+      early = h.early;
+      none = h.none;
+      left = record {
+        tables = Stays-then old.tables found.tables new.tables tables (Stays-then found.tables closed.tables new.tables h.left.tables tables');
+        trail = Stays-then old.trail found.trail new.trail trail (Stays-then found.trail closed.trail new.trail h.left.trail trail');
+      };
+    })
+
+-- The status of a run whose machine didn't open
+
+pub open_high : (fault : OpenFault) → 1 < open_status fault
+open_high KeeperFault = omega arith
+open_high (BadRow n) = omega arith
+open_high NoMemory = omega arith
+
+pub open_low : (fault : OpenFault) → open_status fault < 11
+open_low KeeperFault = omega arith
+open_low (BadRow n) = omega arith
+open_low NoMemory = omega arith
+
+-- the input was read by no such run
+pub open_unread : (fault : OpenFault) → open_status fault ≡ 3 → ⊥
+open_unread KeeperFault is = absurd (omega arith)
+open_unread (BadRow n) is = absurd (omega arith)
+open_unread NoMemory is = absurd (omega arith)
+
+-- The status of a run whose store gave no keeper
+
+pub store_high : (fault : KeepFault) → 1 < store_status fault
+store_high keep.Failed = omega arith
+store_high keep.NoMemory = omega arith
+
+pub store_low : (fault : KeepFault) → store_status fault < 11
+store_low keep.Failed = omega arith
+store_low keep.NoMemory = omega arith
+
+-- the input was read by no such run
+pub store_unread : (fault : KeepFault) → store_status fault ≡ 3 → ⊥
+store_unread keep.Failed is = absurd (omega arith)
+store_unread keep.NoMemory is = absurd (omega arith)

@@ -1,0 +1,59 @@
+-- What a run makes of the rows that it finds, and leaves of them.
+use Rattle.std.specs.Prelude.{◌≡◌, ◌⊎◌, ℕ, ◌<◌, ◌≤◌, List, [], Option, Some, IfSome}
+use Rattle.wm_journal.specs.Trail.{HasTrail}
+use Rattle.wm_law.specs.History.{after, IsLegal}
+use Rattle.wm_law.specs.Limits.{KeepsLimits}
+use Rattle.wm_law.specs.Order.{KeepsOrder}
+use Rattle.wm_law.specs.Pending.{active}
+use Rattle.wm_law.specs.declared.call.Entry.{Entry}
+use Rattle.wm_law.specs.declared.state.State.{State}
+use Rattle.wm_outside.specs.declared.fault.KeepFault.{KeepFault}
+use Rattle.wm_outside.specs.declared.fault.KeepFault.TheVariants as keep
+use Rattle.wm_outside.specs.declared.row.Row.{Row}
+use Rattle.wm_run.specs.Monitor.{TicksAreDue}
+use Rattle.wm_run.specs.Run.{run_offset}
+use Rattle.wm_stored.specs.Keeping.{Telling, IsLeft}
+use Rattle.wm_stored.specs.Stored.{HasTables}
+use Rattle.wm_stored.specs.declared.fault.OpenFault.{OpenFault}
+use Rattle.wm_stored.specs.declared.fault.OpenFault.TheVariants as open_fault
+use Rattle.wm_tables.specs.Restart.{IsBad, IsRestart}
+
+-- a run that opened: its history is one from a state of the rows that it found
+pub record HasOpened (status : ℕ) (log : List Entry) (old new : Telling) : Type 0 where
+  pub opened : State
+  pub rows : List Row
+  -- where the tables are told to the end, these are the rows that were told
+  pub found : IfSome new.tables (λ _. old.tables ≡ Some rows)
+  pub restart : IsRestart run_offset rows opened
+  pub legal : IsLegal opened log
+  pub limits : KeepsLimits opened log
+  pub order : KeepsOrder opened log
+  pub ticks : TicksAreDue opened log
+  pub idle : status ≤ 1 → active (after opened log) ≡ 0
+  pub tables : HasTables (after opened log) new.tables
+  pub trail : HasTrail (record { opened = opened; log = log }) old new
+
+-- a run that didn't open: it has no entry, and left the rows
+pub record HasNotOpened (status : ℕ) (log : List Entry) (old new : Telling) : Type 0 where
+  pub early : 1 < status
+  pub none : log ≡ []
+  pub left : IsLeft old new
+
+-- the one or the other
+abbrev pub HasHistory : ℕ → List Entry → Telling → Telling → Type 0
+HasHistory status log old new = HasOpened status log old new ⊎ HasNotOpened status log old new
+
+-- where the tables are told, they are as they were, and one of their rows isn't good
+abbrev pub HasBadRow : Option (List Row) → Option (List Row) → Type 0
+HasBadRow old new = IfSome new (λ rows. (old ≡ Some rows) × ((n : ℕ) × IsBad run_offset rows n))
+
+-- the status of a run whose store gave no keeper
+abbrev pub store_status : KeepFault → ℕ
+store_status keep.Failed = 5
+store_status keep.NoMemory = 6
+
+-- the status of a run whose machine didn't open with the rows
+abbrev pub open_status : OpenFault → ℕ
+open_status open_fault.KeeperFault = 5
+open_status (open_fault.BadRow n) = 9
+open_status open_fault.NoMemory = 6

@@ -1,0 +1,161 @@
+// A run over a keeper: its machine opens with the rows, the session is served, and the keeper is given back.
+ghost use Rattle.std.specs.Prelude.{◌≡◌, ◌<◌, ◌≤◌, None, [], length, option_to_list, true};
+ghost use Rattle.std.specs.Io.KnownBytes.{IsAtEnd};
+ghost use Rattle.std.specs.List.{list_all};
+ghost use Rattle.wm_law.specs.History.{entries_of};
+ghost use Rattle.wm_outside.specs.Cause.{raised};
+ghost use Rattle.wm_run.specs.Kept.{HasBadRow, HasHistory, open_status};
+ghost use Rattle.wm_run.specs.Outcome.{RunCame};
+ghost use Rattle.wm_run.specs.Run.{IsRunStatus, IsServed, ended_status, run_offset};
+ghost use Rattle.wm_run.specs.Serving.{is_of_run};
+ghost use Rattle.wm_run.specs.Session.{session_pass};
+ghost use Rattle.wm_run.specs.Taking.{TakesInput};
+ghost use Rattle.wm_stored.specs.Keeping.{telling};
+
+use crate::halt::Halt;
+use crate::monitor::Monitor;
+use crate::session::Run;
+use crate::whole_run::{NO_MEMORY, Ran, not_begun};
+use std::alloc::Global;
+use std::sync::Wait;
+use wm_core::Setup;
+use wm_desc::qbatch;
+use wm_journal::Journal;
+use wm_outside::{Clock, Keeper, Sink, Source, Spawner};
+use wm_stored::OpenFault;
+use wm_when::Offset;
+
+/// Below how many entries a run takes users' commands.
+pub const MOST_ENTRIES: u32 = 1_000_000;
+
+// What a run opens with: the controlling subsystem QGPL/QBATCH, and local time that is UTC.
+fn setup() -> Setup
+    ensures { result.offset ≡ run_offset }
+{
+    Setup {
+        ctl: qbatch(),
+        offset: Offset::new(0),
+    }
+}
+
+// The status of a session's end.
+fn ended_status(end: Result<bool, Halt>) -> u8
+    ensures { result ≡ ended_status end }
+{
+    match end {
+        Ok(false) => 0,
+        Ok(true) => 1,
+        Err(halt) => halt.status(),
+    }
+}
+
+// The status of a run whose machine didn't open with the rows.
+fn open_status(fault: &OpenFault) -> u8
+    ensures { result ≡ open_status fault.now }
+{
+    match fault {
+        OpenFault::KeeperFault => 5,
+        OpenFault::BadRow(_) => 9,
+        OpenFault::NoMemory => NO_MEMORY,
+    }
+}
+
+impl<K: Keeper> Run<K> {
+    ghost use Rattle.std.specs.Prelude.{◌≡◌, OnOk, None, IsErrOf};
+    ghost use Rattle.std.specs.Io.KnownBytes.{IsAtEnd};
+    ghost use Rattle.wm_journal.specs.History.{reached};
+    ghost use Rattle.wm_journal.specs.Trail.{HasTrail};
+    ghost use Rattle.wm_law.specs.History.{IsLegal};
+    ghost use Rattle.wm_law.specs.Pending.{active};
+    ghost use Rattle.wm_run.specs.Halt.{HasInputCauses};
+    ghost use Rattle.wm_run.specs.Journal.{HasJournalCauses};
+    ghost use Rattle.wm_run.specs.Outcome.{SessionCame};
+    ghost use Rattle.wm_run.specs.Serving.{RunServes, session_entries};
+    ghost use Rattle.wm_run.specs.Taking.{TakesInput};
+    ghost use Rattle.wm_stored.specs.Keeping.{telling};
+    ghost use Rattle.wm_stored.specs.Stored.{HasTables};
+
+    // The first call, the lines of the input, and the last call.
+    fn serve<I: Source, O: Sink, P: Spawner, C: Clock, R: Wait>(
+        &mut self,
+        rt: &R,
+        alloc: Global,
+        input: &mut I,
+        out: &mut O,
+        spawner: &mut P,
+        clock: &mut C,
+    ) -> Result<bool, Halt>
+        ensures serves { RunServes P.asked P.told P.misses self.old.journal.history self.old.monitor spawner.old self.new.journal.history self.new.monitor spawner.new }
+        ensures input { TakesInput (I.left input.old) (I.left input.new) (λ bytes. SessionCame bytes result
+            (session_entries self.old.journal.history self.new.journal.history) (O.written out.old) (O.written out.new)) }
+        ensures end { OnOk result (IsAtEnd (I.left input.new)) }
+        ensures idle { OnOk result (active (reached self.new.journal.history) ≡ 0) }
+        ensures kept { OnOk result (self.new.monitor.kept ≡ None) }
+        ensures causes { HasInputCauses result (I.faults input.old) (I.faults input.new) (O.faults out.old) (O.faults out.new) (P.faults spawner.old) (P.faults spawner.new) }
+        ensures journal { HasJournalCauses K.faults K.trail (IsErrOf result Halt.KeeperFault) (IsErrOf result Halt.LogFull) self.old.journal self.new.journal }
+    {
+        self.begin(alloc, spawner, clock)?;
+        let faulty = self.take_all(rt, alloc, input, out, spawner, clock)?;
+        self.finish(rt, alloc, spawner, clock)?;
+        Ok(faulty)
+    }
+
+    // The history, the kept report and the keeper of a run that has ended.
+    fn close(self, status: u8) -> (Ran, K)
+        ensures status { result.0.status ≡ status }
+        ensures log { result.0.log.items ≡ self.journal.history.log }
+        ensures kept { result.0.kept ≡ self.monitor.kept }
+        ensures keeper { result.1 ≡ self.journal.keeper }
+        ensures legal { IsLegal self.journal.history.opened self.journal.history.log }
+        ensures tables { HasTables (reached self.journal.history) (K.tables result.1) }
+        ensures trail { HasTrail self.journal.history (telling K.tables K.trail self.journal.found) (telling K.tables K.trail result.1) }
+    {
+        let kept = self.monitor.kept;
+        let closed = self.journal.close();
+        let ran = Ran {
+            status,
+            log: closed.log,
+            kept,
+        };
+        (ran, closed.keeper)
+    }
+}
+
+/// Runs over a keeper, and gives it back.
+pub fn run_kept<I: Source, O: Sink, K: Keeper, P: Spawner, C: Clock, R: Wait>(
+    rt: &R,
+    alloc: Global,
+    input: &mut I,
+    out: &mut O,
+    keeper: K,
+    spawner: &mut P,
+    clock: &mut C,
+) -> (Ran, K)
+    ensures begun { result.0.status ≡ 2 → ⊥ }
+    ensures history { HasHistory result.0.status result.0.log.items (telling K.tables K.trail keeper) (telling K.tables K.trail result.1) }
+    ensures callers { list_all is_of_run result.0.log.items ≡ true }
+    ensures served { IsServed result.0.log.items (option_to_list result.0.kept) (P.asked spawner.old) (P.asked spawner.new) (P.told spawner.old) (P.told spawner.new) (P.misses spawner.old) (P.misses spawner.new) }
+    ensures input { TakesInput (I.left input.old) (I.left input.new) (λ bytes. RunCame bytes result.0.status
+        (entries_of session_pass result.0.log.items) (O.written out.old) (O.written out.new)) }
+    ensures end { result.0.status ≤ 1 → IsAtEnd (I.left input.new) }
+    ensures kept { result.0.status ≤ 1 → result.0.kept ≡ None }
+    ensures read_fault { result.0.status ≡ 3 → raised (I.faults input.old) ≤ I.faults input.new }
+    ensures write_fault { result.0.status ≡ 4 → raised (O.faults out.old) ≤ O.faults out.new }
+    ensures keeper_fault { result.0.status ≡ 5 → raised (K.faults keeper) ≤ K.faults result.1 }
+    ensures log_full { result.0.status ≡ 7 → 1000000 ≤ length result.0.log.items }
+    ensures wait_fault { result.0.status ≡ 8 → raised (P.faults spawner.old) ≤ P.faults spawner.new }
+    ensures bad_row { result.0.status ≡ 9 → HasBadRow (K.tables keeper) (K.tables result.1) }
+    ensures statuses { IsRunStatus result.0.status }
+{
+    match Journal::open(alloc, keeper, &setup(), MOST_ENTRIES) {
+        Ok(journal) => {
+            let mut run = Run {
+                journal,
+                monitor: Monitor::new(),
+            };
+            let end = run.serve(rt, alloc, input, out, spawner, clock);
+            run.close(ended_status(end))
+        }
+        Err((keeper, fault)) => (not_begun(alloc, open_status(&fault)), keeper),
+    }
+}
