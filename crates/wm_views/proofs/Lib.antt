@@ -1,2 +1,2 @@
 pub mod OfParts
-pub mod OnlyOne
+pub mod Stable
