@@ -193,6 +193,6 @@ pub fn print(alloc: Global, command: &Command) -> Result<Text, NoMemory>
     let values = values_of(alloc, command)?;
     let mut text = Text::new(alloc);
     push_word(&mut text, command_word(command))?;
-    push_all(alloc, &mut text, values.as_slice())?;
+    push_all(alloc, &mut text, &values)?;
     Ok(text)
 }

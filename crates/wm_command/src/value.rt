@@ -1,4 +1,6 @@
 // The values of keys.
+ghost use Rattle.std.specs.Prelude.{◌≡◌, IfOk};
+
 use crate::row::Special;
 use std::alloc::Global;
 use std::marker::Model;
@@ -71,13 +73,6 @@ impl Values {
         }
     }
 
-    /// Keys with their values, which may take more memory from `alloc`.
-    pub fn from_vec(alloc: Global, items: Vec<Given>) -> Values
-        ensures { result ≡ items.items }
-    {
-        Values { alloc, items }
-    }
-
     /// Adds a key with its value at the end. An `Err` is want of memory, and they are as before.
     pub fn push(&mut self, key: Key, value: Value) -> Result<(), NoMemory>
         ensures ok { OnOk result (self.new ≡ self.old ++ record { key = key; value = value } ∷ []) }
@@ -98,3 +93,19 @@ impl Values {
         self.alloc
     }
 }
+
+/// Values in one vector. An `Err` is want of memory.
+pub fn gathered<T: Drop, const N: usize>(alloc: Global, items: [T; N]) -> Result<Vec<T>, NoMemory>
+    ensures { IfOk result (λ v. v.items ≡ items) }
+{
+    Ok(Vec::from_array(alloc, items)?)
+}
+
+/// Keys with their values, each as `Key: value`. An `Err` is want of memory.
+macro_rules! given {
+    [$alloc:expr; $($key:ident: $value:expr),+ $(,)?] => {
+        gathered($alloc, [$(Given::new(Key::$key, $value)),+])
+    };
+}
+
+pub(crate) use given;

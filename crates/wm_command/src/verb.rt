@@ -43,3 +43,12 @@ pub enum ReadVerb {
     Wrkjobq,
     Dspjob,
 }
+
+/// The commands whose fields stand in one file.
+#[derive(Clone, Copy)]
+pub enum Family {
+    Objects,
+    Entries,
+    Jobs,
+    Control,
+}
