@@ -1,24 +1,13 @@
 // The CALL that CMD takes.
 ghost use Rattle.std.specs.Prelude.{◌≡◌, ◌≢◌, IfOk, IfErr, Ok, Err};
 ghost use Rattle.wm_clwords.specs.Called.{call_of};
-ghost use Rattle.wm_command.specs.Call.{text_kept, called_text, call_value};
+ghost use Rattle.wm_command.specs.Call.{called_text, call_value};
 
 use crate::fault::CmdFault;
 use crate::value::Value;
 use crate::written::is_word;
 use std::alloc::Global;
-use wm_base::Text;
 use wm_clwords::{CallFault, Item, call_text, read_call_items};
-
-fn text_kept(place: u32, text: Text) -> Result<Value, CmdFault>
-    ensures { result ≡ text_kept place text }
-{
-    if text.len() <= 1000 {
-        Ok(Value::Text(text))
-    } else {
-        Err(CmdFault::NotCall(place))
-    }
-}
 
 fn called_text(alloc: Global, place: u32, items: &[Item]) -> Result<Value, CmdFault>
     ensures ok { IfOk result (λ v. called_text place (call_of items.now) ≡ Ok v) }
@@ -27,7 +16,11 @@ fn called_text(alloc: Global, place: u32, items: &[Item]) -> Result<Value, CmdFa
     match read_call_items(alloc, items) {
         Ok(call) => {
             let text = call_text(alloc, &call.pgm, &call.parms)?;
-            text_kept(place, text)
+            if text.len() <= 1000 {
+                Ok(Value::Text(text))
+            } else {
+                Err(CmdFault::NotCall(place))
+            }
         }
         Err(CallFault::NotCall) => Err(CmdFault::NotCall(place)),
         Err(CallFault::NoMemory) => Err(CmdFault::NoMemory),

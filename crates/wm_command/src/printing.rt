@@ -60,14 +60,6 @@ fn push_eight(alloc: Global, out: &mut Text, n: u32) -> Result<(), NoMemory>
 }
 
 #[tactic(auto, using(crate::proofs::Texts::padded))]
-fn push_six(alloc: Global, out: &mut Text, n: u32) -> Result<(), NoMemory>
-    ensures { OnOk result (out.new ≡ out.old ++ zero_padded 6 n) }
-{
-    let digits = format!(in alloc; "{n:06}")?;
-    out.push_bytes(digits.as_bytes())?;
-    Ok(())
-}
-
 fn push_job(alloc: Global, out: &mut Text, job: &JobRef) -> Result<(), NoMemory>
     ensures { OnOk result (out.new ≡ out.old ++ job_text job.now) }
 {
@@ -83,7 +75,8 @@ fn push_job(alloc: Global, out: &mut Text, job: &JobRef) -> Result<(), NoMemory>
             Ok(())
         }
         JobRef::Full(job) => {
-            push_six(alloc, out, job.number.get())?;
+            let number = format!(in alloc; "{:06}", job.number.get())?;
+            out.push_bytes(number.as_bytes())?;
             out.push_bytes(b"/")?;
             push_name(out, &job.user)?;
             out.push_bytes(b"/")?;

@@ -35,16 +35,6 @@ pub struct Given {
     pub value: Value,
 }
 
-impl Given {
-    ghost use Rattle.std.specs.Prelude.{◌≡◌};
-
-    pub fn new(key: Key, value: Value) -> Given
-        ensures { result ≡ record { key = key; value = value } }
-    {
-        Given { key, value }
-    }
-}
-
 /// Keys with their values, in the order in which they came. A contract sees it as their list.
 #[derive(Drop)]
 pub struct Values {
@@ -104,7 +94,7 @@ pub fn gathered<T: Drop, const N: usize>(alloc: Global, items: [T; N]) -> Result
 /// Keys with their values, each as `Key: value`. An `Err` is want of memory.
 macro_rules! given {
     [$alloc:expr; $($key:ident: $value:expr),+ $(,)?] => {
-        gathered($alloc, [$(Given::new(Key::$key, $value)),+])
+        gathered($alloc, [$(Given { key: Key::$key, value: $value }),+])
     };
 }
 
