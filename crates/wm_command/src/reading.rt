@@ -60,24 +60,7 @@ fn row_value(alloc: Global, row: &Row, place: u32, items: &[Item]) -> Result<Val
     }
 }
 
-fn keyed(
-    alloc: Global,
-    row: &Row,
-    values: &mut Values,
-    place: u32,
-    items: &[Item],
-) -> Result<(), CmdFault>
-    ensures ok { OnOk result (keyed values.old place items.now (Some row.now) ≡ Ok values.new) }
-    ensures err { IfErr result (λ e. e ≢ CmdFault.NoMemory → keyed values.old place items.now (Some row.now) ≡ Err e) }
-{
-    if is_given(row.key, values) {
-        return Err(CmdFault::Twice(place));
-    }
-    let value = row_value(alloc, row, place, items)?;
-    values.push(row.key, value)?;
-    Ok(())
-}
-
+/// An item gives a key its value.
 #[tactic(auto, unfolding(crate::specs::Reading::next_item))]
 fn next_item(alloc: Global, rows: &[Row], values: &mut Values, item: &Item) -> Result<(), CmdFault>
     ensures ok { OnOk result (next_item rows.now values.old item.now ≡ Ok values.new) }
@@ -87,13 +70,15 @@ fn next_item(alloc: Global, rows: &[Row], values: &mut Values, item: &Item) -> R
     let Some(key) = key_of(item) else {
         return Err(CmdFault::TooManyValues(place));
     };
-    match row_named(key.as_bytes(), rows) {
-        None => Err(CmdFault::UnknownKeyword(place)),
-        Some(row) => {
-            keyed(alloc, &row, values, place, listed(item))?;
-            Ok(())
-        }
+    let Some(row) = row_named(key.as_bytes(), rows) else {
+        return Err(CmdFault::UnknownKeyword(place));
+    };
+    if is_given(row.key, values) {
+        return Err(CmdFault::Twice(place));
     }
+    let value = row_value(alloc, &row, place, listed(item))?;
+    values.push(row.key, value)?;
+    Ok(())
 }
 
 fn next_items(
@@ -112,31 +97,22 @@ fn next_items(
 }
 
 /// A value that stands alone is that of the first key.
-fn stands_alone(alloc: Global, rows: &[Row], place: u32, items: &[Item]) -> Result<Values, CmdFault>
-    ensures ok { IfOk result (λ given. stands_alone rows.now place items.now ≡ Ok given) }
-    ensures err { IfErr result (λ e. e ≢ CmdFault.NoMemory → stands_alone rows.now place items.now ≡ Err e) }
-{
-    match rows {
-        [] => Err(CmdFault::TooManyValues(place)),
-        [row, ..] => {
-            let value = row_value(alloc, row, place, items)?;
-            let mut values = Values::new(alloc);
-            values.push(row.key, value)?;
-            Ok(values)
-        }
-    }
-}
-
 #[tactic(auto, unfolding(crate::specs::Reading::first_item))]
 fn first_item(alloc: Global, rows: &[Row], item: &Item) -> Result<Values, CmdFault>
     ensures ok { IfOk result (λ given. first_item rows.now item.now ≡ Ok given) }
     ensures err { IfErr result (λ e. e ≢ CmdFault.NoMemory → first_item rows.now item.now ≡ Err e) }
 {
-    if key_of(item).is_none() {
-        return stands_alone(alloc, rows, place_of(item), slice::from_ref(item));
-    }
     let mut values = Values::new(alloc);
-    next_item(alloc, rows, &mut values, item)?;
+    if key_of(item).is_some() {
+        next_item(alloc, rows, &mut values, item)?;
+        return Ok(values);
+    }
+    let place = place_of(item);
+    let [row, ..] = rows else {
+        return Err(CmdFault::TooManyValues(place));
+    };
+    let value = row_value(alloc, row, place, slice::from_ref(item))?;
+    values.push(row.key, value)?;
     Ok(values)
 }
 

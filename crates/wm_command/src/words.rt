@@ -27,16 +27,8 @@ fn push_digit(n: Option<u32>, byte: u8) -> Option<u32>
     }
 }
 
-/// The number that digits write, of nine digits at the most.
-#[tactic(auto, unfolding(crate::specs::Words::digits))]
-fn digits(text: &[u8]) -> Option<u32>
-    ensures { result ≡ digits text.now }
-{
-    text.iter().fold(Some(0), |n, byte| push_digit(n, *byte))
-}
-
 /// A number of `fewest` to `most` digits, from `low` to `high`.
-#[tactic(auto, unfolding(crate::specs::Words::number_of))]
+#[tactic(auto, unfolding(crate::specs::Words::number_of, crate::specs::Words::digits))]
 pub fn number_of(fewest: usize, most: usize, low: u32, high: u32, text: &[u8]) -> Option<u32>
     ensures value { result ≡ number_of fewest most low high text.now }
     ensures range { IfSome result (λ n. IsTrue (within low high n)) }
@@ -44,7 +36,7 @@ pub fn number_of(fewest: usize, most: usize, low: u32, high: u32, text: &[u8]) -
     if !within(fewest, most, text.len()) {
         return None;
     }
-    let n = digits(text)?;
+    let n = text.iter().fold(Some(0), |n, byte| push_digit(n, *byte))?;
     if low <= n && n <= high { Some(n) } else { None }
 }
 
