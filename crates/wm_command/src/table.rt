@@ -264,9 +264,7 @@ const RMVPJE: [Row; 2] = rows! {
     { key: Pgm, kind: Program, special: Never, otherwise: Required }
 };
 
-const STRSBS: [Row; 1] = rows! {
-    { key: Sbsd, kind: Object, special: Never, otherwise: Required }
-};
+const STRSBS: [Row; 1] = rows! {{ key: Sbsd, kind: Object, special: Never, otherwise: Required }};
 
 const ENDSBS: [Row; 3] = rows! {
     { key: Sbs, kind: Name, special: Never, otherwise: Required }
@@ -287,13 +285,9 @@ const SBMJOB: [Row; 10] = rows! {
     { key: Scdtime, kind: Time, special: Never, otherwise: Now }
 };
 
-const HLDJOB: [Row; 1] = rows! {
-    { key: Job, kind: Job, special: Never, otherwise: Required }
-};
+const HLDJOB: [Row; 1] = rows! {{ key: Job, kind: Job, special: Never, otherwise: Required }};
 
-const RLSJOB: [Row; 1] = rows! {
-    { key: Job, kind: Job, special: Never, otherwise: Required }
-};
+const RLSJOB: [Row; 1] = rows! {{ key: Job, kind: Job, special: Never, otherwise: Required }};
 
 const CHGJOB: [Row; 5] = rows! {
     { key: Job, kind: Job, special: Never, otherwise: Required }
@@ -309,17 +303,11 @@ const ENDJOB: [Row; 3] = rows! {
     { key: Delay, kind: Number(1, 999_999), special: Never, otherwise: Number(30) }
 };
 
-const HLDJOBQ: [Row; 1] = rows! {
-    { key: Jobq, kind: Object, special: Never, otherwise: Required }
-};
+const HLDJOBQ: [Row; 1] = rows! {{ key: Jobq, kind: Object, special: Never, otherwise: Required }};
 
-const RLSJOBQ: [Row; 1] = rows! {
-    { key: Jobq, kind: Object, special: Never, otherwise: Required }
-};
+const RLSJOBQ: [Row; 1] = rows! {{ key: Jobq, kind: Object, special: Never, otherwise: Required }};
 
-const CLRJOBQ: [Row; 1] = rows! {
-    { key: Jobq, kind: Object, special: Never, otherwise: Required }
-};
+const CLRJOBQ: [Row; 1] = rows! {{ key: Jobq, kind: Object, special: Never, otherwise: Required }};
 
 const STRPJ: [Row; 2] = rows! {
     { key: Sbs, kind: Name, special: Never, otherwise: Required }
@@ -338,9 +326,7 @@ const EVOKE: [Row; 2] = rows! {
     { key: Pgm, kind: Program, special: Never, otherwise: Required }
 };
 
-const ENDUSE: [Row; 1] = rows! {
-    { key: Job, kind: Job, special: Never, otherwise: Required }
-};
+const ENDUSE: [Row; 1] = rows! {{ key: Job, kind: Job, special: Never, otherwise: Required }};
 
 const PWRDWNSYS: [Row; 2] = rows! {
     { key: Option, kind: Ending, special: Never, otherwise: Cntrld }
@@ -355,10 +341,6 @@ const WRKSBS: [Row; 0] = [];
 
 const DSPLOG: [Row; 0] = [];
 
-const WRKJOBQ: [Row; 1] = rows! {
-    { key: Jobq, kind: Object, special: Never, otherwise: Required }
-};
+const WRKJOBQ: [Row; 1] = rows! {{ key: Jobq, kind: Object, special: Never, otherwise: Required }};
 
-const DSPJOB: [Row; 1] = rows! {
-    { key: Job, kind: Job, special: Never, otherwise: Required }
-};
+const DSPJOB: [Row; 1] = rows! {{ key: Job, kind: Job, special: Never, otherwise: Required }};
