@@ -40,9 +40,9 @@ fn read_named(name: &Name) -> Option<ReadVerb>
 fn own_fault(verb: ChangeVerb, values: &Values) -> Option<CmdFault>
     ensures { result ≡ own_fault verb values.now }
 {
-    if verb != ChangeVerb::Sbmjob {
+    let ChangeVerb::Sbmjob = verb else {
         return None;
-    }
+    };
     match (values.lacks(Key::Cmd), values.lacks(Key::Rqsdta)) {
         (true, true) => Some(CmdFault::Missing(Key::Cmd)),
         (false, false) => Some(CmdFault::Conflict(Key::Cmd, Key::Rqsdta)),

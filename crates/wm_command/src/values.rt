@@ -2,7 +2,7 @@
 ghost use Rattle.std.specs.Prelude.{◌≡◌, ◌≢◌, IfOk, IfErr, Ok, Err, Some, None, if◌then◌else◌};
 ghost use Rattle.std.specs.Option.{option_copied};
 ghost use Rattle.wm_command.specs.declared.value.Value.TheVariants as value;
-ghost use Rattle.wm_command.specs.Values.{if_word, kind_value, text_value, item_value, text_from, start_of, one_compared, two_compared, or_bad, one_value, compared};
+ghost use Rattle.wm_command.specs.Values.{if_word, kind_value, text_value, item_value, text_from, start_of, one_compared, two_compared, one_value, compared};
 
 use crate::fault::CmdFault;
 use crate::row::{Kind, Special};
@@ -129,15 +129,6 @@ fn two_compared(item: &Item, start: &Item) -> Result<Option<Value>, NoMemory>
     }
 }
 
-fn or_bad(place: u32, value: Option<Value>) -> Result<Value, CmdFault>
-    ensures { result ≡ or_bad place value }
-{
-    match value {
-        None => Err(CmdFault::BadValue(place)),
-        Some(value) => Ok(value),
-    }
-}
-
 /// The one value of a key, whose item begins at `place`.
 pub fn one_value(
     kind: Kind,
@@ -150,10 +141,10 @@ pub fn one_value(
 {
     match items {
         [] => Err(CmdFault::BadValue(place)),
-        [item] => {
-            let value = item_value(kind, special, item)?;
-            or_bad(place, value)
-        }
+        [item] => match item_value(kind, special, item)? {
+            None => Err(CmdFault::BadValue(place)),
+            Some(value) => Ok(value),
+        },
         [_, _, ..] => Err(CmdFault::TooManyValues(place)),
     }
 }
@@ -165,14 +156,14 @@ pub fn compared(place: u32, items: &[Item]) -> Result<Value, CmdFault>
 {
     match items {
         [] => Err(CmdFault::BadValue(place)),
-        [item] => {
-            let value = one_compared(item)?;
-            or_bad(place, value)
-        }
-        [item, start] => {
-            let value = two_compared(item, start)?;
-            or_bad(place, value)
-        }
+        [item] => match one_compared(item)? {
+            None => Err(CmdFault::BadValue(place)),
+            Some(value) => Ok(value),
+        },
+        [item, start] => match two_compared(item, start)? {
+            None => Err(CmdFault::BadValue(place)),
+            Some(value) => Ok(value),
+        },
         [_, _, _, ..] => Err(CmdFault::TooManyValues(place)),
     }
 }

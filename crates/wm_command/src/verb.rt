@@ -1,7 +1,7 @@
 // The commands by name.
 
 /// A command that changes the state.
-#[derive(Clone, Copy, PartialEq, Eq)]
+#[derive(Clone, Copy)]
 pub enum ChangeVerb {
     Crtcls,
     Crtjobq,
