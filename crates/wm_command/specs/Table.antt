@@ -11,6 +11,8 @@ use Rattle.wm_command.specs.declared.row.Default.TheVariants as default
 use Rattle.wm_command.specs.declared.row.Row.{Row}
 use Rattle.wm_command.specs.declared.verb.ChangeVerb.{ChangeVerb}
 use Rattle.wm_command.specs.declared.verb.ChangeVerb.TheVariants as change
+use Rattle.wm_command.specs.declared.verb.Family.{Family}
+use Rattle.wm_command.specs.declared.verb.Family.TheVariants.{Objects, Entries, Jobs, Control}
 use Rattle.wm_command.specs.declared.verb.ReadVerb.{ReadVerb}
 use Rattle.wm_command.specs.declared.verb.ReadVerb.TheVariants as read
 
@@ -211,6 +213,37 @@ change_word change.Endpj = codes "ENDPJ"
 change_word change.Evoke = codes "EVOKE"
 change_word change.Enduse = codes "ENDUSE"
 change_word change.Pwrdwnsys = codes "PWRDWNSYS"
+
+-- the file in which a command's fields stand
+abbrev pub family_of : ChangeVerb → Family
+family_of change.Crtcls = Objects
+family_of change.Crtjobq = Objects
+family_of change.Crtpgmref = Objects
+family_of change.Crtjobd = Objects
+family_of change.Crtsbsd = Objects
+family_of change.Addjobqe = Entries
+family_of change.Addrtge = Entries
+family_of change.Addaje = Entries
+family_of change.Addpje = Entries
+family_of change.Rmvjobqe = Entries
+family_of change.Rmvrtge = Entries
+family_of change.Rmvaje = Entries
+family_of change.Rmvpje = Entries
+family_of change.Strsbs = Control
+family_of change.Endsbs = Control
+family_of change.Sbmjob = Jobs
+family_of change.Hldjob = Jobs
+family_of change.Rlsjob = Jobs
+family_of change.Chgjob = Jobs
+family_of change.Endjob = Jobs
+family_of change.Hldjobq = Control
+family_of change.Rlsjobq = Control
+family_of change.Clrjobq = Control
+family_of change.Strpj = Control
+family_of change.Endpj = Control
+family_of change.Evoke = Control
+family_of change.Enduse = Control
+family_of change.Pwrdwnsys = Control
 
 unfoldable pub read_rows : ReadVerb → List Row
 read_rows read.Wrkactjob = []

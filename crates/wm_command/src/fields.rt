@@ -1,6 +1,7 @@
 // The values of keys as what a command's fields hold, and fields as values.
 ghost use Rattle.std.specs.Prelude.{◌≡◌, IfOk};
-ghost use Rattle.wm_command.specs.Fields.{maybe, limit_value, or_special};
+ghost use Rattle.std.specs.Option.{option_map};
+ghost use Rattle.wm_command.specs.Fields.{maybe, limit_value, word_or, or_special};
 ghost use Rattle.wm_command.specs.declared.value.Value.TheVariants as value;
 
 use crate::reading::same_key;
@@ -27,62 +28,17 @@ pub fn limit_value(limit: Limit) -> Value
     }
 }
 
-// A field that may be left out as a value: the special word of the row, where there is none.
-
-pub fn object_or(special: Special, object: Option<QName>) -> Value
-    ensures { result ≡ or_special special value.Object object }
+/// The value of a field that may be left out: the special word of the row, where there is none.
+pub fn word_or(special: Special, value: Option<Value>) -> Value
+    ensures { result ≡ word_or special value }
 {
-    match object {
+    match value {
         None => Value::Special(special),
-        Some(object) => Value::Object(object),
+        Some(value) => value,
     }
 }
 
-pub fn name_or(special: Special, name: Option<Name>) -> Value
-    ensures { result ≡ or_special special value.Name name }
-{
-    match name {
-        None => Value::Special(special),
-        Some(name) => Value::Name(name),
-    }
-}
-
-pub fn number_or(special: Special, number: Option<u32>) -> Value
-    ensures { result ≡ or_special special value.Number number }
-{
-    match number {
-        None => Value::Special(special),
-        Some(number) => Value::Number(number),
-    }
-}
-
-pub fn flag_or(special: Special, flag: Option<bool>) -> Value
-    ensures { result ≡ or_special special value.Flag flag }
-{
-    match flag {
-        None => Value::Special(special),
-        Some(flag) => Value::Flag(flag),
-    }
-}
-
-pub fn date_or(special: Special, date: Option<DateSpec>) -> Value
-    ensures { result ≡ or_special special value.Date date }
-{
-    match date {
-        None => Value::Special(special),
-        Some(date) => Value::Date(date),
-    }
-}
-
-pub fn time_or(special: Special, time: Option<TimeSpec>) -> Value
-    ensures { result ≡ or_special special value.Time time }
-{
-    match time {
-        None => Value::Special(special),
-        Some(time) => Value::Time(time),
-    }
-}
-
+/// The same of a text. An `Err` is want of memory.
 pub fn text_or(special: Special, text: &Option<Text>) -> Result<Value, NoMemory>
     ensures { IfOk result (λ v. v ≡ or_special special value.Text text.now) }
 {
@@ -92,13 +48,10 @@ pub fn text_or(special: Special, text: &Option<Text>) -> Result<Value, NoMemory>
     }
 }
 
-pub fn priority_or(special: Special, priority: Option<Priority>) -> Value
-    ensures { result ≡ or_special special value.Number priority }
+pub fn priority_value(priority: Option<Priority>) -> Option<Value>
+    ensures { result ≡ option_map value.Number priority }
 {
-    match priority {
-        None => Value::Special(special),
-        Some(priority) => Value::Number(priority.get() as u32),
-    }
+    Some(Value::Number(priority?.get() as u32))
 }
 
 impl Values {

@@ -1,7 +1,7 @@
 // Commands from trees.
 ghost use Rattle.std.specs.Prelude.{◌≡◌, ◌≢◌, IfOk, IfErr, Ok, Err};
 ghost use Rattle.wm_command.specs.Printed.{FitsMachine, KeepsForms, LineHasTexts, LineIsReadBack};
-ghost use Rattle.wm_command.specs.Line.{change_named, read_named, lacks, own_fault, change_line, read_made, read_line, line_of};
+ghost use Rattle.wm_command.specs.Line.{change_named, read_named, lacks, own_fault, change_line, read_line, line_of};
 
 use crate::commands::change_made;
 use crate::fault::CmdFault;
@@ -40,9 +40,9 @@ fn read_named(name: &Name) -> Option<ReadVerb>
 fn own_fault(verb: ChangeVerb, values: &Values) -> Option<CmdFault>
     ensures { result ≡ own_fault verb values.now }
 {
-    if verb != ChangeVerb::Sbmjob {
+    let ChangeVerb::Sbmjob = verb else {
         return None;
-    }
+    };
     match (values.lacks(Key::Cmd), values.lacks(Key::Rqsdta)) {
         (true, true) => Some(CmdFault::Missing(Key::Cmd)),
         (false, false) => Some(CmdFault::Conflict(Key::Cmd, Key::Rqsdta)),
@@ -64,26 +64,21 @@ fn change_line(alloc: Global, verb: ChangeVerb, items: &[Item]) -> Result<Line, 
     Ok(Line::Change(command))
 }
 
-fn read_made(user: &Name, verb: ReadVerb, values: &Values) -> Ask
-    ensures { result ≡ read_made user.now verb values.now }
-{
-    match verb {
-        ReadVerb::Wrkactjob => Ask::Active,
-        ReadVerb::Wrksbmjob => Ask::Submitted(*user),
-        ReadVerb::Wrksbs => Ask::Subsystems,
-        ReadVerb::Dsplog => Ask::Log,
-        ReadVerb::Wrkjobq => Ask::Queue(values.object(Key::Jobq)),
-        ReadVerb::Dspjob => Ask::Job(values.job(Key::Job)),
-    }
-}
-
 fn read_line(alloc: Global, user: &Name, verb: ReadVerb, items: &[Item]) -> Result<Line, CmdFault>
     ensures ok { IfOk result (λ line. read_line user.now verb items.now ≡ Ok line) }
     ensures err { IfErr result (λ e. e ≢ CmdFault.NoMemory → read_line user.now verb items.now ≡ Err e) }
     ensures texts { IfOk result (λ line. LineHasTexts line) }
 {
     let values = all_given(alloc, read_rows(verb), items)?;
-    Ok(Line::Read(read_made(user, verb, &values)))
+    let ask = match verb {
+        ReadVerb::Wrkactjob => Ask::Active,
+        ReadVerb::Wrksbmjob => Ask::Submitted(*user),
+        ReadVerb::Wrksbs => Ask::Subsystems,
+        ReadVerb::Dsplog => Ask::Log,
+        ReadVerb::Wrkjobq => Ask::Queue(values.object(Key::Jobq)),
+        ReadVerb::Dspjob => Ask::Job(values.job(Key::Job)),
+    };
+    Ok(Line::Read(ask))
 }
 
 /// The line that a tree is. The user is the one whom WRKSBMJOB is about.

@@ -1,7 +1,7 @@
 // The texts of commands are printable, as each `Text` is.
 ghost use Rattle.std.specs.Prelude.{IfSome};
 ghost use Rattle.wm_base.specs.Text.{IsText};
-ghost use Rattle.wm_command.specs.Printed.{HasText, HasTexts};
+ghost use Rattle.wm_command.specs.Printed.{HasTexts};
 
 use wm_base::Text;
 use wm_desc::Cmp;
@@ -21,14 +21,6 @@ fn is_printable_if_any(text: &Option<Text>)
     }
 }
 
-fn compare_is_printable(cmp: &Cmp)
-    ensures { HasText cmp.now }
-{
-    if let Cmp::Val { value, .. } = cmp {
-        text_is_printable(value);
-    }
-}
-
 /// Does nothing: its contract says what `Text` keeps of each text of a command.
 pub fn texts_are_printable(command: &Command)
     ensures { HasTexts command.now }
@@ -39,7 +31,11 @@ pub fn texts_are_printable(command: &Command)
             text_is_printable(&c.rtgdta);
             is_printable_if_any(&c.rqsdta);
         }
-        Command::Addrtge(c) => compare_is_printable(&c.cmpval),
+        Command::Addrtge(c) => {
+            if let Cmp::Val { value, .. } = &c.cmpval {
+                text_is_printable(value);
+            }
+        }
         Command::Sbmjob(c) => {
             is_printable_if_any(&c.rqsdta);
             is_printable_if_any(&c.rtgdta);

@@ -60,14 +60,6 @@ fn push_eight(alloc: Global, out: &mut Text, n: u32) -> Result<(), NoMemory>
 }
 
 #[tactic(auto, using(crate::proofs::Texts::padded))]
-fn push_six(alloc: Global, out: &mut Text, n: u32) -> Result<(), NoMemory>
-    ensures { OnOk result (out.new ≡ out.old ++ zero_padded 6 n) }
-{
-    let digits = format!(in alloc; "{n:06}")?;
-    out.push_bytes(digits.as_bytes())?;
-    Ok(())
-}
-
 fn push_job(alloc: Global, out: &mut Text, job: &JobRef) -> Result<(), NoMemory>
     ensures { OnOk result (out.new ≡ out.old ++ job_text job.now) }
 {
@@ -83,7 +75,8 @@ fn push_job(alloc: Global, out: &mut Text, job: &JobRef) -> Result<(), NoMemory>
             Ok(())
         }
         JobRef::Full(job) => {
-            push_six(alloc, out, job.number.get())?;
+            let number = format!(in alloc; "{:06}", job.number.get())?;
+            out.push_bytes(number.as_bytes())?;
             out.push_bytes(b"/")?;
             push_name(out, &job.user)?;
             out.push_bytes(b"/")?;
@@ -193,6 +186,6 @@ pub fn print(alloc: Global, command: &Command) -> Result<Text, NoMemory>
     let values = values_of(alloc, command)?;
     let mut text = Text::new(alloc);
     push_word(&mut text, command_word(command))?;
-    push_all(alloc, &mut text, values.as_slice())?;
+    push_all(alloc, &mut text, &values)?;
     Ok(text)
 }

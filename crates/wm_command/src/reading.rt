@@ -1,9 +1,7 @@
 // What the items of a command give its keys.
 ghost use Rattle.std.specs.Prelude.{◌≡◌, ◌≢◌, IfOk, IfErr, OnOk, Ok, Err, Some};
 ghost use Rattle.std.specs.Option.{option_copied};
-ghost use Rattle.wm_base.specs.Text.{IsText};
 ghost use Rattle.wm_command.specs.Each.{each};
-ghost use Rattle.wm_command.specs.declared.value.Value.TheVariants as value;
 ghost use Rattle.wm_command.specs.Table.{row_key, row_kind, row_special, row_otherwise};
 ghost use Rattle.wm_command.specs.Reading.{same_key, is_given, row_named, row_value, with_value, keyed, next_item, stands_alone, first_item, items_given, default_value, complete, all_given};
 
@@ -60,24 +58,7 @@ fn row_value(alloc: Global, row: &Row, place: u32, items: &[Item]) -> Result<Val
     }
 }
 
-fn keyed(
-    alloc: Global,
-    row: &Row,
-    values: &mut Values,
-    place: u32,
-    items: &[Item],
-) -> Result<(), CmdFault>
-    ensures ok { OnOk result (keyed values.old place items.now (Some row.now) ≡ Ok values.new) }
-    ensures err { IfErr result (λ e. e ≢ CmdFault.NoMemory → keyed values.old place items.now (Some row.now) ≡ Err e) }
-{
-    if is_given(row.key, values) {
-        return Err(CmdFault::Twice(place));
-    }
-    let value = row_value(alloc, row, place, items)?;
-    values.push(row.key, value)?;
-    Ok(())
-}
-
+/// An item gives a key its value.
 #[tactic(auto, unfolding(crate::specs::Reading::next_item))]
 fn next_item(alloc: Global, rows: &[Row], values: &mut Values, item: &Item) -> Result<(), CmdFault>
     ensures ok { OnOk result (next_item rows.now values.old item.now ≡ Ok values.new) }
@@ -87,56 +68,34 @@ fn next_item(alloc: Global, rows: &[Row], values: &mut Values, item: &Item) -> R
     let Some(key) = key_of(item) else {
         return Err(CmdFault::TooManyValues(place));
     };
-    match row_named(key.as_bytes(), rows) {
-        None => Err(CmdFault::UnknownKeyword(place)),
-        Some(row) => {
-            keyed(alloc, &row, values, place, listed(item))?;
-            Ok(())
-        }
+    let Some(row) = row_named(key.as_bytes(), rows) else {
+        return Err(CmdFault::UnknownKeyword(place));
+    };
+    if is_given(row.key, values) {
+        return Err(CmdFault::Twice(place));
     }
-}
-
-fn next_items(
-    alloc: Global,
-    rows: &[Row],
-    values: &mut Values,
-    items: &[Item],
-) -> Result<(), CmdFault>
-    ensures ok { OnOk result (each (next_item rows.now) values.old items.now ≡ Ok values.new) }
-    ensures err { IfErr result (λ e. e ≢ CmdFault.NoMemory → each (next_item rows.now) values.old items.now ≡ Err e) }
-{
-    for item in items {
-        next_item(alloc, rows, values, item)?;
-    }
+    let value = row_value(alloc, &row, place, listed(item))?;
+    values.push(row.key, value)?;
     Ok(())
 }
 
 /// A value that stands alone is that of the first key.
-fn stands_alone(alloc: Global, rows: &[Row], place: u32, items: &[Item]) -> Result<Values, CmdFault>
-    ensures ok { IfOk result (λ given. stands_alone rows.now place items.now ≡ Ok given) }
-    ensures err { IfErr result (λ e. e ≢ CmdFault.NoMemory → stands_alone rows.now place items.now ≡ Err e) }
-{
-    match rows {
-        [] => Err(CmdFault::TooManyValues(place)),
-        [row, ..] => {
-            let value = row_value(alloc, row, place, items)?;
-            let mut values = Values::new(alloc);
-            values.push(row.key, value)?;
-            Ok(values)
-        }
-    }
-}
-
 #[tactic(auto, unfolding(crate::specs::Reading::first_item))]
 fn first_item(alloc: Global, rows: &[Row], item: &Item) -> Result<Values, CmdFault>
     ensures ok { IfOk result (λ given. first_item rows.now item.now ≡ Ok given) }
     ensures err { IfErr result (λ e. e ≢ CmdFault.NoMemory → first_item rows.now item.now ≡ Err e) }
 {
-    if key_of(item).is_none() {
-        return stands_alone(alloc, rows, place_of(item), slice::from_ref(item));
-    }
     let mut values = Values::new(alloc);
-    next_item(alloc, rows, &mut values, item)?;
+    if key_of(item).is_some() {
+        next_item(alloc, rows, &mut values, item)?;
+        return Ok(values);
+    }
+    let place = place_of(item);
+    let [row, ..] = rows else {
+        return Err(CmdFault::TooManyValues(place));
+    };
+    let value = row_value(alloc, row, place, slice::from_ref(item))?;
+    values.push(row.key, value)?;
     Ok(values)
 }
 
@@ -146,20 +105,14 @@ fn items_given(alloc: Global, rows: &[Row], items: &[Item]) -> Result<Values, Cm
 {
     match items {
         [] => Ok(Values::new(alloc)),
-        [item, items @ ..] => {
-            let mut values = first_item(alloc, rows, item)?;
-            next_items(alloc, rows, &mut values, items)?;
+        [first, rest @ ..] => {
+            let mut values = first_item(alloc, rows, first)?;
+            for item in rest {
+                next_item(alloc, rows, &mut values, item)?;
+            }
             Ok(values)
         }
     }
-}
-
-fn text_value(alloc: Global, text: &[u8]) -> Result<Value, CmdFault>
-    requires { IsText text.now }
-    ensures ok { IfOk result (λ v. v ≡ value.Text text.now) }
-    ensures err { IfErr result (λ e. e ≡ CmdFault.NoMemory) }
-{
-    Ok(Value::Text(Text::from_bytes(alloc, text)?))
 }
 
 /// What a key has where it isn't given.
@@ -177,14 +130,8 @@ fn default_value(alloc: Global, row: &Row) -> Result<Value, CmdFault>
         Default::Cntrld => Ok(Value::Ending(EndOption::Cntrld)),
         Default::Qbatch => Ok(Value::Object(qbatch())),
         Default::Qdftjobd => Ok(Value::Object(qdftjobd())),
-        Default::Qcmdi => {
-            let value = text_value(alloc, b"QCMDI")?;
-            Ok(value)
-        }
-        Default::Qcmdb => {
-            let value = text_value(alloc, b"QCMDB")?;
-            Ok(value)
-        }
+        Default::Qcmdi => Ok(Value::Text(Text::from_bytes(alloc, b"QCMDI")?)),
+        Default::Qcmdb => Ok(Value::Text(Text::from_bytes(alloc, b"QCMDB")?)),
         Default::Today => Ok(Value::Date(DateSpec::Current)),
         Default::Now => Ok(Value::Time(TimeSpec::Current)),
     }

@@ -1,45 +1,46 @@
 // The command table.
 ghost use Rattle.std.specs.Prelude.{◌≡◌};
 ghost use Rattle.wm_command.specs.Shown.{verb_of};
-ghost use Rattle.wm_command.specs.Table.{change_rows, change_word, read_rows, read_word};
+ghost use Rattle.wm_command.specs.Table.{change_rows, change_word, family_of, read_rows, read_word};
 
 use crate::row::{Default, Kind, Row, Special};
-use crate::verb::{ChangeVerb, ReadVerb};
+use crate::verb::{ChangeVerb, Family, ReadVerb};
 use wm_base::Key;
 use wm_law::Command;
 
-/// The commands that change the state, in the order of the table. The rows of each have its word for their name.
+/// The commands that change the state, in the order of the table, each with the name of its rows, which is its word, and its
+/// family.
 macro_rules! changes {
     ($write:ident($($given:tt)*)) => {
         $write! { ChangeVerb ($($given)*)
-            Crtcls CRTCLS
-            Crtjobq CRTJOBQ
-            Crtpgmref CRTPGMREF
-            Crtjobd CRTJOBD
-            Crtsbsd CRTSBSD
-            Addjobqe ADDJOBQE
-            Addrtge ADDRTGE
-            Addaje ADDAJE
-            Addpje ADDPJE
-            Rmvjobqe RMVJOBQE
-            Rmvrtge RMVRTGE
-            Rmvaje RMVAJE
-            Rmvpje RMVPJE
-            Strsbs STRSBS
-            Endsbs ENDSBS
-            Sbmjob SBMJOB
-            Hldjob HLDJOB
-            Rlsjob RLSJOB
-            Chgjob CHGJOB
-            Endjob ENDJOB
-            Hldjobq HLDJOBQ
-            Rlsjobq RLSJOBQ
-            Clrjobq CLRJOBQ
-            Strpj STRPJ
-            Endpj ENDPJ
-            Evoke EVOKE
-            Enduse ENDUSE
-            Pwrdwnsys PWRDWNSYS
+            Crtcls CRTCLS: Objects
+            Crtjobq CRTJOBQ: Objects
+            Crtpgmref CRTPGMREF: Objects
+            Crtjobd CRTJOBD: Objects
+            Crtsbsd CRTSBSD: Objects
+            Addjobqe ADDJOBQE: Entries
+            Addrtge ADDRTGE: Entries
+            Addaje ADDAJE: Entries
+            Addpje ADDPJE: Entries
+            Rmvjobqe RMVJOBQE: Entries
+            Rmvrtge RMVRTGE: Entries
+            Rmvaje RMVAJE: Entries
+            Rmvpje RMVPJE: Entries
+            Strsbs STRSBS: Control
+            Endsbs ENDSBS: Control
+            Sbmjob SBMJOB: Jobs
+            Hldjob HLDJOB: Jobs
+            Rlsjob RLSJOB: Jobs
+            Chgjob CHGJOB: Jobs
+            Endjob ENDJOB: Jobs
+            Hldjobq HLDJOBQ: Control
+            Rlsjobq RLSJOBQ: Control
+            Clrjobq CLRJOBQ: Control
+            Strpj STRPJ: Control
+            Endpj ENDPJ: Control
+            Evoke EVOKE: Control
+            Enduse ENDUSE: Control
+            Pwrdwnsys PWRDWNSYS: Control
         }
     };
 }
@@ -60,28 +61,35 @@ macro_rules! reads {
 
 /// The commands as a list.
 macro_rules! all_verbs {
-    ($verbs:ident () $($verb:ident $rows:ident)*) => {
+    ($verbs:ident () $($verb:ident $rows:ident $(: $family:ident)?)*) => {
         [$($verbs::$verb),*]
     };
 }
 
 /// The word of a command.
 macro_rules! word_of {
-    ($verbs:ident ($of:expr) $($verb:ident $rows:ident)*) => {
+    ($verbs:ident ($of:expr) $($verb:ident $rows:ident $(: $family:ident)?)*) => {
         match $of { $($verbs::$verb => stringify!($rows),)* }
     };
 }
 
 /// The rows of a command.
 macro_rules! rows_of {
-    ($verbs:ident ($of:expr) $($verb:ident $rows:ident)*) => {
+    ($verbs:ident ($of:expr) $($verb:ident $rows:ident $(: $family:ident)?)*) => {
         match $of { $($verbs::$verb => &$rows,)* }
+    };
+}
+
+/// The family of a command.
+macro_rules! family {
+    ($verbs:ident ($of:expr) $($verb:ident $rows:ident: $family:ident)*) => {
+        match $of { $($verbs::$verb => Family::$family,)* }
     };
 }
 
 /// The name of a command.
 macro_rules! name_of {
-    ($verbs:ident ($of:expr) $($verb:ident $rows:ident)*) => {
+    ($verbs:ident ($of:expr) $($verb:ident $rows:ident $(: $family:ident)?)*) => {
         match $of { $(Command::$verb(_) => $verbs::$verb,)* }
     };
 }
@@ -113,6 +121,12 @@ pub fn verb_of(command: &Command) -> ChangeVerb
     ensures { result ≡ verb_of command.now }
 {
     changes!(name_of(command))
+}
+
+pub fn family_of(verb: ChangeVerb) -> Family
+    ensures { result ≡ family_of verb }
+{
+    changes!(family(verb))
 }
 
 /// The keys of a command in their order.
@@ -250,9 +264,7 @@ const RMVPJE: [Row; 2] = rows! {
     { key: Pgm, kind: Program, special: Never, otherwise: Required }
 };
 
-const STRSBS: [Row; 1] = rows! {
-    { key: Sbsd, kind: Object, special: Never, otherwise: Required }
-};
+const STRSBS: [Row; 1] = rows! {{ key: Sbsd, kind: Object, special: Never, otherwise: Required }};
 
 const ENDSBS: [Row; 3] = rows! {
     { key: Sbs, kind: Name, special: Never, otherwise: Required }
@@ -273,13 +285,9 @@ const SBMJOB: [Row; 10] = rows! {
     { key: Scdtime, kind: Time, special: Never, otherwise: Now }
 };
 
-const HLDJOB: [Row; 1] = rows! {
-    { key: Job, kind: Job, special: Never, otherwise: Required }
-};
+const HLDJOB: [Row; 1] = rows! {{ key: Job, kind: Job, special: Never, otherwise: Required }};
 
-const RLSJOB: [Row; 1] = rows! {
-    { key: Job, kind: Job, special: Never, otherwise: Required }
-};
+const RLSJOB: [Row; 1] = rows! {{ key: Job, kind: Job, special: Never, otherwise: Required }};
 
 const CHGJOB: [Row; 5] = rows! {
     { key: Job, kind: Job, special: Never, otherwise: Required }
@@ -295,17 +303,11 @@ const ENDJOB: [Row; 3] = rows! {
     { key: Delay, kind: Number(1, 999_999), special: Never, otherwise: Number(30) }
 };
 
-const HLDJOBQ: [Row; 1] = rows! {
-    { key: Jobq, kind: Object, special: Never, otherwise: Required }
-};
+const HLDJOBQ: [Row; 1] = rows! {{ key: Jobq, kind: Object, special: Never, otherwise: Required }};
 
-const RLSJOBQ: [Row; 1] = rows! {
-    { key: Jobq, kind: Object, special: Never, otherwise: Required }
-};
+const RLSJOBQ: [Row; 1] = rows! {{ key: Jobq, kind: Object, special: Never, otherwise: Required }};
 
-const CLRJOBQ: [Row; 1] = rows! {
-    { key: Jobq, kind: Object, special: Never, otherwise: Required }
-};
+const CLRJOBQ: [Row; 1] = rows! {{ key: Jobq, kind: Object, special: Never, otherwise: Required }};
 
 const STRPJ: [Row; 2] = rows! {
     { key: Sbs, kind: Name, special: Never, otherwise: Required }
@@ -324,9 +326,7 @@ const EVOKE: [Row; 2] = rows! {
     { key: Pgm, kind: Program, special: Never, otherwise: Required }
 };
 
-const ENDUSE: [Row; 1] = rows! {
-    { key: Job, kind: Job, special: Never, otherwise: Required }
-};
+const ENDUSE: [Row; 1] = rows! {{ key: Job, kind: Job, special: Never, otherwise: Required }};
 
 const PWRDWNSYS: [Row; 2] = rows! {
     { key: Option, kind: Ending, special: Never, otherwise: Cntrld }
@@ -341,10 +341,6 @@ const WRKSBS: [Row; 0] = [];
 
 const DSPLOG: [Row; 0] = [];
 
-const WRKJOBQ: [Row; 1] = rows! {
-    { key: Jobq, kind: Object, special: Never, otherwise: Required }
-};
+const WRKJOBQ: [Row; 1] = rows! {{ key: Jobq, kind: Object, special: Never, otherwise: Required }};
 
-const DSPJOB: [Row; 1] = rows! {
-    { key: Job, kind: Job, special: Never, otherwise: Required }
-};
+const DSPJOB: [Row; 1] = rows! {{ key: Job, kind: Job, special: Never, otherwise: Required }};

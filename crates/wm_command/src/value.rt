@@ -1,4 +1,6 @@
 // The values of keys.
+ghost use Rattle.std.specs.Prelude.{◌≡◌, IfOk};
+
 use crate::row::Special;
 use std::alloc::Global;
 use std::marker::Model;
@@ -33,16 +35,6 @@ pub struct Given {
     pub value: Value,
 }
 
-impl Given {
-    ghost use Rattle.std.specs.Prelude.{◌≡◌};
-
-    pub fn new(key: Key, value: Value) -> Given
-        ensures { result ≡ record { key = key; value = value } }
-    {
-        Given { key, value }
-    }
-}
-
 /// Keys with their values, in the order in which they came. A contract sees it as their list.
 #[derive(Drop)]
 pub struct Values {
@@ -71,13 +63,6 @@ impl Values {
         }
     }
 
-    /// Keys with their values, which may take more memory from `alloc`.
-    pub fn from_vec(alloc: Global, items: Vec<Given>) -> Values
-        ensures { result ≡ items.items }
-    {
-        Values { alloc, items }
-    }
-
     /// Adds a key with its value at the end. An `Err` is want of memory, and they are as before.
     pub fn push(&mut self, key: Key, value: Value) -> Result<(), NoMemory>
         ensures ok { OnOk result (self.new ≡ self.old ++ record { key = key; value = value } ∷ []) }
@@ -98,3 +83,19 @@ impl Values {
         self.alloc
     }
 }
+
+/// Values in one vector. An `Err` is want of memory.
+pub fn gathered<T: Drop, const N: usize>(alloc: Global, items: [T; N]) -> Result<Vec<T>, NoMemory>
+    ensures { IfOk result (λ v. v.items ≡ items) }
+{
+    Ok(Vec::from_array(alloc, items)?)
+}
+
+/// Keys with their values, each as `Key: value`. An `Err` is want of memory.
+macro_rules! given {
+    [$alloc:expr; $($key:ident: $value:expr),+ $(,)?] => {
+        gathered($alloc, [$(Given { key: Key::$key, value: $value }),+])
+    };
+}
+
+pub(crate) use given;

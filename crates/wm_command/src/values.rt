@@ -1,24 +1,17 @@
 // What the values behind a key are read as.
-ghost use Rattle.std.specs.Prelude.{◌≡◌, ◌≢◌, IfOk, IfErr, Ok, Err, Some, None, length, if◌then◌else◌};
+ghost use Rattle.std.specs.Prelude.{◌≡◌, ◌≢◌, IfOk, IfErr, Ok, Err, Some, None, if◌then◌else◌};
 ghost use Rattle.std.specs.Option.{option_copied};
-ghost use Rattle.wm_when.specs.Schedule.{within};
 ghost use Rattle.wm_command.specs.declared.value.Value.TheVariants as value;
-ghost use Rattle.wm_command.specs.Values.{if_word, kind_value, is_special, text_value, item_value, text_from, start_of, one_compared, two_compared, or_bad, one_value, compared};
+ghost use Rattle.wm_command.specs.Values.{if_word, kind_value, text_value, item_value, text_from, start_of, one_compared, two_compared, one_value, compared};
 
 use crate::fault::CmdFault;
 use crate::row::{Kind, Special};
 use crate::value::Value;
-use crate::words::{date_of, ending_of, flag_of, job_of, name_of, number_of, time_of};
+use crate::words::{date_of, ending_of, flag_of, job_of, name_of, number_of, time_of, within};
 use crate::written::{is_bare, is_word, text_of};
 use wm_base::{NoMemory, Text};
 use wm_clwords::{Item, read_object, read_program};
 use wm_desc::{Cmp, path_in_range};
-
-fn has_length(low: u32, high: u32, text: &Text) -> bool
-    ensures { result ≡ within low high (length text.now) }
-{
-    low as usize <= text.len() && text.len() <= high as usize
-}
 
 fn text_if(is_in_range: bool, text: &Text) -> Result<Option<Value>, NoMemory>
     ensures { IfOk result (λ v. v ≡ (if is_in_range then Some (value.Text text.now) else None)) }
@@ -46,7 +39,7 @@ fn kind_value(kind: Kind, item: &Item, text: &Text) -> Result<Option<Value>, NoM
         Kind::Object => Ok(read_object(item).map(Value::Object)),
         Kind::Program => Ok(read_program(item).map(Value::Object)),
         Kind::Name => Ok(name_of(bytes).map(Value::Name)),
-        Kind::Text(low, high) => text_if(has_length(low, high, text), text),
+        Kind::Text(low, high) => text_if(within(low as usize, high as usize, text.len()), text),
         Kind::Path => text_if(path_in_range(text), text),
         Kind::Number(low, high) => Ok(number_of(1, 9, low, high, bytes).map(Value::Number)),
         Kind::Flag => Ok(if_word(is_bare(item), flag_of(bytes)).map(Value::Flag)),
@@ -79,17 +72,11 @@ impl Special {
     }
 }
 
-fn is_special(special: Special, item: &Item) -> bool
-    ensures { result ≡ is_special special item.now }
-{
-    !matches!(special, Special::Never) && is_word(item, special.word().as_bytes())
-}
-
 /// The row's special word, or a value of its kind.
 fn item_value(kind: Kind, special: Special, item: &Item) -> Result<Option<Value>, NoMemory>
     ensures { IfOk result (λ v. v ≡ item_value kind special item.now) }
 {
-    if is_special(special, item) {
+    if !matches!(special, Special::Never) && is_word(item, special.word().as_bytes()) {
         return Ok(Some(Value::Special(special)));
     }
     match text_of(item) {
@@ -142,15 +129,6 @@ fn two_compared(item: &Item, start: &Item) -> Result<Option<Value>, NoMemory>
     }
 }
 
-fn or_bad(place: u32, value: Option<Value>) -> Result<Value, CmdFault>
-    ensures { result ≡ or_bad place value }
-{
-    match value {
-        None => Err(CmdFault::BadValue(place)),
-        Some(value) => Ok(value),
-    }
-}
-
 /// The one value of a key, whose item begins at `place`.
 pub fn one_value(
     kind: Kind,
@@ -163,10 +141,10 @@ pub fn one_value(
 {
     match items {
         [] => Err(CmdFault::BadValue(place)),
-        [item] => {
-            let value = item_value(kind, special, item)?;
-            or_bad(place, value)
-        }
+        [item] => match item_value(kind, special, item)? {
+            None => Err(CmdFault::BadValue(place)),
+            Some(value) => Ok(value),
+        },
         [_, _, ..] => Err(CmdFault::TooManyValues(place)),
     }
 }
@@ -178,14 +156,14 @@ pub fn compared(place: u32, items: &[Item]) -> Result<Value, CmdFault>
 {
     match items {
         [] => Err(CmdFault::BadValue(place)),
-        [item] => {
-            let value = one_compared(item)?;
-            or_bad(place, value)
-        }
-        [item, start] => {
-            let value = two_compared(item, start)?;
-            or_bad(place, value)
-        }
+        [item] => match one_compared(item)? {
+            None => Err(CmdFault::BadValue(place)),
+            Some(value) => Ok(value),
+        },
+        [item, start] => match two_compared(item, start)? {
+            None => Err(CmdFault::BadValue(place)),
+            Some(value) => Ok(value),
+        },
         [_, _, _, ..] => Err(CmdFault::TooManyValues(place)),
     }
 }

@@ -1,7 +1,7 @@
 // The commands by name.
 
 /// A command that changes the state.
-#[derive(Clone, Copy, PartialEq, Eq)]
+#[derive(Clone, Copy)]
 pub enum ChangeVerb {
     Crtcls,
     Crtjobq,
@@ -42,4 +42,13 @@ pub enum ReadVerb {
     Dsplog,
     Wrkjobq,
     Dspjob,
+}
+
+/// The commands whose fields stand in one file.
+#[derive(Clone, Copy)]
+pub enum Family {
+    Objects,
+    Entries,
+    Jobs,
+    Control,
 }

@@ -2,14 +2,15 @@
 ghost use Rattle.std.specs.Prelude.{◌≡◌, ◌≤◌, length, take, drop, take_while, codes, fold, Some, nat_eq, IsTrue, ◌<◌, ◌^◌, IfSome};
 ghost use Rattle.std.specs.Option.{option_copied};
 ghost use Rattle.wm_base.specs.Text.{IsText};
-ghost use Rattle.wm_command.specs.Words.{is_digit, push_digit, digits, kept_within, number_of, name_of, is_no_slash, before_slash, behind_slash, simple_of, by_user_of, full_of, job_behind, job_with, job_of, flag_text, flag_of, ending_text, ending_of, weekday_text, date_word, date_word_of, day_of, date_with, date_of, second_of, time_of};
+ghost use Rattle.wm_command.specs.Words.{is_digit, push_digit, digits, kept_within, number_of, name_of, is_no_slash, before_slash, behind_slash, simple_of, by_user_of, full_of, job_behind, job_with, job_of, flag_text, flag_of, ending_text, ending_of, date_word, date_word_of, day_of, date_with, date_of, second_of, time_of};
 ghost use Rattle.wm_when.specs.Schedule.{within};
 
 use wm_base::{JobName, JobNumber, Name};
 use wm_law::{EndOption, JobRef};
 use wm_when::{DateSpec, TimeSpec, is_date};
 
-fn within(low: usize, high: usize, n: usize) -> bool
+/// Whether a number is from `low` to `high`.
+pub fn within(low: usize, high: usize, n: usize) -> bool
     ensures { result ≡ within low high n }
 {
     low <= n && n <= high
@@ -26,16 +27,8 @@ fn push_digit(n: Option<u32>, byte: u8) -> Option<u32>
     }
 }
 
-/// The number that digits write, of nine digits at the most.
-#[tactic(auto, unfolding(crate::specs::Words::digits))]
-fn digits(text: &[u8]) -> Option<u32>
-    ensures { result ≡ digits text.now }
-{
-    text.iter().fold(Some(0), |n, byte| push_digit(n, *byte))
-}
-
 /// A number of `fewest` to `most` digits, from `low` to `high`.
-#[tactic(auto, unfolding(crate::specs::Words::number_of))]
+#[tactic(auto, unfolding(crate::specs::Words::number_of, crate::specs::Words::digits))]
 pub fn number_of(fewest: usize, most: usize, low: u32, high: u32, text: &[u8]) -> Option<u32>
     ensures value { result ≡ number_of fewest most low high text.now }
     ensures range { IfSome result (λ n. IsTrue (within low high n)) }
@@ -43,7 +36,7 @@ pub fn number_of(fewest: usize, most: usize, low: u32, high: u32, text: &[u8]) -
     if !within(fewest, most, text.len()) {
         return None;
     }
-    let n = digits(text)?;
+    let n = text.iter().fold(Some(0), |n, byte| push_digit(n, *byte))?;
     if low <= n && n <= high { Some(n) } else { None }
 }
 
@@ -147,23 +140,7 @@ pub fn ending_of(text: &[u8]) -> Option<EndOption>
         .find(|ending| text == ending_word(*ending).as_bytes())
 }
 
-// Monday is 1.
-fn weekday_word(day: u8) -> &'static str
-    ensures value { result.now ≡ weekday_text day }
-    ensures text { IsText result.now }
-{
-    match day {
-        1 => "*MON",
-        2 => "*TUE",
-        3 => "*WED",
-        4 => "*THU",
-        5 => "*FRI",
-        6 => "*SAT",
-        _ => "*SUN",
-    }
-}
-
-/// The word of a date, or nothing for a day.
+/// The word of a date, or nothing for a day. Monday is 1.
 pub fn date_word(date: DateSpec) -> &'static str
     ensures value { result.now ≡ date_word date }
     ensures text { IsText result.now }
@@ -172,7 +149,13 @@ pub fn date_word(date: DateSpec) -> &'static str
         DateSpec::Current => "*CURRENT",
         DateSpec::MonthStart => "*MONTHSTR",
         DateSpec::MonthEnd => "*MONTHEND",
-        DateSpec::Weekday(day) => weekday_word(day),
+        DateSpec::Weekday(1) => "*MON",
+        DateSpec::Weekday(2) => "*TUE",
+        DateSpec::Weekday(3) => "*WED",
+        DateSpec::Weekday(4) => "*THU",
+        DateSpec::Weekday(5) => "*FRI",
+        DateSpec::Weekday(6) => "*SAT",
+        DateSpec::Weekday(_) => "*SUN",
         DateSpec::Day(_) => "",
     }
 }

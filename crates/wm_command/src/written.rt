@@ -11,9 +11,7 @@ pub fn place_of(item: &Item) -> u32
     ensures { result ≡ place_of item.now }
 {
     match item {
-        Item::Word(span, _) => span.place,
-        Item::Quoted(span, _) => span.place,
-        Item::List(span, _) => span.place,
+        Item::Word(span, _) | Item::Quoted(span, _) | Item::List(span, _) => span.place,
         Item::Keyed(span, _, _) => span.place,
     }
 }
@@ -33,8 +31,7 @@ pub fn text_of(item: &Item) -> Option<&Text>
     ensures { option_copied result ≡ text_of item.now }
 {
     match item {
-        Item::Word(_, text) => Some(text),
-        Item::Quoted(_, text) => Some(text),
+        Item::Word(_, text) | Item::Quoted(_, text) => Some(text),
         _ => None,
     }
 }
