@@ -14,7 +14,7 @@ use std::marker::Model;
 use wm_base::{Moment, NoMemory};
 use wm_desc::Objects;
 use wm_jobs::JobTable;
-use wm_law::{Call, Pending, Reply};
+use wm_law::{Call, Pending, QNames, Reply, SbsList};
 
 /// A machine whose state is sound: it was opened, or came from a store, and then changed by steps alone, of which the last
 /// may be taken back. A contract sees the state, the one before the last step, and whether that step can be taken back.
@@ -94,11 +94,26 @@ impl Core {
     /// The jobs, with what became of them in the last step.
     pub fn jobs(&self) -> &JobTable
         ensures jobs { result.now.jobs ≡ self.now.state.jobs }
+        ensures clock { result.now.clock ≡ self.now.state.clock }
         ensures next_serial { result.now.next_serial ≡ self.now.state.next_serial }
         ensures next_place { result.now.next_place ≡ self.now.state.next_place }
         ensures before { result.now.marked.jobs ≡ self.now.before.jobs }
     {
         self.machine.jobs()
+    }
+
+    /// The started subsystems.
+    pub fn started(&self) -> &SbsList
+        ensures { result.now ≡ self.now.state.started }
+    {
+        &self.machine.started
+    }
+
+    /// The held queues.
+    pub fn held(&self) -> &QNames
+        ensures { result.now ≡ self.now.state.held }
+    {
+        &self.machine.held
     }
 
     /// The number of the next job.

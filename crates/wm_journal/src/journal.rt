@@ -11,17 +11,19 @@ ghost use Rattle.wm_journal.specs.Fault.{HasCallCause};
 ghost use Rattle.wm_journal.specs.History.{last_of, last_order, reached, with_call};
 ghost use Rattle.wm_journal.specs.Limit.{limit_of};
 ghost use Rattle.wm_journal.specs.Trail.{HasTrail};
+ghost use Rattle.wm_views.specs.Views.{shown};
 
 use crate::CallFault;
 use crate::limit::limit_of;
 use std::alloc::Global;
 use std::marker::Model;
 use std::snapshot::Snapshot;
-use wm_base::{Asked, Moment};
+use wm_base::{Asked, Moment, NoMemory};
 use wm_core::Setup;
-use wm_law::{Call, Entry, Pending};
+use wm_law::{Ask, Call, Entry, Pending};
 use wm_outside::Keeper;
 use wm_stored::{OpenFault, StoredCore};
+use wm_views::Shown;
 
 /// The machine, its history, and the keeper of its rows. A contract sees the history, the limit of users' commands, and the
 /// keeper as it was found and as it is. What the machine was opened with, and the keeper that was found, are kept for
@@ -152,6 +154,21 @@ impl<K: Keeper> Journal<K> {
         ensures { result ≡ pending (reached self.now.history) }
     {
         self.stored.pending()
+    }
+
+    /// The entries.
+    pub fn log(&self) -> &[Entry]
+        ensures { result.now ≡ self.now.history.log }
+    {
+        &self.log
+    }
+
+    /// What a reading command shows of the state that the history reaches. An `Err` is want of memory.
+    pub fn view(&self, alloc: Global, ask: &Ask) -> Result<Shown, NoMemory>
+        ensures { IfOk result (λ view. view ≡ shown (reached self.now.history) ask.now) }
+    {
+        let view = self.stored.view(alloc, ask)?;
+        Ok(view)
     }
 
     /// The entries and the keeper.

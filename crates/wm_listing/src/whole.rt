@@ -19,7 +19,8 @@ fn push_waiting(alloc: Global, out: &mut Vec<u8>, queue: &QueueShown) -> Result<
     Ok(())
 }
 
-fn push_end(out: &mut Vec<u8>) -> Result<(), NoMemory>
+/// Adds the last line of a listing.
+pub(crate) fn push_end(out: &mut Vec<u8>) -> Result<(), NoMemory>
     ensures { OnOk result (out.new.items ≡ out.old.items ++ list_end) }
 {
     out.extend_from_slice(b"END OF LIST\n")?;

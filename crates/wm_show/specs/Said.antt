@@ -61,6 +61,23 @@ made_text c = codes "OK " ++ change_word (verb_of c) ++ behind_blank (made_name 
 abbrev pub queue_text : Command → List ℕ → List ℕ
 queue_text c end = codes "OK queue" ++ behind_blank (made_name c) ++ end
 
+-- what is said of the reply to a monitor's call, which is an order, nothing, noted or a refusal
+abbrev pub noted_text : Reply → List ℕ
+noted_text (Order asked) = order_text asked
+noted_text Nothing = codes "NOTHING"
+noted_text Noted = codes "NOTED"
+noted_text (No refusal) = codes "NO " ++ refusal_text refusal
+noted_text Made = []
+noted_text (SbsStarted sbs) = []
+noted_text (Submitted job jobq) = []
+noted_text (Held job) = []
+noted_text (Released job) = []
+noted_text (Changed job) = []
+noted_text QueueHeld = []
+noted_text QueueReleased = []
+noted_text (QueueCleared count) = []
+noted_text PowerDown = []
+
 -- what is said of a command's reply
 abbrev pub said_text : Command → Reply → List ℕ
 said_text c Made = made_text c
@@ -73,10 +90,10 @@ said_text c QueueHeld = queue_text c (codes " held")
 said_text c QueueReleased = queue_text c (codes " released")
 said_text c (QueueCleared count) = queue_text c (codes " cleared of " ++ decimal count ++ codes " jobs")
 said_text c PowerDown = codes "OK power down"
-said_text c (Order asked) = order_text asked
-said_text c Nothing = codes "NOTHING"
-said_text c Noted = codes "NOTED"
-said_text c (No refusal) = codes "NO " ++ refusal_text refusal
+said_text c (Order asked) = noted_text (Order asked)
+said_text c Nothing = noted_text Nothing
+said_text c Noted = noted_text Noted
+said_text c (No refusal) = noted_text (No refusal)
 
 -- the number and the word of a text's fault, and its place; want of memory has no line
 abbrev pub cl_text : ClFault → List ℕ

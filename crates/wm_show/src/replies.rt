@@ -4,7 +4,7 @@ ghost use Rattle.std.specs.Option.{option_copied};
 ghost use Rattle.wm_base.specs.JobName.{job_name_text};
 ghost use Rattle.wm_base.specs.QName.{qname_text};
 ghost use Rattle.std.specs.Fmt.{decimal};
-ghost use Rattle.wm_show.specs.Said.{behind_blank, made_name, made_text, order_text, queue_text, said_text};
+ghost use Rattle.wm_show.specs.Said.{behind_blank, made_name, made_text, order_text, queue_text, noted_text, said_text};
 
 use std::alloc::Global;
 use wm_base::{Asked, JobName, NoMemory, QName};
@@ -101,6 +101,19 @@ fn cleared(alloc: Global, command: &Command, count: u32) -> Result<String, NoMem
     Ok(text)
 }
 
+/// What is said of the reply to a monitor's call, a line without its end. An `Err` is want of memory.
+pub fn noted(alloc: Global, reply: &Reply) -> Result<String, NoMemory>
+    ensures { IfOk result (λ text. string_bytes text ≡ noted_text reply.now) }
+{
+    match reply {
+        Reply::Order(asked) => order_text(alloc, asked.get()),
+        Reply::Nothing => String::from_str(alloc, "NOTHING"),
+        Reply::Noted => String::from_str(alloc, "NOTED"),
+        Reply::No(refusal) => format!(in alloc; "NO {refusal}"),
+        _ => Ok(String::new(alloc)),
+    }
+}
+
 /// What is said of a command's reply, a line without its end. An `Err` is want of memory.
 pub fn said(alloc: Global, command: &Command, reply: &Reply) -> Result<String, NoMemory>
     ensures { IfOk result (λ text. string_bytes text ≡ said_text command.now reply.now) }
@@ -116,9 +129,6 @@ pub fn said(alloc: Global, command: &Command, reply: &Reply) -> Result<String, N
         Reply::QueueReleased => queue(alloc, command, " released"),
         Reply::QueueCleared(count) => cleared(alloc, command, *count),
         Reply::PowerDown => String::from_str(alloc, "OK power down"),
-        Reply::Order(asked) => order_text(alloc, asked.get()),
-        Reply::Nothing => String::from_str(alloc, "NOTHING"),
-        Reply::Noted => String::from_str(alloc, "NOTED"),
-        Reply::No(refusal) => format!(in alloc; "NO {refusal}"),
+        Reply::Order(_) | Reply::Nothing | Reply::Noted | Reply::No(_) => noted(alloc, reply),
     }
 }

@@ -7,17 +7,19 @@ ghost use Rattle.wm_outside.specs.Cause.{HasKeepCause};
 ghost use Rattle.wm_stored.specs.Fault.{IsCounted, NamesBad};
 ghost use Rattle.wm_stored.specs.Keeping.{telling, IsKept, IsLeft, IsOpened};
 ghost use Rattle.wm_stored.specs.Stored.{HasTables};
+ghost use Rattle.wm_views.specs.Views.{shown};
 
 use crate::OpenFault;
 use crate::keeping::{counts, keep_step};
 use crate::opening::open_core;
 use std::alloc::Global;
 use std::marker::Model;
-use wm_base::Moment;
+use wm_base::{Moment, NoMemory};
 use wm_changes::removed_number;
 use wm_core::{Core, Setup};
-use wm_law::{Call, Pending, Reply};
+use wm_law::{Ask, Call, Pending, Reply};
 use wm_outside::{KeepFault, Keeper};
+use wm_views::{Parts, Shown};
 
 /// The machine, whose rows a keeper has. A contract sees its state and its keeper; where the keeper tells its tables, they are
 /// those of the state.
@@ -103,6 +105,16 @@ impl<K: Keeper> StoredCore<K> {
         ensures { result ≡ pending self.now.state }
     {
         self.core.pending()
+    }
+
+    /// What a reading command shows of the state. An `Err` is want of memory.
+    pub fn view(&self, alloc: Global, ask: &Ask) -> Result<Shown, NoMemory>
+        ensures { IfOk result (λ view. view ≡ shown self.now.state ask.now) }
+    {
+        let core = &self.core;
+        let parts = Parts::new(core.objects(), core.jobs(), core.started(), core.held());
+        let view = parts.view(alloc, ask)?;
+        Ok(view)
     }
 
     /// The keeper.

@@ -1,2 +1,1 @@
 pub mod OfParts
-pub mod OnlyOne

@@ -2,7 +2,6 @@
 ghost use Rattle.std.specs.Prelude.{◌≡◌, map, filter, IfOk};
 ghost use Rattle.wm_law.specs.Choice.{is_sbs_active};
 ghost use Rattle.wm_law.specs.Counts.{is_active, is_in_sbs};
-ghost use Rattle.wm_law.specs.Named.{is_ended, has_name, has_user_name, is_named};
 ghost use Rattle.wm_law.specs.Queues.{is_on_queue, waits_on};
 ghost use Rattle.wm_views.specs.Lines.{job_line, placed};
 ghost use Rattle.wm_views.specs.Views.{is_ending, is_active_in, is_submitted_by};
@@ -11,8 +10,8 @@ use crate::JobLine;
 use crate::lines::{is_bch, job_line, placed};
 use crate::shown::Placed;
 use std::alloc::Global;
-use wm_base::{How, JobName, Moment, Name, NoMemory, QName};
-use wm_law::{Job, JobRef, Phase, Sbs, SbsPhase};
+use wm_base::{How, Moment, Name, NoMemory, QName};
+use wm_law::{Job, Phase, Sbs, SbsPhase};
 
 fn is_active(phase: &Phase) -> bool
     ensures { result ≡ is_active phase.now }
@@ -34,8 +33,8 @@ fn is_in_sbs(sbs: &QName, how: &How) -> bool
     }
 }
 
-/// Whether a job is active and counts to the subsystem.
-pub(crate) fn is_active_in(sbs: &QName, job: &Job) -> bool
+// Whether a job is active and counts to the subsystem.
+fn is_active_in(sbs: &QName, job: &Job) -> bool
     ensures { result ≡ is_active_in sbs.now job.now }
 {
     is_active(&job.phase) && is_in_sbs(sbs, &job.how)
@@ -67,39 +66,6 @@ fn waits_on(queue: &QName, job: &Job) -> bool
     ensures { result ≡ waits_on queue.now job.now }
 {
     matches!(job.phase, Phase::Waiting) && is_on_queue(queue, &job.jobq)
-}
-
-fn is_ended(phase: &Phase) -> bool
-    ensures { result ≡ is_ended phase.now }
-{
-    matches!(phase, Phase::Ended(_))
-}
-
-fn has_name(name: &Name, job: &JobName) -> bool
-    ensures { result ≡ has_name name.now job.now }
-{
-    job.name == *name
-}
-
-fn has_user_name(user: &Name, name: &Name, job: &JobName) -> bool
-    ensures { result ≡ has_user_name user.now name.now job.now }
-{
-    job.user == *user && has_name(name, job)
-}
-
-/// Whether a reference names a job.
-pub(crate) fn is_named(reference: &JobRef, job: &Job) -> bool
-    ensures { result ≡ is_named reference.now job.now }
-{
-    match reference {
-        JobRef::Simple(name) => !is_ended(&job.phase) && has_name(name, &job.job),
-        JobRef::ByUser(user, name) => {
-            !is_ended(&job.phase) && has_user_name(user, name, &job.job)
-        }
-        JobRef::Full(full) => {
-            job.job.number == full.number && has_user_name(&full.user, &full.name, &job.job)
-        }
-    }
 }
 
 /// The active jobs of a subsystem.

@@ -7,7 +7,6 @@
 
 mod choosing;
 mod lines;
-mod named;
 mod orders;
 mod parts;
 mod shown;

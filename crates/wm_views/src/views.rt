@@ -1,9 +1,8 @@
 // What a reading command shows.
 ghost use Rattle.std.specs.Prelude.{◌≡◌, map, IfOk};
 
-use crate::choosing::{active_jobs, is_active_in, is_ending, submitted_jobs, waiting_jobs};
+use crate::choosing::{active_jobs, is_ending, submitted_jobs, waiting_jobs};
 use crate::lines::job_line;
-use crate::named::named;
 use crate::shown::Placed;
 use crate::sorting::sorted;
 use crate::{
@@ -13,6 +12,7 @@ use crate::{
 use std::alloc::Global;
 use wm_base::{Kind, Limit, Name, NoMemory, QName, Refusal};
 use wm_law::{Ask, Job, JobRef, Sbs};
+use wm_tally::Counted;
 
 // The lines without their places.
 fn lines_alone(alloc: Global, placed: &[Placed]) -> Result<Vec<JobLine>, NoMemory>
@@ -42,7 +42,7 @@ impl<'a> Parts<'a> {
     fn active_jobs(&self, alloc: Global, sbs: &QName) -> Result<JobLines, NoMemory>
         ensures { IfOk result (λ lines. lines ≡ active_jobs self.now sbs.now) }
     {
-        let lines = active_jobs(alloc, self.clock, self.jobs, sbs)?;
+        let lines = active_jobs(alloc, self.jobs.clock(), self.jobs.jobs(), sbs)?;
         Ok(JobLines::from(sorted(alloc, &lines)?))
     }
 
@@ -78,7 +78,7 @@ impl<'a> Parts<'a> {
     fn waiting_jobs(&self, alloc: Global, jobq: &QName) -> Result<JobLines, NoMemory>
         ensures { IfOk result (λ lines. lines ≡ waiting_jobs self.now jobq.now) }
     {
-        let waiting = waiting_jobs(alloc, self.clock, self.jobs, jobq)?;
+        let waiting = waiting_jobs(alloc, self.jobs.clock(), self.jobs.jobs(), jobq)?;
         let waiting = sorted(alloc, &waiting)?;
         let lines = lines_alone(alloc, &waiting)?;
         Ok(JobLines::from(lines))
@@ -107,17 +107,15 @@ impl<'a> Parts<'a> {
     fn submitted_lines(&self, alloc: Global, user: &Name) -> Result<JobLines, NoMemory>
         ensures { IfOk result (λ lines. lines ≡ submitted_lines self.now user.now) }
     {
-        let lines = submitted_jobs(alloc, self.clock, self.jobs, user)?;
+        let lines = submitted_jobs(alloc, self.jobs.clock(), self.jobs.jobs(), user)?;
         Ok(JobLines::from(lines))
     }
 
+    // The active jobs of a subsystem, by the tally.
     fn count_in_sbs(&self, sbs: &QName) -> u32
         ensures { result ≡ count_in_sbs sbs.now self.now.jobs }
     {
-        self.jobs
-            .iter()
-            .filter(|job| is_active_in(sbs, job))
-            .count() as u32
+        self.jobs.tally().count(&Counted::Sbs(*sbs))
     }
 
     fn maxjobs_of(&self, sbs: &QName) -> Limit
@@ -158,7 +156,7 @@ impl<'a> Parts<'a> {
         ensures { result ≡ job_shown self.now job.now }
     {
         JobShown {
-            line: job_line(self.clock, job),
+            line: job_line(self.jobs.clock(), job),
             jobq: job.jobq,
         }
     }
@@ -166,7 +164,7 @@ impl<'a> Parts<'a> {
     fn job_view(&self, reference: &JobRef) -> Shown
         ensures { result ≡ job_or_no self.now (job_named self.now reference.now) }
     {
-        match named(self.jobs, reference) {
+        match self.jobs.named(reference) {
             Err(refusal) => Shown::No(refusal),
             Ok(job) => Shown::Job(self.job_shown(job)),
         }
