@@ -1,12 +1,13 @@
 use Rattle.std.proofs.Common.{◌≡◌, ◌∙◌, List, ℕ, inr, refl, subst, sym, take}
 use Rattle.wm_outside.specs.Told.{Grows}
 use Rattle.wm_run.specs.Answer.{fault_answer, is_fault}
-use Rattle.wm_run.specs.Serving.{session_entries}
-use Rattle.wm_run.specs.Session.{AnswersParsed}
+use Rattle.wm_law.specs.declared.call.Entry.{Entry}
+use Rattle.wm_run.specs.Grown.{entries_between}
+use Rattle.wm_run.specs.Session.{AnsweredBy, AnswersParsed}
 use Rattle.wm_run.specs.Stopped.{IsCutShort}
 use Rattle.wm_run.specs.declared.parsed.Parsed.{Parsed}
-use Rattle.wm_run.specs.declared.parsed.Parsed.TheVariants.{Fault}
-use Rattle.wm_run.proofs.Servings.{session_entries-none}
+use Rattle.wm_run.specs.declared.parsed.Parsed.TheVariants.{Fault, Read}
+use Rattle.wm_run.proofs.Growing.{entries-none}
 use Rattle.wm_run.proofs.StoppedRuns.{on_err}
 use Rattle.wm_run.proofs.session.Run.answer_parsed.Goals as goal
 
@@ -17,13 +18,13 @@ returns-in_err-put-in-Fault-clause-stopped g c =
     let history = c.args.self.now.journal.history in
     let some = c.in_err-put-in-Fault.ensures.some in
     let bytes : c.as_bytes.result.now ≡ fault_answer fault = c.as_bytes.ensures.value ∙ c.in_ok-line-in-Fault.ensures in
-    let cut : IsCutShort (AnswersParsed (Fault fault)) (session_entries history history) (o.written c.args.out.now) (o.written c.put.new.out) =
+    let cut : IsCutShort (AnswersParsed (Fault fault) history) (entries_between history history) (o.written c.args.out.now) (o.written c.put.new.out) =
     inr (record {
       due = fault_answer fault;
       faulty = is_fault fault;
-      answers = record { none = session_entries-none history; says = refl; fault = refl };
+      answers = record { none = entries-none history; says = refl; fault = refl };
       count = some.0;
       written = subst (λ (b : List ℕ). Grows (o.written c.args.out.now) (o.written c.put.new.out) (take some.0 b)) bytes some.1;
     }) in
     on_err c.from_residual-in_err-put-in-Fault.result
-    (subst (λ (r : Parsed). IsCutShort (AnswersParsed r) (session_entries history history) (o.written c.args.out.now) (o.written c.put.new.out)) (sym c.in-Fault.is) cut)
+    (subst (λ (r : Parsed). IsCutShort (AnswersParsed r history) (entries_between history history) (o.written c.args.out.now) (o.written c.put.new.out)) (sym c.in-Fault.is) cut)
