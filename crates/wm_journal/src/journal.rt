@@ -167,8 +167,7 @@ impl<K: Keeper> Journal<K> {
     pub fn view(&self, alloc: Global, ask: &Ask) -> Result<Shown, NoMemory>
         ensures { IfOk result (λ view. view ≡ shown (reached self.now.history) ask.now) }
     {
-        let view = self.stored.view(alloc, ask)?;
-        Ok(view)
+        self.stored.view(alloc, ask)
     }
 
     /// The entries and the keeper.

@@ -5,7 +5,8 @@
 //! is the machine's; after an `Err` all is as before. Once the history has as many entries as its limit, it takes no user's
 //! command, and from 4,000,000 on no call. The history is legal from the opened state, the tables that the keeper tells are those
 //! of the state that it reaches, and the trail is that of the history: the tables of the opened state and those after each
-//! entry, without the ones that are as before.
+//! entry, without the ones that are as before. `Journal::view` gives what a reading command shows of the state that the
+//! history reaches, and `Journal::log` lends the entries, which DSPLOG lists.
 //!
 //! The definitions are in `specs/`: `Journaled` (what a contract sees), `History`, `Trail` (which tables a history has had),
 //! `Limit` and `Fault` (why a call isn't made).

@@ -1,12 +1,15 @@
 // The listing of a history.
 ghost use Rattle.std.specs.Prelude.{◌≡◌, ◌++◌, IfOk, OnOk, codes, string_bytes};
+ghost use Rattle.std.specs.Fmt.{decimal};
+ghost use Rattle.wm_base.specs.Exit.{exit_text};
+ghost use Rattle.wm_base.specs.StartCause.{start_cause_word};
 ghost use Rattle.wm_command.specs.Print.{command_text};
 ghost use Rattle.wm_listing.specs.Log.{call_text, reply_text, column, entry_fields, entry_line, entry_lines, log_text};
 
 use crate::columns::push_aligned;
 use crate::whole::push_end;
 use std::alloc::Global;
-use wm_base::{Name, NoMemory};
+use wm_base::{Exit, Name, NoMemory, Serial, StartCause};
 use wm_command::print;
 use wm_law::{Call, Command, Entry};
 use wm_show::{noted, said};
@@ -22,6 +25,26 @@ fn command_line(alloc: Global, user: &Name, command: &Command) -> Result<String,
     Ok(text)
 }
 
+// That a start failed, and why.
+fn start_failed(alloc: Global, serial: Serial, cause: StartCause) -> Result<String, NoMemory>
+    ensures { IfOk result (λ text. string_bytes text ≡ codes "STARTFAILED " ++ decimal serial ++ codes " " ++ start_cause_word cause) }
+{
+    let mut text = format!(in alloc; "STARTFAILED {serial} ")?;
+    let cause = cause.to_string(alloc)?;
+    text.push_str(cause.as_str())?;
+    Ok(text)
+}
+
+// That a job finished, and how.
+fn finished(alloc: Global, serial: Serial, end: Exit) -> Result<String, NoMemory>
+    ensures { IfOk result (λ text. string_bytes text ≡ codes "FINISHED " ++ decimal serial ++ codes " " ++ exit_text end) }
+{
+    let mut text = format!(in alloc; "FINISHED {serial} ")?;
+    let end = end.to_string(alloc)?;
+    text.push_str(end.as_str())?;
+    Ok(text)
+}
+
 // What was called.
 fn call_line(alloc: Global, call: &Call) -> Result<String, NoMemory>
     ensures { IfOk result (λ text. string_bytes text ≡ call_text call.now) }
@@ -30,8 +53,8 @@ fn call_line(alloc: Global, call: &Call) -> Result<String, NoMemory>
         Call::Change { user, command } => command_line(alloc, user, command.get()),
         Call::Hand => String::from_str(alloc, "HAND"),
         Call::Started(serial) => format!(in alloc; "STARTED {serial}"),
-        Call::StartFailed(serial, cause) => format!(in alloc; "STARTFAILED {serial} {cause}"),
-        Call::Finished(serial, end) => format!(in alloc; "FINISHED {serial} {end}"),
+        Call::StartFailed(serial, cause) => start_failed(alloc, *serial, *cause),
+        Call::Finished(serial, end) => finished(alloc, *serial, *end),
         Call::UseDone(serial) => format!(in alloc; "USEDONE {serial}"),
         Call::Tick => String::from_str(alloc, "TICK"),
     }

@@ -12,6 +12,7 @@ ghost use Rattle.wm_views.specs.Views.{shown};
 use crate::OpenFault;
 use crate::keeping::{counts, keep_step};
 use crate::opening::open_core;
+use crate::viewing::view;
 use std::alloc::Global;
 use std::marker::Model;
 use wm_base::{Moment, NoMemory};
@@ -19,7 +20,7 @@ use wm_changes::removed_number;
 use wm_core::{Core, Setup};
 use wm_law::{Ask, Call, Pending, Reply};
 use wm_outside::{KeepFault, Keeper};
-use wm_views::{Parts, Shown};
+use wm_views::Shown;
 
 /// The machine, whose rows a keeper has. A contract sees its state and its keeper; where the keeper tells its tables, they are
 /// those of the state.
@@ -111,10 +112,7 @@ impl<K: Keeper> StoredCore<K> {
     pub fn view(&self, alloc: Global, ask: &Ask) -> Result<Shown, NoMemory>
         ensures { IfOk result (λ view. view ≡ shown self.now.state ask.now) }
     {
-        let core = &self.core;
-        let parts = Parts::new(core.objects(), core.jobs(), core.started(), core.held());
-        let view = parts.view(alloc, ask)?;
-        Ok(view)
+        view(&self.core, alloc, ask)
     }
 
     /// The keeper.

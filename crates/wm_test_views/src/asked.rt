@@ -12,6 +12,8 @@ impl Tested {
             self.set_now(now)
         } else if let Some(name) = question.strip_prefix("set ending ") {
             self.set_ending(name)
+        } else if question == "list causes" {
+            self.list_causes(answer)
         } else {
             self.command(question, answer)
         }

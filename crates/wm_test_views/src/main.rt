@@ -1,11 +1,12 @@
 //! The cases of what reading commands show: commands and monitors' calls on a `wm_core::Machine`, and then a listing.
 //!
-//! A question is a CL text, which is called or shown, `monitor` with its pass and call, `set now`, or `set ending`. Each
-//! case begins with the state of an empty store, by the user QUSER, at the moment 1000. What is printed, and what must be
-//! printed, is the number of answers of each file.
+//! A question is a CL text, which is called or shown, `monitor` with its pass and call, `set now`, `set ending`, or `list
+//! causes`. Each case begins with the state of an empty store, by the user QUSER, at the moment 1000. What is printed, and
+//! what must be printed, is the number of answers of each file.
 #![tactic(auto)]
 
 mod asked;
+mod causes;
 mod lines;
 mod monitor;
 mod tested;
@@ -15,7 +16,7 @@ use tested::Tested;
 use wm_cases::play;
 
 /// The files of cases.
-static FILES: [&str; 3] = ["jobs.txt", "queues.txt", "subsystems.txt"];
+static FILES: [&str; 4] = ["jobs.txt", "log.txt", "queues.txt", "subsystems.txt"];
 
 fn main(rt: HostRuntime) -> Result<()> {
     let mut tested = Tested::new(rt.alloc())?;

@@ -23,7 +23,7 @@ pub fn qname_of(word: &str) -> Option<QName> {
     })
 }
 
-/// The call that words are: `hand`, or a report as `finished 2` of the job of serial 2.
+/// The call that words are: `hand`, `tick`, or a report as `finished 2` of the job of serial 2.
 pub fn call_of(words: &str) -> Result<Call>
     ensures { IfOk result IsCall }
 {
@@ -31,12 +31,17 @@ pub fn call_of(words: &str) -> Result<Call>
     if report == "hand" {
         return Ok(Call::Hand);
     }
+    if report == "tick" {
+        return Ok(Call::Tick);
+    }
     let serial = Serial::new(serial.parse::<u64>()?);
     match report {
         "started" => Ok(Call::Started(serial)),
         "failed" => Ok(Call::StartFailed(serial, StartCause::Spawner)),
+        "lacked" => Ok(Call::StartFailed(serial, StartCause::Memory)),
         "exited" => Ok(Call::Finished(serial, Exit::Code(3))),
         "finished" => Ok(Call::Finished(serial, Exit::Code(0))),
+        "killed" => Ok(Call::Finished(serial, Exit::Killed)),
         _ => bail!("no such report"),
     }
 }

@@ -2,6 +2,7 @@
 ghost use Rattle.wm_command.specs.Printed.{FitsMachine};
 ghost use Rattle.wm_law.specs.Fit.{IsCall, IsCommand};
 
+use crate::causes::ended_jobs;
 use crate::lines::{has_call, line_of};
 use crate::monitor::{call_of, first_word, qname_of};
 use anyhow::{Context, Result, bail, ensure};
@@ -11,8 +12,8 @@ use wm_base::{Moment, Name};
 use wm_command::Line;
 use wm_core::{Machine, Setup};
 use wm_desc::qbatch;
-use wm_law::{Ask, Boxed, Call, Command, Reply, Sbs, SbsPhase};
-use wm_listing::listing;
+use wm_law::{Ask, Boxed, Call, Command, Entry, Reply, Sbs, SbsPhase};
+use wm_listing::{listing, log_listing};
 use wm_views::{Parts, Shown};
 use wm_when::Offset;
 
@@ -27,6 +28,7 @@ pub struct Tested {
     alloc: Global,
     user: Name,
     machine: Machine,
+    log: Vec<Entry>,
     now: Moment,
 }
 
@@ -42,6 +44,7 @@ impl Tested {
             alloc,
             user: Name::of(b"QUSER"),
             machine,
+            log: Vec::new(alloc),
             now: Moment::new(NOW),
         })
     }
@@ -54,24 +57,28 @@ impl Tested {
 
     // What is shown of the machine's state.
     fn shown(&self, ask: &Ask) -> Result<Shown> {
-        let jobs = self.machine.jobs();
-        let all = jobs.jobs();
-        ensure!(all.len() < 1_000_000, "too many jobs");
         let parts = Parts::new(
             &self.machine.objects,
-            all,
+            self.machine.jobs(),
             &self.machine.started,
             &self.machine.held,
-            jobs.clock(),
         );
         let shown = parts.view(self.alloc, ask)?;
         Ok(shown)
     }
 
-    // Adds the listing of what is shown.
-    fn show(&self, ask: &Ask, answer: &mut String) -> Result<()> {
+    // The listing of what is asked. DSPLOG lists the calls that were made.
+    fn bytes(&self, ask: &Ask) -> Result<Vec<u8>> {
+        if let Ask::Log = ask {
+            return Ok(log_listing(self.alloc, &self.log)?);
+        }
         let shown = self.shown(ask)?;
-        let bytes = listing(self.alloc, &shown)?;
+        Ok(listing(self.alloc, &shown)?)
+    }
+
+    // Adds the listing of what is asked.
+    fn show(&self, ask: &Ask, answer: &mut String) -> Result<()> {
+        let bytes = self.bytes(ask)?;
         answer.push_str(str::from_utf8(&bytes)?)?;
         Ok(())
     }
@@ -87,12 +94,28 @@ impl Tested {
         Ok(reply)
     }
 
-    // Makes a call, and adds a refusal.
-    fn call(&mut self, caller: u32, call: &Call, answer: &mut String) -> Result<()>
-        requires { IsCall call.now }
+    // Makes a call, which is the last of the log then.
+    fn enter(&mut self, caller: u32, call: Call) -> Result<()>
+        requires { IsCall call }
     {
-        let reply = self.reply(caller, call)?;
-        if let Reply::No(refusal) = &reply {
+        self.log.reserve(1)?;
+        let reply = self.reply(caller, &call)?;
+        self.log.push_reserved(Entry {
+            caller,
+            call,
+            moment: self.now,
+            reply,
+        });
+        Ok(())
+    }
+
+    // Makes a call, and adds a refusal.
+    fn call(&mut self, caller: u32, call: Call, answer: &mut String) -> Result<()>
+        requires { IsCall call }
+    {
+        self.enter(caller, call)?;
+        let entry = self.log.last().context("no entry")?;
+        if let Reply::No(refusal) = &entry.reply {
             writeln!(answer, "NO {refusal}")?;
         }
         Ok(())
@@ -107,7 +130,7 @@ impl Tested {
             user: self.user,
             command: Boxed::new(self.alloc, command)?,
         };
-        self.call(SESSION, &call, answer)
+        self.call(SESSION, call, answer)
     }
 
     fn line(&mut self, line: Line, answer: &mut String) -> Result<()>
@@ -130,7 +153,15 @@ impl Tested {
         let (monitor, words) = first_word(words);
         let monitor = monitor.parse::<u32>()?;
         let call = call_of(words)?;
-        self.call(monitor, &call, answer)
+        self.call(monitor, call, answer)
+    }
+
+    /// Adds the listing of a job for each cause that no command or report of today gives.
+    pub fn list_causes(&self, answer: &mut String) -> Result<()> {
+        let lines = ended_jobs(self.alloc)?;
+        let bytes = listing(self.alloc, &Shown::Submitted(lines))?;
+        answer.push_str(str::from_utf8(&bytes)?)?;
+        Ok(())
     }
 
     /// Sets the moment of the calls that follow.

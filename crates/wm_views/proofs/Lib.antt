@@ -1,1 +1,2 @@
 pub mod OfParts
+pub mod Stable

@@ -1,4 +1,5 @@
 pub mod Lines
 pub mod Parts
+pub mod Ranks
 pub mod Sorted
 pub mod Views

@@ -1,8 +1,11 @@
 // Putting into an order.
-ghost use Rattle.std.specs.Prelude.{◌≡◌, ◌≤◌, Bool, not, length, IfOk, OnOk};
-ghost use Rattle.wm_views.specs.Sorted.{place_in, put_in, sorted};
+ghost use Rattle.std.specs.Prelude.{◌≡◌, Bool, IfOk};
+ghost use Rattle.std.specs.Cmp.{IsStrictWeakOrder};
+ghost use Rattle.std.specs.Ordering.{is_lt};
+ghost use Rattle.wm_views.specs.Sorted.{sorted};
 
 use std::alloc::Global;
+use std::cmp::Ordering;
 use wm_base::NoMemory;
 
 /// What can be put into an order.
@@ -12,38 +15,39 @@ pub(crate) trait Ordered: Copy {
     /// Whether it goes before another.
     fn before(&self, other: &Self) -> bool
         ensures { result ≡ before self.now other.now };
+
+    ghost ranks: { IsStrictWeakOrder before };
 }
 
-// Where an item goes.
-fn place_in<T: Ordered>(items: &[T], item: &T) -> usize
-    ensures place { result ≡ place_in T.before items.now item.now }
-    ensures range { result ≤ length items.now }
+// How two stand to one another.
+fn compare<T: Ordered>(one: &T, other: &T) -> Ordering
+    ensures { is_lt result ≡ T.before one.now other.now }
 {
-    items
-        .iter()
-        .filter(
-            |other: &&T| -> bool
-                ensures { result ≡ not (T.before item.entry.now other.now.now) }
-            { !item.before(other) },
-        )
-        .count()
+    if one.before(other) {
+        Ordering::Less
+    } else if other.before(one) {
+        Ordering::Greater
+    } else {
+        Ordering::Equal
+    }
 }
 
-fn put_in<T: Ordered>(items: &mut Vec<T>, item: T) -> Result<(), NoMemory>
-    ensures { OnOk result (items.new.items ≡ put_in T.before items.old.items item) }
+// The items as they came.
+fn copied<T: Copy>(alloc: Global, items: &[T]) -> Result<Vec<T>, NoMemory>
+    ensures { IfOk result (λ list. list.items ≡ items.now) }
 {
-    let at = place_in(items.as_slice(), &item);
-    items.insert(at, item)?;
-    Ok(())
+    items.iter().copied().collect(alloc)
 }
 
 /// The items in their order, equal ones as they came. An `Err` is want of memory.
 pub(crate) fn sorted<T: Ordered>(alloc: Global, items: &[T]) -> Result<Vec<T>, NoMemory>
     ensures { IfOk result (λ list. list.items ≡ sorted T.before items.now) }
 {
-    let mut list = Vec::new(alloc);
-    for item in items {
-        put_in(&mut list, *item)?;
-    }
+    let mut list = copied(alloc, items)?;
+    list.sort_by(
+        |one: &T, other: &T| -> Ordering
+            ensures { is_lt result ≡ T.before one.now other.now }
+        { compare(one, other) },
+    )?;
     Ok(list)
 }
