@@ -3,6 +3,7 @@ use Rattle.wm_journal.specs.History.{reached}
 use Rattle.wm_journal.specs.Trail.{HasTrail}
 use Rattle.wm_law.specs.Pending.{active}
 use Rattle.wm_stored.specs.Keeping.{telling, IsOpened}
+use Rattle.wm_run.specs.Outcome.{RunTakes}
 use Rattle.wm_run.proofs.Openings.{not_opened, open_high, open_low, open_unread, opened_run}
 use Rattle.wm_run.proofs.Outcomes.{came_not, came_run}
 use Rattle.wm_run.proofs.Runs.{ended_if}
@@ -31,4 +32,7 @@ returns-in-Ok-clause-history g c =
     let trail = subst (λ (keeper : _). HasTrail last.history (T keeper) (T c.close.result.1)) found c.close.ensures.trail in
     let idle : c.close.result.0.status ≤ 1 → active (reached last.history) ≡ 0 = λ low. ended_if (λ _. active (reached last.history) ≡ 0) c.serve-end.result c.serve-end.ensures.idle (subst (λ (n : ℕ). n ≤ 1) status low) in
     let came = came_run c.serve-end.result c.close.result.0.status j.history last.history c.close.result.0.log.items _ _ _ _ status c.in-Ok.ensures.log c.close.ensures.log c.serve-end.ensures.input in
-    inl (opened_run c.close.result.0.status c.close.result.0.log.items j.history last.history (T c.args.keeper) (T j.keeper) (T c.close.result.1) opened c.in-Ok.ensures.log serves.opened c.close.ensures.log c.close.ensures.legal serves.ticks idle c.close.ensures.tables trail (λ none. ap k.trail c.close.ensures.keeper ∙ kept.untold none) (g.met.K.Keeper.trail_with_tables c.args.keeper) (g.met.K.Keeper.trail_with_tables c.close.result.1) came)
+    let input = g.I.Source.left in
+    let out = g.O.Sink.written in
+    let Came = RunTakes (input c.args.input.now) (input c.serve-end.new.input) c.close.result.0.status c.close.result.0.log.items (out c.args.out.now) (out c.serve-end.new.out) in
+    inl (opened_run {Came = Came} c.close.result.0.status c.close.result.0.log.items j.history last.history (T c.args.keeper) (T j.keeper) (T c.close.result.1) opened c.in-Ok.ensures.log serves.opened c.close.ensures.log c.close.ensures.legal serves.ticks idle c.close.ensures.tables trail (λ none. ap k.trail c.close.ensures.keeper ∙ kept.untold none) (g.met.K.Keeper.trail_with_tables c.args.keeper) (g.met.K.Keeper.trail_with_tables c.close.result.1) came)
