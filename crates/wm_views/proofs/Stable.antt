@@ -1,5 +1,5 @@
 -- Two lists in an order, in which what ties stands alike, are the same.
-use Rattle.std.proofs.Common.{◌≡◌, ℕ, zero, suc, ◌+◌, ◌<◌, ◌≤◌, Bool, true, false, cond, not, ◌&&◌, List, [], ◌∷◌, ◌++◌, take, drop, length, get_or, filter, fold, count_by, insert, refl, sym, ap, ◌∙◌, subst, true≢false, arith, one-add, zero-add, append-nil, append_assoc}
+use Rattle.std.proofs.Common.{◌≡◌, ℕ, suc, ◌+◌, ◌<◌, ◌≤◌, Bool, true, false, cond, not, ◌&&◌, List, [], ◌∷◌, ◌++◌, length, get_or, filter, fold, count_by, insert, refl, sym, ap, ◌∙◌, subst, true≢false, arith, one-add, zero-add, append-nil, append_assoc}
 use Rattle.std.proofs.lemmas.List.Sums.{sum_by-cons}
 use Rattle.std.proofs.lemmas.List.Sorted.{sorted_far}
 use Rattle.std.specs.Cmp.{IsStrictWeakOrder}
@@ -64,13 +64,13 @@ module _ {E : Type 0} (lt : E → E → Bool) where
     put_by : (x y : E) (ys : List E) → Up (y ∷ ys) → (b : Bool) → lt x y ≡ b → put_in lt ys x ≡ ins x ys → put_in lt (y ∷ ys) x ≡ cond b (x ∷ y ∷ ys) (y ∷ ins x ys)
     put_by x y ys h true e rest =
         ap (λ (n : ℕ). insert (y ∷ ys) n x)
-          (sum_by-cons (λ (w : E). cond (not (lt x w)) 1 0) y ys
-          ∙ ap (λ (b : Bool). cond (not b) 1 0 + count_by (λ w. not (lt x w)) ys) e
-          ∙ zero-add (count_by (λ w. not (lt x w)) ys)
-          ∙ count_none x y ys e h.0)
+        (sum_by-cons (λ (w : E). cond (not (lt x w)) 1 0) y ys
+        ∙ ap (λ (b : Bool). cond (not b) 1 0 + count_by (λ w. not (lt x w)) ys) e
+        ∙ zero-add (count_by (λ w. not (lt x w)) ys)
+        ∙ count_none x y ys e h.0)
     put_by x y ys h false e rest =
         ap (λ (n : ℕ). insert (y ∷ ys) n x)
-          (sum_by-cons (λ (w : E). cond (not (lt x w)) 1 0) y ys ∙ ap (λ (b : Bool). cond (not b) 1 0 + count_by (λ w. not (lt x w)) ys) e)
+        (sum_by-cons (λ (w : E). cond (not (lt x w)) 1 0) y ys ∙ ap (λ (b : Bool). cond (not b) 1 0 + count_by (λ w. not (lt x w)) ys) e)
         ∙ insert_cons (count_by (λ w. not (lt x w)) ys) x y ys
         ∙ ap (λ (l : List E). y ∷ l) rest
 
@@ -157,7 +157,6 @@ module _ {E : Type 0} (lt : E → E → Bool) where
         ∙ sym (kept_append t (acc ++ x ∷ []) xs)
         ∙ ap (filter t) (append_assoc acc (x ∷ []) xs)
 
-
     kept_self : (x : E) (xs : List E) → filter (ties lt x) (x ∷ xs) ≡ x ∷ filter (ties lt x) xs
     kept_self x xs = ap (λ (b : Bool). cond b (x ∷ filter (ties lt x) xs) (filter (ties lt x) xs)) (parts_tie x x (never_less x) (never_less x))
 
@@ -167,6 +166,7 @@ module _ {E : Type 0} (lt : E → E → Bool) where
       where
         full : x ∷ filter (ties lt x) xs ≡ filter (ties lt x) (y ∷ ys)
         full = sym (kept_self x xs) ∙ e
+
         by : (b : Bool) → lt x y ≡ b → lt x y ≡ false
         by true p = absurd (cons-not-nil (full ∙ none_tie x x y (y ∷ ys) (parts_tie x x (never_less x) (never_less x)) p (never_less y, h.0)))
         by false p = p
@@ -185,7 +185,7 @@ module _ {E : Type 0} (lt : E → E → Bool) where
         let over = not_before x y xs ys k (e x) in
         let under = not_before y x ys xs h (sym (e y)) in
         let tied : filter (ties lt x) (y ∷ ys) ≡ y ∷ filter (ties lt x) ys =
-            ap (λ (b : Bool). cond b (y ∷ filter (ties lt x) ys) (filter (ties lt x) ys)) (parts_tie x y over under) in
+        ap (λ (b : Bool). cond b (y ∷ filter (ties lt x) ys) (filter (ties lt x) ys)) (parts_tie x y over under) in
         let heads : x ∷ filter (ties lt x) xs ≡ y ∷ filter (ties lt x) ys = sym (kept_self x xs) ∙ e x ∙ tied in
         let same : y ≡ x = cc in
         let ends : xs ≡ ys = same_order xs ys h.1 k.1 (λ z. rest_kept z x (ties lt z x) (filter (ties lt z) xs) (filter (ties lt z) ys) (e z ∙ ap (λ (w : E). filter (ties lt z) (w ∷ ys)) same)) in
@@ -197,9 +197,10 @@ module _ {E : Type 0} (lt : E → E → Bool) where
 
     up_all : (xs : List E) → ((i j : ℕ) (d : E) → i ≤ j → j < length xs → lt (get_or xs j d) (get_or xs i d) ≡ false) → Up xs
     up_all [] h = tt
-    up_all (x ∷ xs) h =
-        ( from_all x xs (λ j d w. h 0 (suc j) d (omega arith) (omega (arith, w)))
-        , up_all xs (λ i j d v w. h (suc i) (suc j) d (omega (arith, v)) (omega (arith, w))) )
+    up_all (x ∷ xs) h = (
+      from_all x xs (λ j d w. h 0 (suc j) d (omega arith) (omega (arith, w))),
+      up_all xs (λ i j d v w. h (suc i) (suc j) d (omega (arith, v)) (omega (arith, w))),
+    )
 
     up_of : (xs : List E) → IsSortedBy lt xs → Up xs
     up_of xs h = up_all xs (sorted_far lt o xs h)

@@ -1,5 +1,5 @@
 -- proofs/sorting/sorted/Answers.antt
-use Rattle.std.proofs.Common.{rules, ◌∙◌, ap}
+use Rattle.std.proofs.Common.{◌∙◌, ap, rules}
 use Rattle.std.proofs.lemmas.List.Sorted.{answers_always}
 use Rattle.wm_views.specs.Sorted.{sorted}
 use Rattle.wm_views.proofs.Stable.{sorted_is}
