@@ -71,12 +71,7 @@ fn reply_line(alloc: Global, entry: &Entry) -> Result<String, NoMemory>
 }
 
 // A number in a column, and a blank.
-fn push_column(
-    alloc: Global,
-    out: &mut Vec<u8>,
-    width: usize,
-    number: u64,
-) -> Result<(), NoMemory>
+fn push_column(alloc: Global, out: &mut Vec<u8>, width: usize, number: u64) -> Result<(), NoMemory>
     ensures { OnOk result (out.new.items ≡ out.old.items ++ column width number) }
 {
     let number = number.to_string(alloc)?;
@@ -100,12 +95,7 @@ fn push_fields(
     Ok(())
 }
 
-fn push_entry(
-    alloc: Global,
-    out: &mut Vec<u8>,
-    place: usize,
-    entry: &Entry,
-) -> Result<(), NoMemory>
+fn push_entry(alloc: Global, out: &mut Vec<u8>, place: usize, entry: &Entry) -> Result<(), NoMemory>
     ensures { OnOk result (out.new.items ≡ out.old.items ++ entry_line place entry.now) }
 {
     push_fields(alloc, out, place, entry)?;

@@ -1,5 +1,5 @@
 -- proofs/log/push_entries/Answers.antt
-use Rattle.std.proofs.Common.{◌≡◌, ◌+◌, List, ℕ, ◌++◌, take, ap, sym, ◌∙◌, append_assoc}
+use Rattle.std.proofs.Common.{◌+◌, List, ℕ, ◌++◌, take, ap, sym, ◌∙◌, append_assoc}
 use Rattle.wm_listing.specs.Log.{entry_line, entry_lines}
 use Rattle.wm_listing.proofs.Logs.{next_line}
 use Rattle.wm_listing.proofs.log.push_entries.Goals as goal
