@@ -8,7 +8,7 @@ use Rattle.wm_law.specs.declared.call.Entry.{Entry}
 use Rattle.wm_journal.specs.History.{History}
 use Rattle.wm_outside.specs.Told.{Takes}
 use Rattle.wm_outside.proofs.Telling.{Takes-none, Takes-then}
-use Rattle.wm_run.specs.Grown.{grown, entries_between}
+use Rattle.wm_run.specs.Grown.{entries_between}
 use Rattle.wm_run.specs.Session.{Answers, AnsweredBy}
 use Rattle.wm_run.specs.Taking.{TakesPiece, TakesInput}
 use Rattle.wm_run.proofs.Growing.{Continues, entries-none, entries-then, grown-between}
