@@ -13,13 +13,13 @@ use Rattle.wm_run.specs.Calls.{Called}
 use Rattle.wm_run.specs.Lists.{since, Extends}
 use Rattle.wm_run.specs.Monitor.{is_own}
 use Rattle.wm_run.specs.Parsed.{session_user}
-use Rattle.wm_run.specs.Serving.{session_entries}
+use Rattle.wm_run.specs.Grown.{entries_between}
 use Rattle.wm_run.specs.Session.{AnsweredBy, Calls, session_pass}
 use Rattle.wm_run.specs.Stopped.{WritesSome}
-use Rattle.wm_run.proofs.Servings.{Extends-called, session_entries-called, session_entries-own, session_entries-then}
+use Rattle.wm_run.proofs.Servings.{Extends-called, session_entries, session_entries-called, session_entries-own, session_entries-then}
 
 -- its entry, what is said of it, and then entries of the monitor
-pub commanded : (old mid new : History) (c : Command) (before now : Option (List ℕ)) (refused : Bool) → Called old (Change session_user c) mid → Extends mid.log new.log → list_all is_own (since mid.log new.log) ≡ true → IfSome (last_of mid) (λ e. Grows before now (with_end (entry_text e)) × (refused ≡ is_refused e.reply)) → AnsweredBy (Calls c) (session_entries old new) before now refused
+pub commanded : (old mid new : History) (c : Command) (before now : Option (List ℕ)) (refused : Bool) → Called old (Change session_user c) mid → Extends mid.log new.log → list_all is_own (since mid.log new.log) ≡ true → IfSome (last_of mid) (λ e. Grows before now (with_end (entry_text e)) × (refused ≡ is_refused e.reply)) → AnsweredBy (Calls c) (entries_between old new) before now refused
 commanded old mid new c before now refused h grown own said =
     let call = Change session_user c in
     let e = entry_at old session_pass call h.now in
@@ -35,7 +35,7 @@ commanded old mid new c before now refused h grown own said =
     }
 
 -- what is said was written in part
-pub commanded_some : (old mid : History) (c : Command) (before now : Option (List ℕ)) → Called old (Change session_user c) mid → IfSome (last_of mid) (λ e. (n : ℕ) × Grows before now (take n (with_end (entry_text e)))) → WritesSome (Calls c) (session_entries old mid) before now
+pub commanded_some : (old mid : History) (c : Command) (before now : Option (List ℕ)) → Called old (Change session_user c) mid → IfSome (last_of mid) (λ e. (n : ℕ) × Grows before now (take n (with_end (entry_text e)))) → WritesSome (Calls c) (entries_between old mid) before now
 commanded_some old mid c before now h said =
     let call = Change session_user c in
     let e = entry_at old session_pass call h.now in

@@ -2,6 +2,7 @@
 use Rattle.std.proofs.Common.{◌≡◌, ℕ, ◌≤◌, Bool, List, [], length, Option}
 use Rattle.wm_clwords.specs.Part.{Part, fresh}
 use Rattle.wm_law.specs.declared.call.Entry.{Entry}
+use Rattle.wm_journal.specs.History.{History}
 use Rattle.wm_run.specs.Monitor.{MonitorView}
 use Rattle.wm_run.specs.Serving.{Serves}
 use Rattle.wm_run.specs.Taking.{TakesPiece}
@@ -16,8 +17,8 @@ pub record PieceLoop (old new : MonitorView) (written_before written_now looked_
   pub journal : Kept
 
 -- so many bytes of the input have been taken, and the lines that have ended in them were answered
-pub record SoFar (b : Part) (es : List Entry) (u v : Option (List ℕ)) (f : Bool) (sum : ℕ) (bytes : List ℕ) : Type 0 where
-  pub lines : TakesPiece fresh bytes b [] es u v f
+pub record SoFar (b : Part) (h : History) (es : List Entry) (u v : Option (List ℕ)) (f : Bool) (sum : ℕ) (bytes : List ℕ) : Type 0 where
+  pub lines : TakesPiece fresh bytes b [] h es u v f
   pub count : length bytes ≡ sum
 
 -- what stays true while the input is read

@@ -1,5 +1,6 @@
 pub mod Monitors
 pub mod Turns
+pub mod Growing
 pub mod MonitorLoops
 pub mod Writes
 pub mod Inputs

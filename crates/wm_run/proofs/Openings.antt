@@ -68,10 +68,10 @@ rows_found None (Some first) (Some mid) trail'' (Some last) rows more told grown
 rows_found (Some x) (Some first) (Some mid) trail'' (Some last) rows more told grown untold both both' = ap Some told
 
 -- a run over a keeper that opened
-pub opened_run : (status : ℕ) (log : List Entry) (first last : History) (found opened closed : Telling) → IsOpened run_offset first.opened found opened → first.log ≡ [] → last.opened ≡ first.opened → log ≡ last.log → IsLegal last.opened last.log → TicksAreDue (reached first) (since first.log last.log) → (status ≤ 1 → active (reached last) ≡ 0) → HasTables (reached last) closed.tables → HasTrail last found closed → (opened.trail ≡ None → closed.trail ≡ None) → is_some found.trail ≡ is_some found.tables → is_some closed.trail ≡ is_some closed.tables → HasOpened status log found closed
-opened_run status log first last found opened closed h none same is legal ticks idle tables trail untold both both' =
+pub opened_run : {Came : State → Type 0} (status : ℕ) (log : List Entry) (first last : History) (found opened closed : Telling) → IsOpened run_offset first.opened found opened → first.log ≡ [] → last.opened ≡ first.opened → log ≡ last.log → IsLegal last.opened last.log → TicksAreDue (reached first) (since first.log last.log) → (status ≤ 1 → active (reached last) ≡ 0) → HasTables (reached last) closed.tables → HasTrail last found closed → (opened.trail ≡ None → closed.trail ≡ None) → is_some found.trail ≡ is_some found.tables → is_some closed.trail ≡ is_some closed.tables → Came first.opened → HasOpened status log found closed Came
+opened_run {Came} status log first last found opened closed h none same is legal ticks idle tables trail untold both both' came =
     let s = first.opened in
-    let P : List Entry → Type 0 = λ es. HasOpened status es found closed in
+    let P : List Entry → Type 0 = λ es. HasOpened status es found closed Came in
     let at : reached first ≡ s = ap (after s) none in
     let from : since first.log last.log ≡ last.log = ap (λ (l : List Entry). since l last.log) none in
     let whole : last ≡ record { opened = s; log = last.log } = ap (λ (t : State). record { opened = t; log = last.log }) same in
@@ -89,6 +89,7 @@ opened_run status log first last found opened closed h none same is legal ticks 
       idle = λ low. subst (λ (g : History). active (reached g) ≡ 0) whole (idle low);
       tables = subst (λ (g : History). HasTables (reached g) closed.tables) whole tables;
       trail = subst (λ (g : History). HasTrail g found closed) whole trail;
+      came = came;
     })
 
 -- The same, as the store tells it whose keeper it was
@@ -116,7 +117,7 @@ trail_of_store h old found closed new rows were tables trail trail' both has = g
     go (Some told) s None k e = tt
     go (Some told) s (Some now) k e = grown told s now k (by new.tables were (sym e))
 
-pub opened_of_store : (status : ℕ) (log : List Entry) (old found closed new : Telling) → Stays old.tables found.tables → Stays old.trail found.trail → Stays closed.tables new.tables → Stays closed.trail new.trail → is_some new.trail ≡ is_some new.tables → HasOpened status log found closed → HasOpened status log old new
+pub opened_of_store : {Came : State → Type 0} (status : ℕ) (log : List Entry) (old found closed new : Telling) → Stays old.tables found.tables → Stays old.trail found.trail → Stays closed.tables new.tables → Stays closed.trail new.trail → is_some new.trail ≡ is_some new.tables → HasOpened status log found closed Came → HasOpened status log old new Came
 opened_of_store status log old found closed new tables trail tables' trail' both h =
     let were : IfSome new.tables (λ _. found.tables ≡ Some h.rows) = stays_if (λ _. found.tables ≡ Some h.rows) closed.tables new.tables tables' h.found in
     record {
@@ -131,13 +132,14 @@ opened_of_store status log old found closed new tables trail tables' trail' both
       idle = h.idle;
       tables = stays_if _ closed.tables new.tables tables' h.tables;
       trail = trail_of_store (record { opened = h.opened; log = log }) old found closed new h.rows were tables trail trail' both h.trail;
+      came = h.came;
     }
   where
     stays_if_told : (o : Option (List Row)) → IfSome o (λ _. found.tables ≡ Some h.rows) → IfSome o (λ _. old.tables ≡ Some h.rows)
     stays_if_told None k = tt
     stays_if_told (Some last) k = stays_back h.rows old.tables found.tables tables k
 
-pub history_of_store : (status : ℕ) (log : List Entry) (old found closed new : Telling) → Stays old.tables found.tables → Stays old.trail found.trail → Stays closed.tables new.tables → Stays closed.trail new.trail → is_some new.trail ≡ is_some new.tables → HasHistory status log found closed → HasHistory status log old new
+pub history_of_store : {Came : State → Type 0} (status : ℕ) (log : List Entry) (old found closed new : Telling) → Stays old.tables found.tables → Stays old.trail found.trail → Stays closed.tables new.tables → Stays closed.trail new.trail → is_some new.trail ≡ is_some new.tables → HasHistory status log found closed Came → HasHistory status log old new Came
 history_of_store status log old found closed new tables trail tables' trail' both (inl h) = inl (opened_of_store status log old found closed new tables trail tables' trail' both h)
 history_of_store status log old found closed new tables trail tables' trail' both (inr h) =
     inr (record {
@@ -147,7 +149,16 @@ history_of_store status log old found closed new tables trail tables' trail' bot
         tables = Stays-then old.tables found.tables new.tables tables (Stays-then found.tables closed.tables new.tables h.left.tables tables');
         trail = Stays-then old.trail found.trail new.trail trail (Stays-then found.trail closed.trail new.trail h.left.trail trail');
       };
+      came = h.came;
     })
+
+pub Stays-same : {A : Type 0} (a : Option A) → Stays a a
+Stays-same None = tt
+Stays-same (Some x) = refl
+
+-- a run that didn't open
+pub not_opened : {Came : State → Type 0} (status : ℕ) (log : List Entry) (old new : Telling) → 1 < status → log ≡ [] → Stays old.tables new.tables → Stays old.trail new.trail → ((s : State) → Came s) → HasHistory status log old new Came
+not_opened status log old new early none tables trail came = inr (record { early = early; none = none; left = record { tables = tables; trail = trail }; came = came })
 
 -- The status of a run whose machine didn't open
 

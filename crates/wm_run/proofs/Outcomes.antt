@@ -5,34 +5,34 @@ use Rattle.std.proofs.lemmas.List.{append-nil, length-append}
 use Rattle.wm_clwords.specs.Lines.{logical_lines}
 use Rattle.wm_clwords.specs.Part.{Part, fresh, lines_from}
 use Rattle.wm_law.specs.declared.call.Entry.{Entry}
-use Rattle.wm_law.specs.History.{entries_of}
+use Rattle.wm_law.specs.declared.state.State.{State}
 use Rattle.wm_journal.specs.History.{History}
 use Rattle.wm_outside.specs.Told.{Takes}
 use Rattle.wm_outside.proofs.Telling.{Takes-none}
-use Rattle.wm_run.specs.Lists.{since, Extends}
-use Rattle.wm_run.specs.Outcome.{AnswersEnded, LinesCame, RunCame, SessionCame}
+use Rattle.wm_run.specs.Grown.{at_opening, entries_between}
+use Rattle.wm_run.specs.Lists.{since}
+use Rattle.wm_run.specs.Outcome.{AnswersEnded, LinesCame, RunCame, RunTakes, SessionCame}
 use Rattle.wm_run.specs.Run.{ended_status}
-use Rattle.wm_run.specs.Serving.{session_entries}
-use Rattle.wm_run.specs.Session.{Answers, AnsweredBy, OneCall, session_pass, start_call, end_call}
-use Rattle.wm_run.specs.Stopped.{AtMostOne, StopsIn}
+use Rattle.wm_run.specs.Session.{Answers, AnsweredBy, OneCall, start_call, end_call}
+use Rattle.wm_run.specs.Stopped.{AtMostOne, MayCall, StopsIn}
 use Rattle.wm_run.specs.Taking.{StopsReading, TakesPiece, TakesInput}
 use Rattle.wm_run.specs.declared.halt.Halt.{Halt}
 use Rattle.wm_run.specs.declared.halt.Halt.TheVariants.{ReadFault, InputFull}
 use Rattle.wm_run.proofs.EndedLines.{letter_line}
 use Rattle.wm_run.proofs.InputLoops.{SoFar}
 use Rattle.wm_run.proofs.Inputs.{input_end}
-use Rattle.wm_run.proofs.Runs.{ended_if, full_exactly, full_not, fault_status, session_parts, stopped_not, stopped_on}
-use Rattle.wm_run.proofs.Servings.{session_entries-then}
+use Rattle.wm_run.proofs.Runs.{at_grown, ended_if, full_exactly, full_not, fault_status, session_parts, stopped_not, stopped_on}
+use Rattle.wm_run.proofs.Growing.{Continues, entries-then}
 use Rattle.wm_run.proofs.StoppedRuns.{full_later, full_pass, full_read, input_stops, input_stops_in, input_stops_last, input_stops_none, on_err, stopped_begin, stopped_end, stopped_lines}
 use Rattle.wm_run.proofs.Takings.{TakesPiece-lines}
 
 -- the lines of the pieces that were taken are those that have ended
-pub ended_lines : (xs : List ℕ) (b : Part) (es : List Entry) (u v : Option (List ℕ)) (f : Bool) → TakesPiece fresh xs b [] es u v f → AnswersEnded xs es u v
-ended_lines xs b es u v f h =
+pub ended_lines : (xs : List ℕ) (b : Part) (o : History) (es : List Entry) (u v : Option (List ℕ)) (f : Bool) → TakesPiece fresh xs b [] o es u v f → AnswersEnded xs o es u v
+ended_lines xs b o es u v f h =
     let last = letter_line b in
     record {
       lines = h.lines;
-      ended = record { last = last.0; whole = TakesPiece-lines b xs (88 ∷ []) es u v f h ∙ ap (λ (l : List (Option (List ℕ))). h.lines ++ l) last.1 };
+      ended = record { last = last.0; whole = TakesPiece-lines b xs (88 ∷ []) o es u v f h ∙ ap (λ (l : List (Option (List ℕ))). h.lines ++ l) last.1 };
       faulty = f;
       answered = h.answered;
     }
@@ -41,57 +41,57 @@ if_ok_err : (P : Bool → Type 0) (r : Result Bool Halt) (e : Halt) → r ≡ Er
 if_ok_err P r e is = subst (λ (q : Result Bool Halt). IfOk q P) (sym is) tt
 
 -- a session's lines that stopped
-pub came_stopped : (r : Result Bool Halt) (e : Halt) (bytes : List ℕ) (es : List Entry) (u v : Option (List ℕ)) → r ≡ Err e → StopsIn (logical_lines bytes) es u v → (IsErrOf r ReadFault → AnswersEnded bytes es u v) → (IsErrOf r InputFull ↔ (1000000000 < length bytes)) → LinesCame bytes r es u v
-came_stopped r e bytes es u v is stops cut full = record { answered = if_ok_err (λ faulty. AnsweredBy (Answers (logical_lines bytes)) es u v faulty) r e is; stopped = on_err r stops; cut_off = cut; full = full }
+pub came_stopped : (r : Result Bool Halt) (e : Halt) (bytes : List ℕ) (o : History) (es : List Entry) (u v : Option (List ℕ)) → r ≡ Err e → StopsIn (logical_lines bytes) o es u v → (IsErrOf r ReadFault → AnswersEnded bytes o es u v) → (IsErrOf r InputFull ↔ (1000000000 < length bytes)) → LinesCame bytes r o es u v
+came_stopped r e bytes o es u v is stops cut full = record { answered = if_ok_err (λ faulty. AnsweredBy (Answers (logical_lines bytes) o) es u v faulty) r e is; stopped = on_err r stops; cut_off = cut; full = full }
 
 never_full : (r : Result Bool Halt) (bytes : List ℕ) → (IsErrOf r InputFull → ⊥) → length bytes ≤ 1000000000 → IsErrOf r InputFull ↔ (1000000000 < length bytes)
 never_full r bytes never few = ((λ f. absurd (never f)), (λ more. absurd (omega (arith, more, few))))
 
 -- those that stopped without a fault of reading, and not for the input's length
-pub came_fault : (r : Result Bool Halt) (e : Halt) (bytes : List ℕ) (es : List Entry) (u v : Option (List ℕ)) → r ≡ Err e → StopsIn (logical_lines bytes) es u v → (IsErrOf r ReadFault → ⊥) → (IsErrOf r InputFull → ⊥) → length bytes ≤ 1000000000 → LinesCame bytes r es u v
-came_fault r e bytes es u v is stops read full few = came_stopped r e bytes es u v is stops (λ f. absurd (read f)) (never_full r bytes full few)
+pub came_fault : (r : Result Bool Halt) (e : Halt) (bytes : List ℕ) (o : History) (es : List Entry) (u v : Option (List ℕ)) → r ≡ Err e → StopsIn (logical_lines bytes) o es u v → (IsErrOf r ReadFault → ⊥) → (IsErrOf r InputFull → ⊥) → length bytes ≤ 1000000000 → LinesCame bytes r o es u v
+came_fault r e bytes o es u v is stops read full few = came_stopped r e bytes o es u v is stops (λ f. absurd (read f)) (never_full r bytes full few)
 
 -- those that were answered
-pub came_answered : (f : Bool) (bytes : List ℕ) (es : List Entry) (u v : Option (List ℕ)) → AnsweredBy (Answers (logical_lines bytes)) es u v f → length bytes ≤ 1000000000 → LinesCame bytes (Ok f) es u v
-came_answered f bytes es u v h few = record { answered = h; stopped = tt; cut_off = λ r. absurd (cc); full = never_full (Ok f) bytes (λ r. absurd (cc)) few }
+pub came_answered : (f : Bool) (bytes : List ℕ) (o : History) (es : List Entry) (u v : Option (List ℕ)) → AnsweredBy (Answers (logical_lines bytes) o) es u v f → length bytes ≤ 1000000000 → LinesCame bytes (Ok f) o es u v
+came_answered f bytes o es u v h few = record { answered = h; stopped = tt; cut_off = λ r. absurd (cc); full = never_full (Ok f) bytes (λ r. absurd (cc)) few }
 
 -- nothing was taken
-pub came_none : (r : Result Bool Halt) (e : Halt) (x : Option (List ℕ)) (history : History) (w : Option (List ℕ)) → r ≡ Err e → (IsErrOf r ReadFault → ⊥) → (IsErrOf r InputFull → ⊥) → TakesInput x x (λ bytes. LinesCame bytes r (session_entries history history) w w)
+pub came_none : (r : Result Bool Halt) (e : Halt) (x : Option (List ℕ)) (history : History) (w : Option (List ℕ)) → r ≡ Err e → (IsErrOf r ReadFault → ⊥) → (IsErrOf r InputFull → ⊥) → TakesInput x x (λ bytes. LinesCame bytes r history (entries_between history history) w w)
 came_none r e x history w is read full =
     let h = input_stops_none x history w in
-    record { bytes = []; taken = Takes-none x; done = came_fault r e [] (session_entries history history) w w is h.done read full (omega arith) }
+    record { bytes = []; taken = Takes-none x; done = came_fault r e [] history (entries_between history history) w w is h.done read full (omega arith) }
 
 -- a read stopped it
-pub came_read : (r : Result Bool Halt) (q : Result ℕ Halt) (e d : Halt) (x y z : Option (List ℕ)) (b : Part) (es : List Entry) (u v : Option (List ℕ)) (f : Bool) (sum : ℕ) → q ≡ Err e → r ≡ Err d → d ≡ e → TakesInput x y (λ bytes. SoFar b es u v f sum bytes) → TakesInput y z (λ bytes. StopsReading bytes sum q) → TakesInput x z (λ bytes. LinesCame bytes r es u v)
-came_read r q e d x y z b es u v f sum was is same h k =
+pub came_read : (r : Result Bool Halt) (q : Result ℕ Halt) (e d : Halt) (x y z : Option (List ℕ)) (b : Part) (o : History) (es : List Entry) (u v : Option (List ℕ)) (f : Bool) (sum : ℕ) → q ≡ Err e → r ≡ Err d → d ≡ e → TakesInput x y (λ bytes. SoFar b o es u v f sum bytes) → TakesInput y z (λ bytes. StopsReading bytes sum q) → TakesInput x z (λ bytes. LinesCame bytes r o es u v)
+came_read r q e d x y z b o es u v f sum was is same h k =
     let xs = h.bytes in
     let ys = k.bytes in
-    let stops = input_stops x y z b es u v f ys (record { bytes = xs; taken = h.taken; done = h.done.lines }) k.taken in
+    let stops = input_stops x y z b o es u v f ys (record { bytes = xs; taken = h.taken; done = h.done.lines }) k.taken in
     let full = full_read q r e d x y z sum was is same (record { bytes = xs; taken = h.taken; done = h.done.count }) (record { bytes = ys; taken = k.taken; done = k.done.full }) in
     let whole : ys ≡ [] → xs ++ ys ≡ xs = λ none. ap (λ (l : List ℕ). xs ++ l) none ∙ append-nil xs in
     record {
       bytes = xs ++ ys;
       taken = stops.taken;
-      done = came_stopped r d (xs ++ ys) es u v is stops.done (λ read. subst (λ (l : List ℕ). AnswersEnded l es u v) (sym (whole (k.done.none (cc)))) (ended_lines xs b es u v f h.done.lines)) full.done;
+      done = came_stopped r d (xs ++ ys) o es u v is stops.done (λ read. subst (λ (l : List ℕ). AnswersEnded l o es u v) (sym (whole (k.done.none (cc)))) (ended_lines xs b o es u v f h.done.lines)) full.done;
     }
 
 -- the answer of the last line stopped it
-pub came_last : (r : Result Bool Halt) (e : Halt) (x y : Option (List ℕ)) (b : Part) (old mid new : History) (u v w : Option (List ℕ)) (f : Bool) (sum : ℕ) → r ≡ Err e → (IsErrOf r ReadFault → ⊥) → (IsErrOf r InputFull → ⊥) → sum ≤ 1000000000 → Extends old.log mid.log → Extends mid.log new.log → TakesInput x y (λ bytes. SoFar b (session_entries old mid) u v f sum bytes) → StopsIn (lines_from b []) (session_entries mid new) v w → TakesInput x y (λ bytes. LinesCame bytes r (session_entries old new) u w)
+pub came_last : (r : Result Bool Halt) (e : Halt) (x y : Option (List ℕ)) (b : Part) (old mid new : History) (u v w : Option (List ℕ)) (f : Bool) (sum : ℕ) → r ≡ Err e → (IsErrOf r ReadFault → ⊥) → (IsErrOf r InputFull → ⊥) → sum ≤ 1000000000 → Continues old mid → Continues mid new → TakesInput x y (λ bytes. SoFar b old (entries_between old mid) u v f sum bytes) → StopsIn (lines_from b []) mid (entries_between mid new) v w → TakesInput x y (λ bytes. LinesCame bytes r old (entries_between old new) u w)
 came_last r e x y b old mid new u v w f sum is read full few begun grown h k =
     let stops = input_stops_last x y b old mid new u v w f begun grown (record { bytes = h.bytes; taken = h.taken; done = h.done.lines }) k in
-    record { bytes = h.bytes; taken = h.taken; done = came_fault r e h.bytes (session_entries old new) u w is stops.done read full (omega (arith, h.done.count, few)) }
+    record { bytes = h.bytes; taken = h.taken; done = came_fault r e h.bytes old (entries_between old new) u w is stops.done read full (omega (arith, h.done.count, few)) }
 
 -- the answer of a line of a piece stopped it
-pub came_in : (r : Result Bool Halt) (e : Halt) (x y z : Option (List ℕ)) (b : Part) (old mid new : History) (u v w : Option (List ℕ)) (f : Bool) (sum : ℕ) (ys : List ℕ) → r ≡ Err e → (IsErrOf r ReadFault → ⊥) → (IsErrOf r InputFull → ⊥) → sum + length ys ≤ 1000000000 → Extends old.log mid.log → Extends mid.log new.log → TakesInput x y (λ bytes. SoFar b (session_entries old mid) u v f sum bytes) → Takes y ys z → ((more : List ℕ) → StopsIn (lines_from b (ys ++ more)) (session_entries mid new) v w) → TakesInput x z (λ bytes. LinesCame bytes r (session_entries old new) u w)
+pub came_in : (r : Result Bool Halt) (e : Halt) (x y z : Option (List ℕ)) (b : Part) (old mid new : History) (u v w : Option (List ℕ)) (f : Bool) (sum : ℕ) (ys : List ℕ) → r ≡ Err e → (IsErrOf r ReadFault → ⊥) → (IsErrOf r InputFull → ⊥) → sum + length ys ≤ 1000000000 → Continues old mid → Continues mid new → TakesInput x y (λ bytes. SoFar b old (entries_between old mid) u v f sum bytes) → Takes y ys z → ((more : List ℕ) → StopsIn (lines_from b (ys ++ more)) mid (entries_between mid new) v w) → TakesInput x z (λ bytes. LinesCame bytes r old (entries_between old new) u w)
 came_in r e x y z b old mid new u v w f sum ys is read full few begun grown h more k =
     let stops = input_stops_in x y z b old mid new u v w f ys begun grown (record { bytes = h.bytes; taken = h.taken; done = h.done.lines }) more k in
-    record { bytes = h.bytes ++ ys; taken = stops.taken; done = came_fault r e (h.bytes ++ ys) (session_entries old new) u w is stops.done read full (omega (arith, length-append h.bytes ys, h.done.count, few)) }
+    record { bytes = h.bytes ++ ys; taken = stops.taken; done = came_fault r e (h.bytes ++ ys) old (entries_between old new) u w is stops.done read full (omega (arith, length-append h.bytes ys, h.done.count, few)) }
 
 -- the whole input was answered
-pub came_end : (x y : Option (List ℕ)) (b : Part) (old mid new : History) (u v w : Option (List ℕ)) (f g h : Bool) (sum : ℕ) → h ≡ (f || g) → sum ≤ 1000000000 → Extends old.log mid.log → Extends mid.log new.log → TakesInput x y (λ bytes. SoFar b (session_entries old mid) u v f sum bytes) → AnsweredBy (Answers (lines_from b [])) (session_entries mid new) v w g → TakesInput x y (λ bytes. LinesCame bytes (Ok h) (session_entries old new) u w)
+pub came_end : (x y : Option (List ℕ)) (b : Part) (old mid new : History) (u v w : Option (List ℕ)) (f g h : Bool) (sum : ℕ) → h ≡ (f || g) → sum ≤ 1000000000 → Continues old mid → Continues mid new → TakesInput x y (λ bytes. SoFar b old (entries_between old mid) u v f sum bytes) → AnsweredBy (Answers (lines_from b []) mid) (entries_between mid new) v w g → TakesInput x y (λ bytes. LinesCame bytes (Ok h) old (entries_between old new) u w)
 came_end x y b old mid new u v w f g h sum is few begun grown t k =
     let all = input_end x y b old mid new u v w f g h is begun grown (record { bytes = t.bytes; taken = t.taken; done = t.done.lines }) k in
-    record { bytes = t.bytes; taken = t.taken; done = came_answered h t.bytes (session_entries old new) u w all.done (omega (arith, t.done.count, few)) }
+    record { bytes = t.bytes; taken = t.taken; done = came_answered h t.bytes old (entries_between old new) u w all.done (omega (arith, t.done.count, few)) }
 
 on_err_of : {P : Type 0} (r : Result Bool Halt) (e : Halt) → r ≡ Err e → OnErr r P → P
 on_err_of {P} r e is h = subst (λ (q : Result Bool Halt). OnErr q P) is h
@@ -100,17 +100,18 @@ if_ok_of : (P : Bool → Type 0) (r : Result Bool Halt) (f : Bool) → r ≡ Ok 
 if_ok_of P r f is h = subst (λ (q : Result Bool Halt). IfOk q P) is h
 
 -- a session that stopped as it began
-pub came_begin : (r : Result Bool Halt) (e : Halt) (x w : Option (List ℕ)) (es : List Entry) → r ≡ Err e → (IsErrOf r ReadFault → ⊥) → (IsErrOf r InputFull → ⊥) → AtMostOne start_call es → TakesInput x x (λ bytes. SessionCame bytes r es w w)
-came_begin r e x w es is read full (inl none) =
-    let h = stopped_begin x w es (inl none) in
+pub came_begin : (r : Result Bool Halt) (e : Halt) (o : History) (x w : Option (List ℕ)) (es : List Entry) → r ≡ Err e → (IsErrOf r ReadFault → ⊥) → (IsErrOf r InputFull → ⊥) → AtMostOne start_call es → TakesInput x x (λ bytes. SessionCame bytes r o es w w)
+came_begin r e o x w es is read full (inl none) =
+    let h = stopped_begin o x w es (inl none) in
     record { bytes = []; taken = Takes-none x; done = record { session = if_ok_err _ r e is; stopped = on_err r h.done; cut_off = λ f. absurd (read f); full = never_full r [] full (omega arith) } }
-came_begin r e x w es is read full (inr start) =
-    let h = stopped_begin x w es (inr start) in
+came_begin r e o x w es is read full (inr start) =
+    let h = stopped_begin o x w es (inr start) in
     record { bytes = []; taken = Takes-none x; done = record { session = if_ok_err _ r e is; stopped = on_err r h.done; cut_off = λ f. absurd (read f); full = never_full r [] full (omega arith) } }
 
 -- one that stopped in its lines
-pub came_lines : (r q : Result Bool Halt) (e d : Halt) (a b c : History) (x y u v : Option (List ℕ)) → q ≡ Err e → r ≡ Err d → d ≡ e → Extends a.log b.log → Extends b.log c.log → OneCall start_call (session_entries a b) → TakesInput x y (λ bytes. LinesCame bytes q (session_entries b c) u v) → TakesInput x y (λ bytes. SessionCame bytes r (session_entries a c) u v)
+pub came_lines : (r q : Result Bool Halt) (e d : Halt) (a b c : History) (x y u v : Option (List ℕ)) → q ≡ Err e → r ≡ Err d → d ≡ e → Continues a b → Continues b c → OneCall start_call (entries_between a b) → TakesInput x y (λ bytes. LinesCame bytes q b (entries_between b c) u v) → TakesInput x y (λ bytes. SessionCame bytes r a (entries_between a c) u v)
 came_lines r q e d a b c x y u v was is same ab bc start h =
+    let fs = entries_between b c in
     let stops = stopped_lines a b c x y u v ab bc start (record { bytes = h.bytes; taken = h.taken; done = on_err_of q e was h.done.stopped }) in
     let full = full_pass q r e d x y was is same (record { bytes = h.bytes; taken = h.taken; done = h.done.full }) in
     record {
@@ -119,13 +120,13 @@ came_lines r q e d a b c x y u v was is same ab bc start h =
       done = record {
         session = if_ok_err _ r d is;
         stopped = on_err r stops.done;
-        cut_off = λ f. record { first = session_entries a b; middle = session_entries b c; parts = session_entries-then a b c ab bc; start = start; answers = h.done.cut_off (cc) };
+        cut_off = λ f. record { first = entries_between a b; middle = fs; parts = entries-then a b c ab bc; start = start; answers = at_grown (λ (o : History). AnswersEnded h.bytes o fs u v) a b ab (h.done.cut_off (cc)) };
         full = full.done;
       };
     }
 
 -- one that stopped behind them
-pub came_behind : (r q : Result Bool Halt) (e : Halt) (f : Bool) (a b c d : History) (x y u v : Option (List ℕ)) → q ≡ Ok f → r ≡ Err e → (IsErrOf r ReadFault → ⊥) → (IsErrOf r InputFull → ⊥) → Extends a.log b.log → Extends b.log c.log → Extends c.log d.log → OneCall start_call (session_entries a b) → TakesInput x y (λ bytes. LinesCame bytes q (session_entries b c) u v) → AtMostOne end_call (session_entries c d) → TakesInput x y (λ bytes. SessionCame bytes r (session_entries a d) u v)
+pub came_behind : (r q : Result Bool Halt) (e : Halt) (f : Bool) (a b c d : History) (x y u v : Option (List ℕ)) → q ≡ Ok f → r ≡ Err e → (IsErrOf r ReadFault → ⊥) → (IsErrOf r InputFull → ⊥) → Continues a b → Continues b c → Continues c d → OneCall start_call (entries_between a b) → TakesInput x y (λ bytes. LinesCame bytes q b (entries_between b c) u v) → MayCall end_call (entries_between c d) → TakesInput x y (λ bytes. SessionCame bytes r a (entries_between a d) u v)
 came_behind r q e f a b c d x y u v was is read never ab bc cd start h (inl none) =
     let stops = stopped_end a b c d x y u v f ab bc cd start (record { bytes = h.bytes; taken = h.taken; done = if_ok_of _ q f was h.done.answered }) (inl none) in
     let full = full_later q r f x y was never (record { bytes = h.bytes; taken = h.taken; done = h.done.full }) in
@@ -136,20 +137,22 @@ came_behind r q e f a b c d x y u v was is read never ab bc cd start h (inr end)
     record { bytes = h.bytes; taken = h.taken; done = record { session = if_ok_err _ r e is; stopped = on_err r stops.done; cut_off = λ g. absurd (read g); full = full.done } }
 
 -- one that ended
-pub came_session : (q : Result Bool Halt) (f : Bool) (a b c d : History) (x y u v : Option (List ℕ)) → q ≡ Ok f → Extends a.log b.log → Extends b.log c.log → Extends c.log d.log → OneCall start_call (session_entries a b) → TakesInput x y (λ bytes. LinesCame bytes q (session_entries b c) u v) → OneCall end_call (session_entries c d) → TakesInput x y (λ bytes. SessionCame bytes (Ok f) (session_entries a d) u v)
+pub came_session : (q : Result Bool Halt) (f : Bool) (a b c d : History) (x y u v : Option (List ℕ)) → q ≡ Ok f → Continues a b → Continues b c → Continues c d → OneCall start_call (entries_between a b) → TakesInput x y (λ bytes. LinesCame bytes q b (entries_between b c) u v) → OneCall end_call (entries_between c d) → TakesInput x y (λ bytes. SessionCame bytes (Ok f) a (entries_between a d) u v)
 came_session q f a b c d x y u v was ab bc cd start h end =
     let whole = session_parts a b c d x y u v f ab bc cd start (record { bytes = h.bytes; taken = h.taken; done = if_ok_of _ q f was h.done.answered }) end in
     let full = full_later q (Ok f) f x y was (λ g. absurd (cc)) (record { bytes = h.bytes; taken = h.taken; done = h.done.full }) in
     record { bytes = h.bytes; taken = h.taken; done = record { session = whole.done; stopped = tt; cut_off = λ g. absurd (cc); full = full.done } }
 
 -- a run, of a history that begins with nothing
-pub came_run : (r : Result Bool Halt) (status : ℕ) (first last : History) (whole : List Entry) (x y u v : Option (List ℕ)) → status ≡ ended_status r → first.log ≡ [] → whole ≡ last.log → TakesInput x y (λ bytes. SessionCame bytes r (session_entries first last) u v) → TakesInput x y (λ bytes. RunCame bytes status (entries_of session_pass whole) u v)
+pub came_run : (r : Result Bool Halt) (status : ℕ) (first last : History) (whole : List Entry) (x y u v : Option (List ℕ)) → status ≡ ended_status r → first.log ≡ [] → whole ≡ last.log → TakesInput x y (λ bytes. SessionCame bytes r first (entries_between first last) u v) → RunTakes x y status whole u v first.opened
 came_run r status first last whole x y u v is none same h =
+    let o = at_opening first.opened in
+    let begins : first ≡ o = ap (λ (l : List Entry). record { opened = first.opened; log = l }) none in
     let from : since first.log last.log ≡ last.log = ap (λ (l : List Entry). since l last.log) none in
-    let all : session_entries first last ≡ entries_of session_pass whole = ap (entries_of session_pass) (from ∙ sym same) in
-    let k : SessionCame h.bytes r (entries_of session_pass whole) u v = subst (λ (es : List Entry). SessionCame h.bytes r es u v) all h.done in
+    let all : entries_between first last ≡ whole = from ∙ sym same in
+    let k : SessionCame h.bytes r o whole u v = subst (λ (h' : History). SessionCame h.bytes r h' whole u v) begins (subst (λ (es : List Entry). SessionCame h.bytes r first es u v) all h.done) in
     let full = full_exactly r x y (record { bytes = h.bytes; taken = h.taken; done = k.full }) in
-    let P : ℕ → Type 0 = λ n. RunCame h.bytes n (entries_of session_pass whole) u v in
+    let P : ℕ → Type 0 = λ n. RunCame h.bytes n o whole u v in
     record {
       bytes = h.bytes;
       taken = h.taken;
@@ -161,10 +164,10 @@ came_run r status first last whole x y u v is none same h =
       });
     }
 
--- a run that wasn't begun
-pub came_not : (status : ℕ) (log : List Entry) (x w : Option (List ℕ)) → 1 < status → status < 11 → (status ≡ 3 → ⊥) → log ≡ [] → TakesInput x x (λ bytes. RunCame bytes status (entries_of session_pass log) w w)
-came_not status log x w high less other none =
-    let h = stopped_not log x w none in
+-- a run that wasn't begun, of any state
+pub came_not : (status : ℕ) (log : List Entry) (x w : Option (List ℕ)) → 1 < status → status < 11 → (status ≡ 3 → ⊥) → log ≡ [] → (s : State) → RunTakes x x status log w w s
+came_not status log x w high less other none s =
+    let h = stopped_not (at_opening s) log x w none in
     record {
       bytes = [];
       taken = Takes-none x;

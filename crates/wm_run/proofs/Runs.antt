@@ -1,38 +1,46 @@
 -- Laws of a whole run: its parts, and its status.
-use Rattle.std.proofs.Common.{◌≡◌, ℕ, ◌<◌, ◌≤◌, ◌==◌, Bool, true, false, List, [], ◌++◌, length, Option, Result, Ok, Err, sym, ap, ◌∙◌, refl, inl, append_assoc, arith}
+use Rattle.std.proofs.Common.{◌≡◌, ℕ, ◌<◌, ◌≤◌, ◌==◌, Bool, true, false, List, [], ◌++◌, length, Option, Result, Ok, Err, sym, ap, subst, ◌∙◌, refl, inl, append_assoc, arith}
 use Rattle.std.specs.Prelude.{◌↔◌, if◌then◌else◌, IfOk, OnErr, IsErrOf}
 use Rattle.wm_clwords.specs.Lines.{logical_lines}
 use Rattle.wm_law.specs.declared.call.Entry.{Entry}
-use Rattle.wm_law.specs.History.{entries_of}
 use Rattle.wm_journal.specs.History.{History}
 use Rattle.wm_outside.proofs.Telling.{Grows-none, Takes-none}
 use Rattle.wm_run.specs.Halt.{status_of}
-use Rattle.wm_run.specs.Lists.{Extends}
 use Rattle.wm_run.specs.Run.{ended_status}
-use Rattle.wm_run.specs.Serving.{session_entries}
-use Rattle.wm_run.specs.Session.{Answers, AnsweredBy, IsSession, OneCall, session_pass, start_call, end_call}
+use Rattle.wm_run.specs.Grown.{grown, entries_between}
+use Rattle.wm_run.specs.Session.{Answers, AnsweredBy, IsSession, OneCall, start_call, end_call}
 use Rattle.wm_run.specs.Stopped.{IsStopped}
 use Rattle.wm_run.specs.Taking.{TakesInput}
 use Rattle.wm_run.specs.declared.halt.Halt.{Halt}
 use Rattle.wm_run.specs.declared.halt.Halt.TheVariants.{ReadFault, WriteFault, KeeperFault, NoMemory, LogFull, WaitFault, InputFull}
-use Rattle.wm_run.proofs.Monitors.{Extends-then}
-use Rattle.wm_run.proofs.Servings.{session_entries-then}
+use Rattle.wm_run.proofs.Growing.{Continues, Continues-then, entries-then, grown-between}
+
+-- what is so behind a history that has grown
+pub at_grown : (P : History → Type 0) (a b : History) → Continues a b → P b → P (grown a (entries_between a b))
+at_grown P a b ab p = subst P (sym (grown-between a b ab)) p
+
+-- three parts, one after another
+pub three_parts : (a b c d : History) → Continues a b → Continues b c → Continues c d → entries_between a d ≡ entries_between a b ++ entries_between b c ++ entries_between c d
+three_parts a b c d ab bc cd =
+    let es = entries_between a b in
+    let more = entries-then a b d ab (Continues-then b c d bc cd) in
+    let rest = entries-then b c d bc cd in
+    more ∙ (ap (λ (fs : List Entry). es ++ fs) rest ∙ sym (append_assoc es (entries_between b c) (entries_between c d)))
 
 -- the first call, the lines and the last call, one after another
-abbrev pub session_parts : (a b c d : History) (x y u v : Option (List ℕ)) (f : Bool) → Extends a.log b.log → Extends b.log c.log → Extends c.log d.log → OneCall start_call (session_entries a b) → TakesInput x y (λ bytes. AnsweredBy (Answers (logical_lines bytes)) (session_entries b c) u v f) → OneCall end_call (session_entries c d) → TakesInput x y (λ bytes. IsSession (logical_lines bytes) (session_entries a d) u v f)
+abbrev pub session_parts : (a b c d : History) (x y u v : Option (List ℕ)) (f : Bool) → Continues a b → Continues b c → Continues c d → OneCall start_call (entries_between a b) → TakesInput x y (λ bytes. AnsweredBy (Answers (logical_lines bytes) b) (entries_between b c) u v f) → OneCall end_call (entries_between c d) → TakesInput x y (λ bytes. IsSession (logical_lines bytes) a (entries_between a d) u v f)
 session_parts a b c d x y u v f ab bc cd start taken end =
-    let more = session_entries-then a b d ab (Extends-then b.log c.log d.log bc cd) in
-    let rest = session_entries-then b c d bc cd in
+    let lines = logical_lines taken.bytes in
     record {
       bytes = taken.bytes;
       taken = taken.taken;
       done = record {
-        first = session_entries a b;
-        middle = session_entries b c;
-        last = session_entries c d;
-        parts = more ∙ (ap (λ (es : List Entry). session_entries a b ++ es) rest ∙ sym (append_assoc (session_entries a b) (session_entries b c) (session_entries c d)));
+        first = entries_between a b;
+        middle = entries_between b c;
+        last = entries_between c d;
+        parts = three_parts a b c d ab bc cd;
         start = start;
-        answered = taken.done;
+        answered = at_grown (λ (o : History). AnsweredBy (Answers lines o) (entries_between b c) u v f) a b ab taken.done;
         end = end;
       };
     }
@@ -93,5 +101,5 @@ full_exactly r x y h =
 abbrev pub full_not : (status : ℕ) (x : Option (List ℕ)) → status < 11 → TakesInput x x (λ bytes. (status ≡ 11) ↔ (1000000000 < length bytes))
 full_not status x less = record { bytes = []; taken = Takes-none x; done = ((λ is. absurd (omega arith)), (λ more. absurd (omega arith))) }
 
-abbrev pub stopped_not : (log : List Entry) (x w : Option (List ℕ)) → log ≡ [] → TakesInput x x (λ bytes. IsStopped (logical_lines bytes) (entries_of session_pass log) w w)
-stopped_not log x w none = record { bytes = []; taken = Takes-none x; done = inl (record { none = ap (entries_of session_pass) none; written = Grows-none w }) }
+abbrev pub stopped_not : (o : History) (log : List Entry) (x w : Option (List ℕ)) → log ≡ [] → TakesInput x x (λ bytes. IsStopped (logical_lines bytes) o log w w)
+stopped_not o log x w none = record { bytes = []; taken = Takes-none x; done = inl (record { none = none; written = Grows-none w }) }

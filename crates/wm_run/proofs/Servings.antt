@@ -1,7 +1,6 @@
 -- Laws of what a run does: a monitor's part, a call of the session, and the session's entries.
 use Rattle.std.proofs.Common.{◌≡◌, ℕ, ◌==◌, true, false, List, [], ◌∷◌, ◌++◌, map, Option, option_to_list, sym, ap, subst, ◌∙◌, refl, arith}
 use Rattle.std.specs.List.{list_all}
-use Rattle.std.proofs.Math.Seq.{drop-length}
 use Rattle.std.proofs.lemmas.Bool.Decides.{nat_tests}
 use Rattle.std.proofs.lemmas.List.{append-nil}
 use Rattle.std.proofs.lemmas.List.Elements.{filter-append}
@@ -15,7 +14,8 @@ use Rattle.wm_outside.proofs.Telling.{Grows-none}
 use Rattle.wm_run.specs.Calls.{Called}
 use Rattle.wm_run.specs.Lists.{since, Extends}
 use Rattle.wm_run.specs.Monitor.{MonitorView, Advances, is_own, call_of, as_reports}
-use Rattle.wm_run.specs.Serving.{Serves, is_of_run, session_entries}
+use Rattle.wm_run.specs.Grown.{entries_between}
+use Rattle.wm_run.specs.Serving.{Serves, is_of_run}
 use Rattle.wm_run.specs.Session.{OneCall, session_pass}
 use Rattle.wm_run.specs.View.{view}
 use Rattle.wm_run.specs.declared.monitor.Monitor.{Monitor}
@@ -52,6 +52,10 @@ Serves-called old new c m asked told misses report h =
     let made : Serves (view old m asked told misses) (view (with_call old session_pass c h.now) m asked told misses) = Proceeds-by is_of_run _ _ (e ∷ []) [] refl refl rs refl (TicksAreDue-other (reached old) e (report_no_tick c report)) (Grows-none asked) (Grows-none (as_reports told)) (omega arith) in
     subst (λ (x : History). Serves (view old m asked told misses) (view x m asked told misses)) (sym h.made) made
 
+-- the session's entries that a history has grown by
+abbrev pub session_entries : History → History → List Entry
+session_entries old new = entries_of session_pass (entries_between old new)
+
 -- the session's entries of two parts, one after the other
 pub session_entries-then : (a b c : History) → Extends a.log b.log → Extends b.log c.log → session_entries a c ≡ session_entries a b ++ session_entries b c
 session_entries-then a b c ab bc = ap (entries_of session_pass) (since-then a.log b.log c.log ab bc) ∙ filter-append (λ e. e.caller == session_pass) (since a.log b.log) (since b.log c.log)
@@ -79,12 +83,8 @@ pub Serves-call : (old new : History) (c : Call) (m n : Monitor) (asked : Option
 Serves-call old new c m n asked told misses report h same =
     subst (λ (x : Monitor). Serves (view old m asked told misses) (view new x asked told misses)) (sym same) (Serves-called old new c m asked told misses report h)
 
--- a history has nothing since itself
-pub session_entries-none : (h : History) → session_entries h h ≡ []
-session_entries-none h = ap (entries_of session_pass) (drop-length h.log)
-
 -- a call of the session, and then entries of the monitor
-pub one_call : (old mid new : History) (c d : Call) → Called old c mid → c ≡ d → Extends mid.log new.log → list_all is_own (since mid.log new.log) ≡ true → OneCall d (session_entries old new)
+pub one_call : (old mid new : History) (c d : Call) → Called old c mid → c ≡ d → Extends mid.log new.log → list_all is_own (since mid.log new.log) ≡ true → OneCall d (entries_between old new)
 one_call old mid new c d h is grown own =
     let e = entry_at old session_pass c h.now in
     let es = session_entries-then old mid new (Extends-called old mid c h) grown in
@@ -93,7 +93,7 @@ one_call old mid new c d h is grown own =
     record { entry = e; only = es ∙ (one ∙ none); call = is }
 
 -- entries of the monitor before it too
-pub last_call : (first old mid new : History) (c d : Call) → Extends first.log old.log → list_all is_own (since first.log old.log) ≡ true → Called old c mid → c ≡ d → Extends mid.log new.log → list_all is_own (since mid.log new.log) ≡ true → OneCall d (session_entries first new)
+pub last_call : (first old mid new : History) (c d : Call) → Extends first.log old.log → list_all is_own (since first.log old.log) ≡ true → Called old c mid → c ≡ d → Extends mid.log new.log → list_all is_own (since mid.log new.log) ≡ true → OneCall d (entries_between first new)
 last_call first old mid new c d begun before h is grown own =
     let o = one_call old mid new c d h is grown own in
     let ext = Extends-then old.log mid.log new.log (Extends-called old mid c h) grown in

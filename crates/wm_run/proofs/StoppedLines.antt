@@ -4,8 +4,10 @@ use Rattle.std.proofs.Math.Seq.{take-add, take-length}
 use Rattle.std.proofs.lemmas.List.{append-nil, take_at}
 use Rattle.wm_clwords.specs.Part.{Part, lines_from}
 use Rattle.wm_law.specs.declared.call.Entry.{Entry}
+use Rattle.wm_journal.specs.History.{History}
 use Rattle.wm_outside.specs.Told.{Grows}
 use Rattle.wm_outside.proofs.Telling.{Grows-none, Grows-then}
+use Rattle.wm_run.specs.Grown.{grown}
 use Rattle.wm_run.specs.Session.{Answers, AnswersLine, AnsweredBy}
 use Rattle.wm_run.specs.Stopped.{IsCutShort, StopsIn, Untouched}
 use Rattle.wm_run.specs.Taking.{TakesPiece}
@@ -18,8 +20,8 @@ take-append xs ys n =
     take-add (length xs) n (xs ++ ys) ∙ (ap (λ (l : List ℕ). l ++ take n rest) (take_at xs ys (length xs) refl) ∙ ap (λ (l : List ℕ). xs ++ take n l) (since-append xs ys))
 
 -- no line was answered
-pub StopsIn-untouched : (lines : List (Option (List ℕ))) (es : List Entry) (a b : Option (List ℕ)) → Untouched es a b → StopsIn lines es a b
-StopsIn-untouched lines es a b h =
+pub StopsIn-untouched : (lines : List (Option (List ℕ))) (o : History) (es : List Entry) (a b : Option (List ℕ)) → Untouched es a b → StopsIn lines o es a b
+StopsIn-untouched lines o es a b h =
     record {
       answered = [];
       others = lines;
@@ -28,23 +30,23 @@ StopsIn-untouched lines es a b h =
     }
 
 -- nothing was done at all
-pub StopsIn-none : (lines : List (Option (List ℕ))) (w : Option (List ℕ)) → StopsIn lines [] w w
-StopsIn-none lines w = StopsIn-untouched lines [] w w (record { none = refl; written = Grows-none w })
+pub StopsIn-none : (lines : List (Option (List ℕ))) (o : History) (w : Option (List ℕ)) → StopsIn lines o [] w w
+StopsIn-none lines o w = StopsIn-untouched lines o [] w w (record { none = refl; written = Grows-none w })
 
 -- a line's answer was cut short
-pub StopsIn-line : (line : Option (List ℕ)) (es : List Entry) (a b : Option (List ℕ)) → IsCutShort (AnswersLine line) es a b → StopsIn (line ∷ []) es a b
-StopsIn-line line es a b (inl h) = StopsIn-untouched (line ∷ []) es a b h
-StopsIn-line line es a b (inr h) =
+pub StopsIn-line : (line : Option (List ℕ)) (o : History) (es : List Entry) (a b : Option (List ℕ)) → IsCutShort (AnswersLine line o) es a b → StopsIn (line ∷ []) o es a b
+StopsIn-line line o es a b (inl h) = StopsIn-untouched (line ∷ []) o es a b h
+StopsIn-line line o es a b (inr h) =
     record {
       answered = line ∷ [];
       others = [];
       split = refl;
-      some = record { due = h.due; faulty = h.faulty; answers = Answers-one line es h.due h.faulty h.answers; count = h.count; written = h.written };
+      some = record { due = h.due; faulty = h.faulty; answers = Answers-one line o es h.due h.faulty h.answers; count = h.count; written = h.written };
     }
 
 -- more lines follow that weren't answered
-pub StopsIn-more : (xs ys : List (Option (List ℕ))) (es : List Entry) (a b : Option (List ℕ)) → StopsIn xs es a b → StopsIn (xs ++ ys) es a b
-StopsIn-more xs ys es a b h =
+pub StopsIn-more : (xs ys : List (Option (List ℕ))) (o : History) (es : List Entry) (a b : Option (List ℕ)) → StopsIn xs o es a b → StopsIn (xs ++ ys) o es a b
+StopsIn-more xs ys o es a b h =
     record {
       answered = h.answered;
       others = h.others ++ ys;
@@ -53,8 +55,8 @@ StopsIn-more xs ys es a b h =
     }
 
 -- lines were answered before them
-pub StopsIn-after : (xs ys : List (Option (List ℕ))) (es fs : List Entry) (a b c : Option (List ℕ)) (f : Bool) → AnsweredBy (Answers xs) es a b f → StopsIn ys fs b c → StopsIn (xs ++ ys) (es ++ fs) a c
-StopsIn-after xs ys es fs a b c f h k =
+pub StopsIn-after : (xs ys : List (Option (List ℕ))) (o : History) (es fs : List Entry) (a b c : Option (List ℕ)) (f : Bool) → AnsweredBy (Answers xs o) es a b f → StopsIn ys (grown o es) fs b c → StopsIn (xs ++ ys) o (es ++ fs) a c
+StopsIn-after xs ys o es fs a b c f h k =
     let s = k.some in
     record {
       answered = xs ++ k.answered;
@@ -63,15 +65,15 @@ StopsIn-after xs ys es fs a b c f h k =
       some = record {
         due = h.bytes ++ s.due;
         faulty = f || s.faulty;
-        answers = Answers-append xs k.answered es fs h.bytes s.due f s.faulty h.answers s.answers;
+        answers = Answers-append xs k.answered o es fs h.bytes s.due f s.faulty h.answers s.answers;
         count = length h.bytes + s.count;
         written = subst (λ (l : List ℕ). Grows a c l) (sym (take-append h.bytes s.due s.count)) (Grows-then a b c h.bytes (take s.count s.due) h.written s.written);
       };
     }
 
 -- all lines were answered, and all bytes written
-pub StopsIn-whole : (lines : List (Option (List ℕ))) (es : List Entry) (a b : Option (List ℕ)) (f : Bool) → AnsweredBy (Answers lines) es a b f → StopsIn lines es a b
-StopsIn-whole lines es a b f h =
+pub StopsIn-whole : (lines : List (Option (List ℕ))) (o : History) (es : List Entry) (a b : Option (List ℕ)) (f : Bool) → AnsweredBy (Answers lines o) es a b f → StopsIn lines o es a b
+StopsIn-whole lines o es a b f h =
     record {
       answered = lines;
       others = [];
@@ -80,18 +82,18 @@ StopsIn-whole lines es a b f h =
     }
 
 -- bytes follow that weren't looked at
-pub stops_front : (a b : Part) (piece rest : List ℕ) (es : List Entry) (u v : Option (List ℕ)) (f : Bool) → TakesPiece a piece b rest es u v f → (more : List ℕ) → StopsIn (lines_from a (piece ++ more)) es u v
-stops_front a b piece rest es u v f h more =
-    subst (λ (l : List (Option (List ℕ))). StopsIn l es u v) (sym (h.split more))
-    (StopsIn-more h.lines (lines_from b (rest ++ more)) es u v (StopsIn-whole h.lines es u v f h.answered))
+pub stops_front : (a b : Part) (piece rest : List ℕ) (o : History) (es : List Entry) (u v : Option (List ℕ)) (f : Bool) → TakesPiece a piece b rest o es u v f → (more : List ℕ) → StopsIn (lines_from a (piece ++ more)) o es u v
+stops_front a b piece rest o es u v f h more =
+    subst (λ (l : List (Option (List ℕ))). StopsIn l o es u v) (sym (h.split more))
+    (StopsIn-more h.lines (lines_from b (rest ++ more)) o es u v (StopsIn-whole h.lines o es u v f h.answered))
 
 -- bytes were taken before them
-pub stops_then : (a b : Part) (piece rest : List ℕ) (es fs : List Entry) (u v w : Option (List ℕ)) (f : Bool) → TakesPiece a piece b rest es u v f → ((more : List ℕ) → StopsIn (lines_from b (rest ++ more)) fs v w) → (more : List ℕ) → StopsIn (lines_from a (piece ++ more)) (es ++ fs) u w
-stops_then a b piece rest es fs u v w f h k more =
-    subst (λ (l : List (Option (List ℕ))). StopsIn l (es ++ fs) u w) (sym (h.split more))
-    (StopsIn-after h.lines (lines_from b (rest ++ more)) es fs u v w f h.answered (k more))
+pub stops_then : (a b : Part) (piece rest : List ℕ) (o : History) (es fs : List Entry) (u v w : Option (List ℕ)) (f : Bool) → TakesPiece a piece b rest o es u v f → ((more : List ℕ) → StopsIn (lines_from b (rest ++ more)) (grown o es) fs v w) → (more : List ℕ) → StopsIn (lines_from a (piece ++ more)) o (es ++ fs) u w
+stops_then a b piece rest o es fs u v w f h k more =
+    subst (λ (l : List (Option (List ℕ))). StopsIn l o (es ++ fs) u w) (sym (h.split more))
+    (StopsIn-after h.lines (lines_from b (rest ++ more)) o es fs u v w f h.answered (k more))
 
 -- a line's answer was cut short, and others follow it
-pub stops_line : (a b : Part) (piece rest : List ℕ) (lines : List (Option (List ℕ))) (es : List Entry) (u v : Option (List ℕ)) → ((more : List ℕ) → lines_from a (piece ++ more) ≡ lines ++ lines_from b (rest ++ more)) → StopsIn lines es u v → (more : List ℕ) → StopsIn (lines_from a (piece ++ more)) es u v
-stops_line a b piece rest lines es u v split h more =
-    subst (λ (l : List (Option (List ℕ))). StopsIn l es u v) (sym (split more)) (StopsIn-more lines (lines_from b (rest ++ more)) es u v h)
+pub stops_line : (a b : Part) (piece rest : List ℕ) (lines : List (Option (List ℕ))) (o : History) (es : List Entry) (u v : Option (List ℕ)) → ((more : List ℕ) → lines_from a (piece ++ more) ≡ lines ++ lines_from b (rest ++ more)) → StopsIn lines o es u v → (more : List ℕ) → StopsIn (lines_from a (piece ++ more)) o es u v
+stops_line a b piece rest lines o es u v split h more =
+    subst (λ (l : List (Option (List ℕ))). StopsIn l o es u v) (sym (split more)) (StopsIn-more lines (lines_from b (rest ++ more)) o es u v h)

@@ -1,5 +1,5 @@
 -- Laws of a run that stops: what its session called and wrote until then.
-use Rattle.std.proofs.Common.{◌≡◌, ◌↔◌, ℕ, ◌+◌, ◌<◌, Bool, true, List, [], ◌++◌, length, take, Option, Result, Ok, Err, sym, ap, subst, ◌∙◌, inl, inr, arith}
+use Rattle.std.proofs.Common.{◌≡◌, ◌↔◌, ℕ, ◌+◌, ◌<◌, Bool, true, List, [], ◌++◌, length, take, Option, Result, Ok, Err, sym, ap, subst, ◌∙◌, refl, inl, inr, arith}
 use Rattle.std.specs.Prelude.{IsErrOf, OnErr}
 use Rattle.std.specs.List.{list_all}
 use Rattle.std.proofs.Math.Seq.{take-length}
@@ -12,17 +12,17 @@ use Rattle.wm_law.specs.declared.call.Entry.{Entry}
 use Rattle.wm_journal.specs.History.{History}
 use Rattle.wm_outside.specs.Told.{Grows, Takes}
 use Rattle.wm_outside.proofs.Telling.{Grows-none, Takes-none, Takes-then}
-use Rattle.wm_run.specs.Lists.{since, Extends}
+use Rattle.wm_run.specs.Grown.{grown, entries_between}
+use Rattle.wm_run.specs.Lists.{since}
 use Rattle.wm_run.specs.Monitor.{is_own}
-use Rattle.wm_run.specs.Serving.{session_entries}
 use Rattle.wm_run.specs.Session.{Answers, AnsweredBy, OneCall, start_call, end_call}
-use Rattle.wm_run.specs.Stopped.{AtMostOne, IsStopped, StopsIn, Untouched, WritesSome}
+use Rattle.wm_run.specs.Stopped.{AtMostOne, MayCall, IsStopped, StopsIn, Untouched, WritesSome}
 use Rattle.wm_run.specs.Taking.{TakesInput, TakesPiece}
 use Rattle.wm_run.specs.declared.halt.Halt.{Halt}
 use Rattle.wm_run.specs.declared.halt.Halt.TheVariants.{InputFull}
-use Rattle.wm_run.proofs.Monitors.{Extends-then}
-use Rattle.wm_run.proofs.Runs.{session_parts}
-use Rattle.wm_run.proofs.Servings.{session_entries-none, session_entries-own, session_entries-then}
+use Rattle.wm_run.proofs.Growing.{Continues, entries-none, entries-then}
+use Rattle.wm_run.proofs.Runs.{at_grown, session_parts, three_parts}
+use Rattle.wm_run.proofs.Servings.{session_entries, session_entries-own}
 use Rattle.wm_run.proofs.StoppedLines.{StopsIn-after, StopsIn-none, StopsIn-untouched, StopsIn-whole, stops_front, stops_then}
 use Rattle.wm_run.proofs.Takings.{TakesPiece-lines, TakesPiece-more}
 
@@ -36,12 +36,12 @@ pub take_none : (n : ℕ) (xs : List ℕ) → n ≡ 0 → take n xs ≡ []
 take_none n xs is = ap (λ (k : ℕ). take k xs) is
 
 -- no call was made, and nothing written
-pub Untouched-none : (history : History) (w : Option (List ℕ)) → Untouched (session_entries history history) w w
-Untouched-none history w = record { none = session_entries-none history; written = Grows-none w }
+pub Untouched-none : (history : History) (w : Option (List ℕ)) → Untouched (entries_between history history) w w
+Untouched-none history w = record { none = entries-none history; written = Grows-none w }
 
 -- a call that was refused for want of memory leaves it so
-pub Untouched-same : (old new : History) (w : Option (List ℕ)) → new ≡ old → Untouched (session_entries old new) w w
-Untouched-same old new w is = subst (λ (h : History). Untouched (session_entries old h) w w) (sym is) (Untouched-none old w)
+pub Untouched-same : (old new : History) (w : Option (List ℕ)) → new ≡ old → Untouched (entries_between old new) w w
+Untouched-same old new w is = subst (λ (h : History). Untouched (entries_between old h) w w) (sym is) (Untouched-none old w)
 
 -- all bytes that were due are some of them
 pub WritesSome-all : (Due : List Entry → List ℕ → Bool → Type 0) (es : List Entry) (a b : Option (List ℕ)) (f : Bool) → AnsweredBy Due es a b f → WritesSome Due es a b
@@ -49,42 +49,59 @@ WritesSome-all Due es a b f h =
     record { due = h.bytes; faulty = f; answers = h.answers; count = length h.bytes; written = subst (λ (l : List ℕ). Grows a b l) (sym (take-length h.bytes)) h.written }
 
 -- a call was made or not, and entries of the monitor follow
-pub no_call : {c : Call} (old new : History) → list_all is_own (since old.log new.log) ≡ true → AtMostOne c (session_entries old new)
+pub no_call : {c : Call} (old new : History) → list_all is_own (since old.log new.log) ≡ true → MayCall c (entries_between old new)
 no_call old new own = inl (session_entries-own (since old.log new.log) own)
 
 -- and a call that was refused for want of memory
-pub no_call_same : {c : Call} (old mid new : History) → new ≡ mid → list_all is_own (since old.log mid.log) ≡ true → AtMostOne c (session_entries old new)
+pub no_call_same : {c : Call} (old mid new : History) → new ≡ mid → list_all is_own (since old.log mid.log) ≡ true → MayCall c (entries_between old new)
 no_call_same old mid new is own = inl (ap (session_entries old) is ∙ session_entries-own (since old.log mid.log) own)
 
 -- a session that stopped as it began
-abbrev pub stopped_begin : (x w : Option (List ℕ)) (es : List Entry) → AtMostOne start_call es → TakesInput x x (λ bytes. IsStopped (logical_lines bytes) es w w)
-stopped_begin x w es (inl none) = record { bytes = []; taken = Takes-none x; done = inl (record { none = none; written = Grows-none w }) }
-stopped_begin x w es (inr start) =
-    record { bytes = []; taken = Takes-none x; done = inr (inl (record { first = es; middle = []; parts = sym (append-nil es); start = start; stops = StopsIn-none (logical_lines []) w })) }
-
--- one that stopped in its lines
-abbrev pub stopped_lines : (a b c : History) (x y u v : Option (List ℕ)) → Extends a.log b.log → Extends b.log c.log → OneCall start_call (session_entries a b) → TakesInput x y (λ bytes. StopsIn (logical_lines bytes) (session_entries b c) u v) → TakesInput x y (λ bytes. IsStopped (logical_lines bytes) (session_entries a c) u v)
-stopped_lines a b c x y u v ab bc start taken =
+abbrev pub stopped_begin : (o : History) (x w : Option (List ℕ)) (es : List Entry) → AtMostOne start_call es → TakesInput x x (λ bytes. IsStopped (logical_lines bytes) o es w w)
+stopped_begin o x w es (inl none) = record { bytes = []; taken = Takes-none x; done = inl (record { none = none; written = Grows-none w }) }
+stopped_begin o x w es (inr start) =
     record {
-      bytes = taken.bytes;
-      taken = taken.taken;
-      done = inr (inl (record { first = session_entries a b; middle = session_entries b c; parts = session_entries-then a b c ab bc; start = start; stops = taken.done }));
+      bytes = [];
+      taken = Takes-none x;
+      done = inr (inl (record { first = es; middle = []; last = []; parts = sym (append-nil es) ∙ sym (append-nil (es ++ [])); start = start; stops = StopsIn-none (logical_lines []) (grown o es) w; uncalled = refl }));
     }
 
--- one that stopped behind them
-abbrev pub stopped_end : (a b c d : History) (x y u v : Option (List ℕ)) (f : Bool) → Extends a.log b.log → Extends b.log c.log → Extends c.log d.log → OneCall start_call (session_entries a b) → TakesInput x y (λ bytes. AnsweredBy (Answers (logical_lines bytes)) (session_entries b c) u v f) → AtMostOne end_call (session_entries c d) → TakesInput x y (λ bytes. IsStopped (logical_lines bytes) (session_entries a d) u v)
-stopped_end a b c d x y u v f ab bc cd start taken (inl none) =
-    let more = session_entries-then a b d ab (Extends-then b.log c.log d.log bc cd) in
-    let rest = session_entries-then b c d bc cd ∙ (ap (λ (es : List Entry). session_entries b c ++ es) none ∙ append-nil _) in
+-- one that stopped in its lines
+abbrev pub stopped_lines : (a b c : History) (x y u v : Option (List ℕ)) → Continues a b → Continues b c → OneCall start_call (entries_between a b) → TakesInput x y (λ bytes. StopsIn (logical_lines bytes) b (entries_between b c) u v) → TakesInput x y (λ bytes. IsStopped (logical_lines bytes) a (entries_between a c) u v)
+stopped_lines a b c x y u v ab bc start taken =
+    let es = entries_between a b in
+    let fs = entries_between b c in
+    let lines = logical_lines taken.bytes in
     record {
       bytes = taken.bytes;
       taken = taken.taken;
       done = inr (inl (record {
-        first = session_entries a b;
-        middle = session_entries b c;
-        parts = more ∙ ap (λ (es : List Entry). session_entries a b ++ es) rest;
+        first = es;
+        middle = fs;
+        last = [];
+        parts = entries-then a b c ab bc ∙ sym (append-nil (es ++ fs));
         start = start;
-        stops = StopsIn-whole (logical_lines taken.bytes) (session_entries b c) u v f taken.done;
+        stops = at_grown (λ (o : History). StopsIn lines o fs u v) a b ab taken.done;
+        uncalled = refl;
+      }));
+    }
+
+-- one that stopped behind them
+abbrev pub stopped_end : (a b c d : History) (x y u v : Option (List ℕ)) (f : Bool) → Continues a b → Continues b c → Continues c d → OneCall start_call (entries_between a b) → TakesInput x y (λ bytes. AnsweredBy (Answers (logical_lines bytes) b) (entries_between b c) u v f) → MayCall end_call (entries_between c d) → TakesInput x y (λ bytes. IsStopped (logical_lines bytes) a (entries_between a d) u v)
+stopped_end a b c d x y u v f ab bc cd start taken (inl none) =
+    let fs = entries_between b c in
+    let lines = logical_lines taken.bytes in
+    record {
+      bytes = taken.bytes;
+      taken = taken.taken;
+      done = inr (inl (record {
+        first = entries_between a b;
+        middle = fs;
+        last = entries_between c d;
+        parts = three_parts a b c d ab bc cd;
+        start = start;
+        stops = at_grown (λ (o : History). StopsIn lines o fs u v) a b ab (StopsIn-whole lines b fs u v f taken.done);
+        uncalled = none;
       }));
     }
 stopped_end a b c d x y u v f ab bc cd start taken (inr end) =
@@ -92,9 +109,12 @@ stopped_end a b c d x y u v f ab bc cd start taken (inr end) =
     record { bytes = whole.bytes; taken = whole.taken; done = inr (inr (record { faulty = f; session = whole.done })) }
 
 -- a part of a piece was taken, and its next line's answer was cut short
-pub stops_piece : (a b : Part) (piece rest : List ℕ) (old mid new : History) (u v w : Option (List ℕ)) (f : Bool) → Extends old.log mid.log → Extends mid.log new.log → TakesPiece a piece b rest (session_entries old mid) u v f → ((more : List ℕ) → StopsIn (lines_from b (rest ++ more)) (session_entries mid new) v w) → (more : List ℕ) → StopsIn (lines_from a (piece ++ more)) (session_entries old new) u w
-stops_piece a b piece rest old mid new u v w f begun grown h k more =
-    subst (λ (es : List Entry). StopsIn (lines_from a (piece ++ more)) es u w) (sym (session_entries-then old mid new begun grown)) (stops_then a b piece rest _ _ u v w f h k more)
+pub stops_piece : (a b : Part) (piece rest : List ℕ) (old mid new : History) (u v w : Option (List ℕ)) (f : Bool) → Continues old mid → Continues mid new → TakesPiece a piece b rest old (entries_between old mid) u v f → ((more : List ℕ) → StopsIn (lines_from b (rest ++ more)) mid (entries_between mid new) v w) → (more : List ℕ) → StopsIn (lines_from a (piece ++ more)) old (entries_between old new) u w
+stops_piece a b piece rest old mid new u v w f ab bc h k more =
+    let es = entries_between old mid in
+    let fs = entries_between mid new in
+    let next = at_grown (λ (o : History). (bytes : List ℕ) → StopsIn (lines_from b (rest ++ bytes)) o fs v w) old mid ab k in
+    subst (λ (all : List Entry). StopsIn (lines_from a (piece ++ more)) old all u w) (sym (entries-then old mid new ab bc)) (stops_then a b piece rest old es fs u v w f h next more)
 
 -- a read that gave no byte
 abbrev pub input_same : {P : List ℕ → Type 0} (x y z : Option (List ℕ)) (ys : List ℕ) → ys ≡ [] → TakesInput x y P → Takes y ys z → TakesInput x z P
@@ -103,44 +123,47 @@ input_same x y z ys none h more =
     record { bytes = h.bytes; taken = subst (λ (l : List ℕ). Takes x l z) whole (Takes-then x y z h.bytes ys h.taken more); done = h.done }
 
 -- nothing was read
-abbrev pub input_stops_none : (x : Option (List ℕ)) (history : History) (w : Option (List ℕ)) → TakesInput x x (λ bytes. StopsIn (logical_lines bytes) (session_entries history history) w w)
-input_stops_none x history w = record { bytes = []; taken = Takes-none x; done = StopsIn-untouched (logical_lines []) (session_entries history history) w w (Untouched-none history w) }
+abbrev pub input_stops_none : (x : Option (List ℕ)) (history : History) (w : Option (List ℕ)) → TakesInput x x (λ bytes. StopsIn (logical_lines bytes) history (entries_between history history) w w)
+input_stops_none x history w = record { bytes = []; taken = Takes-none x; done = StopsIn-untouched (logical_lines []) history (entries_between history history) w w (Untouched-none history w) }
 
 -- bytes that weren't looked at behind those whose lines were answered
-abbrev pub input_stops : (x y z : Option (List ℕ)) (b : Part) (es : List Entry) (u v : Option (List ℕ)) (f : Bool) (ys : List ℕ) → TakesInput x y (λ bytes. TakesPiece fresh bytes b [] es u v f) → Takes y ys z → TakesInput x z (λ bytes. StopsIn (logical_lines bytes) es u v)
-input_stops x y z b es u v f ys h more =
+abbrev pub input_stops : (x y z : Option (List ℕ)) (b : Part) (o : History) (es : List Entry) (u v : Option (List ℕ)) (f : Bool) (ys : List ℕ) → TakesInput x y (λ bytes. TakesPiece fresh bytes b [] o es u v f) → Takes y ys z → TakesInput x z (λ bytes. StopsIn (logical_lines bytes) o es u v)
+input_stops x y z b o es u v f ys h more =
     let xs = h.bytes in
     record {
       bytes = xs ++ ys;
       taken = Takes-then x y z xs ys h.taken more;
-      done = subst (λ (l : List (Option (List ℕ))). StopsIn l es u v) (lines_from-fresh (xs ++ ys)) (stops_front fresh b xs [] es u v f h.done ys);
+      done = subst (λ (l : List (Option (List ℕ))). StopsIn l o es u v) (lines_from-fresh (xs ++ ys)) (stops_front fresh b xs [] o es u v f h.done ys);
     }
 
 -- a piece behind them in whose lines it stopped
-abbrev pub input_stops_in : (x y z : Option (List ℕ)) (b : Part) (old mid new : History) (u v w : Option (List ℕ)) (f : Bool) (ys : List ℕ) → Extends old.log mid.log → Extends mid.log new.log → TakesInput x y (λ bytes. TakesPiece fresh bytes b [] (session_entries old mid) u v f) → Takes y ys z → ((more : List ℕ) → StopsIn (lines_from b (ys ++ more)) (session_entries mid new) v w) → TakesInput x z (λ bytes. StopsIn (logical_lines bytes) (session_entries old new) u w)
-input_stops_in x y z b old mid new u v w f ys begun grown h more k =
+abbrev pub input_stops_in : (x y z : Option (List ℕ)) (b : Part) (old mid new : History) (u v w : Option (List ℕ)) (f : Bool) (ys : List ℕ) → Continues old mid → Continues mid new → TakesInput x y (λ bytes. TakesPiece fresh bytes b [] old (entries_between old mid) u v f) → Takes y ys z → ((more : List ℕ) → StopsIn (lines_from b (ys ++ more)) mid (entries_between mid new) v w) → TakesInput x z (λ bytes. StopsIn (logical_lines bytes) old (entries_between old new) u w)
+input_stops_in x y z b old mid new u v w f ys ab bc h more k =
     let xs = h.bytes in
-    let front = TakesPiece-more fresh b xs ys _ u v f h.done in
+    let front = TakesPiece-more fresh b xs ys old _ u v f h.done in
     let lines = ap (lines_from fresh) (append-nil (xs ++ ys)) ∙ lines_from-fresh (xs ++ ys) in
     record {
       bytes = xs ++ ys;
       taken = Takes-then x y z xs ys h.taken more;
-      done = subst (λ (l : List (Option (List ℕ))). StopsIn l (session_entries old new) u w) lines
-          (stops_piece fresh b (xs ++ ys) ys old mid new u v w f begun grown front k []);
+      done = subst (λ (l : List (Option (List ℕ))). StopsIn l old (entries_between old new) u w) lines
+          (stops_piece fresh b (xs ++ ys) ys old mid new u v w f ab bc front k []);
     }
 
 -- the answer of the line that ends with the input was cut short
-abbrev pub input_stops_last : (x y : Option (List ℕ)) (b : Part) (old mid new : History) (u v w : Option (List ℕ)) (f : Bool) → Extends old.log mid.log → Extends mid.log new.log → TakesInput x y (λ bytes. TakesPiece fresh bytes b [] (session_entries old mid) u v f) → StopsIn (lines_from b []) (session_entries mid new) v w → TakesInput x y (λ bytes. StopsIn (logical_lines bytes) (session_entries old new) u w)
-input_stops_last x y b old mid new u v w f begun grown h k =
+abbrev pub input_stops_last : (x y : Option (List ℕ)) (b : Part) (old mid new : History) (u v w : Option (List ℕ)) (f : Bool) → Continues old mid → Continues mid new → TakesInput x y (λ bytes. TakesPiece fresh bytes b [] old (entries_between old mid) u v f) → StopsIn (lines_from b []) mid (entries_between mid new) v w → TakesInput x y (λ bytes. StopsIn (logical_lines bytes) old (entries_between old new) u w)
+input_stops_last x y b old mid new u v w f ab bc h k =
     let xs = h.bytes in
     let d = h.done in
-    let lines = ap logical_lines (sym (append-nil xs)) ∙ TakesPiece-lines b xs [] _ u v f d in
+    let es = entries_between old mid in
+    let fs = entries_between mid new in
+    let lines = ap logical_lines (sym (append-nil xs)) ∙ TakesPiece-lines b xs [] old es u v f d in
+    let last = at_grown (λ (o : History). StopsIn (lines_from b []) o fs v w) old mid ab k in
     record {
       bytes = xs;
       taken = h.taken;
-      done = subst (λ (es : List Entry). StopsIn (logical_lines xs) es u w) (sym (session_entries-then old mid new begun grown))
-          (subst (λ (l : List (Option (List ℕ))). StopsIn l (session_entries old mid ++ session_entries mid new) u w) (sym lines)
-          (StopsIn-after d.lines (lines_from b []) _ _ u v w f d.answered k));
+      done = subst (λ (all : List Entry). StopsIn (logical_lines xs) old all u w) (sym (entries-then old mid new ab bc))
+          (subst (λ (l : List (Option (List ℕ))). StopsIn l old (es ++ fs) u w) (sym lines)
+          (StopsIn-after d.lines (lines_from b []) old es fs u v w f d.answered last));
     }
 
 -- the same of an error that is passed on

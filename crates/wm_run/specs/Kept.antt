@@ -19,7 +19,7 @@ use Rattle.wm_stored.specs.declared.fault.OpenFault.TheVariants as open_fault
 use Rattle.wm_tables.specs.Restart.{IsBad, IsRestart}
 
 -- a run that opened: its history is one from a state of the rows that it found
-pub record HasOpened (status : ℕ) (log : List Entry) (old new : Telling) : Type 0 where
+pub record HasOpened (status : ℕ) (log : List Entry) (old new : Telling) (Came : State → Type 0) : Type 0 where
   pub opened : State
   pub rows : List Row
   -- where the tables are told to the end, these are the rows that were told
@@ -32,16 +32,20 @@ pub record HasOpened (status : ℕ) (log : List Entry) (old new : Telling) : Typ
   pub idle : status ≤ 1 → active (after opened log) ≡ 0
   pub tables : HasTables (after opened log) new.tables
   pub trail : HasTrail (record { opened = opened; log = log }) old new
+  -- and this is what came of the input
+  pub came : Came opened
 
 -- a run that didn't open: it has no entry, and left the rows
-pub record HasNotOpened (status : ℕ) (log : List Entry) (old new : Telling) : Type 0 where
+pub record HasNotOpened (status : ℕ) (log : List Entry) (old new : Telling) (Came : State → Type 0) : Type 0 where
   pub early : 1 < status
   pub none : log ≡ []
   pub left : IsLeft old new
+  -- what came of the input holds of any state
+  pub came : (s : State) → Came s
 
 -- the one or the other
-abbrev pub HasHistory : ℕ → List Entry → Telling → Telling → Type 0
-HasHistory status log old new = HasOpened status log old new ⊎ HasNotOpened status log old new
+abbrev pub HasHistory : ℕ → List Entry → Telling → Telling → (State → Type 0) → Type 0
+HasHistory status log old new Came = HasOpened status log old new Came ⊎ HasNotOpened status log old new Came
 
 -- where the tables are told, they are as they were, and one of their rows isn't good
 abbrev pub HasBadRow : Option (List Row) → Option (List Row) → Type 0

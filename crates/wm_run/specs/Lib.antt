@@ -1,5 +1,6 @@
 pub mod Answer
 pub mod Calls
+pub mod Grown
 pub mod Halt
 pub mod Journal
 pub mod Kept
@@ -7,6 +8,7 @@ pub mod Lists
 pub mod Monitor
 pub mod Outcome
 pub mod Parsed
+pub mod Reads
 pub mod Run
 pub mod Serving
 pub mod Session

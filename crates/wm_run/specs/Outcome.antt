@@ -2,8 +2,12 @@
 use Rattle.std.specs.Prelude.{◌≡◌, ◌↔◌, ℕ, ◌<◌, ◌≤◌, ◌==◌, Bool, List, [], ◌∷◌, ◌++◌, length, Option, Result, IfOk, OnErr, IsErrOf}
 use Rattle.wm_clwords.specs.Lines.{logical_lines}
 use Rattle.wm_law.specs.declared.call.Entry.{Entry}
+use Rattle.wm_law.specs.declared.state.State.{State}
+use Rattle.wm_journal.specs.History.{History}
+use Rattle.wm_run.specs.Grown.{at_opening, grown}
 use Rattle.wm_run.specs.Session.{Answers, AnsweredBy, IsSession, OneCall, start_call}
 use Rattle.wm_run.specs.Stopped.{IsStopped, StopsIn}
+use Rattle.wm_run.specs.Taking.{TakesInput}
 use Rattle.wm_run.specs.declared.halt.Halt.{Halt}
 use Rattle.wm_run.specs.declared.halt.Halt.TheVariants.{ReadFault, InputFull}
 
@@ -13,38 +17,42 @@ pub record HaveEnded (lines : List (Option (List ℕ))) (bytes : List ℕ) : Typ
   pub whole : logical_lines (bytes ++ 88 ∷ []) ≡ lines ++ last ∷ []
 
 -- the lines that have ended were answered, and no other
-pub record AnswersEnded (bytes : List ℕ) (es : List Entry) (before now : Option (List ℕ)) : Type 0 where
+pub record AnswersEnded (bytes : List ℕ) (h : History) (es : List Entry) (before now : Option (List ℕ)) : Type 0 where
   pub lines : List (Option (List ℕ))
   pub ended : HaveEnded lines bytes
   pub faulty : Bool
-  pub answered : AnsweredBy (Answers lines) es before now faulty
+  pub answered : AnsweredBy (Answers lines h) es before now faulty
 
 -- what came of the bytes that were taken: their lines were answered, or the first of them
-pub record LinesCame (bytes : List ℕ) (result : Result Bool Halt) (es : List Entry) (before now : Option (List ℕ)) : Type 0 where
-  pub answered : IfOk result (λ faulty. AnsweredBy (Answers (logical_lines bytes)) es before now faulty)
-  pub stopped : OnErr result (StopsIn (logical_lines bytes) es before now)
+pub record LinesCame (bytes : List ℕ) (result : Result Bool Halt) (h : History) (es : List Entry) (before now : Option (List ℕ)) : Type 0 where
+  pub answered : IfOk result (λ faulty. AnsweredBy (Answers (logical_lines bytes) h) es before now faulty)
+  pub stopped : OnErr result (StopsIn (logical_lines bytes) h es before now)
   -- where the input couldn't be read, those were answered that had ended
-  pub cut_off : IsErrOf result ReadFault → AnswersEnded bytes es before now
+  pub cut_off : IsErrOf result ReadFault → AnswersEnded bytes h es before now
   pub full : IsErrOf result InputFull ↔ (1000000000 < length bytes)
 
 -- a session that was begun, and answered the lines that had ended
-pub record StopsBehind (bytes : List ℕ) (es : List Entry) (before now : Option (List ℕ)) : Type 0 where
+pub record StopsBehind (bytes : List ℕ) (h : History) (es : List Entry) (before now : Option (List ℕ)) : Type 0 where
   pub first : List Entry
   pub middle : List Entry
   pub parts : es ≡ first ++ middle
   pub start : OneCall start_call first
-  pub answers : AnswersEnded bytes middle before now
+  pub answers : AnswersEnded bytes (grown h first) middle before now
 
 -- the same of a whole session
-pub record SessionCame (bytes : List ℕ) (result : Result Bool Halt) (es : List Entry) (before now : Option (List ℕ)) : Type 0 where
-  pub session : IfOk result (λ faulty. IsSession (logical_lines bytes) es before now faulty)
-  pub stopped : OnErr result (IsStopped (logical_lines bytes) es before now)
-  pub cut_off : IsErrOf result ReadFault → StopsBehind bytes es before now
+pub record SessionCame (bytes : List ℕ) (result : Result Bool Halt) (h : History) (es : List Entry) (before now : Option (List ℕ)) : Type 0 where
+  pub session : IfOk result (λ faulty. IsSession (logical_lines bytes) h es before now faulty)
+  pub stopped : OnErr result (IsStopped (logical_lines bytes) h es before now)
+  pub cut_off : IsErrOf result ReadFault → StopsBehind bytes h es before now
   pub full : IsErrOf result InputFull ↔ (1000000000 < length bytes)
 
 -- the same of a run, by its status
-pub record RunCame (bytes : List ℕ) (status : ℕ) (es : List Entry) (before now : Option (List ℕ)) : Type 0 where
-  pub session : status ≤ 1 → IsSession (logical_lines bytes) es before now (status == 1)
-  pub stopped : 1 < status → IsStopped (logical_lines bytes) es before now
-  pub cut_off : status ≡ 3 → StopsBehind bytes es before now
+pub record RunCame (bytes : List ℕ) (status : ℕ) (h : History) (es : List Entry) (before now : Option (List ℕ)) : Type 0 where
+  pub session : status ≤ 1 → IsSession (logical_lines bytes) h es before now (status == 1)
+  pub stopped : 1 < status → IsStopped (logical_lines bytes) h es before now
+  pub cut_off : status ≡ 3 → StopsBehind bytes h es before now
   pub full : (status ≡ 11) ↔ (1000000000 < length bytes)
+
+-- what a run took of its input, and what came of it, where this state was opened
+abbrev pub RunTakes : (left_before left_now : Option (List ℕ)) → ℕ → List Entry → (before now : Option (List ℕ)) → State → Type 0
+RunTakes left_before left_now status log before now opened = TakesInput left_before left_now (λ bytes. RunCame bytes status (at_opening opened) log before now)

@@ -8,10 +8,11 @@ use Rattle.wm_command.specs.declared.fault.CmdFault.{CmdFault}
 use Rattle.wm_command.specs.declared.line.Line.{Line}
 use Rattle.wm_command.specs.declared.line.Line.TheVariants as line
 use Rattle.wm_law.specs.Built.{is_built}
+use Rattle.wm_law.specs.declared.command.Command.{Command}
 use Rattle.wm_law.specs.Fit.{IsCommand as IsFit}
 use Rattle.wm_show.specs.declared.line_fault.LineFault.TheVariants.{Cl, Cm}
 use Rattle.wm_run.specs.declared.parsed.Parsed.{Parsed}
-use Rattle.wm_run.specs.declared.parsed.Parsed.TheVariants.{Fault, NotBuilt, Call}
+use Rattle.wm_run.specs.declared.parsed.Parsed.TheVariants.{Fault, NotBuilt, Read, Call}
 
 -- the user of the session
 abbrev pub session_user : List ℕ
@@ -24,16 +25,12 @@ pub record IsTabled (text : List ℕ) (said : Result Line CmdFault) : Type 0 whe
   pub command : IsCommand text name (list_marks items)
   pub tabled : line_of session_user name items ≡ said
 
--- a reading command, or one that isn't built yet
-abbrev pub IsUnbuilt : Line → Type 0
-IsUnbuilt (line.Change c) = is_built c ≡ false
-IsUnbuilt (line.Read ask) = ⊤
-
--- a fault of the text, a fault of its command, a command that isn't built, or a call
+-- a fault of the text, a fault of its command, a changing command that isn't built, a reading command, or a call
 abbrev pub Parses : List ℕ → Parsed → Type 0
 Parses text (Fault (Cl fault)) = Stands fault text
 Parses text (Fault (Cm fault)) = IsTabled text (Err fault)
-Parses text NotBuilt = (l : Line) × IsTabled text (Ok l) × IsUnbuilt l
+Parses text NotBuilt = (c : Command) × IsTabled text (Ok (line.Change c)) × (is_built c ≡ false)
+Parses text (Read ask) = IsTabled text (Ok (line.Read ask))
 Parses text (Call c) = IsTabled text (Ok (line.Change c)) × (is_built c ≡ true)
 
 -- a line's command keeps its forms and ranges
@@ -45,4 +42,5 @@ IsFitLine (line.Read ask) = ⊤
 abbrev pub IsFitParsed : Parsed → Type 0
 IsFitParsed (Fault fault) = ⊤
 IsFitParsed NotBuilt = ⊤
+IsFitParsed (Read ask) = ⊤
 IsFitParsed (Call c) = IsFit c × (is_built c ≡ true)

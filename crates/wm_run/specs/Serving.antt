@@ -2,11 +2,9 @@
 use Rattle.std.specs.Prelude.{ℕ, ◌==◌, ◌||◌, Bool, List, Option}
 use Rattle.wm_base.specs.declared.job.Asked.{Asked}
 use Rattle.wm_law.specs.declared.call.Entry.{Entry}
-use Rattle.wm_law.specs.History.{entries_of}
 use Rattle.wm_journal.specs.History.{History}
 use Rattle.wm_outside.specs.declared.spawner.Told.{Told}
 use Rattle.wm_run.specs.declared.monitor.Monitor.{Monitor}
-use Rattle.wm_run.specs.Lists.{since}
 use Rattle.wm_run.specs.Monitor.{MonitorView, Proceeds, is_own}
 use Rattle.wm_run.specs.Session.{session_pass}
 use Rattle.wm_run.specs.View.{view}
@@ -23,7 +21,3 @@ Serves old new = Proceeds is_of_run old new
 abbrev pub RunServes : {P : Type 0} → (P → Option (List Asked)) → (P → Option (List Told)) → (P → ℕ) → History → Monitor → P → History → Monitor → P → Type 0
 RunServes asked told misses history monitor spawner history' monitor' spawner' =
     Serves (view history monitor (asked spawner) (told spawner) (misses spawner)) (view history' monitor' (asked spawner') (told spawner') (misses spawner'))
-
--- the session's entries that a history has grown by
-abbrev pub session_entries : History → History → List Entry
-session_entries old new = entries_of session_pass (since old.log new.log)

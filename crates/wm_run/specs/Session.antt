@@ -1,4 +1,4 @@
--- What a session calls and answers, line by line.
+-- What a session calls and answers, line by line. A piece of the history is spoken of with the history before it.
 use Rattle.std.specs.Prelude.{◌≡◌, ℕ, Bool, true, false, ◌||◌, List, [], ◌∷◌, ◌++◌, Option, Some, None, codes}
 use Rattle.wm_law.specs.declared.call.Call.{Call as MachineCall}
 use Rattle.wm_law.specs.declared.call.Call.TheVariants.{Change}
@@ -6,15 +6,20 @@ use Rattle.wm_law.specs.declared.command.Command.{Command}
 use Rattle.wm_law.specs.declared.command.Command.TheVariants.{Strsbs, Pwrdwnsys}
 use Rattle.wm_law.specs.declared.command.EndOption.TheVariants.{Immed}
 use Rattle.wm_law.specs.declared.call.Entry.{Entry}
+use Rattle.wm_law.specs.declared.command.Ask.{Ask}
+use Rattle.wm_law.specs.History.{entries_of}
+use Rattle.wm_journal.specs.History.{History}
 use Rattle.wm_desc.specs.Opening.{qbatch}
 use Rattle.wm_clwords.specs.declared.fault.ClFault.TheVariants.{TooLong}
 use Rattle.wm_outside.specs.Told.{Grows}
 use Rattle.wm_run.specs.Parsed.{Parses, session_user}
 use Rattle.wm_show.specs.Said.{said_text}
+use Rattle.wm_run.specs.Grown.{grown}
 use Rattle.wm_run.specs.Answer.{fault_answer, is_fault, with_end, not_built, is_refused}
+use Rattle.wm_run.specs.Reads.{read_text, is_read_refused}
 use Rattle.wm_show.specs.declared.line_fault.LineFault.TheVariants.{Cl}
 use Rattle.wm_run.specs.declared.parsed.Parsed.{Parsed}
-use Rattle.wm_run.specs.declared.parsed.Parsed.TheVariants.{Fault, NotBuilt, Call}
+use Rattle.wm_run.specs.declared.parsed.Parsed.TheVariants.{Fault, NotBuilt, Read, Call}
 
 -- the pass of the session
 abbrev pub session_pass : ℕ
@@ -28,10 +33,10 @@ start_call = Change (codes "QSYS") (Strsbs (record { sbsd = qbatch }))
 abbrev pub end_call : MachineCall
 end_call = Change (codes "QSYS") (Pwrdwnsys (record { option = Immed; delay = Some 3600 }))
 
--- the entry of a command, and what is said of it
+-- the session's one entry is that of a command, and this is said of it
 pub record Calls (c : Command) (es : List Entry) (bytes : List ℕ) (faulty : Bool) : Type 0 where
   pub entry : Entry
-  pub only : es ≡ entry ∷ []
+  pub only : entries_of session_pass es ≡ entry ∷ []
   pub call : entry.call ≡ Change session_user c
   pub says : bytes ≡ with_end (said_text c entry.reply)
   pub refused : faulty ≡ is_refused entry.reply
@@ -42,25 +47,30 @@ pub record Says (due : List ℕ) (wrong : Bool) (es : List Entry) (bytes : List 
   pub says : bytes ≡ due
   pub fault : faulty ≡ wrong
 
--- what answers a parsed line: a fault has its line, a call what is said of its entry
-abbrev pub AnswersParsed : Parsed → List Entry → List ℕ → Bool → Type 0
-AnswersParsed (Fault fault) es bytes faulty = Says (fault_answer fault) (is_fault fault) es bytes faulty
-AnswersParsed NotBuilt es bytes faulty = Says (with_end not_built) true es bytes faulty
-AnswersParsed (Call c) es bytes faulty = Calls c es bytes faulty
+-- no entry, and the listing of the state that the history reaches
+abbrev pub Reads : Ask → History → List Entry → List ℕ → Bool → Type 0
+Reads ask h es bytes faulty = Says (read_text ask h) (is_read_refused ask h) es bytes faulty
+
+-- what answers a parsed line behind a history: a fault has its line, a reading command its listing, a call what is said of its entry
+abbrev pub AnswersParsed : Parsed → History → List Entry → List ℕ → Bool → Type 0
+AnswersParsed (Fault fault) h es bytes faulty = Says (fault_answer fault) (is_fault fault) es bytes faulty
+AnswersParsed NotBuilt h es bytes faulty = Says (with_end not_built) true es bytes faulty
+AnswersParsed (Read ask) h es bytes faulty = Reads ask h es bytes faulty
+AnswersParsed (Call c) h es bytes faulty = Calls c es bytes faulty
 
 -- the entries and the bytes of a text, and whether it got a fault or a refusal
-pub record AnswersText (text : List ℕ) (es : List Entry) (bytes : List ℕ) (faulty : Bool) : Type 0 where
+pub record AnswersText (text : List ℕ) (h : History) (es : List Entry) (bytes : List ℕ) (faulty : Bool) : Type 0 where
   pub parsed : Parsed
   pub parses : Parses text parsed
-  pub answers : AnswersParsed parsed es bytes faulty
+  pub answers : AnswersParsed parsed h es bytes faulty
 
 -- the same of a logical line, which may be too long
-abbrev pub AnswersLine : Option (List ℕ) → List Entry → List ℕ → Bool → Type 0
-AnswersLine None es bytes faulty = AnswersParsed (Fault (Cl TooLong)) es bytes faulty
-AnswersLine (Some text) es bytes faulty = AnswersText text es bytes faulty
+abbrev pub AnswersLine : Option (List ℕ) → History → List Entry → List ℕ → Bool → Type 0
+AnswersLine None h es bytes faulty = AnswersParsed (Fault (Cl TooLong)) h es bytes faulty
+AnswersLine (Some text) h es bytes faulty = AnswersText text h es bytes faulty
 
--- the first line, and then the rest
-pub record AnswersFirst (line : Option (List ℕ)) (Rest : List Entry → List ℕ → Bool → Type 0) (es : List Entry) (bytes : List ℕ) (faulty : Bool) : Type 0 where
+-- the first line, and then the rest, whose history is the one that the first has left
+pub record AnswersFirst (line : Option (List ℕ)) (Rest : History → List Entry → List ℕ → Bool → Type 0) (h : History) (es : List Entry) (bytes : List ℕ) (faulty : Bool) : Type 0 where
   pub own : List Entry
   pub others : List Entry
   pub said : List ℕ
@@ -70,13 +80,13 @@ pub record AnswersFirst (line : Option (List ℕ)) (Rest : List Entry → List �
   pub entries : es ≡ own ++ others
   pub text : bytes ≡ said ++ more
   pub fault : faulty ≡ (wrong || later)
-  pub first : AnswersLine line own said wrong
-  pub rest : Rest others more later
+  pub first : AnswersLine line h own said wrong
+  pub rest : Rest (grown h own) others more later
 
 -- the entries and the bytes of lines, one after another, and whether one of them got a fault or a refusal
-abbrev pub Answers : List (Option (List ℕ)) → List Entry → List ℕ → Bool → Type 0
-Answers [] es bytes faulty = Says [] false es bytes faulty
-Answers (line ∷ lines) es bytes faulty = AnswersFirst line (Answers lines) es bytes faulty
+abbrev pub Answers : List (Option (List ℕ)) → History → List Entry → List ℕ → Bool → Type 0
+Answers [] h es bytes faulty = Says [] false es bytes faulty
+Answers (line ∷ lines) h es bytes faulty = AnswersFirst line (Answers lines) h es bytes faulty
 
 -- what a relation says was answered: these are the entries, and what is due was written
 pub record AnsweredBy (Due : List Entry → List ℕ → Bool → Type 0) (es : List Entry) (before now : Option (List ℕ)) (faulty : Bool) : Type 0 where
@@ -84,18 +94,18 @@ pub record AnsweredBy (Due : List Entry → List ℕ → Bool → Type 0) (es : 
   pub answers : Due es bytes faulty
   pub written : Grows before now bytes
 
--- the one entry of a call
+-- the session's one entry is that of a call
 pub record OneCall (c : MachineCall) (es : List Entry) : Type 0 where
   pub entry : Entry
-  pub only : es ≡ entry ∷ []
+  pub only : entries_of session_pass es ≡ entry ∷ []
   pub call : entry.call ≡ c
 
 -- a session: the first call, the entries of the lines with what was written for them, and the last call
-pub record IsSession (lines : List (Option (List ℕ))) (es : List Entry) (before now : Option (List ℕ)) (faulty : Bool) : Type 0 where
+pub record IsSession (lines : List (Option (List ℕ))) (h : History) (es : List Entry) (before now : Option (List ℕ)) (faulty : Bool) : Type 0 where
   pub first : List Entry
   pub middle : List Entry
   pub last : List Entry
   pub parts : es ≡ first ++ middle ++ last
   pub start : OneCall start_call first
-  pub answered : AnsweredBy (Answers lines) middle before now faulty
+  pub answered : AnsweredBy (Answers lines (grown h first)) middle before now faulty
   pub end : OneCall end_call last

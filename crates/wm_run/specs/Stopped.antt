@@ -2,8 +2,11 @@
 use Rattle.std.specs.Prelude.{◌≡◌, ◌⊎◌, ℕ, Bool, List, [], ◌++◌, Option, take}
 use Rattle.wm_law.specs.declared.call.Call.{Call}
 use Rattle.wm_law.specs.declared.call.Entry.{Entry}
+use Rattle.wm_law.specs.History.{entries_of}
+use Rattle.wm_journal.specs.History.{History}
 use Rattle.wm_outside.specs.Told.{Grows}
-use Rattle.wm_run.specs.Session.{Answers, IsSession, OneCall, start_call}
+use Rattle.wm_run.specs.Grown.{grown}
+use Rattle.wm_run.specs.Session.{Answers, IsSession, OneCall, session_pass, start_call}
 
 -- of what a relation says was due, some bytes were written
 pub record WritesSome (Due : List Entry → List ℕ → Bool → Type 0) (es : List Entry) (before now : Option (List ℕ)) : Type 0 where
@@ -23,29 +26,39 @@ abbrev pub IsCutShort : (List Entry → List ℕ → Bool → Type 0) → List E
 IsCutShort Due es before now = Untouched es before now ⊎ WritesSome Due es before now
 
 -- the first of the lines were called and answered, though not all of the answers' bytes were written
-pub record StopsIn (lines : List (Option (List ℕ))) (es : List Entry) (before now : Option (List ℕ)) : Type 0 where
+pub record StopsIn (lines : List (Option (List ℕ))) (h : History) (es : List Entry) (before now : Option (List ℕ)) : Type 0 where
   pub answered : List (Option (List ℕ))
   pub others : List (Option (List ℕ))
   pub split : lines ≡ answered ++ others
-  pub some : WritesSome (Answers answered) es before now
+  pub some : WritesSome (Answers answered h) es before now
 
--- a call was made, or not
+-- a call was made, or nothing was
 abbrev pub AtMostOne : Call → List Entry → Type 0
 AtMostOne c es = (es ≡ []) ⊎ OneCall c es
 
--- a session that was begun, and stopped in its lines
-pub record StopsInside (lines : List (Option (List ℕ))) (es : List Entry) (before now : Option (List ℕ)) : Type 0 where
+-- the session made no call
+abbrev pub IsUncalled : List Entry → Type 0
+IsUncalled es = entries_of session_pass es ≡ []
+
+-- a call was made, or the session made none
+abbrev pub MayCall : Call → List Entry → Type 0
+MayCall c es = IsUncalled es ⊎ OneCall c es
+
+-- a session that was begun, and stopped in its lines or before its last call
+pub record StopsInside (lines : List (Option (List ℕ))) (h : History) (es : List Entry) (before now : Option (List ℕ)) : Type 0 where
   pub first : List Entry
   pub middle : List Entry
-  pub parts : es ≡ first ++ middle
+  pub last : List Entry
+  pub parts : es ≡ first ++ middle ++ last
   pub start : OneCall start_call first
-  pub stops : StopsIn lines middle before now
+  pub stops : StopsIn lines (grown h first) middle before now
+  pub uncalled : IsUncalled last
 
 -- a session that was ended
-pub record IsEnded (lines : List (Option (List ℕ))) (es : List Entry) (before now : Option (List ℕ)) : Type 0 where
+pub record IsEnded (lines : List (Option (List ℕ))) (h : History) (es : List Entry) (before now : Option (List ℕ)) : Type 0 where
   pub faulty : Bool
-  pub session : IsSession lines es before now faulty
+  pub session : IsSession lines h es before now faulty
 
 -- a session that stopped: before it was begun, in its lines, or once it was ended
-abbrev pub IsStopped : List (Option (List ℕ)) → List Entry → Option (List ℕ) → Option (List ℕ) → Type 0
-IsStopped lines es before now = Untouched es before now ⊎ (StopsInside lines es before now ⊎ IsEnded lines es before now)
+abbrev pub IsStopped : List (Option (List ℕ)) → History → List Entry → Option (List ℕ) → Option (List ℕ) → Type 0
+IsStopped lines h es before now = Untouched es before now ⊎ (StopsInside lines h es before now ⊎ IsEnded lines h es before now)

@@ -2,16 +2,17 @@
 use Rattle.std.specs.Prelude.{◌≡◌, ◌↔◌, ℕ, ◌+◌, ◌<◌, Bool, List, [], ◌++◌, length, Option, Result, IsErrOf}
 use Rattle.wm_clwords.specs.Part.{Part, lines_from}
 use Rattle.wm_law.specs.declared.call.Entry.{Entry}
+use Rattle.wm_journal.specs.History.{History}
 use Rattle.wm_outside.specs.Told.{Takes}
 use Rattle.wm_run.specs.Session.{Answers, AnsweredBy}
 use Rattle.wm_run.specs.declared.halt.Halt.{Halt}
 use Rattle.wm_run.specs.declared.halt.Halt.TheVariants.{ReadFault, InputFull}
 
 -- of a piece a rest is left, and the lines that ended were answered: however the input goes on, its lines are these and those that the rest gives
-pub record TakesPiece (before : Part) (piece : List ℕ) (after : Part) (rest : List ℕ) (es : List Entry) (written_before written_now : Option (List ℕ)) (faulty : Bool) : Type 0 where
+pub record TakesPiece (before : Part) (piece : List ℕ) (after : Part) (rest : List ℕ) (h : History) (es : List Entry) (written_before written_now : Option (List ℕ)) (faulty : Bool) : Type 0 where
   pub lines : List (Option (List ℕ))
   pub split : (more : List ℕ) → lines_from before (piece ++ more) ≡ lines ++ lines_from after (rest ++ more)
-  pub answered : AnsweredBy (Answers lines) es written_before written_now faulty
+  pub answered : AnsweredBy (Answers lines h) es written_before written_now faulty
 
 -- some bytes were taken off the input, and so was done with them
 pub record TakesInput (left_before left_now : Option (List ℕ)) (Done : List ℕ → Type 0) : Type 0 where

@@ -13,9 +13,10 @@ impl<K: Keeper> Run<K> {
     ghost use Rattle.wm_outside.specs.Told.{IsEmpty};
     ghost use Rattle.wm_run.specs.Halt.{HasMonitorCauses};
     ghost use Rattle.wm_run.specs.Journal.{HasJournalCauses};
-    ghost use Rattle.wm_run.specs.Serving.{RunServes, session_entries};
+    ghost use Rattle.wm_run.specs.Grown.{entries_between};
+    ghost use Rattle.wm_run.specs.Serving.{RunServes};
     ghost use Rattle.wm_run.specs.Session.{OneCall, start_call, end_call};
-    ghost use Rattle.wm_run.specs.Stopped.{AtMostOne};
+    ghost use Rattle.wm_run.specs.Stopped.{AtMostOne, MayCall};
     ghost use Rattle.wm_run.specs.View.{MonitorAdvances};
 
     // Turns until one makes no entry.
@@ -74,8 +75,8 @@ impl<K: Keeper> Run<K> {
         clock: &mut C,
     ) -> Result<(), Halt>
         ensures serves { RunServes P.asked P.told P.misses self.old.journal.history self.old.monitor spawner.old self.new.journal.history self.new.monitor spawner.new }
-        ensures not_begun { OnErr result (AtMostOne start_call (session_entries self.old.journal.history self.new.journal.history)) }
-        ensures begun { OnOk result (OneCall start_call (session_entries self.old.journal.history self.new.journal.history)) }
+        ensures not_begun { OnErr result (AtMostOne start_call (entries_between self.old.journal.history self.new.journal.history)) }
+        ensures begun { OnOk result (OneCall start_call (entries_between self.old.journal.history self.new.journal.history)) }
         ensures orders { OnOk result (length self.new.journal.history.log ≡ length self.old.journal.history.log + 1 → starting (reached self.new.journal.history) ≡ 0) }
         ensures quiet { OnOk result (length self.new.journal.history.log ≡ length self.old.journal.history.log + 1 → IsEmpty (P.reporting spawner.old)) }
         ensures causes { HasMonitorCauses result (P.faults spawner.old) (P.faults spawner.new) }
@@ -96,8 +97,8 @@ impl<K: Keeper> Run<K> {
         clock: &mut C,
     ) -> Result<(), Halt>
         ensures serves { RunServes P.asked P.told P.misses self.old.journal.history self.old.monitor spawner.old self.new.journal.history self.new.monitor spawner.new }
-        ensures not_ended { OnErr result (AtMostOne end_call (session_entries self.old.journal.history self.new.journal.history)) }
-        ensures ended { OnOk result (OneCall end_call (session_entries self.old.journal.history self.new.journal.history)) }
+        ensures not_ended { OnErr result (MayCall end_call (entries_between self.old.journal.history self.new.journal.history)) }
+        ensures ended { OnOk result (OneCall end_call (entries_between self.old.journal.history self.new.journal.history)) }
         ensures idle { OnOk result (active (reached self.new.journal.history) ≡ 0) }
         ensures kept { OnOk result (self.new.monitor.kept ≡ None) }
         ensures causes { HasMonitorCauses result (P.faults spawner.old) (P.faults spawner.new) }

@@ -79,7 +79,8 @@ impl<K: Keeper> Run<K> {
     ghost use Rattle.wm_run.specs.Halt.{HasCauses, HasInputCauses};
     ghost use Rattle.wm_run.specs.Journal.{HasJournalCauses};
     ghost use Rattle.wm_run.specs.Outcome.{LinesCame};
-    ghost use Rattle.wm_run.specs.Serving.{RunServes, session_entries};
+    ghost use Rattle.wm_run.specs.Grown.{entries_between};
+    ghost use Rattle.wm_run.specs.Serving.{RunServes};
     ghost use Rattle.wm_run.specs.Session.{Answers, AnsweredBy};
     ghost use Rattle.wm_run.specs.Stopped.{StopsIn};
     ghost use Rattle.wm_run.specs.Taking.{TakesPiece, TakesInput};
@@ -95,10 +96,10 @@ impl<K: Keeper> Run<K> {
         joiner: &Joiner,
     ) -> Result<bool, Halt>
         ensures serves { RunServes P.asked P.told P.misses self.old.journal.history self.old.monitor spawner.old self.new.journal.history self.new.monitor spawner.new }
-        ensures answered { IfOk result (λ faulty. AnsweredBy (Answers (ended_lines (Some line) joiner.now))
-            (session_entries self.old.journal.history self.new.journal.history) (O.written out.old) (O.written out.new) faulty) }
-        ensures stopped { OnErr result (StopsIn (ended_lines (Some line) joiner.now)
-            (session_entries self.old.journal.history self.new.journal.history) (O.written out.old) (O.written out.new)) }
+        ensures answered { IfOk result (λ faulty. AnsweredBy (Answers (ended_lines (Some line) joiner.now) self.old.journal.history)
+            (entries_between self.old.journal.history self.new.journal.history) (O.written out.old) (O.written out.new) faulty) }
+        ensures stopped { OnErr result (StopsIn (ended_lines (Some line) joiner.now) self.old.journal.history
+            (entries_between self.old.journal.history self.new.journal.history) (O.written out.old) (O.written out.new)) }
         ensures causes { HasCauses result (O.faults out.old) (O.faults out.new) (P.faults spawner.old) (P.faults spawner.new) }
         ensures journal { HasJournalCauses K.faults K.trail (IsErrOf result Halt.KeeperFault) (IsErrOf result Halt.LogFull) self.old.journal self.new.journal }
     {
@@ -116,12 +117,12 @@ impl<K: Keeper> Run<K> {
         piece: &[u8],
     ) -> Result<(usize, bool), Halt>
         ensures serves { RunServes P.asked P.told P.misses self.old.journal.history self.old.monitor spawner.old self.new.journal.history self.new.monitor spawner.new }
-        ensures taken { IfOk result (λ r. TakesPiece joiner.old piece.now joiner.new (drop r.0 piece.now)
-            (session_entries self.old.journal.history self.new.journal.history) (O.written out.old) (O.written out.new) r.1) }
+        ensures taken { IfOk result (λ r. TakesPiece joiner.old piece.now joiner.new (drop r.0 piece.now) self.old.journal.history
+            (entries_between self.old.journal.history self.new.journal.history) (O.written out.old) (O.written out.new) r.1) }
         ensures within { IfOk result (λ r. r.0 ≤ length piece.now) }
         ensures progress { IfOk result (λ r. 0 < length piece.now → 0 < r.0) }
-        ensures stopped { OnErr result ((more : List ℕ) → StopsIn (lines_from joiner.old (piece.now ++ more))
-            (session_entries self.old.journal.history self.new.journal.history) (O.written out.old) (O.written out.new)) }
+        ensures stopped { OnErr result ((more : List ℕ) → StopsIn (lines_from joiner.old (piece.now ++ more)) self.old.journal.history
+            (entries_between self.old.journal.history self.new.journal.history) (O.written out.old) (O.written out.new)) }
         ensures causes { HasCauses result (O.faults out.old) (O.faults out.new) (P.faults spawner.old) (P.faults spawner.new) }
         ensures journal { HasJournalCauses K.faults K.trail (IsErrOf result Halt.KeeperFault) (IsErrOf result Halt.LogFull) self.old.journal self.new.journal }
     {
@@ -144,10 +145,10 @@ impl<K: Keeper> Run<K> {
         piece: &[u8],
     ) -> Result<bool, Halt>
         ensures serves { RunServes P.asked P.told P.misses self.old.journal.history self.old.monitor spawner.old self.new.journal.history self.new.monitor spawner.new }
-        ensures taken { IfOk result (λ faulty. TakesPiece joiner.old piece.now joiner.new []
-            (session_entries self.old.journal.history self.new.journal.history) (O.written out.old) (O.written out.new) faulty) }
-        ensures stopped { OnErr result ((more : List ℕ) → StopsIn (lines_from joiner.old (piece.now ++ more))
-            (session_entries self.old.journal.history self.new.journal.history) (O.written out.old) (O.written out.new)) }
+        ensures taken { IfOk result (λ faulty. TakesPiece joiner.old piece.now joiner.new [] self.old.journal.history
+            (entries_between self.old.journal.history self.new.journal.history) (O.written out.old) (O.written out.new) faulty) }
+        ensures stopped { OnErr result ((more : List ℕ) → StopsIn (lines_from joiner.old (piece.now ++ more)) self.old.journal.history
+            (entries_between self.old.journal.history self.new.journal.history) (O.written out.old) (O.written out.new)) }
         ensures causes { HasCauses result (O.faults out.old) (O.faults out.new) (P.faults spawner.old) (P.faults spawner.new) }
         ensures journal { HasJournalCauses K.faults K.trail (IsErrOf result Halt.KeeperFault) (IsErrOf result Halt.LogFull) self.old.journal self.new.journal }
     {
@@ -171,10 +172,10 @@ impl<K: Keeper> Run<K> {
         joiner: &mut Joiner,
     ) -> Result<bool, Halt>
         ensures serves { RunServes P.asked P.told P.misses self.old.journal.history self.old.monitor spawner.old self.new.journal.history self.new.monitor spawner.new }
-        ensures answered { IfOk result (λ faulty. AnsweredBy (Answers (lines_from joiner.old []))
-            (session_entries self.old.journal.history self.new.journal.history) (O.written out.old) (O.written out.new) faulty) }
-        ensures stopped { OnErr result (StopsIn (lines_from joiner.old [])
-            (session_entries self.old.journal.history self.new.journal.history) (O.written out.old) (O.written out.new)) }
+        ensures answered { IfOk result (λ faulty. AnsweredBy (Answers (lines_from joiner.old []) self.old.journal.history)
+            (entries_between self.old.journal.history self.new.journal.history) (O.written out.old) (O.written out.new) faulty) }
+        ensures stopped { OnErr result (StopsIn (lines_from joiner.old []) self.old.journal.history
+            (entries_between self.old.journal.history self.new.journal.history) (O.written out.old) (O.written out.new)) }
         ensures causes { HasCauses result (O.faults out.old) (O.faults out.new) (P.faults spawner.old) (P.faults spawner.new) }
         ensures journal { HasJournalCauses K.faults K.trail (IsErrOf result Halt.KeeperFault) (IsErrOf result Halt.LogFull) self.old.journal self.new.journal }
     {
@@ -197,8 +198,8 @@ impl<K: Keeper> Run<K> {
     ) -> Result<bool, Halt>
         requires { length piece.old ≡ 65536 }
         ensures serves { RunServes P.asked P.told P.misses self.old.journal.history self.old.monitor spawner.old self.new.journal.history self.new.monitor spawner.new }
-        ensures input { TakesInput (I.left input.old) (I.left input.new) (λ bytes. LinesCame bytes result
-            (session_entries self.old.journal.history self.new.journal.history) (O.written out.old) (O.written out.new)) }
+        ensures input { TakesInput (I.left input.old) (I.left input.new) (λ bytes. LinesCame bytes result self.old.journal.history
+            (entries_between self.old.journal.history self.new.journal.history) (O.written out.old) (O.written out.new)) }
         ensures end { OnOk result (IsAtEnd (I.left input.new)) }
         ensures causes { HasInputCauses result (I.faults input.old) (I.faults input.new) (O.faults out.old) (O.faults out.new) (P.faults spawner.old) (P.faults spawner.new) }
         ensures journal { HasJournalCauses K.faults K.trail (IsErrOf result Halt.KeeperFault) (IsErrOf result Halt.LogFull) self.old.journal self.new.journal }
@@ -230,8 +231,8 @@ impl<K: Keeper> Run<K> {
         clock: &mut C,
     ) -> Result<bool, Halt>
         ensures serves { RunServes P.asked P.told P.misses self.old.journal.history self.old.monitor spawner.old self.new.journal.history self.new.monitor spawner.new }
-        ensures input { TakesInput (I.left input.old) (I.left input.new) (λ bytes. LinesCame bytes result
-            (session_entries self.old.journal.history self.new.journal.history) (O.written out.old) (O.written out.new)) }
+        ensures input { TakesInput (I.left input.old) (I.left input.new) (λ bytes. LinesCame bytes result self.old.journal.history
+            (entries_between self.old.journal.history self.new.journal.history) (O.written out.old) (O.written out.new)) }
         ensures end { OnOk result (IsAtEnd (I.left input.new)) }
         ensures causes { HasInputCauses result (I.faults input.old) (I.faults input.new) (O.faults out.old) (O.faults out.new) (P.faults spawner.old) (P.faults spawner.new) }
         ensures journal { HasJournalCauses K.faults K.trail (IsErrOf result Halt.KeeperFault) (IsErrOf result Halt.LogFull) self.old.journal self.new.journal }

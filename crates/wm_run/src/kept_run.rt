@@ -2,14 +2,11 @@
 ghost use Rattle.std.specs.Prelude.{◌≡◌, ◌<◌, ◌≤◌, None, [], length, option_to_list, true};
 ghost use Rattle.std.specs.Io.KnownBytes.{IsAtEnd};
 ghost use Rattle.std.specs.List.{list_all};
-ghost use Rattle.wm_law.specs.History.{entries_of};
 ghost use Rattle.wm_outside.specs.Cause.{raised};
 ghost use Rattle.wm_run.specs.Kept.{HasBadRow, HasHistory, open_status};
-ghost use Rattle.wm_run.specs.Outcome.{RunCame};
+ghost use Rattle.wm_run.specs.Outcome.{RunTakes};
 ghost use Rattle.wm_run.specs.Run.{IsRunStatus, IsServed, ended_status, run_offset};
 ghost use Rattle.wm_run.specs.Serving.{is_of_run};
-ghost use Rattle.wm_run.specs.Session.{session_pass};
-ghost use Rattle.wm_run.specs.Taking.{TakesInput};
 ghost use Rattle.wm_stored.specs.Keeping.{telling};
 
 use crate::halt::Halt;
@@ -70,7 +67,8 @@ impl<K: Keeper> Run<K> {
     ghost use Rattle.wm_run.specs.Halt.{HasInputCauses};
     ghost use Rattle.wm_run.specs.Journal.{HasJournalCauses};
     ghost use Rattle.wm_run.specs.Outcome.{SessionCame};
-    ghost use Rattle.wm_run.specs.Serving.{RunServes, session_entries};
+    ghost use Rattle.wm_run.specs.Grown.{entries_between};
+    ghost use Rattle.wm_run.specs.Serving.{RunServes};
     ghost use Rattle.wm_run.specs.Taking.{TakesInput};
     ghost use Rattle.wm_stored.specs.Keeping.{telling};
     ghost use Rattle.wm_stored.specs.Stored.{HasTables};
@@ -86,8 +84,8 @@ impl<K: Keeper> Run<K> {
         clock: &mut C,
     ) -> Result<bool, Halt>
         ensures serves { RunServes P.asked P.told P.misses self.old.journal.history self.old.monitor spawner.old self.new.journal.history self.new.monitor spawner.new }
-        ensures input { TakesInput (I.left input.old) (I.left input.new) (λ bytes. SessionCame bytes result
-            (session_entries self.old.journal.history self.new.journal.history) (O.written out.old) (O.written out.new)) }
+        ensures input { TakesInput (I.left input.old) (I.left input.new) (λ bytes. SessionCame bytes result self.old.journal.history
+            (entries_between self.old.journal.history self.new.journal.history) (O.written out.old) (O.written out.new)) }
         ensures end { OnOk result (IsAtEnd (I.left input.new)) }
         ensures idle { OnOk result (active (reached self.new.journal.history) ≡ 0) }
         ensures kept { OnOk result (self.new.monitor.kept ≡ None) }
@@ -132,11 +130,10 @@ pub fn run_kept<I: Source, O: Sink, K: Keeper, P: Spawner, C: Clock, R: Wait>(
     clock: &mut C,
 ) -> (Ran, K)
     ensures begun { result.0.status ≡ 2 → ⊥ }
-    ensures history { HasHistory result.0.status result.0.log.items (telling K.tables K.trail keeper) (telling K.tables K.trail result.1) }
+    ensures history { HasHistory result.0.status result.0.log.items (telling K.tables K.trail keeper) (telling K.tables K.trail result.1)
+        (RunTakes (I.left input.old) (I.left input.new) result.0.status result.0.log.items (O.written out.old) (O.written out.new)) }
     ensures callers { list_all is_of_run result.0.log.items ≡ true }
     ensures served { IsServed result.0.log.items (option_to_list result.0.kept) (P.asked spawner.old) (P.asked spawner.new) (P.told spawner.old) (P.told spawner.new) (P.misses spawner.old) (P.misses spawner.new) }
-    ensures input { TakesInput (I.left input.old) (I.left input.new) (λ bytes. RunCame bytes result.0.status
-        (entries_of session_pass result.0.log.items) (O.written out.old) (O.written out.new)) }
     ensures end { result.0.status ≤ 1 → IsAtEnd (I.left input.new) }
     ensures kept { result.0.status ≤ 1 → result.0.kept ≡ None }
     ensures read_fault { result.0.status ≡ 3 → raised (I.faults input.old) ≤ I.faults input.new }

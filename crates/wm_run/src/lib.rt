@@ -14,6 +14,7 @@ mod kept_run;
 mod monitor;
 mod parse;
 mod parsed;
+mod reads;
 mod report;
 mod session;
 mod whole_run;

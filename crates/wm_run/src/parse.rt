@@ -19,7 +19,7 @@ fn parsed_of(line: Line) -> Parsed
     ensures fit { IsFitParsed result }
 {
     match line {
-        Line::Read(_) => Parsed::NotBuilt,
+        Line::Read(ask) => Parsed::Read(ask),
         Line::Change(command) => match built(&command) {
             Ok(()) => Parsed::Call(command),
             Err(_) => Parsed::NotBuilt,

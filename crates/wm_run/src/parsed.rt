@@ -1,13 +1,15 @@
 // What a logical line comes to.
-use wm_law::Command;
+use wm_law::{Ask, Command};
 use wm_show::LineFault;
 
 /// What a logical line comes to.
 #[derive(Debug, Drop)]
 pub enum Parsed {
     Fault(LineFault),
-    /// A reading command, or a command that isn't built yet.
+    /// A changing command that isn't built yet.
     NotBuilt,
+    /// A reading command.
+    Read(Ask),
     /// A call of the session's user.
     Call(Command),
 }

@@ -58,7 +58,8 @@ impl<K: Keeper> Run<K> {
     ghost use Rattle.wm_run.specs.Journal.{HasJournalCauses};
     ghost use Rattle.wm_run.specs.Monitor.{IsIdle};
     ghost use Rattle.wm_run.specs.Parsed.{IsFitParsed};
-    ghost use Rattle.wm_run.specs.Serving.{RunServes, session_entries};
+    ghost use Rattle.wm_run.specs.Grown.{entries_between};
+    ghost use Rattle.wm_run.specs.Serving.{RunServes};
     ghost use Rattle.wm_run.specs.Session.{AnsweredBy, AnswersLine, AnswersParsed, Calls, session_pass};
     ghost use Rattle.wm_run.specs.Stopped.{IsCutShort};
     ghost use Rattle.wm_run.specs.View.{MonitorAdvances};
@@ -170,9 +171,9 @@ impl<K: Keeper> Run<K> {
         requires built { is_built command ≡ true }
         ensures serves { RunServes P.asked P.told P.misses self.old.journal.history self.old.monitor spawner.old self.new.journal.history self.new.monitor spawner.new }
         ensures answered { IfOk result (λ faulty. AnsweredBy (Calls command)
-            (session_entries self.old.journal.history self.new.journal.history) (O.written out.old) (O.written out.new) faulty) }
+            (entries_between self.old.journal.history self.new.journal.history) (O.written out.old) (O.written out.new) faulty) }
         ensures stopped { OnErr result (IsCutShort (Calls command)
-            (session_entries self.old.journal.history self.new.journal.history) (O.written out.old) (O.written out.new)) }
+            (entries_between self.old.journal.history self.new.journal.history) (O.written out.old) (O.written out.new)) }
         ensures orders { OnOk result (length self.new.journal.history.log ≡ length self.old.journal.history.log + 1 → starting (reached self.new.journal.history) ≡ 0) }
         ensures quiet { OnOk result (length self.new.journal.history.log ≡ length self.old.journal.history.log + 1 → IsEmpty (P.reporting spawner.old)) }
         ensures causes { HasCauses result (O.faults out.old) (O.faults out.new) (P.faults spawner.old) (P.faults spawner.new) }
@@ -186,7 +187,7 @@ impl<K: Keeper> Run<K> {
         Ok(refused)
     }
 
-    // Answers a parsed line: a fault by its text, a call by its reply.
+    // Answers a parsed line: a fault by its text, a reading command by its listing, a call by its reply.
     fn answer_parsed<O: Sink, P: Spawner, C: Clock>(
         &mut self,
         alloc: Global,
@@ -197,10 +198,10 @@ impl<K: Keeper> Run<K> {
     ) -> Result<bool, Halt>
         requires { IsFitParsed parsed }
         ensures serves { RunServes P.asked P.told P.misses self.old.journal.history self.old.monitor spawner.old self.new.journal.history self.new.monitor spawner.new }
-        ensures answered { IfOk result (λ faulty. AnsweredBy (AnswersParsed parsed)
-            (session_entries self.old.journal.history self.new.journal.history) (O.written out.old) (O.written out.new) faulty) }
-        ensures stopped { OnErr result (IsCutShort (AnswersParsed parsed)
-            (session_entries self.old.journal.history self.new.journal.history) (O.written out.old) (O.written out.new)) }
+        ensures answered { IfOk result (λ faulty. AnsweredBy (AnswersParsed parsed self.old.journal.history)
+            (entries_between self.old.journal.history self.new.journal.history) (O.written out.old) (O.written out.new) faulty) }
+        ensures stopped { OnErr result (IsCutShort (AnswersParsed parsed self.old.journal.history)
+            (entries_between self.old.journal.history self.new.journal.history) (O.written out.old) (O.written out.new)) }
         ensures causes { HasCauses result (O.faults out.old) (O.faults out.new) (P.faults spawner.old) (P.faults spawner.new) }
         ensures journal { HasJournalCauses K.faults K.trail (IsErrOf result Halt.KeeperFault) (IsErrOf result Halt.LogFull) self.old.journal self.new.journal }
     {
@@ -214,6 +215,7 @@ impl<K: Keeper> Run<K> {
                 put(out, NOT_BUILT)?;
                 Ok(true)
             }
+            Parsed::Read(ask) => self.list(alloc, out, &ask),
             Parsed::Call(command) => self.call_command(alloc, out, spawner, clock, command),
         }
     }
@@ -228,10 +230,10 @@ impl<K: Keeper> Run<K> {
         line: Option<&[u8]>,
     ) -> Result<bool, Halt>
         ensures serves { RunServes P.asked P.told P.misses self.old.journal.history self.old.monitor spawner.old self.new.journal.history self.new.monitor spawner.new }
-        ensures answered { IfOk result (λ faulty. AnsweredBy (AnswersLine (option_copied line.entry))
-            (session_entries self.old.journal.history self.new.journal.history) (O.written out.old) (O.written out.new) faulty) }
-        ensures stopped { OnErr result (IsCutShort (AnswersLine (option_copied line.entry))
-            (session_entries self.old.journal.history self.new.journal.history) (O.written out.old) (O.written out.new)) }
+        ensures answered { IfOk result (λ faulty. AnsweredBy (AnswersLine (option_copied line.entry) self.old.journal.history)
+            (entries_between self.old.journal.history self.new.journal.history) (O.written out.old) (O.written out.new) faulty) }
+        ensures stopped { OnErr result (IsCutShort (AnswersLine (option_copied line.entry) self.old.journal.history)
+            (entries_between self.old.journal.history self.new.journal.history) (O.written out.old) (O.written out.new)) }
         ensures causes { HasCauses result (O.faults out.old) (O.faults out.new) (P.faults spawner.old) (P.faults spawner.new) }
         ensures journal { HasJournalCauses K.faults K.trail (IsErrOf result Halt.KeeperFault) (IsErrOf result Halt.LogFull) self.old.journal self.new.journal }
     {

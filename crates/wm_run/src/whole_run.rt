@@ -2,14 +2,11 @@
 ghost use Rattle.std.specs.Prelude.{◌≡◌, ◌≤◌, None, [], length, map, option_to_list, string_bytes, true, false};
 ghost use Rattle.std.specs.Io.KnownBytes.{IsAtEnd};
 ghost use Rattle.std.specs.List.{list_all};
-ghost use Rattle.wm_law.specs.History.{entries_of};
 ghost use Rattle.wm_outside.specs.Cause.{raised};
 ghost use Rattle.wm_run.specs.Kept.{HasBadRow, HasHistory, store_status};
-ghost use Rattle.wm_run.specs.Outcome.{RunCame};
+ghost use Rattle.wm_run.specs.Outcome.{RunTakes};
 ghost use Rattle.wm_run.specs.Run.{IsRunStatus, IsServed};
 ghost use Rattle.wm_run.specs.Serving.{is_of_run};
-ghost use Rattle.wm_run.specs.Session.{session_pass};
-ghost use Rattle.wm_run.specs.Taking.{TakesInput};
 ghost use Rattle.wm_run.specs.Words.{is_run};
 ghost use Rattle.wm_stored.specs.Keeping.{telling};
 
@@ -75,11 +72,10 @@ pub fn run<I: Source, O: Sink, S: Store, P: Spawner, C: Clock, R: Wait>(
 ) -> Ran
     ensures words { is_run (map string_bytes words.now) ≡ false → result.status ≡ 2 }
     ensures run { is_run (map string_bytes words.now) ≡ true → result.status ≡ 2 → ⊥ }
-    ensures history { HasHistory result.status result.log.items (telling S.tables S.trail store.old) (telling S.tables S.trail store.new) }
+    ensures history { HasHistory result.status result.log.items (telling S.tables S.trail store.old) (telling S.tables S.trail store.new)
+        (RunTakes (I.left input.old) (I.left input.new) result.status result.log.items (O.written out.old) (O.written out.new)) }
     ensures callers { list_all is_of_run result.log.items ≡ true }
     ensures served { IsServed result.log.items (option_to_list result.kept) (P.asked spawner.old) (P.asked spawner.new) (P.told spawner.old) (P.told spawner.new) (P.misses spawner.old) (P.misses spawner.new) }
-    ensures input { TakesInput (I.left input.old) (I.left input.new) (λ bytes. RunCame bytes result.status
-        (entries_of session_pass result.log.items) (O.written out.old) (O.written out.new)) }
     ensures end { result.status ≤ 1 → IsAtEnd (I.left input.new) }
     ensures kept { result.status ≤ 1 → result.kept ≡ None }
     ensures read_fault { result.status ≡ 3 → raised (I.faults input.old) ≤ I.faults input.new }

@@ -24,5 +24,6 @@ fn main(rt: HostRuntime) -> Result<()> {
     play(&rt, "limits.txt", &mut runs)?;
     play(&rt, "order.txt", &mut runs)?;
     play(&rt, "launches.txt", &mut runs)?;
-    play(&rt, "waiting.txt", &mut runs)
+    play(&rt, "waiting.txt", &mut runs)?;
+    play(&rt, "listings.txt", &mut runs)
 }

@@ -1,22 +1,22 @@
-use Rattle.std.proofs.Common.{◌≡◌, ◌≤◌, ℕ, ℤ, inl, sym, ap, subst, ◌∙◌, arith}
+use Rattle.std.proofs.Common.{◌≡◌, ◌<◌, ◌≤◌, ℕ, ℤ, inl, sym, ap, subst, ◌∙◌, arith}
 use Rattle.wm_journal.specs.History.{reached}
 use Rattle.wm_journal.specs.Trail.{HasTrail}
 use Rattle.wm_law.specs.Pending.{active}
 use Rattle.wm_stored.specs.Keeping.{telling, IsOpened}
-use Rattle.wm_run.proofs.Openings.{open_high, open_low, open_unread, opened_run}
+use Rattle.wm_run.specs.Outcome.{RunTakes}
+use Rattle.wm_run.proofs.Openings.{not_opened, open_high, open_low, open_unread, opened_run}
 use Rattle.wm_run.proofs.Outcomes.{came_not, came_run}
 use Rattle.wm_run.proofs.Runs.{ended_if}
 use Rattle.wm_run.proofs.kept_run.run_kept.Goals as goal
 
-pub returns-in-Ok-clause-input : goal.returns-in-Ok-clause-input
-returns-in-Ok-clause-input g c =
-    came_run c.serve-end.result c.close.result.0.status c.in-Ok.journal.history c.serve-end.new.self.journal.history c.close.result.0.log.items _ _ _ _ (c.close.ensures.status ∙ c.ended_status.ensures) c.in-Ok.ensures.log c.close.ensures.log c.serve-end.ensures.input
-
-pub returns-in-Err-clause-input : goal.returns-in-Err-clause-input
-returns-in-Err-clause-input g c =
+pub returns-in-Err-clause-history : goal.returns-in-Err-clause-history
+returns-in-Err-clause-history g c =
     let fault = c.in-Err.fault in
     let is = c.not_begun.ensures.status ∙ c.open_status.ensures in
-    came_not c.not_begun.result.status c.not_begun.result.log.items (g.I.Source.left c.args.input.now) (g.O.Sink.written c.args.out.now) (omega (arith, is, open_high fault)) (omega (arith, is, open_low fault)) (λ three. open_unread fault (sym is ∙ three)) c.not_begun.ensures.log
+    let high : 1 < c.not_begun.result.status = omega (arith, is, open_high fault) in
+    let came = came_not c.not_begun.result.status c.not_begun.result.log.items (g.I.Source.left c.args.input.now) (g.O.Sink.written c.args.out.now) high (omega (arith, is, open_low fault)) (λ three. open_unread fault (sym is ∙ three)) c.not_begun.ensures.log in
+    let left = c.in-Err.ensures.err in
+    not_opened c.not_begun.result.status c.not_begun.result.log.items _ _ high c.not_begun.ensures.log left.tables left.trail came
 
 pub returns-in-Ok-clause-history : goal.returns-in-Ok-clause-history
 returns-in-Ok-clause-history g c =
@@ -31,4 +31,8 @@ returns-in-Ok-clause-history g c =
     let found = kept.found ∙ c.in-Ok.ensures.found in
     let trail = subst (λ (keeper : _). HasTrail last.history (T keeper) (T c.close.result.1)) found c.close.ensures.trail in
     let idle : c.close.result.0.status ≤ 1 → active (reached last.history) ≡ 0 = λ low. ended_if (λ _. active (reached last.history) ≡ 0) c.serve-end.result c.serve-end.ensures.idle (subst (λ (n : ℕ). n ≤ 1) status low) in
-    inl (opened_run c.close.result.0.status c.close.result.0.log.items j.history last.history (T c.args.keeper) (T j.keeper) (T c.close.result.1) opened c.in-Ok.ensures.log serves.opened c.close.ensures.log c.close.ensures.legal serves.ticks idle c.close.ensures.tables trail (λ none. ap k.trail c.close.ensures.keeper ∙ kept.untold none) (g.met.K.Keeper.trail_with_tables c.args.keeper) (g.met.K.Keeper.trail_with_tables c.close.result.1))
+    let came = came_run c.serve-end.result c.close.result.0.status j.history last.history c.close.result.0.log.items _ _ _ _ status c.in-Ok.ensures.log c.close.ensures.log c.serve-end.ensures.input in
+    let input = g.I.Source.left in
+    let out = g.O.Sink.written in
+    let Came = RunTakes (input c.args.input.now) (input c.serve-end.new.input) c.close.result.0.status c.close.result.0.log.items (out c.args.out.now) (out c.serve-end.new.out) in
+    inl (opened_run {Came = Came} c.close.result.0.status c.close.result.0.log.items j.history last.history (T c.args.keeper) (T j.keeper) (T c.close.result.1) opened c.in-Ok.ensures.log serves.opened c.close.ensures.log c.close.ensures.legal serves.ticks idle c.close.ensures.tables trail (λ none. ap k.trail c.close.ensures.keeper ∙ kept.untold none) (g.met.K.Keeper.trail_with_tables c.args.keeper) (g.met.K.Keeper.trail_with_tables c.close.result.1) came)

@@ -1,7 +1,8 @@
-use Rattle.std.proofs.Common.{◌≡◌, Bool, true, false, subst, sym, refl}
+use Rattle.std.proofs.Common.{◌≡◌, Bool, true, false, Ok, subst, sym, refl}
 use Rattle.std.specs.Prelude.{IsOk}
 use Rattle.wm_law.specs.Built.{is_built}
-use Rattle.wm_run.specs.Parsed.{IsUnbuilt}
+use Rattle.wm_command.specs.declared.line.Line.{Line}
+use Rattle.wm_run.specs.Parsed.{IsTabled}
 use Rattle.wm_run.proofs.parse.parsed_of.Goals as goal
 
 not_true : (b : Bool) → (b ≡ true → false ≡ true) → b ≡ false
@@ -12,4 +13,4 @@ not_true false h = refl
 pub returns-in-Err-clause-parses : goal.returns-in-Err-clause-parses
 returns-in-Err-clause-parses c = λ text tabled.
     let unbuilt : is_built c.in-Change.command ≡ false = not_true (is_built c.in-Change.command) (λ built. subst IsOk c.in-Err.is (c.built.ensures.1 built)) in
-    (c.args.line, tabled, subst IsUnbuilt (sym c.in-Change.is) unbuilt)
+    (c.in-Change.command, subst (λ (l : Line). IsTabled text (Ok l)) c.in-Change.is tabled, unbuilt)

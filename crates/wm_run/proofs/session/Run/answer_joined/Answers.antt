@@ -1,6 +1,6 @@
 use Rattle.std.proofs.Common.{ℕ, List, Option, sym, subst}
 use Rattle.std.proofs.lemmas.Result.{IfOk-weaker, on_err_weaker}
-use Rattle.wm_run.specs.Serving.{session_entries}
+use Rattle.wm_run.specs.Grown.{entries_between}
 use Rattle.wm_run.specs.Session.{Answers, AnsweredBy}
 use Rattle.wm_run.specs.Stopped.{StopsIn}
 use Rattle.wm_run.proofs.StoppedLines.{StopsIn-line}
@@ -12,13 +12,15 @@ returns-clause-answered g c =
     let o = g.O.Sink in
     let v = o.written c.args.out.now in
     let w = o.written c.answer.new.out in
-    let es = session_entries c.args.self.now.journal.history c.answer.new.self.journal.history in
-    IfOk-weaker c.answer.result _ _ (λ f h. subst (λ (l : List (Option (List ℕ))). AnsweredBy (Answers l) es v w f) (sym c.text_of.ensures) (AnsweredBy-one _ es v w f h)) c.answer.ensures.answered
+    let h = c.args.self.now.journal.history in
+    let es = entries_between c.args.self.now.journal.history c.answer.new.self.journal.history in
+    IfOk-weaker c.answer.result _ _ (λ f one. subst (λ (l : List (Option (List ℕ))). AnsweredBy (Answers l h) es v w f) (sym c.text_of.ensures) (AnsweredBy-one _ h es v w f one)) c.answer.ensures.answered
 
 pub returns-clause-stopped : goal.returns-clause-stopped
 returns-clause-stopped g c =
     let o = g.O.Sink in
     let v = o.written c.args.out.now in
     let w = o.written c.answer.new.out in
-    let es = session_entries c.args.self.now.journal.history c.answer.new.self.journal.history in
-    on_err_weaker c.answer.result (λ h. subst (λ (l : List (Option (List ℕ))). StopsIn l es v w) (sym c.text_of.ensures) (StopsIn-line _ es v w h)) c.answer.ensures.stopped
+    let h = c.args.self.now.journal.history in
+    let es = entries_between c.args.self.now.journal.history c.answer.new.self.journal.history in
+    on_err_weaker c.answer.result (λ stop. subst (λ (l : List (Option (List ℕ))). StopsIn l h es v w) (sym c.text_of.ensures) (StopsIn-line _ h es v w stop)) c.answer.ensures.stopped

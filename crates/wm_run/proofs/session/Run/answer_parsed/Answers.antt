@@ -1,12 +1,14 @@
 use Rattle.std.proofs.Common.{◌≡◌, ◌∙◌, List, ℕ, inr, refl, subst, sym, take}
+use Rattle.std.proofs.lemmas.Result.{IfOk-weaker, on_err_weaker}
 use Rattle.wm_outside.specs.Told.{Grows}
 use Rattle.wm_run.specs.Answer.{fault_answer, is_fault}
-use Rattle.wm_run.specs.Serving.{session_entries}
-use Rattle.wm_run.specs.Session.{AnswersParsed}
+use Rattle.wm_law.specs.declared.call.Entry.{Entry}
+use Rattle.wm_run.specs.Grown.{entries_between}
+use Rattle.wm_run.specs.Session.{AnsweredBy, AnswersParsed, Reads}
 use Rattle.wm_run.specs.Stopped.{IsCutShort}
 use Rattle.wm_run.specs.declared.parsed.Parsed.{Parsed}
 use Rattle.wm_run.specs.declared.parsed.Parsed.TheVariants.{Fault}
-use Rattle.wm_run.proofs.Servings.{session_entries-none}
+use Rattle.wm_run.proofs.Growing.{entries-none}
 use Rattle.wm_run.proofs.StoppedRuns.{on_err}
 use Rattle.wm_run.proofs.session.Run.answer_parsed.Goals as goal
 
@@ -17,13 +19,33 @@ returns-in_err-put-in-Fault-clause-stopped g c =
     let history = c.args.self.now.journal.history in
     let some = c.in_err-put-in-Fault.ensures.some in
     let bytes : c.as_bytes.result.now ≡ fault_answer fault = c.as_bytes.ensures.value ∙ c.in_ok-line-in-Fault.ensures in
-    let cut : IsCutShort (AnswersParsed (Fault fault)) (session_entries history history) (o.written c.args.out.now) (o.written c.put.new.out) =
+    let cut : IsCutShort (AnswersParsed (Fault fault) history) (entries_between history history) (o.written c.args.out.now) (o.written c.put.new.out) =
     inr (record {
       due = fault_answer fault;
       faulty = is_fault fault;
-      answers = record { none = session_entries-none history; says = refl; fault = refl };
+      answers = record { none = entries-none history; says = refl; fault = refl };
       count = some.0;
       written = subst (λ (b : List ℕ). Grows (o.written c.args.out.now) (o.written c.put.new.out) (take some.0 b)) bytes some.1;
     }) in
     on_err c.from_residual-in_err-put-in-Fault.result
-    (subst (λ (r : Parsed). IsCutShort (AnswersParsed r) (session_entries history history) (o.written c.args.out.now) (o.written c.put.new.out)) (sym c.in-Fault.is) cut)
+    (subst (λ (r : Parsed). IsCutShort (AnswersParsed r history) (entries_between history history) (o.written c.args.out.now) (o.written c.put.new.out)) (sym c.in-Fault.is) cut)
+
+pub returns-in-Read-clause-answered : goal.returns-in-Read-clause-answered
+returns-in-Read-clause-answered g c =
+    let o = g.O.Sink in
+    let ask = c.in-Read.ask in
+    let history = c.args.self.now.journal.history in
+    let v = o.written c.args.out.now in
+    let w = o.written c.list.new.out in
+    IfOk-weaker c.list.result _ _ (λ f one. subst (λ (r : Parsed). AnsweredBy (AnswersParsed r history) (entries_between history history) v w f) (sym c.in-Read.is)
+    (subst (λ (es : List Entry). AnsweredBy (Reads ask history) es v w f) (sym (entries-none history)) one)) c.list.ensures.answered
+
+pub returns-in-Read-clause-stopped : goal.returns-in-Read-clause-stopped
+returns-in-Read-clause-stopped g c =
+    let o = g.O.Sink in
+    let ask = c.in-Read.ask in
+    let history = c.args.self.now.journal.history in
+    let v = o.written c.args.out.now in
+    let w = o.written c.list.new.out in
+    on_err_weaker c.list.result (λ stop. subst (λ (r : Parsed). IsCutShort (AnswersParsed r history) (entries_between history history) v w) (sym c.in-Read.is)
+    (subst (λ (es : List Entry). IsCutShort (Reads ask history) es v w) (sym (entries-none history)) stop)) c.list.ensures.stopped

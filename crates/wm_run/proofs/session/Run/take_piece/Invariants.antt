@@ -1,6 +1,6 @@
 use Rattle.std.proofs.Common.{◌-◌, drop, length}
 use Rattle.wm_run.specs.Journal.{HasJournalCauses}
-use Rattle.wm_run.specs.Serving.{session_entries}
+use Rattle.wm_run.specs.Grown.{entries_between}
 use Rattle.wm_run.specs.Taking.{TakesPiece}
 use Rattle.wm_run.specs.View.{view}
 use Rattle.wm_run.proofs.InputLoops.{PieceLoop}
@@ -15,7 +15,7 @@ invariant-lines g l =
     (view l.self.journal.history l.self.monitor (s.asked l.spawner) (s.told l.spawner) (s.misses l.spawner))
     (o.faults l.fn.out) (o.faults l.out) (s.faults l.fn.spawner) (s.faults l.spawner)
     l.at l.piece
-    (TakesPiece l.fn.joiner l.piece l.joiner (drop l.at l.piece) (session_entries l.fn.self.journal.history l.self.journal.history) (o.written l.fn.out) (o.written l.out) l.faulty)
+    (TakesPiece l.fn.joiner l.piece l.joiner (drop l.at l.piece) l.fn.self.journal.history (entries_between l.fn.self.journal.history l.self.journal.history) (o.written l.fn.out) (o.written l.out) l.faulty)
     (HasJournalCauses g.K.Keeper.faults g.K.Keeper.trail ⊥ ⊥ l.fn.self.journal l.self.journal)
 
 abbrev pub decreases-lines : goal.decreases-lines
