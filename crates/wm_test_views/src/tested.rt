@@ -98,8 +98,8 @@ impl Tested {
     fn enter(&mut self, caller: u32, call: Call) -> Result<()>
         requires { IsCall call }
     {
-        self.log.reserve(1)?;
         let reply = self.reply(caller, &call)?;
+        self.log.reserve(1)?;
         self.log.push_reserved(Entry {
             caller,
             call,
