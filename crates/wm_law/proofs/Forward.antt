@@ -18,12 +18,13 @@ use Rattle.wm_law.specs.Launch.{as_launched, launch, launch_job, launched}
 use Rattle.wm_law.specs.Laws.{IsIn}
 use Rattle.wm_law.specs.Submitting.{submitted_job}
 use Rattle.wm_law.specs.Reports.{in_phase, with_phase}
-use Rattle.wm_law.specs.Settling.{settle, leave, waiting}
+use Rattle.wm_law.specs.Settling.{come_due, settle, leave, waiting}
 use Rattle.wm_law.specs.Machine.{apply, step, with_clock}
 use Rattle.wm_law.proofs.Alterations.{IsAltered}
+use Rattle.wm_law.proofs.Endings.{IsPhaseAfter, IsWishing, key_same}
 use Rattle.wm_law.proofs.Members.{in_longer, in_mapped}
-use Rattle.wm_law.proofs.Moves.{HoldsOfStates, call_keeps}
-use Rattle.wm_law.proofs.Numbers.{launches_keep, apply_keeps, clock_keeps, only_started}
+use Rattle.wm_law.proofs.Moves.{HoldsOfStates, call_keeps, comes_due}
+use Rattle.wm_law.proofs.Numbers.{launches_keep, apply_keeps, clock_keeps, ready_keeps}
 use Rattle.wm_law.proofs.Firsts.{next_waits}
 use Rattle.wm_law.proofs.Tests.{same_number}
 
@@ -90,12 +91,26 @@ launches_go_on s = record {
       };
 }
 
-pub settle_goes_on : (s : State) → IsNumbered s → GoesOn s (settle s)
-settle_goes_on s h = (iterate-keeps (IsOn s) (launches_go_on s) (waiting (leave s)) (leave s) (record { numbered = only_started s h; on = λ j i. (j, i, no_less j) })).on
-
 later_altered : (s : State) (j k : Job) → (k ≡ j) ⊎ IsAltered s j k → IsLater j k
 later_altered s j k (inl e) = subst (IsLater j) (sym e) (no_less j)
 later_altered s j k (inr a) = record { serial = a.serial; job = a.job; phase = waiting_least j.phase (phase_rank k.phase) a.waits }
+
+rank_after : (p q : Phase) → IsPhaseAfter p q → phase_rank p ≤ phase_rank q
+rank_after p q (inl e) =
+    let same = ap phase_rank e in
+    omega arith
+rank_after p q (inr e) =
+    let before : phase_rank p ≡ 1 = ap phase_rank e.0 in
+    let after : phase_rank q ≡ 4 = ap phase_rank e.1.1 in
+    omega arith
+
+-- a job whose wish changes goes on
+later_wished : (change : Job → Job) → IsWishing change → (j : Job) → IsLater j (change j)
+later_wished change h j = record {
+  serial = key_same change h (λ (x : Job). x.serial) (λ x p w. refl) j;
+  job = key_same change h (λ (x : Job). x.job) (λ x p w. refl) j;
+  phase = rank_after j.phase (change j).phase (h.phase j);
+}
 
 -- no call loses a job or takes its phase back
 calls : (s : State) → IsNumbered s → HoldsOfStates (GoesOn s) s
@@ -107,9 +122,15 @@ calls s n = record {
   alters = λ change place a j i. (change j, in_mapped change s.jobs j i, later_altered s j (change j) (a.each j));
   holds = λ held a j i. (j, i, no_less j);
   moves = λ serial j phase i e r k. phase_goes_on s serial phase j n i e r.on;
-  powers = λ j i. (j, i, no_less j);
+  ends = λ change started evokes power e j i. (change j, in_mapped change s.jobs j i, later_wished change e.jobs j);
   makes = λ o c j i. (j, i, no_less j);
 }
+
+-- nor does settling
+pub settle_goes_on : (s : State) → IsNumbered s → GoesOn s (settle s)
+settle_goes_on s h =
+    let due : GoesOn s (come_due s) = comes_due (GoesOn s) s (calls s h) in
+    (iterate-keeps (IsOn s) (launches_go_on s) (waiting (leave (come_due s))) (leave (come_due s)) (record { numbered = ready_keeps s h; on = due })).on
 
 apply_goes_on : (s : State) (caller : ℕ) (call : Call) → IsNumbered s → GoesOn s (apply s caller call).state
 apply_goes_on s caller call n = call_keeps (GoesOn s) s caller call (calls s n)

@@ -10,6 +10,7 @@ pub mod Entries
 pub mod Tables
 pub mod Objects
 pub mod Alterations
+pub mod Endings
 pub mod Moves
 pub mod Refusals
 pub mod Answered

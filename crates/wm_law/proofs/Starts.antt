@@ -93,7 +93,8 @@ hands_over s call = record {
   enters = λ user c d due has x e. absurd (cc);
   alters = λ reply change place p a x e. absurd (none_told reply p x e);
   holds = λ reply held p a x e. absurd (none_told reply p x e);
-  powers = λ x e. absurd (cc);
+  ends = λ reply change started evokes power p a x e. absurd (none_told reply p x e);
+  kills = λ m j i k x e. absurd (cc);
   makes = λ o c x e. absurd (cc);
 }
 

@@ -1,5 +1,5 @@
 -- What holds of each state that a history reaches from the opening one, and what holds over each entry from there.
-use Rattle.std.specs.Prelude.{◌≡◌, ℕ, ◌<◌, ◌≤◌, ℤ, true, false, List, [], ◌∷◌, length, map, Option, Some, None, ⊤}
+use Rattle.std.specs.Prelude.{◌≡◌, ℕ, ◌<◌, ◌≤◌, ℤ, true, false, List, [], ◌∷◌, length, map, Option, Some, None, IfSome, ⊤}
 use Rattle.std.specs.Option.{IsSome}
 use Rattle.wm_base.specs.declared.job.How.{How}
 use Rattle.wm_base.specs.declared.job.How.TheVariants.{FromQueue, Auto}
@@ -28,7 +28,9 @@ use Rattle.wm_law.specs.Objects.{AreSound}
 use Rattle.wm_law.specs.Opening.{opening}
 use Rattle.wm_law.specs.Order.{IsInOrder, KeepsOrder}
 use Rattle.wm_law.specs.Queues.{own_name}
+use Rattle.wm_law.specs.Settling.{sbs_moment}
 use Rattle.wm_law.specs.Subsystems.{max_started}
+use Rattle.wm_law.specs.Wishes.{greatest_moment, has_wish, wish_moment}
 
 -- each number is below all later ones
 abbrev pub IsIncreasing : List ℕ → Type 0
@@ -96,6 +98,23 @@ pub record AreQueues (objects : Objects) (queues : List QName) : Type 0 where
   pub sorted : IsSortedOnce own_name qname_cmp queues
   pub are_objects : (queue : QName) → IsIn queue queues → IsSome (object_named queue objects.jobqs)
 
+-- a moment, where there is one, is at most the greatest
+abbrev pub IsMoment : Option ℕ → Type 0
+IsMoment moment = IfSome moment (λ m. m ≤ greatest_moment)
+
+-- a job that waits has no wish, so that only active and ended jobs have one, and a wish's moment is in its range
+pub record IsWished (j : Job) : Type 0 where
+  pub waits : is_waiting j.phase ≡ true → has_wish j.wish ≡ false
+  pub moment : IsMoment (wish_moment j.wish)
+
+-- so it is with each job
+abbrev pub HasWishes : State → Type 0
+HasWishes s = (j : Job) → IsIn j s.jobs → IsWished j
+
+-- the moment of each ending subsystem is in its range
+abbrev pub HasMoments : State → Type 0
+HasMoments s = (b : Sbs) → IsIn b s.started → IsMoment (sbs_moment b.phase)
+
 -- no more subsystems are started than may be
 abbrev pub IsWithinStarted : State → Type 0
 IsWithinStarted s = length s.started ≤ max_started
@@ -113,6 +132,8 @@ pub record IsSound (s : State) : Type 0 where
   pub queues : HasQueues s
   pub held : AreQueues s.objects s.held
   pub within_started : IsWithinStarted s
+  pub wishes : HasWishes s
+  pub moments : HasMoments s
 
 -- the opening state is sound
 abbrev pub OpeningIsSound : Type 0
