@@ -43,4 +43,5 @@ pub mod Fitting
 pub mod Serials
 pub mod Placed
 pub mod Standing
+pub mod Wished
 pub mod Sound

@@ -244,9 +244,13 @@ apply_keeps s caller call h = call_keeps IsNumbered s caller call (calls s h)
 pub clock_keeps : (s : State) (moment : ℕ) → IsNumbered s → IsNumbered (with_clock s moment)
 clock_keeps s moment h = numbered_same s _ (record { serials = refl; numbers = refl; waiting = λ d. d; places = refl; next_number = refl; next_serial = refl; next_place = refl }) h
 
--- so it is where what is due has ended, and ending subsystems have left
+-- so it is where what is due has ended
+pub due_keeps : (s : State) → IsNumbered s → IsNumbered (come_due s)
+due_keeps s h = comes_due IsNumbered s (calls s h)
+
+-- and where ending subsystems have left
 pub ready_keeps : (s : State) → IsNumbered s → IsNumbered (leave (come_due s))
-ready_keeps s h = only_started (come_due s) (comes_due IsNumbered s (calls s h))
+ready_keeps s h = only_started (come_due s) (due_keeps s h)
 
 parts : IsKeptByParts IsNumbered
 parts = record { clock = clock_keeps; calls = calls; leaves = only_started; launches = launches_keep }

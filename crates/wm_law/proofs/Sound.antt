@@ -19,6 +19,7 @@ use Rattle.wm_law.proofs.Queued.{opening_has_queues, opening_holds_queues, step_
 use Rattle.wm_law.proofs.Serials.{step_keeps_jobs_in_order}
 use Rattle.wm_law.proofs.Standing.{opening_is_within_started, opening_objects_are_sound, step_keeps_objects, step_keeps_within_started}
 use Rattle.wm_law.proofs.Started.{opening_has_distinct_names, step_keeps_names_distinct}
+use Rattle.wm_law.proofs.Wished.{opening_has_moments, opening_has_wishes, step_keeps_moments, step_keeps_wishes}
 use Rattle.wm_law.proofs.Subsystems.{opening_has_descriptions, opening_is_quiet, step_keeps_descriptions, step_keeps_quiet}
 
 opening_has_jobs_in_order : (offset : ℤ) → HasJobsInOrder (opening offset)
@@ -43,6 +44,8 @@ opening_is_sound offset = record {
   queues = opening_has_queues offset;
   held = opening_holds_queues offset;
   within_started = opening_is_within_started offset;
+  wishes = opening_has_wishes offset;
+  moments = opening_has_moments offset;
 }
 
 pub step_keeps_sound : StepKeepsSound
@@ -58,6 +61,8 @@ step_keeps_sound s caller call moment h = record {
   queues = step_keeps_queues s caller call moment h.queues;
   held = step_keeps_held s caller call moment h.held;
   within_started = step_keeps_within_started s caller call moment h.within_started;
+  wishes = step_keeps_wishes s caller call moment h.wishes;
+  moments = step_keeps_moments s caller call moment h.moments;
 }
 
 after_is_sound : (s : State) (h : List Entry) → IsSound s → IsSound (after s h)
