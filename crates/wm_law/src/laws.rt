@@ -29,7 +29,6 @@ pub fn routes_are_least()
 {}
 
 /// Once the state has settled, no job may start.
-#[tactic(auto, using(crate::proofs::Settling::settled_has_no_next, crate::proofs::Settling::settled_leaves_none))]
 pub fn settling_leaves_none()
     ensures next { SettledHasNoNext }
     ensures none { SettledLeavesNone }
