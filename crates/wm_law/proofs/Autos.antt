@@ -69,13 +69,13 @@ autos_due s t h k i p v =
     elim (h m.job m.there m.starting (sym (ap (λ (x : Job). x.kind) m.same) ∙ v)) as (λ _. IsStarting s k.serial ⊎ IsAutoRouted t.objects k) [
       | inl was ↦ inl (subst (IsStarting s) (sym (ap (λ (x : Job). x.serial) m.same)) was)
       | inr r ↦ inr (record {
-          sbs = r.sbs;
-          sbsd = r.sbsd;
-          entry = r.entry;
-          described = r.described;
-          routed = ap (λ (x : Job). route r.sbsd x.rtgdta) m.same ∙ r.routed;
-          is_how = ap (λ (x : Job). x.how) m.same ∙ r.is_how;
-        })
+        sbs = r.sbs;
+        sbsd = r.sbsd;
+        entry = r.entry;
+        described = r.described;
+        routed = ap (λ (x : Job). route r.sbsd x.rtgdta) m.same ∙ r.routed;
+        is_how = ap (λ (x : Job). x.how) m.same ∙ r.is_how;
+      })
     ]
 
 -- numbered, the jobs have their queues, and the autostart jobs are by their routes

@@ -1,9 +1,8 @@
 -- What wishes, ending subsystems and the power do to a state, and what settling's first part does.
-use Rattle.std.proofs.Common.{◌≡◌, ◌⊎◌, ℕ, ◌≤◌, ◌+◌, ◌==◌, ◌&&◌, ◌||◌, not, Bool, true, false, cond, List, map, Option, Some, None, min, refl, sym, ap, subst, ◌∙◌, inl, inr, arith}
+use Rattle.std.proofs.Common.{◌≡◌, ◌⊎◌, ℕ, ◌≤◌, ◌+◌, ◌==◌, ◌&&◌, not, Bool, true, false, cond, List, map, Option, Some, None, refl, sym, ap, subst, ◌∙◌, inl, inr}
 use Rattle.std.specs.Option.{option_map}
 use Rattle.std.proofs.Math.Nat.{min-le_right}
 use Rattle.wm_base.specs.declared.job.EndCause.{EndCause}
-use Rattle.wm_base.specs.declared.qname.QName.{QName}
 use Rattle.wm_law.specs.declared.command.EndOption.{EndOption}
 use Rattle.wm_law.specs.declared.command.EndOption.TheVariants.{Cntrld, Immed}
 use Rattle.wm_law.specs.declared.job.Job.{Job}

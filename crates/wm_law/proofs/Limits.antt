@@ -27,9 +27,6 @@ use Rattle.wm_law.specs.declared.job.JobKind.TheVariants.{Asj}
 use Rattle.wm_law.specs.declared.job.Phase.{Phase}
 use Rattle.wm_law.specs.declared.job.Phase.TheVariants.{Waiting, Starting}
 use Rattle.wm_law.specs.declared.launch.Launched.{Launched}
-use Rattle.wm_law.specs.declared.state.Evoke.{Evoke}
-use Rattle.wm_law.specs.declared.state.Power.{Power}
-use Rattle.wm_law.specs.declared.state.Sbs.{Sbs}
 use Rattle.wm_law.specs.declared.state.State.{State}
 use Rattle.wm_law.specs.Autos.{auto_job, auto_launched, auto_made}
 use Rattle.wm_law.specs.Choice.{entry_for, maxpty_of, next}

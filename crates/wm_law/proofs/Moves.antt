@@ -1,5 +1,5 @@
 -- What a call can come to, and what a step can do to a state. Here alone the calls are gone over, one by one.
-use Rattle.std.proofs.Common.{◌≡◌, ℕ, ◌<◌, ◌≤◌, ◌-◌, ◌+◌, ◌==◌, not, Bool, true, false, cond, List, [], ◌∷◌, length, map, fold, Option, Some, None, is_some, nat_le, nat_lt, min, refl, inl, inr, arith}
+use Rattle.std.proofs.Common.{◌≡◌, ℕ, ◌<◌, ◌≤◌, ◌-◌, ◌+◌, ◌==◌, not, Bool, true, false, cond, List, [], ◌∷◌, length, fold, Option, Some, None, is_some, nat_le, nat_lt, min, refl, inl, inr, arith}
 use Rattle.std.specs.List.{count_by, find}
 use Rattle.std.specs.Prelude.{Result, Ok, Err}
 use Rattle.std.specs.Option.{IsSome}
@@ -48,7 +48,7 @@ use Rattle.wm_law.specs.Launch.{order_of, launch}
 use Rattle.wm_law.specs.Laws.{IsIn}
 use Rattle.wm_law.specs.Machine.{apply, step, with_clock, change}
 use Rattle.wm_law.specs.Making.{made_unless}
-use Rattle.wm_law.specs.Endings.{down_by, end_active, end_found, end_in_phase, end_phase, end_started, is_down, is_ended, is_wished, job_wish, phased, started_named, told}
+use Rattle.wm_law.specs.Endings.{down_by, end_active, end_found, end_in_phase, end_started, is_down, is_ended, is_wished, job_wish, started_named}
 use Rattle.wm_law.specs.Power.{is_on}
 use Rattle.wm_law.specs.Reports.{in_phase, with_phase, hand_job, hand_order, is_to_kill, report_on, start_job, is_handed_to, is_run_by, phase_word, done_with, end_cause, with_kill}
 use Rattle.wm_law.specs.Settling.{come_due, job_at, leave, sbss_at, waiting}

@@ -2,8 +2,6 @@
 use Rattle.std.proofs.Common.{◌≡◌, ℕ, ℤ, ◌==◌, ◌++◌, not, Bool, true, false, cond, List, [], ◌∷◌, map, Option, Some, None, refl, sym, ap, subst, ◌∙◌, inl, inr}
 use Rattle.std.specs.List.{find}
 use Rattle.wm_base.specs.declared.qname.QName.{QName}
-use Rattle.wm_desc.specs.declared.description.Jobd.{Jobd}
-use Rattle.wm_desc.specs.declared.entry.AutoEntry.{AutoEntry}
 use Rattle.wm_law.specs.declared.call.Call.{Call}
 use Rattle.wm_law.specs.declared.choice.Candidate.{Candidate}
 use Rattle.wm_law.specs.declared.job.Job.{Job}
@@ -13,11 +11,10 @@ use Rattle.wm_law.specs.declared.job.Wish.{Wish}
 use Rattle.wm_law.specs.declared.state.Sbs.{Sbs}
 use Rattle.wm_law.specs.declared.state.SbsPhase.TheVariants.{Active}
 use Rattle.wm_law.specs.declared.state.State.{State}
-use Rattle.wm_law.specs.Autos.{auto_job, auto_launched, auto_made}
-use Rattle.wm_law.specs.Choice.{next}
+use Rattle.wm_law.specs.Autos.{auto_job, auto_launched}
 use Rattle.wm_law.specs.Counts.{is_active, is_waiting}
 use Rattle.wm_law.specs.Jobs.{changed_at}
-use Rattle.wm_law.specs.Launch.{as_auto, as_launched, launch, launch_job, launched}
+use Rattle.wm_law.specs.Launch.{as_launched, launch_job, launched}
 use Rattle.wm_law.specs.Laws.{IsIn}
 use Rattle.wm_law.specs.Machine.{step}
 use Rattle.wm_law.specs.Opening.{opening}
@@ -31,7 +28,7 @@ use Rattle.wm_law.proofs.Endings.{AreEnded, IsWishing, was_waiting}
 use Rattle.wm_law.proofs.Members.{left_in, of_last, of_mapped}
 use Rattle.wm_law.proofs.Moves.{HoldsOfStates, IsKeptByParts, never_waits, step_keeps}
 use Rattle.wm_law.proofs.Opened.{opened, opening_is}
-use Rattle.wm_law.proofs.Settling.{launch_never_waits, not_waiting}
+use Rattle.wm_law.proofs.Settling.{not_waiting}
 
 -- a change after which a job doesn't wait, and which leaves its wish
 record LeavesWishes (change : Job → Job) : Type 0 where
