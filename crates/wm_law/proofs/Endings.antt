@@ -167,7 +167,7 @@ deadline_moment clock j (wish.Later until why) h = later_moment (is_due clock j 
 deadline_moment clock j (wish.Now why handed) h = h
 
 -- a wish that is looked at
-looking : (clock : ℕ) → IsWishing (with_deadline clock)
+pub looking : (clock : ℕ) → IsWishing (with_deadline clock)
 looking clock = giving (λ j. is_active j.phase) (deadline clock) (λ j e. e) (λ j h. deadline_moment clock j j.wish h)
 
 starting_phase : (p : Phase) → is_starting p ≡ true → p ≡ Starting
@@ -182,7 +182,7 @@ unstarted_same true None j = refl
 unstarted_same true (Some c) j = refl
 unstarted_same false o j = refl
 
-unstarted_wish : (b : Bool) (o : Option EndCause) (j : Job) → (cond b (ended_by o j) j).wish ≡ j.wish
+pub unstarted_wish : (b : Bool) (o : Option EndCause) (j : Job) → (cond b (ended_by o j) j).wish ≡ j.wish
 unstarted_wish true None j = refl
 unstarted_wish true (Some c) j = refl
 unstarted_wish false o j = refl
@@ -201,7 +201,7 @@ unstarted_idle true j e n = absurd (none_active j.phase n (starting_phase j.phas
 unstarted_idle false j e n = refl
 
 -- a Starting job that a Now wish ends
-ending_starting : IsWishing unless_started
+pub ending_starting : IsWishing unless_started
 ending_starting = record {
   same = λ j. unstarted_same (is_starting j.phase) (now_cause j.wish) j;
   phase = λ j. unstarted_phase (is_starting j.phase) j refl;

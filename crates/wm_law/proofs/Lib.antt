@@ -44,4 +44,5 @@ pub mod Serials
 pub mod Placed
 pub mod Standing
 pub mod Wished
+pub mod Due
 pub mod Sound

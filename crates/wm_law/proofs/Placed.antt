@@ -58,11 +58,11 @@ active_by how seq None h = refl
 active_by how seq (Some c) h = absurd (cc)
 
 -- a launch that leaves a job active leaves it Starting
-active_through : (s : State) (sbs : QName) (how : ℕ → How) (j : Job) (o : Option RouteEntry) → is_active (launched_through s sbs how j o).phase ≡ true → (launched_through s sbs how j o).phase ≡ Starting
+pub active_through : (s : State) (sbs : QName) (how : ℕ → How) (j : Job) (o : Option RouteEntry) → is_active (launched_through s sbs how j o).phase ≡ true → (launched_through s sbs how j o).phase ≡ Starting
 active_through s sbs how j None h = absurd (cc)
 active_through s sbs how j (Some e) h = active_by how e.seq (route_fault s sbs e j) h
 
-active_as : (s : State) (sbs : QName) (how : ℕ → How) (j : Job) → is_active (launched_as s sbs how j).phase ≡ true → (launched_as s sbs how j).phase ≡ Starting
+pub active_as : (s : State) (sbs : QName) (how : ℕ → How) (j : Job) → is_active (launched_as s sbs how j).phase ≡ true → (launched_as s sbs how j).phase ≡ Starting
 active_as s sbs how j h = active_through s sbs how j (option_and_then (λ d. route d j.rtgdta) (object_named sbs s.objects.sbsds)) h
 
 -- the launched job came by the entries of its turn

@@ -38,7 +38,7 @@ not_among name (b ∷ bs) e (inr i) = not_among name bs (of_neither (pointwise n
 started : (s : State) (q : QName) → is_started s q.name ≡ false → HasDistinctNames s → HasDistinctNames (begun s q)
 started s q fresh h = distinct_last name_of (record { sbsd = q; phase = Active }) s.started (not_among q.name s.started fresh) h
 
-launched : (s : State) (c : Candidate) (o : Option Job) → HasDistinctNames s → HasDistinctNames (launch_job s c o)
+pub launched : (s : State) (c : Candidate) (o : Option Job) → HasDistinctNames s → HasDistinctNames (launch_job s c o)
 launched s c None h = h
 launched s c (Some j) h = h
 
@@ -49,7 +49,7 @@ names_by (b ∷ bs) = ap (λ (names : List (List ℕ)). b.sbsd.name ∷ names) (
 names_same : (bs cs : List Sbs) → map (λ (b : Sbs). b.sbsd) bs ≡ map (λ (b : Sbs). b.sbsd) cs → map name_of bs ≡ map name_of cs
 names_same bs cs e = names_by bs ∙ ap (map (λ (q : QName). q.name)) e ∙ sym (names_by cs)
 
-calls : (s : State) → HasDistinctNames s → HoldsOfStates HasDistinctNames s
+pub calls : (s : State) → HasDistinctNames s → HoldsOfStates HasDistinctNames s
 calls s h = record {
   stays = h;
   starts = λ q e. started s q e.fresh h;

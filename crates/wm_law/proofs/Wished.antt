@@ -82,11 +82,11 @@ all_given jobs change e h i m =
     let f = of_mapped change jobs i m in
     subst IsWished (sym f.2) (given_wished change e f.0 (h f.0 f.1))
 
-launched_wished : (s : State) (c : Candidate) (o : Option Job) → HasWishes s → HasWishes (launch_job s c o)
+pub launched_wished : (s : State) (c : Candidate) (o : Option Job) → HasWishes s → HasWishes (launch_job s c o)
 launched_wished s c None h = h
 launched_wished s c (Some j) h = all_changed s.jobs c.serial (as_launched (launched s c.sbs c.jobq j)) (record { wish = λ k. refl; never = λ k. not_waiting s c.sbs c.jobq j }) h
 
-wished_calls : (s : State) → HasWishes s → HoldsOfStates HasWishes s
+pub wished_calls : (s : State) → HasWishes s → HoldsOfStates HasWishes s
 wished_calls s h = record {
   stays = h;
   starts = λ q e. h;

@@ -15,6 +15,7 @@ use Rattle.wm_law.specs.declared.call.Entry.{Entry}
 use Rattle.wm_law.specs.declared.job.Job.{Job}
 use Rattle.wm_law.specs.declared.job.JobKind.{JobKind}
 use Rattle.wm_law.specs.declared.job.JobKind.TheVariants.{Bch, Asj, Pj}
+use Rattle.wm_law.specs.declared.job.Phase.TheVariants.{Starting}
 use Rattle.wm_law.specs.declared.state.Sbs.{Sbs}
 use Rattle.wm_law.specs.declared.state.State.{State}
 use Rattle.wm_law.specs.Choice.{entry_for}
@@ -28,9 +29,9 @@ use Rattle.wm_law.specs.Objects.{AreSound}
 use Rattle.wm_law.specs.Opening.{opening}
 use Rattle.wm_law.specs.Order.{IsInOrder, KeepsOrder}
 use Rattle.wm_law.specs.Queues.{own_name}
-use Rattle.wm_law.specs.Settling.{sbs_moment}
+use Rattle.wm_law.specs.Settling.{is_sbs_now, sbs_moment}
 use Rattle.wm_law.specs.Subsystems.{max_started}
-use Rattle.wm_law.specs.Wishes.{greatest_moment, has_wish, wish_moment}
+use Rattle.wm_law.specs.Wishes.{greatest_moment, has_come, has_wish, is_in_any, is_now, is_wish_due, wish_moment}
 
 -- each number is below all later ones
 abbrev pub IsIncreasing : List ℕ → Type 0
@@ -115,6 +116,17 @@ HasWishes s = (j : Job) → IsIn j s.jobs → IsWished j
 abbrev pub HasMoments : State → Type 0
 HasMoments s = (b : Sbs) → IsIn b s.started → IsMoment (sbs_moment b.phase)
 
+-- an active job as settling leaves it: its wish isn't due, it isn't to end now while it is Starting, and it is to end now where its subsystem does
+pub record IsUpToDate (clock : ℕ) (subsystems : List Sbs) (j : Job) : Type 0 where
+  pub looked : is_wish_due clock j j.wish ≡ false
+  pub starting : j.phase ≡ Starting → is_now j.wish ≡ false
+  pub told : is_in_any (λ b. is_sbs_now b.phase) subsystems j.how ≡ true → is_now j.wish ≡ true
+
+-- nothing is left that is due to end: no moment of an ending subsystem has come, and each active job is as settling leaves it
+pub record HasNoneDue (s : State) : Type 0 where
+  pub subsystems : (b : Sbs) → IsIn b s.started → has_come s.clock (sbs_moment b.phase) ≡ false
+  pub jobs : (j : Job) → IsIn j s.jobs → is_active j.phase ≡ true → IsUpToDate s.clock s.started j
+
 -- no more subsystems are started than may be
 abbrev pub IsWithinStarted : State → Type 0
 IsWithinStarted s = length s.started ≤ max_started
@@ -134,6 +146,7 @@ pub record IsSound (s : State) : Type 0 where
   pub within_started : IsWithinStarted s
   pub wishes : HasWishes s
   pub moments : HasMoments s
+  pub none_due : HasNoneDue s
 
 -- the opening state is sound
 abbrev pub OpeningIsSound : Type 0

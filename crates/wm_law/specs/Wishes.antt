@@ -72,6 +72,12 @@ handed_wish (wish.Now why handed) = wish.Now why true
 abbrev pub is_due : ℕ → Job → Option ℕ → Bool
 is_due clock j until = has_come clock until || (is_prestart j.kind && not j.evoke)
 
+-- the job has such a wish
+abbrev pub is_wish_due : ℕ → Job → Wish → Bool
+is_wish_due clock j wish.NoWish = false
+is_wish_due clock j (wish.Later until why) = is_due clock j until
+is_wish_due clock j (wish.Now why handed) = false
+
 -- a wish of the job once the clock is looked at: a Later wish that has come due becomes Now with the same why
 abbrev pub wish_at : ℕ → Job → Wish → Wish
 wish_at clock j wish.NoWish = wish.NoWish
