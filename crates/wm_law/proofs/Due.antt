@@ -34,7 +34,7 @@ use Rattle.wm_law.specs.Opening.{opening}
 use Rattle.wm_law.specs.Settling.{come_due, ended_by, is_gone, is_sbs_now, job_at, leave, sbs_at, sbs_moment, sbs_phase_at, sbss_at, unless_started, waiting, with_deadline}
 use Rattle.wm_law.specs.Sound.{HasNoneDue, HasWishes, IsUpToDate}
 use Rattle.wm_law.specs.Wishes.{deadline, has_come, has_wish, is_due, is_in_any, is_now, is_to_end, is_wish_due, now_cause, told_now, wish_at, with_wish}
-use Rattle.wm_law.proofs.Distinct.{distinct_left}
+use Rattle.wm_law.proofs.Distinct.{distinct_left, one_by_key}
 use Rattle.wm_law.proofs.Endings.{ending_starting, key_same, looking, telling_now, unstarted_wish, was_active}
 use Rattle.wm_law.proofs.Firsts.{holder_started, ready_waits}
 use Rattle.wm_law.proofs.Forward.{only_one}
@@ -206,14 +206,6 @@ of_any_by p x xs false e rest h = let m = rest h in (m.0, inr m.1, m.2)
 of_any : {X : Type 0} (p : X → Bool) (xs : List X) → list_any p xs ≡ true → (y : X) × IsIn y xs × (p y ≡ true)
 of_any p [] h = absurd (cc)
 of_any p (x ∷ xs) h = of_any_by p x xs (p x) refl (of_any p xs) h
-
--- two elements of one key are one, where no key stands twice
-one_by_key : {X A : Type 0} (key : X → A) (xs : List X) → IsDistinct (map key xs) → (x y : X) → IsIn x xs → IsIn y xs → key x ≡ key y → x ≡ y
-one_by_key key [] d x y i k e = absurd i
-one_by_key {A = A} key (z ∷ xs) d x y (inl a) (inl b) e = a ∙ sym b
-one_by_key {A = A} key (z ∷ xs) d x y (inl a) (inr k) e = absurd (d.0 (subst (λ (n : A). IsIn n (map key xs)) (sym e ∙ ap key a) (in_mapped key xs y k)))
-one_by_key {A = A} key (z ∷ xs) d x y (inr i) (inl b) e = absurd (d.0 (subst (λ (n : A). IsIn n (map key xs)) (e ∙ ap key b) (in_mapped key xs x i)))
-one_by_key key (z ∷ xs) d x y (inr i) (inr k) e = one_by_key key xs d.1 x y i k e
 
 not_both : (p : SbsPhase) → is_sbs_active p ≡ true → is_sbs_now p ≡ true → ⊥
 not_both Active a n = absurd (cc)

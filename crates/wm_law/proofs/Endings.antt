@@ -1,5 +1,5 @@
 -- What wishes, ending subsystems and the power do to a state, and what settling's first part does.
-use Rattle.std.proofs.Common.{◌≡◌, ◌⊎◌, ℕ, ◌≤◌, ◌+◌, ◌==◌, ◌&&◌, not, Bool, true, false, cond, List, map, Option, Some, None, refl, sym, ap, subst, ◌∙◌, inl, inr}
+use Rattle.std.proofs.Common.{◌≡◌, ◌⊎◌, ℕ, ◌≤◌, ◌+◌, ◌==◌, ◌&&◌, not, Bool, true, false, cond, List, map, Option, Some, None, refl, sym, ap, subst, ◌∙◌, inl, inr, arith}
 use Rattle.std.specs.Option.{option_map}
 use Rattle.std.proofs.Math.Nat.{min-le_right}
 use Rattle.wm_base.specs.declared.job.EndCause.{EndCause}
@@ -20,15 +20,17 @@ use Rattle.wm_law.specs.declared.state.SbsPhase.TheVariants as sbs_phase
 use Rattle.wm_law.specs.declared.state.State.{State}
 use Rattle.wm_law.specs.Choice.{is_sbs_active}
 use Rattle.wm_law.specs.Counts.{is_active, is_prestart, is_starting, is_waiting}
-use Rattle.wm_law.specs.Endings.{end_phase, is_ended, is_left_to_use, job_wish, phased, told}
+use Rattle.wm_law.specs.Endings.{end_phase, is_ended, is_left_to_use, is_wished, job_wish, phased, told}
 use Rattle.wm_law.specs.Jobs.{active_at}
+use Rattle.wm_law.specs.Kept.{IsNumbered, IsWishOn, wish_rank}
 use Rattle.wm_law.specs.Laws.{IsIn}
 use Rattle.wm_law.specs.Reports.{with_kill}
 use Rattle.wm_law.specs.Settling.{ended_by, is_sbs_now, job_at, sbs_at, sbs_moment, sbs_phase_at, sbss_at, unless_started, with_deadline}
 use Rattle.wm_law.specs.Sound.{IsMoment}
 use Rattle.wm_law.specs.Wishes.{deadline, greatest_moment, handed_wish, has_come, has_wish, is_due, is_in_any, is_now, is_to_end, moment_after, now_cause, told_now, why_cause, wish_at, wish_moment, with_wish}
+use Rattle.wm_law.proofs.Distinct.{one_by_key}
 use Rattle.wm_law.proofs.Members.{in_mapped, map_same, of_mapped}
-use Rattle.wm_law.proofs.Tests.{of_both}
+use Rattle.wm_law.proofs.Tests.{of_both, same_number}
 
 -- a phase stays, or is that of a Starting job which the why of a wish ended
 abbrev pub IsPhaseAfter : Phase → Phase → Type 0
@@ -53,10 +55,11 @@ pub record AreEnded (old new : List Sbs) : Type 0 where
   pub before : (b : Sbs) → IsIn b new → (a : Sbs) × IsIn a old × IsEnded a b
   pub after : (a : Sbs) → IsIn a old → (b : Sbs) × IsIn b new × IsEnded a b
 
--- the jobs are wished to end and the subsystems end; and the power stays, or none of these is Active
+-- the jobs are wished to end and the subsystems end; in a numbered state no wish goes back; and the power stays, or none of these is Active
 pub record IsEnding (s : State) (change : Job → Job) (started : List Sbs) (power : Power) : Type 0 where
   pub jobs : IsWishing change
   pub subsystems : AreEnded s.started started
+  pub onward : IsNumbered s → (j : Job) → IsIn j s.jobs → IsWishOn j.wish (change j).wish
   pub quiet : (power ≡ s.power) ⊎ ((b : Sbs) → IsIn b started → is_sbs_active b.phase ≡ false)
 
 -- the state in which they do
@@ -216,6 +219,98 @@ wishing_at clock started =
     (wishing_twice (told_now (λ b. is_sbs_now b.phase) started) (with_deadline clock) (telling_now (λ b. is_sbs_now b.phase) started) (looking clock))
     ending_starting
 
+-- no such change takes a wish back
+pub on_same : (w v : Wish) → v ≡ w → IsWishOn w v
+on_same w v e = record {
+  rank = (let same : wish_rank v ≡ wish_rank w = ap wish_rank e in omega arith);
+  cause = λ c h. ap now_cause e ∙ h;
+}
+
+pub on_still : (u w v : Wish) → IsWishOn u w → IsWishOn w v → IsWishOn u v
+on_still u w v h k = record {
+  rank = (
+      let a = h.rank in
+      let b = k.rank in
+      omega arith);
+  cause = λ c e. k.cause c (h.cause c e);
+}
+
+-- a wish that isn't to end now becomes one that is
+on_now : (w : Wish) (y : Why) → is_now w ≡ false → IsWishOn w (wish.Now y false)
+on_now wish.NoWish y n = record { rank = omega arith; cause = λ c e. absurd (cc) }
+on_now (wish.Later until why) y n = record { rank = omega arith; cause = λ c e. absurd (cc) }
+on_now (wish.Now why handed) y n = absurd (cc)
+
+-- and where there is none, any may come
+on_later : (w : Wish) (until : Option ℕ) (y : Why) → has_wish w ≡ false → IsWishOn w (wish.Later until y)
+on_later wish.NoWish until y n = record { rank = omega arith; cause = λ c e. absurd (cc) }
+on_later (wish.Later until why) u y n = absurd (cc)
+on_later (wish.Now why handed) u y n = absurd (cc)
+
+on_handed : (w : Wish) → IsWishOn w (handed_wish w)
+on_handed wish.NoWish = on_same wish.NoWish wish.NoWish refl
+on_handed (wish.Later until why) = on_same (wish.Later until why) (wish.Later until why) refl
+on_handed (wish.Now why true) = on_same (wish.Now why true) (wish.Now why true) refl
+on_handed (wish.Now why false) = record { rank = omega arith; cause = λ c e. e }
+
+on_kill : (j : Job) (b : Bool) → IsWishOn j.wish (cond b (with_kill j) j).wish
+on_kill j true = on_handed j.wish
+on_kill j false = on_same j.wish j.wish refl
+
+of_false : (b : Bool) → not b ≡ true → b ≡ false
+of_false true e = absurd (cc)
+of_false false e = refl
+
+on_told_now : (test : Sbs → Bool) (started : List Sbs) (j : Job) (b : Bool) → is_to_end test started j ≡ b → IsWishOn j.wish (cond b (with_wish (wish.Now why.Endsbs false) j) j).wish
+on_told_now test started j true e =
+    on_now j.wish why.Endsbs (of_false (is_now j.wish) (of_both (is_active j.phase) (not (is_now j.wish)) (of_both (is_active j.phase && not (is_now j.wish)) (is_in_any test started j.how) e).0).1)
+on_told_now test started j false e = on_same j.wish j.wish refl
+
+on_told_later : (test : Sbs → Bool) (started : List Sbs) (j : Job) (b : Bool) → is_left_to_use test started j ≡ b → IsWishOn j.wish (cond b (with_wish (wish.Later None why.Endsbs) j) j).wish
+on_told_later test started j true e =
+    on_later j.wish None why.Endsbs (of_false (has_wish j.wish) (of_both (is_active j.phase && is_prestart j.kind) (not (has_wish j.wish)) (of_both (is_active j.phase && is_prestart j.kind && not (has_wish j.wish)) (is_in_any test started j.how) e).0).1)
+on_told_later test started j false e = on_same j.wish j.wish refl
+
+on_told : (option : EndOption) (test : Sbs → Bool) (started : List Sbs) (j : Job) → IsWishOn j.wish (told option test started j).wish
+on_told Cntrld test started j = on_told_later test started j (is_left_to_use test started j) refl
+on_told Immed test started j = on_told_now test started j (is_to_end test started j) refl
+
+on_come : (until : Option ℕ) (y : Why) (b : Bool) → IsWishOn (wish.Later until y) (cond b (wish.Now y false) (wish.Later until y))
+on_come until y true = on_now (wish.Later until y) y refl
+on_come until y false = on_same (wish.Later until y) (wish.Later until y) refl
+
+on_looked : (clock : ℕ) (j : Job) (w : Wish) → IsWishOn w (wish_at clock j w)
+on_looked clock j wish.NoWish = on_same wish.NoWish wish.NoWish refl
+on_looked clock j (wish.Later until why) = on_come until why (is_due clock j until)
+on_looked clock j (wish.Now why handed) = on_same (wish.Now why handed) (wish.Now why handed) refl
+
+on_deadline : (clock : ℕ) (j : Job) (b : Bool) → IsWishOn j.wish (cond b (with_wish (deadline clock j) j) j).wish
+on_deadline clock j true = on_looked clock j j.wish
+on_deadline clock j false = on_same j.wish j.wish refl
+
+on_at : (clock : ℕ) (started : List Sbs) (j : Job) → IsWishOn j.wish (job_at clock started j).wish
+on_at clock started j =
+    let first = told_now (λ b. is_sbs_now b.phase) started j in
+    let second = with_deadline clock first in
+    let third = unless_started second in
+    on_still j.wish second.wish third.wish
+    (on_still j.wish first.wish second.wish (on_told_now (λ b. is_sbs_now b.phase) started j (is_to_end (λ b. is_sbs_now b.phase) started j) refl) (on_deadline clock first (is_active first.phase)))
+    (on_same second.wish third.wish (unstarted_wish (is_starting second.phase) (now_cause second.wish) second))
+
+on_option : (clock : ℕ) (option : EndOption) (delay : ℕ) (w : Wish) → is_wished option w ≡ false → IsWishOn w (job_wish clock option delay)
+on_option clock Cntrld delay w e = on_later w (Some (moment_after clock delay)) why.Endjob e
+on_option clock Immed delay w e = on_now w why.Endjob e
+
+on_job_by : (s : State) (j : Job) (option : EndOption) (delay : ℕ) → IsIn j s.jobs → is_wished option j.wish ≡ false → IsNumbered s → (i : Job) (b : Bool) → (is_active i.phase && i.serial == j.serial) ≡ b → IsIn i s.jobs → IsWishOn i.wish (cond b (with_wish (job_wish s.clock option delay) i) i).wish
+on_job_by s j option delay m e n i true f k =
+    let serial = same_number i.serial j.serial (of_both (is_active i.phase) (i.serial == j.serial) f).1 in
+    let same : i ≡ j = one_by_key (λ (x : Job). x.serial) s.jobs n.serials.distinct i j k m serial in
+    on_option s.clock option delay i.wish (ap (λ (x : Job). is_wished option x.wish) same ∙ e)
+on_job_by s j option delay m e n i false f k = on_same i.wish i.wish refl
+
+on_job : (s : State) (j : Job) (option : EndOption) (delay : ℕ) → IsIn j s.jobs → is_wished option j.wish ≡ false → IsNumbered s → (i : Job) → IsIn i s.jobs → IsWishOn i.wish (active_at j.serial (with_wish (job_wish s.clock option delay)) i).wish
+on_job s j option delay m e n i k = on_job_by s j option delay m e n i (is_active i.phase && i.serial == j.serial) refl k
+
 -- no subsystem changes
 pub none_ended : (bs : List Sbs) → AreEnded bs bs
 none_ended bs = record {
@@ -256,7 +351,7 @@ ended_at s = ended_each (sbs_at s.clock) (λ b. record { named = refl; active = 
 
 -- settling's first part ends what is due
 pub coming_due : (s : State) → IsEnding s (job_at s.clock (sbss_at s)) (sbss_at s) s.power
-coming_due s = record { jobs = wishing_at s.clock (sbss_at s); subsystems = ended_at s; quiet = inl refl }
+coming_due s = record { jobs = wishing_at s.clock (sbss_at s); onward = λ n j i. on_at s.clock (sbss_at s) j; subsystems = ended_at s; quiet = inl refl }
 
 end_active : (clock : ℕ) (option : EndOption) (delay : Option ℕ) → is_sbs_active (end_phase clock option delay) ≡ false
 end_active clock Cntrld delay = refl
@@ -346,21 +441,22 @@ stood_starting change h jobs k i p =
     }
 
 -- what ENDJOB on an active job does
-pub job_ends : (s : State) (serial : ℕ) (option : EndOption) (delay : ℕ) → IsEnding s (active_at serial (with_wish (job_wish s.clock option delay))) s.started s.power
-job_ends s serial option delay = record { jobs = wishing_job serial s.clock option delay; subsystems = none_ended s.started; quiet = inl refl }
+pub job_ends : (s : State) (j : Job) (option : EndOption) (delay : ℕ) → IsIn j s.jobs → is_wished option j.wish ≡ false → IsEnding s (active_at j.serial (with_wish (job_wish s.clock option delay))) s.started s.power
+job_ends s j option delay i e = record { jobs = wishing_job j.serial s.clock option delay; onward = on_job s j option delay i e; subsystems = none_ended s.started; quiet = inl refl }
 
 -- what a kill that is handed does
 pub kill_ends : (s : State) (serial : ℕ) → IsEnding s (active_at serial with_kill) s.started s.power
-kill_ends s serial = record { jobs = wishing_kill serial; subsystems = none_ended s.started; quiet = inl refl }
+kill_ends s serial = record { jobs = wishing_kill serial; onward = λ n j i. on_kill j (is_active j.phase && j.serial == serial); subsystems = none_ended s.started; quiet = inl refl }
 
 -- what ENDSBS does
 pub those_end : (s : State) (option : EndOption) (delay : Option ℕ) (test : Sbs → Bool) → IsEnding s (told option test s.started) (map (phased test (end_phase s.clock option delay)) s.started) s.power
-those_end s option delay test = record { jobs = telling option test s.started; subsystems = ended_by_option test s.clock option delay s.started; quiet = inl refl }
+those_end s option delay test = record { jobs = telling option test s.started; onward = λ n j i. on_told option test s.started j; subsystems = ended_by_option test s.clock option delay s.started; quiet = inl refl }
 
 -- what PWRDWNSYS does
 pub all_end : (s : State) (option : EndOption) (delay : Option ℕ) (power : Power) → IsEnding s (told option (λ b. not (is_ended option b.phase)) s.started) (map (phased (λ b. not (is_ended option b.phase)) (end_phase s.clock option delay)) s.started) power
 all_end s option delay power = record {
   jobs = telling option (λ b. not (is_ended option b.phase)) s.started;
+  onward = λ n j i. on_told option (λ b. not (is_ended option b.phase)) s.started j;
   subsystems = ended_by_option (λ b. not (is_ended option b.phase)) s.clock option delay s.started;
   quiet = inr (none_stays_active option s.clock delay s.started);
 }

@@ -1,4 +1,4 @@
--- No step loses a job or takes its phase back.
+-- No step loses a job, or takes its phase or its wish back.
 use Rattle.std.proofs.Common.{◌≡◌, ◌⊎◌, ℕ, ◌≤◌, ◌==◌, Bool, true, false, cond, List, [], ◌∷◌, map, Option, Some, None, refl, sym, ap, subst, ◌∙◌, inl, inr, arith}
 use Rattle.std.specs.List.{find}
 use Rattle.wm_base.specs.Iterate.{IsKept}
@@ -12,7 +12,7 @@ use Rattle.wm_law.specs.declared.state.State.{State}
 use Rattle.wm_law.specs.Autos.{auto_job, auto_launched, auto_made}
 use Rattle.wm_law.specs.Choice.{next}
 use Rattle.wm_law.specs.Counts.{is_waiting}
-use Rattle.wm_law.specs.Kept.{IsDistinct, IsNumbered, phase_rank, IsLater, GoesOn, StepGoesOn}
+use Rattle.wm_law.specs.Kept.{IsDistinct, IsNumbered, phase_rank, IsLater, IsWishOn, GoesOn, StepGoesOn}
 use Rattle.wm_law.specs.Jobs.{changed_at, with_job}
 use Rattle.wm_law.specs.Launch.{as_launched, launch, launch_job, launched}
 use Rattle.wm_law.specs.Laws.{IsIn}
@@ -21,7 +21,7 @@ use Rattle.wm_law.specs.Reports.{in_phase, with_phase}
 use Rattle.wm_law.specs.Settling.{come_due, settle, leave, waiting}
 use Rattle.wm_law.specs.Machine.{apply, step, with_clock}
 use Rattle.wm_law.proofs.Alterations.{IsAltered}
-use Rattle.wm_law.proofs.Endings.{IsPhaseAfter, IsWishing, key_same}
+use Rattle.wm_law.proofs.Endings.{IsPhaseAfter, IsWishing, key_same, on_same, on_still}
 use Rattle.wm_law.proofs.Members.{in_longer, in_mapped}
 use Rattle.wm_law.proofs.Moves.{HoldsOfStates, call_keeps, comes_due}
 use Rattle.wm_law.proofs.Numbers.{launches_keep, apply_keeps, clock_keeps, ready_keeps}
@@ -29,13 +29,13 @@ use Rattle.wm_law.proofs.Firsts.{next_waits}
 use Rattle.wm_law.proofs.Tests.{same_number}
 
 pub no_less : (j : Job) → IsLater j j
-no_less j = record { serial = refl; job = refl; phase = omega arith }
+no_less j = record { serial = refl; job = refl; phase = omega arith; wish = on_same j.wish j.wish refl }
 
 stays : (s : State) → GoesOn s s
 stays s j i = (j, i, no_less j)
 
 later_still : (i j k : Job) → IsLater i j → IsLater j k → IsLater i k
-later_still i j k h l = record { serial = l.serial ∙ h.serial; job = l.job ∙ h.job; phase = let a = h.phase in let b = l.phase in omega arith }
+later_still i j k h l = record { serial = l.serial ∙ h.serial; job = l.job ∙ h.job; phase = let a = h.phase in let b = l.phase in omega arith; wish = on_still i.wish j.wish k.wish h.wish l.wish }
 
 pub goes_on_still : (s t u : State) → GoesOn s t → GoesOn t u → GoesOn s u
 goes_on_still s t u h l i m =
@@ -61,7 +61,7 @@ job_goes_on s serial change i n m e h j k =
     (changed_at serial change j, in_mapped (changed_at serial change) s.jobs j k, later_at change serial i j (j.serial == serial) refl (λ f. only_one s.jobs n.serials.distinct i j m k (e ∙ sym f)) h)
 
 phase_goes_on : (s : State) (serial : ℕ) (phase : Phase) (i : Job) → IsNumbered s → IsIn i s.jobs → i.serial ≡ serial → phase_rank i.phase ≤ phase_rank phase → GoesOn s (with_phase s serial phase)
-phase_goes_on s serial phase i n m e h = job_goes_on s serial (in_phase phase) i n m e (record { serial = refl; job = refl; phase = h })
+phase_goes_on s serial phase i n m e h = job_goes_on s serial (in_phase phase) i n m e (record { serial = refl; job = refl; phase = h; wish = on_same i.wish i.wish refl })
 
 waiting_least : (p : Phase) (n : ℕ) → is_waiting p ≡ true → phase_rank p ≤ n
 waiting_least Waiting n h = omega arith
@@ -74,7 +74,7 @@ launch_goes_on : (s : State) (c : Candidate) (i : Job) (o : Option Job) → IsNu
 launch_goes_on s c i None n m e w = stays s
 launch_goes_on s c i (Some f) n m e w =
     let l = launched s c.sbs c.jobq f in
-    job_goes_on s c.serial (as_launched l) i n m e (record { serial = refl; job = refl; phase = waiting_least i.phase (phase_rank l.phase) w })
+    job_goes_on s c.serial (as_launched l) i n m e (record { serial = refl; job = refl; phase = waiting_least i.phase (phase_rank l.phase) w; wish = on_same i.wish i.wish refl })
 
 -- numbered, and gone on from a state
 record IsOn (s t : State) : Type 0 where
@@ -93,7 +93,7 @@ launches_go_on s = record {
 
 later_altered : (s : State) (j k : Job) → (k ≡ j) ⊎ IsAltered s j k → IsLater j k
 later_altered s j k (inl e) = subst (IsLater j) (sym e) (no_less j)
-later_altered s j k (inr a) = record { serial = a.serial; job = a.job; phase = waiting_least j.phase (phase_rank k.phase) a.waits }
+later_altered s j k (inr a) = record { serial = a.serial; job = a.job; phase = waiting_least j.phase (phase_rank k.phase) a.waits; wish = on_same j.wish k.wish a.wish }
 
 rank_after : (p q : Phase) → IsPhaseAfter p q → phase_rank p ≤ phase_rank q
 rank_after p q (inl e) =
@@ -105,14 +105,15 @@ rank_after p q (inr e) =
     omega arith
 
 -- a job whose wish changes goes on
-later_wished : (change : Job → Job) → IsWishing change → (j : Job) → IsLater j (change j)
-later_wished change h j = record {
+later_wished : (change : Job → Job) → IsWishing change → (j : Job) → IsWishOn j.wish (change j).wish → IsLater j (change j)
+later_wished change h j on = record {
   serial = key_same change h (λ (x : Job). x.serial) (λ x p w. refl) j;
   job = key_same change h (λ (x : Job). x.job) (λ x p w. refl) j;
   phase = rank_after j.phase (change j).phase (h.phase j);
+  wish = on;
 }
 
--- no call loses a job or takes its phase back
+-- no call loses a job, or takes its phase or its wish back
 calls : (s : State) → IsNumbered s → HoldsOfStates (GoesOn s) s
 calls s n = record {
   stays = stays s;
@@ -122,7 +123,7 @@ calls s n = record {
   alters = λ change place a j i. (change j, in_mapped change s.jobs j i, later_altered s j (change j) (a.each j));
   holds = λ held a j i. (j, i, no_less j);
   moves = λ serial j phase i e r k. phase_goes_on s serial phase j n i e r.on;
-  ends = λ change started evokes power e j i. (change j, in_mapped change s.jobs j i, later_wished change e.jobs j);
+  ends = λ change started evokes power e j i. (change j, in_mapped change s.jobs j i, later_wished change e.jobs j (e.onward n j i));
   makes = λ o c j i. (j, i, no_less j);
 }
 

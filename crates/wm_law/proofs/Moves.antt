@@ -1,5 +1,5 @@
 -- What a call can come to, and what a step can do to a state. Here alone the calls are gone over, one by one.
-use Rattle.std.proofs.Common.{◌≡◌, ℕ, ◌<◌, ◌≤◌, ◌-◌, ◌+◌, ◌==◌, not, Bool, true, false, cond, List, [], ◌∷◌, length, fold, Option, Some, None, is_some, nat_le, nat_lt, min, refl, inl, inr, arith}
+use Rattle.std.proofs.Common.{◌≡◌, ℕ, ◌<◌, ◌≤◌, ◌-◌, ◌+◌, ◌==◌, not, Bool, true, false, cond, List, [], ◌∷◌, length, fold, Option, Some, None, is_some, nat_le, nat_lt, min, refl, inl, inr, arith, filter, sym}
 use Rattle.std.specs.List.{count_by, find}
 use Rattle.std.specs.Prelude.{Result, Ok, Err}
 use Rattle.std.specs.Option.{IsSome}
@@ -55,7 +55,7 @@ use Rattle.wm_law.specs.Settling.{come_due, job_at, leave, sbss_at, waiting}
 use Rattle.wm_law.specs.Stepped.{Stepped, refused}
 use Rattle.wm_law.specs.Submitting.{submit_due, submit_with, submitted_job, entered, has_numbers, job_name, numbers_end, numbers_left, queue_of, serials_end}
 use Rattle.wm_law.specs.Schedules.{rescheduled, scheduled}
-use Rattle.wm_law.specs.Named.{job_named, waiting_named}
+use Rattle.wm_law.specs.Named.{is_named, job_named, only_one, waiting_named}
 use Rattle.wm_law.specs.Holding.{hold_found, release_found, with_held}
 use Rattle.wm_law.specs.Changing.{change_due, change_found, has_queue, moved_to, stays, with_due}
 use Rattle.wm_law.specs.Queues.{clear_queue, cleared_from, hold_queue, own_name, release_queue, waits_on}
@@ -65,7 +65,7 @@ use Rattle.wm_law.specs.Choice.{is_held, next}
 use Rattle.wm_law.proofs.Alterations.{IsAlteration, IsHolding, IsPlain, altered, clearing_alters, due_alters, ending_alters, holding_alters, moving_alters, plain_changed, plain_cleared, plain_held, plain_job_ended, plain_job_ending, plain_power_down, plain_sbs_ending, plain_queue_held, plain_queue_released, plain_released}
 use Rattle.wm_law.proofs.Endings.{IsEnding, all_end, coming_due, job_ends, kill_ends, those_end, wished}
 use Rattle.wm_law.specs.Subsystems.{begun, is_started, max_started, start_refusal, start_unless}
-use Rattle.wm_law.proofs.Members.{found_among, last_in}
+use Rattle.wm_law.proofs.Members.{found_among, last_in, left_in}
 use Rattle.wm_law.proofs.Objects.{IsObjectChange, class_made, queue_made, program_made, job_description_made, description_made, queue_added, route_added, auto_added, queue_removed, route_removed, auto_removed}
 use Rattle.wm_law.proofs.Tests.{of_not, same_number, unrefused}
 
@@ -102,6 +102,11 @@ startable s q e =
       room = room.0;
       numbers = numbers.0;
     }
+
+the_one : (jobs : List Job) (j : Job) → only_one jobs ≡ Ok j → IsIn j jobs
+the_one [] j e = absurd (cc)
+the_one (k ∷ []) j e = let same : k ≡ j = cc in inl (sym same)
+the_one (k ∷ i ∷ jobs) j e = absurd (cc)
 
 -- P holds of whatever the call can come to: of its reply, and of the state before it settles
 pub record HoldsAfterCalls (P : Stepped → Type 0) (s : State) (call : Call) : Type 0 where
@@ -177,21 +182,21 @@ module _ (P : Stepped → Type 0) (s : State) (call : Call) (h : HoldsAfterCalls
   made objects None e = h.makes objects (e refl)
   made objects (Some x) e = h.refuses x
 
-  active_ended : (c : Endjob) (j : Job) → P (end_active s c j)
-  active_ended c j =
+  active_ended : (c : Endjob) (j : Job) → IsIn j s.jobs → P (end_active s c j)
+  active_ended c j i =
       either (is_wished c.option j.wish) _ _ (λ t. h.refuses AlreadyEnding)
-      (λ t. h.ends (JobEnding j.job) (active_at j.serial (with_wish (job_wish s.clock c.option c.delay))) s.started s.evokes s.power (plain_job_ending j.job) (job_ends s j.serial c.option c.delay))
+      (λ t. h.ends (JobEnding j.job) (active_at j.serial (with_wish (job_wish s.clock c.option c.delay))) s.started s.evokes s.power (plain_job_ending j.job) (job_ends s j c.option c.delay i t))
 
-  ended_in_phase : (c : Endjob) (j : Job) (p : Phase) → P (end_in_phase s c j p)
-  ended_in_phase c j Waiting = h.alters (JobEnded j.job) (waiting_at j.serial (in_phase (Ended cause.EndedOnQueue))) s.next_place (plain_job_ended j.job) (ending_alters s j.serial)
-  ended_in_phase c j Starting = active_ended c j
-  ended_in_phase c j (Handed m) = active_ended c j
-  ended_in_phase c j (Running m) = active_ended c j
-  ended_in_phase c j (Ended end) = h.refuses (WrongPhase word.Ended)
+  ended_in_phase : (c : Endjob) (j : Job) (p : Phase) → IsIn j s.jobs → P (end_in_phase s c j p)
+  ended_in_phase c j Waiting i = h.alters (JobEnded j.job) (waiting_at j.serial (in_phase (Ended cause.EndedOnQueue))) s.next_place (plain_job_ended j.job) (ending_alters s j.serial)
+  ended_in_phase c j Starting i = active_ended c j i
+  ended_in_phase c j (Handed m) i = active_ended c j i
+  ended_in_phase c j (Running m) i = active_ended c j i
+  ended_in_phase c j (Ended end) i = h.refuses (WrongPhase word.Ended)
 
-  job_ended : (c : Endjob) (r : Result Job Refusal) → P (end_found s c r)
-  job_ended c (Err x) = h.refuses x
-  job_ended c (Ok j) = ended_in_phase c j j.phase
+  job_ended : (c : Endjob) (r : Result Job Refusal) → job_named s c.job ≡ r → P (end_found s c r)
+  job_ended c (Err x) e = h.refuses x
+  job_ended c (Ok j) e = ended_in_phase c j j.phase (left_in (is_named c.job) s.jobs j (the_one (filter (is_named c.job) s.jobs) j e))
 
   sbs_ended : (c : Endsbs) (o : Option Sbs) → P (end_started s c o)
   sbs_ended c None = h.refuses SbsNotActive
@@ -278,7 +283,7 @@ changed P s user (command.Sbmjob c) h = either P s _ h (is_on s.power) _ _ (λ t
 changed P s user (command.Hldjob c) h = held_found P s _ h (waiting_named s c.job)
 changed P s user (command.Rlsjob c) h = released_found P s _ h (waiting_named s c.job)
 changed P s user (command.Chgjob c) h = changed_found P s _ h c (waiting_named s c.job)
-changed P s user (command.Endjob c) h = job_ended P s _ h c (job_named s c.job)
+changed P s user (command.Endjob c) h = job_ended P s _ h c (job_named s c.job) refl
 changed P s user (command.Hldjobq c) h = queue_held P s _ h c.jobq
 changed P s user (command.Rlsjobq c) h = queue_released P s _ h c.jobq
 changed P s user (command.Clrjobq c) h = queue_cleared P s _ h c.jobq
