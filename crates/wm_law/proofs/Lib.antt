@@ -20,6 +20,7 @@ pub mod Firsts
 pub mod Waits
 pub mod Numbers
 pub mod Forward
+pub mod Once
 pub mod Starts
 pub mod Lodged
 pub mod Remade

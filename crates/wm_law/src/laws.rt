@@ -1,6 +1,6 @@
 // Laws of the machine: what its definitions come to, each for all states. They are no calls.
 ghost use Rattle.wm_law.specs.Laws.{FirstIsLeast, NoFirstIsNone, NextIsFirst, NoNextIsNone, RouteIsLeast, NoRouteIsNone, SettledHasNoNext, SettledLeavesNone, RefusalLeaves, RefusedStepSettles, BuiltCallsAreAnswered, BuiltIsHad};
-ghost use Rattle.wm_law.specs.Kept.{OpeningIsNumbered, StepKeepsNumbers, NumbersAreGivenOnce, StepGoesOn, SerialsStartOnce, OpeningHasOrders, StepKeepsOrders, StartingJobsHaveOrders, HandGivesAnOrder, ReachedRouteIsLeast, OpeningHasDescriptions, StepKeepsDescriptions, StartedAreDescribed, OpeningIsQuiet, StepKeepsQuiet, NoneIsActiveWithoutPower, OpeningHasDistinctNames, StepKeepsNamesDistinct, StartedNamesAreDistinct, StartsInOrder};
+ghost use Rattle.wm_law.specs.Kept.{OpeningIsNumbered, StepKeepsNumbers, NumbersAreGivenOnce, StepGoesOn, SerialsStartOnce, SerialsAreKilledOnce, OpeningHasOrders, StepKeepsOrders, StartingJobsHaveOrders, HandGivesAnOrder, ReachedRouteIsLeast, OpeningHasDescriptions, StepKeepsDescriptions, StartedAreDescribed, OpeningIsQuiet, StepKeepsQuiet, NoneIsActiveWithoutPower, OpeningHasDistinctNames, StepKeepsNamesDistinct, StartedNamesAreDistinct, StartsInOrder};
 ghost use Rattle.wm_law.specs.Sound.{AutostartJobsNeverWait, OpeningIsSound, StepKeepsSound, StatesAreSound, StepKeepsLimits, LimitsAreKept, StepKeepsOrder, OrderIsKept};
 
 /// The first job of a subsystem may start there, and no other job that may start there stands before
@@ -61,7 +61,14 @@ pub fn serials_start_once()
     ensures { SerialsStartOnce }
 {}
 
-/// Each Starting job has its order, so Hand answers Nothing exactly where no job is Starting.
+/// From a numbered state a legal history orders each serial to be killed at most once, whichever monitors ask.
+#[tactic(auto, using(crate::proofs::Starts::serials_are_killed_once))]
+pub fn serials_are_killed_once()
+    ensures { SerialsAreKilledOnce }
+{}
+
+/// Each Starting job has its order, so Hand answers Nothing exactly where no job is Starting and no kill
+/// is to be handed to its monitor.
 pub fn starting_jobs_have_orders()
     ensures opening { OpeningHasOrders }
     ensures step { StepKeepsOrders }

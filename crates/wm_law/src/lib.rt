@@ -36,8 +36,8 @@ pub use laws::{
     autostart_jobs_never_wait, built_calls_are_answered, built_commands_are_had,
     first_job_is_least, jobs_are_launched_in_order, jobs_go_forward, jobs_start_in_order,
     next_job_is_first, no_start_passes_a_limit, none_is_active_without_power,
-    numbers_are_given_once, refusals_leave_the_state, routes_are_least, serials_start_once,
-    settling_leaves_none, started_are_described, started_names_are_distinct,
+    numbers_are_given_once, refusals_leave_the_state, routes_are_least, serials_are_killed_once,
+    serials_start_once, settling_leaves_none, started_are_described, started_names_are_distinct,
     starting_jobs_have_orders, states_are_sound,
 };
 pub use list::ListOf;
