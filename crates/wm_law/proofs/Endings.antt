@@ -36,12 +36,13 @@ use Rattle.wm_law.proofs.Tests.{of_both, same_number}
 abbrev pub IsPhaseAfter : Phase → Phase → Type 0
 IsPhaseAfter p q = (q ≡ p) ⊎ ((p ≡ Starting) × ((w : Why) × (q ≡ Ended (why_cause w))))
 
--- a change of phase and wish alone: a job that isn't active stays as it was, one that is Starting may end, and a wish's moment is in its range
+-- a change of phase and wish alone: a job that isn't active stays as it was, one that is Starting may end, and does so by its wish, and a wish's moment is in its range
 pub record IsWishing (change : Job → Job) : Type 0 where
   pub same : (j : Job) → change j ≡ record j { phase = (change j).phase; wish = (change j).wish }
   pub phase : (j : Job) → IsPhaseAfter j.phase (change j).phase
   pub idle : (j : Job) → is_active j.phase ≡ false → change j ≡ j
   pub moment : (j : Job) → IsMoment (wish_moment j.wish) → IsMoment (wish_moment (change j).wish)
+  pub why : (j : Job) (d : EndCause) → is_active j.phase ≡ true → (change j).phase ≡ Ended d → now_cause (change j).wish ≡ Some d
 
 -- a subsystem as another one was, which is Active only if that one was, and whose moment is in its range
 pub record IsEnded (a b : Sbs) : Type 0 where
@@ -71,6 +72,11 @@ none_active p n e =
     let yes : is_active p ≡ true = ap is_active e in
     absurd (cc)
 
+unended : (p : Phase) (d : EndCause) → is_active p ≡ true → p ≡ Ended d → ⊥
+unended p d a e =
+    let no : is_active p ≡ false = ap is_active e in
+    absurd (cc)
+
 -- a wish that is given to active jobs which pass a test
 module _ (test : Job → Bool) (give : Job → Wish) (active : (j : Job) → test j ≡ true → is_active j.phase ≡ true) (moment : (j : Job) → IsMoment (wish_moment j.wish) → IsMoment (wish_moment (give j))) where
   abbrev given : Job → Job
@@ -98,6 +104,7 @@ module _ (test : Job → Bool) (give : Job → Wish) (active : (j : Job) → tes
     phase = λ j. inl (given_phase (test j) (give j) j);
     idle = λ j n. given_idle (test j) (give j) j refl n;
     moment = λ j h. given_moment (test j) j h;
+    why = λ j d a e. absurd (unended j.phase d a (sym (given_phase (test j) (give j) j) ∙ e));
   }
 
 -- one change behind another
@@ -109,12 +116,19 @@ phase_twice p q r (inr e) (inr f) =
     let no : is_starting (Ended (why_cause e.1.0)) ≡ true = ap is_starting (sym e.1.1 ∙ f.0) in
     absurd (cc)
 
+why_twice : (f g : Job → Job) → IsWishing f → IsWishing g → (j : Job) (d : EndCause) (b : Bool) → is_active (f j).phase ≡ b → is_active j.phase ≡ true → (g (f j)).phase ≡ Ended d → now_cause (g (f j)).wish ≡ Some d
+why_twice f g h k j d true n a e = k.why (f j) d n e
+why_twice f g h k j d false n a e =
+    let same = k.idle (f j) n in
+    ap (λ (x : Job). now_cause x.wish) same ∙ h.why j d a (ap (λ (x : Job). x.phase) (sym same) ∙ e)
+
 wishing_twice : (f g : Job → Job) → IsWishing f → IsWishing g → IsWishing (λ j. g (f j))
 wishing_twice f g h k = record {
   same = λ j. k.same (f j) ∙ ap (λ (x : Job). record x { phase = (g (f j)).phase; wish = (g (f j)).wish }) (h.same j);
   phase = λ j. phase_twice j.phase (f j).phase (g (f j)).phase (h.phase j) (k.phase (f j));
   idle = λ j n. k.idle (f j) (ap (λ (x : Job). is_active x.phase) (h.idle j n) ∙ n) ∙ h.idle j n;
   moment = λ j m. k.moment (f j) (h.moment j m);
+  why = λ j d a e. why_twice f g h k j d (is_active (f j).phase) refl a e;
 }
 
 -- a job that is told to end with its subsystem
@@ -203,6 +217,14 @@ unstarted_idle : (b : Bool) (j : Job) → is_starting j.phase ≡ b → is_activ
 unstarted_idle true j e n = absurd (none_active j.phase n (starting_phase j.phase e))
 unstarted_idle false j e n = refl
 
+ended_why : (o : Option EndCause) (j : Job) (d : EndCause) → is_active j.phase ≡ true → (ended_by o j).phase ≡ Ended d → o ≡ Some d
+ended_why None j d a e = absurd (unended j.phase d a e)
+ended_why (Some c) j d a e = cc
+
+unstarted_why : (b : Bool) (j : Job) (d : EndCause) → is_active j.phase ≡ true → (cond b (ended_by (now_cause j.wish) j) j).phase ≡ Ended d → now_cause j.wish ≡ Some d
+unstarted_why true j d a e = ended_why (now_cause j.wish) j d a e
+unstarted_why false j d a e = absurd (unended j.phase d a e)
+
 -- a Starting job that a Now wish ends
 pub ending_starting : IsWishing unless_started
 ending_starting = record {
@@ -210,6 +232,7 @@ ending_starting = record {
   phase = λ j. unstarted_phase (is_starting j.phase) j refl;
   idle = λ j n. unstarted_idle (is_starting j.phase) j refl n;
   moment = λ j h. subst (λ (w : Wish). IsMoment (wish_moment w)) (sym (unstarted_wish (is_starting j.phase) (now_cause j.wish) j)) h;
+  why = λ j d a e. ap now_cause (unstarted_wish (is_starting j.phase) (now_cause j.wish) j) ∙ unstarted_why (is_starting j.phase) j d a e;
 }
 
 -- settling's first part for a job

@@ -1,12 +1,15 @@
 -- What a call can come to, and what a step can do to a state. Here alone the calls are gone over, one by one.
-use Rattle.std.proofs.Common.{◌≡◌, ℕ, ◌<◌, ◌≤◌, ◌-◌, ◌+◌, ◌==◌, not, Bool, true, false, cond, List, [], ◌∷◌, length, fold, Option, Some, None, is_some, nat_le, nat_lt, min, refl, inl, inr, arith, filter, sym}
+use Rattle.std.proofs.Common.{◌≡◌, ℕ, ◌<◌, ◌≤◌, ◌-◌, ◌+◌, ◌==◌, not, Bool, true, false, cond, List, [], ◌∷◌, length, fold, Option, Some, None, is_some, nat_le, nat_lt, min, refl, inl, inr, arith, filter, sym, ◌⊎◌, ◌∙◌, ap, unwrap_or}
 use Rattle.std.specs.List.{count_by, find}
 use Rattle.std.specs.Prelude.{Result, Ok, Err}
 use Rattle.std.specs.Option.{IsSome}
 use Rattle.std.proofs.lemmas.Bool.Decides.{nat_tests}
 use Rattle.std.proofs.Math.Nat.{min-le_left, min-le_right}
 use Rattle.wm_base.specs.declared.job.Asked.TheVariants.{Start, Kill}
+use Rattle.wm_base.specs.declared.job.EndCause.{EndCause}
 use Rattle.wm_base.specs.declared.job.EndCause.TheVariants as cause
+use Rattle.wm_base.specs.declared.job.Exit.{Exit}
+use Rattle.wm_base.specs.declared.job.StartCause.{StartCause}
 use Rattle.wm_base.specs.declared.job.StartOrder.{StartOrder}
 use Rattle.wm_base.specs.declared.qname.QName.{QName}
 use Rattle.wm_base.specs.declared.refusal.Kind.TheVariants as kind
@@ -34,6 +37,7 @@ use Rattle.wm_law.specs.declared.command.Sbmjob.{Sbmjob}
 use Rattle.wm_law.specs.declared.job.Job.{Job}
 use Rattle.wm_law.specs.declared.job.Phase.{Phase}
 use Rattle.wm_law.specs.declared.job.Phase.TheVariants.{Waiting, Starting, Handed, Running, Ended}
+use Rattle.wm_law.specs.declared.job.Wish.{Wish}
 use Rattle.wm_law.specs.declared.state.Evoke.{Evoke}
 use Rattle.wm_law.specs.declared.state.Power.{Power}
 use Rattle.wm_law.specs.declared.state.Sbs.{Sbs}
@@ -43,14 +47,14 @@ use Rattle.wm_law.specs.Autos.{auto_described, auto_made, autos_of, make_auto}
 use Rattle.wm_law.specs.Counts.{is_starting, is_waiting}
 use Rattle.wm_law.specs.Fit.{HasCall}
 use Rattle.wm_law.specs.History.{after, is_hand, stepped}
-use Rattle.wm_law.specs.Kept.{phase_rank}
+use Rattle.wm_law.specs.Kept.{IsEndOn, is_start_fault, phase_rank}
 use Rattle.wm_law.specs.Launch.{order_of, launch}
 use Rattle.wm_law.specs.Laws.{IsIn}
 use Rattle.wm_law.specs.Machine.{apply, step, with_clock, change}
 use Rattle.wm_law.specs.Making.{made_unless}
 use Rattle.wm_law.specs.Endings.{down_by, end_active, end_found, end_in_phase, end_started, is_down, is_ended, is_wished, job_wish, started_named}
 use Rattle.wm_law.specs.Power.{is_on}
-use Rattle.wm_law.specs.Reports.{in_phase, with_phase, hand_job, hand_order, is_to_kill, report_on, start_job, is_handed_to, is_run_by, phase_word, done_with, end_cause, with_kill}
+use Rattle.wm_law.specs.Reports.{in_phase, with_phase, hand_job, hand_order, is_to_kill, report_on, start_job, is_handed_to, is_run_by, phase_word, done_with, end_cause, exit_cause, with_kill}
 use Rattle.wm_law.specs.Settling.{come_due, job_at, leave, sbss_at, waiting}
 use Rattle.wm_law.specs.Stepped.{Stepped, refused}
 use Rattle.wm_law.specs.Submitting.{submit_due, submit_with, submitted_job, entered, has_numbers, job_name, numbers_end, numbers_left, queue_of, serials_end}
@@ -60,7 +64,7 @@ use Rattle.wm_law.specs.Holding.{hold_found, release_found, with_held}
 use Rattle.wm_law.specs.Changing.{change_due, change_found, has_queue, moved_to, stays, with_due}
 use Rattle.wm_law.specs.Queues.{clear_queue, cleared_from, hold_queue, own_name, release_queue, waits_on}
 use Rattle.wm_law.specs.Jobs.{active_at, waiting_at, with_active}
-use Rattle.wm_law.specs.Wishes.{with_wish}
+use Rattle.wm_law.specs.Wishes.{now_cause, with_wish}
 use Rattle.wm_law.specs.Choice.{is_held, next}
 use Rattle.wm_law.proofs.Alterations.{IsAlteration, IsHolding, IsPlain, altered, clearing_alters, due_alters, ending_alters, holding_alters, moving_alters, plain_changed, plain_cleared, plain_held, plain_job_ended, plain_job_ending, plain_power_down, plain_sbs_ending, plain_queue_held, plain_queue_released, plain_released}
 use Rattle.wm_law.proofs.Endings.{IsEnding, all_end, coming_due, job_ends, kill_ends, those_end, wished}
@@ -73,6 +77,11 @@ use Rattle.wm_law.proofs.Tests.{of_not, same_number, unrefused}
 pub record IsOnward (p q : Phase) : Type 0 where
   pub past : is_waiting p ≡ false
   pub on : phase_rank p ≤ phase_rank q
+
+-- a report moves a job on, and ends one that is to end now by its wish or since it couldn't be started
+pub record IsMoved (j : Job) (q : Phase) : Type 0 where
+  pub onward : IsOnward j.phase q
+  pub end : IsEndOn j.phase j.wish q
 
 -- SBMJOB isn't refused: there is a due moment, numbers are left, and the job's queue is an object
 pub record IsAcceptable (s : State) (c : Sbmjob) (d : Jobd) (due : ℕ) : Type 0 where
@@ -114,7 +123,7 @@ pub record HoldsAfterCalls (P : Stepped → Type 0) (s : State) (call : Call) : 
   pub nothing : (HasCall s call → is_hand call ≡ false → ⊥) → P (record { reply = Nothing; state = s })
   pub notes : P (record { reply = Noted; state = s })
   pub hands : (m : ℕ) (j : Job) (o : StartOrder) → IsIn j s.jobs → is_starting j.phase ≡ true → order_of s j ≡ Some o → P (record { reply = Order (Start o); state = with_phase s j.serial (Handed m) })
-  pub reports : (serial : ℕ) (j : Job) (phase : Phase) → IsIn j s.jobs → j.serial ≡ serial → IsOnward j.phase phase → is_starting phase ≡ false → P (record { reply = Noted; state = with_phase s serial phase })
+  pub reports : (serial : ℕ) (j : Job) (phase : Phase) → IsIn j s.jobs → j.serial ≡ serial → IsMoved j phase → is_starting phase ≡ false → P (record { reply = Noted; state = with_phase s serial phase })
   pub starts : (q : QName) → IsStartable s q → P (start_unless s q None)
   pub enters : (user : List ℕ) (c : Sbmjob) (d : Jobd) (due : ℕ) → IsAcceptable s c d due → P (record { reply = Submitted (job_name s user c) (queue_of c d); state = entered s (submitted_job s user c d due) })
   pub alters : (reply : Reply) (change : Job → Job) (place : ℕ) → IsPlain reply → IsAlteration s change place → P (record { reply = reply; state = altered s change place })
@@ -216,7 +225,7 @@ module _ (P : Stepped → Type 0) (s : State) (call : Call) (h : HoldsAfterCalls
   handed m None none e = started m (find (λ j. is_starting j.phase) s.jobs) none refl
   handed m (Some j) none e = let f = found_among (is_to_kill m) s.jobs j e in h.kills m j f.0 f.1
 
-  reported : (serial : ℕ) (test : Phase → Bool) (phase : Job → Phase) (o : Option Job) → ((j : Job) → test j.phase ≡ true → IsOnward j.phase (phase j)) → ((j : Job) → is_starting (phase j) ≡ false) → find (λ j. j.serial == serial) s.jobs ≡ o → P (report_on s serial test phase o)
+  reported : (serial : ℕ) (test : Phase → Bool) (phase : Job → Phase) (o : Option Job) → ((j : Job) → test j.phase ≡ true → IsMoved j (phase j)) → ((j : Job) → is_starting (phase j) ≡ false) → find (λ j. j.serial == serial) s.jobs ≡ o → P (report_on s serial test phase o)
   reported serial test phase None ranks n e = h.refuses NoJob
   reported serial test phase (Some j) ranks n e =
       let f = found_among (λ (j : Job). j.serial == serial) s.jobs j e in
@@ -265,6 +274,26 @@ never_waits (Ended c) q r = let on = r.on in past_waiting q (omega arith)
 onward : (p q : Phase) (n : ℕ) → phase_rank p ≡ n → 0 < n → n ≤ phase_rank q → IsOnward p q
 onward p q n e more h = record { past = past_waiting p (omega arith); on = omega arith }
 
+-- a job that hasn't ended moves on
+moved_on : (j : Job) (q : Phase) (n : ℕ) → phase_rank j.phase ≡ n → 0 < n → n < 4 → n ≤ phase_rank q → ((c d : EndCause) → now_cause j.wish ≡ Some c → q ≡ Ended d → (d ≡ c) ⊎ (is_start_fault d ≡ true)) → IsMoved j q
+moved_on j q n e more less h k = record {
+  onward = onward j.phase q n e more h;
+  end = record {
+    kept = λ c f. (let rank : phase_rank j.phase ≡ 4 = ap phase_rank f in absurd (omega arith));
+    by_wish = λ c d a w f. k c d w f;
+  };
+}
+
+failed_end : (why : StartCause) (d : EndCause) → Ended (cause.StartFailed why) ≡ Ended d → is_start_fault d ≡ true
+failed_end why d e =
+    let same : cause.StartFailed why ≡ d = cc in
+    ap is_start_fault (sym same)
+
+finished_end : (end : Exit) (w : Wish) (c d : EndCause) → now_cause w ≡ Some c → Ended (end_cause end w) ≡ Ended d → d ≡ c
+finished_end end w c d k e =
+    let same : end_cause end w ≡ d = cc in
+    sym same ∙ ap (λ (o : Option EndCause). unwrap_or o (exit_cause end)) k
+
 changed : (P : Stepped → Type 0) (s : State) (user : List ℕ) (c : Command) → HoldsAfterCalls P s (Change user c) → P (change s user c)
 changed P s user (command.Crtcls c) h = made P s _ h _ _ (class_made s c)
 changed P s user (command.Crtjobq c) h = made P s _ h _ _ (queue_made s c)
@@ -296,9 +325,9 @@ changed P s user c h = h.nothing (λ b n. b)
 pub call_comes : (P : Stepped → Type 0) (s : State) (caller : ℕ) (call : Call) → HoldsAfterCalls P s call → P (apply s caller call)
 call_comes P s caller (Change user c) h = changed P s user c h
 call_comes P s caller Hand h = handed P s _ h caller (find (is_to_kill caller) s.jobs) (h.nothing (λ b n. absurd (cc))) refl
-call_comes P s caller (Started serial) h = reported P s _ h serial (is_handed_to caller) _ (find (λ j. j.serial == serial) s.jobs) (λ j e. onward j.phase (Running caller) 2 (handed_rank caller j.phase e) (omega arith) (omega arith)) (λ j. refl) refl
-call_comes P s caller (StartFailed serial why) h = reported P s _ h serial (is_handed_to caller) _ (find (λ j. j.serial == serial) s.jobs) (λ j e. onward j.phase (Ended (cause.StartFailed why)) 2 (handed_rank caller j.phase e) (omega arith) (omega arith)) (λ j. refl) refl
-call_comes P s caller (Finished serial end) h = reported P s _ h serial (is_run_by caller) _ (find (λ j. j.serial == serial) s.jobs) (λ j e. onward j.phase (Ended (end_cause end j.wish)) 3 (run_rank caller j.phase e) (omega arith) (omega arith)) (λ j. refl) refl
+call_comes P s caller (Started serial) h = reported P s _ h serial (is_handed_to caller) _ (find (λ j. j.serial == serial) s.jobs) (λ j e. moved_on j (Running caller) 2 (handed_rank caller j.phase e) (omega arith) (omega arith) (omega arith) (λ c d w f. absurd (cc))) (λ j. refl) refl
+call_comes P s caller (StartFailed serial why) h = reported P s _ h serial (is_handed_to caller) _ (find (λ j. j.serial == serial) s.jobs) (λ j e. moved_on j (Ended (cause.StartFailed why)) 2 (handed_rank caller j.phase e) (omega arith) (omega arith) (omega arith) (λ c d w f. inr (failed_end why d f))) (λ j. refl) refl
+call_comes P s caller (Finished serial end) h = reported P s _ h serial (is_run_by caller) _ (find (λ j. j.serial == serial) s.jobs) (λ j e. moved_on j (Ended (end_cause end j.wish)) 3 (run_rank caller j.phase e) (omega arith) (omega arith) (omega arith) (λ c d w f. inl (finished_end end j.wish c d w f))) (λ j. refl) refl
 call_comes P s caller (UseDone serial) h = done P s _ h caller (find (λ j. j.serial == serial) s.jobs)
 call_comes P s caller Tick h = h.notes
 
@@ -363,7 +392,7 @@ pub record HoldsOfStates (P : State → Type 0) (s : State) : Type 0 where
   pub enters : (user : List ℕ) (c : Sbmjob) (d : Jobd) (due : ℕ) → IsAcceptable s c d due → P (entered s (submitted_job s user c d due))
   pub alters : (change : Job → Job) (place : ℕ) → IsAlteration s change place → P (altered s change place)
   pub holds : (held : List QName) → IsHolding s held → P (record s { held = held })
-  pub moves : (serial : ℕ) (j : Job) (phase : Phase) → IsIn j s.jobs → j.serial ≡ serial → IsOnward j.phase phase → is_starting phase ≡ false → P (with_phase s serial phase)
+  pub moves : (serial : ℕ) (j : Job) (phase : Phase) → IsIn j s.jobs → j.serial ≡ serial → IsMoved j phase → is_starting phase ≡ false → P (with_phase s serial phase)
   pub ends : (change : Job → Job) (started : List Sbs) (evokes : List Evoke) (power : Power) → IsEnding s change started power → P (wished s change started evokes power)
   pub makes : (o : Objects) → IsObjectChange s o → P (record s { objects = o })
 
@@ -372,7 +401,7 @@ of_states P s call h = record {
   refuses = λ x. h.stays;
   nothing = λ n. h.stays;
   notes = h.stays;
-  hands = λ m j o i e f. h.moves j.serial j (Handed m) i refl (onward j.phase (Handed m) 1 (starting_rank j.phase e) (omega arith) (omega arith)) refl;
+  hands = λ m j o i e f. h.moves j.serial j (Handed m) i refl (moved_on j (Handed m) 1 (starting_rank j.phase e) (omega arith) (omega arith) (omega arith) (λ c d w f. absurd (cc))) refl;
   reports = λ serial j phase i e r n. h.moves serial j phase i e r n;
   starts = λ q e. made_all P q (h.autos q) (autos_of s q) (begun s q) (makeable s q e) (h.starts q e);
   enters = λ user c d due has. h.enters user c d due has;

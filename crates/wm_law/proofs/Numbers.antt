@@ -233,7 +233,7 @@ calls s h = record {
   enters = λ user c d due a. entered_keeps s user c d due a.numbers h;
   alters = λ change place a. altered_keeps s change place a h a.places;
   holds = λ held a. numbered_same s _ (record { serials = refl; numbers = refl; waiting = λ d. d; places = refl; next_number = refl; next_serial = refl; next_place = refl }) h;
-  moves = λ serial j phase i e r n. numbered_same s _ (phase_same s serial phase (never_waits j.phase phase r)) h;
+  moves = λ serial j phase i e r n. numbered_same s _ (phase_same s serial phase (never_waits j.phase phase r.onward)) h;
   ends = λ change started evokes power e. ended_keeps s change started evokes power e.jobs h;
   makes = λ o e. numbered_same s _ (record { serials = refl; numbers = refl; waiting = λ d. d; places = refl; next_number = refl; next_serial = refl; next_place = refl }) h;
 }

@@ -253,7 +253,7 @@ calls_place s n h = record {
   enters = λ user c d due has. last_placed s (submitted_job s user c d due) (λ a. absurd (cc)) h;
   alters = λ change place a. altered_placed s change place a h;
   holds = λ held a. h;
-  moves = λ serial j phase i e r k. moved_placed s serial j phase n h i e r;
+  moves = λ serial j phase i e r k. moved_placed s serial j phase n h i e r.onward;
   ends = λ change started evokes power e. ended_placed s change started evokes power e h;
   makes = λ o c j i a. placed_still s.started s.objects _ _ j.kind j.jobq j.pty j.how (remade s o j c) (h j i a);
 }

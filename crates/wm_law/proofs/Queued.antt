@@ -143,7 +143,7 @@ queued_calls s h = record {
   enters = λ user c d due a. last_queued s.objects s.jobs (submitted_job s user c d due) (submitted_queued s user c d due a) h;
   alters = λ change place a. all_altered s change place a h;
   holds = λ held a. h;
-  moves = λ serial j phase i e r n. moved_queued s serial phase (never_waits j.phase phase r) h;
+  moves = λ serial j phase i e r n. moved_queued s serial phase (never_waits j.phase phase r.onward) h;
   ends = λ change started evokes power e. all_wished s.objects s.jobs change e.jobs h;
   makes = λ o c j i. queued_still s.objects o j c.jobqs (h j i);
 }

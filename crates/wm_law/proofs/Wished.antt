@@ -94,7 +94,7 @@ wished_calls s h = record {
   enters = λ user c d due a. last_wished s.jobs (submitted_job s user c d due) (record { waits = λ w. refl; moment = tt }) h;
   alters = λ change place a. each_altered IsWished s change place a h (λ j k i b. altered_wished s j k b (h j i));
   holds = λ held a. h;
-  moves = λ serial j phase i e r n. all_changed s.jobs serial (in_phase phase) (record { wish = λ k. refl; never = λ k. never_waits j.phase phase r }) h;
+  moves = λ serial j phase i e r n. all_changed s.jobs serial (in_phase phase) (record { wish = λ k. refl; never = λ k. never_waits j.phase phase r.onward }) h;
   ends = λ change started evokes power e. all_given s.jobs change e.jobs h;
   makes = λ o c. h;
 }

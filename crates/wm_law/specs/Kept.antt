@@ -1,11 +1,12 @@
 -- What every step keeps: numbers that are given once, jobs that only go forward, orders of the jobs that are Starting, and
 -- names of started subsystems that are distinct; and in which order settling starts jobs.
-use Rattle.std.specs.Prelude.{◌≡◌, ◌↔◌, ℕ, ℤ, ◌<◌, ◌≤◌, true, false, List, [], ◌∷◌, map, filter, fold, ⊤, Option, Some, None, if◌then◌else◌}
+use Rattle.std.specs.Prelude.{◌≡◌, ◌↔◌, ◌⊎◌, Bool, ℕ, ℤ, ◌<◌, ◌≤◌, true, false, List, [], ◌∷◌, map, filter, fold, ⊤, Option, Some, None, if◌then◌else◌}
 use Rattle.std.specs.List.{filter_map}
 use Rattle.std.specs.Option.{IsSome, option_and_then}
 use Rattle.std.specs.Ordering.{nat_cmp}
 use Rattle.wm_base.specs.declared.job.Asked.{Asked}
 use Rattle.wm_base.specs.declared.job.EndCause.{EndCause}
+use Rattle.wm_base.specs.declared.job.EndCause.TheVariants as cause
 use Rattle.wm_base.specs.declared.job.Asked.TheVariants.{Start, Kill}
 use Rattle.wm_base.specs.declared.qname.QName.{QName}
 use Rattle.wm_law.specs.declared.call.Call.{Call}
@@ -24,7 +25,7 @@ use Rattle.wm_desc.specs.Sorted.{IsSortedOnce}
 use Rattle.wm_law.specs.declared.state.State.{State}
 use Rattle.wm_law.specs.declared.state.Sbs.{Sbs}
 use Rattle.wm_law.specs.Choice.{is_sbs_active}
-use Rattle.wm_law.specs.Counts.{is_in_sbs, is_waiting}
+use Rattle.wm_law.specs.Counts.{is_active, is_in_sbs, is_waiting}
 use Rattle.wm_law.specs.Fit.{IsBetween}
 use Rattle.wm_law.specs.History.{IsLegal, after, order_in}
 use Rattle.wm_law.specs.Launch.{order_of, route}
@@ -117,12 +118,36 @@ pub record IsWishOn (w v : Wish) : Type 0 where
   pub rank : wish_rank w ≤ wish_rank v
   pub cause : (c : EndCause) → now_cause w ≡ Some c → now_cause v ≡ Some c
 
+-- whether a job ended since it couldn't be started
+abbrev pub is_start_fault : EndCause → Bool
+is_start_fault cause.Completed = false
+is_start_fault (cause.Exited code) = false
+is_start_fault cause.Killed = false
+is_start_fault cause.Endjob = false
+is_start_fault cause.Endsbs = false
+is_start_fault cause.Endpj = false
+is_start_fault cause.Maxuse = false
+is_start_fault cause.NoRoute = false
+is_start_fault (cause.RouteFull seq) = false
+is_start_fault cause.BadRequest = false
+is_start_fault cause.NoProgram = false
+is_start_fault (cause.StartFailed why) = true
+is_start_fault cause.Cleared = false
+is_start_fault cause.EndedOnQueue = false
+is_start_fault cause.Restarted = false
+
+-- an ended job keeps its cause, and an active one that is to end now ends by its wish's cause, or since it couldn't be started
+pub record IsEndOn (p : Phase) (w : Wish) (q : Phase) : Type 0 where
+  pub kept : (c : EndCause) → p ≡ Ended c → q ≡ Ended c
+  pub by_wish : (c d : EndCause) → is_active p ≡ true → now_cause w ≡ Some c → q ≡ Ended d → (d ≡ c) ⊎ (is_start_fault d ≡ true)
+
 -- the same job, whose phase and wish didn't go back
 pub record IsLater (j k : Job) : Type 0 where
   pub serial : k.serial ≡ j.serial
   pub job : k.job ≡ j.job
   pub phase : phase_rank j.phase ≤ phase_rank k.phase
   pub wish : IsWishOn j.wish k.wish
+  pub end : IsEndOn j.phase j.wish k.phase
 
 -- each job of the first state stands in the second, with a phase and a wish that didn't go back
 abbrev pub GoesOn : State → State → Type 0
@@ -166,7 +191,7 @@ StepKeepsNumbers = (s : State) (caller : ℕ) (call : Call) (moment : ℕ) → I
 abbrev pub NumbersAreGivenOnce : Type 0
 NumbersAreGivenOnce = (s : State) (h : List Entry) → IsNumbered s → IsNumbered (after s h)
 
--- no step loses a job, or takes its phase or its wish back
+-- no step loses a job, takes its phase or its wish back, or ends it by another cause than its wish has
 abbrev pub StepGoesOn : Type 0
 StepGoesOn = (s : State) (caller : ℕ) (call : Call) (moment : ℕ) → IsNumbered s → GoesOn s (step s caller call moment).state
 

@@ -48,7 +48,8 @@ pub fn numbers_are_given_once()
     ensures always { NumbersAreGivenOnce }
 {}
 
-/// No step loses a job, renames it, or takes its phase or its wish back. A wish to end now keeps its cause.
+/// No step loses a job, renames it, or takes its phase or its wish back. A wish to end now keeps its cause,
+/// and an active job that has one ends by it, or since it couldn't be started. An ended job keeps its cause.
 #[tactic(auto, using(crate::proofs::Forward::step_goes_on))]
 pub fn jobs_go_forward()
     ensures { StepGoesOn }
