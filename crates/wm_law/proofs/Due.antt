@@ -32,10 +32,10 @@ use Rattle.wm_law.specs.Laws.{IsIn}
 use Rattle.wm_law.specs.Machine.{apply, step, with_clock}
 use Rattle.wm_law.specs.Opening.{opening}
 use Rattle.wm_law.specs.Settling.{come_due, ended_by, is_gone, is_sbs_now, job_at, leave, sbs_at, sbs_moment, sbs_phase_at, sbss_at, unless_started, waiting, with_deadline}
-use Rattle.wm_law.specs.Sound.{HasNoneDue, HasWishes, IsUpToDate}
+use Rattle.wm_law.specs.Sound.{HasNoneDue, HasWishes, IsUpToDate, NothingDueStays, StepLeavesNoneDue}
 use Rattle.wm_law.specs.Wishes.{deadline, has_come, has_wish, is_due, is_in_any, is_now, is_to_end, is_wish_due, now_cause, told_now, wish_at, with_wish}
 use Rattle.wm_law.proofs.Distinct.{distinct_left, one_by_key}
-use Rattle.wm_law.proofs.Endings.{ending_starting, key_same, looking, telling_now, unstarted_wish, was_active}
+use Rattle.wm_law.proofs.Endings.{ending_starting, key_same, looking, starting_phase, telling_now, unstarted_wish, was_active, wishing_at}
 use Rattle.wm_law.proofs.Firsts.{holder_started, ready_waits}
 use Rattle.wm_law.proofs.Forward.{only_one}
 use Rattle.wm_law.proofs.Members.{in_mapped, left_in, of_mapped}
@@ -291,7 +291,7 @@ launches_leave_none = record {
 }
 
 -- a step leaves nothing that is due to end
-pub step_leaves_none_due : (s : State) (caller : ℕ) (call : Call) (moment : ℕ) → IsNumbered s → HasWishes s → HasDistinctNames s → HasNoneDue (step s caller call moment).state
+pub step_leaves_none_due : StepLeavesNoneDue
 unfolding step
 step_leaves_none_due s caller call moment n w d =
     let c = with_clock s moment in
@@ -314,3 +314,74 @@ opened_has_none_due offset = record { subsystems = λ b i. absurd i; jobs = λ j
 
 pub opening_has_none_due : (offset : ℤ) → HasNoneDue (opening offset)
 opening_has_none_due offset = subst HasNoneDue (sym (opening_is offset)) (opened_has_none_due offset)
+
+-- where the job isn't to be told, it is as it was
+untold_by : (started : List Sbs) (j : Job) (b : Bool) → is_to_end now started j ≡ b → (is_in_any now started j.how ≡ true → is_now j.wish ≡ true) → cond b (with_wish (wish.Now why.Endsbs false) j) j ≡ j
+untold_by started j true e told =
+    let both = of_both (is_active j.phase && not (is_now j.wish)) (is_in_any now started j.how) e in
+    let free = (of_both (is_active j.phase) (not (is_now j.wish)) both.0).1 in
+    let yes = told both.1 in
+    let no : not true ≡ true = ap not (sym yes) ∙ free in
+    absurd (cc)
+untold_by started j false e told = refl
+
+stays_later : (b : Bool) (until : Option ℕ) (w : Why) → b ≡ false → cond b (wish.Now w false) (wish.Later until w) ≡ wish.Later until w
+stays_later true until w e = absurd (cc)
+stays_later false until w e = refl
+
+-- a wish that isn't due is as it was
+undue : (clock : ℕ) (j : Job) (w : Wish) → is_wish_due clock j w ≡ false → wish_at clock j w ≡ w
+undue clock j wish.NoWish e = refl
+undue clock j (wish.Later until why) e = stays_later (is_due clock j until) until why e
+undue clock j (wish.Now why handed) e = refl
+
+undue_by : (clock : ℕ) (j : Job) (b : Bool) → is_wish_due clock j j.wish ≡ false → cond b (with_wish (deadline clock j) j) j ≡ j
+undue_by clock j true e = ap (λ (w : Wish). with_wish w j) (undue clock j j.wish e)
+undue_by clock j false e = refl
+
+uncaused : (j : Job) (w : Wish) → is_now w ≡ false → ended_by (now_cause w) j ≡ j
+uncaused j wish.NoWish e = refl
+uncaused j (wish.Later until why) e = refl
+uncaused j (wish.Now why handed) e = absurd (cc)
+
+unended_by : (j : Job) (b : Bool) → is_starting j.phase ≡ b → (j.phase ≡ Starting → is_now j.wish ≡ false) → cond b (ended_by (now_cause j.wish) j) j ≡ j
+unended_by j true e h = uncaused j j.wish (h (starting_phase j.phase e))
+unended_by j false e h = refl
+
+-- an active job that is up to date stays as it is in settling's first part
+up_to_date_stays : (clock : ℕ) (started : List Sbs) (j : Job) → IsUpToDate clock started j → job_at clock started j ≡ j
+up_to_date_stays clock started j h =
+    ap (λ (x : Job). unless_started (with_deadline clock x)) (untold_by started j (is_to_end now started j) refl h.told)
+    ∙ ap unless_started (undue_by clock j (is_active j.phase) h.looked)
+    ∙ unended_by j (is_starting j.phase) refl h.starting
+
+job_stays_by : (clock : ℕ) (started : List Sbs) (j : Job) (b : Bool) → is_active j.phase ≡ b → (is_active j.phase ≡ true → IsUpToDate clock started j) → job_at clock started j ≡ j
+job_stays_by clock started j true e h = up_to_date_stays clock started j (h e)
+job_stays_by clock started j false e h = let w = wishing_at clock started in w.idle j e
+
+-- so does each job, where the active ones are up to date
+pub job_stays : (clock : ℕ) (started : List Sbs) (j : Job) → (is_active j.phase ≡ true → IsUpToDate clock started j) → job_at clock started j ≡ j
+job_stays clock started j h = job_stays_by clock started j (is_active j.phase) refl h
+
+ending_stays : (b : Bool) (until : Option ℕ) → b ≡ false → cond b Now (Ending until) ≡ Ending until
+ending_stays true until e = absurd (cc)
+ending_stays false until e = refl
+
+phase_stays : (clock : ℕ) (p : SbsPhase) → has_come clock (sbs_moment p) ≡ false → sbs_phase_at clock p ≡ p
+phase_stays clock Active e = refl
+phase_stays clock (Ending until) e = ending_stays (has_come clock until) until e
+phase_stays clock Now e = refl
+
+-- and each subsystem whose moment hasn't come
+pub sbs_stays : (clock : ℕ) (b : Sbs) → has_come clock (sbs_moment b.phase) ≡ false → sbs_at clock b ≡ b
+sbs_stays clock b e = ap (λ (p : SbsPhase). record b { phase = p }) (phase_stays clock b.phase e)
+
+each_stays : {X : Type 0} (f : X → X) (xs : List X) → ((x : X) → IsIn x xs → f x ≡ x) → map f xs ≡ xs
+each_stays f [] h = refl
+each_stays f (x ∷ xs) h = cc (h x (inl refl), each_stays f xs (λ y i. h y (inr i)))
+
+pub nothing_due_stays : NothingDueStays
+nothing_due_stays s h =
+    let subsystems : sbss_at s ≡ s.started = each_stays (sbs_at s.clock) s.started (λ b i. sbs_stays s.clock b (h.subsystems b i)) in
+    let jobs : map (job_at s.clock s.started) s.jobs ≡ s.jobs = each_stays (job_at s.clock s.started) s.jobs (λ j i. job_stays s.clock s.started j (h.jobs j i)) in
+    ap (λ (bs : List Sbs). record s { started = bs; jobs = map (job_at s.clock bs) s.jobs }) subsystems ∙ ap (λ (js : List Job). record s { jobs = js }) jobs

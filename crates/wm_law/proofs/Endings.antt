@@ -187,7 +187,7 @@ deadline_moment clock j (wish.Now why handed) h = h
 pub looking : (clock : ℕ) → IsWishing (with_deadline clock)
 looking clock = giving (λ j. is_active j.phase) (deadline clock) (λ j e. e) (λ j h. deadline_moment clock j j.wish h)
 
-starting_phase : (p : Phase) → is_starting p ≡ true → p ≡ Starting
+pub starting_phase : (p : Phase) → is_starting p ≡ true → p ≡ Starting
 starting_phase Waiting h = absurd (cc)
 starting_phase Starting h = refl
 starting_phase (Handed m) h = absurd (cc)

@@ -29,7 +29,7 @@ use Rattle.wm_law.specs.Objects.{AreSound}
 use Rattle.wm_law.specs.Opening.{opening}
 use Rattle.wm_law.specs.Order.{IsInOrder, KeepsOrder}
 use Rattle.wm_law.specs.Queues.{own_name}
-use Rattle.wm_law.specs.Settling.{is_sbs_now, sbs_moment}
+use Rattle.wm_law.specs.Settling.{come_due, is_sbs_now, sbs_moment}
 use Rattle.wm_law.specs.Subsystems.{max_started}
 use Rattle.wm_law.specs.Wishes.{greatest_moment, has_come, has_wish, is_in_any, is_now, is_wish_due, wish_moment}
 
@@ -163,6 +163,14 @@ StatesAreSound = (s : State) (h : List Entry) → IsSound s → IsSound (after s
 -- whatever is called from a sound state, no autostart job waits
 abbrev pub AutostartJobsNeverWait : Type 0
 AutostartJobsNeverWait = (s : State) (h : List Entry) (j : Job) → IsSound s → IsIn j (after s h).jobs → j.kind ≡ Asj → is_waiting j.phase ≡ false
+
+-- over every step settling leaves nothing that is due to end
+abbrev pub StepLeavesNoneDue : Type 0
+StepLeavesNoneDue = (s : State) (caller : ℕ) (call : Call) (moment : ℕ) → IsNumbered s → HasWishes s → HasDistinctNames s → HasNoneDue (step s caller call moment).state
+
+-- and where nothing is due, settling's first part changes nothing
+abbrev pub NothingDueStays : Type 0
+NothingDueStays = (s : State) → HasNoneDue s → come_due s ≡ s
 
 -- no start passes a limit over any step
 abbrev pub StepKeepsLimits : Type 0
