@@ -1,19 +1,14 @@
 -- Settling leaves nothing that is due to end.
 use Rattle.std.proofs.Common.{◌≡◌, ℕ, ℤ, ◌==◌, ◌&&◌, ◌||◌, not, Bool, true, false, cond, List, [], ◌∷◌, map, filter, Option, Some, None, refl, sym, ap, subst, ◌∙◌, inl, inr}
 use Rattle.std.specs.List.{find, list_any}
-use Rattle.wm_base.specs.declared.job.How.{How}
 use Rattle.wm_base.specs.declared.job.How.TheVariants.{FromQueue}
-use Rattle.wm_base.specs.declared.limit.Limit.{Limit}
 use Rattle.wm_base.specs.declared.qname.QName.{QName}
 use Rattle.wm_base.specs.Iterate.{IsKept}
 use Rattle.wm_base.specs.Limit.{is_below}
 use Rattle.wm_base.proofs.Iterate.{iterate-keeps}
-use Rattle.wm_desc.specs.Table.{same_qname}
-use Rattle.wm_law.specs.declared.call.Call.{Call}
 use Rattle.wm_law.specs.declared.choice.Candidate.{Candidate}
 use Rattle.wm_law.specs.declared.job.Job.{Job}
 use Rattle.wm_law.specs.declared.job.JobKind.{JobKind}
-use Rattle.wm_law.specs.declared.job.Phase.{Phase}
 use Rattle.wm_law.specs.declared.job.Phase.TheVariants.{Starting}
 use Rattle.wm_law.specs.declared.job.Why.{Why}
 use Rattle.wm_law.specs.declared.job.Why.TheVariants as why
@@ -25,8 +20,8 @@ use Rattle.wm_law.specs.declared.state.SbsPhase.{SbsPhase}
 use Rattle.wm_law.specs.declared.state.SbsPhase.TheVariants.{Active, Ending, Now}
 use Rattle.wm_law.specs.declared.state.State.{State}
 use Rattle.wm_law.specs.Choice.{is_sbs_active, maxpty_of, next}
-use Rattle.wm_law.specs.Counts.{count_from_priority, count_from_queue, count_in_sbs, is_active, is_in_sbs, is_prestart, is_starting, is_waiting}
-use Rattle.wm_law.specs.Kept.{HasDistinctNames, IsDistinct, IsNumbered}
+use Rattle.wm_law.specs.Counts.{count_from_priority, count_from_queue, count_in_sbs, is_active, is_in_sbs, is_prestart, is_starting}
+use Rattle.wm_law.specs.Kept.{HasDistinctNames, IsNumbered}
 use Rattle.wm_law.specs.Launch.{as_launched, from_queue, launch, launch_job, launched, launched_at, launched_through, route}
 use Rattle.wm_law.specs.Laws.{IsIn}
 use Rattle.wm_law.specs.Machine.{apply, step, with_clock}
@@ -38,11 +33,11 @@ use Rattle.wm_law.proofs.Distinct.{distinct_left, one_by_key}
 use Rattle.wm_law.proofs.Endings.{ending_starting, key_same, looking, starting_phase, telling_now, unstarted_wish, was_active, wishing_at}
 use Rattle.wm_law.proofs.Firsts.{holder_started, ready_waits}
 use Rattle.wm_law.proofs.Forward.{only_one}
-use Rattle.wm_law.proofs.Members.{in_mapped, left_in, of_mapped}
+use Rattle.wm_law.proofs.Members.{left_in, of_mapped}
 use Rattle.wm_law.proofs.Moves.{call_keeps, comes_due}
 use Rattle.wm_law.proofs.Named.{one_name}
 use Rattle.wm_law.proofs.Nexts.{IsNext, is_next}
-use Rattle.wm_law.proofs.Numbers.{apply_keeps, clock_keeps, due_keeps, launches_keep, ready_keeps}
+use Rattle.wm_law.proofs.Numbers.{apply_keeps, clock_keeps, launches_keep, ready_keeps}
 use Rattle.wm_law.proofs.Opened.{opened, opening_is}
 use Rattle.wm_law.proofs.Placed.{active_through}
 use Rattle.wm_law.proofs.Routed.{launched_routed, started_through}
