@@ -6,6 +6,7 @@ use Rattle.wm_base.specs.declared.qname.QName.{QName}
 use Rattle.wm_base.specs.Iterate.{IsKept}
 use Rattle.wm_base.specs.Limit.{is_below}
 use Rattle.wm_base.proofs.Iterate.{iterate-keeps}
+use Rattle.wm_law.specs.declared.call.Call.{Call}
 use Rattle.wm_law.specs.declared.choice.Candidate.{Candidate}
 use Rattle.wm_law.specs.declared.job.Job.{Job}
 use Rattle.wm_law.specs.declared.job.JobKind.{JobKind}
@@ -27,7 +28,7 @@ use Rattle.wm_law.specs.Laws.{IsIn}
 use Rattle.wm_law.specs.Machine.{apply, step, with_clock}
 use Rattle.wm_law.specs.Opening.{opening}
 use Rattle.wm_law.specs.Settling.{come_due, ended_by, is_gone, is_sbs_now, job_at, leave, sbs_at, sbs_moment, sbs_phase_at, sbss_at, unless_started, waiting, with_deadline}
-use Rattle.wm_law.specs.Sound.{HasNoneDue, HasWishes, IsUpToDate, NothingDueStays, StepLeavesNoneDue}
+use Rattle.wm_law.specs.Sound.{HasNoneDue, HasWishes, IsUpToDate, NothingDueStays, OpeningHasNoneDue}
 use Rattle.wm_law.specs.Wishes.{deadline, has_come, has_wish, is_due, is_in_any, is_now, is_to_end, is_wish_due, now_cause, told_now, wish_at, with_wish}
 use Rattle.wm_law.proofs.Distinct.{distinct_left, one_by_key}
 use Rattle.wm_law.proofs.Endings.{ending_starting, key_same, looking, starting_phase, telling_now, unstarted_wish, was_active, wishing_at}
@@ -286,9 +287,9 @@ launches_leave_none = record {
 }
 
 -- a step leaves nothing that is due to end
-pub step_leaves_none_due : StepLeavesNoneDue
+pub leaves_none_due : (s : State) (caller : ℕ) (call : Call) (moment : ℕ) → IsNumbered s → HasWishes s → HasDistinctNames s → HasNoneDue (step s caller call moment).state
 unfolding step
-step_leaves_none_due s caller call moment n w d =
+leaves_none_due s caller call moment n w d =
     let c = with_clock s moment in
     let t = (apply c caller call).state in
     let numbered : IsNumbered t = apply_keeps c caller call (clock_keeps s moment n) in
@@ -307,7 +308,7 @@ step_leaves_none_due s caller call moment n w d =
 opened_has_none_due : (offset : ℤ) → HasNoneDue (opened offset)
 opened_has_none_due offset = record { subsystems = λ b i. absurd i; jobs = λ j i a. absurd i }
 
-pub opening_has_none_due : (offset : ℤ) → HasNoneDue (opening offset)
+pub opening_has_none_due : OpeningHasNoneDue
 opening_has_none_due offset = subst HasNoneDue (sym (opening_is offset)) (opened_has_none_due offset)
 
 -- where the job isn't to be told, it is as it was

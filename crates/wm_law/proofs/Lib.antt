@@ -46,4 +46,5 @@ pub mod Placed
 pub mod Standing
 pub mod Wished
 pub mod Due
+pub mod Moments
 pub mod Sound

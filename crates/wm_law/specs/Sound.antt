@@ -24,10 +24,11 @@ use Rattle.wm_law.specs.History.{after}
 use Rattle.wm_law.specs.Kept.{IsNumbered, HasOrders, HasDistinctNames, HasDescriptions, IsQuiet}
 use Rattle.wm_law.specs.Laws.{IsIn}
 use Rattle.wm_law.specs.Limits.{IsWithinLimits, KeepsLimits}
-use Rattle.wm_law.specs.Machine.{step}
+use Rattle.wm_law.specs.Machine.{step, with_clock}
 use Rattle.wm_law.specs.Objects.{AreSound}
 use Rattle.wm_law.specs.Opening.{opening}
 use Rattle.wm_law.specs.Order.{IsInOrder, KeepsOrder}
+use Rattle.wm_law.specs.Pending.{next_ending, next_wish, soonest}
 use Rattle.wm_law.specs.Queues.{own_name}
 use Rattle.wm_law.specs.Settling.{come_due, is_sbs_now, sbs_moment}
 use Rattle.wm_law.specs.Subsystems.{max_started}
@@ -146,7 +147,6 @@ pub record IsSound (s : State) : Type 0 where
   pub within_started : IsWithinStarted s
   pub wishes : HasWishes s
   pub moments : HasMoments s
-  pub none_due : HasNoneDue s
 
 -- the opening state is sound
 abbrev pub OpeningIsSound : Type 0
@@ -164,13 +164,25 @@ StatesAreSound = (s : State) (h : List Entry) → IsSound s → IsSound (after s
 abbrev pub AutostartJobsNeverWait : Type 0
 AutostartJobsNeverWait = (s : State) (h : List Entry) (j : Job) → IsSound s → IsIn j (after s h).jobs → j.kind ≡ Asj → is_waiting j.phase ≡ false
 
--- over every step settling leaves nothing that is due to end
-abbrev pub StepLeavesNoneDue : Type 0
-StepLeavesNoneDue = (s : State) (caller : ℕ) (call : Call) (moment : ℕ) → IsNumbered s → HasWishes s → HasDistinctNames s → HasNoneDue (step s caller call moment).state
+-- nothing is due in the opening state
+abbrev pub OpeningHasNoneDue : Type 0
+OpeningHasNoneDue = (offset : ℤ) → HasNoneDue (opening offset)
 
--- and where nothing is due, settling's first part changes nothing
+-- every step leaves nothing that is due
+abbrev pub StepLeavesNoneDue : Type 0
+StepLeavesNoneDue = (s : State) (caller : ℕ) (call : Call) (moment : ℕ) → IsSound s → HasNoneDue (step s caller call moment).state
+
+-- whatever is called from a sound state in which nothing is due, nothing is due
+abbrev pub NoneIsDue : Type 0
+NoneIsDue = (s : State) (h : List Entry) → IsSound s → HasNoneDue s → HasNoneDue (after s h)
+
+-- where nothing is due, settling's first part changes nothing
 abbrev pub NothingDueStays : Type 0
 NothingDueStays = (s : State) → HasNoneDue s → come_due s ≡ s
+
+-- and nothing comes due before the next moment of a wish or of an ending subsystem
+abbrev pub NoneDueBefore : Type 0
+NoneDueBefore = (s : State) (moment : ℕ) → HasNoneDue s → has_come moment (soonest (next_wish s) (next_ending s)) ≡ false → HasNoneDue (with_clock s moment)
 
 -- no start passes a limit over any step
 abbrev pub StepKeepsLimits : Type 0
