@@ -81,7 +81,7 @@ looked_at clock j (wish.Later until why) = later_looked clock j (is_due clock j 
 looked_at clock j (wish.Now why handed) = refl
 
 -- what is due is by the job's kind and evoke
-due_same : (clock : ℕ) (j k : Job) (w : Wish) → k.kind ≡ j.kind → k.evoke ≡ j.evoke → is_wish_due clock k w ≡ is_wish_due clock j w
+pub due_same : (clock : ℕ) (j k : Job) (w : Wish) → k.kind ≡ j.kind → k.evoke ≡ j.evoke → is_wish_due clock k w ≡ is_wish_due clock j w
 due_same clock j k wish.NoWish e f = refl
 due_same clock j k (wish.Later until why) e f =
     ap (λ (x : JobKind). has_come clock until || (is_prestart x && not k.evoke)) e
@@ -199,11 +199,11 @@ of_any_by : {X : Type 0} (p : X → Bool) (x : X) (xs : List X) (t : Bool) → p
 of_any_by p x xs true e rest h = (x, inl refl, e)
 of_any_by p x xs false e rest h = let m = rest h in (m.0, inr m.1, m.2)
 
-of_any : {X : Type 0} (p : X → Bool) (xs : List X) → list_any p xs ≡ true → (y : X) × IsIn y xs × (p y ≡ true)
+pub of_any : {X : Type 0} (p : X → Bool) (xs : List X) → list_any p xs ≡ true → (y : X) × IsIn y xs × (p y ≡ true)
 of_any p [] h = absurd (cc)
 of_any p (x ∷ xs) h = of_any_by p x xs (p x) refl (of_any p xs) h
 
-not_both : (p : SbsPhase) → is_sbs_active p ≡ true → is_sbs_now p ≡ true → ⊥
+pub not_both : (p : SbsPhase) → is_sbs_active p ≡ true → is_sbs_now p ≡ true → ⊥
 not_both Active a n = absurd (cc)
 not_both (Ending until) a n = absurd (cc)
 not_both Now a n = absurd (cc)

@@ -47,4 +47,5 @@ pub mod Standing
 pub mod Wished
 pub mod Due
 pub mod Moments
+pub mod Quiet
 pub mod Sound

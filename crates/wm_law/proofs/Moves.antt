@@ -65,7 +65,8 @@ use Rattle.wm_law.specs.Changing.{change_due, change_found, has_queue, moved_to,
 use Rattle.wm_law.specs.Queues.{clear_queue, cleared_from, hold_queue, own_name, release_queue, waits_on}
 use Rattle.wm_law.specs.Jobs.{active_at, waiting_at, with_active}
 use Rattle.wm_law.specs.Wishes.{now_cause, with_wish}
-use Rattle.wm_law.specs.Choice.{is_held, next}
+use Rattle.wm_law.specs.Built.{is_ending_call}
+use Rattle.wm_law.specs.Choice.{is_held, is_sbs_active, next}
 use Rattle.wm_law.proofs.Alterations.{IsAlteration, IsHolding, IsPlain, altered, clearing_alters, due_alters, ending_alters, holding_alters, moving_alters, plain_changed, plain_cleared, plain_held, plain_job_ended, plain_job_ending, plain_power_down, plain_sbs_ending, plain_queue_held, plain_queue_released, plain_released}
 use Rattle.wm_law.proofs.Endings.{IsEnding, all_end, coming_due, job_ends, kill_ends, those_end, wished}
 use Rattle.wm_law.specs.Subsystems.{begun, is_started, max_started, start_refusal, start_unless}
@@ -128,7 +129,7 @@ pub record HoldsAfterCalls (P : Stepped → Type 0) (s : State) (call : Call) : 
   pub enters : (user : List ℕ) (c : Sbmjob) (d : Jobd) (due : ℕ) → IsAcceptable s c d due → P (record { reply = Submitted (job_name s user c) (queue_of c d); state = entered s (submitted_job s user c d due) })
   pub alters : (reply : Reply) (change : Job → Job) (place : ℕ) → IsPlain reply → IsAlteration s change place → P (record { reply = reply; state = altered s change place })
   pub holds : (reply : Reply) (held : List QName) → IsPlain reply → IsHolding s held → P (record { reply = reply; state = record s { held = held } })
-  pub ends : (reply : Reply) (change : Job → Job) (started : List Sbs) (evokes : List Evoke) (power : Power) → IsPlain reply → IsEnding s change started power → P (record { reply = reply; state = wished s change started evokes power })
+  pub ends : (reply : Reply) (change : Job → Job) (started : List Sbs) (evokes : List Evoke) (power : Power) → IsPlain reply → IsEnding s change started power → is_ending_call call ≡ true → P (record { reply = reply; state = wished s change started evokes power })
   pub kills : (m : ℕ) (j : Job) → IsIn j s.jobs → is_to_kill m j ≡ true → P (record { reply = Order (Kill j.serial); state = with_active s j.serial with_kill })
   pub makes : (o : Objects) → IsObjectChange s o → P (record { reply = Made; state = record s { objects = o } })
 
@@ -191,27 +192,27 @@ module _ (P : Stepped → Type 0) (s : State) (call : Call) (h : HoldsAfterCalls
   made objects None e = h.makes objects (e refl)
   made objects (Some x) e = h.refuses x
 
-  active_ended : (c : Endjob) (j : Job) → IsIn j s.jobs → P (end_active s c j)
-  active_ended c j i =
+  active_ended : (c : Endjob) (j : Job) → is_ending_call call ≡ true → IsIn j s.jobs → P (end_active s c j)
+  active_ended c j told i =
       either (is_wished c.option j.wish) _ _ (λ t. h.refuses AlreadyEnding)
-      (λ t. h.ends (JobEnding j.job) (active_at j.serial (with_wish (job_wish s.clock c.option c.delay))) s.started s.evokes s.power (plain_job_ending j.job) (job_ends s j c.option c.delay i t))
+      (λ t. h.ends (JobEnding j.job) (active_at j.serial (with_wish (job_wish s.clock c.option c.delay))) s.started s.evokes s.power (plain_job_ending j.job) (job_ends s j c.option c.delay i t) told)
 
-  ended_in_phase : (c : Endjob) (j : Job) (p : Phase) → IsIn j s.jobs → P (end_in_phase s c j p)
-  ended_in_phase c j Waiting i = h.alters (JobEnded j.job) (waiting_at j.serial (in_phase (Ended cause.EndedOnQueue))) s.next_place (plain_job_ended j.job) (ending_alters s j.serial)
-  ended_in_phase c j Starting i = active_ended c j i
-  ended_in_phase c j (Handed m) i = active_ended c j i
-  ended_in_phase c j (Running m) i = active_ended c j i
-  ended_in_phase c j (Ended end) i = h.refuses (WrongPhase word.Ended)
+  ended_in_phase : (c : Endjob) (j : Job) (p : Phase) → is_ending_call call ≡ true → IsIn j s.jobs → P (end_in_phase s c j p)
+  ended_in_phase c j Waiting told i = h.alters (JobEnded j.job) (waiting_at j.serial (in_phase (Ended cause.EndedOnQueue))) s.next_place (plain_job_ended j.job) (ending_alters s j.serial)
+  ended_in_phase c j Starting told i = active_ended c j told i
+  ended_in_phase c j (Handed m) told i = active_ended c j told i
+  ended_in_phase c j (Running m) told i = active_ended c j told i
+  ended_in_phase c j (Ended end) told i = h.refuses (WrongPhase word.Ended)
 
-  job_ended : (c : Endjob) (r : Result Job Refusal) → job_named s c.job ≡ r → P (end_found s c r)
-  job_ended c (Err x) e = h.refuses x
-  job_ended c (Ok j) e = ended_in_phase c j j.phase (left_in (is_named c.job) s.jobs j (the_one (filter (is_named c.job) s.jobs) j e))
+  job_ended : (c : Endjob) (r : Result Job Refusal) → is_ending_call call ≡ true → job_named s c.job ≡ r → P (end_found s c r)
+  job_ended c (Err x) told e = h.refuses x
+  job_ended c (Ok j) told e = ended_in_phase c j j.phase told (left_in (is_named c.job) s.jobs j (the_one (filter (is_named c.job) s.jobs) j e))
 
-  sbs_ended : (c : Endsbs) (o : Option Sbs) → P (end_started s c o)
-  sbs_ended c None = h.refuses SbsNotActive
-  sbs_ended c (Some b) =
+  sbs_ended : (c : Endsbs) (o : Option Sbs) → is_ending_call call ≡ true → P (end_started s c o)
+  sbs_ended c None told = h.refuses SbsNotActive
+  sbs_ended c (Some b) told =
       either (is_ended c.option b.phase) _ _ (λ t. h.refuses AlreadyEnding)
-      (λ t. h.ends (SbsEnding b.sbsd) _ _ _ s.power (plain_sbs_ending b.sbsd) (those_end s c.option c.delay (λ x. same_qname x.sbsd b.sbsd)))
+      (λ t. h.ends (SbsEnding b.sbsd) _ _ _ s.power (plain_sbs_ending b.sbsd) (those_end s c.option c.delay (λ x. same_qname x.sbsd b.sbsd)) told)
 
   ordered : (m : ℕ) (j : Job) (o : Option StartOrder) → P (record { reply = Nothing; state = s }) → IsIn j s.jobs → is_starting j.phase ≡ true → order_of s j ≡ o → P (hand_order s m j o)
   ordered m j None none i k e = none
@@ -275,7 +276,7 @@ onward : (p q : Phase) (n : ℕ) → phase_rank p ≡ n → 0 < n → n ≤ phas
 onward p q n e more h = record { past = past_waiting p (omega arith); on = omega arith }
 
 -- a job that hasn't ended moves on
-moved_on : (j : Job) (q : Phase) (n : ℕ) → phase_rank j.phase ≡ n → 0 < n → n < 4 → n ≤ phase_rank q → ((c d : EndCause) → now_cause j.wish ≡ Some c → q ≡ Ended d → (d ≡ c) ⊎ (is_start_fault d ≡ true)) → IsMoved j q
+pub moved_on : (j : Job) (q : Phase) (n : ℕ) → phase_rank j.phase ≡ n → 0 < n → n < 4 → n ≤ phase_rank q → ((c d : EndCause) → now_cause j.wish ≡ Some c → q ≡ Ended d → (d ≡ c) ⊎ (is_start_fault d ≡ true)) → IsMoved j q
 moved_on j q n e more less h k = record {
   onward = onward j.phase q n e more h;
   end = record {
@@ -307,18 +308,18 @@ changed P s user (command.Rmvjobqe c) h = made P s _ h _ _ (queue_removed s c)
 changed P s user (command.Rmvrtge c) h = made P s _ h _ _ (route_removed s c)
 changed P s user (command.Rmvaje c) h = made P s _ h _ _ (auto_removed s c)
 changed P s user (command.Strsbs c) h = start P s _ h c.sbsd (start_refusal s c.sbsd) refl
-changed P s user (command.Endsbs c) h = sbs_ended P s _ h c (started_named s c.sbs)
+changed P s user (command.Endsbs c) h = sbs_ended P s _ h c (started_named s c.sbs) refl
 changed P s user (command.Sbmjob c) h = either P s _ h (is_on s.power) _ _ (λ t. submitted_with P s _ h user c (object_named c.jobd s.objects.jobds)) (λ t. h.refuses PoweringDown)
 changed P s user (command.Hldjob c) h = held_found P s _ h (waiting_named s c.job)
 changed P s user (command.Rlsjob c) h = released_found P s _ h (waiting_named s c.job)
 changed P s user (command.Chgjob c) h = changed_found P s _ h c (waiting_named s c.job)
-changed P s user (command.Endjob c) h = job_ended P s _ h c (job_named s c.job) refl
+changed P s user (command.Endjob c) h = job_ended P s _ h c (job_named s c.job) refl refl
 changed P s user (command.Hldjobq c) h = queue_held P s _ h c.jobq
 changed P s user (command.Rlsjobq c) h = queue_released P s _ h c.jobq
 changed P s user (command.Clrjobq c) h = queue_cleared P s _ h c.jobq
 changed P s user (command.Pwrdwnsys c) h =
     either P s _ h (is_down c.option s.power) _ _ (λ t. h.refuses PoweringDown)
-    (λ t. h.ends PowerDown _ _ _ (down_by c.option) plain_power_down (all_end s c.option c.delay (down_by c.option)))
+    (λ t. h.ends PowerDown _ _ _ (down_by c.option) plain_power_down (all_end s c.option c.delay (down_by c.option)) refl)
 changed P s user c h = h.nothing (λ b n. b)
 
 -- what holds after whatever the call can come to, holds after the call
@@ -338,14 +339,16 @@ pub record IsMakeable (q : QName) (t : State) : Type 0 where
   pub sbs : Sbs
   pub started : IsIn sbs t.started
   pub named : sbs.sbsd ≡ q
+  pub active : is_sbs_active sbs.phase ≡ true
 
 -- so it is with one job after another
-record AreMakeable (q : QName) (es : List AutoEntry) (t : State) : Type 0 where
+pub record AreMakeable (q : QName) (es : List AutoEntry) (t : State) : Type 0 where
   numbers : length es ≤ numbers_end - t.next_number
   serials : length es ≤ serials_end - t.next_serial
   sbs : Sbs
   started : IsIn sbs t.started
   named : sbs.sbsd ≡ q
+  active : is_sbs_active sbs.phase ≡ true
 
 -- what each autostart job keeps, all keep
 module _ (P : State → Type 0) (q : QName) (keeps : (t : State) (e : AutoEntry) (d : Jobd) → IsMakeable q t → P t → P (auto_made t q e d)) where
@@ -354,19 +357,19 @@ module _ (P : State → Type 0) (q : QName) (keeps : (t : State) (e : AutoEntry)
   made_one e es t (Some d) m p =
       let numbers = m.numbers in
       let serials = m.serials in
-      keeps t e d (record { number = omega arith; serial = omega arith; sbs = m.sbs; started = m.started; named = m.named }) p
+      keeps t e d (record { number = omega arith; serial = omega arith; sbs = m.sbs; started = m.started; named = m.named; active = m.active }) p
 
   made_rest : (e : AutoEntry) (es : List AutoEntry) (t : State) (o : Option Jobd) → AreMakeable q (e ∷ es) t → AreMakeable q es (auto_described t q e o)
   made_rest e es t None m =
       let numbers = m.numbers in
       let serials = m.serials in
-      record { numbers = omega arith; serials = omega arith; sbs = m.sbs; started = m.started; named = m.named }
+      record { numbers = omega arith; serials = omega arith; sbs = m.sbs; started = m.started; named = m.named; active = m.active }
   made_rest e es t (Some d) m =
       let numbers = m.numbers in
       let serials = m.serials in
-      record { numbers = omega arith; serials = omega arith; sbs = m.sbs; started = m.started; named = m.named }
+      record { numbers = omega arith; serials = omega arith; sbs = m.sbs; started = m.started; named = m.named; active = m.active }
 
-  made_all : (es : List AutoEntry) (t : State) → AreMakeable q es t → P t → P (fold (make_auto q) t es)
+  pub made_all : (es : List AutoEntry) (t : State) → AreMakeable q es t → P t → P (fold (make_auto q) t es)
   made_all [] t m p = p
   made_all (e ∷ es) t m p =
       made_all es (make_auto q t e) (made_rest e es t (object_named e.jobd t.objects.jobds) m) (made_one e es t (object_named e.jobd t.objects.jobds) m p)
@@ -379,10 +382,10 @@ enough true a b n h =
     let right = min-le_right a b in
     (omega arith, omega arith)
 
-makeable : (s : State) (q : QName) → IsStartable s q → AreMakeable q (autos_of s q) (begun s q)
+pub makeable : (s : State) (q : QName) → IsStartable s q → AreMakeable q (autos_of s q) (begun s q)
 makeable s q h =
     let left = enough (nat_le 1 s.next_number) (numbers_end - s.next_number) (serials_end - s.next_serial) (length (autos_of s q)) h.numbers in
-    record { numbers = left.0; serials = left.1; sbs = record { sbsd = q; phase = Active }; started = last_in s.started (record { sbsd = q; phase = Active }); named = refl }
+    record { numbers = left.0; serials = left.1; sbs = record { sbsd = q; phase = Active }; started = last_in s.started (record { sbsd = q; phase = Active }); named = refl; active = refl }
 
 -- P holds of whatever state a call can leave before it settles: a subsystem that starts keeps it, and so does each of its autostart jobs
 pub record HoldsOfStates (P : State → Type 0) (s : State) : Type 0 where
@@ -407,7 +410,7 @@ of_states P s call h = record {
   enters = λ user c d due has. h.enters user c d due has;
   alters = λ reply change place p a. h.alters change place a;
   holds = λ reply held p a. h.holds held a;
-  ends = λ reply change started evokes power p e. h.ends change started evokes power e;
+  ends = λ reply change started evokes power p e told. h.ends change started evokes power e;
   kills = λ m j i k. h.ends (active_at j.serial with_kill) s.started s.evokes s.power (kill_ends s j.serial);
   makes = λ o c. h.makes o c;
 }

@@ -227,7 +227,7 @@ or_true : (a b : Bool) → b ≡ true → (a || b) ≡ true
 or_true true b e = refl
 or_true false b e = e
 
-any_in : {X : Type 0} (p : X → Bool) (xs : List X) (x : X) → IsIn x xs → p x ≡ true → list_any p xs ≡ true
+pub any_in : {X : Type 0} (p : X → Bool) (xs : List X) (x : X) → IsIn x xs → p x ≡ true → list_any p xs ≡ true
 any_in p [] x i e = absurd i
 any_in p (y ∷ ys) x (inl same) e = ap (λ (b : Bool). b || list_any p ys) (ap p (sym same) ∙ e)
 any_in p (y ∷ ys) x (inr i) e = or_true (p y) (list_any p ys) (any_in p ys x i e)

@@ -130,7 +130,7 @@ launches_placed = record {
 }
 
 -- what is active was so before, or waited
-active_before : (p q : Phase) → is_waiting p ≡ false → phase_rank p ≤ phase_rank q → is_active q ≡ true → is_active p ≡ true
+pub active_before : (p q : Phase) → is_waiting p ≡ false → phase_rank p ≤ phase_rank q → is_active q ≡ true → is_active p ≡ true
 active_before Waiting q w r a = absurd (cc)
 active_before Starting q w r a = refl
 active_before (Handed m) q w r a = refl

@@ -18,13 +18,14 @@ use Rattle.wm_law.specs.declared.job.JobKind.TheVariants.{Bch, Asj, Pj}
 use Rattle.wm_law.specs.declared.job.Phase.TheVariants.{Starting}
 use Rattle.wm_law.specs.declared.state.Sbs.{Sbs}
 use Rattle.wm_law.specs.declared.state.State.{State}
+use Rattle.wm_law.specs.Built.{is_ending_call}
 use Rattle.wm_law.specs.Choice.{entry_for}
 use Rattle.wm_law.specs.Counts.{is_active, is_waiting}
 use Rattle.wm_law.specs.History.{after}
 use Rattle.wm_law.specs.Kept.{IsNumbered, HasOrders, HasDistinctNames, HasDescriptions, IsQuiet}
 use Rattle.wm_law.specs.Laws.{IsIn}
 use Rattle.wm_law.specs.Limits.{IsWithinLimits, KeepsLimits}
-use Rattle.wm_law.specs.Machine.{step, with_clock}
+use Rattle.wm_law.specs.Machine.{apply, step, with_clock}
 use Rattle.wm_law.specs.Objects.{AreSound}
 use Rattle.wm_law.specs.Opening.{opening}
 use Rattle.wm_law.specs.Order.{IsInOrder, KeepsOrder}
@@ -183,6 +184,10 @@ NothingDueStays = (s : State) → HasNoneDue s → come_due s ≡ s
 -- and nothing comes due before the next moment of a wish or of an ending subsystem
 abbrev pub NoneDueBefore : Type 0
 NoneDueBefore = (s : State) (moment : ℕ) → HasNoneDue s → has_come moment (soonest (next_wish s) (next_ending s)) ≡ false → HasNoneDue (with_clock s moment)
+
+-- no call but one that tells to end makes anything due before the state settles
+abbrev pub CallsLeaveNoneDue : Type 0
+CallsLeaveNoneDue = (s : State) (caller : ℕ) (call : Call) → IsSound s → HasNoneDue s → is_ending_call call ≡ false → HasNoneDue (apply s caller call).state
 
 -- no start passes a limit over any step
 abbrev pub StepKeepsLimits : Type 0

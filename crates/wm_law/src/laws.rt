@@ -1,7 +1,7 @@
 // Laws of the machine: what its definitions come to, each for all states. They are no calls.
 ghost use Rattle.wm_law.specs.Laws.{FirstIsLeast, NoFirstIsNone, NextIsFirst, NoNextIsNone, RouteIsLeast, NoRouteIsNone, SettledHasNoNext, SettledLeavesNone, RefusalLeaves, RefusedStepSettles, BuiltCallsAreAnswered, BuiltIsHad};
 ghost use Rattle.wm_law.specs.Kept.{OpeningIsNumbered, StepKeepsNumbers, NumbersAreGivenOnce, StepGoesOn, SerialsStartOnce, SerialsAreKilledOnce, OpeningHasOrders, StepKeepsOrders, StartingJobsHaveOrders, HandGivesAnOrder, ReachedRouteIsLeast, OpeningHasDescriptions, StepKeepsDescriptions, StartedAreDescribed, OpeningIsQuiet, StepKeepsQuiet, NoneIsActiveWithoutPower, OpeningHasDistinctNames, StepKeepsNamesDistinct, StartedNamesAreDistinct, StartsInOrder};
-ghost use Rattle.wm_law.specs.Sound.{AutostartJobsNeverWait, OpeningIsSound, StepKeepsSound, StatesAreSound, OpeningHasNoneDue, StepLeavesNoneDue, NoneIsDue, NothingDueStays, NoneDueBefore, StepKeepsLimits, LimitsAreKept, StepKeepsOrder, OrderIsKept};
+ghost use Rattle.wm_law.specs.Sound.{AutostartJobsNeverWait, OpeningIsSound, StepKeepsSound, StatesAreSound, OpeningHasNoneDue, StepLeavesNoneDue, NoneIsDue, CallsLeaveNoneDue, NothingDueStays, NoneDueBefore, StepKeepsLimits, LimitsAreKept, StepKeepsOrder, OrderIsKept};
 
 /// The first job of a subsystem may start there, and no other job that may start there stands before
 /// it. Where there is no first job, no job may start there.
@@ -126,12 +126,13 @@ pub fn states_are_sound()
 
 /// Once the state has settled, nothing is left that is due to end: the moment of no ending subsystem has
 /// come, no active job has a wish that is due, no Starting job is to end now, and each active job of a
-/// subsystem that ends now is to end now, too. Where nothing is due, settling's first part does nothing,
+/// subsystem that ends now is to end now, too. A call that tells nothing to end makes nothing due. Where nothing is due, settling's first part does nothing,
 /// and nothing comes due before the next moment of a wish or of an ending subsystem.
 pub fn settling_ends_what_is_due()
     ensures opening { OpeningHasNoneDue }
     ensures step { StepLeavesNoneDue }
     ensures always { NoneIsDue }
+    ensures calls { CallsLeaveNoneDue }
     ensures stays { NothingDueStays }
     ensures before { NoneDueBefore }
 {}
