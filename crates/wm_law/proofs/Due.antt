@@ -26,7 +26,6 @@ use Rattle.wm_law.specs.Kept.{HasDistinctNames, IsNumbered}
 use Rattle.wm_law.specs.Launch.{as_launched, from_queue, launch, launch_job, launched, launched_at, launched_through, route}
 use Rattle.wm_law.specs.Laws.{IsIn}
 use Rattle.wm_law.specs.Machine.{apply, step, with_clock}
-use Rattle.wm_law.specs.Opening.{opening}
 use Rattle.wm_law.specs.Settling.{come_due, ended_by, is_gone, is_sbs_now, job_at, leave, sbs_at, sbs_moment, sbs_phase_at, sbss_at, unless_started, waiting, with_deadline}
 use Rattle.wm_law.specs.Sound.{HasNoneDue, HasWishes, IsUpToDate, NothingDueStays, OpeningHasNoneDue}
 use Rattle.wm_law.specs.Wishes.{deadline, has_come, has_wish, is_due, is_in_any, is_now, is_to_end, is_wish_due, now_cause, told_now, wish_at, with_wish}

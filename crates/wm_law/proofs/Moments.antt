@@ -1,5 +1,5 @@
 -- Nothing comes due before the next moment of a wish or of an ending subsystem.
-use Rattle.std.proofs.Common.{◌≡◌, ℕ, ◌<◌, ◌≤◌, ◌||◌, ◌&&◌, not, Bool, true, false, cond, List, [], ◌∷◌, fold, Option, Some, None, nat_le, nat_lt, min, max, refl, sym, ap, subst, ◌∙◌, inl, inr, arith}
+use Rattle.std.proofs.Common.{◌≡◌, ℕ, ◌<◌, ◌||◌, ◌&&◌, not, Bool, true, false, cond, List, [], ◌∷◌, fold, Option, Some, None, nat_le, nat_lt, min, max, refl, sym, ap, ◌∙◌, inl, inr, arith}
 use Rattle.std.proofs.lemmas.Bool.Decides.{nat_tests}
 use Rattle.std.proofs.Math.Nat.{min-le_left, min-le_right}
 use Rattle.wm_law.specs.declared.job.Job.{Job}
@@ -9,10 +9,9 @@ use Rattle.wm_law.specs.declared.state.Sbs.{Sbs}
 use Rattle.wm_law.specs.declared.state.State.{State}
 use Rattle.wm_law.specs.Counts.{is_active, is_prestart}
 use Rattle.wm_law.specs.Laws.{IsIn}
-use Rattle.wm_law.specs.Machine.{with_clock}
 use Rattle.wm_law.specs.Pending.{active_moment, ahead, next_ending, next_wish, soonest}
 use Rattle.wm_law.specs.Settling.{sbs_moment}
-use Rattle.wm_law.specs.Sound.{HasNoneDue, IsUpToDate, NoneDueBefore}
+use Rattle.wm_law.specs.Sound.{IsUpToDate, NoneDueBefore}
 use Rattle.wm_law.specs.Wishes.{has_come, is_wish_due, wish_moment}
 use Rattle.wm_law.proofs.Tests.{of_neither}
 

@@ -1,6 +1,5 @@
 -- A call that tells nothing to end makes nothing due.
-use Rattle.std.proofs.Common.{◌≡◌, ℕ, ◌==◌, ◌&&◌, ◌||◌, ◌++◌, Bool, true, false, cond, List, [], ◌∷◌, map, refl, sym, ap, subst, ◌∙◌, inl, inr, arith}
-use Rattle.std.specs.List.{list_any}
+use Rattle.std.proofs.Common.{◌≡◌, ℕ, ◌==◌, ◌&&◌, ◌++◌, Bool, true, false, cond, List, [], ◌∷◌, refl, sym, ap, subst, ◌∙◌, inl, inr, arith}
 use Rattle.wm_base.specs.declared.job.How.{How}
 use Rattle.wm_base.specs.declared.job.How.TheVariants.{Auto}
 use Rattle.wm_base.specs.declared.qname.QName.{QName}
@@ -9,7 +8,7 @@ use Rattle.wm_desc.specs.declared.entry.AutoEntry.{AutoEntry}
 use Rattle.wm_law.specs.declared.call.Call.{Call}
 use Rattle.wm_law.specs.declared.job.Job.{Job}
 use Rattle.wm_law.specs.declared.job.Phase.{Phase}
-use Rattle.wm_law.specs.declared.job.Phase.TheVariants.{Starting, Handed}
+use Rattle.wm_law.specs.declared.job.Phase.TheVariants.{Handed}
 use Rattle.wm_law.specs.declared.job.Wish.{Wish}
 use Rattle.wm_law.specs.declared.job.Wish.TheVariants as wish
 use Rattle.wm_law.specs.declared.state.Sbs.{Sbs}
@@ -22,7 +21,6 @@ use Rattle.wm_law.specs.Jobs.{active_at, with_active}
 use Rattle.wm_law.specs.Kept.{HasDistinctNames, IsNumbered}
 use Rattle.wm_law.specs.Launch.{as_auto, launched_as}
 use Rattle.wm_law.specs.Laws.{IsIn}
-use Rattle.wm_law.specs.Machine.{apply}
 use Rattle.wm_law.specs.Reports.{in_phase, phased_at, with_kill, with_phase}
 use Rattle.wm_law.specs.Settling.{is_sbs_now, sbs_moment}
 use Rattle.wm_law.specs.Sound.{CallsLeaveNoneDue, HasNoneDue, IsUpToDate}

@@ -126,8 +126,9 @@ pub fn states_are_sound()
 
 /// Once the state has settled, nothing is left that is due to end: the moment of no ending subsystem has
 /// come, no active job has a wish that is due, no Starting job is to end now, and each active job of a
-/// subsystem that ends now is to end now, too. A call that tells nothing to end makes nothing due. Where nothing is due, settling's first part does nothing,
-/// and nothing comes due before the next moment of a wish or of an ending subsystem.
+/// subsystem that ends now is to end now, too. A call that tells nothing to end makes nothing due, and
+/// nothing comes due before the next moment of a wish or of an ending subsystem. Where nothing is due,
+/// settling's first part does nothing.
 pub fn settling_ends_what_is_due()
     ensures opening { OpeningHasNoneDue }
     ensures step { StepLeavesNoneDue }

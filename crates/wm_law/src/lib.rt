@@ -5,10 +5,11 @@
 //! stands here: `wm_pick` and `wm_core` compute what these definitions say.
 //!
 //! The definitions are in `specs/`: `Machine` (a step), and by subject `Making`, `Subsystems`, `Autos`, `Submitting`, `Power`,
-//! `Reports`, `Endings` and `Settling`; `Wishes` (whether an active job is to end, and when); `Choice` and `Launch` (which job
-//! starts, and what becomes of it); `Jobs` (a change to one job); `Counts`; `Opening`; `Pending` (what a monitor asks); `Fit` (which calls the machine has, and their ranges); `Laws` and `Kept` (the laws);
-//! `Limits` (no start passes a limit), `Order` (jobs are launched in their order), `Objects` (what holds of tables and subsystem descriptions) and `Sound`
-//! (what holds of each state that a history reaches, and over each entry).
+//! `Reports`, `Endings` and `Settling`; `Wishes` (whether an active job is to end, and when); `Choice` and `Launch` (which
+//! job starts, and what becomes of it); `Jobs` (a change to one job); `Counts`; `Opening`; `Pending` (what a monitor asks);
+//! `Fit` (which calls the machine has, and their ranges); `Laws` and `Kept` (the laws); `Limits` (no start passes a limit),
+//! `Order` (jobs are launched in their order), `Objects` (what holds of tables and subsystem descriptions) and `Sound` (what
+//! holds of each state that a history reaches, and over each entry).
 #![tactic(auto)]
 
 mod boxed;
