@@ -5,8 +5,8 @@ use Rattle.wm_law.specs.declared.job.Job.{Job}
 use Rattle.wm_law.specs.declared.state.Sbs.{Sbs}
 use Rattle.wm_law.specs.Settling.{is_ending, is_gone}
 use Rattle.wm_tally.specs.Tally.{Counts, IsTally}
-use Rattle.wm_pick.specs.Tallied.{hows}
-use Rattle.wm_pick.proofs.TalliedJobs.{tally_has_counts}
+use Rattle.wm_tally.specs.Tallied.{hows}
+use Rattle.wm_tally.proofs.TalliedJobs.{tally_has_counts}
 use Rattle.wm_core.specs.Leaving.{is_gone_by}
 
 gone-alike : (jobs : List Job) (tally : Counts) → IsTally (hows jobs) tally → (b : Sbs) → is_gone_by tally b ≡ is_gone jobs b

@@ -9,14 +9,13 @@ use Rattle.wm_base.specs.declared.job.How.{How}
 use Rattle.wm_desc.specs.Sorted.{has_key, added}
 use Rattle.wm_law.specs.declared.job.Job.{Job}
 use Rattle.wm_law.specs.declared.job.Phase.TheVariants.{Waiting}
-use Rattle.wm_law.specs.Counts.{is_waiting, is_starting, is_active}
-use Rattle.wm_law.specs.Pending.{is_prestart}
+use Rattle.wm_law.specs.Counts.{is_waiting, is_starting, is_active, is_prestart}
 use Rattle.wm_names.specs.Names.{IsNames}
 use Rattle.wm_ordered.specs.Ordered.{key_of}
 use Rattle.wm_tally.specs.Tally.{Counts, IsTally}
 use Rattle.wm_waiting.specs.Waiting as waiting
 use Rattle.wm_pick.specs.Parts.{waiter_of}
-use Rattle.wm_pick.specs.Tallied.{hows}
+use Rattle.wm_tally.specs.Tallied.{hows}
 use Rattle.wm_jobs.specs.Indexed.{order_of, orders, Starts}
 use Rattle.wm_jobs.specs.Table.{Table, serial_of, is_busy}
 use Rattle.wm_jobs.specs.TableInside.{table_of, IsListed, AreListed, IsIndexed, HasRoom, HasNames, IsKept}

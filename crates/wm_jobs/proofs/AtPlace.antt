@@ -12,11 +12,10 @@ use Rattle.wm_law.specs.declared.job.Job.{Job}
 use Rattle.wm_law.specs.declared.job.Phase.{Phase}
 use Rattle.wm_law.specs.declared.job.Phase.TheVariants.{Ended}
 use Rattle.wm_law.specs.declared.launch.Launched.{Launched}
-use Rattle.wm_law.specs.Counts.{is_waiting, is_starting, is_active}
+use Rattle.wm_law.specs.Counts.{is_waiting, is_starting, is_active, is_prestart}
 use Rattle.wm_law.specs.Jobs.{waiting_at}
 use Rattle.wm_law.specs.Launch.{as_launched, launched_at}
 use Rattle.wm_law.specs.Named.{is_ended}
-use Rattle.wm_law.specs.Pending.{is_prestart}
 use Rattle.wm_law.specs.Reports.{in_phase, phased_at}
 use Rattle.wm_names.specs.Names.{Names, HasNamed}
 use Rattle.wm_ordered.specs.Ordered.{Pairs, key_of}

@@ -11,10 +11,9 @@ use Rattle.wm_desc.specs.Sorted.{IsSortedOnce, has_key}
 use Rattle.wm_law.specs.declared.job.Job.{Job}
 use Rattle.wm_law.specs.declared.job.Phase.{Phase}
 use Rattle.wm_law.specs.declared.job.Phase.TheVariants.{Waiting, Starting, Handed, Running, Ended}
-use Rattle.wm_law.specs.Counts.{is_waiting, is_starting, is_active}
+use Rattle.wm_law.specs.Counts.{is_waiting, is_starting, is_active, is_prestart}
 use Rattle.wm_law.specs.Kept.{IsDistinct, waiting_places}
 use Rattle.wm_law.specs.Laws.{IsIn}
-use Rattle.wm_law.specs.Pending.{is_prestart}
 use Rattle.wm_names.specs.Names.{IsNames}
 use Rattle.wm_ordered.specs.Ordered.{Pairs}
 use Rattle.wm_tally.specs.Tally.{Counts}

@@ -6,8 +6,7 @@ use Rattle.wm_base.specs.declared.job.EndCause.TheVariants.{Restarted}
 use Rattle.wm_desc.specs.Sorted.{has_key, added, removed}
 use Rattle.wm_law.specs.declared.job.Job.{Job}
 use Rattle.wm_law.specs.declared.job.Phase.TheVariants.{Ended}
-use Rattle.wm_law.specs.Counts.{is_starting, is_active}
-use Rattle.wm_law.specs.Pending.{is_prestart}
+use Rattle.wm_law.specs.Counts.{is_starting, is_active, is_prestart}
 use Rattle.wm_law.specs.Reports.{in_phase}
 use Rattle.wm_ordered.specs.Ordered.{Pairs, key_of}
 use Rattle.wm_tally.specs.Tally.{Counts, IsTally}
@@ -16,7 +15,7 @@ use Rattle.wm_waiting.specs.Waiting.{Waiting, HavePlaces, has_place}
 use Rattle.wm_waiting.specs.Waiting as waiting
 use Rattle.wm_waiting.proofs.Members.{Contains-head, Contains-cons, list_any-none}
 use Rattle.wm_pick.specs.Parts.{waiter_of, waiters}
-use Rattle.wm_pick.specs.Tallied.{hows}
+use Rattle.wm_tally.specs.Tallied.{hows}
 use Rattle.wm_jobs.specs.Indexed.{order_of, orders, Starts, Ends}
 use Rattle.wm_jobs.specs.Stored.{joined_by, IsOther}
 use Rattle.wm_jobs.specs.Table.{serial_of, is_busy}

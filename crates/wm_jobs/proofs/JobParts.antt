@@ -21,7 +21,7 @@ use Rattle.wm_waiting.specs.declared.waiter.Waiter.{Waiter}
 use Rattle.wm_waiting.specs.Waiting.{is_ahead, next_due}
 use Rattle.wm_waiting.specs.Waiting as waiting
 use Rattle.wm_pick.specs.Parts.{waiter_on, waiter_of, waiters}
-use Rattle.wm_pick.specs.Tallied.{hows}
+use Rattle.wm_tally.specs.Tallied.{hows}
 use Rattle.wm_jobs.specs.Indexed.{order_of, orders, Starts, Ends}
 use Rattle.wm_jobs.specs.Table.{serial_of, starting_in}
 use Rattle.wm_jobs.proofs.Sifted.{count-append, count-cons, differs, picked-keys}

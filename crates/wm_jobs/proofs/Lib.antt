@@ -3,6 +3,7 @@ pub mod AtLaunch
 pub mod AtPlace
 pub mod AtStored
 pub mod AtUndo
+pub mod AtWish
 pub mod Changes
 pub mod Cleared
 pub mod Counted

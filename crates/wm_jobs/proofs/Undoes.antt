@@ -8,10 +8,9 @@ use Rattle.std.proofs.lemmas.List.Elements.{All-nil}
 use Rattle.wm_desc.specs.Place.{IsAt}
 use Rattle.wm_desc.specs.Sorted.{has_key, added, removed}
 use Rattle.wm_law.specs.declared.job.Job.{Job}
-use Rattle.wm_law.specs.Counts.{is_starting, is_active}
+use Rattle.wm_law.specs.Counts.{is_starting, is_active, is_prestart}
 use Rattle.wm_law.specs.Jobs.{changed_at}
 use Rattle.wm_law.specs.Named.{is_ended}
-use Rattle.wm_law.specs.Pending.{is_prestart}
 use Rattle.wm_names.specs.Names.{Names, IsNames, HasNamed, HasLast}
 use Rattle.wm_names.specs.Names as names
 use Rattle.wm_ordered.specs.Ordered.{Pairs, key_of}
@@ -20,7 +19,7 @@ use Rattle.wm_waiting.specs.declared.waiter.Waiter.{Waiter}
 use Rattle.wm_waiting.specs.Waiting.{Waiting}
 use Rattle.wm_waiting.specs.Waiting as waiting
 use Rattle.wm_pick.specs.Parts.{waiter_of, waiters}
-use Rattle.wm_pick.specs.Tallied.{hows}
+use Rattle.wm_tally.specs.Tallied.{hows}
 use Rattle.wm_jobs.specs.declared.touched.Touched.{Touched}
 use Rattle.wm_jobs.specs.Marked.{standing_as, restored, undone, marked_by}
 use Rattle.wm_jobs.specs.Indexed.{order_of, orders, nodes_of, Starts, Ends, NamesEnded, NamesAgain}

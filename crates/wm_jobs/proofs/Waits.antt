@@ -13,16 +13,15 @@ use Rattle.wm_law.specs.declared.command.Chgjob.{Chgjob}
 use Rattle.wm_law.specs.declared.job.Job.{Job}
 use Rattle.wm_law.specs.declared.job.Phase.{Phase}
 use Rattle.wm_law.specs.Changing.{moved_to}
-use Rattle.wm_law.specs.Counts.{is_waiting, is_starting, is_active}
+use Rattle.wm_law.specs.Counts.{is_waiting, is_starting, is_active, is_prestart}
 use Rattle.wm_law.specs.Jobs.{waiting_at}
-use Rattle.wm_law.specs.Pending.{is_prestart}
 use Rattle.wm_ordered.specs.Ordered.{Pairs}
 use Rattle.wm_tally.specs.Tally.{Counts, IsTally}
 use Rattle.wm_waiting.specs.declared.waiter.Waiter.{Waiter}
 use Rattle.wm_waiting.specs.Waiting.{Waiting, replaced}
 use Rattle.wm_waiting.specs.Waiting as waiting
 use Rattle.wm_pick.specs.Parts.{waiter_of, waiters}
-use Rattle.wm_pick.specs.Tallied.{hows}
+use Rattle.wm_tally.specs.Tallied.{hows}
 use Rattle.wm_jobs.specs.Indexed.{order_of, orders}
 use Rattle.wm_jobs.specs.Renewed.{renewed, OwnsPlace}
 use Rattle.wm_jobs.specs.Table.{serial_of, is_busy}
@@ -36,7 +35,7 @@ use Rattle.wm_jobs.proofs.Splits.{changed-one, gap-unchanged, map-split, sorted-
 abbrev pub if_waiting : (Job → Job) → Job → Job
 if_waiting change j = cond (is_waiting j.phase) (change j) j
 
-swap : {X : Type 0} (a b : Bool) (x y : X) → cond (a && b) x y ≡ cond b (cond a x y) y
+pub swap : {X : Type 0} (a b : Bool) (x y : X) → cond (a && b) x y ≡ cond b (cond a x y) y
 swap true true x y = refl
 swap true false x y = refl
 swap false true x y = refl
@@ -165,6 +164,16 @@ module _ (s : ℕ) (l r : List Job) (x y : Job) (here : x.serial ≡ s) (lower :
     pub renewed-indexed : (w0 w1 : Waiting) (t : Counts) (o : Pairs ℕ (Unit {0})) (a b : ℕ) → is_some (waiter_of y) ≡ is_some (waiter_of x) → IsIndexed (l ++ x ∷ r) w0 t o a b → w1.items ≡ renewed (waiter_of y) w0.items → IsIndexed (l ++ y ∷ r) w1 t o a b
     renewed-indexed w0 w1 t o a b alike i we = record {
       waiters_are = we ∙ (ap (λ ws. renewed (waiter_of y) ws) i.waiters_are ∙ waiters-renewed alike);
+      hows_are = subst (λ hs. IsTally hs t) (sym hows-alike) i.hows_are;
+      orders_are = i.orders_are ∙ orders-alike;
+      active_are = i.active_are ∙ count-alike (λ k. is_active k.phase) (ap is_active phase);
+      busy_are = i.busy_are ∙ count-alike is_busy (ap (λ p. is_active p && not (is_prestart y.kind)) phase ∙ ap (λ k. is_active x.phase && not (is_prestart k)) kind);
+    }
+
+    -- where it waits as the other did, nothing is to be renewed
+    pub alike-indexed : (w : Waiting) (t : Counts) (o : Pairs ℕ (Unit {0})) (a b : ℕ) → waiter_of x ≡ waiter_of y → IsIndexed (l ++ x ∷ r) w t o a b → IsIndexed (l ++ y ∷ r) w t o a b
+    alike-indexed w t o a b waits i = record {
+      waiters_are = i.waiters_are ∙ picked-same serial_of waiter_of waiting.serial_of waiter-keyed l r x y waits;
       hows_are = subst (λ hs. IsTally hs t) (sym hows-alike) i.hows_are;
       orders_are = i.orders_are ∙ orders-alike;
       active_are = i.active_are ∙ count-alike (λ k. is_active k.phase) (ap is_active phase);

@@ -1,8 +1,8 @@
 -- What a contract sees of the table of jobs, and what is asked of it.
 use Rattle.std.specs.Prelude.{ℕ, ◌+◌, ◌≤◌, Bool, not, ◌&&◌, nat_lt, List, length, count_by, fold, Option, None, if◌then◌else◌}
 use Rattle.wm_law.specs.declared.job.Job.{Job}
-use Rattle.wm_law.specs.Counts.{is_waiting, is_starting, is_active}
-use Rattle.wm_law.specs.Pending.{is_prestart, sooner}
+use Rattle.wm_law.specs.Counts.{is_waiting, is_starting, is_active, is_prestart}
+use Rattle.wm_law.specs.Pending.{sooner}
 use Rattle.wm_jobs.specs.Marked.{Marked}
 use Rattle.wm_jobs.specs.declared.touched.Touched.{Touched}
 

@@ -9,7 +9,7 @@ use Rattle.wm_ordered.specs.Ordered.{Pairs}
 use Rattle.wm_tally.specs.Tally.{Counts, IsTally}
 use Rattle.wm_waiting.specs.Waiting.{Waiting, HavePlaces}
 use Rattle.wm_pick.specs.Parts.{waiters}
-use Rattle.wm_pick.specs.Tallied.{hows}
+use Rattle.wm_tally.specs.Tallied.{hows}
 use Rattle.wm_jobs.specs.Indexed.{orders, nodes_of}
 use Rattle.wm_jobs.specs.Marked.{undone, marked_by}
 use Rattle.wm_jobs.specs.Table.{Table, serial_of, active_in, busy_in}

@@ -24,6 +24,7 @@ mod table;
 mod touched;
 mod undoing;
 mod waiting;
+mod wishing;
 
 pub use table::JobTable;
 pub use touched::{Standing, Touched};

@@ -82,7 +82,7 @@ impl JobTable {
     ghost use Rattle.wm_law.specs.Reports.{phased_at};
     ghost use Rattle.wm_tally.specs.Tally.{IsTally};
     ghost use Rattle.wm_pick.specs.Parts.{waiters};
-    ghost use Rattle.wm_pick.specs.Tallied.{hows};
+    ghost use Rattle.wm_tally.specs.Tallied.{hows};
     ghost use Rattle.wm_jobs.specs.Table.{active_in, busy_in, starting_in, next_due_in, present, IsReady};
 
     /// No jobs; the clock is 0, and serials and places begin at 1.

@@ -1,9 +1,8 @@
 use Rattle.std.proofs.lemmas.List.{length-append}
 use Rattle.std.proofs.Common.{◌≡◌, ◌+◌, not, ◌&&◌, cond, true, length, vec_capacity, is_some, refl, ap, ◌∙◌, arith, ◌∷◌, []}
 use Rattle.wm_law.specs.declared.job.Job.{Job}
-use Rattle.wm_law.specs.Counts.{is_waiting}
+use Rattle.wm_law.specs.Counts.{is_waiting, is_prestart}
 use Rattle.wm_law.specs.Launch.{as_launched, launched_at}
-use Rattle.wm_law.specs.Pending.{is_prestart}
 use Rattle.wm_jobs.specs.Marked.{touched_of}
 use Rattle.wm_jobs.specs.Table.{Table, serial_of}
 use Rattle.wm_jobs.specs.TableInside.{pending_of}

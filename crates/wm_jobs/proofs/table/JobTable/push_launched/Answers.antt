@@ -1,5 +1,5 @@
 use Rattle.std.proofs.Common.{◌≡◌, ◌+◌, ◌-◌, not, ◌&&◌, cond, length, vec_capacity, refl, ap, ◌∙◌, arith}
-use Rattle.wm_law.specs.Pending.{is_prestart}
+use Rattle.wm_law.specs.Counts.{is_prestart}
 use Rattle.wm_jobs.specs.Table.{Table}
 use Rattle.wm_jobs.specs.TableInside.{pending_of}
 use Rattle.wm_jobs.proofs.AtLaunch.{launched-finds, launched-pushed}

@@ -1,8 +1,7 @@
 use Rattle.std.proofs.lemmas.List.{length-append}
 use Rattle.std.proofs.Common.{◌≡◌, ◌+◌, ◌-◌, length, vec_capacity, not, ◌&&◌, cond, true, refl, ap, sym, ◌∙◌, arith, ◌∷◌, []}
 use Rattle.wm_law.specs.declared.job.Job.{Job}
-use Rattle.wm_law.specs.Counts.{is_active}
-use Rattle.wm_law.specs.Pending.{is_prestart}
+use Rattle.wm_law.specs.Counts.{is_active, is_prestart}
 use Rattle.wm_law.specs.Reports.{in_phase, phased_at}
 use Rattle.wm_jobs.specs.Marked.{touched_of}
 use Rattle.wm_jobs.specs.Table.{Table, serial_of}

@@ -2,9 +2,8 @@ use Rattle.std.proofs.Common.{◌≡◌, ◌+◌, ◌-◌, not, ◌&&◌, cond, 
 use Rattle.std.proofs.lemmas.List.{length-append, length-map}
 use Rattle.wm_desc.specs.Sorted.{has_key}
 use Rattle.wm_law.specs.declared.job.Job.{Job}
-use Rattle.wm_law.specs.Counts.{is_starting}
+use Rattle.wm_law.specs.Counts.{is_starting, is_prestart}
 use Rattle.wm_law.specs.Jobs.{changed_at}
-use Rattle.wm_law.specs.Pending.{is_prestart}
 use Rattle.wm_ordered.specs.Ordered.{key_of}
 use Rattle.wm_pick.specs.Parts.{waiter_of}
 use Rattle.wm_jobs.specs.Marked.{standing_as}
