@@ -12,7 +12,7 @@ use Rattle.wm_law.specs.Endings.{end_active, end_in_phase, is_wished, job_wish}
 use Rattle.wm_law.specs.Jobs.{with_active}
 use Rattle.wm_law.specs.Stepped.{refused}
 use Rattle.wm_law.specs.Wishes.{with_wish}
-use Rattle.wm_ending.specs.declared.ending.Ending.TheVariants.{Wished}
+use Rattle.wm_ending.specs.declared.endings.Ending.TheVariants.{Wished}
 use Rattle.wm_ending.specs.OneJob.{active_ending, ending_in, with_ending, EndsOneJob}
 
 -- an active job is refused, or gets its wish

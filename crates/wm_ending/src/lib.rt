@@ -7,14 +7,14 @@
 //! The definitions are in `specs/`: `OneJob` has what ENDJOB makes of a job, `Gone` which subsystem is gone by its count.
 #![tactic(auto)]
 
-mod deadline;
-mod end_job;
-mod ending;
-mod gone;
+mod deadlines;
+mod endings;
 mod laws;
+mod leaving;
+mod one_job;
 
-pub use deadline::deadline;
-pub use end_job::end_job;
-pub use ending::Ending;
-pub use gone::gone;
+pub use deadlines::deadline;
+pub use endings::Ending;
 pub use laws::ending_ends_one_job;
+pub use leaving::gone;
+pub use one_job::end_job;

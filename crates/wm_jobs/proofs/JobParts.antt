@@ -22,8 +22,8 @@ use Rattle.wm_waiting.specs.Waiting.{is_ahead, next_due}
 use Rattle.wm_waiting.specs.Waiting as waiting
 use Rattle.wm_pick.specs.Parts.{waiter_on, waiter_of, waiters}
 use Rattle.wm_tally.specs.Tallied.{hows}
-use Rattle.wm_jobs.specs.Indexed.{order_of, orders, Starts, Ends}
-use Rattle.wm_jobs.specs.Table.{serial_of, starting_in}
+use Rattle.wm_jobs.specs.Indexed.{order_of, orders, active_of, actives, Starts, Ends}
+use Rattle.wm_jobs.specs.Table.{serial_of, active_in, starting_in}
 use Rattle.wm_jobs.proofs.Sifted.{count-append, count-cons, differs, picked-keys}
 use Rattle.wm_jobs.proofs.Splits.{above-head}
 
@@ -96,6 +96,16 @@ order-none j h = ap (λ b. cond b (Some (j.serial, tt)) None) h
 
 pub order-some : (j : Job) (s : ℕ) → j.serial ≡ s → is_starting j.phase ≡ true → order_of j ≡ Some (s, tt)
 order-some j s same h = ap (λ b. cond b (Some (j.serial, tt)) None) h ∙ ap (λ (n : ℕ). Some (n, tt)) same
+
+-- a job that is active
+pub active-keyed : (j : Job) (e : ℕ × Unit {0}) → active_of j ≡ Some e → e.0 ≡ j.serial
+active-keyed j e is = order-on j (is_active j.phase) e is
+
+pub active-none : (j : Job) → is_active j.phase ≡ false → active_of j ≡ None
+active-none j h = ap (λ b. cond b (Some (j.serial, tt)) None) h
+
+pub active-some : (j : Job) (s : ℕ) → j.serial ≡ s → is_active j.phase ≡ true → active_of j ≡ Some (s, tt)
+active-some j s same h = ap (λ b. cond b (Some (j.serial, tt)) None) h ∙ ap (λ (n : ℕ). Some (n, tt)) same
 
 -- hows
 hows-first : (j : Job) (r : List Job) (b : Bool) → is_active j.phase ≡ b → hows (j ∷ r) ≡ cond b (j.how ∷ hows r) (hows r)
@@ -212,7 +222,16 @@ orders-counted (j ∷ js) =
     let rest = orders-counted js in
     omega arith
 
--- the first of them
+-- how many are active
+pub actives-counted : (jobs : List Job) → length (actives jobs) ≡ active_in jobs
+actives-counted [] = refl
+actives-counted (j ∷ js) =
+    let first : length (actives (j ∷ js)) ≡ cond (is_active j.phase) 1 0 + length (actives js) = orders-first (is_active j.phase) j (actives js) in
+    let counts : active_in (j ∷ js) ≡ cond (is_active j.phase) 1 0 + active_in js = count-cons (λ k. is_active k.phase) j js in
+    let rest = actives-counted js in
+    omega arith
+
+-- the first of those that wait for a monitor
 abbrev number_in : Option (ℕ × Unit {0}) → ℕ
 number_in None = 0
 number_in (Some e) = e.0

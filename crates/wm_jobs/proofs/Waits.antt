@@ -22,12 +22,12 @@ use Rattle.wm_waiting.specs.Waiting.{Waiting, replaced}
 use Rattle.wm_waiting.specs.Waiting as waiting
 use Rattle.wm_pick.specs.Parts.{waiter_of, waiters}
 use Rattle.wm_tally.specs.Tallied.{hows}
-use Rattle.wm_jobs.specs.Indexed.{order_of, orders}
+use Rattle.wm_jobs.specs.Indexed.{order_of, orders, active_of, actives}
 use Rattle.wm_jobs.specs.Renewed.{renewed, OwnsPlace}
 use Rattle.wm_jobs.specs.Table.{serial_of, is_busy}
 use Rattle.wm_jobs.specs.TableInside.{IsListed, AreListed, IsIndexed, HasRoom}
 use Rattle.wm_jobs.proofs.Changes.{all-changed, all-there}
-use Rattle.wm_jobs.proofs.JobParts.{hows-active, hows-inactive, count-changed, order-keyed, waiter-keyed, waiter-none, waiter-some}
+use Rattle.wm_jobs.proofs.JobParts.{hows-active, hows-inactive, count-changed, order-keyed, active-keyed, waiter-keyed, waiter-none, waiter-some}
 use Rattle.wm_jobs.proofs.Sifted.{picked-keys, picked-parts, picked-same}
 use Rattle.wm_jobs.proofs.Splits.{changed-one, gap-unchanged, map-split, sorted-changed}
 
@@ -155,28 +155,33 @@ module _ (s : ℕ) (l r : List Job) (x y : Job) (here : x.serial ≡ s) (lower :
         picked-same serial_of order_of (λ e. e.0) order-keyed l r x y
         (ap (λ (p : Phase). cond (is_starting p) (Some (x.serial, tt)) None) (sym phase) ∙ ap (λ (n : ℕ). cond (is_starting y.phase) (Some (n, tt)) None) (sym serial))
 
+    actives-alike : actives (l ++ x ∷ r) ≡ actives (l ++ y ∷ r)
+    actives-alike =
+        picked-same serial_of active_of (λ e. e.0) active-keyed l r x y
+        (ap (λ (p : Phase). cond (is_active p) (Some (x.serial, tt)) None) (sym phase) ∙ ap (λ (n : ℕ). cond (is_active y.phase) (Some (n, tt)) None) (sym serial))
+
     count-alike : (p : Job → Bool) → p y ≡ p x → count_by p (l ++ x ∷ r) ≡ count_by p (l ++ y ∷ r)
     count-alike p same =
         let changed = count-changed p l r x y in
         let bit : ◌≡◌ {A = ℕ} (cond (p y) 1 0) (cond (p x) 1 0) = ap (λ b. cond b 1 0) same in
         omega arith
 
-    pub renewed-indexed : (w0 w1 : Waiting) (t : Counts) (o : Pairs ℕ (Unit {0})) (a b : ℕ) → is_some (waiter_of y) ≡ is_some (waiter_of x) → IsIndexed (l ++ x ∷ r) w0 t o a b → w1.items ≡ renewed (waiter_of y) w0.items → IsIndexed (l ++ y ∷ r) w1 t o a b
+    pub renewed-indexed : (w0 w1 : Waiting) (t : Counts) (o a : Pairs ℕ (Unit {0})) (b : ℕ) → is_some (waiter_of y) ≡ is_some (waiter_of x) → IsIndexed (l ++ x ∷ r) w0 t o a b → w1.items ≡ renewed (waiter_of y) w0.items → IsIndexed (l ++ y ∷ r) w1 t o a b
     renewed-indexed w0 w1 t o a b alike i we = record {
       waiters_are = we ∙ (ap (λ ws. renewed (waiter_of y) ws) i.waiters_are ∙ waiters-renewed alike);
       hows_are = subst (λ hs. IsTally hs t) (sym hows-alike) i.hows_are;
       orders_are = i.orders_are ∙ orders-alike;
-      active_are = i.active_are ∙ count-alike (λ k. is_active k.phase) (ap is_active phase);
+      active_are = i.active_are ∙ actives-alike;
       busy_are = i.busy_are ∙ count-alike is_busy (ap (λ p. is_active p && not (is_prestart y.kind)) phase ∙ ap (λ k. is_active x.phase && not (is_prestart k)) kind);
     }
 
     -- where it waits as the other did, nothing is to be renewed
-    pub alike-indexed : (w : Waiting) (t : Counts) (o : Pairs ℕ (Unit {0})) (a b : ℕ) → waiter_of x ≡ waiter_of y → IsIndexed (l ++ x ∷ r) w t o a b → IsIndexed (l ++ y ∷ r) w t o a b
+    pub alike-indexed : (w : Waiting) (t : Counts) (o a : Pairs ℕ (Unit {0})) (b : ℕ) → waiter_of x ≡ waiter_of y → IsIndexed (l ++ x ∷ r) w t o a b → IsIndexed (l ++ y ∷ r) w t o a b
     alike-indexed w t o a b waits i = record {
       waiters_are = i.waiters_are ∙ picked-same serial_of waiter_of waiting.serial_of waiter-keyed l r x y waits;
       hows_are = subst (λ hs. IsTally hs t) (sym hows-alike) i.hows_are;
       orders_are = i.orders_are ∙ orders-alike;
-      active_are = i.active_are ∙ count-alike (λ k. is_active k.phase) (ap is_active phase);
+      active_are = i.active_are ∙ actives-alike;
       busy_are = i.busy_are ∙ count-alike is_busy (ap (λ p. is_active p && not (is_prestart y.kind)) phase ∙ ap (λ k. is_active x.phase && not (is_prestart k)) kind);
     }
 

@@ -3,7 +3,7 @@ use Rattle.std.specs.Prelude.{◌≡◌, ℕ, ◌+◌, ◌≤◌, Bool, true, fa
 use Rattle.wm_base.specs.declared.job.How.{How}
 use Rattle.wm_law.specs.declared.job.Job.{Job}
 use Rattle.wm_law.specs.declared.job.Phase.{Phase}
-use Rattle.wm_law.specs.Counts.{is_starting}
+use Rattle.wm_law.specs.Counts.{is_starting, is_active}
 use Rattle.wm_law.specs.Named.{is_ended}
 use Rattle.wm_names.specs.Names.{Names, IsNames}
 use Rattle.wm_ordered.specs.Ordered.{Pairs}
@@ -17,6 +17,14 @@ order_of j = if is_starting j.phase then Some (j.serial, tt) else None
 -- the jobs that wait for a monitor, in the order of the jobs
 abbrev pub orders : List Job → List (ℕ × Unit {0})
 orders jobs = filter_map order_of jobs
+
+-- an active job, by its serial
+abbrev pub active_of : Job → Option (ℕ × Unit {0})
+active_of j = if is_active j.phase then Some (j.serial, tt) else None
+
+-- the active jobs, in the order of the jobs
+abbrev pub actives : List Job → List (ℕ × Unit {0})
+actives jobs = filter_map active_of jobs
 
 -- for how many orders there is room in all, those that are there with them
 abbrev pub nodes_of : Pairs ℕ (Unit {0}) → ℕ
@@ -45,8 +53,9 @@ abbrev pub NamesAgain : Names → Names → Job → Type 0
 NamesAgain old new job = (before behind : List Job) (ended : Job) → ended.serial ≡ job.serial → ended.job ≡ job.job → is_ended ended.phase ≡ true → IsNames (before ++ ended ∷ behind) old → IsNames (before ++ job ∷ behind) new
 
 -- each has room for so many more that wait, for so many starts more, for so many more orders, or for so many more names
-pub record HasTaken (waits starts orders named : ℕ) (waiting : Waiting) (tally : Counts) (starting : Pairs ℕ (Unit {0})) (names : Names) : Type 0 where
+pub record HasTaken (waits starts orders named : ℕ) (waiting : Waiting) (tally : Counts) (starting active : Pairs ℕ (Unit {0})) (names : Names) : Type 0 where
   pub to_wait : waits ≤ waiting.spare
   pub to_count : starts ≤ tally.spare
   pub to_start : orders ≤ starting.spare
+  pub to_list : starts ≤ active.spare
   pub to_name : named ≤ names.spare

@@ -2,7 +2,8 @@
 ghost use Rattle.std.specs.Prelude.{◌≤◌};
 
 use crate::counts::{
-    count_end, count_start, end_names, fewer, more, put_order, reserve_all, take_order,
+    count_end, count_start, end_active, end_names, fewer, more, put_active, put_order, reserve_all,
+    take_serial,
 };
 use crate::marking::note;
 use crate::phases::{counts_as_busy, is_active, waiter_of};
@@ -45,7 +46,8 @@ pub struct JobTable {
     pub(crate) starting: Ordered<Serial, ()>,
     // Which of the jobs a command names.
     pub(crate) names: JobNames,
-    pub(crate) active: usize,
+    // The active jobs.
+    pub(crate) active: Ordered<Serial, ()>,
     // The active jobs that aren't prestart jobs.
     pub(crate) busy: usize,
     pub(crate) next_serial: u64,
@@ -113,7 +115,7 @@ impl JobTable {
             tally: Tally::new(alloc),
             starting: Ordered::new(alloc),
             names: JobNames::new(alloc),
-            active: 0,
+            active: Ordered::new(alloc),
             busy: 0,
             next_serial,
             next_place,
@@ -161,9 +163,10 @@ impl JobTable {
             &mut self.waiting,
             &mut self.tally,
             &mut self.starting,
+            &mut self.active,
             &mut self.names,
             more + notes,
-            room_for(launches + undos, self.active),
+            room_for(launches + undos, self.active.len()),
             undos,
             more + undos,
         )?;
@@ -236,7 +239,7 @@ impl JobTable {
         count_start(&mut self.tally, &job.how, &job.phase);
         put_order(&mut self.starting, job.serial, &job.phase);
         self.names.add(&job);
-        self.active = more(self.active, starts);
+        put_active(&mut self.active, job.serial, &job.phase);
         self.busy = more(self.busy, busy);
         self.jobs.push_reserved(job);
         self.next_serial += 1;
@@ -266,7 +269,7 @@ impl JobTable {
         count_start(&mut self.tally, &launched.how, &launched.phase);
         put_order(&mut self.starting, serial, &launched.phase);
         end_names(&mut self.names, job, &launched.phase);
-        self.active = more(self.active, starts);
+        put_active(&mut self.active, serial, &launched.phase);
         self.busy = more(self.busy, busy);
         note(&mut self.touched, job);
         launch_at(&mut self.jobs, at, serial, launched);
@@ -295,10 +298,10 @@ impl JobTable {
         let job = &self.jobs[at];
         let ends = !is_active(&phase);
         let busy = counts_as_busy(ends, &job.kind);
-        take_order(&mut self.starting, serial);
+        take_serial(&mut self.starting, serial);
         count_end(&mut self.tally, &job.how, &phase);
         end_names(&mut self.names, job, &phase);
-        self.active = fewer(self.active, ends);
+        end_active(&mut self.active, serial, &phase);
         self.busy = fewer(self.busy, busy);
         note(&mut self.touched, job);
         self.changes -= 1;
@@ -367,7 +370,7 @@ impl JobTable {
     pub fn active(&self) -> usize
         ensures { result ≡ active_in self.now.jobs }
     {
-        self.active
+        self.active.len()
     }
 
     /// How many active jobs aren't prestart jobs.

@@ -1,6 +1,6 @@
 // What was done since the mark is taken back.
 use crate::JobTable;
-use crate::counts::{fewer, forget, more, put_in, take_out};
+use crate::counts::{fewer, forget, more, put_active, put_in, take_out, take_serial};
 use crate::phases::{counts_as_busy, is_active};
 use crate::places::{place, stand_at};
 
@@ -69,7 +69,7 @@ impl JobTable {
             &mut self.names,
             &job,
         );
-        self.active = fewer(self.active, active);
+        take_serial(&mut self.active, job.serial);
         self.busy = fewer(self.busy, busy);
         forget(&mut self.names, job);
     }
@@ -100,7 +100,7 @@ impl JobTable {
             &mut self.names,
             job,
         );
-        self.active = fewer(self.active, was_active);
+        take_serial(&mut self.active, touched.serial);
         self.busy = fewer(self.busy, was_busy);
         stand_at(&mut self.jobs, at, touched.serial, &touched.was);
         let job = &self.jobs[at];
@@ -113,7 +113,7 @@ impl JobTable {
             &mut self.names,
             job,
         );
-        self.active = more(self.active, active);
+        put_active(&mut self.active, touched.serial, &job.phase);
         self.busy = more(self.busy, busy);
         self.undos -= 1;
     }

@@ -24,7 +24,7 @@ invariant_of-self c =
     let noted-more : length c.note.new.touched.items ≡ length t.touched.items + 1 = ap length c.note.ensures.items ∙ length-append t.touched.items (touched_of x ∷ []) in
     agrees _
     (wished-inside t c.self.invariant.kept c.args.serial c.in-Ok.at x c.deref.result.now c.deref.ensures.value c.in-Ok.ensures c.index.ensures c.args.wish c.wish_at.new.jobs.items c.wish_at.ensures.jobs _ refl refl refl refl c.wish_at.ensures.capacity refl refl refl refl refl refl)
-    (let had = c.self.invariant.undos in let wait = had.to_wait in record { to_wait = omega (arith, noted-more, some, c.requires.changes); to_count = had.to_count; to_name = had.to_name })
+    (let had = c.self.invariant.undos in let wait = had.to_wait in record { to_wait = omega (arith, noted-more, some, c.requires.changes); to_count = had.to_count; to_list = had.to_list; to_name = had.to_name })
     (λ kept. undoable-noted t.mark t.touched.items t.jobs.items t.next_serial t.next_place (pending_of t.starting t.room) t.waiting.clock c.self.invariant.undoable _ kept c.len.ensures.places refl (omega arith) (omega arith) (omega arith) (omega arith) (touched_of x) c.note.ensures.items (wished-first t c.self.invariant.kept c.args.serial c.in-Ok.at x c.deref.result.now c.deref.ensures.value c.in-Ok.ensures c.index.ensures c.args.wish c.wish_at.new.jobs.items c.wish_at.ensures.jobs t.mark.jobs))
     (noted t.jobs.items c.wish_at.new.jobs.items t.touched.items c.note.new.touched.items (touched_of x) (active_at c.args.serial (with_wish c.args.wish)) t.mark.jobs (vec_capacity t.touched) (vec_capacity c.note.new.touched) (length t.waiting.items) (length t.waiting.items) t.room t.room t.changes (t.changes - 1) c.self.invariant.marked c.wish_at.ensures.jobs c.note.ensures.items c.note.ensures.capacity (omega (arith, some, c.requires.changes)))
 

@@ -36,15 +36,11 @@ fn is_due(job: &Job, until: Option<Moment>, clock: Moment) -> bool
 pub fn deadline(job: &Job, clock: Moment) -> Wish
     ensures { result ≡ deadline clock job.now }
 {
-    match job.wish {
-        Wish::NoWish => Wish::NoWish,
-        Wish::Later { until, why } => {
-            if is_due(job, until, clock) {
-                Wish::Now { why, handed: false }
-            } else {
-                Wish::Later { until, why }
-            }
-        }
-        Wish::Now { why, handed } => Wish::Now { why, handed },
+    let Wish::Later { until, why } = job.wish else {
+        return job.wish;
+    };
+    if is_due(job, until, clock) {
+        return Wish::Now { why, handed: false };
     }
+    job.wish
 }
