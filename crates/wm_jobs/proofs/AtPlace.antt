@@ -131,8 +131,7 @@ module _ (t : Inside) (h : IsKept t) (s at : ℕ) (x : Job) (js : List Job) (sam
   -- a launch finds room, and the serial neither among the orders nor among the active ones
   pub launch-finds : is_waiting x.phase ≡ true → (1 ≤ t.tally.spare) × (1 ≤ t.starting.spare) × (has_key key_of nat_eq s t.starting.items ≡ false) × (has_key key_of nat_eq s t.active.items ≡ false)
   launch-finds waits =
-      let spare = launch-spare s before behind x split.here split.lower split.higher t.next_serial t.next_place (vec_capacity t.jobs) t.room t.waiting t.tally t.starting t.active t.busy waits around_listed around_indexed around_room in
-      (
+      let spare = launch-spare s before behind x split.here split.lower split.higher t.next_serial t.next_place (vec_capacity t.jobs) t.room t.waiting t.tally t.starting t.active t.busy waits around_listed around_indexed around_room in (
         spare.0,
         spare.1,
         ap (λ os. has_key key_of nat_eq s os) around_indexed.orders_are ∙ launch-new s before behind x split.here split.lower split.higher waits,

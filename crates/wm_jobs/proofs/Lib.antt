@@ -1,3 +1,4 @@
+pub mod Actives
 pub mod AtEnd
 pub mod AtLaunch
 pub mod AtPlace

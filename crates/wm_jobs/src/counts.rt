@@ -91,9 +91,10 @@ pub(crate) fn end_active(active: &mut Ordered<Serial, ()>, serial: Serial, phase
     ensures items { active.new.items ≡ (if is_active phase.now then active.old.items else removed key_of nat_eq serial active.old.items) }
     ensures spare { active.old.spare ≤ active.new.spare }
 {
-    if !is_active(phase) {
-        take_serial(active, serial);
+    if is_active(phase) {
+        return;
     }
+    take_serial(active, serial);
 }
 
 /// A job that hasn't ended comes into a phase: where it ends, a reference without its number names it no more.

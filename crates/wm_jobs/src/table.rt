@@ -76,7 +76,7 @@ impl Model for JobTable {
 }
 
 impl JobTable {
-    ghost use Rattle.std.specs.Prelude.{◌≡◌, ◌==◌, ◌+◌, ◌∷◌, ◌++◌, ◌^◌, ◌<◌, ◌≤◌, [], true, false, is_some, max, find, map, Some, IfSome, OnOk, OnErr};
+    ghost use Rattle.std.specs.Prelude.{◌≡◌, ◌==◌, ◌&&◌, ◌+◌, ◌∷◌, ◌++◌, ◌^◌, ◌<◌, ◌≤◌, [], true, false, is_some, max, nat_le, find, map, Some, IfSome, OnOk, OnErr};
     ghost use Rattle.wm_law.specs.Laws.{IsIn};
     ghost use Rattle.std.specs.Option.{option_copied};
     ghost use Rattle.wm_law.specs.Counts.{is_waiting, is_starting, is_active};
@@ -159,6 +159,7 @@ impl JobTable {
         self.jobs.reserve(room_for(more, self.jobs.len()) as usize)?;
         self.touched
             .reserve(room_for(launches + 2, self.touched.len()) as usize)?;
+        let active = self.active.len();
         reserve_all(
             &mut self.waiting,
             &mut self.tally,
@@ -166,7 +167,7 @@ impl JobTable {
             &mut self.active,
             &mut self.names,
             more + notes,
-            room_for(launches + undos, self.active.len()),
+            room_for(launches + undos, active),
             undos,
             more + undos,
         )?;
@@ -341,6 +342,15 @@ impl JobTable {
         ensures by_serial { (j : Job) → option_copied result ≡ Some j → find (λ k. k.serial == j.serial) self.now.jobs ≡ Some j }
     {
         let (serial, _) = self.starting.first()?;
+        self.job(serial)
+    }
+
+    /// The active job of least serial that isn't below a serial. It is one look.
+    pub fn active_from(&self, serial: Serial) -> Option<&Job>
+        ensures found { option_copied result ≡ find (λ j. is_active j.phase && nat_le serial j.serial) self.now.jobs }
+        ensures by_serial { (j : Job) → option_copied result ≡ Some j → find (λ k. k.serial == j.serial) self.now.jobs ≡ Some j }
+    {
+        let (serial, _) = self.active.first_from(&serial)?;
         self.job(serial)
     }
 
