@@ -118,5 +118,5 @@ module _ (t : Inside) (h : IsKept t) (s at : ℕ) (x : Job) (js : List Job) (sam
         listed = rw (changed, ns, np) (renewed-listed s l r x y parts.here parts.lower parts.higher alike.serial t.next_serial t.next_place t.next_place (omega arith) place-below has-queue listed-there);
         indexed = rw (changed, we, te, se, ae, be)
             (alike-indexed s l r x y parts.here parts.lower parts.higher alike.serial alike.phase alike.kind alike.how t.waiting t.tally t.starting t.active t.busy alike.waiter (subst (λ (ls : List Job). IsIndexed ls t.waiting t.tally t.starting t.active t.busy) parts.whole h.indexed));
-        room = rw (changed, room, capacity, we, te, se, length-wished) h.room;
+        room = subst (λ (n : ℕ). HasRoom n (vec_capacity new.jobs) new.room new.waiting new.tally new.starting) (sym (ap length changed ∙ length-wished)) (rw (room, capacity, we, te, se) h.room);
       }

@@ -94,6 +94,8 @@ impl Moments {
     pub fn next_above(&self, clock: Moment) -> Option<Moment>
         ensures { result ≡ next_above clock self.now.items }
     {
+        // `len` tells that moments ascend.
+        self.by_moment.len();
         let seconds = clock.get();
         if seconds >= Moment::MAX {
             return None;
@@ -102,9 +104,9 @@ impl Moments {
             moment: Moment::new(seconds + 1),
             serial: Serial::new(0),
         };
-        // `len` tells that moments ascend.
-        self.by_moment.len();
-        let (turn, _) = self.by_moment.first_from(&begin)?;
-        Some(turn.moment)
+        let Some(row) = self.by_moment.first_from(&begin) else {
+            return None;
+        };
+        Some(row.0.moment)
     }
 }

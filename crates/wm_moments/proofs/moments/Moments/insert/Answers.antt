@@ -12,13 +12,13 @@ insert-requires-clause-spare c =
 pub insert-requires-clause-new : goal.insert-requires-clause-new
 insert-requires-clause-new c = subst (λ (v : Pairs ℕ ℕ). has_key key_of nat_eq c.args.serial v.items ≡ false) (sym c.self.view_is) c.requires.new
 
-pub insert-requires-clause-spare-2 : goal.insert-requires-clause-spare-2
-insert-requires-clause-spare-2 c =
+pub insert-requires-2-clause-spare : goal.insert-requires-2-clause-spare
+insert-requires-2-clause-spare c =
     let both : min c.self.inside.by_serial.spare c.self.inside.by_moment.spare ≡ c.args.self.now.spare = ap (λ (v : Pairs ℕ ℕ). v.spare) c.self.view_is in
     omega (arith, both, c.requires.spare)
 
-pub insert-requires-clause-new-2 : goal.insert-requires-clause-new-2
-insert-requires-clause-new-2 c =
+pub insert-requires-2-clause-new : goal.insert-requires-2-clause-new
+insert-requires-2-clause-new c =
     lacks c.self.inside.by_serial c.self.inside.by_moment c.self.invariant c.args.serial c.args.moment (subst (λ (v : Pairs ℕ ℕ). has_key key_of nat_eq c.args.serial v.items ≡ false) (sym c.self.view_is) c.requires.new)
 
 pub invariant_of-self : goal.invariant_of-self
