@@ -1,13 +1,13 @@
 -- What the two maps keep of each other, and what is found in them.
-use Rattle.std.proofs.Common.{◌≡◌, ℕ, ◌+◌, ◌<◌, ◌≤◌, Bool, true, false, not, cond, List, [], length, nat_eq, nat_lt, eq-eqb, Option, Some, None, is_some, option_map, inl, inr, refl, ap, sym, ◌∙◌, subst, arith, Contains}
-use Rattle.std.specs.List.{find, insert}
+use Rattle.std.proofs.Common.{◌≡◌, ℕ, ◌+◌, ◌≤◌, Bool, true, false, not, [], nat_eq, nat_lt, eq-eqb, Option, Some, None, is_some, option_map, inl, inr, refl, ap, sym, ◌∙◌, subst, arith, Contains}
+use Rattle.std.specs.List.{find}
 use Rattle.std.specs.Ordering.{is_lt, nat_cmp}
 use Rattle.std.specs.declared.cmp.Ordering.TheVariants.{Less}
 use mathlib.Core.Bool.{false≢true}
 use Rattle.std.proofs.lemmas.Bool.{cases_Bool, eqb-true, not-true, not_from_false}
 use Rattle.std.proofs.lemmas.Bool.Decides.{nat_tests}
 use Rattle.std.proofs.lemmas.Cmp.{ranked}
-use Rattle.wm_desc.specs.Sorted.{IsSortedOnce, has_key, with_key, place_of, added, removed}
+use Rattle.wm_desc.specs.Sorted.{IsSortedOnce, has_key, place_of, added, removed}
 use Rattle.wm_ordered.specs.Ordered.{Pairs, key_of, value_at, first_from}
 use Rattle.wm_waiting.proofs.Members.{Contains-insert_new, Contains-insert_old, Contains-insert_cases, Contains-nil, Contains-filter, Contains-from_filter, find-Some, find-None, find-before, list_any-false, list_any-none}
 use Rattle.wm_moments.specs.declared.turn.Turn.{Turn}

@@ -1,5 +1,5 @@
 -- The least moment above a clock, by the moments that are there.
-use Rattle.std.proofs.Common.{◌≡◌, ℕ, ◌≤◌, Bool, true, false, cond, List, [], ◌∷◌, fold, nat_lt, Option, Some, None, inl, inr, refl, ap, sym, ◌∙◌, subst, arith, Contains}
+use Rattle.std.proofs.Common.{◌≡◌, ℕ, ◌≤◌, true, false, cond, List, [], ◌∷◌, fold, nat_lt, Option, Some, None, inl, inr, refl, ap, sym, ◌∙◌, subst, arith, Contains}
 use Rattle.std.proofs.lemmas.Bool.{cases_Bool}
 use Rattle.wm_waiting.specs.Waiting.{sooner}
 use Rattle.wm_waiting.proofs.Members.{Contains-head, Contains-cons, Contains-nil, Contains-cases}

@@ -1,4 +1,4 @@
-use Rattle.std.proofs.Common.{◌≡◌, ℕ, ◌≤◌, true, false, min, nat_eq, ap, sym, ◌∙◌, subst, arith}
+use Rattle.std.proofs.Common.{◌≡◌, ℕ, false, min, nat_eq, ap, sym, subst, arith}
 use Rattle.wm_desc.specs.Sorted.{has_key}
 use Rattle.wm_ordered.specs.Ordered.{Pairs, key_of}
 use Rattle.wm_moments.proofs.Agreement.{lacks, grown}
