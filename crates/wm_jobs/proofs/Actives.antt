@@ -48,7 +48,7 @@ none-by (Some j) e = absurd (cc e)
 pub from-none : (s : ℕ) (jobs : List Job) → first_from nat_cmp s (actives jobs) ≡ None → find (is_from s) jobs ≡ None
 from-none s jobs none = none-by (find (is_from s) jobs) (sym (found-row s jobs) ∙ none)
 
-number_in : Option (ℕ × Unit {0}) → ℕ
+abbrev number_in : Option (ℕ × Unit {0}) → ℕ
 number_in None = 0
 number_in (Some e) = e.0
 
