@@ -7,11 +7,7 @@
 set -eu
 cd "$(dirname "$0")/.."
 kills=${1:-200}
-if [ -x crates/wrkmgr/out/wrkmgr ]; then
-  program=$PWD/crates/wrkmgr/out/wrkmgr
-else
-  program=$PWD/release/wrkmgr-x86_64-linux
-fi
+. bench/program.sh
 folder=$(mktemp -d)
 trap 'rm -rf "$folder"' EXIT
 cd "$folder"

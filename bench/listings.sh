@@ -4,12 +4,7 @@
 # least of five by turns. WRKSBMJOB lists all jobs, so its cost is given for a job.
 set -eu
 cd "$(dirname "$0")/.."
-bin/wrkmgr run </dev/null
-if [ -x crates/wrkmgr/out/wrkmgr ]; then
-  program=crates/wrkmgr/out/wrkmgr
-else
-  program=release/wrkmgr-x86_64-linux
-fi
+. bench/program.sh
 before=$(mktemp)
 script=$(mktemp)
 trap 'rm -f "$before" "$script"' EXIT
@@ -19,7 +14,7 @@ submits() {
   printf 'CRTJOBQ SMALL\nCRTJOBQ LARGE\n'
   awk -v count="$1" 'BEGIN {
     for (n = 1; n <= count; n++)
-      printf "SBMJOB CMD(CALL PGM(ECHO) PARM(%d)) JOB(J%06d) JOBQ(%s) HOLD(*YES)\n", n, n, n * 10 % count < 10 && small++ < 10 ? "SMALL" : "LARGE"
+      printf "SBMJOB CMD(CALL PGM(ECHO) PARM(%d)) JOB(J%06d) JOBQ(%s) HOLD(*YES)\n", n, n, n % (count / 10) == 0 ? "SMALL" : "LARGE"
   }'
 }
 

@@ -5,12 +5,7 @@
 # none, divided by their number: reading, the step and the reply included. Each figure is the least of five.
 set -eu
 cd "$(dirname "$0")/.."
-bin/wrkmgr run </dev/null
-if [ -x crates/wrkmgr/out/wrkmgr ]; then
-  program=$PWD/crates/wrkmgr/out/wrkmgr
-else
-  program=$PWD/release/wrkmgr-x86_64-linux
-fi
+. bench/program.sh
 python=$PWD/bench/transactions.py
 # The folder is to be on a disk: in one that is memory a sync costs nothing.
 folder=$(mktemp -d "${1:-$PWD}/store.XXXXXX")

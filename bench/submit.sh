@@ -5,12 +5,7 @@
 # A line that is refused stands beside them: it is read, called and answered, and makes no job.
 set -eu
 cd "$(dirname "$0")/.."
-bin/wrkmgr run </dev/null
-if [ -x crates/wrkmgr/out/wrkmgr ]; then
-  program=crates/wrkmgr/out/wrkmgr
-else
-  program=release/wrkmgr-x86_64-linux
-fi
+. bench/program.sh
 script=$(mktemp)
 taken=$(mktemp)
 trap 'rm -f "$script" "$taken"' EXIT

@@ -5,12 +5,7 @@
 # these lines less that of a run with the lines before them alone: the least of nine runs of each, by turns.
 set -eu
 cd "$(dirname "$0")/.."
-bin/wrkmgr run </dev/null
-if [ -x crates/wrkmgr/out/wrkmgr ]; then
-  program=crates/wrkmgr/out/wrkmgr
-else
-  program=release/wrkmgr-x86_64-linux
-fi
+. bench/program.sh
 before=$(mktemp)
 script=$(mktemp)
 trap 'rm -f "$before" "$script"' EXIT
