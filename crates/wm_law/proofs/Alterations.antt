@@ -2,14 +2,15 @@
 use Rattle.std.proofs.Common.{◌≡◌, ◌⊎◌, ℕ, ◌<◌, ◌+◌, ◌&&◌, ◌==◌, Bool, true, false, cond, List, map, Option, Some, None, is_some, nat_lt, refl, sym, ap, subst, ◌∙◌, inl, inr, arith}
 use Rattle.std.specs.Option.{IsSome, option_or}
 use Rattle.std.proofs.lemmas.Bool.Decides.{nat_tests}
-use Rattle.wm_base.specs.declared.job.EndCause.TheVariants.{Cleared}
+use Rattle.wm_base.specs.declared.job.EndCause.{EndCause}
+use Rattle.wm_base.specs.declared.job.EndCause.TheVariants.{Cleared, EndedOnQueue}
 use Rattle.wm_base.specs.declared.job.JobName.{JobName}
 use Rattle.wm_base.specs.declared.qname.QName.{QName}
 use Rattle.wm_base.specs.declared.refusal.Refusal.{Refusal}
 use Rattle.wm_desc.specs.Sorted.{added, removed}
 use Rattle.wm_desc.specs.Table.{object_named, qname_cmp, same_qname}
 use Rattle.wm_law.specs.declared.call.Reply.{Reply}
-use Rattle.wm_law.specs.declared.call.Reply.TheVariants.{Changed, Held, No, Nothing, QueueCleared, QueueHeld, QueueReleased, Released}
+use Rattle.wm_law.specs.declared.call.Reply.TheVariants.{Changed, Held, JobEnded, JobEnding, No, Nothing, PowerDown, QueueCleared, QueueHeld, QueueReleased, Released, SbsEnding}
 use Rattle.wm_law.specs.declared.command.Chgjob.{Chgjob}
 use Rattle.wm_law.specs.declared.job.Job.{Job}
 use Rattle.wm_law.specs.declared.job.Phase.{Phase}
@@ -22,7 +23,7 @@ use Rattle.wm_law.specs.History.{order_in}
 use Rattle.wm_law.specs.Holding.{with_held}
 use Rattle.wm_law.specs.Jobs.{waiting_at}
 use Rattle.wm_law.specs.Laws.{IsIn}
-use Rattle.wm_law.specs.Order.{is_launch_phase}
+use Rattle.wm_law.specs.Order.{is_launch_cause, is_launch_phase}
 use Rattle.wm_law.specs.Queues.{cleared_from, is_on_queue, own_name, waits_on}
 use Rattle.wm_law.specs.Reports.{in_phase}
 use Rattle.wm_law.specs.Submitting.{serials_end}
@@ -53,14 +54,31 @@ plain_queue_released = record { orders_none = refl; refuses_none = λ x e. absur
 pub plain_cleared : (count : ℕ) → IsPlain (QueueCleared count)
 plain_cleared count = record { orders_none = refl; refuses_none = λ x e. absurd (cc); says = λ e. absurd (cc) }
 
--- a job that waited is the same job, which waits on or was cleared; a new queue of it is an object
+pub plain_job_ending : (job : JobName) → IsPlain (JobEnding job)
+plain_job_ending job = record { orders_none = refl; refuses_none = λ x e. absurd (cc); says = λ e. absurd (cc) }
+
+pub plain_job_ended : (job : JobName) → IsPlain (JobEnded job)
+plain_job_ended job = record { orders_none = refl; refuses_none = λ x e. absurd (cc); says = λ e. absurd (cc) }
+
+pub plain_sbs_ending : (sbs : QName) → IsPlain (SbsEnding sbs)
+plain_sbs_ending sbs = record { orders_none = refl; refuses_none = λ x e. absurd (cc); says = λ e. absurd (cc) }
+
+pub plain_power_down : IsPlain PowerDown
+plain_power_down = record { orders_none = refl; refuses_none = λ x e. absurd (cc); says = λ e. absurd (cc) }
+
+-- the phase is that of an end by no launch
+abbrev pub IsEndOnQueue : Phase → Type 0
+IsEndOnQueue p = (c : EndCause) × (p ≡ Ended c) × (is_launch_cause c ≡ false)
+
+-- a job that waited is the same job, which waits on or has ended by no launch; a new queue of it is an object
 pub record IsAltered (s : State) (j k : Job) : Type 0 where
   pub waits : is_waiting j.phase ≡ true
   pub serial : k.serial ≡ j.serial
   pub job : k.job ≡ j.job
   pub kind : k.kind ≡ j.kind
   pub how : k.how ≡ j.how
-  pub phase : (is_waiting k.phase ≡ true) ⊎ (k.phase ≡ Ended Cleared)
+  pub wish : k.wish ≡ j.wish
+  pub phase : (is_waiting k.phase ≡ true) ⊎ IsEndOnQueue k.phase
   pub queue : IsSome j.jobq → IsSome k.jobq
   pub is_object : (q : QName) → k.jobq ≡ Some q → (j.jobq ≡ Some q) ⊎ IsSome (object_named q s.objects.jobqs)
 
@@ -116,14 +134,21 @@ place_at change j false h = refl
 
 pub holding_alters : (s : State) (serial : ℕ) (held : Bool) → IsAlteration s (waiting_at serial (with_held held)) s.next_place
 holding_alters s serial held = record {
-  each = altered_at s serial (with_held held) (λ j w. record { waits = w; serial = refl; job = refl; kind = refl; how = refl; phase = inl w; queue = λ h. h; is_object = λ q e. inl e });
+  each = altered_at s serial (with_held held) (λ j w. record { waits = w; serial = refl; job = refl; kind = refl; how = refl; wish = refl; phase = inl w; queue = λ h. h; is_object = λ q e. inl e });
   places = inl (record { same = λ j. place_at (with_held held) j (is_waiting j.phase && j.serial == serial) refl; next = refl });
 }
 
 pub due_alters : (s : State) (serial due : ℕ) → IsAlteration s (waiting_at serial (with_due due)) s.next_place
 due_alters s serial due = record {
-  each = altered_at s serial (with_due due) (λ j w. record { waits = w; serial = refl; job = refl; kind = refl; how = refl; phase = inl w; queue = λ h. h; is_object = λ q e. inl e });
+  each = altered_at s serial (with_due due) (λ j w. record { waits = w; serial = refl; job = refl; kind = refl; how = refl; wish = refl; phase = inl w; queue = λ h. h; is_object = λ q e. inl e });
   places = inl (record { same = λ j. place_at (with_due due) j (is_waiting j.phase && j.serial == serial) refl; next = refl });
+}
+
+-- ENDJOB on a job that waits
+pub ending_alters : (s : State) (serial : ℕ) → IsAlteration s (waiting_at serial (in_phase (Ended EndedOnQueue))) s.next_place
+ending_alters s serial = record {
+  each = altered_at s serial (in_phase (Ended EndedOnQueue)) (λ j w. record { waits = w; serial = refl; job = refl; kind = refl; how = refl; wish = refl; phase = inr (EndedOnQueue, refl, refl); queue = λ h. h; is_object = λ q e. inl e });
+  places = inl (record { same = λ j. place_at (in_phase (Ended EndedOnQueue)) j (is_waiting j.phase && j.serial == serial) refl; next = refl });
 }
 
 some_or : (wanted present : Option QName) → IsSome present → IsSome (option_or wanted present)
@@ -151,7 +176,7 @@ below a b h = grind (arith, nat_tests)
 
 pub moving_alters : (s : State) (c : Chgjob) (serial due : ℕ) → nat_lt s.next_place serials_end ≡ true → has_queue s c.jobq ≡ true → IsAlteration s (waiting_at serial (moved_to c s.next_place due)) (s.next_place + 1)
 moving_alters s c serial due left q = record {
-  each = altered_at s serial (moved_to c s.next_place due) (λ j w. record { waits = w; serial = refl; job = refl; kind = refl; how = refl; phase = inl w; queue = some_or c.jobq j.jobq; is_object = λ n e. object_or s c.jobq j.jobq n q e });
+  each = altered_at s serial (moved_to c s.next_place due) (λ j w. record { waits = w; serial = refl; job = refl; kind = refl; how = refl; wish = refl; phase = inl w; queue = some_or c.jobq j.jobq; is_object = λ n e. object_or s c.jobq j.jobq n q e });
   places = inr (record {
     serial = serial;
     taken = λ j w e. taken_at (moved_to c s.next_place due) serial s.next_place j (λ k. refl) w e;
@@ -162,7 +187,7 @@ moving_alters s c serial due left q = record {
 }
 
 cleared_by : (s : State) (queue : QName) (j : Job) (b : Bool) → waits_on queue j ≡ b → (cond b (in_phase (Ended Cleared) j) j ≡ j) ⊎ IsAltered s j (cond b (in_phase (Ended Cleared) j) j)
-cleared_by s queue j true e = inr (record { waits = (of_both (is_waiting j.phase) (is_on_queue queue j.jobq) e).0; serial = refl; job = refl; kind = refl; how = refl; phase = inr refl; queue = λ h. h; is_object = λ q e. inl e })
+cleared_by s queue j true e = inr (record { waits = (of_both (is_waiting j.phase) (is_on_queue queue j.jobq) e).0; serial = refl; job = refl; kind = refl; how = refl; wish = refl; phase = inr (Cleared, refl, refl); queue = λ h. h; is_object = λ q e. inl e })
 cleared_by s queue j false e = inl refl
 
 pub clearing_alters : (s : State) (queue : QName) → IsAlteration s (cleared_from queue) s.next_place
@@ -194,13 +219,13 @@ launch_waits (Handed m) h = absurd (cc)
 launch_waits (Running m) h = absurd (cc)
 launch_waits (Ended c) h = absurd (cc)
 
-idle_by : (p : Phase) → (is_waiting p ≡ true) ⊎ (p ≡ Ended Cleared) → is_active p ≡ false
+idle_by : (p : Phase) → (is_waiting p ≡ true) ⊎ IsEndOnQueue p → is_active p ≡ false
 idle_by Waiting (inl w) = refl
 idle_by Starting (inl w) = absurd (cc)
 idle_by (Handed m) (inl w) = absurd (cc)
 idle_by (Running m) (inl w) = absurd (cc)
 idle_by (Ended c) (inl w) = refl
-idle_by p (inr e) = ap is_active e
+idle_by p (inr e) = ap is_active e.1
 
 -- an altered job isn't active
 pub idle : (s : State) (j k : Job) → IsAltered s j k → is_active k.phase ≡ false
@@ -215,7 +240,7 @@ unstarted s j k a e =
 
 -- and no launch leaves a job so
 pub unlaunched : (s : State) (j k : Job) → IsAltered s j k → is_launch_phase k.phase ≡ false
-unlaunched s j k a = elim (a.phase) as (λ _. is_launch_phase k.phase ≡ false) [ inl w ↦ launch_waits k.phase w | inr e ↦ ap is_launch_phase e ]
+unlaunched s j k a = elim (a.phase) as (λ _. is_launch_phase k.phase ≡ false) [ inl w ↦ launch_waits k.phase w | inr e ↦ ap is_launch_phase e.1 ∙ e.2 ]
 
 -- a changed job has its serial and its name, and waits only where it waited
 pub same_serial : (s : State) (j k : Job) → (k ≡ j) ⊎ IsAltered s j k → k.serial ≡ j.serial

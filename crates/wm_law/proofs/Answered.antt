@@ -4,7 +4,6 @@ use Rattle.wm_law.specs.declared.call.Call.{Call}
 use Rattle.wm_law.specs.declared.call.Call.TheVariants.{Change}
 use Rattle.wm_law.specs.declared.call.Reply.TheVariants.{Nothing}
 use Rattle.wm_law.specs.declared.command.Command.{Command}
-use Rattle.wm_law.specs.declared.command.Command.TheVariants as command
 use Rattle.wm_law.specs.declared.state.State.{State}
 use Rattle.wm_law.specs.Fit.{HasCommand, HasCall}
 use Rattle.wm_law.specs.History.{is_hand}
@@ -28,13 +27,13 @@ answers s call = record {
   enters = λ user c d due has b n e. absurd (cc);
   alters = λ reply change place p a b n e. p.says e;
   holds = λ reply held p a b n e. p.says e;
-  powers = λ b n e. absurd (cc);
+  ends = λ reply change started evokes power p a told b n e. p.says e;
+  kills = λ m j i k b n e. absurd (cc);
   makes = λ o c b n e. absurd (cc);
 }
 
 -- the clock doesn't matter to which calls the machine has
 had_still : (s : State) (moment : ℕ) (c : Command) → HasCommand s c → HasCommand (with_clock s moment) c
-had_still s moment (command.Pwrdwnsys c) h = h
 had_still s moment c h = h
 
 built_still : (s : State) (moment : ℕ) (call : Call) → HasCall s call → HasCall (with_clock s moment) call

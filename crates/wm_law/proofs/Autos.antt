@@ -14,15 +14,16 @@ use Rattle.wm_law.specs.declared.state.State.{State}
 use Rattle.wm_law.specs.Autos.{auto_job, auto_launched, auto_made}
 use Rattle.wm_law.specs.Choice.{next}
 use Rattle.wm_law.specs.Kept.{IsNumbered}
-use Rattle.wm_law.specs.Launch.{as_auto, as_launched, launch, launch_job, launched, launched_at}
+use Rattle.wm_law.specs.Launch.{as_auto, as_launched, launch, launch_job, launched, launched_at, route}
 use Rattle.wm_law.specs.Laws.{IsIn}
 use Rattle.wm_law.specs.Limits.{IsStarting, is_autostart}
 use Rattle.wm_law.specs.Order.{AutosFit, IsAutoRouted}
-use Rattle.wm_law.specs.Settling.{leave, settle, waiting}
+use Rattle.wm_law.specs.Settling.{come_due, job_at, leave, sbss_at, start_jobs, waiting}
 use Rattle.wm_law.specs.Sound.{HasQueues}
+use Rattle.wm_law.proofs.Endings.{stood_starting, wishing_at}
 use Rattle.wm_law.proofs.Firsts.{ready_waits}
 use Rattle.wm_law.proofs.Forward.{only_one}
-use Rattle.wm_law.proofs.Limits.{altered_starts_none, entered_starts_none, moved_starts_none}
+use Rattle.wm_law.proofs.Limits.{altered_starts_none, ended_starts_none, entered_starts_none, moved_starts_none}
 use Rattle.wm_law.proofs.Members.{of_last, of_mapped}
 use Rattle.wm_law.proofs.Moves.{HoldsOfStates}
 use Rattle.wm_law.proofs.Nexts.{IsNext, is_next}
@@ -57,9 +58,25 @@ calls_route_autos s = record {
   alters = λ change place a j i p v. inl (altered_starts_none s change place a j i p);
   holds = λ held a j i p v. inl (j, i, refl, p);
   moves = λ serial j phase i e r n k m p v. inl (moved_starts_none s serial phase n k m p);
-  powers = λ j i p v. inl (j, i, refl, p);
+  ends = λ change started evokes power e j i p v. inl (ended_starts_none s change e.jobs j i p);
   makes = λ o c j i p v. inl (j, i, refl, p);
 }
+
+-- and where what is due has ended
+pub autos_due : (s t : State) → AutosRouted s t → AutosRouted s (come_due t)
+autos_due s t h k i p v =
+    let m = stood_starting (job_at t.clock (sbss_at t)) (wishing_at t.clock (sbss_at t)) t.jobs k i p in
+    elim (h m.job m.there m.starting (sym (ap (λ (x : Job). x.kind) m.same) ∙ v)) as (λ _. IsStarting s k.serial ⊎ IsAutoRouted t.objects k) [
+      | inl was ↦ inl (subst (IsStarting s) (sym (ap (λ (x : Job). x.serial) m.same)) was)
+      | inr r ↦ inr (record {
+        sbs = r.sbs;
+        sbsd = r.sbsd;
+        entry = r.entry;
+        described = r.described;
+        routed = ap (λ (x : Job). route r.sbsd x.rtgdta) m.same ∙ r.routed;
+        is_how = ap (λ (x : Job). x.how) m.same ∙ r.is_how;
+      })
+    ]
 
 -- numbered, the jobs have their queues, and the autostart jobs are by their routes
 record IsRoutedSince (s t : State) : Type 0 where
@@ -94,10 +111,10 @@ launches_routed s = record {
 }
 
 -- and once it has settled
-pub autos_fit : (s t : State) → IsNumbered t → HasQueues t → AutosRouted s t → AutosFit s (settle t)
+pub autos_fit : (s t : State) → IsNumbered t → HasQueues t → AutosRouted s t → AutosFit s (start_jobs (leave t))
 autos_fit s t n q h j b v =
-    let since : IsRoutedSince s (settle t) = iterate-keeps (IsRoutedSince s) (launches_routed s) (waiting (leave t)) (leave t) (record { numbered = only_started t n; queues = q; routed = h }) in
-    elim (since.routed j b.job b.starting v) as (λ _. IsAutoRouted (settle t).objects j) [
+    let since : IsRoutedSince s (start_jobs (leave t)) = iterate-keeps (IsRoutedSince s) (launches_routed s) (waiting (leave t)) (leave t) (record { numbered = only_started t n; queues = q; routed = h }) in
+    elim (since.routed j b.job b.starting v) as (λ _. IsAutoRouted (start_jobs (leave t)).objects j) [
       | inl was ↦ absurd (b.new was)
       | inr r ↦ r
     ]

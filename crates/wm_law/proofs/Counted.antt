@@ -77,6 +77,14 @@ no_fewer p q g (j ∷ jobs) h =
     let rest = no_fewer p q g jobs (λ i m. h i (inr m)) in
     rw (sum_by-cons (one q) (g j) (map g jobs), sum_by-cons (one p) j jobs) (omega arith)
 
+-- nor more, where what passes the test once it is changed passed it before
+pub no_more_each : (test : Job → Bool) (g : Job → Job) → ((i : Job) → test (g i) ≡ true → test i ≡ true) → (jobs : List Job) → count_by test (map g jobs) ≤ count_by test jobs
+no_more_each test g h [] = omega arith
+no_more_each test g h (j ∷ jobs) =
+    let this : one test (g j) ≤ one test j = passes (test (g j)) (test j) (h j) in
+    let rest = no_more_each test g h jobs in
+    rw (sum_by-cons (one test) (g j) (map g jobs), sum_by-cons (one test) j jobs) (omega arith)
+
 -- one job more
 pub count_last : (test : Job → Bool) (jobs : List Job) (j : Job) → count_by test (jobs ++ j ∷ []) ≡ count_by test jobs + one test j
 count_last test [] j = rw (sum_by-cons (one test) j []) (omega arith)

@@ -1,8 +1,9 @@
 -- Keys of a list that stay distinct where one element more comes or some go.
-use Rattle.std.proofs.Common.{◌≡◌, ◌⊎◌, ℕ, zero, suc, ◌++◌, Bool, true, false, cond, List, [], ◌∷◌, map, filter, sym, inl, inr}
+use Rattle.std.proofs.Common.{◌≡◌, ◌⊎◌, ℕ, zero, suc, ◌++◌, Bool, true, false, cond, List, [], ◌∷◌, map, filter, sym, ap, subst, ◌∙◌, inl, inr}
 use Rattle.std.specs.List.{insert}
 use Rattle.wm_law.specs.Kept.{IsDistinct}
 use Rattle.wm_law.specs.Laws.{IsIn}
+use Rattle.wm_law.proofs.Members.{in_mapped}
 
 not_last : {X A : Type 0} (key : X → A) (y : X) (xs : List X) (k : A) → (key y ≡ k → ⊥) → (IsIn k (map key xs) → ⊥) → IsIn k (map key (xs ++ y ∷ [])) → ⊥
 not_last key y [] k h n (inl e) = h (sym e)
@@ -50,3 +51,11 @@ distinct_inserted key (y ∷ xs) (suc i) x n d = (
   λ m. (elim (key_inserted key xs i x (key y) m) as (λ _. ⊥) [ inl e ↦ n (inl (sym e)) | inr k ↦ d.0 k ]),
   distinct_inserted key xs i x (λ m. n (inr m)) d.1,
 )
+
+-- two elements of one key are one, where no key stands twice
+pub one_by_key : {X A : Type 0} (key : X → A) (xs : List X) → IsDistinct (map key xs) → (x y : X) → IsIn x xs → IsIn y xs → key x ≡ key y → x ≡ y
+one_by_key key [] d x y i k e = absurd i
+one_by_key {A = A} key (z ∷ xs) d x y (inl a) (inl b) e = a ∙ sym b
+one_by_key {A = A} key (z ∷ xs) d x y (inl a) (inr k) e = absurd (d.0 (subst (λ (n : A). IsIn n (map key xs)) (sym e ∙ ap key a) (in_mapped key xs y k)))
+one_by_key {A = A} key (z ∷ xs) d x y (inr i) (inl b) e = absurd (d.0 (subst (λ (n : A). IsIn n (map key xs)) (e ∙ ap key b) (in_mapped key xs x i)))
+one_by_key key (z ∷ xs) d x y (inr i) (inr k) e = one_by_key key xs d.1 x y i k e

@@ -24,15 +24,15 @@ use Rattle.wm_law.specs.Launch.{as_launched, from_queue, launch, launch_job, lau
 use Rattle.wm_law.specs.Laws.{IsIn, Turn}
 use Rattle.wm_law.specs.Machine.{apply, step, with_clock}
 use Rattle.wm_law.specs.Order.{IsFit, IsInOrder, KeepsOrder, LaunchesFit, counted_for, was_launched}
-use Rattle.wm_law.specs.Settling.{leave, settle, waiting}
+use Rattle.wm_law.specs.Settling.{come_due, leave, settle, waiting}
 use Rattle.wm_law.specs.Sound.{HasQueues}
-use Rattle.wm_law.proofs.Autos.{AutosRouted, autos_fit, calls_route_autos}
+use Rattle.wm_law.proofs.Autos.{AutosRouted, autos_due, autos_fit, calls_route_autos}
 use Rattle.wm_law.proofs.InTurn.{launched_in}
 use Rattle.wm_law.proofs.Members.{of_mapped}
-use Rattle.wm_law.proofs.Moves.{call_keeps}
+use Rattle.wm_law.proofs.Moves.{call_keeps, comes_due}
 use Rattle.wm_law.proofs.Nexts.{IsNext, is_next}
-use Rattle.wm_law.proofs.Numbers.{apply_keeps, clock_keeps, launches_keep, only_started, step_keeps_numbers}
-use Rattle.wm_law.proofs.Passed.{IsOrderedSince, LaunchesNone, calls_launch_none, counted_all, counted_more, full_still, launched_ordered, one, ordered_yet}
+use Rattle.wm_law.proofs.Numbers.{apply_keeps, clock_keeps, due_keeps, launches_keep, only_started, step_keeps_numbers}
+use Rattle.wm_law.proofs.Passed.{IsOrderedSince, LaunchesNone, calls_launch_none, counted_all, counted_more, due_launches_none, full_still, launched_ordered, one, ordered_yet}
 use Rattle.wm_law.proofs.Queued.{queued_calls, step_keeps_queues}
 use Rattle.wm_law.proofs.Routed.{full_through, launched_routed, started_through, unrouted_through}
 use Rattle.wm_law.proofs.Settling.{settled_leaves_none}
@@ -132,18 +132,18 @@ launches_fit s = record {
 }
 
 -- settling launches the jobs in their order
-settled_in_order : (s t : State) → IsNumbered t → HasQueues t → LaunchesNone s t → AutosRouted s t → IsInOrder s (settle t)
+settled_in_order : (s t : State) → IsNumbered (come_due t) → HasQueues (come_due t) → LaunchesNone s (come_due t) → AutosRouted s (come_due t) → IsInOrder s (settle t)
 settled_in_order s t n q h a =
-    let u = leave t in
+    let u = leave (come_due t) in
     let since : IsFitSince s (settle t) = iterate-keeps (IsFitSince s) (launches_fit s) (waiting u) u (record {
-      ordered = ordered_yet s u (only_started t n) h;
+      ordered = ordered_yet s u (only_started (come_due t) n) h;
       fit = λ j m w. (let none = h j m in absurd (cc));
     }) in
     record {
       none_left = λ j v i r e a. settled_leaves_none t j v i (may_start_in (settle t) j v r e a);
       none_passed = since.ordered.passed;
       fit = since.fit;
-      autos = autos_fit s t n q a;
+      autos = autos_fit s (come_due t) n q a;
     }
 
 -- and so does a step
@@ -152,9 +152,11 @@ unfolding step
 step_order s caller call moment n q =
     let c = with_clock s moment in
     let t = (apply c caller call).state in
-    settled_in_order s t (apply_keeps c caller call (clock_keeps s moment n)) (call_keeps HasQueues c caller call (queued_calls c q))
-    (call_keeps (LaunchesNone c) c caller call (calls_launch_none c))
-    (call_keeps (AutosRouted c) c caller call (calls_route_autos c))
+    let numbered : IsNumbered t = apply_keeps c caller call (clock_keeps s moment n) in
+    let queued : HasQueues t = call_keeps HasQueues c caller call (queued_calls c q) in
+    settled_in_order s t (due_keeps t numbered) (comes_due HasQueues t (queued_calls t queued))
+    (due_launches_none s t (call_keeps (LaunchesNone c) c caller call (calls_launch_none c)))
+    (autos_due s t (call_keeps (AutosRouted c) c caller call (calls_route_autos c)))
 
 -- and each entry of a history
 pub order_kept : (s : State) (h : List Entry) → IsNumbered s → HasQueues s → KeepsOrder s h

@@ -10,6 +10,7 @@ pub mod Entries
 pub mod Tables
 pub mod Objects
 pub mod Alterations
+pub mod Endings
 pub mod Moves
 pub mod Refusals
 pub mod Answered
@@ -19,6 +20,7 @@ pub mod Firsts
 pub mod Waits
 pub mod Numbers
 pub mod Forward
+pub mod Once
 pub mod Starts
 pub mod Lodged
 pub mod Remade
@@ -42,4 +44,8 @@ pub mod Fitting
 pub mod Serials
 pub mod Placed
 pub mod Standing
+pub mod Wished
+pub mod Due
+pub mod Moments
+pub mod Quiet
 pub mod Sound

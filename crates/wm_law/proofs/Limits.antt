@@ -27,7 +27,6 @@ use Rattle.wm_law.specs.declared.job.JobKind.TheVariants.{Asj}
 use Rattle.wm_law.specs.declared.job.Phase.{Phase}
 use Rattle.wm_law.specs.declared.job.Phase.TheVariants.{Waiting, Starting}
 use Rattle.wm_law.specs.declared.launch.Launched.{Launched}
-use Rattle.wm_law.specs.declared.state.Power.TheVariants.{DownNow}
 use Rattle.wm_law.specs.declared.state.State.{State}
 use Rattle.wm_law.specs.Autos.{auto_job, auto_launched, auto_made}
 use Rattle.wm_law.specs.Choice.{entry_for, maxpty_of, next}
@@ -38,17 +37,17 @@ use Rattle.wm_law.specs.Launch.{as_auto, as_launched, entry_numbered, from_queue
 use Rattle.wm_law.specs.Laws.{IsIn}
 use Rattle.wm_law.specs.Limits.{BecameStarting, IsStarting, IsWithin, IsWithinLimits, KeepsLimits, is_autostart}
 use Rattle.wm_law.specs.Machine.{apply, step, with_clock}
-use Rattle.wm_law.specs.Power.{end_now}
 use Rattle.wm_law.specs.Reports.{in_phase, phased_at, with_phase}
-use Rattle.wm_law.specs.Settling.{leave, settle, start_jobs, waiting}
+use Rattle.wm_law.specs.Settling.{come_due, job_at, leave, sbss_at, start_jobs, waiting}
 use Rattle.wm_law.specs.Submitting.{entered, submitted_job}
 use Rattle.wm_law.specs.Subsystems.{begun}
 use Rattle.wm_law.proofs.Alterations.{IsAlteration, altered, each_altered, unstarted}
-use Rattle.wm_law.proofs.Counted.{count_last, no_more, one, one_more, one_most}
+use Rattle.wm_law.proofs.Counted.{count_last, no_more, no_more_each, one, one_more, one_most}
+use Rattle.wm_law.proofs.Endings.{IsWishing, key_same, stood_starting, was_active, wished, wishing_at}
 use Rattle.wm_law.proofs.Members.{of_last, of_mapped}
 use Rattle.wm_law.proofs.Moves.{HoldsOfStates, call_keeps}
 use Rattle.wm_law.proofs.Nexts.{IsNext, below_maxact, below_maxjobs, below_maxpty, is_next}
-use Rattle.wm_law.proofs.Numbers.{apply_keeps, clock_keeps, launches_keep, only_started, step_keeps_numbers}
+use Rattle.wm_law.proofs.Numbers.{apply_keeps, clock_keeps, due_keeps, launches_keep, only_started, step_keeps_numbers}
 use Rattle.wm_law.proofs.Orders.{apply_keeps_orders, clock_keeps_orders, step_keeps_orders}
 use Rattle.wm_law.proofs.Routed.{below_route, by_route}
 use Rattle.wm_law.proofs.Tests.{of_both}
@@ -174,6 +173,11 @@ moved_starts_none s serial phase n k m p =
     let o = of_mapped (phased_at serial phase) s.jobs k m in
     moved_at s phase (o.0.serial == serial) o.0 k n o.1 o.2 p
 
+pub ended_starts_none : (s : State) (change : Job → Job) → IsWishing change → (k : Job) → IsIn k (map change s.jobs) → k.phase ≡ Starting → IsStarting s k.serial
+ended_starts_none s change e k i p =
+    let m = stood_starting change e s.jobs k i p in
+    (m.job, m.there, sym (ap (λ (x : Job). x.serial) m.same), m.starting)
+
 -- the job started with a subsystem
 abbrev IsAutoStart : Job → Type 0
 IsAutoStart j = (j.kind ≡ Asj) × ((sbs : QName) × ((seq : ℕ) × (j.how ≡ Auto sbs seq)))
@@ -202,7 +206,7 @@ calls_start_autos s = record {
   alters = λ change place a j i p. inl (altered_starts_none s change place a j i p);
   holds = λ held a j i p. inl (j, i, refl, p);
   moves = λ serial j phase i e r n k m p. inl (moved_starts_none s serial phase n k m p);
-  powers = λ j i p. inl (j, i, refl, p);
+  ends = λ change started evokes power e j i p. inl (ended_starts_none s change e.jobs j i p);
   makes = λ o c j i p. inl (j, i, refl, p);
 }
 
@@ -268,15 +272,43 @@ calls_within_routes s = record {
   alters = λ change place a. route_within_yet s (altered s change place) (altered_starts_none s change place a);
   holds = λ held a. route_within_yet s (record s { held = held }) (λ j i p. (j, i, refl, p));
   moves = λ serial j phase i e r n. route_within_yet s (with_phase s serial phase) (moved_starts_none s serial phase n);
-  powers = route_within_yet s (record s { started = map end_now s.started; power = DownNow }) (λ j i p. (j, i, refl, p));
+  ends = λ change started evokes power e. route_within_yet s (wished s change started evokes power) (ended_starts_none s change e.jobs);
   makes = λ o c. route_within_yet s (record s { objects = o }) (λ j i p. (j, i, refl, p));
 }
 
+-- nor does settling's first part
+autos_due : (s t : State) → StartsAutos s t → StartsAutos s (come_due t)
+autos_due s t h k i p =
+    let m = stood_starting (job_at t.clock (sbss_at t)) (wishing_at t.clock (sbss_at t)) t.jobs k i p in
+    elim (h m.job m.there m.starting) as (λ _. IsStarting s k.serial ⊎ IsAutoStart k) [
+      | inl was ↦ inl (subst (IsStarting s) (sym (ap (λ (x : Job). x.serial) m.same)) was)
+      | inr a ↦ inr (ap (λ (x : Job). x.kind) m.same ∙ a.0, (a.1.0, (a.1.1.0, ap (λ (x : Job). x.how) m.same ∙ a.1.1.1)))
+    ]
+
+counted_before : (test : How → Bool) (change : Job → Job) → IsWishing change → (j : Job) → (is_active (change j).phase && test (change j).how) ≡ true → (is_active j.phase && test j.how) ≡ true
+counted_before test change e j h =
+    let both = of_both (is_active (change j).phase) (test (change j).how) h in
+    ap (λ (b : Bool). b && test j.how) (was_active j.phase (change j).phase (e.phase j) both.0)
+    ∙ ap test (sym (key_same change e (λ (x : Job). x.how) (λ x p w. refl) j))
+    ∙ both.1
+
+within_due : (s t : State) (test : How → Bool) (limit : Limit) → NoneOrWithin s test none_aside limit t.jobs → NoneOrWithin s test none_aside limit (come_due t).jobs
+within_due s t test limit (inl none) = inl (λ k i p q v. (
+    let m = stood_starting (job_at t.clock (sbss_at t)) (wishing_at t.clock (sbss_at t)) t.jobs k i p in
+    subst (IsStarting s) (sym (ap (λ (x : Job). x.serial) m.same)) (none m.job m.there m.starting (ap test (sym (ap (λ (x : Job). x.how) m.same)) ∙ q) refl)))
+within_due s t test limit (inr w) =
+    let change = job_at t.clock (sbss_at t) in
+    let fewer = no_more_each (λ (j : Job). is_active j.phase && test j.how) change (counted_before test change (wishing_at t.clock (sbss_at t))) t.jobs in
+    inr (within_still (count_active test t.jobs) (count_active test (come_due t).jobs) limit fewer w)
+
+routes_due : (s t : State) → RoutesWithin s t → RoutesWithin s (come_due t)
+routes_due s t h sbs seq d e r k f = within_due s t (is_by_route sbs seq) e.maxact (h sbs seq d e r k f)
+
 -- a job that became Starting, whose how passes the test, finds the count within the limit
-settled_within : (s t : State) (test : How → Bool) (aside : JobKind → Bool) (limit : Limit) → IsNumbered t → NoneOrWithin s test aside limit t.jobs → Admits t.objects test limit → (j : Job) → BecameStarting s (settle t) j → test j.how ≡ true → aside j.kind ≡ false → IsWithin (count_active test (settle t).jobs) limit
+settled_within : (s t : State) (test : How → Bool) (aside : JobKind → Bool) (limit : Limit) → IsNumbered t → NoneOrWithin s test aside limit t.jobs → Admits t.objects test limit → (j : Job) → BecameStarting s (start_jobs (leave t)) j → test j.how ≡ true → aside j.kind ≡ false → IsWithin (count_active test (start_jobs (leave t)).jobs) limit
 settled_within s t test aside limit n h a j b its kind =
     let since = started_within s t.objects test aside limit a (leave t) (record { numbered = only_started t n; objects = refl; within = h }) in
-    elim (since.within) as (λ _. IsWithin (count_active test (settle t).jobs) limit) [
+    elim (since.within) as (λ _. IsWithin (count_active test (start_jobs (leave t)).jobs) limit) [
       | inl none ↦ absurd (b.new (none j b.job b.starting its kind))
       | inr w ↦ w
     ]
@@ -285,10 +317,10 @@ launches_keep_objects : (o : Objects) → IsKept next (λ c t. launch t c) (λ t
 launches_keep_objects o = record { by_step = λ t c e h. objects_same t c (find (λ (j : Job). j.serial == c.serial) t.jobs) ∙ h }
 
 -- settling changes no object
-pub settled_objects : (t : State) → (settle t).objects ≡ t.objects
+pub settled_objects : (t : State) → (start_jobs (leave t)).objects ≡ t.objects
 settled_objects t = iterate-keeps (λ (u : State). u.objects ≡ t.objects) (launches_keep_objects t.objects) (waiting (leave t)) (leave t) refl
 
-described : (t : State) (sbs : QName) (d : Sbsd) → object_named sbs (settle t).objects.sbsds ≡ Some d → object_named sbs t.objects.sbsds ≡ Some d
+described : (t : State) (sbs : QName) (d : Sbsd) → object_named sbs (start_jobs (leave t)).objects.sbsds ≡ Some d → object_named sbs t.objects.sbsds ≡ Some d
 described t sbs d k = ap (λ (o : Objects). object_named sbs o.sbsds) (sym (settled_objects t)) ∙ k
 
 named : (o p : Objects) (sbs : QName) (d : Sbsd) → p ≡ o → object_named sbs o.sbsds ≡ Some d → object_named sbs p.sbsds ≡ Some d
@@ -308,7 +340,7 @@ admits_route o sbs seq d e r k f t c j g n h =
     below_route t c.sbs (from_queue c.sbs c.jobq j) j sbs seq d e (λ x y z. refl) (subst IsRouted (sym g) r) (named o t.objects sbs d g k) f h
 
 -- no start passes a limit, where the call started only autostart jobs, and those within the limits of their routing entries
-settled_limits : (s t : State) → IsNumbered t → IsRouted t.objects → StartsAutos s t → RoutesWithin s t → IsWithinLimits s (settle t)
+settled_limits : (s t : State) → IsNumbered t → IsRouted t.objects → StartsAutos s t → RoutesWithin s t → IsWithinLimits s (start_jobs (leave t))
 settled_limits s t n r h w = record {
   maxjobs = λ j sbs d b kind its k. settled_within s t (is_in_sbs sbs) is_autostart d.maxjobs n (inl (none_new_yet s t (is_in_sbs sbs) is_autostart h (λ x y e. refl))) (admits_maxjobs t.objects sbs d (described t sbs d k)) j b its kind;
   maxact = λ j sbs queue d e b its k f. settled_within s t (is_from_queue sbs queue) none_aside e.maxact n (inl (none_new_yet s t (is_from_queue sbs queue) none_aside h (λ x y e. absurd (cc)))) (admits_maxact t.objects sbs queue d e (described t sbs d k) f) j b its refl;
@@ -322,9 +354,10 @@ unfolding step
 step_limits s caller call moment n h =
     let c = with_clock s moment in
     let t = (apply c caller call).state in
-    settled_limits s t (apply_keeps c caller call (clock_keeps s moment n)) (apply_keeps_orders c caller call (clock_keeps_orders s moment h)).routed
-    (call_keeps (StartsAutos c) c caller call (calls_start_autos c))
-    (call_keeps (RoutesWithin c) c caller call (calls_within_routes c))
+    let numbered : IsNumbered t = apply_keeps c caller call (clock_keeps s moment n) in
+    settled_limits s (come_due t) (due_keeps t numbered) (apply_keeps_orders c caller call (clock_keeps_orders s moment h)).routed
+    (autos_due s t (call_keeps (StartsAutos c) c caller call (calls_start_autos c)))
+    (routes_due s t (call_keeps (RoutesWithin c) c caller call (calls_within_routes c)))
 
 -- nor over any entry of a history
 pub limits_kept : (s : State) (h : List Entry) → IsNumbered s → HasOrders s → KeepsLimits s h

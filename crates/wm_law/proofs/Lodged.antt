@@ -1,8 +1,9 @@
 -- The subsystem of each Starting job stays started.
-use Rattle.std.proofs.Common.{◌≡◌, ℕ, ◌<◌, ◌++◌, ◌==◌, ◌&&◌, not, Bool, true, false, cond, List, [], ◌∷◌, map, refl, sym, ap, ◌∙◌, inl, inr, arith}
+use Rattle.std.proofs.Common.{◌≡◌, ℕ, ◌<◌, ◌++◌, ◌==◌, ◌&&◌, not, Bool, true, false, cond, List, [], ◌∷◌, refl, sym, ap, ◌∙◌, inl, inr, arith}
 use Rattle.std.specs.List.{count_by}
 use Rattle.std.proofs.lemmas.Bool.Decides.{nat_tests}
 use Rattle.std.proofs.lemmas.List.Sums.{sum_by-cons}
+use Rattle.wm_base.specs.declared.qname.QName.{QName}
 use Rattle.wm_law.specs.declared.job.Job.{Job}
 use Rattle.wm_law.specs.declared.job.Phase.{Phase}
 use Rattle.wm_law.specs.declared.job.Phase.TheVariants.{Starting}
@@ -11,17 +12,20 @@ use Rattle.wm_law.specs.declared.state.State.{State}
 use Rattle.wm_law.specs.Counts.{is_active, is_in_sbs, count_in_sbs}
 use Rattle.wm_law.specs.Kept.{IsLodged}
 use Rattle.wm_law.specs.Laws.{IsIn}
-use Rattle.wm_law.specs.Power.{end_now}
 use Rattle.wm_law.specs.Settling.{is_ending, is_gone, leave}
-use Rattle.wm_law.proofs.Members.{in_left, in_longer, in_mapped}
+use Rattle.wm_law.proofs.Endings.{AreEnded}
+use Rattle.wm_law.proofs.Members.{in_left, in_longer}
 
 -- one more subsystem is started
 pub lodged_longer : (bs : List Sbs) (b : Sbs) (j : Job) → IsLodged bs j → IsLodged (bs ++ b ∷ []) j
 lodged_longer bs b j h = (h.0, in_longer bs b h.0 h.1, h.2)
 
--- the subsystems end
-pub lodged_ending : (bs : List Sbs) (j : Job) → IsLodged bs j → IsLodged (map end_now bs) j
-lodged_ending bs j h = (end_now h.0, in_mapped end_now bs h.0 h.1, h.2)
+-- subsystems end
+pub lodged_ending : (bs cs : List Sbs) (j : Job) → AreEnded bs cs → IsLodged bs j → IsLodged cs j
+lodged_ending bs cs j e h =
+    let m = e.after h.0 h.1 in
+    let same = m.2 in
+    (m.0, m.1, ap (λ (q : QName). is_in_sbs q j.how) same.named ∙ h.2)
 
 abbrev pub one : (Job → Bool) → Job → ℕ
 one test j = cond (test j) 1 0

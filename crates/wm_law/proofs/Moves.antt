@@ -1,17 +1,21 @@
 -- What a call can come to, and what a step can do to a state. Here alone the calls are gone over, one by one.
-use Rattle.std.proofs.Common.{◌≡◌, ℕ, ◌<◌, ◌≤◌, ◌-◌, ◌+◌, ◌==◌, not, Bool, true, false, cond, List, [], ◌∷◌, length, map, fold, Option, Some, None, is_some, nat_le, nat_lt, min, refl, inl, inr, arith}
+use Rattle.std.proofs.Common.{◌≡◌, ℕ, ◌<◌, ◌≤◌, ◌-◌, ◌+◌, ◌==◌, not, Bool, true, false, cond, List, [], ◌∷◌, length, fold, Option, Some, None, is_some, nat_le, nat_lt, min, refl, inl, inr, arith, filter, sym, ◌⊎◌, ◌∙◌, ap, unwrap_or}
 use Rattle.std.specs.List.{count_by, find}
 use Rattle.std.specs.Prelude.{Result, Ok, Err}
 use Rattle.std.specs.Option.{IsSome}
 use Rattle.std.proofs.lemmas.Bool.Decides.{nat_tests}
 use Rattle.std.proofs.Math.Nat.{min-le_left, min-le_right}
-use Rattle.wm_base.specs.declared.job.Asked.TheVariants.{Start}
+use Rattle.wm_base.specs.declared.job.Asked.TheVariants.{Start, Kill}
+use Rattle.wm_base.specs.declared.job.EndCause.{EndCause}
 use Rattle.wm_base.specs.declared.job.EndCause.TheVariants as cause
+use Rattle.wm_base.specs.declared.job.Exit.{Exit}
+use Rattle.wm_base.specs.declared.job.StartCause.{StartCause}
 use Rattle.wm_base.specs.declared.job.StartOrder.{StartOrder}
 use Rattle.wm_base.specs.declared.qname.QName.{QName}
 use Rattle.wm_base.specs.declared.refusal.Kind.TheVariants as kind
+use Rattle.wm_base.specs.declared.refusal.PhaseWord.TheVariants as word
 use Rattle.wm_base.specs.declared.refusal.Refusal.{Refusal}
-use Rattle.wm_base.specs.declared.refusal.Refusal.TheVariants.{HeldAlready, NoJob, NoObject, NotHeld, NotInUse, NumbersUsed, PoweringDown, WrongPhase}
+use Rattle.wm_base.specs.declared.refusal.Refusal.TheVariants.{AlreadyEnding, HeldAlready, NoJob, NoObject, NotHeld, NotInUse, NumbersUsed, PoweringDown, SbsNotActive, WrongPhase}
 use Rattle.wm_base.specs.Iterate.{IsKept}
 use Rattle.wm_base.proofs.Iterate.{iterate-keeps}
 use Rattle.wm_desc.specs.declared.description.Jobd.{Jobd}
@@ -23,42 +27,50 @@ use Rattle.wm_law.specs.declared.call.Call.{Call}
 use Rattle.wm_law.specs.declared.call.Call.TheVariants.{Change, Hand, Started, StartFailed, Finished, UseDone, Tick}
 use Rattle.wm_law.specs.declared.call.Entry.{Entry}
 use Rattle.wm_law.specs.declared.call.Reply.{Reply}
-use Rattle.wm_law.specs.declared.call.Reply.TheVariants.{Made, PowerDown, Order, Nothing, Noted, Submitted, Held, Released, Changed, QueueHeld, QueueReleased, QueueCleared}
+use Rattle.wm_law.specs.declared.call.Reply.TheVariants.{Made, PowerDown, Order, Nothing, Noted, SbsEnding, Submitted, Held, Released, Changed, JobEnding, JobEnded, QueueHeld, QueueReleased, QueueCleared}
 use Rattle.wm_law.specs.declared.command.Command.{Command}
 use Rattle.wm_law.specs.declared.command.Command.TheVariants as command
 use Rattle.wm_law.specs.declared.command.Chgjob.{Chgjob}
+use Rattle.wm_law.specs.declared.command.Endjob.{Endjob}
+use Rattle.wm_law.specs.declared.command.Endsbs.{Endsbs}
 use Rattle.wm_law.specs.declared.command.Sbmjob.{Sbmjob}
 use Rattle.wm_law.specs.declared.job.Job.{Job}
 use Rattle.wm_law.specs.declared.job.Phase.{Phase}
 use Rattle.wm_law.specs.declared.job.Phase.TheVariants.{Waiting, Starting, Handed, Running, Ended}
+use Rattle.wm_law.specs.declared.job.Wish.{Wish}
+use Rattle.wm_law.specs.declared.state.Evoke.{Evoke}
+use Rattle.wm_law.specs.declared.state.Power.{Power}
 use Rattle.wm_law.specs.declared.state.Sbs.{Sbs}
 use Rattle.wm_law.specs.declared.state.State.{State}
-use Rattle.wm_law.specs.declared.state.Power.TheVariants.{DownNow}
 use Rattle.wm_law.specs.declared.state.SbsPhase.TheVariants.{Active}
 use Rattle.wm_law.specs.Autos.{auto_described, auto_made, autos_of, make_auto}
 use Rattle.wm_law.specs.Counts.{is_starting, is_waiting}
 use Rattle.wm_law.specs.Fit.{HasCall}
 use Rattle.wm_law.specs.History.{after, is_hand, stepped}
-use Rattle.wm_law.specs.Kept.{phase_rank}
+use Rattle.wm_law.specs.Kept.{IsEndOn, is_start_fault, phase_rank}
 use Rattle.wm_law.specs.Launch.{order_of, launch}
 use Rattle.wm_law.specs.Laws.{IsIn}
 use Rattle.wm_law.specs.Machine.{apply, step, with_clock, change}
 use Rattle.wm_law.specs.Making.{made_unless}
-use Rattle.wm_law.specs.Power.{end_now, is_on, is_down_now}
-use Rattle.wm_law.specs.Reports.{with_phase, hand_job, hand_order, report_on, is_handed_to, is_run_by, phase_word, done_with, end_cause}
-use Rattle.wm_law.specs.Settling.{leave, waiting}
+use Rattle.wm_law.specs.Endings.{down_by, end_active, end_found, end_in_phase, end_started, is_down, is_ended, is_wished, job_wish, started_named}
+use Rattle.wm_law.specs.Power.{is_on}
+use Rattle.wm_law.specs.Reports.{in_phase, with_phase, hand_job, hand_order, is_to_kill, report_on, start_job, is_handed_to, is_run_by, phase_word, done_with, end_cause, exit_cause, with_kill}
+use Rattle.wm_law.specs.Settling.{come_due, job_at, leave, sbss_at, waiting}
 use Rattle.wm_law.specs.Stepped.{Stepped, refused}
 use Rattle.wm_law.specs.Submitting.{submit_due, submit_with, submitted_job, entered, has_numbers, job_name, numbers_end, numbers_left, queue_of, serials_end}
 use Rattle.wm_law.specs.Schedules.{rescheduled, scheduled}
-use Rattle.wm_law.specs.Named.{waiting_named}
+use Rattle.wm_law.specs.Named.{is_named, job_named, only_one, waiting_named}
 use Rattle.wm_law.specs.Holding.{hold_found, release_found, with_held}
 use Rattle.wm_law.specs.Changing.{change_due, change_found, has_queue, moved_to, stays, with_due}
 use Rattle.wm_law.specs.Queues.{clear_queue, cleared_from, hold_queue, own_name, release_queue, waits_on}
-use Rattle.wm_law.specs.Jobs.{waiting_at}
-use Rattle.wm_law.specs.Choice.{is_held, next}
-use Rattle.wm_law.proofs.Alterations.{IsAlteration, IsHolding, IsPlain, altered, clearing_alters, due_alters, holding_alters, moving_alters, plain_changed, plain_cleared, plain_held, plain_queue_held, plain_queue_released, plain_released}
+use Rattle.wm_law.specs.Jobs.{active_at, waiting_at, with_active}
+use Rattle.wm_law.specs.Wishes.{now_cause, with_wish}
+use Rattle.wm_law.specs.Built.{is_ending_call}
+use Rattle.wm_law.specs.Choice.{is_held, is_sbs_active, next}
+use Rattle.wm_law.proofs.Alterations.{IsAlteration, IsHolding, IsPlain, altered, clearing_alters, due_alters, ending_alters, holding_alters, moving_alters, plain_changed, plain_cleared, plain_held, plain_job_ended, plain_job_ending, plain_power_down, plain_sbs_ending, plain_queue_held, plain_queue_released, plain_released}
+use Rattle.wm_law.proofs.Endings.{IsEnding, all_end, coming_due, job_ends, kill_ends, those_end, wished}
 use Rattle.wm_law.specs.Subsystems.{begun, is_started, max_started, start_refusal, start_unless}
-use Rattle.wm_law.proofs.Members.{found_among, last_in}
+use Rattle.wm_law.proofs.Members.{found_among, last_in, left_in}
 use Rattle.wm_law.proofs.Objects.{IsObjectChange, class_made, queue_made, program_made, job_description_made, description_made, queue_added, route_added, auto_added, queue_removed, route_removed, auto_removed}
 use Rattle.wm_law.proofs.Tests.{of_not, same_number, unrefused}
 
@@ -66,6 +78,11 @@ use Rattle.wm_law.proofs.Tests.{of_not, same_number, unrefused}
 pub record IsOnward (p q : Phase) : Type 0 where
   pub past : is_waiting p ≡ false
   pub on : phase_rank p ≤ phase_rank q
+
+-- a report moves a job on, and ends one that is to end now by its wish or since it couldn't be started
+pub record IsMoved (j : Job) (q : Phase) : Type 0 where
+  pub onward : IsOnward j.phase q
+  pub end : IsEndOn j.phase j.wish q
 
 -- SBMJOB isn't refused: there is a due moment, numbers are left, and the job's queue is an object
 pub record IsAcceptable (s : State) (c : Sbmjob) (d : Jobd) (due : ℕ) : Type 0 where
@@ -96,18 +113,24 @@ startable s q e =
       numbers = numbers.0;
     }
 
+the_one : (jobs : List Job) (j : Job) → only_one jobs ≡ Ok j → IsIn j jobs
+the_one [] j e = absurd (cc)
+the_one (k ∷ []) j e = let same : k ≡ j = cc in inl (sym same)
+the_one (k ∷ i ∷ jobs) j e = absurd (cc)
+
 -- P holds of whatever the call can come to: of its reply, and of the state before it settles
 pub record HoldsAfterCalls (P : Stepped → Type 0) (s : State) (call : Call) : Type 0 where
   pub refuses : (x : Refusal) → P (refused s x)
   pub nothing : (HasCall s call → is_hand call ≡ false → ⊥) → P (record { reply = Nothing; state = s })
   pub notes : P (record { reply = Noted; state = s })
   pub hands : (m : ℕ) (j : Job) (o : StartOrder) → IsIn j s.jobs → is_starting j.phase ≡ true → order_of s j ≡ Some o → P (record { reply = Order (Start o); state = with_phase s j.serial (Handed m) })
-  pub reports : (serial : ℕ) (j : Job) (phase : Phase) → IsIn j s.jobs → j.serial ≡ serial → IsOnward j.phase phase → is_starting phase ≡ false → P (record { reply = Noted; state = with_phase s serial phase })
+  pub reports : (serial : ℕ) (j : Job) (phase : Phase) → IsIn j s.jobs → j.serial ≡ serial → IsMoved j phase → is_starting phase ≡ false → P (record { reply = Noted; state = with_phase s serial phase })
   pub starts : (q : QName) → IsStartable s q → P (start_unless s q None)
   pub enters : (user : List ℕ) (c : Sbmjob) (d : Jobd) (due : ℕ) → IsAcceptable s c d due → P (record { reply = Submitted (job_name s user c) (queue_of c d); state = entered s (submitted_job s user c d due) })
   pub alters : (reply : Reply) (change : Job → Job) (place : ℕ) → IsPlain reply → IsAlteration s change place → P (record { reply = reply; state = altered s change place })
   pub holds : (reply : Reply) (held : List QName) → IsPlain reply → IsHolding s held → P (record { reply = reply; state = record s { held = held } })
-  pub powers : P (record { reply = PowerDown; state = record s { started = map end_now s.started; power = DownNow } })
+  pub ends : (reply : Reply) (change : Job → Job) (started : List Sbs) (evokes : List Evoke) (power : Power) → IsPlain reply → IsEnding s change started power → is_ending_call call ≡ true → P (record { reply = reply; state = wished s change started evokes power })
+  pub kills : (m : ℕ) (j : Job) → IsIn j s.jobs → is_to_kill m j ≡ true → P (record { reply = Order (Kill j.serial); state = with_active s j.serial with_kill })
   pub makes : (o : Objects) → IsObjectChange s o → P (record { reply = Made; state = record s { objects = o } })
 
 module _ (P : Stepped → Type 0) (s : State) (call : Call) (h : HoldsAfterCalls P s call) where
@@ -169,19 +192,45 @@ module _ (P : Stepped → Type 0) (s : State) (call : Call) (h : HoldsAfterCalls
   made objects None e = h.makes objects (e refl)
   made objects (Some x) e = h.refuses x
 
+  active_ended : (c : Endjob) (j : Job) → is_ending_call call ≡ true → IsIn j s.jobs → P (end_active s c j)
+  active_ended c j told i =
+      either (is_wished c.option j.wish) _ _ (λ t. h.refuses AlreadyEnding)
+      (λ t. h.ends (JobEnding j.job) (active_at j.serial (with_wish (job_wish s.clock c.option c.delay))) s.started s.evokes s.power (plain_job_ending j.job) (job_ends s j c.option c.delay i t) told)
+
+  ended_in_phase : (c : Endjob) (j : Job) (p : Phase) → is_ending_call call ≡ true → IsIn j s.jobs → P (end_in_phase s c j p)
+  ended_in_phase c j Waiting told i = h.alters (JobEnded j.job) (waiting_at j.serial (in_phase (Ended cause.EndedOnQueue))) s.next_place (plain_job_ended j.job) (ending_alters s j.serial)
+  ended_in_phase c j Starting told i = active_ended c j told i
+  ended_in_phase c j (Handed m) told i = active_ended c j told i
+  ended_in_phase c j (Running m) told i = active_ended c j told i
+  ended_in_phase c j (Ended end) told i = h.refuses (WrongPhase word.Ended)
+
+  job_ended : (c : Endjob) (r : Result Job Refusal) → is_ending_call call ≡ true → job_named s c.job ≡ r → P (end_found s c r)
+  job_ended c (Err x) told e = h.refuses x
+  job_ended c (Ok j) told e = ended_in_phase c j j.phase told (left_in (is_named c.job) s.jobs j (the_one (filter (is_named c.job) s.jobs) j e))
+
+  sbs_ended : (c : Endsbs) (o : Option Sbs) → is_ending_call call ≡ true → P (end_started s c o)
+  sbs_ended c None told = h.refuses SbsNotActive
+  sbs_ended c (Some b) told =
+      either (is_ended c.option b.phase) _ _ (λ t. h.refuses AlreadyEnding)
+      (λ t. h.ends (SbsEnding b.sbsd) _ _ _ s.power (plain_sbs_ending b.sbsd) (those_end s c.option c.delay (λ x. same_qname x.sbsd b.sbsd)) told)
+
   ordered : (m : ℕ) (j : Job) (o : Option StartOrder) → P (record { reply = Nothing; state = s }) → IsIn j s.jobs → is_starting j.phase ≡ true → order_of s j ≡ o → P (hand_order s m j o)
   ordered m j None none i k e = none
   ordered m j (Some o) none i k e = h.hands m j o i k e
 
-  handed : (m : ℕ) (o : Option Job) → P (record { reply = Nothing; state = s }) → find (λ j. is_starting j.phase) s.jobs ≡ o → P (hand_job s m o)
-  handed m None none e = none
-  handed m (Some j) none e = let f = found_among (λ (j : Job). is_starting j.phase) s.jobs j e in ordered m j (order_of s j) none f.0 f.1 refl
+  started : (m : ℕ) (o : Option Job) → P (record { reply = Nothing; state = s }) → find (λ j. is_starting j.phase) s.jobs ≡ o → P (start_job s m o)
+  started m None none e = none
+  started m (Some j) none e = let f = found_among (λ (j : Job). is_starting j.phase) s.jobs j e in ordered m j (order_of s j) none f.0 f.1 refl
 
-  reported : (serial : ℕ) (test : Phase → Bool) (phase : Phase) (o : Option Job) → ((p : Phase) → test p ≡ true → IsOnward p phase) → is_starting phase ≡ false → find (λ j. j.serial == serial) s.jobs ≡ o → P (report_on s serial test phase o)
+  handed : (m : ℕ) (o : Option Job) → P (record { reply = Nothing; state = s }) → find (is_to_kill m) s.jobs ≡ o → P (hand_job s m o)
+  handed m None none e = started m (find (λ j. is_starting j.phase) s.jobs) none refl
+  handed m (Some j) none e = let f = found_among (is_to_kill m) s.jobs j e in h.kills m j f.0 f.1
+
+  reported : (serial : ℕ) (test : Phase → Bool) (phase : Job → Phase) (o : Option Job) → ((j : Job) → test j.phase ≡ true → IsMoved j (phase j)) → ((j : Job) → is_starting (phase j) ≡ false) → find (λ j. j.serial == serial) s.jobs ≡ o → P (report_on s serial test phase o)
   reported serial test phase None ranks n e = h.refuses NoJob
   reported serial test phase (Some j) ranks n e =
       let f = found_among (λ (j : Job). j.serial == serial) s.jobs j e in
-      either (test j.phase) _ _ (λ t. h.reports serial j phase f.0 (same_number j.serial serial f.1) (ranks j.phase t) n) (λ t. h.refuses (WrongPhase (phase_word j.phase)))
+      either (test j.phase) _ _ (λ t. h.reports serial j (phase j) f.0 (same_number j.serial serial f.1) (ranks j t) (n j)) (λ t. h.refuses (WrongPhase (phase_word j.phase)))
 
   done : (m : ℕ) (o : Option Job) → P (done_with s m o)
   done m None = h.refuses NoJob
@@ -226,6 +275,26 @@ never_waits (Ended c) q r = let on = r.on in past_waiting q (omega arith)
 onward : (p q : Phase) (n : ℕ) → phase_rank p ≡ n → 0 < n → n ≤ phase_rank q → IsOnward p q
 onward p q n e more h = record { past = past_waiting p (omega arith); on = omega arith }
 
+-- a job that hasn't ended moves on
+pub moved_on : (j : Job) (q : Phase) (n : ℕ) → phase_rank j.phase ≡ n → 0 < n → n < 4 → n ≤ phase_rank q → ((c d : EndCause) → now_cause j.wish ≡ Some c → q ≡ Ended d → (d ≡ c) ⊎ (is_start_fault d ≡ true)) → IsMoved j q
+moved_on j q n e more less h k = record {
+  onward = onward j.phase q n e more h;
+  end = record {
+    kept = λ c f. (let rank : phase_rank j.phase ≡ 4 = ap phase_rank f in absurd (omega arith));
+    by_wish = λ c d a w f. k c d w f;
+  };
+}
+
+failed_end : (why : StartCause) (d : EndCause) → Ended (cause.StartFailed why) ≡ Ended d → is_start_fault d ≡ true
+failed_end why d e =
+    let same : cause.StartFailed why ≡ d = cc in
+    ap is_start_fault (sym same)
+
+finished_end : (end : Exit) (w : Wish) (c d : EndCause) → now_cause w ≡ Some c → Ended (end_cause end w) ≡ Ended d → d ≡ c
+finished_end end w c d k e =
+    let same : end_cause end w ≡ d = cc in
+    sym same ∙ ap (λ (o : Option EndCause). unwrap_or o (exit_cause end)) k
+
 changed : (P : Stepped → Type 0) (s : State) (user : List ℕ) (c : Command) → HoldsAfterCalls P s (Change user c) → P (change s user c)
 changed P s user (command.Crtcls c) h = made P s _ h _ _ (class_made s c)
 changed P s user (command.Crtjobq c) h = made P s _ h _ _ (queue_made s c)
@@ -239,23 +308,27 @@ changed P s user (command.Rmvjobqe c) h = made P s _ h _ _ (queue_removed s c)
 changed P s user (command.Rmvrtge c) h = made P s _ h _ _ (route_removed s c)
 changed P s user (command.Rmvaje c) h = made P s _ h _ _ (auto_removed s c)
 changed P s user (command.Strsbs c) h = start P s _ h c.sbsd (start_refusal s c.sbsd) refl
+changed P s user (command.Endsbs c) h = sbs_ended P s _ h c (started_named s c.sbs) refl
 changed P s user (command.Sbmjob c) h = either P s _ h (is_on s.power) _ _ (λ t. submitted_with P s _ h user c (object_named c.jobd s.objects.jobds)) (λ t. h.refuses PoweringDown)
 changed P s user (command.Hldjob c) h = held_found P s _ h (waiting_named s c.job)
 changed P s user (command.Rlsjob c) h = released_found P s _ h (waiting_named s c.job)
 changed P s user (command.Chgjob c) h = changed_found P s _ h c (waiting_named s c.job)
+changed P s user (command.Endjob c) h = job_ended P s _ h c (job_named s c.job) refl refl
 changed P s user (command.Hldjobq c) h = queue_held P s _ h c.jobq
 changed P s user (command.Rlsjobq c) h = queue_released P s _ h c.jobq
 changed P s user (command.Clrjobq c) h = queue_cleared P s _ h c.jobq
-changed P s user (command.Pwrdwnsys c) h = either P s _ h (is_down_now s.power) _ _ (λ t. h.refuses PoweringDown) (λ t. h.powers)
+changed P s user (command.Pwrdwnsys c) h =
+    either P s _ h (is_down c.option s.power) _ _ (λ t. h.refuses PoweringDown)
+    (λ t. h.ends PowerDown _ _ _ (down_by c.option) plain_power_down (all_end s c.option c.delay (down_by c.option)) refl)
 changed P s user c h = h.nothing (λ b n. b)
 
 -- what holds after whatever the call can come to, holds after the call
 pub call_comes : (P : Stepped → Type 0) (s : State) (caller : ℕ) (call : Call) → HoldsAfterCalls P s call → P (apply s caller call)
 call_comes P s caller (Change user c) h = changed P s user c h
-call_comes P s caller Hand h = handed P s _ h caller (find (λ j. is_starting j.phase) s.jobs) (h.nothing (λ b n. absurd (cc))) refl
-call_comes P s caller (Started serial) h = reported P s _ h serial (is_handed_to caller) _ (find (λ j. j.serial == serial) s.jobs) (λ p e. onward p (Running caller) 2 (handed_rank caller p e) (omega arith) (omega arith)) refl refl
-call_comes P s caller (StartFailed serial why) h = reported P s _ h serial (is_handed_to caller) _ (find (λ j. j.serial == serial) s.jobs) (λ p e. onward p (Ended (cause.StartFailed why)) 2 (handed_rank caller p e) (omega arith) (omega arith)) refl refl
-call_comes P s caller (Finished serial end) h = reported P s _ h serial (is_run_by caller) _ (find (λ j. j.serial == serial) s.jobs) (λ p e. onward p (Ended (end_cause end)) 3 (run_rank caller p e) (omega arith) (omega arith)) refl refl
+call_comes P s caller Hand h = handed P s _ h caller (find (is_to_kill caller) s.jobs) (h.nothing (λ b n. absurd (cc))) refl
+call_comes P s caller (Started serial) h = reported P s _ h serial (is_handed_to caller) _ (find (λ j. j.serial == serial) s.jobs) (λ j e. moved_on j (Running caller) 2 (handed_rank caller j.phase e) (omega arith) (omega arith) (omega arith) (λ c d w f. absurd (cc))) (λ j. refl) refl
+call_comes P s caller (StartFailed serial why) h = reported P s _ h serial (is_handed_to caller) _ (find (λ j. j.serial == serial) s.jobs) (λ j e. moved_on j (Ended (cause.StartFailed why)) 2 (handed_rank caller j.phase e) (omega arith) (omega arith) (omega arith) (λ c d w f. inr (failed_end why d f))) (λ j. refl) refl
+call_comes P s caller (Finished serial end) h = reported P s _ h serial (is_run_by caller) _ (find (λ j. j.serial == serial) s.jobs) (λ j e. moved_on j (Ended (end_cause end j.wish)) 3 (run_rank caller j.phase e) (omega arith) (omega arith) (omega arith) (λ c d w f. inl (finished_end end j.wish c d w f))) (λ j. refl) refl
 call_comes P s caller (UseDone serial) h = done P s _ h caller (find (λ j. j.serial == serial) s.jobs)
 call_comes P s caller Tick h = h.notes
 
@@ -266,14 +339,16 @@ pub record IsMakeable (q : QName) (t : State) : Type 0 where
   pub sbs : Sbs
   pub started : IsIn sbs t.started
   pub named : sbs.sbsd ≡ q
+  pub active : is_sbs_active sbs.phase ≡ true
 
 -- so it is with one job after another
-record AreMakeable (q : QName) (es : List AutoEntry) (t : State) : Type 0 where
+pub record AreMakeable (q : QName) (es : List AutoEntry) (t : State) : Type 0 where
   numbers : length es ≤ numbers_end - t.next_number
   serials : length es ≤ serials_end - t.next_serial
   sbs : Sbs
   started : IsIn sbs t.started
   named : sbs.sbsd ≡ q
+  active : is_sbs_active sbs.phase ≡ true
 
 -- what each autostart job keeps, all keep
 module _ (P : State → Type 0) (q : QName) (keeps : (t : State) (e : AutoEntry) (d : Jobd) → IsMakeable q t → P t → P (auto_made t q e d)) where
@@ -282,19 +357,19 @@ module _ (P : State → Type 0) (q : QName) (keeps : (t : State) (e : AutoEntry)
   made_one e es t (Some d) m p =
       let numbers = m.numbers in
       let serials = m.serials in
-      keeps t e d (record { number = omega arith; serial = omega arith; sbs = m.sbs; started = m.started; named = m.named }) p
+      keeps t e d (record { number = omega arith; serial = omega arith; sbs = m.sbs; started = m.started; named = m.named; active = m.active }) p
 
   made_rest : (e : AutoEntry) (es : List AutoEntry) (t : State) (o : Option Jobd) → AreMakeable q (e ∷ es) t → AreMakeable q es (auto_described t q e o)
   made_rest e es t None m =
       let numbers = m.numbers in
       let serials = m.serials in
-      record { numbers = omega arith; serials = omega arith; sbs = m.sbs; started = m.started; named = m.named }
+      record { numbers = omega arith; serials = omega arith; sbs = m.sbs; started = m.started; named = m.named; active = m.active }
   made_rest e es t (Some d) m =
       let numbers = m.numbers in
       let serials = m.serials in
-      record { numbers = omega arith; serials = omega arith; sbs = m.sbs; started = m.started; named = m.named }
+      record { numbers = omega arith; serials = omega arith; sbs = m.sbs; started = m.started; named = m.named; active = m.active }
 
-  made_all : (es : List AutoEntry) (t : State) → AreMakeable q es t → P t → P (fold (make_auto q) t es)
+  pub made_all : (es : List AutoEntry) (t : State) → AreMakeable q es t → P t → P (fold (make_auto q) t es)
   made_all [] t m p = p
   made_all (e ∷ es) t m p =
       made_all es (make_auto q t e) (made_rest e es t (object_named e.jobd t.objects.jobds) m) (made_one e es t (object_named e.jobd t.objects.jobds) m p)
@@ -307,10 +382,10 @@ enough true a b n h =
     let right = min-le_right a b in
     (omega arith, omega arith)
 
-makeable : (s : State) (q : QName) → IsStartable s q → AreMakeable q (autos_of s q) (begun s q)
+pub makeable : (s : State) (q : QName) → IsStartable s q → AreMakeable q (autos_of s q) (begun s q)
 makeable s q h =
     let left = enough (nat_le 1 s.next_number) (numbers_end - s.next_number) (serials_end - s.next_serial) (length (autos_of s q)) h.numbers in
-    record { numbers = left.0; serials = left.1; sbs = record { sbsd = q; phase = Active }; started = last_in s.started (record { sbsd = q; phase = Active }); named = refl }
+    record { numbers = left.0; serials = left.1; sbs = record { sbsd = q; phase = Active }; started = last_in s.started (record { sbsd = q; phase = Active }); named = refl; active = refl }
 
 -- P holds of whatever state a call can leave before it settles: a subsystem that starts keeps it, and so does each of its autostart jobs
 pub record HoldsOfStates (P : State → Type 0) (s : State) : Type 0 where
@@ -320,8 +395,8 @@ pub record HoldsOfStates (P : State → Type 0) (s : State) : Type 0 where
   pub enters : (user : List ℕ) (c : Sbmjob) (d : Jobd) (due : ℕ) → IsAcceptable s c d due → P (entered s (submitted_job s user c d due))
   pub alters : (change : Job → Job) (place : ℕ) → IsAlteration s change place → P (altered s change place)
   pub holds : (held : List QName) → IsHolding s held → P (record s { held = held })
-  pub moves : (serial : ℕ) (j : Job) (phase : Phase) → IsIn j s.jobs → j.serial ≡ serial → IsOnward j.phase phase → is_starting phase ≡ false → P (with_phase s serial phase)
-  pub powers : P (record s { started = map end_now s.started; power = DownNow })
+  pub moves : (serial : ℕ) (j : Job) (phase : Phase) → IsIn j s.jobs → j.serial ≡ serial → IsMoved j phase → is_starting phase ≡ false → P (with_phase s serial phase)
+  pub ends : (change : Job → Job) (started : List Sbs) (evokes : List Evoke) (power : Power) → IsEnding s change started power → P (wished s change started evokes power)
   pub makes : (o : Objects) → IsObjectChange s o → P (record s { objects = o })
 
 of_states : (P : State → Type 0) (s : State) (call : Call) → HoldsOfStates P s → HoldsAfterCalls (λ t. P t.state) s call
@@ -329,19 +404,24 @@ of_states P s call h = record {
   refuses = λ x. h.stays;
   nothing = λ n. h.stays;
   notes = h.stays;
-  hands = λ m j o i e f. h.moves j.serial j (Handed m) i refl (onward j.phase (Handed m) 1 (starting_rank j.phase e) (omega arith) (omega arith)) refl;
+  hands = λ m j o i e f. h.moves j.serial j (Handed m) i refl (moved_on j (Handed m) 1 (starting_rank j.phase e) (omega arith) (omega arith) (omega arith) (λ c d w f. absurd (cc))) refl;
   reports = λ serial j phase i e r n. h.moves serial j phase i e r n;
   starts = λ q e. made_all P q (h.autos q) (autos_of s q) (begun s q) (makeable s q e) (h.starts q e);
   enters = λ user c d due has. h.enters user c d due has;
   alters = λ reply change place p a. h.alters change place a;
   holds = λ reply held p a. h.holds held a;
-  powers = h.powers;
+  ends = λ reply change started evokes power p e told. h.ends change started evokes power e;
+  kills = λ m j i k. h.ends (active_at j.serial with_kill) s.started s.evokes s.power (kill_ends s j.serial);
   makes = λ o c. h.makes o c;
 }
 
 -- the same for the state alone
 pub call_keeps : (P : State → Type 0) (s : State) (caller : ℕ) (call : Call) → HoldsOfStates P s → P (apply s caller call).state
 call_keeps P s caller call h = call_comes (λ t. P t.state) s caller call (of_states P s call h)
+
+-- what holds where jobs and subsystems end, holds after settling's first part
+pub comes_due : (P : State → Type 0) (s : State) → HoldsOfStates P s → P (come_due s)
+comes_due P s h = h.ends (job_at s.clock (sbss_at s)) (sbss_at s) s.evokes s.power (coming_due s)
 
 -- P is kept by all that a step does
 pub record IsKeptByParts (P : State → Type 0) : Type 0 where
@@ -355,7 +435,8 @@ unfolding step
 step_keeps P k s caller call moment h =
     let t = (apply (with_clock s moment) caller call).state in
     let called : P t = call_keeps P (with_clock s moment) caller call (k.calls (with_clock s moment) (k.clock s moment h)) in
-    iterate-keeps P k.launches (waiting (leave t)) (leave t) (k.leaves t called)
+    let due : P (come_due t) = comes_due P t (k.calls t called) in
+    iterate-keeps P k.launches (waiting (leave (come_due t))) (leave (come_due t)) (k.leaves (come_due t) due)
 
 -- and so by a history
 pub after_keeps : (P : State → Type 0) → IsKeptByParts P → (s : State) (h : List Entry) → P s → P (after s h)

@@ -14,6 +14,9 @@ use Rattle.wm_law.specs.declared.job.Phase.{Phase}
 use Rattle.wm_law.specs.declared.launch.Launched.{Launched}
 use Rattle.wm_desc.specs.declared.description.Jobd.{Jobd}
 use Rattle.wm_desc.specs.declared.entry.AutoEntry.{AutoEntry}
+use Rattle.wm_law.specs.declared.state.Evoke.{Evoke}
+use Rattle.wm_law.specs.declared.state.Power.{Power}
+use Rattle.wm_law.specs.declared.state.Sbs.{Sbs}
 use Rattle.wm_law.specs.declared.state.State.{State}
 use Rattle.wm_law.specs.Autos.{auto_job, auto_launched, auto_made}
 use Rattle.wm_law.specs.Choice.{next}
@@ -25,13 +28,14 @@ use Rattle.wm_law.specs.Launch.{as_auto, as_launched, launch, launch_job, launch
 use Rattle.wm_law.specs.Laws.{IsIn}
 use Rattle.wm_law.specs.Submitting.{submitted_job, entered, has_numbers, numbers_end, serials_end}
 use Rattle.wm_law.specs.Reports.{in_phase, with_phase}
-use Rattle.wm_law.specs.Settling.{leave}
+use Rattle.wm_law.specs.Settling.{come_due, leave}
 use Rattle.wm_law.specs.Machine.{apply, with_clock}
 use Rattle.wm_law.proofs.Opened.{opened, opening_is}
 use Rattle.wm_law.proofs.Alterations.{IsAlteration, IsAltered, PlaceIsTaken, PlacesStay, altered, same_job, same_serial, waited}
 use Rattle.wm_law.proofs.Changed.{keys_kept}
+use Rattle.wm_law.proofs.Endings.{IsWishing, key_same, keys_same, was_waiting, wished}
 use Rattle.wm_law.proofs.Members.{map_same}
-use Rattle.wm_law.proofs.Moves.{HoldsOfStates, IsKeptByParts, IsMakeable, call_keeps, never_waits, step_keeps, after_keeps}
+use Rattle.wm_law.proofs.Moves.{HoldsOfStates, IsKeptByParts, IsMakeable, call_keeps, comes_due, never_waits, step_keeps, after_keeps}
 use Rattle.wm_law.proofs.Settling.{launch_never_waits, not_waiting}
 use Rattle.wm_law.proofs.Tests.{of_four, same_number}
 use Rattle.wm_law.proofs.Waits.{fewer_distinct, still_distinct, taken_below, taken_distinct, waiting_below, waiting_more, waiting_same}
@@ -206,6 +210,21 @@ altered_keeps s change place a h (inr p) =
       next_place = subst (IsBetween 1 serials_end) (sym p.next) (record { least = omega arith; most = omega arith });
     }
 
+-- a wish changes no serial, number or place
+ended_keeps : (s : State) (change : Job → Job) (started : List Sbs) (evokes : List Evoke) (power : Power) → IsWishing change → IsNumbered s → IsNumbered (wished s change started evokes power)
+ended_keeps s change started evokes power e h =
+    numbered_same s (wished s change started evokes power)
+    (record {
+      serials = keys_same change e (λ (j : Job). j.serial) (λ j p w. refl) s.jobs;
+      numbers = keys_same change e (λ (j : Job). j.job.number) (λ j p w. refl) s.jobs;
+      waiting = fewer_distinct change (key_same change e (λ (j : Job). j.place) (λ j p w. refl)) (λ j. was_waiting j.phase (change j).phase (e.phase j)) s.jobs;
+      places = keys_same change e (λ (j : Job). j.place) (λ j p w. refl) s.jobs;
+      next_number = refl;
+      next_serial = refl;
+      next_place = refl;
+    })
+    h
+
 pub calls : (s : State) → IsNumbered s → HoldsOfStates IsNumbered s
 calls s h = record {
   stays = h;
@@ -214,8 +233,8 @@ calls s h = record {
   enters = λ user c d due a. entered_keeps s user c d due a.numbers h;
   alters = λ change place a. altered_keeps s change place a h a.places;
   holds = λ held a. numbered_same s _ (record { serials = refl; numbers = refl; waiting = λ d. d; places = refl; next_number = refl; next_serial = refl; next_place = refl }) h;
-  moves = λ serial j phase i e r n. numbered_same s _ (phase_same s serial phase (never_waits j.phase phase r)) h;
-  powers = numbered_same s _ (record { serials = refl; numbers = refl; waiting = λ d. d; places = refl; next_number = refl; next_serial = refl; next_place = refl }) h;
+  moves = λ serial j phase i e r n. numbered_same s _ (phase_same s serial phase (never_waits j.phase phase r.onward)) h;
+  ends = λ change started evokes power e. ended_keeps s change started evokes power e.jobs h;
   makes = λ o e. numbered_same s _ (record { serials = refl; numbers = refl; waiting = λ d. d; places = refl; next_number = refl; next_serial = refl; next_place = refl }) h;
 }
 
@@ -224,6 +243,14 @@ apply_keeps s caller call h = call_keeps IsNumbered s caller call (calls s h)
 
 pub clock_keeps : (s : State) (moment : ℕ) → IsNumbered s → IsNumbered (with_clock s moment)
 clock_keeps s moment h = numbered_same s _ (record { serials = refl; numbers = refl; waiting = λ d. d; places = refl; next_number = refl; next_serial = refl; next_place = refl }) h
+
+-- so it is where what is due has ended
+pub due_keeps : (s : State) → IsNumbered s → IsNumbered (come_due s)
+due_keeps s h = comes_due IsNumbered s (calls s h)
+
+-- and where ending subsystems have left
+pub ready_keeps : (s : State) → IsNumbered s → IsNumbered (leave (come_due s))
+ready_keeps s h = only_started (come_due s) (due_keeps s h)
 
 parts : IsKeptByParts IsNumbered
 parts = record { clock = clock_keeps; calls = calls; leaves = only_started; launches = launches_keep }

@@ -5,7 +5,7 @@ use Rattle.std.specs.Option.{IsSome, option_and_then, option_map}
 use Rattle.std.proofs.lemmas.List.Sums.{sum_by-cons}
 use Rattle.wm_base.specs.declared.job.Class.{Class}
 use Rattle.wm_base.specs.declared.job.How.{How}
-use Rattle.wm_base.specs.declared.job.How.TheVariants.{FromQueue}
+use Rattle.wm_base.specs.declared.job.How.TheVariants.{NotYet, FromQueue, Auto, Pre}
 use Rattle.wm_base.specs.declared.job.StartOrder.{StartOrder}
 use Rattle.wm_base.specs.declared.qname.QName.{QName}
 use Rattle.wm_law.specs.declared.call.Call.{Call}
@@ -15,6 +15,9 @@ use Rattle.wm_law.specs.declared.command.Sbmjob.{Sbmjob}
 use Rattle.wm_law.specs.declared.choice.Candidate.{Candidate}
 use Rattle.wm_law.specs.declared.job.Job.{Job}
 use Rattle.wm_law.specs.declared.job.Phase.{Phase}
+use Rattle.wm_law.specs.declared.job.Wish.{Wish}
+use Rattle.wm_law.specs.declared.state.Evoke.{Evoke}
+use Rattle.wm_law.specs.declared.state.Power.{Power}
 use Rattle.wm_law.specs.declared.job.Phase.TheVariants.{Waiting, Starting, Handed, Running, Ended}
 use Rattle.wm_law.specs.declared.launch.Launched.{Launched}
 use Rattle.wm_desc.specs.declared.description.Jobd.{Jobd}
@@ -34,15 +37,17 @@ use Rattle.wm_law.specs.Kept.{IsLodged, IsNumbered, IsRouted, HasOrders, Opening
 use Rattle.wm_law.specs.Jobs.{changed_at}
 use Rattle.wm_law.specs.Launch.{as_auto, as_launched, called_args, called_program, entry_numbered, from_queue, is_match, launch, launch_job, launched, launched_as, launched_at, missing_program, order_by, order_called, order_of, order_through, order_with, program_fault, route_entry}
 use Rattle.wm_law.specs.Laws.{IsIn}
+use Rattle.wm_law.specs.Pending.{kills, orders, starting}
 use Rattle.wm_law.specs.Submitting.{submitted_job}
-use Rattle.wm_law.specs.Reports.{hand_job, hand_order, in_phase, phased_at}
-use Rattle.wm_law.specs.Settling.{leave, waiting}
+use Rattle.wm_law.specs.Reports.{hand_job, hand_order, in_phase, is_to_kill, phased_at, start_job}
+use Rattle.wm_law.specs.Settling.{come_due, leave, waiting}
 use Rattle.wm_law.specs.Machine.{apply, step, with_clock}
 use Rattle.wm_desc.specs.Table.{object_named, same_qname}
 use Rattle.wm_desc.specs.Opening.{qbatch}
 use Rattle.wm_law.specs.History.{after, stepped}
 use Rattle.wm_law.proofs.Alterations.{IsAlteration, each_altered, unstarted}
 use Rattle.wm_law.proofs.Opened.{batch_sbsd, opening_objects, opened, opening_is}
+use Rattle.wm_law.proofs.Endings.{IsEnding, stood_starting, wished}
 use Rattle.wm_law.proofs.Firsts.{next_is_first}
 use Rattle.wm_law.proofs.Lodged.{lodged_longer, lodged_ending, lodged_left}
 use Rattle.wm_law.proofs.Named.{own_name}
@@ -51,8 +56,8 @@ use Rattle.wm_law.proofs.Forward.{only_one}
 use Rattle.wm_law.proofs.Routed.{by_route}
 use Rattle.wm_law.proofs.Routes.{IsSorted, numbered_once, route_is_least}
 use Rattle.wm_law.proofs.Members.{found_among, of_last, of_mapped}
-use Rattle.wm_law.proofs.Moves.{HoldsOfStates, IsMakeable, call_keeps}
-use Rattle.wm_law.proofs.Numbers.{apply_keeps, clock_keeps, launches_keep, only_started, step_keeps_numbers}
+use Rattle.wm_law.proofs.Moves.{HoldsOfStates, IsMakeable, call_keeps, comes_due}
+use Rattle.wm_law.proofs.Numbers.{apply_keeps, clock_keeps, launches_keep, ready_keeps, step_keeps_numbers}
 use Rattle.wm_law.proofs.Tests.{same_number, unrefused}
 
 -- what a launch to Starting stands on: the routing entry, and the program that it calls
@@ -225,6 +230,39 @@ auto_ordered q t e d m h =
     h.lodged) in
     alike (record t { jobs = t.jobs ++ auto_launched t q j ∷ [] }) _ refl refl u.lodged u
 
+-- a wish changes no order
+with_wished : (j : Job) (p : Phase) (w : Wish) (args : List (List ℕ)) (o : Option Program) (c : Option Class) → order_with (record j { phase = p; wish = w }) args o c ≡ order_with j args o c
+with_wished j p w args None c = refl
+with_wished j p w args (Some pgm) None = refl
+with_wished j p w args (Some pgm) (Some cls) = refl
+
+called_wished : (s : State) (j : Job) (p : Phase) (w : Wish) (e : RouteEntry) (o : Option QName) → order_called s (record j { phase = p; wish = w }) e o ≡ order_called s j e o
+called_wished s j p w e None = refl
+called_wished s j p w e (Some pgm) = with_wished j p w (called_args e j.rqsdta) (object_named pgm s.objects.programs) (object_named e.cls s.objects.classes)
+
+through_wished : (s : State) (j : Job) (p : Phase) (w : Wish) (o : Option RouteEntry) → order_through s (record j { phase = p; wish = w }) o ≡ order_through s j o
+through_wished s j p w None = refl
+through_wished s j p w (Some e) = called_wished s j p w e (called_program e j.rqsdta)
+
+order_wished : (s : State) (j : Job) (p : Phase) (w : Wish) (h : How) → order_by s (record j { phase = p; wish = w }) h ≡ order_by s j h
+order_wished s j p w NotYet = refl
+order_wished s j p w (FromQueue sbs jobq pty seq) = through_wished s j p w (route_entry s sbs seq)
+order_wished s j p w (Auto sbs seq) = through_wished s j p w (route_entry s sbs seq)
+order_wished s j p w (Pre sbs pgm) = refl
+
+ended_orders : (s : State) (change : Job → Job) (started : List Sbs) (evokes : List Evoke) (power : Power) → IsEnding s change started power → HasOrders s → HasOrders (wished s change started evokes power)
+ended_orders s change started evokes power e h = record {
+  routed = h.routed;
+  starting = λ k i p. (
+      let m = stood_starting change e.jobs s.jobs k i p in
+      let same : order_of s k ≡ order_of s m.job = ap (λ (x : Job). order_of s x) m.same ∙ order_wished s m.job k.phase k.wish m.job.how in
+      subst (λ (o : Option StartOrder). IsSome o) (sym same) (h.starting m.job m.there m.starting));
+  lodged = λ k i p. (
+      let m = stood_starting change e.jobs s.jobs k i p in
+      let l = lodged_ending s.started started m.job e.subsystems (h.lodged m.job m.there m.starting) in
+      (l.0, l.1, ap (λ (x : Job). is_in_sbs l.0.sbsd x.how) m.same ∙ l.2));
+}
+
 calls : (s : State) → HasOrders s → HoldsOfStates HasOrders s
 calls s h = record {
   stays = h;
@@ -234,7 +272,7 @@ calls s h = record {
   alters = λ change place a. (let t = routed s h _ (altered_of (λ j. IsSome (order_of s j)) s change place a h.starting) (altered_of (IsLodged s.started) s change place a h.lodged) in alike (record s { jobs = map change s.jobs }) _ refl refl t.lodged t);
   holds = λ held a. alike s _ refl refl h.lodged h;
   moves = λ serial j phase i same r e. routed s h _ (moved (λ j. IsSome (order_of s j)) s.jobs serial phase e h.starting) (moved (IsLodged s.started) s.jobs serial phase e h.lodged);
-  powers = alike s _ refl refl (λ j i p. lodged_ending s.started j (h.lodged j i p)) h;
+  ends = λ change started evokes power e. ended_orders s change started evokes power e h;
   makes = λ o e. record {
     routed = e.routed h.routed;
     starting = λ j i p. (let was = h.starting j i p in subst (λ (x : Option StartOrder). IsSome x) (sym (order_kept s o e j (h.lodged j i p) was)) was);
@@ -258,7 +296,8 @@ step_keeps_orders s caller call moment n h =
     let t = (apply c caller call).state in
     let numbered : IsNumbered t = apply_keeps c caller call (clock_keeps s moment n) in
     let orders : HasOrders t = apply_keeps_orders c caller call (clock_keeps_orders s moment h) in
-    (iterate-keeps IsOrdered launches_leave_orders (waiting (leave t)) (leave t) (record { numbered = only_started t numbered; orders = leaves t orders })).orders
+    let due : HasOrders (come_due t) = comes_due HasOrders t (calls t orders) in
+    (iterate-keeps IsOrdered launches_leave_orders (waiting (leave (come_due t))) (leave (come_due t)) (record { numbered = ready_keeps t numbered; orders = leaves (come_due t) due })).orders
 
 after_is_ordered : (s : State) (h : List Entry) → IsOrdered s → IsOrdered (after s h)
 after_is_ordered s [] o = o
@@ -299,28 +338,29 @@ opening_has_orders offset = subst HasOrders (sym (opening_is offset)) (opened_ha
 pub starting_jobs_have_orders : StartingJobsHaveOrders
 starting_jobs_have_orders s h n o = (after_is_ordered s h (record { numbered = n; orders = o })).orders
 
--- where no job is Starting, none is found, and where none is found, none is Starting
-abbrev one : Job → ℕ
-one j = cond (is_starting j.phase) 1 0
+-- where no job passes a test, none is found, and where none is found, none passes
+module _ (test : Job → Bool) where
+  abbrev one : Job → ℕ
+  one j = cond (test j) 1 0
 
-none_starting : (jobs : List Job) → find (λ j. is_starting j.phase) jobs ≡ None → count_by (λ j. is_starting j.phase) jobs ≡ 0
-none_starting [] e = refl
-none_starting (j ∷ jobs) e =
-    let n = unrefused (is_starting j.phase) j (find (λ (j : Job). is_starting j.phase) jobs) e in
-    let rest = none_starting jobs n.1 in
-    let this : one j ≡ 0 = ap (λ (t : Bool). cond t 1 0) n.0 in
-    rw (sum_by-cons one j jobs) (omega arith)
+  none_passing : (jobs : List Job) → find test jobs ≡ None → count_by test jobs ≡ 0
+  none_passing [] e = refl
+  none_passing (j ∷ jobs) e =
+      let n = unrefused (test j) j (find test jobs) e in
+      let rest = none_passing jobs n.1 in
+      let this : one j ≡ 0 = ap (λ (t : Bool). cond t 1 0) n.0 in
+      rw (sum_by-cons one j jobs) (omega arith)
 
-none_at : (t : Bool) (j : Job) (o : Option Job) → ◌≡◌ {A = ℕ} (cond t 1 0) 0 → o ≡ None → cond t (Some j) o ≡ None
-none_at true j o e h = absurd (omega arith)
-none_at false j o e h = h
+  none_at : (t : Bool) (j : Job) (o : Option Job) → ◌≡◌ {A = ℕ} (cond t 1 0) 0 → o ≡ None → cond t (Some j) o ≡ None
+  none_at true j o e h = absurd (omega arith)
+  none_at false j o e h = h
 
-none_found : (jobs : List Job) → count_by (λ j. is_starting j.phase) jobs ≡ 0 → find (λ j. is_starting j.phase) jobs ≡ None
-none_found [] e = refl
-none_found (j ∷ jobs) e =
-    let sum : one j + count_by (λ (j : Job). is_starting j.phase) jobs ≡ 0 = sym (sum_by-cons one j jobs) ∙ e in
-    let rest = none_found jobs (omega arith) in
-    none_at (is_starting j.phase) j (find (λ (j : Job). is_starting j.phase) jobs) (omega arith) rest
+  none_found : (jobs : List Job) → count_by test jobs ≡ 0 → find test jobs ≡ None
+  none_found [] e = refl
+  none_found (j ∷ jobs) e =
+      let sum : one j + count_by test jobs ≡ 0 = sym (sum_by-cons one j jobs) ∙ e in
+      let rest = none_found jobs (omega arith) in
+      none_at (test j) j (find test jobs) (omega arith) rest
 
 is_starting_phase : (p : Phase) → is_starting p ≡ true → p ≡ Starting
 is_starting_phase Waiting h = absurd (cc)
@@ -333,20 +373,40 @@ not_nothing : (s : State) (m : ℕ) (j : Job) (o : Option StartOrder) → IsSome
 not_nothing s m j None h e = absurd (cc)
 not_nothing s m j (Some o) h e = absurd (cc)
 
-nothing : (s : State) (m : ℕ) (o : Option Job) → find (λ j. is_starting j.phase) s.jobs ≡ o → HasOrders s → (hand_job s m o).reply ≡ Nothing → o ≡ None
-nothing s m None f h e = refl
-nothing s m (Some j) f h e =
+none_starts : (s : State) (m : ℕ) (o : Option Job) → find (λ j. is_starting j.phase) s.jobs ≡ o → HasOrders s → (start_job s m o).reply ≡ Nothing → o ≡ None
+none_starts s m None f h e = refl
+none_starts s m (Some j) f h e =
     let k = found_among (λ (j : Job). is_starting j.phase) s.jobs j f in
     absurd (not_nothing s m j (order_of s j) (h.starting j k.0 (is_starting_phase j.phase k.1)) e)
+
+-- a Hand that answers Nothing finds neither a kill nor a start
+nothing : (s : State) (m : ℕ) (o : Option Job) → find (is_to_kill m) s.jobs ≡ o → HasOrders s → (hand_job s m o).reply ≡ Nothing → (find (is_to_kill m) s.jobs ≡ None) × (find (λ j. is_starting j.phase) s.jobs ≡ None)
+nothing s m None f h e = (f, none_starts s m (find (λ (j : Job). is_starting j.phase) s.jobs) refl h e)
+nothing s m (Some j) f h e = absurd (cc)
+
+none_of_both : (n m : ℕ) → n + m ≡ 0 → (n ≡ 0) × (m ≡ 0)
+none_of_both n m e = (omega arith, omega arith)
+
+no_orders : (s : State) (m : ℕ) → (find (is_to_kill m) s.jobs ≡ None) × (find (λ j. is_starting j.phase) s.jobs ≡ None) → orders s m ≡ 0
+no_orders s m h =
+    let kills_none = none_passing (is_to_kill m) s.jobs h.0 in
+    let starting_none = none_passing (λ (j : Job). is_starting j.phase) s.jobs h.1 in
+    omega arith
+
+hands_none : (s : State) (m : ℕ) → orders s m ≡ 0 → (hand_job s m (find (is_to_kill m) s.jobs)).reply ≡ Nothing
+hands_none s m e =
+    let none = none_of_both (kills s m) (starting s) e in
+    ap (λ (o : Option Job). (hand_job s m o).reply) (none_found (is_to_kill m) s.jobs none.0)
+    ∙ ap (λ (o : Option Job). (start_job s m o).reply) (none_found (λ (j : Job). is_starting j.phase) s.jobs none.1)
 
 pub hand_gives_an_order : HandGivesAnOrder
 unfolding step
 hand_gives_an_order s h caller moment n o =
     let t = with_clock (after s h) moment in
     let kept = starting_jobs_have_orders s h n o in
-    let orders = alike (after s h) t refl refl kept.lodged kept in (
-      λ e. none_starting t.jobs (nothing t caller (find (λ j. is_starting j.phase) t.jobs) refl orders e),
-      λ e. ap (λ (o : Option Job). (hand_job t caller o).reply) (none_found t.jobs e),
+    let ordered = alike (after s h) t refl refl kept.lodged kept in (
+      λ e. no_orders t caller (nothing t caller (find (is_to_kill caller) t.jobs) refl ordered e),
+      λ e. hands_none t caller e,
     )
 
 pub reached_route_is_least : ReachedRouteIsLeast

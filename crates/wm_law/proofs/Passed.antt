@@ -1,5 +1,5 @@
 -- No launch passes a job that stands before, but where that one's limit was reached.
-use Rattle.std.proofs.Common.{◌≡◌, ◌⊎◌, ℕ, ◌≤◌, ◌==◌, ◌&&◌, ◌||◌, not, Bool, true, false, cond, List, [], ◌∷◌, Option, Some, None, refl, sym, ap, subst, ◌∙◌, inl, inr, arith}
+use Rattle.std.proofs.Common.{◌≡◌, ◌⊎◌, ℕ, ◌≤◌, ◌==◌, ◌&&◌, ◌||◌, not, Bool, true, false, cond, List, [], ◌∷◌, map, Option, Some, None, refl, sym, ap, subst, ◌∙◌, inl, inr, arith}
 use Rattle.std.specs.List.{find, list_any}
 use Rattle.std.specs.Ordering.{is_lt, nat_cmp, ordering_then}
 use Rattle.std.proofs.lemmas.Bool.{eq-eqb}
@@ -18,6 +18,8 @@ use Rattle.wm_law.specs.declared.choice.Candidate.{Candidate}
 use Rattle.wm_law.specs.declared.command.Sbmjob.{Sbmjob}
 use Rattle.wm_law.specs.declared.job.Job.{Job}
 use Rattle.wm_law.specs.declared.job.Phase.{Phase}
+use Rattle.wm_law.specs.declared.job.Why.{Why}
+use Rattle.wm_law.specs.declared.job.Why.TheVariants as why
 use Rattle.wm_law.specs.declared.state.Sbs.{Sbs}
 use Rattle.wm_law.specs.declared.state.State.{State}
 use Rattle.wm_law.specs.Autos.{auto_job, auto_launched, auto_made}
@@ -26,11 +28,14 @@ use Rattle.wm_law.specs.Counts.{count_active, count_from_priority, count_from_qu
 use Rattle.wm_law.specs.Kept.{IsNumbered}
 use Rattle.wm_law.specs.Launch.{as_launched, launch, launch_job, launched, launched_at}
 use Rattle.wm_law.specs.Laws.{IsIn, MayStart, Turn}
-use Rattle.wm_law.specs.Order.{IsFullFor, PassesNone, counted_for, is_before, is_counted_for, is_launch_phase, is_past_waiting, is_submitted, stands_before, turn_of, was_launched}
+use Rattle.wm_law.specs.Settling.{come_due, job_at, sbss_at}
+use Rattle.wm_law.specs.Wishes.{why_cause}
+use Rattle.wm_law.specs.Order.{IsFullFor, PassesNone, counted_for, is_before, is_counted_for, is_launch_cause, is_launch_phase, is_past_waiting, is_submitted, stands_before, turn_of, was_launched}
 use Rattle.wm_law.specs.Reports.{in_phase, phased_at, with_phase}
 use Rattle.wm_law.specs.Submitting.{entered, submitted_job}
 use Rattle.wm_law.proofs.Alterations.{IsAlteration, altered, each_altered, launch_waits, unlaunched}
 use Rattle.wm_law.proofs.Counted.{no_fewer}
+use Rattle.wm_law.proofs.Endings.{IsPhaseAfter, IsWishing, wishing_at}
 use Rattle.wm_law.proofs.Firsts.{ready_waits}
 use Rattle.wm_law.proofs.Forward.{only_one}
 use Rattle.wm_law.proofs.InTurn.{launched_in, may_before, not_active, there_before}
@@ -222,7 +227,7 @@ or_true : (a b : Bool) → b ≡ true → (a || b) ≡ true
 or_true true b e = refl
 or_true false b e = e
 
-any_in : {X : Type 0} (p : X → Bool) (xs : List X) (x : X) → IsIn x xs → p x ≡ true → list_any p xs ≡ true
+pub any_in : {X : Type 0} (p : X → Bool) (xs : List X) (x : X) → IsIn x xs → p x ≡ true → list_any p xs ≡ true
 any_in p [] x i e = absurd i
 any_in p (y ∷ ys) x (inl same) e = ap (λ (b : Bool). b || list_any p ys) (ap p (sym same) ∙ e)
 any_in p (y ∷ ys) x (inr i) e = or_true (p y) (list_any p ys) (any_in p ys x i e)
@@ -281,6 +286,27 @@ moved_none s serial j phase n e w k m =
     let o = of_mapped (phased_at serial phase) s.jobs k m in
     moved_none_at s serial phase j (o.0.serial == serial) o.0 k n e w refl o.1 o.2
 
+no_launch_cause : (w : Why) → is_launch_cause (why_cause w) ≡ false
+no_launch_cause why.Endjob = refl
+no_launch_cause why.Endsbs = refl
+no_launch_cause why.Endpj = refl
+no_launch_cause why.Maxuse = refl
+
+wished_phase : (p q : Phase) → IsPhaseAfter p q → (b c : Bool) → (is_launch_phase p && b && c) ≡ false → (is_launch_phase q && b && c) ≡ false
+wished_phase p q (inl e) b c h = ap (λ (x : Phase). is_launch_phase x && b && c) e ∙ h
+wished_phase p q (inr e) b c h = ap (λ (x : Bool). x && b && c) (ap is_launch_phase e.1.1 ∙ no_launch_cause e.1.0)
+
+-- nor does a wish
+wished_none : (s t : State) (change : Job → Job) → IsWishing change → LaunchesNone s t → (k : Job) → IsIn k (map change t.jobs) → was_launched s k ≡ false
+wished_none s t change e h k i =
+    let m = of_mapped change t.jobs k i in
+    let j = m.0 in
+    ap (was_launched s) (m.2 ∙ e.same j) ∙ wished_phase j.phase (change j).phase (e.phase j) (not (is_past_waiting s.jobs j.serial)) (is_submitted j.kind) (h j m.1)
+
+-- nor does settling's first part
+pub due_launches_none : (s t : State) → LaunchesNone s t → LaunchesNone s (come_due t)
+due_launches_none s t h = wished_none s t (job_at t.clock (sbss_at t)) (wishing_at t.clock (sbss_at t)) h
+
 -- no call launches a job before the state settles
 pub calls_launch_none : (s : State) → HoldsOfStates (LaunchesNone s) s
 calls_launch_none s = record {
@@ -290,8 +316,8 @@ calls_launch_none s = record {
   enters = λ user c d due has. entered_none s user c d due;
   alters = altered_none s;
   holds = λ held a i m. none_yet s i m;
-  moves = λ serial j phase i e r n. moved_none s serial j phase i e r.past;
-  powers = λ i m. none_yet s i m;
+  moves = λ serial j phase i e r n. (let on = r.onward in moved_none s serial j phase i e on.past);
+  ends = λ change started evokes power e. wished_none s s change e.jobs (none_yet s);
   makes = λ o c i m. none_yet s i m;
 }
 

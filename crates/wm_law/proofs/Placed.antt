@@ -1,5 +1,5 @@
 -- The entries by which active jobs came stay.
-use Rattle.std.proofs.Common.{◌≡◌, ℕ, ◌≤◌, ◌++◌, ◌==◌, ◌&&◌, not, Bool, true, false, cond, List, [], ◌∷◌, map, Option, Some, None, is_some, refl, sym, ap, subst, ◌∙◌, inl, inr, arith}
+use Rattle.std.proofs.Common.{◌≡◌, ℕ, ◌≤◌, ◌++◌, ◌==◌, ◌&&◌, not, Bool, true, false, cond, List, [], ◌∷◌, Option, Some, None, is_some, refl, sym, ap, subst, ◌∙◌, inl, inr, arith}
 use Rattle.std.specs.List.{find}
 use Rattle.std.specs.Option.{option_and_then}
 use Rattle.wm_base.specs.declared.job.EndCause.{EndCause}
@@ -22,6 +22,8 @@ use Rattle.wm_law.specs.declared.job.JobKind.TheVariants.{Bch, Asj, Pj}
 use Rattle.wm_law.specs.declared.job.Phase.{Phase}
 use Rattle.wm_law.specs.declared.job.Phase.TheVariants.{Waiting, Starting, Handed, Running, Ended}
 use Rattle.wm_law.specs.declared.launch.Launched.{Launched}
+use Rattle.wm_law.specs.declared.state.Evoke.{Evoke}
+use Rattle.wm_law.specs.declared.state.Power.{Power}
 use Rattle.wm_law.specs.declared.state.Sbs.{Sbs}
 use Rattle.wm_law.specs.declared.state.SbsPhase.TheVariants.{Active}
 use Rattle.wm_law.specs.declared.state.State.{State}
@@ -32,20 +34,20 @@ use Rattle.wm_law.specs.Kept.{IsNumbered, phase_rank}
 use Rattle.wm_law.specs.Launch.{as_auto, as_launched, from_queue, is_match, launch, launch_job, launched, launched_as, launched_at, launched_by, launched_through, route, route_fault}
 use Rattle.wm_law.specs.Laws.{IsIn}
 use Rattle.wm_law.specs.Machine.{apply, step, with_clock}
-use Rattle.wm_law.specs.Power.{end_now}
 use Rattle.wm_law.specs.Reports.{in_phase, phased_at, with_phase}
-use Rattle.wm_law.specs.Settling.{is_ending, is_gone, leave, waiting}
+use Rattle.wm_law.specs.Settling.{come_due, is_ending, is_gone, leave, waiting}
 use Rattle.wm_law.specs.Sound.{CameFromQueue, HasPlaces, HasQueues, IsPlaced}
 use Rattle.wm_law.specs.Submitting.{submitted_job}
 use Rattle.wm_law.proofs.Alterations.{IsAlteration, altered, each_altered, idle}
+use Rattle.wm_law.proofs.Endings.{AreEnded, IsEnding, was_active, wished}
 use Rattle.wm_law.proofs.Firsts.{holder_started, ready_waits}
 use Rattle.wm_law.proofs.Forward.{only_one}
 use Rattle.wm_law.proofs.Lodged.{counted, not_gone, not_zero}
-use Rattle.wm_law.proofs.Members.{found_among, in_left, in_longer, in_mapped, of_last, of_mapped}
-use Rattle.wm_law.proofs.Moves.{HoldsOfStates, IsMakeable, IsOnward, call_keeps}
+use Rattle.wm_law.proofs.Members.{found_among, in_left, in_longer, of_last, of_mapped}
+use Rattle.wm_law.proofs.Moves.{HoldsOfStates, IsMakeable, IsOnward, call_keeps, comes_due}
 use Rattle.wm_law.proofs.Named.{own_name}
 use Rattle.wm_law.proofs.Nexts.{IsNext, is_next}
-use Rattle.wm_law.proofs.Numbers.{apply_keeps, clock_keeps, launches_keep, only_started}
+use Rattle.wm_law.proofs.Numbers.{apply_keeps, clock_keeps, launches_keep, ready_keeps}
 use Rattle.wm_law.proofs.Objects.{IsObjectChange}
 use Rattle.wm_law.proofs.Queued.{launches_queued, queued_calls}
 use Rattle.wm_law.proofs.Routed.{by_route, launched_routed, started_through}
@@ -56,11 +58,11 @@ active_by how seq None h = refl
 active_by how seq (Some c) h = absurd (cc)
 
 -- a launch that leaves a job active leaves it Starting
-active_through : (s : State) (sbs : QName) (how : ℕ → How) (j : Job) (o : Option RouteEntry) → is_active (launched_through s sbs how j o).phase ≡ true → (launched_through s sbs how j o).phase ≡ Starting
+pub active_through : (s : State) (sbs : QName) (how : ℕ → How) (j : Job) (o : Option RouteEntry) → is_active (launched_through s sbs how j o).phase ≡ true → (launched_through s sbs how j o).phase ≡ Starting
 active_through s sbs how j None h = absurd (cc)
 active_through s sbs how j (Some e) h = active_by how e.seq (route_fault s sbs e j) h
 
-active_as : (s : State) (sbs : QName) (how : ℕ → How) (j : Job) → is_active (launched_as s sbs how j).phase ≡ true → (launched_as s sbs how j).phase ≡ Starting
+pub active_as : (s : State) (sbs : QName) (how : ℕ → How) (j : Job) → is_active (launched_as s sbs how j).phase ≡ true → (launched_as s sbs how j).phase ≡ Starting
 active_as s sbs how j h = active_through s sbs how j (option_and_then (λ d. route d j.rtgdta) (object_named sbs s.objects.sbsds)) h
 
 -- the launched job came by the entries of its turn
@@ -128,7 +130,7 @@ launches_placed = record {
 }
 
 -- what is active was so before, or waited
-active_before : (p q : Phase) → is_waiting p ≡ false → phase_rank p ≤ phase_rank q → is_active q ≡ true → is_active p ≡ true
+pub active_before : (p q : Phase) → is_waiting p ≡ false → phase_rank p ≤ phase_rank q → is_active q ≡ true → is_active p ≡ true
 active_before Waiting q w r a = absurd (cc)
 active_before Starting q w r a = refl
 active_before (Handed m) q w r a = refl
@@ -226,8 +228,19 @@ some_there o x e = ap is_some e
 longer : (s : State) (b : Sbs) (j : Job) → IsStillNamed s.started s.objects (s.started ++ b ∷ []) s.objects j.how
 longer s b j x d i its k = (x, in_longer s.started b x i, refl, k)
 
-ending : (s : State) (j : Job) → IsStillNamed s.started s.objects (map end_now s.started) s.objects j.how
-ending s j x d i its k = (end_now x, in_mapped end_now s.started x i, refl, k)
+ending : (s : State) (started : List Sbs) (j : Job) → AreEnded s.started started → IsStillNamed s.started s.objects started s.objects j.how
+ending s started j e x d i its k =
+    let m = e.after x i in
+    let same = m.2 in
+    (m.0, m.1, same.named, ap (λ (q : QName). object_named q s.objects.sbsds) same.named ∙ k)
+
+ended_placed : (s : State) (change : Job → Job) (started : List Sbs) (evokes : List Evoke) (power : Power) → IsEnding s change started power → HasPlaces s → HasPlaces (wished s change started evokes power)
+ended_placed s change started evokes power e h k i a =
+    let m = of_mapped change s.jobs k i in
+    let j = m.0 in
+    let active : is_active j.phase ≡ true = was_active j.phase (change j).phase (e.jobs.phase j) (ap (λ (x : Job). is_active x.phase) (sym m.2) ∙ a) in
+    let placed = placed_still s.started s.objects started s.objects j.kind j.jobq j.pty j.how (ending s started j e.subsystems) (h j m.1 active) in
+    subst (λ (x : Job). IsPlaced started s.objects x.kind x.jobq x.pty x.how) (sym (m.2 ∙ e.jobs.same j)) placed
 
 remade : (s : State) (o : Objects) (j : Job) → IsObjectChange s o → IsStillNamed s.started s.objects s.started o j.how
 remade s o j c x d i its k = (x, i, refl, c.described x i (some_there (object_named x.sbsd s.objects.sbsds) d k) ∙ k)
@@ -240,8 +253,8 @@ calls_place s n h = record {
   enters = λ user c d due has. last_placed s (submitted_job s user c d due) (λ a. absurd (cc)) h;
   alters = λ change place a. altered_placed s change place a h;
   holds = λ held a. h;
-  moves = λ serial j phase i e r k. moved_placed s serial j phase n h i e r;
-  powers = λ j i a. placed_still s.started s.objects _ _ j.kind j.jobq j.pty j.how (ending s j) (h j i a);
+  moves = λ serial j phase i e r k. moved_placed s serial j phase n h i e r.onward;
+  ends = λ change started evokes power e. ended_placed s change started evokes power e h;
   makes = λ o c j i a. placed_still s.started s.objects _ _ j.kind j.jobq j.pty j.how (remade s o j c) (h j i a);
 }
 
@@ -263,4 +276,6 @@ step_keeps_places s caller call moment n q h =
     let numbered : IsNumbered t = apply_keeps c caller call (clock_keeps s moment n) in
     let queues : HasQueues t = call_keeps HasQueues c caller call (queued_calls c q) in
     let called : HasPlaces t = call_keeps HasPlaces c caller call (calls_place c (clock_keeps s moment n) h) in
-    (iterate-keeps IsSettled launches_placed (waiting (leave t)) (leave t) (record { numbered = only_started t numbered; queues = queues; places = left_placed t called })).places
+    let queues_due : HasQueues (come_due t) = comes_due HasQueues t (queued_calls t queues) in
+    let placed : HasPlaces (come_due t) = comes_due HasPlaces t (calls_place t numbered called) in
+    (iterate-keeps IsSettled launches_placed (waiting (leave (come_due t))) (leave (come_due t)) (record { numbered = ready_keeps t numbered; queues = queues_due; places = left_placed (come_due t) placed })).places

@@ -32,6 +32,7 @@ use Rattle.wm_law.specs.Reports.{in_phase}
 use Rattle.wm_law.specs.Sound.{AreQueues, HasAutoValues, HasQueues, IsQueued}
 use Rattle.wm_law.specs.Submitting.{queue_of, submitted_job}
 use Rattle.wm_law.proofs.Alterations.{IsAlteration, IsAltered, IsHolding, each_altered}
+use Rattle.wm_law.proofs.Endings.{IsWishing, key_same, was_waiting}
 use Rattle.wm_law.proofs.InOrder.{in_inserted, sorted_added}
 use Rattle.wm_law.proofs.Members.{left_in, of_last, of_mapped}
 use Rattle.wm_law.proofs.Moves.{HoldsOfStates, IsAcceptable, IsKeptByParts, never_waits, step_keeps}
@@ -66,6 +67,30 @@ all_changed : (o : Objects) (jobs : List Job) (serial : ℕ) (change : Job → J
 all_changed o jobs serial change k h i m =
     let f = of_mapped (changed_at serial change) jobs i m in
     subst (IsQueued o) (sym f.2) (queued_at o change (f.0.serial == serial) f.0 k (h f.0 f.1))
+
+-- so it is where wishes change
+wished_queued : (o : Objects) (change : Job → Job) → IsWishing change → (j : Job) → IsQueued o j → IsQueued o (change j)
+wished_queued o change e j h =
+    let kind = key_same change e (λ (x : Job). x.kind) (λ x p w. refl) j in
+    let jobq = key_same change e (λ (x : Job). x.jobq) (λ x p w. refl) j in
+    record {
+      waits = λ w. kind ∙ h.waits (was_waiting j.phase (change j).phase (e.phase j) w);
+      has_queue = λ b. subst (λ (q : Option QName). IsSome q) (sym jobq) (h.has_queue (sym kind ∙ b));
+      is_object = λ q f. h.is_object q (sym jobq ∙ f);
+      auto = λ a. (
+          let v = h.auto (sym kind ∙ a) in
+          record {
+            jobq = jobq ∙ v.jobq;
+            pty = key_same change e (λ (x : Job). x.pty) (λ x p w. refl) j ∙ v.pty;
+            place = key_same change e (λ (x : Job). x.place) (λ x p w. refl) j ∙ v.place;
+            held = key_same change e (λ (x : Job). x.held) (λ x p w. refl) j ∙ v.held;
+          });
+    }
+
+all_wished : (o : Objects) (jobs : List Job) (change : Job → Job) → IsWishing change → AllQueued o jobs → AllQueued o (map change jobs)
+all_wished o jobs change e h i m =
+    let f = of_mapped change jobs i m in
+    subst (IsQueued o) (sym f.2) (wished_queued o change e f.0 (h f.0 f.1))
 
 submitted_queued : (s : State) (user : List ℕ) (c : Sbmjob) (d : Jobd) (due : ℕ) → IsAcceptable s c d due → IsQueued s.objects (submitted_job s user c d due)
 submitted_queued s user c d due a = record {
@@ -118,8 +143,8 @@ queued_calls s h = record {
   enters = λ user c d due a. last_queued s.objects s.jobs (submitted_job s user c d due) (submitted_queued s user c d due a) h;
   alters = λ change place a. all_altered s change place a h;
   holds = λ held a. h;
-  moves = λ serial j phase i e r n. moved_queued s serial phase (never_waits j.phase phase r) h;
-  powers = h;
+  moves = λ serial j phase i e r n. moved_queued s serial phase (never_waits j.phase phase r.onward) h;
+  ends = λ change started evokes power e. all_wished s.objects s.jobs change e.jobs h;
   makes = λ o c j i. queued_still s.objects o j c.jobqs (h j i);
 }
 
@@ -173,7 +198,7 @@ held_calls s h = record {
   alters = λ change place a. h;
   holds = λ held a. still_queues s held a h;
   moves = λ serial j phase i e r n. h;
-  powers = h;
+  ends = λ change started evokes power e. h;
   makes = λ o c. record { sorted = h.sorted; are_objects = λ q i. c.jobqs q (h.are_objects q i) };
 }
 

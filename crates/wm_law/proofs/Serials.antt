@@ -14,11 +14,12 @@ use Rattle.wm_law.specs.Launch.{as_launched, launch, launch_job, launched}
 use Rattle.wm_law.specs.Laws.{IsIn}
 use Rattle.wm_law.specs.Machine.{apply, step, with_clock}
 use Rattle.wm_law.specs.Reports.{in_phase}
-use Rattle.wm_law.specs.Settling.{leave, waiting}
+use Rattle.wm_law.specs.Settling.{come_due, leave, waiting}
 use Rattle.wm_law.specs.Sound.{HasJobsInOrder, IsIncreasing}
 use Rattle.wm_law.specs.Submitting.{submitted_job}
 use Rattle.wm_law.proofs.Changed.{keys_kept}
-use Rattle.wm_law.proofs.Moves.{HoldsOfStates, call_keeps}
+use Rattle.wm_law.proofs.Endings.{keys_same}
+use Rattle.wm_law.proofs.Moves.{HoldsOfStates, call_keeps, comes_due}
 use Rattle.wm_law.proofs.Numbers.{calls, clock_keeps, serials_stay}
 
 abbrev serials : List Job → List ℕ
@@ -62,7 +63,7 @@ calls_increase s l =
       alters = λ change place a. record { numbered = n.alters change place a; increasing = subst IsIncreasing (sym (serials_stay s change place a)) h };
       holds = λ held a. record { numbered = n.holds held a; increasing = h };
       moves = λ serial j phase i e r k. record { numbered = n.moves serial j phase i e r k; increasing = subst IsIncreasing (sym (keys_kept (λ (x : Job). x.serial) serial (in_phase phase) (λ x. refl) s.jobs)) h };
-      powers = record { numbered = n.powers; increasing = h };
+      ends = λ change started evokes power e. record { numbered = n.ends change started evokes power e; increasing = subst IsIncreasing (sym (keys_same change e.jobs (λ (x : Job). x.serial) (λ x p w. refl) s.jobs)) h };
       makes = λ o c. record { numbered = n.makes o c; increasing = h };
     }
 
@@ -72,4 +73,5 @@ step_keeps_jobs_in_order s caller call moment n h =
     let c = with_clock s moment in
     let t = (apply c caller call).state in
     let called : IsInLine t = call_keeps IsInLine c caller call (calls_increase c (record { numbered = clock_keeps s moment n; increasing = h })) in
-    iterate-keeps HasJobsInOrder launches_increase (waiting (leave t)) (leave t) called.increasing
+    let due : IsInLine (come_due t) = comes_due IsInLine t (calls_increase t called) in
+    iterate-keeps HasJobsInOrder launches_increase (waiting (leave (come_due t))) (leave (come_due t)) due.increasing

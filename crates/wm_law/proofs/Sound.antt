@@ -8,7 +8,8 @@ use Rattle.wm_law.specs.Counts.{is_waiting}
 use Rattle.wm_law.specs.History.{after, stepped}
 use Rattle.wm_law.specs.Limits.{is_autostart}
 use Rattle.wm_law.specs.Opening.{opening}
-use Rattle.wm_law.specs.Sound.{AutostartJobsNeverWait, HasJobsInOrder, HasPlaces, IsSound, LimitsAreKept, OpeningIsSound, OrderIsKept, StatesAreSound, StepKeepsLimits, StepKeepsOrder, StepKeepsSound}
+use Rattle.wm_law.specs.Sound.{AutostartJobsNeverWait, HasJobsInOrder, HasPlaces, IsSound, LimitsAreKept, NoneIsDue, OpeningIsSound, OrderIsKept, StatesAreSound, StepKeepsLimits, StepKeepsOrder, StepKeepsSound, StepLeavesNoneDue}
+use Rattle.wm_law.proofs.Due.{leaves_none_due}
 use Rattle.wm_law.proofs.Fitting.{order_kept, step_order}
 use Rattle.wm_law.proofs.Limits.{limits_kept, step_limits}
 use Rattle.wm_law.proofs.Numbers.{opening_is_numbered, step_keeps_numbers}
@@ -19,6 +20,7 @@ use Rattle.wm_law.proofs.Queued.{opening_has_queues, opening_holds_queues, step_
 use Rattle.wm_law.proofs.Serials.{step_keeps_jobs_in_order}
 use Rattle.wm_law.proofs.Standing.{opening_is_within_started, opening_objects_are_sound, step_keeps_objects, step_keeps_within_started}
 use Rattle.wm_law.proofs.Started.{opening_has_distinct_names, step_keeps_names_distinct}
+use Rattle.wm_law.proofs.Wished.{opening_has_moments, opening_has_wishes, step_keeps_moments, step_keeps_wishes}
 use Rattle.wm_law.proofs.Subsystems.{opening_has_descriptions, opening_is_quiet, step_keeps_descriptions, step_keeps_quiet}
 
 opening_has_jobs_in_order : (offset : ℤ) → HasJobsInOrder (opening offset)
@@ -43,6 +45,8 @@ opening_is_sound offset = record {
   queues = opening_has_queues offset;
   held = opening_holds_queues offset;
   within_started = opening_is_within_started offset;
+  wishes = opening_has_wishes offset;
+  moments = opening_has_moments offset;
 }
 
 pub step_keeps_sound : StepKeepsSound
@@ -58,11 +62,20 @@ step_keeps_sound s caller call moment h = record {
   queues = step_keeps_queues s caller call moment h.queues;
   held = step_keeps_held s caller call moment h.held;
   within_started = step_keeps_within_started s caller call moment h.within_started;
+  wishes = step_keeps_wishes s caller call moment h.wishes;
+  moments = step_keeps_moments s caller call moment h.moments;
 }
 
 after_is_sound : (s : State) (h : List Entry) → IsSound s → IsSound (after s h)
 after_is_sound s [] h = h
 after_is_sound s (e ∷ es) h = after_is_sound (stepped s e).state es (step_keeps_sound s e.caller e.call e.moment h)
+
+pub step_leaves_none_due : StepLeavesNoneDue
+step_leaves_none_due s caller call moment h = leaves_none_due s caller call moment h.numbered h.wishes h.names
+
+pub none_is_due : NoneIsDue
+none_is_due s [] h none = none
+none_is_due s (e ∷ es) h none = none_is_due (stepped s e).state es (step_keeps_sound s e.caller e.call e.moment h) (step_leaves_none_due s e.caller e.call e.moment h)
 
 pub states_are_sound : StatesAreSound
 states_are_sound s h sound = after_is_sound s h sound

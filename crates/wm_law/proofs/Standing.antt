@@ -1,5 +1,5 @@
 -- Objects stay sound, and no more subsystems are started than may be.
-use Rattle.std.proofs.Common.{◌≡◌, ℕ, ℤ, ◌≤◌, ◌++◌, ◌==◌, not, true, false, List, [], ◌∷◌, length, Option, Some, None, refl, sym, ap, subst, ◌∙◌, inl, inr, arith}
+use Rattle.std.proofs.Common.{◌≡◌, ℕ, ℤ, ◌≤◌, ◌++◌, ◌==◌, not, true, false, List, [], ◌∷◌, length, map, Option, Some, None, refl, sym, ap, subst, ◌∙◌, inl, inr, arith}
 use Rattle.std.specs.Prelude.{nat_le}
 use Rattle.std.specs.List.{find}
 use Rattle.std.specs.Option.{IsSome}
@@ -27,7 +27,6 @@ use Rattle.wm_law.specs.Machine.{step}
 use Rattle.wm_law.specs.Making.{jobd_of}
 use Rattle.wm_law.specs.Objects.{AreSound, HasTables, IsDescription, IsProgram, IsTable}
 use Rattle.wm_law.specs.Opening.{crtjobd_qbatch, crtjobd_qdftjobd, opening}
-use Rattle.wm_law.specs.Power.{end_now}
 use Rattle.wm_law.specs.Settling.{is_gone}
 use Rattle.wm_law.specs.Sound.{IsWithinStarted}
 use Rattle.wm_law.specs.Subsystems.{max_started}
@@ -53,7 +52,7 @@ sound_calls s h = record {
   alters = λ change place a. h;
   holds = λ held a. h;
   moves = λ serial j phase i e r n. h;
-  powers = h;
+  ends = λ change started evokes power e. h;
   makes = λ o c. c.sound h;
 }
 
@@ -126,6 +125,9 @@ launched_within : (s : State) (c : Candidate) (o : Option Job) → IsWithinStart
 launched_within s c None h = h
 launched_within s c (Some j) h = h
 
+length_same : (bs cs : List Sbs) → map (λ (b : Sbs). b.sbsd) bs ≡ map (λ (b : Sbs). b.sbsd) cs → length bs ≡ length cs
+length_same bs cs e = sym (length-map bs (λ (b : Sbs). b.sbsd)) ∙ ap (λ (qs : List QName). length qs) e ∙ length-map cs (λ (b : Sbs). b.sbsd)
+
 within_calls : (s : State) → IsWithinStarted s → HoldsOfStates IsWithinStarted s
 within_calls s h = record {
   stays = h;
@@ -135,7 +137,7 @@ within_calls s h = record {
   alters = λ change place a. h;
   holds = λ held a. h;
   moves = λ serial j phase i e r n. h;
-  powers = subst (λ (n : ℕ). n ≤ max_started) (sym (length-map s.started end_now)) h;
+  ends = λ change started evokes power e. subst (λ (n : ℕ). n ≤ max_started) (sym (length_same started s.started e.subsystems.names)) h;
   makes = λ o c. h;
 }
 

@@ -1,5 +1,5 @@
 -- The simple names of the started subsystems stay distinct.
-use Rattle.std.proofs.Common.{◌≡◌, ℕ, ◌==◌, not, true, false, List, [], ◌∷◌, map, Option, Some, None, refl, sym, subst, inl, inr, nat_eq}
+use Rattle.std.proofs.Common.{◌≡◌, ℕ, ◌==◌, not, true, false, List, [], ◌∷◌, map, Option, Some, None, refl, sym, ap, subst, ◌∙◌, inl, inr, nat_eq}
 use Rattle.std.specs.List.{list_any, find}
 use Rattle.std.specs.Cmp.Lexicographic.{pointwise}
 use Rattle.std.proofs.lemmas.Bool.{eq-eqb}
@@ -12,11 +12,9 @@ use Rattle.wm_law.specs.declared.state.State.{State}
 use Rattle.wm_law.specs.Kept.{IsDistinct, HasDistinctNames, OpeningHasDistinctNames, StepKeepsNamesDistinct, StartedNamesAreDistinct}
 use Rattle.wm_law.specs.Launch.{launch_job}
 use Rattle.wm_law.specs.Laws.{IsIn}
-use Rattle.wm_law.specs.Power.{end_now}
 use Rattle.wm_law.specs.Subsystems.{begun, is_started}
 use Rattle.wm_law.specs.Settling.{is_gone}
 use Rattle.wm_law.proofs.Distinct.{distinct_last, distinct_left}
-use Rattle.wm_law.proofs.Members.{map_same}
 use Rattle.wm_law.proofs.Moves.{HoldsOfStates, IsKeptByParts, step_keeps, after_keeps}
 use Rattle.wm_law.proofs.Opened.{opening_is}
 use Rattle.wm_law.proofs.Tests.{of_neither}
@@ -40,11 +38,18 @@ not_among name (b ∷ bs) e (inr i) = not_among name bs (of_neither (pointwise n
 started : (s : State) (q : QName) → is_started s q.name ≡ false → HasDistinctNames s → HasDistinctNames (begun s q)
 started s q fresh h = distinct_last name_of (record { sbsd = q; phase = Active }) s.started (not_among q.name s.started fresh) h
 
-launched : (s : State) (c : Candidate) (o : Option Job) → HasDistinctNames s → HasDistinctNames (launch_job s c o)
+pub launched : (s : State) (c : Candidate) (o : Option Job) → HasDistinctNames s → HasDistinctNames (launch_job s c o)
 launched s c None h = h
 launched s c (Some j) h = h
 
-calls : (s : State) → HasDistinctNames s → HoldsOfStates HasDistinctNames s
+names_by : (bs : List Sbs) → map name_of bs ≡ map (λ (q : QName). q.name) (map (λ (b : Sbs). b.sbsd) bs)
+names_by [] = refl
+names_by (b ∷ bs) = ap (λ (names : List (List ℕ)). b.sbsd.name ∷ names) (names_by bs)
+
+names_same : (bs cs : List Sbs) → map (λ (b : Sbs). b.sbsd) bs ≡ map (λ (b : Sbs). b.sbsd) cs → map name_of bs ≡ map name_of cs
+names_same bs cs e = names_by bs ∙ ap (map (λ (q : QName). q.name)) e ∙ sym (names_by cs)
+
+pub calls : (s : State) → HasDistinctNames s → HoldsOfStates HasDistinctNames s
 calls s h = record {
   stays = h;
   starts = λ q e. started s q e.fresh h;
@@ -53,7 +58,7 @@ calls s h = record {
   alters = λ change place a. h;
   holds = λ held a. h;
   moves = λ serial j phase i e r n. h;
-  powers = subst IsDistinct (sym (map_same name_of end_now (λ b. refl) s.started)) h;
+  ends = λ change started evokes power e. subst IsDistinct (sym (names_same started s.started e.subsystems.names)) h;
   makes = λ o e. h;
 }
 

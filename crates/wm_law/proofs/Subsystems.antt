@@ -1,5 +1,5 @@
 -- Each started subsystem has its description, and none is Active where the power isn't On.
-use Rattle.std.proofs.Common.{ℤ, ◌==◌, not, Option, Some, None, sym, ap, subst, inl, inr}
+use Rattle.std.proofs.Common.{◌≡◌, ℤ, ◌==◌, not, Bool, true, false, List, Option, Some, None, refl, sym, ap, subst, ◌∙◌, inl, inr}
 use Rattle.std.specs.List.{find}
 use Rattle.std.specs.Option.{IsSome}
 use Rattle.wm_base.specs.declared.qname.QName.{QName}
@@ -7,16 +7,19 @@ use Rattle.wm_desc.specs.declared.description.Sbsd.{Sbsd}
 use Rattle.wm_desc.specs.Table.{object_named}
 use Rattle.wm_law.specs.declared.choice.Candidate.{Candidate}
 use Rattle.wm_law.specs.declared.job.Job.{Job}
+use Rattle.wm_law.specs.declared.state.Power.{Power}
 use Rattle.wm_law.specs.declared.state.Sbs.{Sbs}
 use Rattle.wm_law.specs.declared.state.SbsPhase.TheVariants.{Active}
 use Rattle.wm_law.specs.declared.state.State.{State}
 use Rattle.wm_law.specs.Choice.{is_sbs_active}
 use Rattle.wm_law.specs.Kept.{HasDescriptions, IsQuiet, OpeningHasDescriptions, OpeningIsQuiet, StepKeepsDescriptions, StartedAreDescribed, StepKeepsQuiet, NoneIsActiveWithoutPower}
 use Rattle.wm_law.specs.Launch.{launch_job}
-use Rattle.wm_law.specs.Power.{end_now}
+use Rattle.wm_law.specs.Laws.{IsIn}
+use Rattle.wm_law.specs.Power.{is_on}
 use Rattle.wm_law.specs.Subsystems.{begun}
 use Rattle.wm_law.specs.Settling.{is_gone}
-use Rattle.wm_law.proofs.Members.{of_last, of_mapped, left_in}
+use Rattle.wm_law.proofs.Endings.{AreEnded, IsEnding}
+use Rattle.wm_law.proofs.Members.{of_last, left_in}
 use Rattle.wm_law.proofs.Opened.{opened, opening_is}
 use Rattle.wm_law.proofs.Moves.{HoldsOfStates, IsKeptByParts, step_keeps, after_keeps}
 
@@ -31,6 +34,12 @@ described_launched : (s : State) (c : Candidate) (o : Option Job) → HasDescrip
 described_launched s c None h = h
 described_launched s c (Some j) h = h
 
+described_ended : (s : State) (started : List Sbs) → AreEnded s.started started → HasDescriptions s → (b : Sbs) → IsIn b started → IsSome (object_named b.sbsd s.objects.sbsds)
+described_ended s started e h b i =
+    let m = e.before b i in
+    let same = m.2 in
+    subst (λ (q : QName). IsSome (object_named q s.objects.sbsds)) (sym same.named) (h m.0 m.1)
+
 described_calls : (s : State) → HasDescriptions s → HoldsOfStates HasDescriptions s
 described_calls s h = record {
   stays = h;
@@ -40,7 +49,7 @@ described_calls s h = record {
   alters = λ change place a. h;
   holds = λ held a. h;
   moves = λ serial j phase i e r n. h;
-  powers = λ b i. (let m = of_mapped end_now s.started b i in subst (λ (x : Sbs). IsSome (object_named x.sbsd s.objects.sbsds)) (sym m.2) (h m.0 m.1));
+  ends = λ change started evokes power e b i. described_ended s started e.subsystems h b i;
   makes = λ o e b i. subst (λ (d : Option Sbsd). IsSome d) (sym (e.described b i (h b i))) (h b i);
 }
 
@@ -56,6 +65,20 @@ quiet_launched : (s : State) (c : Candidate) (o : Option Job) → IsQuiet s → 
 quiet_launched s c None h = h
 quiet_launched s c (Some j) h = h
 
+unless_was : (t u : Bool) → (t ≡ true → u ≡ true) → u ≡ false → t ≡ false
+unless_was true u h e = let yes = h refl in absurd (cc)
+unless_was false u h e = refl
+
+quiet_ended : (s : State) (change : Job → Job) (started : List Sbs) (power : Power) → IsEnding s change started power → IsQuiet s → is_on power ≡ false → (b : Sbs) → IsIn b started → is_sbs_active b.phase ≡ false
+quiet_ended s change started power e h off b i =
+    elim (e.quiet) as (λ _. is_sbs_active b.phase ≡ false) [
+      | inl same ↦ (
+          let m = e.subsystems.before b i in
+          let ended = m.2 in
+          unless_was (is_sbs_active b.phase) (is_sbs_active m.0.phase) ended.active (h (ap is_on (sym same) ∙ off) m.0 m.1))
+      | inr none ↦ none b i
+    ]
+
 quiet_calls : (s : State) → IsQuiet s → HoldsOfStates IsQuiet s
 quiet_calls s h = record {
   stays = h;
@@ -65,7 +88,7 @@ quiet_calls s h = record {
   alters = λ change place a. h;
   holds = λ held a. h;
   moves = λ serial j phase i e r n. h;
-  powers = λ off b i. (let m = of_mapped end_now s.started b i in ap (λ (x : Sbs). is_sbs_active x.phase) m.2);
+  ends = λ change started evokes power e off b i. quiet_ended s change started power e h off b i;
   makes = λ o e. h;
 }
 

@@ -1,9 +1,11 @@
--- Which commands of users are built.
+-- Which commands of users are built, and which of them tell jobs or subsystems to end.
 use Rattle.std.specs.Prelude.{Bool, true, false}
+use Rattle.wm_law.specs.declared.call.Call.{Call}
+use Rattle.wm_law.specs.declared.call.Call.TheVariants.{Change, Hand, Started, StartFailed, Finished, UseDone, Tick}
 use Rattle.wm_law.specs.declared.command.Command.{Command}
 use Rattle.wm_law.specs.declared.command.Command.TheVariants as command
 
--- the commands that make objects, those on queue, routing and autostart entries, STRSBS, SBMJOB, and those on waiting jobs and on queues
+-- the commands that make objects, those on queue, routing and autostart entries, on subsystems, on jobs and on queues, and PWRDWNSYS
 abbrev pub is_built : Command → Bool
 is_built (command.Crtcls c) = true
 is_built (command.Crtjobq c) = true
@@ -17,11 +19,55 @@ is_built (command.Rmvjobqe c) = true
 is_built (command.Rmvrtge c) = true
 is_built (command.Rmvaje c) = true
 is_built (command.Strsbs c) = true
+is_built (command.Endsbs c) = true
 is_built (command.Sbmjob c) = true
 is_built (command.Hldjob c) = true
 is_built (command.Rlsjob c) = true
 is_built (command.Chgjob c) = true
+is_built (command.Endjob c) = true
 is_built (command.Hldjobq c) = true
 is_built (command.Rlsjobq c) = true
 is_built (command.Clrjobq c) = true
+is_built (command.Pwrdwnsys c) = true
 is_built c = false
+
+-- the command tells jobs or subsystems to end
+abbrev pub tells_to_end : Command → Bool
+tells_to_end (command.Crtcls c) = false
+tells_to_end (command.Crtjobq c) = false
+tells_to_end (command.Crtpgmref c) = false
+tells_to_end (command.Crtjobd c) = false
+tells_to_end (command.Crtsbsd c) = false
+tells_to_end (command.Addjobqe c) = false
+tells_to_end (command.Addrtge c) = false
+tells_to_end (command.Addaje c) = false
+tells_to_end (command.Addpje c) = false
+tells_to_end (command.Rmvjobqe c) = false
+tells_to_end (command.Rmvrtge c) = false
+tells_to_end (command.Rmvaje c) = false
+tells_to_end (command.Rmvpje c) = false
+tells_to_end (command.Strsbs c) = false
+tells_to_end (command.Endsbs c) = true
+tells_to_end (command.Sbmjob c) = false
+tells_to_end (command.Hldjob c) = false
+tells_to_end (command.Rlsjob c) = false
+tells_to_end (command.Chgjob c) = false
+tells_to_end (command.Endjob c) = true
+tells_to_end (command.Hldjobq c) = false
+tells_to_end (command.Rlsjobq c) = false
+tells_to_end (command.Clrjobq c) = false
+tells_to_end (command.Strpj c) = false
+tells_to_end (command.Endpj c) = true
+tells_to_end (command.Evoke c) = false
+tells_to_end (command.Enduse c) = false
+tells_to_end (command.Pwrdwnsys c) = true
+
+-- a call of such a command
+abbrev pub is_ending_call : Call → Bool
+is_ending_call (Change user c) = tells_to_end c
+is_ending_call Hand = false
+is_ending_call (Started serial) = false
+is_ending_call (StartFailed serial why) = false
+is_ending_call (Finished serial end) = false
+is_ending_call (UseDone serial) = false
+is_ending_call Tick = false

@@ -4,6 +4,8 @@ use Rattle.wm_base.specs.declared.qname.QName.{QName}
 use Rattle.wm_base.specs.declared.job.How.{How}
 use Rattle.wm_base.specs.declared.job.How.TheVariants.{NotYet, FromQueue, Auto, Pre}
 use Rattle.wm_law.specs.declared.job.Job.{Job}
+use Rattle.wm_law.specs.declared.job.JobKind.{JobKind}
+use Rattle.wm_law.specs.declared.job.JobKind.TheVariants.{Bch, Asj, Pj}
 use Rattle.wm_law.specs.declared.job.Phase.{Phase}
 use Rattle.wm_law.specs.declared.job.Phase.TheVariants.{Waiting, Starting, Handed, Running, Ended}
 use Rattle.wm_desc.specs.Table.{same_qname}
@@ -29,6 +31,12 @@ is_active Starting = true
 is_active (Handed m) = true
 is_active (Running m) = true
 is_active (Ended c) = false
+
+-- whether the job is a prestart job
+abbrev pub is_prestart : JobKind → Bool
+is_prestart Bch = false
+is_prestart Asj = false
+is_prestart Pj = true
 
 -- whether it came into the subsystem
 abbrev pub is_in_sbs : QName → How → Bool

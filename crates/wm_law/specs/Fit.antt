@@ -15,7 +15,6 @@ use Rattle.wm_law.specs.declared.call.Call.{Call}
 use Rattle.wm_law.specs.declared.call.Call.TheVariants.{Change, Hand, Started, StartFailed, Finished, UseDone, Tick}
 use Rattle.wm_law.specs.declared.command.Command.{Command}
 use Rattle.wm_law.specs.declared.command.Command.TheVariants as command
-use Rattle.wm_law.specs.declared.command.EndOption.TheVariants.{Immed}
 use Rattle.wm_law.specs.declared.command.Addaje.{Addaje}
 use Rattle.wm_law.specs.declared.command.Addjobqe.{Addjobqe}
 use Rattle.wm_law.specs.declared.command.Addpje.{Addpje}
@@ -27,7 +26,6 @@ use Rattle.wm_law.specs.declared.command.JobRef.TheVariants.{Simple, ByUser, Ful
 use Rattle.wm_law.specs.declared.command.Sbmjob.{Sbmjob}
 use Rattle.wm_law.specs.declared.state.State.{State}
 use Rattle.wm_law.specs.Making.{class_of, jobd_of, queue_entry_of, route_entry_of}
-use Rattle.wm_law.specs.Pending.{active}
 
 pub record IsQName (q : QName) : Type 0 where
   pub lib : IsName q.lib
@@ -178,7 +176,7 @@ IsCall (Finished serial end) = IsSerial serial × IsExit end
 IsCall (UseDone serial) = IsSerial serial
 IsCall Tick = ⊤
 
--- the commands that the machine has: PWRDWNSYS only with OPTION(*IMMED) and where no job is active
+-- the commands that the machine has
 abbrev pub HasCommand : State → Command → Type 0
 HasCommand s (command.Crtcls c) = ⊤
 HasCommand s (command.Crtjobq c) = ⊤
@@ -192,14 +190,16 @@ HasCommand s (command.Rmvjobqe c) = ⊤
 HasCommand s (command.Rmvrtge c) = ⊤
 HasCommand s (command.Rmvaje c) = ⊤
 HasCommand s (command.Strsbs c) = ⊤
+HasCommand s (command.Endsbs c) = ⊤
 HasCommand s (command.Sbmjob c) = ⊤
 HasCommand s (command.Hldjob c) = ⊤
 HasCommand s (command.Rlsjob c) = ⊤
 HasCommand s (command.Chgjob c) = ⊤
+HasCommand s (command.Endjob c) = ⊤
 HasCommand s (command.Hldjobq c) = ⊤
 HasCommand s (command.Rlsjobq c) = ⊤
 HasCommand s (command.Clrjobq c) = ⊤
-HasCommand s (command.Pwrdwnsys c) = (c.option ≡ Immed) × (active s ≡ 0)
+HasCommand s (command.Pwrdwnsys c) = ⊤
 HasCommand s c = ⊥
 
 -- the machine has every call of a monitor, and those commands

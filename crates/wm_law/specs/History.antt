@@ -6,7 +6,7 @@ use Rattle.wm_law.specs.declared.call.Call.{Call}
 use Rattle.wm_law.specs.declared.call.Call.TheVariants.{Change, Hand, Started, StartFailed, Finished, UseDone, Tick}
 use Rattle.wm_law.specs.declared.call.Entry.{Entry}
 use Rattle.wm_law.specs.declared.call.Reply.{Reply}
-use Rattle.wm_law.specs.declared.call.Reply.TheVariants.{Made, SbsStarted, Submitted, Held, Released, Changed, QueueHeld, QueueReleased, QueueCleared, PowerDown, Order, Nothing, Noted, No}
+use Rattle.wm_law.specs.declared.call.Reply.TheVariants.{Made, SbsStarted, SbsEnding, Submitted, Held, Released, Changed, JobEnding, JobEnded, QueueHeld, QueueReleased, QueueCleared, PowerDown, Order, Nothing, Noted, No}
 use Rattle.wm_law.specs.declared.state.State.{State}
 use Rattle.wm_law.specs.Fit.{IsCall, HasCall}
 use Rattle.wm_law.specs.Machine.{step}
@@ -52,10 +52,13 @@ is_monitor_call Tick = true
 abbrev pub order_in : Reply → Option Asked
 order_in Made = None
 order_in (SbsStarted sbs) = None
+order_in (SbsEnding sbs) = None
 order_in (Submitted job jobq) = None
 order_in (Held job) = None
 order_in (Released job) = None
 order_in (Changed job) = None
+order_in (JobEnding job) = None
+order_in (JobEnded job) = None
 order_in QueueHeld = None
 order_in QueueReleased = None
 order_in (QueueCleared count) = None

@@ -1,10 +1,12 @@
 -- What every step keeps: numbers that are given once, jobs that only go forward, orders of the jobs that are Starting, and
 -- names of started subsystems that are distinct; and in which order settling starts jobs.
-use Rattle.std.specs.Prelude.{◌≡◌, ◌↔◌, ℕ, ℤ, ◌<◌, ◌≤◌, true, false, List, [], ◌∷◌, map, filter, fold, ⊤, Option, Some, None}
+use Rattle.std.specs.Prelude.{◌≡◌, ◌↔◌, ◌⊎◌, Bool, ℕ, ℤ, ◌<◌, ◌≤◌, true, false, List, [], ◌∷◌, map, filter, fold, ⊤, Option, Some, None, if◌then◌else◌}
 use Rattle.std.specs.List.{filter_map}
 use Rattle.std.specs.Option.{IsSome, option_and_then}
 use Rattle.std.specs.Ordering.{nat_cmp}
 use Rattle.wm_base.specs.declared.job.Asked.{Asked}
+use Rattle.wm_base.specs.declared.job.EndCause.{EndCause}
+use Rattle.wm_base.specs.declared.job.EndCause.TheVariants as cause
 use Rattle.wm_base.specs.declared.job.Asked.TheVariants.{Start, Kill}
 use Rattle.wm_base.specs.declared.qname.QName.{QName}
 use Rattle.wm_law.specs.declared.call.Call.{Call}
@@ -14,6 +16,8 @@ use Rattle.wm_law.specs.declared.call.Reply.TheVariants.{Nothing}
 use Rattle.wm_law.specs.declared.job.Job.{Job}
 use Rattle.wm_law.specs.declared.job.Phase.{Phase}
 use Rattle.wm_law.specs.declared.job.Phase.TheVariants.{Waiting, Starting, Handed, Running, Ended}
+use Rattle.wm_law.specs.declared.job.Wish.{Wish}
+use Rattle.wm_law.specs.declared.job.Wish.TheVariants as wish
 use Rattle.wm_desc.specs.declared.entry.RouteEntry.{RouteEntry}
 use Rattle.wm_desc.specs.declared.description.Sbsd.{Sbsd}
 use Rattle.wm_desc.specs.declared.objects.Objects.{Objects}
@@ -21,7 +25,7 @@ use Rattle.wm_desc.specs.Sorted.{IsSortedOnce}
 use Rattle.wm_law.specs.declared.state.State.{State}
 use Rattle.wm_law.specs.declared.state.Sbs.{Sbs}
 use Rattle.wm_law.specs.Choice.{is_sbs_active}
-use Rattle.wm_law.specs.Counts.{is_in_sbs, is_waiting}
+use Rattle.wm_law.specs.Counts.{is_active, is_in_sbs, is_waiting}
 use Rattle.wm_law.specs.Fit.{IsBetween}
 use Rattle.wm_law.specs.History.{IsLegal, after, order_in}
 use Rattle.wm_law.specs.Launch.{order_of, route}
@@ -30,9 +34,10 @@ use Rattle.wm_law.specs.Power.{is_on}
 use Rattle.wm_law.specs.Settling.{start_jobs, start_in, in_order}
 use Rattle.wm_law.specs.Submitting.{numbers_end, serials_end}
 use Rattle.wm_law.specs.Machine.{step}
+use Rattle.wm_law.specs.Wishes.{now_cause}
 use Rattle.wm_desc.specs.Table.{object_named}
 use Rattle.wm_law.specs.Opening.{opening}
-use Rattle.wm_law.specs.Pending.{starting}
+use Rattle.wm_law.specs.Pending.{orders}
 
 -- no element stands twice
 abbrev pub IsDistinct : {X : Type 0} → List X → Type 0
@@ -102,13 +107,49 @@ phase_rank (Handed m) = 2
 phase_rank (Running m) = 3
 phase_rank (Ended c) = 4
 
--- the same job, whose phase didn't go back
+-- the wishes in their order
+abbrev pub wish_rank : Wish → ℕ
+wish_rank wish.NoWish = 0
+wish_rank (wish.Later until why) = 1
+wish_rank (wish.Now why handed) = if handed then 3 else 2
+
+-- the wish didn't go back, and the cause of one to end now stays
+pub record IsWishOn (w v : Wish) : Type 0 where
+  pub rank : wish_rank w ≤ wish_rank v
+  pub cause : (c : EndCause) → now_cause w ≡ Some c → now_cause v ≡ Some c
+
+-- whether a job ended since it couldn't be started
+abbrev pub is_start_fault : EndCause → Bool
+is_start_fault cause.Completed = false
+is_start_fault (cause.Exited code) = false
+is_start_fault cause.Killed = false
+is_start_fault cause.Endjob = false
+is_start_fault cause.Endsbs = false
+is_start_fault cause.Endpj = false
+is_start_fault cause.Maxuse = false
+is_start_fault cause.NoRoute = false
+is_start_fault (cause.RouteFull seq) = false
+is_start_fault cause.BadRequest = false
+is_start_fault cause.NoProgram = false
+is_start_fault (cause.StartFailed why) = true
+is_start_fault cause.Cleared = false
+is_start_fault cause.EndedOnQueue = false
+is_start_fault cause.Restarted = false
+
+-- an ended job keeps its cause, and an active one that is to end now ends by its wish's cause, or since it couldn't be started
+pub record IsEndOn (p : Phase) (w : Wish) (q : Phase) : Type 0 where
+  pub kept : (c : EndCause) → p ≡ Ended c → q ≡ Ended c
+  pub by_wish : (c d : EndCause) → is_active p ≡ true → now_cause w ≡ Some c → q ≡ Ended d → (d ≡ c) ⊎ (is_start_fault d ≡ true)
+
+-- the same job, whose phase and wish didn't go back
 pub record IsLater (j k : Job) : Type 0 where
   pub serial : k.serial ≡ j.serial
   pub job : k.job ≡ j.job
   pub phase : phase_rank j.phase ≤ phase_rank k.phase
+  pub wish : IsWishOn j.wish k.wish
+  pub end : IsEndOn j.phase j.wish k.phase
 
--- each job of the first state stands in the second, with a phase that didn't go back
+-- each job of the first state stands in the second, with a phase and a wish that didn't go back
 abbrev pub GoesOn : State → State → Type 0
 GoesOn s t = (j : Job) → IsIn j s.jobs → (k : Job) × IsIn k t.jobs × IsLater j k
 
@@ -125,6 +166,19 @@ start_of e = option_and_then start_told (order_in e.reply)
 abbrev pub starts : List Entry → List ℕ
 starts h = filter_map start_of h
 
+-- the serial that an order tells to kill
+abbrev pub kill_told : Asked → Option ℕ
+kill_told (Start o) = None
+kill_told (Kill serial) = Some serial
+
+-- the serial that an entry ordered to kill
+abbrev pub kill_of : Entry → Option ℕ
+kill_of e = option_and_then kill_told (order_in e.reply)
+
+-- the serials that a history ordered to kill, whichever monitor asked
+abbrev pub killed : List Entry → List ℕ
+killed h = filter_map kill_of h
+
 -- the opening state is numbered
 abbrev pub OpeningIsNumbered : Type 0
 OpeningIsNumbered = (offset : ℤ) → IsNumbered (opening offset)
@@ -137,13 +191,17 @@ StepKeepsNumbers = (s : State) (caller : ℕ) (call : Call) (moment : ℕ) → I
 abbrev pub NumbersAreGivenOnce : Type 0
 NumbersAreGivenOnce = (s : State) (h : List Entry) → IsNumbered s → IsNumbered (after s h)
 
--- no step loses a job or takes its phase back
+-- no step loses a job, takes its phase or its wish back, or ends it by another cause than its wish has
 abbrev pub StepGoesOn : Type 0
 StepGoesOn = (s : State) (caller : ℕ) (call : Call) (moment : ℕ) → IsNumbered s → GoesOn s (step s caller call moment).state
 
 -- from a numbered state, a legal history orders no serial to start twice
 abbrev pub SerialsStartOnce : Type 0
 SerialsStartOnce = (s : State) (h : List Entry) → IsNumbered s → IsLegal s h → IsDistinct (starts h)
+
+-- from a numbered state, a legal history orders no serial to be killed twice
+abbrev pub SerialsAreKilledOnce : Type 0
+SerialsAreKilledOnce = (s : State) (h : List Entry) → IsNumbered s → IsLegal s h → IsDistinct (killed h)
 
 -- each Starting job of the opening state has its order
 abbrev pub OpeningHasOrders : Type 0
@@ -157,9 +215,9 @@ StepKeepsOrders = (s : State) (caller : ℕ) (call : Call) (moment : ℕ) → Is
 abbrev pub StartingJobsHaveOrders : Type 0
 StartingJobsHaveOrders = (s : State) (h : List Entry) → IsNumbered s → HasOrders s → HasOrders (after s h)
 
--- whatever is called, a Hand then answers Nothing exactly where no job is Starting
+-- whatever is called, a Hand then answers Nothing exactly where no job is Starting and no kill is to be handed to its monitor
 abbrev pub HandGivesAnOrder : Type 0
-HandGivesAnOrder = (s : State) (h : List Entry) (caller moment : ℕ) → IsNumbered s → HasOrders s → ((step (after s h) caller Hand moment).reply ≡ Nothing ↔ starting (after s h) ≡ 0)
+HandGivesAnOrder = (s : State) (h : List Entry) (caller moment : ℕ) → IsNumbered s → HasOrders s → ((step (after s h) caller Hand moment).reply ≡ Nothing ↔ orders (after s h) caller ≡ 0)
 
 -- whatever is called, the route in a subsystem is its matching entry of least number
 abbrev pub ReachedRouteIsLeast : Type 0

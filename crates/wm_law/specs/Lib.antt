@@ -3,6 +3,7 @@ pub mod Built
 pub mod Changing
 pub mod Choice
 pub mod Counts
+pub mod Endings
 pub mod Fit
 pub mod History
 pub mod Holding
@@ -23,6 +24,7 @@ pub mod Settling
 pub mod Stepped
 pub mod Submitting
 pub mod Subsystems
+pub mod Wishes
 pub mod Limits
 pub mod Order
 pub mod Objects

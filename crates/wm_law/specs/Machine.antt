@@ -13,7 +13,7 @@ use Rattle.wm_law.specs.Changing.{change_job}
 use Rattle.wm_law.specs.Holding.{hold_job, release_job}
 use Rattle.wm_law.specs.Queues.{clear_queue, hold_queue, release_queue}
 use Rattle.wm_law.specs.Stepped.{Stepped}
-use Rattle.wm_law.specs.Power.{power_down}
+use Rattle.wm_law.specs.Endings.{end_job, end_subsystem, power_down}
 use Rattle.wm_law.specs.Subsystems.{start_subsystem}
 use Rattle.wm_law.specs.Submitting.{submit}
 use Rattle.wm_law.specs.Reports.{hand, is_handed_to, is_run_by, report, end_cause, use_done}
@@ -36,23 +36,25 @@ change s user (command.Rmvjobqe c) = remove_queue s c
 change s user (command.Rmvrtge c) = remove_route s c
 change s user (command.Rmvaje c) = remove_auto s c
 change s user (command.Strsbs c) = start_subsystem s c.sbsd
+change s user (command.Endsbs c) = end_subsystem s c
 change s user (command.Sbmjob c) = submit s user c
 change s user (command.Hldjob c) = hold_job s c.job
 change s user (command.Rlsjob c) = release_job s c.job
 change s user (command.Chgjob c) = change_job s c
+change s user (command.Endjob c) = end_job s c
 change s user (command.Hldjobq c) = hold_queue s c.jobq
 change s user (command.Rlsjobq c) = release_queue s c.jobq
 change s user (command.Clrjobq c) = clear_queue s c.jobq
-change s user (command.Pwrdwnsys c) = power_down s
+change s user (command.Pwrdwnsys c) = power_down s c
 change s user c = unbuilt s
 
 -- the reply to a call, and the state before it settles
 abbrev pub apply : State → ℕ → Call → Stepped
 apply s caller (Change user c) = change s user c
 apply s caller Hand = hand s caller
-apply s caller (Started serial) = report s serial (is_handed_to caller) (Running caller)
-apply s caller (StartFailed serial why) = report s serial (is_handed_to caller) (Ended (cause.StartFailed why))
-apply s caller (Finished serial end) = report s serial (is_run_by caller) (Ended (end_cause end))
+apply s caller (Started serial) = report s serial (is_handed_to caller) (λ j. Running caller)
+apply s caller (StartFailed serial why) = report s serial (is_handed_to caller) (λ j. Ended (cause.StartFailed why))
+apply s caller (Finished serial end) = report s serial (is_run_by caller) (λ j. Ended (end_cause end j.wish))
 apply s caller (UseDone serial) = use_done s caller serial
 apply s caller Tick = record { reply = Noted; state = s }
 

@@ -1,7 +1,7 @@
 -- The calls of monitors. A monitor is known by the number of its pass.
-use Rattle.std.specs.Prelude.{ℕ, Bool, false, ◌==◌, Option, Some, None, find, if◌then◌else◌}
+use Rattle.std.specs.Prelude.{ℕ, Bool, false, ◌==◌, ◌&&◌, Option, Some, None, find, unwrap_or, if◌then◌else◌}
 use Rattle.wm_base.specs.declared.job.StartOrder.{StartOrder}
-use Rattle.wm_base.specs.declared.job.Asked.TheVariants.{Start}
+use Rattle.wm_base.specs.declared.job.Asked.TheVariants.{Start, Kill}
 use Rattle.wm_base.specs.declared.job.Exit.{Exit}
 use Rattle.wm_base.specs.declared.job.Exit.TheVariants as exit
 use Rattle.wm_base.specs.declared.job.EndCause.{EndCause}
@@ -13,11 +13,13 @@ use Rattle.wm_law.specs.declared.call.Reply.TheVariants.{Order, Nothing, Noted}
 use Rattle.wm_law.specs.declared.job.Job.{Job}
 use Rattle.wm_law.specs.declared.job.Phase.{Phase}
 use Rattle.wm_law.specs.declared.job.Phase.TheVariants.{Waiting, Starting, Handed, Running, Ended}
+use Rattle.wm_law.specs.declared.job.Wish.{Wish}
 use Rattle.wm_law.specs.declared.state.State.{State}
 use Rattle.wm_law.specs.Counts.{is_starting}
-use Rattle.wm_law.specs.Jobs.{changed_at, with_job}
+use Rattle.wm_law.specs.Jobs.{changed_at, with_active, with_job}
 use Rattle.wm_law.specs.Launch.{order_of}
 use Rattle.wm_law.specs.Stepped.{Stepped, refused}
+use Rattle.wm_law.specs.Wishes.{handed_wish, is_unhanded, now_cause}
 
 -- the job in that phase
 abbrev pub in_phase : Phase → Job → Job
@@ -34,14 +36,6 @@ with_phase s serial phase = with_job s serial (in_phase phase)
 abbrev pub hand_order : State → ℕ → Job → Option StartOrder → Stepped
 hand_order s m j None = record { reply = Nothing; state = s }
 hand_order s m j (Some o) = record { reply = Order (Start o); state = with_phase s j.serial (Handed m) }
-
-abbrev pub hand_job : State → ℕ → Option Job → Stepped
-hand_job s m None = record { reply = Nothing; state = s }
-hand_job s m (Some j) = hand_order s m j (order_of s j)
-
--- the Starting job of least serial is handed to the monitor
-abbrev pub hand : State → ℕ → Stepped
-hand s m = hand_job s m (find (λ j. is_starting j.phase) s.jobs)
 
 -- what a job's phase is called
 abbrev pub phase_word : Phase → PhaseWord
@@ -65,19 +59,47 @@ is_run_by m (Handed n) = false
 is_run_by m (Running n) = n == m
 is_run_by m (Ended c) = false
 
-abbrev pub report_on : State → ℕ → (Phase → Bool) → Phase → Option Job → Stepped
+abbrev pub start_job : State → ℕ → Option Job → Stepped
+start_job s m None = record { reply = Nothing; state = s }
+start_job s m (Some j) = hand_order s m j (order_of s j)
+
+-- the Starting job of least serial is handed to the monitor
+abbrev pub hand_start : State → ℕ → Stepped
+hand_start s m = start_job s m (find (λ j. is_starting j.phase) s.jobs)
+
+-- the monitor runs the job, whose kill isn't handed yet
+abbrev pub is_to_kill : ℕ → Job → Bool
+is_to_kill m j = is_run_by m j.phase && is_unhanded j.wish
+
+-- the job, whose kill is handed
+abbrev pub with_kill : Job → Job
+with_kill j = record j { wish = handed_wish j.wish }
+
+abbrev pub hand_job : State → ℕ → Option Job → Stepped
+hand_job s m None = hand_start s m
+hand_job s m (Some j) = record { reply = Order (Kill j.serial); state = with_active s j.serial with_kill }
+
+-- the kill of least serial is handed to the monitor; where there is none, the start of least serial
+abbrev pub hand : State → ℕ → Stepped
+hand s m = hand_job s m (find (is_to_kill m) s.jobs)
+
+abbrev pub report_on : State → ℕ → (Phase → Bool) → (Job → Phase) → Option Job → Stepped
 report_on s serial test phase None = refused s NoJob
 report_on s serial test phase (Some j) =
-    if test j.phase then record { reply = Noted; state = with_phase s serial phase } else refused s (WrongPhase (phase_word j.phase))
+    if test j.phase then record { reply = Noted; state = with_phase s serial (phase j) } else refused s (WrongPhase (phase_word j.phase))
 
 -- a report moves the job of that serial on, where its phase passes the test
-abbrev pub report : State → ℕ → (Phase → Bool) → Phase → Stepped
+abbrev pub report : State → ℕ → (Phase → Bool) → (Job → Phase) → Stepped
 report s serial test phase = report_on s serial test phase (find (λ j. j.serial == serial) s.jobs)
 
--- the cause of an end with no wish
-abbrev pub end_cause : Exit → EndCause
-end_cause (exit.Code code) = if code == 0 then cause.Completed else cause.Exited code
-end_cause exit.Killed = cause.Killed
+-- the cause of an end with no Now wish
+abbrev pub exit_cause : Exit → EndCause
+exit_cause (exit.Code code) = if code == 0 then cause.Completed else cause.Exited code
+exit_cause exit.Killed = cause.Killed
+
+-- the cause of an end: the why of a Now wish, else that of the exit
+abbrev pub end_cause : Exit → Wish → EndCause
+end_cause end w = unwrap_or (now_cause w) (exit_cause end)
 
 abbrev pub done_with : State → ℕ → Option Job → Stepped
 done_with s m None = refused s NoJob

@@ -1,5 +1,5 @@
 -- What holds of each state that a history reaches from the opening one, and what holds over each entry from there.
-use Rattle.std.specs.Prelude.{◌≡◌, ℕ, ◌<◌, ◌≤◌, ℤ, true, false, List, [], ◌∷◌, length, map, Option, Some, None, ⊤}
+use Rattle.std.specs.Prelude.{◌≡◌, ℕ, ◌<◌, ◌≤◌, ℤ, true, false, List, [], ◌∷◌, length, map, Option, Some, None, IfSome, ⊤}
 use Rattle.std.specs.Option.{IsSome}
 use Rattle.wm_base.specs.declared.job.How.{How}
 use Rattle.wm_base.specs.declared.job.How.TheVariants.{FromQueue, Auto}
@@ -15,20 +15,25 @@ use Rattle.wm_law.specs.declared.call.Entry.{Entry}
 use Rattle.wm_law.specs.declared.job.Job.{Job}
 use Rattle.wm_law.specs.declared.job.JobKind.{JobKind}
 use Rattle.wm_law.specs.declared.job.JobKind.TheVariants.{Bch, Asj, Pj}
+use Rattle.wm_law.specs.declared.job.Phase.TheVariants.{Starting}
 use Rattle.wm_law.specs.declared.state.Sbs.{Sbs}
 use Rattle.wm_law.specs.declared.state.State.{State}
+use Rattle.wm_law.specs.Built.{is_ending_call}
 use Rattle.wm_law.specs.Choice.{entry_for}
 use Rattle.wm_law.specs.Counts.{is_active, is_waiting}
 use Rattle.wm_law.specs.History.{after}
 use Rattle.wm_law.specs.Kept.{IsNumbered, HasOrders, HasDistinctNames, HasDescriptions, IsQuiet}
 use Rattle.wm_law.specs.Laws.{IsIn}
 use Rattle.wm_law.specs.Limits.{IsWithinLimits, KeepsLimits}
-use Rattle.wm_law.specs.Machine.{step}
+use Rattle.wm_law.specs.Machine.{apply, step, with_clock}
 use Rattle.wm_law.specs.Objects.{AreSound}
 use Rattle.wm_law.specs.Opening.{opening}
 use Rattle.wm_law.specs.Order.{IsInOrder, KeepsOrder}
+use Rattle.wm_law.specs.Pending.{next_ending, next_wish, soonest}
 use Rattle.wm_law.specs.Queues.{own_name}
+use Rattle.wm_law.specs.Settling.{come_due, is_sbs_now, sbs_moment}
 use Rattle.wm_law.specs.Subsystems.{max_started}
+use Rattle.wm_law.specs.Wishes.{greatest_moment, has_come, has_wish, is_in_any, is_now, is_wish_due, wish_moment}
 
 -- each number is below all later ones
 abbrev pub IsIncreasing : List ℕ → Type 0
@@ -96,6 +101,34 @@ pub record AreQueues (objects : Objects) (queues : List QName) : Type 0 where
   pub sorted : IsSortedOnce own_name qname_cmp queues
   pub are_objects : (queue : QName) → IsIn queue queues → IsSome (object_named queue objects.jobqs)
 
+-- a moment, where there is one, is at most the greatest
+abbrev pub IsMoment : Option ℕ → Type 0
+IsMoment moment = IfSome moment (λ m. m ≤ greatest_moment)
+
+-- a job that waits has no wish, so that only active and ended jobs have one, and a wish's moment is in its range
+pub record IsWished (j : Job) : Type 0 where
+  pub waits : is_waiting j.phase ≡ true → has_wish j.wish ≡ false
+  pub moment : IsMoment (wish_moment j.wish)
+
+-- so it is with each job
+abbrev pub HasWishes : State → Type 0
+HasWishes s = (j : Job) → IsIn j s.jobs → IsWished j
+
+-- the moment of each ending subsystem is in its range
+abbrev pub HasMoments : State → Type 0
+HasMoments s = (b : Sbs) → IsIn b s.started → IsMoment (sbs_moment b.phase)
+
+-- an active job as settling leaves it: its wish isn't due, it isn't to end now while it is Starting, and it is to end now where its subsystem does
+pub record IsUpToDate (clock : ℕ) (subsystems : List Sbs) (j : Job) : Type 0 where
+  pub looked : is_wish_due clock j j.wish ≡ false
+  pub starting : j.phase ≡ Starting → is_now j.wish ≡ false
+  pub told : is_in_any (λ b. is_sbs_now b.phase) subsystems j.how ≡ true → is_now j.wish ≡ true
+
+-- nothing is left that is due to end: no moment of an ending subsystem has come, and each active job is as settling leaves it
+pub record HasNoneDue (s : State) : Type 0 where
+  pub subsystems : (b : Sbs) → IsIn b s.started → has_come s.clock (sbs_moment b.phase) ≡ false
+  pub jobs : (j : Job) → IsIn j s.jobs → is_active j.phase ≡ true → IsUpToDate s.clock s.started j
+
 -- no more subsystems are started than may be
 abbrev pub IsWithinStarted : State → Type 0
 IsWithinStarted s = length s.started ≤ max_started
@@ -113,6 +146,8 @@ pub record IsSound (s : State) : Type 0 where
   pub queues : HasQueues s
   pub held : AreQueues s.objects s.held
   pub within_started : IsWithinStarted s
+  pub wishes : HasWishes s
+  pub moments : HasMoments s
 
 -- the opening state is sound
 abbrev pub OpeningIsSound : Type 0
@@ -129,6 +164,30 @@ StatesAreSound = (s : State) (h : List Entry) → IsSound s → IsSound (after s
 -- whatever is called from a sound state, no autostart job waits
 abbrev pub AutostartJobsNeverWait : Type 0
 AutostartJobsNeverWait = (s : State) (h : List Entry) (j : Job) → IsSound s → IsIn j (after s h).jobs → j.kind ≡ Asj → is_waiting j.phase ≡ false
+
+-- nothing is due in the opening state
+abbrev pub OpeningHasNoneDue : Type 0
+OpeningHasNoneDue = (offset : ℤ) → HasNoneDue (opening offset)
+
+-- every step leaves nothing that is due
+abbrev pub StepLeavesNoneDue : Type 0
+StepLeavesNoneDue = (s : State) (caller : ℕ) (call : Call) (moment : ℕ) → IsSound s → HasNoneDue (step s caller call moment).state
+
+-- whatever is called from a sound state in which nothing is due, nothing is due
+abbrev pub NoneIsDue : Type 0
+NoneIsDue = (s : State) (h : List Entry) → IsSound s → HasNoneDue s → HasNoneDue (after s h)
+
+-- where nothing is due, settling's first part changes nothing
+abbrev pub NothingDueStays : Type 0
+NothingDueStays = (s : State) → HasNoneDue s → come_due s ≡ s
+
+-- and nothing comes due before the next moment of a wish or of an ending subsystem
+abbrev pub NoneDueBefore : Type 0
+NoneDueBefore = (s : State) (moment : ℕ) → HasNoneDue s → has_come moment (soonest (next_wish s) (next_ending s)) ≡ false → HasNoneDue (with_clock s moment)
+
+-- no call but one that tells to end makes anything due before the state settles
+abbrev pub CallsLeaveNoneDue : Type 0
+CallsLeaveNoneDue = (s : State) (caller : ℕ) (call : Call) → IsSound s → HasNoneDue s → is_ending_call call ≡ false → HasNoneDue (apply s caller call).state
 
 -- no start passes a limit over any step
 abbrev pub StepKeepsLimits : Type 0

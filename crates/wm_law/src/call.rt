@@ -21,10 +21,14 @@ pub enum Reply {
     /// An object was made, or a subsystem description was changed.
     Made,
     SbsStarted(QName),
+    SbsEnding(QName),
     Submitted(JobName, QName),
     Held(JobName),
     Released(JobName),
     Changed(JobName),
+    JobEnding(JobName),
+    /// The job waited, and has ended.
+    JobEnded(JobName),
     QueueHeld,
     QueueReleased,
     /// How many jobs it ended.

@@ -1,7 +1,7 @@
 // Laws of the machine: what its definitions come to, each for all states. They are no calls.
 ghost use Rattle.wm_law.specs.Laws.{FirstIsLeast, NoFirstIsNone, NextIsFirst, NoNextIsNone, RouteIsLeast, NoRouteIsNone, SettledHasNoNext, SettledLeavesNone, RefusalLeaves, RefusedStepSettles, BuiltCallsAreAnswered, BuiltIsHad};
-ghost use Rattle.wm_law.specs.Kept.{OpeningIsNumbered, StepKeepsNumbers, NumbersAreGivenOnce, StepGoesOn, SerialsStartOnce, OpeningHasOrders, StepKeepsOrders, StartingJobsHaveOrders, HandGivesAnOrder, ReachedRouteIsLeast, OpeningHasDescriptions, StepKeepsDescriptions, StartedAreDescribed, OpeningIsQuiet, StepKeepsQuiet, NoneIsActiveWithoutPower, OpeningHasDistinctNames, StepKeepsNamesDistinct, StartedNamesAreDistinct, StartsInOrder};
-ghost use Rattle.wm_law.specs.Sound.{AutostartJobsNeverWait, OpeningIsSound, StepKeepsSound, StatesAreSound, StepKeepsLimits, LimitsAreKept, StepKeepsOrder, OrderIsKept};
+ghost use Rattle.wm_law.specs.Kept.{OpeningIsNumbered, StepKeepsNumbers, NumbersAreGivenOnce, StepGoesOn, SerialsStartOnce, SerialsAreKilledOnce, OpeningHasOrders, StepKeepsOrders, StartingJobsHaveOrders, HandGivesAnOrder, ReachedRouteIsLeast, OpeningHasDescriptions, StepKeepsDescriptions, StartedAreDescribed, OpeningIsQuiet, StepKeepsQuiet, NoneIsActiveWithoutPower, OpeningHasDistinctNames, StepKeepsNamesDistinct, StartedNamesAreDistinct, StartsInOrder};
+ghost use Rattle.wm_law.specs.Sound.{AutostartJobsNeverWait, OpeningIsSound, StepKeepsSound, StatesAreSound, OpeningHasNoneDue, StepLeavesNoneDue, NoneIsDue, CallsLeaveNoneDue, NothingDueStays, NoneDueBefore, StepKeepsLimits, LimitsAreKept, StepKeepsOrder, OrderIsKept};
 
 /// The first job of a subsystem may start there, and no other job that may start there stands before
 /// it. Where there is no first job, no job may start there.
@@ -29,7 +29,6 @@ pub fn routes_are_least()
 {}
 
 /// Once the state has settled, no job may start.
-#[tactic(auto, using(crate::proofs::Settling::settled_has_no_next, crate::proofs::Settling::settled_leaves_none))]
 pub fn settling_leaves_none()
     ensures next { SettledHasNoNext }
     ensures none { SettledLeavesNone }
@@ -49,7 +48,8 @@ pub fn numbers_are_given_once()
     ensures always { NumbersAreGivenOnce }
 {}
 
-/// No step loses a job, renames it or takes its phase back.
+/// No step loses a job, renames it, or takes its phase or its wish back. A wish to end now keeps its cause,
+/// and an active job that has one ends by it, or since it couldn't be started. An ended job keeps its cause.
 #[tactic(auto, using(crate::proofs::Forward::step_goes_on))]
 pub fn jobs_go_forward()
     ensures { StepGoesOn }
@@ -62,7 +62,14 @@ pub fn serials_start_once()
     ensures { SerialsStartOnce }
 {}
 
-/// Each Starting job has its order, so Hand answers Nothing exactly where no job is Starting.
+/// From a numbered state a legal history orders each serial to be killed at most once, whichever monitors ask.
+#[tactic(auto, using(crate::proofs::Starts::serials_are_killed_once))]
+pub fn serials_are_killed_once()
+    ensures { SerialsAreKilledOnce }
+{}
+
+/// Each Starting job has its order, so Hand answers Nothing exactly where no job is Starting and no kill
+/// is to be handed to its monitor.
 pub fn starting_jobs_have_orders()
     ensures opening { OpeningHasOrders }
     ensures step { StepKeepsOrders }
@@ -115,6 +122,20 @@ pub fn states_are_sound()
     ensures opening { OpeningIsSound }
     ensures step { StepKeepsSound }
     ensures always { StatesAreSound }
+{}
+
+/// Once the state has settled, nothing is left that is due to end: the moment of no ending subsystem has
+/// come, no active job has a wish that is due, no Starting job is to end now, and each active job of a
+/// subsystem that ends now is to end now, too. A call that tells nothing to end makes nothing due, and
+/// nothing comes due before the next moment of a wish or of an ending subsystem. Where nothing is due,
+/// settling's first part does nothing.
+pub fn settling_ends_what_is_due()
+    ensures opening { OpeningHasNoneDue }
+    ensures step { StepLeavesNoneDue }
+    ensures always { NoneIsDue }
+    ensures calls { CallsLeaveNoneDue }
+    ensures stays { NothingDueStays }
+    ensures before { NoneDueBefore }
 {}
 
 /// An autostart job is launched as it is made, so it never waits, whatever was called.

@@ -5,10 +5,11 @@
 //! stands here: `wm_pick` and `wm_core` compute what these definitions say.
 //!
 //! The definitions are in `specs/`: `Machine` (a step), and by subject `Making`, `Subsystems`, `Autos`, `Submitting`, `Power`,
-//! `Reports` and `Settling`; `Choice` and `Launch` (which job starts, and what becomes of it); `Jobs` (a change to one
-//! job); `Counts`; `Opening`; `Pending` (what a monitor asks); `Fit` (which calls the machine has, and their ranges); `Laws` and `Kept` (the laws);
-//! `Limits` (no start passes a limit), `Order` (jobs are launched in their order), `Objects` (what holds of tables and subsystem descriptions) and `Sound`
-//! (what holds of each state that a history reaches, and over each entry).
+//! `Reports`, `Endings` and `Settling`; `Wishes` (whether an active job is to end, and when); `Choice` and `Launch` (which
+//! job starts, and what becomes of it); `Jobs` (a change to one job); `Counts`; `Opening`; `Pending` (what a monitor asks);
+//! `Fit` (which calls the machine has, and their ranges); `Laws` and `Kept` (the laws); `Limits` (no start passes a limit),
+//! `Order` (jobs are launched in their order), `Objects` (what holds of tables and subsystem descriptions) and `Sound` (what
+//! holds of each state that a history reaches, and over each entry).
 #![tactic(auto)]
 
 mod boxed;
@@ -36,9 +37,9 @@ pub use laws::{
     autostart_jobs_never_wait, built_calls_are_answered, built_commands_are_had,
     first_job_is_least, jobs_are_launched_in_order, jobs_go_forward, jobs_start_in_order,
     next_job_is_first, no_start_passes_a_limit, none_is_active_without_power,
-    numbers_are_given_once, refusals_leave_the_state, routes_are_least, serials_start_once,
-    settling_leaves_none, started_are_described, started_names_are_distinct,
-    starting_jobs_have_orders, states_are_sound,
+    numbers_are_given_once, refusals_leave_the_state, routes_are_least, serials_are_killed_once,
+    serials_start_once, settling_ends_what_is_due, settling_leaves_none, started_are_described,
+    started_names_are_distinct, starting_jobs_have_orders, states_are_sound,
 };
 pub use list::ListOf;
 pub use pending::Pending;

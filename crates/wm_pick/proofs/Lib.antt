@@ -4,4 +4,3 @@ pub mod FirstGiven
 pub mod LentHeads
 pub mod Nearest
 pub mod Skipped
-pub mod TalliedJobs

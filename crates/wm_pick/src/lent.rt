@@ -15,7 +15,7 @@ impl<'a> Parts<'a> {
     ghost use Rattle.wm_law.specs.Counts.{count_in_sbs, count_from_queue, count_from_priority, count_by_route};
     ghost use Rattle.wm_pick.specs.NextHeads.{HasNoHead, IsNextHead};
     ghost use Rattle.wm_pick.specs.Parts.{with_parts, waiters};
-    ghost use Rattle.wm_pick.specs.Tallied.{hows};
+    ghost use Rattle.wm_tally.specs.Tallied.{hows};
     ghost use Rattle.wm_tally.specs.Tally.{IsTally};
 
     /// Lends the parts of a state.

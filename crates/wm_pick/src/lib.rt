@@ -6,7 +6,7 @@
 //!
 //! The definitions go over all jobs, and the code over none: it reads the jobs that wait and the tally, which are lent
 //! beside the jobs and are theirs (`IsLent`). `laws.rs` has what that rests on: the first of a subsystem is the head of its
-//! first open entry (`specs/Heads.antt`), and a tally has the counts of the jobs (`specs/Tallied.antt`).
+//! first open entry (`specs/Heads.antt`); and a tally has the counts of the jobs (`wm_tally`).
 #![tactic(auto)]
 
 mod choice;
@@ -17,6 +17,6 @@ mod order;
 mod parts;
 mod routing;
 
-pub use laws::{heads_are_first, tally_has_counts};
+pub use laws::heads_are_first;
 pub use parts::Parts;
 pub use routing::route;

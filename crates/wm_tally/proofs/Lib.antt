@@ -1,3 +1,4 @@
 pub mod KeysOf
 pub mod RowLemmas
+pub mod TalliedJobs
 pub mod TallyLemmas

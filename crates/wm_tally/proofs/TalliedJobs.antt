@@ -5,7 +5,7 @@ use Rattle.wm_base.specs.declared.job.How.{How}
 use Rattle.wm_law.specs.declared.job.Job.{Job}
 use Rattle.wm_law.specs.Counts.{is_active, is_in_sbs, is_from_queue, is_from_priority, is_by_route, count_active}
 use Rattle.wm_tally.specs.declared.counted.Counted.TheVariants.{Sbs, Queue, Pty, Route}
-use Rattle.wm_pick.specs.Tallied.{hows, TallyHasCounts}
+use Rattle.wm_tally.specs.Tallied.{hows, TallyHasCounts}
 
 -- one for a how that passes the test
 abbrev passing : (How → Bool) → How → ℕ
