@@ -1,0 +1,2 @@
+pub mod ByCount
+pub mod OneJobs

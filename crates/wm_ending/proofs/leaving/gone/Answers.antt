@@ -1,0 +1,11 @@
+use Rattle.std.proofs.Common.{◌∙◌, ◌&&◌, ap, nat_eq}
+use Rattle.wm_tally.specs.declared.counted.Counted.TheVariants.{Sbs}
+use Rattle.wm_tally.specs.Tally.{count_of}
+use Rattle.wm_ending.proofs.ByCount.{gone-alike}
+use Rattle.wm_ending.proofs.leaving.gone.Goals as goal
+
+-- where it is ending, its count decides
+pub returns-then-is_ending-clause-gone : goal.returns-then-is_ending-clause-gone
+returns-then-is_ending-clause-gone c jobs are =
+    let b = c.args.sbs.now in
+    ap (λ n. nat_eq n 0) c.count.ensures ∙ (ap (λ t. t && nat_eq (count_of (Sbs b.sbsd) c.args.tally.now) 0) c.if-is_ending.ensures ∙ gone-alike jobs c.args.tally.now are b)

@@ -1,0 +1,8 @@
+// Laws of the endings. They are no calls.
+ghost use Rattle.wm_ending.specs.OneJob.{EndsOneJob};
+
+/// ENDJOB on a job of a state answers by what it makes of that job, and makes that of it alone.
+#[tactic(auto, using(crate::proofs::OneJobs::ends_one_job))]
+pub fn ending_ends_one_job()
+    ensures { EndsOneJob }
+{}
