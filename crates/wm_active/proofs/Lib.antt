@@ -1,0 +1,4 @@
+pub mod Among
+pub mod Parts
+pub mod Set
+pub mod Walk

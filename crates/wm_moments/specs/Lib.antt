@@ -1,0 +1,3 @@
+pub mod MomentsInside
+pub mod Next
+pub mod Turns
