@@ -4,11 +4,11 @@ use Rattle.std.specs.Ordering.{nat_cmp}
 use Rattle.std.proofs.lemmas.List.{length-append}
 use Rattle.std.proofs.lemmas.List.Elements.{All-nil, All-cons, All-append, All-weaker}
 use Rattle.std.proofs.lemmas.List.Folds.{list_any_none}
+use Rattle.wm_active.specs.declared.acting.Acting.{Acting}
 use Rattle.wm_base.specs.declared.job.How.{How}
 use Rattle.wm_desc.specs.Sorted.{has_key, added}
 use Rattle.wm_law.specs.declared.job.Job.{Job}
-use Rattle.wm_law.specs.Counts.{is_waiting, is_active}
-use Rattle.wm_law.specs.Pending.{is_prestart}
+use Rattle.wm_law.specs.Counts.{is_waiting, is_active, is_prestart}
 use Rattle.wm_names.specs.Names.{IsNames}
 use Rattle.wm_ordered.specs.Ordered.{Pairs}
 use Rattle.wm_tally.specs.Counted.{same_counted}
@@ -18,20 +18,20 @@ use Rattle.wm_waiting.specs.declared.waiter.Waiter.{Waiter}
 use Rattle.wm_waiting.specs.Waiting.{Waiting, has_place}
 use Rattle.wm_waiting.specs.Waiting as waiting
 use Rattle.wm_pick.specs.Parts.{waiter_of, waiters}
-use Rattle.wm_pick.specs.Tallied.{hows}
-use Rattle.wm_jobs.specs.Indexed.{order_of}
+use Rattle.wm_tally.specs.Tallied.{hows}
+use Rattle.wm_jobs.specs.Indexed.{order_of, active_of}
 use Rattle.wm_jobs.specs.Table.{Table, serial_of, is_busy}
 use Rattle.wm_jobs.specs.TableInside.{table_of, IsListed, AreListed, IsIndexed, HasRoom, HasNames, IsKept}
 use Rattle.wm_jobs.specs.declared.table.JobTable.TheInside.{Inside}
 use Rattle.wm_jobs.proofs.NameParts.{names-pushed}
 use Rattle.wm_jobs.proofs.Sifted.{lower_differs, picked-few, picked-keys, picked-length, pushed-lacks, pushed-comes, pushed-same}
 use Rattle.wm_jobs.proofs.Splits.{sorted-pushed}
-use Rattle.wm_jobs.proofs.JobParts.{waiting-inactive, waiting-unstarted, waiter-keyed, waiter-placed, order-keyed, order-none, hows-pushed, count-pushed}
+use Rattle.wm_jobs.proofs.JobParts.{waiting-inactive, waiting-unstarted, waiter-keyed, waiter-placed, order-keyed, order-none, active-keyed, active-none, hows-pushed, count-pushed}
 
 pub same-tally : (hs : List How) (old new : Counts) → new.counts ≡ old.counts → IsTally hs old → IsTally hs new
 same-tally hs old new same h = λ k. ap (number_at same_counted k) same ∙ h k
 
-pub new-inside : (new : Inside) → new.jobs.items ≡ [] → new.waiting.items ≡ [] → IsTally [] new.tally → new.starting.items ≡ [] → new.active ≡ 0 → new.busy ≡ 0 → new.room ≡ 0 → 1 ≤ new.next_place → IsNames [] new.names → IsKept new
+pub new-inside : (new : Inside) → new.jobs.items ≡ [] → new.waiting.items ≡ [] → IsTally [] new.tally → new.starting.items ≡ [] → new.active.items ≡ [] → new.busy ≡ 0 → new.room ≡ 0 → 1 ≤ new.next_place → IsNames [] new.names → IsKept new
 new-inside new jobs waiting tally starting active busy room np names = record {
   listed = subst (λ js. AreListed new.next_serial new.next_place js) (sym jobs) (record { first_place = omega arith; sorted = λ i j d lt in_range. absurd (omega arith); each = All-nil (IsListed new.next_serial new.next_place) });
   indexed = subst (λ js. IsIndexed js new.waiting new.tally new.starting new.active new.busy) (sym jobs) (record { waiters_are = waiting; hows_are = tally; orders_are = starting; active_are = active; busy_are = busy });
@@ -45,7 +45,7 @@ module _ (t : Inside) (h : IsKept t) where
   pub few-waiters : length t.waiting.items ≤ length t.jobs.items
   few-waiters = let n : length t.waiting.items ≡ length (waiters t.jobs.items) = ap length h.indexed.waiters_are in let few = picked-few waiter_of t.jobs.items in omega arith
 
-  pub reserved-inside : (new : Inside) → new.jobs.items ≡ t.jobs.items → new.waiting.items ≡ t.waiting.items → new.tally.counts ≡ t.tally.counts → new.starting.items ≡ t.starting.items → new.active ≡ t.active → new.busy ≡ t.busy → new.next_serial ≡ t.next_serial → new.next_place ≡ t.next_place → HasRoom (length t.jobs.items) (vec_capacity new.jobs) new.room new.waiting new.tally new.starting → (IsNames t.jobs.items t.names → IsNames t.jobs.items new.names) → new.room ≤ new.names.spare → IsKept new
+  pub reserved-inside : (new : Inside) → new.jobs.items ≡ t.jobs.items → new.waiting.items ≡ t.waiting.items → new.tally.counts ≡ t.tally.counts → new.starting.items ≡ t.starting.items → new.active.items ≡ t.active.items → new.busy ≡ t.busy → new.next_serial ≡ t.next_serial → new.next_place ≡ t.next_place → HasRoom (length t.jobs.items) (vec_capacity new.jobs) new.room new.waiting new.tally new.starting → (IsNames t.jobs.items t.names → IsNames t.jobs.items new.names) → new.room ≤ new.names.spare → IsKept new
   reserved-inside new jobs waiting tally starting active busy ns np room names name = record {
     listed = subst (λ js. AreListed new.next_serial new.next_place js) (sym jobs) (rw (ns, np) h.listed);
     indexed = subst (λ js. IsIndexed js new.waiting new.tally new.starting new.active new.busy) (sym jobs) (record {
@@ -111,7 +111,7 @@ module _ (t : Inside) (h : IsKept t) where
             waiters_are = come;
             hows_are = rw (hows-pushed t.jobs.items j (waiting-inactive j.phase waits), te) h.indexed.hows_are;
             orders_are = ap (λ (o : Pairs ℕ (Unit {0})). o.items) se ∙ (h.indexed.orders_are ∙ pushed-same serial_of order_of (λ e. e.0) order-keyed t.jobs.items j (order-none j (waiting-unstarted j.phase waits)));
-            active_are = ae ∙ (h.indexed.active_are ∙ sym (count-pushed (λ k. is_active k.phase) t.jobs.items j (waiting-inactive j.phase waits)));
+            active_are = ap (λ (o : Pairs ℕ Acting). o.items) ae ∙ (h.indexed.active_are ∙ pushed-same serial_of active_of (λ e. e.0) active-keyed t.jobs.items j (active-none j (waiting-inactive j.phase waits)));
             busy_are = be ∙ (h.indexed.busy_are ∙ sym (count-pushed is_busy t.jobs.items j (ap (λ b. b && not (is_prestart j.kind)) (waiting-inactive j.phase waits))));
           });
           room = pushed-room new jobs capacity come ws te se room;

@@ -5,26 +5,26 @@ use Rattle.std.specs.List.{count_by}
 use Rattle.std.specs.Ordering.{nat_cmp}
 use Rattle.std.proofs.lemmas.List.{length-append}
 use Rattle.std.proofs.lemmas.List.Elements.{All-nil, All-cons, All-append, All-weaker}
+use Rattle.wm_active.specs.declared.acting.Acting.{Acting}
 use Rattle.wm_base.specs.declared.job.How.{How}
 use Rattle.wm_desc.specs.Sorted.{has_key, added}
 use Rattle.wm_law.specs.declared.job.Job.{Job}
 use Rattle.wm_law.specs.declared.job.Phase.TheVariants.{Waiting}
-use Rattle.wm_law.specs.Counts.{is_waiting, is_starting, is_active}
-use Rattle.wm_law.specs.Pending.{is_prestart}
+use Rattle.wm_law.specs.Counts.{is_waiting, is_starting, is_active, is_prestart}
 use Rattle.wm_names.specs.Names.{IsNames}
 use Rattle.wm_ordered.specs.Ordered.{key_of}
 use Rattle.wm_tally.specs.Tally.{Counts, IsTally}
 use Rattle.wm_waiting.specs.Waiting as waiting
 use Rattle.wm_pick.specs.Parts.{waiter_of}
-use Rattle.wm_pick.specs.Tallied.{hows}
-use Rattle.wm_jobs.specs.Indexed.{order_of, orders, Starts}
+use Rattle.wm_tally.specs.Tallied.{hows}
+use Rattle.wm_jobs.specs.Indexed.{acting_of, order_of, orders, active_of, actives, Starts}
 use Rattle.wm_jobs.specs.Table.{Table, serial_of, is_busy}
 use Rattle.wm_jobs.specs.TableInside.{table_of, IsListed, AreListed, IsIndexed, HasRoom, HasNames, IsKept}
 use Rattle.wm_jobs.specs.declared.table.JobTable.TheInside.{Inside}
 use Rattle.wm_jobs.proofs.NameParts.{names-pushed}
 use Rattle.wm_jobs.proofs.Sifted.{pushed-lacks, pushed-comes, pushed-same}
 use Rattle.wm_jobs.proofs.Splits.{sorted-pushed}
-use Rattle.wm_jobs.proofs.JobParts.{waiter-keyed, waiter-none, order-keyed, order-none, order-some, hows-pushed, tally-starts, count-more, count-pushed}
+use Rattle.wm_jobs.proofs.JobParts.{waiter-keyed, waiter-none, order-keyed, order-none, order-some, active-keyed, active-none, active-some, hows-pushed, tally-starts, count-more, count-pushed}
 
 -- the job as it would wait
 abbrev unlaunched : Job → Job
@@ -54,6 +54,16 @@ module _ (t : Inside) (h : IsKept t) (v : Table) (view : table_of t ≡ v) (j : 
   orders-pushed true e = pushed-comes serial_of order_of key_of order-keyed t.next_serial t.jobs.items lower j (j.serial, tt) (order-some j j.serial refl e) serial_is
   orders-pushed false e = pushed-same serial_of order_of key_of order-keyed t.jobs.items j (order-none j e)
 
+  -- nor among the active ones
+  pub launched-unlisted : has_key key_of nat_eq j.serial t.active.items ≡ false
+  launched-unlisted =
+      ap (λ (os : List (ℕ × Acting)). has_key key_of nat_eq j.serial os) h.indexed.active_are
+      ∙ (ap (λ n. has_key key_of nat_eq n (actives t.jobs.items)) serial_is ∙ pushed-lacks serial_of active_of key_of active-keyed t.next_serial t.jobs.items lower)
+
+  actives-pushed : (b : Bool) → is_active j.phase ≡ b → cond b (added key_of nat_cmp (j.serial, acting_of j.phase j.wish) (actives t.jobs.items)) (actives t.jobs.items) ≡ actives (t.jobs.items ++ j ∷ [])
+  actives-pushed true e = pushed-comes serial_of active_of key_of active-keyed t.next_serial t.jobs.items lower j (j.serial, acting_of j.phase j.wish) (active-some j j.serial refl e) serial_is
+  actives-pushed false e = pushed-same serial_of active_of key_of active-keyed t.jobs.items j (active-none j e)
+
   tally-pushed : (new : Counts) → Starts (is_active j.phase) t.tally new j.how → IsTally (hows (t.jobs.items ++ j ∷ [])) new
   tally-pushed new starts =
       tally-starts t.jobs.items [] (unlaunched j) j t.tally new refl starts (subst (λ (hs : List How). IsTally hs t.tally) (sym (hows-pushed t.jobs.items (unlaunched j) refl)) h.indexed.hows_are)
@@ -70,7 +80,7 @@ module _ (t : Inside) (h : IsKept t) (v : Table) (view : table_of t ≡ v) (j : 
       let start = h.room.to_start in
       record { to_stand = omega arith; few = omega arith; to_wait = omega arith; to_count = omega arith; to_start = omega arith }
 
-  pub launched-pushed : (new : Inside) → new.jobs.items ≡ t.jobs.items ++ j ∷ [] → vec_capacity new.jobs ≡ vec_capacity t.jobs → new.waiting ≡ t.waiting → Starts (is_active j.phase) t.tally new.tally j.how → t.tally.spare ≤ new.tally.spare + 1 → new.starting.items ≡ cond (is_starting j.phase) (added key_of nat_cmp (j.serial, tt) t.starting.items) t.starting.items → t.starting.spare ≤ new.starting.spare + 1 → new.active ≡ t.active + cond (is_active j.phase) 1 0 → new.busy ≡ t.busy + cond (is_active j.phase && not (is_prestart j.kind)) 1 0 → new.next_serial ≡ t.next_serial + 1 → new.next_place ≡ t.next_place → new.room + 1 ≡ t.room → ((js : List Job) → IsNames js t.names → IsNames (js ++ j ∷ []) new.names) → t.names.spare ≤ new.names.spare + 1 → IsKept new
+  pub launched-pushed : (new : Inside) → new.jobs.items ≡ t.jobs.items ++ j ∷ [] → vec_capacity new.jobs ≡ vec_capacity t.jobs → new.waiting ≡ t.waiting → Starts (is_active j.phase) t.tally new.tally j.how → t.tally.spare ≤ new.tally.spare + 1 → new.starting.items ≡ cond (is_starting j.phase) (added key_of nat_cmp (j.serial, tt) t.starting.items) t.starting.items → t.starting.spare ≤ new.starting.spare + 1 → new.active.items ≡ cond (is_active j.phase) (added key_of nat_cmp (j.serial, acting_of j.phase j.wish) t.active.items) t.active.items → new.busy ≡ t.busy + cond (is_active j.phase && not (is_prestart j.kind)) 1 0 → new.next_serial ≡ t.next_serial + 1 → new.next_place ≡ t.next_place → new.room + 1 ≡ t.room → ((js : List Job) → IsNames js t.names → IsNames (js ++ j ∷ []) new.names) → t.names.spare ≤ new.names.spare + 1 → IsKept new
   launched-pushed new jobs capacity we te ts se ss ae be ns np room add name = record {
     named = subst (λ js. HasNames js new.room new.names) (sym jobs) (names-pushed t.jobs.items j t.names new.names t.room new.room h.named room add name);
     listed = subst (λ js. AreListed new.next_serial new.next_place js) (sym jobs) (record {
@@ -84,7 +94,7 @@ module _ (t : Inside) (h : IsKept t) (v : Table) (view : table_of t ≡ v) (j : 
       waiters_are = ap (λ (w : waiting.Waiting). w.items) we ∙ (h.indexed.waiters_are ∙ pushed-same serial_of waiter_of waiting.serial_of waiter-keyed t.jobs.items j (waiter-none j goes));
       hows_are = tally-pushed new.tally te;
       orders_are = se ∙ (ap (λ (os : List (ℕ × Unit {0})). cond (is_starting j.phase) (added key_of nat_cmp (j.serial, tt) os) os) h.indexed.orders_are ∙ orders-pushed (is_starting j.phase) refl);
-      active_are = ae ∙ (ap (λ (n : ℕ). n + cond (is_active j.phase) 1 0) h.indexed.active_are ∙ sym (one-passes (λ k. is_active k.phase) t.jobs.items j refl));
+      active_are = ae ∙ (ap (λ (os : List (ℕ × Acting)). cond (is_active j.phase) (added key_of nat_cmp (j.serial, acting_of j.phase j.wish) os) os) h.indexed.active_are ∙ actives-pushed (is_active j.phase) refl);
       busy_are = be ∙ (ap (λ (n : ℕ). n + cond (is_active j.phase && not (is_prestart j.kind)) 1 0) h.indexed.busy_are ∙ sym (one-passes is_busy t.jobs.items j refl));
     });
     room = launched-room new jobs capacity we ts ss room;

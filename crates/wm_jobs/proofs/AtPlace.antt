@@ -5,6 +5,7 @@ use Rattle.std.specs.List.{find}
 use Rattle.std.specs.Ordering.{nat_cmp}
 use Rattle.std.proofs.lemmas.List.{get_or-map, get_or_default}
 use Rattle.std.proofs.lemmas.List.Elements.{All-contains, All-weaker, Contains-append_right}
+use Rattle.wm_active.specs.declared.acting.Acting.{Acting}
 use Rattle.wm_base.specs.declared.job.EndCause.{EndCause}
 use Rattle.wm_desc.specs.Sorted.{with_key, has_key, added, removed}
 use Rattle.wm_desc.specs.Place.{IsAt}
@@ -12,21 +13,20 @@ use Rattle.wm_law.specs.declared.job.Job.{Job}
 use Rattle.wm_law.specs.declared.job.Phase.{Phase}
 use Rattle.wm_law.specs.declared.job.Phase.TheVariants.{Ended}
 use Rattle.wm_law.specs.declared.launch.Launched.{Launched}
-use Rattle.wm_law.specs.Counts.{is_waiting, is_starting, is_active}
+use Rattle.wm_law.specs.Counts.{is_waiting, is_starting, is_active, is_prestart}
 use Rattle.wm_law.specs.Jobs.{waiting_at}
 use Rattle.wm_law.specs.Launch.{as_launched, launched_at}
 use Rattle.wm_law.specs.Named.{is_ended}
-use Rattle.wm_law.specs.Pending.{is_prestart}
 use Rattle.wm_law.specs.Reports.{in_phase, phased_at}
 use Rattle.wm_names.specs.Names.{Names, HasNamed}
-use Rattle.wm_ordered.specs.Ordered.{Pairs, key_of}
+use Rattle.wm_ordered.specs.Ordered.{Pairs, key_of, with_value}
 use Rattle.wm_tally.specs.Tally.{Counts, HasStarted}
 use Rattle.wm_waiting.specs.declared.waiter.Waiter.{Waiter}
 use Rattle.wm_waiting.specs.Waiting.{Waiting}
 use Rattle.wm_waiting.specs.Waiting as waiting
 use Rattle.wm_waiting.proofs.Members.{Contains-head, find-None}
 use Rattle.wm_pick.specs.Parts.{waiter_of, waiters}
-use Rattle.wm_jobs.specs.Indexed.{Starts, Ends, NamesInPhase}
+use Rattle.wm_jobs.specs.Indexed.{acting_of, Starts, Ends, NamesInPhase}
 use Rattle.wm_jobs.specs.Marked.{standing_of, touched_of, standing_as, restored}
 use Rattle.wm_jobs.specs.Renewed.{renewed, OwnsPlace}
 use Rattle.wm_jobs.specs.Table.{Table, serial_of}
@@ -37,7 +37,7 @@ use Rattle.wm_jobs.proofs.JobParts.{has-started, waiter-keyed, waiter-placed, wa
 use Rattle.wm_jobs.proofs.NameParts.{names-alike}
 use Rattle.wm_jobs.proofs.Sifted.{picked-keys, picked-parts}
 use Rattle.wm_jobs.proofs.Waits.{if_waiting, one-waiting, map-waiting, Keeps, keeps-where, is-waiter, owns, renewed-listed, renewed-indexed, renewed-room}
-use Rattle.wm_jobs.proofs.Changes.{all-there, listed, launched-indexed, launched-fewer, launched-room, launch-spare, launch-new, some-waits, phased-indexed, phased-room, phased-active, phased-busy}
+use Rattle.wm_jobs.proofs.Changes.{all-there, listed, launched-indexed, launched-fewer, launched-room, launch-spare, launch-new, launch-unlisted, some-waits, phased-indexed, phased-room, phased-busy}
 use Rattle.wm_jobs.proofs.Undone.{back-where, serial-where, first-back}
 
 length-same : {js ks : List Job} → js ≡ ks → length js ≡ length ks
@@ -129,17 +129,21 @@ module _ (t : Inside) (h : IsKept t) (s at : ℕ) (x : Job) (js : List Job) (sam
   waiting-first n ks change serial back jobs =
       first-back n s t.jobs.items ks before behind x (if_waiting change) split (serial-where change x (is_waiting x.phase) serial) (back-where change x (is_waiting x.phase) back) (jobs ∙ map-waiting s change t.jobs.items)
 
-  -- a launch finds room, and no order of the serial
-  pub launch-finds : is_waiting x.phase ≡ true → (1 ≤ t.tally.spare) × (1 ≤ t.starting.spare) × (has_key key_of nat_eq s t.starting.items ≡ false)
+  -- a launch finds room, and the serial neither among the orders nor among the active ones
+  pub launch-finds : is_waiting x.phase ≡ true → (1 ≤ t.tally.spare) × (1 ≤ t.starting.spare) × (has_key key_of nat_eq s t.starting.items ≡ false) × (has_key key_of nat_eq s t.active.items ≡ false)
   launch-finds waits =
-      let spare = launch-spare s before behind x split.here split.lower split.higher t.next_serial t.next_place (vec_capacity t.jobs) t.room t.waiting t.tally t.starting t.active t.busy waits around_listed around_indexed around_room in
-      (spare.0, spare.1, ap (λ os. has_key key_of nat_eq s os) around_indexed.orders_are ∙ launch-new s before behind x split.here split.lower split.higher waits)
+      let spare = launch-spare s before behind x split.here split.lower split.higher t.next_serial t.next_place (vec_capacity t.jobs) t.room t.waiting t.tally t.starting t.active t.busy waits around_listed around_indexed around_room in (
+        spare.0,
+        spare.1,
+        ap (λ os. has_key key_of nat_eq s os) around_indexed.orders_are ∙ launch-new s before behind x split.here split.lower split.higher waits,
+        ap (λ os. has_key key_of nat_eq s os) around_indexed.active_are ∙ launch-unlisted s before behind x split.here split.lower split.higher waits,
+      )
 
   module _ (a : Launched) (waits : is_waiting x.phase ≡ true) (goes : is_waiting a.phase ≡ false) (new : Inside) (jobs : new.jobs.items ≡ map (launched_at s a) t.jobs.items) where
     launched : new.jobs.items ≡ before ++ as_launched a x ∷ behind
     launched = jobs ∙ map-split serial_of s (as_launched a) t.jobs.items before behind x split
 
-    pub launched-inside : new.next_serial ≡ t.next_serial → new.next_place ≡ t.next_place → new.room ≡ t.room → vec_capacity new.jobs ≡ vec_capacity t.jobs → new.waiting.items ≡ removed waiting.serial_of nat_eq s t.waiting.items → t.waiting.spare ≤ new.waiting.spare → Starts (is_active a.phase) t.tally new.tally a.how → t.tally.spare ≤ new.tally.spare + 1 → new.starting.items ≡ cond (is_starting a.phase) (added key_of nat_cmp (s, tt) t.starting.items) t.starting.items → t.starting.spare ≤ new.starting.spare + 1 → new.active ≡ t.active + cond (is_active a.phase) 1 0 → new.busy ≡ t.busy + cond (is_active a.phase && not (is_prestart x.kind)) 1 0 → NamesInPhase a.phase t.names new.names x → t.names.spare ≤ new.names.spare → IsKept new
+    pub launched-inside : new.next_serial ≡ t.next_serial → new.next_place ≡ t.next_place → new.room ≡ t.room → vec_capacity new.jobs ≡ vec_capacity t.jobs → new.waiting.items ≡ removed waiting.serial_of nat_eq s t.waiting.items → t.waiting.spare ≤ new.waiting.spare → Starts (is_active a.phase) t.tally new.tally a.how → t.tally.spare ≤ new.tally.spare + 1 → new.starting.items ≡ cond (is_starting a.phase) (added key_of nat_cmp (s, tt) t.starting.items) t.starting.items → t.starting.spare ≤ new.starting.spare + 1 → new.active.items ≡ cond (is_active a.phase) (added key_of nat_cmp (s, acting_of a.phase x.wish) t.active.items) t.active.items → new.busy ≡ t.busy + cond (is_active a.phase && not (is_prestart x.kind)) 1 0 → NamesInPhase a.phase t.names new.names x → t.names.spare ≤ new.names.spare → IsKept new
     launched-inside ns np room capacity we ws te ts se ss ae be ends name = record {
       named = names-phased (as_launched a x) new.jobs.items new.room new.names launched refl refl room ends name;
       listed = rw (launched, ns, np) (listed s before behind x split.here split.lower split.higher t.next_serial t.next_place (as_launched a x) refl refl goes around_listed);
@@ -149,10 +153,9 @@ module _ (t : Inside) (h : IsKept t) (s at : ℕ) (x : Job) (js : List Job) (sam
 
   module _ (phase : Phase) (active : is_active x.phase ≡ true) where
     -- an end finds that the job was counted
-    pub end-finds : HasStarted t.tally x.how × (cond (not (is_active phase)) 1 0 ≤ t.active) × (cond (not (is_active phase) && not (is_prestart x.kind)) 1 0 ≤ t.busy)
+    pub end-finds : HasStarted t.tally x.how × (cond (not (is_active phase) && not (is_prestart x.kind)) 1 0 ≤ t.busy)
     end-finds = (
       has-started before behind x t.tally active around_indexed.hows_are,
-      rw (around_indexed.active_are) (phased-active s before behind x split.here split.lower split.higher phase active),
       rw (around_indexed.busy_are) (phased-busy s before behind x split.here split.lower split.higher phase active),
     )
 
@@ -160,7 +163,7 @@ module _ (t : Inside) (h : IsKept t) (s at : ℕ) (x : Job) (js : List Job) (sam
       phased : new.jobs.items ≡ before ++ in_phase phase x ∷ behind
       phased = jobs ∙ map-split serial_of s (in_phase phase) t.jobs.items before behind x split
 
-      pub phased-inside : new.next_serial ≡ t.next_serial → new.next_place ≡ t.next_place → new.room ≡ t.room → vec_capacity new.jobs ≡ vec_capacity t.jobs → new.waiting ≡ t.waiting → Ends (is_active phase) t.tally new.tally x.how → t.tally.spare ≤ new.tally.spare → new.starting.items ≡ removed key_of nat_eq s t.starting.items → t.starting.spare ≤ new.starting.spare → new.active + cond (not (is_active phase)) 1 0 ≡ t.active → new.busy + cond (not (is_active phase) && not (is_prestart x.kind)) 1 0 ≡ t.busy → NamesInPhase phase t.names new.names x → t.names.spare ≤ new.names.spare → IsKept new
+      pub phased-inside : new.next_serial ≡ t.next_serial → new.next_place ≡ t.next_place → new.room ≡ t.room → vec_capacity new.jobs ≡ vec_capacity t.jobs → new.waiting ≡ t.waiting → Ends (is_active phase) t.tally new.tally x.how → t.tally.spare ≤ new.tally.spare → new.starting.items ≡ removed key_of nat_eq s t.starting.items → t.starting.spare ≤ new.starting.spare → new.active.items ≡ cond (is_active phase) (with_value nat_eq s (acting_of phase x.wish) t.active.items) (removed key_of nat_eq s t.active.items) → new.busy + cond (not (is_active phase) && not (is_prestart x.kind)) 1 0 ≡ t.busy → NamesInPhase phase t.names new.names x → t.names.spare ≤ new.names.spare → IsKept new
       phased-inside ns np room capacity we te ts se ss ae be ends name = record {
         named = names-phased (in_phase phase x) new.jobs.items new.room new.names phased refl refl room ends name;
         listed = rw (phased, ns, np) (listed s before behind x split.here split.lower split.higher t.next_serial t.next_place (in_phase phase x) refl refl goes around_listed);
@@ -210,7 +213,7 @@ module _ (t : Inside) (h : IsKept t) (s at : ℕ) (x : Job) (js : List Job) (sam
           record {
             named = rw (changed, room, ne) (record { are = names-alike before behind x after t.names (kept.serial x) (kept.job x) (ap is_ended (kept.phase x)) around_named.are; to_name = around_named.to_name });
             listed = rw (changed, ns, np_is) (renewed-listed s before behind x after split.here split.lower split.higher (kept.serial x) t.next_serial t.next_place np le (kept.place x had-place) has-queue around_listed);
-            indexed = rw (changed, te, se, ae, be) (renewed-indexed s before behind x after split.here split.lower split.higher (kept.serial x) (kept.phase x) (kept.kind x) (kept.how x) t.waiting new.waiting t.tally t.starting t.active t.busy alike around_indexed we);
+            indexed = rw (changed, te, se, ae, be) (renewed-indexed s before behind x after split.here split.lower split.higher (kept.serial x) (kept.phase x) (kept.kind x) (kept.how x) t.waiting new.waiting t.tally t.starting t.active t.busy (kept.wish x) alike around_indexed we);
             room = rw (te, se) (room-same (length-same changed) capacity room (renewed-room s before behind x after split.here split.lower split.higher (kept.serial x) (vec_capacity t.jobs) t.room t.waiting new.waiting t.tally t.starting around_room we ws));
           }
 
@@ -259,7 +262,7 @@ module _ (t : Inside) (h : IsKept t) (s at : ℕ) (x : Job) (js : List Job) (sam
     ended-inside new jobs ns np room capacity we ws te se ae be names name =
         let tally : t.tally.spare ≤ new.tally.spare + 1 = (let same : new.tally.spare ≡ t.tally.spare = ap (λ (k : Counts). k.spare) te in omega arith) in
         let starting : t.starting.spare ≤ new.starting.spare + 1 = (let same : new.starting.spare ≡ t.starting.spare = ap (λ (o : Pairs ℕ (Unit {0})). o.spare) se in omega arith) in
-        launched-inside ends waits refl new (phased-launched new.jobs.items jobs) ns np room capacity we ws te tally (ap (λ (o : Pairs ℕ (Unit {0})). o.items) se) starting (omega (arith, ae)) (omega (arith, be)) names name
+        launched-inside ends waits refl new (phased-launched new.jobs.items jobs) ns np room capacity we ws te tally (ap (λ (o : Pairs ℕ (Unit {0})). o.items) se) starting (ap (λ (o : Pairs ℕ Acting). o.items) ae) (omega (arith, be)) names name
 
 -- the job that stands at the place after the change is the one that stood there, changed where it waits
 module _ (t : Inside) (h : IsKept t) (s at : ℕ) (js : List Job) (same : js ≡ t.jobs.items) (there : IsAt serial_of nat_cmp s js at) (change : Job → Job) (np : ℕ) (le : t.next_place ≤ np) (keeps : Keeps np change) (ks : List Job) (jobs : ks ≡ map (waiting_at s change) t.jobs.items) (y : Job) (y_is : y ≡ get_or ks at y) where

@@ -6,15 +6,15 @@ use Rattle.std.specs.Ordering.{nat_cmp}
 use Rattle.std.proofs.lemmas.List.{length-append, map-append}
 use Rattle.std.proofs.lemmas.List.Elements.{All-nil, All-cons, All-append, filter-append}
 use Rattle.std.proofs.lemmas.List.Folds.{list_any_none}
+use Rattle.wm_active.specs.declared.acting.Acting.{Acting}
 use Rattle.wm_base.specs.declared.qname.QName.{QName}
 use Rattle.wm_desc.specs.Sorted.{IsSortedOnce, has_key}
 use Rattle.wm_law.specs.declared.job.Job.{Job}
 use Rattle.wm_law.specs.declared.job.Phase.{Phase}
 use Rattle.wm_law.specs.declared.job.Phase.TheVariants.{Waiting, Starting, Handed, Running, Ended}
-use Rattle.wm_law.specs.Counts.{is_waiting, is_starting, is_active}
+use Rattle.wm_law.specs.Counts.{is_waiting, is_starting, is_active, is_prestart}
 use Rattle.wm_law.specs.Kept.{IsDistinct, waiting_places}
 use Rattle.wm_law.specs.Laws.{IsIn}
-use Rattle.wm_law.specs.Pending.{is_prestart}
 use Rattle.wm_names.specs.Names.{IsNames}
 use Rattle.wm_ordered.specs.Ordered.{Pairs}
 use Rattle.wm_tally.specs.Tally.{Counts}
@@ -23,13 +23,13 @@ use Rattle.wm_waiting.specs.Waiting.{has_place}
 use Rattle.wm_waiting.specs.Waiting as waiting
 use Rattle.wm_waiting.proofs.Rows.{length-added}
 use Rattle.wm_pick.specs.Parts.{waiter_on, waiter_of, waiters}
-use Rattle.wm_jobs.specs.Indexed.{order_of}
+use Rattle.wm_jobs.specs.Indexed.{order_of, active_of}
 use Rattle.wm_jobs.specs.Stored.{AreStored, joined_by, IsOther}
 use Rattle.wm_jobs.specs.Table.{serial_of, is_busy}
 use Rattle.wm_jobs.specs.TableInside.{IsListed, AreListed, IsIndexed, HasRoom, HasNames, IsKept}
 use Rattle.wm_jobs.specs.declared.table.JobTable.TheInside.{Inside}
 use Rattle.wm_jobs.proofs.Changes.{all-there}
-use Rattle.wm_jobs.proofs.JobParts.{waiter-keyed, waiter-placed, order-keyed, order-none, hows-pushed, count-pushed}
+use Rattle.wm_jobs.proofs.JobParts.{waiter-keyed, waiter-placed, order-keyed, order-none, active-keyed, active-none, hows-pushed, count-pushed}
 use Rattle.wm_jobs.proofs.NameParts.{names-pushed}
 use Rattle.wm_jobs.proofs.Sifted.{differs, picked-length, pushed-lacks, pushed-comes, pushed-same}
 use Rattle.wm_jobs.proofs.Splits.{sorted-pushed, above-head}
@@ -159,7 +159,7 @@ module _ (t : Inside) (h : IsKept t) (j : Job) (behind : All (λ (k : Job). k.se
             waiters_are = come;
             hows_are = rw (hows-pushed t.jobs.items j inactive, te) h.indexed.hows_are;
             orders_are = ap (λ (o : Pairs ℕ (Unit {0})). o.items) se ∙ (h.indexed.orders_are ∙ pushed-same serial_of order_of (λ e. e.0) order-keyed t.jobs.items j (order-none j (inactive-unstarted j.phase inactive)));
-            active_are = ae ∙ (h.indexed.active_are ∙ sym (count-pushed (λ k. is_active k.phase) t.jobs.items j inactive));
+            active_are = ap (λ (o : Pairs ℕ Acting). o.items) ae ∙ (h.indexed.active_are ∙ pushed-same serial_of active_of (λ e. e.0) active-keyed t.jobs.items j (active-none j inactive));
             busy_are = be ∙ (h.indexed.busy_are ∙ sym (count-pushed is_busy t.jobs.items j (ap (λ b. b && not (is_prestart j.kind)) inactive)));
           });
           room = stored-room new jobs capacity come ws te se room;

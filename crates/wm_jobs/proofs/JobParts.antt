@@ -6,6 +6,7 @@ use mathlib.Core.Bool.{false≢true}
 use Rattle.std.proofs.lemmas.Bool.{cases_Bool, eq-eqb}
 use Rattle.std.proofs.lemmas.List.{map-append, append-nil}
 use Rattle.std.proofs.lemmas.List.Elements.{All-head, All-tail, filter-append}
+use Rattle.wm_active.specs.declared.acting.Acting.{Acting}
 use Rattle.wm_base.specs.declared.job.How.{How}
 use Rattle.wm_base.specs.declared.qname.QName.{QName}
 use Rattle.wm_desc.specs.Sorted.{IsSortedOnce}
@@ -21,9 +22,9 @@ use Rattle.wm_waiting.specs.declared.waiter.Waiter.{Waiter}
 use Rattle.wm_waiting.specs.Waiting.{is_ahead, next_due}
 use Rattle.wm_waiting.specs.Waiting as waiting
 use Rattle.wm_pick.specs.Parts.{waiter_on, waiter_of, waiters}
-use Rattle.wm_pick.specs.Tallied.{hows}
-use Rattle.wm_jobs.specs.Indexed.{order_of, orders, Starts, Ends}
-use Rattle.wm_jobs.specs.Table.{serial_of, starting_in}
+use Rattle.wm_tally.specs.Tallied.{hows}
+use Rattle.wm_jobs.specs.Indexed.{acting_of, order_of, orders, active_of, actives, Starts, Ends}
+use Rattle.wm_jobs.specs.Table.{serial_of, active_in, starting_in}
 use Rattle.wm_jobs.proofs.Sifted.{count-append, count-cons, differs, picked-keys}
 use Rattle.wm_jobs.proofs.Splits.{above-head}
 
@@ -96,6 +97,20 @@ order-none j h = ap (λ b. cond b (Some (j.serial, tt)) None) h
 
 pub order-some : (j : Job) (s : ℕ) → j.serial ≡ s → is_starting j.phase ≡ true → order_of j ≡ Some (s, tt)
 order-some j s same h = ap (λ b. cond b (Some (j.serial, tt)) None) h ∙ ap (λ (n : ℕ). Some (n, tt)) same
+
+-- a job that is active
+active-on : (j : Job) (b : Bool) (e : ℕ × Acting) → cond b (Some (j.serial, acting_of j.phase j.wish)) None ≡ Some e → e.0 ≡ j.serial
+active-on j false e is = absurd (cc is)
+active-on j true e is = let same : (j.serial, acting_of j.phase j.wish) ≡ e = cc is in sym (ap (λ (q : ℕ × Acting). q.0) same)
+
+pub active-keyed : (j : Job) (e : ℕ × Acting) → active_of j ≡ Some e → e.0 ≡ j.serial
+active-keyed j e is = active-on j (is_active j.phase) e is
+
+pub active-none : (j : Job) → is_active j.phase ≡ false → active_of j ≡ None
+active-none j h = ap (λ b. cond b (Some (j.serial, acting_of j.phase j.wish)) None) h
+
+pub active-some : (j : Job) (s : ℕ) → j.serial ≡ s → is_active j.phase ≡ true → active_of j ≡ Some (s, acting_of j.phase j.wish)
+active-some j s same h = ap (λ b. cond b (Some (j.serial, acting_of j.phase j.wish)) None) h ∙ ap (λ (n : ℕ). Some (n, acting_of j.phase j.wish)) same
 
 -- hows
 hows-first : (j : Job) (r : List Job) (b : Bool) → is_active j.phase ≡ b → hows (j ∷ r) ≡ cond b (j.how ∷ hows r) (hows r)
@@ -212,7 +227,20 @@ orders-counted (j ∷ js) =
     let rest = orders-counted js in
     omega arith
 
--- the first of them
+-- how many are active
+actives-first : (b : Bool) (e : ℕ × Acting) (es : List (ℕ × Acting)) → length (cons_option (cond b (Some e) None) es) ≡ cond b 1 0 + length es
+actives-first true e es = omega arith
+actives-first false e es = omega arith
+
+pub actives-counted : (jobs : List Job) → length (actives jobs) ≡ active_in jobs
+actives-counted [] = refl
+actives-counted (j ∷ js) =
+    let first : length (actives (j ∷ js)) ≡ cond (is_active j.phase) 1 0 + length (actives js) = actives-first (is_active j.phase) (j.serial, acting_of j.phase j.wish) (actives js) in
+    let counts : active_in (j ∷ js) ≡ cond (is_active j.phase) 1 0 + active_in js = count-cons (λ k. is_active k.phase) j js in
+    let rest = actives-counted js in
+    omega arith
+
+-- the first of those that wait for a monitor
 abbrev number_in : Option (ℕ × Unit {0}) → ℕ
 number_in None = 0
 number_in (Some e) = e.0

@@ -1,8 +1,11 @@
+pub mod Actives
+pub mod Asked
 pub mod AtEnd
 pub mod AtLaunch
 pub mod AtPlace
 pub mod AtStored
 pub mod AtUndo
+pub mod AtWish
 pub mod Changes
 pub mod Cleared
 pub mod Counted
@@ -10,6 +13,7 @@ pub mod JobParts
 pub mod NameParts
 pub mod One
 pub mod Pending
+pub mod Resifted
 pub mod Sifted
 pub mod Splits
 pub mod Stood

@@ -5,13 +5,13 @@ use Rattle.std.specs.Ordering.{nat_cmp}
 use Rattle.std.proofs.lemmas.Bool.{cases_Bool}
 use Rattle.std.proofs.lemmas.List.{get_or-map, length-append, length-map}
 use Rattle.std.proofs.lemmas.List.Elements.{All-nil}
+use Rattle.wm_active.specs.declared.acting.Acting.{Acting}
 use Rattle.wm_desc.specs.Place.{IsAt}
 use Rattle.wm_desc.specs.Sorted.{has_key, added, removed}
 use Rattle.wm_law.specs.declared.job.Job.{Job}
-use Rattle.wm_law.specs.Counts.{is_starting, is_active}
+use Rattle.wm_law.specs.Counts.{is_starting, is_active, is_prestart}
 use Rattle.wm_law.specs.Jobs.{changed_at}
 use Rattle.wm_law.specs.Named.{is_ended}
-use Rattle.wm_law.specs.Pending.{is_prestart}
 use Rattle.wm_names.specs.Names.{Names, IsNames, HasNamed, HasLast}
 use Rattle.wm_names.specs.Names as names
 use Rattle.wm_ordered.specs.Ordered.{Pairs, key_of}
@@ -20,17 +20,17 @@ use Rattle.wm_waiting.specs.declared.waiter.Waiter.{Waiter}
 use Rattle.wm_waiting.specs.Waiting.{Waiting}
 use Rattle.wm_waiting.specs.Waiting as waiting
 use Rattle.wm_pick.specs.Parts.{waiter_of, waiters}
-use Rattle.wm_pick.specs.Tallied.{hows}
+use Rattle.wm_tally.specs.Tallied.{hows}
 use Rattle.wm_jobs.specs.declared.touched.Touched.{Touched}
 use Rattle.wm_jobs.specs.Marked.{standing_as, restored, undone, marked_by}
-use Rattle.wm_jobs.specs.Indexed.{order_of, orders, nodes_of, Starts, Ends, NamesEnded, NamesAgain}
+use Rattle.wm_jobs.specs.Indexed.{acting_of, order_of, orders, nodes_of, Starts, Ends, NamesEnded, NamesAgain}
 use Rattle.wm_jobs.specs.Stored.{joined_by, IsOther}
 use Rattle.wm_jobs.specs.Table.{Table, serial_of}
 use Rattle.wm_jobs.specs.TableInside.{table_of, pending_of, AreListed, IsIndexed, HasRoom, HasNames, AreInPlace, StoodInPlace, IsUndoable, IsKept, IsTableInside}
 use Rattle.wm_jobs.specs.declared.table.JobTable.TheInside.{Inside}
 use Rattle.wm_jobs.proofs.AtPlace.{split, end-finds, finds-named}
 use Rattle.wm_jobs.proofs.AtStored.{behind-others, joined-most}
-use Rattle.wm_jobs.proofs.AtUndo.{as_ended, taken-indexed, put-indexed, put-lacks, put-other, dropped-indexed}
+use Rattle.wm_jobs.proofs.AtUndo.{as_ended, taken-indexed, put-indexed, put-lacks, put-unlisted, put-other, dropped-indexed}
 use Rattle.wm_jobs.proofs.JobParts.{active-unwaiting, waiter-none, order-keyed, order-none, order-some, has-started, hows-few}
 use Rattle.wm_jobs.proofs.Sifted.{picked-length}
 use Rattle.wm_jobs.proofs.Splits.{IsSplit, split-at, map-split}
@@ -151,7 +151,7 @@ module _ (t : Inside) (h : IsTableInside t) (js : List Job) (x : Job) (whole : t
   pub drop-last : (n : Names) → NamesEnded t.names n x → HasLast n (as_ended x)
   drop-last n ne = record { jobs = js; are = names-left n ne; ended = refl }
 
-  pub dropped-kept : (new : Inside) (n : Names) → new.jobs.items ≡ js → new.next_serial ≡ t.next_serial → new.next_place ≡ t.next_place → new.room ≡ t.room → vec_capacity new.jobs ≡ vec_capacity t.jobs → new.waiting.items ≡ removed waiting.serial_of nat_eq x.serial t.waiting.items → t.waiting.spare ≤ new.waiting.spare → Ends (not (is_active x.phase)) t.tally new.tally x.how → t.tally.spare ≤ new.tally.spare → new.starting.items ≡ removed key_of nat_eq x.serial t.starting.items → t.starting.spare ≤ new.starting.spare → new.active + cond (is_active x.phase) 1 0 ≡ t.active → new.busy + cond (is_active x.phase && not (is_prestart x.kind)) 1 0 ≡ t.busy → NamesEnded t.names n x → t.names.spare ≤ n.spare → ((ls : List Job) → IsNames (ls ++ as_ended x ∷ []) n → IsNames ls new.names) → n.spare ≤ new.names.spare → IsKept new
+  pub dropped-kept : (new : Inside) (n : Names) → new.jobs.items ≡ js → new.next_serial ≡ t.next_serial → new.next_place ≡ t.next_place → new.room ≡ t.room → vec_capacity new.jobs ≡ vec_capacity t.jobs → new.waiting.items ≡ removed waiting.serial_of nat_eq x.serial t.waiting.items → t.waiting.spare ≤ new.waiting.spare → Ends (not (is_active x.phase)) t.tally new.tally x.how → t.tally.spare ≤ new.tally.spare → new.starting.items ≡ removed key_of nat_eq x.serial t.starting.items → t.starting.spare ≤ new.starting.spare → new.active.items ≡ removed key_of nat_eq x.serial t.active.items → new.busy + cond (is_active x.phase && not (is_prestart x.kind)) 1 0 ≡ t.busy → NamesEnded t.names n x → t.names.spare ≤ n.spare → ((ls : List Job) → IsNames (ls ++ as_ended x ∷ []) n → IsNames ls new.names) → n.spare ≤ new.names.spare → IsKept new
   dropped-kept new n jobs ns np room capacity we ws te ts se ss ae be ne name forget less =
       let indexed = taken-indexed x.serial js [] x refl lower (All-nil (λ (k : Job). x.serial < k.serial)) t.waiting new.waiting t.tally new.tally t.starting new.starting t.active new.active t.busy new.busy (subst (λ (ls : List Job). IsIndexed ls t.waiting t.tally t.starting t.active t.busy) whole h.kept.indexed) we te se ae be in
       let o = h.kept.room in
@@ -181,12 +181,12 @@ module _ (t : Inside) (h : IsTableInside t) (js : List Job) (x : Job) (whole : t
   dropped-marked there ks is = marked-same t.mark t.touched.items js ks is ∙ sym (marked-pushed t.mark t.touched.items js t.jobs.items x there whole)
 
 -- a job is put into what jobs are found and counted by
-pub record IsPutIn (z : Job) (w1 : Waiting) (t1 : Counts) (s1 : Pairs ℕ (Unit {0})) (n1 : Names) (a1 b1 : ℕ) (new : Inside) : Type 0 where
+pub record IsPutIn (z : Job) (w1 : Waiting) (t1 : Counts) (s1 : Pairs ℕ (Unit {0})) (n1 : Names) (a1 : Pairs ℕ Acting) (b1 : ℕ) (new : Inside) : Type 0 where
   pub items : new.waiting.items ≡ joined_by (waiter_of z) w1.items
   pub hows : Starts (is_active z.phase) t1 new.tally z.how
   pub orders : new.starting.items ≡ cond (is_starting z.phase) (added key_of nat_cmp (z.serial, tt) s1.items) s1.items
   pub names : NamesAgain n1 new.names z
-  pub active : new.active ≡ a1 + cond (is_active z.phase) 1 0
+  pub active : new.active.items ≡ cond (is_active z.phase) (added key_of nat_cmp (z.serial, acting_of z.phase z.wish) a1.items) a1.items
   pub busy : new.busy ≡ b1 + cond (is_active z.phase && not (is_prestart z.kind)) 1 0
 
 -- where the job that the newest change was made of is taken out, and put in again as it stood
@@ -213,6 +213,9 @@ module _ (t : Inside) (h : IsTableInside t) (ts : List Touched) (u : Touched) (p
   length-there : (z : Job) → length (l ++ z ∷ r) ≡ length t.jobs.items
   length-there z = length-append l (z ∷ r) ∙ (sym (length-append l (x ∷ r)) ∙ sym (ap length split-x.whole))
 
+  pub undo-serial : x.serial ≡ u.serial
+  undo-serial = split-x.here
+
   pub undo-started : is_active x.phase ≡ true → HasStarted t.tally x.how
   undo-started active = (end-finds t h.kept u.serial at x js same there is x.phase active).0
 
@@ -220,15 +223,15 @@ module _ (t : Inside) (h : IsTableInside t) (ts : List Touched) (u : Touched) (p
   undo-named lasts = finds-named t h.kept u.serial at x js same there is lasts
 
   module _ (w1 : Waiting) (t1 : Counts) (s1 : Pairs ℕ (Unit {0})) (n1 : Names) (we : w1.items ≡ removed waiting.serial_of nat_eq x.serial t.waiting.items) (te : Ends (not (is_active x.phase)) t.tally t1 x.how) (se : s1.items ≡ removed key_of nat_eq x.serial t.starting.items) (ne : NamesEnded t.names n1 x) where
-    taken : (a1 b1 : ℕ) → a1 + cond (is_active x.phase) 1 0 ≡ t.active → b1 + cond (is_active x.phase && not (is_prestart x.kind)) 1 0 ≡ t.busy → IsIndexed (l ++ as_ended x ∷ r) w1 t1 s1 a1 b1
+    taken : (a1 : Pairs ℕ Acting) (b1 : ℕ) → a1.items ≡ removed key_of nat_eq x.serial t.active.items → b1 + cond (is_active x.phase && not (is_prestart x.kind)) 1 0 ≡ t.busy → IsIndexed (l ++ as_ended x ∷ r) w1 t1 s1 a1 b1
     taken a1 b1 ae be =
         taken-indexed u.serial l r x split-x.here split-x.lower split-x.higher t.waiting w1 t.tally t1 t.starting s1 t.active a1 t.busy b1 (subst (λ (ls : List Job). IsIndexed ls t.waiting t.tally t.starting t.active t.busy) split-x.whole h.kept.indexed)
-        (we ∙ ap (λ n. removed waiting.serial_of nat_eq n t.waiting.items) split-x.here) te (se ∙ ap (λ n. removed key_of nat_eq n t.starting.items) split-x.here) ae be
+        (we ∙ ap (λ n. removed waiting.serial_of nat_eq n t.waiting.items) split-x.here) te (se ∙ ap (λ n. removed key_of nat_eq n t.starting.items) split-x.here) (ae ∙ ap (λ n. removed key_of nat_eq n t.active.items) split-x.here) be
 
     names-taken : IsNames (l ++ as_ended x ∷ r) n1
     names-taken = ne l r (as_ended x) refl refl refl (subst (λ (ls : List Job). IsNames ls t.names) split-x.whole h.kept.named.are)
 
-    module _ (a1 b1 : ℕ) (ae : a1 + cond (is_active x.phase) 1 0 ≡ t.active) (be : b1 + cond (is_active x.phase && not (is_prestart x.kind)) 1 0 ≡ t.busy) where
+    module _ (a1 : Pairs ℕ Acting) (b1 : ℕ) (ae : a1.items ≡ removed key_of nat_eq x.serial t.active.items) (be : b1 + cond (is_active x.phase && not (is_prestart x.kind)) 1 0 ≡ t.busy) where
       pub undo-other : IsOther (waiter_of y) w1.items
       undo-other =
           subst (λ (ws : List Waiter). IsOther (waiter_of y) ws) (sym (taken a1 b1 ae be).waiters_are) (put-other u.serial l r x split-x.here split-x.lower split-x.higher y split-x.here in-place.places)
@@ -238,6 +241,9 @@ module _ (t : Inside) (h : IsTableInside t) (ts : List Touched) (u : Touched) (p
 
       pub undo-lacks : has_key key_of nat_eq y.serial s1.items ≡ false
       undo-lacks = ap (λ (os : List (ℕ × Unit {0})). has_key key_of nat_eq y.serial os) (taken a1 b1 ae be).orders_are ∙ put-lacks u.serial l r x split-x.here split-x.lower split-x.higher y split-x.here
+
+      pub undo-unlisted : has_key key_of nat_eq y.serial a1.items ≡ false
+      undo-unlisted = ap (λ (os : List (ℕ × Acting)). has_key key_of nat_eq y.serial os) (taken a1 b1 ae be).active_are ∙ put-unlisted u.serial l r x split-x.here split-x.lower split-x.higher y split-x.here
 
       -- where it was an order, there is room for it
       pub undo-orders : nodes_of s1 ≡ nodes_of t.starting → is_starting y.phase ≡ true → 1 ≤ s1.spare

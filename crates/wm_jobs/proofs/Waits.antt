@@ -6,29 +6,30 @@ use Rattle.std.proofs.lemmas.Bool.{cases_Bool}
 use Rattle.std.proofs.lemmas.List.{length-append, length-map}
 use mathlib.Core.Bool.{false≢true}
 use Rattle.std.specs.Option.{option_or}
+use Rattle.wm_active.specs.declared.acting.Acting.{Acting}
 use Rattle.wm_base.specs.declared.job.How.{How}
 use Rattle.wm_base.specs.declared.qname.QName.{QName}
 use Rattle.wm_desc.specs.Place.{IsAt, IsGap}
 use Rattle.wm_law.specs.declared.command.Chgjob.{Chgjob}
 use Rattle.wm_law.specs.declared.job.Job.{Job}
 use Rattle.wm_law.specs.declared.job.Phase.{Phase}
+use Rattle.wm_law.specs.declared.job.Wish.{Wish}
 use Rattle.wm_law.specs.Changing.{moved_to}
-use Rattle.wm_law.specs.Counts.{is_waiting, is_starting, is_active}
+use Rattle.wm_law.specs.Counts.{is_waiting, is_starting, is_active, is_prestart}
 use Rattle.wm_law.specs.Jobs.{waiting_at}
-use Rattle.wm_law.specs.Pending.{is_prestart}
 use Rattle.wm_ordered.specs.Ordered.{Pairs}
 use Rattle.wm_tally.specs.Tally.{Counts, IsTally}
 use Rattle.wm_waiting.specs.declared.waiter.Waiter.{Waiter}
 use Rattle.wm_waiting.specs.Waiting.{Waiting, replaced}
 use Rattle.wm_waiting.specs.Waiting as waiting
 use Rattle.wm_pick.specs.Parts.{waiter_of, waiters}
-use Rattle.wm_pick.specs.Tallied.{hows}
-use Rattle.wm_jobs.specs.Indexed.{order_of, orders}
+use Rattle.wm_tally.specs.Tallied.{hows}
+use Rattle.wm_jobs.specs.Indexed.{acting_of, order_of, orders, active_of, actives}
 use Rattle.wm_jobs.specs.Renewed.{renewed, OwnsPlace}
 use Rattle.wm_jobs.specs.Table.{serial_of, is_busy}
 use Rattle.wm_jobs.specs.TableInside.{IsListed, AreListed, IsIndexed, HasRoom}
 use Rattle.wm_jobs.proofs.Changes.{all-changed, all-there}
-use Rattle.wm_jobs.proofs.JobParts.{hows-active, hows-inactive, count-changed, order-keyed, waiter-keyed, waiter-none, waiter-some}
+use Rattle.wm_jobs.proofs.JobParts.{hows-active, hows-inactive, count-changed, order-keyed, active-keyed, waiter-keyed, waiter-none, waiter-some}
 use Rattle.wm_jobs.proofs.Sifted.{picked-keys, picked-parts, picked-same}
 use Rattle.wm_jobs.proofs.Splits.{changed-one, gap-unchanged, map-split, sorted-changed}
 
@@ -36,7 +37,7 @@ use Rattle.wm_jobs.proofs.Splits.{changed-one, gap-unchanged, map-split, sorted-
 abbrev pub if_waiting : (Job → Job) → Job → Job
 if_waiting change j = cond (is_waiting j.phase) (change j) j
 
-swap : {X : Type 0} (a b : Bool) (x y : X) → cond (a && b) x y ≡ cond b (cond a x y) y
+pub swap : {X : Type 0} (a b : Bool) (x y : X) → cond (a && b) x y ≡ cond b (cond a x y) y
 swap true true x y = refl
 swap true false x y = refl
 swap false true x y = refl
@@ -72,6 +73,7 @@ pub record Keeps (np : ℕ) (change : Job → Job) : Type 0 where
   pub phase : (j : Job) → (change j).phase ≡ j.phase
   pub kind : (j : Job) → (change j).kind ≡ j.kind
   pub how : (j : Job) → (change j).how ≡ j.how
+  pub wish : (j : Job) → (change j).wish ≡ j.wish
   pub queue : (j : Job) → is_some j.jobq ≡ true → is_some (change j).jobq ≡ true
   pub place : (j : Job) → j.place < np → (change j).place < np
 
@@ -81,7 +83,7 @@ or-some (Some q) b has = refl
 
 -- a job that is moved has the place before the next
 pub keeps-moved : (c : Chgjob) (place due : ℕ) → Keeps (place + 1) (moved_to c place due)
-keeps-moved c place due = record { serial = λ _. refl; job = λ _. refl; phase = λ _. refl; kind = λ _. refl; how = λ _. refl; queue = λ j has. or-some c.jobq j.jobq has; place = λ _ _. omega arith }
+keeps-moved c place due = record { serial = λ _. refl; job = λ _. refl; phase = λ _. refl; kind = λ _. refl; how = λ _. refl; wish = λ _. refl; queue = λ j has. or-some c.jobq j.jobq has; place = λ _ _. omega arith }
 
 either : (P : Job → Type 0) (b : Bool) (j k : Job) → P k → P j → P (cond b k j)
 either P true j k changed same = changed
@@ -94,6 +96,7 @@ keeps-where np change keeps = record {
   phase = λ j. either (λ k. k.phase ≡ j.phase) (is_waiting j.phase) j (change j) (keeps.phase j) refl;
   kind = λ j. either (λ k. k.kind ≡ j.kind) (is_waiting j.phase) j (change j) (keeps.kind j) refl;
   how = λ j. either (λ k. k.how ≡ j.how) (is_waiting j.phase) j (change j) (keeps.how j) refl;
+  wish = λ j. either (λ k. k.wish ≡ j.wish) (is_waiting j.phase) j (change j) (keeps.wish j) refl;
   queue = λ j has. either (λ k. is_some k.jobq ≡ true) (is_waiting j.phase) j (change j) (keeps.queue j has) has;
   place = λ j below. either (λ k. k.place < np) (is_waiting j.phase) j (change j) (keeps.place j below) below;
 }
@@ -156,18 +159,34 @@ module _ (s : ℕ) (l r : List Job) (x y : Job) (here : x.serial ≡ s) (lower :
         picked-same serial_of order_of (λ e. e.0) order-keyed l r x y
         (ap (λ (p : Phase). cond (is_starting p) (Some (x.serial, tt)) None) (sym phase) ∙ ap (λ (n : ℕ). cond (is_starting y.phase) (Some (n, tt)) None) (sym serial))
 
+    actives-alike : y.wish ≡ x.wish → actives (l ++ x ∷ r) ≡ actives (l ++ y ∷ r)
+    actives-alike wish =
+        picked-same serial_of active_of (λ e. e.0) active-keyed l r x y
+        (ap (λ (p : Phase). cond (is_active p) (Some (x.serial, acting_of p x.wish)) None) (sym phase)
+        ∙ (ap (λ (w : Wish). cond (is_active y.phase) (Some (x.serial, acting_of y.phase w)) None) (sym wish) ∙ ap (λ (n : ℕ). cond (is_active y.phase) (Some (n, acting_of y.phase y.wish)) None) (sym serial)))
+
     count-alike : (p : Job → Bool) → p y ≡ p x → count_by p (l ++ x ∷ r) ≡ count_by p (l ++ y ∷ r)
     count-alike p same =
         let changed = count-changed p l r x y in
         let bit : ◌≡◌ {A = ℕ} (cond (p y) 1 0) (cond (p x) 1 0) = ap (λ b. cond b 1 0) same in
         omega arith
 
-    pub renewed-indexed : (w0 w1 : Waiting) (t : Counts) (o : Pairs ℕ (Unit {0})) (a b : ℕ) → is_some (waiter_of y) ≡ is_some (waiter_of x) → IsIndexed (l ++ x ∷ r) w0 t o a b → w1.items ≡ renewed (waiter_of y) w0.items → IsIndexed (l ++ y ∷ r) w1 t o a b
-    renewed-indexed w0 w1 t o a b alike i we = record {
+    pub renewed-indexed : (w0 w1 : Waiting) (t : Counts) (o : Pairs ℕ (Unit {0})) (a : Pairs ℕ Acting) (b : ℕ) → y.wish ≡ x.wish → is_some (waiter_of y) ≡ is_some (waiter_of x) → IsIndexed (l ++ x ∷ r) w0 t o a b → w1.items ≡ renewed (waiter_of y) w0.items → IsIndexed (l ++ y ∷ r) w1 t o a b
+    renewed-indexed w0 w1 t o a b wish alike i we = record {
       waiters_are = we ∙ (ap (λ ws. renewed (waiter_of y) ws) i.waiters_are ∙ waiters-renewed alike);
       hows_are = subst (λ hs. IsTally hs t) (sym hows-alike) i.hows_are;
       orders_are = i.orders_are ∙ orders-alike;
-      active_are = i.active_are ∙ count-alike (λ k. is_active k.phase) (ap is_active phase);
+      active_are = i.active_are ∙ actives-alike wish;
+      busy_are = i.busy_are ∙ count-alike is_busy (ap (λ p. is_active p && not (is_prestart y.kind)) phase ∙ ap (λ k. is_active x.phase && not (is_prestart k)) kind);
+    }
+
+    -- where it waits as the other did, its place among the active ones alone is to be renewed
+    pub alike-indexed : (w : Waiting) (t : Counts) (o : Pairs ℕ (Unit {0})) (a0 a1 : Pairs ℕ Acting) (b : ℕ) → waiter_of x ≡ waiter_of y → a1.items ≡ actives (l ++ y ∷ r) → IsIndexed (l ++ x ∷ r) w t o a0 b → IsIndexed (l ++ y ∷ r) w t o a1 b
+    alike-indexed w t o a0 a1 b waits acts i = record {
+      waiters_are = i.waiters_are ∙ picked-same serial_of waiter_of waiting.serial_of waiter-keyed l r x y waits;
+      hows_are = subst (λ hs. IsTally hs t) (sym hows-alike) i.hows_are;
+      orders_are = i.orders_are ∙ orders-alike;
+      active_are = acts;
       busy_are = i.busy_are ∙ count-alike is_busy (ap (λ p. is_active p && not (is_prestart y.kind)) phase ∙ ap (λ k. is_active x.phase && not (is_prestart k)) kind);
     }
 

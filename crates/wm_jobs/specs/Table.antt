@@ -1,8 +1,9 @@
 -- What a contract sees of the table of jobs, and what is asked of it.
 use Rattle.std.specs.Prelude.{ℕ, ◌+◌, ◌≤◌, Bool, not, ◌&&◌, nat_lt, List, length, count_by, fold, Option, None, if◌then◌else◌}
 use Rattle.wm_law.specs.declared.job.Job.{Job}
-use Rattle.wm_law.specs.Counts.{is_waiting, is_starting, is_active}
-use Rattle.wm_law.specs.Pending.{is_prestart, sooner}
+use Rattle.wm_law.specs.Counts.{is_waiting, is_starting, is_active, is_prestart}
+use Rattle.wm_law.specs.Pending.{active_moment, ahead, sooner, soonest}
+use Rattle.wm_law.specs.Reports.{is_to_kill}
 use Rattle.wm_jobs.specs.Marked.{Marked}
 use Rattle.wm_jobs.specs.declared.touched.Touched.{Touched}
 
@@ -50,3 +51,11 @@ starting_in jobs = count_by (λ j. is_starting j.phase) jobs
 -- the least moment above the clock at which a Waiting job is due
 abbrev pub next_due_in : ℕ → List Job → Option ℕ
 next_due_in clock jobs = fold (λ least j. if is_waiting j.phase && nat_lt clock j.due then sooner least j.due else least) None jobs
+
+-- how many kills a monitor is yet to be handed
+abbrev pub kills_in : ℕ → List Job → ℕ
+kills_in m jobs = count_by (is_to_kill m) jobs
+
+-- the least moment above the clock of an active job's wish
+abbrev pub next_wish_in : ℕ → List Job → Option ℕ
+next_wish_in clock jobs = fold (λ least j. soonest least (ahead clock (active_moment j))) None jobs

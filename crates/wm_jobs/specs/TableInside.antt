@@ -1,6 +1,7 @@
 -- What lies in a table of jobs.
 use Rattle.std.specs.Prelude.{◌≡◌, ℕ, ◌+◌, ◌-◌, ◌^◌, ◌<◌, ◌≤◌, true, is_some, List, [], ◌∷◌, length, take, All, vec_capacity}
 use Rattle.std.specs.Ordering.{nat_cmp}
+use Rattle.wm_active.specs.declared.acting.Acting.{Acting}
 use Rattle.wm_desc.specs.Sorted.{IsSortedOnce}
 use Rattle.wm_law.specs.declared.job.Job.{Job}
 use Rattle.wm_law.specs.Counts.{is_waiting}
@@ -9,10 +10,10 @@ use Rattle.wm_ordered.specs.Ordered.{Pairs}
 use Rattle.wm_tally.specs.Tally.{Counts, IsTally}
 use Rattle.wm_waiting.specs.Waiting.{Waiting, HavePlaces}
 use Rattle.wm_pick.specs.Parts.{waiters}
-use Rattle.wm_pick.specs.Tallied.{hows}
-use Rattle.wm_jobs.specs.Indexed.{orders, nodes_of}
+use Rattle.wm_tally.specs.Tallied.{hows}
+use Rattle.wm_jobs.specs.Indexed.{orders, actives, nodes_of}
 use Rattle.wm_jobs.specs.Marked.{undone, marked_by}
-use Rattle.wm_jobs.specs.Table.{Table, serial_of, active_in, busy_in}
+use Rattle.wm_jobs.specs.Table.{Table, serial_of, busy_in}
 use Rattle.wm_jobs.specs.declared.table.JobTable.TheInside.{Inside}
 use Rattle.wm_jobs.specs.declared.touched.Mark.{Mark}
 use Rattle.wm_jobs.specs.declared.touched.Touched.{Touched}
@@ -30,11 +31,11 @@ pub record AreListed (next_serial next_place : ℕ) (jobs : List Job) : Type 0 w
   pub each : All (IsListed next_serial next_place) jobs
 
 -- what the jobs are found and counted by
-pub record IsIndexed (jobs : List Job) (waiting : Waiting) (tally : Counts) (starting : Pairs ℕ (Unit {0})) (active busy : ℕ) : Type 0 where
+pub record IsIndexed (jobs : List Job) (waiting : Waiting) (tally : Counts) (starting : Pairs ℕ (Unit {0})) (active : Pairs ℕ Acting) (busy : ℕ) : Type 0 where
   pub waiters_are : waiting.items ≡ waiters jobs
   pub hows_are : IsTally (hows jobs) tally
   pub orders_are : starting.items ≡ orders jobs
-  pub active_are : active ≡ active_in jobs
+  pub active_are : active.items ≡ actives jobs
   pub busy_are : busy ≡ busy_in jobs
 
 -- there is room for so many more jobs, and for the launch of each of them and of each that waits
@@ -56,9 +57,10 @@ pub record IsMarked (marked jobs touched capacity waiting room changes : ℕ) : 
   pub to_touch : touched + waiting + room + changes ≤ capacity
 
 -- there is room to take back so many of the changes that were noted, beside the room for more jobs, for changes and for launches; what waited has left its room among those that wait, and so has what was an order among the orders
-pub record HasUndos (undos room changes touched : ℕ) (waiting : Waiting) (tally : Counts) (names : Names) : Type 0 where
+pub record HasUndos (undos room changes touched : ℕ) (waiting : Waiting) (tally : Counts) (active : Pairs ℕ Acting) (names : Names) : Type 0 where
   pub to_wait : room + changes + touched ≤ waiting.spare
   pub to_count : length waiting.items + room + undos ≤ tally.spare
+  pub to_list : length waiting.items + room + undos ≤ active.spare
   pub to_name : room + undos ≤ names.spare
 
 -- how many jobs can wait or be orders at once, beside those for which there is room: each takes the room of one order
@@ -108,6 +110,6 @@ pub record IsKept (t : Inside) : Type 0 where
 -- what lies in it agrees
 pub record IsTableInside (t : Inside) : Type 0 where
   pub kept : IsKept t
-  pub undos : HasUndos t.undos t.room t.changes (length t.touched.items) t.waiting t.tally t.names
+  pub undos : HasUndos t.undos t.room t.changes (length t.touched.items) t.waiting t.tally t.active t.names
   pub undoable : IsUndoable t.mark t.touched.items t.jobs.items t.next_serial t.next_place (pending_of t.starting t.room) t.waiting.clock
   pub marked : IsMarked t.mark.jobs (length t.jobs.items) (length t.touched.items) (vec_capacity t.touched) (length t.waiting.items) t.room t.changes

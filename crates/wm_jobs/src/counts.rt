@@ -3,7 +3,7 @@ ghost use Rattle.std.specs.Prelude.{◌≡◌, ◌+◌, ◌^◌, ◌<◌, ◌≤
 ghost use Rattle.std.specs.Ordering.{nat_cmp};
 ghost use Rattle.wm_desc.specs.Sorted.{has_key, added, removed};
 ghost use Rattle.wm_law.specs.Counts.{is_starting, is_active};
-ghost use Rattle.wm_ordered.specs.Ordered.{key_of};
+ghost use Rattle.wm_ordered.specs.Ordered.{key_of, with_value};
 ghost use Rattle.wm_tally.specs.Tally.{HasFew, HasStarted};
 ghost use Rattle.wm_law.specs.declared.job.Job.{Job};
 ghost use Rattle.wm_base.specs.declared.job.EndCause.TheVariants.{Restarted};
@@ -15,11 +15,13 @@ ghost use Rattle.wm_names.specs.Names as few;
 ghost use Rattle.wm_waiting.specs.Waiting.{serial_of as waiter_serial};
 ghost use Rattle.wm_pick.specs.Parts.{waiter_of};
 ghost use Rattle.wm_jobs.specs.Stored.{joined_by, IsOther};
-ghost use Rattle.wm_jobs.specs.Indexed.{Starts, Ends, NamesInPhase, NamesEnded, NamesAgain, HasTaken, nodes_of};
+ghost use Rattle.wm_jobs.specs.Indexed.{acting_of, Starts, Ends, NamesInPhase, NamesEnded, NamesAgain, HasTaken, nodes_of};
 
+use crate::acting::acting_of;
 use crate::phases::{is_active, is_ended, is_starting, waiter_of};
+use wm_active::ActiveJobs;
 use wm_base::{EndCause, How, NoMemory, Serial};
-use wm_law::{Job, Phase};
+use wm_law::{Job, Phase, Wish};
 use wm_names::JobNames;
 use wm_ordered::Ordered;
 use wm_tally::Tally;
@@ -62,15 +64,40 @@ pub(crate) fn put_order(starting: &mut Ordered<Serial, ()>, serial: Serial, phas
     }
 }
 
-/// Takes the job of a serial out of those that wait for a monitor, where it does. Its room is spare again.
-pub(crate) fn take_order(starting: &mut Ordered<Serial, ()>, serial: Serial)
-    ensures items { starting.new.items ≡ removed key_of nat_eq serial starting.old.items }
-    ensures spare { starting.old.spare ≤ starting.new.spare }
-    ensures nodes { nodes_of starting.new ≡ nodes_of starting.old }
+/// Takes a serial out of others, where it is among them. Its room is spare again.
+pub(crate) fn take_serial(serials: &mut Ordered<Serial, ()>, serial: Serial)
+    ensures items { serials.new.items ≡ removed key_of nat_eq serial serials.old.items }
+    ensures spare { serials.old.spare ≤ serials.new.spare }
+    ensures nodes { nodes_of serials.new ≡ nodes_of serials.old }
 {
     // `len` tells that serials differ.
-    starting.len();
-    starting.remove(&serial);
+    serials.len();
+    serials.remove(&serial);
+}
+
+/// Puts a job that comes into a phase from another one among the active ones, where it is active then.
+pub(crate) fn put_active(active: &mut ActiveJobs, serial: Serial, phase: &Phase, wish: &Wish)
+    requires spare { 1 ≤ active.old.spare }
+    requires new { has_key key_of nat_eq serial active.old.items ≡ false }
+    ensures items { active.new.items ≡ (if is_active phase.now then added key_of nat_cmp (serial, acting_of phase.now wish.now) active.old.items else active.old.items) }
+    ensures spare { active.old.spare ≤ active.new.spare + 1 }
+    ensures kept { is_active phase.now ≡ false → active.old.spare ≤ active.new.spare }
+{
+    if is_active(phase) {
+        active.insert(serial, acting_of(phase, wish));
+    }
+}
+
+/// An active job comes into a phase: where it isn't active then, it leaves the active ones, and its room is spare again.
+pub(crate) fn end_active(active: &mut ActiveJobs, serial: Serial, phase: &Phase, wish: &Wish)
+    ensures items { active.new.items ≡ (if is_active phase.now then with_value nat_eq serial (acting_of phase.now wish.now) active.old.items else removed key_of nat_eq serial active.old.items) }
+    ensures spare { active.old.spare ≤ active.new.spare }
+{
+    if is_active(phase) {
+        active.set(serial, acting_of(phase, wish));
+    } else {
+        active.remove(serial);
+    }
 }
 
 /// A job that hasn't ended comes into a phase: where it ends, a reference without its number names it no more.
@@ -106,26 +133,30 @@ pub(crate) fn reserve_all(
     waiting: &mut WaitingJobs,
     tally: &mut Tally,
     starting: &mut Ordered<Serial, ()>,
+    active: &mut ActiveJobs,
     names: &mut JobNames,
     waits: u32,
     starts: u32,
     orders: u32,
     named: u32,
 ) -> Result<(), NoMemory>
-    ensures ok { OnOk result (HasTaken waits starts orders named waiting.new tally.new starting.new names.new) }
+    ensures ok { OnOk result (HasTaken waits starts orders named waiting.new tally.new starting.new active.new names.new) }
     ensures items { waiting.new.items ≡ waiting.old.items }
     ensures clock { waiting.new.clock ≡ waiting.old.clock }
     ensures counts { tally.new.counts ≡ tally.old.counts }
     ensures orders { starting.new.items ≡ starting.old.items }
+    ensures active { active.new.items ≡ active.old.items }
     ensures names { (jobs : List Job) → IsNames jobs names.old → IsNames jobs names.new }
     ensures waiting_spare { waiting.old.spare ≤ waiting.new.spare }
     ensures tally_spare { tally.old.spare ≤ tally.new.spare }
     ensures starting_spare { starting.old.spare ≤ starting.new.spare }
+    ensures active_spare { active.old.spare ≤ active.new.spare }
     ensures names_spare { names.old.spare ≤ names.new.spare }
 {
     waiting.reserve(waits)?;
     tally.reserve(starts)?;
     starting.reserve(orders)?;
+    active.reserve(starts)?;
     names.reserve(named)?;
     Ok(())
 }
@@ -188,7 +219,7 @@ pub(crate) fn take_out(
 {
     waiting.remove(job.serial);
     count_out(tally, job);
-    take_order(starting, job.serial);
+    take_serial(starting, job.serial);
     name_out(names, job);
 }
 

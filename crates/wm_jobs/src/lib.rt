@@ -2,8 +2,8 @@
 //!
 //! The contract for the layer above: a `JobTable` is seen as the list of its jobs in the order of their serials, the moment
 //! up to which waiting jobs are due, the next serial and place, and for how many more jobs there is room. Beside the list it
-//! keeps the jobs that wait, the tally of the active ones, those that wait for a monitor, the counts of these, and which of
-//! them a command names, so that no call goes through the jobs; `clear` goes through those alone that it ends. Room is taken
+//! keeps the jobs that wait, the active ones with what of their wishes acts and their tally, those that wait for a monitor, how many aren't prestart jobs, and
+//! which of them a command names, so that no call goes through the jobs; `clear` goes through those alone that it ends. Room is taken
 //! by `reserve` alone. `stored` makes the table of the jobs that a store has, one after the other.
 //! A table also keeps what was done to its jobs since its mark: each call but `mark` leaves what it was then, `touched` tells
 //! which jobs may have changed and how they stood, and `take_back` makes of the table what it was, without memory.
@@ -12,6 +12,7 @@
 //! store, `TableInside` what lies in a table, with how its jobs stood since the mark.
 #![tactic(auto)]
 
+mod acting;
 mod clearing;
 mod counts;
 mod marking;
@@ -24,6 +25,8 @@ mod table;
 mod touched;
 mod undoing;
 mod waiting;
+mod wished;
+mod wishing;
 
 pub use table::JobTable;
 pub use touched::{Standing, Touched};

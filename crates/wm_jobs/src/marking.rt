@@ -15,6 +15,7 @@ pub(crate) fn note(touched: &mut Vec<Touched>, job: &Job)
     let was = Standing {
         phase: job.phase,
         how: job.how,
+        wish: job.wish,
         held: job.held,
         due: job.due,
         jobq: job.jobq,

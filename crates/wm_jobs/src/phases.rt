@@ -1,8 +1,7 @@
 // Which phases wait, are handed out, and count.
 ghost use Rattle.std.specs.Prelude.{◌≡◌, ◌&&◌, not};
-ghost use Rattle.wm_law.specs.Counts.{is_waiting, is_starting, is_active};
+ghost use Rattle.wm_law.specs.Counts.{is_waiting, is_starting, is_active, is_prestart};
 ghost use Rattle.wm_law.specs.Named.{is_ended};
-ghost use Rattle.wm_law.specs.Pending.{is_prestart};
 ghost use Rattle.wm_pick.specs.Parts.{waiter_of};
 
 use wm_law::{Job, JobKind, Phase};

@@ -5,17 +5,18 @@ ghost use Rattle.wm_desc.specs.Place.{IsAt, IsGap};
 ghost use Rattle.wm_desc.specs.Sorted.{IsSortedOnce};
 ghost use Rattle.wm_law.specs.Changing.{moved_to, with_due};
 ghost use Rattle.wm_law.specs.Holding.{with_held};
-ghost use Rattle.wm_law.specs.Jobs.{changed_at, waiting_at};
+ghost use Rattle.wm_law.specs.Jobs.{active_at, changed_at, waiting_at};
 ghost use Rattle.wm_law.specs.Launch.{launched_at};
 ghost use Rattle.wm_law.specs.Reports.{phased_at};
+ghost use Rattle.wm_law.specs.Wishes.{with_wish};
 ghost use Rattle.wm_jobs.specs.Marked.{standing_as};
 ghost use Rattle.wm_jobs.specs.Table.{serial_of};
 
-use crate::phases::is_waiting;
+use crate::phases::{is_active, is_waiting};
 use crate::touched::Standing;
 use std::cmp::Ordering;
 use wm_base::{Moment, Serial};
-use wm_law::{Chgjob, Job, Launched, Phase};
+use wm_law::{Chgjob, Job, Launched, Phase, Wish};
 
 // Where the job of a serial stands where all serials from the first on are given, which they are but in some stores.
 fn place_by_count(jobs: &[Job], serial: Serial) -> Option<usize>
@@ -122,6 +123,18 @@ pub(crate) fn move_at(
     }
 }
 
+/// Gives the job of a serial, which stands there, another wish, where it is active.
+pub(crate) fn wish_at(jobs: &mut Vec<Job>, at: usize, serial: Serial, wish: Wish)
+    requires { IsAt serial_of nat_cmp serial jobs.old.items at }
+    ensures jobs { jobs.new.items ≡ map (active_at serial (with_wish wish)) jobs.old.items }
+    ensures capacity { vec_capacity jobs.new ≡ vec_capacity jobs.old }
+{
+    let job = &mut jobs[at];
+    if is_active(&job.phase) {
+        job.wish = wish;
+    }
+}
+
 /// Has the job of a serial, which stands there, stand as it did.
 pub(crate) fn stand_at(jobs: &mut Vec<Job>, at: usize, serial: Serial, was: &Standing)
     requires { IsAt serial_of nat_cmp serial jobs.old.items at }
@@ -131,6 +144,7 @@ pub(crate) fn stand_at(jobs: &mut Vec<Job>, at: usize, serial: Serial, was: &Sta
     let job = &mut jobs[at];
     job.phase = was.phase;
     job.how = was.how;
+    job.wish = was.wish;
     job.held = was.held;
     job.due = was.due;
     job.jobq = was.jobq;

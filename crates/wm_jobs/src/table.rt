@@ -2,7 +2,8 @@
 ghost use Rattle.std.specs.Prelude.{◌≤◌};
 
 use crate::counts::{
-    count_end, count_start, end_names, fewer, more, put_order, reserve_all, take_order,
+    count_end, count_start, end_active, end_names, fewer, more, put_active, put_order, reserve_all,
+    take_serial,
 };
 use crate::marking::note;
 use crate::phases::{counts_as_busy, is_active, waiter_of};
@@ -10,6 +11,7 @@ use crate::places::{launch_at, phase_at, place};
 use crate::touched::{Mark, Touched};
 use std::alloc::{AllocError, Global};
 use std::marker::Model;
+use wm_active::ActiveJobs;
 use wm_base::{Moment, NoMemory, Serial};
 use wm_law::{Job, Launched, Phase};
 use wm_names::JobNames;
@@ -45,7 +47,8 @@ pub struct JobTable {
     pub(crate) starting: Ordered<Serial, ()>,
     // Which of the jobs a command names.
     pub(crate) names: JobNames,
-    pub(crate) active: usize,
+    // The active jobs, with what of their wishes acts.
+    pub(crate) active: ActiveJobs,
     // The active jobs that aren't prestart jobs.
     pub(crate) busy: usize,
     pub(crate) next_serial: u64,
@@ -74,7 +77,7 @@ impl Model for JobTable {
 }
 
 impl JobTable {
-    ghost use Rattle.std.specs.Prelude.{◌≡◌, ◌==◌, ◌+◌, ◌∷◌, ◌++◌, ◌^◌, ◌<◌, ◌≤◌, [], true, false, is_some, max, find, map, Some, IfSome, OnOk, OnErr};
+    ghost use Rattle.std.specs.Prelude.{◌≡◌, ◌==◌, ◌&&◌, ◌+◌, ◌∷◌, ◌++◌, ◌^◌, ◌<◌, ◌≤◌, [], true, false, is_some, max, nat_le, find, map, Some, IfSome, OnOk, OnErr};
     ghost use Rattle.wm_law.specs.Laws.{IsIn};
     ghost use Rattle.std.specs.Option.{option_copied};
     ghost use Rattle.wm_law.specs.Counts.{is_waiting, is_starting, is_active};
@@ -82,7 +85,7 @@ impl JobTable {
     ghost use Rattle.wm_law.specs.Reports.{phased_at};
     ghost use Rattle.wm_tally.specs.Tally.{IsTally};
     ghost use Rattle.wm_pick.specs.Parts.{waiters};
-    ghost use Rattle.wm_pick.specs.Tallied.{hows};
+    ghost use Rattle.wm_tally.specs.Tallied.{hows};
     ghost use Rattle.wm_jobs.specs.Table.{active_in, busy_in, starting_in, next_due_in, present, IsReady};
 
     /// No jobs; the clock is 0, and serials and places begin at 1.
@@ -113,7 +116,7 @@ impl JobTable {
             tally: Tally::new(alloc),
             starting: Ordered::new(alloc),
             names: JobNames::new(alloc),
-            active: 0,
+            active: ActiveJobs::new(alloc),
             busy: 0,
             next_serial,
             next_place,
@@ -144,31 +147,68 @@ impl JobTable {
         ensures spare { self.old.spare ≤ self.new.spare }
         ensures err { OnErr result (self.new ≡ self.old) }
     {
-        if more <= self.room && 2 <= self.changes && self.is_ready() {
+        self.make_room(more, 2)
+    }
+
+    /// Makes room for a number of changes, and to take back all that is done from the mark on. An `Err` is as that of
+    /// `reserve`.
+    pub fn reserve_changes(&mut self, changes: u32) -> Result<(), NoMemory>
+        ensures changes { OnOk result (changes ≤ self.new.changes) }
+        ensures ready { OnOk result (IsReady self.new) }
+        ensures marked { self.new.marked ≡ self.old.marked }
+        ensures jobs { self.new.jobs ≡ self.old.jobs }
+        ensures clock { self.new.clock ≡ self.old.clock }
+        ensures next_serial { self.new.next_serial ≡ self.old.next_serial }
+        ensures next_place { self.new.next_place ≡ self.old.next_place }
+        ensures spare { self.old.spare ≤ self.new.spare }
+        ensures err { OnErr result (self.new ≡ self.old) }
+    {
+        self.make_room(0, changes)
+    }
+
+    // Makes room for a number of jobs, and for a number of changes.
+    fn make_room(&mut self, more: u32, changes: u32) -> Result<(), NoMemory>
+        ensures ok { OnOk result (more ≤ self.new.spare) }
+        ensures changes { OnOk result (changes ≤ self.new.changes) }
+        ensures ready { OnOk result (IsReady self.new) }
+        ensures marked { self.new.marked ≡ self.old.marked }
+        ensures jobs { self.new.jobs ≡ self.old.jobs }
+        ensures clock { self.new.clock ≡ self.old.clock }
+        ensures next_serial { self.new.next_serial ≡ self.old.next_serial }
+        ensures next_place { self.new.next_place ≡ self.old.next_place }
+        ensures spare { self.old.spare ≤ self.new.spare }
+        ensures err { OnErr result (self.new ≡ self.old) }
+    {
+        if more <= self.room && changes <= self.changes && self.is_ready() {
             return Ok(());
         }
         let more = more.max(self.room);
-        if more as usize + self.jobs.len() > MOST || self.touched.len() > MOST {
+        if more as usize + self.jobs.len() > MOST
+            || self.touched.len() > MOST
+            || changes as usize > MOST
+        {
             return Err(AllocError);
         }
         let launches = more + self.waiting.len() as u32;
-        let notes = 2 + self.touched.len() as u32;
+        let notes = changes + self.touched.len() as u32;
         let undos = launches + notes;
         self.jobs.reserve(room_for(more, self.jobs.len()) as usize)?;
         self.touched
-            .reserve(room_for(launches + 2, self.touched.len()) as usize)?;
+            .reserve(room_for(launches + changes, self.touched.len()) as usize)?;
+        let active = self.active.len();
         reserve_all(
             &mut self.waiting,
             &mut self.tally,
             &mut self.starting,
+            &mut self.active,
             &mut self.names,
             more + notes,
-            room_for(launches + undos, self.active),
+            room_for(launches + undos, active),
             undos,
             more + undos,
         )?;
         self.room = more;
-        self.changes = 2;
+        self.changes = changes;
         self.undos = undos;
         Ok(())
     }
@@ -236,7 +276,7 @@ impl JobTable {
         count_start(&mut self.tally, &job.how, &job.phase);
         put_order(&mut self.starting, job.serial, &job.phase);
         self.names.add(&job);
-        self.active = more(self.active, starts);
+        put_active(&mut self.active, job.serial, &job.phase, &job.wish);
         self.busy = more(self.busy, busy);
         self.jobs.push_reserved(job);
         self.next_serial += 1;
@@ -266,7 +306,7 @@ impl JobTable {
         count_start(&mut self.tally, &launched.how, &launched.phase);
         put_order(&mut self.starting, serial, &launched.phase);
         end_names(&mut self.names, job, &launched.phase);
-        self.active = more(self.active, starts);
+        put_active(&mut self.active, serial, &launched.phase, &job.wish);
         self.busy = more(self.busy, busy);
         note(&mut self.touched, job);
         launch_at(&mut self.jobs, at, serial, launched);
@@ -295,10 +335,10 @@ impl JobTable {
         let job = &self.jobs[at];
         let ends = !is_active(&phase);
         let busy = counts_as_busy(ends, &job.kind);
-        take_order(&mut self.starting, serial);
+        take_serial(&mut self.starting, serial);
         count_end(&mut self.tally, &job.how, &phase);
         end_names(&mut self.names, job, &phase);
-        self.active = fewer(self.active, ends);
+        end_active(&mut self.active, serial, &phase, &job.wish);
         self.busy = fewer(self.busy, busy);
         note(&mut self.touched, job);
         self.changes -= 1;
@@ -341,6 +381,15 @@ impl JobTable {
         self.job(serial)
     }
 
+    /// The active job of least serial that isn't below a serial. It is one look.
+    pub fn active_from(&self, serial: Serial) -> Option<&Job>
+        ensures found { option_copied result ≡ find (λ j. is_active j.phase && nat_le serial j.serial) self.now.jobs }
+        ensures by_serial { (j : Job) → option_copied result ≡ Some j → find (λ k. k.serial == j.serial) self.now.jobs ≡ Some j }
+    {
+        let serial = self.active.first_from(serial)?;
+        self.job(serial)
+    }
+
     /// The jobs, in the order of their serials.
     pub fn jobs(&self) -> &[Job]
         ensures { result.now ≡ self.now.jobs }
@@ -367,7 +416,7 @@ impl JobTable {
     pub fn active(&self) -> usize
         ensures { result ≡ active_in self.now.jobs }
     {
-        self.active
+        self.active.len()
     }
 
     /// How many active jobs aren't prestart jobs.

@@ -1,12 +1,13 @@
 // What a table keeps of the changes since its mark.
 use wm_base::{How, Moment, Priority, QName, Serial};
-use wm_law::Phase;
+use wm_law::{Phase, Wish};
 
 /// What the calls of a table change of a job.
 #[derive(Clone, Copy)]
 pub struct Standing {
     pub phase: Phase,
     pub how: How,
+    pub wish: Wish,
     pub held: bool,
     pub due: Moment,
     pub jobq: Option<QName>,

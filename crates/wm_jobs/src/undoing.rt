@@ -1,6 +1,6 @@
 // What was done since the mark is taken back.
 use crate::JobTable;
-use crate::counts::{fewer, forget, more, put_in, take_out};
+use crate::counts::{fewer, forget, more, put_active, put_in, take_out};
 use crate::phases::{counts_as_busy, is_active};
 use crate::places::{place, stand_at};
 
@@ -69,7 +69,7 @@ impl JobTable {
             &mut self.names,
             &job,
         );
-        self.active = fewer(self.active, active);
+        self.active.remove(job.serial);
         self.busy = fewer(self.busy, busy);
         forget(&mut self.names, job);
     }
@@ -100,7 +100,7 @@ impl JobTable {
             &mut self.names,
             job,
         );
-        self.active = fewer(self.active, was_active);
+        self.active.remove(touched.serial);
         self.busy = fewer(self.busy, was_busy);
         stand_at(&mut self.jobs, at, touched.serial, &touched.was);
         let job = &self.jobs[at];
@@ -113,7 +113,7 @@ impl JobTable {
             &mut self.names,
             job,
         );
-        self.active = more(self.active, active);
+        put_active(&mut self.active, touched.serial, &job.phase, &job.wish);
         self.busy = more(self.busy, busy);
         self.undos -= 1;
     }

@@ -37,7 +37,7 @@ invariant_of-self c =
     let noted-more : length c.note.new.touched.items ≡ length t.touched.items + 1 = ap length c.note.ensures.items ∙ length-append t.touched.items (touched_of x ∷ []) in
     agrees _
     (ended-inside t c.self.invariant.kept c.args.serial c.in-Ok.at c.index-job.result.now c.deref.result.now c.deref.ensures.value c.in-Ok.ensures c.index-job.ensures c.args.cause (sym c.is_waiting.ensures ∙ c.if-not-is_waiting.false) _ c.phase_at.ensures.jobs refl refl refl c.phase_at.ensures.capacity c.remove.ensures.items more refl refl refl refl (λ before behind after serial job phase. c.end.ensures.names before behind after serial job (ap is_ended phase)) c.end.ensures.spare)
-    (let had = c.self.invariant.undos in let wait = had.to_wait in let count = had.to_count in let name = had.to_name in record { to_wait = omega (arith, noted-more, left); to_count = omega (arith, less); to_name = omega (arith, c.end.ensures.spare) })
+    (let had = c.self.invariant.undos in let wait = had.to_wait in let count = had.to_count in let list = had.to_list in let name = had.to_name in record { to_wait = omega (arith, noted-more, left); to_count = omega (arith, less); to_list = omega (arith, less); to_name = omega (arith, c.end.ensures.spare) })
     (λ kept. undoable-noted t.mark t.touched.items t.jobs.items t.next_serial t.next_place (pending_of t.starting t.room) t.waiting.clock c.self.invariant.undoable _ kept c.len.ensures.places refl (omega arith) (omega arith) (omega arith) (omega (arith, c.remove.ensures.clock)) (touched_of x) c.note.ensures.items (phased-first t c.self.invariant.kept c.args.serial c.in-Ok.at c.index-job.result.now c.deref.result.now c.deref.ensures.value c.in-Ok.ensures c.index-job.ensures t.mark.jobs c.phase_at.new.jobs.items (Ended c.args.cause) c.phase_at.ensures.jobs))
     (noted t.jobs.items c.phase_at.new.jobs.items t.touched.items c.note.new.touched.items (touched_of x) (phased_at c.args.serial (Ended c.args.cause)) t.mark.jobs (vec_capacity t.touched) (vec_capacity c.note.new.touched) (length t.waiting.items) (length c.remove.new.self.items) t.room t.room t.changes t.changes c.self.invariant.marked c.phase_at.ensures.jobs c.note.ensures.items c.note.ensures.capacity (omega (arith, less)))
 

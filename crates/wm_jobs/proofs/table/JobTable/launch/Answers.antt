@@ -1,9 +1,8 @@
 use Rattle.std.proofs.lemmas.List.{length-append}
 use Rattle.std.proofs.Common.{◌≡◌, ◌+◌, not, ◌&&◌, cond, true, length, vec_capacity, is_some, refl, ap, ◌∙◌, arith, ◌∷◌, []}
 use Rattle.wm_law.specs.declared.job.Job.{Job}
-use Rattle.wm_law.specs.Counts.{is_waiting}
+use Rattle.wm_law.specs.Counts.{is_waiting, is_prestart}
 use Rattle.wm_law.specs.Launch.{as_launched, launched_at}
-use Rattle.wm_law.specs.Pending.{is_prestart}
 use Rattle.wm_jobs.specs.Marked.{touched_of}
 use Rattle.wm_jobs.specs.Table.{Table, serial_of}
 use Rattle.wm_jobs.specs.TableInside.{pending_of}
@@ -44,6 +43,21 @@ put_order-requires-clause-new c =
     let had = asked t c.self.invariant.kept c.args.serial c.in-Ok.at x c.deref.result.now c.deref.ensures.value c.in-Ok.ensures c.index-job.ensures (λ (j : Job). is_waiting j.phase ≡ true) c.args.self.now c.self.view_is c.requires.waits in
     (launch-finds t c.self.invariant.kept c.args.serial c.in-Ok.at x c.deref.result.now c.deref.ensures.value c.in-Ok.ensures c.index-job.ensures had).2
 
+pub put_active-requires-clause-spare : goal.put_active-requires-clause-spare
+put_active-requires-clause-spare c =
+    let t = c.self.inside in
+    let x = c.index-job.result.now in
+    let had = asked t c.self.invariant.kept c.args.serial c.in-Ok.at x c.deref.result.now c.deref.ensures.value c.in-Ok.ensures c.index-job.ensures (λ (j : Job). is_waiting j.phase ≡ true) c.args.self.now c.self.view_is c.requires.waits in
+    let one = one-waits t c.self.invariant.kept c.args.serial c.in-Ok.at x c.deref.result.now c.deref.ensures.value c.in-Ok.ensures c.index-job.ensures had in
+    omega (arith, one, c.self.invariant.undos.to_list)
+
+pub put_active-requires-clause-new : goal.put_active-requires-clause-new
+put_active-requires-clause-new c =
+    let t = c.self.inside in
+    let x = c.index-job.result.now in
+    let had = asked t c.self.invariant.kept c.args.serial c.in-Ok.at x c.deref.result.now c.deref.ensures.value c.in-Ok.ensures c.index-job.ensures (λ (j : Job). is_waiting j.phase ≡ true) c.args.self.now c.self.view_is c.requires.waits in
+    (launch-finds t c.self.invariant.kept c.args.serial c.in-Ok.at x c.deref.result.now c.deref.ensures.value c.in-Ok.ensures c.index-job.ensures had).3
+
 pub end_names-requires : goal.end_names-requires
 end_names-requires c =
     let t = c.self.inside in
@@ -65,14 +79,13 @@ invariant_of-self c =
     let x = c.index-job.result.now in
     let had = asked t c.self.invariant.kept c.args.serial c.in-Ok.at x c.deref.result.now c.deref.ensures.value c.in-Ok.ensures c.index-job.ensures (λ (j : Job). is_waiting j.phase ≡ true) c.args.self.now c.self.view_is c.requires.waits in
     let more = grows (is_some c.remove.result) t.waiting.spare c.remove.new.self.spare c.remove.ensures.spare in
-    let active = c.more-self-inside.ensures ∙ ap (λ b. t.active + cond b 1 0) c.is_active-starts.ensures in
-    let busy = c.more-self-inside-2.ensures ∙ ap (λ b. t.busy + cond b 1 0) (c.counts_as_busy-busy.ensures ∙ ap (λ b. b && not (is_prestart x.kind)) c.is_active-starts.ensures) in
+    let busy = c.more-self-inside.ensures ∙ ap (λ b. t.busy + cond b 1 0) (c.counts_as_busy-busy.ensures ∙ ap (λ b. b && not (is_prestart x.kind)) c.is_active-starts.ensures) in
     let less = one-less t c.self.invariant.kept c.args.serial c.in-Ok.at x c.deref.result.now c.deref.ensures.value c.in-Ok.ensures c.index-job.ensures c.args.launched.now had c.requires.phase c.remove.new.self.items c.remove.ensures.items in
     let left = leaves-room t c.self.invariant.kept c.args.serial c.in-Ok.at x c.deref.result.now c.deref.ensures.value c.in-Ok.ensures c.index-job.ensures had c.remove.result c.remove.ensures.waiter t.waiting.spare c.remove.new.self.spare c.remove.ensures.spare in
     let noted-more : length c.note.new.touched.items ≡ length t.touched.items + 1 = ap length c.note.ensures.items ∙ length-append t.touched.items (touched_of x ∷ []) in
     agrees _
-    (launched-inside t c.self.invariant.kept c.args.serial c.in-Ok.at x c.deref.result.now c.deref.ensures.value c.in-Ok.ensures c.index-job.ensures c.args.launched.now had c.requires.phase _ c.launch_at.ensures.jobs refl refl refl c.launch_at.ensures.capacity c.remove.ensures.items more c.count_start.ensures.hows c.count_start.ensures.spare c.put_order.ensures.items c.put_order.ensures.spare active busy c.end_names.ensures.names c.end_names.ensures.spare)
-    (let had = c.self.invariant.undos in let wait = had.to_wait in let count = had.to_count in let name = had.to_name in record { to_wait = omega (arith, noted-more, left); to_count = omega (arith, less, c.count_start.ensures.spare); to_name = omega (arith, c.end_names.ensures.spare) })
+    (launched-inside t c.self.invariant.kept c.args.serial c.in-Ok.at x c.deref.result.now c.deref.ensures.value c.in-Ok.ensures c.index-job.ensures c.args.launched.now had c.requires.phase _ c.launch_at.ensures.jobs refl refl refl c.launch_at.ensures.capacity c.remove.ensures.items more c.count_start.ensures.hows c.count_start.ensures.spare c.put_order.ensures.items c.put_order.ensures.spare c.put_active.ensures.items busy c.end_names.ensures.names c.end_names.ensures.spare)
+    (let had = c.self.invariant.undos in let wait = had.to_wait in let count = had.to_count in let list = had.to_list in let name = had.to_name in record { to_wait = omega (arith, noted-more, left); to_count = omega (arith, less, c.count_start.ensures.spare); to_list = omega (arith, less, c.put_active.ensures.spare); to_name = omega (arith, c.end_names.ensures.spare) })
     (λ kept. undoable-noted t.mark t.touched.items t.jobs.items t.next_serial t.next_place (pending_of t.starting t.room) t.waiting.clock c.self.invariant.undoable _ kept c.len.ensures.places refl (omega arith) (omega arith) (omega (arith, c.put_order.ensures.nodes)) (omega (arith, c.remove.ensures.clock)) (touched_of x) c.note.ensures.items (launched-first t c.self.invariant.kept c.args.serial c.in-Ok.at x c.deref.result.now c.deref.ensures.value c.in-Ok.ensures c.index-job.ensures t.mark.jobs c.launch_at.new.jobs.items c.args.launched.now c.launch_at.ensures.jobs))
     (noted t.jobs.items c.launch_at.new.jobs.items t.touched.items c.note.new.touched.items (touched_of x) (launched_at c.args.serial c.args.launched.now) t.mark.jobs (vec_capacity t.touched) (vec_capacity c.note.new.touched) (length t.waiting.items) (length c.remove.new.self.items) t.room t.room t.changes t.changes c.self.invariant.marked c.launch_at.ensures.jobs c.note.ensures.items c.note.ensures.capacity (omega (arith, less)))
 

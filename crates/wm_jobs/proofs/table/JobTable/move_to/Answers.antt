@@ -33,7 +33,7 @@ invariant_of-self-2 c =
     let noted-more : length c.note.new.touched.items ≡ length t.touched.items + 1 = ap length c.note.ensures.items ∙ length-append t.touched.items (touched_of c.index.result.now ∷ []) in
     agrees _
     (changed-inside t c.self.invariant.kept c.args.serial c.in-Ok.at c.deref.result.now c.deref.ensures.value c.in-Ok.ensures (moved_to c.args.command.now t.next_place c.args.due) (t.next_place + 1) (omega arith) keeps c.move_at.new.jobs.items c.move_at.ensures.jobs c.index-2.result.now c.index-2.ensures _ c.move_at.ensures.jobs refl refl refl c.move_at.ensures.capacity c.renew.ensures.items c.renew.ensures.spare refl refl refl refl refl)
-    (let had = c.self.invariant.undos in let wait = had.to_wait in let count = had.to_count in let name = had.to_name in record { to_wait = omega (arith, noted-more, some, c.requires.changes, c.renew.ensures.spare); to_count = omega (arith, same); to_name = omega (arith) })
+    (let had = c.self.invariant.undos in let wait = had.to_wait in let count = had.to_count in let list = had.to_list in let name = had.to_name in record { to_wait = omega (arith, noted-more, some, c.requires.changes, c.renew.ensures.spare); to_count = omega (arith, same); to_list = omega (arith, same); to_name = omega (arith) })
     (λ kept. undoable-noted t.mark t.touched.items t.jobs.items t.next_serial t.next_place (pending_of t.starting t.room) t.waiting.clock c.self.invariant.undoable _ kept c.len.ensures.places refl (omega arith) (omega arith) (omega arith) (omega (arith, c.renew.ensures.clock)) (touched_of c.index.result.now) c.note.ensures.items (waiting-first t c.self.invariant.kept c.args.serial c.in-Ok.at c.index.result.now c.deref.result.now c.deref.ensures.value c.in-Ok.ensures c.index.ensures t.mark.jobs c.move_at.new.jobs.items (moved_to c.args.command.now t.next_place c.args.due) refl refl c.move_at.ensures.jobs))
     (noted t.jobs.items c.move_at.new.jobs.items t.touched.items c.note.new.touched.items (touched_of c.index.result.now) (waiting_at c.args.serial (moved_to c.args.command.now t.next_place c.args.due)) t.mark.jobs (vec_capacity t.touched) (vec_capacity c.note.new.touched) (length t.waiting.items) (length c.renew.new.waiting.items) t.room t.room t.changes (t.changes - 1) c.self.invariant.marked c.move_at.ensures.jobs c.note.ensures.items c.note.ensures.capacity (omega (arith, some, same, c.requires.changes)))
 
@@ -63,7 +63,7 @@ invariant_of-self c =
     let undos = c.self.invariant.undos in
     record {
       kept = record { listed = listed-later t.next_serial t.next_place t.next_serial (t.next_place + 1) t.jobs.items (omega arith) (omega arith) kept.listed; indexed = kept.indexed; room = kept.room; named = kept.named };
-      undos = record { to_wait = undos.to_wait; to_count = undos.to_count; to_name = undos.to_name };
+      undos = record { to_wait = undos.to_wait; to_count = undos.to_count; to_list = undos.to_list; to_name = undos.to_name };
       undoable = undoable-same t.mark t.touched.items t.touched.items t.jobs.items t.jobs.items t.next_serial t.next_place (pending_of t.starting t.room) t.waiting.clock t.next_serial (t.next_place + 1) (pending_of t.starting t.room) t.waiting.clock c.self.invariant.undoable refl refl (omega arith) (omega arith) (omega arith) (omega arith);
       marked = c.self.invariant.marked;
     }

@@ -1,8 +1,7 @@
 use Rattle.std.proofs.lemmas.List.{length-append}
 use Rattle.std.proofs.Common.{◌≡◌, ◌+◌, ◌-◌, length, vec_capacity, not, ◌&&◌, cond, true, refl, ap, sym, ◌∙◌, arith, ◌∷◌, []}
 use Rattle.wm_law.specs.declared.job.Job.{Job}
-use Rattle.wm_law.specs.Counts.{is_active}
-use Rattle.wm_law.specs.Pending.{is_prestart}
+use Rattle.wm_law.specs.Counts.{is_active, is_prestart}
 use Rattle.wm_law.specs.Reports.{in_phase, phased_at}
 use Rattle.wm_jobs.specs.Marked.{touched_of}
 use Rattle.wm_jobs.specs.Table.{Table, serial_of}
@@ -31,14 +30,7 @@ fewer-self-inside-requires c =
     let t = c.self.inside in
     let x = c.index-job.result.now in
     let had = asked t c.self.invariant.kept c.args.serial c.in-Ok.at x c.deref.result.now c.deref.ensures.value c.in-Ok.ensures c.index-job.ensures (λ (j : Job). is_active j.phase ≡ true) c.args.self.now c.self.view_is c.requires.active in
-    rw c.is_active-ends.ensures (end-finds t c.self.invariant.kept c.args.serial c.in-Ok.at x c.deref.result.now c.deref.ensures.value c.in-Ok.ensures c.index-job.ensures c.args.phase had).1
-
-pub fewer-self-inside-requires-2 : goal.fewer-self-inside-requires-2
-fewer-self-inside-requires-2 c =
-    let t = c.self.inside in
-    let x = c.index-job.result.now in
-    let had = asked t c.self.invariant.kept c.args.serial c.in-Ok.at x c.deref.result.now c.deref.ensures.value c.in-Ok.ensures c.index-job.ensures (λ (j : Job). is_active j.phase ≡ true) c.args.self.now c.self.view_is c.requires.active in
-    rw (c.counts_as_busy-busy.ensures, c.is_active-ends.ensures) (end-finds t c.self.invariant.kept c.args.serial c.in-Ok.at x c.deref.result.now c.deref.ensures.value c.in-Ok.ensures c.index-job.ensures c.args.phase had).2
+    rw (c.counts_as_busy-busy.ensures, c.is_active-ends.ensures) (end-finds t c.self.invariant.kept c.args.serial c.in-Ok.at x c.deref.result.now c.deref.ensures.value c.in-Ok.ensures c.index-job.ensures c.args.phase had).1
 
 pub end_names-requires : goal.end_names-requires
 end_names-requires c =
@@ -52,14 +44,13 @@ invariant_of-self c =
     let t = c.self.inside in
     let x = c.index-job.result.now in
     let had = asked t c.self.invariant.kept c.args.serial c.in-Ok.at x c.deref.result.now c.deref.ensures.value c.in-Ok.ensures c.index-job.ensures (λ (j : Job). is_active j.phase ≡ true) c.args.self.now c.self.view_is c.requires.active in
-    let active = ap (λ b. c.fewer-self-inside.result + cond (not b) 1 0) (sym c.is_active-ends.ensures) ∙ c.fewer-self-inside.ensures in
-    let busy = ap (λ b. c.fewer-self-inside-2.result + cond b 1 0) (sym (c.counts_as_busy-busy.ensures ∙ ap (λ b. not b && not (is_prestart x.kind)) c.is_active-ends.ensures)) ∙ c.fewer-self-inside-2.ensures in
+    let busy = ap (λ b. c.fewer-self-inside.result + cond b 1 0) (sym (c.counts_as_busy-busy.ensures ∙ ap (λ b. not b && not (is_prestart x.kind)) c.is_active-ends.ensures)) ∙ c.fewer-self-inside.ensures in
     let some : t.changes ≡ c.args.self.now.changes = ap (λ (v : Table). v.changes) c.self.view_is in
     let noted-more : length c.note.new.touched.items ≡ length t.touched.items + 1 = ap length c.note.ensures.items ∙ length-append t.touched.items (touched_of x ∷ []) in
     agrees _
-    (phased-inside t c.self.invariant.kept c.args.serial c.in-Ok.at x c.deref.result.now c.deref.ensures.value c.in-Ok.ensures c.index-job.ensures c.args.phase had c.requires.not_waiting c.requires.not_starting _ c.phase_at.ensures.jobs refl refl refl c.phase_at.ensures.capacity refl c.count_end.ensures.hows c.count_end.ensures.spare c.take_order.ensures.items c.take_order.ensures.spare active busy c.end_names.ensures.names c.end_names.ensures.spare)
-    (let had = c.self.invariant.undos in let wait = had.to_wait in let count = had.to_count in let name = had.to_name in record { to_wait = omega (arith, noted-more, some, c.requires.changes); to_count = omega (arith, c.count_end.ensures.spare); to_name = omega (arith, c.end_names.ensures.spare) })
-    (λ kept. undoable-noted t.mark t.touched.items t.jobs.items t.next_serial t.next_place (pending_of t.starting t.room) t.waiting.clock c.self.invariant.undoable _ kept c.len.ensures.places refl (omega arith) (omega arith) (omega (arith, c.take_order.ensures.nodes)) (omega arith) (touched_of x) c.note.ensures.items (phased-first t c.self.invariant.kept c.args.serial c.in-Ok.at x c.deref.result.now c.deref.ensures.value c.in-Ok.ensures c.index-job.ensures t.mark.jobs c.phase_at.new.jobs.items c.args.phase c.phase_at.ensures.jobs))
+    (phased-inside t c.self.invariant.kept c.args.serial c.in-Ok.at x c.deref.result.now c.deref.ensures.value c.in-Ok.ensures c.index-job.ensures c.args.phase had c.requires.not_waiting c.requires.not_starting _ c.phase_at.ensures.jobs refl refl refl c.phase_at.ensures.capacity refl c.count_end.ensures.hows c.count_end.ensures.spare c.take_serial.ensures.items c.take_serial.ensures.spare c.end_active.ensures.items busy c.end_names.ensures.names c.end_names.ensures.spare)
+    (let had = c.self.invariant.undos in let wait = had.to_wait in let count = had.to_count in let list = had.to_list in let name = had.to_name in record { to_wait = omega (arith, noted-more, some, c.requires.changes); to_count = omega (arith, c.count_end.ensures.spare); to_list = omega (arith, c.end_active.ensures.spare); to_name = omega (arith, c.end_names.ensures.spare) })
+    (λ kept. undoable-noted t.mark t.touched.items t.jobs.items t.next_serial t.next_place (pending_of t.starting t.room) t.waiting.clock c.self.invariant.undoable _ kept c.len.ensures.places refl (omega arith) (omega arith) (omega (arith, c.take_serial.ensures.nodes)) (omega arith) (touched_of x) c.note.ensures.items (phased-first t c.self.invariant.kept c.args.serial c.in-Ok.at x c.deref.result.now c.deref.ensures.value c.in-Ok.ensures c.index-job.ensures t.mark.jobs c.phase_at.new.jobs.items c.args.phase c.phase_at.ensures.jobs))
     (noted t.jobs.items c.phase_at.new.jobs.items t.touched.items c.note.new.touched.items (touched_of x) (phased_at c.args.serial c.args.phase) t.mark.jobs (vec_capacity t.touched) (vec_capacity c.note.new.touched) (length t.waiting.items) (length t.waiting.items) t.room t.room t.changes (t.changes - 1) c.self.invariant.marked c.phase_at.ensures.jobs c.note.ensures.items c.note.ensures.capacity (omega (arith, some, c.requires.changes)))
 
 pub note-requires : goal.note-requires

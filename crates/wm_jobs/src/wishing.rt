@@ -1,0 +1,38 @@
+// What is done to a job that is active.
+use crate::JobTable;
+use crate::acting::acting_of;
+use crate::marking::note;
+use crate::places::{place, wish_at};
+use wm_base::Serial;
+use wm_law::Wish;
+
+impl JobTable {
+    ghost use Rattle.std.specs.Prelude.{◌≡◌, ◌+◌, ◌≤◌, map};
+    ghost use Rattle.wm_law.specs.Jobs.{active_at};
+    ghost use Rattle.wm_law.specs.Wishes.{with_wish};
+    ghost use Rattle.wm_jobs.specs.Table.{IsReady};
+
+    /// Gives the job of a serial, where it is active, another wish. It takes no memory.
+    pub fn set_wish(&mut self, serial: Serial, wish: Wish)
+        requires changes { 1 ≤ self.old.changes }
+        ensures jobs { self.new.jobs ≡ map (active_at serial (with_wish wish)) self.old.jobs }
+        ensures clock { self.new.clock ≡ self.old.clock }
+        ensures next_serial { self.new.next_serial ≡ self.old.next_serial }
+        ensures next_place { self.new.next_place ≡ self.old.next_place }
+        ensures spare { self.old.spare ≤ self.new.spare }
+        ensures changes { self.old.changes ≤ self.new.changes + 1 }
+        ensures ready { IsReady self.old → IsReady self.new }
+        ensures marked { self.new.marked ≡ self.old.marked }
+    {
+        let Ok(at) = place(&self.jobs, serial) else {
+            return;
+        };
+        let job = &self.jobs[at];
+        self.active.set(serial, acting_of(&job.phase, &wish));
+        note(&mut self.touched, job);
+        self.changes -= 1;
+        wish_at(&mut self.jobs, at, serial, wish);
+        // `len` tells that places differ.
+        self.waiting.len();
+    }
+}
