@@ -1,4 +1,4 @@
--- Calls other than SBMJOB, STRSBS and CHGJOB don't look at the clock: it may be set before them or after them.
+-- Most calls don't look at the clock: it may be set before them or after them.
 use Rattle.std.proofs.Common.{◌≡◌, ℕ, Bool, true, false, cond, Option, Some, None, List, is_some, refl, ap, ◌∙◌, ◌==◌}
 use Rattle.wm_base.specs.declared.job.StartOrder.{StartOrder}
 use Rattle.wm_base.specs.declared.job.EndCause.TheVariants as cause
@@ -15,13 +15,13 @@ use Rattle.wm_law.specs.declared.job.Phase.TheVariants.{Running, Ended}
 use Rattle.wm_law.specs.declared.job.Phase.{Phase}
 use Rattle.wm_law.specs.declared.state.State.{State}
 use Rattle.wm_law.specs.Choice.{is_held}
+use Rattle.wm_law.specs.Counts.{is_starting}
 use Rattle.wm_law.specs.Holding.{hold_found, release_found}
 use Rattle.wm_law.specs.Launch.{order_of}
 use Rattle.wm_law.specs.Machine.{apply, change, with_clock}
 use Rattle.wm_law.specs.Named.{waiting_named}
-use Rattle.wm_law.specs.Power.{power_down, is_down_now}
 use Rattle.wm_law.specs.Queues.{clear_queue, hold_queue, release_queue}
-use Rattle.wm_law.specs.Reports.{done_with, end_cause, is_handed_to, hand, hand_job, hand_order, is_run_by, report, report_on, use_done}
+use Rattle.wm_law.specs.Reports.{done_with, end_cause, is_handed_to, is_to_kill, hand, hand_job, hand_order, start_job, is_run_by, report, report_on, use_done}
 use Rattle.wm_law.specs.Stepped.{Stepped}
 use Rattle.wm_core.specs.Clocked.{IsLate, IsStill, looks_at_clock, is_timed}
 use Rattle.std.specs.List.{find}
@@ -31,25 +31,26 @@ downed_by : (s : State) (now : ℕ) (b : Bool) (t u : Stepped) (v w : Stepped) �
 downed_by s now true t u v w h k = h
 downed_by s now false t u v w h k = k
 
-pub power_is_late : (s : State) (now : ℕ) → IsLate now (power_down s) (power_down (with_clock s now))
-power_is_late s now = downed_by s now (is_down_now s.power) _ _ _ _ (record { says = refl; leaves = refl }) (record { says = refl; leaves = refl })
-
 ordered_by : (s : State) (now m : ℕ) (j : Job) (o : Option StartOrder) → IsLate now (hand_order s m j o) (hand_order (with_clock s now) m j o)
 ordered_by s now m j None = record { says = refl; leaves = refl }
 ordered_by s now m j (Some o) = record { says = refl; leaves = refl }
 
+started_by : (s : State) (now m : ℕ) (o : Option Job) → IsLate now (start_job s m o) (start_job (with_clock s now) m o)
+started_by s now m None = record { says = refl; leaves = refl }
+started_by s now m (Some j) = ordered_by s now m j (order_of s j)
+
 handed_by : (s : State) (now m : ℕ) (o : Option Job) → IsLate now (hand_job s m o) (hand_job (with_clock s now) m o)
-handed_by s now m None = record { says = refl; leaves = refl }
-handed_by s now m (Some j) = ordered_by s now m j (order_of s j)
+handed_by s now m None = started_by s now m (find (λ j. is_starting j.phase) s.jobs)
+handed_by s now m (Some j) = record { says = refl; leaves = refl }
 
 pub hand_is_late : (s : State) (now m : ℕ) → IsLate now (hand s m) (hand (with_clock s now) m)
-hand_is_late s now m = handed_by s now m _
+hand_is_late s now m = handed_by s now m (find (is_to_kill m) s.jobs)
 
-reported_by : (s : State) (now serial : ℕ) (test : Phase → Bool) (phase : Phase) (o : Option Job) → IsLate now (report_on s serial test phase o) (report_on (with_clock s now) serial test phase o)
+reported_by : (s : State) (now serial : ℕ) (test : Phase → Bool) (phase : Job → Phase) (o : Option Job) → IsLate now (report_on s serial test phase o) (report_on (with_clock s now) serial test phase o)
 reported_by s now serial test phase None = record { says = refl; leaves = refl }
 reported_by s now serial test phase (Some j) = downed_by s now (test j.phase) _ _ _ _ (record { says = refl; leaves = refl }) (record { says = refl; leaves = refl })
 
-pub report_is_late : (s : State) (now serial : ℕ) (test : Phase → Bool) (phase : Phase) → IsLate now (report s serial test phase) (report (with_clock s now) serial test phase)
+pub report_is_late : (s : State) (now serial : ℕ) (test : Phase → Bool) (phase : Job → Phase) → IsLate now (report s serial test phase) (report (with_clock s now) serial test phase)
 report_is_late s now serial test phase = reported_by s now serial test phase (find (λ j. j.serial == serial) s.jobs)
 
 done_by : (s : State) (now m : ℕ) (o : Option Job) → IsLate now (done_with s m o) (done_with (with_clock s now) m o)
@@ -98,12 +99,12 @@ change_is_late s now user (command.Rmvrtge c) other = record { says = refl; leav
 change_is_late s now user (command.Rmvaje c) other = record { says = refl; leaves = refl }
 change_is_late s now user (command.Rmvpje c) other = record { says = refl; leaves = refl }
 change_is_late s now user (command.Strsbs c) other = absurd (cc)
-change_is_late s now user (command.Endsbs c) other = record { says = refl; leaves = refl }
+change_is_late s now user (command.Endsbs c) other = absurd (cc)
 change_is_late s now user (command.Sbmjob c) other = absurd (cc)
 change_is_late s now user (command.Hldjob c) other = hold_is_late s now (waiting_named s c.job)
 change_is_late s now user (command.Rlsjob c) other = release_is_late s now (waiting_named s c.job)
 change_is_late s now user (command.Chgjob c) other = absurd (cc)
-change_is_late s now user (command.Endjob c) other = record { says = refl; leaves = refl }
+change_is_late s now user (command.Endjob c) other = absurd (cc)
 change_is_late s now user (command.Hldjobq c) other = queue_hold_is_late s now c.jobq
 change_is_late s now user (command.Rlsjobq c) other = queue_release_is_late s now c.jobq
 change_is_late s now user (command.Clrjobq c) other = queue_clear_is_late s now c.jobq
@@ -111,15 +112,15 @@ change_is_late s now user (command.Strpj c) other = record { says = refl; leaves
 change_is_late s now user (command.Endpj c) other = record { says = refl; leaves = refl }
 change_is_late s now user (command.Evoke c) other = record { says = refl; leaves = refl }
 change_is_late s now user (command.Enduse c) other = record { says = refl; leaves = refl }
-change_is_late s now user (command.Pwrdwnsys c) other = power_is_late s now
+change_is_late s now user (command.Pwrdwnsys c) other = absurd (cc)
 
 -- and so does each other call
 pub apply_is_late : (s : State) (now caller : ℕ) (call : Call) → is_timed call ≡ false → IsLate now (apply s caller call) (apply (with_clock s now) caller call)
 apply_is_late s now caller (Change user c) other = change_is_late s now user c other
 apply_is_late s now caller Hand other = hand_is_late s now caller
-apply_is_late s now caller (Started serial) other = report_is_late s now serial (is_handed_to caller) (Running caller)
-apply_is_late s now caller (StartFailed serial why) other = report_is_late s now serial (is_handed_to caller) (Ended (cause.StartFailed why))
-apply_is_late s now caller (Finished serial end) other = report_is_late s now serial (is_run_by caller) (Ended (end_cause end))
+apply_is_late s now caller (Started serial) other = report_is_late s now serial (is_handed_to caller) (λ j. Running caller)
+apply_is_late s now caller (StartFailed serial why) other = report_is_late s now serial (is_handed_to caller) (λ j. Ended (cause.StartFailed why))
+apply_is_late s now caller (Finished serial end) other = report_is_late s now serial (is_run_by caller) (λ j. Ended (end_cause end j.wish))
 apply_is_late s now caller (UseDone serial) other = use_is_late s now caller serial
 apply_is_late s now caller Tick other = record { says = refl; leaves = refl }
 

@@ -1,17 +1,18 @@
--- The jobs of a sound state without active ones may be those of a store.
-use Rattle.std.proofs.Common.{◌≡◌, ℕ, ◌<◌, true, false, List, [], ◌∷◌, map, is_some, refl, inl, inr, arith, All}
+-- The jobs of a sound state without active ones may be those of a store, and nothing in such a state is due.
+use Rattle.std.proofs.Common.{◌≡◌, ℕ, ◌<◌, true, false, List, [], ◌∷◌, map, is_some, refl, sym, subst, ◌∙◌, inl, inr, arith, All}
 use Rattle.std.specs.declared.cmp.Ordering.TheVariants.{Less}
 use Rattle.std.specs.Ordering.{nat_cmp}
 use Rattle.std.proofs.lemmas.Bool.Decides.{nat_tests}
-use Rattle.std.proofs.lemmas.List.Elements.{All-nil, All-cons}
+use Rattle.std.proofs.lemmas.List.Elements.{All-nil, All-cons, All-head, All-tail}
 use Rattle.std.proofs.lemmas.List.Kept.{AllPairs-cons}
 use Rattle.wm_desc.specs.Sorted.{IsSortedOnce}
 use Rattle.wm_law.specs.declared.job.Job.{Job}
+use Rattle.wm_law.specs.declared.state.Sbs.{Sbs}
 use Rattle.wm_law.specs.declared.state.State.{State}
 use Rattle.wm_law.specs.Counts.{is_waiting, is_active}
 use Rattle.wm_law.specs.Kept.{IsBelow}
 use Rattle.wm_law.specs.Laws.{IsIn}
-use Rattle.wm_law.specs.Sound.{IsIncreasing, IsSound}
+use Rattle.wm_law.specs.Sound.{HasNoneDue, IsIncreasing, IsSound}
 use Rattle.wm_law.proofs.Members.{in_mapped}
 use Rattle.wm_jobs.specs.Stored.{AreStored}
 use Rattle.wm_jobs.specs.Table.{serial_of}
@@ -48,3 +49,22 @@ sound-stored s h inactive =
       inactive = inactive;
       places = h.numbered.waiting;
     }
+
+of_each : (P : Job → Type 0) (jobs : List Job) (j : Job) → All P jobs → IsIn j jobs → P j
+of_each P [] j all i = absurd i
+of_each P (k ∷ ks) j all (inl same) = subst P (sym same) (All-head P k ks all)
+of_each P (k ∷ ks) j all (inr i) = of_each P ks j (All-tail P k ks all) i
+
+none_there : (bs : List Sbs) (b : Sbs) → bs ≡ [] → IsIn b bs → ⊥
+none_there bs b e i = subst (λ (cs : List Sbs). IsIn b cs) e i
+
+inactive_both : (j : Job) → is_active j.phase ≡ true → is_active j.phase ≡ false → ⊥
+inactive_both j a n =
+    let no : true ≡ false = sym a ∙ n in
+    absurd (cc)
+
+pub stored_none_due : (s : State) → s.started ≡ [] → All (λ (j : Job). is_active j.phase ≡ false) s.jobs → HasNoneDue s
+stored_none_due s none inactive = record {
+  subsystems = λ b i. absurd (none_there s.started b none i);
+  jobs = λ j i a. absurd (inactive_both j a (of_each (λ (k : Job). is_active k.phase ≡ false) s.jobs j inactive i));
+}

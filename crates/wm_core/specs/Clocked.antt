@@ -3,7 +3,7 @@ use Rattle.std.specs.Prelude.{◌≡◌, ℕ, Bool, true, false}
 use Rattle.wm_law.specs.declared.call.Call.{Call}
 use Rattle.wm_law.specs.declared.call.Call.TheVariants.{Change, Hand, Started, StartFailed, Finished, UseDone, Tick}
 use Rattle.wm_law.specs.declared.command.Command.{Command}
-use Rattle.wm_law.specs.declared.command.Command.TheVariants.{Chgjob, Sbmjob, Strsbs}
+use Rattle.wm_law.specs.declared.command.Command.TheVariants.{Chgjob, Endjob, Endsbs, Pwrdwnsys, Sbmjob, Strsbs}
 use Rattle.wm_law.specs.declared.call.Reply.{Reply}
 use Rattle.wm_law.specs.declared.state.State.{State}
 use Rattle.wm_law.specs.Machine.{with_clock}
@@ -18,11 +18,14 @@ pub record IsStill (now : ℕ) (reply : Reply) (state : State) (whole : Stepped)
 abbrev pub IsLate : ℕ → Stepped → Stepped → Type 0
 IsLate now late whole = IsStill now late.reply late.state whole
 
--- SBMJOB, STRSBS and CHGJOB, which look at the clock: by it jobs become due
+-- the commands that look at the clock: by it jobs become due, and jobs and subsystems end
 abbrev pub looks_at_clock : Command → Bool
 looks_at_clock (Sbmjob c) = true
 looks_at_clock (Strsbs c) = true
 looks_at_clock (Chgjob c) = true
+looks_at_clock (Endjob c) = true
+looks_at_clock (Endsbs c) = true
+looks_at_clock (Pwrdwnsys c) = true
 looks_at_clock c = false
 
 -- whether a call is one of these commands

@@ -1,7 +1,10 @@
 pub mod Clocked
 pub mod Drafts
+pub mod Due
 pub mod LastStep
 pub mod Leaving
 pub mod MachineInside
 pub mod Marks
 pub mod Stored
+pub mod Telling
+pub mod Walks

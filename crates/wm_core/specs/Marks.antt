@@ -66,7 +66,7 @@ saved_of objects held Tick = Nothing
 abbrev pub marks_at : State → Call → Marks
 marks_at s call =
     record {
-      mark = record { saved = saved_of s.objects s.held call; started = s.started; next_number = s.next_number; power = s.power; undoable = true };
+      mark = record { saved = saved_of s.objects s.held call; started = s.started; stopped = s.stopped; evokes = s.evokes; next_number = s.next_number; power = s.power; undoable = true };
       jobs = record { jobs = s.jobs; clock = s.clock; next_serial = s.next_serial; next_place = s.next_place };
     }
 
@@ -101,6 +101,8 @@ before m s =
       jobs = m.jobs.jobs;
       started = m.mark.started;
       held = old_held m.mark.saved s.held;
+      stopped = m.mark.stopped;
+      evokes = m.mark.evokes;
       next_number = m.mark.next_number;
       next_serial = m.jobs.next_serial;
       next_place = m.jobs.next_place;

@@ -5,23 +5,31 @@
 //! with, `Core::stored` the state that a machine has from a store, and `Core::step` answers what the definition `step`
 //! gives and leaves the state that it gives; after want of memory the state is as before. `Core::take_back` undoes the last
 //! step without memory. The state is sound, so over a step no start passes a limit, and the jobs are launched in their
-//! order. `Core::pending` tells what waits for a monitor. `built` says which commands users have. `Machine` takes the same
-//! steps over any state, sound or not, which whoever has it may set.
+//! order. Nothing in it is due to end, so a step that tells nothing to end looks at the active jobs only where a moment has
+//! come. `Core::pending` tells what waits for a monitor. `built` says which commands users have. `Machine` is what lies in a
+//! `Core`, for those that look at it.
 //! The definitions are in `specs/`: `LastStep` has what a contract sees of a `Core`, `MachineInside` what it sees of a
-//! `Machine`, `Marks` what is kept of the state before a step, `Stored` the state of a store, `Clocked`, `Drafts` and
+//! `Machine`, `Marks` what is kept of the state before a step, `Stored` the state of a store, `Due` in which steps something
+//! can come due, `Telling` what active jobs are told, `Walks` how they are told one after another, `Clocked`, `Drafts` and
 //! `Leaving` what the steps inside come to.
 #![tactic(auto)]
 
 mod autos;
 mod changing;
+mod coming_due;
 mod draft;
+mod ending_jobs;
+mod ending_subsystems;
 mod holding;
+mod leaving;
 mod machine;
 mod making;
 mod mark;
+mod moments;
 mod not_built;
 mod opening;
 mod pending;
+mod phases;
 mod power;
 mod queues;
 mod reports;
@@ -32,6 +40,10 @@ mod stored;
 mod submitting;
 mod subsystems;
 mod taking_back;
+mod telling;
+mod those;
+mod walk;
+mod wishes;
 
 pub use machine::Machine;
 pub use not_built::{NotBuilt, built};

@@ -1,4 +1,4 @@
-// A step of the machine: the call is applied, the clock is set, and the state settles.
+// A step of the machine: the call is applied, the clock is set, what is due ends, and the state settles.
 use crate::mark::Mark;
 use std::alloc::Global;
 use std::marker::Model;
@@ -42,6 +42,7 @@ impl Machine {
     ghost use Rattle.wm_law.specs.Fit.{HasCall, IsCall, IsCommand};
     ghost use Rattle.wm_pick.specs.Parts.{parts_of};
     ghost use Rattle.wm_law.specs.Machine.{change, apply, step, with_clock};
+    ghost use Rattle.wm_law.specs.Sound.{HasNoneDue, IsSound};
     ghost use Rattle.wm_core.specs.Clocked.{IsStill, looks_at_clock, is_timed};
     ghost use Rattle.wm_core.specs.Marks.{marks_at};
 
@@ -105,13 +106,17 @@ impl Machine {
             Command::Rmvjobqe(command) => Ok(self.remove_queue(command)),
             Command::Rmvrtge(command) => Ok(self.remove_route(command)),
             Command::Rmvaje(command) => Ok(self.remove_auto(command)),
-            Command::Strsbs(_) | Command::Sbmjob(_) | Command::Chgjob(_) => unreachable!(),
+            Command::Strsbs(_)
+            | Command::Endsbs(_)
+            | Command::Sbmjob(_)
+            | Command::Chgjob(_)
+            | Command::Endjob(_)
+            | Command::Pwrdwnsys(_) => unreachable!(),
             Command::Hldjob(command) => self.hold_job(&command.job),
             Command::Rlsjob(command) => self.release_job(&command.job),
             Command::Hldjobq(command) => self.hold_queue(&command.jobq),
             Command::Rlsjobq(command) => Ok(self.release_queue(&command.jobq)),
             Command::Clrjobq(command) => Ok(self.clear_queue(&command.jobq)),
-            Command::Pwrdwnsys(_) => Ok(self.power_down()),
             _ => Ok(Reply::Nothing),
         }
     }
@@ -120,6 +125,7 @@ impl Machine {
     fn apply_timeless(&mut self, alloc: Global, caller: u32, call: &Call) -> Result<Reply, NoMemory>
         requires ranges { IsCall call.now }
         requires other { is_timed call.now ≡ false }
+        requires sound { IsSound self.old.state }
         ensures reply { IfOk result (λ r. r ≡ (apply self.old.state caller call.now).reply) }
         ensures state { OnOk result (self.new.state ≡ (apply self.old.state caller call.now).state) }
         ensures marks { OnOk result (self.new.marks ≡ self.old.marks) }
@@ -146,6 +152,7 @@ impl Machine {
     ) -> Result<Reply, NoMemory>
         requires ranges { IsCall call.now }
         requires other { is_timed call.now ≡ false }
+        requires sound { IsSound self.old.state }
         ensures ok { IfOk result (λ r. IsStill now r self.new.state (apply (with_clock self.old.state now) caller call.now)) }
         ensures marks { OnOk result (self.new.marks ≡ self.old.marks) }
         ensures err { OnErr result (self.new ≡ self.old) }
@@ -161,7 +168,8 @@ impl Machine {
         call: &Call,
         now: Moment,
     ) -> Result<Reply, NoMemory>
-        requires { IsCall call.now }
+        requires ranges { IsCall call.now }
+        requires sound { IsSound self.old.state }
         ensures ok { IfOk result (λ r. IsStill now r self.new.state (apply (with_clock self.old.state now) caller call.now)) }
         ensures marks { OnOk result (self.new.marks ≡ self.old.marks) }
         ensures err { OnErr result (self.new ≡ self.old) }
@@ -171,15 +179,19 @@ impl Machine {
                 Command::Sbmjob(command) => self.submit(alloc, user, command, now),
                 Command::Strsbs(command) => self.start_subsystem(alloc, &command.sbsd, now),
                 Command::Chgjob(command) => self.change_job(command, now),
+                Command::Endsbs(command) => self.end_subsystem(command, now),
+                Command::Endjob(command) => self.end_job(command, now),
+                Command::Pwrdwnsys(command) => self.power_down(command, now),
                 _ => self.apply_other(alloc, caller, call, now),
             },
             _ => self.apply_other(alloc, caller, call, now),
         }
     }
 
-    /// One step, which can be taken back. An `Err` is want of memory and leaves the state.
+    /// One step from a sound state in which nothing is due. It can be taken back. An `Err` is want of memory and leaves the
+    /// state.
     #[tactic(auto, unfolding(wm_law::specs::Machine::step))]
-    pub fn step(
+    pub(crate) fn step(
         &mut self,
         alloc: Global,
         caller: u32,
@@ -188,6 +200,8 @@ impl Machine {
     ) -> Result<Reply, NoMemory>
         requires ranges { IsCall call.now }
         requires built { HasCall self.old.state call.now }
+        requires sound { IsSound self.old.state }
+        requires none_due { HasNoneDue self.old.state }
         ensures reply { IfOk result (λ r. r ≡ (step self.old.state caller call.now now).reply) }
         ensures state { OnOk result (self.new.state ≡ (step self.old.state caller call.now now).state) }
         ensures marks { OnOk result (self.new.marks ≡ marks_at self.old.state call.now) }
@@ -196,6 +210,7 @@ impl Machine {
     {
         self.mark.undoable = false;
         self.begin(alloc, call)?;
+        let may_come_due = self.may_come_due(call, now);
         let reply = match self.apply(alloc, caller, call, now) {
             Ok(reply) => reply,
             Err(fault) => {
@@ -204,6 +219,10 @@ impl Machine {
             }
         };
         self.set_clock(now);
+        if let Err(fault) = self.come_due(may_come_due) {
+            self.take_back();
+            return Err(fault);
+        }
         self.settle();
         Ok(reply)
     }

@@ -2,7 +2,7 @@
 use std::alloc::Global;
 use wm_base::{Kind, QName};
 use wm_desc::Sbsd;
-use wm_law::{ListOf, Power, QNames, SbsList};
+use wm_law::{Evokes, ListOf, Power, QNames, SbsList, Stops};
 
 /// What a call may change of the objects and the held queues, as it was before: nothing, an object that wasn't there, the
 /// description of a subsystem, or the held queues.
@@ -19,6 +19,8 @@ pub enum Saved {
 pub struct Mark {
     pub(crate) saved: Saved,
     pub(crate) started: SbsList,
+    pub(crate) stopped: Stops,
+    pub(crate) evokes: Evokes,
     pub(crate) next_number: u32,
     pub(crate) power: Power,
     pub(crate) undoable: bool,
@@ -34,6 +36,8 @@ impl Mark {
         Mark {
             saved: Saved::Nothing,
             started: ListOf::new(alloc),
+            stopped: ListOf::new(alloc),
+            evokes: ListOf::new(alloc),
             next_number: 0,
             power: Power::On,
             undoable: false,

@@ -24,20 +24,22 @@ fn is_built(command: &Command) -> bool
         Command::Rmvrtge(_) => true,
         Command::Rmvaje(_) => true,
         Command::Strsbs(_) => true,
+        Command::Endsbs(_) => true,
         Command::Sbmjob(_) => true,
         Command::Hldjob(_) => true,
         Command::Rlsjob(_) => true,
         Command::Chgjob(_) => true,
+        Command::Endjob(_) => true,
         Command::Hldjobq(_) => true,
         Command::Rlsjobq(_) => true,
         Command::Clrjobq(_) => true,
+        Command::Pwrdwnsys(_) => true,
         _ => false,
     }
 }
 
-/// Whether a command of a user is built: the commands that make objects, those on queue, routing and autostart entries,
-/// STRSBS, SBMJOB, and those on jobs that wait and on queues. `Err` comes exactly where it isn't. The machine has more than
-/// these: the end of power.
+/// Whether a command of a user is built: the commands that make objects, those on queue, routing and autostart entries, on
+/// subsystems, on jobs and on queues, and PWRDWNSYS. `Err` comes exactly where it isn't.
 pub fn built(command: &Command) -> Result<(), NotBuilt>
     ensures { IsOk result ↔ IsTrue (is_built command.now) }
 {

@@ -1,5 +1,6 @@
 // What a monitor asks of the state.
 use crate::Machine;
+use crate::moments::soonest;
 use wm_law::Pending;
 
 impl Machine {
@@ -7,13 +8,15 @@ impl Machine {
     ghost use Rattle.wm_law.specs.Pending.{pending};
 
     /// What waits for a monitor. It takes no memory.
-    pub fn pending(&self) -> Pending
-        ensures { result ≡ pending self.now.state }
+    pub fn pending(&self, monitor: u32) -> Pending
+        ensures { result ≡ pending self.now.state monitor }
     {
+        let active = self.table.active();
+        let wishes = soonest(self.table.next_due(), self.table.next_wish());
         Pending {
-            orders: self.table.orders(),
-            next: self.table.next_due(),
-            active: self.table.active(),
+            orders: self.table.kills(monitor) + self.table.orders(),
+            next: soonest(wishes, self.next_ending()),
+            active,
             busy: self.table.busy(),
             power: self.power,
         }

@@ -1,11 +1,12 @@
 // What monitors call: the next order, and their reports.
 ghost use Rattle.std.specs.Prelude.{◌≡◌};
-ghost use Rattle.wm_law.specs.Reports.{phase_word, is_handed_to, is_run_by, end_cause};
+ghost use Rattle.wm_law.specs.Reports.{phase_word, is_handed_to, is_run_by, exit_cause, end_cause};
 
 use crate::Machine;
+use crate::wishes::{handed_wish, now_cause};
 use std::alloc::Global;
 use wm_base::{Asked, EndCause, Exit, NoMemory, PhaseWord, Refusal, Serial, StartCause};
-use wm_law::{Boxed, Call, Phase, Reply};
+use wm_law::{Boxed, Call, Phase, Reply, Wish};
 
 /// What a job's phase is called in a refusal.
 pub(crate) fn phase_word(phase: &Phase) -> PhaseWord
@@ -37,9 +38,9 @@ fn is_run_by(monitor: u32, phase: &Phase) -> bool
     }
 }
 
-/// The cause of an end that nobody wished.
-fn end_cause(exit: &Exit) -> EndCause
-    ensures { result ≡ end_cause exit.now }
+// The cause of an end that nobody wished.
+fn exit_cause(exit: &Exit) -> EndCause
+    ensures { result ≡ exit_cause exit.now }
 {
     match exit {
         Exit::Code(0) => EndCause::Completed,
@@ -48,16 +49,47 @@ fn end_cause(exit: &Exit) -> EndCause
     }
 }
 
+// The cause of an end: that of a wish to end now, else that of the exit.
+fn end_cause(exit: &Exit, wish: &Wish) -> EndCause
+    ensures { result ≡ end_cause exit.now wish.now }
+{
+    match now_cause(wish) {
+        Some(cause) => cause,
+        None => exit_cause(exit),
+    }
+}
+
 impl Machine {
     ghost use Rattle.std.specs.Prelude.{◌≡◌, false, OnOk, OnErr, IfOk};
     ghost use Rattle.wm_law.specs.Counts.{is_starting, is_waiting};
-    ghost use Rattle.wm_law.specs.Reports.{hand, report, use_done, is_handed_to};
+    ghost use Rattle.wm_law.specs.Reports.{hand, hand_start, report, use_done, is_handed_to};
+    ghost use Rattle.wm_law.specs.Sound.{IsSound};
     ghost use Rattle.wm_law.specs.Machine.{apply};
 
-    /// Hand: the Starting job of least serial is handed to the monitor. An `Err` leaves the state.
+    /// Hand: the kill of least serial is handed to the monitor; where there is none, the start of least serial. An `Err`
+    /// leaves the state.
     pub(crate) fn hand(&mut self, alloc: Global, monitor: u32) -> Result<Reply, NoMemory>
+        requires { IsSound self.old.state }
         ensures reply { IfOk result (λ r. r ≡ (hand self.old.state monitor).reply) }
         ensures state { OnOk result (self.new.state ≡ (hand self.old.state monitor).state) }
+        ensures marks { OnOk result (self.new.marks ≡ self.old.marks) }
+        ensures err { OnErr result (self.new ≡ self.old) }
+    {
+        let Some(job) = self.table.first_kill(monitor) else {
+            return self.hand_start(alloc, monitor);
+        };
+        let serial = job.serial;
+        let wish = handed_wish(&job.wish);
+        let asked = Boxed::new(alloc, Asked::Kill(serial))?;
+        self.table.reserve(0)?;
+        self.table.set_wish(serial, wish);
+        Ok(Reply::Order(asked))
+    }
+
+    // The Starting job of least serial is handed to the monitor.
+    fn hand_start(&mut self, alloc: Global, monitor: u32) -> Result<Reply, NoMemory>
+        ensures reply { IfOk result (λ r. r ≡ (hand_start self.old.state monitor).reply) }
+        ensures state { OnOk result (self.new.state ≡ (hand_start self.old.state monitor).state) }
         ensures marks { OnOk result (self.new.marks ≡ self.old.marks) }
         ensures err { OnErr result (self.new ≡ self.old) }
     {
@@ -83,8 +115,8 @@ impl Machine {
     ) -> Result<Reply, NoMemory>
         requires waits { is_waiting phase ≡ false }
         requires starts { is_starting phase ≡ false }
-        ensures reply { IfOk result (λ r. r ≡ (report self.old.state serial (is_handed_to monitor) phase).reply) }
-        ensures state { OnOk result (self.new.state ≡ (report self.old.state serial (is_handed_to monitor) phase).state) }
+        ensures reply { IfOk result (λ r. r ≡ (report self.old.state serial (is_handed_to monitor) (λ _. phase)).reply) }
+        ensures state { OnOk result (self.new.state ≡ (report self.old.state serial (is_handed_to monitor) (λ _. phase)).state) }
         ensures marks { OnOk result (self.new.marks ≡ self.old.marks) }
         ensures err { OnErr result (self.new ≡ self.old) }
     {
@@ -142,8 +174,9 @@ impl Machine {
         if !is_run_by(monitor, &job.phase) {
             return Ok(Reply::No(Refusal::WrongPhase(phase_word(&job.phase))));
         }
+        let cause = end_cause(exit, &job.wish);
         self.table.reserve(0)?;
-        self.table.set_phase(serial, Phase::Ended(end_cause(exit)));
+        self.table.set_phase(serial, Phase::Ended(cause));
         Ok(Reply::Noted)
     }
 

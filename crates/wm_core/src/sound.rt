@@ -14,10 +14,10 @@ use std::marker::Model;
 use wm_base::{Moment, NoMemory};
 use wm_desc::Objects;
 use wm_jobs::JobTable;
-use wm_law::{Call, Pending, QNames, Reply, SbsList};
+use wm_law::{Call, Pending, Power, QNames, Reply, SbsList};
 
-/// A machine whose state is sound: it was opened, or came from a store, and then changed by steps alone, of which the last
-/// may be taken back. A contract sees the state, the one before the last step, and whether that step can be taken back.
+/// A machine whose state is sound, with nothing in it that is due to end: it was opened, or came from a store, and then
+/// changed by steps alone, of which the last may be taken back. A contract sees the state, the one before the last step, and whether that step can be taken back.
 #[derive(Drop)]
 pub struct Core {
     pub(crate) machine: Machine,
@@ -78,10 +78,10 @@ impl Core {
     }
 
     /// What waits for a monitor. It takes no memory.
-    pub fn pending(&self) -> Pending
-        ensures { result ≡ pending self.now.state }
+    pub fn pending(&self, monitor: u32) -> Pending
+        ensures { result ≡ pending self.now.state monitor }
     {
-        self.machine.pending()
+        self.machine.pending(monitor)
     }
 
     /// The objects.
@@ -121,5 +121,19 @@ impl Core {
         ensures { result ≡ self.now.state.next_number }
     {
         self.machine.next_number
+    }
+
+    /// Whether the system takes work.
+    pub fn power(&self) -> Power
+        ensures { result ≡ self.now.state.power }
+    {
+        self.machine.power
+    }
+
+    /// The machine, whose state this is.
+    pub fn machine(&self) -> &Machine
+        ensures { result.now.state ≡ self.now.state }
+    {
+        &self.machine
     }
 }

@@ -160,11 +160,15 @@ impl Machine {
     {
         let saved = saved_of(alloc, &self.objects, &self.held, call)?;
         let started = ListOf::from(self.started.as_slice().to_vec(alloc)?);
+        let stopped = ListOf::from(self.stopped.as_slice().to_vec(alloc)?);
+        let evokes = ListOf::from(self.evokes.as_slice().to_vec(alloc)?);
         self.table.reserve(0)?;
         self.table.mark();
         self.mark = Mark {
             saved,
             started,
+            stopped,
+            evokes,
             next_number: self.next_number,
             power: self.power,
             undoable: true,
@@ -182,6 +186,8 @@ impl Machine {
         let saved = replace(&mut self.mark.saved, Saved::Nothing);
         put_back(alloc, &mut self.objects, &mut self.held, saved);
         swap(&mut self.started, &mut self.mark.started);
+        swap(&mut self.stopped, &mut self.mark.stopped);
+        swap(&mut self.evokes, &mut self.mark.evokes);
         self.next_number = self.mark.next_number;
         self.power = self.mark.power;
         self.mark.undoable = false;

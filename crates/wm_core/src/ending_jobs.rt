@@ -1,0 +1,42 @@
+// ENDJOB: a job ends on its queue, or is to end.
+use crate::Machine;
+use crate::submitting::later;
+use wm_base::{EndCause, Moment, NoMemory};
+use wm_ending::{Ending, end_job};
+use wm_law::{Endjob, Reply};
+
+impl Machine {
+    ghost use Rattle.std.specs.Prelude.{◌≡◌, OnOk, OnErr, IfOk};
+    ghost use Rattle.wm_law.specs.Endings.{end_job};
+    ghost use Rattle.wm_law.specs.Machine.{with_clock};
+    ghost use Rattle.wm_core.specs.Clocked.{IsStill};
+
+    /// ENDJOB. The clock is set behind it. An `Err` is want of memory and leaves the state.
+    pub(crate) fn end_job(&mut self, command: &Endjob, now: Moment) -> Result<Reply, NoMemory>
+        ensures ok { IfOk result (λ r. IsStill now r self.new.state (end_job (with_clock self.old.state now) command.now)) }
+        ensures marks { OnOk result (self.new.marks ≡ self.old.marks) }
+        ensures err { OnErr result (self.new ≡ self.old) }
+    {
+        let job = match self.table.named(&command.job) {
+            Ok(job) => job,
+            Err(refusal) => return Ok(Reply::No(refusal)),
+        };
+        let ending = match end_job(job, command, later(self.table.clock(), now)) {
+            Ok(ending) => ending,
+            Err(refusal) => return Ok(Reply::No(refusal)),
+        };
+        let serial = job.serial;
+        let name = job.job;
+        self.table.reserve(0)?;
+        match ending {
+            Ending::OnQueue => {
+                self.table.end_waiting(serial, EndCause::EndedOnQueue);
+                Ok(Reply::JobEnded(name))
+            }
+            Ending::Wished(wish) => {
+                self.table.set_wish(serial, wish);
+                Ok(Reply::JobEnding(name))
+            }
+        }
+    }
+}
