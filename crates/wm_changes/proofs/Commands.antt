@@ -28,14 +28,15 @@ use Rattle.wm_law.specs.Autos.{auto_described, autos_of, make_auto}
 use Rattle.wm_law.specs.Changing.{change_due, change_found, has_queue as has_its_queue, stays}
 use Rattle.wm_law.specs.Choice.{entry_for, is_held}
 use Rattle.wm_law.specs.Counts.{is_starting}
+use Rattle.wm_law.specs.Endings.{end_active, end_found, end_in_phase, end_started, is_down, is_ended, is_wished, started_named}
 use Rattle.wm_law.specs.Holding.{hold_found, release_found}
 use Rattle.wm_law.specs.Launch.{order_of}
 use Rattle.wm_law.specs.Machine.{apply, change}
 use Rattle.wm_law.specs.Making.{auto_entry_of, class_of, jobd_of, made_unless, queue_entry_of, route_entry_of, unless_in_use}
-use Rattle.wm_law.specs.Named.{waiting_named}
-use Rattle.wm_law.specs.Power.{is_down_now, is_on}
+use Rattle.wm_law.specs.Named.{job_named, waiting_named}
+use Rattle.wm_law.specs.Power.{is_on}
 use Rattle.wm_law.specs.Queues.{hold_queue, own_name, release_queue, with_held_queue, without_held_queue}
-use Rattle.wm_law.specs.Reports.{done_with, hand_job, hand_order, is_handed_to, is_run_by, report_on}
+use Rattle.wm_law.specs.Reports.{done_with, hand_job, hand_order, is_handed_to, is_run_by, is_to_kill, report_on, start_job}
 use Rattle.wm_law.specs.Schedules.{rescheduled, scheduled}
 use Rattle.wm_law.specs.Sound.{IsSound}
 use Rattle.wm_law.specs.Stepped.{Stepped, refused}
@@ -46,9 +47,13 @@ use Rattle.wm_law.specs.declared.call.Call.TheVariants.{Change, Hand, Started, S
 use Rattle.wm_law.specs.declared.command.Chgjob.{Chgjob}
 use Rattle.wm_law.specs.declared.command.Command.{Command}
 use Rattle.wm_law.specs.declared.command.Command.TheVariants as command
+use Rattle.wm_law.specs.declared.command.Endjob.{Endjob}
+use Rattle.wm_law.specs.declared.command.Endsbs.{Endsbs}
 use Rattle.wm_law.specs.declared.command.Sbmjob.{Sbmjob}
 use Rattle.wm_law.specs.declared.job.Job.{Job}
 use Rattle.wm_law.specs.declared.job.Phase.{Phase}
+use Rattle.wm_law.specs.declared.job.Phase.TheVariants.{Waiting, Starting, Handed, Running, Ended}
+use Rattle.wm_law.specs.declared.state.Sbs.{Sbs}
 use Rattle.wm_law.specs.declared.state.State.{State}
 use Rattle.wm_law.proofs.Tests.{of_not}
 use Rattle.wm_rows.specs.Rows.{class_row, program_row, queue_row, jobd_row, sbsd_row, queue_entry_row, route_entry_row, auto_entry_row, pre_entry_row, held_row}
@@ -208,11 +213,33 @@ module _ (s : State) where
   order_stays m j None = itself
   order_stays m j (Some o) = record { objects = refl; held = refl }
 
-  hand_stays : (m : ℕ) (o : Option Job) → Stays (hand_job s m o)
-  hand_stays m None = itself
-  hand_stays m (Some j) = order_stays m j (order_of s j)
+  job_stays : (m : ℕ) (o : Option Job) → Stays (start_job s m o)
+  job_stays m None = itself
+  job_stays m (Some j) = order_stays m j (order_of s j)
 
-  report_stays : (serial : ℕ) (test : Phase → Bool) (phase : Phase) (o : Option Job) → Stays (report_on s serial test phase o)
+  hand_stays : (m : ℕ) (o : Option Job) → Stays (hand_job s m o)
+  hand_stays m None = job_stays m (find (λ (j : Job). is_starting j.phase) s.jobs)
+  hand_stays m (Some j) = record { objects = refl; held = refl }
+
+  active_stays : (c : Endjob) (j : Job) → Stays (end_active s c j)
+  active_stays c j = either Stays (is_wished c.option j.wish) _ _ (λ e. itself) (λ e. record { objects = refl; held = refl })
+
+  phase_stays : (c : Endjob) (j : Job) (p : Phase) → Stays (end_in_phase s c j p)
+  phase_stays c j Waiting = record { objects = refl; held = refl }
+  phase_stays c j Starting = active_stays c j
+  phase_stays c j (Handed m) = active_stays c j
+  phase_stays c j (Running m) = active_stays c j
+  phase_stays c j (Ended end) = itself
+
+  end_stays : (c : Endjob) (r : Result Job Refusal) → Stays (end_found s c r)
+  end_stays c (Err x) = itself
+  end_stays c (Ok j) = phase_stays c j j.phase
+
+  sbs_stays : (c : Endsbs) (o : Option Sbs) → Stays (end_started s c o)
+  sbs_stays c None = itself
+  sbs_stays c (Some b) = either Stays (is_ended c.option b.phase) _ _ (λ e. itself) (λ e. record { objects = refl; held = refl })
+
+  report_stays : (serial : ℕ) (test : Phase → Bool) (phase : Job → Phase) (o : Option Job) → Stays (report_on s serial test phase o)
   report_stays serial test phase None = itself
   report_stays serial test phase (Some j) = either Stays (test j.phase) _ _ (λ e. record { objects = refl; held = refl }) (λ e. itself)
 
@@ -330,20 +357,22 @@ module _ (s : State) where
     command_answers user (command.Rmvaje c) =
         made_answers (with_description c.sbsd (without_auto c.job) s.objects) (unless_in_use s c.sbsd (remove_auto_refusal s.objects c.sbsd c.job)) _ (λ n now. auto_out c.sbsd c.job n)
     command_answers user (command.Strsbs c) = leaves_answers (start_unless s c.sbsd (start_refusal s c.sbsd)) (start_stays c.sbsd (start_refusal s c.sbsd))
+    command_answers user (command.Endsbs c) = leaves_answers (end_started s c (started_named s c.sbs)) (sbs_stays c (started_named s c.sbs))
     command_answers user (command.Sbmjob c) = leaves_answers (change s user (command.Sbmjob c)) (either Stays (is_on s.power) _ _ (λ e. submit_stays user c (object_named c.jobd s.objects.jobds)) (λ e. itself))
     command_answers user (command.Hldjob c) = leaves_answers (hold_found s (waiting_named s c.job)) (hold_stays (waiting_named s c.job))
     command_answers user (command.Rlsjob c) = leaves_answers (release_found s (waiting_named s c.job)) (release_stays (waiting_named s c.job))
     command_answers user (command.Chgjob c) = leaves_answers (change_found s c (waiting_named s c.job)) (change_stays c (waiting_named s c.job))
+    command_answers user (command.Endjob c) = leaves_answers (end_found s c (job_named s c.job)) (end_stays c (job_named s c.job))
     command_answers user (command.Hldjobq c) = hold_answers c.jobq
     command_answers user (command.Rlsjobq c) = release_answers c.jobq
     command_answers user (command.Clrjobq c) = leaves_answers (change s user (command.Clrjobq c)) (either Stays (is_some (object_named c.jobq s.objects.jobqs)) _ _ (λ e. record { objects = refl; held = refl }) (λ e. itself))
-    command_answers user (command.Pwrdwnsys c) = leaves_answers (change s user (command.Pwrdwnsys c)) (either Stays (is_down_now s.power) _ _ (λ e. itself) (λ e. record { objects = refl; held = refl }))
+    command_answers user (command.Pwrdwnsys c) = leaves_answers (change s user (command.Pwrdwnsys c)) (either Stays (is_down c.option s.power) _ _ (λ e. itself) (λ e. record { objects = refl; held = refl }))
     command_answers user c = λ now. none_differ s itself
 
     -- and each call
     pub call_differs : (caller : ℕ) (call : Call) → HasOwn (apply s caller call).state → Differs (own_part s) (own_part (apply s caller call).state) (option_to_list (call_change (removed_number s.objects call) call (apply s caller call).reply))
     call_differs caller (Change user c) now = command_answers user c now
-    call_differs caller Hand now = none_differ (apply s caller Hand).state (hand_stays caller (find (λ (j : Job). is_starting j.phase) s.jobs))
+    call_differs caller Hand now = none_differ (apply s caller Hand).state (hand_stays caller (find (is_to_kill caller) s.jobs))
     call_differs caller (Started serial) now = none_differ (apply s caller (Started serial)).state (report_stays serial (is_handed_to caller) _ (find (λ (j : Job). j.serial == serial) s.jobs))
     call_differs caller (StartFailed serial why) now = none_differ (apply s caller (StartFailed serial why)).state (report_stays serial (is_handed_to caller) _ (find (λ (j : Job). j.serial == serial) s.jobs))
     call_differs caller (Finished serial end) now = none_differ (apply s caller (Finished serial end)).state (report_stays serial (is_run_by caller) _ (find (λ (j : Job). j.serial == serial) s.jobs))

@@ -11,7 +11,7 @@ use Rattle.wm_law.specs.Launch.{launch, launch_job}
 use Rattle.wm_law.specs.Kept.{GoesOn}
 use Rattle.wm_law.specs.Laws.{IsIn}
 use Rattle.wm_law.specs.Machine.{apply, step, with_clock}
-use Rattle.wm_law.specs.Settling.{leave, settle, waiting}
+use Rattle.wm_law.specs.Settling.{come_due, leave, settle, waiting}
 use Rattle.wm_law.specs.Sound.{IsSound}
 use Rattle.wm_law.specs.declared.choice.Candidate.{Candidate}
 use Rattle.wm_law.specs.declared.job.Job.{Job}
@@ -50,7 +50,11 @@ launches_keep_held held = record { by_step = λ t c e h. held_by t c (find (λ (
 
 -- settling holds no queue and releases none
 settled_held : (t : State) → (settle t).held ≡ t.held
-settled_held t = iterate-keeps (λ (u : State). u.held ≡ t.held) (launches_keep_held t.held) (waiting (leave t)) (leave t) refl
+settled_held t = iterate-keeps (λ (u : State). u.held ≡ t.held) (launches_keep_held t.held) (waiting (leave (come_due t))) (leave (come_due t)) refl
+
+-- and it makes no object
+settled_made : (t : State) → (settle t).objects ≡ t.objects
+settled_made t = settled_objects (come_due t)
 
 -- What is known of a state
 
@@ -166,6 +170,8 @@ clock_sound s moment h = record {
   queues = h.queues;
   held = h.held;
   within_started = h.within_started;
+  wishes = h.wishes;
+  moments = h.moments;
 }
 
 same_part : (u t : State) → t.objects ≡ u.objects → t.held ≡ u.held → own_part t ≡ own_part u
@@ -178,7 +184,7 @@ own_before u t e f own = record {
 }
 
 settled_differ : (s u : State) (cs : List RowChange) → Differs (own_part s) (own_part u) cs → Differs (own_part s) (own_part (settle u)) cs
-settled_differ s u cs d = subst (λ (rows : List Row). Differs (own_part s) rows cs) (sym (same_part u (settle u) (settled_objects u) (settled_held u))) d
+settled_differ s u cs d = subst (λ (rows : List Row). Differs (own_part s) rows cs) (sym (same_part u (settle u) (settled_made u) (settled_held u))) d
 
 -- each job stands there still, by its serial
 successor : (s t : State) → GoesOn s t → (j : Job) → IsIn j s.jobs → (k : Job) × IsIn k t.jobs × (k.serial ≡ j.serial)
@@ -192,7 +198,7 @@ step_changes_are_difference s caller call moment changes sound range fit late e 
     let after : IsSound t = step_keeps_sound s caller call moment sound in
     let in_range : IsInRange t = step_keeps_ranges s caller call moment late fit sound range in
     let own : HasOwn (with_clock s moment) = (let o = own_of s sound range in record { objects = o.objects; held = o.held }) in
-    let now : HasOwn u = own_before u t (settled_objects u) (settled_held u) (own_of t after in_range) in
+    let now : HasOwn u = own_before u t (settled_made u) (settled_held u) (own_of t after in_range) in
     let called = call_differs (with_clock s moment) (clock_sound s moment sound) own caller call now in
     let whole = is_their_difference s t sound range after in_range (successor s t (step_goes_on s caller call moment sound.numbered)) (call_change (removed_number s.objects call) call (apply (with_clock s moment) caller call).reply) (settled_differ (with_clock s moment) u _ called) in
     subst (IsDifference (tables s) (tables t)) (sym e) whole

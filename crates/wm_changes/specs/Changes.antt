@@ -14,7 +14,7 @@ use Rattle.wm_law.specs.Stepped.{Stepped}
 use Rattle.wm_law.specs.declared.call.Call.{Call}
 use Rattle.wm_law.specs.declared.call.Call.TheVariants.{Change, Hand, Started, StartFailed, Finished, UseDone, Tick}
 use Rattle.wm_law.specs.declared.call.Reply.{Reply}
-use Rattle.wm_law.specs.declared.call.Reply.TheVariants.{Made, QueueHeld, QueueReleased}
+use Rattle.wm_law.specs.declared.call.Reply.TheVariants.{Made, SbsStarted, SbsEnding, Submitted, Held, Released, Changed, JobEnding, JobEnded, QueueHeld, QueueReleased, QueueCleared, PowerDown, Order, Nothing, Noted, No}
 use Rattle.wm_law.specs.declared.command.Command.{Command}
 use Rattle.wm_law.specs.declared.command.Command.TheVariants as command
 use Rattle.wm_law.specs.declared.job.Job.{Job}
@@ -68,9 +68,22 @@ command_change number c = option_map (λ row. Put row) (command_row c)
 -- an object, an entry or a held queue was made or removed
 abbrev pub is_accepted : Reply → Bool
 is_accepted Made = true
+is_accepted (SbsStarted sbs) = false
+is_accepted (SbsEnding sbs) = false
+is_accepted (Submitted job jobq) = false
+is_accepted (Held job) = false
+is_accepted (Released job) = false
+is_accepted (Changed job) = false
+is_accepted (JobEnding job) = false
+is_accepted (JobEnded job) = false
 is_accepted QueueHeld = true
 is_accepted QueueReleased = true
-is_accepted reply = false
+is_accepted (QueueCleared count) = false
+is_accepted PowerDown = false
+is_accepted (Order asked) = false
+is_accepted Nothing = false
+is_accepted Noted = false
+is_accepted (No refusal) = false
 
 -- what a call changes of these, where its reply accepts it
 abbrev pub call_change : Option ℕ → Call → Reply → Option RowChange

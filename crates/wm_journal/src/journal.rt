@@ -149,11 +149,11 @@ impl<K: Keeper> Journal<K> {
         self.log.len()
     }
 
-    /// What waits for a monitor. It takes no memory.
-    pub fn pending(&self) -> Pending
-        ensures { result ≡ pending (reached self.now.history) }
+    /// What waits for a monitor, known by the number of its pass. It takes no memory.
+    pub fn pending(&self, monitor: u32) -> Pending
+        ensures { result ≡ pending (reached self.now.history) monitor }
     {
-        self.stored.pending()
+        self.stored.pending(monitor)
     }
 
     /// The entries.

@@ -19,7 +19,7 @@ use Rattle.wm_command.specs.declared.fault.CmdFault.TheVariants as cm
 use Rattle.wm_law.specs.declared.command.Command.{Command}
 use Rattle.wm_law.specs.declared.command.Command.TheVariants as command
 use Rattle.wm_law.specs.declared.call.Reply.{Reply}
-use Rattle.wm_law.specs.declared.call.Reply.TheVariants.{Made, SbsStarted, Submitted, Held, Released, Changed, QueueHeld, QueueReleased, QueueCleared, PowerDown, Order, Nothing, Noted, No}
+use Rattle.wm_law.specs.declared.call.Reply.TheVariants.{Made, SbsStarted, SbsEnding, Submitted, Held, Released, Changed, JobEnding, JobEnded, QueueHeld, QueueReleased, QueueCleared, PowerDown, Order, Nothing, Noted, No}
 use Rattle.wm_show.specs.declared.line_fault.LineFault.{LineFault}
 use Rattle.wm_show.specs.declared.line_fault.LineFault.TheVariants.{Cl, Cm}
 
@@ -69,10 +69,13 @@ noted_text Noted = codes "NOTED"
 noted_text (No refusal) = codes "NO " ++ refusal_text refusal
 noted_text Made = []
 noted_text (SbsStarted sbs) = []
+noted_text (SbsEnding sbs) = []
 noted_text (Submitted job jobq) = []
 noted_text (Held job) = []
 noted_text (Released job) = []
 noted_text (Changed job) = []
+noted_text (JobEnding job) = []
+noted_text (JobEnded job) = []
 noted_text QueueHeld = []
 noted_text QueueReleased = []
 noted_text (QueueCleared count) = []
@@ -82,10 +85,13 @@ noted_text PowerDown = []
 abbrev pub said_text : Command → Reply → List ℕ
 said_text c Made = made_text c
 said_text c (SbsStarted sbs) = codes "OK subsystem " ++ qname_text sbs ++ codes " started"
+said_text c (SbsEnding sbs) = codes "OK subsystem " ++ qname_text sbs ++ codes " ending"
 said_text c (Submitted job jobq) = codes "OK " ++ job_name_text job ++ codes " submitted to " ++ qname_text jobq
 said_text c (Held job) = codes "OK " ++ job_name_text job ++ codes " held"
 said_text c (Released job) = codes "OK " ++ job_name_text job ++ codes " released"
 said_text c (Changed job) = codes "OK " ++ job_name_text job ++ codes " changed"
+said_text c (JobEnding job) = codes "OK " ++ job_name_text job ++ codes " ending"
+said_text c (JobEnded job) = codes "OK " ++ job_name_text job ++ codes " ended"
 said_text c QueueHeld = queue_text c (codes " held")
 said_text c QueueReleased = queue_text c (codes " released")
 said_text c (QueueCleared count) = queue_text c (codes " cleared of " ++ decimal count ++ codes " jobs")

@@ -121,10 +121,13 @@ pub fn said(alloc: Global, command: &Command, reply: &Reply) -> Result<String, N
     match reply {
         Reply::Made => made(alloc, command),
         Reply::SbsStarted(sbs) => format!(in alloc; "OK subsystem {sbs} started"),
+        Reply::SbsEnding(sbs) => format!(in alloc; "OK subsystem {sbs} ending"),
         Reply::Submitted(job, jobq) => submitted(alloc, job, jobq),
         Reply::Held(job) => format!(in alloc; "OK {job} held"),
         Reply::Released(job) => format!(in alloc; "OK {job} released"),
         Reply::Changed(job) => format!(in alloc; "OK {job} changed"),
+        Reply::JobEnding(job) => format!(in alloc; "OK {job} ending"),
+        Reply::JobEnded(job) => format!(in alloc; "OK {job} ended"),
         Reply::QueueHeld => queue(alloc, command, " held"),
         Reply::QueueReleased => queue(alloc, command, " released"),
         Reply::QueueCleared(count) => cleared(alloc, command, *count),

@@ -101,11 +101,11 @@ impl<K: Keeper> StoredCore<K> {
         }
     }
 
-    /// What waits for a monitor. It takes no memory.
-    pub fn pending(&self) -> Pending
-        ensures { result ≡ pending self.now.state }
+    /// What waits for a monitor, known by the number of its pass. It takes no memory.
+    pub fn pending(&self, monitor: u32) -> Pending
+        ensures { result ≡ pending self.now.state monitor }
     {
-        self.core.pending()
+        self.core.pending(monitor)
     }
 
     /// What a reading command shows of the state. An `Err` is want of memory.

@@ -25,6 +25,7 @@ use Rattle.wm_law.specs.Sound.{AreQueues, HasAutoValues, HasQueues, IsIncreasing
 use Rattle.wm_law.specs.declared.job.Job.{Job}
 use Rattle.wm_law.specs.declared.job.JobKind.{JobKind}
 use Rattle.wm_law.specs.declared.job.JobKind.TheVariants.{Bch, Asj, Pj}
+use Rattle.wm_law.specs.declared.job.Wish.TheVariants.{NoWish}
 use Rattle.wm_law.specs.declared.state.State.{State}
 use Rattle.wm_law.proofs.InOrder.{in_inserted, sorted_added}
 use Rattle.wm_law.proofs.Members.{of_last, of_mapped}
@@ -52,10 +53,11 @@ pub record AreNumbered (jobs : List Job) (number serial place : ℕ) : Type 0 wh
   pub serial_least : 1 ≤ serial
   pub place_least : 1 ≤ place
 
--- the jobs stand in the order of their serials, which are what a u64 can be, and none is active
+-- the jobs stand in the order of their serials, which are what a u64 can be, and none is active or has a wish
 pub record AreIdle (jobs : List Job) : Type 0 where
   pub increasing : IsIncreasing (map (λ j. j.serial) jobs)
   pub idle : (j : Job) → IsIn j jobs → is_active j.phase ≡ false
+  pub unwished : (j : Job) → IsIn j jobs → j.wish ≡ NoWish
   pub fit : (j : Job) → IsIn j jobs → j.serial < 2 ^ 64
 
 -- all that holds of sound states but the upper ends of the next numbers; no job is active, and no subsystem is started
@@ -79,7 +81,7 @@ empty_built offset = record {
     serial_least = omega arith;
     place_least = omega arith;
   };
-  jobs = record { increasing = tt; idle = λ j i. absurd i; fit = λ j i. absurd i };
+  jobs = record { increasing = tt; idle = λ j i. absurd i; unwished = λ j i. absurd i; fit = λ j i. absurd i };
   started = refl;
   routed = record { sorted = λ sbs d e. absurd (cc); classes = λ sbs d e k i. absurd (cc) };
   objects = record {
@@ -219,6 +221,7 @@ stored_built s j g above b =
       jobs = record {
         increasing = subst IsIncreasing (sym (key_end (λ k. k.serial) s.jobs (job_of j))) (increasing_end j.serial (map (λ (k : Job). k.serial) s.jobs) less b.jobs.increasing);
         idle = of_both (λ (k : Job). is_active k.phase ≡ false) s.jobs (job_of j) b.jobs.idle (idle_as j.phase);
+        unwished = of_both (λ (k : Job). k.wish ≡ NoWish) s.jobs (job_of j) b.jobs.unwished refl;
         fit = of_both (λ (k : Job). k.serial < 2 ^ 64) s.jobs (job_of j) b.jobs.fit g.stored.serial;
       };
       started = b.started;

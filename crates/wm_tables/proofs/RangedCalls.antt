@@ -1,5 +1,5 @@
 -- Calls in range keep the ranges of a state.
-use Rattle.std.proofs.Common.{◌≡◌, ◌≤◌, ◌<◌, ◌+◌, ◌==◌, ◌&&◌, ◌^◌, not, ℕ, Bool, true, false, cond, nat_le, nat_lt, unwrap_or, is_some, List, [], ◌∷◌, length, map, filter, Option, Some, None, Result, Ok, Err, refl, sym, subst, inl, arith}
+use Rattle.std.proofs.Common.{◌≡◌, ◌≤◌, ◌<◌, ◌+◌, ◌==◌, ◌&&◌, ◌^◌, not, ℕ, Bool, true, false, cond, nat_le, nat_lt, unwrap_or, is_some, List, [], ◌∷◌, length, map, filter, Option, Some, None, Result, Ok, Err, refl, sym, ap, subst, inl, inr, arith}
 use Rattle.std.specs.List.{find}
 use Rattle.std.specs.Option.{IfSome, IsSome, option_or}
 use Rattle.std.proofs.lemmas.Bool.{and_parts}
@@ -21,32 +21,45 @@ use Rattle.wm_law.specs.Choice.{is_held}
 use Rattle.wm_law.specs.Counts.{is_starting, is_waiting}
 use Rattle.wm_law.specs.Fit.{IsBetween, IsCall, IsCommand, IsExit, IsJobChange, IsQName, IsSubmission, IsTextOf}
 use Rattle.wm_law.specs.Holding.{hold_found, release_found, with_held}
-use Rattle.wm_law.specs.Jobs.{changed_at, waiting_at}
+use Rattle.wm_law.specs.Endings.{down_by, end_active, end_found, end_in_phase, end_started, end_those, is_down, is_ended, is_wished, job_wish, started_named, told}
+use Rattle.wm_law.specs.Jobs.{active_at, changed_at, waiting_at}
 use Rattle.wm_law.specs.Launch.{order_of}
 use Rattle.wm_law.specs.Laws.{IsIn}
 use Rattle.wm_law.specs.Machine.{apply, change}
-use Rattle.wm_law.specs.Named.{if_waiting, is_named, only_one, waiting_named}
-use Rattle.wm_law.specs.Power.{is_down_now, is_on}
+use Rattle.wm_law.specs.Named.{if_waiting, is_named, job_named, only_one, waiting_named}
+use Rattle.wm_law.specs.Power.{is_on}
 use Rattle.wm_law.specs.Queues.{cleared_from, clear_queue, hold_queue, release_queue, waits_on}
-use Rattle.wm_law.specs.Reports.{done_with, end_cause, hand_job, hand_order, in_phase, is_handed_to, is_run_by, phase_word, report_on, with_phase}
+use Rattle.wm_law.specs.Reports.{done_with, end_cause, exit_cause, hand_job, hand_order, in_phase, is_handed_to, is_run_by, is_to_kill, phase_word, report_on, start_job, with_kill, with_phase}
 use Rattle.wm_law.specs.Schedules.{rescheduled, scheduled}
 use Rattle.wm_law.specs.Sound.{IsSound}
 use Rattle.wm_law.specs.Submitting.{has_numbers, or_described, queue_of, submit_due, submit_with, submitted_job, numbers_end, serials_end}
 use Rattle.wm_law.specs.Subsystems.{start_refusal}
+use Rattle.wm_law.specs.Wishes.{why_cause, with_wish}
 use Rattle.wm_law.specs.declared.call.Call.{Call}
 use Rattle.wm_law.specs.declared.call.Call.TheVariants.{Change, Hand, Started, StartFailed, Finished, UseDone, Tick}
 use Rattle.wm_law.specs.declared.command.Chgjob.{Chgjob}
 use Rattle.wm_law.specs.declared.command.Command.{Command}
 use Rattle.wm_law.specs.declared.command.Command.TheVariants as command
+use Rattle.wm_law.specs.declared.command.EndOption.{EndOption}
+use Rattle.wm_law.specs.declared.command.Endjob.{Endjob}
+use Rattle.wm_law.specs.declared.command.Endsbs.{Endsbs}
 use Rattle.wm_law.specs.declared.command.JobRef.{JobRef}
 use Rattle.wm_law.specs.declared.command.Sbmjob.{Sbmjob}
 use Rattle.wm_law.specs.declared.job.Job.{Job}
 use Rattle.wm_law.specs.declared.job.JobKind.{JobKind}
 use Rattle.wm_law.specs.declared.job.JobKind.TheVariants.{Bch}
 use Rattle.wm_law.specs.declared.job.Phase.{Phase}
-use Rattle.wm_law.specs.declared.job.Phase.TheVariants.{Handed, Running, Ended}
+use Rattle.wm_law.specs.declared.job.Phase.TheVariants.{Waiting, Starting, Handed, Running, Ended}
+use Rattle.wm_law.specs.declared.job.Why.{Why}
+use Rattle.wm_law.specs.declared.job.Why.TheVariants as why
+use Rattle.wm_law.specs.declared.job.Wish.{Wish}
+use Rattle.wm_law.specs.declared.job.Wish.TheVariants as wish
+use Rattle.wm_law.specs.declared.state.Evoke.{Evoke}
+use Rattle.wm_law.specs.declared.state.Power.{Power}
+use Rattle.wm_law.specs.declared.state.Sbs.{Sbs}
 use Rattle.wm_law.specs.declared.state.State.{State}
 use Rattle.wm_law.specs.Stepped.{Stepped}
+use Rattle.wm_law.proofs.Endings.{IsPhaseAfter, IsWishing, telling, wished, wishing_job, wishing_kill}
 use Rattle.wm_law.proofs.Members.{left_in}
 use Rattle.wm_law.proofs.Objects.{class_made, queue_made, program_made, job_description_made, description_made, queue_added, route_added, auto_added, queue_removed, route_removed, auto_removed}
 use Rattle.wm_law.proofs.Tests.{of_four}
@@ -71,21 +84,44 @@ phase_range s serial phase h r =
     (jobs_mapped s.objects (changed_at serial (in_phase phase)) s.jobs (λ j i x. at_one s.objects j (in_phase phase j) (j.serial == serial) x (phased s.objects j (in_phase phase j) refl h x)) r.jobs)
     r
 
+why_range : (w : Why) → IsCause (why_cause w)
+why_range why.Endjob = tt
+why_range why.Endsbs = tt
+why_range why.Endpj = tt
+why_range why.Maxuse = tt
+
+after_range : (p q : Phase) → IsPhaseAfter p q → IsPhase (stored_phase p) → IsPhase (stored_phase q)
+after_range p q (inl e) h = subst (λ (x : Phase). IsPhase (stored_phase x)) (sym e) h
+after_range p q (inr e) h = subst (λ (x : Phase). IsPhase (stored_phase x)) (sym e.1.1) (why_range e.1.0)
+
+-- jobs are wished to end: of what is stored of them only the phase changes, of those that end so
+pub wished_range : (s : State) (change : Job → Job) (started : List Sbs) (evokes : List Evoke) (power : Power) → IsWishing change → IsInRange s → IsInRange (wished s change started evokes power)
+wished_range s change started evokes power w r = record {
+  objects = r.objects;
+  held = r.held;
+  jobs = jobs_mapped s.objects change s.jobs (λ j i x. phased s.objects j (change j) (ap stored_of (w.same j)) (after_range j.phase (change j).phase (w.phase j) x.stored.phase) x) r.jobs;
+  clock = r.clock;
+}
+
 either : (b : Bool) (t u : Stepped) → (b ≡ true → IsInRange t.state) → (b ≡ false → IsInRange u.state) → IsInRange (cond b t u).state
 either true t u h g = h refl
 either false t u h g = g refl
 
-reported : (s : State) (serial : ℕ) (test : Phase → Bool) (phase : Phase) (o : Option Job) → IsPhase (stored_phase phase) → IsInRange s → IsInRange (report_on s serial test phase o).state
+reported : (s : State) (serial : ℕ) (test : Phase → Bool) (phase : Job → Phase) (o : Option Job) → ((j : Job) → IsPhase (stored_phase (phase j))) → IsInRange s → IsInRange (report_on s serial test phase o).state
 reported s serial test phase None h r = r
-reported s serial test phase (Some j) h r = either (test j.phase) _ _ (λ t. phase_range s serial phase h r) (λ t. r)
+reported s serial test phase (Some j) h r = either (test j.phase) _ _ (λ t. phase_range s serial (phase j) (h j) r) (λ t. r)
 
 ordered : (s : State) (m : ℕ) (j : Job) (o : Option _) → IsInRange s → IsInRange (hand_order s m j o).state
 ordered s m j None r = r
 ordered s m j (Some o) r = phase_range s j.serial (Handed m) tt r
 
+job_started : (s : State) (m : ℕ) (o : Option Job) → IsInRange s → IsInRange (start_job s m o).state
+job_started s m None r = r
+job_started s m (Some j) r = ordered s m j (order_of s j) r
+
 handed : (s : State) (m : ℕ) (o : Option Job) → IsInRange s → IsInRange (hand_job s m o).state
-handed s m None r = r
-handed s m (Some j) r = ordered s m j (order_of s j) r
+handed s m None r = job_started s m (find (λ j. is_starting j.phase) s.jobs) r
+handed s m (Some j) r = wished_range s (active_at j.serial with_kill) s.started s.evokes s.power (wishing_kill j.serial) r
 
 done : (s : State) (m : ℕ) (o : Option Job) → IsInRange s → IsInRange (done_with s m o).state
 done s m None r = r
@@ -95,9 +131,14 @@ exited : (code : ℕ) (t : Bool) → code < 2 ^ 8 → IsCause (cond t cause.Comp
 exited code true h = tt
 exited code false h = let less : code < 256 = h in let most : code ≤ 255 = omega arith in most
 
-end_range : (end : Exit) → IsExit end → IsCause (end_cause end)
-end_range (exit.Code code) h = exited code (code == 0) h
-end_range exit.Killed h = tt
+exit_range : (end : Exit) → IsExit end → IsCause (exit_cause end)
+exit_range (exit.Code code) h = exited code (code == 0) h
+exit_range exit.Killed h = tt
+
+end_range : (end : Exit) (w : Wish) → IsExit end → IsCause (end_cause end w)
+end_range end wish.NoWish h = exit_range end h
+end_range end (wish.Later until why) h = exit_range end h
+end_range end (wish.Now why handed) h = why_range why
 
 -- Waiting jobs
 
@@ -182,6 +223,34 @@ moved_job s c due j late place fit queue e h =
     (waiting_stored (stored_of j) jobq pty s.next_place j.held due (queue_or c.jobq j.jobq fit.jobq a.jobq) (pty_or c.jobpty j.pty fit.jobpty (priority (stored_of j) a)) place late a)
     (kind_or s c.jobq j.jobq queue (as_bch s.objects j.kind (stored_of j) e h.kind))
     h
+
+-- Jobs and subsystems that are to end
+
+active_range : (s : State) (c : Endjob) (j : Job) → IsInRange s → IsInRange (end_active s c j).state
+active_range s c j r =
+    either (is_wished c.option j.wish) _ _ (λ t. r)
+    (λ t. wished_range s (active_at j.serial (with_wish (job_wish s.clock c.option c.delay))) s.started s.evokes s.power (wishing_job j.serial s.clock c.option c.delay) r)
+
+queue_ended : (o : Objects) (j : Job) → IsJobInRange o j → IsJobInRange o (in_phase (Ended cause.EndedOnQueue) j)
+queue_ended o j x = phased o j (in_phase (Ended cause.EndedOnQueue) j) refl tt x
+
+phase_ended : (s : State) (c : Endjob) (j : Job) (p : Phase) → IsInRange s → IsInRange (end_in_phase s c j p).state
+phase_ended s c j Waiting r = waiting_range s j.serial s.next_place (in_phase (Ended cause.EndedOnQueue)) (λ k i w x. queue_ended s.objects k x) r
+phase_ended s c j Starting r = active_range s c j r
+phase_ended s c j (Handed m) r = active_range s c j r
+phase_ended s c j (Running m) r = active_range s c j r
+phase_ended s c j (Ended end) r = r
+
+job_ended : (s : State) (c : Endjob) (o : Result Job Refusal) → IsInRange s → IsInRange (end_found s c o).state
+job_ended s c (Err x) r = r
+job_ended s c (Ok j) r = phase_ended s c j j.phase r
+
+those_ended : (s : State) (option : EndOption) (delay : Option ℕ) (test : Sbs → Bool) (power : Power) → IsInRange s → IsInRange (record (end_those s option delay test) { power = power })
+those_ended s option delay test power r = wished_range s (told option test s.started) _ _ power (telling option test s.started) r
+
+sbs_ended : (s : State) (c : Endsbs) (o : Option Sbs) → IsInRange s → IsInRange (end_started s c o).state
+sbs_ended s c None r = r
+sbs_ended s c (Some b) r = either (is_ended c.option b.phase) _ _ (λ t. r) (λ t. those_ended s c.option c.delay (λ x. same_qname x.sbsd b.sbsd) s.power r)
 
 hold_range : (s : State) (o : Result Job Refusal) → IsSound s → IsInRange s → IsInRange (hold_found s o).state
 hold_range s (Err x) sound r = r
@@ -331,21 +400,23 @@ change_keeps s user (command.Rmvjobqe c) name h sound r = made_range s _ _ (λ n
 change_keeps s user (command.Rmvrtge c) name h sound r = made_range s _ _ (λ n. without_route_range s.objects r.objects c.sbsd c.seqnbr) (route_removed s c) r
 change_keeps s user (command.Rmvaje c) name h sound r = made_range s _ _ (λ n. without_auto_range s.objects r.objects c.sbsd c.job) (auto_removed s c) r
 change_keeps s user (command.Strsbs c) name h sound r = started_range s c.sbsd (start_refusal s c.sbsd) sound.numbered.next_number.least refl r
+change_keeps s user (command.Endsbs c) name h sound r = sbs_ended s c (started_named s c.sbs) r
 change_keeps s user (command.Sbmjob c) name h sound r = either (is_on s.power) _ _ (λ t. submit_range s user c (object_named c.jobd s.objects.jobds) name h refl sound r) (λ t. r)
 change_keeps s user (command.Hldjob c) name h sound r = hold_range s (waiting_named s c.job) sound r
 change_keeps s user (command.Rlsjob c) name h sound r = release_range s (waiting_named s c.job) sound r
 change_keeps s user (command.Chgjob c) name h sound r = change_range s c (waiting_named s c.job) (λ j e. named_among s c.job j e) h sound r
+change_keeps s user (command.Endjob c) name h sound r = job_ended s c (job_named s c.job) r
 change_keeps s user (command.Hldjobq c) name h sound r = hold_queue_range s c.jobq h r
 change_keeps s user (command.Rlsjobq c) name h sound r = release_queue_range s c.jobq r
 change_keeps s user (command.Clrjobq c) name h sound r = clear_range s c.jobq r
-change_keeps s user (command.Pwrdwnsys c) name h sound r = either (is_down_now s.power) _ _ (λ t. r) (λ t. record { objects = r.objects; held = r.held; jobs = r.jobs; clock = r.clock })
+change_keeps s user (command.Pwrdwnsys c) name h sound r = either (is_down c.option s.power) _ _ (λ t. r) (λ t. those_ended s c.option c.delay (λ b. not (is_ended c.option b.phase)) (down_by c.option) r)
 change_keeps s user c name h sound r = r
 
 pub apply_keeps : (s : State) (caller : ℕ) (call : Call) → IsCall call → IsSound s → IsInRange s → IsInRange (apply s caller call).state
 apply_keeps s caller (Change user c) h sound r = change_keeps s user c h.0 h.1 sound r
-apply_keeps s caller Hand h sound r = handed s caller (find (λ j. is_starting j.phase) s.jobs) r
-apply_keeps s caller (Started serial) h sound r = reported s serial (is_handed_to caller) (Running caller) (find (λ j. j.serial == serial) s.jobs) tt r
-apply_keeps s caller (StartFailed serial why) h sound r = reported s serial (is_handed_to caller) (Ended (cause.StartFailed why)) (find (λ j. j.serial == serial) s.jobs) tt r
-apply_keeps s caller (Finished serial end) h sound r = reported s serial (is_run_by caller) (Ended (end_cause end)) (find (λ j. j.serial == serial) s.jobs) (end_range end h.1) r
+apply_keeps s caller Hand h sound r = handed s caller (find (is_to_kill caller) s.jobs) r
+apply_keeps s caller (Started serial) h sound r = reported s serial (is_handed_to caller) (λ j. Running caller) (find (λ j. j.serial == serial) s.jobs) (λ j. tt) r
+apply_keeps s caller (StartFailed serial why) h sound r = reported s serial (is_handed_to caller) (λ j. Ended (cause.StartFailed why)) (find (λ j. j.serial == serial) s.jobs) (λ j. tt) r
+apply_keeps s caller (Finished serial end) h sound r = reported s serial (is_run_by caller) (λ j. Ended (end_cause end j.wish)) (find (λ j. j.serial == serial) s.jobs) (λ j. end_range end j.wish h.1) r
 apply_keeps s caller (UseDone serial) h sound r = done s caller (find (λ j. j.serial == serial) s.jobs) r
 apply_keeps s caller Tick h sound r = r

@@ -5,13 +5,14 @@ use Rattle.wm_base.proofs.Iterate.{iterate-keeps}
 use Rattle.wm_law.specs.Choice.{next}
 use Rattle.wm_law.specs.Launch.{launch}
 use Rattle.wm_law.specs.Machine.{apply, step, with_clock}
-use Rattle.wm_law.specs.Settling.{leave, waiting}
+use Rattle.wm_law.specs.Settling.{come_due, job_at, leave, sbss_at, waiting}
 use Rattle.wm_law.specs.Sound.{IsSound}
 use Rattle.wm_law.specs.declared.state.State.{State}
+use Rattle.wm_law.proofs.Endings.{wishing_at}
 use Rattle.wm_law.proofs.Numbers.{clock_keeps}
 use Rattle.wm_tables.specs.Laws.{StepKeepsRanges}
 use Rattle.wm_tables.specs.Ranges.{IsInRange}
-use Rattle.wm_tables.proofs.RangedCalls.{apply_keeps}
+use Rattle.wm_tables.proofs.RangedCalls.{apply_keeps, wished_range}
 use Rattle.wm_tables.proofs.RangedLaunches.{launch_range}
 
 clock_range : (s : State) (moment : ℕ) → moment ≤ 253402214399 → IsInRange s → IsInRange (with_clock s moment)
@@ -31,7 +32,12 @@ clock_sound s moment h = record {
   queues = h.queues;
   held = h.held;
   within_started = h.within_started;
+  wishes = h.wishes;
+  moments = h.moments;
 }
+
+due_range : (s : State) → IsInRange s → IsInRange (come_due s)
+due_range s r = wished_range s (job_at s.clock (sbss_at s)) (sbss_at s) s.evokes s.power (wishing_at s.clock (sbss_at s)) r
 
 leave_range : (s : State) → IsInRange s → IsInRange (leave s)
 leave_range s r = record { objects = r.objects; held = r.held; jobs = r.jobs; clock = r.clock }
@@ -44,4 +50,4 @@ unfolding step
 step_keeps_ranges s caller call moment late fit sound r =
     let t = (apply (with_clock s moment) caller call).state in
     let called : IsInRange t = apply_keeps (with_clock s moment) caller call fit (clock_sound s moment sound) (clock_range s moment late r) in
-    iterate-keeps IsInRange launches_range (waiting (leave t)) (leave t) (leave_range t called)
+    iterate-keeps IsInRange launches_range (waiting (leave (come_due t))) (leave (come_due t)) (leave_range (come_due t) (due_range t called))

@@ -5,12 +5,15 @@ use Rattle.wm_law.specs.Counts.{is_active}
 use Rattle.wm_law.specs.Kept.{IsDistinct}
 use Rattle.wm_law.specs.Laws.{IsIn}
 use Rattle.wm_law.specs.Opening.{empty}
-use Rattle.wm_law.specs.Sound.{IsSound}
+use Rattle.wm_law.specs.Sound.{IsMoment, IsSound, IsWished}
 use Rattle.wm_law.specs.declared.job.Job.{Job}
 use Rattle.wm_law.specs.declared.job.Phase.TheVariants.{Starting}
+use Rattle.wm_law.specs.declared.job.Wish.{Wish}
+use Rattle.wm_law.specs.declared.job.Wish.TheVariants.{NoWish}
 use Rattle.wm_law.specs.declared.state.Sbs.{Sbs}
 use Rattle.wm_law.specs.declared.state.State.{State}
 use Rattle.wm_law.specs.Subsystems.{max_started}
+use Rattle.wm_law.specs.Wishes.{has_wish, wish_moment}
 use Rattle.wm_law.proofs.Sound.{opening_is_sound}
 use Rattle.wm_rows.specs.declared.stored.Counter.{Counter}
 use Rattle.wm_rows.specs.declared.stored.Counter.TheVariants as counter
@@ -28,6 +31,12 @@ none_starting s j b i e =
 
 none_started : (s : State) (b : Sbs) → IsBuilt s → IsIn b s.started → ⊥
 none_started s b built i = subst (IsIn b) built.started i
+
+none_wished : (j : Job) → j.wish ≡ NoWish → IsWished j
+none_wished j e = record {
+  waits = λ w. ap has_wish e;
+  moment = subst (λ (x : Wish). IsMoment (wish_moment x)) (sym e) tt;
+}
 
 -- a state that is built, with next numbers within their ranges, is sound
 pub built_is_sound : (s : State) → IsBuilt s → ((c : Counter) → IsWithin c s) → IsSound s
@@ -51,6 +60,8 @@ built_is_sound s b within = record {
   queues = b.queues;
   held = b.held;
   within_started = subst (λ (bs : List Sbs). length bs ≤ max_started) (sym b.started) (omega arith);
+  wishes = λ j i. none_wished j (b.jobs.unwished j i);
+  moments = λ x i. absurd (none_started s x b i);
 }
 
 good_is_sound : (offset : ℤ) (rows : List Row) (s : State) → AreGood offset rows s → HasCounters rows → IsSound s
