@@ -1,7 +1,6 @@
 pub mod Bytes
 pub mod Cause
 pub mod Keeping
-pub mod Programs
 pub mod Removal
 pub mod Reports
 pub mod Sorted

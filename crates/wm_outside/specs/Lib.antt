@@ -6,7 +6,6 @@ pub mod Keeping
 pub mod Log
 pub mod MemSpawner
 pub mod Memory
-pub mod Programs
 pub mod Reporting
 pub mod Rows
 pub mod Spawner

@@ -1,6 +1,6 @@
 //! The outside as the layers above see it: where bytes come from and go to, what time it is, what starts programs, and
 //! what keeps rows. Each is a trait with a written meaning and a count of faults, a form in memory, and an adapter of the
-//! real thing, which for keepers and stores is a crate of its own (`wm_sqlkeep`).
+//! real thing, which for keepers and stores and for spawners is a crate of its own (`wm_sqlkeep`, `wm_children`).
 //!
 //! The contract for the layer above: a call answers `Failed` only where its object's count rose in that call, and what
 //! an object tells of itself changes by exactly what the call took, gave or was asked, until it ceases to tell.
@@ -33,4 +33,4 @@ pub use sink::Sink;
 pub use source::Source;
 pub use spawner::{Spawner, Told};
 pub use store::Store;
-pub use system::{ReadSource, SysClock, SysSpawner, WriteSink};
+pub use system::{ReadSource, SysClock, WriteSink};

@@ -1,10 +1,8 @@
-// The real things: std's readers, writers, clock and child programs. They tell nothing, and count each call that fails.
+// The real things: std's readers, writers and clock. They tell nothing, and count each call that fails.
 mod clock;
 mod reader;
-mod spawner;
 mod writer;
 
 pub use clock::SysClock;
 pub use reader::ReadSource;
-pub use spawner::SysSpawner;
 pub use writer::WriteSink;

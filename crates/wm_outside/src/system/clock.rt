@@ -6,8 +6,8 @@ use crate::Clock;
 use std::rt;
 use wm_base::Moment;
 
-/// The present moment, where the clock can be read and is in range.
-pub fn present<R: rt::Clock>(rt: &R) -> Option<Moment> {
+// The present moment, where the clock can be read and is in range.
+fn present<R: rt::Clock>(rt: &R) -> Option<Moment> {
     let seconds = rt.since_1970().ok()?.as_secs();
     if seconds <= Moment::MAX {
         Some(Moment::new(seconds))

@@ -1,6 +1,6 @@
 use Rattle.std.proofs.Common.{◌≡◌, take}
 use Rattle.std.specs.Process.{command_program, command_args}
-use Rattle.wm_outside.proofs.system.spawner.command_of.Given as goal
+use Rattle.wm_children.proofs.command.command_of.Given as goal
 
 abbrev pub invariant-loop-arg : goal.invariant-loop-arg
 invariant-loop-arg l = record {

@@ -1,0 +1,37 @@
+-- The children that are out.
+use Rattle.std.proofs.Common.{◌≡◌, ◌↔◌, ◌==◌, ◌||◌, inl, inr, ℕ, ◌<◌, ◌≤◌, ◌+◌, zero, suc, Bool, true, false, IsTrue, List, [], ◌∷◌, length, get_or, map, slice_get, Contains, Some, refl, sym, ◌∙◌, ap, arith}
+use Rattle.std.proofs.lemmas.Bool.{false≢true, or_cases, eqb-true, eq-eqb}
+use Rattle.std.specs.List.{remove, list_any}
+use Rattle.wm_children.specs.declared.started.Started.{Started}
+use Rattle.wm_children.specs.Programs.{serials_of}
+
+-- what is taken out of a list is taken out of what is made of it
+pub map_remove : {A : Type 0} (f : A → ℕ) (xs : List A) (at : ℕ) → at < length xs → map f (remove xs at) ≡ remove (map f xs) at
+map_remove f [] at below = absurd (omega (arith, below))
+map_remove f (x ∷ xs) zero below = refl
+map_remove f (x ∷ xs) (suc at) below = ap (λ (l : List ℕ). f x ∷ l) (map_remove f xs at (omega (arith, below)))
+
+or-true : (b : Bool) → (b || true) ≡ true
+or-true true = refl
+or-true false = refl
+
+any_among : (xs : List ℕ) (job : ℕ) → list_any (λ x. x == job) xs ≡ true → Contains xs job
+any_among [] job is = absurd (false≢true is)
+any_among (x ∷ xs) job is = elim (or_cases (x == job) (list_any (λ y. y == job) xs) is) [
+  | inl here ↦ (0, omega arith, eqb-true x job here)
+  | inr later ↦ let there = any_among xs job later in (suc there.0, omega (arith, there.1), there.2)
+]
+
+among_any : (xs : List ℕ) (job k : ℕ) → k < length xs → get_or xs k job ≡ job → list_any (λ x. x == job) xs ≡ true
+among_any [] job k below is = absurd (omega arith)
+among_any (x ∷ xs) job zero below is = rw (eq-eqb x job is) refl
+among_any (x ∷ xs) job (suc k) below is = rw (among_any xs job k (omega arith) is) (or-true (x == job))
+
+-- a search for a serial finds it where it is there
+pub contained : (xs : List ℕ) (job : ℕ) (found : Bool) → found ≡ list_any (λ x. x == job) xs → IsTrue found ↔ Contains xs job
+contained xs job found is = (λ yes. any_among xs job (sym is ∙ yes), λ among. is ∙ among_any xs job among.0 among.1 among.2)
+
+-- without children there are no serials
+pub no_serials : (children : List Started) → (length children == 0) ≡ true → serials_of children ≡ []
+no_serials [] empty = refl
+no_serials (child ∷ children) empty = let none : suc (length children) ≡ 0 = eqb-true (suc (length children)) 0 empty in absurd (omega (arith, none))

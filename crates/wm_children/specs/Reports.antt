@@ -1,0 +1,19 @@
+-- What a report says.
+use Rattle.std.specs.Prelude.{◌≡◌, ℕ, List, remove, slice_get, Option, Some, None, Result, Ok, Err}
+use Rattle.wm_base.specs.declared.job.Event.{Event}
+use Rattle.wm_base.specs.declared.job.Event.TheVariants.{Ended, Used}
+use Rattle.wm_outside.specs.declared.fault.Failed.{Failed}
+use Rattle.wm_children.specs.declared.finished.Finished.{Finished}
+use Rattle.wm_children.specs.Programs.{HasEnded}
+
+-- the event is the end of this child: its serial, and how std told that it ended
+abbrev pub IsEndOf : Finished → Event → Type 0
+IsEndOf finished (Ended serial exit) = (serial ≡ finished.running.serial) × HasEnded finished.running exit
+IsEndOf finished (Used serial) = ⊥
+
+-- after a look one who was out isn't any more, where its end was reported; else nobody left
+abbrev pub GivesUp : Result (Option Event) Failed → List ℕ → List ℕ → Type 0
+GivesUp (Ok (Some (Ended serial exit))) old new = (k : ℕ) × (slice_get old k ≡ Some serial) × (new ≡ remove old k)
+GivesUp (Ok (Some (Used serial))) old new = ⊥
+GivesUp (Ok None) old new = new ≡ old
+GivesUp (Err failed) old new = new ≡ old

@@ -1,0 +1,58 @@
+// The children that are out, as the spawner knows them.
+ghost use Rattle.std.specs.Prelude.{◌≡◌, ◌↔◌, ◌==◌, ◌<◌, Some, IsTrue, Contains, IfOk, IfSome, length, slice_get};
+ghost use Rattle.std.specs.List.{list_any};
+ghost use Rattle.wm_children.specs.Programs.{serials_of};
+
+use wm_base::Serial;
+use wm_outside::Failed;
+
+/// A child that is out: its job, and its number in the system.
+#[derive(Clone, Copy)]
+pub struct Started {
+    pub serial: Serial,
+    pub number: u32,
+}
+
+// Kills a child by its number. Where it has ended there is nothing to kill.
+fn kill_number(number: u32) -> Result<(), Failed> {
+    let killed = os::kill_child(number.cast_signed()) == 0;
+    if killed || os::errno() == libc::ECHILD {
+        Ok(())
+    } else {
+        Err(Failed)
+    }
+}
+
+fn is_out(children: &[Started], job: Serial) -> bool
+    ensures { result ≡ list_any (λ serial. serial == job) (serials_of children.now) }
+{
+    children
+        .iter()
+        .map(|child| child.serial)
+        .any(|serial| serial == job)
+}
+
+/// Kills a job's child, and answers whether it is out.
+pub fn kill_child(children: &[Started], job: Serial) -> Result<bool, Failed>
+    ensures { IfOk result (λ was_out. IsTrue was_out ↔ Contains (serials_of children.now) job) }
+{
+    for child in children {
+        if child.serial == job {
+            kill_number(child.number)?;
+        }
+    }
+    Ok(is_out(children, job))
+}
+
+/// The place of a job's child.
+pub fn place_of(children: &[Started], job: Serial) -> Option<usize>
+    ensures below { IfSome result (λ at. at < length children.now) }
+    ensures there { IfSome result (λ at. slice_get (serials_of children.now) at ≡ Some job) }
+{
+    for at in 0..children.len() {
+        if children[at].serial == job {
+            return Some(at);
+        }
+    }
+    None
+}
