@@ -1,0 +1,9 @@
+pub mod Askings
+pub mod Hands
+pub mod Histories
+pub mod Idles
+pub mod Journals
+pub mod Lists
+pub mod MonitorLoops
+pub mod Monitors
+pub mod Turns

@@ -1,0 +1,35 @@
+// Making a call of a journal.
+ghost use Rattle.std.specs.Prelude.{◌≡◌, OnOk, OnErr, IsErrOf};
+ghost use Rattle.wm_law.specs.Fit.{IsCall, HasCall};
+ghost use Rattle.wm_journal.specs.History.{reached, with_call};
+ghost use Rattle.wm_monitor.specs.Journal.{HasJournalCauses};
+
+use crate::fault::MonitorFault;
+use std::alloc::Global;
+use wm_base::Moment;
+use wm_journal::{CallFault, Journal};
+use wm_law::Call;
+use wm_outside::Keeper;
+
+/// Makes one call of a caller, and tells a fault as a monitor's. An `Err` leaves the history.
+pub fn enter<K: Keeper>(
+    alloc: Global,
+    journal: &mut Journal<K>,
+    caller: u32,
+    call: Call,
+    now: Moment,
+) -> Result<(), MonitorFault>
+    requires fit { IsCall call }
+    requires built { HasCall (reached journal.old.history) call }
+    ensures ok { OnOk result (journal.new.history ≡ with_call journal.old.history caller call now) }
+    ensures err { OnErr result (journal.new.history ≡ journal.old.history) }
+    ensures no_wait { IsErrOf result MonitorFault.WaitFault → ⊥ }
+    ensures journal { HasJournalCauses K.faults K.trail (IsErrOf result MonitorFault.KeeperFault) (IsErrOf result MonitorFault.LogFull) journal.old journal.new }
+{
+    match journal.call(alloc, caller, call, now) {
+        Ok(()) => Ok(()),
+        Err(CallFault::KeeperFault) => Err(MonitorFault::KeeperFault),
+        Err(CallFault::LogFull(_)) => Err(MonitorFault::LogFull),
+        Err(CallFault::NoMemory) => Err(MonitorFault::NoMemory),
+    }
+}

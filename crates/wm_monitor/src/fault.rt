@@ -1,0 +1,25 @@
+// Why a call of a monitor ended early.
+ghost use Rattle.std.specs.Prelude.{◌≡◌};
+ghost use Rattle.wm_monitor.specs.declared.fault.MonitorFault.TheVariants.{WaitFault};
+
+use wm_outside::Failed;
+
+/// Why a turn or a wait of a monitor ended early.
+#[derive(Clone, Copy, Debug, PartialEq, Eq)]
+pub enum MonitorFault {
+    /// A kill or a look of the spawner failed.
+    WaitFault,
+    /// The keeper of the rows failed.
+    KeeperFault,
+    /// The log takes no such call.
+    LogFull,
+    NoMemory,
+}
+
+impl From<Failed> for MonitorFault {
+    ghost from_gives = { λ _ e. e ≡ WaitFault };
+
+    fn from(_e: Failed) -> MonitorFault {
+        MonitorFault::WaitFault
+    }
+}
