@@ -6,9 +6,9 @@ use Rattle.wm_law.specs.declared.call.Entry.{Entry}
 use Rattle.wm_law.specs.declared.state.State.{State}
 use Rattle.wm_journal.specs.History.{History}
 use Rattle.wm_run.specs.Grown.{grown, entries_between}
-use Rattle.wm_run.specs.Lists.{Extends}
-use Rattle.wm_run.specs.Monitor.{MonitorView, Proceeds}
-use Rattle.wm_run.proofs.Monitors.{since-then, Extends-then}
+use Rattle.wm_monitor.specs.Lists.{Extends}
+use Rattle.wm_monitor.specs.Monitor.{MonitorView, Proceeds}
+use Rattle.wm_monitor.proofs.Lists.{since-then, Extends-then}
 
 -- a history goes on from another: it was opened with the same state, and has its entries in front
 pub record Continues (old new : History) : Type 0 where

@@ -1,16 +1,17 @@
 -- What stays true while the input is read and taken.
-use Rattle.std.proofs.Common.{◌≡◌, ℕ, ◌≤◌, Bool, List, [], length, Option}
+use Rattle.std.proofs.Common.{◌≡◌, ℕ, ◌≤◌, Bool, false, List, [], length, Option}
 use Rattle.wm_clwords.specs.Part.{Part, fresh}
 use Rattle.wm_law.specs.declared.call.Entry.{Entry}
 use Rattle.wm_journal.specs.History.{History}
-use Rattle.wm_run.specs.Monitor.{MonitorView}
+use Rattle.wm_monitor.specs.Monitor.{MonitorView}
 use Rattle.wm_run.specs.Serving.{Serves}
 use Rattle.wm_run.specs.Taking.{TakesPiece}
 
--- what stays true while the lines of a piece are taken
-pub record PieceLoop (old new : MonitorView) (written_before written_now looked_before looked_now : ℕ) (at : ℕ) (piece : List ℕ) (Taken Kept : Type 0) : Type 0 where
+-- what stays true while the lines of a piece are taken, none of which has put the power down
+pub record PieceLoop (old new : MonitorView) (written_before written_now looked_before looked_now : ℕ) (at : ℕ) (piece : List ℕ) (down : Bool) (Taken Kept : Type 0) : Type 0 where
   pub within : at ≤ length piece
   pub serves : Serves old new
+  pub up : down ≡ false
   pub taken : Taken
   pub written : written_before ≤ written_now
   pub looked : looked_before ≤ looked_now
@@ -21,9 +22,10 @@ pub record SoFar (b : Part) (h : History) (es : List Entry) (u v : Option (List 
   pub lines : TakesPiece fresh bytes b [] h es u v f
   pub count : length bytes ≡ sum
 
--- what stays true while the input is read
-pub record InputLoop (old new : MonitorView) (read_before read_now written_before written_now looked_before looked_now : ℕ) (sum : ℕ) (buf : List ℕ) (Taken Kept : Type 0) : Type 0 where
+-- what stays true while the input is read, of which no line has put the power down
+pub record InputLoop (old new : MonitorView) (read_before read_now written_before written_now looked_before looked_now : ℕ) (sum : ℕ) (buf : List ℕ) (down : Bool) (Taken Kept : Type 0) : Type 0 where
   pub serves : Serves old new
+  pub up : down ≡ false
   pub taken : Taken
   pub read : read_before ≤ read_now
   pub written : written_before ≤ written_now

@@ -13,8 +13,8 @@ use Rattle.wm_outside.specs.declared.fault.KeepFault.TheVariants as keep
 use Rattle.wm_outside.specs.declared.row.Row.{Row}
 use Rattle.wm_outside.specs.Told.{Grows, Stays}
 use Rattle.wm_run.specs.Kept.{HasHistory, HasOpened, open_status, store_status}
-use Rattle.wm_run.specs.Lists.{since}
-use Rattle.wm_run.specs.Monitor.{TicksAreDue}
+use Rattle.wm_monitor.specs.Lists.{since}
+use Rattle.wm_monitor.specs.Idle.{NoneIsIdle}
 use Rattle.wm_run.specs.Run.{run_offset}
 use Rattle.wm_stored.specs.Keeping.{Telling, IsOpened}
 use Rattle.wm_stored.specs.Stored.{HasTables}
@@ -68,15 +68,15 @@ rows_found None (Some first) (Some mid) trail'' (Some last) rows more told grown
 rows_found (Some x) (Some first) (Some mid) trail'' (Some last) rows more told grown untold both both' = ap Some told
 
 -- a run over a keeper that opened
-pub opened_run : {Came : State → Type 0} (status : ℕ) (log : List Entry) (first last : History) (found opened closed : Telling) → IsOpened run_offset first.opened found opened → first.log ≡ [] → last.opened ≡ first.opened → log ≡ last.log → IsLegal last.opened last.log → TicksAreDue (reached first) (since first.log last.log) → (status ≤ 1 → active (reached last) ≡ 0) → HasTables (reached last) closed.tables → HasTrail last found closed → (opened.trail ≡ None → closed.trail ≡ None) → is_some found.trail ≡ is_some found.tables → is_some closed.trail ≡ is_some closed.tables → Came first.opened → HasOpened status log found closed Came
-opened_run {Came} status log first last found opened closed h none same is legal ticks idle tables trail untold both both' came =
+pub opened_run : {Came : State → Type 0} (status : ℕ) (log : List Entry) (first last : History) (found opened closed : Telling) → IsOpened run_offset first.opened found opened → first.log ≡ [] → last.opened ≡ first.opened → log ≡ last.log → IsLegal last.opened last.log → NoneIsIdle (reached first) (since first.log last.log) → (status ≤ 1 → active (reached last) ≡ 0) → HasTables (reached last) closed.tables → HasTrail last found closed → (opened.trail ≡ None → closed.trail ≡ None) → is_some found.trail ≡ is_some found.tables → is_some closed.trail ≡ is_some closed.tables → Came first.opened → HasOpened status log found closed Came
+opened_run {Came} status log first last found opened closed h none same is legal no_idle idle tables trail untold both both' came =
     let s = first.opened in
     let P : List Entry → Type 0 = λ es. HasOpened status es found closed Came in
     let at : reached first ≡ s = ap (after s) none in
     let from : since first.log last.log ≡ last.log = ap (λ (l : List Entry). since l last.log) none in
     let whole : last ≡ record { opened = s; log = last.log } = ap (λ (t : State). record { opened = t; log = last.log }) same in
     let sound = restart_is_sound run_offset h.found s h.restart in
-    let due : TicksAreDue s last.log = subst (λ (es : List Entry). TicksAreDue s es) from (subst (λ (t : State). TicksAreDue t (since first.log last.log)) at ticks) in
+    let busy : NoneIsIdle s last.log = subst (λ (es : List Entry). NoneIsIdle s es) from (subst (λ (t : State). NoneIsIdle t (since first.log last.log)) at no_idle) in
     subst P (sym is) (record {
       opened = s;
       rows = h.found;
@@ -85,7 +85,7 @@ opened_run {Came} status log first last found opened closed h none same is legal
       legal = subst (λ (t : State). IsLegal t last.log) same legal;
       limits = limits_are_kept s last.log sound;
       order = order_is_kept s last.log sound;
-      ticks = due;
+      no_idle = busy;
       idle = λ low. subst (λ (g : History). active (reached g) ≡ 0) whole (idle low);
       tables = subst (λ (g : History). HasTables (reached g) closed.tables) whole tables;
       trail = subst (λ (g : History). HasTrail g found closed) whole trail;
@@ -128,7 +128,7 @@ opened_of_store status log old found closed new tables trail tables' trail' both
       legal = h.legal;
       limits = h.limits;
       order = h.order;
-      ticks = h.ticks;
+      no_idle = h.no_idle;
       idle = h.idle;
       tables = stays_if _ closed.tables new.tables tables' h.tables;
       trail = trail_of_store (record { opened = h.opened; log = log }) old found closed new h.rows were tables trail trail' both h.trail;

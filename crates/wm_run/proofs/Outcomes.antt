@@ -1,5 +1,5 @@
 -- What comes of an input that is taken piece by piece.
-use Rattle.std.proofs.Common.{◌≡◌, ◌↔◌, ℕ, ◌+◌, ◌<◌, ◌≤◌, ◌||◌, Bool, List, [], ◌∷◌, ◌++◌, length, Option, Result, Ok, Err, sym, ap, subst, ◌∙◌, inl, inr, arith}
+use Rattle.std.proofs.Common.{◌≡◌, ◌↔◌, ℕ, ◌+◌, ◌<◌, ◌≤◌, ◌||◌, Bool, true, false, List, [], ◌∷◌, ◌++◌, length, Option, Result, Ok, Err, sym, ap, subst, ◌∙◌, inl, inr, arith}
 use Rattle.std.specs.Prelude.{IfOk, OnErr, IsErrOf}
 use Rattle.std.proofs.lemmas.List.{append-nil, length-append}
 use Rattle.wm_clwords.specs.Lines.{logical_lines}
@@ -9,18 +9,20 @@ use Rattle.wm_law.specs.declared.state.State.{State}
 use Rattle.wm_journal.specs.History.{History}
 use Rattle.wm_outside.specs.Told.{Takes}
 use Rattle.wm_outside.proofs.Telling.{Takes-none}
+use Rattle.wm_run.specs.Down.{is_down}
 use Rattle.wm_run.specs.Grown.{at_opening, entries_between}
-use Rattle.wm_run.specs.Lists.{since}
+use Rattle.wm_monitor.specs.Lists.{since}
 use Rattle.wm_run.specs.Outcome.{AnswersEnded, LinesCame, RunCame, RunTakes, SessionCame}
 use Rattle.wm_run.specs.Run.{ended_status}
-use Rattle.wm_run.specs.Session.{Answers, AnsweredBy, OneCall, start_call, end_call}
-use Rattle.wm_run.specs.Stopped.{AtMostOne, MayCall, StopsIn}
+use Rattle.wm_run.specs.Session.{Answers, AnsweredBy, Closes, OneCall, start_call}
+use Rattle.wm_run.specs.Stopped.{AtMostOne, MayClose, StopsIn}
 use Rattle.wm_run.specs.Taking.{StopsReading, TakesPiece, TakesInput}
+use Rattle.wm_run.specs.declared.answered.Answered.{Answered}
 use Rattle.wm_run.specs.declared.halt.Halt.{Halt}
 use Rattle.wm_run.specs.declared.halt.Halt.TheVariants.{ReadFault, InputFull}
 use Rattle.wm_run.proofs.EndedLines.{letter_line}
 use Rattle.wm_run.proofs.InputLoops.{SoFar}
-use Rattle.wm_run.proofs.Inputs.{input_end}
+use Rattle.wm_run.proofs.Inputs.{input_down, input_end}
 use Rattle.wm_run.proofs.Runs.{at_grown, ended_if, full_exactly, full_not, fault_status, session_parts, stopped_not, stopped_on}
 use Rattle.wm_run.proofs.Growing.{Continues, entries-then}
 use Rattle.wm_run.proofs.StoppedRuns.{full_later, full_pass, full_read, input_stops, input_stops_in, input_stops_last, input_stops_none, on_err, stopped_begin, stopped_end, stopped_lines}
@@ -37,32 +39,32 @@ ended_lines xs b o es u v f h =
       answered = h.answered;
     }
 
-if_ok_err : (P : Bool → Type 0) (r : Result Bool Halt) (e : Halt) → r ≡ Err e → IfOk r P
-if_ok_err P r e is = subst (λ (q : Result Bool Halt). IfOk q P) (sym is) tt
+if_ok_err : {T : Type 0} (P : T → Type 0) (r : Result T Halt) (e : Halt) → r ≡ Err e → IfOk r P
+if_ok_err {T} P r e is = subst (λ (q : Result T Halt). IfOk q P) (sym is) tt
 
 -- a session's lines that stopped
-pub came_stopped : (r : Result Bool Halt) (e : Halt) (bytes : List ℕ) (o : History) (es : List Entry) (u v : Option (List ℕ)) → r ≡ Err e → StopsIn (logical_lines bytes) o es u v → (IsErrOf r ReadFault → AnswersEnded bytes o es u v) → (IsErrOf r InputFull ↔ (1000000000 < length bytes)) → LinesCame bytes r o es u v
-came_stopped r e bytes o es u v is stops cut full = record { answered = if_ok_err (λ faulty. AnsweredBy (Answers (logical_lines bytes) o) es u v faulty) r e is; stopped = on_err r stops; cut_off = cut; full = full }
+pub came_stopped : (r : Result Answered Halt) (e : Halt) (bytes : List ℕ) (o : History) (es : List Entry) (u v : Option (List ℕ)) → r ≡ Err e → StopsIn (logical_lines bytes) o es u v → (IsErrOf r ReadFault → AnswersEnded bytes o es u v) → (IsErrOf r InputFull ↔ (1000000000 < length bytes)) → LinesCame bytes r o es u v
+came_stopped r e bytes o es u v is stops cut full = record { answered = if_ok_err (λ (a : Answered). AnsweredBy (Answers (logical_lines bytes) o) es u v a.faulty) r e is; stopped = on_err r stops; cut_off = cut; full = full }
 
-never_full : (r : Result Bool Halt) (bytes : List ℕ) → (IsErrOf r InputFull → ⊥) → length bytes ≤ 1000000000 → IsErrOf r InputFull ↔ (1000000000 < length bytes)
+never_full : {T : Type 0} (r : Result T Halt) (bytes : List ℕ) → (IsErrOf r InputFull → ⊥) → length bytes ≤ 1000000000 → IsErrOf r InputFull ↔ (1000000000 < length bytes)
 never_full r bytes never few = ((λ f. absurd (never f)), (λ more. absurd (omega (arith, more, few))))
 
 -- those that stopped without a fault of reading, and not for the input's length
-pub came_fault : (r : Result Bool Halt) (e : Halt) (bytes : List ℕ) (o : History) (es : List Entry) (u v : Option (List ℕ)) → r ≡ Err e → StopsIn (logical_lines bytes) o es u v → (IsErrOf r ReadFault → ⊥) → (IsErrOf r InputFull → ⊥) → length bytes ≤ 1000000000 → LinesCame bytes r o es u v
+pub came_fault : (r : Result Answered Halt) (e : Halt) (bytes : List ℕ) (o : History) (es : List Entry) (u v : Option (List ℕ)) → r ≡ Err e → StopsIn (logical_lines bytes) o es u v → (IsErrOf r ReadFault → ⊥) → (IsErrOf r InputFull → ⊥) → length bytes ≤ 1000000000 → LinesCame bytes r o es u v
 came_fault r e bytes o es u v is stops read full few = came_stopped r e bytes o es u v is stops (λ f. absurd (read f)) (never_full r bytes full few)
 
 -- those that were answered
-pub came_answered : (f : Bool) (bytes : List ℕ) (o : History) (es : List Entry) (u v : Option (List ℕ)) → AnsweredBy (Answers (logical_lines bytes) o) es u v f → length bytes ≤ 1000000000 → LinesCame bytes (Ok f) o es u v
-came_answered f bytes o es u v h few = record { answered = h; stopped = tt; cut_off = λ r. absurd (cc); full = never_full (Ok f) bytes (λ r. absurd (cc)) few }
+pub came_answered : (a : Answered) (bytes : List ℕ) (o : History) (es : List Entry) (u v : Option (List ℕ)) → AnsweredBy (Answers (logical_lines bytes) o) es u v a.faulty → length bytes ≤ 1000000000 → LinesCame bytes (Ok a) o es u v
+came_answered a bytes o es u v h few = record { answered = h; stopped = tt; cut_off = λ r. absurd (cc); full = never_full (Ok a) bytes (λ r. absurd (cc)) few }
 
 -- nothing was taken
-pub came_none : (r : Result Bool Halt) (e : Halt) (x : Option (List ℕ)) (history : History) (w : Option (List ℕ)) → r ≡ Err e → (IsErrOf r ReadFault → ⊥) → (IsErrOf r InputFull → ⊥) → TakesInput x x (λ bytes. LinesCame bytes r history (entries_between history history) w w)
+pub came_none : (r : Result Answered Halt) (e : Halt) (x : Option (List ℕ)) (history : History) (w : Option (List ℕ)) → r ≡ Err e → (IsErrOf r ReadFault → ⊥) → (IsErrOf r InputFull → ⊥) → TakesInput x x (λ bytes. LinesCame bytes r history (entries_between history history) w w)
 came_none r e x history w is read full =
     let h = input_stops_none x history w in
     record { bytes = []; taken = Takes-none x; done = came_fault r e [] history (entries_between history history) w w is h.done read full (omega arith) }
 
 -- a read stopped it
-pub came_read : (r : Result Bool Halt) (q : Result ℕ Halt) (e d : Halt) (x y z : Option (List ℕ)) (b : Part) (o : History) (es : List Entry) (u v : Option (List ℕ)) (f : Bool) (sum : ℕ) → q ≡ Err e → r ≡ Err d → d ≡ e → TakesInput x y (λ bytes. SoFar b o es u v f sum bytes) → TakesInput y z (λ bytes. StopsReading bytes sum q) → TakesInput x z (λ bytes. LinesCame bytes r o es u v)
+pub came_read : (r : Result Answered Halt) (q : Result ℕ Halt) (e d : Halt) (x y z : Option (List ℕ)) (b : Part) (o : History) (es : List Entry) (u v : Option (List ℕ)) (f : Bool) (sum : ℕ) → q ≡ Err e → r ≡ Err d → d ≡ e → TakesInput x y (λ bytes. SoFar b o es u v f sum bytes) → TakesInput y z (λ bytes. StopsReading bytes sum q) → TakesInput x z (λ bytes. LinesCame bytes r o es u v)
 came_read r q e d x y z b o es u v f sum was is same h k =
     let xs = h.bytes in
     let ys = k.bytes in
@@ -76,28 +78,34 @@ came_read r q e d x y z b o es u v f sum was is same h k =
     }
 
 -- the answer of the last line stopped it
-pub came_last : (r : Result Bool Halt) (e : Halt) (x y : Option (List ℕ)) (b : Part) (old mid new : History) (u v w : Option (List ℕ)) (f : Bool) (sum : ℕ) → r ≡ Err e → (IsErrOf r ReadFault → ⊥) → (IsErrOf r InputFull → ⊥) → sum ≤ 1000000000 → Continues old mid → Continues mid new → TakesInput x y (λ bytes. SoFar b old (entries_between old mid) u v f sum bytes) → StopsIn (lines_from b []) mid (entries_between mid new) v w → TakesInput x y (λ bytes. LinesCame bytes r old (entries_between old new) u w)
-came_last r e x y b old mid new u v w f sum is read full few begun grown h k =
-    let stops = input_stops_last x y b old mid new u v w f begun grown (record { bytes = h.bytes; taken = h.taken; done = h.done.lines }) k in
+pub came_last : (r : Result Answered Halt) (e : Halt) (x y : Option (List ℕ)) (b : Part) (old mid new : History) (u v w : Option (List ℕ)) (f : Bool) (sum : ℕ) → r ≡ Err e → (IsErrOf r ReadFault → ⊥) → (IsErrOf r InputFull → ⊥) → sum ≤ 1000000000 → is_down (entries_between old mid) ≡ false → Continues old mid → Continues mid new → TakesInput x y (λ bytes. SoFar b old (entries_between old mid) u v f sum bytes) → StopsIn (lines_from b []) mid (entries_between mid new) v w → TakesInput x y (λ bytes. LinesCame bytes r old (entries_between old new) u w)
+came_last r e x y b old mid new u v w f sum is read full few up begun grown h k =
+    let stops = input_stops_last x y b old mid new u v w f up begun grown (record { bytes = h.bytes; taken = h.taken; done = h.done.lines }) k in
     record { bytes = h.bytes; taken = h.taken; done = came_fault r e h.bytes old (entries_between old new) u w is stops.done read full (omega (arith, h.done.count, few)) }
 
 -- the answer of a line of a piece stopped it
-pub came_in : (r : Result Bool Halt) (e : Halt) (x y z : Option (List ℕ)) (b : Part) (old mid new : History) (u v w : Option (List ℕ)) (f : Bool) (sum : ℕ) (ys : List ℕ) → r ≡ Err e → (IsErrOf r ReadFault → ⊥) → (IsErrOf r InputFull → ⊥) → sum + length ys ≤ 1000000000 → Continues old mid → Continues mid new → TakesInput x y (λ bytes. SoFar b old (entries_between old mid) u v f sum bytes) → Takes y ys z → ((more : List ℕ) → StopsIn (lines_from b (ys ++ more)) mid (entries_between mid new) v w) → TakesInput x z (λ bytes. LinesCame bytes r old (entries_between old new) u w)
-came_in r e x y z b old mid new u v w f sum ys is read full few begun grown h more k =
-    let stops = input_stops_in x y z b old mid new u v w f ys begun grown (record { bytes = h.bytes; taken = h.taken; done = h.done.lines }) more k in
+pub came_in : (r : Result Answered Halt) (e : Halt) (x y z : Option (List ℕ)) (b : Part) (old mid new : History) (u v w : Option (List ℕ)) (f : Bool) (sum : ℕ) (ys : List ℕ) → r ≡ Err e → (IsErrOf r ReadFault → ⊥) → (IsErrOf r InputFull → ⊥) → sum + length ys ≤ 1000000000 → is_down (entries_between old mid) ≡ false → Continues old mid → Continues mid new → TakesInput x y (λ bytes. SoFar b old (entries_between old mid) u v f sum bytes) → Takes y ys z → ((more : List ℕ) → StopsIn (lines_from b (ys ++ more)) mid (entries_between mid new) v w) → TakesInput x z (λ bytes. LinesCame bytes r old (entries_between old new) u w)
+came_in r e x y z b old mid new u v w f sum ys is read full few up begun grown h more k =
+    let stops = input_stops_in x y z b old mid new u v w f ys up begun grown (record { bytes = h.bytes; taken = h.taken; done = h.done.lines }) more k in
     record { bytes = h.bytes ++ ys; taken = stops.taken; done = came_fault r e (h.bytes ++ ys) old (entries_between old new) u w is stops.done read full (omega (arith, length-append h.bytes ys, h.done.count, few)) }
 
 -- the whole input was answered
-pub came_end : (x y : Option (List ℕ)) (b : Part) (old mid new : History) (u v w : Option (List ℕ)) (f g h : Bool) (sum : ℕ) → h ≡ (f || g) → sum ≤ 1000000000 → Continues old mid → Continues mid new → TakesInput x y (λ bytes. SoFar b old (entries_between old mid) u v f sum bytes) → AnsweredBy (Answers (lines_from b []) mid) (entries_between mid new) v w g → TakesInput x y (λ bytes. LinesCame bytes (Ok h) old (entries_between old new) u w)
-came_end x y b old mid new u v w f g h sum is few begun grown t k =
-    let all = input_end x y b old mid new u v w f g h is begun grown (record { bytes = t.bytes; taken = t.taken; done = t.done.lines }) k in
-    record { bytes = t.bytes; taken = t.taken; done = came_answered h t.bytes old (entries_between old new) u w all.done (omega (arith, t.done.count, few)) }
+pub came_end : (x y : Option (List ℕ)) (b : Part) (old mid new : History) (u v w : Option (List ℕ)) (f g : Bool) (a : Answered) (sum : ℕ) → a.faulty ≡ (f || g) → sum ≤ 1000000000 → is_down (entries_between old mid) ≡ false → Continues old mid → Continues mid new → TakesInput x y (λ bytes. SoFar b old (entries_between old mid) u v f sum bytes) → AnsweredBy (Answers (lines_from b []) mid) (entries_between mid new) v w g → TakesInput x y (λ bytes. LinesCame bytes (Ok a) old (entries_between old new) u w)
+came_end x y b old mid new u v w f g a sum is few up begun grown t k =
+    let all = input_end x y b old mid new u v w f g a.faulty is up begun grown (record { bytes = t.bytes; taken = t.taken; done = t.done.lines }) k in
+    record { bytes = t.bytes; taken = t.taken; done = came_answered a t.bytes old (entries_between old new) u w all.done (omega (arith, t.done.count, few)) }
 
-on_err_of : {P : Type 0} (r : Result Bool Halt) (e : Halt) → r ≡ Err e → OnErr r P → P
-on_err_of {P} r e is h = subst (λ (q : Result Bool Halt). OnErr q P) is h
+-- the lines up to the one that put the power down were answered
+pub came_down : (x y z : Option (List ℕ)) (b c : Part) (ys rest : List ℕ) (old mid new : History) (u v w : Option (List ℕ)) (f g : Bool) (a : Answered) (sum : ℕ) → a.faulty ≡ (f || g) → sum + length ys ≤ 1000000000 → is_down (entries_between old mid) ≡ false → is_down (entries_between old new) ≡ true → Continues old mid → Continues mid new → TakesInput x y (λ bytes. SoFar b old (entries_between old mid) u v f sum bytes) → Takes y ys z → TakesPiece b ys c rest mid (entries_between mid new) v w g → TakesInput x z (λ bytes. LinesCame bytes (Ok a) old (entries_between old new) u w)
+came_down x y z b c ys rest old mid new u v w f g a sum is few up down begun grown t more k =
+    let all = input_down x y z b c ys rest old mid new u v w f g a.faulty is up down begun grown (record { bytes = t.bytes; taken = t.taken; done = t.done.lines }) more k in
+    record { bytes = t.bytes ++ ys; taken = all.taken; done = came_answered a (t.bytes ++ ys) old (entries_between old new) u w all.done (omega (arith, length-append t.bytes ys, t.done.count, few)) }
 
-if_ok_of : (P : Bool → Type 0) (r : Result Bool Halt) (f : Bool) → r ≡ Ok f → IfOk r P → P f
-if_ok_of P r f is h = subst (λ (q : Result Bool Halt). IfOk q P) is h
+on_err_of : {T P : Type 0} (r : Result T Halt) (e : Halt) → r ≡ Err e → OnErr r P → P
+on_err_of {T} {P} r e is h = subst (λ (q : Result T Halt). OnErr q P) is h
+
+if_ok_of : {T : Type 0} (P : T → Type 0) (r : Result T Halt) (t : T) → r ≡ Ok t → IfOk r P → P t
+if_ok_of {T} P r t is h = subst (λ (q : Result T Halt). IfOk q P) is h
 
 -- a session that stopped as it began
 pub came_begin : (r : Result Bool Halt) (e : Halt) (o : History) (x w : Option (List ℕ)) (es : List Entry) → r ≡ Err e → (IsErrOf r ReadFault → ⊥) → (IsErrOf r InputFull → ⊥) → AtMostOne start_call es → TakesInput x x (λ bytes. SessionCame bytes r o es w w)
@@ -109,7 +117,7 @@ came_begin r e o x w es is read full (inr start) =
     record { bytes = []; taken = Takes-none x; done = record { session = if_ok_err _ r e is; stopped = on_err r h.done; cut_off = λ f. absurd (read f); full = never_full r [] full (omega arith) } }
 
 -- one that stopped in its lines
-pub came_lines : (r q : Result Bool Halt) (e d : Halt) (a b c : History) (x y u v : Option (List ℕ)) → q ≡ Err e → r ≡ Err d → d ≡ e → Continues a b → Continues b c → OneCall start_call (entries_between a b) → TakesInput x y (λ bytes. LinesCame bytes q b (entries_between b c) u v) → TakesInput x y (λ bytes. SessionCame bytes r a (entries_between a c) u v)
+pub came_lines : (r : Result Bool Halt) (q : Result Answered Halt) (e d : Halt) (a b c : History) (x y u v : Option (List ℕ)) → q ≡ Err e → r ≡ Err d → d ≡ e → Continues a b → Continues b c → OneCall start_call (entries_between a b) → TakesInput x y (λ bytes. LinesCame bytes q b (entries_between b c) u v) → TakesInput x y (λ bytes. SessionCame bytes r a (entries_between a c) u v)
 came_lines r q e d a b c x y u v was is same ab bc start h =
     let fs = entries_between b c in
     let stops = stopped_lines a b c x y u v ab bc start (record { bytes = h.bytes; taken = h.taken; done = on_err_of q e was h.done.stopped }) in
@@ -126,21 +134,21 @@ came_lines r q e d a b c x y u v was is same ab bc start h =
     }
 
 -- one that stopped behind them
-pub came_behind : (r q : Result Bool Halt) (e : Halt) (f : Bool) (a b c d : History) (x y u v : Option (List ℕ)) → q ≡ Ok f → r ≡ Err e → (IsErrOf r ReadFault → ⊥) → (IsErrOf r InputFull → ⊥) → Continues a b → Continues b c → Continues c d → OneCall start_call (entries_between a b) → TakesInput x y (λ bytes. LinesCame bytes q b (entries_between b c) u v) → MayCall end_call (entries_between c d) → TakesInput x y (λ bytes. SessionCame bytes r a (entries_between a d) u v)
-came_behind r q e f a b c d x y u v was is read never ab bc cd start h (inl none) =
-    let stops = stopped_end a b c d x y u v f ab bc cd start (record { bytes = h.bytes; taken = h.taken; done = if_ok_of _ q f was h.done.answered }) (inl none) in
-    let full = full_later q r f x y was never (record { bytes = h.bytes; taken = h.taken; done = h.done.full }) in
+pub came_behind : (r : Result Bool Halt) (q : Result Answered Halt) (e : Halt) (t : Answered) (a b c d : History) (x y u v : Option (List ℕ)) → q ≡ Ok t → r ≡ Err e → (IsErrOf r ReadFault → ⊥) → (IsErrOf r InputFull → ⊥) → Continues a b → Continues b c → Continues c d → OneCall start_call (entries_between a b) → TakesInput x y (λ bytes. LinesCame bytes q b (entries_between b c) u v) → MayClose (is_down (entries_between b c)) c (entries_between c d) → TakesInput x y (λ bytes. SessionCame bytes r a (entries_between a d) u v)
+came_behind r q e t a b c d x y u v was is read never ab bc cd start h (inl none) =
+    let stops = stopped_end a b c d x y u v t.faulty ab bc cd start (record { bytes = h.bytes; taken = h.taken; done = if_ok_of _ q t was h.done.answered }) (inl none) in
+    let full = full_later q r t x y was never (record { bytes = h.bytes; taken = h.taken; done = h.done.full }) in
     record { bytes = h.bytes; taken = h.taken; done = record { session = if_ok_err _ r e is; stopped = on_err r stops.done; cut_off = λ g. absurd (read g); full = full.done } }
-came_behind r q e f a b c d x y u v was is read never ab bc cd start h (inr end) =
-    let stops = stopped_end a b c d x y u v f ab bc cd start (record { bytes = h.bytes; taken = h.taken; done = if_ok_of _ q f was h.done.answered }) (inr end) in
-    let full = full_later q r f x y was never (record { bytes = h.bytes; taken = h.taken; done = h.done.full }) in
+came_behind r q e t a b c d x y u v was is read never ab bc cd start h (inr end) =
+    let stops = stopped_end a b c d x y u v t.faulty ab bc cd start (record { bytes = h.bytes; taken = h.taken; done = if_ok_of _ q t was h.done.answered }) (inr end) in
+    let full = full_later q r t x y was never (record { bytes = h.bytes; taken = h.taken; done = h.done.full }) in
     record { bytes = h.bytes; taken = h.taken; done = record { session = if_ok_err _ r e is; stopped = on_err r stops.done; cut_off = λ g. absurd (read g); full = full.done } }
 
 -- one that ended
-pub came_session : (q : Result Bool Halt) (f : Bool) (a b c d : History) (x y u v : Option (List ℕ)) → q ≡ Ok f → Continues a b → Continues b c → Continues c d → OneCall start_call (entries_between a b) → TakesInput x y (λ bytes. LinesCame bytes q b (entries_between b c) u v) → OneCall end_call (entries_between c d) → TakesInput x y (λ bytes. SessionCame bytes (Ok f) a (entries_between a d) u v)
-came_session q f a b c d x y u v was ab bc cd start h end =
-    let whole = session_parts a b c d x y u v f ab bc cd start (record { bytes = h.bytes; taken = h.taken; done = if_ok_of _ q f was h.done.answered }) end in
-    let full = full_later q (Ok f) f x y was (λ g. absurd (cc)) (record { bytes = h.bytes; taken = h.taken; done = h.done.full }) in
+pub came_session : (q : Result Answered Halt) (t : Answered) (a b c d : History) (x y u v : Option (List ℕ)) → q ≡ Ok t → Continues a b → Continues b c → Continues c d → OneCall start_call (entries_between a b) → TakesInput x y (λ bytes. LinesCame bytes q b (entries_between b c) u v) → Closes (is_down (entries_between b c)) c (entries_between c d) → TakesInput x y (λ bytes. SessionCame bytes (Ok t.faulty) a (entries_between a d) u v)
+came_session q t a b c d x y u v was ab bc cd start h end =
+    let whole = session_parts a b c d x y u v t.faulty ab bc cd start (record { bytes = h.bytes; taken = h.taken; done = if_ok_of _ q t was h.done.answered }) end in
+    let full = full_later q (Ok t.faulty) t x y was (λ g. absurd (cc)) (record { bytes = h.bytes; taken = h.taken; done = h.done.full }) in
     record { bytes = h.bytes; taken = h.taken; done = record { session = whole.done; stopped = tt; cut_off = λ g. absurd (cc); full = full.done } }
 
 -- a run, of a history that begins with nothing

@@ -8,7 +8,8 @@ use Rattle.wm_outside.proofs.Telling.{Grows-none, Takes-none}
 use Rattle.wm_run.specs.Halt.{status_of}
 use Rattle.wm_run.specs.Run.{ended_status}
 use Rattle.wm_run.specs.Grown.{grown, entries_between}
-use Rattle.wm_run.specs.Session.{Answers, AnsweredBy, IsSession, OneCall, start_call, end_call}
+use Rattle.wm_run.specs.Down.{is_down}
+use Rattle.wm_run.specs.Session.{Answers, AnsweredBy, Closes, IsSession, OneCall, start_call}
 use Rattle.wm_run.specs.Stopped.{IsStopped}
 use Rattle.wm_run.specs.Taking.{TakesInput}
 use Rattle.wm_run.specs.declared.halt.Halt.{Halt}
@@ -27,21 +28,24 @@ three_parts a b c d ab bc cd =
     let rest = entries-then b c d bc cd in
     more ∙ (ap (λ (fs : List Entry). es ++ fs) rest ∙ sym (append_assoc es (entries_between b c) (entries_between c d)))
 
--- the first call, the lines and the last call, one after another
-abbrev pub session_parts : (a b c d : History) (x y u v : Option (List ℕ)) (f : Bool) → Continues a b → Continues b c → Continues c d → OneCall start_call (entries_between a b) → TakesInput x y (λ bytes. AnsweredBy (Answers (logical_lines bytes) b) (entries_between b c) u v f) → OneCall end_call (entries_between c d) → TakesInput x y (λ bytes. IsSession (logical_lines bytes) a (entries_between a d) u v f)
+-- the first call, the lines and the end, one after another
+abbrev pub session_parts : (a b c d : History) (x y u v : Option (List ℕ)) (f : Bool) → Continues a b → Continues b c → Continues c d → OneCall start_call (entries_between a b) → TakesInput x y (λ bytes. AnsweredBy (Answers (logical_lines bytes) b) (entries_between b c) u v f) → Closes (is_down (entries_between b c)) c (entries_between c d) → TakesInput x y (λ bytes. IsSession (logical_lines bytes) a (entries_between a d) u v f)
 session_parts a b c d x y u v f ab bc cd start taken end =
     let lines = logical_lines taken.bytes in
+    let es = entries_between a b in
+    let fs = entries_between b c in
+    let at : grown a (es ++ fs) ≡ c = ap (grown a) (sym (entries-then a b c ab bc)) ∙ grown-between a c (Continues-then a b c ab bc) in
     record {
       bytes = taken.bytes;
       taken = taken.taken;
       done = record {
-        first = entries_between a b;
-        middle = entries_between b c;
+        first = es;
+        middle = fs;
         last = entries_between c d;
         parts = three_parts a b c d ab bc cd;
         start = start;
-        answered = at_grown (λ (o : History). AnsweredBy (Answers lines o) (entries_between b c) u v f) a b ab taken.done;
-        end = end;
+        answered = at_grown (λ (o : History). AnsweredBy (Answers lines o) fs u v f) a b ab taken.done;
+        end = subst (λ (o : History). Closes (is_down fs) o (entries_between c d)) (sym at) end;
       };
     }
 

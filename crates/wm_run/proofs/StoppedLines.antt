@@ -7,11 +7,12 @@ use Rattle.wm_law.specs.declared.call.Entry.{Entry}
 use Rattle.wm_journal.specs.History.{History}
 use Rattle.wm_outside.specs.Told.{Grows}
 use Rattle.wm_outside.proofs.Telling.{Grows-none, Grows-then}
+use Rattle.wm_run.specs.Down.{is_down}
 use Rattle.wm_run.specs.Grown.{grown}
 use Rattle.wm_run.specs.Session.{Answers, AnswersLine, AnsweredBy}
 use Rattle.wm_run.specs.Stopped.{IsCutShort, StopsIn, Untouched}
 use Rattle.wm_run.specs.Taking.{TakesPiece}
-use Rattle.wm_run.proofs.Monitors.{since-append}
+use Rattle.wm_monitor.proofs.Lists.{since-append}
 use Rattle.wm_run.proofs.Takings.{Answers-append, Answers-one}
 
 take-append : (xs ys : List ℕ) (n : ℕ) → take (length xs + n) (xs ++ ys) ≡ xs ++ take n ys
@@ -55,8 +56,8 @@ StopsIn-more xs ys o es a b h =
     }
 
 -- lines were answered before them
-pub StopsIn-after : (xs ys : List (Option (List ℕ))) (o : History) (es fs : List Entry) (a b c : Option (List ℕ)) (f : Bool) → AnsweredBy (Answers xs o) es a b f → StopsIn ys (grown o es) fs b c → StopsIn (xs ++ ys) o (es ++ fs) a c
-StopsIn-after xs ys o es fs a b c f h k =
+pub StopsIn-after : (xs ys : List (Option (List ℕ))) (o : History) (es fs : List Entry) (a b c : Option (List ℕ)) (f : Bool) → is_down es ≡ false → AnsweredBy (Answers xs o) es a b f → StopsIn ys (grown o es) fs b c → StopsIn (xs ++ ys) o (es ++ fs) a c
+StopsIn-after xs ys o es fs a b c f up h k =
     let s = k.some in
     record {
       answered = xs ++ k.answered;
@@ -65,7 +66,7 @@ StopsIn-after xs ys o es fs a b c f h k =
       some = record {
         due = h.bytes ++ s.due;
         faulty = f || s.faulty;
-        answers = Answers-append xs k.answered o es fs h.bytes s.due f s.faulty h.answers s.answers;
+        answers = Answers-append xs k.answered o es fs h.bytes s.due f s.faulty up h.answers s.answers;
         count = length h.bytes + s.count;
         written = subst (λ (l : List ℕ). Grows a c l) (sym (take-append h.bytes s.due s.count)) (Grows-then a b c h.bytes (take s.count s.due) h.written s.written);
       };
@@ -88,10 +89,10 @@ stops_front a b piece rest o es u v f h more =
     (StopsIn-more h.lines (lines_from b (rest ++ more)) o es u v (StopsIn-whole h.lines o es u v f h.answered))
 
 -- bytes were taken before them
-pub stops_then : (a b : Part) (piece rest : List ℕ) (o : History) (es fs : List Entry) (u v w : Option (List ℕ)) (f : Bool) → TakesPiece a piece b rest o es u v f → ((more : List ℕ) → StopsIn (lines_from b (rest ++ more)) (grown o es) fs v w) → (more : List ℕ) → StopsIn (lines_from a (piece ++ more)) o (es ++ fs) u w
-stops_then a b piece rest o es fs u v w f h k more =
+pub stops_then : (a b : Part) (piece rest : List ℕ) (o : History) (es fs : List Entry) (u v w : Option (List ℕ)) (f : Bool) → is_down es ≡ false → TakesPiece a piece b rest o es u v f → ((more : List ℕ) → StopsIn (lines_from b (rest ++ more)) (grown o es) fs v w) → (more : List ℕ) → StopsIn (lines_from a (piece ++ more)) o (es ++ fs) u w
+stops_then a b piece rest o es fs u v w f up h k more =
     subst (λ (l : List (Option (List ℕ))). StopsIn l o (es ++ fs) u w) (sym (h.split more))
-    (StopsIn-after h.lines (lines_from b (rest ++ more)) o es fs u v w f h.answered (k more))
+    (StopsIn-after h.lines (lines_from b (rest ++ more)) o es fs u v w f up h.answered (k more))
 
 -- a line's answer was cut short, and others follow it
 pub stops_line : (a b : Part) (piece rest : List ℕ) (lines : List (Option (List ℕ))) (o : History) (es : List Entry) (u v : Option (List ℕ)) → ((more : List ℕ) → lines_from a (piece ++ more) ≡ lines ++ lines_from b (rest ++ more)) → StopsIn lines o es u v → (more : List ℕ) → StopsIn (lines_from a (piece ++ more)) o es u v

@@ -1,5 +1,5 @@
 -- Laws of a run that stops: what its session called and wrote until then.
-use Rattle.std.proofs.Common.{◌≡◌, ◌↔◌, ℕ, ◌+◌, ◌<◌, Bool, true, List, [], ◌++◌, length, take, Option, Result, Ok, Err, sym, ap, subst, ◌∙◌, refl, inl, inr, arith}
+use Rattle.std.proofs.Common.{◌≡◌, ◌↔◌, ℕ, ◌+◌, ◌<◌, Bool, true, false, List, [], ◌++◌, length, take, Option, Result, Ok, Err, sym, ap, subst, ◌∙◌, refl, inl, inr, arith}
 use Rattle.std.specs.Prelude.{IsErrOf, OnErr}
 use Rattle.std.specs.List.{list_all}
 use Rattle.std.proofs.Math.Seq.{take-length}
@@ -7,16 +7,17 @@ use Rattle.std.proofs.lemmas.List.{append-nil, length-append}
 use Rattle.wm_clwords.specs.Lines.{logical_lines}
 use Rattle.wm_clwords.specs.Part.{Part, fresh, lines_from}
 use Rattle.wm_clwords.proofs.LinesLaw.{lines_from-fresh}
-use Rattle.wm_law.specs.declared.call.Call.{Call}
 use Rattle.wm_law.specs.declared.call.Entry.{Entry}
+use Rattle.wm_law.specs.History.{entries_of}
 use Rattle.wm_journal.specs.History.{History}
 use Rattle.wm_outside.specs.Told.{Grows, Takes}
 use Rattle.wm_outside.proofs.Telling.{Grows-none, Takes-none, Takes-then}
+use Rattle.wm_run.specs.Down.{is_down}
 use Rattle.wm_run.specs.Grown.{grown, entries_between}
-use Rattle.wm_run.specs.Lists.{since}
-use Rattle.wm_run.specs.Monitor.{is_own}
-use Rattle.wm_run.specs.Session.{Answers, AnsweredBy, OneCall, start_call, end_call}
-use Rattle.wm_run.specs.Stopped.{AtMostOne, MayCall, IsStopped, StopsIn, Untouched, WritesSome}
+use Rattle.wm_monitor.specs.Lists.{since}
+use Rattle.wm_monitor.specs.Monitor.{is_own}
+use Rattle.wm_run.specs.Session.{Answers, AnsweredBy, Closes, IsUncalled, OneCall, session_pass, start_call}
+use Rattle.wm_run.specs.Stopped.{AtMostOne, MayClose, IsStopped, StopsIn, Untouched, WritesSome}
 use Rattle.wm_run.specs.Taking.{TakesInput, TakesPiece}
 use Rattle.wm_run.specs.declared.halt.Halt.{Halt}
 use Rattle.wm_run.specs.declared.halt.Halt.TheVariants.{InputFull}
@@ -48,13 +49,17 @@ pub WritesSome-all : (Due : List Entry → List ℕ → Bool → Type 0) (es : L
 WritesSome-all Due es a b f h =
     record { due = h.bytes; faulty = f; answers = h.answers; count = length h.bytes; written = subst (λ (l : List ℕ). Grows a b l) (sym (take-length h.bytes)) h.written }
 
--- a call was made or not, and entries of the monitor follow
-pub no_call : {c : Call} (old new : History) → list_all is_own (since old.log new.log) ≡ true → MayCall c (entries_between old new)
-no_call old new own = inl (session_entries-own (since old.log new.log) own)
+-- entries of the monitor alone
+pub no_call : (old new : History) → list_all is_own (since old.log new.log) ≡ true → IsUncalled (entries_between old new)
+no_call old new own = session_entries-own (since old.log new.log) own
 
--- and a call that was refused for want of memory
-pub no_call_same : {c : Call} (old mid new : History) → new ≡ mid → list_all is_own (since old.log mid.log) ≡ true → MayCall c (entries_between old new)
-no_call_same old mid new is own = inl (ap (session_entries old) is ∙ session_entries-own (since old.log mid.log) own)
+-- and then a call that was refused
+pub no_call_same : (old mid new : History) → new ≡ mid → list_all is_own (since old.log mid.log) ≡ true → IsUncalled (entries_between old new)
+no_call_same old mid new is own = ap (session_entries old) is ∙ session_entries-own (since old.log mid.log) own
+
+-- nothing at all
+pub no_call_none : (h : History) → IsUncalled (entries_between h h)
+no_call_none h = ap (entries_of session_pass) (entries-none h)
 
 -- a session that stopped as it began
 abbrev pub stopped_begin : (o : History) (x w : Option (List ℕ)) (es : List Entry) → AtMostOne start_call es → TakesInput x x (λ bytes. IsStopped (logical_lines bytes) o es w w)
@@ -87,7 +92,7 @@ stopped_lines a b c x y u v ab bc start taken =
     }
 
 -- one that stopped behind them
-abbrev pub stopped_end : (a b c d : History) (x y u v : Option (List ℕ)) (f : Bool) → Continues a b → Continues b c → Continues c d → OneCall start_call (entries_between a b) → TakesInput x y (λ bytes. AnsweredBy (Answers (logical_lines bytes) b) (entries_between b c) u v f) → MayCall end_call (entries_between c d) → TakesInput x y (λ bytes. IsStopped (logical_lines bytes) a (entries_between a d) u v)
+abbrev pub stopped_end : (a b c d : History) (x y u v : Option (List ℕ)) (f : Bool) → Continues a b → Continues b c → Continues c d → OneCall start_call (entries_between a b) → TakesInput x y (λ bytes. AnsweredBy (Answers (logical_lines bytes) b) (entries_between b c) u v f) → MayClose (is_down (entries_between b c)) c (entries_between c d) → TakesInput x y (λ bytes. IsStopped (logical_lines bytes) a (entries_between a d) u v)
 stopped_end a b c d x y u v f ab bc cd start taken (inl none) =
     let fs = entries_between b c in
     let lines = logical_lines taken.bytes in
@@ -109,12 +114,12 @@ stopped_end a b c d x y u v f ab bc cd start taken (inr end) =
     record { bytes = whole.bytes; taken = whole.taken; done = inr (inr (record { faulty = f; session = whole.done })) }
 
 -- a part of a piece was taken, and its next line's answer was cut short
-pub stops_piece : (a b : Part) (piece rest : List ℕ) (old mid new : History) (u v w : Option (List ℕ)) (f : Bool) → Continues old mid → Continues mid new → TakesPiece a piece b rest old (entries_between old mid) u v f → ((more : List ℕ) → StopsIn (lines_from b (rest ++ more)) mid (entries_between mid new) v w) → (more : List ℕ) → StopsIn (lines_from a (piece ++ more)) old (entries_between old new) u w
-stops_piece a b piece rest old mid new u v w f ab bc h k more =
+pub stops_piece : (a b : Part) (piece rest : List ℕ) (old mid new : History) (u v w : Option (List ℕ)) (f : Bool) → is_down (entries_between old mid) ≡ false → Continues old mid → Continues mid new → TakesPiece a piece b rest old (entries_between old mid) u v f → ((more : List ℕ) → StopsIn (lines_from b (rest ++ more)) mid (entries_between mid new) v w) → (more : List ℕ) → StopsIn (lines_from a (piece ++ more)) old (entries_between old new) u w
+stops_piece a b piece rest old mid new u v w f up ab bc h k more =
     let es = entries_between old mid in
     let fs = entries_between mid new in
     let next = at_grown (λ (o : History). (bytes : List ℕ) → StopsIn (lines_from b (rest ++ bytes)) o fs v w) old mid ab k in
-    subst (λ (all : List Entry). StopsIn (lines_from a (piece ++ more)) old all u w) (sym (entries-then old mid new ab bc)) (stops_then a b piece rest old es fs u v w f h next more)
+    subst (λ (all : List Entry). StopsIn (lines_from a (piece ++ more)) old all u w) (sym (entries-then old mid new ab bc)) (stops_then a b piece rest old es fs u v w f up h next more)
 
 -- a read that gave no byte
 abbrev pub input_same : {P : List ℕ → Type 0} (x y z : Option (List ℕ)) (ys : List ℕ) → ys ≡ [] → TakesInput x y P → Takes y ys z → TakesInput x z P
@@ -137,8 +142,8 @@ input_stops x y z b o es u v f ys h more =
     }
 
 -- a piece behind them in whose lines it stopped
-abbrev pub input_stops_in : (x y z : Option (List ℕ)) (b : Part) (old mid new : History) (u v w : Option (List ℕ)) (f : Bool) (ys : List ℕ) → Continues old mid → Continues mid new → TakesInput x y (λ bytes. TakesPiece fresh bytes b [] old (entries_between old mid) u v f) → Takes y ys z → ((more : List ℕ) → StopsIn (lines_from b (ys ++ more)) mid (entries_between mid new) v w) → TakesInput x z (λ bytes. StopsIn (logical_lines bytes) old (entries_between old new) u w)
-input_stops_in x y z b old mid new u v w f ys ab bc h more k =
+abbrev pub input_stops_in : (x y z : Option (List ℕ)) (b : Part) (old mid new : History) (u v w : Option (List ℕ)) (f : Bool) (ys : List ℕ) → is_down (entries_between old mid) ≡ false → Continues old mid → Continues mid new → TakesInput x y (λ bytes. TakesPiece fresh bytes b [] old (entries_between old mid) u v f) → Takes y ys z → ((more : List ℕ) → StopsIn (lines_from b (ys ++ more)) mid (entries_between mid new) v w) → TakesInput x z (λ bytes. StopsIn (logical_lines bytes) old (entries_between old new) u w)
+input_stops_in x y z b old mid new u v w f ys up ab bc h more k =
     let xs = h.bytes in
     let front = TakesPiece-more fresh b xs ys old _ u v f h.done in
     let lines = ap (lines_from fresh) (append-nil (xs ++ ys)) ∙ lines_from-fresh (xs ++ ys) in
@@ -146,12 +151,12 @@ input_stops_in x y z b old mid new u v w f ys ab bc h more k =
       bytes = xs ++ ys;
       taken = Takes-then x y z xs ys h.taken more;
       done = subst (λ (l : List (Option (List ℕ))). StopsIn l old (entries_between old new) u w) lines
-          (stops_piece fresh b (xs ++ ys) ys old mid new u v w f ab bc front k []);
+          (stops_piece fresh b (xs ++ ys) ys old mid new u v w f up ab bc front k []);
     }
 
 -- the answer of the line that ends with the input was cut short
-abbrev pub input_stops_last : (x y : Option (List ℕ)) (b : Part) (old mid new : History) (u v w : Option (List ℕ)) (f : Bool) → Continues old mid → Continues mid new → TakesInput x y (λ bytes. TakesPiece fresh bytes b [] old (entries_between old mid) u v f) → StopsIn (lines_from b []) mid (entries_between mid new) v w → TakesInput x y (λ bytes. StopsIn (logical_lines bytes) old (entries_between old new) u w)
-input_stops_last x y b old mid new u v w f ab bc h k =
+abbrev pub input_stops_last : (x y : Option (List ℕ)) (b : Part) (old mid new : History) (u v w : Option (List ℕ)) (f : Bool) → is_down (entries_between old mid) ≡ false → Continues old mid → Continues mid new → TakesInput x y (λ bytes. TakesPiece fresh bytes b [] old (entries_between old mid) u v f) → StopsIn (lines_from b []) mid (entries_between mid new) v w → TakesInput x y (λ bytes. StopsIn (logical_lines bytes) old (entries_between old new) u w)
+input_stops_last x y b old mid new u v w f up ab bc h k =
     let xs = h.bytes in
     let d = h.done in
     let es = entries_between old mid in
@@ -163,7 +168,7 @@ input_stops_last x y b old mid new u v w f ab bc h k =
       taken = h.taken;
       done = subst (λ (all : List Entry). StopsIn (logical_lines xs) old all u w) (sym (entries-then old mid new ab bc))
           (subst (λ (l : List (Option (List ℕ))). StopsIn l old (es ++ fs) u w) (sym lines)
-          (StopsIn-after d.lines (lines_from b []) old es fs u v w f d.answered last));
+          (StopsIn-after d.lines (lines_from b []) old es fs u v w f up d.answered last));
     }
 
 -- the same of an error that is passed on

@@ -1,5 +1,6 @@
 -- Laws of lines: how answers follow one another, and the parts of an input.
 use Rattle.std.proofs.Common.{◌≡◌, ℕ, ◌||◌, Bool, true, false, List, [], ◌∷◌, ◌++◌, Option, sym, ap, subst, ◌∙◌, refl, append_assoc}
+use Rattle.std.proofs.lemmas.Bool.{false≢true}
 use Rattle.std.proofs.lemmas.List.{append-nil}
 use Rattle.wm_clwords.specs.Lines.{logical_lines}
 use Rattle.wm_clwords.specs.Part.{Part, fresh, lines_from}
@@ -8,24 +9,38 @@ use Rattle.wm_law.specs.declared.call.Entry.{Entry}
 use Rattle.wm_journal.specs.History.{History}
 use Rattle.wm_outside.proofs.Telling.{Grows-none, Grows-then}
 use Rattle.wm_run.specs.Grown.{grown}
-use Rattle.wm_run.specs.Session.{Answers, AnswersLine, AnsweredBy}
+use Rattle.wm_run.specs.Down.{is_down}
+use Rattle.wm_run.specs.Session.{Answers, AnswersLine, AnsweredBy, GoesOn, Says}
 use Rattle.wm_run.specs.Taking.{TakesPiece}
+use Rattle.wm_run.proofs.Downs.{down_then, up_first, up_then}
 use Rattle.wm_run.proofs.Growing.{grown-none, grown-then}
 
 or_assoc : (a b c : Bool) → ((a || b) || c) ≡ (a || (b || c))
 or_assoc true b c = refl
 or_assoc false b c = refl
 
--- answers to lines, and then to more lines
-pub Answers-append : (xs ys : List (Option (List ℕ))) (o : History) (es fs : List Entry) (bs cs : List ℕ) (f g : Bool) → Answers xs o es bs f → Answers ys (grown o es) fs cs g → Answers (xs ++ ys) o (es ++ fs) (bs ++ cs) (f || g)
-Answers-append [] ys o es fs bs cs f g h k =
+-- once the power is down nothing follows
+ends_down : (own others : List Entry) (Rest : List Entry → List ℕ → Bool → Type 0) (more : List ℕ) (later : Bool) → is_down own ≡ true → GoesOn (is_down own) Rest others more later → Says [] false others more later
+ends_down own others Rest more later down h = subst (λ (t : Bool). GoesOn t Rest others more later) down h
+
+-- while it is up the rest follows
+goes_on : (own others : List Entry) (Rest : List Entry → List ℕ → Bool → Type 0) (more : List ℕ) (later : Bool) → is_down own ≡ false → GoesOn (is_down own) Rest others more later → Rest others more later
+goes_on own others Rest more later up h = subst (λ (t : Bool). GoesOn t Rest others more later) up h
+
+-- answers to lines that leave the power up, and then to more lines
+pub Answers-append : (xs ys : List (Option (List ℕ))) (o : History) (es fs : List Entry) (bs cs : List ℕ) (f g : Bool) → is_down es ≡ false → Answers xs o es bs f → Answers ys (grown o es) fs cs g → Answers (xs ++ ys) o (es ++ fs) (bs ++ cs) (f || g)
+Answers-append [] ys o es fs bs cs f g up h k =
     let same : grown o es ≡ o = ap (grown o) h.none ∙ grown-none o in
     let rest = subst (λ (x : History). Answers ys x fs cs g) same k in
     let P : List Entry → List ℕ → Bool → Type 0 = λ e b t. Answers ys o (e ++ fs) (b ++ cs) (t || g) in
     subst (λ (e : List Entry). P e bs f) (sym h.none) (subst (λ (b : List ℕ). P [] b f) (sym h.says) (subst (λ (t : Bool). P [] [] t) (sym h.fault) rest))
-Answers-append (x ∷ xs) ys o es fs bs cs f g h k =
+Answers-append (x ∷ xs) ys o es fs bs cs f g up h k =
     let same : grown o es ≡ grown (grown o h.own) h.others = ap (grown o) h.entries ∙ sym (grown-then o h.own h.others) in
     let rest = subst (λ (x : History). Answers ys x fs cs g) same k in
+    let first : is_down h.own ≡ false = up_first h.own h.others es h.entries up in
+    let later : is_down h.others ≡ false = up_then h.own h.others es h.entries up in
+    let before = goes_on h.own h.others (Answers xs (grown o h.own)) h.more h.later first h.rest in
+    let both = Answers-append xs ys (grown o h.own) h.others fs h.more cs h.later g later before rest in
     record {
       own = h.own;
       others = h.others ++ fs;
@@ -37,17 +52,51 @@ Answers-append (x ∷ xs) ys o es fs bs cs f g h k =
       text = ap (λ (b : List ℕ). b ++ cs) h.text ∙ append_assoc h.said h.more cs;
       fault = ap (λ (t : Bool). t || g) h.fault ∙ or_assoc h.wrong h.later g;
       first = h.first;
-      rest = Answers-append xs ys (grown o h.own) h.others fs h.more cs h.later g h.rest rest;
+      rest = subst (λ (t : Bool). GoesOn t (Answers (xs ++ ys) (grown o h.own)) (h.others ++ fs) (h.more ++ cs) (h.later || g)) (sym first) both;
     }
 
+-- answers to lines that put the power down are answers to any more lines
+pub Answers-down : (xs ys : List (Option (List ℕ))) (o : History) (es : List Entry) (bs : List ℕ) (f : Bool) → is_down es ≡ true → Answers xs o es bs f → Answers (xs ++ ys) o es bs f
+Answers-down [] ys o es bs f down h = absurd (false≢true (sym (ap is_down h.none) ∙ down))
+Answers-down (x ∷ xs) ys o es bs f down h = go (λ later before. Answers-down xs ys (grown o h.own) h.others h.more h.later later before) (is_down h.own) refl
+  where
+    with_rest : GoesOn (is_down h.own) (Answers (xs ++ ys) (grown o h.own)) h.others h.more h.later → Answers ((x ∷ xs) ++ ys) o es bs f
+    with_rest rest =
+        record {
+          own = h.own;
+          others = h.others;
+          said = h.said;
+          more = h.more;
+          wrong = h.wrong;
+          later = h.later;
+          entries = h.entries;
+          text = h.text;
+          fault = h.fault;
+          first = h.first;
+          rest = rest;
+        }
+
+    go : (is_down h.others ≡ true → Answers xs (grown o h.own) h.others h.more h.later → Answers (xs ++ ys) (grown o h.own) h.others h.more h.later) → (t : Bool) → is_down h.own ≡ t → Answers ((x ∷ xs) ++ ys) o es bs f
+    go again true own =
+        let none = ends_down h.own h.others (Answers xs (grown o h.own)) h.more h.later own h.rest in
+        with_rest (subst (λ (t : Bool). GoesOn t (Answers (xs ++ ys) (grown o h.own)) h.others h.more h.later) (sym own) none)
+    go again false own =
+        let others : is_down h.others ≡ true = sym (down_then h.own h.others es h.entries own) ∙ down in
+        let before = goes_on h.own h.others (Answers xs (grown o h.own)) h.more h.later own h.rest in
+        let more = again others before in
+        with_rest (subst (λ (t : Bool). GoesOn t (Answers (xs ++ ys) (grown o h.own)) h.others h.more h.later) (sym own) more)
+
 -- the same with what was written
-pub AnsweredBy-append : (xs ys : List (Option (List ℕ))) (o : History) (es fs : List Entry) (a b c : Option (List ℕ)) (f g : Bool) → AnsweredBy (Answers xs o) es a b f → AnsweredBy (Answers ys (grown o es)) fs b c g → AnsweredBy (Answers (xs ++ ys) o) (es ++ fs) a c (f || g)
-AnsweredBy-append xs ys o es fs a b c f g h k =
+pub AnsweredBy-append : (xs ys : List (Option (List ℕ))) (o : History) (es fs : List Entry) (a b c : Option (List ℕ)) (f g : Bool) → is_down es ≡ false → AnsweredBy (Answers xs o) es a b f → AnsweredBy (Answers ys (grown o es)) fs b c g → AnsweredBy (Answers (xs ++ ys) o) (es ++ fs) a c (f || g)
+AnsweredBy-append xs ys o es fs a b c f g up h k =
     record {
       bytes = h.bytes ++ k.bytes;
-      answers = Answers-append xs ys o es fs h.bytes k.bytes f g h.answers k.answers;
+      answers = Answers-append xs ys o es fs h.bytes k.bytes f g up h.answers k.answers;
       written = Grows-then a b c h.bytes k.bytes h.written k.written;
     }
+
+pub AnsweredBy-down : (xs ys : List (Option (List ℕ))) (o : History) (es : List Entry) (a b : Option (List ℕ)) (f : Bool) → is_down es ≡ true → AnsweredBy (Answers xs o) es a b f → AnsweredBy (Answers (xs ++ ys) o) es a b f
+AnsweredBy-down xs ys o es a b f down h = record { bytes = h.bytes; answers = Answers-down xs ys o es h.bytes f down h.answers; written = h.written }
 
 -- no line
 pub AnsweredBy-none : (o : History) (w : Option (List ℕ)) → AnsweredBy (Answers [] o) [] w w false
@@ -56,6 +105,11 @@ AnsweredBy-none o w = record { bytes = []; answers = record { none = refl; says 
 or_false : (f : Bool) → f ≡ (f || false)
 or_false true = refl
 or_false false = refl
+
+-- nothing more was said, however the first line left the power
+nothing_more : (t : Bool) (o : History) → GoesOn t (Answers [] o) [] [] false
+nothing_more true o = record { none = refl; says = refl; fault = refl }
+nothing_more false o = record { none = refl; says = refl; fault = refl }
 
 -- one line
 pub Answers-one : (line : Option (List ℕ)) (o : History) (es : List Entry) (bytes : List ℕ) (f : Bool) → AnswersLine line o es bytes f → Answers (line ∷ []) o es bytes f
@@ -71,7 +125,7 @@ Answers-one line o es bytes f h =
       text = sym (append-nil bytes);
       fault = or_false f;
       first = h;
-      rest = record { none = refl; says = refl; fault = refl };
+      rest = nothing_more (is_down es) (grown o es);
     }
 
 pub AnsweredBy-one : (line : Option (List ℕ)) (o : History) (es : List Entry) (a b : Option (List ℕ)) (f : Bool) → AnsweredBy (AnswersLine line o) es a b f → AnsweredBy (Answers (line ∷ []) o) es a b f
@@ -82,12 +136,12 @@ pub TakesPiece-none : (a b : Part) (piece : List ℕ) (o : History) (w : Option 
 TakesPiece-none a b piece o w same = record { lines = []; split = λ more. same (piece ++ more); answered = AnsweredBy-none o w }
 
 -- a part of a piece, and then some of the rest
-pub TakesPiece-then : (a b c : Part) (piece rest last : List ℕ) (o : History) (es fs : List Entry) (u v w : Option (List ℕ)) (f g : Bool) → TakesPiece a piece b rest o es u v f → TakesPiece b rest c last (grown o es) fs v w g → TakesPiece a piece c last o (es ++ fs) u w (f || g)
-TakesPiece-then a b c piece rest last o es fs u v w f g h k =
+pub TakesPiece-then : (a b c : Part) (piece rest last : List ℕ) (o : History) (es fs : List Entry) (u v w : Option (List ℕ)) (f g : Bool) → is_down es ≡ false → TakesPiece a piece b rest o es u v f → TakesPiece b rest c last (grown o es) fs v w g → TakesPiece a piece c last o (es ++ fs) u w (f || g)
+TakesPiece-then a b c piece rest last o es fs u v w f g up h k =
     record {
       lines = h.lines ++ k.lines;
       split = λ more. h.split more ∙ (ap (λ (l : List (Option (List ℕ))). h.lines ++ l) (k.split more) ∙ sym (append_assoc h.lines k.lines (lines_from c (last ++ more))));
-      answered = AnsweredBy-append h.lines k.lines o es fs u v w f g h.answered k.answered;
+      answered = AnsweredBy-append h.lines k.lines o es fs u v w f g up h.answered k.answered;
     }
 
 -- a whole piece was taken, and another follows
@@ -102,3 +156,9 @@ TakesPiece-more a b xs ys o es u v f h =
 -- the lines of an input that was taken from its start, whose last part holds what doesn't end
 pub TakesPiece-lines : (b : Part) (xs ys : List ℕ) (o : History) (es : List Entry) (u v : Option (List ℕ)) (f : Bool) → (h : TakesPiece fresh xs b [] o es u v f) → logical_lines (xs ++ ys) ≡ h.lines ++ lines_from b ys
 TakesPiece-lines b xs ys o es u v f h = sym (lines_from-fresh (xs ++ ys)) ∙ h.split ys
+
+-- where the power went down, whatever follows what was taken isn't answered
+pub TakesPiece-down : (b : Part) (xs rest : List ℕ) (o : History) (es : List Entry) (u v : Option (List ℕ)) (f : Bool) → is_down es ≡ true → TakesPiece fresh xs b rest o es u v f → AnsweredBy (Answers (logical_lines xs) o) es u v f
+TakesPiece-down b xs rest o es u v f down h =
+    let whole : logical_lines xs ≡ h.lines ++ lines_from b (rest ++ []) = sym (lines_from-fresh xs) ∙ (ap (lines_from fresh) (sym (append-nil xs)) ∙ h.split []) in
+    subst (λ (l : List (Option (List ℕ))). AnsweredBy (Answers l o) es u v f) (sym whole) (AnsweredBy-down h.lines (lines_from b (rest ++ [])) o es u v f down h.answered)

@@ -5,7 +5,7 @@ use Rattle.wm_law.specs.declared.call.Call.{Call}
 use Rattle.wm_law.specs.declared.call.Call.TheVariants.{Change}
 use Rattle.wm_law.specs.declared.call.Entry.{Entry}
 use Rattle.wm_law.specs.declared.call.Reply.{Reply}
-use Rattle.wm_law.specs.declared.call.Reply.TheVariants.{Made, SbsStarted, Submitted, Held, Released, Changed, QueueHeld, QueueReleased, QueueCleared, PowerDown, Order, Nothing, Noted, No}
+use Rattle.wm_law.specs.declared.call.Reply.TheVariants.{Made, SbsStarted, SbsEnding, Submitted, Held, Released, Changed, JobEnding, JobEnded, QueueHeld, QueueReleased, QueueCleared, PowerDown, Order, Nothing, Noted, No}
 use Rattle.wm_show.specs.Said.{said_text, fault_text}
 use Rattle.wm_show.specs.declared.line_fault.LineFault.{LineFault}
 use Rattle.wm_show.specs.declared.line_fault.LineFault.TheVariants.{Cl}
@@ -40,10 +40,13 @@ not_built = codes "CM 9 NOTBUILT"
 abbrev pub is_refused : Reply → Bool
 is_refused Made = false
 is_refused (SbsStarted sbs) = false
+is_refused (SbsEnding sbs) = false
 is_refused (Submitted job jobq) = false
 is_refused (Held job) = false
 is_refused (Released job) = false
 is_refused (Changed job) = false
+is_refused (JobEnding job) = false
+is_refused (JobEnded job) = false
 is_refused QueueHeld = false
 is_refused QueueReleased = false
 is_refused (QueueCleared count) = false
@@ -52,3 +55,23 @@ is_refused (Order asked) = false
 is_refused Nothing = false
 is_refused Noted = false
 is_refused (No refusal) = true
+
+-- whether a reply says that the power goes down
+abbrev pub is_power_down : Reply → Bool
+is_power_down Made = false
+is_power_down (SbsStarted sbs) = false
+is_power_down (SbsEnding sbs) = false
+is_power_down (Submitted job jobq) = false
+is_power_down (Held job) = false
+is_power_down (Released job) = false
+is_power_down (Changed job) = false
+is_power_down (JobEnding job) = false
+is_power_down (JobEnded job) = false
+is_power_down QueueHeld = false
+is_power_down QueueReleased = false
+is_power_down (QueueCleared count) = false
+is_power_down PowerDown = true
+is_power_down (Order asked) = false
+is_power_down Nothing = false
+is_power_down Noted = false
+is_power_down (No refusal) = false

@@ -3,7 +3,7 @@ use Rattle.std.specs.Prelude.{List, [], ◌++◌}
 use Rattle.wm_journal.specs.History.{History}
 use Rattle.wm_law.specs.declared.call.Entry.{Entry}
 use Rattle.wm_law.specs.declared.state.State.{State}
-use Rattle.wm_run.specs.Lists.{since}
+use Rattle.wm_monitor.specs.Lists.{since}
 
 -- the history of a state that was opened, which has no entry
 abbrev pub at_opening : State → History

@@ -1,8 +1,8 @@
 -- Why a run ends early, and with which status.
 use Rattle.std.specs.Prelude.{ℕ, ◌≤◌, Result, IsErrOf}
 use Rattle.wm_outside.specs.Cause.{raised}
-use Rattle.wm_run.specs.declared.monitor.MonitorFault.{MonitorFault}
-use Rattle.wm_run.specs.declared.monitor.MonitorFault.TheVariants as monitor
+use Rattle.wm_monitor.specs.declared.fault.MonitorFault.{MonitorFault}
+use Rattle.wm_monitor.specs.declared.fault.MonitorFault.TheVariants as monitor
 use Rattle.wm_run.specs.declared.halt.Halt.{Halt}
 use Rattle.wm_run.specs.declared.halt.Halt.TheVariants.{ReadFault, WriteFault, KeeperFault, NoMemory, LogFull, WaitFault, InputFull}
 

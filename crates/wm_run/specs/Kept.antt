@@ -10,7 +10,7 @@ use Rattle.wm_law.specs.declared.state.State.{State}
 use Rattle.wm_outside.specs.declared.fault.KeepFault.{KeepFault}
 use Rattle.wm_outside.specs.declared.fault.KeepFault.TheVariants as keep
 use Rattle.wm_outside.specs.declared.row.Row.{Row}
-use Rattle.wm_run.specs.Monitor.{TicksAreDue}
+use Rattle.wm_monitor.specs.Idle.{NoneIsIdle}
 use Rattle.wm_run.specs.Run.{run_offset}
 use Rattle.wm_stored.specs.Keeping.{Telling, IsLeft}
 use Rattle.wm_stored.specs.Stored.{HasTables}
@@ -28,7 +28,7 @@ pub record HasOpened (status : ℕ) (log : List Entry) (old new : Telling) (Came
   pub legal : IsLegal opened log
   pub limits : KeepsLimits opened log
   pub order : KeepsOrder opened log
-  pub ticks : TicksAreDue opened log
+  pub no_idle : NoneIsIdle opened log
   pub idle : status ≤ 1 → active (after opened log) ≡ 0
   pub tables : HasTables (after opened log) new.tables
   pub trail : HasTrail (record { opened = opened; log = log }) old new

@@ -1,11 +1,9 @@
 pub mod Answer
 pub mod Calls
+pub mod Down
 pub mod Grown
 pub mod Halt
-pub mod Journal
 pub mod Kept
-pub mod Lists
-pub mod Monitor
 pub mod Outcome
 pub mod Parsed
 pub mod Reads
@@ -14,5 +12,4 @@ pub mod Serving
 pub mod Session
 pub mod Stopped
 pub mod Taking
-pub mod View
 pub mod Words

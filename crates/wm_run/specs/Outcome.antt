@@ -8,6 +8,7 @@ use Rattle.wm_run.specs.Grown.{at_opening, grown}
 use Rattle.wm_run.specs.Session.{Answers, AnsweredBy, IsSession, OneCall, start_call}
 use Rattle.wm_run.specs.Stopped.{IsStopped, StopsIn}
 use Rattle.wm_run.specs.Taking.{TakesInput}
+use Rattle.wm_run.specs.declared.answered.Answered.{Answered}
 use Rattle.wm_run.specs.declared.halt.Halt.{Halt}
 use Rattle.wm_run.specs.declared.halt.Halt.TheVariants.{ReadFault, InputFull}
 
@@ -24,8 +25,8 @@ pub record AnswersEnded (bytes : List ℕ) (h : History) (es : List Entry) (befo
   pub answered : AnsweredBy (Answers lines h) es before now faulty
 
 -- what came of the bytes that were taken: their lines were answered, or the first of them
-pub record LinesCame (bytes : List ℕ) (result : Result Bool Halt) (h : History) (es : List Entry) (before now : Option (List ℕ)) : Type 0 where
-  pub answered : IfOk result (λ faulty. AnsweredBy (Answers (logical_lines bytes) h) es before now faulty)
+pub record LinesCame (bytes : List ℕ) (result : Result Answered Halt) (h : History) (es : List Entry) (before now : Option (List ℕ)) : Type 0 where
+  pub answered : IfOk result (λ r. AnsweredBy (Answers (logical_lines bytes) h) es before now r.faulty)
   pub stopped : OnErr result (StopsIn (logical_lines bytes) h es before now)
   -- where the input couldn't be read, those were answered that had ended
   pub cut_off : IsErrOf result ReadFault → AnswersEnded bytes h es before now

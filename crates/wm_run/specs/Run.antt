@@ -6,9 +6,11 @@ use Rattle.wm_law.specs.declared.call.Entry.{Entry}
 use Rattle.wm_law.specs.History.{orders}
 use Rattle.wm_outside.specs.declared.spawner.Told.{Told}
 use Rattle.wm_outside.specs.Told.{Grows}
-use Rattle.wm_run.specs.Monitor.{RisesBy, as_reports, reported, is_spawner_fault, monitor_pass}
+use Rattle.wm_monitor.specs.Asking.{AsksFor}
+use Rattle.wm_monitor.specs.Idle.{monitor_pass}
+use Rattle.wm_monitor.specs.Monitor.{RisesBy, as_reports, reported, is_spawner_fault}
 use Rattle.wm_run.specs.Halt.{status_of}
-use Rattle.wm_run.specs.declared.report.Report.{Report}
+use Rattle.wm_monitor.specs.declared.report.Report.{Report}
 use Rattle.wm_run.specs.declared.halt.Halt.{Halt}
 
 -- local time of a run, in minutes ahead of UTC
@@ -29,9 +31,9 @@ run_statuses = 0 ∷ 1 ∷ 2 ∷ 3 ∷ 4 ∷ 5 ∷ 6 ∷ 7 ∷ 8 ∷ 9 ∷ 11 �
 abbrev pub IsRunStatus : ℕ → Type 0
 IsRunStatus status = list_any (nat_eq status) run_statuses ≡ true
 
--- the spawner was asked what the history orders; what it told stands in the history, but for one report at most that is kept
+-- what the spawner was asked stands for what the history orders; what it told stands in the history, but for one report at most that is kept
 pub record IsServed (log : List Entry) (kept : List Report) (asked_before asked_now : Option (List Asked)) (told_before told_now : Option (List Told)) (misses_before misses_now : ℕ) : Type 0 where
-  pub asked : Grows asked_before asked_now (orders log monitor_pass)
+  pub asked : AsksFor [] asked_before asked_now (orders log monitor_pass)
   pub told : Grows (as_reports told_before) (as_reports told_now) (reported log kept)
   pub misses : RisesBy misses_before (count_by is_spawner_fault (reported log kept)) misses_now
   pub few : length kept ≤ 1

@@ -4,10 +4,10 @@ use Rattle.wm_base.specs.declared.job.Asked.{Asked}
 use Rattle.wm_law.specs.declared.call.Entry.{Entry}
 use Rattle.wm_journal.specs.History.{History}
 use Rattle.wm_outside.specs.declared.spawner.Told.{Told}
-use Rattle.wm_run.specs.declared.monitor.Monitor.{Monitor}
-use Rattle.wm_run.specs.Monitor.{MonitorView, Proceeds, is_own}
+use Rattle.wm_monitor.specs.declared.monitor.Monitor.{Monitor}
+use Rattle.wm_monitor.specs.Monitor.{MonitorView, Proceeds, is_own}
+use Rattle.wm_monitor.specs.View.{view}
 use Rattle.wm_run.specs.Session.{session_pass}
-use Rattle.wm_run.specs.View.{view}
 
 -- an entry of the session, or a monitor's call of the monitor
 abbrev pub is_of_run : Entry → Bool

@@ -8,12 +8,14 @@ use Rattle.wm_law.specs.declared.command.EndOption.TheVariants.{Immed}
 use Rattle.wm_law.specs.declared.call.Entry.{Entry}
 use Rattle.wm_law.specs.declared.command.Ask.{Ask}
 use Rattle.wm_law.specs.History.{entries_of}
-use Rattle.wm_journal.specs.History.{History}
+use Rattle.wm_law.specs.Pending.{busy}
+use Rattle.wm_journal.specs.History.{History, reached}
 use Rattle.wm_desc.specs.Opening.{qbatch}
 use Rattle.wm_clwords.specs.declared.fault.ClFault.TheVariants.{TooLong}
 use Rattle.wm_outside.specs.Told.{Grows}
 use Rattle.wm_run.specs.Parsed.{Parses, session_user}
 use Rattle.wm_show.specs.Said.{said_text}
+use Rattle.wm_run.specs.Down.{is_down}
 use Rattle.wm_run.specs.Grown.{grown}
 use Rattle.wm_run.specs.Answer.{fault_answer, is_fault, with_end, not_built, is_refused}
 use Rattle.wm_run.specs.Reads.{read_text, is_read_refused}
@@ -51,6 +53,10 @@ pub record Says (due : List ℕ) (wrong : Bool) (es : List Entry) (bytes : List 
 abbrev pub Reads : Ask → History → List Entry → List ℕ → Bool → Type 0
 Reads ask h es bytes faulty = Says (read_text ask h) (is_read_refused ask h) es bytes faulty
 
+-- the session made no call
+abbrev pub IsUncalled : List Entry → Type 0
+IsUncalled es = entries_of session_pass es ≡ []
+
 -- what answers a parsed line behind a history: a fault has its line, a reading command its listing, a call what is said of its entry
 abbrev pub AnswersParsed : Parsed → History → List Entry → List ℕ → Bool → Type 0
 AnswersParsed (Fault fault) h es bytes faulty = Says (fault_answer fault) (is_fault fault) es bytes faulty
@@ -69,6 +75,11 @@ abbrev pub AnswersLine : Option (List ℕ) → History → List Entry → List �
 AnswersLine None h es bytes faulty = AnswersParsed (Fault (Cl TooLong)) h es bytes faulty
 AnswersLine (Some text) h es bytes faulty = AnswersText text h es bytes faulty
 
+-- once the power is down no line is answered, else the rest
+abbrev pub GoesOn : Bool → (List Entry → List ℕ → Bool → Type 0) → List Entry → List ℕ → Bool → Type 0
+GoesOn true Rest es bytes faulty = Says [] false es bytes faulty
+GoesOn false Rest es bytes faulty = Rest es bytes faulty
+
 -- the first line, and then the rest, whose history is the one that the first has left
 pub record AnswersFirst (line : Option (List ℕ)) (Rest : History → List Entry → List ℕ → Bool → Type 0) (h : History) (es : List Entry) (bytes : List ℕ) (faulty : Bool) : Type 0 where
   pub own : List Entry
@@ -81,9 +92,10 @@ pub record AnswersFirst (line : Option (List ℕ)) (Rest : History → List Entr
   pub text : bytes ≡ said ++ more
   pub fault : faulty ≡ (wrong || later)
   pub first : AnswersLine line h own said wrong
-  pub rest : Rest (grown h own) others more later
+  pub rest : GoesOn (is_down own) (Rest (grown h own)) others more later
 
--- the entries and the bytes of lines, one after another, and whether one of them got a fault or a refusal
+-- the entries and the bytes of lines, one after another, up to the first whose PWRDWNSYS is accepted, and whether one of
+-- them got a fault or a refusal
 abbrev pub Answers : List (Option (List ℕ)) → History → List Entry → List ℕ → Bool → Type 0
 Answers [] h es bytes faulty = Says [] false es bytes faulty
 Answers (line ∷ lines) h es bytes faulty = AnswersFirst line (Answers lines) h es bytes faulty
@@ -100,7 +112,25 @@ pub record OneCall (c : MachineCall) (es : List Entry) : Type 0 where
   pub only : entries_of session_pass es ≡ entry ∷ []
   pub call : entry.call ≡ c
 
--- a session: the first call, the entries of the lines with what was written for them, and the last call
+-- the end of the input: it was waited until no job was active but prestart jobs, and then the session's one call was made
+pub record EndsInput (h : History) (es : List Entry) : Type 0 where
+  pub before : List Entry
+  pub entry : Entry
+  pub behind : List Entry
+  pub parts : es ≡ before ++ entry ∷ behind
+  pub waited : IsUncalled before
+  pub quiet : busy (reached (grown h before)) ≡ 0
+  pub caller : entry.caller ≡ session_pass
+  pub call : entry.call ≡ end_call
+  pub last : IsUncalled behind
+
+-- where a line put the power down no call follows, else the end of the input
+abbrev pub Closes : Bool → History → List Entry → Type 0
+Closes true h es = IsUncalled es
+Closes false h es = EndsInput h es
+
+-- a session: the first call, the entries of the lines with what was written for them, and the end of the input, where no
+-- line's PWRDWNSYS was accepted
 pub record IsSession (lines : List (Option (List ℕ))) (h : History) (es : List Entry) (before now : Option (List ℕ)) (faulty : Bool) : Type 0 where
   pub first : List Entry
   pub middle : List Entry
@@ -108,4 +138,4 @@ pub record IsSession (lines : List (Option (List ℕ))) (h : History) (es : List
   pub parts : es ≡ first ++ middle ++ last
   pub start : OneCall start_call first
   pub answered : AnsweredBy (Answers lines (grown h first)) middle before now faulty
-  pub end : OneCall end_call last
+  pub end : Closes (is_down middle) (grown h (first ++ middle)) last

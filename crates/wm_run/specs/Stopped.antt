@@ -2,11 +2,10 @@
 use Rattle.std.specs.Prelude.{◌≡◌, ◌⊎◌, ℕ, Bool, List, [], ◌++◌, Option, take}
 use Rattle.wm_law.specs.declared.call.Call.{Call}
 use Rattle.wm_law.specs.declared.call.Entry.{Entry}
-use Rattle.wm_law.specs.History.{entries_of}
 use Rattle.wm_journal.specs.History.{History}
 use Rattle.wm_outside.specs.Told.{Grows}
 use Rattle.wm_run.specs.Grown.{grown}
-use Rattle.wm_run.specs.Session.{Answers, IsSession, OneCall, session_pass, start_call}
+use Rattle.wm_run.specs.Session.{Answers, Closes, IsSession, IsUncalled, OneCall, start_call}
 
 -- of what a relation says was due, some bytes were written
 pub record WritesSome (Due : List Entry → List ℕ → Bool → Type 0) (es : List Entry) (before now : Option (List ℕ)) : Type 0 where
@@ -36,15 +35,11 @@ pub record StopsIn (lines : List (Option (List ℕ))) (h : History) (es : List E
 abbrev pub AtMostOne : Call → List Entry → Type 0
 AtMostOne c es = (es ≡ []) ⊎ OneCall c es
 
--- the session made no call
-abbrev pub IsUncalled : List Entry → Type 0
-IsUncalled es = entries_of session_pass es ≡ []
+-- the session made no call, or the input was closed
+abbrev pub MayClose : Bool → History → List Entry → Type 0
+MayClose down h es = IsUncalled es ⊎ Closes down h es
 
--- a call was made, or the session made none
-abbrev pub MayCall : Call → List Entry → Type 0
-MayCall c es = IsUncalled es ⊎ OneCall c es
-
--- a session that was begun, and stopped in its lines or before its last call
+-- a session that was begun, and stopped in its lines or before the end of the input
 pub record StopsInside (lines : List (Option (List ℕ))) (h : History) (es : List Entry) (before now : Option (List ℕ)) : Type 0 where
   pub first : List Entry
   pub middle : List Entry

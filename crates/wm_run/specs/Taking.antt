@@ -1,5 +1,5 @@
 -- What stands after bytes of the input were taken.
-use Rattle.std.specs.Prelude.{◌≡◌, ◌↔◌, ℕ, ◌+◌, ◌<◌, Bool, List, [], ◌++◌, length, Option, Result, IsErrOf}
+use Rattle.std.specs.Prelude.{◌≡◌, ◌↔◌, ℕ, ◌+◌, ◌<◌, Bool, false, List, [], ◌++◌, length, Option, Result, IsErrOf}
 use Rattle.wm_clwords.specs.Part.{Part, lines_from}
 use Rattle.wm_law.specs.declared.call.Entry.{Entry}
 use Rattle.wm_journal.specs.History.{History}
@@ -13,6 +13,12 @@ pub record TakesPiece (before : Part) (piece : List ℕ) (after : Part) (rest : 
   pub lines : List (Option (List ℕ))
   pub split : (more : List ℕ) → lines_from before (piece ++ more) ≡ lines ++ lines_from after (rest ++ more)
   pub answered : AnsweredBy (Answers lines h) es written_before written_now faulty
+
+-- a piece was taken whole, or up to the line that put the power down
+pub record TakesUpTo (down : Bool) (before : Part) (piece : List ℕ) (after : Part) (h : History) (es : List Entry) (written_before written_now : Option (List ℕ)) (faulty : Bool) : Type 0 where
+  pub rest : List ℕ
+  pub whole : down ≡ false → rest ≡ []
+  pub taken : TakesPiece before piece after rest h es written_before written_now faulty
 
 -- some bytes were taken off the input, and so was done with them
 pub record TakesInput (left_before left_now : Option (List ℕ)) (Done : List ℕ → Type 0) : Type 0 where

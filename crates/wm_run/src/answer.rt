@@ -1,6 +1,6 @@
 // What answers a line: the text of its reply or of its fault, with the line's end.
 ghost use Rattle.std.specs.Prelude.{◌≡◌, IfOk, string_bytes};
-ghost use Rattle.wm_run.specs.Answer.{entry_text, fault_answer, is_fault, is_refused, with_end};
+ghost use Rattle.wm_run.specs.Answer.{entry_text, fault_answer, is_fault, is_power_down, is_refused, with_end};
 
 use std::alloc::Global;
 use wm_base::NoMemory;
@@ -16,6 +16,13 @@ pub fn is_refused(reply: &Reply) -> bool
     ensures { result ≡ is_refused reply.now }
 {
     matches!(reply, Reply::No(_))
+}
+
+/// Whether a reply says that the power goes down.
+pub fn is_power_down(reply: &Reply) -> bool
+    ensures { result ≡ is_power_down reply.now }
+{
+    matches!(reply, Reply::PowerDown)
 }
 
 /// Whether a line that is no command is a fault: an empty one isn't.

@@ -1,26 +1,52 @@
-// The first call and the last, and the monitor's turns until no job is active.
+// The first call, the end of the input, and the monitor's turns until no job is active.
 use crate::calls::{end_call, start_call};
 use crate::halt::Halt;
 use crate::session::Run;
 use std::alloc::Global;
 use std::sync::Wait;
+use wm_law::Pending;
 use wm_outside::{Clock, Keeper, Spawner};
 
 impl<K: Keeper> Run<K> {
-    ghost use Rattle.std.specs.Prelude.{◌≡◌, ◌+◌, OnOk, OnErr, IsErrOf, None, length};
-    ghost use Rattle.wm_law.specs.Pending.{active, starting};
+    ghost use Rattle.std.specs.Prelude.{◌≡◌, ◌+◌, OnOk, OnErr, IfOk, IsErrOf, None, length};
+    ghost use Rattle.wm_law.specs.Pending.{active, busy, orders, pending};
     ghost use Rattle.wm_journal.specs.History.{reached};
+    ghost use Rattle.wm_monitor.specs.Idle.{monitor_pass};
+    ghost use Rattle.wm_monitor.specs.Journal.{HasJournalCauses};
+    ghost use Rattle.wm_monitor.specs.View.{IsClear, MonitorAdvances};
     ghost use Rattle.wm_outside.specs.Told.{IsEmpty};
     ghost use Rattle.wm_run.specs.Halt.{HasMonitorCauses};
-    ghost use Rattle.wm_run.specs.Journal.{HasJournalCauses};
     ghost use Rattle.wm_run.specs.Grown.{entries_between};
     ghost use Rattle.wm_run.specs.Serving.{RunServes};
-    ghost use Rattle.wm_run.specs.Session.{OneCall, start_call, end_call};
-    ghost use Rattle.wm_run.specs.Stopped.{AtMostOne, MayCall};
-    ghost use Rattle.wm_run.specs.View.{MonitorAdvances};
+    ghost use Rattle.wm_run.specs.Session.{Closes, EndsInput, IsUncalled, OneCall, start_call};
+    ghost use Rattle.wm_run.specs.Stopped.{AtMostOne, MayClose};
 
-    // Turns until one makes no entry.
+    // Turns until one makes no entry. It answers what waits then.
     fn drain<P: Spawner, C: Clock, R: Wait>(
+        &mut self,
+        rt: &R,
+        alloc: Global,
+        spawner: &mut P,
+        clock: &mut C,
+    ) -> Result<Pending, Halt>
+        ensures part { MonitorAdvances P.asked P.told P.misses self.old.journal.history self.old.monitor spawner.old self.new.journal.history self.new.monitor spawner.new }
+        ensures pending { IfOk result (λ p. p ≡ pending (reached self.new.journal.history) monitor_pass) }
+        ensures orders { OnOk result (orders (reached self.new.journal.history) monitor_pass ≡ 0) }
+        ensures clear { OnOk result (IsClear self.new.monitor) }
+        ensures causes { HasMonitorCauses result (P.faults spawner.old) (P.faults spawner.new) }
+        ensures journal { HasJournalCauses K.faults K.trail (IsErrOf result Halt.KeeperFault) (IsErrOf result Halt.LogFull) self.old.journal self.new.journal }
+    {
+        'turns: for _ in rt.forever() {
+            let turned = self.turn(alloc, spawner, clock)?;
+            if turned.sent == 0 {
+                return Ok(turned.pending);
+            }
+        }
+        unreachable!()
+    }
+
+    // Turns and waits while a job is active that is no prestart job.
+    fn wait_while_busy<P: Spawner, C: Clock, R: Wait>(
         &mut self,
         rt: &R,
         alloc: Global,
@@ -28,22 +54,22 @@ impl<K: Keeper> Run<K> {
         clock: &mut C,
     ) -> Result<(), Halt>
         ensures part { MonitorAdvances P.asked P.told P.misses self.old.journal.history self.old.monitor spawner.old self.new.journal.history self.new.monitor spawner.new }
-        ensures orders { OnOk result (starting (reached self.new.journal.history) ≡ 0) }
-        ensures kept { OnOk result (self.new.monitor.kept ≡ None) }
+        ensures quiet { OnOk result (busy (reached self.new.journal.history) ≡ 0) }
         ensures causes { HasMonitorCauses result (P.faults spawner.old) (P.faults spawner.new) }
         ensures journal { HasJournalCauses K.faults K.trail (IsErrOf result Halt.KeeperFault) (IsErrOf result Halt.LogFull) self.old.journal self.new.journal }
     {
-        'turns: for _ in rt.forever() {
-            let sent = self.turn(alloc, spawner, clock)?;
-            if sent == 0 {
+        'waits: for _ in rt.forever() {
+            let pending = self.drain(rt, alloc, spawner, clock)?;
+            if pending.busy == 0 {
                 return Ok(());
             }
+            self.wait(rt, alloc, spawner, clock)?;
         }
         unreachable!()
     }
 
-    // Turns and waits until no job is active.
-    fn wait_for_jobs<P: Spawner, C: Clock, R: Wait>(
+    // Turns and waits while a job is active.
+    fn wait_while_active<P: Spawner, C: Clock, R: Wait>(
         &mut self,
         rt: &R,
         alloc: Global,
@@ -52,17 +78,16 @@ impl<K: Keeper> Run<K> {
     ) -> Result<(), Halt>
         ensures part { MonitorAdvances P.asked P.told P.misses self.old.journal.history self.old.monitor spawner.old self.new.journal.history self.new.monitor spawner.new }
         ensures idle { OnOk result (active (reached self.new.journal.history) ≡ 0) }
-        ensures kept { OnOk result (self.new.monitor.kept ≡ None) }
+        ensures clear { OnOk result (IsClear self.new.monitor) }
         ensures causes { HasMonitorCauses result (P.faults spawner.old) (P.faults spawner.new) }
         ensures journal { HasJournalCauses K.faults K.trail (IsErrOf result Halt.KeeperFault) (IsErrOf result Halt.LogFull) self.old.journal self.new.journal }
     {
-        self.drain(rt, alloc, spawner, clock)?;
         'waits: for _ in rt.forever() {
-            if self.journal.pending().active == 0 {
+            let pending = self.drain(rt, alloc, spawner, clock)?;
+            if pending.active == 0 {
                 return Ok(());
             }
             self.wait(rt, alloc, spawner, clock)?;
-            self.drain(rt, alloc, spawner, clock)?;
         }
         unreachable!()
     }
@@ -77,8 +102,8 @@ impl<K: Keeper> Run<K> {
         ensures serves { RunServes P.asked P.told P.misses self.old.journal.history self.old.monitor spawner.old self.new.journal.history self.new.monitor spawner.new }
         ensures not_begun { OnErr result (AtMostOne start_call (entries_between self.old.journal.history self.new.journal.history)) }
         ensures begun { OnOk result (OneCall start_call (entries_between self.old.journal.history self.new.journal.history)) }
-        ensures orders { OnOk result (length self.new.journal.history.log ≡ length self.old.journal.history.log + 1 → starting (reached self.new.journal.history) ≡ 0) }
-        ensures quiet { OnOk result (length self.new.journal.history.log ≡ length self.old.journal.history.log + 1 → IsEmpty (P.reporting spawner.old)) }
+        ensures orders { OnOk result (length self.new.journal.history.log ≡ length self.old.journal.history.log + 1 → orders (reached self.new.journal.history) monitor_pass ≡ 0) }
+        ensures quiet { OnOk result (length self.new.journal.history.log ≡ length self.old.journal.history.log + 1 → self.old.monitor.failed_kill ≡ None → IsEmpty (P.reporting spawner.old)) }
         ensures causes { HasMonitorCauses result (P.faults spawner.old) (P.faults spawner.new) }
         ensures journal { HasJournalCauses K.faults K.trail (IsErrOf result Halt.KeeperFault) (IsErrOf result Halt.LogFull) self.old.journal self.new.journal }
     {
@@ -88,8 +113,8 @@ impl<K: Keeper> Run<K> {
         Ok(())
     }
 
-    /// Waits until no job is active, and puts the power down.
-    pub fn finish<P: Spawner, C: Clock, R: Wait>(
+    // Waits until no job is active but prestart jobs, and puts the power down.
+    fn end_input<P: Spawner, C: Clock, R: Wait>(
         &mut self,
         rt: &R,
         alloc: Global,
@@ -97,17 +122,58 @@ impl<K: Keeper> Run<K> {
         clock: &mut C,
     ) -> Result<(), Halt>
         ensures serves { RunServes P.asked P.told P.misses self.old.journal.history self.old.monitor spawner.old self.new.journal.history self.new.monitor spawner.new }
-        ensures not_ended { OnErr result (MayCall end_call (entries_between self.old.journal.history self.new.journal.history)) }
-        ensures ended { OnOk result (OneCall end_call (entries_between self.old.journal.history self.new.journal.history)) }
-        ensures idle { OnOk result (active (reached self.new.journal.history) ≡ 0) }
-        ensures kept { OnOk result (self.new.monitor.kept ≡ None) }
+        ensures not_ended { OnErr result (IsUncalled (entries_between self.old.journal.history self.new.journal.history)) }
+        ensures ended { OnOk result (EndsInput self.old.journal.history (entries_between self.old.journal.history self.new.journal.history)) }
         ensures causes { HasMonitorCauses result (P.faults spawner.old) (P.faults spawner.new) }
         ensures journal { HasJournalCauses K.faults K.trail (IsErrOf result Halt.KeeperFault) (IsErrOf result Halt.LogFull) self.old.journal self.new.journal }
     {
-        self.wait_for_jobs(rt, alloc, spawner, clock)?;
+        self.wait_while_busy(rt, alloc, spawner, clock)?;
         let end = end_call(alloc)?;
         self.call(alloc, clock, end)?;
-        self.wait_for_jobs(rt, alloc, spawner, clock)?;
+        Ok(())
+    }
+
+    // Makes the last call, which an accepted PWRDWNSYS of a line has made needless.
+    fn close_input<P: Spawner, C: Clock, R: Wait>(
+        &mut self,
+        rt: &R,
+        alloc: Global,
+        spawner: &mut P,
+        clock: &mut C,
+        down: bool,
+    ) -> Result<(), Halt>
+        ensures serves { RunServes P.asked P.told P.misses self.old.journal.history self.old.monitor spawner.old self.new.journal.history self.new.monitor spawner.new }
+        ensures not_ended { OnErr result (IsUncalled (entries_between self.old.journal.history self.new.journal.history)) }
+        ensures ended { OnOk result (Closes down self.old.journal.history (entries_between self.old.journal.history self.new.journal.history)) }
+        ensures causes { HasMonitorCauses result (P.faults spawner.old) (P.faults spawner.new) }
+        ensures journal { HasJournalCauses K.faults K.trail (IsErrOf result Halt.KeeperFault) (IsErrOf result Halt.LogFull) self.old.journal self.new.journal }
+    {
+        if down {
+            return Ok(());
+        }
+        self.end_input(rt, alloc, spawner, clock)?;
+        Ok(())
+    }
+
+    /// Puts the power down where no line did so, and turns and waits until no job is active.
+    pub fn finish<P: Spawner, C: Clock, R: Wait>(
+        &mut self,
+        rt: &R,
+        alloc: Global,
+        spawner: &mut P,
+        clock: &mut C,
+        down: bool,
+    ) -> Result<(), Halt>
+        ensures serves { RunServes P.asked P.told P.misses self.old.journal.history self.old.monitor spawner.old self.new.journal.history self.new.monitor spawner.new }
+        ensures not_ended { OnErr result (MayClose down self.old.journal.history (entries_between self.old.journal.history self.new.journal.history)) }
+        ensures ended { OnOk result (Closes down self.old.journal.history (entries_between self.old.journal.history self.new.journal.history)) }
+        ensures idle { OnOk result (active (reached self.new.journal.history) ≡ 0) }
+        ensures clear { OnOk result (IsClear self.new.monitor) }
+        ensures causes { HasMonitorCauses result (P.faults spawner.old) (P.faults spawner.new) }
+        ensures journal { HasJournalCauses K.faults K.trail (IsErrOf result Halt.KeeperFault) (IsErrOf result Halt.LogFull) self.old.journal self.new.journal }
+    {
+        self.close_input(rt, alloc, spawner, clock, down)?;
+        self.wait_while_active(rt, alloc, spawner, clock)?;
         Ok(())
     }
 }

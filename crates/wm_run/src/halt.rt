@@ -2,8 +2,8 @@
 ghost use Rattle.std.specs.Prelude.{◌≡◌};
 ghost use Rattle.wm_run.specs.declared.halt.Halt.TheVariants.{NoMemory};
 
-use crate::monitor::MonitorFault;
 use std::alloc::{AllocError, AllocFailed};
+use wm_monitor::MonitorFault;
 
 /// Why a run ends early.
 #[derive(Clone, Copy, Debug, PartialEq, Eq)]

@@ -1,5 +1,5 @@
 // Taking the input: its pieces are joined into logical lines, and each line is answered.
-ghost use Rattle.std.specs.Prelude.{◌≡◌, ◌≤◌, ◌<◌, ◌+◌, ◌||◌, [], ◌∷◌, Ok, Some, IfOk, OnErr, IsErrOf, length, take};
+ghost use Rattle.std.specs.Prelude.{◌≡◌, ◌≤◌, ◌<◌, ◌+◌, [], ◌∷◌, Ok, Some, IfOk, OnErr, IsErrOf, length, take};
 ghost use Rattle.std.specs.Option.{option_copied};
 ghost use Rattle.std.specs.Io.KnownBytes.{IsAtEnd};
 ghost use Rattle.wm_clwords.specs.Part.{ended_lines};
@@ -7,6 +7,7 @@ ghost use Rattle.wm_outside.specs.Told.{Takes};
 ghost use Rattle.wm_outside.specs.Cause.{raised};
 ghost use Rattle.wm_run.specs.Taking.{StopsReading, TakesInput};
 
+use crate::answered::Answered;
 use crate::halt::Halt;
 use crate::session::Run;
 use std::alloc::Global;
@@ -55,13 +56,6 @@ fn piece_buffer(alloc: Global) -> Result<Vec<u8>, NoMemory>
     Ok(vec![in alloc; 0u8; PIECE_LEN]?)
 }
 
-// One function, so that the loop goes on in one way.
-fn either(a: bool, b: bool) -> bool
-    ensures { result ≡ (a || b) }
-{
-    a || b
-}
-
 // A line that ended, as the session takes it: None is one that is too long.
 fn text_of(line: LogicalLine, joiner: &Joiner) -> Option<&[u8]>
     ensures { ended_lines (Some line) joiner.now ≡ option_copied result ∷ [] }
@@ -73,17 +67,18 @@ fn text_of(line: LogicalLine, joiner: &Joiner) -> Option<&[u8]>
 }
 
 impl<K: Keeper> Run<K> {
-    ghost use Rattle.std.specs.Prelude.{◌≡◌, ◌≤◌, ◌<◌, ◌++◌, [], List, ℕ, Some, IfOk, OnOk, OnErr, IsErrOf, length, drop};
+    ghost use Rattle.std.specs.Prelude.{◌≡◌, ◌≤◌, ◌<◌, ◌++◌, [], List, ℕ, false, Some, IfOk, OnOk, OnErr, IsErrOf, length, drop};
     ghost use Rattle.std.specs.Io.KnownBytes.{IsAtEnd};
     ghost use Rattle.wm_clwords.specs.Part.{lines_from, ended_lines};
     ghost use Rattle.wm_run.specs.Halt.{HasCauses, HasInputCauses};
-    ghost use Rattle.wm_run.specs.Journal.{HasJournalCauses};
+    ghost use Rattle.wm_monitor.specs.Journal.{HasJournalCauses};
+    ghost use Rattle.wm_run.specs.Down.{is_down};
     ghost use Rattle.wm_run.specs.Outcome.{LinesCame};
     ghost use Rattle.wm_run.specs.Grown.{entries_between};
     ghost use Rattle.wm_run.specs.Serving.{RunServes};
     ghost use Rattle.wm_run.specs.Session.{Answers, AnsweredBy};
     ghost use Rattle.wm_run.specs.Stopped.{StopsIn};
-    ghost use Rattle.wm_run.specs.Taking.{TakesPiece, TakesInput};
+    ghost use Rattle.wm_run.specs.Taking.{TakesPiece, TakesUpTo, TakesInput};
 
     // Answers the line that a joiner has.
     fn answer_joined<O: Sink, P: Spawner, C: Clock>(
@@ -94,10 +89,11 @@ impl<K: Keeper> Run<K> {
         clock: &mut C,
         line: LogicalLine,
         joiner: &Joiner,
-    ) -> Result<bool, Halt>
+    ) -> Result<Answered, Halt>
         ensures serves { RunServes P.asked P.told P.misses self.old.journal.history self.old.monitor spawner.old self.new.journal.history self.new.monitor spawner.new }
-        ensures answered { IfOk result (λ faulty. AnsweredBy (Answers (ended_lines (Some line) joiner.now) self.old.journal.history)
-            (entries_between self.old.journal.history self.new.journal.history) (O.written out.old) (O.written out.new) faulty) }
+        ensures answered { IfOk result (λ r. AnsweredBy (Answers (ended_lines (Some line) joiner.now) self.old.journal.history)
+            (entries_between self.old.journal.history self.new.journal.history) (O.written out.old) (O.written out.new) r.faulty) }
+        ensures down { IfOk result (λ r. r.down ≡ is_down (entries_between self.old.journal.history self.new.journal.history)) }
         ensures stopped { OnErr result (StopsIn (ended_lines (Some line) joiner.now) self.old.journal.history
             (entries_between self.old.journal.history self.new.journal.history) (O.written out.old) (O.written out.new)) }
         ensures causes { HasCauses result (O.faults out.old) (O.faults out.new) (P.faults spawner.old) (P.faults spawner.new) }
@@ -115,10 +111,11 @@ impl<K: Keeper> Run<K> {
         clock: &mut C,
         joiner: &mut Joiner,
         piece: &[u8],
-    ) -> Result<(usize, bool), Halt>
+    ) -> Result<(usize, Answered), Halt>
         ensures serves { RunServes P.asked P.told P.misses self.old.journal.history self.old.monitor spawner.old self.new.journal.history self.new.monitor spawner.new }
         ensures taken { IfOk result (λ r. TakesPiece joiner.old piece.now joiner.new (drop r.0 piece.now) self.old.journal.history
-            (entries_between self.old.journal.history self.new.journal.history) (O.written out.old) (O.written out.new) r.1) }
+            (entries_between self.old.journal.history self.new.journal.history) (O.written out.old) (O.written out.new) r.1.faulty) }
+        ensures down { IfOk result (λ r. r.1.down ≡ is_down (entries_between self.old.journal.history self.new.journal.history)) }
         ensures within { IfOk result (λ r. r.0 ≤ length piece.now) }
         ensures progress { IfOk result (λ r. 0 < length piece.now → 0 < r.0) }
         ensures stopped { OnErr result ((more : List ℕ) → StopsIn (lines_from joiner.old (piece.now ++ more)) self.old.journal.history
@@ -128,13 +125,13 @@ impl<K: Keeper> Run<K> {
     {
         let (taken, ended) = joiner.feed(piece);
         let Some(line) = ended else {
-            return Ok((taken, false));
+            return Ok((taken, Answered::uncalled(false)));
         };
-        let faulty = self.answer_joined(alloc, out, spawner, clock, line, joiner)?;
-        Ok((taken, faulty))
+        let answered = self.answer_joined(alloc, out, spawner, clock, line, joiner)?;
+        Ok((taken, answered))
     }
 
-    // Takes the bytes of a piece, line by line.
+    // Takes the bytes of a piece, line by line, up to the line that puts the power down.
     fn take_piece<O: Sink, P: Spawner, C: Clock>(
         &mut self,
         alloc: Global,
@@ -143,10 +140,11 @@ impl<K: Keeper> Run<K> {
         clock: &mut C,
         joiner: &mut Joiner,
         piece: &[u8],
-    ) -> Result<bool, Halt>
+    ) -> Result<Answered, Halt>
         ensures serves { RunServes P.asked P.told P.misses self.old.journal.history self.old.monitor spawner.old self.new.journal.history self.new.monitor spawner.new }
-        ensures taken { IfOk result (λ faulty. TakesPiece joiner.old piece.now joiner.new [] self.old.journal.history
-            (entries_between self.old.journal.history self.new.journal.history) (O.written out.old) (O.written out.new) faulty) }
+        ensures taken { IfOk result (λ r. TakesUpTo r.down joiner.old piece.now joiner.new self.old.journal.history
+            (entries_between self.old.journal.history self.new.journal.history) (O.written out.old) (O.written out.new) r.faulty) }
+        ensures down { IfOk result (λ r. r.down ≡ is_down (entries_between self.old.journal.history self.new.journal.history)) }
         ensures stopped { OnErr result ((more : List ℕ) → StopsIn (lines_from joiner.old (piece.now ++ more)) self.old.journal.history
             (entries_between self.old.journal.history self.new.journal.history) (O.written out.old) (O.written out.new)) }
         ensures causes { HasCauses result (O.faults out.old) (O.faults out.new) (P.faults spawner.old) (P.faults spawner.new) }
@@ -155,11 +153,15 @@ impl<K: Keeper> Run<K> {
         let mut faulty = false;
         let mut at = 0;
         'lines: while at < piece.len() {
-            let (taken, wrong) = self.take_line(alloc, out, spawner, clock, joiner, &piece[at..])?;
-            faulty = either(faulty, wrong);
+            let (taken, line) = self.take_line(alloc, out, spawner, clock, joiner, &piece[at..])?;
+            let answered = line.behind(faulty);
+            if answered.down {
+                return Ok(answered);
+            }
+            faulty = answered.faulty;
             at += taken;
         }
-        Ok(faulty)
+        Ok(Answered::uncalled(faulty))
     }
 
     // Answers the line that ends with the input, where there is one.
@@ -170,22 +172,23 @@ impl<K: Keeper> Run<K> {
         spawner: &mut P,
         clock: &mut C,
         joiner: &mut Joiner,
-    ) -> Result<bool, Halt>
+    ) -> Result<Answered, Halt>
         ensures serves { RunServes P.asked P.told P.misses self.old.journal.history self.old.monitor spawner.old self.new.journal.history self.new.monitor spawner.new }
-        ensures answered { IfOk result (λ faulty. AnsweredBy (Answers (lines_from joiner.old []) self.old.journal.history)
-            (entries_between self.old.journal.history self.new.journal.history) (O.written out.old) (O.written out.new) faulty) }
+        ensures answered { IfOk result (λ r. AnsweredBy (Answers (lines_from joiner.old []) self.old.journal.history)
+            (entries_between self.old.journal.history self.new.journal.history) (O.written out.old) (O.written out.new) r.faulty) }
+        ensures down { IfOk result (λ r. r.down ≡ is_down (entries_between self.old.journal.history self.new.journal.history)) }
         ensures stopped { OnErr result (StopsIn (lines_from joiner.old []) self.old.journal.history
             (entries_between self.old.journal.history self.new.journal.history) (O.written out.old) (O.written out.new)) }
         ensures causes { HasCauses result (O.faults out.old) (O.faults out.new) (P.faults spawner.old) (P.faults spawner.new) }
         ensures journal { HasJournalCauses K.faults K.trail (IsErrOf result Halt.KeeperFault) (IsErrOf result Halt.LogFull) self.old.journal self.new.journal }
     {
         let Some(line) = joiner.end() else {
-            return Ok(false);
+            return Ok(Answered::uncalled(false));
         };
         self.answer_joined(alloc, out, spawner, clock, line, joiner)
     }
 
-    // Takes the whole input by pieces, and answers its lines.
+    // Takes the input by pieces, up to the line that puts the power down, and answers its lines.
     fn take_pieces<I: Source, O: Sink, P: Spawner, C: Clock, R: Wait>(
         &mut self,
         rt: &R,
@@ -195,12 +198,13 @@ impl<K: Keeper> Run<K> {
         spawner: &mut P,
         clock: &mut C,
         piece: &mut [u8],
-    ) -> Result<bool, Halt>
+    ) -> Result<Answered, Halt>
         requires { length piece.old ≡ 65536 }
         ensures serves { RunServes P.asked P.told P.misses self.old.journal.history self.old.monitor spawner.old self.new.journal.history self.new.monitor spawner.new }
         ensures input { TakesInput (I.left input.old) (I.left input.new) (λ bytes. LinesCame bytes result self.old.journal.history
             (entries_between self.old.journal.history self.new.journal.history) (O.written out.old) (O.written out.new)) }
-        ensures end { OnOk result (IsAtEnd (I.left input.new)) }
+        ensures down { IfOk result (λ r. r.down ≡ is_down (entries_between self.old.journal.history self.new.journal.history)) }
+        ensures end { IfOk result (λ r. r.down ≡ false → IsAtEnd (I.left input.new)) }
         ensures causes { HasInputCauses result (I.faults input.old) (I.faults input.new) (O.faults out.old) (O.faults out.new) (P.faults spawner.old) (P.faults spawner.new) }
         ensures journal { HasJournalCauses K.faults K.trail (IsErrOf result Halt.KeeperFault) (IsErrOf result Halt.LogFull) self.old.journal self.new.journal }
     {
@@ -210,17 +214,21 @@ impl<K: Keeper> Run<K> {
         'reads: for _ in rt.forever() {
             let n = read(input, piece, total)?;
             if n == 0 {
-                let wrong = self.take_rest(alloc, out, spawner, clock, &mut joiner)?;
-                return Ok(either(faulty, wrong));
+                let last = self.take_rest(alloc, out, spawner, clock, &mut joiner)?;
+                return Ok(last.behind(faulty));
             }
-            let wrong = self.take_piece(alloc, out, spawner, clock, &mut joiner, &piece[..n])?;
-            faulty = either(faulty, wrong);
+            let some = self.take_piece(alloc, out, spawner, clock, &mut joiner, &piece[..n])?;
+            let answered = some.behind(faulty);
+            if answered.down {
+                return Ok(answered);
+            }
+            faulty = answered.faulty;
             total += n as u64;
         }
         unreachable!()
     }
 
-    /// Takes the whole input, and answers its lines. It answers whether one of them got a fault or a refusal.
+    /// Takes the input, up to the line that puts the power down, and answers its lines.
     pub fn take_all<I: Source, O: Sink, P: Spawner, C: Clock, R: Wait>(
         &mut self,
         rt: &R,
@@ -229,11 +237,12 @@ impl<K: Keeper> Run<K> {
         out: &mut O,
         spawner: &mut P,
         clock: &mut C,
-    ) -> Result<bool, Halt>
+    ) -> Result<Answered, Halt>
         ensures serves { RunServes P.asked P.told P.misses self.old.journal.history self.old.monitor spawner.old self.new.journal.history self.new.monitor spawner.new }
         ensures input { TakesInput (I.left input.old) (I.left input.new) (λ bytes. LinesCame bytes result self.old.journal.history
             (entries_between self.old.journal.history self.new.journal.history) (O.written out.old) (O.written out.new)) }
-        ensures end { OnOk result (IsAtEnd (I.left input.new)) }
+        ensures down { IfOk result (λ r. r.down ≡ is_down (entries_between self.old.journal.history self.new.journal.history)) }
+        ensures end { IfOk result (λ r. r.down ≡ false → IsAtEnd (I.left input.new)) }
         ensures causes { HasInputCauses result (I.faults input.old) (I.faults input.new) (O.faults out.old) (O.faults out.new) (P.faults spawner.old) (P.faults spawner.new) }
         ensures journal { HasJournalCauses K.faults K.trail (IsErrOf result Halt.KeeperFault) (IsErrOf result Halt.LogFull) self.old.journal self.new.journal }
     {

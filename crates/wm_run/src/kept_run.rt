@@ -1,8 +1,9 @@
 // A run over a keeper: its machine opens with the rows, the session is served, and the keeper is given back.
-ghost use Rattle.std.specs.Prelude.{◌≡◌, ◌<◌, ◌≤◌, None, [], length, option_to_list, true};
+ghost use Rattle.std.specs.Prelude.{◌≡◌, ◌<◌, ◌≤◌, None, [], length, option_to_list, true, false};
 ghost use Rattle.std.specs.Io.KnownBytes.{IsAtEnd};
 ghost use Rattle.std.specs.List.{list_all};
 ghost use Rattle.wm_outside.specs.Cause.{raised};
+ghost use Rattle.wm_run.specs.Down.{is_down};
 ghost use Rattle.wm_run.specs.Kept.{HasBadRow, HasHistory, open_status};
 ghost use Rattle.wm_run.specs.Outcome.{RunTakes};
 ghost use Rattle.wm_run.specs.Run.{IsRunStatus, IsServed, ended_status, run_offset};
@@ -10,7 +11,6 @@ ghost use Rattle.wm_run.specs.Serving.{is_of_run};
 ghost use Rattle.wm_stored.specs.Keeping.{telling};
 
 use crate::halt::Halt;
-use crate::monitor::Monitor;
 use crate::session::Run;
 use crate::whole_run::{NO_MEMORY, Ran, not_begun};
 use std::alloc::Global;
@@ -18,6 +18,7 @@ use std::sync::Wait;
 use wm_core::Setup;
 use wm_desc::qbatch;
 use wm_journal::Journal;
+use wm_monitor::Monitor;
 use wm_outside::{Clock, Keeper, Sink, Source, Spawner};
 use wm_stored::OpenFault;
 use wm_when::Offset;
@@ -58,14 +59,15 @@ fn open_status(fault: &OpenFault) -> u8
 }
 
 impl<K: Keeper> Run<K> {
-    ghost use Rattle.std.specs.Prelude.{◌≡◌, OnOk, None, IsErrOf};
+    ghost use Rattle.std.specs.Prelude.{◌≡◌, OnOk, None, IsErrOf, false};
     ghost use Rattle.std.specs.Io.KnownBytes.{IsAtEnd};
     ghost use Rattle.wm_journal.specs.History.{reached};
     ghost use Rattle.wm_journal.specs.Trail.{HasTrail};
     ghost use Rattle.wm_law.specs.History.{IsLegal};
     ghost use Rattle.wm_law.specs.Pending.{active};
     ghost use Rattle.wm_run.specs.Halt.{HasInputCauses};
-    ghost use Rattle.wm_run.specs.Journal.{HasJournalCauses};
+    ghost use Rattle.wm_monitor.specs.Journal.{HasJournalCauses};
+    ghost use Rattle.wm_run.specs.Down.{is_down};
     ghost use Rattle.wm_run.specs.Outcome.{SessionCame};
     ghost use Rattle.wm_run.specs.Grown.{entries_between};
     ghost use Rattle.wm_run.specs.Serving.{RunServes};
@@ -73,7 +75,7 @@ impl<K: Keeper> Run<K> {
     ghost use Rattle.wm_stored.specs.Keeping.{telling};
     ghost use Rattle.wm_stored.specs.Stored.{HasTables};
 
-    // The first call, the lines of the input, and the last call.
+    // The first call, the lines of the input, and the end of the input, where no line put the power down.
     fn serve<I: Source, O: Sink, P: Spawner, C: Clock, R: Wait>(
         &mut self,
         rt: &R,
@@ -86,16 +88,16 @@ impl<K: Keeper> Run<K> {
         ensures serves { RunServes P.asked P.told P.misses self.old.journal.history self.old.monitor spawner.old self.new.journal.history self.new.monitor spawner.new }
         ensures input { TakesInput (I.left input.old) (I.left input.new) (λ bytes. SessionCame bytes result self.old.journal.history
             (entries_between self.old.journal.history self.new.journal.history) (O.written out.old) (O.written out.new)) }
-        ensures end { OnOk result (IsAtEnd (I.left input.new)) }
+        ensures end { OnOk result (is_down (entries_between self.old.journal.history self.new.journal.history) ≡ false → IsAtEnd (I.left input.new)) }
         ensures idle { OnOk result (active (reached self.new.journal.history) ≡ 0) }
         ensures kept { OnOk result (self.new.monitor.kept ≡ None) }
         ensures causes { HasInputCauses result (I.faults input.old) (I.faults input.new) (O.faults out.old) (O.faults out.new) (P.faults spawner.old) (P.faults spawner.new) }
         ensures journal { HasJournalCauses K.faults K.trail (IsErrOf result Halt.KeeperFault) (IsErrOf result Halt.LogFull) self.old.journal self.new.journal }
     {
         self.begin(alloc, spawner, clock)?;
-        let faulty = self.take_all(rt, alloc, input, out, spawner, clock)?;
-        self.finish(rt, alloc, spawner, clock)?;
-        Ok(faulty)
+        let answered = self.take_all(rt, alloc, input, out, spawner, clock)?;
+        self.finish(rt, alloc, spawner, clock, answered.down)?;
+        Ok(answered.faulty)
     }
 
     // The history, the kept report and the keeper of a run that has ended.
@@ -134,7 +136,7 @@ pub fn run_kept<I: Source, O: Sink, K: Keeper, P: Spawner, C: Clock, R: Wait>(
         (RunTakes (I.left input.old) (I.left input.new) result.0.status result.0.log.items (O.written out.old) (O.written out.new)) }
     ensures callers { list_all is_of_run result.0.log.items ≡ true }
     ensures served { IsServed result.0.log.items (option_to_list result.0.kept) (P.asked spawner.old) (P.asked spawner.new) (P.told spawner.old) (P.told spawner.new) (P.misses spawner.old) (P.misses spawner.new) }
-    ensures end { result.0.status ≤ 1 → IsAtEnd (I.left input.new) }
+    ensures end { result.0.status ≤ 1 → is_down result.0.log.items ≡ false → IsAtEnd (I.left input.new) }
     ensures kept { result.0.status ≤ 1 → result.0.kept ≡ None }
     ensures read_fault { result.0.status ≡ 3 → raised (I.faults input.old) ≤ I.faults input.new }
     ensures write_fault { result.0.status ≡ 4 → raised (O.faults out.old) ≤ O.faults out.new }

@@ -5,22 +5,19 @@
 #![tactic(auto)]
 
 mod answer;
+mod answered;
 mod calls;
-mod enter;
 mod finish;
 mod halt;
 mod input;
 mod kept_run;
-mod monitor;
 mod parse;
 mod parsed;
 mod reads;
-mod report;
 mod session;
 mod whole_run;
 mod words;
 mod write;
 
-pub use report::Report;
 pub use whole_run::{NO_MEMORY, Ran, WRONG_WORDS, run};
 pub use words::store_path;

@@ -3,11 +3,10 @@ ghost use Rattle.std.specs.Prelude.{◌≡◌, ◌≤◌, ℕ, Err, OnOk, OnErr,
 ghost use Rattle.wm_outside.specs.Told.{Grows};
 ghost use Rattle.wm_outside.specs.Cause.{raised};
 
-use crate::answer::{NOT_BUILT, entry_line, fault_answer, is_fault, is_refused};
+use crate::answer::{NOT_BUILT, entry_line, fault_answer, is_fault, is_power_down, is_refused};
+use crate::answered::Answered;
 use crate::calls::user_call;
-use crate::enter::enter;
 use crate::halt::Halt;
-use crate::monitor::Monitor;
 use crate::parse::parse_line;
 use crate::parsed::Parsed;
 use crate::write::write_all;
@@ -16,6 +15,7 @@ use std::sync::Wait;
 use wm_clwords::ClFault;
 use wm_journal::Journal;
 use wm_law::{Call, Command, built_commands_are_had};
+use wm_monitor::{MONITOR, Monitor, Turned, enter};
 use wm_outside::{Clock, Keeper, Sink, Spawner};
 use wm_show::LineFault;
 
@@ -48,21 +48,25 @@ impl<K: Keeper> Run<K> {
     ghost use Rattle.std.specs.Option.{option_copied};
     ghost use Rattle.wm_law.specs.Built.{is_built};
     ghost use Rattle.wm_law.specs.Fit.{IsCall, HasCall, IsCommand};
-    ghost use Rattle.wm_law.specs.Pending.{next_due, starting};
+    ghost use Rattle.wm_law.specs.Pending.{next_moment, orders};
     ghost use Rattle.wm_journal.specs.History.{reached, with_call, last_of};
     ghost use Rattle.wm_outside.specs.Told.{Grows, IsEmpty};
     ghost use Rattle.wm_outside.specs.Cause.{raised};
-    ghost use Rattle.wm_run.specs.Answer.{entry_text, with_end, is_refused};
+    ghost use Rattle.wm_run.specs.Answer.{entry_text, with_end, is_power_down, is_refused};
     ghost use Rattle.wm_run.specs.Calls.{Called};
     ghost use Rattle.wm_run.specs.Halt.{HasCauses, HasMonitorCauses};
-    ghost use Rattle.wm_run.specs.Journal.{HasJournalCauses};
-    ghost use Rattle.wm_run.specs.Monitor.{IsIdle};
+    ghost use Rattle.wm_monitor.specs.Idle.{monitor_pass};
+    ghost use Rattle.wm_monitor.specs.Journal.{HasJournalCauses};
+    ghost use Rattle.wm_monitor.specs.Lists.{since};
+    ghost use Rattle.wm_monitor.specs.Monitor.{IsIdle, hands_of};
+    ghost use Rattle.wm_monitor.specs.Turned.{WaitedSince};
+    ghost use Rattle.wm_monitor.specs.View.{IsClear, MonitorAdvances};
+    ghost use Rattle.wm_run.specs.Down.{is_down};
     ghost use Rattle.wm_run.specs.Parsed.{IsFitParsed};
     ghost use Rattle.wm_run.specs.Grown.{entries_between};
     ghost use Rattle.wm_run.specs.Serving.{RunServes};
     ghost use Rattle.wm_run.specs.Session.{AnsweredBy, AnswersLine, AnswersParsed, Calls, session_pass};
     ghost use Rattle.wm_run.specs.Stopped.{IsCutShort};
-    ghost use Rattle.wm_run.specs.View.{MonitorAdvances};
 
     // Makes one call of the session. An `Err` leaves the history.
     pub(crate) fn call<C: Clock>(
@@ -89,10 +93,10 @@ impl<K: Keeper> Run<K> {
         }
     }
 
-    // Writes what is said of the last entry, and answers whether it is a refusal.
-    fn reply<O: Sink>(&self, alloc: Global, out: &mut O) -> Result<bool, Halt>
-        ensures ok { IfOk result (λ refused. IfSome (last_of self.now.journal.history) (λ e.
-            Grows (O.written out.old) (O.written out.new) (with_end (entry_text e)) × (refused ≡ is_refused e.reply))) }
+    // Writes what is said of the last entry, and answers whether it is a refusal, and whether the power goes down.
+    fn reply<O: Sink>(&self, alloc: Global, out: &mut O) -> Result<Answered, Halt>
+        ensures ok { IfOk result (λ r. IfSome (last_of self.now.journal.history) (λ e.
+            Grows (O.written out.old) (O.written out.new) (with_end (entry_text e)) × (r.faulty ≡ is_refused e.reply) × (r.down ≡ is_power_down e.reply))) }
         ensures some { OnErr result (IfSome (last_of self.now.journal.history) (λ e.
             (n : ℕ) × Grows (O.written out.old) (O.written out.new) (take n (with_end (entry_text e))))) }
         ensures faults { O.faults out.old ≤ O.faults out.new }
@@ -104,29 +108,35 @@ impl<K: Keeper> Run<K> {
         ensures no_log { IsErrOf result Halt.LogFull → ⊥ }
     {
         let Some(entry) = self.journal.last() else {
-            return Ok(false);
+            return Ok(Answered::uncalled(false));
         };
         let line = entry_line(alloc, entry)?;
         put(out, line.as_bytes())?;
-        Ok(is_refused(&entry.reply))
+        Ok(Answered {
+            faulty: is_refused(&entry.reply),
+            down: is_power_down(&entry.reply),
+        })
     }
 
-    // One turn of the monitor. It answers how many entries it made.
+    // One turn of the monitor.
     pub(crate) fn turn<P: Spawner, C: Clock>(
         &mut self,
         alloc: Global,
         spawner: &mut P,
         clock: &mut C,
-    ) -> Result<usize, Halt>
+    ) -> Result<Turned, Halt>
         ensures part { MonitorAdvances P.asked P.told P.misses self.old.journal.history self.old.monitor spawner.old self.new.journal.history self.new.monitor spawner.new }
-        ensures kept { OnOk result (self.new.monitor.kept ≡ None) }
+        ensures clear { OnOk result (IsClear self.new.monitor) }
         ensures causes { HasMonitorCauses result (P.faults spawner.old) (P.faults spawner.new) }
         ensures journal { HasJournalCauses K.faults K.trail (IsErrOf result Halt.KeeperFault) (IsErrOf result Halt.LogFull) self.old.journal self.new.journal }
-        ensures sent { IfOk result (λ sent. sent ≡ length self.new.journal.history.log - length self.old.journal.history.log) }
-        ensures idle { result ≡ Ok 0 → IsIdle self.old.journal.history self.old.monitor.kept (C.coming clock.old) (P.reporting spawner.old) }
+        ensures sent { IfOk result (λ turned. turned.sent ≡ length self.new.journal.history.log - length self.old.journal.history.log) }
+        ensures pending { IfOk result (λ turned. WaitedSince self.old.journal.history self.new.journal.history turned.pending) }
+        ensures handed { IfOk result (λ turned. (turned.pending.orders ≡ 0) ⊎ (hands_of (since self.old.journal.history.log self.new.journal.history.log) ≡ 256)) }
+        ensures idle { IfOk result (λ turned. turned.sent ≡ 0 → self.old.monitor.failed_kill ≡ None →
+            IsIdle self.old.journal.history self.old.monitor.kept self.old.monitor.failed_kill (C.coming clock.old) (P.reporting spawner.old)) }
     {
         match self.monitor.turn(alloc, &mut self.journal, spawner, clock) {
-            Ok(sent) => Ok(sent),
+            Ok(turned) => Ok(turned),
             Err(fault) => Err(Halt::from(fault)),
         }
     }
@@ -140,19 +150,20 @@ impl<K: Keeper> Run<K> {
         clock: &mut C,
     ) -> Result<(), Halt>
         ensures part { MonitorAdvances P.asked P.told P.misses self.old.journal.history self.old.monitor spawner.old self.new.journal.history self.new.monitor spawner.new }
-        ensures report { OnOk result (next_due (reached self.old.journal.history) ≡ None →
+        ensures report { OnOk result (next_moment (reached self.old.journal.history) ≡ None →
             IsEmpty (P.out spawner.old) ⊎ (length self.old.journal.history.log < length self.new.journal.history.log)) }
-        ensures awaited { OnOk result (Grows (P.awaited spawner.old) (P.awaited spawner.new) (next_due (reached self.old.journal.history) ∷ [])) }
+        ensures awaited { OnOk result (Grows (P.awaited spawner.old) (P.awaited spawner.new) (next_moment (reached self.old.journal.history) ∷ [])) }
         ensures kept { OnOk result (self.new.monitor.kept ≡ None) }
+        ensures kill { self.new.monitor.failed_kill ≡ self.old.monitor.failed_kill }
         ensures causes { HasMonitorCauses result (P.faults spawner.old) (P.faults spawner.new) }
         ensures journal { HasJournalCauses K.faults K.trail (IsErrOf result Halt.KeeperFault) (IsErrOf result Halt.LogFull) self.old.journal self.new.journal }
     {
-        let until = self.journal.pending().next;
+        let until = self.journal.pending(MONITOR).next;
         match self
             .monitor
             .wait(rt, alloc, &mut self.journal, spawner, clock, until)
         {
-            Ok(()) => Ok(()),
+            Ok(_) => Ok(()),
             Err(fault) => Err(Halt::from(fault)),
         }
     }
@@ -166,25 +177,26 @@ impl<K: Keeper> Run<K> {
         spawner: &mut P,
         clock: &mut C,
         command: Command,
-    ) -> Result<bool, Halt>
+    ) -> Result<Answered, Halt>
         requires fit { IsCommand command }
         requires built { is_built command ≡ true }
         ensures serves { RunServes P.asked P.told P.misses self.old.journal.history self.old.monitor spawner.old self.new.journal.history self.new.monitor spawner.new }
-        ensures answered { IfOk result (λ faulty. AnsweredBy (Calls command)
-            (entries_between self.old.journal.history self.new.journal.history) (O.written out.old) (O.written out.new) faulty) }
+        ensures answered { IfOk result (λ r. AnsweredBy (Calls command)
+            (entries_between self.old.journal.history self.new.journal.history) (O.written out.old) (O.written out.new) r.faulty) }
+        ensures down { IfOk result (λ r. r.down ≡ is_down (entries_between self.old.journal.history self.new.journal.history)) }
         ensures stopped { OnErr result (IsCutShort (Calls command)
             (entries_between self.old.journal.history self.new.journal.history) (O.written out.old) (O.written out.new)) }
-        ensures orders { OnOk result (length self.new.journal.history.log ≡ length self.old.journal.history.log + 1 → starting (reached self.new.journal.history) ≡ 0) }
-        ensures quiet { OnOk result (length self.new.journal.history.log ≡ length self.old.journal.history.log + 1 → IsEmpty (P.reporting spawner.old)) }
+        ensures orders { OnOk result (length self.new.journal.history.log ≡ length self.old.journal.history.log + 1 → orders (reached self.new.journal.history) monitor_pass ≡ 0) }
+        ensures quiet { OnOk result (length self.new.journal.history.log ≡ length self.old.journal.history.log + 1 → self.old.monitor.failed_kill ≡ None → IsEmpty (P.reporting spawner.old)) }
         ensures causes { HasCauses result (O.faults out.old) (O.faults out.new) (P.faults spawner.old) (P.faults spawner.new) }
         ensures journal { HasJournalCauses K.faults K.trail (IsErrOf result Halt.KeeperFault) (IsErrOf result Halt.LogFull) self.old.journal self.new.journal }
     {
         built_commands_are_had();
         let change = user_call(alloc, command)?;
         self.call(alloc, clock, change)?;
-        let refused = self.reply(alloc, out)?;
+        let answered = self.reply(alloc, out)?;
         self.turn(alloc, spawner, clock)?;
-        Ok(refused)
+        Ok(answered)
     }
 
     // Answers a parsed line: a fault by its text, a reading command by its listing, a call by its reply.
@@ -195,11 +207,12 @@ impl<K: Keeper> Run<K> {
         spawner: &mut P,
         clock: &mut C,
         parsed: Parsed,
-    ) -> Result<bool, Halt>
+    ) -> Result<Answered, Halt>
         requires { IsFitParsed parsed }
         ensures serves { RunServes P.asked P.told P.misses self.old.journal.history self.old.monitor spawner.old self.new.journal.history self.new.monitor spawner.new }
-        ensures answered { IfOk result (λ faulty. AnsweredBy (AnswersParsed parsed self.old.journal.history)
-            (entries_between self.old.journal.history self.new.journal.history) (O.written out.old) (O.written out.new) faulty) }
+        ensures answered { IfOk result (λ r. AnsweredBy (AnswersParsed parsed self.old.journal.history)
+            (entries_between self.old.journal.history self.new.journal.history) (O.written out.old) (O.written out.new) r.faulty) }
+        ensures down { IfOk result (λ r. r.down ≡ is_down (entries_between self.old.journal.history self.new.journal.history)) }
         ensures stopped { OnErr result (IsCutShort (AnswersParsed parsed self.old.journal.history)
             (entries_between self.old.journal.history self.new.journal.history) (O.written out.old) (O.written out.new)) }
         ensures causes { HasCauses result (O.faults out.old) (O.faults out.new) (P.faults spawner.old) (P.faults spawner.new) }
@@ -209,13 +222,16 @@ impl<K: Keeper> Run<K> {
             Parsed::Fault(fault) => {
                 let line = fault_answer(alloc, &fault)?;
                 put(out, line.as_bytes())?;
-                Ok(is_fault(&fault))
+                Ok(Answered::uncalled(is_fault(&fault)))
             }
             Parsed::NotBuilt => {
                 put(out, NOT_BUILT)?;
-                Ok(true)
+                Ok(Answered::uncalled(true))
             }
-            Parsed::Read(ask) => self.list(alloc, out, &ask),
+            Parsed::Read(ask) => {
+                let refused = self.list(alloc, out, &ask)?;
+                Ok(Answered::uncalled(refused))
+            }
             Parsed::Call(command) => self.call_command(alloc, out, spawner, clock, command),
         }
     }
@@ -228,10 +244,11 @@ impl<K: Keeper> Run<K> {
         spawner: &mut P,
         clock: &mut C,
         line: Option<&[u8]>,
-    ) -> Result<bool, Halt>
+    ) -> Result<Answered, Halt>
         ensures serves { RunServes P.asked P.told P.misses self.old.journal.history self.old.monitor spawner.old self.new.journal.history self.new.monitor spawner.new }
-        ensures answered { IfOk result (λ faulty. AnsweredBy (AnswersLine (option_copied line.entry) self.old.journal.history)
-            (entries_between self.old.journal.history self.new.journal.history) (O.written out.old) (O.written out.new) faulty) }
+        ensures answered { IfOk result (λ r. AnsweredBy (AnswersLine (option_copied line.entry) self.old.journal.history)
+            (entries_between self.old.journal.history self.new.journal.history) (O.written out.old) (O.written out.new) r.faulty) }
+        ensures down { IfOk result (λ r. r.down ≡ is_down (entries_between self.old.journal.history self.new.journal.history)) }
         ensures stopped { OnErr result (IsCutShort (AnswersLine (option_copied line.entry) self.old.journal.history)
             (entries_between self.old.journal.history self.new.journal.history) (O.written out.old) (O.written out.new)) }
         ensures causes { HasCauses result (O.faults out.old) (O.faults out.new) (P.faults spawner.old) (P.faults spawner.new) }

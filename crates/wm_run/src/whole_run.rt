@@ -3,6 +3,7 @@ ghost use Rattle.std.specs.Prelude.{◌≡◌, ◌≤◌, None, [], length, map,
 ghost use Rattle.std.specs.Io.KnownBytes.{IsAtEnd};
 ghost use Rattle.std.specs.List.{list_all};
 ghost use Rattle.wm_outside.specs.Cause.{raised};
+ghost use Rattle.wm_run.specs.Down.{is_down};
 ghost use Rattle.wm_run.specs.Kept.{HasBadRow, HasHistory, store_status};
 ghost use Rattle.wm_run.specs.Outcome.{RunTakes};
 ghost use Rattle.wm_run.specs.Run.{IsRunStatus, IsServed};
@@ -11,11 +12,11 @@ ghost use Rattle.wm_run.specs.Words.{is_run};
 ghost use Rattle.wm_stored.specs.Keeping.{telling};
 
 use crate::kept_run::run_kept;
-use crate::report::Report;
 use crate::words::store_path;
 use std::alloc::Global;
 use std::sync::Wait;
 use wm_law::Entry;
+use wm_monitor::Report;
 use wm_outside::{Clock, KeepFault, Sink, Source, Spawner, Store};
 
 /// What a run answers for: its status, its history, and the report that it had not sent.
@@ -56,7 +57,8 @@ fn store_status(fault: KeepFault) -> u8
 }
 
 /// Runs the command lines `run` and `run --store PATH`: the commands of the input are answered on the output, and their jobs
-/// run. Status 0 and 1 come where the whole input was taken and every job has ended, 1 where a line got a fault or a refusal;
+/// run, up to the end of the input or a line whose PWRDWNSYS is accepted. Status 0 and 1 come where no job is active any more, 1
+/// where a line got a fault or a refusal;
 /// 2 where the words are others; 3 where the input couldn't be read, 4 where the output couldn't be written, 5 where the
 /// store or its keeper failed, 6 for want of memory, 7 where the history is full, 8 where the spawner couldn't kill or look,
 /// 9 where the rows that were found aren't good, and 11 where the input has more than 1,000,000,000 bytes.
@@ -76,7 +78,7 @@ pub fn run<I: Source, O: Sink, S: Store, P: Spawner, C: Clock, R: Wait>(
         (RunTakes (I.left input.old) (I.left input.new) result.status result.log.items (O.written out.old) (O.written out.new)) }
     ensures callers { list_all is_of_run result.log.items ≡ true }
     ensures served { IsServed result.log.items (option_to_list result.kept) (P.asked spawner.old) (P.asked spawner.new) (P.told spawner.old) (P.told spawner.new) (P.misses spawner.old) (P.misses spawner.new) }
-    ensures end { result.status ≤ 1 → IsAtEnd (I.left input.new) }
+    ensures end { result.status ≤ 1 → is_down result.log.items ≡ false → IsAtEnd (I.left input.new) }
     ensures kept { result.status ≤ 1 → result.kept ≡ None }
     ensures read_fault { result.status ≡ 3 → raised (I.faults input.old) ≤ I.faults input.new }
     ensures write_fault { result.status ≡ 4 → raised (O.faults out.old) ≤ O.faults out.new }

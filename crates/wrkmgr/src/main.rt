@@ -8,7 +8,8 @@ use std::env;
 use std::io::ErrorKind;
 use std::process::ExitCode;
 use std::sync::Wait;
-use wm_outside::{MemKeeper, MemStore, ReadSource, Store, SysClock, SysSpawner, WriteSink};
+use wm_children::SysSpawner;
+use wm_outside::{MemKeeper, MemStore, ReadSource, Spawner, Store, SysClock, WriteSink};
 use wm_run::{NO_MEMORY, WRONG_WORDS, run, store_path};
 use wm_sqlkeep::SqlStore;
 
@@ -28,10 +29,15 @@ fn words(rt: &HostRuntime) -> Result<Vec<String>, u8>
 }
 
 // The one call of `run`, over the objects of the system and a store.
-fn run_over<S: Store, R: Wait>(rt: &R, host: &HostRuntime, words: &[String], store: &mut S) -> u8 {
+fn run_over<S: Store, C: Spawner, R: Wait>(
+    rt: &R,
+    host: &HostRuntime,
+    words: &[String],
+    store: &mut S,
+    spawner: &mut C,
+) -> u8 {
     let mut input = ReadSource::new(host.stdin());
     let mut out = WriteSink::new(host.stdout());
-    let mut spawner = SysSpawner::new(host.alloc(), host);
     let mut clock = SysClock::new(host);
     let ran = run(
         rt,
@@ -40,23 +46,33 @@ fn run_over<S: Store, R: Wait>(rt: &R, host: &HostRuntime, words: &[String], sto
         &mut input,
         &mut out,
         store,
-        &mut spawner,
+        spawner,
         &mut clock,
     );
     ran.status
 }
 
 // A run whose rows end with it.
-fn run_in_memory<R: Wait>(rt: &R, host: &HostRuntime, words: &[String]) -> u8 {
+fn run_in_memory<C: Spawner, R: Wait>(
+    rt: &R,
+    host: &HostRuntime,
+    words: &[String],
+    spawner: &mut C,
+) -> u8 {
     let keeper = MemKeeper::new(Vec::new(host.alloc()), Vec::new(host.alloc()));
     let mut store = MemStore::new(keeper);
-    run_over(rt, host, words, &mut store)
+    run_over(rt, host, words, &mut store, spawner)
 }
 
 // A run over the rows of a file.
-fn run_on_file<R: Wait>(rt: &R, host: &HostRuntime, words: &[String]) -> u8 {
+fn run_on_file<C: Spawner, R: Wait>(
+    rt: &R,
+    host: &HostRuntime,
+    words: &[String],
+    spawner: &mut C,
+) -> u8 {
     let mut store = SqlStore::new(host);
-    run_over(rt, host, words, &mut store)
+    run_over(rt, host, words, &mut store, spawner)
 }
 
 // Whether the words name a file.
@@ -72,10 +88,13 @@ fn main(rt: HostRuntime) -> ExitCode {
         Ok(words) => words,
         Err(status) => return ExitCode::from(status),
     };
+    let Ok(mut spawner) = SysSpawner::new(rt.alloc(), rt) else {
+        return ExitCode::from(NO_MEMORY);
+    };
     let status = if names_file(&words) {
-        run_on_file(&rt, &rt, &words)
+        run_on_file(&rt, &rt, &words, &mut spawner)
     } else {
-        run_in_memory(&rt, &rt, &words)
+        run_in_memory(&rt, &rt, &words, &mut spawner)
     };
     ExitCode::from(status)
 }

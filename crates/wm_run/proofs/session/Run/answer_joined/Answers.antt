@@ -14,7 +14,7 @@ returns-clause-answered g c =
     let w = o.written c.answer.new.out in
     let h = c.args.self.now.journal.history in
     let es = entries_between c.args.self.now.journal.history c.answer.new.self.journal.history in
-    IfOk-weaker c.answer.result _ _ (λ f one. subst (λ (l : List (Option (List ℕ))). AnsweredBy (Answers l h) es v w f) (sym c.text_of.ensures) (AnsweredBy-one _ h es v w f one)) c.answer.ensures.answered
+    IfOk-weaker c.answer.result _ _ (λ r one. subst (λ (l : List (Option (List ℕ))). AnsweredBy (Answers l h) es v w r.faulty) (sym c.text_of.ensures) (AnsweredBy-one _ h es v w r.faulty one)) c.answer.ensures.answered
 
 pub returns-clause-stopped : goal.returns-clause-stopped
 returns-clause-stopped g c =

@@ -10,7 +10,14 @@ use Rattle.wm_run.specs.declared.parsed.Parsed.{Parsed}
 use Rattle.wm_run.specs.declared.parsed.Parsed.TheVariants.{Fault}
 use Rattle.wm_run.proofs.Growing.{entries-none}
 use Rattle.wm_run.proofs.StoppedRuns.{on_err}
+use Rattle.wm_monitor.proofs.Monitors.{Proceeds-none}
 use Rattle.wm_run.proofs.session.Run.answer_parsed.Goals as goal
+
+pub returns-in_err-put-in-Fault-clause-serves : goal.returns-in_err-put-in-Fault-clause-serves
+returns-in_err-put-in-Fault-clause-serves g c = Proceeds-none _
+
+pub returns-in_err-put-in-NotBuilt-clause-serves : goal.returns-in_err-put-in-NotBuilt-clause-serves
+returns-in_err-put-in-NotBuilt-clause-serves g c = Proceeds-none _
 
 pub returns-in_err-put-in-Fault-clause-stopped : goal.returns-in_err-put-in-Fault-clause-stopped
 returns-in_err-put-in-Fault-clause-stopped g c =
@@ -29,23 +36,3 @@ returns-in_err-put-in-Fault-clause-stopped g c =
     }) in
     on_err c.from_residual-in_err-put-in-Fault.result
     (subst (λ (r : Parsed). IsCutShort (AnswersParsed r history) (entries_between history history) (o.written c.args.out.now) (o.written c.put.new.out)) (sym c.in-Fault.is) cut)
-
-pub returns-in-Read-clause-answered : goal.returns-in-Read-clause-answered
-returns-in-Read-clause-answered g c =
-    let o = g.O.Sink in
-    let ask = c.in-Read.ask in
-    let history = c.args.self.now.journal.history in
-    let v = o.written c.args.out.now in
-    let w = o.written c.list.new.out in
-    IfOk-weaker c.list.result _ _ (λ f one. subst (λ (r : Parsed). AnsweredBy (AnswersParsed r history) (entries_between history history) v w f) (sym c.in-Read.is)
-    (subst (λ (es : List Entry). AnsweredBy (Reads ask history) es v w f) (sym (entries-none history)) one)) c.list.ensures.answered
-
-pub returns-in-Read-clause-stopped : goal.returns-in-Read-clause-stopped
-returns-in-Read-clause-stopped g c =
-    let o = g.O.Sink in
-    let ask = c.in-Read.ask in
-    let history = c.args.self.now.journal.history in
-    let v = o.written c.args.out.now in
-    let w = o.written c.list.new.out in
-    on_err_weaker c.list.result (λ stop. subst (λ (r : Parsed). IsCutShort (AnswersParsed r history) (entries_between history history) v w) (sym c.in-Read.is)
-    (subst (λ (es : List Entry). IsCutShort (Reads ask history) es v w) (sym (entries-none history)) stop)) c.list.ensures.stopped

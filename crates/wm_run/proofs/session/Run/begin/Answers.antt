@@ -1,23 +1,26 @@
 use Rattle.wm_run.proofs.Servings.{Serves-call, Serves-monitor, one_call}
-use Rattle.std.proofs.Common.{None, Ok, ap, ◌∙◌, inl, inr}
-use Rattle.wm_run.proofs.Turns.{idle_call}
+use Rattle.std.proofs.Common.{None, subst, inl, inr}
+use Rattle.wm_run.proofs.IdleCalls.{idle_call}
 use Rattle.wm_run.proofs.StoppedRuns.{Untouched-same, on_err}
-use Rattle.wm_law.specs.History.{is_report}
+use Rattle.wm_law.specs.declared.call.Call.{Call}
+use Rattle.wm_run.specs.Calls.{Called}
 use Rattle.wm_run.specs.Session.{start_call}
-use Rattle.wm_run.proofs.Monitors.{Proceeds-then}
+use Rattle.wm_monitor.proofs.Monitors.{Proceeds-then}
 use Rattle.wm_run.proofs.session.Run.begin.Goals as goal
 
 pub returns-in_err-turn-clause-serves : goal.returns-in_err-turn-clause-serves
 returns-in_err-turn-clause-serves g c =
     let s = g.P.Spawner in
     let p = c.args.spawner.now in
-    Proceeds-then _ _ _ (Serves-call c.args.self.now.journal.history c.call.new.self.journal.history c.in_ok-start.start c.args.self.now.monitor c.call.new.self.monitor (s.asked p) (s.told p) (s.misses p) (ap is_report c.in_ok-start.ensures.call) c.in_ok-call.ensures.ok c.call.ensures.monitor) (Serves-monitor _ _ c.turn.ensures.part)
+    let called = subst (λ (call : Call). Called c.args.self.now.journal.history call c.call.new.self.journal.history) c.in_ok-start.ensures.call c.in_ok-call.ensures.ok in
+    Proceeds-then _ _ _ (Serves-call c.args.self.now.journal.history c.call.new.self.journal.history _ _ c.args.self.now.monitor c.call.new.self.monitor (s.asked p) (s.told p) (s.misses p) called c.call.ensures.monitor) (Serves-monitor _ _ c.turn.ensures.part)
 
 pub returns-clause-serves : goal.returns-clause-serves
 returns-clause-serves g c =
     let s = g.P.Spawner in
     let p = c.args.spawner.now in
-    Proceeds-then _ _ _ (Serves-call c.args.self.now.journal.history c.call.new.self.journal.history c.in_ok-start.start c.args.self.now.monitor c.call.new.self.monitor (s.asked p) (s.told p) (s.misses p) (ap is_report c.in_ok-start.ensures.call) c.in_ok-call.ensures.ok c.call.ensures.monitor) (Serves-monitor _ _ c.turn.ensures.part)
+    let called = subst (λ (call : Call). Called c.args.self.now.journal.history call c.call.new.self.journal.history) c.in_ok-start.ensures.call c.in_ok-call.ensures.ok in
+    Proceeds-then _ _ _ (Serves-call c.args.self.now.journal.history c.call.new.self.journal.history _ _ c.args.self.now.monitor c.call.new.self.monitor (s.asked p) (s.told p) (s.misses p) called c.call.ensures.monitor) (Serves-monitor _ _ c.turn.ensures.part)
 
 pub returns-clause-begun : goal.returns-clause-begun
 returns-clause-begun g c =
@@ -34,4 +37,4 @@ returns-in_err-turn-clause-not_begun g c =
 
 pub returns-clause-orders : goal.returns-clause-orders
 returns-clause-orders g c =
-    idle_call c.args.self.now.journal.history c.call.new.self.journal.history c.turn.new.self.journal.history c.in_ok-start.start c.in_ok-call.ensures.ok c.turn.ensures.part.log c.turn.ensures.part.opened (λ none. (c.turn.ensures.idle (c.in_ok-turn.was ∙ ap Ok (c.in_ok-turn.ensures.sent ∙ none))).orders)
+    idle_call c.args.self.now.journal.history c.call.new.self.journal.history c.turn.new.self.journal.history c.in_ok-start.start c.in_ok-turn.field-0.pending c.in_ok-call.ensures.ok c.turn.ensures.part.log c.in_ok-turn.ensures.pending c.in_ok-turn.ensures.handed

@@ -1,6 +1,6 @@
-use Rattle.wm_run.specs.Journal.{HasJournalCauses}
-use Rattle.wm_run.specs.View.{view}
-use Rattle.wm_run.proofs.MonitorLoops.{TurnLoop}
+use Rattle.wm_monitor.specs.Journal.{HasJournalCauses}
+use Rattle.wm_monitor.specs.View.{view}
+use Rattle.wm_monitor.proofs.MonitorLoops.{TurnLoop}
 use Rattle.wm_run.proofs.session.Run.drain.Given as goal
 
 abbrev pub invariant-turns : goal.invariant-turns

@@ -1,7 +1,8 @@
-use Rattle.std.proofs.Common.{◌≡◌, ◌++◌, ℕ, List, [], Option, drop, subst}
+use Rattle.std.proofs.Common.{◌≡◌, ◌++◌, ℕ, List, [], Option, drop, sym, subst, ◌∙◌}
 use Rattle.wm_clwords.specs.Part.{lines_from, ended_lines}
 use Rattle.wm_clwords.specs.declared.line.LogicalLine.{LogicalLine}
-use Rattle.wm_run.proofs.Inputs.{answered_none}
+use Rattle.wm_run.proofs.Downs.{up_none}
+use Rattle.wm_run.proofs.Inputs.{uncalled_none}
 use Rattle.wm_run.proofs.session.Run.take_line.Goals as goal
 
 pub returns-in_default-clause-taken : goal.returns-in_default-clause-taken
@@ -13,5 +14,8 @@ returns-in_default-clause-taken g c =
     record {
       lines = [];
       split = subst (λ (o : Option LogicalLine). (more : List ℕ) → lines_from before (piece ++ more) ≡ ended_lines o after ++ lines_from after (rest ++ more)) c.in_default.is c.feed-taken.ensures.lines;
-      answered = answered_none c.args.self.now.journal.history (g.O.Sink.written c.args.out.now);
+      answered = uncalled_none c.args.self.now.journal.history (g.O.Sink.written c.args.out.now) c.uncalled.result.faulty c.uncalled.ensures.faulty;
     }
+
+pub returns-in_default-clause-down : goal.returns-in_default-clause-down
+returns-in_default-clause-down g c = c.uncalled.ensures.up ∙ sym (up_none c.args.self.now.journal.history)

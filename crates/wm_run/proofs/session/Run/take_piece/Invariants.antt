@@ -1,8 +1,9 @@
 use Rattle.std.proofs.Common.{◌-◌, drop, length}
-use Rattle.wm_run.specs.Journal.{HasJournalCauses}
+use Rattle.wm_monitor.specs.Journal.{HasJournalCauses}
+use Rattle.wm_run.specs.Down.{is_down}
 use Rattle.wm_run.specs.Grown.{entries_between}
 use Rattle.wm_run.specs.Taking.{TakesPiece}
-use Rattle.wm_run.specs.View.{view}
+use Rattle.wm_monitor.specs.View.{view}
 use Rattle.wm_run.proofs.InputLoops.{PieceLoop}
 use Rattle.wm_run.proofs.session.Run.take_piece.Given as goal
 
@@ -15,6 +16,7 @@ invariant-lines g l =
     (view l.self.journal.history l.self.monitor (s.asked l.spawner) (s.told l.spawner) (s.misses l.spawner))
     (o.faults l.fn.out) (o.faults l.out) (s.faults l.fn.spawner) (s.faults l.spawner)
     l.at l.piece
+    (is_down (entries_between l.fn.self.journal.history l.self.journal.history))
     (TakesPiece l.fn.joiner l.piece l.joiner (drop l.at l.piece) l.fn.self.journal.history (entries_between l.fn.self.journal.history l.self.journal.history) (o.written l.fn.out) (o.written l.out) l.faulty)
     (HasJournalCauses g.K.Keeper.faults g.K.Keeper.trail ⊥ ⊥ l.fn.self.journal l.self.journal)
 

@@ -1,0 +1,35 @@
+use Rattle.std.proofs.Common.{◌≡◌, arith}
+use Rattle.std.proofs.lemmas.Bool.Decides.{nat_tests}
+use Rattle.std.proofs.lemmas.Result.{err_from_is_err_and}
+use Rattle.wm_monitor.proofs.Monitors.{Proceeds-none, Proceeds-then}
+use Rattle.wm_monitor.proofs.Journals.{HasJournalCauses-none, HasJournalCauses-more}
+use Rattle.wm_journal.specs.History.{reached}
+use Rattle.wm_run.proofs.IdleCalls.{busy_none}
+use Rattle.wm_run.proofs.Causes.{HasCauses-pass}
+use Rattle.wm_run.proofs.session.Run.wait_while_busy.Goals as goal
+
+pub waits-init : goal.waits-init
+waits-init g c = record { part = Proceeds-none _; looked = omega arith; journal = HasJournalCauses-none _ (λ f. f) (λ f. f) }
+
+pub waits-preserved : goal.waits-preserved
+waits-preserved g c =
+    record {
+      part = Proceeds-then _ _ _ c.waits.invariant.part (Proceeds-then _ _ _ c.drain.ensures.part c.wait.ensures.part);
+      looked = let i = c.waits.invariant.looked in let d = c.drain.ensures.causes.looked in let w = c.wait.ensures.causes.looked in omega arith;
+      journal = HasJournalCauses-more _ _ _ (HasJournalCauses-more _ _ _ c.waits.invariant.journal c.drain.ensures.journal) c.wait.ensures.journal;
+    }
+
+pub returns-in_err-pending-clause-part : goal.returns-in_err-pending-clause-part
+returns-in_err-pending-clause-part g c = Proceeds-then _ _ _ c.waits.invariant.part c.drain.ensures.part
+
+pub returns-in_err-wait-clause-part : goal.returns-in_err-wait-clause-part
+returns-in_err-wait-clause-part g c = Proceeds-then _ _ _ c.waits.invariant.part (Proceeds-then _ _ _ c.drain.ensures.part c.wait.ensures.part)
+
+pub returns-then-pending-eq0-clause-part : goal.returns-then-pending-eq0-clause-part
+returns-then-pending-eq0-clause-part g c = Proceeds-then _ _ _ c.waits.invariant.part c.drain.ensures.part
+
+pub returns-then-pending-eq0-clause-quiet : goal.returns-then-pending-eq0-clause-quiet
+returns-then-pending-eq0-clause-quiet g c =
+    let t = c.if-pending-eq0.true in
+    let none : c.in_ok-pending.pending.busy ≡ 0 = grind (arith, nat_tests) in
+    busy_none (reached c.drain.new.self.journal.history) c.in_ok-pending.pending c.in_ok-pending.ensures.pending none
