@@ -24,13 +24,10 @@ impl Tested {
     fn show(&self, words: &str, answer: &mut String) -> Result<()> {
         let (what, name) = first_word(words);
         match what {
-            "jobs" | "waiting" | "next" | "holder" | "pending" | "power" => write_state(
-                &self.machine,
-                what,
-                name,
-                answer,
-            ),
-            _ => write_objects(&self.machine.objects, what, name, answer),
+            "jobs" | "waiting" | "next" | "holder" | "pending" | "power" => {
+                write_state(&self.core, what, name, answer)
+            }
+            _ => write_objects(self.objects(), what, name, answer),
         }
     }
 
@@ -44,7 +41,7 @@ impl Tested {
             "times" => self.times(words, answer),
             "built" => self.built(words, answer),
             "opening" => write_opening(self.alloc, answer),
-            "copy" => write_copied(&self.machine.objects, answer),
+            "copy" => write_copied(self.objects(), answer),
             "list" => write_sorted(self.alloc, words, answer),
             _ => self.command(question, answer),
         }

@@ -1,7 +1,6 @@
 // Calls of the machine, and commands by their CL texts.
 ghost use Rattle.std.specs.Prelude.{IfOk, IsTrue};
 ghost use Rattle.wm_command.specs.Printed.{FitsMachine};
-ghost use Rattle.wm_law.specs.declared.command.Command.TheVariants.{Pwrdwnsys as IsPwrdwnsys};
 ghost use Rattle.wm_law.specs.Fit.{HasCommand, HasCall};
 
 use anyhow::Result;
@@ -9,8 +8,8 @@ use std::alloc::Global;
 use wm_base::Name;
 use wm_clwords::read_command;
 use wm_command::{Line, command};
-use wm_core::{Machine, built};
-use wm_law::{Call, Command, EndOption, Pwrdwnsys};
+use wm_core::{Core, built};
+use wm_law::{Call, Command};
 
 // The line that a CL text is.
 pub fn line_of(alloc: Global, user: &Name, text: &str) -> Result<Line>
@@ -21,29 +20,21 @@ pub fn line_of(alloc: Global, user: &Name, text: &str) -> Result<Line>
     Ok(line)
 }
 
-fn has_power_down(machine: &Machine, command: &Pwrdwnsys) -> bool
-    ensures { IsTrue result → HasCommand machine.now.state (IsPwrdwnsys command.now) }
-{
-    matches!(command.option, EndOption::Immed) && machine.pending().active == 0
-}
-
 // Whether the machine has the command: it has each that is built for users.
 #[tactic(auto, using(wm_law::proofs::Had::built_is_had))]
-fn has_command(machine: &Machine, command: &Command) -> bool
-    ensures { IsTrue result → HasCommand machine.now.state command.now }
+fn has_command(core: &Core, command: &Command) -> bool
+    ensures { IsTrue result → HasCommand core.now.state command.now }
 {
-    match command {
-        Command::Pwrdwnsys(command) => has_power_down(machine, command),
-        _ => built(command).is_ok(),
-    }
+    let _ = core;
+    built(command).is_ok()
 }
 
 /// Whether the machine has the call.
-pub fn has_call(machine: &Machine, call: &Call) -> bool
-    ensures { IsTrue result → HasCall machine.now.state call.now }
+pub fn has_call(core: &Core, call: &Call) -> bool
+    ensures { IsTrue result → HasCall core.now.state call.now }
 {
     match call {
-        Call::Change { command, .. } => has_command(machine, command.get()),
+        Call::Change { command, .. } => has_command(core, command.get()),
         _ => true,
     }
 }

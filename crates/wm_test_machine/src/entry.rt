@@ -1,4 +1,4 @@
-// The commands on prestart entries. The machine hasn't them yet, so the objects alone are called.
+// The commands on prestart entries. The machine hasn't them yet, so the objects alone are called, in a copy.
 use anyhow::{Result, ensure};
 use std::alloc::AllocError;
 use wm_base::Refusal;

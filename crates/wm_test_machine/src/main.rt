@@ -1,7 +1,7 @@
 //! The cases of the machine and of its objects: what each command, each monitor's call and each refusal comes to.
 //!
 //! The cases are the texts of `data/`, which `wm_cases` plays: a question is a CL text, which is called on a
-//! `wm_core::Machine`, or one of the words of `asked`. Each case begins with the state of an empty store, by the user
+//! `wm_core::Core`, or one of the words of `asked`. Each case begins with the state of an empty store, by the user
 //! QUSER, at the moment 1000. What is printed, and what must be printed, is the number of answers of each file.
 #![tactic(auto)]
 
@@ -23,7 +23,7 @@ use tested::Tested;
 use wm_cases::play;
 
 /// The files of cases.
-static FILES: [&str; 9] = [
+static FILES: [&str; 10] = [
     "objects.txt",
     "descriptions.txt",
     "opening.txt",
@@ -32,6 +32,7 @@ static FILES: [&str; 9] = [
     "routing.txt",
     "launches.txt",
     "waiting.txt",
+    "endings.txt",
     "built.txt",
 ];
 

@@ -13,10 +13,13 @@ impl fmt::Display for Answer<'_> {
         match self.0 {
             Reply::Made => f.write_str("OK"),
             Reply::SbsStarted(sbsd) => write!(f, "OK subsystem {sbsd} started"),
+            Reply::SbsEnding(sbsd) => write!(f, "OK subsystem {sbsd} ending"),
             Reply::Submitted(job, jobq) => write!(f, "OK {job} submitted to {jobq}"),
             Reply::Held(job) => write!(f, "OK {job} held"),
             Reply::Released(job) => write!(f, "OK {job} released"),
             Reply::Changed(job) => write!(f, "OK {job} changed"),
+            Reply::JobEnding(job) => write!(f, "OK {job} ending"),
+            Reply::JobEnded(job) => write!(f, "OK {job} ended"),
             Reply::QueueHeld => f.write_str("OK queue held"),
             Reply::QueueReleased => f.write_str("OK queue released"),
             Reply::QueueCleared(count) => write!(f, "OK queue cleared of {count}"),

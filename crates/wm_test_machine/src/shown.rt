@@ -7,7 +7,7 @@ use std::alloc::AllocError;
 use std::marker::Brand;
 use std::sync::ledger::{Blank, Ledger};
 use wm_base::Steps;
-use wm_core::Machine;
+use wm_core::{Core, Machine};
 use wm_law::{Candidate, Job, Phase, Power};
 
 fn write_phase(phase: &Phase, answer: &mut String) -> Result<(), AllocError> {
@@ -26,8 +26,8 @@ fn write_job(job: &Job, answer: &mut String) -> Result<(), AllocError> {
     answer.push('\n')
 }
 
-fn write_jobs(machine: &Machine, answer: &mut String) -> Result<()> {
-    for job in machine.jobs().jobs() {
+fn write_jobs(core: &Core, answer: &mut String) -> Result<()> {
+    for job in core.jobs().jobs() {
         write_job(job, answer)?;
     }
     Ok(())
@@ -45,8 +45,8 @@ fn write_waiting_job(job: &Job, answer: &mut String) -> Result<()> {
     Ok(())
 }
 
-fn write_waiting(machine: &Machine, answer: &mut String) -> Result<()> {
-    for job in machine.jobs().jobs() {
+fn write_waiting(core: &Core, answer: &mut String) -> Result<()> {
+    for job in core.jobs().jobs() {
         if let Phase::Waiting = job.phase {
             write_waiting_job(job, answer)?;
         }
@@ -71,20 +71,21 @@ fn write_next(machine: &Machine, answer: &mut String) -> Result<()> {
     Ok(())
 }
 
-fn write_holder(machine: &Machine, queue: &str, answer: &mut String) -> Result<()> {
+fn write_holder(core: &Core, queue: &str, answer: &mut String) -> Result<()> {
     let queue = qname_of(queue).context("no qualified name")?;
-    match machine.parts().holder(&queue) {
+    match core.machine().parts().holder(&queue) {
         None => answer.push_str("NONE\n")?,
         Some(sbs) => writeln!(answer, "{}", sbs.sbsd)?,
     }
     Ok(())
 }
 
-fn write_pending(machine: &Machine, answer: &mut String) -> Result<()> {
-    let pending = machine.pending();
+// What waits for the monitor of pass 1.
+fn write_pending(core: &Core, answer: &mut String) -> Result<()> {
+    let pending = core.pending(1);
     write!(
         answer,
-        "ACTIVE {} STARTING {} DUE ",
+        "ACTIVE {} ORDERS {} DUE ",
         pending.active, pending.orders
     )?;
     match pending.next {
@@ -94,26 +95,26 @@ fn write_pending(machine: &Machine, answer: &mut String) -> Result<()> {
     Ok(())
 }
 
-fn write_power(machine: &Machine, answer: &mut String) -> Result<()> {
-    let power = match machine.power {
+fn write_power(core: &Core, answer: &mut String) -> Result<()> {
+    let power = match core.power() {
         Power::On => "ON",
         Power::Down => "DOWN",
         Power::DownNow => "DOWNNOW",
     };
-    writeln!(answer, "{power} STARTED {}", machine.started.len())?;
+    writeln!(answer, "{power} STARTED {}", core.started().len())?;
     Ok(())
 }
 
-/// Adds what the word says: the `jobs` by serial, the `waiting` ones, the `next` one, the `holder` of a queue, what is `pending`, or the
-/// `power` and how many subsystems are started.
-pub fn write_state(machine: &Machine, what: &str, name: &str, answer: &mut String) -> Result<()> {
+/// Adds what the word says: the `jobs` by serial, the `waiting` ones, the `next` one, the `holder` of a queue, what is
+/// `pending` for a monitor, or the `power` and how many subsystems are started.
+pub fn write_state(core: &Core, what: &str, name: &str, answer: &mut String) -> Result<()> {
     match what {
-        "jobs" => write_jobs(machine, answer),
-        "waiting" => write_waiting(machine, answer),
-        "next" => write_next(machine, answer),
-        "holder" => write_holder(machine, name, answer),
-        "pending" => write_pending(machine, answer),
-        "power" => write_power(machine, answer),
+        "jobs" => write_jobs(core, answer),
+        "waiting" => write_waiting(core, answer),
+        "next" => write_next(core.machine(), answer),
+        "holder" => write_holder(core, name, answer),
+        "pending" => write_pending(core, answer),
+        "power" => write_power(core, answer),
         _ => bail!("nothing to be shown"),
     }
 }

@@ -1,4 +1,4 @@
-// What the cases ask: a machine, and the user of its commands.
+// What the cases ask: the machine, and the user of its commands.
 use crate::change::{has_call, line_of, write_built};
 use crate::entry::entry_reply;
 use crate::monitor::call_of;
@@ -8,8 +8,8 @@ use anyhow::Result;
 use std::alloc::Global;
 use wm_base::{Moment, Name};
 use wm_command::Line;
-use wm_core::{Machine, Setup};
-use wm_desc::qbatch;
+use wm_core::{Core, Setup};
+use wm_desc::{Objects, qbatch};
 use wm_law::{Boxed, Call, Command, Reply};
 use wm_when::Offset;
 
@@ -23,7 +23,9 @@ const SESSION: u32 = 0;
 pub struct Tested {
     pub alloc: Global,
     pub user: Name,
-    pub machine: Machine,
+    pub core: Core,
+    // A copy of the objects that takes prestart entries, from the first command on these to the next call of the machine.
+    copy: Option<Objects>,
     /// The moment of the calls.
     pub now: Moment,
 }
@@ -38,26 +40,44 @@ impl Tested {
             ctl: qbatch(),
             offset: Offset::new(0),
         };
-        let machine = Machine::opening(alloc, &setup)?;
+        let core = Core::opening(alloc, &setup)?;
         Ok(Tested {
             alloc,
             user: Name::of(b"QUSER"),
-            machine,
+            core,
+            copy: None,
             now: Moment::new(NOW),
         })
+    }
+
+    /// The objects: those of the copy, where there is one.
+    pub fn objects(&self) -> &Objects {
+        match &self.copy {
+            Some(objects) => objects,
+            None => self.core.objects(),
+        }
+    }
+
+    // The reply of the copy of the objects, `None` where the call isn't about prestart entries.
+    fn copied_reply(&mut self, call: &Call) -> Result<Option<Reply>> {
+        let mut objects = match self.copy.take() {
+            Some(objects) => objects,
+            None => self.core.objects().clone()?,
+        };
+        let reply = entry_reply(&mut objects, call);
+        self.copy = Some(objects);
+        reply
     }
 
     // The reply to a call, `None` where the machine hasn't it.
     fn reply(&mut self, caller: u32, call: &Call) -> Result<Option<Reply>>
         requires { IsCall call.now }
     {
-        if let Some(reply) = entry_reply(&mut self.machine.objects, call)? {
-            return Ok(Some(reply));
+        if !has_call(&self.core, call) {
+            return self.copied_reply(call);
         }
-        if !has_call(&self.machine, call) {
-            return Ok(None);
-        }
-        let reply = self.machine.step(self.alloc, caller, call, self.now)?;
+        self.copy = None;
+        let reply = self.core.step(self.alloc, caller, call, self.now)?;
         Ok(Some(reply))
     }
 

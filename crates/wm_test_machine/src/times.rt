@@ -1,4 +1,4 @@
-// A question with each number of a range.
+// A CL text with each number of a range.
 use crate::tested::Tested;
 use crate::text::{first_word, number_of};
 use anyhow::Result;
@@ -40,33 +40,25 @@ fn numbered(alloc: Global, text: &str, number: u64) -> Result<String> {
 }
 
 impl Tested {
-    // Sets something, or calls a command.
-    fn set_or_call(&mut self, question: &str, answer: &mut String) -> Result<()> {
-        match question.strip_prefix("set ") {
-            Some(words) => self.set(words),
-            None => self.command(question, answer),
-        }
-    }
-
-    // The answer to the question with the number.
-    fn numbered_answer(&mut self, question: &str, number: u64) -> Result<String> {
+    // The answer to the CL text with the number.
+    fn numbered_answer(&mut self, text: &str, number: u64) -> Result<String> {
         let mut answer = String::new(self.alloc);
-        let question = numbered(self.alloc, question, number)?;
-        self.set_or_call(question.as_str(), &mut answer)?;
+        let text = numbered(self.alloc, text, number)?;
+        self.command(text.as_str(), &mut answer)?;
         Ok(answer)
     }
 
-    /// Asks the question of `FIRST LAST QUESTION`, a CL text or a `set ..`, with each number from the first to the last in
-    /// place of `#`, and adds the answers, each with how often it was given.
+    /// Calls the CL text of `FIRST LAST TEXT` with each number from the first to the last in place of `#`, and adds the answers,
+    /// each with how often it was given.
     pub fn times(&mut self, words: &str, answer: &mut String) -> Result<()> {
         let (first, words) = first_word(words);
-        let (last, question) = first_word(words);
+        let (last, text) = first_word(words);
         let mut run = Run {
             answer: String::new(self.alloc),
             times: 0,
         };
         for number in number_of(first)?..=number_of(last)? {
-            run.take(self.numbered_answer(question, number)?, answer)?;
+            run.take(self.numbered_answer(text, number)?, answer)?;
         }
         run.write(answer)
     }

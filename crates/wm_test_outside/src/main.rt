@@ -19,9 +19,15 @@ use anyhow::Result;
 use memory::MemoryCases;
 use system::SystemCases;
 use wm_cases::play;
+use wm_children::SysSpawner;
 
 fn main(rt: HostRuntime) -> Result<()> {
     let alloc = rt.alloc();
     play(&rt, "memory.txt", &mut MemoryCases::new(alloc, &rt))?;
-    play(&rt, "system.txt", &mut SystemCases::new(alloc, &rt))
+    let mut spawner = SysSpawner::new(alloc, rt)?;
+    play(
+        &rt,
+        "system.txt",
+        &mut SystemCases::new(alloc, &rt, &mut spawner),
+    )
 }

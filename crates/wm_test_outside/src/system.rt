@@ -7,13 +7,14 @@ use super::words::{BAR, first_word, unknown};
 use anyhow::{Context, Result};
 use std::alloc::Global;
 use std::fmt::Write;
-use std::process::Processes;
+use std::process::{Processes, SystemProcess};
 use std::rt;
 use std::sync::Wait;
 use std::time::Duration;
 use wm_base::{Event, Moment};
 use wm_cases::{Subject, bytes_of};
-use wm_outside::{Clock, Failed, ReadSource, Spawner, SysClock, SysSpawner, WriteSink};
+use wm_children::SysSpawner;
+use wm_outside::{Clock, Failed, ReadSource, Spawner, SysClock, WriteSink};
 
 // Reads of `flaky | 2 | 2`, and of `slice ab | 2 | 2`.
 fn read_reader(alloc: Global, words: &str, answer: &mut String) -> Result<()> {
@@ -102,27 +103,22 @@ fn look_often<C: rt::Clock, S: Spawner>(
     Ok(None)
 }
 
-/// The adapters that a case asks. The spawner is one for all of a case.
+/// The adapters that a case asks. The spawner is one for all cases, since each waits for its children.
 #[derive(Drop)]
-pub struct SystemCases<'a, R: Processes + Wait + rt::Clock> {
+pub struct SystemCases<'a, R: Processes<Started = SystemProcess> + Wait + rt::Clock> {
     alloc: Global,
     rt: &'a R,
-    spawner: SysSpawner<&'a R>,
+    spawner: &'a mut SysSpawner<R>,
 }
 
-impl<'a, R: Processes + Wait + rt::Clock> SystemCases<'a, R> {
-    pub fn new(alloc: Global, rt: &'a R) -> SystemCases<'a, R> {
-        SystemCases {
-            alloc,
-            rt,
-            spawner: SysSpawner::new(alloc, rt),
-        }
+impl<'a, R: Processes<Started = SystemProcess> + Wait + rt::Clock> SystemCases<'a, R> {
+    pub fn new(alloc: Global, rt: &'a R, spawner: &'a mut SysSpawner<R>) -> SystemCases<'a, R> {
+        SystemCases { alloc, rt, spawner }
     }
 }
 
-impl<R: Processes + Wait + rt::Clock> Subject for SystemCases<'_, R> {
+impl<R: Processes<Started = SystemProcess> + Wait + rt::Clock> Subject for SystemCases<'_, R> {
     fn begin(&mut self) -> Result<()> {
-        self.spawner = SysSpawner::new(self.alloc, self.rt);
         Ok(())
     }
 
@@ -134,10 +130,10 @@ impl<R: Processes + Wait + rt::Clock> Subject for SystemCases<'_, R> {
             "write" => write_writer(alloc, rest, answer),
             "clock" => ask_clock(self.rt, rest, answer),
             "looks" => {
-                let found = look_often(self.rt, &mut self.spawner, rest.parse::<u32>()?);
+                let found = look_often(self.rt, &mut *self.spawner, rest.parse::<u32>()?);
                 answer_look(found, answer)
             }
-            _ => ask_spawner(self.rt, alloc, &mut self.spawner, question, answer),
+            _ => ask_spawner(self.rt, alloc, &mut *self.spawner, question, answer),
         }
     }
 }

@@ -25,5 +25,6 @@ fn main(rt: HostRuntime) -> Result<()> {
     play(&rt, "order.txt", &mut runs)?;
     play(&rt, "launches.txt", &mut runs)?;
     play(&rt, "waiting.txt", &mut runs)?;
-    play(&rt, "listings.txt", &mut runs)
+    play(&rt, "listings.txt", &mut runs)?;
+    play(&rt, "endings.txt", &mut runs)
 }

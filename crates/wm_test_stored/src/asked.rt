@@ -5,7 +5,8 @@
 // > as USER TEXT         the same of another user
 // > monitor 1 hand       a call of a monitor, by the words of `monitor`, and the answers of a command
 // > log                  how many entries there are
-// > pending              what waits for a monitor: how many jobs are active, how many orders there are, and the next moment
+// > pending              what waits for the monitor of pass 1: how many jobs are active, how many orders it has, and the next
+//                        moment
 ghost use Rattle.std.specs.Prelude.{IfOk};
 ghost use Rattle.wm_command.specs.Printed.{FitsMachine};
 ghost use Rattle.wm_law.specs.Fit.{IsCall, IsCommand, HasCall};
@@ -21,11 +22,12 @@ use wm_clwords::read_command;
 use wm_command::{Line, command};
 use wm_core::built;
 use wm_journal::Journal;
-use wm_law::{Boxed, Call, Command, Pending, built_commands_are_had};
+use wm_law::{Boxed, Call, Command, built_commands_are_had};
+use wm_monitor::MONITOR;
 use wm_outside::MemKeeper;
 
 /// The moment of each call.
-const NOW: u64 = 1000;
+pub const NOW: u64 = 1000;
 
 /// The pass of a session.
 const SESSION: u32 = 0;
@@ -118,10 +120,11 @@ fn report(
     call(alloc, journal, monitor, made, answer)
 }
 
-/// Adds what waits for a monitor.
-pub fn write_pending(pending: &Pending, answer: &mut String) -> Result<()> {
+/// Adds what waits for the monitor.
+pub fn write_pending(journal: &Journal<MemKeeper>, answer: &mut String) -> Result<()> {
+    let pending = journal.pending(MONITOR);
     let (active, orders) = (pending.active, pending.orders);
-    write!(answer, "ACTIVE {active} STARTING {orders} DUE ")?;
+    write!(answer, "ACTIVE {active} ORDERS {orders} DUE ")?;
     match pending.next {
         None => answer.push_str("NONE\n")?,
         Some(moment) => writeln!(answer, "{moment}")?,
@@ -141,7 +144,7 @@ pub fn ask(
         "as" => change_as(alloc, journal, words, answer),
         "monitor" => report(alloc, journal, words, answer),
         "log" => Ok(writeln!(answer, "{}", journal.len())?),
-        "pending" => write_pending(&journal.pending(), answer),
+        "pending" => write_pending(journal, answer),
         _ => change(alloc, journal, &Name::of(b"QUSER"), question, answer),
     }
 }

@@ -75,7 +75,7 @@ fn write_log(alloc: Global, log: &[Entry], left: &mut String) -> Result<()> {
 // What a journal leaves: what waits for a monitor, the history and the rows.
 fn left(alloc: Global, journal: Journal<MemKeeper>) -> Result<String> {
     let mut left = String::new(alloc);
-    write_pending(&journal.pending(), &mut left)?;
+    write_pending(&journal, &mut left)?;
     let mut closed = journal.close();
     write_log(alloc, &closed.log, &mut left)?;
     write_rows(&closed.keeper.load()?, &mut left)?;

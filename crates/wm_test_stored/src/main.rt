@@ -13,6 +13,7 @@ mod opened;
 mod replies;
 mod rows;
 mod tested;
+mod turns;
 mod words;
 
 use anyhow::Result;

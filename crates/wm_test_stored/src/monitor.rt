@@ -17,6 +17,7 @@ fn report_of(report: &str, serial: Serial, code: u8) -> Result<Call>
         "started" => Ok(Call::Started(serial)),
         "failed" => Ok(Call::StartFailed(serial, StartCause::Spawner)),
         "finished" => Ok(Call::Finished(serial, Exit::Code(code))),
+        "killed" => Ok(Call::Finished(serial, Exit::Killed)),
         _ => bail!("no such report: {report}"),
     }
 }

@@ -11,7 +11,8 @@ use wm_stored::OpenFault;
 /// The answer to a call whose rows the keeper didn't keep.
 pub const KEEPER_FAULT: &str = "KEEPERFAULT\n";
 
-fn write_asked(asked: &Asked, answer: &mut String) -> Result<()> {
+/// Adds an order, or what a spawner is asked.
+pub fn write_asked(asked: &Asked, answer: &mut String) -> Result<()> {
     match asked {
         Asked::Start(order) => writeln!(answer, "START {}", order.serial)?,
         Asked::Kill(serial) => writeln!(answer, "KILL {serial}")?,

@@ -6,6 +6,9 @@
 // > close                closes the journal, whose keeper is left to the next `open`
 // > rows TAB             the rows of a table
 // > changed              the rows that went since this was last asked, or the keeper made, and those that came
+// > spawner fail 1       a monitor that keeps nothing, and a spawner whose first kill fails
+// > turn                 a turn of that monitor: how many calls it made, or `WAITFAULT`
+// > asked                what that spawner was asked
 // > script TEXT          a line of a script
 // > every apply fails once      how many calls of `apply` the script makes, with each difference that it makes that one fails
 //
@@ -15,6 +18,7 @@ use crate::failing::write_failing;
 use crate::opened::{keeper_of, open};
 use crate::replies::write_open_fault;
 use crate::rows::{write_missing, write_table};
+use crate::turns::Turns;
 use crate::words::{failing, first_word, row, unknown};
 use anyhow::{Context, Result};
 use std::alloc::Global;
@@ -32,6 +36,7 @@ pub struct Tested {
     rows: Vec<Row>,
     keeper: Option<MemKeeper>,
     journal: Option<Journal<MemKeeper>>,
+    turns: Option<Turns>,
     // The rows that were seen last.
     seen: Vec<Row>,
     script: Vec<String>,
@@ -44,6 +49,7 @@ impl Tested {
             rows: Vec::new(alloc),
             keeper: None,
             journal: None,
+            turns: None,
             seen: Vec::new(alloc),
             script: Vec::new(alloc),
         }
@@ -103,6 +109,23 @@ impl Tested {
         Ok(self.script.push(String::from_str(self.alloc, line)?)?)
     }
 
+    fn make_spawner(&mut self, words: &str) -> Result<()> {
+        let kills = failing(self.alloc, words)?;
+        self.turns = Some(Turns::new(self.alloc, kills));
+        Ok(())
+    }
+
+    fn turn(&mut self, answer: &mut String) -> Result<()> {
+        let journal = self.journal.as_mut().context("no journal")?;
+        let turns = self.turns.as_mut().context("no spawner")?;
+        turns.turn(self.alloc, journal, answer)
+    }
+
+    fn write_asked(&self, answer: &mut String) -> Result<()> {
+        let turns = self.turns.as_ref().context("no spawner")?;
+        turns.write_asked(answer)
+    }
+
     fn ask_journal(&mut self, question: &str, answer: &mut String) -> Result<()> {
         match &mut self.journal {
             None => unknown(question),
@@ -126,6 +149,9 @@ impl Subject for Tested {
             "close" => self.close(),
             "rows" => self.table(words, answer),
             "changed" => self.changed(answer),
+            "spawner" => self.make_spawner(words),
+            "turn" => self.turn(answer),
+            "asked" => self.write_asked(answer),
             "script" => self.add_line(words),
             "every" => write_failing(self.alloc, &self.script, answer),
             _ => self.ask_journal(question, answer),

@@ -10,8 +10,6 @@ impl Tested {
             self.monitor(words, answer)
         } else if let Some(now) = question.strip_prefix("set now ") {
             self.set_now(now)
-        } else if let Some(name) = question.strip_prefix("set ending ") {
-            self.set_ending(name)
         } else if question == "list causes" {
             self.list_causes(answer)
         } else {

@@ -6,14 +6,7 @@ use wm_law::JobKind;
 use wm_views::{JobLine, JobLines, Status};
 
 /// The causes.
-static CAUSES: [EndCause; 6] = [
-    EndCause::Endjob,
-    EndCause::Endsbs,
-    EndCause::Endpj,
-    EndCause::Maxuse,
-    EndCause::EndedOnQueue,
-    EndCause::Restarted,
-];
+static CAUSES: [EndCause; 3] = [EndCause::Endpj, EndCause::Maxuse, EndCause::Restarted];
 
 // The line of a job that has ended.
 fn ended(cause: EndCause) -> JobLine {

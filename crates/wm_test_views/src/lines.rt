@@ -8,7 +8,7 @@ use std::alloc::Global;
 use wm_base::Name;
 use wm_clwords::read_command;
 use wm_command::{Line, command};
-use wm_core::{Machine, built};
+use wm_core::{Core, built};
 use wm_law::{Call, Command};
 
 /// The line that a CL text is.
@@ -22,19 +22,19 @@ pub fn line_of(alloc: Global, user: &Name, text: &str) -> Result<Line>
 
 // Whether the machine has the command: it has each that is built for users.
 #[tactic(auto, using(wm_law::proofs::Had::built_is_had))]
-fn has_command(machine: &Machine, command: &Command) -> bool
-    ensures { IsTrue result → HasCommand machine.now.state command.now }
+fn has_command(core: &Core, command: &Command) -> bool
+    ensures { IsTrue result → HasCommand core.now.state command.now }
 {
-    let _ = machine;
+    let _ = core;
     built(command).is_ok()
 }
 
 /// Whether the machine has the call.
-pub fn has_call(machine: &Machine, call: &Call) -> bool
-    ensures { IsTrue result → HasCall machine.now.state call.now }
+pub fn has_call(core: &Core, call: &Call) -> bool
+    ensures { IsTrue result → HasCall core.now.state call.now }
 {
     match call {
-        Call::Change { command, .. } => has_command(machine, command.get()),
+        Call::Change { command, .. } => has_command(core, command.get()),
         _ => true,
     }
 }

@@ -1,8 +1,8 @@
-//! The cases of what reading commands show: commands and monitors' calls on a `wm_core::Machine`, and then a listing.
+//! The cases of what reading commands show: commands and monitors' calls on a `wm_core::Core`, and then a listing.
 //!
-//! A question is a CL text, which is called or shown, `monitor` with its pass and call, `set now`, `set ending`, or `list
-//! causes`. Each case begins with the state of an empty store, by the user QUSER, at the moment 1000. What is printed, and
-//! what must be printed, is the number of answers of each file.
+//! A question is a CL text, which is called or shown, `monitor` with its pass and call, `set now`, or `list causes`. Each
+//! case begins with the state of an empty store, by the user QUSER, at the moment 1000. What is printed, and what must be
+//! printed, is the number of answers of each file.
 #![tactic(auto)]
 
 mod asked;

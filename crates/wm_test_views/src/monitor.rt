@@ -3,7 +3,7 @@ ghost use Rattle.std.specs.Prelude.{IfOk};
 ghost use Rattle.wm_law.specs.Fit.{IsCall};
 
 use anyhow::{Result, bail};
-use wm_base::{Exit, Name, QName, Serial, StartCause};
+use wm_base::{Exit, Serial, StartCause};
 use wm_law::Call;
 
 /// The first word, and what stands behind it.
@@ -12,15 +12,6 @@ pub fn first_word(words: &str) -> (&str, &str) {
         None => (words, ""),
         Some(split) => split,
     }
-}
-
-/// `LIB/NAME`.
-pub fn qname_of(word: &str) -> Option<QName> {
-    let (lib, name) = word.split_once('/')?;
-    Some(QName {
-        lib: Name::read(lib.as_bytes()).ok()?,
-        name: Name::read(name.as_bytes()).ok()?,
-    })
 }
 
 /// The call that words are: `hand`, `tick`, or a report as `finished 2` of the job of serial 2.

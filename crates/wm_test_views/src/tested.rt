@@ -1,18 +1,18 @@
-// What the cases ask: a machine, and the user of its commands.
+// What the cases ask: the machine, and the user of its commands.
 ghost use Rattle.wm_command.specs.Printed.{FitsMachine};
 ghost use Rattle.wm_law.specs.Fit.{IsCall, IsCommand};
 
 use crate::causes::ended_jobs;
 use crate::lines::{has_call, line_of};
-use crate::monitor::{call_of, first_word, qname_of};
+use crate::monitor::{call_of, first_word};
 use anyhow::{Context, Result, bail, ensure};
 use std::alloc::Global;
 use std::str;
 use wm_base::{Moment, Name};
 use wm_command::Line;
-use wm_core::{Machine, Setup};
+use wm_core::{Core, Setup};
 use wm_desc::qbatch;
-use wm_law::{Ask, Boxed, Call, Command, Entry, Reply, Sbs, SbsPhase};
+use wm_law::{Ask, Boxed, Call, Command, Entry, Reply};
 use wm_listing::{listing, log_listing};
 use wm_views::{Parts, Shown};
 use wm_when::Offset;
@@ -27,7 +27,7 @@ const SESSION: u32 = 0;
 pub struct Tested {
     alloc: Global,
     user: Name,
-    machine: Machine,
+    core: Core,
     log: Vec<Entry>,
     now: Moment,
 }
@@ -39,11 +39,11 @@ impl Tested {
             ctl: qbatch(),
             offset: Offset::new(0),
         };
-        let machine = Machine::opening(alloc, &setup)?;
+        let core = Core::opening(alloc, &setup)?;
         Ok(Tested {
             alloc,
             user: Name::of(b"QUSER"),
-            machine,
+            core,
             log: Vec::new(alloc),
             now: Moment::new(NOW),
         })
@@ -58,10 +58,10 @@ impl Tested {
     // What is shown of the machine's state.
     fn shown(&self, ask: &Ask) -> Result<Shown> {
         let parts = Parts::new(
-            &self.machine.objects,
-            self.machine.jobs(),
-            &self.machine.started,
-            &self.machine.held,
+            self.core.objects(),
+            self.core.jobs(),
+            self.core.started(),
+            self.core.held(),
         );
         let shown = parts.view(self.alloc, ask)?;
         Ok(shown)
@@ -87,10 +87,10 @@ impl Tested {
     fn reply(&mut self, caller: u32, call: &Call) -> Result<Reply>
         requires { IsCall call.now }
     {
-        if !has_call(&self.machine, call) {
+        if !has_call(&self.core, call) {
             bail!("not built");
         }
-        let reply = self.machine.step(self.alloc, caller, call, self.now)?;
+        let reply = self.core.step(self.alloc, caller, call, self.now)?;
         Ok(reply)
     }
 
@@ -169,18 +169,6 @@ impl Tested {
         let now = now.parse::<u64>()?;
         ensure!(now <= Moment::MAX, "no moment");
         self.now = Moment::new(now);
-        Ok(())
-    }
-
-    /// A subsystem that is to end by itself stands last among the started ones.
-    pub fn set_ending(&mut self, sbsd: &str) -> Result<()> {
-        let sbsd = qname_of(sbsd).context("no qualified name")?;
-        // The clock names the type of the moment that a subsystem's phase may have, which the borrow check asks for.
-        let _clock = self.machine.jobs().clock();
-        self.machine.started.push(Sbs {
-            sbsd,
-            phase: SbsPhase::Ending(None),
-        })?;
         Ok(())
     }
 }

@@ -1,0 +1,57 @@
+// Turns of a monitor, with a spawner in memory whose children end where they are killed.
+use crate::asked::NOW;
+use crate::replies::write_asked;
+use anyhow::{Result, bail};
+use std::alloc::Global;
+use wm_base::Moment;
+use wm_journal::Journal;
+use wm_monitor::{Monitor, MonitorFault};
+use wm_outside::{MemClock, MemKeeper, MemSpawner};
+
+/// No child ends by itself within so many looks.
+const LAG: u32 = 1000;
+
+/// A monitor and its spawner.
+#[derive(Drop)]
+pub struct Turns {
+    monitor: Monitor,
+    spawner: MemSpawner,
+}
+
+impl Turns {
+    /// A monitor that keeps nothing, and a spawner whose kills of these numbers fail.
+    pub fn new(alloc: Global, fail_kills: Vec<u32>) -> Turns {
+        let (starts, looks) = (Vec::new(alloc), Vec::new(alloc));
+        Turns {
+            monitor: Monitor::new(),
+            spawner: MemSpawner::new(alloc, LAG, starts, fail_kills, looks),
+        }
+    }
+
+    /// Makes a turn, and adds how many calls it made, or that a kill failed.
+    pub fn turn(
+        &mut self,
+        alloc: Global,
+        journal: &mut Journal<MemKeeper>,
+        answer: &mut String,
+    ) -> Result<()> {
+        let mut clock = MemClock::new(Moment::new(NOW), 0);
+        match self
+            .monitor
+            .turn(alloc, journal, &mut self.spawner, &mut clock)
+        {
+            Ok(turned) => writeln!(answer, "{} calls", turned.sent)?,
+            Err(MonitorFault::WaitFault) => answer.push_str("WAITFAULT\n")?,
+            Err(_) => bail!("another fault"),
+        }
+        Ok(())
+    }
+
+    /// Adds what the spawner was asked.
+    pub fn write_asked(&self, answer: &mut String) -> Result<()> {
+        for asked in self.spawner.asked() {
+            write_asked(asked, answer)?;
+        }
+        Ok(())
+    }
+}
