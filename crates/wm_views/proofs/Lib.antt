@@ -1,2 +1,3 @@
+pub mod HostedJobs
 pub mod OfParts
 pub mod Stable

@@ -1,3 +1,4 @@
+pub mod Hosts
 pub mod Lines
 pub mod Parts
 pub mod Ranks
