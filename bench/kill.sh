@@ -2,8 +2,9 @@
 # What a kill leaves of a store: kill.sh KILLS makes so many runs over one file, each killed by SIGKILL at a random moment
 # while it takes 40 submits, and after each a run over what was left. Each job writes a number of its own into a file.
 # `lost` counts the answered submits that a later run doesn't know, `twice` the jobs that ran more than once, `unopened` the
-# runs that didn't open the file again, and `unanswered` the kills that came before the first answer. It ends with status 0
-# where nothing was lost, nothing ran twice and each run opened the file.
+# runs that didn't open the file within ten seconds, `held` those that found it held at first, by a child of the killed run that
+# had yet to become its program, and `unanswered` the kills that came before the first answer. It ends with status 0 where
+# nothing was lost, nothing ran twice and each run opened the file.
 set -eu
 cd "$(dirname "$0")/.."
 kills=${1:-200}
@@ -41,6 +42,7 @@ whole=$(($(now) - begun))
 
 lost=0
 unopened=0
+held=0
 unanswered=0
 for ((round = 1; round <= kills; round++)); do
   submits "$round" >script
@@ -53,8 +55,13 @@ for ((round = 1; round <= kills; round++)); do
   # RLSJOB changes nothing of a job that isn't held: one that the store has is answered NOTHELD or WRONGPHASE.
   sed -n 's/^OK \([0-9]*\/QUSER\/A\) submitted .*/RLSJOB JOB(\1)/p' answers >asked
   if [ ! -s asked ]; then unanswered=$((unanswered + 1)); fi
-  status=0
-  timeout 60 "$program" run --store rows.db <asked >known || status=$?
+  for ((look = 0; look < 100; look++)); do
+    status=0
+    timeout 60 "$program" run --store rows.db <asked >known || status=$?
+    [ "$status" -eq 5 ] || break
+    sleep 0.1
+  done
+  if [ "$look" -gt 0 ]; then held=$((held + 1)); fi
   if [ "$status" -gt 1 ]; then unopened=$((unopened + 1)); fi
   lost=$((lost + $(wc -l <asked) - $(grep -c 'NOTHELD\|WRONGPHASE' known || true)))
 done
@@ -64,5 +71,5 @@ twice=$(sort ran | uniq -d | wc -l)
 if command -v sqlite3 >/dev/null; then
   echo "PRAGMA integrity_check: $(sqlite3 rows.db 'PRAGMA integrity_check')"
 fi
-echo "kills $kills lost $lost twice $twice unopened $unopened (unanswered $unanswered, jobs that ran $(sort -u ran | wc -l))"
+echo "kills $kills lost $lost twice $twice unopened $unopened (held $held, unanswered $unanswered, jobs that ran $(sort -u ran | wc -l))"
 [ "$lost" -eq 0 ] && [ "$twice" -eq 0 ] && [ "$unopened" -eq 0 ]
