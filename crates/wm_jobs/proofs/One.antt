@@ -13,7 +13,7 @@ use Rattle.wm_jobs.proofs.Sifted.{differs}
 use Rattle.wm_jobs.proofs.Splits.{above-head}
 
 -- what holds of each element holds of one
-of-all : {X : Type 0} (P : X → Type 0) (xs : List X) (y : X) → All P xs → IsIn y xs → P y
+pub of-all : {X : Type 0} (P : X → Type 0) (xs : List X) (y : X) → All P xs → IsIn y xs → P y
 of-all P [] y all i = absurd i
 of-all P (x ∷ xs) y all (inl e) = subst P (sym e) (All-head P x xs all)
 of-all P (x ∷ xs) y all (inr i) = of-all P xs y (All-tail P x xs all) i

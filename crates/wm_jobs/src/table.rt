@@ -80,13 +80,15 @@ impl JobTable {
     ghost use Rattle.std.specs.Prelude.{◌≡◌, ◌==◌, ◌&&◌, ◌+◌, ◌∷◌, ◌++◌, ◌^◌, ◌<◌, ◌≤◌, [], true, false, is_some, max, nat_le, find, map, Some, IfSome, OnOk, OnErr};
     ghost use Rattle.wm_law.specs.Laws.{IsIn};
     ghost use Rattle.std.specs.Option.{option_copied};
+    ghost use Rattle.std.specs.Ordering.{nat_cmp};
+    ghost use Rattle.wm_desc.specs.Sorted.{IsSortedOnce};
     ghost use Rattle.wm_law.specs.Counts.{is_waiting, is_starting, is_active};
     ghost use Rattle.wm_law.specs.Launch.{launched_at};
     ghost use Rattle.wm_law.specs.Reports.{phased_at};
     ghost use Rattle.wm_tally.specs.Tally.{IsTally};
     ghost use Rattle.wm_pick.specs.Parts.{waiters};
     ghost use Rattle.wm_tally.specs.Tallied.{hows};
-    ghost use Rattle.wm_jobs.specs.Table.{active_in, busy_in, starting_in, next_due_in, present, IsReady};
+    ghost use Rattle.wm_jobs.specs.Table.{serial_of, active_in, busy_in, starting_in, next_due_in, present, IsReady};
 
     /// No jobs; the clock is 0, and serials and places begin at 1.
     pub fn new(alloc: Global) -> JobTable
@@ -381,11 +383,16 @@ impl JobTable {
         self.job(serial)
     }
 
-    /// The active job of least serial that isn't below a serial. It is one look.
+    /// The active job of least serial that isn't below a serial. It is one look. It also tells that serials ascend, and that
+    /// there is a number above that of the job.
     pub fn active_from(&self, serial: Serial) -> Option<&Job>
         ensures found { option_copied result ≡ find (λ j. is_active j.phase && nat_le serial j.serial) self.now.jobs }
         ensures by_serial { (j : Job) → option_copied result ≡ Some j → find (λ k. k.serial == j.serial) self.now.jobs ≡ Some j }
+        ensures sorted { IsSortedOnce serial_of nat_cmp self.now.jobs }
+        ensures fits { (j : Job) → option_copied result ≡ Some j → j.serial + 1 < 2 ^ 64 }
     {
+        // The next serial is above all, and keeps its range.
+        self.next_serial();
         let serial = self.active.first_from(serial)?;
         self.job(serial)
     }
@@ -397,10 +404,11 @@ impl JobTable {
         &self.jobs
     }
 
-    /// The jobs that wait.
+    /// The jobs that wait. It also tells that serials ascend.
     pub fn waiting(&self) -> &WaitingJobs
         ensures items { result.now.items ≡ waiters self.now.jobs }
         ensures clock { result.now.clock ≡ self.now.clock }
+        ensures sorted { IsSortedOnce serial_of nat_cmp self.now.jobs }
     {
         &self.waiting
     }

@@ -146,7 +146,7 @@ in_option w (Some v) ws (inl e) = let same : v ≡ w = cc in (0, omega arith, sa
 in_option w (Some v) ws (inr c) = in_behind w v ws c
 
 -- a job that waits on a queue is one of the waiters
-in_waiters : (jobs : List Job) (j : Job) (w : Waiter) → IsIn j jobs → waiter_of j ≡ Some w → Contains (waiters jobs) w
+pub in_waiters : (jobs : List Job) (j : Job) (w : Waiter) → IsIn j jobs → waiter_of j ≡ Some w → Contains (waiters jobs) w
 in_waiters [] j w i e = absurd i
 in_waiters (k ∷ jobs) j w (inl same) e = in_option w (waiter_of k) (waiters jobs) (inl (ap waiter_of (sym same) ∙ e))
 in_waiters (k ∷ jobs) j w (inr i) e = in_option w (waiter_of k) (waiters jobs) (inr (in_waiters jobs j w i e))

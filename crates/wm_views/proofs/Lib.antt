@@ -1,2 +1,5 @@
+pub mod HostedJobs
 pub mod OfParts
+pub mod QueuedJobs
+pub mod Selected
 pub mod Stable

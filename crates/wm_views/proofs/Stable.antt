@@ -8,17 +8,17 @@ use Rattle.wm_views.specs.Sorted.{put_in, sorted}
 
 module _ {E : Type 0} (lt : E → E → Bool) where
   -- none of them goes before an element
-  abbrev AllFrom : E → List E → Type 0
+  abbrev pub AllFrom : E → List E → Type 0
   AllFrom x [] = Unit {0}
   AllFrom x (y ∷ ys) = (lt y x ≡ false) × AllFrom x ys
 
   -- none goes before one that it stands behind
-  abbrev Up : List E → Type 0
+  abbrev pub Up : List E → Type 0
   Up [] = Unit {0}
   Up (x ∷ xs) = AllFrom x xs × Up xs
 
   -- an element stands behind all that it doesn't go before
-  abbrev ins : E → List E → List E
+  abbrev pub ins : E → List E → List E
   ins x [] = x ∷ []
   ins x (y ∷ ys) = cond (lt x y) (x ∷ y ∷ ys) (y ∷ ins x ys)
 
@@ -74,7 +74,7 @@ module _ {E : Type 0} (lt : E → E → Bool) where
         ∙ insert_cons (count_by (λ w. not (lt x w)) ys) x y ys
         ∙ ap (λ (l : List E). y ∷ l) rest
 
-    put_is_ins : (x : E) (ys : List E) → Up ys → put_in lt ys x ≡ ins x ys
+    pub put_is_ins : (x : E) (ys : List E) → Up ys → put_in lt ys x ≡ ins x ys
     put_is_ins x [] h = refl
     put_is_ins x (y ∷ ys) h = put_by x y ys h (lt x y) refl (put_is_ins x ys h.1)
 
@@ -94,7 +94,7 @@ module _ {E : Type 0} (lt : E → E → Bool) where
     up_by x y ys true e h rest = ((o.one_way x y e, from_less x y ys (o.one_way x y e) h.0), h)
     up_by x y ys false e h rest = (from_ins x y ys e h.0, rest)
 
-    up_ins : (x : E) (ys : List E) → Up ys → Up (ins x ys)
+    pub up_ins : (x : E) (ys : List E) → Up ys → Up (ins x ys)
     up_ins x [] h = (tt, tt)
     up_ins x (y ∷ ys) h = up_by x y ys (lt x y) refl h (up_ins x ys h.1)
 

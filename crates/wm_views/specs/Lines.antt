@@ -8,7 +8,6 @@ use Rattle.wm_law.specs.declared.job.Phase.TheVariants as phase
 use Rattle.wm_law.specs.declared.job.Wish.{Wish}
 use Rattle.wm_law.specs.declared.job.Wish.TheVariants.{NoWish, Later, Now}
 use Rattle.wm_views.specs.declared.shown.JobLine.{JobLine}
-use Rattle.wm_views.specs.declared.shown.Placed.{Placed}
 use Rattle.wm_views.specs.declared.shown.Status.{Status}
 use Rattle.wm_views.specs.declared.shown.Status.TheVariants.{Hld, Scd, Rls, End, Start, Psrw, Active, Ended}
 
@@ -53,6 +52,11 @@ status clock j = status_in clock j j.phase
 
 abbrev pub job_line : ℕ → Job → JobLine
 job_line clock j = record { job = j.job; kind = j.kind; pty = j.pty; status = status clock j }
+
+-- the line of a waiting job, with its place on its queue
+pub record Placed : Type 0 where
+  pub place : ℕ
+  pub line : JobLine
 
 abbrev pub placed : ℕ → Job → Placed
 placed clock j = record { place = j.place; line = job_line clock j }

@@ -9,7 +9,7 @@ use Rattle.std.proofs.Common.{subst}
 use Rattle.std.proofs.lemmas.List.Sorted.{ranks_by, IsStrictWeakOrder-by_number}
 use Rattle.wm_law.specs.declared.state.Sbs.{Sbs}
 use Rattle.wm_views.specs.declared.shown.JobLine.{JobLine}
-use Rattle.wm_views.specs.declared.shown.Placed.{Placed}
+use Rattle.wm_views.specs.Lines.{Placed}
 use Rattle.wm_views.specs.Views.{by_name, by_number, by_turn}
 
 -- subsystems by their names

@@ -22,12 +22,11 @@ use Rattle.wm_law.specs.Queues.{waits_on}
 use Rattle.wm_views.specs.declared.shown.ActiveLine.{ActiveLine}
 use Rattle.wm_views.specs.declared.shown.JobLine.{JobLine}
 use Rattle.wm_views.specs.declared.shown.JobShown.{JobShown}
-use Rattle.wm_views.specs.declared.shown.Placed.{Placed}
 use Rattle.wm_views.specs.declared.shown.QueueShown.{QueueShown}
 use Rattle.wm_views.specs.declared.shown.SbsLine.{SbsLine}
 use Rattle.wm_views.specs.declared.shown.Shown.{Shown}
 use Rattle.wm_views.specs.declared.shown.Shown.TheVariants as view
-use Rattle.wm_views.specs.Lines.{is_bch, job_line, placed}
+use Rattle.wm_views.specs.Lines.{Placed, is_bch, job_line, placed}
 use Rattle.wm_views.specs.Sorted.{sorted}
 
 -- subsystems by their simple names

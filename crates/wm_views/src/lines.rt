@@ -1,8 +1,7 @@
 // The line of a job.
 ghost use Rattle.std.specs.Prelude.{◌≡◌};
-ghost use Rattle.wm_views.specs.Lines.{is_now, is_bch, is_pj, waiting_status, unless_now, running_status, status, job_line, placed};
+ghost use Rattle.wm_views.specs.Lines.{is_now, is_bch, is_pj, waiting_status, unless_now, running_status, status, job_line};
 
-use crate::shown::Placed;
 use crate::{JobLine, Status};
 use wm_base::Moment;
 use wm_law::{Job, JobKind, Phase, Wish};
@@ -77,15 +76,5 @@ pub(crate) fn job_line(clock: Moment, job: &Job) -> JobLine
         kind: job.kind,
         pty: job.pty,
         status: status(clock, job),
-    }
-}
-
-/// The line with the job's place.
-pub(crate) fn placed(clock: Moment, job: &Job) -> Placed
-    ensures { result ≡ placed clock job.now }
-{
-    Placed {
-        place: job.place,
-        line: job_line(clock, job),
     }
 }

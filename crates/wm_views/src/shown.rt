@@ -1,5 +1,5 @@
 // What is shown.
-use wm_base::{EndCause, JobName, Limit, Priority, QName, Refusal};
+use wm_base::{EndCause, How, JobName, Limit, Priority, QName, Refusal};
 use wm_law::{JobKind, ListOf};
 
 /// What a job is said to be at: held, scheduled or released where it waits, to end now, starting, a prestart job without
@@ -27,10 +27,10 @@ pub struct JobLine {
 
 pub type JobLines = ListOf<JobLine>;
 
-/// The line of a waiting job, with its place on its queue.
+/// The line of an active job, with how it came into its subsystem.
 #[derive(Clone, Copy)]
-pub(crate) struct Placed {
-    pub(crate) place: u64,
+pub(crate) struct Hosted {
+    pub(crate) how: How,
     pub(crate) line: JobLine,
 }
 

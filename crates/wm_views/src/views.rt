@@ -1,25 +1,14 @@
 // What a reading command shows.
-ghost use Rattle.std.specs.Prelude.{◌≡◌, map, IfOk};
-
-use crate::choosing::{active_jobs, is_ending, submitted_jobs, waiting_jobs};
+use crate::choosing::{is_ending, submitted_jobs};
+use crate::hosting::{hosted_jobs, lines_among};
 use crate::lines::job_line;
-use crate::shown::Placed;
+use crate::queueing::queued_jobs;
 use crate::sorting::sorted;
-use crate::{
-    ActiveLine, ActiveLines, JobLine, JobLines, JobShown, Parts, QueueShown, SbsLine, SbsLines,
-    Shown,
-};
+use crate::{ActiveLines, JobLines, JobShown, Parts, QueueShown, SbsLine, SbsLines, Shown};
 use std::alloc::Global;
 use wm_base::{Kind, Limit, Name, NoMemory, QName, Refusal};
 use wm_law::{Ask, Job, JobRef, Sbs};
 use wm_tally::Counted;
-
-// The lines without their places.
-fn lines_alone(alloc: Global, placed: &[Placed]) -> Result<Vec<JobLine>, NoMemory>
-    ensures { IfOk result (λ lines. lines.items ≡ map (λ p. p.line) placed.now) }
-{
-    placed.iter().map(|placed| placed.line).collect(alloc)
-}
 
 impl<'a> Parts<'a> {
     ghost use Rattle.std.specs.Prelude.{◌≡◌, map, IfOk};
@@ -29,7 +18,7 @@ impl<'a> Parts<'a> {
     ghost use Rattle.wm_views.specs.Parts.{parts_of};
     ghost use Rattle.wm_views.specs.Sorted.{sorted};
     ghost use Rattle.wm_desc.specs.Table.{object_named};
-    ghost use Rattle.wm_views.specs.Views.{by_name, active_jobs, active_line, active_lines, waiting_jobs, queue_shown, queue_view, submitted_lines, maxjobs_of, sbs_line, sbs_lines, job_shown, job_or_no, shown};
+    ghost use Rattle.wm_views.specs.Views.{by_name, active_lines, waiting_jobs, queue_shown, queue_view, submitted_lines, maxjobs_of, sbs_line, sbs_lines, job_shown, job_or_no, shown};
 
     // The started subsystems by their names.
     fn by_name(&self, alloc: Global) -> Result<Vec<Sbs>, NoMemory>
@@ -38,39 +27,13 @@ impl<'a> Parts<'a> {
         sorted(alloc, self.started.as_slice())
     }
 
-    // The active jobs of a subsystem, by number.
-    fn active_jobs(&self, alloc: Global, sbs: &QName) -> Result<JobLines, NoMemory>
-        ensures { IfOk result (λ lines. lines ≡ active_jobs self.now sbs.now) }
-    {
-        let lines = active_jobs(alloc, self.jobs.clock(), self.jobs.jobs(), sbs)?;
-        Ok(JobLines::from(sorted(alloc, &lines)?))
-    }
-
-    fn active_line(&self, alloc: Global, sbs: &Sbs) -> Result<ActiveLine, NoMemory>
-        ensures { IfOk result (λ line. line ≡ active_line self.now sbs.now) }
-    {
-        Ok(ActiveLine {
-            sbs: sbs.sbsd,
-            ending: is_ending(sbs),
-            jobs: self.active_jobs(alloc, &sbs.sbsd)?,
-        })
-    }
-
-    fn lines_of(&self, alloc: Global, started: &[Sbs]) -> Result<Vec<ActiveLine>, NoMemory>
-        ensures { IfOk result (λ lines. lines.items ≡ map (active_line self.now) started.now) }
-    {
-        let mut lines = Vec::new(alloc);
-        for sbs in started {
-            lines.push(self.active_line(alloc, sbs)?)?;
-        }
-        Ok(lines)
-    }
-
+    #[tactic(auto, using(crate::proofs::HostedJobs::same_lines))]
     fn active_lines(&self, alloc: Global) -> Result<ActiveLines, NoMemory>
         ensures { IfOk result (λ lines. lines ≡ active_lines self.now) }
     {
+        let active = hosted_jobs(alloc, self.jobs)?;
         let started = self.by_name(alloc)?;
-        let lines = self.lines_of(alloc, &started)?;
+        let lines = lines_among(alloc, &active, &started)?;
         Ok(ActiveLines::from(lines))
     }
 
@@ -78,9 +41,7 @@ impl<'a> Parts<'a> {
     fn waiting_jobs(&self, alloc: Global, jobq: &QName) -> Result<JobLines, NoMemory>
         ensures { IfOk result (λ lines. lines ≡ waiting_jobs self.now jobq.now) }
     {
-        let waiting = waiting_jobs(alloc, self.jobs.clock(), self.jobs.jobs(), jobq)?;
-        let waiting = sorted(alloc, &waiting)?;
-        let lines = lines_alone(alloc, &waiting)?;
+        let lines = queued_jobs(alloc, self.jobs, jobq)?;
         Ok(JobLines::from(lines))
     }
 

@@ -1,5 +1,6 @@
 pub mod Agreement
 pub mod Brought
+pub mod Firsts
 pub mod Heads
 pub mod IndexLemmas
 pub mod Lines
@@ -7,6 +8,7 @@ pub mod Marks
 pub mod Members
 pub mod Moves
 pub mod NextHeads
+pub mod NextLines
 pub mod Orders
 pub mod Rows
 pub mod Turned

@@ -23,7 +23,7 @@ use Rattle.wm_waiting.proofs.Members.{Contains-head, Contains-cons, Contains-nil
 use Rattle.wm_waiting.proofs.Orders.{begin_of, between, is_eq-Equal, spot_cmp-fields, then_Less}
 
 -- it comes before the other, and not the other way round
-abbrev Precedes : Waiter → Waiter → Type 0
+abbrev pub Precedes : Waiter → Waiter → Type 0
 Precedes w v = (is_before w v ≡ true) × (is_before v w ≡ false)
 
 not-itself : (w : Waiter) → is_before w w ≡ false
@@ -37,7 +37,7 @@ stays-itself : (w v : Waiter) → v ≡ w → earlier (Some w) v ≡ Some w
 stays-itself w v same = ap (λ (u : Waiter). earlier (Some w) u) same ∙ stays w w (not-itself w)
 
 -- the best so far is none, or doesn't come before w
-abbrev Beyond : Waiter → Option Waiter → Type 0
+abbrev pub Beyond : Waiter → Option Waiter → Type 0
 Beyond w None = Unit {0}
 Beyond w (Some u) = (u ≡ w) ⊎ (is_before w u ≡ true)
 
@@ -58,7 +58,7 @@ fold-stays [] w least = refl
 fold-stays (x ∷ xs) w least =
     ap (λ a. fold earlier a xs) (elim (least x (Contains-head x xs)) [ inl same ↦ stays-itself w x same | inr p ↦ stays w x p.1 ]) ∙ fold-stays xs w (λ v h. least v (Contains-cons x v xs h))
 
-fold-earlier : (xs : List Waiter) (a : Option Waiter) (w : Waiter) → Contains xs w → ((v : Waiter) → Contains xs v → (v ≡ w) ⊎ Precedes w v) → Beyond w a → fold earlier a xs ≡ Some w
+pub fold-earlier : (xs : List Waiter) (a : Option Waiter) (w : Waiter) → Contains xs w → ((v : Waiter) → Contains xs v → (v ≡ w) ⊎ Precedes w v) → Beyond w a → fold earlier a xs ≡ Some w
 fold-earlier [] a w there least beyond = absurd (Contains-nil w there)
 fold-earlier (x ∷ xs) a w there least beyond =
     elim (least x (Contains-head x xs)) [
@@ -104,7 +104,7 @@ first_on-Some queue items w found =
     elim (found-among (filter (is_on queue) items) None w found) [ inl e ↦ absurd (cc e) | inr there ↦ Contains-from_filter (is_on queue) items w there ]
 
 -- one on the queue is no earlier than the begin of the queue
-same-queue : (queue : QName) (w : Waiter) → is_on queue w ≡ true → qname_cmp w.jobq queue ≡ Equal
+pub same-queue : (queue : QName) (w : Waiter) → is_on queue w ≡ true → qname_cmp w.jobq queue ≡ Equal
 same-queue queue w on = is_eq-Equal _ (sym (qname_ties w.jobq queue) ∙ on)
 
 not_below_begin : (pty place : ℕ) → 1 ≤ pty → is_lt (ordering_then (nat_cmp pty 1) (nat_cmp place 0)) ≡ false
@@ -129,7 +129,7 @@ greater-not : (p q m n : ℕ) → ordering_then (nat_cmp p q) (nat_cmp m n) ≡ 
 greater-not p q m n h = grind (arith, nat_tests)
 
 -- of two on one queue the one of lesser spot comes before the other
-spot-precedes : (queue : QName) (r w : Waiter) → is_on queue r ≡ true → is_on queue w ≡ true → spot_cmp (spot_of r) (spot_of w) ≡ Less → Precedes r w
+pub spot-precedes : (queue : QName) (r w : Waiter) → is_on queue r ≡ true → is_on queue w ≡ true → spot_cmp (spot_of r) (spot_of w) ≡ Less → Precedes r w
 spot-precedes queue r w on_r on_w less =
     let same : qname_cmp r.jobq w.jobq ≡ qname_cmp r.jobq queue = alike_right qname_total w.jobq queue r.jobq (same-queue queue w on_w) in
     let rest : ordering_then (nat_cmp r.pty w.pty) (nat_cmp r.place w.place) ≡ Less = then_Less _ _ (sym (spot_cmp-fields (spot_of r) (spot_of w)) ∙ less) (same ∙ same-queue queue r on_r) in

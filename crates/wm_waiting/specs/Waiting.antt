@@ -69,6 +69,10 @@ earlier (Some v) w = if is_before w v then Some w else Some v
 abbrev pub first_on : QName → List Waiter → Option Waiter
 first_on queue items = fold earlier None (filter (is_on queue) items)
 
+-- the next of those on the queue of one: the first of those that it comes before
+abbrev pub next_on : Waiter → List Waiter → Option Waiter
+next_on after items = first_on after.jobq (filter (is_before after) items)
+
 -- the lesser of two moments, where there is one
 abbrev pub sooner : Option ℕ → ℕ → Option ℕ
 sooner None moment = Some moment

@@ -22,7 +22,7 @@ pub struct WaitingJobs {
     // Those that are due above the clock, held or not.
     early: Ordered<Rise, ()>,
     // All of them.
-    lines: Ordered<Spot, Serial>,
+    pub(crate) lines: Ordered<Spot, Serial>,
     clock: Moment,
     // For how many more jobs each of the four maps has room.
     room: u32,
