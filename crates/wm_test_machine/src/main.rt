@@ -6,6 +6,7 @@
 #![tactic(auto)]
 
 mod asked;
+mod calls;
 mod change;
 mod entry;
 mod list;

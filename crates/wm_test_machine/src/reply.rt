@@ -1,37 +1,77 @@
 // What the machine answers, as text.
-use anyhow::Result;
-use std::fmt;
-use wm_base::{Asked, StartOrder};
+use anyhow::{Result, bail};
+use std::alloc::AllocError;
+use wm_base::{Asked, JobName, QName, StartOrder};
 use wm_law::Reply;
 
-/// A reply, as its line begins.
-#[derive(Clone, Copy)]
-pub struct Answer<'a>(pub &'a Reply);
+// What is said of a reply that names nothing.
+fn plain(reply: &Reply) -> Option<&'static str> {
+    match reply {
+        Reply::Made => Some("OK"),
+        Reply::QueueHeld => Some("OK queue held"),
+        Reply::QueueReleased => Some("OK queue released"),
+        Reply::PowerDown => Some("OK power down"),
+        Reply::Nothing => Some("NOTHING"),
+        Reply::Noted => Some("NOTED"),
+        _ => None,
+    }
+}
 
-impl fmt::Display for Answer<'_> {
-    fn fmt<W: fmt::Write>(&self, f: &mut fmt::Formatter<W>) -> fmt::Result {
-        match self.0 {
-            Reply::Made => f.write_str("OK"),
-            Reply::SbsStarted(sbsd) => write!(f, "OK subsystem {sbsd} started"),
-            Reply::SbsEnding(sbsd) => write!(f, "OK subsystem {sbsd} ending"),
-            Reply::Submitted(job, jobq) => write!(f, "OK {job} submitted to {jobq}"),
-            Reply::Held(job) => write!(f, "OK {job} held"),
-            Reply::Released(job) => write!(f, "OK {job} released"),
-            Reply::Changed(job) => write!(f, "OK {job} changed"),
-            Reply::JobEnding(job) => write!(f, "OK {job} ending"),
-            Reply::JobEnded(job) => write!(f, "OK {job} ended"),
-            Reply::QueueHeld => f.write_str("OK queue held"),
-            Reply::QueueReleased => f.write_str("OK queue released"),
-            Reply::QueueCleared(count) => write!(f, "OK queue cleared of {count}"),
-            Reply::PowerDown => f.write_str("OK power down"),
-            Reply::Order(asked) => match asked.get() {
-                Asked::Start(order) => write!(f, "START {}", order.serial),
-                Asked::Kill(serial) => write!(f, "KILL {serial}"),
-            },
-            Reply::Nothing => f.write_str("NOTHING"),
-            Reply::Noted => f.write_str("NOTED"),
-            Reply::No(refusal) => write!(f, "NO {refusal}"),
-        }
+// The subsystem that a reply names, and what is said of it.
+fn of_subsystem(reply: &Reply) -> Option<(&QName, &'static str)> {
+    match reply {
+        Reply::SbsStarted(sbsd) => Some((sbsd, "started")),
+        Reply::SbsEnding(sbsd) => Some((sbsd, "ending")),
+        _ => None,
+    }
+}
+
+// The job that a reply names, and what is said of it.
+fn of_job(reply: &Reply) -> Option<(&JobName, &'static str)> {
+    match reply {
+        Reply::Held(job) => Some((job, "held")),
+        Reply::Released(job) => Some((job, "released")),
+        Reply::Changed(job) => Some((job, "changed")),
+        Reply::JobEnding(job) => Some((job, "ending")),
+        Reply::JobEnded(job) => Some((job, "ended")),
+        _ => None,
+    }
+}
+
+fn write_asked(asked: &Asked, answer: &mut String) -> Result<(), AllocError> {
+    match asked {
+        Asked::Start(order) => writeln!(answer, "START {}", order.serial),
+        Asked::Kill(serial) => writeln!(answer, "KILL {serial}"),
+    }
+}
+
+// Adds the line of a reply that names more.
+fn write_other(reply: &Reply, answer: &mut String) -> Result<()> {
+    match reply {
+        Reply::Submitted(job, jobq) => writeln!(answer, "OK {job} submitted to {jobq}")?,
+        Reply::QueueCleared(count) => writeln!(answer, "OK queue cleared of {count}")?,
+        Reply::Order(asked) => write_asked(asked.get(), answer)?,
+        Reply::No(refusal) => writeln!(answer, "NO {refusal}")?,
+        _ => bail!("no such reply"),
+    }
+    Ok(())
+}
+
+fn write_naming(reply: &Reply, answer: &mut String) -> Result<()> {
+    if let Some((sbsd, said)) = of_subsystem(reply) {
+        return Ok(writeln!(answer, "OK subsystem {sbsd} {said}")?);
+    }
+    if let Some((job, said)) = of_job(reply) {
+        return Ok(writeln!(answer, "OK {job} {said}")?);
+    }
+    write_other(reply, answer)
+}
+
+// Adds the line of a reply.
+fn write_had(reply: &Reply, answer: &mut String) -> Result<()> {
+    match plain(reply) {
+        Some(said) => Ok(writeln!(answer, "{said}")?),
+        None => write_naming(reply, answer),
     }
 }
 
@@ -39,7 +79,7 @@ impl fmt::Display for Answer<'_> {
 pub fn write_reply(reply: &Option<Reply>, answer: &mut String) -> Result<()> {
     match reply {
         None => answer.push_str("NOT HAD\n")?,
-        Some(reply) => writeln!(answer, "{}", Answer(reply))?,
+        Some(reply) => write_had(reply, answer)?,
     }
     Ok(())
 }

@@ -1,14 +1,10 @@
 // The state, as text.
-ghost use Rattle.std.specs.Prelude.{◌≡◌, ◌<◌};
-
+use crate::calls::{holder, next, pending};
 use crate::text::qname_of;
 use anyhow::{Context, Result, bail};
 use std::alloc::AllocError;
-use std::marker::Brand;
-use std::sync::ledger::{Blank, Ledger};
-use wm_base::Steps;
-use wm_core::{Core, Machine};
-use wm_law::{Candidate, Job, Phase, Power};
+use wm_core::Core;
+use wm_law::{Job, Phase, Power};
 
 fn write_phase(phase: &Phase, answer: &mut String) -> Result<(), AllocError> {
     match phase {
@@ -54,17 +50,8 @@ fn write_waiting(core: &Core, answer: &mut String) -> Result<()> {
     Ok(())
 }
 
-// The next job, whose looks nobody counts.
-fn next<L: Ledger>(machine: &Machine, blank: Blank) -> Option<Candidate>
-    requires name { blank.name ≡ L.name }
-    requires parts { blank.parts ≡ L.parts }
-    requires some { 0 < blank.parts }
-{
-    machine.parts().next(&mut Steps::<L>::new(blank))
-}
-
-fn write_next(machine: &Machine, answer: &mut String) -> Result<()> {
-    match next::<Brand>(machine, Blank::new(1)) {
+fn write_next(core: &Core, answer: &mut String) -> Result<()> {
+    match next(core) {
         None => answer.push_str("NONE\n")?,
         Some(candidate) => writeln!(answer, "{}", candidate.serial)?,
     }
@@ -73,16 +60,15 @@ fn write_next(machine: &Machine, answer: &mut String) -> Result<()> {
 
 fn write_holder(core: &Core, queue: &str, answer: &mut String) -> Result<()> {
     let queue = qname_of(queue).context("no qualified name")?;
-    match core.machine().parts().holder(&queue) {
+    match holder(core, &queue) {
         None => answer.push_str("NONE\n")?,
-        Some(sbs) => writeln!(answer, "{}", sbs.sbsd)?,
+        Some(sbsd) => writeln!(answer, "{sbsd}")?,
     }
     Ok(())
 }
 
-// What waits for the monitor of pass 1.
 fn write_pending(core: &Core, answer: &mut String) -> Result<()> {
-    let pending = core.pending(1);
+    let pending = pending(core);
     write!(
         answer,
         "ACTIVE {} ORDERS {} DUE ",
@@ -111,7 +97,7 @@ pub fn write_state(core: &Core, what: &str, name: &str, answer: &mut String) -> 
     match what {
         "jobs" => write_jobs(core, answer),
         "waiting" => write_waiting(core, answer),
-        "next" => write_next(core.machine(), answer),
+        "next" => write_next(core, answer),
         "holder" => write_holder(core, name, answer),
         "pending" => write_pending(core, answer),
         "power" => write_power(core, answer),

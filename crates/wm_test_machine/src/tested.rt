@@ -1,4 +1,5 @@
 // What the cases ask: the machine, and the user of its commands.
+use crate::calls;
 use crate::change::{has_call, line_of, write_built};
 use crate::entry::entry_reply;
 use crate::monitor::call_of;
@@ -8,10 +9,9 @@ use anyhow::Result;
 use std::alloc::Global;
 use wm_base::{Moment, Name};
 use wm_command::Line;
-use wm_core::{Core, Setup};
-use wm_desc::{Objects, qbatch};
+use wm_core::Core;
+use wm_desc::Objects;
 use wm_law::{Boxed, Call, Command, Reply};
-use wm_when::Offset;
 
 /// The moment of each call, where no other is set.
 const NOW: u64 = 1000;
@@ -36,11 +36,7 @@ impl Tested {
 
     /// The state of an empty store, and QUSER as the user of commands.
     pub fn new(alloc: Global) -> Result<Tested> {
-        let setup = Setup {
-            ctl: qbatch(),
-            offset: Offset::new(0),
-        };
-        let core = Core::opening(alloc, &setup)?;
+        let core = calls::opened(alloc)?;
         Ok(Tested {
             alloc,
             user: Name::of(b"QUSER"),
@@ -77,7 +73,7 @@ impl Tested {
             return self.copied_reply(call);
         }
         self.copy = None;
-        let reply = self.core.step(self.alloc, caller, call, self.now)?;
+        let reply = calls::reply(self.alloc, &mut self.core, caller, call, self.now)?;
         Ok(Some(reply))
     }
 

@@ -12,22 +12,19 @@ ghost use Rattle.wm_command.specs.Printed.{FitsMachine};
 ghost use Rattle.wm_law.specs.Fit.{IsCall, IsCommand, HasCall};
 ghost use Rattle.wm_law.specs.declared.state.State.{State};
 
+use crate::calls;
 use crate::monitor::call_of;
 use crate::replies::write_called;
 use crate::words::first_word;
 use anyhow::{Context, Result, bail, ensure};
 use std::alloc::Global;
-use wm_base::{Moment, Name};
+use wm_base::Name;
 use wm_clwords::read_command;
 use wm_command::{Line, command};
 use wm_core::built;
 use wm_journal::Journal;
 use wm_law::{Boxed, Call, Command, built_commands_are_had};
-use wm_monitor::MONITOR;
 use wm_outside::MemKeeper;
-
-/// The moment of each call.
-pub const NOW: u64 = 1000;
 
 /// The pass of a session.
 const SESSION: u32 = 0;
@@ -80,7 +77,7 @@ fn call(
     requires fit { IsCall call }
     requires had { (s : State) → HasCall s call }
 {
-    let called = journal.call(alloc, caller, call, Moment::new(NOW));
+    let called = calls::call(alloc, journal, caller, call);
     write_called(alloc, journal, called, answer)
 }
 
@@ -122,7 +119,7 @@ fn report(
 
 /// Adds what waits for the monitor.
 pub fn write_pending(journal: &Journal<MemKeeper>, answer: &mut String) -> Result<()> {
-    let pending = journal.pending(MONITOR);
+    let pending = calls::pending(journal);
     let (active, orders) = (pending.active, pending.orders);
     write!(answer, "ACTIVE {active} ORDERS {orders} DUE ")?;
     match pending.next {

@@ -1,5 +1,6 @@
 // Scripts whose every `apply` fails once.
 use crate::asked::{ask, write_pending};
+use crate::calls::closed;
 use crate::opened::{keeper_of, open};
 use crate::replies::{KEEPER_FAULT, write_entry};
 use crate::rows::write_rows;
@@ -76,7 +77,7 @@ fn write_log(alloc: Global, log: &[Entry], left: &mut String) -> Result<()> {
 fn left(alloc: Global, journal: Journal<MemKeeper>) -> Result<String> {
     let mut left = String::new(alloc);
     write_pending(&journal, &mut left)?;
-    let mut closed = journal.close();
+    let mut closed = closed(journal);
     write_log(alloc, &closed.log, &mut left)?;
     write_rows(&closed.keeper.load()?, &mut left)?;
     Ok(left)

@@ -7,6 +7,7 @@
 #![tactic(auto)]
 
 mod asked;
+mod calls;
 mod failing;
 mod monitor;
 mod opened;

@@ -1,12 +1,10 @@
 // Opening a journal over a keeper in memory.
+use crate::calls::opened;
 use anyhow::{Result, ensure};
 use std::alloc::Global;
-use wm_core::Setup;
-use wm_desc::qbatch;
 use wm_journal::Journal;
 use wm_outside::{MemKeeper, Row, are_in_order};
 use wm_stored::OpenFault;
-use wm_when::Offset;
 
 /// The most that a history takes, where a case names no other.
 const MOST: u32 = 1_000_000;
@@ -32,9 +30,5 @@ pub fn open(
 ) -> Result<Result<Journal<MemKeeper>, (MemKeeper, OpenFault)>> {
     let limit = limit_of(words)?;
     ensure!((1..=MOST).contains(&limit), "no limit");
-    let setup = Setup {
-        ctl: qbatch(),
-        offset: Offset::new(0),
-    };
-    Ok(Journal::open(alloc, keeper, &setup, limit))
+    Ok(opened(alloc, keeper, limit))
 }

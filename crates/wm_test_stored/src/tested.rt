@@ -14,6 +14,7 @@
 //
 // All others are asked of the open journal.
 use crate::asked::ask;
+use crate::calls::closed;
 use crate::failing::write_failing;
 use crate::opened::{keeper_of, open};
 use crate::replies::write_open_fault;
@@ -79,7 +80,7 @@ impl Tested {
 
     fn close(&mut self) -> Result<()> {
         let journal = self.journal.take().context("no journal")?;
-        self.keeper = Some(journal.close().keeper);
+        self.keeper = Some(closed(journal).keeper);
         Ok(())
     }
 

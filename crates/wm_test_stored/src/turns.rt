@@ -1,12 +1,11 @@
 // Turns of a monitor, with a spawner in memory whose children end where they are killed.
-use crate::asked::NOW;
+use crate::calls::turn;
 use crate::replies::write_asked;
 use anyhow::{Result, bail};
 use std::alloc::Global;
-use wm_base::Moment;
 use wm_journal::Journal;
 use wm_monitor::{Monitor, MonitorFault};
-use wm_outside::{MemClock, MemKeeper, MemSpawner};
+use wm_outside::{MemKeeper, MemSpawner};
 
 /// No child ends by itself within so many looks.
 const LAG: u32 = 1000;
@@ -35,11 +34,7 @@ impl Turns {
         journal: &mut Journal<MemKeeper>,
         answer: &mut String,
     ) -> Result<()> {
-        let mut clock = MemClock::new(Moment::new(NOW), 0);
-        match self
-            .monitor
-            .turn(alloc, journal, &mut self.spawner, &mut clock)
-        {
+        match turn(alloc, &mut self.monitor, journal, &mut self.spawner) {
             Ok(turned) => writeln!(answer, "{} calls", turned.sent)?,
             Err(MonitorFault::WaitFault) => answer.push_str("WAITFAULT\n")?,
             Err(_) => bail!("another fault"),

@@ -1,4 +1,0 @@
-use Rattle.wm_test_machine.proofs.shown.write_next.Given as goal
-
-abbrev pub ghosts-next : goal.ghosts-next
-ghosts-next a = record { name = a.blank.name; parts = a.blank.parts }
