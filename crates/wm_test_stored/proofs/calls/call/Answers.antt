@@ -2,5 +2,5 @@ use Rattle.wm_journal.specs.History.{reached}
 use Rattle.wm_test_stored.proofs.calls.call.Goals as goal
 
 -- every state has the call
-pub call-called-requires-clause-built : goal.call-called-requires-clause-built
-call-called-requires-clause-built c = c.requires.had (reached c.args.journal.now.history)
+pub call-requires-clause-built : goal.call-requires-clause-built
+call-requires-clause-built c = c.requires.had (reached c.args.journal.now.history)
