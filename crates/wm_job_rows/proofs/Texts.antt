@@ -1,5 +1,5 @@
 -- Names and numbers are texts.
-use Rattle.std.proofs.Common.{◌≡◌, ℕ, ◌+◌, ◌-◌, ◌<◌, ◌^◌, ◌%◌, ◌/◌, ◌≤◌, ◌++◌, true, List, [], ◌∷◌, length, replicate, zero, suc, append_assoc, refl, arith}
+use Rattle.std.proofs.Common.{ℕ, ◌+◌, ◌-◌, ◌<◌, ◌^◌, ◌%◌, ◌++◌, List, [], ◌∷◌, length, replicate, zero, suc, append_assoc, refl, arith}
 use Rattle.std.specs.Fmt.{decimal}
 use Rattle.std.specs.List.{list_all}
 use Rattle.std.proofs.lemmas.Fmt.{decimal_by_steps}

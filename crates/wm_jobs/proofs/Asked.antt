@@ -1,6 +1,6 @@
 -- What the wishes of active jobs ask for.
 use Rattle.std.proofs.Common.{◌≡◌, ◌∙◌, ℕ, ◌+◌, Bool, true, false, ◌&&◌, ◌==◌, cond, List, [], ◌∷◌, fold, Option, Some, None, option_map, refl, ap, sym, arith}
-use Rattle.std.specs.List.{find, count_by, cons_option}
+use Rattle.std.specs.List.{find, cons_option}
 use Rattle.std.proofs.lemmas.List.Sums.{sum_by-cons}
 use Rattle.wm_active.specs.declared.acting.Acting.{Acting}
 use Rattle.wm_active.specs.Active as active

@@ -8,14 +8,14 @@ use Rattle.wm_active.specs.declared.acting.Acting.{Acting}
 use Rattle.wm_base.specs.declared.job.How.{How}
 use Rattle.wm_desc.specs.Sorted.{has_key, added}
 use Rattle.wm_law.specs.declared.job.Job.{Job}
-use Rattle.wm_law.specs.Counts.{is_waiting, is_active, is_prestart}
+use Rattle.wm_law.specs.Counts.{is_waiting, is_prestart}
 use Rattle.wm_names.specs.Names.{IsNames}
 use Rattle.wm_ordered.specs.Ordered.{Pairs}
 use Rattle.wm_tally.specs.Counted.{same_counted}
 use Rattle.wm_tally.specs.Rows.{number_at}
 use Rattle.wm_tally.specs.Tally.{Counts, IsTally}
 use Rattle.wm_waiting.specs.declared.waiter.Waiter.{Waiter}
-use Rattle.wm_waiting.specs.Waiting.{Waiting, has_place}
+use Rattle.wm_waiting.specs.Waiting.{has_place}
 use Rattle.wm_waiting.specs.Waiting as waiting
 use Rattle.wm_pick.specs.Parts.{waiter_of, waiters}
 use Rattle.wm_tally.specs.Tallied.{hows}

@@ -19,7 +19,7 @@ use Rattle.wm_tally.specs.Tally.{Counts, IsTally, HasStarted}
 use Rattle.wm_tally.specs.Counted.{counted, number_of}
 use Rattle.wm_tally.specs.declared.counted.Counted.{Counted}
 use Rattle.wm_waiting.specs.declared.waiter.Waiter.{Waiter}
-use Rattle.wm_waiting.specs.Waiting.{is_ahead, next_due}
+use Rattle.wm_waiting.specs.Waiting.{is_ahead}
 use Rattle.wm_waiting.specs.Waiting as waiting
 use Rattle.wm_pick.specs.Parts.{waiter_on, waiter_of, waiters}
 use Rattle.wm_tally.specs.Tallied.{hows}

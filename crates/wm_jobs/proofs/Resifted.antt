@@ -1,8 +1,8 @@
 -- What is picked where one that is picked has another value.
-use Rattle.std.proofs.Common.{◌≡◌, ℕ, ◌<◌, false, cond, List, [], ◌∷◌, ◌++◌, Option, Some, None, option_map, refl, ap, sym, ◌∙◌, nat_eq, All}
+use Rattle.std.proofs.Common.{◌≡◌, ℕ, ◌<◌, false, List, ◌∷◌, ◌++◌, Option, Some, None, option_map, refl, ap, sym, ◌∙◌, nat_eq, All}
 use Rattle.std.specs.List.{filter_map}
 use Rattle.std.proofs.lemmas.List.Elements.{All-append, All-weaker}
-use Rattle.wm_ordered.specs.Ordered.{key_of, with_value}
+use Rattle.wm_ordered.specs.Ordered.{with_value}
 use Rattle.wm_jobs.proofs.Sifted.{lower_differs, higher_differs, picked-keys, picked-parts}
 use Rattle.wm_jobs.proofs.Splits.{map-apart, map-split}
 

@@ -2,7 +2,6 @@
 use Rattle.std.proofs.Common.{◌≡◌, ◌⊎◌, ℕ, ◌+◌, ◌<◌, ◌≤◌, Bool, true, false, List, [], ◌∷◌, ◌++◌, length, Option, Some, None, IfSome, sym, ap, subst, ◌∙◌, refl, append_assoc, cond, inl, inr, arith}
 use Rattle.std.proofs.lemmas.List.{length-append}
 use Rattle.std.proofs.lemmas.List.Sums.{sum_by-append}
-use Rattle.wm_law.specs.declared.call.Call.{Call}
 use Rattle.wm_law.specs.declared.call.Call.TheVariants as call
 use Rattle.wm_law.specs.declared.call.Entry.{Entry}
 use Rattle.wm_law.specs.declared.pending.Pending.{Pending}
@@ -10,9 +9,7 @@ use Rattle.wm_law.specs.History.{is_hand}
 use Rattle.wm_journal.specs.History.{History, entry_at, with_call}
 use Rattle.wm_monitor.specs.Idle.{monitor_pass}
 use Rattle.wm_monitor.specs.Lists.{since, Extends}
-use Rattle.wm_monitor.specs.Monitor.{BeginsWithHand, HandsAt, call_of, hands_of}
-use Rattle.wm_monitor.specs.declared.report.Report.{Report}
-use Rattle.wm_monitor.specs.declared.report.Report.TheVariants.{Started, StartFailed, Finished, UseDone}
+use Rattle.wm_monitor.specs.Monitor.{BeginsWithHand, HandsAt, hands_of}
 use Rattle.wm_monitor.proofs.Lists.{since-append, since-then, Extends-append, Extends-then, longer_then}
 
 -- a Hand, and then entries of the monitor

@@ -1,5 +1,5 @@
 -- Laws of what is done: nothing, one thing after another, and the parts of a monitor.
-use Rattle.std.proofs.Common.{◌≡◌, ℕ, ◌+◌, ◌<◌, ◌≤◌, ◌&&◌, Bool, true, false, List, [], ◌∷◌, ◌++◌, length, map, Option, Some, None, IfSome, option_to_list, sym, ap, subst, ◌∙◌, refl, append_assoc, cond, arith}
+use Rattle.std.proofs.Common.{◌≡◌, ℕ, ◌+◌, ◌&&◌, Bool, true, false, List, [], ◌∷◌, ◌++◌, map, Option, Some, None, option_to_list, sym, ap, subst, ◌∙◌, refl, append_assoc, cond, arith}
 use Rattle.std.specs.List.{list_all, filter_map, count_by}
 use Rattle.std.proofs.lemmas.List.Folds.{list_all-append}
 use Rattle.std.proofs.lemmas.List.Elements.{filter_map-append}
@@ -19,7 +19,7 @@ use Rattle.wm_outside.specs.Told.{Grows}
 use Rattle.wm_outside.proofs.Telling.{Grows-none, Grows-then}
 use Rattle.wm_monitor.specs.Asking.{AsksFor}
 use Rattle.wm_monitor.specs.Idle.{IsCalledFor, IsDueBy, NoneIsIdle, monitor_pass}
-use Rattle.wm_monitor.specs.Lists.{since, Extends, IsAmong}
+use Rattle.wm_monitor.specs.Lists.{since, IsAmong}
 use Rattle.wm_monitor.specs.Monitor.{MonitorView, Proceeds, Advances, RisesBy, is_own, is_spawner_fault, reported, call_of, as_reports}
 use Rattle.wm_monitor.specs.View.{IsClear, kill_left, view}
 use Rattle.wm_monitor.specs.declared.monitor.Monitor.{Monitor}

@@ -1,5 +1,5 @@
 -- What is found at a node of sorted pairs, and what is left without it, by how its key stands to the one that is sought.
-use Rattle.std.proofs.Common.{◌≡◌, Bool, true, false, not, List, ◌∷◌, ◌++◌, All, Some, option_map, is_some, refl, ap, sym, ◌∙◌, subst}
+use Rattle.std.proofs.Common.{◌≡◌, Bool, true, false, not, List, ◌∷◌, ◌++◌, All, Some, option_map, refl, ap, sym, ◌∙◌, subst}
 use Rattle.std.specs.declared.cmp.Ordering.{Ordering}
 use Rattle.std.specs.declared.cmp.Ordering.TheVariants.{Less, Equal, Greater}
 use Rattle.std.specs.Cmp.{IsTotalOrder}
@@ -7,10 +7,10 @@ use Rattle.std.specs.Option.{option_or}
 use Rattle.std.specs.Ordering.{is_lt, is_eq, is_gt, ordering_reverse}
 use Rattle.std.proofs.lemmas.Bool.{false≢true}
 use Rattle.std.proofs.lemmas.Cmp.{alike_right}
-use Rattle.wm_desc.specs.Sorted.{IsSortedOnce, has_key, removed}
+use Rattle.wm_desc.specs.Sorted.{IsSortedOnce, removed}
 use Rattle.wm_ordered.specs.Ordered.{key_of, value_at, with_value, first_from, first_above}
 use Rattle.wm_ordered.proofs.Sides.{Sides, sides}
-use Rattle.wm_ordered.proofs.Tested.{find-right, find-left, find-here, find-left_or, filter-right, filter-left, filter-here, map-right, map-left, map-here, list_any-part}
+use Rattle.wm_ordered.proofs.Tested.{find-right, find-left, find-here, find-left_or, filter-right, filter-left, filter-here, map-right, map-left, map-here}
 
 pub is_lt-Less : (c : Ordering) → is_lt c ≡ true → c ≡ Less
 is_lt-Less Less h = refl

@@ -1,5 +1,5 @@
 -- Laws of a turn that makes no entry: no order is left, and it waits still.
-use Rattle.std.proofs.Common.{◌≡◌, ◌⊎◌, ℕ, ◌+◌, ◌-◌, List, [], length, sym, ap, ◌∙◌, inl, inr, arith}
+use Rattle.std.proofs.Common.{◌≡◌, ◌⊎◌, ◌+◌, ◌-◌, List, length, sym, ap, ◌∙◌, inl, inr, arith}
 use Rattle.std.proofs.Math.Seq.{drop-length}
 use Rattle.std.proofs.lemmas.List.{length-append, length_push}
 use Rattle.wm_law.specs.declared.call.Call.{Call}
@@ -13,7 +13,7 @@ use Rattle.wm_monitor.specs.Lists.{since, Extends}
 use Rattle.wm_monitor.specs.Monitor.{hands_of}
 use Rattle.wm_monitor.specs.Turned.{WaitedSince}
 use Rattle.wm_monitor.proofs.Idles.{orders_told}
-use Rattle.wm_monitor.proofs.Turns.{WaitedSince-still, same_list, same_state}
+use Rattle.wm_monitor.proofs.Turns.{WaitedSince-still, same_list}
 use Rattle.wm_run.specs.Calls.{Called}
 use Rattle.wm_run.specs.Session.{session_pass}
 

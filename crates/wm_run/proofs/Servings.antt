@@ -27,7 +27,7 @@ use Rattle.wm_monitor.specs.View.{IsClear, kill_left, view}
 use Rattle.wm_monitor.specs.declared.monitor.Monitor.{Monitor}
 use Rattle.wm_monitor.specs.declared.report.Report.{Report}
 use Rattle.wm_outside.specs.Told.{Grows}
-use Rattle.wm_monitor.proofs.Lists.{since-append, since-then, Extends-append, Extends-then}
+use Rattle.wm_monitor.proofs.Lists.{since-append, since-then, Extends-append}
 use Rattle.wm_monitor.proofs.Monitors.{Proceeds-by, Proceeds-none, reports-push}
 use Rattle.wm_monitor.proofs.Askings.{AsksFor-none}
 use Rattle.wm_monitor.proofs.Idles.{NoneIsIdle-one}

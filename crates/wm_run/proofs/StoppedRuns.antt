@@ -16,7 +16,7 @@ use Rattle.wm_run.specs.Down.{is_down}
 use Rattle.wm_run.specs.Grown.{grown, entries_between}
 use Rattle.wm_monitor.specs.Lists.{since}
 use Rattle.wm_monitor.specs.Monitor.{is_own}
-use Rattle.wm_run.specs.Session.{Answers, AnsweredBy, Closes, IsUncalled, OneCall, session_pass, start_call}
+use Rattle.wm_run.specs.Session.{Answers, AnsweredBy, IsUncalled, OneCall, session_pass, start_call}
 use Rattle.wm_run.specs.Stopped.{AtMostOne, MayClose, IsStopped, StopsIn, Untouched, WritesSome}
 use Rattle.wm_run.specs.Taking.{TakesInput, TakesPiece}
 use Rattle.wm_run.specs.declared.halt.Halt.{Halt}

@@ -7,7 +7,7 @@ use Rattle.wm_desc.specs.Sorted.{IsSortedOnce}
 use Rattle.wm_law.specs.Laws.{IsIn}
 use Rattle.wm_jobs.proofs.One.{of-all}
 use Rattle.wm_jobs.proofs.Splits.{above-head}
-use Rattle.wm_views.proofs.Stable.{Up, AllFrom, ins, put_is_ins, up_ins}
+use Rattle.wm_views.proofs.Stable.{Up, AllFrom, ins, put_is_ins, up_ins, never_less}
 
 module _ {E : Type 0} (lt : E → E → Bool) (o : IsStrictWeakOrder lt) (m : E) where
   -- it goes before each of them
@@ -66,18 +66,11 @@ module _ {E : Type 0} (lt : E → E → Bool) (o : IsStrictWeakOrder lt) (m : E)
   comes_first ys [] up all h = absurd h
   comes_first ys (x ∷ xs) up all (inl h) =
       let here : put_in lt ys m ≡ m ∷ ys = put_is_ins lt o m ys up ∙ ins_first ys all in
-      let itself : filter (lt m) (m ∷ xs) ≡ xs = ap (λ (b : Bool). cond b (m ∷ filter (lt m) xs) (filter (lt m) xs)) (never_less m) ∙ all_kept xs h.1 in
+      let itself : filter (lt m) (m ∷ xs) ≡ xs = ap (λ (b : Bool). cond b (m ∷ filter (lt m) xs) (filter (lt m) xs)) (never_less lt o m) ∙ all_kept xs h.1 in
       ap (λ (z : E). fold (put_in lt) ys (z ∷ xs)) h.0
       ∙ ap (λ (l : List E). fold (put_in lt) l xs) here
       ∙ stays_first ys xs up all h.1
       ∙ sym (ap (λ (l : List E). m ∷ fold (put_in lt) ys l) (ap (λ (z : E). filter (lt m) (z ∷ xs)) h.0 ∙ itself))
-    where
-      never_less : (x : E) → lt x x ≡ false
-      never_less x = by (lt x x) refl
-        where
-          by : (b : Bool) → lt x x ≡ b → lt x x ≡ false
-          by true e = o.one_way x x e
-          by false e = e
   comes_first ys (x ∷ xs) up all (inr h) =
       comes_first (put_in lt ys x) xs (up_put x ys up) (behind_put x ys up h.0 all) h.1
       ∙ sym (ap (λ (b : Bool). m ∷ fold (put_in lt) ys (cond b (x ∷ filter (lt m) xs) (filter (lt m) xs))) h.0)

@@ -45,7 +45,8 @@ module _ {E : Type 0} (lt : E → E → Bool) where
         by true e = e
         by false e = absurd (true≢false (sym p ∙ o.chain x z y e q))
 
-    never_less : (x : E) → lt x x ≡ false
+    -- none goes before itself
+    pub never_less : (x : E) → lt x x ≡ false
     never_less x = by (lt x x) refl
       where
         by : (b : Bool) → lt x x ≡ b → lt x x ≡ false

@@ -23,6 +23,7 @@ pub(crate) fn queued_jobs(
     let mut next = waiting.first_on(jobq);
     while let Some(waiter) = next {
         let Some(job) = jobs.job(waiter.serial) else {
+            // each that waits is a job of the table
             unreachable!()
         };
         lines.push(job_line(jobs.clock(), job))?;

@@ -7,7 +7,8 @@ use Rattle.wm_waiting.specs.declared.waiter.Waiter.{Waiter}
 use Rattle.wm_waiting.specs.Waiting.{is_on, is_before, earlier, first_on}
 use Rattle.wm_waiting.proofs.Members.{Contains-cases, Contains-filter, Contains-nil}
 
-not-itself : (w : Waiter) → is_before w w ≡ false
+-- none comes before itself
+pub not-itself : (w : Waiter) → is_before w w ≡ false
 not-itself w = grind (arith, nat_tests)
 
 -- what comes behind a lesser one comes behind that one's least

@@ -18,6 +18,7 @@ use Rattle.wm_waiting.specs.Keys.{spot_of}
 use Rattle.wm_waiting.specs.Index.{IsIndex}
 use Rattle.wm_waiting.specs.Orders.{spot_cmp}
 use Rattle.wm_waiting.specs.Waiting.{serial_of, HavePlaces, HavePriorities, is_on, is_before, earlier, first_on}
+use Rattle.wm_waiting.proofs.Firsts.{not-itself}
 use Rattle.wm_waiting.proofs.Marks.{found-there}
 use Rattle.wm_waiting.proofs.Members.{Contains-head, Contains-cons, Contains-nil, Contains-cases, Contains-filter, Contains-from_filter, filter-empty, find-Some, find-None, find-before}
 use Rattle.wm_waiting.proofs.Orders.{begin_of, between, is_eq-Equal, spot_cmp-fields, then_Less}
@@ -25,9 +26,6 @@ use Rattle.wm_waiting.proofs.Orders.{begin_of, between, is_eq-Equal, spot_cmp-fi
 -- it comes before the other, and not the other way round
 abbrev pub Precedes : Waiter → Waiter → Type 0
 Precedes w v = (is_before w v ≡ true) × (is_before v w ≡ false)
-
-not-itself : (w : Waiter) → is_before w w ≡ false
-not-itself w = grind (arith, nat_tests)
 
 -- the one that none comes before stays
 stays : (w v : Waiter) → is_before v w ≡ false → earlier (Some w) v ≡ Some w

@@ -1,5 +1,4 @@
 use Rattle.std.proofs.Common.{◌≡◌, ◌≤◌, false, All, Err, List, sym, subst, ap, ◌∙◌}
-use Rattle.wm_core.specs.Stored.{kept_state}
 use Rattle.wm_law.specs.Counts.{is_active}
 use Rattle.wm_law.specs.Sound.{IsSound}
 use Rattle.wm_law.specs.Submitting.{serials_end}

@@ -1,10 +1,10 @@
 -- proofs/hosting/hosted_jobs/Answers.antt
-use Rattle.std.proofs.Common.{◌≡◌, ◌∙◌, ◌+◌, ◌<◌, ◌++◌, ◌∷◌, [], ℕ, List, Some, length, map, filter, sym, ap, subst, append-nil, append_assoc, arith}
+use Rattle.std.proofs.Common.{◌≡◌, ◌∙◌, ◌+◌, ◌<◌, ◌++◌, ◌∷◌, [], ℕ, List, length, map, filter, sym, ap, subst, append-nil, append_assoc, arith}
 use Rattle.std.specs.Option.{option_copied}
 use Rattle.wm_law.specs.declared.job.Job.{Job}
 use Rattle.wm_jobs.proofs.Actives.{is_from}
 use Rattle.wm_views.specs.declared.shown.Hosted.{Hosted}
-use Rattle.wm_views.specs.Hosts.{hosted, hosted_jobs}
+use Rattle.wm_views.specs.Hosts.{hosted}
 use Rattle.wm_views.proofs.HostedJobs.{from_first, next_active, no_active}
 use Rattle.wm_views.proofs.hosting.hosted_jobs.Goals as goal
 

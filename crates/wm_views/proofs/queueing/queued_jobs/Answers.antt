@@ -1,5 +1,5 @@
 -- proofs/queueing/queued_jobs/Answers.antt
-use Rattle.std.proofs.Common.{◌≡◌, ◌∙◌, ◌++◌, ◌∷◌, [], ℕ, List, Some, ap, subst}
+use Rattle.std.proofs.Common.{◌≡◌, ◌∙◌, ◌++◌, ◌∷◌, [], ℕ, List, ap, subst}
 use Rattle.std.specs.Option.{option_copied}
 use Rattle.wm_law.specs.declared.job.Job.{Job}
 use Rattle.wm_waiting.specs.Waiting.{HavePlaces, first_on, next_on}

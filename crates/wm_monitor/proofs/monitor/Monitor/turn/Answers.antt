@@ -1,7 +1,6 @@
-use Rattle.std.proofs.Common.{◌≡◌, ◌∙◌, ◌-◌, length, inl, inr, refl, arith}
+use Rattle.std.proofs.Common.{◌≡◌, ◌∙◌, ◌-◌, length, refl, arith}
 use Rattle.wm_monitor.proofs.Askings.{AsksFirst-again}
 use Rattle.wm_monitor.proofs.Hands.{handed_in}
-use Rattle.wm_monitor.proofs.Lists.{Extends-then}
 use Rattle.wm_monitor.proofs.Monitors.{Proceeds-then}
 use Rattle.wm_monitor.proofs.Turns.{WaitedSince-part, idle_turn, quiet_since}
 use Rattle.wm_monitor.proofs.monitor.Monitor.turn.Goals as goal

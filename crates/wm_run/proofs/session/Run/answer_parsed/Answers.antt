@@ -1,10 +1,8 @@
 use Rattle.std.proofs.Common.{◌≡◌, ◌∙◌, List, ℕ, inr, refl, subst, sym, take}
-use Rattle.std.proofs.lemmas.Result.{IfOk-weaker, on_err_weaker}
 use Rattle.wm_outside.specs.Told.{Grows}
 use Rattle.wm_run.specs.Answer.{fault_answer, is_fault}
-use Rattle.wm_law.specs.declared.call.Entry.{Entry}
 use Rattle.wm_run.specs.Grown.{entries_between}
-use Rattle.wm_run.specs.Session.{AnsweredBy, AnswersParsed, Reads}
+use Rattle.wm_run.specs.Session.{AnswersParsed}
 use Rattle.wm_run.specs.Stopped.{IsCutShort}
 use Rattle.wm_run.specs.declared.parsed.Parsed.{Parsed}
 use Rattle.wm_run.specs.declared.parsed.Parsed.TheVariants.{Fault}

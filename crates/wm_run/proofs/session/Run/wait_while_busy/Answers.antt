@@ -1,11 +1,9 @@
 use Rattle.std.proofs.Common.{◌≡◌, arith}
 use Rattle.std.proofs.lemmas.Bool.Decides.{nat_tests}
-use Rattle.std.proofs.lemmas.Result.{err_from_is_err_and}
 use Rattle.wm_monitor.proofs.Monitors.{Proceeds-none, Proceeds-then}
 use Rattle.wm_monitor.proofs.Journals.{HasJournalCauses-none, HasJournalCauses-more}
 use Rattle.wm_journal.specs.History.{reached}
 use Rattle.wm_run.proofs.IdleCalls.{busy_none}
-use Rattle.wm_run.proofs.Causes.{HasCauses-pass}
 use Rattle.wm_run.proofs.session.Run.wait_while_busy.Goals as goal
 
 pub waits-init : goal.waits-init
