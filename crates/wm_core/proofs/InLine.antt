@@ -16,7 +16,7 @@ use Rattle.wm_law.proofs.Endings.{keys_same, wishing_at}
 use Rattle.wm_law.proofs.Numbers.{apply_keeps, clock_keeps}
 use Rattle.wm_law.proofs.Serials.{step_keeps_jobs_in_order}
 use Rattle.wm_jobs.specs.Table.{serial_of}
-use Rattle.wm_core.specs.Walks.{AreInLine}
+use Rattle.wm_subsystems.specs.Walks.{AreInLine}
 
 in_line : (s : State) → IsNumbered s → HasJobsInOrder s → AreInLine s.next_serial s.jobs
 in_line s n h = record { increasing = h; given = n.serials; most = n.next_serial.most }

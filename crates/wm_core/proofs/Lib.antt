@@ -3,15 +3,10 @@ pub mod ByDrafts
 pub mod Clocked
 pub mod Endings
 pub mod FromStore
-pub mod GoneAlike
 pub mod InLine
 pub mod Kills
 pub mod NoneDue
 pub mod Opened
 pub mod OrderCounts
-pub mod PutBack
 pub mod Reported
-pub mod Tellings
 pub mod Undone
-pub mod Walks
-pub mod Wished

@@ -2,9 +2,6 @@ pub mod Clocked
 pub mod Drafts
 pub mod Due
 pub mod LastStep
-pub mod Leaving
 pub mod MachineInside
 pub mod Marks
 pub mod Stored
-pub mod Telling
-pub mod Walks

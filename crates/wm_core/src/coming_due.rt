@@ -1,69 +1,15 @@
 // What is due to end by the clock ends.
-ghost use Rattle.std.specs.Prelude.{◌≡◌, map};
-ghost use Rattle.wm_law.specs.Built.{is_ending_call, tells_to_end};
-ghost use Rattle.wm_law.specs.Settling.{sbs_at, sbs_phase_at};
-
 use crate::Machine;
-use crate::moments::soonest;
-use crate::those::Telling;
-use crate::walk::{reserve_for_active, tell_all};
 use wm_base::{Moment, NoMemory};
 use wm_ending::has_come;
-use wm_law::{Call, Command, Sbs, SbsList, SbsPhase};
-
-fn tells_to_end(command: &Command) -> bool
-    ensures { result ≡ tells_to_end command.now }
-{
-    matches!(
-        command,
-        Command::Endsbs(_) | Command::Endjob(_) | Command::Endpj(_) | Command::Pwrdwnsys(_)
-    )
-}
-
-fn is_ending_call(call: &Call) -> bool
-    ensures { result ≡ is_ending_call call.now }
-{
-    match call {
-        Call::Change { command, .. } => tells_to_end(command.get()),
-        _ => false,
-    }
-}
-
-fn phase_at(clock: Moment, phase: &SbsPhase) -> SbsPhase
-    ensures { result ≡ sbs_phase_at clock phase.now }
-{
-    match phase {
-        SbsPhase::Ending(until) if has_come(clock, *until) => SbsPhase::Now,
-        _ => *phase,
-    }
-}
-
-fn look_at(sbs: &mut Sbs, clock: Moment)
-    ensures { sbs.new ≡ sbs_at clock sbs.old }
-{
-    sbs.phase = phase_at(clock, &sbs.phase);
-}
-
-fn look_at_each(started: &mut [Sbs], clock: Moment)
-    ensures { started.new ≡ map (sbs_at clock) started.old }
-{
-    for sbs in started.iter_mut() {
-        look_at(sbs, clock);
-    }
-}
-
-// The subsystems are looked at by the clock.
-fn look_at_all(started: &mut SbsList, clock: Moment)
-    ensures { started.new ≡ map (sbs_at clock) started.old }
-{
-    look_at_each(&mut started.items, clock);
-}
+use wm_law::Call;
+use wm_subsystems::{Telling, is_ending_call, look_at_all, reserve_for_active, soonest, tell_all};
 
 impl Machine {
     ghost use Rattle.std.specs.Prelude.{◌≡◌, false, OnOk, OnErr};
     ghost use Rattle.wm_law.specs.Settling.{come_due};
     ghost use Rattle.wm_core.specs.Due.{may_come_due};
-    ghost use Rattle.wm_core.specs.Walks.{AreInLine};
+    ghost use Rattle.wm_subsystems.specs.Walks.{AreInLine};
 
     /// Whether anything can come due in a step.
     pub(crate) fn may_come_due(&self, call: &Call, now: Moment) -> bool

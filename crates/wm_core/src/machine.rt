@@ -95,17 +95,17 @@ impl Machine {
         ensures err { OnErr result (self.new ≡ self.old) }
     {
         match command {
-            Command::Crtcls(command) => self.make_class(command),
-            Command::Crtjobq(command) => self.make_queue(command),
-            Command::Crtpgmref(command) => self.make_program(command),
-            Command::Crtjobd(command) => self.make_job_description(command),
-            Command::Crtsbsd(command) => self.make_description(alloc, command),
-            Command::Addjobqe(command) => self.add_queue(command),
-            Command::Addrtge(command) => self.add_route(command),
-            Command::Addaje(command) => self.add_auto(command),
-            Command::Rmvjobqe(command) => Ok(self.remove_queue(command)),
-            Command::Rmvrtge(command) => Ok(self.remove_route(command)),
-            Command::Rmvaje(command) => Ok(self.remove_auto(command)),
+            Command::Crtcls(_)
+            | Command::Crtjobq(_)
+            | Command::Crtpgmref(_)
+            | Command::Crtjobd(_)
+            | Command::Crtsbsd(_)
+            | Command::Addjobqe(_)
+            | Command::Addrtge(_)
+            | Command::Addaje(_)
+            | Command::Rmvjobqe(_)
+            | Command::Rmvrtge(_)
+            | Command::Rmvaje(_) => self.change_objects(alloc, command),
             Command::Strsbs(_)
             | Command::Endsbs(_)
             | Command::Sbmjob(_)

@@ -1,18 +1,7 @@
 // What is kept of the state before a step, so that the step can be taken back.
 use std::alloc::Global;
-use wm_base::{Kind, QName};
-use wm_desc::Sbsd;
-use wm_law::{Evokes, ListOf, Power, QNames, SbsList, Stops};
-
-/// What a call may change of the objects and the held queues, as it was before: nothing, an object that wasn't there, the
-/// description of a subsystem, or the held queues.
-#[derive(Drop)]
-pub enum Saved {
-    Nothing,
-    New(Kind, QName),
-    Description(QName, Sbsd),
-    Held(QNames),
-}
+use wm_law::{Evokes, ListOf, Power, SbsList, Stops};
+use wm_making::Saved;
 
 /// What is kept of the state before a step beside its jobs, and whether the step can be taken back.
 #[derive(Drop)]

@@ -1,7 +1,7 @@
 // What a monitor asks of the state.
 use crate::Machine;
-use crate::moments::soonest;
 use wm_law::Pending;
+use wm_subsystems::soonest;
 
 impl Machine {
     ghost use Rattle.std.specs.Prelude.{◌≡◌};

@@ -3,10 +3,10 @@ ghost use Rattle.std.specs.Prelude.{◌≡◌};
 ghost use Rattle.wm_law.specs.Reports.{phase_word, is_handed_to, is_run_by, exit_cause, end_cause};
 
 use crate::Machine;
-use crate::wishes::{handed_wish, now_cause};
 use std::alloc::Global;
 use wm_base::{Asked, EndCause, Exit, NoMemory, PhaseWord, Refusal, Serial, StartCause};
 use wm_law::{Boxed, Call, Phase, Reply, Wish};
+use wm_subsystems::{handed_wish, now_cause};
 
 /// What a job's phase is called in a refusal.
 pub(crate) fn phase_word(phase: &Phase) -> PhaseWord

@@ -3,7 +3,6 @@ ghost use Rattle.std.specs.Prelude.{◌≡◌, IfOk, max, unwrap_or};
 ghost use Rattle.wm_law.specs.Submitting.{queue_of, or_described};
 
 use crate::Machine;
-use crate::power::is_on;
 use std::alloc::Global;
 use wm_base::{
     How, JobName, JobNumber, Kind, Moment, Name, NoMemory, QName, Refusal, Serial, Text,
@@ -11,6 +10,7 @@ use wm_base::{
 use wm_clwords::Request;
 use wm_desc::Jobd;
 use wm_law::{Job, JobKind, Phase, Reply, Sbmjob, Wish};
+use wm_subsystems::is_on;
 
 /// All numbers from 1 to below this are job numbers.
 pub(crate) const NUMBERS_END: u32 = 1_000_000;

@@ -2,12 +2,12 @@
 use crate::Machine;
 use crate::autos::{drafts, enter_drafts};
 use crate::draft::{Draft, Site};
-use crate::power::is_on;
 use crate::submitting::{NUMBERS_END, SERIALS_END};
 use std::alloc::Global;
 use wm_base::{Kind, Moment, Name, NoMemory, QName, Refusal};
 use wm_desc::AutoEntry;
 use wm_law::{Reply, Sbs, SbsPhase};
+use wm_subsystems::is_on;
 
 /// How many subsystems may be started.
 const MAX_STARTED: usize = 32;

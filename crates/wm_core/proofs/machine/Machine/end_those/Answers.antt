@@ -3,7 +3,7 @@ use Rattle.wm_law.specs.declared.job.Job.{Job}
 use Rattle.wm_law.specs.declared.state.SbsPhase.{SbsPhase}
 use Rattle.wm_law.specs.Endings.{end_phase, phased, told}
 use Rattle.wm_core.specs.MachineInside.{state_of}
-use Rattle.wm_core.specs.Telling.{passes}
+use Rattle.wm_subsystems.specs.Telling.{passes}
 use Rattle.wm_core.proofs.Endings.{those_ended}
 use Rattle.wm_core.proofs.machine.Machine.end_those.Goals as goal
 

@@ -1,0 +1,2 @@
+pub mod OfObjects
+pub mod PutBack

@@ -1,0 +1,4 @@
+pub mod GoneAlike
+pub mod Tellings
+pub mod Walks
+pub mod Wished

@@ -1,0 +1,68 @@
+// Subsystems end, and the requests that wait there go.
+ghost use Rattle.std.specs.Prelude.{◌≡◌, not, map, filter};
+ghost use Rattle.wm_law.specs.Endings.{end_phase, is_any, phased};
+ghost use Rattle.wm_subsystems.specs.Telling.{passes};
+
+use crate::meant::Those;
+use crate::told::passes;
+use wm_base::{Moment, QName};
+use wm_ending::moment_after;
+use wm_law::{EndOption, Evoke, Evokes, Sbs, SbsList, SbsPhase};
+
+/// The phase of a subsystem that an option ends.
+pub fn end_phase(clock: Moment, option: EndOption, delay: Option<u32>) -> SbsPhase
+    ensures { result ≡ end_phase clock option delay }
+{
+    match (option, delay) {
+        (EndOption::Cntrld, None) => SbsPhase::Ending(None),
+        (EndOption::Cntrld, Some(delay)) => SbsPhase::Ending(Some(moment_after(clock, delay))),
+        (EndOption::Immed, _) => SbsPhase::Now,
+    }
+}
+
+// One of those subsystems comes into the phase.
+fn end_one(sbs: &mut Sbs, those: &Those, phase: &SbsPhase)
+    ensures { sbs.new ≡ phased (passes those.now) phase.now sbs.old }
+{
+    if passes(those, sbs) {
+        sbs.phase = *phase;
+    }
+}
+
+fn end_each(started: &mut [Sbs], those: &Those, phase: &SbsPhase)
+    ensures { started.new ≡ map (phased (passes those.now) phase.now) started.old }
+{
+    for sbs in started.iter_mut() {
+        end_one(sbs, those, phase);
+    }
+}
+
+/// Those subsystems come into the phase.
+pub fn end_sbss(started: &mut SbsList, those: &Those, phase: &SbsPhase)
+    ensures { started.new ≡ map (phased (passes those.now) phase.now) started.old }
+{
+    end_each(&mut started.items, those, phase);
+}
+
+// Whether one of those subsystems has the name.
+fn is_any(those: &Those, started: &SbsList, name: &QName) -> bool
+    ensures { result ≡ is_any (passes those.now) started.now name.now }
+{
+    started
+        .as_slice()
+        .iter()
+        .any(|sbs| passes(those, sbs) && sbs.sbsd == *name)
+}
+
+fn drop_each(evokes: &mut Vec<Evoke>, those: &Those, started: &SbsList)
+    ensures { evokes.new.items ≡ filter (λ e. not (is_any (passes those.now) started.now e.sbs)) evokes.old.items }
+{
+    evokes.retain(|evoke| !is_any(those, started, &evoke.sbs));
+}
+
+/// The requests that wait in those subsystems go.
+pub fn drop_evokes(evokes: &mut Evokes, those: &Those, started: &SbsList)
+    ensures { evokes.new ≡ filter (λ e. not (is_any (passes those.now) started.now e.sbs)) evokes.old }
+{
+    drop_each(&mut evokes.items, those, started);
+}
