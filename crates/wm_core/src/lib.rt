@@ -10,8 +10,7 @@
 //! `Core`, for those that look at it.
 //! The definitions are in `specs/`: `LastStep` has what a contract sees of a `Core`, `MachineInside` what it sees of a
 //! `Machine`, `Marks` what is kept of the state before a step, `Stored` the state of a store, `Due` in which steps something
-//! can come due, `Telling` what active jobs are told, `Walks` how they are told one after another, `Clocked`, `Drafts` and
-//! `Leaving` what the steps inside come to.
+//! can come due, `Clocked` and `Drafts` what the steps inside come to.
 #![tactic(auto)]
 
 mod autos;
