@@ -1,5 +1,5 @@
 // What a job is told, by its subsystem or by the clock.
-ghost use Rattle.std.specs.Prelude.{◌≡◌, not};
+ghost use Rattle.std.specs.Prelude.{◌≡◌};
 ghost use Rattle.wm_law.specs.Endings.{is_ended, is_left_to_use};
 ghost use Rattle.wm_law.specs.Settling.{is_sbs_now};
 ghost use Rattle.wm_law.specs.Wishes.{is_in_any, is_to_end};

@@ -1,7 +1,5 @@
-use Rattle.std.proofs.Common.{◌≡◌, ◌∙◌, ap, subst}
-use Rattle.std.specs.Prelude.{IfOk}
+use Rattle.std.proofs.Common.{◌∙◌, ap}
 use Rattle.wm_desc.specs.declared.objects.Objects.{Objects}
-use Rattle.wm_law.specs.declared.call.Reply.{Reply}
 use Rattle.wm_making.proofs.OfObjects.{same_reply, same_state}
 use Rattle.wm_core.specs.MachineInside.{state_of}
 use Rattle.wm_core.proofs.machine.Machine.change_objects.Goals as goal
