@@ -65,6 +65,7 @@ use Rattle.wm_making.specs.declared.mark.Saved.{Saved}
 use Rattle.wm_making.specs.declared.mark.Saved.TheVariants.{Nothing, New, Description, Held}
 use Rattle.wm_making.specs.Saved.{described, old_held, old_objects, saved_by, saved_object, saved_of, without_object}
 use Rattle.wm_making.proofs.PutBack.{added_removed, changed_back, none_changed, none_removed, own_back}
+use Rattle.wm_core.specs.declared.mark.Mark.{Mark}
 use Rattle.wm_core.specs.Marks.{Marks, before, marks_at}
 
 -- with what was kept put back, all that a step doesn't mark otherwise is as it was
@@ -303,8 +304,12 @@ step_is_undone s caller call moment sound =
 pub back_from : (s : State) (caller : ℕ) (call : Call) (moment : ℕ) (m : Marks) (t : State) → AreSound s.objects → m ≡ marks_at s call → t ≡ (step s caller call moment).state → before m t ≡ s
 back_from s caller call moment m t sound marks is = ap (λ (n : Marks). before n t) marks ∙ (ap (before (marks_at s call)) is ∙ step_is_undone s caller call moment sound)
 
--- what is kept as a call begins
-pub same_marks : (s : State) (call : Call) (saved : Saved) (started : List Sbs) (stopped : List Stop) (evokes : List Evoke) (marked : Marked) → saved ≡ saved_of s.objects s.held call → started ≡ s.started → stopped ≡ s.stopped → evokes ≡ s.evokes
-    → marked ≡ record { jobs = s.jobs; clock = s.clock; next_serial = s.next_serial; next_place = s.next_place }
-    → record { mark = record { saved = saved; started = started; stopped = stopped; evokes = evokes; next_number = s.next_number; power = s.power; undoable = true }; jobs = marked } ≡ marks_at s call
-same_marks s call saved started stopped evokes marked e f g h k = rw (e, f, g, h, k) refl
+-- what is kept as a call begins, beside the jobs
+pub same_mark : (s : State) (call : Call) (saved : Saved) (started : List Sbs) (stopped : List Stop) (evokes : List Evoke) → saved ≡ saved_of s.objects s.held call → started ≡ s.started → stopped ≡ s.stopped → evokes ≡ s.evokes
+    → record { saved = saved; started = started; stopped = stopped; evokes = evokes; next_number = s.next_number; power = s.power; undoable = true } ≡ (marks_at s call).mark
+same_mark s call saved started stopped evokes e f g h = rw (e, f, g, h) refl
+
+-- and with them
+pub same_marks : (s : State) (call : Call) (mark : Mark) (marked : Marked) → mark ≡ (marks_at s call).mark → marked ≡ record { jobs = s.jobs; clock = s.clock; next_serial = s.next_serial; next_place = s.next_place }
+    → record { mark = mark; jobs = marked } ≡ marks_at s call
+same_marks s call mark marked e f = rw (e, f) refl

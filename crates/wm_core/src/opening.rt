@@ -68,7 +68,11 @@ impl Machine {
     {
         let commands = opening_commands(alloc)?;
         let mut machine = Machine::empty(alloc, setup.offset);
-        machine.change_all(alloc, &Name::of(b"QSYS"), &commands)?;
+        if let Err(fault) = machine.change_all(alloc, &Name::of(b"QSYS"), &commands) {
+            // By a call, since a machine that goes out of scope is taken apart here, which is dear to prove.
+            drop(machine);
+            return Err(fault);
+        }
         Ok(machine)
     }
 }

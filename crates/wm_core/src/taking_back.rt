@@ -8,8 +8,27 @@ use wm_law::{Call, ListOf};
 use wm_making::{Saved, put_back, saved_of};
 
 impl Machine {
-    ghost use Rattle.std.specs.Prelude.{◌≡◌, true, false, OnOk, OnErr};
+    ghost use Rattle.std.specs.Prelude.{◌≡◌, true, false, OnOk, OnErr, IfOk};
     ghost use Rattle.wm_core.specs.Marks.{before, marks_at};
+
+    // What the call may change, with all that is kept beside the jobs.
+    fn mark_of(&self, alloc: Global, call: &Call) -> Result<Mark, NoMemory>
+        ensures { IfOk result (λ mark. mark ≡ (marks_at self.now.state call.now).mark) }
+    {
+        let started = ListOf::from(self.started.as_slice().to_vec(alloc)?);
+        let stopped = ListOf::from(self.stopped.as_slice().to_vec(alloc)?);
+        let evokes = ListOf::from(self.evokes.as_slice().to_vec(alloc)?);
+        let saved = saved_of(alloc, &self.objects, &self.held, call)?;
+        Ok(Mark {
+            saved,
+            started,
+            stopped,
+            evokes,
+            next_number: self.next_number,
+            power: self.power,
+            undoable: true,
+        })
+    }
 
     /// What the call may change is kept, so that from here on all can be taken back. An `Err` is want of memory and leaves
     /// the machine.
@@ -18,21 +37,10 @@ impl Machine {
         ensures marks { OnOk result (self.new.marks ≡ marks_at self.old.state call.now) }
         ensures err { OnErr result (self.new ≡ self.old) }
     {
-        let saved = saved_of(alloc, &self.objects, &self.held, call)?;
-        let started = ListOf::from(self.started.as_slice().to_vec(alloc)?);
-        let stopped = ListOf::from(self.stopped.as_slice().to_vec(alloc)?);
-        let evokes = ListOf::from(self.evokes.as_slice().to_vec(alloc)?);
+        let mark = self.mark_of(alloc, call)?;
         self.table.reserve(0)?;
         self.table.mark();
-        self.mark = Mark {
-            saved,
-            started,
-            stopped,
-            evokes,
-            next_number: self.next_number,
-            power: self.power,
-            undoable: true,
-        };
+        self.mark = mark;
         Ok(())
     }
 

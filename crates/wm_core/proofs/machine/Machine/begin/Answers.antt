@@ -1,5 +1,6 @@
-use Rattle.std.proofs.Common.{◌≡◌, ◌∙◌, refl}
-use Rattle.wm_core.specs.MachineInside.{state_of}
+use Rattle.std.proofs.Common.{◌≡◌, ◌∙◌, ap, refl, sym}
+use Rattle.wm_core.specs.MachineInside.{Seen, state_of}
+use Rattle.wm_core.specs.Marks.{marks_at}
 use Rattle.wm_core.proofs.Undone.{same_marks}
 use Rattle.wm_core.proofs.machine.Machine.begin.Goals as goal
 
@@ -9,8 +10,4 @@ returns-clause-marks c =
     let present : c.mark.new.self.marked ≡ record { jobs = s.jobs; clock = s.clock; next_serial = s.next_serial; next_place = s.next_place } =
     rw (c.mark.ensures.marked, c.reserve.ensures.jobs, c.reserve.ensures.clock, c.reserve.ensures.next_serial, c.reserve.ensures.next_place) refl in
     rw (← c.self.view_is)
-    (same_marks s c.args.call.now c.in_ok-saved.saved c.from-started.result c.from-stopped.result c.from-evokes.result c.mark.new.self.marked c.in_ok-saved.ensures
-    (c.from-started.ensures ∙ (c.in_ok-to_vec.ensures.items_if_clones_equal (λ x y e. e) ∙ c.as_slice.ensures))
-    (c.from-stopped.ensures ∙ (c.in_ok-to_vec-2.ensures.items_if_clones_equal (λ x y e. e) ∙ c.as_slice-2.ensures))
-    (c.from-evokes.ensures ∙ (c.in_ok-to_vec-3.ensures.items_if_clones_equal (λ x y e. e) ∙ c.as_slice-3.ensures))
-    present)
+    (same_marks s c.args.call.now c.in_ok-mark.mark c.mark.new.self.marked (c.in_ok-mark.ensures ∙ ap (λ (t : Seen). (marks_at t.state c.args.call.now).mark) (sym c.self.view_is)) present)
