@@ -6,15 +6,17 @@
 # is the least of five, by turns. The keeper is the one in memory, whose own part doesn't grow with the rows.
 set -eu
 cd "$(dirname "$0")/.."
-program=$PWD/crates/wm_test_stored/out/wm_test_stored
+program=$PWD/crates/wm_test_journal/out/wm_test_journal
 if [ ! -x "$program" ]; then
-  (cd crates/wm_test_stored && rt run >/dev/null)
+  (cd crates/wm_test_journal && rt run >/dev/null)
 fi
 folder=$(mktemp -d)
 taken=$(mktemp)
 trap 'rm -rf "$folder" "$taken"' EXIT
 cd "$folder"
 mkdir before all
+# The other files of cases have none here.
+touch {before,all}/{jobs,log,queues,subsystems}.txt
 
 # rows COUNT: the questions that make a keeper of the opening objects and so many held jobs
 rows() {
@@ -50,7 +52,7 @@ lines() {
 # run FOLDER: the program with these cases, each of which must have its wanted answer
 run() {
   (cd "$1" && "$program") >"$taken"
-  if ! grep -q ' answers$' "$taken"; then
+  if ! grep -q '^stored.txt: [0-9]* answers$' "$taken"; then
     head -n 20 "$taken" >&2
     exit 1
   fi

@@ -6,7 +6,7 @@ use Rattle.wm_law.specs.declared.call.Call.{Call}
 use Rattle.wm_law.specs.declared.call.Entry.{Entry}
 use Rattle.wm_law.specs.declared.pending.Pending.{Pending}
 use Rattle.wm_law.specs.declared.state.State.{State}
-use Rattle.wm_law.specs.Pending.{active, busy, orders, pending}
+use Rattle.wm_law.specs.Pending.{orders, pending}
 use Rattle.wm_journal.specs.History.{History, entry_at, reached}
 use Rattle.wm_monitor.specs.Idle.{monitor_pass}
 use Rattle.wm_monitor.specs.Lists.{since, Extends}
@@ -31,11 +31,3 @@ pub idle_call : (old mid new : History) (c : Call) (p : Pending) → Called old 
 idle_call old mid new c p called grown waited left alone =
     let n = ap (λ (h : History). length h.log) called.made ∙ length_push old.log (entry_at old session_pass c called.now) in
     idle_orders mid new p grown (omega arith) waited left
-
--- where no job is told as busy, none is
-pub busy_none : (s : State) (p : Pending) → p ≡ pending s monitor_pass → p.busy ≡ 0 → busy s ≡ 0
-busy_none s p told none = sym (ap (λ (q : Pending). q.busy) told) ∙ none
-
--- where none is told as active, none is
-pub active_none : (s : State) (p : Pending) → p ≡ pending s monitor_pass → p.active ≡ 0 → active s ≡ 0
-active_none s p told none = sym (ap (λ (q : Pending). q.active) told) ∙ none

@@ -1,4 +1,5 @@
 pub mod Answer
+pub mod Awaited
 pub mod Calls
 pub mod Down
 pub mod Grown

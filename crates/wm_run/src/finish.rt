@@ -7,14 +7,39 @@ use std::sync::Wait;
 use wm_law::Pending;
 use wm_outside::{Clock, Keeper, Spawner};
 
+/// The active jobs whose end is waited for.
+#[derive(Clone, Copy)]
+enum Awaited {
+    /// Those that are no prestart jobs.
+    Busy,
+    /// All.
+    Active,
+}
+
+impl Awaited {
+    ghost use Rattle.std.specs.Prelude.{◌≡◌};
+    ghost use Rattle.wm_run.specs.Awaited.{jobs_left};
+
+    // How many of them a monitor was told of.
+    fn left(self, pending: &Pending) -> usize
+        ensures { result ≡ jobs_left self pending.now }
+    {
+        match self {
+            Awaited::Busy => pending.busy,
+            Awaited::Active => pending.active,
+        }
+    }
+}
+
 impl<K: Keeper> Run<K> {
     ghost use Rattle.std.specs.Prelude.{◌≡◌, ◌+◌, OnOk, OnErr, IfOk, IsErrOf, None, length};
-    ghost use Rattle.wm_law.specs.Pending.{active, busy, orders, pending};
+    ghost use Rattle.wm_law.specs.Pending.{active, orders, pending};
     ghost use Rattle.wm_journal.specs.History.{reached};
     ghost use Rattle.wm_monitor.specs.Idle.{monitor_pass};
     ghost use Rattle.wm_monitor.specs.Journal.{HasJournalCauses};
     ghost use Rattle.wm_monitor.specs.View.{IsClear, MonitorAdvances};
     ghost use Rattle.wm_outside.specs.Told.{IsEmpty};
+    ghost use Rattle.wm_run.specs.Awaited.{jobs_left};
     ghost use Rattle.wm_run.specs.Halt.{HasMonitorCauses};
     ghost use Rattle.wm_run.specs.Grown.{entries_between};
     ghost use Rattle.wm_run.specs.Serving.{RunServes};
@@ -45,46 +70,24 @@ impl<K: Keeper> Run<K> {
         unreachable!()
     }
 
-    // Turns and waits while a job is active that is no prestart job.
-    fn wait_while_busy<P: Spawner, C: Clock, R: Wait>(
+    // Turns and waits until none of these jobs is active.
+    fn wait_for<P: Spawner, C: Clock, R: Wait>(
         &mut self,
         rt: &R,
         alloc: Global,
         spawner: &mut P,
         clock: &mut C,
+        jobs: Awaited,
     ) -> Result<(), Halt>
         ensures part { MonitorAdvances P.asked P.told P.misses self.old.journal.history self.old.monitor spawner.old self.new.journal.history self.new.monitor spawner.new }
-        ensures quiet { OnOk result (busy (reached self.new.journal.history) ≡ 0) }
-        ensures causes { HasMonitorCauses result (P.faults spawner.old) (P.faults spawner.new) }
-        ensures journal { HasJournalCauses K.faults K.trail (IsErrOf result Halt.KeeperFault) (IsErrOf result Halt.LogFull) self.old.journal self.new.journal }
-    {
-        'waits: for _ in rt.forever() {
-            let pending = self.drain(rt, alloc, spawner, clock)?;
-            if pending.busy == 0 {
-                return Ok(());
-            }
-            self.wait(rt, alloc, spawner, clock)?;
-        }
-        unreachable!()
-    }
-
-    // Turns and waits while a job is active.
-    fn wait_while_active<P: Spawner, C: Clock, R: Wait>(
-        &mut self,
-        rt: &R,
-        alloc: Global,
-        spawner: &mut P,
-        clock: &mut C,
-    ) -> Result<(), Halt>
-        ensures part { MonitorAdvances P.asked P.told P.misses self.old.journal.history self.old.monitor spawner.old self.new.journal.history self.new.monitor spawner.new }
-        ensures idle { OnOk result (active (reached self.new.journal.history) ≡ 0) }
+        ensures none { OnOk result (jobs_left jobs (pending (reached self.new.journal.history) monitor_pass) ≡ 0) }
         ensures clear { OnOk result (IsClear self.new.monitor) }
         ensures causes { HasMonitorCauses result (P.faults spawner.old) (P.faults spawner.new) }
         ensures journal { HasJournalCauses K.faults K.trail (IsErrOf result Halt.KeeperFault) (IsErrOf result Halt.LogFull) self.old.journal self.new.journal }
     {
         'waits: for _ in rt.forever() {
             let pending = self.drain(rt, alloc, spawner, clock)?;
-            if pending.active == 0 {
+            if jobs.left(&pending) == 0 {
                 return Ok(());
             }
             self.wait(rt, alloc, spawner, clock)?;
@@ -127,7 +130,7 @@ impl<K: Keeper> Run<K> {
         ensures causes { HasMonitorCauses result (P.faults spawner.old) (P.faults spawner.new) }
         ensures journal { HasJournalCauses K.faults K.trail (IsErrOf result Halt.KeeperFault) (IsErrOf result Halt.LogFull) self.old.journal self.new.journal }
     {
-        self.wait_while_busy(rt, alloc, spawner, clock)?;
+        self.wait_for(rt, alloc, spawner, clock, Awaited::Busy)?;
         let end = end_call(alloc)?;
         self.call(alloc, clock, end)?;
         Ok(())
@@ -173,7 +176,7 @@ impl<K: Keeper> Run<K> {
         ensures journal { HasJournalCauses K.faults K.trail (IsErrOf result Halt.KeeperFault) (IsErrOf result Halt.LogFull) self.old.journal self.new.journal }
     {
         self.close_input(rt, alloc, spawner, clock, down)?;
-        self.wait_while_active(rt, alloc, spawner, clock)?;
+        self.wait_for(rt, alloc, spawner, clock, Awaited::Active)?;
         Ok(())
     }
 }

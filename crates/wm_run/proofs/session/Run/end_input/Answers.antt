@@ -7,36 +7,36 @@ use Rattle.wm_run.proofs.Servings.{Serves-call, Serves-monitor, Serves-same, end
 use Rattle.wm_run.proofs.StoppedRuns.{no_call, no_call_same, on_err}
 use Rattle.wm_run.proofs.session.Run.end_input.Goals as goal
 
-pub returns-in_err-wait_while_busy-clause-serves : goal.returns-in_err-wait_while_busy-clause-serves
-returns-in_err-wait_while_busy-clause-serves g c = Serves-monitor _ _ c.wait_while_busy.ensures.part
+pub returns-in_err-wait_for-clause-serves : goal.returns-in_err-wait_for-clause-serves
+returns-in_err-wait_for-clause-serves g c = Serves-monitor _ _ c.wait_for.ensures.part
 
 pub returns-in_err-end-clause-serves : goal.returns-in_err-end-clause-serves
-returns-in_err-end-clause-serves g c = Serves-monitor _ _ c.wait_while_busy.ensures.part
+returns-in_err-end-clause-serves g c = Serves-monitor _ _ c.wait_for.ensures.part
 
 pub returns-in_err-call-clause-serves : goal.returns-in_err-call-clause-serves
 returns-in_err-call-clause-serves g c =
     let s = g.P.Spawner in
-    let p = c.wait_while_busy.new.spawner in
-    Proceeds-then _ _ _ (Serves-monitor _ _ c.wait_while_busy.ensures.part)
-    (Serves-same c.wait_while_busy.new.self.journal.history c.call.new.self.journal.history c.wait_while_busy.new.self.monitor c.call.new.self.monitor (s.asked p) (s.told p) (s.misses p) c.in_err-call.ensures.err c.call.ensures.monitor)
+    let p = c.wait_for.new.spawner in
+    Proceeds-then _ _ _ (Serves-monitor _ _ c.wait_for.ensures.part)
+    (Serves-same c.wait_for.new.self.journal.history c.call.new.self.journal.history c.wait_for.new.self.monitor c.call.new.self.monitor (s.asked p) (s.told p) (s.misses p) c.in_err-call.ensures.err c.call.ensures.monitor)
 
 pub returns-clause-serves : goal.returns-clause-serves
 returns-clause-serves g c =
     let s = g.P.Spawner in
-    let p = c.wait_while_busy.new.spawner in
-    let called = subst (λ (call : Call). Called c.wait_while_busy.new.self.journal.history call c.call.new.self.journal.history) c.in_ok-end.ensures.call c.in_ok-call.ensures.ok in
-    Proceeds-then _ _ _ (Serves-monitor _ _ c.wait_while_busy.ensures.part)
-    (Serves-call c.wait_while_busy.new.self.journal.history c.call.new.self.journal.history _ _ c.wait_while_busy.new.self.monitor c.call.new.self.monitor (s.asked p) (s.told p) (s.misses p) called c.call.ensures.monitor)
+    let p = c.wait_for.new.spawner in
+    let called = subst (λ (call : Call). Called c.wait_for.new.self.journal.history call c.call.new.self.journal.history) c.in_ok-end.ensures.call c.in_ok-call.ensures.ok in
+    Proceeds-then _ _ _ (Serves-monitor _ _ c.wait_for.ensures.part)
+    (Serves-call c.wait_for.new.self.journal.history c.call.new.self.journal.history _ _ c.wait_for.new.self.monitor c.call.new.self.monitor (s.asked p) (s.told p) (s.misses p) called c.call.ensures.monitor)
 
 pub returns-clause-ended : goal.returns-clause-ended
 returns-clause-ended g c =
-    ends_input c.args.self.now.journal.history c.wait_while_busy.new.self.journal.history c.call.new.self.journal.history c.in_ok-end.end (continues _ _ c.wait_while_busy.ensures.part) c.wait_while_busy.ensures.part.callers c.in_ok-wait_while_busy.ensures.quiet c.in_ok-call.ensures.ok c.in_ok-end.ensures.call
+    ends_input c.args.self.now.journal.history c.wait_for.new.self.journal.history c.call.new.self.journal.history c.in_ok-end.end (continues _ _ c.wait_for.ensures.part) c.wait_for.ensures.part.callers c.in_ok-wait_for.ensures.none c.in_ok-call.ensures.ok c.in_ok-end.ensures.call
 
-pub returns-in_err-wait_while_busy-clause-not_ended : goal.returns-in_err-wait_while_busy-clause-not_ended
-returns-in_err-wait_while_busy-clause-not_ended g c = on_err _ (no_call c.args.self.now.journal.history c.wait_while_busy.new.self.journal.history c.wait_while_busy.ensures.part.callers)
+pub returns-in_err-wait_for-clause-not_ended : goal.returns-in_err-wait_for-clause-not_ended
+returns-in_err-wait_for-clause-not_ended g c = on_err _ (no_call c.args.self.now.journal.history c.wait_for.new.self.journal.history c.wait_for.ensures.part.callers)
 
 pub returns-in_err-end-clause-not_ended : goal.returns-in_err-end-clause-not_ended
-returns-in_err-end-clause-not_ended g c = on_err _ (no_call c.args.self.now.journal.history c.wait_while_busy.new.self.journal.history c.wait_while_busy.ensures.part.callers)
+returns-in_err-end-clause-not_ended g c = on_err _ (no_call c.args.self.now.journal.history c.wait_for.new.self.journal.history c.wait_for.ensures.part.callers)
 
 pub returns-in_err-call-clause-not_ended : goal.returns-in_err-call-clause-not_ended
-returns-in_err-call-clause-not_ended g c = on_err _ (no_call_same c.args.self.now.journal.history c.wait_while_busy.new.self.journal.history c.call.new.self.journal.history c.in_err-call.ensures.err c.wait_while_busy.ensures.part.callers)
+returns-in_err-call-clause-not_ended g c = on_err _ (no_call_same c.args.self.now.journal.history c.wait_for.new.self.journal.history c.call.new.self.journal.history c.in_err-call.ensures.err c.wait_for.ensures.part.callers)

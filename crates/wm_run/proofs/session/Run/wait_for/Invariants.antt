@@ -1,7 +1,7 @@
 use Rattle.wm_monitor.specs.Journal.{HasJournalCauses}
 use Rattle.wm_monitor.specs.View.{view}
 use Rattle.wm_monitor.proofs.MonitorLoops.{TurnLoop}
-use Rattle.wm_run.proofs.session.Run.wait_while_active.Given as goal
+use Rattle.wm_run.proofs.session.Run.wait_for.Given as goal
 
 abbrev pub invariant-waits : goal.invariant-waits
 invariant-waits g l =

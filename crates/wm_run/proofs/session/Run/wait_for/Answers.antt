@@ -1,10 +1,10 @@
-use Rattle.std.proofs.Common.{◌≡◌, arith}
+use Rattle.std.proofs.Common.{◌≡◌, ap, sym, ◌∙◌, arith}
 use Rattle.std.proofs.lemmas.Bool.Decides.{nat_tests}
+use Rattle.wm_law.specs.declared.pending.Pending.{Pending}
 use Rattle.wm_monitor.proofs.Monitors.{Proceeds-none, Proceeds-then}
 use Rattle.wm_monitor.proofs.Journals.{HasJournalCauses-none, HasJournalCauses-more}
-use Rattle.wm_journal.specs.History.{reached}
-use Rattle.wm_run.proofs.IdleCalls.{active_none}
-use Rattle.wm_run.proofs.session.Run.wait_while_active.Goals as goal
+use Rattle.wm_run.specs.Awaited.{jobs_left}
+use Rattle.wm_run.proofs.session.Run.wait_for.Goals as goal
 
 pub waits-init : goal.waits-init
 waits-init g c = record { part = Proceeds-none _; looked = omega arith; journal = HasJournalCauses-none _ (λ f. f) (λ f. f) }
@@ -23,11 +23,11 @@ returns-in_err-pending-clause-part g c = Proceeds-then _ _ _ c.waits.invariant.p
 pub returns-in_err-wait-clause-part : goal.returns-in_err-wait-clause-part
 returns-in_err-wait-clause-part g c = Proceeds-then _ _ _ c.waits.invariant.part (Proceeds-then _ _ _ c.drain.ensures.part c.wait.ensures.part)
 
-pub returns-then-pending-eq0-clause-part : goal.returns-then-pending-eq0-clause-part
-returns-then-pending-eq0-clause-part g c = Proceeds-then _ _ _ c.waits.invariant.part c.drain.ensures.part
+pub returns-then-left-eq0-clause-part : goal.returns-then-left-eq0-clause-part
+returns-then-left-eq0-clause-part g c = Proceeds-then _ _ _ c.waits.invariant.part c.drain.ensures.part
 
-pub returns-then-pending-eq0-clause-idle : goal.returns-then-pending-eq0-clause-idle
-returns-then-pending-eq0-clause-idle g c =
-    let t = c.if-pending-eq0.true in
-    let none : c.in_ok-pending.pending.active ≡ 0 = grind (arith, nat_tests) in
-    active_none (reached c.drain.new.self.journal.history) c.in_ok-pending.pending c.in_ok-pending.ensures.pending none
+pub returns-then-left-eq0-clause-none : goal.returns-then-left-eq0-clause-none
+returns-then-left-eq0-clause-none g c =
+    let t = c.if-left-eq0.true in
+    let none : c.left.result ≡ 0 = grind (arith, nat_tests) in
+    ap (jobs_left c.args.jobs) (sym c.in_ok-pending.ensures.pending) ∙ sym c.left.ensures ∙ none

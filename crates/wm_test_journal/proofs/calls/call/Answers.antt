@@ -1,5 +1,5 @@
 use Rattle.wm_journal.specs.History.{reached}
-use Rattle.wm_test_stored.proofs.calls.call.Goals as goal
+use Rattle.wm_test_journal.proofs.calls.call.Goals as goal
 
 -- every state has the call
 pub call-requires-clause-built : goal.call-requires-clause-built

@@ -1,9 +1,9 @@
 // Ended jobs of the causes that no command or report of today gives.
-use anyhow::Result;
 use std::alloc::Global;
-use wm_base::{EndCause, JobName, JobNumber, Name, Priority};
+use wm_base::{EndCause, JobName, JobNumber, Name, NoMemory, Priority};
 use wm_law::JobKind;
-use wm_views::{JobLine, JobLines, Status};
+use wm_listing::listing;
+use wm_views::{JobLine, JobLines, Shown, Status};
 
 /// The causes.
 static CAUSES: [EndCause; 3] = [EndCause::Endpj, EndCause::Maxuse, EndCause::Restarted];
@@ -22,11 +22,11 @@ fn ended(cause: EndCause) -> JobLine {
     }
 }
 
-/// A job for each of them.
-pub fn ended_jobs(alloc: Global) -> Result<JobLines> {
+/// The listing of a job for each of them.
+pub fn listed_causes(alloc: Global) -> Result<Vec<u8>, NoMemory> {
     let mut lines = Vec::new(alloc);
     for cause in &CAUSES {
         lines.push(ended(*cause))?;
     }
-    Ok(JobLines::from(lines))
+    listing(alloc, &Shown::Submitted(JobLines::from(lines)))
 }

@@ -16,6 +16,7 @@ fn report_of(report: &str, serial: Serial, code: u8) -> Result<Call>
     match report {
         "started" => Ok(Call::Started(serial)),
         "failed" => Ok(Call::StartFailed(serial, StartCause::Spawner)),
+        "lacked" => Ok(Call::StartFailed(serial, StartCause::Memory)),
         "finished" => Ok(Call::Finished(serial, Exit::Code(code))),
         "killed" => Ok(Call::Finished(serial, Exit::Killed)),
         _ => bail!("no such report: {report}"),

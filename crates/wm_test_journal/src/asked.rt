@@ -12,13 +12,13 @@ ghost use Rattle.wm_command.specs.Printed.{FitsMachine};
 ghost use Rattle.wm_law.specs.Fit.{IsCall, IsCommand, HasCall};
 ghost use Rattle.wm_law.specs.declared.state.State.{State};
 
-use crate::calls;
+use crate::calls::{self, NOW};
 use crate::monitor::call_of;
 use crate::replies::write_called;
 use crate::words::first_word;
 use anyhow::{Context, Result, bail, ensure};
 use std::alloc::Global;
-use wm_base::Name;
+use wm_base::{Moment, Name};
 use wm_clwords::read_command;
 use wm_command::{Line, command};
 use wm_core::built;
@@ -27,9 +27,10 @@ use wm_law::{Boxed, Call, Command, built_commands_are_had};
 use wm_outside::MemKeeper;
 
 /// The pass of a session.
-const SESSION: u32 = 0;
+pub const SESSION: u32 = 0;
 
-fn line_of(alloc: Global, user: &Name, text: &str) -> Result<Line>
+/// The line that a CL text is.
+pub fn line_of(alloc: Global, user: &Name, text: &str) -> Result<Line>
     ensures { IfOk result FitsMachine }
 {
     let tree = read_command(alloc, text.as_bytes())?;
@@ -37,8 +38,8 @@ fn line_of(alloc: Global, user: &Name, text: &str) -> Result<Line>
     Ok(line)
 }
 
-// The call of a user's command.
-fn user_call(alloc: Global, user: &Name, command: Command) -> Result<Call>
+/// The call of a user's command.
+pub fn user_call(alloc: Global, user: &Name, command: Command) -> Result<Call>
     requires { IsCommand command }
     ensures fit { IfOk result IsCall }
     ensures had { IfOk result (λ call. (s : State) → HasCall s call) }
@@ -77,7 +78,7 @@ fn call(
     requires fit { IsCall call }
     requires had { (s : State) → HasCall s call }
 {
-    let called = calls::call(alloc, journal, caller, call);
+    let called = calls::call(alloc, journal, caller, call, Moment::new(NOW));
     write_called(alloc, journal, called, answer)
 }
 

@@ -1,0 +1,38 @@
+//! The cases of a journal: what each call answers and stores, what a keeper's fault leaves, what a run makes of the tables that
+//! the run before it left, and what a reading command shows.
+//!
+//! The texts of `data/` are played over a `wm_journal::Journal` with a keeper in memory. A question of `stored.txt` is a CL
+//! text, which the user QUSER calls, or one of the words of `tested`, `asked` and `monitor`; one of the other files is a CL
+//! text or has the words of `listed` and `monitor`. Where no other is set, each call has the moment 1000. What is printed, and
+//! what must be printed, is the number of answers of each file.
+#![tactic(auto)]
+
+mod asked;
+mod calls;
+mod causes;
+mod failing;
+mod listed;
+mod monitor;
+mod opened;
+mod replies;
+mod rows;
+mod tested;
+mod turns;
+mod words;
+
+use anyhow::Result;
+use listed::Listed;
+use tested::Tested;
+use wm_cases::play;
+
+/// The files of what is shown.
+static LISTED: [&str; 4] = ["jobs.txt", "log.txt", "queues.txt", "subsystems.txt"];
+
+fn main(rt: HostRuntime) -> Result<()> {
+    play(&rt, "stored.txt", &mut Tested::new(rt.alloc()))?;
+    let mut listed = Listed::new(rt.alloc());
+    for file in &LISTED {
+        play(&rt, file, &mut listed)?;
+    }
+    Ok(())
+}
