@@ -1,11 +1,8 @@
 -- The values that are shown of a command make that command again.
-use Rattle.std.proofs.Common.{◌≡◌, ℕ, Bool, cond, List, [], ◌∷◌, length, Option, Some, None, Ok, slice_index_or, IsTrue, refl, ◌∙◌, ap, arith}
+use Rattle.std.proofs.Common.{◌≡◌, ℕ, false, cond, List, [], ◌∷◌, length, Option, Some, None, Ok, slice_index_or, IsTrue, refl, ◌∙◌, ap, arith}
 use Rattle.wm_base.specs.declared.limit.Limit.{Limit}
 use Rattle.wm_base.specs.declared.limit.Limit.TheVariants.{NoMax, Most}
-use Rattle.wm_base.specs.declared.qname.QName.{QName}
 use Rattle.wm_when.specs.Schedule.{within}
-use Rattle.wm_when.specs.declared.schedule.DateSpec.{DateSpec}
-use Rattle.wm_when.specs.declared.schedule.TimeSpec.{TimeSpec}
 use Rattle.wm_law.specs.declared.command.Command.TheVariants as command
 use Rattle.wm_law.specs.declared.command.Sbmjob.{Sbmjob}
 use Rattle.wm_command.specs.declared.line.Line.TheVariants as line
@@ -13,6 +10,7 @@ use Rattle.wm_command.specs.declared.row.Special.{Special}
 use Rattle.wm_command.specs.declared.row.Special.TheVariants as special
 use Rattle.wm_command.specs.declared.row.Default.TheVariants as default
 use Rattle.wm_command.specs.declared.row.Kind.TheVariants as kind
+use Rattle.wm_command.specs.declared.value.Value.{Value}
 use Rattle.wm_command.specs.declared.value.Value.TheVariants as value
 use Rattle.wm_command.specs.declared.verb.ChangeVerb.TheVariants as change
 use Rattle.wm_base.specs.declared.refusal.Key.TheVariants as key
@@ -57,54 +55,32 @@ priority_or_back : (s : Special) (o : Option ℕ) → FitsRow (or_word key.Jobpt
 priority_or_back s None h = refl
 priority_or_back s (Some n) h = ap Some (priority_back n h)
 
-number_back : (s : Special) (o : Option ℕ) → maybe (is_word_value (Some (or_special s value.Number o))) (number_or (Some (or_special s value.Number o))) ≡ o
-number_back s None = refl
-number_back s (Some n) = refl
-
-text_back : (s : Special) (o : Option (List ℕ)) → maybe (is_word_value (Some (or_special s value.Text o))) (text_or (Some (or_special s value.Text o))) ≡ o
-text_back s None = refl
-text_back s (Some t) = refl
-
-name_back : (s : Special) (o : Option (List ℕ)) → maybe (is_word_value (Some (or_special s value.Name o))) (name_or (Some (or_special s value.Name o))) ≡ o
-name_back s None = refl
-name_back s (Some n) = refl
-
-object_back : (s : Special) (o : Option QName) → maybe (is_word_value (Some (or_special s value.Object o))) (object_or (Some (or_special s value.Object o))) ≡ o
-object_back s None = refl
-object_back s (Some q) = refl
-
-flag_back : (s : Special) (o : Option Bool) → maybe (is_word_value (Some (or_special s value.Flag o))) (flag_or (Some (or_special s value.Flag o))) ≡ o
-flag_back s None = refl
-flag_back s (Some b) = refl
-
-date_back : (s : Special) (o : Option DateSpec) → maybe (is_word_value (Some (or_special s value.Date o))) (date_or (Some (or_special s value.Date o))) ≡ o
-date_back s None = refl
-date_back s (Some d) = refl
-
-time_back : (s : Special) (o : Option TimeSpec) → maybe (is_word_value (Some (or_special s value.Time o))) (time_or (Some (or_special s value.Time o))) ≡ o
-time_back s None = refl
-time_back s (Some t) = refl
+-- a field that may be left out, whose values are no special words and are held as they are
+word_back : {V : Type 0} (made : V → Value) (of : Option Value → V) (s : Special) (o : Option V) → ((x : V) → (is_word_value (Some (made x)) ≡ false) × (of (Some (made x)) ≡ x))
+    → maybe (is_word_value (Some (or_special s made o))) (of (Some (or_special s made o))) ≡ o
+word_back made of s None f = refl
+word_back made of s (Some x) f = λ i. maybe ((f x).0 i) ((f x).1 i)
 
 -- each command
 
 sbmjob_by : (c : Sbmjob) (r : Option (List ℕ)) → IsFit (command.Sbmjob (record c { rqsdta = r }))
     → completed change.Sbmjob (sbmjob_values (record c { rqsdta = r })) ≡ Ok (line.Change (command.Sbmjob (record c { rqsdta = r })))
 unfolding change_rows complete same_key value_of object_in name_in text_in number_in limit_in flag_in ending_in job_in compare_in date_in time_in priority_in is_word_in class_in maxpty_in request_in lacks sbmjob sbmjob_values
-sbmjob_by c None h = λ i. Ok (line.Change (command.Sbmjob (record c { rqsdta = None; job = name_back special.Jobd c.job i; jobq = object_back special.Jobd c.jobq i; jobpty = priority_or_back special.Jobd c.jobpty h.values.1.1.1.1.0 i; rtgdta = text_back special.Jobd c.rtgdta i; hold = flag_back special.Jobd c.hold i })))
-sbmjob_by c (Some r) h = λ i. Ok (line.Change (command.Sbmjob (record c { rqsdta = Some r; job = name_back special.Jobd c.job i; jobq = object_back special.Jobd c.jobq i; jobpty = priority_or_back special.Jobd c.jobpty h.values.1.1.1.1.0 i; rtgdta = text_back special.Jobd c.rtgdta i; hold = flag_back special.Jobd c.hold i })))
+sbmjob_by c None h = λ i. Ok (line.Change (command.Sbmjob (record c { rqsdta = None; job = word_back value.Name name_or special.Jobd c.job (λ x. (refl, refl)) i; jobq = word_back value.Object object_or special.Jobd c.jobq (λ x. (refl, refl)) i; jobpty = priority_or_back special.Jobd c.jobpty h.values.1.1.1.1.0 i; rtgdta = word_back value.Text text_or special.Jobd c.rtgdta (λ x. (refl, refl)) i; hold = word_back value.Flag flag_or special.Jobd c.hold (λ x. (refl, refl)) i })))
+sbmjob_by c (Some r) h = λ i. Ok (line.Change (command.Sbmjob (record c { rqsdta = Some r; job = word_back value.Name name_or special.Jobd c.job (λ x. (refl, refl)) i; jobq = word_back value.Object object_or special.Jobd c.jobq (λ x. (refl, refl)) i; jobpty = priority_or_back special.Jobd c.jobpty h.values.1.1.1.1.0 i; rtgdta = word_back value.Text text_or special.Jobd c.rtgdta (λ x. (refl, refl)) i; hold = word_back value.Flag flag_or special.Jobd c.hold (λ x. (refl, refl)) i })))
 
 -- the others, each by what its keys have
 pub shown_back : ShownValuesMakeTheCommand
 unfolding change_rows complete same_key value_of object_in name_in text_in number_in limit_in flag_in ending_in job_in compare_in date_in time_in priority_in is_word_in class_in maxpty_in request_in lacks crtcls crtcls_values crtpgmref crtpgmref_values crtjobd crtjobd_values crtsbsd crtsbsd_values addjobqe addjobqe_values addrtge addrtge_values addaje addaje_values addpje addpje_values rmvjobqe rmvjobqe_values rmvrtge rmvrtge_values rmvaje rmvaje_values rmvpje rmvpje_values endsbs endsbs_values chgjob chgjob_values endjob endjob_values strpj strpj_values endpj endpj_values evoke evoke_values pwrdwnsys pwrdwnsys_values
 shown_back (command.Sbmjob c) h = sbmjob_by c c.rqsdta h
 shown_back (command.Crtcls c) h = λ i. Ok (line.Change (command.Crtcls (record c { dftwait = limit_back c.dftwait i })))
-shown_back (command.Crtjobd c) h = λ i. Ok (line.Change (command.Crtjobd (record c { jobpty = priority_back c.jobpty h.values.1.1.0 i; rqsdta = text_back special.None c.rqsdta i })))
+shown_back (command.Crtjobd c) h = λ i. Ok (line.Change (command.Crtjobd (record c { jobpty = priority_back c.jobpty h.values.1.1.0 i; rqsdta = word_back value.Text text_or special.None c.rqsdta (λ x. (refl, refl)) i })))
 shown_back (command.Crtsbsd c) h = λ i. Ok (line.Change (command.Crtsbsd (record c { maxjobs = limit_back c.maxjobs i })))
 shown_back (command.Addjobqe c) h = λ i. Ok (line.Change (command.Addjobqe (record c { maxact = limit_back c.maxact i; maxpty = nine_back c.maxpty h.whole i })))
 shown_back (command.Addrtge c) h = λ i. Ok (line.Change (command.Addrtge (record c { maxact = limit_back c.maxact i })))
 shown_back (command.Addpje c) h = λ i. Ok (line.Change (command.Addpje (record c { maxjobs = limit_back c.maxjobs i; maxuse = limit_back c.maxuse i })))
-shown_back (command.Endsbs c) h = λ i. Ok (line.Change (command.Endsbs (record c { delay = number_back special.Nolimit c.delay i })))
-shown_back (command.Chgjob c) h = λ i. Ok (line.Change (command.Chgjob (record c { jobpty = priority_or_back special.Same c.jobpty h.values.1.0 i; jobq = object_back special.Same c.jobq i; scddate = date_back special.Same c.scddate i; scdtime = time_back special.Same c.scdtime i })))
-shown_back (command.Endpj c) h = λ i. Ok (line.Change (command.Endpj (record c { delay = number_back special.Nolimit c.delay i })))
-shown_back (command.Pwrdwnsys c) h = λ i. Ok (line.Change (command.Pwrdwnsys (record c { delay = number_back special.Nolimit c.delay i })))
+shown_back (command.Endsbs c) h = λ i. Ok (line.Change (command.Endsbs (record c { delay = word_back value.Number number_or special.Nolimit c.delay (λ x. (refl, refl)) i })))
+shown_back (command.Chgjob c) h = λ i. Ok (line.Change (command.Chgjob (record c { jobpty = priority_or_back special.Same c.jobpty h.values.1.0 i; jobq = word_back value.Object object_or special.Same c.jobq (λ x. (refl, refl)) i; scddate = word_back value.Date date_or special.Same c.scddate (λ x. (refl, refl)) i; scdtime = word_back value.Time time_or special.Same c.scdtime (λ x. (refl, refl)) i })))
+shown_back (command.Endpj c) h = λ i. Ok (line.Change (command.Endpj (record c { delay = word_back value.Number number_or special.Nolimit c.delay (λ x. (refl, refl)) i })))
+shown_back (command.Pwrdwnsys c) h = λ i. Ok (line.Change (command.Pwrdwnsys (record c { delay = word_back value.Number number_or special.Nolimit c.delay (λ x. (refl, refl)) i })))
 shown_back c h = refl

@@ -11,6 +11,10 @@ use Rattle.wm_desc.specs.Ranges.{cmp_in_range}
 use Rattle.wm_desc.specs.declared.entry.Cmp.{Cmp}
 use Rattle.wm_desc.specs.declared.entry.Cmp.TheVariants.{Any, Val}
 use Rattle.wm_when.specs.Schedule.{within}
+use Rattle.wm_when.specs.declared.schedule.DateSpec.{DateSpec}
+use Rattle.wm_when.specs.declared.schedule.TimeSpec.{TimeSpec}
+use Rattle.wm_law.specs.declared.command.EndOption.{EndOption}
+use Rattle.wm_law.specs.declared.command.JobRef.{JobRef}
 use Rattle.wm_command.specs.declared.row.Default.{Default}
 use Rattle.wm_command.specs.declared.row.Default.TheVariants as default
 use Rattle.wm_command.specs.declared.row.Kind.{Kind}
@@ -37,38 +41,33 @@ abbrev pub is_right_priority : Key → Kind → Bool
 is_right_priority key.Jobpty (kind.Number low high) = nat_le 1 low && nat_le high 9
 is_right_priority k kd = true
 
+-- how a field holds a kind of value: the field's type, the value that shows it, and what it holds of a key's value
+pub record Held : Type 1 where
+  pub Field : Type 0
+  pub shows : Field → Value
+  pub holds : Option Value → Field
+
+abbrev pub held : Key → Kind → Held
+held k kind.Object = record { Field = QName; shows = value.Object; holds = object_or }
+held k kind.Program = record { Field = QName; shows = value.Object; holds = object_or }
+held k kind.Name = record { Field = List ℕ; shows = value.Name; holds = name_or }
+held k (kind.Text low high) = record { Field = List ℕ; shows = value.Text; holds = text_or }
+held k kind.Path = record { Field = List ℕ; shows = value.Text; holds = text_or }
+held k (kind.Number low high) = record { Field = ℕ; shows = value.Number; holds = λ o. number_by k (number_or o) }
+held k kind.Flag = record { Field = Bool; shows = value.Flag; holds = flag_or }
+held k kind.Ending = record { Field = EndOption; shows = value.Ending; holds = ending_or }
+held k kind.Job = record { Field = JobRef; shows = value.Job; holds = job_or }
+held k kind.Compare = record { Field = Cmp; shows = value.Compare; holds = compare_or }
+held k kind.Date = record { Field = DateSpec; shows = value.Date; holds = date_or }
+held k kind.Time = record { Field = TimeSpec; shows = value.Time; holds = time_or }
+held k kd = record { Field = Unit {0}; shows = λ u. value.Nothing; holds = λ o. tt }
+
 -- what is shown of a key that has a value, and of one that may have its row's special word
 abbrev pub plain_value : Key → Kind → Option Value → Value
-plain_value k kind.Object o = value.Object (object_or o)
-plain_value k kind.Program o = value.Object (object_or o)
-plain_value k kind.Name o = value.Name (name_or o)
-plain_value k (kind.Text low high) o = value.Text (text_or o)
-plain_value k kind.Path o = value.Text (text_or o)
-plain_value k (kind.Number low high) o = value.Number (number_by k (number_or o))
-plain_value k kind.Flag o = value.Flag (flag_or o)
-plain_value k kind.Ending o = value.Ending (ending_or o)
-plain_value k kind.Job o = value.Job (job_or o)
-plain_value k kind.Compare o = value.Compare (compare_or o)
-plain_value k kind.Date o = value.Date (date_or o)
-plain_value k kind.Time o = value.Time (time_or o)
-plain_value k kind.Call o = value.Nothing
-plain_value k kind.Anything o = value.Nothing
+plain_value k kd o = (held k kd).shows ((held k kd).holds o)
 
 abbrev pub word_value : Key → Kind → Special → Option Value → Value
-word_value k kind.Object s o = or_special s value.Object (maybe (is_word_value o) (object_or o))
-word_value k kind.Program s o = or_special s value.Object (maybe (is_word_value o) (object_or o))
-word_value k kind.Name s o = or_special s value.Name (maybe (is_word_value o) (name_or o))
-word_value k (kind.Text low high) s o = or_special s value.Text (maybe (is_word_value o) (text_or o))
-word_value k kind.Path s o = or_special s value.Text (maybe (is_word_value o) (text_or o))
-word_value k (kind.Number low high) s o = or_special s value.Number (maybe (is_word_value o) (number_by k (number_or o)))
-word_value k kind.Flag s o = or_special s value.Flag (maybe (is_word_value o) (flag_or o))
-word_value k kind.Ending s o = or_special s value.Ending (maybe (is_word_value o) (ending_or o))
-word_value k kind.Job s o = or_special s value.Job (maybe (is_word_value o) (job_or o))
-word_value k kind.Compare s o = or_special s value.Compare (maybe (is_word_value o) (compare_or o))
-word_value k kind.Date s o = or_special s value.Date (maybe (is_word_value o) (date_or o))
-word_value k kind.Time s o = or_special s value.Time (maybe (is_word_value o) (time_or o))
-word_value k kind.Call s o = value.Nothing
-word_value k kind.Anything s o = value.Nothing
+word_value k kd s o = or_special s (held k kd).shows (maybe (is_word_value o) ((held k kd).holds o))
 
 -- *NOMAX is a limit, and *SBSD the class with the description's name
 abbrev pub shown_value : Key → Kind → Special → QName → Option Value → Value
@@ -127,33 +126,16 @@ plain_fits k kd s d v shown right t h = absurd h
 
 -- a value that is no special word is shown as it is where one may stand too
 word_plain : (k : Key) (kd : Kind) (s : Special) (v : Value) → is_word_value (Some v) ≡ false → word_value k kd s (Some v) ≡ plain_value k kd (Some v)
-word_plain k kind.Object s v e = λ i. or_special s value.Object (maybe (e i) (object_or (Some v)))
-word_plain k kind.Program s v e = λ i. or_special s value.Object (maybe (e i) (object_or (Some v)))
-word_plain k kind.Name s v e = λ i. or_special s value.Name (maybe (e i) (name_or (Some v)))
-word_plain k (kind.Text low high) s v e = λ i. or_special s value.Text (maybe (e i) (text_or (Some v)))
-word_plain k kind.Path s v e = λ i. or_special s value.Text (maybe (e i) (text_or (Some v)))
-word_plain k (kind.Number low high) s v e = λ i. or_special s value.Number (maybe (e i) (number_by k (number_or (Some v))))
-word_plain k kind.Flag s v e = λ i. or_special s value.Flag (maybe (e i) (flag_or (Some v)))
-word_plain k kind.Ending s v e = λ i. or_special s value.Ending (maybe (e i) (ending_or (Some v)))
-word_plain k kind.Job s v e = λ i. or_special s value.Job (maybe (e i) (job_or (Some v)))
-word_plain k kind.Compare s v e = λ i. or_special s value.Compare (maybe (e i) (compare_or (Some v)))
-word_plain k kind.Date s v e = λ i. or_special s value.Date (maybe (e i) (date_or (Some v)))
-word_plain k kind.Time s v e = λ i. or_special s value.Time (maybe (e i) (time_or (Some v)))
-word_plain k kd s v e = refl
-
-own_shown : (k : Key) (kd : Kind) (s t : Special) → is_shown kd ≡ true → word_value k kd s (Some (value.Special t)) ≡ value.Special s
-own_shown k kind.Call s t shown = absurd (false≢true shown)
-own_shown k kind.Anything s t shown = absurd (false≢true shown)
-own_shown k kd s t shown = refl
+word_plain k kd s v e = λ i. or_special s (held k kd).shows (maybe (e i) ((held k kd).holds (Some v)))
 
 -- the special word of a row, and any other value
 
-word_fits : (k : Key) (kd : Kind) (s : Special) (d : Default) (sbsd : QName) (t : Special) → is_shown kd ≡ true → (s ≡ special.Sbsd → IsQualified sbsd) → (t ≡ s) × (is_never t ≡ false)
+word_fits : (k : Key) (kd : Kind) (s : Special) (d : Default) (sbsd : QName) (t : Special) → (s ≡ special.Sbsd → IsQualified sbsd) → (t ≡ s) × (is_never t ≡ false)
     → FitsRow (row_of k kd s d) (shown_value k kd s sbsd (Some (value.Special t)))
-word_fits k kd special.Never d sbsd t shown q h = absurd (no_word t h)
-word_fits k (kind.Number low high) special.Nomax d sbsd t shown q h = own_word special.Nomax t h
-word_fits k kind.Object special.Sbsd d sbsd t shown q h = q refl
-word_fits k kd s d sbsd t shown q h = subst (FitsRow (row_of k kd s d)) (sym (own_shown k kd s t shown)) (own_word s t h)
+word_fits k kd special.Never d sbsd t q h = absurd (no_word t h)
+word_fits k (kind.Number low high) special.Nomax d sbsd t q h = own_word special.Nomax t h
+word_fits k kind.Object special.Sbsd d sbsd t q h = q refl
+word_fits k kd s d sbsd t q h = own_word s t h
 
 kind_fits : (k : Key) (kd : Kind) (s : Special) (d : Default) (sbsd : QName) (v : Value) → is_word_value (Some v) ≡ false → is_shown kd ≡ true → is_right_priority k kd ≡ true
     → PrintableOf kd (shown_value k kd s sbsd (Some v)) → InKind kd v → FitsRow (row_of k kd s d) (shown_value k kd s sbsd (Some v))
@@ -167,7 +149,7 @@ kind_fits k kd s d sbsd v e shown right t h =
 
 value_fits : (k : Key) (kd : Kind) (s : Special) (d : Default) (sbsd : QName) (v : Value) → may_lack d ≡ false → is_shown kd ≡ true → is_right_priority k kd ≡ true → (s ≡ special.Sbsd → IsQualified sbsd)
     → PrintableOf kd (shown_value k kd s sbsd (Some v)) → InRow (row_of k kd s d) v → FitsRow (row_of k kd s d) (shown_value k kd s sbsd (Some v))
-value_fits k kd s d sbsd (value.Special w) firm shown right q t h = word_fits k kd s d sbsd w shown q h
+value_fits k kd s d sbsd (value.Special w) firm shown right q t h = word_fits k kd s d sbsd w q h
 value_fits k kd s d sbsd value.Nothing firm shown right q t h = absurd (false≢true (sym firm ∙ h))
 value_fits k kd s d sbsd v firm shown right q t h = kind_fits k kd s d sbsd v refl shown right t h
 

@@ -18,14 +18,13 @@ use Rattle.wm_law.specs.declared.command.Command.TheVariants as command
 use Rattle.wm_law.specs.declared.command.JobRef.{JobRef}
 use Rattle.wm_law.specs.declared.command.JobRef.TheVariants.{Simple, ByUser, Full}
 use Rattle.wm_when.specs.Schedule.{within, date_in_range, time_in_range}
-use Rattle.wm_when.specs.declared.schedule.DateSpec.{DateSpec}
-use Rattle.wm_when.specs.declared.schedule.TimeSpec.{TimeSpec}
 use Rattle.wm_command.specs.declared.row.Default.TheVariants as default
 use Rattle.wm_command.specs.declared.row.Row.{Row}
 use Rattle.wm_command.specs.declared.row.Kind.{Kind}
 use Rattle.wm_command.specs.declared.row.Kind.TheVariants as kind
 use Rattle.wm_command.specs.declared.row.Special.{Special}
 use Rattle.wm_command.specs.declared.row.Special.TheVariants as special
+use Rattle.wm_command.specs.declared.value.Value.{Value}
 use Rattle.wm_command.specs.declared.value.Value.TheVariants as value
 use Rattle.wm_command.specs.Printed.{IsQualified, FitsJob, FitsCompare, FitsRow, IsFit}
 use Rattle.wm_command.specs.Fields.{limit_value, or_special}
@@ -63,29 +62,20 @@ limit : (low high : ℕ) (l : Limit) → FitsRow (row (kind.Number low high) spe
 limit low high NoMax h = refl
 limit low high (Most n) h = h
 
+-- a field that may be left out
+held_if : {V : Type 0} (P : V → Type 0) (made : V → Value) (k : Kind) (s : Special) (o : Option V) → ((x : V) → FitsRow (row k s) (made x) → P x)
+    → FitsRow (row k s) (or_special s made o) → IfSome o P
+held_if P made k s None f h = tt
+held_if P made k s (Some x) f h = f x h
+
 number_if : (s : Special) (low high : ℕ) (o : Option ℕ) → FitsRow (row (kind.Number low high) s) (or_special s value.Number o) → IfSome o (IsBetween low high)
-number_if s low high None h = tt
-number_if s low high (Some n) h = between low high n h
+number_if s low high o h = held_if (IsBetween low high) value.Number (kind.Number low high) s o (between low high) h
 
-text_if : (s : Special) (low high : ℕ) (o : Option (List ℕ)) → FitsRow (row (kind.Text low high) s) (or_special s value.Text o) → IfSome o (IsTextOf low high)
-text_if s low high None h = tt
-text_if s low high (Some t) h = text low high t h
-
-name_if : (s : Special) (o : Option (List ℕ)) → FitsRow (row kind.Name s) (or_special s value.Name o) → IfSome o IsName
-name_if s None h = tt
-name_if s (Some n) h = h
+text_if : (low high : ℕ) (o : Option (List ℕ)) → FitsRow (row (kind.Text low high) special.Jobd) (or_special special.Jobd value.Text o) → IfSome o (IsTextOf low high)
+text_if low high o h = held_if (IsTextOf low high) value.Text (kind.Text low high) special.Jobd o (text low high) h
 
 object_if : (s : Special) (o : Option QName) → FitsRow (row kind.Object s) (or_special s value.Object o) → IfSome o IsQName
-object_if s None h = tt
-object_if s (Some q) h = qualified q h
-
-date_if : (s : Special) (o : Option DateSpec) → FitsRow (row kind.Date s) (or_special s value.Date o) → IfSome o (λ x. IsTrue (date_in_range x))
-date_if s None h = tt
-date_if s (Some x) h = h
-
-time_if : (s : Special) (o : Option TimeSpec) → FitsRow (row kind.Time s) (or_special s value.Time o) → IfSome o (λ x. IsTrue (time_in_range x))
-time_if s None h = tt
-time_if s (Some x) h = h
+object_if s o h = held_if IsQName value.Object kind.Object s o qualified h
 
 -- the request of a job description
 request_text : (o : Option (List ℕ)) → FitsRow (row (kind.Text 0 1000) special.None) (or_special special.None value.Text o) → IfSome o IsText
@@ -173,12 +163,12 @@ machine_command (command.Endsbs c) h = let v = h.values in (v.0, number_if _ 1 9
 machine_command (command.Sbmjob c) h =
     let v = h.values in
     record {
-      rqsdta = text_if _ 0 1000 c.rqsdta v.0;
-      job = name_if _ c.job v.1.0;
+      rqsdta = text_if 0 1000 c.rqsdta v.0;
+      job = held_if IsName value.Name kind.Name special.Jobd c.job (λ n h. h) v.1.0;
       jobd = qualified c.jobd v.1.1.0;
       jobq = object_if _ c.jobq v.1.1.1.0;
       jobpty = number_if _ 1 9 c.jobpty v.1.1.1.1.0;
-      rtgdta = text_if _ 1 80 c.rtgdta v.1.1.1.1.1.0;
+      rtgdta = text_if 1 80 c.rtgdta v.1.1.1.1.1.0;
       scddate = v.1.1.1.1.1.1.1.0;
       scdtime = v.1.1.1.1.1.1.1.1.0;
     }
@@ -190,8 +180,8 @@ machine_command (command.Chgjob c) h =
       job = job c.job v.0;
       jobpty = number_if _ 1 9 c.jobpty v.1.0;
       jobq = object_if _ c.jobq v.1.1.0;
-      scddate = date_if _ c.scddate v.1.1.1.0;
-      scdtime = time_if _ c.scdtime v.1.1.1.1.0;
+      scddate = held_if (λ x. IsTrue (date_in_range x)) value.Date kind.Date special.Same c.scddate (λ x h. h) v.1.1.1.0;
+      scdtime = held_if (λ x. IsTrue (time_in_range x)) value.Time kind.Time special.Same c.scdtime (λ x h. h) v.1.1.1.1.0;
     }
 machine_command (command.Endjob c) h = let v = h.values in (job c.job v.0, between 1 999999 c.delay v.1.1.0)
 machine_command (command.Hldjobq c) h = qualified c.jobq h.values.0

@@ -3,7 +3,6 @@ mod CommandForms
 mod Digits
 mod FieldForms
 mod LawForms
-mod Lengths
 mod Plain
 mod PrintValues
 mod ReadBack

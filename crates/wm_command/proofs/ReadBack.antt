@@ -21,7 +21,6 @@ use Rattle.wm_law.specs.declared.command.Command.TheVariants as command
 use Rattle.wm_command.specs.declared.line.Line.TheVariants as line
 use Rattle.wm_command.specs.declared.fault.CmdFault.TheVariants.{Twice}
 use Rattle.wm_command.specs.declared.row.Row.{Row}
-use Rattle.wm_command.specs.declared.row.Special.{Special}
 use Rattle.wm_command.specs.declared.value.Value.{Value}
 use Rattle.wm_command.specs.declared.value.Value.TheVariants as value
 use Rattle.wm_command.specs.declared.value.Given.{Given}
@@ -39,13 +38,11 @@ use Rattle.wm_command.specs.Entries.{addjobqe_values, addrtge_values, addaje_val
 use Rattle.wm_command.specs.Control.{endsbs_values, strpj_values, endpj_values, evoke_values, pwrdwnsys_values}
 use Rattle.wm_command.specs.Jobs.{sbmjob_values, chgjob_values, endjob_values}
 use Rattle.wm_command.specs.Table.{row_key, change_rows, change_word}
-use Rattle.wm_command.specs.Values.{special_word, is_never}
 use Rattle.wm_command.specs.Written.{place_of, key_of, listed}
 use Rattle.wm_command.proofs.Back.{shown_back}
-use Rattle.wm_command.proofs.Lengths.{rows_room, given_short}
-use Rattle.wm_command.proofs.PrintValues.{given_tokens, bare_text, prints_bare, prints_given}
+use Rattle.wm_command.proofs.PrintValues.{rows_room, row_laws, given_tokens, bare_text, prints_bare, prints_given, given_short}
 use Rattle.wm_command.proofs.TableForms.{row_by_key, same_rows, false_of}
-use Rattle.wm_command.proofs.ReadValues.{value_tokens, is_sound, value_read, special_back}
+use Rattle.wm_command.proofs.ReadValues.{value_tokens, is_sound}
 
 -- what holds of each printed row of a table, behind keys that are given already
 
@@ -100,13 +97,10 @@ SameKeys (row ∷ rows) (g ∷ given) = (g.key ≡ row.key) × SameKeys rows giv
 same_first : (a b : Key) (x y : List Key) → ◌≡◌ {A = List Key} (a ∷ x) (b ∷ y) → (a ≡ b) × (x ≡ y)
 same_first a b x y e = (cc, cc)
 
-no_key : (a : Key) (x : List Key) → ◌≡◌ {A = List Key} [] (a ∷ x) → ⊥
-no_key a x e = cc
-
 keys_by : (rows : List Row) (given : List Given) → map given_key given ≡ map row_key rows → SameKeys rows given
 keys_by [] [] e = tt
-keys_by [] (g ∷ given) e = no_key g.key (map given_key given) (sym e)
-keys_by (row ∷ rows) [] e = no_key row.key (map row_key rows) e
+keys_by [] (g ∷ given) e = cc
+keys_by (row ∷ rows) [] e = cc
 keys_by (row ∷ rows) (g ∷ given) e =
     let h = same_first g.key row.key (map given_key given) (map row_key rows) e in (h.0, keys_by rows given h.1)
 
@@ -157,11 +151,6 @@ has_key (Keyed' span word shape row) key values e =
 
 -- the next item gives the key of a row its value
 
-row_read : (row : Row) (v : Value) (place : ℕ) (items : List Item) → is_sound row.kind row.special ≡ true → FitsRow row v → list_tokens items ≡ value_tokens v → row_value row.kind row.special place items ≡ Ok v
-row_read row (value.Special s) place items sound h e =
-    special_back row.kind row.special place items sound (subst (λ (x : Special). is_never x ≡ false) h.0 h.1) (e ∙ ap (λ x. Word (special_word x) ∷ []) h.0) ∙ ap (λ x. Ok (value.Special x)) (sym h.0)
-row_read row v place items sound h e = value_read row.kind row.special v place items sound h e
-
 next_read : (rows : List Row) (given : List Given) (item : Item) (row : Row) (g : Given) → g.key ≡ row.key → row_named (key_word row.key) rows ≡ Some row → is_given row.key given ≡ false
     → is_sound row.kind row.special ≡ true → FitsRow row g.value → item_tokens item ≡ given_tokens g → next_item rows given item ≡ Ok (given ++ g ∷ [])
 unfolding next_item
@@ -170,7 +159,7 @@ next_read rows given item row g k named new sound fits e =
     ap (keyed_by rows given item) (h.named ∙ ap (λ x. Some (key_word x)) k)
     ∙ ap (keyed given (place_of item) (listed item)) named
     ∙ ap (λ c. cond c (Err (Twice (place_of item))) (with_value given row.key (row_value row.kind row.special (place_of item) (listed item)))) new
-    ∙ ap (with_value given row.key) (row_read row g.value (place_of item) (listed item) sound fits h.behind)
+    ∙ ap (with_value given row.key) ((row_laws row g.value sound fits).back (place_of item) (listed item) h.behind)
     ∙ ap (λ x. Ok (given ++ record { key = x; value = g.value } ∷ [])) (sym k)
 
 -- all items, one after another
@@ -196,16 +185,13 @@ given_among k (g ∷ given) = ap (λ c. same_key g.key k || c) (given_among k gi
 keys_push : (given : List Given) (g : Given) (k : Key) → g.key ≡ k → map given_key (given ++ g ∷ []) ≡ map given_key given ++ k ∷ []
 keys_push given g k e = map-append given_key given (g ∷ []) ∙ ap (λ x. map given_key given ++ x ∷ []) e
 
-no_tokens : (g : Given) (given : List Given) → [] ≡ flat_map given_tokens (g ∷ given) → ⊥
-no_tokens g given e = cc
-
 items_read : (rows rest : List Row) (given todo : List Given) (items : List Item) → Ready rows (map given_key given) rest → SameKeys rest todo → FitRows rest todo
     → list_tokens items ≡ flat_map given_tokens todo → each (next_item rows) given items ≡ Ok (given ++ todo)
 items_read rows [] given [] items ready same fits e =
     ap (each (next_item rows) given) (no_items items e) ∙ ap Ok (sym (append-nil given))
 items_read rows [] given (g ∷ todo) items ready same fits e = absurd same
 items_read rows (row ∷ rest) given [] items ready same fits e = absurd same
-items_read rows (row ∷ rest) given (g ∷ todo) [] ready same fits e = absurd (no_tokens g todo e)
+items_read rows (row ∷ rest) given (g ∷ todo) [] ready same fits e = absurd (cc)
 items_read rows (row ∷ rest) given (g ∷ todo) (item ∷ items) ready same fits e =
     let c = cut_keyed item (key_word g.key) (value_tokens g.value) (value_texts g.value) (list_tokens items) (flat_map given_tokens todo) (values_are g.value) (sym (list_tokens-cons item items) ∙ e) in
     ap (λ r. go_on r (λ t. each (next_item rows) t items))

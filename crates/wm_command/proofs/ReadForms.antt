@@ -39,7 +39,7 @@ use Rattle.wm_command.specs.declared.value.Value.TheVariants as value
 use Rattle.wm_command.specs.Call.{call_value, called_text}
 use Rattle.wm_command.specs.Printed.{IsQualified, FitsJob, FitsKind}
 use Rattle.wm_command.specs.Reading.{row_value}
-use Rattle.wm_command.specs.Values.{kind_value, special_word, is_never, is_special, item_value, text_value, or_bad, one_value, compared, one_compared, two_compared, text_from, start_of, if_word}
+use Rattle.wm_command.specs.Values.{kind_value, special_word, is_never, is_special, item_value, text_value, or_bad, one_value, compared, one_compared, two_compared, text_from, start_of}
 use Rattle.wm_command.specs.Words.{before_slash, behind_slash, name_of, job_with, job_behind, job_of, by_user_of, full_of, simple_of, same, flag_of, ending_of, date_word, dates_with_words, date_word_of, day_of, date_with, date_of, second_of, kept_within, digits, number_of, time_of}
 use Rattle.wm_command.specs.Written.{text_of, is_word, is_bare}
 
@@ -225,8 +225,8 @@ kind_is key kind.Path s d item text v e =
     let h = cond_some (path_in_range text) (value.Text text) v e in subst (InRow (row_of key kind.Path s d)) h.1 h.0
 kind_is key (kind.Number low high) s d item text v e =
     mapped value.Number (number_of 1 9 low high text) v (InRow (row_of key (kind.Number low high) s d)) (number_is 1 9 low high text) e
-kind_is key kind.Flag s d item text v e = mapped value.Flag (if_word (is_bare item) (flag_of text)) v (InRow (row_of key kind.Flag s d)) (λ b h. tt) e
-kind_is key kind.Ending s d item text v e = mapped value.Ending (if_word (is_bare item) (ending_of text)) v (InRow (row_of key kind.Ending s d)) (λ o h. tt) e
+kind_is key kind.Flag s d item text v e = mapped value.Flag (flag_of (is_bare item) text) v (InRow (row_of key kind.Flag s d)) (λ b h. tt) e
+kind_is key kind.Ending s d item text v e = mapped value.Ending (ending_of (is_bare item) text) v (InRow (row_of key kind.Ending s d)) (λ o h. tt) e
 kind_is key kind.Job s d item text v e = mapped value.Job (job_of text) v (InRow (row_of key kind.Job s d)) (job_is text) e
 kind_is key kind.Compare s d item text v e = absurd (none_some v e)
 kind_is key kind.Date s d item text v e = mapped value.Date (date_of (is_bare item) text) v (InRow (row_of key kind.Date s d)) (date_is (is_bare item) text) e

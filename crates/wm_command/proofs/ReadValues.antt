@@ -1,8 +1,7 @@
--- The text that is printed of a value, read by the value's row, is that value.
+-- What the words and texts of printed values are read as.
 use Rattle.std.proofs.Common.{◌≡◌, ℕ, ◌/◌, ◌<◌, ◌≤◌, ◌++◌, ◌&&◌, drop, Bool, true, false, not, cond, nat_lt, nat_eq, List, [], ◌∷◌, zero, suc, Some, None, Ok, subst, sym, ◌∙◌, ap, refl, arith, codes, inl, inr}
 use Rattle.std.specs.Cmp.Lexicographic.{pointwise}
 use Rattle.std.specs.Fmt.{decimal}
-use Rattle.std.specs.Option.{option_map}
 use Rattle.std.proofs.lemmas.Bool.{and_parts, false≢true}
 use Rattle.std.proofs.lemmas.Bool.Decides.{nat_tests}
 use Rattle.std.proofs.lemmas.List.{append_assoc}
@@ -14,7 +13,7 @@ use Rattle.wm_base.specs.declared.job.JobName.{JobName}
 use Rattle.wm_base.specs.declared.qname.QName.{QName}
 use Rattle.wm_clwords.specs.declared.tree.Span.{Span}
 use Rattle.wm_clwords.specs.declared.tree.Item.{Item, Word as ItemWord, Quoted as ItemQuoted, List', Keyed'}
-use Rattle.wm_clwords.specs.Grammar.{Token, Word, Quoted, Key, Open}
+use Rattle.wm_clwords.specs.Grammar.{Token, Word, Quoted}
 use Rattle.wm_clwords.specs.Call.{IsReference, item_tokens, list_tokens, program_library}
 use Rattle.wm_clwords.specs.CallReading.{object_by, program_by, reference_of}
 use Rattle.wm_clwords.proofs.References.{object_all, program_all}
@@ -22,12 +21,8 @@ use Rattle.wm_clwords.proofs.Tokens.{cut_value, list_tokens-cons, one_item, one_
 use Rattle.wm_desc.specs.declared.entry.Cmp.{Cmp}
 use Rattle.wm_desc.specs.declared.entry.Cmp.TheVariants.{Any, Val}
 use Rattle.wm_when.specs.Schedule.{within, is_date}
-use Rattle.wm_when.specs.declared.schedule.DateSpec.{DateSpec}
 use Rattle.wm_when.specs.declared.schedule.DateSpec.TheVariants as date
-use Rattle.wm_when.specs.declared.schedule.TimeSpec.{TimeSpec}
 use Rattle.wm_when.specs.declared.schedule.TimeSpec.TheVariants as time
-use Rattle.wm_law.specs.declared.command.EndOption.{EndOption}
-use Rattle.wm_law.specs.declared.command.EndOption.TheVariants.{Cntrld, Immed}
 use Rattle.wm_law.specs.declared.command.JobRef.{JobRef}
 use Rattle.wm_law.specs.declared.command.JobRef.TheVariants.{Simple, ByUser, Full}
 use Rattle.wm_command.specs.declared.row.Kind.{Kind}
@@ -37,7 +32,7 @@ use Rattle.wm_command.specs.declared.row.Special.TheVariants as special
 use Rattle.wm_command.specs.declared.value.Value.{Value}
 use Rattle.wm_command.specs.declared.value.Value.TheVariants as value
 use Rattle.wm_command.specs.Print.{job_text, date_text, time_text, second_text}
-use Rattle.wm_command.specs.Printed.{IsQualified, FitsJob, FitsCompare, FitsKind}
+use Rattle.wm_command.specs.Printed.{IsQualified, FitsJob, FitsCompare}
 use Rattle.wm_command.specs.Reading.{row_value}
 use Rattle.wm_command.specs.Values.{kind_value, special_word, is_never, is_special, or_bad, compared, text_from}
 use Rattle.wm_command.specs.Values.{one_value as one_read}
@@ -71,67 +66,43 @@ is_sound k s = true
 
 -- items by their tokens
 
-word_same : (a b : List ℕ) (x y : List Token) → ◌≡◌ {A = List Token} (Word a ∷ x) (Word b ∷ y) → a ≡ b
-word_same a b x y e = cc
-
-quoted_same : (a b : List ℕ) (x y : List Token) → ◌≡◌ {A = List Token} (Quoted a ∷ x) (Quoted b ∷ y) → a ≡ b
-quoted_same a b x y e = cc
-
-quoted_word : (a b : List ℕ) (x y : List Token) → ◌≡◌ {A = List Token} (Quoted a ∷ x) (Word b ∷ y) → ⊥
-quoted_word a b x y e = cc
-
-open_word : (b : List ℕ) (x y : List Token) → ◌≡◌ {A = List Token} (Open ∷ x) (Word b ∷ y) → ⊥
-open_word b x y e = cc
-
-key_word_apart : (a b : List ℕ) (x y : List Token) → ◌≡◌ {A = List Token} (Key a ∷ x) (Word b ∷ y) → ⊥
-key_word_apart a b x y e = cc
-
-open_quoted : (b : List ℕ) (x y : List Token) → ◌≡◌ {A = List Token} (Open ∷ x) (Quoted b ∷ y) → ⊥
-open_quoted b x y e = cc
-
-key_quoted : (a b : List ℕ) (x y : List Token) → ◌≡◌ {A = List Token} (Key a ∷ x) (Quoted b ∷ y) → ⊥
-key_quoted a b x y e = cc
-
 by_word : (item : Item) (w : List ℕ) → item_tokens item ≡ Word w ∷ [] → (P : Item → Type 0) → ((span : Span) → P (ItemWord span w)) → P item
-by_word (ItemWord span text) w e P f = subst (λ (b : List ℕ). P (ItemWord span b)) (sym (word_same text w [] [] e)) (f span)
-by_word (ItemQuoted span text) w e P f = absurd (quoted_word text w [] [] e)
-by_word (List' span shape row) w e P f = absurd (open_word w _ [] e)
-by_word (Keyed' span key shape row) w e P f = absurd (key_word_apart key w _ [] e)
+by_word (ItemWord span text) w e P f = let same : text ≡ w = cc in subst (λ (b : List ℕ). P (ItemWord span b)) (sym same) (f span)
+by_word (ItemQuoted span text) w e P f = absurd (cc)
+by_word (List' span shape row) w e P f = absurd (cc)
+by_word (Keyed' span key shape row) w e P f = absurd (cc)
 
 by_quoted : (item : Item) (t : List ℕ) → item_tokens item ≡ Quoted t ∷ [] → (P : Item → Type 0) → ((span : Span) → P (ItemQuoted span t)) → P item
-by_quoted (ItemWord span text) t e P f = absurd (quoted_word t text [] [] (sym e))
-by_quoted (ItemQuoted span text) t e P f = subst (λ (b : List ℕ). P (ItemQuoted span b)) (sym (quoted_same text t [] [] e)) (f span)
-by_quoted (List' span shape row) t e P f = absurd (open_quoted t _ [] e)
-by_quoted (Keyed' span key shape row) t e P f = absurd (key_quoted key t _ [] e)
+by_quoted (ItemWord span text) t e P f = absurd (cc)
+by_quoted (ItemQuoted span text) t e P f = let same : text ≡ t = cc in subst (λ (b : List ℕ). P (ItemQuoted span b)) (sym same) (f span)
+by_quoted (List' span shape row) t e P f = absurd (cc)
+by_quoted (Keyed' span key shape row) t e P f = absurd (cc)
 
-word_only : (items : List Item) (w : List ℕ) → list_tokens items ≡ Word w ∷ [] → (P : List Item → Type 0) → ((span : Span) → P (ItemWord span w ∷ [])) → P items
+pub word_only : (items : List Item) (w : List ℕ) → list_tokens items ≡ Word w ∷ [] → (P : List Item → Type 0) → ((span : Span) → P (ItemWord span w ∷ [])) → P items
 word_only items w e P f =
     let o = one_value items (Word w) e in
     subst P (sym o.1) (by_word o.0 w (sym (one_item o.0) ∙ ap list_tokens (sym o.1) ∙ e) (λ i. P (i ∷ [])) f)
 
-quoted_only : (items : List Item) (t : List ℕ) → list_tokens items ≡ Quoted t ∷ [] → (P : List Item → Type 0) → ((span : Span) → P (ItemQuoted span t ∷ [])) → P items
+pub quoted_only : (items : List Item) (t : List ℕ) → list_tokens items ≡ Quoted t ∷ [] → (P : List Item → Type 0) → ((span : Span) → P (ItemQuoted span t ∷ [])) → P items
 quoted_only items t e P f =
     let o = one_value items (Quoted t) e in
     subst P (sym o.1) (by_quoted o.0 t (sym (one_item o.0) ∙ ap list_tokens (sym o.1) ∙ e) (λ i. P (i ∷ [])) f)
 
-nil_cons : (a : Token) (x : List Token) → ◌≡◌ {A = List Token} [] (a ∷ x) → ⊥
-nil_cons a x e = cc
-
 both_only : (items : List Item) (t w : List ℕ) → list_tokens items ≡ Quoted t ∷ Word w ∷ [] → (P : List Item → Type 0) → ((a b : Span) → P (ItemQuoted a t ∷ ItemWord b w ∷ [])) → P items
-both_only [] t w e P f = absurd (nil_cons (Quoted t) (Word w ∷ []) e)
+both_only [] t w e P f = absurd (cc)
 both_only (item ∷ items) t w e P f =
     let c = cut_value item (Quoted t) t (list_tokens items) (Word w ∷ []) refl (sym (list_tokens-cons item items) ∙ e) in
     by_quoted item t c.0 (λ i. P (i ∷ items)) (λ a. word_only items w c.1 (λ l. P (ItemQuoted a t ∷ l)) (λ b. f a b))
 
 -- no special word
 
-not_special : (s : Special) (span : Span) (w : List ℕ) → Plain w → is_special s (ItemWord span w) ≡ false
+pub not_special : (s : Special) (span : Span) (w : List ℕ) → Plain w → is_special s (ItemWord span w) ≡ false
 unfolding special_word
 not_special special.Never span w p = refl
 not_special s span w p = plain_no_star w (drop 1 (special_word s)) p
 
 -- words that are told apart from each special word
-abbrev is_own : List ℕ → Bool
+abbrev pub is_own : List ℕ → Bool
 is_own w =
     not (pointwise nat_eq w (codes "*NOMAX")) && not (pointwise nat_eq w (codes "*NONE")) && not (pointwise nat_eq w (codes "*JOBD"))
     && not (pointwise nat_eq w (codes "*SAME")) && not (pointwise nat_eq w (codes "*NOLIMIT")) && not (pointwise nat_eq w (codes "*SBSD"))
@@ -140,7 +111,7 @@ false_of : (b : Bool) → not b ≡ true → b ≡ false
 false_of false e = refl
 false_of true e = absurd (false≢true e)
 
-own_special : (s : Special) (span : Span) (w : List ℕ) → is_own w ≡ true → is_special s (ItemWord span w) ≡ false
+pub own_special : (s : Special) (span : Span) (w : List ℕ) → is_own w ≡ true → is_special s (ItemWord span w) ≡ false
 unfolding special_word
 own_special special.Never span w h = refl
 own_special special.Sbsd span w h = false_of (pointwise nat_eq w (codes "*SBSD")) (and_parts _ _ h).1
@@ -155,11 +126,11 @@ quoted_special special.Never span t = refl
 quoted_special s span t = refl
 
 -- a word that is a value of the kind, and no special word
-word_read : (k : Kind) (s : Special) (place : ℕ) (span : Span) (w : List ℕ) (v : Value) → is_special s (ItemWord span w) ≡ false → kind_value k (ItemWord span w) w ≡ Some v
+pub word_read : (k : Kind) (s : Special) (place : ℕ) (span : Span) (w : List ℕ) (v : Value) → is_special s (ItemWord span w) ≡ false → kind_value k (ItemWord span w) w ≡ Some v
     → one_read k s place (ItemWord span w ∷ []) ≡ Ok v
 word_read k s place span w v h e = ap (λ c. or_bad place (cond c (Some (value.Special s)) (kind_value k (ItemWord span w) w))) h ∙ ap (or_bad place) e
 
-quoted_read : (k : Kind) (s : Special) (place : ℕ) (span : Span) (t : List ℕ) (v : Value) → kind_value k (ItemQuoted span t) t ≡ Some v → one_read k s place (ItemQuoted span t ∷ []) ≡ Ok v
+pub quoted_read : (k : Kind) (s : Special) (place : ℕ) (span : Span) (t : List ℕ) (v : Value) → kind_value k (ItemQuoted span t) t ≡ Some v → one_read k s place (ItemQuoted span t ∷ []) ≡ Ok v
 quoted_read k s place span t v e = ap (λ c. or_bad place (cond c (Some (value.Special s)) (kind_value k (ItemQuoted span t) t))) (quoted_special s span t) ∙ ap (or_bad place) e
 
 special_read : (k : Kind) (s : Special) (place : ℕ) (span : Span) → is_never s ≡ false → one_read k s place (ItemWord span (special_word s) ∷ []) ≡ Ok (value.Special s)
@@ -168,7 +139,7 @@ special_read k special.Never place span n = absurd (false≢true (sym n))
 special_read k s place span n = refl
 
 -- names
-name_is : (name : List ℕ) → IsName name → name_of name ≡ Some name
+pub name_is : (name : List ℕ) → IsName name → name_of name ≡ Some name
 name_is name h = ap (λ c. cond c (Some name) None) h
 
 text_is : (q : QName) → qname_text q ≡ q.lib ++ 47 ∷ q.name
@@ -177,11 +148,11 @@ text_is q = append_assoc q.lib (47 ∷ []) q.name
 qualified : (library : List ℕ) (q : QName) → IsQualified q → IsReference library (Word (qname_text q)) q
 qualified library q h = inl (h.1, inr (h.0, refl))
 
-object_read : (span : Span) (q : QName) → IsQualified q → object_by (reference_of (ItemWord span (qname_text q))) ≡ Some q
+pub object_read : (span : Span) (q : QName) → IsQualified q → object_by (reference_of (ItemWord span (qname_text q))) ≡ Some q
 object_read span q h =
     object_all (ItemWord span (qname_text q)) (object_by (reference_of (ItemWord span (qname_text q)))) refl q (Word (qname_text q), refl, qualified (codes "QGPL") q h)
 
-program_read : (span : Span) (q : QName) → IsQualified q → program_by (reference_of (ItemWord span (qname_text q))) ≡ Some q
+pub program_read : (span : Span) (q : QName) → IsQualified q → program_by (reference_of (ItemWord span (qname_text q))) ≡ Some q
 program_read span q h =
     program_all (ItemWord span (qname_text q)) (program_by (reference_of (ItemWord span (qname_text q)))) refl q (Word (qname_text q), refl, qualified (program_library q.name) q h)
 
@@ -207,7 +178,7 @@ plain_job (Full j) h =
     (plain_join (zero_padded 6 j.number) (j.user ++ 47 ∷ j.name) (plain_digits (zero_padded 6 j.number) (padded_some 6 j.number small) (padded_digits 6 j.number small))
     (plain_join j.user j.name (plain_name j.user h.1) (plain_name j.name h.2)))
 
-job_read : (j : JobRef) → FitsJob j → job_of (job_text j) ≡ Some j
+pub job_read : (j : JobRef) → FitsJob j → job_of (job_text j) ≡ Some j
 unfolding job_of
 job_read (Simple name) h =
     ap_two job_with (before_none name (name_unslashed name h)) (behind_none name (name_unslashed name h)) ∙ ap simple_of (name_is name h)
@@ -263,64 +234,27 @@ plain_day n h =
     let top = date_small n h in
     plain_digits (zero_padded 8 n) (padded_some 8 n (omega arith)) (padded_digits 8 n (omega arith))
 
-day_read : (n : ℕ) → is_date n ≡ true → date_of true (zero_padded 8 n) ≡ Some (date.Day n)
+pub day_read : (n : ℕ) → is_date n ≡ true → date_of true (zero_padded 8 n) ≡ Some (date.Day n)
 unfolding date_of
 day_read n h =
     ap (date_with true (zero_padded 8 n)) (no_date_word (zero_padded 8 n) (plain_day n h))
     ∙ ap day_of (number_eight n (date_small n h)) ∙ ap (λ c. cond c (Some (date.Day n)) None) h
 
-abbrev IsWeekday : Special → ℕ → List ℕ → Type 0
-IsWeekday s n w = (place : ℕ) (span : Span) → one_read kind.Date s place (ItemWord span w ∷ []) ≡ Ok (value.Date (date.Weekday n))
-
-own_date : (s : Special) (w : List ℕ) (d : DateSpec) (place : ℕ) (span : Span) → is_own w ≡ true → date_of true w ≡ Some d → one_read kind.Date s place (ItemWord span w ∷ []) ≡ Ok (value.Date d)
-unfolding kind_value
-own_date s w d place span h e = word_read kind.Date s place span w (value.Date d) (own_special s span w h) (ap (option_map value.Date) e)
-
-date_read : (s : Special) (d : DateSpec) (place : ℕ) (span : Span) → FitsKind kind.Date (value.Date d) → one_read kind.Date s place (ItemWord span (date_text d) ∷ []) ≡ Ok (value.Date d)
-unfolding kind_value date_of
-date_read s date.Current place span h = own_date s (codes "*CURRENT") date.Current place span refl refl
-date_read s date.MonthStart place span h = own_date s (codes "*MONTHSTR") date.MonthStart place span refl refl
-date_read s date.MonthEnd place span h = own_date s (codes "*MONTHEND") date.MonthEnd place span refl refl
-date_read s (date.Weekday n) place span h =
-    by_weekday (IsWeekday s)
-    (λ p a. own_date s (codes "*MON") (date.Weekday 1) p a refl refl) (λ p a. own_date s (codes "*TUE") (date.Weekday 2) p a refl refl) (λ p a. own_date s (codes "*WED") (date.Weekday 3) p a refl refl)
-    (λ p a. own_date s (codes "*THU") (date.Weekday 4) p a refl refl) (λ p a. own_date s (codes "*FRI") (date.Weekday 5) p a refl refl) (λ p a. own_date s (codes "*SAT") (date.Weekday 6) p a refl refl)
-    (λ p a. own_date s (codes "*SUN") (date.Weekday 7) p a refl refl) n h place span
-date_read s (date.Day n) place span h =
-    word_read kind.Date s place span (zero_padded 8 n) (value.Date (date.Day n)) (not_special s span (zero_padded 8 n) (plain_day n h)) (ap (option_map value.Date) (day_read n h))
-
 -- times
-second_small : (n : ℕ) → nat_lt n 86400 ≡ true → n < 86400
+pub second_small : (n : ℕ) → nat_lt n 86400 ≡ true → n < 86400
 second_small n h = grind (arith, nat_tests)
 
 pub plain_second : (n : ℕ) → nat_lt n 86400 ≡ true → Plain (second_text n)
 plain_second n h = let small = second_small n h in plain_digits (second_text n) (six_some n small) (six_digits n small)
 
-at_read : (n : ℕ) → nat_lt n 86400 ≡ true → time_of true (second_text n) ≡ Some (time.At n)
+pub at_read : (n : ℕ) → nat_lt n 86400 ≡ true → time_of true (second_text n) ≡ Some (time.At n)
 unfolding time_of
 at_read n h =
     ap (λ c. cond c (Some time.Current) (second_of (number_of 6 6 0 999999 (second_text n)))) (plain_no_star (second_text n) (codes "CURRENT") (plain_second n h))
     ∙ second_back n (second_small n h)
 
-time_read : (s : Special) (t : TimeSpec) (place : ℕ) (span : Span) → FitsKind kind.Time (value.Time t) → one_read kind.Time s place (ItemWord span (time_text t) ∷ []) ≡ Ok (value.Time t)
-unfolding kind_value time_of
-time_read s time.Current place span h = word_read kind.Time s place span (codes "*CURRENT") (value.Time time.Current) (own_special s span (codes "*CURRENT") refl) refl
-time_read s (time.At n) place span h =
-    word_read kind.Time s place span (second_text n) (value.Time (time.At n)) (not_special s span (second_text n) (plain_second n h)) (ap (option_map value.Time) (at_read n h))
-
--- choices
-flag_read : (s : Special) (b : Bool) (place : ℕ) (span : Span) → one_read kind.Flag s place (ItemWord span (flag_text b) ∷ []) ≡ Ok (value.Flag b)
-unfolding kind_value
-flag_read s true place span = word_read kind.Flag s place span (codes "*YES") (value.Flag true) (own_special s span (codes "*YES") refl) refl
-flag_read s false place span = word_read kind.Flag s place span (codes "*NO") (value.Flag false) (own_special s span (codes "*NO") refl) refl
-
-ending_read : (s : Special) (e : EndOption) (place : ℕ) (span : Span) → one_read kind.Ending s place (ItemWord span (ending_text e) ∷ []) ≡ Ok (value.Ending e)
-unfolding kind_value
-ending_read s Cntrld place span = word_read kind.Ending s place span (codes "*CNTRLD") (value.Ending Cntrld) (own_special s span (codes "*CNTRLD") refl) refl
-ending_read s Immed place span = word_read kind.Ending s place span (codes "*IMMED") (value.Ending Immed) (own_special s span (codes "*IMMED") refl) refl
-
 -- compare values
-compare_read : (c : Cmp) (place : ℕ) (items : List Item) → FitsCompare c → list_tokens items ≡ value_tokens (value.Compare c) → compared place items ≡ Ok (value.Compare c)
+pub compare_read : (c : Cmp) (place : ℕ) (items : List Item) → FitsCompare c → list_tokens items ≡ value_tokens (value.Compare c) → compared place items ≡ Ok (value.Compare c)
 compare_read Any place items h e = word_only items (codes "*ANY") e (λ l. compared place l ≡ Ok (value.Compare Any)) (λ span. refl)
 compare_read (Val text start) place items h e =
     let small : 80 < 1000000000 = omega arith in
@@ -337,42 +271,8 @@ plain_decimal low high n sound h =
     let small = number_small low high n top h in
     plain_digits (decimal n) (decimal_some n small) (decimal_digits n small)
 
-number_read : (low high n : ℕ) → nat_lt high 1000000000 ≡ true → within low high n ≡ true → number_of 1 9 low high (decimal n) ≡ Some n
+pub number_read : (low high n : ℕ) → nat_lt high 1000000000 ≡ true → within low high n ≡ true → number_of 1 9 low high (decimal n) ≡ Some n
 number_read low high n sound h = let top : high < 1000000000 = grind (arith, nat_tests) in number_decimal low high n top h
-
-pub value_read : (k : Kind) (s : Special) (v : Value) (place : ℕ) (items : List Item) → is_sound k s ≡ true → FitsKind k v → list_tokens items ≡ value_tokens v → row_value k s place items ≡ Ok v
-unfolding kind_value
-value_read kind.Object s (value.Object q) place items sound h e =
-    word_only items (qname_text q) e (λ l. one_read kind.Object s place l ≡ Ok (value.Object q))
-    (λ span. word_read kind.Object s place span (qname_text q) (value.Object q) (not_special s span (qname_text q) (plain_qname q h)) (ap (option_map value.Object) (object_read span q h)))
-value_read kind.Program s (value.Object q) place items sound h e =
-    word_only items (qname_text q) e (λ l. one_read kind.Program s place l ≡ Ok (value.Object q))
-    (λ span. word_read kind.Program s place span (qname_text q) (value.Object q) (not_special s span (qname_text q) (plain_qname q h)) (ap (option_map value.Object) (program_read span q h)))
-value_read kind.Name s (value.Name n) place items sound h e =
-    word_only items n e (λ l. one_read kind.Name s place l ≡ Ok (value.Name n))
-    (λ span. word_read kind.Name s place span n (value.Name n) (not_special s span n (plain_name n h)) (ap (option_map value.Name) (name_is n h)))
-value_read (kind.Text low high) s (value.Text t) place items sound h e =
-    quoted_only items t e (λ l. one_read (kind.Text low high) s place l ≡ Ok (value.Text t))
-    (λ span. quoted_read (kind.Text low high) s place span t (value.Text t) (ap (λ c. cond c (Some (value.Text t)) None) h.1))
-value_read kind.Path s (value.Text t) place items sound h e =
-    quoted_only items t e (λ l. one_read kind.Path s place l ≡ Ok (value.Text t))
-    (λ span. quoted_read kind.Path s place span t (value.Text t) (ap (λ c. cond c (Some (value.Text t)) None) h.1))
-value_read (kind.Number low high) s (value.Number n) place items sound h e =
-    word_only items (decimal n) e (λ l. one_read (kind.Number low high) s place l ≡ Ok (value.Number n))
-    (λ span. word_read (kind.Number low high) s place span (decimal n) (value.Number n) (not_special s span (decimal n) (plain_decimal low high n sound h)) (ap (option_map value.Number) (number_read low high n sound h)))
-value_read kind.Flag s (value.Flag b) place items sound h e =
-    word_only items (flag_text b) e (λ l. one_read kind.Flag s place l ≡ Ok (value.Flag b)) (λ span. flag_read s b place span)
-value_read kind.Ending s (value.Ending o) place items sound h e =
-    word_only items (ending_text o) e (λ l. one_read kind.Ending s place l ≡ Ok (value.Ending o)) (λ span. ending_read s o place span)
-value_read kind.Job s (value.Job j) place items sound h e =
-    word_only items (job_text j) e (λ l. one_read kind.Job s place l ≡ Ok (value.Job j))
-    (λ span. word_read kind.Job s place span (job_text j) (value.Job j) (not_special s span (job_text j) (plain_job j h)) (ap (option_map value.Job) (job_read j h)))
-value_read kind.Compare s (value.Compare c) place items sound h e = compare_read c place items h e
-value_read kind.Date s (value.Date d) place items sound h e =
-    word_only items (date_text d) e (λ l. one_read kind.Date s place l ≡ Ok (value.Date d)) (λ span. date_read s d place span h)
-value_read kind.Time s (value.Time t) place items sound h e =
-    word_only items (time_text t) e (λ l. one_read kind.Time s place l ≡ Ok (value.Time t)) (λ span. time_read s t place span h)
-value_read k s v place items sound h e = absurd h
 
 -- the special word of a row
 never_sound : (b : Bool) → b ≡ true → b ≡ false → ⊥

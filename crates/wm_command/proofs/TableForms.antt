@@ -1,5 +1,5 @@
 -- What a command's keys have, given or by the table, has the forms and the ranges of the table.
-use Rattle.std.proofs.Common.{◌≡◌, ℕ, ◌++◌, ◌||◌, ◌&&◌, Bool, true, false, not, cond, List, [], ◌∷◌, length, map, find, Option, Some, None, Result, Ok, Err, codes, subst, sym, ◌∙◌, ap, refl}
+use Rattle.std.proofs.Common.{◌≡◌, ℕ, ◌++◌, ◌||◌, ◌&&◌, Bool, true, false, not, cond, List, [], ◌∷◌, length, map, find, Option, Some, None, Result, Ok, Err, subst, sym, ◌∙◌, ap, refl}
 use Rattle.std.specs.List.{list_all}
 use Rattle.std.specs.Option.{option_map}
 use Rattle.std.proofs.lemmas.Bool.{and_parts, false≢true}
@@ -8,11 +8,7 @@ use Rattle.wm_base.specs.Key.{key_word}
 use Rattle.wm_base.specs.Name.{is_name}
 use Rattle.wm_base.specs.declared.refusal.Key.{Key}
 use Rattle.wm_clwords.specs.declared.tree.Item.{Item}
-use Rattle.wm_desc.specs.Opening.{qbatch, qdftjobd}
 use Rattle.wm_when.specs.Schedule.{within, date_in_range, time_in_range}
-use Rattle.wm_when.specs.declared.schedule.DateSpec.TheVariants as date
-use Rattle.wm_when.specs.declared.schedule.TimeSpec.TheVariants as time
-use Rattle.wm_law.specs.declared.command.EndOption.TheVariants.{Cntrld}
 use Rattle.wm_command.specs.declared.fault.CmdFault.{CmdFault}
 use Rattle.wm_command.specs.declared.row.Default.{Default}
 use Rattle.wm_command.specs.declared.row.Default.TheVariants as default
@@ -29,7 +25,7 @@ use Rattle.wm_command.specs.Reading.{same_key, is_given, row_named, row_value, w
 use Rattle.wm_command.specs.Values.{is_never}
 use Rattle.wm_command.specs.Words.{same}
 use Rattle.wm_command.specs.Written.{place_of, key_of, listed}
-use Rattle.wm_command.proofs.ReadForms.{InKind, InRow, is_right_drop, row_of, none_some, some_same, err_ok, ok_same, value_is}
+use Rattle.wm_command.proofs.ReadForms.{InKind, InRow, may_lack, is_right_drop, row_of, none_some, some_same, err_ok, ok_same, value_is}
 
 -- each key has what its row takes
 abbrev AllIn : List Row → List Given → Type 0
@@ -61,30 +57,26 @@ of_kind kind.Date (value.Date d) h = h
 of_kind kind.Time (value.Time t) h = h
 of_kind k v h = absurd (false≢true h)
 
+-- what a row has for its default is of its kind, or none where it may lack a value
+abbrev is_right_answer : Kind → Default → Result Value CmdFault → Bool
+is_right_answer k d (Err e) = true
+is_right_answer k d (Ok value.Nothing) = may_lack d
+is_right_answer k d (Ok (value.Special s)) = false
+is_right_answer k d (Ok v) = is_of_kind k v
+
 -- a default has the form and the range of its row
-abbrev pub is_right_default : Default → Kind → Special → Bool
-is_right_default default.Required k s = true
-is_right_default default.Nothing k s = true
-is_right_default default.Special k s = not (is_never s)
-is_right_default (default.Number n) k s = is_of_kind k (value.Number n)
-is_right_default default.Yes k s = is_of_kind k (value.Flag true)
-is_right_default default.No k s = is_of_kind k (value.Flag false)
-is_right_default default.Cntrld k s = is_of_kind k (value.Ending Cntrld)
-is_right_default default.Qbatch k s = is_of_kind k (value.Object qbatch)
-is_right_default default.Qdftjobd k s = is_of_kind k (value.Object qdftjobd)
-is_right_default default.Qcmdi k s = is_of_kind k (value.Text (codes "QCMDI"))
-is_right_default default.Qcmdb k s = is_of_kind k (value.Text (codes "QCMDB"))
-is_right_default default.Today k s = is_of_kind k (value.Date date.Current)
-is_right_default default.Now k s = is_of_kind k (value.Time time.Current)
+abbrev pub is_right_default : Key → Kind → Special → Default → Bool
+is_right_default key k s default.Special = not (is_never s)
+is_right_default key k s d = is_right_answer k d (default_value d key s)
 
 -- a row drops what has no value, and its default is right
 abbrev pub is_right : Row → Bool
-is_right row = is_right_drop row.kind row.otherwise && is_right_default row.otherwise row.kind row.special
+is_right row = is_right_drop row.kind row.otherwise && is_right_default row.key row.kind row.special row.otherwise
 
 -- what the rows of a table keep to: each is found by its key, and is right
 abbrev pub RightRows : List Row → List Row → Type 0
 RightRows rows [] = Unit {0}
-RightRows rows (row ∷ rest) = (row_named (key_word row.key) rows ≡ Some row) × (is_right_drop row.kind row.otherwise ≡ true) × (is_right_default row.otherwise row.kind row.special ≡ true) × RightRows rows rest
+RightRows rows (row ∷ rest) = (row_named (key_word row.key) rows ≡ Some row) × (is_right_drop row.kind row.otherwise ≡ true) × (is_right_default row.key row.kind row.special row.otherwise ≡ true) × RightRows rows rest
 
 abbrev pub row_by_key : List Row → Row → Option Row
 row_by_key rows row = row_named (key_word row.key) rows
@@ -97,7 +89,7 @@ pub right_rows : (rows rest : List Row) → map (row_by_key rows) rest ≡ map S
 right_rows rows [] e h = tt
 right_rows rows (row ∷ rest) e h =
     let both = and_parts (is_right row) (list_all is_right rest) h in
-    let own = and_parts (is_right_drop row.kind row.otherwise) (is_right_default row.otherwise row.kind row.special) both.0 in
+    let own = and_parts (is_right_drop row.kind row.otherwise) (is_right_default row.key row.kind row.special row.otherwise) both.0 in
     let found = same_rows (row_by_key rows row) (Some row) (map (row_by_key rows) rest) (map Some rest) e in
     (found.0, own.0, own.1, right_rows rows rest found.1 both.1)
 
@@ -200,20 +192,15 @@ items_in rows out (item ∷ items) right e =
 
 -- what is completed
 
-default_in : (key : Key) (k : Kind) (s : Special) (d : Default) (v : Value) → is_right_default d k s ≡ true → default_value d key s ≡ Ok v → InRow (row_of key k s d) v
-default_in key k s default.Required v h e = absurd (err_ok _ v e)
-default_in key k s default.Nothing v h e = subst (InRow (row_of key k s default.Nothing)) (ok_same value.Nothing v e) refl
+answer_in : (row : Row) (r : Result Value CmdFault) (v : Value) → is_right_answer row.kind row.otherwise r ≡ true → r ≡ Ok v → InRow row v
+answer_in row (Err f) v h e = absurd (err_ok f v e)
+answer_in row (Ok value.Nothing) v h e = subst (InRow row) (ok_same value.Nothing v e) h
+answer_in row (Ok (value.Special s)) v h e = absurd (false≢true h)
+answer_in row (Ok w) v h e = subst (InRow row) (ok_same w v e) (of_kind row.kind w h)
+
+default_in : (key : Key) (k : Kind) (s : Special) (d : Default) (v : Value) → is_right_default key k s d ≡ true → default_value d key s ≡ Ok v → InRow (row_of key k s d) v
 default_in key k s default.Special v h e = subst (InRow (row_of key k s default.Special)) (ok_same (value.Special s) v e) (refl, false_of (is_never s) h)
-default_in key k s (default.Number n) v h e = subst (InRow (row_of key k s (default.Number n))) (ok_same (value.Number n) v e) (of_kind k (value.Number n) h)
-default_in key k s default.Yes v h e = subst (InRow (row_of key k s default.Yes)) (ok_same (value.Flag true) v e) (of_kind k (value.Flag true) h)
-default_in key k s default.No v h e = subst (InRow (row_of key k s default.No)) (ok_same (value.Flag false) v e) (of_kind k (value.Flag false) h)
-default_in key k s default.Cntrld v h e = subst (InRow (row_of key k s default.Cntrld)) (ok_same (value.Ending Cntrld) v e) (of_kind k (value.Ending Cntrld) h)
-default_in key k s default.Qbatch v h e = subst (InRow (row_of key k s default.Qbatch)) (ok_same (value.Object qbatch) v e) (of_kind k (value.Object qbatch) h)
-default_in key k s default.Qdftjobd v h e = subst (InRow (row_of key k s default.Qdftjobd)) (ok_same (value.Object qdftjobd) v e) (of_kind k (value.Object qdftjobd) h)
-default_in key k s default.Qcmdi v h e = subst (InRow (row_of key k s default.Qcmdi)) (ok_same (value.Text (codes "QCMDI")) v e) (of_kind k (value.Text (codes "QCMDI")) h)
-default_in key k s default.Qcmdb v h e = subst (InRow (row_of key k s default.Qcmdb)) (ok_same (value.Text (codes "QCMDB")) v e) (of_kind k (value.Text (codes "QCMDB")) h)
-default_in key k s default.Today v h e = subst (InRow (row_of key k s default.Today)) (ok_same (value.Date date.Current) v e) (of_kind k (value.Date date.Current) h)
-default_in key k s default.Now v h e = subst (InRow (row_of key k s default.Now)) (ok_same (value.Time time.Current) v e) (of_kind k (value.Time time.Current) h)
+default_in key k s d v h e = answer_in (row_of key k s d) (default_value d key s) v h e
 
 key_self : (k : Key) → same_key k k ≡ true
 unfolding same_key
@@ -240,7 +227,7 @@ record Completed (rows : List Row) (key : Key) (given out : List Given) : Type 0
   has : is_given key out ≡ true
   kept : (k : Key) → is_given k given ≡ true → is_given k out ≡ true
 
-complete_in : (rows : List Row) (row : Row) (given out : List Given) → row_named (key_word row.key) rows ≡ Some row → is_right_default row.otherwise row.kind row.special ≡ true → AllIn rows given → complete given row ≡ Ok out
+complete_in : (rows : List Row) (row : Row) (given out : List Given) → row_named (key_word row.key) rows ≡ Some row → is_right_default row.key row.kind row.special row.otherwise ≡ true → AllIn rows given → complete given row ≡ Ok out
     → Completed rows row.key given out
 unfolding complete
 complete_in rows row given out f fits all e = by_test (is_given row.key given) refl e

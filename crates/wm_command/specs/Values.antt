@@ -26,10 +26,6 @@ text_within low high text = if within low high (length text) then Some (value.Te
 abbrev pub path_of : List ℕ → Option Value
 path_of text = if path_in_range text then Some (value.Text text) else None
 
-abbrev pub if_word : {V : Type 0} → Bool → Option V → Option V
-if_word true found = found
-if_word false found = None
-
 -- what a word, or a text in apostrophes, with these characters is as a value of that kind
 unfoldable pub kind_value : Kind → Item → List ℕ → Option Value
 kind_value kind.Object item text = option_map value.Object (object_by (reference_of item))
@@ -38,8 +34,8 @@ kind_value kind.Name item text = option_map value.Name (name_of text)
 kind_value (kind.Text low high) item text = text_within low high text
 kind_value kind.Path item text = path_of text
 kind_value (kind.Number low high) item text = option_map value.Number (number_of 1 9 low high text)
-kind_value kind.Flag item text = option_map value.Flag (if_word (is_bare item) (flag_of text))
-kind_value kind.Ending item text = option_map value.Ending (if_word (is_bare item) (ending_of text))
+kind_value kind.Flag item text = option_map value.Flag (flag_of (is_bare item) text)
+kind_value kind.Ending item text = option_map value.Ending (ending_of (is_bare item) text)
 kind_value kind.Job item text = option_map value.Job (job_of text)
 kind_value kind.Compare item text = None
 kind_value kind.Date item text = option_map value.Date (date_of (is_bare item) text)

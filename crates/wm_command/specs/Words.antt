@@ -91,15 +91,17 @@ abbrev pub flag_text : Bool → List ℕ
 flag_text true = codes "*YES"
 flag_text false = codes "*NO"
 
-abbrev pub flag_of : List ℕ → Option Bool
-flag_of text = find (λ flag. same text (flag_text flag)) (true ∷ false ∷ [])
+-- a word, but not in apostrophes
+abbrev pub flag_of : Bool → List ℕ → Option Bool
+flag_of is_word text = find (λ flag. is_word && same text (flag_text flag)) (true ∷ false ∷ [])
 
 abbrev pub ending_text : EndOption → List ℕ
 ending_text Cntrld = codes "*CNTRLD"
 ending_text Immed = codes "*IMMED"
 
-abbrev pub ending_of : List ℕ → Option EndOption
-ending_of text = find (λ ending. same text (ending_text ending)) (Cntrld ∷ Immed ∷ [])
+-- a word, but not in apostrophes
+abbrev pub ending_of : Bool → List ℕ → Option EndOption
+ending_of is_word text = find (λ ending. is_word && same text (ending_text ending)) (Cntrld ∷ Immed ∷ [])
 
 -- Monday is 1
 abbrev pub weekday_text : ℕ → List ℕ

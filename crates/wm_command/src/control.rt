@@ -5,16 +5,35 @@ ghost use Rattle.wm_command.specs.Shown.{values_of, verb_of};
 ghost use Rattle.wm_command.specs.Table.{family_of};
 ghost use Rattle.wm_command.specs.declared.verb.Family.TheVariants as family;
 
+use crate::family::{given, held, made, shown, shown_as};
 use crate::fields::{maybe, word_or};
 use crate::row::Special;
-use crate::value::{Given, Value, Values, gathered, given};
+use crate::value::{Given, Value, Values, gathered};
 use crate::verb::ChangeVerb;
 use std::alloc::Global;
 use wm_base::{Key, NoMemory};
 use wm_law::{
-    Clrjobq, Command, Endpj, Endsbs, Enduse, EvokeCommand, Hldjobq, Pwrdwnsys, Rlsjobq, Strpj,
-    Strsbs,
+    Clrjobq, Command, Endpj, Endsbs, Enduse, EvokeCommand as Evoke, Hldjobq, Pwrdwnsys, Rlsjobq,
+    Strpj, Strsbs,
 };
+
+/// The fields of each command, in the order of the table.
+macro_rules! controls {
+    ($write:ident $given:tt $more:tt) => {
+        $write! { $given $more
+            Strsbs []: sbsd = object Sbsd;
+            Endsbs []: sbs = name Sbs, option = ending Option, delay = number Delay Nolimit;
+            Hldjobq []: jobq = object Jobq;
+            Rlsjobq []: jobq = object Jobq;
+            Clrjobq []: jobq = object Jobq;
+            Strpj []: sbs = name Sbs, pgm = object Pgm;
+            Endpj []: sbs = name Sbs, pgm = object Pgm, option = ending Option, delay = number Delay Nolimit;
+            Evoke []: sbs = name Sbs, pgm = object Pgm;
+            Enduse []: job = job Job;
+            Pwrdwnsys []: option = ending Option, delay = number Delay Nolimit;
+        }
+    };
+}
 
 /// The command with these values. An `Err` is want of memory.
 #[tactic(auto, unfolding(crate::specs::Control::endsbs, crate::specs::Control::strpj, crate::specs::Control::endpj, crate::specs::Control::evoke, crate::specs::Control::pwrdwnsys))]
@@ -22,47 +41,7 @@ pub fn control_made(verb: ChangeVerb, values: &Values) -> Result<Command, NoMemo
     requires { family_of verb ≡ family.Control }
     ensures { IfOk result (λ c. c ≡ change_made verb values.now) }
 {
-    match verb {
-        ChangeVerb::Strsbs => Ok(Command::Strsbs(Strsbs {
-            sbsd: values.object(Key::Sbsd),
-        })),
-        ChangeVerb::Endsbs => Ok(Command::Endsbs(Endsbs {
-            sbs: values.name(Key::Sbs),
-            option: values.ending(Key::Option),
-            delay: maybe(values.is_word(Key::Delay), values.number(Key::Delay)),
-        })),
-        ChangeVerb::Hldjobq => Ok(Command::Hldjobq(Hldjobq {
-            jobq: values.object(Key::Jobq),
-        })),
-        ChangeVerb::Rlsjobq => Ok(Command::Rlsjobq(Rlsjobq {
-            jobq: values.object(Key::Jobq),
-        })),
-        ChangeVerb::Clrjobq => Ok(Command::Clrjobq(Clrjobq {
-            jobq: values.object(Key::Jobq),
-        })),
-        ChangeVerb::Strpj => Ok(Command::Strpj(Strpj {
-            sbs: values.name(Key::Sbs),
-            pgm: values.object(Key::Pgm),
-        })),
-        ChangeVerb::Endpj => Ok(Command::Endpj(Endpj {
-            sbs: values.name(Key::Sbs),
-            pgm: values.object(Key::Pgm),
-            option: values.ending(Key::Option),
-            delay: maybe(values.is_word(Key::Delay), values.number(Key::Delay)),
-        })),
-        ChangeVerb::Evoke => Ok(Command::Evoke(EvokeCommand {
-            sbs: values.name(Key::Sbs),
-            pgm: values.object(Key::Pgm),
-        })),
-        ChangeVerb::Enduse => Ok(Command::Enduse(Enduse {
-            job: values.job(Key::Job),
-        })),
-        ChangeVerb::Pwrdwnsys => Ok(Command::Pwrdwnsys(Pwrdwnsys {
-            option: values.ending(Key::Option),
-            delay: maybe(values.is_word(Key::Delay), values.number(Key::Delay)),
-        })),
-        _ => unreachable!(),
-    }
+    controls!(made (verb, values) {})
 }
 
 /// All keys with their values. An `Err` is want of memory.
@@ -71,35 +50,5 @@ pub fn control_values(alloc: Global, command: &Command) -> Result<Vec<Given>, No
     requires { family_of (verb_of command.now) ≡ family.Control }
     ensures { IfOk result (λ v. v.items ≡ values_of command.now) }
 {
-    match command {
-        Command::Strsbs(c) => given![alloc; Sbsd: Value::Object(c.sbsd)],
-        Command::Endsbs(c) => given![alloc;
-            Sbs: Value::Name(c.sbs),
-            Option: Value::Ending(c.option),
-            Delay: word_or(Special::Nolimit, c.delay.map(Value::Number)),
-        ],
-        Command::Hldjobq(c) => given![alloc; Jobq: Value::Object(c.jobq)],
-        Command::Rlsjobq(c) => given![alloc; Jobq: Value::Object(c.jobq)],
-        Command::Clrjobq(c) => given![alloc; Jobq: Value::Object(c.jobq)],
-        Command::Strpj(c) => given![alloc;
-            Sbs: Value::Name(c.sbs),
-            Pgm: Value::Object(c.pgm),
-        ],
-        Command::Endpj(c) => given![alloc;
-            Sbs: Value::Name(c.sbs),
-            Pgm: Value::Object(c.pgm),
-            Option: Value::Ending(c.option),
-            Delay: word_or(Special::Nolimit, c.delay.map(Value::Number)),
-        ],
-        Command::Evoke(c) => given![alloc;
-            Sbs: Value::Name(c.sbs),
-            Pgm: Value::Object(c.pgm),
-        ],
-        Command::Enduse(c) => given![alloc; Job: Value::Job(c.job)],
-        Command::Pwrdwnsys(c) => given![alloc;
-            Option: Value::Ending(c.option),
-            Delay: word_or(Special::Nolimit, c.delay.map(Value::Number)),
-        ],
-        _ => unreachable!(),
-    }
+    controls!(shown (alloc, command) {})
 }

@@ -5,12 +5,31 @@ ghost use Rattle.wm_command.specs.Shown.{values_of, verb_of};
 ghost use Rattle.wm_command.specs.Table.{family_of};
 ghost use Rattle.wm_command.specs.declared.verb.Family.TheVariants as family;
 
+use crate::family::{cloned, given, held, made, shown, shown_as};
 use crate::fields::limit_value;
-use crate::value::{Given, Value, Values, gathered, given};
+use crate::value::{Given, Value, Values, gathered};
 use crate::verb::ChangeVerb;
 use std::alloc::Global;
 use wm_base::{Key, NoMemory};
 use wm_law::{Addaje, Addjobqe, Addpje, Addrtge, Command, Rmvaje, Rmvjobqe, Rmvpje, Rmvrtge};
+
+/// The fields of each command, in the order of the table.
+macro_rules! entries {
+    ($write:ident $given:tt $more:tt) => {
+        $write! { $given $more
+            Addrtge [cmpval]: sbsd = object Sbsd, seqnbr = number Seqnbr, cmpval = compare Cmpval, pgm = object Pgm,
+                cls = class Cls, maxact = limit Maxact, poolid = number Poolid;
+            Addaje []: sbsd = object Sbsd, job = name Job, jobd = object Jobd;
+            Addpje []: sbsd = object Sbsd, pgm = object Pgm, strjobs = flag Strjobs, inljobs = number Inljobs,
+                threshold = number Threshold, adljobs = number Adljobs, maxjobs = limit Maxjobs,
+                maxuse = limit Maxuse, wait = flag Wait, cls = class Cls, poolid = number Poolid;
+            Rmvjobqe []: sbsd = object Sbsd, jobq = object Jobq;
+            Rmvrtge []: sbsd = object Sbsd, seqnbr = number Seqnbr;
+            Rmvaje []: sbsd = object Sbsd, job = name Job;
+            Rmvpje []: sbsd = object Sbsd, pgm = object Pgm;
+        }
+    };
+}
 
 /// The command with these values. An `Err` is want of memory.
 #[tactic(auto, unfolding(crate::specs::Entries::addjobqe, crate::specs::Entries::addrtge, crate::specs::Entries::addaje, crate::specs::Entries::addpje, crate::specs::Entries::rmvjobqe, crate::specs::Entries::rmvrtge, crate::specs::Entries::rmvaje, crate::specs::Entries::rmvpje))]
@@ -18,7 +37,7 @@ pub fn entry_made(verb: ChangeVerb, values: &Values) -> Result<Command, NoMemory
     requires { family_of verb ≡ family.Entries }
     ensures { IfOk result (λ c. c ≡ change_made verb values.now) }
 {
-    match verb {
+    entries!(made (verb, values) {
         ChangeVerb::Addjobqe => Ok(Command::Addjobqe(Addjobqe {
             sbsd: values.object(Key::Sbsd),
             jobq: values.object(Key::Jobq),
@@ -26,51 +45,7 @@ pub fn entry_made(verb: ChangeVerb, values: &Values) -> Result<Command, NoMemory
             seqnbr: values.number(Key::Seqnbr),
             maxpty: values.maxpty(),
         })),
-        ChangeVerb::Addrtge => Ok(Command::Addrtge(Addrtge {
-            sbsd: values.object(Key::Sbsd),
-            seqnbr: values.number(Key::Seqnbr),
-            cmpval: values.compare(Key::Cmpval)?,
-            pgm: values.object(Key::Pgm),
-            cls: values.class(Key::Cls),
-            maxact: values.limit(Key::Maxact),
-            poolid: values.number(Key::Poolid),
-        })),
-        ChangeVerb::Addaje => Ok(Command::Addaje(Addaje {
-            sbsd: values.object(Key::Sbsd),
-            job: values.name(Key::Job),
-            jobd: values.object(Key::Jobd),
-        })),
-        ChangeVerb::Addpje => Ok(Command::Addpje(Addpje {
-            sbsd: values.object(Key::Sbsd),
-            pgm: values.object(Key::Pgm),
-            strjobs: values.flag(Key::Strjobs),
-            inljobs: values.number(Key::Inljobs),
-            threshold: values.number(Key::Threshold),
-            adljobs: values.number(Key::Adljobs),
-            maxjobs: values.limit(Key::Maxjobs),
-            maxuse: values.limit(Key::Maxuse),
-            wait: values.flag(Key::Wait),
-            cls: values.class(Key::Cls),
-            poolid: values.number(Key::Poolid),
-        })),
-        ChangeVerb::Rmvjobqe => Ok(Command::Rmvjobqe(Rmvjobqe {
-            sbsd: values.object(Key::Sbsd),
-            jobq: values.object(Key::Jobq),
-        })),
-        ChangeVerb::Rmvrtge => Ok(Command::Rmvrtge(Rmvrtge {
-            sbsd: values.object(Key::Sbsd),
-            seqnbr: values.number(Key::Seqnbr),
-        })),
-        ChangeVerb::Rmvaje => Ok(Command::Rmvaje(Rmvaje {
-            sbsd: values.object(Key::Sbsd),
-            job: values.name(Key::Job),
-        })),
-        ChangeVerb::Rmvpje => Ok(Command::Rmvpje(Rmvpje {
-            sbsd: values.object(Key::Sbsd),
-            pgm: values.object(Key::Pgm),
-        })),
-        _ => unreachable!(),
-    }
+    })
 }
 
 /// All keys with their values. An `Err` is want of memory.
@@ -79,68 +54,24 @@ pub fn entry_values(alloc: Global, command: &Command) -> Result<Vec<Given>, NoMe
     requires { family_of (verb_of command.now) ≡ family.Entries }
     ensures { IfOk result (λ v. v.items ≡ values_of command.now) }
 {
-    match command {
-        Command::Addjobqe(c) => given![alloc;
-            Sbsd: Value::Object(c.sbsd),
-            Jobq: Value::Object(c.jobq),
-            Maxact: limit_value(c.maxact),
-            Seqnbr: Value::Number(c.seqnbr),
-            Maxpty1: limit_value(c.maxpty[0]),
-            Maxpty2: limit_value(c.maxpty[1]),
-            Maxpty3: limit_value(c.maxpty[2]),
-            Maxpty4: limit_value(c.maxpty[3]),
-            Maxpty5: limit_value(c.maxpty[4]),
-            Maxpty6: limit_value(c.maxpty[5]),
-            Maxpty7: limit_value(c.maxpty[6]),
-            Maxpty8: limit_value(c.maxpty[7]),
-            Maxpty9: limit_value(c.maxpty[8]),
-        ],
-        Command::Addrtge(c) => {
-            let cmpval = Value::Compare(c.cmpval.clone()?);
-            given![alloc;
-                Sbsd: Value::Object(c.sbsd),
-                Seqnbr: Value::Number(c.seqnbr),
-                Cmpval: cmpval,
-                Pgm: Value::Object(c.pgm),
-                Cls: Value::Object(c.cls),
-                Maxact: limit_value(c.maxact),
-                Poolid: Value::Number(c.poolid),
-            ]
-        }
-        Command::Addaje(c) => given![alloc;
-            Sbsd: Value::Object(c.sbsd),
-            Job: Value::Name(c.job),
-            Jobd: Value::Object(c.jobd),
-        ],
-        Command::Addpje(c) => given![alloc;
-            Sbsd: Value::Object(c.sbsd),
-            Pgm: Value::Object(c.pgm),
-            Strjobs: Value::Flag(c.strjobs),
-            Inljobs: Value::Number(c.inljobs),
-            Threshold: Value::Number(c.threshold),
-            Adljobs: Value::Number(c.adljobs),
-            Maxjobs: limit_value(c.maxjobs),
-            Maxuse: limit_value(c.maxuse),
-            Wait: Value::Flag(c.wait),
-            Cls: Value::Object(c.cls),
-            Poolid: Value::Number(c.poolid),
-        ],
-        Command::Rmvjobqe(c) => given![alloc;
-            Sbsd: Value::Object(c.sbsd),
-            Jobq: Value::Object(c.jobq),
-        ],
-        Command::Rmvrtge(c) => given![alloc;
-            Sbsd: Value::Object(c.sbsd),
-            Seqnbr: Value::Number(c.seqnbr),
-        ],
-        Command::Rmvaje(c) => given![alloc;
-            Sbsd: Value::Object(c.sbsd),
-            Job: Value::Name(c.job),
-        ],
-        Command::Rmvpje(c) => given![alloc;
-            Sbsd: Value::Object(c.sbsd),
-            Pgm: Value::Object(c.pgm),
-        ],
-        _ => unreachable!(),
-    }
+    entries!(shown (alloc, command) {
+        Command::Addjobqe(c) => gathered(
+            alloc,
+            [
+                given!(c sbsd object Sbsd),
+                given!(c jobq object Jobq),
+                given!(c maxact limit Maxact),
+                given!(c seqnbr number Seqnbr),
+                Given { key: Key::Maxpty1, value: limit_value(c.maxpty[0]) },
+                Given { key: Key::Maxpty2, value: limit_value(c.maxpty[1]) },
+                Given { key: Key::Maxpty3, value: limit_value(c.maxpty[2]) },
+                Given { key: Key::Maxpty4, value: limit_value(c.maxpty[3]) },
+                Given { key: Key::Maxpty5, value: limit_value(c.maxpty[4]) },
+                Given { key: Key::Maxpty6, value: limit_value(c.maxpty[5]) },
+                Given { key: Key::Maxpty7, value: limit_value(c.maxpty[6]) },
+                Given { key: Key::Maxpty8, value: limit_value(c.maxpty[7]) },
+                Given { key: Key::Maxpty9, value: limit_value(c.maxpty[8]) },
+            ],
+        ),
+    })
 }

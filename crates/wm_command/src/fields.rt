@@ -32,10 +32,7 @@ pub fn limit_value(limit: Limit) -> Value
 pub fn word_or(special: Special, value: Option<Value>) -> Value
     ensures { result ≡ word_or special value }
 {
-    match value {
-        None => Value::Special(special),
-        Some(value) => value,
-    }
+    value.unwrap_or(Value::Special(special))
 }
 
 /// The same of a text. An `Err` is want of memory.
@@ -208,10 +205,7 @@ impl Values {
     pub fn lacks(&self, key: Key) -> bool
         ensures { result ≡ lacks key self.now }
     {
-        match self.value_of(key) {
-            None => true,
-            Some(value) => matches!(value, Value::Nothing),
-        }
+        matches!(self.value_of(key), None | Some(Value::Nothing))
     }
 
     /// *SBSD is the class with the description's name.
@@ -255,17 +249,13 @@ impl Values {
     }
 
     /// The text of CMD's CALL, or RQSDTA. An `Err` is want of memory.
-    #[tactic(auto, unfolding(crate::specs::Fields::request_in))]
+    #[tactic(auto, unfolding(crate::specs::Fields::request_in, crate::specs::Fields::is_word_in, crate::specs::Fields::text_in))]
     pub fn request(&self) -> Result<Option<Text>, NoMemory>
         ensures { IfOk result (λ text. text ≡ request_in self.now) }
     {
         if let Some(Value::Text(text)) = self.value_of(Key::Cmd) {
             return Ok(Some(text.clone()?));
         }
-        match self.value_of(Key::Rqsdta) {
-            Some(Value::Special(_)) => Ok(None),
-            Some(Value::Text(text)) => Ok(Some(text.clone()?)),
-            _ => Ok(Some(Text::new(self.allocator()))),
-        }
+        Ok(self.maybe_text(Key::Rqsdta)?)
     }
 }

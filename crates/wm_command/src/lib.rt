@@ -15,6 +15,7 @@ mod call;
 mod commands;
 mod control;
 mod entries;
+mod family;
 mod fault;
 mod fields;
 mod from_tree;

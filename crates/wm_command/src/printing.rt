@@ -51,28 +51,15 @@ fn push_two(alloc: Global, out: &mut Text, n: u32) -> Result<(), NoMemory>
 }
 
 #[tactic(auto, using(crate::proofs::Texts::padded))]
-fn push_eight(alloc: Global, out: &mut Text, n: u32) -> Result<(), NoMemory>
-    ensures { OnOk result (out.new ≡ out.old ++ zero_padded 8 n) }
-{
-    let digits = format!(in alloc; "{n:08}")?;
-    out.push_bytes(digits.as_bytes())?;
-    Ok(())
-}
-
-#[tactic(auto, using(crate::proofs::Texts::padded))]
 fn push_job(alloc: Global, out: &mut Text, job: &JobRef) -> Result<(), NoMemory>
     ensures { OnOk result (out.new ≡ out.old ++ job_text job.now) }
 {
     match job {
-        JobRef::Simple(name) => {
-            push_name(out, name)?;
-            Ok(())
-        }
+        JobRef::Simple(name) => push_name(out, name)?,
         JobRef::ByUser(user, name) => {
             push_name(out, user)?;
             out.push_bytes(b"/")?;
             push_name(out, name)?;
-            Ok(())
         }
         JobRef::Full(job) => {
             let number = format!(in alloc; "{:06}", job.number.get())?;
@@ -81,58 +68,51 @@ fn push_job(alloc: Global, out: &mut Text, job: &JobRef) -> Result<(), NoMemory>
             push_name(out, &job.user)?;
             out.push_bytes(b"/")?;
             push_name(out, &job.name)?;
-            Ok(())
         }
     }
+    Ok(())
 }
 
 fn push_cmp(alloc: Global, out: &mut Text, cmp: &Cmp) -> Result<(), NoMemory>
     ensures { OnOk result (out.new ≡ out.old ++ cmp_text cmp.now) }
 {
     match cmp {
-        Cmp::Any => {
-            out.push_bytes(b"*ANY")?;
-            Ok(())
-        }
+        Cmp::Any => out.push_bytes(b"*ANY")?,
         Cmp::Val { value, start } => {
             push_quoted(out, value)?;
             out.push_bytes(b" ")?;
             push_number(alloc, out, *start)?;
-            Ok(())
         }
     }
+    Ok(())
 }
 
-fn push_date(alloc: Global, out: &mut Text, date: &DateSpec) -> Result<(), NoMemory>
-    ensures { OnOk result (out.new ≡ out.old ++ date_text date.now) }
+#[tactic(auto, using(crate::proofs::Texts::padded))]
+fn push_date(alloc: Global, out: &mut Text, date: DateSpec) -> Result<(), NoMemory>
+    ensures { OnOk result (out.new ≡ out.old ++ date_text date) }
 {
     match date {
         DateSpec::Day(day) => {
-            push_eight(alloc, out, *day)?;
-            Ok(())
+            let digits = format!(in alloc; "{day:08}")?;
+            out.push_bytes(digits.as_bytes())?;
         }
-        word => {
-            push_word(out, date_word(*word))?;
-            Ok(())
-        }
+        word => push_word(out, date_word(word))?,
     }
+    Ok(())
 }
 
 fn push_time(alloc: Global, out: &mut Text, time: &TimeSpec) -> Result<(), NoMemory>
     ensures { OnOk result (out.new ≡ out.old ++ time_text time.now) }
 {
     match time {
-        TimeSpec::Current => {
-            out.push_bytes(b"*CURRENT")?;
-            Ok(())
-        }
+        TimeSpec::Current => out.push_bytes(b"*CURRENT")?,
         TimeSpec::At(n) => {
             push_two(alloc, out, *n / 3600)?;
             push_two(alloc, out, *n / 60 % 60)?;
             push_two(alloc, out, *n % 60)?;
-            Ok(())
         }
     }
+    Ok(())
 }
 
 #[tactic(auto, using(crate::proofs::Texts::texts), unfolding(crate::specs::Print::value_text))]
@@ -150,7 +130,7 @@ fn push_value(alloc: Global, out: &mut Text, value: &Value) -> Result<(), NoMemo
         Value::Ending(ending) => push_word(out, ending_word(*ending))?,
         Value::Job(job) => push_job(alloc, out, job)?,
         Value::Compare(cmp) => push_cmp(alloc, out, cmp)?,
-        Value::Date(date) => push_date(alloc, out, date)?,
+        Value::Date(date) => push_date(alloc, out, *date)?,
         Value::Time(time) => push_time(alloc, out, time)?,
     }
     Ok(())

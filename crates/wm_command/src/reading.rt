@@ -54,7 +54,7 @@ fn row_value(alloc: Global, row: &Row, place: u32, items: &[Item]) -> Result<Val
         Kind::Compare => compared(place, items),
         Kind::Call => call_value(alloc, place, items),
         Kind::Anything => Ok(Value::Nothing),
-        kind => one_value(kind, row.special, place, items),
+        _ => one_value(row, place, items),
     }
 }
 

@@ -90,12 +90,3 @@ pub fn gathered<T: Drop, const N: usize>(alloc: Global, items: [T; N]) -> Result
 {
     Ok(Vec::from_array(alloc, items)?)
 }
-
-/// Keys with their values, each as `Key: value`. An `Err` is want of memory.
-macro_rules! given {
-    [$alloc:expr; $($key:ident: $value:expr),+ $(,)?] => {
-        gathered($alloc, [$(Given { key: Key::$key, value: $value }),+])
-    };
-}
-
-pub(crate) use given;

@@ -2,10 +2,11 @@
 ghost use Rattle.std.specs.Prelude.{◌≡◌, ◌≢◌, IfOk, IfErr, Ok, Err, Some, None, if◌then◌else◌};
 ghost use Rattle.std.specs.Option.{option_copied};
 ghost use Rattle.wm_command.specs.declared.value.Value.TheVariants as value;
-ghost use Rattle.wm_command.specs.Values.{if_word, kind_value, text_value, item_value, text_from, start_of, one_compared, two_compared, one_value, compared};
+ghost use Rattle.wm_command.specs.Table.{row_kind, row_special};
+ghost use Rattle.wm_command.specs.Values.{kind_value, text_value, item_value, text_from, start_of, one_value, compared};
 
 use crate::fault::CmdFault;
-use crate::row::{Kind, Special};
+use crate::row::{Kind, Row, Special};
 use crate::value::Value;
 use crate::words::{date_of, ending_of, flag_of, job_of, name_of, number_of, time_of, within};
 use crate::written::{is_bare, is_word, text_of};
@@ -23,12 +24,6 @@ fn text_if(is_in_range: bool, text: &Text) -> Result<Option<Value>, NoMemory>
     }
 }
 
-fn if_word<V: Drop>(is_word: bool, found: Option<V>) -> Option<V>
-    ensures { result ≡ if_word is_word found }
-{
-    if is_word { found } else { None }
-}
-
 /// What a word, or a text in apostrophes, with these characters is as a value of that kind.
 #[tactic(auto, unfolding(crate::specs::Values::kind_value))]
 fn kind_value(kind: Kind, item: &Item, text: &Text) -> Result<Option<Value>, NoMemory>
@@ -42,8 +37,8 @@ fn kind_value(kind: Kind, item: &Item, text: &Text) -> Result<Option<Value>, NoM
         Kind::Text(low, high) => text_if(within(low as usize, high as usize, text.len()), text),
         Kind::Path => text_if(path_in_range(text), text),
         Kind::Number(low, high) => Ok(number_of(1, 9, low, high, bytes).map(Value::Number)),
-        Kind::Flag => Ok(if_word(is_bare(item), flag_of(bytes)).map(Value::Flag)),
-        Kind::Ending => Ok(if_word(is_bare(item), ending_of(bytes)).map(Value::Ending)),
+        Kind::Flag => Ok(flag_of(is_bare(item), bytes).map(Value::Flag)),
+        Kind::Ending => Ok(ending_of(is_bare(item), bytes).map(Value::Ending)),
         Kind::Job => Ok(job_of(bytes).map(Value::Job)),
         Kind::Date => Ok(date_of(is_bare(item), bytes).map(Value::Date)),
         Kind::Time => Ok(time_of(is_bare(item), bytes).map(Value::Time)),
@@ -103,48 +98,17 @@ fn text_from(text: Option<&Text>, start: Option<u32>) -> Result<Option<Value>, N
 fn start_of(text: Option<&Text>) -> Option<u32>
     ensures { result ≡ start_of (option_copied text.entry) }
 {
-    match text {
-        None => None,
-        Some(text) => number_of(1, 9, 1, 80, text.as_bytes()),
-    }
-}
-
-fn one_compared(item: &Item) -> Result<Option<Value>, NoMemory>
-    ensures { IfOk result (λ v. v ≡ one_compared item.now) }
-{
-    if is_word(item, b"*ANY") {
-        Ok(Some(Value::Compare(Cmp::Any)))
-    } else {
-        text_from(text_of(item), Some(1))
-    }
-}
-
-fn two_compared(item: &Item, start: &Item) -> Result<Option<Value>, NoMemory>
-    ensures { IfOk result (λ v. v ≡ two_compared item.now start.now) }
-{
-    if is_word(item, b"*ANY") {
-        Ok(None)
-    } else {
-        text_from(text_of(item), start_of(text_of(start)))
-    }
+    number_of(1, 9, 1, 80, text?.as_bytes())
 }
 
 /// The one value of a key, whose item begins at `place`.
-pub fn one_value(
-    kind: Kind,
-    special: Special,
-    place: u32,
-    items: &[Item],
-) -> Result<Value, CmdFault>
-    ensures ok { IfOk result (λ v. one_value kind special place items.now ≡ Ok v) }
-    ensures err { IfErr result (λ e. e ≢ CmdFault.NoMemory → one_value kind special place items.now ≡ Err e) }
+pub fn one_value(row: &Row, place: u32, items: &[Item]) -> Result<Value, CmdFault>
+    ensures ok { IfOk result (λ v. one_value (row_kind row.now) (row_special row.now) place items.now ≡ Ok v) }
+    ensures err { IfErr result (λ e. e ≢ CmdFault.NoMemory → one_value (row_kind row.now) (row_special row.now) place items.now ≡ Err e) }
 {
     match items {
         [] => Err(CmdFault::BadValue(place)),
-        [item] => match item_value(kind, special, item)? {
-            None => Err(CmdFault::BadValue(place)),
-            Some(value) => Ok(value),
-        },
+        [item] => item_value(row.kind, row.special, item)?.ok_or(CmdFault::BadValue(place)),
         [_, _, ..] => Err(CmdFault::TooManyValues(place)),
     }
 }
@@ -156,14 +120,12 @@ pub fn compared(place: u32, items: &[Item]) -> Result<Value, CmdFault>
 {
     match items {
         [] => Err(CmdFault::BadValue(place)),
-        [item] => match one_compared(item)? {
-            None => Err(CmdFault::BadValue(place)),
-            Some(value) => Ok(value),
-        },
-        [item, start] => match two_compared(item, start)? {
-            None => Err(CmdFault::BadValue(place)),
-            Some(value) => Ok(value),
-        },
+        [item] if is_word(item, b"*ANY") => Ok(Value::Compare(Cmp::Any)),
+        [item] => text_from(text_of(item), Some(1))?.ok_or(CmdFault::BadValue(place)),
+        [item, _] if is_word(item, b"*ANY") => Err(CmdFault::BadValue(place)),
+        [item, start] => {
+            text_from(text_of(item), start_of(text_of(start)))?.ok_or(CmdFault::BadValue(place))
+        }
         [_, _, _, ..] => Err(CmdFault::TooManyValues(place)),
     }
 }

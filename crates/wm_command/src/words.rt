@@ -109,13 +109,14 @@ pub fn flag_word(flag: bool) -> &'static str
 
 const FLAGS: [bool; 2] = [true, false];
 
-pub fn flag_of(text: &[u8]) -> Option<bool>
-    ensures { result ≡ flag_of text.now }
+/// The flag of a word, but not in apostrophes.
+pub fn flag_of(is_word: bool, text: &[u8]) -> Option<bool>
+    ensures { result ≡ flag_of is_word text.now }
 {
     FLAGS
         .iter()
         .copied()
-        .find(|flag| text == flag_word(*flag).as_bytes())
+        .find(|flag| is_word && text == flag_word(*flag).as_bytes())
 }
 
 /// The word of an ending.
@@ -131,13 +132,11 @@ pub fn ending_word(ending: EndOption) -> &'static str
 
 const ENDINGS: [EndOption; 2] = [EndOption::Cntrld, EndOption::Immed];
 
-pub fn ending_of(text: &[u8]) -> Option<EndOption>
-    ensures { result ≡ ending_of text.now }
+/// The ending of a word, but not in apostrophes.
+pub fn ending_of(is_word: bool, text: &[u8]) -> Option<EndOption>
+    ensures { result ≡ ending_of is_word text.now }
 {
-    ENDINGS
-        .iter()
-        .copied()
-        .find(|ending| text == ending_word(*ending).as_bytes())
+    ENDINGS.iter().copied().find(|ending| is_word && text == ending_word(*ending).as_bytes())
 }
 
 /// The word of a date, or nothing for a day. Monday is 1.
