@@ -26,7 +26,8 @@ use Rattle.wm_command.specs.declared.row.Special.{Special}
 use Rattle.wm_command.specs.declared.row.Special.TheVariants as special
 use Rattle.wm_command.specs.declared.value.Value.{Value}
 use Rattle.wm_command.specs.declared.value.Value.TheVariants as value
-use Rattle.wm_command.specs.Printed.{IsQualified, FitsJob, FitsCompare, FitsRow, IsFit}
+use Rattle.wm_words.specs.Words.{FitsJob}
+use Rattle.wm_command.specs.Printed.{IsQualified, FitsCompare, FitsRow, IsFit}
 use Rattle.wm_command.specs.Fields.{limit_value, or_special}
 use Rattle.wm_command.specs.Objects.{crtcls_values, crtpgmref_values, crtjobd_values, crtsbsd_values}
 use Rattle.wm_command.specs.Entries.{addjobqe_values, addrtge_values, addaje_values, addpje_values, rmvjobqe_values, rmvrtge_values, rmvaje_values, rmvpje_values}

@@ -1,9 +1,7 @@
 mod Back
 mod CommandForms
-mod Digits
 mod FieldForms
 mod LawForms
-mod Plain
 mod PrintValues
 mod ReadBack
 mod ReadForms

@@ -1,5 +1,5 @@
 -- Printed values, one lemma for each kind: what a value's text spells, how long it is, and that it is read as the value.
-use Rattle.std.proofs.Common.{◌≡◌, ℕ, ◌++◌, true, false, List, [], ◌∷◌, subst, sym, refl, codes, ◌+◌, ◌<◌, ◌≤◌, ◌==◌, Bool, cond, nat_lt, length, lit≤, ap, arith, Some, None, Ok, Result}
+use Rattle.std.proofs.Common.{◌≡◌, ℕ, ◌++◌, true, false, List, [], ◌∷◌, subst, sym, refl, codes, ◌+◌, ◌≤◌, ◌==◌, Bool, cond, length, lit≤, ap, arith, Some, None, Ok, Result}
 use Rattle.std.specs.Fmt.{decimal}
 use Rattle.std.proofs.lemmas.Bool.{and_parts, false≢true}
 use Rattle.std.proofs.lemmas.List.{append_assoc, length-append}
@@ -19,30 +19,27 @@ use Rattle.wm_command.specs.declared.row.Row.{Row}
 use Rattle.wm_command.specs.declared.row.Special.{Special}
 use Rattle.wm_command.specs.declared.value.Value.{Value}
 use Rattle.wm_command.specs.declared.value.Given.{Given}
-use Rattle.wm_command.specs.Print.{value_text, given_text, job_text, date_text, time_text, second_text, cmp_text}
-use Rattle.wm_command.specs.Printed.{FitsKind, FitsRow, IsQualified, FitsJob, FitsCompare}
+use Rattle.wm_command.specs.Print.{value_text, given_text}
+use Rattle.wm_words.specs.Texts.{job_text, date_text, time_text, second_text, cmp_text}
+use Rattle.wm_command.specs.Printed.{FitsKind, FitsRow, IsQualified, FitsCompare}
 use Rattle.wm_command.specs.Values.{special_word, is_never, kind_value, is_special, compared, one_value as one_read}
-use Rattle.std.proofs.lemmas.Bool.Decides.{nat_tests}
 use Rattle.std.proofs.lemmas.Fmt.{length-decimal-le}
-use Rattle.wm_base.specs.Name.{IsName}
 use Rattle.wm_base.specs.declared.qname.QName.{QName}
 use Rattle.wm_base.proofs.Names.{length-name}
 use Rattle.wm_desc.specs.declared.entry.Cmp.{Cmp}
-use Rattle.wm_when.specs.Schedule.{within}
-use Rattle.wm_law.specs.declared.command.JobRef.{JobRef}
-use Rattle.wm_law.specs.declared.command.JobRef.TheVariants.{Simple, ByUser, Full}
 use Rattle.std.specs.Option.{option_map}
 use Rattle.wm_clwords.specs.declared.tree.Span.{Span}
 use Rattle.wm_clwords.specs.declared.tree.Item.{Item, Word as ItemWord, Quoted as ItemQuoted}
 use Rattle.wm_clwords.specs.Call.{list_tokens}
 use Rattle.wm_law.specs.declared.command.EndOption.{EndOption}
 use Rattle.wm_command.specs.Reading.{row_value}
-use Rattle.wm_command.specs.Words.{flag_text, ending_text, date_of, time_of}
+use Rattle.wm_words.specs.Words.{flag_text, ending_text, date_of, time_of}
 use Rattle.wm_base.specs.Text.{IsText}
 use Rattle.wm_command.specs.declared.fault.CmdFault.{CmdFault}
-use Rattle.wm_command.proofs.Digits.{within_high, padded_length, second_six}
-use Rattle.wm_command.proofs.Plain.{Plain, plain_word, plain_upper, plain_name}
-use Rattle.wm_command.proofs.ReadValues.{value_tokens, is_sound, word_only, quoted_only, not_special, is_own, own_special, word_read, quoted_read, object_read, program_read, name_is, plain_qname, number_read, plain_decimal, plain_job, job_read, by_weekday, date_small, plain_day, day_read, second_small, plain_second, at_read, compare_read, special_back}
+use Rattle.wm_words.proofs.Digits.{within_high, second_six}
+use Rattle.wm_words.proofs.Back.{name_is, name_short, plain_qname, plain_decimal, number_read, number_short, padded_short, plain_job, job_read, job_short, by_weekday, date_small, plain_day, day_read, second_small, plain_second, at_read}
+use Rattle.wm_words.proofs.Plain.{Plain, plain_word, plain_upper, plain_name}
+use Rattle.wm_command.proofs.ReadValues.{value_tokens, is_sound, word_only, quoted_only, not_special, is_own, own_special, word_read, quoted_read, object_read, program_read, compare_read, special_back}
 use Rattle.wm_base.specs.declared.refusal.Key.TheVariants as key
 use Rattle.wm_when.specs.declared.schedule.DateSpec.TheVariants as date
 use Rattle.wm_when.specs.declared.schedule.TimeSpec.TheVariants as time
@@ -104,9 +101,6 @@ text_laws k s t room h short is =
 
 -- each kind of value
 
-name_short : (n : List ℕ) → IsName n → length n ≤ 200
-name_short n h = omega (arith, length-name n h)
-
 qname_short : (q : QName) → IsQualified q → length (qname_text q) ≤ 200
 qname_short q h =
     simp length-append (omega (arith, length-name q.lib h.0, length-name q.name h.1))
@@ -122,30 +116,6 @@ doubled_short (b ∷ t) =
 
 quoted_short : (t : List ℕ) → length (quoted t) ≤ length t + length t + 2
 quoted_short t = omega (arith, length-append (doubled t) (39 ∷ []), doubled_short t)
-
-decimal_short : (n : ℕ) → n < 1000000000 → length (decimal n) ≤ 9
-decimal_short n h = length-decimal-le 9 n (omega arith) (omega arith) (omega arith)
-
-number_short : (low high n : ℕ) → nat_lt high 1000000000 ≡ true → within low high n ≡ true → length (decimal n) ≤ 9
-number_short low high n sound h =
-    let top : high < 1000000000 = grind (arith, nat_tests) in
-    let most = within_high low high n h in
-    decimal_short n (omega arith)
-
-padded_short : (w n : ℕ) → length (decimal n) ≤ w → w ≤ 9 → length (zero_padded w n) ≤ 9
-padded_short w n h small = omega (arith, padded_length w n h)
-
-number_padded : (n : ℕ) → within 1 999999 n ≡ true → length (zero_padded 6 n) ≤ 9
-number_padded n h =
-    let top = within_high 1 999999 n h in
-    padded_short 6 n (length-decimal-le 6 n (omega arith) (omega arith) (omega arith)) (lit≤ tt)
-
-job_short : (j : JobRef) → FitsJob j → length (job_text j) ≤ 200
-job_short (Simple name) h = name_short name h
-job_short (ByUser user name) h =
-    simp length-append (omega (arith, length-name user h.0, length-name name h.1))
-job_short (Full job) h =
-    simp length-append (omega (arith, number_padded job.number h.0, length-name job.user h.1, length-name job.name h.2))
 
 compare_short : (c : Cmp) → FitsCompare c → length (cmp_text c) ≤ 200
 compare_short Any h = lit≤ tt

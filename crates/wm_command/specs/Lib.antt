@@ -13,5 +13,6 @@ pub mod Reading
 pub mod Shown
 pub mod Table
 pub mod Values
-pub mod Words
-pub mod Written
+pub use Rattle.wm_words.specs.Texts
+pub use Rattle.wm_words.specs.Words
+pub use Rattle.wm_words.specs.Written

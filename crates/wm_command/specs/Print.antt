@@ -1,49 +1,19 @@
 -- The canonical text of a command.
-use Rattle.std.specs.Prelude.{ℕ, List, [], ◌++◌, ◌/◌, ◌%◌, codes}
+use Rattle.std.specs.Prelude.{ℕ, List, [], ◌++◌, codes}
 use Rattle.std.specs.List.{flat_map}
 use Rattle.std.specs.Fmt.{decimal}
 use Rattle.wm_base.specs.Key.{key_word}
-use Rattle.wm_base.specs.Number.{zero_padded}
 use Rattle.wm_base.specs.QName.{qname_text}
-use Rattle.wm_base.specs.JobName.{job_name_text}
 use Rattle.wm_clwords.specs.Quote.{quoted}
-use Rattle.wm_desc.specs.declared.entry.Cmp.{Cmp}
-use Rattle.wm_desc.specs.declared.entry.Cmp.TheVariants.{Any, Val}
-use Rattle.wm_when.specs.declared.schedule.DateSpec.{DateSpec}
-use Rattle.wm_when.specs.declared.schedule.DateSpec.TheVariants as date
-use Rattle.wm_when.specs.declared.schedule.TimeSpec.{TimeSpec}
-use Rattle.wm_when.specs.declared.schedule.TimeSpec.TheVariants as time
 use Rattle.wm_law.specs.declared.command.Command.{Command}
-use Rattle.wm_law.specs.declared.command.JobRef.{JobRef}
-use Rattle.wm_law.specs.declared.command.JobRef.TheVariants.{Simple, ByUser, Full}
 use Rattle.wm_command.specs.declared.value.Value.{Value}
 use Rattle.wm_command.specs.declared.value.Value.TheVariants as value
 use Rattle.wm_command.specs.declared.value.Given.{Given}
 use Rattle.wm_command.specs.Shown.{values_of, verb_of}
 use Rattle.wm_command.specs.Table.{change_word}
 use Rattle.wm_command.specs.Values.{special_word}
-use Rattle.wm_command.specs.Words.{flag_text, ending_text, date_word}
-
-abbrev pub job_text : JobRef → List ℕ
-job_text (Simple name) = name
-job_text (ByUser user name) = user ++ codes "/" ++ name
-job_text (Full job) = job_name_text job
-
-abbrev pub cmp_text : Cmp → List ℕ
-cmp_text Any = codes "*ANY"
-cmp_text (Val text start) = quoted text ++ codes " " ++ decimal start
-
-abbrev pub date_text : DateSpec → List ℕ
-date_text (date.Day n) = zero_padded 8 n
-date_text spec = date_word spec
-
--- `hhmmss`
-abbrev pub second_text : ℕ → List ℕ
-second_text n = zero_padded 2 (n / 3600) ++ zero_padded 2 (n / 60 % 60) ++ zero_padded 2 (n % 60)
-
-abbrev pub time_text : TimeSpec → List ℕ
-time_text time.Current = codes "*CURRENT"
-time_text (time.At n) = second_text n
+use Rattle.wm_words.specs.Texts.{job_text, cmp_text, date_text, time_text}
+use Rattle.wm_words.specs.Words.{flag_text, ending_text}
 
 -- names are qualified, texts stand in apostrophes, numbers have no leading zeros
 unfoldable pub value_text : Value → List ℕ

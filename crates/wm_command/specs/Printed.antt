@@ -14,8 +14,7 @@ use Rattle.wm_when.specs.Schedule.{within, date_in_range, time_in_range}
 use Rattle.wm_law.specs.Fit.{IsCommand as IsMachineCommand}
 use Rattle.wm_law.specs.declared.command.Command.{Command}
 use Rattle.wm_law.specs.declared.command.Command.TheVariants as command
-use Rattle.wm_law.specs.declared.command.JobRef.{JobRef}
-use Rattle.wm_law.specs.declared.command.JobRef.TheVariants.{Simple, ByUser, Full}
+use Rattle.wm_words.specs.Words.{FitsJob}
 use Rattle.wm_command.specs.declared.line.Line.{Line}
 use Rattle.wm_command.specs.declared.line.Line.TheVariants as line
 use Rattle.wm_command.specs.declared.fault.CmdFault.{CmdFault}
@@ -37,11 +36,6 @@ use Rattle.wm_command.specs.Values.{is_never}
 
 abbrev pub IsQualified : QName → Type 0
 IsQualified q = IsName q.lib × IsName q.name
-
-abbrev pub FitsJob : JobRef → Type 0
-FitsJob (Simple name) = IsName name
-FitsJob (ByUser user name) = IsName user × IsName name
-FitsJob (Full job) = IsTrue (within 1 999999 job.number) × IsName job.user × IsName job.name
 
 abbrev pub FitsCompare : Cmp → Type 0
 FitsCompare Any = Unit {0}

@@ -4,9 +4,9 @@ ghost use Rattle.wm_command.specs.Call.{call_value};
 
 use crate::fault::CmdFault;
 use crate::value::Value;
-use crate::written::is_word;
 use std::alloc::Global;
 use wm_clwords::{CallFault, Item, call_text, read_call_items};
+use wm_words::is_word;
 
 /// The canonical text of the CALL that these items are, of at most 1,000 characters.
 pub fn call_value(alloc: Global, place: u32, items: &[Item]) -> Result<Value, CmdFault>

@@ -4,11 +4,11 @@
 //! fault with its place or keys, and `print` gives a command's canonical text. A command that `command` answers keeps the
 //! table's forms and ranges, so that its canonical text is read as the same command.
 //!
-//! The definitions are in `specs/`: `Table` (what each command's keys take), `Words` (what texts say), `Values` and `Call`
-//! (what the values behind a key are read as), `Reading` (what items give keys), `Fields` (values and what a command's fields
-//! hold), `Objects`, `Entries`, `Jobs` and `Control` (each command of its values, and its values again), with `Made` and
-//! `Shown` over all of them, `Line` (what a tree is), `Print` (what a command is as text), `Printed` (that this text is read
-//! as the command again).
+//! The definitions are in `specs/`: `Table` (what each command's keys take), `Values` and `Call` (what the values behind a key
+//! are read as), `Reading` (what items give keys), `Fields` (values and what a command's fields hold), `Objects`, `Entries`,
+//! `Jobs` and `Control` (each command of its values, and its values again), with `Made` and `Shown` over all of them, `Line`
+//! (what a tree is), `Print` (what a command is as text), `Printed` (that this text is read as the command again). What items
+//! and their texts say is in `wm_words`.
 #![tactic(auto)]
 
 mod call;
@@ -31,8 +31,6 @@ mod table;
 mod value;
 mod values;
 mod verb;
-mod words;
-mod written;
 
 pub use commands::command_word;
 pub use fault::CmdFault;

@@ -10,7 +10,6 @@ use crate::fault::CmdFault;
 use crate::row::{Default, Kind, Row};
 use crate::value::{Value, Values};
 use crate::values::{compared, one_value};
-use crate::written::{key_of, listed, place_of};
 use std::alloc::Global;
 use std::slice;
 use wm_base::{Key, Text};
@@ -18,6 +17,7 @@ use wm_clwords::Item;
 use wm_desc::{qbatch, qdftjobd};
 use wm_law::EndOption;
 use wm_when::{DateSpec, TimeSpec};
+use wm_words::{key_of, listed, place_of};
 
 /// Whether keys are the same.
 #[tactic(auto, unfolding(crate::specs::Reading::same_key))]

@@ -2,7 +2,7 @@
 ghost use Rattle.std.specs.Prelude.{◌≡◌, ◌≤◌, length, take, drop, take_while, codes, fold, Some, nat_eq, IsTrue, ◌<◌, ◌^◌, IfSome};
 ghost use Rattle.std.specs.Option.{option_copied};
 ghost use Rattle.wm_base.specs.Text.{IsText};
-ghost use Rattle.wm_command.specs.Words.{is_digit, push_digit, digits, kept_within, number_of, name_of, is_no_slash, before_slash, behind_slash, simple_of, by_user_of, full_of, job_behind, job_with, job_of, flag_text, flag_of, ending_text, ending_of, date_word, date_word_of, day_of, date_with, date_of, second_of, time_of};
+ghost use Rattle.wm_words.specs.Words.{is_digit, push_digit, digits, kept_within, number_of, name_of, is_no_slash, before_slash, behind_slash, simple_of, by_user_of, full_of, job_behind, job_with, job_of, flag_text, flag_of, ending_text, ending_of, date_word, date_word_of, day_of, date_with, date_of, second_of, time_of};
 ghost use Rattle.wm_when.specs.Schedule.{within};
 
 use wm_base::{JobName, JobNumber, Name};

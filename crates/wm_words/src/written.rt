@@ -1,7 +1,7 @@
 // What stands at an item.
 ghost use Rattle.std.specs.Prelude.{◌≡◌, Some};
 ghost use Rattle.std.specs.Option.{option_copied};
-ghost use Rattle.wm_command.specs.Written.{place_of, word_of, text_of, is_bare, key_of, listed, is_word};
+ghost use Rattle.wm_words.specs.Written.{place_of, word_of, text_of, is_bare, key_of, listed, is_word};
 
 use wm_base::Text;
 use wm_clwords::Item;

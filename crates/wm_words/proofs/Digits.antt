@@ -12,8 +12,8 @@ use Rattle.wm_base.specs.Number.{zero_padded}
 use Rattle.wm_clwords.proofs.GrammarLemmas.{all_push}
 use Rattle.wm_when.specs.Schedule.{within}
 use Rattle.wm_when.specs.declared.schedule.TimeSpec.TheVariants as time
-use Rattle.wm_command.specs.Print.{second_text}
-use Rattle.wm_command.specs.Words.{is_digit, push_digit, digits, kept_within, number_of, second_of}
+use Rattle.wm_words.specs.Texts.{second_text}
+use Rattle.wm_words.specs.Words.{is_digit, push_digit, digits, kept_within, number_of, second_of}
 
 -- ranges
 pub within_from : (low high n : ℕ) → low ≤ n → n ≤ high → within low high n ≡ true

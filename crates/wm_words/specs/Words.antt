@@ -1,7 +1,7 @@
 -- What texts say: numbers, names, dates and times.
-use Rattle.std.specs.Prelude.{ℕ, Bool, true, false, not, Option, Some, None, List, length, take, drop, ◌+◌, ◌-◌, ◌*◌, ◌/◌, ◌%◌, ◌==◌, ◌&&◌, nat_lt, nat_le, nat_eq, if◌then◌else◌, codes, [], ◌∷◌, find, take_while, fold}
+use Rattle.std.specs.Prelude.{ℕ, Bool, true, false, not, Option, Some, None, List, length, take, drop, ◌+◌, ◌-◌, ◌*◌, ◌/◌, ◌%◌, ◌==◌, ◌&&◌, nat_lt, nat_le, nat_eq, if◌then◌else◌, codes, [], ◌∷◌, find, take_while, fold, IsTrue}
 use Rattle.std.specs.Cmp.Lexicographic.{pointwise}
-use Rattle.wm_base.specs.Name.{is_name}
+use Rattle.wm_base.specs.Name.{is_name, IsName}
 use Rattle.wm_when.specs.Schedule.{within, is_date}
 use Rattle.wm_when.specs.declared.schedule.DateSpec.{DateSpec}
 use Rattle.wm_when.specs.declared.schedule.DateSpec.TheVariants as date
@@ -81,6 +81,12 @@ job_with first (Some rest) = job_behind first (before_slash rest) (behind_slash 
 -- `NAME`, `USER/NAME` or `NUMBER/USER/NAME`
 unfoldable pub job_of : List ℕ → Option JobRef
 job_of text = job_with (before_slash text) (behind_slash text)
+
+-- its names and its number have their forms
+abbrev pub FitsJob : JobRef → Type 0
+FitsJob (Simple name) = IsName name
+FitsJob (ByUser user name) = IsName user × IsName name
+FitsJob (Full job) = IsTrue (within 1 999999 job.number) × IsName job.user × IsName job.name
 
 -- Words, each with what it says
 

@@ -1,0 +1,5 @@
+pub mod Back
+pub mod Digits
+pub mod Forms
+pub mod Plain
+pub mod Texts
