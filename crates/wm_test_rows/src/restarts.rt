@@ -64,8 +64,9 @@ fn tell_read(alloc: Global, rows: &[Row], answer: &mut String) -> Result<()> {
     }
     match read_rows(alloc, rows, Offset::new(0)) {
         Ok(reading) => {
-            let told = push_read(&reading.parts(), answer);
-            drop(reading);
+            let read = reading.parts();
+            let told = push_read(&read, answer);
+            drop(read);
             told
         }
         Err(fault) => push_fault(&fault, answer),
