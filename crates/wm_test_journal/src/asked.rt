@@ -23,7 +23,7 @@ use wm_clwords::read_command;
 use wm_command::{Line, command};
 use wm_core::built;
 use wm_journal::Journal;
-use wm_law::{Boxed, Call, Command, built_commands_are_had};
+use wm_law::{Boxed, Call, Command, Pending, built_commands_are_had};
 use wm_outside::MemKeeper;
 
 /// The pass of a session.
@@ -119,8 +119,7 @@ fn report(
 }
 
 /// Adds what waits for the monitor.
-pub fn write_pending(journal: &Journal<MemKeeper>, answer: &mut String) -> Result<()> {
-    let pending = calls::pending(journal);
+pub fn write_pending(pending: &Pending, answer: &mut String) -> Result<()> {
     let (active, orders) = (pending.active, pending.orders);
     write!(answer, "ACTIVE {active} ORDERS {orders} DUE ")?;
     match pending.next {
@@ -142,7 +141,7 @@ pub fn ask(
         "as" => change_as(alloc, journal, words, answer),
         "monitor" => report(alloc, journal, words, answer),
         "log" => Ok(writeln!(answer, "{}", journal.len())?),
-        "pending" => write_pending(journal, answer),
+        "pending" => write_pending(&calls::pending(journal), answer),
         _ => change(alloc, journal, &Name::of(b"QUSER"), question, answer),
     }
 }

@@ -1,13 +1,13 @@
 // Scripts whose every `apply` fails once.
 use crate::asked::{ask, write_pending};
-use crate::calls::closed;
+use crate::calls::{closed, pending};
 use crate::opened::{keeper_of, open};
 use crate::replies::{KEEPER_FAULT, write_entry};
 use crate::rows::write_rows;
 use anyhow::{Result, bail, ensure};
 use std::alloc::Global;
-use wm_journal::Journal;
-use wm_law::Entry;
+use wm_journal::{Closed, Journal};
+use wm_law::{Entry, Pending};
 use wm_outside::{Keeper, MemKeeper};
 
 /// A script makes fewer calls of `apply`.
@@ -31,7 +31,10 @@ fn opened(alloc: Global, fail: u32) -> Result<Journal<MemKeeper>> {
     };
     match open(alloc, keeper, "")? {
         Ok(journal) => Ok(journal),
-        Err((_, fault)) => bail!("{fault}"),
+        Err((keeper, fault)) => {
+            drop(keeper);
+            bail!("{fault}")
+        }
     }
 }
 
@@ -73,23 +76,31 @@ fn write_log(alloc: Global, log: &[Entry], left: &mut String) -> Result<()> {
     Ok(())
 }
 
-// What a journal leaves: what waits for a monitor, the history and the rows.
-fn left(alloc: Global, journal: Journal<MemKeeper>) -> Result<String> {
+fn left_by(alloc: Global, pending: &Pending, closed: &mut Closed<MemKeeper>) -> Result<String> {
     let mut left = String::new(alloc);
-    write_pending(&journal, &mut left)?;
-    let mut closed = closed(journal);
+    write_pending(pending, &mut left)?;
     write_log(alloc, &closed.log, &mut left)?;
     write_rows(&closed.keeper.load()?, &mut left)?;
     Ok(left)
 }
 
+// What a journal leaves: what waits for a monitor, the history and the rows.
+fn left(alloc: Global, journal: Journal<MemKeeper>) -> Result<String> {
+    let pending = pending(&journal);
+    let mut closed = closed(journal);
+    let left = left_by(alloc, &pending, &mut closed);
+    drop(closed);
+    left
+}
+
 // A run up to the line that the keeper fails at.
 fn run_until(alloc: Global, script: &[String], fail: u32) -> Result<Run> {
     let mut journal = opened(alloc, fail)?;
-    let failed = ask_all(alloc, &mut journal, script)?;
+    let failed = ask_all(alloc, &mut journal, script);
+    let left = left(alloc, journal)?;
     Ok(Run {
-        left: left(alloc, journal)?,
-        failed,
+        left,
+        failed: failed?,
     })
 }
 
@@ -107,8 +118,10 @@ fn ask_through(alloc: Global, journal: &mut Journal<MemKeeper>, script: &[String
 // What a run leaves where the line that the keeper fails at is asked again, and those behind it.
 fn run_on(alloc: Global, script: &[String], fail: u32) -> Result<String> {
     let mut journal = opened(alloc, fail)?;
-    ask_through(alloc, &mut journal, script)?;
-    left(alloc, journal)
+    let asked = ask_through(alloc, &mut journal, script);
+    let left = left(alloc, journal)?;
+    asked?;
+    Ok(left)
 }
 
 // Adds both where they aren't the same.

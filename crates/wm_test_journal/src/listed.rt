@@ -132,7 +132,7 @@ impl Subject for Listed {
         let Ok(journal) = open(self.alloc, keeper, "")? else {
             bail!("no journal over no rows");
         };
-        self.journal = Some(journal);
+        drop(self.journal.replace(journal));
         self.now = Moment::new(NOW);
         Ok(())
     }

@@ -23,6 +23,7 @@ use crate::turns::Turns;
 use crate::words::{failing, first_word, row, unknown};
 use anyhow::{Context, Result};
 use std::alloc::Global;
+use std::mem;
 use wm_cases::Subject;
 use wm_journal::Journal;
 use wm_outside::{Keeper, MemKeeper, Row};
@@ -60,7 +61,8 @@ impl Tested {
         let rows = self.rows.to_vec(self.alloc)?;
         self.seen = self.rows.to_vec(self.alloc)?;
         let fail = failing(self.alloc, words)?;
-        self.keeper = Some(keeper_of(rows, fail)?);
+        let keeper = keeper_of(rows, fail)?;
+        drop(self.keeper.replace(keeper));
         Ok(())
     }
 
@@ -68,11 +70,11 @@ impl Tested {
         let keeper = self.keeper.take().context(NO_KEEPER)?;
         match open(self.alloc, keeper, words)? {
             Ok(journal) => {
-                self.journal = Some(journal);
+                drop(self.journal.replace(journal));
                 Ok(answer.push_str("OPEN\n")?)
             }
             Err((keeper, fault)) => {
-                self.keeper = Some(keeper);
+                drop(self.keeper.replace(keeper));
                 write_open_fault(fault, answer)
             }
         }
@@ -80,7 +82,7 @@ impl Tested {
 
     fn close(&mut self) -> Result<()> {
         let journal = self.journal.take().context("no journal")?;
-        self.keeper = Some(closed(journal).keeper);
+        drop(self.keeper.replace(closed(journal).keeper));
         Ok(())
     }
 
@@ -112,7 +114,7 @@ impl Tested {
 
     fn make_spawner(&mut self, words: &str) -> Result<()> {
         let kills = failing(self.alloc, words)?;
-        self.turns = Some(Turns::new(self.alloc, kills));
+        drop(self.turns.replace(Turns::new(self.alloc, kills)));
         Ok(())
     }
 
@@ -137,7 +139,8 @@ impl Tested {
 
 impl Subject for Tested {
     fn begin(&mut self) -> Result<()> {
-        *self = Tested::new(self.alloc);
+        // A call lets the old one go: what is let go in place is proved field by field.
+        drop(mem::replace(self, Tested::new(self.alloc)));
         Ok(())
     }
 

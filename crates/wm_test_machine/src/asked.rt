@@ -6,6 +6,7 @@ use crate::tested::Tested;
 use crate::text::first_word;
 use anyhow::Result;
 use std::alloc::Global;
+use std::mem;
 use wm_cases::Subject;
 use wm_command::print;
 use wm_core::opening_commands;
@@ -50,7 +51,9 @@ impl Tested {
 
 impl Subject for Tested {
     fn begin(&mut self) -> Result<()> {
-        *self = Tested::new(self.alloc)?;
+        let tested = Tested::new(self.alloc)?;
+        // A call lets the old one go: what is let go in place is proved field by field.
+        drop(mem::replace(self, tested));
         Ok(())
     }
 

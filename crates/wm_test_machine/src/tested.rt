@@ -61,7 +61,7 @@ impl Tested {
             None => self.core.objects().clone()?,
         };
         let reply = entry_reply(&mut objects, call);
-        self.copy = Some(objects);
+        drop(self.copy.replace(objects));
         reply
     }
 
@@ -72,7 +72,7 @@ impl Tested {
         if !has_call(&self.core, call) {
             return self.copied_reply(call);
         }
-        self.copy = None;
+        drop(self.copy.take());
         let reply = calls::reply(self.alloc, &mut self.core, caller, call, self.now)?;
         Ok(Some(reply))
     }

@@ -63,7 +63,12 @@ fn tell_read(alloc: Global, rows: &[Row], answer: &mut String) -> Result<()> {
         bail!("no rows");
     }
     match read_rows(alloc, rows, Offset::new(0)) {
-        Ok(reading) => push_read(&reading.parts(), answer),
+        Ok(reading) => {
+            let read = reading.parts();
+            let told = push_read(&read, answer);
+            drop(read);
+            told
+        }
         Err(fault) => push_fault(&fault, answer),
     }
 }
@@ -74,7 +79,11 @@ fn tell_written(alloc: Global, rows: &[Row], answer: &mut String) -> Result<()> 
         offset: Offset::new(0),
     };
     match open_rows(alloc, rows, &setup) {
-        Ok(opened) => push_changes(&opened.changes, answer),
+        Ok(opened) => {
+            let told = push_changes(&opened.changes, answer);
+            drop(opened);
+            told
+        }
         Err(fault) => push_fault(&fault, answer),
     }
 }

@@ -6,6 +6,7 @@ use crate::shown::{push_asked, push_entry};
 use crate::told::Telling;
 use anyhow::Result;
 use std::alloc::Global;
+use std::mem;
 use std::sync::Wait;
 use wm_base::Moment;
 use wm_cases::Subject;
@@ -86,7 +87,13 @@ impl<'a, W: Wait> Runs<'a, W> {
             given.fails(self.alloc, Failing::Kill)?,
             given.fails(self.alloc, Failing::Look)?,
         );
-        self.run_with(&mut spawner)?;
+        let ran = self.run_over(&mut spawner);
+        drop(spawner);
+        ran
+    }
+
+    fn run_over(&mut self, spawner: &mut MemSpawner) -> Result<()> {
+        self.run_with(spawner)?;
         self.asked.clear();
         for asked in spawner.asked() {
             push_asked(&mut self.asked, asked)?;
@@ -99,14 +106,17 @@ impl<'a, W: Wait> Runs<'a, W> {
             return self.run_in_memory();
         }
         let mut spawner = Telling::new(self.alloc, &self.given.tells)?;
-        self.run_with(&mut spawner)
+        let ran = self.run_with(&mut spawner);
+        drop(spawner);
+        ran
     }
 
     // A store of the given rows. Its keeper is out where the opening is to fail.
     fn new_store(&mut self) -> Result<()> {
         let given = &self.given;
         let rows = given.rows.to_vec(self.alloc)?;
-        self.store = store_of(rows, given.fails(self.alloc, Failing::Apply)?)?;
+        let store = store_of(rows, given.fails(self.alloc, Failing::Apply)?)?;
+        drop(mem::replace(&mut self.store, store));
         if !given.fails(self.alloc, Failing::Open)?.is_empty() {
             self.store.open("")?;
         }
@@ -143,7 +153,8 @@ impl<'a, W: Wait> Runs<'a, W> {
 
 impl<'a, W: Wait> Subject for Runs<'a, W> {
     fn begin(&mut self) -> Result<()> {
-        self.given = Given::new(self.alloc)?;
+        let given = Given::new(self.alloc)?;
+        drop(mem::replace(&mut self.given, given));
         self.new_store()
     }
 
