@@ -120,7 +120,9 @@ impl<K: Keeper> StoredCore<K> {
         ensures keeper { result ≡ self.keeper }
         ensures tables { HasTables self.state (K.tables result) }
     {
-        let _ = &self.core;
-        self.keeper
+        let StoredCore { core, keeper } = self;
+        // By a call, since a machine that goes out of scope is taken apart here, which is dear to prove.
+        drop(core);
+        keeper
     }
 }
