@@ -55,11 +55,7 @@ pub fn pending(journal: &Journal<MemKeeper>) -> Pending {
 }
 
 /// The listing of what is asked. DSPLOG lists the calls that were made.
-pub fn listed(
-    alloc: Global,
-    journal: &Journal<MemKeeper>,
-    ask: &Ask,
-) -> Result<Vec<u8>, NoMemory> {
+pub fn listed(alloc: Global, journal: &Journal<MemKeeper>, ask: &Ask) -> Result<Vec<u8>, NoMemory> {
     if let Ask::Log = ask {
         return log_listing(alloc, journal.log());
     }
