@@ -22,17 +22,27 @@ mod words;
 
 use anyhow::Result;
 use listed::Listed;
+use std::rt::Files;
 use tested::Tested;
 use wm_cases::play;
 
 /// The files of what is shown.
 static LISTED: [&str; 4] = ["jobs.txt", "log.txt", "queues.txt", "subsystems.txt"];
 
-fn main(rt: HostRuntime) -> Result<()> {
-    play(&rt, "stored.txt", &mut Tested::new(rt.alloc()))?;
-    let mut listed = Listed::new(rt.alloc());
+fn play_listed<R: AllocGlobal + Files + Print>(rt: &R, listed: &mut Listed) -> Result<()> {
     for file in &LISTED {
-        play(&rt, file, &mut listed)?;
+        play(rt, file, listed)?;
     }
     Ok(())
+}
+
+fn main(rt: HostRuntime) -> Result<()> {
+    let mut tested = Tested::new(rt.alloc());
+    let played = play(&rt, "stored.txt", &mut tested);
+    drop(tested);
+    played?;
+    let mut listed = Listed::new(rt.alloc());
+    let played = play_listed(&rt, &mut listed);
+    drop(listed);
+    played
 }

@@ -20,6 +20,7 @@ mod text;
 mod times;
 
 use anyhow::Result;
+use std::rt::Files;
 use tested::Tested;
 use wm_cases::play;
 
@@ -37,10 +38,16 @@ static FILES: [&str; 10] = [
     "built.txt",
 ];
 
-fn main(rt: HostRuntime) -> Result<()> {
-    let mut tested = Tested::new(rt.alloc())?;
+fn play_all<R: AllocGlobal + Files + Print>(rt: &R, tested: &mut Tested) -> Result<()> {
     for file in &FILES {
-        play(&rt, file, &mut tested)?;
+        play(rt, file, tested)?;
     }
     Ok(())
+}
+
+fn main(rt: HostRuntime) -> Result<()> {
+    let mut tested = Tested::new(rt.alloc())?;
+    let played = play_all(&rt, &mut tested);
+    drop(tested);
+    played
 }

@@ -12,19 +12,34 @@ mod subject;
 mod told;
 
 use anyhow::Result;
+use std::rt::Files;
 use subject::Runs;
-use wm_cases::play;
+use wm_cases::{Subject, play};
+
+/// The files of cases.
+static FILES: [&str; 10] = [
+    "scripts.txt",
+    "faults.txt",
+    "stores.txt",
+    "reports.txt",
+    "limits.txt",
+    "order.txt",
+    "launches.txt",
+    "waiting.txt",
+    "listings.txt",
+    "endings.txt",
+];
+
+fn play_all<R: AllocGlobal + Files + Print, S: Subject>(rt: &R, subject: &mut S) -> Result<()> {
+    for file in &FILES {
+        play(rt, file, subject)?;
+    }
+    Ok(())
+}
 
 fn main(rt: HostRuntime) -> Result<()> {
     let mut runs = Runs::new(&rt, rt.alloc())?;
-    play(&rt, "scripts.txt", &mut runs)?;
-    play(&rt, "faults.txt", &mut runs)?;
-    play(&rt, "stores.txt", &mut runs)?;
-    play(&rt, "reports.txt", &mut runs)?;
-    play(&rt, "limits.txt", &mut runs)?;
-    play(&rt, "order.txt", &mut runs)?;
-    play(&rt, "launches.txt", &mut runs)?;
-    play(&rt, "waiting.txt", &mut runs)?;
-    play(&rt, "listings.txt", &mut runs)?;
-    play(&rt, "endings.txt", &mut runs)
+    let played = play_all(&rt, &mut runs);
+    drop(runs);
+    played
 }
