@@ -61,8 +61,8 @@ use Rattle.wm_law.specs.Settling.{come_due, leave, settle, waiting}
 use Rattle.wm_law.specs.Stepped.{Stepped}
 use Rattle.wm_law.specs.Submitting.{has_numbers, queue_of, serials_end, submit_due, submit_with}
 use Rattle.wm_law.specs.Subsystems.{begun, start_refusal, start_unless}
-use Rattle.wm_making.specs.declared.mark.Saved.{Saved}
-use Rattle.wm_making.specs.declared.mark.Saved.TheVariants.{Nothing, New, Description, Held}
+use Rattle.wm_making.specs.declared.saved.Saved.{Saved}
+use Rattle.wm_making.specs.declared.saved.Saved.TheVariants.{Nothing, New, Description, Held}
 use Rattle.wm_making.specs.Saved.{described, old_held, old_objects, saved_by, saved_object, saved_of, without_object}
 use Rattle.wm_making.proofs.PutBack.{added_removed, changed_back, none_changed, none_removed, own_back}
 use Rattle.wm_core.specs.declared.mark.Mark.{Mark}

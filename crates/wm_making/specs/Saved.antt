@@ -12,8 +12,8 @@ use Rattle.wm_law.specs.declared.call.Call.{Call}
 use Rattle.wm_law.specs.declared.call.Call.TheVariants.{Change, Hand, Started, StartFailed, Finished, UseDone, Tick}
 use Rattle.wm_law.specs.declared.command.Command.{Command}
 use Rattle.wm_law.specs.declared.command.Command.TheVariants as command
-use Rattle.wm_making.specs.declared.mark.Saved.{Saved}
-use Rattle.wm_making.specs.declared.mark.Saved.TheVariants.{Nothing, New, Description, Held}
+use Rattle.wm_making.specs.declared.saved.Saved.{Saved}
+use Rattle.wm_making.specs.declared.saved.Saved.TheVariants.{Nothing, New, Description, Held}
 
 -- an object that isn't there yet is new
 abbrev pub saved_object : {V : Type 0} → Kind → QName → List (QName × V) → Saved

@@ -13,13 +13,13 @@ mod changing;
 mod entries;
 mod kept;
 mod making;
-mod mark;
 mod opening;
 mod replies;
+mod saved;
 mod values;
 
 pub use back::put_back;
 pub use changing::change_objects;
 pub use kept::saved_of;
-pub use mark::Saved;
 pub use opening::opening_commands;
+pub use saved::Saved;

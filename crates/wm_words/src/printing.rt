@@ -13,6 +13,7 @@ use wm_desc::Cmp;
 use wm_law::JobRef;
 use wm_when::{DateSpec, TimeSpec};
 
+/// Puts a word as it stands.
 pub fn push_word(out: &mut Text, word: &str) -> Result<(), NoMemory>
     requires { IsText word.now }
     ensures { OnOk result (out.new ≡ out.old ++ word.now) }
@@ -21,6 +22,7 @@ pub fn push_word(out: &mut Text, word: &str) -> Result<(), NoMemory>
     Ok(())
 }
 
+/// Puts a name as it is written in a command.
 #[tactic(auto, using(crate::proofs::Texts::texts))]
 pub fn push_name(out: &mut Text, name: &Name) -> Result<(), NoMemory>
     ensures { OnOk result (out.new ≡ out.old ++ name.now) }
@@ -29,6 +31,7 @@ pub fn push_name(out: &mut Text, name: &Name) -> Result<(), NoMemory>
     Ok(())
 }
 
+/// Puts a number in decimal digits, without zeros in front.
 #[tactic(auto, using(crate::proofs::Texts::texts))]
 pub fn push_number(alloc: Global, out: &mut Text, n: u32) -> Result<(), NoMemory>
     ensures { OnOk result (out.new ≡ out.old ++ decimal n) }
@@ -38,6 +41,7 @@ pub fn push_number(alloc: Global, out: &mut Text, n: u32) -> Result<(), NoMemory
     Ok(())
 }
 
+// Puts a number below 100 in two digits.
 #[tactic(auto, using(crate::proofs::Texts::padded))]
 fn push_two(alloc: Global, out: &mut Text, n: u32) -> Result<(), NoMemory>
     ensures { OnOk result (out.new ≡ out.old ++ zero_padded 2 n) }
@@ -47,6 +51,7 @@ fn push_two(alloc: Global, out: &mut Text, n: u32) -> Result<(), NoMemory>
     Ok(())
 }
 
+/// Puts the reference of a job: its name, or with the user in front, or with the number in six digits and the user.
 #[tactic(auto, using(crate::proofs::Texts::padded))]
 pub fn push_job(alloc: Global, out: &mut Text, job: &JobRef) -> Result<(), NoMemory>
     ensures { OnOk result (out.new ≡ out.old ++ job_text job.now) }
@@ -70,6 +75,7 @@ pub fn push_job(alloc: Global, out: &mut Text, job: &JobRef) -> Result<(), NoMem
     Ok(())
 }
 
+/// Puts a compare value: \*ANY, or the value in apostrophes and the position where it begins.
 pub fn push_cmp(alloc: Global, out: &mut Text, cmp: &Cmp) -> Result<(), NoMemory>
     ensures { OnOk result (out.new ≡ out.old ++ cmp_text cmp.now) }
 {
@@ -84,6 +90,7 @@ pub fn push_cmp(alloc: Global, out: &mut Text, cmp: &Cmp) -> Result<(), NoMemory
     Ok(())
 }
 
+/// Puts a date: its word, or a day as eight digits, the year first.
 #[tactic(auto, using(crate::proofs::Texts::padded))]
 pub fn push_date(alloc: Global, out: &mut Text, date: DateSpec) -> Result<(), NoMemory>
     ensures { OnOk result (out.new ≡ out.old ++ date_text date) }
@@ -98,6 +105,7 @@ pub fn push_date(alloc: Global, out: &mut Text, date: DateSpec) -> Result<(), No
     Ok(())
 }
 
+/// Puts a time: \*CURRENT, or hours, minutes and seconds in two digits each.
 pub fn push_time(alloc: Global, out: &mut Text, time: &TimeSpec) -> Result<(), NoMemory>
     ensures { OnOk result (out.new ≡ out.old ++ time_text time.now) }
 {

@@ -40,6 +40,7 @@ pub fn number_of(fewest: usize, most: usize, low: u32, high: u32, text: &[u8]) -
     if low <= n && n <= high { Some(n) } else { None }
 }
 
+/// The name that a text is, where it is one.
 pub fn name_of(text: &[u8]) -> Option<Name>
     ensures { result ≡ name_of text.now }
 {
