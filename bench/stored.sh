@@ -1,9 +1,11 @@
 #!/usr/bin/env bash
 # What a step costs whose rows are kept, with 100, 10,000 and 100,000 jobs, and what it costs to open with so many rows of
-# jobs: the processor's time of the tests' program with other cases. The jobs are held, so none starts. A step's cost is the
-# time of a run with 100,000 lines, each of which releases or holds one of the jobs, less that of a run without them, divided
-# by their number; that of opening is the time of a run that opens less that of one that makes the keeper alone. Of each run it
-# is the least of five, by turns. The keeper is the one in memory, whose own part doesn't grow with the rows.
+# jobs: the processor's time of the tests' program with other cases. The jobs are held, so none starts. Of each size there
+# are four runs: one that makes the keeper alone, one that opens too, one with 200,000 lines behind that, each of which
+# releases or holds one of the jobs, and one with 400,000 lines more. Each figure is the difference of a run and the one
+# before it: of the opening, of the first steps, which also pay for the memory that the opening gave back, as the C library
+# joins it when it is used again, and of the steps behind these. Of each run it is the least of five, all of them by turns.
+# The keeper is the one in memory, whose own part doesn't grow with the rows.
 set -eu
 cd "$(dirname "$0")/.."
 program=$PWD/crates/wm_test_journal/out/wm_test_journal
@@ -14,9 +16,8 @@ folder=$(mktemp -d)
 taken=$(mktemp)
 trap 'rm -rf "$folder" "$taken"' EXIT
 cd "$folder"
-mkdir before all
-# The other files of cases have none here.
-touch {before,all}/{jobs,log,queues,subsystems}.txt
+sizes=(100 10000 100000)
+runs=(rows opened first next)
 
 # rows COUNT: the questions that make a keeper of the opening objects and so many held jobs
 rows() {
@@ -36,10 +37,10 @@ ROWS
   }'
 }
 
-# lines COUNT: 100,000 lines with their answers, which release and hold so many jobs by turns
+# lines COUNT FROM TO: the lines of these numbers with their answers, which release and hold so many jobs by turns
 lines() {
-  awk -v count="$1" 'BEGIN {
-    for (at = 1; at <= 100000; at++) {
+  awk -v count="$1" -v from="$2" -v to="$3" 'BEGIN {
+    for (at = from; at <= to; at++) {
       round = int((at - 1) / count)
       n = (at - 1) % count + 1
       job = sprintf("%06d/QUSER/J%06d", n, n)
@@ -58,14 +59,31 @@ run() {
   fi
 }
 
-# least: the seconds of a processor that a run of the cases before and one of all take, each the least of five
-least() {
-  local TIMEFORMAT='%U %S'
+# cases SIZE: the four runs of that many jobs, each in a folder of its own
+cases() {
+  local name
+  for name in "${runs[@]}"; do
+    mkdir -p "$1/$name"
+    # The other files of cases have none here.
+    touch "$1/$name"/{jobs,log,queues,subsystems}.txt
+  done
+  rows "$1" >"$1/rows/stored.txt"
+  printf '> open\nOPEN\n' | cat "$1/rows/stored.txt" - >"$1/opened/stored.txt"
+  lines "$1" 1 200000 | cat "$1/opened/stored.txt" - >"$1/first/stored.txt"
+  lines "$1" 200001 600000 | cat "$1/first/stored.txt" - >"$1/next/stored.txt"
+}
+
+# times: of each run the seconds of a processor, five times by turns
+times() {
+  local TIMEFORMAT='%U %S' size name
   for _ in 1 2 3 4 5; do
-    { time run before; } 2>&1
-    { time run all; } 2>&1
-  done | awk '{ used = $1 + $2; side = NR % 2; if (NR <= 2 || used < best[side]) best[side] = used }
-    END { print best[1], best[0] }'
+    for size in "${sizes[@]}"; do
+      for name in "${runs[@]}"; do
+        printf '%s %s ' "$size" "$name"
+        { time run "$size/$name"; } 2>&1
+      done
+    done
+  done
 }
 
 # peak FOLDER: the most KiB that a run with these cases has
@@ -74,18 +92,17 @@ peak() {
   tail -n 1 "$taken"
 }
 
-printf '%-8s %8s %14s %10s %10s\n' case jobs 'processor us' seconds 'peak KiB'
-for count in 100 10000 100000; do
-  rows "$count" >before/stored.txt
-  printf '> open\nOPEN\n' | cat before/stored.txt - >all/stored.txt
-  read -r without with < <(least)
-  awk -v jobs="$count" -v without="$without" -v with="$with" -v peak="$(peak all)" -v base="$(peak before)" 'BEGIN {
-    printf "%-8s %8d %14.2f %10.2f %10d\n", "opening", jobs, 1e6 * (with - without) / jobs, with - without, peak - base
-  }'
-  mv all/stored.txt before/stored.txt
-  lines "$count" | cat before/stored.txt - >all/stored.txt
-  read -r without with < <(least)
-  awk -v jobs="$count" -v without="$without" -v with="$with" 'BEGIN {
-    printf "%-8s %8d %14.2f\n", "a step", jobs, 1e6 * (with - without) / 100000
-  }'
+for size in "${sizes[@]}"; do
+  cases "$size"
+done
+times >times.txt
+printf '%8s %16s %16s %14s %13s %13s\n' jobs 'opening us/job' 'opening seconds' 'opening KiB' 'first us/step' 'next us/step'
+for size in "${sizes[@]}"; do
+  kib=$(($(peak "$size/opened") - $(peak "$size/rows")))
+  awk -v size="$size" -v kib="$kib" '$1 == size { used = $3 + $4; if (!($2 in least) || used < least[$2]) least[$2] = used }
+    END {
+      opening = least["opened"] - least["rows"]
+      printf "%8d %16.2f %16.2f %14d", size, 1e6 * opening / size, opening, kib
+      printf " %13.2f %13.2f\n", 1e6 * (least["first"] - least["opened"]) / 200000, 1e6 * (least["next"] - least["first"]) / 400000
+    }' times.txt
 done
