@@ -11,6 +11,7 @@ module _ {K : Type 0} {faults : K → ℕ} {trail : K → Option (List (List Row
       record {
         found = refl;
         limit = refl;
+        passes = refl;
         later = omega arith;
         keeper_fault = λ p. absurd (no_fault p);
         log_full = λ q. absurd (not_full q);
@@ -23,6 +24,7 @@ module _ {K : Type 0} {faults : K → ℕ} {trail : K → Option (List (List Row
       record {
         found = k.found ∙ h.found;
         limit = k.limit ∙ h.limit;
+        passes = k.passes ∙ h.passes;
         later = let x = h.later in let y = k.later in omega arith;
         keeper_fault = λ p. let x = h.later in let y = k.keeper_fault p in omega arith;
         log_full = k.log_full;
@@ -35,6 +37,7 @@ module _ {K : Type 0} {faults : K → ℕ} {trail : K → Option (List (List Row
       record {
         found = h.found;
         limit = h.limit;
+        passes = h.passes;
         later = h.later;
         keeper_fault = λ p. h.keeper_fault (fault p);
         log_full = λ q. h.log_full (full q);

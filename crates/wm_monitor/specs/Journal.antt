@@ -4,10 +4,11 @@ use Rattle.wm_journal.specs.Journaled.{Journaled}
 use Rattle.wm_outside.specs.Cause.{raised}
 use Rattle.wm_outside.specs.declared.row.Row.{Row}
 
--- the keeper that was found and the limit stay, and the faults that are told have their causes: the keeper's count rose, or the log is full
+-- the keeper that was found, the limit and the passes stay, and the faults that are told have their causes: the keeper's count rose, or the log is full
 pub record HasJournalCauses {K : Type 0} (faults : K → ℕ) (trail : K → Option (List (List Row))) (KeeperFault LogFull : Type 0) (old new : Journaled K) : Type 0 where
   pub found : new.found ≡ old.found
   pub limit : new.limit ≡ old.limit
+  pub passes : new.passes ≡ old.passes
   pub later : faults old.keeper ≤ faults new.keeper
   pub keeper_fault : KeeperFault → raised (faults old.keeper) ≤ faults new.keeper
   pub log_full : LogFull → min new.limit 4000000 ≤ length new.history.log

@@ -7,26 +7,26 @@ ghost use Rattle.wm_monitor.specs.Journal.{HasJournalCauses};
 use crate::fault::MonitorFault;
 use std::alloc::Global;
 use wm_base::Moment;
-use wm_journal::{CallFault, Journal};
+use wm_journal::{CallFault, Journal, Pass};
 use wm_law::Call;
 use wm_outside::Keeper;
 
-/// Makes one call of a caller, and tells a fault as a monitor's. An `Err` leaves the history.
+/// Makes one call of a pass, and tells a fault as a monitor's. An `Err` leaves the history.
 pub fn enter<K: Keeper>(
     alloc: Global,
     journal: &mut Journal<K>,
-    caller: u32,
+    pass: &Pass,
     call: Call,
     now: Moment,
 ) -> Result<(), MonitorFault>
     requires fit { IsCall call }
     requires built { HasCall (reached journal.old.history) call }
-    ensures ok { OnOk result (journal.new.history ≡ with_call journal.old.history caller call now) }
+    ensures ok { OnOk result (journal.new.history ≡ with_call journal.old.history pass.now call now) }
     ensures err { OnErr result (journal.new.history ≡ journal.old.history) }
     ensures no_wait { IsErrOf result MonitorFault.WaitFault → ⊥ }
     ensures journal { HasJournalCauses K.faults K.trail (IsErrOf result MonitorFault.KeeperFault) (IsErrOf result MonitorFault.LogFull) journal.old journal.new }
 {
-    match journal.call(alloc, caller, call, now) {
+    match journal.call(alloc, pass, call, now) {
         Ok(()) => Ok(()),
         Err(CallFault::KeeperFault) => Err(MonitorFault::KeeperFault),
         Err(CallFault::LogFull(_)) => Err(MonitorFault::LogFull),

@@ -6,11 +6,11 @@ use crate::report::Report;
 use std::alloc::Global;
 use std::sync::Wait;
 use wm_base::{Asked, Moment, Serial};
-use wm_journal::Journal;
+use wm_journal::{Journal, Pass};
 use wm_law::{Call, Pending};
 use wm_outside::{Clock, Keeper, Spawner};
 
-/// The pass of the monitor.
+/// The number of the monitor's pass.
 pub const MONITOR: u32 = 1;
 
 /// How many Hands a turn makes at the most.
@@ -65,8 +65,10 @@ impl Monitor {
         &mut self,
         alloc: Global,
         journal: &mut Journal<K>,
+        pass: &Pass,
         clock: &mut C,
     ) -> Result<(), MonitorFault>
+        requires pass { pass.now ≡ monitor_pass }
         ensures part { MonitorCalls journal.old.history self.old journal.new.history self.new }
         ensures sent { OnOk result (IfSome self.old.kept (λ _. length journal.old.history.log < length journal.new.history.log)) }
         ensures moment { OnOk result (IfSome self.old.kept (λ report. IfSome (C.coming clock.old) (λ now.
@@ -83,7 +85,7 @@ impl Monitor {
         let Some(report) = self.kept else {
             return Ok(());
         };
-        enter(alloc, journal, MONITOR, report.call(), clock.now())?;
+        enter(alloc, journal, pass, report.call(), clock.now())?;
         self.kept = None;
         Ok(())
     }
@@ -130,8 +132,10 @@ impl Monitor {
         &mut self,
         alloc: Global,
         journal: &mut Journal<K>,
+        pass: &Pass,
         clock: &mut C,
     ) -> Result<(), MonitorFault>
+        requires pass { pass.now ≡ monitor_pass }
         ensures part { MonitorCalls journal.old.history self.old journal.new.history self.new }
         ensures due { OnOk result (IfSome (next_moment (reached journal.old.history)) (λ due. IfSome (C.coming clock.old) (λ now.
             due ≤ now → journal.new.history ≡ with_call journal.old.history monitor_pass Call.Tick now))) }
@@ -144,7 +148,7 @@ impl Monitor {
         let now = clock.now();
         match journal.pending(MONITOR).next {
             Some(due) if due <= now => {
-                enter(alloc, journal, MONITOR, Call::Tick, now)?;
+                enter(alloc, journal, pass, Call::Tick, now)?;
                 Ok(())
             }
             _ => Ok(()),
@@ -156,11 +160,13 @@ impl Monitor {
         &mut self,
         alloc: Global,
         journal: &mut Journal<K>,
+        pass: &Pass,
         spawner: &mut P,
         clock: &mut C,
     ) -> Result<(), MonitorFault>
         requires clear { IsClear self.old }
         requires called_for { 1 ≤ orders (reached journal.old.history) monitor_pass }
+        requires pass { pass.now ≡ monitor_pass }
         ensures hand { OnOk result (BeginsWithHand journal.old.history journal.new.history) }
         ensures moment { OnOk result (IfSome (C.coming clock.old) (HandsAt journal.old.history journal.new.history)) }
         ensures one { hands_of (since journal.old.history.log journal.new.history.log) ≤ 1 }
@@ -170,7 +176,7 @@ impl Monitor {
         ensures wait_fault { IsErrOf result MonitorFault.WaitFault → raised (P.faults spawner.old) ≤ P.faults spawner.new }
         ensures journal { HasJournalCauses K.faults K.trail (IsErrOf result MonitorFault.KeeperFault) (IsErrOf result MonitorFault.LogFull) journal.old journal.new }
     {
-        enter(alloc, journal, MONITOR, Call::Hand, clock.now())?;
+        enter(alloc, journal, pass, Call::Hand, clock.now())?;
         match journal.order() {
             None => Ok(()),
             Some(Asked::Kill(serial)) => {
@@ -179,7 +185,7 @@ impl Monitor {
             }
             Some(Asked::Start(order)) => {
                 self.kept = Some(asking::start(spawner, order));
-                self.send_kept(alloc, journal, clock)?;
+                self.send_kept(alloc, journal, pass, clock)?;
                 Ok(())
             }
         }
@@ -190,10 +196,12 @@ impl Monitor {
         &mut self,
         alloc: Global,
         journal: &mut Journal<K>,
+        pass: &Pass,
         spawner: &mut P,
         clock: &mut C,
     ) -> Result<Pending, MonitorFault>
-        requires { IsClear self.old }
+        requires clear { IsClear self.old }
+        requires pass { pass.now ≡ monitor_pass }
         ensures part { MonitorAdvances P.asked P.told P.misses journal.old.history self.old spawner.old journal.new.history self.new spawner.new }
         ensures pending { IfOk result (λ p. p ≡ pending (reached journal.new.history) monitor_pass) }
         ensures all { IfOk result (λ p. (p.orders ≡ 0) ⊎ (hands_of (since journal.old.history.log journal.new.history.log) ≡ 256)) }
@@ -209,7 +217,7 @@ impl Monitor {
             if pending.orders == 0 {
                 return Ok(pending);
             }
-            self.hand(alloc, journal, spawner, clock)?;
+            self.hand(alloc, journal, pass, spawner, clock)?;
         }
         Ok(journal.pending(MONITOR))
     }
@@ -219,10 +227,12 @@ impl Monitor {
         &mut self,
         alloc: Global,
         journal: &mut Journal<K>,
+        pass: &Pass,
         spawner: &mut P,
         clock: &mut C,
     ) -> Result<bool, MonitorFault>
-        requires { IsClear self.old }
+        requires clear { IsClear self.old }
+        requires pass { pass.now ≡ monitor_pass }
         ensures none { result ≡ Ok false → IsEmpty (P.reporting spawner.old) }
         ensures sent { result ≡ Ok true → length journal.old.history.log < length journal.new.history.log }
         ensures moment { result ≡ Ok true → IfSome (C.coming clock.old) (λ now. (c : Call) × (journal.new.history ≡ with_call journal.old.history monitor_pass c now)) }
@@ -239,7 +249,7 @@ impl Monitor {
             return Ok(false);
         };
         self.kept = Some(report);
-        self.send_kept(alloc, journal, clock)?;
+        self.send_kept(alloc, journal, pass, clock)?;
         Ok(true)
     }
 
@@ -248,10 +258,12 @@ impl Monitor {
         &mut self,
         alloc: Global,
         journal: &mut Journal<K>,
+        pass: &Pass,
         spawner: &mut P,
         clock: &mut C,
     ) -> Result<(), MonitorFault>
-        requires { IsClear self.old }
+        requires clear { IsClear self.old }
+        requires pass { pass.now ≡ monitor_pass }
         ensures part { MonitorAdvances P.asked P.told P.misses journal.old.history self.old spawner.old journal.new.history self.new spawner.new }
         ensures all { OnOk result (IsEmpty (P.reporting spawner.old) ⊎ (length journal.old.history.log < length journal.new.history.log)) }
         ensures most { length journal.new.history.log ≤ length journal.old.history.log + 256 }
@@ -264,7 +276,7 @@ impl Monitor {
         ensures journal { HasJournalCauses K.faults K.trail (IsErrOf result MonitorFault.KeeperFault) (IsErrOf result MonitorFault.LogFull) journal.old journal.new }
     {
         'looks: for _ in 0..MOST_LOOKS {
-            if !self.look(alloc, journal, spawner, clock)? {
+            if !self.look(alloc, journal, pass, spawner, clock)? {
                 return Ok(());
             }
         }
@@ -277,9 +289,11 @@ impl Monitor {
         &mut self,
         alloc: Global,
         journal: &mut Journal<K>,
+        pass: &Pass,
         spawner: &mut P,
         clock: &mut C,
     ) -> Result<Turned, MonitorFault>
+        requires pass { pass.now ≡ monitor_pass }
         ensures part { MonitorAdvances P.asked P.told P.misses journal.old.history self.old spawner.old journal.new.history self.new spawner.new }
         ensures clear { OnOk result (IsClear self.new) }
         ensures again { OnOk result (IfSome self.old.failed_kill (λ serial. AsksFirst (Kill serial) (P.asked spawner.old) (P.asked spawner.new))) }
@@ -293,11 +307,11 @@ impl Monitor {
             IsIdle journal.old.history self.old.kept self.old.failed_kill (C.coming clock.old) (P.reporting spawner.old)) }
     {
         let before = journal.len();
-        self.send_kept(alloc, journal, clock)?;
+        self.send_kept(alloc, journal, pass, clock)?;
         self.retry(spawner)?;
-        self.tick(alloc, journal, clock)?;
-        let pending = self.hands(alloc, journal, spawner, clock)?;
-        self.looks(alloc, journal, spawner, clock)?;
+        self.tick(alloc, journal, pass, clock)?;
+        let pending = self.hands(alloc, journal, pass, spawner, clock)?;
+        self.looks(alloc, journal, pass, spawner, clock)?;
         Ok(Turned {
             sent: journal.len().saturating_sub(before),
             pending,
@@ -311,10 +325,12 @@ impl Monitor {
         rt: &R,
         alloc: Global,
         journal: &mut Journal<K>,
+        pass: &Pass,
         spawner: &mut P,
         clock: &mut C,
         until: Option<Moment>,
     ) -> Result<Turned, MonitorFault>
+        requires pass { pass.now ≡ monitor_pass }
         ensures part { MonitorAdvances P.asked P.told P.misses journal.old.history self.old spawner.old journal.new.history self.new spawner.new }
         ensures report { OnOk result (until ≡ None → IsEmpty (P.out spawner.old) ⊎ (length journal.old.history.log < length journal.new.history.log)) }
         ensures awaited { OnOk result (Grows (P.awaited spawner.old) (P.awaited spawner.new) (until ∷ [])) }
@@ -327,10 +343,10 @@ impl Monitor {
         ensures pending { IfOk result (λ turned. WaitedSince journal.old.history journal.new.history turned.pending) }
     {
         let before = journal.len();
-        self.send_kept(alloc, journal, clock)?;
+        self.send_kept(alloc, journal, pass, clock)?;
         let report = asking::wait(rt, spawner, until)?;
         self.kept = report;
-        self.send_kept(alloc, journal, clock)?;
+        self.send_kept(alloc, journal, pass, clock)?;
         Ok(Turned {
             sent: journal.len().saturating_sub(before),
             pending: journal.pending(MONITOR),

@@ -11,6 +11,7 @@ ghost use Rattle.wm_run.specs.Serving.{is_of_run};
 ghost use Rattle.wm_stored.specs.Keeping.{telling};
 
 use crate::halt::Halt;
+use crate::passes::Passes;
 use crate::session::Run;
 use crate::whole_run::{NO_MEMORY, Ran, not_begun};
 use std::alloc::Global;
@@ -100,8 +101,9 @@ impl<K: Keeper> Run<K> {
         Ok(answered.faulty)
     }
 
-    // The history, the kept report and the keeper of a run that has ended.
+    // The history, the kept report and the keeper of a run that has ended. The monitor's pass is joined before.
     fn close(self, status: u8) -> (Ran, K)
+        requires out { self.journal.passes.out ≡ 1 }
         ensures status { result.0.status ≡ status }
         ensures log { result.0.log.items ≡ self.journal.history.log }
         ensures kept { result.0.kept ≡ self.monitor.kept }
@@ -110,14 +112,24 @@ impl<K: Keeper> Run<K> {
         ensures tables { HasTables (reached self.journal.history) (K.tables result.1) }
         ensures trail { HasTrail self.journal.history (telling K.tables K.trail self.journal.found) (telling K.tables K.trail result.1) }
     {
-        let kept = self.monitor.kept;
-        let closed = self.journal.close();
-        let ran = Ran {
-            status,
-            log: closed.log,
-            kept,
-        };
-        (ran, closed.keeper)
+        let Run {
+            mut journal,
+            passes,
+            monitor,
+        } = self;
+        let (session, other) = passes.parts();
+        journal.join(&session, other);
+        match journal.close(session) {
+            Ok(closed) => {
+                let ran = Ran {
+                    status,
+                    log: closed.log,
+                    kept: monitor.kept,
+                };
+                (ran, closed.keeper)
+            }
+            Err(_) => unreachable!(),
+        }
     }
 }
 
@@ -147,9 +159,12 @@ pub fn run_kept<I: Source, O: Sink, K: Keeper, P: Spawner, C: Clock, R: Wait>(
     ensures statuses { IsRunStatus result.0.status }
 {
     match Journal::open(alloc, keeper, &setup(), MOST_ENTRIES) {
-        Ok(journal) => {
+        Ok((mut journal, session)) => {
+            let monitor = journal.split(&session);
+            let passes = Passes::new(session, monitor);
             let mut run = Run {
                 journal,
+                passes,
                 monitor: Monitor::new(),
             };
             let end = run.serve(rt, alloc, input, out, spawner, clock);

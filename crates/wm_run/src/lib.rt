@@ -13,6 +13,7 @@ mod input;
 mod kept_run;
 mod parse;
 mod parsed;
+mod passes;
 mod reads;
 mod session;
 mod whole_run;

@@ -9,6 +9,7 @@ use crate::calls::user_call;
 use crate::halt::Halt;
 use crate::parse::parse_line;
 use crate::parsed::Parsed;
+use crate::passes::Passes;
 use crate::write::write_all;
 use std::alloc::Global;
 use std::sync::Wait;
@@ -19,13 +20,11 @@ use wm_monitor::{MONITOR, Monitor, Turned, enter};
 use wm_outside::{Clock, Keeper, Sink, Spawner};
 use wm_show::LineFault;
 
-/// The pass of the session.
-pub const SESSION: u32 = 0;
-
-/// The journal and the monitor of a run.
+/// The journal of a run, its passes, and the monitor.
 #[derive(Drop)]
 pub struct Run<K: Keeper> {
     pub journal: Journal<K>,
+    pub passes: Passes,
     pub monitor: Monitor,
 }
 
@@ -87,7 +86,13 @@ impl<K: Keeper> Run<K> {
         ensures not_full { IsErrOf result Halt.InputFull → ⊥ }
         ensures journal { HasJournalCauses K.faults K.trail (IsErrOf result Halt.KeeperFault) (IsErrOf result Halt.LogFull) self.old.journal self.new.journal }
     {
-        match enter(alloc, &mut self.journal, SESSION, call, clock.now()) {
+        match enter(
+            alloc,
+            &mut self.journal,
+            self.passes.session(),
+            call,
+            clock.now(),
+        ) {
             Ok(()) => Ok(()),
             Err(fault) => Err(Halt::from(fault)),
         }
@@ -135,7 +140,11 @@ impl<K: Keeper> Run<K> {
         ensures idle { IfOk result (λ turned. turned.sent ≡ 0 → self.old.monitor.failed_kill ≡ None →
             IsIdle self.old.journal.history self.old.monitor.kept self.old.monitor.failed_kill (C.coming clock.old) (P.reporting spawner.old)) }
     {
-        match self.monitor.turn(alloc, &mut self.journal, spawner, clock) {
+        let pass = self.passes.monitor();
+        match self
+            .monitor
+            .turn(alloc, &mut self.journal, pass, spawner, clock)
+        {
             Ok(turned) => Ok(turned),
             Err(fault) => Err(Halt::from(fault)),
         }
@@ -159,9 +168,10 @@ impl<K: Keeper> Run<K> {
         ensures journal { HasJournalCauses K.faults K.trail (IsErrOf result Halt.KeeperFault) (IsErrOf result Halt.LogFull) self.old.journal self.new.journal }
     {
         let until = self.journal.pending(MONITOR).next;
+        let pass = self.passes.monitor();
         match self
             .monitor
-            .wait(rt, alloc, &mut self.journal, spawner, clock, until)
+            .wait(rt, alloc, &mut self.journal, pass, spawner, clock, until)
         {
             Ok(_) => Ok(()),
             Err(fault) => Err(Halt::from(fault)),

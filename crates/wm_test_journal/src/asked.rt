@@ -4,6 +4,8 @@
 //                        `KEEPERFAULT`
 // > as USER TEXT         the same of another user
 // > monitor 1 hand       a call of a monitor, by the words of `monitor`, and the answers of a command
+// > split                splits off a pass: its number
+// > join 2               joins the pass of this number
 // > log                  how many entries there are
 // > pending              what waits for the monitor of pass 1: how many jobs are active, how many orders it has, and the next
 //                        moment
@@ -12,7 +14,7 @@ ghost use Rattle.wm_command.specs.Printed.{FitsMachine};
 ghost use Rattle.wm_law.specs.Fit.{IsCall, IsCommand, HasCall};
 ghost use Rattle.wm_law.specs.declared.state.State.{State};
 
-use crate::calls::{self, NOW};
+use crate::calls::{self, Held, NOW};
 use crate::monitor::call_of;
 use crate::replies::write_called;
 use crate::words::first_word;
@@ -22,9 +24,7 @@ use wm_base::{Moment, Name};
 use wm_clwords::read_command;
 use wm_command::{Line, command};
 use wm_core::built;
-use wm_journal::Journal;
 use wm_law::{Boxed, Call, Command, Pending, built_commands_are_had};
-use wm_outside::MemKeeper;
 
 /// The pass of a session.
 pub const SESSION: u32 = 0;
@@ -70,7 +70,7 @@ fn line_call(alloc: Global, user: &Name, line: Line) -> Result<Call>
 // Makes a call, and adds what became of it.
 fn call(
     alloc: Global,
-    journal: &mut Journal<MemKeeper>,
+    journal: &mut Held,
     caller: u32,
     call: Call,
     answer: &mut String,
@@ -78,14 +78,14 @@ fn call(
     requires fit { IsCall call }
     requires had { (s : State) → HasCall s call }
 {
-    let called = calls::call(alloc, journal, caller, call, Moment::new(NOW));
-    write_called(alloc, journal, called, answer)
+    let called = calls::call(alloc, journal, caller, call, Moment::new(NOW))?;
+    write_called(alloc, journal.journal(), called, answer)
 }
 
 // Calls the command that a CL text is.
 fn change(
     alloc: Global,
-    journal: &mut Journal<MemKeeper>,
+    journal: &mut Held,
     user: &Name,
     text: &str,
     answer: &mut String,
@@ -95,23 +95,13 @@ fn change(
     call(alloc, journal, SESSION, made, answer)
 }
 
-fn change_as(
-    alloc: Global,
-    journal: &mut Journal<MemKeeper>,
-    words: &str,
-    answer: &mut String,
-) -> Result<()> {
+fn change_as(alloc: Global, journal: &mut Held, words: &str, answer: &mut String) -> Result<()> {
     let (user, text) = first_word(words);
     let user = Name::read(user.as_bytes()).context("no user")?;
     change(alloc, journal, &user, text, answer)
 }
 
-fn report(
-    alloc: Global,
-    journal: &mut Journal<MemKeeper>,
-    words: &str,
-    answer: &mut String,
-) -> Result<()> {
+fn report(alloc: Global, journal: &mut Held, words: &str, answer: &mut String) -> Result<()> {
     let (monitor, words) = first_word(words);
     let monitor = monitor.parse::<u32>()?;
     let made = call_of(words)?;
@@ -129,19 +119,21 @@ pub fn write_pending(pending: &Pending, answer: &mut String) -> Result<()> {
     Ok(())
 }
 
+fn split(journal: &mut Held, answer: &mut String) -> Result<()> {
+    let number = journal.split()?;
+    Ok(writeln!(answer, "{number}")?)
+}
+
 /// Answers by the first word, which is the name of a command where it is none of these.
-pub fn ask(
-    alloc: Global,
-    journal: &mut Journal<MemKeeper>,
-    question: &str,
-    answer: &mut String,
-) -> Result<()> {
+pub fn ask(alloc: Global, journal: &mut Held, question: &str, answer: &mut String) -> Result<()> {
     let (word, words) = first_word(question);
     match word {
         "as" => change_as(alloc, journal, words, answer),
         "monitor" => report(alloc, journal, words, answer),
-        "log" => Ok(writeln!(answer, "{}", journal.len())?),
-        "pending" => write_pending(&calls::pending(journal), answer),
+        "split" => split(journal, answer),
+        "join" => journal.join(words.parse::<u32>()?),
+        "log" => Ok(writeln!(answer, "{}", journal.journal().len())?),
+        "pending" => write_pending(&calls::pending(journal.journal()), answer),
         _ => change(alloc, journal, &Name::of(b"QUSER"), question, answer),
     }
 }

@@ -1,14 +1,16 @@
-// Calls of a journal and of a monitor over it, of whose answers nothing is said here: a proof above that has only these stays
-// short.
+// Calls of a journal by the numbers of its passes, and of a monitor over it, of whose answers nothing is said here: a proof above
+// that has only these stays short.
 ghost use Rattle.std.specs.Prelude.{◌≤◌};
 ghost use Rattle.wm_law.specs.Fit.{IsCall, HasCall};
 ghost use Rattle.wm_law.specs.declared.state.State.{State};
 
+use anyhow::{Context, Result, bail, ensure};
 use std::alloc::Global;
+use std::marker::Model;
 use wm_base::{Moment, NoMemory};
 use wm_core::Setup;
 use wm_desc::qbatch;
-use wm_journal::{CallFault, Closed, Journal};
+use wm_journal::{CallFault, Closed, Journal, Pass};
 use wm_law::{Ask, Call, Pending};
 use wm_listing::{listing, log_listing};
 use wm_monitor::{MONITOR, Monitor, MonitorFault, Turned};
@@ -19,12 +21,79 @@ use wm_when::Offset;
 /// The moment of each call, where no other is set.
 pub const NOW: u64 = 1000;
 
+/// An open journal, the pass that it was opened with, and those that were split off and not joined again.
+#[derive(Drop)]
+pub struct Held {
+    journal: Journal<MemKeeper>,
+    first: Pass,
+    others: Vec<Pass>,
+}
+
+impl Model for Held {
+    ghost use Rattle.std.specs.Prelude.{◌≡◌, ⊤};
+
+    ghost Value = { ⊤ };
+
+    ghost view = { λ _. tt };
+
+    ghost invariant = { λ h. h.first ≡ 0 };
+}
+
+impl Held {
+    pub fn journal(&self) -> &Journal<MemKeeper> {
+        &self.journal
+    }
+
+    /// Splits off a pass, and gives its number.
+    pub fn split(&mut self) -> Result<u32> {
+        ensure!(self.journal.passes_made() < u32::MAX, "no number is left");
+        self.others.reserve(1)?;
+        let pass = self.journal.split(&self.first);
+        let number = pass.number();
+        self.others.push_reserved(pass);
+        Ok(number)
+    }
+
+    fn take_back(&mut self, other: Pass) -> Result<()> {
+        ensure!(other.number() >= 1, "the first pass");
+        ensure!(self.journal.passes_out() >= 1, "no pass is out");
+        self.journal.join(&self.first, other);
+        Ok(())
+    }
+
+    /// Joins the pass of this number.
+    pub fn join(&mut self, number: u32) -> Result<()> {
+        let at = place_of(&self.others, number).context("no such pass")?;
+        ensure!(at < self.others.len(), "no such place");
+        let other = self.others.remove(at);
+        self.take_back(other)
+    }
+
+    fn join_all(&mut self) -> Result<()> {
+        for _ in 0..self.others.len() {
+            if let Some(other) = self.others.pop() {
+                self.take_back(other)?;
+            }
+        }
+        Ok(())
+    }
+}
+
+// Where the pass of this number stands.
+fn place_of(others: &[Pass], number: u32) -> Option<usize> {
+    others.iter().position(|pass| pass.number() == number)
+}
+
+// The pass of this number.
+fn pass_of<'a>(first: &'a Pass, others: &'a [Pass], number: u32) -> Option<&'a Pass> {
+    if number == 0 {
+        return Some(first);
+    }
+    others.get(place_of(others, number)?)
+}
+
 /// Opens a journal over the keeper, with this limit. An `Err` hands the keeper back.
-pub fn opened(
-    alloc: Global,
-    keeper: MemKeeper,
-    limit: u32,
-) -> Result<Journal<MemKeeper>, (MemKeeper, OpenFault)>
+pub fn opened(alloc: Global, keeper: MemKeeper, limit: u32) -> Result<Held, (MemKeeper, OpenFault)>
     requires some { 1 ≤ limit }
     requires most { limit ≤ 1000000 }
 {
@@ -32,21 +101,32 @@ pub fn opened(
         ctl: qbatch(),
         offset: Offset::new(0),
     };
-    Journal::open(alloc, keeper, &setup, limit)
+    match Journal::open(alloc, keeper, &setup, limit) {
+        Ok((journal, first)) => Ok(Held {
+            journal,
+            first,
+            others: Vec::new(alloc),
+        }),
+        Err(back) => Err(back),
+    }
 }
 
-/// Makes a call of a caller.
+/// Makes a call of the pass of this number.
 pub fn call(
     alloc: Global,
-    journal: &mut Journal<MemKeeper>,
+    held: &mut Held,
     caller: u32,
     call: Call,
     now: Moment,
-) -> Result<(), CallFault>
+) -> Result<Result<(), CallFault>>
     requires fit { IsCall call }
     requires had { (s : State) → HasCall s call }
 {
-    journal.call(alloc, caller, call, now)
+    let Some(pass) = pass_of(&held.first, &held.others, caller) else {
+        drop(call);
+        bail!("no pass {caller}");
+    };
+    Ok(held.journal.call(alloc, pass, call, now))
 }
 
 /// What waits for the monitor of pass 1.
@@ -63,18 +143,50 @@ pub fn listed(alloc: Global, journal: &Journal<MemKeeper>, ask: &Ask) -> Result<
     listing(alloc, &shown)
 }
 
-/// Makes a turn of a monitor.
+/// Makes a turn of a monitor, whose pass is number 1.
 pub fn turn(
     alloc: Global,
     monitor: &mut Monitor,
-    journal: &mut Journal<MemKeeper>,
+    held: &mut Held,
     spawner: &mut MemSpawner,
-) -> Result<Turned, MonitorFault> {
+) -> Result<Result<Turned, MonitorFault>> {
     let mut clock = MemClock::new(Moment::new(NOW), 0);
-    monitor.turn(alloc, journal, spawner, &mut clock)
+    let pass = pass_of(&held.first, &held.others, MONITOR).context("no pass 1")?;
+    ensure!(pass.number() == MONITOR, "another pass");
+    Ok(monitor.turn(alloc, &mut held.journal, pass, spawner, &mut clock))
 }
 
-/// Closes the journal, and gives its entries and its keeper.
-pub fn closed(journal: Journal<MemKeeper>) -> Closed<MemKeeper> {
-    journal.close()
+/// Closes the journal, and gives its entries and its keeper. An `Err` hands it back, since a pass is out.
+pub fn shut(held: Held) -> Result<Closed<MemKeeper>, Held> {
+    let Held {
+        journal,
+        first,
+        others,
+    } = held;
+    match journal.close(first) {
+        Ok(closed) => {
+            drop(others);
+            Ok(closed)
+        }
+        Err((journal, first)) => Err(Held {
+            journal,
+            first,
+            others,
+        }),
+    }
+}
+
+/// Joins all passes, and closes the journal.
+pub fn closed(mut held: Held) -> Result<Closed<MemKeeper>> {
+    if let Err(fault) = held.join_all() {
+        drop(held);
+        return Err(fault);
+    }
+    match shut(held) {
+        Ok(closed) => Ok(closed),
+        Err(held) => {
+            drop(held);
+            bail!("a pass is out")
+        }
+    }
 }

@@ -2,6 +2,7 @@
 //
 // > TEXT                 the command of this CL text, which QUSER calls: what it shows, or its refusal
 // > monitor 1 hand       a call of a monitor, by the words of `monitor`: its refusal
+// > split 2              splits off passes up to this number
 // > set now 1020         the moment of the calls that follow
 // > list causes          the listing of a job for each cause that no command and no report of today gives
 //
@@ -11,7 +12,7 @@ ghost use Rattle.wm_law.specs.Fit.{IsCall, HasCall};
 ghost use Rattle.wm_law.specs.declared.state.State.{State};
 
 use crate::asked::{SESSION, line_of, user_call};
-use crate::calls::{NOW, call, listed};
+use crate::calls::{Held, NOW, call, listed};
 use crate::causes::listed_causes;
 use crate::monitor::call_of;
 use crate::opened::{keeper_of, open};
@@ -30,7 +31,7 @@ use wm_outside::MemKeeper;
 #[derive(Drop)]
 pub struct Listed {
     alloc: Global,
-    journal: Option<Journal<MemKeeper>>,
+    journal: Option<Held>,
     now: Moment,
 }
 
@@ -63,15 +64,15 @@ impl Listed {
         requires had { (s : State) → HasCall s made }
     {
         let journal = self.journal.as_mut().context("no journal")?;
-        if let Err(fault) = call(self.alloc, journal, caller, made, self.now) {
+        if let Err(fault) = call(self.alloc, journal, caller, made, self.now)? {
             bail!("{fault}");
         }
-        write_refusal(journal, answer)
+        write_refusal(journal.journal(), answer)
     }
 
     fn show(&self, ask: &Ask, answer: &mut String) -> Result<()> {
         let journal = self.journal.as_ref().context("no journal")?;
-        let bytes = listed(self.alloc, journal, ask)?;
+        let bytes = listed(self.alloc, journal.journal(), ask)?;
         write_listing(&bytes, answer)
     }
 
@@ -100,6 +101,17 @@ impl Listed {
         self.call(monitor, made, answer)
     }
 
+    fn split(&mut self, last: &str) -> Result<()> {
+        let last = last.parse::<u32>()?;
+        let journal = self.journal.as_mut().context("no journal")?;
+        for _ in 0..last {
+            if journal.split()? >= last {
+                return Ok(());
+            }
+        }
+        Ok(())
+    }
+
     fn list_causes(&self, answer: &mut String) -> Result<()> {
         let bytes = listed_causes(self.alloc)?;
         write_listing(&bytes, answer)
@@ -118,6 +130,8 @@ impl Listed {
             self.monitor(words, answer)
         } else if let Some(now) = question.strip_prefix("set now ") {
             self.set_now(now)
+        } else if let Some(last) = question.strip_prefix("split ") {
+            self.split(last)
         } else if question == "list causes" {
             self.list_causes(answer)
         } else {

@@ -1,8 +1,7 @@
 // Opening a journal over a keeper in memory.
-use crate::calls::opened;
+use crate::calls::{Held, opened};
 use anyhow::{Result, ensure};
 use std::alloc::Global;
-use wm_journal::Journal;
 use wm_outside::{MemKeeper, Row, are_in_order};
 use wm_stored::OpenFault;
 
@@ -22,13 +21,28 @@ fn limit_of(words: &str) -> Result<u32> {
     }
 }
 
-/// A journal over the keeper, with the limit of `limit 3`, or with the greatest. An `Err` hands the keeper back.
+// The same journal, with pass 1 split off for a monitor.
+fn with_monitor(mut held: Held) -> Result<Result<Held, (MemKeeper, OpenFault)>> {
+    match held.split() {
+        Ok(_) => Ok(Ok(held)),
+        Err(fault) => {
+            drop(held);
+            Err(fault)
+        }
+    }
+}
+
+/// A journal over the keeper, with the limit of `limit 3`, or with the greatest, and with passes 0 and 1. An `Err` hands the
+/// keeper back.
 pub fn open(
     alloc: Global,
     keeper: MemKeeper,
     words: &str,
-) -> Result<Result<Journal<MemKeeper>, (MemKeeper, OpenFault)>> {
+) -> Result<Result<Held, (MemKeeper, OpenFault)>> {
     let limit = limit_of(words)?;
     ensure!((1..=MOST).contains(&limit), "no limit");
-    Ok(opened(alloc, keeper, limit))
+    match opened(alloc, keeper, limit) {
+        Ok(held) => with_monitor(held),
+        Err(back) => Ok(Err(back)),
+    }
 }

@@ -3,7 +3,8 @@
 // > row TAB|KEY|BODY     a row of the next keeper
 // > keeper               a keeper of these rows, or of none; `keeper fail 2 3` fails at the second and third `apply`
 // > open                 opens a journal over the keeper: `OPEN`, `BADROW N` or `KEEPERFAULT`; `open limit 3` with this limit
-// > close                closes the journal, whose keeper is left to the next `open`
+// > close                joins all passes and closes the journal, whose keeper is left to the next `open`
+// > shut                 closes it with the passes as they are: `SHUT`, or `OUT N` where so many are out, and it stays open
 // > rows TAB             the rows of a table
 // > changed              the rows that went since this was last asked, or the keeper made, and those that came
 // > spawner fail 1       a monitor that keeps nothing, and a spawner whose first kill fails
@@ -14,7 +15,7 @@
 //
 // All others are asked of the open journal.
 use crate::asked::ask;
-use crate::calls::closed;
+use crate::calls::{Held, closed, shut};
 use crate::failing::write_failing;
 use crate::opened::{keeper_of, open};
 use crate::replies::write_open_fault;
@@ -25,7 +26,7 @@ use anyhow::{Context, Result};
 use std::alloc::Global;
 use std::mem;
 use wm_cases::Subject;
-use wm_journal::Journal;
+use wm_journal::Closed;
 use wm_outside::{Keeper, MemKeeper, Row};
 
 const NO_KEEPER: &str = "no keeper";
@@ -37,7 +38,7 @@ pub struct Tested {
     // The rows of the next keeper.
     rows: Vec<Row>,
     keeper: Option<MemKeeper>,
-    journal: Option<Journal<MemKeeper>>,
+    journal: Option<Held>,
     turns: Option<Turns>,
     // The rows that were seen last.
     seen: Vec<Row>,
@@ -82,8 +83,26 @@ impl Tested {
 
     fn close(&mut self) -> Result<()> {
         let journal = self.journal.take().context("no journal")?;
-        drop(self.keeper.replace(closed(journal).keeper));
+        let Closed { log, keeper } = closed(journal)?;
+        drop(log);
+        drop(self.keeper.replace(keeper));
         Ok(())
+    }
+
+    fn shut(&mut self, answer: &mut String) -> Result<()> {
+        let journal = self.journal.take().context("no journal")?;
+        match shut(journal) {
+            Ok(Closed { log, keeper }) => {
+                drop(log);
+                drop(self.keeper.replace(keeper));
+                Ok(answer.push_str("SHUT\n")?)
+            }
+            Err(journal) => {
+                let out = journal.journal().passes_out();
+                drop(self.journal.replace(journal));
+                Ok(writeln!(answer, "OUT {out}")?)
+            }
+        }
     }
 
     fn loaded(&mut self) -> Result<Vec<Row>> {
@@ -151,6 +170,7 @@ impl Subject for Tested {
             "keeper" => self.keep(words),
             "open" => self.open(words, answer),
             "close" => self.close(),
+            "shut" => self.shut(answer),
             "rows" => self.table(words, answer),
             "changed" => self.changed(answer),
             "spawner" => self.make_spawner(words),

@@ -1,11 +1,10 @@
 // Turns of a monitor, with a spawner in memory whose children end where they are killed.
-use crate::calls::turn;
+use crate::calls::{Held, turn};
 use crate::replies::write_asked;
 use anyhow::{Result, bail};
 use std::alloc::Global;
-use wm_journal::Journal;
 use wm_monitor::{Monitor, MonitorFault};
-use wm_outside::{MemKeeper, MemSpawner};
+use wm_outside::MemSpawner;
 
 /// No child ends by itself within so many looks.
 const LAG: u32 = 1000;
@@ -28,13 +27,8 @@ impl Turns {
     }
 
     /// Makes a turn, and adds how many calls it made, or that a kill failed.
-    pub fn turn(
-        &mut self,
-        alloc: Global,
-        journal: &mut Journal<MemKeeper>,
-        answer: &mut String,
-    ) -> Result<()> {
-        match turn(alloc, &mut self.monitor, journal, &mut self.spawner) {
+    pub fn turn(&mut self, alloc: Global, journal: &mut Held, answer: &mut String) -> Result<()> {
+        match turn(alloc, &mut self.monitor, journal, &mut self.spawner)? {
             Ok(turned) => writeln!(answer, "{} calls", turned.sent)?,
             Err(MonitorFault::WaitFault) => answer.push_str("WAITFAULT\n")?,
             Err(_) => bail!("another fault"),

@@ -1,6 +1,6 @@
 use Rattle.std.proofs.Common.{◌≡◌, ◌<◌, ◌≤◌, ℕ, ℤ, List, Option, option_to_list, false, inl, sym, ap, subst, ◌∙◌, arith}
 use Rattle.std.specs.Io.KnownBytes.{IsAtEnd}
-use Rattle.wm_journal.specs.History.{reached}
+use Rattle.wm_journal.specs.History.{History, reached}
 use Rattle.wm_journal.specs.Trail.{HasTrail}
 use Rattle.wm_law.specs.Pending.{active}
 use Rattle.wm_law.specs.declared.call.Entry.{Entry}
@@ -12,7 +12,7 @@ use Rattle.wm_run.specs.Outcome.{RunTakes}
 use Rattle.wm_run.proofs.Openings.{not_opened, open_high, open_low, open_unread, opened_run}
 use Rattle.wm_run.proofs.Outcomes.{came_not, came_run}
 use Rattle.wm_monitor.specs.declared.report.Report.{Report}
-use Rattle.wm_run.specs.Run.{IsServed}
+use Rattle.wm_run.specs.Run.{IsServed, run_offset}
 use Rattle.wm_run.proofs.Runs.{ended_if}
 use Rattle.wm_run.proofs.Servings.{served}
 use Rattle.wm_run.proofs.kept_run.run_kept.Goals as goal
@@ -30,28 +30,33 @@ pub returns-in-Ok-clause-history : goal.returns-in-Ok-clause-history
 returns-in-Ok-clause-history g c =
     let k = g.K.Keeper in
     let T = telling k.tables k.trail in
-    let j = c.in-Ok.journal in
+    let j = c.split-monitor.new.self in
+    let split = c.split-monitor.ensures in
+    let empty = ap (λ (h : History). h.log) split.history ∙ c.in-Ok.ensures.log in
     let last = c.serve-end.new.self.journal in
     let status = c.close.ensures.status ∙ c.ended_status.ensures in
-    let opened = subst (λ (offset : ℤ). IsOpened offset j.history.opened (T c.args.keeper) (T j.keeper)) c.setup.ensures c.in-Ok.ensures.ok in
+    let found_rows = subst (λ (offset : ℤ). IsOpened offset c.in-Ok.journal.history.opened (T c.args.keeper) (T c.in-Ok.journal.keeper)) c.setup.ensures c.in-Ok.ensures.ok in
+    let same_rows = subst (λ (h : History). IsOpened run_offset h.opened (T c.args.keeper) (T c.in-Ok.journal.keeper)) (sym split.history) found_rows in
+    let opened = subst (λ (keeper : _). IsOpened run_offset j.history.opened (T c.args.keeper) (T keeper)) (sym split.keeper) same_rows in
     let kept = c.serve-end.ensures.journal in
     let serves = c.serve-end.ensures.serves in
-    let found = kept.found ∙ c.in-Ok.ensures.found in
+    let found = kept.found ∙ (split.found ∙ c.in-Ok.ensures.found) in
     let trail = subst (λ (keeper : _). HasTrail last.history (T keeper) (T c.close.result.1)) found c.close.ensures.trail in
     let idle : c.close.result.0.status ≤ 1 → active (reached last.history) ≡ 0 = λ low. ended_if (λ _. active (reached last.history) ≡ 0) c.serve-end.result c.serve-end.ensures.idle (subst (λ (n : ℕ). n ≤ 1) status low) in
-    let came = came_run c.serve-end.result c.close.result.0.status j.history last.history c.close.result.0.log.items _ _ _ _ status c.in-Ok.ensures.log c.close.ensures.log c.serve-end.ensures.input in
+    let came = came_run c.serve-end.result c.close.result.0.status j.history last.history c.close.result.0.log.items _ _ _ _ status empty c.close.ensures.log c.serve-end.ensures.input in
     let input = g.I.Source.left in
     let out = g.O.Sink.written in
     let Came = RunTakes (input c.args.input.now) (input c.serve-end.new.input) c.close.result.0.status c.close.result.0.log.items (out c.args.out.now) (out c.serve-end.new.out) in
-    inl (opened_run {Came = Came} c.close.result.0.status c.close.result.0.log.items j.history last.history (T c.args.keeper) (T j.keeper) (T c.close.result.1) opened c.in-Ok.ensures.log serves.opened c.close.ensures.log c.close.ensures.legal serves.no_idle idle c.close.ensures.tables trail (λ none. ap k.trail c.close.ensures.keeper ∙ kept.untold none) (g.met.K.Keeper.trail_with_tables c.args.keeper) (g.met.K.Keeper.trail_with_tables c.close.result.1) came)
+    inl (opened_run {Came = Came} c.close.result.0.status c.close.result.0.log.items j.history last.history (T c.args.keeper) (T j.keeper) (T c.close.result.1) opened empty serves.opened c.close.ensures.log c.close.ensures.legal serves.no_idle idle c.close.ensures.tables trail (λ none. ap k.trail c.close.ensures.keeper ∙ kept.untold none) (g.met.K.Keeper.trail_with_tables c.args.keeper) (g.met.K.Keeper.trail_with_tables c.close.result.1) came)
 
 pub returns-in-Ok-clause-end : goal.returns-in-Ok-clause-end
 returns-in-Ok-clause-end g c low up =
-    let j = c.in-Ok.journal in
+    let j = c.split-monitor.new.self in
+    let empty = ap (λ (h : History). h.log) c.split-monitor.ensures.history ∙ c.in-Ok.ensures.log in
     let last = c.serve-end.new.self.journal in
     let status = c.close.ensures.status ∙ c.ended_status.ensures in
     let left = g.I.Source.left c.serve-end.new.input in
-    let from : entries_between j.history last.history ≡ c.close.result.0.log.items = ap (λ (l : List Entry). since l last.history.log) c.in-Ok.ensures.log ∙ sym c.close.ensures.log in
+    let from : entries_between j.history last.history ≡ c.close.result.0.log.items = ap (λ (l : List Entry). since l last.history.log) empty ∙ sym c.close.ensures.log in
     let end = ended_if (λ _. is_down (entries_between j.history last.history) ≡ false → IsAtEnd left) c.serve-end.result c.serve-end.ensures.end (subst (λ (n : ℕ). n ≤ 1) status low) in
     end (ap is_down from ∙ up)
 
@@ -65,8 +70,9 @@ returns-in-Ok-clause-served g c =
     let s = g.P.Spawner in
     let p = c.args.spawner.now in
     let q = c.serve-end.new.spawner in
-    let j = c.in-Ok.journal in
+    let j = c.split-monitor.new.self in
+    let empty = ap (λ (h : History). h.log) c.split-monitor.ensures.history ∙ c.in-Ok.ensures.log in
     let run = c.serve-end.new.self in
-    let all = served j.history run.journal.history c.new.result run.monitor (s.asked p) (s.asked q) (s.told p) (s.told q) (s.misses p) (s.misses q) c.in-Ok.ensures.log c.new.ensures c.serve-end.ensures.serves in
+    let all = served j.history run.journal.history c.new.result run.monitor (s.asked p) (s.asked q) (s.told p) (s.told q) (s.misses p) (s.misses q) empty c.new.ensures c.serve-end.ensures.serves in
     let K = λ (l : List Entry) (k : Option Report). IsServed l (option_to_list k) (s.asked p) (s.asked q) (s.told p) (s.told q) (s.misses p) (s.misses q) in
     subst (λ (l : List Entry). K l c.close.result.0.kept) (sym c.close.ensures.log) (subst (λ (k : Option Report). K run.journal.history.log k) (sym c.close.ensures.kept) all)

@@ -16,10 +16,10 @@ invariant_of-self-2 g c =
     let T = telling g.K.Keeper.tables g.K.Keeper.trail in
     let j = c.self.inside in
     let h : History = record { opened = j.opened.value.state; log = j.log.items } in
-    let e : Entry = record { caller = c.args.caller; call = c.args.call; moment = c.args.now; reply = c.in_ok-reply.reply } in
-    let k : IsStep h j.limit j.stored.state c.step.new.self.state c.args.caller c.args.call c.args.now c.in_ok-reply.reply (T j.found.value) (T j.stored.keeper) (T c.step.new.self.keeper) = record {
+    let e : Entry = record { caller = c.number-caller.result; call = c.args.call; moment = c.args.now; reply = c.in_ok-reply.reply } in
+    let k : IsStep h j.limit j.stored.state c.step.new.self.state c.number-caller.result c.args.call c.args.now c.in_ok-reply.reply (T j.found.value) (T j.stored.keeper) (T c.step.new.self.keeper) = record {
       journal = c.self.invariant;
-      seat = (let r = c.ranges.caller in grind arith);
+      seat = (let v = c.number-caller.ensures.value in let r = c.number-caller.ensures.range in omega arith);
       fit = c.requires.fit;
       built = subst (λ (now : Journaled _). HasCall (reached now.history) c.args.call) (sym c.self.view_is) c.requires.built;
       moment = c.get-moment.ensures.range;
@@ -29,17 +29,17 @@ invariant_of-self-2 g c =
       kept = c.in_ok-reply.ensures.kept;
     } in
     let pushed : c.push_reserved.new.self.items ≡ j.log.items ++ e ∷ [] = c.push_reserved.ensures.items ∙ ap (λ (es : List Entry). es ++ e ∷ []) c.reserve.ensures.items in
-    subst (λ (es : List Entry). IsJournal (record { opened = h.opened; log = es }) j.limit c.step.new.self.state (T j.found.value) (T c.step.new.self.keeper)) (sym pushed) (journal_with h j.limit j.stored.state c.step.new.self.state c.args.caller c.args.call c.args.now c.in_ok-reply.reply (T j.found.value) (T j.stored.keeper) (T c.step.new.self.keeper) k)
+    subst (λ (es : List Entry). IsJournal (record { opened = h.opened; log = es }) j.limit c.step.new.self.state (T j.found.value) (T c.step.new.self.keeper)) (sym pushed) (journal_with h j.limit j.stored.state c.step.new.self.state c.number-caller.result c.args.call c.args.now c.in_ok-reply.reply (T j.found.value) (T j.stored.keeper) (T c.step.new.self.keeper) k)
 
 pub returns-clause-kept : goal.returns-clause-kept
 returns-clause-kept g c =
     let T = telling g.K.Keeper.tables g.K.Keeper.trail in
     let j = c.self.inside in
     let h : History = record { opened = j.opened.value.state; log = j.log.items } in
-    let e : Entry = record { caller = c.args.caller; call = c.args.call; moment = c.args.now; reply = c.in_ok-reply.reply } in
-    let k : IsStep h j.limit j.stored.state c.step.new.self.state c.args.caller c.args.call c.args.now c.in_ok-reply.reply (T j.found.value) (T j.stored.keeper) (T c.step.new.self.keeper) = record {
+    let e : Entry = record { caller = c.number-caller.result; call = c.args.call; moment = c.args.now; reply = c.in_ok-reply.reply } in
+    let k : IsStep h j.limit j.stored.state c.step.new.self.state c.number-caller.result c.args.call c.args.now c.in_ok-reply.reply (T j.found.value) (T j.stored.keeper) (T c.step.new.self.keeper) = record {
       journal = c.self.invariant;
-      seat = (let r = c.ranges.caller in grind arith);
+      seat = (let v = c.number-caller.ensures.value in let r = c.number-caller.ensures.range in omega arith);
       fit = c.requires.fit;
       built = subst (λ (now : Journaled _). HasCall (reached now.history) c.args.call) (sym c.self.view_is) c.requires.built;
       moment = c.get-moment.ensures.range;
@@ -49,6 +49,6 @@ returns-clause-kept g c =
       kept = c.in_ok-reply.ensures.kept;
     } in
     let pushed : c.push_reserved.new.self.items ≡ j.log.items ++ e ∷ [] = c.push_reserved.ensures.items ∙ ap (λ (es : List Entry). es ++ e ∷ []) c.reserve.ensures.items in
-    let kept = kept_with h j.limit j.stored.state c.step.new.self.state c.args.caller c.args.call c.args.now c.in_ok-reply.reply (T j.found.value) (T j.stored.keeper) (T c.step.new.self.keeper) k in
+    let kept = kept_with h j.limit j.stored.state c.step.new.self.state c.number-caller.result c.args.call c.args.now c.in_ok-reply.reply (T j.found.value) (T j.stored.keeper) (T c.step.new.self.keeper) k in
     let now = subst (λ (es : List Entry). IsKept (reached h) (reached (record { opened = h.opened; log = es })) (T j.stored.keeper) (T c.step.new.self.keeper)) (sym pushed) kept in
     subst (λ (was : Journaled _). IsKept (reached was.history) (reached (record { opened = h.opened; log = c.push_reserved.new.self.items })) (T was.keeper) (T c.step.new.self.keeper)) c.self.view_is now

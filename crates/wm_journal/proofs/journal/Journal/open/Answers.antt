@@ -6,8 +6,8 @@ use Rattle.wm_journal.specs.Journaled.{IsJournal}
 use Rattle.wm_journal.proofs.Trails.{trail_opened}
 use Rattle.wm_journal.proofs.journal.Journal.open.Goals as goal
 
-pub invariant_of-result : goal.invariant_of-result
-invariant_of-result g c =
+pub invariant_of-journal : goal.invariant_of-journal
+invariant_of-journal g c =
     let T = telling g.K.Keeper.tables g.K.Keeper.trail in
     let stored = c.in-Ok.stored in
     let new = T stored.keeper in
