@@ -27,6 +27,7 @@ impl Pass {
         Pass { number: 0 }
     }
 
+    /// Its number.
     pub fn number(&self) -> u32
         ensures value { result ≡ self.now }
         ensures range { self.now < 2 ^ 32 }
