@@ -1,5 +1,6 @@
 pub mod Bytes
 pub mod Cause
+pub mod ChangeLog
 pub mod Keeping
 pub mod Removal
 pub mod Reports

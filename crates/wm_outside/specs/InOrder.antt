@@ -1,6 +1,5 @@
 -- Why rows that are changed stay in order.
-use Rattle.std.proofs.Common.{◌≡◌, ℕ, zero, suc, ◌+◌, Bool, true, false, cond, List, [], ◌∷◌, get_or, take, drop, Option, Some, None, option_map, is_some, IfSome, All, AllPairs, Vec, count_by, refl, ap, sym, ◌∙◌, arith}
-use Rattle.std.specs.declared.alloc.Global.{Global}
+use Rattle.std.proofs.Common.{◌≡◌, ℕ, zero, suc, ◌+◌, Bool, true, false, cond, List, [], ◌∷◌, get_or, take, drop, Option, Some, None, option_map, is_some, IfSome, All, AllPairs, count_by, refl, ap, sym, ◌∙◌, arith}
 use Rattle.std.specs.declared.cmp.Ordering.{Ordering}
 use Rattle.std.specs.declared.cmp.Ordering.TheVariants.{Less, Equal, Greater}
 use Rattle.std.specs.Cmp.{IsTotalOrder}
@@ -151,14 +150,14 @@ pub changed_in_order : (changes : List RowChange) (rows : List Row) → IsInOrde
 changed_in_order [] rows h = h
 changed_in_order (change ∷ changes) rows h = changed_in_order changes (changed_by rows change) (one_in_order rows change h)
 
-pub after_in_order : (rows : List Row) (made : List (Vec RowChange Global)) → IsInOrder rows → IsInOrder (tables_after rows made)
+pub after_in_order : (rows : List Row) (made : List (List RowChange)) → IsInOrder rows → IsInOrder (tables_after rows made)
 after_in_order rows [] h = h
-after_in_order rows (changes ∷ later) h = after_in_order (after_one rows changes) later (changed_in_order changes.items rows h)
+after_in_order rows (changes ∷ later) h = after_in_order (after_one rows changes) later (changed_in_order changes rows h)
 
 -- the same of a store
 pub kept_in_order : (kept : Option MemKeeper) → IfSome (option_map keeper_tables kept) IsInOrder
 kept_in_order None = tt
-kept_in_order (Some k) = after_in_order k.began.items k.made.items k.in_order
+kept_in_order (Some k) = after_in_order k.began.items k.made k.in_order
 
 -- a store tells its trail where it tells its tables
 pub kept_with_tables : (kept : Option MemKeeper) → is_some (option_map keeper_trail kept) ≡ is_some (option_map keeper_tables kept)

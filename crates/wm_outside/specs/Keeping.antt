@@ -8,11 +8,11 @@ use Rattle.wm_outside.specs.Log.{tables_after, trail_of}
 
 -- the rows
 abbrev pub keeper_tables : MemKeeper → List Row
-keeper_tables k = tables_after k.began.items k.made.items
+keeper_tables k = tables_after k.began.items k.made
 
 -- all tables that it has had
 abbrev pub keeper_trail : MemKeeper → List (List Row)
-keeper_trail k = trail_of k.began.items k.made.items
+keeper_trail k = trail_of k.began.items k.made
 
 -- the calls of `apply`
 abbrev pub keeper_calls : MemKeeper → Calls

@@ -1,5 +1,6 @@
 pub mod Calls
 pub mod Cause
+pub mod ChangeLog
 pub mod Children
 pub mod InOrder
 pub mod Keeping

@@ -1,6 +1,7 @@
 // The forms in memory. They tell all that they do, fail exactly at the calls that their lists name, and take memory
 // only to record what they were given, and for the rows that are loaded.
 mod calls;
+mod change_log;
 mod children;
 mod clock;
 mod keeper;

@@ -5,7 +5,7 @@ ghost use Rattle.wm_outside.specs.Cause.{HasKeepCause, keep_missed};
 ghost use Rattle.wm_outside.specs.declared.fault.KeepFault.TheVariants.{Failed, NoMemory};
 
 use super::calls::Calls;
-use super::tables::tables_after;
+use super::change_log::ChangeLog;
 use crate::{KeepFault, Keeper, Row, RowChange};
 
 /// A keeper of the rows that were there first and of the changes of each `apply` since. So an `apply` costs what its
@@ -13,7 +13,7 @@ use crate::{KeepFault, Keeper, Row, RowChange};
 #[derive(Drop)]
 pub struct MemKeeper {
     began: Vec<Row>,
-    made: Vec<Vec<RowChange>>,
+    made: ChangeLog,
     calls: Calls,
     ghost in_order: { IsInOrder began.items },
 }
@@ -32,7 +32,7 @@ impl MemKeeper {
         let alloc = *rows.allocator();
         MemKeeper {
             began: rows,
-            made: Vec::new(alloc),
+            made: ChangeLog::new(alloc),
             calls: Calls::new(fail),
         }
     }
@@ -72,8 +72,9 @@ impl Keeper for MemKeeper {
         ensures same { self.new ≡ self.old }
         ensures never_fails { IsErrOf result Failed → ⊥ }
     {
-        let alloc = *self.began.allocator();
-        Ok(tables_after(alloc, &self.began, &self.made)?)
+        let mut rows = self.began.to_vec(*self.began.allocator())?;
+        self.made.change(&mut rows)?;
+        Ok(rows)
     }
 
     #[tactic(auto, using(crate::proofs::Keeping::tables_grown, crate::proofs::Keeping::trail_grown))]
@@ -90,12 +91,11 @@ impl Keeper for MemKeeper {
         if changes.is_empty() {
             return Ok(());
         }
-        let kept = changes.to_vec(*self.made.allocator())?;
-        self.made.push(kept)?;
+        self.made.push(changes)?;
         Ok(())
     }
 
-    ghost tables_in_order = { λ k. after_in_order k.began.items k.made.items k.in_order };
+    ghost tables_in_order = { λ k. after_in_order k.began.items k.made k.in_order };
 
     ghost trail_with_tables = { λ k. refl };
 }

@@ -1,11 +1,9 @@
-// What changes make of rows in memory. Where one of these answers `NoMemory`, the rows that it was changing are of no use.
-ghost use Rattle.std.specs.Prelude.{◌≡◌, IfOk, OnOk, position};
-ghost use Rattle.wm_outside.specs.Rows.{is_of, without, placed, put, changed_by, changed};
-ghost use Rattle.wm_outside.specs.Log.{tables_after};
+// What a change makes of rows in memory.
+ghost use Rattle.std.specs.Prelude.{◌≡◌, OnOk, position};
+ghost use Rattle.wm_outside.specs.Rows.{is_of, without, placed, put, changed_by};
 
 use crate::order::is_before;
 use crate::{Row, RowChange};
-use std::alloc::Global;
 use wm_base::{NoMemory, Text};
 
 fn is_of(row: &Row, tab: u8, key: &Text) -> bool
@@ -46,36 +44,13 @@ fn put(rows: &mut Vec<Row>, row: Row) -> Result<(), NoMemory>
     Ok(())
 }
 
-fn change(rows: &mut Vec<Row>, change: &RowChange) -> Result<(), NoMemory>
-    ensures { OnOk result (rows.new.items ≡ changed_by rows.old.items change.now) }
+/// Makes a change of rows. Where it answers `NoMemory`, they are of no use.
+pub(super) fn change(rows: &mut Vec<Row>, change: RowChange) -> Result<(), NoMemory>
+    ensures { OnOk result (rows.new.items ≡ changed_by rows.old.items change) }
 {
     match change {
-        RowChange::Put(row) => put(rows, row.clone()?)?,
-        RowChange::Del(tab, key) => take_out(rows, *tab, key),
+        RowChange::Put(row) => put(rows, row)?,
+        RowChange::Del(tab, key) => take_out(rows, tab, &key),
     }
     Ok(())
-}
-
-fn change_all(rows: &mut Vec<Row>, changes: &[RowChange]) -> Result<(), NoMemory>
-    ensures { OnOk result (rows.new.items ≡ changed changes.now rows.old.items) }
-{
-    for each in changes {
-        change(rows, each)?;
-    }
-    Ok(())
-}
-
-/// The rows after all changes that were made since the first rows.
-pub(super) fn tables_after(
-    alloc: Global,
-    began: &[Row],
-    made: &[Vec<RowChange>],
-) -> Result<Vec<Row>, NoMemory>
-    ensures { IfOk result (λ rows. rows.items ≡ tables_after began.now made.now) }
-{
-    let mut rows = began.to_vec(alloc)?;
-    for changes in made {
-        change_all(&mut rows, changes)?;
-    }
-    Ok(rows)
 }
