@@ -5,24 +5,12 @@ use sqlite::Connection;
 use std::fmt::Write;
 use std::rt::HostRuntime;
 
-fn run_in(conn: &mut Connection, sql: &str) -> Result<()> {
-    conn.execute_batch(sql)?;
-    Ok(())
-}
-
 /// Runs the statements of `a.db | DROP TABLE wmrow`, and closes the file.
 pub fn run(rt: &HostRuntime, words: &str) -> Result<()> {
     let (path, sql) = words.split_once(BAR).ok_or(anyhow!("no statements"))?;
     let mut conn = Connection::open(rt, path)?;
-    let ran = run_in(&mut conn, sql);
+    conn.execute_batch(sql)?;
     conn.close()?;
-    ran
-}
-
-fn show_of(conn: &mut Connection, sql: &str, answer: &mut String) -> Result<()> {
-    let row = conn.query_row(sql, &[])?;
-    let text: String = row.get(0)?;
-    writeln!(answer, "{text}")?;
     Ok(())
 }
 
@@ -30,7 +18,8 @@ fn show_of(conn: &mut Connection, sql: &str, answer: &mut String) -> Result<()> 
 pub fn show(rt: &HostRuntime, words: &str, answer: &mut String) -> Result<()> {
     let (path, sql) = words.split_once(BAR).ok_or(anyhow!("no query"))?;
     let mut conn = Connection::open(rt, path)?;
-    let shown = show_of(&mut conn, sql, answer);
-    drop(conn);
-    shown
+    let row = conn.query_row(sql, &[])?;
+    let text: String = row.get(0)?;
+    writeln!(answer, "{text}")?;
+    Ok(())
 }
