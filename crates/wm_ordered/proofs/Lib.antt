@@ -1,5 +1,10 @@
+pub mod Branches
 pub mod Cuts
 pub mod Found
-pub mod Opened
+pub mod Merged
+pub mod Placed
+pub mod Relinked
 pub mod Sides
+pub mod Standing
 pub mod Tested
+pub mod Whole

@@ -1,178 +1,198 @@
-// Trees that are changed in place, cut and joined. All of these take nodes and give them, and want no memory. What lies above
-// the place of a change isn't moved.
-// Where a tree isn't sorted they end as well, so that is no condition of the calls: then less is known of what they give.
-ghost use Rattle.std.specs.Prelude.{◌≡◌, ◌+◌, ◌∷◌, ◌++◌, length, is_some, option_map, if◌then◌else◌};
-ghost use Rattle.wm_desc.specs.Sorted.{IsSortedOnce, added, removed};
+// Trees that are changed in place, cut and joined, by links alone: no node is moved. The depth is how many levels a tree has
+// at the most, and only shows that a call ends.
+ghost use Rattle.std.specs.Prelude.{◌≡◌, ℕ, ◌+◌, ◌<◌, ◌≤◌, List, ◌++◌, length, slice_get, option_map, Some};
+ghost use Rattle.wm_desc.specs.Sorted.{added, removed};
 ghost use Rattle.wm_ordered.specs.Ordered.{key_of, value_at, with_value};
-ghost use Rattle.wm_ordered.specs.Tree.{pairs_in, IsCut};
+ghost use Rattle.wm_ordered.specs.Tree.{nowhere, same_place, Stands, Own, Elsewhere, IsSearchTree, IsSplit, IsLeft};
 
-use crate::tree::{Node, Tree};
+use crate::links::{link_left, link_right, node_at, put_node};
+use crate::node::{NOWHERE, Node};
+use crate::weight::weight;
 use std::cmp::Ordering;
-use std::mem;
 
-/// A tree of a pair and what lies on both sides of it.
-pub(crate) fn fork<K: Copy, V: Copy>(
-    mut place: Box<Node<K, V>>,
-    pair: (K, V),
-    weight: u64,
-    left: Tree<K, V>,
-    right: Tree<K, V>,
-) -> Tree<K, V>
-    ensures { pairs_in result ≡ pairs_in left ++ pair ∷ pairs_in right }
+/// The roots of what lies below a key, and of the rest.
+pub(crate) fn split<K: Ord + Copy, V: Copy>(
+    nodes: &mut [Node<K, V>],
+    root: u32,
+    key: &K,
+    depth: usize,
+) -> (u32, u32)
+    requires few { length nodes.old ≤ nowhere }
+    ensures parts { (places : ℕ → ℕ) (pairs : List (K × V)) → IsSearchTree K.cmp nodes.old root depth places pairs → IsSplit K.cmp key.now nodes.new places pairs result.0 result.1 }
+    ensures elsewhere { (places : ℕ → ℕ) (pairs : List (K × V)) → IsSearchTree K.cmp nodes.old root depth places pairs → Elsewhere places nodes.old nodes.new }
+    ensures len { length nodes.new ≡ length nodes.old }
 {
-    *place = Node {
-        pair: Some(pair),
-        weight,
-        left,
-        right,
+    if depth == 0 {
+        return (NOWHERE, NOWHERE);
+    }
+    let Some(node) = node_at(nodes, root) else {
+        return (NOWHERE, NOWHERE);
     };
-    Tree::Fork(place)
-}
-
-/// What lies below a key, and the rest.
-pub(crate) fn split<K: Ord + Copy, V: Copy>(tree: Tree<K, V>, key: &K) -> (Tree<K, V>, Tree<K, V>)
-    ensures { IsSortedOnce key_of K.cmp (pairs_in tree) → IsCut K.cmp key.now (pairs_in tree) (pairs_in result.0) (pairs_in result.1) }
-{
-    let Tree::Fork(mut place) = tree else {
-        return (Tree::Leaf, Tree::Leaf);
-    };
-    let Some(pair) = &place.pair else {
-        return (Tree::Leaf, Tree::Leaf);
-    };
-    if pair.0.cmp(key).is_lt() {
-        let right = mem::replace(&mut place.right, Tree::Leaf);
-        let (low, high) = split(right, key);
-        place.right = low;
-        (Tree::Fork(place), high)
+    if node.pair.0.cmp(key).is_lt() {
+        let (low, high) = split(nodes, node.right, key, depth - 1);
+        link_right(nodes, root, low);
+        (root, high)
     } else {
-        let left = mem::replace(&mut place.left, Tree::Leaf);
-        let (low, high) = split(left, key);
-        place.left = high;
-        (low, Tree::Fork(place))
+        let (low, high) = split(nodes, node.left, key, depth - 1);
+        link_left(nodes, root, high);
+        (low, root)
     }
 }
 
-/// Two trees, one behind the other.
-pub(crate) fn merge<K: Copy, V: Copy>(first: Tree<K, V>, second: Tree<K, V>) -> Tree<K, V>
-    ensures { pairs_in result ≡ pairs_in first ++ pairs_in second }
+/// The root of two trees, one behind the other.
+pub(crate) fn merge<K: Copy, V: Copy>(
+    nodes: &mut [Node<K, V>],
+    first: u32,
+    second: u32,
+    depth: usize,
+) -> u32
+    requires few { length nodes.old ≤ nowhere }
+    ensures whole { (p q : ℕ → ℕ) (low high : List (K × V)) → Stands nodes.old first p low → Stands nodes.old second q high → Own (λ i. p i + q i) → length low + length high ≤ depth → Stands nodes.new result (λ i. p i + q i) (low ++ high) }
+    ensures elsewhere { (p q : ℕ → ℕ) (low high : List (K × V)) → Stands nodes.old first p low → Stands nodes.old second q high → Own (λ i. p i + q i) → length low + length high ≤ depth → Elsewhere (λ i. p i + q i) nodes.old nodes.new }
+    ensures len { length nodes.new ≡ length nodes.old }
 {
-    let Tree::Fork(mut upper) = first else {
+    if depth == 0 {
+        return NOWHERE;
+    }
+    let Some(upper) = node_at(nodes, first) else {
         return second;
     };
-    let Tree::Fork(mut lower) = second else {
-        return Tree::Fork(upper);
+    let Some(lower) = node_at(nodes, second) else {
+        return first;
     };
-    if upper.weight >= lower.weight {
-        let Some(_) = &upper.pair else {
-            return Tree::Fork(lower);
-        };
-        let right = mem::replace(&mut upper.right, Tree::Leaf);
-        upper.right = merge(right, Tree::Fork(lower));
-        Tree::Fork(upper)
+    if weight(first) >= weight(second) {
+        let rest = merge(nodes, upper.right, second, depth - 1);
+        link_right(nodes, first, rest);
+        first
     } else {
-        let Some(_) = &lower.pair else {
-            return Tree::Fork(upper);
-        };
-        let left = mem::replace(&mut lower.left, Tree::Leaf);
-        lower.left = merge(Tree::Fork(upper), left);
-        Tree::Fork(lower)
+        let rest = merge(nodes, first, lower.left, depth - 1);
+        link_left(nodes, second, rest);
+        second
     }
 }
 
 /// Gives a key that is there another value, and answers the one that it had.
 pub(crate) fn set_value<K: Ord + Copy, V: Copy>(
-    tree: &mut Tree<K, V>,
+    nodes: &mut [Node<K, V>],
+    root: u32,
     key: &K,
     value: V,
+    depth: usize,
 ) -> Option<V>
-    ensures was { IsSortedOnce key_of K.cmp (pairs_in tree.old) → result ≡ value_at K.eq key.now (pairs_in tree.old) }
-    ensures items { IsSortedOnce key_of K.cmp (pairs_in tree.old) → pairs_in tree.new ≡ with_value K.eq key.now value (pairs_in tree.old) }
+    requires few { length nodes.old ≤ nowhere }
+    ensures was { (places : ℕ → ℕ) (pairs : List (K × V)) → IsSearchTree K.cmp nodes.old root depth places pairs → result ≡ value_at K.eq key.now pairs }
+    ensures items { (places : ℕ → ℕ) (pairs : List (K × V)) → IsSearchTree K.cmp nodes.old root depth places pairs → Stands nodes.new root places (with_value K.eq key.now value pairs) }
+    ensures elsewhere { (places : ℕ → ℕ) (pairs : List (K × V)) → IsSearchTree K.cmp nodes.old root depth places pairs → Elsewhere places nodes.old nodes.new }
+    ensures len { length nodes.new ≡ length nodes.old }
 {
-    let Tree::Fork(place) = tree else {
+    if depth == 0 {
+        return None;
+    }
+    let Some(node) = node_at(nodes, root) else {
         return None;
     };
-    let node: &mut Node<K, V> = place;
-    let Some(pair) = &node.pair else {
-        return None;
-    };
-    match pair.0.cmp(key) {
-        Ordering::Less => set_value(&mut node.right, key, value),
+    match node.pair.0.cmp(key) {
+        Ordering::Less => set_value(nodes, node.right, key, value, depth - 1),
         Ordering::Equal => {
-            let was = pair.1;
-            node.pair = Some((pair.0, value));
+            let was = node.pair.1;
+            let node = Node {
+                pair: (node.pair.0, value),
+                left: node.left,
+                right: node.right,
+            };
+            put_node(nodes, root, node);
             Some(was)
         }
-        Ordering::Greater => set_value(&mut node.left, key, value),
+        Ordering::Greater => set_value(nodes, node.left, key, value, depth - 1),
     }
 }
 
-/// Puts a pair into the first tree on its way whose root has a lesser weight, above all that lies there.
+/// Puts a node of a pair, at a place where none of the tree stands, below the nodes of greater weight. It answers the new root.
 pub(crate) fn put_in<K: Ord + Copy, V: Copy>(
-    tree: &mut Tree<K, V>,
-    place: Box<Node<K, V>>,
+    nodes: &mut [Node<K, V>],
+    root: u32,
+    place: u32,
     pair: (K, V),
-    weight: u64,
-)
-    ensures { IsSortedOnce key_of K.cmp (pairs_in tree.old) → pairs_in tree.new ≡ added key_of K.cmp pair (pairs_in tree.old) }
+    depth: usize,
+) -> u32
+    requires few { length nodes.old ≤ nowhere }
+    requires there { place < length nodes.old }
+    ensures items { (places : ℕ → ℕ) (pairs : List (K × V)) → IsSearchTree K.cmp nodes.old root depth places pairs → places place ≡ 0 → Stands nodes.new result (λ i. places i + same_place i place) (added key_of K.cmp pair pairs) }
+    ensures elsewhere { (places : ℕ → ℕ) (pairs : List (K × V)) → IsSearchTree K.cmp nodes.old root depth places pairs → places place ≡ 0 → Elsewhere (λ i. places i + same_place i place) nodes.old nodes.new }
+    ensures len { length nodes.new ≡ length nodes.old }
 {
-    if let Tree::Fork(above) = tree {
-        let node: &mut Node<K, V> = above;
-        if let Some(there) = &node.pair {
-            if node.weight >= weight {
-                if there.0.cmp(&pair.0).is_lt() {
-                    put_in(&mut node.right, place, pair, weight);
-                } else {
-                    put_in(&mut node.left, place, pair, weight);
-                }
-                return;
-            }
-        }
+    let Some(node) = node_at(nodes, root) else {
+        return put_here(nodes, root, place, pair, depth);
+    };
+    if depth == 0 || weight(root) < weight(place) {
+        return put_here(nodes, root, place, pair, depth);
     }
-    put_here(tree, place, pair, weight);
+    if node.pair.0.cmp(&pair.0).is_lt() {
+        let right = put_in(nodes, node.right, place, pair, depth - 1);
+        link_right(nodes, root, right);
+        root
+    } else {
+        let left = put_in(nodes, node.left, place, pair, depth - 1);
+        link_left(nodes, root, left);
+        root
+    }
 }
 
-// Puts a pair above all that lies in a tree.
+// Puts a node of a pair above all of a tree.
 fn put_here<K: Ord + Copy, V: Copy>(
-    tree: &mut Tree<K, V>,
-    place: Box<Node<K, V>>,
+    nodes: &mut [Node<K, V>],
+    root: u32,
+    place: u32,
     pair: (K, V),
-    weight: u64,
-)
-    ensures { IsSortedOnce key_of K.cmp (pairs_in tree.old) → pairs_in tree.new ≡ added key_of K.cmp pair (pairs_in tree.old) }
+    depth: usize,
+) -> u32
+    requires few { length nodes.old ≤ nowhere }
+    requires there { place < length nodes.old }
+    ensures items { (places : ℕ → ℕ) (pairs : List (K × V)) → IsSearchTree K.cmp nodes.old root depth places pairs → places place ≡ 0 → Stands nodes.new result (λ i. places i + same_place i place) (added key_of K.cmp pair pairs) }
+    ensures elsewhere { (places : ℕ → ℕ) (pairs : List (K × V)) → IsSearchTree K.cmp nodes.old root depth places pairs → places place ≡ 0 → Elsewhere (λ i. places i + same_place i place) nodes.old nodes.new }
+    ensures len { length nodes.new ≡ length nodes.old }
 {
-    let whole = mem::replace(tree, Tree::Leaf);
-    let (low, high) = split(whole, &pair.0);
-    *tree = fork(place, pair, weight, low, high);
+    let (left, right) = split(nodes, root, &pair.0, depth);
+    put_node(nodes, place, Node { pair, left, right });
+    place
 }
 
-/// Takes out the pair of a key, and gives its value with the node where it stood.
+/// Takes out the node of a key. It answers the new root, and the node's place with its value.
 pub(crate) fn take_out<K: Ord + Copy, V: Copy>(
-    tree: &mut Tree<K, V>,
+    nodes: &mut [Node<K, V>],
+    root: u32,
     key: &K,
-) -> Option<(V, Box<Node<K, V>>)>
-    ensures items { IsSortedOnce key_of K.cmp (pairs_in tree.old) → pairs_in tree.new ≡ removed key_of K.eq key.now (pairs_in tree.old) }
-    ensures value { IsSortedOnce key_of K.cmp (pairs_in tree.old) → option_map (λ found. found.0) result ≡ value_at K.eq key.now (pairs_in tree.old) }
-    ensures len { length (pairs_in tree.old) ≡ length (pairs_in tree.new) + (if is_some result then 1 else 0) }
+    depth: usize,
+) -> (u32, Option<(u32, V)>)
+    requires few { length nodes.old ≤ nowhere }
+    ensures items { (places : ℕ → ℕ) (pairs : List (K × V)) → IsSearchTree K.cmp nodes.old root depth places pairs → IsLeft nodes.new result.0 places (removed key_of K.eq key.now pairs) result.1 }
+    ensures value { (places : ℕ → ℕ) (pairs : List (K × V)) → IsSearchTree K.cmp nodes.old root depth places pairs → option_map (λ taken. taken.1) result.1 ≡ value_at K.eq key.now pairs }
+    ensures elsewhere { (places : ℕ → ℕ) (pairs : List (K × V)) → IsSearchTree K.cmp nodes.old root depth places pairs → Elsewhere places nodes.old nodes.new }
+    ensures len { length nodes.new ≡ length nodes.old }
 {
-    let Tree::Fork(place) = tree else {
-        return None;
+    if depth == 0 {
+        return (root, None);
+    }
+    let Some(node) = node_at(nodes, root) else {
+        return (root, None);
     };
-    let node: &mut Node<K, V> = place;
-    let Some(pair) = &node.pair else {
-        return None;
-    };
-    match pair.0.cmp(key) {
-        Ordering::Less => take_out(&mut node.right, key),
-        Ordering::Equal => {
-            let value = pair.1;
-            node.pair = None;
-            let left = mem::replace(&mut node.left, Tree::Leaf);
-            let right = mem::replace(&mut node.right, Tree::Leaf);
-            let Tree::Fork(place) = mem::replace(tree, merge(left, right)) else {
-                return None;
-            };
-            Some((value, place))
+    match node.pair.0.cmp(key) {
+        Ordering::Less => {
+            let (right, taken) = take_out(nodes, node.right, key, depth - 1);
+            link_right(nodes, root, right);
+            (root, taken)
         }
-        Ordering::Greater => take_out(&mut node.left, key),
+        Ordering::Equal => {
+            let value = node.pair.1;
+            (
+                merge(nodes, node.left, node.right, depth),
+                Some((root, value)),
+            )
+        }
+        Ordering::Greater => {
+            let (left, taken) = take_out(nodes, node.left, key, depth - 1);
+            link_left(nodes, root, left);
+            (root, taken)
+        }
     }
 }

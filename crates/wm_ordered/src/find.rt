@@ -1,76 +1,96 @@
-// What is found in a tree, where it is sorted.
-ghost use Rattle.std.specs.Prelude.{◌≡◌, slice_get};
-ghost use Rattle.wm_desc.specs.Sorted.{IsSortedOnce};
-ghost use Rattle.wm_ordered.specs.Ordered.{key_of, value_at, first_from, first_above};
-ghost use Rattle.wm_ordered.specs.Tree.{pairs_in};
+// What is found in a tree, where it is sorted. The depth is how many levels a tree has at the most, and only shows that a call
+// ends.
+ghost use Rattle.std.specs.Prelude.{◌≡◌, ℕ, ◌≤◌, List, length, slice_get};
+ghost use Rattle.wm_ordered.specs.Ordered.{value_at, first_from, first_above};
+ghost use Rattle.wm_ordered.specs.Tree.{nowhere, IsSearchTree};
 
-use crate::tree::{Node, Tree};
+use crate::links::node_at;
+use crate::node::Node;
 use std::cmp::Ordering;
 
 /// The value of a key.
-pub(crate) fn value_of<K: Ord + Copy, V: Copy>(tree: &Tree<K, V>, key: &K) -> Option<V>
-    ensures { IsSortedOnce key_of K.cmp (pairs_in tree.now) → result ≡ value_at K.eq key.now (pairs_in tree.now) }
+pub(crate) fn value_of<K: Ord + Copy, V: Copy>(
+    nodes: &[Node<K, V>],
+    root: u32,
+    key: &K,
+    depth: usize,
+) -> Option<V>
+    requires few { length nodes.now ≤ nowhere }
+    ensures { (places : ℕ → ℕ) (pairs : List (K × V)) → IsSearchTree K.cmp nodes.now root depth places pairs → result ≡ value_at K.eq key.now pairs }
 {
-    let Tree::Fork(place) = tree else {
+    if depth == 0 {
+        return None;
+    }
+    let Some(node) = node_at(nodes, root) else {
         return None;
     };
-    let node: &Node<K, V> = place;
-    let Some(pair) = &node.pair else {
-        return None;
-    };
-    match pair.0.cmp(key) {
-        Ordering::Less => value_of(&node.right, key),
-        Ordering::Equal => Some(pair.1),
-        Ordering::Greater => value_of(&node.left, key),
+    match node.pair.0.cmp(key) {
+        Ordering::Less => value_of(nodes, node.right, key, depth - 1),
+        Ordering::Equal => Some(node.pair.1),
+        Ordering::Greater => value_of(nodes, node.left, key, depth - 1),
     }
 }
 
 /// The pair of the least key.
-pub(crate) fn least<K: Copy, V: Copy>(tree: &Tree<K, V>) -> Option<(K, V)>
-    ensures { result ≡ slice_get (pairs_in tree.now) 0 }
+pub(crate) fn least<K: Ord + Copy, V: Copy>(
+    nodes: &[Node<K, V>],
+    root: u32,
+    depth: usize,
+) -> Option<(K, V)>
+    requires few { length nodes.now ≤ nowhere }
+    ensures { (places : ℕ → ℕ) (pairs : List (K × V)) → IsSearchTree K.cmp nodes.now root depth places pairs → result ≡ slice_get pairs 0 }
 {
-    let Tree::Fork(place) = tree else {
+    if depth == 0 {
+        return None;
+    }
+    let Some(node) = node_at(nodes, root) else {
         return None;
     };
-    let node: &Node<K, V> = place;
-    let Some(pair) = &node.pair else {
-        return None;
-    };
-    least(&node.left).or(Some(*pair))
+    least(nodes, node.left, depth - 1).or(Some(node.pair))
 }
 
 /// The pair of the least key that isn't below a key.
-pub(crate) fn least_from<K: Ord + Copy, V: Copy>(tree: &Tree<K, V>, key: &K) -> Option<(K, V)>
-    ensures { IsSortedOnce key_of K.cmp (pairs_in tree.now) → result ≡ first_from K.cmp key.now (pairs_in tree.now) }
+pub(crate) fn least_from<K: Ord + Copy, V: Copy>(
+    nodes: &[Node<K, V>],
+    root: u32,
+    key: &K,
+    depth: usize,
+) -> Option<(K, V)>
+    requires few { length nodes.now ≤ nowhere }
+    ensures { (places : ℕ → ℕ) (pairs : List (K × V)) → IsSearchTree K.cmp nodes.now root depth places pairs → result ≡ first_from K.cmp key.now pairs }
 {
-    let Tree::Fork(place) = tree else {
+    if depth == 0 {
+        return None;
+    }
+    let Some(node) = node_at(nodes, root) else {
         return None;
     };
-    let node: &Node<K, V> = place;
-    let Some(pair) = &node.pair else {
-        return None;
-    };
-    if pair.0.cmp(key).is_lt() {
-        least_from(&node.right, key)
+    if node.pair.0.cmp(key).is_lt() {
+        least_from(nodes, node.right, key, depth - 1)
     } else {
-        least_from(&node.left, key).or(Some(*pair))
+        least_from(nodes, node.left, key, depth - 1).or(Some(node.pair))
     }
 }
 
 /// The pair of the least key above a key.
-pub(crate) fn least_above<K: Ord + Copy, V: Copy>(tree: &Tree<K, V>, key: &K) -> Option<(K, V)>
-    ensures { IsSortedOnce key_of K.cmp (pairs_in tree.now) → result ≡ first_above K.cmp key.now (pairs_in tree.now) }
+pub(crate) fn least_above<K: Ord + Copy, V: Copy>(
+    nodes: &[Node<K, V>],
+    root: u32,
+    key: &K,
+    depth: usize,
+) -> Option<(K, V)>
+    requires few { length nodes.now ≤ nowhere }
+    ensures { (places : ℕ → ℕ) (pairs : List (K × V)) → IsSearchTree K.cmp nodes.now root depth places pairs → result ≡ first_above K.cmp key.now pairs }
 {
-    let Tree::Fork(place) = tree else {
+    if depth == 0 {
+        return None;
+    }
+    let Some(node) = node_at(nodes, root) else {
         return None;
     };
-    let node: &Node<K, V> = place;
-    let Some(pair) = &node.pair else {
-        return None;
-    };
-    if pair.0.cmp(key).is_gt() {
-        least_above(&node.left, key).or(Some(*pair))
+    if node.pair.0.cmp(key).is_gt() {
+        least_above(nodes, node.left, key, depth - 1).or(Some(node.pair))
     } else {
-        least_above(&node.right, key)
+        least_above(nodes, node.right, key, depth - 1)
     }
 }

@@ -1,9 +1,8 @@
 // The map.
 use crate::edit::{put_in, set_value, take_out};
 use crate::find::{least, least_above, least_from, value_of};
-use crate::spare::empty_nodes;
-use crate::tree::{Node, Tree};
-use crate::weight::mixed;
+use crate::node::{NOWHERE, Node};
+use crate::places::{give_place, take_place};
 use std::alloc::{AllocError, Global};
 use std::marker::Model;
 use wm_base::NoMemory;
@@ -11,25 +10,25 @@ use wm_base::NoMemory;
 /// Pairs in ascending order of their keys, each key once. `spare` is for how many more pairs there is room.
 #[derive(Drop)]
 pub struct Ordered<K: Ord + Copy, V: Copy> {
-    tree: Tree<K, V>,
-    // Nodes that wait: with each pair that is put in one leaves, and with each that is taken out one comes back.
-    spare: Vec<Box<Node<K, V>>>,
+    nodes: Vec<Node<K, V>>,
+    root: u32,
     len: usize,
-    // How many pairs were put in so far.
-    made: u64,
+    // The places of the nodes that aren't in use.
+    free: Vec<u32>,
+    room: usize,
 }
 
 impl<K: Ord + Copy, V: Copy> Model for Ordered<K, V> {
-    ghost use Rattle.std.specs.Prelude.{vec_len, vec_capacity};
+    ghost use Rattle.std.specs.Prelude.{vec_capacity};
     ghost use Rattle.wm_ordered.specs.Ordered.{Pairs};
 
     ghost Value = { Pairs K V };
 
-    ghost use Rattle.wm_ordered.specs.Tree.{pairs_in, seen, IsOrdered};
+    ghost use Rattle.wm_ordered.specs.Tree.{seen, IsOrdered};
 
-    ghost view = { λ a. seen (pairs_in a.tree) (vec_len a.spare) };
+    ghost view = { λ a. seen a.nodes.items a.root a.len a.room };
 
-    ghost invariant = { λ a. IsOrdered K.cmp (pairs_in a.tree) a.len (vec_len a.spare) (vec_capacity a.spare) };
+    ghost invariant = { λ a. IsOrdered K.cmp a.nodes.items a.root a.len a.free.items a.room (vec_capacity a.nodes) (vec_capacity a.free) };
 }
 
 impl<K: Ord + Copy, V: Copy> Ordered<K, V> {
@@ -43,10 +42,11 @@ impl<K: Ord + Copy, V: Copy> Ordered<K, V> {
         ensures spare { result.spare ≡ 0 }
     {
         Ordered {
-            tree: Tree::Leaf,
-            spare: Vec::new(alloc),
+            nodes: Vec::new(alloc),
+            root: NOWHERE,
             len: 0,
-            made: 0,
+            free: Vec::new(alloc),
+            room: 0,
         }
     }
 
@@ -57,15 +57,17 @@ impl<K: Ord + Copy, V: Copy> Ordered<K, V> {
         ensures spare { self.old.spare ≤ self.new.spare }
         ensures err { OnErr result (self.new ≡ self.old) }
     {
-        let lacking = (more as usize).saturating_sub(self.spare.len());
-        if lacking == 0 {
+        let more = more as usize;
+        if more <= self.room {
             return Ok(());
         }
-        // All nodes that are in use come back at some time.
-        let room = lacking.checked_add(self.len).ok_or(AllocError)?;
-        let mut nodes = empty_nodes(*self.spare.allocator(), lacking)?;
-        self.spare.reserve(room)?;
-        self.spare.append(&mut nodes)?;
+        let whole = self.len.checked_add(more).ok_or(AllocError)?;
+        if whole > NOWHERE as usize {
+            return Err(AllocError);
+        }
+        self.nodes.reserve(whole - self.nodes.len())?;
+        self.free.reserve(whole - self.free.len())?;
+        self.room = more;
         Ok(())
     }
 
@@ -83,12 +85,11 @@ impl<K: Ord + Copy, V: Copy> Ordered<K, V> {
         ensures items { self.new.items ≡ added key_of K.cmp (key, value) self.old.items }
         ensures spare { self.old.spare ≡ self.new.spare + 1 }
     {
-        let Some(place) = self.spare.pop() else {
-            unreachable!()
-        };
-        self.made = self.made.wrapping_add(1);
-        put_in(&mut self.tree, place, (key, value), mixed(self.made));
+        let pair = (key, value);
+        let place = take_place(&mut self.nodes, &mut self.free, pair);
+        self.root = put_in(&mut self.nodes, self.root, place, pair, self.len);
         self.len += 1;
+        self.room -= 1;
     }
 
     /// Takes out the pair of a key, and answers its value. It takes no memory.
@@ -97,14 +98,15 @@ impl<K: Ord + Copy, V: Copy> Ordered<K, V> {
         ensures items { self.new.items ≡ removed key_of K.eq key.now self.old.items }
         ensures spare { self.new.spare ≡ self.old.spare + (if is_some result then 1 else 0) }
     {
-        match take_out(&mut self.tree, key) {
-            None => None,
-            Some((value, place)) => {
-                self.spare.push_reserved(place);
-                self.len -= 1;
-                Some(value)
-            }
-        }
+        let (root, taken) = take_out(&mut self.nodes, self.root, key, self.len);
+        self.root = root;
+        let Some(out) = taken else {
+            return None;
+        };
+        give_place(&mut self.free, out.0);
+        self.len -= 1;
+        self.room += 1;
+        Some(out.1)
     }
 
     /// Gives a key that is there another value, and answers the one that it had. It takes no memory.
@@ -113,14 +115,14 @@ impl<K: Ord + Copy, V: Copy> Ordered<K, V> {
         ensures items { self.new.items ≡ with_value K.eq key.now value self.old.items }
         ensures spare { self.new.spare ≡ self.old.spare }
     {
-        set_value(&mut self.tree, key, value)
+        set_value(&mut self.nodes, self.root, key, value, self.len)
     }
 
     /// The value of a key.
     pub fn get(&self, key: &K) -> Option<V>
         ensures { result ≡ value_at K.eq key.now self.now.items }
     {
-        value_of(&self.tree, key)
+        value_of(&self.nodes, self.root, key, self.len)
     }
 
     /// Whether a key is there.
@@ -134,20 +136,20 @@ impl<K: Ord + Copy, V: Copy> Ordered<K, V> {
     pub fn first(&self) -> Option<(K, V)>
         ensures { result ≡ slice_get self.now.items 0 }
     {
-        least(&self.tree)
+        least(&self.nodes, self.root, self.len)
     }
 
     /// The pair of the least key that isn't below a key.
     pub fn first_from(&self, key: &K) -> Option<(K, V)>
         ensures { result ≡ first_from K.cmp key.now self.now.items }
     {
-        least_from(&self.tree, key)
+        least_from(&self.nodes, self.root, key, self.len)
     }
 
     /// The pair of the least key above a key.
     pub fn first_above(&self, key: &K) -> Option<(K, V)>
         ensures { result ≡ first_above K.cmp key.now self.now.items }
     {
-        least_above(&self.tree, key)
+        least_above(&self.nodes, self.root, key, self.len)
     }
 }

@@ -14,7 +14,7 @@ ghost use Rattle.wm_command.specs.Printed.{FitsMachine};
 ghost use Rattle.wm_law.specs.Fit.{IsCall, IsCommand, HasCall};
 ghost use Rattle.wm_law.specs.declared.state.State.{State};
 
-use crate::calls::{self, Held, NOW};
+use crate::calls::{self, NOW, OpenJournal};
 use crate::monitor::call_of;
 use crate::replies::write_called;
 use crate::words::first_word;
@@ -70,7 +70,7 @@ fn line_call(alloc: Global, user: &Name, line: Line) -> Result<Call>
 // Makes a call, and adds what became of it.
 fn call(
     alloc: Global,
-    journal: &mut Held,
+    journal: &mut OpenJournal,
     caller: u32,
     call: Call,
     answer: &mut String,
@@ -85,7 +85,7 @@ fn call(
 // Calls the command that a CL text is.
 fn change(
     alloc: Global,
-    journal: &mut Held,
+    journal: &mut OpenJournal,
     user: &Name,
     text: &str,
     answer: &mut String,
@@ -95,13 +95,23 @@ fn change(
     call(alloc, journal, SESSION, made, answer)
 }
 
-fn change_as(alloc: Global, journal: &mut Held, words: &str, answer: &mut String) -> Result<()> {
+fn change_as(
+    alloc: Global,
+    journal: &mut OpenJournal,
+    words: &str,
+    answer: &mut String,
+) -> Result<()> {
     let (user, text) = first_word(words);
     let user = Name::read(user.as_bytes()).context("no user")?;
     change(alloc, journal, &user, text, answer)
 }
 
-fn report(alloc: Global, journal: &mut Held, words: &str, answer: &mut String) -> Result<()> {
+fn report(
+    alloc: Global,
+    journal: &mut OpenJournal,
+    words: &str,
+    answer: &mut String,
+) -> Result<()> {
     let (monitor, words) = first_word(words);
     let monitor = monitor.parse::<u32>()?;
     let made = call_of(words)?;
@@ -119,13 +129,18 @@ pub fn write_pending(pending: &Pending, answer: &mut String) -> Result<()> {
     Ok(())
 }
 
-fn split(journal: &mut Held, answer: &mut String) -> Result<()> {
+fn split(journal: &mut OpenJournal, answer: &mut String) -> Result<()> {
     let number = journal.split()?;
     Ok(writeln!(answer, "{number}")?)
 }
 
 /// Answers by the first word, which is the name of a command where it is none of these.
-pub fn ask(alloc: Global, journal: &mut Held, question: &str, answer: &mut String) -> Result<()> {
+pub fn ask(
+    alloc: Global,
+    journal: &mut OpenJournal,
+    question: &str,
+    answer: &mut String,
+) -> Result<()> {
     let (word, words) = first_word(question);
     match word {
         "as" => change_as(alloc, journal, words, answer),

@@ -23,13 +23,13 @@ pub const NOW: u64 = 1000;
 
 /// An open journal, the pass that it was opened with, and those that were split off and not joined again.
 #[derive(Drop)]
-pub struct Held {
+pub struct OpenJournal {
     journal: Journal<MemKeeper>,
     first: Pass,
     others: Vec<Pass>,
 }
 
-impl Model for Held {
+impl Model for OpenJournal {
     ghost use Rattle.std.specs.Prelude.{◌≡◌, ⊤};
 
     ghost Value = { ⊤ };
@@ -39,7 +39,7 @@ impl Model for Held {
     ghost invariant = { λ h. h.first ≡ 0 };
 }
 
-impl Held {
+impl OpenJournal {
     pub fn journal(&self) -> &Journal<MemKeeper> {
         &self.journal
     }
@@ -93,7 +93,11 @@ fn pass_of<'a>(first: &'a Pass, others: &'a [Pass], number: u32) -> Option<&'a P
 }
 
 /// Opens a journal over the keeper, with this limit. An `Err` hands the keeper back.
-pub fn opened(alloc: Global, keeper: MemKeeper, limit: u32) -> Result<Held, (MemKeeper, OpenFault)>
+pub fn opened(
+    alloc: Global,
+    keeper: MemKeeper,
+    limit: u32,
+) -> Result<OpenJournal, (MemKeeper, OpenFault)>
     requires some { 1 ≤ limit }
     requires most { limit ≤ 1000000 }
 {
@@ -102,7 +106,7 @@ pub fn opened(alloc: Global, keeper: MemKeeper, limit: u32) -> Result<Held, (Mem
         offset: Offset::new(0),
     };
     match Journal::open(alloc, keeper, &setup, limit) {
-        Ok((journal, first)) => Ok(Held {
+        Ok((journal, first)) => Ok(OpenJournal {
             journal,
             first,
             others: Vec::new(alloc),
@@ -114,7 +118,7 @@ pub fn opened(alloc: Global, keeper: MemKeeper, limit: u32) -> Result<Held, (Mem
 /// Makes a call of the pass of this number.
 pub fn call(
     alloc: Global,
-    held: &mut Held,
+    held: &mut OpenJournal,
     caller: u32,
     call: Call,
     now: Moment,
@@ -147,7 +151,7 @@ pub fn listed(alloc: Global, journal: &Journal<MemKeeper>, ask: &Ask) -> Result<
 pub fn turn(
     alloc: Global,
     monitor: &mut Monitor,
-    held: &mut Held,
+    held: &mut OpenJournal,
     spawner: &mut MemSpawner,
 ) -> Result<Result<Turned, MonitorFault>> {
     let mut clock = MemClock::new(Moment::new(NOW), 0);
@@ -157,8 +161,8 @@ pub fn turn(
 }
 
 /// Closes the journal, and gives its entries and its keeper. An `Err` hands it back, since a pass is out.
-pub fn shut(held: Held) -> Result<Closed<MemKeeper>, Held> {
-    let Held {
+pub fn shut(held: OpenJournal) -> Result<Closed<MemKeeper>, OpenJournal> {
+    let OpenJournal {
         journal,
         first,
         others,
@@ -168,7 +172,7 @@ pub fn shut(held: Held) -> Result<Closed<MemKeeper>, Held> {
             drop(others);
             Ok(closed)
         }
-        Err((journal, first)) => Err(Held {
+        Err((journal, first)) => Err(OpenJournal {
             journal,
             first,
             others,
@@ -177,7 +181,7 @@ pub fn shut(held: Held) -> Result<Closed<MemKeeper>, Held> {
 }
 
 /// Joins all passes, and closes the journal.
-pub fn closed(mut held: Held) -> Result<Closed<MemKeeper>> {
+pub fn closed(mut held: OpenJournal) -> Result<Closed<MemKeeper>> {
     if let Err(fault) = held.join_all() {
         drop(held);
         return Err(fault);

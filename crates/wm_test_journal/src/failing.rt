@@ -1,6 +1,6 @@
 // Scripts whose every `apply` fails once.
 use crate::asked::{ask, write_pending};
-use crate::calls::{Held, closed, pending};
+use crate::calls::{OpenJournal, closed, pending};
 use crate::opened::{keeper_of, open};
 use crate::replies::{KEEPER_FAULT, write_entry};
 use crate::rows::write_rows;
@@ -21,7 +21,7 @@ struct Run {
 }
 
 // A journal over no rows, which is opened again where the keeper fails.
-fn opened(alloc: Global, fail: u32) -> Result<Held> {
+fn opened(alloc: Global, fail: u32) -> Result<OpenJournal> {
     let mut calls = Vec::new(alloc);
     calls.push(fail)?;
     let keeper = keeper_of(Vec::new(alloc), calls)?;
@@ -39,14 +39,14 @@ fn opened(alloc: Global, fail: u32) -> Result<Held> {
 }
 
 // Asks a line, and answers whether the keeper failed.
-fn fails(alloc: Global, journal: &mut Held, line: &str) -> Result<bool> {
+fn fails(alloc: Global, journal: &mut OpenJournal, line: &str) -> Result<bool> {
     let mut answer = String::new(alloc);
     ask(alloc, journal, line, &mut answer)?;
     Ok(answer.as_str() == KEEPER_FAULT)
 }
 
 // Asks the lines up to one that the keeper fails at, and answers which that is.
-fn ask_all(alloc: Global, journal: &mut Held, script: &[String]) -> Result<Option<usize>> {
+fn ask_all(alloc: Global, journal: &mut OpenJournal, script: &[String]) -> Result<Option<usize>> {
     for (at, line) in script.iter().enumerate() {
         if fails(alloc, journal, line.as_str())? {
             return Ok(Some(at));
@@ -81,7 +81,7 @@ fn left_by(alloc: Global, pending: &Pending, closed: &mut Closed<MemKeeper>) -> 
 }
 
 // What a journal leaves: what waits for a monitor, the history and the rows.
-fn left(alloc: Global, journal: Held) -> Result<String> {
+fn left(alloc: Global, journal: OpenJournal) -> Result<String> {
     let pending = pending(journal.journal());
     let mut closed = closed(journal)?;
     let left = left_by(alloc, &pending, &mut closed);
@@ -101,7 +101,7 @@ fn run_until(alloc: Global, script: &[String], fail: u32) -> Result<Run> {
 }
 
 // Asks the lines, and where the keeper fails at one, that line again and those behind it.
-fn ask_through(alloc: Global, journal: &mut Held, script: &[String]) -> Result<()> {
+fn ask_through(alloc: Global, journal: &mut OpenJournal, script: &[String]) -> Result<()> {
     let Some(at) = ask_all(alloc, journal, script)? else {
         return Ok(());
     };

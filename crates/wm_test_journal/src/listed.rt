@@ -12,7 +12,7 @@ ghost use Rattle.wm_law.specs.Fit.{IsCall, HasCall};
 ghost use Rattle.wm_law.specs.declared.state.State.{State};
 
 use crate::asked::{SESSION, line_of, user_call};
-use crate::calls::{Held, NOW, call, listed};
+use crate::calls::{NOW, OpenJournal, call, listed};
 use crate::causes::listed_causes;
 use crate::monitor::call_of;
 use crate::opened::{keeper_of, open};
@@ -31,7 +31,7 @@ use wm_outside::MemKeeper;
 #[derive(Drop)]
 pub struct Listed {
     alloc: Global,
-    journal: Option<Held>,
+    journal: Option<OpenJournal>,
     now: Moment,
 }
 

@@ -1,5 +1,5 @@
 // Opening a journal over a keeper in memory.
-use crate::calls::{Held, opened};
+use crate::calls::{OpenJournal, opened};
 use anyhow::{Result, ensure};
 use std::alloc::Global;
 use wm_outside::{MemKeeper, Row, are_in_order};
@@ -22,7 +22,7 @@ fn limit_of(words: &str) -> Result<u32> {
 }
 
 // The same journal, with pass 1 split off for a monitor.
-fn with_monitor(mut held: Held) -> Result<Result<Held, (MemKeeper, OpenFault)>> {
+fn with_monitor(mut held: OpenJournal) -> Result<Result<OpenJournal, (MemKeeper, OpenFault)>> {
     match held.split() {
         Ok(_) => Ok(Ok(held)),
         Err(fault) => {
@@ -38,7 +38,7 @@ pub fn open(
     alloc: Global,
     keeper: MemKeeper,
     words: &str,
-) -> Result<Result<Held, (MemKeeper, OpenFault)>> {
+) -> Result<Result<OpenJournal, (MemKeeper, OpenFault)>> {
     let limit = limit_of(words)?;
     ensure!((1..=MOST).contains(&limit), "no limit");
     match opened(alloc, keeper, limit) {

@@ -15,7 +15,7 @@
 //
 // All others are asked of the open journal.
 use crate::asked::ask;
-use crate::calls::{Held, closed, shut};
+use crate::calls::{OpenJournal, closed, shut};
 use crate::failing::write_failing;
 use crate::opened::{keeper_of, open};
 use crate::replies::write_open_fault;
@@ -38,7 +38,7 @@ pub struct Tested {
     // The rows of the next keeper.
     rows: Vec<Row>,
     keeper: Option<MemKeeper>,
-    journal: Option<Held>,
+    journal: Option<OpenJournal>,
     turns: Option<Turns>,
     // The rows that were seen last.
     seen: Vec<Row>,

@@ -1,5 +1,5 @@
 // Turns of a monitor, with a spawner in memory whose children end where they are killed.
-use crate::calls::{Held, turn};
+use crate::calls::{OpenJournal, turn};
 use crate::replies::write_asked;
 use anyhow::{Result, bail};
 use std::alloc::Global;
@@ -27,7 +27,12 @@ impl Turns {
     }
 
     /// Makes a turn, and adds how many calls it made, or that a kill failed.
-    pub fn turn(&mut self, alloc: Global, journal: &mut Held, answer: &mut String) -> Result<()> {
+    pub fn turn(
+        &mut self,
+        alloc: Global,
+        journal: &mut OpenJournal,
+        answer: &mut String,
+    ) -> Result<()> {
         match turn(alloc, &mut self.monitor, journal, &mut self.spawner)? {
             Ok(turned) => writeln!(answer, "{} calls", turned.sent)?,
             Err(MonitorFault::WaitFault) => answer.push_str("WAITFAULT\n")?,

@@ -1,38 +1,44 @@
-use Rattle.std.proofs.Common.{◌≡◌, true, false, Some, ap, sym, ◌∙◌, subst}
+use Rattle.std.proofs.Common.{◌≡◌, ◌-◌, true, false, sym, ◌∙◌, arith}
 use Rattle.std.specs.Ordering.{is_lt}
-use Rattle.wm_desc.specs.Sorted.{IsSortedOnce}
-use Rattle.wm_ordered.specs.Ordered.{key_of}
-use Rattle.wm_ordered.specs.Tree.{around, pairs_in, IsCut}
-use Rattle.wm_ordered.specs.declared.tree.Node.{Node}
-use Rattle.wm_ordered.proofs.Cuts.{cut-right, cut-left}
-use Rattle.wm_ordered.proofs.Found.{left_sorted, right_sorted}
-use Rattle.wm_ordered.proofs.Opened.{opened}
+use Rattle.wm_ordered.proofs.Branches.{at_root, left_tree, right_tree, left_elsewhere, right_elsewhere, not_left, not_right, split-left, split-right}
 use Rattle.wm_ordered.proofs.edit.+split.Goals as goal
 
-pub returns-then-is_lt : goal.returns-then-is_lt
-returns-then-is_lt g t c = λ sorted.
-    let cmp = g.K.Ord.cmp in
-    let key = c.args.key.now in
-    let low = pairs_in c.split-low.result.0 in
-    let high = pairs_in c.split-low.result.1 in
-    let less : is_lt (cmp c.in-Some.pair.0 key) ≡ true = cc in
-    let has : c.deref_mut.result.now.pair ≡ Some c.in-Some.pair = ap (λ (n : Node g.row.K.Denot g.row.V.Denot). n.pair) (c.deref_mut.ensures.value ∙ sym c.deref.ensures) ∙ c.in-Some.is in
-    let is = opened c.in-Fork.is c.deref_mut.ensures.value has in
-    let side = c.replace-right.ensures.value in
-    let cut = subst (λ t. IsCut cmp key (pairs_in t) low high) side (c.split-low.ensures (subst (λ t. IsSortedOnce key_of cmp (pairs_in t)) (sym side) (right_sorted cmp g.met.K.Ord.total key _ _ _ _ is sorted))) in
-    subst (λ (n : Node g.row.K.Denot g.row.V.Denot). IsCut cmp key (pairs_in c.args.tree) (around n.pair (pairs_in n.left) low) high) (sym c.deref_mut-then-is_lt.ensures.value)
-    (rw has (cut-right cmp g.met.K.Ord.total key _ _ _ _ is sorted _ _ less cut))
+pub returns-then-is_lt-clause-parts : goal.returns-then-is_lt-clause-parts
+returns-then-is_lt-clause-parts g t c = λ places pairs tree.
+    let total = g.met.K.Ord.total in
+    let few = c.requires.few in
+    let is = sym c.node_at.ensures ∙ c.in-Some.is in
+    let o = at_root total few tree is in
+    let below = right_tree total few tree is (c.args.depth - 1) (omega arith) in
+    let less : is_lt (g.K.Ord.cmp c.in-Some.node.pair.0 c.args.key.now) ≡ true = cc in
+    let before = c.split-low.ensures.elsewhere o.q o.r below in
+    split-right total few tree is _ _ c.link_right.ensures.others c.args.key.now _ _ less before (c.split-low.ensures.parts o.q o.r below) (c.link_right.ensures.here c.in-Some.node (before c.args.root (not_right total few tree is) ∙ is))
 
-pub returns-else-is_lt : goal.returns-else-is_lt
-returns-else-is_lt g t c = λ sorted.
-    let cmp = g.K.Ord.cmp in
-    let key = c.args.key.now in
-    let low = pairs_in c.split-low-else-is_lt.result.0 in
-    let high = pairs_in c.split-low-else-is_lt.result.1 in
-    let more : is_lt (cmp c.in-Some.pair.0 key) ≡ false = cc in
-    let has : c.deref_mut-else-is_lt.result.now.pair ≡ Some c.in-Some.pair = ap (λ (n : Node g.row.K.Denot g.row.V.Denot). n.pair) (c.deref_mut-else-is_lt.ensures.value ∙ sym c.deref.ensures) ∙ c.in-Some.is in
-    let is = opened c.in-Fork.is c.deref_mut-else-is_lt.ensures.value has in
-    let side = c.replace-left.ensures.value in
-    let cut = subst (λ t. IsCut cmp key (pairs_in t) low high) side (c.split-low-else-is_lt.ensures (subst (λ t. IsSortedOnce key_of cmp (pairs_in t)) (sym side) (left_sorted cmp g.met.K.Ord.total key _ _ _ _ is sorted))) in
-    subst (λ (n : Node g.row.K.Denot g.row.V.Denot). IsCut cmp key (pairs_in c.args.tree) low (around n.pair high (pairs_in n.right))) (sym c.deref_mut-else-is_lt-2.ensures.value)
-    (rw has (cut-left cmp g.met.K.Ord.total key _ _ _ _ is sorted _ _ more cut))
+pub returns-then-is_lt-clause-elsewhere : goal.returns-then-is_lt-clause-elsewhere
+returns-then-is_lt-clause-elsewhere g t c = λ places pairs tree.
+    let total = g.met.K.Ord.total in
+    let few = c.requires.few in
+    let is = sym c.node_at.ensures ∙ c.in-Some.is in
+    let o = at_root total few tree is in
+    let below = right_tree total few tree is (c.args.depth - 1) (omega arith) in
+    right_elsewhere total few tree is _ _ c.link_right.ensures.others (c.split-low.ensures.elsewhere o.q o.r below)
+
+pub returns-else-is_lt-clause-parts : goal.returns-else-is_lt-clause-parts
+returns-else-is_lt-clause-parts g t c = λ places pairs tree.
+    let total = g.met.K.Ord.total in
+    let few = c.requires.few in
+    let is = sym c.node_at.ensures ∙ c.in-Some.is in
+    let o = at_root total few tree is in
+    let below = left_tree total few tree is (c.args.depth - 1) (omega arith) in
+    let less : is_lt (g.K.Ord.cmp c.in-Some.node.pair.0 c.args.key.now) ≡ false = cc in
+    let before = c.split-low-else-is_lt.ensures.elsewhere o.p o.l below in
+    split-left total few tree is _ _ c.link_left.ensures.others c.args.key.now _ _ less before (c.split-low-else-is_lt.ensures.parts o.p o.l below) (c.link_left.ensures.here c.in-Some.node (before c.args.root (not_left total few tree is) ∙ is))
+
+pub returns-else-is_lt-clause-elsewhere : goal.returns-else-is_lt-clause-elsewhere
+returns-else-is_lt-clause-elsewhere g t c = λ places pairs tree.
+    let total = g.met.K.Ord.total in
+    let few = c.requires.few in
+    let is = sym c.node_at.ensures ∙ c.in-Some.is in
+    let o = at_root total few tree is in
+    let below = left_tree total few tree is (c.args.depth - 1) (omega arith) in
+    left_elsewhere total few tree is _ _ c.link_left.ensures.others (c.split-low-else-is_lt.ensures.elsewhere o.p o.l below)
