@@ -1,14 +1,16 @@
 #!/usr/bin/env bash
+# bench/waiting.sh [RUNS]
 # What a line costs that releases, holds or changes a job that waits, with 100, 1,000 and 10,000 of them, and what it costs
 # to clear 10,000 jobs in queues of 20 to 10,000. The jobs are submitted held, to queues that no subsystem has, so none
 # starts. Each case has as many lines, or clears as many jobs, at each size. The cost is the processor's time of a run with
-# these lines less that of a run with the lines before them alone: the least of nine runs of each, by turns.
+# these lines less that of a run with the lines before them alone: the least of so many runs of each, nine where nothing is
+# said. All cases and sizes are run by turns, so that a slow while of the machine falls on all of them.
 set -eu
 cd "$(dirname "$0")/.."
 . bench/program.sh
-before=$(mktemp)
-script=$(mktemp)
-trap 'rm -f "$before" "$script"' EXIT
+runs=${1:-9}
+folder=$(mktemp -d)
+trap 'rm -rf "$folder"' EXIT
 
 # lines COUNT TEXT: the text so many times, with the number of the line in place of #, in five digits, so that a line is as
 # long whatever its number
@@ -41,39 +43,37 @@ rounds() {
   done
 }
 
-# least: the seconds of a processor that a run of $before and a run of $script take, each the least of nine
-least() {
-  local TIMEFORMAT='%U %S'
-  for _ in 1 2 3 4 5 6 7 8 9; do
-    { time "$program" run <"$before" >/dev/null; } 2>&1
-    { time "$program" run <"$script" >/dev/null; } 2>&1
-  done | awk '{ used = $1 + $2; side = NR % 2; if (NR <= 2 || used < best[side]) best[side] = used }
-    END { print best[1], best[0] }'
+# add CASE SIZE COUNT BEFORE: a case, with the lines of standard input behind those of a file
+add() {
+  local script="$folder/script-$1-$2"
+  cat "$4" - >"$script"
+  printf '%s\t%s\t%s\t%s\t%s\n' "$1" "$2" "$3" "$4" "$script" >>"$folder/cases"
 }
 
-# measure CASE SIZE COUNT: what the lines of standard input cost behind those of $before, divided by the count. A refusal
-# would show another cost.
-measure() {
-  local alone all
-  cat "$before" - >"$script"
-  if ! "$program" run <"$script" >/dev/null; then
-    echo "$1: a line is refused" >&2
-    exit 1
-  fi
-  read -r alone all < <(least)
-  awk -v name="$1" -v size="$2" -v count="$3" -v alone="$alone" -v all="$all" 'BEGIN {
-    printf "%-22s %8d %14.2f\n", name, size, 1e6 * (all - alone) / count
-  }'
-}
-
-printf '%-22s %8s %14s\n' case jobs 'processor us'
 for count in 100 1000 10000; do
+  before=$folder/jobs-$count
   submits "$count" >"$before"
-  rounds "$count" 'RLSJOB 0#/QUSER/J#' 'HLDJOB 0#/QUSER/J#' | measure 'a line, in full' "$count" 20000
-  rounds "$count" 'RLSJOB J#' 'HLDJOB J#' | measure 'a line, by name' "$count" 20000
-  rounds "$count" 'CHGJOB J# JOBPTY(1)' 'CHGJOB J# JOBPTY(5)' | measure 'a line, change' "$count" 20000
+  rounds "$count" 'RLSJOB 0#/QUSER/J#' 'HLDJOB 0#/QUSER/J#' | add 'a line, in full' "$count" 20000 "$before"
+  rounds "$count" 'RLSJOB J#' 'HLDJOB J#' | add 'a line, by name' "$count" 20000 "$before"
+  rounds "$count" 'CHGJOB J# JOBPTY(1)' 'CHGJOB J# JOBPTY(5)' | add 'a line, change' "$count" 20000 "$before"
 done
 for size in 20 100 1000 10000; do
+  before=$folder/queues-$size
   queues "$size" >"$before"
-  lines $((10000 / size)) 'CLRJOBQ Q#' | measure 'a job that is cleared' "$size" 10000
+  lines $((10000 / size)) 'CLRJOBQ Q#' | add 'a job that is cleared' "$size" 10000 "$before"
 done
+
+# A refused line would show another cost.
+TIMEFORMAT='%U %S'
+for ((run = 0; run < runs; run++)); do
+  for file in "$folder"/jobs-* "$folder"/queues-* "$folder"/script-*; do
+    used=$({ time "$program" run <"$file" >/dev/null; } 2>&1) || { echo "$file: a line is refused" >&2; exit 1; }
+    printf '%s\t%s\n' "$file" "$used" >>"$folder/times"
+  done
+done
+
+awk -F '\t' '
+  NR == FNR { split($2, part, " "); used = part[1] + part[2]; if (!($1 in least) || used < least[$1]) least[$1] = used; next }
+  FNR == 1 { printf "%-22s %8s %14s\n", "case", "jobs", "processor us" }
+  { printf "%-22s %8d %14.2f\n", $1, $2, 1e6 * (least[$5] - least[$4]) / $3 }
+' "$folder/times" "$folder/cases"
