@@ -173,13 +173,14 @@ fn parms_alone(items: &[Item]) -> Option<&[Item]>
 fn texts(alloc: Global, values: &[Item]) -> Result<Args, NoMemory>
     ensures { IfOk result (λ texts. texts ≡ texts_of values.now) }
 {
-    let mut texts = Args::new(alloc);
+    // no room is left over, since the history keeps them
+    let mut texts = Vec::with_capacity(alloc, values.len())?;
     for value in values {
         if let Some(text) = text_of(value) {
             texts.push(text.clone()?)?;
         }
     }
-    Ok(texts)
+    Ok(Args::from(texts))
 }
 
 /// The CALL of a program with these values.

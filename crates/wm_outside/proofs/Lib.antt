@@ -6,3 +6,5 @@ pub mod Removal
 pub mod Reports
 pub mod Sorted
 pub mod Telling
+pub mod Texts
+pub mod Writing

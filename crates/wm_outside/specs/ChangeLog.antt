@@ -1,46 +1,60 @@
--- How the changes of a keeper in memory are laid out: their bytes one behind the other, a mark for each change, and how
--- many changes each call has.
-use Rattle.std.specs.Prelude.{◌≡◌, ℕ, ◌+◌, true, false, List, [], ◌∷◌, ◌++◌, length, take, drop, if◌then◌else◌}
-use Rattle.std.specs.List.{sum_by}
-use Rattle.wm_outside.specs.declared.memory.change_log.Mark.{Mark}
+-- How the log of a keeper in memory is read. A call's rows are written beside one row of the calls before it, their base:
+-- what a key or a body shares with that of the base is told by how many bytes it is.
+use Rattle.std.specs.Prelude.{◌≡◌, ℕ, ◌+◌, ◌*◌, ◌%◌, List, [], ◌∷◌, ◌++◌, fold, take, drop}
+use Rattle.wm_outside.specs.declared.memory.sign.Sign.{Sign}
+use Rattle.wm_outside.specs.declared.memory.sign.Sign.TheVariants.{Own, Kept, Passed, Digit, KeyEnds, Put, Deleted, CallEnds}
+use Rattle.wm_outside.specs.declared.row.Row.{Row}
 use Rattle.wm_outside.specs.declared.row.RowChange.{RowChange}
-use Rattle.wm_outside.specs.declared.row.RowChange.TheVariants.{Put, Del}
+use Rattle.wm_outside.specs.declared.row.RowChange.TheVariants.{Put as put_of, Del}
+use Rattle.wm_outside.specs.Signs.{sign_of}
 
--- the mark of a change
-abbrev pub mark_of : RowChange → Mark
-mark_of (Put row) = record { put = true; tab = row.tab; key = length row.key; body = length row.body }
-mark_of (Del tab key) = record { put = false; tab = tab; key = length key; body = 0 }
+-- how far a log has been read
+pub record Reading : Type 0 where
+  -- the row beside which the call's rows stand
+  pub base : Row
+  -- what is still to come of its key, or behind the key of its body
+  pub ahead : List ℕ
+  -- the change that is being read: its table, its key once that has ended, and the bytes since
+  pub tab : ℕ
+  pub key : List ℕ
+  pub text : List ℕ
+  -- the changes of the call so far, and those of the calls before it
+  pub changes : List RowChange
+  pub calls : List (List RowChange)
 
--- the bytes of a change: its key, and then its body
-abbrev pub bytes_of : RowChange → List ℕ
-bytes_of (Put row) = row.key ++ row.body
-bytes_of (Del tab key) = key
+-- nothing is read yet of the next change
+abbrev pub between : Row → List RowChange → List (List RowChange) → Reading
+between base changes calls = record { base = base; ahead = base.key; tab = 0; key = []; text = []; changes = changes; calls = calls }
 
--- how many bytes a mark is for
-abbrev pub size_of : Mark → ℕ
-size_of mark = mark.key + mark.body
+-- the base of the rows behind a call: the first row that it puts, if it puts one
+abbrev pub base_after : List RowChange → Row → Row
+base_after [] base = base
+base_after (put_of row ∷ changes) base = row
+base_after (Del tab key ∷ changes) base = base_after changes base
 
--- the change of a mark whose bytes come first
-abbrev pub change_of : Mark → List ℕ → RowChange
-change_of mark bytes =
-    if mark.put
-    then Put (record { tab = mark.tab; key = take mark.key bytes; body = take mark.body (drop mark.key bytes) })
-    else Del mark.tab (take mark.key bytes)
+-- one sign further
+abbrev pub reads : Reading → Sign → Reading
+reads r (Own byte) = record r { text = r.text ++ byte ∷ [] }
+reads r (Kept count) = record r { text = r.text ++ take count r.ahead; ahead = drop count r.ahead }
+reads r (Passed count) = record r { ahead = drop count r.ahead }
+reads r (Digit digit) = record r { tab = r.tab % 16 * 16 + digit % 16 }
+reads r KeyEnds = record r { key = r.text; text = []; ahead = r.base.body }
+reads r Put = between r.base (r.changes ++ put_of (record { tab = r.tab; key = r.key; body = r.text }) ∷ []) r.calls
+reads r Deleted = between r.base (r.changes ++ Del r.tab r.text ∷ []) r.calls
+reads r CallEnds = between (base_after r.changes r.base) [] (r.calls ++ r.changes ∷ [])
 
--- the changes of marks whose bytes stand one behind the other
-abbrev pub changes_of : List Mark → List ℕ → List RowChange
-changes_of [] bytes = []
-changes_of (mark ∷ marks) bytes = change_of mark bytes ∷ changes_of marks (drop (size_of mark) bytes)
+-- the base of the first call
+abbrev pub no_row : Row
+no_row = record { tab = 0; key = []; body = [] }
 
--- a list in pieces of these lengths
-abbrev pub pieces : {A : Type 0} → List ℕ → List A → List (List A)
-pieces [] xs = []
-pieces (n ∷ ns) xs = take n xs ∷ pieces ns (drop n xs)
+-- a whole log
+unfoldable pub read : List ℕ → Reading
+read bytes = fold (λ r byte. reads r (sign_of byte)) (between no_row [] []) bytes
 
--- the marks are for exactly these bytes
-abbrev pub AreFor : List Mark → List ℕ → Type 0
-AreFor marks bytes = sum_by size_of marks ≡ length bytes
+-- nothing is read yet of the next change of a call, whose base this is
+abbrev pub IsBetween : Row → Reading → Type 0
+IsBetween base r = r ≡ between base r.changes r.calls
 
--- how many bytes changes have
-abbrev pub size_of_all : List RowChange → ℕ
-size_of_all changes = sum_by (λ change. size_of (mark_of change)) changes
+-- no call is being read
+abbrev pub IsAtEnd : Row → Reading → Type 0
+IsAtEnd base r = r ≡ between base [] r.calls

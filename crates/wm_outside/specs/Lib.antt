@@ -7,8 +7,11 @@ pub mod Keeping
 pub mod Log
 pub mod MemSpawner
 pub mod Memory
+pub mod Replay
 pub mod Reporting
 pub mod Rows
+pub mod Signs
 pub mod Spawner
 pub mod System
 pub mod Told
+pub mod Writing

@@ -5,11 +5,14 @@ mod change_log;
 mod children;
 mod clock;
 mod keeper;
+mod replay;
+mod sign;
 mod sink;
 mod source;
 mod spawner;
 mod store;
 mod tables;
+mod writing;
 
 pub use clock::MemClock;
 pub use keeper::MemKeeper;

@@ -3,4 +3,4 @@ use Rattle.wm_clwords.specs.CallReading.{texts_of}
 use Rattle.wm_clwords.proofs.called.texts.Given as goal
 
 abbrev pub invariant-loop-value : goal.invariant-loop-value
-invariant-loop-value l = l.texts ≡ texts_of (take l.value-index l.values)
+invariant-loop-value l = l.texts.items ≡ texts_of (take l.value-index l.values)
