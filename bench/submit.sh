@@ -1,5 +1,6 @@
 #!/usr/bin/env bash
-# What a line that submits a job costs with 100, 1,000, 10,000 and 100,000 of them, and how much memory at the most.
+# What a line that submits a job costs with 100, 1,000, 10,000 and 100,000 of them, and how much memory at the most, without
+# what a run of one such line has at the most.
 # Held jobs start nothing: their lines' processor time is the program's own, without that of a run of no lines.
 # Started jobs run one at a time, each a /bin/echo: of their lines' time by the clock these programs have most.
 # A line that is refused stands beside them: it is read, called and answered, and makes no job.
@@ -29,16 +30,17 @@ peak() {
 
 lines 0 ''
 read -r start _ < <(seconds 20)
-base=$(peak)
 
 # measure CASE COUNT TEXT
 measure() {
-  local times=1 used clock
+  local times=1 used clock one
   if [ "$2" -le 1000 ]; then times=20; fi
+  lines 1 "$3"
+  one=$(peak)
   lines "$2" "$3"
   read -r used clock < <(seconds "$times")
-  awk -v name="$1" -v n="$2" -v times="$times" -v used="$used" -v start="$start" -v clock="$clock" -v peak="$(peak)" -v base="$base" 'BEGIN {
-    printf "%8s %8d %18.1f %16.1f %10d %12.0f\n", name, n, 1e6 * (used / times - start / 20) / n, 1e6 * clock / times / n, peak, 1024 * (peak - base) / n
+  awk -v name="$1" -v n="$2" -v times="$times" -v used="$used" -v start="$start" -v clock="$clock" -v peak="$(peak)" -v one="$one" 'BEGIN {
+    printf "%8s %8d %18.1f %16.1f %10d %12.0f\n", name, n, 1e6 * (used / times - start / 20) / n, 1e6 * clock / times / n, peak, 1024 * (peak - one) / (n - 1)
   }'
 }
 
