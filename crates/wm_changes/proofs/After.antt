@@ -5,11 +5,11 @@ use Rattle.std.specs.Ordering.{is_lt, nat_cmp}
 use Rattle.std.proofs.lemmas.Bool.{eq-eqb}
 use Rattle.std.proofs.lemmas.Cmp.{nat_list_cmp_total, tied_itself}
 use Rattle.std.proofs.lemmas.Slice.Eq.{bytes_eq-Decides}
-use Rattle.wm_outside.specs.declared.row.Row.{Row}
-use Rattle.wm_outside.specs.declared.row.RowChange.{RowChange}
-use Rattle.wm_outside.specs.declared.row.RowChange.TheVariants.{Put, Del}
-use Rattle.wm_outside.specs.InOrder.{changed_in_order}
-use Rattle.wm_outside.specs.Rows.{changed, changed_by, is_of, place_of, put, without, IsInOrder}
+use Rattle.wm_traits.specs.declared.row.Row.{Row}
+use Rattle.wm_traits.specs.declared.row.RowChange.{RowChange}
+use Rattle.wm_traits.specs.declared.row.RowChange.TheVariants.{Put, Del}
+use Rattle.wm_traits.specs.InOrder.{changed_in_order}
+use Rattle.wm_traits.specs.Rows.{changed, changed_by, is_of, place_of, put, without, IsInOrder}
 use Rattle.wm_law.specs.Laws.{IsIn}
 use Rattle.wm_tables.proofs.Keys.{first_same, rest_same}
 use Rattle.wm_tables.proofs.RowOrder.{IsAscending, ascending, of_place, of_put}

@@ -21,9 +21,9 @@ use Rattle.wm_desc.specs.Refusals.{auto_refusal, auto_tests, first_refusal, has_
 use Rattle.wm_desc.specs.Sorted.{place_of}
 use Rattle.wm_desc.specs.Table.{name_of, object_named, qname_cmp, same_qname}
 use Rattle.wm_desc.proofs.Tables.{test_fails}
-use Rattle.wm_outside.specs.declared.row.Row.{Row}
-use Rattle.wm_outside.specs.declared.row.RowChange.{RowChange}
-use Rattle.wm_outside.specs.declared.row.RowChange.TheVariants.{Put, Del}
+use Rattle.wm_traits.specs.declared.row.Row.{Row}
+use Rattle.wm_traits.specs.declared.row.RowChange.{RowChange}
+use Rattle.wm_traits.specs.declared.row.RowChange.TheVariants.{Put, Del}
 use Rattle.wm_law.specs.Autos.{auto_described, autos_of, make_auto}
 use Rattle.wm_law.specs.Changing.{change_due, change_found, has_queue as has_its_queue, stays}
 use Rattle.wm_law.specs.Choice.{entry_for, is_held}

@@ -4,10 +4,10 @@ use Rattle.std.specs.Cmp.Lexicographic.{slice_cmp}
 use Rattle.std.specs.Ordering.{is_lt, nat_cmp}
 use Rattle.std.proofs.lemmas.Fmt.{decimal_injective}
 use Rattle.std.proofs.lemmas.Bool.{eq-eqb}
-use Rattle.wm_outside.specs.declared.row.Row.{Row}
-use Rattle.wm_outside.specs.declared.row.RowChange.{RowChange}
-use Rattle.wm_outside.specs.declared.row.RowChange.TheVariants.{Put, Del}
-use Rattle.wm_outside.specs.Rows.{is_before, place_of}
+use Rattle.wm_traits.specs.declared.row.Row.{Row}
+use Rattle.wm_traits.specs.declared.row.RowChange.{RowChange}
+use Rattle.wm_traits.specs.declared.row.RowChange.TheVariants.{Put, Del}
+use Rattle.wm_traits.specs.Rows.{is_before, place_of}
 use Rattle.wm_law.specs.Laws.{IsIn}
 use Rattle.wm_law.proofs.Tests.{same_number}
 use Rattle.wm_rows.specs.Rows.{counter_row, counter_word}

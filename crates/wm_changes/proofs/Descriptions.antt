@@ -9,7 +9,7 @@ use Rattle.wm_desc.specs.Objects.{empty_sbsd, with_description}
 use Rattle.wm_desc.specs.Sorted.{IsSortedOnce}
 use Rattle.wm_desc.specs.Table.{changed, name_of, qname_cmp, same_qname}
 use Rattle.wm_desc.proofs.Tables.{qname_total}
-use Rattle.wm_outside.specs.declared.row.Row.{Row}
+use Rattle.wm_traits.specs.declared.row.Row.{Row}
 use Rattle.wm_law.specs.Laws.{IsIn}
 use Rattle.wm_law.proofs.Named.{one_name}
 use Rattle.wm_law.proofs.Named.{own_name as its_own}

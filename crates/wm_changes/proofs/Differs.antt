@@ -2,11 +2,11 @@
 use Rattle.std.proofs.Common.{◌≡◌, ◌⊎◌, ℕ, ◌++◌, true, List, [], ◌∷◌, refl, sym, subst, ◌∙◌, inl, inr}
 use Rattle.std.specs.Cmp.Lexicographic.{slice_cmp}
 use Rattle.std.specs.Ordering.{is_lt, nat_cmp}
-use Rattle.wm_outside.specs.declared.row.Row.{Row}
-use Rattle.wm_outside.specs.declared.row.RowChange.{RowChange}
-use Rattle.wm_outside.specs.declared.row.RowChange.TheVariants.{Put, Del}
-use Rattle.wm_outside.specs.InOrder.{changed_in_order}
-use Rattle.wm_outside.specs.Rows.{changed, is_before, place_of, IsInOrder}
+use Rattle.wm_traits.specs.declared.row.Row.{Row}
+use Rattle.wm_traits.specs.declared.row.RowChange.{RowChange}
+use Rattle.wm_traits.specs.declared.row.RowChange.TheVariants.{Put, Del}
+use Rattle.wm_traits.specs.InOrder.{changed_in_order}
+use Rattle.wm_traits.specs.Rows.{changed, is_before, place_of, IsInOrder}
 use Rattle.wm_law.specs.Laws.{IsIn}
 use Rattle.wm_tables.proofs.Passing.{in_left_part, in_right_part, of_parts}
 use Rattle.wm_tables.proofs.RowOrder.{ascending}

@@ -3,10 +3,10 @@ use Rattle.std.proofs.Common.{◌≡◌, ◌⊎◌, ℕ, ◌<◌, ◌^◌, not, 
 use Rattle.std.specs.Cmp.Lexicographic.{slice_cmp}
 use Rattle.std.specs.Ordering.{is_lt, nat_cmp}
 use Rattle.wm_base.specs.Number.{zero_padded}
-use Rattle.wm_outside.specs.declared.row.Row.{Row}
-use Rattle.wm_outside.specs.declared.row.RowChange.{RowChange}
-use Rattle.wm_outside.specs.declared.row.RowChange.TheVariants.{Put, Del}
-use Rattle.wm_outside.specs.Rows.{is_before, place_of}
+use Rattle.wm_traits.specs.declared.row.Row.{Row}
+use Rattle.wm_traits.specs.declared.row.RowChange.{RowChange}
+use Rattle.wm_traits.specs.declared.row.RowChange.TheVariants.{Put, Del}
+use Rattle.wm_traits.specs.Rows.{is_before, place_of}
 use Rattle.wm_law.specs.Laws.{IsIn}
 use Rattle.wm_law.specs.Sound.{IsIncreasing}
 use Rattle.wm_law.specs.declared.job.Job.{Job}

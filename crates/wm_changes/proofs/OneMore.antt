@@ -4,9 +4,9 @@ use Rattle.std.specs.Cmp.{IsTotalOrder}
 use Rattle.std.specs.List.{insert}
 use Rattle.std.specs.declared.cmp.Ordering.{Ordering}
 use Rattle.wm_desc.specs.Sorted.{IsSortedOnce}
-use Rattle.wm_outside.specs.declared.row.Row.{Row}
-use Rattle.wm_outside.specs.declared.row.RowChange.TheVariants.{Put, Del}
-use Rattle.wm_outside.specs.Rows.{place_of}
+use Rattle.wm_traits.specs.declared.row.Row.{Row}
+use Rattle.wm_traits.specs.declared.row.RowChange.TheVariants.{Put, Del}
+use Rattle.wm_traits.specs.Rows.{place_of}
 use Rattle.wm_law.specs.Laws.{IsIn}
 use Rattle.wm_tables.proofs.OneMore.{first_below, not_same, rest_sorted}
 use Rattle.wm_tables.proofs.Passing.{in_left_part, in_right_part, left_all, of_parts}

@@ -1,7 +1,7 @@
 -- What is made of what is given of a step are its changes.
 use Rattle.std.proofs.Common.{◌≡◌, ℕ, ◌++◌, List, length, take, map, Option, sym, ap, subst, ◌∙◌}
 use Rattle.std.specs.Option.{option_to_list}
-use Rattle.wm_outside.specs.declared.row.RowChange.{RowChange}
+use Rattle.wm_traits.specs.declared.row.RowChange.{RowChange}
 use Rattle.wm_law.specs.Laws.{IsIn}
 use Rattle.wm_law.specs.Sound.{IsIncreasing}
 use Rattle.wm_law.specs.Stepped.{Stepped}

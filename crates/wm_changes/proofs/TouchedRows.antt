@@ -9,10 +9,10 @@ use Rattle.std.proofs.lemmas.List.{take-append-drop}
 use Rattle.wm_base.specs.declared.job.EndCause.TheVariants as cause
 use Rattle.wm_base.specs.declared.job.StartCause.TheVariants as start
 use Rattle.wm_base.specs.declared.qname.QName.{QName}
-use Rattle.wm_outside.specs.declared.row.Row.{Row}
-use Rattle.wm_outside.specs.declared.row.RowChange.{RowChange}
-use Rattle.wm_outside.specs.declared.row.RowChange.TheVariants.{Put}
-use Rattle.wm_outside.specs.Rows.{is_before}
+use Rattle.wm_traits.specs.declared.row.Row.{Row}
+use Rattle.wm_traits.specs.declared.row.RowChange.{RowChange}
+use Rattle.wm_traits.specs.declared.row.RowChange.TheVariants.{Put}
+use Rattle.wm_traits.specs.Rows.{is_before}
 use Rattle.wm_desc.specs.Sorted.{IsSortedOnce}
 use Rattle.wm_ordered.specs.Ordered.{key_of}
 use Rattle.wm_law.specs.Laws.{IsIn}

@@ -2,10 +2,10 @@
 use Rattle.std.specs.Prelude.{◌≡◌, true, ⊤, ℕ, List, [], ◌∷◌}
 use Rattle.std.specs.Cmp.Lexicographic.{slice_cmp}
 use Rattle.std.specs.Ordering.{is_lt, nat_cmp}
-use Rattle.wm_outside.specs.declared.row.Row.{Row}
-use Rattle.wm_outside.specs.declared.row.RowChange.{RowChange}
-use Rattle.wm_outside.specs.declared.row.RowChange.TheVariants.{Put, Del}
-use Rattle.wm_outside.specs.Rows.{changed, place_of}
+use Rattle.wm_traits.specs.declared.row.Row.{Row}
+use Rattle.wm_traits.specs.declared.row.RowChange.{RowChange}
+use Rattle.wm_traits.specs.declared.row.RowChange.TheVariants.{Put, Del}
+use Rattle.wm_traits.specs.Rows.{changed, place_of}
 use Rattle.wm_law.specs.Laws.{IsIn}
 
 -- where a change is made: a table, and a key there

@@ -1,8 +1,8 @@
 -- What follows from the changes of steps, each for all.
 use Rattle.std.specs.Prelude.{◌≡◌, ◌≤◌, ℕ, List}
-use Rattle.wm_outside.specs.declared.row.Row.{Row}
-use Rattle.wm_outside.specs.declared.row.RowChange.{RowChange}
-use Rattle.wm_outside.specs.Rows.{IsInOrder}
+use Rattle.wm_traits.specs.declared.row.Row.{Row}
+use Rattle.wm_traits.specs.declared.row.RowChange.{RowChange}
+use Rattle.wm_traits.specs.Rows.{IsInOrder}
 use Rattle.wm_law.specs.Fit.{IsCall}
 use Rattle.wm_law.specs.Machine.{step}
 use Rattle.wm_law.specs.Sound.{IsSound}

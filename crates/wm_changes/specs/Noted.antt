@@ -6,9 +6,9 @@ use Rattle.wm_base.specs.EndCause.{end_cause_number}
 use Rattle.wm_base.specs.declared.job.EndCause.{EndCause}
 use Rattle.wm_base.specs.declared.job.EndCause.TheVariants.{Exited, RouteFull}
 use Rattle.wm_base.specs.declared.qname.QName.{QName}
-use Rattle.wm_outside.specs.declared.row.Row.{Row}
-use Rattle.wm_outside.specs.declared.row.RowChange.{RowChange}
-use Rattle.wm_outside.specs.declared.row.RowChange.TheVariants.{Put}
+use Rattle.wm_traits.specs.declared.row.Row.{Row}
+use Rattle.wm_traits.specs.declared.row.RowChange.{RowChange}
+use Rattle.wm_traits.specs.declared.row.RowChange.TheVariants.{Put}
 use Rattle.wm_desc.specs.Sorted.{added, has_key}
 use Rattle.wm_desc.specs.Table.{same_qname}
 use Rattle.wm_ordered.specs.Ordered.{key_of}

@@ -1,7 +1,7 @@
 // What a call changes of objects, entries and held queues.
 ghost use Rattle.std.specs.Prelude.{◌≡◌, IfOk, Some, option_map};
 ghost use Rattle.wm_desc.specs.Table.{object_named};
-ghost use Rattle.wm_outside.specs.declared.row.RowChange.TheVariants.{Put};
+ghost use Rattle.wm_traits.specs.declared.row.RowChange.TheVariants.{Put};
 ghost use Rattle.wm_rows.specs.Places.{numbered_place};
 ghost use Rattle.wm_rows.specs.Rows.{command_row, held_row};
 ghost use Rattle.wm_changes.specs.Changes.{number_in, number_of, removed_number, deletion, command_change, is_accepted, call_change};
@@ -10,8 +10,8 @@ use std::alloc::Global;
 use wm_base::{NoMemory, QName};
 use wm_desc::Objects;
 use wm_law::{Call, Command, Reply};
-use wm_outside::RowChange;
 use wm_rows::{
+use wm_traits::RowChange;
     HELD, Place, QUEUE_ENTRIES, ROUTE_ENTRIES, auto_place, command_row, held_row, numbered_place,
     object_place,
 };

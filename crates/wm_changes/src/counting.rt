@@ -5,8 +5,8 @@ ghost use Rattle.wm_changes.specs.Changes.{counter_change, counter_changes};
 use crate::Counts;
 use std::alloc::Global;
 use wm_base::NoMemory;
-use wm_outside::RowChange;
 use wm_rows::{Counter, counter_row};
+use wm_traits::RowChange;
 
 fn put_counter(
     alloc: Global,

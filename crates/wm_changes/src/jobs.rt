@@ -12,7 +12,7 @@ use wm_job_rows::job_row;
 use wm_jobs::{JobTable, Standing};
 use wm_law::Job;
 use wm_ordered::Ordered;
-use wm_outside::{Row, RowChange};
+use wm_traits::{Row, RowChange};
 
 fn new_jobs(jobs: &JobTable) -> &[Job]
     ensures { result.now ≡ new_jobs jobs.now }

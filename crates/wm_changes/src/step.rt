@@ -12,7 +12,7 @@ use std::alloc::Global;
 use wm_base::NoMemory;
 use wm_jobs::JobTable;
 use wm_law::{Call, Reply};
-use wm_outside::RowChange;
+use wm_traits::RowChange;
 
 // What the call changes.
 fn first_changes(

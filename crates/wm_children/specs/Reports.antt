@@ -2,7 +2,7 @@
 use Rattle.std.specs.Prelude.{◌≡◌, ℕ, List, remove, slice_get, Option, Some, None, Result, Ok, Err}
 use Rattle.wm_base.specs.declared.job.Event.{Event}
 use Rattle.wm_base.specs.declared.job.Event.TheVariants.{Ended, Used}
-use Rattle.wm_outside.specs.declared.fault.Failed.{Failed}
+use Rattle.wm_traits.specs.declared.fault.Failed.{Failed}
 use Rattle.wm_children.specs.declared.finished.Finished.{Finished}
 use Rattle.wm_children.specs.Programs.{HasEnded}
 

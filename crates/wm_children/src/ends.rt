@@ -1,6 +1,6 @@
 // The channel of the ends, as the spawner has it.
 ghost use Rattle.std.specs.Prelude.{◌≡◌};
-ghost use Rattle.wm_outside.specs.Cause.{raised};
+ghost use Rattle.wm_traits.specs.Cause.{raised};
 
 use crate::finished::Finished;
 use crossbeam_channel::Receiver;

@@ -1,6 +1,6 @@
 //! The system's spawner: child programs, each waited for by a thread that blocks on it.
 //!
-//! The contract for the layer above is that of `Spawner` of `wm_outside`. Nothing is polled: a start hands the child to a
+//! The contract for the layer above is that of `Spawner` of `wm_traits`. Nothing is polled: a start hands the child to a
 //! thread that waits for it, and the end comes back over a channel, from which a look takes what is there and a wait sleeps.
 //! Neither asks the system about each child.
 //!

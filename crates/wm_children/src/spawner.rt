@@ -1,6 +1,6 @@
 // Child programs of std as a spawner.
 ghost use Rattle.std.specs.Prelude.{◌≡◌, ◌≤◌, ◌<◌, ◌≢◌, ◌↔◌, [], ◌∷◌, ◌++◌, true, false, Some, None, Ok, refl, IsTrue, Contains, OnOk, OnErr, IfOk, IfSome, vec_len, vec_capacity};
-ghost use Rattle.wm_outside.specs.Cause.{HasCause, HasStartCause, raised};
+ghost use Rattle.wm_traits.specs.Cause.{HasCause, HasStartCause, raised};
 
 use crate::command::command_of;
 use crate::ends::Ends;
@@ -14,7 +14,7 @@ use std::rt::Clock;
 use std::sync::Wait;
 use std::thread::Threads;
 use wm_base::{Event, Exit, Moment, NoMemory, Serial, StartOrder};
-use wm_outside::{Failed, Spawner, StartFault};
+use wm_traits::{Failed, Spawner, StartFault};
 
 /// A spawner of real programs, each started by its path with its arguments, with no input, its output dropped. A child's
 /// end is its exit code, or `Killed` where a signal ended it. A kill ends the child alone, and not what the child has

@@ -4,7 +4,7 @@ ghost use Rattle.std.specs.List.{list_any};
 ghost use Rattle.wm_children.specs.Programs.{serials_of};
 
 use wm_base::Serial;
-use wm_outside::Failed;
+use wm_traits::Failed;
 
 /// A child that is out: its job, and its number in the system.
 #[derive(Clone, Copy)]

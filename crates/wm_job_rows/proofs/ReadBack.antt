@@ -5,7 +5,7 @@ use Rattle.std.proofs.Math.Seq.{drop-append-add}
 use Rattle.std.proofs.lemmas.Bool.{and_from, eq-eqb}
 use Rattle.wm_clwords.specs.Quote.{doubled, quoted}
 use Rattle.wm_job_rows.specs.declared.stored.StoredJob.{StoredJob}
-use Rattle.wm_outside.specs.declared.row.Row.{Row}
+use Rattle.wm_traits.specs.declared.row.Row.{Row}
 use Rattle.wm_job_rows.specs.JobText.{field, job_row, request_text, name_fields, queue_fields, data_fields, state_fields, job_text}
 use Rattle.wm_job_rows.specs.Reading.{behind, behind_four, names_of, queueing_of, state_of}
 use Rattle.wm_job_rows.specs.Scan.{quoted_of, request_by, request_of, whole, text_tail, text_data, read_text}

@@ -10,7 +10,7 @@ use Rattle.wm_base.specs.QName.{qname_text}
 use Rattle.wm_clwords.specs.Quote.{quoted}
 use Rattle.wm_law.specs.declared.job.JobKind.{JobKind}
 use Rattle.wm_law.specs.declared.job.JobKind.TheVariants.{Bch, Asj, Pj}
-use Rattle.wm_outside.specs.declared.row.Row.{Row}
+use Rattle.wm_traits.specs.declared.row.Row.{Row}
 use Rattle.wm_job_rows.specs.declared.stored.StoredJob.{StoredJob}
 use Rattle.wm_job_rows.specs.declared.stored.StoredPhase.{StoredPhase}
 use Rattle.wm_job_rows.specs.declared.stored.StoredPhase.TheVariants.{Waiting, Active, Ended}

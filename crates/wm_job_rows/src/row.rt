@@ -12,7 +12,7 @@ use crate::stored::StoredJob;
 use std::alloc::Global;
 use wm_base::{NoMemory, Text};
 use wm_law::Job;
-use wm_outside::Row;
+use wm_traits::Row;
 
 #[tactic(auto, using(crate::proofs::Texts::padded))]
 fn key_of(alloc: Global, serial: u64) -> Result<Text, NoMemory>

@@ -1,8 +1,8 @@
 -- Why a call isn't made.
 use Rattle.std.specs.Prelude.{◌≡◌, ◌≤◌, ℕ, Result, Err, OnOk}
-use Rattle.wm_outside.specs.Cause.{raised}
-use Rattle.wm_outside.specs.declared.fault.KeepFault.{KeepFault}
-use Rattle.wm_outside.specs.declared.fault.KeepFault.TheVariants as keep
+use Rattle.wm_traits.specs.Cause.{raised}
+use Rattle.wm_traits.specs.declared.fault.KeepFault.{KeepFault}
+use Rattle.wm_traits.specs.declared.fault.KeepFault.TheVariants as keep
 use Rattle.wm_journal.specs.declared.fault.CallFault.{CallFault}
 use Rattle.wm_journal.specs.declared.fault.CallFault.TheVariants.{KeeperFault, NoMemory}
 

@@ -1,7 +1,7 @@
 -- Which tables a history has had.
 use Rattle.std.specs.Prelude.{List, [], ◌∷◌, ◌++◌, IfSome}
-use Rattle.wm_outside.specs.declared.row.Row.{Row}
-use Rattle.wm_outside.specs.Told.{Grows}
+use Rattle.wm_traits.specs.declared.row.Row.{Row}
+use Rattle.wm_traits.specs.Told.{Grows}
 use Rattle.wm_law.specs.declared.call.Entry.{Entry}
 use Rattle.wm_law.specs.declared.state.State.{State}
 use Rattle.wm_law.specs.History.{stepped}

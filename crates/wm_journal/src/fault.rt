@@ -1,7 +1,7 @@
 // Why a call isn't made.
 use std::alloc::{AllocError, AllocFailed};
 use thiserror::Error;
-use wm_outside::KeepFault;
+use wm_traits::KeepFault;
 
 /// Why a call isn't made. The history, the state and the rows are as before then.
 #[derive(Clone, Copy, Debug, Error)]

@@ -23,8 +23,8 @@ use std::snapshot::Snapshot;
 use wm_base::{Asked, Moment, NoMemory};
 use wm_core::Setup;
 use wm_law::{Ask, Call, Entry, Pending};
-use wm_outside::Keeper;
 use wm_stored::{OpenFault, StoredCore};
+use wm_traits::Keeper;
 use wm_views::Shown;
 
 /// The machine, its history, the keeper of its rows, and its passes. A contract sees the history, the limit of users' commands,

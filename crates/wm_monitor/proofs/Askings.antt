@@ -4,8 +4,8 @@ use Rattle.std.specs.Prelude.{Contains}
 use Rattle.std.proofs.lemmas.List.{append-nil}
 use Rattle.wm_base.specs.declared.job.Asked.{Asked}
 use Rattle.wm_base.specs.declared.job.Asked.TheVariants.{Start, Kill}
-use Rattle.wm_outside.specs.Told.{Grows}
-use Rattle.wm_outside.proofs.Telling.{Grows-none, Grows-then}
+use Rattle.wm_traits.specs.Told.{Grows}
+use Rattle.wm_traits.proofs.Telling.{Grows-none, Grows-then}
 use Rattle.wm_monitor.specs.Asking.{AsksFirst, AsksFor, IsAgain, StandFor}
 use Rattle.wm_monitor.specs.Lists.{IsAmong}
 use Rattle.wm_monitor.proofs.Lists.{IsAmong-more}

@@ -1,7 +1,7 @@
 -- Laws of the journal that a run calls: nothing, and one part after another.
 use Rattle.std.proofs.Common.{ℕ, List, Option, refl, ◌∙◌, arith}
 use Rattle.wm_journal.specs.Journaled.{Journaled}
-use Rattle.wm_outside.specs.declared.row.Row.{Row}
+use Rattle.wm_traits.specs.declared.row.Row.{Row}
 use Rattle.wm_monitor.specs.Journal.{HasJournalCauses}
 
 module _ {K : Type 0} {faults : K → ℕ} {trail : K → Option (List (List Row))} where

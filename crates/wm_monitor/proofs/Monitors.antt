@@ -14,9 +14,9 @@ use Rattle.wm_law.specs.History.{is_monitor_call, is_hand, is_report, order_in, 
 use Rattle.wm_law.specs.declared.call.Call.TheVariants as call
 use Rattle.wm_journal.specs.History.{History, entry_at, reached, with_call, last_order}
 use Rattle.wm_monitor.proofs.Histories.{last_order-call}
-use Rattle.wm_outside.specs.declared.spawner.Told.{Told}
-use Rattle.wm_outside.specs.Told.{Grows}
-use Rattle.wm_outside.proofs.Telling.{Grows-none, Grows-then}
+use Rattle.wm_traits.specs.declared.spawner.Told.{Told}
+use Rattle.wm_traits.specs.Told.{Grows}
+use Rattle.wm_traits.proofs.Telling.{Grows-none, Grows-then}
 use Rattle.wm_monitor.specs.Asking.{AsksFor}
 use Rattle.wm_monitor.specs.Idle.{IsCalledFor, IsDueBy, NoneIsIdle, monitor_pass}
 use Rattle.wm_monitor.specs.Lists.{since, IsAmong}

@@ -11,8 +11,8 @@ use Rattle.wm_law.specs.History.{after}
 use Rattle.wm_law.specs.declared.pending.Pending.{Pending}
 use Rattle.wm_law.specs.Pending.{next_moment, orders, pending}
 use Rattle.wm_journal.specs.History.{History, reached, entry_at, with_call}
-use Rattle.wm_outside.specs.declared.fault.Failed.{Failed}
-use Rattle.wm_outside.specs.Told.{IsEmpty}
+use Rattle.wm_traits.specs.declared.fault.Failed.{Failed}
+use Rattle.wm_traits.specs.Told.{IsEmpty}
 use Rattle.wm_monitor.specs.Idle.{monitor_pass}
 use Rattle.wm_monitor.specs.Lists.{since, Extends}
 use Rattle.wm_monitor.specs.Monitor.{IsIdle, hands_of}

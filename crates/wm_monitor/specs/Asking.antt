@@ -2,7 +2,7 @@
 use Rattle.std.specs.Prelude.{◌≡◌, ◌⊎◌, List, [], ◌∷◌, ◌++◌, Option, Contains}
 use Rattle.wm_base.specs.declared.job.Asked.{Asked}
 use Rattle.wm_base.specs.declared.job.Asked.TheVariants.{Start, Kill}
-use Rattle.wm_outside.specs.Told.{Grows}
+use Rattle.wm_traits.specs.Told.{Grows}
 
 -- the ask is a kill that was asked before
 abbrev pub IsAgain : List Asked → Asked → Type 0

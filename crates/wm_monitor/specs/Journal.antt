@@ -1,8 +1,8 @@
 -- What a part of a run leaves of the journal that it calls.
 use Rattle.std.specs.Prelude.{◌≡◌, ℕ, ◌≤◌, min, List, length, Option, None}
 use Rattle.wm_journal.specs.Journaled.{Journaled}
-use Rattle.wm_outside.specs.Cause.{raised}
-use Rattle.wm_outside.specs.declared.row.Row.{Row}
+use Rattle.wm_traits.specs.Cause.{raised}
+use Rattle.wm_traits.specs.declared.row.Row.{Row}
 
 -- the keeper that was found, the limit and the passes stay, and the faults that are told have their causes: the keeper's count rose, or the log is full
 pub record HasJournalCauses {K : Type 0} (faults : K → ℕ) (trail : K → Option (List (List Row))) (KeeperFault LogFull : Type 0) (old new : Journaled K) : Type 0 where

@@ -11,12 +11,12 @@ use Rattle.wm_law.specs.declared.call.Call.TheVariants as call
 use Rattle.wm_law.specs.declared.call.Entry.{Entry}
 use Rattle.wm_law.specs.History.{is_hand, is_monitor_call, orders, reports}
 use Rattle.wm_law.specs.Pending.{next_moment, orders as orders_left}
-use Rattle.wm_outside.specs.declared.fault.Failed.{Failed}
-use Rattle.wm_outside.specs.declared.fault.StartFault.{StartFault}
-use Rattle.wm_outside.specs.declared.fault.StartFault.TheVariants as fault
-use Rattle.wm_outside.specs.declared.spawner.Told.{Told}
-use Rattle.wm_outside.specs.declared.spawner.Told.TheVariants.{Began, NotBegan, Happened}
-use Rattle.wm_outside.specs.Told.{Grows, IsEmpty}
+use Rattle.wm_traits.specs.declared.fault.Failed.{Failed}
+use Rattle.wm_traits.specs.declared.fault.StartFault.{StartFault}
+use Rattle.wm_traits.specs.declared.fault.StartFault.TheVariants as fault
+use Rattle.wm_traits.specs.declared.spawner.Told.{Told}
+use Rattle.wm_traits.specs.declared.spawner.Told.TheVariants.{Began, NotBegan, Happened}
+use Rattle.wm_traits.specs.Told.{Grows, IsEmpty}
 use Rattle.wm_journal.specs.History.{History, reached, with_call, entry_at}
 use Rattle.wm_monitor.specs.declared.report.Report.{Report}
 use Rattle.wm_monitor.specs.declared.report.Report.TheVariants.{Started, StartFailed, Finished, UseDone}

@@ -3,7 +3,7 @@ use Rattle.std.specs.Prelude.{◌≡◌, ℕ, List, Option, None, map, option_to
 use Rattle.wm_base.specs.declared.job.Asked.{Asked}
 use Rattle.wm_base.specs.declared.job.Asked.TheVariants.{Kill}
 use Rattle.wm_journal.specs.History.{History}
-use Rattle.wm_outside.specs.declared.spawner.Told.{Told}
+use Rattle.wm_traits.specs.declared.spawner.Told.{Told}
 use Rattle.wm_monitor.specs.declared.monitor.Monitor.{Monitor}
 use Rattle.wm_monitor.specs.Monitor.{MonitorView, Advances, as_reports}
 

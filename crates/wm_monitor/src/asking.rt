@@ -1,14 +1,14 @@
 // What is asked of a spawner: to start, to kill, and to tell.
 ghost use Rattle.std.specs.Prelude.{◌≡◌, ◌∷◌, [], None, Ok, map, count_by};
 ghost use Rattle.wm_base.specs.declared.job.Asked.TheVariants.{Start, Kill};
-ghost use Rattle.wm_outside.specs.Told.{Grows, IsEmpty};
-ghost use Rattle.wm_outside.specs.Cause.{HasCause};
+ghost use Rattle.wm_traits.specs.Told.{Grows, IsEmpty};
+ghost use Rattle.wm_traits.specs.Cause.{HasCause};
 ghost use Rattle.wm_monitor.specs.Monitor.{RisesBy, as_reports, call_of, is_spawner_fault, looked};
 
 use crate::report::Report;
 use std::sync::Wait;
 use wm_base::{Moment, Serial, StartOrder};
-use wm_outside::{Failed, Spawner};
+use wm_traits::{Failed, Spawner};
 
 /// Asks the spawner to start what was ordered.
 pub(crate) fn start<P: Spawner>(spawner: &mut P, order: &StartOrder) -> Report

@@ -9,7 +9,7 @@ use std::alloc::Global;
 use wm_base::Moment;
 use wm_journal::{CallFault, Journal, Pass};
 use wm_law::Call;
-use wm_outside::Keeper;
+use wm_traits::Keeper;
 
 /// Makes one call of a pass, and tells a fault as a monitor's. An `Err` leaves the history.
 pub fn enter<K: Keeper>(

@@ -2,7 +2,8 @@
 ghost use Rattle.std.specs.Prelude.{◌≡◌};
 ghost use Rattle.wm_monitor.specs.declared.fault.MonitorFault.TheVariants.{WaitFault};
 
-use wm_outside::Failed;
+use wm_traits::Failed;
+
 
 /// Why a turn or a wait of a monitor ended early.
 #[derive(Clone, Copy, Debug, PartialEq, Eq)]

@@ -8,7 +8,7 @@ use std::sync::Wait;
 use wm_base::{Asked, Moment, Serial};
 use wm_journal::{Journal, Pass};
 use wm_law::{Call, Pending};
-use wm_outside::{Clock, Keeper, Spawner};
+use wm_traits::{Clock, Keeper, Spawner};
 
 /// The number of the monitor's pass.
 pub const MONITOR: u32 = 1;
@@ -37,8 +37,8 @@ pub struct Turned {
 impl Monitor {
     ghost use Rattle.std.specs.Prelude.{◌≡◌, ◌⊎◌, ◌<◌, ◌≤◌, ◌+◌, ◌-◌, ◌∷◌, [], None, Some, Ok, false, true, length, OnOk, OnErr, IfOk, IfSome, IsErrOf};
     ghost use Rattle.wm_base.specs.declared.job.Asked.TheVariants.{Kill};
-    ghost use Rattle.wm_outside.specs.Told.{Grows, IsEmpty};
-    ghost use Rattle.wm_outside.specs.Cause.{raised};
+    ghost use Rattle.wm_traits.specs.Told.{Grows, IsEmpty};
+    ghost use Rattle.wm_traits.specs.Cause.{raised};
     ghost use Rattle.wm_law.specs.declared.call.Call.{Call};
     ghost use Rattle.wm_law.specs.Pending.{next_moment, orders, pending};
     ghost use Rattle.wm_journal.specs.History.{History, reached, with_call};

@@ -4,7 +4,7 @@ ghost use Rattle.wm_law.specs.Fit.{IsSerial, IsExit};
 
 use wm_base::{Event, Exit, Serial, StartCause};
 use wm_law::Call;
-use wm_outside::StartFault;
+use wm_traits::StartFault;
 
 /// A report: a job was started, couldn't be started, has ended, or is done with its request.
 #[derive(Clone, Copy, Debug, PartialEq, Eq)]

@@ -1,9 +1,9 @@
 -- The changes that are made where there are no rows make the tables of the opening state.
 use Rattle.std.proofs.Common.{◌≡◌, ℤ, List, [], ◌∷◌, refl, sym, ap, subst, ◌∙◌, inl, inr}
 use Rattle.wm_desc.specs.Opening.{qbatch, qdftjobd, echo}
-use Rattle.wm_outside.specs.declared.row.Row.{Row}
-use Rattle.wm_outside.specs.declared.row.RowChange.{RowChange}
-use Rattle.wm_outside.specs.Rows.{changed}
+use Rattle.wm_traits.specs.declared.row.Row.{Row}
+use Rattle.wm_traits.specs.declared.row.RowChange.{RowChange}
+use Rattle.wm_traits.specs.Rows.{changed}
 use Rattle.wm_law.specs.Laws.{IsIn}
 use Rattle.wm_law.specs.Making.{class_of, jobd_of, queue_entry_of, route_entry_of}
 use Rattle.wm_law.specs.Opening.{addjobqe_qbatch, addrtge_qbatch, crtcls_qbatch, crtjobd_qbatch, crtjobd_qdftjobd, crtpgmref_echo, opening}

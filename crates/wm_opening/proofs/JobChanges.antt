@@ -1,10 +1,10 @@
 -- The changes that put the rows of jobs make the found rows the tables of the state.
 use Rattle.std.proofs.Common.{◌≡◌, ◌⊎◌, ℤ, ◌++◌, not, Bool, true, false, cond, List, [], ◌∷◌, filter, append_assoc, refl, sym, ap, subst, ◌∙◌, inl, inr}
 use Rattle.std.specs.Prelude.{fold}
-use Rattle.wm_outside.specs.declared.row.Row.{Row}
-use Rattle.wm_outside.specs.declared.row.RowChange.{RowChange}
-use Rattle.wm_outside.specs.declared.row.RowChange.TheVariants.{Put}
-use Rattle.wm_outside.specs.Rows.{changed}
+use Rattle.wm_traits.specs.declared.row.Row.{Row}
+use Rattle.wm_traits.specs.declared.row.RowChange.{RowChange}
+use Rattle.wm_traits.specs.declared.row.RowChange.TheVariants.{Put}
+use Rattle.wm_traits.specs.Rows.{changed}
 use Rattle.wm_law.specs.Laws.{IsIn}
 use Rattle.wm_law.specs.declared.job.Job.{Job}
 use Rattle.wm_law.specs.declared.state.State.{State}

@@ -9,8 +9,8 @@ use Rattle.std.proofs.lemmas.Cmp.{nat_list_cmp_total, tied_itself}
 use Rattle.std.proofs.lemmas.Slice.Eq.{bytes_eq-Decides}
 use Rattle.wm_desc.specs.Place.{IsAt, IsGap}
 use Rattle.wm_desc.specs.Sorted.{IsSortedOnce}
-use Rattle.wm_outside.specs.declared.row.Row.{Row}
-use Rattle.wm_outside.specs.Rows.{place_of, IsInOrder}
+use Rattle.wm_traits.specs.declared.row.Row.{Row}
+use Rattle.wm_traits.specs.Rows.{place_of, IsInOrder}
 use Rattle.wm_law.specs.Laws.{IsIn}
 use Rattle.wm_tables.specs.Opened.{is_found}
 use Rattle.wm_tables.proofs.OneMore.{all_in}

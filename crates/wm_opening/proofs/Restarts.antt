@@ -1,7 +1,7 @@
 -- What holds of the state that good rows make.
 use Rattle.std.proofs.Common.{◌≡◌, ◌≤◌, ℤ, suc, ◌==◌, true, false, List, [], ◌∷◌, length, All, refl, inl, inr, arith}
 use Rattle.std.proofs.lemmas.List.Elements.{All-nil, All-cons}
-use Rattle.wm_outside.specs.declared.row.Row.{Row}
+use Rattle.wm_traits.specs.declared.row.Row.{Row}
 use Rattle.wm_law.specs.Counts.{is_active}
 use Rattle.wm_law.specs.Laws.{IsIn}
 use Rattle.wm_law.specs.Sound.{IsSound}

@@ -2,7 +2,7 @@
 ghost use Rattle.std.specs.Prelude.{◌≡◌, ◌↔◌, All, IsTrue, IfOk, OnOk};
 ghost use Rattle.wm_base.specs.declared.job.EndCause.TheVariants.{Restarted};
 ghost use Rattle.wm_law.specs.declared.job.Phase.TheVariants.{Ended};
-ghost use Rattle.wm_outside.specs.Rows.{IsInOrder};
+ghost use Rattle.wm_traits.specs.Rows.{IsInOrder};
 ghost use Rattle.wm_opening.specs.Written.{with_job, job_changes, Stands};
 
 use crate::found::is_found;
@@ -10,7 +10,7 @@ use std::alloc::Global;
 use wm_base::{EndCause, NoMemory};
 use wm_job_rows::job_row;
 use wm_law::{Job, Phase};
-use wm_outside::{Row, RowChange};
+use wm_traits::{Row, RowChange};
 
 fn ended_by_restart(phase: &Phase) -> bool
     ensures { IsTrue result ↔ (phase.now ≡ Ended Restarted) }

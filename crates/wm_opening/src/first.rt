@@ -1,6 +1,6 @@
 // What is written where there are no rows: those of the state that the opening commands make.
 ghost use Rattle.std.specs.Prelude.{◌≡◌, ◌∷◌, [], ◌++◌, fold, IfOk, OnOk};
-ghost use Rattle.wm_outside.specs.declared.row.RowChange.TheVariants.{Put};
+ghost use Rattle.wm_traits.specs.declared.row.RowChange.TheVariants.{Put};
 ghost use Rattle.wm_rows.specs.Rows.{counter_row};
 ghost use Rattle.wm_rows.specs.Tables.{counter_rows};
 ghost use Rattle.wm_tables.specs.Tables.{puts};
@@ -10,8 +10,8 @@ use std::alloc::Global;
 use wm_base::NoMemory;
 use wm_core::opening_commands;
 use wm_law::Command;
-use wm_outside::RowChange;
 use wm_rows::{Counter, command_row, counter_row};
+use wm_traits::RowChange;
 
 // Puts the row of what a command makes.
 fn put_made(alloc: Global, command: &Command, changes: &mut Vec<RowChange>) -> Result<(), NoMemory>

@@ -3,11 +3,11 @@ ghost use Rattle.std.specs.Prelude.{◌≡◌, ◌↔◌, IsTrue, MatchResult};
 ghost use Rattle.std.specs.Cmp.Lexicographic.{slice_cmp};
 ghost use Rattle.std.specs.Ordering.{nat_cmp};
 ghost use Rattle.wm_desc.specs.Place.{IsAt, IsGap};
-ghost use Rattle.wm_outside.specs.Rows.{place_of, IsInOrder};
+ghost use Rattle.wm_traits.specs.Rows.{place_of, IsInOrder};
 ghost use Rattle.wm_tables.specs.Opened.{is_found};
 
 use std::cmp::Ordering;
-use wm_outside::Row;
+use wm_traits::Row;
 
 // How a row stands to another: by their tables, and in one table by their keys.
 fn compare(a: &Row, b: &Row) -> Ordering

@@ -2,7 +2,7 @@
 ghost use Rattle.std.specs.Prelude.{◌≡◌, ℕ, ◌≤◌, [], length, Err, IfOk};
 ghost use Rattle.wm_core.specs.Stored.{kept_state};
 ghost use Rattle.wm_law.specs.Submitting.{serials_end};
-ghost use Rattle.wm_outside.specs.Rows.{changed};
+ghost use Rattle.wm_traits.specs.Rows.{changed};
 ghost use Rattle.wm_restart.specs.Parts.{parts_state};
 ghost use Rattle.wm_restart.specs.declared.restart.RestartFault.TheVariants.{BadRow};
 ghost use Rattle.wm_tables.specs.Opened.{PutsNew};
@@ -14,8 +14,8 @@ use crate::first::first_changes;
 use std::alloc::Global;
 use wm_base::NoMemory;
 use wm_core::{Core, Kept, Setup};
-use wm_outside::{Row, RowChange};
 use wm_restart::{ReadParts, RestartFault, read_rows};
+use wm_traits::{Row, RowChange};
 
 /// What a run opens with.
 #[derive(Drop)]

@@ -1,8 +1,8 @@
 -- Counts of faults.
 use Rattle.std.proofs.Common.{Result, Ok, Err, is_err, arith}
-use Rattle.wm_outside.specs.declared.fault.Failed.{Failed}
+use Rattle.wm_traits.specs.declared.fault.Failed.{Failed}
 use Rattle.wm_outside.specs.declared.memory.calls.Calls.{Calls}
-use Rattle.wm_outside.specs.Cause.{HasCause}
+use Rattle.wm_traits.specs.Cause.{HasCause}
 use Rattle.wm_outside.specs.Calls.{CountsCall}
 
 -- a call of a form in memory

@@ -1,8 +1,8 @@
 -- What one `apply` more makes of the tables and of the trail.
 use Rattle.std.proofs.Common.{◌≡◌, List, [], ◌∷◌, ◌++◌, refl, ap}
 use Rattle.std.proofs.lemmas.List.Sums.{fold-append}
-use Rattle.wm_outside.specs.declared.row.Row.{Row}
-use Rattle.wm_outside.specs.declared.row.RowChange.{RowChange}
+use Rattle.wm_traits.specs.declared.row.Row.{Row}
+use Rattle.wm_traits.specs.declared.row.RowChange.{RowChange}
 use Rattle.wm_outside.specs.Log.{after_one, tables_after, trail_of}
 
 -- the tables after one more

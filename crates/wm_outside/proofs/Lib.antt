@@ -4,7 +4,5 @@ pub mod ChangeLog
 pub mod Keeping
 pub mod Removal
 pub mod Reports
-pub mod Sorted
-pub mod Telling
 pub mod Texts
 pub mod Writing

@@ -3,7 +3,7 @@ use Rattle.std.proofs.Common.{◌≡◌, ℕ, ◌+◌, ◌<◌, ◌≤◌, suc, 
 use Rattle.std.proofs.Math.Numerals.{one-add}
 use Rattle.std.proofs.lemmas.Bool.{cases_Bool, ltb-true, ltb-false}
 use Rattle.std.specs.List.{position, position_or_len, remove}
-use Rattle.wm_outside.specs.Spawner.{without_first}
+use Rattle.wm_traits.specs.Spawner.{without_first}
 
 -- the place of the first that passes is where it is left out
 at_first : {A : Type 0} (test : A → Bool) (xs : List A) → position_or_len test xs < length xs → remove xs (position_or_len test xs) ≡ without_first test xs

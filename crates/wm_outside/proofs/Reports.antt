@@ -3,9 +3,9 @@ use Rattle.std.proofs.Common.{◌≡◌, ◌==◌, inl, inr, ◌⊎◌, ℕ, ◌
 use Rattle.std.proofs.lemmas.Bool.{cases_lt}
 use Rattle.wm_base.specs.declared.job.Event.{Event}
 use Rattle.wm_base.specs.declared.job.Event.TheVariants.{Ended, Used}
-use Rattle.wm_outside.specs.declared.fault.Failed.{Failed}
+use Rattle.wm_traits.specs.declared.fault.Failed.{Failed}
 use Rattle.wm_outside.specs.declared.memory.children.Child.{Child}
-use Rattle.wm_outside.specs.Spawner.{without_first, IfEnded, out_after}
+use Rattle.wm_traits.specs.Spawner.{without_first, IfEnded, out_after}
 use Rattle.wm_outside.specs.Children.{serials, killed_ones, due_ones, lesser, least_of, longest_out, either, end_of, report_of, awaited_of, wait_report, marked, without, children_after}
 
 -- to kill a child leaves it out

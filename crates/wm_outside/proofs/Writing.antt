@@ -1,11 +1,11 @@
 -- What is known of what is written of changes.
 use Rattle.std.proofs.Common.{◌≡◌, ℕ, ◌+◌, ◌*◌, ◌/◌, ◌%◌, ◌≤◌, ◌<◌, List, [], ◌∷◌, ◌++◌, length, take, drop, refl, sym, ◌∙◌, ap, arith, append_assoc, take-append-drop}
 use Rattle.std.proofs.lemmas.Grind.{common_steps}
-use Rattle.wm_outside.specs.declared.memory.sign.Sign.{Sign}
-use Rattle.wm_outside.specs.declared.memory.sign.Sign.TheVariants.{Own, Kept, Passed, Digit, KeyEnds, Put, Deleted, CallEnds}
-use Rattle.wm_outside.specs.ChangeLog.{Reading, reads, IsBetween}
-use Rattle.wm_outside.specs.declared.row.Row.{Row}
-use Rattle.wm_outside.specs.declared.row.RowChange.{RowChange}
+use Rattle.wm_outside.specs.declared.memory.sign.TextSign.{TextSign}
+use Rattle.wm_outside.specs.declared.memory.sign.TextSign.TheVariants.{Own, Kept, Passed}
+use Rattle.wm_outside.specs.ChangeLog.{Reading, reads_text, IsBetween}
+use Rattle.wm_traits.specs.declared.row.Row.{Row}
+use Rattle.wm_traits.specs.declared.row.RowChange.{RowChange}
 use Rattle.wm_outside.specs.Writing.{said_by, taken_by, IsNext, with_text, with_change, with_changes, StartsWith}
 
 -- what begins with a list begins with what that begins with
@@ -14,45 +14,25 @@ starts_further xs ys zs a b = grind (arith, common_steps)
 
 -- the next sign of a text
 
-pub said_fits : (text ahead : List ℕ) (sign : Sign) → 0 < length text → IsNext text ahead sign → said_by sign ≤ length text
+pub said_fits : (text ahead : List ℕ) (sign : TextSign) → 0 < length text → IsNext text ahead sign → said_by sign ≤ length text
 said_fits text ahead (Own byte) some next = omega arith
 said_fits text ahead (Kept count) some next = omega arith
 said_fits text ahead (Passed count) some next = omega arith
-said_fits text ahead (Digit digit) some next = omega arith
-said_fits text ahead KeyEnds some next = omega arith
-said_fits text ahead Put some next = omega arith
-said_fits text ahead Deleted some next = omega arith
-said_fits text ahead CallEnds some next = omega arith
 
-pub taken_fits : (text ahead : List ℕ) (sign : Sign) → IsNext text ahead sign → taken_by sign ≤ length ahead
+pub taken_fits : (text ahead : List ℕ) (sign : TextSign) → IsNext text ahead sign → taken_by sign ≤ length ahead
 taken_fits text ahead (Own byte) next = omega arith
 taken_fits text ahead (Kept count) next = omega arith
 taken_fits text ahead (Passed count) next = omega arith
-taken_fits text ahead (Digit digit) next = omega arith
-taken_fits text ahead KeyEnds next = omega arith
-taken_fits text ahead Put next = omega arith
-taken_fits text ahead Deleted next = omega arith
-taken_fits text ahead CallEnds next = omega arith
 
-pub goes_on : (text ahead : List ℕ) (sign : Sign) → IsNext text ahead sign → 0 < said_by sign + taken_by sign
+pub goes_on : (text ahead : List ℕ) (sign : TextSign) → IsNext text ahead sign → 0 < said_by sign + taken_by sign
 goes_on text ahead (Own byte) next = omega arith
 goes_on text ahead (Kept count) next = omega arith
 goes_on text ahead (Passed count) next = omega arith
-goes_on text ahead (Digit digit) next = absurd next
-goes_on text ahead KeyEnds next = absurd next
-goes_on text ahead Put next = absurd next
-goes_on text ahead Deleted next = absurd next
-goes_on text ahead CallEnds next = absurd next
 
-pub reads_next : (r : Reading) (text ahead : List ℕ) (sign : Sign) → IsNext text ahead sign → r.ahead ≡ ahead → reads r sign ≡ with_text r (r.text ++ take (said_by sign) text) (drop (taken_by sign) ahead)
+pub reads_next : (r : Reading) (text ahead : List ℕ) (sign : TextSign) → IsNext text ahead sign → r.ahead ≡ ahead → reads_text r sign ≡ with_text r (r.text ++ take (said_by sign) text) (drop (taken_by sign) ahead)
 reads_next r text ahead (Own byte) next is = grind (arith, common_steps)
 reads_next r text ahead (Kept count) next is = grind (arith, common_steps)
 reads_next r text ahead (Passed count) next is = grind (arith, common_steps)
-reads_next r text ahead (Digit digit) next is = absurd next
-reads_next r text ahead KeyEnds next is = absurd next
-reads_next r text ahead Put next is = absurd next
-reads_next r text ahead Deleted next is = absurd next
-reads_next r text ahead CallEnds next is = absurd next
 
 -- a text on its way
 

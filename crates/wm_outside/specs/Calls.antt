@@ -2,7 +2,7 @@
 use Rattle.std.specs.Prelude.{◌≡◌, ◌↔◌, ◌≤◌, ℕ, Bool, IsTrue, Contains, Vec, if◌then◌else◌}
 use Rattle.std.specs.declared.alloc.Global.{Global}
 use Rattle.wm_outside.specs.declared.memory.calls.Calls.{Calls}
-use Rattle.wm_outside.specs.Cause.{raised}
+use Rattle.wm_traits.specs.Cause.{raised}
 
 -- no call yet, and these will fail
 abbrev pub is_new : Vec ℕ Global → Calls

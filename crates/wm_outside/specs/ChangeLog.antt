@@ -2,10 +2,12 @@
 -- what a key or a body shares with that of the base is told by how many bytes it is.
 use Rattle.std.specs.Prelude.{◌≡◌, ℕ, ◌+◌, ◌*◌, ◌%◌, List, [], ◌∷◌, ◌++◌, fold, take, drop}
 use Rattle.wm_outside.specs.declared.memory.sign.Sign.{Sign}
-use Rattle.wm_outside.specs.declared.memory.sign.Sign.TheVariants.{Own, Kept, Passed, Digit, KeyEnds, Put, Deleted, CallEnds}
-use Rattle.wm_outside.specs.declared.row.Row.{Row}
-use Rattle.wm_outside.specs.declared.row.RowChange.{RowChange}
-use Rattle.wm_outside.specs.declared.row.RowChange.TheVariants.{Put as put_of, Del}
+use Rattle.wm_outside.specs.declared.memory.sign.Sign.TheVariants.{Text, Digit, KeyEnds, Put, Deleted, CallEnds}
+use Rattle.wm_outside.specs.declared.memory.sign.TextSign.{TextSign}
+use Rattle.wm_outside.specs.declared.memory.sign.TextSign.TheVariants.{Own, Kept, Passed}
+use Rattle.wm_traits.specs.declared.row.Row.{Row}
+use Rattle.wm_traits.specs.declared.row.RowChange.{RowChange}
+use Rattle.wm_traits.specs.declared.row.RowChange.TheVariants.{Put as put_of, Del}
 use Rattle.wm_outside.specs.Signs.{sign_of}
 
 -- how far a log has been read
@@ -32,11 +34,15 @@ base_after [] base = base
 base_after (put_of row ∷ changes) base = row
 base_after (Del tab key ∷ changes) base = base_after changes base
 
+-- one sign further in a text
+abbrev pub reads_text : Reading → TextSign → Reading
+reads_text r (Own byte) = record r { text = r.text ++ byte ∷ [] }
+reads_text r (Kept count) = record r { text = r.text ++ take count r.ahead; ahead = drop count r.ahead }
+reads_text r (Passed count) = record r { ahead = drop count r.ahead }
+
 -- one sign further
 abbrev pub reads : Reading → Sign → Reading
-reads r (Own byte) = record r { text = r.text ++ byte ∷ [] }
-reads r (Kept count) = record r { text = r.text ++ take count r.ahead; ahead = drop count r.ahead }
-reads r (Passed count) = record r { ahead = drop count r.ahead }
+reads r (Text sign) = reads_text r sign
 reads r (Digit digit) = record r { tab = r.tab % 16 * 16 + digit % 16 }
 reads r KeyEnds = record r { key = r.text; text = []; ahead = r.base.body }
 reads r Put = between r.base (r.changes ++ put_of (record { tab = r.tab; key = r.key; body = r.text }) ∷ []) r.calls

@@ -3,9 +3,9 @@ use Rattle.std.specs.Prelude.{◌==◌, ℕ, nat_le, min, Bool, not, ◌&&◌, �
 use Rattle.wm_base.specs.declared.job.Event.{Event}
 use Rattle.wm_base.specs.declared.job.Event.TheVariants.{Ended, Used}
 use Rattle.wm_base.specs.declared.job.Exit.TheVariants.{Code, Killed}
-use Rattle.wm_outside.specs.declared.fault.Failed.{Failed}
+use Rattle.wm_traits.specs.declared.fault.Failed.{Failed}
 use Rattle.wm_outside.specs.declared.memory.children.Child.{Child}
-use Rattle.wm_outside.specs.Spawner.{without_first}
+use Rattle.wm_traits.specs.Spawner.{without_first}
 
 abbrev pub serials : List Child → List ℕ
 serials children = map (λ child. child.serial) children

@@ -3,7 +3,7 @@ use Rattle.std.specs.Prelude.{ℕ, List, Option, option_map}
 use Rattle.wm_outside.specs.declared.memory.calls.Calls.{Calls}
 use Rattle.wm_outside.specs.declared.memory.keeper.MemKeeper.{MemKeeper}
 use Rattle.wm_outside.specs.declared.memory.store.MemStore.{MemStore}
-use Rattle.wm_outside.specs.declared.row.Row.{Row}
+use Rattle.wm_traits.specs.declared.row.Row.{Row}
 use Rattle.wm_outside.specs.Log.{tables_after, trail_of}
 
 -- the rows

@@ -1,5 +1,4 @@
 pub mod Calls
-pub mod Cause
 pub mod ChangeLog
 pub mod Children
 pub mod InOrder
@@ -9,9 +8,6 @@ pub mod MemSpawner
 pub mod Memory
 pub mod Replay
 pub mod Reporting
-pub mod Rows
 pub mod Signs
-pub mod Spawner
 pub mod System
-pub mod Told
 pub mod Writing

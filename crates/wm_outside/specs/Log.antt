@@ -1,8 +1,8 @@
 -- Tables that are computed from the rows that were there first and the changes of each `apply` since.
 use Rattle.std.specs.Prelude.{List, [], ◌∷◌, fold}
-use Rattle.wm_outside.specs.declared.row.Row.{Row}
-use Rattle.wm_outside.specs.declared.row.RowChange.{RowChange}
-use Rattle.wm_outside.specs.Rows.{changed}
+use Rattle.wm_traits.specs.declared.row.Row.{Row}
+use Rattle.wm_traits.specs.declared.row.RowChange.{RowChange}
+use Rattle.wm_traits.specs.Rows.{changed}
 
 -- the rows after the changes of one `apply`
 abbrev pub after_one : List Row → List RowChange → List Row

@@ -5,9 +5,9 @@ use Rattle.wm_base.specs.declared.job.StartOrder.{StartOrder}
 use Rattle.wm_outside.specs.declared.memory.calls.Calls.{Calls}
 use Rattle.wm_outside.specs.declared.memory.children.Child.{Child}
 use Rattle.wm_outside.specs.declared.memory.spawner.MemSpawner.{MemSpawner}
-use Rattle.wm_outside.specs.declared.spawner.Told.{Told}
-use Rattle.wm_outside.specs.Cause.{raised}
-use Rattle.wm_outside.specs.Told.{told_if}
+use Rattle.wm_traits.specs.declared.spawner.Told.{Told}
+use Rattle.wm_traits.specs.Cause.{raised}
+use Rattle.wm_traits.specs.Told.{told_if}
 use Rattle.wm_outside.specs.Children.{serials, killed_ones, due_ones}
 
 -- the children that are out, the longest out first

@@ -4,7 +4,7 @@ use Rattle.wm_outside.specs.declared.memory.calls.Calls.{Calls}
 use Rattle.wm_outside.specs.declared.memory.source.MemSource.{MemSource}
 use Rattle.wm_outside.specs.declared.memory.sink.MemSink.{MemSink}
 use Rattle.wm_outside.specs.declared.memory.clock.MemClock.{MemClock}
-use Rattle.wm_outside.specs.Told.{told_if}
+use Rattle.wm_traits.specs.Told.{told_if}
 
 -- the bytes that are left
 abbrev pub source_left : MemSource → List ℕ

@@ -3,7 +3,7 @@ use Rattle.std.proofs.Common.{ℕ, zero, suc, Bool, true, false, cond, List, [],
 use Rattle.std.proofs.lemmas.List.Elements.{Contains-append_cases}
 use Rattle.wm_outside.specs.declared.memory.children.Child.{Child}
 use Rattle.wm_outside.specs.Children.{serials, killed_ones, due_ones}
-use Rattle.wm_outside.specs.Told.{AreAmong, told_if}
+use Rattle.wm_traits.specs.Told.{AreAmong, told_if}
 
 later_in : (y : ℕ) (ys : List ℕ) (x : ℕ) → Contains ys x → Contains (y ∷ ys) x
 later_in y ys x h = (suc h.0, omega (arith, h.1), h.2)

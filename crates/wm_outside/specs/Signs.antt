@@ -2,8 +2,10 @@
 use Rattle.std.specs.Prelude.{ℕ, ◌-◌, ◌<◌, ◌≤◌, ◌==◌, nat_lt, IsTrue, if◌then◌else◌}
 use Rattle.wm_base.specs.Text.{is_printable}
 use Rattle.wm_outside.specs.declared.memory.sign.Sign.{Sign}
+use Rattle.wm_outside.specs.declared.memory.sign.Sign.TheVariants.{Text, Digit, KeyEnds, Put, Deleted, CallEnds}
+use Rattle.wm_outside.specs.declared.memory.sign.TextSign.{TextSign}
+use Rattle.wm_outside.specs.declared.memory.sign.TextSign.TheVariants.{Own, Kept, Passed}
 use Rattle.wm_outside.specs.declared.memory.sign.TheConstants.{MOST}
-use Rattle.wm_outside.specs.declared.memory.sign.Sign.TheVariants.{Own, Kept, Passed, Digit, KeyEnds, Put, Deleted, CallEnds}
 
 -- the bytes 32 to 126 are those of texts
 abbrev pub sign_of : ℕ → Sign
@@ -13,15 +15,19 @@ sign_of byte =
     if byte == 17 then Put else
     if byte == 18 then Deleted else
     if nat_lt byte 32 then CallEnds else
-    if nat_lt byte 127 then Own byte else
-    if nat_lt byte 192 then Kept (byte - 127) else
-    Passed (byte - 191)
+    if nat_lt byte 127 then Text (Own byte) else
+    if nat_lt byte 192 then Text (Kept (byte - 127)) else
+    Text (Passed (byte - 191))
+
+-- there is a byte that says this of a text
+abbrev pub IsTextSign : TextSign → Type 0
+IsTextSign (Own byte) = IsTrue (is_printable byte)
+IsTextSign (Kept count) = count ≤ MOST
+IsTextSign (Passed count) = (0 < count) × (count ≤ MOST)
 
 -- there is a byte that says this
 abbrev pub IsSign : Sign → Type 0
-IsSign (Own byte) = IsTrue (is_printable byte)
-IsSign (Kept count) = count ≤ MOST
-IsSign (Passed count) = (0 < count) × (count ≤ MOST)
+IsSign (Text sign) = IsTextSign sign
 IsSign (Digit digit) = digit < 16
 IsSign KeyEnds = Unit {0}
 IsSign Put = Unit {0}

@@ -1,42 +1,27 @@
 -- How a text is written beside that of the base.
 use Rattle.std.specs.Prelude.{◌≡◌, ℕ, ◌<◌, ◌≤◌, List, [], ◌∷◌, ◌++◌, length, take}
-use Rattle.wm_outside.specs.declared.memory.sign.Sign.{Sign}
-use Rattle.wm_outside.specs.declared.memory.sign.Sign.TheVariants.{Own, Kept, Passed, Digit, KeyEnds, Put, Deleted, CallEnds}
-use Rattle.wm_outside.specs.declared.row.RowChange.{RowChange}
+use Rattle.wm_outside.specs.declared.memory.sign.TextSign.{TextSign}
+use Rattle.wm_outside.specs.declared.memory.sign.TextSign.TheVariants.{Own, Kept, Passed}
+use Rattle.wm_traits.specs.declared.row.RowChange.{RowChange}
 use Rattle.wm_outside.specs.ChangeLog.{Reading}
 
 -- how many bytes of the text a sign says
-abbrev pub said_by : Sign → ℕ
+abbrev pub said_by : TextSign → ℕ
 said_by (Own byte) = 1
 said_by (Kept count) = count
 said_by (Passed count) = 0
-said_by (Digit digit) = 0
-said_by KeyEnds = 0
-said_by Put = 0
-said_by Deleted = 0
-said_by CallEnds = 0
 
 -- how many bytes of the base it goes on
-abbrev pub taken_by : Sign → ℕ
+abbrev pub taken_by : TextSign → ℕ
 taken_by (Own byte) = 0
 taken_by (Kept count) = count
 taken_by (Passed count) = count
-taken_by (Digit digit) = 0
-taken_by KeyEnds = 0
-taken_by Put = 0
-taken_by Deleted = 0
-taken_by CallEnds = 0
 
 -- a sign says the first bytes of a text beside what is ahead of the base, or goes on there
-abbrev pub IsNext : List ℕ → List ℕ → Sign → Type 0
+abbrev pub IsNext : List ℕ → List ℕ → TextSign → Type 0
 IsNext text ahead (Own byte) = take 1 text ≡ byte ∷ []
 IsNext text ahead (Kept count) = (0 < count) × (count ≤ length text) × (count ≤ length ahead) × (take count text ≡ take count ahead)
 IsNext text ahead (Passed count) = (0 < count) × (count ≤ length ahead)
-IsNext text ahead (Digit digit) = ⊥
-IsNext text ahead KeyEnds = ⊥
-IsNext text ahead Put = ⊥
-IsNext text ahead Deleted = ⊥
-IsNext text ahead CallEnds = ⊥
 
 -- a reading with these bytes of its text, and this of the base ahead
 abbrev pub with_text : Reading → List ℕ → List ℕ → Reading

@@ -1,6 +1,6 @@
 -- A row is taken as the one stored thing that it is the row of.
 use Rattle.std.proofs.Common.{◌≡◌, ◌↔◌, ℕ, ◌<◌, ◌^◌, Bool, false, Option, Some, None, IsTrue, codes, sym, subst, ap, inl, inr, arith}
-use Rattle.wm_outside.specs.declared.row.Row.{Row}
+use Rattle.wm_traits.specs.declared.row.Row.{Row}
 use Rattle.wm_law.specs.declared.call.Reply.TheVariants.{Made, QueueHeld}
 use Rattle.wm_law.specs.declared.state.State.{State}
 use Rattle.wm_law.specs.Machine.{change}

@@ -5,7 +5,7 @@ use Rattle.wm_law.specs.declared.job.JobKind.TheVariants.{Bch}
 use Rattle.wm_job_rows.specs.declared.stored.StoredJob.{StoredJob}
 use Rattle.wm_job_rows.specs.declared.stored.StoredPhase.TheVariants.{Waiting}
 use Rattle.wm_law.specs.declared.state.State.{State}
-use Rattle.wm_outside.specs.declared.row.Row.{Row}
+use Rattle.wm_traits.specs.declared.row.Row.{Row}
 use Rattle.wm_tables.specs.Restart.{HasLengths, IsOfKind, Takes, is_used, is_taken}
 
 -- it has its lengths and the values of its kind, and waits only where it was submitted

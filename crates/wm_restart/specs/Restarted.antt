@@ -1,8 +1,8 @@
 -- How far the rows of a store are good.
 use Rattle.std.specs.Prelude.{◌≡◌, ℕ, ◌+◌, ◌<◌, ◌≤◌, Bool, ◌&&◌, List, length, take, slice_get, Some}
 use Rattle.std.specs.List.{list_any}
-use Rattle.wm_outside.specs.declared.row.Row.{Row}
-use Rattle.wm_outside.specs.Rows.{IsInOrder, is_of}
+use Rattle.wm_traits.specs.declared.row.Row.{Row}
+use Rattle.wm_traits.specs.Rows.{IsInOrder, is_of}
 use Rattle.wm_law.specs.declared.state.State.{State}
 use Rattle.wm_rows.specs.Rows.{counter_word}
 use Rattle.wm_rows.specs.declared.stored.Counter.{Counter}

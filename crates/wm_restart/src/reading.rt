@@ -9,8 +9,8 @@ use wm_desc::{Objects, SortedList};
 use wm_job_rows::{StoredJob, read_job};
 use wm_law::{Command, Job, QNames};
 use wm_ordered::Ordered;
-use wm_outside::Row;
 use wm_rows::{Counter, Stored, read_row};
+use wm_traits::Row;
 use wm_when::Offset;
 
 /// All job numbers are below this.

@@ -1,6 +1,6 @@
 // The rows of a store, one after another.
 ghost use Rattle.std.specs.Prelude.{◌≡◌, ◌↔◌, ℕ, ◌+◌, ◌<◌, ◌≤◌, take, length, Err, IsTrue, IfOk};
-ghost use Rattle.wm_outside.specs.Rows.{IsInOrder, is_of};
+ghost use Rattle.wm_traits.specs.Rows.{IsInOrder, is_of};
 ghost use Rattle.wm_rows.specs.Rows.{counter_word};
 ghost use Rattle.wm_tables.specs.Restart.{AreGood, HasCounters, IsBad};
 ghost use Rattle.wm_restart.specs.Restarted.{has_counter, has_all, AreOrdered};
@@ -11,8 +11,8 @@ use crate::reading::Reading;
 use std::alloc::{AllocError, Global};
 use thiserror::Error;
 use wm_base::NoMemory;
-use wm_outside::{Row, are_in_order};
 use wm_rows::{COUNTERS, Counter, counter_word};
+use wm_traits::{Row, are_in_order};
 use wm_when::Offset;
 
 /// Why rows make no state.

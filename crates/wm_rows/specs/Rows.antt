@@ -5,7 +5,7 @@ use Rattle.std.specs.Option.{option_map}
 use Rattle.wm_base.specs.QName.{qname_text}
 use Rattle.wm_base.specs.declared.job.Class.{Class}
 use Rattle.wm_base.specs.declared.qname.QName.{QName}
-use Rattle.wm_outside.specs.declared.row.Row.{Row}
+use Rattle.wm_traits.specs.declared.row.Row.{Row}
 use Rattle.wm_desc.specs.declared.description.Jobd.{Jobd}
 use Rattle.wm_desc.specs.declared.description.Jobq.{Jobq}
 use Rattle.wm_desc.specs.declared.description.Program.{Program}

@@ -10,7 +10,7 @@ use crate::place::COUNTERS;
 use crate::stored::Counter;
 use std::alloc::Global;
 use wm_base::{NoMemory, Text};
-use wm_outside::Row;
+use wm_traits::Row;
 
 /// The key of a counter's row.
 pub fn counter_word(counter: Counter) -> &'static [u8]

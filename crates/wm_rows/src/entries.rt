@@ -10,7 +10,7 @@ use std::alloc::Global;
 use wm_base::{NoMemory, QName};
 use wm_desc::{AutoEntry, PreEntry, QueueEntry, RouteEntry};
 use wm_law::Command;
-use wm_outside::Row;
+use wm_traits::Row;
 
 /// A queue entry's row. An `Err` is want of memory.
 pub fn queue_entry_row(alloc: Global, sbsd: &QName, entry: &QueueEntry) -> Result<Row, NoMemory>

@@ -9,7 +9,7 @@ use crate::place::HELD;
 use std::alloc::Global;
 use wm_base::{NoMemory, QName, Text};
 use wm_clwords::{Item, Span, push_qname, read_object};
-use wm_outside::Row;
+use wm_traits::Row;
 
 /// The row of a queue that is held. An `Err` is want of memory.
 pub fn held_row(alloc: Global, jobq: &QName) -> Result<Row, NoMemory>

@@ -10,7 +10,7 @@ use std::alloc::Global;
 use wm_base::{Class, NoMemory, QName};
 use wm_desc::{Jobd, Jobq, Program, Sbsd};
 use wm_law::Command;
-use wm_outside::Row;
+use wm_traits::Row;
 
 /// A class's row. An `Err` is want of memory.
 pub fn class_row(alloc: Global, name: &QName, cls: &Class) -> Result<Row, NoMemory>

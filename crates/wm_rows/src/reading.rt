@@ -20,7 +20,7 @@ use crate::rows::row_of;
 use crate::stored::Stored;
 use std::alloc::Global;
 use wm_base::NoMemory;
-use wm_outside::Row;
+use wm_traits::Row;
 
 fn read_made(alloc: Global, row: &Row) -> Result<Option<Stored>, NoMemory>
     ensures fitting { IfOk result (λ o. IfSome o IsFitting) }

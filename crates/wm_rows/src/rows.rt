@@ -11,7 +11,7 @@ use std::alloc::Global;
 use wm_base::NoMemory;
 use wm_command::print;
 use wm_law::Command;
-use wm_outside::Row;
+use wm_traits::Row;
 
 /// The row at a place that holds a command.
 pub fn made_row(alloc: Global, place: Place, command: &Command) -> Result<Row, NoMemory>

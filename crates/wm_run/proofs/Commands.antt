@@ -7,7 +7,7 @@ use Rattle.wm_law.specs.declared.call.Entry.{Entry}
 use Rattle.wm_law.specs.declared.command.Command.{Command}
 use Rattle.wm_journal.specs.History.{History, entry_at, last_of}
 use Rattle.wm_monitor.proofs.Histories.{last_of-call}
-use Rattle.wm_outside.specs.Told.{Grows}
+use Rattle.wm_traits.specs.Told.{Grows}
 use Rattle.wm_run.specs.Answer.{entry_text, with_end, is_power_down, is_refused}
 use Rattle.wm_run.specs.Calls.{Called}
 use Rattle.wm_monitor.specs.Lists.{since, Extends}

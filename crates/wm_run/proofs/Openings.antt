@@ -8,10 +8,10 @@ use Rattle.wm_law.specs.Pending.{active}
 use Rattle.wm_law.specs.declared.call.Entry.{Entry}
 use Rattle.wm_law.specs.declared.state.State.{State}
 use Rattle.wm_law.proofs.Sound.{limits_are_kept, order_is_kept}
-use Rattle.wm_outside.specs.declared.fault.KeepFault.{KeepFault}
-use Rattle.wm_outside.specs.declared.fault.KeepFault.TheVariants as keep
-use Rattle.wm_outside.specs.declared.row.Row.{Row}
-use Rattle.wm_outside.specs.Told.{Grows, Stays}
+use Rattle.wm_traits.specs.declared.fault.KeepFault.{KeepFault}
+use Rattle.wm_traits.specs.declared.fault.KeepFault.TheVariants as keep
+use Rattle.wm_traits.specs.declared.row.Row.{Row}
+use Rattle.wm_traits.specs.Told.{Grows, Stays}
 use Rattle.wm_run.specs.Kept.{HasHistory, HasOpened, open_status, store_status}
 use Rattle.wm_monitor.specs.Lists.{since}
 use Rattle.wm_monitor.specs.Idle.{NoneIsIdle}

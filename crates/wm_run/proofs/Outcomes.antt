@@ -7,8 +7,8 @@ use Rattle.wm_clwords.specs.Part.{Part, fresh, lines_from}
 use Rattle.wm_law.specs.declared.call.Entry.{Entry}
 use Rattle.wm_law.specs.declared.state.State.{State}
 use Rattle.wm_journal.specs.History.{History}
-use Rattle.wm_outside.specs.Told.{Takes}
-use Rattle.wm_outside.proofs.Telling.{Takes-none}
+use Rattle.wm_traits.specs.Told.{Takes}
+use Rattle.wm_traits.proofs.Telling.{Takes-none}
 use Rattle.wm_run.specs.Down.{is_down}
 use Rattle.wm_run.specs.Grown.{at_opening, entries_between}
 use Rattle.wm_monitor.specs.Lists.{since}

@@ -12,8 +12,8 @@ use Rattle.wm_law.specs.declared.command.Command.{Command}
 use Rattle.wm_law.specs.History.{entries_of, orders}
 use Rattle.wm_law.specs.Pending.{busy}
 use Rattle.wm_journal.specs.History.{History, entry_at, reached, with_call}
-use Rattle.wm_outside.specs.declared.spawner.Told.{Told}
-use Rattle.wm_outside.proofs.Telling.{Grows-none}
+use Rattle.wm_traits.specs.declared.spawner.Told.{Told}
+use Rattle.wm_traits.proofs.Telling.{Grows-none}
 use Rattle.wm_run.specs.Calls.{Called}
 use Rattle.wm_monitor.specs.Lists.{since, Extends}
 use Rattle.wm_monitor.specs.Asking.{AsksFor}
@@ -26,7 +26,7 @@ use Rattle.wm_run.specs.Session.{Closes, EndsInput, OneCall, end_call, session_p
 use Rattle.wm_monitor.specs.View.{IsClear, kill_left, view}
 use Rattle.wm_monitor.specs.declared.monitor.Monitor.{Monitor}
 use Rattle.wm_monitor.specs.declared.report.Report.{Report}
-use Rattle.wm_outside.specs.Told.{Grows}
+use Rattle.wm_traits.specs.Told.{Grows}
 use Rattle.wm_monitor.proofs.Lists.{since-append, since-then, Extends-append}
 use Rattle.wm_monitor.proofs.Monitors.{Proceeds-by, Proceeds-none, reports-push}
 use Rattle.wm_monitor.proofs.Askings.{AsksFor-none}

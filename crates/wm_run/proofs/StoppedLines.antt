@@ -5,8 +5,8 @@ use Rattle.std.proofs.lemmas.List.{append-nil, take_at}
 use Rattle.wm_clwords.specs.Part.{Part, lines_from}
 use Rattle.wm_law.specs.declared.call.Entry.{Entry}
 use Rattle.wm_journal.specs.History.{History}
-use Rattle.wm_outside.specs.Told.{Grows}
-use Rattle.wm_outside.proofs.Telling.{Grows-none, Grows-then}
+use Rattle.wm_traits.specs.Told.{Grows}
+use Rattle.wm_traits.proofs.Telling.{Grows-none, Grows-then}
 use Rattle.wm_run.specs.Down.{is_down}
 use Rattle.wm_run.specs.Grown.{grown}
 use Rattle.wm_run.specs.Session.{Answers, AnswersLine, AnsweredBy}

@@ -7,7 +7,7 @@ use Rattle.wm_clwords.specs.Part.{Part, fresh, lines_from}
 use Rattle.wm_clwords.proofs.LinesLaw.{lines_from-fresh}
 use Rattle.wm_law.specs.declared.call.Entry.{Entry}
 use Rattle.wm_journal.specs.History.{History}
-use Rattle.wm_outside.proofs.Telling.{Grows-none, Grows-then}
+use Rattle.wm_traits.proofs.Telling.{Grows-none, Grows-then}
 use Rattle.wm_run.specs.Grown.{grown}
 use Rattle.wm_run.specs.Down.{is_down}
 use Rattle.wm_run.specs.Session.{Answers, AnswersLine, AnsweredBy, GoesOn, Says}

@@ -2,8 +2,8 @@
 use Rattle.std.proofs.Common.{◌≡◌, ℕ, ◌+◌, ◌-◌, ◌≤◌, List, length, take, drop, min, Option, sym, ap, subst, ◌∙◌, arith}
 use Rattle.std.proofs.Math.Seq.{take-add, take-length}
 use Rattle.std.proofs.lemmas.List.{take_min, length-drop}
-use Rattle.wm_outside.proofs.Telling.{Grows-then}
-use Rattle.wm_outside.specs.Told.{Grows}
+use Rattle.wm_traits.proofs.Telling.{Grows-then}
+use Rattle.wm_traits.specs.Told.{Grows}
 
 -- the first n bytes are written, and no call has failed
 pub record WriteLoop (bytes : List ℕ) (n : ℕ) (old new : Option (List ℕ)) (before now : ℕ) : Type 0 where

@@ -1,6 +1,6 @@
 -- Why a run ends early, and with which status.
 use Rattle.std.specs.Prelude.{ℕ, ◌≤◌, Result, IsErrOf}
-use Rattle.wm_outside.specs.Cause.{raised}
+use Rattle.wm_traits.specs.Cause.{raised}
 use Rattle.wm_monitor.specs.declared.fault.MonitorFault.{MonitorFault}
 use Rattle.wm_monitor.specs.declared.fault.MonitorFault.TheVariants as monitor
 use Rattle.wm_run.specs.declared.halt.Halt.{Halt}

@@ -7,9 +7,9 @@ use Rattle.wm_law.specs.Order.{KeepsOrder}
 use Rattle.wm_law.specs.Pending.{active}
 use Rattle.wm_law.specs.declared.call.Entry.{Entry}
 use Rattle.wm_law.specs.declared.state.State.{State}
-use Rattle.wm_outside.specs.declared.fault.KeepFault.{KeepFault}
-use Rattle.wm_outside.specs.declared.fault.KeepFault.TheVariants as keep
-use Rattle.wm_outside.specs.declared.row.Row.{Row}
+use Rattle.wm_traits.specs.declared.fault.KeepFault.{KeepFault}
+use Rattle.wm_traits.specs.declared.fault.KeepFault.TheVariants as keep
+use Rattle.wm_traits.specs.declared.row.Row.{Row}
 use Rattle.wm_monitor.specs.Idle.{NoneIsIdle}
 use Rattle.wm_run.specs.Run.{run_offset}
 use Rattle.wm_stored.specs.Keeping.{Telling, IsLeft}

@@ -4,8 +4,8 @@ use Rattle.std.specs.List.{list_any}
 use Rattle.wm_base.specs.declared.job.Asked.{Asked}
 use Rattle.wm_law.specs.declared.call.Entry.{Entry}
 use Rattle.wm_law.specs.History.{orders}
-use Rattle.wm_outside.specs.declared.spawner.Told.{Told}
-use Rattle.wm_outside.specs.Told.{Grows}
+use Rattle.wm_traits.specs.declared.spawner.Told.{Told}
+use Rattle.wm_traits.specs.Told.{Grows}
 use Rattle.wm_monitor.specs.Asking.{AsksFor}
 use Rattle.wm_monitor.specs.Idle.{monitor_pass}
 use Rattle.wm_monitor.specs.Monitor.{RisesBy, as_reports, reported, is_spawner_fault}

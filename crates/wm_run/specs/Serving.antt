@@ -3,7 +3,7 @@ use Rattle.std.specs.Prelude.{ℕ, ◌==◌, ◌||◌, Bool, List, Option}
 use Rattle.wm_base.specs.declared.job.Asked.{Asked}
 use Rattle.wm_law.specs.declared.call.Entry.{Entry}
 use Rattle.wm_journal.specs.History.{History}
-use Rattle.wm_outside.specs.declared.spawner.Told.{Told}
+use Rattle.wm_traits.specs.declared.spawner.Told.{Told}
 use Rattle.wm_monitor.specs.declared.monitor.Monitor.{Monitor}
 use Rattle.wm_monitor.specs.Monitor.{MonitorView, Proceeds, is_own}
 use Rattle.wm_monitor.specs.View.{view}

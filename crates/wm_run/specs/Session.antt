@@ -12,7 +12,7 @@ use Rattle.wm_law.specs.Pending.{busy}
 use Rattle.wm_journal.specs.History.{History, reached}
 use Rattle.wm_desc.specs.Opening.{qbatch}
 use Rattle.wm_clwords.specs.declared.fault.ClFault.TheVariants.{TooLong}
-use Rattle.wm_outside.specs.Told.{Grows}
+use Rattle.wm_traits.specs.Told.{Grows}
 use Rattle.wm_run.specs.Parsed.{Parses, session_user}
 use Rattle.wm_show.specs.Said.{said_text}
 use Rattle.wm_run.specs.Down.{is_down}

@@ -3,7 +3,7 @@ use Rattle.std.specs.Prelude.{◌≡◌, ◌↔◌, ℕ, ◌+◌, ◌<◌, Bool,
 use Rattle.wm_clwords.specs.Part.{Part, lines_from}
 use Rattle.wm_law.specs.declared.call.Entry.{Entry}
 use Rattle.wm_journal.specs.History.{History}
-use Rattle.wm_outside.specs.Told.{Takes}
+use Rattle.wm_traits.specs.Told.{Takes}
 use Rattle.wm_run.specs.Session.{Answers, AnsweredBy}
 use Rattle.wm_run.specs.declared.halt.Halt.{Halt}
 use Rattle.wm_run.specs.declared.halt.Halt.TheVariants.{ReadFault, InputFull}

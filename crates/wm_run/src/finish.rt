@@ -5,7 +5,7 @@ use crate::session::Run;
 use std::alloc::Global;
 use std::sync::Wait;
 use wm_law::Pending;
-use wm_outside::{Clock, Keeper, Spawner};
+use wm_traits::{Clock, Keeper, Spawner};
 
 /// The active jobs whose end is waited for.
 #[derive(Clone, Copy)]
@@ -38,7 +38,7 @@ impl<K: Keeper> Run<K> {
     ghost use Rattle.wm_monitor.specs.Idle.{monitor_pass};
     ghost use Rattle.wm_monitor.specs.Journal.{HasJournalCauses};
     ghost use Rattle.wm_monitor.specs.View.{IsClear, MonitorAdvances};
-    ghost use Rattle.wm_outside.specs.Told.{IsEmpty};
+    ghost use Rattle.wm_traits.specs.Told.{IsEmpty};
     ghost use Rattle.wm_run.specs.Awaited.{jobs_left};
     ghost use Rattle.wm_run.specs.Halt.{HasMonitorCauses};
     ghost use Rattle.wm_run.specs.Grown.{entries_between};

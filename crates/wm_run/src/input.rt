@@ -3,8 +3,8 @@ ghost use Rattle.std.specs.Prelude.{◌≡◌, ◌≤◌, ◌<◌, ◌+◌, [], 
 ghost use Rattle.std.specs.Option.{option_copied};
 ghost use Rattle.std.specs.Io.KnownBytes.{IsAtEnd};
 ghost use Rattle.wm_clwords.specs.Part.{ended_lines};
-ghost use Rattle.wm_outside.specs.Told.{Takes};
-ghost use Rattle.wm_outside.specs.Cause.{raised};
+ghost use Rattle.wm_traits.specs.Told.{Takes};
+ghost use Rattle.wm_traits.specs.Cause.{raised};
 ghost use Rattle.wm_run.specs.Taking.{StopsReading, TakesInput};
 
 use crate::answered::Answered;
@@ -14,7 +14,7 @@ use std::alloc::Global;
 use std::sync::Wait;
 use wm_base::NoMemory;
 use wm_clwords::{Joiner, LogicalLine};
-use wm_outside::{Clock, Keeper, Sink, Source, Spawner};
+use wm_traits::{Clock, Keeper, Sink, Source, Spawner};
 
 /// How many bytes of input a run takes at the most.
 pub const MOST_INPUT: u64 = 1_000_000_000;

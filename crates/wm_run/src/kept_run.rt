@@ -2,7 +2,7 @@
 ghost use Rattle.std.specs.Prelude.{◌≡◌, ◌<◌, ◌≤◌, None, [], length, option_to_list, true, false};
 ghost use Rattle.std.specs.Io.KnownBytes.{IsAtEnd};
 ghost use Rattle.std.specs.List.{list_all};
-ghost use Rattle.wm_outside.specs.Cause.{raised};
+ghost use Rattle.wm_traits.specs.Cause.{raised};
 ghost use Rattle.wm_run.specs.Down.{is_down};
 ghost use Rattle.wm_run.specs.Kept.{HasBadRow, HasHistory, open_status};
 ghost use Rattle.wm_run.specs.Outcome.{RunTakes};
@@ -20,8 +20,8 @@ use wm_core::Setup;
 use wm_desc::qbatch;
 use wm_journal::Journal;
 use wm_monitor::Monitor;
-use wm_outside::{Clock, Keeper, Sink, Source, Spawner};
 use wm_stored::OpenFault;
+use wm_traits::{Clock, Keeper, Sink, Source, Spawner};
 use wm_when::Offset;
 
 /// Below how many entries a run takes users' commands.

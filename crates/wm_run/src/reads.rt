@@ -8,7 +8,7 @@ use std::alloc::Global;
 use wm_base::NoMemory;
 use wm_law::Ask;
 use wm_listing::{listing, log_listing};
-use wm_outside::{Keeper, Sink};
+use wm_traits::{Keeper, Sink};
 use wm_views::Shown;
 
 // Whether the history itself is asked for.
@@ -27,7 +27,7 @@ fn is_no(shown: &Shown) -> bool
 
 impl<K: Keeper> Run<K> {
     ghost use Rattle.std.specs.Prelude.{◌≡◌, ◌≤◌, [], IfOk, OnErr, IsErrOf};
-    ghost use Rattle.wm_outside.specs.Cause.{raised};
+    ghost use Rattle.wm_traits.specs.Cause.{raised};
     ghost use Rattle.wm_run.specs.Reads.{read_text, is_read_refused};
     ghost use Rattle.wm_run.specs.Session.{AnsweredBy, Reads};
     ghost use Rattle.wm_run.specs.Stopped.{IsCutShort};

@@ -1,7 +1,7 @@
 // The session's calls and answers, and the monitor's turns between them.
 ghost use Rattle.std.specs.Prelude.{◌≡◌, ◌≤◌, ℕ, Err, OnOk, OnErr, IsErrOf, take};
-ghost use Rattle.wm_outside.specs.Told.{Grows};
-ghost use Rattle.wm_outside.specs.Cause.{raised};
+ghost use Rattle.wm_traits.specs.Told.{Grows};
+ghost use Rattle.wm_traits.specs.Cause.{raised};
 
 use crate::answer::{NOT_BUILT, entry_line, fault_answer, is_fault, is_power_down, is_refused};
 use crate::answered::Answered;
@@ -17,8 +17,8 @@ use wm_clwords::ClFault;
 use wm_journal::Journal;
 use wm_law::{Call, Command, built_commands_are_had};
 use wm_monitor::{MONITOR, Monitor, Turned, enter};
-use wm_outside::{Clock, Keeper, Sink, Spawner};
 use wm_show::LineFault;
+use wm_traits::{Clock, Keeper, Sink, Spawner};
 
 /// The journal of a run, its passes, and the monitor.
 #[derive(Drop)]
@@ -49,8 +49,8 @@ impl<K: Keeper> Run<K> {
     ghost use Rattle.wm_law.specs.Fit.{IsCall, HasCall, IsCommand};
     ghost use Rattle.wm_law.specs.Pending.{next_moment, orders};
     ghost use Rattle.wm_journal.specs.History.{reached, with_call, last_of};
-    ghost use Rattle.wm_outside.specs.Told.{Grows, IsEmpty};
-    ghost use Rattle.wm_outside.specs.Cause.{raised};
+    ghost use Rattle.wm_traits.specs.Told.{Grows, IsEmpty};
+    ghost use Rattle.wm_traits.specs.Cause.{raised};
     ghost use Rattle.wm_run.specs.Answer.{entry_text, with_end, is_power_down, is_refused};
     ghost use Rattle.wm_run.specs.Calls.{Called};
     ghost use Rattle.wm_run.specs.Halt.{HasCauses, HasMonitorCauses};

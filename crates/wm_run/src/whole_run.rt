@@ -2,7 +2,7 @@
 ghost use Rattle.std.specs.Prelude.{◌≡◌, ◌≤◌, None, [], length, map, option_to_list, string_bytes, true, false};
 ghost use Rattle.std.specs.Io.KnownBytes.{IsAtEnd};
 ghost use Rattle.std.specs.List.{list_all};
-ghost use Rattle.wm_outside.specs.Cause.{raised};
+ghost use Rattle.wm_traits.specs.Cause.{raised};
 ghost use Rattle.wm_run.specs.Down.{is_down};
 ghost use Rattle.wm_run.specs.Kept.{HasBadRow, HasHistory, store_status};
 ghost use Rattle.wm_run.specs.Outcome.{RunTakes};
@@ -17,7 +17,7 @@ use std::alloc::Global;
 use std::sync::Wait;
 use wm_law::Entry;
 use wm_monitor::Report;
-use wm_outside::{Clock, KeepFault, Sink, Source, Spawner, Store};
+use wm_traits::{Clock, KeepFault, Sink, Source, Spawner, Store};
 
 /// What a run answers for: its status, its history, and the report that it had not sent.
 #[derive(Drop)]

@@ -1,9 +1,10 @@
 // Writing all of some bytes.
 ghost use Rattle.std.specs.Prelude.{◌≡◌, ℕ, take, OnOk, OnErr};
-ghost use Rattle.wm_outside.specs.Told.{Grows};
-ghost use Rattle.wm_outside.specs.Cause.{HasCause};
+ghost use Rattle.wm_traits.specs.Told.{Grows};
+ghost use Rattle.wm_traits.specs.Cause.{HasCause};
 
-use wm_outside::{Failed, Sink};
+use wm_traits::{Failed, Sink};
+
 
 /// Writes all of the bytes, what a short write left too. After a fault the first of them are written.
 pub fn write_all<O: Sink>(out: &mut O, bytes: &[u8]) -> Result<(), Failed>

@@ -3,8 +3,8 @@ use Rattle.std.specs.Prelude.{ℕ}
 use Rattle.sqlite.specs.declared.error.Error.{Error}
 use Rattle.sqlite.specs.declared.error.Error.TheVariants.{SqliteFailure}
 use Rattle.sqlite.specs.declared.error.ErrorCode.TheVariants.{OutOfMemory}
-use Rattle.wm_outside.specs.declared.fault.KeepFault.{KeepFault}
-use Rattle.wm_outside.specs.declared.fault.KeepFault.TheVariants.{Failed, NoMemory}
+use Rattle.wm_traits.specs.declared.fault.KeepFault.{KeepFault}
+use Rattle.wm_traits.specs.declared.fault.KeepFault.TheVariants.{Failed, NoMemory}
 use Rattle.wm_sqlkeep.specs.declared.keeper.SqlKeeper.{SqlKeeper}
 use Rattle.wm_sqlkeep.specs.declared.store.SqlStore.{SqlStore}
 

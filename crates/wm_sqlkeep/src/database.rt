@@ -8,7 +8,7 @@ use crate::table::{self, Writes};
 use sqlite::{Connection, File, FileStore, MemStore};
 use std::alloc::Global;
 use std::rt::HostRuntime;
-use wm_outside::{KeepFault, Row, RowChange};
+use wm_traits::{KeepFault, Row, RowChange};
 
 pub(crate) enum Database {
     Memory(Connection<MemStore>),

@@ -1,10 +1,10 @@
 // What SQLite's errors are for a keeper, and how they are counted.
 ghost use Rattle.std.specs.Prelude.{◌≡◌, false, IsTrue};
-ghost use Rattle.wm_outside.specs.Cause.{HasKeepCause, keep_missed, raised};
+ghost use Rattle.wm_traits.specs.Cause.{HasKeepCause, keep_missed, raised};
 ghost use Rattle.wm_sqlkeep.specs.Faults.{keep_fault};
 
 use sqlite::{Error, ErrorCode};
-use wm_outside::KeepFault;
+use wm_traits::KeepFault;
 
 /// Want of memory, or else a fault.
 pub(crate) fn keep_fault(error: Error) -> KeepFault

@@ -7,7 +7,7 @@ use crate::faults::counted;
 use crate::table::Writes;
 use std::alloc::Global;
 use std::rt::HostRuntime;
-use wm_outside::{KeepFault, Keeper, Row, RowChange};
+use wm_traits::{KeepFault, Keeper, Row, RowChange};
 
 /// A keeper of the rows in a file of SQLite, or in memory. It tells no rows.
 #[derive(Drop)]

@@ -1,7 +1,7 @@
 //! Rows kept in SQLite: a store whose keepers have a file each, or memory for `:memory:`, and the SQL of its one table,
 //! `wmrow`, whole (`table`).
 //!
-//! The contract for the layer above is that of `Store` and `Keeper` of `wm_outside`: a call answers `Failed` only where its
+//! The contract for the layer above is that of `Store` and `Keeper` of `wm_traits`: a call answers `Failed` only where its
 //! count rose, a keeper comes with a count of 0, and a store passes on that a keeper has failed. They tell no rows, so
 //! nothing is promised of what a file holds; cases show it (`wm_test_sqlkeep`). Inside, a loaded row has the values of its
 //! columns, and where an `apply` fails, the database is as it was (`table`): always in memory, and on a file as far as

@@ -4,7 +4,7 @@ ghost use Rattle.std.specs.Prelude.{◌≡◌, None, refl};
 use crate::faults::counted;
 use crate::{SqlKeeper, keeper};
 use std::rt::HostRuntime;
-use wm_outside::{KeepFault, Store};
+use wm_traits::{KeepFault, Store};
 
 /// A store of rows in files of SQLite. Each opening of `:memory:` gives a keeper without rows, which end with it.
 #[derive(Drop)]

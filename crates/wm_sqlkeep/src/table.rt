@@ -11,7 +11,7 @@ use sqlite::types::ValueRef;
 use sqlite::{Alter, Connection, Rows, Statement, Transaction, params};
 use std::alloc::Global;
 use wm_base::{Text, is_text};
-use wm_outside::{KeepFault, Row, RowChange};
+use wm_traits::{KeepFault, Row, RowChange};
 
 const MAKE: &str =
     "CREATE TABLE IF NOT EXISTS wmrow (tab INTEGER NOT NULL, k TEXT NOT NULL, body TEXT NOT NULL, PRIMARY KEY (tab, k)) STRICT";

@@ -2,10 +2,10 @@
 use Rattle.std.proofs.Common.{◌≡◌, ◌||◌, Bool, true, false, cond, List, [], ◌∷◌, Option, Some, None, IfSome, is_some, refl, sym, ap, subst, ◌∙◌, inl, inr}
 use Rattle.std.proofs.lemmas.Slice.Eq.{slice_eq-Decides}
 use Rattle.std.specs.Bool.{Decides}
-use Rattle.wm_outside.specs.declared.row.Row.{Row}
-use Rattle.wm_outside.specs.declared.row.RowChange.{RowChange}
-use Rattle.wm_outside.specs.Rows.{changed, new_tables}
-use Rattle.wm_outside.specs.Told.{Becomes, Grows}
+use Rattle.wm_traits.specs.declared.row.Row.{Row}
+use Rattle.wm_traits.specs.declared.row.RowChange.{RowChange}
+use Rattle.wm_traits.specs.Rows.{changed, new_tables}
+use Rattle.wm_traits.specs.Told.{Becomes, Grows}
 use Rattle.wm_tables.specs.Opened.{same_row}
 use Rattle.wm_tables.proofs.SameRows.{found_there, there_found}
 use Rattle.wm_stored.specs.Keeping.{same_tables, added, Telling, IsApplied}

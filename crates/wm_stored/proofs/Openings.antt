@@ -1,11 +1,11 @@
 -- What a run writes as it opens.
 use Rattle.std.proofs.Common.{◌≡◌, ℤ, List, [], ◌∷◌, ◌++◌, Option, Some, None, IfSome, is_some, refl, sym, ap, subst, ◌∙◌, inl, inr}
 use Rattle.std.specs.List.{count_by}
-use Rattle.wm_outside.specs.declared.row.Row.{Row}
-use Rattle.wm_outside.specs.declared.row.RowChange.{RowChange}
-use Rattle.wm_outside.specs.declared.row.RowChange.TheVariants.{Put}
-use Rattle.wm_outside.specs.Rows.{changed, changed_by, is_before, put, without}
-use Rattle.wm_outside.specs.Told.{Grows, Stays}
+use Rattle.wm_traits.specs.declared.row.Row.{Row}
+use Rattle.wm_traits.specs.declared.row.RowChange.{RowChange}
+use Rattle.wm_traits.specs.declared.row.RowChange.TheVariants.{Put}
+use Rattle.wm_traits.specs.Rows.{changed, changed_by, is_before, put, without}
+use Rattle.wm_traits.specs.Told.{Grows, Stays}
 use Rattle.wm_law.specs.Laws.{IsIn}
 use Rattle.wm_law.specs.declared.state.State.{State}
 use Rattle.wm_tables.specs.Opened.{PutsNew}

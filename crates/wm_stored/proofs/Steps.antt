@@ -1,7 +1,7 @@
 -- What a step keeps.
 use Rattle.std.proofs.Common.{◌≡◌, ◌≤◌, ℕ, List, [], is_some, refl, subst}
-use Rattle.wm_outside.specs.declared.row.Row.{Row}
-use Rattle.wm_outside.specs.declared.row.RowChange.{RowChange}
+use Rattle.wm_traits.specs.declared.row.Row.{Row}
+use Rattle.wm_traits.specs.declared.row.RowChange.{RowChange}
 use Rattle.wm_law.specs.Fit.{IsCall}
 use Rattle.wm_law.specs.Machine.{step}
 use Rattle.wm_law.specs.Sound.{IsSound}

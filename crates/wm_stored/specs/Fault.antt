@@ -1,9 +1,9 @@
 -- Why a machine doesn't open.
 use Rattle.std.specs.Prelude.{◌≡◌, ◌≤◌, ℕ, ℤ, List, Option, IfSome, ⊤}
-use Rattle.wm_outside.specs.Cause.{raised}
-use Rattle.wm_outside.specs.declared.fault.KeepFault.{KeepFault}
-use Rattle.wm_outside.specs.declared.fault.KeepFault.TheVariants as keep
-use Rattle.wm_outside.specs.declared.row.Row.{Row}
+use Rattle.wm_traits.specs.Cause.{raised}
+use Rattle.wm_traits.specs.declared.fault.KeepFault.{KeepFault}
+use Rattle.wm_traits.specs.declared.fault.KeepFault.TheVariants as keep
+use Rattle.wm_traits.specs.declared.row.Row.{Row}
 use Rattle.wm_tables.specs.Restart.{IsBad}
 use Rattle.wm_restart.specs.declared.restart.RestartFault.{RestartFault}
 use Rattle.wm_restart.specs.declared.restart.RestartFault.TheVariants as restart

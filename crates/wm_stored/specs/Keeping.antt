@@ -1,10 +1,10 @@
 -- What becomes of a keeper's tables and of their trail.
 use Rattle.std.specs.Prelude.{◌≡◌, ℤ, Bool, List, [], ◌∷◌, Option, IfSome, if◌then◌else◌}
 use Rattle.std.specs.Cmp.Lexicographic.{pointwise}
-use Rattle.wm_outside.specs.declared.row.Row.{Row}
-use Rattle.wm_outside.specs.declared.row.RowChange.{RowChange}
-use Rattle.wm_outside.specs.Rows.{changed, new_tables}
-use Rattle.wm_outside.specs.Told.{Becomes, Grows, Stays}
+use Rattle.wm_traits.specs.declared.row.Row.{Row}
+use Rattle.wm_traits.specs.declared.row.RowChange.{RowChange}
+use Rattle.wm_traits.specs.Rows.{changed, new_tables}
+use Rattle.wm_traits.specs.Told.{Becomes, Grows, Stays}
 use Rattle.wm_law.specs.declared.state.State.{State}
 use Rattle.wm_tables.specs.Opened.{same_row}
 use Rattle.wm_tables.specs.Restart.{IsRestart}

@@ -1,6 +1,6 @@
 -- A machine with its keeper, and how the two stand in step.
 use Rattle.std.specs.Prelude.{◌≡◌, List, Option, IfSome}
-use Rattle.wm_outside.specs.declared.row.Row.{Row}
+use Rattle.wm_traits.specs.declared.row.Row.{Row}
 use Rattle.wm_law.specs.Sound.{IsSound}
 use Rattle.wm_law.specs.declared.state.State.{State}
 use Rattle.wm_tables.specs.Ranges.{IsInRange}

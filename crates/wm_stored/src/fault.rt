@@ -1,8 +1,8 @@
 // Why a machine doesn't open.
 use std::alloc::AllocError;
 use thiserror::Error;
-use wm_outside::KeepFault;
 use wm_restart::RestartFault;
+use wm_traits::KeepFault;
 
 /// Why a machine doesn't open with what a keeper has.
 #[derive(Debug, Drop, Error)]

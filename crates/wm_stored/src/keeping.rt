@@ -1,7 +1,7 @@
 // How rows are kept: those that changed, in one call of the keeper.
 ghost use Rattle.std.specs.Prelude.{◌≡◌, List, IfOk, OnOk, OnErr};
-ghost use Rattle.wm_outside.specs.declared.row.RowChange.{RowChange};
-ghost use Rattle.wm_outside.specs.Cause.{HasKeepCause};
+ghost use Rattle.wm_traits.specs.declared.row.RowChange.{RowChange};
+ghost use Rattle.wm_traits.specs.Cause.{HasKeepCause};
 ghost use Rattle.wm_law.specs.Stepped.{Stepped};
 ghost use Rattle.wm_law.specs.declared.state.State.{State};
 ghost use Rattle.wm_changes.specs.Changes.{counts_of, AreStepChanges};
@@ -13,7 +13,7 @@ use wm_base::NoMemory;
 use wm_changes::{Counts, step_changes};
 use wm_core::Core;
 use wm_law::{Call, Reply};
-use wm_outside::{KeepFault, Keeper, RowChange};
+use wm_traits::{KeepFault, Keeper, RowChange};
 
 /// The numbers that the next job has.
 pub(crate) fn counts(core: &Core) -> Counts

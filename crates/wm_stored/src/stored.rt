@@ -3,7 +3,7 @@ ghost use Rattle.std.specs.Prelude.{◌≡◌, IfOk, IfErr, OnOk, OnErr};
 ghost use Rattle.wm_law.specs.Fit.{HasCall, IsCall};
 ghost use Rattle.wm_law.specs.Machine.{step};
 ghost use Rattle.wm_law.specs.Pending.{pending};
-ghost use Rattle.wm_outside.specs.Cause.{HasKeepCause};
+ghost use Rattle.wm_traits.specs.Cause.{HasKeepCause};
 ghost use Rattle.wm_stored.specs.Fault.{IsCounted, NamesBad};
 ghost use Rattle.wm_stored.specs.Keeping.{telling, IsKept, IsLeft, IsOpened};
 ghost use Rattle.wm_stored.specs.Stored.{HasTables};
@@ -19,7 +19,7 @@ use wm_base::{Moment, NoMemory};
 use wm_changes::removed_number;
 use wm_core::{Core, Setup};
 use wm_law::{Ask, Call, Pending, Reply};
-use wm_outside::{KeepFault, Keeper};
+use wm_traits::{KeepFault, Keeper};
 use wm_views::Shown;
 
 /// The machine, whose rows a keeper has. A contract sees its state and its keeper; where the keeper tells its tables, they are

@@ -12,9 +12,9 @@ use Rattle.wm_desc.proofs.Tables.{qname_ties, qname_total}
 use Rattle.wm_desc.specs.Sorted.{place_of}
 use Rattle.wm_desc.specs.Table.{object_named, qname_cmp, same_qname}
 use Rattle.wm_desc.specs.declared.objects.Objects.{Objects}
-use Rattle.wm_outside.specs.declared.row.Row.{Row}
-use Rattle.wm_outside.specs.Rows.{is_before}
-use Rattle.wm_outside.specs.Rows.{place_of as row_place}
+use Rattle.wm_traits.specs.declared.row.Row.{Row}
+use Rattle.wm_traits.specs.Rows.{is_before}
+use Rattle.wm_traits.specs.Rows.{place_of as row_place}
 use Rattle.wm_law.specs.Counts.{is_active, is_waiting}
 use Rattle.wm_law.specs.Kept.{IsBelow, IsDistinct, IsGiven, IsRouted, waiting_places}
 use Rattle.wm_law.specs.Laws.{IsIn}

@@ -22,7 +22,7 @@ use Rattle.wm_desc.specs.Objects.{empty_sbsd, with_auto, with_class, with_descri
 use Rattle.wm_desc.specs.Refusals.{auto_refusal, auto_tests, by_description, first_refusal, object_refusal, program_refusal, queue_refusal, queue_tests, route_refusal, route_tests}
 use Rattle.wm_desc.specs.Sorted.{place_of}
 use Rattle.wm_desc.specs.Table.{changed, name_of, object_named, qname_cmp, same_qname}
-use Rattle.wm_outside.specs.declared.row.Row.{Row}
+use Rattle.wm_traits.specs.declared.row.Row.{Row}
 use Rattle.wm_law.specs.Laws.{IsIn}
 use Rattle.wm_law.specs.Machine.{change}
 use Rattle.wm_law.specs.Making.{class_of, jobd_of, queue_entry_of, route_entry_of, auto_entry_of, is_in_use, made_unless, unless_in_use}

@@ -10,8 +10,8 @@ use Rattle.wm_base.specs.declared.qname.QName.{QName}
 use Rattle.wm_base.specs.declared.refusal.Kind.TheVariants as kind
 use Rattle.wm_base.specs.declared.refusal.Refusal.{Refusal}
 use Rattle.wm_base.specs.declared.refusal.Refusal.TheVariants.{HeldAlready, NoObject}
-use Rattle.wm_outside.specs.declared.row.Row.{Row}
-use Rattle.wm_outside.specs.Rows.{is_before}
+use Rattle.wm_traits.specs.declared.row.Row.{Row}
+use Rattle.wm_traits.specs.Rows.{is_before}
 use Rattle.wm_desc.specs.Table.{object_named}
 use Rattle.wm_desc.specs.declared.objects.Objects.{Objects}
 use Rattle.wm_law.specs.Choice.{is_held}

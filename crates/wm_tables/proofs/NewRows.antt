@@ -1,9 +1,9 @@
 -- The rows that a run finds, with the new ones put, are the tables of its state; and which rows are new.
 use Rattle.std.proofs.Common.{◌≡◌, ◌⊎◌, ℤ, ◌++◌, not, Bool, true, false, List, [], ◌∷◌, refl, sym, ap, subst, ◌∙◌, inl, inr, arith}
 use Rattle.wm_base.specs.declared.job.EndCause.TheVariants.{Restarted}
-use Rattle.wm_outside.specs.declared.row.Row.{Row}
-use Rattle.wm_outside.specs.InOrder.{changed_in_order}
-use Rattle.wm_outside.specs.Rows.{changed, place_of}
+use Rattle.wm_traits.specs.declared.row.Row.{Row}
+use Rattle.wm_traits.specs.InOrder.{changed_in_order}
+use Rattle.wm_traits.specs.Rows.{changed, place_of}
 use Rattle.wm_law.specs.Laws.{IsIn}
 use Rattle.wm_law.specs.Opening.{empty}
 use Rattle.wm_law.specs.declared.job.Job.{Job}

@@ -3,8 +3,8 @@ use Rattle.std.proofs.Common.{◌≡◌, ℕ, ◌≤◌, ◌++◌, List, [], ◌
 use Rattle.std.specs.Cmp.{IsTotalOrder}
 use Rattle.std.specs.List.{flat_map}
 use Rattle.std.specs.declared.cmp.Ordering.{Ordering}
-use Rattle.wm_outside.specs.declared.row.Row.{Row}
-use Rattle.wm_outside.specs.Rows.{place_of}
+use Rattle.wm_traits.specs.declared.row.Row.{Row}
+use Rattle.wm_traits.specs.Rows.{place_of}
 use Rattle.wm_desc.specs.Sorted.{IsSortedOnce}
 use Rattle.wm_law.specs.Laws.{IsIn}
 use Rattle.wm_law.proofs.Members.{of_mapped}

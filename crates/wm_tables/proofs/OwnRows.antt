@@ -19,8 +19,8 @@ use Rattle.wm_desc.specs.declared.entry.RouteEntry.{RouteEntry}
 use Rattle.wm_desc.specs.Ranges.{cmp_in_range, limit_within, queue_in_range, route_in_range, within}
 use Rattle.wm_desc.specs.Table.{qname_cmp}
 use Rattle.wm_desc.proofs.Tables.{qname_total}
-use Rattle.wm_outside.specs.declared.row.Row.{Row}
-use Rattle.wm_outside.specs.Rows.{place_of}
+use Rattle.wm_traits.specs.declared.row.Row.{Row}
+use Rattle.wm_traits.specs.Rows.{place_of}
 use Rattle.wm_law.specs.Fit.{IsQName}
 use Rattle.wm_law.specs.Laws.{IsIn}
 use Rattle.wm_law.specs.Objects.{HasTables, IsDescription}

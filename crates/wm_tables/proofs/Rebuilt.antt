@@ -4,9 +4,9 @@ use Rattle.std.specs.List.{Contains}
 use Rattle.wm_base.specs.declared.qname.QName.{QName}
 use Rattle.wm_desc.specs.declared.description.Sbsd.{Sbsd}
 use Rattle.wm_desc.specs.declared.entry.PreEntry.{PreEntry}
-use Rattle.wm_outside.specs.declared.row.Row.{Row}
-use Rattle.wm_outside.specs.Rows.{is_before, place_of}
-use Rattle.wm_outside.specs.InOrder.{before_later}
+use Rattle.wm_traits.specs.declared.row.Row.{Row}
+use Rattle.wm_traits.specs.Rows.{is_before, place_of}
+use Rattle.wm_traits.specs.InOrder.{before_later}
 use Rattle.wm_law.specs.Laws.{IsIn}
 use Rattle.wm_law.specs.Opening.{empty}
 use Rattle.wm_law.specs.Sound.{IsSound}

@@ -1,6 +1,6 @@
 -- A run opens with a sound state.
 use Rattle.std.proofs.Common.{◌≡◌, ◌≤◌, ℤ, true, false, List, [], ◌∷◌, length, map, sym, ap, subst, arith}
-use Rattle.wm_outside.specs.declared.row.Row.{Row}
+use Rattle.wm_traits.specs.declared.row.Row.{Row}
 use Rattle.wm_law.specs.Counts.{is_active}
 use Rattle.wm_law.specs.Kept.{IsDistinct}
 use Rattle.wm_law.specs.Laws.{IsIn}

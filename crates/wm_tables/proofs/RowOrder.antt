@@ -7,12 +7,12 @@ use Rattle.std.specs.Ordering.{is_lt}
 use Rattle.std.proofs.lemmas.Bool.{and_parts}
 use Rattle.std.proofs.lemmas.Cmp.{tied_itself}
 use Rattle.std.proofs.lemmas.Slice.Eq.{bytes_eq-Decides}
-use Rattle.wm_outside.specs.declared.row.Row.{Row}
-use Rattle.wm_outside.specs.declared.row.RowChange.{RowChange}
-use Rattle.wm_outside.specs.declared.row.RowChange.TheVariants.{Put}
-use Rattle.wm_outside.specs.InOrder.{changed_in_order}
-use Rattle.wm_outside.specs.Rows.{place_of, is_before, is_of, IsInOrder, without, placed, put, changed}
-use Rattle.wm_outside.specs.Spawner.{without_first}
+use Rattle.wm_traits.specs.declared.row.Row.{Row}
+use Rattle.wm_traits.specs.declared.row.RowChange.{RowChange}
+use Rattle.wm_traits.specs.declared.row.RowChange.TheVariants.{Put}
+use Rattle.wm_traits.specs.InOrder.{changed_in_order}
+use Rattle.wm_traits.specs.Rows.{place_of, is_before, is_of, IsInOrder, without, placed, put, changed}
+use Rattle.wm_traits.specs.Spawner.{without_first}
 use Rattle.wm_law.specs.Laws.{IsIn}
 use Rattle.wm_law.proofs.InOrder.{in_inserted}
 use Rattle.wm_law.proofs.Tests.{same_number}

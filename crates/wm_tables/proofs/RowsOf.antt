@@ -14,7 +14,7 @@ use Rattle.wm_desc.specs.declared.entry.RouteEntry.{RouteEntry}
 use Rattle.wm_desc.specs.Sorted.{IsSortedOnce}
 use Rattle.wm_desc.specs.Table.{name_of, object_named, qname_cmp, same_qname}
 use Rattle.wm_desc.proofs.Tables.{qname_total}
-use Rattle.wm_outside.specs.declared.row.Row.{Row}
+use Rattle.wm_traits.specs.declared.row.Row.{Row}
 use Rattle.wm_law.specs.Laws.{IsIn}
 use Rattle.wm_law.specs.declared.job.Job.{Job}
 use Rattle.wm_law.specs.declared.state.State.{State}

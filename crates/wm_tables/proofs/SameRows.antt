@@ -5,10 +5,10 @@ use Rattle.std.specs.List.{count_by, list_any}
 use Rattle.std.specs.Ordering.{is_lt, nat_cmp}
 use Rattle.std.proofs.lemmas.Bool.{and_parts, eq-eqb}
 use Rattle.std.proofs.lemmas.Slice.Eq.{bytes_eq-Decides}
-use Rattle.wm_outside.specs.declared.row.Row.{Row}
-use Rattle.wm_outside.specs.InOrder.{before_later}
-use Rattle.wm_outside.specs.Rows.{changed, is_before, is_of, place_of, put, without}
-use Rattle.wm_outside.specs.Spawner.{without_first}
+use Rattle.wm_traits.specs.declared.row.Row.{Row}
+use Rattle.wm_traits.specs.InOrder.{before_later}
+use Rattle.wm_traits.specs.Rows.{changed, is_before, is_of, place_of, put, without}
+use Rattle.wm_traits.specs.Spawner.{without_first}
 use Rattle.wm_law.specs.Laws.{IsIn}
 use Rattle.wm_law.proofs.Tests.{same_number}
 use Rattle.wm_tables.specs.Opened.{is_found, same_row}

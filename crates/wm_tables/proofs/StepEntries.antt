@@ -18,8 +18,8 @@ use Rattle.wm_desc.specs.Objects.{with_queue, with_route, with_auto}
 use Rattle.wm_desc.specs.Refusals.{auto_tests, first_refusal, is_any, is_any_before, is_full, queue_tests, route_tests}
 use Rattle.wm_desc.specs.Table.{changed, has_object, is_qcmd, object_named, qname_cmp, same_qname}
 use Rattle.wm_desc.proofs.Tables.{qname_total}
-use Rattle.wm_outside.specs.declared.row.Row.{Row}
-use Rattle.wm_outside.specs.Rows.{place_of}
+use Rattle.wm_traits.specs.declared.row.Row.{Row}
+use Rattle.wm_traits.specs.Rows.{place_of}
 use Rattle.wm_law.specs.Kept.{IsDistinct}
 use Rattle.wm_law.specs.Laws.{IsIn}
 use Rattle.wm_law.specs.Sound.{IsSound}

@@ -21,9 +21,9 @@ use Rattle.wm_desc.specs.Objects.{with_object, empty_sbsd}
 use Rattle.wm_desc.specs.Sorted.{added, place_of}
 use Rattle.wm_desc.specs.Table.{has_object, qname_cmp, same_qname}
 use Rattle.wm_desc.proofs.Tables.{qname_total}
-use Rattle.wm_outside.specs.declared.row.Row.{Row}
-use Rattle.wm_outside.specs.Rows.{is_before}
-use Rattle.wm_outside.specs.Rows.{place_of as row_place}
+use Rattle.wm_traits.specs.declared.row.Row.{Row}
+use Rattle.wm_traits.specs.Rows.{is_before}
+use Rattle.wm_traits.specs.Rows.{place_of as row_place}
 use Rattle.wm_law.specs.Laws.{IsIn}
 use Rattle.wm_law.specs.Sound.{IsSound}
 use Rattle.wm_law.specs.declared.command.Command.TheVariants as command

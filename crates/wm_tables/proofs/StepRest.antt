@@ -11,8 +11,8 @@ use Rattle.wm_desc.specs.Table.{object_named, qname_cmp, same_qname}
 use Rattle.wm_desc.proofs.Tables.{qname_total}
 use Rattle.wm_desc.specs.declared.description.Jobq.{Jobq}
 use Rattle.wm_desc.specs.declared.objects.Objects.{Objects}
-use Rattle.wm_outside.specs.declared.row.Row.{Row}
-use Rattle.wm_outside.specs.Rows.{is_before, place_of}
+use Rattle.wm_traits.specs.declared.row.Row.{Row}
+use Rattle.wm_traits.specs.Rows.{is_before, place_of}
 use Rattle.wm_law.specs.Choice.{is_held}
 use Rattle.wm_law.specs.Counts.{is_waiting}
 use Rattle.wm_law.specs.Laws.{IsIn}

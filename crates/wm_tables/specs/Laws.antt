@@ -1,7 +1,7 @@
 -- What follows from the tables of states and from what rows make, each for all.
 use Rattle.std.specs.Prelude.{◌≡◌, ◌≤◌, ℕ, ℤ, List, ◌∷◌, Some}
-use Rattle.wm_outside.specs.declared.row.Row.{Row}
-use Rattle.wm_outside.specs.Rows.{changed}
+use Rattle.wm_traits.specs.declared.row.Row.{Row}
+use Rattle.wm_traits.specs.Rows.{changed}
 use Rattle.wm_command.specs.Printed.{IsFit}
 use Rattle.wm_law.specs.Fit.{IsCall, IsCommand}
 use Rattle.wm_law.specs.Laws.{IsIn}

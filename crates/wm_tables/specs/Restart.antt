@@ -5,8 +5,8 @@ use Rattle.std.specs.Option.{IsSome}
 use Rattle.wm_base.specs.declared.job.EndCause.TheVariants.{Restarted}
 use Rattle.wm_base.specs.declared.job.How.TheVariants.{NotYet}
 use Rattle.wm_base.specs.declared.qname.QName.{QName}
-use Rattle.wm_outside.specs.declared.row.Row.{Row}
-use Rattle.wm_outside.specs.Rows.{IsInOrder}
+use Rattle.wm_traits.specs.declared.row.Row.{Row}
+use Rattle.wm_traits.specs.Rows.{IsInOrder}
 use Rattle.wm_desc.specs.Ranges.{request_in_range}
 use Rattle.wm_desc.specs.Table.{object_named}
 use Rattle.wm_desc.specs.declared.objects.Objects.{Objects}

@@ -1,9 +1,9 @@
 -- The tables of a state.
 use Rattle.std.specs.Prelude.{List, [], ◌++◌, map}
-use Rattle.wm_outside.specs.declared.row.Row.{Row}
-use Rattle.wm_outside.specs.declared.row.RowChange.{RowChange}
-use Rattle.wm_outside.specs.declared.row.RowChange.TheVariants.{Put}
-use Rattle.wm_outside.specs.Rows.{changed}
+use Rattle.wm_traits.specs.declared.row.Row.{Row}
+use Rattle.wm_traits.specs.declared.row.RowChange.{RowChange}
+use Rattle.wm_traits.specs.declared.row.RowChange.TheVariants.{Put}
+use Rattle.wm_traits.specs.Rows.{changed}
 use Rattle.wm_law.specs.declared.job.Job.{Job}
 use Rattle.wm_law.specs.declared.state.State.{State}
 use Rattle.wm_rows.specs.Tables.{object_rows, held_rows, counter_rows}

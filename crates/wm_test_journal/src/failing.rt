@@ -8,7 +8,8 @@ use anyhow::{Result, bail, ensure};
 use std::alloc::Global;
 use wm_journal::Closed;
 use wm_law::{Entry, Pending};
-use wm_outside::{Keeper, MemKeeper};
+use wm_outside::MemKeeper;
+use wm_traits::Keeper;
 
 /// A script makes fewer calls of `apply`.
 const MOST: u32 = 1000;

@@ -1,6 +1,6 @@
 // Rows, as text.
 use anyhow::Result;
-use wm_outside::Row;
+use wm_traits::Row;
 
 fn write_row(sign: &str, row: &Row, answer: &mut String) -> Result<()> {
     writeln!(answer, "{sign}{}|{}|{}", row.tab, row.key, row.body)?;

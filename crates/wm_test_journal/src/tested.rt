@@ -27,7 +27,8 @@ use std::alloc::Global;
 use std::mem;
 use wm_cases::Subject;
 use wm_journal::Closed;
-use wm_outside::{Keeper, MemKeeper, Row};
+use wm_outside::MemKeeper;
+use wm_traits::{Keeper, Row};
 
 const NO_KEEPER: &str = "no keeper";
 

@@ -5,7 +5,7 @@ use std::alloc::{AllocError, Global};
 use std::fmt::Write;
 use wm_base::{Args, Asked, Class, Event, StartOrder, Text};
 use wm_cases::visible;
-use wm_outside::{Failed, StartFault};
+use wm_traits::{Failed, StartFault};
 
 /// The answer of a call that failed.
 pub const FAILED: &str = "FAILED\n";

@@ -5,7 +5,8 @@ use super::words::{BAR, failing, first_word, named, unknown};
 use anyhow::{Context, Result, bail, ensure};
 use std::alloc::Global;
 use std::fmt::Write;
-use wm_outside::{KeepFault, Keeper, MemKeeper, MemStore, Row, RowChange, Store, are_in_order};
+use wm_outside::{MemKeeper, MemStore};
+use wm_traits::{KeepFault, Keeper, Row, RowChange, Store, are_in_order};
 
 const NO_KEEPER: &str = "no keeper is out";
 

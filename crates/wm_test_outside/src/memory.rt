@@ -10,7 +10,8 @@ use std::fmt::Write;
 use std::sync::Wait;
 use wm_base::Moment;
 use wm_cases::{Subject, bytes_of};
-use wm_outside::{Clock, MemClock, MemSink, MemSource, MemSpawner};
+use wm_outside::{MemClock, MemSink, MemSource, MemSpawner};
+use wm_traits::Clock;
 
 // One of each form.
 #[derive(Drop)]

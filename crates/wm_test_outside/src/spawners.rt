@@ -6,7 +6,7 @@ use anyhow::Result;
 use std::alloc::Global;
 use std::sync::Wait;
 use wm_base::Moment;
-use wm_outside::Spawner;
+use wm_traits::Spawner;
 
 // `until 1000` is a moment, nothing is none.
 fn until(words: &str) -> Result<Option<Moment>> {

@@ -5,7 +5,7 @@ use anyhow::Result;
 use std::alloc::Global;
 use std::fmt::Write;
 use wm_cases::bytes_of;
-use wm_outside::{Failed, Sink, Source};
+use wm_traits::{Failed, Sink, Source};
 
 fn read_once<S: Source>(
     alloc: Global,

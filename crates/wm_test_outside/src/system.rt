@@ -14,7 +14,8 @@ use std::time::Duration;
 use wm_base::{Event, Moment};
 use wm_cases::{Subject, bytes_of};
 use wm_children::SysSpawner;
-use wm_outside::{Clock, Failed, ReadSource, Spawner, SysClock, WriteSink};
+use wm_outside::{ReadSource, SysClock, WriteSink};
+use wm_traits::{Clock, Failed, Spawner};
 
 // Reads of `flaky | 2 | 2`, and of `slice ab | 2 | 2`.
 fn read_reader(alloc: Global, words: &str, answer: &mut String) -> Result<()> {

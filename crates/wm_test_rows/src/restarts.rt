@@ -14,8 +14,8 @@ use wm_core::Setup;
 use wm_desc::{Objects, Sbsd, qbatch};
 use wm_law::Job;
 use wm_opening::open_rows;
-use wm_outside::{Row, RowChange};
 use wm_restart::{ReadParts, RestartFault, read_rows};
+use wm_traits::{Row, RowChange};
 use wm_when::Offset;
 
 /// The rows of a store.

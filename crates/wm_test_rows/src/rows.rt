@@ -10,8 +10,8 @@ use wm_base::Name;
 use wm_cases::Subject;
 use wm_clwords::{Tree, read_command};
 use wm_command::{Line, command, print};
-use wm_outside::Row;
 use wm_rows::{Counter, Stored, command_row, read_row};
+use wm_traits::Row;
 
 /// The rows of objects, entries, held queues and counters.
 #[derive(Drop)]

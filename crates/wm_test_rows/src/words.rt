@@ -3,7 +3,7 @@ use anyhow::{Context, Result, bail, ensure};
 use std::alloc::Global;
 use wm_base::{Text, is_text};
 use wm_cases::bytes_of;
-use wm_outside::Row;
+use wm_traits::Row;
 
 fn text(alloc: Global, written: &str) -> Result<Text> {
     let bytes = bytes_of(alloc, written)?;

@@ -3,7 +3,7 @@ use crate::rows::row;
 use anyhow::{Context, Result};
 use std::alloc::{AllocError, Global};
 use wm_cases::bytes_of;
-use wm_outside::Row;
+use wm_traits::Row;
 
 // Which call fails: the number, from 1, of a read, a write, an `apply`, a start, a kill or a look; or the opening of the store.
 #[derive(Clone, Copy, PartialEq, Eq)]

@@ -3,7 +3,8 @@ use anyhow::{Context, Result, ensure};
 use std::alloc::Global;
 use wm_base::{Text, is_text};
 use wm_cases::bytes_of;
-use wm_outside::{Keeper, MemKeeper, MemStore, Row, Store, are_in_order};
+use wm_outside::{MemKeeper, MemStore};
+use wm_traits::{Keeper, Row, Store, are_in_order};
 
 fn text(alloc: Global, written: &str) -> Result<Text> {
     let bytes = bytes_of(alloc, written)?;

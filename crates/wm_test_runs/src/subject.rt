@@ -10,8 +10,9 @@ use std::mem;
 use std::sync::Wait;
 use wm_base::Moment;
 use wm_cases::Subject;
-use wm_outside::{MemClock, MemSink, MemSource, MemSpawner, MemStore, Spawner, Store};
+use wm_outside::{MemClock, MemSink, MemSource, MemSpawner, MemStore};
 use wm_run::{Ran, run};
+use wm_traits::{Spawner, Store};
 
 /// What a run did, and what the next one is given.
 #[derive(Drop)]

@@ -3,7 +3,7 @@ use anyhow::Result;
 use std::alloc::Global;
 use std::sync::Wait;
 use wm_base::{Event, Exit, Moment, Serial, StartOrder};
-use wm_outside::{Failed, Spawner, StartFault};
+use wm_traits::{Failed, Spawner, StartFault};
 
 /// One look.
 #[derive(Clone, Copy)]

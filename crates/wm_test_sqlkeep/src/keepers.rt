@@ -7,8 +7,8 @@ use std::fmt::Write;
 use std::fs;
 use std::rt::HostRuntime;
 use wm_cases::Subject;
-use wm_outside::{KeepFault, Keeper, Store};
 use wm_sqlkeep::{SqlKeeper, SqlStore};
+use wm_traits::{KeepFault, Keeper, Store};
 
 fn answer_fault(fault: KeepFault, answer: &mut String) -> Result<()> {
     answer.push_str(match fault {

@@ -2,7 +2,7 @@
 use anyhow::{Result, anyhow, ensure};
 use std::alloc::Global;
 use wm_base::{Text, is_text};
-use wm_outside::{Row, RowChange};
+use wm_traits::{Row, RowChange};
 
 /// What parts a path from what is asked of it, and a change from the next.
 pub const BAR: &str = " | ";

@@ -9,9 +9,10 @@ use std::io::ErrorKind;
 use std::process::ExitCode;
 use std::sync::Wait;
 use wm_children::SysSpawner;
-use wm_outside::{MemKeeper, MemStore, ReadSource, Spawner, Store, SysClock, WriteSink};
+use wm_outside::{MemKeeper, MemStore, ReadSource, SysClock, WriteSink};
 use wm_run::{NO_MEMORY, WRONG_WORDS, run, store_path};
 use wm_sqlkeep::SqlStore;
+use wm_traits::{Spawner, Store};
 
 // The words behind the program's name, or the status where they can't be had. A word that isn't UTF-8 is a wrong one.
 fn words(rt: &HostRuntime) -> Result<Vec<String>, u8>

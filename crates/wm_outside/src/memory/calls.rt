@@ -1,7 +1,7 @@
 // The calls of a form in memory.
 ghost use Rattle.std.specs.Prelude.{◌≡◌, is_err};
 
-use crate::Failed;
+use wm_traits::Failed;
 
 /// How many calls there were, how many failed, and the numbers, from 1, of those that fail.
 /// Both numbers stay at the greatest u64 once they are there.

@@ -5,10 +5,10 @@ ghost use Rattle.wm_outside.specs.Log.{tables_after};
 
 use super::replay::{make_all, new_base, no_row};
 use super::writing::write_call;
-use crate::{Row, RowChange};
 use std::alloc::Global;
 use std::marker::Model;
 use wm_base::NoMemory;
+use wm_traits::{Row, RowChange};
 
 /// The changes of each call, in the order in which they were made.
 #[derive(Drop)]
@@ -20,7 +20,7 @@ pub struct ChangeLog {
 
 impl Model for ChangeLog {
     ghost use Rattle.std.specs.Prelude.{List};
-    ghost use Rattle.wm_outside.specs.declared.row.RowChange.{RowChange};
+    ghost use Rattle.wm_traits.specs.declared.row.RowChange.{RowChange};
     ghost use Rattle.wm_outside.specs.ChangeLog.{read, IsAtEnd};
 
     ghost Value = { List (List RowChange) };

@@ -1,6 +1,6 @@
 // The children of a spawner in memory.
 ghost use Rattle.std.specs.Prelude.{◌≡◌, ◌↔◌, ◌==◌, not, List, [], ◌∷◌, ◌++◌, map, find, position, Option, Some, None, Ok, IsTrue, OnOk, OnErr, Contains};
-ghost use Rattle.wm_outside.specs.Spawner.{IfEnded, out_after};
+ghost use Rattle.wm_traits.specs.Spawner.{IfEnded, out_after};
 ghost use Rattle.wm_outside.specs.declared.memory.children.Child.{Child};
 ghost use Rattle.wm_outside.specs.Children.{serials, killed_ones, due_ones, longest_out, lesser, least_of, report_of, awaited_of, wait_report, marked, without, children_after};
 

@@ -1,8 +1,8 @@
 // A clock in memory.
 ghost use Rattle.std.specs.Prelude.{◌≡◌, ◌≤◌, ◌+◌, ℕ, Some, min, IfSome, IsSome};
 
-use crate::Clock;
 use wm_base::Moment;
+use wm_traits::Clock;
 
 /// A clock that goes on by the same number of seconds at each call, up to the greatest moment.
 #[derive(Drop)]

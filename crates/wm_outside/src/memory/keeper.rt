@@ -1,12 +1,12 @@
 // A keeper in memory.
 ghost use Rattle.std.specs.Prelude.{◌≡◌, ◌++◌, List, [], ◌∷◌, Some, IfOk, OnOk, OnErr, IsErrOf};
-ghost use Rattle.wm_outside.specs.Rows.{IsInOrder, changed, new_tables};
-ghost use Rattle.wm_outside.specs.Cause.{HasKeepCause, keep_missed};
-ghost use Rattle.wm_outside.specs.declared.fault.KeepFault.TheVariants.{Failed, NoMemory};
+ghost use Rattle.wm_traits.specs.Rows.{IsInOrder, changed, new_tables};
+ghost use Rattle.wm_traits.specs.Cause.{HasKeepCause, keep_missed};
+ghost use Rattle.wm_traits.specs.declared.fault.KeepFault.TheVariants.{Failed, NoMemory};
 
 use super::calls::Calls;
 use super::change_log::ChangeLog;
-use crate::{KeepFault, Keeper, Row, RowChange};
+use wm_traits::{KeepFault, Keeper, Row, RowChange};
 
 /// A keeper of the rows that were there first and of the changes of each `apply` since. So an `apply` costs what its
 /// changes are long, and `load` computes the rows.

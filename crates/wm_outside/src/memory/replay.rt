@@ -4,15 +4,15 @@ ghost use Rattle.std.specs.Option.{unwrap_or};
 ghost use Rattle.wm_base.specs.Text.{IsText};
 ghost use Rattle.wm_outside.specs.ChangeLog.{read, no_row, base_after};
 ghost use Rattle.wm_outside.specs.Log.{tables_after};
-ghost use Rattle.wm_outside.specs.Rows.{changed};
+ghost use Rattle.wm_traits.specs.Rows.{changed};
 
-use super::sign::{Sign, sign_of};
+use super::sign::{Sign, TextSign, sign_of};
 use super::tables::change;
 use super::writing::behind;
-use crate::{Row, RowChange};
 use std::alloc::Global;
 use std::mem;
 use wm_base::{NoMemory, Text};
+use wm_traits::{Row, RowChange};
 
 /// How far a log has been read, with the changes of the call at which it is.
 #[derive(Drop)]
@@ -60,11 +60,12 @@ fn change_all(rows: &mut Vec<Row>, changes: &[RowChange]) -> Result<(), NoMemory
 
 impl Replay {
     ghost use Rattle.std.specs.Prelude.{List};
-    ghost use Rattle.wm_outside.specs.ChangeLog.{Reading, reads, between};
+    ghost use Rattle.wm_outside.specs.ChangeLog.{Reading, reads, reads_text, between};
     ghost use Rattle.wm_outside.specs.Replay.{IsAt};
-    ghost use Rattle.wm_outside.specs.Signs.{IsSign};
-    ghost use Rattle.wm_outside.specs.declared.memory.sign.Sign.TheVariants.{Own, Kept, Passed, Digit, KeyEnds, Put, Deleted, CallEnds};
-    ghost use Rattle.wm_outside.specs.declared.row.Row.{Row};
+    ghost use Rattle.wm_outside.specs.Signs.{IsSign, IsTextSign};
+    ghost use Rattle.wm_outside.specs.declared.memory.sign.Sign.TheVariants.{Text, Digit, KeyEnds, Put, Deleted, CallEnds};
+    ghost use Rattle.wm_outside.specs.declared.memory.sign.TextSign.TheVariants.{Own, Kept, Passed};
+    ghost use Rattle.wm_traits.specs.declared.row.Row.{Row};
 
     /// Nothing is read yet.
     pub fn new(alloc: Global) -> Replay
@@ -82,7 +83,7 @@ impl Replay {
 
     fn own(&mut self, byte: u8) -> Result<(), NoMemory>
         requires { IsText (byte ∷ []) }
-        ensures { (r : Reading) → IsAt self.old r → OnOk result (IsAt self.new (reads r (Own byte))) }
+        ensures { (r : Reading) → IsAt self.old r → OnOk result (IsAt self.new (reads_text r (Own byte))) }
     {
         self.text.push_bytes(&[byte])?;
         Ok(())
@@ -105,6 +106,17 @@ impl Replay {
         self.text.push_bytes(&self.ahead.as_bytes()[..kept])?;
         self.pass(alloc, count)?;
         Ok(())
+    }
+
+    fn go_on(&mut self, alloc: Global, sign: TextSign) -> Result<(), NoMemory>
+        requires { IsTextSign sign }
+        ensures { (r : Reading) → IsAt self.old r → OnOk result (IsAt self.new (reads_text r sign)) }
+    {
+        match sign {
+            TextSign::Own(byte) => self.own(byte),
+            TextSign::Kept(count) => self.keep(alloc, count as usize),
+            TextSign::Passed(count) => self.pass(alloc, count as usize),
+        }
     }
 
     fn digit(&mut self, digit: u8)
@@ -182,9 +194,7 @@ impl Replay {
     {
         let alloc = *rows.allocator();
         match sign {
-            Sign::Own(byte) => self.own(byte),
-            Sign::Kept(count) => self.keep(alloc, count as usize),
-            Sign::Passed(count) => self.pass(alloc, count as usize),
+            Sign::Text(sign) => self.go_on(alloc, sign),
             Sign::Digit(digit) => {
                 self.digit(digit);
                 Ok(())

@@ -1,11 +1,11 @@
 // A sink in memory.
 ghost use Rattle.std.specs.Prelude.{◌≡◌, ◌≤◌, ◌<◌, ◌^◌, ◌-◌, ℕ, List, [], Some, length, take, min, is_err, IfOk, OnErr, IfSome};
-ghost use Rattle.wm_outside.specs.Told.{Grows};
-ghost use Rattle.wm_outside.specs.Cause.{HasCause};
+ghost use Rattle.wm_traits.specs.Told.{Grows};
+ghost use Rattle.wm_traits.specs.Cause.{HasCause};
 
 use super::calls::Calls;
-use crate::{Failed, Sink};
 use std::alloc::Global;
+use wm_traits::{Failed, Sink};
 
 /// A sink that keeps what is written. Where memory is wanting to keep it, it ceases to tell, and goes on taking bytes.
 #[derive(Drop)]

@@ -1,11 +1,11 @@
 // A source in memory.
 ghost use Rattle.std.specs.Prelude.{◌≡◌, ◌≤◌, ◌<◌, ◌^◌, ◌-◌, ◌++◌, ℕ, List, [], Some, length, take, min, is_err, IfOk, OnErr, vec_len};
 ghost use Rattle.std.specs.Io.KnownBytes.{IsAtEnd};
-ghost use Rattle.wm_outside.specs.Told.{Takes};
-ghost use Rattle.wm_outside.specs.Cause.{HasCause};
+ghost use Rattle.wm_traits.specs.Told.{Takes};
+ghost use Rattle.wm_traits.specs.Cause.{HasCause};
 
 use super::calls::Calls;
-use crate::{Failed, Source};
+use wm_traits::{Failed, Source};
 
 /// Bytes in memory as a source.
 #[derive(Drop)]

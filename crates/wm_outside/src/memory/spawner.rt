@@ -1,20 +1,20 @@
 // A spawner in memory.
 ghost use Rattle.std.specs.Prelude.{◌≡◌, ◌↔◌, [], ◌∷◌, ◌++◌, map, Some, None, Ok, is_err, is_some, IsTrue, IfOk, IfErr, IfSome, OnOk, OnErr, MatchResult, Contains};
 ghost use Rattle.wm_base.specs.declared.job.Asked.TheVariants.{Start, Kill};
-ghost use Rattle.wm_outside.specs.declared.spawner.Told.TheVariants.{Began, NotBegan, Happened};
-ghost use Rattle.wm_outside.specs.Told.{Grows, Becomes, IsEmpty, told_if};
-ghost use Rattle.wm_outside.specs.Cause.{HasCause, HasStartCause, start_missed};
+ghost use Rattle.wm_traits.specs.declared.spawner.Told.TheVariants.{Began, NotBegan, Happened};
+ghost use Rattle.wm_traits.specs.Told.{Grows, Becomes, IsEmpty, told_if};
+ghost use Rattle.wm_traits.specs.Cause.{HasCause, HasStartCause, start_missed};
 ghost use Rattle.wm_outside.specs.Calls.{CountsCall, is_new};
-ghost use Rattle.wm_outside.specs.Spawner.{look_told, out_after, IfEnded};
+ghost use Rattle.wm_traits.specs.Spawner.{look_told, out_after, IfEnded};
 ghost use Rattle.wm_outside.specs.Children.{serials, report_of, wait_report, marked, children_after};
 
 use super::calls::Calls;
 use super::children::{Child, Children};
-use crate::{Failed, Spawner, StartFault, Told};
 use std::alloc::Global;
 use std::slice;
 use std::sync::Wait;
 use wm_base::{Asked, Event, Moment, Serial, StartOrder};
+use wm_traits::{Failed, Spawner, StartFault, Told};
 
 /// A spawner whose children end by themselves with code 0 after a number of looks, or by being killed.
 ///
@@ -167,8 +167,8 @@ impl MemSpawner {
 impl Spawner for MemSpawner {
     ghost use Rattle.wm_outside.specs.MemSpawner.{spawner_children, spawner_lag, spawner_starts, spawner_kills, spawner_looks, spawner_faults, spawner_asked, spawner_told, spawner_out, spawner_reporting, spawner_awaited, child_of};
     ghost use Rattle.wm_outside.specs.Reporting.{reporting_among};
-    ghost use Rattle.wm_outside.specs.Cause.{raised};
-    ghost use Rattle.wm_outside.specs.Told.{told_with_out};
+    ghost use Rattle.wm_traits.specs.Cause.{raised};
+    ghost use Rattle.wm_traits.specs.Told.{told_with_out};
 
     ghost misses = { λ s. (spawner_starts s).failed };
 

@@ -1,10 +1,10 @@
 // A store in memory.
 ghost use Rattle.std.specs.Prelude.{◌≡◌, ◌↔◌, ◌<◌, Some, None, IsErr, IfOk, IfSome, OnErr, IsErrOf};
-ghost use Rattle.wm_outside.specs.Cause.{HasKeepCause, PassesOn, raised};
-ghost use Rattle.wm_outside.specs.declared.fault.KeepFault.TheVariants.{Failed, NoMemory};
+ghost use Rattle.wm_traits.specs.Cause.{HasKeepCause, PassesOn, raised};
+ghost use Rattle.wm_traits.specs.declared.fault.KeepFault.TheVariants.{Failed, NoMemory};
 
 use super::keeper::MemKeeper;
-use crate::{KeepFault, Keeper, Store};
+use wm_traits::{KeepFault, Keeper, Store};
 
 /// A store of one keeper in memory. Its opening fails exactly while the keeper is out.
 #[derive(Drop)]

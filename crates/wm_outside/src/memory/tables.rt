@@ -1,10 +1,9 @@
 // What a change makes of rows in memory.
 ghost use Rattle.std.specs.Prelude.{◌≡◌, OnOk, position};
-ghost use Rattle.wm_outside.specs.Rows.{is_of, without, placed, put, changed_by};
+ghost use Rattle.wm_traits.specs.Rows.{is_of, without, placed, put, changed_by};
 
-use crate::order::is_before;
-use crate::{Row, RowChange};
 use wm_base::{NoMemory, Text};
+use wm_traits::{Row, RowChange};
 
 fn is_of(row: &Row, tab: u8, key: &Text) -> bool
     ensures { result ≡ is_of tab key.now row.now }
@@ -31,7 +30,7 @@ fn take_out(rows: &mut Vec<Row>, tab: u8, key: &Text)
 fn place(rows: &mut Vec<Row>, row: Row) -> Result<(), NoMemory>
     ensures { OnOk result (rows.new.items ≡ placed row rows.old.items) }
 {
-    let at = rows.iter().filter(|other| is_before(other, &row)).count();
+    let at = rows.iter().filter(|other| other.is_before(&row)).count();
     rows.insert(at, row)?;
     Ok(())
 }

@@ -2,14 +2,14 @@
 ghost use Rattle.std.specs.Prelude.{◌≡◌, ◌<◌, ◌≤◌, ◌∷◌, [], ◌++◌, length, take, drop, OnOk};
 ghost use Rattle.wm_base.specs.Text.{IsText};
 ghost use Rattle.wm_outside.specs.ChangeLog.{read, reads, between, base_after, IsBetween, IsAtEnd};
-ghost use Rattle.wm_outside.specs.declared.row.RowChange.TheVariants.{Put, Del};
+ghost use Rattle.wm_traits.specs.declared.row.RowChange.TheVariants.{Put, Del};
 ghost use Rattle.wm_outside.specs.declared.memory.sign.TheConstants.{MOST};
-ghost use Rattle.wm_outside.specs.Signs.{IsSign};
+ghost use Rattle.wm_outside.specs.Signs.{IsSign, IsTextSign};
 ghost use Rattle.wm_outside.specs.Writing.{said_by, taken_by, with_tab, with_text, with_change, with_changes, IsNext, StartsWith};
 
-use super::sign::{MOST, Sign, byte_of};
-use crate::{Row, RowChange};
+use super::sign::{MOST, Sign, TextSign, byte_of};
 use wm_base::{NoMemory, Text};
+use wm_traits::{Row, RowChange};
 
 // How many bytes two texts begin with alike, as far as one sign tells it.
 fn alike(text: &[u8], ahead: &[u8]) -> usize
@@ -46,49 +46,39 @@ fn to_value_end(text: &[u8], ahead: &[u8]) -> usize
 
 // What is written next of a text: what it shares with the base, and else its own byte. At the end of a value what the base
 // has more there is left out, so that texts whose values differ in length meet again.
-fn next_sign(text: &[u8], ahead: &[u8]) -> Sign
+fn next_sign(text: &[u8], ahead: &[u8]) -> TextSign
     requires some { 0 < length text.now }
     requires text { IsText text.now }
     ensures next { IsNext text.now ahead.now result }
-    ensures sign { IsSign result }
+    ensures sign { IsTextSign result }
 {
     let kept = alike(text, ahead);
     if kept > 0 {
-        return Sign::Kept(kept as u8);
+        return TextSign::Kept(kept as u8);
     }
     let passed = to_value_end(text, ahead);
     if passed > 0 {
-        return Sign::Passed(passed as u8);
+        return TextSign::Passed(passed as u8);
     }
-    Sign::Own(text[0])
+    TextSign::Own(text[0])
 }
 
-fn said_by(sign: Sign) -> usize
+fn said_by(sign: TextSign) -> usize
     ensures { result ≡ said_by sign }
 {
     match sign {
-        Sign::Own(_) => 1,
-        Sign::Kept(count) => count as usize,
-        Sign::Passed(_)
-        | Sign::Digit(_)
-        | Sign::KeyEnds
-        | Sign::Put
-        | Sign::Deleted
-        | Sign::CallEnds => 0,
+        TextSign::Own(_) => 1,
+        TextSign::Kept(count) => count as usize,
+        TextSign::Passed(_) => 0,
     }
 }
 
-fn taken_by(sign: Sign) -> usize
+fn taken_by(sign: TextSign) -> usize
     ensures { result ≡ taken_by sign }
 {
     match sign {
-        Sign::Kept(count) | Sign::Passed(count) => count as usize,
-        Sign::Own(_)
-        | Sign::Digit(_)
-        | Sign::KeyEnds
-        | Sign::Put
-        | Sign::Deleted
-        | Sign::CallEnds => 0,
+        TextSign::Own(_) => 0,
+        TextSign::Kept(count) | TextSign::Passed(count) => count as usize,
     }
 }
 
@@ -124,7 +114,7 @@ fn write_text(bytes: &mut Vec<u8>, text: &[u8], base: &[u8]) -> Result<(), NoMem
     let mut ahead = base;
     while !left.is_empty() {
         let sign = next_sign(left, ahead);
-        write_sign(bytes, sign)?;
+        write_sign(bytes, Sign::Text(sign))?;
         left = behind(left, said_by(sign));
         ahead = behind(ahead, taken_by(sign));
     }

@@ -2,9 +2,9 @@
 ghost use Rattle.std.specs.Prelude.{◌≡◌, None};
 ghost use Rattle.wm_outside.specs.System.{or_last};
 
-use crate::Clock;
 use std::rt;
 use wm_base::Moment;
+use wm_traits::Clock;
 
 // The present moment, where the clock can be read and is in range.
 fn present<R: rt::Clock>(rt: &R) -> Option<Moment> {

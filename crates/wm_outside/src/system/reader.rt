@@ -1,10 +1,10 @@
 // A reader of std as a source.
 ghost use Rattle.std.specs.Prelude.{◌≡◌, ◌≤◌, ◌<◌, None, length, take, IfSome, IfNone, IfOk, OnErr};
 ghost use Rattle.std.specs.Io.KnownBytes.{Consumes, Keeps, IsAtEnd};
-ghost use Rattle.wm_outside.specs.Cause.{HasCause};
+ghost use Rattle.wm_traits.specs.Cause.{HasCause};
 
-use crate::{Failed, Source};
 use std::io::{ErrorKind, Read};
+use wm_traits::{Failed, Source};
 
 // How often a read that was interrupted is tried.
 const TRIES: u32 = 1000;

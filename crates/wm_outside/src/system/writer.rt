@@ -1,10 +1,10 @@
 // A writer of std as a sink.
 ghost use Rattle.std.specs.Prelude.{◌≡◌, ◌≤◌, ◌<◌, None, length, take, IfSome, IfNone, IfOk, OnErr};
 ghost use Rattle.std.specs.Io.KnownBytes.{Appends, Keeps};
-ghost use Rattle.wm_outside.specs.Cause.{HasCause};
+ghost use Rattle.wm_traits.specs.Cause.{HasCause};
 
-use crate::{Failed, Sink};
 use std::io::{ErrorKind, Write};
+use wm_traits::{Failed, Sink};
 
 // How often a write that was interrupted is tried.
 const TRIES: u32 = 1000;

@@ -1,5 +1,5 @@
 use Rattle.std.proofs.Common.{◌≡◌, ◌+◌, nat_eq, List, refl, sym, ap, subst, ◌∙◌, arith}
-use Rattle.wm_outside.specs.declared.row.RowChange.{RowChange}
+use Rattle.wm_traits.specs.declared.row.RowChange.{RowChange}
 use Rattle.wm_desc.specs.Sorted.{removed}
 use Rattle.wm_ordered.specs.Ordered.{key_of}
 use Rattle.wm_changes.specs.Noted.{with_touched}

@@ -4,7 +4,7 @@ use Rattle.std.proofs.lemmas.Fn.{always_returns_same}
 use Rattle.std.specs.Cmp.Lexicographic.{slice_cmp}
 use Rattle.std.specs.Ordering.{nat_cmp}
 use Rattle.wm_desc.proofs.SortedLists.{searched}
-use Rattle.wm_outside.specs.Rows.{place_of}
+use Rattle.wm_traits.specs.Rows.{place_of}
 use Rattle.wm_opening.proofs.Lookup.{sorted_rows}
 use Rattle.wm_opening.proofs.found.search.Goals as goal
 

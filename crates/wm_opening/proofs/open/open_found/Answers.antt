@@ -3,8 +3,8 @@ use Rattle.wm_law.specs.Counts.{is_active}
 use Rattle.wm_law.specs.Sound.{IsSound}
 use Rattle.wm_law.specs.Submitting.{serials_end}
 use Rattle.wm_law.specs.declared.state.State.{State}
-use Rattle.wm_outside.specs.declared.row.RowChange.{RowChange}
-use Rattle.wm_outside.specs.Rows.{changed}
+use Rattle.wm_traits.specs.declared.row.RowChange.{RowChange}
+use Rattle.wm_traits.specs.Rows.{changed}
 use Rattle.wm_restart.specs.declared.restart.RestartFault.{RestartFault}
 use Rattle.wm_restart.specs.declared.restart.RestartFault.TheVariants.{BadRow}
 use Rattle.wm_tables.specs.Opened.{PutsNew}

@@ -1,6 +1,6 @@
 use Rattle.std.proofs.Common.{List, [], sym, subst, ap, ◌∙◌}
-use Rattle.wm_outside.specs.declared.row.RowChange.{RowChange}
-use Rattle.wm_outside.specs.Rows.{changed}
+use Rattle.wm_traits.specs.declared.row.RowChange.{RowChange}
+use Rattle.wm_traits.specs.Rows.{changed}
 use Rattle.wm_tables.specs.Opened.{PutsNew}
 use Rattle.wm_tables.specs.Tables.{tables}
 use Rattle.wm_opening.proofs.FirstChanges.{first_are_new, first_make_tables}

@@ -1,8 +1,8 @@
 use Rattle.std.proofs.Common.{◌≡◌, ℕ, ◌+◌, ◌<◌, List, [], ◌∷◌, take, length, subst, arith}
 use Rattle.std.proofs.lemmas.Bool.Decides.{nat_tests}
 use Rattle.std.proofs.Math.Seq.{take-length}
-use Rattle.wm_outside.specs.declared.row.Row.{Row}
-use Rattle.wm_outside.specs.Rows.{IsInOrder}
+use Rattle.wm_traits.specs.declared.row.Row.{Row}
+use Rattle.wm_traits.specs.Rows.{IsInOrder}
 use Rattle.wm_restart.proofs.restart.broken_at.Goals as goal
 
 some : (rows : List Row) → (IsInOrder rows → ⊥) → 0 < length rows

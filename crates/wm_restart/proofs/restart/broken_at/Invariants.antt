@@ -1,5 +1,5 @@
 use Rattle.std.proofs.Common.{◌-◌, ◌<◌, ◌≤◌, take, length}
-use Rattle.wm_outside.specs.Rows.{IsInOrder}
+use Rattle.wm_traits.specs.Rows.{IsInOrder}
 use Rattle.wm_restart.proofs.restart.broken_at.Given as goal
 
 -- so many rows stand in their order, and so many more don't

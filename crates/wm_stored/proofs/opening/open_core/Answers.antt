@@ -1,7 +1,7 @@
 use Rattle.std.proofs.Common.{◌≡◌, List, IfSome, sym, subst}
-use Rattle.wm_outside.specs.declared.row.Row.{Row}
-use Rattle.wm_outside.specs.declared.row.RowChange.{RowChange}
-use Rattle.wm_outside.specs.Rows.{changed}
+use Rattle.wm_traits.specs.declared.row.Row.{Row}
+use Rattle.wm_traits.specs.declared.row.RowChange.{RowChange}
+use Rattle.wm_traits.specs.Rows.{changed}
 use Rattle.wm_tables.specs.Opened.{PutsNew}
 use Rattle.wm_tables.specs.Tables.{tables}
 use Rattle.wm_stored.specs.Keeping.{telling}

@@ -1,5 +1,5 @@
 use Rattle.std.proofs.Common.{◌≡◌, take}
-use Rattle.wm_outside.specs.Rows.{changed}
+use Rattle.wm_traits.specs.Rows.{changed}
 use Rattle.wm_outside.proofs.memory.replay.change_all.Given as goal
 
 abbrev pub invariant-loop-one : goal.invariant-loop-one

@@ -1,5 +1,5 @@
 use Rattle.std.proofs.Common.{◌≡◌, drop}
-use Rattle.wm_outside.specs.declared.row.Row.{Row}
+use Rattle.wm_traits.specs.declared.row.Row.{Row}
 use Rattle.wm_outside.specs.ChangeLog.{base_after}
 use Rattle.wm_outside.proofs.memory.replay.new_base.Given as goal
 

@@ -1,6 +1,6 @@
 use Rattle.std.proofs.Common.{◌<◌, length, take, refl, sym, subst, ◌∙◌, arith}
 use Rattle.std.proofs.lemmas.Option.{get_or_from_slice_get, slice_get_read}
-use Rattle.wm_outside.specs.declared.row.Row.{Row}
+use Rattle.wm_traits.specs.declared.row.Row.{Row}
 use Rattle.wm_law.specs.declared.state.State.{State}
 use Rattle.wm_tables.specs.Restart.{IsRead}
 use Rattle.wm_restart.specs.Plausible.{TakesNone}

@@ -1,5 +1,5 @@
 use Rattle.std.proofs.Common.{◌≡◌, ◌∙◌, List, ℕ, inr, refl, subst, sym, take}
-use Rattle.wm_outside.specs.Told.{Grows}
+use Rattle.wm_traits.specs.Told.{Grows}
 use Rattle.wm_run.specs.Answer.{fault_answer, is_fault}
 use Rattle.wm_run.specs.Grown.{entries_between}
 use Rattle.wm_run.specs.Session.{AnswersParsed}

@@ -3,7 +3,7 @@ use Rattle.std.proofs.lemmas.List.{length-append, length-take-le}
 use Rattle.std.proofs.lemmas.Bool.{true≢false}
 use Rattle.std.proofs.lemmas.Bool.Decides.{nat_tests}
 use Rattle.std.proofs.lemmas.Result.{err_from_is_err_and}
-use Rattle.wm_outside.proofs.Telling.{Takes-none}
+use Rattle.wm_traits.proofs.Telling.{Takes-none}
 use Rattle.wm_run.specs.Grown.{entries_between}
 use Rattle.wm_run.specs.Taking.{TakesPiece}
 use Rattle.wm_run.proofs.Downs.{down_between, up_none}

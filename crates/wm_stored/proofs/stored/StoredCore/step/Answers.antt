@@ -1,5 +1,5 @@
 use Rattle.std.proofs.Common.{List, subst, sym, ap, ◌∙◌}
-use Rattle.wm_outside.specs.declared.row.RowChange.{RowChange}
+use Rattle.wm_traits.specs.declared.row.RowChange.{RowChange}
 use Rattle.wm_desc.specs.declared.objects.Objects.{Objects}
 use Rattle.wm_law.specs.Machine.{step}
 use Rattle.wm_law.specs.declared.state.State.{State}

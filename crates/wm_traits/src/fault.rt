@@ -27,7 +27,7 @@ pub enum KeepFault {
 
 impl From<AllocError> for KeepFault {
     ghost use Rattle.std.specs.Prelude.{◌≡◌};
-    ghost use Rattle.wm_outside.specs.declared.fault.KeepFault.TheVariants.{NoMemory};
+    ghost use Rattle.wm_traits.specs.declared.fault.KeepFault.TheVariants.{NoMemory};
 
     ghost from_gives = { λ _ fault. fault ≡ NoMemory };
 
@@ -38,7 +38,7 @@ impl From<AllocError> for KeepFault {
 
 impl<T: Drop> From<AllocFailed<T>> for KeepFault {
     ghost use Rattle.std.specs.Prelude.{◌≡◌};
-    ghost use Rattle.wm_outside.specs.declared.fault.KeepFault.TheVariants.{NoMemory};
+    ghost use Rattle.wm_traits.specs.declared.fault.KeepFault.TheVariants.{NoMemory};
 
     ghost from_gives = { λ _ fault. fault ≡ NoMemory };
 

@@ -1,8 +1,8 @@
 // Where bytes come from.
 ghost use Rattle.std.specs.Prelude.{◌≡◌, ◌≤◌, ◌<◌, ℕ, List, [], Option, length, take, IfOk, OnErr};
 ghost use Rattle.std.specs.Io.KnownBytes.{IsAtEnd};
-ghost use Rattle.wm_outside.specs.Told.{Takes};
-ghost use Rattle.wm_outside.specs.Cause.{HasCause};
+ghost use Rattle.wm_traits.specs.Told.{Takes};
+ghost use Rattle.wm_traits.specs.Cause.{HasCause};
 
 use crate::Failed;
 

@@ -1,8 +1,8 @@
 use Rattle.std.proofs.Common.{rules}
 use Rattle.std.proofs.lemmas.List.Sorted.{answers_always}
-use Rattle.wm_outside.specs.Rows.{is_before}
-use Rattle.wm_outside.proofs.Sorted.{adjacent}
-use Rattle.wm_outside.proofs.order.are_in_order.Goals as goal
+use Rattle.wm_traits.specs.Rows.{is_before}
+use Rattle.wm_traits.proofs.Sorted.{adjacent}
+use Rattle.wm_traits.proofs.order.are_in_order.Goals as goal
 
 pub returns : goal.returns
 returns c =

@@ -1,7 +1,7 @@
 // Where bytes go to.
 ghost use Rattle.std.specs.Prelude.{◌≡◌, ◌≤◌, ◌<◌, ℕ, List, [], Option, length, take, IfOk, OnErr};
-ghost use Rattle.wm_outside.specs.Told.{Grows};
-ghost use Rattle.wm_outside.specs.Cause.{HasCause};
+ghost use Rattle.wm_traits.specs.Told.{Grows};
+ghost use Rattle.wm_traits.specs.Cause.{HasCause};
 
 use crate::Failed;
 

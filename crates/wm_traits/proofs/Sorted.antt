@@ -2,9 +2,9 @@
 use Rattle.std.proofs.Common.{◌≡◌, ℕ, zero, suc, ◌+◌, ◌<◌, Bool, true, false, List, [], ◌∷◌, length, get_or, inl, inr, refl, sym, ◌∙◌, subst, arith}
 use Rattle.std.specs.List.{AllAdjacentBelow, IsAllAdjacentAnswer}
 use Rattle.std.proofs.lemmas.Bool.{cases_lt, false≢true}
-use Rattle.wm_outside.specs.declared.row.Row.{Row}
-use Rattle.wm_outside.specs.InOrder.{before_later}
-use Rattle.wm_outside.specs.Rows.{is_before, IsInOrder}
+use Rattle.wm_traits.specs.declared.row.Row.{Row}
+use Rattle.wm_traits.specs.InOrder.{before_later}
+use Rattle.wm_traits.specs.Rows.{is_before, IsInOrder}
 
 upto : (xs : List Row) → AllAdjacentBelow (λ x y. is_before x y ≡ true) xs (length xs) → (i j : ℕ) (d : Row) → i < j → j < length xs → is_before (get_or xs i d) (get_or xs j d) ≡ true
 upto xs steps i zero d lt in_range = absurd (omega arith)

@@ -2,9 +2,9 @@
 use Rattle.std.specs.Prelude.{ℕ, ◌==◌, Bool, List, [], ◌∷◌, Option, Some, None, Result, Ok, Err, ⊤, if◌then◌else◌}
 use Rattle.wm_base.specs.declared.job.Event.{Event}
 use Rattle.wm_base.specs.declared.job.Event.TheVariants.{Ended, Used}
-use Rattle.wm_outside.specs.declared.fault.Failed.{Failed}
-use Rattle.wm_outside.specs.declared.spawner.Told.{Told}
-use Rattle.wm_outside.specs.declared.spawner.Told.TheVariants.{Happened}
+use Rattle.wm_traits.specs.declared.fault.Failed.{Failed}
+use Rattle.wm_traits.specs.declared.spawner.Told.{Told}
+use Rattle.wm_traits.specs.declared.spawner.Told.TheVariants.{Happened}
 
 -- what a look gave
 abbrev pub look_told : Result (Option Event) Failed → List Told

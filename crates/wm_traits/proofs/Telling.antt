@@ -2,7 +2,7 @@
 use Rattle.std.proofs.Common.{ℕ, ◌+◌, ◌-◌, List, [], ◌++◌, length, Option, Some, None, take, drop, refl, sym, ◌∙◌, ap, append_assoc}
 use Rattle.std.proofs.Math.Seq.{take-add}
 use Rattle.std.proofs.lemmas.List.{append-nil, take_rest}
-use Rattle.wm_outside.specs.Told.{Grows, Takes, Becomes}
+use Rattle.wm_traits.specs.Told.{Grows, Takes, Becomes}
 
 -- nothing more
 pub Grows-none : {A : Type 0} (told : Option (List A)) → Grows told told []

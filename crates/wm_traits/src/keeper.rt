@@ -1,9 +1,9 @@
 // What keeps rows.
 ghost use Rattle.std.specs.Prelude.{◌≡◌, ℕ, List, Option, IfOk, IfSome, OnOk, OnErr, is_some};
-ghost use Rattle.wm_outside.specs.declared.row.Row.{Row};
-ghost use Rattle.wm_outside.specs.Rows.{IsInOrder, changed, new_tables};
-ghost use Rattle.wm_outside.specs.Told.{Becomes, Grows, Stays};
-ghost use Rattle.wm_outside.specs.Cause.{HasKeepCause};
+ghost use Rattle.wm_traits.specs.declared.row.Row.{Row};
+ghost use Rattle.wm_traits.specs.Rows.{IsInOrder, changed, new_tables};
+ghost use Rattle.wm_traits.specs.Told.{Becomes, Grows, Stays};
+ghost use Rattle.wm_traits.specs.Cause.{HasKeepCause};
 
 use crate::{KeepFault, Row, RowChange};
 

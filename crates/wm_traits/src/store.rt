@@ -1,9 +1,9 @@
 // Where keepers come from.
 ghost use Rattle.std.specs.Prelude.{◌≡◌, ℕ, List, Option, IfOk, IfSome, OnErr, is_some};
-ghost use Rattle.wm_outside.specs.declared.row.Row.{Row};
-ghost use Rattle.wm_outside.specs.Rows.{IsInOrder};
-ghost use Rattle.wm_outside.specs.Told.{Stays};
-ghost use Rattle.wm_outside.specs.Cause.{HasKeepCause, PassesOn};
+ghost use Rattle.wm_traits.specs.declared.row.Row.{Row};
+ghost use Rattle.wm_traits.specs.Rows.{IsInOrder};
+ghost use Rattle.wm_traits.specs.Told.{Stays};
+ghost use Rattle.wm_traits.specs.Cause.{HasKeepCause, PassesOn};
 
 use crate::{KeepFault, Keeper, Row};
 

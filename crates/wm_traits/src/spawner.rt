@@ -2,8 +2,8 @@
 ghost use Rattle.std.specs.Prelude.{◌≡◌, ◌↔◌, ℕ, List, [], ◌∷◌, Option, None, Ok, IsTrue, IfOk, IfErr, OnOk, OnErr, IfSome, Contains, is_some};
 ghost use Rattle.wm_base.specs.declared.job.Asked.{Asked};
 ghost use Rattle.wm_base.specs.declared.job.Asked.TheVariants.{Start, Kill};
-ghost use Rattle.wm_outside.specs.Told.{AreAmong, Grows, Becomes, IsEmpty};
-ghost use Rattle.wm_outside.specs.Cause.{HasCause, HasStartCause};
+ghost use Rattle.wm_traits.specs.Told.{AreAmong, Grows, Becomes, IsEmpty};
+ghost use Rattle.wm_traits.specs.Cause.{HasCause, HasStartCause};
 
 use crate::{Failed, StartFault};
 use std::sync::Wait;
@@ -19,9 +19,9 @@ pub enum Told {
 
 /// What starts programs, kills them and reports their ends. A child is out from its start until its end is reported.
 pub trait Spawner {
-    ghost use Rattle.wm_outside.specs.declared.spawner.Told.{Told};
-    ghost use Rattle.wm_outside.specs.declared.spawner.Told.TheVariants.{Began, NotBegan};
-    ghost use Rattle.wm_outside.specs.Spawner.{look_told, out_after, IfEnded};
+    ghost use Rattle.wm_traits.specs.declared.spawner.Told.{Told};
+    ghost use Rattle.wm_traits.specs.declared.spawner.Told.TheVariants.{Began, NotBegan};
+    ghost use Rattle.wm_traits.specs.Spawner.{look_told, out_after, IfEnded};
 
     /// How many starts failed. It never falls, and `start` alone raises it.
     ghost misses: { Self → ℕ };

@@ -2,10 +2,10 @@
 use Rattle.std.specs.Prelude.{◌==◌, ℕ, nat_eq, Bool, ◌&&◌, IsTrue, List, [], ◌∷◌, fold, insert, count_by, AllPairs}
 use Rattle.std.specs.Ordering.{is_lt, nat_cmp}
 use Rattle.std.specs.Cmp.Lexicographic.{pointwise, slice_cmp}
-use Rattle.wm_outside.specs.declared.row.Row.{Row}
-use Rattle.wm_outside.specs.declared.row.RowChange.{RowChange}
-use Rattle.wm_outside.specs.declared.row.RowChange.TheVariants.{Put, Del}
-use Rattle.wm_outside.specs.Spawner.{without_first}
+use Rattle.wm_traits.specs.declared.row.Row.{Row}
+use Rattle.wm_traits.specs.declared.row.RowChange.{RowChange}
+use Rattle.wm_traits.specs.declared.row.RowChange.TheVariants.{Put, Del}
+use Rattle.wm_traits.specs.Spawner.{without_first}
 
 -- what a row is found by: its table, and then the bytes of its key
 abbrev pub place_of : Row → List ℕ

@@ -1,10 +1,10 @@
 -- Counts of faults.
 use Rattle.std.specs.Prelude.{◌≡◌, ℕ, ◌+◌, ◌-◌, ◌^◌, ◌≤◌, ◌<◌, min, Bool, true, false, Result, Ok, Err, OnOk, OnErr, IsErrOf}
-use Rattle.wm_outside.specs.declared.fault.Failed.{Failed}
-use Rattle.wm_outside.specs.declared.fault.KeepFault.{KeepFault}
-use Rattle.wm_outside.specs.declared.fault.KeepFault.TheVariants.{Failed as keep_failed, NoMemory as keep_no_memory}
-use Rattle.wm_outside.specs.declared.fault.StartFault.{StartFault}
-use Rattle.wm_outside.specs.declared.fault.StartFault.TheVariants.{Failed as start_failed, NoMemory}
+use Rattle.wm_traits.specs.declared.fault.Failed.{Failed}
+use Rattle.wm_traits.specs.declared.fault.KeepFault.{KeepFault}
+use Rattle.wm_traits.specs.declared.fault.KeepFault.TheVariants.{Failed as keep_failed, NoMemory as keep_no_memory}
+use Rattle.wm_traits.specs.declared.fault.StartFault.{StartFault}
+use Rattle.wm_traits.specs.declared.fault.StartFault.TheVariants.{Failed as start_failed, NoMemory}
 
 -- a count with one more, which stays at the greatest u64
 abbrev pub raised : ℕ → ℕ
