@@ -11,10 +11,10 @@ use wm_base::{NoMemory, QName};
 use wm_desc::Objects;
 use wm_law::{Call, Command, Reply};
 use wm_rows::{
-use wm_traits::RowChange;
     HELD, Place, QUEUE_ENTRIES, ROUTE_ENTRIES, auto_place, command_row, held_row, numbered_place,
     object_place,
 };
+use wm_traits::RowChange;
 
 fn number_in(objects: &Objects, sbsd: &QName, jobq: &QName) -> Option<u32>
     ensures { result ≡ number_in jobq.now (object_named sbsd.now objects.now.sbsds) }

@@ -4,7 +4,7 @@ use Rattle.wm_law.specs.declared.state.State.{State}
 use Rattle.wm_law.specs.History.{IsLegal}
 use Rattle.wm_stored.specs.Keeping.{Telling}
 use Rattle.wm_journal.specs.History.{History, reached}
-use Rattle.wm_journal.specs.Passes.{Passes}
+use Rattle.wm_journal.specs.Passes.{PassCounts}
 use Rattle.wm_journal.specs.Trail.{HasTrail}
 
 -- the history, below which number of entries it takes users' commands, its keeper as it was found, and as it is, and its passes
@@ -13,7 +13,7 @@ pub record Journaled (K : Type 0) : Type 0 where
   pub limit : ℕ
   pub found : K
   pub keeper : K
-  pub passes : Passes
+  pub passes : PassCounts
 
 -- the machine's state is the one that the history reaches, the history is legal, and the trail is its own
 pub record IsJournal (h : History) (most : ℕ) (s : State) (old new : Telling) : Type 0 where

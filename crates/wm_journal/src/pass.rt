@@ -45,9 +45,9 @@ pub(crate) struct PassCount {
 
 impl Model for PassCount {
     ghost use Rattle.std.specs.Prelude.{◌≤◌};
-    ghost use Rattle.wm_journal.specs.Passes.{Passes};
+    ghost use Rattle.wm_journal.specs.Passes.{PassCounts};
 
-    ghost Value = { Passes };
+    ghost Value = { PassCounts };
 
     ghost view = { λ c. record { made = c.made; out = c.out } };
 

@@ -4,7 +4,6 @@ ghost use Rattle.wm_monitor.specs.declared.fault.MonitorFault.TheVariants.{WaitF
 
 use wm_traits::Failed;
 
-
 /// Why a turn or a wait of a monitor ended early.
 #[derive(Clone, Copy, Debug, PartialEq, Eq)]
 pub enum MonitorFault {

@@ -4,7 +4,7 @@ use Rattle.std.specs.declared.cmp.Ordering.{Ordering}
 use Rattle.std.specs.Cmp.{IsTotalOrder}
 use Rattle.std.specs.Ordering.{is_lt}
 use Rattle.wm_ordered.specs.declared.node.Node.{Node}
-use Rattle.wm_ordered.specs.Tree.{nowhere, same_place, Stands, Elsewhere, IsSearchTree, IsSplit, IsLeft}
+use Rattle.wm_ordered.specs.Tree.{nowhere, same_place, Stands, Elsewhere, IsSearchTree, IsSplit, IsWithout}
 use Rattle.wm_ordered.proofs.Cuts.{cut-right, cut-left}
 use Rattle.wm_ordered.proofs.Found.{left_sorted, right_sorted}
 use Rattle.wm_ordered.proofs.Relinked.{beside, whole_elsewhere, relinked-right, relinked-left}
@@ -13,8 +13,8 @@ use Rattle.wm_ordered.proofs.Standing.{IsOpened, opened, same-here, apart, moved
 pub reread : {K V : Type 0} {nodes : List (Node K V)} {root : ℕ} {places : ℕ → ℕ} {xs ys : List (K × V)} → xs ≡ ys → Stands nodes root places xs → Stands nodes root places ys
 reread {K} {V} {nodes} {root} {places} same s = subst (λ zs. Stands nodes root places zs) same s
 
-pub reread_left : {K V : Type 0} {nodes : List (Node K V)} {root : ℕ} {places : ℕ → ℕ} {xs ys : List (K × V)} {taken : Option (ℕ × V)} → xs ≡ ys → IsLeft nodes root places xs taken → IsLeft nodes root places ys taken
-reread_left {K} {V} {nodes} {root} {places} {xs} {ys} {taken} same s = subst (λ zs. IsLeft nodes root places zs taken) same s
+pub reread_without : {K V : Type 0} {nodes : List (Node K V)} {root : ℕ} {places : ℕ → ℕ} {xs ys : List (K × V)} {taken : Option (ℕ × V)} → xs ≡ ys → IsWithout nodes root places xs taken → IsWithout nodes root places ys taken
+reread_without {K} {V} {nodes} {root} {places} {xs} {ys} {taken} same s = subst (λ zs. IsWithout nodes root places zs taken) same s
 
 module _ {K V : Type 0} {cmp : K → K → Ordering} (total : IsTotalOrder cmp) {nodes : List (Node K V)} (few : length nodes ≤ nowhere) {root depth : ℕ} {places : ℕ → ℕ} {pairs : List (K × V)} (tree : IsSearchTree cmp nodes root depth places pairs) {node : Node K V} (is : slice_get nodes root ≡ Some node) where
   pub at_root : IsOpened nodes root node places pairs
@@ -108,17 +108,17 @@ module _ {K V : Type 0} {cmp : K → K → Ordering} (total : IsTotalOrder cmp) 
       }
 
     -- one side has other pairs at the same places, or at fewer
-    pub left-right : (right : ℕ) (xs : List (K × V)) (taken : Option (ℕ × V)) → Elsewhere at_root.q nodes between → IsLeft between right at_root.q xs taken → slice_get new root ≡ Some (record node { right = right }) → IsLeft new root places (at_root.l ++ node.pair ∷ xs) taken
-    left-right right xs taken before s here = record {
-      left = λ i. same_place i root + at_root.p i + s.left i;
-      stands = relinked-right nodes between new root _ before others node at_root.p s.left at_root.l xs not_left (omega (arith, s.all root, not_right)) right here left_apart at_root.left_stands s.stands;
+    pub without-right : (right : ℕ) (xs : List (K × V)) (taken : Option (ℕ × V)) → Elsewhere at_root.q nodes between → IsWithout between right at_root.q xs taken → slice_get new root ≡ Some (record node { right = right }) → IsWithout new root places (at_root.l ++ node.pair ∷ xs) taken
+    without-right right xs taken before s here = record {
+      rest = λ i. same_place i root + at_root.p i + s.rest i;
+      stands = relinked-right nodes between new root _ before others node at_root.p s.rest at_root.l xs not_left (omega (arith, s.all root, not_right)) right here left_apart at_root.left_stands s.stands;
       all = λ i. omega (arith, s.all i, at_root.all i);
     }
 
-    pub left-left : (left : ℕ) (xs : List (K × V)) (taken : Option (ℕ × V)) → Elsewhere at_root.p nodes between → IsLeft between left at_root.p xs taken → slice_get new root ≡ Some (record node { left = left }) → IsLeft new root places (xs ++ node.pair ∷ at_root.r) taken
-    left-left left xs taken before s here = record {
-      left = λ i. same_place i root + s.left i + at_root.q i;
-      stands = relinked-left nodes between new root _ before others node s.left at_root.q xs at_root.r (omega (arith, s.all root, not_left)) not_right left here right_apart s.stands at_root.right_stands;
+    pub without-left : (left : ℕ) (xs : List (K × V)) (taken : Option (ℕ × V)) → Elsewhere at_root.p nodes between → IsWithout between left at_root.p xs taken → slice_get new root ≡ Some (record node { left = left }) → IsWithout new root places (xs ++ node.pair ∷ at_root.r) taken
+    without-left left xs taken before s here = record {
+      rest = λ i. same_place i root + s.rest i + at_root.q i;
+      stands = relinked-left nodes between new root _ before others node s.rest at_root.q xs at_root.r (omega (arith, s.all root, not_left)) not_right left here right_apart s.stands at_root.right_stands;
       all = λ i. omega (arith, s.all i, at_root.all i);
     }
 

@@ -12,7 +12,7 @@ use Rattle.wm_ordered.proofs.Found.{right_sorted, value-right, value-here, value
 use Rattle.wm_ordered.proofs.Sides.{all_pairs_filter, all_pairs_with_value}
 use Rattle.wm_ordered.specs.declared.node.Node.{Node}
 use Rattle.wm_ordered.specs.Ordered.{key_of, value_at, with_value}
-use Rattle.wm_ordered.specs.Tree.{Tree, nowhere, same_place, times, times_in, times_taken, Lies, Stands, IsSearchTree, IsLeft, IsOrdered, pairs_under}
+use Rattle.wm_ordered.specs.Tree.{Tree, nowhere, same_place, times, times_in, times_taken, Lies, Stands, IsSearchTree, IsWithout, IsOrdered, pairs_under}
 use Rattle.wm_ordered.specs.Tree.Tree.{Leaf, Fork}
 use Rattle.wm_ordered.proofs.Standing.{get-within, same-here, stays, under}
 
@@ -81,9 +81,9 @@ module _ {K V : Type 0} {cmp : K → K → Ordering} (total : IsTotalOrder cmp) 
 
   module _ {nodes : List (Node K V)} {root len room capacity free_capacity : ℕ} {free : List ℕ} (inv : IsOrdered cmp nodes root len free room capacity free_capacity) where
     -- a key that isn't there was taken out
-    abbrev pub after-nothing : (new : List (Node K V)) (top : ℕ) (taken : Option (ℕ × V)) → taken ≡ None → value_at eq k inv.pairs ≡ None → length new ≡ length nodes → IsLeft new top inv.places (removed key_of eq k inv.pairs) taken → IsOrdered cmp new top len free room capacity free_capacity
+    abbrev pub after-nothing : (new : List (Node K V)) (top : ℕ) (taken : Option (ℕ × V)) → taken ≡ None → value_at eq k inv.pairs ≡ None → length new ≡ length nodes → IsWithout new top inv.places (removed key_of eq k inv.pairs) taken → IsOrdered cmp new top len free room capacity free_capacity
     after-nothing new top taken is none same s = record {
-      places = s.left;
+      places = s.rest;
       pairs = removed key_of eq k inv.pairs;
       stands = s.stands;
       sorted = sorted-removed inv.pairs inv.sorted;
@@ -98,8 +98,8 @@ module _ {K V : Type 0} {cmp : K → K → Ordering} (total : IsTotalOrder cmp) 
     }
 
     -- a pair was taken out, and its place was given back
-    module _ (new : List (Node K V)) (top : ℕ) (taken : Option (ℕ × V)) (place : ℕ) (value : V) (is : taken ≡ Some (place, value)) (some : value_at eq k inv.pairs ≡ Some value) (same : length new ≡ length nodes) (s : IsLeft new top inv.places (removed key_of eq k inv.pairs) taken) where
-      pub taken-once : (i : ℕ) → s.left i + same_place i place ≡ inv.places i
+    module _ (new : List (Node K V)) (top : ℕ) (taken : Option (ℕ × V)) (place : ℕ) (value : V) (is : taken ≡ Some (place, value)) (some : value_at eq k inv.pairs ≡ Some value) (same : length new ≡ length nodes) (s : IsWithout new top inv.places (removed key_of eq k inv.pairs) taken) where
+      pub taken-once : (i : ℕ) → s.rest i + same_place i place ≡ inv.places i
       taken-once i = omega (arith, s.all i, ap (times_taken i) is)
 
       pub place-within : place < length nodes
@@ -110,7 +110,7 @@ module _ {K V : Type 0} {cmp : K → K → Ordering} (total : IsTotalOrder cmp) 
 
       abbrev pub after-one : (gained : List ℕ) (new_capacity : ℕ) → ((i : ℕ) → times_in i gained ≡ times_in i free + same_place i place) → ((n : ℕ) → place < n → All (λ p. p < n) free → All (λ p. p < n) gained) → length gained ≡ length free + 1 → new_capacity ≡ free_capacity → IsOrdered cmp new top (len - 1) gained (room + 1) capacity new_capacity
       after-one gained new_capacity times there long kept = record {
-        places = s.left;
+        places = s.rest;
         pairs = removed key_of eq k inv.pairs;
         stands = s.stands;
         sorted = sorted-removed inv.pairs inv.sorted;

@@ -89,10 +89,10 @@ times_taken i None = 0
 times_taken i (Some taken) = same_place i taken.0
 
 -- pairs stand at the places where pairs stood, but for the place that was taken out
-pub record IsLeft {K V : Type 0} (nodes : List (Node K V)) (root : ℕ) (places : ℕ → ℕ) (pairs : List (K × V)) (taken : Option (ℕ × V)) : Type 0 where
-  pub left : ℕ → ℕ
-  pub stands : Stands nodes root left pairs
-  pub all : (i : ℕ) → left i + times_taken i taken ≡ places i
+pub record IsWithout {K V : Type 0} (nodes : List (Node K V)) (root : ℕ) (places : ℕ → ℕ) (pairs : List (K × V)) (taken : Option (ℕ × V)) : Type 0 where
+  pub rest : ℕ → ℕ
+  pub stands : Stands nodes root rest pairs
+  pub all : (i : ℕ) → rest i + times_taken i taken ≡ places i
 
 -- how often a place stands in a list
 abbrev pub times_in : ℕ → List ℕ → ℕ

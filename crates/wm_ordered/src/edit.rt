@@ -3,7 +3,7 @@
 ghost use Rattle.std.specs.Prelude.{◌≡◌, ℕ, ◌+◌, ◌<◌, ◌≤◌, List, ◌++◌, length, slice_get, option_map, Some};
 ghost use Rattle.wm_desc.specs.Sorted.{added, removed};
 ghost use Rattle.wm_ordered.specs.Ordered.{key_of, value_at, with_value};
-ghost use Rattle.wm_ordered.specs.Tree.{nowhere, same_place, Stands, Own, Elsewhere, IsSearchTree, IsSplit, IsLeft};
+ghost use Rattle.wm_ordered.specs.Tree.{nowhere, same_place, Stands, Own, Elsewhere, IsSearchTree, IsSplit, IsWithout};
 
 use crate::links::{link_left, link_right, node_at, put_node};
 use crate::node::{NOWHERE, Node};
@@ -165,7 +165,7 @@ pub(crate) fn take_out<K: Ord + Copy, V: Copy>(
     depth: usize,
 ) -> (u32, Option<(u32, V)>)
     requires few { length nodes.old ≤ nowhere }
-    ensures items { (places : ℕ → ℕ) (pairs : List (K × V)) → IsSearchTree K.cmp nodes.old root depth places pairs → IsLeft nodes.new result.0 places (removed key_of K.eq key.now pairs) result.1 }
+    ensures items { (places : ℕ → ℕ) (pairs : List (K × V)) → IsSearchTree K.cmp nodes.old root depth places pairs → IsWithout nodes.new result.0 places (removed key_of K.eq key.now pairs) result.1 }
     ensures value { (places : ℕ → ℕ) (pairs : List (K × V)) → IsSearchTree K.cmp nodes.old root depth places pairs → option_map (λ taken. taken.1) result.1 ≡ value_at K.eq key.now pairs }
     ensures elsewhere { (places : ℕ → ℕ) (pairs : List (K × V)) → IsSearchTree K.cmp nodes.old root depth places pairs → Elsewhere places nodes.old nodes.new }
     ensures len { length nodes.new ≡ length nodes.old }

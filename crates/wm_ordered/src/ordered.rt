@@ -100,13 +100,13 @@ impl<K: Ord + Copy, V: Copy> Ordered<K, V> {
     {
         let (root, taken) = take_out(&mut self.nodes, self.root, key, self.len);
         self.root = root;
-        let Some(out) = taken else {
+        let Some(found) = taken else {
             return None;
         };
-        give_place(&mut self.free, out.0);
+        give_place(&mut self.free, found.0);
         self.len -= 1;
         self.room += 1;
-        Some(out.1)
+        Some(found.1)
     }
 
     /// Gives a key that is there another value, and answers the one that it had. It takes no memory.

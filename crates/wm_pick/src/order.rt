@@ -32,11 +32,10 @@ fn called_args(
     if is_qcmd(&entry.pgm) {
         return args_of(alloc, request);
     }
-    let mut args = Args::new(alloc);
-    if let Some(request) = request {
-        args.push(request.text().clone()?)?;
-    }
-    Ok(args)
+    let Some(request) = request else {
+        return Ok(Args::new(alloc));
+    };
+    Ok(Args::from(vec![in alloc; request.text().clone()?]?))
 }
 
 impl<'a> Parts<'a> {

@@ -5,7 +5,6 @@ ghost use Rattle.wm_traits.specs.Cause.{HasCause};
 
 use wm_traits::{Failed, Sink};
 
-
 /// Writes all of the bytes, what a short write left too. After a fault the first of them are written.
 pub fn write_all<O: Sink>(out: &mut O, bytes: &[u8]) -> Result<(), Failed>
     ensures ok { OnOk result (Grows (O.written out.old) (O.written out.new) bytes.now) }

@@ -118,7 +118,7 @@ pub fn opened(
 /// Makes a call of the pass of this number.
 pub fn call(
     alloc: Global,
-    held: &mut OpenJournal,
+    opened: &mut OpenJournal,
     caller: u32,
     call: Call,
     now: Moment,
@@ -126,11 +126,11 @@ pub fn call(
     requires fit { IsCall call }
     requires had { (s : State) → HasCall s call }
 {
-    let Some(pass) = pass_of(&held.first, &held.others, caller) else {
+    let Some(pass) = pass_of(&opened.first, &opened.others, caller) else {
         drop(call);
         bail!("no pass {caller}");
     };
-    Ok(held.journal.call(alloc, pass, call, now))
+    Ok(opened.journal.call(alloc, pass, call, now))
 }
 
 /// What waits for the monitor of pass 1.
@@ -151,22 +151,22 @@ pub fn listed(alloc: Global, journal: &Journal<MemKeeper>, ask: &Ask) -> Result<
 pub fn turn(
     alloc: Global,
     monitor: &mut Monitor,
-    held: &mut OpenJournal,
+    opened: &mut OpenJournal,
     spawner: &mut MemSpawner,
 ) -> Result<Result<Turned, MonitorFault>> {
     let mut clock = MemClock::new(Moment::new(NOW), 0);
-    let pass = pass_of(&held.first, &held.others, MONITOR).context("no pass 1")?;
+    let pass = pass_of(&opened.first, &opened.others, MONITOR).context("no pass 1")?;
     ensure!(pass.number() == MONITOR, "another pass");
-    Ok(monitor.turn(alloc, &mut held.journal, pass, spawner, &mut clock))
+    Ok(monitor.turn(alloc, &mut opened.journal, pass, spawner, &mut clock))
 }
 
 /// Closes the journal, and gives its entries and its keeper. An `Err` hands it back, since a pass is out.
-pub fn shut(held: OpenJournal) -> Result<Closed<MemKeeper>, OpenJournal> {
+pub fn shut(opened: OpenJournal) -> Result<Closed<MemKeeper>, OpenJournal> {
     let OpenJournal {
         journal,
         first,
         others,
-    } = held;
+    } = opened;
     match journal.close(first) {
         Ok(closed) => {
             drop(others);
@@ -181,15 +181,15 @@ pub fn shut(held: OpenJournal) -> Result<Closed<MemKeeper>, OpenJournal> {
 }
 
 /// Joins all passes, and closes the journal.
-pub fn closed(mut held: OpenJournal) -> Result<Closed<MemKeeper>> {
-    if let Err(fault) = held.join_all() {
-        drop(held);
+pub fn closed(mut opened: OpenJournal) -> Result<Closed<MemKeeper>> {
+    if let Err(fault) = opened.join_all() {
+        drop(opened);
         return Err(fault);
     }
-    match shut(held) {
+    match shut(opened) {
         Ok(closed) => Ok(closed),
-        Err(held) => {
-            drop(held);
+        Err(opened) => {
+            drop(opened);
             bail!("a pass is out")
         }
     }

@@ -23,11 +23,11 @@ fn limit_of(words: &str) -> Result<u32> {
 }
 
 // The same journal, with pass 1 split off for a monitor.
-fn with_monitor(mut held: OpenJournal) -> Result<Result<OpenJournal, (MemKeeper, OpenFault)>> {
-    match held.split() {
-        Ok(_) => Ok(Ok(held)),
+fn with_monitor(mut opened: OpenJournal) -> Result<Result<OpenJournal, (MemKeeper, OpenFault)>> {
+    match opened.split() {
+        Ok(_) => Ok(Ok(opened)),
         Err(fault) => {
-            drop(held);
+            drop(opened);
             Err(fault)
         }
     }
@@ -43,7 +43,7 @@ pub fn open(
     let limit = limit_of(words)?;
     ensure!((1..=MOST).contains(&limit), "no limit");
     match opened(alloc, keeper, limit) {
-        Ok(held) => with_monitor(held),
+        Ok(opened) => with_monitor(opened),
         Err(back) => Ok(Err(back)),
     }
 }

@@ -50,7 +50,7 @@ give_place-requires g c =
     let value = c.take_out-root.ensures.value inv.places inv.pairs tree in
     let is = c.in-Some.is in
     let some = sym value ∙ ap (option_map (λ taken. taken.1)) is in
-    let some_left = some-left g.met.K.Ord.total g.K.PartialEq.eq g.met.K.Ord.matches_eq c.args.key.now inv c.take_out-root.new.nodes c.take_out-root.result.0 c.take_out-root.result.1 c.in-Some.out.0 c.in-Some.out.1 is some long left in
+    let some_left = some-left g.met.K.Ord.total g.K.PartialEq.eq g.met.K.Ord.matches_eq c.args.key.now inv c.take_out-root.new.nodes c.take_out-root.result.0 c.take_out-root.result.1 c.in-Some.found.0 c.in-Some.found.1 is some long left in
     record { room = omega (arith, inv.few, inv.free_room, some_left) }
 
 pub overflow_sub-self : goal.overflow_sub-self
@@ -63,7 +63,7 @@ overflow_sub-self g c =
     let value = c.take_out-root.ensures.value inv.places inv.pairs tree in
     let is = c.in-Some.is in
     let some = sym value ∙ ap (option_map (λ taken. taken.1)) is in
-    some-left g.met.K.Ord.total g.K.PartialEq.eq g.met.K.Ord.matches_eq c.args.key.now inv c.take_out-root.new.nodes c.take_out-root.result.0 c.take_out-root.result.1 c.in-Some.out.0 c.in-Some.out.1 is some long left
+    some-left g.met.K.Ord.total g.K.PartialEq.eq g.met.K.Ord.matches_eq c.args.key.now inv c.take_out-root.new.nodes c.take_out-root.result.0 c.take_out-root.result.1 c.in-Some.found.0 c.in-Some.found.1 is some long left
 
 pub invariant_of-self-2 : goal.invariant_of-self-2
 invariant_of-self-2 g c =
@@ -75,7 +75,7 @@ invariant_of-self-2 g c =
     let value = c.take_out-root.ensures.value inv.places inv.pairs tree in
     let is = c.in-Some.is in
     let some = sym value ∙ ap (option_map (λ taken. taken.1)) is in
-    subst (λ ns. IsOrdered g.K.Ord.cmp ns c.take_out-root.result.0 (c.self.inside.len - 1) c.give_place.new.free.items (c.self.inside.room + 1) (vec_capacity c.self.inside.nodes) (vec_capacity c.give_place.new.free)) (sym back) (after-one g.met.K.Ord.total g.K.PartialEq.eq g.met.K.Ord.matches_eq c.args.key.now inv c.take_out-root.new.nodes c.take_out-root.result.0 c.take_out-root.result.1 c.in-Some.out.0 c.in-Some.out.1 is some long left c.give_place.new.free.items _ c.give_place.ensures.times c.give_place.ensures.there c.give_place.ensures.len c.give_place.ensures.capacity)
+    subst (λ ns. IsOrdered g.K.Ord.cmp ns c.take_out-root.result.0 (c.self.inside.len - 1) c.give_place.new.free.items (c.self.inside.room + 1) (vec_capacity c.self.inside.nodes) (vec_capacity c.give_place.new.free)) (sym back) (after-one g.met.K.Ord.total g.K.PartialEq.eq g.met.K.Ord.matches_eq c.args.key.now inv c.take_out-root.new.nodes c.take_out-root.result.0 c.take_out-root.result.1 c.in-Some.found.0 c.in-Some.found.1 is some long left c.give_place.new.free.items _ c.give_place.ensures.times c.give_place.ensures.there c.give_place.ensures.len c.give_place.ensures.capacity)
 
 pub returns-clause-value : goal.returns-clause-value
 returns-clause-value g c =
@@ -100,5 +100,5 @@ returns-clause-items g c =
     let is = c.in-Some.is in
     let some = sym value ∙ ap (option_map (λ taken. taken.1)) is in
     ap (λ ns. pairs_under (c.self.inside.len - 1) ns c.take_out-root.result.0) back
-    ∙ (read (after-one g.met.K.Ord.total g.K.PartialEq.eq g.met.K.Ord.matches_eq c.args.key.now inv c.take_out-root.new.nodes c.take_out-root.result.0 c.take_out-root.result.1 c.in-Some.out.0 c.in-Some.out.1 is some long left c.give_place.new.free.items _ c.give_place.ensures.times c.give_place.ensures.there c.give_place.ensures.len c.give_place.ensures.capacity)
+    ∙ (read (after-one g.met.K.Ord.total g.K.PartialEq.eq g.met.K.Ord.matches_eq c.args.key.now inv c.take_out-root.new.nodes c.take_out-root.result.0 c.take_out-root.result.1 c.in-Some.found.0 c.in-Some.found.1 is some long left c.give_place.new.free.items _ c.give_place.ensures.times c.give_place.ensures.there c.give_place.ensures.len c.give_place.ensures.capacity)
     ∙ ap (removed key_of g.K.PartialEq.eq c.args.key.now) same)
