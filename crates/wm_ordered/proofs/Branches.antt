@@ -1,5 +1,5 @@
 -- The two sides of a search tree's root, and what its root's link to another side makes of it.
-use Rattle.std.proofs.Common.{◌≡◌, ℕ, suc, ◌+◌, ◌≤◌, true, false, List, ◌∷◌, ◌++◌, length, Option, Some, slice_get, ap, ◌∙◌, subst, arith, length-append}
+use Rattle.std.proofs.Common.{◌≡◌, ℕ, suc, ◌+◌, ◌-◌, ◌≤◌, true, false, List, ◌∷◌, ◌++◌, length, Option, Some, slice_get, ap, ◌∙◌, subst, arith, length-append}
 use Rattle.std.specs.declared.cmp.Ordering.{Ordering}
 use Rattle.std.specs.Cmp.{IsTotalOrder}
 use Rattle.std.specs.Ordering.{is_lt}
@@ -121,6 +121,30 @@ module _ {K V : Type 0} {cmp : K → K → Ordering} (total : IsTotalOrder cmp) 
       stands = relinked-left nodes between new root _ before others node s.rest at_root.q xs at_root.r (omega (arith, s.all root, not_left)) not_right left here right_apart s.stands at_root.right_stands;
       all = λ i. omega (arith, s.all i, at_root.all i);
     }
+
+    -- a side was changed by a call for it as a tree, and then linked
+    module _ (fewer : depth ≤ (depth - 1) + 1) where
+      module _ (side : (places : ℕ → ℕ) (pairs : List (K × V)) → IsSearchTree cmp nodes node.right (depth - 1) places pairs → Elsewhere places nodes between) where
+        right_called : Elsewhere at_root.q nodes between
+        right_called = side at_root.q at_root.r (right_tree (depth - 1) fewer)
+
+        pub right-called-elsewhere : Elsewhere places nodes new
+        right-called-elsewhere = right_elsewhere right_called
+
+        pub split-right-called : (key : K) (low high : ℕ) → is_lt (cmp node.pair.0 key) ≡ true → ((places : ℕ → ℕ) (pairs : List (K × V)) → IsSearchTree cmp nodes node.right (depth - 1) places pairs → IsSplit cmp key between places pairs low high) → ((n : Node K V) → slice_get between root ≡ Some n → slice_get new root ≡ Some (record n { right = low })) → IsSplit cmp key new places pairs root high
+        split-right-called key low high less parts linked =
+            split-right key low high less right_called (parts at_root.q at_root.r (right_tree (depth - 1) fewer)) (linked node (right_called root not_right ∙ is))
+
+      module _ (side : (places : ℕ → ℕ) (pairs : List (K × V)) → IsSearchTree cmp nodes node.left (depth - 1) places pairs → Elsewhere places nodes between) where
+        left_called : Elsewhere at_root.p nodes between
+        left_called = side at_root.p at_root.l (left_tree (depth - 1) fewer)
+
+        pub left-called-elsewhere : Elsewhere places nodes new
+        left-called-elsewhere = left_elsewhere left_called
+
+        pub split-left-called : (key : K) (low high : ℕ) → is_lt (cmp node.pair.0 key) ≡ false → ((places : ℕ → ℕ) (pairs : List (K × V)) → IsSearchTree cmp nodes node.left (depth - 1) places pairs → IsSplit cmp key between places pairs low high) → ((n : Node K V) → slice_get between root ≡ Some n → slice_get new root ≡ Some (record n { left = high })) → IsSplit cmp key new places pairs low root
+        split-left-called key low high more parts linked =
+            split-left key low high more left_called (parts at_root.p at_root.l (left_tree (depth - 1) fewer)) (linked node (left_called root not_left ∙ is))
 
     -- one side has a place more
     module _ (place : ℕ) (free : places place ≡ 0) where

@@ -3,4 +3,4 @@ use Rattle.wm_test_journal.proofs.calls.call.Goals as goal
 
 -- every state has the call
 pub call-requires-clause-built : goal.call-requires-clause-built
-call-requires-clause-built c = c.requires.had (reached c.held.inside.journal.history)
+call-requires-clause-built c = c.requires.had (reached c.opened.inside.journal.history)
