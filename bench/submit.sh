@@ -29,6 +29,8 @@ peak() {
 }
 
 lines 0 ''
+# the first runs read the program from the disk
+seconds 20 >"$taken"
 read -r start _ < <(seconds 20)
 
 # measure CASE COUNT TEXT
@@ -51,6 +53,6 @@ done
 for count in 100 1000 10000 100000; do
   measure held "$count" 'SBMJOB CMD(CALL PGM(ECHO) PARM(#)) JOB(A) HOLD(*YES)'
 done
-for count in 100 1000 10000; do
+for count in 100 1000 10000 100000; do
   measure started "$count" 'SBMJOB CMD(CALL PGM(ECHO) PARM(#)) JOB(A)'
 done
