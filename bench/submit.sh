@@ -30,7 +30,7 @@ peak() {
 
 lines 0 ''
 # the first runs read the program from the disk
-seconds 20 >"$taken"
+seconds 20 >/dev/null
 read -r start _ < <(seconds 20)
 
 # measure CASE COUNT TEXT

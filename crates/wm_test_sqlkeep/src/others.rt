@@ -9,6 +9,7 @@ use std::rt::HostRuntime;
 pub fn run(rt: &HostRuntime, words: &str) -> Result<()> {
     let (path, sql) = words.split_once(BAR).ok_or(anyhow!("no statements"))?;
     let mut conn = Connection::open(rt, path)?;
+    // It is closed whatever came of them: a way out for each fault would have to be proved to let it go.
     let ran = conn.execute_batch(sql);
     let closed = conn.close();
     ran?;
