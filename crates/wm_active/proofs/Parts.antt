@@ -2,6 +2,7 @@
 use Rattle.std.proofs.Common.{◌≡◌, ℕ, suc, ◌≤◌, Bool, true, false, not, ◌||◌, cond, List, [], ◌∷◌, ◌++◌, length, Option, Some, None, option_map, refl, ap, sym, ◌∙◌, arith, nat_eq, All}
 use Rattle.std.specs.List.{cons_option}
 use Rattle.std.specs.Ordering.{nat_cmp, is_lt}
+use Rattle.std.proofs.lemmas.Bool.{or_parts, or_from}
 use mathlib.Core.Bool.{false≢true}
 use Rattle.std.proofs.lemmas.Cmp.{nat_cmp_total}
 use Rattle.std.proofs.lemmas.List.Elements.{All-nil, All-cons, All-head, All-tail, filter_map-append}
@@ -15,14 +16,6 @@ one-more : {E : Type 0} (o : Option E) (es : List E) (n : ℕ) → length es ≤
 one-more None es n h = omega arith
 one-more (Some e) es n h = omega arith
 
-neither : (a b : Bool) → (a || b) ≡ false → (a ≡ false) × (b ≡ false)
-neither true b h = absurd (false≢true (sym h))
-neither false b h = (refl, h)
-
-either : (a b : Bool) → a ≡ false → b ≡ false → (a || b) ≡ false
-either true b h g = absurd (false≢true (sym h))
-either false b h g = g
-
 module _ {V W : Type 0} (part : V → Option W) where
   -- the row of a serial, where there is such a part
   abbrev row_at : ℕ → Option W → Option (ℕ × W)
@@ -35,13 +28,13 @@ module _ {V W : Type 0} (part : V → Option W) where
 
   lack-by : (s n : ℕ) (o : Option W) (rows : List (ℕ × W)) → nat_eq n s ≡ false → has_key key_of nat_eq s rows ≡ false → has_key key_of nat_eq s (cons_option (row_at n o) rows) ≡ false
   lack-by s n None rows other rest = rest
-  lack-by s n (Some w) rows other rest = either (nat_eq n s) (has_key key_of nat_eq s rows) other rest
+  lack-by s n (Some w) rows other rest = or_from (nat_eq n s) (has_key key_of nat_eq s rows) other rest
 
   -- a serial that isn't there has no part
   pub parts-lack : (s : ℕ) (items : List (ℕ × V)) → has_key key_of nat_eq s items ≡ false → has_key key_of nat_eq s (parts part items) ≡ false
   parts-lack s [] none = refl
   parts-lack s (x ∷ xs) none =
-      let both = neither (nat_eq x.0 s) (has_key key_of nat_eq s xs) none in lack-by s x.0 (part x.1) (parts part xs) both.0 (parts-lack s xs both.1)
+      let both = or_parts (nat_eq x.0 s) (has_key key_of nat_eq s xs) none in lack-by s x.0 (part x.1) (parts part xs) both.0 (parts-lack s xs both.1)
 
   module _ (s : ℕ) where
     abbrev less : {X : Type 0} → List (ℕ × X) → List (ℕ × X)

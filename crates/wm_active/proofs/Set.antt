@@ -9,6 +9,7 @@ use Rattle.std.proofs.lemmas.Cmp.{nat_cmp_total}
 use Rattle.std.proofs.lemmas.Bool.Decides.{nat_tests}
 use Rattle.std.proofs.lemmas.List.{length-map}
 use Rattle.std.proofs.lemmas.List.Elements.{All-nil, All-cons}
+use Rattle.wm_base.proofs.Tests.{None-from_is_some}
 use Rattle.wm_desc.specs.Sorted.{IsSortedOnce, has_key, added, removed}
 use Rattle.wm_ordered.specs.Ordered.{key_of, value_at, with_value}
 use Rattle.wm_ordered.proofs.Sides.{all_pairs_filter}
@@ -21,10 +22,6 @@ use Rattle.wm_active.proofs.Parts.{parts-added, parts-few, parts-removed}
 
 behind : (n s m : ℕ) → m ≡ s → nat_cmp m n ≡ Less → nat_cmp n s ≡ Greater
 behind n s m same h = grind (arith, nat_tests)
-
-none-by : {X : Type 0} (o : Option X) → is_some o ≡ false → o ≡ None
-none-by None e = refl
-none-by (Some x) e = absurd (cc e)
 
 module _ {V : Type 0} where
   abbrev before : ℕ × V → ℕ × V → Type 0
@@ -111,7 +108,7 @@ module _ {V : Type 0} where
 
     -- where it isn't, nothing is set
     pub set-nothing : (v : V) (items : List (ℕ × V)) → has_key key_of nat_eq s items ≡ false → items ≡ with_value nat_eq s v items
-    set-nothing v items lacks = sym (with_value-lacks nat_eq s v items (none-by (value_at nat_eq s items) (sym (is-there items) ∙ lacks)))
+    set-nothing v items lacks = sym (with_value-lacks nat_eq s v items (None-from_is_some (value_at nat_eq s items) (sym (is-there items) ∙ lacks)))
 
     -- where it is, a set is a row that goes and comes again
     module _ (items : List (ℕ × V)) (sorted : IsSortedOnce key_of nat_cmp items) (there : has_key key_of nat_eq s items ≡ true) where

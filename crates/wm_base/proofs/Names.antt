@@ -1,12 +1,15 @@
 -- What is known of a name's bytes.
-use Rattle.std.proofs.Common.{◌≡◌, ℕ, ◌<◌, ◌≤◌, ◌++◌, true, List, [], ◌∷◌, length, drop, replicate, zero, suc, lit<, Result, Ok, Err, IsOk, MatchResult, subst, sym, ◌∙◌, refl, arith}
+use Rattle.std.proofs.Common.{◌≡◌, ℕ, ◌<◌, ◌≤◌, ◌++◌, true, List, [], ◌∷◌, length, drop, replicate, zero, suc, lit<, Result, Ok, Err, IsOk, MatchResult, subst, sym, ◌∙◌, refl, arith, append_assoc}
 use Rattle.std.specs.Str.{IsAscii, IsUtf8}
 use Rattle.std.specs.List.{list_all}
 use Rattle.std.proofs.Math.Seq.{take-append_seam, drop-append_seam}
 use Rattle.std.proofs.lemmas.List.{length-append, length-drop, drop-replicate}
 use Rattle.std.proofs.lemmas.Str.{IsUtf8-from_ascii}
+use Rattle.std.proofs.lemmas.Bool.{and_parts}
 use Rattle.std.proofs.lemmas.Bool.Decides.{nat_tests}
 use Rattle.wm_base.specs.Name.{IsName, continues_name}
+use Rattle.wm_base.specs.QName.{qname_text}
+use Rattle.wm_base.specs.declared.qname.QName.{QName}
 use Rattle.wm_base.specs.Text.{is_printable, IsText}
 use Rattle.wm_base.specs.NameInside.{IsNameInside}
 
@@ -17,6 +20,13 @@ ascii_bytes : (bs : List ℕ) → list_all continues_name bs ≡ true → IsAsci
 ascii_bytes [] h i = lit< tt
 ascii_bytes (b ∷ bs) h zero = ascii_byte b (grind (arith, nat_tests))
 ascii_bytes (b ∷ bs) h (suc i) = ascii_bytes bs (grind (arith, nat_tests)) i
+
+-- each byte of a name may go on with one
+pub continues-name : (bs : List ℕ) → IsName bs → list_all continues_name bs ≡ true
+continues-name bs h = (and_parts _ (list_all continues_name bs) (and_parts _ _ h).0).1
+
+pub qname_text-parts : (q : QName) → qname_text q ≡ q.lib ++ 47 ∷ q.name
+qname_text-parts q = append_assoc q.lib (47 ∷ []) q.name
 
 -- a name is text
 pub IsUtf8-name : (bs : List ℕ) → IsName bs → IsUtf8 bs

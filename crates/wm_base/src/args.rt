@@ -1,15 +1,12 @@
 // The arguments of a program.
 ghost use Rattle.std.specs.Prelude.{◌≡◌, ◌↔◌, ◌++◌, [], ◌∷◌, List, ℕ, IsTrue, OnOk, OnErr, length, nat_eq};
-ghost use Rattle.std.specs.Cmp.Lexicographic.{pointwise, nat_list_eq_equiv};
-ghost use Rattle.std.specs.Cmp.{partial_equiv_from_equiv};
-ghost use Rattle.std.proofs.lemmas.Cmp.{lists_equiv};
 
 use crate::{NoMemory, Text};
 use std::alloc::Global;
 use std::marker::Model;
 
 /// A list of texts.
-#[derive(Debug, Drop)]
+#[derive(Drop)]
 pub struct Args {
     items: Vec<Text>,
 }
@@ -80,18 +77,4 @@ impl Clone for Args {
             items: self.items.clone()?,
         })
     }
-}
-
-impl PartialEq for Args {
-    ghost eq = { pointwise (pointwise nat_eq) };
-
-    ghost laws = { partial_equiv_from_equiv (lists_equiv nat_list_eq_equiv) };
-
-    fn eq(&self, other: &Args) -> bool {
-        self.items == other.items
-    }
-}
-
-impl Eq for Args {
-    ghost laws = { lists_equiv nat_list_eq_equiv };
 }

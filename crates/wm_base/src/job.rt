@@ -24,7 +24,7 @@ impl fmt::Display for JobName {
 
 /// A class: the run priority, the time slice in milliseconds and the default wait in seconds.
 /// They are handed to the job and not enforced.
-#[derive(Clone, Copy, Debug, PartialEq, Eq)]
+#[derive(Clone, Copy)]
 pub struct Class {
     pub runpty: u32,
     pub timeslice: u32,
@@ -33,7 +33,7 @@ pub struct Class {
 
 /// What to start for a job: the program's path, its arguments as they are, and the class.
 /// `pre` tells a prestart job.
-#[derive(Clone, Debug, PartialEq, Eq, Drop)]
+#[derive(Clone, Drop)]
 pub struct StartOrder {
     pub serial: Serial,
     pub job: JobName,
@@ -44,14 +44,14 @@ pub struct StartOrder {
 }
 
 /// What a spawner is asked.
-#[derive(Clone, Debug, PartialEq, Eq, Drop)]
+#[derive(Clone, Drop)]
 pub enum Asked {
     Start(StartOrder),
     Kill(Serial),
 }
 
 /// How a child ended: with an exit code, or by a signal.
-#[derive(Clone, Copy, Debug, PartialEq, Eq)]
+#[derive(Clone, Copy)]
 pub enum Exit {
     Code(u8),
     Killed,
@@ -71,14 +71,14 @@ impl fmt::Display for Exit {
 }
 
 /// What a spawner reports: a child's end, or that a prestart job is done with its request.
-#[derive(Clone, Copy, Debug, PartialEq, Eq)]
+#[derive(Clone, Copy)]
 pub enum Event {
     Ended(Serial, Exit),
     Used(Serial),
 }
 
 /// Why a start failed: the spawner couldn't, or memory was wanting.
-#[derive(Clone, Copy, Debug, PartialEq, Eq)]
+#[derive(Clone, Copy, Debug, PartialEq)]
 pub enum StartCause {
     Spawner,
     Memory,
@@ -98,7 +98,7 @@ impl fmt::Display for StartCause {
 }
 
 /// What an active job counts against: how it came into its subsystem.
-#[derive(Clone, Copy, Debug, PartialEq, Eq)]
+#[derive(Clone, Copy)]
 pub enum How {
     NotYet,
     FromQueue {
@@ -118,7 +118,7 @@ pub enum How {
 }
 
 /// Why a job ended. The number of each cause stands in `number`, the word in its printing.
-#[derive(Clone, Copy, Debug, PartialEq, Eq)]
+#[derive(Clone, Copy, Debug, PartialEq)]
 pub enum EndCause {
     Completed,
     Exited(u8),

@@ -40,7 +40,7 @@ impl Model for Name {
 }
 
 /// Bytes that are no name.
-#[derive(Clone, Copy, Debug, PartialEq, Eq, Error)]
+#[derive(Clone, Copy, Debug, Error)]
 #[error("not a name")]
 pub struct BadName;
 

@@ -4,7 +4,7 @@ ghost use Rattle.std.specs.Prelude.{◌≡◌, Some};
 use std::fmt;
 
 /// A kind of object or of entry.
-#[derive(Clone, Copy, Debug, PartialEq, Eq)]
+#[derive(Clone, Copy, Debug)]
 pub enum Kind {
     Cls,
     Jobq,
@@ -51,7 +51,7 @@ impl fmt::Display for Kind {
 }
 
 /// What a job's phase is called in a refusal. `Active` is a job that a monitor has.
-#[derive(Clone, Copy, Debug, PartialEq, Eq)]
+#[derive(Clone, Copy, Debug)]
 pub enum PhaseWord {
     Waiting,
     Starting,
@@ -86,7 +86,7 @@ impl fmt::Display for PhaseWord {
 }
 
 /// A keyword of a command.
-#[derive(Clone, Copy, Debug, PartialEq, Eq)]
+#[derive(Clone, Copy, Debug, PartialEq)]
 pub enum Key {
     Cls,
     Runpty,
@@ -197,7 +197,7 @@ impl fmt::Display for Key {
 }
 
 /// Why a call was refused. Its number and its line are this project's own.
-#[derive(Clone, Copy, Debug, PartialEq, Eq)]
+#[derive(Clone, Copy, Debug)]
 pub enum Refusal {
     Exists(Kind),
     NoObject(Kind),

@@ -113,10 +113,6 @@ impl PartialEq for Text {
     }
 }
 
-impl Eq for Text {
-    ghost laws = { nat_list_eq_equiv };
-}
-
 impl fmt::Debug for Text {
     fn fmt<W: fmt::Write>(&self, f: &mut fmt::Formatter<W>) -> fmt::Result {
         f.write_str(self.as_str())

@@ -5,6 +5,7 @@ use Rattle.std.specs.List.{find, flat_map}
 use Rattle.std.specs.Option.{option_map, option_to_list}
 use Rattle.std.specs.Ordering.{nat_cmp}
 use Rattle.std.specs.Prelude.{Result, Ok, Err}
+use Rattle.std.proofs.lemmas.Bool.{not-false}
 use Rattle.wm_base.specs.declared.job.StartOrder.{StartOrder}
 use Rattle.wm_base.specs.declared.qname.QName.{QName}
 use Rattle.wm_base.specs.declared.refusal.Kind.TheVariants as kind
@@ -55,7 +56,6 @@ use Rattle.wm_law.specs.declared.job.Phase.{Phase}
 use Rattle.wm_law.specs.declared.job.Phase.TheVariants.{Waiting, Starting, Handed, Running, Ended}
 use Rattle.wm_law.specs.declared.state.Sbs.{Sbs}
 use Rattle.wm_law.specs.declared.state.State.{State}
-use Rattle.wm_law.proofs.Tests.{of_not}
 use Rattle.wm_rows.specs.Rows.{class_row, program_row, queue_row, jobd_row, sbsd_row, queue_entry_row, route_entry_row, auto_entry_row, pre_entry_row, held_row}
 use Rattle.wm_rows.specs.Places.{numbered_place, entry_place}
 use Rattle.wm_rows.specs.Tables.{queue_entry_rows, route_entry_rows, auto_entry_rows, pre_entry_rows, held_rows, object_rows}
@@ -294,7 +294,7 @@ module _ (s : State) where
     queue_out sbsd jobq r =
         let m = described s sbsd (λ d. first_refusal ((not (has_queue jobq d.queues), NoObject kind.Jobqe) ∷ [])) r in
         let d = m.description in
-        let there : has_queue jobq d.queues ≡ true = of_not _ (test_fails ((not (has_queue jobq d.queues), NoObject kind.Jobqe) ∷ []) 0 SbsActive m.accepted) in
+        let there : has_queue jobq d.queues ≡ true = not-false _ (test_fails ((not (has_queue jobq d.queues), NoObject kind.Jobqe) ∷ []) 0 SbsActive m.accepted) in
         let f = any_found (λ (n : QueueEntry). same_qname n.jobq jobq) d.queues there in
         let is = sound.objects.described sbsd d m.named in
         let row = queue_entry_row sbsd f.item in
@@ -306,7 +306,7 @@ module _ (s : State) where
     route_out sbsd seq r =
         let m = described s sbsd (λ d. first_refusal ((not (seq_used (λ e. e.seq) seq d.routes), NoObject kind.Rtge) ∷ [])) r in
         let d = m.description in
-        let there : seq_used (λ e. e.seq) seq d.routes ≡ true = of_not _ (test_fails ((not (seq_used (λ e. e.seq) seq d.routes), NoObject kind.Rtge) ∷ []) 0 SbsActive m.accepted) in
+        let there : seq_used (λ e. e.seq) seq d.routes ≡ true = not-false _ (test_fails ((not (seq_used (λ e. e.seq) seq d.routes), NoObject kind.Rtge) ∷ []) 0 SbsActive m.accepted) in
         let l = route_less sbsd seq d (sound.orders.routed.sorted sbsd d m.named) there in
         let row = route_entry_row sbsd l.0 in
         let less = routes_change (IsLess row) (less_within row) sbsd (without_route seq) s.objects d sound.objects.tables.sbsds.sorted (named_there sbsd s.objects.sbsds d m.named) (λ x. refl) (λ x. refl) (λ x. refl) (λ x. refl) l.2 in
@@ -317,7 +317,7 @@ module _ (s : State) where
     auto_out sbsd job r =
         let m = described s sbsd (λ d. first_refusal ((not (has_auto job d.autos), NoObject kind.Aje) ∷ [])) r in
         let d = m.description in
-        let there : has_auto job d.autos ≡ true = of_not _ (test_fails ((not (has_auto job d.autos), NoObject kind.Aje) ∷ []) 0 SbsActive m.accepted) in
+        let there : has_auto job d.autos ≡ true = not-false _ (test_fails ((not (has_auto job d.autos), NoObject kind.Aje) ∷ []) 0 SbsActive m.accepted) in
         let l = auto_less sbsd job d (sound.objects.described sbsd d m.named).autos.sorted there in
         let row = auto_entry_row sbsd l.0 in
         let less = autos_change (IsLess row) (less_within row) sbsd (without_auto job) s.objects d sound.objects.tables.sbsds.sorted (named_there sbsd s.objects.sbsds d m.named) (λ x. refl) (λ x. refl) (λ x. refl) (λ x. refl) l.2 in

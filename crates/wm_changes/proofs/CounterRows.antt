@@ -3,13 +3,12 @@ use Rattle.std.proofs.Common.{◌≡◌, ◌⊎◌, ℕ, ◌<◌, ◌^◌, ◌==
 use Rattle.std.specs.Cmp.Lexicographic.{slice_cmp}
 use Rattle.std.specs.Ordering.{is_lt, nat_cmp}
 use Rattle.std.proofs.lemmas.Fmt.{decimal_injective}
-use Rattle.std.proofs.lemmas.Bool.{eq-eqb}
+use Rattle.std.proofs.lemmas.Bool.{eq-eqb, eqb-true}
 use Rattle.wm_traits.specs.declared.row.Row.{Row}
 use Rattle.wm_traits.specs.declared.row.RowChange.{RowChange}
 use Rattle.wm_traits.specs.declared.row.RowChange.TheVariants.{Put, Del}
 use Rattle.wm_traits.specs.Rows.{is_before, place_of}
 use Rattle.wm_law.specs.Laws.{IsIn}
-use Rattle.wm_law.proofs.Tests.{same_number}
 use Rattle.wm_rows.specs.Rows.{counter_row, counter_word}
 use Rattle.wm_rows.specs.Tables.{counter_rows}
 use Rattle.wm_rows.specs.declared.stored.Counter.{Counter}
@@ -44,7 +43,7 @@ module _ (a b : Row) (place : place_of b ≡ place_of a) (other : b ≡ a → �
   }
 
 one_by : (c : Counter) (n m : ℕ) (t : Bool) → (n == m) ≡ t → (counter_row c m ≡ counter_row c n → m ≡ n) → Differs (counter_row c n ∷ []) (counter_row c m ∷ []) (cond t [] (Put (counter_row c m) ∷ []))
-one_by c n m true e one = same_rows (counter_row c n ∷ []) (counter_row c m ∷ []) (ap (λ (k : ℕ). counter_row c k ∷ []) (sym (same_number n m e)))
+one_by c n m true e one = same_rows (counter_row c n ∷ []) (counter_row c m ∷ []) (ap (λ (k : ℕ). counter_row c k ∷ []) (sym (eqb-true n m e)))
 one_by c n m false e one = replaced (counter_row c n) (counter_row c m) refl (λ same. (let yes : (n == m) ≡ true = eq-eqb n m (sym (one same)) in absurd (cc)))
 
 order_by : (c : Counter) (m : ℕ) (t : Bool) → AreInOrder (cond t [] (Put (counter_row c m) ∷ []))

@@ -2,6 +2,7 @@
 use Rattle.std.proofs.Common.{◌≡◌, ◌⊎◌, ℕ, ◌<◌, ◌^◌, not, Bool, true, false, cond, List, [], ◌∷◌, map, filter, refl, sym, ap, subst, ◌∙◌, inl, inr, arith}
 use Rattle.std.specs.Cmp.Lexicographic.{slice_cmp}
 use Rattle.std.specs.Ordering.{is_lt, nat_cmp}
+use Rattle.std.proofs.lemmas.Bool.{not-true}
 use Rattle.wm_base.specs.Number.{zero_padded}
 use Rattle.wm_traits.specs.declared.row.Row.{Row}
 use Rattle.wm_traits.specs.declared.row.RowChange.{RowChange}
@@ -84,10 +85,6 @@ never_put tab key r e = absurd (cc)
 no_deletion : (rows : List Row) (tab : ℕ) (key : List ℕ) → IsIn (Del tab key) (puts rows) → ⊥
 no_deletion rows tab key i = let m = put_of rows (Del tab key) i in never_put tab key m.0 m.2
 
-was_not : (b : Bool) → not b ≡ true → b ≡ false
-was_not true h = absurd (cc)
-was_not false h = refl
-
 module _ (before after : List Job) (up : IsAscending (job_rows before)) (goes_on : (j : Job) → IsIn j before → (k : Job) × IsIn k after × (k.serial ≡ j.serial)) where
   abbrev news : List Row
   news = new_job_rows before after
@@ -120,7 +117,7 @@ module _ (before after : List Job) (up : IsAscending (job_rows before)) (goes_on
     put = λ r i. left_in is_new (job_rows after) r (puts_are news r i);
     new = λ r i j. (
         let passes : is_new r ≡ true = left_passes is_new (job_rows after) r (puts_are news r i) in
-        not_found (job_rows before) r (was_not (is_found (job_rows before) r) passes) j);
+        not_found (job_rows before) r (not-true (is_found (job_rows before) r) passes) j);
     was = λ tab key i. absurd (no_deletion news tab key i);
     gone = λ tab key i r j e. no_deletion news tab key i;
     each = λ r i. new_or_old r (is_found (job_rows before) r) refl i;

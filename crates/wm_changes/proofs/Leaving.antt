@@ -1,12 +1,11 @@
 -- Noted jobs that are put one after another: what is left of them.
 use Rattle.std.proofs.Common.{◌≡◌, ℕ, ◌+◌, ◌<◌, ◌≤◌, nat_eq, not, Bool, true, false, cond, List, [], ◌∷◌, length, filter, fold, slice_get, Some, None, refl, sym, ap, subst, ◌∙◌, arith}
 use Rattle.std.specs.Ordering.{nat_cmp}
-use Rattle.std.proofs.lemmas.Bool.{eq-eqb}
+use Rattle.std.proofs.lemmas.Bool.{eq-eqb, eqb-true}
 use Rattle.std.proofs.lemmas.Cmp.{nat_cmp_total}
 use Rattle.wm_traits.specs.declared.row.RowChange.{RowChange}
 use Rattle.wm_desc.specs.Sorted.{IsSortedOnce, removed}
 use Rattle.wm_ordered.specs.Ordered.{key_of}
-use Rattle.wm_law.proofs.Tests.{same_number}
 use Rattle.wm_jobs.specs.Table.{Table}
 use Rattle.wm_jobs.specs.declared.touched.Standing.{Standing}
 use Rattle.wm_tables.proofs.OneMore.{first_below, not_same, rest_sorted}
@@ -28,7 +27,7 @@ not_by false h = refl
 rest_left : (p : Pair) (ps : List Pair) → IsSortedOnce key_of nat_cmp (p ∷ ps) → removed key_of nat_eq p.0 (p ∷ ps) ≡ ps
 rest_left p ps s =
     let here : nat_eq p.0 p.0 ≡ true = eq-eqb p.0 p.0 refl in
-    let others : filter (λ (q : Pair). not (nat_eq (key_of q) p.0)) ps ≡ ps = left_all (λ (q : Pair). not (nat_eq (key_of q) p.0)) ps (λ q i. not_by (nat_eq q.0 p.0) (λ e. not_same (λ (x : Pair). x.0) nat_cmp nat_cmp_total p.0 q.0 (first_below (λ (x : Pair). x.0) nat_cmp nat_cmp_total p ps q s i) (sym (same_number q.0 p.0 e)))) in
+    let others : filter (λ (q : Pair). not (nat_eq (key_of q) p.0)) ps ≡ ps = left_all (λ (q : Pair). not (nat_eq (key_of q) p.0)) ps (λ q i. not_by (nat_eq q.0 p.0) (λ e. not_same (λ (x : Pair). x.0) nat_cmp nat_cmp_total p.0 q.0 (first_below (λ (x : Pair). x.0) nat_cmp nat_cmp_total p ps q s i) (sym (eqb-true q.0 p.0 e)))) in
     ap (λ (b : Bool). cond (not b) (p ∷ filter (λ (q : Pair). not (nat_eq (key_of q) p.0)) ps) (filter (λ (q : Pair). not (nat_eq (key_of q) p.0)) ps)) here ∙ others
 
 is_first : (p q : Pair) → Some p ≡ Some q → p ≡ q

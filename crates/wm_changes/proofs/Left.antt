@@ -7,10 +7,12 @@ use Rattle.std.specs.Ordering.{nat_cmp}
 use Rattle.std.proofs.lemmas.Bool.Decides.{nat_tests}
 use Rattle.std.proofs.lemmas.Cmp.{nat_cmp_total, nat_list_cmp_total}
 use Rattle.std.proofs.lemmas.Slice.Eq.{bytes_eq-Decides}
+use Rattle.std.proofs.lemmas.Bool.{eqb-true}
 use Rattle.wm_base.specs.declared.qname.QName.{QName}
 use Rattle.wm_base.specs.declared.refusal.Kind.TheVariants as kind
 use Rattle.wm_base.specs.declared.refusal.Refusal.{Refusal}
 use Rattle.wm_base.specs.declared.refusal.Refusal.TheVariants.{NoObject, SbsActive}
+use Rattle.wm_base.proofs.Tests.{unrefused}
 use Rattle.wm_desc.specs.declared.description.Sbsd.{Sbsd}
 use Rattle.wm_desc.specs.declared.entry.AutoEntry.{AutoEntry}
 use Rattle.wm_desc.specs.declared.entry.QueueEntry.{QueueEntry}
@@ -28,7 +30,6 @@ use Rattle.wm_law.specs.Queues.{own_name}
 use Rattle.wm_law.specs.declared.state.State.{State}
 use Rattle.wm_law.proofs.Members.{found_among}
 use Rattle.wm_law.proofs.Named.{one_name}
-use Rattle.wm_law.proofs.Tests.{unrefused}
 use Rattle.wm_rows.specs.Rows.{auto_entry_row, held_row, queue_entry_row, route_entry_row}
 use Rattle.wm_tables.proofs.StepEntries.{one_distinct}
 use Rattle.wm_changes.proofs.OneMore.{IsLess, less_filtered}
@@ -74,9 +75,6 @@ pub any_found : {X : Type 0} (p : X → Bool) (xs : List X) → list_any p xs �
 any_found p [] h = absurd (cc)
 any_found p (x ∷ xs) h = found_by p x xs (p x) refl h (any_found p xs)
 
-sure_number : (a b : ℕ) → nat_eq a b ≡ true → a ≡ b
-sure_number a b h = grind (arith, nat_tests)
-
 -- a test that holds of no other
 not_by : (t : Bool) → (t ≡ true → ⊥) → not t ≡ true
 not_by true h = absurd (h refl)
@@ -96,11 +94,11 @@ route_less sbsd seq d sorted used =
     let test = λ (n : RouteEntry). nat_eq n.seq seq in
     let m = any_found test d.routes used in
     let among = found_among test d.routes m.item m.found in
-    let is : m.item.seq ≡ seq = sure_number m.item.seq seq among.1 in (
+    let is : m.item.seq ≡ seq = eqb-true m.item.seq seq among.1 in (
       m.item,
       is,
       less_filtered (route_entry_row sbsd) (λ (n : RouteEntry). n.seq) nat_cmp nat_cmp_total (λ (n : RouteEntry). not (nat_eq n.seq seq)) d.routes m.item sorted among.0 (ap not among.1)
-          (λ n k other. not_by (nat_eq n.seq seq) (λ yes. other (sure_number n.seq seq yes ∙ sym is))),
+          (λ n k other. not_by (nat_eq n.seq seq) (λ yes. other (eqb-true n.seq seq yes ∙ sym is))),
     )
 
 -- that of a job's name

@@ -2,14 +2,13 @@
 use Rattle.std.proofs.Common.{◌≡◌, ◌⊎◌, ℕ, ◌||◌, nat_eq, ◌==◌, Bool, true, false, cond, List, [], ◌∷◌, Option, Some, None, fold, map, refl, sym, ap, subst, ◌∙◌, inl, inr, arith}
 use Rattle.std.specs.List.{list_any}
 use Rattle.std.specs.Ordering.{nat_cmp}
-use Rattle.std.proofs.lemmas.Bool.{eq-eqb}
+use Rattle.std.proofs.lemmas.Bool.{eq-eqb, eqb-true}
 use Rattle.wm_desc.specs.Sorted.{IsSortedOnce, added, has_key, place_of}
 use Rattle.wm_ordered.specs.Ordered.{key_of}
 use Rattle.wm_law.specs.Jobs.{changed_at}
 use Rattle.wm_law.specs.Laws.{IsIn}
 use Rattle.wm_law.specs.declared.job.Job.{Job}
 use Rattle.wm_law.proofs.InOrder.{in_inserted, number_added}
-use Rattle.wm_law.proofs.Tests.{same_number}
 use Rattle.wm_jobs.specs.Marked.{restored, standing_as, undone}
 use Rattle.wm_jobs.specs.declared.touched.Standing.{Standing}
 use Rattle.wm_jobs.specs.declared.touched.Touched.{Touched}
@@ -34,7 +33,7 @@ pub record IsNoted (n : ℕ) (pairs : List Pair) : Type 0 where
   pub stands : IsIn (n, was) pairs
 
 has_by : (n : ℕ) (p : Pair) (ps : List Pair) (t : Bool) → nat_eq p.0 n ≡ t → (t || list_any (λ q. nat_eq (serial q) n) ps) ≡ true → (list_any (λ q. nat_eq (serial q) n) ps ≡ true → IsNoted n ps) → IsNoted n (p ∷ ps)
-has_by n p ps true e h next = record { was = p.1; stands = inl (ap (λ (k : ℕ). (k, p.1)) (sym (same_number p.0 n e))) }
+has_by n p ps true e h next = record { was = p.1; stands = inl (ap (λ (k : ℕ). (k, p.1)) (sym (eqb-true p.0 n e))) }
 has_by n p ps false e h next = let m = next h in record { was = m.was; stands = inr m.stands }
 
 has_noted : (n : ℕ) (ps : List Pair) → has_key key_of nat_eq n ps ≡ true → IsNoted n ps
@@ -91,7 +90,7 @@ first_here : (t : Touched) (ts : List Touched) (n : ℕ) → n ≡ t.serial → 
 first_here t ts n e = ap (λ (b : Bool). cond b (Some t.was) (first_of ts n)) (eq-eqb n t.serial e)
 
 later_by : (b : Bool) (t : Touched) (ts : List Touched) (n : ℕ) (w : Standing) → (n == t.serial) ≡ b → (n ≡ t.serial → ⊥) → first_of ts n ≡ Some w → cond b (Some t.was) (first_of ts n) ≡ Some w
-later_by true t ts n w e other h = absurd (other (same_number n t.serial e))
+later_by true t ts n w e other h = absurd (other (eqb-true n t.serial e))
 later_by false t ts n w e other h = h
 
 -- what is noted was noted before, or is how a job stood at first
@@ -115,7 +114,7 @@ pub noted_first : (ts : List Touched) (p : Pair) → IsIn p (noted ts) → first
 noted_first ts p i = elim (noted_is ts [] p i) as (λ _. first_of ts p.0 ≡ Some p.1) [ inl none ↦ absurd none | inr m ↦ m.1 ]
 
 touched_by : (b : Bool) (t : Touched) (ts : List Touched) (n : ℕ) (w : Standing) → (n == t.serial) ≡ b → cond b (Some t.was) (first_of ts n) ≡ Some w → (first_of ts n ≡ Some w → (u : Touched) × IsIn u ts × (u.serial ≡ n)) → (u : Touched) × IsIn u (t ∷ ts) × (u.serial ≡ n)
-touched_by true t ts n w e h next = (t, inl refl, sym (same_number n t.serial e))
+touched_by true t ts n w e h next = (t, inl refl, sym (eqb-true n t.serial e))
 touched_by false t ts n w e h next = let m = next h in (m.0, inr m.1, m.2)
 
 was_touched : (ts : List Touched) (n : ℕ) (w : Standing) → first_of ts n ≡ Some w → (u : Touched) × IsIn u ts × (u.serial ≡ n)

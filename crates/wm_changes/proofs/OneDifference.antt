@@ -8,6 +8,7 @@ use Rattle.std.proofs.lemmas.Slice.Eq.{bytes_eq-Decides}
 use Rattle.std.specs.declared.cmp.Ordering.{Ordering}
 use Rattle.std.specs.declared.cmp.Ordering.TheVariants.{Less, Equal, Greater}
 use Rattle.std.proofs.lemmas.Cmp.{nat_list_cmp_total, tied_itself}
+use Rattle.wm_base.proofs.Orderings.{is_lt-Less}
 use Rattle.wm_traits.specs.declared.row.Row.{Row}
 use Rattle.wm_traits.specs.declared.row.RowChange.{RowChange}
 use Rattle.wm_traits.specs.declared.row.RowChange.TheVariants.{Put, Del}
@@ -93,15 +94,10 @@ module _ (before after : List Row) (cs ds : List RowChange) (old : IsInOrder bef
 
 -- Lists of the same changes in their order
 
-is_less : (r : Ordering) → is_lt r ≡ true → r ≡ Less
-is_less Less h = refl
-is_less Equal h = absurd (cc)
-is_less Greater h = absurd (cc)
-
 -- no place stands before one that stands before it
 both_before : (p q : List ℕ) → is_lt (slice_cmp nat_cmp p q) ≡ true → is_lt (slice_cmp nat_cmp q p) ≡ true → ⊥
 both_before p q h g =
-    let itself : slice_cmp nat_cmp p p ≡ Less = nat_list_cmp_total.trans p q p (is_less _ h) (is_less _ g) in
+    let itself : slice_cmp nat_cmp p p ≡ Less = nat_list_cmp_total.trans p q p (is_lt-Less _ h) (is_lt-Less _ g) in
     let tied : slice_cmp nat_cmp p p ≡ Equal = tied_itself nat_list_cmp_total p in
     absurd (cc)
 

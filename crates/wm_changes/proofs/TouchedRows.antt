@@ -2,13 +2,14 @@
 use Rattle.std.proofs.Common.{◌≡◌, ◌⊎◌, ℕ, ◌<◌, ◌^◌, ◌++◌, ◌==◌, ◌&&◌, not, Bool, true, false, cond, List, [], ◌∷◌, length, take, find, fold, map, if◌then◌else◌, Option, Some, None, option_and_then, append_assoc, refl, sym, ap, subst, ◌∙◌, inl, inr, arith}
 use Rattle.std.specs.Ordering.{nat_cmp}
 use Rattle.std.specs.declared.cmp.Ordering.TheVariants.{Less}
-use Rattle.std.proofs.lemmas.Bool.{and_parts, eq-eqb}
+use Rattle.std.proofs.lemmas.Bool.{and_parts, eq-eqb, and_from, eqb-true}
 use Rattle.std.proofs.lemmas.Bool.Decides.{nat_tests}
 use Rattle.std.proofs.lemmas.Cmp.{nat_cmp_total}
 use Rattle.std.proofs.lemmas.List.{take-append-drop}
 use Rattle.wm_base.specs.declared.job.EndCause.TheVariants as cause
 use Rattle.wm_base.specs.declared.job.StartCause.TheVariants as start
 use Rattle.wm_base.specs.declared.qname.QName.{QName}
+use Rattle.wm_base.proofs.Orderings.{lt-Less}
 use Rattle.wm_traits.specs.declared.row.Row.{Row}
 use Rattle.wm_traits.specs.declared.row.RowChange.{RowChange}
 use Rattle.wm_traits.specs.declared.row.RowChange.TheVariants.{Put}
@@ -21,7 +22,6 @@ use Rattle.wm_law.specs.declared.job.Job.{Job}
 use Rattle.wm_law.proofs.Members.{found_among, in_left, in_mapped, left_in, of_mapped}
 use Rattle.wm_law.proofs.Named.{one_name}
 use Rattle.wm_law.proofs.Named.{own_name as its_own}
-use Rattle.wm_law.proofs.Tests.{same_number}
 use Rattle.wm_job_rows.specs.JobText.{job_row}
 use Rattle.wm_job_rows.specs.Stored.{IsStored, stored_of, stored_phase}
 use Rattle.wm_job_rows.specs.declared.stored.StoredJob.{StoredJob}
@@ -89,15 +89,12 @@ same_phases : (p q : StoredPhase) → same_numbers (phase_numbers p) (phase_numb
 same_phases p q h =
     let both = and_parts ((phase_numbers p).0 == (phase_numbers q).0) ((phase_numbers p).1 == (phase_numbers q).1) h in
     sym (phase_back p)
-    ∙ ap (λ (n : ℕ). phase_with n (phase_numbers p).1) (same_number (phase_numbers p).0 (phase_numbers q).0 both.0)
-    ∙ ap (λ (n : ℕ). phase_with (phase_numbers q).0 n) (same_number (phase_numbers p).1 (phase_numbers q).1 both.1)
+    ∙ ap (λ (n : ℕ). phase_with n (phase_numbers p).1) (eqb-true (phase_numbers p).0 (phase_numbers q).0 both.0)
+    ∙ ap (λ (n : ℕ). phase_with (phase_numbers q).0 n) (eqb-true (phase_numbers p).1 (phase_numbers q).1 both.1)
     ∙ phase_back q
 
-both_true : (a b : Bool) → a ≡ true → b ≡ true → (a && b) ≡ true
-both_true a b e f = ap (λ (t : Bool). t && b) e ∙ f
-
 numbers_itself : (a : ℕ × ℕ) → same_numbers a a ≡ true
-numbers_itself a = both_true (a.0 == a.0) (a.1 == a.1) (eq-eqb a.0 a.0 refl) (eq-eqb a.1 a.1 refl)
+numbers_itself a = and_from (a.0 == a.0) (a.1 == a.1) (eq-eqb a.0 a.0 refl) (eq-eqb a.1 a.1 refl)
 
 same_flags : (a b : Bool) → same_flag a b ≡ true → a ≡ b
 same_flags true b h = sym h
@@ -132,10 +129,10 @@ stored_same w j h =
     let one = and_parts (same_numbers (phase_numbers (stored_phase w.phase)) (phase_numbers (stored_phase j.phase))) (same_flag w.held j.held) two.0 in
     ap (λ (p : StoredPhase). with_values p w.held w.due w.jobq w.pty w.place j) (same_phases (stored_phase w.phase) (stored_phase j.phase) one.0)
     ∙ ap (λ (f : Bool). with_values (stored_phase j.phase) f w.due w.jobq w.pty w.place j) (same_flags w.held j.held one.1)
-    ∙ ap (λ (n : ℕ). with_values (stored_phase j.phase) j.held n w.jobq w.pty w.place j) (same_number w.due j.due two.1)
+    ∙ ap (λ (n : ℕ). with_values (stored_phase j.phase) j.held n w.jobq w.pty w.place j) (eqb-true w.due j.due two.1)
     ∙ ap (λ (q : Option QName). with_values (stored_phase j.phase) j.held j.due q w.pty w.place j) (same_queues w.jobq j.jobq three.1)
-    ∙ ap (λ (n : ℕ). with_values (stored_phase j.phase) j.held j.due j.jobq n w.place j) (same_number w.pty j.pty four.1)
-    ∙ ap (λ (n : ℕ). with_values (stored_phase j.phase) j.held j.due j.jobq j.pty n j) (same_number w.place j.place five.1)
+    ∙ ap (λ (n : ℕ). with_values (stored_phase j.phase) j.held j.due j.jobq n w.place j) (eqb-true w.pty j.pty four.1)
+    ∙ ap (λ (n : ℕ). with_values (stored_phase j.phase) j.held j.due j.jobq j.pty n j) (eqb-true w.place j.place five.1)
 
 -- whether two stored jobs agree in these six values
 abbrev agree : StoredJob → StoredJob → Bool
@@ -149,11 +146,11 @@ agree a b =
 
 agree_itself : (a : StoredJob) → agree a a ≡ true
 agree_itself a =
-    both_true _ (a.place == a.place)
-    (both_true _ (a.pty == a.pty)
-    (both_true _ (same_queue a.jobq a.jobq)
-    (both_true _ (a.due == a.due)
-    (both_true (same_numbers (phase_numbers a.phase) (phase_numbers a.phase)) (same_flag a.held a.held) (numbers_itself (phase_numbers a.phase)) (flag_itself a.held))
+    and_from _ (a.place == a.place)
+    (and_from _ (a.pty == a.pty)
+    (and_from _ (same_queue a.jobq a.jobq)
+    (and_from _ (a.due == a.due)
+    (and_from (same_numbers (phase_numbers a.phase) (phase_numbers a.phase)) (same_flag a.held a.held) (numbers_itself (phase_numbers a.phase)) (flag_itself a.held))
     (eq-eqb a.due a.due refl))
     (queue_itself a.jobq))
     (eq-eqb a.pty a.pty refl))
@@ -198,7 +195,7 @@ one_job (x ∷ xs) j k up (inr i) (inl g) e =
 one_job (x ∷ xs) j k up (inr i) (inr m) e = one_job xs j k up.1 i m e
 
 find_by : (x : Job) (xs : List Job) (j : Job) (n : ℕ) (t : Bool) → (x.serial == n) ≡ t → (x.serial ≡ n → x ≡ j) → ((x.serial ≡ n → ⊥) → find (λ k. k.serial == n) xs ≡ Some j) → cond t (Some x) (find (λ k. k.serial == n) xs) ≡ Some j
-find_by x xs j n true e here later = ap (λ (k : Job). Some k) (here (same_number x.serial n e))
+find_by x xs j n true e here later = ap (λ (k : Job). Some k) (here (eqb-true x.serial n e))
 find_by x xs j n false e here later = later (λ same. (let yes : (x.serial == n) ≡ true = eq-eqb x.serial n same in absurd (cc)))
 
 found_job : (jobs : List Job) (j : Job) (n : ℕ) → IsIncreasing (serials jobs) → IsIn j jobs → j.serial ≡ n → find (λ k. k.serial == n) jobs ≡ Some j
@@ -271,7 +268,7 @@ found_by t p r None e old h = absurd (cc)
 found_by t p r (Some j) e old h =
     let among = found_among (λ (k : Job). k.serial == p.0) t.jobs j e in
     let is = other_by p.1 j r (is_stored_as p.1 j) refl h in
-    record { job = j; old = old; stands = among.0; serial = same_number j.serial p.0 among.1; other = is.0; is = is.1 }
+    record { job = j; old = old; stands = among.0; serial = eqb-true j.serial p.0 among.1; other = is.0; is = is.1 }
 
 old_by : (t : Table) (p : Pair) (r : Row) (b : Bool) → is_old (new_jobs t) p.0 ≡ b → cond b (option_and_then (other_row p.1) (find (λ j. j.serial == p.0) t.jobs)) None ≡ Some r → IsTouched t p r
 old_by t p r true e h = found_by t p r (find (λ j. j.serial == p.0) t.jobs) refl e h
@@ -305,9 +302,6 @@ in_touched t (q ∷ ps) p r (inr i) e = in_some (touched_row t q) (touched_rows 
 
 -- Their order
 
-less_of : (a b : ℕ) → nat_cmp a b ≡ Less → a < b
-less_of a b h = grind (arith, nat_tests)
-
 some_ascending : (o : Option Row) (rows : List Row) → ((r : Row) → o ≡ Some r → (q : Row) → IsIn q rows → is_before r q ≡ true) → IsAscending rows → IsAscending (with_some o rows)
 some_ascending None rows h up = up
 some_ascending (Some row) rows h up = (h row refl, up)
@@ -326,7 +320,7 @@ module _ (t : Table) (fits : (j : Job) → IsIn j t.jobs → j.serial < 2 ^ 64) 
       some_ascending (touched_row t p) (touched_rows t ps)
       (λ r e q i. (
       let m = of_touched t ps q i in
-      touched_before p m.0 r q (less_of p.0 m.0.0 (first_below (λ (x : Pair). x.0) nat_cmp nat_cmp_total p ps m.0 s m.1)) (touched_is t p r e) m.2))
+      touched_before p m.0 r q (lt-Less p.0 m.0.0 (first_below (λ (x : Pair). x.0) nat_cmp nat_cmp_total p ps m.0 s m.1)) (touched_is t p r e) m.2))
       (touched_ascending ps (rest_sorted (λ (x : Pair). x.0) nat_cmp nat_cmp_total p ps s))
 
 both_ascend : (xs ys : List Row) → IsAscending xs → IsAscending ys → ((r q : Row) → IsIn r xs → IsIn q ys → is_before r q ≡ true) → IsAscending (xs ++ ys)

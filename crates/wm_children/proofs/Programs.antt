@@ -2,6 +2,7 @@
 use Rattle.std.proofs.Common.{◌≡◌, ◌↔◌, ◌==◌, ◌||◌, inl, inr, ℕ, ◌<◌, ◌≤◌, ◌+◌, zero, suc, Bool, true, false, IsTrue, List, [], ◌∷◌, length, get_or, map, slice_get, Contains, Some, refl, sym, ◌∙◌, ap, arith}
 use Rattle.std.proofs.lemmas.Bool.{false≢true, or_cases, eqb-true, eq-eqb}
 use Rattle.std.specs.List.{remove, list_any}
+use Rattle.std.proofs.Math.Bool.{or-true}
 use Rattle.wm_children.specs.declared.started.Started.{Started}
 use Rattle.wm_children.specs.Programs.{serials_of}
 
@@ -10,10 +11,6 @@ pub map_remove : {A : Type 0} (f : A → ℕ) (xs : List A) (at : ℕ) → at < 
 map_remove f [] at below = absurd (omega (arith, below))
 map_remove f (x ∷ xs) zero below = refl
 map_remove f (x ∷ xs) (suc at) below = ap (λ (l : List ℕ). f x ∷ l) (map_remove f xs at (omega (arith, below)))
-
-or-true : (b : Bool) → (b || true) ≡ true
-or-true true = refl
-or-true false = refl
 
 any_among : (xs : List ℕ) (job : ℕ) → list_any (λ x. x == job) xs ≡ true → Contains xs job
 any_among [] job is = absurd (false≢true is)

@@ -65,7 +65,7 @@ reference_names library (Comment text) q l h = absurd h
 reference_names library Open q l h = absurd h
 reference_names library Close q l h = absurd h
 
-library_by : (c : Bool) → IsName (cond c (codes "QSYS") (codes "QGPL"))
+pub library_by : (c : Bool) → IsName (cond c (codes "QSYS") (codes "QGPL"))
 library_by true = refl
 library_by false = refl
 

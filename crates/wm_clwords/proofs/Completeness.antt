@@ -1,7 +1,7 @@
 -- What is spelled, the reader accepts.
 use Rattle.std.proofs.Common.{◌≡◌, ℕ, ◌+◌, ◌<◌, ◌++◌, ◌&&◌, not, Bool, true, false, cond, List, [], ◌∷◌, length, suc, eqb, ltb, Result, Ok, Err, subst, sym, ◌∙◌, ap, refl, arith}
 use Rattle.std.specs.List.{list_all, flat_map}
-use Rattle.std.proofs.lemmas.Bool.{and_parts, eqb-true, lt-ltb, false≢true}
+use Rattle.std.proofs.lemmas.Bool.{and_parts, eqb-true, lt-ltb, false≢true, not-true}
 use Rattle.std.proofs.lemmas.Bool.Decides.{nat_tests}
 use Rattle.std.proofs.lemmas.List.{length-append, append_assoc, append-nil, length-map, length_push}
 use Rattle.wm_base.specs.Text.{is_printable}
@@ -14,13 +14,10 @@ use Rattle.wm_clwords.specs.Quote.{doubled, doubled_byte, quoted}
 use Rattle.wm_clwords.specs.Grammar.{Token, Blank, Comment, Word, Quoted, Key, Open, Close, spelling, is_word_byte, begins_comment, is_word, is_comment_byte, is_unended, is_token, Next, Anything, ByWord, ByQuoted, MayStand, upper_byte, upper, Mark, mark_at, marks_from, Spells}
 use Rattle.wm_clwords.specs.Reading.{State, mark, Went, goes, opened, closed, at_word, in_comment, step_by, all_closed, finish_by, with_front, with_rest, run, begun}
 use Rattle.wm_clwords.proofs.GrammarLemmas.{upper-push, word_parts, word_push, word_one}
+use Rattle.wm_clwords.proofs.Runs.{front_nil}
 
 abbrev pub Marks : Type 0
 Marks = Result (List Mark) ClFault
-
-front_nil : (r : Marks) → with_front [] r ≡ r
-front_nil (Ok m) = refl
-front_nil (Err f) = refl
 
 -- a step that goes on
 went : (s : State) (marks : List Mark) (place : ℕ) (bytes : List ℕ) (ms : List Mark) → run s place bytes ≡ Ok ms → with_rest (Ok (s, marks)) (λ next. run next place bytes) ≡ Ok (marks ++ ms)
@@ -123,12 +120,8 @@ pub unended_tail : (b : ℕ) (text : List ℕ) → is_unended (b ∷ text) ≡ t
 unended_tail b [] h = refl
 unended_tail b (c ∷ text) h = (and_parts (not (eqb b 42 && eqb c 47)) (is_unended (c ∷ text)) h).1
 
-false_of : (b : Bool) → not b ≡ true → b ≡ false
-false_of false e = refl
-false_of true e = absurd (false≢true e)
-
 pub after_star : (b : ℕ) (text : List ℕ) → is_unended (42 ∷ b ∷ text) ≡ true → eqb b 47 ≡ false
-after_star b text h = false_of (eqb b 47) (and_parts (not (eqb b 47)) (is_unended (b ∷ text)) h).0
+after_star b text h = not-true (eqb b 47) (and_parts (not (eqb b 47)) (is_unended (b ∷ text)) h).0
 
 pub in_by : (b start : ℕ) (opens : List ℕ) (place : ℕ) (next : State → Marks) (r : Marks) (c : Bool) → eqb b 42 ≡ c → is_comment_byte b ≡ true
     → (eqb b 42 ≡ true → with_rest (goes AtStar start [] opens []) next ≡ r) → with_rest (goes InComment start [] opens []) next ≡ r → with_rest (in_comment start opens place b) next ≡ r

@@ -1,9 +1,10 @@
 -- What is known of tokens, one byte more.
 use Rattle.std.proofs.Common.{◌≡◌, ℕ, ◌++◌, ◌&&◌, not, Bool, true, false, List, [], ◌∷◌, eqb, sym, ◌∙◌, ap, refl}
 use Rattle.std.specs.List.{list_all}
-use Rattle.std.proofs.lemmas.Bool.{and_parts, and_from, eqb-true, false≢true}
+use Rattle.std.proofs.lemmas.Bool.{and_parts, and_from, eqb-true, false≢true, not-true}
 use Rattle.std.proofs.lemmas.List.{append_assoc, append-nil, map-append}
 use Rattle.std.proofs.lemmas.List.Folds.{list_all-append}
+use Rattle.wm_base.proofs.Tests.{not_both}
 use Rattle.wm_clwords.specs.Lines.{is_empty}
 use Rattle.wm_clwords.specs.Quote.{doubled, doubled_byte}
 use Rattle.wm_clwords.specs.Grammar.{is_word_byte, begins_comment, is_word, is_unended, upper_byte, upper}
@@ -37,10 +38,6 @@ some_push : (l : List ℕ) (x : ℕ) → not (is_empty (l ++ x ∷ [])) ≡ true
 some_push [] x = refl
 some_push (b ∷ l) x = refl
 
-false_of : (b : Bool) → not b ≡ true → b ≡ false
-false_of false e = refl
-false_of true e = absurd (false≢true e)
-
 not_false : (b : Bool) → b ≡ false → not b ≡ true
 not_false false e = refl
 not_false true e = absurd (false≢true (sym e))
@@ -49,7 +46,7 @@ pub word_parts : (l : List ℕ) → is_word l ≡ true → (not (is_empty l) ≡
 word_parts l h =
     let last = and_parts (not (is_empty l) && list_all is_word_byte l) (not (begins_comment l)) h in
     let front = and_parts (not (is_empty l)) (list_all is_word_byte l) last.0 in
-    (front.0, front.1, false_of (begins_comment l) last.1)
+    (front.0, front.1, not-true (begins_comment l) last.1)
 
 pub word_from : (l : List ℕ) → not (is_empty l) ≡ true → list_all is_word_byte l ≡ true → begins_comment l ≡ false → is_word l ≡ true
 word_from l a b c = and_from (not (is_empty l) && list_all is_word_byte l) (not (begins_comment l)) (and_from (not (is_empty l)) (list_all is_word_byte l) a b) (not_false (begins_comment l) c)
@@ -88,18 +85,13 @@ pair_no : (c d : Bool) → c ≡ false → not (c && d) ≡ true
 pair_no true d e = absurd (false≢true (sym e))
 pair_no false d e = refl
 
-pair_none : (c d : Bool) → d ≡ false → not (c && d) ≡ true
-pair_none true true e = absurd (false≢true (sym e))
-pair_none true false e = refl
-pair_none false d e = refl
-
 -- a byte other than `*` leaves the end open
 pub open_push : (l : List ℕ) (a : ℕ) → is_unended (l ++ a ∷ []) ≡ true → eqb a 42 ≡ false → IsOpenEnd (l ++ a ∷ [])
 open_push l a h e x = ap is_unended (append_assoc l (a ∷ []) (x ∷ [])) ∙ two_push l a x h (pair_no (eqb a 42) (eqb x 47) e)
 
 -- behind a `*` any byte but `/` may come
 pub star_push : (l : List ℕ) (a x : ℕ) → is_unended (l ++ a ∷ []) ≡ true → eqb x 47 ≡ false → is_unended ((l ++ a ∷ []) ++ x ∷ []) ≡ true
-star_push l a x h e = ap is_unended (append_assoc l (a ∷ []) (x ∷ [])) ∙ two_push l a x h (pair_none (eqb a 42) (eqb x 47) e)
+star_push l a x h e = ap is_unended (append_assoc l (a ∷ []) (x ∷ [])) ∙ two_push l a x h (not_both (eqb a 42) (eqb x 47) e)
 
 -- what was unended before
 pub unended_front : (l : List ℕ) (x : ℕ) → is_unended (l ++ x ∷ []) ≡ true → is_unended l ≡ true

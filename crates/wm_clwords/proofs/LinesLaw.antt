@@ -1,6 +1,6 @@
 -- The lines that a part gives are those of the whole input.
 use Rattle.std.proofs.Common.{◌≡◌, ℕ, ◌+◌, ◌≤◌, ◌++◌, ◌||◌, not, Bool, true, false, cond, List, [], ◌∷◌, Option, Some, None, is_some, OnSome, length, take, eqb, ltb, map, subst, sym, ◌∙◌, ap, refl, arith}
-use Rattle.std.proofs.lemmas.Bool.{and_parts, false≢true, eqb-true}
+use Rattle.std.proofs.lemmas.Bool.{and_parts, false≢true, eqb-true, not-true}
 use Rattle.std.specs.List.{list_all}
 use Rattle.std.proofs.lemmas.List.{append-nil}
 use Rattle.wm_clwords.specs.declared.line.Sign.{Sign}
@@ -69,7 +69,7 @@ ends_by part before line Minus e h =
 abbrev lines_at_end : Part → List (Option (List ℕ))
 lines_at_end part = cond (has_rest part) (ended_lines (answer (unsigned (with_cr part))) (finished (unsigned (with_cr part)))) []
 
-begun-going : (part : Part) → part.ended ≡ false → begun part ≡ part
+pub begun-going : (part : Part) → part.ended ≡ false → begun part ≡ part
 begun-going part e = ap (λ c. cond c fresh part) e
 
 ends_at : (part : Part) (before : Before) (line : List ℕ) → part.ended ≡ false → has_rest part ≡ true → Holds (with_cr part) before (kept_of (drops_of before) line)
@@ -211,7 +211,7 @@ cr_gone_by : (part : Part) (c : Bool) → part.cr ≡ c → (cond c (with_solid 
 cr_gone_by part true e = solid_cr (record part { cr = false }) 13 (ltb (length part.line) 8193)
 cr_gone_by part false e = e
 
-cr_gone : (part : Part) → (with_cr part).cr ≡ false
+pub cr_gone : (part : Part) → (with_cr part).cr ≡ false
 cr_gone part = cr_gone_by part part.cr refl
 
 byte_by : (part : Part) (before : Before) (line : List ℕ) (b : ℕ) (bytes : List ℕ) (c : Bool) → eqb b 13 ≡ c → Is part before line → Known bytes
@@ -285,15 +285,11 @@ end_short : (c : Bool) (o : Option LogicalLine) (part : Part) → length (cond c
 end_short true o part = ended_short o part
 end_short false o part = omega arith
 
-no_line_feed : (c : Bool) → not c ≡ true → c ≡ false
-no_line_feed false e = refl
-no_line_feed true e = absurd (false≢true e)
-
 -- bytes without an LF give one line at most
 pub length-lines_from : (part : Part) (more : List ℕ) → list_all is_no_line_feed more ≡ true → length (lines_from part more) ≤ 1
 length-lines_from part [] h = end_short (has_rest (begun part)) (answer (at_end part)) (finished (at_end part))
 length-lines_from part (b ∷ more) h =
     let w = and_parts (is_no_line_feed b) (list_all is_no_line_feed more) h in
-    let e : eqb b 10 ≡ false = no_line_feed (eqb b 10) w.0 in
+    let e : eqb b 10 ≡ false = not-true (eqb b 10) w.0 in
     subst (λ (c : Bool). length (cond c (ended_lines (answer (at_line_feed part)) (finished (at_line_feed part)) ++ lines_from (finished (at_line_feed part)) more) (lines_from (with_byte (begun part) b) more)) ≤ 1) (sym e)
     (length-lines_from (with_byte (begun part) b) more w.1)

@@ -8,6 +8,7 @@ use Rattle.std.proofs.lemmas.List.Folds.{list_all-append}
 use Rattle.wm_base.specs.Name.{begins_name, continues_name, IsName}
 use Rattle.wm_base.specs.QName.{qname_text}
 use Rattle.wm_base.specs.declared.qname.QName.{QName}
+use Rattle.wm_base.proofs.Names.{continues-name}
 use Rattle.wm_clwords.specs.Grammar.{is_word_byte, begins_comment, is_word, upper_byte, upper}
 use Rattle.wm_clwords.proofs.GrammarLemmas.{word_from}
 
@@ -32,13 +33,10 @@ word_all (b ∷ bytes) h =
     let both = and_parts (continues_name b) (list_all continues_name bytes) h in
     and_from (is_word_byte b) (list_all is_word_byte bytes) (word_of b both.0) (word_all bytes both.1)
 
-continues : (name : List ℕ) → IsName name → list_all continues_name name ≡ true
-continues name h = (and_parts _ (list_all continues_name name) (and_parts _ _ h).0).1
-
 begins : (name : List ℕ) → IsName name → begins_name (slice_index name 0) ≡ true
 begins name h = (and_parts _ (begins_name (slice_index name 0)) h).1
 
-no_comment : (b : ℕ) (bytes : List ℕ) → eqb b 47 ≡ false → begins_comment (b ∷ bytes) ≡ false
+pub no_comment : (b : ℕ) (bytes : List ℕ) → eqb b 47 ≡ false → begins_comment (b ∷ bytes) ≡ false
 no_comment b [] e = refl
 no_comment b (next ∷ bytes) e = ap (λ c. c && eqb next 42) e
 
@@ -50,11 +48,11 @@ name_word_by : (name bytes : List ℕ) → IsName name → list_all is_word_byte
 name_word_by [] bytes h e = absurd (false≢true h)
 name_word_by (b ∷ name) bytes h e =
     word_by b (name ++ bytes)
-    (list_all-append is_word_byte (b ∷ name) bytes ∙ and_from (list_all is_word_byte (b ∷ name)) (list_all is_word_byte bytes) (word_all (b ∷ name) (continues (b ∷ name) h)) e)
+    (list_all-append is_word_byte (b ∷ name) bytes ∙ and_from (list_all is_word_byte (b ∷ name)) (list_all is_word_byte bytes) (word_all (b ∷ name) (continues-name (b ∷ name) h)) e)
     (begins (b ∷ name) h)
 
 pub upper_name : (name : List ℕ) → IsName name → upper name ≡ name
-upper_name name h = upper_all name (continues name h)
+upper_name name h = upper_all name (continues-name name h)
 
 pub word_name : (name : List ℕ) → IsName name → is_word name ≡ true
 word_name name h = ap is_word (sym (append-nil name)) ∙ name_word_by name [] h refl
@@ -65,4 +63,4 @@ upper_qname q l n =
     ∙ ap (λ x. (x ++ 47 ∷ []) ++ upper q.name) (upper_name q.lib l) ∙ ap (λ x. (q.lib ++ 47 ∷ []) ++ x) (upper_name q.name n)
 
 pub word_qname : (q : QName) → IsName q.lib → IsName q.name → is_word (qname_text q) ≡ true
-word_qname q l n = ap is_word (append_assoc q.lib (47 ∷ []) q.name) ∙ name_word_by q.lib (47 ∷ q.name) l (word_all q.name (continues q.name n))
+word_qname q l n = ap is_word (append_assoc q.lib (47 ∷ []) q.name) ∙ name_word_by q.lib (47 ∷ q.name) l (word_all q.name (continues-name q.name n))

@@ -1,6 +1,6 @@
 -- What a part stands for: what was joined, and the bytes of the physical line.
 use Rattle.std.proofs.Common.{◌≡◌, ◌⊎◌, ℕ, ◌-◌, ◌+◌, ◌<◌, ◌≤◌, ◌++◌, ◌&&◌, ◌||◌, not, Bool, true, false, cond, List, [], ◌∷◌, Some, None, is_some, length, take, ltb, subst, sym, ◌∙◌, ap, refl, arith, inl, inr}
-use Rattle.std.proofs.lemmas.Bool.{ltb-true, ltb-false, lt-ltb, le-ltb, false≢true}
+use Rattle.std.proofs.lemmas.Bool.{ltb-true, ltb-false, lt-ltb, le-ltb, false≢true, or_parts, and_parts, not-false}
 use Rattle.std.proofs.lemmas.List.{length-append, append_assoc, append-nil, take_all, length_push, take-append-le, length-take, take-take}
 use Rattle.std.proofs.Math.Seq.{take-append-add}
 use Rattle.wm_clwords.specs.declared.line.Sign.{Sign}
@@ -48,24 +48,10 @@ is_empty-long : (l : List ℕ) → 8193 ≤ length l → is_empty l ≡ false
 is_empty-long [] h = absurd (omega arith)
 is_empty-long (b ∷ l) h = refl
 
-both_true : (a b : Bool) → (a && b) ≡ true → (a ≡ true) × (b ≡ true)
-both_true true true e = (refl, refl)
-both_true true false e = absurd (false≢true e)
-both_true false b e = absurd (false≢true e)
-
-neither : (a b : Bool) → (a || b) ≡ false → (a ≡ false) × (b ≡ false)
-neither false false e = (refl, refl)
-neither true b e = absurd (false≢true (sym e))
-neither false true e = absurd (false≢true (sym e))
-
 is_full : (a b : Bool) → (a || not b) ≡ true → a ≡ false → b ≡ false
 is_full false false e f = refl
 is_full false true e f = absurd (false≢true e)
 is_full true b e f = absurd (false≢true (sym f))
-
-has_room : (b : Bool) → not b ≡ false → b ≡ true
-has_room true e = refl
-has_room false e = absurd (false≢true (sym e))
 
 drops_none : (before : Before) → is_some before ≡ false → drops_of before ≡ false
 drops_none None e = refl
@@ -79,7 +65,7 @@ and_push false kept x = refl
 blank_by : (part : Part) (before : Before) (kept : List ℕ) (x : ℕ) (c s : Bool) → is_blank x ≡ true
     → (part.skips || not (ltb (length part.line) 8193)) ≡ c → (drops_of before && is_empty kept) ≡ s → Holds part before kept
     → Holds (cond c part (record part { line = part.line ++ x ∷ [] })) before (cond s [] (kept ++ x ∷ []))
-blank_by part before kept x true true blank e f h = subst (λ (k : List ℕ). Holds part before k) (nil_of kept (both_true (drops_of before) (is_empty kept) f).1) h
+blank_by part before kept x true true blank e f h = subst (λ (k : List ℕ). Holds part before k) (nil_of kept (and_parts (drops_of before) (is_empty kept) f).1) h
 blank_by part before kept x true false blank e f h =
     let same : end_trimmed (kept ++ x ∷ []) ≡ end_trimmed kept = end_trimmed-push kept x ∙ rw blank refl in
     let full : part.skips ≡ false → 8193 ≤ length part.line = λ skips. ltb-false (length part.line) 8193 (is_full part.skips _ e skips) in
@@ -102,19 +88,19 @@ blank_by part before kept x true false blank e f h =
       long = λ u. subst (λ (t : List ℕ). IsLong (front_of before) t) (sym same) (h.long u);
     }
 blank_by part before kept x false true blank e f h =
-    let open_now = neither part.skips (not (ltb (length part.line) 8193)) e in
+    let open_now = or_parts part.skips (not (ltb (length part.line) 8193)) e in
     record {
       joins = h.joins;
-      sign = h.sign ∙ ap (λ k. sign_of (end_trimmed k)) (nil_of kept (both_true (drops_of before) (is_empty kept) f).1);
+      sign = h.sign ∙ ap (λ k. sign_of (end_trimmed k)) (nil_of kept (and_parts (drops_of before) (is_empty kept) f).1);
       going = h.going;
-      starts = λ u. absurd (false≢true (sym (drops_none before (sym h.joins ∙ u)) ∙ (both_true (drops_of before) (is_empty kept) f).0));
+      starts = λ u. absurd (false≢true (sym (drops_none before (sym h.joins ∙ u)) ∙ (and_parts (drops_of before) (is_empty kept) f).0));
       short = λ u. absurd (false≢true (sym open_now.0 ∙ (h.short u).skips ∙ f));
-      long = λ u. subst (λ (k : List ℕ). IsLong (front_of before) (end_trimmed k)) (nil_of kept (both_true (drops_of before) (is_empty kept) f).1) (h.long u);
+      long = λ u. subst (λ (k : List ℕ). IsLong (front_of before) (end_trimmed k)) (nil_of kept (and_parts (drops_of before) (is_empty kept) f).1) (h.long u);
     }
 blank_by part before kept x false false blank e f h =
     let same : end_trimmed (kept ++ x ∷ []) ≡ end_trimmed kept = end_trimmed-push kept x ∙ rw blank refl in
-    let open_now = neither part.skips (not (ltb (length part.line) 8193)) e in
-    let room : length part.line < 8193 = ltb-true (length part.line) 8193 (has_room _ open_now.1) in
+    let open_now = or_parts part.skips (not (ltb (length part.line) 8193)) e in
+    let room : length part.line < 8193 = ltb-true (length part.line) 8193 (not-false _ open_now.1) in
     record {
       joins = h.joins;
       sign = h.sign ∙ ap sign_of (sym same);

@@ -1,7 +1,7 @@
 -- What is shown of a row's key, made of what the key has, keeps the form and the range of the row.
 use Rattle.std.proofs.Common.{◌≡◌, ℕ, ◌&&◌, ◌||◌, Bool, true, false, not, cond, nat_le, List, [], ◌∷◌, Option, Some, None, IfSome, subst, sym, ◌∙◌, ap, refl, arith}
 use Rattle.std.specs.List.{list_all, list_any}
-use Rattle.std.proofs.lemmas.Bool.{and_parts, false≢true}
+use Rattle.std.proofs.lemmas.Bool.{and_parts, false≢true, not-true, or_right, or_left}
 use Rattle.std.proofs.lemmas.Bool.Decides.{nat_tests}
 use Rattle.wm_base.specs.Text.{IsText}
 use Rattle.wm_base.specs.declared.qname.QName.{QName}
@@ -30,7 +30,7 @@ use Rattle.wm_command.specs.Printed.{IsQualified, FitsCompare, FitsRow, FitRows,
 use Rattle.wm_command.specs.Table.{plain, or_word}
 use Rattle.wm_command.specs.Values.{is_never}
 use Rattle.wm_command.proofs.ReadForms.{InKind, InRow, may_lack, row_of}
-use Rattle.wm_command.proofs.TableForms.{Has, AllHave, false_of}
+use Rattle.wm_command.proofs.TableForms.{Has, AllHave}
 
 -- a priority's number is from 1 to 9, and any other is as it was given
 abbrev pub number_by : Key → ℕ → ℕ
@@ -208,23 +208,15 @@ row_fits row g made sbsd text h =
     let both = and_parts (not (may_lack row.otherwise) && is_shown row.kind) (is_right_priority row.key row.kind) made in
     let own = and_parts (not (may_lack row.otherwise)) (is_shown row.kind) both.0 in
     lift (λ o. PrintableOf row.kind (shown_value row.key row.kind row.special (sbsd_of g) o) → FitsRow row (shown_value row.key row.kind row.special (sbsd_of g) o)) row g
-    (λ v i t. value_fits row.key row.kind row.special row.otherwise (sbsd_of g) v (false_of (may_lack row.otherwise) own.0) own.1 both.1 (λ e. sbsd (ap is_sbsd e)) t i) h text
-
-or_first : (a b : Bool) → a ≡ true → (a || b) ≡ true
-or_first true b h = refl
-or_first false b h = absurd (false≢true h)
-
-or_second : (a b : Bool) → b ≡ true → (a || b) ≡ true
-or_second true b h = refl
-or_second false b h = h
+    (λ v i t. value_fits row.key row.kind row.special row.otherwise (sbsd_of g) v (not-true (may_lack row.otherwise) own.0) own.1 both.1 (λ e. sbsd (ap is_sbsd e)) t i) h text
 
 pub rows_fit : (rows : List Row) (g : List Given) → AllHave rows g → list_all is_made rows ≡ true → (has_class rows ≡ true → IsQualified (sbsd_of g)) → TextsOf rows g → FitRows rows (shown_of rows g)
 rows_fit [] g have made sbsd texts = tt
 rows_fit (row ∷ rows) g have made sbsd texts =
     let own = and_parts (is_made row) (list_all is_made rows) made in
     let t = both_texts row.kind (shown_value row.key row.kind row.special (sbsd_of g) (value_of row.key g)) (TextsOf rows g) texts in (
-      row_fits row g own.0 (λ e. sbsd (or_first (is_sbsd row.special) (has_class rows) e)) t.0 have.0,
-      rows_fit rows g have.1 own.1 (λ e. sbsd (or_second (is_sbsd row.special) (has_class rows) e)) t.1,
+      row_fits row g own.0 (λ e. sbsd (or_left (is_sbsd row.special) (has_class rows) e)) t.0 have.0,
+      rows_fit rows g have.1 own.1 (λ e. sbsd (or_right (is_sbsd row.special) (has_class rows) e)) t.1,
     )
 
 -- of the keys that have what their rows take, those that are shown

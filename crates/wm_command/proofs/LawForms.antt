@@ -3,6 +3,7 @@ use Rattle.std.proofs.Common.{◌≡◌, ℕ, ◌&&◌, Bool, true, false, List,
 use Rattle.std.specs.Prelude.{slice_index_or}
 use Rattle.std.specs.List.{list_all}
 use Rattle.std.proofs.lemmas.Bool.Decides.{nat_tests}
+use Rattle.std.proofs.lemmas.Bool.{and_from}
 use Rattle.wm_base.specs.Name.{IsName}
 use Rattle.wm_base.specs.Text.{IsText}
 use Rattle.wm_base.specs.declared.limit.Limit.{Limit}
@@ -35,11 +36,6 @@ use Rattle.wm_command.specs.Control.{endsbs_values, strpj_values, endpj_values, 
 use Rattle.wm_command.specs.Jobs.{sbmjob_values, chgjob_values, endjob_values}
 use Rattle.wm_command.specs.Table.{or_word, change_rows}
 use Rattle.wm_command.proofs.Back.{nine_are}
-
-both : (a b : Bool) → a ≡ true → b ≡ true → (a && b) ≡ true
-both true true e f = refl
-both true false e f = absurd (cc)
-both false b e f = absurd (cc)
 
 qualified : (q : QName) → IsQualified q → IsQName q
 qualified q h = record { lib = h.0; name = h.1 }
@@ -103,13 +99,13 @@ nine : (l : List Limit) → length l ≡ 9
     → list_all (limit_within 0 99) l ≡ true
 nine l h p q r s t u v w x =
     subst (λ (m : List Limit). list_all (limit_within 0 99) m ≡ true) (nine_are l h)
-    (both _ _ p (both _ _ q (both _ _ r (both _ _ s (both _ _ t (both _ _ u (both _ _ v (both _ _ w (both _ _ x refl)))))))))
+    (and_from _ _ p (and_from _ _ q (and_from _ _ r (and_from _ _ s (and_from _ _ t (and_from _ _ u (and_from _ _ v (and_from _ _ w (and_from _ _ x refl)))))))))
 
 pub machine_command : (c : Command) → IsFit c → IsCommand c
 unfolding change_rows crtcls_values crtpgmref_values crtjobd_values crtsbsd_values addjobqe_values addrtge_values addaje_values addpje_values rmvjobqe_values rmvrtge_values rmvaje_values rmvpje_values endsbs_values sbmjob_values chgjob_values endjob_values strpj_values endpj_values evoke_values pwrdwnsys_values
 machine_command (command.Crtcls c) h =
     let v = h.values in
-    (qualified c.cls v.0, both _ _ (both _ _ v.1.0 v.1.1.0) (limit 1 9999999 c.dftwait v.1.1.1.0))
+    (qualified c.cls v.0, and_from _ _ (and_from _ _ v.1.0 v.1.1.0) (limit 1 9999999 c.dftwait v.1.1.1.0))
 machine_command (command.Crtjobq c) h = qualified c.jobq h.values.0
 machine_command (command.Crtpgmref c) h = let v = h.values in (qualified c.pgm v.0, v.1.0.0, v.1.0.1)
 machine_command (command.Crtjobd c) h =
@@ -120,7 +116,7 @@ machine_command (command.Crtjobd c) h =
       jobpty = between 1 9 c.jobpty v.1.1.0;
       rtgdta = v.1.1.1.0.0;
       rqsdta = request_text c.rqsdta v.1.1.1.1.0;
-      ranges = both _ _ v.1.1.1.0.1 (request_range c.rqsdta v.1.1.1.1.0);
+      ranges = and_from _ _ v.1.1.1.0.1 (request_range c.rqsdta v.1.1.1.1.0);
     }
 machine_command (command.Crtsbsd c) h = let v = h.values in (qualified c.sbsd v.0, limit 0 1000 c.maxjobs v.1.0)
 machine_command (command.Addjobqe c) h =
@@ -130,7 +126,7 @@ machine_command (command.Addjobqe c) h =
       sbsd = qualified c.sbsd v.0;
       jobq = qualified c.jobq v.1.0;
       maxpty = h.whole;
-      ranges = both _ _ (both _ _ v.1.1.1.0 (limit 0 1000 c.maxact v.1.1.0))
+      ranges = and_from _ _ (and_from _ _ v.1.1.1.0 (limit 0 1000 c.maxact v.1.1.0))
           (nine c.maxpty h.whole (limit 0 99 _ p.0) (limit 0 99 _ p.1.0) (limit 0 99 _ p.1.1.0) (limit 0 99 _ p.1.1.1.0)
           (limit 0 99 _ p.1.1.1.1.0) (limit 0 99 _ p.1.1.1.1.1.0) (limit 0 99 _ p.1.1.1.1.1.1.0) (limit 0 99 _ p.1.1.1.1.1.1.1.0)
           (limit 0 99 _ p.1.1.1.1.1.1.1.1.0));
@@ -142,7 +138,7 @@ machine_command (command.Addrtge c) h =
       pgm = qualified c.pgm v.1.1.1.0;
       cls = qualified c.cls v.1.1.1.1.0;
       cmpval = compared c.cmpval v.1.1.0;
-      ranges = both _ _ (both _ _ (both _ _ v.1.0 (compared_range c.cmpval v.1.1.0)) (limit 0 1000 c.maxact v.1.1.1.1.1.0)) v.1.1.1.1.1.1.0;
+      ranges = and_from _ _ (and_from _ _ (and_from _ _ v.1.0 (compared_range c.cmpval v.1.1.0)) (limit 0 1000 c.maxact v.1.1.1.1.1.0)) v.1.1.1.1.1.1.0;
     }
 machine_command (command.Addaje c) h = let v = h.values in record { sbsd = qualified c.sbsd v.0; job = v.1.0; jobd = qualified c.jobd v.1.1.0 }
 machine_command (command.Addpje c) h =
@@ -153,7 +149,7 @@ machine_command (command.Addpje c) h =
       sbsd = qualified c.sbsd v.0;
       pgm = qualified c.pgm v.1.0;
       cls = qualified c.cls n.1.1.1.1.1.1.0;
-      ranges = both _ _ (both _ _ (both _ _ (both _ _ (both _ _ n.0 n.1.0) (grind (arith, nat_tests))) (limit 1 9999 c.maxjobs n.1.1.1.0)) (limit 1 1000 c.maxuse n.1.1.1.1.0)) n.1.1.1.1.1.1.1.0;
+      ranges = and_from _ _ (and_from _ _ (and_from _ _ (and_from _ _ (and_from _ _ n.0 n.1.0) (grind (arith, nat_tests))) (limit 1 9999 c.maxjobs n.1.1.1.0)) (limit 1 1000 c.maxuse n.1.1.1.1.0)) n.1.1.1.1.1.1.1.0;
     }
 machine_command (command.Rmvjobqe c) h = let v = h.values in (qualified c.sbsd v.0, qualified c.jobq v.1.0)
 machine_command (command.Rmvrtge c) h = let v = h.values in (qualified c.sbsd v.0, between 1 9999 c.seqnbr v.1.0)

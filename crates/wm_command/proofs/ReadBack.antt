@@ -1,7 +1,7 @@
 -- The text that is printed of a command is read as that command.
 use Rattle.std.proofs.Common.{◌≡◌, ℕ, ◌≤◌, ◌+◌, ◌-◌, ◌++◌, ◌||◌, ◌&&◌, Bool, not, true, false, cond, List, [], ◌∷◌, length, map, Some, Ok, Err, lit≤, subst, sym, ◌∙◌, ap, refl, arith}
 use Rattle.std.specs.List.{flat_map, list_any}
-use Rattle.std.proofs.lemmas.Bool.{and_parts}
+use Rattle.std.proofs.lemmas.Bool.{and_parts, not-true}
 use Rattle.std.proofs.lemmas.List.{append_assoc, append-nil, length-append, map-append}
 use Rattle.wm_base.specs.Key.{key_word}
 use Rattle.wm_base.specs.Name.{IsName}
@@ -41,7 +41,7 @@ use Rattle.wm_command.specs.Table.{row_key, change_rows, change_word}
 use Rattle.wm_words.specs.Written.{place_of, key_of, listed}
 use Rattle.wm_command.proofs.Back.{shown_back}
 use Rattle.wm_command.proofs.PrintValues.{rows_room, row_laws, given_tokens, bare_text, prints_bare, prints_given, given_short}
-use Rattle.wm_command.proofs.TableForms.{row_by_key, same_rows, false_of}
+use Rattle.wm_command.proofs.TableForms.{row_by_key, same_rows}
 use Rattle.wm_command.proofs.ReadValues.{value_tokens, is_sound}
 
 -- what holds of each printed row of a table, behind keys that are given already
@@ -65,7 +65,7 @@ ready rows keys (row ∷ rest) e h =
     let both = and_parts (not (key_among row.key keys) && is_sound row.kind row.special) (is_ready (keys ++ row.key ∷ []) rest) h in
     let own = and_parts (not (key_among row.key keys)) (is_sound row.kind row.special) both.0 in
     let found = same_rows (row_by_key rows row) (Some row) (map (row_by_key rows) rest) (map Some rest) e in
-    (found.0, false_of (key_among row.key keys) own.0, own.1, ready rows (keys ++ row.key ∷ []) rest found.1 both.1)
+    (found.0, not-true (key_among row.key keys) own.0, own.1, ready rows (keys ++ row.key ∷ []) rest found.1 both.1)
 
 abbrev IsSome : List Row → Type 0
 IsSome [] = ⊥

@@ -36,6 +36,7 @@ use Rattle.wm_command.specs.Values.{kind_value, special_word, is_never, is_speci
 use Rattle.wm_words.specs.Words.{name_of, job_of, flag_of, ending_of, date_of, number_of, time_of}
 use Rattle.wm_words.proofs.Forms.{none_some, some_same, name_is, number_is, job_is, date_is, time_is}
 use Rattle.wm_words.specs.Written.{text_of, is_word, is_bare}
+use Rattle.wm_clwords.proofs.CallMeaning.{library_by}
 
 -- a value has the range of its kind; that its text is printable is no part of it
 abbrev pub InKind : Kind → Value → Type 0
@@ -97,10 +98,6 @@ object_is : (item : Item) (q : QName) → object_by (reference_of item) ≡ Some
 object_is item q e =
     let h : IsOne (λ token. IsObject token q) (item_tokens item) = object_some item (Some q) (sym e) in
     reference_is (codes "QGPL") h.0 q refl h.2
-
-library_by : (c : Bool) → IsName (cond c (codes "QSYS") (codes "QGPL"))
-library_by true = refl
-library_by false = refl
 
 program_is : (item : Item) (q : QName) → program_by (reference_of item) ≡ Some q → IsQualified q
 program_is item q e =

@@ -2,7 +2,7 @@
 use Rattle.std.proofs.Common.{◌≡◌, ℕ, ◌<◌, ◌&&◌, drop, Bool, true, false, not, cond, nat_lt, nat_eq, List, [], ◌∷◌, Some, None, Ok, subst, sym, ◌∙◌, ap, refl, arith, codes, inl, inr}
 use Rattle.std.specs.Cmp.Lexicographic.{pointwise}
 use Rattle.std.specs.Fmt.{decimal}
-use Rattle.std.proofs.lemmas.Bool.{and_parts, false≢true}
+use Rattle.std.proofs.lemmas.Bool.{and_parts, false≢true, not-true}
 use Rattle.wm_base.specs.QName.{qname_text}
 use Rattle.wm_base.specs.declared.qname.QName.{QName}
 use Rattle.wm_clwords.specs.declared.tree.Span.{Span}
@@ -96,19 +96,15 @@ is_own w =
     not (pointwise nat_eq w (codes "*NOMAX")) && not (pointwise nat_eq w (codes "*NONE")) && not (pointwise nat_eq w (codes "*JOBD"))
     && not (pointwise nat_eq w (codes "*SAME")) && not (pointwise nat_eq w (codes "*NOLIMIT")) && not (pointwise nat_eq w (codes "*SBSD"))
 
-false_of : (b : Bool) → not b ≡ true → b ≡ false
-false_of false e = refl
-false_of true e = absurd (false≢true e)
-
 pub own_special : (s : Special) (span : Span) (w : List ℕ) → is_own w ≡ true → is_special s (ItemWord span w) ≡ false
 unfolding special_word
 own_special special.Never span w h = refl
-own_special special.Sbsd span w h = false_of (pointwise nat_eq w (codes "*SBSD")) (and_parts _ _ h).1
-own_special special.Nolimit span w h = false_of (pointwise nat_eq w (codes "*NOLIMIT")) (and_parts _ _ (and_parts _ _ h).0).1
-own_special special.Same span w h = false_of (pointwise nat_eq w (codes "*SAME")) (and_parts _ _ (and_parts _ _ (and_parts _ _ h).0).0).1
-own_special special.Jobd span w h = false_of (pointwise nat_eq w (codes "*JOBD")) (and_parts _ _ (and_parts _ _ (and_parts _ _ (and_parts _ _ h).0).0).0).1
-own_special special.None span w h = false_of (pointwise nat_eq w (codes "*NONE")) (and_parts _ _ (and_parts _ _ (and_parts _ _ (and_parts _ _ (and_parts _ _ h).0).0).0).0).1
-own_special special.Nomax span w h = false_of (pointwise nat_eq w (codes "*NOMAX")) (and_parts _ _ (and_parts _ _ (and_parts _ _ (and_parts _ _ (and_parts _ _ h).0).0).0).0).0
+own_special special.Sbsd span w h = not-true (pointwise nat_eq w (codes "*SBSD")) (and_parts _ _ h).1
+own_special special.Nolimit span w h = not-true (pointwise nat_eq w (codes "*NOLIMIT")) (and_parts _ _ (and_parts _ _ h).0).1
+own_special special.Same span w h = not-true (pointwise nat_eq w (codes "*SAME")) (and_parts _ _ (and_parts _ _ (and_parts _ _ h).0).0).1
+own_special special.Jobd span w h = not-true (pointwise nat_eq w (codes "*JOBD")) (and_parts _ _ (and_parts _ _ (and_parts _ _ (and_parts _ _ h).0).0).0).1
+own_special special.None span w h = not-true (pointwise nat_eq w (codes "*NONE")) (and_parts _ _ (and_parts _ _ (and_parts _ _ (and_parts _ _ (and_parts _ _ h).0).0).0).0).1
+own_special special.Nomax span w h = not-true (pointwise nat_eq w (codes "*NOMAX")) (and_parts _ _ (and_parts _ _ (and_parts _ _ (and_parts _ _ (and_parts _ _ h).0).0).0).0).0
 
 quoted_special : (s : Special) (span : Span) (t : List ℕ) → is_special s (ItemQuoted span t) ≡ false
 quoted_special special.Never span t = refl

@@ -2,11 +2,12 @@
 use Rattle.std.proofs.Common.{◌≡◌, ℕ, ◌++◌, ◌||◌, ◌&&◌, Bool, true, false, not, cond, List, [], ◌∷◌, length, map, find, Option, Some, None, Result, Ok, Err, subst, sym, ◌∙◌, ap, refl}
 use Rattle.std.specs.List.{list_all}
 use Rattle.std.specs.Option.{option_map}
-use Rattle.std.proofs.lemmas.Bool.{and_parts, false≢true}
+use Rattle.std.proofs.lemmas.Bool.{and_parts, false≢true, not-true, or_right}
 use Rattle.std.proofs.lemmas.Slice.Eq.{bytes_eq-Decides}
 use Rattle.wm_base.specs.Key.{key_word}
 use Rattle.wm_base.specs.Name.{is_name}
 use Rattle.wm_base.specs.declared.refusal.Key.{Key}
+use Rattle.wm_base.proofs.Tests.{or_more}
 use Rattle.wm_clwords.specs.declared.tree.Item.{Item}
 use Rattle.wm_when.specs.Schedule.{within, date_in_range, time_in_range}
 use Rattle.wm_command.specs.declared.fault.CmdFault.{CmdFault}
@@ -113,10 +114,6 @@ no_err false e r out h = h
 same_word : (a b : List ℕ) → same a b ≡ true → a ≡ b
 same_word a b h = (bytes_eq-Decides a b).0 h
 
-pub false_of : (b : Bool) → not b ≡ true → b ≡ false
-false_of false e = refl
-false_of true e = absurd (false≢true e)
-
 same_self : (a : List ℕ) → same a a ≡ true
 same_self a = (bytes_eq-Decides a a).1 refl
 
@@ -200,20 +197,12 @@ answer_in row (Ok (value.Special s)) v h e = absurd (false≢true h)
 answer_in row (Ok w) v h e = subst (InRow row) (ok_same w v e) (of_kind row.kind w h)
 
 default_in : (key : Key) (k : Kind) (s : Special) (d : Default) (v : Value) → is_right_default key k s d ≡ true → default_value d key s ≡ Ok v → InRow (row_of key k s d) v
-default_in key k s default.Special v h e = subst (InRow (row_of key k s default.Special)) (ok_same (value.Special s) v e) (refl, false_of (is_never s) h)
+default_in key k s default.Special v h e = subst (InRow (row_of key k s default.Special)) (ok_same (value.Special s) v e) (refl, not-true (is_never s) h)
 default_in key k s d v h e = answer_in (row_of key k s d) (default_value d key s) v h e
 
 key_self : (k : Key) → same_key k k ≡ true
 unfolding same_key
 key_self k = same_self (key_word k)
-
-or_more : (c d e : Bool) → (d ≡ true → e ≡ true) → (c || d) ≡ true → (c || e) ≡ true
-or_more true d e f h = refl
-or_more false d e f h = f h
-
-or_last : (c d : Bool) → d ≡ true → (c || d) ≡ true
-or_last true d h = refl
-or_last false d h = h
 
 given_push : (k : Key) (given : List Given) (g : Given) → is_given k given ≡ true → is_given k (given ++ g ∷ []) ≡ true
 given_push k [] g h = absurd (false≢true h)
@@ -221,7 +210,7 @@ given_push k (x ∷ given) g h = or_more (same_key x.key k) (is_given k given) (
 
 given_last : (k : Key) (given : List Given) (v : Value) → is_given k (given ++ record { key = k; value = v } ∷ []) ≡ true
 given_last k [] v = ap (λ c. c || false) (key_self k)
-given_last k (x ∷ given) v = or_last (same_key x.key k) (is_given k (given ++ record { key = k; value = v } ∷ [])) (given_last k given v)
+given_last k (x ∷ given) v = or_right (same_key x.key k) (is_given k (given ++ record { key = k; value = v } ∷ [])) (given_last k given v)
 
 record Completed (rows : List Row) (key : Key) (given out : List Given) : Type 0 where
   all : AllIn rows out

@@ -4,8 +4,9 @@ use Rattle.wm_base.specs.Text.{IsText}
 use Rattle.wm_base.specs.Key.{key_word}
 use Rattle.wm_base.specs.declared.refusal.Key.{Key}
 use Rattle.wm_base.specs.declared.refusal.Key.TheVariants as key
+use Rattle.wm_base.proofs.Numbers.{padded_integral-zeros}
+use Rattle.wm_base.proofs.Texts.{IsText-decimal, IsText-zero_padded}
 use Rattle.wm_clwords.proofs.Names.{IsText-name}
-use Rattle.wm_words.proofs.Texts.{IsText-decimal, IsText-zero_padded, padded_integral-zeros}
 use Rattle.wm_command.specs.declared.row.Special.{Special}
 use Rattle.wm_command.specs.declared.row.Special.TheVariants as special
 use Rattle.wm_command.specs.declared.verb.ChangeVerb.{ChangeVerb}

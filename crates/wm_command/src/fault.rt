@@ -5,7 +5,7 @@ use thiserror::Error;
 use wm_base::Key;
 
 /// Why a tree is read as no command. Places are counted from 0.
-#[derive(Clone, Copy, Debug, PartialEq, Eq, Error)]
+#[derive(Clone, Copy, Debug, Error)]
 pub enum CmdFault {
     #[error("no such command")]
     UnknownCommand,

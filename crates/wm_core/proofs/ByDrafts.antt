@@ -6,6 +6,7 @@ use Rattle.std.proofs.Math.Nat.{min-le_left, min-le_right}
 use Rattle.std.proofs.lemmas.Bool.Decides.{nat_tests}
 use Rattle.std.proofs.lemmas.List.{take_more}
 use Rattle.std.proofs.lemmas.List.Elements.{filter_map-append}
+use Rattle.std.proofs.lemmas.Bool.{ltb-false}
 use Rattle.wm_base.specs.declared.qname.QName.{QName}
 use Rattle.wm_base.specs.declared.refusal.Refusal.{Refusal}
 use Rattle.wm_desc.specs.declared.description.Jobd.{Jobd}
@@ -89,13 +90,10 @@ last-refusal false false false true e v w x y z h = absurd (cc h)
 last-refusal false false false false true v w x y z h = absurd (cc h)
 last-refusal false false false false false v w x y z h = refl
 
-at_most : (a b : ℕ) → nat_lt a b ≡ false → b ≤ a
-at_most a b h = grind (arith, nat_tests)
-
 -- a subsystem that is started has numbers for its autostart jobs
 pub numbers-suffice : (s : State) (q : QName) → start_refusal s q ≡ None → (ds : List Draft) → ds ≡ drafts s.objects.jobds (autos_of s q) → length ds ≤ numbers_left s
 numbers-suffice s q h ds is =
-    let left = at_most (numbers_left s) (length (autos_of s q)) (last-refusal (not (is_on s.power)) (not (is_some (object_named q s.objects.sbsds))) (is_started s q.name) (nat_le max_started (length s.started)) (nat_lt (numbers_left s) (length (autos_of s q))) _ _ _ _ _ h) in
+    let left = ltb-false (numbers_left s) (length (autos_of s q)) (last-refusal (not (is_on s.power)) (not (is_some (object_named q s.objects.sbsds))) (is_started s q.name) (nat_le max_started (length s.started)) (nat_lt (numbers_left s) (length (autos_of s q))) _ _ _ _ _ h) in
     let few = few-drafts s.objects.jobds (autos_of s q) in
     let same = ap length is in
     omega arith

@@ -5,6 +5,7 @@ use Rattle.std.specs.Ordering.{nat_cmp}
 use Rattle.std.proofs.lemmas.Bool.Decides.{nat_tests}
 use Rattle.std.proofs.lemmas.List.Elements.{All-nil, All-cons, All-head, All-tail}
 use Rattle.std.proofs.lemmas.List.Kept.{AllPairs-cons}
+use Rattle.wm_base.proofs.Orderings.{Less-lt}
 use Rattle.wm_desc.specs.Sorted.{IsSortedOnce}
 use Rattle.wm_law.specs.declared.job.Job.{Job}
 use Rattle.wm_law.specs.declared.state.Sbs.{Sbs}
@@ -16,9 +17,6 @@ use Rattle.wm_law.specs.Sound.{HasNoneDue, IsIncreasing, IsSound}
 use Rattle.wm_law.proofs.Members.{in_mapped}
 use Rattle.wm_jobs.specs.Stored.{AreStored}
 use Rattle.wm_jobs.specs.Table.{serial_of}
-
-is-less : (a b : ℕ) → a < b → nat_cmp a b ≡ Less
-is-less a b lt = grind (arith, nat_tests)
 
 in-each : (P : Job → Type 0) (jobs : List Job) → ((j : Job) → IsIn j jobs → P j) → All P jobs
 in-each P [] holds = All-nil P
@@ -32,7 +30,7 @@ increasing-sorted : (jobs : List Job) → IsIncreasing (map serial_of jobs) → 
 increasing-sorted [] h = λ i j d lt in_range. absurd (omega arith)
 increasing-sorted (j ∷ js) h =
     AllPairs-cons (λ (x y : Job). nat_cmp x.serial y.serial ≡ Less) j js
-    (in-each (λ k. nat_cmp j.serial k.serial ≡ Less) js (λ k i. is-less j.serial k.serial (h.0 k.serial (in_mapped serial_of js k i))))
+    (in-each (λ k. nat_cmp j.serial k.serial ≡ Less) js (λ k i. Less-lt j.serial k.serial (h.0 k.serial (in_mapped serial_of js k i))))
     (increasing-sorted js h.1)
 
 pub sound-stored : (s : State) → IsSound s → All (λ (j : Job). is_active j.phase ≡ false) s.jobs → AreStored s.next_serial s.next_place s.jobs

@@ -3,6 +3,3 @@ use Rattle.std.specs.List.{All}
 use Rattle.wm_law.specs.Fit.{IsCommand}
 use Rattle.wm_law.specs.Opening.{opening_commands}
 use Rattle.wm_law.proofs.Opened as law
-
-pub commands_fit : All IsCommand opening_commands
-commands_fit = law.commands_fit

@@ -10,6 +10,7 @@ use Rattle.wm_base.specs.declared.refusal.Refusal.TheVariants.{Exists, TableFull
 use Rattle.wm_base.specs.declared.job.Class.{Class}
 use mathlib.Core.Bool.{true≢false}
 use Rattle.wm_base.specs.declared.job.StartOrder.{StartOrder}
+use Rattle.wm_base.proofs.Tests.{or_second}
 use Rattle.wm_desc.specs.declared.description.Jobd.{Jobd}
 use Rattle.wm_desc.specs.declared.description.Jobq.{Jobq}
 use Rattle.wm_desc.specs.declared.description.Program.{Program}
@@ -73,10 +74,6 @@ pub record IsBack (saved : Saved) (s t : State) : Type 0 where
   pub objects : old_objects saved t.objects ≡ s.objects
   pub held : old_held saved t.held ≡ s.held
   pub offset : t.offset_min ≡ s.offset_min
-
-second_of : (a b : Bool) → (a || b) ≡ false → b ≡ false
-second_of true b e = absurd (cc)
-second_of false b e = e
 
 module _ (P : Stepped → Type 0) where
   either : (b : Bool) (t u : Stepped) → P t → P u → P (cond b t u)
@@ -206,7 +203,7 @@ module _ (s : State) where
   new_object kind name objects none = test_fails ((has_object name objects, Exists kind) ∷ (is_full 1000 objects, TableFull kind 1000) ∷ []) 0 (Exists kind) none
 
   new_program : (name : QName) (programs : List (QName × Program)) → program_refusal name programs ≡ None → has_object name programs ≡ false
-  new_program name programs none = second_of (is_qcmd name) (has_object name programs) (test_fails ((is_qcmd name || has_object name programs, Exists kind.Pgm) ∷ (is_full 1000 programs, TableFull kind.Pgm 1000) ∷ []) 0 (Exists kind.Pgm) none)
+  new_program name programs none = or_second (is_qcmd name) (has_object name programs) (test_fails ((is_qcmd name || has_object name programs, Exists kind.Pgm) ∷ (is_full 1000 programs, TableFull kind.Pgm 1000) ∷ []) 0 (Exists kind.Pgm) none)
 
   class_made : (c : Crtcls) → IsBack (saved_object kind.Cls c.cls s.objects.classes) s (make_class s c).state
   class_made c =

@@ -5,7 +5,7 @@ ghost use Rattle.wm_law.specs.Built.{is_built};
 use wm_law::Command;
 
 /// A command isn't built yet.
-#[derive(Clone, Copy, Debug, PartialEq, Eq)]
+#[derive(Clone, Copy)]
 pub struct NotBuilt;
 
 fn is_built(command: &Command) -> bool

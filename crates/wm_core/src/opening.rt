@@ -10,7 +10,7 @@ use wm_making::opening_commands;
 use wm_when::Offset;
 
 /// What a machine opens with.
-#[derive(Clone, Copy, Debug, PartialEq, Eq)]
+#[derive(Clone, Copy)]
 pub struct Setup {
     /// The controlling subsystem.
     pub ctl: QName,

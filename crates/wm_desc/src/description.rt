@@ -4,17 +4,17 @@ use std::alloc::Global;
 use wm_base::{Class, Limit, Priority, QName, Text};
 
 /// A job queue.
-#[derive(Clone, Copy, PartialEq, Eq)]
+#[derive(Clone, Copy)]
 pub struct Jobq {}
 
 /// A program: where the one that is started lies.
-#[derive(Clone, PartialEq, Eq, Drop)]
+#[derive(Clone, Drop)]
 pub struct Program {
     pub path: Text,
 }
 
 /// A job description: what a submitted or autostart job gets where its command doesn't say.
-#[derive(Clone, PartialEq, Eq, Drop)]
+#[derive(Clone, Drop)]
 pub struct Jobd {
     pub jobq: QName,
     pub pty: Priority,
@@ -24,7 +24,7 @@ pub struct Jobd {
 }
 
 /// A subsystem description.
-#[derive(Clone, PartialEq, Eq, Drop)]
+#[derive(Clone, Drop)]
 pub struct Sbsd {
     pub maxjobs: Limit,
     pub queues: QueueEntries,

@@ -4,7 +4,7 @@ use wm_base::{Limit, Name, QName, Text};
 
 /// A job queue that feeds a subsystem (ADDJOBQE): its sequence number, how many of its jobs may be active, and how
 /// many with each priority.
-#[derive(Clone, Copy, PartialEq, Eq)]
+#[derive(Clone, Copy)]
 pub struct QueueEntry {
     pub seq: u32,
     pub jobq: QName,
@@ -14,7 +14,7 @@ pub struct QueueEntry {
 }
 
 /// What a routing entry compares with the routing data.
-#[derive(Clone, Debug, PartialEq, Eq, Drop)]
+#[derive(Clone, Debug, Drop)]
 pub enum Cmp {
     /// *ANY: all routing data match.
     Any,
@@ -35,7 +35,7 @@ impl Cmp {
 }
 
 /// A routing entry (ADDRTGE): which program and class a job with matching routing data gets.
-#[derive(Clone, PartialEq, Eq, Drop)]
+#[derive(Clone, Drop)]
 pub struct RouteEntry {
     pub seq: u32,
     pub cmp: Cmp,
@@ -47,14 +47,14 @@ pub struct RouteEntry {
 }
 
 /// A job that starts with its subsystem (ADDAJE).
-#[derive(Clone, Copy, PartialEq, Eq)]
+#[derive(Clone, Copy)]
 pub struct AutoEntry {
     pub job: Name,
     pub jobd: QName,
 }
 
 /// Jobs of a program that start before their requests come (ADDPJE).
-#[derive(Clone, Copy, PartialEq, Eq)]
+#[derive(Clone, Copy)]
 pub struct PreEntry {
     pub pgm: QName,
     pub strjobs: bool,

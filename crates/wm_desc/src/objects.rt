@@ -5,7 +5,7 @@ use std::alloc::Global;
 use wm_base::{Class, Kind, Limit, QName, Text};
 
 /// The objects: one description for each qualified name of a kind.
-#[derive(Clone, PartialEq, Eq, Drop)]
+#[derive(Clone, Drop)]
 pub struct Objects {
     pub classes: Classes,
     pub jobqs: Jobqs,

@@ -1,8 +1,6 @@
 // Lists sorted by a key.
 ghost use Rattle.std.specs.Prelude.{◌≡◌, ◌↔◌, [], false, length, IsTrue, OnOk, OnErr, option_copied, MatchResult};
 ghost use Rattle.std.specs.Ordering.{is_lt};
-ghost use Rattle.std.specs.Cmp.Lexicographic.{pointwise, lists_per};
-ghost use Rattle.std.proofs.lemmas.Cmp.{lists_equiv};
 ghost use Rattle.wm_desc.specs.Sorted.{IsSortedOnce, with_key, has_key, added, removed};
 ghost use Rattle.wm_desc.specs.Place.{IsAt, IsGap};
 
@@ -169,18 +167,4 @@ impl<E: Keyed + ExactClone> Clone for SortedList<E> {
             items: self.items.clone()?,
         })
     }
-}
-
-impl<E: Keyed + PartialEq> PartialEq for SortedList<E> {
-    ghost eq = { pointwise E.eq };
-
-    ghost laws = { lists_per E.laws };
-
-    fn eq(&self, other: &SortedList<E>) -> bool {
-        self.items == other.items
-    }
-}
-
-impl<E: Keyed + Eq> Eq for SortedList<E> {
-    ghost laws = { lists_equiv E.Eq.laws };
 }

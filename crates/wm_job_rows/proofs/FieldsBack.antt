@@ -7,6 +7,7 @@ use Rattle.std.proofs.lemmas.Bool.Decides.{nat_tests}
 use Rattle.wm_base.specs.declared.qname.QName.{QName}
 use Rattle.wm_base.specs.Name.{IsName, continues_name}
 use Rattle.wm_base.specs.QName.{qname_text}
+use Rattle.wm_base.proofs.Names.{continues-name, qname_text-parts}
 use Rattle.wm_law.specs.declared.job.JobKind.{JobKind}
 use Rattle.wm_law.specs.declared.job.JobKind.TheVariants.{Bch, Asj, Pj}
 use Rattle.wm_job_rows.specs.declared.line.Names.{Names}
@@ -31,14 +32,11 @@ all_other byte f (b ∷ bytes) h =
     let both = and_parts (continues_name b) (list_all continues_name bytes) h in
     and_from (is_other byte b) (list_all (is_other byte) bytes) (f b both.0) (all_other byte f bytes both.1)
 
-continues : (name : List ℕ) → IsName name → list_all continues_name name ≡ true
-continues name h = (and_parts _ (list_all continues_name name) (and_parts _ _ h).0).1
-
 name_closed : (name : List ℕ) → IsName name → Lacks 41 name
-name_closed name h = all_other 41 lacks_begin name (continues name h)
+name_closed name h = all_other 41 lacks_begin name (continues-name name h)
 
 name_unslashed : (name : List ℕ) → IsName name → Lacks 47 name
-name_unslashed name h = all_other 47 lacks_slash name (continues name h)
+name_unslashed name h = all_other 47 lacks_slash name (continues-name name h)
 
 name_back : (name : List ℕ) → IsName name → name_of name ≡ Some name
 name_back name h = ap (λ c. cond c (Some name) None) h
@@ -139,17 +137,14 @@ kind_back Bch = refl
 kind_back Asj = refl
 kind_back Pj = refl
 
-qname_parts : (q : QName) → qname_text q ≡ q.lib ++ 47 ∷ q.name
-qname_parts q = append_assoc q.lib (47 ∷ []) q.name
-
 jobq_closed : (queue : Option QName) → IsQueue queue → Lacks 41 (jobq_text queue)
 jobq_closed None h = refl
-jobq_closed (Some q) h = ap (list_all (is_other 41)) (qname_parts q) ∙ Lacks-append 41 q.lib (47 ∷ q.name) (name_closed q.lib h.0) (name_closed q.name h.1)
+jobq_closed (Some q) h = ap (list_all (is_other 41)) (qname_text-parts q) ∙ Lacks-append 41 q.lib (47 ∷ q.name) (name_closed q.lib h.0) (name_closed q.name h.1)
 
 -- a name doesn't begin with `*`
 no_star : (lib more : List ℕ) → IsName lib → same (lib ++ 47 ∷ more) (codes "*NONE") ≡ false
 no_star [] more h = refl
-no_star (b ∷ lib) more h = ap (λ c. c && same (lib ++ 47 ∷ more) (codes "NONE")) (other_star b (and_parts (continues_name b) (list_all continues_name lib) (continues (b ∷ lib) h)).0)
+no_star (b ∷ lib) more h = ap (λ c. c && same (lib ++ 47 ∷ more) (codes "NONE")) (other_star b (and_parts (continues_name b) (list_all continues_name lib) (continues-name (b ∷ lib) h)).0)
   where
     other_star : (b : ℕ) → continues_name b ≡ true → eqb b 42 ≡ false
     other_star b h = grind (arith, nat_tests)
@@ -158,7 +153,7 @@ jobq_back : (queue : Option QName) → IsQueue queue → jobq_of (jobq_text queu
 jobq_back None h = refl
 jobq_back (Some q) h =
     let u = name_unslashed q.lib h.0 in
-    ap jobq_of (qname_parts q)
+    ap jobq_of (qname_text-parts q)
     ∙ ap (λ c. cond c (Some None) (some_queue (qname_with (name_of (before 47 (q.lib ++ 47 ∷ q.name))) (name_of (behind 47 (q.lib ++ 47 ∷ q.name)))))) (no_star q.lib q.name h.0)
     ∙ (λ i. some_queue (qname_with (name_of (before_first 47 q.lib q.name u i)) (name_of (behind_first 47 q.lib q.name u i))))
     ∙ (λ i. some_queue (qname_with (name_back q.lib h.0 i) (name_back q.name h.1 i)))

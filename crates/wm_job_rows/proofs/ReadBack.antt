@@ -3,6 +3,7 @@ use Rattle.std.proofs.Common.{◌≡◌, ℕ, ◌+◌, ◌++◌, ◌&&◌, nat_e
 use Rattle.std.specs.Cmp.Lexicographic.{pointwise}
 use Rattle.std.proofs.Math.Seq.{drop-append-add}
 use Rattle.std.proofs.lemmas.Bool.{and_from, eq-eqb}
+use Rattle.wm_base.proofs.Tests.{bytes-itself}
 use Rattle.wm_clwords.specs.Quote.{doubled, quoted}
 use Rattle.wm_job_rows.specs.declared.stored.StoredJob.{StoredJob}
 use Rattle.wm_traits.specs.declared.row.Row.{Row}
@@ -76,17 +77,12 @@ or_that that (Some job) = job
 pub row_again : (row printed : Row) (job found : StoredJob) → IsStored job → job_row job ≡ row → read_text row.body ≡ Some found → printed ≡ job_row found → printed ≡ row
 row_again row printed job found h same read again = again ∙ ap (λ o. job_row (or_that found o)) (sym read ∙ row_back row job h same) ∙ same
 
--- rows that are the same are found the same
-itself : (text : List ℕ) → pointwise nat_eq text text ≡ true
-itself [] = refl
-itself (byte ∷ text) = and_from (nat_eq byte byte) (pointwise nat_eq text text) (eq-eqb byte byte refl) (itself text)
-
 abbrev pub same_row : Row → Row → Bool
 same_row a b = nat_eq a.tab b.tab && (pointwise nat_eq a.key b.key && pointwise nat_eq a.body b.body)
 
 pub row_found : (a b : Row) → a ≡ b → false ≡ same_row a b → ⊥
 row_found a b e wrong =
-    let both = and_from (pointwise nat_eq b.key b.key) (pointwise nat_eq b.body b.body) (itself b.key) (itself b.body) in
+    let both = and_from (pointwise nat_eq b.key b.key) (pointwise nat_eq b.body b.body) (bytes-itself b.key) (bytes-itself b.body) in
     let yes = and_from (nat_eq b.tab b.tab) (pointwise nat_eq b.key b.key && pointwise nat_eq b.body b.body) (eq-eqb b.tab b.tab refl) both in
     let never : false ≡ true = wrong ∙ ap (λ r. same_row r b) e ∙ yes in
     cc

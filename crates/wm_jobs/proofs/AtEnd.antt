@@ -4,6 +4,7 @@ use Rattle.std.specs.Ordering.{nat_cmp}
 use Rattle.std.proofs.lemmas.List.{length-append}
 use Rattle.std.proofs.lemmas.List.Elements.{All-nil, All-cons, All-append, All-weaker}
 use Rattle.std.proofs.lemmas.List.Folds.{list_any_none}
+use Rattle.wm_base.proofs.Tests.{eqb-lt}
 use Rattle.wm_active.specs.declared.acting.Acting.{Acting}
 use Rattle.wm_base.specs.declared.job.How.{How}
 use Rattle.wm_desc.specs.Sorted.{has_key, added}
@@ -24,9 +25,10 @@ use Rattle.wm_jobs.specs.Table.{Table, serial_of, is_busy}
 use Rattle.wm_jobs.specs.TableInside.{table_of, IsListed, AreListed, IsIndexed, HasRoom, HasNames, IsKept}
 use Rattle.wm_jobs.specs.declared.table.JobTable.TheInside.{Inside}
 use Rattle.wm_jobs.proofs.NameParts.{names-pushed}
-use Rattle.wm_jobs.proofs.Sifted.{lower_differs, picked-few, picked-keys, picked-length, pushed-lacks, pushed-comes, pushed-same}
+use Rattle.wm_jobs.proofs.Sifted.{picked-few, picked-keys, picked-length, pushed-lacks, pushed-comes, pushed-same}
 use Rattle.wm_jobs.proofs.Splits.{sorted-pushed}
-use Rattle.wm_jobs.proofs.JobParts.{waiting-inactive, waiting-unstarted, waiter-keyed, waiter-placed, order-keyed, order-none, active-keyed, active-none, hows-pushed, count-pushed}
+use Rattle.wm_jobs.proofs.JobParts.{waiting-unstarted, waiter-keyed, waiter-placed, order-keyed, order-none, active-keyed, active-none, hows-pushed, count-pushed}
+use Rattle.wm_law.proofs.InTurn.{not_active}
 
 pub same-tally : (hs : List How) (old new : Counts) → new.counts ≡ old.counts → IsTally hs old → IsTally hs new
 same-tally hs old new same h = λ k. ap (number_at same_counted k) same ∙ h k
@@ -79,7 +81,7 @@ module _ (t : Inside) (h : IsKept t) where
           ∙ (ap (λ n. has_key waiting.serial_of nat_eq n (waiters t.jobs.items)) (waiter-keyed j w picked ∙ serial_is) ∙ pushed-lacks serial_of waiter_of waiting.serial_of waiter-keyed t.next_serial t.jobs.items lower),
       ap (λ ws. has_place w.place ws) h.indexed.waiters_are
           ∙ (ap (λ n. has_place n (waiters t.jobs.items)) (waiter-placed j w picked ∙ place_is)
-          ∙ list_any_none (λ u. u.place == t.next_place) (waiters t.jobs.items) (All-weaker (λ (u : Waiter). u.place < t.next_place) (λ u. (u.place == t.next_place) ≡ false) (λ u lt. lower_differs u.place t.next_place lt) (waiters t.jobs.items) (picked-keys (λ k. k.place) waiter_of (λ u. u.place) waiter-placed (λ n. n < t.next_place) t.jobs.items places))),
+          ∙ list_any_none (λ u. u.place == t.next_place) (waiters t.jobs.items) (All-weaker (λ (u : Waiter). u.place < t.next_place) (λ u. (u.place == t.next_place) ≡ false) (λ u lt. eqb-lt u.place t.next_place lt) (waiters t.jobs.items) (picked-keys (λ k. k.place) waiter_of (λ u. u.place) waiter-placed (λ n. n < t.next_place) t.jobs.items places))),
     )
 
     pushed-room : (new : Inside) → new.jobs.items ≡ t.jobs.items ++ j ∷ [] → vec_capacity new.jobs ≡ vec_capacity t.jobs → new.waiting.items ≡ waiters (t.jobs.items ++ j ∷ []) → t.waiting.spare ≡ new.waiting.spare + 1 → new.tally ≡ t.tally → new.starting ≡ t.starting → new.room + 1 ≡ t.room → HasRoom (length new.jobs.items) (vec_capacity new.jobs) new.room new.waiting new.tally new.starting
@@ -109,10 +111,10 @@ module _ (t : Inside) (h : IsKept t) where
           });
           indexed = subst (λ js. IsIndexed js new.waiting new.tally new.starting new.active new.busy) (sym jobs) (record {
             waiters_are = come;
-            hows_are = rw (hows-pushed t.jobs.items j (waiting-inactive j.phase waits), te) h.indexed.hows_are;
+            hows_are = rw (hows-pushed t.jobs.items j (not_active j.phase waits), te) h.indexed.hows_are;
             orders_are = ap (λ (o : Pairs ℕ (Unit {0})). o.items) se ∙ (h.indexed.orders_are ∙ pushed-same serial_of order_of (λ e. e.0) order-keyed t.jobs.items j (order-none j (waiting-unstarted j.phase waits)));
-            active_are = ap (λ (o : Pairs ℕ Acting). o.items) ae ∙ (h.indexed.active_are ∙ pushed-same serial_of active_of (λ e. e.0) active-keyed t.jobs.items j (active-none j (waiting-inactive j.phase waits)));
-            busy_are = be ∙ (h.indexed.busy_are ∙ sym (count-pushed is_busy t.jobs.items j (ap (λ b. b && not (is_prestart j.kind)) (waiting-inactive j.phase waits))));
+            active_are = ap (λ (o : Pairs ℕ Acting). o.items) ae ∙ (h.indexed.active_are ∙ pushed-same serial_of active_of (λ e. e.0) active-keyed t.jobs.items j (active-none j (not_active j.phase waits)));
+            busy_are = be ∙ (h.indexed.busy_are ∙ sym (count-pushed is_busy t.jobs.items j (ap (λ b. b && not (is_prestart j.kind)) (not_active j.phase waits))));
           });
           room = pushed-room new jobs capacity come ws te se room;
           named = subst (λ js. HasNames js new.room new.names) (sym jobs) (names-pushed t.jobs.items j t.names new.names t.room new.room h.named room add name);

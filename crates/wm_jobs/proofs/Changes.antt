@@ -25,7 +25,8 @@ use Rattle.wm_jobs.specs.TableInside.{IsListed, AreListed, IsIndexed, HasRoom}
 use Rattle.wm_jobs.proofs.Resifted.{picked-set}
 use Rattle.wm_jobs.proofs.Sifted.{picked-lacks, picked-comes, picked-goes, picked-same, picked-length}
 use Rattle.wm_jobs.proofs.Splits.{sorted-changed}
-use Rattle.wm_jobs.proofs.JobParts.{waiting-inactive, waiting-unstarted, active-unwaiting, waiter-keyed, waiter-none, waiter-some, order-keyed, order-none, order-some, active-keyed, active-none, active-some, tally-starts, tally-ends, hows-few, count-changed, count-least, count-more}
+use Rattle.wm_jobs.proofs.JobParts.{waiting-unstarted, active-unwaiting, waiter-keyed, waiter-none, waiter-some, order-keyed, order-none, order-some, active-keyed, active-none, active-some, tally-starts, tally-ends, hows-few, count-changed, count-least, count-more}
+use Rattle.wm_law.proofs.InTurn.{not_active}
 
 module _ {X : Type 0} (P : X → Type 0) where
   pub all-changed : (l r : List X) (x y : X) → P y → All P (l ++ x ∷ r) → All P (l ++ y ∷ r)
@@ -88,9 +89,9 @@ module _ (s : ℕ) (l r : List Job) (j : Job) (here : j.serial ≡ s) (lower : A
 
     actives-launched : (b : Bool) → is_active a.phase ≡ b → cond b (added key_of nat_cmp (s, acting_of a.phase j.wish) (actives (l ++ j ∷ r))) (actives (l ++ j ∷ r)) ≡ actives (l ++ as_launched a j ∷ r)
     actives-launched true e =
-        picked-comes serial_of active_of key_of active-keyed s l r lower higher j (as_launched a j) (s, acting_of a.phase j.wish) (active-none j (waiting-inactive j.phase waits)) (active-some (as_launched a j) s here e) here
+        picked-comes serial_of active_of key_of active-keyed s l r lower higher j (as_launched a j) (s, acting_of a.phase j.wish) (active-none j (not_active j.phase waits)) (active-some (as_launched a j) s here e) here
     actives-launched false e =
-        picked-same serial_of active_of key_of active-keyed l r j (as_launched a j) (active-none j (waiting-inactive j.phase waits) ∙ sym (active-none (as_launched a j) e))
+        picked-same serial_of active_of key_of active-keyed l r j (as_launched a j) (active-none j (not_active j.phase waits) ∙ sym (active-none (as_launched a j) e))
 
     waiters-launched : removed waiting.serial_of nat_eq s (waiters (l ++ j ∷ r)) ≡ waiters (l ++ as_launched a j ∷ r)
     waiters-launched = picked-goes serial_of waiter_of waiting.serial_of waiter-keyed s l r lower higher j (as_launched a j) here (waiter-none (as_launched a j) goes)
@@ -98,10 +99,10 @@ module _ (s : ℕ) (l r : List Job) (j : Job) (here : j.serial ≡ s) (lower : A
     pub launched-indexed : (w0 w1 : Waiting) (t0 t1 : Counts) (s0 s1 : Pairs ℕ (Unit {0})) (a0 a1 : Pairs ℕ Acting) (b0 b1 : ℕ) → IsIndexed (l ++ j ∷ r) w0 t0 s0 a0 b0 → w1.items ≡ removed waiting.serial_of nat_eq s w0.items → Starts (is_active a.phase) t0 t1 a.how → s1.items ≡ cond (is_starting a.phase) (added key_of nat_cmp (s, tt) s0.items) s0.items → a1.items ≡ cond (is_active a.phase) (added key_of nat_cmp (s, acting_of a.phase j.wish) a0.items) a0.items → b1 ≡ b0 + cond (is_active a.phase && not (is_prestart j.kind)) 1 0 → IsIndexed (l ++ as_launched a j ∷ r) w1 t1 s1 a1 b1
     launched-indexed w0 w1 t0 t1 s0 s1 a0 a1 b0 b1 i we te se ae be = record {
       waiters_are = we ∙ (ap (λ ws. removed waiting.serial_of nat_eq s ws) i.waiters_are ∙ waiters-launched);
-      hows_are = tally-starts l r j (as_launched a j) t0 t1 (waiting-inactive j.phase waits) te i.hows_are;
+      hows_are = tally-starts l r j (as_launched a j) t0 t1 (not_active j.phase waits) te i.hows_are;
       orders_are = se ∙ (ap (λ os. cond (is_starting a.phase) (added key_of nat_cmp (s, tt) os) os) i.orders_are ∙ orders-launched (is_starting a.phase) refl);
       active_are = ae ∙ (ap (λ os. cond (is_active a.phase) (added key_of nat_cmp (s, acting_of a.phase j.wish) os) os) i.active_are ∙ actives-launched (is_active a.phase) refl);
-      busy_are = be ∙ (ap (λ n. n + cond (is_active a.phase && not (is_prestart j.kind)) 1 0) i.busy_are ∙ sym (count-more is_busy l r j (as_launched a j) (ap (λ b. b && not (is_prestart j.kind)) (waiting-inactive j.phase waits))));
+      busy_are = be ∙ (ap (λ n. n + cond (is_active a.phase && not (is_prestart j.kind)) 1 0) i.busy_are ∙ sym (count-more is_busy l r j (as_launched a j) (ap (λ b. b && not (is_prestart j.kind)) (not_active j.phase waits))));
     }
 
     -- one less waits
@@ -141,7 +142,7 @@ module _ (s : ℕ) (l r : List Job) (j : Job) (here : j.serial ≡ s) (lower : A
       (omega arith, omega arith)
 
   pub launch-unlisted : is_waiting j.phase ≡ true → has_key key_of nat_eq s (actives (l ++ j ∷ r)) ≡ false
-  launch-unlisted waits = picked-lacks serial_of active_of key_of active-keyed s l r lower higher j (active-none j (waiting-inactive j.phase waits))
+  launch-unlisted waits = picked-lacks serial_of active_of key_of active-keyed s l r lower higher j (active-none j (not_active j.phase waits))
 
   pub launch-new : is_waiting j.phase ≡ true → has_key key_of nat_eq s (orders (l ++ j ∷ r)) ≡ false
   launch-new waits = picked-lacks serial_of order_of key_of order-keyed s l r lower higher j (order-none j (waiting-unstarted j.phase waits))

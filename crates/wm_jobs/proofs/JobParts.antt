@@ -28,14 +28,6 @@ use Rattle.wm_jobs.specs.Table.{serial_of, active_in, starting_in}
 use Rattle.wm_jobs.proofs.Sifted.{count-append, count-cons, differs, picked-keys}
 use Rattle.wm_jobs.proofs.Splits.{above-head}
 
--- phases
-pub waiting-inactive : (p : Phase) → is_waiting p ≡ true → is_active p ≡ false
-waiting-inactive Waiting h = refl
-waiting-inactive Starting h = absurd (false≢true h)
-waiting-inactive (Handed m) h = absurd (false≢true h)
-waiting-inactive (Running m) h = absurd (false≢true h)
-waiting-inactive (Ended c) h = absurd (false≢true h)
-
 pub waiting-unstarted : (p : Phase) → is_waiting p ≡ true → is_starting p ≡ false
 waiting-unstarted Waiting h = refl
 waiting-unstarted Starting h = absurd (false≢true h)

@@ -17,6 +17,7 @@ use Rattle.wm_names.specs.Names.{Names, IsNames, HasFew, serial_of_one}
 use Rattle.wm_names.proofs.EachRow.{each-replaced}
 use Rattle.wm_names.proofs.JobLemmas.{job_serial, total, total-middle, small-replaced}
 use Rattle.wm_jobs.specs.TableInside.{HasNames}
+use Rattle.wm_law.proofs.Moves.{the_one}
 
 pub waiting-lasts : (p : Phase) → is_waiting p ≡ true → is_ended p ≡ false
 waiting-lasts Waiting h = refl
@@ -68,11 +69,6 @@ module _ (p : Job → Bool) where
   in-filter [] k i = i
   in-filter (j ∷ js) k i = in-kept (p j) j k js i (in-filter js k)
 
-only-in : (js : List Job) (k : Job) → only_one js ≡ Ok k → IsIn k js
-only-in [] k e = absurd (cc e)
-only-in (j ∷ []) k e = inl (cc (sym e))
-only-in (j ∷ i ∷ js) k e = absurd (cc e)
-
 by-serial : (o : Result Job Refusal) (s : ℕ) → Ok s ≡ serial_of_one o → (k : Job) × (o ≡ Ok k) × (k.serial ≡ s)
 by-serial (Ok k) s e = (k, refl, cc (sym e))
 by-serial (Err x) s e = absurd (cc e)
@@ -89,7 +85,7 @@ module _ (ref : JobRef) (jobs : List Job) where
   pub named-there : (s : ℕ) (o : Option Job) → Ok s ≡ serial_of_one one → ((j : Job) → IsIn j jobs → j.serial ≡ s → o ≡ Some j) → (k : Job) × (one ≡ Ok k) × (o ≡ Some k)
   named-there s o found only =
       let k = by-serial one s found in
-      (k.0, k.1, only k.0 (in-filter (is_named ref) jobs k.0 (only-in (filter (is_named ref) jobs) k.0 k.1)) k.2)
+      (k.0, k.1, only k.0 (in-filter (is_named ref) jobs k.0 (the_one (filter (is_named ref) jobs) k.0 k.1)) k.2)
 
   pub not-named : (x : Refusal) → ◌≡◌ {A = Result ℕ Refusal} (Err x) (serial_of_one one) → one ≡ Err x
   not-named x e = by-refusal one x e

@@ -7,16 +7,10 @@ use Rattle.std.proofs.lemmas.List.Elements.{All-head, All-tail}
 use Rattle.wm_desc.specs.Sorted.{IsSortedOnce}
 use Rattle.wm_law.specs.declared.job.Job.{Job}
 use Rattle.wm_law.specs.Laws.{IsIn}
-use Rattle.wm_law.proofs.Members.{found_among}
+use Rattle.wm_law.proofs.Members.{found_among, All-in}
 use Rattle.wm_jobs.specs.Table.{serial_of}
 use Rattle.wm_jobs.proofs.Sifted.{differs}
 use Rattle.wm_jobs.proofs.Splits.{above-head}
-
--- what holds of each element holds of one
-pub of-all : {X : Type 0} (P : X → Type 0) (xs : List X) (y : X) → All P xs → IsIn y xs → P y
-of-all P [] y all i = absurd i
-of-all P (x ∷ xs) y all (inl e) = subst P (sym e) (All-head P x xs all)
-of-all P (x ∷ xs) y all (inr i) = of-all P xs y (All-tail P x xs all) i
 
 pub found-one : (jobs : List Job) (j : Job) → IsSortedOnce serial_of nat_cmp jobs → IsIn j jobs → find (λ (k : Job). k.serial == j.serial) jobs ≡ Some j
 found-one [] j sorted i = absurd i
@@ -25,7 +19,7 @@ found-one (k ∷ ks) j sorted (inl e) =
     let rest : Option Job = find (λ (l : Job). l.serial == j.serial) ks in
     ap (λ b. cond b (Some k) rest) (eq-eqb k.serial j.serial same) ∙ ap (λ (l : Job). Some l) (sym e)
 found-one (k ∷ ks) j sorted (inr i) =
-    let above : k.serial < j.serial = of-all (λ (l : Job). k.serial < l.serial) ks j (above-head serial_of 0 k ks sorted) i in
+    let above : k.serial < j.serial = All-in (λ (l : Job). k.serial < l.serial) ks j (above-head serial_of 0 k ks sorted) i in
     let rest : Option Job = find (λ (l : Job). l.serial == j.serial) ks in
     ap (λ b. cond b (Some k) rest) (differs k.serial j.serial (λ q. omega arith)) ∙ found-one ks j (λ a b d lt in_range. sorted (suc a) (suc b) d (omega arith) (omega arith)) i
 

@@ -9,13 +9,11 @@ use Rattle.std.proofs.lemmas.List.{append-nil, length-append}
 use Rattle.std.proofs.lemmas.List.Elements.{All-nil, All-cons, All-head, All-tail, All-append, All-weaker, filter_map-append, filter-append}
 use Rattle.std.proofs.lemmas.List.Folds.{list_any_none}
 use Rattle.std.proofs.lemmas.List.Sums.{sum_by-cons, sum_by-append}
+use Rattle.wm_base.proofs.Tests.{eqb-lt}
 use Rattle.wm_desc.specs.Sorted.{has_key, place_of, added, removed}
 
 pub differs : (a b : ℕ) → (a ≡ b → ⊥) → nat_eq a b ≡ false
 differs a b ne = elim (cases_Bool (nat_eq a b)) [ inl e ↦ absurd (ne (eqb-true a b e)) | inr e ↦ e ]
-
-pub lower_differs : (a b : ℕ) → a < b → nat_eq a b ≡ false
-lower_differs a b lt = differs a b (λ e. omega arith)
 
 pub higher_differs : (a b : ℕ) → b < a → nat_eq a b ≡ false
 higher_differs a b lt = differs a b (λ e. omega arith)
@@ -66,11 +64,11 @@ module _ {E : Type 0} (key : E → ℕ) (s : ℕ) (a b : List E) (lower : All (�
   pub lacks : has_key key nat_eq s (a ++ b) ≡ false
   lacks =
       list_any_none (λ e. nat_eq (key e) s) (a ++ b) (All-append (λ e. nat_eq (key e) s ≡ false) a b
-      (All-weaker (λ e. key e < s) (λ e. nat_eq (key e) s ≡ false) (λ e lt. lower_differs (key e) s lt) a lower)
+      (All-weaker (λ e. key e < s) (λ e. nat_eq (key e) s ≡ false) (λ e lt. eqb-lt (key e) s lt) a lower)
       (All-weaker (λ e. s < key e) (λ e. nat_eq (key e) s ≡ false) (λ e lt. higher_differs (key e) s lt) b higher))
 
   kept_lower : filter (λ e. not (nat_eq (key e) s)) a ≡ a
-  kept_lower = filter-whole (λ e. not (nat_eq (key e) s)) a (All-weaker (λ e. key e < s) (λ e. not (nat_eq (key e) s) ≡ true) (λ e lt. ap not (lower_differs (key e) s lt)) a lower)
+  kept_lower = filter-whole (λ e. not (nat_eq (key e) s)) a (All-weaker (λ e. key e < s) (λ e. not (nat_eq (key e) s) ≡ true) (λ e lt. ap not (eqb-lt (key e) s lt)) a lower)
 
   kept_higher : filter (λ e. not (nat_eq (key e) s)) b ≡ b
   kept_higher = filter-whole (λ e. not (nat_eq (key e) s)) b (All-weaker (λ e. s < key e) (λ e. not (nat_eq (key e) s) ≡ true) (λ e lt. ap not (higher_differs (key e) s lt)) b higher)

@@ -10,23 +10,13 @@ use Rattle.std.proofs.lemmas.Cmp.{nat_cmp_total, ranked}
 use Rattle.std.proofs.lemmas.List.{get_or-take, get_or-drop, length-drop, length-take, length-map, map-append}
 use Rattle.std.proofs.lemmas.List.Elements.{All-head, All-tail}
 use Rattle.std.proofs.lemmas.List.Quantifiers.{all_pairs_push}
+use Rattle.wm_base.proofs.Orderings.{lt-Less, Less-lt, eq-Equal, gt-Greater}
+use Rattle.wm_base.proofs.Tests.{eqb-lt}
 use Rattle.wm_desc.specs.Sorted.{IsSortedOnce}
 use Rattle.wm_desc.specs.Place.{IsAt, IsGap}
 use Rattle.wm_desc.proofs.Places.{map-one}
 use Rattle.wm_desc.proofs.SortedLists.{with_key-at, with_key-gap}
-use Rattle.wm_jobs.proofs.Sifted.{lower_differs, higher_differs}
-
-pub less : (a b : ℕ) → nat_cmp a b ≡ Less → a < b
-less a b h = ranked a b Less (sym h)
-
-pub greater : (a b : ℕ) → nat_cmp a b ≡ Greater → b < a
-greater a b h = ranked a b Greater (sym h)
-
-pub equal : (a b : ℕ) → nat_cmp a b ≡ Equal → a ≡ b
-equal a b h = ranked a b Equal (sym h)
-
-is_Less : (a b : ℕ) → a < b → nat_cmp a b ≡ Less
-is_Less a b lt = grind (arith, nat_tests)
+use Rattle.wm_jobs.proofs.Sifted.{higher_differs}
 
 nat_ties : (a b : ℕ) → nat_eq a b ≡ is_eq (nat_cmp a b)
 nat_ties a b = grind (arith, nat_tests)
@@ -42,11 +32,11 @@ module _ {X : Type 0} (serial : X → ℕ) (s : ℕ) where
   pub split-at : (xs : List X) (i : ℕ) (d : X) → IsAt serial nat_cmp s xs i → IsSplit serial s xs (take i xs) (drop (suc i) xs) (get_or xs i d)
   split-at xs i d h = record {
     whole = split_at xs i d h.in_range;
-    here = equal (serial (get_or xs i d)) s (h.here d);
+    here = eq-Equal (serial (get_or xs i d)) s (h.here d);
     lower = λ k e lt. (let below : k < i = (let n = length-take i xs in omega arith) in
-        rw (get_or-take i xs k e below) (less (serial (get_or xs k e)) s (h.before k e (omega arith) below)));
+        rw (get_or-take i xs k e below) (lt-Less (serial (get_or xs k e)) s (h.before k e (omega arith) below)));
     higher = λ k e lt. (let in_range : suc i + k < length xs = (let n = length-drop (suc i) xs in let b = h.in_range in omega arith) in
-        rw (get_or-drop (suc i) xs k e) (greater (serial (get_or xs (suc i + k) e)) s (h.after (suc i + k) e (omega arith) in_range)));
+        rw (get_or-drop (suc i) xs k e) (gt-Greater (serial (get_or xs (suc i + k) e)) s (h.after (suc i + k) e (omega arith) in_range)));
   }
 
   -- a search finds that element
@@ -65,7 +55,7 @@ module _ {X : Type 0} (serial : X → ℕ) (s : ℕ) where
     pub map-split : (xs l r : List X) (x : X) → IsSplit serial s xs l r x → map (λ y. cond (nat_eq (serial y) s) (change y) y) xs ≡ l ++ change x ∷ r
     map-split xs l r x h =
         let f : X → X = λ y. cond (nat_eq (serial y) s) (change y) y in
-        let left : map f l ≡ l = map-apart l (λ k d lt. lower_differs (serial (get_or l k d)) s (h.lower k d lt)) in
+        let left : map f l ≡ l = map-apart l (λ k d lt. eqb-lt (serial (get_or l k d)) s (h.lower k d lt)) in
         let right : map f r ≡ r = map-apart r (λ k d lt. higher_differs (serial (get_or r k d)) s (h.higher k d lt)) in
         let this : f x ≡ change x = ap (λ b. cond b (change x) x) (eq-eqb (serial x) s h.here) in
         ap (map f) h.whole
@@ -120,8 +110,8 @@ module _ {X : Type 0} (serial : X → ℕ) (s : ℕ) where
   -- and so does an element behind that has a greater key than all
   pub sorted-pushed : (xs : List X) (x : X) → serial x ≡ s → All (λ y. serial y < s) xs → IsSortedOnce serial nat_cmp xs → IsSortedOnce serial nat_cmp (xs ++ x ∷ [])
   sorted-pushed xs x same below sorted =
-      all_pairs_push (λ a b. nat_cmp (serial a) (serial b) ≡ Less) xs x sorted (λ k d lt. is_Less (serial (get_or xs k d)) (serial x) (rw same (below k d lt)))
+      all_pairs_push (λ a b. nat_cmp (serial a) (serial b) ≡ Less) xs x sorted (λ k d lt. Less-lt (serial (get_or xs k d)) (serial x) (rw same (below k d lt)))
 
   -- all behind an element have greater keys
   pub above-head : (x : X) (xs : List X) → IsSortedOnce serial nat_cmp (x ∷ xs) → All (λ y. serial x < serial y) xs
-  above-head x xs sorted k d lt = less (serial x) (serial (get_or xs k d)) (sorted 0 (suc k) d (omega arith) (omega arith))
+  above-head x xs sorted k d lt = lt-Less (serial x) (serial (get_or xs k d)) (sorted 0 (suc k) d (omega arith) (omega arith))

@@ -5,6 +5,7 @@ use Rattle.std.specs.Ordering.{nat_cmp}
 use Rattle.std.proofs.lemmas.Bool.{cases_Bool}
 use Rattle.std.proofs.lemmas.List.{get_or-map, length-append, length-map}
 use Rattle.std.proofs.lemmas.List.Elements.{All-nil}
+use Rattle.wm_base.proofs.Lists.{length-filter_few}
 use Rattle.wm_active.specs.declared.acting.Acting.{Acting}
 use Rattle.wm_desc.specs.Place.{IsAt}
 use Rattle.wm_desc.specs.Sorted.{has_key, added, removed}
@@ -116,17 +117,9 @@ module _ (t : Inside) (s at : ℕ) (x : Job) (js : List Job) (same : js ≡ t.jo
       ∙ (get_or-map (changed_at s change) t.jobs.items at x y stands.in_range
       ∙ (ap (changed_at s change) (sym is) ∙ ap (λ b. cond b (change x) x) (eq-eqb x.serial s here))))
 
-filter-few : {X : Type 0} (p : X → Bool) (xs : List X) → length (filter p xs) ≤ length xs
-filter-few p [] = omega arith
-filter-few {X} p (x ∷ xs) = on (p x) (filter-few p xs)
-  where
-    on : (b : Bool) → length (filter p xs) ≤ length xs → length (cond b (x ∷ filter p xs) (filter p xs)) ≤ suc (length xs)
-    on true le = omega arith
-    on false le = omega arith
-
 -- no more wait where one is taken out
 pub taken-few : (s : ℕ) (ws us : List Waiter) → us ≡ removed waiting.serial_of nat_eq s ws → length us ≤ length ws
-taken-few s ws us is = subst (λ (vs : List Waiter). length vs ≤ length ws) (sym is) (filter-few (λ (w : Waiter). not (nat_eq w.serial s)) ws)
+taken-few s ws us is = subst (λ (vs : List Waiter). length vs ≤ length ws) (sym is) (length-filter_few (λ (w : Waiter). not (nat_eq w.serial s)) ws)
 
 -- where the last job, which came since the mark, is taken out
 module _ (t : Inside) (h : IsTableInside t) (js : List Job) (x : Job) (whole : t.jobs.items ≡ js ++ x ∷ []) where

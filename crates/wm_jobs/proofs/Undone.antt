@@ -2,7 +2,7 @@
 use Rattle.std.proofs.Common.{◌≡◌, ℕ, zero, suc, ◌+◌, ◌<◌, ◌≤◌, Bool, true, false, not, ◌==◌, ◌||◌, cond, List, [], ◌∷◌, ◌++◌, length, get_or, map, take, take_all, refl, ap, sym, ◌∙◌, subst, arith, nat_eq, inl, inr, All, eq-eqb}
 use Rattle.std.specs.List.{filter, list_any}
 use mathlib.Core.Bool.{false≢true}
-use Rattle.std.proofs.lemmas.Bool.{cases_Bool, eqb-true, not_from_true}
+use Rattle.std.proofs.lemmas.Bool.{cases_Bool, eqb-true, not_from_true, or_right, or_left}
 use Rattle.std.proofs.lemmas.List.{length-append, length-take, length-map, take-map, take-append-le}
 use Rattle.std.proofs.lemmas.List.Elements.{All-head, All-tail, All-cons, All-append, All-take, All-weaker}
 use Rattle.wm_law.specs.declared.job.Job.{Job}
@@ -111,14 +111,6 @@ module _ (p : ℕ → Bool) where
   undone-kept [] out js = refl
   undone-kept (t ∷ ts) out js =
       all-kept t (All-head (λ (u : Touched). p u.serial ≡ false) t ts out) (undone ts js) ∙ undone-kept ts (All-tail (λ (u : Touched). p u.serial ≡ false) t ts out) js
-
-or_right : (a b : Bool) → b ≡ true → (a || b) ≡ true
-or_right true b h = refl
-or_right false b h = h
-
-or_left : (a b : Bool) → a ≡ true → (a || b) ≡ true
-or_left true b h = refl
-or_left false b h = absurd (false≢true h)
 
 any-at : {X : Type 0} (q : X → Bool) (xs : List X) (k : ℕ) (d : X) → k < length xs → q (get_or xs k d) ≡ true → list_any q xs ≡ true
 any-at q [] k d lt h = absurd (omega arith)

@@ -2,6 +2,7 @@
 use Rattle.std.proofs.Common.{◌≡◌, ◌⊎◌, ℕ, ◌<◌, ◌+◌, ◌&&◌, ◌==◌, Bool, true, false, cond, List, map, Option, Some, None, is_some, nat_lt, refl, sym, ap, subst, ◌∙◌, inl, inr, arith}
 use Rattle.std.specs.Option.{IsSome, option_or}
 use Rattle.std.proofs.lemmas.Bool.Decides.{nat_tests}
+use Rattle.std.proofs.lemmas.Bool.{ltb-true, and_parts, eqb-true}
 use Rattle.wm_base.specs.declared.job.EndCause.{EndCause}
 use Rattle.wm_base.specs.declared.job.EndCause.TheVariants.{Cleared, EndedOnQueue}
 use Rattle.wm_base.specs.declared.job.JobName.{JobName}
@@ -28,7 +29,6 @@ use Rattle.wm_law.specs.Queues.{cleared_from, is_on_queue, own_name, waits_on}
 use Rattle.wm_law.specs.Reports.{in_phase}
 use Rattle.wm_law.specs.Submitting.{serials_end}
 use Rattle.wm_law.proofs.Members.{of_mapped}
-use Rattle.wm_law.proofs.Tests.{of_both, same_number}
 
 -- a reply that orders nothing, refuses nothing, and says something
 pub record IsPlain (reply : Reply) : Type 0 where
@@ -122,7 +122,7 @@ IsHolding s held = HoldsOne s held ⊎ ReleasesOne s held
 -- a change where the job waits and has a serial
 module _ (s : State) (serial : ℕ) (change : Job → Job) where
   at_by : (j : Job) (b : Bool) → (is_waiting j.phase && j.serial == serial) ≡ b → ((is_waiting j.phase ≡ true) → IsAltered s j (change j)) → (cond b (change j) j ≡ j) ⊎ IsAltered s j (cond b (change j) j)
-  at_by j true e h = inr (h (of_both (is_waiting j.phase) (j.serial == serial) e).0)
+  at_by j true e h = inr (h (and_parts (is_waiting j.phase) (j.serial == serial) e).0)
   at_by j false e h = inl refl
 
   pub altered_at : ((j : Job) → is_waiting j.phase ≡ true → IsAltered s j (change j)) → (j : Job) → (waiting_at serial change j ≡ j) ⊎ IsAltered s j (waiting_at serial change j)
@@ -163,16 +163,13 @@ object_or s None present q h e = inl e
 object_or s (Some w) present q h e = inr (ap (λ (n : QName). is_some (object_named n s.objects.jobqs)) (sym (of_some w q e)) ∙ h)
 
 other_at : (change : Job → Job) (serial : ℕ) (j : Job) (b : Bool) → (is_waiting j.phase && j.serial == serial) ≡ b → (j.serial ≡ serial → ⊥) → cond b (change j) j ≡ j
-other_at change serial j true e other = absurd (other (same_number j.serial serial (of_both (is_waiting j.phase) (j.serial == serial) e).1))
+other_at change serial j true e other = absurd (other (eqb-true j.serial serial (and_parts (is_waiting j.phase) (j.serial == serial) e).1))
 other_at change serial j false e other = refl
 
 taken_at : (change : Job → Job) (serial place : ℕ) (j : Job) → ((k : Job) → (change k).place ≡ place) → is_waiting j.phase ≡ true → j.serial ≡ serial → (waiting_at serial change j).place ≡ place
 taken_at change serial place j h w e =
     let here : (is_waiting j.phase && j.serial == serial) ≡ true = grind (arith, nat_tests) in
     ap (λ (b : Bool). (cond b (change j) j).place) here ∙ h j
-
-below : (a b : ℕ) → nat_lt a b ≡ true → a < b
-below a b h = grind (arith, nat_tests)
 
 pub moving_alters : (s : State) (c : Chgjob) (serial due : ℕ) → nat_lt s.next_place serials_end ≡ true → has_queue s c.jobq ≡ true → IsAlteration s (waiting_at serial (moved_to c s.next_place due)) (s.next_place + 1)
 moving_alters s c serial due left q = record {
@@ -181,13 +178,13 @@ moving_alters s c serial due left q = record {
     serial = serial;
     taken = λ j w e. taken_at (moved_to c s.next_place due) serial s.next_place j (λ k. refl) w e;
     other = λ j other. other_at (moved_to c s.next_place due) serial j (is_waiting j.phase && j.serial == serial) refl other;
-    left = below s.next_place serials_end left;
+    left = ltb-true s.next_place serials_end left;
     next = refl;
   });
 }
 
 cleared_by : (s : State) (queue : QName) (j : Job) (b : Bool) → waits_on queue j ≡ b → (cond b (in_phase (Ended Cleared) j) j ≡ j) ⊎ IsAltered s j (cond b (in_phase (Ended Cleared) j) j)
-cleared_by s queue j true e = inr (record { waits = (of_both (is_waiting j.phase) (is_on_queue queue j.jobq) e).0; serial = refl; job = refl; kind = refl; how = refl; wish = refl; phase = inr (Cleared, refl, refl); queue = λ h. h; is_object = λ q e. inl e })
+cleared_by s queue j true e = inr (record { waits = (and_parts (is_waiting j.phase) (is_on_queue queue j.jobq) e).0; serial = refl; job = refl; kind = refl; how = refl; wish = refl; phase = inr (Cleared, refl, refl); queue = λ h. h; is_object = λ q e. inl e })
 cleared_by s queue j false e = inl refl
 
 pub clearing_alters : (s : State) (queue : QName) → IsAlteration s (cleared_from queue) s.next_place

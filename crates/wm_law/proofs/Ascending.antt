@@ -8,6 +8,7 @@ use Rattle.std.specs.declared.cmp.Ordering.TheVariants.{Less, Equal, Greater}
 use Rattle.std.proofs.lemmas.Cmp.{nat_list_cmp_total}
 use Rattle.std.proofs.lemmas.Map.Lookups.{exact_bytes}
 use Rattle.wm_base.specs.declared.qname.QName.{QName}
+use Rattle.wm_base.proofs.Orderings.{is_lt-Less}
 use Rattle.wm_law.specs.declared.state.Sbs.{Sbs}
 use Rattle.wm_law.specs.Kept.{IsDistinct}
 use Rattle.wm_law.specs.Laws.{IsIn}
@@ -22,13 +23,8 @@ abbrev pub IsAscending : List QName → Type 0
 IsAscending [] = ⊤
 IsAscending (q ∷ qs) = ((r : QName) → IsIn r qs → Precedes q r) × IsAscending qs
 
-is_less : (o : Ordering) → is_lt o ≡ true → o ≡ Less
-is_less Less h = refl
-is_less Equal h = absurd (cc)
-is_less Greater h = absurd (cc)
-
 precedes_still : (p q r : QName) → Precedes p q → Precedes q r → Precedes p r
-precedes_still p q r h k = ap is_lt (nat_list_cmp_total.trans p.name q.name r.name (is_less _ h) (is_less _ k))
+precedes_still p q r h k = ap is_lt (nat_list_cmp_total.trans p.name q.name r.name (is_lt-Less _ h) (is_lt-Less _ k))
 
 other_way : (a b : List ℕ) (o : Ordering) → slice_cmp nat_cmp a b ≡ o → is_lt o ≡ false → (a ≡ b → ⊥) → is_lt (slice_cmp nat_cmp b a) ≡ true
 other_way a b Less e n d = absurd (cc)

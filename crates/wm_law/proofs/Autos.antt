@@ -1,6 +1,7 @@
 -- An autostart job that became Starting did so by its route.
 use Rattle.std.proofs.Common.{◌≡◌, ◌⊎◌, ◌==◌, Bool, true, false, cond, Option, Some, None, refl, sym, ap, subst, ◌∙◌, inl, inr}
 use Rattle.std.specs.List.{find}
+use Rattle.std.proofs.lemmas.Bool.{eqb-true}
 use Rattle.wm_base.specs.declared.qname.QName.{QName}
 use Rattle.wm_base.specs.Iterate.{IsKept}
 use Rattle.wm_base.proofs.Iterate.{iterate-keeps}
@@ -30,7 +31,6 @@ use Rattle.wm_law.proofs.Nexts.{IsNext, is_next}
 use Rattle.wm_law.proofs.Numbers.{launches_keep, only_started}
 use Rattle.wm_law.proofs.Queued.{launches_queued}
 use Rattle.wm_law.proofs.Routed.{by_route}
-use Rattle.wm_law.proofs.Tests.{same_number}
 
 -- each autostart job that is Starting in the second state was so in the first, or is as its route has it
 abbrev pub AutosRouted : State → State → Type 0
@@ -87,7 +87,7 @@ record IsRoutedSince (s t : State) : Type 0 where
 -- what is launched next is no autostart job
 routed_at : (s t : State) (c : Candidate) (f i : Job) (b : Bool) (k : Job) → (i.serial == c.serial) ≡ b → IsIn i t.jobs → IsNext t c f → IsRoutedSince s t → k ≡ cond b (as_launched (launched t c.sbs c.jobq f) i) i → k.phase ≡ Starting → k.kind ≡ Asj → IsStarting s k.serial ⊎ IsAutoRouted t.objects k
 routed_at s t c f i true k e m x h same p v =
-    let its : i ≡ f = only_one t.jobs h.numbered.serials.distinct i f m x.first.job (same_number i.serial c.serial e ∙ x.serial) in
+    let its : i ≡ f = only_one t.jobs h.numbered.serials.distinct i f m x.first.job (eqb-true i.serial c.serial e ∙ x.serial) in
     let bch : f.kind ≡ Bch = (h.queues f x.first.job).waits (ready_waits t f x.first.may.ready) in
     let kinds : Asj ≡ Bch = sym v ∙ ap (λ (y : Job). y.kind) same ∙ ap (λ (y : Job). y.kind) its ∙ bch in
     let no : true ≡ false = ap is_autostart kinds in

@@ -5,6 +5,7 @@ use Rattle.std.specs.Ordering.{nat_cmp}
 use Rattle.std.specs.declared.cmp.Ordering.TheVariants.{Less}
 use Rattle.std.proofs.lemmas.Cmp.{ranked, by_ranked}
 use Rattle.std.proofs.lemmas.Grind.{common_steps}
+use Rattle.wm_base.proofs.Orderings.{lt-Less}
 use Rattle.wm_desc.specs.Sorted.{IsSortedOnce}
 use Rattle.wm_law.specs.Laws.{IsIn}
 
@@ -12,13 +13,6 @@ use Rattle.wm_law.specs.Laws.{IsIn}
 abbrev pub IsAscending : {X : Type 0} → (X → ℕ) → List X → Type 0
 IsAscending key [] = ⊤
 IsAscending {X} key (x ∷ xs) = ((y : X) → IsIn y xs → key x < key y) × IsAscending key xs
-
-less_of : (a b : ℕ) → nat_cmp a b ≡ Less → a < b
-less_of a b e =
-    by_ranked (a < b) (a ≡ b) (b < a) (nat_cmp a b) (ranked a b (nat_cmp a b) refl)
-    (λ h (k : a < b). k)
-    (λ h (k : a ≡ b). absurd (cc))
-    (λ h (k : b < a). absurd (cc))
 
 module _ {X : Type 0} where
   behind : (x : X) (xs : List X) (k : ℕ) (d : X) → slice_index_or (x ∷ xs) (k + 1) d ≡ slice_index_or xs k d
@@ -50,7 +44,7 @@ module _ {X : Type 0} where
         let less : p.0 < length xs = p.1 in
         let more = longer x xs in
         let whole = s 0 (p.0 + 1) y (omega arith) (omega arith) in
-        less_of (key x) (key y) (subst (λ (e : X). nat_cmp (key x) (key e) ≡ Less) (behind x xs p.0 y ∙ p.2) whole)
+        lt-Less (key x) (key y) (subst (λ (e : X). nat_cmp (key x) (key e) ≡ Less) (behind x xs p.0 y ∙ p.2) whole)
 
     -- a sorted list ascends
     pub ascends : (xs : List X) → IsSortedOnce key nat_cmp xs → IsAscending key xs

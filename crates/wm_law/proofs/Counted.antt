@@ -2,11 +2,11 @@
 use Rattle.std.proofs.Common.{◌≡◌, ℕ, ◌≤◌, ◌+◌, ◌++◌, ◌==◌, Bool, true, false, cond, List, [], ◌∷◌, map, refl, sym, ap, subst, inl, inr, arith}
 use Rattle.std.specs.List.{count_by}
 use Rattle.std.proofs.lemmas.List.Sums.{sum_by-cons}
+use Rattle.std.proofs.lemmas.Bool.{eqb-true}
 use Rattle.wm_law.specs.declared.job.Job.{Job}
 use Rattle.wm_law.specs.Jobs.{changed_at}
 use Rattle.wm_law.specs.Kept.{IsDistinct}
 use Rattle.wm_law.specs.Laws.{IsIn}
-use Rattle.wm_law.proofs.Tests.{same_number}
 
 abbrev number : Bool → ℕ
 number b = cond b 1 0
@@ -30,7 +30,7 @@ same_at test change false j h = omega arith
 untouched : (test : Job → Bool) (serial : ℕ) (change : Job → Job) (jobs : List Job) → (IsIn serial (map (λ j. j.serial) jobs) → ⊥) → count_by test (map (changed_at serial change) jobs) ≤ count_by test jobs
 untouched test serial change [] h = omega arith
 untouched test serial change (j ∷ jobs) h =
-    let this = same_at test change (j.serial == serial) j (λ e. h (inl (sym (same_number j.serial serial e)))) in
+    let this = same_at test change (j.serial == serial) j (λ e. h (inl (sym (eqb-true j.serial serial e)))) in
     let rest = untouched test serial change jobs (λ i. h (inr i)) in
     rw (sum_by-cons (one test) (changed_at serial change j) (map (changed_at serial change) jobs), sum_by-cons (one test) j jobs) (omega arith)
 
@@ -51,7 +51,7 @@ no_more test serial change h (j ∷ jobs) =
 added : (test : Job → Bool) (serial : ℕ) (change : Job → Job) (j : Job) (jobs : List Job) (t : Bool) → (j.serial == serial) ≡ t → (IsIn j.serial (map (λ k. k.serial) jobs) → ⊥) → count_by test (map (changed_at serial change) jobs) ≤ count_by test jobs + 1
     → one test (cond t (change j) j) + count_by test (map (changed_at serial change) jobs) ≤ one test j + count_by test jobs + 1
 added test serial change j jobs true e n h =
-    let same = same_number j.serial serial e in
+    let same = eqb-true j.serial serial e in
     let rest = untouched test serial change jobs (λ i. n (subst (λ (x : ℕ). IsIn x (map (λ (k : Job). k.serial) jobs)) (sym same) i)) in
     let this = one_most test (change j) in
     omega arith

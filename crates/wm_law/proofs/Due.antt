@@ -1,11 +1,13 @@
 -- Settling leaves nothing that is due to end.
 use Rattle.std.proofs.Common.{◌≡◌, ℕ, ℤ, ◌==◌, ◌&&◌, ◌||◌, not, Bool, true, false, cond, List, [], ◌∷◌, map, filter, Option, Some, None, refl, sym, ap, subst, ◌∙◌, inl, inr}
 use Rattle.std.specs.List.{find, list_any}
+use Rattle.std.proofs.lemmas.Bool.{or_right, and_parts, eqb-true}
 use Rattle.wm_base.specs.declared.job.How.TheVariants.{FromQueue}
 use Rattle.wm_base.specs.declared.qname.QName.{QName}
 use Rattle.wm_base.specs.Iterate.{IsKept}
 use Rattle.wm_base.specs.Limit.{is_below}
 use Rattle.wm_base.proofs.Iterate.{iterate-keeps}
+use Rattle.wm_base.proofs.Tests.{or_more, of_four}
 use Rattle.wm_law.specs.declared.call.Call.{Call}
 use Rattle.wm_law.specs.declared.choice.Candidate.{Candidate}
 use Rattle.wm_law.specs.declared.job.Job.{Job}
@@ -42,7 +44,6 @@ use Rattle.wm_law.proofs.Opened.{opened, opening_is}
 use Rattle.wm_law.proofs.Placed.{active_through}
 use Rattle.wm_law.proofs.Routed.{launched_routed, started_through}
 use Rattle.wm_law.proofs.Started.{calls, launched as names_launched}
-use Rattle.wm_law.proofs.Tests.{of_both, of_four, same_number}
 use Rattle.wm_law.proofs.Wished.{launched_wished, wished_calls}
 
 -- whether a subsystem ends now
@@ -166,14 +167,6 @@ come_due_none s = record {
       subst (IsUpToDate s.clock (sbss_at s)) (sym m.2) (up_to_date s.clock (sbss_at s) m.0 (ap (λ (x : Job). is_active x.phase) (sym m.2) ∙ a)));
 }
 
-or_more : (a b c : Bool) → (b ≡ true → c ≡ true) → (a || b) ≡ true → (a || c) ≡ true
-or_more true b c f h = refl
-or_more false b c f h = f h
-
-or_right : (a b : Bool) → b ≡ true → (a || b) ≡ true
-or_right true b h = refl
-or_right false b h = h
-
 any_by : {X : Type 0} (p : X → Bool) (x : X) (ys xs : List X) (t : Bool) → (list_any p ys ≡ true → list_any p xs ≡ true) → list_any p (cond t (x ∷ ys) ys) ≡ true → (p x || list_any p xs) ≡ true
 any_by p x ys xs true f h = or_more (p x) (list_any p ys) (list_any p xs) f h
 any_by p x ys xs false f h = or_right (p x) (list_any p xs) (f h)
@@ -219,7 +212,7 @@ none_in_now s c f x names a h =
     let r = started_through s t.sbs.sbsd how t.sbsd f o refl (active_through s t.sbs.sbsd how f o active) in
     let is_how : (launched s c.sbs c.jobq f).how ≡ FromQueue t.sbs.sbsd t.queue f.pty r.0.seq = ap (λ (l : Launched). l.how) same ∙ r.2 in
     let b = of_any (λ (b : Sbs). now b && is_in_sbs b.sbsd (launched s c.sbs c.jobq f).how) s.started h in
-    let both = of_both (now b.0) (is_in_sbs b.0.sbsd (launched s c.sbs c.jobq f).how) b.2 in
+    let both = and_parts (now b.0) (is_in_sbs b.0.sbsd (launched s c.sbs c.jobq f).how) b.2 in
     let named : t.sbs.sbsd ≡ b.0.sbsd = one_name t.sbs.sbsd b.0.sbsd (sym (ap (is_in_sbs b.0.sbsd) is_how) ∙ both.1) in
     let one : t.sbs ≡ b.0 = one_by_key (λ (y : Sbs). y.sbsd.name) s.started names t.sbs b.0 (holder_started s f t m) b.1 (ap (λ (q : QName). q.name) named) in
     let allowed = (of_four (is_sbs_active t.sbs.phase) (is_below (count_in_sbs t.sbs.sbsd s.jobs) t.sbsd.maxjobs) (is_below (count_from_queue t.sbs.sbsd t.entry.jobq s.jobs) t.entry.maxact) (is_below (count_from_priority t.sbs.sbsd t.entry.jobq f.pty s.jobs) (maxpty_of t.entry f.pty)) m.allowed).0 in
@@ -258,7 +251,7 @@ module _ (s : State) (c : Candidate) (f : Job) (x : IsNext s c f) (h : IsDoneDue
 
   launched_by : (i : Job) (b : Bool) (k : Job) → (i.serial == c.serial) ≡ b → IsIn i s.jobs → k ≡ cond b (as_launched l i) i → is_active k.phase ≡ true → IsUpToDate s.clock s.started k
   launched_by i true k e m same a =
-      let its : i ≡ f = only_one s.jobs h.numbered.serials.distinct i f m x.first.job (same_number i.serial c.serial e ∙ x.serial) in
+      let its : i ≡ f = only_one s.jobs h.numbered.serials.distinct i f m x.first.job (eqb-true i.serial c.serial e ∙ x.serial) in
       subst (IsUpToDate s.clock s.started) (ap (as_launched l) (sym its) ∙ sym same) (launched_now (ap (λ (y : Job). is_active y.phase) (sym same) ∙ a))
   launched_by i false k e m same a =
       subst (IsUpToDate s.clock s.started) (sym same) (h.none_due.jobs i m (ap (λ (y : Job). is_active y.phase) (sym same) ∙ a))
@@ -313,8 +306,8 @@ opening_has_none_due offset = subst HasNoneDue (sym (opening_is offset)) (opened
 -- where the job isn't to be told, it is as it was
 untold_by : (started : List Sbs) (j : Job) (b : Bool) → is_to_end now started j ≡ b → (is_in_any now started j.how ≡ true → is_now j.wish ≡ true) → cond b (with_wish (wish.Now why.Endsbs false) j) j ≡ j
 untold_by started j true e told =
-    let both = of_both (is_active j.phase && not (is_now j.wish)) (is_in_any now started j.how) e in
-    let free = (of_both (is_active j.phase) (not (is_now j.wish)) both.0).1 in
+    let both = and_parts (is_active j.phase && not (is_now j.wish)) (is_in_any now started j.how) e in
+    let free = (and_parts (is_active j.phase) (not (is_now j.wish)) both.0).1 in
     let yes = told both.1 in
     let no : not true ≡ true = ap not (sym yes) ∙ free in
     absurd (cc)

@@ -2,6 +2,7 @@
 use Rattle.std.proofs.Common.{◌≡◌, ◌⊎◌, ℕ, ◌≤◌, ◌+◌, ◌==◌, ◌&&◌, not, Bool, true, false, cond, List, map, Option, Some, None, refl, sym, ap, subst, ◌∙◌, inl, inr, arith}
 use Rattle.std.specs.Option.{option_map}
 use Rattle.std.proofs.Math.Nat.{min-le_right}
+use Rattle.std.proofs.lemmas.Bool.{not-true, and_parts, eqb-true}
 use Rattle.wm_base.specs.declared.job.EndCause.{EndCause}
 use Rattle.wm_law.specs.declared.command.EndOption.{EndOption}
 use Rattle.wm_law.specs.declared.command.EndOption.TheVariants.{Cntrld, Immed}
@@ -30,7 +31,6 @@ use Rattle.wm_law.specs.Sound.{IsMoment}
 use Rattle.wm_law.specs.Wishes.{deadline, greatest_moment, handed_wish, has_come, has_wish, is_due, is_in_any, is_now, is_to_end, moment_after, now_cause, told_now, why_cause, wish_at, wish_moment, with_wish}
 use Rattle.wm_law.proofs.Distinct.{one_by_key}
 use Rattle.wm_law.proofs.Members.{in_mapped, map_same, of_mapped}
-use Rattle.wm_law.proofs.Tests.{of_both, same_number}
 
 -- a phase stays, or is that of a Starting job which the why of a wish ended
 abbrev pub IsPhaseAfter : Phase → Phase → Type 0
@@ -72,7 +72,7 @@ none_active p n e =
     let yes : is_active p ≡ true = ap is_active e in
     absurd (cc)
 
-unended : (p : Phase) (d : EndCause) → is_active p ≡ true → p ≡ Ended d → ⊥
+pub unended : (p : Phase) (d : EndCause) → is_active p ≡ true → p ≡ Ended d → ⊥
 unended p d a e =
     let no : is_active p ≡ false = ap is_active e in
     absurd (cc)
@@ -135,13 +135,13 @@ wishing_twice f g h k = record {
 pub telling_now : (test : Sbs → Bool) (started : List Sbs) → IsWishing (told_now test started)
 telling_now test started =
     giving (is_to_end test started) (λ j. wish.Now why.Endsbs false)
-    (λ j e. (of_both (is_active j.phase) (not (is_now j.wish)) (of_both (is_active j.phase && not (is_now j.wish)) (is_in_any test started j.how) e).0).0)
+    (λ j e. (and_parts (is_active j.phase) (not (is_now j.wish)) (and_parts (is_active j.phase && not (is_now j.wish)) (is_in_any test started j.how) e).0).0)
     (λ j h. tt)
 
 telling_later : (test : Sbs → Bool) (started : List Sbs) → IsWishing (told Cntrld test started)
 telling_later test started =
     giving (is_left_to_use test started) (λ j. wish.Later None why.Endsbs)
-    (λ j e. (of_both (is_active j.phase) (is_prestart j.kind) (of_both (is_active j.phase && is_prestart j.kind) (not (has_wish j.wish)) (of_both (is_active j.phase && is_prestart j.kind && not (has_wish j.wish)) (is_in_any test started j.how) e).0).0).0)
+    (λ j e. (and_parts (is_active j.phase) (is_prestart j.kind) (and_parts (is_active j.phase && is_prestart j.kind) (not (has_wish j.wish)) (and_parts (is_active j.phase && is_prestart j.kind && not (has_wish j.wish)) (is_in_any test started j.how) e).0).0).0)
     (λ j h. tt)
 
 pub telling : (option : EndOption) (test : Sbs → Bool) (started : List Sbs) → IsWishing (told option test started)
@@ -159,7 +159,7 @@ job_moment clock Immed delay = tt
 pub wishing_job : (serial clock : ℕ) (option : EndOption) (delay : ℕ) → IsWishing (active_at serial (with_wish (job_wish clock option delay)))
 wishing_job serial clock option delay =
     giving (λ j. is_active j.phase && j.serial == serial) (λ j. job_wish clock option delay)
-    (λ j e. (of_both (is_active j.phase) (j.serial == serial) e).0)
+    (λ j e. (and_parts (is_active j.phase) (j.serial == serial) e).0)
     (λ j h. job_moment clock option delay)
 
 kill_moment : (w : Wish) → IsMoment (wish_moment w) → IsMoment (wish_moment (handed_wish w))
@@ -171,7 +171,7 @@ kill_moment (wish.Now why handed) h = h
 pub wishing_kill : (serial : ℕ) → IsWishing (active_at serial with_kill)
 wishing_kill serial =
     giving (λ j. is_active j.phase && j.serial == serial) (λ j. handed_wish j.wish)
-    (λ j e. (of_both (is_active j.phase) (j.serial == serial) e).0)
+    (λ j e. (and_parts (is_active j.phase) (j.serial == serial) e).0)
     (λ j h. kill_moment j.wish h)
 
 later_moment : (b : Bool) (until : Option ℕ) (w : Why) → IsMoment until → IsMoment (wish_moment (cond b (wish.Now w false) (wish.Later until w)))
@@ -280,18 +280,14 @@ on_kill : (j : Job) (b : Bool) → IsWishOn j.wish (cond b (with_kill j) j).wish
 on_kill j true = on_handed j.wish
 on_kill j false = on_same j.wish j.wish refl
 
-of_false : (b : Bool) → not b ≡ true → b ≡ false
-of_false true e = absurd (cc)
-of_false false e = refl
-
 on_told_now : (test : Sbs → Bool) (started : List Sbs) (j : Job) (b : Bool) → is_to_end test started j ≡ b → IsWishOn j.wish (cond b (with_wish (wish.Now why.Endsbs false) j) j).wish
 on_told_now test started j true e =
-    on_now j.wish why.Endsbs (of_false (is_now j.wish) (of_both (is_active j.phase) (not (is_now j.wish)) (of_both (is_active j.phase && not (is_now j.wish)) (is_in_any test started j.how) e).0).1)
+    on_now j.wish why.Endsbs (not-true (is_now j.wish) (and_parts (is_active j.phase) (not (is_now j.wish)) (and_parts (is_active j.phase && not (is_now j.wish)) (is_in_any test started j.how) e).0).1)
 on_told_now test started j false e = on_same j.wish j.wish refl
 
 on_told_later : (test : Sbs → Bool) (started : List Sbs) (j : Job) (b : Bool) → is_left_to_use test started j ≡ b → IsWishOn j.wish (cond b (with_wish (wish.Later None why.Endsbs) j) j).wish
 on_told_later test started j true e =
-    on_later j.wish None why.Endsbs (of_false (has_wish j.wish) (of_both (is_active j.phase && is_prestart j.kind) (not (has_wish j.wish)) (of_both (is_active j.phase && is_prestart j.kind && not (has_wish j.wish)) (is_in_any test started j.how) e).0).1)
+    on_later j.wish None why.Endsbs (not-true (has_wish j.wish) (and_parts (is_active j.phase && is_prestart j.kind) (not (has_wish j.wish)) (and_parts (is_active j.phase && is_prestart j.kind && not (has_wish j.wish)) (is_in_any test started j.how) e).0).1)
 on_told_later test started j false e = on_same j.wish j.wish refl
 
 on_told : (option : EndOption) (test : Sbs → Bool) (started : List Sbs) (j : Job) → IsWishOn j.wish (told option test started j).wish
@@ -326,7 +322,7 @@ on_option clock Immed delay w e = on_now w why.Endjob e
 
 on_job_by : (s : State) (j : Job) (option : EndOption) (delay : ℕ) → IsIn j s.jobs → is_wished option j.wish ≡ false → IsNumbered s → (i : Job) (b : Bool) → (is_active i.phase && i.serial == j.serial) ≡ b → IsIn i s.jobs → IsWishOn i.wish (cond b (with_wish (job_wish s.clock option delay) i) i).wish
 on_job_by s j option delay m e n i true f k =
-    let serial = same_number i.serial j.serial (of_both (is_active i.phase) (i.serial == j.serial) f).1 in
+    let serial = eqb-true i.serial j.serial (and_parts (is_active i.phase) (i.serial == j.serial) f).1 in
     let same : i ≡ j = one_by_key (λ (x : Job). x.serial) s.jobs n.serials.distinct i j k m serial in
     on_option s.clock option delay i.wish (ap (λ (x : Job). is_wished option x.wish) same ∙ e)
 on_job_by s j option delay m e n i false f k = on_same i.wish i.wish refl

@@ -8,9 +8,11 @@ use Rattle.std.specs.declared.cmp.Ordering.TheVariants.{Less}
 use Rattle.std.proofs.lemmas.Bool.Decides.{nat_tests}
 use Rattle.std.proofs.lemmas.Cmp.{nat_list_cmp_total}
 use Rattle.std.proofs.lemmas.List.Kept.{AllPairs-filter}
+use Rattle.std.proofs.lemmas.Bool.{ltb-false, or_parts, not-false}
 use Rattle.wm_base.specs.declared.limit.Limit.{Limit}
 use Rattle.wm_base.specs.declared.qname.QName.{QName}
 use Rattle.wm_base.specs.declared.refusal.Refusal.TheVariants.{SbsActive}
+use Rattle.wm_base.proofs.Lists.{length-filter_few}
 use Rattle.wm_desc.proofs.Tables.{test_fails}
 use Rattle.wm_desc.specs.declared.description.Sbsd.{Sbsd}
 use Rattle.wm_desc.specs.declared.entry.AutoEntry.{AutoEntry}
@@ -27,13 +29,12 @@ use Rattle.wm_law.proofs.Distinct.{distinct_inserted, distinct_left}
 use Rattle.wm_law.proofs.InOrder.{in_inserted, inserted_length, number_added, sorted_added}
 use Rattle.wm_law.proofs.Members.{left_in, of_mapped}
 use Rattle.wm_law.proofs.Named.{is_named, own_name}
-use Rattle.wm_law.proofs.Tests.{of_neither, of_not}
 
 -- where no element passes a test, none that stands there does
 none_in : {X : Type 0} (p : X → Bool) (xs : List X) (x : X) → list_any p xs ≡ false → IsIn x xs → p x ≡ false
 none_in p [] x e i = absurd i
-none_in p (y ∷ ys) x e (inl same) = ap p same ∙ (of_neither (p y) (list_any p ys) e).0
-none_in p (y ∷ ys) x e (inr i) = none_in p ys x (of_neither (p y) (list_any p ys) e).1 i
+none_in p (y ∷ ys) x e (inl same) = ap p same ∙ (or_parts (p y) (list_any p ys) e).0
+none_in p (y ∷ ys) x e (inr i) = none_in p ys x (or_parts (p y) (list_any p ys) e).1 i
 
 not_fed : (queue : QName) (entries : List QueueEntry) → has_queue queue entries ≡ false → IsIn queue (map (λ e. e.jobq) entries) → ⊥
 not_fed queue entries e i =
@@ -49,11 +50,6 @@ one_more most xs ys room e = let short : nat_le most (length xs) ≡ false = roo
 left_by : {X : Type 0} (t : Bool) (x : X) (ys xs : List X) → length ys ≤ length xs → length (cond t (x ∷ ys) ys) ≤ length (x ∷ xs)
 left_by true x ys xs h = omega arith
 left_by false x ys xs h = omega arith
-
--- a filter leaves no more
-pub left_length : {X : Type 0} (p : X → Bool) (xs : List X) → length (filter p xs) ≤ length xs
-left_length p [] = omega arith
-left_length p (x ∷ xs) = left_by (p x) x (filter p xs) xs (left_length p xs)
 
 -- the objects that were there are
 pub record IsStillThere (a b : Objects) : Type 0 where
@@ -91,7 +87,7 @@ queue_in objects entry d accepted h =
     let unfed : has_queue entry.jobq d.queues ≡ false = test_fails tests 1 SbsActive accepted in
     let new : seq_used (λ (e : QueueEntry). e.seq) entry.seq d.queues ≡ false = test_fails tests 2 SbsActive accepted in
     let room : is_full 100 d.queues ≡ false = test_fails tests 3 SbsActive accepted in
-    let there : IsSome (object_named entry.jobq objects.jobqs) = sym (is_named entry.jobq objects.jobqs) ∙ of_not _ jobq in
+    let there : IsSome (object_named entry.jobq objects.jobqs) = sym (is_named entry.jobq objects.jobqs) ∙ not-false _ jobq in
     let place = place_of (λ (e : QueueEntry). e.seq) nat_cmp entry.seq d.queues in
     record {
       queues = record {
@@ -111,7 +107,7 @@ queue_in objects entry d accepted h =
 pub queue_out : (objects : Objects) (queue : QName) (d : Sbsd) → IsDescription objects d → IsDescription objects (without_queue queue d)
 queue_out objects queue d h =
     let stays = λ (e : QueueEntry). not (same_qname e.jobq queue) in
-    let fewer = left_length stays d.queues in
+    let fewer = length-filter_few stays d.queues in
     let was = h.sizes.queues in
     record {
       queues = record {
@@ -139,11 +135,8 @@ not_before : (any less : Bool) → any ≡ true → (any && less) ≡ false → 
 not_before true less a e = e
 not_before false less a e = absurd (cc)
 
-no_less : (a b : ℕ) → nat_lt a b ≡ false → b ≤ a
-no_less a b e = grind (arith, nat_tests)
-
 last_of : (e f : RouteEntry) → is_any e.cmp ≡ true → is_any_before e f ≡ false → f.seq ≤ e.seq
-last_of e f a none = no_less e.seq f.seq (not_before (is_any e.cmp) (nat_lt e.seq f.seq) a none)
+last_of e f a none = ltb-false e.seq f.seq (not_before (is_any e.cmp) (nat_lt e.seq f.seq) a none)
 
 -- *ANY among the entries, and one more that doesn't take it its place
 any_last_in : (x : RouteEntry) (xs : List RouteEntry) → any_not_last x xs ≡ false → ((e f : RouteEntry) → IsIn e xs → IsIn f xs → is_any e.cmp ≡ true → f.seq ≤ e.seq) → (e f : RouteEntry) → (e ≡ x) ⊎ IsIn e xs → (f ≡ x) ⊎ IsIn f xs → is_any e.cmp ≡ true → f.seq ≤ e.seq
@@ -151,10 +144,10 @@ any_last_in x xs none h e f (inl a) (inl b) k =
     let same : f.seq ≡ e.seq = ap (λ (n : RouteEntry). n.seq) (b ∙ sym a) in
     omega arith
 any_last_in x xs none h e f (inl a) (inr j) k =
-    let n = of_neither (is_any_before x f) (is_any_before f x) (none_in (λ (other : RouteEntry). is_any_before x other || is_any_before other x) xs f none j) in
+    let n = or_parts (is_any_before x f) (is_any_before f x) (none_in (λ (other : RouteEntry). is_any_before x other || is_any_before other x) xs f none j) in
     last_of e f k (ap (λ (y : RouteEntry). is_any_before y f) a ∙ n.0)
 any_last_in x xs none h e f (inr i) (inl b) k =
-    let n = of_neither (is_any_before x e) (is_any_before e x) (none_in (λ (other : RouteEntry). is_any_before x other || is_any_before other x) xs e none i) in
+    let n = or_parts (is_any_before x e) (is_any_before e x) (none_in (λ (other : RouteEntry). is_any_before x other || is_any_before other x) xs e none i) in
     last_of e f k (ap (is_any_before e) b ∙ n.1)
 any_last_in x xs none h e f (inr i) (inr j) k = h e f i j k
 
@@ -165,7 +158,7 @@ route_in objects entry d accepted h =
     let pgm : not (is_qcmd entry.pgm || has_object entry.pgm objects.programs) ≡ false = test_fails tests 0 SbsActive accepted in
     let last : any_not_last entry d.routes ≡ false = test_fails tests 3 SbsActive accepted in
     let room : is_full 999 d.routes ≡ false = test_fails tests 4 SbsActive accepted in
-    let there : IsProgram objects entry.pgm = program_there objects entry.pgm (of_not _ pgm) in
+    let there : IsProgram objects entry.pgm = program_there objects entry.pgm (not-false _ pgm) in
     let place = place_of (λ (e : RouteEntry). e.seq) nat_cmp entry.seq d.routes in
     record {
       queues = h.queues;
@@ -184,7 +177,7 @@ route_in objects entry d accepted h =
 pub route_out : (objects : Objects) (seq : ℕ) (d : Sbsd) → IsDescription objects d → IsDescription objects (without_route seq d)
 route_out objects seq d h =
     let stays = λ (e : RouteEntry). not (nat_eq e.seq seq) in
-    let fewer = left_length stays d.routes in
+    let fewer = length-filter_few stays d.routes in
     let was = h.sizes.routes in
     record {
       queues = h.queues;
@@ -203,7 +196,7 @@ auto_in objects entry d accepted h =
     let jobd : not (has_object entry.jobd objects.jobds) ≡ false = test_fails tests 0 SbsActive accepted in
     let new : has_auto entry.job d.autos ≡ false = test_fails tests 1 SbsActive accepted in
     let room : is_full 100 d.autos ≡ false = test_fails tests 2 SbsActive accepted in
-    let there : IsSome (object_named entry.jobd objects.jobds) = sym (is_named entry.jobd objects.jobds) ∙ of_not _ jobd in
+    let there : IsSome (object_named entry.jobd objects.jobds) = sym (is_named entry.jobd objects.jobds) ∙ not-false _ jobd in
     let place = place_of (λ (e : AutoEntry). e.job) (slice_cmp nat_cmp) entry.job d.autos in
     record {
       queues = h.queues;
@@ -222,7 +215,7 @@ auto_in objects entry d accepted h =
 pub auto_out : (objects : Objects) (job : List ℕ) (d : Sbsd) → IsDescription objects d → IsDescription objects (without_auto job d)
 auto_out objects job d h =
     let stays = λ (e : AutoEntry). not (pointwise nat_eq e.job job) in
-    let fewer = left_length stays d.autos in
+    let fewer = length-filter_few stays d.autos in
     let was = h.sizes.autos in
     record {
       queues = h.queues;

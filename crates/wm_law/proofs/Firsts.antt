@@ -1,6 +1,7 @@
 -- The first job of a subsystem, and the next job.
 use Rattle.std.proofs.Common.{not, nat_le, ◌≡◌, Bool, true, cond, Option, Some, None, refl, sym, ap, subst, ◌∙◌}
 use Rattle.wm_base.specs.declared.qname.QName.{QName}
+use Rattle.wm_base.proofs.Tests.{of_four, guarded}
 use Rattle.wm_law.specs.declared.choice.Candidate.{Candidate}
 use Rattle.wm_law.specs.declared.choice.Rank.{Rank}
 use Rattle.wm_law.specs.declared.job.Job.{Job}
@@ -15,7 +16,6 @@ use Rattle.wm_desc.specs.Table.{object_named, same_qname}
 use Rattle.wm_law.proofs.Members.{found_among}
 use Rattle.wm_law.proofs.Named.{one_name, own_name}
 use Rattle.wm_law.proofs.Ranks.{NotBehind, chain, from_best, least_of, none_of, not_before, not_earlier}
-use Rattle.wm_law.proofs.Tests.{guarded, of_four}
 
 abbrev pub rank_of : Job → Turn → Rank
 rank_of j t = record { sbs = t.sbs.sbsd.name; seq = t.entry.seq; pty = j.pty; place = j.place }

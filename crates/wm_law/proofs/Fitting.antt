@@ -2,11 +2,13 @@
 use Rattle.std.proofs.Common.{◌≡◌, ℕ, ◌≤◌, ◌==◌, not, nat_le, Bool, true, false, cond, List, [], ◌∷◌, Option, Some, None, refl, sym, ap, subst, ◌∙◌, arith}
 use Rattle.std.specs.List.{find}
 use Rattle.std.proofs.lemmas.Bool.Decides.{nat_tests}
+use Rattle.std.proofs.lemmas.Bool.{not-true, leb-true, eqb-true}
 use Rattle.wm_base.specs.declared.job.EndCause.TheVariants.{NoRoute, RouteFull}
 use Rattle.wm_base.specs.declared.job.How.{How}
 use Rattle.wm_base.specs.Iterate.{IsKept}
 use Rattle.wm_base.specs.Limit.{is_below}
 use Rattle.wm_base.proofs.Iterate.{iterate-keeps}
+use Rattle.wm_base.proofs.Tests.{of_four}
 use Rattle.wm_desc.specs.declared.entry.RouteEntry.{RouteEntry}
 use Rattle.wm_law.specs.declared.call.Call.{Call}
 use Rattle.wm_law.specs.declared.call.Entry.{Entry}
@@ -36,15 +38,7 @@ use Rattle.wm_law.proofs.Passed.{IsOrderedSince, LaunchesNone, calls_launch_none
 use Rattle.wm_law.proofs.Queued.{queued_calls, step_keeps_queues}
 use Rattle.wm_law.proofs.Routed.{full_through, launched_routed, started_through, unrouted_through}
 use Rattle.wm_law.proofs.Settling.{settled_leaves_none}
-use Rattle.wm_law.proofs.Tests.{of_four, same_number}
 use Rattle.wm_law.proofs.Turns.{has_turn, may_start_in}
-
-of_not_true : (b : Bool) → not b ≡ true → b ≡ false
-of_not_true true e = absurd (cc)
-of_not_true false e = refl
-
-at_most : (n m : ℕ) → nat_le n m ≡ true → n ≤ m
-at_most n m h = grind (arith, nat_tests)
 
 -- in order, and each launched job is fit
 record IsFitSince (s t : State) : Type 0 where
@@ -61,7 +55,7 @@ module _ (s t : State) (c : Candidate) (f : Job) (x : IsNext t c f) (h : IsFitSi
       (of_four (is_sbs_active u.sbs.phase) (is_below (count_in_sbs u.sbs.sbsd t.jobs) u.sbsd.maxjobs) (is_below (count_from_queue u.sbs.sbsd u.entry.jobq t.jobs) u.entry.maxact) (is_below (count_from_priority u.sbs.sbsd u.entry.jobq f.pty t.jobs) (maxpty_of u.entry f.pty)) x.first.may.allowed).0
 
   free : is_held t x.turn.queue ≡ false
-  free = of_not_true (is_held t x.turn.queue) (ap (has_free_queue t) (sym x.first.may.queue) ∙ ready.2)
+  free = not-true (is_held t x.turn.queue) (ap (has_free_queue t) (sym x.first.may.queue) ∙ ready.2)
 
   abbrev by : ℕ → How
   by = from_queue x.turn.sbs.sbsd x.turn.queue f
@@ -78,9 +72,9 @@ module _ (s t : State) (c : Candidate) (f : Job) (x : IsNext t c f) (h : IsFitSi
   fit_now : IsFit s (launched_in t c f) (as_launched (launched t c.sbs c.jobq f) f) x.turn
   fit_now = record {
     turn = has_turn t f x.turn x.first.may;
-    held = of_not_true f.held ready.1;
+    held = not-true f.held ready.1;
     queue = free;
-    due = at_most f.due t.clock ready.3;
+    due = leb-true f.due t.clock ready.3;
     active = active;
     starting = λ e. (
         let r = started_through t x.turn.sbs.sbsd by x.turn.sbsd f (route x.turn.sbsd f.rtgdta) refl (routed Starting e) in
@@ -107,7 +101,7 @@ module _ (s t : State) (c : Candidate) (f : Job) (x : IsNext t c f) (h : IsFitSi
   fit_at : (i : Job) (b : Bool) (g : Job) → (i.serial == c.serial) ≡ b → IsIn i t.jobs → g ≡ cond b (as_launched (launched t c.sbs c.jobq f) i) i → was_launched s g ≡ true → (u : Turn) × IsFit s (launched_in t c f) g u
   fit_at i true g e m same w =
       let l = launched t c.sbs c.jobq f in
-      let now : as_launched l f ≡ g = ap (as_launched l) (sym (one s t c f x h.ordered i m (same_number i.serial c.serial e))) ∙ sym same in
+      let now : as_launched l f ≡ g = ap (as_launched l) (sym (one s t c f x h.ordered i m (eqb-true i.serial c.serial e))) ∙ sym same in
       (x.turn, subst (λ (y : Job). IsFit s (launched_in t c f) y x.turn) now fit_now)
   fit_at i false g e m same w =
       let k = h.fit i m (ap (was_launched s) (sym same) ∙ w) in

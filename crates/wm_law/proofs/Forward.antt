@@ -1,8 +1,10 @@
 -- No step loses a job, or takes its phase or its wish back.
 use Rattle.std.proofs.Common.{◌≡◌, ◌⊎◌, ℕ, ◌≤◌, ◌==◌, Bool, true, false, cond, List, [], ◌∷◌, map, Option, Some, None, refl, sym, ap, subst, ◌∙◌, inl, inr, arith}
 use Rattle.std.specs.List.{find}
+use Rattle.std.proofs.lemmas.Bool.{eqb-true}
 use Rattle.wm_base.specs.Iterate.{IsKept}
 use Rattle.wm_base.proofs.Iterate.{iterate-keeps}
+use Rattle.wm_base.proofs.Tests.{Some-injective}
 use Rattle.wm_law.specs.declared.call.Call.{Call}
 use Rattle.wm_law.specs.declared.choice.Candidate.{Candidate}
 use Rattle.wm_law.specs.declared.job.Job.{Job}
@@ -24,12 +26,11 @@ use Rattle.wm_law.specs.Settling.{come_due, settle, leave, waiting}
 use Rattle.wm_law.specs.Machine.{apply, step, with_clock}
 use Rattle.wm_law.specs.Wishes.{now_cause}
 use Rattle.wm_law.proofs.Alterations.{IsAltered}
-use Rattle.wm_law.proofs.Endings.{IsPhaseAfter, IsWishing, key_same, on_same, on_still}
+use Rattle.wm_law.proofs.Endings.{IsPhaseAfter, IsWishing, key_same, on_same, on_still, unended}
 use Rattle.wm_law.proofs.Members.{in_longer, in_mapped}
 use Rattle.wm_law.proofs.Moves.{HoldsOfStates, call_keeps, comes_due}
 use Rattle.wm_law.proofs.Numbers.{launches_keep, apply_keeps, clock_keeps, ready_keeps}
 use Rattle.wm_law.proofs.Firsts.{next_waits}
-use Rattle.wm_law.proofs.Tests.{same_number}
 
 -- what is active doesn't come to wait
 not_back : (p q : Phase) → is_active p ≡ true → is_waiting q ≡ true → phase_rank p ≤ phase_rank q → ⊥
@@ -43,17 +44,9 @@ not_back (Handed m) Waiting a w r = absurd (omega arith)
 not_back (Running m) Waiting a w r = absurd (omega arith)
 not_back (Ended c) Waiting a w r = absurd (cc)
 
-some_is : {X : Type 0} (x y : X) → Some x ≡ Some y → x ≡ y
-some_is x y e = cc
-
-not_ended : (p : Phase) (d : EndCause) → is_active p ≡ true → p ≡ Ended d → ⊥
-not_ended p d a e =
-    let no : is_active p ≡ false = ap is_active e in
-    absurd (cc)
-
 -- a phase that stays ends nothing
 end_same : (p : Phase) (w : Wish) → IsEndOn p w p
-end_same p w = record { kept = λ c e. e; by_wish = λ c d a k e. absurd (not_ended p d a e) }
+end_same p w = record { kept = λ c e. e; by_wish = λ c d a k e. absurd (unended p d a e) }
 
 -- nor is a job that waits to end by a wish
 end_waiting : (p : Phase) (w : Wish) (q : Phase) → is_waiting p ≡ true → IsEndOn p w q
@@ -107,7 +100,7 @@ only_one (k ∷ jobs) d i j (inr m) (inl b) e = absurd (d.0 (subst (λ (x : ℕ)
 only_one (k ∷ jobs) d i j (inr m) (inr n) e = only_one jobs d.1 i j m n e
 
 later_at : (change : Job → Job) (serial : ℕ) (i j : Job) (t : Bool) → (j.serial == serial) ≡ t → (j.serial ≡ serial → i ≡ j) → IsLater i (change i) → IsLater j (cond t (change j) j)
-later_at change serial i j true e one h = subst (λ (x : Job). IsLater x (change x)) (one (same_number j.serial serial e)) h
+later_at change serial i j true e one h = subst (λ (x : Job). IsLater x (change x)) (one (eqb-true j.serial serial e)) h
 later_at change serial i j false e one h = no_less j
 
 -- a change that makes the job of the serial a later one
@@ -163,7 +156,7 @@ active_stays : (change : Job → Job) → IsWishing change → (j : Job) (c : En
 active_stays change h j c e = ap (λ (x : Job). x.phase) (h.idle j (ap is_active e)) ∙ e
 
 one_cause : (a b : EndCause) (o : Option EndCause) → o ≡ Some a → o ≡ Some b → a ≡ b
-one_cause a b o e f = some_is a b (sym e ∙ f)
+one_cause a b o e f = Some-injective a b (sym e ∙ f)
 
 end_wished : (change : Job → Job) → IsWishing change → (j : Job) → IsWishOn j.wish (change j).wish → IsEndOn j.phase j.wish (change j).phase
 end_wished change h j on = record {

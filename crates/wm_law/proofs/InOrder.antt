@@ -10,20 +10,11 @@ use Rattle.std.proofs.lemmas.Grind.{common_steps}
 use Rattle.std.proofs.lemmas.List.Elements.{All-nil, All-cons, All-head, All-tail, All-append, All-take, All-drop, All-weaker}
 use Rattle.std.proofs.lemmas.List.Kept.{AllPairs-cons}
 use Rattle.std.proofs.lemmas.List.Sums.{sum_by-cons}
+use Rattle.std.proofs.lemmas.Bool.{or_parts}
+use Rattle.wm_base.proofs.Orderings.{is_lt-Less, neither-Greater}
 use Rattle.wm_desc.specs.Refusals.{seq_used}
 use Rattle.wm_desc.specs.Sorted.{IsSortedOnce, place_of, has_key, added}
 use Rattle.wm_law.specs.Laws.{IsIn}
-use Rattle.wm_law.proofs.Tests.{of_neither}
-
-is_less : (r : Ordering) → is_lt r ≡ true → r ≡ Less
-is_less Less h = refl
-is_less Equal h = absurd (cc)
-is_less Greater h = absurd (cc)
-
-is_greater : (r : Ordering) → is_lt r ≡ false → is_eq r ≡ false → r ≡ Greater
-is_greater Less h k = absurd (cc)
-is_greater Equal h k = absurd (cc)
-is_greater Greater h k = refl
 
 module _ {E K : Type 0} (key : E → K) (cmp : K → K → Ordering) (o : IsTotalOrder cmp) where
   abbrev IsBelow : E → E → Type 0
@@ -63,7 +54,7 @@ module _ {E K : Type 0} (key : E → K) (cmp : K → K → Ordering) (o : IsTota
   not_less a b h = ap is_lt (o.antisymm a b) ∙ ap (λ (r : Ordering). is_lt (ordering_reverse r)) h
 
   other_way : (a b : K) → is_lt (cmp a b) ≡ false → is_eq (cmp a b) ≡ false → cmp b a ≡ Less
-  other_way a b h k = o.antisymm b a ∙ ap ordering_reverse (is_greater (cmp a b) h k)
+  other_way a b h k = o.antisymm b a ∙ ap ordering_reverse (neither-Greater (cmp a b) h k)
 
   -- where all keys are greater, none stands before
   none_before : (k : K) (xs : List E) → All (λ e. cmp k (key e) ≡ Less) xs → place k xs ≡ 0
@@ -83,7 +74,7 @@ module _ {E K : Type 0} (key : E → K) (cmp : K → K → Ordering) (o : IsTota
       subst
       (λ (k : ℕ). IsSorted (insert (y ∷ xs) k x))
       (sym (place_behind (key x) y xs e))
-      (AllPairs-cons IsBelow y (insert xs (place (key x) xs) x) (all_inserted (IsBelow y) xs (place (key x) xs) x (first_below y xs s) (is_less _ e)) h)
+      (AllPairs-cons IsBelow y (insert xs (place (key x) xs) x) (all_inserted (IsBelow y) xs (place (key x) xs) x (first_below y xs s) (is_lt-Less _ e)) h)
   sorted_by x y xs false e n s h =
       let less : cmp (key x) (key y) ≡ Less = other_way (key y) (key x) e n in
       let all : All (IsBelow x) (y ∷ xs) = All-cons (IsBelow x) y xs less (All-weaker (IsBelow y) (IsBelow x) (λ z l. o.trans (key x) (key y) (key z) less l) xs (first_below y xs s)) in
@@ -94,7 +85,7 @@ module _ {E K : Type 0} (key : E → K) (cmp : K → K → Ordering) (o : IsTota
     pub sorted_added : (x : E) (xs : List E) → IsSorted xs → has_key key eq (key x) xs ≡ false → IsSorted (added key cmp x xs)
     sorted_added x [] s new = AllPairs-cons IsBelow x [] (All-nil (IsBelow x)) s
     sorted_added x (y ∷ xs) s new =
-        let n = of_neither (eq (key y) (key x)) (list_any (λ (e : E). eq (key e) (key x)) xs) new in
+        let n = or_parts (eq (key y) (key x)) (list_any (λ (e : E). eq (key e) (key x)) xs) new in
         sorted_by x y xs (is_lt (cmp (key y) (key x))) refl (sym (ties (key y) (key x)) ∙ n.0) s (sorted_added x xs (rest_sorted y xs s) n.1)
 
 -- so an entry with a number of its own

@@ -5,6 +5,7 @@ use Rattle.std.specs.Ordering.{is_lt, nat_cmp}
 use Rattle.std.specs.Cmp.Lexicographic.{slice_cmp}
 use Rattle.std.proofs.lemmas.Bool.Decides.{nat_tests}
 use Rattle.std.proofs.lemmas.List.Sums.{sum_by-cons}
+use Rattle.std.proofs.lemmas.Bool.{eqb-true}
 use Rattle.wm_base.specs.declared.job.How.{How}
 use Rattle.wm_base.specs.declared.limit.Limit.{Limit}
 use Rattle.wm_base.specs.declared.limit.Limit.TheVariants.{NoMax, Most}
@@ -12,6 +13,7 @@ use Rattle.wm_base.specs.declared.qname.QName.{QName}
 use Rattle.wm_base.specs.Iterate.{IsKept}
 use Rattle.wm_base.specs.Limit.{is_below}
 use Rattle.wm_base.proofs.Iterate.{iterate-keeps, next-iterate}
+use Rattle.wm_base.proofs.Tests.{all_four, of_four}
 use Rattle.wm_desc.specs.declared.description.Sbsd.{Sbsd}
 use Rattle.wm_desc.specs.declared.entry.QueueEntry.{QueueEntry}
 use Rattle.wm_law.specs.declared.choice.Candidate.{Candidate}
@@ -35,7 +37,6 @@ use Rattle.wm_law.proofs.Members.{of_mapped}
 use Rattle.wm_law.proofs.Numbers.{launches_keep}
 use Rattle.wm_law.proofs.Ranks.{NotBehind, least_of, none_of, not_earlier}
 use Rattle.wm_law.proofs.Settling.{first_lessens, not_waiting, start_jobs-launch, start_jobs-none}
-use Rattle.wm_law.proofs.Tests.{all_four, of_four, same_number}
 
 pub not_active : (p : Phase) → is_waiting p ≡ true → is_active p ≡ false
 not_active Waiting h = refl
@@ -62,7 +63,7 @@ no_less_at test change false j h = omega arith
 no_fewer : (test : How → Bool) (serial : ℕ) (change : Job → Job) (jobs : List Job) → ((k : Job) → IsIn k jobs → k.serial ≡ serial → is_active k.phase ≡ false) → count_active test jobs ≤ count_active test (map (changed_at serial change) jobs)
 no_fewer test serial change [] h = omega arith
 no_fewer test serial change (j ∷ jobs) h =
-    let this = no_less_at test change (j.serial == serial) j (λ t. h j (inl refl) (same_number j.serial serial t)) in
+    let this = no_less_at test change (j.serial == serial) j (λ t. h j (inl refl) (eqb-true j.serial serial t)) in
     let rest = no_fewer test serial change jobs (λ k i e. h k (inr i) e) in
     rw (sum_by-cons (one test) (changed_at serial change j) (map (changed_at serial change) jobs), sum_by-cons (one test) j jobs) (omega arith)
 

@@ -1,4 +1,3 @@
-pub mod Tests
 pub mod Members
 pub mod Distinct
 pub mod Changed

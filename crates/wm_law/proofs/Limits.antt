@@ -2,6 +2,7 @@
 use Rattle.std.proofs.Common.{◌≡◌, ◌⊎◌, ℕ, ◌<◌, ◌≤◌, ◌+◌, ◌++◌, ◌==◌, ◌&&◌, Bool, true, false, cond, List, [], ◌∷◌, map, Option, Some, None, refl, sym, ap, subst, ◌∙◌, inl, inr, nat_lt, arith}
 use Rattle.std.specs.List.{find}
 use Rattle.std.proofs.lemmas.Bool.Decides.{nat_tests}
+use Rattle.std.proofs.lemmas.Bool.{ltb-true, and_parts}
 use Rattle.wm_base.specs.declared.job.How.{How}
 use Rattle.wm_base.specs.declared.job.How.TheVariants.{Auto}
 use Rattle.wm_base.specs.declared.limit.Limit.{Limit}
@@ -50,16 +51,12 @@ use Rattle.wm_law.proofs.Nexts.{IsNext, below_maxact, below_maxjobs, below_maxpt
 use Rattle.wm_law.proofs.Numbers.{apply_keeps, clock_keeps, due_keeps, launches_keep, only_started, step_keeps_numbers}
 use Rattle.wm_law.proofs.Orders.{apply_keeps_orders, clock_keeps_orders, step_keeps_orders}
 use Rattle.wm_law.proofs.Routed.{below_route, by_route}
-use Rattle.wm_law.proofs.Tests.{of_both}
-
-less_of : (n most : ℕ) → nat_lt n most ≡ true → n < most
-less_of n most h = grind (arith, nat_tests)
 
 -- a count that was below the limit is within it with one more
 within_one : (n m : ℕ) (limit : Limit) → is_below n limit ≡ true → m ≤ n + 1 → IsWithin m limit
 within_one n m NoMax h e = tt
 within_one n m (Most most) h e =
-    let less : n < most = less_of n most h in
+    let less : n < most = ltb-true n most h in
     let within : m ≤ most = omega arith in
     within
 
@@ -117,7 +114,7 @@ module _ (s : State) (o : Objects) (test : How → Bool) (aside : JobKind → Bo
   within_by t c j true e n h =
       let l = launched t c.sbs c.jobq j in
       let more = one_more (λ (k : Job). is_active k.phase && test k.how) c.serial (as_launched l) t.jobs h.numbered.serials.distinct in
-      let below = admits t c j h.objects n (of_both (is_active l.phase) (test l.how) e).1 in
+      let below = admits t c j h.objects n (and_parts (is_active l.phase) (test l.how) e).1 in
       inr (within_one (count_active test t.jobs) (count_active test (launched_in t c j).jobs) limit below more)
   within_by t c j false e n h =
       let l = launched t c.sbs c.jobq j in
@@ -248,7 +245,7 @@ module _ (s : State) (test : How → Bool) (limit : Limit) (jobs : List Job) (j 
   last_within true e below h =
       let count = last_count in
       let most = one_most (λ (k : Job). is_active k.phase && test k.how) j in
-      inr (within_one (count_active test jobs) (count_active test (jobs ++ j ∷ [])) limit (below (of_both (is_active j.phase) (test j.how) e).1) (omega arith))
+      inr (within_one (count_active test jobs) (count_active test (jobs ++ j ∷ [])) limit (below (and_parts (is_active j.phase) (test j.how) e).1) (omega arith))
   last_within false e below (inl none) = inl (last_new e none)
   last_within false e below (inr w) =
       let count = last_count in
@@ -287,7 +284,7 @@ autos_due s t h k i p =
 
 counted_before : (test : How → Bool) (change : Job → Job) → IsWishing change → (j : Job) → (is_active (change j).phase && test (change j).how) ≡ true → (is_active j.phase && test j.how) ≡ true
 counted_before test change e j h =
-    let both = of_both (is_active (change j).phase) (test (change j).how) h in
+    let both = and_parts (is_active (change j).phase) (test (change j).how) h in
     ap (λ (b : Bool). b && test j.how) (was_active j.phase (change j).phase (e.phase j) both.0)
     ∙ ap test (sym (key_same change e (λ (x : Job). x.how) (λ x p w. refl) j))
     ∙ both.1

@@ -4,6 +4,7 @@ use Rattle.std.specs.List.{count_by}
 use Rattle.std.proofs.lemmas.Bool.Decides.{nat_tests}
 use Rattle.std.proofs.lemmas.List.Sums.{sum_by-cons}
 use Rattle.wm_base.specs.declared.qname.QName.{QName}
+use Rattle.wm_base.proofs.Tests.{not_both}
 use Rattle.wm_law.specs.declared.job.Job.{Job}
 use Rattle.wm_law.specs.declared.job.Phase.{Phase}
 use Rattle.wm_law.specs.declared.job.Phase.TheVariants.{Starting}
@@ -42,14 +43,10 @@ counted test (k ∷ jobs) j (inr i) h =
 pub not_zero : (n : ℕ) → 0 < n → (n == 0) ≡ false
 not_zero n h = grind (arith, nat_tests)
 
-pub not_gone : (a b : Bool) → b ≡ false → not (a && b) ≡ true
-not_gone true b e = ap not e
-not_gone false b e = refl
-
 -- a subsystem with a Starting job doesn't leave
 pub lodged_left : (s : State) (j : Job) → IsIn j s.jobs → j.phase ≡ Starting → IsLodged s.started j → IsLodged (leave s).started j
 lodged_left s j i e h =
     let b = h.0 in
     let active : (is_active j.phase && is_in_sbs b.sbsd j.how) ≡ true = ap (λ (p : Phase). is_active p && is_in_sbs b.sbsd j.how) e ∙ h.2 in
     let more = counted (λ (k : Job). is_active k.phase && is_in_sbs b.sbsd k.how) s.jobs j i active in
-    (b, in_left (λ (x : Sbs). not (is_gone s.jobs x)) s.started b (not_gone (is_ending b.phase) (count_in_sbs b.sbsd s.jobs == 0) (not_zero (count_in_sbs b.sbsd s.jobs) more)) h.1, h.2)
+    (b, in_left (λ (x : Sbs). not (is_gone s.jobs x)) s.started b (not_both (is_ending b.phase) (count_in_sbs b.sbsd s.jobs == 0) (not_zero (count_in_sbs b.sbsd s.jobs) more)) h.1, h.2)

@@ -1,6 +1,7 @@
 -- What stands in lists that are made from others.
-use Rattle.std.proofs.Common.{◌≡◌, ◌⊎◌, ◌++◌, Bool, true, false, cond, List, [], ◌∷◌, map, filter, Some, refl, sym, ap, subst, inl, inr}
+use Rattle.std.proofs.Common.{◌≡◌, ◌⊎◌, ◌++◌, Bool, true, false, cond, List, [], ◌∷◌, map, filter, Some, refl, sym, ap, subst, inl, inr, All}
 use Rattle.std.specs.List.{find}
+use Rattle.std.proofs.lemmas.List.Elements.{All-head, All-tail}
 use Rattle.wm_law.specs.Laws.{IsIn}
 
 pub of_last : {X : Type 0} (xs : List X) (y x : X) → IsIn x (xs ++ y ∷ []) → IsIn x xs ⊎ (x ≡ y)
@@ -65,3 +66,9 @@ found_by p y ys false e x h rest = let r = rest h in (inr r.0, r.1)
 pub found_among : {X : Type 0} (p : X → Bool) (xs : List X) (x : X) → find p xs ≡ Some x → IsIn x xs × (p x ≡ true)
 found_among p [] x h = absurd (cc)
 found_among p (y ∷ ys) x h = found_by p y ys (p y) refl x h (found_among p ys x)
+
+-- what holds of each element holds of one
+pub All-in : {X : Type 0} (P : X → Type 0) (xs : List X) (x : X) → All P xs → IsIn x xs → P x
+All-in P [] x all i = absurd i
+All-in P (y ∷ ys) x all (inl e) = subst P (sym e) (All-head P y ys all)
+All-in P (y ∷ ys) x all (inr i) = All-in P ys x (All-tail P y ys all) i

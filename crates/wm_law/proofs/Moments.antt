@@ -2,6 +2,7 @@
 use Rattle.std.proofs.Common.{◌≡◌, ℕ, ◌<◌, ◌||◌, ◌&&◌, not, Bool, true, false, cond, List, [], ◌∷◌, fold, Option, Some, None, nat_le, nat_lt, min, max, refl, sym, ap, ◌∙◌, inl, inr, arith}
 use Rattle.std.proofs.lemmas.Bool.Decides.{nat_tests}
 use Rattle.std.proofs.Math.Nat.{min-le_left, min-le_right}
+use Rattle.std.proofs.lemmas.Bool.{or_parts}
 use Rattle.wm_law.specs.declared.job.Job.{Job}
 use Rattle.wm_law.specs.declared.job.Wish.{Wish}
 use Rattle.wm_law.specs.declared.job.Wish.TheVariants as wish
@@ -13,7 +14,6 @@ use Rattle.wm_law.specs.Pending.{active_moment, ahead, next_ending, next_wish, s
 use Rattle.wm_law.specs.Settling.{sbs_moment}
 use Rattle.wm_law.specs.Sound.{IsUpToDate, NoneDueBefore}
 use Rattle.wm_law.specs.Wishes.{has_come, is_wish_due, wish_moment}
-use Rattle.wm_law.proofs.Tests.{of_neither}
 
 not_yet_both : (clock l m : ℕ) → nat_le (min l m) clock ≡ false → (nat_le l clock ≡ false) × (nat_le m clock ≡ false)
 not_yet_both clock l m h =
@@ -59,7 +59,7 @@ not_yet clock moment (Some m) h k =
 -- the moment of a wish that isn't due hasn't come
 not_come : (clock : ℕ) (j : Job) (w : Wish) → is_wish_due clock j w ≡ false → has_come clock (wish_moment w) ≡ false
 not_come clock j wish.NoWish h = refl
-not_come clock j (wish.Later until why) h = (of_neither (has_come clock until) (is_prestart j.kind && not j.evoke) h).0
+not_come clock j (wish.Later until why) h = (or_parts (has_come clock until) (is_prestart j.kind && not j.evoke) h).0
 not_come clock j (wish.Now why handed) h = refl
 
 -- such a wish isn't due either by a clock by which its moment hasn't come
@@ -67,7 +67,7 @@ still_undue : (clock later : ℕ) (j : Job) (w : Wish) → is_wish_due clock j w
 still_undue clock later j wish.NoWish h k = refl
 still_undue clock later j (wish.Later until why) h k =
     ap (λ (b : Bool). b || (is_prestart j.kind && not j.evoke)) k
-    ∙ (of_neither (has_come clock until) (is_prestart j.kind && not j.evoke) h).1
+    ∙ (or_parts (has_come clock until) (is_prestart j.kind && not j.evoke) h).1
 still_undue clock later j (wish.Now why handed) h k = refl
 
 job_before : (s : State) (moment : ℕ) (j : Job) → is_active j.phase ≡ true → has_come moment (ahead s.clock (active_moment j)) ≡ false → IsUpToDate s.clock s.started j → IsUpToDate (max s.clock moment) s.started j

@@ -5,6 +5,7 @@ use Rattle.std.specs.Prelude.{Result, Ok, Err}
 use Rattle.std.specs.Option.{IsSome}
 use Rattle.std.proofs.lemmas.Bool.Decides.{nat_tests}
 use Rattle.std.proofs.Math.Nat.{min-le_left, min-le_right}
+use Rattle.std.proofs.lemmas.Bool.{eqb-true, not-false}
 use Rattle.wm_base.specs.declared.job.Asked.TheVariants.{Start, Kill}
 use Rattle.wm_base.specs.declared.job.EndCause.{EndCause}
 use Rattle.wm_base.specs.declared.job.EndCause.TheVariants as cause
@@ -18,6 +19,7 @@ use Rattle.wm_base.specs.declared.refusal.Refusal.{Refusal}
 use Rattle.wm_base.specs.declared.refusal.Refusal.TheVariants.{AlreadyEnding, HeldAlready, NoJob, NoObject, NotHeld, NotInUse, NumbersUsed, PoweringDown, SbsNotActive, WrongPhase}
 use Rattle.wm_base.specs.Iterate.{IsKept}
 use Rattle.wm_base.proofs.Iterate.{iterate-keeps}
+use Rattle.wm_base.proofs.Tests.{unrefused}
 use Rattle.wm_desc.specs.declared.description.Jobd.{Jobd}
 use Rattle.wm_desc.specs.declared.entry.AutoEntry.{AutoEntry}
 use Rattle.wm_desc.specs.declared.objects.Objects.{Objects}
@@ -72,7 +74,6 @@ use Rattle.wm_law.proofs.Endings.{IsEnding, all_end, coming_due, job_ends, kill_
 use Rattle.wm_law.specs.Subsystems.{begun, is_started, max_started, start_refusal, start_unless}
 use Rattle.wm_law.proofs.Members.{found_among, last_in, left_in}
 use Rattle.wm_law.proofs.Objects.{IsObjectChange, class_made, queue_made, program_made, job_description_made, description_made, queue_added, route_added, auto_added, queue_removed, route_removed, auto_removed}
-use Rattle.wm_law.proofs.Tests.{of_not, same_number, unrefused}
 
 -- a phase past Waiting, and one that isn't before it
 pub record IsOnward (p q : Phase) : Type 0 where
@@ -106,14 +107,14 @@ startable s q e =
     let room = unrefused (nat_le max_started (length s.started)) _ _ fresh.1 in
     let numbers = unrefused (nat_lt (numbers_left s) (length (autos_of s q))) _ _ room.1 in
     record {
-      on = of_not (is_on s.power) on.0;
-      there = of_not (is_some (object_named q s.objects.sbsds)) there.0;
+      on = not-false (is_on s.power) on.0;
+      there = not-false (is_some (object_named q s.objects.sbsds)) there.0;
       fresh = fresh.0;
       room = room.0;
       numbers = numbers.0;
     }
 
-the_one : (jobs : List Job) (j : Job) → only_one jobs ≡ Ok j → IsIn j jobs
+pub the_one : (jobs : List Job) (j : Job) → only_one jobs ≡ Ok j → IsIn j jobs
 the_one [] j e = absurd (cc)
 the_one (k ∷ []) j e = let same : k ≡ j = cc in inl (sym same)
 the_one (k ∷ i ∷ jobs) j e = absurd (cc)
@@ -230,7 +231,7 @@ module _ (P : Stepped → Type 0) (s : State) (call : Call) (h : HoldsAfterCalls
   reported serial test phase None ranks n e = h.refuses NoJob
   reported serial test phase (Some j) ranks n e =
       let f = found_among (λ (j : Job). j.serial == serial) s.jobs j e in
-      either (test j.phase) _ _ (λ t. h.reports serial j (phase j) f.0 (same_number j.serial serial f.1) (ranks j t) (n j)) (λ t. h.refuses (WrongPhase (phase_word j.phase)))
+      either (test j.phase) _ _ (λ t. h.reports serial j (phase j) f.0 (eqb-true j.serial serial f.1) (ranks j t) (n j)) (λ t. h.refuses (WrongPhase (phase_word j.phase)))
 
   done : (m : ℕ) (o : Option Job) → P (done_with s m o)
   done m None = h.refuses NoJob
@@ -374,7 +375,7 @@ module _ (P : State → Type 0) (q : QName) (keeps : (t : State) (e : AutoEntry)
   made_all (e ∷ es) t m p =
       made_all es (make_auto q t e) (made_rest e es t (object_named e.jobd t.objects.jobds) m) (made_one e es t (object_named e.jobd t.objects.jobds) m p)
 
-enough : (numbered : Bool) (a b n : ℕ) → nat_lt (cond numbered (min a b) 0) n ≡ false → (n ≤ a) × (n ≤ b)
+pub enough : (numbered : Bool) (a b n : ℕ) → nat_lt (cond numbered (min a b) 0) n ≡ false → (n ≤ a) × (n ≤ b)
 enough false a b n h = let none : n ≤ 0 = grind (arith, nat_tests) in (omega arith, omega arith)
 enough true a b n h =
     let all : n ≤ min a b = grind (arith, nat_tests) in

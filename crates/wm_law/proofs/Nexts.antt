@@ -2,11 +2,13 @@
 use Rattle.std.proofs.Common.{◌≡◌, ℕ, ◌==◌, ◌&&◌, Bool, true, false, Option, Some, None, refl, sym, ap, subst, ◌∙◌}
 use Rattle.std.specs.List.{find}
 use Rattle.std.specs.Option.{option_and_then}
+use Rattle.std.proofs.lemmas.Bool.{and_parts, eqb-true}
 use Rattle.wm_base.specs.declared.job.EndCause.{EndCause}
 use Rattle.wm_base.specs.declared.job.How.{How}
 use Rattle.wm_base.specs.declared.job.How.TheVariants.{NotYet, FromQueue}
 use Rattle.wm_base.specs.declared.qname.QName.{QName}
 use Rattle.wm_base.specs.Limit.{is_below}
+use Rattle.wm_base.proofs.Tests.{Some-injective, of_four}
 use Rattle.wm_desc.specs.declared.description.Sbsd.{Sbsd}
 use Rattle.wm_desc.specs.declared.entry.QueueEntry.{QueueEntry}
 use Rattle.wm_desc.specs.declared.entry.RouteEntry.{RouteEntry}
@@ -23,7 +25,6 @@ use Rattle.wm_law.proofs.Firsts.{next_is_first}
 use Rattle.wm_law.proofs.Forward.{only_one}
 use Rattle.wm_law.proofs.Members.{found_among}
 use Rattle.wm_law.proofs.Named.{one_name}
-use Rattle.wm_law.proofs.Tests.{of_both, of_four, same_number}
 
 -- the job that a candidate names: the first of the subsystem that the candidate names
 pub record IsNext (s : State) (c : Candidate) (j : Job) : Type 0 where
@@ -41,7 +42,7 @@ is_next s c j e n f =
     let is_first = first.1.1.0 in
     let named = first.1.1.2 in
     let k = found_among (λ (j : Job). j.serial == c.serial) s.jobs j f in
-    let serial : c.serial ≡ j.serial = sym (same_number j.serial c.serial k.1) in
+    let serial : c.serial ≡ j.serial = sym (eqb-true j.serial c.serial k.1) in
     let same : first.0 ≡ j = only_one s.jobs n.serials.distinct first.0 j is_first.job k.0 (sym named.serial ∙ serial) in
     record { turn = turn; first = subst (λ (x : Job). IsFirst s x turn) same is_first; serial = serial; sbs = named.sbs; jobq = named.jobq }
 
@@ -72,12 +73,9 @@ below_limits s j t m =
     let a = of_four (is_sbs_active t.sbs.phase) (is_below (count_in_sbs t.sbs.sbsd s.jobs) t.sbsd.maxjobs) (is_below (count_from_queue t.sbs.sbsd t.entry.jobq s.jobs) t.entry.maxact) (is_below (count_from_priority t.sbs.sbsd t.entry.jobq j.pty s.jobs) (maxpty_of t.entry j.pty)) m.allowed in
     record { maxjobs = a.1; maxact = a.2; maxpty = a.3 }
 
-pub some_is : {X : Type 0} (x y : X) → Some x ≡ Some y → x ≡ y
-some_is x y e = cc
-
 -- the subsystem's description is the one of its name
 same_sbsd : (s : State) (j : Job) (t : Turn) (sbs : QName) (d : Sbsd) → MayStart s j t → t.sbs.sbsd ≡ sbs → object_named sbs s.objects.sbsds ≡ Some d → t.sbsd ≡ d
-same_sbsd s j t sbs d m its k = some_is t.sbsd d (sym m.sbsd ∙ ap (λ (q : QName). object_named q s.objects.sbsds) its ∙ k)
+same_sbsd s j t sbs d m its k = Some-injective t.sbsd d (sym m.sbsd ∙ ap (λ (q : QName). object_named q s.objects.sbsds) its ∙ k)
 
 -- the entry for a queue has its name
 pub own_queue : (s : State) (j : Job) (t : Turn) → MayStart s j t → t.entry.jobq ≡ t.queue
@@ -86,7 +84,7 @@ own_queue s j t m = one_name t.entry.jobq t.queue (found_among (λ (e : QueueEnt
 -- the entry is the description's one for its queue
 same_entry : (s : State) (j : Job) (t : Turn) (queue : QName) (d : Sbsd) (e : QueueEntry) → MayStart s j t → t.entry.jobq ≡ queue → t.sbsd ≡ d → entry_for queue d ≡ Some e → t.entry ≡ e
 same_entry s j t queue d e m its same k =
-    some_is t.entry e (sym m.entry ∙ ap (λ (q : QName). entry_for q t.sbsd) (sym (own_queue s j t m) ∙ its) ∙ ap (entry_for queue) same ∙ k)
+    Some-injective t.entry e (sym m.entry ∙ ap (λ (q : QName). entry_for q t.sbsd) (sym (own_queue s j t m) ∙ its) ∙ ap (entry_for queue) same ∙ k)
 
 -- where a launch adds to a subsystem's count, the count is below MAXJOBS
 pub below_maxjobs : (s : State) (c : Candidate) (j : Job) (sbs : QName) (d : Sbsd) → IsNext s c j → object_named sbs s.objects.sbsds ≡ Some d → is_in_sbs sbs (launched s c.sbs c.jobq j).how ≡ true → is_below (count_in_sbs sbs s.jobs) d.maxjobs ≡ true
@@ -106,7 +104,7 @@ below_maxact s c j sbs queue d e n k f h =
     let m = n.first.may in
     let came = came_from (is_from_queue sbs queue) s c.sbs c.jobq j refl h in
     let tested : is_from_queue sbs queue (FromQueue c.sbs c.jobq j.pty came.0) ≡ true = sym (ap (is_from_queue sbs queue) came.1) ∙ h in
-    let both = of_both (same_qname c.sbs sbs) (same_qname c.jobq queue) tested in
+    let both = and_parts (same_qname c.sbs sbs) (same_qname c.jobq queue) tested in
     let its : t.sbs.sbsd ≡ sbs = sym n.sbs ∙ one_name c.sbs sbs both.0 in
     let from : t.entry.jobq ≡ queue = sym n.jobq ∙ one_name c.jobq queue both.1 in
     subst (λ (x : QueueEntry). is_below (count_from_queue sbs queue s.jobs) x.maxact ≡ true) (same_entry s j t queue d e m from (same_sbsd s j t sbs d m its k) f)
@@ -120,11 +118,11 @@ below_maxpty s c j sbs queue pty d e n k f h =
     let m = n.first.may in
     let came = came_from (is_from_priority sbs queue pty) s c.sbs c.jobq j refl h in
     let tested : is_from_priority sbs queue pty (FromQueue c.sbs c.jobq j.pty came.0) ≡ true = sym (ap (is_from_priority sbs queue pty) came.1) ∙ h in
-    let all = of_both (same_qname c.sbs sbs && same_qname c.jobq queue) (j.pty == pty) tested in
-    let both = of_both (same_qname c.sbs sbs) (same_qname c.jobq queue) all.0 in
+    let all = and_parts (same_qname c.sbs sbs && same_qname c.jobq queue) (j.pty == pty) tested in
+    let both = and_parts (same_qname c.sbs sbs) (same_qname c.jobq queue) all.0 in
     let its : t.sbs.sbsd ≡ sbs = sym n.sbs ∙ one_name c.sbs sbs both.0 in
     let from : t.entry.jobq ≡ queue = sym n.jobq ∙ one_name c.jobq queue both.1 in
-    let level : j.pty ≡ pty = same_number j.pty pty all.1 in
+    let level : j.pty ≡ pty = eqb-true j.pty pty all.1 in
     subst (λ (x : QueueEntry). is_below (count_from_priority sbs queue pty s.jobs) (maxpty_of x pty) ≡ true) (same_entry s j t queue d e m from (same_sbsd s j t sbs d m its k) f)
     (subst (λ (x : ℕ). is_below (count_from_priority sbs queue x s.jobs) (maxpty_of t.entry x) ≡ true) level
     (subst (λ (x : QName). is_below (count_from_priority sbs x j.pty s.jobs) (maxpty_of t.entry j.pty) ≡ true) from

@@ -1,11 +1,12 @@
 -- Each step keeps serials and numbers given once, and the places of Waiting jobs distinct.
 use Rattle.std.proofs.Common.{◌≡◌, ◌⊎◌, ℕ, ℤ, ◌+◌, ◌<◌, ◌==◌, ◌++◌, Bool, true, false, List, [], ◌∷◌, map, Option, Some, None, refl, sym, ap, subst, inl, inr, nat_lt, nat_le, arith}
 use Rattle.std.specs.List.{find}
-use Rattle.std.proofs.lemmas.Bool.{eq-eqb}
+use Rattle.std.proofs.lemmas.Bool.{eq-eqb, ltb-true, eqb-true}
 use Rattle.std.proofs.lemmas.Bool.Decides.{nat_tests}
 use Rattle.wm_base.specs.declared.job.JobName.{JobName}
 use Rattle.wm_base.specs.declared.qname.QName.{QName}
 use Rattle.wm_base.specs.Iterate.{IsKept}
+use Rattle.wm_base.proofs.Tests.{of_four}
 use Rattle.wm_law.specs.declared.call.Call.{Call}
 use Rattle.wm_law.specs.declared.command.Sbmjob.{Sbmjob}
 use Rattle.wm_law.specs.declared.choice.Candidate.{Candidate}
@@ -37,7 +38,6 @@ use Rattle.wm_law.proofs.Endings.{IsWishing, key_same, keys_same, was_waiting, w
 use Rattle.wm_law.proofs.Members.{map_same}
 use Rattle.wm_law.proofs.Moves.{HoldsOfStates, IsKeptByParts, IsMakeable, call_keeps, comes_due, never_waits, step_keeps, after_keeps}
 use Rattle.wm_law.proofs.Settling.{launch_never_waits, not_waiting}
-use Rattle.wm_law.proofs.Tests.{of_four, same_number}
 use Rattle.wm_law.proofs.Waits.{fewer_distinct, still_distinct, taken_below, taken_distinct, waiting_below, waiting_more, waiting_same}
 
 -- the same serials, numbers and places, no job that comes to wait, and the same next ones
@@ -121,23 +121,20 @@ distinct_more n (x ∷ xs) b h = (not_in n x xs b.0 h.0, distinct_more n xs b.1 
 given_more : (n : ℕ) (xs : List ℕ) → IsGiven xs n → IsGiven (xs ++ n ∷ []) (n + 1)
 given_more n xs h = record { distinct = distinct_more n xs h.below h.distinct; below = below_more n xs h.below }
 
-map_more : (key : Job → ℕ) (jobs : List Job) (j : Job) → map key (jobs ++ j ∷ []) ≡ map key jobs ++ key j ∷ []
+pub map_more : (key : Job → ℕ) (jobs : List Job) (j : Job) → map key (jobs ++ j ∷ []) ≡ map key jobs ++ key j ∷ []
 map_more key [] j = refl
 map_more key (i ∷ jobs) j = ap (λ l. key i ∷ l) (map_more key jobs j)
 
 given_entered : (key : Job → ℕ) (jobs : List Job) (j : Job) (n : ℕ) → key j ≡ n → IsGiven (map key jobs) n → IsGiven (map key (jobs ++ j ∷ [])) (n + 1)
 given_entered key jobs j n e h = subst (λ (l : List ℕ). IsGiven l (n + 1)) (sym (map_more key jobs j)) (subst (λ (k : ℕ). IsGiven (map key jobs ++ k ∷ []) (n + 1)) (sym e) (given_more n (map key jobs) h))
 
-below_of : (a b : ℕ) → nat_lt a b ≡ true → a < b
-below_of a b h = grind (arith, nat_tests)
-
 entered_keeps : (s : State) (user : List ℕ) (c : Sbmjob) (d : Jobd) (due : ℕ) → has_numbers s ≡ true → IsNumbered s → IsNumbered (entered s (submitted_job s user c d due))
 entered_keeps s user c d due has h =
     let j = submitted_job s user c d due in
     let tests = of_four (nat_le 1 s.next_number) (nat_lt s.next_number numbers_end) (nat_lt s.next_serial serials_end) (nat_lt s.next_place serials_end) has in
-    let a : s.next_number < numbers_end = below_of s.next_number numbers_end tests.1 in
-    let b : s.next_serial < serials_end = below_of s.next_serial serials_end tests.2 in
-    let e : s.next_place < serials_end = below_of s.next_place serials_end tests.3 in
+    let a : s.next_number < numbers_end = ltb-true s.next_number numbers_end tests.1 in
+    let b : s.next_serial < serials_end = ltb-true s.next_serial serials_end tests.2 in
+    let e : s.next_place < serials_end = ltb-true s.next_place serials_end tests.3 in
     record {
       serials = given_entered (λ j. j.serial) s.jobs j s.next_serial refl h.serials;
       numbers = given_entered (λ j. j.job.number) s.jobs j s.next_number refl h.numbers;
@@ -180,7 +177,7 @@ numbers_stay s change place a = map_same (λ (j : Job). j.job.number) change (λ
 -- a job stays as it is, or it has the serial and takes the next place
 moved_by : (s : State) (change : Job → Job) (place : ℕ) (p : PlaceIsTaken s change place) (j : Job) (b : Bool) → (j.serial == p.serial) ≡ b → (change j ≡ j) ⊎ IsAltered s j (change j) → (change j ≡ j) ⊎ ((j.serial ≡ p.serial) × ((change j).place ≡ s.next_place))
 moved_by s change place p j b e (inl same) = inl same
-moved_by s change place p j true e (inr a) = let its = same_number j.serial p.serial e in inr (its, p.taken j a.waits its)
+moved_by s change place p j true e (inr a) = let its = eqb-true j.serial p.serial e in inr (its, p.taken j a.waits its)
 moved_by s change place p j false e (inr a) = inl (p.other j (λ f. (let yes = eq-eqb j.serial p.serial f in absurd (cc))))
 
 -- changed jobs keep a state numbered, whether their places stay or one is taken

@@ -2,6 +2,7 @@
 use Rattle.std.proofs.Common.{◌≡◌, ◌⊎◌, ◌||◌, ◌&&◌, Bool, false, cond, not, List, [], ◌∷◌, Option, Some, None, is_some, nat_eq, refl, sym, ap, subst, ◌∙◌, inl, inr, arith}
 use Rattle.std.specs.List.{list_any}
 use Rattle.std.specs.Option.{IsSome, option_map_or}
+use Rattle.std.proofs.lemmas.Bool.{or_parts, not-false}
 use Rattle.wm_base.specs.declared.qname.QName.{QName}
 use Rattle.wm_base.specs.declared.refusal.Kind.{Kind}
 use Rattle.wm_base.specs.declared.refusal.Kind.TheVariants as kind
@@ -11,6 +12,7 @@ use Rattle.wm_base.specs.declared.job.Class.{Class}
 use Rattle.std.specs.Ordering.{nat_cmp}
 use Rattle.std.specs.declared.cmp.Ordering.TheVariants.{Less}
 use Rattle.std.proofs.lemmas.List.Kept.{AllPairs-filter}
+use Rattle.wm_base.proofs.Tests.{unrefused}
 use Rattle.wm_desc.proofs.Tables.{test_fails}
 use Rattle.wm_desc.specs.declared.description.Program.{Program}
 use Rattle.wm_desc.specs.declared.description.Sbsd.{Sbsd}
@@ -38,7 +40,6 @@ use Rattle.wm_law.proofs.InOrder.{in_inserted, number_added}
 use Rattle.wm_law.proofs.Named.{is_named, named_still, named_before, changed_other, changed_before, other_name}
 use Rattle.wm_law.proofs.Routes.{IsSorted}
 use Rattle.wm_law.proofs.Tables.{table_changed, table_more}
-use Rattle.wm_law.proofs.Tests.{of_neither, of_not, unrefused}
 use Rattle.wm_law.specs.Kept.{IsRouted}
 use Rattle.wm_law.specs.Laws.{IsIn}
 use Rattle.wm_law.specs.Objects.{AreSound, HasTables, IsDescription}
@@ -123,7 +124,7 @@ queue_made s c e =
 pub program_made : (s : State) (c : Crtpgmref) → program_refusal c.pgm s.objects.programs ≡ None → IsObjectChange s (with_program c.pgm c.path s.objects)
 program_made s c e =
     let tests : List (Bool × Refusal) = (is_qcmd c.pgm || has_object c.pgm s.objects.programs, Exists kind.Pgm) ∷ (is_full 1000 s.objects.programs, TableFull kind.Pgm 1000) ∷ [] in
-    let new = (of_neither (is_qcmd c.pgm) (has_object c.pgm s.objects.programs) (test_fails tests 0 SbsActive e)).1 in
+    let new = (or_parts (is_qcmd c.pgm) (has_object c.pgm s.objects.programs) (test_fails tests 0 SbsActive e)).1 in
     let room : is_full 1000 s.objects.programs ≡ false = test_fails tests 1 SbsActive e in
     let pgm : Program = record { path = c.path } in
     record {
@@ -223,8 +224,8 @@ free s sbsd refusal e = free_by s sbsd refusal (object_named sbsd s.objects.sbsd
 
 unused_by : (sbsd : QName) (started : List Sbs) (b : Sbs) → list_any (λ (x : Sbs). same_qname x.sbsd sbsd) started ≡ false → IsIn b started → same_qname b.sbsd sbsd ≡ false
 unused_by sbsd [] b e i = absurd i
-unused_by sbsd (x ∷ xs) b e (inl same) = subst (λ (y : Sbs). same_qname y.sbsd sbsd ≡ false) (sym same) (of_neither (same_qname x.sbsd sbsd) (list_any (λ (y : Sbs). same_qname y.sbsd sbsd) xs) e).0
-unused_by sbsd (x ∷ xs) b e (inr i) = unused_by sbsd xs b (of_neither (same_qname x.sbsd sbsd) (list_any (λ (y : Sbs). same_qname y.sbsd sbsd) xs) e).1 i
+unused_by sbsd (x ∷ xs) b e (inl same) = subst (λ (y : Sbs). same_qname y.sbsd sbsd ≡ false) (sym same) (or_parts (same_qname x.sbsd sbsd) (list_any (λ (y : Sbs). same_qname y.sbsd sbsd) xs) e).0
+unused_by sbsd (x ∷ xs) b e (inr i) = unused_by sbsd xs b (or_parts (same_qname x.sbsd sbsd) (list_any (λ (y : Sbs). same_qname y.sbsd sbsd) xs) e).1 i
 
 -- a change keeps the order of the routing entries, adds none whose class isn't there, and keeps what holds of the description
 record KeepsEntries (objects : Objects) (change : Sbsd → Sbsd) (d : Sbsd) : Type 0 where
@@ -289,7 +290,7 @@ route_kept : (objects : Objects) (entry : RouteEntry) (d : Sbsd) → first_refus
 route_kept objects entry d accepted =
     let cls : not (has_object entry.cls objects.classes) ≡ false = test_fails (route_tests objects entry d) 1 SbsActive accepted in
     let new : seq_used (λ (n : RouteEntry). n.seq) entry.seq d.routes ≡ false = test_fails (route_tests objects entry d) 2 SbsActive accepted in
-    let there : IsSome (object_named entry.cls objects.classes) = sym (is_named entry.cls objects.classes) ∙ of_not _ cls in
+    let there : IsSome (object_named entry.cls objects.classes) = sym (is_named entry.cls objects.classes) ∙ not-false _ cls in
     record {
       sorted = λ h. number_added (λ (n : RouteEntry). n.seq) entry d.routes h new;
       classes = λ n i. (elim (in_inserted d.routes _ entry n i) as (λ _. IsIn n d.routes ⊎ IsSome (object_named n.cls objects.classes)) [

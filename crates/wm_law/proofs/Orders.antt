@@ -3,11 +3,13 @@ use Rattle.std.proofs.Common.{◌≡◌, ℕ, ℤ, ◌+◌, ◌++◌, ◌==◌, 
 use Rattle.std.specs.List.{find, count_by}
 use Rattle.std.specs.Option.{IsSome, option_and_then, option_map}
 use Rattle.std.proofs.lemmas.List.Sums.{sum_by-cons}
+use Rattle.std.proofs.lemmas.Bool.{eqb-true}
 use Rattle.wm_base.specs.declared.job.Class.{Class}
 use Rattle.wm_base.specs.declared.job.How.{How}
 use Rattle.wm_base.specs.declared.job.How.TheVariants.{NotYet, FromQueue, Auto, Pre}
 use Rattle.wm_base.specs.declared.job.StartOrder.{StartOrder}
 use Rattle.wm_base.specs.declared.qname.QName.{QName}
+use Rattle.wm_base.proofs.Tests.{unrefused}
 use Rattle.wm_law.specs.declared.call.Call.{Call}
 use Rattle.wm_law.specs.declared.call.Entry.{Entry}
 use Rattle.wm_law.specs.declared.call.Reply.TheVariants.{Nothing}
@@ -47,7 +49,7 @@ use Rattle.wm_desc.specs.Opening.{qbatch}
 use Rattle.wm_law.specs.History.{after, stepped}
 use Rattle.wm_law.proofs.Alterations.{IsAlteration, each_altered, unstarted}
 use Rattle.wm_law.proofs.Opened.{batch_sbsd, opening_objects, opened, opening_is}
-use Rattle.wm_law.proofs.Endings.{IsEnding, stood_starting, wished}
+use Rattle.wm_law.proofs.Endings.{IsEnding, stood_starting, wished, starting_phase}
 use Rattle.wm_law.proofs.Firsts.{next_is_first}
 use Rattle.wm_law.proofs.Lodged.{lodged_longer, lodged_ending, lodged_left}
 use Rattle.wm_law.proofs.Named.{own_name}
@@ -58,7 +60,6 @@ use Rattle.wm_law.proofs.Routes.{IsSorted, numbered_once, route_is_least}
 use Rattle.wm_law.proofs.Members.{found_among, of_last, of_mapped}
 use Rattle.wm_law.proofs.Moves.{HoldsOfStates, IsMakeable, call_keeps, comes_due}
 use Rattle.wm_law.proofs.Numbers.{apply_keeps, clock_keeps, launches_keep, ready_keeps, step_keeps_numbers}
-use Rattle.wm_law.proofs.Tests.{same_number, unrefused}
 
 -- what a launch to Starting stands on: the routing entry, and the program that it calls
 record IsLed (s : State) (sbs : QName) (by : ℕ → How) (j : Job) (l : Launched) : Type 0 where
@@ -164,7 +165,7 @@ launched_all s c f n h i same =
     let l = launched s c.sbs c.jobq f in
     changed_of (λ j. IsSome (order_of s j)) s.jobs c.serial (as_launched l)
     (λ j m t starts.
-    let one = only_one s.jobs n.serials.distinct f j i m (same ∙ sym (same_number j.serial c.serial t)) in
+    let one = only_one s.jobs n.serials.distinct f j i m (same ∙ sym (eqb-true j.serial c.serial t)) in
     subst (λ (x : Job). IsSome (order_of s (record x { phase = l.phase; how = l.how }))) one (has_order s c.sbs (from_queue c.sbs c.jobq f) f l (λ x seq. refl) h.routed (is_led s c.sbs (from_queue c.sbs c.jobq f) f starts)))
     h.starting
 
@@ -200,7 +201,7 @@ launches : (s : State) (c : Candidate) (o : Option Job) → find (λ j. j.serial
 launches s c None f e n h = h
 launches s c (Some j) f e n h =
     let k = found_among (λ (j : Job). j.serial == c.serial) s.jobs j f in
-    routed s h _ (launched_all s c j n h k.0 (same_number j.serial c.serial k.1)) (launched_lodged s c j e h)
+    routed s h _ (launched_all s c j n h k.0 (eqb-true j.serial c.serial k.1)) (launched_lodged s c j e h)
 
 launches_leave_orders : IsKept next (λ c t. launch t c) IsOrdered
 launches_leave_orders = record {
@@ -362,13 +363,6 @@ module _ (test : Job → Bool) where
       let rest = none_found jobs (omega arith) in
       none_at (test j) j (find test jobs) (omega arith) rest
 
-is_starting_phase : (p : Phase) → is_starting p ≡ true → p ≡ Starting
-is_starting_phase Waiting h = absurd (cc)
-is_starting_phase Starting h = refl
-is_starting_phase (Handed m) h = absurd (cc)
-is_starting_phase (Running m) h = absurd (cc)
-is_starting_phase (Ended c) h = absurd (cc)
-
 not_nothing : (s : State) (m : ℕ) (j : Job) (o : Option StartOrder) → IsSome o → (hand_order s m j o).reply ≡ Nothing → ⊥
 not_nothing s m j None h e = absurd (cc)
 not_nothing s m j (Some o) h e = absurd (cc)
@@ -377,7 +371,7 @@ none_starts : (s : State) (m : ℕ) (o : Option Job) → find (λ j. is_starting
 none_starts s m None f h e = refl
 none_starts s m (Some j) f h e =
     let k = found_among (λ (j : Job). is_starting j.phase) s.jobs j f in
-    absurd (not_nothing s m j (order_of s j) (h.starting j k.0 (is_starting_phase j.phase k.1)) e)
+    absurd (not_nothing s m j (order_of s j) (h.starting j k.0 (starting_phase j.phase k.1)) e)
 
 -- a Hand that answers Nothing finds neither a kill nor a start
 nothing : (s : State) (m : ℕ) (o : Option Job) → find (is_to_kill m) s.jobs ≡ o → HasOrders s → (hand_job s m o).reply ≡ Nothing → (find (is_to_kill m) s.jobs ≡ None) × (find (λ j. is_starting j.phase) s.jobs ≡ None)

@@ -2,7 +2,7 @@
 use Rattle.std.proofs.Common.{◌≡◌, ◌⊎◌, ℕ, ◌≤◌, ◌==◌, ◌&&◌, ◌||◌, not, Bool, true, false, cond, List, [], ◌∷◌, map, Option, Some, None, refl, sym, ap, subst, ◌∙◌, inl, inr, arith}
 use Rattle.std.specs.List.{find, list_any}
 use Rattle.std.specs.Ordering.{is_lt, nat_cmp, ordering_then}
-use Rattle.std.proofs.lemmas.Bool.{eq-eqb}
+use Rattle.std.proofs.lemmas.Bool.{eq-eqb, or_right, and_parts, eqb-true}
 use Rattle.std.proofs.lemmas.Bool.Decides.{nat_tests}
 use Rattle.wm_base.specs.declared.job.How.{How}
 use Rattle.wm_base.specs.declared.limit.Limit.{Limit}
@@ -10,6 +10,7 @@ use Rattle.wm_base.specs.declared.limit.Limit.TheVariants.{NoMax, Most}
 use Rattle.wm_base.specs.declared.qname.QName.{QName}
 use Rattle.wm_base.specs.Iterate.{IsKept}
 use Rattle.wm_base.specs.Limit.{is_below}
+use Rattle.wm_base.proofs.Tests.{all_three, of_four}
 use Rattle.wm_desc.specs.declared.description.Jobd.{Jobd}
 use Rattle.wm_desc.specs.declared.description.Sbsd.{Sbsd}
 use Rattle.wm_desc.specs.declared.entry.AutoEntry.{AutoEntry}
@@ -44,7 +45,6 @@ use Rattle.wm_law.proofs.Moves.{HoldsOfStates}
 use Rattle.wm_law.proofs.Named.{one_name}
 use Rattle.wm_law.proofs.Nexts.{IsNext, is_next}
 use Rattle.wm_law.proofs.Numbers.{launches_keep}
-use Rattle.wm_law.proofs.Tests.{of_both, of_four, same_number}
 use Rattle.wm_law.proofs.Turns.{ahead_launched, behind_launched, by_turns, has_turn, is_turn, may_start_in, none_ahead, one_sbs}
 
 -- a count that has reached its limit has reached it where it is no less
@@ -60,9 +60,6 @@ either_false false b e = inl refl
 one_of_two : (a b c d : Bool) → a ≡ true → b ≡ true → (a && b && c && d) ≡ false → (c ≡ false) ⊎ (d ≡ false)
 one_of_two a b c d e f h = either_false c d (sym (ap (λ (x : Bool). x && b && c && d) e ∙ ap (λ (x : Bool). x && c && d) f) ∙ h)
 
-all_three : (a b c : Bool) → a ≡ true → b ≡ true → c ≡ true → (a && b && c) ≡ true
-all_three a b c e f g = ap (λ (x : Bool). x && b && c) e ∙ ap (λ (x : Bool). x && c) f ∙ g
-
 -- neither the job nor one that it stands before
 counts_for : (a b c : Bool) → a ≡ false → (b ≡ true → c ≡ false) → (not a && not (b && c)) ≡ true
 counts_for true b c e h = absurd (cc)
@@ -72,7 +69,7 @@ counts_for false true c e h = ap not (h refl)
 -- the serials of two jobs differ, of which one is active and one waits
 other_serial : (i j : Job) (b : Bool) → (i.serial == j.serial) ≡ b → (i.serial ≡ j.serial → i ≡ j) → is_active i.phase ≡ true → is_waiting j.phase ≡ true → b ≡ false
 other_serial i j true e one a w =
-    let same = ap (λ (x : Job). is_active x.phase) (one (same_number i.serial j.serial e)) in
+    let same = ap (λ (x : Job). is_active x.phase) (one (eqb-true i.serial j.serial e)) in
     let idle = not_active j.phase w in
     absurd (cc)
 other_serial i j false e one a w = refl
@@ -93,7 +90,7 @@ module _ (s t : State) (c : Candidate) (f : Job) (x : IsNext t c f) (h : IsOrder
   -- a job that is active before the launch isn't the one that is launched
   untouched : (i : Job) (b : Bool) → (i.serial == c.serial) ≡ b → IsIn i t.jobs → is_active i.phase ≡ true → cond b (as_launched (launched t c.sbs c.jobq f) i) i ≡ i
   untouched i true e m a =
-      let same = ap (λ (y : Job). is_active y.phase) (one i m (same_number i.serial c.serial e)) in
+      let same = ap (λ (y : Job). is_active y.phase) (one i m (eqb-true i.serial c.serial e)) in
       let idle = not_active f.phase waits in
       absurd (cc)
   untouched i false e m a = refl
@@ -110,8 +107,8 @@ module _ (s t : State) (c : Candidate) (f : Job) (x : IsNext t c f) (h : IsOrder
       (launched_at c.serial (launched t c.sbs c.jobq f))
       t.jobs
       (λ i m e.
-      let all = of_both (is_active i.phase && test i.how) (is_counted_for s t j i) e in
-      still (λ (y : Job). is_active y.phase && test y.how && is_counted_for s (launched_in t c f) j y) i m (of_both (is_active i.phase) (test i.how) all.0).0 e)
+      let all = and_parts (is_active i.phase && test i.how) (is_counted_for s t j i) e in
+      still (λ (y : Job). is_active y.phase && test y.how && is_counted_for s (launched_in t c f) j y) i m (and_parts (is_active i.phase) (test i.how) all.0).0 e)
 
   -- a job that is active before the launch is counted for the one that is launched
   counts : (i : Job) → IsIn i t.jobs → is_active i.phase ≡ true → is_counted_for s (launched_in t c f) (as_launched (launched t c.sbs c.jobq f) f) i ≡ true
@@ -128,7 +125,7 @@ module _ (s t : State) (c : Candidate) (f : Job) (x : IsNext t c f) (h : IsOrder
       (launched_at c.serial (launched t c.sbs c.jobq f))
       t.jobs
       (λ i m e.
-      let both = of_both (is_active i.phase) (test i.how) e in
+      let both = and_parts (is_active i.phase) (test i.how) e in
       still
       (λ (y : Job). is_active y.phase && test y.how && is_counted_for s (launched_in t c f) (as_launched (launched t c.sbs c.jobq f) f) y)
       i m both.0
@@ -137,7 +134,7 @@ module _ (s t : State) (c : Candidate) (f : Job) (x : IsNext t c f) (h : IsOrder
   behind_at : (i k : Job) (u : Turn) (b : Bool) (g : Job) → (i.serial == c.serial) ≡ b → IsIn i t.jobs → g ≡ cond b (as_launched (launched t c.sbs c.jobq f) i) i → was_launched s g ≡ true → IsIn k t.jobs → MayStart t k u → stands_before t k g ≡ false
   behind_at i k u true g e m same w n r =
       let l = launched t c.sbs c.jobq f in
-      let its : i ≡ f = one i m (same_number i.serial c.serial e) in
+      let its : i ≡ f = one i m (eqb-true i.serial c.serial e) in
       ap (stands_before t k) same ∙ behind_launched t l k i ∙ ap (stands_before t k) its ∙ none_ahead t k f u x.turn x.first n r
   behind_at i k u false g e m same w n r = ap (stands_before t k) same ∙ h.behind i k u m (ap (was_launched s) (sym same) ∙ w) n r
 
@@ -174,7 +171,7 @@ module _ (s t : State) (c : Candidate) (f : Job) (x : IsNext t c f) (h : IsOrder
   same_sbs k u v before =
       let turn = x.turn in
       let stood : is_before u k turn f ≡ true = sym (by_turns t k f u turn v (has_turn t f turn x.first.may)) ∙ before in
-      one_name u.sbs.sbsd turn.sbs.sbsd (of_both (same_qname u.sbs.sbsd turn.sbs.sbsd) (is_lt (ordering_then (nat_cmp u.entry.seq turn.entry.seq) (ordering_then (nat_cmp k.pty f.pty) (nat_cmp k.place f.place)))) stood).0
+      one_name u.sbs.sbsd turn.sbs.sbsd (and_parts (same_qname u.sbs.sbsd turn.sbs.sbsd) (is_lt (ordering_then (nat_cmp u.entry.seq turn.entry.seq) (ordering_then (nat_cmp k.pty f.pty) (nat_cmp k.place f.place)))) stood).0
 
   -- the launched job passed a ready one only where that one's limit was reached
   full_now : (k : Job) (u : Turn) → IsIn k t.jobs → is_ready t k ≡ true → turn_of t k ≡ Some u → stands_before t k f ≡ true → IsFullFor s (launched_in t c f) (as_launched (launched t c.sbs c.jobq f) f) k u
@@ -194,7 +191,7 @@ module _ (s t : State) (c : Candidate) (f : Job) (x : IsNext t c f) (h : IsOrder
   passed_at : (j k : Job) (u : Turn) (b : Bool) (g : Job) → (j.serial == c.serial) ≡ b → IsIn j t.jobs → g ≡ cond b (as_launched (launched t c.sbs c.jobq f) j) j → was_launched s g ≡ true → IsIn k t.jobs → is_ready t k ≡ true → turn_of t k ≡ Some u → stands_before t k g ≡ true → IsFullFor s (launched_in t c f) g k u
   passed_at j k u true g e m same w n r v before =
       let l = launched t c.sbs c.jobq f in
-      let its : j ≡ f = one j m (same_number j.serial c.serial e) in
+      let its : j ≡ f = one j m (eqb-true j.serial c.serial e) in
       let stood : stands_before t k f ≡ true = ap (stands_before t k) (sym its) ∙ sym (behind_launched t l k j) ∙ ap (stands_before t k) (sym same) ∙ before in
       let now : as_launched l f ≡ g = ap (as_launched l) (sym its) ∙ sym same in
       subst (λ (y : Job). IsFullFor s (launched_in t c f) y k u) now (full_now k u n r v stood)
@@ -223,14 +220,10 @@ launches_ordered s = record {
 abbrev pub LaunchesNone : State → State → Type 0
 LaunchesNone s t = (i : Job) → IsIn i t.jobs → was_launched s i ≡ false
 
-or_true : (a b : Bool) → b ≡ true → (a || b) ≡ true
-or_true true b e = refl
-or_true false b e = e
-
 pub any_in : {X : Type 0} (p : X → Bool) (xs : List X) (x : X) → IsIn x xs → p x ≡ true → list_any p xs ≡ true
 any_in p [] x i e = absurd i
 any_in p (y ∷ ys) x (inl same) e = ap (λ (b : Bool). b || list_any p ys) (ap p (sym same) ∙ e)
-any_in p (y ∷ ys) x (inr i) e = or_true (p y) (list_any p ys) (any_in p ys x i e)
+any_in p (y ∷ ys) x (inr i) e = or_right (p y) (list_any p ys) (any_in p ys x i e)
 
 -- a job of the state that is past Waiting is past Waiting by its serial
 past : (s : State) (i : Job) → IsIn i s.jobs → is_waiting i.phase ≡ false → is_past_waiting s.jobs i.serial ≡ true
@@ -278,7 +271,7 @@ auto_none s t q e d h i m =
 
 moved_none_at : (s : State) (serial : ℕ) (phase : Phase) (j : Job) (b : Bool) (i k : Job) → IsIn j s.jobs → j.serial ≡ serial → is_waiting j.phase ≡ false → (i.serial == serial) ≡ b → IsIn i s.jobs → k ≡ cond b (in_phase phase i) i → was_launched s k ≡ false
 moved_none_at s serial phase j true i k n e w f m same =
-    not_launched s j k n w (e ∙ sym (same_number i.serial serial f) ∙ ap (λ (x : Job). x.serial) (sym same))
+    not_launched s j k n w (e ∙ sym (eqb-true i.serial serial f) ∙ ap (λ (x : Job). x.serial) (sym same))
 moved_none_at s serial phase j false i k n e w f m same = ap (was_launched s) same ∙ none_yet s i m
 
 moved_none : (s : State) (serial : ℕ) (j : Job) (phase : Phase) → IsIn j s.jobs → j.serial ≡ serial → is_waiting j.phase ≡ false → LaunchesNone s (with_phase s serial phase)

@@ -2,12 +2,14 @@
 use Rattle.std.proofs.Common.{◌≡◌, ℕ, ◌≤◌, ◌++◌, ◌==◌, ◌&&◌, not, Bool, true, false, cond, List, [], ◌∷◌, Option, Some, None, is_some, refl, sym, ap, subst, ◌∙◌, inl, inr, arith}
 use Rattle.std.specs.List.{find}
 use Rattle.std.specs.Option.{option_and_then}
+use Rattle.std.proofs.lemmas.Bool.{eqb-true}
 use Rattle.wm_base.specs.declared.job.EndCause.{EndCause}
 use Rattle.wm_base.specs.declared.job.How.{How}
 use Rattle.wm_base.specs.declared.job.How.TheVariants.{FromQueue, Auto}
 use Rattle.wm_base.specs.declared.qname.QName.{QName}
 use Rattle.wm_base.specs.Iterate.{IsKept}
 use Rattle.wm_base.proofs.Iterate.{iterate-keeps}
+use Rattle.wm_base.proofs.Tests.{not_both}
 use Rattle.wm_desc.specs.declared.description.Jobd.{Jobd}
 use Rattle.wm_desc.specs.declared.description.Sbsd.{Sbsd}
 use Rattle.wm_desc.specs.declared.entry.AutoEntry.{AutoEntry}
@@ -42,7 +44,7 @@ use Rattle.wm_law.proofs.Alterations.{IsAlteration, altered, each_altered, idle}
 use Rattle.wm_law.proofs.Endings.{AreEnded, IsEnding, was_active, wished}
 use Rattle.wm_law.proofs.Firsts.{holder_started, ready_waits}
 use Rattle.wm_law.proofs.Forward.{only_one}
-use Rattle.wm_law.proofs.Lodged.{counted, not_gone, not_zero}
+use Rattle.wm_law.proofs.Lodged.{counted, not_zero}
 use Rattle.wm_law.proofs.Members.{found_among, in_left, in_longer, of_last, of_mapped}
 use Rattle.wm_law.proofs.Moves.{HoldsOfStates, IsMakeable, IsOnward, call_keeps, comes_due}
 use Rattle.wm_law.proofs.Named.{own_name}
@@ -51,7 +53,6 @@ use Rattle.wm_law.proofs.Numbers.{apply_keeps, clock_keeps, launches_keep, ready
 use Rattle.wm_law.proofs.Objects.{IsObjectChange}
 use Rattle.wm_law.proofs.Queued.{launches_queued, queued_calls}
 use Rattle.wm_law.proofs.Routed.{by_route, launched_routed, started_through}
-use Rattle.wm_law.proofs.Tests.{same_number}
 
 active_by : (how : ℕ → How) (seq : ℕ) (o : Option EndCause) → is_active (launched_by how seq o).phase ≡ true → (launched_by how seq o).phase ≡ Starting
 active_by how seq None h = refl
@@ -100,7 +101,7 @@ submitted bs o kind jobq pty how e p = subst (λ (k : JobKind). IsPlaced bs o k 
 placed_at : (s : State) (c : Candidate) (f : Job) (i : Job) (b : Bool) (k : Job) → (i.serial == c.serial) ≡ b → IsIn i s.jobs → IsNumbered s → HasQueues s → IsNext s c f → HasPlaces s → k ≡ cond b (as_launched (launched s c.sbs c.jobq f) i) i → is_active k.phase ≡ true → IsPlacedIn s k
 placed_at s c f i true k e m n q x h same a =
     let l = launched s c.sbs c.jobq f in
-    let its : i ≡ f = only_one s.jobs n.serials.distinct i f m x.first.job (same_number i.serial c.serial e ∙ x.serial) in
+    let its : i ≡ f = only_one s.jobs n.serials.distinct i f m x.first.job (eqb-true i.serial c.serial e ∙ x.serial) in
     let active : is_active l.phase ≡ true = ap (λ (y : Job). is_active y.phase) (sym same) ∙ a in
     let bch : f.kind ≡ Bch = (q f x.first.job).waits (ready_waits s f x.first.may.ready) in
     let placed : IsPlacedIn s (as_launched l f) = submitted s.started s.objects f.kind f.jobq f.pty l.how bch (placed_now s c f x active) in
@@ -143,7 +144,7 @@ active_before (Ended c) (Ended d) w r a = absurd (cc)
 
 moved_at : (s : State) (serial : ℕ) (phase : Phase) (j i : Job) (b : Bool) (k : Job) → IsNumbered s → HasPlaces s → IsIn j s.jobs → j.serial ≡ serial → IsOnward j.phase phase → (i.serial == serial) ≡ b → IsIn i s.jobs → k ≡ cond b (in_phase phase i) i → is_active k.phase ≡ true → IsPlacedIn s k
 moved_at s serial phase j i true k n h m e r f o same a =
-    let its : j ≡ i = only_one s.jobs n.serials.distinct j i m o (e ∙ sym (same_number i.serial serial f)) in
+    let its : j ≡ i = only_one s.jobs n.serials.distinct j i m o (e ∙ sym (eqb-true i.serial serial f)) in
     let active : is_active phase ≡ true = ap (λ (y : Job). is_active y.phase) (sym same) ∙ a in
     let was : is_active i.phase ≡ true = ap (λ (y : Job). is_active y.phase) (sym its) ∙ active_before j.phase phase r.past r.on active in
     let placed : IsPlacedIn s (in_phase phase i) = h i o was in
@@ -263,7 +264,7 @@ stays_started : (s : State) (j : Job) → IsIn j s.jobs → is_active j.phase �
 stays_started s j i a x d m its k =
     let both : (is_active j.phase && is_in_sbs x.sbsd j.how) ≡ true = ap (λ (b : Bool). b && is_in_sbs x.sbsd j.how) a ∙ its in
     let more = counted (λ (y : Job). is_active y.phase && is_in_sbs x.sbsd y.how) s.jobs j i both in
-    (x, in_left (λ (y : Sbs). not (is_gone s.jobs y)) s.started x (not_gone (is_ending x.phase) (count_in_sbs x.sbsd s.jobs == 0) (not_zero (count_in_sbs x.sbsd s.jobs) more)) m, refl, k)
+    (x, in_left (λ (y : Sbs). not (is_gone s.jobs y)) s.started x (not_both (is_ending x.phase) (count_in_sbs x.sbsd s.jobs == 0) (not_zero (count_in_sbs x.sbsd s.jobs) more)) m, refl, k)
 
 left_placed : (s : State) → HasPlaces s → HasPlaces (leave s)
 left_placed s h j i a = placed_still s.started s.objects (leave s).started s.objects j.kind j.jobq j.pty j.how (stays_started s j i a) (h j i a)

@@ -6,6 +6,7 @@ use Rattle.std.specs.declared.cmp.Ordering.TheVariants.{Less}
 use Rattle.std.proofs.lemmas.List.Kept.{AllPairs-filter}
 use Rattle.wm_base.specs.declared.qname.QName.{QName}
 use Rattle.wm_base.specs.Iterate.{IsKept}
+use Rattle.wm_base.proofs.Tests.{Some-injective}
 use Rattle.wm_desc.specs.declared.description.Jobd.{Jobd}
 use Rattle.wm_desc.specs.declared.entry.AutoEntry.{AutoEntry}
 use Rattle.wm_desc.specs.declared.objects.Objects.{Objects}
@@ -36,7 +37,6 @@ use Rattle.wm_law.proofs.Endings.{IsWishing, key_same, was_waiting}
 use Rattle.wm_law.proofs.InOrder.{in_inserted, sorted_added}
 use Rattle.wm_law.proofs.Members.{left_in, of_last, of_mapped}
 use Rattle.wm_law.proofs.Moves.{HoldsOfStates, IsAcceptable, IsKeptByParts, never_waits, step_keeps}
-use Rattle.wm_law.proofs.Nexts.{some_is}
 use Rattle.wm_law.proofs.Opened.{opened, opening_is}
 use Rattle.wm_law.proofs.Settling.{launch_never_waits, not_waiting}
 
@@ -96,7 +96,7 @@ submitted_queued : (s : State) (user : List ℕ) (c : Sbmjob) (d : Jobd) (due : 
 submitted_queued s user c d due a = record {
   waits = λ w. refl;
   has_queue = λ b. refl;
-  is_object = λ q e. subst (λ (n : QName). IsSome (object_named n s.objects.jobqs)) (some_is (queue_of c d) q e) a.queue;
+  is_object = λ q e. subst (λ (n : QName). IsSome (object_named n s.objects.jobqs)) (Some-injective (queue_of c d) q e) a.queue;
   auto = λ k. absurd (cc);
 }
 

@@ -1,5 +1,6 @@
 -- A call that tells nothing to end makes nothing due.
 use Rattle.std.proofs.Common.{◌≡◌, ℕ, ◌==◌, ◌&&◌, ◌++◌, Bool, true, false, cond, List, [], ◌∷◌, refl, sym, ap, subst, ◌∙◌, inl, inr, arith}
+use Rattle.std.proofs.lemmas.Bool.{and_parts, eqb-true}
 use Rattle.wm_base.specs.declared.job.How.{How}
 use Rattle.wm_base.specs.declared.job.How.TheVariants.{Auto}
 use Rattle.wm_base.specs.declared.qname.QName.{QName}
@@ -38,7 +39,6 @@ use Rattle.wm_law.proofs.Passed.{any_in}
 use Rattle.wm_law.proofs.Placed.{active_as, active_before}
 use Rattle.wm_law.proofs.Routed.{by_route}
 use Rattle.wm_law.proofs.Started.{calls}
-use Rattle.wm_law.proofs.Tests.{of_both, same_number}
 
 -- whether a subsystem ends now
 abbrev now : Sbs → Bool
@@ -58,7 +58,7 @@ moved_up clock bs i p n u = record {
 
 moved_at : (s : State) (serial : ℕ) (j : Job) (phase : Phase) → IsNumbered s → IsIn j s.jobs → j.serial ≡ serial → IsOnward j.phase phase → is_starting phase ≡ false → HasNoneDue s → (i : Job) (b : Bool) (k : Job) → (i.serial == serial) ≡ b → IsIn i s.jobs → k ≡ cond b (in_phase phase i) i → is_active k.phase ≡ true → IsUpToDate s.clock s.started k
 moved_at s serial j phase n m e r x h i true k f o same a =
-    let its : j ≡ i = only_one s.jobs n.serials.distinct j i m o (e ∙ sym (same_number i.serial serial f)) in
+    let its : j ≡ i = only_one s.jobs n.serials.distinct j i m o (e ∙ sym (eqb-true i.serial serial f)) in
     let active : is_active phase ≡ true = ap (λ (y : Job). is_active y.phase) (sym same) ∙ a in
     let was : is_active i.phase ≡ true = ap (λ (y : Job). is_active y.phase) (sym its) ∙ active_before j.phase phase r.past r.on active in
     subst (IsUpToDate s.clock s.started) (sym same) (moved_up s.clock s.started i phase x (h.jobs i o was))
@@ -136,7 +136,7 @@ auto_untold q t e d m names a h =
     let r = by_route t q (as_auto q) j (active_as t q (as_auto q) j a) in
     let is_how : l.how ≡ Auto q r.entry.seq = r.is_how in
     let b = of_any (λ (b : Sbs). now b && is_in_sbs b.sbsd l.how) t.started h in
-    let both = of_both (now b.0) (is_in_sbs b.0.sbsd l.how) b.2 in
+    let both = and_parts (now b.0) (is_in_sbs b.0.sbsd l.how) b.2 in
     let named : q ≡ b.0.sbsd = one_name q b.0.sbsd (sym (ap (is_in_sbs b.0.sbsd) is_how) ∙ both.1) in
     let one : m.sbs ≡ b.0 = one_by_key (λ (y : Sbs). y.sbsd.name) t.started names m.sbs b.0 m.started b.1 (ap (λ (n : QName). n.name) (m.named ∙ named)) in
     not_both m.sbs.phase m.active (ap now one ∙ both.0)

@@ -1,12 +1,14 @@
 -- What a launch comes to, by the route of the job.
 use Rattle.std.proofs.Common.{◌≡◌, ℕ, ◌==◌, ◌&&◌, Bool, true, false, cond, Option, Some, None, refl, sym, ap, subst, ◌∙◌}
 use Rattle.std.specs.Option.{option_and_then}
+use Rattle.std.proofs.lemmas.Bool.{and_parts, eqb-true}
 use Rattle.wm_base.specs.declared.job.EndCause.{EndCause}
 use Rattle.wm_base.specs.declared.job.EndCause.TheVariants.{NoRoute, RouteFull, BadRequest, NoProgram}
 use Rattle.wm_base.specs.declared.job.How.{How}
 use Rattle.wm_base.specs.declared.job.How.TheVariants.{NotYet}
 use Rattle.wm_base.specs.declared.qname.QName.{QName}
 use Rattle.wm_base.specs.Limit.{is_below}
+use Rattle.wm_base.proofs.Tests.{Some-injective}
 use Rattle.wm_desc.specs.declared.description.Program.{Program}
 use Rattle.wm_desc.specs.declared.description.Sbsd.{Sbsd}
 use Rattle.wm_desc.specs.declared.entry.RouteEntry.{RouteEntry}
@@ -21,9 +23,8 @@ use Rattle.wm_law.specs.Kept.{IsRouted}
 use Rattle.wm_law.specs.Launch.{called_program, entry_numbered, from_queue, is_match, launched, launched_as, launched_by, launched_through, missing_program, program_fault, route, route_fault}
 use Rattle.wm_law.proofs.Members.{found_among}
 use Rattle.wm_law.proofs.Named.{one_name}
-use Rattle.wm_law.proofs.Nexts.{IsNext, own_queue, some_is}
+use Rattle.wm_law.proofs.Nexts.{IsNext, own_queue}
 use Rattle.wm_law.proofs.Routes.{numbered_once}
-use Rattle.wm_law.proofs.Tests.{of_both, same_number}
 
 -- the launch of the next job is by its route in its subsystem
 pub launched_routed : (s : State) (c : Candidate) (j : Job) (n : IsNext s c j) → launched s c.sbs c.jobq j ≡ launched_through s n.turn.sbs.sbsd (from_queue n.turn.sbs.sbsd n.turn.queue j) j (route n.turn.sbsd j.rtgdta)
@@ -54,16 +55,16 @@ is_of_route (RouteFull seq) = true
 is_of_route c = false
 
 program_by : (o : Option Program) (x : EndCause) → missing_program o ≡ Some x → is_of_route x ≡ false
-program_by None x h = ap is_of_route (sym (some_is NoProgram x h))
+program_by None x h = ap is_of_route (sym (Some-injective NoProgram x h))
 program_by (Some p) x h = absurd (cc)
 
 program_not : (s : State) (o : Option QName) (x : EndCause) → program_fault s o ≡ Some x → is_of_route x ≡ false
-program_not s None x h = ap is_of_route (sym (some_is BadRequest x h))
+program_not s None x h = ap is_of_route (sym (Some-injective BadRequest x h))
 program_not s (Some pgm) x h = program_by (object_named pgm s.objects.programs) x h
 
 full_by : (b : Bool) (o : Option EndCause) (seq : ℕ) (x : EndCause) → (o ≡ Some x → is_of_route x ≡ false) → cond b o (Some (RouteFull seq)) ≡ Some x → is_of_route x ≡ true → (b ≡ false) × (RouteFull seq ≡ x)
 full_by true o seq x n h r = let other = n h in absurd (cc)
-full_by false o seq x n h r = (refl, some_is (RouteFull seq) x h)
+full_by false o seq x n h r = (refl, Some-injective (RouteFull seq) x h)
 
 -- a cause of the route comes where the entry is full
 routed_fault : (s : State) (sbs : QName) (e : RouteEntry) (j : Job) (x : EndCause) → route_fault s sbs e j ≡ Some x → is_of_route x ≡ true → (is_below (count_by_route sbs e.seq s.jobs) e.maxact ≡ false) × (RouteFull e.seq ≡ x)
@@ -146,13 +147,13 @@ pub below_route : (t : State) (q : QName) (how : ℕ → How) (j : Job) (sbs : Q
 below_route t q how j sbs seq d e of_route routed k f h =
     let r = by_route t q how j (starts_as_tested (is_by_route sbs seq) t q how j refl h) in
     let tested : (same_qname q sbs && r.entry.seq == seq) ≡ true = sym (of_route sbs seq r.entry.seq) ∙ ap (is_by_route sbs seq) (sym r.is_how) ∙ h in
-    let both = of_both (same_qname q sbs) (r.entry.seq == seq) tested in
+    let both = and_parts (same_qname q sbs) (r.entry.seq == seq) tested in
     let its : q ≡ sbs = one_name q sbs both.0 in
-    let number : r.entry.seq ≡ seq = same_number r.entry.seq seq both.1 in
-    let same : r.sbsd ≡ d = some_is r.sbsd d (sym r.described ∙ ap (λ (n : QName). object_named n t.objects.sbsds) its ∙ k) in
+    let number : r.entry.seq ≡ seq = eqb-true r.entry.seq seq both.1 in
+    let same : r.sbsd ≡ d = Some-injective r.sbsd d (sym r.described ∙ ap (λ (n : QName). object_named n t.objects.sbsds) its ∙ k) in
     let stands = (found_among (λ (x : RouteEntry). is_match x.cmp j.rtgdta) r.sbsd.routes r.entry r.routed).0 in
     let numbered : entry_numbered r.entry.seq r.sbsd ≡ Some r.entry = numbered_once r.sbsd.routes r.entry (routed.sorted q r.sbsd r.described) stands in
-    let one : r.entry ≡ e = some_is r.entry e (sym numbered ∙ ap (λ (n : ℕ). entry_numbered n r.sbsd) number ∙ ap (entry_numbered seq) same ∙ f) in
+    let one : r.entry ≡ e = Some-injective r.entry e (sym numbered ∙ ap (λ (n : ℕ). entry_numbered n r.sbsd) number ∙ ap (entry_numbered seq) same ∙ f) in
     subst (λ (x : RouteEntry). is_below (count_by_route sbs seq t.jobs) x.maxact ≡ true) one
     (subst (λ (n : ℕ). is_below (count_by_route sbs n t.jobs) r.entry.maxact ≡ true) number
     (subst (λ (n : QName). is_below (count_by_route n r.entry.seq t.jobs) r.entry.maxact ≡ true) its r.below))

@@ -4,6 +4,7 @@ use Rattle.std.specs.List.{find}
 use Rattle.std.specs.Ordering.{nat_cmp}
 use Rattle.std.proofs.lemmas.Bool.{eq-eqb}
 use Rattle.std.proofs.lemmas.Bool.Decides.{nat_tests}
+use Rattle.wm_base.proofs.Tests.{eqb-lt}
 use Rattle.wm_desc.specs.declared.entry.RouteEntry.{RouteEntry}
 use Rattle.wm_desc.specs.Sorted.{IsSortedOnce}
 use Rattle.wm_law.specs.Launch.{is_match}
@@ -17,14 +18,11 @@ number e = e.seq
 abbrev pub IsSorted : List RouteEntry → Type 0
 IsSorted entries = IsSortedOnce number nat_cmp entries
 
-other_number : (a b : ℕ) → a < b → nat_eq a b ≡ false
-other_number a b h = grind (arith, nat_tests)
-
 -- each entry is the one of its number
 pub numbered_once : (xs : List RouteEntry) (e : RouteEntry) → IsSorted xs → IsIn e xs → find (λ x. nat_eq x.seq e.seq) xs ≡ Some e
 numbered_once [] e s i = absurd i
 numbered_once (x ∷ xs) e s (inl same) = rw (eq-eqb x.seq e.seq (ap (λ (n : RouteEntry). n.seq) (sym same))) (ap Some (sym same))
-numbered_once (x ∷ xs) e s (inr i) = rw (other_number x.seq e.seq (first_less number x xs s e i)) (numbered_once xs e (rest_sorted number x xs s) i)
+numbered_once (x ∷ xs) e s (inr i) = rw (eqb-lt x.seq e.seq (first_less number x xs s e i)) (numbered_once xs e (rest_sorted number x xs s) i)
 
 least_by : (p : RouteEntry → Bool) (x : RouteEntry) (xs : List RouteEntry) (e : RouteEntry) (t : Bool) → p x ≡ t → IsSorted (x ∷ xs) → cond t (Some x) (find p xs) ≡ Some e → (find p xs ≡ Some e → (o : RouteEntry) → IsIn o xs → p o ≡ true → e.seq ≤ o.seq) → (o : RouteEntry) → IsIn o (x ∷ xs) → p o ≡ true → e.seq ≤ o.seq
 least_by p x xs e true b s f h o (inl same) m =

@@ -9,6 +9,7 @@ use Rattle.std.proofs.lemmas.List.{length-map, length_push}
 use Rattle.std.proofs.lemmas.List.Elements.{All-cons, All-nil}
 use Rattle.std.proofs.lemmas.List.Kept.{AllPairs-cons}
 use Rattle.wm_base.specs.declared.qname.QName.{QName}
+use Rattle.wm_base.proofs.Lists.{length-filter_few}
 use Rattle.wm_desc.specs.declared.description.Jobd.{Jobd}
 use Rattle.wm_desc.specs.declared.entry.QueueEntry.{QueueEntry}
 use Rattle.wm_desc.specs.declared.entry.RouteEntry.{RouteEntry}
@@ -30,7 +31,6 @@ use Rattle.wm_law.specs.Opening.{crtjobd_qbatch, crtjobd_qdftjobd, opening}
 use Rattle.wm_law.specs.Settling.{is_gone}
 use Rattle.wm_law.specs.Sound.{IsWithinStarted}
 use Rattle.wm_law.specs.Subsystems.{max_started}
-use Rattle.wm_law.proofs.Entries.{left_length}
 use Rattle.wm_law.proofs.Moves.{HoldsOfStates, IsKeptByParts, step_keeps}
 use Rattle.wm_law.proofs.Opened.{batch_sbsd, opened, opening_is, opening_objects}
 use Rattle.wm_law.proofs.Orders.{only_sbsd}
@@ -148,7 +148,7 @@ within_parts : IsKeptByParts IsWithinStarted
 within_parts = record {
   clock = λ s moment h. h;
   calls = within_calls;
-  leaves = λ s h. fewer_within s _ (left_length (λ (b : Sbs). not (is_gone s.jobs b)) s.started) h;
+  leaves = λ s h. fewer_within s _ (length-filter_few (λ (b : Sbs). not (is_gone s.jobs b)) s.started) h;
   launches = record { by_step = λ s c e h. launched_within s c (find (λ (j : Job). j.serial == c.serial) s.jobs) h };
 }
 

@@ -2,8 +2,9 @@
 use Rattle.std.proofs.Common.{◌≡◌, ℕ, ◌==◌, not, true, false, List, [], ◌∷◌, map, Option, Some, None, refl, sym, ap, subst, ◌∙◌, inl, inr, nat_eq}
 use Rattle.std.specs.List.{list_any, find}
 use Rattle.std.specs.Cmp.Lexicographic.{pointwise}
-use Rattle.std.proofs.lemmas.Bool.{eq-eqb}
+use Rattle.std.proofs.lemmas.Bool.{eq-eqb, or_parts}
 use Rattle.wm_base.specs.declared.qname.QName.{QName}
+use Rattle.wm_base.proofs.Tests.{bytes-itself}
 use Rattle.wm_law.specs.declared.choice.Candidate.{Candidate}
 use Rattle.wm_law.specs.declared.job.Job.{Job}
 use Rattle.wm_law.specs.declared.state.Sbs.{Sbs}
@@ -17,23 +18,18 @@ use Rattle.wm_law.specs.Settling.{is_gone}
 use Rattle.wm_law.proofs.Distinct.{distinct_last, distinct_left}
 use Rattle.wm_law.proofs.Moves.{HoldsOfStates, IsKeptByParts, step_keeps, after_keeps}
 use Rattle.wm_law.proofs.Opened.{opening_is}
-use Rattle.wm_law.proofs.Tests.{of_neither}
 
 abbrev name_of : Sbs → List ℕ
 name_of b = b.sbsd.name
-
-same_name : (name : List ℕ) → pointwise nat_eq name name ≡ true
-same_name [] = refl
-same_name (c ∷ cs) = rw (eq-eqb c c refl, same_name cs) refl
 
 -- a name that no started subsystem has stands not among theirs
 not_among : (name : List ℕ) (started : List Sbs) → list_any (λ b. pointwise nat_eq b.sbsd.name name) started ≡ false → IsIn name (map name_of started) → ⊥
 not_among name [] e i = i
 not_among name (b ∷ bs) e (inl same) =
-    let this = (of_neither (pointwise nat_eq b.sbsd.name name) (list_any (λ (b : Sbs). pointwise nat_eq b.sbsd.name name) bs) e).0 in
-    let one = subst (λ (n : List ℕ). pointwise nat_eq n name ≡ true) same (same_name name) in
+    let this = (or_parts (pointwise nat_eq b.sbsd.name name) (list_any (λ (b : Sbs). pointwise nat_eq b.sbsd.name name) bs) e).0 in
+    let one = subst (λ (n : List ℕ). pointwise nat_eq n name ≡ true) same (bytes-itself name) in
     absurd (cc)
-not_among name (b ∷ bs) e (inr i) = not_among name bs (of_neither (pointwise nat_eq b.sbsd.name name) (list_any (λ (b : Sbs). pointwise nat_eq b.sbsd.name name) bs) e).1 i
+not_among name (b ∷ bs) e (inr i) = not_among name bs (or_parts (pointwise nat_eq b.sbsd.name name) (list_any (λ (b : Sbs). pointwise nat_eq b.sbsd.name name) bs) e).1 i
 
 started : (s : State) (q : QName) → is_started s q.name ≡ false → HasDistinctNames s → HasDistinctNames (begun s q)
 started s q fresh h = distinct_last name_of (record { sbsd = q; phase = Active }) s.started (not_among q.name s.started fresh) h

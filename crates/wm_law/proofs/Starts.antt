@@ -1,7 +1,7 @@
 -- A legal history orders no serial to start twice, and none to be killed twice.
 use Rattle.std.proofs.Common.{◌≡◌, ℕ, ◌≤◌, ◌==◌, ◌&&◌, Bool, true, false, cond, map, List, Option, Some, None, refl, sym, ap, subst, ◌∙◌, arith}
 use Rattle.std.specs.Option.{option_and_then}
-use Rattle.std.proofs.lemmas.Bool.{eq-eqb}
+use Rattle.std.proofs.lemmas.Bool.{eq-eqb, and_parts}
 use Rattle.wm_base.specs.declared.job.Asked.{Asked}
 use Rattle.wm_base.specs.declared.job.Asked.TheVariants.{Start, Kill}
 use Rattle.wm_base.specs.declared.job.StartOrder.{StartOrder}
@@ -34,7 +34,6 @@ use Rattle.wm_law.proofs.Changed.{in_changed}
 use Rattle.wm_law.proofs.Members.{in_mapped}
 use Rattle.wm_law.proofs.Moves.{HoldsAfterCalls, starting_rank}
 use Rattle.wm_law.proofs.Once.{Orders, orders_once, told}
-use Rattle.wm_law.proofs.Tests.{of_both}
 
 with_serial : (j : Job) (args : List (List ℕ)) (p : Option Program) (c : Option Class) (o : StartOrder) → order_with j args p c ≡ Some o → o.serial ≡ j.serial
 with_serial j args None c o e = absurd (cc)
@@ -113,7 +112,7 @@ active_here change i a =
 
 killed_one : (s : State) (m : ℕ) (i : Job) → IsIn i s.jobs → is_to_kill m i ≡ true → Kills s (record { reply = Order (Kill i.serial); state = with_active s i.serial with_kill })
 killed_one s m i k h x e =
-    let both = of_both (is_run_by m i.phase) (is_unhanded i.wish) h in
+    let both = and_parts (is_run_by m i.phase) (is_unhanded i.wish) h in
     let ranks = unhanded_rank i.wish both.1 in
     let before = ranks.0 in
     let after = ranks.1 in

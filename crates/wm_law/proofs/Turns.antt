@@ -5,7 +5,9 @@ use Rattle.std.specs.Option.{option_and_then}
 use Rattle.std.specs.Ordering.{is_lt, nat_cmp, ordering_then}
 use Rattle.std.specs.declared.cmp.Ordering.{Ordering}
 use Rattle.std.proofs.lemmas.Cmp.{by_ranked, ranked}
+use Rattle.std.proofs.lemmas.Bool.{and_parts}
 use Rattle.wm_base.specs.declared.qname.QName.{QName}
+use Rattle.wm_base.proofs.Tests.{Some-injective}
 use Rattle.wm_desc.specs.declared.description.Sbsd.{Sbsd}
 use Rattle.wm_desc.specs.declared.entry.QueueEntry.{QueueEntry}
 use Rattle.wm_desc.specs.Table.{object_named, same_qname}
@@ -19,8 +21,6 @@ use Rattle.wm_law.specs.Laws.{IsBefore, IsFirst, IsIn, MayStart, Turn}
 use Rattle.wm_law.specs.Order.{before_by, is_before, stands_before, turn_described, turn_from, turn_held, turn_of, turn_queued}
 use Rattle.wm_law.proofs.Members.{found_among}
 use Rattle.wm_law.proofs.Named.{one_name}
-use Rattle.wm_law.proofs.Nexts.{some_is}
-use Rattle.wm_law.proofs.Tests.{of_both}
 
 -- a job that may start has its turn
 pub has_turn : (s : State) (j : Job) (t : Turn) → MayStart s j t → turn_of s j ≡ Some t
@@ -42,7 +42,7 @@ by_entry s j q b d None t i h k l e = absurd (cc)
 by_entry s j q b d (Some n) t i h k l e =
     let u : Turn = record { queue = q; sbs = b; sbsd = d; entry = n } in
     let this : IsTurn s j u = record { queue = i; holder = h; sbsd = k; entry = l } in
-    subst (IsTurn s j) (some_is u t e) this
+    subst (IsTurn s j) (Some-injective u t e) this
 
 by_description : (s : State) (j : Job) (q : QName) (b : Sbs) (o : Option Sbsd) (t : Turn) → j.jobq ≡ Some q → holder s q ≡ Some b → object_named b.sbsd s.objects.sbsds ≡ o → turn_described q b o ≡ Some t → IsTurn s j t
 by_description s j q b None t i h k e = absurd (cc)
@@ -97,7 +97,7 @@ less_triple d j e k h =
 
 not_first : (s : State) (k j : Job) (u t : Turn) (b : Bool) → is_before u k t j ≡ b → IsFirst s j t → IsIn k s.jobs → MayStart s k u → b ≡ false
 not_first s k j u t true e f i m =
-    let both = of_both (same_qname u.sbs.sbsd t.sbs.sbsd) (is_lt (ordering_then (nat_cmp u.entry.seq t.entry.seq) (ordering_then (nat_cmp k.pty j.pty) (nat_cmp k.place j.place)))) e in
+    let both = and_parts (same_qname u.sbs.sbsd t.sbs.sbsd) (is_lt (ordering_then (nat_cmp u.entry.seq t.entry.seq) (ordering_then (nat_cmp k.pty j.pty) (nat_cmp k.place j.place)))) e in
     absurd (f.none_before k u i m (one_name u.sbs.sbsd t.sbs.sbsd both.0) (less_triple u.entry k t.entry j both.1))
 not_first s k j u t false e f i m = refl
 
@@ -126,12 +126,12 @@ ahead_launched s l j k = ahead_by l (turn_of s j) (turn_of s k) j k
 
 module _ {X K : Type 0} (key : X → K) (p q : K → Bool) where
   found_by : (z : X) (xs : List X) (x y : X) (a b : Bool) → p (key z) ≡ a → q (key z) ≡ b → cond a (Some z) (find (λ (v : X). p (key v)) xs) ≡ Some x → cond b (Some z) (find (λ (v : X). q (key v)) xs) ≡ Some y → key x ≡ key y → (find (λ (v : X). p (key v)) xs ≡ Some x → find (λ (v : X). q (key v)) xs ≡ Some y → x ≡ y) → x ≡ y
-  found_by z xs x y true true d e f g k rest = sym (some_is z x f) ∙ some_is z y g
+  found_by z xs x y true true d e f g k rest = sym (Some-injective z x f) ∙ Some-injective z y g
   found_by z xs x y true false d e f g k rest =
-      let yes : q (key z) ≡ true = ap q (ap key (some_is z x f) ∙ k) ∙ (found_among (λ (v : X). q (key v)) xs y g).1 in
+      let yes : q (key z) ≡ true = ap q (ap key (Some-injective z x f) ∙ k) ∙ (found_among (λ (v : X). q (key v)) xs y g).1 in
       absurd (cc)
   found_by z xs x y false true d e f g k rest =
-      let yes : p (key z) ≡ true = ap p (ap key (some_is z y g) ∙ sym k) ∙ (found_among (λ (v : X). p (key v)) xs x f).1 in
+      let yes : p (key z) ≡ true = ap p (ap key (Some-injective z y g) ∙ sym k) ∙ (found_among (λ (v : X). p (key v)) xs x f).1 in
       absurd (cc)
   found_by z xs x y false false d e f g k rest = rest f g
 
@@ -152,5 +152,5 @@ one_holder s q r b c e f k = found_one (λ (x : Sbs). x.sbsd) (feeds s q) (feeds
 pub one_sbs : (s : State) (j k : Job) (t u : Turn) → MayStart s j t → IsTurn s k u → u.sbs.sbsd ≡ t.sbs.sbsd → (t.sbs ≡ u.sbs) × (t.sbsd ≡ u.sbsd)
 one_sbs s j k t u m i same = (
   one_holder s t.queue u.queue t.sbs u.sbs m.holder i.holder (sym same),
-  some_is t.sbsd u.sbsd (sym m.sbsd ∙ ap (λ (q : QName). object_named q s.objects.sbsds) (sym same) ∙ i.sbsd),
+  Some-injective t.sbsd u.sbsd (sym m.sbsd ∙ ap (λ (q : QName). object_named q s.objects.sbsds) (sym same) ∙ i.sbsd),
 )

@@ -104,7 +104,7 @@ module _ (change : Job → Job) (same : (j : Job) → (change j).place ≡ j.pla
   fewer_distinct [] d = d
   fewer_distinct (j ∷ jobs) d = fewer_once (is_waiting (change j).phase) (is_waiting j.phase) j (change j) (waiting (map change jobs)) (waiting jobs) (waited j) (same j) (fewer_in jobs) (fewer_distinct jobs) d
 
-below_in : (top : ℕ) (ns : List ℕ) (n : ℕ) → IsBelow top ns → IsIn n ns → n < top
+pub below_in : (top : ℕ) (ns : List ℕ) (n : ℕ) → IsBelow top ns → IsIn n ns → n < top
 below_in top [] n b i = absurd i
 below_in top (m ∷ ns) n b (inl e) = subst (λ (x : ℕ). x < top) (sym e) b.0
 below_in top (m ∷ ns) n b (inr i) = below_in top ns n b.1 i

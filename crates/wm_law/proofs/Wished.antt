@@ -29,6 +29,7 @@ use Rattle.wm_law.proofs.Members.{left_in, of_last, of_mapped}
 use Rattle.wm_law.proofs.Moves.{HoldsOfStates, IsKeptByParts, never_waits, step_keeps}
 use Rattle.wm_law.proofs.Opened.{opened, opening_is}
 use Rattle.wm_law.proofs.Settling.{not_waiting}
+use Rattle.wm_law.proofs.InTurn.{not_active}
 
 -- a change after which a job doesn't wait, and which leaves its wish
 record LeavesWishes (change : Job → Job) : Type 0 where
@@ -61,19 +62,12 @@ altered_wished s j k a h = record {
   moment = subst (λ (x : Wish). IsMoment (wish_moment x)) (sym a.wish) h.moment;
 }
 
-waiting_idle : (p : Phase) → is_waiting p ≡ true → is_active p ≡ false
-waiting_idle Waiting h = refl
-waiting_idle Starting h = absurd (cc)
-waiting_idle (Handed m) h = absurd (cc)
-waiting_idle (Running m) h = absurd (cc)
-waiting_idle (Ended c) h = absurd (cc)
-
 -- a wish is given to active jobs alone
 given_wished : (change : Job → Job) → IsWishing change → (j : Job) → IsWished j → IsWished (change j)
 given_wished change e j h = record {
   waits = λ w. (
       let waited = was_waiting j.phase (change j).phase (e.phase j) w in
-      ap (λ (x : Job). has_wish x.wish) (e.idle j (waiting_idle j.phase waited)) ∙ h.waits waited);
+      ap (λ (x : Job). has_wish x.wish) (e.idle j (not_active j.phase waited)) ∙ h.waits waited);
   moment = e.moment j h.moment;
 }
 

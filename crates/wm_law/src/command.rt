@@ -5,14 +5,14 @@ use wm_desc::Cmp;
 use wm_when::{DateSpec, TimeSpec};
 
 /// How fast something ends.
-#[derive(Clone, Copy, Debug, PartialEq, Eq)]
+#[derive(Clone, Copy, Debug)]
 pub enum EndOption {
     Cntrld,
     Immed,
 }
 
 /// How a command names a job.
-#[derive(Clone, Copy, Debug, PartialEq, Eq)]
+#[derive(Clone, Copy, Debug)]
 pub enum JobRef {
     Simple(Name),
     /// The user, and the job's name.
@@ -20,7 +20,7 @@ pub enum JobRef {
     Full(JobName),
 }
 
-#[derive(Debug, PartialEq, Eq, Drop)]
+#[derive(Debug, Drop)]
 pub struct Crtcls {
     pub cls: QName,
     pub runpty: u32,
@@ -28,18 +28,18 @@ pub struct Crtcls {
     pub dftwait: Limit,
 }
 
-#[derive(Debug, PartialEq, Eq, Drop)]
+#[derive(Debug, Drop)]
 pub struct Crtjobq {
     pub jobq: QName,
 }
 
-#[derive(Debug, PartialEq, Eq, Drop)]
+#[derive(Debug, Drop)]
 pub struct Crtpgmref {
     pub pgm: QName,
     pub path: Text,
 }
 
-#[derive(Debug, PartialEq, Eq, Drop)]
+#[derive(Debug, Drop)]
 pub struct Crtjobd {
     pub jobd: QName,
     pub jobq: QName,
@@ -49,13 +49,13 @@ pub struct Crtjobd {
     pub hold: bool,
 }
 
-#[derive(Debug, PartialEq, Eq, Drop)]
+#[derive(Debug, Drop)]
 pub struct Crtsbsd {
     pub sbsd: QName,
     pub maxjobs: Limit,
 }
 
-#[derive(Debug, PartialEq, Eq, Drop)]
+#[derive(Debug, Drop)]
 pub struct Addjobqe {
     pub sbsd: QName,
     pub jobq: QName,
@@ -65,7 +65,7 @@ pub struct Addjobqe {
     pub maxpty: [Limit; 9],
 }
 
-#[derive(Debug, PartialEq, Eq, Drop)]
+#[derive(Debug, Drop)]
 pub struct Addrtge {
     pub sbsd: QName,
     pub seqnbr: u32,
@@ -76,14 +76,14 @@ pub struct Addrtge {
     pub poolid: u32,
 }
 
-#[derive(Debug, PartialEq, Eq, Drop)]
+#[derive(Debug, Drop)]
 pub struct Addaje {
     pub sbsd: QName,
     pub job: Name,
     pub jobd: QName,
 }
 
-#[derive(Debug, PartialEq, Eq, Drop)]
+#[derive(Debug, Drop)]
 pub struct Addpje {
     pub sbsd: QName,
     pub pgm: QName,
@@ -98,37 +98,37 @@ pub struct Addpje {
     pub poolid: u32,
 }
 
-#[derive(Debug, PartialEq, Eq, Drop)]
+#[derive(Debug, Drop)]
 pub struct Rmvjobqe {
     pub sbsd: QName,
     pub jobq: QName,
 }
 
-#[derive(Debug, PartialEq, Eq, Drop)]
+#[derive(Debug, Drop)]
 pub struct Rmvrtge {
     pub sbsd: QName,
     pub seqnbr: u32,
 }
 
-#[derive(Debug, PartialEq, Eq, Drop)]
+#[derive(Debug, Drop)]
 pub struct Rmvaje {
     pub sbsd: QName,
     pub job: Name,
 }
 
-#[derive(Debug, PartialEq, Eq, Drop)]
+#[derive(Debug, Drop)]
 pub struct Rmvpje {
     pub sbsd: QName,
     pub pgm: QName,
 }
 
-#[derive(Debug, PartialEq, Eq, Drop)]
+#[derive(Debug, Drop)]
 pub struct Strsbs {
     pub sbsd: QName,
 }
 
 /// The delay is in seconds, `None` is *NOLIMIT.
-#[derive(Debug, PartialEq, Eq, Drop)]
+#[derive(Debug, Drop)]
 pub struct Endsbs {
     pub sbs: Name,
     pub option: EndOption,
@@ -136,7 +136,7 @@ pub struct Endsbs {
 }
 
 /// `None` is *JOBD: the value of the job description, and for `job` its simple name. CMD's text is `rqsdta`.
-#[derive(Debug, PartialEq, Eq, Drop)]
+#[derive(Debug, Drop)]
 pub struct Sbmjob {
     pub rqsdta: Option<Text>,
     pub job: Option<Name>,
@@ -149,18 +149,18 @@ pub struct Sbmjob {
     pub scdtime: TimeSpec,
 }
 
-#[derive(Debug, PartialEq, Eq, Drop)]
+#[derive(Debug, Drop)]
 pub struct Hldjob {
     pub job: JobRef,
 }
 
-#[derive(Debug, PartialEq, Eq, Drop)]
+#[derive(Debug, Drop)]
 pub struct Rlsjob {
     pub job: JobRef,
 }
 
 /// `None` is *SAME.
-#[derive(Debug, PartialEq, Eq, Drop)]
+#[derive(Debug, Drop)]
 pub struct Chgjob {
     pub job: JobRef,
     pub jobpty: Option<Priority>,
@@ -170,36 +170,36 @@ pub struct Chgjob {
 }
 
 /// The delay is in seconds.
-#[derive(Debug, PartialEq, Eq, Drop)]
+#[derive(Debug, Drop)]
 pub struct Endjob {
     pub job: JobRef,
     pub option: EndOption,
     pub delay: u32,
 }
 
-#[derive(Debug, PartialEq, Eq, Drop)]
+#[derive(Debug, Drop)]
 pub struct Hldjobq {
     pub jobq: QName,
 }
 
-#[derive(Debug, PartialEq, Eq, Drop)]
+#[derive(Debug, Drop)]
 pub struct Rlsjobq {
     pub jobq: QName,
 }
 
-#[derive(Debug, PartialEq, Eq, Drop)]
+#[derive(Debug, Drop)]
 pub struct Clrjobq {
     pub jobq: QName,
 }
 
-#[derive(Debug, PartialEq, Eq, Drop)]
+#[derive(Debug, Drop)]
 pub struct Strpj {
     pub sbs: Name,
     pub pgm: QName,
 }
 
 /// The delay is in seconds, `None` is *NOLIMIT.
-#[derive(Debug, PartialEq, Eq, Drop)]
+#[derive(Debug, Drop)]
 pub struct Endpj {
     pub sbs: Name,
     pub pgm: QName,
@@ -208,26 +208,26 @@ pub struct Endpj {
 }
 
 /// EVOKE. `Evoke` is the request that waits.
-#[derive(Debug, PartialEq, Eq, Drop)]
+#[derive(Debug, Drop)]
 pub struct EvokeCommand {
     pub sbs: Name,
     pub pgm: QName,
 }
 
-#[derive(Debug, PartialEq, Eq, Drop)]
+#[derive(Debug, Drop)]
 pub struct Enduse {
     pub job: JobRef,
 }
 
 /// The delay is in seconds, `None` is *NOLIMIT.
-#[derive(Debug, PartialEq, Eq, Drop)]
+#[derive(Debug, Drop)]
 pub struct Pwrdwnsys {
     pub option: EndOption,
     pub delay: Option<u32>,
 }
 
 /// A command that changes the state.
-#[derive(Debug, PartialEq, Eq, Drop)]
+#[derive(Debug, Drop)]
 pub enum Command {
     Crtcls(Crtcls),
     Crtjobq(Crtjobq),

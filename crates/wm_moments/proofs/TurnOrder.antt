@@ -7,6 +7,7 @@ use Rattle.std.specs.Ordering.{is_lt, is_eq, nat_cmp, ordering_then}
 use Rattle.std.proofs.lemmas.Bool.{cases_lt}
 use Rattle.std.proofs.lemmas.Bool.Decides.{nat_tests}
 use Rattle.std.proofs.lemmas.Cmp.{on_total, then_total, nat_cmp_total, on_equiv, and_equiv, nat_eq_equiv}
+use Rattle.wm_base.proofs.Orderings.{then-not_Greater}
 use Rattle.wm_moments.specs.declared.turn.Turn.{Turn}
 use Rattle.wm_moments.specs.Turns.{turn_cmp, same_turn, turn_of}
 
@@ -35,12 +36,9 @@ pub turn-is : (t : Turn) (s m : ℕ) → t.serial ≡ s → t.moment ≡ m → s
 turn-is t s m serial moment =
     subst (λ (n : ℕ). same_turn t (turn_of (n, m)) ≡ true) serial (subst (λ (n : ℕ). same_turn t (turn_of (t.serial, n)) ≡ true) moment (turn-itself t))
 
-not_above : (o p : Ordering) → ordering_then o p ≡ Less → o ≡ Greater → ⊥
-not_above o p h e = cc (sym (ap (λ q. ordering_then q p) e) ∙ h)
-
 -- what comes before comes no later
 pub no_later : (a b : Turn) → turn_cmp a b ≡ Less → a.moment ≤ b.moment
-no_later a b h = elim (cases_lt b.moment a.moment) [ inr le ↦ le | inl gt ↦ absurd (not_above (nat_cmp a.moment b.moment) (nat_cmp a.serial b.serial) (sym (fields a b) ∙ h) (above gt)) ]
+no_later a b h = elim (cases_lt b.moment a.moment) [ inr le ↦ le | inl gt ↦ absurd (then-not_Greater (nat_cmp a.moment b.moment) (nat_cmp a.serial b.serial) (sym (fields a b) ∙ h) (above gt)) ]
   where
     above : b.moment < a.moment → nat_cmp a.moment b.moment ≡ Greater
     above gt = grind arith

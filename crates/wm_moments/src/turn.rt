@@ -2,7 +2,7 @@
 use wm_base::{Moment, Serial};
 
 /// When the moment of a serial comes: by moment, then serial.
-#[derive(Clone, Copy, Debug, PartialEq, Eq, PartialOrd, Ord)]
+#[derive(Clone, Copy, PartialEq, Eq, PartialOrd, Ord)]
 pub(crate) struct Turn {
     pub(crate) moment: Moment,
     pub(crate) serial: Serial,

@@ -5,7 +5,7 @@ ghost use Rattle.wm_monitor.specs.declared.fault.MonitorFault.TheVariants.{WaitF
 use wm_traits::Failed;
 
 /// Why a turn or a wait of a monitor ended early.
-#[derive(Clone, Copy, Debug, PartialEq, Eq)]
+#[derive(Clone, Copy)]
 pub enum MonitorFault {
     /// A kill or a look of the spawner failed.
     WaitFault,

@@ -21,7 +21,7 @@ pub const MOST_LOOKS: u32 = 256;
 
 /// A monitor. It keeps the report that the journal didn't take, to send it first in its next call, and the kill that failed,
 /// to try it again behind the report in its next turn.
-#[derive(Clone, Copy, Debug, PartialEq, Eq)]
+#[derive(Clone, Copy)]
 pub struct Monitor {
     pub kept: Option<Report>,
     pub failed_kill: Option<Serial>,

@@ -7,7 +7,7 @@ use wm_law::Call;
 use wm_traits::StartFault;
 
 /// A report: a job was started, couldn't be started, has ended, or is done with its request.
-#[derive(Clone, Copy, Debug, PartialEq, Eq)]
+#[derive(Clone, Copy)]
 pub enum Report {
     Started(Serial),
     StartFailed(Serial, StartCause),

@@ -8,20 +8,20 @@ use std::hash::{Hash, Hasher};
 use wm_base::{JobName, Name, Serial};
 
 /// A simple name of jobs.
-#[derive(Clone, Copy, Debug, PartialEq, Eq)]
+#[derive(Clone, Copy, PartialEq, Eq)]
 pub(crate) struct SimpleName {
     pub(crate) name: Name,
 }
 
 /// A user, and the simple name of a job of that user.
-#[derive(Clone, Copy, Debug, PartialEq, Eq)]
+#[derive(Clone, Copy, PartialEq, Eq)]
 pub(crate) struct UserName {
     pub(crate) user: Name,
     pub(crate) name: Name,
 }
 
 /// The full name of a job, and the job's serial.
-#[derive(Clone, Copy, Debug, PartialEq, Eq)]
+#[derive(Clone, Copy, PartialEq)]
 pub(crate) struct FullName {
     pub(crate) job: JobName,
     pub(crate) serial: Serial,

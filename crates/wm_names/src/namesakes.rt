@@ -3,7 +3,7 @@ use wm_base::{Refusal, Serial};
 
 /// How many jobs a reference names, and the sum of their serials, modulo 2^64. Where it names one alone, the sum is that
 /// job's serial.
-#[derive(Clone, Copy, Debug, PartialEq, Eq)]
+#[derive(Clone, Copy)]
 pub(crate) struct Namesakes {
     count: u32,
     serials: u64,

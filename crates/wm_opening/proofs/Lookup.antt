@@ -7,24 +7,20 @@ use Rattle.std.specs.declared.cmp.Ordering.TheVariants.{Less, Equal, Greater}
 use Rattle.std.proofs.lemmas.Bool.{cases_lt}
 use Rattle.std.proofs.lemmas.Cmp.{nat_list_cmp_total, tied_itself}
 use Rattle.std.proofs.lemmas.Slice.Eq.{bytes_eq-Decides}
+use Rattle.wm_base.proofs.Orderings.{is_lt-Less}
 use Rattle.wm_desc.specs.Place.{IsAt, IsGap}
 use Rattle.wm_desc.specs.Sorted.{IsSortedOnce}
 use Rattle.wm_traits.specs.declared.row.Row.{Row}
 use Rattle.wm_traits.specs.Rows.{place_of, IsInOrder}
 use Rattle.wm_law.specs.Laws.{IsIn}
 use Rattle.wm_tables.specs.Opened.{is_found}
-use Rattle.wm_tables.proofs.OneMore.{all_in}
 use Rattle.wm_tables.proofs.RowOrder.{ascending}
 use Rattle.wm_tables.proofs.SameRows.{found_there, one_place, there_found}
-
-is_less : (r : Ordering) → is_lt r ≡ true → r ≡ Less
-is_less Less h = refl
-is_less Equal h = absurd (cc)
-is_less Greater h = absurd (cc)
+use Rattle.wm_law.proofs.Members.{All-in}
 
 -- rows in their order are sorted by their places
 pub sorted_rows : (rows : List Row) → IsInOrder rows → IsSortedOnce place_of (slice_cmp nat_cmp) rows
-sorted_rows rows h = λ i j d less within. is_less _ (h i j d less within)
+sorted_rows rows h = λ i j d less within. is_lt-Less _ (h i j d less within)
 
 at_in : (rows : List Row) (n : ℕ) (row : Row) → n < length rows → row ≡ get_or rows n row → IsIn row rows
 at_in [] n row less e = absurd (omega (arith, less))
@@ -66,7 +62,7 @@ module _ (found : List Row) (order : IsInOrder found) (row : Row) where
 
     by_test : (t : Bool) → is_found found row ≡ t → false ≡ t
     by_test false e = refl
-    by_test true e = absurd (all_in (λ (y : Row). slice_cmp nat_cmp (place_of y) (place_of row) ≡ Equal → ⊥) found row none_tied (found_there found row e) (tied_itself nat_list_cmp_total (place_of row)))
+    by_test true e = absurd (All-in (λ (y : Row). slice_cmp nat_cmp (place_of y) (place_of row) ≡ Equal → ⊥) found row none_tied (found_there found row e) (tied_itself nat_list_cmp_total (place_of row)))
 
     -- where the place is free, the row isn't found
     pub found_nowhere : false ≡ is_found found row

@@ -1,13 +1,13 @@
 -- What holds of the state that good rows make.
 use Rattle.std.proofs.Common.{◌≡◌, ◌≤◌, ℤ, suc, ◌==◌, true, false, List, [], ◌∷◌, length, All, refl, inl, inr, arith}
 use Rattle.std.proofs.lemmas.List.Elements.{All-nil, All-cons}
+use Rattle.std.proofs.lemmas.Bool.{eqb-true}
 use Rattle.wm_traits.specs.declared.row.Row.{Row}
 use Rattle.wm_law.specs.Counts.{is_active}
 use Rattle.wm_law.specs.Laws.{IsIn}
 use Rattle.wm_law.specs.Sound.{IsSound}
 use Rattle.wm_law.specs.declared.job.Job.{Job}
 use Rattle.wm_law.specs.declared.state.State.{State}
-use Rattle.wm_law.proofs.Tests.{same_number}
 use Rattle.wm_job_rows.specs.JobText.{job_row}
 use Rattle.wm_job_rows.specs.Stored.{stored_of}
 use Rattle.wm_tables.specs.Restart.{AreGood, HasCounters, IsRestart}
@@ -41,4 +41,4 @@ stand offset rows s good = all_of (Stands rows) s.jobs (λ j i. λ other. there_
 -- rows of which there are none
 pub none_there : (rows : List Row) → (length rows == 0) ≡ true → rows ≡ []
 none_there [] h = refl
-none_there (row ∷ rows) h = let none : suc (length rows) ≡ 0 = same_number (suc (length rows)) 0 h in absurd (omega arith)
+none_there (row ∷ rows) h = let none : suc (length rows) ≡ 0 = eqb-true (suc (length rows)) 0 h in absurd (omega arith)

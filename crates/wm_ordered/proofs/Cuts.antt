@@ -7,24 +7,19 @@ use Rattle.std.specs.Ordering.{is_lt, is_eq}
 use Rattle.std.proofs.lemmas.Bool.{true≢false}
 use Rattle.std.proofs.lemmas.List.{get_or_append_left}
 use Rattle.std.proofs.lemmas.List.Elements.{All-append, All-cons}
+use Rattle.wm_base.proofs.Orderings.{is_lt-Less, neither-Greater}
 use Rattle.wm_desc.specs.Place.{IsGap}
 use Rattle.wm_desc.specs.Sorted.{IsSortedOnce, has_key, place_of, added}
 use Rattle.wm_desc.proofs.Places.{count_by-split}
 use Rattle.wm_desc.proofs.SortedLists.{sorted-insert}
 use Rattle.wm_ordered.specs.Ordered.{key_of}
 use Rattle.wm_ordered.specs.Tree.{IsCut}
-use Rattle.wm_ordered.proofs.Found.{is_lt-Less, left_sorted, right_sorted, left_of_less, right_of_equal, right_of_greater}
+use Rattle.wm_ordered.proofs.Found.{left_sorted, right_sorted, left_of_less, right_of_equal, right_of_greater}
 use Rattle.wm_ordered.proofs.Tested.{fails-none}
 
 insert_between : {X : Type 0} (low high : List X) (x : X) → insert (low ++ high) (length low) x ≡ low ++ x ∷ high
 insert_between [] high x = refl
 insert_between (y ∷ low) high x = ap (λ ys. y ∷ ys) (insert_between low high x)
-
--- what is neither less nor equal is greater
-is-Greater : (c : Ordering) → is_lt c ≡ false → is_eq c ≡ false → c ≡ Greater
-is-Greater Less h g = absurd (true≢false h)
-is-Greater Equal h g = absurd (true≢false g)
-is-Greater Greater h g = refl
 
 -- pairs d are those of a node: l is what lies left of e, and r what lies right of it
 module _ {K V : Type 0} (cmp : K → K → Ordering) (o : IsTotalOrder cmp) (k : K) (d l : List (K × V)) (e : K × V) (r : List (K × V)) (is : d ≡ l ++ e ∷ r) (sorted : IsSortedOnce key_of cmp d) (low high : List (K × V)) where
@@ -62,7 +57,7 @@ module _ {K V : Type 0} (cmp : K → K → Ordering) (o : IsTotalOrder cmp) wher
     gap whole is below rest new = record {
       in_range = omega (arith, length-append low high);
       before = λ j d _ lt. is_lt-Less _ (subst (λ (x : K × V). is_lt (cmp x.0 pair.0) ≡ true) (sym (get_or_append_left low high d j lt)) (below j d lt));
-      after = λ j d le lt. is-Greater _ (above j d le (omega (arith, length-append low high))) (sym (ties _ _) ∙ subst (λ xs. eq (get_or xs j d).0 pair.0 ≡ false) is (new j d (omega (arith, ap length is))));
+      after = λ j d le lt. neither-Greater _ (above j d le (omega (arith, length-append low high))) (sym (ties _ _) ∙ subst (λ xs. eq (get_or xs j d).0 pair.0 ≡ false) is (new j d (omega (arith, ap length is))));
     }
       where
         above : (j : ℕ) (d : K × V) → length low ≤ j → j < length low + length high → is_lt (cmp (get_or (low ++ high) j d).0 pair.0) ≡ false

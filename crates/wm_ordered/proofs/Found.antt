@@ -7,15 +7,11 @@ use Rattle.std.specs.Option.{option_or}
 use Rattle.std.specs.Ordering.{is_lt, is_eq, is_gt, ordering_reverse}
 use Rattle.std.proofs.lemmas.Bool.{false≢true}
 use Rattle.std.proofs.lemmas.Cmp.{alike_right}
+use Rattle.wm_base.proofs.Orderings.{is_lt-Less}
 use Rattle.wm_desc.specs.Sorted.{IsSortedOnce, removed}
 use Rattle.wm_ordered.specs.Ordered.{key_of, value_at, with_value, first_from, first_above}
 use Rattle.wm_ordered.proofs.Sides.{Sides, sides}
 use Rattle.wm_ordered.proofs.Tested.{find-right, find-left, find-here, find-left_or, filter-right, filter-left, filter-here, map-right, map-left, map-here}
-
-pub is_lt-Less : (c : Ordering) → is_lt c ≡ true → c ≡ Less
-is_lt-Less Less h = refl
-is_lt-Less Equal h = absurd (false≢true h)
-is_lt-Less Greater h = absurd (false≢true h)
 
 Less-not_gt : (c : Ordering) → c ≡ Less → is_gt c ≡ false
 Less-not_gt c h = ap is_gt h

@@ -2,9 +2,10 @@
 use Rattle.std.proofs.Common.{◌≡◌, ◌⊎◌, ℕ, ◌<◌, ◌≤◌, ◌==◌, ◌&&◌, Bool, true, false, cond, Option, Some, None, is_some, List, [], ◌∷◌, filter, option_map, option_and_then, refl, sym, ap, subst, ◌∙◌, inl, inr, arith}
 use Rattle.std.specs.List.{find}
 use Rattle.std.specs.Ordering.{nat_cmp}
-use Rattle.std.proofs.lemmas.Bool.{eq-eqb}
+use Rattle.std.proofs.lemmas.Bool.{eq-eqb, and_parts, eqb-true}
 use Rattle.wm_base.specs.declared.qname.QName.{QName}
 use Rattle.wm_base.specs.Limit.{is_below}
+use Rattle.wm_base.proofs.Tests.{all_three, all_four, of_four, guarded}
 use Rattle.wm_desc.specs.declared.description.Sbsd.{Sbsd}
 use Rattle.wm_desc.specs.declared.entry.QueueEntry.{QueueEntry}
 use Rattle.wm_desc.specs.Sorted.{IsSortedOnce}
@@ -20,7 +21,6 @@ use Rattle.wm_law.proofs.ByNumber.{IsAscending, ascends, same_numbered}
 use Rattle.wm_law.proofs.Firsts.{candidate_of, first_of, no_first_is_none}
 use Rattle.wm_law.proofs.Members.{found_among, in_left, left_in}
 use Rattle.wm_law.proofs.Named.{one_name, own_name}
-use Rattle.wm_law.proofs.Tests.{all_four, guarded, of_both, of_four, same_number}
 use Rattle.wm_pick.specs.Heads.{IsOrderly, HeadsAreFirst, candidate_by, entry_head, first_by_heads, first_described, first_head, first_started, head_at, head_of, is_held_by, is_on, is_open, is_same_entry, is_turn, open_head, priorities, queues_in, queues_of, started_named, takes_jobs}
 use Rattle.wm_pick.proofs.FirstGiven.{in_priorities, is_given, none_given, priorities_ascend}
 use Rattle.wm_pick.proofs.Nearest.{nearest, none_nearest, passes}
@@ -30,9 +30,6 @@ of_three true true true h = (refl, refl, refl)
 of_three true true false h = absurd (cc)
 of_three true false c h = absurd (cc)
 of_three false b c h = absurd (cc)
-
-all_three : (a b c : Bool) → a ≡ true → b ≡ true → c ≡ true → (a && b && c) ≡ true
-all_three a b c e f g = ap (λ (x : Bool). x && b && c) e ∙ ap (λ (x : Bool). x && c) f ∙ g
 
 map_none : {X Y : Type 0} (f : X → Y) (o : Option X) → option_map f o ≡ None → o ≡ None
 map_none f None e = refl
@@ -85,7 +82,7 @@ pub record HasTurn (s : State) (queue : QName) (pty : ℕ) (j : Job) : Type 0 wh
 turn_of : (s : State) (queue : QName) (pty : ℕ) (j : Job) → is_turn s queue pty j ≡ true → HasTurn s queue pty j
 turn_of s queue pty j e =
     let t = of_three (is_ready s j) (is_on queue j.jobq) (j.pty == pty) e in
-    record { ready = t.0; jobq = on_queue queue j.jobq t.1; level = same_number j.pty pty t.2 }
+    record { ready = t.0; jobq = on_queue queue j.jobq t.1; level = eqb-true j.pty pty t.2 }
 
 has_turn : (s : State) (queue : QName) (j : Job) → is_ready s j ≡ true → j.jobq ≡ Some queue → is_turn s queue j.pty j ≡ true
 has_turn s queue j r e = all_three (is_ready s j) (is_on queue j.jobq) (j.pty == j.pty) r (ap (is_on queue) e ∙ own_name queue) (eq-eqb j.pty j.pty refl)
@@ -235,7 +232,7 @@ module _ (s : State) (b : Sbs) (d : Sbsd) (named : started_named b.sbsd s.starte
     described_by e None i h t = absurd (cc)
     described_by e (Some f) i h t =
         let j = (found_among (λ (n : QueueEntry). same_qname n.jobq e.jobq) d.queues f h).0 in
-        h ∙ ap (λ (n : QueueEntry). Some n) (same_numbered (λ (n : QueueEntry). n.seq) d.queues entries_ascend f e j i (same_number f.seq e.seq t))
+        h ∙ ap (λ (n : QueueEntry). Some n) (same_numbered (λ (n : QueueEntry). n.seq) d.queues entries_ascend f e j i (eqb-true f.seq e.seq t))
 
     -- none may start by an entry of a lesser number, nor by this entry with a lesser priority or place
     none_before : (e : QueueEntry) (j : Job) → IsIn e d.queues → IsHead s e.jobq j.pty j → ((f : QueueEntry) → IsIn f d.queues → f.seq < e.seq → open_head s b.sbsd d f ≡ None) → ((p : ℕ) → IsIn p priorities → p < j.pty → head_at s b.sbsd e p ≡ None) → (k : Job) (f : QueueEntry) → IsIn k s.jobs → MayStartBy s b d k f → IsBefore f k e j → ⊥
@@ -255,7 +252,7 @@ module _ (s : State) (b : Sbs) (d : Sbsd) (named : started_named b.sbsd s.starte
     chosen : (e : QueueEntry) (p : ℕ) (j : Job) → takes_jobs s b d ≡ true → IsIn e d.queues → is_open s b.sbsd d e ≡ true → is_below (count_from_priority b.sbsd e.jobq p s.jobs) (maxpty_of e p) ≡ true → IsHead s e.jobq p j → ((f : QueueEntry) → IsIn f d.queues → f.seq < e.seq → open_head s b.sbsd d f ≡ None) → ((q : ℕ) → IsIn q priorities → q < p → head_at s b.sbsd e q ≡ None) → IsFirst s j (turn_by b d e)
     chosen e p j gate is_in opened below head entries lesser =
         let at_priority : p ≡ j.pty = sym head.turn.level in
-        let g = of_both (is_sbs_active b.phase) (is_below (count_in_sbs b.sbsd s.jobs) d.maxjobs) gate in
+        let g = and_parts (is_sbs_active b.phase) (is_below (count_in_sbs b.sbsd s.jobs) d.maxjobs) gate in
         let t = of_three (is_held_by b.sbsd (holder s e.jobq)) (is_same_entry e (entry_for e.jobq d)) (is_below (count_from_queue b.sbsd e.jobq s.jobs) e.maxact) opened in
         let its_below : is_below (count_from_priority b.sbsd e.jobq j.pty s.jobs) (maxpty_of e j.pty) ≡ true = subst (λ (q : ℕ). is_below (count_from_priority b.sbsd e.jobq q s.jobs) (maxpty_of e q) ≡ true) at_priority below in
         let its_head : IsHead s e.jobq j.pty j = subst (λ (q : ℕ). IsHead s e.jobq q j) at_priority head in

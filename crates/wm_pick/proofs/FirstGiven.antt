@@ -5,6 +5,7 @@ use Rattle.std.specs.Option.{option_or}
 use Rattle.std.proofs.lemmas.List.Folds.{fold_stays, fold_stuck}
 use Rattle.std.proofs.lemmas.List.FromFn.{length-range_with_len, get_or-range_with_len}
 use Rattle.std.proofs.lemmas.List.Sums.{fold_more}
+use Rattle.wm_base.proofs.Tests.{None-from_is_some}
 use Rattle.wm_law.specs.Laws.{IsIn}
 use Rattle.wm_law.proofs.ByNumber.{IsAscending}
 use Rattle.wm_pick.specs.Heads.{first_given, priorities}
@@ -63,10 +64,6 @@ some_of : {Y : Type 0} (o : Option Y) → is_some o ≡ true → (y : Y) × (o �
 some_of None e = absurd (cc)
 some_of (Some y) e = (y, refl)
 
-none_of : {Y : Type 0} (o : Option Y) → is_some o ≡ false → o ≡ None
-none_of None e = refl
-none_of (Some y) e = absurd (cc)
-
 -- a walk along a list that stops at the first element that gives something
 module _ {X Y : Type 0} (give : X → Option Y) (xs : List X) (i : ℕ) (x : X) (within : i < length xs) (here : x ≡ slice_index_or xs i x) (none : first_given give (take i xs) ≡ None) where
   given_next : option_or (first_given give (take i xs)) (give (slice_index_or xs i x)) ≡ give x
@@ -83,7 +80,7 @@ module _ {X Y : Type 0} (give : X → Option Y) (xs : List X) (i : ℕ) (x : X) 
   pub none_next : (z : X) (o : Option Y) (t : Bool) → z ≡ x → o ≡ give z → t ≡ is_some o → t ≡ false → first_given give (take (i + 1) xs) ≡ None
   none_next z o t same gives is nothing =
       let e : o ≡ give x = gives ∙ ap give same in
-      fold_more (λ (found : Option Y) (z : X). option_or found (give z)) None xs i x within ∙ given_next ∙ sym e ∙ none_of o (sym is ∙ nothing)
+      fold_more (λ (found : Option Y) (z : X). option_or found (give z)) None xs i x within ∙ given_next ∙ sym e ∙ None-from_is_some o (sym is ∙ nothing)
 
 -- the numbers of a range
 not_below : (n a p : ℕ) → IsIn p (range_with_len a n) → a ≤ p

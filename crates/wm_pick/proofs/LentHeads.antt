@@ -3,6 +3,7 @@ use Rattle.std.proofs.Common.{◌≡◌, ◌⊎◌, ℕ, suc, ◌≤◌, ◌==�
 use Rattle.std.specs.List.{cons_option}
 use Rattle.std.specs.Ordering.{nat_cmp}
 use Rattle.wm_base.specs.declared.qname.QName.{QName}
+use Rattle.wm_base.proofs.Tests.{of_four}
 use Rattle.wm_desc.specs.declared.entry.QueueEntry.{QueueEntry}
 use Rattle.wm_desc.specs.Sorted.{IsSortedOnce}
 use Rattle.wm_desc.specs.Table.{same_qname}
@@ -12,7 +13,6 @@ use Rattle.wm_law.specs.Choice.{has_free_queue, is_held, is_ready}
 use Rattle.wm_law.specs.Counts.{is_waiting}
 use Rattle.wm_law.specs.Laws.{IsIn}
 use Rattle.wm_law.proofs.Named.{one_name, own_name}
-use Rattle.wm_law.proofs.Tests.{of_four}
 use Rattle.wm_tally.specs.Tally.{Counts}
 use Rattle.wm_waiting.specs.declared.waiter.Waiter.{Waiter}
 use Rattle.wm_waiting.specs.NextHeads as next

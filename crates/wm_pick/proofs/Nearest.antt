@@ -1,15 +1,13 @@
 -- The job of least place.
 use Rattle.std.proofs.Common.{◌≡◌, ◌⊎◌, ℕ, ◌≤◌, Bool, true, false, cond, List, [], ◌∷◌, Option, Some, None, filter, fold, nat_lt, refl, sym, ap, subst, ◌∙◌, inl, inr, arith}
 use Rattle.std.proofs.lemmas.Bool.Decides.{nat_tests}
+use Rattle.std.proofs.lemmas.Bool.{ltb-false}
 use Rattle.wm_law.specs.declared.job.Job.{Job}
 use Rattle.wm_law.specs.Laws.{IsIn}
 use Rattle.wm_pick.specs.Heads.{nearer}
 
 less_by : (a b : ℕ) → nat_lt a b ≡ true → a ≤ b
 less_by a b h = grind (arith, nat_tests)
-
-not_less_by : (a b : ℕ) → nat_lt a b ≡ false → b ≤ a
-not_less_by a b h = grind (arith, nat_tests)
 
 -- which of two is kept
 record IsNearer (best : Option Job) (x m : Job) : Type 0 where
@@ -20,7 +18,7 @@ record IsNearer (best : Option Job) (x m : Job) : Type 0 where
 
 of_two : (b x : Job) (t : Bool) → nat_lt x.place b.place ≡ t → (m : Job) × (cond t (Some x) (Some b) ≡ Some m) × ((m ≡ b) ⊎ (m ≡ x)) × (m.place ≤ b.place) × (m.place ≤ x.place)
 of_two b x true e = (x, refl, inr refl, less_by x.place b.place e, omega arith)
-of_two b x false e = (b, refl, inl refl, omega arith, not_less_by x.place b.place e)
+of_two b x false e = (b, refl, inl refl, omega arith, ltb-false x.place b.place e)
 
 kept_one : (b x m : Job) → ((m ≡ b) ⊎ (m ≡ x)) → (Some b ≡ Some m) ⊎ (m ≡ x)
 kept_one b x m (inl e) = inl (ap (λ (j : Job). Some j) (sym e))

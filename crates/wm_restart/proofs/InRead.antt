@@ -3,9 +3,10 @@ use Rattle.std.proofs.Common.{◌≡◌, ◌⊎◌, ℕ, zero, suc, ◌+◌, ◌
 use Rattle.std.specs.List.{Contains, list_any, slice_get}
 use Rattle.std.proofs.Math.ListN.{get_or}
 use Rattle.std.proofs.Math.Seq.{take-suc}
-use Rattle.std.proofs.lemmas.Bool.{and_parts}
+use Rattle.std.proofs.lemmas.Bool.{and_parts, or_right}
 use Rattle.std.proofs.lemmas.List.{get_or-take, length-take-le, take_all}
 use Rattle.std.proofs.lemmas.Option.{slice_get_past, slice_get-get_or, get_or_from_slice_get}
+use Rattle.wm_base.proofs.Tests.{all_four}
 use Rattle.wm_traits.specs.declared.row.Row.{Row}
 use Rattle.wm_traits.specs.Rows.{IsInOrder, is_before, is_of, place_of}
 use Rattle.wm_law.specs.Laws.{IsIn}
@@ -55,14 +56,10 @@ found : (p : Row → Bool) (rows : List Row) → list_any p rows ≡ true → Fo
 found p [] h = absurd (cc)
 found p (row ∷ rows) h = pick p row rows (p row) refl h (found p rows)
 
-behind : (a b : Bool) → b ≡ true → (a || b) ≡ true
-behind true b h = refl
-behind false b h = h
-
 passes : (p : Row → Bool) (rows : List Row) (row : Row) → IsIn row rows → p row ≡ true → list_any p rows ≡ true
 passes p [] row i h = absurd i
 passes p (r ∷ rows) row (inl same) h = ap (λ b. b || list_any p rows) (ap p (sym same) ∙ h)
-passes p (r ∷ rows) row (inr i) h = behind (p r) (list_any p rows) (passes p rows row i h)
+passes p (r ∷ rows) row (inr i) h = or_right (p r) (list_any p rows) (passes p rows row i h)
 
 own_place : (c : Counter) (n : ℕ) → is_of 12 (counter_word c) (counter_row c n) ≡ true
 own_place counter.Number n = refl
@@ -102,18 +99,11 @@ module _ (rows : List Row) (s t : State) (read : IsRead s rows t) where
   counters_there h counter.Schema = counter_there counter.Schema (and_parts _ _ (and_parts _ _ h).0).1
   counters_there h counter.Serial = counter_there counter.Serial (and_parts _ _ h).1
 
-all_true : (a b d e : Bool) → a ≡ true → b ≡ true → d ≡ true → e ≡ true → (a && b && d && e) ≡ true
-all_true true true true true p q r s = refl
-all_true false b d e p q r s = absurd (cc)
-all_true true false d e p q r s = absurd (cc)
-all_true true true false e p q r s = absurd (cc)
-all_true true true true false p q r s = absurd (cc)
-
 -- and one lacks where it hasn't
 pub counter_lacks : (rows : List Row) → has_all rows ≡ false → HasCounters rows → ⊥
 counter_lacks rows none have =
     let one : (c : Counter) → has_counter c rows ≡ true = λ c. (let n = have c in passes (is_of 12 (counter_word c)) rows (counter_row c n.0) (contained rows (counter_row c n.0) n.1) (own_place c n.0)) in
-    let all = all_true _ _ _ _ (one counter.Number) (one counter.Place) (one counter.Schema) (one counter.Serial) in
+    let all = all_four _ _ _ _ (one counter.Number) (one counter.Place) (one counter.Schema) (one counter.Serial) in
     absurd (cc)
 
 or_not : (a b : ℕ) → (a < b) ⊎ (b ≤ a)

@@ -4,6 +4,7 @@ use Rattle.std.specs.List.{list_all}
 use Rattle.std.proofs.lemmas.Bool.{true≢false, false≢true}
 use Rattle.std.proofs.lemmas.Bool.Decides.{nat_tests}
 use Rattle.std.proofs.lemmas.List.Folds.{list_any-append}
+use Rattle.wm_base.proofs.Tests.{or_second}
 use Rattle.wm_law.specs.declared.call.Call.{Call}
 use Rattle.wm_law.specs.declared.call.Call.TheVariants.{Change, Hand, Started, StartFailed, Finished, UseDone, Tick}
 use Rattle.wm_law.specs.declared.call.Entry.{Entry}
@@ -30,10 +31,6 @@ or_left : (a b : Bool) → (a || b) ≡ false → a ≡ false
 or_left true b h = h
 or_left false b h = refl
 
-or_right : (a b : Bool) → (a || b) ≡ false → b ≡ false
-or_right true b h = absurd (true≢false h)
-or_right false b h = h
-
 or_up : (a b : Bool) → a ≡ false → (a || b) ≡ b
 or_up a b up = ap (λ (t : Bool). t || b) up
 
@@ -42,7 +39,7 @@ pub up_first : (es fs all : List Entry) → all ≡ es ++ fs → is_down all ≡
 up_first es fs all is up = or_left (is_down es) (is_down fs) (sym (ap is_down is ∙ is_down-append es fs) ∙ up)
 
 pub up_then : (es fs all : List Entry) → all ≡ es ++ fs → is_down all ≡ false → is_down fs ≡ false
-up_then es fs all is up = or_right (is_down es) (is_down fs) (sym (ap is_down is ∙ is_down-append es fs) ∙ up)
+up_then es fs all is up = or_second (is_down es) (is_down fs) (sym (ap is_down is ∙ is_down-append es fs) ∙ up)
 
 -- where the first part leaves it up, it is as the second part leaves it
 pub down_then : (es fs all : List Entry) → all ≡ es ++ fs → is_down es ≡ false → is_down all ≡ is_down fs

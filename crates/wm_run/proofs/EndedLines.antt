@@ -1,18 +1,14 @@
 -- The lines that have ended where a part of a line is left.
 use Rattle.std.proofs.Common.{◌≡◌, ℕ, ◌+◌, ◌||◌, Bool, true, false, not, cond, List, [], ◌∷◌, ◌++◌, length, nat_lt, Option, Some, None, ap, ◌∙◌, refl}
+use Rattle.std.proofs.Math.Bool.{or-true}
 use Rattle.wm_clwords.specs.Lines.{is_empty, sign_byte, by_sign}
 use Rattle.wm_clwords.specs.Part.{Part, fresh, begun, with_cr, with_solid, has_rest, answer, at_end, finished, unsigned, joined_on, ended_lines, lines_from}
 use Rattle.wm_clwords.specs.declared.line.Sign.{Sign}
 use Rattle.wm_clwords.specs.declared.line.Sign.TheVariants.{No}
 use Rattle.wm_clwords.specs.declared.line.LogicalLine.{LogicalLine}
 use Rattle.wm_clwords.specs.declared.line.LogicalLine.TheVariants.{Command, Long}
-
-or_true : (b : Bool) → (b || true) ≡ true
-or_true true = refl
-or_true false = refl
-
-same_begun : (p : Part) → p.ended ≡ false → begun p ≡ p
-same_begun p not_ended = ap (λ (b : Bool). cond b fresh p) not_ended
+use Rattle.wm_clwords.proofs.LineLemmas.{is_empty-push}
+use Rattle.wm_clwords.proofs.LinesLaw.{begun-going, cr_gone}
 
 same_cr : (p : Part) → p.cr ≡ false → with_cr p ≡ p
 same_cr p none = ap (λ (b : Bool). cond b (with_solid (record p { cr = false }) 13) p) none
@@ -21,7 +17,7 @@ same_unsigned : (p : Part) → p.sign ≡ No → unsigned p ≡ p
 same_unsigned p none = ap (λ (s : Sign). by_sign s p (joined_on p true) (joined_on p false)) none
 
 same_end : (p : Part) → p.ended ≡ false → p.cr ≡ false → p.sign ≡ No → at_end p ≡ p
-same_end p not_ended no_cr no_sign = ap (λ (q : Part). unsigned (with_cr q)) (same_begun p not_ended) ∙ (ap unsigned (same_cr p no_cr) ∙ same_unsigned p no_sign)
+same_end p not_ended no_cr no_sign = ap (λ (q : Part). unsigned (with_cr q)) (begun-going p not_ended) ∙ (ap unsigned (same_cr p no_cr) ∙ same_unsigned p no_sign)
 
 -- an answer says one line
 one_ended : (is_long : Bool) (p : Part) → (last : Option (List ℕ)) × (ended_lines (Some (cond is_long Long Command)) p ≡ last ∷ [])
@@ -31,7 +27,7 @@ one_ended false p = (Some p.line, refl)
 -- a line that has begun ends with the input
 one_line : (p : Part) → p.ended ≡ false → p.cr ≡ false → p.sign ≡ No → is_empty p.line ≡ false → (last : Option (List ℕ)) × (lines_from p [] ≡ last ∷ [])
 one_line p not_ended no_cr no_sign some =
-    let rests : has_rest (begun p) ≡ true = ap has_rest (same_begun p not_ended) ∙ (ap (λ (b : Bool). (p.joined || p.cr) || not b) some ∙ or_true (p.joined || p.cr)) in
+    let rests : has_rest (begun p) ≡ true = ap has_rest (begun-going p not_ended) ∙ (ap (λ (b : Bool). (p.joined || p.cr) || not b) some ∙ or-true (p.joined || p.cr)) in
     let answers : answer (at_end p) ≡ Some (cond (p.long || nat_lt 8192 p.solid) Long Command) = ap answer (same_end p not_ended no_cr no_sign) ∙ ap (λ (s : Sign). by_sign s (Some (cond (p.long || nat_lt 8192 p.solid) Long Command)) None None) no_sign in
     let one = one_ended (p.long || nat_lt 8192 p.solid) (finished (at_end p)) in
     (one.0, ap (λ (b : Bool). cond b (ended_lines (answer (at_end p)) (finished (at_end p))) []) rests ∙ (ap (λ (a : Option LogicalLine). ended_lines a (finished (at_end p))) answers ∙ one.1))
@@ -45,10 +41,6 @@ solid_ended p byte = elim (nat_lt (length p.line) 8193) as (λ b. (cond b (recor
 solid_sign : (p : Part) (byte : ℕ) → (with_solid p byte).sign ≡ sign_byte byte
 solid_sign p byte = elim (nat_lt (length p.line) 8193) as (λ b. (cond b (record p { line = p.line ++ byte ∷ []; solid = length p.line + 1; sign = sign_byte byte; skips = false }) (record p { sign = sign_byte byte; skips = false; long = true })).sign ≡ sign_byte byte) [ true ↦ refl | false ↦ refl ]
 
-push_some : (xs : List ℕ) (x : ℕ) → is_empty (xs ++ x ∷ []) ≡ false
-push_some [] x = refl
-push_some (y ∷ xs) x = refl
-
 full_some : (xs : List ℕ) → nat_lt (length xs) 8193 ≡ false → is_empty xs ≡ false
 full_some [] full = full
 full_some (x ∷ xs) full = refl
@@ -57,7 +49,7 @@ solid_some : (p : Part) (byte : ℕ) → is_empty (with_solid p byte).line ≡ f
 solid_some p byte = go (nat_lt (length p.line) 8193) refl
   where
     go : (b : Bool) → nat_lt (length p.line) 8193 ≡ b → is_empty (cond b (record p { line = p.line ++ byte ∷ []; solid = length p.line + 1; sign = sign_byte byte; skips = false }) (record p { sign = sign_byte byte; skips = false; long = true })).line ≡ false
-    go true is = push_some p.line byte
+    go true is = is_empty-push p.line byte
     go false is = full_some p.line is
 
 begun_not_ended : (p : Part) → (begun p).ended ≡ false
@@ -65,13 +57,6 @@ begun_not_ended p = go p.ended refl
   where
     go : (b : Bool) → p.ended ≡ b → (cond b fresh p).ended ≡ false
     go true is = refl
-    go false is = is
-
-cr_gone : (p : Part) → (with_cr p).cr ≡ false
-cr_gone p = go p.cr refl
-  where
-    go : (b : Bool) → p.cr ≡ b → (cond b (with_solid (record p { cr = false }) 13) p).cr ≡ false
-    go true is = solid_cr (record p { cr = false }) 13
     go false is = is
 
 cr_ended : (p : Part) → (with_cr p).ended ≡ p.ended

@@ -2,6 +2,7 @@
 use Rattle.std.proofs.Common.{◌≡◌, ◌↔◌, ℕ, ◌+◌, ◌<◌, ◌≤◌, ◌||◌, Bool, true, false, List, [], ◌∷◌, ◌++◌, length, Option, Result, Ok, Err, sym, ap, subst, ◌∙◌, inl, inr, arith}
 use Rattle.std.specs.Prelude.{IfOk, OnErr, IsErrOf}
 use Rattle.std.proofs.lemmas.List.{append-nil, length-append}
+use Rattle.wm_base.proofs.Lists.{on_err}
 use Rattle.wm_clwords.specs.Lines.{logical_lines}
 use Rattle.wm_clwords.specs.Part.{Part, fresh, lines_from}
 use Rattle.wm_law.specs.declared.call.Entry.{Entry}
@@ -25,7 +26,7 @@ use Rattle.wm_run.proofs.InputLoops.{SoFar}
 use Rattle.wm_run.proofs.Inputs.{input_down, input_end}
 use Rattle.wm_run.proofs.Runs.{at_grown, ended_if, full_exactly, full_not, fault_status, session_parts, stopped_not, stopped_on}
 use Rattle.wm_run.proofs.Growing.{Continues, entries-then}
-use Rattle.wm_run.proofs.StoppedRuns.{full_later, full_pass, full_read, input_stops, input_stops_in, input_stops_last, input_stops_none, on_err, stopped_begin, stopped_end, stopped_lines}
+use Rattle.wm_run.proofs.StoppedRuns.{full_later, full_pass, full_read, input_stops, input_stops_in, input_stops_last, input_stops_none, stopped_begin, stopped_end, stopped_lines}
 use Rattle.wm_run.proofs.Takings.{TakesPiece-lines}
 
 -- the lines of the pieces that were taken are those that have ended

@@ -27,11 +27,6 @@ use Rattle.wm_run.proofs.Servings.{session_entries, session_entries-own}
 use Rattle.wm_run.proofs.StoppedLines.{StopsIn-after, StopsIn-none, StopsIn-untouched, StopsIn-whole, stops_front, stops_then}
 use Rattle.wm_run.proofs.Takings.{TakesPiece-lines, TakesPiece-more}
 
--- what holds anyway holds where an error is answered
-pub on_err : {T E P : Type 0} (r : Result T E) → P → OnErr r P
-on_err (Ok t) p = tt
-on_err (Err e) p = p
-
 -- no byte is in front of a list
 pub take_none : (n : ℕ) (xs : List ℕ) → n ≡ 0 → take n xs ≡ []
 take_none n xs is = ap (λ (k : ℕ). take k xs) is

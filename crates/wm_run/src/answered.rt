@@ -2,7 +2,7 @@
 ghost use Rattle.std.specs.Prelude.{◌≡◌, ◌||◌, false};
 
 /// What came of lines: whether one of them got a fault or a refusal, and whether the last of them put the power down.
-#[derive(Clone, Copy, Debug, PartialEq, Eq)]
+#[derive(Clone, Copy)]
 pub struct Answered {
     pub faulty: bool,
     pub down: bool,

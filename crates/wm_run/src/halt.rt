@@ -6,7 +6,7 @@ use std::alloc::{AllocError, AllocFailed};
 use wm_monitor::MonitorFault;
 
 /// Why a run ends early.
-#[derive(Clone, Copy, Debug, PartialEq, Eq)]
+#[derive(Clone, Copy)]
 pub enum Halt {
     /// The input couldn't be read.
     ReadFault,

@@ -3,7 +3,7 @@ use wm_clwords::ClFault;
 use wm_command::CmdFault;
 
 /// Why a line is no command.
-#[derive(Clone, Copy, Debug, PartialEq, Eq)]
+#[derive(Clone, Copy)]
 pub enum LineFault {
     /// The text spells no command.
     Cl(ClFault),

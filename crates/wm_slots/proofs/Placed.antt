@@ -7,6 +7,7 @@ use Rattle.std.specs.Cmp.{unsigned_ties}
 use Rattle.std.specs.Ordering.{nat_cmp, is_eq}
 use Rattle.std.proofs.lemmas.Bool.{true≢false, cases_lt}
 use Rattle.std.proofs.lemmas.List.Elements.{filter_map-append}
+use Rattle.wm_base.proofs.Orderings.{eq-Equal}
 use Rattle.wm_desc.specs.Place.{IsAt, IsGap}
 use Rattle.wm_desc.specs.Sorted.{IsSortedOnce, has_key, added, removed}
 use Rattle.wm_ordered.specs.Ordered.{key_of, value_at, with_value, first_above}
@@ -15,11 +16,6 @@ use Rattle.wm_slots.specs.declared.slot.Slot.{Slot}
 use Rattle.wm_slots.specs.Slots.{serial_of, slot_with, pair_of, pairs_in}
 use Rattle.wm_slots.proofs.Around.{Around, value-here, value-none, removed-here, removed-none, set-here, set-none, added-here, above-gap, above-here}
 use Rattle.wm_slots.proofs.Parts.{split, split-set, split-insert, halves, all_taken, all_dropped, keyed}
-
-same : (a b : ℕ) → nat_cmp a b ≡ Equal → a ≡ b
-same a b h =
-    let is : nat_eq a b ≡ true = unsigned_ties a b ∙ ap is_eq h in
-    grind (arith, is)
 
 module _ {V : Type 0} (k : ℕ) (xs : List (Slot V)) (i : ℕ) where
   -- the pair of the serial, where there is one, before others
@@ -47,7 +43,7 @@ module _ {V : Type 0} (k : ℕ) (xs : List (Slot V)) (i : ℕ) where
 
     at-pairs : (d : Slot V) → pairs_in xs ≡ left ++ one (get_or xs i d).value right
     at-pairs d =
-        let is : (get_or xs i d).serial ≡ k = same _ _ (at.here d) in
+        let is : (get_or xs i d).serial ≡ k = eq-Equal _ _ (at.here d) in
         ap pairs_in (split xs i d lt) ∙ (filter_map-append pair_of (take i xs) (get_or xs i d ∷ drop (suc i) xs) ∙ ap (λ n. left ++ cons_option (option_map (λ v. (n, v)) (get_or xs i d).value) right) is)
 
     set-pairs : (o : Option V) → pairs_in (set xs i (slot_with k o)) ≡ left ++ one o right
@@ -128,7 +124,7 @@ module _ {V : Type 0} (k : ℕ) (xs : List (Slot V)) (i : ℕ) where
             elim (cases_lt i j) [
               | inl more ↦ ap (λ (s : Slot V). s.serial) (get_or-set_other xs i j (slot_with k o) d (omega (arith, more)))
               | inr here ↦ let e : i ≡ j = omega arith in
-                  subst (λ n. (get_or (set xs i (slot_with k o)) n d).serial ≡ (get_or xs n d).serial) e (ap (λ (s : Slot V). s.serial) (get_or-set_same xs i (slot_with k o) d lt) ∙ sym (same _ _ (at.here d)))
+                  subst (λ n. (get_or (set xs i (slot_with k o)) n d).serial ≡ (get_or xs n d).serial) e (ap (λ (s : Slot V). s.serial) (get_or-set_same xs i (slot_with k o) d lt) ∙ sym (eq-Equal _ _ (at.here d)))
             ]
 
     pub sorted-set : (o : Option V) → IsSortedOnce serial_of nat_cmp xs → IsSortedOnce serial_of nat_cmp (set xs i (slot_with k o))

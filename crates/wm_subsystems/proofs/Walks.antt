@@ -2,6 +2,7 @@
 use Rattle.std.proofs.Common.{◌≡◌, ◌∙◌, ◌&&◌, ◌==◌, ℕ, ◌+◌, ◌<◌, ◌≤◌, Bool, true, false, cond, List, [], ◌∷◌, map, Some, None, nat_le, nat_lt, refl, sym, ap, subst, inl, inr, arith}
 use Rattle.std.specs.List.{count_by, find}
 use Rattle.std.proofs.lemmas.Bool.Decides.{nat_tests}
+use Rattle.std.proofs.lemmas.Bool.{ltb-false, ltb-true, leb-true, and_parts, le-leb}
 use Rattle.wm_law.specs.declared.job.Job.{Job}
 use Rattle.wm_law.specs.Counts.{is_active}
 use Rattle.wm_law.specs.Kept.{IsBelow}
@@ -10,10 +11,10 @@ use Rattle.wm_law.specs.Sound.{IsIncreasing}
 use Rattle.wm_law.specs.Submitting.{serials_end}
 use Rattle.wm_law.proofs.Forward.{only_one}
 use Rattle.wm_law.proofs.Members.{found_among, in_mapped, map_same, of_mapped}
-use Rattle.wm_law.proofs.Tests.{of_both}
 use Rattle.wm_jobs.proofs.Sifted.{count-cons}
 use Rattle.wm_jobs.specs.Table.{Table, active_in, serial_of}
 use Rattle.wm_subsystems.specs.Walks.{AreInLine, KeepsRest, walked}
+use Rattle.wm_law.proofs.Waits.{below_in}
 
 -- what keeps the rest of a table twice, keeps it
 pub rest_twice : (s t u : Table) → KeepsRest s t → KeepsRest t u → KeepsRest s u
@@ -61,11 +62,6 @@ first_least : (p : Job → Bool) (jobs : List Job) (x y : Job) → IsIncreasing 
 first_least p [] x y line h i less = absurd i
 first_least p (z ∷ zs) x y line h i less = first_by (p z) z x y zs p refl h line.0 (λ f k. first_least p zs x y line.1 f k less) i less
 
-is_below : (next : ℕ) (ns : List ℕ) (n : ℕ) → IsBelow next ns → IsIn n ns → n < next
-is_below next [] n b i = absurd i
-is_below next (m ∷ ns) n b (inl e) = subst (λ (k : ℕ). k < next) (sym e) b.0
-is_below next (m ∷ ns) n b (inr i) = is_below next ns n b.1 i
-
 -- two changes of each element come to one
 pub each_comes : (f g h : Job → Job) (xs : List Job) → ((x : Job) → IsIn x xs → g (f x) ≡ h x) → map g (map f xs) ≡ map h xs
 each_comes f g h [] e = refl
@@ -84,18 +80,6 @@ below_test a b h = grind (arith, nat_tests)
 
 above_test : (a b : ℕ) → b ≤ a → nat_lt a b ≡ false
 above_test a b h = grind (arith, nat_tests)
-
-at_least : (a b : ℕ) → nat_le a b ≡ true → a ≤ b
-at_least a b h = grind (arith, nat_tests)
-
-at_least_test : (a b : ℕ) → a ≤ b → nat_le a b ≡ true
-at_least_test a b h = grind (arith, nat_tests)
-
-less_than : (a b : ℕ) → nat_lt a b ≡ true → a < b
-less_than a b h = grind (arith, nat_tests)
-
-not_less_than : (a b : ℕ) → nat_lt a b ≡ false → b ≤ a
-not_less_than a b h = grind (arith, nat_tests)
 
 of_first : (a b : Bool) → (a && b) ≡ false → b ≡ true → a ≡ false
 of_first true b h e = cc
@@ -147,7 +131,7 @@ count_alike p q h (x ∷ xs) = count-cons p x xs ∙ cc (h x, count_alike p q h 
 
 -- each active job is ahead of 0
 ahead_first : (b : Bool) (n : ℕ) → (b && nat_le 0 n) ≡ b
-ahead_first true n = at_least_test 0 n (omega arith)
+ahead_first true n = le-leb 0 n (omega arith)
 ahead_first false n = refl
 
 pub all_ahead : (jobs : List Job) → count_by (is_ahead 0) jobs ≡ active_in jobs
@@ -191,13 +175,13 @@ module _ (f : Job → Job) (w : IsWalkable f) (next : ℕ) (jobs : List Job) (li
 
   module _ (y : Job) (found : find (is_ahead from) present ≡ Some y) where
     passes : (is_active y.phase ≡ true) × (nat_le from y.serial ≡ true)
-    passes = of_both (is_active y.phase) (nat_le from y.serial) (found_among (is_ahead from) present y found).1
+    passes = and_parts (is_active y.phase) (nat_le from y.serial) (found_among (is_ahead from) present y found).1
 
     pub is_next_active : is_active y.phase ≡ true
     is_next_active = passes.0
 
     pub is_from : from ≤ y.serial
-    is_from = at_least from y.serial passes.1
+    is_from = leb-true from y.serial passes.1
 
     -- the job that is found is one of the jobs as they were
     pub was_there : IsIn y jobs
@@ -210,13 +194,13 @@ module _ (f : Job → Job) (w : IsWalkable f) (next : ℕ) (jobs : List Job) (li
 
     pub below_end : y.serial < serials_end
     below_end =
-        let less = is_below next (map serial_of jobs) y.serial line.given.below (in_mapped serial_of jobs y was_there) in
+        let less = below_in next (map serial_of jobs) y.serial line.given.below (in_mapped serial_of jobs y was_there) in
         let most = line.most in
         omega arith
 
     -- no active job stands between
     between : (k : Job) → IsIn k jobs → from ≤ k.serial → k.serial < y.serial → is_active k.phase ≡ false
-    between k i h less = of_first (is_active k.phase) (nat_le from k.serial) (first_least (is_ahead from) present k y in_order found (stands k i h) less) (at_least_test from k.serial h)
+    between k i h less = of_first (is_active k.phase) (nat_le from k.serial) (first_least (is_ahead from) present k y in_order found (stands k i h) less) (le-leb from k.serial h)
 
     module _ (g : Job → Job) (others : (k : Job) → (k.serial == y.serial) ≡ false → g k ≡ k) (own : g y ≡ f y) where
       differs : (a b : ℕ) → (a < b) → (a == b) ≡ false
@@ -253,8 +237,8 @@ module _ (f : Job → Job) (w : IsWalkable f) (next : ℕ) (jobs : List Job) (li
           ap g (ahead_stays from f k (omega arith)) ∙ others k (differs_above k.serial y.serial h) ∙ sym (ahead_stays (y.serial + 1) f k (omega arith))
 
       by_place : (k : Job) → IsIn k jobs → (a b c : Bool) → nat_lt k.serial from ≡ a → nat_lt k.serial y.serial ≡ b → (k.serial == y.serial) ≡ c → g (walked from f k) ≡ walked (y.serial + 1) f k
-      by_place k i true b c e l s = done k (less_than k.serial from e)
-      by_place k i false true c e l s = passed k i (not_less_than k.serial from e) (less_than k.serial y.serial l)
+      by_place k i true b c e l s = done k (ltb-true k.serial from e)
+      by_place k i false true c e l s = passed k i (ltb-false k.serial from e) (ltb-true k.serial y.serial l)
       by_place k i false false true e l s = told k i (same_as k.serial y.serial s)
       by_place k i false false false e l s = left k (grind (arith, nat_tests))
 
@@ -263,7 +247,7 @@ module _ (f : Job → Job) (w : IsWalkable f) (next : ℕ) (jobs : List Job) (li
       walk_goes_on = each_comes (walked from f) g (walked (y.serial + 1) f) jobs (λ k i. by_place k i (nat_lt k.serial from) (nat_lt k.serial y.serial) (k.serial == y.serial) refl refl refl)
 
     further : (k : Job) (b : Bool) → is_active k.phase ≡ b → (b && nat_le (y.serial + 1) k.serial) ≡ true → (b && nat_le from k.serial) ≡ true
-    further k true a h = at_least_test from k.serial (let more = at_least (y.serial + 1) k.serial h in let far = is_from in omega arith)
+    further k true a h = le-leb from k.serial (let more = leb-true (y.serial + 1) k.serial h in let far = is_from in omega arith)
     further k false a h = h
 
     not_itself : (b : Bool) → (b && nat_le (y.serial + 1) y.serial) ≡ false
@@ -275,10 +259,10 @@ module _ (f : Job → Job) (w : IsWalkable f) (next : ℕ) (jobs : List Job) (li
     fewer_ahead = count_more (is_ahead from) (is_ahead (y.serial + 1)) y (λ k. further k (is_active k.phase) refl) jobs was_there (found_among (is_ahead from) present y found).1 (not_itself (is_active y.phase))
 
   ended_by : (k : Job) → IsIn k jobs → find (is_ahead from) present ≡ None → (b : Bool) → nat_lt k.serial from ≡ b → walked from f k ≡ f k
-  ended_by k i none true e = behind_changed from f k (less_than k.serial from e)
+  ended_by k i none true e = behind_changed from f k (ltb-true k.serial from e)
   ended_by k i none false e =
-      let h = not_less_than k.serial from e in
-      let idle = of_first (is_active k.phase) (nat_le from k.serial) (none_passes (is_ahead from) present k none (stands k i h)) (at_least_test from k.serial h) in
+      let h = ltb-false k.serial from e in
+      let idle = of_first (is_active k.phase) (nat_le from k.serial) (none_passes (is_ahead from) present k none (stands k i h)) (le-leb from k.serial h) in
       ahead_stays from f k h ∙ sym (w.idle k idle)
 
   -- where none is found, all are changed

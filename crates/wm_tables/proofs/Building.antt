@@ -8,6 +8,7 @@ use Rattle.std.proofs.lemmas.Bool.{cases_lt}
 use Rattle.std.proofs.lemmas.Cmp.{nat_list_cmp_total, tied_itself}
 use Rattle.wm_base.specs.Number.{zero_padded}
 use Rattle.wm_base.specs.declared.qname.QName.{QName}
+use Rattle.wm_base.proofs.Tests.{Some-injective}
 use Rattle.wm_desc.proofs.Tables.{qname_ties, qname_total}
 use Rattle.wm_desc.specs.Sorted.{place_of}
 use Rattle.wm_desc.specs.Table.{object_named, qname_cmp, same_qname}
@@ -29,7 +30,6 @@ use Rattle.wm_law.specs.declared.job.Wish.TheVariants.{NoWish}
 use Rattle.wm_law.specs.declared.state.State.{State}
 use Rattle.wm_law.proofs.InOrder.{in_inserted, sorted_added}
 use Rattle.wm_law.proofs.Members.{of_last, of_mapped}
-use Rattle.wm_law.proofs.Nexts.{some_is}
 use Rattle.wm_law.proofs.Objects.{IsObjectChange}
 use Rattle.wm_law.proofs.Waits.{waiting_more, waiting_same}
 use Rattle.wm_rows.specs.declared.stored.Counter.{Counter}
@@ -39,9 +39,10 @@ use Rattle.wm_job_rows.specs.declared.stored.StoredPhase.{StoredPhase}
 use Rattle.wm_job_rows.specs.declared.stored.StoredPhase.TheVariants.{Waiting, Active, Ended}
 use Rattle.wm_tables.specs.Restart.{job_of, phase_of, with_stored, with_counter, HasOwnValues, IsOfKind, IsGoodJob, IsGoodCount, Takes, IsRead}
 use Rattle.wm_tables.proofs.Digits.{padded_less}
-use Rattle.wm_tables.proofs.Joining.{below_end, below_rise, distinct_end, given_end, increasing_end, key_end, none_taken, none_used}
+use Rattle.wm_tables.proofs.Joining.{below_end, below_rise, distinct_end, given_end, increasing_end, none_taken, none_used}
 use Rattle.wm_tables.proofs.Made.{IsHeldNow, row_holds, row_makes}
 use Rattle.wm_tables.proofs.RowOrder.{IsAscending}
+use Rattle.wm_law.proofs.Numbers.{map_more}
 
 -- serials, numbers and places are given once, and the next ones are 1 or more
 pub record AreNumbered (jobs : List Job) (number serial place : ℕ) : Type 0 where
@@ -152,7 +153,7 @@ stored_queued : (o : Objects) (j : StoredJob) (k : JobKind) → j.kind ≡ k →
 stored_queued o j Bch e w h = record {
   waits = λ t. w (waits_as j.phase t);
   has_queue = λ b. subst (λ (q : Option QName). IsSome q) (sym h.1) refl;
-  is_object = λ q f. subst (λ (n : QName). IsSome (object_named n o.jobqs)) (some_is h.0 q (sym h.1 ∙ f)) h.2;
+  is_object = λ q f. subst (λ (n : QName). IsSome (object_named n o.jobqs)) (Some-injective h.0 q (sym h.1 ∙ f)) h.2;
   auto = λ a. (let kinds : Bch ≡ Asj = sym e ∙ a in absurd (cc));
 }
 stored_queued o j Asj e w h = record {
@@ -213,13 +214,13 @@ stored_built s j g above b =
         serials = given_end (λ k. k.serial) s.jobs (job_of j) s.next_serial (λ i. (let under : j.serial < j.serial = less j.serial i in absurd (omega arith))) n.serials;
         numbers = given_end (λ k. k.job.number) s.jobs (job_of j) s.next_number (none_used j.number s.jobs g.number) n.numbers;
         waiting = job_places s.jobs (job_of j) (is_waiting (phase_of j.phase)) refl (λ w. none_taken j.place s.jobs (g.place (waits_as j.phase w))) n.waiting;
-        places = subst (IsBelow (max s.next_place (j.place + 1))) (sym (key_end (λ k. k.place) s.jobs (job_of j))) (below_end j.place s.next_place (max s.next_place (j.place + 1)) (map (λ (k : Job). k.place) s.jobs) (omega arith) (omega arith) n.places);
+        places = subst (IsBelow (max s.next_place (j.place + 1))) (sym (map_more (λ k. k.place) s.jobs (job_of j))) (below_end j.place s.next_place (max s.next_place (j.place + 1)) (map (λ (k : Job). k.place) s.jobs) (omega arith) (omega arith) n.places);
         number_least = omega arith;
         serial_least = omega arith;
         place_least = omega arith;
       };
       jobs = record {
-        increasing = subst IsIncreasing (sym (key_end (λ k. k.serial) s.jobs (job_of j))) (increasing_end j.serial (map (λ (k : Job). k.serial) s.jobs) less b.jobs.increasing);
+        increasing = subst IsIncreasing (sym (map_more (λ k. k.serial) s.jobs (job_of j))) (increasing_end j.serial (map (λ (k : Job). k.serial) s.jobs) less b.jobs.increasing);
         idle = of_both (λ (k : Job). is_active k.phase ≡ false) s.jobs (job_of j) b.jobs.idle (idle_as j.phase);
         unwished = of_both (λ (k : Job). k.wish ≡ NoWish) s.jobs (job_of j) b.jobs.unwished refl;
         fit = of_both (λ (k : Job). k.serial < 2 ^ 64) s.jobs (job_of j) b.jobs.fit g.stored.serial;

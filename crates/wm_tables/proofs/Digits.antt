@@ -10,6 +10,7 @@ use Rattle.std.proofs.lemmas.Fmt.{decimal_by_steps}
 use Rattle.std.proofs.lemmas.List.{length-append}
 use Rattle.std.proofs.lemmas.Bool.{cases_lt}
 use Rattle.wm_base.specs.Number.{zero_padded}
+use Rattle.wm_base.proofs.Orderings.{Less-lt}
 
 -- so many digits of a number, the last of them
 abbrev digits : ℕ → ℕ → List ℕ
@@ -40,9 +41,6 @@ with_last [] (y ∷ ys) a b e = absurd (omega arith)
 with_last (x ∷ xs) [] a b e = absurd (omega arith)
 with_last (x ∷ xs) (y ∷ ys) a b e = then_both (nat_cmp x y) (slice_cmp nat_cmp (xs ++ a ∷ []) (ys ++ b ∷ [])) (slice_cmp nat_cmp xs ys) (nat_cmp a b) (with_last xs ys a b (omega arith))
 
-less_is : (a b : ℕ) → a < b → nat_cmp a b ≡ Less
-less_is a b h = grind (arith, nat_tests)
-
 digits_less : (width a b : ℕ) → a < b → b < 10 ^ width → slice_cmp nat_cmp (digits width a) (digits width b) ≡ Less
 digits_less zero a b less top = absurd (omega arith)
 digits_less (suc width) a b less top =
@@ -55,7 +53,7 @@ digits_less (suc width) a b less top =
           let last : 48 + a % 10 < 48 + b % 10 = omega arith in
           ap (λ (n : ℕ). ordering_then (slice_cmp nat_cmp (digits width n) (digits width (b / 10))) (nat_cmp (48 + a % 10) (48 + b % 10))) equal
           ∙ ap (λ (r : Ordering). ordering_then r (nat_cmp (48 + a % 10) (48 + b % 10))) (tied_itself nat_list_cmp_total (digits width (b / 10)))
-          ∙ less_is (48 + a % 10) (48 + b % 10) last
+          ∙ Less-lt (48 + a % 10) (48 + b % 10) last
     ])
 
 zero_more : (n : ℕ) → ◌++◌ {A = ℕ} (replicate n 48) (48 ∷ []) ≡ replicate (suc n) 48

@@ -1,6 +1,6 @@
 -- What holds of the numbers and places of jobs, where one job more stands behind them.
 use Rattle.std.proofs.Common.{◌≡◌, ℕ, ◌≤◌, ◌<◌, ◌+◌, ◌++◌, ◌==◌, ◌&&◌, Bool, true, false, List, [], ◌∷◌, map, filter, max, refl, sym, ap, subst, ◌∙◌, inl, inr, arith}
-use Rattle.std.proofs.lemmas.Bool.{eq-eqb}
+use Rattle.std.proofs.lemmas.Bool.{eq-eqb, and_from}
 use Rattle.wm_law.specs.Counts.{is_waiting}
 use Rattle.wm_law.specs.Kept.{IsBelow, IsDistinct, IsGiven, waiting_places}
 use Rattle.wm_law.specs.Laws.{IsIn}
@@ -9,6 +9,7 @@ use Rattle.wm_law.specs.declared.job.Job.{Job}
 use Rattle.wm_law.proofs.Members.{left_in, of_last, of_mapped}
 use Rattle.wm_tables.specs.Restart.{is_taken, is_used}
 use Rattle.wm_tables.proofs.Passing.{left_passes, one_passes}
+use Rattle.wm_law.proofs.Numbers.{map_more}
 
 -- a number that isn't among others comes last
 not_last : (n m : ℕ) (ns : List ℕ) → (m ≡ n → ⊥) → (IsIn m ns → ⊥) → IsIn m (ns ++ n ∷ []) → ⊥
@@ -34,19 +35,10 @@ pub below_rise : (top more : ℕ) (ns : List ℕ) → top ≤ more → IsBelow t
 below_rise top more [] rise b = tt
 below_rise top more (m ∷ ns) rise b = let first : m < top = b.0 in (omega arith, below_rise top more ns rise b.1)
 
-pub each_below : (top : ℕ) (ns : List ℕ) (n : ℕ) → IsBelow top ns → IsIn n ns → n < top
-each_below top [] n b i = absurd i
-each_below top (m ∷ ns) n b (inl same) = subst (λ (x : ℕ). x < top) (sym same) b.0
-each_below top (m ∷ ns) n b (inr i) = each_below top ns n b.1 i
-
-pub key_end : (key : Job → ℕ) (jobs : List Job) (j : Job) → map key (jobs ++ j ∷ []) ≡ map key jobs ++ key j ∷ []
-key_end key [] j = refl
-key_end key (k ∷ jobs) j = ap (λ (ns : List ℕ). key k ∷ ns) (key_end key jobs j)
-
 -- where the new number isn't among those given
 pub given_end : (key : Job → ℕ) (jobs : List Job) (j : Job) (next : ℕ) → (IsIn (key j) (map key jobs) → ⊥) → IsGiven (map key jobs) next → IsGiven (map key (jobs ++ j ∷ [])) (max next (key j + 1))
 given_end key jobs j next none g =
-    subst (λ (ns : List ℕ). IsGiven ns (max next (key j + 1))) (sym (key_end key jobs j))
+    subst (λ (ns : List ℕ). IsGiven ns (max next (key j + 1))) (sym (map_more key jobs j))
     (record { distinct = distinct_end (key j) (map key jobs) none g.distinct; below = below_end (key j) next (max next (key j + 1)) (map key jobs) (omega arith) (omega arith) g.below })
 
 -- a number that no job uses is none of theirs
@@ -56,9 +48,6 @@ none_used n jobs e i =
     let yes : is_used n jobs ≡ true = one_passes (λ (k : Job). k.job.number == n) jobs m.0 m.1 (eq-eqb m.0.job.number n (sym m.2)) in
     absurd (cc)
 
-both_hold : (a b : Bool) → a ≡ true → b ≡ true → (a && b) ≡ true
-both_hold a b e f = ap (λ (t : Bool). t && b) e ∙ f
-
 -- a place at which no job waits is none of theirs
 pub none_taken : (n : ℕ) (jobs : List Job) → is_taken n jobs ≡ false → IsIn n (waiting_places jobs) → ⊥
 none_taken n jobs e i =
@@ -66,5 +55,5 @@ none_taken n jobs e i =
     let m = of_mapped (λ (k : Job). k.place) (filter waits jobs) n i in
     let there : IsIn m.0 jobs = left_in waits jobs m.0 m.1 in
     let passes : is_waiting m.0.phase ≡ true = left_passes waits jobs m.0 m.1 in
-    let yes : is_taken n jobs ≡ true = one_passes (λ (k : Job). is_waiting k.phase && k.place == n) jobs m.0 there (both_hold (is_waiting m.0.phase) (m.0.place == n) passes (eq-eqb m.0.place n (sym m.2))) in
+    let yes : is_taken n jobs ≡ true = one_passes (λ (k : Job). is_waiting k.phase && k.place == n) jobs m.0 there (and_from (is_waiting m.0.phase) (m.0.place == n) passes (eq-eqb m.0.place n (sym m.2))) in
     absurd (cc)

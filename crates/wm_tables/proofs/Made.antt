@@ -10,6 +10,7 @@ use Rattle.wm_base.specs.declared.qname.QName.{QName}
 use Rattle.wm_base.specs.declared.refusal.Kind.TheVariants as kind
 use Rattle.wm_base.specs.declared.refusal.Refusal.{Refusal}
 use Rattle.wm_base.specs.declared.refusal.Refusal.TheVariants.{HeldAlready, NoObject}
+use Rattle.wm_base.proofs.Orderings.{Less-lt}
 use Rattle.wm_traits.specs.declared.row.Row.{Row}
 use Rattle.wm_traits.specs.Rows.{is_before}
 use Rattle.wm_desc.specs.Table.{object_named}
@@ -89,8 +90,5 @@ tabs_rise a b h =
       | inr on ↦ on
     ]
 
-less_is : (a b : ℕ) → a < b → nat_cmp a b ≡ Less
-less_is a b h = grind (arith, nat_tests)
-
 pub tab_before : (a b : Row) → a.tab < b.tab → is_before a b ≡ true
-tab_before a b h = ap (λ (r : Ordering). is_lt (ordering_then r (slice_cmp nat_cmp a.key b.key))) (less_is a.tab b.tab h)
+tab_before a b h = ap (λ (r : Ordering). is_lt (ordering_then r (slice_cmp nat_cmp a.key b.key))) (Less-lt a.tab b.tab h)

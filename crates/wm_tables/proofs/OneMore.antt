@@ -10,14 +10,8 @@ use Rattle.std.proofs.lemmas.List.Elements.{All-head, All-tail}
 use Rattle.std.proofs.lemmas.List.Sums.{sum_by-cons}
 use Rattle.wm_desc.specs.Sorted.{IsSortedOnce, place_of, has_key, added}
 use Rattle.wm_law.specs.Laws.{IsIn}
-use Rattle.wm_law.proofs.Members.{left_in}
+use Rattle.wm_law.proofs.Members.{left_in, All-in}
 use Rattle.wm_tables.proofs.Passing.{left_passes, left_same, none_passes}
-
--- what holds of each element by its index holds of what stands in the list
-pub all_in : {X : Type 0} (P : X → Type 0) (xs : List X) (x : X) → All P xs → IsIn x xs → P x
-all_in P [] x h i = absurd i
-all_in P (y ∷ ys) x h (inl same) = subst P (sym same) (All-head P y ys h)
-all_in P (y ∷ ys) x h (inr i) = all_in P ys x (All-tail P y ys h) i
 
 module _ {E K : Type 0} (key : E → K) (cmp : K → K → Ordering) (o : IsTotalOrder cmp) where
   abbrev IsSorted : List E → Type 0
@@ -33,7 +27,7 @@ module _ {E K : Type 0} (key : E → K) (cmp : K → K → Ordering) (o : IsTota
   pub first_below : (x : E) (xs : List E) (y : E) → IsSorted (x ∷ xs) → IsIn y xs → cmp (key x) (key y) ≡ Less
   first_below x xs y s i =
       let more = longer x xs in
-      all_in (λ (e : E). cmp (key x) (key e) ≡ Less) xs y (λ k d less. subst (λ (e : E). cmp (key x) (key e) ≡ Less) (later x xs k d) (s 0 (k + 1) d (omega arith) (omega arith))) i
+      All-in (λ (e : E). cmp (key x) (key e) ≡ Less) xs y (λ k d less. subst (λ (e : E). cmp (key x) (key e) ≡ Less) (later x xs k d) (s 0 (k + 1) d (omega arith) (omega arith))) i
 
   pub rest_sorted : (x : E) (xs : List E) → IsSorted (x ∷ xs) → IsSorted xs
   rest_sorted x xs s i j d less h =

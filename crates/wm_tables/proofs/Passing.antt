@@ -1,11 +1,8 @@
 -- What of a list passes one test and another.
 use Rattle.std.proofs.Common.{◌≡◌, ◌⊎◌, ◌<◌, ◌≤◌, ◌++◌, ◌||◌, Bool, true, false, cond, List, [], ◌∷◌, length, filter, refl, sym, ap, subst, ◌∙◌, inl, inr, arith}
 use Rattle.std.specs.List.{list_any}
+use Rattle.std.proofs.lemmas.Bool.{or_right}
 use Rattle.wm_law.specs.Laws.{IsIn}
-
-later_passes : (t u : Bool) → u ≡ true → (t || u) ≡ true
-later_passes true u h = refl
-later_passes false u h = h
 
 module _ {X : Type 0} where
   passed_by : (p : X → Bool) (t : Bool) (y x : X) (ys : List X) → p y ≡ t → (IsIn x ys → p x ≡ true) → IsIn x (cond t (y ∷ ys) ys) → p x ≡ true
@@ -27,7 +24,7 @@ module _ {X : Type 0} where
   pub one_passes : (p : X → Bool) (xs : List X) (x : X) → IsIn x xs → p x ≡ true → list_any p xs ≡ true
   one_passes p [] x i e = absurd i
   one_passes p (y ∷ ys) x (inl same) e = ap (λ (t : Bool). t || list_any p ys) (ap p (sym same) ∙ e)
-  one_passes p (y ∷ ys) x (inr i) e = later_passes (p y) (list_any p ys) (one_passes p ys x i e)
+  one_passes p (y ∷ ys) x (inr i) e = or_right (p y) (list_any p ys) (one_passes p ys x i e)
 
   -- tests that agree on each element leave the same
   pub left_same : (p q : X → Bool) (xs : List X) → ((x : X) → IsIn x xs → q x ≡ p x) → filter q xs ≡ filter p xs

@@ -12,6 +12,7 @@ use Rattle.wm_base.specs.declared.job.EndCause.TheVariants as cause
 use Rattle.wm_base.specs.declared.qname.QName.{QName}
 use Rattle.wm_base.specs.declared.refusal.Refusal.{Refusal}
 use Rattle.wm_base.specs.declared.refusal.Refusal.TheVariants.{WrongPhase}
+use Rattle.wm_base.proofs.Tests.{of_four}
 use Rattle.wm_desc.specs.Ranges.{jobd_in_range, request_in_range, within}
 use Rattle.wm_desc.specs.Table.{object_named, same_qname}
 use Rattle.wm_desc.specs.declared.description.Jobd.{Jobd}
@@ -62,7 +63,6 @@ use Rattle.wm_law.specs.Stepped.{Stepped}
 use Rattle.wm_law.proofs.Endings.{IsPhaseAfter, IsWishing, telling, wished, wishing_job, wishing_kill}
 use Rattle.wm_law.proofs.Members.{left_in}
 use Rattle.wm_law.proofs.Objects.{class_made, queue_made, program_made, job_description_made, description_made, queue_added, route_added, auto_added, queue_removed, route_removed, auto_removed}
-use Rattle.wm_law.proofs.Tests.{of_four}
 use Rattle.wm_job_rows.specs.Stored.{IsCause, IsPhase, IsQueue, IsRequest, IsStored, stored_of, stored_phase}
 use Rattle.wm_job_rows.specs.declared.stored.StoredJob.{StoredJob}
 use Rattle.wm_tables.specs.Ranges.{IsInRange, IsJobInRange}

@@ -12,6 +12,7 @@ use Rattle.wm_base.specs.declared.job.EndCause.TheVariants.{RouteFull}
 use Rattle.wm_base.specs.declared.job.How.{How}
 use Rattle.wm_base.specs.declared.qname.QName.{QName}
 use Rattle.wm_base.specs.declared.refusal.Refusal.{Refusal}
+use Rattle.wm_base.proofs.Tests.{unrefused}
 use Rattle.wm_desc.specs.Ranges.{cmp_in_range, jobd_in_range, limit_within, request_in_range, route_in_range, within}
 use Rattle.wm_desc.specs.Table.{object_named, same_qname}
 use Rattle.wm_desc.specs.declared.description.Jobd.{Jobd}
@@ -34,10 +35,10 @@ use Rattle.wm_law.specs.declared.job.Job.{Job}
 use Rattle.wm_law.specs.declared.launch.Launched.{Launched}
 use Rattle.wm_law.specs.declared.state.State.{State}
 use Rattle.wm_law.proofs.Members.{found_among}
-use Rattle.wm_law.proofs.Tests.{unrefused}
 use Rattle.wm_job_rows.specs.Stored.{IsPhase, IsRequest, stored_phase}
 use Rattle.wm_tables.specs.Ranges.{AreInRange, IsInRange, IsJobInRange}
 use Rattle.wm_tables.proofs.RangedJobs.{jobs_last, jobs_mapped, phased}
+use Rattle.wm_law.proofs.Moves.{enough}
 
 -- what is found by a name stands among the objects
 described_by : {V : Type 0} (q : QName) (xs : List (QName × V)) (d : V) (o : Option (QName × V)) → find (λ x. same_qname x.0 q) xs ≡ o → option_map (λ x. x.1) o ≡ Some d → (x : QName × V) × IsIn x xs × (x.1 ≡ d)
@@ -183,14 +184,6 @@ made_all q (e ∷ es) t h names =
     let serials = h.serials in
     let more : HasLeft (length es + 1) t = record { range = h.range; least = h.least; numbers = omega arith; serials = omega arith } in
     made_all q es (make_auto q t e) (made_one q t e (length es) (object_named e.jobd t.objects.jobds) more (names e (inl refl)) refl) (λ x i. names x (inr i))
-
-enough : (numbered : Bool) (a b n : ℕ) → nat_lt (cond numbered (min a b) 0) n ≡ false → (n ≤ a) × (n ≤ b)
-enough false a b n h = let none : n ≤ 0 = grind (arith, nat_tests) in (omega arith, omega arith)
-enough true a b n h =
-    let all : n ≤ min a b = grind (arith, nat_tests) in
-    let left = min-le_left a b in
-    let right = min-le_right a b in
-    (omega arith, omega arith)
 
 auto_names : (s : State) (q : QName) (o : Option Sbsd) → AreInRange s.objects → object_named q s.objects.sbsds ≡ o → (e : AutoEntry) → IsIn e (option_map_or (λ d. d.autos) o []) → IsName e.job
 auto_names s q None r f e i = absurd i

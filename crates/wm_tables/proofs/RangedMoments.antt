@@ -2,6 +2,7 @@
 use Rattle.std.proofs.Common.{◌≡◌, ◌||◌, ℕ, ◌≤◌, ℤ, pos, negsuc, Bool, true, false, cond, nat_lt, unsigned_abs, Result, Ok, Err, Option, Some, None, refl, subst, arith}
 use Rattle.std.specs.Prelude.{int_lt}
 use Rattle.std.proofs.lemmas.Bool.Decides.{nat_tests}
+use Rattle.std.proofs.lemmas.Bool.{or_parts}
 use Rattle.wm_base.specs.declared.refusal.Refusal.{Refusal}
 use Rattle.wm_when.specs.Due.{answer_on, day_at, day_from, day_of_date, local_time, moment_at, second_at, second_from}
 use Rattle.wm_when.specs.declared.fault.DueFault.TheVariants.{Past, OutOfRange}
@@ -11,7 +12,6 @@ use Rattle.wm_when.specs.declared.schedule.TimeSpec.{TimeSpec}
 use Rattle.wm_when.specs.declared.schedule.TimeSpec.TheVariants.{Current as Now}
 use Rattle.wm_law.specs.Schedules.{or_refused, rescheduled, scheduled}
 use Rattle.wm_law.specs.declared.state.State.{State}
-use Rattle.wm_law.proofs.Tests.{of_neither}
 
 within : (m : ℤ) → int_lt m (pos 0) ≡ false → int_lt (pos 253402214399) m ≡ false → unsigned_abs m ≤ 253402214399
 within (pos n) low high = grind (arith, nat_tests)
@@ -28,8 +28,8 @@ answered early late beyond past n due e = by (early || late || beyond) past e
 on_day : (day moment : ℤ) (now due : ℕ) → or_refused (answer_on day moment now) ≡ Ok due → due ≤ 253402214399
 on_day day moment now due e =
     let a = answered (int_lt moment (pos 0)) (int_lt (pos 253402214399) moment) (int_lt (day_of_date 99991231) day) (int_lt moment (pos now)) (unsigned_abs moment) due e in
-    let both = of_neither (int_lt moment (pos 0) || int_lt (pos 253402214399) moment) (int_lt (day_of_date 99991231) day) a.0 in
-    let parts = of_neither (int_lt moment (pos 0)) (int_lt (pos 253402214399) moment) both.0 in
+    let both = or_parts (int_lt moment (pos 0) || int_lt (pos 253402214399) moment) (int_lt (day_of_date 99991231) day) a.0 in
+    let parts = or_parts (int_lt moment (pos 0)) (int_lt (pos 253402214399) moment) both.0 in
     subst (λ (n : ℕ). n ≤ 253402214399) a.1 (within moment parts.0 parts.1)
 
 pub due_within : (s : State) (date : DateSpec) (time : TimeSpec) (due : ℕ) → scheduled s date time ≡ Ok due → due ≤ 253402214399

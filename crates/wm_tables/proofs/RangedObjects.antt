@@ -3,6 +3,7 @@ use Rattle.std.proofs.Common.{◌≡◌, ◌||◌, ℕ, Bool, true, false, cond,
 use Rattle.std.specs.Cmp.Lexicographic.{pointwise, slice_cmp}
 use Rattle.std.specs.List.{insert}
 use Rattle.std.specs.Ordering.{nat_cmp}
+use Rattle.std.proofs.lemmas.Bool.{or_parts}
 use Rattle.wm_base.specs.declared.job.Class.{Class}
 use Rattle.wm_base.specs.declared.qname.QName.{QName}
 use Rattle.wm_base.specs.declared.refusal.Kind.TheVariants as kind
@@ -36,7 +37,6 @@ use Rattle.wm_law.specs.declared.command.Crtsbsd.{Crtsbsd}
 use Rattle.wm_law.proofs.InOrder.{in_inserted}
 use Rattle.wm_law.proofs.Members.{left_in, of_mapped}
 use Rattle.wm_law.proofs.Named.{one_name}
-use Rattle.wm_law.proofs.Tests.{of_neither}
 use Rattle.wm_rows.specs.Again.{crtcls_of, crtpgmref_of, crtjobq_of, crtjobd_of, crtsbsd_of, addjobqe_of, addrtge_of, addaje_of}
 use Rattle.wm_tables.specs.Ranges.{AreInRange, HasEntriesInRange}
 
@@ -59,7 +59,7 @@ module _ (o : Objects) (r : AreInRange o) where
   pub program_range : (c : Crtpgmref) → IsCommand (command.Crtpgmref c) → program_refusal c.pgm o.programs ≡ None → AreInRange (with_program c.pgm c.path o)
   program_range c h e =
       let tests : List (Bool × Refusal) = (is_qcmd c.pgm || has_object c.pgm o.programs, Exists kind.Pgm) ∷ (is_full 1000 o.programs, TableFull kind.Pgm 1000) ∷ [] in
-      let other = (of_neither (is_qcmd c.pgm) (has_object c.pgm o.programs) (test_fails tests 0 SbsActive e)).0 in
+      let other = (or_parts (is_qcmd c.pgm) (has_object c.pgm o.programs) (test_fails tests 0 SbsActive e)).0 in
       let place = place_of name_of qname_cmp c.pgm o.programs in
       record {
         classes = r.classes;

@@ -35,12 +35,12 @@ use Rattle.wm_tables.specs.Laws.{OpeningIsInRange, RestartIsInRange}
 use Rattle.wm_tables.specs.Ranges.{AreInRange, HasEntriesInRange, IsInRange, IsJobInRange}
 use Rattle.wm_tables.specs.Restart.{job_of, phase_of, with_counter, with_stored, IsGoodJob, IsRead, Takes}
 use Rattle.wm_tables.proofs.Made.{row_holds}
-use Rattle.wm_tables.proofs.OneMore.{all_in}
 use Rattle.wm_tables.proofs.RangedJobs.{jobs_last, made_range, phased_kind, phased_stored}
 use Rattle.wm_tables.proofs.RangedObjects.{class_range, program_range, queue_range, jobd_range, sbsd_range, queue_entry_range, route_entry_range, auto_entry_range}
+use Rattle.wm_law.proofs.Members.{All-in}
 
 fits : (c : Command) → IsIn c opening_commands → IsCommand c
-fits c i = all_in IsCommand opening_commands c commands_fit i
+fits c i = All-in IsCommand opening_commands c commands_fit i
 
 only : {X : Type 0} (P : X → Type 0) (x : X) → P x → (y : X) → IsIn y (x ∷ []) → P y
 only P x h y (inl same) = subst P (sym same) h

@@ -4,7 +4,7 @@ use Rattle.std.specs.Prelude.{⊤}
 use Rattle.std.specs.Cmp.Lexicographic.{on_texts, pointwise}
 use Rattle.std.specs.List.{count_by, insert}
 use Rattle.std.specs.Ordering.{is_lt}
-use Rattle.std.proofs.lemmas.Bool.{and_parts}
+use Rattle.std.proofs.lemmas.Bool.{and_parts, eqb-true}
 use Rattle.std.proofs.lemmas.Cmp.{tied_itself}
 use Rattle.std.proofs.lemmas.Slice.Eq.{bytes_eq-Decides}
 use Rattle.wm_traits.specs.declared.row.Row.{Row}
@@ -15,8 +15,7 @@ use Rattle.wm_traits.specs.Rows.{place_of, is_before, is_of, IsInOrder, without,
 use Rattle.wm_traits.specs.Spawner.{without_first}
 use Rattle.wm_law.specs.Laws.{IsIn}
 use Rattle.wm_law.proofs.InOrder.{in_inserted}
-use Rattle.wm_law.proofs.Tests.{same_number}
-use Rattle.wm_tables.proofs.OneMore.{all_in}
+use Rattle.wm_law.proofs.Members.{All-in}
 
 -- each row stands before those behind it
 abbrev pub IsAscending : List Row → Type 0
@@ -26,7 +25,7 @@ IsAscending (row ∷ rows) = ((r : Row) → IsIn r rows → is_before row r ≡ 
 pub ascending : (rows : List Row) → IsInOrder rows → IsAscending rows
 ascending [] h = tt
 ascending (row ∷ rows) h = (
-  λ r i. all_in (λ (q : Row). is_before row q ≡ true) rows r (λ k d within. h zero (suc k) d (omega arith) (omega arith)) i,
+  λ r i. All-in (λ (q : Row). is_before row q ≡ true) rows r (λ k d within. h zero (suc k) d (omega arith) (omega arith)) i,
   ascending rows (λ i j d less within. h (suc i) (suc j) d (omega arith) (omega arith)),
 )
 
@@ -42,7 +41,7 @@ HasOwnPlaces (row ∷ rows) = ((r : Row) → IsIn r rows → place_of r ≡ plac
 pub of_place : (tab : ℕ) (key : List ℕ) (row : Row) → is_of tab key row ≡ true → place_of row ≡ tab ∷ key
 of_place tab key row h =
     let both = and_parts (row.tab == tab) (pointwise nat_eq row.key key) h in
-    ap (λ (n : ℕ). n ∷ row.key) (same_number row.tab tab both.0)
+    ap (λ (n : ℕ). n ∷ row.key) (eqb-true row.tab tab both.0)
     ∙ ap (λ (k : List ℕ). tab ∷ k) ((bytes_eq-Decides row.key key).0 both.1)
 
 -- what a row's place isn't among, is left whole

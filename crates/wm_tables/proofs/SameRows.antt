@@ -3,14 +3,13 @@ use Rattle.std.proofs.Common.{◌≡◌, ◌⊎◌, ℕ, ◌==◌, ◌&&◌, ◌
 use Rattle.std.specs.Cmp.Lexicographic.{pointwise, slice_cmp}
 use Rattle.std.specs.List.{count_by, list_any}
 use Rattle.std.specs.Ordering.{is_lt, nat_cmp}
-use Rattle.std.proofs.lemmas.Bool.{and_parts, eq-eqb}
+use Rattle.std.proofs.lemmas.Bool.{and_parts, eq-eqb, and_from, eqb-true}
 use Rattle.std.proofs.lemmas.Slice.Eq.{bytes_eq-Decides}
 use Rattle.wm_traits.specs.declared.row.Row.{Row}
 use Rattle.wm_traits.specs.InOrder.{before_later}
 use Rattle.wm_traits.specs.Rows.{changed, is_before, is_of, place_of, put, without}
 use Rattle.wm_traits.specs.Spawner.{without_first}
 use Rattle.wm_law.specs.Laws.{IsIn}
-use Rattle.wm_law.proofs.Tests.{same_number}
 use Rattle.wm_tables.specs.Opened.{is_found, same_row}
 use Rattle.wm_tables.specs.Tables.{puts}
 use Rattle.wm_tables.proofs.Passing.{one_passes}
@@ -98,17 +97,14 @@ was_there (u ∷ rows) base r i =
 
 -- Rows that are found
 
-both_hold : (a b : Bool) → a ≡ true → b ≡ true → (a && b) ≡ true
-both_hold a b e f = ap (λ (t : Bool). t && b) e ∙ f
-
 itself : (a : Row) → same_row a a ≡ true
-itself a = both_hold (a.tab == a.tab && pointwise nat_eq a.key a.key) (pointwise nat_eq a.body a.body) (both_hold (a.tab == a.tab) (pointwise nat_eq a.key a.key) (eq-eqb a.tab a.tab refl) ((bytes_eq-Decides a.key a.key).1 refl)) ((bytes_eq-Decides a.body a.body).1 refl)
+itself a = and_from (a.tab == a.tab && pointwise nat_eq a.key a.key) (pointwise nat_eq a.body a.body) (and_from (a.tab == a.tab) (pointwise nat_eq a.key a.key) (eq-eqb a.tab a.tab refl) ((bytes_eq-Decides a.key a.key).1 refl)) ((bytes_eq-Decides a.body a.body).1 refl)
 
 sure_row : (a b : Row) → same_row a b ≡ true → a ≡ b
 sure_row a b h =
     let whole = and_parts (a.tab == b.tab && pointwise nat_eq a.key b.key) (pointwise nat_eq a.body b.body) h in
     let first = and_parts (a.tab == b.tab) (pointwise nat_eq a.key b.key) whole.0 in
-    let tab : a ≡ record a { tab = b.tab } = ap (λ (n : ℕ). record a { tab = n }) (same_number a.tab b.tab first.0) in
+    let tab : a ≡ record a { tab = b.tab } = ap (λ (n : ℕ). record a { tab = n }) (eqb-true a.tab b.tab first.0) in
     let key : record a { tab = b.tab } ≡ record b { body = a.body } = ap (λ (k : List ℕ). record a { tab = b.tab; key = k }) ((bytes_eq-Decides a.key b.key).0 first.1) in
     tab ∙ key ∙ ap (λ (t : List ℕ). record b { body = t }) ((bytes_eq-Decides a.body b.body).0 whole.1)
 

@@ -5,6 +5,7 @@ use Rattle.std.specs.Ordering.{nat_cmp}
 use Rattle.std.proofs.lemmas.Bool.Decides.{nat_tests}
 use Rattle.std.proofs.lemmas.Cmp.{nat_cmp_total, nat_list_cmp_total}
 use Rattle.std.proofs.lemmas.Slice.Eq.{bytes_eq-Decides}
+use Rattle.std.proofs.lemmas.Bool.{or_from, eqb-true}
 use Rattle.wm_base.specs.declared.job.Class.{Class}
 use Rattle.wm_base.specs.declared.qname.QName.{QName}
 use Rattle.wm_desc.specs.declared.description.Jobd.{Jobd}
@@ -51,9 +52,6 @@ map_twice : {X Y Z : Type 0} (f : X → Y) (g : Y → Z) (k : X → Z) (xs : Lis
 map_twice f g k [] h = refl
 map_twice f g k (x ∷ xs) h = ap (λ (z : _). z ∷ map g (map f xs)) (h x (inl refl)) ∙ ap (λ (zs : List _). k x ∷ zs) (map_twice f g k xs (λ y i. h y (inr i)))
 
-sure_number : (a b : ℕ) → nat_eq a b ≡ true → a ≡ b
-sure_number a b h = grind (arith, nat_tests)
-
 sure_text : (a b : List ℕ) → pointwise nat_eq a b ≡ true → a ≡ b
 sure_text a b h = (bytes_eq-Decides a b).0 h
 
@@ -61,10 +59,6 @@ sure_text a b h = (bytes_eq-Decides a b).0 h
 not_before : (a b : RouteEntry) (t : Bool) → is_any a.cmp ≡ t → (is_any a.cmp ≡ true → b.seq ≤ a.seq) → (t && nat_lt a.seq b.seq) ≡ false
 not_before a b true e h = let most : b.seq ≤ a.seq = h e in let less : nat_lt a.seq b.seq ≡ false = grind (arith, nat_tests) in less
 not_before a b false e h = refl
-
-neither : (a b : Bool) → a ≡ false → b ≡ false → (a || b) ≡ false
-neither true b e f = absurd (cc)
-neither false b e f = f
 
 -- fewer than the limit are left, where one isn't
 few : {X : Type 0} (most : ℕ) (test : X → Bool) (xs : List X) (x : X) → IsIn x xs → test x ≡ false → length xs ≤ most → is_full most (filter test xs) ≡ false
@@ -161,7 +155,7 @@ module _ (offset : ℤ) (s : State) (sound : IsSound s) (range : IsInRange s) (r
         (
           none_passes (λ (d : QueueEntry). same_qname d.jobq e.jobq) (filter (λ d. p (queue_entry_row x.0 d)) x.1.queues) (λ d m. fed_by x e d (same_qname d.jobq e.jobq) i j (ap p same ∙ h.before) m refl),
           (
-            next_new (λ (d : QueueEntry). d.seq) nat_cmp nat_cmp_total nat_eq sure_number (λ d. p (queue_entry_row x.0 d)) x.1.queues e (description s sound range x i).queues.sorted j (ap p same ∙ h.before),
+            next_new (λ (d : QueueEntry). d.seq) nat_cmp nat_cmp_total nat_eq eqb-true (λ d. p (queue_entry_row x.0 d)) x.1.queues e (description s sound range x i).queues.sorted j (ap p same ∙ h.before),
             (few 100 (λ d. p (queue_entry_row x.0 d)) x.1.queues e j (ap p same ∙ h.before) (description s sound range x i).sizes.queues, tt),
           ),
         ),
@@ -203,7 +197,7 @@ module _ (offset : ℤ) (s : State) (sound : IsSound s) (range : IsInRange s) (r
   last_by x e d i j m =
       let there = left_in (λ (c : RouteEntry). p (route_entry_row x.0 c)) x.1.routes d m in
       let last = (description s sound range x i).routes.any_last in
-      neither (is_any_before e d) (is_any_before d e) (not_before e d (is_any e.cmp) refl (last e d j there)) (not_before d e (is_any d.cmp) refl (last d e there j))
+      or_from (is_any_before e d) (is_any_before d e) (not_before e d (is_any e.cmp) refl (last e d j there)) (not_before d e (is_any d.cmp) refl (last d e there j))
 
   pub route_made : (x : QName × Sbsd) (e : RouteEntry) → IsIn x s.objects.sbsds → IsIn e x.1.routes → route_entry_row x.0 e ≡ row → Makes (state_part p offset s) row (state_part q offset s)
   route_made x e i j same =
@@ -215,7 +209,7 @@ module _ (offset : ℤ) (s : State) (sound : IsSound s) (range : IsInRange s) (r
         (
           ap (λ (l : List (QName × Class)). not (has_object e.cls l)) (all_classes (later_tab 1 7 tab (omega arith))) ∙ ap not (is_named e.cls s.objects.classes ∙ sound.orders.routed.classes x.0 x.1 e (named_in s.objects.sbsds x sound.objects.tables.sbsds.sorted i) j),
           (
-            next_new (λ (d : RouteEntry). d.seq) nat_cmp nat_cmp_total nat_eq sure_number (λ d. p (route_entry_row x.0 d)) x.1.routes e (sound.orders.routed.sorted x.0 x.1 (named_in s.objects.sbsds x sound.objects.tables.sbsds.sorted i)) j (ap p same ∙ h.before),
+            next_new (λ (d : RouteEntry). d.seq) nat_cmp nat_cmp_total nat_eq eqb-true (λ d. p (route_entry_row x.0 d)) x.1.routes e (sound.orders.routed.sorted x.0 x.1 (named_in s.objects.sbsds x sound.objects.tables.sbsds.sorted i)) j (ap p same ∙ h.before),
             (
               none_passes (λ (d : RouteEntry). is_any_before e d || is_any_before d e) (filter (λ d. p (route_entry_row x.0 d)) x.1.routes) (λ d m. last_by x e d i j m),
               (few 999 (λ d. p (route_entry_row x.0 d)) x.1.routes e j (ap p same ∙ h.before) (description s sound range x i).sizes.routes, tt),

@@ -2,7 +2,7 @@
 use Rattle.std.proofs.Common.{◌≡◌, ℕ, ℤ, ◌<◌, ◌≤◌, ◌+◌, ◌++◌, ◌&&◌, ◌==◌, Bool, true, false, cond, is_some, List, [], ◌∷◌, map, filter, fold, max, refl, sym, ap, subst, ◌∙◌, inl, inr, arith}
 use Rattle.std.specs.Option.{IsSome}
 use Rattle.std.specs.Ordering.{is_lt}
-use Rattle.std.proofs.lemmas.Bool.{and_parts}
+use Rattle.std.proofs.lemmas.Bool.{and_parts, eqb-true}
 use Rattle.std.proofs.lemmas.List.Sums.{fold-append}
 use Rattle.wm_base.specs.declared.qname.QName.{QName}
 use Rattle.wm_base.specs.declared.refusal.Kind.TheVariants as kind
@@ -28,7 +28,6 @@ use Rattle.wm_law.specs.declared.job.Phase.TheVariants as phase
 use Rattle.wm_law.specs.declared.state.State.{State}
 use Rattle.wm_law.proofs.Members.{in_left, in_mapped, left_in, of_mapped}
 use Rattle.wm_law.proofs.Named.{one_name}
-use Rattle.wm_law.proofs.Tests.{same_number}
 use Rattle.wm_rows.specs.Rows.{held_row, counter_row}
 use Rattle.wm_rows.specs.declared.stored.Counter.{Counter}
 use Rattle.wm_rows.specs.declared.stored.Counter.TheVariants as counter
@@ -40,7 +39,6 @@ use Rattle.wm_tables.specs.Ranges.{IsInRange}
 use Rattle.wm_tables.specs.Restart.{restarted_job, restarted_phase, job_of, phase_of, is_taken, is_used, IsOfKind, Holds, Enters, Counts}
 use Rattle.wm_tables.proofs.Digits.{padded_less}
 use Rattle.wm_tables.proofs.Ends.{one_counter}
-use Rattle.wm_tables.proofs.Joining.{each_below}
 use Rattle.wm_tables.proofs.Keys.{one_number, one_text}
 use Rattle.wm_tables.proofs.OneMore.{IsOneMore, next_added, next_new}
 use Rattle.wm_tables.proofs.OwnPlaces.{same_key}
@@ -49,6 +47,7 @@ use Rattle.wm_tables.proofs.Passing.{left_none, left_passes, none_passes}
 use Rattle.wm_tables.proofs.RowsOf.{IsRowOf, in_rows, of_held, of_job, of_number, of_place, of_serial}
 use Rattle.wm_tables.proofs.Made.{tab_before}
 use Rattle.wm_tables.proofs.StepEntries.{all_queues, one_distinct}
+use Rattle.wm_law.proofs.Waits.{below_in}
 
 -- the part with one job more behind it
 record IsLastMore (a b : Job → Bool) (jobs : List Job) (j : Job) : Type 0 where
@@ -211,7 +210,7 @@ module _ (offset : ℤ) (s : State) (sound : IsSound s) (range : IsInRange s) (r
   unused_by : (j m k : Job) (t : Bool) → IsIn j s.jobs → job_row (stored_of j) ≡ row → IsIn k (jobs_left p s) → m ≡ restarted_job k → (m.job.number == j.job.number) ≡ t → t ≡ false
   unused_by j m k false i e l f g = refl
   unused_by j m k true i e l f g =
-      let same : k.job.number ≡ j.job.number = ap (λ (x : Job). x.job.number) (sym f) ∙ same_number m.job.number j.job.number g in
+      let same : k.job.number ≡ j.job.number = ap (λ (x : Job). x.job.number) (sym f) ∙ eqb-true m.job.number j.job.number g in
       absurd (left_other j k e l (one_distinct (λ (x : Job). x.job.number) s.jobs k j sound.numbered.numbers.distinct (left_there k l) i same))
 
   unused : (j : Job) → IsIn j s.jobs → job_row (stored_of j) ≡ row → is_used j.job.number (jobs_part p s) ≡ false
@@ -224,7 +223,7 @@ module _ (offset : ℤ) (s : State) (sound : IsSound s) (range : IsInRange s) (r
   untaken_by j m k true i e w l f g =
       let both = and_parts (is_waiting m.phase) (m.place == j.place) g in
       let waits : is_waiting k.phase ≡ true = waits_again k.phase (ap (λ (x : Job). is_waiting x.phase) (sym f) ∙ both.0) in
-      let same : k.place ≡ j.place = ap (λ (x : Job). x.place) (sym f) ∙ same_number m.place j.place both.1 in
+      let same : k.place ≡ j.place = ap (λ (x : Job). x.place) (sym f) ∙ eqb-true m.place j.place both.1 in
       let test = λ (x : Job). is_waiting x.phase in
       absurd (left_other j k e l (one_distinct (λ (x : Job). x.place) (filter test s.jobs) k j sound.numbered.waiting (in_left test s.jobs k waits (left_there k l)) (in_left test s.jobs j w i) same))
 
@@ -277,7 +276,7 @@ module _ (offset : ℤ) (s : State) (sound : IsSound s) (range : IsInRange s) (r
       let free : p (counter_row counter.Number s.next_number) ≡ false = ap p e ∙ h.before in
       let bounds = sound.numbered.next_number in
       let first = bounds.least in
-      let low : reached (λ j. j.job.number) (jobs_left p s) ≤ s.next_number = reached_most (λ j. j.job.number) s.next_number 1 (jobs_left p s) first (λ j l. each_below s.next_number (map (λ j. j.job.number) s.jobs) _ sound.numbered.numbers.below (in_mapped (λ j. j.job.number) s.jobs j (left_there j l))) in
+      let low : reached (λ j. j.job.number) (jobs_left p s) ≤ s.next_number = reached_most (λ j. j.job.number) s.next_number 1 (jobs_left p s) first (λ j l. below_in s.next_number (map (λ j. j.job.number) s.jobs) _ sound.numbered.numbers.below (in_mapped (λ j. j.job.number) s.jobs j (left_there j l))) in
       record {
         counter = counter.Number;
         count = s.next_number;
@@ -303,7 +302,7 @@ module _ (offset : ℤ) (s : State) (sound : IsSound s) (range : IsInRange s) (r
       let free : p (counter_row counter.Place s.next_place) ≡ false = ap p e ∙ h.before in
       let bounds = sound.numbered.next_place in
       let first = bounds.least in
-      let low : reached (λ j. j.place) (jobs_left p s) ≤ s.next_place = reached_most (λ j. j.place) s.next_place 1 (jobs_left p s) first (λ j l. each_below s.next_place (map (λ j. j.place) s.jobs) _ sound.numbered.places (in_mapped (λ j. j.place) s.jobs j (left_there j l))) in
+      let low : reached (λ j. j.place) (jobs_left p s) ≤ s.next_place = reached_most (λ j. j.place) s.next_place 1 (jobs_left p s) first (λ j l. below_in s.next_place (map (λ j. j.place) s.jobs) _ sound.numbered.places (in_mapped (λ j. j.place) s.jobs j (left_there j l))) in
       record {
         counter = counter.Place;
         count = s.next_place;
@@ -329,7 +328,7 @@ module _ (offset : ℤ) (s : State) (sound : IsSound s) (range : IsInRange s) (r
       let free : p (counter_row counter.Serial s.next_serial) ≡ false = ap p e ∙ h.before in
       let bounds = sound.numbered.next_serial in
       let first = bounds.least in
-      let low : reached (λ j. j.serial) (jobs_left p s) ≤ s.next_serial = reached_most (λ j. j.serial) s.next_serial 1 (jobs_left p s) first (λ j l. each_below s.next_serial (map (λ j. j.serial) s.jobs) _ sound.numbered.serials.below (in_mapped (λ j. j.serial) s.jobs j (left_there j l))) in
+      let low : reached (λ j. j.serial) (jobs_left p s) ≤ s.next_serial = reached_most (λ j. j.serial) s.next_serial 1 (jobs_left p s) first (λ j l. below_in s.next_serial (map (λ j. j.serial) s.jobs) _ sound.numbered.serials.below (in_mapped (λ j. j.serial) s.jobs j (left_there j l))) in
       record {
         counter = counter.Serial;
         count = s.next_serial;

@@ -4,6 +4,7 @@ use Rattle.std.specs.Prelude.{⊤}
 use Rattle.std.specs.List.{list_any}
 use Rattle.std.specs.Option.{option_map_or}
 use Rattle.std.proofs.lemmas.Bool.Decides.{nat_tests}
+use Rattle.std.proofs.lemmas.Bool.{or_from}
 use Rattle.wm_base.specs.declared.qname.QName.{QName}
 use Rattle.wm_base.specs.declared.refusal.Kind.{Kind}
 use Rattle.wm_base.specs.declared.refusal.Kind.TheVariants as kind
@@ -44,10 +45,6 @@ none_refuses ((false, x) ∷ tests) h = none_refuses tests h.1
 pub not_full : {X : Type 0} (most : ℕ) (xs : List X) → length xs < most → is_full most xs ≡ false
 not_full most xs h = let none : nat_le most (length xs) ≡ false = grind (arith, nat_tests) in none
 
-pub neither_holds : (a b : Bool) → a ≡ false → b ≡ false → (a || b) ≡ false
-neither_holds true b e f = absurd (cc)
-neither_holds false b e f = f
-
 -- a row's command that isn't refused makes these objects
 pub command_makes : (u t : State) (c : Command) (row : Row) (o : Objects) (r : Option Refusal) → change u (codes "QSYS") c ≡ made_unless u o r → r ≡ None → IsCommand c → command_row c ≡ Some row → t ≡ record u { objects = o } → Makes u row t
 command_makes u t c row o r does free fit is_row same =
@@ -72,7 +69,7 @@ module _ {V : Type 0} (p : QName × V → Bool) (xs : List (QName × V)) (x : QN
   object_free k most = none_refuses ((has_object x.0 (filter p xs), Exists k) ∷ (is_full 1000 (filter p xs), TableFull k 1000) ∷ []) (new_object, (room most, tt))
 
   pub program_free : is_qcmd x.0 ≡ false → length xs ≤ 1000 → program_refusal x.0 (filter p xs) ≡ None
-  program_free other most = none_refuses ((is_qcmd x.0 || has_object x.0 (filter p xs), Exists kind.Pgm) ∷ (is_full 1000 (filter p xs), TableFull kind.Pgm 1000) ∷ []) (neither_holds (is_qcmd x.0) (has_object x.0 (filter p xs)) other new_object, (room most, tt))
+  program_free other most = none_refuses ((is_qcmd x.0 || has_object x.0 (filter p xs), Exists kind.Pgm) ∷ (is_full 1000 (filter p xs), TableFull kind.Pgm 1000) ∷ []) (or_from (is_qcmd x.0) (has_object x.0 (filter p xs)) other new_object, (room most, tt))
 
 -- where no subsystem is started, a description may be changed
 unused_by : (known : Bool) (r : Option Refusal) → r ≡ None → cond (known && false) (Some SbsActive) r ≡ None

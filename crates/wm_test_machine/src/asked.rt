@@ -42,7 +42,7 @@ impl Tested {
             "times" => self.times(words, answer),
             "built" => self.built(words, answer),
             "opening" => write_opening(self.alloc, answer),
-            "copy" => write_copied(self.objects(), answer),
+            "copy" => write_copied(self.alloc, self.objects(), answer),
             "list" => write_sorted(self.alloc, words, answer),
             _ => self.command(question, answer),
         }

@@ -1,7 +1,7 @@
 // The objects and their entries, as text.
 use crate::text::qname_of;
 use anyhow::{Context, Result, bail};
-use std::alloc::AllocError;
+use std::alloc::{AllocError, Global};
 use wm_base::Limit;
 use wm_desc::{Cmp, Jobd, Objects, QueueEntry, RouteEntry, Sbsd, Table};
 
@@ -149,10 +149,40 @@ pub fn write_objects(objects: &Objects, what: &str, name: &str, answer: &mut Str
     }
 }
 
-/// Adds whether a copy of the objects is equal to them.
-pub fn write_copied(objects: &Objects, answer: &mut String) -> Result<()> {
+// Adds the objects of a table under their names.
+fn write_table<V>(
+    alloc: Global,
+    objects: &Objects,
+    table: &Table<V>,
+    what: &str,
+    answer: &mut String,
+) -> Result<()> {
+    for (name, _) in table.as_slice() {
+        let name = format!(in alloc; "{name}")?;
+        writeln!(answer, "{what} {name}")?;
+        write_objects(objects, what, name.as_str(), answer)?;
+    }
+    Ok(())
+}
+
+// Adds all objects with all that they have.
+fn write_all(alloc: Global, objects: &Objects, answer: &mut String) -> Result<()> {
+    write_table(alloc, objects, &objects.classes, "class", answer)?;
+    write_table(alloc, objects, &objects.jobqs, "queue", answer)?;
+    write_table(alloc, objects, &objects.programs, "program", answer)?;
+    write_table(alloc, objects, &objects.jobds, "jobd", answer)?;
+    write_table(alloc, objects, &objects.sbsds, "description", answer)?;
+    write_table(alloc, objects, &objects.sbsds, "queues", answer)?;
+    write_table(alloc, objects, &objects.sbsds, "routes", answer)
+}
+
+/// Adds whether a copy of the objects is equal to them: whether both are the same text.
+pub fn write_copied(alloc: Global, objects: &Objects, answer: &mut String) -> Result<()> {
     let copy = objects.clone()?;
-    answer.push_str(if copy == *objects {
+    let (mut written, mut again) = (String::new(alloc), String::new(alloc));
+    write_all(alloc, objects, &mut written)?;
+    write_all(alloc, &copy, &mut again)?;
+    answer.push_str(if written == again {
         "EQUAL\n"
     } else {
         "OTHER\n"

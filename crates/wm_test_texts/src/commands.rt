@@ -144,19 +144,20 @@ fn compare_opening(alloc: Global, text: &str, answer: &mut String) -> Result<()>
     Ok(())
 }
 
-// Whether a text is read as the command with this number of those that make the opening state.
+// Whether a text is read as the command with this number of those that make the opening state: whether both have one
+// canonical text.
 fn is_opening(alloc: Global, number: usize, text: &str) -> Result<bool> {
     is_opening_line(alloc, number, &read_line(alloc, text.as_bytes())?)
 }
 
 fn is_opening_line(alloc: Global, number: usize, line: &Line) -> Result<bool> {
     let commands = opening_commands(alloc)?;
-    Ok(is_change(line, commands.get(number.wrapping_sub(1))))
+    is_change(alloc, line, commands.get(number.wrapping_sub(1)))
 }
 
-fn is_change(line: &Line, command: Option<&Command>) -> bool {
+fn is_change(alloc: Global, line: &Line, command: Option<&Command>) -> Result<bool> {
     match (line, command) {
-        (Line::Change(read), Some(command)) => read == command,
-        _ => false,
+        (Line::Change(read), Some(command)) => Ok(print(alloc, read)? == print(alloc, command)?),
+        _ => Ok(false),
     }
 }

@@ -109,9 +109,9 @@ fn push_argument(alloc: Global, args: &mut Args, text: &str) -> Result<()> {
 // Whether a copy has the same texts, also when it is made again of them.
 fn write_copied(args: Args, answer: &mut String) -> Result<()> {
     let copy = args.clone()?;
-    let same = copy == args;
+    let same = copy.as_slice() == args.as_slice();
     let items: Vec<Text> = args.into();
-    let again = Args::from(items) == copy;
+    let again = Args::from(items).as_slice() == copy.as_slice();
     writeln!(answer, "copied {same} {again}")?;
     Ok(())
 }

@@ -2,7 +2,7 @@
 use wm_base::Text;
 
 /// A row: its table, its key and its body. A table has each key once.
-#[derive(Clone, PartialEq, Eq, Drop)]
+#[derive(Clone, PartialEq, Drop)]
 pub struct Row {
     pub tab: u8,
     pub key: Text,

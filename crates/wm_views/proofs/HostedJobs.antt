@@ -3,6 +3,7 @@ use Rattle.std.proofs.Common.{◌≡◌, ◌∙◌, ◌&&◌, ℕ, suc, ◌+◌,
 use Rattle.std.specs.List.{find}
 use Rattle.std.specs.Ordering.{nat_cmp}
 use Rattle.std.proofs.lemmas.Bool.Decides.{nat_tests}
+use Rattle.std.proofs.lemmas.Bool.{leb-true, and_parts, le-leb}
 use Rattle.wm_base.specs.declared.qname.QName.{QName}
 use Rattle.wm_desc.specs.Sorted.{IsSortedOnce}
 use Rattle.wm_law.specs.declared.job.Job.{Job}
@@ -10,11 +11,9 @@ use Rattle.wm_law.specs.declared.state.Sbs.{Sbs}
 use Rattle.wm_law.specs.declared.state.State.{State}
 use Rattle.wm_law.specs.Counts.{is_active, is_in_sbs}
 use Rattle.wm_law.specs.Laws.{IsIn}
-use Rattle.wm_law.proofs.Members.{found_among}
-use Rattle.wm_law.proofs.Tests.{of_both}
+use Rattle.wm_law.proofs.Members.{found_among, All-in}
 use Rattle.wm_jobs.specs.Table.{serial_of}
 use Rattle.wm_jobs.proofs.Actives.{is_from}
-use Rattle.wm_jobs.proofs.One.{of-all}
 use Rattle.wm_jobs.proofs.Splits.{above-head}
 use Rattle.wm_views.specs.declared.shown.ActiveLine.{ActiveLine}
 use Rattle.wm_views.specs.declared.shown.Hosted.{Hosted}
@@ -43,18 +42,12 @@ not_from : (b : Bool) (m n : ℕ) → n < m → (b && nat_le m n) ≡ false
 not_from true m n h = grind (arith, nat_tests)
 not_from false m n h = refl
 
-at_least : (m n : ℕ) → nat_le m n ≡ true → m ≤ n
-at_least m n h = grind (arith, nat_tests)
-
-is_at_least : (m n : ℕ) → m ≤ n → nat_le m n ≡ true
-is_at_least m n h = grind (arith, nat_tests)
-
 -- above a job that is found, each job of a greater serial is from both on
 from_both : (b : Bool) (from n m : ℕ) → from ≤ n → n < m → (b && nat_le from m) ≡ (b && nat_le (n + 1) m)
-from_both b from n m low high = both_from b (nat_le from m) (is_at_least from m (omega arith)) ∙ sym (both_from b (nat_le (n + 1) m) (is_at_least (n + 1) m (omega arith)))
+from_both b from n m low high = both_from b (nat_le from m) (le-leb from m (omega arith)) ∙ sym (both_from b (nat_le (n + 1) m) (le-leb (n + 1) m (omega arith)))
 
 above : (x z : Job) (xs : List Job) → IsSortedOnce serial_of nat_cmp (x ∷ xs) → IsIn z xs → x.serial < z.serial
-above x z xs order i = of-all (λ (k : Job). x.serial < k.serial) xs z (above-head serial_of 0 x xs order) i
+above x z xs order i = All-in (λ (k : Job). x.serial < k.serial) xs z (above-head serial_of 0 x xs order) i
 
 later : (x : Job) (xs : List Job) → IsSortedOnce serial_of nat_cmp (x ∷ xs) → IsSortedOnce serial_of nat_cmp xs
 later x xs order = λ a b d lt in_range. order (suc a) (suc b) d (omega arith) (omega arith)
@@ -65,7 +58,7 @@ next_by : (b : Bool) (from : ℕ) (x y : Job) (xs : List Job) → IsSortedOnce s
     → cond b (x ∷ filter (is_from from) xs) (filter (is_from from) xs) ≡ y ∷ filter (is_from (y.serial + 1)) (x ∷ xs)
 next_by true from x y xs order e found rest =
     let same : x ≡ y = cc in
-    let low : from ≤ x.serial = at_least from x.serial (of_both (is_active x.phase) (nat_le from x.serial) e).1 in
+    let low : from ≤ x.serial = leb-true from x.serial (and_parts (is_active x.phase) (nat_le from x.serial) e).1 in
     let behind : is_from (x.serial + 1) x ≡ false = not_from (is_active x.phase) (x.serial + 1) x.serial (omega arith) in
     let tail : filter (is_from from) xs ≡ filter (is_from (x.serial + 1)) xs =
     filter_alike (is_from from) (is_from (x.serial + 1)) xs (λ z i. from_both (is_active z.phase) from x.serial z.serial low (above x z xs order i)) in

@@ -3,6 +3,7 @@ use Rattle.std.proofs.Common.{◌≡◌, ◌∙◌, ◌&&◌, ◌||◌, ◌==◌
 use Rattle.std.specs.List.{cons_option}
 use Rattle.std.specs.Ordering.{nat_cmp}
 use Rattle.std.proofs.lemmas.Bool.Decides.{nat_tests}
+use Rattle.std.proofs.lemmas.Bool.{not-true, and_from, and_parts}
 use Rattle.wm_base.specs.declared.qname.QName.{QName}
 use Rattle.wm_desc.specs.Sorted.{IsSortedOnce}
 use Rattle.wm_desc.specs.Table.{same_qname}
@@ -11,7 +12,6 @@ use Rattle.wm_law.specs.Counts.{is_waiting}
 use Rattle.wm_law.specs.Laws.{IsIn}
 use Rattle.wm_law.specs.Queues.{is_on_queue, waits_on}
 use Rattle.wm_law.proofs.Named.{one_name}
-use Rattle.wm_law.proofs.Tests.{of_both}
 use Rattle.wm_waiting.specs.declared.waiter.Waiter.{Waiter}
 use Rattle.wm_waiting.specs.Waiting.{HavePlaces, is_on, is_before, first_on, next_on}
 use Rattle.wm_waiting.proofs.Firsts.{first_on-least}
@@ -51,14 +51,6 @@ same_truth false false h k = refl
 never : (b : Bool) → (b ≡ true → ⊥) → b ≡ false
 never true h = absurd (h refl)
 never false h = refl
-
-not_it : (b : Bool) → not b ≡ true → b ≡ false
-not_it true h = absurd (cc h)
-not_it false h = refl
-
-both_are : (a b : Bool) → a ≡ true → b ≡ true → (a && b) ≡ true
-both_are true b h k = k
-both_are false b h k = h
 
 -- of two places on a queue
 itself : (p m : ℕ) → (nat_lt p p || (p == p && nat_lt m m)) ≡ false
@@ -116,7 +108,7 @@ module _ (queue : QName) where
   in_behind : (after : Option Waiter) (jobs : List Job) (x : Job) → IsIn x jobs → left after x ≡ true → (q : QName) × Contains (behind after (waiters jobs)) (waiter_on q x) × (same_qname q queue ≡ true)
   in_behind None jobs x i h = let its = its_waiter x h in (its.0, in_waiters jobs x (waiter_on its.0 x) i its.1, its.2)
   in_behind (Some l) jobs x i h =
-      let parts = of_both (waits_on queue x) (is_before l (waiter_on queue x)) h in
+      let parts = and_parts (waits_on queue x) (is_before l (waiter_on queue x)) h in
       let its = its_waiter x parts.0 in
       (its.0, Contains-filter (is_before l) (waiters jobs) (waiter_on its.0 x) (in_waiters jobs x (waiter_on its.0 x) i its.1) parts.1, its.2)
 
@@ -124,7 +116,7 @@ module _ (queue : QName) where
   still_left None jobs w x found waits not_before = waits
   still_left (Some l) jobs w x found waits not_before =
       let above = (Contains-from_filter (is_before l) (waiters jobs) w (first_on-Some queue (filter (is_before l) (waiters jobs)) w found).0).1 in
-      both_are (waits_on queue x) (is_before l (waiter_on queue x)) waits (carried l.pty l.place w.pty w.place x.pty x.place above not_before)
+      and_from (waits_on queue x) (is_before l (waiter_on queue x)) waits (carried l.pty l.place w.pty w.place x.pty x.place above not_before)
 
   -- what is left comes from the next on
   next_left : (after next : Option Waiter) (jobs : List Job) → first_on queue (behind after (waiters jobs)) ≡ next → (x : Job) → IsIn x jobs → left after x ≡ upcoming next x
@@ -137,18 +129,18 @@ module _ (queue : QName) where
     where
       waits_left : (o : Option Waiter) → left o x ≡ true → waits_on queue x ≡ true
       waits_left None h = h
-      waits_left (Some l) h = (of_both (waits_on queue x) (is_before l (waiter_on queue x)) h).0
+      waits_left (Some l) h = (and_parts (waits_on queue x) (is_before l (waiter_on queue x)) h).0
 
       there : left after x ≡ true → upcoming (Some w) x ≡ true
       there h =
           let its = in_behind after jobs x i h in
           let least : is_before (waiter_on queue x) w ≡ false = first_on-least queue (behind after (waiters jobs)) w found (waiter_on its.0 x) its.1 its.2 in
-          both_are (waits_on queue x) (not (is_before (waiter_on queue x) w)) (waits_left after h) (ap not least)
+          and_from (waits_on queue x) (not (is_before (waiter_on queue x) w)) (waits_left after h) (ap not least)
 
       back : upcoming (Some w) x ≡ true → left after x ≡ true
       back h =
-          let parts = of_both (waits_on queue x) (not (is_before (waiter_on queue x) w)) h in
-          still_left after jobs w x found parts.0 (not_it (is_before (waiter_on queue x) w) parts.1)
+          let parts = and_parts (waits_on queue x) (not (is_before (waiter_on queue x) w)) h in
+          still_left after jobs w x found parts.0 (not-true (is_before (waiter_on queue x) w) parts.1)
 
   kept_alike : (p q : Job → Bool) (xs : List Job) → ((x : Job) → IsIn x xs → p x ≡ q x) → filter p xs ≡ filter q xs
   kept_alike p q [] same = refl
@@ -173,7 +165,7 @@ module _ (queue : QName) where
       waits = (its_job j (waiter_on q j) is on).0
 
       comes : upcoming (Some (waiter_on q j)) j ≡ true
-      comes = both_are (waits_on queue j) (not (is_before (waiter_on queue j) (waiter_on q j))) waits (ap not (itself j.pty j.place))
+      comes = and_from (waits_on queue j) (not (is_before (waiter_on queue j) (waiter_on q j))) waits (ap not (itself j.pty j.place))
 
       -- one of another serial has another place
       apart : (x : Job) → IsIn x jobs → waits_on queue x ≡ true → (j.serial ≡ x.serial → ⊥) → x.place ≡ j.place → ⊥
@@ -184,8 +176,8 @@ module _ (queue : QName) where
 
       goes_first : (x : Job) → IsIn x jobs → (j.serial ≡ x.serial → ⊥) → upcoming (Some (waiter_on q j)) x ≡ true → by_turn (placed clock j) (placed clock x) ≡ true
       goes_first x k differ h =
-          let parts = of_both (waits_on queue x) (not (is_before (waiter_on queue x) (waiter_on q j))) h in
-          one_of_two j.pty x.pty j.place x.place (not_it (is_before (waiter_on queue x) (waiter_on q j)) parts.1) (apart x k parts.0 differ)
+          let parts = and_parts (waits_on queue x) (not (is_before (waiter_on queue x) (waiter_on q j))) h in
+          one_of_two j.pty x.pty j.place x.place (not-true (is_before (waiter_on queue x) (waiter_on q j)) parts.1) (apart x k parts.0 differ)
 
       still_comes : (next : Option Waiter) → first_on queue (filter (is_before (waiter_on q j)) (waiters jobs)) ≡ next → (x : Job) → IsIn x jobs → (upcoming (Some (waiter_on q j)) x && by_turn (placed clock j) (placed clock x)) ≡ upcoming next x
       still_comes next found x k =

@@ -5,9 +5,9 @@ use Rattle.std.specs.Cmp.{IsStrictWeakOrder}
 use Rattle.wm_views.specs.Sorted.{put_in, sorted}
 use Rattle.wm_desc.specs.Sorted.{IsSortedOnce}
 use Rattle.wm_law.specs.Laws.{IsIn}
-use Rattle.wm_jobs.proofs.One.{of-all}
 use Rattle.wm_jobs.proofs.Splits.{above-head}
 use Rattle.wm_views.proofs.Stable.{Up, AllFrom, ins, put_is_ins, up_ins, never_less}
+use Rattle.wm_law.proofs.Members.{All-in}
 
 module _ {E : Type 0} (lt : E → E → Bool) (o : IsStrictWeakOrder lt) (m : E) where
   -- it goes before each of them
@@ -105,9 +105,9 @@ module _ {X E : Type 0} (serial : X → ℕ) (f : X → E) (lt : E → E → Boo
   is_first (x ∷ xs) order (inl e) k h =
       subst (IsFirst lt o (f m)) (sym (mapped_by (kept x) x (filter kept xs)))
       (here_first (kept x) x (map f (filter kept xs)) (ap kept (sym e) ∙ k) e
-      (all_behind xs (λ y i. h y (inr i) (λ same. let up : serial x < serial y = of-all (λ (z : X). serial x < serial z) xs y (above-head serial 0 x xs order) i in let at = ap serial e in omega (arith, up, at, same)))))
+      (all_behind xs (λ y i. h y (inr i) (λ same. let up : serial x < serial y = All-in (λ (z : X). serial x < serial z) xs y (above-head serial 0 x xs order) i in let at = ap serial e in omega (arith, up, at, same)))))
   is_first (x ∷ xs) order (inr i) k h =
-      let up : serial x < serial m = of-all (λ (z : X). serial x < serial z) xs m (above-head serial 0 x xs order) i in
+      let up : serial x < serial m = All-in (λ (z : X). serial x < serial z) xs m (above-head serial 0 x xs order) i in
       subst (IsFirst lt o (f m)) (sym (mapped_by (kept x) x (filter kept xs)))
       (more_first (kept x) x (map f (filter kept xs)) (h x (inl refl) (λ same. omega (arith, up, same)))
       (is_first xs (λ a b d less in_range. order (suc a) (suc b) d (omega arith) (omega arith)) i k (λ y j. h y (inr j))))

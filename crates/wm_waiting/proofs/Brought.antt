@@ -4,7 +4,7 @@ use Rattle.std.specs.List.{insert, AllPairs, slice_get}
 use Rattle.std.specs.declared.cmp.Ordering.TheVariants.{Less}
 use Rattle.std.specs.Ordering.{nat_cmp}
 use mathlib.Core.Bool.{false≢true}
-use Rattle.std.proofs.lemmas.Bool.{cases_Bool, not-true, not_from_false}
+use Rattle.std.proofs.lemmas.Bool.{cases_Bool, not-true, not_from_false, leb-true, and_parts, le-leb}
 use Rattle.std.proofs.lemmas.Bool.Decides.{nat_tests}
 use Rattle.std.proofs.lemmas.List.{length-map}
 use Rattle.std.proofs.lemmas.List.Elements.{Contains-get_or}
@@ -20,24 +20,14 @@ use Rattle.wm_waiting.specs.Orders.{spot_cmp, rise_cmp, same_spot, same_rise}
 use Rattle.wm_waiting.specs.Waiting.{serial_of, HavePlaces, is_up, is_ahead}
 use Rattle.wm_waiting.proofs.Marks.{found-there, one_serial}
 use Rattle.wm_waiting.proofs.Members.{Contains-mapped, Contains-cases, Contains-insert_new, Contains-insert_old, Contains-insert_cases, Contains-filter, Contains-from_filter, first-before, first-there, list_any-none}
-use Rattle.wm_waiting.proofs.Orders.{both_true, same_spot-place, same_spot-itself, same_rise-itself, spot-itself, sooner_due}
+use Rattle.wm_waiting.proofs.Orders.{same_spot-place, same_spot-itself, same_rise-itself, spot-itself, sooner_due}
 use Rattle.wm_waiting.proofs.Rows.{no_more}
 
-le_from_true : (m n : ℕ) → nat_le m n ≡ true → m ≤ n
-le_from_true m n h = grind (arith, nat_tests)
-
-true_from_le : (m n : ℕ) → m ≤ n → nat_le m n ≡ true
-true_from_le m n h = grind (arith, nat_tests)
-
-not_held : (b : Bool) → not b ≡ true → b ≡ false
-not_held true h = absurd (false≢true h)
-not_held false h = refl
-
 up-parts : (clock : ℕ) (w : Waiter) → is_up clock w ≡ true → (w.held ≡ false) × (w.due ≤ clock)
-up-parts clock w h = let parts = both_true (not w.held) (nat_le w.due clock) h in (not_held w.held parts.0, le_from_true w.due clock parts.1)
+up-parts clock w h = let parts = and_parts (not w.held) (nat_le w.due clock) h in (not-true w.held parts.0, leb-true w.due clock parts.1)
 
 up-made : (clock : ℕ) (w : Waiter) → w.held ≡ false → w.due ≤ clock → is_up clock w ≡ true
-up-made clock w free le = ap (λ b. not b && nat_le w.due clock) free ∙ true_from_le w.due clock le
+up-made clock w free le = ap (λ b. not b && nat_le w.due clock) free ∙ le-leb w.due clock le
 
 ahead-part : (clock : ℕ) (w : Waiter) → is_ahead clock w ≡ true → clock < w.due
 ahead-part clock w h = grind (arith, nat_tests)

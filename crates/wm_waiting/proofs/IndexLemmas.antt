@@ -5,7 +5,7 @@ use Rattle.std.specs.declared.cmp.Ordering.{Ordering}
 use Rattle.std.specs.declared.cmp.Ordering.TheVariants.{Less, Equal}
 use Rattle.std.specs.Ordering.{is_lt, nat_cmp}
 use mathlib.Core.Bool.{false≢true}
-use Rattle.std.proofs.lemmas.Bool.{cases_Bool, not-true, not_from_false}
+use Rattle.std.proofs.lemmas.Bool.{cases_Bool, not-true, not_from_false, and_parts}
 use Rattle.std.proofs.lemmas.List.{length-map}
 use Rattle.wm_base.specs.declared.qname.QName.{QName}
 use Rattle.wm_desc.specs.Sorted.{IsSortedOnce, with_key, has_key, removed}
@@ -20,7 +20,7 @@ use Rattle.wm_waiting.proofs.Heads.{head-None, head-Some, due-None, due-Some}
 use Rattle.wm_waiting.proofs.Marks.{found-there}
 use Rattle.wm_waiting.proofs.Members.{Contains-mapped, Contains-insert_new, Contains-insert_old, Contains-insert_cases, Contains-filter, Contains-from_filter, find-Some, find-None, find-before, first-before, first-there, first-none, list_any-none}
 use Rattle.wm_waiting.specs.Orders.{spot_cmp, rise_cmp}
-use Rattle.wm_waiting.proofs.Orders.{begin_of, from_begin, is_of-between, lesser_place, sooner_due, both_true}
+use Rattle.wm_waiting.proofs.Orders.{begin_of, from_begin, is_of-between, lesser_place, sooner_due}
 use Rattle.wm_waiting.proofs.Rows.{no_more}
 
 module _ {K V : Type 0} (key : Waiter → K) (told : Waiter → V) (test : Waiter → Bool) (items : List Waiter) (rows : List (K × V)) (index : IsIndex key told test items rows) where
@@ -106,10 +106,10 @@ module _ (queue : QName) (pty clock : ℕ) (items : List Waiter) (rows : List (S
   before a b = spot_cmp a.0 b.0 ≡ Less
 
   row-there : (v : Waiter) → Contains items v → is_turn queue pty clock v ≡ true → Contains rows (spot_of v, v.serial)
-  row-there v there turn = index.whole v there (both_true (is_of queue pty v) (is_up clock v) turn).1
+  row-there v there turn = index.whole v there (and_parts (is_of queue pty v) (is_up clock v) turn).1
 
   row-from : (v : Waiter) → is_turn queue pty clock v ≡ true → from (spot_of v, v.serial) ≡ true
-  row-from v turn = not_from_false _ (from_begin queue pty v (both_true (is_of queue pty v) (is_up clock v) turn).0)
+  row-from v turn = not_from_false _ (from_begin queue pty v (and_parts (is_of queue pty v) (is_up clock v) turn).0)
 
   pub head-absent : first_from spot_cmp (begin_of queue pty) rows ≡ None → head_of queue pty clock items ≡ None
   head-absent none =
@@ -134,7 +134,7 @@ module _ (queue : QName) (pty clock : ℕ) (items : List Waiter) (rows : List (S
     head-elsewhere : is_of queue pty r ≡ false → head_of queue pty clock items ≡ None
     head-elsewhere other =
         head-None queue pty clock items (λ v there. elim (cases_Bool (is_turn queue pty clock v)) [
-          | inl turn ↦ (let of = (both_true (is_of queue pty v) (is_up clock v) turn).0 in elim (behind v there turn) [
+          | inl turn ↦ (let of = (and_parts (is_of queue pty v) (is_up clock v) turn).0 in elim (behind v there turn) [
             | inl e ↦ absurd (false≢true (sym other ∙ (ap (λ (u : Waiter). is_of queue pty u) (sym e) ∙ of)))
             | inr lt ↦ absurd (false≢true (sym other ∙ is_of-between queue pty r v of low lt))
           ])
@@ -145,7 +145,7 @@ module _ (queue : QName) (pty clock : ℕ) (items : List Waiter) (rows : List (S
     head-here of =
         head-Some queue pty clock items r item (rw (of, up) refl) (λ v there turn. elim (behind v there turn) [
           | inl e ↦ inl e
-          | inr lt ↦ inr (lesser_place queue pty r v of (both_true (is_of queue pty v) (is_up clock v) turn).0 lt)
+          | inr lt ↦ inr (lesser_place queue pty r v of (and_parts (is_of queue pty v) (is_up clock v) turn).0 lt)
         ])
 
   module _ (places : HavePlaces items) (serials : IsSortedOnce serial_of nat_cmp items) (q : Spot × ℕ) (found : first_from spot_cmp (begin_of queue pty) rows ≡ Some q) where

@@ -8,6 +8,7 @@ use Rattle.std.proofs.lemmas.Bool.{cases_Bool, not-true, not_from_false}
 use Rattle.std.proofs.lemmas.Bool.Decides.{nat_tests}
 use Rattle.std.proofs.lemmas.Cmp.{alike_right}
 use Rattle.wm_base.specs.declared.qname.QName.{QName}
+use Rattle.wm_base.proofs.Orderings.{is_eq-Equal}
 use Rattle.wm_desc.specs.Sorted.{IsSortedOnce, with_key}
 use Rattle.wm_desc.specs.Table.{same_qname, qname_cmp}
 use Rattle.wm_desc.proofs.Tables.{qname_total, qname_ties}
@@ -21,7 +22,7 @@ use Rattle.wm_waiting.specs.Waiting.{serial_of, HavePlaces, HavePriorities, is_o
 use Rattle.wm_waiting.proofs.Firsts.{not-itself}
 use Rattle.wm_waiting.proofs.Marks.{found-there}
 use Rattle.wm_waiting.proofs.Members.{Contains-head, Contains-cons, Contains-nil, Contains-cases, Contains-filter, Contains-from_filter, filter-empty, find-Some, find-None, find-before}
-use Rattle.wm_waiting.proofs.Orders.{begin_of, between, is_eq-Equal, spot_cmp-fields, then_Less}
+use Rattle.wm_waiting.proofs.Orders.{begin_of, between, spot_cmp-fields, then_Less}
 
 -- it comes before the other, and not the other way round
 abbrev pub Precedes : Waiter → Waiter → Type 0

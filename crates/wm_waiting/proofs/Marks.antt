@@ -4,13 +4,12 @@ use Rattle.std.specs.List.{insert, count_by, AllPairs}
 use Rattle.std.specs.declared.cmp.Ordering.TheVariants.{Less}
 use Rattle.std.specs.Ordering.{nat_cmp, is_lt}
 use mathlib.Core.Bool.{false≢true}
-use Rattle.std.proofs.lemmas.Bool.{cases_Bool, not-true, not_from_false}
+use Rattle.std.proofs.lemmas.Bool.{cases_Bool, not-true, not_from_false, eqb-true}
 use Rattle.std.proofs.lemmas.List.Sums.{sum_by-cons}
 use Rattle.wm_desc.specs.Sorted.{IsSortedOnce, with_key, has_key, place_of, added, removed}
 use Rattle.wm_waiting.specs.declared.waiter.Waiter.{Waiter}
 use Rattle.wm_waiting.specs.Waiting.{serial_of, has_place, HavePlaces, HasOwnPlace, with_held, marked, replaced}
 use Rattle.wm_waiting.proofs.Members.{Contains-head, Contains-cons, Contains-mapped, Contains-from_mapped, Contains-from_filter, find-Some, find-None, find-before, filter-whole, list_any-none, AllPairs-head, AllPairs-tail}
-use Rattle.wm_waiting.proofs.Orders.{eqb-same}
 
 count_by-none : {X : Type 0} (p : X → Bool) (xs : List X) → ((y : X) → Contains xs y → p y ≡ false) → count_by p xs ≡ 0
 count_by-none p [] none = refl
@@ -46,7 +45,7 @@ module _ (serial : ℕ) (w : Waiter) (items : List Waiter) (sorted : IsSortedOnc
   alone v there e =
       elim (find-before before (λ (u : Waiter). nat_eq u.serial serial) items w v sorted found there e) [
         | inl same ↦ same
-        | inr lt ↦ absurd (not_less w.serial v.serial (eqb-same w.serial serial named ∙ sym (eqb-same v.serial serial e)) lt)
+        | inr lt ↦ absurd (not_less w.serial v.serial (eqb-true w.serial serial named ∙ sym (eqb-true v.serial serial e)) lt)
       ]
 
 -- one that is there is found by its serial
@@ -118,7 +117,7 @@ module _ (new : Waiter) where
       list_any-none (λ (v : Waiter). v.place == new.place) (removed serial_of nat_eq new.serial items) (λ v h.
       let kept = Contains-from_filter (λ (u : Waiter). not (nat_eq u.serial new.serial)) items v h in
       elim (cases_Bool (v.place == new.place)) [
-        | inl e ↦ absurd (false≢true (sym (not-true _ kept.1) ∙ eq-eqb v.serial new.serial (own v kept.0 (eqb-same v.place new.place e))))
+        | inl e ↦ absurd (false≢true (sym (not-true _ kept.1) ∙ eq-eqb v.serial new.serial (own v kept.0 (eqb-true v.place new.place e))))
         | inr e ↦ e
       ])
 
@@ -142,7 +141,7 @@ module _ (serial : ℕ) (held : Bool) where
         ap (λ (v : Waiter). v ∷ replaced (with_held held w) xs) (sym (one x (same x (Contains-head x xs)))) ∙ ap (λ l. cond (nat_eq x.serial serial) (with_held held x) x ∷ l) (marked-each xs (λ v h. same v (Contains-cons x v xs h)))
 
   pub marked-Some : (w : Waiter) (items : List Waiter) → IsSortedOnce serial_of nat_cmp items → with_key serial_of nat_eq serial items ≡ Some w → replaced (with_held held w) items ≡ marked serial held items
-  marked-Some w items sorted found = marked-each w (eqb-same w.serial serial (named serial w items sorted found)) items (alone serial w items sorted found)
+  marked-Some w items sorted found = marked-each w (eqb-true w.serial serial (named serial w items sorted found)) items (alone serial w items sorted found)
 
   pub marked-None : (items : List Waiter) → with_key serial_of nat_eq serial items ≡ None → items ≡ marked serial held items
   marked-None items none = sym (marked-none items (λ v h. find-None (λ (u : Waiter). nat_eq u.serial serial) items v none h))

@@ -4,7 +4,7 @@ use Rattle.std.specs.List.{insert}
 use Rattle.std.specs.declared.cmp.Ordering.{Ordering}
 use Rattle.std.specs.declared.cmp.Ordering.TheVariants.{Equal}
 use Rattle.std.specs.Ordering.{nat_cmp}
-use Rattle.std.proofs.lemmas.Bool.{cases_Bool, not_from_true}
+use Rattle.std.proofs.lemmas.Bool.{cases_Bool, not_from_true, eqb-true}
 use Rattle.wm_desc.specs.Sorted.{IsSortedOnce, place_of, removed}
 use Rattle.wm_ordered.specs.Ordered.{Pairs, key_of}
 use Rattle.wm_waiting.specs.declared.waiter.Waiter.{Waiter}
@@ -19,7 +19,7 @@ use Rattle.wm_waiting.proofs.Agreement.{apart-spots, apart-rises}
 use Rattle.wm_waiting.proofs.IndexLemmas.{index-length, index-left, index-shrinks}
 use Rattle.wm_waiting.proofs.Marks.{named, alone, replaced-Some, lacks-serial, lacks-place, Contains-replaced_new, Contains-replaced_old, Contains-replaced_cases}
 use Rattle.wm_waiting.proofs.Members.{find-Some, filter-less}
-use Rattle.wm_waiting.proofs.Orders.{eqb-same, same_spot-place, same_rise-serial, same_spot-itself, same_rise-itself}
+use Rattle.wm_waiting.proofs.Orders.{same_spot-place, same_rise-serial, same_spot-itself, same_rise-itself}
 
 module _ (serial : ℕ) (w : Waiter) (items : List Waiter) (by : IsFoundBy serial w items) where
   pub found-item : Contains items w
@@ -49,7 +49,7 @@ module _ (new old : Waiter) (items : List Waiter) (replaces : Replaces new old i
   left = removed serial_of nat_eq new.serial items
 
   pub found-serial : old.serial ≡ new.serial
-  found-serial = eqb-same old.serial new.serial (found-named new.serial old items replaces.old_one)
+  found-serial = eqb-true old.serial new.serial (found-named new.serial old items replaces.old_one)
 
   -- the old one goes out, and the new one comes in
   pub in_its_place : {K V : Type 0} (key : Waiter → K) (told : Waiter → V) (test : Waiter → Bool) (rows : List (K × V)) → IsIndex key told test (insert left (place_of serial_of nat_cmp new.serial left) new) rows → IsIndex key told test (replaced new items) rows

@@ -3,10 +3,11 @@ use Rattle.std.proofs.Common.{◌≡◌, ◌⊎◌, ℕ, ◌<◌, ◌≤◌, Boo
 use Rattle.std.specs.declared.cmp.Ordering.TheVariants.{Less, Equal}
 use Rattle.std.specs.Ordering.{is_lt, is_eq, nat_cmp, ordering_then}
 use mathlib.Core.Bool.{false≢true}
-use Rattle.std.proofs.lemmas.Bool.{cases_Bool, not-true, not_from_false}
+use Rattle.std.proofs.lemmas.Bool.{cases_Bool, not-true, not_from_false, and_parts, eqb-true}
 use Rattle.std.proofs.lemmas.Bool.Decides.{nat_tests}
 use Rattle.std.proofs.lemmas.Cmp.{alike_right}
 use Rattle.wm_base.specs.declared.qname.QName.{QName}
+use Rattle.wm_base.proofs.Orderings.{is_eq-Equal}
 use Rattle.wm_desc.specs.Sorted.{IsSortedOnce, with_key}
 use Rattle.wm_desc.specs.Table.{same_qname, qname_cmp}
 use Rattle.wm_desc.proofs.Tables.{qname_total, qname_ties}
@@ -21,7 +22,7 @@ use Rattle.wm_waiting.specs.Waiting.{serial_of, HavePlaces, is_of, is_on, is_up,
 use Rattle.wm_waiting.proofs.Heads.{head-None, head-Some}
 use Rattle.wm_waiting.proofs.Marks.{found-there}
 use Rattle.wm_waiting.proofs.Members.{find-Some, find-None, find-before}
-use Rattle.wm_waiting.proofs.Orders.{begin_of, between, both_true, eqb-same, is_eq-Equal, lesser_place, spot_cmp-fields, then_Less}
+use Rattle.wm_waiting.proofs.Orders.{begin_of, between, lesser_place, spot_cmp-fields, then_Less}
 
 not_below : (m n p : ℕ) → p ≤ m → is_lt (ordering_then (nat_cmp m p) (nat_cmp n 0)) ≡ false
 not_below m n p le = grind (arith, nat_tests)
@@ -35,7 +36,7 @@ le_from_less p q m n h = grind (arith, nat_tests)
 module _ (queue : QName) where
   -- one of a priority is on the queue
   parts : (p : ℕ) (v : Waiter) → is_of queue p v ≡ true → (is_on queue v ≡ true) × (v.pty ≡ p)
-  parts p v of = let both = both_true (same_qname v.jobq queue) (v.pty == p) of in (both.0, eqb-same v.pty p both.1)
+  parts p v of = let both = and_parts (same_qname v.jobq queue) (v.pty == p) of in (both.0, eqb-true v.pty p both.1)
 
   same-queue : (v : Waiter) → is_on queue v ≡ true → qname_cmp v.jobq queue ≡ Equal
   same-queue v on = is_eq-Equal _ (sym (qname_ties v.jobq queue) ∙ on)
@@ -75,7 +76,7 @@ module _ (queue : QName) (pty clock : ℕ) (items : List Waiter) (rows : List (S
   none-at : (p : ℕ) → ((v : Waiter) → Contains items v → is_of queue p v ≡ true → is_up clock v ≡ true → ⊥) → head_of queue p clock items ≡ None
   none-at p none =
       head-None queue p clock items (λ v there. elim (cases_Bool (is_turn queue p clock v)) [
-        | inl turn ↦ (let both = both_true (is_of queue p v) (is_up clock v) turn in absurd (none v there both.0 both.1))
+        | inl turn ↦ (let both = and_parts (is_of queue p v) (is_up clock v) turn in absurd (none v there both.0 both.1))
         | inr e ↦ e
       ])
 
@@ -110,7 +111,7 @@ module _ (queue : QName) (pty clock : ℕ) (items : List Waiter) (rows : List (S
       at-head : head_of queue r.pty clock items ≡ Some r
       at-head =
           head-Some queue r.pty clock items r item (rw (own queue r on, up) refl) (λ v there turn.
-          let both = both_true (is_of queue r.pty v) (is_up clock v) turn in
+          let both = and_parts (is_of queue r.pty v) (is_up clock v) turn in
           elim (behind r.pty v there reached both.0 both.1) [ inl e ↦ inl e | inr lt ↦ inr (lesser_place queue r.pty r v (own queue r on) both.0 lt) ])
 
       not-before : (p : ℕ) (v : Waiter) → p < r.pty → is_of queue p v ≡ true → (v ≡ r) ⊎ (spot_cmp (spot_of r) (spot_of v) ≡ Less) → ⊥

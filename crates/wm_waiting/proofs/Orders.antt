@@ -6,11 +6,12 @@ use Rattle.std.specs.Cmp.{IsTotalOrder, IsEquivalence, unsigned_ties, unsigned_D
 use Rattle.std.specs.Cmp.Lexicographic.{pointwise}
 use Rattle.std.specs.Ordering.{is_lt, is_gt, is_le, is_eq, nat_cmp, ordering_then}
 use mathlib.Core.Bool.{false≢true}
-use Rattle.std.proofs.lemmas.Bool.{cases_lt}
+use Rattle.std.proofs.lemmas.Bool.{cases_lt, and_parts, eqb-true}
 use Rattle.std.proofs.lemmas.Bool.Decides.{nat_tests}
 use Rattle.std.proofs.lemmas.Cmp.{on_total, then_total, nat_cmp_total, alike_right, tied_itself, on_equiv, and_equiv, nat_eq_equiv, nat_list_eq_equiv}
 use Rattle.std.proofs.lemmas.Slice.Eq.{slice_eq-Decides}
 use Rattle.wm_base.specs.declared.qname.QName.{QName}
+use Rattle.wm_base.proofs.Orderings.{lt-Less, then-not_Greater, is_eq-Equal}
 use Rattle.wm_desc.specs.Table.{same_qname, qname_cmp}
 use Rattle.wm_desc.proofs.Tables.{qname_total, qname_ties}
 use Rattle.wm_waiting.specs.declared.waiter.Waiter.{Waiter}
@@ -48,11 +49,6 @@ equal_both Equal b h = (refl, h)
 equal_both Less b h = absurd (cc h)
 equal_both Greater b h = absurd (cc h)
 
-pub is_eq-Equal : (o : Ordering) → is_eq o ≡ true → o ≡ Equal
-is_eq-Equal Equal h = refl
-is_eq-Equal Less h = absurd (false≢true h)
-is_eq-Equal Greater h = absurd (false≢true h)
-
 both_eq : (a b : Ordering) → is_eq (ordering_then a b) ≡ (is_eq a && is_eq b)
 both_eq Less b = refl
 both_eq Equal b = refl
@@ -88,9 +84,6 @@ is_of-between queue pty r w of low high =
     let here : line_cmp (spot_of r) (begin_of queue pty) ≡ Equal = between _ _ _ _ (ap is_lt (sym (spot_cmp-line (spot_of r) (begin_of queue pty))) ∙ low) (sym (spot_cmp-line (spot_of r) (spot_of w)) ∙ high) same in
     is_of-line queue pty r ∙ ap is_eq here
 
-nat_cmp-Less : (m n : ℕ) → nat_cmp m n ≡ Less → m < n
-nat_cmp-Less m n h = grind arith
-
 pub then_Less : (a b : Ordering) → ordering_then a b ≡ Less → a ≡ Equal → b ≡ Less
 then_Less a b h e = sym (ap (λ o. ordering_then o b) e) ∙ h
 
@@ -98,27 +91,17 @@ then_Less a b h e = sym (ap (λ o. ordering_then o b) e) ∙ h
 pub lesser_place : (queue : QName) (pty : ℕ) (r w : Waiter) → is_of queue pty r ≡ true → is_of queue pty w ≡ true → spot_cmp (spot_of r) (spot_of w) ≡ Less → r.place < w.place
 lesser_place queue pty r w of_r of_w before =
     let same : line_cmp (spot_of r) (spot_of w) ≡ line_cmp (spot_of r) (begin_of queue pty) = alike_right line_total (spot_of w) (begin_of queue pty) (spot_of r) (line-Equal queue pty w of_w) in
-    nat_cmp-Less r.place w.place (then_Less _ _ (sym (spot_cmp-line (spot_of r) (spot_of w)) ∙ before) (same ∙ line-Equal queue pty r of_r))
+    lt-Less r.place w.place (then_Less _ _ (sym (spot_cmp-line (spot_of r) (spot_of w)) ∙ before) (same ∙ line-Equal queue pty r of_r))
 
 rise_cmp-fields : (a b : Rise) → rise_cmp a b ≡ ordering_then (nat_cmp a.due b.due) (nat_cmp a.serial b.serial)
 rise_cmp-fields a b = refl
 
-not_above : (o p : Ordering) → ordering_then o p ≡ Less → o ≡ Greater → ⊥
-not_above o p h e = cc (sym (ap (λ q. ordering_then q p) e) ∙ h)
-
 -- what comes before is due no later
 pub sooner_due : (a b : Rise) → rise_cmp a b ≡ Less → a.due ≤ b.due
-sooner_due a b h = elim (cases_lt b.due a.due) [ inr le ↦ le | inl gt ↦ absurd (not_above (nat_cmp a.due b.due) (nat_cmp a.serial b.serial) (sym (rise_cmp-fields a b) ∙ h) (above gt)) ]
+sooner_due a b h = elim (cases_lt b.due a.due) [ inr le ↦ le | inl gt ↦ absurd (then-not_Greater (nat_cmp a.due b.due) (nat_cmp a.serial b.serial) (sym (rise_cmp-fields a b) ∙ h) (above gt)) ]
   where
     above : b.due < a.due → nat_cmp a.due b.due ≡ Greater
     above gt = grind arith
-
-pub both_true : (a b : Bool) → (a && b) ≡ true → (a ≡ true) × (b ≡ true)
-both_true true b h = (refl, h)
-both_true false b h = absurd (false≢true h)
-
-pub eqb-same : (m n : ℕ) → (m == n) ≡ true → m ≡ n
-eqb-same m n h = grind arith
 
 -- one spot, one place
 pub same_spot-place : (v w : Waiter) → same_spot (spot_of v) (spot_of w) ≡ true → v.place ≡ w.place
@@ -181,7 +164,7 @@ qname_of lib name = record { lib = lib; name = name }
 -- what `==` says of two qualified names
 same_qname-is : (a b : QName) → same_qname a b ≡ true → a ≡ b
 same_qname-is a b h =
-    let parts = both_true (pointwise nat_eq a.lib b.lib) (pointwise nat_eq a.name b.name) h in
+    let parts = and_parts (pointwise nat_eq a.lib b.lib) (pointwise nat_eq a.name b.name) h in
     let lib : a.lib ≡ b.lib = (slice_eq-Decides unsigned_Decides a.lib b.lib true (sym parts.0)).0 refl in
     let name : a.name ≡ b.name = (slice_eq-Decides unsigned_Decides a.name b.name true (sym parts.1)).0 refl in
     ap (λ l. qname_of l a.name) lib ∙ ap (λ n. qname_of b.lib n) name
@@ -192,11 +175,11 @@ spot_at queue pty place = record { jobq = queue; pty = pty; place = place }
 -- what `==` says of two spots
 pub same_spot-is : (a b : Spot) → same_spot a b ≡ true → a ≡ b
 same_spot-is a b h =
-    let parts = both_true (same_qname a.jobq b.jobq) (a.pty == b.pty && a.place == b.place) h in
-    let fields = both_true (a.pty == b.pty) (a.place == b.place) parts.1 in
+    let parts = and_parts (same_qname a.jobq b.jobq) (a.pty == b.pty && a.place == b.place) h in
+    let fields = and_parts (a.pty == b.pty) (a.place == b.place) parts.1 in
     let queue = same_qname-is a.jobq b.jobq parts.0 in
-    let pty = eqb-same a.pty b.pty fields.0 in
-    let place = eqb-same a.place b.place fields.1 in
+    let pty = eqb-true a.pty b.pty fields.0 in
+    let place = eqb-true a.place b.place fields.1 in
     ap (λ q. spot_at q a.pty a.place) queue ∙ (ap (λ n. spot_at b.jobq n a.place) pty ∙ ap (λ n. spot_at b.jobq b.pty n) place)
 
 abbrev rise_at : ℕ → ℕ → Rise

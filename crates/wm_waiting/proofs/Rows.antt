@@ -6,16 +6,16 @@ use Rattle.std.specs.declared.cmp.Ordering.TheVariants.{Less, Equal, Greater}
 use Rattle.std.specs.Cmp.{IsTotalOrder}
 use Rattle.std.specs.Ordering.{is_lt, is_eq, ordering_reverse}
 use mathlib.Core.Bool.{false≢true}
-use Rattle.std.proofs.lemmas.Bool.{not_from_false}
+use Rattle.std.proofs.lemmas.Bool.{not_from_false, eqb-true}
 use Rattle.std.proofs.lemmas.List.{take-map, drop-map, map-append, length-map, get_or-map}
 use Rattle.std.proofs.lemmas.List.Edits.{length-insert}
 use Rattle.std.proofs.lemmas.List.Sums.{count_by-le-length, sum_by-cons}
+use Rattle.wm_base.proofs.Orderings.{is_eq-Equal}
 use Rattle.wm_desc.specs.Sorted.{IsSortedOnce, with_key, has_key, place_of, added, removed}
 use Rattle.wm_ordered.specs.Ordered.{key_of, value_at, with_value}
 use Rattle.wm_waiting.specs.declared.waiter.Waiter.{Waiter}
 use Rattle.wm_waiting.specs.Waiting.{serial_of, replaced}
 use Rattle.wm_waiting.specs.Keys.{waiters_of, row_of}
-use Rattle.wm_waiting.proofs.Orders.{eqb-same}
 use Rattle.wm_waiting.proofs.Members.{Contains-head, Contains-cons, Contains-nil, Contains-cases, filter-whole, AllPairs-head, AllPairs-tail}
 
 module _ {X Y : Type 0} (f : X → Y) where
@@ -66,7 +66,7 @@ same_again None = refl
 same_again (Some w) = refl
 
 row-replaced : (b : Bool) (w v : Waiter) → nat_eq v.serial w.serial ≡ b → cond b (v.serial, w) (row_of v) ≡ row_of (cond b w v)
-row-replaced true w v e = ap (λ n. (n, w)) (eqb-same v.serial w.serial e)
+row-replaced true w v e = ap (λ n. (n, w)) (eqb-true v.serial w.serial e)
 row-replaced false w v e = refl
 
 replaced-rows : (w : Waiter) (ws : List Waiter) → with_value nat_eq w.serial w (map row_of ws) ≡ map row_of (replaced w ws)
@@ -128,11 +128,6 @@ length-waiters rows = length-map rows (λ r. r.1)
 
 pub length-added : {E K : Type 0} (key : E → K) (cmp : K → K → Ordering) (x : E) (xs : List E) → length (added key cmp x xs) ≡ length xs + 1
 length-added key cmp x xs = length-insert xs (place_of key cmp (key x) xs) x (count_by-le-length (λ y. is_lt (cmp (key y) (key x))) xs)
-
-is_eq-Equal : (r : Ordering) → is_eq r ≡ true → r ≡ Equal
-is_eq-Equal Equal h = refl
-is_eq-Equal Less h = absurd (false≢true h)
-is_eq-Equal Greater h = absurd (false≢true h)
 
 module _ {K : Type 0} (eq : K → K → Bool) (cmp : K → K → Ordering) (o : IsTotalOrder cmp) (ties : (a b : K) → eq a b ≡ is_eq (cmp a b)) where
   -- a key above one that is sought isn't it

@@ -6,7 +6,7 @@ use Rattle.std.specs.declared.cmp.Ordering.{Ordering}
 use Rattle.std.specs.declared.cmp.Ordering.TheVariants.{Less, Equal, Greater}
 use Rattle.std.specs.Ordering.{nat_cmp, is_gt, is_eq, ordering_reverse}
 use mathlib.Core.Bool.{false≢true}
-use Rattle.std.proofs.lemmas.Bool.{cases_Bool, not_from_true}
+use Rattle.std.proofs.lemmas.Bool.{cases_Bool, not_from_true, eqb-true}
 use Rattle.std.proofs.lemmas.Bool.Decides.{nat_tests}
 use Rattle.wm_desc.specs.Sorted.{IsSortedOnce, has_key, removed}
 use Rattle.wm_ordered.specs.Ordered.{key_of, first_above}
@@ -15,7 +15,6 @@ use Rattle.wm_waiting.specs.Index.{IsIndex}
 use Rattle.wm_waiting.specs.Keys.{waiters_of}
 use Rattle.wm_waiting.specs.Waiting.{serial_of, has_place, HavePlaces}
 use Rattle.wm_waiting.proofs.Members.{Contains-nil, Contains-cons, Contains-head, Contains-cases, first-there, filter-less, list_any-none, AllPairs-head, AllPairs-tail}
-use Rattle.wm_waiting.proofs.Orders.{eqb-same}
 
 -- no row is the index of nobody
 pub index-nobody : {K V : Type 0} (key : Waiter → K) (told : Waiter → V) (test : Waiter → Bool) (rows : List (K × V)) → rows ≡ [] → IsIndex key told test [] rows
@@ -114,7 +113,7 @@ module _ (ws : List Waiter) (k : ℕ) (w : Waiter) (sorted : IsSortedOnce serial
   pub place-new : HavePlaces ws → has_place w.place (take k ws) ≡ false
   place-new places =
       list_any-none (λ v. v.place == w.place) (take k ws) (λ v there. elim (cases_Bool (v.place == w.place)) [
-        | inl e ↦ (let same : v ≡ w = places v w (in-first ws k v there) (at-there ws k w at) (eqb-same v.place w.place e) in
+        | inl e ↦ (let same : v ≡ w = places v w (in-first ws k v there) (at-there ws k w at) (eqb-true v.place w.place e) in
             absurd (false≢true (sym (less_differs v.serial w.serial (lesser-before ws k w v sorted at there)) ∙ eq-eqb v.serial w.serial (ap (λ (u : Waiter). u.serial) same))))
         | inr e ↦ e
       ])

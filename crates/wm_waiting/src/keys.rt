@@ -8,7 +8,7 @@ use std::cmp::Ordering;
 use wm_base::{Moment, Priority, QName, Serial};
 
 /// Where a job stands: by queue, then priority, then place.
-#[derive(Clone, Copy, Debug, PartialEq, Eq)]
+#[derive(Clone, Copy, PartialEq, Eq)]
 pub(crate) struct Spot {
     pub(crate) jobq: QName,
     pub(crate) pty: Priority,
@@ -45,7 +45,7 @@ impl Ord for Spot {
 }
 
 /// When a job becomes due: by moment, then serial.
-#[derive(Clone, Copy, Debug, PartialEq, Eq, PartialOrd, Ord)]
+#[derive(Clone, Copy, PartialEq, Eq, PartialOrd, Ord)]
 pub(crate) struct Rise {
     pub(crate) due: Moment,
     pub(crate) serial: Serial,

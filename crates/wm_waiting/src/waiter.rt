@@ -2,7 +2,7 @@
 use wm_base::{Moment, Priority, QName, Serial};
 
 /// A job that waits. It may start from its moment `due` on, where it isn't held.
-#[derive(Clone, Copy, Debug, PartialEq, Eq)]
+#[derive(Clone, Copy)]
 pub struct Waiter {
     pub serial: Serial,
     pub place: u64,

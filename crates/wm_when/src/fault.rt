@@ -2,7 +2,7 @@
 use thiserror::Error;
 
 /// Why the words of a schedule name no moment from which on a job may start.
-#[derive(Clone, Copy, Debug, PartialEq, Eq, Error)]
+#[derive(Clone, Copy, Debug, Error)]
 pub enum DueFault {
     #[error("the moment is past")]
     Past,

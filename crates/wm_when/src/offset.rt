@@ -2,7 +2,7 @@
 use std::marker::Model;
 
 /// How many minutes local time is ahead of UTC, -1439 to 1439. This is the project's own profile: an offset is fixed.
-#[derive(Clone, Copy, Debug, PartialEq, Eq)]
+#[derive(Clone, Copy)]
 pub struct Offset {
     minutes: i32,
 }

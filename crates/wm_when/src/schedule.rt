@@ -2,7 +2,7 @@
 use crate::is_date;
 
 /// On which day a job may start.
-#[derive(Clone, Copy, Debug, PartialEq, Eq)]
+#[derive(Clone, Copy, Debug)]
 pub enum DateSpec {
     /// The day of the command.
     Current,
@@ -17,7 +17,7 @@ pub enum DateSpec {
 }
 
 /// At which time of the day a job may start.
-#[derive(Clone, Copy, Debug, PartialEq, Eq)]
+#[derive(Clone, Copy, Debug)]
 pub enum TimeSpec {
     /// The time of the command.
     Current,
@@ -26,7 +26,7 @@ pub enum TimeSpec {
 }
 
 /// When a job may start.
-#[derive(Clone, Copy, Debug, PartialEq, Eq)]
+#[derive(Clone, Copy)]
 pub struct SchedSpec {
     pub date: DateSpec,
     pub time: TimeSpec,

@@ -11,7 +11,7 @@ use Rattle.wm_base.specs.JobName.{job_name_text}
 use Rattle.wm_base.specs.QName.{qname_text}
 use Rattle.wm_base.specs.declared.job.JobName.{JobName}
 use Rattle.wm_base.specs.declared.qname.QName.{QName}
-use Rattle.wm_base.proofs.Names.{length-name}
+use Rattle.wm_base.proofs.Names.{length-name, qname_text-parts}
 use Rattle.wm_when.specs.Schedule.{within, is_date}
 use Rattle.wm_when.specs.declared.schedule.DateSpec.TheVariants as date
 use Rattle.wm_when.specs.declared.schedule.TimeSpec.TheVariants as time
@@ -29,12 +29,8 @@ name_is name h = ap (λ c. cond c (Some name) None) h
 pub name_short : (n : List ℕ) → IsName n → length n ≤ 200
 name_short n h = omega (arith, length-name n h)
 
--- qualified names
-text_is : (q : QName) → qname_text q ≡ q.lib ++ 47 ∷ q.name
-text_is q = append_assoc q.lib (47 ∷ []) q.name
-
 pub plain_qname : (q : QName) → IsName q.lib × IsName q.name → Plain (qname_text q)
-plain_qname q h = subst Plain (sym (text_is q)) (plain_join q.lib q.name (plain_name q.lib h.0) (plain_name q.name h.1))
+plain_qname q h = subst Plain (sym (qname_text-parts q)) (plain_join q.lib q.name (plain_name q.lib h.0) (plain_name q.name h.1))
 
 -- numbers
 number_small : (low high n : ℕ) → high < 1000000000 → within low high n ≡ true → n < 1000000000
@@ -89,7 +85,7 @@ job_read (Simple name) h =
 job_read (ByUser user name) h =
     let u = name_unslashed user h.0 in
     let n = name_unslashed name h.1 in
-    ap (λ t. job_with (before_slash t) (behind_slash t)) (text_is (record { lib = user; name = name }))
+    ap (λ t. job_with (before_slash t) (behind_slash t)) (qname_text-parts (record { lib = user; name = name }))
     ∙ ap_two job_with (before_first user name u) (behind_first user name u)
     ∙ ap_two (job_behind user) (before_none name n) (behind_none name n)
     ∙ ap_two by_user_of (name_is user h.0) (name_is name h.1)

@@ -9,9 +9,11 @@ use Rattle.std.proofs.lemmas.List.{length-append, append-nil}
 use Rattle.std.proofs.lemmas.List.Folds.{list_all-append}
 use Rattle.std.proofs.lemmas.List.Sums.{take_while-cons}
 use Rattle.wm_base.specs.Name.{continues_name, IsName}
+use Rattle.wm_base.proofs.Names.{continues-name}
 use Rattle.wm_clwords.specs.Grammar.{is_word_byte, begins_comment, is_word, upper_byte, upper}
 use Rattle.wm_clwords.proofs.GrammarLemmas.{word_from}
 use Rattle.wm_words.specs.Words.{is_digit, is_no_slash, before_slash, behind_slash}
+use Rattle.wm_clwords.proofs.NameWords.{no_comment}
 
 -- a byte of a name or a slash
 abbrev pub is_ref : ℕ → Bool
@@ -62,10 +64,6 @@ upper_all (b ∷ bytes) h =
 pub plain_upper : (bytes : List ℕ) → Plain bytes → upper bytes ≡ bytes
 plain_upper bytes p = upper_all bytes p.all
 
-no_comment : (b : ℕ) (bytes : List ℕ) → eqb b 47 ≡ false → begins_comment (b ∷ bytes) ≡ false
-no_comment b [] e = refl
-no_comment b (next ∷ bytes) e = ap (λ c. c && eqb next 42) e
-
 pub plain_word : (bytes : List ℕ) → Plain bytes → is_word bytes ≡ true
 plain_word [] p = absurd (false≢true p.begins)
 plain_word (b ∷ bytes) p = word_from (b ∷ bytes) refl (all_also is_ref is_word_byte ref_word (b ∷ bytes) p.all) (no_comment b bytes (name_no_slash b p.begins))
@@ -74,10 +72,6 @@ plain_word (b ∷ bytes) p = word_from (b ∷ bytes) refl (all_also is_ref is_wo
 pub plain_no_star : (bytes word : List ℕ) → Plain bytes → pointwise nat_eq bytes (42 ∷ word) ≡ false
 plain_no_star [] word p = absurd (false≢true p.begins)
 plain_no_star (b ∷ bytes) word p = ap (λ c. c && pointwise nat_eq bytes word) (name_no_star b p.begins)
-
--- names, digits, and one of these behind a slash
-continues : (name : List ℕ) → IsName name → list_all continues_name name ≡ true
-continues name h = (and_parts _ (list_all continues_name name) (and_parts _ _ h).0).1
 
 begins_with_all : (bytes : List ℕ) → 0 < length bytes → list_all continues_name bytes ≡ true → begins_plain bytes ≡ true
 begins_with_all [] some h = absurd (omega arith)
@@ -91,7 +85,7 @@ name_some [] h = absurd (false≢true h)
 name_some (b ∷ name) h = omega arith
 
 pub plain_name : (name : List ℕ) → IsName name → Plain name
-plain_name name h = plain_all name (name_some name h) (continues name h)
+plain_name name h = plain_all name (name_some name h) (continues-name name h)
 
 pub plain_digits : (bytes : List ℕ) → 0 < length bytes → list_all is_digit bytes ≡ true → Plain bytes
 plain_digits bytes some h = plain_all bytes some (all_also is_digit continues_name digit_name bytes h)
@@ -109,7 +103,7 @@ plain_join a b p q =
 
 -- where there is no slash
 pub name_unslashed : (name : List ℕ) → IsName name → list_all is_no_slash name ≡ true
-name_unslashed name h = all_also continues_name is_no_slash name_other name (continues name h)
+name_unslashed name h = all_also continues_name is_no_slash name_other name (continues-name name h)
 
 pub digits_unslashed : (bytes : List ℕ) → list_all is_digit bytes ≡ true → list_all is_no_slash bytes ≡ true
 digits_unslashed bytes h = all_also continues_name is_no_slash name_other bytes (all_also is_digit continues_name digit_name bytes h)

@@ -1,7 +1,7 @@
 use Rattle.std.proofs.Common.{◌≡◌, ◌<◌, ◌-◌, length, sym, ◌∙◌, subst, arith}
 use Rattle.std.specs.Ordering.{nat_cmp}
 use Rattle.std.specs.declared.cmp.Ordering.TheVariants.{Less}
-use Rattle.wm_ordered.proofs.Found.{is_lt-Less}
+use Rattle.wm_base.proofs.Orderings.{is_lt-Less}
 use Rattle.wm_slots.specs.declared.slot.Slot.{Slot}
 use Rattle.wm_slots.proofs.Counted.{at_end}
 use Rattle.wm_slots.proofs.finding.is_above_all.Goals as goal

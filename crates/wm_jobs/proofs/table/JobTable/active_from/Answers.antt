@@ -1,14 +1,14 @@
 use Rattle.std.proofs.Common.{◌≡◌, ◌∙◌, ◌==◌, ◌<◌, ap, sym, subst, ℕ, None, Some, find, option_map, arith}
 use Rattle.std.specs.Ordering.{nat_cmp}
+use Rattle.std.proofs.lemmas.Bool.{eqb-true}
 use Rattle.wm_law.specs.declared.job.Job.{Job}
 use Rattle.wm_law.specs.Laws.{IsIn}
-use Rattle.wm_law.proofs.Members.{found_among}
-use Rattle.wm_law.proofs.Tests.{same_number}
+use Rattle.wm_law.proofs.Members.{found_among, All-in}
 use Rattle.wm_ordered.specs.Ordered.{key_of, first_from}
 use Rattle.wm_jobs.specs.Table.{Table, serial_of}
 use Rattle.wm_jobs.specs.TableInside.{IsListed}
 use Rattle.wm_jobs.proofs.Actives.{is_from, from-serial}
-use Rattle.wm_jobs.proofs.One.{none-found, of-all, serial-found}
+use Rattle.wm_jobs.proofs.One.{none-found, serial-found}
 use Rattle.wm_jobs.proofs.table.JobTable.active_from.Goals as goal
 
 pub returns-in_err-serial-clause-found : goal.returns-in_err-serial-clause-found
@@ -28,7 +28,7 @@ returns-clause-by_serial c j e =
     let jobs = c.args.self.now.jobs in
     let serial = c.in_ok-serial.serial in
     let found : find (λ (k : Job). k.serial == serial) jobs ≡ Some j = sym c.job.ensures.found ∙ e in
-    let same : j.serial ≡ serial = same_number j.serial serial (found_among (λ (k : Job). k.serial == serial) jobs j found).1 in
+    let same : j.serial ≡ serial = eqb-true j.serial serial (found_among (λ (k : Job). k.serial == serial) jobs j found).1 in
     subst (λ (n : ℕ). find (λ (k : Job). k.serial == n) jobs ≡ Some j) (sym same) found
 
 pub returns-clause-fits : goal.returns-clause-fits
@@ -36,7 +36,7 @@ returns-clause-fits c j e =
     let t = c.self.inside in
     let found = found_among (λ (k : Job). k.serial == c.in_ok-serial.serial) c.args.self.now.jobs j (sym c.job.ensures.found ∙ e) in
     let there : IsIn j t.jobs.items = subst (λ (v : Table). IsIn j v.jobs) (sym c.self.view_is) found.0 in
-    let below : j.serial < t.next_serial = (of-all (IsListed t.next_serial t.next_place) t.jobs.items j c.self.invariant.kept.listed.each there).serial in
+    let below : j.serial < t.next_serial = (All-in (IsListed t.next_serial t.next_place) t.jobs.items j c.self.invariant.kept.listed.each there).serial in
     let next : c.next_serial.result ≡ t.next_serial = c.next_serial.ensures ∙ sym (ap (λ (v : Table). v.next_serial) c.self.view_is) in
     let range = c.next_serial.type_inv in
     omega (arith, below, next, range)

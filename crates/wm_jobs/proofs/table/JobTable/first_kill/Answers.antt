@@ -1,9 +1,9 @@
 use Rattle.std.proofs.Common.{◌≡◌, ◌∙◌, ◌==◌, ap, sym, subst, ℕ, None, Some, find, option_map}
+use Rattle.std.proofs.lemmas.Bool.{eqb-true}
 use Rattle.wm_active.specs.Active as active
 use Rattle.wm_law.specs.declared.job.Job.{Job}
 use Rattle.wm_law.specs.Reports.{is_to_kill}
 use Rattle.wm_law.proofs.Members.{found_among}
-use Rattle.wm_law.proofs.Tests.{same_number}
 use Rattle.wm_jobs.specs.Table.{serial_of}
 use Rattle.wm_jobs.proofs.Asked.{first-asked}
 use Rattle.wm_jobs.proofs.One.{none-found, serial-found}
@@ -26,5 +26,5 @@ returns-clause-by_serial c j e =
     let jobs = c.args.self.now.jobs in
     let serial = c.in_ok-serial.serial in
     let found : find (λ (k : Job). k.serial == serial) jobs ≡ Some j = sym c.job.ensures.found ∙ e in
-    let same : j.serial ≡ serial = same_number j.serial serial (found_among (λ (k : Job). k.serial == serial) jobs j found).1 in
+    let same : j.serial ≡ serial = eqb-true j.serial serial (found_among (λ (k : Job). k.serial == serial) jobs j found).1 in
     subst (λ (n : ℕ). find (λ (k : Job). k.serial == n) jobs ≡ Some j) (sym same) found

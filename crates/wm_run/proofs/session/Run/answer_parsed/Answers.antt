@@ -1,4 +1,5 @@
 use Rattle.std.proofs.Common.{◌≡◌, ◌∙◌, List, ℕ, inr, refl, subst, sym, take}
+use Rattle.wm_base.proofs.Lists.{on_err}
 use Rattle.wm_traits.specs.Told.{Grows}
 use Rattle.wm_run.specs.Answer.{fault_answer, is_fault}
 use Rattle.wm_run.specs.Grown.{entries_between}
@@ -7,7 +8,6 @@ use Rattle.wm_run.specs.Stopped.{IsCutShort}
 use Rattle.wm_run.specs.declared.parsed.Parsed.{Parsed}
 use Rattle.wm_run.specs.declared.parsed.Parsed.TheVariants.{Fault}
 use Rattle.wm_run.proofs.Growing.{entries-none}
-use Rattle.wm_run.proofs.StoppedRuns.{on_err}
 use Rattle.wm_monitor.proofs.Monitors.{Proceeds-none}
 use Rattle.wm_run.proofs.session.Run.answer_parsed.Goals as goal
 

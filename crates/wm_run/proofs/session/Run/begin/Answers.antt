@@ -1,7 +1,8 @@
+use Rattle.wm_base.proofs.Lists.{on_err}
 use Rattle.wm_run.proofs.Servings.{Serves-call, Serves-monitor, one_call}
 use Rattle.std.proofs.Common.{None, subst, inl, inr}
 use Rattle.wm_run.proofs.IdleCalls.{idle_call}
-use Rattle.wm_run.proofs.StoppedRuns.{Untouched-same, on_err}
+use Rattle.wm_run.proofs.StoppedRuns.{Untouched-same}
 use Rattle.wm_law.specs.declared.call.Call.{Call}
 use Rattle.wm_run.specs.Calls.{Called}
 use Rattle.wm_run.specs.Session.{start_call}

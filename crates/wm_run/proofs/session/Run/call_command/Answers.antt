@@ -1,7 +1,8 @@
 use Rattle.std.proofs.Common.{inl, inr, subst}
+use Rattle.wm_base.proofs.Lists.{on_err}
 use Rattle.wm_run.proofs.Commands.{commanded, commanded_down, commanded_some}
 use Rattle.wm_run.proofs.Servings.{Serves-call, Serves-monitor, Serves-same}
-use Rattle.wm_run.proofs.StoppedRuns.{Untouched-none, Untouched-same, WritesSome-all, on_err}
+use Rattle.wm_run.proofs.StoppedRuns.{Untouched-none, Untouched-same, WritesSome-all}
 use Rattle.wm_run.proofs.IdleCalls.{idle_call}
 use Rattle.wm_law.specs.declared.call.Call.{Call}
 use Rattle.wm_law.specs.declared.call.Call.TheVariants.{Change}

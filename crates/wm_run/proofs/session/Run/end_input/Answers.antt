@@ -1,10 +1,11 @@
 use Rattle.std.proofs.Common.{subst}
+use Rattle.wm_base.proofs.Lists.{on_err}
 use Rattle.wm_law.specs.declared.call.Call.{Call}
 use Rattle.wm_monitor.proofs.Monitors.{Proceeds-then}
 use Rattle.wm_run.specs.Calls.{Called}
 use Rattle.wm_run.proofs.Growing.{continues}
 use Rattle.wm_run.proofs.Servings.{Serves-call, Serves-monitor, Serves-same, ends_input}
-use Rattle.wm_run.proofs.StoppedRuns.{no_call, no_call_same, on_err}
+use Rattle.wm_run.proofs.StoppedRuns.{no_call, no_call_same}
 use Rattle.wm_run.proofs.session.Run.end_input.Goals as goal
 
 pub returns-in_err-wait_for-clause-serves : goal.returns-in_err-wait_for-clause-serves

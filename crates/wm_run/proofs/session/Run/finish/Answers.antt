@@ -1,8 +1,8 @@
 use Rattle.std.proofs.Common.{inl, inr}
+use Rattle.wm_base.proofs.Lists.{on_err}
 use Rattle.wm_monitor.proofs.Monitors.{Proceeds-then}
 use Rattle.wm_run.proofs.Growing.{continues}
 use Rattle.wm_run.proofs.Servings.{Serves-monitor, closes_then}
-use Rattle.wm_run.proofs.StoppedRuns.{on_err}
 use Rattle.wm_run.proofs.session.Run.finish.Goals as goal
 
 pub returns-in_err-wait_for-clause-serves : goal.returns-in_err-wait_for-clause-serves

@@ -2,6 +2,7 @@ use Rattle.std.proofs.Common.{◌+◌, ◌≡◌, ℕ, Bool, false, List, [], �
 use Rattle.std.proofs.lemmas.Bool.{true≢false}
 use Rattle.std.proofs.lemmas.List.{drop-drop, drop_all, length-drop}
 use Rattle.std.proofs.lemmas.Result.{err_from_is_err_and}
+use Rattle.wm_base.proofs.Lists.{on_err}
 use Rattle.wm_clwords.specs.Part.{lines_from}
 use Rattle.wm_run.specs.Down.{is_down}
 use Rattle.wm_run.specs.Grown.{entries_between}
@@ -11,7 +12,7 @@ use Rattle.wm_run.proofs.Downs.{down_between, up_none}
 use Rattle.wm_run.proofs.Growing.{continues}
 use Rattle.wm_run.proofs.Causes.{HasCauses-pass}
 use Rattle.wm_run.proofs.Inputs.{taken_none, taken_then}
-use Rattle.wm_run.proofs.StoppedRuns.{on_err, stops_piece}
+use Rattle.wm_run.proofs.StoppedRuns.{stops_piece}
 use Rattle.wm_run.proofs.Writes.{rest_of}
 use Rattle.wm_monitor.proofs.Monitors.{Proceeds-none, Proceeds-then}
 use Rattle.wm_monitor.proofs.Journals.{HasJournalCauses-none, HasJournalCauses-more}
