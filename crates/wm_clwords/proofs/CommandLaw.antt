@@ -11,10 +11,10 @@ use Rattle.wm_clwords.specs.Grammar.{Token, Blank, Comment, Word, Quoted, Key, O
 use Rattle.wm_clwords.specs.Reading.{State, Went, step, run, begun}
 use Rattle.wm_clwords.specs.Faults.{Begins, StopsAt, IsLoneSlash, IsTooDeep, IsStrayParen, IsBadByte, IsNoName, StandsIn, Stands, IsCommand}
 use Rattle.wm_clwords.specs.Verdict.{Command, named_by, named_of, verdict}
-use Rattle.wm_clwords.proofs.Completeness.{run-Spells}
+use Rattle.wm_clwords.proofs.Completeness.{Marks, run-Spells}
 use Rattle.wm_clwords.proofs.Soundness.{Spells-run}
 use Rattle.wm_clwords.proofs.Explained.{ExplainedBy}
-use Rattle.wm_clwords.proofs.Runs.{Marks, steps, steps_on, steps-push, run-stopped, steps-explained, begins_from, steps_from}
+use Rattle.wm_clwords.proofs.Runs.{steps, steps_on, steps-push, run-stopped, steps-explained, begins_from, steps_from}
 use Rattle.wm_clwords.proofs.FaultLaw.{Class, classify, lone_run, deep_run, quoted_run, list_run, comment_fault, fault_stands}
 use Rattle.wm_clwords.proofs.VerdictLemmas.{verdict-long, verdict-short}
 

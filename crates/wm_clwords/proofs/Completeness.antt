@@ -14,10 +14,13 @@ use Rattle.wm_clwords.specs.Quote.{doubled, doubled_byte, quoted}
 use Rattle.wm_clwords.specs.Grammar.{Token, Blank, Comment, Word, Quoted, Key, Open, Close, spelling, is_word_byte, begins_comment, is_word, is_comment_byte, is_unended, is_token, Next, Anything, ByWord, ByQuoted, MayStand, upper_byte, upper, Mark, mark_at, marks_from, Spells}
 use Rattle.wm_clwords.specs.Reading.{State, mark, Went, goes, opened, closed, at_word, in_comment, step_by, all_closed, finish_by, with_front, with_rest, run, begun}
 use Rattle.wm_clwords.proofs.GrammarLemmas.{upper-push, word_parts, word_push, word_one}
-use Rattle.wm_clwords.proofs.Runs.{front_nil}
 
 abbrev pub Marks : Type 0
 Marks = Result (List Mark) ClFault
+
+pub front_nil : (r : Marks) → with_front [] r ≡ r
+front_nil (Ok m) = refl
+front_nil (Err f) = refl
 
 -- a step that goes on
 went : (s : State) (marks : List Mark) (place : ℕ) (bytes : List ℕ) (ms : List Mark) → run s place bytes ≡ Ok ms → with_rest (Ok (s, marks)) (λ next. run next place bytes) ≡ Ok (marks ++ ms)

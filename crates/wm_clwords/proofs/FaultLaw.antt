@@ -15,10 +15,10 @@ use Rattle.wm_clwords.specs.Grammar.{Comment, Quoted, Key, Open, spelling, is_wo
 use Rattle.wm_clwords.specs.Reading.{State, mark, Went, opened, closed, at_word, in_comment, step, step_by, all_closed, finish, finish_by, with_front, with_rest, run, begun}
 use Rattle.wm_clwords.specs.Faults.{Behind, Begins, StopsAt, IsNoStar, IsLoneSlash, IsTooDeep, EndsInQuoted, EndsInComment, EndsInList, StandsIn}
 use Rattle.wm_clwords.proofs.GrammarLemmas.{unended_front}
-use Rattle.wm_clwords.proofs.Completeness.{Marks, at_mode, word_state, choose, word_all, quote_run, word_then, word_finish_by, is_slash, in_by, unended_tail, after_star}
+use Rattle.wm_clwords.proofs.Completeness.{front_nil, Marks, at_mode, word_state, choose, word_all, quote_run, word_then, word_finish_by, is_slash, in_by, unended_tail, after_star}
 use Rattle.wm_clwords.proofs.Soundness.{Spells-run}
 use Rattle.wm_clwords.proofs.Explained.{Explained, ExplainedBy, IsWordAt, behind_more, behind_at, behind_length, word_end, quote_end}
-use Rattle.wm_clwords.proofs.Runs.{front_nil, ok_no_fault, went_no_fault, same_fault, steps-explained, can_end, fault_split, stops_at}
+use Rattle.wm_clwords.proofs.Runs.{ok_no_fault, went_no_fault, same_fault, steps-explained, can_end, fault_split, stops_at}
 use Rattle.wm_clwords.proofs.LeadRuns.{Pending, run_behind}
 
 -- a run's fault is that of its rest

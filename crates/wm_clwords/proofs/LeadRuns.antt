@@ -9,8 +9,8 @@ use Rattle.wm_clwords.specs.Quote.{doubled, quoted}
 use Rattle.wm_clwords.specs.Grammar.{Token, Blank, Comment, Word, Quoted, Key, Open, Close, spelling, is_word, Next, Anything, ByWord, ByQuoted, upper, Mark}
 use Rattle.wm_clwords.specs.Reading.{State, mark, opened, closed, at_word, with_front, with_rest, run, begun}
 use Rattle.wm_clwords.specs.Faults.{Leads, Behind}
-use Rattle.wm_clwords.proofs.Completeness.{at_mode, word_state, choose, blank_byte, word_all, quote_run, comment_all, word_then}
-use Rattle.wm_clwords.proofs.Runs.{front_front, front_nil}
+use Rattle.wm_clwords.proofs.Completeness.{front_nil, at_mode, word_state, choose, blank_byte, word_all, quote_run, comment_all, word_then}
+use Rattle.wm_clwords.proofs.Runs.{front_front}
 
 -- the state where an item or a gap may begin, or behind a word or a text that may end here
 abbrev pub Pending : Next → List ℕ → State → Type 0

@@ -8,20 +8,13 @@ use Rattle.wm_clwords.specs.declared.fault.ClFault.{ClFault}
 use Rattle.wm_clwords.specs.Grammar.{Word, Quoted, Close, Mark}
 use Rattle.wm_clwords.specs.Reading.{State, mark, Went, step, finish, with_front, with_rest, run, begun}
 use Rattle.wm_clwords.specs.Faults.{Begins, StopsAt}
-use Rattle.wm_clwords.proofs.Completeness.{run-Spells}
+use Rattle.wm_clwords.proofs.Completeness.{Marks, front_nil, run-Spells}
 use Rattle.wm_clwords.proofs.Soundness.{Spells-run}
 use Rattle.wm_clwords.proofs.Explained.{ExplainedBy, explained_by}
-
-abbrev pub Marks : Type 0
-Marks = Result (List Mark) ClFault
 
 pub front_front : (a b : List Mark) (r : Marks) → with_front a (with_front b r) ≡ with_front (a ++ b) r
 front_front a b (Ok m) = ap Ok (sym (append_assoc a b m))
 front_front a b (Err f) = refl
-
-pub front_nil : (r : Marks) → with_front [] r ≡ r
-front_nil (Ok m) = refl
-front_nil (Err f) = refl
 
 pub ok_no_fault : (ms : List Mark) (f : ClFault) → ◌≡◌ {A = Marks} (Ok ms) (Err f) → ⊥
 ok_no_fault ms f e = cc
