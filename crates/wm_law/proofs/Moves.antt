@@ -1,4 +1,5 @@
--- What a call can come to, and what a step can do to a state. Here alone the calls are gone over, one by one.
+-- What a call can come to, and what a step can do to a state. The calls are gone over one by one, so that laws need no case
+-- for each.
 use Rattle.std.proofs.Common.{◌≡◌, ℕ, ◌<◌, ◌≤◌, ◌-◌, ◌+◌, ◌==◌, not, Bool, true, false, cond, List, [], ◌∷◌, length, fold, Option, Some, None, is_some, nat_le, nat_lt, min, refl, inl, inr, arith, filter, sym, ◌⊎◌, ◌∙◌, ap, unwrap_or}
 use Rattle.std.specs.List.{count_by, find}
 use Rattle.std.specs.Prelude.{Result, Ok, Err}

@@ -1,15 +1,18 @@
 //! The machine as definitions: the types of its state, calls and replies, the rules, and the laws that follow from them.
 //!
 //! The contract for the layers above: the definition `step` of `specs/Machine.antt` says what the machine answers and
-//! leaves, and `specs/History.antt` which histories are legal; the laws of `laws.rs` hold for all of them. No program
-//! stands here: `wm_pick` and `wm_core` compute what these definitions say.
+//! leaves, and `specs/History.antt` which histories are legal; the laws of `laws.rt` hold for all of them. Beside the types
+//! there are only a list (`ListOf`) and a box (`Boxed`), which contracts see as what is in them: the crates above compute
+//! what these definitions say.
 //!
-//! The definitions are in `specs/`: `Machine` (a step), and by subject `Making`, `Subsystems`, `Autos`, `Submitting`, `Power`,
-//! `Reports`, `Endings` and `Settling`; `Wishes` (whether an active job is to end, and when); `Choice` and `Launch` (which
-//! job starts, and what becomes of it); `Jobs` (a change to one job); `Counts`; `Opening`; `Pending` (what a monitor asks);
-//! `Fit` (which calls the machine has, and their ranges); `Laws` and `Kept` (the laws); `Limits` (no start passes a limit),
-//! `Order` (jobs are launched in their order), `Objects` (what holds of tables and subsystem descriptions) and `Sound` (what
-//! holds of each state that a history reaches, and over each entry).
+//! The definitions are in `specs/`: `Machine` (a step), whose parts stand by subject in `Making`, `Subsystems`, `Autos`,
+//! `Submitting`, `Schedules`, `Holding`, `Changing`, `Queues`, `Endings`, `Power`, `Reports` and `Settling`; `Named` (which job
+//! a command names); `Wishes` (whether an active job is to end, and when); `Choice` and `Launch` (which job starts, and what
+//! becomes of it); `Jobs` (a change to one job); `Counts`; `Opening`; `Pending` (what a monitor asks); `Stepped` (what a call
+//! comes to); `Fit` (which calls the machine has, and their ranges) and `Built` (which commands users have). What follows
+//! from them: `Laws` and `Kept`; `Limits` (no start passes a limit), `Order` (jobs are launched in their order), `Objects`
+//! (what holds of tables and subsystem descriptions) and `Sound` (what holds of each state that a history reaches, and over
+//! each entry).
 #![tactic(auto)]
 
 mod boxed;
