@@ -16,9 +16,9 @@ use Rattle.wm_law.specs.Named.{job_named}
 use Rattle.wm_law.specs.Settling.{come_due, job_at, sbss_at}
 use Rattle.wm_law.specs.Stepped.{Stepped}
 use Rattle.wm_law.specs.Wishes.{with_wish}
-use Rattle.wm_ending.specs.declared.endings.Ending.{Ending}
-use Rattle.wm_ending.specs.OneJob.{ending_of, with_ending}
-use Rattle.wm_ending.proofs.OneJobs.{ends_one_job}
+use Rattle.wm_subsystems.specs.declared.job_ending.Ending.{Ending}
+use Rattle.wm_subsystems.specs.OneJob.{ending_of, with_ending}
+use Rattle.wm_subsystems.proofs.OneJobs.{ends_one_job}
 use Rattle.wm_core.specs.Clocked.{IsStill}
 
 -- what ENDJOB makes of the job that is named, it makes of the state

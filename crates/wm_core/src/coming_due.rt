@@ -1,9 +1,10 @@
 // What is due to end by the clock ends.
 use crate::Machine;
 use wm_base::{Moment, NoMemory};
-use wm_ending::has_come;
 use wm_law::Call;
-use wm_subsystems::{Telling, is_ending_call, look_at_all, reserve_for_active, soonest, tell_all};
+use wm_subsystems::{
+    Telling, has_come, is_ending_call, look_at_all, reserve_for_active, soonest, tell_all,
+};
 
 impl Machine {
     ghost use Rattle.std.specs.Prelude.{◌≡◌, false, OnOk, OnErr};

@@ -2,8 +2,8 @@
 use crate::Machine;
 use crate::submitting::later;
 use wm_base::{EndCause, Moment, NoMemory};
-use wm_ending::{Ending, end_job};
 use wm_law::{Endjob, Reply};
+use wm_subsystems::{Ending, end_job};
 
 impl Machine {
     ghost use Rattle.std.specs.Prelude.{◌≡◌, OnOk, OnErr, IfOk};

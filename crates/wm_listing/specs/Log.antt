@@ -8,7 +8,7 @@ use Rattle.wm_law.specs.declared.call.Call.{Call}
 use Rattle.wm_law.specs.declared.call.Call.TheVariants.{Change, Hand, Started, StartFailed, Finished, UseDone, Tick}
 use Rattle.wm_law.specs.declared.call.Entry.{Entry}
 use Rattle.wm_law.specs.declared.call.Reply.{Reply}
-use Rattle.wm_show.specs.Said.{noted_text, said_text}
+use Rattle.wm_listing.specs.Said.{noted_text, said_text}
 use Rattle.wm_listing.specs.Columns.{aligned, newline}
 use Rattle.wm_listing.specs.Listing.{list_end}
 

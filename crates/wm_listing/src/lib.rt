@@ -1,16 +1,25 @@
-//! The bytes of what a reading command shows: a listing of lines with columns.
+//! What is said and shown: the text of a reply to a command and of the fault of a line that is no command, and the bytes of
+//! a listing, lines with columns.
 //!
-//! The contract for the layer above: `listing` gives the bytes `listing_text` of `specs/Listing.antt`, and `log_listing` the
-//! bytes `log_text` of a history (`specs/Log.antt`). The columns are in `specs/Columns.antt`, the words of a status and of a
-//! kind in `specs/Words.antt`.
+//! The contract for the layer above: `said` gives the text `said_text`, `noted` the text `noted_text` of the reply to a
+//! monitor's call, and `fault_line` the text `fault_text`, each without a line's end (`specs/Said.antt`). `listing` gives the
+//! bytes `listing_text` of what a reading command shows (`specs/Listing.antt`), and `log_listing` the bytes `log_text` of a
+//! history (`specs/Log.antt`). The columns are in `specs/Columns.antt`, the words of a status and of a kind in
+//! `specs/Words.antt`.
 #![tactic(auto)]
 
 mod columns;
+mod faults;
 mod heads;
+mod line_fault;
 mod lines;
 mod log;
+mod replies;
 mod whole;
 mod words;
 
+pub use faults::fault_line;
+pub use line_fault::LineFault;
 pub use log::log_listing;
+pub use replies::{noted, said};
 pub use whole::listing;

@@ -7,12 +7,12 @@ ghost use Rattle.wm_command.specs.Print.{command_text};
 ghost use Rattle.wm_listing.specs.Log.{call_text, reply_text, column, entry_fields, entry_line, entry_lines, log_text};
 
 use crate::columns::push_aligned;
+use crate::replies::{noted, said};
 use crate::whole::push_end;
 use std::alloc::Global;
 use wm_base::{Exit, Name, NoMemory, Serial, StartCause};
 use wm_command::print;
 use wm_law::{Call, Command, Entry};
-use wm_show::{noted, said};
 
 // A user, and the canonical text of a command.
 fn command_line(alloc: Global, user: &Name, command: &Command) -> Result<String, NoMemory>

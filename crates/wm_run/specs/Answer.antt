@@ -6,9 +6,9 @@ use Rattle.wm_law.specs.declared.call.Call.TheVariants.{Change}
 use Rattle.wm_law.specs.declared.call.Entry.{Entry}
 use Rattle.wm_law.specs.declared.call.Reply.{Reply}
 use Rattle.wm_law.specs.declared.call.Reply.TheVariants.{Made, SbsStarted, SbsEnding, Submitted, Held, Released, Changed, JobEnding, JobEnded, QueueHeld, QueueReleased, QueueCleared, PowerDown, Order, Nothing, Noted, No}
-use Rattle.wm_show.specs.Said.{said_text, fault_text}
-use Rattle.wm_show.specs.declared.line_fault.LineFault.{LineFault}
-use Rattle.wm_show.specs.declared.line_fault.LineFault.TheVariants.{Cl}
+use Rattle.wm_listing.specs.Said.{said_text, fault_text}
+use Rattle.wm_listing.specs.declared.line_fault.LineFault.{LineFault}
+use Rattle.wm_listing.specs.declared.line_fault.LineFault.TheVariants.{Cl}
 
 -- what is said of a call's reply: nothing where the call is no command
 abbrev pub call_text : Call → Reply → List ℕ

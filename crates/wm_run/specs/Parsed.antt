@@ -10,7 +10,7 @@ use Rattle.wm_command.specs.declared.line.Line.TheVariants as line
 use Rattle.wm_law.specs.Built.{is_built}
 use Rattle.wm_law.specs.declared.command.Command.{Command}
 use Rattle.wm_law.specs.Fit.{IsCommand as IsFit}
-use Rattle.wm_show.specs.declared.line_fault.LineFault.TheVariants.{Cl, Cm}
+use Rattle.wm_listing.specs.declared.line_fault.LineFault.TheVariants.{Cl, Cm}
 use Rattle.wm_run.specs.declared.parsed.Parsed.{Parsed}
 use Rattle.wm_run.specs.declared.parsed.Parsed.TheVariants.{Fault, NotBuilt, Read, Call}
 

@@ -14,12 +14,12 @@ use Rattle.wm_desc.specs.Opening.{qbatch}
 use Rattle.wm_clwords.specs.declared.fault.ClFault.TheVariants.{TooLong}
 use Rattle.wm_traits.specs.Told.{Grows}
 use Rattle.wm_run.specs.Parsed.{Parses, session_user}
-use Rattle.wm_show.specs.Said.{said_text}
+use Rattle.wm_listing.specs.Said.{said_text}
 use Rattle.wm_run.specs.Down.{is_down}
 use Rattle.wm_run.specs.Grown.{grown}
 use Rattle.wm_run.specs.Answer.{fault_answer, is_fault, with_end, not_built, is_refused}
 use Rattle.wm_run.specs.Reads.{read_text, is_read_refused}
-use Rattle.wm_show.specs.declared.line_fault.LineFault.TheVariants.{Cl}
+use Rattle.wm_listing.specs.declared.line_fault.LineFault.TheVariants.{Cl}
 use Rattle.wm_run.specs.declared.parsed.Parsed.{Parsed}
 use Rattle.wm_run.specs.declared.parsed.Parsed.TheVariants.{Fault, NotBuilt, Read, Call}
 

@@ -6,7 +6,7 @@ use std::alloc::Global;
 use wm_base::NoMemory;
 use wm_clwords::ClFault;
 use wm_law::{Call, Entry, Reply};
-use wm_show::{LineFault, fault_line, said};
+use wm_listing::{LineFault, fault_line, said};
 
 /// What answers a line that isn't built.
 pub const NOT_BUILT: &[u8] = b"CM 9 NOTBUILT\n";

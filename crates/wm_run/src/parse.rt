@@ -10,7 +10,7 @@ use wm_base::{Name, NoMemory};
 use wm_clwords::{ClFault, Tree, read_command};
 use wm_command::{CmdFault, Line, command};
 use wm_core::built;
-use wm_show::LineFault;
+use wm_listing::LineFault;
 
 // What a line of the command table comes to.
 fn parsed_of(line: Line) -> Parsed

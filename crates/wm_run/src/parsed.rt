@@ -1,6 +1,6 @@
 // What a logical line comes to.
 use wm_law::{Ask, Command};
-use wm_show::LineFault;
+use wm_listing::LineFault;
 
 /// What a logical line comes to.
 #[derive(Debug, Drop)]

@@ -16,8 +16,8 @@ use std::sync::Wait;
 use wm_clwords::ClFault;
 use wm_journal::Journal;
 use wm_law::{Call, Command, built_commands_are_had};
+use wm_listing::LineFault;
 use wm_monitor::{MONITOR, Monitor, Turned, enter};
-use wm_show::LineFault;
 use wm_traits::{Clock, Keeper, Sink, Spawner};
 
 /// The journal of a run, its passes, and the monitor.

@@ -1,18 +1,22 @@
--- By the tally of the active jobs' hows the same subsystems leave.
-use Rattle.std.proofs.Common.{◌≡◌, ◌∙◌, ◌&&◌, Bool, not, List, [], ◌∷◌, filter, refl, ap}
+-- By the tally of the active jobs' hows the same subsystems are gone, and leave.
+use Rattle.std.proofs.Common.{◌≡◌, ◌∙◌, ◌&&◌, ◌==◌, Bool, not, List, [], ◌∷◌, filter, refl, ap}
 use Rattle.std.specs.List.{list_any}
 use Rattle.wm_base.specs.declared.qname.QName.{QName}
 use Rattle.wm_desc.specs.Table.{same_qname}
+use Rattle.wm_law.specs.declared.job.Job.{Job}
 use Rattle.wm_law.specs.declared.state.Evoke.{Evoke}
 use Rattle.wm_law.specs.declared.state.Sbs.{Sbs}
 use Rattle.wm_law.specs.declared.state.State.{State}
 use Rattle.wm_law.specs.declared.state.Stop.{Stop}
-use Rattle.wm_law.specs.Settling.{is_gone, is_gone_by_name, leave}
+use Rattle.wm_law.specs.Settling.{is_ending, is_gone, is_gone_by_name, leave}
 use Rattle.wm_tally.specs.Tally.{Counts, IsTally}
 use Rattle.wm_tally.specs.Tallied.{hows}
-use Rattle.wm_ending.proofs.ByCount.{gone-alike}
-use Rattle.wm_ending.specs.Gone.{is_gone_by}
-use Rattle.wm_subsystems.specs.Leaving.{is_any_gone}
+use Rattle.wm_tally.proofs.TalliedJobs.{tally_has_counts}
+use Rattle.wm_subsystems.specs.Gone.{is_any_gone, is_gone_by}
+
+-- the same subsystem is gone
+pub gone-alike : (jobs : List Job) (tally : Counts) → IsTally (hows jobs) tally → (b : Sbs) → is_gone_by tally b ≡ is_gone jobs b
+gone-alike jobs tally are b = ap (λ n. is_ending b.phase && n == 0) ((tally_has_counts jobs tally are).in_sbs b.sbsd)
 
 filter_alike : {X : Type 0} (p q : X → Bool) → ((x : X) → p x ≡ q x) → (xs : List X) → filter p xs ≡ filter q xs
 filter_alike p q h [] = refl

@@ -1,4 +1,5 @@
 pub mod GoneAlike
+pub mod OneJobs
 pub mod Tellings
 pub mod Walks
 pub mod Wished

@@ -1,3 +1,4 @@
-pub mod Leaving
+pub mod Gone
+pub mod OneJob
 pub mod Telling
 pub mod Walks

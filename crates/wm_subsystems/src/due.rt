@@ -3,8 +3,8 @@ ghost use Rattle.std.specs.Prelude.{◌≡◌, map};
 ghost use Rattle.wm_law.specs.Built.{is_ending_call, tells_to_end};
 ghost use Rattle.wm_law.specs.Settling.{sbs_at, sbs_phase_at};
 
+use crate::deadlines::has_come;
 use wm_base::Moment;
-use wm_ending::has_come;
 use wm_law::{Call, Command, Sbs, SbsList, SbsPhase};
 
 fn tells_to_end(command: &Command) -> bool

@@ -4,9 +4,9 @@ ghost use Rattle.wm_law.specs.Endings.{end_phase, is_any, phased};
 ghost use Rattle.wm_subsystems.specs.Telling.{passes};
 
 use crate::meant::Those;
+use crate::one_job::moment_after;
 use crate::told::passes;
 use wm_base::{Moment, QName};
-use wm_ending::moment_after;
 use wm_law::{EndOption, Evoke, Evokes, Sbs, SbsList, SbsPhase};
 
 /// The phase of a subsystem that an option ends.

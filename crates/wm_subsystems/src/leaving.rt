@@ -1,10 +1,9 @@
 // Ending subsystems with no active job leave.
 ghost use Rattle.std.specs.Prelude.{◌≡◌, not, filter};
-ghost use Rattle.wm_ending.specs.Gone.{is_gone_by};
-ghost use Rattle.wm_subsystems.specs.Leaving.{is_any_gone};
+ghost use Rattle.wm_subsystems.specs.Gone.{is_any_gone, is_gone_by};
 
+use crate::gone_sbs::gone;
 use wm_base::QName;
-use wm_ending::gone;
 use wm_law::{Evoke, Evokes, Sbs, SbsList, Stop, Stops};
 use wm_tally::Tally;
 

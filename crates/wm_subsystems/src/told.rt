@@ -5,11 +5,13 @@ ghost use Rattle.wm_law.specs.Settling.{is_sbs_now};
 ghost use Rattle.wm_law.specs.Wishes.{is_in_any, is_to_end};
 ghost use Rattle.wm_subsystems.specs.Telling.{passes, option_wish, newly_now, clock_wish, clock_cause, told_of};
 
+use crate::deadlines::{deadline, is_prestart};
+use crate::gone_sbs::is_ending;
 use crate::meant::{Telling, Those, Told};
+use crate::one_job::{has_wish, is_now};
 use crate::phases::{is_active, is_in_sbs, is_starting};
 use crate::wishes::now_cause;
 use wm_base::{EndCause, How, Moment};
-use wm_ending::{deadline, has_wish, is_ending, is_now, is_prestart};
 use wm_law::{EndOption, Job, Sbs, SbsList, SbsPhase, Why, Wish};
 
 fn is_sbs_now(phase: &SbsPhase) -> bool

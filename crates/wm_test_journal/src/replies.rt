@@ -4,8 +4,8 @@ use std::alloc::Global;
 use wm_base::Asked;
 use wm_journal::{CallFault, Journal};
 use wm_law::{Call, Entry, Reply};
+use wm_listing::said;
 use wm_outside::MemKeeper;
-use wm_show::said;
 use wm_stored::OpenFault;
 
 /// The answer to a call whose rows the keeper didn't keep.

@@ -1,7 +1,7 @@
 use Rattle.std.proofs.Common.{not, rules}
 use Rattle.std.proofs.lemmas.Fn.{filter_same}
 use Rattle.wm_law.specs.declared.state.Evoke.{Evoke}
-use Rattle.wm_subsystems.specs.Leaving.{is_any_gone}
+use Rattle.wm_subsystems.specs.Gone.{is_any_gone}
 use Rattle.wm_subsystems.proofs.leaving.drop_each_evoke.Goals as goal
 
 pub returns : goal.returns

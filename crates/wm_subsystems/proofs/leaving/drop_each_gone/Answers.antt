@@ -1,6 +1,6 @@
 use Rattle.std.proofs.Common.{not, rules}
 use Rattle.std.proofs.lemmas.Fn.{filter_same}
-use Rattle.wm_ending.specs.Gone.{is_gone_by}
+use Rattle.wm_subsystems.specs.Gone.{is_gone_by}
 use Rattle.wm_subsystems.proofs.leaving.drop_each_gone.Goals as goal
 
 pub returns : goal.returns

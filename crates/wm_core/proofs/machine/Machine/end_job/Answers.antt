@@ -5,9 +5,9 @@ use Rattle.wm_law.specs.Jobs.{active_at}
 use Rattle.wm_law.specs.Machine.{with_clock}
 use Rattle.wm_law.specs.Named.{job_named}
 use Rattle.wm_law.specs.Wishes.{with_wish}
-use Rattle.wm_ending.specs.declared.endings.Ending.{Ending}
-use Rattle.wm_ending.specs.declared.endings.Ending.TheVariants.{Wished}
-use Rattle.wm_ending.specs.OneJob.{ending_of, with_ending}
+use Rattle.wm_subsystems.specs.declared.job_ending.Ending.{Ending}
+use Rattle.wm_subsystems.specs.declared.job_ending.Ending.TheVariants.{Wished}
+use Rattle.wm_subsystems.specs.OneJob.{ending_of, with_ending}
 use Rattle.wm_core.specs.MachineInside.{state_of}
 use Rattle.wm_core.proofs.Endings.{job_ends, still_by, wish_given}
 use Rattle.wm_core.proofs.machine.Machine.end_job.Goals as goal

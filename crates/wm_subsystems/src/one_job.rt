@@ -2,9 +2,9 @@
 ghost use Rattle.std.specs.Prelude.{◌≡◌};
 ghost use Rattle.wm_law.specs.Endings.{is_wished, job_wish};
 ghost use Rattle.wm_law.specs.Wishes.{has_wish, is_now, moment_after};
-ghost use Rattle.wm_ending.specs.OneJob.{active_ending, ending_of};
+ghost use Rattle.wm_subsystems.specs.OneJob.{active_ending, ending_of};
 
-use crate::Ending;
+use crate::job_ending::Ending;
 use wm_base::{Moment, PhaseWord, Refusal};
 use wm_law::{EndOption, Endjob, Job, Phase, Why, Wish};
 

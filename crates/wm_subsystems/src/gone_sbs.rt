@@ -4,7 +4,7 @@ ghost use Rattle.wm_law.specs.declared.job.Job.{Job};
 ghost use Rattle.wm_law.specs.Settling.{is_ending, is_gone};
 ghost use Rattle.wm_tally.specs.Tally.{IsTally};
 ghost use Rattle.wm_tally.specs.Tallied.{hows};
-ghost use Rattle.wm_ending.specs.Gone.{is_gone_by};
+ghost use Rattle.wm_subsystems.specs.Gone.{is_gone_by};
 
 use wm_law::{Sbs, SbsPhase};
 use wm_tally::{Counted, Tally};

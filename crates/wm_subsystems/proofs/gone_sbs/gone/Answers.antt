@@ -1,8 +1,8 @@
 use Rattle.std.proofs.Common.{◌∙◌, ◌&&◌, ap, nat_eq}
 use Rattle.wm_tally.specs.declared.counted.Counted.TheVariants.{Sbs}
 use Rattle.wm_tally.specs.Tally.{count_of}
-use Rattle.wm_ending.proofs.ByCount.{gone-alike}
-use Rattle.wm_ending.proofs.leaving.gone.Goals as goal
+use Rattle.wm_subsystems.proofs.GoneAlike.{gone-alike}
+use Rattle.wm_subsystems.proofs.gone_sbs.gone.Goals as goal
 
 -- where it is ending, its count decides
 pub returns-then-is_ending-clause-gone : goal.returns-then-is_ending-clause-gone

@@ -15,8 +15,8 @@ use Rattle.wm_law.specs.Jobs.{with_active, with_waiting}
 use Rattle.wm_law.specs.Reports.{in_phase}
 use Rattle.wm_law.specs.Stepped.{Stepped, refused}
 use Rattle.wm_law.specs.Wishes.{with_wish}
-use Rattle.wm_ending.specs.declared.endings.Ending.{Ending}
-use Rattle.wm_ending.specs.declared.endings.Ending.TheVariants.{OnQueue, Wished}
+use Rattle.wm_subsystems.specs.declared.job_ending.Ending.{Ending}
+use Rattle.wm_subsystems.specs.declared.job_ending.Ending.TheVariants.{OnQueue, Wished}
 
 -- an active job is to end by the wish of the option, unless it has one that the option would give
 abbrev pub active_ending : ℕ → Endjob → Job → Result Ending Refusal

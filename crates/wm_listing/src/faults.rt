@@ -1,8 +1,8 @@
 // The texts of faults.
 ghost use Rattle.std.specs.Prelude.{◌≡◌, IfOk, string_bytes};
-ghost use Rattle.wm_show.specs.Said.{cl_text, cm_text, fault_text};
+ghost use Rattle.wm_listing.specs.Said.{cl_text, cm_text, fault_text};
 
-use crate::LineFault;
+use crate::line_fault::LineFault;
 use std::alloc::Global;
 use wm_base::NoMemory;
 use wm_clwords::ClFault;

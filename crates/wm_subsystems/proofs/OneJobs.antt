@@ -12,8 +12,8 @@ use Rattle.wm_law.specs.Endings.{end_active, end_in_phase, is_wished, job_wish}
 use Rattle.wm_law.specs.Jobs.{with_active}
 use Rattle.wm_law.specs.Stepped.{refused}
 use Rattle.wm_law.specs.Wishes.{with_wish}
-use Rattle.wm_ending.specs.declared.endings.Ending.TheVariants.{Wished}
-use Rattle.wm_ending.specs.OneJob.{active_ending, ending_in, with_ending, EndsOneJob}
+use Rattle.wm_subsystems.specs.declared.job_ending.Ending.TheVariants.{Wished}
+use Rattle.wm_subsystems.specs.OneJob.{active_ending, ending_in, with_ending, EndsOneJob}
 
 -- an active job is refused, or gets its wish
 by_wish : (s : State) (j : Job) (w : Wish) (b : Bool) → cond b (refused s AlreadyEnding) (record { reply = JobEnding j.job; state = with_active s j.serial (with_wish w) }) ≡ with_ending s j (cond b (Err AlreadyEnding) (Ok (Wished w)))

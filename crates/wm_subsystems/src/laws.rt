@@ -1,5 +1,5 @@
-// Laws of the endings. They are no calls.
-ghost use Rattle.wm_ending.specs.OneJob.{EndsOneJob};
+// The law of ENDJOB. It is no call.
+ghost use Rattle.wm_subsystems.specs.OneJob.{EndsOneJob};
 
 /// ENDJOB on a job of a state answers by what it makes of that job, and makes that of it alone.
 #[tactic(auto, using(crate::proofs::OneJobs::ends_one_job))]

@@ -4,7 +4,7 @@ ghost use Rattle.std.specs.Option.{option_copied};
 ghost use Rattle.wm_base.specs.JobName.{job_name_text};
 ghost use Rattle.wm_base.specs.QName.{qname_text};
 ghost use Rattle.std.specs.Fmt.{decimal};
-ghost use Rattle.wm_show.specs.Said.{behind_blank, made_name, made_text, order_text, queue_text, noted_text, said_text};
+ghost use Rattle.wm_listing.specs.Said.{behind_blank, made_name, made_text, order_text, queue_text, noted_text, said_text};
 
 use std::alloc::Global;
 use wm_base::{Asked, JobName, NoMemory, QName};

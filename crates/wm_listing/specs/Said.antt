@@ -20,8 +20,8 @@ use Rattle.wm_law.specs.declared.command.Command.{Command}
 use Rattle.wm_law.specs.declared.command.Command.TheVariants as command
 use Rattle.wm_law.specs.declared.call.Reply.{Reply}
 use Rattle.wm_law.specs.declared.call.Reply.TheVariants.{Made, SbsStarted, SbsEnding, Submitted, Held, Released, Changed, JobEnding, JobEnded, QueueHeld, QueueReleased, QueueCleared, PowerDown, Order, Nothing, Noted, No}
-use Rattle.wm_show.specs.declared.line_fault.LineFault.{LineFault}
-use Rattle.wm_show.specs.declared.line_fault.LineFault.TheVariants.{Cl, Cm}
+use Rattle.wm_listing.specs.declared.line_fault.LineFault.{LineFault}
+use Rattle.wm_listing.specs.declared.line_fault.LineFault.TheVariants.{Cl, Cm}
 
 -- what is ordered, with the job's serial
 abbrev pub order_text : Asked → List ℕ

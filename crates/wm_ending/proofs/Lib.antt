@@ -1,2 +1,0 @@
-pub mod ByCount
-pub mod OneJobs
