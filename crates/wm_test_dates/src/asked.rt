@@ -1,4 +1,4 @@
-// The words of a schedule as a case writes them.
+// The words of a schedule as due.txt writes them.
 use anyhow::{Result, bail};
 use wm_when::{DateSpec, TimeSpec};
 

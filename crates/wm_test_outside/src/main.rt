@@ -1,8 +1,10 @@
 //! The cases of the outside: what its forms in memory and its adapters of the real things answer, call by call.
 //!
-//! The cases are texts, `data/memory.txt` and `data/system.txt`, which `wm_cases` plays. `memory` has the words that
-//! make a form in memory, `system` those that make an adapter; the calls of a source, a sink and a spawner are asked in
-//! the same words of both (`streams`, `spawners`); those of a store and its keeper are in `keepers`. The children of `system.txt` are real programs.
+//! The cases are the texts of `data/`, which `wm_cases` plays. `memory` has the words that make a form in memory, `system`
+//! those that make an adapter; the calls of a source, a sink and a spawner are asked in the same words of both (`streams`,
+//! `spawners`). Those of a store and its keepers are in `keepers` for the form in memory and in `sql_keepers` for SQLite, in
+//! memory (`sql_memory.txt`) and in files (`sql_files.txt`), with what another program does to a file in `others`; `rows`
+//! reads the rows and changes of both. The children of `system.txt` are real programs.
 #![tactic(auto)]
 
 mod answers;
@@ -10,20 +12,32 @@ mod flaky;
 mod keepers;
 mod memory;
 mod orders;
+mod others;
+mod rows;
 mod spawners;
+mod sql_keepers;
 mod streams;
 mod system;
 mod words;
 
 use anyhow::Result;
 use memory::MemoryCases;
+use sql_keepers::SqlCases;
 use system::SystemCases;
 use wm_cases::play;
 use wm_children::SysSpawner;
 
+// The cases of SQLite, in memory and in files.
+fn play_sql(rt: &HostRuntime) -> Result<()> {
+    let mut cases = SqlCases::new(rt);
+    play(rt, "sql_memory.txt", &mut cases)?;
+    play(rt, "sql_files.txt", &mut cases)
+}
+
 fn main(rt: HostRuntime) -> Result<()> {
     let alloc = rt.alloc();
     play(&rt, "memory.txt", &mut MemoryCases::new(alloc, &rt))?;
+    play_sql(&rt)?;
     let mut spawner = SysSpawner::new(alloc, rt)?;
     play(
         &rt,

@@ -1,5 +1,5 @@
-//! The cases of texts: names, numbers and refusals, dates, logical lines, trees, CALLs, commands, their keys, and the
-//! command table.
+//! The cases of texts: names, numbers and refusals, logical lines, trees, CALLs, commands, their keys, and the command
+//! table.
 //!
 //! Each file of `data/` has the cases of one of these, and one module answers what the file asks. The module says at its
 //! head which questions there are. An answer that isn't the wanted one is printed with both.
@@ -10,14 +10,12 @@ mod base;
 mod calls;
 mod causes;
 mod commands;
-mod dates;
 mod faults;
 mod keys;
 mod lines;
 mod names;
 mod numbers;
 mod properties;
-mod schedules;
 mod table;
 mod trees;
 
@@ -26,7 +24,6 @@ use wm_cases::play;
 
 fn main(rt: HostRuntime) -> Result<()> {
     play(&rt, "base.txt", &mut base::BaseCases::new(rt.alloc()))?;
-    play(&rt, "dates.txt", &mut dates::DateCases)?;
     play(&rt, "lines.txt", &mut lines::LineCases::new(rt.alloc())?)?;
     play(&rt, "trees.txt", &mut trees::TreeCases::new(rt.alloc()))?;
     play(&rt, "calls.txt", &mut calls::CallCases::new(rt.alloc()))?;

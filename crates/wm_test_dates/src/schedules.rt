@@ -1,4 +1,4 @@
-// The words of a schedule.
+// The words of a schedule as dates.txt writes them.
 use anyhow::{Result, anyhow};
 use wm_when::{DateSpec, SchedSpec, TimeSpec};
 

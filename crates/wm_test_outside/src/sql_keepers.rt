@@ -1,44 +1,21 @@
-// A store, and the calls of its keepers.
+// A store in SQLite, and the calls of its keepers.
 use super::others;
-use super::words::{changes, first_word};
+use super::rows::{answer_fault, answer_number, answer_rows, apply};
+use super::words::{first_word, unknown};
 use anyhow::{Result, anyhow};
-use std::alloc::Global;
-use std::fmt::Write;
 use std::fs;
 use std::rt::HostRuntime;
 use wm_cases::Subject;
 use wm_sqlkeep::{SqlKeeper, SqlStore};
-use wm_traits::{KeepFault, Keeper, Store};
+use wm_traits::{Keeper, Store};
 
-fn answer_fault(fault: KeepFault, answer: &mut String) -> Result<()> {
-    answer.push_str(match fault {
-        KeepFault::Failed => "FAILED\n",
-        KeepFault::NoMemory => "NO MEMORY\n",
-    })?;
-    Ok(())
-}
-
-// Applies `put 1 A = x | del 1 A`, or nothing.
-fn apply<K: Keeper>(alloc: Global, keeper: &mut K, words: &str, answer: &mut String) -> Result<()> {
-    match keeper.apply(&changes(alloc, words)?) {
-        Ok(()) => answer.push_str("APPLIED\n")?,
-        Err(fault) => answer_fault(fault, answer)?,
-    }
-    Ok(())
-}
-
-// Answers the rows, a line each.
-fn load<K: Keeper>(keeper: &mut K, answer: &mut String) -> Result<()> {
+// Answers the rows, a line each, or that there are none.
+fn load(keeper: &mut SqlKeeper, answer: &mut String) -> Result<()> {
     match keeper.load() {
-        Ok(rows) if rows.is_empty() => answer.push_str("NO ROWS\n")?,
-        Ok(rows) => {
-            for row in &rows {
-                writeln!(answer, "{} {} = {}", row.tab, row.key, row.body)?;
-            }
-        }
-        Err(fault) => answer_fault(fault, answer)?,
+        Ok(rows) if rows.is_empty() => Ok(answer.push_str("NO ROWS\n")?),
+        Ok(rows) => answer_rows(&rows, answer),
+        Err(fault) => answer_fault(fault, answer),
     }
-    Ok(())
 }
 
 /// The files that a case may use. A case begins without them.
@@ -46,15 +23,15 @@ const FILES: [&str; 2] = ["rows.db", "rows.db-wal"];
 
 /// A store, and its keeper while one is out.
 #[derive(Drop)]
-pub struct KeeperCases<'a> {
+pub struct SqlCases<'a> {
     rt: &'a HostRuntime,
     store: SqlStore,
     keeper: Option<SqlKeeper>,
 }
 
-impl<'a> KeeperCases<'a> {
-    pub fn new(rt: &'a HostRuntime) -> KeeperCases<'a> {
-        KeeperCases {
+impl<'a> SqlCases<'a> {
+    pub fn new(rt: &'a HostRuntime) -> SqlCases<'a> {
+        SqlCases {
             rt,
             store: SqlStore::new(rt),
             keeper: None,
@@ -85,16 +62,13 @@ impl<'a> KeeperCases<'a> {
         match word {
             "apply" => apply(self.rt.alloc(), keeper, rest, answer),
             "load" => load(keeper, answer),
-            "keeper_faults" => {
-                writeln!(answer, "{}", keeper.faults())?;
-                Ok(())
-            }
-            _ => Err(anyhow!("no such question: {word}")),
+            "keeper_faults" => answer_number(keeper.faults(), answer),
+            _ => unknown(word),
         }
     }
 }
 
-impl Subject for KeeperCases<'_> {
+impl Subject for SqlCases<'_> {
     fn begin(&mut self) -> Result<()> {
         self.keeper = None;
         self.store = SqlStore::new(self.rt);
@@ -110,10 +84,7 @@ impl Subject for KeeperCases<'_> {
         match word {
             "open" => self.open(rest, answer),
             "close" => self.close(),
-            "store_faults" => {
-                writeln!(answer, "{}", self.store.faults())?;
-                Ok(())
-            }
+            "store_faults" => answer_number(self.store.faults(), answer),
             "run" => others::run(self.rt, rest),
             "show" => others::show(self.rt, rest, answer),
             _ => self.ask_keeper(word, rest, answer),

@@ -4,8 +4,8 @@
 // > calendar YEAR YEAR ..    how many of the days of a grid of these years are dates both here and in `jiff`, or in
 //                            neither, and each day that is a date in one of them alone
 // > schedule DATE, TIME      whether the words of a schedule are in range
-use crate::{asked, schedules};
-use anyhow::Result;
+use crate::schedules;
+use anyhow::{Context, Result, bail};
 use jiff::civil::Date;
 use wm_cases::Subject;
 use wm_when::is_date;
@@ -20,12 +20,12 @@ impl Subject for DateCases {
     }
 
     fn answer(&mut self, question: &str, answer: &mut String) -> Result<()> {
-        let (asked, text) = asked::parts(question);
+        let (asked, text) = question.split_once(' ').context("no question")?;
         match asked {
             "date" => tell_date(text, answer),
             "calendar" => compare_years(text, answer),
             "schedule" => schedules::range(text, answer),
-            _ => asked::unknown(asked),
+            _ => bail!("no question: {asked}"),
         }
     }
 }
