@@ -9,7 +9,7 @@ use wm_base::{Args, NoMemory, QName, Text};
 
 /// What a job's program is to read: a text, with the program that it calls where it is a CALL. A contract sees the
 /// text.
-#[derive(Debug, Drop)]
+#[derive(Drop)]
 pub struct Request {
     text: Text,
     pgm: Option<QName>,

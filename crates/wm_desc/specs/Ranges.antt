@@ -20,6 +20,7 @@ abbrev pub limit_within : ℕ → ℕ → Limit → Bool
 limit_within low high NoMax = true
 limit_within low high (Most n) = within low high n
 
+-- a run priority of 1 to 99, a time slice of 1 to 9999999 milliseconds, a default wait of 1 to 9999999 seconds or *NOMAX
 abbrev pub class_in_range : Class → Bool
 class_in_range cls = within 1 99 cls.runpty && within 1 9999999 cls.timeslice && limit_within 1 9999999 cls.dftwait
 
@@ -32,12 +33,15 @@ abbrev pub request_in_range : Option (List ℕ) → Bool
 request_in_range None = true
 request_in_range (Some request) = nat_le (length request) 1000
 
+-- routing data of 1 to 80 characters, and such a request
 abbrev pub jobd_in_range : Jobd → Bool
 jobd_in_range jobd = within 1 80 (length jobd.rtgdta) && request_in_range jobd.rqsdta
 
+-- 0 to 1000 or *NOMAX
 abbrev pub maxjobs_in_range : Limit → Bool
 maxjobs_in_range maxjobs = limit_within 0 1000 maxjobs
 
+-- a sequence number of 1 to 9999, MAXACT of 0 to 1000 or *NOMAX, and each MAXPTY of 0 to 99 or *NOMAX
 abbrev pub queue_in_range : QueueEntry → Bool
 queue_in_range entry = within 1 9999 entry.seq && limit_within 0 1000 entry.maxact && list_all (limit_within 0 99) entry.maxpty
 
@@ -46,9 +50,11 @@ abbrev pub cmp_in_range : Cmp → Bool
 cmp_in_range Any = true
 cmp_in_range (Val value start) = within 1 80 (length value) && within 1 80 start && nat_le (start + length value) 81
 
+-- a sequence number of 1 to 9999, such a compare value, MAXACT of 0 to 1000 or *NOMAX, and POOLID of 1 to 10
 abbrev pub route_in_range : RouteEntry → Bool
 route_in_range entry = within 1 9999 entry.seq && cmp_in_range entry.cmp && limit_within 0 1000 entry.maxact && within 1 10 entry.poolid
 
+-- the values of a prestart entry, each by itself
 abbrev pub pre_in_range : PreEntry → Bool
 pre_in_range entry =
     within 1 9999 entry.inljobs && within 1 9999 entry.threshold && nat_le entry.adljobs 999

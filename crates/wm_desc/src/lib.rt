@@ -28,6 +28,6 @@ pub use fault::DescFault;
 pub use limits::{MAX_AUTOS, MAX_OBJECTS, MAX_PRES, MAX_QUEUES, MAX_ROUTES};
 pub use objects::Objects;
 pub use opening::{echo, qbatch, qdftjobd};
-pub use ranges::{class_in_range, maxjobs_in_range, path_in_range};
+pub use ranges::path_in_range;
 pub use refuse::is_qcmd;
 pub use sorted::{Keyed, SortedList};

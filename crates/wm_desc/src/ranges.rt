@@ -1,10 +1,10 @@
 // Whether values keep their ranges. These are this project's own, after the CL reference.
 ghost use Rattle.std.specs.Prelude.{◌≡◌};
 ghost use Rattle.std.specs.List.{list_all};
-ghost use Rattle.wm_desc.specs.Ranges.{limit_within, class_in_range, path_in_range, maxjobs_in_range};
+ghost use Rattle.wm_desc.specs.Ranges.{limit_within, path_in_range};
 
 use crate::{Cmp, Jobd, PreEntry, QueueEntry, RouteEntry};
-use wm_base::{Class, Limit, Text};
+use wm_base::{Limit, Text};
 
 fn limit_within(limit: &Limit, low: u32, high: u32) -> bool
     ensures { result ≡ limit_within low high limit.now }
@@ -15,28 +15,11 @@ fn limit_within(limit: &Limit, low: u32, high: u32) -> bool
     }
 }
 
-/// Whether a class has a run priority of 1 to 99, a time slice of 1 to 9999999 milliseconds, and a default wait of
-/// 1 to 9999999 seconds or *NOMAX.
-pub fn class_in_range(cls: &Class) -> bool
-    ensures { result ≡ class_in_range cls.now }
-{
-    (1..=99).contains(&cls.runpty)
-        && (1..=9_999_999).contains(&cls.timeslice)
-        && limit_within(&cls.dftwait, 1, 9_999_999)
-}
-
 /// Whether a program's path has 1 to 255 characters, the first of them a slash.
 pub fn path_in_range(path: &Text) -> bool
     ensures { result ≡ path_in_range path.now }
 {
     (1..=255).contains(&path.len()) && path.as_bytes().starts_with(b"/".as_slice())
-}
-
-/// Whether the MAXJOBS of a subsystem description is 0 to 1000 or *NOMAX.
-pub fn maxjobs_in_range(maxjobs: &Limit) -> bool
-    ensures { result ≡ maxjobs_in_range maxjobs.now }
-{
-    limit_within(maxjobs, 0, 1000)
 }
 
 fn maxpty_in_range(maxpty: &[Limit]) -> bool

@@ -3,7 +3,7 @@ use wm_law::{Ask, Command};
 use wm_listing::LineFault;
 
 /// What a logical line comes to.
-#[derive(Debug, Drop)]
+#[derive(Drop)]
 pub enum Parsed {
     Fault(LineFault),
     /// A changing command that isn't built yet.

@@ -4,7 +4,7 @@ use wm_law::{JobKind, ListOf};
 
 /// What a job is said to be at: held, scheduled or released where it waits, to end now, starting, a prestart job without
 /// a request, active, or ended.
-#[derive(Clone, Copy, Debug)]
+#[derive(Clone, Copy)]
 pub enum Status {
     Hld,
     Scd,
