@@ -6,7 +6,6 @@ pub mod FromStore
 pub mod InLine
 pub mod Kills
 pub mod NoneDue
-pub mod Opened
 pub mod OrderCounts
 pub mod Reported
 pub mod Undone

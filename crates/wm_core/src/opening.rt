@@ -61,7 +61,7 @@ impl Machine {
     }
 
     /// The state of no rows: the objects of the opening commands, and no job. An `Err` is want of memory.
-    #[tactic(auto, unfolding(wm_law::specs::Opening::opening), using(crate::proofs::Opened::commands_fit))]
+    #[tactic(auto, unfolding(wm_law::specs::Opening::opening), using(wm_law::proofs::Opened::commands_fit))]
     pub fn opening(alloc: Global, setup: &Setup) -> Result<Machine, NoMemory>
         ensures state { IfOk result (λ machine. machine.state ≡ opening setup.now.offset) }
         ensures undoable { IfOk result (λ machine. machine.marks.mark.undoable ≡ false) }
