@@ -3,12 +3,12 @@ use Rattle.std.proofs.Common.{◌≡◌, ℕ, ◌+◌, Bool, true, false, ◌==�
 use Rattle.std.specs.List.{find, count_by, cons_option}
 use Rattle.std.proofs.lemmas.List.Sums.{sum_by-cons}
 use Rattle.wm_law.specs.Pending.{ahead, soonest}
-use Rattle.wm_moments.specs.Next as moments
 use Rattle.wm_ordered.specs.Ordered.{key_of}
-use Rattle.wm_waiting.specs.Waiting.{sooner}
+use Rattle.wm_ordered.specs.Least.{sooner}
 use Rattle.wm_active.specs.declared.acting.Acting.{Acting}
 use Rattle.wm_active.specs.Active.{is_monitor, has_kill, first_kill, kills, next_above}
 use Rattle.wm_active.specs.ActiveInside.{parts, until_of, kill_of}
+use Rattle.wm_active.specs.Moments.{least_above}
 
 abbrev row_at : ℕ → Option ℕ → Option (ℕ × ℕ)
 row_at n o = option_map (λ w. (n, w)) o
@@ -33,7 +33,7 @@ next-by : (clock : ℕ) (least : Option ℕ) (jobs : List (ℕ × Acting)) → f
 next-by clock least [] = refl
 next-by clock least (x ∷ xs) = step clock x.0 least x.1.until (parts until_of xs) ∙ next-by clock (pass_job clock least x) xs
 
-pub next-is : (clock : ℕ) (jobs : List (ℕ × Acting)) → moments.next_above clock (parts until_of jobs) ≡ next_above clock jobs
+pub next-is : (clock : ℕ) (jobs : List (ℕ × Acting)) → least_above clock (parts until_of jobs) ≡ next_above clock jobs
 next-is clock jobs = next-by clock None jobs
 
 module _ (m : ℕ) where

@@ -1,15 +1,15 @@
 -- The parts of rows in the order of their serials, and what the change of one row makes of them.
-use Rattle.std.proofs.Common.{◌≡◌, ℕ, suc, ◌≤◌, Bool, true, false, not, ◌||◌, cond, List, [], ◌∷◌, ◌++◌, length, Option, Some, None, option_map, refl, ap, sym, ◌∙◌, arith, nat_eq, All}
+use Rattle.std.proofs.Common.{◌≡◌, ℕ, suc, ◌≤◌, Bool, true, false, not, cond, List, [], ◌∷◌, ◌++◌, length, Option, Some, None, option_map, refl, ap, sym, ◌∙◌, arith, nat_eq}
 use Rattle.std.specs.List.{cons_option}
 use Rattle.std.specs.Ordering.{nat_cmp, is_lt}
 use Rattle.std.proofs.lemmas.Bool.{or_parts, or_from}
-use mathlib.Core.Bool.{false≢true}
 use Rattle.std.proofs.lemmas.Cmp.{nat_cmp_total}
-use Rattle.std.proofs.lemmas.List.Elements.{All-nil, All-cons, All-head, All-tail, filter_map-append}
+use Rattle.std.proofs.lemmas.List.Elements.{filter_map-append}
 use Rattle.wm_desc.specs.Sorted.{IsSortedOnce, has_key, added, removed}
 use Rattle.wm_ordered.specs.Ordered.{key_of}
 use Rattle.wm_ordered.specs.Tree.{IsCut}
 use Rattle.wm_ordered.proofs.Cuts.{cuts, added-cut}
+use Rattle.wm_ordered.proofs.Parted.{keyed, sorted-parted}
 use Rattle.wm_active.specs.ActiveInside.{joined, part_of, parts}
 
 one-more : {E : Type 0} (o : Option E) (es : List E) (n : ℕ) → length es ≤ n → length (cons_option o es) ≤ suc n
@@ -36,6 +36,10 @@ module _ {V W : Type 0} (part : V → Option W) where
   parts-lack s (x ∷ xs) none =
       let both = or_parts (nat_eq x.0 s) (has_key key_of nat_eq s xs) none in lack-by s x.0 (part x.1) (parts part xs) both.0 (parts-lack s xs both.1)
 
+  -- the parts are in order where the rows are
+  pub parts-sorted : (items : List (ℕ × V)) → IsSortedOnce key_of nat_cmp items → IsSortedOnce key_of nat_cmp (parts part items)
+  parts-sorted items sorted = sorted-parted key_of (λ x. part x.1) nat_cmp items sorted
+
   module _ (s : ℕ) where
     abbrev less : {X : Type 0} → List (ℕ × X) → List (ℕ × X)
     less rows = removed key_of nat_eq s rows
@@ -52,22 +56,12 @@ module _ {V W : Type 0} (part : V → Option W) where
     parts-removed [] = refl
     parts-removed (x ∷ xs) = less-by (nat_eq x.0 s) x (part x.1) (parts part xs) (removed key_of nat_eq s xs) refl refl (parts-removed xs)
 
-  keys-cons : (P : ℕ → Type 0) (n : ℕ) (o : Option W) (rows : List (ℕ × W)) → P n → All (λ r. P r.0) rows → All (λ r. P r.0) (cons_option (row_at n o) rows)
-  keys-cons P n None rows here rest = rest
-  keys-cons P n (Some w) rows here rest = All-cons (λ (r : ℕ × W). P r.0) (n, w) rows here rest
-
-  -- what holds of all serials holds of those with the part
-  keys : (P : ℕ → Type 0) (items : List (ℕ × V)) → All (λ x. P x.0) items → All (λ r. P r.0) (parts part items)
-  keys P [] all = All-nil (λ (r : ℕ × W). P r.0)
-  keys P (x ∷ xs) all =
-      keys-cons P x.0 (part x.1) (parts part xs) (All-head (λ (y : ℕ × V). P y.0) x xs all) (keys P xs (All-tail (λ (y : ℕ × V). P y.0) x xs all))
-
   module _ (s : ℕ) (v : V) (items low high : List (ℕ × V)) (cut : IsCut nat_cmp s items low high) where
     parts-cut : IsCut nat_cmp s (parts part items) (parts part low) (parts part high)
     parts-cut = record {
       whole = ap (λ l. parts part l) cut.whole ∙ filter_map-append (part_of part) low high;
-      below = keys (λ n. is_lt (nat_cmp n s) ≡ true) low cut.below;
-      rest = keys (λ n. is_lt (nat_cmp n s) ≡ false) high cut.rest;
+      below = keyed key_of (λ x. part x.1) (λ n. is_lt (nat_cmp n s) ≡ true) low cut.below;
+      rest = keyed key_of (λ x. part x.1) (λ n. is_lt (nat_cmp n s) ≡ false) high cut.rest;
     }
 
     with-it : (o : Option W) → part v ≡ o → parts part (added key_of nat_cmp (s, v) items) ≡ parts part low ++ cons_option (row_at s o) (parts part high)

@@ -4,21 +4,20 @@ use Rattle.std.specs.List.{find}
 use Rattle.std.specs.Ordering.{nat_cmp}
 use Rattle.std.specs.declared.cmp.Ordering.TheVariants.{Less, Greater}
 use Rattle.std.specs.Cmp.{unsigned_ties}
-use Rattle.std.proofs.lemmas.Bool.{eqb-true, not-true}
+use Rattle.std.proofs.lemmas.Bool.{eqb-true}
 use Rattle.std.proofs.lemmas.Cmp.{nat_cmp_total}
 use Rattle.std.proofs.lemmas.Bool.Decides.{nat_tests}
-use Rattle.std.proofs.lemmas.List.{length-map}
-use Rattle.std.proofs.lemmas.List.Elements.{All-nil, All-cons}
+use Rattle.std.proofs.lemmas.List.Elements.{All-nil, All-cons, filter_map-append}
+use Rattle.wm_base.proofs.Lists.{length-filter_few}
 use Rattle.wm_base.proofs.Tests.{None-from_is_some}
-use Rattle.wm_desc.specs.Sorted.{IsSortedOnce, has_key, added, removed}
+use Rattle.wm_desc.specs.Sorted.{IsSortedOnce, added, removed}
 use Rattle.wm_ordered.specs.Ordered.{key_of, value_at, with_value}
-use Rattle.wm_ordered.proofs.Sides.{all_pairs_filter}
-use Rattle.wm_ordered.proofs.Tested.{list_any-part}
-use Rattle.wm_slots.proofs.Around.{Around, set-here, removed-here, added-here}
-use Rattle.wm_waiting.proofs.Members.{AllPairs-head, AllPairs-tail, Contains-from_filter, find-Some, list_any-none}
-use Rattle.wm_waiting.proofs.Rows.{length-removed, with_value-lacks}
-use Rattle.wm_active.specs.ActiveInside.{joined, parts}
-use Rattle.wm_active.proofs.Parts.{parts-added, parts-few, parts-removed}
+use Rattle.wm_ordered.proofs.Around.{Around, value-here, value-one, set-here, removed-here, added-here}
+use Rattle.wm_ordered.proofs.Keyed.{has-value, length-removed, sorted-removed}
+use Rattle.wm_ordered.proofs.Members.{AllPairs-head, AllPairs-tail, find-Some}
+use Rattle.wm_ordered.proofs.Parted.{keyed}
+use Rattle.wm_active.specs.ActiveInside.{joined, part_of, parts}
+use Rattle.wm_active.proofs.Parts.{parts-added, parts-few, parts-lack, parts-removed}
 
 behind : (n s m : ℕ) → m ≡ s → nat_cmp m n ≡ Less → nat_cmp n s ≡ Greater
 behind n s m same h = grind (arith, nat_tests)
@@ -74,60 +73,55 @@ module _ {V : Type 0} where
     row-of [] r sorted is = absurd (cc is)
     row-of (x ∷ xs) r sorted is = row-by (is_it x) x xs r refl sorted is (row-of xs r (AllPairs-tail before x xs sorted))
 
-    some-row : (o : Option (ℕ × V)) → is_some (option_map (λ p. p.1) o) ≡ true → (r : ℕ × V) × (o ≡ Some r)
-    some-row None h = absurd (cc h)
-    some-row (Some r) h = (r, refl)
+    some-row : (o : Option (ℕ × V)) (v : V) → option_map (λ p. p.1) o ≡ Some v → (r : ℕ × V) × (o ≡ Some r)
+    some-row None v h = absurd (cc h)
+    some-row (Some r) v h = (r, refl)
 
-    pub set-again : (v : V) (items : List (ℕ × V)) → IsSortedOnce key_of nat_cmp items → is_some (value_at nat_eq s items) ≡ true → with_value nat_eq s v items ≡ added key_of nat_cmp (s, v) (removed key_of nat_eq s items)
-    set-again v items sorted there =
-        let found = some-row (find is_it items) there in
-        let h = row-of items found.0 sorted found.1 in
-        let changed = ap (with_value nat_eq s v) h.whole ∙ set-here s h.left h.right h.around h.value v in
-        let gone = ap (removed key_of nat_eq s) h.whole ∙ removed-here s h.left h.right h.around h.value in
-        changed ∙ sym (ap (λ l. added key_of nat_cmp (s, v) l) gone ∙ added-here s h.left h.right h.around v)
+    module _ (items : List (ℕ × V)) (sorted : IsSortedOnce key_of nat_cmp items) (was : V) (is : value_at nat_eq s items ≡ Some was) where
+      row : HasRow s items
+      row = let found = some-row (find is_it items) was is in row-of items found.0 sorted found.1
 
-    -- the rows left are sorted
-    pub sorted-left : (items : List (ℕ × V)) → IsSortedOnce key_of nat_cmp items → IsSortedOnce key_of nat_cmp (removed key_of nat_eq s items)
-    sorted-left items sorted = all_pairs_filter before (λ e. not (is_it e)) items sorted
+      own : row.value ≡ was
+      own = let there : ◌≡◌ {A = Option V} (Some row.value) (Some was) = sym (value-here s row.left row.right row.around row.value) ∙ (ap (value_at nat_eq s) (sym row.whole) ∙ is) in cc there
 
-    no-longer : (b : Bool) (x : ℕ × V) (l xs : List (ℕ × V)) → length l ≤ length xs → length (cond b (x ∷ l) l) ≤ length (x ∷ xs)
-    no-longer true x l xs le = omega arith
-    no-longer false x l xs le = omega arith
+      set-again : (v : V) → with_value nat_eq s v items ≡ added key_of nat_cmp (s, v) (removed key_of nat_eq s items)
+      set-again v =
+          let changed = ap (with_value nat_eq s v) row.whole ∙ set-here s row.left row.right row.around row.value v in
+          let gone = ap (removed key_of nat_eq s) row.whole ∙ removed-here s row.left row.right row.around row.value in
+          changed ∙ sym (ap (λ l. added key_of nat_cmp (s, v) l) gone ∙ added-here s row.left row.right row.around v)
 
-    pub no-more-left : (items : List (ℕ × V)) → length (removed key_of nat_eq s items) ≤ length items
-    no-more-left [] = omega arith
-    no-more-left (x ∷ xs) = no-longer (not (is_it x)) x (removed key_of nat_eq s xs) xs (no-more-left xs)
-
-    -- none of that serial is left
-    pub lacks-left : (items : List (ℕ × V)) → has_key key_of nat_eq s (removed key_of nat_eq s items) ≡ false
-    lacks-left items = list_any-none is_it (removed key_of nat_eq s items) (λ e there. not-true _ (Contains-from_filter (λ q. not (is_it q)) items e there).1)
-
-    -- whether the serial is there
-    is-there : (items : List (ℕ × V)) → has_key key_of nat_eq s items ≡ is_some (value_at nat_eq s items)
-    is-there items = list_any-part is_it (λ e. e.1) items
-
-    -- where it isn't, nothing is set
-    pub set-nothing : (v : V) (items : List (ℕ × V)) → has_key key_of nat_eq s items ≡ false → items ≡ with_value nat_eq s v items
-    set-nothing v items lacks = sym (with_value-lacks nat_eq s v items (None-from_is_some (value_at nat_eq s items) (sym (is-there items) ∙ lacks)))
-
-    -- where it is, a set is a row that goes and comes again
-    module _ (items : List (ℕ × V)) (sorted : IsSortedOnce key_of nat_cmp items) (there : has_key key_of nat_eq s items ≡ true) where
-      value-there : is_some (value_at nat_eq s items) ≡ true
-      value-there = sym (is-there items) ∙ there
-
-      pub one-less : length (removed key_of nat_eq s items) + 1 ≡ length items
+      one-less : length (removed key_of nat_eq s items) + 1 ≡ length items
       one-less =
-          let bit = ap (λ b. cond {A = ℕ} b 1 0) value-there in omega (arith, length-removed nat_eq nat_cmp nat_cmp_total unsigned_ties s items sorted, bit)
+          let bit = ap (λ o. cond {A = ℕ} (is_some o) 1 0) is in omega (arith, length-removed nat_cmp_total nat_eq unsigned_ties s items sorted, bit)
 
       module _ {W : Type 0} (part : V → Option W) where
+        parts-around : Around s (parts part row.left) (parts part row.right)
+        parts-around = record {
+          low = keyed key_of (λ x. part x.1) (λ n. nat_cmp n s ≡ Less) row.left row.around.low;
+          high = keyed key_of (λ x. part x.1) (λ n. nat_cmp n s ≡ Greater) row.right row.around.high;
+        }
+
+        -- the part of a serial is that of its value
+        pub part-there : value_at nat_eq s (parts part items) ≡ part was
+        part-there =
+            ap (value_at nat_eq s) (ap (parts part) row.whole ∙ filter_map-append (part_of part) row.left ((s, row.value) ∷ row.right))
+            ∙ (value-one s (parts part row.left) (parts part row.right) parts-around (part row.value) ∙ ap part own)
+
+        -- where a serial is there, a set is a row that goes and comes again
         pub parts-set : (v : V) → joined s (part v) (removed key_of nat_eq s (parts part items)) ≡ parts part (with_value nat_eq s v items)
         parts-set v =
             ap (joined s (part v)) (parts-removed part s items)
-            ∙ (parts-added part s v (removed key_of nat_eq s items) (sorted-left items sorted) ∙ ap (parts part) (sym (set-again v items sorted value-there)))
+            ∙ (parts-added part s v (removed key_of nat_eq s items) (sorted-removed nat_cmp nat_eq s items sorted) ∙ ap (parts part) (sym (set-again v)))
 
         -- so there is room for the part of the one that comes again
         pub fewer-parts : length (removed key_of nat_eq s (parts part items)) + 1 ≤ length items
         fewer-parts = omega (arith, one-less, ap length (parts-removed part s items), parts-few part (removed key_of nat_eq s items))
 
-    pub length-set : (v : V) (items : List (ℕ × V)) → length (with_value nat_eq s v items) ≡ length items
-    length-set v items = length-map items (λ e. cond (is_it e) (e.0, v) e)
+    -- a serial that isn't there has no part
+    pub part-lacks : {W : Type 0} (part : V → Option W) (items : List (ℕ × V)) → value_at nat_eq s items ≡ None → value_at nat_eq s (parts part items) ≡ None
+    part-lacks part items none =
+        let lacks = parts-lack part s items (has-value nat_eq s items ∙ ap is_some none) in
+        None-from_is_some (value_at nat_eq s (parts part items)) (sym (has-value nat_eq s (parts part items)) ∙ lacks)
+
+    pub no-more-left : (items : List (ℕ × V)) → length (removed key_of nat_eq s items) ≤ length items
+    no-more-left items = length-filter_few (λ e. not (is_it e)) items

@@ -3,10 +3,6 @@ use Rattle.std.proofs.Common.{◌≡◌, ℕ, zero, suc, ◌+◌, Bool, true, fa
 use Rattle.std.specs.List.{find, count_by, slice_get}
 use Rattle.std.proofs.lemmas.Bool.{cases_Bool, eq-eqb, eqb-true}
 use Rattle.std.proofs.lemmas.List.Sums.{sum_by-cons}
-use Rattle.std.specs.Ordering.{nat_cmp}
-use Rattle.wm_desc.specs.Sorted.{IsSortedOnce}
-use Rattle.wm_ordered.specs.Ordered.{key_of, first_above}
-use Rattle.wm_waiting.proofs.Turned.{next-row}
 
 pub differs : (a b : ℕ) → (a ≡ b → ⊥) → (a == b) ≡ false
 differs a b ne = elim (cases_Bool (a == b)) [ inl e ↦ absurd (ne (eqb-true a b e)) | inr e ↦ e ]
@@ -47,7 +43,3 @@ module _ {X : Type 0} where
 
       pub counted-same : p x ≡ false → n ≡ count → n + count_by p (drop (k + 1) xs) ≡ total
       counted-same other is = let none = ap (λ b. cond {A = ℕ} b 1 0) other in omega (arith, counted x at, none, is, so_far)
-
--- the row behind one is at the next place
-pub next-at : {V : Type 0} (rows : List (ℕ × V)) (k : ℕ) (r : ℕ × V) → IsSortedOnce key_of nat_cmp rows → slice_get rows k ≡ Some r → first_above nat_cmp r.0 rows ≡ slice_get rows (k + 1)
-next-at rows k r sorted at = next-row rows k r sorted at ∙ ap (slice_get rows) (omega arith)

@@ -4,6 +4,7 @@ use Rattle.std.specs.Ordering.{nat_cmp}
 use Rattle.wm_desc.specs.Sorted.{added}
 use Rattle.wm_ordered.specs.Ordered.{Pairs, key_of}
 use Rattle.wm_active.specs.declared.acting.Acting.{Acting}
+use Rattle.wm_active.specs.Moments.{AreTurns}
 use Rattle.wm_active.specs.declared.active.ActiveJobs.TheInside.{Inside}
 
 -- how many pairs there is room for in all, those that are there with them
@@ -35,9 +36,9 @@ kill_of a = a.kill
 abbrev pub seen_of : Inside → Pairs ℕ Acting
 seen_of t = record { items = t.jobs.items; spare = t.most - length t.jobs.items }
 
--- the moments and the kills are those of the jobs, and each has room for as many as there may be jobs
+-- the moments, in the order in which they come, and the kills are those of the jobs, and each has room for as many as there may be jobs
 pub record IsActiveInside (t : Inside) : Type 0 where
-  pub moments_are : t.moments.items ≡ parts until_of t.jobs.items
+  pub moments_are : AreTurns (parts until_of t.jobs.items) t.moments.items
   pub kills_are : t.kills.items ≡ parts kill_of t.jobs.items
   pub few : length t.jobs.items ≤ t.most
   pub to_stand : t.most ≤ nodes_of t.jobs

@@ -1,2 +1,4 @@
 pub mod Active
 pub mod ActiveInside
+pub mod Moments
+pub mod Turns

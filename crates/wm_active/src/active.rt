@@ -1,19 +1,20 @@
 // The active jobs.
 use crate::acting::Acting;
 use crate::kills::{count_of, first_of};
-use crate::rows::{lacking, put_kill, put_moment, take_row};
+use crate::moments::{least_above, put_moment, take_moment};
+use crate::rows::{lacking, put_kill, take_job, take_row};
+use crate::turn::Turn;
 use std::alloc::{AllocError, Global};
 use std::marker::Model;
 use wm_base::{Moment, NoMemory, Serial};
-use wm_moments::Moments;
 use wm_ordered::Ordered;
 
 /// The active jobs by serial, each with what of its wish acts. `spare` is for how many more there is room.
 #[derive(Drop)]
 pub struct ActiveJobs {
     jobs: Ordered<Serial, Acting>,
-    // The moments of those that have one.
-    moments: Moments,
+    // The moments of those that have one, in the order in which they come.
+    moments: Ordered<Turn, ()>,
     // The kills that are yet to be handed, each with its monitor.
     kills: Ordered<Serial, u32>,
     // How many jobs there may be, and so how many moments and how many kills.
@@ -48,7 +49,7 @@ impl ActiveJobs {
     {
         ActiveJobs {
             jobs: Ordered::new(alloc),
-            moments: Moments::new(alloc),
+            moments: Ordered::new(alloc),
             kills: Ordered::new(alloc),
             most: 0,
         }
@@ -92,7 +93,7 @@ impl ActiveJobs {
     {
         // `len` tells that serials ascend.
         self.jobs.len();
-        put_moment(&mut self.moments, serial, &acting);
+        put_moment(&mut self.moments, serial, acting.until);
         put_kill(&mut self.kills, serial, &acting);
         self.jobs.insert(serial, acting);
     }
@@ -103,9 +104,9 @@ impl ActiveJobs {
         ensures spare { self.old.spare ≤ self.new.spare }
         ensures nodes { length self.new.items + self.new.spare ≡ length self.old.items + self.old.spare }
     {
-        take_row(&mut self.jobs, serial);
-        self.moments.remove(serial);
-        take_row(&mut self.kills, serial);
+        let until = take_job(&mut self.jobs, serial);
+        take_moment(&mut self.moments, serial, until);
+        take_row(&mut self.kills, &serial);
     }
 
     /// Gives a job that is there another acting part of its wish. It takes no memory.
@@ -115,14 +116,13 @@ impl ActiveJobs {
     {
         // `len` tells that serials ascend.
         self.jobs.len();
-        if !self.jobs.contains(&serial) {
+        let Some(was) = self.jobs.set(&serial, acting) else {
             return;
-        }
-        self.moments.remove(serial);
-        take_row(&mut self.kills, serial);
-        put_moment(&mut self.moments, serial, &acting);
+        };
+        take_moment(&mut self.moments, serial, was.until);
+        take_row(&mut self.kills, &serial);
+        put_moment(&mut self.moments, serial, acting.until);
         put_kill(&mut self.kills, serial, &acting);
-        self.jobs.set(&serial, acting);
     }
 
     /// The least serial that isn't below a serial.
@@ -139,7 +139,7 @@ impl ActiveJobs {
     pub fn next_above(&self, clock: Moment) -> Option<Moment>
         ensures { result ≡ next_above clock self.now.items }
     {
-        self.moments.next_above(clock)
+        least_above(&self.moments, clock)
     }
 
     /// The job of least serial whose kill a monitor is to be handed.

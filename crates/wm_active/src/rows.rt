@@ -1,13 +1,13 @@
-// Rows by serial, which come and go without memory.
+// Rows by a key, which come and go without memory.
 ghost use Rattle.std.specs.Prelude.{◌≡◌, ◌+◌, ◌≤◌, false, nat_eq, IfOk};
-ghost use Rattle.wm_desc.specs.Sorted.{has_key, removed};
-ghost use Rattle.wm_ordered.specs.Ordered.{key_of};
-ghost use Rattle.wm_active.specs.ActiveInside.{nodes_of, joined};
+ghost use Rattle.std.specs.Ordering.{nat_cmp};
+ghost use Rattle.wm_desc.specs.Sorted.{IsSortedOnce, has_key, removed};
+ghost use Rattle.wm_ordered.specs.Ordered.{key_of, value_at};
+ghost use Rattle.wm_active.specs.ActiveInside.{nodes_of, joined, parts, until_of};
 
 use crate::acting::Acting;
 use std::alloc::AllocError;
-use wm_base::{NoMemory, Serial};
-use wm_moments::Moments;
+use wm_base::{Moment, NoMemory, Serial};
 use wm_ordered::Ordered;
 
 /// How many more rows there has to be room for, where there are to be so many at the most.
@@ -21,14 +21,29 @@ pub(crate) fn lacking(most: usize, there: usize) -> Result<u32, NoMemory>
     Ok(more as u32)
 }
 
-/// Takes out the row of a serial, where it has one. Its room is spare again.
-pub(crate) fn take_row<V: Copy>(rows: &mut Ordered<Serial, V>, serial: Serial)
-    ensures items { rows.new.items ≡ removed key_of nat_eq serial rows.old.items }
+/// Takes out the row of a key, where it has one. Its room is spare again.
+pub(crate) fn take_row<K: Ord + Copy, V: Copy>(rows: &mut Ordered<K, V>, key: &K)
+    ensures items { rows.new.items ≡ removed key_of K.eq key.now rows.old.items }
     ensures nodes { nodes_of rows.new ≡ nodes_of rows.old }
 {
-    // `len` tells that serials differ.
+    // `len` tells that keys differ.
     rows.len();
-    rows.remove(&serial);
+    rows.remove(key);
+}
+
+/// Takes out a job, where it is there, and answers the moment of its wish. Its room is spare again.
+pub(crate) fn take_job(jobs: &mut Ordered<Serial, Acting>, serial: Serial) -> Option<Moment>
+    ensures until { result ≡ value_at nat_eq serial (parts until_of jobs.old.items) }
+    ensures sorted { IsSortedOnce key_of nat_cmp jobs.old.items }
+    ensures items { jobs.new.items ≡ removed key_of nat_eq serial jobs.old.items }
+    ensures nodes { nodes_of jobs.new ≡ nodes_of jobs.old }
+{
+    // `len` tells that serials differ.
+    jobs.len();
+    let Some(acting) = jobs.remove(&serial) else {
+        return None;
+    };
+    acting.until
 }
 
 /// Puts in the kill of a serial that has none, where there is one.
@@ -40,17 +55,5 @@ pub(crate) fn put_kill(kills: &mut Ordered<Serial, u32>, serial: Serial, acting:
 {
     if let Some(monitor) = acting.kill {
         kills.insert(serial, monitor);
-    }
-}
-
-/// Puts in the moment of a serial that has none, where there is one.
-pub(crate) fn put_moment(moments: &mut Moments, serial: Serial, acting: &Acting)
-    requires spare { 1 ≤ moments.old.spare }
-    requires new { has_key key_of nat_eq serial moments.old.items ≡ false }
-    ensures items { moments.new.items ≡ joined serial acting.now.until moments.old.items }
-    ensures nodes { nodes_of moments.new ≡ nodes_of moments.old }
-{
-    if let Some(moment) = acting.until {
-        moments.insert(serial, moment);
     }
 }

@@ -20,11 +20,11 @@ use Rattle.wm_law.specs.Named.{is_ended}
 use Rattle.wm_law.specs.Reports.{in_phase, phased_at}
 use Rattle.wm_names.specs.Names.{Names, HasNamed}
 use Rattle.wm_ordered.specs.Ordered.{Pairs, key_of, with_value}
+use Rattle.wm_ordered.proofs.Members.{Contains-head, find-None}
 use Rattle.wm_tally.specs.Tally.{Counts, HasStarted}
 use Rattle.wm_waiting.specs.declared.waiter.Waiter.{Waiter}
 use Rattle.wm_waiting.specs.Waiting.{Waiting}
 use Rattle.wm_waiting.specs.Waiting as waiting
-use Rattle.wm_waiting.proofs.Members.{Contains-head, find-None}
 use Rattle.wm_pick.specs.Parts.{waiter_of, waiters}
 use Rattle.wm_jobs.specs.Indexed.{acting_of, Starts, Ends, NamesInPhase}
 use Rattle.wm_jobs.specs.Marked.{standing_of, touched_of, standing_as, restored}

@@ -17,11 +17,11 @@ use Rattle.wm_law.specs.Kept.{IsDistinct, waiting_places}
 use Rattle.wm_law.specs.Laws.{IsIn}
 use Rattle.wm_names.specs.Names.{IsNames}
 use Rattle.wm_ordered.specs.Ordered.{Pairs}
+use Rattle.wm_ordered.proofs.Keyed.{length-added}
 use Rattle.wm_tally.specs.Tally.{Counts}
 use Rattle.wm_waiting.specs.declared.waiter.Waiter.{Waiter}
 use Rattle.wm_waiting.specs.Waiting.{has_place}
 use Rattle.wm_waiting.specs.Waiting as waiting
-use Rattle.wm_waiting.proofs.Rows.{length-added}
 use Rattle.wm_pick.specs.Parts.{waiter_on, waiter_of, waiters}
 use Rattle.wm_jobs.specs.Indexed.{order_of, active_of}
 use Rattle.wm_jobs.specs.Stored.{AreStored, joined_by, IsOther}

@@ -10,11 +10,11 @@ use Rattle.wm_law.specs.declared.job.Phase.TheVariants.{Ended}
 use Rattle.wm_law.specs.Counts.{is_starting, is_active, is_prestart}
 use Rattle.wm_law.specs.Reports.{in_phase}
 use Rattle.wm_ordered.specs.Ordered.{Pairs, key_of}
+use Rattle.wm_ordered.proofs.Members.{Contains-head, Contains-cons, list_any-none}
 use Rattle.wm_tally.specs.Tally.{Counts, IsTally}
 use Rattle.wm_waiting.specs.declared.waiter.Waiter.{Waiter}
 use Rattle.wm_waiting.specs.Waiting.{Waiting, HavePlaces, has_place}
 use Rattle.wm_waiting.specs.Waiting as waiting
-use Rattle.wm_waiting.proofs.Members.{Contains-head, Contains-cons, list_any-none}
 use Rattle.wm_pick.specs.Parts.{waiter_of, waiters}
 use Rattle.wm_tally.specs.Tallied.{hows}
 use Rattle.wm_jobs.specs.Indexed.{acting_of, order_of, orders, active_of, actives, Starts, Ends}

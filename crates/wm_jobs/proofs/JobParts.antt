@@ -15,12 +15,12 @@ use Rattle.wm_law.specs.declared.job.Phase.{Phase}
 use Rattle.wm_law.specs.declared.job.Phase.TheVariants.{Waiting, Starting, Handed, Running, Ended}
 use Rattle.wm_law.specs.Counts.{is_waiting, is_starting, is_active}
 use Rattle.wm_law.specs.Pending.{sooner}
+use Rattle.wm_ordered.specs.Least.{sooner as sooner_of}
 use Rattle.wm_tally.specs.Tally.{Counts, IsTally, HasStarted}
 use Rattle.wm_tally.specs.Counted.{counted, number_of}
 use Rattle.wm_tally.specs.declared.counted.Counted.{Counted}
 use Rattle.wm_waiting.specs.declared.waiter.Waiter.{Waiter}
 use Rattle.wm_waiting.specs.Waiting.{is_ahead}
-use Rattle.wm_waiting.specs.Waiting as waiting
 use Rattle.wm_pick.specs.Parts.{waiter_on, waiter_of, waiters}
 use Rattle.wm_tally.specs.Tallied.{hows}
 use Rattle.wm_jobs.specs.Indexed.{acting_of, order_of, orders, active_of, actives, Starts, Ends}
@@ -261,9 +261,9 @@ first-found (j ∷ js) s u sorted is = on (is_starting j.phase) is (first-found 
 
 -- the least moment to come
 abbrev pass : ℕ → Option ℕ → Waiter → Option ℕ
-pass clock least w = cond (is_ahead clock w) (waiting.sooner least w.due) least
+pass clock least w = cond (is_ahead clock w) (sooner_of least w.due) least
 
-same-sooner : (o : Option ℕ) (m : ℕ) → waiting.sooner o m ≡ sooner o m
+same-sooner : (o : Option ℕ) (m : ℕ) → sooner_of o m ≡ sooner o m
 same-sooner None m = refl
 same-sooner (Some n) m = refl
 

@@ -119,11 +119,6 @@ module _ {K V : Type 0} (cmp : K → K → Ordering) (o : IsTotalOrder cmp) wher
           sym (added-cut cmp pair d c.low (c.high ++ e ∷ r) (cut-left cmp o pair.0 d l e r is sorted c.low c.high h c.is)) ∙ (sym (append_assoc c.low (pair ∷ c.high) (e ∷ r)) ∙ ap (λ xs. xs ++ e ∷ r) (added-cut cmp pair l c.low c.high c.is))
 
     module _ (items : List (K × V)) (sorted : IsSortedOnce key_of cmp items) where
-      pub length-added : length (added key_of cmp pair items) ≡ length items + 1
-      length-added =
-          let c = cuts pair.0 items sorted in
-          omega (arith, ap length (added-cut cmp pair items c.low c.high c.is), length-append c.low (pair ∷ c.high), length-append c.low c.high, ap length c.is.whole)
-
       pub sorted-added : (eq : K → K → Bool) → ((a b : K) → eq a b ≡ is_eq (cmp a b)) → has_key key_of eq pair.0 items ≡ false → IsSortedOnce key_of cmp (added key_of cmp pair items)
       sorted-added eq ties new =
           let c = cuts pair.0 items sorted in

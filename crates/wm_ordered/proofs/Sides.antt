@@ -1,7 +1,6 @@
 -- The two sides of an element in a list whose pairs all meet a relation.
-use Rattle.std.proofs.Common.{◌≡◌, ℕ, zero, suc, ◌+◌, ◌<◌, Bool, true, false, cond, List, [], ◌∷◌, ◌++◌, length, get_or, All, AllPairs, map, filter, ap, sym, refl, ◌∙◌, subst, arith, length-append, get_or-append-add}
+use Rattle.std.proofs.Common.{◌≡◌, ℕ, suc, ◌+◌, ◌<◌, Bool, true, false, cond, List, ◌∷◌, ◌++◌, length, get_or, All, AllPairs, map, ap, sym, refl, ◌∙◌, subst, arith, length-append, get_or-append-add}
 use Rattle.std.proofs.lemmas.List.{get_or_append_left, get_or-map, length-map}
-use Rattle.std.proofs.lemmas.List.Elements.{All-filter}
 use lib.Seq.{get_or-append_seam}
 
 -- what each side is, and how it stands to the element between
@@ -36,28 +35,6 @@ module _ {X : Type 0} (R : X → X → Type 0) where
       below = λ j d b. pair j (length l) d _ _ (before j d b) (seam d) b (omega (arith, long)) all;
       above = λ j d b. pair (length l) (length l + suc j) d _ _ (seam d) (after j d) (omega arith) (omega (arith, long)) all;
     }
-
-  pairs-cons : (x : X) (xs : List X) → All (λ y. R x y) xs → AllPairs R xs → AllPairs R (x ∷ xs)
-  pairs-cons x xs above all zero zero d lt b = absurd (omega arith)
-  pairs-cons x xs above all zero (suc j) d lt b = above j d (omega arith)
-  pairs-cons x xs above all (suc i) zero d lt b = absurd (omega arith)
-  pairs-cons x xs above all (suc i) (suc j) d lt b = all i j d (omega arith) (omega arith)
-
-  pairs-tail : (x : X) (xs : List X) → AllPairs R (x ∷ xs) → AllPairs R xs
-  pairs-tail x xs all i j d lt b = all (suc i) (suc j) d (omega arith) (omega arith)
-
-  above-head : (x : X) (xs : List X) → AllPairs R (x ∷ xs) → All (λ y. R x y) xs
-  above-head x xs all j d b = all 0 (suc j) d (omega arith) (omega arith)
-
-  kept : (b : Bool) (x : X) (xs : List X) → All (λ y. R x y) xs → AllPairs R xs → AllPairs R (cond b (x ∷ xs) xs)
-  kept true x xs above all = pairs-cons x xs above all
-  kept false x xs above all = all
-
-  -- what a filter keeps still meets it
-  pub all_pairs_filter : (p : X → Bool) (xs : List X) → AllPairs R xs → AllPairs R (filter p xs)
-  all_pairs_filter p [] all = all
-  all_pairs_filter p (x ∷ xs) all =
-      kept (p x) x (filter p xs) (All-filter p (λ y. R x y) xs (above-head x xs all)) (all_pairs_filter p xs (pairs-tail x xs all))
 
 -- what a relation of keys holds of, it holds of with other values at these keys
 module _ {K V : Type 0} (R : K → K → Type 0) (f : K × V → K × V) (same : (x : K × V) → (f x).0 ≡ x.0) where

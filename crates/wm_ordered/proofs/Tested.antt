@@ -55,7 +55,7 @@ module _ {X : Type 0} (p : X → Bool) where
 
   -- one element changes, and the others stay
   module _ (g : X → X) where
-    all_same : (xs : List X) → All (λ x. p x ≡ false) xs → map (λ x. cond (p x) (g x) x) xs ≡ xs
+    pub all_same : (xs : List X) → All (λ x. p x ≡ false) xs → map (λ x. cond (p x) (g x) x) xs ≡ xs
     all_same [] none = refl
     all_same (x ∷ xs) none = rw (All-head Fails x xs none) (ap (λ ys. x ∷ ys) (all_same xs (All-tail Fails x xs none)))
 

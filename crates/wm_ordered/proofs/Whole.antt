@@ -1,15 +1,15 @@
 -- What is known of a whole map: that its tree is a search tree, what is read of it, and what a change leaves of it.
-use Rattle.std.proofs.Common.{◌≡◌, ℕ, zero, suc, ◌+◌, ◌-◌, ◌≤◌, ◌<◌, Bool, true, false, cond, nat_eq, List, [], ◌∷◌, ◌++◌, length, All, Option, Some, None, slice_get, refl, ap, sym, ◌∙◌, subst, arith, append-nil, take, drop, is_some, not}
+use Rattle.std.proofs.Common.{◌≡◌, ℕ, zero, suc, ◌+◌, ◌-◌, ◌≤◌, ◌<◌, Bool, true, false, cond, nat_eq, List, ◌++◌, length, All, Option, Some, None, slice_get, refl, ap, sym, ◌∙◌, subst, arith, append-nil, take, drop, is_some}
 use Rattle.std.specs.declared.cmp.Ordering.{Ordering}
-use Rattle.wm_desc.specs.Sorted.{IsSortedOnce, has_key, added, removed}
-use Rattle.std.specs.declared.cmp.Ordering.TheVariants.{Less, Equal, Greater}
+use Rattle.wm_desc.specs.Sorted.{has_key, added, removed}
+use Rattle.std.specs.declared.cmp.Ordering.TheVariants.{Less}
 use Rattle.std.specs.Cmp.{IsTotalOrder}
 use Rattle.std.specs.Ordering.{is_eq}
 use Rattle.std.proofs.lemmas.Bool.{eqb-true}
 use Rattle.std.proofs.lemmas.List.{drop_all, take_all, length-map}
-use Rattle.wm_ordered.proofs.Cuts.{length-added, sorted-added}
-use Rattle.wm_ordered.proofs.Found.{right_sorted, value-right, value-here, value-left, removed-right, removed-here, removed-left}
-use Rattle.wm_ordered.proofs.Sides.{all_pairs_filter, all_pairs_with_value}
+use Rattle.wm_ordered.proofs.Cuts.{sorted-added}
+use Rattle.wm_ordered.proofs.Keyed.{length-added, length-removed, sorted-removed}
+use Rattle.wm_ordered.proofs.Sides.{all_pairs_with_value}
 use Rattle.wm_ordered.specs.declared.node.Node.{Node}
 use Rattle.wm_ordered.specs.Ordered.{key_of, value_at, with_value}
 use Rattle.wm_ordered.specs.Tree.{Tree, nowhere, same_place, times, times_in, times_taken, Lies, Stands, IsSearchTree, IsWithout, IsOrdered, pairs_under}
@@ -21,14 +21,6 @@ pub written-back : {X : Type 0} (n : ℕ) (xs now ys : List X) → length xs ≡
 written-back n xs now ys same value len =
     ap (λ zs. take n (xs ++ zs)) (drop_all (length xs) ys (omega (arith, same, ap length value)))
     ∙ (ap (λ zs. take n zs) (append-nil xs) ∙ take_all n xs (omega (arith, same, len)))
-
--- a place is the same as another once at the most
-same-once-by : (b : Bool) → cond {A = ℕ} b 1 0 ≤ 1
-same-once-by true = omega arith
-same-once-by false = omega arith
-
-pub same-once : (i j : ℕ) → same_place i j ≤ 1
-same-once i j = same-once-by (nat_eq i j)
 
 there-by : (b : Bool) (i at n m : ℕ) (left right : ℕ) → nat_eq i at ≡ b → at < n → (1 ≤ left → i < n) → (1 ≤ right → i < n) → m ≡ left → 1 ≤ cond {A = ℕ} b 1 0 + left + right → i < n
 there-by true i at n m left right e here low high is h = omega (arith, eqb-true i at e, here)
@@ -65,20 +57,6 @@ abbrev bit : {X : Type 0} → Option X → ℕ
 bit o = cond (is_some o) 1 0
 
 module _ {K V : Type 0} {cmp : K → K → Ordering} (total : IsTotalOrder cmp) (eq : K → K → Bool) (ties : (a b : K) → eq a b ≡ is_eq (cmp a b)) (k : K) where
-  module _ (x : K × V) (xs : List (K × V)) (sorted : IsSortedOnce key_of cmp (x ∷ xs)) (less : length (removed key_of eq k xs) + bit (value_at eq k xs) ≡ length xs) where
-    one-fewer : (c : Ordering) → cmp x.0 k ≡ c → length (removed key_of eq k (x ∷ xs)) + bit (value_at eq k (x ∷ xs)) ≡ length (x ∷ xs)
-    one-fewer Less h = omega (arith, less, ap length (removed-right cmp total k (x ∷ xs) [] x xs refl sorted eq ties h), ap bit (value-right cmp total k (x ∷ xs) [] x xs refl sorted eq ties h))
-    one-fewer Equal h = omega (arith, ap length (removed-here cmp total k (x ∷ xs) [] x xs refl sorted eq ties h), ap bit (value-here cmp total k (x ∷ xs) [] x xs refl sorted eq ties h))
-    one-fewer Greater h = omega (arith, ap length (removed-left cmp total k (x ∷ xs) [] x xs refl sorted eq ties h), ap bit (value-left cmp total k (x ∷ xs) [] x xs refl sorted eq ties h))
-
-  -- a removal takes the one pair of the key
-  pub length-removed : (xs : List (K × V)) → IsSortedOnce key_of cmp xs → length (removed key_of eq k xs) + cond (is_some (value_at eq k xs)) 1 0 ≡ length xs
-  length-removed [] sorted = refl
-  length-removed (x ∷ xs) sorted = one-fewer x xs sorted (length-removed xs (right_sorted cmp total k (x ∷ xs) [] x xs refl sorted)) (cmp x.0 k) refl
-
-  pub sorted-removed : (xs : List (K × V)) → IsSortedOnce key_of cmp xs → IsSortedOnce key_of cmp (removed key_of eq k xs)
-  sorted-removed xs sorted = all_pairs_filter (λ (x y : K × V). cmp x.0 y.0 ≡ Less) (λ x. not (eq x.0 k)) xs sorted
-
   module _ {nodes : List (Node K V)} {root len room capacity free_capacity : ℕ} {free : List ℕ} (inv : IsOrdered cmp nodes root len free room capacity free_capacity) where
     -- a key that isn't there was taken out
     abbrev pub after-nothing : (new : List (Node K V)) (top : ℕ) (taken : Option (ℕ × V)) → taken ≡ None → value_at eq k inv.pairs ≡ None → length new ≡ length nodes → IsWithout new top inv.places (removed key_of eq k inv.pairs) taken → IsOrdered cmp new top len free room capacity free_capacity
@@ -86,8 +64,8 @@ module _ {K V : Type 0} {cmp : K → K → Ordering} (total : IsTotalOrder cmp) 
       places = s.rest;
       pairs = removed key_of eq k inv.pairs;
       stands = s.stands;
-      sorted = sorted-removed inv.pairs inv.sorted;
-      counted = omega (arith, inv.counted, length-removed inv.pairs inv.sorted, ap bit none);
+      sorted = sorted-removed cmp eq k inv.pairs inv.sorted;
+      counted = omega (arith, inv.counted, length-removed total eq ties k inv.pairs inv.sorted, ap bit none);
       apart = λ i. omega (arith, inv.apart i, s.all i);
       there = subst (λ n. All (λ place. place < n) free) (sym same) inv.there;
       all = same ∙ inv.all;
@@ -106,15 +84,15 @@ module _ {K V : Type 0} {cmp : K → K → Ordering} (total : IsTotalOrder cmp) 
       place-within = within inv.stands place (omega (arith, taken-once place, same-here place))
 
       pub some-left : 1 ≤ len
-      some-left = omega (arith, inv.counted, length-removed inv.pairs inv.sorted, ap bit some)
+      some-left = omega (arith, inv.counted, length-removed total eq ties k inv.pairs inv.sorted, ap bit some)
 
       abbrev pub after-one : (gained : List ℕ) (new_capacity : ℕ) → ((i : ℕ) → times_in i gained ≡ times_in i free + same_place i place) → ((n : ℕ) → place < n → All (λ p. p < n) free → All (λ p. p < n) gained) → length gained ≡ length free + 1 → new_capacity ≡ free_capacity → IsOrdered cmp new top (len - 1) gained (room + 1) capacity new_capacity
       after-one gained new_capacity times there long kept = record {
         places = s.rest;
         pairs = removed key_of eq k inv.pairs;
         stands = s.stands;
-        sorted = sorted-removed inv.pairs inv.sorted;
-        counted = omega (arith, inv.counted, length-removed inv.pairs inv.sorted, ap bit some);
+        sorted = sorted-removed cmp eq k inv.pairs inv.sorted;
+        counted = omega (arith, inv.counted, length-removed total eq ties k inv.pairs inv.sorted, ap bit some);
         apart = λ i. omega (arith, inv.apart i, taken-once i, times i);
         there = subst (λ n. All (λ p. p < n) gained) (sym same) (there (length nodes) place-within inv.there);
         all = omega (arith, same, inv.all, long, some-left);
@@ -147,7 +125,7 @@ module _ {K V : Type 0} {cmp : K → K → Ordering} {nodes : List (Node K V)} {
       pairs = added key_of cmp pair inv.pairs;
       stands = s;
       sorted = sorted-added cmp total pair inv.pairs inv.sorted eq ties fresh;
-      counted = omega (arith, inv.counted, length-added cmp total pair inv.pairs inv.sorted);
+      counted = omega (arith, inv.counted, length-added key_of cmp pair inv.pairs);
       apart = own-place;
       there = subst (λ n. All (λ p. p < n) lost) (sym same) there;
       all = omega (arith, same, all, inv.all);

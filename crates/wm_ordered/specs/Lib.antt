@@ -1,2 +1,4 @@
+pub mod Least
 pub mod Ordered
+pub mod Slots
 pub mod Tree

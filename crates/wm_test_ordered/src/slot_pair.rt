@@ -3,7 +3,7 @@ use anyhow::{Result, ensure};
 use std::alloc::Global;
 use std::collections::BTreeMap;
 use wm_base::Serial;
-use wm_slots::Slots;
+use wm_ordered::Slots;
 
 #[derive(Drop)]
 pub struct SlotPair {

@@ -9,6 +9,8 @@ use Rattle.std.proofs.lemmas.Cmp.{nat_cmp_total}
 use Rattle.std.proofs.lemmas.List.{length-map}
 use Rattle.wm_desc.specs.Sorted.{IsSortedOnce, with_key, has_key, place_of, added, removed}
 use Rattle.wm_ordered.specs.Ordered.{Pairs, key_of, value_at, with_value}
+use Rattle.wm_ordered.proofs.Keyed.{length-added, length-removed}
+use Rattle.wm_ordered.proofs.Members.{Contains-insert_cases, Contains-from_filter, find-Some, find-None, filter-whole, list_any-false}
 use Rattle.wm_waiting.specs.declared.waiter.Waiter.{Waiter}
 use Rattle.wm_waiting.specs.declared.keys.Spot.{Spot}
 use Rattle.wm_waiting.specs.declared.keys.Rise.{Rise}
@@ -19,9 +21,8 @@ use Rattle.wm_waiting.specs.Waiting.{serial_of, has_place, HavePlaces, HavePrior
 use Rattle.wm_waiting.specs.WaitingInside.{Agrees}
 use Rattle.wm_waiting.proofs.IndexLemmas.{index-shrinks}
 use Rattle.wm_waiting.proofs.Marks.{alone as only, Contains-replaced_cases}
-use Rattle.wm_waiting.proofs.Members.{Contains-insert_cases, Contains-from_filter, find-Some, find-None, filter-whole, list_any-false}
 use Rattle.wm_waiting.proofs.Orders.{same_spot-place, same_rise-serial, same_spot-itself, same_rise-itself}
-use Rattle.wm_waiting.proofs.Rows.{keyed-added, waiters-added, keyed-removed, waiters-removed, value-waiter, sorted-waiters, keyed-replaced, waiters-replaced, length-added, length-removed}
+use Rattle.wm_waiting.proofs.Rows.{keyed-added, waiters-added, keyed-removed, waiters-removed, value-waiter, sorted-waiters, keyed-replaced, waiters-replaced}
 
 -- a waiter whose place is new has a spot of its own
 pub apart-spots : (w : Waiter) (items : List Waiter) → has_place w.place items ≡ false → (v : Waiter) → Contains items v → same_spot (spot_of v) (spot_of w) ≡ false
@@ -202,7 +203,7 @@ module _ (by_serial : Pairs ℕ Waiter) (by_spot : Pairs Spot ℕ) (by_rise : Pa
         → capacity_of turns ≡ capacity_of by_spot → capacity_of early ≡ capacity_of by_rise → capacity_of lines ≡ capacity_of by_line → Agrees all turns early lines clock (spare + 1)
     agrees-remove all turns early lines is more turns_is early_is lines_is same_turns same_early same_lines =
         let new : waiters_of all.items ≡ removed serial_of nat_eq serial items = ap (λ (l : List (ℕ × Waiter)). waiters_of l) is ∙ waiters-removed by_serial.items agrees.keyed nat_eq serial in
-        let all_less = length-removed nat_eq nat_cmp nat_cmp_total unsigned_ties serial by_serial.items sorted in
+        let all_less = length-removed nat_cmp_total nat_eq unsigned_ties serial by_serial.items sorted in
         let one : ◌≡◌ {A = ℕ} (cond (is_some (value_at nat_eq serial by_serial.items)) 1 0) 1 = ap (λ (o : Option Waiter). cond (is_some o) 1 0) found in
         let n : length all.items ≡ length (removed key_of nat_eq serial by_serial.items) = ap (λ (l : List (ℕ × Waiter)). length l) is in
         record {

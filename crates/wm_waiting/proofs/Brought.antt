@@ -1,5 +1,5 @@
 -- What bringing the first that is due leaves, and what is true when none is left.
-use Rattle.std.proofs.Common.{◌≡◌, ◌⊎◌, ℕ, zero, suc, ◌+◌, ◌<◌, ◌≤◌, Bool, true, false, not, ◌&&◌, nat_le, List, ◌∷◌, length, get_or, map, Some, None, inl, inr, refl, ap, sym, ◌∙◌, subst, arith, Contains, nat_eq}
+use Rattle.std.proofs.Common.{◌≡◌, ◌⊎◌, ℕ, zero, suc, ◌+◌, ◌<◌, ◌≤◌, true, false, not, ◌&&◌, nat_le, List, ◌∷◌, length, get_or, map, Some, None, inl, inr, ap, sym, ◌∙◌, subst, arith, Contains, nat_eq}
 use Rattle.std.specs.List.{insert, AllPairs, slice_get}
 use Rattle.std.specs.declared.cmp.Ordering.TheVariants.{Less}
 use Rattle.std.specs.Ordering.{nat_cmp}
@@ -10,6 +10,7 @@ use Rattle.std.proofs.lemmas.List.{length-map}
 use Rattle.std.proofs.lemmas.List.Elements.{Contains-get_or}
 use Rattle.wm_desc.specs.Sorted.{IsSortedOnce, with_key, has_key, removed}
 use Rattle.wm_ordered.specs.Ordered.{key_of}
+use Rattle.wm_ordered.proofs.Members.{Contains-mapped, Contains-cases, Contains-insert_new, Contains-insert_old, Contains-insert_cases, Contains-filter, Contains-from_filter, first-before, first-there, list_any-none}
 use Rattle.wm_waiting.specs.declared.waiter.Waiter.{Waiter}
 use Rattle.wm_waiting.specs.declared.keys.Spot.{Spot}
 use Rattle.wm_waiting.specs.declared.keys.Rise.{Rise}
@@ -19,7 +20,6 @@ use Rattle.wm_waiting.specs.Keys.{spot_of, rise_of, nothing_of}
 use Rattle.wm_waiting.specs.Orders.{spot_cmp, rise_cmp, same_spot, same_rise}
 use Rattle.wm_waiting.specs.Waiting.{serial_of, HavePlaces, is_up, is_ahead}
 use Rattle.wm_waiting.proofs.Marks.{found-there, one_serial}
-use Rattle.wm_waiting.proofs.Members.{Contains-mapped, Contains-cases, Contains-insert_new, Contains-insert_old, Contains-insert_cases, Contains-filter, Contains-from_filter, first-before, first-there, list_any-none}
 use Rattle.wm_waiting.proofs.Orders.{same_spot-place, same_spot-itself, same_rise-itself, spot-itself, sooner_due}
 use Rattle.wm_waiting.proofs.Rows.{no_more}
 

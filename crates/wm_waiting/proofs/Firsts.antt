@@ -3,9 +3,9 @@ use Rattle.std.proofs.Common.{◌≡◌, ℕ, Bool, true, false, ◌&&◌, ◌||
 use Rattle.std.specs.List.{filter}
 use Rattle.std.proofs.lemmas.Bool.Decides.{nat_tests}
 use Rattle.wm_base.specs.declared.qname.QName.{QName}
+use Rattle.wm_ordered.proofs.Members.{Contains-cases, Contains-filter, Contains-nil}
 use Rattle.wm_waiting.specs.declared.waiter.Waiter.{Waiter}
 use Rattle.wm_waiting.specs.Waiting.{is_on, is_before, earlier, first_on}
-use Rattle.wm_waiting.proofs.Members.{Contains-cases, Contains-filter, Contains-nil}
 
 -- none comes before itself
 pub not-itself : (w : Waiter) → is_before w w ≡ false

@@ -1,12 +1,11 @@
--- What the folds over the items come to: the head, and the least moment to come.
-use Rattle.std.proofs.Common.{◌≡◌, ◌⊎◌, ℕ, ◌<◌, ◌≤◌, Bool, true, false, cond, ltb, List, [], ◌∷◌, Option, Some, None, fold, inl, inr, refl, ap, sym, ◌∙◌, subst, arith, Contains}
+-- What the fold over the items comes to: the head.
+use Rattle.std.proofs.Common.{◌≡◌, ◌⊎◌, ℕ, ◌<◌, ◌≤◌, Bool, true, false, cond, ltb, List, [], ◌∷◌, Option, Some, None, fold, inl, inr, refl, ap, ◌∙◌, subst, arith, Contains}
 use Rattle.std.specs.List.{filter}
-use Rattle.std.proofs.lemmas.Bool.{cases_Bool}
 use Rattle.std.proofs.lemmas.Bool.Decides.{nat_tests}
 use Rattle.wm_base.specs.declared.qname.QName.{QName}
+use Rattle.wm_ordered.proofs.Members.{Contains-head, Contains-cons, Contains-nil, Contains-cases, Contains-filter, Contains-from_filter, filter-empty}
 use Rattle.wm_waiting.specs.declared.waiter.Waiter.{Waiter}
-use Rattle.wm_waiting.specs.Waiting.{nearer, head_of, is_turn, is_ahead, sooner}
-use Rattle.wm_waiting.proofs.Members.{Contains-head, Contains-cons, Contains-nil, Contains-cases, Contains-filter, Contains-from_filter, filter-empty}
+use Rattle.wm_waiting.specs.Waiting.{nearer, head_of, is_turn}
 
 -- the one that no other is nearer than stays
 nearer-stays : (w v : Waiter) → w.place ≤ v.place → nearer (Some w) v ≡ Some w
@@ -64,57 +63,3 @@ module _ (queue : QName) (pty clock : ℕ) (items : List Waiter) where
   head-Some w there turn least =
       fold-nearer (filter (is_turn queue pty clock) items) None w (Contains-filter (is_turn queue pty clock) items w there turn)
       (λ v h. let parts = Contains-from_filter (is_turn queue pty clock) items v h in least v parts.0 parts.1) tt
-
-abbrev pass : ℕ → Option ℕ → Waiter → Option ℕ
-pass clock least w = cond (is_ahead clock w) (sooner least w.due) least
-
--- the best so far is none, or isn't sooner than m
-abbrev Later : ℕ → Option ℕ → Type 0
-Later m None = Unit {0}
-Later m (Some n) = m ≤ n
-
-due-skips : (clock : ℕ) (a : Option ℕ) (w : Waiter) → is_ahead clock w ≡ false → pass clock a w ≡ a
-due-skips clock a w e = ap (λ b. cond b (sooner a w.due) a) e
-
-due-passes : (clock : ℕ) (a : Option ℕ) (w : Waiter) → is_ahead clock w ≡ true → pass clock a w ≡ sooner a w.due
-due-passes clock a w e = ap (λ b. cond b (sooner a w.due) a) e
-
-pub due-None : (clock : ℕ) (xs : List Waiter) (a : Option ℕ) → ((v : Waiter) → Contains xs v → is_ahead clock v ≡ false) → fold (pass clock) a xs ≡ a
-due-None clock [] a none = refl
-due-None clock (x ∷ xs) a none =
-    ap (λ b. fold (pass clock) b xs) (due-skips clock a x (none x (Contains-head x xs))) ∙ due-None clock xs a (λ v h. none v (Contains-cons x v xs h))
-
-sooner-stays : (m n : ℕ) → m ≤ n → sooner (Some m) n ≡ Some m
-sooner-stays m n le = ap Some (omega arith)
-
-sooner-takes : (m : ℕ) (a : Option ℕ) → Later m a → sooner a m ≡ Some m
-sooner-takes m None h = refl
-sooner-takes m (Some n) h = ap Some (omega arith)
-
-sooner-later : (m n : ℕ) (a : Option ℕ) → m ≤ n → Later m a → Later m (sooner a n)
-sooner-later m n None le h = le
-sooner-later m n (Some k) le h = omega arith
-
-pass-later : (clock m : ℕ) (a : Option ℕ) (w : Waiter) → (is_ahead clock w ≡ true → m ≤ w.due) → Later m a → Later m (pass clock a w)
-pass-later clock m a w le h = elim (cases_Bool (is_ahead clock w)) [
-  | inl e ↦ subst (λ b. Later m b) (sym (due-passes clock a w e)) (sooner-later m w.due a (le e) h)
-  | inr e ↦ subst (λ b. Later m b) (sym (due-skips clock a w e)) h
-]
-
-due-stays : (clock : ℕ) (xs : List Waiter) (m : ℕ) → ((v : Waiter) → Contains xs v → is_ahead clock v ≡ true → m ≤ v.due) → fold (pass clock) (Some m) xs ≡ Some m
-due-stays clock [] m least = refl
-due-stays clock (x ∷ xs) m least = ap (λ b. fold (pass clock) b xs) here ∙ due-stays clock xs m (λ v h. least v (Contains-cons x v xs h))
-  where
-    here : pass clock (Some m) x ≡ Some m
-    here = elim (cases_Bool (is_ahead clock x)) [
-      | inl e ↦ due-passes clock (Some m) x e ∙ sooner-stays m x.due (least x (Contains-head x xs) e)
-      | inr e ↦ due-skips clock (Some m) x e
-    ]
-
-pub due-Some : (clock : ℕ) (xs : List Waiter) (a : Option ℕ) (w : Waiter) → Contains xs w → is_ahead clock w ≡ true → ((v : Waiter) → Contains xs v → is_ahead clock v ≡ true → w.due ≤ v.due) → Later w.due a → fold (pass clock) a xs ≡ Some w.due
-due-Some clock [] a w there ahead least later = absurd (Contains-nil w there)
-due-Some clock (x ∷ xs) a w there ahead least later =
-    elim (Contains-cases x w xs there) [
-      | inl same ↦ ap (λ (z : Waiter). fold (pass clock) (pass clock a z) xs) same ∙ (ap (λ b. fold (pass clock) b xs) (due-passes clock a w ahead ∙ sooner-takes w.due a later) ∙ due-stays clock xs w.due (λ v h. least v (Contains-cons x v xs h)))
-      | inr rest ↦ due-Some clock xs (pass clock a x) w rest ahead (λ v h. least v (Contains-cons x v xs h)) (pass-later clock w.due a x (least x (Contains-head x xs)) later)
-    ]

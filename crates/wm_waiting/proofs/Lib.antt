@@ -5,7 +5,6 @@ pub mod Heads
 pub mod IndexLemmas
 pub mod Lines
 pub mod Marks
-pub mod Members
 pub mod Moves
 pub mod NextHeads
 pub mod NextLines

@@ -13,6 +13,7 @@ use Rattle.wm_desc.specs.Sorted.{IsSortedOnce, with_key}
 use Rattle.wm_desc.specs.Table.{same_qname, qname_cmp}
 use Rattle.wm_desc.proofs.Tables.{qname_total, qname_ties}
 use Rattle.wm_ordered.specs.Ordered.{key_of, first_from}
+use Rattle.wm_ordered.proofs.Members.{Contains-head, Contains-cons, Contains-nil, Contains-cases, Contains-filter, Contains-from_filter, filter-empty, find-Some, find-None, find-before}
 use Rattle.wm_waiting.specs.declared.waiter.Waiter.{Waiter}
 use Rattle.wm_waiting.specs.declared.keys.Spot.{Spot}
 use Rattle.wm_waiting.specs.Keys.{spot_of}
@@ -21,7 +22,6 @@ use Rattle.wm_waiting.specs.Orders.{spot_cmp}
 use Rattle.wm_waiting.specs.Waiting.{serial_of, HavePlaces, HavePriorities, is_on, is_before, earlier, first_on}
 use Rattle.wm_waiting.proofs.Firsts.{not-itself}
 use Rattle.wm_waiting.proofs.Marks.{found-there}
-use Rattle.wm_waiting.proofs.Members.{Contains-head, Contains-cons, Contains-nil, Contains-cases, Contains-filter, Contains-from_filter, filter-empty, find-Some, find-None, find-before}
 use Rattle.wm_waiting.proofs.Orders.{begin_of, between, spot_cmp-fields, then_Less}
 
 -- it comes before the other, and not the other way round

@@ -1,4 +1,4 @@
--- A waiter that goes out while another of its serial comes in is replaced in its place; so it is marked.
+-- A waiter that goes out while another of its serial comes in is replaced in its place.
 use Rattle.std.proofs.Common.{◌≡◌, ◌⊎◌, ℕ, suc, ◌+◌, Bool, true, false, not, ◌==◌, cond, List, [], ◌∷◌, Option, Some, None, inl, inr, refl, ap, sym, ◌∙◌, subst, arith, Contains, nat_eq, eq-eqb}
 use Rattle.std.specs.List.{insert, count_by, AllPairs}
 use Rattle.std.specs.declared.cmp.Ordering.TheVariants.{Less}
@@ -7,9 +7,9 @@ use mathlib.Core.Bool.{false≢true}
 use Rattle.std.proofs.lemmas.Bool.{cases_Bool, not-true, not_from_false, eqb-true}
 use Rattle.std.proofs.lemmas.List.Sums.{sum_by-cons}
 use Rattle.wm_desc.specs.Sorted.{IsSortedOnce, with_key, has_key, place_of, added, removed}
+use Rattle.wm_ordered.proofs.Members.{Contains-head, Contains-cons, Contains-mapped, Contains-from_mapped, Contains-from_filter, find-Some, find-None, find-before, filter-whole, list_any-none, AllPairs-head, AllPairs-tail}
 use Rattle.wm_waiting.specs.declared.waiter.Waiter.{Waiter}
-use Rattle.wm_waiting.specs.Waiting.{serial_of, has_place, HavePlaces, HasOwnPlace, with_held, marked, replaced}
-use Rattle.wm_waiting.proofs.Members.{Contains-head, Contains-cons, Contains-mapped, Contains-from_mapped, Contains-from_filter, find-Some, find-None, find-before, filter-whole, list_any-none, AllPairs-head, AllPairs-tail}
+use Rattle.wm_waiting.specs.Waiting.{serial_of, has_place, HasOwnPlace, replaced}
 
 count_by-none : {X : Type 0} (p : X → Bool) (xs : List X) → ((y : X) → Contains xs y → p y ≡ false) → count_by p xs ≡ 0
 count_by-none p [] none = refl
@@ -103,9 +103,6 @@ module _ (new : Waiter) where
   replaced-Some w [] sorted found = absurd (cc found)
   replaced-Some w (x ∷ xs) sorted found = put_back (nat_eq x.serial new.serial) w x xs refl sorted found (λ later. replaced-Some w xs (AllPairs-tail before x xs sorted) later)
 
-  pub replaced-None : (items : List Waiter) → with_key serial_of nat_eq new.serial items ≡ None → items ≡ replaced new items
-  replaced-None items none = sym (replaced-none items (λ v h. find-None (λ (u : Waiter). nat_eq u.serial new.serial) items v none h))
-
   -- what was taken out isn't there
   pub lacks-serial : (items : List Waiter) → has_key serial_of nat_eq new.serial (removed serial_of nat_eq new.serial items) ≡ false
   lacks-serial items =
@@ -120,32 +117,3 @@ module _ (new : Waiter) where
         | inl e ↦ absurd (false≢true (sym (not-true _ kept.1) ∙ eq-eqb v.serial new.serial (own v kept.0 (eqb-true v.place new.place e))))
         | inr e ↦ e
       ])
-
-module _ (serial : ℕ) (held : Bool) where
-  -- none has the serial
-  pub marked-none : (items : List Waiter) → ((v : Waiter) → Contains items v → nat_eq v.serial serial ≡ false) → marked serial held items ≡ items
-  marked-none [] none = refl
-  marked-none (x ∷ xs) none = rw (none x (Contains-head x xs)) (ap (λ l. x ∷ l) (marked-none xs (λ v h. none v (Contains-cons x v xs h))))
-
-  module _ (w : Waiter) (here : w.serial ≡ serial) where
-    on : (b : Bool) (v : Waiter) → (b ≡ true → v ≡ w) → cond b (with_held held v) v ≡ cond b (with_held held w) v
-    on true v same = ap (with_held held) (same refl)
-    on false v same = refl
-
-    one : (v : Waiter) → (nat_eq v.serial serial ≡ true → v ≡ w) → cond (nat_eq v.serial serial) (with_held held v) v ≡ cond (nat_eq v.serial w.serial) (with_held held w) v
-    one v same = on (nat_eq v.serial serial) v same ∙ ap (λ n. cond (nat_eq v.serial n) (with_held held w) v) (sym here)
-
-    marked-each : (items : List Waiter) → ((v : Waiter) → Contains items v → nat_eq v.serial serial ≡ true → v ≡ w) → replaced (with_held held w) items ≡ marked serial held items
-    marked-each [] same = refl
-    marked-each (x ∷ xs) same =
-        ap (λ (v : Waiter). v ∷ replaced (with_held held w) xs) (sym (one x (same x (Contains-head x xs)))) ∙ ap (λ l. cond (nat_eq x.serial serial) (with_held held x) x ∷ l) (marked-each xs (λ v h. same v (Contains-cons x v xs h)))
-
-  pub marked-Some : (w : Waiter) (items : List Waiter) → IsSortedOnce serial_of nat_cmp items → with_key serial_of nat_eq serial items ≡ Some w → replaced (with_held held w) items ≡ marked serial held items
-  marked-Some w items sorted found = marked-each w (eqb-true w.serial serial (named serial w items sorted found)) items (alone serial w items sorted found)
-
-  pub marked-None : (items : List Waiter) → with_key serial_of nat_eq serial items ≡ None → items ≡ marked serial held items
-  marked-None items none = sym (marked-none items (λ v h. find-None (λ (u : Waiter). nat_eq u.serial serial) items v none h))
-
-  -- the place of the one that is marked is its own
-  pub own-place : (w : Waiter) (items : List Waiter) → HavePlaces items → with_key serial_of nat_eq serial items ≡ Some w → HasOwnPlace (with_held held w) items
-  own-place w items places found v there same = ap (λ (u : Waiter). u.serial) (places v w there (find-Some (λ (u : Waiter). nat_eq u.serial serial) items w found).0 same)

@@ -7,6 +7,7 @@ use Rattle.std.specs.Ordering.{nat_cmp}
 use Rattle.std.proofs.lemmas.Bool.{cases_Bool, not_from_true, eqb-true}
 use Rattle.wm_desc.specs.Sorted.{IsSortedOnce, place_of, removed}
 use Rattle.wm_ordered.specs.Ordered.{Pairs, key_of}
+use Rattle.wm_ordered.proofs.Members.{find-Some, filter-less}
 use Rattle.wm_waiting.specs.declared.waiter.Waiter.{Waiter}
 use Rattle.wm_waiting.specs.declared.keys.Spot.{Spot}
 use Rattle.wm_waiting.specs.declared.keys.Rise.{Rise}
@@ -18,7 +19,6 @@ use Rattle.wm_waiting.specs.Waiting.{serial_of, replaced}
 use Rattle.wm_waiting.proofs.Agreement.{apart-spots, apart-rises}
 use Rattle.wm_waiting.proofs.IndexLemmas.{index-length, index-left, index-shrinks}
 use Rattle.wm_waiting.proofs.Marks.{named, alone, replaced-Some, lacks-serial, lacks-place, Contains-replaced_new, Contains-replaced_old, Contains-replaced_cases}
-use Rattle.wm_waiting.proofs.Members.{find-Some, filter-less}
 use Rattle.wm_waiting.proofs.Orders.{same_spot-place, same_rise-serial, same_spot-itself, same_rise-itself}
 
 module _ (serial : ℕ) (w : Waiter) (items : List Waiter) (by : IsFoundBy serial w items) where

@@ -12,6 +12,7 @@ use Rattle.wm_desc.specs.Sorted.{IsSortedOnce, with_key}
 use Rattle.wm_desc.specs.Table.{same_qname, qname_cmp}
 use Rattle.wm_desc.proofs.Tables.{qname_total, qname_ties}
 use Rattle.wm_ordered.specs.Ordered.{key_of, first_from}
+use Rattle.wm_ordered.proofs.Members.{find-Some, find-None, find-before}
 use Rattle.wm_waiting.specs.declared.waiter.Waiter.{Waiter}
 use Rattle.wm_waiting.specs.declared.keys.Spot.{Spot}
 use Rattle.wm_waiting.specs.Keys.{spot_of}
@@ -21,7 +22,6 @@ use Rattle.wm_waiting.specs.Orders.{spot_cmp}
 use Rattle.wm_waiting.specs.Waiting.{serial_of, HavePlaces, is_of, is_on, is_up, is_turn, head_of}
 use Rattle.wm_waiting.proofs.Heads.{head-None, head-Some}
 use Rattle.wm_waiting.proofs.Marks.{found-there}
-use Rattle.wm_waiting.proofs.Members.{find-Some, find-None, find-before}
 use Rattle.wm_waiting.proofs.Orders.{begin_of, between, lesser_place, spot_cmp-fields, then_Less}
 
 not_below : (m n p : ℕ) → p ≤ m → is_lt (ordering_then (nat_cmp m p) (nat_cmp n 0)) ≡ false

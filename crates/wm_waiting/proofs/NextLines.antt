@@ -12,6 +12,7 @@ use Rattle.wm_desc.specs.Sorted.{IsSortedOnce, with_key}
 use Rattle.wm_desc.specs.Table.{same_qname, qname_cmp}
 use Rattle.wm_desc.proofs.Tables.{qname_total, qname_ties}
 use Rattle.wm_ordered.specs.Ordered.{key_of, first_above}
+use Rattle.wm_ordered.proofs.Members.{Contains-filter, Contains-from_filter, filter-empty, find-Some, find-None, find-before}
 use Rattle.wm_waiting.specs.declared.waiter.Waiter.{Waiter}
 use Rattle.wm_waiting.specs.declared.keys.Spot.{Spot}
 use Rattle.wm_waiting.specs.Keys.{spot_of}
@@ -20,7 +21,6 @@ use Rattle.wm_waiting.specs.Orders.{spot_cmp}
 use Rattle.wm_waiting.specs.Waiting.{serial_of, HavePlaces, is_on, is_before, earlier, next_on}
 use Rattle.wm_waiting.proofs.Lines.{fold-earlier, same-queue, spot-precedes}
 use Rattle.wm_waiting.proofs.Marks.{found-there}
-use Rattle.wm_waiting.proofs.Members.{Contains-filter, Contains-from_filter, filter-empty, find-Some, find-None, find-before}
 use Rattle.wm_waiting.proofs.Orders.{between, spot_cmp-fields}
 
 greater-behind : (p q m n : ℕ) → (nat_lt q p || (q == p && nat_lt n m)) ≡ true → is_gt (ordering_then (nat_cmp p q) (nat_cmp m n)) ≡ true

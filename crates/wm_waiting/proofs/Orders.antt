@@ -44,11 +44,6 @@ line_total = then_total (on_total (λ (s : Spot). s.jobq) qname_total) (on_total
 abbrev pub begin_of : QName → ℕ → Spot
 begin_of queue pty = record { jobq = queue; pty = pty; place = 0 }
 
-equal_both : (a b : Ordering) → ordering_then a b ≡ Equal → (a ≡ Equal) × (b ≡ Equal)
-equal_both Equal b h = (refl, h)
-equal_both Less b h = absurd (cc h)
-equal_both Greater b h = absurd (cc h)
-
 both_eq : (a b : Ordering) → is_eq (ordering_then a b) ≡ (is_eq a && is_eq b)
 both_eq Less b = refl
 both_eq Equal b = refl
@@ -62,27 +57,12 @@ is_of-line queue pty w =
 pub line-Equal : (queue : QName) (pty : ℕ) (w : Waiter) → is_of queue pty w ≡ true → line_cmp (spot_of w) (begin_of queue pty) ≡ Equal
 line-Equal queue pty w h = is_eq-Equal _ (sym (is_of-line queue pty w) ∙ h)
 
-not_below_zero : (n : ℕ) → is_lt (nat_cmp n 0) ≡ false
-not_below_zero n = grind arith
-
--- one of the line isn't before its begin
-pub from_begin : (queue : QName) (pty : ℕ) (w : Waiter) → is_of queue pty w ≡ true → is_lt (spot_cmp (spot_of w) (begin_of queue pty)) ≡ false
-from_begin queue pty w h =
-    ap is_lt (spot_cmp-line (spot_of w) (begin_of queue pty) ∙ ap (λ o. ordering_then o (nat_cmp w.place 0)) (line-Equal queue pty w h)) ∙ not_below_zero w.place
-
 pub between : (a b : Ordering) (p q : Ordering) → is_lt (ordering_then a p) ≡ false → ordering_then b q ≡ Less → b ≡ a → a ≡ Equal
 between Equal b p q low high same = refl
 between Less b p q low high same = absurd (false≢true (sym low))
 between Greater Greater p q low high same = absurd (cc high)
 between Greater Less p q low high same = absurd (cc same)
 between Greater Equal p q low high same = absurd (cc same)
-
--- what stands between the begin of a line and one of the line is of the line
-pub is_of-between : (queue : QName) (pty : ℕ) (r w : Waiter) → is_of queue pty w ≡ true → is_lt (spot_cmp (spot_of r) (begin_of queue pty)) ≡ false → spot_cmp (spot_of r) (spot_of w) ≡ Less → is_of queue pty r ≡ true
-is_of-between queue pty r w of low high =
-    let same : line_cmp (spot_of r) (spot_of w) ≡ line_cmp (spot_of r) (begin_of queue pty) = alike_right line_total (spot_of w) (begin_of queue pty) (spot_of r) (line-Equal queue pty w of) in
-    let here : line_cmp (spot_of r) (begin_of queue pty) ≡ Equal = between _ _ _ _ (ap is_lt (sym (spot_cmp-line (spot_of r) (begin_of queue pty))) ∙ low) (sym (spot_cmp-line (spot_of r) (spot_of w)) ∙ high) same in
-    is_of-line queue pty r ∙ ap is_eq here
 
 pub then_Less : (a b : Ordering) → ordering_then a b ≡ Less → a ≡ Equal → b ≡ Less
 then_Less a b h e = sym (ap (λ o. ordering_then o b) e) ∙ h

@@ -1,22 +1,17 @@
--- Rows by key: those of waiters by their serials, how many rows there are, and what room an edit leaves.
-use Rattle.std.proofs.Common.{◌≡◌, ℕ, ◌+◌, ◌≤◌, Bool, true, false, not, ◌||◌, cond, List, [], ◌∷◌, ◌++◌, length, get_or, map, take, drop, Option, Some, None, option_map, is_some, inl, inr, refl, ap, sym, ◌∙◌, subst, arith, Contains, nat_eq}
+-- Rows by key: those of waiters by their serials, and how many rows there may be.
+use Rattle.std.proofs.Common.{◌≡◌, ℕ, ◌+◌, ◌≤◌, Bool, true, false, not, ◌||◌, cond, List, [], ◌∷◌, ◌++◌, length, get_or, map, take, drop, Option, Some, None, option_map, inl, inr, refl, ap, sym, ◌∙◌, subst, arith, Contains, nat_eq}
 use Rattle.std.specs.List.{filter, find, insert, list_any, AllPairs, count_by}
 use Rattle.std.specs.declared.cmp.Ordering.{Ordering}
-use Rattle.std.specs.declared.cmp.Ordering.TheVariants.{Less, Equal, Greater}
-use Rattle.std.specs.Cmp.{IsTotalOrder}
-use Rattle.std.specs.Ordering.{is_lt, is_eq, ordering_reverse}
-use mathlib.Core.Bool.{false≢true}
-use Rattle.std.proofs.lemmas.Bool.{not_from_false, eqb-true}
+use Rattle.std.specs.Ordering.{is_lt}
+use Rattle.std.proofs.lemmas.Bool.{eqb-true}
 use Rattle.std.proofs.lemmas.List.{take-map, drop-map, map-append, length-map, get_or-map}
-use Rattle.std.proofs.lemmas.List.Edits.{length-insert}
-use Rattle.std.proofs.lemmas.List.Sums.{count_by-le-length, sum_by-cons}
-use Rattle.wm_base.proofs.Orderings.{is_eq-Equal}
+use Rattle.std.proofs.lemmas.List.Sums.{sum_by-cons}
 use Rattle.wm_desc.specs.Sorted.{IsSortedOnce, with_key, has_key, place_of, added, removed}
 use Rattle.wm_ordered.specs.Ordered.{key_of, value_at, with_value}
+use Rattle.wm_ordered.proofs.Members.{Contains-head, Contains-cons, Contains-nil, Contains-cases, AllPairs-head, AllPairs-tail}
 use Rattle.wm_waiting.specs.declared.waiter.Waiter.{Waiter}
 use Rattle.wm_waiting.specs.Waiting.{serial_of, replaced}
 use Rattle.wm_waiting.specs.Keys.{waiters_of, row_of}
-use Rattle.wm_waiting.proofs.Members.{Contains-head, Contains-cons, Contains-nil, Contains-cases, filter-whole, AllPairs-head, AllPairs-tail}
 
 module _ {X Y : Type 0} (f : X → Y) where
   count_by-map : (p : Y → Bool) (xs : List X) → count_by p (map f xs) ≡ count_by (λ x. p (f x)) xs
@@ -46,16 +41,6 @@ module _ {X Y : Type 0} (f : X → Y) where
   list_any-map : (p : Y → Bool) (xs : List X) → list_any p (map f xs) ≡ list_any (λ x. p (f x)) xs
   list_any-map p [] = refl
   list_any-map p (x ∷ xs) = ap (λ b. p (f x) || b) (list_any-map p xs)
-
--- a key without a value gets none
-module _ {K V : Type 0} (eq : K → K → Bool) (key : K) (v : V) where
-  lacks_by : (b : Bool) (x : K × V) (xs : List (K × V)) → eq x.0 key ≡ b → value_at eq key (x ∷ xs) ≡ None → (value_at eq key xs ≡ None → with_value eq key v xs ≡ xs) → cond b (x.0, v) x ∷ with_value eq key v xs ≡ x ∷ xs
-  lacks_by true x xs e none rest = absurd (cc (ap (λ c. option_map (λ (p : K × V). p.1) (cond c (Some x) (find (λ (p : K × V). eq p.0 key) xs))) (sym e) ∙ none))
-  lacks_by false x xs e none rest = ap (λ l. x ∷ l) (rest (ap (λ c. option_map (λ (p : K × V). p.1) (cond c (Some x) (find (λ (p : K × V). eq p.0 key) xs))) (sym e) ∙ none))
-
-  pub with_value-lacks : (xs : List (K × V)) → value_at eq key xs ≡ None → with_value eq key v xs ≡ xs
-  with_value-lacks [] none = refl
-  with_value-lacks (x ∷ xs) none = lacks_by (eq x.0 key) x xs refl none (with_value-lacks xs)
 
 waiters-rows : (ws : List Waiter) → waiters_of (map row_of ws) ≡ ws
 waiters-rows [] = refl
@@ -125,28 +110,6 @@ module _ (rows : List (ℕ × Waiter)) (keyed : rows ≡ map row_of (waiters_of 
 
 pub length-waiters : {K : Type 0} (rows : List (K × Waiter)) → length (waiters_of rows) ≡ length rows
 length-waiters rows = length-map rows (λ r. r.1)
-
-pub length-added : {E K : Type 0} (key : E → K) (cmp : K → K → Ordering) (x : E) (xs : List E) → length (added key cmp x xs) ≡ length xs + 1
-length-added key cmp x xs = length-insert xs (place_of key cmp (key x) xs) x (count_by-le-length (λ y. is_lt (cmp (key y) (key x))) xs)
-
-module _ {K : Type 0} (eq : K → K → Bool) (cmp : K → K → Ordering) (o : IsTotalOrder cmp) (ties : (a b : K) → eq a b ≡ is_eq (cmp a b)) where
-  -- a key above one that is sought isn't it
-  other : (a b k : K) → eq a k ≡ true → cmp a b ≡ Less → eq b k ≡ false
-  other a b k same before =
-      let tied : cmp a k ≡ Equal = is_eq-Equal (cmp a k) (sym (ties a k) ∙ same) in
-      ties b k ∙ ap is_eq (o.antisymm b k ∙ ap ordering_reverse (sym (o.congr a k b tied) ∙ before))
-
-  module _ {V : Type 0} (k : K) where
-    one_less : (b : Bool) (x : K × V) (xs : List (K × V)) → eq x.0 k ≡ b → IsSortedOnce key_of cmp (x ∷ xs) → length (removed key_of eq k xs) + cond (is_some (value_at eq k xs)) 1 0 ≡ length xs → length (removed key_of eq k (x ∷ xs)) + cond (is_some (value_at eq k (x ∷ xs))) 1 0 ≡ length (x ∷ xs)
-    one_less true x xs e sorted less =
-        let whole : removed key_of eq k xs ≡ xs = filter-whole (λ y. not (eq y.0 k)) xs (λ y h. not_from_false _ (other x.0 y.0 k e (AllPairs-head (λ a b. cmp a.0 b.0 ≡ Less) x y xs sorted h))) in
-        rw (e, whole) (omega arith)
-    one_less false x xs e sorted less = rw e (omega arith)
-
-    -- a removal takes the one row of the key
-    pub length-removed : (rows : List (K × V)) → IsSortedOnce key_of cmp rows → length (removed key_of eq k rows) + cond (is_some (value_at eq k rows)) 1 0 ≡ length rows
-    length-removed [] sorted = refl
-    length-removed (x ∷ xs) sorted = one_less (eq x.0 k) x xs refl sorted (length-removed xs (AllPairs-tail (λ a b. cmp a.0 b.0 ≡ Less) x xs sorted))
 
 module _ {Y : Type 0} where
   -- a list without one of its elements

@@ -4,17 +4,17 @@ use Rattle.std.specs.List.{insert, slice_get}
 use Rattle.std.specs.Cmp.{IsTotalOrder}
 use Rattle.std.specs.declared.cmp.Ordering.{Ordering}
 use Rattle.std.specs.declared.cmp.Ordering.TheVariants.{Less, Equal, Greater}
-use Rattle.std.specs.Ordering.{nat_cmp, is_gt, is_eq, ordering_reverse}
+use Rattle.std.specs.Ordering.{nat_cmp, is_eq, ordering_reverse}
 use mathlib.Core.Bool.{false≢true}
 use Rattle.std.proofs.lemmas.Bool.{cases_Bool, not_from_true, eqb-true}
 use Rattle.std.proofs.lemmas.Bool.Decides.{nat_tests}
 use Rattle.wm_desc.specs.Sorted.{IsSortedOnce, has_key, removed}
-use Rattle.wm_ordered.specs.Ordered.{key_of, first_above}
+use Rattle.wm_ordered.specs.Ordered.{key_of}
+use Rattle.wm_ordered.proofs.Members.{Contains-nil, Contains-cons, Contains-head, Contains-cases, at-there, first-there, filter-less, list_any-none, AllPairs-head, AllPairs-tail}
 use Rattle.wm_waiting.specs.declared.waiter.Waiter.{Waiter}
 use Rattle.wm_waiting.specs.Index.{IsIndex}
 use Rattle.wm_waiting.specs.Keys.{waiters_of}
 use Rattle.wm_waiting.specs.Waiting.{serial_of, has_place, HavePlaces}
-use Rattle.wm_waiting.proofs.Members.{Contains-nil, Contains-cons, Contains-head, Contains-cases, first-there, filter-less, list_any-none, AllPairs-head, AllPairs-tail}
 
 -- no row is the index of nobody
 pub index-nobody : {K V : Type 0} (key : Waiter → K) (told : Waiter → V) (test : Waiter → Bool) (rows : List (K × V)) → rows ≡ [] → IsIndex key told test [] rows
@@ -44,44 +44,12 @@ module _ {X : Type 0} where
   one-more (y ∷ ys) zero x at = let here : y ≡ x = cc at in ap (λ (z : X). z ∷ []) (sym here)
   one-more (y ∷ ys) (suc k) x at = ap (λ (zs : List X). y ∷ zs) (one-more ys k x at)
 
-  pub at-there : (xs : List X) (k : ℕ) (x : X) → slice_get xs k ≡ Some x → Contains xs x
-  at-there [] k x at = absurd (cc at)
-  at-there (y ∷ ys) zero x at = let here : y ≡ x = cc at in subst (λ z. Contains (y ∷ ys) z) here (Contains-head y ys)
-  at-there (y ∷ ys) (suc k) x at = Contains-cons y x ys (at-there ys k x at)
-
   pub in-first : (xs : List X) (k : ℕ) (x : X) → Contains (take k xs) x → Contains xs x
   in-first [] zero x there = absurd (Contains-nil x there)
   in-first [] (suc k) x there = absurd (Contains-nil x there)
   in-first (y ∷ ys) zero x there = absurd (Contains-nil x there)
   in-first (y ∷ ys) (suc k) x there =
       elim (Contains-cases y x (take k ys) there) [ inl same ↦ subst (λ z. Contains (y ∷ ys) z) same (Contains-head y ys) | inr later ↦ Contains-cons y x ys (in-first ys k x later) ]
-
-not_above : (m n : ℕ) → nat_cmp m n ≡ Less → is_gt (nat_cmp m n) ≡ false
-not_above m n h = ap is_gt h
-
-not_above_itself : (m n : ℕ) → m ≡ n → is_gt (nat_cmp m n) ≡ false
-not_above_itself m n h = grind (arith, nat_tests)
-
-above_behind : (m n : ℕ) → nat_cmp n m ≡ Less → is_gt (nat_cmp m n) ≡ true
-above_behind m n h = grind (arith, nat_tests)
-
--- rows of waiters by their serials, each serial once
-module _ {V : Type 0} where
-  abbrev before : ℕ × V → ℕ × V → Type 0
-  before a b = nat_cmp a.0 b.0 ≡ Less
-
-  first_behind : (s : ℕ) (xs : List (ℕ × V)) → ((x : ℕ × V) → Contains xs x → nat_cmp s x.0 ≡ Less) → first_above nat_cmp s xs ≡ slice_get xs 0
-  first_behind s [] behind = refl
-  first_behind s (x ∷ xs) behind = rw (above_behind x.0 s (behind x (Contains-head x xs))) refl
-
-  -- the row behind one is the first above its serial
-  pub next-row : (rows : List (ℕ × V)) (k : ℕ) (r : ℕ × V) → IsSortedOnce key_of nat_cmp rows → slice_get rows k ≡ Some r → first_above nat_cmp r.0 rows ≡ slice_get rows (suc k)
-  next-row [] k r sorted at = absurd (cc at)
-  next-row (x ∷ xs) zero r sorted at =
-      let here : x ≡ r = cc at in
-      rw (not_above_itself x.0 r.0 (ap (λ (q : ℕ × V). q.0) here)) (first_behind r.0 xs (λ y there. subst (λ (q : ℕ × V). nat_cmp q.0 y.0 ≡ Less) here (AllPairs-head before x y xs sorted there)))
-  next-row (x ∷ xs) (suc k) r sorted at =
-      rw (not_above x.0 r.0 (AllPairs-head before x r xs sorted (at-there xs k r at))) (next-row xs k r (AllPairs-tail before x xs sorted) at)
 
 -- the waiter of the row at a place
 pub waiter-at : (rows : List (ℕ × Waiter)) (k s : ℕ) (w : Waiter) → slice_get rows k ≡ Some (s, w) → slice_get (waiters_of rows) k ≡ Some w

@@ -1,7 +1,5 @@
 -- What the jobs that wait are found by.
-use Rattle.std.specs.Prelude.{ℕ, Bool, ◌&&◌, ◌==◌, List, map}
-use Rattle.wm_base.specs.declared.qname.QName.{QName}
-use Rattle.wm_desc.specs.Table.{same_qname}
+use Rattle.std.specs.Prelude.{ℕ, List, map}
 use Rattle.wm_waiting.specs.declared.waiter.Waiter.{Waiter}
 use Rattle.wm_waiting.specs.declared.keys.Spot.{Spot}
 use Rattle.wm_waiting.specs.declared.keys.Rise.{Rise}
@@ -9,10 +7,6 @@ use Rattle.wm_waiting.specs.declared.keys.Rise.{Rise}
 -- where one stands on its queue
 abbrev pub spot_of : Waiter → Spot
 spot_of w = record { jobq = w.jobq; pty = w.pty; place = w.place }
-
--- whether a spot is of the queue and the priority
-abbrev pub is_at : QName → ℕ → Spot → Bool
-is_at queue pty s = same_qname s.jobq queue && s.pty == pty
 
 -- when one becomes due
 abbrev pub rise_of : Waiter → Rise

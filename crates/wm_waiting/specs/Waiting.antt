@@ -1,8 +1,9 @@
 -- What a contract sees of the jobs that wait, and which of them is the head, or the first on a queue.
-use Rattle.std.specs.Prelude.{◌≡◌, ℕ, ◌≤◌, Bool, not, ◌&&◌, ◌||◌, ◌==◌, nat_lt, nat_le, nat_eq, min, List, filter, fold, map, Option, Some, None, if◌then◌else◌}
+use Rattle.std.specs.Prelude.{◌≡◌, ℕ, ◌≤◌, Bool, not, ◌&&◌, ◌||◌, ◌==◌, nat_lt, nat_le, nat_eq, List, filter, fold, map, Option, Some, None, if◌then◌else◌}
 use Rattle.std.specs.List.{Contains, list_any}
 use Rattle.wm_base.specs.declared.qname.QName.{QName}
 use Rattle.wm_desc.specs.Table.{same_qname}
+use Rattle.wm_ordered.specs.Least.{sooner}
 use Rattle.wm_waiting.specs.declared.waiter.Waiter.{Waiter}
 
 -- the jobs that wait in the order of their serials, the greatest moment that was made due, and for how many more there is room
@@ -73,22 +74,9 @@ first_on queue items = fold earlier None (filter (is_on queue) items)
 abbrev pub next_on : Waiter → List Waiter → Option Waiter
 next_on after items = first_on after.jobq (filter (is_before after) items)
 
--- the lesser of two moments, where there is one
-abbrev pub sooner : Option ℕ → ℕ → Option ℕ
-sooner None moment = Some moment
-sooner (Some least) moment = Some (min least moment)
-
 -- the least moment above the clock at which one is due, held or not
 abbrev pub next_due : ℕ → List Waiter → Option ℕ
 next_due clock items = fold (λ least w. if is_ahead clock w then sooner least w.due else least) None items
-
--- the job, held or not
-abbrev pub with_held : Bool → Waiter → Waiter
-with_held held w = record { serial = w.serial; jobq = w.jobq; pty = w.pty; place = w.place; held = held; due = w.due }
-
--- the jobs, with the one of a serial held or not
-abbrev pub marked : ℕ → Bool → List Waiter → List Waiter
-marked serial held items = map (λ w. if nat_eq w.serial serial then with_held held w else w) items
 
 -- another has its place only where that one has its serial too
 abbrev pub HasOwnPlace : Waiter → List Waiter → Type 0

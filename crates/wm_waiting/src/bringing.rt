@@ -9,8 +9,7 @@ use crate::Waiter;
 use crate::indexes::take_out;
 use crate::keys::{Rise, Spot};
 use wm_base::{Moment, Serial};
-use wm_ordered::Ordered;
-use wm_slots::Slots;
+use wm_ordered::{Ordered, Slots};
 
 // Brings the first where it is due by a moment, and answers whether it was.
 fn bring_first(

@@ -54,7 +54,7 @@ pub(crate) struct Rise {
 impl Spot {
     ghost use Rattle.std.specs.Prelude.{◌≡◌};
     ghost use Rattle.wm_desc.specs.Table.{same_qname};
-    ghost use Rattle.wm_waiting.specs.Keys.{spot_of, is_at};
+    ghost use Rattle.wm_waiting.specs.Keys.{spot_of};
 
     pub(crate) fn of(waiter: &Waiter) -> Spot
         ensures { result ≡ spot_of waiter.now }
@@ -64,13 +64,6 @@ impl Spot {
             pty: waiter.pty,
             place: waiter.place,
         }
-    }
-
-    /// Whether it is of a queue and a priority.
-    pub(crate) fn is_of(&self, jobq: &QName, pty: Priority) -> bool
-        ensures { result ≡ is_at jobq.now pty self.now }
-    {
-        self.jobq == *jobq && self.pty == pty
     }
 
     /// Whether it is on a queue.

@@ -9,8 +9,7 @@ use crate::Waiter;
 use crate::indexes::{enlist, take_out};
 use crate::keys::{Rise, Spot};
 use wm_base::{Moment, Serial};
-use wm_ordered::Ordered;
-use wm_slots::Slots;
+use wm_ordered::{Ordered, Slots};
 
 /// Takes out all rows.
 pub(crate) fn take_all<K: Ord + Copy, V: Copy>(rows: &mut Ordered<K, V>)

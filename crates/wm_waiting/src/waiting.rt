@@ -7,10 +7,8 @@ use crate::moving::{move_line, relist};
 use crate::turning::{list_all, take_all};
 use std::alloc::{AllocError, Global};
 use std::marker::Model;
-use std::sync::ledger::Ledger;
-use wm_base::{Moment, NoMemory, Priority, QName, Serial, Steps};
-use wm_ordered::Ordered;
-use wm_slots::Slots;
+use wm_base::{Moment, NoMemory, Priority, QName, Serial};
+use wm_ordered::{Ordered, Slots};
 
 /// The jobs that wait. A contract sees them in the order of their serials, with `clock`, the greatest moment that was made
 /// due, and `spare`, for how many more jobs there is room. Each serial and each place stands there once.
@@ -41,10 +39,10 @@ impl Model for WaitingJobs {
 }
 
 impl WaitingJobs {
-    ghost use Rattle.std.specs.Prelude.{◌≡◌, ◌+◌, ◌≤◌, [], false, true, nat_eq, max, min, length, is_some, if◌then◌else◌, OnOk, OnErr};
+    ghost use Rattle.std.specs.Prelude.{◌≡◌, ◌+◌, ◌≤◌, [], false, nat_eq, max, min, length, is_some, if◌then◌else◌, OnOk, OnErr};
     ghost use Rattle.std.specs.Ordering.{nat_cmp};
     ghost use Rattle.wm_desc.specs.Sorted.{IsSortedOnce, with_key, has_key, added, removed};
-    ghost use Rattle.wm_waiting.specs.Waiting.{serial_of, has_place, HavePlaces, HavePriorities, HasOwnPlace, head_of, first_on, next_due, marked, replaced};
+    ghost use Rattle.wm_waiting.specs.Waiting.{serial_of, has_place, HavePlaces, HavePriorities, HasOwnPlace, first_on, next_due, replaced};
 
     /// None waits, and the clock is 0.
     pub fn new(alloc: Global) -> WaitingJobs
@@ -151,24 +149,6 @@ impl WaitingJobs {
         move_line(&mut self.lines, &old, &waiter);
     }
 
-    /// Holds the job of a serial, where there is one. It takes no memory.
-    pub fn hold(&mut self, serial: Serial)
-        ensures items { self.new.items ≡ marked serial true self.old.items }
-        ensures clock { self.new.clock ≡ self.old.clock }
-        ensures spare { self.new.spare ≡ self.old.spare }
-    {
-        self.mark(serial, true);
-    }
-
-    /// Releases the job of a serial, where there is one. It takes no memory.
-    pub fn release(&mut self, serial: Serial)
-        ensures items { self.new.items ≡ marked serial false self.old.items }
-        ensures clock { self.new.clock ≡ self.old.clock }
-        ensures spare { self.new.spare ≡ self.old.spare }
-    {
-        self.mark(serial, false);
-    }
-
     /// Makes due what is due at a moment, where the clock isn't past it. It takes no memory, and goes through those alone
     /// that become due.
     pub fn make_due(&mut self, now: Moment)
@@ -183,55 +163,11 @@ impl WaitingJobs {
         self.clock = now;
     }
 
-    // A job that is marked takes its own place again.
-    fn mark(&mut self, serial: Serial, held: bool)
-        ensures items { self.new.items ≡ marked serial held self.old.items }
-        ensures clock { self.new.clock ≡ self.old.clock }
-        ensures spare { self.new.spare ≡ self.old.spare }
-    {
-        // `len` tells that serials and places differ.
-        self.len();
-        let Some(mut waiter) = self.waiter(serial) else {
-            return;
-        };
-        waiter.held = held;
-        self.replace(waiter);
-    }
-
     // The job of a serial.
     pub(crate) fn waiter(&self, serial: Serial) -> Option<Waiter>
         ensures { result ≡ with_key serial_of nat_eq serial self.now.items }
     {
         self.all.get(serial)
-    }
-
-    /// The job of a queue and a priority that isn't held, is due by the clock, and has the least place. It is one look.
-    pub fn head<L: Ledger>(
-        &self,
-        jobq: &QName,
-        pty: Priority,
-        steps: &mut Steps<L>,
-    ) -> Option<Waiter>
-        ensures head { result ≡ head_of jobq.now pty self.now.clock self.now.items }
-        ensures look { steps.new ≡ steps.old + 1 }
-    {
-        steps.tick();
-        // `len` tells that spots ascend, and that serials and places differ.
-        self.len();
-        self.turns.len();
-        let begin = Spot {
-            jobq: *jobq,
-            pty,
-            place: 0,
-        };
-        let Some((spot, serial)) = row_from(&self.turns, &begin) else {
-            return None;
-        };
-        if spot.is_of(jobq, pty) {
-            self.waiter(serial)
-        } else {
-            None
-        }
     }
 
     /// The first of the jobs on a queue, held and early ones too: by priority, then by place.

@@ -1,5 +1,6 @@
 use Rattle.std.proofs.Common.{◌==◌, ℕ, Bool, sym, ◌∙◌, arith}
-use Rattle.wm_active.proofs.Walk.{differs, is-same, next-at, counted-more, counted-same}
+use Rattle.wm_ordered.proofs.Walked.{next-at}
+use Rattle.wm_active.proofs.Walk.{differs, is-same, counted-more, counted-same}
 use Rattle.wm_active.proofs.kills.count_of.Goals as goal
 use Rattle.wm_active.proofs.kills.count_of.Goals.{then-row-monitor, else-row-monitor}
 

@@ -1,6 +1,7 @@
 use Rattle.std.proofs.Common.{◌==◌, ℕ, Bool, option_map, ap, sym, ◌∙◌}
 use Rattle.wm_ordered.specs.Ordered.{key_of}
-use Rattle.wm_active.proofs.Walk.{differs, is-same, next-at, found-at, found-later}
+use Rattle.wm_ordered.proofs.Walked.{next-at}
+use Rattle.wm_active.proofs.Walk.{differs, is-same, found-at, found-later}
 use Rattle.wm_active.proofs.kills.first_of.Goals as goal
 
 pub returns-then-row-monitor : goal.returns-then-row-monitor

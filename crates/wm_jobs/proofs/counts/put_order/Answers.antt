@@ -1,7 +1,7 @@
 use Rattle.std.proofs.Common.{◌≡◌, ◌+◌, length, ap, ◌∙◌, arith}
 use Rattle.std.specs.Ordering.{nat_cmp}
 use Rattle.wm_ordered.specs.Ordered.{key_of}
-use Rattle.wm_waiting.proofs.Rows.{length-added}
+use Rattle.wm_ordered.proofs.Keyed.{length-added}
 use Rattle.wm_jobs.proofs.counts.put_order.Goals as goal
 
 pub returns-then-is_starting-clause-nodes : goal.returns-then-is_starting-clause-nodes

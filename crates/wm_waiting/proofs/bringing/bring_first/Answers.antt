@@ -3,13 +3,13 @@ use Rattle.std.specs.Ordering.{nat_cmp}
 use Rattle.std.proofs.lemmas.Bool.{not_from_true}
 use Rattle.wm_desc.specs.Sorted.{has_key}
 use Rattle.wm_ordered.specs.Ordered.{key_of}
+use Rattle.wm_ordered.proofs.Members.{first-there, filter-less}
 use Rattle.wm_waiting.specs.declared.keys.Rise.{Rise}
 use Rattle.wm_waiting.specs.declared.keys.Spot.{Spot}
 use Rattle.wm_waiting.specs.Bringing.{IsUnderway}
 use Rattle.wm_waiting.specs.Keys.{waiters_of}
 use Rattle.wm_waiting.specs.Orders.{same_spot, same_rise}
 use Rattle.wm_waiting.proofs.Brought.{all-above, first-found, first-lacks, new-turn, turn-fits, underway-held, underway-turn}
-use Rattle.wm_waiting.proofs.Members.{first-there, filter-less}
 use Rattle.wm_waiting.proofs.Orders.{above_from_gt, le_from_gt, rise_laws}
 use Rattle.wm_waiting.proofs.Rows.{sorted-waiters, value-waiter, length-waiters}
 use Rattle.wm_waiting.proofs.bringing.bring_first.Goals as goal

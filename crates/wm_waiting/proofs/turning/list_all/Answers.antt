@@ -2,6 +2,7 @@ use Rattle.std.proofs.Common.{◌≡◌, suc, ◌+◌, List, take, take_all, len
 use Rattle.std.specs.List.{insert, slice_get}
 use Rattle.std.specs.Ordering.{nat_cmp}
 use Rattle.std.proofs.lemmas.List.{length-take}
+use Rattle.wm_ordered.proofs.Walked.{next-row}
 use Rattle.wm_waiting.specs.declared.waiter.Waiter.{Waiter}
 use Rattle.wm_waiting.specs.Index.{IsIndex}
 use Rattle.wm_waiting.specs.Keys.{waiters_of, spot_of, rise_of, nothing_of}
@@ -11,7 +12,7 @@ use Rattle.wm_waiting.proofs.Agreement.{apart-spots, apart-rises}
 use Rattle.wm_waiting.proofs.IndexLemmas.{index-length, index-lacks}
 use Rattle.wm_waiting.proofs.Orders.{spot-itself, rise-itself}
 use Rattle.wm_waiting.proofs.Rows.{sorted-waiters, length-waiters}
-use Rattle.wm_waiting.proofs.Turned.{index-nobody, next-row, waiter-at, one-more, serial-new, place-new, none-beyond}
+use Rattle.wm_waiting.proofs.Turned.{index-nobody, waiter-at, one-more, serial-new, place-new, none-beyond}
 use Rattle.wm_waiting.proofs.turning.list_all.Goals as goal
 
 pub loop-count-init : goal.loop-count-init

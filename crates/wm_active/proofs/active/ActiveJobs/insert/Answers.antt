@@ -1,23 +1,24 @@
 use Rattle.std.proofs.Common.{◌≡◌, ℕ, false, length, nat_eq, ◌∙◌, ap, sym, subst, arith}
 use Rattle.std.specs.Ordering.{nat_cmp}
-use Rattle.std.proofs.lemmas.Cmp.{nat_cmp_total}
 use Rattle.wm_desc.specs.Sorted.{has_key}
 use Rattle.wm_ordered.specs.Ordered.{Pairs, key_of}
-use Rattle.wm_ordered.proofs.Cuts.{length-added}
+use Rattle.wm_ordered.proofs.Keyed.{length-added}
 use Rattle.wm_active.specs.declared.acting.Acting.{Acting}
 use Rattle.wm_active.specs.ActiveInside.{joined, parts, until_of, kill_of}
+use Rattle.wm_active.specs.Moments.{AreTurns}
 use Rattle.wm_active.proofs.Parts.{parts-added, parts-few, parts-lack}
+use Rattle.wm_active.proofs.TurnLemmas.{lacks-serial}
 use Rattle.wm_active.proofs.active.ActiveJobs.insert.Goals as goal
 
 pub put_moment-requires-clause-spare : goal.put_moment-requires-clause-spare
 put_moment-requires-clause-spare c =
     let spare = ap (λ (v : Pairs ℕ Acting). v.spare) c.self.view_is in
-    omega (arith, c.requires.spare, spare, ap length c.self.invariant.moments_are, parts-few until_of c.self.inside.jobs.items, c.self.invariant.to_wake)
+    omega (arith, c.requires.spare, spare, c.self.invariant.moments_are.counted, parts-few until_of c.self.inside.jobs.items, c.self.invariant.to_wake)
 
 pub put_moment-requires-clause-new : goal.put_moment-requires-clause-new
 put_moment-requires-clause-new c =
     let new = subst (λ (v : Pairs ℕ Acting). has_key key_of nat_eq c.args.serial v.items ≡ false) (sym c.self.view_is) c.requires.new in
-    ap (has_key key_of nat_eq c.args.serial) c.self.invariant.moments_are ∙ parts-lack until_of c.args.serial c.self.inside.jobs.items new
+    lacks-serial (parts until_of c.self.inside.jobs.items) c.self.inside.moments.items c.self.invariant.moments_are c.args.serial (parts-lack until_of c.args.serial c.self.inside.jobs.items new)
 
 pub put_kill-requires-clause-spare : goal.put_kill-requires-clause-spare
 put_kill-requires-clause-spare c =
@@ -36,9 +37,9 @@ invariant_of-self c =
     let sorted = c.len.ensures.sorted in
     let come = c.insert.ensures.items in
     let spare = ap (λ (v : Pairs ℕ Acting). v.spare) c.self.view_is in
-    let more = length-added nat_cmp nat_cmp_total (s, c.args.acting) items sorted in
+    let more = length-added key_of nat_cmp (s, c.args.acting) items in
     record {
-      moments_are = c.put_moment.ensures.items ∙ (ap (joined s c.args.acting.until) c.self.invariant.moments_are ∙ (parts-added until_of s c.args.acting items sorted ∙ ap (parts until_of) (sym come)));
+      moments_are = subst (λ l. AreTurns l c.put_moment.new.turns.items) (parts-added until_of s c.args.acting items sorted ∙ ap (parts until_of) (sym come)) (c.put_moment.ensures.turns (parts until_of items) c.self.invariant.moments_are);
       kills_are = c.put_kill.ensures.items ∙ (ap (joined s c.args.acting.kill) c.self.invariant.kills_are ∙ (parts-added kill_of s c.args.acting items sorted ∙ ap (parts kill_of) (sym come)));
       few = omega (arith, c.requires.spare, spare, more, ap length come);
       to_stand = omega (arith, more, ap length come, c.insert.ensures.spare, c.self.invariant.to_stand);

@@ -1,12 +1,13 @@
 use Rattle.std.proofs.Common.{◌≡◌, ℕ, nat_eq, List, Some, sym, ap, subst, ◌∙◌, arith}
 use Rattle.std.specs.Ordering.{nat_cmp}
 use Rattle.wm_desc.specs.Sorted.{IsSortedOnce, with_key}
+use Rattle.wm_ordered.proofs.Keyed.{with_value-lacks}
 use Rattle.wm_waiting.specs.declared.waiter.Waiter.{Waiter}
 use Rattle.wm_waiting.specs.Keys.{waiters_of}
 use Rattle.wm_waiting.specs.Moving.{Replaces}
 use Rattle.wm_waiting.specs.Waiting.{Waiting, serial_of, HasOwnPlace, replaced}
 use Rattle.wm_waiting.proofs.Agreement.{agrees-replace, agrees-same}
-use Rattle.wm_waiting.proofs.Rows.{length-waiters, value-waiter, waiters-replaced, with_value-lacks}
+use Rattle.wm_waiting.proofs.Rows.{length-waiters, value-waiter, waiters-replaced}
 use Rattle.wm_waiting.proofs.waiting.WaitingJobs.replace.Goals as goal
 
 pub invariant_of-self : goal.invariant_of-self

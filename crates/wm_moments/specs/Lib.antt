@@ -1,3 +1,0 @@
-pub mod MomentsInside
-pub mod Next
-pub mod Turns

@@ -1,4 +1,0 @@
-pub mod Around
-pub mod Counted
-pub mod Parts
-pub mod Placed
