@@ -3,7 +3,7 @@ use crate::text::qname_of;
 use anyhow::{Context, Result, bail};
 use std::alloc::{AllocError, Global};
 use wm_base::Limit;
-use wm_desc::{Cmp, Jobd, Objects, QueueEntry, RouteEntry, Sbsd, Table};
+use wm_desc::{Cmp, Jobd, Objects, PreEntry, QueueEntry, RouteEntry, Sbsd, Table};
 
 // The object of that name.
 fn object<'a, V>(table: &'a Table<V>, name: &str) -> Result<&'a V> {
@@ -133,8 +133,35 @@ fn write_routes(sbsd: &Sbsd, answer: &mut String) -> Result<()> {
     Ok(())
 }
 
+fn write_autos(sbsd: &Sbsd, answer: &mut String) -> Result<()> {
+    for entry in sbsd.autos.as_slice() {
+        writeln!(answer, "{} {}", entry.job, entry.jobd)?;
+    }
+    Ok(())
+}
+
+fn write_pre(entry: &PreEntry, answer: &mut String) -> Result<()> {
+    let (jobs, threshold, more) = (entry.inljobs, entry.threshold, entry.adljobs);
+    let (starts, most, uses, wait) = (entry.strjobs, entry.maxjobs, entry.maxuse, entry.wait);
+    write!(answer, "{} {starts} {jobs} {threshold} {more}", entry.pgm)?;
+    writeln!(
+        answer,
+        " {most} {uses} {wait} {} {}",
+        entry.cls, entry.poolid
+    )?;
+    Ok(())
+}
+
+fn write_pres(sbsd: &Sbsd, answer: &mut String) -> Result<()> {
+    for entry in sbsd.pres.as_slice() {
+        write_pre(entry, answer)?;
+    }
+    Ok(())
+}
+
 /// Adds what the word says: the `counts` of all objects, or the object of that name: a `class`, a `queue`, a `program`,
-/// a `jobd`, or of a subsystem description what its `description`, its `queues` or its `routes` have.
+/// a `jobd`, or of a subsystem description what its `description`, its `queues`, its `routes`, its `autos` or its `pres`
+/// have.
 pub fn write_objects(objects: &Objects, what: &str, name: &str, answer: &mut String) -> Result<()> {
     match what {
         "counts" => write_counts(objects, answer),
@@ -145,6 +172,8 @@ pub fn write_objects(objects: &Objects, what: &str, name: &str, answer: &mut Str
         "description" => write_description(objects, name, answer),
         "queues" => write_queues(object(&objects.sbsds, name)?, answer),
         "routes" => write_routes(object(&objects.sbsds, name)?, answer),
+        "autos" => write_autos(object(&objects.sbsds, name)?, answer),
+        "pres" => write_pres(object(&objects.sbsds, name)?, answer),
         _ => bail!("nothing to be shown"),
     }
 }
@@ -173,7 +202,9 @@ fn write_all(alloc: Global, objects: &Objects, answer: &mut String) -> Result<()
     write_table(alloc, objects, &objects.jobds, "jobd", answer)?;
     write_table(alloc, objects, &objects.sbsds, "description", answer)?;
     write_table(alloc, objects, &objects.sbsds, "queues", answer)?;
-    write_table(alloc, objects, &objects.sbsds, "routes", answer)
+    write_table(alloc, objects, &objects.sbsds, "routes", answer)?;
+    write_table(alloc, objects, &objects.sbsds, "autos", answer)?;
+    write_table(alloc, objects, &objects.sbsds, "pres", answer)
 }
 
 /// Adds whether a copy of the objects is equal to them: whether both are the same text.
