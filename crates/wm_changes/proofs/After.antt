@@ -13,7 +13,7 @@ use Rattle.wm_traits.specs.Rows.{changed, changed_by, is_of, place_of, put, with
 use Rattle.wm_law.specs.Laws.{IsIn}
 use Rattle.wm_tables.proofs.Keys.{first_same, rest_same}
 use Rattle.wm_tables.proofs.RowOrder.{IsAscending, ascending, of_place, of_put}
-use Rattle.wm_tables.proofs.SameRows.{one_place, stays, two_places}
+use Rattle.wm_tables.proofs.SameRows.{new_there, one_place, stays, two_places}
 use Rattle.wm_changes.specs.Difference.{AreInOrder, change_place}
 
 -- no change is made at the place
@@ -62,9 +62,6 @@ module _ (tab : ℕ) (key : List ℕ) where
 
 -- One change
 
-put_there : (u : Row) (base : List Row) → IsIn u (put u base)
-put_there u base = stays (u ∷ []) base u (λ v i e. elim i as (λ _. u ≡ v) [ inl same ↦ sym same | inr none ↦ absurd none ]) (inl (inl refl))
-
 -- a row of another place stays
 stays_by_one : (c : RowChange) (base : List Row) (r : Row) → (place_of r ≡ change_place c → ⊥) → IsIn r base → IsIn r (changed_by base c)
 stays_by_one (Put u) base r other i = stays (u ∷ []) base r (λ v k e. elim k as (λ _. r ≡ v) [ inl same ↦ absurd (other (e ∙ ap place_of same)) | inr none ↦ absurd none ]) (inr i)
@@ -74,7 +71,7 @@ stays_by_one (Del tab key) base r other i = kept_without tab key base r other i
 put_or : (u : Row) (base : List Row) (r : Row) (t : Bool) → IsInOrder base → is_of u.tab u.key r ≡ t → IsIn r (put u base) → (Put u ≡ Put r) ⊎ (IsIn r base × (place_of r ≡ place_of u → ⊥))
 put_or u base r true order e i =
     let up : IsAscending (put u base) = ascending (put u base) (changed_in_order (Put u ∷ []) base order) in
-    inl (ap (λ (x : Row). Put x) (one_place (put u base) u r up (put_there u base) i (sym (of_place u.tab u.key r e))))
+    inl (ap (λ (x : Row). Put x) (one_place (put u base) u r up (new_there u base) i (sym (of_place u.tab u.key r e))))
 put_or u base r false order e i = elim (of_put u base r i) as (λ _. (Put u ≡ Put r) ⊎ (IsIn r base × (place_of r ≡ place_of u → ⊥))) [
   | inl same ↦ inl (ap (λ (x : Row). Put x) (sym same))
   | inr was ↦ inr (was, λ at. (let here : is_of u.tab u.key r ≡ true = is_there u.tab u.key r at in absurd (cc)))
@@ -102,7 +99,7 @@ stays_after [] base r none i = i
 stays_after (c ∷ cs) base r none i = stays_after cs (changed_by base c) r (λ d k. none d (inr k)) (stays_by_one c base r (none c (inl refl)) i)
 
 put_first : (c : RowChange) (base : List Row) (r : Row) → Put r ≡ c → IsIn r (changed_by base c)
-put_first c base r e = subst (λ (d : RowChange). IsIn r (changed_by base d)) e (put_there r base)
+put_first c base r e = subst (λ (d : RowChange). IsIn r (changed_by base d)) e (new_there r base)
 
 -- a place of one change is that of no later one
 pub other_later : (c d : RowChange) (cs : List RowChange) → AreInOrder (c ∷ cs) → IsIn d cs → change_place c ≡ change_place d → ⊥

@@ -11,16 +11,12 @@ use Rattle.wm_desc.specs.Table.{changed, name_of, qname_cmp, same_qname}
 use Rattle.wm_desc.proofs.Tables.{qname_total}
 use Rattle.wm_traits.specs.declared.row.Row.{Row}
 use Rattle.wm_law.specs.Laws.{IsIn}
-use Rattle.wm_law.proofs.Named.{one_name}
 use Rattle.wm_law.proofs.Named.{own_name as its_own}
 use Rattle.wm_rows.specs.Rows.{class_row, program_row, queue_row, jobd_row, sbsd_row}
 use Rattle.wm_rows.specs.Tables.{queue_entry_rows, route_entry_rows, auto_entry_rows, pre_entry_rows, object_rows, sbsd_rows}
 use Rattle.wm_tables.proofs.OneMore.{first_below, not_same, rest_sorted}
+use Rattle.wm_tables.proofs.RowsOf.{other_named}
 use Rattle.wm_changes.proofs.OneMore.{IsMore, IsWithin, more_mapped, more_within}
-
-other_name : (a b : QName) (t : Bool) → same_qname a b ≡ t → (a ≡ b → ⊥) → t ≡ false
-other_name a b true e h = absurd (h (one_name a b e))
-other_name a b false e h = refl
 
 abbrev Table : Type 0
 Table = List (QName × Sbsd)
@@ -78,7 +74,7 @@ module _ (Q : List Row → List Row → Type 0) (w : IsWithin Q) where
     none_changed (x ∷ xs) h = ap (λ (y : QName × Sbsd). y ∷ changed name alter xs) (mend_other x (same_qname x.0 name) (h x (inl refl))) ∙ ap (λ (ys : Table). x ∷ ys) (none_changed xs (λ y i. h y (inr i)))
 
     rest_unchanged : (x : QName × Sbsd) (xs : Table) → IsSortedOnce name_of qname_cmp (x ∷ xs) → x.0 ≡ name → changed name alter xs ≡ xs
-    rest_unchanged x xs s e = none_changed xs (λ y i. other_name y.0 name (same_qname y.0 name) refl (λ f. not_same (λ (o : QName × Sbsd). o.0) qname_cmp qname_total x.0 y.0 (first_below (λ (o : QName × Sbsd). o.0) qname_cmp qname_total x xs y s i) (e ∙ sym f)))
+    rest_unchanged x xs s e = none_changed xs (λ y i. other_named y.0 name (same_qname y.0 name) refl (λ f. not_same (λ (o : QName × Sbsd). o.0) qname_cmp qname_total x.0 y.0 (first_below (λ (o : QName × Sbsd). o.0) qname_cmp qname_total x xs y s i) (e ∙ sym f)))
 
     -- rows that the change leaves
     module _ (f : QName × Sbsd → Row) (left : (x : QName × Sbsd) → f (x.0, alter x.1) ≡ f x) where
@@ -110,7 +106,7 @@ module _ (Q : List Row → List Row → Type 0) (w : IsWithin Q) where
         subst (λ (os : Table). Q (flat_map f (x ∷ xs)) (flat_map f os)) (sym whole)
         (subst (λ (o : QName × Sbsd). Q (f o ++ flat_map f xs) (f (name, alter d) ++ flat_map f xs)) same (w.left (f (name, d)) (f (name, alter d)) (flat_map f xs) q))
     flat_changed f d q (x ∷ xs) s (inr i) =
-        let no : same_qname x.0 name ≡ false = other_name x.0 name (same_qname x.0 name) refl (not_same (λ (o : QName × Sbsd). o.0) qname_cmp qname_total x.0 name (first_below (λ (o : QName × Sbsd). o.0) qname_cmp qname_total x xs (name, d) s i)) in
+        let no : same_qname x.0 name ≡ false = other_named x.0 name (same_qname x.0 name) refl (not_same (λ (o : QName × Sbsd). o.0) qname_cmp qname_total x.0 name (first_below (λ (o : QName × Sbsd). o.0) qname_cmp qname_total x xs (name, d) s i)) in
         let rest = w.right (f x) (flat_map f xs) (flat_map f (changed name alter xs)) (flat_changed f d q xs (rest_sorted (λ (o : QName × Sbsd). o.0) qname_cmp qname_total x xs s) i) in
         subst (λ (o : QName × Sbsd). Q (f x ++ flat_map f xs) (f o ++ flat_map f (changed name alter xs))) (sym (mend_other x (same_qname x.0 name) no)) rest
 

@@ -7,7 +7,7 @@ use Rattle.std.specs.Ordering.{nat_cmp}
 use Rattle.std.proofs.lemmas.Bool.Decides.{nat_tests}
 use Rattle.std.proofs.lemmas.Cmp.{nat_cmp_total, nat_list_cmp_total}
 use Rattle.std.proofs.lemmas.Slice.Eq.{bytes_eq-Decides}
-use Rattle.std.proofs.lemmas.Bool.{eqb-true}
+use Rattle.std.proofs.lemmas.Bool.{eqb-true, false_from_ne_true, not_from_false}
 use Rattle.wm_base.specs.declared.qname.QName.{QName}
 use Rattle.wm_base.specs.declared.refusal.Kind.TheVariants as kind
 use Rattle.wm_base.specs.declared.refusal.Refusal.{Refusal}
@@ -77,8 +77,7 @@ any_found p (x ∷ xs) h = found_by p x xs (p x) refl h (any_found p xs)
 
 -- a test that holds of no other
 not_by : (t : Bool) → (t ≡ true → ⊥) → not t ≡ true
-not_by true h = absurd (h refl)
-not_by false h = refl
+not_by t h = not_from_false t (false_from_ne_true t h)
 
 -- the entry for a queue
 pub queue_less : (sbsd jobq : QName) (d : Sbsd) (e : QueueEntry) → IsSortedOnce (λ n. n.seq) nat_cmp d.queues → IsDistinct (map (λ n. n.jobq) d.queues) → entry_for jobq d ≡ Some e → IsLess (queue_entry_row sbsd e) (map (queue_entry_row sbsd) d.queues) (map (queue_entry_row sbsd) (without_queue jobq d).queues)

@@ -9,6 +9,7 @@ pub mod JobRows
 pub mod CounterRows
 pub mod Steps
 pub mod NotedPairs
+pub mod Standings
 pub mod TouchedRows
 pub mod Leaving
 pub mod Taking

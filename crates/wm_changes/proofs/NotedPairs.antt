@@ -3,6 +3,7 @@ use Rattle.std.proofs.Common.{◌≡◌, ◌⊎◌, ℕ, ◌||◌, nat_eq, ◌==
 use Rattle.std.specs.List.{list_any}
 use Rattle.std.specs.Ordering.{nat_cmp}
 use Rattle.std.proofs.lemmas.Bool.{eq-eqb, eqb-true}
+use Rattle.wm_base.proofs.Tests.{Some-injective}
 use Rattle.wm_desc.specs.Sorted.{IsSortedOnce, added, has_key, place_of}
 use Rattle.wm_ordered.specs.Ordered.{key_of}
 use Rattle.wm_law.specs.Jobs.{changed_at}
@@ -121,15 +122,12 @@ was_touched : (ts : List Touched) (n : ℕ) (w : Standing) → first_of ts n ≡
 was_touched [] n w e = absurd (cc)
 was_touched (t ∷ ts) n w e = touched_by (n == t.serial) t ts n w refl e (was_touched ts n w)
 
-some_is : (a b : Standing) → Some a ≡ Some b → a ≡ b
-some_is a b e = cc
-
 -- and how each touched job stood at first is noted
 pub first_noted : (ts : List Touched) (n : ℕ) (w : Standing) → first_of ts n ≡ Some w → IsIn (n, w) (noted ts)
 first_noted ts n w e =
     let u = was_touched ts n w e in
     let m : IsNoted n (noted ts) = subst (λ (k : ℕ). IsNoted k (noted ts)) u.2 (all_noted ts [] u.0 u.1) in
-    let same : m.was ≡ w = some_is m.was w (sym (noted_first ts (n, m.was) m.stands) ∙ e) in
+    let same : m.was ≡ w = Some-injective m.was w (sym (noted_first ts (n, m.was) m.stands) ∙ e) in
     subst (λ (x : Standing). IsIn (n, x) (noted ts)) same m.stands
 
 pub noted_sorted : (ts : List Touched) → IsSortedOnce serial nat_cmp (noted ts)

@@ -26,7 +26,7 @@ use Rattle.wm_job_rows.specs.Stored.{stored_of}
 use Rattle.wm_tables.specs.Ranges.{IsInRange}
 use Rattle.wm_tables.specs.Tables.{job_rows, puts, rows_of, tables}
 use Rattle.wm_tables.proofs.OwnPlaces.{HasTab, HasTabsTo, tab_mapped}
-use Rattle.wm_tables.proofs.OwnRows.{own_rows}
+use Rattle.wm_tables.proofs.OwnRows.{own_rows, tab_counters}
 use Rattle.wm_tables.proofs.Passing.{of_parts}
 use Rattle.wm_tables.proofs.RangedSteps.{step_keeps_ranges}
 use Rattle.wm_tables.proofs.RowOrder.{HasOwnPlaces, in_tables, of_tables, put_in_order}
@@ -64,7 +64,8 @@ own_of t sound range =
     let first = own_left (own_part t) (job_rows t.jobs) (own_left (own_part t ++ job_rows t.jobs) (counter_rows t.next_number t.next_place t.next_serial) own) in
     record { objects = own_left (object_rows t.objects) (held_rows t.held) first; held = own_right (object_rows t.objects) (held_rows t.held) first }
 
-kept_of : (t : State) → IsSound t → IsInRange t → AreKept t
+-- a sound state in range keeps the order and the ranges of its jobs
+pub kept_of : (t : State) → IsSound t → IsInRange t → AreKept t
 kept_of t sound range = record { order = sound.jobs; stored = λ j i. (range.jobs j i).stored }
 
 counts_fit : (t : State) → IsSound t → AreCounts (counts_of t)
@@ -91,13 +92,6 @@ to_eleven t r i = elim (of_parts (own_part t) (job_rows t.jobs) r i) as (λ _. r
   | inr k ↦ (let at : r.tab ≡ 11 = job_tab t.jobs r k in omega arith)
 ]
 
-counter_tab : (n p q : ℕ) → HasTab 12 (counter_rows n p q)
-counter_tab n p q r (inl e) = ap (λ (x : Row). x.tab) e
-counter_tab n p q r (inr (inl e)) = ap (λ (x : Row). x.tab) e
-counter_tab n p q r (inr (inr (inl e))) = ap (λ (x : Row). x.tab) e
-counter_tab n p q r (inr (inr (inr (inl e)))) = ap (λ (x : Row). x.tab) e
-counter_tab n p q r (inr (inr (inr (inr i)))) = absurd i
-
 one_ordered : (o : Option RowChange) → AreInOrder (option_to_list o)
 one_ordered None = tt
 one_ordered (Some c) = ((λ later i. absurd i), tt)
@@ -121,7 +115,7 @@ module _ (s t : State) (sound : IsSound s) (range : IsInRange s) (after : IsSoun
   jobs_apart = apart_tabs 10 11 (own_part s) (own_part t) (job_rows s.jobs) (job_rows t.jobs) (omega arith) (to_ten s) (to_ten t) (job_tab s.jobs) (job_tab t.jobs)
 
   counters_apart : AreApart (own_part s ++ job_rows s.jobs) (own_part t ++ job_rows t.jobs) (counters s) (counters t)
-  counters_apart = apart_tabs 11 12 (own_part s ++ job_rows s.jobs) (own_part t ++ job_rows t.jobs) (counters s) (counters t) (omega arith) (to_eleven s) (to_eleven t) (counter_tab s.next_number s.next_place s.next_serial) (counter_tab t.next_number t.next_place t.next_serial)
+  counters_apart = apart_tabs 11 12 (own_part s ++ job_rows s.jobs) (own_part t ++ job_rows t.jobs) (counters s) (counters t) (omega arith) (to_eleven s) (to_eleven t) (tab_counters s.next_number s.next_place s.next_serial) (tab_counters t.next_number t.next_place t.next_serial)
 
   jobs_differ_so : Differs (job_rows s.jobs) (job_rows t.jobs) job_changes
   jobs_differ_so = jobs_differ s.jobs t.jobs (kept_ascending s (kept_of s sound range)) goes_on

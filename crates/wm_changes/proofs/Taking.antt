@@ -14,9 +14,9 @@ use Rattle.wm_jobs.specs.Marked.{undone}
 use Rattle.wm_jobs.specs.Table.{Table}
 use Rattle.wm_tables.specs.Tables.{puts}
 use Rattle.wm_changes.specs.Changes.{AreStepChanges, IsTaken, call_change, counter_changes, counts_of, new_job_rows, removed_number}
-use Rattle.wm_changes.specs.Noted.{with_jobs}
+use Rattle.wm_changes.specs.Noted.{PutsJobs}
 use Rattle.wm_changes.specs.declared.counts.Counts.{Counts}
-use Rattle.wm_changes.proofs.TouchedRows.{with_jobs_are}
+use Rattle.wm_changes.proofs.TouchedRows.{jobs_are}
 
 module _ (s : State) (call : Call) (t : Stepped) (answer : Reply) (table : Table) (number : Option ℕ) (old new : Counts) (h : IsTaken s call t answer table number old new) where
   in_order : IsIncreasing (map (λ j. j.serial) table.jobs)
@@ -28,9 +28,9 @@ module _ (s : State) (call : Call) (t : Stepped) (answer : Reply) (table : Table
   stored_then : (j : Job) → IsIn j table.marked.jobs → IsStored (stored_of j)
   stored_then j i = h.was.stored j (subst (λ (jobs : List Job). IsIn j jobs) h.marked i)
 
-  jobs_put : (first : List RowChange) → table.marked.jobs ≡ undone table.touched (take (length table.marked.jobs) table.jobs) → with_jobs table first ≡ first ++ puts (new_job_rows s.jobs t.state.jobs)
-  jobs_put first before =
-      with_jobs_are table before in_order stored_now stored_then first
+  jobs_put : (first more : List RowChange) → table.marked.jobs ≡ undone table.touched (take (length table.marked.jobs) table.jobs) → PutsJobs table first more → more ≡ first ++ puts (new_job_rows s.jobs t.state.jobs)
+  jobs_put first more before put =
+      jobs_are table before in_order stored_now stored_then first more put
       ∙ ap (λ (jobs : List Job). first ++ puts (new_job_rows jobs table.jobs)) h.marked
       ∙ ap (λ (jobs : List Job). first ++ puts (new_job_rows s.jobs jobs)) h.jobs
 
@@ -42,8 +42,8 @@ module _ (s : State) (call : Call) (t : Stepped) (answer : Reply) (table : Table
   counted : counter_changes old new ≡ counter_changes (counts_of s) (counts_of t.state)
   counted = ap (λ (c : Counts). counter_changes c new) h.before ∙ ap (counter_changes (counts_of s)) h.after
 
-  pub are_changes : (first more all : List RowChange) → table.marked.jobs ≡ undone table.touched (take (length table.marked.jobs) table.jobs) → first ≡ option_to_list (call_change number call answer) → more ≡ with_jobs table first → all ≡ more ++ counter_changes old new → AreStepChanges s call t all
+  pub are_changes : (first more all : List RowChange) → table.marked.jobs ≡ undone table.touched (take (length table.marked.jobs) table.jobs) → first ≡ option_to_list (call_change number call answer) → PutsJobs table first more → all ≡ more ++ counter_changes old new → AreStepChanges s call t all
   are_changes first more all before a b c =
       c
-      ∙ ap (λ (l : List RowChange). l ++ counter_changes old new) (b ∙ jobs_put first before ∙ ap (λ (l : List RowChange). l ++ puts (new_job_rows s.jobs t.state.jobs)) (a ∙ called))
+      ∙ ap (λ (l : List RowChange). l ++ counter_changes old new) (jobs_put first more before b ∙ ap (λ (l : List RowChange). l ++ puts (new_job_rows s.jobs t.state.jobs)) (a ∙ called))
       ∙ ap (λ (l : List RowChange). option_to_list (call_change (removed_number s.objects call) call t.reply) ++ puts (new_job_rows s.jobs t.state.jobs) ++ l) counted

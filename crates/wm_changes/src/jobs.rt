@@ -1,9 +1,10 @@
 // Which rows of jobs a step changes.
-ghost use Rattle.std.specs.Prelude.{◌≡◌, ◌≤◌, ◌∷◌, length, drop, fold, nat_eq, take, IfOk, OnOk};
+ghost use Rattle.std.specs.Prelude.{◌≡◌, ◌≤◌, length, fold, nat_eq, take, OnOk};
+ghost use Rattle.std.specs.Option.{option_copied};
 ghost use Rattle.wm_desc.specs.Sorted.{removed};
 ghost use Rattle.wm_jobs.specs.Marked.{undone};
 ghost use Rattle.wm_ordered.specs.Ordered.{key_of};
-ghost use Rattle.wm_changes.specs.Noted.{new_jobs, is_old, other_row, touched_row, with_put, with_touched, with_row, with_jobs};
+ghost use Rattle.wm_changes.specs.Noted.{new_jobs, is_old, old_job, with_row, PutsOther, PutsTouched, PutsNoted, PutsJobs};
 
 use crate::noting::{is_stored_as, noted};
 use std::alloc::Global;
@@ -12,7 +13,7 @@ use wm_job_rows::job_row;
 use wm_jobs::{JobTable, Standing};
 use wm_law::Job;
 use wm_ordered::Ordered;
-use wm_traits::{Row, RowChange};
+use wm_traits::RowChange;
 
 fn new_jobs(jobs: &JobTable) -> &[Job]
     ensures { result.now ≡ new_jobs jobs.now }
@@ -29,39 +30,33 @@ fn is_old(new: &[Job], serial: Serial) -> bool
     }
 }
 
-fn other_row(alloc: Global, was: &Standing, job: &Job) -> Result<Option<Row>, NoMemory>
-    ensures { IfOk result (λ row. row ≡ other_row was.now job.now) }
+fn old_job(jobs: &JobTable, serial: Serial) -> Option<&Job>
+    ensures { option_copied result ≡ old_job jobs.now serial }
 {
-    if is_stored_as(was, job) {
-        Ok(None)
+    if is_old(new_jobs(jobs), serial) {
+        jobs.job(serial)
     } else {
-        let row = job_row(alloc, job)?;
-        Ok(Some(row))
+        None
     }
 }
 
-fn touched_row(
+fn put_row(alloc: Global, job: &Job, changes: &mut Vec<RowChange>) -> Result<(), NoMemory>
+    ensures { OnOk result (changes.new.items ≡ with_row changes.old.items job.now) }
+{
+    changes.push(RowChange::Put(job_row(alloc, job)?))?;
+    Ok(())
+}
+
+fn put_other(
     alloc: Global,
-    jobs: &JobTable,
-    serial: Serial,
     was: &Standing,
-) -> Result<Option<Row>, NoMemory>
-    ensures { IfOk result (λ row. row ≡ touched_row jobs.now (serial, was.now)) }
+    job: &Job,
+    changes: &mut Vec<RowChange>,
+) -> Result<(), NoMemory>
+    ensures { OnOk result (PutsOther was.now job.now changes.old.items changes.new.items) }
 {
-    if !is_old(new_jobs(jobs), serial) {
-        return Ok(None);
-    }
-    match jobs.job(serial) {
-        None => Ok(None),
-        Some(job) => other_row(alloc, was, job),
-    }
-}
-
-fn put(changes: &mut Vec<RowChange>, row: Option<Row>) -> Result<(), NoMemory>
-    ensures { OnOk result (changes.new.items ≡ with_put changes.old.items row) }
-{
-    if let Some(row) = row {
-        changes.push(RowChange::Put(row))?;
+    if !is_stored_as(was, job) {
+        put_row(alloc, job, changes)?;
     }
     Ok(())
 }
@@ -73,11 +68,15 @@ fn put_touched(
     was: &Standing,
     changes: &mut Vec<RowChange>,
 ) -> Result<(), NoMemory>
-    ensures { OnOk result (changes.new.items ≡ with_touched jobs.now changes.old.items (serial, was.now)) }
+    ensures { OnOk result (PutsTouched was.now (old_job jobs.now serial) changes.old.items changes.new.items) }
 {
-    let row = touched_row(alloc, jobs, serial, was)?;
-    put(changes, row)?;
-    Ok(())
+    match old_job(jobs, serial) {
+        None => Ok(()),
+        Some(job) => {
+            put_other(alloc, was, job, changes)?;
+            Ok(())
+        }
+    }
 }
 
 fn take_out(noted: &mut Ordered<Serial, Standing>, serial: Serial)
@@ -93,7 +92,7 @@ fn put_noted(
     mut noted: Ordered<Serial, Standing>,
     changes: &mut Vec<RowChange>,
 ) -> Result<(), NoMemory>
-    ensures { OnOk result (changes.new.items ≡ fold (with_touched jobs.now) changes.old.items noted.items) }
+    ensures { OnOk result (PutsNoted jobs.now noted.items changes.old.items changes.new.items) }
 {
     for _ in 0..noted.len() {
         if let Some(first) = noted.first() {
@@ -104,18 +103,11 @@ fn put_noted(
     Ok(())
 }
 
-fn put_new(alloc: Global, job: &Job, changes: &mut Vec<RowChange>) -> Result<(), NoMemory>
-    ensures { OnOk result (changes.new.items ≡ with_row changes.old.items job.now) }
-{
-    changes.push(RowChange::Put(job_row(alloc, job)?))?;
-    Ok(())
-}
-
 fn put_all_new(alloc: Global, new: &[Job], changes: &mut Vec<RowChange>) -> Result<(), NoMemory>
     ensures { OnOk result (changes.new.items ≡ fold with_row changes.old.items new.now) }
 {
     for job in new {
-        put_new(alloc, job, changes)?;
+        put_row(alloc, job, changes)?;
     }
     Ok(())
 }
@@ -127,7 +119,7 @@ pub(crate) fn put_jobs(
     jobs: &JobTable,
     changes: &mut Vec<RowChange>,
 ) -> Result<(), NoMemory>
-    ensures changes { OnOk result (changes.new.items ≡ with_jobs jobs.now changes.old.items) }
+    ensures changes { OnOk result (PutsJobs jobs.now changes.old.items changes.new.items) }
     ensures before { OnOk result (jobs.now.marked.jobs ≡ undone jobs.now.touched (take (length jobs.now.marked.jobs) jobs.now.jobs)) }
     ensures there { OnOk result (length jobs.now.marked.jobs ≤ length jobs.now.jobs) }
 {

@@ -15,6 +15,7 @@ mod counts;
 mod jobs;
 mod laws;
 mod noting;
+mod standing;
 mod step;
 
 pub use calls::removed_number;

@@ -7,7 +7,8 @@ use wm_base::{NoMemory, Text};
 use wm_clwords::Request;
 use wm_law::{Job, Phase};
 
-fn stored_phase(phase: &Phase) -> StoredPhase
+/// What is stored of a phase.
+pub fn stored_phase(phase: &Phase) -> StoredPhase
     ensures { result ≡ stored_phase phase.now }
 {
     match phase {

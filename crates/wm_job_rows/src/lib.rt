@@ -17,5 +17,6 @@ mod scan;
 mod stored;
 mod values;
 
+pub use kept::stored_phase;
 pub use row::{job_row, read_job};
 pub use stored::{StoredJob, StoredPhase};

@@ -3,7 +3,7 @@ use wm_base::{EndCause, JobNumber, Moment, Name, Priority, QName, Text};
 use wm_law::JobKind;
 
 /// The phase of a stored job. Which active phase a job has isn't stored.
-#[derive(Clone, Copy, Debug)]
+#[derive(Clone, Copy, Debug, PartialEq)]
 pub enum StoredPhase {
     Waiting,
     Active,

@@ -10,7 +10,7 @@ use Rattle.wm_law.specs.Fit.{IsCall, HasCall}
 use Rattle.wm_law.specs.History.{after, IsEntry}
 use Rattle.wm_law.specs.Machine.{step}
 use Rattle.wm_law.proofs.History.{after-append, IsLegal-push}
-use Rattle.wm_stored.specs.Keeping.{Telling, IsKept}
+use Rattle.wm_journal.specs.Keeping.{Telling, IsKept}
 use Rattle.wm_journal.specs.History.{History, reached}
 use Rattle.wm_journal.specs.Journaled.{IsJournal}
 use Rattle.wm_journal.specs.Limit.{limit_of}

@@ -2,19 +2,14 @@
 use Rattle.std.proofs.Common.{◌≡◌, ℤ, List, [], ◌∷◌, ◌++◌, Option, Some, None, IfSome, append_assoc, refl, sym, ap, subst, ◌∙◌}
 use Rattle.std.proofs.lemmas.List.{append-nil}
 use Rattle.wm_traits.specs.declared.row.Row.{Row}
-use Rattle.wm_traits.specs.Told.{Grows, Stays}
+use Rattle.wm_traits.specs.Told.{Grows}
 use Rattle.wm_traits.proofs.Telling.{Grows-then}
 use Rattle.wm_law.specs.declared.call.Entry.{Entry}
 use Rattle.wm_law.specs.declared.state.State.{State}
 use Rattle.wm_law.specs.History.{after, stepped}
 use Rattle.wm_tables.specs.Tables.{tables}
-use Rattle.wm_stored.specs.Keeping.{added, Telling, IsOpened}
+use Rattle.wm_journal.specs.Keeping.{added, Telling, IsOpened}
 use Rattle.wm_journal.specs.Trail.{tables_along, without_repeats, HasTrail}
-
--- what is told is as it is
-pub stays : {A : Type 0} (told : Option A) → Stays told told
-stays None = tt
-stays (Some now) = refl
 
 -- a history of no entry has the tables of its state
 pub none_along : (rows : List Row) (s : State) → without_repeats rows (tables_along s []) ≡ added rows (tables s)

@@ -2,7 +2,7 @@
 use Rattle.std.specs.Prelude.{◌≡◌, ◌≤◌, ℕ, length}
 use Rattle.wm_law.specs.declared.state.State.{State}
 use Rattle.wm_law.specs.History.{IsLegal}
-use Rattle.wm_stored.specs.Keeping.{Telling}
+use Rattle.wm_journal.specs.Keeping.{Telling}
 use Rattle.wm_journal.specs.History.{History, reached}
 use Rattle.wm_journal.specs.Passes.{PassCounts}
 use Rattle.wm_journal.specs.Trail.{HasTrail}

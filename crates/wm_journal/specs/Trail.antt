@@ -6,7 +6,7 @@ use Rattle.wm_law.specs.declared.call.Entry.{Entry}
 use Rattle.wm_law.specs.declared.state.State.{State}
 use Rattle.wm_law.specs.History.{stepped}
 use Rattle.wm_tables.specs.Tables.{tables}
-use Rattle.wm_stored.specs.Keeping.{added, Telling}
+use Rattle.wm_journal.specs.Keeping.{added, Telling}
 use Rattle.wm_journal.specs.History.{History}
 
 -- the tables of a state, and those after each entry

@@ -4,26 +4,25 @@ ghost use Rattle.std.specs.Option.{option_copied};
 ghost use Rattle.wm_law.specs.Fit.{HasCall, IsCall};
 ghost use Rattle.wm_law.specs.History.{IsLegal};
 ghost use Rattle.wm_law.specs.Pending.{pending};
-ghost use Rattle.wm_stored.specs.Fault.{IsCounted, NamesBad};
-ghost use Rattle.wm_stored.specs.Keeping.{telling, IsKept, IsLeft, IsOpened};
-ghost use Rattle.wm_stored.specs.Stored.{HasTables};
-ghost use Rattle.wm_journal.specs.Fault.{HasCallCause};
+ghost use Rattle.wm_journal.specs.CallFaults.{HasCallCause};
 ghost use Rattle.wm_journal.specs.History.{last_of, last_order, reached, with_call};
+ghost use Rattle.wm_journal.specs.Keeping.{telling, IsKept, IsLeft, IsOpened};
 ghost use Rattle.wm_journal.specs.Limit.{limit_of};
+ghost use Rattle.wm_journal.specs.OpenFaults.{IsCounted, NamesBad};
 ghost use Rattle.wm_journal.specs.Passes.{none_made, one_back, one_more};
+ghost use Rattle.wm_journal.specs.Stored.{HasTables};
 ghost use Rattle.wm_journal.specs.Trail.{HasTrail};
 ghost use Rattle.wm_views.specs.Views.{shown};
 
-use crate::CallFault;
 use crate::limit::limit_of;
 use crate::pass::{Pass, PassCount};
+use crate::{CallFault, OpenFault, StoredCore};
 use std::alloc::Global;
 use std::marker::Model;
 use std::snapshot::Snapshot;
 use wm_base::{Asked, Moment, NoMemory};
 use wm_core::Setup;
 use wm_law::{Ask, Call, Entry, Pending};
-use wm_stored::{OpenFault, StoredCore};
 use wm_traits::Keeper;
 use wm_views::Shown;
 
@@ -49,7 +48,7 @@ pub struct Closed<K> {
 }
 
 impl<K: Keeper> Model for Journal<K> {
-    ghost use Rattle.wm_stored.specs.Keeping.{telling};
+    ghost use Rattle.wm_journal.specs.Keeping.{telling};
     ghost use Rattle.wm_journal.specs.Journaled.{Journaled, IsJournal};
 
     ghost Value = { Journaled K };

@@ -1,4 +1,4 @@
-//! One legal history of the machine, whose rows are kept in step.
+//! The machine, whose rows are kept in step, and one legal history of it.
 //!
 //! The contract for the layer above: a contract sees a `Journal` as the history of its calls, the limit of users' commands, the
 //! keeper as it was found and as it is, and how many passes are out. `Journal::call` keeps the rows of one call and then adds its
@@ -11,15 +11,31 @@
 //! Who calls has a `Pass`, whose number is the caller of its entries. A journal opens with pass 0, splits off further ones,
 //! and closes once all of these were joined again.
 //!
-//! The definitions are in `specs/`: `Journaled` (what a contract sees), `Passes`, `History`, `Trail` (which tables a history has
-//! had), `Limit` and `Fault` (why a call isn't made).
+//! Below it a `StoredCore` is the machine with its keeper, and knows of no history: a contract sees the state of the machine and
+//! the keeper of its rows. `StoredCore::open` gives the machine that a run opens with, and `StoredCore::step` takes one step of
+//! it, as `Core::step` of `wm_core` does. The rows that changed are made in one call of the keeper, before the answer, and none
+//! is made where no row changed. So where the keeper tells its tables, they are those of the state, and its trail grows by them
+//! unless they are as before. Where the keeper fails, or memory is wanting, the step is taken back: the state and the rows are as
+//! before, and a keeper's fault is answered only where its count rose in that call.
+//!
+//! The definitions are in `specs/`. Of the machine with its keeper: `Stored` (what a contract sees), `Keeping` (what becomes of
+//! tables and trail), `OpenFaults` (why a machine doesn't open), and `Taken`, what is known of a step as its rows are kept. Of
+//! the journal: `Journaled` (what a contract sees), `Passes`, `History`, `Trail` (which tables a history has had), `Limit` and
+//! `CallFaults` (why a call isn't made).
 #![tactic(auto)]
 
-mod fault;
+mod call_fault;
 mod journal;
+mod keeping;
 mod limit;
+mod open_fault;
+mod opening;
 mod pass;
+mod stored;
+mod viewing;
 
-pub use fault::CallFault;
+pub use call_fault::CallFault;
 pub use journal::{Closed, Journal};
+pub use open_fault::OpenFault;
 pub use pass::Pass;
+pub use stored::StoredCore;

@@ -16,10 +16,11 @@ use Rattle.wm_run.specs.Kept.{HasHistory, HasOpened, open_status, store_status}
 use Rattle.wm_monitor.specs.Lists.{since}
 use Rattle.wm_monitor.specs.Idle.{NoneIsIdle}
 use Rattle.wm_run.specs.Run.{run_offset}
-use Rattle.wm_stored.specs.Keeping.{Telling, IsOpened}
-use Rattle.wm_stored.specs.Stored.{HasTables}
-use Rattle.wm_stored.specs.declared.fault.OpenFault.{OpenFault}
-use Rattle.wm_stored.specs.declared.fault.OpenFault.TheVariants.{KeeperFault, BadRow, NoMemory}
+use Rattle.wm_journal.specs.Keeping.{Telling, IsOpened}
+use Rattle.wm_journal.specs.Stored.{HasTables}
+use Rattle.wm_journal.specs.declared.open_fault.OpenFault.{OpenFault}
+use Rattle.wm_journal.specs.declared.open_fault.OpenFault.TheVariants.{KeeperFault, BadRow, NoMemory}
+use Rattle.wm_journal.proofs.Staying.{Stays-grows}
 use Rattle.wm_tables.proofs.Restarts.{restart_is_sound}
 
 -- What is told later was told before
@@ -36,12 +37,6 @@ Grows-stays a b None more h k = tt
 Grows-stays a None (Some z) more h k = absurd k
 Grows-stays None (Some y) (Some z) more h k = absurd h
 Grows-stays (Some x) (Some y) (Some z) more h k = k ∙ h
-
-pub Stays-grows : {A : Type 0} (a b c : Option (List A)) (more : List A) → Stays a b → Grows b c more → Grows a c more
-Stays-grows a b None more h k = tt
-Stays-grows a None (Some z) more h k = absurd k
-Stays-grows None (Some y) (Some z) more h k = absurd h
-Stays-grows (Some x) (Some y) (Some z) more h k = k ∙ ap (λ (l : List _). l ++ more) h
 
 is_told : {A : Type 0} (told : Option A) → is_some told ≡ true → told ≡ None → ⊥
 is_told told some none = absurd (false≢true (sym (ap is_some none) ∙ some))
@@ -151,10 +146,6 @@ history_of_store status log old found closed new tables trail tables' trail' bot
       };
       came = h.came;
     })
-
-pub Stays-same : {A : Type 0} (a : Option A) → Stays a a
-Stays-same None = tt
-Stays-same (Some x) = refl
 
 -- a run that didn't open
 pub not_opened : {Came : State → Type 0} (status : ℕ) (log : List Entry) (old new : Telling) → 1 < status → log ≡ [] → Stays old.tables new.tables → Stays old.trail new.trail → ((s : State) → Came s) → HasHistory status log old new Came

@@ -12,10 +12,10 @@ use Rattle.wm_traits.specs.declared.fault.KeepFault.TheVariants as keep
 use Rattle.wm_traits.specs.declared.row.Row.{Row}
 use Rattle.wm_monitor.specs.Idle.{NoneIsIdle}
 use Rattle.wm_run.specs.Run.{run_offset}
-use Rattle.wm_stored.specs.Keeping.{Telling, IsLeft}
-use Rattle.wm_stored.specs.Stored.{HasTables}
-use Rattle.wm_stored.specs.declared.fault.OpenFault.{OpenFault}
-use Rattle.wm_stored.specs.declared.fault.OpenFault.TheVariants as open_fault
+use Rattle.wm_journal.specs.Keeping.{Telling, IsLeft}
+use Rattle.wm_journal.specs.Stored.{HasTables}
+use Rattle.wm_journal.specs.declared.open_fault.OpenFault.{OpenFault}
+use Rattle.wm_journal.specs.declared.open_fault.OpenFault.TheVariants as open_fault
 use Rattle.wm_tables.specs.Restart.{IsBad, IsRestart}
 
 -- a run that opened: its history is one from a state of the rows that it found

@@ -8,7 +8,7 @@ ghost use Rattle.wm_run.specs.Kept.{HasBadRow, HasHistory, open_status};
 ghost use Rattle.wm_run.specs.Outcome.{RunTakes};
 ghost use Rattle.wm_run.specs.Run.{IsRunStatus, IsServed, ended_status, run_offset};
 ghost use Rattle.wm_run.specs.Serving.{is_of_run};
-ghost use Rattle.wm_stored.specs.Keeping.{telling};
+ghost use Rattle.wm_journal.specs.Keeping.{telling};
 
 use crate::halt::Halt;
 use crate::passes::Passes;
@@ -18,9 +18,8 @@ use std::alloc::Global;
 use std::sync::Wait;
 use wm_core::Setup;
 use wm_desc::qbatch;
-use wm_journal::Journal;
+use wm_journal::{Journal, OpenFault};
 use wm_monitor::Monitor;
-use wm_stored::OpenFault;
 use wm_traits::{Clock, Keeper, Sink, Source, Spawner};
 use wm_when::Offset;
 
@@ -73,8 +72,8 @@ impl<K: Keeper> Run<K> {
     ghost use Rattle.wm_run.specs.Grown.{entries_between};
     ghost use Rattle.wm_run.specs.Serving.{RunServes};
     ghost use Rattle.wm_run.specs.Taking.{TakesInput};
-    ghost use Rattle.wm_stored.specs.Keeping.{telling};
-    ghost use Rattle.wm_stored.specs.Stored.{HasTables};
+    ghost use Rattle.wm_journal.specs.Keeping.{telling};
+    ghost use Rattle.wm_journal.specs.Stored.{HasTables};
 
     // The first call, the lines of the input, and the end of the input, where no line put the power down.
     fn serve<I: Source, O: Sink, P: Spawner, C: Clock, R: Wait>(

@@ -9,7 +9,7 @@ ghost use Rattle.wm_run.specs.Outcome.{RunTakes};
 ghost use Rattle.wm_run.specs.Run.{IsRunStatus, IsServed};
 ghost use Rattle.wm_run.specs.Serving.{is_of_run};
 ghost use Rattle.wm_run.specs.Words.{is_run};
-ghost use Rattle.wm_stored.specs.Keeping.{telling};
+ghost use Rattle.wm_journal.specs.Keeping.{telling};
 
 use crate::kept_run::run_kept;
 use crate::words::store_path;

@@ -10,6 +10,7 @@ use Rattle.wm_base.specs.declared.qname.QName.{QName}
 use Rattle.wm_base.specs.declared.refusal.Kind.TheVariants as kind
 use Rattle.wm_base.specs.declared.refusal.Refusal.{Refusal}
 use Rattle.wm_base.specs.declared.refusal.Refusal.TheVariants.{NoObject, SbsActive}
+use Rattle.wm_base.proofs.Tests.{Some-injective}
 use Rattle.wm_desc.specs.declared.description.Jobd.{Jobd}
 use Rattle.wm_desc.specs.declared.description.Jobq.{Jobq}
 use Rattle.wm_desc.specs.declared.description.Program.{Program}
@@ -325,12 +326,9 @@ accepted : (s : State) (o : Objects) (r : Option Refusal) (row : Row) → (r ≡
 accepted s o None row h e = h refl
 accepted s o (Some x) row h e = absurd (cc)
 
-row_is : (a b : Row) → Some a ≡ Some b → a ≡ b
-row_is a b e = cc
-
 -- the same of a row that is written otherwise
 gains_as : (xs ys : List Row) (a b : Row) → Some a ≡ Some b → Gains xs ys a → Gains xs ys b
-gains_as xs ys a b e g = subst (λ (r : Row). Gains xs ys r) (row_is a b e) g
+gains_as xs ys a b e g = subst (λ (r : Row). Gains xs ys r) (Some-injective a b e) g
 
 -- the objects gain the command's row
 pub made_gains : (s : State) (user : List ℕ) (c : Command) (row : Row) → command_row c ≡ Some row → (change s user c).reply ≡ Made → Gains (object_rows s.objects) (object_rows (change s user c).state.objects) row

@@ -92,7 +92,8 @@ schema_apart q r (inr i) f = i
 own_counters : (n p q : ℕ) → HasOwnPlaces (counter_rows n p q)
 own_counters n p q = (number_apart n p q, (place_apart p q, (schema_apart q, ((λ r i. absurd i), tt))))
 
-tab_counters : (n p q : ℕ) → HasTab 12 (counter_rows n p q)
+-- the rows of counters stand in one table
+pub tab_counters : (n p q : ℕ) → HasTab 12 (counter_rows n p q)
 tab_counters n p q r (inl e) = ap (λ (x : Row). x.tab) e
 tab_counters n p q r (inr (inl e)) = ap (λ (x : Row). x.tab) e
 tab_counters n p q r (inr (inr (inl e))) = ap (λ (x : Row). x.tab) e

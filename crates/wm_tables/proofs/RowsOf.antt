@@ -32,7 +32,8 @@ use Rattle.wm_tables.proofs.OneMore.{first_below, not_same, rest_sorted}
 use Rattle.wm_tables.proofs.OwnPlaces.{in_flat, of_flat}
 use Rattle.wm_tables.proofs.Passing.{in_left_part, in_right_part, of_parts}
 
-other_named : (a b : QName) (t : Bool) → same_qname a b ≡ t → (a ≡ b → ⊥) → t ≡ false
+-- two names are told apart
+pub other_named : (a b : QName) (t : Bool) → same_qname a b ≡ t → (a ≡ b → ⊥) → t ≡ false
 other_named a b true e h = absurd (h (one_name a b e))
 other_named a b false e h = refl
 

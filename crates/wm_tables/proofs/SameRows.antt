@@ -71,7 +71,8 @@ module _ {X : Type 0} where
       (left_other test xs y e)
       i
 
-new_there : (u : Row) (base : List Row) → IsIn u (put u base)
+-- a row that is put is there
+pub new_there : (u : Row) (base : List Row) → IsIn u (put u base)
 new_there u base = let left = without u.tab u.key base in new_inserted left (count_by (λ other. is_before other u) left) u
 
 old_there : (u : Row) (base : List Row) (r : Row) (t : Bool) → is_of u.tab u.key r ≡ t → (place_of r ≡ place_of u → r ≡ u) → IsIn r base → IsIn r (put u base)

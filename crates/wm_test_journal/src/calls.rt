@@ -10,12 +10,11 @@ use std::marker::Model;
 use wm_base::{Moment, NoMemory};
 use wm_core::Setup;
 use wm_desc::qbatch;
-use wm_journal::{CallFault, Closed, Journal, Pass};
+use wm_journal::{CallFault, Closed, Journal, OpenFault, Pass};
 use wm_law::{Ask, Call, Pending};
 use wm_listing::{listing, log_listing};
 use wm_monitor::{MONITOR, Monitor, MonitorFault, Turned};
 use wm_outside::{MemClock, MemKeeper, MemSpawner};
-use wm_stored::OpenFault;
 use wm_when::Offset;
 
 /// The moment of each call, where no other is set.

@@ -2,8 +2,8 @@
 use crate::calls::{OpenJournal, opened};
 use anyhow::{Result, ensure};
 use std::alloc::Global;
+use wm_journal::OpenFault;
 use wm_outside::MemKeeper;
-use wm_stored::OpenFault;
 use wm_traits::{Row, are_in_order};
 
 /// The most that a history takes, where a case names no other.

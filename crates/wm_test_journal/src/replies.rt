@@ -2,11 +2,10 @@
 use anyhow::{Context, Result, bail};
 use std::alloc::Global;
 use wm_base::Asked;
-use wm_journal::{CallFault, Journal};
+use wm_journal::{CallFault, Journal, OpenFault};
 use wm_law::{Call, Entry, Reply};
 use wm_listing::said;
 use wm_outside::MemKeeper;
-use wm_stored::OpenFault;
 
 /// The answer to a call whose rows the keeper didn't keep.
 pub const KEEPER_FAULT: &str = "KEEPERFAULT\n";

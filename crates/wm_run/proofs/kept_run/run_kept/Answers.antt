@@ -7,7 +7,7 @@ use Rattle.wm_law.specs.declared.call.Entry.{Entry}
 use Rattle.wm_monitor.specs.Lists.{since}
 use Rattle.wm_run.specs.Down.{is_down}
 use Rattle.wm_run.specs.Grown.{entries_between}
-use Rattle.wm_stored.specs.Keeping.{telling, IsOpened}
+use Rattle.wm_journal.specs.Keeping.{telling, IsOpened}
 use Rattle.wm_run.specs.Outcome.{RunTakes}
 use Rattle.wm_run.proofs.Openings.{not_opened, open_high, open_low, open_unread, opened_run}
 use Rattle.wm_run.proofs.Outcomes.{came_not, came_run}

@@ -1,5 +1,6 @@
 use Rattle.std.proofs.Common.{◌<◌, ◌∙◌, sym, arith}
-use Rattle.wm_run.proofs.Openings.{Stays-same, history_of_store, not_opened, store_high, store_low, store_unread}
+use Rattle.wm_journal.proofs.Staying.{Stays-same}
+use Rattle.wm_run.proofs.Openings.{history_of_store, not_opened, store_high, store_low, store_unread}
 use Rattle.wm_run.proofs.Outcomes.{came_not}
 use Rattle.wm_run.proofs.whole_run.run.Goals as goal
 

@@ -1,15 +1,15 @@
 use Rattle.std.proofs.Common.{◌≡◌, List, [], ◌∷◌, ◌++◌, sym, subst, ap, ◌∙◌, arith}
 use Rattle.wm_law.specs.declared.call.Entry.{Entry}
 use Rattle.wm_law.specs.Fit.{HasCall}
-use Rattle.wm_stored.specs.Keeping.{telling, IsKept}
+use Rattle.wm_journal.specs.Keeping.{telling, IsKept}
 use Rattle.wm_journal.specs.History.{History, reached}
 use Rattle.wm_journal.specs.Journaled.{Journaled, IsJournal}
 use Rattle.wm_journal.proofs.Journals.{journal_with, kept_with, limit_of_most, IsStep}
-use Rattle.wm_journal.proofs.Trails.{stays}
+use Rattle.wm_journal.proofs.Staying.{Stays-same}
 use Rattle.wm_journal.proofs.journal.Journal.call.Goals as goal
 
 pub returns-then-len-limit-clause-left : goal.returns-then-len-limit-clause-left
-returns-then-len-limit-clause-left g c = record { tables = stays (g.K.Keeper.tables c.args.self.now.keeper); trail = stays (g.K.Keeper.trail c.args.self.now.keeper) }
+returns-then-len-limit-clause-left g c = record { tables = Stays-same (g.K.Keeper.tables c.args.self.now.keeper); trail = Stays-same (g.K.Keeper.trail c.args.self.now.keeper) }
 
 pub invariant_of-self-2 : goal.invariant_of-self-2
 invariant_of-self-2 g c =

@@ -1,7 +1,7 @@
 use Rattle.std.proofs.Common.{List, [], refl, sym, subst, arith}
 use Rattle.wm_law.specs.declared.call.Entry.{Entry}
-use Rattle.wm_stored.specs.Keeping.{telling}
-use Rattle.wm_stored.specs.Stored.{Stored}
+use Rattle.wm_journal.specs.Keeping.{telling}
+use Rattle.wm_journal.specs.Stored.{Stored}
 use Rattle.wm_journal.specs.Journaled.{IsJournal}
 use Rattle.wm_journal.proofs.Trails.{trail_opened}
 use Rattle.wm_journal.proofs.journal.Journal.open.Goals as goal

@@ -1,3 +1,0 @@
-pub mod Additions
-pub mod Openings
-pub mod Steps

@@ -1,4 +1,0 @@
-pub mod Fault
-pub mod Keeping
-pub mod Stored
-pub mod Taken
