@@ -12,8 +12,8 @@ use Rattle.wm_traits.specs.InOrder.{changed_in_order}
 use Rattle.wm_traits.specs.Rows.{changed, changed_by, is_of, place_of, put, without, IsInOrder}
 use Rattle.wm_law.specs.Laws.{IsIn}
 use Rattle.wm_tables.proofs.Keys.{first_same, rest_same}
-use Rattle.wm_tables.proofs.RowOrder.{IsAscending, ascending, of_place, of_put}
-use Rattle.wm_tables.proofs.SameRows.{new_there, one_place, stays, two_places}
+use Rattle.wm_tables.proofs.RowOrder.{IsAscending, ascending, new_there, of_place, of_put, stays}
+use Rattle.wm_tables.proofs.SameRows.{one_place, two_places}
 use Rattle.wm_changes.specs.Difference.{AreInOrder, change_place}
 
 -- no change is made at the place

@@ -12,7 +12,7 @@ use Rattle.wm_tables.specs.Restart.{IsRestart}
 use Rattle.wm_tables.specs.Tables.{tables}
 use Rattle.wm_tables.proofs.RangedRestarts.{restart_is_in_range}
 use Rattle.wm_tables.proofs.Restarts.{restart_is_sound}
-use Rattle.wm_tables.proofs.SameRows.{new_there}
+use Rattle.wm_tables.proofs.RowOrder.{new_there}
 use Rattle.wm_journal.specs.Keeping.{added, Telling, IsApplied, IsOpened}
 use Rattle.wm_journal.specs.Stored.{IsInStep}
 use Rattle.wm_journal.proofs.Additions.{moved, IsMoved}

@@ -8,7 +8,7 @@ use crate::OpenFault;
 use crate::keeping::apply;
 use std::alloc::Global;
 use wm_core::{Core, Setup};
-use wm_opening::open_rows;
+use wm_restart::open_rows;
 use wm_traits::Keeper;
 
 /// The machine of the rows that a keeper has, which has those of the machine's state then. An `Err` leaves them.

@@ -3,12 +3,13 @@ use Rattle.std.proofs.Common.{◌≡◌, ◌⊎◌, ℕ, zero, suc, ◌+◌, ◌
 use Rattle.std.specs.List.{Contains, list_any, slice_get}
 use Rattle.std.proofs.Math.ListN.{get_or}
 use Rattle.std.proofs.Math.Seq.{take-suc}
-use Rattle.std.proofs.lemmas.Bool.{and_parts, or_right}
+use Rattle.std.proofs.lemmas.Bool.{and_parts, cases_lt}
 use Rattle.std.proofs.lemmas.List.{get_or-take, length-take-le, take_all}
-use Rattle.std.proofs.lemmas.Option.{slice_get_past, slice_get-get_or, get_or_from_slice_get}
+use Rattle.std.proofs.lemmas.Option.{slice_get-get_or, slice_get_within, get_or_from_slice_get}
 use Rattle.wm_base.proofs.Tests.{all_four}
 use Rattle.wm_traits.specs.declared.row.Row.{Row}
 use Rattle.wm_traits.specs.Rows.{IsInOrder, is_before, is_of, place_of}
+use Rattle.wm_law.proofs.Due.{of_any}
 use Rattle.wm_law.specs.Laws.{IsIn}
 use Rattle.wm_law.specs.Opening.{empty}
 use Rattle.wm_law.specs.declared.state.State.{State}
@@ -16,8 +17,9 @@ use Rattle.wm_rows.specs.Rows.{counter_row, counter_word}
 use Rattle.wm_rows.specs.declared.stored.Counter.{Counter}
 use Rattle.wm_rows.specs.declared.stored.Counter.TheVariants as counter
 use Rattle.wm_tables.specs.Restart.{AreGood, HasCounters, IsBad, IsNotGood, IsRead, Takes}
-use Rattle.wm_tables.proofs.Ends.{contained}
+use Rattle.wm_tables.proofs.Ends.{contained, in_contains}
 use Rattle.wm_tables.proofs.Made.{made_tab}
+use Rattle.wm_tables.proofs.Passing.{one_passes}
 use Rattle.wm_tables.proofs.RowOrder.{of_place}
 use Rattle.wm_restart.specs.Restarted.{AreOrdered, AreRead, has_counter, has_all}
 
@@ -38,28 +40,6 @@ taken_in : (s : State) (rows : List Row) (t : State) (row : Row) → IsRead s ro
 taken_in s [] t row read i = absurd i
 taken_in s (r ∷ rows) t row read (inl same) = (s, read.0, subst (λ (x : Row). Takes s x read.0) (sym same) read.1)
 taken_in s (r ∷ rows) t row read (inr i) = taken_in read.0 rows t row read.2 i
-
-in_contains : {X : Type 0} (xs : List X) (x : X) → IsIn x xs → Contains xs x
-in_contains [] x i = absurd i
-in_contains (y ∷ ys) x (inl same) = (zero, (omega arith), sym same)
-in_contains (y ∷ ys) x (inr i) = let rest = in_contains ys x i in (suc rest.0, (let less = rest.1 in omega arith), rest.2)
-
--- a row of a list passes a test
-abbrev Found : (Row → Bool) → List Row → Type 0
-Found p rows = (row : Row) × IsIn row rows × (p row ≡ true)
-
-pick : (p : Row → Bool) (row : Row) (rows : List Row) (b : Bool) → p row ≡ b → (b || list_any p rows) ≡ true → (list_any p rows ≡ true → Found p rows) → Found p (row ∷ rows)
-pick p row rows true e h next = (row, inl refl, e)
-pick p row rows false e h next = let r = next h in (r.0, inr r.1, r.2)
-
-found : (p : Row → Bool) (rows : List Row) → list_any p rows ≡ true → Found p rows
-found p [] h = absurd (cc)
-found p (row ∷ rows) h = pick p row rows (p row) refl h (found p rows)
-
-passes : (p : Row → Bool) (rows : List Row) (row : Row) → IsIn row rows → p row ≡ true → list_any p rows ≡ true
-passes p [] row i h = absurd i
-passes p (r ∷ rows) row (inl same) h = ap (λ b. b || list_any p rows) (ap p (sym same) ∙ h)
-passes p (r ∷ rows) row (inr i) h = or_right (p r) (list_any p rows) (passes p rows row i h)
 
 own_place : (c : Counter) (n : ℕ) → is_of 12 (counter_word c) (counter_row c n) ≡ true
 own_place counter.Number n = refl
@@ -88,7 +68,7 @@ module _ (c : Counter) (u v : State) (row : Row) (place : place_of row ≡ 12 �
 module _ (rows : List Row) (s t : State) (read : IsRead s rows t) where
   counter_there : (c : Counter) → has_counter c rows ≡ true → (n : ℕ) × Contains rows (counter_row c n)
   counter_there c h =
-      let f = found (is_of 12 (counter_word c)) rows h in
+      let f = of_any (is_of 12 (counter_word c)) rows h in
       let at = taken_in s rows t f.0 read f.1 in
       let k = counter_of c at.0 at.1 f.0 (of_place 12 (counter_word c) f.0 f.2) at.2 in
       (k.0, in_contains rows (counter_row c k.0) (subst (λ (r : Row). IsIn r rows) k.1 f.1))
@@ -102,18 +82,9 @@ module _ (rows : List Row) (s t : State) (read : IsRead s rows t) where
 -- and one lacks where it hasn't
 pub counter_lacks : (rows : List Row) → has_all rows ≡ false → HasCounters rows → ⊥
 counter_lacks rows none have =
-    let one : (c : Counter) → has_counter c rows ≡ true = λ c. (let n = have c in passes (is_of 12 (counter_word c)) rows (counter_row c n.0) (contained rows (counter_row c n.0) n.1) (own_place c n.0)) in
+    let one : (c : Counter) → has_counter c rows ≡ true = λ c. (let n = have c in one_passes (is_of 12 (counter_word c)) rows (counter_row c n.0) (contained rows (counter_row c n.0) n.1) (own_place c n.0)) in
     let all = all_four _ _ _ _ (one counter.Number) (one counter.Place) (one counter.Schema) (one counter.Serial) in
     absurd (cc)
-
-or_not : (a b : ℕ) → (a < b) ⊎ (b ≤ a)
-or_not zero zero = inr (omega arith)
-or_not zero (suc b) = inl (omega arith)
-or_not (suc a) zero = inr (omega arith)
-or_not (suc a) (suc b) = elim (or_not a b) as (λ _. (suc a < suc b) ⊎ (suc b ≤ suc a)) [ inl h ↦ inl (omega arith) | inr h ↦ inr (omega arith) ]
-
-there_is : (rows : List Row) (n : ℕ) (row : Row) → slice_get rows n ≡ Some row → n < length rows
-there_is rows n row e = elim (or_not n (length rows)) as (λ _. n < length rows) [ inl h ↦ h | inr h ↦ absurd (let none = slice_get_past rows n h in cc) ]
 
 -- the first of rows in order are in order
 pub first_in_order : (rows : List Row) (n most : ℕ) → n ≤ most → most ≤ length rows → IsInOrder (take most rows) → IsInOrder (take n rows)
@@ -137,13 +108,13 @@ module _ (offset : ℤ) (rows : List Row) (most n : ℕ) (t : State) (some : 1 �
   stops row there (inr no_less) o u takes =
       let a = read.within in
       let here : n ≡ most = omega arith in
-      let less = there_is rows n row there in
+      let less = slice_get_within rows n row there in
       ordered.broken (omega (arith, here)) (subst (λ (m : ℕ). IsInOrder (take (m + 1) rows)) here o)
 
   not_good : (o : Option Row) → slice_get rows n ≡ o → (n < length rows) ⊎ (has_all rows ≡ false) → IsNotGood offset rows n t o
   not_good None e (inl less) = absurd (let there = slice_get-get_or rows n (record { tab = 0; key = []; body = [] }) less in cc)
   not_good None e (inr none) = counter_lacks rows none
-  not_good (Some row) e w = stops row e (or_not n most)
+  not_good (Some row) e w = stops row e (cases_lt n most)
 
   pub is_bad : (n < length rows) ⊎ (has_all rows ≡ false) → IsBad offset rows n
   is_bad w = record { some = some; within = (let a = read.within in let b = ordered.within in omega arith); state = t; before = before; not_good = not_good (slice_get rows n) refl w }

@@ -3,3 +3,7 @@ mod InRead
 mod TakenAs
 mod Tests
 mod Waits
+mod Restarts
+mod Lookup
+mod JobChanges
+mod FirstChanges

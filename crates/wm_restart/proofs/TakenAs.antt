@@ -1,5 +1,5 @@
 -- A row is taken as the one stored thing that it is the row of.
-use Rattle.std.proofs.Common.{◌≡◌, ◌↔◌, ℕ, ◌<◌, ◌^◌, Bool, false, Option, Some, None, IsTrue, codes, sym, subst, ap, inl, inr, arith}
+use Rattle.std.proofs.Common.{◌≡◌, ◌↔◌, ℕ, ◌<◌, ◌^◌, Bool, false, Option, Some, None, Result, Ok, Err, IfOk, IsTrue, codes, sym, subst, ap, inl, inr, arith}
 use Rattle.wm_traits.specs.declared.row.Row.{Row}
 use Rattle.wm_law.specs.declared.call.Reply.TheVariants.{Made, QueueHeld}
 use Rattle.wm_law.specs.declared.state.State.{State}
@@ -62,6 +62,11 @@ module _ (row : Row) (s : State) (other : row.tab ≡ 11 → ⊥) where
       let r = read_as row (Some x) exactly other s t h in
       let same : r.thing ≡ x = cc (sym r.is) in
       never (subst (IsTakenAs s) same r.as_it)
+
+-- what follows of a value from both facts of it
+pub if_both : {T E : Type 0} (P Q R : T → Type 0) → ((t : T) → P t → Q t → R t) → (r : Result T E) → IfOk r P → IfOk r Q → IfOk r R
+if_both P Q R f (Ok t) h g = f t h g
+if_both P Q R f (Err e) h g = tt
 
 pub refused : (P : Type 0) (b : Bool) → (IsTrue b ↔ P) → b ≡ false → P → ⊥
 refused P b iff e p = let t : IsTrue b = iff.1 p in absurd (cc)

@@ -1,5 +1,5 @@
-pub mod Making
 pub mod Parts
 pub mod Plausible
 pub mod ReadingInside
 pub mod Restarted
+pub mod Written

@@ -1,13 +1,14 @@
 // What rows make, row by row.
 use crate::job::{is_plausible, job_of, keeps_ranges, waits};
-use crate::make::make;
 use crate::marks::mark;
+use crate::replies::is_made;
 use std::alloc::Global;
 use std::marker::Model;
 use wm_base::{NoMemory, QName};
 use wm_desc::{Objects, SortedList};
 use wm_job_rows::{StoredJob, read_job};
-use wm_law::{Command, Job, QNames};
+use wm_law::{Command, Job, QNames, SbsList};
+use wm_making::change_objects;
 use wm_ordered::Ordered;
 use wm_rows::{Counter, Stored, read_row};
 use wm_traits::Row;
@@ -111,14 +112,17 @@ impl Reading {
     }
 
     // Makes what a row's command makes, and answers whether the machine takes it.
-    fn make(&mut self, alloc: Global, command: Command) -> Result<bool, NoMemory>
-        requires fit { IsCommand command }
-        requires place { is_some (place_of command) ≡ true }
-        ensures made { IfOk result (λ made. IsTrue made ↔ ((change self.old (codes "QSYS") command).reply ≡ Made)) }
-        ensures state { IfOk result (λ made. IsTrue made → self.new ≡ (change self.old (codes "QSYS") command).state) }
+    fn make(&mut self, alloc: Global, command: &Command) -> Result<bool, NoMemory>
+        requires fit { IsCommand command.now }
+        requires place { is_some (place_of command.now) ≡ true }
+        ensures made { IfOk result (λ made. IsTrue made ↔ ((change self.old (codes "QSYS") command.now).reply ≡ Made)) }
+        ensures state { IfOk result (λ made. IsTrue made → self.new ≡ (change self.old (codes "QSYS") command.now).state) }
         ensures left { IfOk result (λ made. made ≡ false → self.new ≡ self.old) }
     {
-        make(alloc, &mut self.objects, command)
+        // No subsystem is started as a run opens.
+        let started = SbsList::new(alloc);
+        let reply = change_objects(alloc, &mut self.objects, &started, command)?;
+        Ok(is_made(&reply))
     }
 
     // Holds a queue, and answers whether the machine takes it.
@@ -229,7 +233,7 @@ impl Reading {
     {
         match read_row(alloc, row)? {
             None => Ok(false),
-            Some(Stored::Made(command)) => self.make(alloc, command),
+            Some(Stored::Made(command)) => self.make(alloc, &command),
             Some(Stored::Held(jobq)) => self.hold(jobq),
             Some(Stored::Counter(counter, n)) => Ok(self.count(counter, n)),
         }

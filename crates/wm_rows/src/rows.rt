@@ -13,8 +13,8 @@ use wm_command::print;
 use wm_law::Command;
 use wm_traits::Row;
 
-/// The row at a place that holds a command.
-pub fn made_row(alloc: Global, place: Place, command: &Command) -> Result<Row, NoMemory>
+// The row at a place that holds a command.
+fn made_row(alloc: Global, place: Place, command: &Command) -> Result<Row, NoMemory>
     ensures { IfOk result (λ row. row ≡ made_row place command.now) }
 {
     let body = print(alloc, command)?;

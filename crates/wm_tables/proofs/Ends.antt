@@ -92,3 +92,8 @@ pub contained : {X : Type 0} (xs : List X) (x : X) → Contains xs x → IsIn x 
 contained [] x h = absurd (omega (arith, h.1))
 contained (y ∷ ys) x (zero, lt, e) = inl (sym e)
 contained (y ∷ ys) x (suc k, lt, e) = inr (contained ys x (k, omega arith, e))
+
+pub in_contains : {X : Type 0} (xs : List X) (x : X) → IsIn x xs → Contains xs x
+in_contains [] x i = absurd i
+in_contains (y ∷ ys) x (inl same) = (zero, (omega arith), sym same)
+in_contains (y ∷ ys) x (inr i) = let rest = in_contains ys x i in (suc rest.0, (let less = rest.1 in omega arith), rest.2)

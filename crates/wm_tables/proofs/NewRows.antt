@@ -28,19 +28,15 @@ use Rattle.wm_tables.proofs.Found.{HasJobOf, IsThing, plain_thing, job_thing, co
 use Rattle.wm_tables.proofs.OwnRows.{own_rows}
 use Rattle.wm_tables.proofs.Passing.{in_left_part, in_right_part, left_all, left_passes, of_parts}
 use Rattle.wm_tables.proofs.RangedRestarts.{restart_is_in_range}
-use Rattle.wm_tables.proofs.Restarts.{restart_is_sound}
-use Rattle.wm_tables.proofs.RowOrder.{IsAscending, ascending, in_tables, of_tables, put_in_order}
+use Rattle.wm_tables.proofs.Restarts.{good_restart, restart_is_sound}
+use Rattle.wm_tables.proofs.RowOrder.{IsAscending, ascending, in_tables, of_changed, of_tables, put_in_order, stays}
 use Rattle.wm_tables.proofs.RowsOf.{in_rows, of_number, of_place, of_schema, of_serial}
-use Rattle.wm_tables.proofs.SameRows.{found_there, one_list, one_place, stays, there_found, was_there}
+use Rattle.wm_tables.proofs.SameRows.{found_there, one_list, one_place, there_found}
 
 -- rows to be put where others were found: rows of jobs, and of these all that weren't found
 pub record AreNew (found : List Row) (jobs : List Job) (rows : List Row) : Type 0 where
   pub of_jobs : (r : Row) → IsIn r rows → IsIn r (job_rows jobs)
   pub all : (r : Row) → IsIn r (job_rows jobs) → IsIn r found ⊎ IsIn r rows
-
-restart_of : (offset : ℤ) (found : List Row) (s : State) → AreGood offset found s → HasCounters found → IsRestart offset found s
-restart_of offset [] s good all = absurd (let n = all counter.Schema in let less = n.1.1 in omega arith)
-restart_of offset (row ∷ found) s good all = (good, all)
 
 -- Where the rows of a state lie
 
@@ -100,7 +96,7 @@ module _ (offset : ℤ) (found : List Row) (s : State) (good : AreGood offset fo
         ]
 
     restart : IsRestart offset found s
-    restart = restart_of offset found s good all
+    restart = good_restart offset found s good all
 
     there : (r : Row) → IsIn r (rows_of s) → IsIn r (tables s)
     there r i = in_tables (rows_of s) (own_rows s (restart_is_sound offset found s restart) (restart_is_in_range offset found s restart)) r i
@@ -147,7 +143,7 @@ module _ (offset : ℤ) (found : List Row) (s : State) (good : AreGood offset fo
 
       kept : (r : Row) → IsIn r after → IsIn r (rows_of s)
       kept r i =
-          elim (was_there rows found r i) as (λ _. IsIn r (rows_of s)) [
+          elim (of_changed rows found r i) as (λ _. IsIn r (rows_of s)) [
             | inl put ↦ put_there r put
             | inr was ↦ kept_by r was i (things found (empty offset) s good.read r was)
           ]

@@ -1,10 +1,9 @@
 -- Launches keep the ranges of jobs, and so do the autostart jobs of a subsystem that starts.
-use Rattle.std.proofs.Common.{◌≡◌, ◌≤◌, ◌-◌, ◌+◌, ◌==◌, not, ℕ, Bool, true, false, cond, min, nat_le, nat_lt, is_some, List, [], ◌∷◌, length, fold, Option, Some, None, refl, sym, subst, inl, inr, arith}
+use Rattle.std.proofs.Common.{◌≡◌, ◌≤◌, ◌-◌, ◌+◌, ◌==◌, not, ℕ, Bool, true, false, cond, nat_le, nat_lt, is_some, List, [], ◌∷◌, length, fold, Option, Some, None, refl, sym, subst, inl, inr, arith}
 use Rattle.std.specs.List.{find}
 use Rattle.std.specs.Option.{IfSome, option_and_then, option_map, option_map_or}
 use Rattle.std.proofs.lemmas.Bool.{and_parts}
 use Rattle.std.proofs.lemmas.Bool.Decides.{nat_tests}
-use Rattle.std.proofs.Math.Nat.{min-le_left, min-le_right}
 use Rattle.wm_base.specs.Limit.{is_below}
 use Rattle.wm_base.specs.Name.{IsName}
 use Rattle.wm_base.specs.Text.{IsText}

@@ -1,6 +1,5 @@
 -- The tables of a sound state in range make of none what a stop leaves of the state.
-use Rattle.std.proofs.Common.{◌≡◌, ◌⊎◌, ℤ, zero, suc, Bool, true, false, cond, List, [], ◌∷◌, map, filter, refl, sym, ap, subst, ◌∙◌, inl, inr, arith}
-use Rattle.std.specs.List.{Contains}
+use Rattle.std.proofs.Common.{◌≡◌, ◌⊎◌, ℤ, Bool, true, false, cond, List, [], ◌∷◌, map, filter, refl, sym, ap, subst, ◌∙◌, inl, inr}
 use Rattle.wm_base.specs.declared.qname.QName.{QName}
 use Rattle.wm_desc.specs.declared.description.Sbsd.{Sbsd}
 use Rattle.wm_desc.specs.declared.entry.PreEntry.{PreEntry}
@@ -17,11 +16,13 @@ use Rattle.wm_job_rows.specs.JobText.{job_row}
 use Rattle.wm_job_rows.specs.Stored.{stored_of}
 use Rattle.wm_tables.specs.Laws.{TablesMakeTheirState}
 use Rattle.wm_tables.specs.Ranges.{IsInRange}
-use Rattle.wm_tables.specs.Restart.{AreGood, HasCounters, IsRead, IsRestart, Takes, restarted, restarted_job}
+use Rattle.wm_tables.specs.Restart.{AreGood, HasCounters, IsRead, Takes, restarted, restarted_job}
 use Rattle.wm_tables.specs.Tables.{rows_of, tables}
+use Rattle.wm_tables.proofs.Ends.{in_contains}
 use Rattle.wm_tables.proofs.OwnRows.{own_rows}
 use Rattle.wm_tables.proofs.Parts.{IsStep, jobs_left, reached, same_parts, sbsd_part, state_part}
 use Rattle.wm_tables.proofs.Passing.{left_all, left_none}
+use Rattle.wm_tables.proofs.Restarts.{good_restart}
 use Rattle.wm_tables.proofs.RowOrder.{IsAscending, ascending, in_tables, never_before, of_tables, put_in_order}
 use Rattle.wm_tables.proofs.RowsOf.{IsRowOf, in_rows, of_rows, of_class, of_program, of_queue, of_jobd, of_sbsd, of_queue_entry, of_route_entry, of_auto_entry, of_held, of_job, of_number, of_place, of_schema, of_serial}
 use Rattle.wm_tables.proofs.StepEntries.{queue_made as queue_entry_made, route_made, auto_made}
@@ -170,20 +171,11 @@ module _ (offset : ℤ) (s : State) (sound : IsSound s) (range : IsInRange s) wh
   good : AreGood offset (tables s) (restarted offset s)
   good = record { order = put_in_order (rows_of s); read = read }
 
-  in_contains : {X : Type 0} (xs : List X) (x : X) → IsIn x xs → Contains xs x
-  in_contains [] x i = absurd i
-  in_contains (y ∷ ys) x (inl same) = (zero, (omega arith), sym same)
-  in_contains (y ∷ ys) x (inr i) = let rest = in_contains ys x i in (suc rest.0, (let less = rest.1 in omega arith), rest.2)
-
   counters : HasCounters (tables s)
   counters counter.Number = (s.next_number, in_contains (tables s) _ (there _ (in_rows s _ (of_number refl))))
   counters counter.Place = (s.next_place, in_contains (tables s) _ (there _ (in_rows s _ (of_place refl))))
   counters counter.Schema = (1, in_contains (tables s) _ (there _ (in_rows s _ (of_schema refl))))
   counters counter.Serial = (s.next_serial, in_contains (tables s) _ (there _ (in_rows s _ (of_serial refl))))
-
-good_restart : (offset : ℤ) (rows : List Row) (t : State) → AreGood offset rows t → HasCounters rows → IsRestart offset rows t
-good_restart offset [] t g c = absurd (let n = c counter.Schema in let less = n.1.1 in omega arith)
-good_restart offset (row ∷ rows) t g c = (g, c)
 
 pub tables_make_their_state : TablesMakeTheirState
 tables_make_their_state offset s sound range = good_restart offset (tables s) (restarted offset s) (good offset s sound range) (counters offset s sound range)

@@ -18,7 +18,7 @@ use Rattle.wm_law.proofs.Sound.{opening_is_sound}
 use Rattle.wm_rows.specs.declared.stored.Counter.{Counter}
 use Rattle.wm_rows.specs.declared.stored.Counter.TheVariants as counter
 use Rattle.wm_tables.specs.Laws.{RestartIsSound}
-use Rattle.wm_tables.specs.Restart.{AreGood, HasCounters}
+use Rattle.wm_tables.specs.Restart.{AreGood, HasCounters, IsRestart}
 use Rattle.wm_tables.proofs.Building.{IsBuilt, built}
 use Rattle.wm_tables.proofs.Ends.{IsWithin, contained, row_within}
 use Rattle.wm_tables.proofs.RowOrder.{ascending}
@@ -63,6 +63,11 @@ built_is_sound s b within = record {
   wishes = λ j i. none_wished j (b.jobs.unwished j i);
   moments = λ x i. absurd (none_started s x b i);
 }
+
+-- good rows with all counters are some
+pub good_restart : (offset : ℤ) (rows : List Row) (s : State) → AreGood offset rows s → HasCounters rows → IsRestart offset rows s
+good_restart offset [] s good counters = absurd (let n = counters counter.Schema in let less = n.1.1 in omega arith)
+good_restart offset (row ∷ rows) s good counters = (good, counters)
 
 good_is_sound : (offset : ℤ) (rows : List Row) (s : State) → AreGood offset rows s → HasCounters rows → IsSound s
 good_is_sound offset rows s good counters =

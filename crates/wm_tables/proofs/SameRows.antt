@@ -1,19 +1,17 @@
 -- When rows in their order are the same, which rows stay where others are put, and which are found.
-use Rattle.std.proofs.Common.{◌≡◌, ◌⊎◌, ℕ, ◌==◌, ◌&&◌, ◌||◌, nat_eq, Bool, true, false, cond, List, [], ◌∷◌, refl, sym, ap, subst, ◌∙◌, inl, inr}
+use Rattle.std.proofs.Common.{◌≡◌, ℕ, ◌==◌, ◌&&◌, nat_eq, true, false, List, [], ◌∷◌, refl, sym, ap, subst, ◌∙◌, inl, inr}
 use Rattle.std.specs.Cmp.Lexicographic.{pointwise, slice_cmp}
-use Rattle.std.specs.List.{count_by, list_any}
 use Rattle.std.specs.Ordering.{is_lt, nat_cmp}
 use Rattle.std.proofs.lemmas.Bool.{and_parts, eq-eqb, and_from, eqb-true}
 use Rattle.std.proofs.lemmas.Slice.Eq.{bytes_eq-Decides}
 use Rattle.wm_traits.specs.declared.row.Row.{Row}
 use Rattle.wm_traits.specs.InOrder.{before_later}
-use Rattle.wm_traits.specs.Rows.{changed, is_before, is_of, place_of, put, without}
-use Rattle.wm_traits.specs.Spawner.{without_first}
+use Rattle.wm_traits.specs.Rows.{is_before, place_of}
 use Rattle.wm_law.specs.Laws.{IsIn}
+use Rattle.wm_law.proofs.Due.{of_any}
 use Rattle.wm_tables.specs.Opened.{is_found, same_row}
-use Rattle.wm_tables.specs.Tables.{puts}
 use Rattle.wm_tables.proofs.Passing.{one_passes}
-use Rattle.wm_tables.proofs.RowOrder.{IsAscending, never_before, new_inserted, of_place, of_put, old_inserted}
+use Rattle.wm_tables.proofs.RowOrder.{IsAscending, never_before}
 
 -- Rows in their order
 
@@ -53,49 +51,6 @@ one_list (x ∷ xs) (y ∷ ys) u v f g =
     let rest : xs ≡ ys = one_list xs ys u.1 v.1 (λ r i. in_rest x y r xs ys first u i (f r (inr i))) (λ r i. in_rest y x r ys xs (sym first) v i (g r (inr i))) in
     ap (λ (r : Row). r ∷ xs) first ∙ ap (λ (rs : List Row). y ∷ rs) rest
 
--- Rows that are put
-
-module _ {X : Type 0} where
-  stays_by : (t : Bool) (x y : X) (xs ys : List X) → (t ≡ true → y ≡ x → ⊥) → (IsIn y xs → IsIn y ys) → IsIn y (x ∷ xs) → IsIn y (cond t xs (x ∷ ys))
-  stays_by true x y xs ys other h (inl e) = absurd (other refl e)
-  stays_by true x y xs ys other h (inr i) = i
-  stays_by false x y xs ys other h (inl e) = inl e
-  stays_by false x y xs ys other h (inr i) = inr (h i)
-
-  -- what fails the test isn't taken out
-  left_other : (test : X → Bool) (xs : List X) (y : X) → test y ≡ false → IsIn y xs → IsIn y (without_first test xs)
-  left_other test [] y e i = absurd i
-  left_other test (x ∷ xs) y e i =
-      stays_by (test x) x y xs (without_first test xs)
-      (λ t same. (let no : test x ≡ false = subst (λ (z : X). test z ≡ false) same e in absurd (cc)))
-      (left_other test xs y e)
-      i
-
--- a row that is put is there
-pub new_there : (u : Row) (base : List Row) → IsIn u (put u base)
-new_there u base = let left = without u.tab u.key base in new_inserted left (count_by (λ other. is_before other u) left) u
-
-old_there : (u : Row) (base : List Row) (r : Row) (t : Bool) → is_of u.tab u.key r ≡ t → (place_of r ≡ place_of u → r ≡ u) → IsIn r base → IsIn r (put u base)
-old_there u base r true e one i = subst (λ (x : Row). IsIn x (put u base)) (sym (one (of_place u.tab u.key r e))) (new_there u base)
-old_there u base r false e one i = let left = without u.tab u.key base in old_inserted left (count_by (λ other. is_before other u) left) u r (left_other (is_of u.tab u.key) base r e i)
-
--- a row that is put, or was there, is there, where no other of its place is put
-pub stays : (rows base : List Row) (r : Row) → ((u : Row) → IsIn u rows → place_of r ≡ place_of u → r ≡ u) → IsIn r rows ⊎ IsIn r base → IsIn r (changed (puts rows) base)
-stays [] base r one (inl i) = absurd i
-stays [] base r one (inr i) = i
-stays (u ∷ rows) base r one (inl (inl same)) = stays rows (put u base) r (λ v i. one v (inr i)) (inr (subst (λ (x : Row). IsIn x (put u base)) (sym same) (new_there u base)))
-stays (u ∷ rows) base r one (inl (inr i)) = stays rows (put u base) r (λ v j. one v (inr j)) (inl i)
-stays (u ∷ rows) base r one (inr i) = stays rows (put u base) r (λ v j. one v (inr j)) (inr (old_there u base r (is_of u.tab u.key r) refl (one u (inl refl)) i))
-
--- a row that is there was put, or was there
-pub was_there : (rows base : List Row) (r : Row) → IsIn r (changed (puts rows) base) → IsIn r rows ⊎ IsIn r base
-was_there [] base r i = inr i
-was_there (u ∷ rows) base r i =
-    elim (was_there rows (put u base) r i) as (λ _. IsIn r (u ∷ rows) ⊎ IsIn r base) [
-      | inl later ↦ inl (inr later)
-      | inr was ↦ (elim (of_put u base r was) as (λ _. IsIn r (u ∷ rows) ⊎ IsIn r base) [ inl same ↦ inl (inl same) | inr old ↦ inr old ])
-    ]
-
 -- Rows that are found
 
 itself : (a : Row) → same_row a a ≡ true
@@ -109,14 +64,9 @@ sure_row a b h =
     let key : record a { tab = b.tab } ≡ record b { body = a.body } = ap (λ (k : List ℕ). record a { tab = b.tab; key = k }) ((bytes_eq-Decides a.key b.key).0 first.1) in
     tab ∙ key ∙ ap (λ (t : List ℕ). record b { body = t }) ((bytes_eq-Decides a.body b.body).0 whole.1)
 
-found_by : (row r : Row) (rows : List Row) (t : Bool) → same_row row r ≡ t → (t || list_any (same_row row) rows) ≡ true → (list_any (same_row row) rows ≡ true → IsIn row rows) → IsIn row (r ∷ rows)
-found_by row r rows true e h next = inl (sure_row row r e)
-found_by row r rows false e h next = inr (next h)
-
 -- the test finds exactly the rows of the list
 pub found_there : (found : List Row) (row : Row) → is_found found row ≡ true → IsIn row found
-found_there [] row h = absurd (cc)
-found_there (r ∷ rows) row h = found_by row r rows (same_row row r) refl h (found_there rows row)
+found_there found row h = let m = of_any (same_row row) found h in subst (λ (r : Row). IsIn r found) (sym (sure_row row m.0 m.2)) m.1
 
 pub there_found : (found : List Row) (row : Row) → IsIn row found → is_found found row ≡ true
 there_found found row i = one_passes (same_row row) found row i (itself row)

@@ -13,8 +13,7 @@ use wm_cases::Subject;
 use wm_core::Setup;
 use wm_desc::{Objects, Sbsd, qbatch};
 use wm_law::Job;
-use wm_opening::open_rows;
-use wm_restart::{ReadParts, RestartFault, read_rows};
+use wm_restart::{ReadParts, RestartFault, open_rows, read_rows};
 use wm_traits::{Row, RowChange};
 use wm_when::Offset;
 

@@ -1,4 +1,0 @@
-mod Restarts
-mod Lookup
-mod JobChanges
-mod FirstChanges
