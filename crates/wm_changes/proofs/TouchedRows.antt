@@ -21,7 +21,7 @@ use Rattle.wm_job_rows.specs.JobText.{job_row}
 use Rattle.wm_job_rows.specs.Stored.{IsStored, stored_of}
 use Rattle.wm_job_rows.specs.declared.stored.StoredJob.{StoredJob}
 use Rattle.wm_job_rows.proofs.ReadBack.{row_back}
-use Rattle.wm_jobs.specs.Marked.{standing_as, undone}
+use Rattle.wm_jobs.specs.Marked.{undone}
 use Rattle.wm_jobs.specs.Table.{Table}
 use Rattle.wm_jobs.specs.declared.touched.Standing.{Standing}
 use Rattle.wm_tables.specs.Opened.{is_found}

@@ -1,6 +1,5 @@
 -- What dropping the last job and undoing the newest change make of a table.
-use Rattle.std.proofs.Common.{◌≡◌, ℕ, suc, ◌+◌, ◌-◌, ◌<◌, ◌≤◌, Bool, true, false, not, ◌&&◌, cond, List, [], ◌∷◌, ◌++◌, length, get_or, map, take, drop, take_all, Option, Some, None, vec_capacity, refl, ap, sym, ◌∙◌, subst, arith, nat_eq, eq-eqb, inl, inr, All}
-use Rattle.std.specs.List.{filter}
+use Rattle.std.proofs.Common.{◌≡◌, ℕ, suc, ◌+◌, ◌-◌, ◌<◌, ◌≤◌, true, false, not, ◌&&◌, cond, List, [], ◌∷◌, ◌++◌, length, get_or, map, take, drop, take_all, Option, Some, None, vec_capacity, refl, ap, sym, ◌∙◌, subst, arith, nat_eq, eq-eqb, inl, inr, All}
 use Rattle.std.specs.Ordering.{nat_cmp}
 use Rattle.std.proofs.lemmas.Bool.{cases_Bool}
 use Rattle.std.proofs.lemmas.List.{get_or-map, length-append, length-map}

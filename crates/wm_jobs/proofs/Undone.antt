@@ -1,7 +1,6 @@
 -- What was at the mark, and what calls leave of it.
 use Rattle.std.proofs.Common.{◌≡◌, ℕ, zero, suc, ◌+◌, ◌<◌, ◌≤◌, Bool, true, false, not, ◌==◌, ◌||◌, cond, List, [], ◌∷◌, ◌++◌, length, get_or, map, take, take_all, refl, ap, sym, ◌∙◌, subst, arith, nat_eq, inl, inr, All, eq-eqb}
 use Rattle.std.specs.List.{filter, list_any}
-use mathlib.Core.Bool.{false≢true}
 use Rattle.std.proofs.lemmas.Bool.{cases_Bool, eqb-true, not_from_true, or_right, or_left}
 use Rattle.std.proofs.lemmas.List.{length-append, length-take, length-map, take-map, take-append-le}
 use Rattle.std.proofs.lemmas.List.Elements.{All-head, All-tail, All-cons, All-append, All-take, All-weaker}

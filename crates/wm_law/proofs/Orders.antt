@@ -20,7 +20,7 @@ use Rattle.wm_law.specs.declared.job.Phase.{Phase}
 use Rattle.wm_law.specs.declared.job.Wish.{Wish}
 use Rattle.wm_law.specs.declared.state.Evoke.{Evoke}
 use Rattle.wm_law.specs.declared.state.Power.{Power}
-use Rattle.wm_law.specs.declared.job.Phase.TheVariants.{Waiting, Starting, Handed, Running, Ended}
+use Rattle.wm_law.specs.declared.job.Phase.TheVariants.{Starting}
 use Rattle.wm_law.specs.declared.launch.Launched.{Launched}
 use Rattle.wm_desc.specs.declared.description.Jobd.{Jobd}
 use Rattle.wm_desc.specs.declared.objects.Objects.{Objects}

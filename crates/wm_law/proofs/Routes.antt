@@ -3,7 +3,6 @@ use Rattle.std.proofs.Common.{◌≡◌, ℕ, ◌<◌, ◌≤◌, Bool, true, fa
 use Rattle.std.specs.List.{find}
 use Rattle.std.specs.Ordering.{nat_cmp}
 use Rattle.std.proofs.lemmas.Bool.{eq-eqb}
-use Rattle.std.proofs.lemmas.Bool.Decides.{nat_tests}
 use Rattle.wm_base.proofs.Tests.{eqb-lt}
 use Rattle.wm_desc.specs.declared.entry.RouteEntry.{RouteEntry}
 use Rattle.wm_desc.specs.Sorted.{IsSortedOnce}

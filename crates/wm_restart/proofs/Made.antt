@@ -1,5 +1,5 @@
 -- What a row's command makes of a state, by what it makes of the objects alone.
-use Rattle.std.proofs.Common.{◌≡◌, true, List, Option, Some, None, is_some, codes, refl, sym, ap, ◌∙◌}
+use Rattle.std.proofs.Common.{◌≡◌, true, List, Option, Some, None, is_some, codes, refl, ap, ◌∙◌}
 use Rattle.wm_base.specs.declared.refusal.Refusal.{Refusal}
 use Rattle.wm_desc.specs.declared.objects.Objects.{Objects}
 use Rattle.wm_law.specs.declared.call.Reply.{Reply}

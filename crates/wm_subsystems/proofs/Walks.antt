@@ -5,7 +5,6 @@ use Rattle.std.proofs.lemmas.Bool.Decides.{nat_tests}
 use Rattle.std.proofs.lemmas.Bool.{ltb-false, ltb-true, leb-true, and_parts, le-leb}
 use Rattle.wm_law.specs.declared.job.Job.{Job}
 use Rattle.wm_law.specs.Counts.{is_active}
-use Rattle.wm_law.specs.Kept.{IsBelow}
 use Rattle.wm_law.specs.Laws.{IsIn}
 use Rattle.wm_law.specs.Sound.{IsIncreasing}
 use Rattle.wm_law.specs.Submitting.{serials_end}
