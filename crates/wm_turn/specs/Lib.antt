@@ -1,0 +1,5 @@
+pub mod Held
+pub mod Kinds
+pub mod Passed
+pub mod Rule
+pub mod Views
