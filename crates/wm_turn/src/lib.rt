@@ -24,6 +24,7 @@
 
 mod pass;
 mod plays;
+mod sleepers;
 mod standing;
 mod steps;
 mod turns;

@@ -6,52 +6,72 @@ ghost use Rattle.wm_turn.specs.Kinds.{Begins};
 ghost use Rattle.wm_turn.specs.Passed.{Grows, StartsWith};
 ghost use Rattle.wm_turn.specs.Views.{IsTurn, is_live, before_of, done, failed_of, seeing};
 
+use crate::sleepers::Sleepers;
 use crate::standing::Standing;
 use crate::steps::{
-    SERVING, TICKET, check, draw, enter_entry, lay_in, look, mark, pass_on, read, take_out,
+    SERVING, check, draw, enter_entry, lay_in, look, mark, pass_on, read, take_out,
 };
 use crate::view::{Desk, Place};
+use std::hint;
 use std::snapshot::Snapshot;
 use std::sync::Wait;
 use std::time::Duration;
-use std::{hint, thread};
 
-// How many looks spin, each twice as long as the one before; up to which one looks yield; and how many microseconds of sleep
-// each look adds after that, up to a millisecond.
-const SPINS: u32 = 7;
+// A thread with at most so many turns before its own looks so many times, with a pause of the processor for each of these turns
+// between two looks. After that, or with more turns before its own, it sleeps.
+const NEAR: u64 = 4;
 
-const YIELDS: u32 = 12;
+const LOOKS: u32 = 1000;
 
-const STEP: u64 = 50;
+// A sleep that isn't ended by a wake lasts a millisecond, and the next ones twice as long each, so many times.
+const DOUBLINGS: u32 = 6;
 
-const LONGEST: u64 = 1000;
-
-const LAST: u32 = 40;
-
-// Waits between two looks: the more looks there were, the longer. A sleep ends as soon as another ticket is served.
-fn pause<X: Standing, R: Wait>(rt: &R, desk: &Desk<X>, served: u64, looks: u32)
+// Sleeps until the ticket may have been served, or for so many milliseconds.
+fn sleep<X: Standing, R: Wait>(
+    rt: &R,
+    desk: &Desk<X>,
+    sleepers: &Sleepers,
+    ticket: u64,
+    millis: u64,
+)
     requires { IsTable desk.now.table_id }
 {
-    if looks < SPINS {
-        for _ in 0..1u32 << looks {
+    let wakes = sleepers.announce(ticket);
+    let waits = desk.peek(SERVING) != ticket;
+    sleepers.sleep(rt, ticket, wakes, waits, Duration::from_millis(millis));
+}
+
+// Waits between two looks, and counts on. Once it has slept, a thread doesn't pause the processor any more.
+fn pause<X: Standing, R: Wait>(
+    rt: &R,
+    desk: &Desk<X>,
+    sleepers: &Sleepers,
+    ticket: u64,
+    served: u64,
+    looks: u32,
+) -> u32
+    requires { IsTable desk.now.table_id }
+{
+    let before = ticket.wrapping_sub(served);
+    if looks < LOOKS && before <= NEAR {
+        for _ in 0..before {
             hint::spin_loop();
         }
-    } else if looks < YIELDS {
-        thread::yield_now();
-    } else {
-        let longer = STEP * ((looks.min(LAST) - YIELDS) as u64 + 1);
-        let seen = (served % (1 << 32)) as u32;
-        desk.park_timeout(
-            rt,
-            SERVING,
-            seen,
-            Duration::from_micros(longer.min(LONGEST)),
-        );
+        return looks + 1;
     }
+    let sleeps = looks.saturating_sub(LOOKS);
+    sleep(rt, desk, sleepers, ticket, 1 << sleeps.min(DOUBLINGS));
+    looks.max(LOOKS).saturating_add(1)
 }
 
 // Looks until the seat's own ticket is served.
-fn wait<X: Standing, R: Wait>(rt: &R, desk: &Desk<X>, place: &mut Place<X>, ticket: u64)
+fn wait<X: Standing, R: Wait>(
+    rt: &R,
+    desk: &Desk<X>,
+    sleepers: &Sleepers,
+    place: &mut Place<X>,
+    ticket: u64,
+)
     requires own { Belongs place.old.table_id desk.now.table_id }
     requires waits { (t : ℕ) × (ticket ≡ t % 2 ^ 64) × (place.old.me.0.stage ≡ Waiting t) }
     requires free { place.old.me.1 ≡ [] }
@@ -65,14 +85,18 @@ fn wait<X: Standing, R: Wait>(rt: &R, desk: &Desk<X>, place: &mut Place<X>, tick
         if served == ticket {
             return;
         }
-        pause(rt, desk, served, looks);
-        looks = looks.saturating_add(1);
+        looks = pause(rt, desk, sleepers, ticket, served, looks);
     }
     unreachable!()
 }
 
 /// Waits for the seat's turn and takes the value, with how many entries there are.
-pub(crate) fn begin<X: Standing, R: Wait>(rt: &R, desk: &Desk<X>, place: &mut Place<X>) -> (X, u64)
+pub(crate) fn begin<X: Standing, R: Wait>(
+    rt: &R,
+    desk: &Desk<X>,
+    sleepers: &Sleepers,
+    place: &mut Place<X>,
+) -> (X, u64)
     requires own { Belongs place.old.table_id desk.now.table_id }
     requires idle { place.old.me.0.stage ≡ Idle }
     requires free { place.old.me.1 ≡ [] }
@@ -84,24 +108,21 @@ pub(crate) fn begin<X: Standing, R: Wait>(rt: &R, desk: &Desk<X>, place: &mut Pl
     ensures count { result.1 ≡ length (X.stands result.0) }
 {
     let ticket = draw(desk, place);
-    wait(rt, desk, place, ticket);
+    wait(rt, desk, sleepers, place, ticket);
     let _failed = check(desk, place);
     let value = take_out(desk, place);
     let count = read(desk, place);
     (value, count)
 }
 
-// Wakes those who sleep, where someone waits for the ticket after the one that was served.
-fn call_next<X: Standing>(desk: &Desk<X>, served: u64)
-    requires { IsTable desk.now.table_id }
-{
-    if desk.peek(TICKET) != served.wrapping_add(1) {
-        desk.wake_all(SERVING);
-    }
-}
-
 /// Gives the value back, with its new entry and its mark, and ends the turn.
-pub(crate) fn end<X: Standing>(desk: &Desk<X>, place: &mut Place<X>, value: X, count: u64)
+pub(crate) fn end<X: Standing>(
+    desk: &Desk<X>,
+    sleepers: &Sleepers,
+    place: &mut Place<X>,
+    value: X,
+    count: u64,
+)
     requires own { Belongs place.old.table_id desk.now.table_id }
     requires turn { IsTurn place.old.me.0.stage }
     requires empty { place.old.me.1 ≡ (0, None) ∷ [] }
@@ -121,5 +142,5 @@ pub(crate) fn end<X: Standing>(desk: &Desk<X>, place: &mut Place<X>, value: X, c
     enter_entry(desk, place, &kept, grown);
     mark(desk, place, &kept, marked);
     let served = pass_on(desk, place, &kept);
-    call_next(desk, served);
+    sleepers.wake(served.wrapping_add(1));
 }

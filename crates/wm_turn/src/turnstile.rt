@@ -3,6 +3,7 @@ ghost use Rattle.std.specs.Prelude.{◌≡◌, ◌≢◌, ◌+◌, ◌<◌, ◌�
 ghost use Rattle.wm_turn.specs.Passed.{begun, child, ended, fresh, joining, own, parent, Grows, HasAll, HasOwn, StartsWith};
 
 use crate::pass::Pass;
+use crate::sleepers::Sleepers;
 use crate::standing::Standing;
 use crate::steps::recall;
 use crate::turns::{begin, end};
@@ -17,6 +18,7 @@ use wm_base::NoMemory;
 /// Threads take turns with a value, each by a pass of its own. A contract sees which turnstile it is.
 pub struct Turnstile<X: Standing> {
     table: Table<Option<X>, View<X::Opening, X::Entry>, Snapshot<X>, Rule, Global>,
+    sleepers: Sleepers,
 }
 
 impl<X: Standing> Model for Turnstile<X> {
@@ -53,7 +55,8 @@ impl<X: Standing> Turnstile<X> {
                     out: 0,
                     count: 0,
                 };
-                Ok((Turnstile { table }, pass))
+                let sleepers = Sleepers::new();
+                Ok((Turnstile { table, sleepers }, pass))
             }
             Err(Refused { mut slots }) => {
                 let Some(Some(value)) = slots.pop() else {
@@ -74,7 +77,7 @@ impl<X: Standing> Turnstile<X> {
         ensures front { StartsWith (X.stands result) pass.old.seen }
         ensures opening { pass.old.opening ≡ Some (X.opening result) }
     {
-        let (value, count) = begin(rt, &self.table.shared, &mut pass.place);
+        let (value, count) = begin(rt, &self.table.shared, &self.sleepers, &mut pass.place);
         pass.count = count;
         value
     }
@@ -89,7 +92,13 @@ impl<X: Standing> Turnstile<X> {
         requires mark { IfSome pass.old.turn (λ before. before ≤ X.mark value) }
         ensures { pass.new ≡ ended (X.stands value) (X.mark value) pass.old }
     {
-        end(&self.table.shared, &mut pass.place, value, pass.count);
+        end(
+            &self.table.shared,
+            &self.sleepers,
+            &mut pass.place,
+            value,
+            pass.count,
+        );
     }
 
     /// Makes the pass of the next number, which has seen what pass 0 has and has no entry.
@@ -163,7 +172,8 @@ impl<X: Standing> Turnstile<X> {
         if pass.out > 0 {
             return Err((self, pass));
         }
-        let Turnstile { table } = self;
+        let Turnstile { table, sleepers } = self;
+        drop(sleepers);
         let Pass {
             place,
             number: _,
