@@ -1,5 +1,5 @@
-//! The cases of texts: names, numbers and refusals, logical lines, trees, CALLs, commands, their keys, and the command
-//! table.
+//! The cases of texts: names, numbers and refusals, logical lines, trees, CALLs, commands, their keys, the command table,
+//! and the words of a command line.
 //!
 //! Each file of `data/` has the cases of one of these, and one module answers what the file asks. The module says at its
 //! head which questions there are. An answer that isn't the wanted one is printed with both.
@@ -15,6 +15,7 @@ mod keys;
 mod lines;
 mod names;
 mod numbers;
+mod plans;
 mod properties;
 mod table;
 mod trees;
@@ -34,5 +35,6 @@ fn main(rt: HostRuntime) -> Result<()> {
     )?;
     play(&rt, "keys.txt", &mut keys::KeyCases::new(rt.alloc()))?;
     play(&rt, "table.txt", &mut table::TableCases)?;
+    play(&rt, "plans.txt", &mut plans::PlanCases::new(rt.alloc()))?;
     Ok(())
 }

@@ -1,0 +1,6 @@
+pub mod Answered
+pub mod Flat
+pub mod Joins
+pub mod PlansMade
+pub mod Shapes
+pub mod Walks
