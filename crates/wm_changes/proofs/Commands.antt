@@ -1,12 +1,10 @@
 -- What a call changes of the rows of objects, entries and held queues.
-use Rattle.std.proofs.Common.{◌≡◌, ℕ, ◌<◌, ◌≤◌, ◌==◌, ◌++◌, not, Bool, true, false, cond, List, [], ◌∷◌, Option, Some, None, is_some, map, fold, nat_lt, refl, sym, ap, subst, ◌∙◌, inl, inr, arith}
+use Rattle.std.proofs.Common.{◌≡◌, ℕ, ◌<◌, ◌≤◌, ◌++◌, not, Bool, true, false, cond, List, [], ◌∷◌, Option, Some, None, is_some, map, refl, sym, ap, subst, ◌∙◌, inl, inr, arith}
 use Rattle.std.specs.Cmp.Lexicographic.{slice_cmp}
-use Rattle.std.specs.List.{find, flat_map}
+use Rattle.std.specs.List.{flat_map}
 use Rattle.std.specs.Option.{option_map, option_to_list}
 use Rattle.std.specs.Ordering.{nat_cmp}
-use Rattle.std.specs.Prelude.{Result, Ok, Err}
 use Rattle.std.proofs.lemmas.Bool.{not-false}
-use Rattle.wm_base.specs.declared.job.StartOrder.{StartOrder}
 use Rattle.wm_base.specs.declared.qname.QName.{QName}
 use Rattle.wm_base.specs.declared.refusal.Kind.TheVariants as kind
 use Rattle.wm_base.specs.declared.refusal.Refusal.{Refusal}
@@ -25,37 +23,20 @@ use Rattle.wm_desc.proofs.Tables.{test_fails}
 use Rattle.wm_traits.specs.declared.row.Row.{Row}
 use Rattle.wm_traits.specs.declared.row.RowChange.{RowChange}
 use Rattle.wm_traits.specs.declared.row.RowChange.TheVariants.{Put, Del}
-use Rattle.wm_law.specs.Autos.{auto_described, autos_of, make_auto}
-use Rattle.wm_law.specs.Changing.{change_due, change_found, has_queue as has_its_queue, stays}
+use Rattle.wm_law.specs.Changing.{has_queue as has_its_queue}
 use Rattle.wm_law.specs.Choice.{entry_for, is_held}
-use Rattle.wm_law.specs.Counts.{is_starting}
-use Rattle.wm_law.specs.Endings.{end_active, end_found, end_in_phase, end_started, is_down, is_ended, is_wished, started_named}
-use Rattle.wm_law.specs.Holding.{hold_found, release_found}
-use Rattle.wm_law.specs.Launch.{order_of}
 use Rattle.wm_law.specs.Machine.{apply, change}
 use Rattle.wm_law.specs.Making.{auto_entry_of, class_of, jobd_of, made_unless, queue_entry_of, route_entry_of, unless_in_use}
-use Rattle.wm_law.specs.Named.{job_named, waiting_named}
-use Rattle.wm_law.specs.Power.{is_on}
 use Rattle.wm_law.specs.Queues.{hold_queue, own_name, release_queue, with_held_queue, without_held_queue}
-use Rattle.wm_law.specs.Reports.{done_with, hand_job, hand_order, is_handed_to, is_run_by, is_to_kill, report_on, start_job}
-use Rattle.wm_law.specs.Schedules.{rescheduled, scheduled}
 use Rattle.wm_law.specs.Sound.{IsSound}
 use Rattle.wm_law.specs.Stepped.{Stepped, refused}
-use Rattle.wm_law.specs.Submitting.{has_numbers, queue_of, serials_end, submit_due, submit_with}
-use Rattle.wm_law.specs.Subsystems.{begun, start_refusal, start_unless}
 use Rattle.wm_law.specs.declared.call.Call.{Call}
-use Rattle.wm_law.specs.declared.call.Call.TheVariants.{Change, Hand, Started, StartFailed, Finished, UseDone, Tick}
-use Rattle.wm_law.specs.declared.command.Chgjob.{Chgjob}
+use Rattle.wm_law.specs.declared.call.Call.TheVariants.{Change}
 use Rattle.wm_law.specs.declared.command.Command.{Command}
 use Rattle.wm_law.specs.declared.command.Command.TheVariants as command
-use Rattle.wm_law.specs.declared.command.Endjob.{Endjob}
-use Rattle.wm_law.specs.declared.command.Endsbs.{Endsbs}
-use Rattle.wm_law.specs.declared.command.Sbmjob.{Sbmjob}
-use Rattle.wm_law.specs.declared.job.Job.{Job}
-use Rattle.wm_law.specs.declared.job.Phase.{Phase}
-use Rattle.wm_law.specs.declared.job.Phase.TheVariants.{Waiting, Starting, Handed, Running, Ended}
-use Rattle.wm_law.specs.declared.state.Sbs.{Sbs}
 use Rattle.wm_law.specs.declared.state.State.{State}
+use Rattle.wm_law.proofs.Aside.{call_is_aside}
+use Rattle.wm_law.specs.Built.{is_configuring_call}
 use Rattle.wm_rows.specs.Rows.{class_row, program_row, queue_row, jobd_row, sbsd_row, queue_entry_row, route_entry_row, auto_entry_row, pre_entry_row, held_row}
 use Rattle.wm_rows.specs.Places.{numbered_place, entry_place}
 use Rattle.wm_rows.specs.Tables.{queue_entry_rows, route_entry_rows, auto_entry_rows, pre_entry_rows, held_rows, object_rows}
@@ -129,6 +110,10 @@ module _ (s : State) where
     pub objects : t.objects ≡ s.objects
     pub held : t.held ≡ s.held
 
+  -- so it is with a call that configures nothing
+  call_leaves : (caller : ℕ) (call : Call) → is_configuring_call call ≡ false → Leaves (apply s caller call).state
+  call_leaves caller call none = (let a = call_is_aside s caller call none in record { objects = a.objects; held = a.held })
+
   apart : (t : State) → AreApart (object_rows s.objects) (object_rows t.objects) (held_rows s.held) (held_rows t.held)
   apart t = apart_tabs 9 10 (object_rows s.objects) (object_rows t.objects) (held_rows s.held) (held_rows t.held) (omega arith) (objects_to_nine s.objects) (objects_to_nine t.objects) (held_tab s.held) (held_tab t.held)
 
@@ -162,90 +147,6 @@ module _ (s : State) where
   either : (P : Stepped → Type 0) (b : Bool) (t u : Stepped) → (b ≡ true → P t) → (b ≡ false → P u) → P (cond b t u)
   either P true t u f g = f refl
   either P false t u f g = g refl
-
-  -- Commands that leave the objects and the held queues
-
-  abbrev Stays : Stepped → Type 0
-  Stays t = Leaves t.state
-
-  refused_stays : (x : Refusal) → Stays (refused s x)
-  refused_stays x = itself
-
-  auto_stays : (q : QName) (t : State) (e : AutoEntry) (o : Option Jobd) → Leaves t → Leaves (auto_described t q e o)
-  auto_stays q t e None l = l
-  auto_stays q t e (Some d) l = record { objects = l.objects; held = l.held }
-
-  autos_stay : (q : QName) (es : List AutoEntry) (t : State) → Leaves t → Leaves (fold (make_auto q) t es)
-  autos_stay q [] t l = l
-  autos_stay q (e ∷ es) t l = autos_stay q es (make_auto q t e) (auto_stays q t e (object_named e.jobd t.objects.jobds) l)
-
-  start_stays : (q : QName) (r : Option Refusal) → Stays (start_unless s q r)
-  start_stays q (Some x) = itself
-  start_stays q None = autos_stay q (autos_of s q) (begun s q) (record { objects = refl; held = refl })
-
-  due_stays : (user : List ℕ) (c : Sbmjob) (d : Jobd) (r : Result ℕ Refusal) → Stays (submit_due s user c d r)
-  due_stays user c d (Err x) = itself
-  due_stays user c d (Ok due) = either Stays (has_numbers s) _ _ (λ e. record { objects = refl; held = refl }) (λ e. itself)
-
-  submit_stays : (user : List ℕ) (c : Sbmjob) (o : Option Jobd) → Stays (submit_with s user c o)
-  submit_stays user c None = itself
-  submit_stays user c (Some d) = either Stays (is_some (object_named (queue_of c d) s.objects.jobqs)) _ _ (λ e. due_stays user c d (scheduled s c.scddate c.scdtime)) (λ e. itself)
-
-  hold_stays : (r : Result Job Refusal) → Stays (hold_found s r)
-  hold_stays (Err x) = itself
-  hold_stays (Ok j) = either Stays j.held _ _ (λ e. itself) (λ e. record { objects = refl; held = refl })
-
-  release_stays : (r : Result Job Refusal) → Stays (release_found s r)
-  release_stays (Err x) = itself
-  release_stays (Ok j) = either Stays j.held _ _ (λ e. record { objects = refl; held = refl }) (λ e. itself)
-
-  change_due_stays : (c : Chgjob) (j : Job) (r : Result ℕ Refusal) → Stays (change_due s c j r)
-  change_due_stays c j (Err x) = itself
-  change_due_stays c j (Ok due) =
-      either Stays (stays c j) _ _ (λ e. record { objects = refl; held = refl })
-      (λ e. either Stays (nat_lt s.next_place serials_end) _ _ (λ f. record { objects = refl; held = refl }) (λ f. itself))
-
-  change_stays : (c : Chgjob) (r : Result Job Refusal) → Stays (change_found s c r)
-  change_stays c (Err x) = itself
-  change_stays c (Ok j) = either Stays (has_its_queue s c.jobq) _ _ (λ e. change_due_stays c j (rescheduled s j.due c.scddate c.scdtime)) (λ e. itself)
-
-  order_stays : (m : ℕ) (j : Job) (o : Option StartOrder) → Stays (hand_order s m j o)
-  order_stays m j None = itself
-  order_stays m j (Some o) = record { objects = refl; held = refl }
-
-  job_stays : (m : ℕ) (o : Option Job) → Stays (start_job s m o)
-  job_stays m None = itself
-  job_stays m (Some j) = order_stays m j (order_of s j)
-
-  hand_stays : (m : ℕ) (o : Option Job) → Stays (hand_job s m o)
-  hand_stays m None = job_stays m (find (λ (j : Job). is_starting j.phase) s.jobs)
-  hand_stays m (Some j) = record { objects = refl; held = refl }
-
-  active_stays : (c : Endjob) (j : Job) → Stays (end_active s c j)
-  active_stays c j = either Stays (is_wished c.option j.wish) _ _ (λ e. itself) (λ e. record { objects = refl; held = refl })
-
-  phase_stays : (c : Endjob) (j : Job) (p : Phase) → Stays (end_in_phase s c j p)
-  phase_stays c j Waiting = record { objects = refl; held = refl }
-  phase_stays c j Starting = active_stays c j
-  phase_stays c j (Handed m) = active_stays c j
-  phase_stays c j (Running m) = active_stays c j
-  phase_stays c j (Ended end) = itself
-
-  end_stays : (c : Endjob) (r : Result Job Refusal) → Stays (end_found s c r)
-  end_stays c (Err x) = itself
-  end_stays c (Ok j) = phase_stays c j j.phase
-
-  sbs_stays : (c : Endsbs) (o : Option Sbs) → Stays (end_started s c o)
-  sbs_stays c None = itself
-  sbs_stays c (Some b) = either Stays (is_ended c.option b.phase) _ _ (λ e. itself) (λ e. record { objects = refl; held = refl })
-
-  report_stays : (serial : ℕ) (test : Phase → Bool) (phase : Job → Phase) (o : Option Job) → Stays (report_on s serial test phase o)
-  report_stays serial test phase None = itself
-  report_stays serial test phase (Some j) = either Stays (test j.phase) _ _ (λ e. record { objects = refl; held = refl }) (λ e. itself)
-
-  done_stays : (m : ℕ) (o : Option Job) → Stays (done_with s m o)
-  done_stays m None = itself
-  done_stays m (Some j) = either Stays (is_run_by m j.phase) _ _ (λ e. itself) (λ e. itself)
 
   -- Commands that make or take out
 
@@ -356,25 +257,11 @@ module _ (s : State) where
         made_answers (with_description c.sbsd (without_route c.seqnbr) s.objects) (unless_in_use s c.sbsd (remove_route_refusal s.objects c.sbsd c.seqnbr)) _ (λ n now. route_out c.sbsd c.seqnbr n)
     command_answers user (command.Rmvaje c) =
         made_answers (with_description c.sbsd (without_auto c.job) s.objects) (unless_in_use s c.sbsd (remove_auto_refusal s.objects c.sbsd c.job)) _ (λ n now. auto_out c.sbsd c.job n)
-    command_answers user (command.Strsbs c) = leaves_answers (start_unless s c.sbsd (start_refusal s c.sbsd)) (start_stays c.sbsd (start_refusal s c.sbsd))
-    command_answers user (command.Endsbs c) = leaves_answers (end_started s c (started_named s c.sbs)) (sbs_stays c (started_named s c.sbs))
-    command_answers user (command.Sbmjob c) = leaves_answers (change s user (command.Sbmjob c)) (either Stays (is_on s.power) _ _ (λ e. submit_stays user c (object_named c.jobd s.objects.jobds)) (λ e. itself))
-    command_answers user (command.Hldjob c) = leaves_answers (hold_found s (waiting_named s c.job)) (hold_stays (waiting_named s c.job))
-    command_answers user (command.Rlsjob c) = leaves_answers (release_found s (waiting_named s c.job)) (release_stays (waiting_named s c.job))
-    command_answers user (command.Chgjob c) = leaves_answers (change_found s c (waiting_named s c.job)) (change_stays c (waiting_named s c.job))
-    command_answers user (command.Endjob c) = leaves_answers (end_found s c (job_named s c.job)) (end_stays c (job_named s c.job))
     command_answers user (command.Hldjobq c) = hold_answers c.jobq
     command_answers user (command.Rlsjobq c) = release_answers c.jobq
-    command_answers user (command.Clrjobq c) = leaves_answers (change s user (command.Clrjobq c)) (either Stays (is_some (object_named c.jobq s.objects.jobqs)) _ _ (λ e. record { objects = refl; held = refl }) (λ e. itself))
-    command_answers user (command.Pwrdwnsys c) = leaves_answers (change s user (command.Pwrdwnsys c)) (either Stays (is_down c.option s.power) _ _ (λ e. itself) (λ e. record { objects = refl; held = refl }))
-    command_answers user c = λ now. none_differ s itself
+    command_answers user c = leaves_answers (change s user c) (call_leaves 0 (Change user c) refl)
 
     -- and each call
     pub call_differs : (caller : ℕ) (call : Call) → HasOwn (apply s caller call).state → Differs (own_part s) (own_part (apply s caller call).state) (option_to_list (call_change (removed_number s.objects call) call (apply s caller call).reply))
     call_differs caller (Change user c) now = command_answers user c now
-    call_differs caller Hand now = none_differ (apply s caller Hand).state (hand_stays caller (find (is_to_kill caller) s.jobs))
-    call_differs caller (Started serial) now = none_differ (apply s caller (Started serial)).state (report_stays serial (is_handed_to caller) _ (find (λ (j : Job). j.serial == serial) s.jobs))
-    call_differs caller (StartFailed serial why) now = none_differ (apply s caller (StartFailed serial why)).state (report_stays serial (is_handed_to caller) _ (find (λ (j : Job). j.serial == serial) s.jobs))
-    call_differs caller (Finished serial end) now = none_differ (apply s caller (Finished serial end)).state (report_stays serial (is_run_by caller) _ (find (λ (j : Job). j.serial == serial) s.jobs))
-    call_differs caller (UseDone serial) now = none_differ (apply s caller (UseDone serial)).state (done_stays caller (find (λ (j : Job). j.serial == serial) s.jobs))
-    call_differs caller Tick now = none_differ s itself
+    call_differs caller call now = none_differ (apply s caller call).state (call_leaves caller call refl)

@@ -12,10 +12,12 @@ use Rattle.wm_desc.proofs.Tables.{qname_total}
 use Rattle.wm_traits.specs.declared.row.Row.{Row}
 use Rattle.wm_law.specs.Laws.{IsIn}
 use Rattle.wm_law.proofs.Named.{own_name as its_own}
+use Rattle.wm_law.proofs.InOrder.{rest_sorted}
 use Rattle.wm_rows.specs.Rows.{class_row, program_row, queue_row, jobd_row, sbsd_row}
 use Rattle.wm_rows.specs.Tables.{queue_entry_rows, route_entry_rows, auto_entry_rows, pre_entry_rows, object_rows, sbsd_rows}
-use Rattle.wm_tables.proofs.OneMore.{first_below, not_same, rest_sorted}
+use Rattle.wm_tables.proofs.OneMore.{first_below, not_same}
 use Rattle.wm_tables.proofs.RowsOf.{other_named}
+use Rattle.wm_tables.proofs.Gained.{flat_same, map_same}
 use Rattle.wm_changes.proofs.OneMore.{IsMore, IsWithin, more_mapped, more_within}
 
 abbrev Table : Type 0
@@ -76,25 +78,6 @@ module _ (Q : List Row → List Row → Type 0) (w : IsWithin Q) where
     rest_unchanged : (x : QName × Sbsd) (xs : Table) → IsSortedOnce name_of qname_cmp (x ∷ xs) → x.0 ≡ name → changed name alter xs ≡ xs
     rest_unchanged x xs s e = none_changed xs (λ y i. other_named y.0 name (same_qname y.0 name) refl (λ f. not_same (λ (o : QName × Sbsd). o.0) qname_cmp qname_total x.0 y.0 (first_below (λ (o : QName × Sbsd). o.0) qname_cmp qname_total x xs y s i) (e ∙ sym f)))
 
-    -- rows that the change leaves
-    module _ (f : QName × Sbsd → Row) (left : (x : QName × Sbsd) → f (x.0, alter x.1) ≡ f x) where
-      one_same : (x : QName × Sbsd) (t : Bool) → f x ≡ f (cond t (x.0, alter x.1) x)
-      one_same x true = sym (left x)
-      one_same x false = refl
-
-      map_same : (xs : Table) → map f xs ≡ map f (changed name alter xs)
-      map_same [] = refl
-      map_same (x ∷ xs) = ap (λ (r : Row). r ∷ map f xs) (one_same x (same_qname x.0 name)) ∙ ap (λ (rs : List Row). f (mend x) ∷ rs) (map_same xs)
-
-    module _ (f : QName × Sbsd → List Row) (left : (x : QName × Sbsd) → f (x.0, alter x.1) ≡ f x) where
-      each_same : (x : QName × Sbsd) (t : Bool) → f x ≡ f (cond t (x.0, alter x.1) x)
-      each_same x true = sym (left x)
-      each_same x false = refl
-
-      flat_same : (xs : Table) → flat_map f xs ≡ flat_map f (changed name alter xs)
-      flat_same [] = refl
-      flat_same (x ∷ xs) = ap (λ (rs : List Row). rs ++ flat_map f xs) (each_same x (same_qname x.0 name)) ∙ ap (λ (rs : List Row). f (mend x) ++ rs) (flat_same xs)
-
     -- and rows of the one description of the name that change
     flat_changed : (f : QName × Sbsd → List Row) (d : Sbsd) → Q (f (name, d)) (f (name, alter d)) → (xs : Table) → IsSortedOnce name_of qname_cmp xs → IsIn (name, d) xs → Q (flat_map f xs) (flat_map f (changed name alter xs))
     flat_changed f d q [] s i = absurd i
@@ -119,37 +102,37 @@ module _ (Q : List Row → List Row → Type 0) (w : IsWithin Q) where
 
       module _ (bare : (x : QName × Sbsd) → sbsd_row (x.0, alter x.1) ≡ sbsd_row x) (pres : (x : QName × Sbsd) → pre_entry_rows (x.0, alter x.1) ≡ pre_entry_rows x) where
         bare_same : map sbsd_row xs ≡ map sbsd_row ys
-        bare_same = map_same sbsd_row bare xs
+        bare_same = map_same name alter sbsd_row bare xs
 
         -- a queue entry
         pub queues_change : ((x : QName × Sbsd) → route_entry_rows (x.0, alter x.1) ≡ route_entry_rows x) → ((x : QName × Sbsd) → auto_entry_rows (x.0, alter x.1) ≡ auto_entry_rows x) → Q (queue_entry_rows (name, d)) (queue_entry_rows (name, alter d)) → Q (object_rows o) (object_rows (with_description name alter o))
         queues_change routes autos q =
             sbsds_change o ys
-            (left_as (to_autos xs) (to_autos ys) (pre_entries xs) (pre_entries ys) (flat_same pre_entry_rows pres xs)
-            (left_as (to_routes xs) (to_routes ys) (auto_entries xs) (auto_entries ys) (flat_same auto_entry_rows autos xs)
-            (left_as (to_queues xs) (to_queues ys) (route_entries xs) (route_entries ys) (flat_same route_entry_rows routes xs)
+            (left_as (to_autos xs) (to_autos ys) (pre_entries xs) (pre_entries ys) (flat_same name alter pre_entry_rows pres xs)
+            (left_as (to_routes xs) (to_routes ys) (auto_entries xs) (auto_entries ys) (flat_same name alter auto_entry_rows autos xs)
+            (left_as (to_queues xs) (to_queues ys) (route_entries xs) (route_entries ys) (flat_same name alter route_entry_rows routes xs)
             (right_as (map sbsd_row xs) (map sbsd_row ys) (queue_entries xs) (queue_entries ys) bare_same
             (flat_changed queue_entry_rows d q xs sorted there)))))
 
         module _ (queues : (x : QName × Sbsd) → queue_entry_rows (x.0, alter x.1) ≡ queue_entry_rows x) where
           before_routes : to_queues xs ≡ to_queues ys
-          before_routes = ap (λ (l : List Row). l ++ queue_entries xs) bare_same ∙ ap (λ (l : List Row). map sbsd_row ys ++ l) (flat_same queue_entry_rows queues xs)
+          before_routes = ap (λ (l : List Row). l ++ queue_entries xs) bare_same ∙ ap (λ (l : List Row). map sbsd_row ys ++ l) (flat_same name alter queue_entry_rows queues xs)
 
           -- a routing entry
           pub routes_change : ((x : QName × Sbsd) → auto_entry_rows (x.0, alter x.1) ≡ auto_entry_rows x) → Q (route_entry_rows (name, d)) (route_entry_rows (name, alter d)) → Q (object_rows o) (object_rows (with_description name alter o))
           routes_change autos q =
               sbsds_change o ys
-              (left_as (to_autos xs) (to_autos ys) (pre_entries xs) (pre_entries ys) (flat_same pre_entry_rows pres xs)
-              (left_as (to_routes xs) (to_routes ys) (auto_entries xs) (auto_entries ys) (flat_same auto_entry_rows autos xs)
+              (left_as (to_autos xs) (to_autos ys) (pre_entries xs) (pre_entries ys) (flat_same name alter pre_entry_rows pres xs)
+              (left_as (to_routes xs) (to_routes ys) (auto_entries xs) (auto_entries ys) (flat_same name alter auto_entry_rows autos xs)
               (right_as (to_queues xs) (to_queues ys) (route_entries xs) (route_entries ys) before_routes
               (flat_changed route_entry_rows d q xs sorted there))))
 
           -- an autostart entry
           pub autos_change : ((x : QName × Sbsd) → route_entry_rows (x.0, alter x.1) ≡ route_entry_rows x) → Q (auto_entry_rows (name, d)) (auto_entry_rows (name, alter d)) → Q (object_rows o) (object_rows (with_description name alter o))
           autos_change routes q =
-              let before : to_routes xs ≡ to_routes ys = ap (λ (l : List Row). l ++ route_entries xs) before_routes ∙ ap (λ (l : List Row). to_queues ys ++ l) (flat_same route_entry_rows routes xs) in
+              let before : to_routes xs ≡ to_routes ys = ap (λ (l : List Row). l ++ route_entries xs) before_routes ∙ ap (λ (l : List Row). to_queues ys ++ l) (flat_same name alter route_entry_rows routes xs) in
               sbsds_change o ys
-              (left_as (to_autos xs) (to_autos ys) (pre_entries xs) (pre_entries ys) (flat_same pre_entry_rows pres xs)
+              (left_as (to_autos xs) (to_autos ys) (pre_entries xs) (pre_entries ys) (flat_same name alter pre_entry_rows pres xs)
               (right_as (to_routes xs) (to_routes ys) (auto_entries xs) (auto_entries ys) before
               (flat_changed auto_entry_rows d q xs sorted there)))
 

@@ -9,10 +9,11 @@ use Rattle.wm_desc.specs.Sorted.{IsSortedOnce, removed}
 use Rattle.wm_ordered.specs.Ordered.{key_of}
 use Rattle.wm_jobs.specs.Table.{Table}
 use Rattle.wm_jobs.specs.declared.touched.Standing.{Standing}
-use Rattle.wm_tables.proofs.OneMore.{first_below, not_same, rest_sorted}
+use Rattle.wm_tables.proofs.OneMore.{first_below, not_same}
 use Rattle.wm_tables.proofs.Passing.{left_all}
 use Rattle.wm_changes.specs.Noted.{old_job, PutsNoted, PutsTouched}
 use Rattle.wm_changes.proofs.NotedPairs.{Pair}
+use Rattle.wm_law.proofs.InOrder.{rest_sorted}
 
 -- what is still put of the changes, all put of the first ones
 pub record IsLeft (t : Table) (first cs : List RowChange) (all ps : List Pair) (past end : ℕ) : Type 0 where

@@ -20,7 +20,7 @@ use Rattle.wm_desc.specs.Objects.{without_auto, without_queue, without_route}
 use Rattle.wm_desc.specs.Refusals.{by_description, has_auto, seq_used}
 use Rattle.wm_desc.specs.Sorted.{IsSortedOnce, removed}
 use Rattle.wm_desc.specs.Table.{object_named, qname_cmp, same_qname}
-use Rattle.wm_desc.proofs.Tables.{qname_total}
+use Rattle.wm_desc.proofs.Tables.{one_name, qname_total}
 use Rattle.wm_law.specs.Choice.{entry_for}
 use Rattle.wm_law.specs.Kept.{IsDistinct}
 use Rattle.wm_law.specs.Laws.{IsIn}
@@ -28,7 +28,6 @@ use Rattle.wm_law.specs.Making.{unless_in_use}
 use Rattle.wm_law.specs.Queues.{own_name}
 use Rattle.wm_law.specs.declared.state.State.{State}
 use Rattle.wm_law.proofs.Members.{found_among}
-use Rattle.wm_law.proofs.Named.{one_name}
 use Rattle.wm_rows.specs.Rows.{auto_entry_row, held_row, queue_entry_row, route_entry_row}
 use Rattle.wm_tables.proofs.StepEntries.{one_distinct}
 use Rattle.wm_changes.proofs.OneMore.{IsLess, less_filtered}

@@ -160,7 +160,7 @@ over : (t : Touched) (o : Option Standing) (j : Job) → standing_as t.was (stoo
 over t None j = refl
 over t (Some w) j = refl
 
-stood_serial : (o : Option Standing) (j : Job) → (stood o j).serial ≡ j.serial
+pub stood_serial : (o : Option Standing) (j : Job) → (stood o j).serial ≡ j.serial
 stood_serial None j = refl
 stood_serial (Some w) j = refl
 

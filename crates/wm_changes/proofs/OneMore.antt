@@ -8,7 +8,8 @@ use Rattle.wm_traits.specs.declared.row.Row.{Row}
 use Rattle.wm_traits.specs.declared.row.RowChange.TheVariants.{Put, Del}
 use Rattle.wm_traits.specs.Rows.{place_of}
 use Rattle.wm_law.specs.Laws.{IsIn}
-use Rattle.wm_tables.proofs.OneMore.{first_below, not_same, rest_sorted}
+use Rattle.wm_law.proofs.InOrder.{rest_sorted}
+use Rattle.wm_tables.proofs.OneMore.{first_below, not_same}
 use Rattle.wm_tables.proofs.Passing.{in_left_part, in_right_part, left_all, of_parts}
 use Rattle.wm_tables.proofs.RowOrder.{HasOwnPlaces}
 use Rattle.wm_changes.specs.Difference.{HasRowAt}

@@ -1,5 +1,5 @@
 -- The changes of a step are the difference of the tables before and after it.
-use Rattle.std.proofs.Common.{◌≡◌, ℕ, ◌≤◌, ◌++◌, ◌==◌, List, Option, Some, None, find, refl, sym, ap, subst, ◌∙◌, inl, inr, arith}
+use Rattle.std.proofs.Common.{◌≡◌, ◌≤◌, ◌++◌, ◌==◌, List, Option, Some, None, find, refl, sym, ap, subst, ◌∙◌, inl, inr, arith}
 use Rattle.std.specs.Option.{option_to_list}
 use Rattle.wm_base.specs.Iterate.{IsKept}
 use Rattle.wm_base.proofs.Iterate.{iterate-keeps}
@@ -18,8 +18,7 @@ use Rattle.wm_law.specs.declared.job.Job.{Job}
 use Rattle.wm_law.specs.declared.state.State.{State}
 use Rattle.wm_law.proofs.Forward.{step_goes_on}
 use Rattle.wm_law.proofs.Limits.{settled_objects}
-use Rattle.wm_law.proofs.Numbers.{clock_keeps}
-use Rattle.wm_law.proofs.Sound.{step_keeps_sound}
+use Rattle.wm_law.proofs.Sound.{clock_sound, step_keeps_sound}
 use Rattle.wm_rows.specs.Tables.{counter_rows, held_rows, object_rows}
 use Rattle.wm_job_rows.specs.JobText.{job_row}
 use Rattle.wm_job_rows.specs.Stored.{stored_of}
@@ -149,24 +148,6 @@ module _ (s t : State) (sound : IsSound s) (range : IsInRange s) (after : IsSoun
   is_their_difference = is_difference (tables s) (tables t) (made ++ job_changes ++ counted) (put_in_order (rows_of s)) (put_in_order (rows_of t)) all_ordered tables_differ
 
 -- A step
-
--- the clock has no part in what is sound
-clock_sound : (s : State) (moment : ℕ) → IsSound s → IsSound (with_clock s moment)
-clock_sound s moment h = record {
-  numbered = clock_keeps s moment h.numbered;
-  jobs = h.jobs;
-  places = h.places;
-  orders = record { routed = h.orders.routed; starting = h.orders.starting; lodged = h.orders.lodged };
-  names = h.names;
-  descriptions = h.descriptions;
-  quiet = h.quiet;
-  objects = h.objects;
-  queues = h.queues;
-  held = h.held;
-  within_started = h.within_started;
-  wishes = h.wishes;
-  moments = h.moments;
-}
 
 same_part : (u t : State) → t.objects ≡ u.objects → t.held ≡ u.held → own_part t ≡ own_part u
 same_part u t e f = ap (λ (rows : List Row). rows ++ held_rows t.held) (ap object_rows e) ∙ ap (λ (q : List QName). object_rows u.objects ++ held_rows q) f

@@ -17,6 +17,7 @@ use Rattle.wm_law.specs.Laws.{IsIn}
 use Rattle.wm_law.specs.Sound.{IsIncreasing}
 use Rattle.wm_law.specs.declared.job.Job.{Job}
 use Rattle.wm_law.proofs.Members.{found_among, in_left, in_mapped, left_in, of_mapped}
+use Rattle.wm_law.proofs.InOrder.{rest_sorted}
 use Rattle.wm_job_rows.specs.JobText.{job_row}
 use Rattle.wm_job_rows.specs.Stored.{IsStored, stored_of}
 use Rattle.wm_job_rows.specs.declared.stored.StoredJob.{StoredJob}
@@ -26,14 +27,14 @@ use Rattle.wm_jobs.specs.Table.{Table}
 use Rattle.wm_jobs.specs.declared.touched.Standing.{Standing}
 use Rattle.wm_tables.specs.Opened.{is_found}
 use Rattle.wm_tables.specs.Tables.{job_rows, puts}
-use Rattle.wm_tables.proofs.OneMore.{first_below, rest_sorted}
+use Rattle.wm_tables.proofs.OneMore.{first_below}
 use Rattle.wm_tables.proofs.Passing.{in_left_part, in_right_part, left_passes, of_parts}
 use Rattle.wm_tables.proofs.RowOrder.{IsAscending}
 use Rattle.wm_tables.proofs.SameRows.{found_there, one_list, there_found}
 use Rattle.wm_changes.specs.Changes.{new_job_rows}
 use Rattle.wm_changes.specs.Noted.{is_old, new_jobs, noted, old_job, with_row, IsStoredAs, PutsJobs, PutsNoted, PutsTouched}
 use Rattle.wm_changes.proofs.JobRows.{filter_ascending, jobs_ascending, row_of, serial_before}
-use Rattle.wm_changes.proofs.NotedPairs.{Pair, first_noted, first_of, noted_first, noted_sorted, stood, undone_stood}
+use Rattle.wm_changes.proofs.NotedPairs.{Pair, first_noted, first_of, noted_first, noted_sorted, stood, stood_serial, undone_stood}
 
 -- What is stored of two jobs
 
@@ -238,17 +239,13 @@ module _ (t : Table) (before : t.marked.jobs ≡ undone t.touched (take (length 
   of_marked : (k : Job) → IsIn k t.marked.jobs → (j : Job) × IsIn j olds × (k ≡ stood_so j)
   of_marked k i = of_mapped stood_so olds k (subst (λ (jobs : List Job). IsIn k jobs) marked_is i)
 
-  serial_stays : (o : Option Standing) (j : Job) → (stood o j).serial ≡ j.serial
-  serial_stays None j = refl
-  serial_stays (Some w) j = refl
-
   -- a job whose row is among those from before was there, and stood with the same stored of it
   found_old : (j : Job) → IsIn j t.jobs → IsIn (row_of j) (job_rows t.marked.jobs) → IsIn j olds × (stored_of (stood_so j) ≡ stored_of j)
   found_old j i there =
       let m = of_mapped row_of t.marked.jobs (row_of j) there in
       let same : stored_of j ≡ stored_of m.0 = rows_apart j m.0 (now j i) (was m.0 m.1) m.2 in
       let k = of_marked m.0 m.1 in
-      let serial : k.0.serial ≡ j.serial = sym (ap (λ (s : StoredJob). s.serial) same ∙ ap (λ (x : Job). x.serial) k.2 ∙ serial_stays (first_of t.touched k.0.serial) k.0) in
+      let serial : k.0.serial ≡ j.serial = sym (ap (λ (s : StoredJob). s.serial) same ∙ ap (λ (x : Job). x.serial) k.2 ∙ stood_serial (first_of t.touched k.0.serial) k.0) in
       let one : k.0 ≡ j = one_job t.jobs k.0 j up (old_in k.0 k.1) i serial in
       (subst (λ (x : Job). IsIn x olds) one k.1, sym (same ∙ ap stored_of (k.2 ∙ ap stood_so one)))
 

@@ -1,7 +1,6 @@
 -- What the parts of an ending come to is the state that the definitions give.
-use Rattle.std.proofs.Common.{◌≡◌, ◌∙◌, ℕ, max, Bool, not, List, map, filter, Option, Result, Ok, refl, sym, ap}
+use Rattle.std.proofs.Common.{◌≡◌, ◌∙◌, ℕ, Bool, not, List, map, filter, Option, Result, Ok, refl, ap}
 use Rattle.wm_base.specs.declared.refusal.Refusal.{Refusal}
-use Rattle.wm_law.specs.declared.call.Reply.{Reply}
 use Rattle.wm_law.specs.declared.command.EndOption.{EndOption}
 use Rattle.wm_law.specs.declared.command.Endjob.{Endjob}
 use Rattle.wm_law.specs.declared.job.Job.{Job}
@@ -11,36 +10,30 @@ use Rattle.wm_law.specs.declared.state.Sbs.{Sbs}
 use Rattle.wm_law.specs.declared.state.State.{State}
 use Rattle.wm_law.specs.Endings.{end_found, end_job, end_phase, end_those, is_any, phased, told}
 use Rattle.wm_law.specs.Jobs.{active_at, with_active}
-use Rattle.wm_law.specs.Machine.{with_clock}
 use Rattle.wm_law.specs.Named.{job_named}
 use Rattle.wm_law.specs.Settling.{come_due, job_at, sbss_at}
-use Rattle.wm_law.specs.Stepped.{Stepped}
 use Rattle.wm_law.specs.Wishes.{with_wish}
 use Rattle.wm_subsystems.specs.declared.job_ending.Ending.{Ending}
 use Rattle.wm_subsystems.specs.OneJob.{ending_of, with_ending}
 use Rattle.wm_subsystems.proofs.OneJobs.{ends_one_job}
-use Rattle.wm_core.specs.Clocked.{IsStill}
 
 -- what ENDJOB makes of the job that is named, it makes of the state
 pub job_ends : (s : State) (c : Endjob) (j : Job) (r : Result Ending Refusal) → job_named s c.job ≡ Ok j → ending_of s.clock c j ≡ r → end_job s c ≡ with_ending s j r
 job_ends s c j r e f = ap (end_found s c) e ∙ (ends_one_job s c j ∙ ap (with_ending s j) f)
 
 -- a state with other jobs, whose clock and next numbers are as they were
-pub wish_given : (s : State) (now serial : ℕ) (w : Wish) (jobs : List Job) (clock next_serial next_place : ℕ) → jobs ≡ map (active_at serial (with_wish w)) s.jobs → clock ≡ s.clock → next_serial ≡ s.next_serial → next_place ≡ s.next_place
-    → with_clock (record s { jobs = jobs; clock = clock; next_serial = next_serial; next_place = next_place }) now ≡ with_active (with_clock s now) serial (with_wish w)
-wish_given s now serial w jobs clock next_serial next_place a b c d = rw (a, b, c, d) refl
-
-pub still_by : (now : ℕ) (reply : Reply) (state : State) (t u : Stepped) → u ≡ t → reply ≡ t.reply → with_clock state now ≡ t.state → IsStill now reply state u
-still_by now reply state t u e f g = record { says = f ∙ ap (λ (x : Stepped). x.reply) (sym e); leaves = g ∙ ap (λ (x : Stepped). x.state) (sym e) }
+pub wish_given : (s : State) (serial : ℕ) (w : Wish) (jobs : List Job) (clock next_serial next_place : ℕ) → jobs ≡ map (active_at serial (with_wish w)) s.jobs → clock ≡ s.clock → next_serial ≡ s.next_serial → next_place ≡ s.next_place
+    → record s { jobs = jobs; clock = clock; next_serial = next_serial; next_place = next_place } ≡ with_active s serial (with_wish w)
+wish_given s serial w jobs clock next_serial next_place a b c d = rw (a, b, c, d) refl
 
 -- subsystems that end
-pub those_ended : (s : State) (now : ℕ) (option : EndOption) (delay : Option ℕ) (test : Sbs → Bool) (jobs : List Job) (started : List Sbs) (evokes : List Evoke) (clock next_serial next_place : ℕ)
+pub those_ended : (s : State) (option : EndOption) (delay : Option ℕ) (test : Sbs → Bool) (jobs : List Job) (started : List Sbs) (evokes : List Evoke) (clock next_serial next_place : ℕ)
     → jobs ≡ map (told option test s.started) s.jobs
-    → started ≡ map (phased test (end_phase (max s.clock now) option delay)) s.started
+    → started ≡ map (phased test (end_phase s.clock option delay)) s.started
     → evokes ≡ filter (λ e. not (is_any test s.started e.sbs)) s.evokes
     → clock ≡ s.clock → next_serial ≡ s.next_serial → next_place ≡ s.next_place
-    → with_clock (record s { jobs = jobs; started = started; evokes = evokes; clock = clock; next_serial = next_serial; next_place = next_place }) now ≡ end_those (with_clock s now) option delay test
-those_ended s now option delay test jobs started evokes clock next_serial next_place a b c d e f = rw (a, b, c, d, e, f) refl
+    → record s { jobs = jobs; started = started; evokes = evokes; clock = clock; next_serial = next_serial; next_place = next_place } ≡ end_those s option delay test
+those_ended s option delay test jobs started evokes clock next_serial next_place a b c d e f = rw (a, b, c, d, e, f) refl
 
 -- what is due has ended
 pub due_ended : (s : State) (jobs : List Job) (started : List Sbs) (clock next_serial next_place : ℕ)

@@ -38,9 +38,6 @@ unfolding step
 applied_in_order s caller call moment n h =
     subst IsIncreasing (settled_same (apply (with_clock s moment) caller call).state) (step_keeps_jobs_in_order s caller call moment n h)
 
-pub sound_in_line : (s : State) → IsSound s → AreInLine s.next_serial s.jobs
-sound_in_line s h = in_line s h.numbered h.jobs
-
 pub applied_in_line : (s : State) (caller : ℕ) (call : Call) (moment : ℕ) (t : State) → IsSound s → t ≡ (apply (with_clock s moment) caller call).state → AreInLine t.next_serial t.jobs
 applied_in_line s caller call moment t h e =
     let come = (apply (with_clock s moment) caller call).state in

@@ -1,6 +1,5 @@
 pub mod ActivePhases
 pub mod ByDrafts
-pub mod Clocked
 pub mod Endings
 pub mod FromStore
 pub mod InLine

@@ -11,28 +11,9 @@ use Rattle.wm_law.specs.Sound.{HasNoneDue, IsSound}
 use Rattle.wm_law.specs.Wishes.{has_come}
 use Rattle.wm_law.proofs.Due.{nothing_due_stays}
 use Rattle.wm_law.proofs.Moments.{none_due_before}
-use Rattle.wm_law.proofs.Numbers.{clock_keeps}
-use Rattle.wm_law.proofs.Orders.{clock_keeps_orders}
 use Rattle.wm_law.proofs.Quiet.{calls_leave_none_due}
+use Rattle.wm_law.proofs.Sound.{clock_sound}
 use Rattle.wm_core.specs.Due.{may_come_due}
-
--- the clock is no matter of what is sound
-clock_sound : (s : State) (moment : ℕ) → IsSound s → IsSound (with_clock s moment)
-clock_sound s moment h = record {
-  numbered = clock_keeps s moment h.numbered;
-  jobs = h.jobs;
-  places = h.places;
-  orders = clock_keeps_orders s moment h.orders;
-  names = h.names;
-  descriptions = h.descriptions;
-  quiet = h.quiet;
-  objects = h.objects;
-  queues = h.queues;
-  held = h.held;
-  within_started = h.within_started;
-  wishes = h.wishes;
-  moments = h.moments;
-}
 
 pub none_comes_due : (s : State) (caller : ℕ) (call : Call) (moment : ℕ) (t : State) → IsSound s → HasNoneDue s → t ≡ (apply (with_clock s moment) caller call).state → may_come_due s call moment ≡ false → come_due t ≡ t
 none_comes_due s caller call moment t sound none is e =

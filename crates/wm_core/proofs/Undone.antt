@@ -1,6 +1,5 @@
 -- A step that is taken back leaves the state before it.
-use Rattle.std.proofs.Common.{◌≡◌, ◌∙◌, ◌==◌, ◌||◌, ℕ, Bool, true, false, cond, List, [], ◌∷◌, fold, find, Option, Some, None, is_some, nat_lt, refl, ap, sym}
-use Rattle.std.specs.Prelude.{Result, Ok, Err}
+use Rattle.std.proofs.Common.{◌≡◌, ◌∙◌, ◌==◌, ◌||◌, ℕ, Bool, true, false, cond, List, [], ◌∷◌, find, Option, Some, None, is_some, refl, ap, sym}
 use Rattle.wm_base.proofs.Iterate.{iterate-keeps}
 use Rattle.wm_base.specs.declared.qname.QName.{QName}
 use Rattle.wm_base.specs.declared.refusal.Kind.{Kind}
@@ -9,59 +8,43 @@ use Rattle.wm_base.specs.declared.refusal.Refusal.{Refusal}
 use Rattle.wm_base.specs.declared.refusal.Refusal.TheVariants.{Exists, TableFull}
 use Rattle.wm_base.specs.declared.job.Class.{Class}
 use mathlib.Core.Bool.{true≢false}
-use Rattle.wm_base.specs.declared.job.StartOrder.{StartOrder}
 use Rattle.wm_base.proofs.Tests.{or_second}
 use Rattle.wm_desc.specs.declared.description.Jobd.{Jobd}
 use Rattle.wm_desc.specs.declared.description.Jobq.{Jobq}
 use Rattle.wm_desc.specs.declared.description.Program.{Program}
 use Rattle.wm_desc.specs.declared.description.Sbsd.{Sbsd}
-use Rattle.wm_desc.specs.declared.entry.AutoEntry.{AutoEntry}
 use Rattle.wm_desc.specs.declared.objects.Objects.{Objects}
 use Rattle.wm_desc.specs.Objects.{empty_sbsd, with_description}
 use Rattle.wm_desc.specs.Refusals.{is_full, object_refusal, program_refusal}
 use Rattle.wm_desc.proofs.Tables.{test_fails}
 use Rattle.wm_desc.specs.Table.{has_object, object_named, is_qcmd}
 use Rattle.wm_law.specs.declared.call.Call.{Call}
-use Rattle.wm_law.specs.declared.call.Call.TheVariants.{Change, Hand, Started, StartFailed, Finished, UseDone, Tick}
+use Rattle.wm_law.specs.declared.call.Call.TheVariants.{Change}
 use Rattle.wm_law.specs.declared.choice.Candidate.{Candidate}
-use Rattle.wm_law.specs.declared.command.Chgjob.{Chgjob}
 use Rattle.wm_law.specs.declared.command.Crtcls.{Crtcls}
 use Rattle.wm_law.specs.declared.command.Crtjobd.{Crtjobd}
 use Rattle.wm_law.specs.declared.command.Crtjobq.{Crtjobq}
 use Rattle.wm_law.specs.declared.command.Crtpgmref.{Crtpgmref}
 use Rattle.wm_law.specs.declared.command.Crtsbsd.{Crtsbsd}
-use Rattle.wm_law.specs.declared.command.Endjob.{Endjob}
-use Rattle.wm_law.specs.declared.command.Endsbs.{Endsbs}
 use Rattle.wm_law.specs.declared.command.Command.{Command}
 use Rattle.wm_law.specs.declared.command.Command.TheVariants as command
-use Rattle.wm_law.specs.declared.command.Sbmjob.{Sbmjob}
 use Rattle.wm_law.specs.declared.job.Job.{Job}
-use Rattle.wm_law.specs.declared.job.Phase.{Phase}
 use Rattle.wm_law.specs.declared.job.Phase.TheVariants as phases
 use Rattle.wm_law.specs.declared.state.Evoke.{Evoke}
 use Rattle.wm_law.specs.declared.state.Sbs.{Sbs}
 use Rattle.wm_law.specs.declared.state.Stop.{Stop}
 use Rattle.wm_law.specs.declared.state.State.{State}
 use Rattle.wm_jobs.specs.Marked.{Marked}
-use Rattle.wm_law.specs.Autos.{auto_described, autos_of, make_auto}
-use Rattle.wm_law.specs.Changing.{change_due, change_found, has_queue, stays}
 use Rattle.wm_law.specs.Choice.{is_held}
-use Rattle.wm_law.specs.Endings.{end_active, end_found, end_in_phase, end_started, is_down, is_ended, is_wished, started_named}
-use Rattle.wm_law.specs.Holding.{hold_found, release_found}
-use Rattle.wm_law.specs.Launch.{launch_job, order_of}
+use Rattle.wm_law.specs.Launch.{launch_job}
 use Rattle.wm_law.specs.Machine.{apply, change, step, with_clock}
-use Rattle.wm_law.specs.Counts.{is_starting}
 use Rattle.wm_law.specs.Making.{class_of, jobd_of, made_unless, make_class, make_description, make_job_description, make_program, make_queue}
-use Rattle.wm_law.specs.Named.{job_named, waiting_named}
 use Rattle.wm_law.specs.Objects.{AreSound}
-use Rattle.wm_law.specs.Power.{is_on}
-use Rattle.wm_law.specs.Queues.{clear_queue, hold_queue, release_queue}
-use Rattle.wm_law.specs.Reports.{done_with, hand_job, hand_order, is_run_by, is_to_kill, report_on, start_job}
-use Rattle.wm_law.specs.Schedules.{rescheduled, scheduled}
+use Rattle.wm_law.specs.Queues.{hold_queue, release_queue}
 use Rattle.wm_law.specs.Settling.{come_due, leave, settle, waiting}
 use Rattle.wm_law.specs.Stepped.{Stepped}
-use Rattle.wm_law.specs.Submitting.{has_numbers, queue_of, serials_end, submit_due, submit_with}
-use Rattle.wm_law.specs.Subsystems.{begun, start_refusal, start_unless}
+use Rattle.wm_law.proofs.Aside.{IsAside, call_is_aside}
+use Rattle.wm_law.proofs.Objects.{new_object}
 use Rattle.wm_making.specs.declared.saved.Saved.{Saved}
 use Rattle.wm_making.specs.declared.saved.Saved.TheVariants.{Nothing, New, Description, Held}
 use Rattle.wm_making.specs.Saved.{described, old_held, old_objects, saved_by, saved_object, saved_of, without_object}
@@ -81,85 +64,9 @@ module _ (P : Stepped → Type 0) where
   either false t u h k = k
 
 module _ (s : State) where
-  abbrev Like : Stepped → Type 0
-  Like t = IsBack Nothing s t.state
-
-  submitted : (user : List ℕ) (c : Sbmjob) (d : Jobd) (r : Result ℕ Refusal) → Like (submit_due s user c d r)
-  submitted user c d (Err x) = record { objects = refl; held = refl; offset = refl }
-  submitted user c d (Ok due) = either Like (has_numbers s) _ _ (record { objects = refl; held = refl; offset = refl }) (record { objects = refl; held = refl; offset = refl })
-
-  submitted_with : (user : List ℕ) (c : Sbmjob) (d : Option Jobd) → Like (submit_with s user c d)
-  submitted_with user c None = record { objects = refl; held = refl; offset = refl }
-  submitted_with user c (Some d) = either Like (is_some (object_named (queue_of c d) s.objects.jobqs)) _ _ (submitted user c d (scheduled s c.scddate c.scdtime)) (record { objects = refl; held = refl; offset = refl })
-
-  held_found : (r : Result Job Refusal) → Like (hold_found s r)
-  held_found (Err x) = record { objects = refl; held = refl; offset = refl }
-  held_found (Ok j) = either Like j.held _ _ (record { objects = refl; held = refl; offset = refl }) (record { objects = refl; held = refl; offset = refl })
-
-  released_found : (r : Result Job Refusal) → Like (release_found s r)
-  released_found (Err x) = record { objects = refl; held = refl; offset = refl }
-  released_found (Ok j) = either Like j.held _ _ (record { objects = refl; held = refl; offset = refl }) (record { objects = refl; held = refl; offset = refl })
-
-  due_changed : (c : Chgjob) (j : Job) (r : Result ℕ Refusal) → Like (change_due s c j r)
-  due_changed c j (Err x) = record { objects = refl; held = refl; offset = refl }
-  due_changed c j (Ok due) = either Like (stays c j) _ _ (record { objects = refl; held = refl; offset = refl }) (either Like (nat_lt s.next_place serials_end) _ _ (record { objects = refl; held = refl; offset = refl }) (record { objects = refl; held = refl; offset = refl }))
-
-  changed_found : (c : Chgjob) (r : Result Job Refusal) → Like (change_found s c r)
-  changed_found c (Err x) = record { objects = refl; held = refl; offset = refl }
-  changed_found c (Ok j) = either Like (has_queue s c.jobq) _ _ (due_changed c j (rescheduled s j.due c.scddate c.scdtime)) (record { objects = refl; held = refl; offset = refl })
-
-  queue_cleared : (q : QName) → Like (clear_queue s q)
-  queue_cleared q = either Like (is_some (object_named q s.objects.jobqs)) _ _ (record { objects = refl; held = refl; offset = refl }) (record { objects = refl; held = refl; offset = refl })
-
-  auto_like : (q : QName) (t : State) (e : AutoEntry) (o : Option Jobd) → IsBack Nothing s t → IsBack Nothing s (auto_described t q e o)
-  auto_like q t e None h = h
-  auto_like q t e (Some d) h = record { objects = h.objects; held = h.held; offset = h.offset }
-
-  autos_like : (q : QName) (t : State) (es : List AutoEntry) → IsBack Nothing s t → IsBack Nothing s (fold (make_auto q) t es)
-  autos_like q t [] h = h
-  autos_like q t (e ∷ es) h = autos_like q (make_auto q t e) es (auto_like q t e (object_named e.jobd t.objects.jobds) h)
-
-  started : (q : QName) (o : Option Refusal) → Like (start_unless s q o)
-  started q (Some x) = record { objects = refl; held = refl; offset = refl }
-  started q None = autos_like q (begun s q) (autos_of s q) (record { objects = refl; held = refl; offset = refl })
-
-  ordered : (m : ℕ) (j : Job) (o : Option StartOrder) → Like (hand_order s m j o)
-  ordered m j None = record { objects = refl; held = refl; offset = refl }
-  ordered m j (Some o) = record { objects = refl; held = refl; offset = refl }
-
-  started_job : (m : ℕ) (o : Option Job) → Like (start_job s m o)
-  started_job m None = record { objects = refl; held = refl; offset = refl }
-  started_job m (Some j) = ordered m j (order_of s j)
-
-  handed : (m : ℕ) (o : Option Job) → Like (hand_job s m o)
-  handed m None = started_job m (find (λ j. is_starting j.phase) s.jobs)
-  handed m (Some j) = record { objects = refl; held = refl; offset = refl }
-
-  reported : (serial : ℕ) (test : Phase → Bool) (phase : Job → Phase) (o : Option Job) → Like (report_on s serial test phase o)
-  reported serial test phase None = record { objects = refl; held = refl; offset = refl }
-  reported serial test phase (Some j) = either Like (test j.phase) _ _ (record { objects = refl; held = refl; offset = refl }) (record { objects = refl; held = refl; offset = refl })
-
-  done : (m : ℕ) (o : Option Job) → Like (done_with s m o)
-  done m None = record { objects = refl; held = refl; offset = refl }
-  done m (Some j) = either Like (is_run_by m j.phase) _ _ (record { objects = refl; held = refl; offset = refl }) (record { objects = refl; held = refl; offset = refl })
-
-  wished : (c : Endjob) (j : Job) → Like (end_active s c j)
-  wished c j = either Like (is_wished c.option j.wish) _ _ (record { objects = refl; held = refl; offset = refl }) (record { objects = refl; held = refl; offset = refl })
-
-  ended_in : (c : Endjob) (j : Job) (is : Phase) → Like (end_in_phase s c j is)
-  ended_in c j phases.Waiting = record { objects = refl; held = refl; offset = refl }
-  ended_in c j phases.Starting = wished c j
-  ended_in c j (phases.Handed m) = wished c j
-  ended_in c j (phases.Running m) = wished c j
-  ended_in c j (phases.Ended end) = record { objects = refl; held = refl; offset = refl }
-
-  job_ended : (c : Endjob) (r : Result Job Refusal) → Like (end_found s c r)
-  job_ended c (Err x) = record { objects = refl; held = refl; offset = refl }
-  job_ended c (Ok j) = ended_in c j j.phase
-
-  subsystem_ended : (c : Endsbs) (o : Option Sbs) → Like (end_started s c o)
-  subsystem_ended c None = record { objects = refl; held = refl; offset = refl }
-  subsystem_ended c (Some b) = either Like (is_ended c.option b.phase) _ _ (record { objects = refl; held = refl; offset = refl }) (record { objects = refl; held = refl; offset = refl })
+  -- a call that configures nothing keeps nothing of them
+  like : (t : State) → IsAside s t → IsBack Nothing s t
+  like t a = record { objects = a.objects; held = a.held; offset = a.offset }
 
   abbrev Held_back : Stepped → Type 0
   Held_back t = IsBack (Held s.held) s t.state
@@ -198,9 +105,6 @@ module _ (s : State) where
       (ap (λ (l : List (QName × Sbsd)). record s.objects { sbsds = l }) (own_back name d s.objects.sbsds sound.tables.sbsds.sorted e))
       (λ n. ap (λ (l : List (QName × Sbsd)). record s.objects { sbsds = l }) (changed_back name f d s.objects.sbsds sound.tables.sbsds.sorted e))
       (λ h. refl)
-
-  new_object : {V : Type 0} (kind : Kind) (name : QName) (objects : List (QName × V)) → object_refusal kind name objects ≡ None → has_object name objects ≡ false
-  new_object kind name objects none = test_fails ((has_object name objects, Exists kind) ∷ (is_full 1000 objects, TableFull kind 1000) ∷ []) 0 (Exists kind) none
 
   new_program : (name : QName) (programs : List (QName × Program)) → program_refusal name programs ≡ None → has_object name programs ≡ false
   new_program name programs none = or_second (is_qcmd name) (has_object name programs) (test_fails ((is_qcmd name || has_object name programs, Exists kind.Pgm) ∷ (is_full 1000 programs, TableFull kind.Pgm 1000) ∷ []) 0 (Exists kind.Pgm) none)
@@ -247,27 +151,13 @@ module _ (s : State) where
   changed sound user (command.Rmvjobqe c) = redescribed sound c.sbsd _ (object_named c.sbsd s.objects.sbsds) _ refl
   changed sound user (command.Rmvrtge c) = redescribed sound c.sbsd _ (object_named c.sbsd s.objects.sbsds) _ refl
   changed sound user (command.Rmvaje c) = redescribed sound c.sbsd _ (object_named c.sbsd s.objects.sbsds) _ refl
-  changed sound user (command.Strsbs c) = started c.sbsd (start_refusal s c.sbsd)
-  changed sound user (command.Sbmjob c) = either Like (is_on s.power) _ _ (submitted_with user c (object_named c.jobd s.objects.jobds)) (record { objects = refl; held = refl; offset = refl })
-  changed sound user (command.Hldjob c) = held_found (waiting_named s c.job)
-  changed sound user (command.Rlsjob c) = released_found (waiting_named s c.job)
-  changed sound user (command.Chgjob c) = changed_found c (waiting_named s c.job)
   changed sound user (command.Hldjobq c) = queue_held c.jobq
   changed sound user (command.Rlsjobq c) = queue_released c.jobq
-  changed sound user (command.Clrjobq c) = queue_cleared c.jobq
-  changed sound user (command.Endsbs c) = subsystem_ended c (started_named s c.sbs)
-  changed sound user (command.Endjob c) = job_ended c (job_named s c.job)
-  changed sound user (command.Pwrdwnsys c) = either Like (is_down c.option s.power) _ _ (record { objects = refl; held = refl; offset = refl }) (record { objects = refl; held = refl; offset = refl })
-  changed sound user c = record { objects = refl; held = refl; offset = refl }
+  changed sound user c = like (change s user c).state (call_is_aside s 0 (Change user c) refl)
 
   called : AreSound s.objects → (caller : ℕ) (call : Call) → IsBack (saved_of s.objects s.held call) s (apply s caller call).state
   called sound caller (Change user c) = changed sound user c
-  called sound caller Hand = handed caller (find (is_to_kill caller) s.jobs)
-  called sound caller (Started serial) = reported serial _ _ (find (λ j. j.serial == serial) s.jobs)
-  called sound caller (StartFailed serial why) = reported serial _ _ (find (λ j. j.serial == serial) s.jobs)
-  called sound caller (Finished serial end) = reported serial _ _ (find (λ j. j.serial == serial) s.jobs)
-  called sound caller (UseDone serial) = done caller (find (λ j. j.serial == serial) s.jobs)
-  called sound caller Tick = record { objects = refl; held = refl; offset = refl }
+  called sound caller call = like (apply s caller call).state (call_is_aside s caller call refl)
 
 module _ (saved : Saved) (s : State) where
   launched : (t : State) (c : Candidate) (o : Option Job) → IsBack saved s t → IsBack saved s (launch_job t c o)

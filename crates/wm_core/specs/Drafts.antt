@@ -1,5 +1,5 @@
 -- The autostart jobs of a subsystem: what of them wants memory is taken before anything is changed, and then they are made.
-use Rattle.std.specs.Prelude.{ℕ, max, List, fold, filter_map, Option, option_map}
+use Rattle.std.specs.Prelude.{ℕ, List, fold, filter_map, Option, option_map}
 use Rattle.wm_base.specs.declared.qname.QName.{QName}
 use Rattle.wm_desc.specs.declared.description.Jobd.{Jobd}
 use Rattle.wm_desc.specs.declared.entry.AutoEntry.{AutoEntry}
@@ -33,7 +33,7 @@ enter_draft sbs s d = joined s (auto_launched s sbs (drafted_job s d))
 
 -- the state that has what the making of autostart jobs looks at and changes, and else nothing
 abbrev pub site_state : Site → Table → ℕ → State
-site_state site t number = record (with_parts site.objects.now t.jobs site.started.now site.held.now (max t.clock site.moment)) { next_number = number; next_serial = t.next_serial }
+site_state site t number = record (with_parts site.objects.now t.jobs site.started.now site.held.now t.clock) { next_number = number; next_serial = t.next_serial }
 
 -- with the job of each draft
 abbrev pub enter_drafts : Site → Table → ℕ → List Draft → State

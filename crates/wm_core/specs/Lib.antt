@@ -1,4 +1,3 @@
-pub mod Clocked
 pub mod Drafts
 pub mod Due
 pub mod LastStep

@@ -19,6 +19,10 @@ marks_at s call =
       jobs = record { jobs = s.jobs; clock = s.clock; next_serial = s.next_serial; next_place = s.next_place };
     }
 
+-- a state with the jobs, their next numbers and the clock that were kept
+abbrev pub jobs_before : Marks → State → State
+jobs_before m s = record s { jobs = m.jobs.jobs; next_serial = m.jobs.next_serial; next_place = m.jobs.next_place; clock = m.jobs.clock }
+
 -- the state before the step that a state was left by
 abbrev pub before : Marks → State → State
 before m s =

@@ -6,7 +6,7 @@ ghost use Rattle.wm_jobs.specs.Table.{IsReady};
 ghost use Rattle.wm_core.specs.Drafts.{draft_of, draft_in, drafts, drafted_job, enter_draft, site_state, enter_drafts};
 
 use crate::draft::{Draft, Site};
-use crate::submitting::{later, read_request};
+use crate::submitting::read_request;
 use std::alloc::Global;
 use wm_base::{How, JobName, JobNumber, Name, NoMemory, Priority, Serial};
 use wm_desc::{AutoEntry, Jobd, Table};
@@ -77,7 +77,7 @@ fn drafted_job(table: &JobTable, number: u32, site: &Site<'_>, draft: Draft) -> 
         rtgdta: draft.rtgdta,
         rqsdta: draft.rqsdta,
         held: false,
-        due: later(table.clock(), site.moment),
+        due: table.clock(),
         phase: Phase::Waiting,
         how: How::NotYet,
         wish: Wish::NoWish,

@@ -4,7 +4,7 @@ ghost use Rattle.wm_law.specs.Changing.{is_queue, keeps_queue, stays};
 
 use crate::Machine;
 use crate::submitting::SERIALS_END;
-use wm_base::{Kind, Moment, NoMemory, QName, Refusal};
+use wm_base::{Kind, NoMemory, QName, Refusal};
 use wm_law::{Chgjob, Job, Reply};
 
 // Whether a queue that is asked for is the present one.
@@ -37,8 +37,6 @@ impl Machine {
     ghost use Rattle.std.specs.Prelude.{◌≡◌, OnOk, OnErr, IfOk};
     ghost use Rattle.wm_law.specs.Changing.{has_queue, change_job};
     ghost use Rattle.wm_law.specs.Fit.{IsJobChange};
-    ghost use Rattle.wm_law.specs.Machine.{with_clock};
-    ghost use Rattle.wm_core.specs.Clocked.{IsStill};
 
     // Whether the queue that is asked for is an object, where one is.
     fn has_queue(&self, wanted: &Option<QName>) -> bool
@@ -50,10 +48,11 @@ impl Machine {
         }
     }
 
-    /// CHGJOB. The clock is set behind it. An `Err` is want of memory and leaves the state.
-    pub(crate) fn change_job(&mut self, command: &Chgjob, now: Moment) -> Result<Reply, NoMemory>
+    /// CHGJOB. An `Err` is want of memory and leaves the state.
+    pub(crate) fn change_job(&mut self, command: &Chgjob) -> Result<Reply, NoMemory>
         requires { IsJobChange command.now }
-        ensures ok { IfOk result (λ r. IsStill now r self.new.state (change_job (with_clock self.old.state now) command.now)) }
+        ensures reply { IfOk result (λ r. r ≡ (change_job self.old.state command.now).reply) }
+        ensures state { OnOk result (self.new.state ≡ (change_job self.old.state command.now).state) }
         ensures marks { OnOk result (self.new.marks ≡ self.old.marks) }
         ensures err { OnErr result (self.new ≡ self.old) }
     {
@@ -64,7 +63,7 @@ impl Machine {
         if !self.has_queue(&command.jobq) {
             return Ok(Reply::No(Refusal::NoObject(Kind::Jobq)));
         }
-        let due = match self.rescheduled(job.due, command.scddate, command.scdtime, now) {
+        let due = match self.rescheduled(job.due, command.scddate, command.scdtime) {
             Ok(due) => due,
             Err(refusal) => return Ok(Reply::No(refusal)),
         };

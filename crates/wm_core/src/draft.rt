@@ -1,5 +1,5 @@
 // What autostart jobs are made of, and where.
-use wm_base::{Moment, Name, QName, Text};
+use wm_base::{Name, QName, Text};
 use wm_clwords::Request;
 use wm_desc::Objects;
 use wm_law::{QNames, SbsList};
@@ -12,12 +12,11 @@ pub(crate) struct Draft {
     pub rqsdta: Option<Request>,
 }
 
-/// The subsystem that autostart jobs are made in, what their launches look at beside the jobs, and the moment.
+/// The subsystem that autostart jobs are made in, and what their launches look at beside the jobs.
 #[derive(Drop)]
 pub(crate) struct Site<'a> {
     pub sbs: QName,
     pub objects: &'a Objects,
     pub started: &'a SbsList,
     pub held: &'a QNames,
-    pub moment: Moment,
 }

@@ -1,19 +1,17 @@
 // ENDJOB: a job ends on its queue, or is to end.
 use crate::Machine;
-use crate::submitting::later;
-use wm_base::{EndCause, Moment, NoMemory};
+use wm_base::{EndCause, NoMemory};
 use wm_law::{Endjob, Reply};
 use wm_subsystems::{Ending, end_job};
 
 impl Machine {
     ghost use Rattle.std.specs.Prelude.{◌≡◌, OnOk, OnErr, IfOk};
     ghost use Rattle.wm_law.specs.Endings.{end_job};
-    ghost use Rattle.wm_law.specs.Machine.{with_clock};
-    ghost use Rattle.wm_core.specs.Clocked.{IsStill};
 
-    /// ENDJOB. The clock is set behind it. An `Err` is want of memory and leaves the state.
-    pub(crate) fn end_job(&mut self, command: &Endjob, now: Moment) -> Result<Reply, NoMemory>
-        ensures ok { IfOk result (λ r. IsStill now r self.new.state (end_job (with_clock self.old.state now) command.now)) }
+    /// ENDJOB. An `Err` is want of memory and leaves the state.
+    pub(crate) fn end_job(&mut self, command: &Endjob) -> Result<Reply, NoMemory>
+        ensures reply { IfOk result (λ r. r ≡ (end_job self.old.state command.now).reply) }
+        ensures state { OnOk result (self.new.state ≡ (end_job self.old.state command.now).state) }
         ensures marks { OnOk result (self.new.marks ≡ self.old.marks) }
         ensures err { OnErr result (self.new ≡ self.old) }
     {
@@ -21,7 +19,7 @@ impl Machine {
             Ok(job) => job,
             Err(refusal) => return Ok(Reply::No(refusal)),
         };
-        let ending = match end_job(job, command, later(self.table.clock(), now)) {
+        let ending = match end_job(job, command, self.table.clock()) {
             Ok(ending) => ending,
             Err(refusal) => return Ok(Reply::No(refusal)),
         };

@@ -1,7 +1,6 @@
 // ENDSBS and PWRDWNSYS: subsystems end, and their jobs are told.
 use crate::Machine;
-use crate::submitting::later;
-use wm_base::{Moment, Name, NoMemory, Refusal};
+use wm_base::{Name, NoMemory, Refusal};
 use wm_law::{EndOption, Endsbs, Pwrdwnsys, Reply, Sbs};
 use wm_subsystems::{
     Telling, Those, down_by, drop_evokes, end_phase, end_sbss, is_down, is_ended,
@@ -12,8 +11,6 @@ impl Machine {
     ghost use Rattle.std.specs.Prelude.{◌≡◌, OnOk, OnErr, IfOk};
     ghost use Rattle.std.specs.Option.{option_copied};
     ghost use Rattle.wm_law.specs.Endings.{end_subsystem, end_those, power_down, started_named};
-    ghost use Rattle.wm_law.specs.Machine.{with_clock};
-    ghost use Rattle.wm_core.specs.Clocked.{IsStill};
     ghost use Rattle.wm_subsystems.specs.Telling.{passes};
     ghost use Rattle.wm_subsystems.specs.Walks.{AreInLine};
 
@@ -34,15 +31,14 @@ impl Machine {
         those: &Those,
         option: EndOption,
         delay: Option<u32>,
-        now: Moment,
     ) -> Result<(), NoMemory>
         requires line { AreInLine self.old.state.next_serial self.old.state.jobs }
-        ensures ok { OnOk result (with_clock self.new.state now ≡ end_those (with_clock self.old.state now) option delay (passes those.now)) }
+        ensures ok { OnOk result (self.new.state ≡ end_those self.old.state option delay (passes those.now)) }
         ensures marks { OnOk result (self.new.marks ≡ self.old.marks) }
         ensures err { OnErr result (self.new ≡ self.old) }
     {
-        let clock = later(self.table.clock(), now);
         reserve_for_active(&mut self.table)?;
+        let clock = self.table.clock();
         let started = &self.started;
         tell_all(
             &mut self.table,
@@ -55,10 +51,11 @@ impl Machine {
         Ok(())
     }
 
-    /// ENDSBS. The clock is set behind it. An `Err` is want of memory and leaves the state.
-    pub(crate) fn end_subsystem(&mut self, command: &Endsbs, now: Moment) -> Result<Reply, NoMemory>
+    /// ENDSBS. An `Err` is want of memory and leaves the state.
+    pub(crate) fn end_subsystem(&mut self, command: &Endsbs) -> Result<Reply, NoMemory>
         requires line { AreInLine self.old.state.next_serial self.old.state.jobs }
-        ensures ok { IfOk result (λ r. IsStill now r self.new.state (end_subsystem (with_clock self.old.state now) command.now)) }
+        ensures reply { IfOk result (λ r. r ≡ (end_subsystem self.old.state command.now).reply) }
+        ensures state { OnOk result (self.new.state ≡ (end_subsystem self.old.state command.now).state) }
         ensures marks { OnOk result (self.new.marks ≡ self.old.marks) }
         ensures err { OnErr result (self.new ≡ self.old) }
     {
@@ -70,15 +67,15 @@ impl Machine {
         }
         let name = sbs.sbsd;
         let those = Those::Named(sbs.sbsd);
-        self.end_those(&those, command.option, command.delay, now)?;
+        self.end_those(&those, command.option, command.delay)?;
         Ok(Reply::SbsEnding(name))
     }
 
-    /// PWRDWNSYS: each subsystem ends that doesn't so already. The clock is set behind it. An `Err` is want of memory and
-    /// leaves the state.
-    pub(crate) fn power_down(&mut self, command: &Pwrdwnsys, now: Moment) -> Result<Reply, NoMemory>
+    /// PWRDWNSYS: each subsystem ends that doesn't so already. An `Err` is want of memory and leaves the state.
+    pub(crate) fn power_down(&mut self, command: &Pwrdwnsys) -> Result<Reply, NoMemory>
         requires line { AreInLine self.old.state.next_serial self.old.state.jobs }
-        ensures ok { IfOk result (λ r. IsStill now r self.new.state (power_down (with_clock self.old.state now) command.now)) }
+        ensures reply { IfOk result (λ r. r ≡ (power_down self.old.state command.now).reply) }
+        ensures state { OnOk result (self.new.state ≡ (power_down self.old.state command.now).state) }
         ensures marks { OnOk result (self.new.marks ≡ self.old.marks) }
         ensures err { OnErr result (self.new ≡ self.old) }
     {
@@ -86,7 +83,7 @@ impl Machine {
             return Ok(Reply::No(Refusal::PoweringDown));
         }
         let those = Those::NotEnded(command.option);
-        self.end_those(&those, command.option, command.delay, now)?;
+        self.end_those(&those, command.option, command.delay)?;
         self.power = down_by(command.option);
         Ok(Reply::PowerDown)
     }

@@ -1,4 +1,4 @@
-// A step of the machine: the call is applied, the clock is set, what is due ends, and the state settles.
+// A step of the machine: the clock is set, the call is applied, what is due ends, and the state settles.
 use crate::mark::Mark;
 use std::alloc::Global;
 use std::marker::Model;
@@ -11,7 +11,6 @@ use wm_when::Offset;
 
 /// The machine over any state. The jobs, their next numbers and the clock are in the job table, all else is plain data.
 /// A contract sees the state, and what is kept of the state before the last step.
-#[derive(Drop)]
 pub struct Machine {
     pub objects: Objects,
     pub started: SbsList,
@@ -23,6 +22,24 @@ pub struct Machine {
     pub power: Power,
     pub(crate) table: JobTable,
     pub(crate) mark: Mark,
+}
+
+// It is written out, so that a caller does not prove again how each part is dropped.
+impl Drop for Machine {
+    fn drop(self) {
+        let Machine {
+            objects: _,
+            started: _,
+            held: _,
+            stopped: _,
+            evokes: _,
+            next_number: _,
+            offset: _,
+            power: _,
+            table: _,
+            mark: _,
+        } = self;
+    }
 }
 
 impl Model for Machine {
@@ -38,12 +55,13 @@ impl Model for Machine {
 }
 
 impl Machine {
-    ghost use Rattle.std.specs.Prelude.{◌≡◌, false, OnOk, OnErr, IfOk};
+    ghost use Rattle.std.specs.Prelude.{◌≡◌, true, false, OnOk, OnErr, IfOk};
+    ghost use Rattle.wm_law.specs.Built.{configures};
     ghost use Rattle.wm_law.specs.Fit.{HasCall, IsCall, IsCommand};
     ghost use Rattle.wm_pick.specs.Parts.{parts_of};
     ghost use Rattle.wm_law.specs.Machine.{change, apply, step, with_clock};
     ghost use Rattle.wm_law.specs.Sound.{HasNoneDue, IsSound};
-    ghost use Rattle.wm_core.specs.Clocked.{IsStill, looks_at_clock, is_timed};
+    ghost use Rattle.wm_subsystems.specs.Walks.{AreInLine};
     ghost use Rattle.wm_core.specs.Marks.{marks_at};
 
     /// The jobs, and what they are found by.
@@ -80,15 +98,15 @@ impl Machine {
         self.table.make_due(now);
     }
 
-    /// Applies a command of a user, but for those that look at the clock. An `Err` is want of memory and leaves the state.
-    pub(crate) fn change(
+    /// Applies a command that changes objects or held queues. An `Err` is want of memory and leaves the machine.
+    pub(crate) fn configure(
         &mut self,
         alloc: Global,
         user: &Name,
         command: &Command,
     ) -> Result<Reply, NoMemory>
         requires ranges { IsCommand command.now }
-        requires other { looks_at_clock command.now ≡ false }
+        requires configures { configures command.now ≡ true }
         ensures reply { IfOk result (λ r. r ≡ (change self.old.state user.now command.now).reply) }
         ensures state { OnOk result (self.new.state ≡ (change self.old.state user.now command.now).state) }
         ensures marks { OnOk result (self.new.marks ≡ self.old.marks) }
@@ -106,25 +124,51 @@ impl Machine {
             | Command::Rmvjobqe(_)
             | Command::Rmvrtge(_)
             | Command::Rmvaje(_) => self.change_objects(alloc, command),
-            Command::Strsbs(_)
-            | Command::Endsbs(_)
-            | Command::Sbmjob(_)
-            | Command::Chgjob(_)
-            | Command::Endjob(_)
-            | Command::Pwrdwnsys(_) => unreachable!(),
-            Command::Hldjob(command) => self.hold_job(&command.job),
-            Command::Rlsjob(command) => self.release_job(&command.job),
             Command::Hldjobq(command) => self.hold_queue(&command.jobq),
             Command::Rlsjobq(command) => Ok(self.release_queue(&command.jobq)),
+            _ => unreachable!(),
+        }
+    }
+
+    // Applies a command of a user. An `Err` is want of memory and leaves the machine.
+    fn change(&mut self, alloc: Global, user: &Name, command: &Command) -> Result<Reply, NoMemory>
+        requires ranges { IsCommand command.now }
+        requires line { AreInLine self.old.state.next_serial self.old.state.jobs }
+        ensures reply { IfOk result (λ r. r ≡ (change self.old.state user.now command.now).reply) }
+        ensures state { OnOk result (self.new.state ≡ (change self.old.state user.now command.now).state) }
+        ensures marks { OnOk result (self.new.marks ≡ self.old.marks) }
+        ensures err { OnErr result (self.new ≡ self.old) }
+    {
+        match command {
+            Command::Crtcls(_)
+            | Command::Crtjobq(_)
+            | Command::Crtpgmref(_)
+            | Command::Crtjobd(_)
+            | Command::Crtsbsd(_)
+            | Command::Addjobqe(_)
+            | Command::Addrtge(_)
+            | Command::Addaje(_)
+            | Command::Rmvjobqe(_)
+            | Command::Rmvrtge(_)
+            | Command::Rmvaje(_)
+            | Command::Hldjobq(_)
+            | Command::Rlsjobq(_) => self.configure(alloc, user, command),
+            Command::Strsbs(command) => self.start_subsystem(alloc, &command.sbsd),
+            Command::Endsbs(command) => self.end_subsystem(command),
+            Command::Sbmjob(command) => self.submit(alloc, user, command),
+            Command::Hldjob(command) => self.hold_job(&command.job),
+            Command::Rlsjob(command) => self.release_job(&command.job),
+            Command::Chgjob(command) => self.change_job(command),
+            Command::Endjob(command) => self.end_job(command),
             Command::Clrjobq(command) => Ok(self.clear_queue(&command.jobq)),
+            Command::Pwrdwnsys(command) => self.power_down(command),
             _ => Ok(Reply::Nothing),
         }
     }
 
-    // The reply to a call that doesn't look at the clock, and the state before it settles.
-    fn apply_timeless(&mut self, alloc: Global, caller: u32, call: &Call) -> Result<Reply, NoMemory>
+    // The reply to a call, and the state before it settles. An `Err` is want of memory and leaves the machine.
+    fn apply(&mut self, alloc: Global, caller: u32, call: &Call) -> Result<Reply, NoMemory>
         requires ranges { IsCall call.now }
-        requires other { is_timed call.now ≡ false }
         requires sound { IsSound self.old.state }
         ensures reply { IfOk result (λ r. r ≡ (apply self.old.state caller call.now).reply) }
         ensures state { OnOk result (self.new.state ≡ (apply self.old.state caller call.now).state) }
@@ -139,52 +183,6 @@ impl Machine {
             Call::Finished(serial, exit) => self.report_finished(caller, *serial, exit),
             Call::UseDone(serial) => Ok(self.report_use_done(caller, *serial)),
             Call::Tick => Ok(Reply::Noted),
-        }
-    }
-
-    // The same, where the clock is set behind it.
-    fn apply_other(
-        &mut self,
-        alloc: Global,
-        caller: u32,
-        call: &Call,
-        now: Moment,
-    ) -> Result<Reply, NoMemory>
-        requires ranges { IsCall call.now }
-        requires other { is_timed call.now ≡ false }
-        requires sound { IsSound self.old.state }
-        ensures ok { IfOk result (λ r. IsStill now r self.new.state (apply (with_clock self.old.state now) caller call.now)) }
-        ensures marks { OnOk result (self.new.marks ≡ self.old.marks) }
-        ensures err { OnErr result (self.new ≡ self.old) }
-    {
-        self.apply_timeless(alloc, caller, call)
-    }
-
-    // What a call comes to, where the clock is set behind it: until nothing more can want memory.
-    fn apply(
-        &mut self,
-        alloc: Global,
-        caller: u32,
-        call: &Call,
-        now: Moment,
-    ) -> Result<Reply, NoMemory>
-        requires ranges { IsCall call.now }
-        requires sound { IsSound self.old.state }
-        ensures ok { IfOk result (λ r. IsStill now r self.new.state (apply (with_clock self.old.state now) caller call.now)) }
-        ensures marks { OnOk result (self.new.marks ≡ self.old.marks) }
-        ensures err { OnErr result (self.new ≡ self.old) }
-    {
-        match call {
-            Call::Change { user, command } => match command.get() {
-                Command::Sbmjob(command) => self.submit(alloc, user, command, now),
-                Command::Strsbs(command) => self.start_subsystem(alloc, &command.sbsd, now),
-                Command::Chgjob(command) => self.change_job(command, now),
-                Command::Endsbs(command) => self.end_subsystem(command, now),
-                Command::Endjob(command) => self.end_job(command, now),
-                Command::Pwrdwnsys(command) => self.power_down(command, now),
-                _ => self.apply_other(alloc, caller, call, now),
-            },
-            _ => self.apply_other(alloc, caller, call, now),
         }
     }
 
@@ -211,14 +209,14 @@ impl Machine {
         self.mark.undoable = false;
         self.begin(alloc, call)?;
         let may_come_due = self.may_come_due(call, now);
-        let reply = match self.apply(alloc, caller, call, now) {
+        self.set_clock(now);
+        let reply = match self.apply(alloc, caller, call) {
             Ok(reply) => reply,
             Err(fault) => {
-                self.mark.undoable = false;
+                self.take_clock_back();
                 return Err(fault);
             }
         };
-        self.set_clock(now);
         if let Err(fault) = self.come_due(may_come_due) {
             self.take_back();
             return Err(fault);

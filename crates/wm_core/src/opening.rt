@@ -18,10 +18,10 @@ pub struct Setup {
 }
 
 impl Machine {
-    ghost use Rattle.std.specs.Prelude.{◌≡◌, false, IfOk, OnOk, All};
+    ghost use Rattle.std.specs.Prelude.{◌≡◌, true, false, IfOk, OnOk, All};
     ghost use Rattle.wm_law.specs.Fit.{IsCommand};
     ghost use Rattle.wm_law.specs.Opening.{changed_by, empty, opening};
-    ghost use Rattle.wm_core.specs.Clocked.{looks_at_clock};
+    ghost use Rattle.wm_law.specs.Built.{configures};
 
     // No objects and no job.
     fn empty(alloc: Global, offset: Offset) -> Machine
@@ -50,12 +50,12 @@ impl Machine {
         commands: &[Command],
     ) -> Result<(), NoMemory>
         requires ranges { All IsCommand commands.now }
-        requires others { All (λ c. looks_at_clock c ≡ false) commands.now }
+        requires configure { All (λ c. configures c ≡ true) commands.now }
         ensures state { OnOk result (self.new.state ≡ changed_by user.now self.old.state commands.now) }
         ensures marks { OnOk result (self.new.marks ≡ self.old.marks) }
     {
         for command in commands {
-            self.change(alloc, user, command)?;
+            self.configure(alloc, user, command)?;
         }
         Ok(())
     }

@@ -1,5 +1,5 @@
 // SBMJOB: a job is made.
-ghost use Rattle.std.specs.Prelude.{◌≡◌, IfOk, max, unwrap_or};
+ghost use Rattle.std.specs.Prelude.{◌≡◌, IfOk, unwrap_or};
 ghost use Rattle.wm_law.specs.Submitting.{queue_of, or_described};
 
 use crate::Machine;
@@ -17,13 +17,6 @@ pub(crate) const NUMBERS_END: u32 = 1_000_000;
 
 /// All numbers from 1 to below this are serials, and places.
 pub(crate) const SERIALS_END: u64 = 1_000_000_000_000_000_000;
-
-// The later of two moments.
-pub(crate) fn later(a: Moment, b: Moment) -> Moment
-    ensures { result ≡ max a b }
-{
-    Moment::new(a.get().max(b.get()))
-}
 
 // The queue of a submitted job.
 fn queue_of(command: &Sbmjob, jobd: &Jobd) -> QName
@@ -65,8 +58,6 @@ fn routing_data_of(command: &Sbmjob, jobd: &Jobd) -> Result<Text, NoMemory>
 impl Machine {
     ghost use Rattle.std.specs.Prelude.{◌≡◌, OnOk, OnErr, IfOk, is_some, true};
     ghost use Rattle.wm_law.specs.Counts.{is_waiting};
-    ghost use Rattle.wm_law.specs.Machine.{with_clock};
-    ghost use Rattle.wm_core.specs.Clocked.{IsStill};
     ghost use Rattle.wm_law.specs.Fit.{IsSubmission};
     ghost use Rattle.wm_law.specs.Submitting.{has_numbers, submitted_job, entered, submit};
 
@@ -133,16 +124,16 @@ impl Machine {
         Ok(())
     }
 
-    /// SBMJOB: a Waiting job, which is due by its schedule. The clock is set behind it.
+    /// SBMJOB: a Waiting job, which is due by its schedule. An `Err` is want of memory and leaves the state.
     pub(crate) fn submit(
         &mut self,
         alloc: Global,
         user: &Name,
         command: &Sbmjob,
-        now: Moment,
     ) -> Result<Reply, NoMemory>
         requires { IsSubmission command.now }
-        ensures ok { IfOk result (λ r. IsStill now r self.new.state (submit (with_clock self.old.state now) user.now command.now)) }
+        ensures reply { IfOk result (λ r. r ≡ (submit self.old.state user.now command.now).reply) }
+        ensures state { OnOk result (self.new.state ≡ (submit self.old.state user.now command.now).state) }
         ensures marks { OnOk result (self.new.marks ≡ self.old.marks) }
         ensures err { OnErr result (self.new ≡ self.old) }
     {
@@ -157,7 +148,7 @@ impl Machine {
         if machine.objects.jobqs.object(&queue).is_none() {
             return Ok(Reply::No(Refusal::NoObject(Kind::Jobq)));
         }
-        let due = match machine.scheduled(command.scddate, command.scdtime, now) {
+        let due = match machine.scheduled(command.scddate, command.scdtime) {
             Ok(due) => due,
             Err(refusal) => return Ok(Reply::No(refusal)),
         };

@@ -4,7 +4,7 @@ use crate::autos::{drafts, enter_drafts};
 use crate::draft::{Draft, Site};
 use crate::submitting::{NUMBERS_END, SERIALS_END};
 use std::alloc::Global;
-use wm_base::{Kind, Moment, Name, NoMemory, QName, Refusal};
+use wm_base::{Kind, Name, NoMemory, QName, Refusal};
 use wm_desc::AutoEntry;
 use wm_law::{Reply, Sbs, SbsPhase};
 use wm_subsystems::is_on;
@@ -15,10 +15,8 @@ const MAX_STARTED: usize = 32;
 impl Machine {
     ghost use Rattle.std.specs.Prelude.{◌≡◌, ◌≤◌, length, fold, OnOk, OnErr, IfOk};
     ghost use Rattle.wm_law.specs.Autos.{autos_of};
-    ghost use Rattle.wm_law.specs.Machine.{with_clock};
     ghost use Rattle.wm_law.specs.Submitting.{numbers_left};
     ghost use Rattle.wm_law.specs.Subsystems.{is_started, start_refusal, begun, start_subsystem};
-    ghost use Rattle.wm_core.specs.Clocked.{IsStill};
     ghost use Rattle.wm_core.specs.Drafts.{enter_draft};
 
     fn is_started(&self, name: &Name) -> bool
@@ -75,9 +73,9 @@ impl Machine {
 
     // The subsystem goes last among the started ones, and then the job of each draft is made. All memory is taken before
     // anything is changed.
-    fn start_up(&mut self, q: &QName, drafts: Vec<Draft>, now: Moment) -> Result<(), NoMemory>
+    fn start_up(&mut self, q: &QName, drafts: Vec<Draft>) -> Result<(), NoMemory>
         requires numbers { length drafts.items ≤ numbers_left self.old.state }
-        ensures ok { OnOk result (with_clock self.new.state now ≡ fold (enter_draft q.now) (begun (with_clock self.old.state now) q.now) drafts.items) }
+        ensures ok { OnOk result (self.new.state ≡ fold (enter_draft q.now) (begun self.old.state q.now) drafts.items) }
         ensures marks { OnOk result (self.new.marks ≡ self.old.marks) }
         ensures err { OnErr result (self.new ≡ self.old) }
     {
@@ -93,20 +91,16 @@ impl Machine {
             objects: &self.objects,
             started: &self.started,
             held: &self.held,
-            moment: now,
         };
         enter_drafts(&mut self.table, &mut self.next_number, &site, drafts);
         Ok(())
     }
 
-    /// STRSBS: the subsystem starts with its autostart jobs, which are due at the clock. The clock is set behind it.
-    pub(crate) fn start_subsystem(
-        &mut self,
-        alloc: Global,
-        q: &QName,
-        now: Moment,
-    ) -> Result<Reply, NoMemory>
-        ensures ok { IfOk result (λ r. IsStill now r self.new.state (start_subsystem (with_clock self.old.state now) q.now)) }
+    /// STRSBS: the subsystem starts with its autostart jobs, which are due at the clock. An `Err` is want of memory and leaves
+    /// the state.
+    pub(crate) fn start_subsystem(&mut self, alloc: Global, q: &QName) -> Result<Reply, NoMemory>
+        ensures reply { IfOk result (λ r. r ≡ (start_subsystem self.old.state q.now).reply) }
+        ensures state { OnOk result (self.new.state ≡ (start_subsystem self.old.state q.now).state) }
         ensures marks { OnOk result (self.new.marks ≡ self.old.marks) }
         ensures err { OnErr result (self.new ≡ self.old) }
     {
@@ -114,7 +108,7 @@ impl Machine {
             return Ok(Reply::No(refusal));
         }
         let drafts = drafts(alloc, &self.objects.jobds, self.autos_of(q))?;
-        self.start_up(q, drafts, now)?;
+        self.start_up(q, drafts)?;
         Ok(Reply::SbsStarted(*q))
     }
 }

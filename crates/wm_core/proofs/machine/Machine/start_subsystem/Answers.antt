@@ -2,7 +2,6 @@ use Rattle.std.proofs.Common.{◌≡◌, ◌∙◌, List, Option, None, ap, sym,
 use Rattle.wm_base.specs.declared.refusal.Refusal.{Refusal}
 use Rattle.wm_desc.specs.declared.entry.AutoEntry.{AutoEntry}
 use Rattle.wm_law.specs.Autos.{autos_of}
-use Rattle.wm_law.specs.Machine.{with_clock}
 use Rattle.wm_law.specs.Subsystems.{begun, start_refusal, start_unless}
 use Rattle.wm_core.specs.declared.draft.Draft.{Draft}
 use Rattle.wm_core.specs.Drafts.{drafts, enter_draft}
@@ -18,17 +17,19 @@ start_up-requires c =
     c.in_ok-drafts.ensures ∙ (ap (λ (t : Seen). drafts t.state.objects.jobds c.autos_of.result.now) c.self.view_is ∙ ap (λ (es : List AutoEntry). drafts s.objects.jobds es) c.autos_of.ensures) in
     record { numbers = numbers-suffice s q (sym c.start_refusal.ensures ∙ c.in_default.is) c.in_ok-drafts.drafts.items items }
 
-pub returns-clause-ok : goal.returns-clause-ok
-returns-clause-ok c =
+pub returns-clause-reply : goal.returns-clause-reply
+returns-clause-reply c =
     let s = c.args.self.now.state in
     let q = c.args.q.now in
-    let t = with_clock s c.args.now in
+    let none : start_refusal s q ≡ None = sym c.start_refusal.ensures ∙ c.in_default.is in
+    sym (ap (λ (o : Option Refusal). (start_unless s q o).reply) none)
+
+pub returns-clause-state : goal.returns-clause-state
+returns-clause-state c =
+    let s = c.args.self.now.state in
+    let q = c.args.q.now in
     let none : start_refusal s q ≡ None = sym c.start_refusal.ensures ∙ c.in_default.is in
     let items : c.in_ok-drafts.drafts.items ≡ drafts s.objects.jobds (autos_of s q) =
     c.in_ok-drafts.ensures ∙ (ap (λ (u : Seen). drafts u.state.objects.jobds c.autos_of.result.now) c.self.view_is ∙ ap (λ (es : List AutoEntry). drafts s.objects.jobds es) c.autos_of.ensures) in
-    record {
-      says = sym (ap (λ (o : Option Refusal). (start_unless t q o).reply) none);
-      leaves =
-          c.in_ok-start_up.ensures.ok
-          ∙ (ap (λ (ds : List Draft). fold (enter_draft q) (begun t q) ds) items ∙ (sym (by_drafts q (begun t q) (autos_of t q)) ∙ sym (ap (λ (o : Option Refusal). (start_unless t q o).state) none)));
-    }
+    c.in_ok-start_up.ensures.ok
+    ∙ (ap (λ (ds : List Draft). fold (enter_draft q) (begun s q) ds) items ∙ (sym (by_drafts q (begun s q) (autos_of s q)) ∙ sym (ap (λ (o : Option Refusal). (start_unless s q o).state) none)))

@@ -1,7 +1,6 @@
-use Rattle.std.proofs.Common.{◌≡◌, ◌∷◌, [], ◌++◌, ◌∙◌, ℕ, max, ap, subst, arith, length, ◌≤◌, sym, fold}
+use Rattle.std.proofs.Common.{◌≡◌, ◌∷◌, [], ◌++◌, ◌∙◌, ap, subst, arith, length, ◌≤◌, sym, fold}
 use Rattle.wm_law.specs.declared.state.SbsPhase.TheVariants.{Active}
 use Rattle.wm_law.specs.declared.state.State.{State}
-use Rattle.wm_law.specs.Machine.{with_clock}
 use Rattle.wm_law.specs.Submitting.{numbers_left}
 use Rattle.wm_law.specs.Subsystems.{begun}
 use Rattle.wm_core.specs.Drafts.{enter_draft}
@@ -33,13 +32,11 @@ pub returns-clause-ok : goal.returns-clause-ok
 returns-clause-ok c =
     let s = state_of c.self.inside in
     let q = c.args.q.now in
-    let now = c.args.now in
-    let r = begun (with_clock s now) q in
+    let r = begun s q in
     let started : c.push.new.self ≡ s.started ++ record { sbsd = q; phase = Active } ∷ [] = c.in_ok-push.ensures.ok in
     let clock : c.enter_drafts.new.table.clock ≡ s.clock = c.enter_drafts.ensures.clock ∙ c.reserve.ensures.clock in
     let place : c.enter_drafts.new.table.next_place ≡ s.next_place = c.enter_drafts.ensures.next_place ∙ c.reserve.ensures.next_place in
-    let clocked : max c.reserve.new.self.clock now ≡ max s.clock now = ap (λ (t : ℕ). max t now) c.reserve.ensures.clock in
-    let parts = same-parts s.objects c.reserve.new.self.jobs s.jobs c.push.new.self r.started s.held (max c.reserve.new.self.clock now) (max s.clock now) s.next_number c.reserve.new.self.next_serial s.next_serial c.reserve.ensures.jobs started clocked c.reserve.ensures.next_serial in
-    let come : State = site_parts s.objects c.enter_drafts.new.table.jobs c.push.new.self s.held (max c.enter_drafts.new.table.clock now) c.enter_drafts.new.number c.enter_drafts.new.table.next_serial in
+    let parts = same-parts s.objects c.reserve.new.self.jobs s.jobs c.push.new.self r.started s.held c.reserve.new.self.clock s.clock s.next_number c.reserve.new.self.next_serial s.next_serial c.reserve.ensures.jobs started c.reserve.ensures.clock c.reserve.ensures.next_serial in
+    let come : State = site_parts s.objects c.enter_drafts.new.table.jobs c.push.new.self s.held c.enter_drafts.new.table.clock c.enter_drafts.new.number c.enter_drafts.new.table.next_serial in
     let whole = whole-entered q r c.args.drafts.items come (c.enter_drafts.ensures.state ∙ ap (λ (t : State). fold (enter_draft q) t c.args.drafts.items) parts) in
     rw (← c.self.view_is, started, clock, place) whole
