@@ -1,5 +1,5 @@
 -- The parts of rows in the order of their serials, and what the change of one row makes of them.
-use Rattle.std.proofs.Common.{◌≡◌, ℕ, suc, ◌≤◌, Bool, true, false, not, cond, List, [], ◌∷◌, ◌++◌, length, Option, Some, None, option_map, refl, ap, sym, ◌∙◌, arith, nat_eq}
+use Rattle.std.proofs.Common.{◌≡◌, ℕ, ◌≤◌, Bool, true, false, not, cond, List, [], ◌∷◌, ◌++◌, length, Option, Some, None, option_map, refl, ap, sym, ◌∙◌, arith, nat_eq}
 use Rattle.std.specs.List.{cons_option}
 use Rattle.std.specs.Ordering.{nat_cmp, is_lt}
 use Rattle.std.proofs.lemmas.Bool.{or_parts, or_from}
@@ -11,10 +11,7 @@ use Rattle.wm_ordered.specs.Tree.{IsCut}
 use Rattle.wm_ordered.proofs.Cuts.{cuts, added-cut}
 use Rattle.wm_ordered.proofs.Parted.{keyed, sorted-parted}
 use Rattle.wm_active.specs.ActiveInside.{joined, part_of, parts}
-
-one-more : {E : Type 0} (o : Option E) (es : List E) (n : ℕ) → length es ≤ n → length (cons_option o es) ≤ suc n
-one-more None es n h = omega arith
-one-more (Some e) es n h = omega arith
+use Rattle.wm_base.proofs.Lists.{length-cons_option}
 
 module _ {V W : Type 0} (part : V → Option W) where
   -- the row of a serial, where there is such a part
@@ -24,7 +21,7 @@ module _ {V W : Type 0} (part : V → Option W) where
   -- no more rows have the part than there are
   pub parts-few : (items : List (ℕ × V)) → length (parts part items) ≤ length items
   parts-few [] = omega arith
-  parts-few (x ∷ xs) = one-more (part_of part x) (parts part xs) (length xs) (parts-few xs)
+  parts-few (x ∷ xs) = length-cons_option (part_of part x) (parts part xs) (length xs) (parts-few xs)
 
   lack-by : (s n : ℕ) (o : Option W) (rows : List (ℕ × W)) → nat_eq n s ≡ false → has_key key_of nat_eq s rows ≡ false → has_key key_of nat_eq s (cons_option (row_at n o) rows) ≡ false
   lack-by s n None rows other rest = rest

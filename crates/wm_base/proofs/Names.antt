@@ -1,5 +1,5 @@
 -- What is known of a name's bytes.
-use Rattle.std.proofs.Common.{◌≡◌, ℕ, ◌<◌, ◌≤◌, ◌++◌, true, List, [], ◌∷◌, length, drop, replicate, zero, suc, lit<, Result, Ok, Err, IsOk, MatchResult, subst, sym, ◌∙◌, refl, arith, append_assoc}
+use Rattle.std.proofs.Common.{◌≡◌, ℕ, ◌<◌, ◌≤◌, ◌++◌, true, cond, Some, None, List, [], ◌∷◌, length, drop, replicate, zero, suc, lit<, Result, Ok, Err, IsOk, MatchResult, subst, sym, ap, ◌∙◌, refl, arith, append_assoc}
 use Rattle.std.specs.Str.{IsAscii, IsUtf8}
 use Rattle.std.specs.List.{list_all}
 use Rattle.std.proofs.Math.Seq.{take-append_seam, drop-append_seam}
@@ -7,7 +7,7 @@ use Rattle.std.proofs.lemmas.List.{length-append, length-drop, drop-replicate}
 use Rattle.std.proofs.lemmas.Str.{IsUtf8-from_ascii}
 use Rattle.std.proofs.lemmas.Bool.{and_parts}
 use Rattle.std.proofs.lemmas.Bool.Decides.{nat_tests}
-use Rattle.wm_base.specs.Name.{IsName, continues_name}
+use Rattle.wm_base.specs.Name.{IsName, continues_name, name_of}
 use Rattle.wm_base.specs.QName.{qname_text}
 use Rattle.wm_base.specs.declared.qname.QName.{QName}
 use Rattle.wm_base.specs.Text.{is_printable, IsText}
@@ -62,3 +62,7 @@ IsUtf8-text bs h = IsUtf8-from_ascii bs (printable_bytes bs h)
 pub IsOk-text : {T E : Type 0} (r : Result T E) (P : T → Type 0) (U : Type 0) (Q : E → Type 0) → MatchResult r P (λ e. (¬ U) × Q e) → U → IsOk r
 IsOk-text (Ok x) P U Q h u = refl
 IsOk-text (Err e) P U Q h u = absurd (h.0 u)
+
+-- a name is read as itself
+pub name_is : (name : List ℕ) → IsName name → name_of name ≡ Some name
+name_is name h = ap (λ c. cond c (Some name) None) h

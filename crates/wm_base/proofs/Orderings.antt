@@ -1,8 +1,9 @@
 -- What the answers of a comparison say.
 use Rattle.std.proofs.Common.{◌≡◌, ℕ, ◌<◌, true, false, refl, sym, ap, ◌∙◌, arith}
+use Rattle.std.specs.Cmp.{IsTotalOrder}
 use Rattle.std.specs.declared.cmp.Ordering.{Ordering}
 use Rattle.std.specs.declared.cmp.Ordering.TheVariants.{Less, Equal, Greater}
-use Rattle.std.specs.Ordering.{is_lt, is_eq, nat_cmp, ordering_then}
+use Rattle.std.specs.Ordering.{is_lt, is_eq, nat_cmp, ordering_reverse, ordering_then}
 use Rattle.std.proofs.lemmas.Bool.{false≢true, true≢false}
 use Rattle.std.proofs.lemmas.Bool.Decides.{nat_tests}
 use Rattle.std.proofs.lemmas.Cmp.{ranked}
@@ -25,6 +26,14 @@ neither-Greater Greater h g = refl
 -- what comes first of two orders decides
 pub then-not_Greater : (o p : Ordering) → ordering_then o p ≡ Less → o ≡ Greater → ⊥
 then-not_Greater o p h e = cc (sym (ap (λ q. ordering_then q p) e) ∙ h)
+
+-- a comparison turned round
+module _ {K : Type 0} (cmp : K → K → Ordering) (o : IsTotalOrder cmp) where
+  pub turned-Less : (a b : K) → cmp a b ≡ Less → cmp b a ≡ Greater
+  turned-Less a b h = o.antisymm b a ∙ ap ordering_reverse h
+
+  pub turned-Greater : (a b : K) → cmp a b ≡ Greater → cmp b a ≡ Less
+  turned-Greater a b h = o.antisymm b a ∙ ap ordering_reverse h
 
 pub lt-Less : (a b : ℕ) → nat_cmp a b ≡ Less → a < b
 lt-Less a b h = ranked a b Less (sym h)

@@ -1,5 +1,5 @@
 -- Numbers, and what is joined, are texts.
-use Rattle.std.proofs.Common.{ℕ, ◌+◌, ◌-◌, ◌<◌, ◌^◌, ◌%◌, ◌++◌, List, [], ◌∷◌, length, replicate, zero, suc, refl, arith}
+use Rattle.std.proofs.Common.{ℕ, ◌+◌, ◌-◌, ◌<◌, ◌^◌, ◌%◌, ◌++◌, List, [], ◌∷◌, length, replicate, zero, suc, refl, append_assoc, arith}
 use Rattle.std.specs.Fmt.{decimal}
 use Rattle.std.specs.List.{list_all}
 use Rattle.std.proofs.lemmas.Fmt.{decimal_by_steps}
@@ -7,6 +7,7 @@ use Rattle.std.proofs.lemmas.Bool.{and_parts, and_from}
 use Rattle.std.proofs.lemmas.Bool.Decides.{nat_tests}
 use Rattle.wm_base.specs.Text.{is_printable, IsText}
 use Rattle.wm_base.specs.Number.{zero_padded}
+use Rattle.wm_base.proofs.Numbers.{padded_integral-zeros}
 
 pub IsText-append : (xs ys : List ℕ) → IsText xs → IsText ys → IsText (xs ++ ys)
 IsText-append [] ys h g = g
@@ -29,3 +30,6 @@ IsText-zeros (suc n) = IsText-zeros n
 pub IsText-zero_padded : (width n : ℕ) → n < 2 ^ 64 → IsText (zero_padded width n)
 unfolding zero_padded
 IsText-zero_padded width n h = IsText-append (replicate (width - length (decimal n)) 48) (decimal n) (IsText-zeros (width - length (decimal n))) (IsText-decimal n h)
+
+-- a number with zeros before it is a text
+pub ruleset padded = (padded_integral-zeros, IsText-zero_padded, append_assoc)

@@ -1,5 +1,5 @@
 -- Which bytes are a name.
-use Rattle.std.specs.Prelude.{ℕ, Bool, List, length, nat_le, ◌==◌, ◌&&◌, ◌||◌, IsTrue, slice_index}
+use Rattle.std.specs.Prelude.{ℕ, Bool, List, Option, Some, None, length, nat_le, ◌==◌, ◌&&◌, ◌||◌, IsTrue, slice_index, if◌then◌else◌}
 use Rattle.std.specs.List.{list_all}
 
 -- A to Z, $, # or @
@@ -16,3 +16,7 @@ is_name bytes = nat_le 1 (length bytes) && nat_le (length bytes) 10 && list_all 
 
 abbrev pub IsName : List ℕ → Type 0
 IsName bytes = IsTrue (is_name bytes)
+
+-- the name that bytes are, where they are one
+abbrev pub name_of : List ℕ → Option (List ℕ)
+name_of bytes = if is_name bytes then Some bytes else None

@@ -21,7 +21,7 @@ pub type NoMemory = std::alloc::AllocError;
 pub use args::Args;
 pub use job::{Asked, Class, EndCause, Event, Exit, How, JobName, StartCause, StartOrder};
 pub use limit::Limit;
-pub use name::{BadName, NAME_LEN, Name};
+pub use name::{BadName, NAME_LEN, Name, name_of};
 pub use number::{JobNumber, Moment, Priority, Serial};
 pub use qname::QName;
 pub use refusal::{Key, Kind, PhaseWord, Refusal};

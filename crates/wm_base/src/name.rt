@@ -4,7 +4,7 @@ ghost use Rattle.std.specs.Ordering.{nat_cmp};
 ghost use Rattle.std.specs.Cmp.Lexicographic.{pointwise, slice_cmp, nat_list_eq_equiv, nat_list_cmp_total, texts_ties, texts_po};
 ghost use Rattle.std.specs.Cmp.{partial_equiv_from_equiv};
 ghost use Rattle.std.specs.List.{list_all};
-ghost use Rattle.wm_base.specs.Name.{begins_name, continues_name, is_name, IsName};
+ghost use Rattle.wm_base.specs.Name.{begins_name, continues_name, is_name, IsName, name_of};
 
 use std::cmp::Ordering;
 use std::marker::Model;
@@ -66,6 +66,16 @@ fn is_name(bytes: &[u8]) -> bool
     ensures { result ≡ is_name bytes.now }
 {
     !bytes.is_empty() && bytes.len() <= NAME_LEN && all_continue(bytes) && begins_name(bytes[0])
+}
+
+/// The name that bytes are, where they are one.
+pub fn name_of(bytes: &[u8]) -> Option<Name>
+    ensures { result ≡ name_of bytes.now }
+{
+    match Name::read(bytes) {
+        Ok(name) => Some(name),
+        Err(_) => None,
+    }
 }
 
 impl Name {

@@ -1,10 +1,8 @@
 -- The children that are out.
-use Rattle.std.proofs.Common.{◌≡◌, ◌↔◌, ◌==◌, ◌||◌, inl, inr, ℕ, ◌<◌, ◌≤◌, ◌+◌, zero, suc, Bool, true, IsTrue, List, [], ◌∷◌, length, get_or, map, slice_get, Contains, Some, refl, sym, ◌∙◌, ap, arith}
+use Rattle.std.proofs.Common.{◌≡◌, ◌↔◌, ◌==◌, inl, inr, ℕ, ◌<◌, zero, suc, Bool, true, IsTrue, List, [], ◌∷◌, length, get_or, map, Contains, refl, sym, ◌∙◌, ap, arith}
 use Rattle.std.proofs.lemmas.Bool.{false≢true, or_cases, eqb-true, eq-eqb}
 use Rattle.std.specs.List.{remove, list_any}
 use Rattle.std.proofs.Math.Bool.{or-true}
-use Rattle.wm_children.specs.declared.started.Started.{Started}
-use Rattle.wm_children.specs.Programs.{serials_of}
 
 -- what is taken out of a list is taken out of what is made of it
 pub map_remove : {A : Type 0} (f : A → ℕ) (xs : List A) (at : ℕ) → at < length xs → map f (remove xs at) ≡ remove (map f xs) at
@@ -27,8 +25,3 @@ among_any (x ∷ xs) job (suc k) below is = rw (among_any xs job k (omega arith)
 -- a search for a serial finds it where it is there
 pub contained : (xs : List ℕ) (job : ℕ) (found : Bool) → found ≡ list_any (λ x. x == job) xs → IsTrue found ↔ Contains xs job
 contained xs job found is = (λ yes. any_among xs job (sym is ∙ yes), λ among. is ∙ among_any xs job among.0 among.1 among.2)
-
--- without children there are no serials
-pub no_serials : (children : List Started) → (length children == 0) ≡ true → serials_of children ≡ []
-no_serials [] empty = refl
-no_serials (child ∷ children) empty = let none : suc (length children) ≡ 0 = eqb-true (suc (length children)) 0 empty in absurd (omega (arith, none))

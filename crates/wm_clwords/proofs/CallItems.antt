@@ -77,12 +77,6 @@ same_parm tokens a b h k =
     let same = same_list [] _ _ h.0 k.0 (sym h.1 ∙ k.1) in
     same_values k.0 a b (subst (λ (l : List Token). AreValues l a) same.1 h.2.0) k.2.0
 
--- PGM
-pub pgm_from : (tokens : List Token) (values : List Item) (value : Item) (pgm : QName) → tokens ≡ Key (codes "PGM") ∷ list_tokens values ++ Close ∷ [] → values ≡ value ∷ []
-    → IsPositional (item_tokens value) pgm → IsPgm tokens pgm
-pgm_from tokens values value pgm e one h =
-    (list_tokens values, e, subst (λ (l : List Token). IsPositional l pgm) (sym (ap list_tokens one ∙ one_item value)) h)
-
 pub pgm_values : (tokens : List Token) (values : List Item) (pgm : QName) → tokens ≡ Key (codes "PGM") ∷ list_tokens values ++ Close ∷ [] → IsPgm tokens pgm → IsPositional (list_tokens values) pgm
 pgm_values tokens values pgm e h =
     let same = same_list [] _ _ (list_tokens values) h.0 (sym e ∙ h.1) in
@@ -174,20 +168,6 @@ call_other_first first others pgm parms none h = by_parts h.parts
     by_parts (inr (q, r)) =
         let cut = cut_keyed first (codes "PARM") q.0 parms (list_tokens others) h.back q.2.0 (whole ∙ ap (λ l. l ++ h.back) q.1) in
         absurd (none parms (q.0, cut.0, q.2))
-
-pub call_empty : (pgm : QName) (parms : List (List ℕ)) → IsCall [] pgm parms → ⊥
-call_empty pgm parms h = by_parts h.parts
-  where
-    front_nil : (t : Token) (x : List Token) → h.front ≡ t ∷ x → ⊥
-    front_nil t x e = nil_cons (h.whole ∙ ap (λ l. l ++ h.back) e)
-      where
-        nil_cons : ◌≡◌ {A = List Token} [] (t ∷ x ++ h.back) → ⊥
-        nil_cons e = cc
-
-    by_parts : ((IsPositional h.front pgm ⊎ IsPgm h.front pgm) × IsParms h.back parms) ⊎ (IsParm h.front parms × IsPgm h.back pgm) → ⊥
-    by_parts (inl (inl q, r)) = front_nil q.0 [] q.1
-    by_parts (inl (inr q, r)) = front_nil _ _ q.1
-    by_parts (inr (q, r)) = front_nil _ _ q.1
 
 -- what the parts make
 pub call_from_parm : (first : Item) (others : List Item) (pgm : QName) (parms : List (List ℕ)) → IsParm (item_tokens first) parms → IsPgm (list_tokens others) pgm → IsCall (list_tokens (first ∷ others)) pgm parms

@@ -5,6 +5,7 @@ use Rattle.std.proofs.lemmas.Bool.{and_parts, and_from}
 use Rattle.std.proofs.lemmas.Bool.Decides.{nat_tests}
 use Rattle.wm_base.specs.Name.{IsName, continues_name}
 use Rattle.wm_base.specs.Text.{is_printable, IsText}
+use Rattle.wm_base.proofs.Texts.{IsText-decimal}
 
 printable : (b : ℕ) → continues_name b ≡ true → is_printable b ≡ true
 printable b h = grind (arith, nat_tests)
@@ -18,3 +19,6 @@ all_printable (b ∷ bs) h =
 -- a name is a text
 pub IsText-name : (bs : List ℕ) → IsName bs → IsText bs
 IsText-name bs h = all_printable bs (and_parts _ (list_all continues_name bs) (and_parts _ _ h).0).1
+
+-- names and numbers are texts
+pub ruleset texts = (IsText-decimal, IsText-name)

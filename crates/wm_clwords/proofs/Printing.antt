@@ -75,16 +75,6 @@ fills_quoted text t =
       stands = λ rest opens h. (t, refl, (opens + 1, refl, close_stands ByQuoted opens rest h));
     }
 
--- a value, a blank and further values
-pub fills_word_next : (word bytes : List ℕ) (tokens : List Token) → is_word word ≡ true → Fills bytes tokens → Fills (word ++ 32 ∷ bytes) (Word (upper word) ∷ tokens)
-fills_word_next word bytes tokens w f =
-    record {
-      parts = Word word ∷ Blank 32 ∷ f.parts;
-      written = ap (λ l. word ++ 32 ∷ l) f.written;
-      says = ap (λ l. Word (upper word) ∷ l) f.says;
-      stands = λ rest opens h. (w, refl, (opens + 1, refl, blank_stands ByWord (opens + 1) (f.parts ++ (Close ∷ rest)) (f.stands rest opens h)));
-    }
-
 pub fills_quoted_next : (text bytes : List ℕ) (tokens : List Token) → IsText text → Fills bytes tokens → Fills (quoted text ++ 32 ∷ bytes) (Quoted text ∷ tokens)
 fills_quoted_next text bytes tokens t f =
     record {

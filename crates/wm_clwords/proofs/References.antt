@@ -9,13 +9,14 @@ use Rattle.std.proofs.lemmas.List.{append_assoc, length-append, length_push, tak
 use Rattle.std.proofs.lemmas.Option.{cond_some, none-some, same_Some}
 use Rattle.std.proofs.lemmas.List.Quantifiers.{position-Some}
 use Rattle.std.proofs.lemmas.Slice.Eq.{bytes_eq-Decides}
-use Rattle.wm_base.specs.Name.{IsName, continues_name}
+use Rattle.wm_base.specs.Name.{IsName, continues_name, name_of}
 use Rattle.wm_base.specs.declared.qname.QName.{QName}
+use Rattle.wm_base.proofs.Names.{name_is}
 use Rattle.wm_clwords.specs.declared.reference.Reference.{Reference}
 use Rattle.wm_clwords.specs.declared.tree.Item.{Item, Word as ItemWord, Quoted as ItemQuoted, List', Keyed'}
 use Rattle.wm_clwords.specs.Grammar.{Token, Blank, Comment, Word, Quoted, Key, Open, Close}
 use Rattle.wm_clwords.specs.Call.{IsPlain, IsReference, IsObject, IsOne, IsProgram, item_tokens, program_library}
-use Rattle.wm_clwords.specs.CallReading.{name_of, is_slash, library_of, alone, joined, by_slash, text_reference, reference_of, reference_at, or_library, object_by, program_by}
+use Rattle.wm_clwords.specs.CallReading.{is_slash, library_of, alone, joined, by_slash, text_reference, reference_of, reference_at, or_library, object_by, program_by}
 use Rattle.wm_clwords.proofs.Tokens.{heads}
 
 -- a reference, of a word or in apostrophes
@@ -70,9 +71,6 @@ split_at text at e =
     sym (take-append-drop at text) ∙ ap (λ l. take at text ++ l) (drop_more text at 0 h.0) ∙ ap (λ b. take at text ++ b ∷ drop (at + 1) text) (eqb-true (get_or text at 0) 47 h.1)
 
 -- names
-name_is : (name : List ℕ) → IsName name → name_of name ≡ Some name
-name_is name h = ap (λ c. cond c (Some name) None) h
-
 name_read : (text name : List ℕ) → name_of text ≡ Some name → IsName name × (text ≡ name)
 name_read text name e =
     let h = cond_some _ _ _ e in

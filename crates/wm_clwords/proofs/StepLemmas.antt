@@ -1,7 +1,6 @@
 -- One step of the reader.
-use Rattle.std.proofs.Common.{◌≡◌, ℕ, ◌+◌, ◌≤◌, ◌++◌, true, List, [], ◌∷◌, length, eqb, leb, ltb, Result, Ok, Err, IfOk, subst, sym, ◌∙◌, ap, refl, arith}
+use Rattle.std.proofs.Common.{◌≡◌, ℕ, ◌+◌, ◌≤◌, ◌++◌, true, List, [], ◌∷◌, length, eqb, leb, ltb, Result, Ok, Err, IfOk, subst, ◌∙◌, ap, refl, arith}
 use Rattle.std.proofs.lemmas.Bool.{and_parts, and_from, cond_both, le-leb, leb-true}
-use Rattle.std.proofs.lemmas.List.{append_assoc}
 use Rattle.wm_base.specs.Text.{is_printable}
 use Rattle.wm_clwords.specs.declared.mode.Mode.{Mode}
 use Rattle.wm_clwords.specs.declared.mode.Mode.TheVariants.{Free, Slash, InWord, InQuoted, AtApostrophe, AfterSlash, InComment, AtStar}
@@ -10,6 +9,7 @@ use Rattle.wm_clwords.specs.Lines.{is_blank}
 use Rattle.wm_clwords.specs.Grammar.{Word, Quoted, Key, Open, Mark, is_word_byte, is_comment_byte, upper_byte}
 use Rattle.wm_clwords.specs.Reading.{State, mark, Went, goes, opened, closed, at_word, in_comment, step, step_by, with_front, with_rest, run}
 use Rattle.wm_clwords.specs.Reader.{with_marks, is_behind}
+use Rattle.wm_clwords.proofs.Runs.{front_front}
 
 -- what began, began before the place
 pub record IsAt (place : ℕ) (state : State) : Type 0 where
@@ -97,10 +97,6 @@ IsAt-step state place b front next marks h e =
 abbrev Marks : Type 0
 Marks = Result (List Mark) ClFault
 
-front_front : (a b : List Mark) (r : Marks) → with_front a (with_front b r) ≡ with_front (a ++ b) r
-front_front a b (Ok m) = ap Ok (sym (append_assoc a b m))
-front_front a b (Err f) = refl
-
 run_ok : (went : Went) (place : ℕ) (bytes : List ℕ) (front : List Mark) (next : State) (marks : List Mark) → with_marks front went ≡ Ok (next, marks)
     → with_front front (with_rest went (λ s. run s (place + 1) bytes)) ≡ with_front marks (run next (place + 1) bytes)
 run_ok (Ok w) place bytes front next marks e =
@@ -113,6 +109,3 @@ run_ok (Err f) place bytes front next marks e = absurd (no_fault f (next, marks)
 pub run-step : (state : State) (place b : ℕ) (bytes : List ℕ) (front : List Mark) (next : State) (marks : List Mark) → with_marks front (step state place b) ≡ Ok (next, marks)
     → with_front front (run state place (b ∷ bytes)) ≡ with_front marks (run next (place + 1) bytes)
 run-step state place b bytes front next marks e = run_ok (step state place b) place bytes front next marks e
-
-pub run-fault : (state : State) (place b : ℕ) (bytes : List ℕ) (front : List Mark) (f : ClFault) → step state place b ≡ Err f → with_front front (run state place (b ∷ bytes)) ≡ Err f
-run-fault state place b bytes front f e = ap (λ w. with_front front (with_rest w (λ s. run s (place + 1) bytes))) e

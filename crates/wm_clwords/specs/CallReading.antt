@@ -2,15 +2,12 @@
 use Rattle.std.specs.Prelude.{ℕ, ◌+◌, Bool, true, false, Option, Some, None, List, [], ◌∷◌, take, drop, length, position, nat_eq, nat_le, ◌==◌, ◌&&◌, codes, if◌then◌else◌}
 use Rattle.std.specs.Cmp.Lexicographic.{pointwise}
 use Rattle.std.specs.List.{flat_map, list_all}
-use Rattle.wm_base.specs.Name.{is_name}
 use Rattle.wm_base.specs.declared.qname.QName.{QName}
+use Rattle.wm_base.specs.Name.{name_of}
 use Rattle.wm_clwords.specs.declared.reference.Reference.{Reference}
 use Rattle.wm_clwords.specs.declared.tree.Item.{Item, Word as ItemWord, Quoted as ItemQuoted, List', Keyed'}
 use Rattle.wm_clwords.specs.Call.{program_library}
 use Rattle.wm_clwords.specs.Grammar.{Token, Blank, Comment, Word, Quoted, Key, Open, Close}
-
-abbrev pub name_of : List ℕ → Option (List ℕ)
-name_of text = if is_name text then Some text else None
 
 abbrev pub is_slash : ℕ → Bool
 is_slash byte = byte == 47

@@ -2,25 +2,16 @@
 ghost use Rattle.std.specs.Prelude.{◌≡◌, ◌++◌, ℕ, List, Option, Some, None, IfSome, position, codes};
 ghost use Rattle.wm_base.specs.declared.qname.QName.{QName};
 ghost use Rattle.wm_clwords.specs.Call.{IsObject, IsOne, IsProgram, item_tokens, program_library};
-ghost use Rattle.wm_clwords.specs.CallReading.{is_slash, joined, library_of, name_of, object_by, program_by, reference_of, text_reference};
+ghost use Rattle.wm_clwords.specs.CallReading.{is_slash, joined, library_of, object_by, program_by, reference_of, text_reference};
 
 use crate::tree::Item;
-use wm_base::{Name, QName};
+use wm_base::{Name, QName, name_of};
 
 /// A reference as it is written: with its library, or a name alone.
 #[derive(Clone, Copy)]
 struct Reference {
     library: Option<Name>,
     name: Name,
-}
-
-fn name_of(text: &[u8]) -> Option<Name>
-    ensures { result ≡ name_of text.now }
-{
-    match Name::read(text) {
-        Ok(name) => Some(name),
-        Err(_) => None,
-    }
 }
 
 fn slash_at(text: &[u8]) -> Option<usize>

@@ -1,5 +1,5 @@
 -- A command that keeps the forms and ranges of the table keeps those that the machine asks of its calls.
-use Rattle.std.proofs.Common.{◌≡◌, ℕ, ◌&&◌, true, List, length, Option, Some, None, IfSome, IsTrue, subst, refl, arith}
+use Rattle.std.proofs.Common.{◌≡◌, ℕ, true, List, length, Option, Some, None, IfSome, IsTrue, subst, refl, arith}
 use Rattle.std.specs.Prelude.{slice_index_or}
 use Rattle.std.specs.List.{list_all}
 use Rattle.std.proofs.lemmas.Bool.Decides.{nat_tests}

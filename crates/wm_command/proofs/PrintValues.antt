@@ -25,7 +25,7 @@ use Rattle.wm_command.specs.Printed.{FitsKind, FitsRow, IsQualified, FitsCompare
 use Rattle.wm_command.specs.Values.{special_word, is_never, kind_value, is_special, compared, one_value as one_read}
 use Rattle.std.proofs.lemmas.Fmt.{length-decimal-le}
 use Rattle.wm_base.specs.declared.qname.QName.{QName}
-use Rattle.wm_base.proofs.Names.{length-name}
+use Rattle.wm_base.proofs.Names.{length-name, name_is}
 use Rattle.wm_desc.specs.declared.entry.Cmp.{Cmp}
 use Rattle.std.specs.Option.{option_map}
 use Rattle.wm_clwords.specs.declared.tree.Span.{Span}
@@ -37,7 +37,7 @@ use Rattle.wm_words.specs.Words.{flag_text, ending_text, date_of, time_of}
 use Rattle.wm_base.specs.Text.{IsText}
 use Rattle.wm_command.specs.declared.fault.CmdFault.{CmdFault}
 use Rattle.wm_words.proofs.Digits.{within_high, second_six}
-use Rattle.wm_words.proofs.Back.{name_is, name_short, plain_qname, plain_decimal, number_read, number_short, padded_short, plain_job, job_read, job_short, by_weekday, date_small, plain_day, day_read, second_small, plain_second, at_read}
+use Rattle.wm_words.proofs.Back.{name_short, plain_qname, plain_decimal, number_read, number_short, padded_short, plain_job, job_read, job_short, by_weekday, date_small, plain_day, day_read, second_small, plain_second, at_read}
 use Rattle.wm_words.proofs.Plain.{Plain, plain_word, plain_upper, plain_name}
 use Rattle.wm_command.proofs.ReadValues.{value_tokens, is_sound, word_only, quoted_only, not_special, is_own, own_special, word_read, quoted_read, object_read, program_read, compare_read, special_back}
 use Rattle.wm_base.specs.declared.refusal.Key.TheVariants as key

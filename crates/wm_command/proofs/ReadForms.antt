@@ -5,7 +5,7 @@ use Rattle.std.specs.Option.{option_map}
 use Rattle.std.proofs.lemmas.Bool.{false≢true}
 use Rattle.std.proofs.lemmas.Bool.Decides.{nat_tests}
 use Rattle.std.proofs.lemmas.Option.{cond_some}
-use Rattle.wm_base.specs.Name.{IsName}
+use Rattle.wm_base.specs.Name.{IsName, name_of}
 use Rattle.wm_base.specs.declared.qname.QName.{QName}
 use Rattle.wm_base.specs.declared.refusal.Key.{Key}
 use Rattle.wm_clwords.specs.declared.called.CallText.{CallText}
@@ -33,7 +33,7 @@ use Rattle.wm_command.specs.Call.{call_value, called_text}
 use Rattle.wm_command.specs.Printed.{IsQualified, FitsKind}
 use Rattle.wm_command.specs.Reading.{row_value}
 use Rattle.wm_command.specs.Values.{kind_value, special_word, is_never, is_special, item_value, text_value, or_bad, one_value, compared, one_compared, two_compared, text_from, start_of}
-use Rattle.wm_words.specs.Words.{name_of, job_of, flag_of, ending_of, date_of, number_of, time_of}
+use Rattle.wm_words.specs.Words.{job_of, flag_of, ending_of, date_of, number_of, time_of}
 use Rattle.wm_words.proofs.Forms.{none_some, some_same, name_is, number_is, job_is, date_is, time_is}
 use Rattle.wm_words.specs.Written.{text_of, is_word, is_bare}
 use Rattle.wm_clwords.proofs.CallMeaning.{library_by}

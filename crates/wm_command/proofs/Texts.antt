@@ -1,11 +1,10 @@
 -- Words, names and numbers are texts.
-use Rattle.std.proofs.Common.{append_assoc, refl}
+use Rattle.std.proofs.Common.{refl}
 use Rattle.wm_base.specs.Text.{IsText}
 use Rattle.wm_base.specs.Key.{key_word}
 use Rattle.wm_base.specs.declared.refusal.Key.{Key}
 use Rattle.wm_base.specs.declared.refusal.Key.TheVariants as key
-use Rattle.wm_base.proofs.Numbers.{padded_integral-zeros}
-use Rattle.wm_base.proofs.Texts.{IsText-decimal, IsText-zero_padded}
+use Rattle.wm_base.proofs.Texts.{IsText-decimal}
 use Rattle.wm_clwords.proofs.Names.{IsText-name}
 use Rattle.wm_command.specs.declared.row.Special.{Special}
 use Rattle.wm_command.specs.declared.row.Special.TheVariants as special
@@ -29,5 +28,3 @@ IsText-verb change.Crtcls = refl
 IsText-verb v = refl
 
 pub ruleset texts = (IsText-key, IsText-special, IsText-verb, IsText-decimal, IsText-name)
-
-pub ruleset padded = (padded_integral-zeros, IsText-zero_padded, append_assoc)

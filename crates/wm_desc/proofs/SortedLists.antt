@@ -2,7 +2,7 @@
 use Rattle.std.proofs.Common.{◌≡◌, ℕ, zero, suc, ◌+◌, ◌<◌, ◌≤◌, ◌-◌, Bool, true, false, List, [], ◌∷◌, length, get_or, Some, None, is_some, is_ok, Result, Ok, Err, MatchResult, inl, inr, refl, ap, sym, ◌∙◌, subst, arith}
 use Rattle.std.specs.declared.cmp.Ordering.{Ordering}
 use Rattle.std.specs.declared.cmp.Ordering.TheVariants.{Less, Equal, Greater}
-use Rattle.std.specs.Ordering.{is_lt, is_eq, ordering_reverse, ordering_index}
+use Rattle.std.specs.Ordering.{is_lt, is_eq, ordering_index}
 use Rattle.std.specs.Cmp.{IsTotalOrder}
 use Rattle.std.specs.List.{AllAdjacentBelow, IsAllAdjacentAnswer, insert, remove}
 use Rattle.std.specs.List.Sorted.{IsSearchInRange, IsBinarySearchResult, IsNonDecreasingBy}
@@ -11,17 +11,15 @@ use Rattle.std.proofs.lemmas.Bool.{cases_lt}
 use Rattle.std.proofs.lemmas.Cmp.{alike_right}
 use Rattle.std.proofs.lemmas.List.Edits.{length-insert, get_or-insert_below, get_or-insert_at, get_or-insert_above}
 use Rattle.std.proofs.lemmas.List.Sorted.{searchable_from_sorted}
+use Rattle.wm_base.proofs.Orderings.{turned-Less, turned-Greater}
 use Rattle.wm_desc.specs.Sorted.{IsSortedOnce, with_key, has_key, place_of, added, removed}
 use Rattle.wm_desc.specs.Place.{IsAt, IsGap}
 use Rattle.wm_desc.proofs.Places.{count_by-split, find-none, find-first, filter-none, filter-one, list_any-find}
 
 module _ {E K : Type 0} (key : E → K) (cmp : K → K → Ordering) (o : IsTotalOrder cmp) where
-  above : (a b : K) → cmp a b ≡ Less → cmp b a ≡ Greater
-  above a b h = o.antisymm b a ∙ ap ordering_reverse h
-
   -- as a binary search asks
   keys_rise : (xs : List E) (k : K) → IsSortedOnce key cmp xs → IsNonDecreasingBy (λ x. ordering_index (cmp (key x) k)) xs
-  keys_rise xs k sorted = searchable_from_sorted o key xs k (λ i d _ lt. ap is_lt (above _ _ (sorted i (i + 1) d (omega arith) lt)))
+  keys_rise xs k sorted = searchable_from_sorted o key xs k (λ i d _ lt. ap is_lt (turned-Less cmp o _ _ (sorted i (i + 1) d (omega arith) lt)))
 
   -- a binary search ends at the key or at the gap for it
   pub searched : (xs : List E) (k : K) (r : Result ℕ ℕ) → IsSortedOnce key cmp xs → IsSearchInRange r (length xs) → IsBinarySearchResult (λ x. cmp (key x) k) xs r → MatchResult r (IsAt key cmp k xs) (IsGap key cmp k xs)
@@ -29,7 +27,7 @@ module _ {E K : Type 0} (key : E → K) (cmp : K → K → Ordering) (o : IsTota
     in_range = in_range;
     before = λ j d _ lt. sym (alike_right o _ _ (key (get_or xs j d)) (found d)) ∙ sorted j i d lt in_range;
     here = found;
-    after = λ j d le lt. sym (alike_right o _ _ (key (get_or xs j d)) (found d)) ∙ above _ _ (sorted i j d (omega arith) lt);
+    after = λ j d le lt. sym (alike_right o _ _ (key (get_or xs j d)) (found d)) ∙ turned-Less cmp o _ _ (sorted i j d (omega arith) lt);
   }
   searched xs k (Err i) sorted in_range parted = let parts = parted (keys_rise xs k sorted) in record { in_range = in_range; before = parts.0; after = parts.1 }
 
@@ -80,9 +78,6 @@ module _ {E K : Type 0} (key : E → K) (cmp : K → K → Ordering) (o : IsTota
   pub added-gap : (x : E) (xs : List E) (i : ℕ) → IsGap key cmp (key x) xs i → added key cmp x xs ≡ insert xs i x
   added-gap x xs i h = ap (λ n. insert xs n x) (place_of-gap (key x) xs i h)
 
-  below : (a b : K) → cmp a b ≡ Greater → cmp b a ≡ Less
-  below a b h = o.antisymm b a ∙ ap ordering_reverse h
-
   -- an element in the gap for its key keeps the order: those before it are lesser, and those after it greater
   pub sorted-insert : (x : E) (xs : List E) (i : ℕ) → IsSortedOnce key cmp xs → IsGap key cmp (key x) xs i → IsSortedOnce key cmp (insert xs i x)
   sorted-insert x xs i sorted gap a b d lt in_range =
@@ -92,7 +87,7 @@ module _ {E K : Type 0} (key : E → K) (cmp : K → K → Ordering) (o : IsTota
       let here : (j : ℕ) → j ≡ i → get_or new j d ≡ x = λ j e. rw e (get_or-insert_at xs i x d gap.in_range) in
       let upper : (j : ℕ) → i < j → get_or new j d ≡ get_or xs (j - 1) d = λ j hi. subst (λ q. get_or new q d ≡ get_or xs (j - 1) d) {x = j - 1 + 1} (omega arith) (get_or-insert_above xs i x d (j - 1) (omega arith) gap.in_range) in
       let before : a < i → cmp (key (get_or xs a d)) (key x) ≡ Less = λ lo. gap.before a d (omega arith) lo in
-      let after : i < b → cmp (key x) (key (get_or xs (b - 1) d)) ≡ Less = λ hi. below _ _ (gap.after (b - 1) d (omega arith) (omega arith)) in
+      let after : i < b → cmp (key x) (key (get_or xs (b - 1) d)) ≡ Less = λ hi. turned-Greater cmp o _ _ (gap.after (b - 1) d (omega arith) (omega arith)) in
       grind (arith, lower a, here a, upper a, lower b, here b, upper b, before, after, sorted a b d, sorted a (b - 1) d, sorted (a - 1) (b - 1) d)
 
   is_lt-Less : (r : Ordering) → is_lt r ≡ true → r ≡ Less

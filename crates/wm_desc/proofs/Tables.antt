@@ -9,6 +9,8 @@ use Rattle.std.specs.Option.{option_map_or}
 use Rattle.std.proofs.lemmas.Bool.{cases_eq}
 use Rattle.std.proofs.lemmas.List.{get_or_default}
 use Rattle.std.proofs.lemmas.Cmp.{on_total, then_total, nat_list_cmp_total}
+use Rattle.std.proofs.lemmas.Bool.Decides.{Decides-and}
+use Rattle.std.proofs.lemmas.Slice.Eq.{bytes_eq-Decides}
 use Rattle.wm_base.specs.declared.qname.QName.{QName}
 use Rattle.wm_base.specs.declared.refusal.Refusal.{Refusal}
 use Rattle.wm_desc.specs.declared.description.Sbsd.{Sbsd}
@@ -24,6 +26,14 @@ qname_total = then_total (on_total (λ q. q.lib) nat_list_cmp_total) (on_total (
 
 pub qname_ties : (a b : QName) → same_qname a b ≡ is_eq (qname_cmp a b)
 qname_ties a b = both_tied _ _ _ _ (texts_ties a.lib b.lib) (texts_ties a.name b.name)
+
+-- two qualified names are one where the test says so
+pub one_name : (a b : QName) → same_qname a b ≡ true → a ≡ b
+one_name a b h =
+    let d = Decides-and _ _ (bytes_eq-Decides a.lib b.lib) (bytes_eq-Decides a.name b.name) in
+    let parts = d.0 h in
+    let first : a ≡ record b { name = a.name } = ap (λ (l : List ℕ). record a { lib = l }) parts.0 in
+    first ∙ ap (λ (n : List ℕ). record b { name = n }) parts.1
 
 module _ {V : Type 0} (name : QName) (objects : List (QName × V)) (i : ℕ) where
   differs : (object : QName × V) (r : Ordering) → is_eq r ≡ false → qname_cmp object.0 name ≡ r → same_qname object.0 name ≡ false

@@ -1,15 +1,14 @@
 -- A number's digits are read as that number.
-use Rattle.std.proofs.Common.{◌≡◌, ℕ, ◌+◌, ◌-◌, ◌*◌, ◌/◌, ◌%◌, ◌<◌, ◌≤◌, ◌^◌, true, cond, nat_lt, nat_le, [], ◌∷◌, fold, Some, None, ◌∙◌, ap, arith}
+use Rattle.std.proofs.Common.{◌≡◌, ℕ, ◌+◌, ◌-◌, ◌*◌, ◌/◌, ◌%◌, ◌<◌, ◌≤◌, ◌^◌, cond, nat_lt, nat_le, [], ◌∷◌, fold, Some, None, ◌∙◌, ap, arith}
 use Rattle.std.specs.Fmt.{decimal}
 use Rattle.std.proofs.lemmas.Bool.{and_from, lt-ltb, le-leb}
 use Rattle.std.proofs.lemmas.Bool.Decides.{nat_tests}
 use Rattle.std.proofs.lemmas.Fmt.{decimal_by_steps}
 use Rattle.std.proofs.lemmas.List.Sums.{fold-append}
-use Rattle.wm_job_rows.specs.Reading.{is_digit, push_digit, number_of, kept}
+use Rattle.wm_job_rows.specs.Reading.{push_digit, number_of, kept}
 use Rattle.wm_job_rows.proofs.Seams.{Lacks, Lacks-append}
-
-digit_of : (d : ℕ) → d < 10 → is_digit (48 + d) ≡ true
-digit_of d h = grind (arith, nat_tests)
+use Rattle.wm_base.specs.Number.{is_digit}
+use Rattle.wm_base.proofs.Numbers.{digit_of}
 
 push_step : (n d : ℕ) → d < 10 → n * 10 + d < 2 ^ 64 → push_digit (Some n) (48 + d) ≡ Some (n * 10 + d)
 push_step n d h g =

@@ -5,15 +5,15 @@ use Rattle.std.specs.List.{list_all}
 use Rattle.std.proofs.lemmas.Bool.{and_parts, and_from}
 use Rattle.std.proofs.lemmas.Bool.Decides.{nat_tests}
 use Rattle.wm_base.specs.declared.qname.QName.{QName}
-use Rattle.wm_base.specs.Name.{IsName, continues_name}
-use Rattle.wm_base.proofs.Names.{continues-name, qname_text-parts}
+use Rattle.wm_base.specs.Name.{IsName, continues_name, name_of}
+use Rattle.wm_base.proofs.Names.{continues-name, name_is, qname_text-parts}
 use Rattle.wm_law.specs.declared.job.JobKind.{JobKind}
 use Rattle.wm_law.specs.declared.job.JobKind.TheVariants.{Bch, Asj, Pj}
 use Rattle.wm_job_rows.specs.declared.line.Names.{Names}
 use Rattle.wm_job_rows.specs.declared.line.Queueing.{Queueing}
 use Rattle.wm_job_rows.specs.declared.stored.StoredJob.{StoredJob}
 use Rattle.wm_job_rows.specs.JobText.{field, kind_word, jobq_text, name_fields, queue_fields}
-use Rattle.wm_job_rows.specs.Reading.{is_other, before, behind, value, rest, behind_four, number_of, kept, name_of, same, qname_with, some_queue, jobq_of, kind_of, names_with, names_of, queueing_with, queueing_of}
+use Rattle.wm_job_rows.specs.Reading.{is_other, before, behind, value, rest, behind_four, number_of, kept, same, qname_with, some_queue, jobq_of, kind_of, names_with, names_of, queueing_with, queueing_of}
 use Rattle.wm_job_rows.specs.Stored.{IsStored, IsQueue}
 use Rattle.wm_job_rows.proofs.Digits.{number_back, kept_back, lacks_decimal}
 use Rattle.wm_job_rows.proofs.Seams.{Lacks, Lacks-append, before_first, behind_first, field_value, field_rest}
@@ -36,9 +36,6 @@ name_closed name h = all_other 41 lacks_begin name (continues-name name h)
 
 name_unslashed : (name : List ℕ) → IsName name → Lacks 47 name
 name_unslashed name h = all_other 47 lacks_slash name (continues-name name h)
-
-name_back : (name : List ℕ) → IsName name → name_of name ≡ Some name
-name_back name h = ap (λ c. cond c (Some name) None) h
 
 number_closed : (n : ℕ) → n < 2 ^ 64 → Lacks 41 (decimal n)
 number_closed n h = lacks_decimal 41 n (omega arith) h
@@ -111,7 +108,7 @@ names_back j more h =
     let four = fourth_value p k l m n (decimal j.serial) (decimal j.number) j.user j.name more refl refl refl refl refl a b c d in
     ap (λ t. names_of (p ++ t)) e
     ∙ (λ i. names_with (number_of (one i)) (kept 1 999999 (number_of (two i))) (name_of (three i)) (name_of (four i)))
-    ∙ (λ i. names_with (number_back j.serial h.serial i) (range_back 1 999999 j.number h.number_least h.number_most small i) (name_back j.user h.user i) (name_back j.name h.name i))
+    ∙ (λ i. names_with (number_back j.serial h.serial i) (range_back 1 999999 j.number h.number_least h.number_most small i) (name_is j.user h.user i) (name_is j.name h.name i))
 
 pub behind_names : (j : StoredJob) (more : List ℕ) → IsStored j → behind_four (codes "JOB" ++ (name_fields j ++ more)) ≡ more
 behind_names j more h =
@@ -155,7 +152,7 @@ jobq_back (Some q) h =
     ap jobq_of (qname_text-parts q)
     ∙ ap (λ c. cond c (Some None) (some_queue (qname_with (name_of (before 47 (q.lib ++ 47 ∷ q.name))) (name_of (behind 47 (q.lib ++ 47 ∷ q.name)))))) (no_star q.lib q.name h.0)
     ∙ (λ i. some_queue (qname_with (name_of (before_first 47 q.lib q.name u i)) (name_of (behind_first 47 q.lib q.name u i))))
-    ∙ (λ i. some_queue (qname_with (name_back q.lib h.0 i) (name_back q.name h.1 i)))
+    ∙ (λ i. some_queue (qname_with (name_is q.lib h.0 i) (name_is q.name h.1 i)))
 
 abbrev pub queueing : StoredJob → Queueing
 queueing j = record { kind = j.kind; jobq = j.jobq; pty = j.pty; place = j.place }

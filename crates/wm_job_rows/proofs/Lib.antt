@@ -5,4 +5,3 @@ pub mod PhaseBack
 pub mod Ranges
 pub mod ReadBack
 pub mod Seams
-pub mod Texts

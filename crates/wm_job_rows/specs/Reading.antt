@@ -5,7 +5,8 @@ use Rattle.wm_base.specs.declared.job.EndCause.{EndCause}
 use Rattle.wm_base.specs.declared.job.EndCause.TheVariants.{Exited, RouteFull}
 use Rattle.wm_base.specs.declared.qname.QName.{QName}
 use Rattle.wm_base.specs.EndCause.{end_cause_number}
-use Rattle.wm_base.specs.Name.{is_name}
+use Rattle.wm_base.specs.Name.{name_of}
+use Rattle.wm_base.specs.Number.{is_digit}
 use Rattle.wm_law.specs.declared.job.JobKind.{JobKind}
 use Rattle.wm_law.specs.declared.job.JobKind.TheVariants.{Bch, Asj, Pj}
 use Rattle.wm_job_rows.specs.declared.line.Names.{Names}
@@ -42,9 +43,6 @@ behind_four text = rest (rest (rest (rest text)))
 
 -- Numbers
 
-abbrev pub is_digit : ℕ → Bool
-is_digit byte = nat_le 48 byte && nat_le byte 57
-
 -- one digit more, where the number keeps 64 bits
 abbrev pub push_digit : Option ℕ → ℕ → Option ℕ
 push_digit None byte = None
@@ -63,9 +61,6 @@ kept low high None = None
 kept low high (Some n) = if within low high n then Some n else None
 
 -- Names and words
-
-abbrev pub name_of : List ℕ → Option (List ℕ)
-name_of text = if is_name text then Some text else None
 
 abbrev pub same : List ℕ → List ℕ → Bool
 same text word = pointwise nat_eq text word

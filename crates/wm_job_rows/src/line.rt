@@ -8,10 +8,10 @@ use crate::pieces::{behind, behind_four, rest, value, without};
 use crate::scan::{Quoted, quoted_of};
 use crate::stored::{StoredJob, StoredPhase};
 use crate::values::{
-    job_number_of, jobq_of, kind_of, moment_of, name_of, number_of, phase_of, priority_of, same,
+    job_number_of, jobq_of, kind_of, moment_of, number_of, phase_of, priority_of, same,
 };
 use std::alloc::Global;
-use wm_base::{JobNumber, Moment, Name, NoMemory, Priority, QName, Text};
+use wm_base::{JobNumber, Moment, Name, NoMemory, Priority, QName, Text, name_of};
 use wm_law::JobKind;
 
 /// How a job is named.

@@ -22,7 +22,7 @@ fn push_key(out: &mut Text, key: &[u8]) -> Result<(), NoMemory>
     Ok(())
 }
 
-#[tactic(auto, using(crate::proofs::Texts::texts))]
+#[tactic(auto, using(wm_clwords::proofs::Names::texts))]
 fn push_decimal(alloc: Global, out: &mut Text, n: u64) -> Result<(), NoMemory>
     ensures { OnOk result (out.new ≡ out.old ++ decimal n) }
 {
@@ -52,7 +52,7 @@ fn push_word(out: &mut Text, key: &[u8], word: &[u8]) -> Result<(), NoMemory>
     Ok(())
 }
 
-#[tactic(auto, using(crate::proofs::Texts::texts))]
+#[tactic(auto, using(wm_clwords::proofs::Names::texts))]
 fn push_name(out: &mut Text, key: &[u8], name: &Name) -> Result<(), NoMemory>
     requires { IsText key.now }
     ensures { OnOk result (out.new ≡ out.old ++ field key.now name.now) }

@@ -14,7 +14,7 @@ use wm_base::{NoMemory, Text};
 use wm_law::Job;
 use wm_traits::Row;
 
-#[tactic(auto, using(crate::proofs::Texts::padded))]
+#[tactic(auto, using(wm_base::proofs::Texts::padded))]
 fn key_of(alloc: Global, serial: u64) -> Result<Text, NoMemory>
     ensures { IfOk result (λ key. key ≡ zero_padded 20 serial) }
 {

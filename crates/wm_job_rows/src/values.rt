@@ -1,11 +1,11 @@
 // What values say.
 ghost use Rattle.std.specs.Prelude.{◌≡◌, IsTrue, IfSome, codes};
 ghost use Rattle.wm_job_rows.specs.Stored.{IsCause, IsPhase};
-ghost use Rattle.wm_job_rows.specs.Reading.{within, push_digit, number_of, kept, name_of, same, qname_with, some_queue, jobq_of, kind_of, exited, route_full, plain_cause, cause_by, cause_of, phase_by, ended_of, phase_of};
+ghost use Rattle.wm_job_rows.specs.Reading.{within, push_digit, number_of, kept, same, qname_with, some_queue, jobq_of, kind_of, exited, route_full, plain_cause, cause_by, cause_of, phase_by, ended_of, phase_of};
 
 use crate::pieces::{before, behind};
 use crate::stored::StoredPhase;
-use wm_base::{EndCause, JobNumber, Moment, Name, Priority, QName, StartCause};
+use wm_base::{EndCause, JobNumber, Moment, Name, Priority, QName, StartCause, name_of};
 use wm_law::JobKind;
 
 /// The causes that have no value.
@@ -76,15 +76,6 @@ pub fn moment_of(text: &[u8]) -> Option<Moment>
 {
     let n = kept(0, 253_402_214_399, number_of(text))?;
     Some(Moment::new(n))
-}
-
-pub fn name_of(text: &[u8]) -> Option<Name>
-    ensures { result ≡ name_of text.now }
-{
-    match Name::read(text) {
-        Ok(name) => Some(name),
-        Err(_) => None,
-    }
 }
 
 pub fn same(text: &[u8], word: &[u8]) -> bool

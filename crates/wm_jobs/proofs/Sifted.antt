@@ -1,5 +1,5 @@
 -- What is picked out of a list in the order of its keys, and what the change of one element makes of it.
-use Rattle.std.proofs.Common.{◌≡◌, ℕ, suc, ◌+◌, ◌<◌, ◌≤◌, Bool, true, false, not, cond, List, [], ◌∷◌, ◌++◌, length, drop, Option, Some, None, refl, ap, sym, ◌∙◌, subst, arith, nat_eq, inl, inr, All}
+use Rattle.std.proofs.Common.{◌≡◌, ℕ, ◌+◌, ◌<◌, ◌≤◌, Bool, true, false, not, cond, List, [], ◌∷◌, ◌++◌, length, drop, Option, Some, None, refl, ap, sym, ◌∙◌, subst, arith, nat_eq, inl, inr, All}
 use Rattle.std.specs.List.{filter, filter_map, cons_option, insert, count_by}
 use Rattle.std.specs.Ordering.{nat_cmp, is_lt}
 use Rattle.std.proofs.Math.Seq.{take-append_seam, drop-append_seam}
@@ -10,6 +10,7 @@ use Rattle.std.proofs.lemmas.List.Elements.{All-nil, All-cons, All-head, All-tai
 use Rattle.std.proofs.lemmas.List.Folds.{list_any_none}
 use Rattle.std.proofs.lemmas.List.Sums.{sum_by-cons, sum_by-append}
 use Rattle.wm_base.proofs.Tests.{eqb-lt}
+use Rattle.wm_base.proofs.Lists.{length-cons_option}
 use Rattle.wm_desc.specs.Sorted.{has_key, place_of, added, removed}
 
 pub differs : (a b : ℕ) → (a ≡ b → ⊥) → nat_eq a b ≡ false
@@ -81,14 +82,10 @@ module _ {E : Type 0} (key : E → ℕ) (s : ℕ) (a b : List E) (lower : All (�
       let gone : filter (λ x. not (nat_eq (key x) s)) (e ∷ b) ≡ filter (λ x. not (nat_eq (key x) s)) b = ap (λ t. cond (not t) (e ∷ filter (λ x. not (nat_eq (key x) s)) b) (filter (λ x. not (nat_eq (key x) s)) b)) (eq-eqb (key e) s same) in
       filter-append (λ x. not (nat_eq (key x) s)) a (e ∷ b) ∙ (ap (λ l. l ++ filter (λ x. not (nat_eq (key x) s)) (e ∷ b)) kept_lower ∙ (ap (λ l. a ++ l) gone ∙ ap (λ l. a ++ l) kept_higher))
 
-one-more : {E : Type 0} (o : Option E) (es : List E) (n : ℕ) → length es ≤ n → length (cons_option o es) ≤ suc n
-one-more None es n h = omega arith
-one-more (Some e) es n h = omega arith
-
 -- no more are picked than there are
 pub picked-few : {X E : Type 0} (pick : X → Option E) (xs : List X) → length (filter_map pick xs) ≤ length xs
 picked-few pick [] = omega arith
-picked-few pick (x ∷ xs) = one-more (pick x) (filter_map pick xs) (length xs) (picked-few pick xs)
+picked-few pick (x ∷ xs) = length-cons_option (pick x) (filter_map pick xs) (length xs) (picked-few pick xs)
 
 keys-cons : {E : Type 0} (P : E → Type 0) (o : Option E) (es : List E) → ((e : E) → o ≡ Some e → P e) → All P es → All P (cons_option o es)
 keys-cons P None es h all = all

@@ -1,5 +1,5 @@
 -- What was at the mark, and what calls leave of it.
-use Rattle.std.proofs.Common.{◌≡◌, ℕ, zero, suc, ◌+◌, ◌<◌, ◌≤◌, Bool, true, false, not, ◌==◌, ◌||◌, cond, List, [], ◌∷◌, ◌++◌, length, get_or, map, take, take_all, refl, ap, sym, ◌∙◌, subst, arith, nat_eq, inl, inr, All, eq-eqb}
+use Rattle.std.proofs.Common.{◌≡◌, ℕ, zero, suc, ◌+◌, ◌<◌, ◌≤◌, Bool, true, false, not, ◌==◌, cond, List, [], ◌∷◌, ◌++◌, length, get_or, map, take, take_all, refl, ap, sym, ◌∙◌, subst, arith, nat_eq, inl, inr, All, eq-eqb}
 use Rattle.std.specs.List.{filter, list_any}
 use Rattle.std.proofs.lemmas.Bool.{cases_Bool, eqb-true, not_from_true, or_right, or_left}
 use Rattle.std.proofs.lemmas.List.{length-append, length-take, length-map, take-map, take-append-le}
@@ -138,14 +138,6 @@ noted js ks ts us t f m cap cap' w w' room room' changes changes' h jobs touched
 pub marked-came : (js ks : List Job) (j : Job) (m ts cap w w' room room' changes : ℕ) → IsMarked m (length js) ts cap w room changes → ks ≡ js ++ j ∷ [] → w' + room' ≤ w + room → IsMarked m (length ks) ts cap w' room' changes
 marked-came js ks j m ts cap w w' room room' changes h jobs less =
     let n : length ks ≡ length js + 1 = ap length jobs ∙ length-append js (j ∷ []) in
-    let there = h.there in
-    let fits = h.to_touch in
-    record { there = omega arith; to_touch = omega arith }
-
--- the same jobs, with other room
-pub marked-roomier : (js ks : List Job) (m ts cap cap' w w' room changes : ℕ) → IsMarked m (length js) ts cap w room changes → ks ≡ js → cap ≤ cap' → w' ≡ w → IsMarked m (length ks) ts cap' w' room changes
-marked-roomier js ks m ts cap cap' w w' room changes h jobs more same =
-    let n : length ks ≡ length js = ap length jobs in
     let there = h.there in
     let fits = h.to_touch in
     record { there = omega arith; to_touch = omega arith }

@@ -35,9 +35,8 @@ use Rattle.wm_law.proofs.Distinct.{distinct_left, one_by_key}
 use Rattle.wm_law.proofs.Endings.{ending_starting, key_same, looking, starting_phase, telling_now, unstarted_wish, was_active, wishing_at}
 use Rattle.wm_law.proofs.Firsts.{holder_started, ready_waits}
 use Rattle.wm_law.proofs.Forward.{only_one}
-use Rattle.wm_law.proofs.Members.{left_in, of_mapped}
+use Rattle.wm_law.proofs.Members.{each_stays, left_in, of_mapped}
 use Rattle.wm_law.proofs.Moves.{call_keeps, comes_due}
-use Rattle.wm_law.proofs.Named.{one_name}
 use Rattle.wm_law.proofs.Nexts.{IsNext, is_next}
 use Rattle.wm_law.proofs.Numbers.{apply_keeps, clock_keeps, launches_keep, ready_keeps}
 use Rattle.wm_law.proofs.Opened.{opened, opening_is}
@@ -45,6 +44,7 @@ use Rattle.wm_law.proofs.Placed.{active_through}
 use Rattle.wm_law.proofs.Routed.{launched_routed, started_through}
 use Rattle.wm_law.proofs.Started.{calls, launched as names_launched}
 use Rattle.wm_law.proofs.Wished.{launched_wished, wished_calls}
+use Rattle.wm_desc.proofs.Tables.{one_name}
 
 -- whether a subsystem ends now
 abbrev now : Sbs → Bool
@@ -363,10 +363,6 @@ phase_stays clock Now e = refl
 -- and each subsystem whose moment hasn't come
 pub sbs_stays : (clock : ℕ) (b : Sbs) → has_come clock (sbs_moment b.phase) ≡ false → sbs_at clock b ≡ b
 sbs_stays clock b e = ap (λ (p : SbsPhase). record b { phase = p }) (phase_stays clock b.phase e)
-
-each_stays : {X : Type 0} (f : X → X) (xs : List X) → ((x : X) → IsIn x xs → f x ≡ x) → map f xs ≡ xs
-each_stays f [] h = refl
-each_stays f (x ∷ xs) h = cc (h x (inl refl), each_stays f xs (λ y i. h y (inr i)))
 
 pub nothing_due_stays : NothingDueStays
 nothing_due_stays s h =

@@ -421,11 +421,6 @@ module _ (change : Job → Job) (h : IsWishing change) where
   pub keys_same : {A : Type 0} (key : Job → A) → ((j : Job) (p : Phase) (w : Wish) → key (record j { phase = p; wish = w }) ≡ key j) → (jobs : List Job) → map key (map change jobs) ≡ map key jobs
   keys_same key free jobs = map_same key change (key_same key free) jobs
 
--- what holds of the old phase and of each end, holds of the new one
-pub by_phase : (P : Phase → Type 0) (p q : Phase) → IsPhaseAfter p q → P p → ((c : EndCause) → P (Ended c)) → P q
-by_phase P p q (inl e) h k = subst P (sym e) h
-by_phase P p q (inr e) h k = subst P (sym e.1.1) (k (why_cause e.1.0))
-
 -- what is Starting was so
 pub was_starting : (p q : Phase) → IsPhaseAfter p q → q ≡ Starting → p ≡ Starting
 was_starting p q (inl e) f = sym e ∙ f

@@ -13,8 +13,9 @@ use Rattle.wm_law.specs.Choice.{candidate, candidate_from, candidate_described, 
 use Rattle.wm_law.specs.Counts.{is_waiting}
 use Rattle.wm_law.specs.Laws.{IsIn, Turn, MayStart, IsFirst, IsOfLeast, IsNamed, FirstIsLeast, NoFirstIsNone, NextIsFirst, NoNextIsNone}
 use Rattle.wm_desc.specs.Table.{object_named, same_qname}
+use Rattle.wm_desc.proofs.Tables.{one_name}
 use Rattle.wm_law.proofs.Members.{found_among}
-use Rattle.wm_law.proofs.Named.{one_name, own_name}
+use Rattle.wm_law.proofs.Named.{own_name}
 use Rattle.wm_law.proofs.Ranks.{NotBehind, chain, from_best, least_of, none_of, not_before, not_earlier}
 
 abbrev pub rank_of : Job → Turn → Rank

@@ -23,10 +23,10 @@ module _ {E K : Type 0} (key : E → K) (cmp : K → K → Ordering) (o : IsTota
   abbrev IsSorted : List E → Type 0
   IsSorted xs = IsSortedOnce key cmp xs
 
-  behind : (x : E) (xs : List E) (k : ℕ) (d : E) → get_or (x ∷ xs) (k + 1) d ≡ get_or xs k d
+  pub behind : (x : E) (xs : List E) (k : ℕ) (d : E) → get_or (x ∷ xs) (k + 1) d ≡ get_or xs k d
   behind x xs k d = grind (arith, common_steps)
 
-  longer : (x : E) (xs : List E) → length (x ∷ xs) ≡ length xs + 1
+  pub longer : (x : E) (xs : List E) → length (x ∷ xs) ≡ length xs + 1
   longer x xs = grind (arith, common_steps)
 
   first_below : (x : E) (xs : List E) → IsSorted (x ∷ xs) → All (IsBelow x) xs
@@ -34,7 +34,7 @@ module _ {E K : Type 0} (key : E → K) (cmp : K → K → Ordering) (o : IsTota
       let more = longer x xs in
       subst (IsBelow x) (behind x xs k d) (s 0 (k + 1) d (omega arith) (omega arith))
 
-  rest_sorted : (x : E) (xs : List E) → IsSorted (x ∷ xs) → IsSorted xs
+  pub rest_sorted : (x : E) (xs : List E) → IsSorted (x ∷ xs) → IsSorted xs
   rest_sorted x xs s i j d less h =
       let more = longer x xs in
       let whole = s (i + 1) (j + 1) d (omega arith) (omega arith) in
@@ -50,7 +50,7 @@ module _ {E K : Type 0} (key : E → K) (cmp : K → K → Ordering) (o : IsTota
   abbrev one : K → E → ℕ
   one k e = cond (is_lt (cmp (key e) k)) 1 0
 
-  not_less : (a b : K) → cmp b a ≡ Less → is_lt (cmp a b) ≡ false
+  pub not_less : (a b : K) → cmp b a ≡ Less → is_lt (cmp a b) ≡ false
   not_less a b h = ap is_lt (o.antisymm a b) ∙ ap (λ (r : Ordering). is_lt (ordering_reverse r)) h
 
   other_way : (a b : K) → is_lt (cmp a b) ≡ false → is_eq (cmp a b) ≡ false → cmp b a ≡ Less

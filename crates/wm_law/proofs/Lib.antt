@@ -11,6 +11,7 @@ pub mod Objects
 pub mod Alterations
 pub mod Endings
 pub mod Moves
+pub mod Aside
 pub mod Refusals
 pub mod Answered
 pub mod Had

@@ -72,3 +72,13 @@ pub All-in : {X : Type 0} (P : X → Type 0) (xs : List X) (x : X) → All P xs 
 All-in P [] x all i = absurd i
 All-in P (y ∷ ys) x all (inl e) = subst P (sym e) (All-head P y ys all)
 All-in P (y ∷ ys) x all (inr i) = All-in P ys x (All-tail P y ys all) i
+
+-- a change that leaves each element as it is
+pub each_stays : {X : Type 0} (f : X → X) (xs : List X) → ((x : X) → IsIn x xs → f x ≡ x) → map f xs ≡ xs
+each_stays f [] h = refl
+each_stays f (x ∷ xs) h = cc (h x (inl refl), each_stays f xs (λ y i. h y (inr i)))
+
+-- two tests that say the same of each element leave the same
+pub left_same : {X : Type 0} (p q : X → Bool) (xs : List X) → ((x : X) → IsIn x xs → q x ≡ p x) → filter q xs ≡ filter p xs
+left_same p q [] h = refl
+left_same p q (x ∷ xs) h = cc (h x (inl refl), left_same p q xs (λ y i. h y (inr i)))

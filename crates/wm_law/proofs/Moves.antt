@@ -68,7 +68,7 @@ use Rattle.wm_law.specs.Changing.{change_due, change_found, has_queue, moved_to,
 use Rattle.wm_law.specs.Queues.{clear_queue, cleared_from, hold_queue, own_name, release_queue, waits_on}
 use Rattle.wm_law.specs.Jobs.{active_at, waiting_at, with_active}
 use Rattle.wm_law.specs.Wishes.{now_cause, with_wish}
-use Rattle.wm_law.specs.Built.{is_ending_call}
+use Rattle.wm_law.specs.Built.{is_configuring_call, is_ending_call}
 use Rattle.wm_law.specs.Choice.{is_held, is_sbs_active, next}
 use Rattle.wm_law.proofs.Alterations.{IsAlteration, IsHolding, IsPlain, altered, clearing_alters, due_alters, ending_alters, holding_alters, moving_alters, plain_changed, plain_cleared, plain_held, plain_job_ended, plain_job_ending, plain_power_down, plain_sbs_ending, plain_queue_held, plain_queue_released, plain_released}
 use Rattle.wm_law.proofs.Endings.{IsEnding, all_end, coming_due, job_ends, kill_ends, those_end, wished}
@@ -130,10 +130,10 @@ pub record HoldsAfterCalls (P : Stepped → Type 0) (s : State) (call : Call) : 
   pub starts : (q : QName) → IsStartable s q → P (start_unless s q None)
   pub enters : (user : List ℕ) (c : Sbmjob) (d : Jobd) (due : ℕ) → IsAcceptable s c d due → P (record { reply = Submitted (job_name s user c) (queue_of c d); state = entered s (submitted_job s user c d due) })
   pub alters : (reply : Reply) (change : Job → Job) (place : ℕ) → IsPlain reply → IsAlteration s change place → P (record { reply = reply; state = altered s change place })
-  pub holds : (reply : Reply) (held : List QName) → IsPlain reply → IsHolding s held → P (record { reply = reply; state = record s { held = held } })
+  pub holds : (reply : Reply) (held : List QName) → IsPlain reply → IsHolding s held → is_configuring_call call ≡ true → P (record { reply = reply; state = record s { held = held } })
   pub ends : (reply : Reply) (change : Job → Job) (started : List Sbs) (evokes : List Evoke) (power : Power) → IsPlain reply → IsEnding s change started power → is_ending_call call ≡ true → P (record { reply = reply; state = wished s change started evokes power })
   pub kills : (m : ℕ) (j : Job) → IsIn j s.jobs → is_to_kill m j ≡ true → P (record { reply = Order (Kill j.serial); state = with_active s j.serial with_kill })
-  pub makes : (o : Objects) → IsObjectChange s o → P (record { reply = Made; state = record s { objects = o } })
+  pub makes : (o : Objects) → IsObjectChange s o → is_configuring_call call ≡ true → P (record { reply = Made; state = record s { objects = o } })
 
 module _ (P : Stepped → Type 0) (s : State) (call : Call) (h : HoldsAfterCalls P s call) where
   either : (b : Bool) (t u : Stepped) → (b ≡ true → P t) → (b ≡ false → P u) → P (cond b t u)
@@ -172,16 +172,16 @@ module _ (P : Stepped → Type 0) (s : State) (call : Call) (h : HoldsAfterCalls
   changed_found c (Err x) = h.refuses x
   changed_found c (Ok j) = either (has_queue s c.jobq) _ _ (λ t. due_changed c j (rescheduled s j.due c.scddate c.scdtime) t) (λ t. h.refuses (NoObject kind.Jobq))
 
-  queue_held : (q : QName) → P (hold_queue s q)
-  queue_held q =
+  queue_held : (q : QName) → is_configuring_call call ≡ true → P (hold_queue s q)
+  queue_held q told =
       either (is_some (object_named q s.objects.jobqs)) _ _
-      (λ t. either (is_held s q) _ _ (λ u. h.refuses HeldAlready) (λ u. h.holds QueueHeld (added own_name qname_cmp q s.held) plain_queue_held (inl (record { queue = q; is_object = t; new = u; is_with = refl }))))
+      (λ t. either (is_held s q) _ _ (λ u. h.refuses HeldAlready) (λ u. h.holds QueueHeld (added own_name qname_cmp q s.held) plain_queue_held (inl (record { queue = q; is_object = t; new = u; is_with = refl })) told))
       (λ t. h.refuses (NoObject kind.Jobq))
 
-  queue_released : (q : QName) → P (release_queue s q)
-  queue_released q =
+  queue_released : (q : QName) → is_configuring_call call ≡ true → P (release_queue s q)
+  queue_released q told =
       either (is_some (object_named q s.objects.jobqs)) _ _
-      (λ t. either (is_held s q) _ _ (λ u. h.holds QueueReleased (removed own_name same_qname q s.held) plain_queue_released (inr (record { queue = q; is_without = refl }))) (λ u. h.refuses NotHeld))
+      (λ t. either (is_held s q) _ _ (λ u. h.holds QueueReleased (removed own_name same_qname q s.held) plain_queue_released (inr (record { queue = q; is_without = refl })) told) (λ u. h.refuses NotHeld))
       (λ t. h.refuses (NoObject kind.Jobq))
 
   queue_cleared : (q : QName) → P (clear_queue s q)
@@ -190,9 +190,9 @@ module _ (P : Stepped → Type 0) (s : State) (call : Call) (h : HoldsAfterCalls
       (λ t. h.alters (QueueCleared (count_by (waits_on q) s.jobs)) (cleared_from q) s.next_place (plain_cleared (count_by (waits_on q) s.jobs)) (clearing_alters s q))
       (λ t. h.refuses (NoObject kind.Jobq))
 
-  made : (objects : Objects) (o : Option Refusal) → (o ≡ None → IsObjectChange s objects) → P (made_unless s objects o)
-  made objects None e = h.makes objects (e refl)
-  made objects (Some x) e = h.refuses x
+  made : (objects : Objects) (o : Option Refusal) → is_configuring_call call ≡ true → (o ≡ None → IsObjectChange s objects) → P (made_unless s objects o)
+  made objects None told e = h.makes objects (e refl) told
+  made objects (Some x) told e = h.refuses x
 
   active_ended : (c : Endjob) (j : Job) → is_ending_call call ≡ true → IsIn j s.jobs → P (end_active s c j)
   active_ended c j told i =
@@ -298,17 +298,17 @@ finished_end end w c d k e =
     sym same ∙ ap (λ (o : Option EndCause). unwrap_or o (exit_cause end)) k
 
 changed : (P : Stepped → Type 0) (s : State) (user : List ℕ) (c : Command) → HoldsAfterCalls P s (Change user c) → P (change s user c)
-changed P s user (command.Crtcls c) h = made P s _ h _ _ (class_made s c)
-changed P s user (command.Crtjobq c) h = made P s _ h _ _ (queue_made s c)
-changed P s user (command.Crtpgmref c) h = made P s _ h _ _ (program_made s c)
-changed P s user (command.Crtjobd c) h = made P s _ h _ _ (job_description_made s c)
-changed P s user (command.Crtsbsd c) h = made P s _ h _ _ (description_made s c)
-changed P s user (command.Addjobqe c) h = made P s _ h _ _ (queue_added s c)
-changed P s user (command.Addrtge c) h = made P s _ h _ _ (route_added s c)
-changed P s user (command.Addaje c) h = made P s _ h _ _ (auto_added s c)
-changed P s user (command.Rmvjobqe c) h = made P s _ h _ _ (queue_removed s c)
-changed P s user (command.Rmvrtge c) h = made P s _ h _ _ (route_removed s c)
-changed P s user (command.Rmvaje c) h = made P s _ h _ _ (auto_removed s c)
+changed P s user (command.Crtcls c) h = made P s _ h _ _ refl (class_made s c)
+changed P s user (command.Crtjobq c) h = made P s _ h _ _ refl (queue_made s c)
+changed P s user (command.Crtpgmref c) h = made P s _ h _ _ refl (program_made s c)
+changed P s user (command.Crtjobd c) h = made P s _ h _ _ refl (job_description_made s c)
+changed P s user (command.Crtsbsd c) h = made P s _ h _ _ refl (description_made s c)
+changed P s user (command.Addjobqe c) h = made P s _ h _ _ refl (queue_added s c)
+changed P s user (command.Addrtge c) h = made P s _ h _ _ refl (route_added s c)
+changed P s user (command.Addaje c) h = made P s _ h _ _ refl (auto_added s c)
+changed P s user (command.Rmvjobqe c) h = made P s _ h _ _ refl (queue_removed s c)
+changed P s user (command.Rmvrtge c) h = made P s _ h _ _ refl (route_removed s c)
+changed P s user (command.Rmvaje c) h = made P s _ h _ _ refl (auto_removed s c)
 changed P s user (command.Strsbs c) h = start P s _ h c.sbsd (start_refusal s c.sbsd) refl
 changed P s user (command.Endsbs c) h = sbs_ended P s _ h c (started_named s c.sbs) refl
 changed P s user (command.Sbmjob c) h = either P s _ h (is_on s.power) _ _ (λ t. submitted_with P s _ h user c (object_named c.jobd s.objects.jobds)) (λ t. h.refuses PoweringDown)
@@ -316,8 +316,8 @@ changed P s user (command.Hldjob c) h = held_found P s _ h (waiting_named s c.jo
 changed P s user (command.Rlsjob c) h = released_found P s _ h (waiting_named s c.job)
 changed P s user (command.Chgjob c) h = changed_found P s _ h c (waiting_named s c.job)
 changed P s user (command.Endjob c) h = job_ended P s _ h c (job_named s c.job) refl refl
-changed P s user (command.Hldjobq c) h = queue_held P s _ h c.jobq
-changed P s user (command.Rlsjobq c) h = queue_released P s _ h c.jobq
+changed P s user (command.Hldjobq c) h = queue_held P s _ h c.jobq refl
+changed P s user (command.Rlsjobq c) h = queue_released P s _ h c.jobq refl
 changed P s user (command.Clrjobq c) h = queue_cleared P s _ h c.jobq
 changed P s user (command.Pwrdwnsys c) h =
     either P s _ h (is_down c.option s.power) _ _ (λ t. h.refuses PoweringDown)
@@ -411,10 +411,10 @@ of_states P s call h = record {
   starts = λ q e. made_all P q (h.autos q) (autos_of s q) (begun s q) (makeable s q e) (h.starts q e);
   enters = λ user c d due has. h.enters user c d due has;
   alters = λ reply change place p a. h.alters change place a;
-  holds = λ reply held p a. h.holds held a;
+  holds = λ reply held p a told. h.holds held a;
   ends = λ reply change started evokes power p e told. h.ends change started evokes power e;
   kills = λ m j i k. h.ends (active_at j.serial with_kill) s.started s.evokes s.power (kill_ends s j.serial);
-  makes = λ o c. h.makes o c;
+  makes = λ o c told. h.makes o c;
 }
 
 -- the same for the state alone

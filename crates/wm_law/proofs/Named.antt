@@ -11,14 +11,7 @@ use Rattle.wm_desc.specs.Objects.{with_object}
 use Rattle.wm_desc.specs.Table.{same_qname, name_of, qname_cmp, object_named, has_object, changed}
 use Rattle.wm_desc.specs.Sorted.{place_of}
 use Rattle.wm_desc.proofs.Places.{list_any-find}
-
--- two qualified names are one where the test says so
-pub one_name : (a b : QName) → same_qname a b ≡ true → a ≡ b
-one_name a b h =
-    let d = Decides-and _ _ (bytes_eq-Decides a.lib b.lib) (bytes_eq-Decides a.name b.name) in
-    let parts = d.0 h in
-    let first : a ≡ record b { name = a.name } = ap (λ (l : List ℕ). record a { lib = l }) parts.0 in
-    first ∙ ap (λ (n : List ℕ). record b { name = n }) parts.1
+use Rattle.wm_desc.proofs.Tables.{one_name}
 
 pub own_name : (a : QName) → same_qname a a ≡ true
 own_name a =

@@ -13,6 +13,7 @@ use Rattle.wm_desc.specs.declared.description.Sbsd.{Sbsd}
 use Rattle.wm_desc.specs.declared.entry.QueueEntry.{QueueEntry}
 use Rattle.wm_desc.specs.declared.entry.RouteEntry.{RouteEntry}
 use Rattle.wm_desc.specs.Table.{object_named, same_qname}
+use Rattle.wm_desc.proofs.Tables.{one_name}
 use Rattle.wm_law.specs.declared.choice.Candidate.{Candidate}
 use Rattle.wm_law.specs.declared.job.Job.{Job}
 use Rattle.wm_law.specs.declared.state.State.{State}
@@ -24,7 +25,6 @@ use Rattle.wm_law.specs.Laws.{IsFirst, MayStart, Turn}
 use Rattle.wm_law.proofs.Firsts.{next_is_first}
 use Rattle.wm_law.proofs.Forward.{only_one}
 use Rattle.wm_law.proofs.Members.{found_among}
-use Rattle.wm_law.proofs.Named.{one_name}
 
 -- the job that a candidate names: the first of the subsystem that the candidate names
 pub record IsNext (s : State) (c : Candidate) (j : Job) : Type 0 where

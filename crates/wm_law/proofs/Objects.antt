@@ -55,7 +55,7 @@ pub record IsObjectChange (s : State) (o : Objects) : Type 0 where
   pub sound : AreSound s.objects → AreSound o
 
 -- a name that isn't refused is new
-new_object : {V : Type 0} (k : Kind) (name : QName) (objects : List (QName × V)) → object_refusal k name objects ≡ None → has_object name objects ≡ false
+pub new_object : {V : Type 0} (k : Kind) (name : QName) (objects : List (QName × V)) → object_refusal k name objects ≡ None → has_object name objects ≡ false
 new_object k name objects e = test_fails ((has_object name objects, Exists k) ∷ (is_full 1000 objects, TableFull k 1000) ∷ []) 0 SbsActive e
 
 has_room : {V : Type 0} (k : Kind) (name : QName) (objects : List (QName × V)) → object_refusal k name objects ≡ None → is_full 1000 objects ≡ false

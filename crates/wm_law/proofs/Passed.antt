@@ -8,13 +8,13 @@ use Rattle.wm_base.specs.declared.job.How.{How}
 use Rattle.wm_base.specs.declared.limit.Limit.{Limit}
 use Rattle.wm_base.specs.declared.limit.Limit.TheVariants.{NoMax, Most}
 use Rattle.wm_base.specs.declared.qname.QName.{QName}
-use Rattle.wm_base.specs.Iterate.{IsKept}
 use Rattle.wm_base.specs.Limit.{is_below}
 use Rattle.wm_base.proofs.Tests.{all_three, of_four}
 use Rattle.wm_desc.specs.declared.description.Jobd.{Jobd}
 use Rattle.wm_desc.specs.declared.description.Sbsd.{Sbsd}
 use Rattle.wm_desc.specs.declared.entry.AutoEntry.{AutoEntry}
 use Rattle.wm_desc.specs.Table.{same_qname}
+use Rattle.wm_desc.proofs.Tables.{one_name}
 use Rattle.wm_law.specs.declared.choice.Candidate.{Candidate}
 use Rattle.wm_law.specs.declared.command.Sbmjob.{Sbmjob}
 use Rattle.wm_law.specs.declared.job.Job.{Job}
@@ -42,9 +42,7 @@ use Rattle.wm_law.proofs.Forward.{only_one}
 use Rattle.wm_law.proofs.InTurn.{launched_in, may_before, not_active, there_before}
 use Rattle.wm_law.proofs.Members.{of_last, of_mapped}
 use Rattle.wm_law.proofs.Moves.{HoldsOfStates}
-use Rattle.wm_law.proofs.Named.{one_name}
 use Rattle.wm_law.proofs.Nexts.{IsNext, is_next}
-use Rattle.wm_law.proofs.Numbers.{launches_keep}
 use Rattle.wm_law.proofs.Turns.{ahead_launched, behind_launched, by_turns, has_turn, is_turn, may_start_in, none_ahead, one_sbs}
 
 -- a count that has reached its limit has reached it where it is no less
@@ -210,11 +208,6 @@ launched_ordered s t c None f e n h = h
 launched_ordered s t c (Some j) f e n h =
     let x = is_next t c j e h.numbered f in
     record { numbered = n; behind = behind_still s t c j x h; passed = passed_still s t c j x h }
-
-launches_ordered : (s : State) → IsKept next (λ c t. launch t c) (IsOrderedSince s)
-launches_ordered s = record {
-  by_step = λ t c e h. launched_ordered s t c (find (λ (j : Job). j.serial == c.serial) t.jobs) refl e (launches_keep.by_step t c e h.numbered) h;
-}
 
 -- no job of the state was launched since the first
 abbrev pub LaunchesNone : State → State → Type 0

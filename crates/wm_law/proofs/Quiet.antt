@@ -6,6 +6,7 @@ use Rattle.wm_base.specs.declared.job.How.TheVariants.{Auto}
 use Rattle.wm_base.specs.declared.qname.QName.{QName}
 use Rattle.wm_desc.specs.declared.description.Jobd.{Jobd}
 use Rattle.wm_desc.specs.declared.entry.AutoEntry.{AutoEntry}
+use Rattle.wm_desc.proofs.Tables.{one_name}
 use Rattle.wm_law.specs.declared.call.Call.{Call}
 use Rattle.wm_law.specs.declared.job.Job.{Job}
 use Rattle.wm_law.specs.declared.job.Phase.{Phase}
@@ -34,7 +35,6 @@ use Rattle.wm_law.proofs.Due.{due_same, not_both, of_any}
 use Rattle.wm_law.proofs.Forward.{only_one}
 use Rattle.wm_law.proofs.Members.{of_last, of_mapped}
 use Rattle.wm_law.proofs.Moves.{HoldsAfterCalls, IsMakeable, IsOnward, call_comes, made_all, makeable, moved_on, starting_rank}
-use Rattle.wm_law.proofs.Named.{one_name}
 use Rattle.wm_law.proofs.Passed.{any_in}
 use Rattle.wm_law.proofs.Placed.{active_as, active_before}
 use Rattle.wm_law.proofs.Routed.{by_route}
@@ -175,10 +175,10 @@ quiet_calls s call n names h quiet = record {
       (made_all IsQuietly q (auto_quiet q) (autos_of s q) (begun s q) (makeable s q e) (record { names = begins.starts q e; none = begun_due s q h })).none);
   enters = λ user c d due a. record { subsystems = h.subsystems; jobs = last_up s.clock s.started s.jobs (submitted_job s user c d due) (λ x. absurd (cc)) h.jobs };
   alters = λ reply change place p a. altered_due s change place a h;
-  holds = λ reply held p a. record { subsystems = h.subsystems; jobs = h.jobs };
+  holds = λ reply held p a told. record { subsystems = h.subsystems; jobs = h.jobs };
   ends = λ reply change started evokes power p e told. absurd (cc);
   kills = λ m j i k. kill_due s j.serial h;
-  makes = λ o c. record { subsystems = h.subsystems; jobs = h.jobs };
+  makes = λ o c told. record { subsystems = h.subsystems; jobs = h.jobs };
 }
 
 pub calls_leave_none_due : CallsLeaveNoneDue

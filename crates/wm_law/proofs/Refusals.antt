@@ -24,10 +24,10 @@ leaves s call = record {
   starts = λ q k x e. absurd (cc);
   enters = λ user c d due has x e. absurd (cc);
   alters = λ reply change place p a x e. absurd (p.refuses_none x e);
-  holds = λ reply held p a x e. absurd (p.refuses_none x e);
+  holds = λ reply held p a told x e. absurd (p.refuses_none x e);
   ends = λ reply change started evokes power p a told x e. absurd (p.refuses_none x e);
   kills = λ m j i k x e. absurd (cc);
-  makes = λ o c x e. absurd (cc);
+  makes = λ o c told x e. absurd (cc);
 }
 
 pub refusal_leaves : RefusalLeaves

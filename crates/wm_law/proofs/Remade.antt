@@ -10,6 +10,7 @@ use Rattle.wm_desc.specs.declared.description.Sbsd.{Sbsd}
 use Rattle.wm_desc.specs.declared.entry.RouteEntry.{RouteEntry}
 use Rattle.wm_desc.specs.declared.objects.Objects.{Objects}
 use Rattle.wm_desc.specs.Table.{object_named}
+use Rattle.wm_desc.proofs.Tables.{one_name}
 use Rattle.wm_law.specs.declared.job.Job.{Job}
 use Rattle.wm_law.specs.declared.state.Sbs.{Sbs}
 use Rattle.wm_law.specs.declared.state.State.{State}
@@ -17,7 +18,6 @@ use Rattle.wm_law.specs.Counts.{is_in_sbs}
 use Rattle.wm_law.specs.Kept.{IsLodged}
 use Rattle.wm_law.specs.Launch.{called_args, called_program, entry_numbered, order_by, order_called, order_of, order_through, order_with, route_entry}
 use Rattle.wm_law.specs.Laws.{IsIn}
-use Rattle.wm_law.proofs.Named.{one_name}
 use Rattle.wm_law.proofs.Objects.{IsObjectChange}
 
 same_order : (j : Job) (args : List (List ℕ)) (p q : Option Program) (c d : Option Class) → IsSome (order_with j args p c) → (IsSome p → q ≡ p) → (IsSome c → d ≡ c) → order_with j args q d ≡ order_with j args p c

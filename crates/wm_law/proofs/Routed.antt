@@ -13,6 +13,7 @@ use Rattle.wm_desc.specs.declared.description.Program.{Program}
 use Rattle.wm_desc.specs.declared.description.Sbsd.{Sbsd}
 use Rattle.wm_desc.specs.declared.entry.RouteEntry.{RouteEntry}
 use Rattle.wm_desc.specs.Table.{object_named, same_qname}
+use Rattle.wm_desc.proofs.Tables.{one_name}
 use Rattle.wm_law.specs.declared.choice.Candidate.{Candidate}
 use Rattle.wm_law.specs.declared.job.Job.{Job}
 use Rattle.wm_law.specs.declared.job.Phase.TheVariants.{Starting, Ended}
@@ -22,7 +23,6 @@ use Rattle.wm_law.specs.Counts.{count_by_route, is_by_route}
 use Rattle.wm_law.specs.Kept.{IsRouted}
 use Rattle.wm_law.specs.Launch.{called_program, entry_numbered, from_queue, is_match, launched, launched_as, launched_by, launched_through, missing_program, program_fault, route, route_fault}
 use Rattle.wm_law.proofs.Members.{found_among}
-use Rattle.wm_law.proofs.Named.{one_name}
 use Rattle.wm_law.proofs.Nexts.{IsNext, own_queue}
 use Rattle.wm_law.proofs.Routes.{numbered_once}
 

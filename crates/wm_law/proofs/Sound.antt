@@ -1,5 +1,5 @@
 -- Each state that a history reaches from a sound one is sound; no start on the way passes a limit, and the jobs are launched in their order.
-use Rattle.std.proofs.Common.{◌≡◌, ℤ, Bool, true, false, List, [], ◌∷◌, refl, sym, ap, subst, ◌∙◌}
+use Rattle.std.proofs.Common.{◌≡◌, ℕ, ℤ, Bool, true, false, List, [], ◌∷◌, refl, sym, ap, subst, ◌∙◌}
 use Rattle.wm_law.specs.declared.call.Entry.{Entry}
 use Rattle.wm_law.specs.declared.job.JobKind.{JobKind}
 use Rattle.wm_law.specs.declared.job.JobKind.TheVariants.{Bch, Asj}
@@ -7,13 +7,14 @@ use Rattle.wm_law.specs.declared.state.State.{State}
 use Rattle.wm_law.specs.Counts.{is_waiting}
 use Rattle.wm_law.specs.History.{after, stepped}
 use Rattle.wm_law.specs.Limits.{is_autostart}
+use Rattle.wm_law.specs.Machine.{with_clock}
 use Rattle.wm_law.specs.Opening.{opening}
 use Rattle.wm_law.specs.Sound.{AutostartJobsNeverWait, HasJobsInOrder, HasPlaces, IsSound, LimitsAreKept, NoneIsDue, OpeningIsSound, OrderIsKept, StatesAreSound, StepKeepsLimits, StepKeepsOrder, StepKeepsSound, StepLeavesNoneDue}
 use Rattle.wm_law.proofs.Due.{leaves_none_due}
 use Rattle.wm_law.proofs.Fitting.{order_kept, step_order}
 use Rattle.wm_law.proofs.Limits.{limits_kept, step_limits}
-use Rattle.wm_law.proofs.Numbers.{opening_is_numbered, step_keeps_numbers}
-use Rattle.wm_law.proofs.Orders.{opening_has_orders, step_keeps_orders}
+use Rattle.wm_law.proofs.Numbers.{clock_keeps, opening_is_numbered, step_keeps_numbers}
+use Rattle.wm_law.proofs.Orders.{clock_keeps_orders, opening_has_orders, step_keeps_orders}
 use Rattle.wm_law.proofs.Opened.{opened, opening_is}
 use Rattle.wm_law.proofs.Placed.{step_keeps_places}
 use Rattle.wm_law.proofs.Queued.{opening_has_queues, opening_holds_queues, step_keeps_held, step_keeps_queues}
@@ -47,6 +48,24 @@ opening_is_sound offset = record {
   within_started = opening_is_within_started offset;
   wishes = opening_has_wishes offset;
   moments = opening_has_moments offset;
+}
+
+-- the clock has no part in what is sound
+pub clock_sound : (s : State) (moment : ℕ) → IsSound s → IsSound (with_clock s moment)
+clock_sound s moment h = record {
+  numbered = clock_keeps s moment h.numbered;
+  jobs = h.jobs;
+  places = h.places;
+  orders = clock_keeps_orders s moment h.orders;
+  names = h.names;
+  descriptions = h.descriptions;
+  quiet = h.quiet;
+  objects = h.objects;
+  queues = h.queues;
+  held = h.held;
+  within_started = h.within_started;
+  wishes = h.wishes;
+  moments = h.moments;
 }
 
 pub step_keeps_sound : StepKeepsSound

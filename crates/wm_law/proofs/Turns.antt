@@ -11,6 +11,7 @@ use Rattle.wm_base.proofs.Tests.{Some-injective}
 use Rattle.wm_desc.specs.declared.description.Sbsd.{Sbsd}
 use Rattle.wm_desc.specs.declared.entry.QueueEntry.{QueueEntry}
 use Rattle.wm_desc.specs.Table.{object_named, same_qname}
+use Rattle.wm_desc.proofs.Tables.{one_name}
 use Rattle.wm_law.specs.declared.job.Job.{Job}
 use Rattle.wm_law.specs.declared.launch.Launched.{Launched}
 use Rattle.wm_law.specs.declared.state.Sbs.{Sbs}
@@ -20,7 +21,6 @@ use Rattle.wm_law.specs.Launch.{as_launched}
 use Rattle.wm_law.specs.Laws.{IsBefore, IsFirst, IsIn, MayStart, Turn}
 use Rattle.wm_law.specs.Order.{before_by, is_before, stands_before, turn_described, turn_from, turn_held, turn_of, turn_queued}
 use Rattle.wm_law.proofs.Members.{found_among}
-use Rattle.wm_law.proofs.Named.{one_name}
 
 -- a job that may start has its turn
 pub has_turn : (s : State) (j : Job) (t : Turn) → MayStart s j t → turn_of s j ≡ Some t

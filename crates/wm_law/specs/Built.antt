@@ -1,4 +1,4 @@
--- Which commands of users are built, and which of them tell jobs or subsystems to end.
+-- Which commands of users are built, which of them tell jobs or subsystems to end, and which change objects or held queues.
 use Rattle.std.specs.Prelude.{Bool, true, false}
 use Rattle.wm_law.specs.declared.call.Call.{Call}
 use Rattle.wm_law.specs.declared.call.Call.TheVariants.{Change, Hand, Started, StartFailed, Finished, UseDone, Tick}
@@ -71,3 +71,25 @@ is_ending_call (StartFailed serial why) = false
 is_ending_call (Finished serial end) = false
 is_ending_call (UseDone serial) = false
 is_ending_call Tick = false
+
+-- the command makes an object, makes or removes an entry, or holds or releases a queue
+abbrev pub configures : Command → Bool
+configures (command.Crtcls c) = true
+configures (command.Crtjobq c) = true
+configures (command.Crtpgmref c) = true
+configures (command.Crtjobd c) = true
+configures (command.Crtsbsd c) = true
+configures (command.Addjobqe c) = true
+configures (command.Addrtge c) = true
+configures (command.Addaje c) = true
+configures (command.Rmvjobqe c) = true
+configures (command.Rmvrtge c) = true
+configures (command.Rmvaje c) = true
+configures (command.Hldjobq c) = true
+configures (command.Rlsjobq c) = true
+configures c = false
+
+-- a call of such a command
+abbrev pub is_configuring_call : Call → Bool
+is_configuring_call (Change user c) = configures c
+is_configuring_call call = false

@@ -9,8 +9,8 @@ use Rattle.wm_desc.specs.Objects.{with_object}
 use Rattle.wm_desc.specs.Sorted.{IsSortedOnce, place_of, removed}
 use Rattle.wm_desc.specs.Table.{changed, has_object, name_of, object_named, qname_cmp, same_qname, StandsAt}
 use Rattle.wm_desc.specs.Place.{IsAt, IsGap}
-use Rattle.wm_desc.proofs.Tables.{qname_ties, qname_total, stands_at, unnamed}
-use Rattle.wm_law.proofs.Named.{one_name, own_name}
+use Rattle.wm_desc.proofs.Tables.{one_name, qname_ties, qname_total, stands_at, unnamed}
+use Rattle.wm_law.proofs.Named.{own_name}
 
 -- an element that fails the test changes nothing of what passes it
 passed_over : {X : Type 0} (p : X → Bool) (x : X) (xs : List X) (i : ℕ) → p x ≡ false → filter p (insert xs i x) ≡ filter p xs

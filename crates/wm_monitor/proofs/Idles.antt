@@ -1,5 +1,5 @@
 -- Laws of entries that aren't idle.
-use Rattle.std.proofs.Common.{◌≡◌, ℕ, true, List, [], ◌∷◌, ◌++◌, Some, sym, ap, subst, ◌∙◌, arith}
+use Rattle.std.proofs.Common.{◌≡◌, ℕ, true, List, [], ◌∷◌, ◌++◌, Some, sym, ap, subst, ◌∙◌}
 use Rattle.std.specs.Ordering.{is_le, nat_cmp}
 use Rattle.std.proofs.lemmas.Map.Keys.{le_from_is_le}
 use Rattle.wm_law.specs.declared.call.Entry.{Entry}

@@ -1,5 +1,5 @@
 -- What a monitor does between two moments: it asks what it was ordered, and reports what it was told.
-use Rattle.std.specs.Prelude.{◌≡◌, ℕ, ◌+◌, ◌-◌, ◌^◌, ◌<◌, ◌≤◌, ◌==◌, ◌&&◌, ⊤, Bool, true, false, min, List, [], ◌∷◌, ◌++◌, map, Option, Some, None, IfSome, option_map, option_to_list, Result, Ok, Err, count_by}
+use Rattle.std.specs.Prelude.{◌≡◌, ℕ, ◌+◌, ◌-◌, ◌^◌, ◌<◌, ◌≤◌, ◌==◌, ◌&&◌, Bool, true, false, min, List, [], ◌∷◌, ◌++◌, map, Option, None, IfSome, option_map, option_to_list, Result, Ok, Err, count_by}
 use Rattle.std.specs.List.{list_all}
 use Rattle.wm_base.specs.declared.job.Asked.{Asked}
 use Rattle.wm_base.specs.declared.job.Event.{Event}

@@ -1,7 +1,7 @@
 -- Of which jobs rows are the names when a job joins them, ends, joins them again or is forgotten.
-use Rattle.std.proofs.Common.{◌≡◌, ℕ, ◌+◌, ◌^◌, ◌<◌, Bool, true, false, cond, not, ◌&&◌, List, [], ◌∷◌, ◌++◌, length, filter, count_by, nat_eq, ap, sym, ◌∙◌, subst, arith}
-use Rattle.std.specs.Cmp.Lexicographic.{pointwise, nat_list_eq_equiv}
+use Rattle.std.proofs.Common.{◌≡◌, ℕ, ◌+◌, ◌^◌, ◌<◌, Bool, true, false, cond, not, ◌&&◌, List, [], ◌∷◌, ◌++◌, length, filter, count_by, ap, sym, ◌∙◌, subst, arith}
 use Rattle.wm_base.specs.declared.job.JobName.{JobName}
+use Rattle.wm_base.proofs.Tests.{bytes-itself}
 use Rattle.wm_law.specs.declared.command.JobRef.{JobRef}
 use Rattle.wm_law.specs.declared.command.JobRef.TheVariants.{Simple, ByUser, Full}
 use Rattle.wm_law.specs.declared.job.Job.{Job}
@@ -42,16 +42,13 @@ module _ (names : Names) (jobs : List Job) (are : IsNames jobs names) where
 
 -- a job that hasn't ended is named by its own names
 module _ (j : Job) (lasts : is_ended j.phase ≡ false) where
-  same : (name : List ℕ) → pointwise nat_eq name name ≡ true
-  same name = nat_list_eq_equiv.refl name
-
   simple-named : is_named (Simple j.job.name) j ≡ true
-  simple-named = ap (λ (b : Bool). not b && has_name j.job.name j.job) lasts ∙ same j.job.name
+  simple-named = ap (λ (b : Bool). not b && has_name j.job.name j.job) lasts ∙ bytes-itself j.job.name
 
   by_user-named : is_named (ByUser j.job.user j.job.name) j ≡ true
   by_user-named =
       ap (λ (b : Bool). not b && has_user_name j.job.user j.job.name j.job) lasts
-      ∙ (ap (λ (b : Bool). b && has_name j.job.name j.job) (same j.job.user) ∙ same j.job.name)
+      ∙ (ap (λ (b : Bool). b && has_name j.job.name j.job) (bytes-itself j.job.user) ∙ bytes-itself j.job.name)
 
   module _ (names : Names) (before behind : List Job) (are : IsNames (before ++ j ∷ behind) names) where
     named : (r : JobRef) → is_named r j ≡ true → IsAmong j.serial (namesakes_of r names.rows)

@@ -1,5 +1,5 @@
 -- What the row of a key is after an edit of the row of another key, or of its own.
-use Rattle.std.proofs.Common.{◌≡◌, ℕ, ◌+◌, ◌-◌, ◌%◌, ◌^◌, ◌<◌, ◌≤◌, Bool, true, false, cond, List, [], ◌∷◌, Option, Some, None, is_some, unwrap_or, nat_lt, refl, ap, sym, ◌∙◌, arith}
+use Rattle.std.proofs.Common.{◌≡◌, ℕ, ◌+◌, ◌-◌, ◌%◌, ◌^◌, ◌<◌, ◌≤◌, Bool, true, false, cond, List, [], ◌∷◌, Option, Some, unwrap_or, nat_lt, refl, ap, sym, ◌∙◌, arith}
 use Rattle.std.proofs.Math.Nat.{mod_self}
 use Rattle.std.specs.Cmp.{IsEquivalence}
 use Rattle.std.specs.Map.{lookup}
@@ -38,11 +38,6 @@ some-count n m some is = ap-count (cc is)
   where
     ap-count : n ≡ m → 1 ≤ m.count
     ap-count e = omega (arith, ap (λ (x : Namesakes). x.count) e, some)
-
--- where a key has a job, it has a row
-pub there-value : (o : Option Namesakes) → 1 ≤ (unwrap_or o nobody).count → is_some o ≡ true
-there-value None some = absurd (omega (arith, some))
-there-value (Some x) some = refl
 
 -- where a job is among those of a row, and there aren't several, none is left without it
 pub last : (serial : ℕ) (row : Namesakes) → serial < 2 ^ 64 → IsAmong serial row → nat_lt 1 row.count ≡ false → nobody ≡ parted true serial row

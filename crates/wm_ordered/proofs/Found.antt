@@ -4,10 +4,10 @@ use Rattle.std.specs.declared.cmp.Ordering.{Ordering}
 use Rattle.std.specs.declared.cmp.Ordering.TheVariants.{Less, Equal, Greater}
 use Rattle.std.specs.Cmp.{IsTotalOrder}
 use Rattle.std.specs.Option.{option_or}
-use Rattle.std.specs.Ordering.{is_lt, is_eq, is_gt, ordering_reverse}
+use Rattle.std.specs.Ordering.{is_lt, is_eq, is_gt}
 use Rattle.std.proofs.lemmas.Bool.{false≢true}
 use Rattle.std.proofs.lemmas.Cmp.{alike_right}
-use Rattle.wm_base.proofs.Orderings.{is_lt-Less}
+use Rattle.wm_base.proofs.Orderings.{is_lt-Less, turned-Less, turned-Greater}
 use Rattle.wm_desc.specs.Sorted.{IsSortedOnce, removed}
 use Rattle.wm_ordered.specs.Ordered.{key_of, value_at, with_value, first_from, first_above}
 use Rattle.wm_ordered.proofs.Sides.{Sides, sides}
@@ -15,13 +15,6 @@ use Rattle.wm_ordered.proofs.Tested.{find-right, find-left, find-here, find-left
 
 Less-not_gt : (c : Ordering) → c ≡ Less → is_gt c ≡ false
 Less-not_gt c h = ap is_gt h
-
-module _ {K : Type 0} (cmp : K → K → Ordering) (o : IsTotalOrder cmp) where
-  greater : (a b : K) → cmp a b ≡ Less → cmp b a ≡ Greater
-  greater a b h = o.antisymm b a ∙ ap ordering_reverse h
-
-  lesser : (a b : K) → cmp a b ≡ Greater → cmp b a ≡ Less
-  lesser a b h = o.antisymm b a ∙ ap ordering_reverse h
 
 -- pairs d are those of a node: l is what lies left of e, and r what lies right of it
 module _ {K V : Type 0} (cmp : K → K → Ordering) (o : IsTotalOrder cmp) (k : K) (d l : List (K × V)) (e : K × V) (r : List (K × V)) (is : d ≡ l ++ e ∷ r) (sorted : IsSortedOnce key_of cmp d) where
@@ -42,10 +35,10 @@ module _ {K V : Type 0} (cmp : K → K → Ordering) (o : IsTotalOrder cmp) (k :
   left_of_equal h j d lt = sym (alike_right o _ _ _ h) ∙ parts.below j d lt
 
   pub right_of_equal : cmp e.0 k ≡ Equal → All (λ x. cmp x.0 k ≡ Greater) r
-  right_of_equal h j d lt = greater cmp o _ _ (sym (o.congr _ _ _ h) ∙ parts.above j d lt)
+  right_of_equal h j d lt = turned-Less cmp o _ _ (sym (o.congr _ _ _ h) ∙ parts.above j d lt)
 
   pub right_of_greater : cmp e.0 k ≡ Greater → All (λ x. cmp x.0 k ≡ Greater) r
-  right_of_greater h j d lt = greater cmp o _ _ (o.trans _ _ _ (lesser cmp o _ _ h) (parts.above j d lt))
+  right_of_greater h j d lt = turned-Less cmp o _ _ (o.trans _ _ _ (turned-Greater cmp o _ _ h) (parts.above j d lt))
 
   module _ (eq : K → K → Bool) (ties : (a b : K) → eq a b ≡ is_eq (cmp a b)) where
     as_tested : (c : Ordering) → cmp e.0 k ≡ c → eq e.0 k ≡ is_eq c

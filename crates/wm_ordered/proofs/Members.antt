@@ -5,6 +5,7 @@ use mathlib.Core.Bool.{false≢true}
 use Rattle.std.proofs.lemmas.Bool.{or_parts}
 use Rattle.std.proofs.lemmas.List.{take-append-drop}
 use Rattle.std.proofs.lemmas.List.Elements.{Contains-append_left, Contains-append_right, Contains-append_cases}
+use Rattle.wm_base.proofs.Lists.{length-filter_few}
 
 module _ {X : Type 0} where
   pub Contains-head : (x : X) (xs : List X) → Contains (x ∷ xs) x
@@ -74,14 +75,6 @@ module _ {X : Type 0} where
           | inr later ↦ (let rest = Contains-from_filter xs y later in (Contains-cons x y xs rest.0, rest.1))
         ]
 
-    no_longer : (b : Bool) (x : X) (l xs : List X) → length l ≤ length xs → length (cond b (x ∷ l) l) ≤ length (x ∷ xs)
-    no_longer true x l xs le = omega arith
-    no_longer false x l xs le = omega arith
-
-    filter-le : (xs : List X) → length (filter p xs) ≤ length xs
-    filter-le [] = omega arith
-    filter-le (x ∷ xs) = no_longer (p x) x (filter p xs) xs (filter-le xs)
-
     shorter : (b : Bool) (x : X) (l xs : List X) → length l < length xs → length (cond b (x ∷ l) l) < length (x ∷ xs)
     shorter true x l xs lt = omega arith
     shorter false x l xs lt = omega arith
@@ -95,7 +88,7 @@ module _ {X : Type 0} where
     filter-less [] y there fails = absurd (Contains-nil y there)
     filter-less (x ∷ xs) y there fails =
         elim (Contains-cases x y xs there) [
-          | inl same ↦ dropped (p x) x (filter p xs) xs (ap p same ∙ fails) (filter-le xs)
+          | inl same ↦ dropped (p x) x (filter p xs) xs (ap p same ∙ fails) (length-filter_few p xs)
           | inr later ↦ shorter (p x) x (filter p xs) xs (filter-less xs y later fails)
         ]
 

@@ -115,23 +115,6 @@ module _ {K V : Type 0} where
     pub no-places : slice_get nodes at ≡ None → (i : ℕ) → places i ≡ 0
     no-places none i = sym (s.stood i) ∙ ap (λ (t : Tree K V). times i t) (empty-at none s.tree s.begins s.lies)
 
-    -- where there are no pairs, there are no places
-    void-at : (t : Tree K V) → length (pairs_of t) ≤ 0 → t ≡ Leaf
-    void-at Leaf none = refl
-    void-at (Fork i pair left right) none = absurd (omega (arith, length-append (pairs_of left) (pair ∷ pairs_of right)))
-
-    void : length pairs ≤ 0 → s.tree ≡ Leaf
-    void none = void-at s.tree (omega (arith, ap length s.read))
-
-    pub void-pairs : length pairs ≤ 0 → pairs ≡ []
-    void-pairs none = sym s.read ∙ ap (λ (t : Tree K V). pairs_of t) (void none)
-
-    pub void-places : length pairs ≤ 0 → (i : ℕ) → places i ≡ 0
-    void-places none i = sym (s.stood i) ∙ ap (λ (t : Tree K V). times i t) (void none)
-
-    pub void-root : length pairs ≤ 0 → at ≡ nowhere
-    void-root none = s.begins ∙ ap (λ (t : Tree K V). root_of t) (void none)
-
     -- what is read of a node, and so many levels below it
     abbrev read-by : ℕ → Option (Node K V) → List (K × V)
     read-by levels None = []

@@ -10,6 +10,7 @@ use Rattle.wm_desc.specs.declared.description.Sbsd.{Sbsd}
 use Rattle.wm_desc.specs.declared.entry.QueueEntry.{QueueEntry}
 use Rattle.wm_desc.specs.Sorted.{IsSortedOnce}
 use Rattle.wm_desc.specs.Table.{same_qname, object_named}
+use Rattle.wm_desc.proofs.Tables.{one_name}
 use Rattle.wm_law.specs.declared.choice.Candidate.{Candidate}
 use Rattle.wm_law.specs.declared.job.Job.{Job}
 use Rattle.wm_law.specs.declared.state.Sbs.{Sbs}
@@ -20,7 +21,7 @@ use Rattle.wm_law.specs.Laws.{IsIn, Turn, MayStart, IsBefore, IsFirst}
 use Rattle.wm_law.proofs.ByNumber.{IsAscending, ascends, same_numbered}
 use Rattle.wm_law.proofs.Firsts.{candidate_of, first_of, no_first_is_none}
 use Rattle.wm_law.proofs.Members.{found_among, in_left, left_in}
-use Rattle.wm_law.proofs.Named.{one_name, own_name}
+use Rattle.wm_law.proofs.Named.{own_name}
 use Rattle.wm_pick.specs.Heads.{IsOrderly, HeadsAreFirst, candidate_by, entry_head, first_by_heads, first_described, first_head, first_started, head_at, head_of, is_held_by, is_on, is_open, is_same_entry, is_turn, open_head, priorities, queues_in, queues_of, started_named, takes_jobs}
 use Rattle.wm_pick.proofs.FirstGiven.{in_priorities, is_given, none_given, priorities_ascend}
 use Rattle.wm_pick.proofs.Nearest.{nearest, none_nearest, passes}

@@ -7,12 +7,13 @@ use Rattle.wm_base.proofs.Tests.{of_four}
 use Rattle.wm_desc.specs.declared.entry.QueueEntry.{QueueEntry}
 use Rattle.wm_desc.specs.Sorted.{IsSortedOnce}
 use Rattle.wm_desc.specs.Table.{same_qname}
+use Rattle.wm_desc.proofs.Tables.{one_name}
 use Rattle.wm_law.specs.declared.job.Job.{Job}
 use Rattle.wm_law.specs.declared.state.State.{State}
 use Rattle.wm_law.specs.Choice.{has_free_queue, is_held, is_ready}
 use Rattle.wm_law.specs.Counts.{is_waiting}
 use Rattle.wm_law.specs.Laws.{IsIn}
-use Rattle.wm_law.proofs.Named.{one_name, own_name}
+use Rattle.wm_law.proofs.Named.{own_name}
 use Rattle.wm_tally.specs.Tally.{Counts}
 use Rattle.wm_waiting.specs.declared.waiter.Waiter.{Waiter}
 use Rattle.wm_waiting.specs.NextHeads as next

@@ -1,5 +1,5 @@
 -- Rows that are read, one after another.
-use Rattle.std.proofs.Common.{◌≡◌, ◌⊎◌, ℕ, suc, ◌+◌, ◌<◌, ◌≤◌, ℤ, ◌&&◌, ◌||◌, true, false, List, [], ◌∷◌, ◌++◌, length, take, Option, Some, None, IsTrue, refl, sym, subst, ap, ◌∙◌, inl, inr, arith}
+use Rattle.std.proofs.Common.{◌≡◌, ◌⊎◌, ℕ, suc, ◌+◌, ◌<◌, ◌≤◌, ℤ, true, false, List, [], ◌∷◌, ◌++◌, length, take, Option, Some, None, IsTrue, refl, sym, subst, ap, ◌∙◌, inl, inr, arith}
 use Rattle.std.specs.List.{Contains, slice_get}
 use Rattle.std.proofs.Math.ListN.{get_or}
 use Rattle.std.proofs.Math.Seq.{take-suc}

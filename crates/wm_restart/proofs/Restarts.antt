@@ -1,25 +1,20 @@
 -- What holds of the state that good rows make.
-use Rattle.std.proofs.Common.{◌≡◌, ◌≤◌, ℤ, suc, ◌==◌, true, false, List, [], ◌∷◌, length, All, refl, inl, inr, arith}
+use Rattle.std.proofs.Common.{◌≡◌, ℤ, suc, ◌==◌, true, false, List, [], ◌∷◌, length, All, refl, inl, inr, arith}
 use Rattle.std.proofs.lemmas.List.Elements.{All-nil, All-cons}
 use Rattle.std.proofs.lemmas.Bool.{eqb-true}
 use Rattle.wm_traits.specs.declared.row.Row.{Row}
 use Rattle.wm_law.specs.Counts.{is_active}
 use Rattle.wm_law.specs.Laws.{IsIn}
-use Rattle.wm_law.specs.Sound.{IsSound}
 use Rattle.wm_law.specs.declared.job.Job.{Job}
 use Rattle.wm_law.specs.declared.state.State.{State}
 use Rattle.wm_job_rows.specs.JobText.{job_row}
 use Rattle.wm_job_rows.specs.Stored.{stored_of}
-use Rattle.wm_tables.specs.Restart.{AreGood, HasCounters}
+use Rattle.wm_tables.specs.Restart.{AreGood}
 use Rattle.wm_tables.proofs.Building.{built}
 use Rattle.wm_tables.proofs.NewRows.{job_stands}
-use Rattle.wm_tables.proofs.Restarts.{good_restart, restart_is_sound}
 use Rattle.wm_tables.proofs.RowOrder.{ascending}
 use Rattle.wm_tables.proofs.SameRows.{there_found}
 use Rattle.wm_restart.specs.Written.{Stands}
-
-pub sound : (offset : ℤ) (rows : List Row) (s : State) → AreGood offset rows s → HasCounters rows → IsSound s
-sound offset rows s good counters = restart_is_sound offset rows s (good_restart offset rows s good counters)
 
 all_of : {X : Type 0} (P : X → Type 0) (xs : List X) → ((x : X) → IsIn x xs → P x) → All P xs
 all_of P [] h = All-nil P

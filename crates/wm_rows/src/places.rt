@@ -14,7 +14,7 @@ use wm_clwords::push_qname;
 use wm_law::Command;
 
 // Four digits.
-#[tactic(auto, using(wm_command::proofs::Texts::padded))]
+#[tactic(auto, using(wm_base::proofs::Texts::padded))]
 fn push_four(alloc: Global, out: &mut Text, n: u32) -> Result<(), NoMemory>
     ensures { OnOk result (out.new ≡ out.old ++ zero_padded 4 n) }
 {

@@ -5,8 +5,7 @@ use Rattle.std.proofs.lemmas.List.{length-append, length_push}
 use Rattle.wm_law.specs.declared.call.Call.{Call}
 use Rattle.wm_law.specs.declared.call.Entry.{Entry}
 use Rattle.wm_law.specs.declared.pending.Pending.{Pending}
-use Rattle.wm_law.specs.declared.state.State.{State}
-use Rattle.wm_law.specs.Pending.{orders, pending}
+use Rattle.wm_law.specs.Pending.{orders}
 use Rattle.wm_journal.specs.History.{History, entry_at, reached}
 use Rattle.wm_monitor.specs.Idle.{monitor_pass}
 use Rattle.wm_monitor.specs.Lists.{since, Extends}

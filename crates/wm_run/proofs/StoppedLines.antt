@@ -93,8 +93,3 @@ pub stops_then : (a b : Part) (piece rest : List ℕ) (o : History) (es fs : Lis
 stops_then a b piece rest o es fs u v w f up h k more =
     subst (λ (l : List (Option (List ℕ))). StopsIn l o (es ++ fs) u w) (sym (h.split more))
     (StopsIn-after h.lines (lines_from b (rest ++ more)) o es fs u v w f up h.answered (k more))
-
--- a line's answer was cut short, and others follow it
-pub stops_line : (a b : Part) (piece rest : List ℕ) (lines : List (Option (List ℕ))) (o : History) (es : List Entry) (u v : Option (List ℕ)) → ((more : List ℕ) → lines_from a (piece ++ more) ≡ lines ++ lines_from b (rest ++ more)) → StopsIn lines o es u v → (more : List ℕ) → StopsIn (lines_from a (piece ++ more)) o es u v
-stops_line a b piece rest lines o es u v split h more =
-    subst (λ (l : List (Option (List ℕ))). StopsIn l o es u v) (sym (split more)) (StopsIn-more lines (lines_from b (rest ++ more)) o es u v h)

@@ -10,9 +10,10 @@ use std::alloc::Global;
 use std::rt::HostRuntime;
 use wm_traits::{KeepFault, Row, RowChange};
 
+// The connections stand in boxes: what a call changes of one is then no part of the enum's own value.
 pub(crate) enum Database {
-    Memory(Connection<MemStore>),
-    File(Connection<FileStore<File>>),
+    Memory(Box<Connection<MemStore>>),
+    File(Box<Connection<FileStore<File>>>),
 }
 
 // It is written out, so that a caller does not prove again how a connection is dropped.
@@ -26,12 +27,13 @@ impl Drop for Database {
 }
 
 fn open_memory(rt: &HostRuntime) -> Result<Database, KeepFault> {
-    Ok(Database::Memory(Connection::open_in_memory(rt.alloc())?))
+    let conn = Connection::open_in_memory(rt.alloc())?;
+    Ok(Database::Memory(Box::new(rt.alloc(), conn)?))
 }
 
 fn open_file(rt: &HostRuntime, path: &str) -> Result<Database, KeepFault> {
     match Connection::open(rt, path) {
-        Ok(conn) => Ok(Database::File(conn)),
+        Ok(conn) => Ok(Database::File(Box::new(rt.alloc(), conn)?)),
         Err(error) => Err(keep_fault(error)),
     }
 }
@@ -87,11 +89,8 @@ impl Database {
 
     /// Closes it, and copies a file's log into the file. What was applied is kept where that fails, too: the log has it.
     pub(crate) fn close(self) {
-        match self {
-            Database::Memory(_) => {}
-            Database::File(conn) => {
-                let _ = conn.close();
-            }
+        if let Database::File(conn) = self {
+            let _ = Box::into_inner(conn).close();
         }
     }
 }

@@ -10,12 +10,23 @@ use std::rt::HostRuntime;
 use wm_traits::{KeepFault, Keeper, Row, RowChange};
 
 /// A keeper of the rows in a file of SQLite, or in memory. It tells no rows.
-#[derive(Drop)]
 pub struct SqlKeeper {
     database: Database,
     writes: Writes,
     alloc: Global,
     faults: u64,
+}
+
+// It is written out, so that a caller does not prove again how each part is dropped.
+impl Drop for SqlKeeper {
+    fn drop(self) {
+        let SqlKeeper {
+            database: _,
+            writes: _,
+            alloc: _,
+            faults: _,
+        } = self;
+    }
 }
 
 // A keeper of an opened database, in which the table is made if it isn't there.
@@ -48,7 +59,13 @@ impl SqlKeeper {
     }
 
     pub(crate) fn close(self) {
-        self.database.close();
+        let SqlKeeper {
+            database,
+            writes: _,
+            alloc: _,
+            faults: _,
+        } = self;
+        database.close();
     }
 }
 

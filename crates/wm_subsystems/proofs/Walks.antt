@@ -9,7 +9,7 @@ use Rattle.wm_law.specs.Laws.{IsIn}
 use Rattle.wm_law.specs.Sound.{IsIncreasing}
 use Rattle.wm_law.specs.Submitting.{serials_end}
 use Rattle.wm_law.proofs.Forward.{only_one}
-use Rattle.wm_law.proofs.Members.{found_among, in_mapped, map_same, of_mapped}
+use Rattle.wm_law.proofs.Members.{each_stays, found_among, in_mapped, map_same, of_mapped}
 use Rattle.wm_jobs.proofs.Sifted.{count-cons}
 use Rattle.wm_jobs.specs.Table.{Table, active_in, serial_of}
 use Rattle.wm_subsystems.specs.Walks.{AreInLine, KeepsRest, walked}
@@ -69,10 +69,6 @@ each_comes f g h (x ∷ xs) e = cc (e x (inl refl), each_comes f g h xs (λ y i.
 each_same : (f g : Job → Job) (xs : List Job) → ((x : Job) → IsIn x xs → f x ≡ g x) → map f xs ≡ map g xs
 each_same f g [] e = refl
 each_same f g (x ∷ xs) e = cc (e x (inl refl), each_same f g xs (λ y i. e y (inr i)))
-
-pub each_stays : (f : Job → Job) (xs : List Job) → ((x : Job) → f x ≡ x) → map f xs ≡ xs
-each_stays f [] e = refl
-each_stays f (x ∷ xs) e = cc (e x, each_stays f xs e)
 
 below_test : (a b : ℕ) → a < b → nat_lt a b ≡ true
 below_test a b h = grind (arith, nat_tests)
@@ -145,7 +141,7 @@ none_walked : (f : Job → Job) (j : Job) → walked 0 f j ≡ j
 none_walked f j = ap (λ (b : Bool). cond b (f j) j) (above_test j.serial 0 (omega arith))
 
 pub walk_begins : (f : Job → Job) (jobs : List Job) → jobs ≡ map (walked 0 f) jobs
-walk_begins f jobs = sym (each_stays (walked 0 f) jobs (none_walked f))
+walk_begins f jobs = sym (each_stays (walked 0 f) jobs (λ j i. none_walked f j))
 
 -- from a number on, nothing is changed yet; below it, all is
 ahead_stays : (from : ℕ) (f : Job → Job) (j : Job) → from ≤ j.serial → walked from f j ≡ j

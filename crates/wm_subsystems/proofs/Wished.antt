@@ -7,8 +7,8 @@ use Rattle.wm_law.specs.declared.job.Job.{Job}
 use Rattle.wm_law.specs.declared.job.Wish.{Wish}
 use Rattle.wm_law.specs.Counts.{is_active}
 use Rattle.wm_law.specs.Wishes.{with_wish}
+use Rattle.wm_law.proofs.Members.{each_stays}
 use Rattle.wm_subsystems.specs.Telling.{ended_at, wished_at}
-use Rattle.wm_subsystems.proofs.Walks.{each_stays}
 
 wish_serial : (b : Bool) (w : Wish) (j : Job) → (cond b (with_wish w j) j).serial ≡ j.serial
 wish_serial true w j = refl
@@ -42,8 +42,8 @@ found_active n o (j ∷ js) h =
 
 -- with no wish the jobs are as they were
 pub no_wish : (n : ℕ) (o : Option Wish) (jobs : List Job) → o ≡ None → jobs ≡ map (wished_at n o) jobs
-no_wish n o jobs e = subst (λ (p : Option Wish). jobs ≡ map (wished_at n p) jobs) (sym e) (sym (each_stays (wished_at n None) jobs (λ j. refl)))
+no_wish n o jobs e = subst (λ (p : Option Wish). jobs ≡ map (wished_at n p) jobs) (sym e) (sym (each_stays (wished_at n None) jobs (λ j i. refl)))
 
 -- so they are with no cause
 pub no_end : (n : ℕ) (o : Option EndCause) (jobs : List Job) → o ≡ None → jobs ≡ map (ended_at n o) jobs
-no_end n o jobs e = subst (λ (p : Option EndCause). jobs ≡ map (ended_at n p) jobs) (sym e) (sym (each_stays (ended_at n None) jobs (λ j. refl)))
+no_end n o jobs e = subst (λ (p : Option EndCause). jobs ≡ map (ended_at n p) jobs) (sym e) (sym (each_stays (ended_at n None) jobs (λ j i. refl)))

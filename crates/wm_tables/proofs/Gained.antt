@@ -23,6 +23,7 @@ use Rattle.wm_desc.specs.Objects.{empty_sbsd, with_auto, with_class, with_descri
 use Rattle.wm_desc.specs.Refusals.{auto_refusal, auto_tests, by_description, first_refusal, object_refusal, program_refusal, queue_refusal, queue_tests, route_refusal, route_tests}
 use Rattle.wm_desc.specs.Sorted.{place_of}
 use Rattle.wm_desc.specs.Table.{changed, name_of, object_named, qname_cmp, same_qname}
+use Rattle.wm_desc.proofs.Tables.{one_name}
 use Rattle.wm_traits.specs.declared.row.Row.{Row}
 use Rattle.wm_law.specs.Laws.{IsIn}
 use Rattle.wm_law.specs.Machine.{change}
@@ -33,7 +34,6 @@ use Rattle.wm_law.specs.declared.command.Command.TheVariants as command
 use Rattle.wm_law.specs.declared.state.State.{State}
 use Rattle.wm_law.proofs.InOrder.{in_inserted}
 use Rattle.wm_law.proofs.Members.{in_mapped, of_mapped}
-use Rattle.wm_law.proofs.Named.{one_name}
 use Rattle.wm_rows.specs.Rows.{class_row, program_row, queue_row, jobd_row, sbsd_row, queue_entry_row, route_entry_row, auto_entry_row, command_row}
 use Rattle.wm_rows.specs.Tables.{queue_entry_rows, route_entry_rows, auto_entry_rows, pre_entry_rows, object_rows, sbsd_rows}
 use Rattle.wm_tables.proofs.OwnPlaces.{in_flat, of_flat}
@@ -110,7 +110,7 @@ module _ (name : QName) (alter : Sbsd → Sbsd) where
     one_same x true = sym (left x)
     one_same x false = refl
 
-    map_same : (xs : List (QName × Sbsd)) → map f xs ≡ map f (changed name alter xs)
+    pub map_same : (xs : List (QName × Sbsd)) → map f xs ≡ map f (changed name alter xs)
     map_same [] = refl
     map_same (x ∷ xs) = ap (λ (r : Row). r ∷ map f xs) (one_same x (same_qname x.0 name)) ∙ ap (λ (rs : List Row). f (mend x) ∷ rs) (map_same xs)
 
@@ -119,7 +119,7 @@ module _ (name : QName) (alter : Sbsd → Sbsd) where
     each_same x true = sym (left x)
     each_same x false = refl
 
-    flat_same : (xs : List (QName × Sbsd)) → flat_map f xs ≡ flat_map f (changed name alter xs)
+    pub flat_same : (xs : List (QName × Sbsd)) → flat_map f xs ≡ flat_map f (changed name alter xs)
     flat_same [] = refl
     flat_same (x ∷ xs) = ap (λ (rs : List Row). rs ++ flat_map f xs) (each_same x (same_qname x.0 name)) ∙ ap (λ (rs : List Row). f (mend x) ++ rs) (flat_same xs)
 

@@ -1,38 +1,26 @@
 -- Of sorted elements those that pass a test, and one more of them in its place.
-use Rattle.std.proofs.Common.{◌≡◌, ℕ, suc, ◌+◌, Bool, true, false, cond, List, [], ◌∷◌, length, get_or, filter, refl, sym, ap, subst, ◌∙◌, inl, inr, arith}
+use Rattle.std.proofs.Common.{◌≡◌, ℕ, suc, ◌+◌, Bool, true, false, cond, List, [], ◌∷◌, filter, refl, sym, ap, subst, ◌∙◌, inl, inr, arith}
 use Rattle.std.specs.Cmp.{IsTotalOrder}
 use Rattle.std.specs.List.{insert}
 use Rattle.std.specs.Ordering.{is_lt, ordering_reverse}
 use Rattle.std.specs.declared.cmp.Ordering.{Ordering}
 use Rattle.std.specs.declared.cmp.Ordering.TheVariants.{Less, Greater}
-use Rattle.std.proofs.lemmas.Grind.{common_steps}
 use Rattle.std.proofs.lemmas.List.Sums.{sum_by-cons}
 use Rattle.wm_desc.specs.Sorted.{IsSortedOnce, place_of, has_key, added}
 use Rattle.wm_law.specs.Laws.{IsIn}
-use Rattle.wm_law.proofs.Members.{left_in, All-in}
-use Rattle.wm_tables.proofs.Passing.{left_passes, left_same, none_passes}
+use Rattle.wm_law.proofs.Members.{left_in, All-in, left_same}
+use Rattle.wm_law.proofs.InOrder.{behind, longer, not_less, rest_sorted}
+use Rattle.wm_tables.proofs.Passing.{left_passes, none_passes}
 
 module _ {E K : Type 0} (key : E → K) (cmp : K → K → Ordering) (o : IsTotalOrder cmp) where
   abbrev IsSorted : List E → Type 0
   IsSorted xs = IsSortedOnce key cmp xs
 
-  later : (x : E) (xs : List E) (k : ℕ) (d : E) → get_or (x ∷ xs) (k + 1) d ≡ get_or xs k d
-  later x xs k d = grind (arith, common_steps)
-
-  longer : (x : E) (xs : List E) → length (x ∷ xs) ≡ length xs + 1
-  longer x xs = grind (arith, common_steps)
-
   -- the first is below all others
   pub first_below : (x : E) (xs : List E) (y : E) → IsSorted (x ∷ xs) → IsIn y xs → cmp (key x) (key y) ≡ Less
   first_below x xs y s i =
-      let more = longer x xs in
-      All-in (λ (e : E). cmp (key x) (key e) ≡ Less) xs y (λ k d less. subst (λ (e : E). cmp (key x) (key e) ≡ Less) (later x xs k d) (s 0 (k + 1) d (omega arith) (omega arith))) i
-
-  pub rest_sorted : (x : E) (xs : List E) → IsSorted (x ∷ xs) → IsSorted xs
-  rest_sorted x xs s i j d less h =
-      let more = longer x xs in
-      let whole = s (i + 1) (j + 1) d (omega arith) (omega arith) in
-      subst (λ (e : E). cmp (key e) (key (get_or xs j d)) ≡ Less) (later x xs i d) (subst (λ (e : E). cmp (key (get_or (x ∷ xs) (i + 1) d)) (key e) ≡ Less) (later x xs j d) whole)
+      let more = longer key cmp o x xs in
+      All-in (λ (e : E). cmp (key x) (key e) ≡ Less) xs y (λ k d less. subst (λ (e : E). cmp (key x) (key e) ≡ Less) (behind key cmp o x xs k d) (s 0 (k + 1) d (omega arith) (omega arith))) i
 
   -- nothing is below itself
   never_below : (a : K) → cmp a a ≡ Less → ⊥
@@ -51,19 +39,16 @@ module _ {E K : Type 0} (key : E → K) (cmp : K → K → Ordering) (o : IsTota
   one_of_key (z ∷ zs) x y s (inl a) (inl b) e = a ∙ sym b
   one_of_key (z ∷ zs) x y s (inl a) (inr j) e = absurd (not_same (key z) (key y) (first_below z zs y s j) (ap key (sym a) ∙ e))
   one_of_key (z ∷ zs) x y s (inr i) (inl b) e = absurd (not_same (key z) (key x) (first_below z zs x s i) (ap key (sym b) ∙ sym e))
-  one_of_key (z ∷ zs) x y s (inr i) (inr j) e = one_of_key zs x y (rest_sorted z zs s) i j e
+  one_of_key (z ∷ zs) x y s (inr i) (inr j) e = one_of_key zs x y (rest_sorted key cmp o z zs s) i j e
 
   abbrev one : K → E → ℕ
   one k e = cond (is_lt (cmp (key e) k)) 1 0
-
-  not_less : (a b : K) → cmp b a ≡ Less → is_lt (cmp a b) ≡ false
-  not_less a b h = ap is_lt (o.antisymm a b) ∙ ap (λ (r : Ordering). is_lt (ordering_reverse r)) h
 
   -- where all keys are greater, none stands before
   none_before : (k : K) (xs : List E) → ((e : E) → IsIn e xs → cmp k (key e) ≡ Less) → place_of key cmp k xs ≡ 0
   none_before k [] h = refl
   none_before k (x ∷ xs) h =
-      let this : one k x ≡ 0 = ap (λ (t : Bool). cond t 1 0) (not_less (key x) k (h x (inl refl))) in
+      let this : one k x ≡ 0 = ap (λ (t : Bool). cond t 1 0) (not_less key cmp o (key x) k (h x (inl refl))) in
       let rest = none_before k xs (λ e i. h e (inr i)) in
       rw (sum_by-cons (one k) x xs) (omega arith)
 
@@ -108,7 +93,7 @@ module _ {E K : Type 0} (key : E → K) (cmp : K → K → Ordering) (o : IsTota
   next_added p q (y ∷ ys) x s (inr i) h =
       let less = first_below y ys x s i in
       let both : q y ≡ p y = h.others y (inl refl) (not_same (key y) (key x) less) in
-      next_by p q y ys x (p y) refl both less (next_added p q ys x (rest_sorted y ys s) i (rest_more p q y ys x h))
+      next_by p q y ys x (p y) refl both less (next_added p q ys x (rest_sorted key cmp o y ys s) i (rest_more p q y ys x h))
       ∙ sym (ap (λ (t : Bool). cond t (y ∷ filter q ys) (filter q ys)) both)
 
   module _ (eq : K → K → Bool) (sure : (a b : K) → eq a b ≡ true → a ≡ b) where

@@ -8,8 +8,9 @@ use Rattle.wm_traits.specs.Rows.{place_of}
 use Rattle.wm_desc.specs.Sorted.{IsSortedOnce}
 use Rattle.wm_law.specs.Laws.{IsIn}
 use Rattle.wm_law.proofs.Members.{of_mapped}
+use Rattle.wm_law.proofs.InOrder.{rest_sorted}
 use Rattle.wm_tables.proofs.Keys.{first_same, rest_same}
-use Rattle.wm_tables.proofs.OneMore.{first_below, not_same, rest_sorted}
+use Rattle.wm_tables.proofs.OneMore.{first_below, not_same}
 use Rattle.wm_tables.proofs.Passing.{in_left_part, in_right_part, of_parts}
 use Rattle.wm_tables.proofs.RowOrder.{HasOwnPlaces}
 

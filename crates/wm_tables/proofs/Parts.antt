@@ -16,7 +16,7 @@ use Rattle.wm_law.specs.Laws.{IsIn}
 use Rattle.wm_law.specs.Opening.{empty}
 use Rattle.wm_law.specs.declared.job.Job.{Job}
 use Rattle.wm_law.specs.declared.state.State.{State}
-use Rattle.wm_law.proofs.Members.{left_in}
+use Rattle.wm_law.proofs.Members.{left_in, left_same}
 use Rattle.wm_rows.specs.Rows.{class_row, program_row, queue_row, jobd_row, sbsd_row, queue_entry_row, route_entry_row, auto_entry_row, held_row, counter_row}
 use Rattle.wm_rows.specs.declared.stored.Counter.{Counter}
 use Rattle.wm_rows.specs.declared.stored.Counter.TheVariants as counter
@@ -25,7 +25,6 @@ use Rattle.wm_job_rows.specs.Stored.{stored_of}
 use Rattle.wm_tables.specs.Restart.{restarted_job}
 use Rattle.wm_tables.specs.Tables.{rows_of}
 use Rattle.wm_tables.proofs.OwnPlaces.{same_tab}
-use Rattle.wm_tables.proofs.Passing.{left_same}
 use Rattle.wm_tables.proofs.RowsOf.{IsRowOf, in_rows, of_class, of_program, of_queue, of_jobd, of_sbsd, of_queue_entry, of_route_entry, of_auto_entry, of_held, of_job, of_number, of_place, of_serial}
 
 -- a description with the entries whose rows pass

@@ -1,8 +1,9 @@
 -- What of a list passes one test and another.
-use Rattle.std.proofs.Common.{◌≡◌, ◌⊎◌, ◌<◌, ◌≤◌, ◌++◌, ◌||◌, Bool, true, false, cond, List, [], ◌∷◌, length, filter, refl, sym, ap, subst, ◌∙◌, inl, inr, arith}
+use Rattle.std.proofs.Common.{◌≡◌, ◌⊎◌, ◌<◌, ◌++◌, ◌||◌, Bool, true, false, cond, List, [], ◌∷◌, length, filter, refl, sym, ap, subst, ◌∙◌, inl, inr, arith}
 use Rattle.std.specs.List.{list_any}
 use Rattle.std.proofs.lemmas.Bool.{or_right}
 use Rattle.wm_law.specs.Laws.{IsIn}
+use Rattle.wm_base.proofs.Lists.{length-filter_few}
 
 module _ {X : Type 0} where
   passed_by : (p : X → Bool) (t : Bool) (y x : X) (ys : List X) → p y ≡ t → (IsIn x ys → p x ≡ true) → IsIn x (cond t (y ∷ ys) ys) → p x ≡ true
@@ -27,12 +28,6 @@ module _ {X : Type 0} where
   one_passes p (y ∷ ys) x (inr i) e = or_right (p y) (list_any p ys) (one_passes p ys x i e)
 
   -- tests that agree on each element leave the same
-  pub left_same : (p q : X → Bool) (xs : List X) → ((x : X) → IsIn x xs → q x ≡ p x) → filter q xs ≡ filter p xs
-  left_same p q [] h = refl
-  left_same p q (x ∷ xs) h =
-      ap (λ (t : Bool). cond t (x ∷ filter q xs) (filter q xs)) (h x (inl refl))
-      ∙ ap (λ (ys : List X). cond (p x) (x ∷ ys) ys) (left_same p q xs (λ y i. h y (inr i)))
-
   pub left_all : (p : X → Bool) (xs : List X) → ((x : X) → IsIn x xs → p x ≡ true) → filter p xs ≡ xs
   left_all p [] h = refl
   left_all p (x ∷ xs) h =
@@ -45,14 +40,6 @@ module _ {X : Type 0} where
       ap (λ (t : Bool). cond t (x ∷ filter p xs) (filter p xs)) (h x (inl refl))
       ∙ left_none p xs (λ y i. h y (inr i))
 
-  shorter_by : (t : Bool) (x : X) (ys xs : List X) → length ys ≤ length xs → length (cond t (x ∷ ys) ys) ≤ length (x ∷ xs)
-  shorter_by true x ys xs h = omega arith
-  shorter_by false x ys xs h = omega arith
-
-  not_longer : (p : X → Bool) (xs : List X) → length (filter p xs) ≤ length xs
-  not_longer p [] = omega arith
-  not_longer p (x ∷ xs) = shorter_by (p x) x (filter p xs) xs (not_longer p xs)
-
   fewer_by : (t : Bool) (x : X) (ys xs : List X) → length ys < length xs → length (cond t (x ∷ ys) ys) < length (x ∷ xs)
   fewer_by true x ys xs h = omega arith
   fewer_by false x ys xs h = omega arith
@@ -62,7 +49,7 @@ module _ {X : Type 0} where
   fewer p [] x i e = absurd i
   fewer p (y ∷ ys) x (inl same) e =
       let not : p y ≡ false = ap p (sym same) ∙ e in
-      let less = not_longer p ys in
+      let less = length-filter_few p ys in
       subst (λ (t : Bool). length (cond t (y ∷ filter p ys) (filter p ys)) < length (y ∷ ys)) (sym not) (omega arith)
   fewer p (y ∷ ys) x (inr i) e = fewer_by (p y) y (filter p ys) ys (fewer p ys x i e)
 

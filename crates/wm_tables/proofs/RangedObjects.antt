@@ -21,7 +21,7 @@ use Rattle.wm_desc.specs.Objects.{with_class, with_jobq, with_program, with_jobd
 use Rattle.wm_desc.specs.Refusals.{is_full, program_refusal}
 use Rattle.wm_desc.specs.Sorted.{place_of}
 use Rattle.wm_desc.specs.Table.{has_object, is_qcmd, name_of, qname_cmp, same_qname}
-use Rattle.wm_desc.proofs.Tables.{test_fails}
+use Rattle.wm_desc.proofs.Tables.{one_name, test_fails}
 use Rattle.wm_law.specs.Fit.{IsCommand}
 use Rattle.wm_law.specs.Laws.{IsIn}
 use Rattle.wm_law.specs.Making.{class_of, jobd_of, queue_entry_of, route_entry_of, auto_entry_of}
@@ -36,7 +36,6 @@ use Rattle.wm_law.specs.declared.command.Crtpgmref.{Crtpgmref}
 use Rattle.wm_law.specs.declared.command.Crtsbsd.{Crtsbsd}
 use Rattle.wm_law.proofs.InOrder.{in_inserted}
 use Rattle.wm_law.proofs.Members.{left_in, of_mapped}
-use Rattle.wm_law.proofs.Named.{one_name}
 use Rattle.wm_rows.specs.Again.{crtcls_of, crtpgmref_of, crtjobq_of, crtjobd_of, crtsbsd_of, addjobqe_of, addrtge_of, addaje_of}
 use Rattle.wm_tables.specs.Ranges.{AreInRange, HasEntriesInRange}
 

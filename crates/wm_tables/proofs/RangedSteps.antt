@@ -6,10 +6,9 @@ use Rattle.wm_law.specs.Choice.{next}
 use Rattle.wm_law.specs.Launch.{launch}
 use Rattle.wm_law.specs.Machine.{apply, step, with_clock}
 use Rattle.wm_law.specs.Settling.{come_due, job_at, leave, sbss_at, waiting}
-use Rattle.wm_law.specs.Sound.{IsSound}
 use Rattle.wm_law.specs.declared.state.State.{State}
 use Rattle.wm_law.proofs.Endings.{wishing_at}
-use Rattle.wm_law.proofs.Numbers.{clock_keeps}
+use Rattle.wm_law.proofs.Sound.{clock_sound}
 use Rattle.wm_tables.specs.Laws.{StepKeepsRanges}
 use Rattle.wm_tables.specs.Ranges.{IsInRange}
 use Rattle.wm_tables.proofs.RangedCalls.{apply_keeps, wished_range}
@@ -17,24 +16,6 @@ use Rattle.wm_tables.proofs.RangedLaunches.{launch_range}
 
 clock_range : (s : State) (moment : ℕ) → moment ≤ 253402214399 → IsInRange s → IsInRange (with_clock s moment)
 clock_range s moment h r = let most = r.clock in record { objects = r.objects; held = r.held; jobs = r.jobs; clock = omega arith }
-
--- the clock has no part in what is sound
-clock_sound : (s : State) (moment : ℕ) → IsSound s → IsSound (with_clock s moment)
-clock_sound s moment h = record {
-  numbered = clock_keeps s moment h.numbered;
-  jobs = h.jobs;
-  places = h.places;
-  orders = record { routed = h.orders.routed; starting = h.orders.starting; lodged = h.orders.lodged };
-  names = h.names;
-  descriptions = h.descriptions;
-  quiet = h.quiet;
-  objects = h.objects;
-  queues = h.queues;
-  held = h.held;
-  within_started = h.within_started;
-  wishes = h.wishes;
-  moments = h.moments;
-}
 
 due_range : (s : State) → IsInRange s → IsInRange (come_due s)
 due_range s r = wished_range s (job_at s.clock (sbss_at s)) (sbss_at s) s.evokes s.power (wishing_at s.clock (sbss_at s)) r

@@ -10,6 +10,7 @@ use Rattle.wm_law.specs.Laws.{IsIn}
 use Rattle.wm_law.specs.Opening.{empty}
 use Rattle.wm_law.specs.Sound.{IsSound}
 use Rattle.wm_law.specs.declared.state.State.{State}
+use Rattle.wm_law.proofs.Members.{each_stays}
 use Rattle.wm_rows.specs.Rows.{class_row, program_row, queue_row, jobd_row, sbsd_row, held_row}
 use Rattle.wm_rows.specs.declared.stored.Counter.TheVariants as counter
 use Rattle.wm_job_rows.specs.JobText.{job_row}
@@ -142,15 +143,11 @@ module _ (offset : ℤ) (s : State) (sound : IsSound s) (range : IsInRange s) wh
       ∙ ap (λ (l : List _). (x.0, record { maxjobs = d.maxjobs; queues = d.queues; routes = d.routes; autos = l; pres = [] })) (all_left d.autos)
       ∙ ap (λ (l : List _). (x.0, record { maxjobs = d.maxjobs; queues = d.queues; routes = d.routes; autos = d.autos; pres = l })) (none_in d.pres (range.objects.entries x i).pres)
 
-  same_map : {X : Type 0} (f : X → X) (xs : List X) → ((x : X) → IsIn x xs → f x ≡ x) → map f xs ≡ xs
-  same_map f [] h = refl
-  same_map f (x ∷ xs) h = ap (λ (y : _). y ∷ map f xs) (h x (inl refl)) ∙ ap (λ (ys : List _). x ∷ ys) (same_map f xs (λ y i. h y (inr i)))
-
   -- the part of all rows is what a stop leaves
   all_part : state_part (passed []) offset s ≡ restarted offset s
   all_part =
       same_parts offset (all_left s.objects.classes) (all_left s.objects.programs) (all_left s.objects.jobqs) (all_left s.objects.jobds)
-      (ap (map (sbsd_part (passed []))) (all_left s.objects.sbsds) ∙ same_map (sbsd_part (passed [])) s.objects.sbsds whole)
+      (ap (map (sbsd_part (passed []))) (all_left s.objects.sbsds) ∙ each_stays (sbsd_part (passed [])) s.objects.sbsds whole)
       (all_left s.held)
       (ap (map restarted_job) (all_left s.jobs))
       refl

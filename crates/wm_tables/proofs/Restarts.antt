@@ -69,7 +69,7 @@ pub good_restart : (offset : ℤ) (rows : List Row) (s : State) → AreGood offs
 good_restart offset [] s good counters = absurd (let n = counters counter.Schema in let less = n.1.1 in omega arith)
 good_restart offset (row ∷ rows) s good counters = (good, counters)
 
-good_is_sound : (offset : ℤ) (rows : List Row) (s : State) → AreGood offset rows s → HasCounters rows → IsSound s
+pub good_is_sound : (offset : ℤ) (rows : List Row) (s : State) → AreGood offset rows s → HasCounters rows → IsSound s
 good_is_sound offset rows s good counters =
     let up = ascending rows good.order in
     built_is_sound s (built offset rows s up good.read) (λ c. (let there = counters c in row_within c there.0 rows (empty offset) s up good.read (contained rows _ there.1)))

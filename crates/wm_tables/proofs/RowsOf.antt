@@ -13,14 +13,14 @@ use Rattle.wm_desc.specs.declared.entry.QueueEntry.{QueueEntry}
 use Rattle.wm_desc.specs.declared.entry.RouteEntry.{RouteEntry}
 use Rattle.wm_desc.specs.Sorted.{IsSortedOnce}
 use Rattle.wm_desc.specs.Table.{name_of, object_named, qname_cmp, same_qname}
-use Rattle.wm_desc.proofs.Tables.{qname_total}
+use Rattle.wm_desc.proofs.Tables.{one_name, qname_total}
 use Rattle.wm_traits.specs.declared.row.Row.{Row}
 use Rattle.wm_law.specs.Laws.{IsIn}
 use Rattle.wm_law.specs.declared.job.Job.{Job}
 use Rattle.wm_law.specs.declared.state.State.{State}
 use Rattle.wm_law.proofs.Members.{in_mapped, of_mapped}
-use Rattle.wm_law.proofs.Named.{one_name}
 use Rattle.wm_law.proofs.Named.{own_name as its_own}
+use Rattle.wm_law.proofs.InOrder.{rest_sorted}
 use Rattle.wm_rows.specs.Rows.{class_row, program_row, queue_row, jobd_row, sbsd_row, queue_entry_row, route_entry_row, auto_entry_row, pre_entry_row, held_row, counter_row}
 use Rattle.wm_rows.specs.Tables.{queue_entry_rows, route_entry_rows, auto_entry_rows, pre_entry_rows, held_rows, counter_rows}
 use Rattle.wm_rows.specs.declared.stored.Counter.TheVariants as counter
@@ -28,7 +28,7 @@ use Rattle.wm_job_rows.specs.JobText.{job_row}
 use Rattle.wm_job_rows.specs.Stored.{stored_of}
 use Rattle.wm_tables.specs.Ranges.{IsInRange}
 use Rattle.wm_tables.specs.Tables.{job_rows, rows_of}
-use Rattle.wm_tables.proofs.OneMore.{first_below, not_same, rest_sorted}
+use Rattle.wm_tables.proofs.OneMore.{first_below, not_same}
 use Rattle.wm_tables.proofs.OwnPlaces.{in_flat, of_flat}
 use Rattle.wm_tables.proofs.Passing.{in_left_part, in_right_part, of_parts}
 

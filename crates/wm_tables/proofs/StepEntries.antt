@@ -18,7 +18,7 @@ use Rattle.wm_desc.specs.declared.entry.RouteEntry.{RouteEntry}
 use Rattle.wm_desc.specs.Objects.{with_queue, with_route, with_auto}
 use Rattle.wm_desc.specs.Refusals.{auto_tests, first_refusal, is_any, is_any_before, is_full, queue_tests, route_tests}
 use Rattle.wm_desc.specs.Table.{changed, has_object, is_qcmd, object_named, qname_cmp, same_qname}
-use Rattle.wm_desc.proofs.Tables.{qname_total}
+use Rattle.wm_desc.proofs.Tables.{one_name, qname_total}
 use Rattle.wm_traits.specs.declared.row.Row.{Row}
 use Rattle.wm_traits.specs.Rows.{place_of}
 use Rattle.wm_law.specs.Kept.{IsDistinct}
@@ -26,8 +26,8 @@ use Rattle.wm_law.specs.Laws.{IsIn}
 use Rattle.wm_law.specs.Sound.{IsSound}
 use Rattle.wm_law.specs.declared.command.Command.TheVariants as command
 use Rattle.wm_law.specs.declared.state.State.{State}
-use Rattle.wm_law.proofs.Members.{in_mapped, left_in}
-use Rattle.wm_law.proofs.Named.{is_named, one_name, own_name}
+use Rattle.wm_law.proofs.Members.{in_mapped, left_in, left_same}
+use Rattle.wm_law.proofs.Named.{is_named, own_name}
 use Rattle.wm_rows.specs.Again.{addjobqe_of, addrtge_of, addaje_of}
 use Rattle.wm_rows.specs.Rows.{class_row, program_row, queue_row, jobd_row, sbsd_row, queue_entry_row, route_entry_row, auto_entry_row}
 use Rattle.wm_tables.specs.Ranges.{IsInRange}
@@ -36,7 +36,7 @@ use Rattle.wm_tables.proofs.Made.{tab_before}
 use Rattle.wm_tables.proofs.OneMore.{IsOneMore, next_added, next_new, one_of_key}
 use Rattle.wm_tables.proofs.OwnRows.{description, one_queue_entry, one_route_entry, one_auto_entry}
 use Rattle.wm_tables.proofs.Parts.{IsStep, far, objects_step, state_part, class_part, program_part, queue_part, jobd_part, sbsds_left, sbsds_part, sbsd_part, classes_same, programs_same, queues_same, jobds_same, left_sbsds_same, queue_entries_same, route_entries_same, auto_entries_same, same_description}
-use Rattle.wm_tables.proofs.Passing.{fewer, left_all, left_passes, left_same, none_passes}
+use Rattle.wm_tables.proofs.Passing.{fewer, left_all, left_passes, none_passes}
 use Rattle.wm_tables.proofs.RowsOf.{IsRowOf, in_rows, named_changed, named_in, of_class, of_program, of_queue, of_jobd, of_sbsd, of_queue_entry, of_route_entry, of_auto_entry}
 use Rattle.wm_tables.proofs.Unrefused.{command_makes, described_free, never_in_use, none_refuses, not_full}
 

@@ -8,7 +8,7 @@ use Rattle.wm_base.specs.declared.qname.QName.{QName}
 use Rattle.wm_base.specs.declared.refusal.Kind.TheVariants as kind
 use Rattle.wm_base.specs.declared.refusal.Refusal.TheVariants.{HeldAlready, NoObject}
 use Rattle.wm_desc.specs.Table.{object_named, qname_cmp, same_qname}
-use Rattle.wm_desc.proofs.Tables.{qname_total}
+use Rattle.wm_desc.proofs.Tables.{one_name, qname_total}
 use Rattle.wm_desc.specs.declared.description.Jobq.{Jobq}
 use Rattle.wm_desc.specs.declared.objects.Objects.{Objects}
 use Rattle.wm_traits.specs.declared.row.Row.{Row}
@@ -27,7 +27,6 @@ use Rattle.wm_law.specs.declared.job.Phase.{Phase}
 use Rattle.wm_law.specs.declared.job.Phase.TheVariants as phase
 use Rattle.wm_law.specs.declared.state.State.{State}
 use Rattle.wm_law.proofs.Members.{in_left, in_mapped, left_in, of_mapped}
-use Rattle.wm_law.proofs.Named.{one_name}
 use Rattle.wm_rows.specs.Rows.{held_row, counter_row}
 use Rattle.wm_rows.specs.declared.stored.Counter.{Counter}
 use Rattle.wm_rows.specs.declared.stored.Counter.TheVariants as counter

@@ -15,7 +15,7 @@ use Rattle.wm_desc.specs.declared.objects.Objects.{Objects}
 use Rattle.wm_desc.specs.Refusals.{by_description, first_refusal, is_full, object_refusal, program_refusal}
 use Rattle.wm_desc.specs.Sorted.{IsSortedOnce}
 use Rattle.wm_desc.specs.Table.{has_object, is_qcmd, name_of, object_named, qname_cmp, same_qname}
-use Rattle.wm_desc.proofs.Tables.{qname_total}
+use Rattle.wm_desc.proofs.Tables.{one_name, qname_total}
 use Rattle.wm_traits.specs.declared.row.Row.{Row}
 use Rattle.wm_law.specs.Fit.{IsCommand}
 use Rattle.wm_law.specs.Laws.{IsIn}
@@ -25,7 +25,6 @@ use Rattle.wm_law.specs.Stepped.{Stepped}
 use Rattle.wm_law.specs.declared.command.Command.{Command}
 use Rattle.wm_law.specs.declared.state.Sbs.{Sbs}
 use Rattle.wm_law.specs.declared.state.State.{State}
-use Rattle.wm_law.proofs.Named.{one_name}
 use Rattle.wm_rows.specs.Rows.{command_row}
 use Rattle.wm_tables.specs.Restart.{Makes}
 use Rattle.wm_tables.proofs.OneMore.{next_new}

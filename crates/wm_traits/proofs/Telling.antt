@@ -2,7 +2,7 @@
 use Rattle.std.proofs.Common.{ℕ, ◌+◌, ◌-◌, List, [], ◌++◌, length, Option, Some, None, take, drop, refl, sym, ◌∙◌, ap, append_assoc}
 use Rattle.std.proofs.Math.Seq.{take-add}
 use Rattle.std.proofs.lemmas.List.{append-nil, take_rest}
-use Rattle.wm_traits.specs.Told.{Grows, Takes, Becomes}
+use Rattle.wm_traits.specs.Told.{Grows, Takes}
 
 -- nothing more
 pub Grows-none : {A : Type 0} (told : Option (List A)) → Grows told told []
@@ -31,12 +31,5 @@ Takes-then (Some us) (Some vs) (Some ws) xs ys h k = h ∙ ap (λ (l : List _). 
 -- the first bytes of a list, and then some of the rest of it
 pub Grows-piece : {A : Type 0} (old mid new : Option (List A)) (xs : List A) (at n : ℕ) → Grows old mid (take at xs) → Grows mid new (take n (take (length xs - at) (drop at xs))) → Grows old new (take (at + n) xs)
 Grows-piece old mid new xs at n h k = rw (take-add, ← take_rest xs at) (Grows-then old mid new _ _ h k)
-
--- two changes
-pub Becomes-then : {A : Type 0} (old mid new : Option A) (f g : A → A) → Becomes old mid f → Becomes mid new g → Becomes old new (λ x. g (f x))
-Becomes-then old mid None f g h k = tt
-Becomes-then old None (Some z) f g h k = absurd k
-Becomes-then None (Some y) (Some z) f g h k = absurd h
-Becomes-then (Some x) (Some y) (Some z) f g h k = k ∙ ap g h
 
 pub ruleset told_steps = (Grows-none, Grows-then, Grows-piece, Takes-none, Takes-then)

@@ -1,5 +1,5 @@
 -- The walk over the active jobs goes over each of them, and what is shown of them is theirs.
-use Rattle.std.proofs.Common.{◌≡◌, ◌∙◌, ◌&&◌, ℕ, suc, ◌+◌, ◌<◌, ◌≤◌, Bool, true, false, cond, List, [], ◌∷◌, map, filter, Option, Some, None, nat_le, refl, sym, ap, inl, inr, arith}
+use Rattle.std.proofs.Common.{◌≡◌, ◌∙◌, ◌&&◌, ℕ, suc, ◌+◌, ◌<◌, ◌≤◌, Bool, true, false, cond, List, [], ◌∷◌, map, filter, Option, Some, None, nat_le, refl, sym, ap, arith}
 use Rattle.std.specs.List.{find}
 use Rattle.std.specs.Ordering.{nat_cmp}
 use Rattle.std.proofs.lemmas.Bool.Decides.{nat_tests}
@@ -11,7 +11,7 @@ use Rattle.wm_law.specs.declared.state.Sbs.{Sbs}
 use Rattle.wm_law.specs.declared.state.State.{State}
 use Rattle.wm_law.specs.Counts.{is_active, is_in_sbs}
 use Rattle.wm_law.specs.Laws.{IsIn}
-use Rattle.wm_law.proofs.Members.{found_among, All-in}
+use Rattle.wm_law.proofs.Members.{found_among, All-in, left_same}
 use Rattle.wm_jobs.specs.Table.{serial_of}
 use Rattle.wm_jobs.proofs.Actives.{is_from}
 use Rattle.wm_jobs.proofs.Splits.{above-head}
@@ -23,10 +23,6 @@ use Rattle.wm_views.specs.Lines.{job_line}
 use Rattle.wm_views.specs.Sorted.{sorted}
 use Rattle.wm_views.specs.Views.{active_line, by_number, is_active_in, is_ending}
 
-filter_alike : (p q : Job → Bool) (xs : List Job) → ((x : Job) → IsIn x xs → p x ≡ q x) → filter p xs ≡ filter q xs
-filter_alike p q [] same = refl
-filter_alike p q (x ∷ xs) same = cc (same x (inl refl), filter_alike p q xs (λ y i. same y (inr i)))
-
 is_least : (n : ℕ) → nat_le 0 n ≡ true
 is_least n = grind (arith, nat_tests)
 
@@ -36,7 +32,7 @@ both_from false c h = refl
 
 -- from 0 on there are all active jobs
 pub from_first : (jobs : List Job) → filter (λ j. is_active j.phase) jobs ≡ filter (is_from 0) jobs
-from_first jobs = filter_alike (λ j. is_active j.phase) (is_from 0) jobs (λ x i. sym (both_from (is_active x.phase) (nat_le 0 x.serial) (is_least x.serial)))
+from_first jobs = left_same (is_from 0) (λ j. is_active j.phase) jobs (λ x i. sym (both_from (is_active x.phase) (nat_le 0 x.serial) (is_least x.serial)))
 
 not_from : (b : Bool) (m n : ℕ) → n < m → (b && nat_le m n) ≡ false
 not_from true m n h = grind (arith, nat_tests)
@@ -61,7 +57,7 @@ next_by true from x y xs order e found rest =
     let low : from ≤ x.serial = leb-true from x.serial (and_parts (is_active x.phase) (nat_le from x.serial) e).1 in
     let behind : is_from (x.serial + 1) x ≡ false = not_from (is_active x.phase) (x.serial + 1) x.serial (omega arith) in
     let tail : filter (is_from from) xs ≡ filter (is_from (x.serial + 1)) xs =
-    filter_alike (is_from from) (is_from (x.serial + 1)) xs (λ z i. from_both (is_active z.phase) from x.serial z.serial low (above x z xs order i)) in
+    left_same (is_from (x.serial + 1)) (is_from from) xs (λ z i. from_both (is_active z.phase) from x.serial z.serial low (above x z xs order i)) in
     let whole : filter (is_from (x.serial + 1)) (x ∷ xs) ≡ filter (is_from (x.serial + 1)) xs =
     ap (λ (t : Bool). cond t (x ∷ filter (is_from (x.serial + 1)) xs) (filter (is_from (x.serial + 1)) xs)) behind in
     ap (λ (l : List Job). x ∷ l) (tail ∙ sym whole) ∙ ap (λ (k : Job). k ∷ filter (is_from (k.serial + 1)) (x ∷ xs)) same

@@ -7,11 +7,12 @@ use Rattle.std.proofs.lemmas.Bool.{not-true, and_from, and_parts}
 use Rattle.wm_base.specs.declared.qname.QName.{QName}
 use Rattle.wm_desc.specs.Sorted.{IsSortedOnce}
 use Rattle.wm_desc.specs.Table.{same_qname}
+use Rattle.wm_desc.proofs.Tables.{one_name}
 use Rattle.wm_law.specs.declared.job.Job.{Job}
 use Rattle.wm_law.specs.Counts.{is_waiting}
 use Rattle.wm_law.specs.Laws.{IsIn}
 use Rattle.wm_law.specs.Queues.{is_on_queue, waits_on}
-use Rattle.wm_law.proofs.Named.{one_name}
+use Rattle.wm_law.proofs.Members.{left_same}
 use Rattle.wm_ordered.proofs.Members.{Contains-cases, Contains-filter, Contains-from_filter, Contains-nil}
 use Rattle.wm_waiting.specs.declared.waiter.Waiter.{Waiter}
 use Rattle.wm_waiting.specs.Waiting.{HavePlaces, is_on, is_before, first_on, next_on}
@@ -142,13 +143,9 @@ module _ (queue : QName) where
           let parts = and_parts (waits_on queue x) (not (is_before (waiter_on queue x) w)) h in
           still_left after jobs w x found parts.0 (not-true (is_before (waiter_on queue x) w) parts.1)
 
-  kept_alike : (p q : Job → Bool) (xs : List Job) → ((x : Job) → IsIn x xs → p x ≡ q x) → filter p xs ≡ filter q xs
-  kept_alike p q [] same = refl
-  kept_alike p q (x ∷ xs) same = cc (same x (inl refl), kept_alike p q xs (λ y i. same y (inr i)))
-
   -- all come from the first on
   pub from_first : (jobs : List Job) → filter (waits_on queue) jobs ≡ filter (upcoming (first_on queue (waiters jobs))) jobs
-  from_first jobs = kept_alike (waits_on queue) (upcoming (first_on queue (waiters jobs))) jobs (next_left None (first_on queue (waiters jobs)) jobs refl)
+  from_first jobs = left_same (upcoming (first_on queue (waiters jobs))) (waits_on queue) jobs (next_left None (first_on queue (waiters jobs)) jobs refl)
 
   -- where there is no next, none comes
   pub none_comes : (jobs : List Job) → filter (upcoming None) jobs ≡ []

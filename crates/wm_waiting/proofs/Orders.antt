@@ -1,19 +1,17 @@
 -- What the orders of the keys say of their fields.
-use Rattle.std.proofs.Common.{◌≡◌, ℕ, ◌<◌, ◌≤◌, Bool, true, false, not, ◌&&◌, ◌==◌, nat_le, nat_eq, List, inl, inr, refl, ap, sym, ◌∙◌, arith}
+use Rattle.std.proofs.Common.{◌≡◌, ℕ, ◌<◌, ◌≤◌, Bool, true, false, not, ◌&&◌, ◌==◌, nat_le, List, inl, inr, refl, ap, sym, ◌∙◌, arith}
 use Rattle.std.specs.declared.cmp.Ordering.{Ordering}
 use Rattle.std.specs.declared.cmp.Ordering.TheVariants.{Less, Equal, Greater}
-use Rattle.std.specs.Cmp.{IsTotalOrder, IsEquivalence, unsigned_ties, unsigned_Decides}
-use Rattle.std.specs.Cmp.Lexicographic.{pointwise}
+use Rattle.std.specs.Cmp.{IsTotalOrder, IsEquivalence, unsigned_ties}
 use Rattle.std.specs.Ordering.{is_lt, is_gt, is_le, is_eq, nat_cmp, ordering_then}
 use mathlib.Core.Bool.{false≢true}
 use Rattle.std.proofs.lemmas.Bool.{cases_lt, and_parts, eqb-true}
 use Rattle.std.proofs.lemmas.Bool.Decides.{nat_tests}
 use Rattle.std.proofs.lemmas.Cmp.{on_total, then_total, nat_cmp_total, alike_right, tied_itself, on_equiv, and_equiv, nat_eq_equiv, nat_list_eq_equiv}
-use Rattle.std.proofs.lemmas.Slice.Eq.{slice_eq-Decides}
 use Rattle.wm_base.specs.declared.qname.QName.{QName}
 use Rattle.wm_base.proofs.Orderings.{lt-Less, then-not_Greater, is_eq-Equal}
 use Rattle.wm_desc.specs.Table.{same_qname, qname_cmp}
-use Rattle.wm_desc.proofs.Tables.{qname_total, qname_ties}
+use Rattle.wm_desc.proofs.Tables.{qname_total, qname_ties, one_name}
 use Rattle.wm_waiting.specs.declared.waiter.Waiter.{Waiter}
 use Rattle.wm_waiting.specs.declared.keys.Spot.{Spot}
 use Rattle.wm_waiting.specs.declared.keys.Rise.{Rise}
@@ -141,14 +139,6 @@ above_from_le m n h = grind (arith, nat_tests)
 abbrev qname_of : List ℕ → List ℕ → QName
 qname_of lib name = record { lib = lib; name = name }
 
--- what `==` says of two qualified names
-same_qname-is : (a b : QName) → same_qname a b ≡ true → a ≡ b
-same_qname-is a b h =
-    let parts = and_parts (pointwise nat_eq a.lib b.lib) (pointwise nat_eq a.name b.name) h in
-    let lib : a.lib ≡ b.lib = (slice_eq-Decides unsigned_Decides a.lib b.lib true (sym parts.0)).0 refl in
-    let name : a.name ≡ b.name = (slice_eq-Decides unsigned_Decides a.name b.name true (sym parts.1)).0 refl in
-    ap (λ l. qname_of l a.name) lib ∙ ap (λ n. qname_of b.lib n) name
-
 abbrev spot_at : QName → ℕ → ℕ → Spot
 spot_at queue pty place = record { jobq = queue; pty = pty; place = place }
 
@@ -157,7 +147,7 @@ pub same_spot-is : (a b : Spot) → same_spot a b ≡ true → a ≡ b
 same_spot-is a b h =
     let parts = and_parts (same_qname a.jobq b.jobq) (a.pty == b.pty && a.place == b.place) h in
     let fields = and_parts (a.pty == b.pty) (a.place == b.place) parts.1 in
-    let queue = same_qname-is a.jobq b.jobq parts.0 in
+    let queue = one_name a.jobq b.jobq parts.0 in
     let pty = eqb-true a.pty b.pty fields.0 in
     let place = eqb-true a.place b.place fields.1 in
     ap (λ q. spot_at q a.pty a.place) queue ∙ (ap (λ n. spot_at b.jobq n a.place) pty ∙ ap (λ n. spot_at b.jobq b.pty n) place)

@@ -11,21 +11,18 @@ use Rattle.wm_base.specs.JobName.{job_name_text}
 use Rattle.wm_base.specs.QName.{qname_text}
 use Rattle.wm_base.specs.declared.job.JobName.{JobName}
 use Rattle.wm_base.specs.declared.qname.QName.{QName}
-use Rattle.wm_base.proofs.Names.{length-name, qname_text-parts}
+use Rattle.wm_base.proofs.Names.{length-name, name_is, qname_text-parts}
 use Rattle.wm_when.specs.Schedule.{within, is_date}
 use Rattle.wm_when.specs.declared.schedule.DateSpec.TheVariants as date
 use Rattle.wm_when.specs.declared.schedule.TimeSpec.TheVariants as time
 use Rattle.wm_law.specs.declared.command.JobRef.{JobRef}
 use Rattle.wm_law.specs.declared.command.JobRef.TheVariants.{Simple, ByUser, Full}
 use Rattle.wm_words.specs.Texts.{job_text, second_text}
-use Rattle.wm_words.specs.Words.{FitsJob, weekday_text, before_slash, behind_slash, name_of, job_with, job_behind, job_of, by_user_of, full_of, simple_of, date_word_of, day_of, date_with, date_of, second_of, number_of, time_of}
+use Rattle.wm_words.specs.Words.{FitsJob, weekday_text, before_slash, behind_slash, job_with, job_behind, job_of, by_user_of, full_of, simple_of, date_word_of, day_of, date_with, date_of, second_of, number_of, time_of}
 use Rattle.wm_words.proofs.Digits.{number_decimal, number_six, number_eight, second_back, within_high, decimal_digits, decimal_some, padded_digits, padded_some, padded_length, six_digits, six_some}
 use Rattle.wm_words.proofs.Plain.{Plain, plain_no_star, plain_name, plain_digits, plain_join, name_unslashed, digits_unslashed, before_first, behind_first, before_none, behind_none, ap_two, ap_three}
 
 -- names
-pub name_is : (name : List ℕ) → IsName name → name_of name ≡ Some name
-name_is name h = ap (λ c. cond c (Some name) None) h
-
 pub name_short : (n : List ℕ) → IsName n → length n ≤ 200
 name_short n h = omega (arith, length-name n h)
 

@@ -8,26 +8,20 @@ use Rattle.std.proofs.lemmas.Fmt.{decimal_by_steps, decimal_nonempty, length-dec
 use Rattle.std.proofs.lemmas.List.{length-append, length-replicate}
 use Rattle.std.proofs.lemmas.List.Sums.{fold-append}
 use Rattle.std.proofs.lemmas.List.Folds.{list_all-append}
-use Rattle.wm_base.specs.Number.{zero_padded}
+use Rattle.wm_base.specs.Number.{is_digit, zero_padded}
+use Rattle.wm_base.proofs.Numbers.{digit_of}
 use Rattle.wm_clwords.proofs.GrammarLemmas.{all_push}
 use Rattle.wm_when.specs.Schedule.{within}
 use Rattle.wm_when.specs.declared.schedule.TimeSpec.TheVariants as time
 use Rattle.wm_words.specs.Texts.{second_text}
-use Rattle.wm_words.specs.Words.{is_digit, push_digit, digits, kept_within, number_of, second_of}
+use Rattle.wm_words.specs.Words.{push_digit, digits, kept_within, number_of, second_of}
 
 -- ranges
 pub within_from : (low high n : ℕ) → low ≤ n → n ≤ high → within low high n ≡ true
 within_from low high n h g = grind (arith, nat_tests)
 
-pub within_low : (low high n : ℕ) → within low high n ≡ true → low ≤ n
-within_low low high n h = let both = and_parts (nat_le low n) (nat_le n high) h in let first = both.0 in grind (arith, nat_tests)
-
 pub within_high : (low high n : ℕ) → within low high n ≡ true → n ≤ high
 within_high low high n h = let both = and_parts (nat_le low n) (nat_le n high) h in let second = both.1 in grind (arith, nat_tests)
-
--- one digit more
-pub digit_of : (d : ℕ) → d < 10 → is_digit (48 + d) ≡ true
-digit_of d h = grind (arith, nat_tests)
 
 pub push_step : (n d : ℕ) → d < 10 → n < 100000000 → push_digit (Some n) (48 + d) ≡ Some (n * 10 + d)
 push_step n d h g =

@@ -4,7 +4,7 @@ use Rattle.std.specs.List.{list_all}
 use Rattle.std.proofs.lemmas.Bool.{and_parts}
 use Rattle.std.proofs.lemmas.Bool.Decides.{nat_tests}
 use Rattle.std.proofs.lemmas.Option.{cond_some}
-use Rattle.wm_base.specs.Name.{is_name, IsName}
+use Rattle.wm_base.specs.Name.{is_name, IsName, name_of}
 use Rattle.wm_when.specs.Schedule.{within, is_date, date_in_range, time_in_range}
 use Rattle.wm_when.specs.declared.schedule.DateSpec.{DateSpec}
 use Rattle.wm_when.specs.declared.schedule.DateSpec.TheVariants as date
@@ -12,7 +12,7 @@ use Rattle.wm_when.specs.declared.schedule.TimeSpec.{TimeSpec}
 use Rattle.wm_when.specs.declared.schedule.TimeSpec.TheVariants as time
 use Rattle.wm_law.specs.declared.command.JobRef.{JobRef}
 use Rattle.wm_law.specs.declared.command.JobRef.TheVariants.{Simple, ByUser, Full}
-use Rattle.wm_words.specs.Words.{FitsJob, before_slash, behind_slash, name_of, job_with, job_behind, job_of, by_user_of, full_of, simple_of, same, date_word, dates_with_words, date_word_of, day_of, date_with, date_of, second_of, kept_within, digits, number_of, time_of}
+use Rattle.wm_words.specs.Words.{FitsJob, before_slash, behind_slash, job_with, job_behind, job_of, by_user_of, full_of, simple_of, same, date_word, dates_with_words, date_word_of, day_of, date_with, date_of, second_of, kept_within, digits, number_of, time_of}
 
 -- answers
 

@@ -2,4 +2,3 @@ pub mod Back
 pub mod Digits
 pub mod Forms
 pub mod Plain
-pub mod Texts

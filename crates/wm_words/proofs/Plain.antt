@@ -10,9 +10,10 @@ use Rattle.std.proofs.lemmas.List.Folds.{list_all-append}
 use Rattle.std.proofs.lemmas.List.Sums.{take_while-cons}
 use Rattle.wm_base.specs.Name.{continues_name, IsName}
 use Rattle.wm_base.proofs.Names.{continues-name}
+use Rattle.wm_base.specs.Number.{is_digit}
 use Rattle.wm_clwords.specs.Grammar.{is_word_byte, is_word, upper_byte, upper}
 use Rattle.wm_clwords.proofs.GrammarLemmas.{word_from}
-use Rattle.wm_words.specs.Words.{is_digit, is_no_slash, before_slash, behind_slash}
+use Rattle.wm_words.specs.Words.{is_no_slash, before_slash, behind_slash}
 use Rattle.wm_clwords.proofs.NameWords.{no_comment}
 
 -- a byte of a name or a slash

@@ -1,7 +1,8 @@
 -- What texts say: numbers, names, dates and times.
-use Rattle.std.specs.Prelude.{ℕ, Bool, true, false, not, Option, Some, None, List, length, take, drop, ◌+◌, ◌-◌, ◌*◌, ◌/◌, ◌%◌, ◌==◌, ◌&&◌, nat_lt, nat_le, nat_eq, if◌then◌else◌, codes, [], ◌∷◌, find, take_while, fold, IsTrue}
+use Rattle.std.specs.Prelude.{ℕ, Bool, true, false, not, Option, Some, None, List, length, take, drop, ◌+◌, ◌-◌, ◌*◌, ◌/◌, ◌%◌, ◌==◌, ◌&&◌, nat_lt, nat_eq, if◌then◌else◌, codes, [], ◌∷◌, find, take_while, fold, IsTrue}
 use Rattle.std.specs.Cmp.Lexicographic.{pointwise}
-use Rattle.wm_base.specs.Name.{is_name, IsName}
+use Rattle.wm_base.specs.Name.{IsName, name_of}
+use Rattle.wm_base.specs.Number.{is_digit}
 use Rattle.wm_when.specs.Schedule.{within, is_date}
 use Rattle.wm_when.specs.declared.schedule.DateSpec.{DateSpec}
 use Rattle.wm_when.specs.declared.schedule.DateSpec.TheVariants as date
@@ -13,9 +14,6 @@ use Rattle.wm_law.specs.declared.command.EndOption.{EndOption}
 use Rattle.wm_law.specs.declared.command.EndOption.TheVariants.{Cntrld, Immed}
 
 -- Numbers
-
-abbrev pub is_digit : ℕ → Bool
-is_digit byte = nat_le 48 byte && nat_le byte 57
 
 -- one more digit behind a number of at most eight
 abbrev pub push_digit : Option ℕ → ℕ → Option ℕ
@@ -35,9 +33,6 @@ unfoldable pub number_of : ℕ → ℕ → ℕ → ℕ → List ℕ → Option �
 number_of fewest most low high text = if within fewest most (length text) then kept_within low high (digits text) else None
 
 -- Names
-
-abbrev pub name_of : List ℕ → Option (List ℕ)
-name_of text = if is_name text then Some text else None
 
 abbrev pub is_no_slash : ℕ → Bool
 is_no_slash byte = not (byte == 47)

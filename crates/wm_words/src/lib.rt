@@ -12,7 +12,6 @@ mod written;
 
 pub use printing::{push_cmp, push_date, push_job, push_name, push_number, push_time, push_word};
 pub use words::{
-    date_of, ending_of, ending_word, flag_of, flag_word, job_of, name_of, number_of, time_of,
-    within,
+    date_of, ending_of, ending_word, flag_of, flag_word, job_of, number_of, time_of, within,
 };
 pub use written::{is_bare, is_word, key_of, listed, place_of, text_of};

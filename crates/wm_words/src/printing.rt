@@ -23,7 +23,7 @@ pub fn push_word(out: &mut Text, word: &str) -> Result<(), NoMemory>
 }
 
 /// Puts a name as it is written in a command.
-#[tactic(auto, using(crate::proofs::Texts::texts))]
+#[tactic(auto, using(wm_clwords::proofs::Names::texts))]
 pub fn push_name(out: &mut Text, name: &Name) -> Result<(), NoMemory>
     ensures { OnOk result (out.new ≡ out.old ++ name.now) }
 {
@@ -32,7 +32,7 @@ pub fn push_name(out: &mut Text, name: &Name) -> Result<(), NoMemory>
 }
 
 /// Puts a number in decimal digits, without zeros in front.
-#[tactic(auto, using(crate::proofs::Texts::texts))]
+#[tactic(auto, using(wm_clwords::proofs::Names::texts))]
 pub fn push_number(alloc: Global, out: &mut Text, n: u32) -> Result<(), NoMemory>
     ensures { OnOk result (out.new ≡ out.old ++ decimal n) }
 {
@@ -42,7 +42,7 @@ pub fn push_number(alloc: Global, out: &mut Text, n: u32) -> Result<(), NoMemory
 }
 
 // Puts a number below 100 in two digits.
-#[tactic(auto, using(crate::proofs::Texts::padded))]
+#[tactic(auto, using(wm_base::proofs::Texts::padded))]
 fn push_two(alloc: Global, out: &mut Text, n: u32) -> Result<(), NoMemory>
     ensures { OnOk result (out.new ≡ out.old ++ zero_padded 2 n) }
 {
@@ -52,7 +52,7 @@ fn push_two(alloc: Global, out: &mut Text, n: u32) -> Result<(), NoMemory>
 }
 
 /// Puts the reference of a job: its name, or with the user in front, or with the number in six digits and the user.
-#[tactic(auto, using(crate::proofs::Texts::padded))]
+#[tactic(auto, using(wm_base::proofs::Texts::padded))]
 pub fn push_job(alloc: Global, out: &mut Text, job: &JobRef) -> Result<(), NoMemory>
     ensures { OnOk result (out.new ≡ out.old ++ job_text job.now) }
 {
@@ -91,7 +91,7 @@ pub fn push_cmp(alloc: Global, out: &mut Text, cmp: &Cmp) -> Result<(), NoMemory
 }
 
 /// Puts a date: its word, or a day as eight digits, the year first.
-#[tactic(auto, using(crate::proofs::Texts::padded))]
+#[tactic(auto, using(wm_base::proofs::Texts::padded))]
 pub fn push_date(alloc: Global, out: &mut Text, date: DateSpec) -> Result<(), NoMemory>
     ensures { OnOk result (out.new ≡ out.old ++ date_text date) }
 {

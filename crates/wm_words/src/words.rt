@@ -2,10 +2,10 @@
 ghost use Rattle.std.specs.Prelude.{◌≡◌, ◌≤◌, length, take, drop, take_while, codes, fold, Some, nat_eq, IsTrue, ◌<◌, ◌^◌, IfSome};
 ghost use Rattle.std.specs.Option.{option_copied};
 ghost use Rattle.wm_base.specs.Text.{IsText};
-ghost use Rattle.wm_words.specs.Words.{is_digit, push_digit, digits, kept_within, number_of, name_of, is_no_slash, before_slash, behind_slash, simple_of, by_user_of, full_of, job_behind, job_with, job_of, flag_text, flag_of, ending_text, ending_of, date_word, date_word_of, day_of, date_with, date_of, second_of, time_of};
+ghost use Rattle.wm_words.specs.Words.{push_digit, digits, kept_within, number_of, is_no_slash, before_slash, behind_slash, simple_of, by_user_of, full_of, job_behind, job_with, job_of, flag_text, flag_of, ending_text, ending_of, date_word, date_word_of, day_of, date_with, date_of, second_of, time_of};
 ghost use Rattle.wm_when.specs.Schedule.{within};
 
-use wm_base::{JobName, JobNumber, Name};
+use wm_base::{JobName, JobNumber, Name, name_of};
 use wm_law::{EndOption, JobRef};
 use wm_when::{DateSpec, TimeSpec, is_date};
 
@@ -38,16 +38,6 @@ pub fn number_of(fewest: usize, most: usize, low: u32, high: u32, text: &[u8]) -
     }
     let n = text.iter().fold(Some(0), |n, byte| push_digit(n, *byte))?;
     if low <= n && n <= high { Some(n) } else { None }
-}
-
-/// The name that a text is, where it is one.
-pub fn name_of(text: &[u8]) -> Option<Name>
-    ensures { result ≡ name_of text.now }
-{
-    match Name::read(text) {
-        Ok(name) => Some(name),
-        Err(_) => None,
-    }
 }
 
 fn slash_at(text: &[u8]) -> usize

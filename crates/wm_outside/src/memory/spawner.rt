@@ -23,7 +23,6 @@ use wm_traits::{Failed, Spawner, StartFault, Told};
 /// reports a killed child before others, and of these the one with the least serial. A wait without a moment reports a
 /// killed child, else the longest-out child that isn't prestart, else the longest-out child. Where memory is wanting to
 /// record a call, it ceases to tell, and goes on.
-#[derive(Drop)]
 pub struct MemSpawner {
     lag: u32,
     children: Children,
@@ -34,6 +33,23 @@ pub struct MemSpawner {
     starts: Calls,
     kills: Calls,
     looks: Calls,
+}
+
+// It is written out, so that a caller does not prove again how each part is dropped.
+impl Drop for MemSpawner {
+    fn drop(self) {
+        let MemSpawner {
+            lag: _,
+            children: _,
+            asked: _,
+            told: _,
+            awaited: _,
+            tells: _,
+            starts: _,
+            kills: _,
+            looks: _,
+        } = self;
+    }
 }
 
 // Records what was asked, while it tells.

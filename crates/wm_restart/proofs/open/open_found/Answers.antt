@@ -10,10 +10,10 @@ use Rattle.wm_restart.specs.declared.restart.RestartFault.TheVariants.{BadRow}
 use Rattle.wm_tables.specs.Opened.{PutsNew}
 use Rattle.wm_tables.specs.Restart.{IsRestart}
 use Rattle.wm_tables.specs.Tables.{tables}
-use Rattle.wm_tables.proofs.Restarts.{good_restart}
+use Rattle.wm_tables.proofs.Restarts.{good_is_sound, good_restart}
 use Rattle.wm_restart.specs.Written.{job_changes, Stands}
 use Rattle.wm_restart.proofs.JobChanges.{jobs_are_new, jobs_make_tables}
-use Rattle.wm_restart.proofs.Restarts.{none_active, sound, stand}
+use Rattle.wm_restart.proofs.Restarts.{none_active, stand}
 use Rattle.wm_restart.proofs.open.open_found.Goals as goal
 
 pub returns-in-Err-clause-bad : goal.returns-in-Err-clause-bad
@@ -32,17 +32,17 @@ job_changes-requires-clause-stand c =
 
 pub kept_of-requires-clause-serial : goal.kept_of-requires-clause-serial
 kept_of-requires-clause-serial c =
-    let h = sound c.args.setup.now.offset c.args.rows.now c.in-Ok.reading c.in-Ok.ensures.good c.in-Ok.ensures.counters in
+    let h = good_is_sound c.args.setup.now.offset c.args.rows.now c.in-Ok.reading c.in-Ok.ensures.good c.in-Ok.ensures.counters in
     subst (λ (s : State). s.next_serial ≤ serials_end) (sym c.parts-read.ensures) h.numbered.next_serial.most
 
 pub kept_of-requires-clause-place : goal.kept_of-requires-clause-place
 kept_of-requires-clause-place c =
-    let h = sound c.args.setup.now.offset c.args.rows.now c.in-Ok.reading c.in-Ok.ensures.good c.in-Ok.ensures.counters in
+    let h = good_is_sound c.args.setup.now.offset c.args.rows.now c.in-Ok.reading c.in-Ok.ensures.good c.in-Ok.ensures.counters in
     subst (λ (s : State). s.next_place ≤ serials_end) (sym c.parts-read.ensures) h.numbered.next_place.most
 
 pub stored-requires-clause-sound : goal.stored-requires-clause-sound
 stored-requires-clause-sound c =
-    let h = sound c.args.setup.now.offset c.args.rows.now c.in-Ok.reading c.in-Ok.ensures.good c.in-Ok.ensures.counters in
+    let h = good_is_sound c.args.setup.now.offset c.args.rows.now c.in-Ok.reading c.in-Ok.ensures.good c.in-Ok.ensures.counters in
     subst IsSound (sym (c.kept_of.ensures ∙ c.parts-read.ensures)) h
 
 pub stored-requires-clause-inactive : goal.stored-requires-clause-inactive

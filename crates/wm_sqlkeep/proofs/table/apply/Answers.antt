@@ -1,4 +1,4 @@
-use Rattle.std.proofs.Common.{◌≡◌, ◌∙◌, sym, refl, inl, inr, rules, arith, IsTrue, Result, Ok, Err, OnErr}
+use Rattle.std.proofs.Common.{◌≡◌, ◌∙◌, sym, refl, inl, inr, rules, arith, IsTrue}
 use Rattle.sqlite.specs.State.{State, HasCleanDisk, KeepsCommit, IsRolledBack}
 use Rattle.sqlite.specs.Held.{state}
 use Rattle.sqlite.specs.Steps.{FailsToCommit}
@@ -6,10 +6,7 @@ use Rattle.sqlite.specs.declared.error.Error.{Error}
 use Rattle.wm_sqlkeep.specs.Changes.{IsAsItWas}
 use Rattle.sqlite.proofs.InsideLemmas.{keeps_then}
 use Rattle.wm_sqlkeep.proofs.table.apply.Goals as goal
-
-on_err : {T E P : Type 0} (r : Result T E) → P → OnErr r P
-on_err (Ok x) p = tt
-on_err (Err e) p = p
+use Rattle.wm_base.proofs.Lists.{on_err}
 
 module _ (old mid new : State) (settled : IsTrue old.is_open → old.now ≡ old.committed) (kept : KeepsCommit old mid) where
   -- what was rolled back before anything was committed is as it was

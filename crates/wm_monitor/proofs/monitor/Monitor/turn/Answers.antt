@@ -1,4 +1,4 @@
-use Rattle.std.proofs.Common.{◌≡◌, ◌∙◌, ◌-◌, length, refl, arith}
+use Rattle.std.proofs.Common.{◌≡◌, ◌∙◌, ◌-◌, length, arith}
 use Rattle.wm_monitor.proofs.Askings.{AsksFirst-again}
 use Rattle.wm_monitor.proofs.Hands.{handed_in}
 use Rattle.wm_monitor.proofs.Monitors.{Proceeds-then}

@@ -1,6 +1,5 @@
 use Rattle.std.proofs.Common.{◌≡◌, ap, sym, ◌∙◌, arith}
 use Rattle.std.proofs.lemmas.Bool.Decides.{nat_tests}
-use Rattle.wm_law.specs.declared.pending.Pending.{Pending}
 use Rattle.wm_monitor.proofs.Monitors.{Proceeds-none, Proceeds-then}
 use Rattle.wm_monitor.proofs.Journals.{HasJournalCauses-none, HasJournalCauses-more}
 use Rattle.wm_run.specs.Awaited.{jobs_left}
