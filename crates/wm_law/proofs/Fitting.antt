@@ -20,17 +20,19 @@ use Rattle.wm_law.specs.declared.state.State.{State}
 use Rattle.wm_law.specs.Choice.{has_free_queue, is_held, is_sbs_active, maxpty_of, next}
 use Rattle.wm_law.specs.Counts.{count_by_route, count_from_priority, count_from_queue, count_in_sbs, is_by_route, is_waiting}
 use Rattle.wm_law.specs.History.{stepped}
-use Rattle.wm_law.specs.Kept.{IsNumbered}
+use Rattle.wm_law.specs.Kept.{GoesOn, IsNumbered}
 use Rattle.wm_law.specs.Launch.{as_launched, from_queue, launch, launch_job, launched, launched_at, launched_through, route}
 use Rattle.wm_law.specs.Laws.{IsIn, Turn}
 use Rattle.wm_law.specs.Machine.{apply, step, with_clock}
-use Rattle.wm_law.specs.Order.{IsFit, IsInOrder, KeepsOrder, LaunchesFit, counted_for, was_launched}
+use Rattle.wm_law.specs.Order.{GivesNewSerials, IsFit, IsInOrder, KeepsOrder, LaunchesFit, counted_for, was_launched}
 use Rattle.wm_law.specs.Settling.{come_due, leave, settle, waiting}
 use Rattle.wm_law.specs.Sound.{HasQueues}
 use Rattle.wm_law.proofs.Autos.{AutosRouted, autos_due, autos_fit, calls_route_autos}
+use Rattle.wm_law.proofs.Forward.{step_goes_on}
 use Rattle.wm_law.proofs.InTurn.{launched_in}
 use Rattle.wm_law.proofs.Members.{of_mapped}
 use Rattle.wm_law.proofs.Moves.{call_keeps, comes_due}
+use Rattle.wm_law.proofs.NewSerials.{step_gives_new_serials}
 use Rattle.wm_law.proofs.Nexts.{IsNext, is_next}
 use Rattle.wm_law.proofs.Numbers.{apply_keeps, clock_keeps, due_keeps, launches_keep, only_started, step_keeps_numbers}
 use Rattle.wm_law.proofs.Passed.{IsOrderedSince, LaunchesNone, calls_launch_none, counted_all, counted_more, due_launches_none, full_still, launched_ordered, one, ordered_yet}
@@ -125,8 +127,8 @@ launches_fit s = record {
 }
 
 -- settling launches the jobs in their order
-settled_in_order : (s t : State) → IsNumbered (come_due t) → HasQueues (come_due t) → LaunchesNone s (come_due t) → AutosRouted s (come_due t) → IsInOrder s (settle t)
-settled_in_order s t n q h a =
+settled_in_order : (s t : State) → IsNumbered (come_due t) → HasQueues (come_due t) → LaunchesNone s (come_due t) → AutosRouted s (come_due t) → GoesOn s (settle t) → GivesNewSerials s (settle t) → IsInOrder s (settle t)
+settled_in_order s t n q h a on new =
     let u = leave (come_due t) in
     let since : IsFitSince s (settle t) = iterate-keeps (IsFitSince s) (launches_fit s) (waiting u) u (record {
       ordered = ordered_yet s u (only_started (come_due t) n) h;
@@ -137,6 +139,8 @@ settled_in_order s t n q h a =
       none_passed = since.ordered.passed;
       fit = since.fit;
       autos = autos_fit s (come_due t) n q a;
+      forward = on;
+      serials = new;
     }
 
 -- and so does a step
@@ -150,6 +154,8 @@ step_order s caller call moment n q =
     settled_in_order s t (due_keeps t numbered) (comes_due HasQueues t (queued_calls t queued))
     (due_launches_none s t (call_keeps (LaunchesNone c) c caller call (calls_launch_none c)))
     (autos_due s t (call_keeps (AutosRouted c) c caller call (calls_route_autos c)))
+    (step_goes_on s caller call moment n)
+    (step_gives_new_serials s caller call moment)
 
 -- and each entry of a history
 pub order_kept : (s : State) (h : List Entry) → IsNumbered s → HasQueues s → KeepsOrder s h

@@ -49,3 +49,7 @@ pub mod Due
 pub mod Moments
 pub mod Quiet
 pub mod Sound
+pub mod NewSerials
+pub mod Leaving
+pub mod Handing
+pub mod NextMoment

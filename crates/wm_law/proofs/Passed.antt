@@ -27,7 +27,7 @@ use Rattle.wm_law.specs.Autos.{auto_job, auto_launched, auto_made}
 use Rattle.wm_law.specs.Choice.{is_allowed, is_ready, is_sbs_active, maxpty_of, next}
 use Rattle.wm_law.specs.Counts.{count_active, count_from_priority, count_from_queue, count_in_sbs, is_active, is_from_priority, is_from_queue, is_waiting}
 use Rattle.wm_law.specs.Kept.{IsNumbered}
-use Rattle.wm_law.specs.Launch.{as_launched, launch, launch_job, launched, launched_at}
+use Rattle.wm_law.specs.Launch.{as_launched, launch_job, launched, launched_at}
 use Rattle.wm_law.specs.Laws.{IsIn, MayStart, Turn}
 use Rattle.wm_law.specs.Settling.{come_due, job_at, sbss_at}
 use Rattle.wm_law.specs.Wishes.{why_cause}

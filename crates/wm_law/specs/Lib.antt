@@ -29,3 +29,6 @@ pub mod Limits
 pub mod Order
 pub mod Objects
 pub mod Sound
+pub mod Handing
+pub mod Leaving
+pub mod NextMoment

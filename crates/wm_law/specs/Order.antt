@@ -1,5 +1,5 @@
--- Each job started was the first that its descriptions allowed, read off the states before and after an entry.
-use Rattle.std.specs.Prelude.{◌≡◌, ℕ, ◌≤◌, Bool, true, false, not, ◌&&◌, ◌==◌, ◌⊎◌, List, [], ◌∷◌, count_by, Option, Some, None, ⊤}
+-- Each job started was the first that its descriptions allowed, and none goes back, read off the states before and after an entry.
+use Rattle.std.specs.Prelude.{◌≡◌, ℕ, ◌≤◌, Bool, true, false, not, ◌&&◌, ◌==◌, ◌⊎◌, List, [], ◌∷◌, count_by, map, Option, Some, None, ⊤}
 use Rattle.std.specs.List.{list_any}
 use Rattle.std.specs.Ordering.{nat_cmp, is_lt, ordering_then}
 use Rattle.wm_base.specs.declared.job.EndCause.{EndCause}
@@ -24,6 +24,7 @@ use Rattle.wm_law.specs.declared.state.Sbs.{Sbs}
 use Rattle.wm_law.specs.Choice.{entry_for, holder, is_allowed, is_held, is_ready, is_sbs_active, maxpty_of}
 use Rattle.wm_law.specs.Counts.{is_active, is_by_route, is_from_priority, is_from_queue, is_waiting}
 use Rattle.wm_law.specs.History.{stepped}
+use Rattle.wm_law.specs.Kept.{GoesOn}
 use Rattle.wm_law.specs.Launch.{route}
 use Rattle.wm_law.specs.Laws.{IsIn, Turn}
 use Rattle.wm_law.specs.Limits.{BecameStarting}
@@ -187,12 +188,19 @@ pub record IsAutoRouted (objects : Objects) (j : Job) : Type 0 where
 abbrev pub AutosFit : State → State → Type 0
 AutosFit s t = (j : Job) → BecameStarting s t j → j.kind ≡ Asj → IsAutoRouted t.objects j
 
--- the jobs are launched in their order over an entry, from the state before it to the state after it
+-- a job that wasn't there has a serial that wasn't given before, and the next serial doesn't fall
+pub record GivesNewSerials (s t : State) : Type 0 where
+  pub new : (j : Job) → IsIn j t.jobs → IsIn j.serial (map (λ j. j.serial) s.jobs) ⊎ (s.next_serial ≤ j.serial)
+  pub next : s.next_serial ≤ t.next_serial
+
+-- the jobs are launched in their order over an entry, from the state before it to the state after it; none is lost or goes back, and no serial is given again
 pub record IsInOrder (s t : State) : Type 0 where
   pub none_left : LeavesNone t
   pub none_passed : PassesNone s t
   pub fit : LaunchesFit s t
   pub autos : AutosFit s t
+  pub forward : GoesOn s t
+  pub serials : GivesNewSerials s t
 
 -- the jobs are launched in their order over each entry of a history
 abbrev pub KeepsOrder : State → List Entry → Type 0

@@ -1,6 +1,9 @@
 // Laws of the machine: what its definitions come to, each for all states. They are no calls.
 ghost use Rattle.wm_law.specs.Laws.{FirstIsLeast, NoFirstIsNone, NextIsFirst, NoNextIsNone, RouteIsLeast, NoRouteIsNone, SettledHasNoNext, SettledLeavesNone, RefusalLeaves, RefusedStepSettles, BuiltCallsAreAnswered, BuiltIsHad};
 ghost use Rattle.wm_law.specs.Kept.{OpeningIsNumbered, StepKeepsNumbers, NumbersAreGivenOnce, StepGoesOn, SerialsStartOnce, SerialsAreKilledOnce, OpeningHasOrders, StepKeepsOrders, StartingJobsHaveOrders, HandGivesAnOrder, ReachedRouteIsLeast, OpeningHasDescriptions, StepKeepsDescriptions, StartedAreDescribed, OpeningIsQuiet, StepKeepsQuiet, NoneIsActiveWithoutPower, OpeningHasDistinctNames, StepKeepsNamesDistinct, StartedNamesAreDistinct, StartsInOrder};
+ghost use Rattle.wm_law.specs.Handing.{HandedKillIsLeast, HandedStartIsLeast};
+ghost use Rattle.wm_law.specs.Leaving.{EndingSubsystemsHaveJobs, StepLeavesEndingJobs};
+ghost use Rattle.wm_law.specs.NextMoment.{NextMomentIsSoonest};
 ghost use Rattle.wm_law.specs.Sound.{AutostartJobsNeverWait, OpeningIsSound, StepKeepsSound, StatesAreSound, OpeningHasNoneDue, StepLeavesNoneDue, NoneIsDue, CallsLeaveNoneDue, NothingDueStays, NoneDueBefore, StepKeepsLimits, LimitsAreKept, StepKeepsOrder, OrderIsKept};
 
 /// The first job of a subsystem may start there, and no other job that may start there stands before
@@ -77,6 +80,13 @@ pub fn starting_jobs_have_orders()
     ensures hand { HandGivesAnOrder }
 {}
 
+/// A kill that Hand orders is one of its caller's own jobs, that of least serial which is yet to be handed.
+/// Where it orders a start, no kill is yet to be handed to its caller, and the start is that of least serial.
+pub fn hand_gives_the_least()
+    ensures kill { HandedKillIsLeast }
+    ensures start { HandedStartIsLeast }
+{}
+
 /// No two started subsystems have one simple name.
 pub fn started_names_are_distinct()
     ensures opening { OpeningHasDistinctNames }
@@ -103,6 +113,20 @@ pub fn none_is_active_without_power()
     ensures opening { OpeningIsQuiet }
     ensures step { StepKeepsQuiet }
     ensures always { NoneIsActiveWithoutPower }
+{}
+
+/// After each entry each ending subsystem has an active job: one that has none has left.
+pub fn ending_subsystems_have_jobs()
+    ensures step { StepLeavesEndingJobs }
+    ensures always { EndingSubsystemsHaveJobs }
+{}
+
+/// The next moment that Pending tells is above the clock, and the soonest of those at which a Waiting job is due,
+/// an active job is to end by its wish, or an ending subsystem is to end. There is none only where none of them
+/// is above the clock.
+#[tactic(auto, using(crate::proofs::NextMoment::next_moment_is_soonest))]
+pub fn next_moment_is_soonest()
+    ensures { NextMomentIsSoonest }
 {}
 
 /// A call that the machine has is never answered Nothing, Hand aside.
@@ -158,7 +182,8 @@ pub fn no_start_passes_a_limit()
 /// before it waits because a limit of its queue entry was reached without the jobs behind it. A
 /// launched job isn't held, nor is its queue; it is due, and its holder is Active; and it starts by its
 /// first matching routing entry, or has ended because that one is full or there is none. An autostart
-/// job that started did so by its first matching routing entry, too.
+/// job that started did so by its first matching routing entry, too. No job is lost, none goes back to an
+/// earlier phase, and no serial is given again.
 pub fn jobs_are_launched_in_order()
     ensures step { StepKeepsOrder }
     ensures always { OrderIsKept }

@@ -1,0 +1,102 @@
+-- No ending subsystem stays without an active job.
+use Rattle.std.proofs.Common.{◌≡◌, ℕ, zero, suc, ◌<◌, ◌≤◌, ◌==◌, ◌&&◌, not, Bool, true, false, cond, List, [], ◌∷◌, map, filter, Option, Some, None, refl, ap, ◌∙◌, inl, inr, arith}
+use Rattle.std.specs.List.{find}
+use Rattle.std.proofs.lemmas.Bool.{and_parts, eqb-true}
+use Rattle.wm_base.specs.Iterate.{IsKept}
+use Rattle.wm_base.proofs.Iterate.{iterate-keeps}
+use Rattle.wm_base.specs.declared.qname.QName.{QName}
+use Rattle.wm_law.specs.declared.choice.Candidate.{Candidate}
+use Rattle.wm_law.specs.declared.job.Job.{Job}
+use Rattle.wm_law.specs.declared.job.Phase.{Phase}
+use Rattle.wm_law.specs.declared.job.Phase.TheVariants.{Waiting, Starting, Handed, Running, Ended}
+use Rattle.wm_law.specs.declared.launch.Launched.{Launched}
+use Rattle.wm_law.specs.declared.state.State.{State}
+use Rattle.wm_law.specs.declared.state.Sbs.{Sbs}
+use Rattle.wm_law.specs.Choice.{next}
+use Rattle.wm_law.specs.Counts.{count_in_sbs, is_active, is_in_sbs, is_waiting}
+use Rattle.wm_law.specs.History.{stepped}
+use Rattle.wm_law.specs.Kept.{IsNumbered}
+use Rattle.wm_law.specs.Launch.{as_launched, launch, launch_job, launched, launched_at}
+use Rattle.wm_law.specs.Laws.{IsIn}
+use Rattle.wm_law.specs.Leaving.{EndingHaveJobs, EndingSubsystemsHaveJobs, StepLeavesEndingJobs}
+use Rattle.wm_law.specs.Machine.{apply, step, with_clock}
+use Rattle.wm_law.specs.Settling.{come_due, is_ending, is_gone, leave, settle, waiting}
+use Rattle.wm_law.proofs.Counted.{no_fewer}
+use Rattle.wm_law.proofs.Firsts.{next_waits}
+use Rattle.wm_law.proofs.Forward.{only_one}
+use Rattle.wm_law.proofs.Numbers.{apply_keeps, clock_keeps, launches_keep, ready_keeps, step_keeps_numbers}
+
+-- what a filter leaves passes its test
+stays_by : {X : Type 0} (p : X → Bool) (t : Bool) (y x : X) (ys : List X) → p y ≡ t → (IsIn x ys → p x ≡ true) → IsIn x (cond t (y ∷ ys) ys) → p x ≡ true
+stays_by p true y x ys e h (inl same) = ap p same ∙ e
+stays_by p true y x ys e h (inr i) = h i
+stays_by p false y x ys e h i = h i
+
+passes : {X : Type 0} (p : X → Bool) (xs : List X) (x : X) → IsIn x (filter p xs) → p x ≡ true
+passes p [] x i = absurd i
+passes p (y ∷ xs) x i = stays_by p (p y) y x (filter p xs) refl (passes p xs x) i
+
+more_than_none : (n : ℕ) (ending : Bool) → ending ≡ true → not (ending && n == 0) ≡ true → 0 < n
+more_than_none zero true e h = absurd (cc)
+more_than_none zero false e h = absurd (cc)
+more_than_none (suc n) ending e h = omega arith
+
+-- once those that are gone have left, each ending subsystem has an active job
+left_with_jobs : (s : State) → EndingHaveJobs (leave s)
+left_with_jobs s b i e = more_than_none (count_in_sbs b.sbsd s.jobs) (is_ending b.phase) e (passes (λ (b : Sbs). not (is_gone s.jobs b)) s.started b i)
+
+not_both : (p : Phase) → is_waiting p ≡ true → is_active p ≡ true → ⊥
+not_both Waiting w a = absurd (cc)
+not_both Starting w a = absurd (cc)
+not_both (Handed m) w a = absurd (cc)
+not_both (Running m) w a = absurd (cc)
+not_both (Ended c) w a = absurd (cc)
+
+-- a job that is counted isn't the one that is launched, so it is counted still
+module _ (t : State) (c : Candidate) (l : Launched) (sbs : QName) (numbered : IsNumbered t) (is_next : next t ≡ Some c) where
+  abbrev is_counted : Job → Bool
+  is_counted j = is_active j.phase && is_in_sbs sbs j.how
+
+  counted_at : (b : Bool) (i : Job) → (i.serial == c.serial) ≡ b → IsIn i t.jobs → is_counted i ≡ true → is_counted (cond b (as_launched l i) i) ≡ true
+  counted_at true i e m h =
+      let w = next_waits t c is_next in
+      let its : i.serial ≡ w.0.serial = eqb-true i.serial c.serial e ∙ w.3 in
+      let same : i ≡ w.0 = only_one t.jobs numbered.serials.distinct i w.0 m w.1 its in
+      absurd (not_both i.phase (ap (λ (j : Job). is_waiting j.phase) same ∙ w.2) (and_parts (is_active i.phase) (is_in_sbs sbs i.how) h).0)
+  counted_at false i e m h = h
+
+  no_fewer_counted : count_in_sbs sbs t.jobs ≤ count_in_sbs sbs (map (launched_at c.serial l) t.jobs)
+  no_fewer_counted = no_fewer is_counted is_counted (launched_at c.serial l) t.jobs (λ i m h. counted_at (i.serial == c.serial) i refl m h)
+
+launched_with_jobs : (t : State) (c : Candidate) (o : Option Job) → IsNumbered t → next t ≡ Some c → EndingHaveJobs t → EndingHaveJobs (launch_job t c o)
+launched_with_jobs t c None n e h = h
+launched_with_jobs t c (Some j) n e h = λ b i ending.
+    let before = h b i ending in
+    let fewer = no_fewer_counted t c (launched t c.sbs c.jobq j) b.sbsd n e in
+    omega arith
+
+-- numbered, and each ending subsystem has an active job
+record IsPeopled (s : State) : Type 0 where
+  numbered : IsNumbered s
+  jobs : EndingHaveJobs s
+
+launches_keep_jobs : IsKept next (λ c t. launch t c) IsPeopled
+launches_keep_jobs = record {
+  by_step = λ t c e h. record {
+    numbered = launches_keep.by_step t c e h.numbered;
+    jobs = launched_with_jobs t c (find (λ (j : Job). j.serial == c.serial) t.jobs) h.numbered e h.jobs;
+  };
+}
+
+settled_with_jobs : (s : State) → IsNumbered s → EndingHaveJobs (settle s)
+settled_with_jobs s n =
+    let left = leave (come_due s) in
+    (iterate-keeps IsPeopled launches_keep_jobs (waiting left) left (record { numbered = ready_keeps s n; jobs = left_with_jobs (come_due s) })).jobs
+
+pub step_leaves_ending_jobs : StepLeavesEndingJobs
+unfolding step
+step_leaves_ending_jobs s caller call moment n = settled_with_jobs (apply (with_clock s moment) caller call).state (apply_keeps (with_clock s moment) caller call (clock_keeps s moment n))
+
+pub ending_subsystems_have_jobs : EndingSubsystemsHaveJobs
+ending_subsystems_have_jobs s [] n h = h
+ending_subsystems_have_jobs s (e ∷ es) n h = ending_subsystems_have_jobs (stepped s e).state es (step_keeps_numbers s e.caller e.call e.moment n) (step_leaves_ending_jobs s e.caller e.call e.moment n)
