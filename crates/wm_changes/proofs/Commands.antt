@@ -35,8 +35,7 @@ use Rattle.wm_law.specs.declared.call.Call.TheVariants.{Change}
 use Rattle.wm_law.specs.declared.command.Command.{Command}
 use Rattle.wm_law.specs.declared.command.Command.TheVariants as command
 use Rattle.wm_law.specs.declared.state.State.{State}
-use Rattle.wm_law.proofs.Aside.{call_is_aside}
-use Rattle.wm_law.specs.Built.{is_configuring_call}
+use Rattle.wm_law.proofs.Aside.{IsAside, call_is_aside}
 use Rattle.wm_rows.specs.Rows.{class_row, program_row, queue_row, jobd_row, sbsd_row, queue_entry_row, route_entry_row, auto_entry_row, pre_entry_row, held_row}
 use Rattle.wm_rows.specs.Places.{numbered_place, entry_place}
 use Rattle.wm_rows.specs.Tables.{queue_entry_rows, route_entry_rows, auto_entry_rows, pre_entry_rows, held_rows, object_rows}
@@ -105,15 +104,6 @@ module _ (s : State) where
   abbrev pub Answers : Option RowChange → Stepped → Type 0
   Answers change t = HasOwn t.state → Differs (own_part s) (own_part t.state) (option_to_list (cond (is_accepted t.reply) change None))
 
-  -- the objects and the held queues stay
-  pub record Leaves (t : State) : Type 0 where
-    pub objects : t.objects ≡ s.objects
-    pub held : t.held ≡ s.held
-
-  -- so it is with a call that configures nothing
-  call_leaves : (caller : ℕ) (call : Call) → is_configuring_call call ≡ false → Leaves (apply s caller call).state
-  call_leaves caller call none = (let a = call_is_aside s caller call none in record { objects = a.objects; held = a.held })
-
   apart : (t : State) → AreApart (object_rows s.objects) (object_rows t.objects) (held_rows s.held) (held_rows t.held)
   apart t = apart_tabs 9 10 (object_rows s.objects) (object_rows t.objects) (held_rows s.held) (held_rows t.held) (omega arith) (objects_to_nine s.objects) (objects_to_nine t.objects) (held_tab s.held) (held_tab t.held)
 
@@ -125,18 +115,18 @@ module _ (s : State) where
   held_differ : (t : State) (cs : List RowChange) → t.objects ≡ s.objects → Differs (held_rows s.held) (held_rows t.held) cs → Differs (own_part s) (own_part t) cs
   held_differ t cs e d = both_differ (object_rows s.objects) (object_rows t.objects) (held_rows s.held) (held_rows t.held) [] cs (apart t) (same_rows (object_rows s.objects) (object_rows t.objects) (ap object_rows e)) d
 
-  none_differ : (t : State) → Leaves t → Differs (own_part s) (own_part t) []
+  none_differ : (t : State) → IsAside s t → Differs (own_part s) (own_part t) []
   none_differ t l = objects_differ t [] l.held (same_rows (object_rows s.objects) (object_rows t.objects) (ap object_rows l.objects))
 
-  none_either : (b : Bool) (t : State) → Leaves t → Differs (own_part s) (own_part t) (option_to_list (cond b None None))
+  none_either : (b : Bool) (t : State) → IsAside s t → Differs (own_part s) (own_part t) (option_to_list (cond b None None))
   none_either true t l = none_differ t l
   none_either false t l = none_differ t l
 
-  itself : Leaves s
-  itself = record { objects = refl; held = refl }
+  itself : IsAside s s
+  itself = record { objects = refl; held = refl; offset = refl }
 
   -- a command that makes none
-  leaves_answers : (t : Stepped) → Leaves t.state → Answers None t
+  leaves_answers : (t : Stepped) → IsAside s t.state → Answers None t
   leaves_answers t l own = none_either (is_accepted t.reply) t.state l
 
   -- one that isn't refused only where this is so
@@ -259,9 +249,9 @@ module _ (s : State) where
         made_answers (with_description c.sbsd (without_auto c.job) s.objects) (unless_in_use s c.sbsd (remove_auto_refusal s.objects c.sbsd c.job)) _ (λ n now. auto_out c.sbsd c.job n)
     command_answers user (command.Hldjobq c) = hold_answers c.jobq
     command_answers user (command.Rlsjobq c) = release_answers c.jobq
-    command_answers user c = leaves_answers (change s user c) (call_leaves 0 (Change user c) refl)
+    command_answers user c = leaves_answers (change s user c) (call_is_aside s 0 (Change user c) refl)
 
     -- and each call
     pub call_differs : (caller : ℕ) (call : Call) → HasOwn (apply s caller call).state → Differs (own_part s) (own_part (apply s caller call).state) (option_to_list (call_change (removed_number s.objects call) call (apply s caller call).reply))
     call_differs caller (Change user c) now = command_answers user c now
-    call_differs caller call now = none_differ (apply s caller call).state (call_leaves caller call refl)
+    call_differs caller call now = none_differ (apply s caller call).state (call_is_aside s caller call refl)

@@ -1,5 +1,5 @@
 -- What the parts of an ending come to is the state that the definitions give.
-use Rattle.std.proofs.Common.{◌≡◌, ◌∙◌, ℕ, Bool, not, List, map, filter, Option, Result, Ok, refl, ap}
+use Rattle.std.proofs.Common.{◌≡◌, ◌∙◌, ℕ, Bool, not, List, map, filter, Option, Result, Ok, refl, sym, ap}
 use Rattle.wm_base.specs.declared.refusal.Refusal.{Refusal}
 use Rattle.wm_law.specs.declared.command.EndOption.{EndOption}
 use Rattle.wm_law.specs.declared.command.Endjob.{Endjob}
@@ -18,8 +18,10 @@ use Rattle.wm_subsystems.specs.OneJob.{ending_of, with_ending}
 use Rattle.wm_subsystems.proofs.OneJobs.{ends_one_job}
 
 -- what ENDJOB makes of the job that is named, it makes of the state
-pub job_ends : (s : State) (c : Endjob) (j : Job) (r : Result Ending Refusal) → job_named s c.job ≡ Ok j → ending_of s.clock c j ≡ r → end_job s c ≡ with_ending s j r
-job_ends s c j r e f = ap (end_found s c) e ∙ (ends_one_job s c j ∙ ap (with_ending s j) f)
+pub job_ends : (s : State) (c : Endjob) (j : Job) (clock : ℕ) (r answer : Result Ending Refusal) → job_named s c.job ≡ Ok j → clock ≡ s.clock → r ≡ ending_of clock c j → r ≡ answer → with_ending s j answer ≡ end_job s c
+job_ends s c j clock r answer named time by is =
+    let ending : ending_of s.clock c j ≡ answer = ap (λ (n : ℕ). ending_of n c j) (sym time) ∙ (sym by ∙ is) in
+    sym (ap (end_found s c) named ∙ (ends_one_job s c j ∙ ap (with_ending s j) ending))
 
 -- a state with other jobs, whose clock and next numbers are as they were
 pub wish_given : (s : State) (serial : ℕ) (w : Wish) (jobs : List Job) (clock next_serial next_place : ℕ) → jobs ≡ map (active_at serial (with_wish w)) s.jobs → clock ≡ s.clock → next_serial ≡ s.next_serial → next_place ≡ s.next_place

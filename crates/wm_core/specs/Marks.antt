@@ -26,16 +26,12 @@ jobs_before m s = record s { jobs = m.jobs.jobs; next_serial = m.jobs.next_seria
 -- the state before the step that a state was left by
 abbrev pub before : Marks → State → State
 before m s =
-    record s {
+    record (jobs_before m s) {
       objects = old_objects m.mark.saved s.objects;
-      jobs = m.jobs.jobs;
       started = m.mark.started;
       held = old_held m.mark.saved s.held;
       stopped = m.mark.stopped;
       evokes = m.mark.evokes;
       next_number = m.mark.next_number;
-      next_serial = m.jobs.next_serial;
-      next_place = m.jobs.next_place;
-      clock = m.jobs.clock;
       power = m.mark.power;
     }

@@ -140,19 +140,6 @@ impl Machine {
         ensures err { OnErr result (self.new ≡ self.old) }
     {
         match command {
-            Command::Crtcls(_)
-            | Command::Crtjobq(_)
-            | Command::Crtpgmref(_)
-            | Command::Crtjobd(_)
-            | Command::Crtsbsd(_)
-            | Command::Addjobqe(_)
-            | Command::Addrtge(_)
-            | Command::Addaje(_)
-            | Command::Rmvjobqe(_)
-            | Command::Rmvrtge(_)
-            | Command::Rmvaje(_)
-            | Command::Hldjobq(_)
-            | Command::Rlsjobq(_) => self.configure(alloc, user, command),
             Command::Strsbs(command) => self.start_subsystem(alloc, &command.sbsd),
             Command::Endsbs(command) => self.end_subsystem(command),
             Command::Sbmjob(command) => self.submit(alloc, user, command),
@@ -162,7 +149,13 @@ impl Machine {
             Command::Endjob(command) => self.end_job(command),
             Command::Clrjobq(command) => Ok(self.clear_queue(&command.jobq)),
             Command::Pwrdwnsys(command) => self.power_down(command),
-            _ => Ok(Reply::Nothing),
+            Command::Addpje(_)
+            | Command::Rmvpje(_)
+            | Command::Strpj(_)
+            | Command::Endpj(_)
+            | Command::Evoke(_)
+            | Command::Enduse(_) => Ok(Reply::Nothing),
+            _ => self.configure(alloc, user, command),
         }
     }
 

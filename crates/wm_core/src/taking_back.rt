@@ -1,4 +1,10 @@
 // What a step keeps of the state as it begins, and taking the step back.
+//
+// A step makes its copies first: what the call may change of the objects and the held queues, the started subsystems with
+// their stopped entries and waiting requests, the next number and the power. The jobs are marked, and from then on each
+// change of a job writes a note. To take the step back, the copies are swapped in and the notes are undone, the newest
+// first. Each of these finds the room that it left or that was set aside, so none takes memory. `before` of
+// `specs/Marks.antt` is the state that this gives; that it is the one before the step is the law of `proofs/Undone.antt`.
 use crate::Machine;
 use crate::mark::Mark;
 use std::alloc::Global;

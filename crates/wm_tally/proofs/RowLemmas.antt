@@ -1,14 +1,15 @@
 -- What the edits of sorted rows leave of their numbers and of their order.
-use Rattle.std.proofs.Common.{◌≡◌, ℕ, zero, suc, ◌+◌, ◌-◌, ◌<◌, ◌≤◌, Bool, true, false, cond, List, [], ◌∷◌, length, get_or, set, sum_by, remove, inl, inr, refl, ap, sym, ◌∙◌, subst, arith}
+use Rattle.std.proofs.Common.{◌≡◌, ℕ, zero, suc, ◌+◌, ◌-◌, ◌<◌, ◌≤◌, ◌==◌, Bool, true, false, cond, List, [], ◌∷◌, length, get_or, set, sum_by, insert, remove, inl, inr, refl, ap, sym, ◌∙◌, subst, arith}
 use Rattle.std.specs.declared.cmp.Ordering.{Ordering}
 use Rattle.std.specs.declared.cmp.Ordering.TheVariants.{Less, Equal, Greater}
 use Rattle.std.specs.Cmp.{IsTotalOrder}
 use Rattle.std.specs.List.{AllWithin}
 use Rattle.std.specs.Ordering.{is_eq}
 use Rattle.std.proofs.lemmas.Bool.{cases_lt, cond-true, cond-false}
-use Rattle.std.proofs.lemmas.List.Sums.{sum_by-cons, sum_by-set, sum_by-remove}
+use Rattle.std.proofs.lemmas.Bool.Decides.{nat_tests}
+use Rattle.std.proofs.lemmas.List.Sums.{sum_by-cons, sum_by-insert, sum_by-set, sum_by-remove}
 use Rattle.wm_desc.specs.Place.{IsAt, IsGap}
-use Rattle.wm_tally.specs.Rows.{key_of, part_of, number_at}
+use Rattle.wm_tally.specs.Rows.{key_of, part_of, number_at, uncounted}
 
 module _ {X : Type 0} (f : X → ℕ) where
   -- the first element and the others
@@ -88,3 +89,31 @@ module _ {K : Type 0} (eq : K → K → Bool) (cmp : K → K → Ordering) (o : 
     number_at-remove one =
         let part : cond (eq key k) 1 0 ≡ part_of eq k (get_or rows i row) = ap (λ b. cond b 1 0) (sym alike) ∙ (ap (λ n. cond (eq row.0 k) n 0) (sym one) ∙ ap (part_of eq k) here) in
         ap (λ n. number_at eq k (remove rows i) + n) part ∙ sum_by-remove (part_of eq k) rows i row h.in_range
+
+not_none : (n : ℕ) → 1 ≤ n → (n == 0) ≡ false
+not_none n some = grind (arith, nat_tests)
+
+-- no row has the number 0 where one is set or put in that hasn't, or one is taken out
+module _ {K : Type 0} (rows : List (K × ℕ)) (i : ℕ) (none : uncounted rows ≡ 0) where
+  abbrev none_of : K × ℕ → ℕ
+  none_of row = cond (row.1 == 0) 1 0
+
+  some_of : (row : K × ℕ) → 1 ≤ row.1 → none_of row ≡ 0
+  some_of row some = cond-false (row.1 == 0) 1 0 (not_none row.1 some)
+
+  pub counted-set : (row : K × ℕ) → i < length rows → 1 ≤ row.1 → uncounted (set rows i row) ≡ 0
+  counted-set row lt some =
+      let whole : uncounted (set rows i row) + none_of (get_or rows i row) ≡ uncounted rows + none_of row = sum_by-set none_of rows i row row lt in
+      let here = some_of row some in
+      omega (arith, whole, here, none)
+
+  pub counted-insert : (row : K × ℕ) → 1 ≤ row.1 → uncounted (insert rows i row) ≡ 0
+  counted-insert row some =
+      let whole : uncounted (insert rows i row) ≡ uncounted rows + none_of row = sum_by-insert none_of rows i row in
+      let here = some_of row some in
+      omega (arith, whole, here, none)
+
+  pub counted-remove : K × ℕ → i < length rows → uncounted (remove rows i) ≡ 0
+  counted-remove row lt =
+      let whole : uncounted (remove rows i) + none_of (get_or rows i row) ≡ uncounted rows = sum_by-remove none_of rows i row lt in
+      omega (arith, whole, none)

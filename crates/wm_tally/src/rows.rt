@@ -3,7 +3,7 @@
 ghost use Rattle.std.specs.Prelude.{◌≡◌, ◌+◌, ◌^◌, ◌<◌, ◌≤◌, vec_len, vec_capacity, length, count_by, insert, MatchResult, if◌then◌else◌};
 ghost use Rattle.wm_desc.specs.Place.{IsAt, IsGap};
 ghost use Rattle.wm_desc.specs.Sorted.{IsSortedOnce};
-ghost use Rattle.wm_tally.specs.Rows.{key_of, number_at};
+ghost use Rattle.wm_tally.specs.Rows.{key_of, number_at, uncounted};
 
 use std::cmp::Ordering;
 
@@ -44,9 +44,11 @@ fn put<K>(rows: &mut Vec<(K, u32)>, at: usize, key: K)
 // Adds 1 to the number of a key.
 fn raise<K: Ord + Copy>(rows: &mut Vec<(K, u32)>, key: &K)
     requires sorted { IsSortedOnce key_of K.cmp rows.old.items }
+    requires counted { uncounted rows.old.items ≡ 0 }
     requires room { vec_len rows.old < vec_capacity rows.old }
     requires fits { number_at K.eq key.now rows.old.items + 1 < 2 ^ 32 }
     ensures sorted { IsSortedOnce key_of K.cmp rows.new.items }
+    ensures counted { uncounted rows.new.items ≡ 0 }
     ensures numbers { (k : K) → number_at K.eq k rows.new.items ≡ number_at K.eq k rows.old.items + (if K.eq key.now k then 1 else 0) }
     ensures len { vec_len rows.new ≤ vec_len rows.old + 1 }
     ensures capacity { vec_capacity rows.new ≡ vec_capacity rows.old }
@@ -63,8 +65,10 @@ fn raise<K: Ord + Copy>(rows: &mut Vec<(K, u32)>, key: &K)
 // Takes 1 from the number of a key.
 fn lower<K: Ord + Copy>(rows: &mut Vec<(K, u32)>, key: &K)
     requires sorted { IsSortedOnce key_of K.cmp rows.old.items }
+    requires counted { uncounted rows.old.items ≡ 0 }
     requires some { 1 ≤ number_at K.eq key.now rows.old.items }
     ensures sorted { IsSortedOnce key_of K.cmp rows.new.items }
+    ensures counted { uncounted rows.new.items ≡ 0 }
     ensures numbers { (k : K) → number_at K.eq k rows.new.items + (if K.eq key.now k then 1 else 0) ≡ number_at K.eq k rows.old.items }
     ensures len { vec_len rows.new ≤ vec_len rows.old }
     ensures capacity { vec_capacity rows.new ≡ vec_capacity rows.old }
@@ -83,9 +87,11 @@ fn lower<K: Ord + Copy>(rows: &mut Vec<(K, u32)>, key: &K)
 /// Adds 1 to the number of each key in a list.
 pub(crate) fn raise_all<K: Ord + Copy>(rows: &mut Vec<(K, u32)>, keys: &[K])
     requires sorted { IsSortedOnce key_of K.cmp rows.old.items }
+    requires counted { uncounted rows.old.items ≡ 0 }
     requires room { vec_len rows.old + length keys.now ≤ vec_capacity rows.old }
     requires fits { (k : K) → number_at K.eq k rows.old.items + count_by (λ key. K.eq key k) keys.now < 2 ^ 32 }
     ensures sorted { IsSortedOnce key_of K.cmp rows.new.items }
+    ensures counted { uncounted rows.new.items ≡ 0 }
     ensures numbers { (k : K) → number_at K.eq k rows.new.items ≡ number_at K.eq k rows.old.items + count_by (λ key. K.eq key k) keys.now }
     ensures len { vec_len rows.new ≤ vec_len rows.old + length keys.now }
     ensures capacity { vec_capacity rows.new ≡ vec_capacity rows.old }
@@ -98,8 +104,10 @@ pub(crate) fn raise_all<K: Ord + Copy>(rows: &mut Vec<(K, u32)>, keys: &[K])
 /// Takes 1 from the number of each key in a list.
 pub(crate) fn lower_all<K: Ord + Copy>(rows: &mut Vec<(K, u32)>, keys: &[K])
     requires sorted { IsSortedOnce key_of K.cmp rows.old.items }
+    requires counted { uncounted rows.old.items ≡ 0 }
     requires some { (k : K) → count_by (λ key. K.eq key k) keys.now ≤ number_at K.eq k rows.old.items }
     ensures sorted { IsSortedOnce key_of K.cmp rows.new.items }
+    ensures counted { uncounted rows.new.items ≡ 0 }
     ensures numbers { (k : K) → number_at K.eq k rows.new.items + count_by (λ key. K.eq key k) keys.now ≡ number_at K.eq k rows.old.items }
     ensures len { vec_len rows.new ≤ vec_len rows.old }
     ensures capacity { vec_capacity rows.new ≡ vec_capacity rows.old }

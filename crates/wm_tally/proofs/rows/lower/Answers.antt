@@ -1,7 +1,7 @@
 use Rattle.std.proofs.Common.{◌≡◌, subst, arith}
 use Rattle.wm_desc.specs.Place.{IsAt}
 use Rattle.wm_tally.specs.Rows.{key_of, number_at}
-use Rattle.wm_tally.proofs.RowLemmas.{read-number_at, number_at-gap, lowered, number_at-remove}
+use Rattle.wm_tally.proofs.RowLemmas.{counted-remove, counted-set, read-number_at, number_at-gap, lowered, number_at-remove}
 use Rattle.wm_tally.proofs.rows.lower.Goals as goal
 
 -- the key has a number, and so a row
@@ -30,3 +30,8 @@ returns-else-index-eq1-clause-numbers g c = λ k.
     let found = subst (λ rows. IsAt key_of g.K.Ord.cmp c.args.key.now rows c.in-Ok.at) c.as_slice.ensures.value c.in-Ok.ensures in
     let read = read-number_at g.K.PartialEq.eq g.K.Ord.cmp g.met.K.Ord.total g.met.K.Ord.matches_eq c.args.key.now c.args.rows.now.items c.in-Ok.at pair found c.index_mut-pair.ensures.value in
     lowered g.K.PartialEq.eq g.K.Ord.cmp g.met.K.Ord.total g.met.K.Ord.matches_eq c.args.key.now k c.args.rows.now.items c.in-Ok.at pair found c.index_mut-pair.ensures.value (omega (arith, read, c.requires.some))
+
+pub returns-then-index-eq1-clause-counted : goal.returns-then-index-eq1-clause-counted
+returns-then-index-eq1-clause-counted g c =
+    let found = subst (λ rows. IsAt key_of g.K.Ord.cmp c.args.key.now rows c.in-Ok.at) c.as_slice.ensures.value c.in-Ok.ensures in
+    rw c.remove.ensures.items (counted-remove c.args.rows.now.items c.in-Ok.at c.requires.counted c.index.result.now found.in_range)

@@ -1,4 +1,5 @@
-use Rattle.std.proofs.Common.{◌≡◌, ◌∙◌, false, sym, ap, subst}
+use Rattle.std.proofs.Common.{◌≡◌, ◌∙◌, ℕ, false, sym, ap, subst}
+use Rattle.wm_law.specs.declared.call.Call.{Call}
 use Rattle.wm_law.specs.declared.state.State.{State}
 use Rattle.wm_law.specs.Machine.{apply, step, with_clock}
 use Rattle.wm_law.specs.Settling.{come_due, leave, start_jobs}
@@ -12,62 +13,63 @@ use Rattle.wm_core.proofs.NoneDue.{none_comes_due}
 use Rattle.wm_core.proofs.Undone.{call_is_undone}
 use Rattle.wm_core.proofs.machine.Machine.step.Goals as goal
 
+-- the state once the clock is set
+clocked : (given seen : Seen) (begun set : State) (now : ℕ) → begun ≡ given.state → given ≡ seen → set ≡ with_clock begun now → set ≡ with_clock seen.state now
+clocked given seen begun set now a b c = c ∙ ap (λ (t : State). with_clock t now) (a ∙ ap (λ (t : Seen). t.state) b)
+
+-- what is kept once the clock is set
+kept : (given seen : Seen) (call : Call) (begun set : Marks) → begun ≡ marks_at given.state call → given ≡ seen → set ≡ begun → set ≡ marks_at seen.state call
+kept given seen call begun set a b c = c ∙ (a ∙ ap (λ (t : Seen). marks_at t.state call) b)
+
+-- the state once the call is applied
+applied : (timed set done : State) (caller : ℕ) (call : Call) → set ≡ timed → done ≡ (apply set caller call).state → done ≡ (apply timed caller call).state
+applied timed set done caller call a b = b ∙ ap (λ (t : State). (apply t caller call).state) a
+
 pub apply-requires-clause-sound : goal.apply-requires-clause-sound
 apply-requires-clause-sound c =
     let s = c.args.self.now.state in
-    let begun : c.begin.new.self.state ≡ s = c.in_ok-begin.ensures.state ∙ ap (λ (t : Seen). t.state) c.self.view_is in
-    let clocked : c.set_clock.new.self.state ≡ with_clock s c.args.now = c.set_clock.ensures.state ∙ ap (λ (t : State). with_clock t c.args.now) begun in
-    subst IsSound (sym clocked) (clock_sound s c.args.now c.requires.sound)
+    let timed = clocked _ _ _ _ c.args.now c.in_ok-begin.ensures.state c.self.view_is c.set_clock.ensures.state in
+    subst IsSound (sym timed) (clock_sound s c.args.now c.requires.sound)
 
 pub returns-in-Err-clause-err : goal.returns-in-Err-clause-err
 returns-in-Err-clause-err c =
     let s = c.args.self.now.state in
-    let begun : c.begin.new.self.state ≡ s = c.in_ok-begin.ensures.state ∙ ap (λ (t : Seen). t.state) c.self.view_is in
-    let clocked : c.set_clock.new.self.state ≡ with_clock s c.args.now = c.set_clock.ensures.state ∙ ap (λ (t : State). with_clock t c.args.now) begun in
     let back = c.in-Err.ensures.err in
-    let left : c.apply.new.self.state ≡ with_clock s c.args.now = ap (λ (t : Seen). t.state) back ∙ clocked in
-    let marks : c.apply.new.self.marks ≡ marks_at s c.args.call.now =
-    ap (λ (t : Seen). t.marks) back ∙ (c.set_clock.ensures.marks ∙ (c.in_ok-begin.ensures.marks ∙ ap (λ (t : Seen). marks_at t.state c.args.call.now) c.self.view_is)) in
+    let timed = clocked _ _ _ _ c.args.now c.in_ok-begin.ensures.state c.self.view_is c.set_clock.ensures.state in
+    let left : c.apply.new.self.state ≡ with_clock s c.args.now = ap (λ (t : Seen). t.state) back ∙ timed in
+    let marks : c.apply.new.self.marks ≡ marks_at s c.args.call.now = ap (λ (t : Seen). t.marks) back ∙ kept _ _ c.args.call.now _ _ c.in_ok-begin.ensures.marks c.self.view_is c.set_clock.ensures.marks in
     c.take_clock_back.ensures.state ∙ (ap (λ (t : State). jobs_before c.apply.new.self.marks t) left ∙ ap (λ (m : Marks). jobs_before m (with_clock s c.args.now)) marks)
 
 pub come_due-requires-clause-line : goal.come_due-requires-clause-line
 come_due-requires-clause-line c =
     let s = c.args.self.now.state in
-    let begun : c.begin.new.self.state ≡ s = c.in_ok-begin.ensures.state ∙ ap (λ (t : Seen). t.state) c.self.view_is in
-    let clocked : c.set_clock.new.self.state ≡ with_clock s c.args.now = c.set_clock.ensures.state ∙ ap (λ (t : State). with_clock t c.args.now) begun in
-    let come : c.apply.new.self.state ≡ (apply (with_clock s c.args.now) c.args.caller c.args.call.now).state =
-    c.in-Ok.ensures.state ∙ ap (λ (t : State). (apply t c.args.caller c.args.call.now).state) clocked in
+    let timed = clocked _ _ _ _ c.args.now c.in_ok-begin.ensures.state c.self.view_is c.set_clock.ensures.state in
+    let come = applied _ _ _ c.args.caller c.args.call.now timed c.in-Ok.ensures.state in
     applied_in_line s c.args.caller c.args.call.now c.args.now c.apply.new.self.state c.requires.sound come
 
 pub come_due-requires-clause-none : goal.come_due-requires-clause-none
 come_due-requires-clause-none c = λ no.
     let s = c.args.self.now.state in
     let begun : c.begin.new.self.state ≡ s = c.in_ok-begin.ensures.state ∙ ap (λ (t : Seen). t.state) c.self.view_is in
-    let clocked : c.set_clock.new.self.state ≡ with_clock s c.args.now = c.set_clock.ensures.state ∙ ap (λ (t : State). with_clock t c.args.now) begun in
-    let come : c.apply.new.self.state ≡ (apply (with_clock s c.args.now) c.args.caller c.args.call.now).state =
-    c.in-Ok.ensures.state ∙ ap (λ (t : State). (apply t c.args.caller c.args.call.now).state) clocked in
+    let timed = clocked _ _ _ _ c.args.now c.in_ok-begin.ensures.state c.self.view_is c.set_clock.ensures.state in
+    let come = applied _ _ _ c.args.caller c.args.call.now timed c.in-Ok.ensures.state in
     let may : may_come_due s c.args.call.now c.args.now ≡ false = ap (λ (t : State). may_come_due t c.args.call.now c.args.now) (sym begun) ∙ (sym c.may_come_due-may_come_due.ensures ∙ no) in
     none_comes_due s c.args.caller c.args.call.now c.args.now c.apply.new.self.state c.requires.sound c.requires.none_due come may
 
 pub returns-in-Err-come_due-clause-err : goal.returns-in-Err-come_due-clause-err
 returns-in-Err-come_due-clause-err c =
     let s = c.args.self.now.state in
-    let begun : c.begin.new.self.state ≡ s = c.in_ok-begin.ensures.state ∙ ap (λ (t : Seen). t.state) c.self.view_is in
-    let clocked : c.set_clock.new.self.state ≡ with_clock s c.args.now = c.set_clock.ensures.state ∙ ap (λ (t : State). with_clock t c.args.now) begun in
-    let come : c.apply.new.self.state ≡ (apply (with_clock s c.args.now) c.args.caller c.args.call.now).state =
-    c.in-Ok.ensures.state ∙ ap (λ (t : State). (apply t c.args.caller c.args.call.now).state) clocked in
     let back = c.in-Err-come_due.ensures.err in
+    let timed = clocked _ _ _ _ c.args.now c.in_ok-begin.ensures.state c.self.view_is c.set_clock.ensures.state in
+    let come = applied _ _ _ c.args.caller c.args.call.now timed c.in-Ok.ensures.state in
     let left : c.come_due.new.self.state ≡ (apply (with_clock s c.args.now) c.args.caller c.args.call.now).state = ap (λ (t : Seen). t.state) back ∙ come in
     let marks : c.come_due.new.self.marks ≡ marks_at s c.args.call.now =
-    ap (λ (t : Seen). t.marks) back ∙ (c.in-Ok.ensures.marks ∙ (c.set_clock.ensures.marks ∙ (c.in_ok-begin.ensures.marks ∙ ap (λ (t : Seen). marks_at t.state c.args.call.now) c.self.view_is))) in
+    ap (λ (t : Seen). t.marks) back ∙ (c.in-Ok.ensures.marks ∙ kept _ _ c.args.call.now _ _ c.in_ok-begin.ensures.marks c.self.view_is c.set_clock.ensures.marks) in
     c.take_back.ensures.state ∙ call_is_undone s c.args.caller c.args.call.now c.args.now c.come_due.new.self.marks c.come_due.new.self.state c.requires.sound.objects marks left
 
 pub returns-clause-state : goal.returns-clause-state
 unfolding step
 returns-clause-state c =
-    let s = c.args.self.now.state in
-    let begun : c.begin.new.self.state ≡ s = c.in_ok-begin.ensures.state ∙ ap (λ (t : Seen). t.state) c.self.view_is in
-    let clocked : c.set_clock.new.self.state ≡ with_clock s c.args.now = c.set_clock.ensures.state ∙ ap (λ (t : State). with_clock t c.args.now) begun in
-    let come : c.apply.new.self.state ≡ (apply (with_clock s c.args.now) c.args.caller c.args.call.now).state =
-    c.in-Ok.ensures.state ∙ ap (λ (t : State). (apply t c.args.caller c.args.call.now).state) clocked in
+    let timed = clocked _ _ _ _ c.args.now c.in_ok-begin.ensures.state c.self.view_is c.set_clock.ensures.state in
+    let come = applied _ _ _ c.args.caller c.args.call.now timed c.in-Ok.ensures.state in
     c.settle.ensures.state ∙ ap (λ (t : State). start_jobs (leave t)) (c.in_default.ensures.ok ∙ ap come_due come)
