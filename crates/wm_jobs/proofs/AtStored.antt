@@ -29,7 +29,7 @@ use Rattle.wm_jobs.specs.Table.{serial_of, is_busy}
 use Rattle.wm_jobs.specs.TableInside.{IsListed, AreListed, IsIndexed, HasRoom, HasNames, IsKept}
 use Rattle.wm_jobs.specs.declared.table.JobTable.TheInside.{Inside}
 use Rattle.wm_jobs.proofs.Changes.{all-there}
-use Rattle.wm_jobs.proofs.JobParts.{waiter-keyed, waiter-placed, order-keyed, order-none, active-keyed, active-none, hows-pushed, count-pushed}
+use Rattle.wm_jobs.proofs.JobParts.{waiter-keyed, waiter-placed, waiter-waits, order-keyed, order-none, active-keyed, active-none, hows-pushed, count-pushed}
 use Rattle.wm_jobs.proofs.NameParts.{names-pushed}
 use Rattle.wm_jobs.proofs.Sifted.{differs, picked-length, pushed-lacks, pushed-comes, pushed-same}
 use Rattle.wm_jobs.proofs.Splits.{sorted-pushed, above-head}
@@ -40,14 +40,6 @@ inactive-unstarted Starting h = absurd (false≢true (sym h))
 inactive-unstarted (Handed m) h = refl
 inactive-unstarted (Running m) h = refl
 inactive-unstarted (Ended c) h = refl
-
--- what becomes a waiter waits
-waits-on : (b : Bool) (o : Option Waiter) (w : Waiter) → cond b o None ≡ Some w → b ≡ true
-waits-on true o w e = refl
-waits-on false o w e = absurd (cc e)
-
-waiter-waits : (j : Job) (w : Waiter) → waiter_of j ≡ Some w → is_waiting j.phase ≡ true
-waiter-waits j w e = waits-on (is_waiting j.phase) (option_map (λ queue. waiter_on queue j) j.jobq) w e
 
 -- none of those that wait has a place that no job that waits has
 free-waiters : (p : ℕ) (jobs : List Job) → (IsIn p (waiting_places jobs) → ⊥) → All (λ (w : Waiter). (w.place == p) ≡ false) (waiters jobs)

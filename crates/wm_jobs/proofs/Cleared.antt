@@ -25,7 +25,7 @@ use Rattle.wm_jobs.specs.Table.{serial_of}
 use Rattle.wm_jobs.proofs.JobParts.{count-changed, waiter-keyed}
 use Rattle.wm_jobs.proofs.Sifted.{count-cons}
 use Rattle.wm_jobs.proofs.Splits.{IsSplit, split-at, map-split}
-use Rattle.wm_jobs.proofs.Waits.{if_waiting, map-waiting}
+use Rattle.wm_jobs.proofs.Restood.{changed_if, job_waits, map-if}
 
 -- what is picked comes from an element
 module _ {X E : Type 0} (pick : X → Option E) where
@@ -134,8 +134,8 @@ module _ (queue : QName) where
           waits = waits;
           was = split.whole;
           is = ap (λ n. map (waiting_at n (in_phase (Ended Cleared))) jobs) (waiter-keyed j w from.2)
-              ∙ (map-waiting j.serial (in_phase (Ended Cleared)) jobs
-              ∙ (map-split serial_of j.serial (if_waiting (in_phase (Ended Cleared))) jobs (take at jobs) (drop (suc at) jobs) j split
+              ∙ (map-if job_waits j.serial (in_phase (Ended Cleared)) jobs
+              ∙ (map-split serial_of j.serial (changed_if job_waits (in_phase (Ended Cleared))) jobs (take at jobs) (drop (suc at) jobs) j split
               ∙ ap (λ b. take at jobs ++ cond b (in_phase (Ended Cleared) j) j ∷ drop (suc at) jobs) (both (is_waiting j.phase) (is_on_queue queue j.jobq) waits)));
         }
 

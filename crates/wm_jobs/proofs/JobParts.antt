@@ -23,7 +23,7 @@ use Rattle.wm_waiting.specs.declared.waiter.Waiter.{Waiter}
 use Rattle.wm_waiting.specs.Waiting.{is_ahead}
 use Rattle.wm_pick.specs.Parts.{waiter_on, waiter_of, waiters}
 use Rattle.wm_tally.specs.Tallied.{hows}
-use Rattle.wm_jobs.specs.Indexed.{acting_of, order_of, orders, active_of, actives, Starts, Ends}
+use Rattle.wm_jobs.specs.Indexed.{acting_of, order_of, orders, active_of, actives, Starts}
 use Rattle.wm_jobs.specs.Table.{serial_of, active_in, starting_in}
 use Rattle.wm_jobs.proofs.Sifted.{count-append, count-cons, differs, picked-keys}
 use Rattle.wm_jobs.proofs.Splits.{above-head}
@@ -34,22 +34,6 @@ waiting-unstarted Starting h = absurd (false≢true h)
 waiting-unstarted (Handed m) h = absurd (false≢true h)
 waiting-unstarted (Running m) h = absurd (false≢true h)
 waiting-unstarted (Ended c) h = absurd (false≢true h)
-
-pub active-unwaiting : (p : Phase) → is_active p ≡ true → is_waiting p ≡ false
-active-unwaiting Waiting h = absurd (false≢true h)
-active-unwaiting Starting h = refl
-active-unwaiting (Handed m) h = refl
-active-unwaiting (Running m) h = refl
-active-unwaiting (Ended c) h = absurd (false≢true h)
-
--- a job that waits
-serial_in : Option Waiter → ℕ
-serial_in None = 0
-serial_in (Some w) = w.serial
-
-place_in : Option Waiter → ℕ
-place_in None = 0
-place_in (Some w) = w.place
 
 -- a job that waits on a queue, where there is one
 abbrev waiter_by : Job → Option QName → Option Waiter
@@ -75,6 +59,22 @@ some-on j (Some queue) h = (record { serial = j.serial; jobq = queue; pty = j.pt
 
 pub waiter-some : (j : Job) → is_waiting j.phase ≡ true → is_some j.jobq ≡ true → (w : Waiter) × (waiter_of j ≡ Some w)
 waiter-some j waits queue = let s = some-on j j.jobq queue in (s.0, ap (λ b. cond b (waiter_by j j.jobq) None) waits ∙ s.1)
+
+-- a job is among those that wait where it waits on a queue
+pub is-waiter : (j : Job) → (is_waiting j.phase ≡ true → is_some j.jobq ≡ true) → is_some (waiter_of j) ≡ is_waiting j.phase
+is-waiter j queue =
+    elim (cases_Bool (is_waiting j.phase)) [
+      | inl e ↦ (let w = waiter-some j e (queue e) in ap (λ (o : Option Waiter). is_some o) w.1 ∙ sym e)
+      | inr e ↦ ap (λ (o : Option Waiter). is_some o) (waiter-none j e) ∙ sym e
+    ]
+
+-- what becomes a waiter waits
+waits-on : (b : Bool) (o : Option Waiter) (w : Waiter) → cond b o None ≡ Some w → b ≡ true
+waits-on true o w e = refl
+waits-on false o w e = absurd (cc e)
+
+pub waiter-waits : (j : Job) (w : Waiter) → waiter_of j ≡ Some w → is_waiting j.phase ≡ true
+waiter-waits j w e = waits-on (is_waiting j.phase) (option_map (λ queue. waiter_on queue j) j.jobq) w e
 
 -- a job that waits for a monitor
 order-on : (j : Job) (b : Bool) (e : ℕ × Unit {0}) → cond b (Some (j.serial, tt)) None ≡ Some e → e.0 ≡ j.serial
@@ -148,22 +148,8 @@ module _ (l r : List Job) (j k : Job) (old new : Counts) where
   pub tally-starts : is_active j.phase ≡ false → Starts (is_active k.phase) old new k.how → IsTally (hows (l ++ j ∷ r)) old → IsTally (hows (l ++ k ∷ r)) new
   tally-starts was starts h = starts-on (is_active k.phase) was refl starts h
 
-  ends-on : (b : Bool) → is_active j.phase ≡ true → is_active k.phase ≡ b → k.how ≡ j.how → Ends b old new j.how → IsTally (hows (l ++ j ∷ r)) old → IsTally (hows (l ++ k ∷ r)) new
-  ends-on true was is same ends h =
-      subst (λ (t : Counts). IsTally (hows (l ++ k ∷ r)) t) (sym ends) (subst (λ hs. IsTally hs old) (hows-active l r j was ∙ (ap (λ (how : How). hows l ++ how ∷ hows r) (sym same) ∙ sym (hows-active l r k is))) h)
-  ends-on false was is same ends h =
-      subst (λ hs. IsTally hs new) (sym (hows-inactive l r k is)) (ends (hows l ++ hows r) (tally-out (hows l) (hows r) j.how old (subst (λ hs. IsTally hs old) (hows-active l r j was) h)))
-
-  -- an active job comes into a phase
-  pub tally-ends : is_active j.phase ≡ true → k.how ≡ j.how → Ends (is_active k.phase) old new j.how → IsTally (hows (l ++ j ∷ r)) old → IsTally (hows (l ++ k ∷ r)) new
-  tally-ends was same ends h = ends-on (is_active k.phase) was refl same ends h
-
 pub has-started : (l r : List Job) (j : Job) (t : Counts) → is_active j.phase ≡ true → IsTally (hows (l ++ j ∷ r)) t → HasStarted t j.how
 has-started l r j t is h = record { others = hows l ++ hows r; are = tally-out (hows l) (hows r) j.how t (subst (λ hs. IsTally hs t) (hows-active l r j is) h) }
-
-filter-shorter : (b : Bool) (j : Job) (js ks : List Job) → length ks ≤ length js → length (cond b (j ∷ ks) ks) ≤ suc (length js)
-filter-shorter true j js ks h = omega arith
-filter-shorter false j js ks h = omega arith
 
 pub hows-few : (jobs : List Job) → length (hows jobs) ≤ length jobs
 hows-few [] = omega arith
@@ -183,12 +169,6 @@ module _ (p : Job → Bool) (l r : List Job) (j k : Job) where
       let a : count_by p (l ++ k ∷ r) ≡ count_by p l + count_by p (k ∷ r) = count-append p l (k ∷ r) in
       let b : count_by p (l ++ j ∷ r) ≡ count_by p l + count_by p (j ∷ r) = count-append p l (j ∷ r) in
       let c : count_by p (k ∷ r) ≡ cond (p k) 1 0 + count_by p r = count-cons p k r in
-      let d : count_by p (j ∷ r) ≡ cond (p j) 1 0 + count_by p r = count-cons p j r in
-      omega arith
-
-  pub count-least : cond (p j) 1 0 ≤ count_by p (l ++ j ∷ r)
-  count-least =
-      let b : count_by p (l ++ j ∷ r) ≡ count_by p l + count_by p (j ∷ r) = count-append p l (j ∷ r) in
       let d : count_by p (j ∷ r) ≡ cond (p j) 1 0 + count_by p r = count-cons p j r in
       omega arith
 

@@ -1,15 +1,11 @@
 -- What the changes of jobs make of their names, and the one that a reference names.
 use Rattle.std.proofs.Common.{◌≡◌, ℕ, ◌+◌, ◌<◌, ◌^◌, ◌≤◌, Bool, true, false, not, ◌&&◌, ◌==◌, cond, List, [], ◌∷◌, ◌++◌, length, Option, Some, Result, Ok, Err, inl, inr, refl, ap, sym, ◌∙◌, arith}
 use Rattle.std.specs.List.{filter}
-use mathlib.Core.Bool.{false≢true}
 use Rattle.wm_base.specs.declared.job.JobName.{JobName}
 use Rattle.wm_base.specs.declared.refusal.Refusal.{Refusal}
 use Rattle.wm_law.specs.declared.command.JobRef.{JobRef}
 use Rattle.wm_law.specs.declared.command.JobRef.TheVariants.{Simple, ByUser, Full}
 use Rattle.wm_law.specs.declared.job.Job.{Job}
-use Rattle.wm_law.specs.declared.job.Phase.{Phase}
-use Rattle.wm_law.specs.declared.job.Phase.TheVariants.{Waiting, Starting, Handed, Running, Ended}
-use Rattle.wm_law.specs.Counts.{is_waiting, is_active}
 use Rattle.wm_law.specs.Laws.{IsIn}
 use Rattle.wm_law.specs.Named.{is_ended, is_named, has_name, has_user_name, only_one}
 use Rattle.wm_names.specs.Namesakes.{joined}
@@ -18,20 +14,6 @@ use Rattle.wm_names.proofs.EachRow.{each-replaced}
 use Rattle.wm_names.proofs.JobLemmas.{job_serial, total, total-middle, small-replaced}
 use Rattle.wm_jobs.specs.TableInside.{HasNames}
 use Rattle.wm_law.proofs.Moves.{the_one}
-
-pub waiting-lasts : (p : Phase) → is_waiting p ≡ true → is_ended p ≡ false
-waiting-lasts Waiting h = refl
-waiting-lasts Starting h = refl
-waiting-lasts (Handed m) h = refl
-waiting-lasts (Running m) h = refl
-waiting-lasts (Ended c) h = absurd (false≢true h)
-
-pub active-lasts : (p : Phase) → is_active p ≡ true → is_ended p ≡ false
-active-lasts Waiting h = refl
-active-lasts Starting h = refl
-active-lasts (Handed m) h = refl
-active-lasts (Running m) h = refl
-active-lasts (Ended c) h = absurd (false≢true h)
 
 -- one of the same name that has ended where the other has is named by the same references
 same-named : (r : JobRef) (x y : Job) → y.job ≡ x.job → is_ended y.phase ≡ is_ended x.phase → is_named r y ≡ is_named r x

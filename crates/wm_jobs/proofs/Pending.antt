@@ -76,7 +76,7 @@ pending-restored t (j ∷ js) sorted =
 -- before all that was noted they stood in place
 first-stood : (ns np p : ℕ) (ts : List Touched) (js : List Job) → StoodInPlace ns np p ts js → AreInPlace ns np p (undone ts js)
 first-stood ns np p [] js h = h
-first-stood ns np p (t ∷ ts) js h = h.0
+first-stood ns np p (t ∷ ts) js h = h.0.in_place
 
 -- and each change that was noted took one at the most
 pending-undone : (ns np p : ℕ) (ts : List Touched) (js : List Job) → StoodInPlace ns np p ts js → pending (undone ts js) ≤ pending js + length ts
@@ -91,7 +91,7 @@ pub stood-roomier : (ns np p q : ℕ) (ts : List Touched) (js : List Job) → St
 stood-roomier ns np p q [] js h room = record { listed = h.listed; places = h.places; few = omega arith }
 stood-roomier ns np p q (t ∷ ts) js h room =
     let most = pending-undone ns np p (t ∷ ts) js h in
-    (record { listed = h.0.listed; places = h.0.places; few = omega arith }, stood-roomier ns np p q ts js h.1 (omega arith))
+    (record { in_place = record { listed = h.0.in_place.listed; places = h.0.in_place.places; few = omega arith }; how = h.0.how }, stood-roomier ns np p q ts js h.1 (omega arith))
 
 -- with room for those that are pending and for one for each change, what was done can be undone as before
 pub undoable-roomier : (t : Inside) → IsTableInside t → (us : List Touched) (ks : List Job) (clock q : ℕ) → us ≡ t.touched.items → ks ≡ t.jobs.items → clock ≡ t.waiting.clock → length t.waiting.items + length t.starting.items + length t.touched.items ≤ q → IsUndoable t.mark us ks t.next_serial t.next_place q clock

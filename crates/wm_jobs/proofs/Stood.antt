@@ -17,7 +17,7 @@ use Rattle.wm_jobs.specs.declared.touched.Touched.{Touched}
 use Rattle.wm_jobs.specs.Indexed.{order_of, orders}
 use Rattle.wm_jobs.specs.Marked.{restored, undone}
 use Rattle.wm_jobs.specs.Table.{Table, serial_of, IsReady}
-use Rattle.wm_jobs.specs.TableInside.{table_of, pending_of, IsListed, AreListed, AreInPlace, StoodInPlace, IsUndoable, HasUndos, IsKept, IsMarked, IsTableInside}
+use Rattle.wm_jobs.specs.TableInside.{table_of, pending_of, IsListed, AreListed, AreInPlace, KeepsHow, StoodBefore, StoodInPlace, IsUndoable, HasUndos, IsKept, IsMarked, IsTableInside}
 use Rattle.wm_jobs.specs.declared.table.JobTable.TheInside.{Inside}
 use Rattle.wm_jobs.proofs.Undone.{undone-newest}
 
@@ -33,7 +33,7 @@ in-place-later ns np p ns' np' p' js ls lp more h = record { listed = listed-lat
 
 stood-later : (ns np p ns' np' p' : ℕ) (ts : List Touched) (js : List Job) → ns ≤ ns' → np ≤ np' → p ≤ p' → StoodInPlace ns np p ts js → StoodInPlace ns' np' p' ts js
 stood-later ns np p ns' np' p' [] js ls lp more h = in-place-later ns np p ns' np' p' js ls lp more h
-stood-later ns np p ns' np' p' (t ∷ ts) js ls lp more h = (in-place-later ns np p ns' np' p' (undone (t ∷ ts) js) ls lp more h.0, stood-later ns np p ns' np' p' ts js ls lp more h.1)
+stood-later ns np p ns' np' p' (t ∷ ts) js ls lp more h = (record { in_place = in-place-later ns np p ns' np' p' (undone (t ∷ ts) js) ls lp more h.0.in_place; how = h.0.how }, stood-later ns np p ns' np' p' ts js ls lp more h.1)
 
 pub stood-now : (ns np p : ℕ) (ts : List Touched) (js : List Job) → StoodInPlace ns np p ts js → AreInPlace ns np p js
 stood-now ns np p [] js h = h
@@ -41,15 +41,20 @@ stood-now ns np p (t ∷ ts) js h = stood-now ns np p ts js h.1
 
 -- before the newest change they stood as before all others
 pub stood-undone : (ns np p : ℕ) (ts : List Touched) (t : Touched) (js : List Job) → StoodInPlace ns np p (ts ++ t ∷ []) js → StoodInPlace ns np p ts (restored t js)
-stood-undone ns np p [] t js h = h.0
-stood-undone ns np p (u ∷ us) t js h = (subst (λ (ls : List Job). AreInPlace ns np p (restored u ls)) (undone-newest us t js) h.0, stood-undone ns np p us t js h.1)
+stood-undone ns np p [] t js h = h.0.in_place
+stood-undone ns np p (u ∷ us) t js h = (subst (λ (ls : List Job). StoodBefore ns np p u ls) (undone-newest us t js) h.0, stood-undone ns np p us t js h.1)
+
+-- the newest change left its how to a job that was active and is
+pub stood-how : (ns np p : ℕ) (ts : List Touched) (t : Touched) (js : List Job) → StoodInPlace ns np p (ts ++ t ∷ []) js → KeepsHow t js
+stood-how ns np p [] t js h = h.0.how
+stood-how ns np p (u ∷ us) t js h = stood-how ns np p us t js h.1
 
 -- after a change that is noted they stand in place, as they did before it
-stood-noted : (ns np p : ℕ) (ts : List Touched) (t : Touched) (js ks : List Job) → restored t ks ≡ js → AreInPlace ns np p ks → StoodInPlace ns np p ts js → StoodInPlace ns np p (ts ++ t ∷ []) ks
-stood-noted ns np p [] t js ks back now stood = (subst (λ (ls : List Job). AreInPlace ns np p ls) (sym back) stood, now)
-stood-noted ns np p (u ∷ us) t js ks back now stood = (
-  subst (λ (ls : List Job). AreInPlace ns np p (restored u ls)) (sym (undone-newest us t ks ∙ ap (undone us) back)) stood.0,
-  stood-noted ns np p us t js ks back now stood.1,
+stood-noted : (ns np p : ℕ) (ts : List Touched) (t : Touched) (js ks : List Job) → restored t ks ≡ js → KeepsHow t ks → AreInPlace ns np p ks → StoodInPlace ns np p ts js → StoodInPlace ns np p (ts ++ t ∷ []) ks
+stood-noted ns np p [] t js ks back how now stood = (record { in_place = subst (λ (ls : List Job). AreInPlace ns np p ls) (sym back) stood; how = how }, now)
+stood-noted ns np p (u ∷ us) t js ks back how now stood = (
+  subst (λ (ls : List Job). StoodBefore ns np p u ls) (sym (undone-newest us t ks ∙ ap (undone us) back)) stood.0,
+  stood-noted ns np p us t js ks back how now stood.1,
 )
 
 sorted-first : (n : ℕ) (js : List Job) → IsSortedOnce serial_of nat_cmp js → IsSortedOnce serial_of nat_cmp (take n js)
@@ -103,10 +108,10 @@ in-place-first t h places n = record {
 
 module _ (m : Mark) (ts : List Touched) (js : List Job) (ns np p clock : ℕ) (h : IsUndoable m ts js ns np p clock) (new : Inside) (kept : IsKept new) (places : HavePlaces new.waiting.items) (same_mark : new.mark ≡ m) (later : ns ≤ new.next_serial) (further : np ≤ new.next_place) (more : p ≤ pending_of new.starting new.room) (forth : clock ≤ new.waiting.clock) where
   -- a change that is noted can be undone
-  pub undoable-noted : (t : Touched) → new.touched.items ≡ ts ++ t ∷ [] → restored t (take m.jobs new.jobs.items) ≡ take m.jobs js → IsUndoable new.mark new.touched.items new.jobs.items new.next_serial new.next_place (pending_of new.starting new.room) new.waiting.clock
-  undoable-noted t noted back =
+  pub undoable-noted : (t : Touched) → new.touched.items ≡ ts ++ t ∷ [] → restored t (take m.jobs new.jobs.items) ≡ take m.jobs js → KeepsHow t (take m.jobs new.jobs.items) → IsUndoable new.mark new.touched.items new.jobs.items new.next_serial new.next_place (pending_of new.starting new.room) new.waiting.clock
+  undoable-noted t noted back how =
       rw (same_mark, noted) (record {
-        stood = stood-noted new.next_serial new.next_place (pending_of new.starting new.room) ts t (take m.jobs js) (take m.jobs new.jobs.items) back (in-place-first new kept places m.jobs) (stood-later ns np p new.next_serial new.next_place (pending_of new.starting new.room) ts (take m.jobs js) later further more h.stood);
+        stood = stood-noted new.next_serial new.next_place (pending_of new.starting new.room) ts t (take m.jobs js) (take m.jobs new.jobs.items) back how (in-place-first new kept places m.jobs) (stood-later ns np p new.next_serial new.next_place (pending_of new.starting new.room) ts (take m.jobs js) later further more h.stood);
         began = subst (λ (ls : List Job). AreListed m.next_serial m.next_place ls) (sym (undone-newest ts t (take m.jobs new.jobs.items) ∙ ap (undone ts) back)) h.began;
         clock = (let before = h.clock in omega arith);
       })

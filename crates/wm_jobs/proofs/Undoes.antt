@@ -1,64 +1,48 @@
 -- What dropping the last job and undoing the newest change make of a table.
-use Rattle.std.proofs.Common.{◌≡◌, ℕ, suc, ◌+◌, ◌-◌, ◌<◌, ◌≤◌, true, false, not, ◌&&◌, cond, List, [], ◌∷◌, ◌++◌, length, get_or, map, take, drop, take_all, Option, Some, None, vec_capacity, refl, ap, sym, ◌∙◌, subst, arith, nat_eq, eq-eqb, inl, inr, All}
+use Rattle.std.proofs.Common.{◌≡◌, ℕ, suc, ◌+◌, ◌-◌, ◌<◌, ◌≤◌, true, false, ◌||◌, cond, Bool, List, [], ◌∷◌, ◌++◌, length, get_or, take, drop, take_all, Option, Some, None, is_some, option_map, vec_capacity, refl, ap, sym, ◌∙◌, subst, arith, eq-eqb, inl, inr}
+use mathlib.Core.Bool.{false≢true}
 use Rattle.std.specs.Ordering.{nat_cmp}
-use Rattle.std.proofs.lemmas.Bool.{cases_Bool}
+use Rattle.std.specs.List.{cons_option, Contains}
 use Rattle.std.proofs.lemmas.List.{get_or-map, length-append, length-map}
-use Rattle.std.proofs.lemmas.List.Elements.{All-nil}
-use Rattle.wm_base.proofs.Lists.{length-filter_few}
-use Rattle.wm_active.specs.declared.acting.Acting.{Acting}
+use Rattle.std.proofs.lemmas.List.Elements.{All-nil, Contains-append_cases, Contains-append_left, Contains-append_right}
+use Rattle.wm_base.specs.declared.job.EndCause.TheVariants.{Restarted}
 use Rattle.wm_desc.specs.Place.{IsAt}
-use Rattle.wm_desc.specs.Sorted.{has_key, added, removed}
 use Rattle.wm_law.specs.declared.job.Job.{Job}
-use Rattle.wm_law.specs.Counts.{is_starting, is_active, is_prestart}
+use Rattle.wm_law.specs.declared.job.Phase.TheVariants.{Ended}
+use Rattle.wm_law.specs.Counts.{is_waiting, is_starting, is_active}
 use Rattle.wm_law.specs.Jobs.{changed_at}
 use Rattle.wm_law.specs.Named.{is_ended}
-use Rattle.wm_names.specs.Names.{Names, IsNames, HasNamed, HasLast}
-use Rattle.wm_names.specs.Names as names
-use Rattle.wm_ordered.specs.Ordered.{Pairs, key_of}
-use Rattle.wm_tally.specs.Tally.{Counts, IsTally, HasFew, HasStarted}
+use Rattle.wm_law.specs.Reports.{in_phase}
+use Rattle.wm_names.specs.Names.{Names, IsNames, HasLast, HasFew as HasFewNames}
+use Rattle.wm_ordered.specs.Ordered.{key_of}
+use Rattle.wm_ordered.proofs.Members.{Contains-head, Contains-cons, Contains-cases}
+use Rattle.wm_tally.specs.Tally.{IsTally}
 use Rattle.wm_waiting.specs.declared.waiter.Waiter.{Waiter}
-use Rattle.wm_waiting.specs.Waiting.{Waiting}
 use Rattle.wm_waiting.specs.Waiting as waiting
-use Rattle.wm_pick.specs.Parts.{waiter_of, waiters}
-use Rattle.wm_tally.specs.Tallied.{hows}
+use Rattle.wm_pick.specs.Parts.{waiter_on, waiter_of, waiters}
+use Rattle.wm_jobs.specs.declared.touched.Mark.{Mark}
+use Rattle.wm_jobs.specs.declared.touched.Standing.{Standing}
 use Rattle.wm_jobs.specs.declared.touched.Touched.{Touched}
-use Rattle.wm_jobs.specs.Marked.{standing_as, restored, undone, marked_by}
-use Rattle.wm_jobs.specs.Indexed.{acting_of, order_of, orders, nodes_of, Starts, Ends, NamesEnded, NamesAgain}
-use Rattle.wm_jobs.specs.Stored.{joined_by, IsOther}
-use Rattle.wm_jobs.specs.Table.{Table, serial_of}
-use Rattle.wm_jobs.specs.TableInside.{table_of, pending_of, AreListed, IsIndexed, HasRoom, HasNames, AreInPlace, StoodInPlace, IsUndoable, IsKept, IsTableInside}
+use Rattle.wm_jobs.specs.Indexed.{order_of, orders, active_of}
+use Rattle.wm_jobs.specs.Marked.{standing_of, standing_as, restored, undone, marked_by}
+use Rattle.wm_jobs.specs.Standings.{bit, comes, IsAround, IsItsPlace, NamesAgain, CanFollow, HasFollowed}
+use Rattle.wm_jobs.specs.Table.{Table, serial_of, is_busy}
+use Rattle.wm_jobs.specs.TableInside.{table_of, pending_of, IsListed, AreListed, IsIndexed, AreInPlace, KeepsHow, StoodInPlace, IsUndoable, IsTableInside}
 use Rattle.wm_jobs.specs.declared.table.JobTable.TheInside.{Inside}
-use Rattle.wm_jobs.proofs.AtPlace.{split, end-finds, finds-named}
-use Rattle.wm_jobs.proofs.AtStored.{behind-others, joined-most}
-use Rattle.wm_jobs.proofs.AtUndo.{as_ended, taken-indexed, put-indexed, put-lacks, put-unlisted, put-other, dropped-indexed}
-use Rattle.wm_jobs.proofs.JobParts.{active-unwaiting, waiter-none, order-keyed, order-none, order-some, has-started, hows-few}
-use Rattle.wm_jobs.proofs.Sifted.{picked-length}
+use Rattle.wm_jobs.proofs.AtStored.{behind-others}
+use Rattle.wm_jobs.proofs.Changes.{all-there}
+use Rattle.wm_jobs.proofs.Followed.{entries, phase-parts, come-bits}
+use Rattle.wm_jobs.proofs.JobParts.{waiter-keyed, waiter-placed, waiter-none, waiter-some, order-keyed, order-none, active-keyed, active-none, hows-pushed, count-pushed}
+use Rattle.wm_jobs.proofs.Restood.{around-of, bit-if, can-follow, followed-there, waits-more, starts-more, names-there}
+use Rattle.wm_jobs.proofs.Sifted.{picked-parts, pushed-same}
 use Rattle.wm_jobs.proofs.Splits.{IsSplit, split-at, map-split}
-use Rattle.wm_jobs.proofs.Stood.{listed-front, stood-now, stood-undone}
+use Rattle.wm_jobs.proofs.Stood.{agrees, listed-front, stood-how, stood-now, stood-undone, undoable-same, first-pushed}
 use Rattle.wm_jobs.proofs.Undone.{undone-newest, marked-length, marked-noted, marked-pushed, marked-same}
 
 -- where there are as many jobs as there were at the mark, they are those
 pub all-marked : (t : Inside) (h : IsTableInside t) (v : Table) → table_of t ≡ v → length v.jobs ≡ length v.marked.jobs → length t.jobs.items ≡ t.mark.jobs
 all-marked t h v view all =
     subst (λ (w : Table). length w.jobs ≡ length w.marked.jobs) (sym view) all ∙ marked-length t.mark t.touched.items t.jobs.items h.marked.there
-
--- it waits or it counts, not both
-one-of : (y : Job) (ws : List Waiter) → length (joined_by (waiter_of y) ws) + cond (is_active y.phase) 1 0 ≤ length ws + 1
-one-of y ws =
-    elim (cases_Bool (is_active y.phase)) [
-      | inl e ↦ (let none : joined_by (waiter_of y) ws ≡ ws = ap (λ (o : Option Waiter). joined_by o ws) (waiter-none y (active-unwaiting y.phase e)) in rw (none, e) (omega arith))
-      | inr e ↦ (let most = joined-most (waiter_of y) ws in rw e (omega arith))
-    ]
-
--- so it takes the room of one in those that wait, or in the tally
-module _ (y : Job) (ws : List Waiter) (old new : ℕ) (most : old ≤ new + 1) where
-  pub waits-or-counts : (is_active y.phase ≡ false → old ≤ new) → length (joined_by (waiter_of y) ws) + old ≤ length ws + new + 1
-  waits-or-counts kept =
-      let one = one-of y ws in
-      elim (cases_Bool (is_active y.phase)) [
-        | inl e ↦ (let bit : cond {A = ℕ} (is_active y.phase) 1 0 ≡ 1 = ap (λ b. cond b 1 0) e in omega arith)
-        | inr e ↦ (let same = kept e in omega arith)
-      ]
 
 -- there is one to spend
 pub spends : (t : Inside) (v : Table) → table_of t ≡ v → 1 ≤ length v.touched → length v.touched ≤ v.undos → t.undos - 1 + 1 ≡ t.undos
@@ -87,6 +71,10 @@ module _ (t : Inside) (h : IsTableInside t) (ts : List Touched) (u : Touched) (p
   pub before-in-place : AreInPlace t.next_serial t.next_place most before
   before-in-place = stood-now t.next_serial t.next_place most ts before stood
 
+  -- an active job has kept its how since
+  pub before-how : KeepsHow u t.jobs.items
+  before-how = subst (λ (js : List Job). KeepsHow u js) whole (stood-how t.next_serial t.next_place most ts u (take t.mark.jobs t.jobs.items) (subst (λ (us : List Touched). StoodInPlace t.next_serial t.next_place most us (take t.mark.jobs t.jobs.items)) popped h.undoable.stood))
+
   -- and what was done before it can be undone
   pub before-undoable : (ks : List Job) → ks ≡ before → IsUndoable t.mark ts ks t.next_serial t.next_place most t.waiting.clock
   before-undoable ks is = subst (λ (js : List Job). IsUndoable t.mark ts js t.next_serial t.next_place most t.waiting.clock) (sym is) (record {
@@ -101,65 +89,47 @@ module _ (t : Inside) (h : IsTableInside t) (ts : List Touched) (u : Touched) (p
   before-marked ks is =
       sym (marked-noted t.mark ts t.touched.items u ks t.jobs.items popped (ap (restored u) whole ∙ (sym whole-before ∙ ap (take t.mark.jobs) (sym is))))
 
--- the job at the place, as it stood
-module _ (t : Inside) (s at : ℕ) (x : Job) (js : List Job) (same : js ≡ t.jobs.items) (there : IsAt serial_of nat_cmp s js at) (is : x ≡ get_or t.jobs.items at x) (change : Job → Job) (ks : List Job) (jobs : ks ≡ map (changed_at s change) t.jobs.items) where
-  stands : IsAt serial_of nat_cmp s t.jobs.items at
-  stands = subst (λ (ls : List Job). IsAt serial_of nat_cmp s ls at) same there
+waits-most : (b : Bool) (o : Option Waiter) → bit (is_some (cond b o None)) ≤ bit b
+waits-most true None = omega arith
+waits-most true (Some w) = omega arith
+waits-most false o = omega arith
 
-  here : x.serial ≡ s
-  here = subst (λ (j : Job). j.serial ≡ s) (sym is) (split-at serial_of s t.jobs.items at x stands).here
-
-  pub stands-again : (y : Job) → y ≡ get_or ks at y → y ≡ change x
-  stands-again y y_is =
-      y_is
-      ∙ (ap (λ (ls : List Job). get_or ls at y) jobs
-      ∙ (get_or-map (changed_at s change) t.jobs.items at x y stands.in_range
-      ∙ (ap (changed_at s change) (sym is) ∙ ap (λ b. cond b (change x) x) (eq-eqb x.serial s here))))
-
--- no more wait where one is taken out
-pub taken-few : (s : ℕ) (ws us : List Waiter) → us ≡ removed waiting.serial_of nat_eq s ws → length us ≤ length ws
-taken-few s ws us is = subst (λ (vs : List Waiter). length vs ≤ length ws) (sym is) (length-filter_few (λ (w : Waiter). not (nat_eq w.serial s)) ws)
+-- a job waits on a queue, or counts, or neither
+waits-or-acts : (y : Job) → bit (is_some (waiter_of y)) + bit (is_active y.phase) ≤ 1
+waits-or-acts y =
+    let parts = phase-parts y.phase in
+    let most = waits-most (is_waiting y.phase) (option_map (λ queue. waiter_on queue y) y.jobq) in
+    omega arith
 
 -- where the last job, which came since the mark, is taken out
-module _ (t : Inside) (h : IsTableInside t) (js : List Job) (x : Job) (whole : t.jobs.items ≡ js ++ x ∷ []) where
-  abbrev all : List Job
-  all = js ++ x ∷ []
+module _ (t : Inside) (h : IsTableInside t) (js : List Job) (x : Job) (whole : t.jobs.items ≡ js ++ x ∷ []) (to : Standing) (ended : to ≡ standing_of (in_phase (Ended Restarted) x)) where
+  abbrev as_ended : Job
+  as_ended = in_phase (Ended Restarted) x
 
-  listed : AreListed t.next_serial t.next_place all
+  stands : standing_as to x ≡ as_ended
+  stands = ap (λ (st : Standing). standing_as st x) ended
+
+  phase : to.phase ≡ Ended Restarted
+  phase = ap (λ (st : Standing). st.phase) ended
+
+  listed : AreListed t.next_serial t.next_place (js ++ x ∷ [])
   listed = subst (λ (ls : List Job). AreListed t.next_serial t.next_place ls) whole h.kept.listed
 
-  lower : All (λ (k : Job). k.serial < x.serial) js
-  lower = behind-others js [] x listed.sorted
+  around : IsAround js [] x.serial
+  around = record { lower = behind-others js [] x listed.sorted; higher = All-nil (λ (k : Job). x.serial < k.serial) }
 
-  pub length-all : length t.jobs.items ≡ length js + 1
+  pub drop-follows : CanFollow t.waiting t.tally t.starting t.active t.names x to
+  drop-follows =
+      let none : bit (is_some (waiter_of (standing_as to x))) ≡ 0 = ap (λ (j : Job). bit (is_some (waiter_of j))) stands in
+      let inactive : bit (is_active to.phase) ≡ 0 = ap (λ p. bit (is_active p)) phase in
+      let unstarted : bit (is_starting to.phase) ≡ 0 = ap (λ p. bit (is_starting p)) phase in
+      let waits = come-bits (is_some (waiter_of x)) (is_some (waiter_of (standing_as to x))) in
+      let acts = come-bits (is_active x.phase) (is_active to.phase) in
+      let starts = come-bits (is_starting x.phase) (is_starting to.phase) in
+      can-follow t h.kept js [] x whole around to (λ waiting_then. absurd (false≢true (ap is_waiting (sym phase) ∙ waiting_then))) (λ _ active. absurd (false≢true (ap is_active (sym phase) ∙ active))) (omega arith) (omega arith) (omega arith) (omega arith)
+
+  length-all : length t.jobs.items ≡ length js + 1
   length-all = ap length whole ∙ length-append js (x ∷ [])
-
-  pub drop-started : is_active x.phase ≡ true → HasStarted t.tally x.how
-  drop-started active = has-started js [] x t.tally active (subst (λ (ls : List Job). IsTally (hows ls) t.tally) whole h.kept.indexed.hows_are)
-
-  names-left : (n : Names) → NamesEnded t.names n x → IsNames (js ++ as_ended x ∷ []) n
-  names-left n ne = ne js [] (as_ended x) refl refl refl (subst (λ (ls : List Job). IsNames ls t.names) whole h.kept.named.are)
-
-  pub drop-last : (n : Names) → NamesEnded t.names n x → HasLast n (as_ended x)
-  drop-last n ne = record { jobs = js; are = names-left n ne; ended = refl }
-
-  pub dropped-kept : (new : Inside) (n : Names) → new.jobs.items ≡ js → new.next_serial ≡ t.next_serial → new.next_place ≡ t.next_place → new.room ≡ t.room → vec_capacity new.jobs ≡ vec_capacity t.jobs → new.waiting.items ≡ removed waiting.serial_of nat_eq x.serial t.waiting.items → t.waiting.spare ≤ new.waiting.spare → Ends (not (is_active x.phase)) t.tally new.tally x.how → t.tally.spare ≤ new.tally.spare → new.starting.items ≡ removed key_of nat_eq x.serial t.starting.items → t.starting.spare ≤ new.starting.spare → new.active.items ≡ removed key_of nat_eq x.serial t.active.items → new.busy + cond (is_active x.phase && not (is_prestart x.kind)) 1 0 ≡ t.busy → NamesEnded t.names n x → t.names.spare ≤ n.spare → ((ls : List Job) → IsNames (ls ++ as_ended x ∷ []) n → IsNames ls new.names) → n.spare ≤ new.names.spare → IsKept new
-  dropped-kept new n jobs ns np room capacity we ws te ts se ss ae be ne name forget less =
-      let indexed = taken-indexed x.serial js [] x refl lower (All-nil (λ (k : Job). x.serial < k.serial)) t.waiting new.waiting t.tally new.tally t.starting new.starting t.active new.active t.busy new.busy (subst (λ (ls : List Job). IsIndexed ls t.waiting t.tally t.starting t.active t.busy) whole h.kept.indexed) we te se ae be in
-      let o = h.kept.room in
-      let stand = o.to_stand in
-      let few = o.few in
-      let wait = o.to_wait in
-      let count = o.to_count in
-      let start = o.to_start in
-      let fewer = taken-few x.serial t.waiting.items new.waiting.items we in
-      let names = h.kept.named.to_name in
-      subst (λ (ls : List Job). AreListed new.next_serial new.next_place ls → IsIndexed ls new.waiting new.tally new.starting new.active new.busy → HasRoom (length ls) (vec_capacity new.jobs) new.room new.waiting new.tally new.starting → HasNames ls new.room new.names → IsKept new) jobs
-      (λ l i r n. record { listed = l; indexed = i; room = r; named = n })
-      (rw (ns, np) (listed-front t.next_serial t.next_place js x listed))
-      (dropped-indexed js x new.waiting new.tally new.starting new.active new.busy indexed)
-      (record { to_stand = omega (arith, length-all, room, capacity); few = omega (arith, length-all, room); to_wait = omega (arith, room); to_count = omega (arith, room); to_start = omega (arith, room) })
-      (record { are = forget js (names-left n ne); to_name = omega (arith, room) })
 
   -- the jobs of the mark are all among the others
   pub marked-there : (v : Table) → table_of t ≡ v → length v.marked.jobs < length v.jobs → t.mark.jobs ≤ length js
@@ -172,17 +142,76 @@ module _ (t : Inside) (h : IsTableInside t) (js : List Job) (x : Job) (whole : t
   pub dropped-marked : t.mark.jobs ≤ length js → (ks : List Job) → ks ≡ js → marked_by t.mark t.touched.items ks ≡ marked_by t.mark t.touched.items t.jobs.items
   dropped-marked there ks is = marked-same t.mark t.touched.items js ks is ∙ sym (marked-pushed t.mark t.touched.items js t.jobs.items x there whole)
 
--- a job is put into what jobs are found and counted by
-pub record IsPutIn (z : Job) (w1 : Waiting) (t1 : Counts) (s1 : Pairs ℕ (Unit {0})) (n1 : Names) (a1 : Pairs ℕ Acting) (b1 : ℕ) (new : Inside) : Type 0 where
-  pub items : new.waiting.items ≡ joined_by (waiter_of z) w1.items
-  pub hows : Starts (is_active z.phase) t1 new.tally z.how
-  pub orders : new.starting.items ≡ cond (is_starting z.phase) (added key_of nat_cmp (z.serial, tt) s1.items) s1.items
-  pub names : NamesAgain n1 new.names z
-  pub active : new.active.items ≡ cond (is_active z.phase) (added key_of nat_cmp (z.serial, acting_of z.phase z.wish) a1.items) a1.items
-  pub busy : new.busy ≡ b1 + cond (is_active z.phase && not (is_prestart z.kind)) 1 0
+  module _ (n : Names) (names : (before behind : List Job) (is : Job) → is.serial ≡ x.serial → is.job ≡ x.job → is_ended is.phase ≡ (is_ended x.phase || is_ended to.phase) → IsNames (before ++ x ∷ behind) t.names → IsNames (before ++ is ∷ behind) n) where
+    or-true : (b : Bool) → true ≡ (b || true)
+    or-true true = refl
+    or-true false = refl
 
--- where the job that the newest change was made of is taken out, and put in again as it stood
-module _ (t : Inside) (h : IsTableInside t) (ts : List Touched) (u : Touched) (popped : t.touched.items ≡ ts ++ u ∷ []) (all : length t.jobs.items ≡ t.mark.jobs) (at : ℕ) (x : Job) (js : List Job) (same : js ≡ t.jobs.items) (there : IsAt serial_of nat_cmp u.serial js at) (is : x ≡ get_or t.jobs.items at x) where
+    names-left : IsNames (js ++ as_ended ∷ []) n
+    names-left = names js [] as_ended refl refl (or-true (is_ended x.phase) ∙ ap (λ p. is_ended x.phase || is_ended p) (sym phase)) (names-there t h.kept js [] x whole around)
+
+    pub drop-last : HasLast n as_ended
+    drop-last = record { jobs = js; are = names-left; ended = refl }
+
+  module _ (new : Inside) (n : Names) (f : HasFollowed x to t.waiting new.waiting t.tally new.tally t.starting new.starting t.active new.active t.names n) (busy : new.busy + bit (is_busy x) ≡ t.busy + bit (is_busy (standing_as to x))) (jobs : new.jobs.items ≡ js) where
+    -- one that has ended leaves from behind the others
+    dropped-indexed : IsIndexed js new.waiting new.tally new.starting new.active new.busy
+    dropped-indexed =
+        let i = subst (λ (j : Job). IsIndexed (js ++ j ∷ []) new.waiting new.tally new.starting new.active new.busy) stands (followed-there t h.kept js [] x whole around to (record new { names = n }) f busy) in
+        record {
+          waiters_are = i.waiters_are ∙ sym (pushed-same serial_of waiter_of waiting.serial_of waiter-keyed js as_ended (waiter-none as_ended refl));
+          hows_are = subst (λ hs. IsTally hs new.tally) (hows-pushed js as_ended refl) i.hows_are;
+          orders_are = i.orders_are ∙ sym (pushed-same serial_of order_of key_of order-keyed js as_ended (order-none as_ended refl));
+          active_are = i.active_are ∙ sym (pushed-same serial_of active_of key_of active-keyed js as_ended (active-none as_ended refl));
+          busy_are = i.busy_are ∙ count-pushed is_busy js as_ended refl;
+        }
+
+    pub dropped-inside : t.mark.jobs ≤ length js → ((ls : List Job) → IsNames (ls ++ as_ended ∷ []) n → IsNames ls new.names) → n.spare ≤ new.names.spare → new.next_serial ≡ t.next_serial → new.next_place ≡ t.next_place → new.room ≡ t.room → new.changes ≡ t.changes → new.undos ≡ t.undos → new.mark ≡ t.mark → new.touched ≡ t.touched → vec_capacity new.jobs ≡ vec_capacity t.jobs → IsTableInside new
+    dropped-inside there forget less ns np room changes undos mark touched capacity =
+        let waits = waits-more t h.kept js [] x whole around to (record new { names = n }) f busy in
+        let none : bit (is_some (waiter_of (standing_as to x))) ≡ 0 = ap (λ (j : Job). bit (is_some (waiter_of j))) stands in
+        let inactive : bit (is_active to.phase) ≡ 0 = ap (λ p. bit (is_active p)) phase in
+        let acts = come-bits (is_active x.phase) (is_active to.phase) in
+        let starts = starts-more t h.kept js [] x whole around to (record new { names = n }) f busy in
+        let unstarted : bit (is_starting to.phase) ≡ 0 = ap (λ p. bit (is_starting p)) phase in
+        let all = length-all in
+        let o = h.kept.room in
+        let stand = o.to_stand in
+        let few = o.few in
+        let wait = o.to_wait in
+        let count = o.to_count in
+        let start = o.to_start in
+        let name = h.kept.named.to_name in
+        let u = h.undos in
+        let undo_wait = u.to_wait in
+        let undo_count = u.to_count in
+        let undo_list = u.to_list in
+        let undo_name = u.to_name in
+        let fits = h.marked.to_touch in
+        let to_wait = f.to_wait in
+        let to_count = f.to_count in
+        let to_list = f.to_list in
+        let to_name = f.to_name in
+        let nodes = f.nodes in
+        let clock = f.clock in
+        let left : length new.jobs.items ≡ length js = ap length jobs in
+        let noted : length new.touched.items ≡ length t.touched.items = ap (λ ts. length ts.items) touched in
+        let fits_touched : vec_capacity new.touched ≡ vec_capacity t.touched = ap (λ ts. vec_capacity ts) touched in
+        let marked : new.mark.jobs ≡ t.mark.jobs = ap (λ (m : Mark). m.jobs) mark in
+        agrees new
+        (record {
+          listed = rw (jobs, ns, np) (listed-front t.next_serial t.next_place js x listed);
+          indexed = rw jobs dropped-indexed;
+          room = record { to_stand = omega arith; few = omega arith; to_wait = omega arith; to_count = omega arith; to_start = omega arith };
+          named = rw jobs (record { are = forget js (names-left n f.names); to_name = omega arith });
+        })
+        (record { to_wait = omega arith; to_count = omega arith; to_list = omega arith; to_name = omega arith })
+        (λ kept. subst (λ (m : Mark). IsUndoable m new.touched.items new.jobs.items new.next_serial new.next_place (pending_of new.starting new.room) new.waiting.clock) (sym mark)
+        (undoable-same t.mark t.touched.items new.touched.items t.jobs.items new.jobs.items t.next_serial t.next_place (pending_of t.starting t.room) t.waiting.clock new.next_serial new.next_place (pending_of new.starting new.room) new.waiting.clock h.undoable (ap (λ ts. ts.items) touched) (ap (take t.mark.jobs) jobs ∙ sym (first-pushed t.mark.jobs js t.jobs.items x there whole)) (omega arith) (omega arith) (omega arith) (omega arith)))
+        (record { there = omega arith; to_touch = omega arith })
+
+-- where the job that the newest change was made of stands again as it stood
+module _ (t : Inside) (h : IsTableInside t) (ts : List Touched) (u : Touched) (popped : t.touched.items ≡ ts ++ u ∷ []) (v : Table) (view : table_of t ≡ v) (some : 1 ≤ length v.touched) (room : length v.touched ≤ v.undos) (whole_v : length v.jobs ≡ length v.marked.jobs) (at : ℕ) (x : Job) (js : List Job) (same : js ≡ t.jobs.items) (there : IsAt serial_of nat_cmp u.serial js at) (is : x ≡ get_or t.jobs.items at x) where
   abbrev l : List Job
   l = take at t.jobs.items
 
@@ -193,8 +222,14 @@ module _ (t : Inside) (h : IsTableInside t) (ts : List Touched) (u : Touched) (p
   abbrev y : Job
   y = standing_as u.was x
 
+  all : length t.jobs.items ≡ t.mark.jobs
+  all = all-marked t h v view whole_v
+
   split-x : IsSplit serial_of u.serial t.jobs.items l r x
-  split-x = split t h.kept u.serial at x js same there is
+  split-x = subst (λ (j : Job). IsSplit serial_of u.serial t.jobs.items l r j) (sym is) (split-at serial_of u.serial t.jobs.items at x (subst (λ (ks : List Job). IsAt serial_of nat_cmp u.serial ks at) same there))
+
+  around-x : IsAround l r x.serial
+  around-x = around-of u.serial t.jobs.items l r x split-x
 
   stood-there : restored u t.jobs.items ≡ l ++ y ∷ r
   stood-there = map-split serial_of u.serial (standing_as u.was) t.jobs.items l r x split-x
@@ -202,66 +237,131 @@ module _ (t : Inside) (h : IsTableInside t) (ts : List Touched) (u : Touched) (p
   in-place : AreInPlace t.next_serial t.next_place (pending_of t.starting t.room) (l ++ y ∷ r)
   in-place = subst (λ (ls : List Job). AreInPlace t.next_serial t.next_place (pending_of t.starting t.room) ls) stood-there (before-in-place t h ts u popped all)
 
-  length-there : (z : Job) → length (l ++ z ∷ r) ≡ length t.jobs.items
-  length-there z = length-append l (z ∷ r) ∙ (sym (length-append l (x ∷ r)) ∙ sym (ap length split-x.whole))
+  spend : t.undos - 1 + 1 ≡ t.undos
+  spend = spends t v view some room
 
-  pub undo-serial : x.serial ≡ u.serial
-  undo-serial = split-x.here
+  noted-less : length t.touched.items ≡ length ts + 1
+  noted-less = ap length popped ∙ length-append ts (u ∷ [])
 
-  pub undo-started : is_active x.phase ≡ true → HasStarted t.tally x.how
-  undo-started active = (end-finds t h.kept u.serial at x js same there is x.phase active).0
+  -- none of another serial has the place that it had
+  own-place : is_waiting u.was.phase ≡ true → IsItsPlace u.was.place x.serial t.waiting.items
+  own-place waits w there_w place =
+      let queue = (all-there (IsListed t.next_serial t.next_place) l r y in-place.listed.each).queue waits in
+      let mine = waiter-some y waits queue in
+      let parts : t.waiting.items ≡ waiters l ++ cons_option (waiter_of x) (waiters r) = subst (λ (ls : List Job). t.waiting.items ≡ waiters ls) split-x.whole h.kept.indexed.waiters_are ∙ picked-parts serial_of waiter_of waiting.serial_of waiter-keyed l r x (waiter_of x) refl in
+      let then : waiters (l ++ y ∷ r) ≡ waiters l ++ mine.0 ∷ waiters r = picked-parts serial_of waiter_of waiting.serial_of waiter-keyed l r y (Some mine.0) mine.1 in
+      let other : Contains (waiters l ++ mine.0 ∷ waiters r) w → w.serial ≡ x.serial =
+      λ still. ap (λ (k : Waiter). k.serial) (in-place.places w mine.0 (subst (λ (ws : List Waiter). Contains ws w) (sym then) still) (subst (λ (ws : List Waiter). Contains ws mine.0) (sym then) (Contains-append_right (waiters l) (mine.0 ∷ waiters r) mine.0 (Contains-head mine.0 (waiters r)))) (place ∙ sym (waiter-placed y mine.0 mine.1))) ∙ waiter-keyed y mine.0 mine.1 in
+      elim (Contains-append_cases (waiters l) (cons_option (waiter_of x) (waiters r)) w (subst (λ (ws : List Waiter). Contains ws w) parts there_w)) [
+        | inl before ↦ other (Contains-append_left (waiters l) (mine.0 ∷ waiters r) w before)
+        | inr behind ↦ its-own (waiter_of x) refl behind (λ later. other (Contains-append_right (waiters l) (mine.0 ∷ waiters r) w (Contains-cons mine.0 w (waiters r) later)))
+      ]
+    where
+      its-own : (o : Option Waiter) → waiter_of x ≡ o → Contains (cons_option o (waiters r)) w → (Contains (waiters r) w → w.serial ≡ x.serial) → w.serial ≡ x.serial
+      its-own None none behind rest = rest behind
+      its-own (Some v) picked behind rest =
+          elim (Contains-cases v w (waiters r) behind) [
+            | inl this ↦ sym (ap (λ (k : Waiter). k.serial) this) ∙ waiter-keyed x v picked
+            | inr later ↦ rest later
+          ]
 
-  pub undo-named : is_ended x.phase ≡ false → HasNamed t.names x
-  undo-named lasts = finds-named t h.kept u.serial at x js same there is lasts
-
-  module _ (w1 : Waiting) (t1 : Counts) (s1 : Pairs ℕ (Unit {0})) (n1 : Names) (we : w1.items ≡ removed waiting.serial_of nat_eq x.serial t.waiting.items) (te : Ends (not (is_active x.phase)) t.tally t1 x.how) (se : s1.items ≡ removed key_of nat_eq x.serial t.starting.items) (ne : NamesEnded t.names n1 x) where
-    taken : (a1 : Pairs ℕ Acting) (b1 : ℕ) → a1.items ≡ removed key_of nat_eq x.serial t.active.items → b1 + cond (is_active x.phase && not (is_prestart x.kind)) 1 0 ≡ t.busy → IsIndexed (l ++ as_ended x ∷ r) w1 t1 s1 a1 b1
-    taken a1 b1 ae be =
-        taken-indexed u.serial l r x split-x.here split-x.lower split-x.higher t.waiting w1 t.tally t1 t.starting s1 t.active a1 t.busy b1 (subst (λ (ls : List Job). IsIndexed ls t.waiting t.tally t.starting t.active t.busy) split-x.whole h.kept.indexed)
-        (we ∙ ap (λ n. removed waiting.serial_of nat_eq n t.waiting.items) split-x.here) te (se ∙ ap (λ n. removed key_of nat_eq n t.starting.items) split-x.here) (ae ∙ ap (λ n. removed key_of nat_eq n t.active.items) split-x.here) be
-
-    names-taken : IsNames (l ++ as_ended x ∷ r) n1
-    names-taken = ne l r (as_ended x) refl refl refl (subst (λ (ls : List Job). IsNames ls t.names) split-x.whole h.kept.named.are)
-
-    module _ (a1 : Pairs ℕ Acting) (b1 : ℕ) (ae : a1.items ≡ removed key_of nat_eq x.serial t.active.items) (be : b1 + cond (is_active x.phase && not (is_prestart x.kind)) 1 0 ≡ t.busy) where
-      pub undo-other : IsOther (waiter_of y) w1.items
-      undo-other =
-          subst (λ (ws : List Waiter). IsOther (waiter_of y) ws) (sym (taken a1 b1 ae be).waiters_are) (put-other u.serial l r x split-x.here split-x.lower split-x.higher y split-x.here in-place.places)
-
-      pub undo-few : HasFew t1
-      undo-few = record { hows = hows (l ++ as_ended x ∷ r); are = (taken a1 b1 ae be).hows_are; few = (let n = hows-few (l ++ as_ended x ∷ r) in let m = length-there (as_ended x) in let f = h.kept.room.few in omega arith) }
-
-      pub undo-lacks : has_key key_of nat_eq y.serial s1.items ≡ false
-      undo-lacks = ap (λ (os : List (ℕ × Unit {0})). has_key key_of nat_eq y.serial os) (taken a1 b1 ae be).orders_are ∙ put-lacks u.serial l r x split-x.here split-x.lower split-x.higher y split-x.here
-
-      pub undo-unlisted : has_key key_of nat_eq y.serial a1.items ≡ false
-      undo-unlisted = ap (λ (os : List (ℕ × Acting)). has_key key_of nat_eq y.serial os) (taken a1 b1 ae be).active_are ∙ put-unlisted u.serial l r x split-x.here split-x.lower split-x.higher y split-x.here
+  pub undo-follows : CanFollow t.waiting t.tally t.starting t.active t.names x u.was
+  undo-follows =
+      let o = h.undos in
+      let wait = o.to_wait in
+      let count = o.to_count in
+      let list = o.to_list in
+      let left = noted-less in
+      let once = spend in
+      let waits = come-bits (is_some (waiter_of x)) (is_some (waiter_of y)) in
+      let acts = come-bits (is_active x.phase) (is_active u.was.phase) in
+      let starts = come-bits (is_starting x.phase) (is_starting u.was.phase) in
+      can-follow t h.kept l r x split-x.whole around-x u.was own-place keeps-how (omega arith) (omega arith) finds-order (omega arith)
+    where
+      keeps-how : is_active x.phase ≡ true → is_active u.was.phase ≡ true → u.was.how ≡ x.how
+      keeps-how = all-there (λ (j : Job). j.serial ≡ u.serial → is_active j.phase ≡ true → is_active u.was.phase ≡ true → u.was.how ≡ j.how) l r x (subst (λ (ls : List Job). KeepsHow u ls) split-x.whole (before-how t h ts u popped all)) split-x.here
 
       -- where it was an order, there is room for it
-      pub undo-orders : nodes_of s1 ≡ nodes_of t.starting → is_starting y.phase ≡ true → 1 ≤ s1.spare
-      undo-orders nodes starts =
-          let there : length s1.items ≡ length (orders (l ++ as_ended x ∷ r)) = ap length (taken a1 b1 ae be).orders_are in
-          let without : length (orders (l ++ as_ended x ∷ r)) ≡ length (orders l) + length (orders r) = picked-length serial_of order_of key_of order-keyed l r (as_ended x) None (order-none (as_ended x) refl) in
-          let with : length (orders (l ++ y ∷ r)) ≡ length (orders l) + suc (length (orders r)) = picked-length serial_of order_of key_of order-keyed l r y (Some (y.serial, tt)) (order-some y y.serial refl starts) in
+      finds-order : comes (is_starting x.phase) (is_starting u.was.phase) ≤ t.starting.spare
+      finds-order =
+          let had : length t.starting.items ≡ length (orders (l ++ x ∷ r)) = ap length (h.kept.indexed.orders_are ∙ ap orders split-x.whole) in
+          let more = entries order_of key_of order-keyed x y refl (orders (l ++ x ∷ r)) (orders (l ++ y ∷ r)) l r refl refl in
+          let was : bit (is_some (order_of x)) ≡ bit (is_starting x.phase) = bit-if (is_starting x.phase) (x.serial, tt) in
+          let then : bit (is_some (order_of y)) ≡ bit (is_starting u.was.phase) = bit-if (is_starting u.was.phase) (x.serial, tt) in
+          let come = come-bits (is_starting x.phase) (is_starting u.was.phase) in
           let few = in-place.few in
           omega arith
 
-      pub undo-few-names : names.HasFew n1
-      undo-few-names = record { jobs = l ++ as_ended x ∷ r; are = names-taken; few = (let m = length-there (as_ended x) in let f = h.kept.room.few in omega arith) }
+  -- as it stood, but ended where it has
+  abbrev w : Job
+  w = cond (is_ended x.phase) x y
 
-      -- what comes of a table where it is put in
-      pub undone-kept : (z : Job) → z ≡ y → (new : Inside) → new.jobs.items ≡ restored u t.jobs.items → IsPutIn z w1 t1 s1 n1 a1 b1 new → new.next_serial ≡ t.next_serial → new.next_place ≡ t.next_place → new.room ≡ t.room → nodes_of new.starting ≡ nodes_of t.starting → (length new.waiting.items + new.room ≤ new.starting.spare → HasRoom (length t.jobs.items) (vec_capacity new.jobs) new.room new.waiting new.tally new.starting) → new.room ≤ new.names.spare → IsKept new
-      undone-kept z is new jobs put ns np same_room nodes room name =
-          let p = subst (λ (k : Job). IsPutIn k w1 t1 s1 n1 a1 b1 new) is put in
-          let so : new.jobs.items ≡ l ++ y ∷ r = jobs ∙ stood-there in
-          let indexed = put-indexed u.serial l r x split-x.here split-x.lower split-x.higher y split-x.here w1 new.waiting t1 new.tally s1 new.starting a1 new.active b1 new.busy (taken a1 b1 ae be) p.items p.hows p.orders p.active p.busy in
-          let waits : length new.waiting.items ≡ length (waiters (l ++ y ∷ r)) = ap length indexed.waiters_are in
-          let starts : length new.starting.items ≡ length (orders (l ++ y ∷ r)) = ap length indexed.orders_are in
-          let few = in-place.few in
-          let had = h.kept.room.to_start in
-          record {
+  either : (b : Bool) (P : Job → Type 0) → P x → P y → P (cond b x y)
+  either true P was then = was
+  either false P was then = then
+
+  w-ends : (b : Bool) → is_ended x.phase ≡ b → is_ended (cond b x y).phase ≡ (b || is_ended u.was.phase)
+  w-ends true had = had
+  w-ends false had = refl
+
+  length-then : (j : Job) → length (l ++ j ∷ r) ≡ length t.jobs.items
+  length-then j = length-append l (j ∷ r) ∙ (sym (length-append l (x ∷ r)) ∙ sym (ap length split-x.whole))
+
+  module _ (new : Inside) (n : Names) (f : HasFollowed x u.was t.waiting new.waiting t.tally new.tally t.starting new.starting t.active new.active t.names n) (busy : new.busy + bit (is_busy x) ≡ t.busy + bit (is_busy y)) (jobs : new.jobs.items ≡ restored u t.jobs.items) where
+    names-then : IsNames (l ++ w ∷ r) n
+    names-then = f.names l r w (either (is_ended x.phase) (λ (j : Job). j.serial ≡ x.serial) refl refl) (either (is_ended x.phase) (λ (j : Job). j.job ≡ x.job) refl refl) (w-ends (is_ended x.phase) refl) (names-there t h.kept l r x split-x.whole around-x)
+
+    pub undo-few-names : HasFewNames n
+    undo-few-names = record { jobs = l ++ w ∷ r; are = names-then; few = (let m = length-then w in let few = h.kept.room.few in omega arith) }
+
+    -- the job there is the one that stood
+    again : (z : Job) → z ≡ get_or new.jobs.items at z → z ≡ y
+    again z z_is =
+        z_is
+        ∙ (ap (λ (ls : List Job). get_or ls at z) jobs
+        ∙ (get_or-map (changed_at u.serial (standing_as u.was)) t.jobs.items at x z (subst (λ (ks : List Job). IsAt serial_of nat_cmp u.serial ks at) same there).in_range
+        ∙ (ap (changed_at u.serial (standing_as u.was)) (sym is) ∙ ap (λ b. cond b y x) (eq-eqb x.serial u.serial split-x.here))))
+
+    pub undone-inside : (z : Job) → z ≡ get_or new.jobs.items at z → (had : Bool) → had ≡ is_ended x.phase → NamesAgain had z n new.names → n.spare ≤ new.names.spare + 1 → new.touched.items ≡ ts → new.undos + 1 ≡ t.undos → new.next_serial ≡ t.next_serial → new.next_place ≡ t.next_place → new.room ≡ t.room → new.changes ≡ t.changes → new.mark ≡ t.mark → vec_capacity new.jobs ≡ vec_capacity t.jobs → vec_capacity new.touched ≡ vec_capacity t.touched → IsTableInside new
+    undone-inside z z_is had had_is names name touched once ns np room_is changes mark capacity fits =
+        let back = subst (λ (b : Bool). NamesAgain b y n new.names) had_is (subst (λ (j : Job). NamesAgain had j n new.names) (again z z_is) names) in
+        let i = followed-there t h.kept l r x split-x.whole around-x u.was (record new { names = n }) f busy in
+        let more = waits-more t h.kept l r x split-x.whole around-x u.was (record new { names = n }) f busy in
+        let counts = waits-or-acts y in
+        let acts = come-bits (is_active x.phase) (is_active u.was.phase) in
+        let waits : length new.waiting.items ≡ length (waiters (l ++ y ∷ r)) = ap length i.waiters_are in
+        let starts : length new.starting.items ≡ length (orders (l ++ y ∷ r)) = ap length i.orders_are in
+        let few_wait = in-place.few in
+        let so : new.jobs.items ≡ l ++ y ∷ r = jobs ∙ stood-there in
+        let many : length new.jobs.items ≡ length t.jobs.items = ap length so ∙ length-then y in
+        let left = noted-less in
+        let noted : length new.touched.items ≡ length ts = ap length touched in
+        let o = h.kept.room in
+        let stand = o.to_stand in
+        let few = o.few in
+        let start = o.to_start in
+        let undo = h.undos in
+        let undo_wait = undo.to_wait in
+        let undo_count = undo.to_count in
+        let undo_list = undo.to_list in
+        let undo_name = undo.to_name in
+        let to_wait = f.to_wait in
+        let to_count = f.to_count in
+        let to_list = f.to_list in
+        let to_name = f.to_name in
+        let nodes = f.nodes in
+        let there_marked = h.marked.there in
+        let to_touch = h.marked.to_touch in
+        let marked : new.mark.jobs ≡ t.mark.jobs = ap (λ (m : Mark). m.jobs) mark in
+        let pending : pending_of new.starting new.room ≡ pending_of t.starting t.room = omega arith in
+        record {
+          kept = record {
             listed = rw (so, ns, np) in-place.listed;
-            indexed = rw so indexed;
-            room = subst (λ n. HasRoom n (vec_capacity new.jobs) new.room new.waiting new.tally new.starting) (sym (ap length so ∙ length-there y)) (room (omega arith));
-            named = rw so (record { are = p.names l r (as_ended x) refl refl refl names-taken; to_name = name });
-          }
+            indexed = rw so i;
+            room = record { to_stand = omega arith; few = omega arith; to_wait = omega arith; to_count = omega arith; to_start = omega arith };
+            named = rw so (record { are = back l r w (either (is_ended x.phase) (λ (j : Job). j.serial ≡ x.serial) refl refl) (either (is_ended x.phase) (λ (j : Job). j.job ≡ x.job) refl refl) (w-ends (is_ended x.phase) refl) names-then; to_name = omega arith });
+          };
+          undos = record { to_wait = omega arith; to_count = omega arith; to_list = omega arith; to_name = omega arith };
+          undoable = rw (mark, touched, ns, np, pending, f.clock) (before-undoable t h ts u popped all new.jobs.items jobs);
+          marked = record { there = omega arith; to_touch = omega arith };
+        }

@@ -77,15 +77,6 @@ module _ (m : Mark) (ts : List Touched) where
   pub marked-same : (js ks : List Job) → ks ≡ js → marked_by m ts ks ≡ marked_by m ts js
   marked-same js ks is = ap (λ (ls : List Job). marked_by m ts ls) is
 
--- how it stood undoes a change of what waits
-pub back-where : (change : Job → Job) (x : Job) (b : Bool) → standing_as (standing_of x) (change x) ≡ x → standing_as (standing_of x) (cond b (change x) x) ≡ x
-back-where change x true back = back
-back-where change x false back = refl
-
-pub serial-where : (change : Job → Job) (x : Job) (b : Bool) → (change x).serial ≡ x.serial → (cond b (change x) x).serial ≡ x.serial
-serial-where change x true same = same
-serial-where change x false same = refl
-
 -- what was not touched is what it was
 module _ (p : ℕ → Bool) where
   abbrev kept : Job → Bool

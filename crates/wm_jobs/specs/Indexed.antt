@@ -1,5 +1,5 @@
 -- What jobs are found and counted by.
-use Rattle.std.specs.Prelude.{◌≡◌, ℕ, ◌+◌, ◌≤◌, Bool, true, false, List, ◌∷◌, ◌++◌, length, filter_map, Option, Some, None, if◌then◌else◌}
+use Rattle.std.specs.Prelude.{◌≡◌, ℕ, ◌+◌, ◌≤◌, Bool, true, false, List, length, filter_map, Option, Some, None, if◌then◌else◌}
 use Rattle.wm_active.specs.declared.acting.Acting.{Acting}
 use Rattle.wm_base.specs.declared.job.How.{How}
 use Rattle.wm_law.specs.declared.job.Job.{Job}
@@ -7,11 +7,10 @@ use Rattle.wm_law.specs.declared.job.Phase.{Phase}
 use Rattle.wm_law.specs.declared.job.Phase.TheVariants.{Waiting, Starting, Handed, Running, Ended}
 use Rattle.wm_law.specs.declared.job.Wish.{Wish}
 use Rattle.wm_law.specs.Counts.{is_starting, is_active}
-use Rattle.wm_law.specs.Named.{is_ended}
 use Rattle.wm_law.specs.Wishes.{is_unhanded, wish_moment}
-use Rattle.wm_names.specs.Names.{Names, IsNames}
+use Rattle.wm_names.specs.Names.{Names}
 use Rattle.wm_ordered.specs.Ordered.{Pairs}
-use Rattle.wm_tally.specs.Tally.{Counts, AddsHow, TakesHow}
+use Rattle.wm_tally.specs.Tally.{Counts, AddsHow}
 use Rattle.wm_waiting.specs.Waiting as waiting
 
 -- a job that waits for a monitor, by its serial
@@ -50,23 +49,6 @@ nodes_of starting = length starting.items + starting.spare
 abbrev pub Starts : Bool → Counts → Counts → How → Type 0
 Starts true old new how = AddsHow old new how
 Starts false old new how = new ≡ old
-
--- where a job is active no more, the tally loses its how
-abbrev pub Ends : Bool → Counts → Counts → How → Type 0
-Ends true old new how = new ≡ old
-Ends false old new how = TakesHow old new how
-
--- where a job comes into a phase, the names of the jobs come to be those of the jobs with it in that phase
-abbrev pub NamesInPhase : Phase → Names → Names → Job → Type 0
-NamesInPhase phase old new job = (before behind : List Job) (after : Job) → after.serial ≡ job.serial → after.job ≡ job.job → after.phase ≡ phase → IsNames (before ++ job ∷ behind) old → IsNames (before ++ after ∷ behind) new
-
--- where a job has ended, the names come to be those of the jobs with it ended
-abbrev pub NamesEnded : Names → Names → Job → Type 0
-NamesEnded old new job = (before behind : List Job) (ended : Job) → ended.serial ≡ job.serial → ended.job ≡ job.job → is_ended ended.phase ≡ true → IsNames (before ++ job ∷ behind) old → IsNames (before ++ ended ∷ behind) new
-
--- where a job had ended, the names come to be those of the jobs with it as it is
-abbrev pub NamesAgain : Names → Names → Job → Type 0
-NamesAgain old new job = (before behind : List Job) (ended : Job) → ended.serial ≡ job.serial → ended.job ≡ job.job → is_ended ended.phase ≡ true → IsNames (before ++ ended ∷ behind) old → IsNames (before ++ job ∷ behind) new
 
 -- each has room for so many more that wait, for so many starts more, for so many more orders, or for so many more names
 pub record HasTaken (waits starts orders named : ℕ) (waiting : waiting.Waiting) (tally : Counts) (starting : Pairs ℕ (Unit {0})) (active : Pairs ℕ Acting) (names : Names) : Type 0 where

@@ -1,6 +1,6 @@
 pub mod Indexed
 pub mod Marked
-pub mod Renewed
+pub mod Standings
 pub mod Stored
 pub mod Table
 pub mod TableInside

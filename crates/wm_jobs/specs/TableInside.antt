@@ -4,7 +4,7 @@ use Rattle.std.specs.Ordering.{nat_cmp}
 use Rattle.wm_active.specs.declared.acting.Acting.{Acting}
 use Rattle.wm_desc.specs.Sorted.{IsSortedOnce}
 use Rattle.wm_law.specs.declared.job.Job.{Job}
-use Rattle.wm_law.specs.Counts.{is_waiting}
+use Rattle.wm_law.specs.Counts.{is_waiting, is_active}
 use Rattle.wm_names.specs.Names.{Names, IsNames}
 use Rattle.wm_ordered.specs.Ordered.{Pairs}
 use Rattle.wm_tally.specs.Tally.{Counts, IsTally}
@@ -12,7 +12,7 @@ use Rattle.wm_waiting.specs.Waiting.{Waiting, HavePlaces}
 use Rattle.wm_pick.specs.Parts.{waiters}
 use Rattle.wm_tally.specs.Tallied.{hows}
 use Rattle.wm_jobs.specs.Indexed.{orders, actives, nodes_of}
-use Rattle.wm_jobs.specs.Marked.{undone, marked_by}
+use Rattle.wm_jobs.specs.Marked.{restored, undone, marked_by}
 use Rattle.wm_jobs.specs.Table.{Table, serial_of, busy_in}
 use Rattle.wm_jobs.specs.declared.table.JobTable.TheInside.{Inside}
 use Rattle.wm_jobs.specs.declared.touched.Mark.{Mark}
@@ -73,10 +73,19 @@ pub record AreInPlace (next_serial next_place pending : ℕ) (jobs : List Job) :
   pub places : HavePlaces (waiters jobs)
   pub few : length (waiters jobs) + length (orders jobs) ≤ pending
 
+-- a change left its how to a job that was active and is
+abbrev pub KeepsHow : Touched → List Job → Type 0
+KeepsHow t jobs = All (λ j. j.serial ≡ t.serial → is_active j.phase ≡ true → is_active t.was.phase ≡ true → t.was.how ≡ j.how) jobs
+
+-- jobs stood so before a change was made, and are these after it
+pub record StoodBefore (next_serial next_place pending : ℕ) (t : Touched) (jobs : List Job) : Type 0 where
+  pub in_place : AreInPlace next_serial next_place pending (restored t jobs)
+  pub how : KeepsHow t jobs
+
 -- they stand so, and stood so before each thing that was done to them, the newest last
 abbrev pub StoodInPlace : ℕ → ℕ → ℕ → List Touched → List Job → Type 0
 StoodInPlace next_serial next_place pending [] jobs = AreInPlace next_serial next_place pending jobs
-StoodInPlace next_serial next_place pending (t ∷ ts) jobs = AreInPlace next_serial next_place pending (undone (t ∷ ts) jobs) × StoodInPlace next_serial next_place pending ts jobs
+StoodInPlace next_serial next_place pending (t ∷ ts) jobs = StoodBefore next_serial next_place pending t (undone ts jobs) × StoodInPlace next_serial next_place pending ts jobs
 
 -- the jobs of the mark stood in place ever since, at the mark with its numbers, and the clock hasn't gone back
 pub record IsUndoable (mark : Mark) (touched : List Touched) (jobs : List Job) (next_serial next_place pending now : ℕ) : Type 0 where

@@ -8,18 +8,20 @@
 //! A table also keeps what was done to its jobs since its mark: each call but `mark` leaves what it was then, `touched` tells
 //! which jobs may have changed and how they stood, and `take_back` makes of the table what it was, without memory.
 //! The definitions are in `specs/`: `Table` has what a contract sees, `Marked` what a table was at its mark, `Indexed` what
-//! jobs are found and counted by, `Renewed` what a change makes of those that wait, `Stored` what is asked of the jobs of a
-//! store, `TableInside` what lies in a table, with how its jobs stood since the mark.
+//! jobs are found and counted by, `Standings` how a job may come to stand and what becomes of these then, `Stored` what is
+//! asked of the jobs of a store, `TableInside` what lies in a table, with how its jobs stood since the mark.
+//! A job that is there changes by `restand` alone (`restanding`), and what it is found and counted by follows (`following`).
 #![tactic(auto)]
 
 mod acting;
 mod clearing;
 mod counts;
+mod following;
 mod marking;
 mod naming;
 mod phases;
 mod places;
-mod renewing;
+mod restanding;
 mod stored;
 mod table;
 mod touched;

@@ -1,10 +1,26 @@
 // What was changed since the mark.
 ghost use Rattle.std.specs.Prelude.{◌≡◌, ◌<◌, ◌∷◌, ◌++◌, [], length, vec_capacity};
-ghost use Rattle.wm_jobs.specs.Marked.{touched_of};
+ghost use Rattle.wm_jobs.specs.Marked.{standing_of, touched_of};
 
 use crate::JobTable;
 use crate::touched::{Mark, Standing, Touched};
 use wm_law::Job;
+
+/// How a job stands.
+pub(crate) fn standing_of(job: &Job) -> Standing
+    ensures { result ≡ standing_of job.now }
+{
+    Standing {
+        phase: job.phase,
+        how: job.how,
+        wish: job.wish,
+        held: job.held,
+        due: job.due,
+        jobq: job.jobq,
+        pty: job.pty,
+        place: job.place,
+    }
+}
 
 /// Notes how a job stands that is to be changed. It takes no memory.
 pub(crate) fn note(touched: &mut Vec<Touched>, job: &Job)

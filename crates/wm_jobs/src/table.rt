@@ -1,13 +1,9 @@
 // The job table.
 ghost use Rattle.std.specs.Prelude.{◌≤◌};
 
-use crate::counts::{
-    count_end, count_start, end_active, end_names, fewer, more, put_active, put_order, reserve_all,
-    take_serial,
-};
-use crate::marking::note;
+use crate::counts::{count_start, more, put_active, put_order, reserve_all};
 use crate::phases::{counts_as_busy, is_active, waiter_of};
-use crate::places::{launch_at, phase_at, place};
+use crate::places::place;
 use crate::touched::{Mark, Touched};
 use std::alloc::{AllocError, Global};
 use std::marker::Model;
@@ -298,22 +294,13 @@ impl JobTable {
         ensures ready { IsReady self.old → IsReady self.new }
         ensures marked { self.new.marked ≡ self.old.marked }
     {
-        let Ok(at) = place(&self.jobs, serial) else {
+        let Some(found) = self.found(serial) else {
             return;
         };
-        let job = &self.jobs[at];
-        let starts = is_active(&launched.phase);
-        let busy = counts_as_busy(starts, &job.kind);
-        self.waiting.remove(serial);
-        count_start(&mut self.tally, &launched.how, &launched.phase);
-        put_order(&mut self.starting, serial, &launched.phase);
-        end_names(&mut self.names, job, &launched.phase);
-        put_active(&mut self.active, serial, &launched.phase, &job.wish);
-        self.busy = more(self.busy, busy);
-        note(&mut self.touched, job);
-        launch_at(&mut self.jobs, at, serial, launched);
-        // `len` tells that places differ.
-        self.waiting.len();
+        let mut standing = found.was;
+        standing.phase = launched.phase;
+        standing.how = launched.how;
+        self.restand(serial, &found, &standing);
     }
 
     /// Puts the job of a serial, which is active, into a phase behind Starting. It takes no memory.
@@ -331,22 +318,12 @@ impl JobTable {
         ensures ready { IsReady self.old → IsReady self.new }
         ensures marked { self.new.marked ≡ self.old.marked }
     {
-        let Ok(at) = place(&self.jobs, serial) else {
+        let Some(found) = self.found(serial) else {
             return;
         };
-        let job = &self.jobs[at];
-        let ends = !is_active(&phase);
-        let busy = counts_as_busy(ends, &job.kind);
-        take_serial(&mut self.starting, serial);
-        count_end(&mut self.tally, &job.how, &phase);
-        end_names(&mut self.names, job, &phase);
-        end_active(&mut self.active, serial, &phase, &job.wish);
-        self.busy = fewer(self.busy, busy);
-        note(&mut self.touched, job);
-        self.changes -= 1;
-        phase_at(&mut self.jobs, at, serial, phase);
-        // `len` tells that places differ.
-        self.waiting.len();
+        let mut standing = found.was;
+        standing.phase = phase;
+        self.restand(serial, &found, &standing);
     }
 
     /// Time goes on to a moment: the jobs that wait up to then are due.

@@ -22,6 +22,13 @@ pub struct Touched {
     pub was: Standing,
 }
 
+/// Where a job stands in the list, and how.
+#[derive(Clone, Copy)]
+pub(crate) struct Found {
+    pub(crate) at: usize,
+    pub(crate) was: Standing,
+}
+
 /// What a table was at its mark, beside what was touched since: how many jobs it had, its clock, and the serial and the place
 /// that the next job had.
 #[derive(Clone, Copy)]

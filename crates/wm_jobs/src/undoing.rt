@@ -1,8 +1,14 @@
-// What was done since the mark is taken back.
+// What was done since the mark is taken back. The jobs that came since leave, the last first; then each note is undone, the
+// newest first, in the list and in what jobs are found and counted by. Each finds the room that it left or that was set
+// aside.
 use crate::JobTable;
-use crate::counts::{fewer, forget, more, put_active, put_in, take_out};
-use crate::phases::{counts_as_busy, is_active};
+use crate::counts::forget;
+use crate::following::{follow, recount, rejoin};
+use crate::marking::standing_of;
+use crate::phases::is_ended;
 use crate::places::{place, stand_at};
+use wm_base::EndCause;
+use wm_law::Phase;
 
 impl JobTable {
     ghost use Rattle.std.specs.Prelude.{◌≡◌, ◌+◌, ◌<◌, ◌≤◌, [], length};
@@ -60,17 +66,18 @@ impl JobTable {
         let Some(job) = self.jobs.pop() else {
             unreachable!()
         };
-        let active = is_active(&job.phase);
-        let busy = counts_as_busy(active, &job.kind);
-        take_out(
+        let mut ended = standing_of(&job);
+        ended.phase = Phase::Ended(EndCause::Restarted);
+        self.busy = recount(self.busy, &job, &ended);
+        follow(
             &mut self.waiting,
             &mut self.tally,
             &mut self.starting,
+            &mut self.active,
             &mut self.names,
             &job,
+            &ended,
         );
-        self.active.remove(job.serial);
-        self.busy = fewer(self.busy, busy);
         forget(&mut self.names, job);
     }
 
@@ -91,30 +98,19 @@ impl JobTable {
             return;
         };
         let job = &self.jobs[at];
-        let was_active = is_active(&job.phase);
-        let was_busy = counts_as_busy(was_active, &job.kind);
-        take_out(
+        let had_ended = is_ended(&job.phase);
+        self.busy = recount(self.busy, job, &touched.was);
+        follow(
             &mut self.waiting,
             &mut self.tally,
             &mut self.starting,
+            &mut self.active,
             &mut self.names,
             job,
+            &touched.was,
         );
-        self.active.remove(touched.serial);
-        self.busy = fewer(self.busy, was_busy);
         stand_at(&mut self.jobs, at, touched.serial, &touched.was);
-        let job = &self.jobs[at];
-        let active = is_active(&job.phase);
-        let busy = counts_as_busy(active, &job.kind);
-        put_in(
-            &mut self.waiting,
-            &mut self.tally,
-            &mut self.starting,
-            &mut self.names,
-            job,
-        );
-        put_active(&mut self.active, touched.serial, &job.phase, &job.wish);
-        self.busy = more(self.busy, busy);
+        rejoin(&mut self.names, had_ended, &self.jobs[at]);
         self.undos -= 1;
     }
 }

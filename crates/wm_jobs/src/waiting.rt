@@ -1,9 +1,5 @@
 // What is done to a job that waits.
 use crate::JobTable;
-use crate::marking::note;
-use crate::phases::is_waiting;
-use crate::places::{due_at, hold_at, move_at, phase_at, place};
-use crate::renewing::renew;
 use wm_base::{EndCause, Moment, Serial};
 use wm_law::{Chgjob, Phase};
 
@@ -28,16 +24,12 @@ impl JobTable {
         ensures ready { IsReady self.old → IsReady self.new }
         ensures marked { self.new.marked ≡ self.old.marked }
     {
-        // `len` tells that places differ.
-        self.waiting.len();
-        let Ok(at) = place(&self.jobs, serial) else {
+        let Some(found) = self.found_waiting(serial) else {
             return;
         };
-        note(&mut self.touched, &self.jobs[at]);
-        self.changes -= 1;
-        hold_at(&mut self.jobs, at, serial, held);
-        renew(&mut self.waiting, &self.jobs[at]);
-        self.waiting.len();
+        let mut standing = found.was;
+        standing.held = held;
+        self.restand(serial, &found, &standing);
     }
 
     /// Gives the job of a serial, where it waits, another due moment. It takes no memory.
@@ -52,16 +44,12 @@ impl JobTable {
         ensures ready { IsReady self.old → IsReady self.new }
         ensures marked { self.new.marked ≡ self.old.marked }
     {
-        // `len` tells that places differ.
-        self.waiting.len();
-        let Ok(at) = place(&self.jobs, serial) else {
+        let Some(found) = self.found_waiting(serial) else {
             return;
         };
-        note(&mut self.touched, &self.jobs[at]);
-        self.changes -= 1;
-        due_at(&mut self.jobs, at, serial, due);
-        renew(&mut self.waiting, &self.jobs[at]);
-        self.waiting.len();
+        let mut standing = found.was;
+        standing.due = due;
+        self.restand(serial, &found, &standing);
     }
 
     /// Gives the job of a serial, where it waits, the queue and the priority of a command, the next place, and a due moment.
@@ -78,16 +66,17 @@ impl JobTable {
         ensures ready { IsReady self.old → IsReady self.new }
         ensures marked { self.new.marked ≡ self.old.marked }
     {
-        let next = self.next_place;
+        let place = self.next_place;
         self.next_place += 1;
-        let Ok(at) = place(&self.jobs, serial) else {
+        let Some(found) = self.found_waiting(serial) else {
             return;
         };
-        note(&mut self.touched, &self.jobs[at]);
-        self.changes -= 1;
-        move_at(&mut self.jobs, at, serial, command, next, due);
-        renew(&mut self.waiting, &self.jobs[at]);
-        self.waiting.len();
+        let mut standing = found.was;
+        standing.jobq = command.jobq.or(standing.jobq);
+        standing.pty = command.jobpty.unwrap_or(standing.pty);
+        standing.place = place;
+        standing.due = due;
+        self.restand(serial, &found, &standing);
     }
 
     /// Ends the job of a serial, where it waits. It takes no memory.
@@ -101,18 +90,11 @@ impl JobTable {
         ensures ready { IsReady self.old → IsReady self.new }
         ensures marked { self.new.marked ≡ self.old.marked }
     {
-        let Ok(at) = place(&self.jobs, serial) else {
+        let Some(found) = self.found_waiting(serial) else {
             return;
         };
-        let job = &self.jobs[at];
-        if !is_waiting(&job.phase) {
-            return;
-        }
-        self.waiting.remove(serial);
-        self.names.end(job);
-        note(&mut self.touched, job);
-        phase_at(&mut self.jobs, at, serial, Phase::Ended(cause));
-        // `len` tells that places differ.
-        self.waiting.len();
+        let mut standing = found.was;
+        standing.phase = Phase::Ended(cause);
+        self.restand(serial, &found, &standing);
     }
 }

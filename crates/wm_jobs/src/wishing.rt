@@ -1,8 +1,5 @@
 // What is done to a job that is active.
 use crate::JobTable;
-use crate::acting::acting_of;
-use crate::marking::note;
-use crate::places::{place, wish_at};
 use wm_base::Serial;
 use wm_law::Wish;
 
@@ -24,15 +21,11 @@ impl JobTable {
         ensures ready { IsReady self.old → IsReady self.new }
         ensures marked { self.new.marked ≡ self.old.marked }
     {
-        let Ok(at) = place(&self.jobs, serial) else {
+        let Some(found) = self.found_active(serial) else {
             return;
         };
-        let job = &self.jobs[at];
-        self.active.set(serial, acting_of(&job.phase, &wish));
-        note(&mut self.touched, job);
-        self.changes -= 1;
-        wish_at(&mut self.jobs, at, serial, wish);
-        // `len` tells that places differ.
-        self.waiting.len();
+        let mut standing = found.was;
+        standing.wish = wish;
+        self.restand(serial, &found, &standing);
     }
 }

@@ -1,61 +1,16 @@
-use Rattle.std.proofs.lemmas.List.{length-append}
-use Rattle.std.proofs.Common.{◌≡◌, ◌+◌, ◌-◌, length, vec_capacity, refl, ap, ◌∙◌, arith, ◌∷◌, []}
+use Rattle.std.proofs.Common.{◌≡◌, ◌+◌, true, Option, Some, None, is_some, ap, sym, ◌∙◌, refl, subst, arith}
+use Rattle.std.specs.Option.{option_or, unwrap_or}
+use Rattle.wm_base.specs.declared.qname.QName.{QName}
 use Rattle.wm_law.specs.Changing.{moved_to}
-use Rattle.wm_law.specs.Jobs.{waiting_at}
-use Rattle.wm_pick.specs.Parts.{waiter_of}
-use Rattle.wm_jobs.specs.Marked.{touched_of}
+use Rattle.wm_jobs.specs.Marked.{standing_as}
 use Rattle.wm_jobs.specs.Table.{Table}
-use Rattle.wm_jobs.specs.TableInside.{pending_of}
-use Rattle.wm_jobs.proofs.AtPlace.{takes-next, changed-inside, waiting-first}
-use Rattle.wm_jobs.proofs.Undone.{noted, marked-noted}
-use Rattle.wm_jobs.proofs.Waits.{Keeps, keeps-moved, length-renewed, waiting-gap}
-use Rattle.wm_jobs.proofs.Stood.{agrees, undoable-noted, undoable-same, listed-later, ready-goes}
+use Rattle.wm_jobs.specs.TableInside.{table_of, pending_of}
+use Rattle.wm_jobs.specs.declared.touched.Standing.{Standing}
+use Rattle.wm_jobs.proofs.Restood.{spent-one, waiting-alike, places-below}
+use Rattle.wm_jobs.proofs.Stood.{undoable-same, listed-later}
 use Rattle.wm_jobs.proofs.table.JobTable.move_to.Goals as goal
 
--- where no job has the serial, none is changed
-pub returns-in_default-clause-jobs : goal.returns-in_default-clause-jobs
-returns-in_default-clause-jobs c =
-    let t = c.self.inside in
-    rw (← c.self.view_is) (waiting-gap c.args.serial (moved_to c.args.command.now t.next_place c.args.due) t.jobs.items c.deref.result.now c.in_default.field-0 c.deref.ensures.value c.in_default.ensures)
-
-pub renew-requires : goal.renew-requires
-renew-requires c =
-    let t = c.self.inside in
-    let keeps : Keeps (t.next_place + 1) (moved_to c.args.command.now t.next_place c.args.due) = keeps-moved c.args.command.now t.next_place c.args.due in
-    takes-next t c.self.invariant.kept c.args.serial c.in-Ok.at c.deref.result.now c.deref.ensures.value c.in-Ok.ensures (moved_to c.args.command.now t.next_place c.args.due) (t.next_place + 1) (omega arith) keeps c.move_at.new.jobs.items c.move_at.ensures.jobs c.index-2.result.now c.index-2.ensures (λ _. refl)
-
-pub invariant_of-self-2 : goal.invariant_of-self-2
-invariant_of-self-2 c =
-    let t = c.self.inside in
-    let keeps : Keeps (t.next_place + 1) (moved_to c.args.command.now t.next_place c.args.due) = keeps-moved c.args.command.now t.next_place c.args.due in
-    let some : t.changes ≡ c.args.self.now.changes = ap (λ (v : Table). v.changes) c.self.view_is in
-    let same : length c.renew.new.waiting.items ≡ length t.waiting.items = ap length c.renew.ensures.items ∙ length-renewed (waiter_of c.index-2.result.now) t.waiting.items in
-    let noted-more : length c.note.new.touched.items ≡ length t.touched.items + 1 = ap length c.note.ensures.items ∙ length-append t.touched.items (touched_of c.index.result.now ∷ []) in
-    agrees _
-    (changed-inside t c.self.invariant.kept c.args.serial c.in-Ok.at c.deref.result.now c.deref.ensures.value c.in-Ok.ensures (moved_to c.args.command.now t.next_place c.args.due) (t.next_place + 1) (omega arith) keeps c.move_at.new.jobs.items c.move_at.ensures.jobs c.index-2.result.now c.index-2.ensures _ c.move_at.ensures.jobs refl refl refl c.move_at.ensures.capacity c.renew.ensures.items c.renew.ensures.spare refl refl refl refl refl)
-    (let had = c.self.invariant.undos in let wait = had.to_wait in let count = had.to_count in let list = had.to_list in let name = had.to_name in record { to_wait = omega (arith, noted-more, some, c.requires.changes, c.renew.ensures.spare); to_count = omega (arith, same); to_list = omega (arith, same); to_name = omega (arith) })
-    (λ kept. undoable-noted t.mark t.touched.items t.jobs.items t.next_serial t.next_place (pending_of t.starting t.room) t.waiting.clock c.self.invariant.undoable _ kept c.len.ensures.places refl (omega arith) (omega arith) (omega arith) (omega (arith, c.renew.ensures.clock)) (touched_of c.index.result.now) c.note.ensures.items (waiting-first t c.self.invariant.kept c.args.serial c.in-Ok.at c.index.result.now c.deref.result.now c.deref.ensures.value c.in-Ok.ensures c.index.ensures t.mark.jobs c.move_at.new.jobs.items (moved_to c.args.command.now t.next_place c.args.due) refl refl c.move_at.ensures.jobs))
-    (noted t.jobs.items c.move_at.new.jobs.items t.touched.items c.note.new.touched.items (touched_of c.index.result.now) (waiting_at c.args.serial (moved_to c.args.command.now t.next_place c.args.due)) t.mark.jobs (vec_capacity t.touched) (vec_capacity c.note.new.touched) (length t.waiting.items) (length c.renew.new.waiting.items) t.room t.room t.changes (t.changes - 1) c.self.invariant.marked c.move_at.ensures.jobs c.note.ensures.items c.note.ensures.capacity (omega (arith, some, same, c.requires.changes)))
-
-pub note-requires : goal.note-requires
-note-requires c =
-    let some : c.self.inside.changes ≡ c.args.self.now.changes = ap (λ (v : Table). v.changes) c.self.view_is in
-    omega (arith, some, c.requires.changes, c.self.invariant.marked.to_touch)
-
-pub returns-clause-marked : goal.returns-clause-marked
-returns-clause-marked c =
-    let t = c.self.inside in
-    marked-noted t.mark t.touched.items c.note.new.touched.items (touched_of c.index.result.now) t.jobs.items c.move_at.new.jobs.items c.note.ensures.items (waiting-first t c.self.invariant.kept c.args.serial c.in-Ok.at c.index.result.now c.deref.result.now c.deref.ensures.value c.in-Ok.ensures c.index.ensures t.mark.jobs c.move_at.new.jobs.items (moved_to c.args.command.now t.next_place c.args.due) refl refl c.move_at.ensures.jobs) ∙ ap (λ (v : Table). v.marked) c.self.view_is
-
-pub returns-clause-ready : goal.returns-clause-ready
-returns-clause-ready c ready =
-    let t = c.self.inside in
-    let some : t.changes ≡ c.args.self.now.changes = ap (λ (v : Table). v.changes) c.self.view_is in
-    let same : length c.renew.new.waiting.items ≡ length t.waiting.items = ap length c.renew.ensures.items ∙ length-renewed (waiter_of c.index-2.result.now) t.waiting.items in
-    let noted : length c.note.new.touched.items ≡ length t.touched.items + 1 = ap length c.note.ensures.items ∙ length-append t.touched.items (touched_of c.index.result.now ∷ []) in
-    ready-goes t c.args.self.now c.self.view_is _ _ _ _ _ (omega (arith, some, same, c.requires.changes, noted)) refl ready
-
--- where no job has the serial, the next place alone is another
+-- the next place alone is another
 pub invariant_of-self : goal.invariant_of-self
 invariant_of-self c =
     let t = c.self.inside in
@@ -67,3 +22,33 @@ invariant_of-self c =
       undoable = undoable-same t.mark t.touched.items t.touched.items t.jobs.items t.jobs.items t.next_serial t.next_place (pending_of t.starting t.room) t.waiting.clock t.next_serial (t.next_place + 1) (pending_of t.starting t.room) t.waiting.clock c.self.invariant.undoable refl refl (omega arith) (omega arith) (omega arith) (omega arith);
       marked = c.self.invariant.marked;
     }
+
+or-some : (a b : Option QName) → is_some b ≡ true → is_some (option_or a b) ≡ true
+or-some None b has = has
+or-some (Some q) b has = refl
+
+-- no job has the place yet
+pub restand-requires-clause-may : goal.restand-requires-clause-may
+restand-requires-clause-may c =
+    let t = c.self.inside in
+    let was = c.in-Some.found.was in
+    let one = spent-one was.phase was.phase in
+    let some : t.changes ≡ c.args.self.now.changes = ap (λ (v : Table). v.changes) c.self.view_is in
+    record {
+      forward = omega arith;
+      how = λ _ _. refl;
+      queue = λ has. subst (λ (q : Option QName). is_some q ≡ true) (sym c.or-standing.ensures) (or-some c.args.command.now.jobq was.jobq has);
+      place = omega arith;
+      own = λ _ w there same. absurd (let below = places-below t c.self.invariant.kept w there in omega (arith, below, same));
+      changes = omega (arith, one, some, c.requires.changes);
+    }
+
+pub returns-clause-jobs : goal.returns-clause-jobs
+returns-clause-jobs c =
+    let t = c.self.inside in
+    let was = c.in-Some.found.was in
+    let found = c.in-Some.ensures.0 in
+    let command = c.args.command.now in
+    let same : standing_as (record was { jobq = c.or-standing.result; pty = c.unwrap_or-standing.result; place = t.next_place; due = c.args.due }) found.job ≡ moved_to command t.next_place c.args.due found.job =
+    rw (c.or-standing.ensures, c.unwrap_or-standing.ensures) (ap (λ (s : Standing). standing_as (record s { jobq = option_or command.jobq s.jobq; pty = unwrap_or command.jobpty s.pty; place = t.next_place; due = c.args.due }) found.job) found.was) in
+    rw (← c.self.view_is) (c.restand.ensures.jobs ∙ waiting-alike (table_of (record t { next_place = t.next_place + 1 })) c.args.serial c.in-Some.found found (standing_as (record was { jobq = c.or-standing.result; pty = c.unwrap_or-standing.result; place = t.next_place; due = c.args.due })) (moved_to command t.next_place c.args.due) c.in-Some.ensures.1 same)
