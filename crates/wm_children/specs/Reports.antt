@@ -1,7 +1,8 @@
 -- What a report says.
-use Rattle.std.specs.Prelude.{◌≡◌, ℕ, List, remove, slice_get, Option, Some, None, Result, Ok, Err}
+use Rattle.std.specs.Prelude.{◌≡◌, ℕ, List, remove, slice_get, Option, Some, None, Result, Ok, Err, ⊤}
 use Rattle.wm_base.specs.declared.job.Event.{Event}
 use Rattle.wm_base.specs.declared.job.Event.TheVariants.{Ended, Used}
+use Rattle.wm_traits.specs.Cause.{raised}
 use Rattle.wm_traits.specs.declared.fault.Failed.{Failed}
 use Rattle.wm_children.specs.declared.finished.Finished.{Finished}
 use Rattle.wm_children.specs.Programs.{HasEnded}
@@ -10,6 +11,19 @@ use Rattle.wm_children.specs.Programs.{HasEnded}
 abbrev pub IsEndOf : Finished → Event → Type 0
 IsEndOf finished (Ended serial exit) = (serial ≡ finished.running.serial) × HasEnded finished.running exit
 IsEndOf finished (Used serial) = ⊥
+
+-- what is reported is the end of this child
+abbrev pub TellsEndOf : Option Finished → Result (Option Event) Failed → Type 0
+TellsEndOf (Some finished) (Ok (Some event)) = IsEndOf finished event
+TellsEndOf None (Ok (Some event)) = ⊥
+TellsEndOf last (Ok None) = ⊤
+TellsEndOf last (Err failed) = ⊤
+
+-- each end that came is reported: one came where one is reported, and none where nothing is
+abbrev pub ReportsEach : Result (Option Event) Failed → ℕ → ℕ → Type 0
+ReportsEach (Ok (Some event)) old new = new ≡ raised old
+ReportsEach (Ok None) old new = new ≡ old
+ReportsEach (Err failed) old new = ⊤
 
 -- after a look one who was out isn't any more, where its end was reported; else nobody left
 abbrev pub GivesUp : Result (Option Event) Failed → List ℕ → List ℕ → Type 0

@@ -6,7 +6,7 @@ ghost use Rattle.wm_children.specs.Programs.{HasEnded, IsExit};
 
 use crate::running::Running;
 use std::process::ExitStatus;
-use wm_base::Exit;
+use wm_base::{Exit, Serial};
 
 /// A child that was waited for, and how it ended, or nothing where the system couldn't tell. It is what a waiter sends.
 #[derive(Drop)]
@@ -14,6 +14,22 @@ pub struct Finished {
     pub running: Running,
     pub exit: Option<Exit>,
     ghost told: { ForSome exit (λ exit. HasEnded running exit) },
+}
+
+impl Finished {
+    /// The job that the child was started for.
+    pub fn serial(&self) -> Serial
+        ensures { result ≡ self.now.running.serial }
+    {
+        self.running.serial
+    }
+
+    /// How it ended.
+    pub fn exit(&self) -> Option<Exit>
+        ensures { result ≡ self.now.exit }
+    {
+        self.exit
+    }
 }
 
 // An exit code, or else a signal ended it.

@@ -5,14 +5,31 @@
 //! Neither asks the system about each child.
 //!
 //! In the order of reading: a child with the job that it was started for (`running`), how it ended (`finished`), what
-//! starts it (`command`), the channel of the ends (`ends`), the threads (`waiters`), who is out (`started`) and the
-//! spawner (`spawner`). What crosses the channel says in its type that its exit is what std told of that child; no clause
-//! says that a thread runs or that a message comes, so that ends are seen is tested (`wm_test_outside`).
+//! starts it (`command`, `launch`), what a clock told (`reading`), the channel of the ends (`ends`), the threads
+//! (`waiters`), who is out (`started`) and the spawner (`spawner`). What crosses the channel says in its type that its exit
+//! is what std told of that child; no clause says that a thread runs or that a message comes, so that ends are seen is
+//! tested (`wm_test_outside`).
+//!
+//! What the promises rest on, each a call that no clause describes in full:
+//!
+//! - `Command::spawn`: the program runs as the command says, once; an `Err` has started nothing.
+//! - `Stdio::null`: the child has no input, and what it writes is dropped.
+//! - `Child::id`, `os::kill_child`: SIGKILL goes to the child with that number, and to no other process; 0 says that it was
+//!   sent, and `os::errno` else why not.
+//! - `Child::wait`: it blocks until this child has ended, and its Ok is how; an `Err` says that the system can't tell.
+//! - `ExitStatus::code`: its bits are the system's.
+//! - `thread::spawn`: the thread runs; an `Err` says that none could be made.
+//! - `Sender::send`, `Receiver::recv`, `iter`, `try_recv`, `recv_timeout`: what is sent is received once, by one thread, and a
+//!   send into a channel with room doesn't wait.
+//! - `recv_timeout`: it comes back when its time is over.
+//! - `Clock::since_1970`: it is the time.
 #![tactic(auto)]
 
 mod command;
 mod ends;
 mod finished;
+mod launch;
+mod reading;
 mod running;
 mod spawner;
 mod started;

@@ -1,6 +1,7 @@
 // The children that are out, as the spawner knows them.
 ghost use Rattle.std.specs.Prelude.{◌≡◌, ◌↔◌, ◌==◌, ◌<◌, Some, IsTrue, Contains, IfOk, IfSome, length, slice_get};
 ghost use Rattle.std.specs.List.{list_any};
+ghost use Rattle.wm_children.specs.Kills.{LeavesNothing};
 ghost use Rattle.wm_children.specs.Programs.{serials_of};
 
 use wm_base::Serial;
@@ -13,10 +14,18 @@ pub struct Started {
     pub number: u32,
 }
 
+// Whether a kill that answered so leaves nothing to kill. There is no such child any more where a thread has waited for it:
+// before the call, ECHILD, or within it, ESRCH.
+fn leaves_nothing(code: i32, errno: i32) -> bool
+    ensures { IsTrue result ↔ LeavesNothing code errno }
+{
+    code == 0 || errno == libc::ECHILD || errno == libc::ESRCH
+}
+
 // Kills a child by its number. Where it has ended there is nothing to kill.
 fn kill_number(number: u32) -> Result<(), Failed> {
-    let killed = os::kill_child(number.cast_signed()) == 0;
-    if killed || os::errno() == libc::ECHILD {
+    let code = os::kill_child(number.cast_signed());
+    if leaves_nothing(code, os::errno()) {
         Ok(())
     } else {
         Err(Failed)

@@ -1,5 +1,7 @@
 // The threads that wait for children, each for one at a time.
-ghost use Rattle.std.specs.Prelude.{◌≡◌};
+ghost use Rattle.std.specs.Prelude.{◌≡◌, ◌≤◌, IsTrue, if◌then◌else◌};
+ghost use Rattle.wm_traits.specs.Cause.{raised};
+ghost use Rattle.wm_children.specs.Threads.{threads_after};
 
 use crate::ends::Ends;
 use crate::finished::{Finished, finish};
@@ -11,15 +13,19 @@ use std::thread;
 use std::thread::Threads;
 use wm_base::NoMemory;
 
-/// The most children that are out at once. It is the room of each channel, so that no send waits.
+/// The most children that are out at once. It is the room of the channels, so that no send waits.
 pub const MOST_CHILDREN: usize = 16_384;
 
-/// The way to the waiters. One thread hires the others, a waiter more where more children are out than ever before.
+/// The way to the waiters. One thread hires the others, each when it is asked to, and answers whether a thread could be
+/// made. It counts the threads that were hired, how often none could be made, and the children that were handed over.
 #[derive(Drop)]
 pub struct Waiters {
     children: Sender<Running>,
     wanted: Sender<()>,
+    made: Receiver<bool>,
     hired: usize,
+    refused: u64,
+    handed: u64,
 }
 
 // Waits for one child after another.
@@ -31,15 +37,8 @@ fn wait_for_each<R: Wait>(rt: &R, children: &Receiver<Running>, ends: &Sender<Fi
     }
 }
 
-// Waits for one child.
-fn wait_for_one<R: Wait>(rt: &R, children: &Receiver<Running>, ends: &Sender<Finished>) {
-    if let Ok(running) = children.recv(rt) {
-        let _ = ends.send(rt, finish(running));
-    }
-}
-
 // Starts a waiter.
-fn hire<R: Threads + Wait + Copy + Send + 'static>(
+fn start_waiter<R: Threads + Wait + Copy + Send + 'static>(
     rt: R,
     children: &Receiver<Running>,
     ends: &Sender<Finished>,
@@ -50,17 +49,18 @@ fn hire<R: Threads + Wait + Copy + Send + 'static>(
     Ok(())
 }
 
-// Hires a waiter for each that is wanted. Where no thread can be made it waits for a child itself: ends come late then,
-// but they come.
+// Starts a waiter for each that is wanted, and answers whether a thread could be made.
 fn hire_each<R: Threads + Wait + Copy + Send + 'static>(
     rt: R,
     wanted: &Receiver<()>,
+    made: &Sender<bool>,
     children: &Receiver<Running>,
     ends: &Sender<Finished>,
 ) {
     for () in wanted.iter(&rt) {
-        if hire(rt, children, ends).is_err() {
-            wait_for_one(&rt, children, ends);
+        let is_made = start_waiter(rt, children, ends).is_ok();
+        if made.send(&rt, is_made).is_err() {
+            return;
         }
     }
 }
@@ -71,25 +71,55 @@ pub fn pool<R: Threads + Wait + Copy + Send + 'static>(
     rt: R,
 ) -> Result<(Waiters, Ends), NoMemory> {
     let (children, to_wait_for) = bounded::<Running, Global>(alloc, MOST_CHILDREN)?;
-    let (wanted, to_hire) = bounded::<(), Global>(alloc, MOST_CHILDREN)?;
+    let (wanted, to_hire) = bounded::<(), Global>(alloc, 1)?;
+    let (answer, made) = bounded::<bool, Global>(alloc, 1)?;
     let (ends, from) = bounded::<Finished, Global>(alloc, MOST_CHILDREN)?;
     thread::spawn(&rt, move || {
-        hire_each(rt, &to_hire, &to_wait_for, &ends);
+        hire_each(rt, &to_hire, &answer, &to_wait_for, &ends);
     })?;
     let waiters = Waiters {
         children,
         wanted,
+        made,
         hired: 0,
+        refused: 0,
+        handed: 0,
     };
     Ok((waiters, Ends::new(from)))
 }
 
 impl Waiters {
-    /// Hands a child over, where so many are out with it, and answers whether somebody is there to take it.
-    pub fn hand<R: Wait>(&mut self, rt: &R, running: Running, out: usize) -> bool {
-        if self.hired < out && self.wanted.send(rt, ()).is_ok() {
-            self.hired = self.hired.saturating_add(1);
+    // Has the hiring thread start a waiter, and answers whether it could.
+    fn hire_one<R: Wait>(&self, rt: &R) -> bool {
+        self.wanted.send(rt, ()).is_ok() && self.made.recv(rt).unwrap_or(false)
+    }
+
+    /// Hires a waiter where no waiter is idle once so many children are out, and answers whether one is there for each.
+    /// It is false only where no thread could be made.
+    pub fn hire<R: Wait>(&mut self, rt: &R, out: usize) -> bool
+        ensures idle { out ≤ self.old.hired → IsTrue result }
+        ensures hired { self.new.hired ≡ (if result then threads_after out self.old.hired else self.old.hired) }
+        ensures refused { self.new.refused ≡ (if result then self.old.refused else raised self.old.refused) }
+        ensures handed { self.new.handed ≡ self.old.handed }
+    {
+        if out <= self.hired {
+            return true;
         }
+        if self.hire_one(rt) {
+            self.hired += 1;
+            return true;
+        }
+        self.refused = self.refused.saturating_add(1);
+        false
+    }
+
+    /// Hands a child over, and answers whether somebody is there to take it.
+    pub fn hand<R: Wait>(&mut self, rt: &R, running: Running) -> bool
+        ensures handed { self.new.handed ≡ raised self.old.handed }
+        ensures hired { self.new.hired ≡ self.old.hired }
+        ensures refused { self.new.refused ≡ self.old.refused }
+    {
+        self.handed = self.handed.saturating_add(1);
         self.children.send(rt, running).is_ok()
     }
 }
