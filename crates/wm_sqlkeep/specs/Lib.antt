@@ -1,2 +1,5 @@
+pub mod Causes
 pub mod Changes
+pub mod Errors
 pub mod Faults
+pub mod Kept

@@ -1,7 +1,7 @@
 // What SQLite's errors are for a keeper, and how they are counted.
 ghost use Rattle.std.specs.Prelude.{◌≡◌, false, IsTrue};
 ghost use Rattle.wm_traits.specs.Cause.{HasKeepCause, keep_missed, raised};
-ghost use Rattle.wm_sqlkeep.specs.Faults.{keep_fault};
+ghost use Rattle.wm_sqlkeep.specs.Errors.{keep_fault};
 
 use sqlite::{Error, ErrorCode};
 use wm_traits::KeepFault;

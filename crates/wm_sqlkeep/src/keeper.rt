@@ -1,6 +1,9 @@
 // A keeper over a database.
-ghost use Rattle.std.specs.Prelude.{◌≡◌, None, refl, IfOk};
+ghost use Rattle.std.specs.Prelude.{◌≡◌, None, refl, IfOk, IsErrOf};
+ghost use Rattle.wm_traits.specs.Cause.{HasKeepCause};
+ghost use Rattle.wm_traits.specs.declared.fault.KeepFault.TheVariants.{Failed};
 ghost use Rattle.wm_sqlkeep.specs.Faults.{keeper_faults};
+ghost use Rattle.wm_sqlkeep.specs.Kept.{LoadFails, ApplyFails};
 
 use crate::database::{self, Database};
 use crate::faults::counted;
@@ -76,12 +79,18 @@ impl Keeper for SqlKeeper {
 
     ghost trail = { λ _. None };
 
-    fn load(&mut self) -> Result<Vec<Row>, KeepFault> {
+    fn load(&mut self) -> Result<Vec<Row>, KeepFault>
+        ensures cause { HasKeepCause (keeper_faults self.old) (keeper_faults self.new) result }
+        ensures failed { IsErrOf result Failed → LoadFails self.old.database self.new.database }
+    {
         let loaded = self.database.load(self.alloc);
         counted(&mut self.faults, loaded)
     }
 
-    fn apply(&mut self, changes: &[RowChange]) -> Result<(), KeepFault> {
+    fn apply(&mut self, changes: &[RowChange]) -> Result<(), KeepFault>
+        ensures cause { HasKeepCause (keeper_faults self.old) (keeper_faults self.new) result }
+        ensures failed { IsErrOf result Failed → ApplyFails self.old.writes changes.now self.old.database self.new.database }
+    {
         let applied = self.database.apply(&self.writes, changes);
         counted(&mut self.faults, applied)
     }

@@ -1,14 +1,16 @@
 // The SQL: how the table of all rows is made, read and written.
-ghost use Rattle.std.specs.Prelude.{◌≡◌, pos, IsTrue, IfOk, IfSome, OnOk, OnErr};
+ghost use Rattle.std.specs.Prelude.{◌≡◌, pos, None, IsTrue, IfOk, IfSome, IsErrOf, OnOk, OnErr};
 ghost use Rattle.sqlite.specs.Order.{column};
 ghost use Rattle.sqlite.specs.declared.types.Value.TheVariants.{Int, Text as Words};
 ghost use Rattle.sqlite.specs.State.{HasCleanDisk, KeepsCommit, Survives};
 ghost use Rattle.sqlite.specs.Held.{state};
+ghost use Rattle.wm_traits.specs.declared.fault.KeepFault.TheVariants.{Failed};
 ghost use Rattle.wm_sqlkeep.specs.Changes.{IsAsItWas};
+ghost use Rattle.wm_sqlkeep.specs.Causes.{IsTab, IsWords, MakesRow, Gives, FailsToGive, FailsToLoad, Runs, Makes, FailsToMake, FailsToApply};
 
 use crate::faults::keep_fault;
 use sqlite::types::ValueRef;
-use sqlite::{Alter, Connection, Rows, Statement, Transaction, params};
+use sqlite::{Alter, Connection, Error, Rows, Statement, Transaction, params};
 use std::alloc::Global;
 use wm_base::{Text, is_text};
 use wm_traits::{KeepFault, Row, RowChange};
@@ -78,7 +80,8 @@ pub(crate) fn begin<S: Alter>(conn: &mut Connection<S>) -> Result<Writes, KeepFa
 }
 
 fn tab_of(row: &sqlite::Row) -> Option<u8>
-    ensures { IfSome result (λ tab. column row.now 0 ≡ Int (pos tab)) }
+    ensures some { IfSome result (λ tab. column row.now 0 ≡ Int (pos tab)) }
+    ensures none { result ≡ None → ¬ IsTab (column row.now 0) }
 {
     match row.get_ref(0) {
         Ok(ValueRef::Int(tab)) => u8::try_from(tab).ok(),
@@ -87,7 +90,8 @@ fn tab_of(row: &sqlite::Row) -> Option<u8>
 }
 
 fn text_of(alloc: Global, row: &sqlite::Row, at: usize) -> Result<Text, KeepFault>
-    ensures { IfOk result (λ text. column row.now at ≡ Words text) }
+    ensures ok { IfOk result (λ text. column row.now at ≡ Words text) }
+    ensures failed { IsErrOf result Failed → ¬ IsWords (column row.now at) }
 {
     match row.get_ref(at) {
         Ok(ValueRef::Text(bytes)) if is_text(bytes) => Ok(Text::from_bytes(alloc, bytes)?),
@@ -100,6 +104,7 @@ fn row_of(alloc: Global, row: &sqlite::Row) -> Result<Row, KeepFault>
     ensures tab { IfOk result (λ made. column row.now 0 ≡ Int (pos made.tab)) }
     ensures key { IfOk result (λ made. column row.now 1 ≡ Words made.key) }
     ensures body { IfOk result (λ made. column row.now 2 ≡ Words made.body) }
+    ensures failed { IsErrOf result Failed → ¬ MakesRow row.now }
 {
     let Some(tab) = tab_of(row) else {
         return Err(KeepFault::Failed);
@@ -109,49 +114,62 @@ fn row_of(alloc: Global, row: &sqlite::Row) -> Result<Row, KeepFault>
     Ok(Row { tab, key, body })
 }
 
-fn next_row<S: Alter>(alloc: Global, rows: &mut Rows<'_, S>) -> Result<Option<Row>, KeepFault> {
-    match rows.next() {
-        Ok(Some(row)) => Ok(Some(row_of(alloc, row)?)),
-        Ok(None) => Ok(None),
-        Err(error) => Err(keep_fault(error)),
+// The row at which SQLite stands.
+fn row_at<S: Alter>(alloc: Global, rows: &Rows<'_, S>) -> Result<Option<Row>, KeepFault>
+    ensures some { IfOk result (λ next. IfSome next (λ _. IsTrue rows.now.has_row)) }
+    ensures failed { IsErrOf result Failed → IsTrue rows.now.has_row × ¬ MakesRow rows.now.conn.now.reading.row }
+{
+    match rows.get() {
+        Some(row) => Ok(Some(row_of(alloc, row)?)),
+        None => Ok(None),
     }
 }
 
-fn query<S: Alter>(conn: &mut Connection<S>) -> Result<Rows<'_, S>, KeepFault> {
-    match conn.query(LOAD, &[]) {
-        Ok(rows) => Ok(rows),
+// Reads the next row, and answers none behind the last.
+fn next_row<S: Alter>(alloc: Global, rows: &mut Rows<'_, S>) -> Result<Option<Row>, KeepFault>
+    ensures same_reference { rows.new.conn.ghost_name ≡ rows.old.conn.ghost_name }
+    ensures given { HasCleanDisk (state S.Store rows.new.conn.now) → IfOk result (λ next. IfSome next (λ _. (row : _) × Gives S.Store rows.old.conn.now rows.new.conn.now row)) }
+    ensures failed { HasCleanDisk (state S.Store rows.new.conn.now) → IsErrOf result Failed → FailsToGive S.Store rows.old.conn.now rows.new.conn.now }
+    ensures survives { Survives (state S.Store rows.old.conn.now) (state S.Store rows.new.conn.now) (λ _. ⊥) }
+{
+    match rows.advance() {
+        Ok(()) => row_at(alloc, rows),
         Err(error) => Err(keep_fault(error)),
     }
 }
 
 /// All rows, in their order.
-pub(crate) fn load<S: Alter>(
-    alloc: Global,
-    conn: &mut Connection<S>,
-) -> Result<Vec<Row>, KeepFault> {
+pub(crate) fn load<S: Alter>(alloc: Global, conn: &mut Connection<S>) -> Result<Vec<Row>, KeepFault>
+    ensures failed { HasCleanDisk (state S.Store conn.new) → IsErrOf result Failed → FailsToLoad S.Store conn.old conn.new }
+{
     let mut loaded = Vec::new(alloc);
-    let mut rows = query(conn)?;
-    for _ in 0..u64::MAX {
+    let mut rows = match conn.query(LOAD, &[]) {
+        Ok(rows) => rows,
+        Err(error) => return Err(keep_fault(error)),
+    };
+    'rows: for _ in 0..u64::MAX {
         let Some(row) = next_row(alloc, &mut rows)? else {
             return Ok(loaded);
         };
         loaded.push(row)?;
     }
-    Err(KeepFault::Failed)
+    // No memory has room for so many.
+    Err(KeepFault::NoMemory)
 }
 
 // Makes one change, which isn't committed.
-fn write<S: Alter>(
+fn execute<S: Alter>(
     tx: &mut Transaction<'_, S>,
     writes: &Writes,
     change: &RowChange,
-) -> Result<(), KeepFault>
+) -> Result<usize, Error>
     ensures same_reference { tx.new.conn.ghost_name ≡ tx.old.conn.ghost_name }
     ensures kept { HasCleanDisk (state S.Store tx.new.conn.now) → KeepsCommit (state S.Store tx.old.conn.now) (state S.Store tx.new.conn.now) }
     ensures inside { HasCleanDisk (state S.Store tx.new.conn.now) → OnOk result (IsTrue tx.new.conn.now.in_transaction) }
+    ensures ran { HasCleanDisk (state S.Store tx.new.conn.now) → IsTrue tx.old.conn.now.in_transaction → Runs S.Store writes.now.put.text writes.now.del.text change.now tx.old.conn.now tx.new.conn.now result }
     ensures survives { Survives (state S.Store tx.old.conn.now) (state S.Store tx.new.conn.now) (λ _. ⊥) }
 {
-    let written = match change {
+    match change {
         RowChange::Put(row) => tx.execute_prepared(
             &writes.put,
             params![i64::from(row.tab), row.key.as_str(), row.body.as_str()],
@@ -160,8 +178,22 @@ fn write<S: Alter>(
             &writes.del,
             params![i64::from(*tab), key.as_str()],
         ),
-    };
-    match written {
+    }
+}
+
+fn write<S: Alter>(
+    tx: &mut Transaction<'_, S>,
+    writes: &Writes,
+    change: &RowChange,
+) -> Result<(), KeepFault>
+    ensures same_reference { tx.new.conn.ghost_name ≡ tx.old.conn.ghost_name }
+    ensures kept { HasCleanDisk (state S.Store tx.new.conn.now) → KeepsCommit (state S.Store tx.old.conn.now) (state S.Store tx.new.conn.now) }
+    ensures inside { HasCleanDisk (state S.Store tx.new.conn.now) → OnOk result (IsTrue tx.new.conn.now.in_transaction) }
+    ensures made { HasCleanDisk (state S.Store tx.new.conn.now) → IsTrue tx.old.conn.now.in_transaction → OnOk result (Makes S.Store writes.now.put.text writes.now.del.text change.now tx.old.conn.now tx.new.conn.now) }
+    ensures failed { HasCleanDisk (state S.Store tx.new.conn.now) → IsTrue tx.old.conn.now.in_transaction → IsErrOf result Failed → FailsToMake S.Store writes.now.put.text writes.now.del.text change.now tx.old.conn.now tx.new.conn.now }
+    ensures survives { Survives (state S.Store tx.old.conn.now) (state S.Store tx.new.conn.now) (λ _. ⊥) }
+{
+    match execute(tx, writes, change) {
         Ok(_) => Ok(()),
         Err(error) => Err(keep_fault(error)),
     }
@@ -175,6 +207,7 @@ pub(crate) fn apply<S: Alter>(
     changes: &[RowChange],
 ) -> Result<(), KeepFault>
     ensures err { OnErr result (IsAsItWas (state S.Store conn.old) (state S.Store conn.new)) }
+    ensures failed { HasCleanDisk (state S.Store conn.new) → IsErrOf result Failed → FailsToApply S.Store writes.now.put.text writes.now.del.text changes.now conn.old conn.new }
 {
     if changes.is_empty() {
         return Ok(());

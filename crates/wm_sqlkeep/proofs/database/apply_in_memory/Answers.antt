@@ -11,4 +11,7 @@ in_memory old new (Ok x) same = tt
 in_memory old new (Err e) same = (same (memory_is_clean new) refl).0
 
 pub returns : goal.returns
-returns c = record { err = in_memory c.args.conn.now c.apply.new.conn c.apply.result c.apply.ensures.err }
+returns c = record {
+  err = in_memory c.args.conn.now c.apply.new.conn c.apply.result c.apply.ensures.err;
+  failed = c.apply.ensures.failed (memory_is_clean c.apply.new.conn);
+}
