@@ -4,26 +4,29 @@ use std::io::{Error, ErrorKind, Read, Write};
 use std::time::Duration;
 use std::{io, rt};
 
-/// A stream that is interrupted once before each call, and broken from its third call on.
+/// A stream that is interrupted so often before each call, and broken from its third call on.
 #[derive(Drop)]
 pub struct Flaky {
+    interruptions: u32,
     calls: u32,
-    interrupted: bool,
+    interrupted: u32,
 }
 
 impl Flaky {
-    pub fn new() -> Flaky {
+    pub fn new(interruptions: u32) -> Flaky {
         Flaky {
+            interruptions,
             calls: 0,
-            interrupted: false,
+            interrupted: 0,
         }
     }
 
     fn call(&mut self) -> io::Result<()> {
-        self.interrupted = !self.interrupted;
-        if self.interrupted {
+        if self.interrupted < self.interruptions {
+            self.interrupted += 1;
             return Err(Error::from(ErrorKind::Interrupted));
         }
+        self.interrupted = 0;
         self.calls = self.calls.saturating_add(1);
         if self.calls > 2 {
             return Err(Error::from(ErrorKind::BrokenPipe));

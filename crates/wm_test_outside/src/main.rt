@@ -3,7 +3,7 @@
 //! The cases are the texts of `data/`, which `wm_cases` plays. `memory` has the words that make a form in memory, `system`
 //! those that make an adapter; the calls of a source, a sink and a spawner are asked in the same words of both (`streams`,
 //! `spawners`). Those of a store and its keepers are in `keepers` for the form in memory and in `sql_keepers` for SQLite, in
-//! memory (`sql_memory.txt`) and in files (`sql_files.txt`), with what another program does to a file in `others`; `rows`
+//! memory (`sql_memory.txt`) and in files (`sql_files.txt`), some of which SQLite itself has made (`bench/stores.py`); `rows`
 //! reads the rows and changes of both. The children of `system.txt` are real programs.
 #![tactic(auto)]
 
@@ -12,7 +12,6 @@ mod flaky;
 mod keepers;
 mod memory;
 mod orders;
-mod others;
 mod rows;
 mod spawners;
 mod sql_keepers;

@@ -1,5 +1,4 @@
 // A store in SQLite, and the calls of its keepers.
-use super::others;
 use super::rows::{answer_fault, answer_number, answer_rows, apply};
 use super::words::{first_word, unknown};
 use anyhow::{Result, anyhow};
@@ -8,6 +7,13 @@ use std::rt::HostRuntime;
 use wm_cases::Subject;
 use wm_sqlkeep::{SqlKeeper, SqlStore};
 use wm_traits::{Keeper, Store};
+
+// Puts a copy of the file in the place of the store's, without a log.
+fn put_file(rt: &HostRuntime, file: &str) -> Result<()> {
+    let _ = fs::remove_file(rt, LOG);
+    fs::copy(rt, file, STORE)?;
+    Ok(())
+}
 
 // Answers the rows, a line each, or that there are none.
 fn load(keeper: &mut SqlKeeper, answer: &mut String) -> Result<()> {
@@ -19,7 +25,9 @@ fn load(keeper: &mut SqlKeeper, answer: &mut String) -> Result<()> {
 }
 
 /// The files that a case may use. A case begins without them.
-const FILES: [&str; 2] = ["rows.db", "rows.db-wal"];
+const STORE: &str = "rows.db";
+
+const LOG: &str = "rows.db-wal";
 
 /// A store, and its keeper while one is out.
 #[derive(Drop)]
@@ -72,21 +80,19 @@ impl Subject for SqlCases<'_> {
     fn begin(&mut self) -> Result<()> {
         self.keeper = None;
         self.store = SqlStore::new(self.rt);
-        for file in FILES {
-            let _ = fs::remove_file(self.rt, file);
-        }
+        let _ = fs::remove_file(self.rt, STORE);
+        let _ = fs::remove_file(self.rt, LOG);
         Ok(())
     }
 
-    // `open PATH`, `close`, `store_faults`, what another program does (`run`, `show`), and the questions of a keeper.
+    // `open PATH`, `close`, `store_faults`, `given FILE`, a file that another program has made, and the questions of a keeper.
     fn answer(&mut self, question: &str, answer: &mut String) -> Result<()> {
         let (word, rest) = first_word(question);
         match word {
             "open" => self.open(rest, answer),
             "close" => self.close(),
             "store_faults" => answer_number(self.store.faults(), answer),
-            "run" => others::run(self.rt, rest),
-            "show" => others::show(self.rt, rest, answer),
+            "given" => put_file(self.rt, rest),
             _ => self.ask_keeper(word, rest, answer),
         }
     }

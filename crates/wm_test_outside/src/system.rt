@@ -17,14 +17,24 @@ use wm_children::SysSpawner;
 use wm_outside::{ReadSource, SysClock, WriteSink};
 use wm_traits::{Clock, Failed, Spawner};
 
-// Reads of `flaky | 2 | 2`, and of `slice ab | 2 | 2`.
+// A stream that is interrupted so often before each call.
+fn flaky(interruptions: &str) -> Result<Flaky> {
+    Ok(Flaky::new(interruptions.parse::<u32>()?))
+}
+
+// Reads of `flaky 3 | 2 | 2`, which is interrupted three times before each, and of `slice ab | 2 | 2`.
 fn read_reader(alloc: Global, words: &str, answer: &mut String) -> Result<()> {
     let (reader, lengths) = words.split_once(BAR).context("no lengths")?;
     match first_word(reader) {
-        ("flaky", _) => read(alloc, &mut ReadSource::new(Flaky::new()), lengths, answer),
+        ("flaky", times) => read_flaky(alloc, times, lengths, answer),
         ("slice", text) => read_slice(alloc, text, lengths, answer),
         _ => unknown(reader),
     }
+}
+
+fn read_flaky(alloc: Global, times: &str, lengths: &str, answer: &mut String) -> Result<()> {
+    let mut source = ReadSource::new(flaky(times)?);
+    read(alloc, &mut source, lengths, answer)
 }
 
 fn read_slice(alloc: Global, text: &str, lengths: &str, answer: &mut String) -> Result<()> {
@@ -33,15 +43,20 @@ fn read_slice(alloc: Global, text: &str, lengths: &str, answer: &mut String) -> 
     read(alloc, &mut source, lengths, answer)
 }
 
-// Writes to `flaky | ab | b`, to `full | a` and to `vector | ab`, whose bytes are answered too.
+// Writes to `flaky 3 | ab | b`, to `full | a` and to `vector | ab`, whose bytes are answered too.
 fn write_writer(alloc: Global, words: &str, answer: &mut String) -> Result<()> {
     let (writer, texts) = words.split_once(BAR).context("no texts")?;
-    match writer {
-        "flaky" => write(alloc, &mut WriteSink::new(Flaky::new()), texts, answer),
-        "full" => write(alloc, &mut WriteSink::new(Full), texts, answer),
-        "vector" => write_vector(alloc, texts, answer),
+    match first_word(writer) {
+        ("flaky", times) => write_flaky(alloc, times, texts, answer),
+        ("full", _) => write(alloc, &mut WriteSink::new(Full), texts, answer),
+        ("vector", _) => write_vector(alloc, texts, answer),
         _ => unknown(writer),
     }
+}
+
+fn write_flaky(alloc: Global, times: &str, texts: &str, answer: &mut String) -> Result<()> {
+    let mut sink = WriteSink::new(flaky(times)?);
+    write(alloc, &mut sink, texts, answer)
 }
 
 fn write_vector(alloc: Global, texts: &str, answer: &mut String) -> Result<()> {
