@@ -1,27 +1,22 @@
 -- Laws of where the power went down.
-use Rattle.std.proofs.Common.{◌≡◌, ◌||◌, Bool, true, false, List, [], ◌∷◌, ◌++◌, sym, ap, ◌∙◌, refl, arith}
+use Rattle.std.proofs.Common.{◌≡◌, ℕ, ◌&&◌, ◌||◌, Bool, true, false, List, [], ◌∷◌, ◌++◌, sym, ap, ◌∙◌, refl, arith}
 use Rattle.std.specs.List.{list_all}
-use Rattle.std.proofs.lemmas.Bool.{false≢true}
 use Rattle.std.proofs.lemmas.Bool.Decides.{nat_tests}
 use Rattle.std.proofs.lemmas.List.Folds.{list_any-append}
 use Rattle.wm_base.proofs.Tests.{or_second}
-use Rattle.wm_law.specs.declared.call.Call.{Call}
-use Rattle.wm_law.specs.declared.call.Call.TheVariants.{Change, Hand, Started, StartFailed, Finished, UseDone, Tick}
+use Rattle.wm_law.specs.declared.call.Call.TheVariants.{Change}
 use Rattle.wm_law.specs.declared.call.Entry.{Entry}
 use Rattle.wm_law.specs.declared.command.Command.{Command}
-use Rattle.wm_law.specs.History.{is_monitor_call}
 use Rattle.wm_journal.specs.History.{History, entry_at}
 use Rattle.wm_monitor.specs.Lists.{since, Extends}
 use Rattle.wm_monitor.specs.Monitor.{is_own}
 use Rattle.wm_monitor.proofs.Lists.{since-append, since-then}
 use Rattle.wm_run.specs.Answer.{is_power_down}
-use Rattle.wm_run.specs.Calls.{Called}
-use Rattle.wm_run.specs.Down.{is_down, is_users, powers_down}
+use Rattle.wm_run.specs.Calls.{Called, session_pass}
+use Rattle.wm_run.specs.Down.{is_down, powers_down}
 use Rattle.wm_run.specs.Grown.{entries_between}
-use Rattle.wm_run.specs.Parsed.{session_user}
-use Rattle.wm_run.specs.Session.{session_pass}
-use Rattle.wm_run.proofs.Growing.{Continues, Continues-then, entries-none, entries-then}
-use Rattle.wm_run.proofs.Servings.{Extends-called}
+use Rattle.wm_run.proofs.Growing.{Continues, entries-none, entries-then}
+use Rattle.wm_run.proofs.Servings.{Extends-called, not_session}
 
 -- entries, and then more entries
 pub is_down-append : (es fs : List Entry) → is_down (es ++ fs) ≡ (is_down es || is_down fs)
@@ -53,20 +48,8 @@ or_false_right false b up = up
 pub down_first : (es fs all : List Entry) → all ≡ es ++ fs → is_down fs ≡ false → is_down all ≡ is_down es
 down_first es fs all is up = ap is_down is ∙ (is_down-append es fs ∙ or_false_right (is_down es) (is_down fs) up)
 
-monitors_call : (c : Call) → is_monitor_call c ≡ true → is_users c ≡ false
-monitors_call (Change user c) h = absurd (false≢true h)
-monitors_call Hand h = refl
-monitors_call (Started serial) h = refl
-monitors_call (StartFailed serial why) h = refl
-monitors_call (Finished serial end) h = refl
-monitors_call (UseDone serial) h = refl
-monitors_call Tick h = refl
-
-own_call : (e : Entry) → is_own e ≡ true → is_monitor_call e.call ≡ true
-own_call e h = grind (arith, nat_tests)
-
 own_up : (e : Entry) → is_own e ≡ true → powers_down e ≡ false
-own_up e h = rw (monitors_call e.call (own_call e h)) refl
+own_up e h = ap (λ (b : Bool). b && is_power_down e.reply) (not_session e h)
 
 -- a monitor puts no power down
 pub up_own : (es : List Entry) → list_all is_own es ≡ true → is_down es ≡ false
@@ -85,9 +68,9 @@ pub down_between : (a b c : History) → Continues a b → Continues b c → is_
 down_between a b c ab bc up = down_then (entries_between a b) (entries_between b c) (entries_between a c) (entries-then a b c ab bc) up
 
 -- a command of a line puts it down by its reply, and the monitor's entries behind it don't
-pub down_called : (old mid new : History) (c : Command) → (h : Called old (Change session_user c) mid) → Extends mid.log new.log → list_all is_own (since mid.log new.log) ≡ true → is_down (entries_between old new) ≡ is_power_down (entry_at old session_pass (Change session_user c) h.now).reply
-down_called old mid new c h grown own =
-    let call = Change session_user c in
+pub down_called : {user : List ℕ} (old mid new : History) (c : Command) → (h : Called old (Change user c) mid) → Extends mid.log new.log → list_all is_own (since mid.log new.log) ≡ true → is_down (entries_between old new) ≡ is_power_down (entry_at old session_pass (Change user c) h.now).reply
+down_called {user} old mid new c h grown own =
+    let call = Change user c in
     let e = entry_at old session_pass call h.now in
     let pushed : mid.log ≡ old.log ++ e ∷ [] = ap (λ (x : History). x.log) h.made in
     let one : since old.log mid.log ≡ e ∷ [] = ap (since old.log) pushed ∙ since-append old.log (e ∷ []) in
@@ -97,10 +80,3 @@ down_called old mid new c h grown own =
   where
     one_down : (r : _) → (is_power_down r || false) ≡ is_power_down r
     one_down r = or_false_right (is_power_down r) false refl
-
--- where the power isn't down behind three parts, it isn't behind the second
-pub up_middle : (a b c d : History) → Continues a b → Continues b c → Continues c d → is_down (entries_between a d) ≡ false → is_down (entries_between b c) ≡ false
-up_middle a b c d ab bc cd up =
-    let bd = Continues-then b c d bc cd in
-    let rest = up_then (entries_between a b) (entries_between b d) (entries_between a d) (entries-then a b d ab bd) up in
-    up_first (entries_between b c) (entries_between c d) (entries_between b d) (entries-then b c d bc cd) rest

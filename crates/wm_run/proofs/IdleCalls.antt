@@ -13,8 +13,7 @@ use Rattle.wm_monitor.specs.Monitor.{hands_of}
 use Rattle.wm_monitor.specs.Turned.{WaitedSince}
 use Rattle.wm_monitor.proofs.Idles.{orders_told}
 use Rattle.wm_monitor.proofs.Turns.{WaitedSince-still, same_list}
-use Rattle.wm_run.specs.Calls.{Called}
-use Rattle.wm_run.specs.Session.{session_pass}
+use Rattle.wm_run.specs.Calls.{Called, session_pass}
 
 -- a turn that made no entry left no order
 pub idle_orders : (old new : History) (p : Pending) → Extends old.log new.log → length new.log - length old.log ≡ 0 → WaitedSince old new p → (p.orders ≡ 0) ⊎ (hands_of (since old.log new.log) ≡ 256) → orders (reached new) monitor_pass ≡ 0

@@ -18,8 +18,8 @@ pub record PieceLoop (old new : MonitorView) (written_before written_now looked_
   pub journal : Kept
 
 -- so many bytes of the input have been taken, and the lines that have ended in them were answered
-pub record SoFar (b : Part) (h : History) (es : List Entry) (u v : Option (List ℕ)) (f : Bool) (sum : ℕ) (bytes : List ℕ) : Type 0 where
-  pub lines : TakesPiece fresh bytes b [] h es u v f
+pub record SoFar (user : List ℕ) (b : Part) (h : History) (es : List Entry) (u v : Option (List ℕ)) (f : Bool) (sum : ℕ) (bytes : List ℕ) : Type 0 where
+  pub lines : TakesPiece user fresh bytes b [] h es u v f
   pub count : length bytes ≡ sum
 
 -- what stays true while the input is read, of which no line has put the power down

@@ -1,5 +1,5 @@
 -- Laws of a run that opens: what its rows come to, and what it leaves of them.
-use Rattle.std.proofs.Common.{◌≡◌, ℕ, ◌<◌, ◌≤◌, true, List, [], Option, Some, None, IfSome, is_some, refl, sym, ap, subst, ◌∙◌, inl, inr, arith}
+use Rattle.std.proofs.Common.{◌≡◌, ◌⊎◌, ℕ, ℤ, ◌<◌, ◌≤◌, true, List, [], Option, Some, None, IfSome, is_some, refl, sym, ap, subst, ◌∙◌, inl, inr, arith}
 use Rattle.std.proofs.lemmas.Bool.{true≢false, false≢true}
 use Rattle.wm_journal.specs.History.{History, reached}
 use Rattle.wm_journal.specs.Trail.{HasTrail, tables_along, without_repeats}
@@ -15,7 +15,6 @@ use Rattle.wm_traits.specs.Told.{Grows, Stays}
 use Rattle.wm_run.specs.Kept.{HasHistory, HasOpened, open_status, store_status}
 use Rattle.wm_monitor.specs.Lists.{since}
 use Rattle.wm_monitor.specs.Idle.{NoneIsIdle}
-use Rattle.wm_run.specs.Run.{run_offset}
 use Rattle.wm_journal.specs.Keeping.{Telling, IsOpened}
 use Rattle.wm_journal.specs.Stored.{HasTables}
 use Rattle.wm_journal.specs.declared.open_fault.OpenFault.{OpenFault}
@@ -63,14 +62,14 @@ rows_found None (Some first) (Some mid) trail'' (Some last) rows more told grown
 rows_found (Some x) (Some first) (Some mid) trail'' (Some last) rows more told grown untold both both' = ap Some told
 
 -- a run over a keeper that opened
-pub opened_run : {Came : State → Type 0} (status : ℕ) (log : List Entry) (first last : History) (found opened closed : Telling) → IsOpened run_offset first.opened found opened → first.log ≡ [] → last.opened ≡ first.opened → log ≡ last.log → IsLegal last.opened last.log → NoneIsIdle (reached first) (since first.log last.log) → (status ≤ 1 → active (reached last) ≡ 0) → HasTables (reached last) closed.tables → HasTrail last found closed → (opened.trail ≡ None → closed.trail ≡ None) → is_some found.trail ≡ is_some found.tables → is_some closed.trail ≡ is_some closed.tables → Came first.opened → HasOpened status log found closed Came
-opened_run {Came} status log first last found opened closed h none same is legal no_idle idle tables trail untold both both' came =
+pub opened_run : {Came : State → Type 0} (offset : ℤ) (status : ℕ) (log : List Entry) (first last : History) (found opened closed : Telling) → IsOpened offset first.opened found opened → first.log ≡ [] → last.opened ≡ first.opened → log ≡ last.log → IsLegal last.opened last.log → NoneIsIdle (reached first) (since first.log last.log) → (status ≤ 1 → active (reached last) ≡ 0) → HasTables (reached last) closed.tables → HasTrail last found closed → (opened.trail ≡ None → closed.trail ≡ None) → is_some found.trail ≡ is_some found.tables → is_some closed.trail ≡ is_some closed.tables → Came first.opened → HasOpened offset status log found closed Came
+opened_run {Came} offset status log first last found opened closed h none same is legal no_idle idle tables trail untold both both' came =
     let s = first.opened in
-    let P : List Entry → Type 0 = λ es. HasOpened status es found closed Came in
+    let P : List Entry → Type 0 = λ es. HasOpened offset status es found closed Came in
     let at : reached first ≡ s = ap (after s) none in
     let from : since first.log last.log ≡ last.log = ap (λ (l : List Entry). since l last.log) none in
     let whole : last ≡ record { opened = s; log = last.log } = ap (λ (t : State). record { opened = t; log = last.log }) same in
-    let sound = restart_is_sound run_offset h.found s h.restart in
+    let sound = restart_is_sound offset h.found s h.restart in
     let busy : NoneIsIdle s last.log = subst (λ (es : List Entry). NoneIsIdle s es) from (subst (λ (t : State). NoneIsIdle t (since first.log last.log)) at no_idle) in
     subst P (sym is) (record {
       opened = s;
@@ -112,8 +111,8 @@ trail_of_store h old found closed new rows were tables trail trail' both has = g
     go (Some told) s None k e = tt
     go (Some told) s (Some now) k e = grown told s now k (by new.tables were (sym e))
 
-pub opened_of_store : {Came : State → Type 0} (status : ℕ) (log : List Entry) (old found closed new : Telling) → Stays old.tables found.tables → Stays old.trail found.trail → Stays closed.tables new.tables → Stays closed.trail new.trail → is_some new.trail ≡ is_some new.tables → HasOpened status log found closed Came → HasOpened status log old new Came
-opened_of_store status log old found closed new tables trail tables' trail' both h =
+pub opened_of_store : {Came : State → Type 0} (offset : ℤ) (status : ℕ) (log : List Entry) (old found closed new : Telling) → Stays old.tables found.tables → Stays old.trail found.trail → Stays closed.tables new.tables → Stays closed.trail new.trail → is_some new.trail ≡ is_some new.tables → HasOpened offset status log found closed Came → HasOpened offset status log old new Came
+opened_of_store offset status log old found closed new tables trail tables' trail' both h =
     let were : IfSome new.tables (λ _. found.tables ≡ Some h.rows) = stays_if (λ _. found.tables ≡ Some h.rows) closed.tables new.tables tables' h.found in
     record {
       opened = h.opened;
@@ -134,9 +133,9 @@ opened_of_store status log old found closed new tables trail tables' trail' both
     stays_if_told None k = tt
     stays_if_told (Some last) k = stays_back h.rows old.tables found.tables tables k
 
-pub history_of_store : {Came : State → Type 0} (status : ℕ) (log : List Entry) (old found closed new : Telling) → Stays old.tables found.tables → Stays old.trail found.trail → Stays closed.tables new.tables → Stays closed.trail new.trail → is_some new.trail ≡ is_some new.tables → HasHistory status log found closed Came → HasHistory status log old new Came
-history_of_store status log old found closed new tables trail tables' trail' both (inl h) = inl (opened_of_store status log old found closed new tables trail tables' trail' both h)
-history_of_store status log old found closed new tables trail tables' trail' both (inr h) =
+pub history_of_store : {Came : State → Type 0} (offset : ℤ) (status : ℕ) (log : List Entry) (old found closed new : Telling) → Stays old.tables found.tables → Stays old.trail found.trail → Stays closed.tables new.tables → Stays closed.trail new.trail → is_some new.trail ≡ is_some new.tables → HasHistory offset status log found closed Came → HasHistory offset status log old new Came
+history_of_store offset status log old found closed new tables trail tables' trail' both (inl h) = inl (opened_of_store offset status log old found closed new tables trail tables' trail' both h)
+history_of_store offset status log old found closed new tables trail tables' trail' both (inr h) =
     inr (record {
       early = h.early;
       none = h.none;
@@ -148,8 +147,8 @@ history_of_store status log old found closed new tables trail tables' trail' bot
     })
 
 -- a run that didn't open
-pub not_opened : {Came : State → Type 0} (status : ℕ) (log : List Entry) (old new : Telling) → 1 < status → log ≡ [] → Stays old.tables new.tables → Stays old.trail new.trail → ((s : State) → Came s) → HasHistory status log old new Came
-not_opened status log old new early none tables trail came = inr (record { early = early; none = none; left = record { tables = tables; trail = trail }; came = came })
+pub not_opened : {Came : State → Type 0} (offset : ℤ) (status : ℕ) (log : List Entry) (old new : Telling) → 1 < status → log ≡ [] → Stays old.tables new.tables → Stays old.trail new.trail → ((s : State) → Came s) → HasHistory offset status log old new Came
+not_opened offset status log old new early none tables trail came = inr (record { early = early; none = none; left = record { tables = tables; trail = trail }; came = came })
 
 -- The status of a run whose machine didn't open
 
@@ -183,3 +182,18 @@ store_low keep.NoMemory = omega arith
 pub store_unread : (fault : KeepFault) → store_status fault ≡ 3 → ⊥
 store_unread keep.Failed is = absurd (omega arith)
 store_unread keep.NoMemory is = absurd (omega arith)
+
+-- The status of words that are none of a run, or that couldn't be read
+
+pub words_high : (n m : ℕ) → n ≡ m → (m ≡ 2) ⊎ (m ≡ 6) → 1 < n
+words_high n m is (inl two) = omega arith
+words_high n m is (inr six) = omega arith
+
+pub words_low : (n m : ℕ) → n ≡ m → (m ≡ 2) ⊎ (m ≡ 6) → n < 11
+words_low n m is (inl two) = omega arith
+words_low n m is (inr six) = omega arith
+
+-- the input was read by no such run
+pub words_unread : (n m : ℕ) → n ≡ m → (m ≡ 2) ⊎ (m ≡ 6) → n ≡ 3 → ⊥
+words_unread n m is (inl two) three = absurd (omega arith)
+words_unread n m is (inr six) three = absurd (omega arith)

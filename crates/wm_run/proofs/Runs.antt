@@ -1,5 +1,6 @@
 -- Laws of a whole run: its parts, and its status.
 use Rattle.std.proofs.Common.{◌≡◌, ℕ, ◌<◌, ◌≤◌, ◌==◌, Bool, true, false, List, [], ◌++◌, length, Option, Result, Ok, Err, sym, ap, subst, ◌∙◌, refl, inl, append_assoc, arith}
+use Rattle.std.specs.Io.KnownBytes.{IsAtEnd}
 use Rattle.std.specs.Prelude.{◌↔◌, if◌then◌else◌, IfOk, OnErr, IsErrOf}
 use Rattle.wm_clwords.specs.Lines.{logical_lines}
 use Rattle.wm_law.specs.declared.call.Entry.{Entry}
@@ -13,6 +14,7 @@ use Rattle.wm_run.specs.Session.{Answers, AnsweredBy, Closes, IsSession, OneCall
 use Rattle.wm_run.specs.Stopped.{IsStopped}
 use Rattle.wm_run.specs.Taking.{TakesInput}
 use Rattle.wm_run.specs.declared.halt.Halt.{Halt}
+use Rattle.wm_run.specs.declared.settings.Settings.{Settings}
 use Rattle.wm_run.specs.declared.halt.Halt.TheVariants.{ReadFault, WriteFault, KeeperFault, NoMemory, LogFull, WaitFault, InputFull}
 use Rattle.wm_run.proofs.Growing.{Continues, Continues-then, entries-then, grown-between}
 
@@ -29,8 +31,8 @@ three_parts a b c d ab bc cd =
     more ∙ (ap (λ (fs : List Entry). es ++ fs) rest ∙ sym (append_assoc es (entries_between b c) (entries_between c d)))
 
 -- the first call, the lines and the end, one after another
-abbrev pub session_parts : (a b c d : History) (x y u v : Option (List ℕ)) (f : Bool) → Continues a b → Continues b c → Continues c d → OneCall start_call (entries_between a b) → TakesInput x y (λ bytes. AnsweredBy (Answers (logical_lines bytes) b) (entries_between b c) u v f) → Closes (is_down (entries_between b c)) c (entries_between c d) → TakesInput x y (λ bytes. IsSession (logical_lines bytes) a (entries_between a d) u v f)
-session_parts a b c d x y u v f ab bc cd start taken end =
+abbrev pub session_parts : (settings : Settings) (a b c d : History) (x y u v : Option (List ℕ)) (f : Bool) → Continues a b → Continues b c → Continues c d → OneCall (start_call settings.ctl) (entries_between a b) → TakesInput x y (λ bytes. AnsweredBy (Answers settings.user (logical_lines bytes) b) (entries_between b c) u v f) → Closes (is_down (entries_between b c)) c (entries_between c d) → (is_down (entries_between b c) ≡ false → IsAtEnd y) → TakesInput x y (λ bytes. IsSession settings (logical_lines bytes) y a (entries_between a d) u v f)
+session_parts settings a b c d x y u v f ab bc cd start taken end at_end =
     let lines = logical_lines taken.bytes in
     let es = entries_between a b in
     let fs = entries_between b c in
@@ -44,8 +46,9 @@ session_parts a b c d x y u v f ab bc cd start taken end =
         last = entries_between c d;
         parts = three_parts a b c d ab bc cd;
         start = start;
-        answered = at_grown (λ (o : History). AnsweredBy (Answers lines o) fs u v f) a b ab taken.done;
+        answered = at_grown (λ (o : History). AnsweredBy (Answers settings.user lines o) fs u v f) a b ab taken.done;
         end = subst (λ (o : History). Closes (is_down fs) o (entries_between c d)) (sym at) end;
+        read = at_end;
       };
     }
 
@@ -105,5 +108,5 @@ full_exactly r x y h =
 abbrev pub full_not : (status : ℕ) (x : Option (List ℕ)) → status < 11 → TakesInput x x (λ bytes. (status ≡ 11) ↔ (1000000000 < length bytes))
 full_not status x less = record { bytes = []; taken = Takes-none x; done = ((λ is. absurd (omega arith)), (λ more. absurd (omega arith))) }
 
-abbrev pub stopped_not : (o : History) (log : List Entry) (x w : Option (List ℕ)) → log ≡ [] → TakesInput x x (λ bytes. IsStopped (logical_lines bytes) o log w w)
-stopped_not o log x w none = record { bytes = []; taken = Takes-none x; done = inl (record { none = none; written = Grows-none w }) }
+abbrev pub stopped_not : (settings : Settings) (o : History) (log : List Entry) (x w : Option (List ℕ)) → log ≡ [] → TakesInput x x (λ bytes. IsStopped settings (logical_lines bytes) x o log w w)
+stopped_not settings o log x w none = record { bytes = []; taken = Takes-none x; done = inl (record { none = none; written = Grows-none w }) }

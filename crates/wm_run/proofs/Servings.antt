@@ -14,7 +14,7 @@ use Rattle.wm_law.specs.Pending.{busy}
 use Rattle.wm_journal.specs.History.{History, entry_at, reached, with_call}
 use Rattle.wm_traits.specs.declared.spawner.Told.{Told}
 use Rattle.wm_traits.proofs.Telling.{Grows-none}
-use Rattle.wm_run.specs.Calls.{Called}
+use Rattle.wm_run.specs.Calls.{Called, session_pass}
 use Rattle.wm_monitor.specs.Lists.{since, Extends}
 use Rattle.wm_monitor.specs.Asking.{AsksFor}
 use Rattle.wm_monitor.specs.Idle.{monitor_pass}
@@ -22,7 +22,7 @@ use Rattle.wm_monitor.specs.Monitor.{MonitorView, Advances, RisesBy, is_own, is_
 use Rattle.wm_run.specs.Grown.{entries_between}
 use Rattle.wm_run.specs.Run.{IsServed}
 use Rattle.wm_run.specs.Serving.{Serves, is_of_run}
-use Rattle.wm_run.specs.Session.{Closes, EndsInput, OneCall, end_call, session_pass}
+use Rattle.wm_run.specs.Session.{Closes, EndsInput, OneCall, end_call}
 use Rattle.wm_monitor.specs.View.{IsClear, kill_left, view}
 use Rattle.wm_monitor.specs.declared.monitor.Monitor.{Monitor}
 use Rattle.wm_monitor.specs.declared.report.Report.{Report}
@@ -75,7 +75,7 @@ session_entries old new = entries_of session_pass (entries_between old new)
 pub session_entries-then : (a b c : History) → Extends a.log b.log → Extends b.log c.log → session_entries a c ≡ session_entries a b ++ session_entries b c
 session_entries-then a b c ab bc = ap (entries_of session_pass) (since-then a.log b.log c.log ab bc) ∙ filter-append (λ e. e.caller == session_pass) (since a.log b.log) (since b.log c.log)
 
-not_session : (e : Entry) → is_own e ≡ true → (e.caller == session_pass) ≡ false
+pub not_session : (e : Entry) → is_own e ≡ true → (e.caller == session_pass) ≡ false
 not_session e h = grind (arith, nat_tests)
 
 -- a monitor's part has none

@@ -21,8 +21,8 @@ take-append xs ys n =
     take-add (length xs) n (xs ++ ys) ∙ (ap (λ (l : List ℕ). l ++ take n rest) (take_at xs ys (length xs) refl) ∙ ap (λ (l : List ℕ). xs ++ take n l) (since-append xs ys))
 
 -- no line was answered
-pub StopsIn-untouched : (lines : List (Option (List ℕ))) (o : History) (es : List Entry) (a b : Option (List ℕ)) → Untouched es a b → StopsIn lines o es a b
-StopsIn-untouched lines o es a b h =
+pub StopsIn-untouched : (user : List ℕ) (lines : List (Option (List ℕ))) (o : History) (es : List Entry) (a b : Option (List ℕ)) → Untouched es a b → StopsIn user lines o es a b
+StopsIn-untouched user lines o es a b h =
     record {
       answered = [];
       others = lines;
@@ -31,13 +31,13 @@ StopsIn-untouched lines o es a b h =
     }
 
 -- nothing was done at all
-pub StopsIn-none : (lines : List (Option (List ℕ))) (o : History) (w : Option (List ℕ)) → StopsIn lines o [] w w
-StopsIn-none lines o w = StopsIn-untouched lines o [] w w (record { none = refl; written = Grows-none w })
+pub StopsIn-none : (user : List ℕ) (lines : List (Option (List ℕ))) (o : History) (w : Option (List ℕ)) → StopsIn user lines o [] w w
+StopsIn-none user lines o w = StopsIn-untouched user lines o [] w w (record { none = refl; written = Grows-none w })
 
 -- a line's answer was cut short
-pub StopsIn-line : (line : Option (List ℕ)) (o : History) (es : List Entry) (a b : Option (List ℕ)) → IsCutShort (AnswersLine line o) es a b → StopsIn (line ∷ []) o es a b
-StopsIn-line line o es a b (inl h) = StopsIn-untouched (line ∷ []) o es a b h
-StopsIn-line line o es a b (inr h) =
+pub StopsIn-line : {user : List ℕ} (line : Option (List ℕ)) (o : History) (es : List Entry) (a b : Option (List ℕ)) → IsCutShort (AnswersLine user line o) es a b → StopsIn user (line ∷ []) o es a b
+StopsIn-line {user} line o es a b (inl h) = StopsIn-untouched user (line ∷ []) o es a b h
+StopsIn-line {user} line o es a b (inr h) =
     record {
       answered = line ∷ [];
       others = [];
@@ -46,8 +46,8 @@ StopsIn-line line o es a b (inr h) =
     }
 
 -- more lines follow that weren't answered
-pub StopsIn-more : (xs ys : List (Option (List ℕ))) (o : History) (es : List Entry) (a b : Option (List ℕ)) → StopsIn xs o es a b → StopsIn (xs ++ ys) o es a b
-StopsIn-more xs ys o es a b h =
+pub StopsIn-more : {user : List ℕ} (xs ys : List (Option (List ℕ))) (o : History) (es : List Entry) (a b : Option (List ℕ)) → StopsIn user xs o es a b → StopsIn user (xs ++ ys) o es a b
+StopsIn-more {user} xs ys o es a b h =
     record {
       answered = h.answered;
       others = h.others ++ ys;
@@ -56,8 +56,8 @@ StopsIn-more xs ys o es a b h =
     }
 
 -- lines were answered before them
-pub StopsIn-after : (xs ys : List (Option (List ℕ))) (o : History) (es fs : List Entry) (a b c : Option (List ℕ)) (f : Bool) → is_down es ≡ false → AnsweredBy (Answers xs o) es a b f → StopsIn ys (grown o es) fs b c → StopsIn (xs ++ ys) o (es ++ fs) a c
-StopsIn-after xs ys o es fs a b c f up h k =
+pub StopsIn-after : {user : List ℕ} (xs ys : List (Option (List ℕ))) (o : History) (es fs : List Entry) (a b c : Option (List ℕ)) (f : Bool) → is_down es ≡ false → AnsweredBy (Answers user xs o) es a b f → StopsIn user ys (grown o es) fs b c → StopsIn user (xs ++ ys) o (es ++ fs) a c
+StopsIn-after {user} xs ys o es fs a b c f up h k =
     let s = k.some in
     record {
       answered = xs ++ k.answered;
@@ -66,15 +66,15 @@ StopsIn-after xs ys o es fs a b c f up h k =
       some = record {
         due = h.bytes ++ s.due;
         faulty = f || s.faulty;
-        answers = Answers-append xs k.answered o es fs h.bytes s.due f s.faulty up h.answers s.answers;
+        answers = Answers-append user xs k.answered o es fs h.bytes s.due f s.faulty up h.answers s.answers;
         count = length h.bytes + s.count;
         written = subst (λ (l : List ℕ). Grows a c l) (sym (take-append h.bytes s.due s.count)) (Grows-then a b c h.bytes (take s.count s.due) h.written s.written);
       };
     }
 
 -- all lines were answered, and all bytes written
-pub StopsIn-whole : (lines : List (Option (List ℕ))) (o : History) (es : List Entry) (a b : Option (List ℕ)) (f : Bool) → AnsweredBy (Answers lines o) es a b f → StopsIn lines o es a b
-StopsIn-whole lines o es a b f h =
+pub StopsIn-whole : {user : List ℕ} (lines : List (Option (List ℕ))) (o : History) (es : List Entry) (a b : Option (List ℕ)) (f : Bool) → AnsweredBy (Answers user lines o) es a b f → StopsIn user lines o es a b
+StopsIn-whole {user} lines o es a b f h =
     record {
       answered = lines;
       others = [];
@@ -83,13 +83,13 @@ StopsIn-whole lines o es a b f h =
     }
 
 -- bytes follow that weren't looked at
-pub stops_front : (a b : Part) (piece rest : List ℕ) (o : History) (es : List Entry) (u v : Option (List ℕ)) (f : Bool) → TakesPiece a piece b rest o es u v f → (more : List ℕ) → StopsIn (lines_from a (piece ++ more)) o es u v
-stops_front a b piece rest o es u v f h more =
-    subst (λ (l : List (Option (List ℕ))). StopsIn l o es u v) (sym (h.split more))
+pub stops_front : {user : List ℕ} (a b : Part) (piece rest : List ℕ) (o : History) (es : List Entry) (u v : Option (List ℕ)) (f : Bool) → TakesPiece user a piece b rest o es u v f → (more : List ℕ) → StopsIn user (lines_from a (piece ++ more)) o es u v
+stops_front {user} a b piece rest o es u v f h more =
+    subst (λ (l : List (Option (List ℕ))). StopsIn user l o es u v) (sym (h.split more))
     (StopsIn-more h.lines (lines_from b (rest ++ more)) o es u v (StopsIn-whole h.lines o es u v f h.answered))
 
 -- bytes were taken before them
-pub stops_then : (a b : Part) (piece rest : List ℕ) (o : History) (es fs : List Entry) (u v w : Option (List ℕ)) (f : Bool) → is_down es ≡ false → TakesPiece a piece b rest o es u v f → ((more : List ℕ) → StopsIn (lines_from b (rest ++ more)) (grown o es) fs v w) → (more : List ℕ) → StopsIn (lines_from a (piece ++ more)) o (es ++ fs) u w
-stops_then a b piece rest o es fs u v w f up h k more =
-    subst (λ (l : List (Option (List ℕ))). StopsIn l o (es ++ fs) u w) (sym (h.split more))
+pub stops_then : {user : List ℕ} (a b : Part) (piece rest : List ℕ) (o : History) (es fs : List Entry) (u v w : Option (List ℕ)) (f : Bool) → is_down es ≡ false → TakesPiece user a piece b rest o es u v f → ((more : List ℕ) → StopsIn user (lines_from b (rest ++ more)) (grown o es) fs v w) → (more : List ℕ) → StopsIn user (lines_from a (piece ++ more)) o (es ++ fs) u w
+stops_then {user} a b piece rest o es fs u v w f up h k more =
+    subst (λ (l : List (Option (List ℕ))). StopsIn user l o (es ++ fs) u w) (sym (h.split more))
     (StopsIn-after h.lines (lines_from b (rest ++ more)) o es fs u v w f up h.answered (k more))

@@ -1,5 +1,6 @@
 -- Laws of a run that stops: what its session called and wrote until then.
 use Rattle.std.proofs.Common.{◌≡◌, ◌↔◌, ℕ, ◌+◌, ◌<◌, Bool, true, false, List, [], ◌++◌, length, take, Option, Result, Ok, Err, sym, ap, subst, ◌∙◌, refl, inl, inr, arith}
+use Rattle.std.specs.Io.KnownBytes.{IsAtEnd}
 use Rattle.std.specs.Prelude.{IsErrOf}
 use Rattle.std.specs.List.{list_all}
 use Rattle.std.proofs.Math.Seq.{take-length}
@@ -16,10 +17,12 @@ use Rattle.wm_run.specs.Down.{is_down}
 use Rattle.wm_run.specs.Grown.{grown, entries_between}
 use Rattle.wm_monitor.specs.Lists.{since}
 use Rattle.wm_monitor.specs.Monitor.{is_own}
-use Rattle.wm_run.specs.Session.{Answers, AnsweredBy, IsUncalled, OneCall, session_pass, start_call}
+use Rattle.wm_run.specs.Session.{Answers, AnsweredBy, IsUncalled, OneCall, start_call}
+use Rattle.wm_run.specs.Calls.{session_pass}
 use Rattle.wm_run.specs.Stopped.{AtMostOne, MayClose, IsStopped, StopsIn, Untouched, WritesSome}
 use Rattle.wm_run.specs.Taking.{TakesInput, TakesPiece}
 use Rattle.wm_run.specs.declared.halt.Halt.{Halt}
+use Rattle.wm_run.specs.declared.settings.Settings.{Settings}
 use Rattle.wm_run.specs.declared.halt.Halt.TheVariants.{InputFull}
 use Rattle.wm_run.proofs.Growing.{Continues, entries-none, entries-then}
 use Rattle.wm_run.proofs.Runs.{at_grown, session_parts, three_parts}
@@ -57,18 +60,18 @@ pub no_call_none : (h : History) → IsUncalled (entries_between h h)
 no_call_none h = ap (entries_of session_pass) (entries-none h)
 
 -- a session that stopped as it began
-abbrev pub stopped_begin : (o : History) (x w : Option (List ℕ)) (es : List Entry) → AtMostOne start_call es → TakesInput x x (λ bytes. IsStopped (logical_lines bytes) o es w w)
-stopped_begin o x w es (inl none) = record { bytes = []; taken = Takes-none x; done = inl (record { none = none; written = Grows-none w }) }
-stopped_begin o x w es (inr start) =
+abbrev pub stopped_begin : (settings : Settings) (o : History) (x w : Option (List ℕ)) (es : List Entry) → AtMostOne (start_call settings.ctl) es → TakesInput x x (λ bytes. IsStopped settings (logical_lines bytes) x o es w w)
+stopped_begin settings o x w es (inl none) = record { bytes = []; taken = Takes-none x; done = inl (record { none = none; written = Grows-none w }) }
+stopped_begin settings o x w es (inr start) =
     record {
       bytes = [];
       taken = Takes-none x;
-      done = inr (inl (record { first = es; middle = []; last = []; parts = sym (append-nil es) ∙ sym (append-nil (es ++ [])); start = start; stops = StopsIn-none (logical_lines []) (grown o es) w; uncalled = refl }));
+      done = inr (inl (record { first = es; middle = []; last = []; parts = sym (append-nil es) ∙ sym (append-nil (es ++ [])); start = start; stops = StopsIn-none settings.user (logical_lines []) (grown o es) w; uncalled = refl }));
     }
 
 -- one that stopped in its lines
-abbrev pub stopped_lines : (a b c : History) (x y u v : Option (List ℕ)) → Continues a b → Continues b c → OneCall start_call (entries_between a b) → TakesInput x y (λ bytes. StopsIn (logical_lines bytes) b (entries_between b c) u v) → TakesInput x y (λ bytes. IsStopped (logical_lines bytes) a (entries_between a c) u v)
-stopped_lines a b c x y u v ab bc start taken =
+abbrev pub stopped_lines : (settings : Settings) (a b c : History) (x y u v : Option (List ℕ)) → Continues a b → Continues b c → OneCall (start_call settings.ctl) (entries_between a b) → TakesInput x y (λ bytes. StopsIn settings.user (logical_lines bytes) b (entries_between b c) u v) → TakesInput x y (λ bytes. IsStopped settings (logical_lines bytes) y a (entries_between a c) u v)
+stopped_lines settings a b c x y u v ab bc start taken =
     let es = entries_between a b in
     let fs = entries_between b c in
     let lines = logical_lines taken.bytes in
@@ -81,14 +84,14 @@ stopped_lines a b c x y u v ab bc start taken =
         last = [];
         parts = entries-then a b c ab bc ∙ sym (append-nil (es ++ fs));
         start = start;
-        stops = at_grown (λ (o : History). StopsIn lines o fs u v) a b ab taken.done;
+        stops = at_grown (λ (o : History). StopsIn settings.user lines o fs u v) a b ab taken.done;
         uncalled = refl;
       }));
     }
 
 -- one that stopped behind them
-abbrev pub stopped_end : (a b c d : History) (x y u v : Option (List ℕ)) (f : Bool) → Continues a b → Continues b c → Continues c d → OneCall start_call (entries_between a b) → TakesInput x y (λ bytes. AnsweredBy (Answers (logical_lines bytes) b) (entries_between b c) u v f) → MayClose (is_down (entries_between b c)) c (entries_between c d) → TakesInput x y (λ bytes. IsStopped (logical_lines bytes) a (entries_between a d) u v)
-stopped_end a b c d x y u v f ab bc cd start taken (inl none) =
+abbrev pub stopped_end : (settings : Settings) (a b c d : History) (x y u v : Option (List ℕ)) (f : Bool) → Continues a b → Continues b c → Continues c d → OneCall (start_call settings.ctl) (entries_between a b) → TakesInput x y (λ bytes. AnsweredBy (Answers settings.user (logical_lines bytes) b) (entries_between b c) u v f) → MayClose (is_down (entries_between b c)) c (entries_between c d) → (is_down (entries_between b c) ≡ false → IsAtEnd y) → TakesInput x y (λ bytes. IsStopped settings (logical_lines bytes) y a (entries_between a d) u v)
+stopped_end settings a b c d x y u v f ab bc cd start taken (inl none) at_end =
     let fs = entries_between b c in
     let lines = logical_lines taken.bytes in
     record {
@@ -100,21 +103,21 @@ stopped_end a b c d x y u v f ab bc cd start taken (inl none) =
         last = entries_between c d;
         parts = three_parts a b c d ab bc cd;
         start = start;
-        stops = at_grown (λ (o : History). StopsIn lines o fs u v) a b ab (StopsIn-whole lines b fs u v f taken.done);
+        stops = at_grown (λ (o : History). StopsIn settings.user lines o fs u v) a b ab (StopsIn-whole lines b fs u v f taken.done);
         uncalled = none;
       }));
     }
-stopped_end a b c d x y u v f ab bc cd start taken (inr end) =
-    let whole = session_parts a b c d x y u v f ab bc cd start taken end in
+stopped_end settings a b c d x y u v f ab bc cd start taken (inr end) at_end =
+    let whole = session_parts settings a b c d x y u v f ab bc cd start taken end at_end in
     record { bytes = whole.bytes; taken = whole.taken; done = inr (inr (record { faulty = f; session = whole.done })) }
 
 -- a part of a piece was taken, and its next line's answer was cut short
-pub stops_piece : (a b : Part) (piece rest : List ℕ) (old mid new : History) (u v w : Option (List ℕ)) (f : Bool) → is_down (entries_between old mid) ≡ false → Continues old mid → Continues mid new → TakesPiece a piece b rest old (entries_between old mid) u v f → ((more : List ℕ) → StopsIn (lines_from b (rest ++ more)) mid (entries_between mid new) v w) → (more : List ℕ) → StopsIn (lines_from a (piece ++ more)) old (entries_between old new) u w
-stops_piece a b piece rest old mid new u v w f up ab bc h k more =
+pub stops_piece : {user : List ℕ} (a b : Part) (piece rest : List ℕ) (old mid new : History) (u v w : Option (List ℕ)) (f : Bool) → is_down (entries_between old mid) ≡ false → Continues old mid → Continues mid new → TakesPiece user a piece b rest old (entries_between old mid) u v f → ((more : List ℕ) → StopsIn user (lines_from b (rest ++ more)) mid (entries_between mid new) v w) → (more : List ℕ) → StopsIn user (lines_from a (piece ++ more)) old (entries_between old new) u w
+stops_piece {user} a b piece rest old mid new u v w f up ab bc h k more =
     let es = entries_between old mid in
     let fs = entries_between mid new in
-    let next = at_grown (λ (o : History). (bytes : List ℕ) → StopsIn (lines_from b (rest ++ bytes)) o fs v w) old mid ab k in
-    subst (λ (all : List Entry). StopsIn (lines_from a (piece ++ more)) old all u w) (sym (entries-then old mid new ab bc)) (stops_then a b piece rest old es fs u v w f up h next more)
+    let next = at_grown (λ (o : History). (bytes : List ℕ) → StopsIn user (lines_from b (rest ++ bytes)) o fs v w) old mid ab k in
+    subst (λ (all : List Entry). StopsIn user (lines_from a (piece ++ more)) old all u w) (sym (entries-then old mid new ab bc)) (stops_then a b piece rest old es fs u v w f up h next more)
 
 -- a read that gave no byte
 abbrev pub input_same : {P : List ℕ → Type 0} (x y z : Option (List ℕ)) (ys : List ℕ) → ys ≡ [] → TakesInput x y P → Takes y ys z → TakesInput x z P
@@ -123,46 +126,46 @@ input_same x y z ys none h more =
     record { bytes = h.bytes; taken = subst (λ (l : List ℕ). Takes x l z) whole (Takes-then x y z h.bytes ys h.taken more); done = h.done }
 
 -- nothing was read
-abbrev pub input_stops_none : (x : Option (List ℕ)) (history : History) (w : Option (List ℕ)) → TakesInput x x (λ bytes. StopsIn (logical_lines bytes) history (entries_between history history) w w)
-input_stops_none x history w = record { bytes = []; taken = Takes-none x; done = StopsIn-untouched (logical_lines []) history (entries_between history history) w w (Untouched-none history w) }
+abbrev pub input_stops_none : (user : List ℕ) (x : Option (List ℕ)) (history : History) (w : Option (List ℕ)) → TakesInput x x (λ bytes. StopsIn user (logical_lines bytes) history (entries_between history history) w w)
+input_stops_none user x history w = record { bytes = []; taken = Takes-none x; done = StopsIn-untouched user (logical_lines []) history (entries_between history history) w w (Untouched-none history w) }
 
 -- bytes that weren't looked at behind those whose lines were answered
-abbrev pub input_stops : (x y z : Option (List ℕ)) (b : Part) (o : History) (es : List Entry) (u v : Option (List ℕ)) (f : Bool) (ys : List ℕ) → TakesInput x y (λ bytes. TakesPiece fresh bytes b [] o es u v f) → Takes y ys z → TakesInput x z (λ bytes. StopsIn (logical_lines bytes) o es u v)
-input_stops x y z b o es u v f ys h more =
+abbrev pub input_stops : {user : List ℕ} (x y z : Option (List ℕ)) (b : Part) (o : History) (es : List Entry) (u v : Option (List ℕ)) (f : Bool) (ys : List ℕ) → TakesInput x y (λ bytes. TakesPiece user fresh bytes b [] o es u v f) → Takes y ys z → TakesInput x z (λ bytes. StopsIn user (logical_lines bytes) o es u v)
+input_stops {user} x y z b o es u v f ys h more =
     let xs = h.bytes in
     record {
       bytes = xs ++ ys;
       taken = Takes-then x y z xs ys h.taken more;
-      done = subst (λ (l : List (Option (List ℕ))). StopsIn l o es u v) (lines_from-fresh (xs ++ ys)) (stops_front fresh b xs [] o es u v f h.done ys);
+      done = subst (λ (l : List (Option (List ℕ))). StopsIn user l o es u v) (lines_from-fresh (xs ++ ys)) (stops_front fresh b xs [] o es u v f h.done ys);
     }
 
 -- a piece behind them in whose lines it stopped
-abbrev pub input_stops_in : (x y z : Option (List ℕ)) (b : Part) (old mid new : History) (u v w : Option (List ℕ)) (f : Bool) (ys : List ℕ) → is_down (entries_between old mid) ≡ false → Continues old mid → Continues mid new → TakesInput x y (λ bytes. TakesPiece fresh bytes b [] old (entries_between old mid) u v f) → Takes y ys z → ((more : List ℕ) → StopsIn (lines_from b (ys ++ more)) mid (entries_between mid new) v w) → TakesInput x z (λ bytes. StopsIn (logical_lines bytes) old (entries_between old new) u w)
-input_stops_in x y z b old mid new u v w f ys up ab bc h more k =
+abbrev pub input_stops_in : {user : List ℕ} (x y z : Option (List ℕ)) (b : Part) (old mid new : History) (u v w : Option (List ℕ)) (f : Bool) (ys : List ℕ) → is_down (entries_between old mid) ≡ false → Continues old mid → Continues mid new → TakesInput x y (λ bytes. TakesPiece user fresh bytes b [] old (entries_between old mid) u v f) → Takes y ys z → ((more : List ℕ) → StopsIn user (lines_from b (ys ++ more)) mid (entries_between mid new) v w) → TakesInput x z (λ bytes. StopsIn user (logical_lines bytes) old (entries_between old new) u w)
+input_stops_in {user} x y z b old mid new u v w f ys up ab bc h more k =
     let xs = h.bytes in
     let front = TakesPiece-more fresh b xs ys old _ u v f h.done in
     let lines = ap (lines_from fresh) (append-nil (xs ++ ys)) ∙ lines_from-fresh (xs ++ ys) in
     record {
       bytes = xs ++ ys;
       taken = Takes-then x y z xs ys h.taken more;
-      done = subst (λ (l : List (Option (List ℕ))). StopsIn l old (entries_between old new) u w) lines
+      done = subst (λ (l : List (Option (List ℕ))). StopsIn user l old (entries_between old new) u w) lines
           (stops_piece fresh b (xs ++ ys) ys old mid new u v w f up ab bc front k []);
     }
 
 -- the answer of the line that ends with the input was cut short
-abbrev pub input_stops_last : (x y : Option (List ℕ)) (b : Part) (old mid new : History) (u v w : Option (List ℕ)) (f : Bool) → is_down (entries_between old mid) ≡ false → Continues old mid → Continues mid new → TakesInput x y (λ bytes. TakesPiece fresh bytes b [] old (entries_between old mid) u v f) → StopsIn (lines_from b []) mid (entries_between mid new) v w → TakesInput x y (λ bytes. StopsIn (logical_lines bytes) old (entries_between old new) u w)
-input_stops_last x y b old mid new u v w f up ab bc h k =
+abbrev pub input_stops_last : {user : List ℕ} (x y : Option (List ℕ)) (b : Part) (old mid new : History) (u v w : Option (List ℕ)) (f : Bool) → is_down (entries_between old mid) ≡ false → Continues old mid → Continues mid new → TakesInput x y (λ bytes. TakesPiece user fresh bytes b [] old (entries_between old mid) u v f) → StopsIn user (lines_from b []) mid (entries_between mid new) v w → TakesInput x y (λ bytes. StopsIn user (logical_lines bytes) old (entries_between old new) u w)
+input_stops_last {user} x y b old mid new u v w f up ab bc h k =
     let xs = h.bytes in
     let d = h.done in
     let es = entries_between old mid in
     let fs = entries_between mid new in
     let lines = ap logical_lines (sym (append-nil xs)) ∙ TakesPiece-lines b xs [] old es u v f d in
-    let last = at_grown (λ (o : History). StopsIn (lines_from b []) o fs v w) old mid ab k in
+    let last = at_grown (λ (o : History). StopsIn user (lines_from b []) o fs v w) old mid ab k in
     record {
       bytes = xs;
       taken = h.taken;
-      done = subst (λ (all : List Entry). StopsIn (logical_lines xs) old all u w) (sym (entries-then old mid new ab bc))
-          (subst (λ (l : List (Option (List ℕ))). StopsIn l old (es ++ fs) u w) (sym lines)
+      done = subst (λ (all : List Entry). StopsIn user (logical_lines xs) old all u w) (sym (entries-then old mid new ab bc))
+          (subst (λ (l : List (Option (List ℕ))). StopsIn user l old (es ++ fs) u w) (sym lines)
           (StopsIn-after d.lines (lines_from b []) old es fs u v w f up d.answered last));
     }
 

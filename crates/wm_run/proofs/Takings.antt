@@ -28,19 +28,19 @@ goes_on : (own others : List Entry) (Rest : List Entry → List ℕ → Bool →
 goes_on own others Rest more later up h = subst (λ (t : Bool). GoesOn t Rest others more later) up h
 
 -- answers to lines that leave the power up, and then to more lines
-pub Answers-append : (xs ys : List (Option (List ℕ))) (o : History) (es fs : List Entry) (bs cs : List ℕ) (f g : Bool) → is_down es ≡ false → Answers xs o es bs f → Answers ys (grown o es) fs cs g → Answers (xs ++ ys) o (es ++ fs) (bs ++ cs) (f || g)
-Answers-append [] ys o es fs bs cs f g up h k =
+pub Answers-append : (user : List ℕ) (xs ys : List (Option (List ℕ))) (o : History) (es fs : List Entry) (bs cs : List ℕ) (f g : Bool) → is_down es ≡ false → Answers user xs o es bs f → Answers user ys (grown o es) fs cs g → Answers user (xs ++ ys) o (es ++ fs) (bs ++ cs) (f || g)
+Answers-append user [] ys o es fs bs cs f g up h k =
     let same : grown o es ≡ o = ap (grown o) h.none ∙ grown-none o in
-    let rest = subst (λ (x : History). Answers ys x fs cs g) same k in
-    let P : List Entry → List ℕ → Bool → Type 0 = λ e b t. Answers ys o (e ++ fs) (b ++ cs) (t || g) in
+    let rest = subst (λ (x : History). Answers user ys x fs cs g) same k in
+    let P : List Entry → List ℕ → Bool → Type 0 = λ e b t. Answers user ys o (e ++ fs) (b ++ cs) (t || g) in
     subst (λ (e : List Entry). P e bs f) (sym h.none) (subst (λ (b : List ℕ). P [] b f) (sym h.says) (subst (λ (t : Bool). P [] [] t) (sym h.fault) rest))
-Answers-append (x ∷ xs) ys o es fs bs cs f g up h k =
+Answers-append user (x ∷ xs) ys o es fs bs cs f g up h k =
     let same : grown o es ≡ grown (grown o h.own) h.others = ap (grown o) h.entries ∙ sym (grown-then o h.own h.others) in
-    let rest = subst (λ (x : History). Answers ys x fs cs g) same k in
+    let rest = subst (λ (x : History). Answers user ys x fs cs g) same k in
     let first : is_down h.own ≡ false = up_first h.own h.others es h.entries up in
     let later : is_down h.others ≡ false = up_then h.own h.others es h.entries up in
-    let before = goes_on h.own h.others (Answers xs (grown o h.own)) h.more h.later first h.rest in
-    let both = Answers-append xs ys (grown o h.own) h.others fs h.more cs h.later g later before rest in
+    let before = goes_on h.own h.others (Answers user xs (grown o h.own)) h.more h.later first h.rest in
+    let both = Answers-append user xs ys (grown o h.own) h.others fs h.more cs h.later g later before rest in
     record {
       own = h.own;
       others = h.others ++ fs;
@@ -52,15 +52,15 @@ Answers-append (x ∷ xs) ys o es fs bs cs f g up h k =
       text = ap (λ (b : List ℕ). b ++ cs) h.text ∙ append_assoc h.said h.more cs;
       fault = ap (λ (t : Bool). t || g) h.fault ∙ or_assoc h.wrong h.later g;
       first = h.first;
-      rest = subst (λ (t : Bool). GoesOn t (Answers (xs ++ ys) (grown o h.own)) (h.others ++ fs) (h.more ++ cs) (h.later || g)) (sym first) both;
+      rest = subst (λ (t : Bool). GoesOn t (Answers user (xs ++ ys) (grown o h.own)) (h.others ++ fs) (h.more ++ cs) (h.later || g)) (sym first) both;
     }
 
 -- answers to lines that put the power down are answers to any more lines
-pub Answers-down : (xs ys : List (Option (List ℕ))) (o : History) (es : List Entry) (bs : List ℕ) (f : Bool) → is_down es ≡ true → Answers xs o es bs f → Answers (xs ++ ys) o es bs f
-Answers-down [] ys o es bs f down h = absurd (false≢true (sym (ap is_down h.none) ∙ down))
-Answers-down (x ∷ xs) ys o es bs f down h = go (λ later before. Answers-down xs ys (grown o h.own) h.others h.more h.later later before) (is_down h.own) refl
+pub Answers-down : (user : List ℕ) (xs ys : List (Option (List ℕ))) (o : History) (es : List Entry) (bs : List ℕ) (f : Bool) → is_down es ≡ true → Answers user xs o es bs f → Answers user (xs ++ ys) o es bs f
+Answers-down user [] ys o es bs f down h = absurd (false≢true (sym (ap is_down h.none) ∙ down))
+Answers-down user (x ∷ xs) ys o es bs f down h = go (λ later before. Answers-down user xs ys (grown o h.own) h.others h.more h.later later before) (is_down h.own) refl
   where
-    with_rest : GoesOn (is_down h.own) (Answers (xs ++ ys) (grown o h.own)) h.others h.more h.later → Answers ((x ∷ xs) ++ ys) o es bs f
+    with_rest : GoesOn (is_down h.own) (Answers user (xs ++ ys) (grown o h.own)) h.others h.more h.later → Answers user ((x ∷ xs) ++ ys) o es bs f
     with_rest rest =
         record {
           own = h.own;
@@ -76,44 +76,44 @@ Answers-down (x ∷ xs) ys o es bs f down h = go (λ later before. Answers-down 
           rest = rest;
         }
 
-    go : (is_down h.others ≡ true → Answers xs (grown o h.own) h.others h.more h.later → Answers (xs ++ ys) (grown o h.own) h.others h.more h.later) → (t : Bool) → is_down h.own ≡ t → Answers ((x ∷ xs) ++ ys) o es bs f
+    go : (is_down h.others ≡ true → Answers user xs (grown o h.own) h.others h.more h.later → Answers user (xs ++ ys) (grown o h.own) h.others h.more h.later) → (t : Bool) → is_down h.own ≡ t → Answers user ((x ∷ xs) ++ ys) o es bs f
     go again true own =
-        let none = ends_down h.own h.others (Answers xs (grown o h.own)) h.more h.later own h.rest in
-        with_rest (subst (λ (t : Bool). GoesOn t (Answers (xs ++ ys) (grown o h.own)) h.others h.more h.later) (sym own) none)
+        let none = ends_down h.own h.others (Answers user xs (grown o h.own)) h.more h.later own h.rest in
+        with_rest (subst (λ (t : Bool). GoesOn t (Answers user (xs ++ ys) (grown o h.own)) h.others h.more h.later) (sym own) none)
     go again false own =
         let others : is_down h.others ≡ true = sym (down_then h.own h.others es h.entries own) ∙ down in
-        let before = goes_on h.own h.others (Answers xs (grown o h.own)) h.more h.later own h.rest in
+        let before = goes_on h.own h.others (Answers user xs (grown o h.own)) h.more h.later own h.rest in
         let more = again others before in
-        with_rest (subst (λ (t : Bool). GoesOn t (Answers (xs ++ ys) (grown o h.own)) h.others h.more h.later) (sym own) more)
+        with_rest (subst (λ (t : Bool). GoesOn t (Answers user (xs ++ ys) (grown o h.own)) h.others h.more h.later) (sym own) more)
 
 -- the same with what was written
-pub AnsweredBy-append : (xs ys : List (Option (List ℕ))) (o : History) (es fs : List Entry) (a b c : Option (List ℕ)) (f g : Bool) → is_down es ≡ false → AnsweredBy (Answers xs o) es a b f → AnsweredBy (Answers ys (grown o es)) fs b c g → AnsweredBy (Answers (xs ++ ys) o) (es ++ fs) a c (f || g)
-AnsweredBy-append xs ys o es fs a b c f g up h k =
+pub AnsweredBy-append : (user : List ℕ) (xs ys : List (Option (List ℕ))) (o : History) (es fs : List Entry) (a b c : Option (List ℕ)) (f g : Bool) → is_down es ≡ false → AnsweredBy (Answers user xs o) es a b f → AnsweredBy (Answers user ys (grown o es)) fs b c g → AnsweredBy (Answers user (xs ++ ys) o) (es ++ fs) a c (f || g)
+AnsweredBy-append user xs ys o es fs a b c f g up h k =
     record {
       bytes = h.bytes ++ k.bytes;
-      answers = Answers-append xs ys o es fs h.bytes k.bytes f g up h.answers k.answers;
+      answers = Answers-append user xs ys o es fs h.bytes k.bytes f g up h.answers k.answers;
       written = Grows-then a b c h.bytes k.bytes h.written k.written;
     }
 
-pub AnsweredBy-down : (xs ys : List (Option (List ℕ))) (o : History) (es : List Entry) (a b : Option (List ℕ)) (f : Bool) → is_down es ≡ true → AnsweredBy (Answers xs o) es a b f → AnsweredBy (Answers (xs ++ ys) o) es a b f
-AnsweredBy-down xs ys o es a b f down h = record { bytes = h.bytes; answers = Answers-down xs ys o es h.bytes f down h.answers; written = h.written }
+pub AnsweredBy-down : (user : List ℕ) (xs ys : List (Option (List ℕ))) (o : History) (es : List Entry) (a b : Option (List ℕ)) (f : Bool) → is_down es ≡ true → AnsweredBy (Answers user xs o) es a b f → AnsweredBy (Answers user (xs ++ ys) o) es a b f
+AnsweredBy-down user xs ys o es a b f down h = record { bytes = h.bytes; answers = Answers-down user xs ys o es h.bytes f down h.answers; written = h.written }
 
 -- no line
-pub AnsweredBy-none : (o : History) (w : Option (List ℕ)) → AnsweredBy (Answers [] o) [] w w false
-AnsweredBy-none o w = record { bytes = []; answers = record { none = refl; says = refl; fault = refl }; written = Grows-none w }
+pub AnsweredBy-none : (user : List ℕ) (o : History) (w : Option (List ℕ)) → AnsweredBy (Answers user [] o) [] w w false
+AnsweredBy-none user o w = record { bytes = []; answers = record { none = refl; says = refl; fault = refl }; written = Grows-none w }
 
 or_false : (f : Bool) → f ≡ (f || false)
 or_false true = refl
 or_false false = refl
 
 -- nothing more was said, however the first line left the power
-nothing_more : (t : Bool) (o : History) → GoesOn t (Answers [] o) [] [] false
-nothing_more true o = record { none = refl; says = refl; fault = refl }
-nothing_more false o = record { none = refl; says = refl; fault = refl }
+nothing_more : (user : List ℕ) (t : Bool) (o : History) → GoesOn t (Answers user [] o) [] [] false
+nothing_more user true o = record { none = refl; says = refl; fault = refl }
+nothing_more user false o = record { none = refl; says = refl; fault = refl }
 
 -- one line
-pub Answers-one : (line : Option (List ℕ)) (o : History) (es : List Entry) (bytes : List ℕ) (f : Bool) → AnswersLine line o es bytes f → Answers (line ∷ []) o es bytes f
-Answers-one line o es bytes f h =
+pub Answers-one : {user : List ℕ} (line : Option (List ℕ)) (o : History) (es : List Entry) (bytes : List ℕ) (f : Bool) → AnswersLine user line o es bytes f → Answers user (line ∷ []) o es bytes f
+Answers-one {user} line o es bytes f h =
     record {
       own = es;
       others = [];
@@ -125,28 +125,28 @@ Answers-one line o es bytes f h =
       text = sym (append-nil bytes);
       fault = or_false f;
       first = h;
-      rest = nothing_more (is_down es) (grown o es);
+      rest = nothing_more user (is_down es) (grown o es);
     }
 
-pub AnsweredBy-one : (line : Option (List ℕ)) (o : History) (es : List Entry) (a b : Option (List ℕ)) (f : Bool) → AnsweredBy (AnswersLine line o) es a b f → AnsweredBy (Answers (line ∷ []) o) es a b f
-AnsweredBy-one line o es a b f h = record { bytes = h.bytes; answers = Answers-one line o es h.bytes f h.answers; written = h.written }
+pub AnsweredBy-one : {user : List ℕ} (line : Option (List ℕ)) (o : History) (es : List Entry) (a b : Option (List ℕ)) (f : Bool) → AnsweredBy (AnswersLine user line o) es a b f → AnsweredBy (Answers user (line ∷ []) o) es a b f
+AnsweredBy-one {user} line o es a b f h = record { bytes = h.bytes; answers = Answers-one line o es h.bytes f h.answers; written = h.written }
 
 -- nothing taken: the lines go on as they would have
-pub TakesPiece-none : (a b : Part) (piece : List ℕ) (o : History) (w : Option (List ℕ)) → ((more : List ℕ) → lines_from a more ≡ lines_from b more) → TakesPiece a piece b piece o [] w w false
-TakesPiece-none a b piece o w same = record { lines = []; split = λ more. same (piece ++ more); answered = AnsweredBy-none o w }
+pub TakesPiece-none : (user : List ℕ) (a b : Part) (piece : List ℕ) (o : History) (w : Option (List ℕ)) → ((more : List ℕ) → lines_from a more ≡ lines_from b more) → TakesPiece user a piece b piece o [] w w false
+TakesPiece-none user a b piece o w same = record { lines = []; split = λ more. same (piece ++ more); answered = AnsweredBy-none user o w }
 
 -- a part of a piece, and then some of the rest
-pub TakesPiece-then : (a b c : Part) (piece rest last : List ℕ) (o : History) (es fs : List Entry) (u v w : Option (List ℕ)) (f g : Bool) → is_down es ≡ false → TakesPiece a piece b rest o es u v f → TakesPiece b rest c last (grown o es) fs v w g → TakesPiece a piece c last o (es ++ fs) u w (f || g)
-TakesPiece-then a b c piece rest last o es fs u v w f g up h k =
+pub TakesPiece-then : {user : List ℕ} (a b c : Part) (piece rest last : List ℕ) (o : History) (es fs : List Entry) (u v w : Option (List ℕ)) (f g : Bool) → is_down es ≡ false → TakesPiece user a piece b rest o es u v f → TakesPiece user b rest c last (grown o es) fs v w g → TakesPiece user a piece c last o (es ++ fs) u w (f || g)
+TakesPiece-then {user} a b c piece rest last o es fs u v w f g up h k =
     record {
       lines = h.lines ++ k.lines;
       split = λ more. h.split more ∙ (ap (λ (l : List (Option (List ℕ))). h.lines ++ l) (k.split more) ∙ sym (append_assoc h.lines k.lines (lines_from c (last ++ more))));
-      answered = AnsweredBy-append h.lines k.lines o es fs u v w f g up h.answered k.answered;
+      answered = AnsweredBy-append user h.lines k.lines o es fs u v w f g up h.answered k.answered;
     }
 
 -- a whole piece was taken, and another follows
-pub TakesPiece-more : (a b : Part) (xs ys : List ℕ) (o : History) (es : List Entry) (u v : Option (List ℕ)) (f : Bool) → TakesPiece a xs b [] o es u v f → TakesPiece a (xs ++ ys) b ys o es u v f
-TakesPiece-more a b xs ys o es u v f h =
+pub TakesPiece-more : {user : List ℕ} (a b : Part) (xs ys : List ℕ) (o : History) (es : List Entry) (u v : Option (List ℕ)) (f : Bool) → TakesPiece user a xs b [] o es u v f → TakesPiece user a (xs ++ ys) b ys o es u v f
+TakesPiece-more {user} a b xs ys o es u v f h =
     record {
       lines = h.lines;
       split = λ more. ap (lines_from a) (append_assoc xs ys more) ∙ h.split (ys ++ more);
@@ -154,11 +154,11 @@ TakesPiece-more a b xs ys o es u v f h =
     }
 
 -- the lines of an input that was taken from its start, whose last part holds what doesn't end
-pub TakesPiece-lines : (b : Part) (xs ys : List ℕ) (o : History) (es : List Entry) (u v : Option (List ℕ)) (f : Bool) → (h : TakesPiece fresh xs b [] o es u v f) → logical_lines (xs ++ ys) ≡ h.lines ++ lines_from b ys
-TakesPiece-lines b xs ys o es u v f h = sym (lines_from-fresh (xs ++ ys)) ∙ h.split ys
+pub TakesPiece-lines : {user : List ℕ} (b : Part) (xs ys : List ℕ) (o : History) (es : List Entry) (u v : Option (List ℕ)) (f : Bool) → (h : TakesPiece user fresh xs b [] o es u v f) → logical_lines (xs ++ ys) ≡ h.lines ++ lines_from b ys
+TakesPiece-lines {user} b xs ys o es u v f h = sym (lines_from-fresh (xs ++ ys)) ∙ h.split ys
 
 -- where the power went down, whatever follows what was taken isn't answered
-pub TakesPiece-down : (b : Part) (xs rest : List ℕ) (o : History) (es : List Entry) (u v : Option (List ℕ)) (f : Bool) → is_down es ≡ true → TakesPiece fresh xs b rest o es u v f → AnsweredBy (Answers (logical_lines xs) o) es u v f
-TakesPiece-down b xs rest o es u v f down h =
+pub TakesPiece-down : {user : List ℕ} (b : Part) (xs rest : List ℕ) (o : History) (es : List Entry) (u v : Option (List ℕ)) (f : Bool) → is_down es ≡ true → TakesPiece user fresh xs b rest o es u v f → AnsweredBy (Answers user (logical_lines xs) o) es u v f
+TakesPiece-down {user} b xs rest o es u v f down h =
     let whole : logical_lines xs ≡ h.lines ++ lines_from b (rest ++ []) = sym (lines_from-fresh xs) ∙ (ap (lines_from fresh) (sym (append-nil xs)) ∙ h.split []) in
-    subst (λ (l : List (Option (List ℕ))). AnsweredBy (Answers l o) es u v f) (sym whole) (AnsweredBy-down h.lines (lines_from b (rest ++ [])) o es u v f down h.answered)
+    subst (λ (l : List (Option (List ℕ))). AnsweredBy (Answers user l o) es u v f) (sym whole) (AnsweredBy-down user h.lines (lines_from b (rest ++ [])) o es u v f down h.answered)

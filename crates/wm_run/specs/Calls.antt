@@ -1,8 +1,11 @@
--- A call of the session.
+-- The session's pass, and a call of it.
 use Rattle.std.specs.Prelude.{◌≡◌, ℕ}
 use Rattle.wm_law.specs.declared.call.Call.{Call}
 use Rattle.wm_journal.specs.History.{History, with_call}
-use Rattle.wm_run.specs.Session.{session_pass}
+
+-- the pass of the session
+abbrev pub session_pass : ℕ
+session_pass = 0
 
 -- the history has the call's entry at its end
 pub record Called (old : History) (c : Call) (new : History) : Type 0 where

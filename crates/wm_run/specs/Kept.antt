@@ -1,5 +1,5 @@
 -- What a run makes of the rows that it finds, and leaves of them.
-use Rattle.std.specs.Prelude.{◌≡◌, ◌⊎◌, ℕ, ◌<◌, ◌≤◌, List, [], Option, Some, IfSome}
+use Rattle.std.specs.Prelude.{◌≡◌, ◌⊎◌, ℕ, ℤ, ◌<◌, ◌≤◌, List, [], Option, Some, IfSome}
 use Rattle.wm_journal.specs.Trail.{HasTrail}
 use Rattle.wm_law.specs.History.{after, IsLegal}
 use Rattle.wm_law.specs.Limits.{KeepsLimits}
@@ -11,20 +11,19 @@ use Rattle.wm_traits.specs.declared.fault.KeepFault.{KeepFault}
 use Rattle.wm_traits.specs.declared.fault.KeepFault.TheVariants as keep
 use Rattle.wm_traits.specs.declared.row.Row.{Row}
 use Rattle.wm_monitor.specs.Idle.{NoneIsIdle}
-use Rattle.wm_run.specs.Run.{run_offset}
 use Rattle.wm_journal.specs.Keeping.{Telling, IsLeft}
 use Rattle.wm_journal.specs.Stored.{HasTables}
 use Rattle.wm_journal.specs.declared.open_fault.OpenFault.{OpenFault}
 use Rattle.wm_journal.specs.declared.open_fault.OpenFault.TheVariants as open_fault
 use Rattle.wm_tables.specs.Restart.{IsBad, IsRestart}
 
--- a run that opened: its history is one from a state of the rows that it found
-pub record HasOpened (status : ℕ) (log : List Entry) (old new : Telling) (Came : State → Type 0) : Type 0 where
+-- a run that opened: its history is one from a state of the rows that it found, where local time is so far ahead of UTC
+pub record HasOpened (offset : ℤ) (status : ℕ) (log : List Entry) (old new : Telling) (Came : State → Type 0) : Type 0 where
   pub opened : State
   pub rows : List Row
   -- where the tables are told to the end, these are the rows that were told
   pub found : IfSome new.tables (λ _. old.tables ≡ Some rows)
-  pub restart : IsRestart run_offset rows opened
+  pub restart : IsRestart offset rows opened
   pub legal : IsLegal opened log
   pub limits : KeepsLimits opened log
   pub order : KeepsOrder opened log
@@ -44,12 +43,12 @@ pub record HasNotOpened (status : ℕ) (log : List Entry) (old new : Telling) (C
   pub came : (s : State) → Came s
 
 -- the one or the other
-abbrev pub HasHistory : ℕ → List Entry → Telling → Telling → (State → Type 0) → Type 0
-HasHistory status log old new Came = HasOpened status log old new Came ⊎ HasNotOpened status log old new Came
+abbrev pub HasHistory : ℤ → ℕ → List Entry → Telling → Telling → (State → Type 0) → Type 0
+HasHistory offset status log old new Came = HasOpened offset status log old new Came ⊎ HasNotOpened status log old new Came
 
--- where the tables are told, they are as they were, and one of their rows isn't good
-abbrev pub HasBadRow : Option (List Row) → Option (List Row) → Type 0
-HasBadRow old new = IfSome new (λ rows. (old ≡ Some rows) × ((n : ℕ) × IsBad run_offset rows n))
+-- where the tables are told, they are as they were, and one of their rows isn't good where local time is so far ahead of UTC
+abbrev pub HasBadRow : ℤ → Option (List Row) → Option (List Row) → Type 0
+HasBadRow offset old new = IfSome new (λ rows. (old ≡ Some rows) × ((n : ℕ) × IsBad offset rows n))
 
 -- the status of a run whose store gave no keeper
 abbrev pub store_status : KeepFault → ℕ

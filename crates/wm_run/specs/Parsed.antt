@@ -1,5 +1,5 @@
 -- What a logical line comes to.
-use Rattle.std.specs.Prelude.{◌≡◌, ℕ, true, false, List, Result, Ok, Err, codes, ⊤}
+use Rattle.std.specs.Prelude.{◌≡◌, ℕ, true, false, List, Result, Ok, Err, ⊤}
 use Rattle.wm_clwords.specs.Faults.{IsCommand, Stands}
 use Rattle.wm_clwords.specs.Items.{list_marks}
 use Rattle.wm_clwords.specs.declared.tree.Item.{Item}
@@ -14,24 +14,20 @@ use Rattle.wm_listing.specs.declared.line_fault.LineFault.TheVariants.{Cl, Cm}
 use Rattle.wm_run.specs.declared.parsed.Parsed.{Parsed}
 use Rattle.wm_run.specs.declared.parsed.Parsed.TheVariants.{Fault, NotBuilt, Read, Call}
 
--- the user of the session
-abbrev pub session_user : List ℕ
-session_user = codes "QUSER"
-
--- the text spells a command, of which the command table says this
-pub record IsTabled (text : List ℕ) (said : Result Line CmdFault) : Type 0 where
+-- the text spells a command, of which the command table says this for a user
+pub record IsTabled (user text : List ℕ) (said : Result Line CmdFault) : Type 0 where
   pub name : List ℕ
   pub items : List Item
   pub command : IsCommand text name (list_marks items)
-  pub tabled : line_of session_user name items ≡ said
+  pub tabled : line_of user name items ≡ said
 
 -- a fault of the text, a fault of its command, a changing command that isn't built, a reading command, or a call
-abbrev pub Parses : List ℕ → Parsed → Type 0
-Parses text (Fault (Cl fault)) = Stands fault text
-Parses text (Fault (Cm fault)) = IsTabled text (Err fault)
-Parses text NotBuilt = (c : Command) × IsTabled text (Ok (line.Change c)) × (is_built c ≡ false)
-Parses text (Read ask) = IsTabled text (Ok (line.Read ask))
-Parses text (Call c) = IsTabled text (Ok (line.Change c)) × (is_built c ≡ true)
+abbrev pub Parses : (user text : List ℕ) → Parsed → Type 0
+Parses user text (Fault (Cl fault)) = Stands fault text
+Parses user text (Fault (Cm fault)) = IsTabled user text (Err fault)
+Parses user text NotBuilt = (c : Command) × IsTabled user text (Ok (line.Change c)) × (is_built c ≡ false)
+Parses user text (Read ask) = IsTabled user text (Ok (line.Read ask))
+Parses user text (Call c) = IsTabled user text (Ok (line.Change c)) × (is_built c ≡ true)
 
 -- a line's command keeps its forms and ranges
 abbrev pub IsFitLine : Line → Type 0

@@ -1,5 +1,5 @@
 -- What a whole run answers for.
-use Rattle.std.specs.Prelude.{◌≡◌, ℕ, ℤ, pos, ◌≤◌, Bool, true, false, List, [], ◌∷◌, length, Option, Result, Ok, Err, count_by, nat_eq}
+use Rattle.std.specs.Prelude.{◌≡◌, ℕ, ◌≤◌, Bool, true, false, List, [], ◌∷◌, length, Option, Result, Ok, Err, count_by, nat_eq}
 use Rattle.std.specs.List.{list_any}
 use Rattle.wm_base.specs.declared.job.Asked.{Asked}
 use Rattle.wm_law.specs.declared.call.Entry.{Entry}
@@ -12,10 +12,6 @@ use Rattle.wm_monitor.specs.Monitor.{RisesBy, as_reports, reported, is_spawner_f
 use Rattle.wm_run.specs.Halt.{status_of}
 use Rattle.wm_monitor.specs.declared.report.Report.{Report}
 use Rattle.wm_run.specs.declared.halt.Halt.{Halt}
-
--- local time of a run, in minutes ahead of UTC
-abbrev pub run_offset : ℤ
-run_offset = pos 0
 
 -- the status of a session's end: 0, or 1 where a line got a fault or a refusal
 abbrev pub ended_status : Result Bool Halt → ℕ

@@ -7,7 +7,7 @@ use Rattle.wm_traits.specs.declared.spawner.Told.{Told}
 use Rattle.wm_monitor.specs.declared.monitor.Monitor.{Monitor}
 use Rattle.wm_monitor.specs.Monitor.{MonitorView, Proceeds, is_own}
 use Rattle.wm_monitor.specs.View.{view}
-use Rattle.wm_run.specs.Session.{session_pass}
+use Rattle.wm_run.specs.Calls.{session_pass}
 
 -- an entry of the session, or a monitor's call of the monitor
 abbrev pub is_of_run : Entry → Bool

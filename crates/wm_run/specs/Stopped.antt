@@ -6,6 +6,7 @@ use Rattle.wm_journal.specs.History.{History}
 use Rattle.wm_traits.specs.Told.{Grows}
 use Rattle.wm_run.specs.Grown.{grown}
 use Rattle.wm_run.specs.Session.{Answers, Closes, IsSession, IsUncalled, OneCall, start_call}
+use Rattle.wm_run.specs.declared.settings.Settings.{Settings}
 
 -- of what a relation says was due, some bytes were written
 pub record WritesSome (Due : List Entry → List ℕ → Bool → Type 0) (es : List Entry) (before now : Option (List ℕ)) : Type 0 where
@@ -25,11 +26,11 @@ abbrev pub IsCutShort : (List Entry → List ℕ → Bool → Type 0) → List E
 IsCutShort Due es before now = Untouched es before now ⊎ WritesSome Due es before now
 
 -- the first of the lines were called and answered, though not all of the answers' bytes were written
-pub record StopsIn (lines : List (Option (List ℕ))) (h : History) (es : List Entry) (before now : Option (List ℕ)) : Type 0 where
+pub record StopsIn (user : List ℕ) (lines : List (Option (List ℕ))) (h : History) (es : List Entry) (before now : Option (List ℕ)) : Type 0 where
   pub answered : List (Option (List ℕ))
   pub others : List (Option (List ℕ))
   pub split : lines ≡ answered ++ others
-  pub some : WritesSome (Answers answered h) es before now
+  pub some : WritesSome (Answers user answered h) es before now
 
 -- a call was made, or nothing was
 abbrev pub AtMostOne : Call → List Entry → Type 0
@@ -40,20 +41,20 @@ abbrev pub MayClose : Bool → History → List Entry → Type 0
 MayClose down h es = IsUncalled es ⊎ Closes down h es
 
 -- a session that was begun, and stopped in its lines or before the end of the input
-pub record StopsInside (lines : List (Option (List ℕ))) (h : History) (es : List Entry) (before now : Option (List ℕ)) : Type 0 where
+pub record StopsInside (settings : Settings) (lines : List (Option (List ℕ))) (h : History) (es : List Entry) (before now : Option (List ℕ)) : Type 0 where
   pub first : List Entry
   pub middle : List Entry
   pub last : List Entry
   pub parts : es ≡ first ++ middle ++ last
-  pub start : OneCall start_call first
-  pub stops : StopsIn lines (grown h first) middle before now
+  pub start : OneCall (start_call settings.ctl) first
+  pub stops : StopsIn settings.user lines (grown h first) middle before now
   pub uncalled : IsUncalled last
 
 -- a session that was ended
-pub record IsEnded (lines : List (Option (List ℕ))) (h : History) (es : List Entry) (before now : Option (List ℕ)) : Type 0 where
+pub record IsEnded (settings : Settings) (lines : List (Option (List ℕ))) (left : Option (List ℕ)) (h : History) (es : List Entry) (before now : Option (List ℕ)) : Type 0 where
   pub faulty : Bool
-  pub session : IsSession lines h es before now faulty
+  pub session : IsSession settings lines left h es before now faulty
 
 -- a session that stopped: before it was begun, in its lines, or once it was ended
-abbrev pub IsStopped : List (Option (List ℕ)) → History → List Entry → Option (List ℕ) → Option (List ℕ) → Type 0
-IsStopped lines h es before now = Untouched es before now ⊎ (StopsInside lines h es before now ⊎ IsEnded lines h es before now)
+abbrev pub IsStopped : Settings → List (Option (List ℕ)) → Option (List ℕ) → History → List Entry → Option (List ℕ) → Option (List ℕ) → Type 0
+IsStopped settings lines left h es before now = Untouched es before now ⊎ (StopsInside settings lines h es before now ⊎ IsEnded settings lines left h es before now)

@@ -9,16 +9,16 @@ use Rattle.wm_run.specs.declared.halt.Halt.{Halt}
 use Rattle.wm_run.specs.declared.halt.Halt.TheVariants.{ReadFault, InputFull}
 
 -- of a piece a rest is left, and the lines that ended were answered: however the input goes on, its lines are these and those that the rest gives
-pub record TakesPiece (before : Part) (piece : List ℕ) (after : Part) (rest : List ℕ) (h : History) (es : List Entry) (written_before written_now : Option (List ℕ)) (faulty : Bool) : Type 0 where
+pub record TakesPiece (user : List ℕ) (before : Part) (piece : List ℕ) (after : Part) (rest : List ℕ) (h : History) (es : List Entry) (written_before written_now : Option (List ℕ)) (faulty : Bool) : Type 0 where
   pub lines : List (Option (List ℕ))
   pub split : (more : List ℕ) → lines_from before (piece ++ more) ≡ lines ++ lines_from after (rest ++ more)
-  pub answered : AnsweredBy (Answers lines h) es written_before written_now faulty
+  pub answered : AnsweredBy (Answers user lines h) es written_before written_now faulty
 
 -- a piece was taken whole, or up to the line that put the power down
-pub record TakesUpTo (down : Bool) (before : Part) (piece : List ℕ) (after : Part) (h : History) (es : List Entry) (written_before written_now : Option (List ℕ)) (faulty : Bool) : Type 0 where
+pub record TakesUpTo (user : List ℕ) (down : Bool) (before : Part) (piece : List ℕ) (after : Part) (h : History) (es : List Entry) (written_before written_now : Option (List ℕ)) (faulty : Bool) : Type 0 where
   pub rest : List ℕ
   pub whole : down ≡ false → rest ≡ []
-  pub taken : TakesPiece before piece after rest h es written_before written_now faulty
+  pub taken : TakesPiece user before piece after rest h es written_before written_now faulty
 
 -- some bytes were taken off the input, and so was done with them
 pub record TakesInput (left_before left_now : Option (List ℕ)) (Done : List ℕ → Type 0) : Type 0 where

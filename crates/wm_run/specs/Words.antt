@@ -1,21 +1,31 @@
--- The words of the command line.
-use Rattle.std.specs.Prelude.{ℕ, ◌==◌, nat_eq, Bool, false, not, ◌&&◌, List, [], ◌∷◌, Option, Some, None, codes, is_some, if◌then◌else◌}
-use Rattle.std.specs.Cmp.Lexicographic.{pointwise}
+-- The words of the command line, and what a run goes by.
+use Rattle.std.specs.Prelude.{ℕ, Bool, List, Option, Some, None, is_some, codes, pos}
+use Rattle.wm_desc.specs.Opening.{qbatch}
+use Rattle.wm_plan.specs.Plans.{plan_of}
+use Rattle.wm_plan.specs.declared.plan.Plan.{Plan}
+use Rattle.wm_plan.specs.declared.plan.Plan.TheVariants.{Run, Drill}
+use Rattle.wm_plan.specs.declared.plan.RunPlan.{RunPlan}
+use Rattle.wm_run.specs.declared.settings.Settings.{Settings}
 
--- a path isn't empty and doesn't begin with the sign of an option
-abbrev pub is_path : List ℕ → Bool
-is_path [] = false
-is_path (byte ∷ bytes) = not (byte == 45)
+-- the plan of a run, where it is one
+abbrev pub of_run : Option Plan → Option RunPlan
+of_run None = None
+of_run (Some (Run plan)) = Some plan
+of_run (Some (Drill plan)) = None
 
--- the path of a store: `:memory:` for the one word `run`, and the last of the words `run --store PATH`
-abbrev pub store_path : List (List ℕ) → Option (List ℕ)
-store_path [] = None
-store_path (word ∷ []) = if pointwise nat_eq word (codes "run") then Some (codes ":memory:") else None
-store_path (word ∷ option ∷ []) = None
-store_path (word ∷ option ∷ path ∷ []) =
-    if pointwise nat_eq word (codes "run") && pointwise nat_eq option (codes "--store") && is_path path then Some path else None
-store_path (word ∷ option ∷ path ∷ next ∷ words) = None
+-- the plan of a run that words are
+abbrev pub run_plan : List (List ℕ) → Option RunPlan
+run_plan words = of_run (plan_of words)
 
 -- the words are those of a run
 abbrev pub is_run : List (List ℕ) → Bool
-is_run words = is_some (store_path words)
+is_run words = is_some (run_plan words)
+
+-- what a run of the plan goes by; without a plan, what the one word `run` says
+abbrev pub settings_in : Option RunPlan → Settings
+settings_in (Some plan) = record { ctl = plan.ctl; user = plan.user; offset = plan.offset; log_limit = plan.log_limit }
+settings_in None = record { ctl = qbatch; user = codes "QUSER"; offset = pos 0; log_limit = 1000000 }
+
+-- what a run with these words goes by
+abbrev pub settings_of : List (List ℕ) → Settings
+settings_of words = settings_in (run_plan words)

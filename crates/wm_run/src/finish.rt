@@ -4,6 +4,7 @@ use crate::halt::Halt;
 use crate::session::Run;
 use std::alloc::Global;
 use std::sync::Wait;
+use wm_base::QName;
 use wm_law::Pending;
 use wm_traits::{Clock, Keeper, Spawner};
 
@@ -101,16 +102,17 @@ impl<K: Keeper> Run<K> {
         alloc: Global,
         spawner: &mut P,
         clock: &mut C,
+        ctl: &QName,
     ) -> Result<(), Halt>
         ensures serves { RunServes P.asked P.told P.misses self.old.journal.history self.old.monitor spawner.old self.new.journal.history self.new.monitor spawner.new }
-        ensures not_begun { OnErr result (AtMostOne start_call (entries_between self.old.journal.history self.new.journal.history)) }
-        ensures begun { OnOk result (OneCall start_call (entries_between self.old.journal.history self.new.journal.history)) }
+        ensures not_begun { OnErr result (AtMostOne (start_call ctl.now) (entries_between self.old.journal.history self.new.journal.history)) }
+        ensures begun { OnOk result (OneCall (start_call ctl.now) (entries_between self.old.journal.history self.new.journal.history)) }
         ensures orders { OnOk result (length self.new.journal.history.log ≡ length self.old.journal.history.log + 1 → orders (reached self.new.journal.history) monitor_pass ≡ 0) }
         ensures quiet { OnOk result (length self.new.journal.history.log ≡ length self.old.journal.history.log + 1 → self.old.monitor.failed_kill ≡ None → IsEmpty (P.reporting spawner.old)) }
         ensures causes { HasMonitorCauses result (P.faults spawner.old) (P.faults spawner.new) }
         ensures journal { HasJournalCauses K.faults K.trail (IsErrOf result Halt.KeeperFault) (IsErrOf result Halt.LogFull) self.old.journal self.new.journal }
     {
-        let start = start_call(alloc)?;
+        let start = start_call(alloc, ctl)?;
         self.call(alloc, clock, start)?;
         self.turn(alloc, spawner, clock)?;
         Ok(())

@@ -12,7 +12,7 @@ use crate::halt::Halt;
 use crate::session::Run;
 use std::alloc::Global;
 use std::sync::Wait;
-use wm_base::NoMemory;
+use wm_base::{Name, NoMemory};
 use wm_clwords::{Joiner, LogicalLine};
 use wm_traits::{Clock, Keeper, Sink, Source, Spawner};
 
@@ -87,19 +87,20 @@ impl<K: Keeper> Run<K> {
         out: &mut O,
         spawner: &mut P,
         clock: &mut C,
+        user: &Name,
         line: LogicalLine,
         joiner: &Joiner,
     ) -> Result<Answered, Halt>
         ensures serves { RunServes P.asked P.told P.misses self.old.journal.history self.old.monitor spawner.old self.new.journal.history self.new.monitor spawner.new }
-        ensures answered { IfOk result (λ r. AnsweredBy (Answers (ended_lines (Some line) joiner.now) self.old.journal.history)
+        ensures answered { IfOk result (λ r. AnsweredBy (Answers user.now (ended_lines (Some line) joiner.now) self.old.journal.history)
             (entries_between self.old.journal.history self.new.journal.history) (O.written out.old) (O.written out.new) r.faulty) }
         ensures down { IfOk result (λ r. r.down ≡ is_down (entries_between self.old.journal.history self.new.journal.history)) }
-        ensures stopped { OnErr result (StopsIn (ended_lines (Some line) joiner.now) self.old.journal.history
+        ensures stopped { OnErr result (StopsIn user.now (ended_lines (Some line) joiner.now) self.old.journal.history
             (entries_between self.old.journal.history self.new.journal.history) (O.written out.old) (O.written out.new)) }
         ensures causes { HasCauses result (O.faults out.old) (O.faults out.new) (P.faults spawner.old) (P.faults spawner.new) }
         ensures journal { HasJournalCauses K.faults K.trail (IsErrOf result Halt.KeeperFault) (IsErrOf result Halt.LogFull) self.old.journal self.new.journal }
     {
-        self.answer(alloc, out, spawner, clock, text_of(line, joiner))
+        self.answer(alloc, out, spawner, clock, user, text_of(line, joiner))
     }
 
     // Takes bytes up to the end of a line, which is answered, or all of them. It answers how many it took.
@@ -109,16 +110,17 @@ impl<K: Keeper> Run<K> {
         out: &mut O,
         spawner: &mut P,
         clock: &mut C,
+        user: &Name,
         joiner: &mut Joiner,
         piece: &[u8],
     ) -> Result<(usize, Answered), Halt>
         ensures serves { RunServes P.asked P.told P.misses self.old.journal.history self.old.monitor spawner.old self.new.journal.history self.new.monitor spawner.new }
-        ensures taken { IfOk result (λ r. TakesPiece joiner.old piece.now joiner.new (drop r.0 piece.now) self.old.journal.history
+        ensures taken { IfOk result (λ r. TakesPiece user.now joiner.old piece.now joiner.new (drop r.0 piece.now) self.old.journal.history
             (entries_between self.old.journal.history self.new.journal.history) (O.written out.old) (O.written out.new) r.1.faulty) }
         ensures down { IfOk result (λ r. r.1.down ≡ is_down (entries_between self.old.journal.history self.new.journal.history)) }
         ensures within { IfOk result (λ r. r.0 ≤ length piece.now) }
         ensures progress { IfOk result (λ r. 0 < length piece.now → 0 < r.0) }
-        ensures stopped { OnErr result ((more : List ℕ) → StopsIn (lines_from joiner.old (piece.now ++ more)) self.old.journal.history
+        ensures stopped { OnErr result ((more : List ℕ) → StopsIn user.now (lines_from joiner.old (piece.now ++ more)) self.old.journal.history
             (entries_between self.old.journal.history self.new.journal.history) (O.written out.old) (O.written out.new)) }
         ensures causes { HasCauses result (O.faults out.old) (O.faults out.new) (P.faults spawner.old) (P.faults spawner.new) }
         ensures journal { HasJournalCauses K.faults K.trail (IsErrOf result Halt.KeeperFault) (IsErrOf result Halt.LogFull) self.old.journal self.new.journal }
@@ -127,7 +129,7 @@ impl<K: Keeper> Run<K> {
         let Some(line) = ended else {
             return Ok((taken, Answered::uncalled(false)));
         };
-        let answered = self.answer_joined(alloc, out, spawner, clock, line, joiner)?;
+        let answered = self.answer_joined(alloc, out, spawner, clock, user, line, joiner)?;
         Ok((taken, answered))
     }
 
@@ -138,14 +140,15 @@ impl<K: Keeper> Run<K> {
         out: &mut O,
         spawner: &mut P,
         clock: &mut C,
+        user: &Name,
         joiner: &mut Joiner,
         piece: &[u8],
     ) -> Result<Answered, Halt>
         ensures serves { RunServes P.asked P.told P.misses self.old.journal.history self.old.monitor spawner.old self.new.journal.history self.new.monitor spawner.new }
-        ensures taken { IfOk result (λ r. TakesUpTo r.down joiner.old piece.now joiner.new self.old.journal.history
+        ensures taken { IfOk result (λ r. TakesUpTo user.now r.down joiner.old piece.now joiner.new self.old.journal.history
             (entries_between self.old.journal.history self.new.journal.history) (O.written out.old) (O.written out.new) r.faulty) }
         ensures down { IfOk result (λ r. r.down ≡ is_down (entries_between self.old.journal.history self.new.journal.history)) }
-        ensures stopped { OnErr result ((more : List ℕ) → StopsIn (lines_from joiner.old (piece.now ++ more)) self.old.journal.history
+        ensures stopped { OnErr result ((more : List ℕ) → StopsIn user.now (lines_from joiner.old (piece.now ++ more)) self.old.journal.history
             (entries_between self.old.journal.history self.new.journal.history) (O.written out.old) (O.written out.new)) }
         ensures causes { HasCauses result (O.faults out.old) (O.faults out.new) (P.faults spawner.old) (P.faults spawner.new) }
         ensures journal { HasJournalCauses K.faults K.trail (IsErrOf result Halt.KeeperFault) (IsErrOf result Halt.LogFull) self.old.journal self.new.journal }
@@ -153,7 +156,15 @@ impl<K: Keeper> Run<K> {
         let mut faulty = false;
         let mut at = 0;
         'lines: while at < piece.len() {
-            let (taken, line) = self.take_line(alloc, out, spawner, clock, joiner, &piece[at..])?;
+            let (taken, line) = self.take_line(
+                alloc,
+                out,
+                spawner,
+                clock,
+                user,
+                joiner,
+                &piece[at..],
+            )?;
             let answered = line.behind(faulty);
             if answered.down {
                 return Ok(answered);
@@ -171,13 +182,14 @@ impl<K: Keeper> Run<K> {
         out: &mut O,
         spawner: &mut P,
         clock: &mut C,
+        user: &Name,
         joiner: &mut Joiner,
     ) -> Result<Answered, Halt>
         ensures serves { RunServes P.asked P.told P.misses self.old.journal.history self.old.monitor spawner.old self.new.journal.history self.new.monitor spawner.new }
-        ensures answered { IfOk result (λ r. AnsweredBy (Answers (lines_from joiner.old []) self.old.journal.history)
+        ensures answered { IfOk result (λ r. AnsweredBy (Answers user.now (lines_from joiner.old []) self.old.journal.history)
             (entries_between self.old.journal.history self.new.journal.history) (O.written out.old) (O.written out.new) r.faulty) }
         ensures down { IfOk result (λ r. r.down ≡ is_down (entries_between self.old.journal.history self.new.journal.history)) }
-        ensures stopped { OnErr result (StopsIn (lines_from joiner.old []) self.old.journal.history
+        ensures stopped { OnErr result (StopsIn user.now (lines_from joiner.old []) self.old.journal.history
             (entries_between self.old.journal.history self.new.journal.history) (O.written out.old) (O.written out.new)) }
         ensures causes { HasCauses result (O.faults out.old) (O.faults out.new) (P.faults spawner.old) (P.faults spawner.new) }
         ensures journal { HasJournalCauses K.faults K.trail (IsErrOf result Halt.KeeperFault) (IsErrOf result Halt.LogFull) self.old.journal self.new.journal }
@@ -185,7 +197,7 @@ impl<K: Keeper> Run<K> {
         let Some(line) = joiner.end() else {
             return Ok(Answered::uncalled(false));
         };
-        self.answer_joined(alloc, out, spawner, clock, line, joiner)
+        self.answer_joined(alloc, out, spawner, clock, user, line, joiner)
     }
 
     // Takes the input by pieces, up to the line that puts the power down, and answers its lines.
@@ -197,11 +209,12 @@ impl<K: Keeper> Run<K> {
         out: &mut O,
         spawner: &mut P,
         clock: &mut C,
+        user: &Name,
         piece: &mut [u8],
     ) -> Result<Answered, Halt>
         requires { length piece.old ≡ 65536 }
         ensures serves { RunServes P.asked P.told P.misses self.old.journal.history self.old.monitor spawner.old self.new.journal.history self.new.monitor spawner.new }
-        ensures input { TakesInput (I.left input.old) (I.left input.new) (λ bytes. LinesCame bytes result self.old.journal.history
+        ensures input { TakesInput (I.left input.old) (I.left input.new) (λ bytes. LinesCame user.now bytes result self.old.journal.history
             (entries_between self.old.journal.history self.new.journal.history) (O.written out.old) (O.written out.new)) }
         ensures down { IfOk result (λ r. r.down ≡ is_down (entries_between self.old.journal.history self.new.journal.history)) }
         ensures end { IfOk result (λ r. r.down ≡ false → IsAtEnd (I.left input.new)) }
@@ -214,10 +227,10 @@ impl<K: Keeper> Run<K> {
         'reads: for _ in rt.forever() {
             let n = read(input, piece, total)?;
             if n == 0 {
-                let last = self.take_rest(alloc, out, spawner, clock, &mut joiner)?;
+                let last = self.take_rest(alloc, out, spawner, clock, user, &mut joiner)?;
                 return Ok(last.behind(faulty));
             }
-            let some = self.take_piece(alloc, out, spawner, clock, &mut joiner, &piece[..n])?;
+            let some = self.take_piece(alloc, out, spawner, clock, user, &mut joiner, &piece[..n])?;
             let answered = some.behind(faulty);
             if answered.down {
                 return Ok(answered);
@@ -237,9 +250,10 @@ impl<K: Keeper> Run<K> {
         out: &mut O,
         spawner: &mut P,
         clock: &mut C,
+        user: &Name,
     ) -> Result<Answered, Halt>
         ensures serves { RunServes P.asked P.told P.misses self.old.journal.history self.old.monitor spawner.old self.new.journal.history self.new.monitor spawner.new }
-        ensures input { TakesInput (I.left input.old) (I.left input.new) (λ bytes. LinesCame bytes result self.old.journal.history
+        ensures input { TakesInput (I.left input.old) (I.left input.new) (λ bytes. LinesCame user.now bytes result self.old.journal.history
             (entries_between self.old.journal.history self.new.journal.history) (O.written out.old) (O.written out.new)) }
         ensures down { IfOk result (λ r. r.down ≡ is_down (entries_between self.old.journal.history self.new.journal.history)) }
         ensures end { IfOk result (λ r. r.down ≡ false → IsAtEnd (I.left input.new)) }
@@ -247,6 +261,6 @@ impl<K: Keeper> Run<K> {
         ensures journal { HasJournalCauses K.faults K.trail (IsErrOf result Halt.KeeperFault) (IsErrOf result Halt.LogFull) self.old.journal self.new.journal }
     {
         let mut piece = piece_buffer(alloc)?;
-        self.take_pieces(rt, alloc, input, out, spawner, clock, &mut piece)
+        self.take_pieces(rt, alloc, input, out, spawner, clock, user, &mut piece)
     }
 }

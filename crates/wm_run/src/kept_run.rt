@@ -1,38 +1,34 @@
 // A run over a keeper: its machine opens with the rows, the session is served, and the keeper is given back.
-ghost use Rattle.std.specs.Prelude.{◌≡◌, ◌<◌, ◌≤◌, None, [], length, option_to_list, true, false};
-ghost use Rattle.std.specs.Io.KnownBytes.{IsAtEnd};
+ghost use Rattle.std.specs.Prelude.{◌≡◌, ◌<◌, ◌≤◌, None, [], length, option_to_list, true};
 ghost use Rattle.std.specs.List.{list_all};
 ghost use Rattle.wm_traits.specs.Cause.{raised};
-ghost use Rattle.wm_run.specs.Down.{is_down};
 ghost use Rattle.wm_run.specs.Kept.{HasBadRow, HasHistory, open_status};
 ghost use Rattle.wm_run.specs.Outcome.{RunTakes};
-ghost use Rattle.wm_run.specs.Run.{IsRunStatus, IsServed, ended_status, run_offset};
+ghost use Rattle.wm_run.specs.Run.{IsRunStatus, IsServed, ended_status};
 ghost use Rattle.wm_run.specs.Serving.{is_of_run};
 ghost use Rattle.wm_journal.specs.Keeping.{telling};
 
 use crate::halt::Halt;
 use crate::passes::Passes;
 use crate::session::Run;
-use crate::whole_run::{NO_MEMORY, Ran, not_begun};
+use crate::settings::Settings;
+use crate::whole_run::{Ran, not_begun};
+use crate::words::NO_MEMORY;
 use std::alloc::Global;
 use std::sync::Wait;
 use wm_core::Setup;
-use wm_desc::qbatch;
 use wm_journal::{Journal, OpenFault};
 use wm_monitor::Monitor;
 use wm_traits::{Clock, Keeper, Sink, Source, Spawner};
-use wm_when::Offset;
 
-/// Below how many entries a run takes users' commands.
-pub const MOST_ENTRIES: u32 = 1_000_000;
-
-// What a run opens with: the controlling subsystem QGPL/QBATCH, and local time that is UTC.
-fn setup() -> Setup
-    ensures { result.offset ≡ run_offset }
+// What a machine opens with.
+fn setup(settings: &Settings) -> Setup
+    ensures ctl { result.ctl ≡ settings.now.ctl }
+    ensures offset { result.offset ≡ settings.now.offset }
 {
     Setup {
-        ctl: qbatch(),
-        offset: Offset::new(0),
+        ctl: settings.ctl,
+        offset: settings.offset,
     }
 }
 
@@ -59,15 +55,13 @@ fn open_status(fault: &OpenFault) -> u8
 }
 
 impl<K: Keeper> Run<K> {
-    ghost use Rattle.std.specs.Prelude.{◌≡◌, OnOk, None, IsErrOf, false};
-    ghost use Rattle.std.specs.Io.KnownBytes.{IsAtEnd};
+    ghost use Rattle.std.specs.Prelude.{◌≡◌, OnOk, None, IsErrOf};
     ghost use Rattle.wm_journal.specs.History.{reached};
     ghost use Rattle.wm_journal.specs.Trail.{HasTrail};
     ghost use Rattle.wm_law.specs.History.{IsLegal};
     ghost use Rattle.wm_law.specs.Pending.{active};
     ghost use Rattle.wm_run.specs.Halt.{HasInputCauses};
     ghost use Rattle.wm_monitor.specs.Journal.{HasJournalCauses};
-    ghost use Rattle.wm_run.specs.Down.{is_down};
     ghost use Rattle.wm_run.specs.Outcome.{SessionCame};
     ghost use Rattle.wm_run.specs.Grown.{entries_between};
     ghost use Rattle.wm_run.specs.Serving.{RunServes};
@@ -84,18 +78,18 @@ impl<K: Keeper> Run<K> {
         out: &mut O,
         spawner: &mut P,
         clock: &mut C,
+        settings: &Settings,
     ) -> Result<bool, Halt>
         ensures serves { RunServes P.asked P.told P.misses self.old.journal.history self.old.monitor spawner.old self.new.journal.history self.new.monitor spawner.new }
-        ensures input { TakesInput (I.left input.old) (I.left input.new) (λ bytes. SessionCame bytes result self.old.journal.history
+        ensures input { TakesInput (I.left input.old) (I.left input.new) (λ bytes. SessionCame settings.now bytes (I.left input.new) result self.old.journal.history
             (entries_between self.old.journal.history self.new.journal.history) (O.written out.old) (O.written out.new)) }
-        ensures end { OnOk result (is_down (entries_between self.old.journal.history self.new.journal.history) ≡ false → IsAtEnd (I.left input.new)) }
         ensures idle { OnOk result (active (reached self.new.journal.history) ≡ 0) }
         ensures kept { OnOk result (self.new.monitor.kept ≡ None) }
         ensures causes { HasInputCauses result (I.faults input.old) (I.faults input.new) (O.faults out.old) (O.faults out.new) (P.faults spawner.old) (P.faults spawner.new) }
         ensures journal { HasJournalCauses K.faults K.trail (IsErrOf result Halt.KeeperFault) (IsErrOf result Halt.LogFull) self.old.journal self.new.journal }
     {
-        self.begin(alloc, spawner, clock)?;
-        let answered = self.take_all(rt, alloc, input, out, spawner, clock)?;
+        self.begin(alloc, spawner, clock, &settings.ctl)?;
+        let answered = self.take_all(rt, alloc, input, out, spawner, clock, &settings.user)?;
         self.finish(rt, alloc, spawner, clock, answered.down)?;
         Ok(answered.faulty)
     }
@@ -141,23 +135,25 @@ pub fn run_kept<I: Source, O: Sink, K: Keeper, P: Spawner, C: Clock, R: Wait>(
     keeper: K,
     spawner: &mut P,
     clock: &mut C,
+    settings: &Settings,
 ) -> (Ran, K)
+    requires some { 1 ≤ settings.now.log_limit }
+    requires most { settings.now.log_limit ≤ 1000000 }
     ensures begun { result.0.status ≡ 2 → ⊥ }
-    ensures history { HasHistory result.0.status result.0.log.items (telling K.tables K.trail keeper) (telling K.tables K.trail result.1)
-        (RunTakes (I.left input.old) (I.left input.new) result.0.status result.0.log.items (O.written out.old) (O.written out.new)) }
+    ensures history { HasHistory settings.now.offset result.0.status result.0.log.items (telling K.tables K.trail keeper) (telling K.tables K.trail result.1)
+        (RunTakes settings.now (I.left input.old) (I.left input.new) result.0.status result.0.log.items (O.written out.old) (O.written out.new)) }
     ensures callers { list_all is_of_run result.0.log.items ≡ true }
     ensures served { IsServed result.0.log.items (option_to_list result.0.kept) (P.asked spawner.old) (P.asked spawner.new) (P.told spawner.old) (P.told spawner.new) (P.misses spawner.old) (P.misses spawner.new) }
-    ensures end { result.0.status ≤ 1 → is_down result.0.log.items ≡ false → IsAtEnd (I.left input.new) }
     ensures kept { result.0.status ≤ 1 → result.0.kept ≡ None }
     ensures read_fault { result.0.status ≡ 3 → raised (I.faults input.old) ≤ I.faults input.new }
     ensures write_fault { result.0.status ≡ 4 → raised (O.faults out.old) ≤ O.faults out.new }
     ensures keeper_fault { result.0.status ≡ 5 → raised (K.faults keeper) ≤ K.faults result.1 }
-    ensures log_full { result.0.status ≡ 7 → 1000000 ≤ length result.0.log.items }
+    ensures log_full { result.0.status ≡ 7 → settings.now.log_limit ≤ length result.0.log.items }
     ensures wait_fault { result.0.status ≡ 8 → raised (P.faults spawner.old) ≤ P.faults spawner.new }
-    ensures bad_row { result.0.status ≡ 9 → HasBadRow (K.tables keeper) (K.tables result.1) }
+    ensures bad_row { result.0.status ≡ 9 → HasBadRow settings.now.offset (K.tables keeper) (K.tables result.1) }
     ensures statuses { IsRunStatus result.0.status }
 {
-    match Journal::open(alloc, keeper, &setup(), MOST_ENTRIES) {
+    match Journal::open(alloc, keeper, &setup(settings), settings.log_limit) {
         Ok((mut journal, session)) => {
             let monitor = journal.split(&session);
             let passes = Passes::new(session, monitor);
@@ -166,7 +162,7 @@ pub fn run_kept<I: Source, O: Sink, K: Keeper, P: Spawner, C: Clock, R: Wait>(
                 passes,
                 monitor: Monitor::new(),
             };
-            let end = run.serve(rt, alloc, input, out, spawner, clock);
+            let end = run.serve(rt, alloc, input, out, spawner, clock, settings);
             run.close(ended_status(end))
         }
         Err((keeper, fault)) => (not_begun(alloc, open_status(&fault)), keeper),

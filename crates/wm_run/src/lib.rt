@@ -16,9 +16,10 @@ mod parsed;
 mod passes;
 mod reads;
 mod session;
+mod settings;
 mod whole_run;
 mod words;
 mod write;
 
-pub use whole_run::{NO_MEMORY, Ran, WRONG_WORDS, run};
-pub use words::store_path;
+pub use whole_run::{Ran, run};
+pub use words::{NO_MEMORY, WRONG_WORDS, run_plan};

@@ -15,7 +15,7 @@ use wm_listing::LineFault;
 // What a line of the command table comes to.
 fn parsed_of(line: Line) -> Parsed
     requires { IsFitLine line }
-    ensures parses { (text : List ℕ) → IsTabled text (Ok line) → Parses text result }
+    ensures parses { (user text : List ℕ) → IsTabled user text (Ok line) → Parses user text result }
     ensures fit { IsFitParsed result }
 {
     match line {
@@ -27,26 +27,26 @@ fn parsed_of(line: Line) -> Parsed
     }
 }
 
-// What a tree comes to.
-fn parse_tree(alloc: Global, tree: &Tree) -> Result<Parsed, NoMemory>
-    ensures parses { IfOk result (λ r. (text : List ℕ) → IsCommand text tree.now.name (list_marks tree.now.items.items) → Parses text r) }
+// What a tree comes to for a user.
+fn parse_tree(alloc: Global, user: &Name, tree: &Tree) -> Result<Parsed, NoMemory>
+    ensures parses { IfOk result (λ r. (text : List ℕ) → IsCommand text tree.now.name (list_marks tree.now.items.items) → Parses user.now text r) }
     ensures fit { IfOk result IsFitParsed }
 {
-    match command(alloc, &Name::of(b"QUSER"), tree) {
+    match command(alloc, user, tree) {
         Ok(line) => Ok(parsed_of(line)),
         Err(CmdFault::NoMemory) => Err(AllocError),
         Err(fault) => Ok(Parsed::Fault(LineFault::Cm(fault))),
     }
 }
 
-/// Parses a logical line. An `Err` is want of memory.
-pub fn parse_line(alloc: Global, text: &[u8]) -> Result<Parsed, NoMemory>
-    ensures parses { IfOk result (λ r. Parses text.now r) }
+/// Parses a logical line of a user. An `Err` is want of memory.
+pub fn parse_line(alloc: Global, user: &Name, text: &[u8]) -> Result<Parsed, NoMemory>
+    ensures parses { IfOk result (λ r. Parses user.now text.now r) }
     ensures fit { IfOk result IsFitParsed }
 {
     match read_command(alloc, text) {
         Ok(tree) => {
-            let parsed = parse_tree(alloc, &tree)?;
+            let parsed = parse_tree(alloc, user, &tree)?;
             Ok(parsed)
         }
         Err(ClFault::NoMemory) => Err(AllocError),

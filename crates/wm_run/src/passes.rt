@@ -1,7 +1,7 @@
 // The passes of a run.
 ghost use Rattle.std.specs.Prelude.{◌≡◌};
 ghost use Rattle.wm_monitor.specs.Idle.{monitor_pass};
-ghost use Rattle.wm_run.specs.Session.{session_pass};
+ghost use Rattle.wm_run.specs.Calls.{session_pass};
 
 use std::marker::Model;
 use wm_journal::Pass;
@@ -17,7 +17,7 @@ pub struct Passes {
 impl Model for Passes {
     ghost use Rattle.std.specs.Prelude.{◌≡◌, ⊤};
     ghost use Rattle.wm_monitor.specs.Idle.{monitor_pass};
-    ghost use Rattle.wm_run.specs.Session.{session_pass};
+    ghost use Rattle.wm_run.specs.Calls.{session_pass};
 
     ghost Value = { ⊤ };
 

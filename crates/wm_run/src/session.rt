@@ -13,6 +13,7 @@ use crate::passes::Passes;
 use crate::write::write_all;
 use std::alloc::Global;
 use std::sync::Wait;
+use wm_base::Name;
 use wm_clwords::ClFault;
 use wm_journal::Journal;
 use wm_law::{Call, Command, built_commands_are_had};
@@ -52,7 +53,7 @@ impl<K: Keeper> Run<K> {
     ghost use Rattle.wm_traits.specs.Told.{Grows, IsEmpty};
     ghost use Rattle.wm_traits.specs.Cause.{raised};
     ghost use Rattle.wm_run.specs.Answer.{entry_text, with_end, is_power_down, is_refused};
-    ghost use Rattle.wm_run.specs.Calls.{Called};
+    ghost use Rattle.wm_run.specs.Calls.{Called, session_pass};
     ghost use Rattle.wm_run.specs.Halt.{HasCauses, HasMonitorCauses};
     ghost use Rattle.wm_monitor.specs.Idle.{monitor_pass};
     ghost use Rattle.wm_monitor.specs.Journal.{HasJournalCauses};
@@ -64,7 +65,7 @@ impl<K: Keeper> Run<K> {
     ghost use Rattle.wm_run.specs.Parsed.{IsFitParsed};
     ghost use Rattle.wm_run.specs.Grown.{entries_between};
     ghost use Rattle.wm_run.specs.Serving.{RunServes};
-    ghost use Rattle.wm_run.specs.Session.{AnsweredBy, AnswersLine, AnswersParsed, Calls, session_pass};
+    ghost use Rattle.wm_run.specs.Session.{AnsweredBy, AnswersLine, AnswersParsed, Calls};
     ghost use Rattle.wm_run.specs.Stopped.{IsCutShort};
 
     // Makes one call of the session. An `Err` leaves the history.
@@ -186,15 +187,16 @@ impl<K: Keeper> Run<K> {
         out: &mut O,
         spawner: &mut P,
         clock: &mut C,
+        user: &Name,
         command: Command,
     ) -> Result<Answered, Halt>
         requires fit { IsCommand command }
         requires built { is_built command ≡ true }
         ensures serves { RunServes P.asked P.told P.misses self.old.journal.history self.old.monitor spawner.old self.new.journal.history self.new.monitor spawner.new }
-        ensures answered { IfOk result (λ r. AnsweredBy (Calls command)
+        ensures answered { IfOk result (λ r. AnsweredBy (Calls user.now command)
             (entries_between self.old.journal.history self.new.journal.history) (O.written out.old) (O.written out.new) r.faulty) }
         ensures down { IfOk result (λ r. r.down ≡ is_down (entries_between self.old.journal.history self.new.journal.history)) }
-        ensures stopped { OnErr result (IsCutShort (Calls command)
+        ensures stopped { OnErr result (IsCutShort (Calls user.now command)
             (entries_between self.old.journal.history self.new.journal.history) (O.written out.old) (O.written out.new)) }
         ensures orders { OnOk result (length self.new.journal.history.log ≡ length self.old.journal.history.log + 1 → orders (reached self.new.journal.history) monitor_pass ≡ 0) }
         ensures quiet { OnOk result (length self.new.journal.history.log ≡ length self.old.journal.history.log + 1 → self.old.monitor.failed_kill ≡ None → IsEmpty (P.reporting spawner.old)) }
@@ -202,7 +204,7 @@ impl<K: Keeper> Run<K> {
         ensures journal { HasJournalCauses K.faults K.trail (IsErrOf result Halt.KeeperFault) (IsErrOf result Halt.LogFull) self.old.journal self.new.journal }
     {
         built_commands_are_had();
-        let change = user_call(alloc, command)?;
+        let change = user_call(alloc, user, command)?;
         self.call(alloc, clock, change)?;
         let answered = self.reply(alloc, out)?;
         self.turn(alloc, spawner, clock)?;
@@ -216,14 +218,15 @@ impl<K: Keeper> Run<K> {
         out: &mut O,
         spawner: &mut P,
         clock: &mut C,
+        user: &Name,
         parsed: Parsed,
     ) -> Result<Answered, Halt>
         requires { IsFitParsed parsed }
         ensures serves { RunServes P.asked P.told P.misses self.old.journal.history self.old.monitor spawner.old self.new.journal.history self.new.monitor spawner.new }
-        ensures answered { IfOk result (λ r. AnsweredBy (AnswersParsed parsed self.old.journal.history)
+        ensures answered { IfOk result (λ r. AnsweredBy (AnswersParsed user.now parsed self.old.journal.history)
             (entries_between self.old.journal.history self.new.journal.history) (O.written out.old) (O.written out.new) r.faulty) }
         ensures down { IfOk result (λ r. r.down ≡ is_down (entries_between self.old.journal.history self.new.journal.history)) }
-        ensures stopped { OnErr result (IsCutShort (AnswersParsed parsed self.old.journal.history)
+        ensures stopped { OnErr result (IsCutShort (AnswersParsed user.now parsed self.old.journal.history)
             (entries_between self.old.journal.history self.new.journal.history) (O.written out.old) (O.written out.new)) }
         ensures causes { HasCauses result (O.faults out.old) (O.faults out.new) (P.faults spawner.old) (P.faults spawner.new) }
         ensures journal { HasJournalCauses K.faults K.trail (IsErrOf result Halt.KeeperFault) (IsErrOf result Halt.LogFull) self.old.journal self.new.journal }
@@ -242,7 +245,7 @@ impl<K: Keeper> Run<K> {
                 let refused = self.list(alloc, out, &ask)?;
                 Ok(Answered::uncalled(refused))
             }
-            Parsed::Call(command) => self.call_command(alloc, out, spawner, clock, command),
+            Parsed::Call(command) => self.call_command(alloc, out, spawner, clock, user, command),
         }
     }
 
@@ -253,21 +256,22 @@ impl<K: Keeper> Run<K> {
         out: &mut O,
         spawner: &mut P,
         clock: &mut C,
+        user: &Name,
         line: Option<&[u8]>,
     ) -> Result<Answered, Halt>
         ensures serves { RunServes P.asked P.told P.misses self.old.journal.history self.old.monitor spawner.old self.new.journal.history self.new.monitor spawner.new }
-        ensures answered { IfOk result (λ r. AnsweredBy (AnswersLine (option_copied line.entry) self.old.journal.history)
+        ensures answered { IfOk result (λ r. AnsweredBy (AnswersLine user.now (option_copied line.entry) self.old.journal.history)
             (entries_between self.old.journal.history self.new.journal.history) (O.written out.old) (O.written out.new) r.faulty) }
         ensures down { IfOk result (λ r. r.down ≡ is_down (entries_between self.old.journal.history self.new.journal.history)) }
-        ensures stopped { OnErr result (IsCutShort (AnswersLine (option_copied line.entry) self.old.journal.history)
+        ensures stopped { OnErr result (IsCutShort (AnswersLine user.now (option_copied line.entry) self.old.journal.history)
             (entries_between self.old.journal.history self.new.journal.history) (O.written out.old) (O.written out.new)) }
         ensures causes { HasCauses result (O.faults out.old) (O.faults out.new) (P.faults spawner.old) (P.faults spawner.new) }
         ensures journal { HasJournalCauses K.faults K.trail (IsErrOf result Halt.KeeperFault) (IsErrOf result Halt.LogFull) self.old.journal self.new.journal }
     {
         let parsed = match line {
             None => Parsed::Fault(LineFault::Cl(ClFault::TooLong)),
-            Some(text) => parse_line(alloc, text)?,
+            Some(text) => parse_line(alloc, user, text)?,
         };
-        self.answer_parsed(alloc, out, spawner, clock, parsed)
+        self.answer_parsed(alloc, out, spawner, clock, user, parsed)
     }
 }

@@ -1,18 +1,16 @@
-// A whole run: the store that the words name, the session over the input, and the status.
-ghost use Rattle.std.specs.Prelude.{◌≡◌, ◌≤◌, None, [], length, map, option_to_list, string_bytes, true, false};
-ghost use Rattle.std.specs.Io.KnownBytes.{IsAtEnd};
+// A whole run: what the words say, the session over the input, and the status.
+ghost use Rattle.std.specs.Prelude.{◌≡◌, ◌⊎◌, ◌≤◌, None, [], length, map, option_to_list, string_bytes, true, false};
 ghost use Rattle.std.specs.List.{list_all};
 ghost use Rattle.wm_traits.specs.Cause.{raised};
-ghost use Rattle.wm_run.specs.Down.{is_down};
 ghost use Rattle.wm_run.specs.Kept.{HasBadRow, HasHistory, store_status};
 ghost use Rattle.wm_run.specs.Outcome.{RunTakes};
 ghost use Rattle.wm_run.specs.Run.{IsRunStatus, IsServed};
 ghost use Rattle.wm_run.specs.Serving.{is_of_run};
-ghost use Rattle.wm_run.specs.Words.{is_run};
+ghost use Rattle.wm_run.specs.Words.{is_run, settings_of};
 ghost use Rattle.wm_journal.specs.Keeping.{telling};
 
 use crate::kept_run::run_kept;
-use crate::words::store_path;
+use crate::words::{NO_MEMORY, run_plan, settings};
 use std::alloc::Global;
 use std::sync::Wait;
 use wm_law::Entry;
@@ -26,12 +24,6 @@ pub struct Ran {
     pub log: Vec<Entry>,
     pub kept: Option<Report>,
 }
-
-/// The status of words that aren't built.
-pub const WRONG_WORDS: u8 = 2;
-
-/// The status of a run for which there is no memory.
-pub const NO_MEMORY: u8 = 6;
 
 // A run that has not begun.
 pub(crate) fn not_begun(alloc: Global, status: u8) -> Ran
@@ -56,12 +48,11 @@ fn store_status(fault: KeepFault) -> u8
     }
 }
 
-/// Runs the command lines `run` and `run --store PATH`: the commands of the input are answered on the output, and their jobs
-/// run, up to the end of the input or a line whose PWRDWNSYS is accepted. Status 0 and 1 come where no job is active any more, 1
-/// where a line got a fault or a refusal;
-/// 2 where the words are others; 3 where the input couldn't be read, 4 where the output couldn't be written, 5 where the
-/// store or its keeper failed, 6 for want of memory, 7 where the history is full, 8 where the spawner couldn't kill or look,
-/// 9 where the rows that were found aren't good, and 11 where the input has more than 1,000,000,000 bytes.
+/// Runs as the words of a command line say: the commands of the input are answered on the output, and their jobs run, up to the
+/// end of the input or a line whose PWRDWNSYS is accepted. Status 0 and 1 come where no job is active any more, 1 where a line
+/// got a fault or a refusal; 2 where the words are none of a run; 3 where the input couldn't be read, 4 where the output couldn't
+/// be written, 5 where the store or its keeper failed, 6 for want of memory, 7 where the history is full, 8 where the spawner
+/// couldn't kill or look, 9 where the rows that were found aren't good, and 11 where the input has more than 1,000,000,000 bytes.
 pub fn run<I: Source, O: Sink, S: Store, P: Spawner, C: Clock, R: Wait>(
     rt: &R,
     alloc: Global,
@@ -72,29 +63,39 @@ pub fn run<I: Source, O: Sink, S: Store, P: Spawner, C: Clock, R: Wait>(
     spawner: &mut P,
     clock: &mut C,
 ) -> Ran
-    ensures words { is_run (map string_bytes words.now) ≡ false → result.status ≡ 2 }
+    ensures words { is_run (map string_bytes words.now) ≡ false → (result.status ≡ 2) ⊎ (result.status ≡ 6) }
     ensures run { is_run (map string_bytes words.now) ≡ true → result.status ≡ 2 → ⊥ }
-    ensures history { HasHistory result.status result.log.items (telling S.tables S.trail store.old) (telling S.tables S.trail store.new)
-        (RunTakes (I.left input.old) (I.left input.new) result.status result.log.items (O.written out.old) (O.written out.new)) }
+    ensures unread { is_run (map string_bytes words.now) ≡ false → I.left input.new ≡ I.left input.old }
+    ensures history { HasHistory (settings_of (map string_bytes words.now)).offset result.status result.log.items (telling S.tables S.trail store.old) (telling S.tables S.trail store.new)
+        (RunTakes (settings_of (map string_bytes words.now)) (I.left input.old) (I.left input.new) result.status result.log.items (O.written out.old) (O.written out.new)) }
     ensures callers { list_all is_of_run result.log.items ≡ true }
     ensures served { IsServed result.log.items (option_to_list result.kept) (P.asked spawner.old) (P.asked spawner.new) (P.told spawner.old) (P.told spawner.new) (P.misses spawner.old) (P.misses spawner.new) }
-    ensures end { result.status ≤ 1 → is_down result.log.items ≡ false → IsAtEnd (I.left input.new) }
     ensures kept { result.status ≤ 1 → result.kept ≡ None }
     ensures read_fault { result.status ≡ 3 → raised (I.faults input.old) ≤ I.faults input.new }
     ensures write_fault { result.status ≡ 4 → raised (O.faults out.old) ≤ O.faults out.new }
     ensures keeper_fault { result.status ≡ 5 → raised (S.faults store.old) ≤ S.faults store.new }
-    ensures log_full { result.status ≡ 7 → 1000000 ≤ length result.log.items }
+    ensures log_full { result.status ≡ 7 → (settings_of (map string_bytes words.now)).log_limit ≤ length result.log.items }
     ensures wait_fault { result.status ≡ 8 → raised (P.faults spawner.old) ≤ P.faults spawner.new }
-    ensures bad_row { result.status ≡ 9 → HasBadRow (S.tables store.old) (S.tables store.new) }
+    ensures bad_row { result.status ≡ 9 → HasBadRow (settings_of (map string_bytes words.now)).offset (S.tables store.old) (S.tables store.new) }
     ensures statuses { IsRunStatus result.status }
     ensures not_begun { result.status ≡ 2 → result.log.items ≡ [] }
 {
-    let Some(path) = store_path(words) else {
-        return not_begun(alloc, WRONG_WORDS);
+    let plan = match run_plan(alloc, words) {
+        Ok(plan) => plan,
+        Err(status) => return not_begun(alloc, status),
     };
-    match store.open(path) {
+    match store.open(plan.store.as_str()) {
         Ok(keeper) => {
-            let (ran, keeper) = run_kept(rt, alloc, input, out, keeper, spawner, clock);
+            let (ran, keeper) = run_kept(
+                rt,
+                alloc,
+                input,
+                out,
+                keeper,
+                spawner,
+                clock,
+                &settings(&plan),
+            );
             store.close(keeper);
             ran
         }

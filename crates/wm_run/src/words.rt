@@ -1,29 +1,40 @@
-// The words of the command line.
-ghost use Rattle.std.specs.Prelude.{◌≡◌, map, string_bytes};
-ghost use Rattle.std.specs.Option.{option_copied};
-ghost use Rattle.wm_run.specs.Words.{is_path, store_path};
+// What the words of the command line ask of a run.
+ghost use Rattle.std.specs.Prelude.{◌≡◌, ◌⊎◌, ◌≤◌, IfOk, IfErr, Err, None, Some, map, string_bytes};
+ghost use Rattle.wm_run.specs.Words.{run_plan, settings_in};
 
-// Whether a word is a path.
-fn is_path(word: &str) -> bool
-    ensures { result ≡ is_path word.now }
+use crate::settings::Settings;
+use std::alloc::Global;
+use wm_plan::{Plan, RunPlan, WordFault, read_words};
+
+/// The status of words that are none of a run.
+pub const WRONG_WORDS: u8 = 2;
+
+/// The status of a run for which there is no memory.
+pub const NO_MEMORY: u8 = 6;
+
+/// The plan of a run that the words are, or the status of a run with them.
+pub fn run_plan(alloc: Global, words: &[String]) -> Result<RunPlan, u8>
+    ensures ok { IfOk result (λ plan. run_plan (map string_bytes words.now) ≡ Some plan) }
+    ensures some { IfOk result (λ plan. 1 ≤ plan.log_limit) }
+    ensures most { IfOk result (λ plan. plan.log_limit ≤ 1000000) }
+    ensures statuses { IfErr result (λ status. (status ≡ 2) ⊎ (status ≡ 6)) }
+    ensures wrong { result ≡ Err 2 → run_plan (map string_bytes words.now) ≡ None }
 {
-    match word.as_bytes() {
-        [] => false,
-        [first, ..] => *first != b'-',
+    match read_words(alloc, words) {
+        Ok(Plan::Run(plan)) => Ok(plan),
+        Ok(Plan::Drill(_)) | Err(WordFault::Bad) => Err(WRONG_WORDS),
+        Err(WordFault::NoMemory) => Err(NO_MEMORY),
     }
 }
 
-/// The path of the store that the words name: `:memory:` for the one word `run`, and PATH for `run --store PATH`. A path isn't
-/// empty and doesn't begin with `-`. There is none where the words are others.
-pub fn store_path(words: &[String]) -> Option<&str>
-    ensures { option_copied result ≡ store_path (map string_bytes words.now) }
+/// What a run of the plan goes by.
+pub fn settings(plan: &RunPlan) -> Settings
+    ensures { result ≡ settings_in (Some plan.now) }
 {
-    match words {
-        [run] if run.as_str() == "run" => Some(":memory:"),
-        [run, option, path]
-            if run.as_str() == "run" && option.as_str() == "--store" && is_path(path.as_str()) => {
-            Some(path.as_str())
-        }
-        _ => None,
+    Settings {
+        ctl: plan.ctl,
+        user: plan.user,
+        offset: plan.offset,
+        log_limit: plan.log_limit,
     }
 }

@@ -17,7 +17,7 @@ use subject::Runs;
 use wm_cases::{Subject, play};
 
 /// The files of cases.
-static FILES: [&str; 10] = [
+static FILES: [&str; 11] = [
     "scripts.txt",
     "faults.txt",
     "stores.txt",
@@ -28,6 +28,7 @@ static FILES: [&str; 10] = [
     "waiting.txt",
     "listings.txt",
     "endings.txt",
+    "words.txt",
 ];
 
 fn play_all<R: AllocGlobal + Files + Print, S: Subject>(rt: &R, subject: &mut S) -> Result<()> {

@@ -1,5 +1,6 @@
 // The questions, and the run that they are about. `run` runs over a store of the given rows, `again` over the one that the run
-// before has left; `rows 11` shows the rows of a table of it.
+// before has left; `rows 11` shows the rows of a table of it; `no words` and `no lines` take
+// back what was given of these.
 use crate::given::{Failing, Given, unknown};
 use crate::rows::{store_of, write_table};
 use crate::shown::{push_asked, push_entry};
@@ -164,6 +165,10 @@ impl<'a, W: Wait> Subject for Runs<'a, W> {
             None => self.show(question, answer),
             Some(("no", "words")) => {
                 self.given.words.clear();
+                Ok(())
+            }
+            Some(("no", "lines")) => {
+                self.given.input.clear();
                 Ok(())
             }
             Some(("rows", tab)) => write_table(&mut self.store, tab, answer),

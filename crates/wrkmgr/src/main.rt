@@ -2,7 +2,11 @@
 //! objects, makes the one call of `run` and ends with its status. What is promised is the contract of `run` of `wm_run`.
 #![tactic(auto)]
 
-ghost use Rattle.std.specs.Prelude.{◌≡◌, ◌⊎◌, IfErr};
+ghost use Rattle.std.specs.Prelude.{◌≡◌, ◌⊎◌, IfErr, codes, false, map, string_bytes, true};
+ghost use Rattle.std.specs.Process.{exit_status};
+ghost use Rattle.std.specs.Str.{bytes_eq};
+ghost use Rattle.wm_run.specs.Run.{IsRunStatus};
+ghost use Rattle.wm_run.specs.Words.{is_run};
 
 use std::env;
 use std::io::ErrorKind;
@@ -10,7 +14,8 @@ use std::process::ExitCode;
 use std::sync::Wait;
 use wm_children::SysSpawner;
 use wm_outside::{MemKeeper, MemStore, ReadSource, SysClock, WriteSink};
-use wm_run::{NO_MEMORY, WRONG_WORDS, run, store_path};
+use wm_plan::RunPlan;
+use wm_run::{NO_MEMORY, WRONG_WORDS, run, run_plan};
 use wm_sqlkeep::SqlStore;
 use wm_traits::{Spawner, Store};
 
@@ -36,7 +41,11 @@ fn run_over<S: Store, C: Spawner, R: Wait>(
     words: &[String],
     store: &mut S,
     spawner: &mut C,
-) -> u8 {
+) -> u8
+    ensures words { is_run (map string_bytes words.now) ≡ false → (result ≡ 2) ⊎ (result ≡ 6) }
+    ensures run { is_run (map string_bytes words.now) ≡ true → result ≡ 2 → ⊥ }
+    ensures statuses { IsRunStatus result }
+{
     let mut input = ReadSource::new(host.stdin());
     let mut out = WriteSink::new(host.stdout());
     let mut clock = SysClock::new(host);
@@ -59,7 +68,11 @@ fn run_in_memory<C: Spawner, R: Wait>(
     host: &HostRuntime,
     words: &[String],
     spawner: &mut C,
-) -> u8 {
+) -> u8
+    ensures words { is_run (map string_bytes words.now) ≡ false → (result ≡ 2) ⊎ (result ≡ 6) }
+    ensures run { is_run (map string_bytes words.now) ≡ true → result ≡ 2 → ⊥ }
+    ensures statuses { IsRunStatus result }
+{
     let keeper = MemKeeper::new(Vec::new(host.alloc()), Vec::new(host.alloc()));
     let mut store = MemStore::new(keeper);
     run_over(rt, host, words, &mut store, spawner)
@@ -71,17 +84,40 @@ fn run_on_file<C: Spawner, R: Wait>(
     host: &HostRuntime,
     words: &[String],
     spawner: &mut C,
-) -> u8 {
+) -> u8
+    ensures words { is_run (map string_bytes words.now) ≡ false → (result ≡ 2) ⊎ (result ≡ 6) }
+    ensures run { is_run (map string_bytes words.now) ≡ true → result ≡ 2 → ⊥ }
+    ensures statuses { IsRunStatus result }
+{
     let mut store = SqlStore::new(host);
     run_over(rt, host, words, &mut store, spawner)
 }
 
-// Whether the words name a file.
-fn names_file(words: &[String]) -> bool {
-    match store_path(words) {
-        Some(path) => path != ":memory:",
-        None => false,
-    }
+// Whether the rows of a run with this plan end with it.
+fn ends_with_run(plan: &RunPlan) -> bool
+    ensures { result ≡ bytes_eq plan.now.store (codes ":memory:") }
+{
+    plan.store.as_str() == ":memory:"
+}
+
+// What the program ends with behind a run over the store that the plan of its words names.
+fn run_planned<C: Spawner, R: Wait>(
+    rt: &R,
+    host: &HostRuntime,
+    words: &[String],
+    plan: &RunPlan,
+    spawner: &mut C,
+) -> ExitCode
+    ensures words { is_run (map string_bytes words.now) ≡ false → (exit_status result ≡ 2) ⊎ (exit_status result ≡ 6) }
+    ensures run { is_run (map string_bytes words.now) ≡ true → exit_status result ≡ 2 → ⊥ }
+    ensures statuses { IsRunStatus (exit_status result) }
+{
+    let status = if ends_with_run(plan) {
+        run_in_memory(rt, host, words, spawner)
+    } else {
+        run_on_file(rt, host, words, spawner)
+    };
+    ExitCode::from(status)
 }
 
 fn main(rt: HostRuntime) -> ExitCode {
@@ -89,13 +125,12 @@ fn main(rt: HostRuntime) -> ExitCode {
         Ok(words) => words,
         Err(status) => return ExitCode::from(status),
     };
+    let plan = match run_plan(rt.alloc(), &words) {
+        Ok(plan) => plan,
+        Err(status) => return ExitCode::from(status),
+    };
     let Ok(mut spawner) = SysSpawner::new(rt.alloc(), rt) else {
         return ExitCode::from(NO_MEMORY);
     };
-    let status = if names_file(&words) {
-        run_on_file(&rt, &rt, &words, &mut spawner)
-    } else {
-        run_in_memory(&rt, &rt, &words, &mut spawner)
-    };
-    ExitCode::from(status)
+    run_planned(&rt, &rt, &words, &plan, &mut spawner)
 }

@@ -11,6 +11,6 @@ not_true false h = refl
 
 -- what isn't answered as built isn't
 pub returns-in-Err-clause-parses : goal.returns-in-Err-clause-parses
-returns-in-Err-clause-parses c = λ text tabled.
+returns-in-Err-clause-parses c = λ user text tabled.
     let unbuilt : is_built c.in-Change.command ≡ false = not_true (is_built c.in-Change.command) (λ built. subst IsOk c.in-Err.is (c.built.ensures.1 built)) in
-    (c.in-Change.command, subst (λ (l : Line). IsTabled text (Ok l)) c.in-Change.is tabled, unbuilt)
+    (c.in-Change.command, subst (λ (l : Line). IsTabled user text (Ok l)) c.in-Change.is tabled, unbuilt)

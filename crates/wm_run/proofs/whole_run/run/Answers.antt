@@ -1,24 +1,42 @@
-use Rattle.std.proofs.Common.{◌<◌, ◌∙◌, sym, arith}
+use Rattle.std.proofs.Common.{◌≡◌, ◌<◌, ◌∙◌, map, string_bytes, ap, subst, sym, arith}
+use Rattle.wm_journal.specs.Keeping.{telling}
 use Rattle.wm_journal.proofs.Staying.{Stays-same}
-use Rattle.wm_run.proofs.Openings.{history_of_store, not_opened, store_high, store_low, store_unread}
+use Rattle.wm_run.specs.Kept.{HasHistory}
+use Rattle.wm_run.specs.Outcome.{RunTakes}
+use Rattle.wm_run.specs.Words.{settings_in, settings_of}
+use Rattle.wm_run.specs.declared.settings.Settings.{Settings}
+use Rattle.wm_run.proofs.Openings.{history_of_store, not_opened, store_high, store_low, store_unread, words_high, words_low, words_unread}
 use Rattle.wm_run.proofs.Outcomes.{came_not}
 use Rattle.wm_run.proofs.whole_run.run.Goals as goal
 
-pub returns-in_default-clause-history : goal.returns-in_default-clause-history
-returns-in_default-clause-history g c =
-    let s = c.not_begun.ensures.status in
-    let high : 1 < c.not_begun.result.status = omega (arith, s) in
-    let came = came_not c.not_begun.result.status c.not_begun.result.log.items (g.I.Source.left c.args.input.now) (g.O.Sink.written c.args.out.now) high (omega (arith, s)) (λ three. omega (arith, s, three)) c.not_begun.ensures.log in
-    not_opened c.not_begun.result.status c.not_begun.result.log.items _ _ high c.not_begun.ensures.log (Stays-same _) (Stays-same _) came
-
 pub returns-in-Err-clause-history : goal.returns-in-Err-clause-history
 returns-in-Err-clause-history g c =
-    let fault = c.in-Err.fault in
-    let is = c.not_begun-in-Err.ensures.status ∙ c.store_status.ensures in
-    let high : 1 < c.not_begun-in-Err.result.status = omega (arith, is, store_high fault) in
-    let came = came_not c.not_begun-in-Err.result.status c.not_begun-in-Err.result.log.items (g.I.Source.left c.args.input.now) (g.O.Sink.written c.args.out.now) high (omega (arith, is, store_low fault)) (λ three. store_unread fault (sym is ∙ three)) c.not_begun-in-Err.ensures.log in
-    not_opened c.not_begun-in-Err.result.status c.not_begun-in-Err.result.log.items _ _ high c.not_begun-in-Err.ensures.log c.in-Err.ensures.err_tables c.in-Err.ensures.err_trail came
+    let settings = settings_of (map string_bytes c.args.words.now) in
+    let status = c.not_begun.result.status in
+    let is = c.not_begun.ensures.status in
+    let why = c.in-Err.ensures.statuses in
+    let high : 1 < status = words_high status c.in-Err.status is why in
+    let came = came_not settings status c.not_begun.result.log.items (g.I.Source.left c.args.input.now) (g.O.Sink.written c.args.out.now) high (words_low status c.in-Err.status is why) (words_unread status c.in-Err.status is why) c.not_begun.ensures.log in
+    not_opened settings.offset status c.not_begun.result.log.items _ _ high c.not_begun.ensures.log (Stays-same _) (Stays-same _) came
 
-pub returns-in-Ok-clause-history : goal.returns-in-Ok-clause-history
-returns-in-Ok-clause-history g c =
-    history_of_store c.run_kept-ran.result.0.status c.run_kept-ran.result.0.log.items _ _ _ _ c.in-Ok.ensures.tables c.in-Ok.ensures.trail c.close.ensures.tables c.close.ensures.trail (g.met.S.Store.trail_with_tables c.close.new.self) c.run_kept-ran.ensures.history
+pub returns-clause-history : goal.returns-clause-history
+returns-clause-history g c =
+    let settings = settings_of (map string_bytes c.args.words.now) in
+    let fault = c.in-Err-open.fault in
+    let is = c.not_begun-in-Err-open.ensures.status ∙ c.store_status.ensures in
+    let status = c.not_begun-in-Err-open.result.status in
+    let high : 1 < status = omega (arith, is, store_high fault) in
+    let came = came_not settings status c.not_begun-in-Err-open.result.log.items (g.I.Source.left c.args.input.now) (g.O.Sink.written c.args.out.now) high (omega (arith, is, store_low fault)) (λ three. store_unread fault (sym is ∙ three)) c.not_begun-in-Err-open.ensures.log in
+    not_opened settings.offset status c.not_begun-in-Err-open.result.log.items _ _ high c.not_begun-in-Err-open.ensures.log c.in-Err-open.ensures.err_tables c.in-Err-open.ensures.err_trail came
+
+pub returns-in-Ok-open-clause-history : goal.returns-in-Ok-open-clause-history
+returns-in-Ok-open-clause-history g c =
+    let store = g.S.Store in
+    let input = g.I.Source.left in
+    let out = g.O.Sink.written in
+    let ran = c.run_kept-ran.result.0 in
+    let old = telling store.tables store.trail c.args.store.now in
+    let new = telling store.tables store.trail c.close.new.self in
+    let same : c.settings.result ≡ settings_of (map string_bytes c.args.words.now) = c.settings.ensures ∙ sym (ap settings_in c.in-Ok.ensures.ok) in
+    let whole = history_of_store c.settings.result.offset ran.status ran.log.items _ _ _ _ c.in-Ok-open.ensures.tables c.in-Ok-open.ensures.trail c.close.ensures.tables c.close.ensures.trail (g.met.S.Store.trail_with_tables c.close.new.self) c.run_kept-ran.ensures.history in
+    subst (λ (s : Settings). HasHistory s.offset ran.status ran.log.items old new (RunTakes s (input c.args.input.now) (input c.run_kept-ran.new.input) ran.status ran.log.items (out c.args.out.now) (out c.run_kept-ran.new.out))) same whole

@@ -14,7 +14,7 @@ returns-clause-answered g c =
     let w = o.written c.answer.new.out in
     let h = c.args.self.now.journal.history in
     let es = entries_between c.args.self.now.journal.history c.answer.new.self.journal.history in
-    IfOk-weaker c.answer.result _ _ (λ r one. subst (λ (l : List (Option (List ℕ))). AnsweredBy (Answers l h) es v w r.faulty) (sym c.text_of.ensures) (AnsweredBy-one _ h es v w r.faulty one)) c.answer.ensures.answered
+    IfOk-weaker c.answer.result _ _ (λ r one. subst (λ (l : List (Option (List ℕ))). AnsweredBy (Answers c.args.user.now l h) es v w r.faulty) (sym c.text_of.ensures) (AnsweredBy-one _ h es v w r.faulty one)) c.answer.ensures.answered
 
 pub returns-clause-stopped : goal.returns-clause-stopped
 returns-clause-stopped g c =
@@ -23,4 +23,4 @@ returns-clause-stopped g c =
     let w = o.written c.answer.new.out in
     let h = c.args.self.now.journal.history in
     let es = entries_between c.args.self.now.journal.history c.answer.new.self.journal.history in
-    on_err_weaker c.answer.result (λ stop. subst (λ (l : List (Option (List ℕ))). StopsIn l h es v w) (sym c.text_of.ensures) (StopsIn-line _ h es v w stop)) c.answer.ensures.stopped
+    on_err_weaker c.answer.result (λ stop. subst (λ (l : List (Option (List ℕ))). StopsIn c.args.user.now l h es v w) (sym c.text_of.ensures) (StopsIn-line _ h es v w stop)) c.answer.ensures.stopped

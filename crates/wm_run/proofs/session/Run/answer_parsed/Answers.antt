@@ -24,7 +24,7 @@ returns-in_err-put-in-Fault-clause-stopped g c =
     let history = c.args.self.now.journal.history in
     let some = c.in_err-put-in-Fault.ensures.some in
     let bytes : c.as_bytes.result.now ≡ fault_answer fault = c.as_bytes.ensures.value ∙ c.in_ok-line-in-Fault.ensures in
-    let cut : IsCutShort (AnswersParsed (Fault fault) history) (entries_between history history) (o.written c.args.out.now) (o.written c.put.new.out) =
+    let cut : IsCutShort (AnswersParsed c.args.user.now (Fault fault) history) (entries_between history history) (o.written c.args.out.now) (o.written c.put.new.out) =
     inr (record {
       due = fault_answer fault;
       faulty = is_fault fault;
@@ -33,4 +33,4 @@ returns-in_err-put-in-Fault-clause-stopped g c =
       written = subst (λ (b : List ℕ). Grows (o.written c.args.out.now) (o.written c.put.new.out) (take some.0 b)) bytes some.1;
     }) in
     on_err c.from_residual-in_err-put-in-Fault.result
-    (subst (λ (r : Parsed). IsCutShort (AnswersParsed r history) (entries_between history history) (o.written c.args.out.now) (o.written c.put.new.out)) (sym c.in-Fault.is) cut)
+    (subst (λ (r : Parsed). IsCutShort (AnswersParsed c.args.user.now r history) (entries_between history history) (o.written c.args.out.now) (o.written c.put.new.out)) (sym c.in-Fault.is) cut)

@@ -1,5 +1,5 @@
 use Rattle.wm_base.proofs.Lists.{on_err}
-use Rattle.wm_run.proofs.Servings.{Serves-call, Serves-monitor, one_call}
+use Rattle.wm_run.proofs.Servings.{Serves-call, Serves-monitor, Serves-same, one_call}
 use Rattle.std.proofs.Common.{None, subst, inl, inr}
 use Rattle.wm_run.proofs.IdleCalls.{idle_call}
 use Rattle.wm_run.proofs.StoppedRuns.{Untouched-same}
@@ -8,6 +8,12 @@ use Rattle.wm_run.specs.Calls.{Called}
 use Rattle.wm_run.specs.Session.{start_call}
 use Rattle.wm_monitor.proofs.Monitors.{Proceeds-then}
 use Rattle.wm_run.proofs.session.Run.begin.Goals as goal
+
+pub returns-in_err-call-clause-serves : goal.returns-in_err-call-clause-serves
+returns-in_err-call-clause-serves g c =
+    let s = g.P.Spawner in
+    let p = c.args.spawner.now in
+    Serves-same c.args.self.now.journal.history c.call.new.self.journal.history c.args.self.now.monitor c.call.new.self.monitor (s.asked p) (s.told p) (s.misses p) c.in_err-call.ensures.err c.call.ensures.monitor
 
 pub returns-in_err-turn-clause-serves : goal.returns-in_err-turn-clause-serves
 returns-in_err-turn-clause-serves g c =
@@ -25,7 +31,7 @@ returns-clause-serves g c =
 
 pub returns-clause-begun : goal.returns-clause-begun
 returns-clause-begun g c =
-    one_call c.args.self.now.journal.history c.call.new.self.journal.history c.turn.new.self.journal.history c.in_ok-start.start start_call c.in_ok-call.ensures.ok c.in_ok-start.ensures.call c.turn.ensures.part.log c.turn.ensures.part.callers
+    one_call c.args.self.now.journal.history c.call.new.self.journal.history c.turn.new.self.journal.history c.in_ok-start.start (start_call c.args.ctl.now) c.in_ok-call.ensures.ok c.in_ok-start.ensures.call c.turn.ensures.part.log c.turn.ensures.part.callers
 
 pub returns-in_err-call-clause-not_begun : goal.returns-in_err-call-clause-not_begun
 returns-in_err-call-clause-not_begun g c =
@@ -34,7 +40,7 @@ returns-in_err-call-clause-not_begun g c =
 
 pub returns-in_err-turn-clause-not_begun : goal.returns-in_err-turn-clause-not_begun
 returns-in_err-turn-clause-not_begun g c =
-    on_err _ (inr (one_call c.args.self.now.journal.history c.call.new.self.journal.history c.turn.new.self.journal.history c.in_ok-start.start start_call c.in_ok-call.ensures.ok c.in_ok-start.ensures.call c.turn.ensures.part.log c.turn.ensures.part.callers))
+    on_err _ (inr (one_call c.args.self.now.journal.history c.call.new.self.journal.history c.turn.new.self.journal.history c.in_ok-start.start (start_call c.args.ctl.now) c.in_ok-call.ensures.ok c.in_ok-start.ensures.call c.turn.ensures.part.log c.turn.ensures.part.callers))
 
 pub returns-clause-orders : goal.returns-clause-orders
 returns-clause-orders g c =

@@ -7,7 +7,6 @@ use Rattle.wm_run.proofs.IdleCalls.{idle_call}
 use Rattle.wm_law.specs.declared.call.Call.{Call}
 use Rattle.wm_law.specs.declared.call.Call.TheVariants.{Change}
 use Rattle.wm_run.specs.Calls.{Called}
-use Rattle.wm_run.specs.Parsed.{session_user}
 use Rattle.wm_monitor.proofs.Monitors.{Proceeds-none, Proceeds-then}
 use Rattle.wm_run.proofs.session.Run.call_command.Goals as goal
 
@@ -24,20 +23,20 @@ pub returns-in_err-answered-clause-serves : goal.returns-in_err-answered-clause-
 returns-in_err-answered-clause-serves g c =
     let s = g.P.Spawner in
     let p = c.args.spawner.now in
-    Serves-call c.args.self.now.journal.history c.call.new.self.journal.history session_user c.args.command c.args.self.now.monitor c.call.new.self.monitor (s.asked p) (s.told p) (s.misses p) (subst (λ (call : Call). Called c.args.self.now.journal.history call c.call.new.self.journal.history) c.in_ok-change.ensures.call c.in_ok-call.ensures.ok) c.call.ensures.monitor
+    Serves-call c.args.self.now.journal.history c.call.new.self.journal.history c.args.user.now c.args.command c.args.self.now.monitor c.call.new.self.monitor (s.asked p) (s.told p) (s.misses p) (subst (λ (call : Call). Called c.args.self.now.journal.history call c.call.new.self.journal.history) c.in_ok-change.ensures.call c.in_ok-call.ensures.ok) c.call.ensures.monitor
 
 pub returns-in_err-turn-clause-serves : goal.returns-in_err-turn-clause-serves
 returns-in_err-turn-clause-serves g c =
     let s = g.P.Spawner in
     let p = c.args.spawner.now in
-    let called = Serves-call c.args.self.now.journal.history c.call.new.self.journal.history session_user c.args.command c.args.self.now.monitor c.call.new.self.monitor (s.asked p) (s.told p) (s.misses p) (subst (λ (call : Call). Called c.args.self.now.journal.history call c.call.new.self.journal.history) c.in_ok-change.ensures.call c.in_ok-call.ensures.ok) c.call.ensures.monitor in
+    let called = Serves-call c.args.self.now.journal.history c.call.new.self.journal.history c.args.user.now c.args.command c.args.self.now.monitor c.call.new.self.monitor (s.asked p) (s.told p) (s.misses p) (subst (λ (call : Call). Called c.args.self.now.journal.history call c.call.new.self.journal.history) c.in_ok-change.ensures.call c.in_ok-call.ensures.ok) c.call.ensures.monitor in
     Proceeds-then _ _ _ called (Serves-monitor _ _ c.turn.ensures.part)
 
 pub returns-clause-serves : goal.returns-clause-serves
 returns-clause-serves g c =
     let s = g.P.Spawner in
     let p = c.args.spawner.now in
-    let called = Serves-call c.args.self.now.journal.history c.call.new.self.journal.history session_user c.args.command c.args.self.now.monitor c.call.new.self.monitor (s.asked p) (s.told p) (s.misses p) (subst (λ (call : Call). Called c.args.self.now.journal.history call c.call.new.self.journal.history) c.in_ok-change.ensures.call c.in_ok-call.ensures.ok) c.call.ensures.monitor in
+    let called = Serves-call c.args.self.now.journal.history c.call.new.self.journal.history c.args.user.now c.args.command c.args.self.now.monitor c.call.new.self.monitor (s.asked p) (s.told p) (s.misses p) (subst (λ (call : Call). Called c.args.self.now.journal.history call c.call.new.self.journal.history) c.in_ok-change.ensures.call c.in_ok-call.ensures.ok) c.call.ensures.monitor in
     Proceeds-then _ _ _ called (Serves-monitor _ _ c.turn.ensures.part)
 
 pub returns-clause-answered : goal.returns-clause-answered
@@ -66,4 +65,4 @@ returns-clause-down g c =
 
 pub returns-clause-orders : goal.returns-clause-orders
 returns-clause-orders g c =
-    idle_call c.args.self.now.journal.history c.call.new.self.journal.history c.turn.new.self.journal.history (Change session_user c.args.command) c.in_ok-turn.field-0.pending (subst (λ (call : Call). Called c.args.self.now.journal.history call c.call.new.self.journal.history) c.in_ok-change.ensures.call c.in_ok-call.ensures.ok) c.turn.ensures.part.log c.in_ok-turn.ensures.pending c.in_ok-turn.ensures.handed
+    idle_call c.args.self.now.journal.history c.call.new.self.journal.history c.turn.new.self.journal.history (Change c.args.user.now c.args.command) c.in_ok-turn.field-0.pending (subst (λ (call : Call). Called c.args.self.now.journal.history call c.call.new.self.journal.history) c.in_ok-change.ensures.call c.in_ok-call.ensures.ok) c.turn.ensures.part.log c.in_ok-turn.ensures.pending c.in_ok-turn.ensures.handed

@@ -24,7 +24,7 @@ lines-init g c =
       within = omega arith;
       serves = Proceeds-none _;
       up = up_none c.args.self.now.journal.history;
-      taken = taken_none c.args.joiner.now c.args.joiner.now c.args.piece.now c.args.self.now.journal.history (g.O.Sink.written c.args.out.now) (λ more. refl);
+      taken = taken_none c.args.user.now c.args.joiner.now c.args.joiner.now c.args.piece.now c.args.self.now.journal.history (g.O.Sink.written c.args.out.now) (λ more. refl);
       written = omega arith;
       looked = omega arith;
       journal = HasJournalCauses-none _ (λ f. f) (λ f. f);
@@ -47,8 +47,8 @@ lines-preserved g c =
     let o = c.lines.self.journal.history in
     let last = c.take_line.new.self.journal.history in
     let es = entries_between o last in
-    let some = subst (λ (xs : List ℕ). TakesPiece c.lines.joiner xs c.take_line.new.joiner (drop n xs) o es v w f) same c.in_ok-taken.ensures.taken in
-    let next = subst (λ (xs : List ℕ). TakesPiece c.lines.joiner (drop at piece) c.take_line.new.joiner xs o es v w f) (drop-drop n at piece) some in
+    let some = subst (λ (xs : List ℕ). TakesPiece c.args.user.now c.lines.joiner xs c.take_line.new.joiner (drop n xs) o es v w f) same c.in_ok-taken.ensures.taken in
+    let next = subst (λ (xs : List ℕ). TakesPiece c.args.user.now c.lines.joiner (drop at piece) c.take_line.new.joiner xs o es v w f) (drop-drop n at piece) some in
     let behind = c.behind-answered in
     let taken = taken_then c.args.joiner.now c.lines.joiner c.take_line.new.joiner piece (drop at piece) (drop (at + n) piece) first o last u v w c.lines.faulty f behind.result.faulty behind.ensures.faulty i.up (continues _ _ i.serves) (continues _ _ k.serves) i.taken next in
     let line : is_down (entries_between first last) ≡ c.in_ok-taken.line.down = down_between first o last (continues _ _ i.serves) (continues _ _ k.serves) i.up ∙ sym c.in_ok-taken.ensures.down in
@@ -83,8 +83,8 @@ returns-then-answered-clause-taken g c =
     let o = c.lines.self.journal.history in
     let last = c.take_line.new.self.journal.history in
     let es = entries_between o last in
-    let some = subst (λ (xs : List ℕ). TakesPiece c.lines.joiner xs c.take_line.new.joiner (drop n xs) o es v w f) same c.in_ok-taken.ensures.taken in
-    let next = subst (λ (xs : List ℕ). TakesPiece c.lines.joiner (drop at piece) c.take_line.new.joiner xs o es v w f) (drop-drop n at piece) some in
+    let some = subst (λ (xs : List ℕ). TakesPiece c.args.user.now c.lines.joiner xs c.take_line.new.joiner (drop n xs) o es v w f) same c.in_ok-taken.ensures.taken in
+    let next = subst (λ (xs : List ℕ). TakesPiece c.args.user.now c.lines.joiner (drop at piece) c.take_line.new.joiner xs o es v w f) (drop-drop n at piece) some in
     let behind = c.behind-answered in
     let taken = taken_then c.args.joiner.now c.lines.joiner c.take_line.new.joiner piece (drop at piece) (drop (at + n) piece) first o last u v w c.lines.faulty f behind.result.faulty behind.ensures.faulty i.up (continues _ _ i.serves) (continues _ _ k.serves) i.taken next in
     let line : is_down (entries_between first last) ≡ c.in_ok-taken.line.down = down_between first o last (continues _ _ i.serves) (continues _ _ k.serves) i.up ∙ sym c.in_ok-taken.ensures.down in
@@ -108,8 +108,8 @@ returns-then-answered-clause-down g c =
     let o = c.lines.self.journal.history in
     let last = c.take_line.new.self.journal.history in
     let es = entries_between o last in
-    let some = subst (λ (xs : List ℕ). TakesPiece c.lines.joiner xs c.take_line.new.joiner (drop n xs) o es v w f) same c.in_ok-taken.ensures.taken in
-    let next = subst (λ (xs : List ℕ). TakesPiece c.lines.joiner (drop at piece) c.take_line.new.joiner xs o es v w f) (drop-drop n at piece) some in
+    let some = subst (λ (xs : List ℕ). TakesPiece c.args.user.now c.lines.joiner xs c.take_line.new.joiner (drop n xs) o es v w f) same c.in_ok-taken.ensures.taken in
+    let next = subst (λ (xs : List ℕ). TakesPiece c.args.user.now c.lines.joiner (drop at piece) c.take_line.new.joiner xs o es v w f) (drop-drop n at piece) some in
     let behind = c.behind-answered in
     let taken = taken_then c.args.joiner.now c.lines.joiner c.take_line.new.joiner piece (drop at piece) (drop (at + n) piece) first o last u v w c.lines.faulty f behind.result.faulty behind.ensures.faulty i.up (continues _ _ i.serves) (continues _ _ k.serves) i.taken next in
     let line : is_down (entries_between first last) ≡ c.in_ok-taken.line.down = down_between first o last (continues _ _ i.serves) (continues _ _ k.serves) i.up ∙ sym c.in_ok-taken.ensures.down in
@@ -132,7 +132,7 @@ returns-in_err-taken-clause-stopped g c =
     let piece = c.args.piece.now in
     let v = o.written c.lines.out in
     let w = o.written c.take_line.new.out in
-    let stop = subst (λ (xs : List ℕ). (more : List ℕ) → StopsIn (lines_from c.lines.joiner (xs ++ more)) c.lines.self.journal.history (entries_between c.lines.self.journal.history c.take_line.new.self.journal.history) v w) (rest_of c.lines.at piece) c.in_err-taken.ensures.stopped in
+    let stop = subst (λ (xs : List ℕ). (more : List ℕ) → StopsIn c.args.user.now (lines_from c.lines.joiner (xs ++ more)) c.lines.self.journal.history (entries_between c.lines.self.journal.history c.take_line.new.self.journal.history) v w) (rest_of c.lines.at piece) c.in_err-taken.ensures.stopped in
     on_err _ (stops_piece c.args.joiner.now c.lines.joiner piece (drop c.lines.at piece) c.args.self.now.journal.history c.lines.self.journal.history c.take_line.new.self.journal.history (o.written c.args.out.now) v w c.lines.faulty i.up (continues _ _ i.serves) (continues _ _ c.take_line.ensures.serves) i.taken stop)
 
 pub returns-clause-taken : goal.returns-clause-taken
@@ -144,8 +144,8 @@ returns-clause-taken g c =
     let es = entries_between h c.lines.self.journal.history in
     let u = o.written c.args.out.now in
     let v = o.written c.lines.out in
-    let whole = subst (λ (xs : List ℕ). TakesPiece c.args.joiner.now c.args.piece.now c.lines.joiner xs h es u v c.lines.faulty) all i.taken in
-    record { rest = []; whole = λ is. refl; taken = subst (λ (t : Bool). TakesPiece c.args.joiner.now c.args.piece.now c.lines.joiner [] h es u v t) (sym c.uncalled.ensures.faulty) whole }
+    let whole = subst (λ (xs : List ℕ). TakesPiece c.args.user.now c.args.joiner.now c.args.piece.now c.lines.joiner xs h es u v c.lines.faulty) all i.taken in
+    record { rest = []; whole = λ is. refl; taken = subst (λ (t : Bool). TakesPiece c.args.user.now c.args.joiner.now c.args.piece.now c.lines.joiner [] h es u v t) (sym c.uncalled.ensures.faulty) whole }
 
 pub returns-clause-down : goal.returns-clause-down
 returns-clause-down g c = c.uncalled.ensures.up ∙ sym c.lines.invariant.up

@@ -17,7 +17,7 @@ invariant-lines g l =
     (o.faults l.fn.out) (o.faults l.out) (s.faults l.fn.spawner) (s.faults l.spawner)
     l.at l.piece
     (is_down (entries_between l.fn.self.journal.history l.self.journal.history))
-    (TakesPiece l.fn.joiner l.piece l.joiner (drop l.at l.piece) l.fn.self.journal.history (entries_between l.fn.self.journal.history l.self.journal.history) (o.written l.fn.out) (o.written l.out) l.faulty)
+    (TakesPiece l.user l.fn.joiner l.piece l.joiner (drop l.at l.piece) l.fn.self.journal.history (entries_between l.fn.self.journal.history l.self.journal.history) (o.written l.fn.out) (o.written l.out) l.faulty)
     (HasJournalCauses g.K.Keeper.faults g.K.Keeper.trail ⊥ ⊥ l.fn.self.journal l.self.journal)
 
 abbrev pub decreases-lines : goal.decreases-lines

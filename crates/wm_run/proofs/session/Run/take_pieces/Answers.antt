@@ -27,7 +27,7 @@ returns-in_err-some-clause-serves g c = Proceeds-then _ _ _ c.reads.invariant.se
 pub reads-init : goal.reads-init
 reads-init g c =
     let x = g.I.Source.left c.args.input.now in
-    let none = input_none c.in_ok-joiner.joiner x c.args.self.now.journal.history (g.O.Sink.written c.args.out.now) c.in_ok-joiner.ensures in
+    let none = input_none c.args.user.now c.in_ok-joiner.joiner x c.args.self.now.journal.history (g.O.Sink.written c.args.out.now) c.in_ok-joiner.ensures in
     record {
       serves = Proceeds-none _;
       up = up_none c.args.self.now.journal.history;
@@ -59,7 +59,7 @@ reads-preserved g c =
     let f = c.in_ok-some.some.faulty in
     let up : c.in_ok-some.some.down ≡ false = sym behind.ensures.down ∙ c.if-answered.false in
     let all = c.in_ok-some.ensures.taken in
-    let whole = subst (λ (rest : List ℕ). TakesPiece c.reads.joiner ys c.take_piece.new.joiner rest mid (entries_between mid last) v w f) (all.whole up) all.taken in
+    let whole = subst (λ (rest : List ℕ). TakesPiece c.args.user.now c.reads.joiner ys c.take_piece.new.joiner rest mid (entries_between mid last) v w f) (all.whole up) all.taken in
     let more = input_then (x.left c.args.input.now) (x.left c.reads.input) (x.left c.read.new.input) c.reads.joiner c.take_piece.new.joiner ys first mid last (o.written c.args.out.now) v w c.reads.faulty f behind.result.faulty behind.ensures.faulty i.up (continues _ _ i.serves) (continues _ _ k.serves) (record { bytes = xs; taken = i.taken.taken; done = i.taken.done.lines }) c.in_ok-n.ensures.taken whole in
     record {
       serves = Proceeds-then _ _ _ i.serves k.serves;
@@ -114,7 +114,7 @@ returns-in_err-joiner-clause-input g c =
     let p = err_from_is_err_and c.from_residual.result c.from_residual.ensures.1 in
     let is = p.1 in
     let same = p.2 in
-    came_none c.from_residual.result p.0 (g.I.Source.left c.args.input.now) c.args.self.now.journal.history (g.O.Sink.written c.args.out.now) p.1 (λ f. absurd (cc)) (λ f. absurd (cc))
+    came_none c.args.user.now c.from_residual.result p.0 (g.I.Source.left c.args.input.now) c.args.self.now.journal.history (g.O.Sink.written c.args.out.now) p.1 (λ f. absurd (cc)) (λ f. absurd (cc))
 
 pub returns-in_err-n-clause-input : goal.returns-in_err-n-clause-input
 returns-in_err-n-clause-input g c =

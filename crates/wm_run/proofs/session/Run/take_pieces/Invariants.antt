@@ -17,5 +17,5 @@ invariant-reads g l =
     (i.faults l.fn.input) (i.faults l.input) (o.faults l.fn.out) (o.faults l.out) (s.faults l.fn.spawner) (s.faults l.spawner)
     l.total l.piece
     (is_down (entries_between l.fn.self.journal.history l.self.journal.history))
-    (TakesInput (i.left l.fn.input) (i.left l.input) (λ bytes. SoFar l.joiner l.fn.self.journal.history (entries_between l.fn.self.journal.history l.self.journal.history) (o.written l.fn.out) (o.written l.out) l.faulty l.total bytes))
+    (TakesInput (i.left l.fn.input) (i.left l.input) (λ bytes. SoFar l.user l.joiner l.fn.self.journal.history (entries_between l.fn.self.journal.history l.self.journal.history) (o.written l.fn.out) (o.written l.out) l.faulty l.total bytes))
     (HasJournalCauses g.K.Keeper.faults g.K.Keeper.trail ⊥ ⊥ l.fn.self.journal l.self.journal)
