@@ -31,6 +31,7 @@ fn one_turn<R: Wait + Clock>(
 {
     let mut counter = stile.enter(rt, pass);
     let place = counter.add(pass.number());
+    // The checker learns from this look that the list is shorter than 2^64, as `leave` asks.
     let _count = counter.notes.len();
     rest(rt, micros);
     stile.leave(pass, counter);
