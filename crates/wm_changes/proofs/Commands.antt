@@ -23,7 +23,7 @@ use Rattle.wm_desc.proofs.Tables.{test_fails}
 use Rattle.wm_traits.specs.declared.row.Row.{Row}
 use Rattle.wm_traits.specs.declared.row.RowChange.{RowChange}
 use Rattle.wm_traits.specs.declared.row.RowChange.TheVariants.{Put, Del}
-use Rattle.wm_law.specs.Changing.{has_queue as has_its_queue}
+use Rattle.wm_law.specs.Changing.{finds_queue}
 use Rattle.wm_law.specs.Choice.{entry_for, is_held}
 use Rattle.wm_law.specs.Machine.{apply, change}
 use Rattle.wm_law.specs.Making.{auto_entry_of, class_of, jobd_of, made_unless, queue_entry_of, route_entry_of, unless_in_use}

@@ -1,4 +1,13 @@
 // The reader of commands, byte by byte.
+//
+// It keeps a mode (`mode.rt`), where the word, text or comment began, its bytes so far, and the open lists with their items.
+// There is one function a mode, which says where a byte leads. Free: between items, at a `(` or a `)`, or where an item may
+// begin; Slash: a `/` there, which a `*` makes a comment, and else a word; InWord, which a `(` makes a key; InQuoted: a text,
+// up to an apostrophe; AtApostrophe: its end, or, where another one follows, one of its bytes; AfterSlash: a `/` just behind a
+// text, which only a comment may follow; InComment, and AtStar behind a `*` in it. A byte that has no place in its mode is the
+// fault, and nothing is read after it.
+// What always holds: the reader has what `run` of `specs/Reading.antt` has after the same bytes. That those steps are the
+// grammar, which knows no modes, is proved there in both ways.
 ghost use Rattle.std.specs.Prelude.{◌≡◌};
 ghost use Rattle.wm_base.specs.Text.{is_printable};
 ghost use Rattle.wm_clwords.specs.Lines.{is_blank};

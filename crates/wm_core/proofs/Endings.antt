@@ -8,7 +8,7 @@ use Rattle.wm_law.specs.declared.job.Wish.{Wish}
 use Rattle.wm_law.specs.declared.state.Evoke.{Evoke}
 use Rattle.wm_law.specs.declared.state.Sbs.{Sbs}
 use Rattle.wm_law.specs.declared.state.State.{State}
-use Rattle.wm_law.specs.Endings.{end_found, end_job, end_phase, end_those, is_any, phased, told}
+use Rattle.wm_law.specs.Endings.{end_found, end_job, end_phase, end_those, is_of_those, phased, told}
 use Rattle.wm_law.specs.Jobs.{active_at, with_active}
 use Rattle.wm_law.specs.Named.{job_named}
 use Rattle.wm_law.specs.Settling.{come_due, job_at, sbss_at}
@@ -32,7 +32,7 @@ wish_given s serial w jobs clock next_serial next_place a b c d = rw (a, b, c, d
 pub those_ended : (s : State) (option : EndOption) (delay : Option ℕ) (test : Sbs → Bool) (jobs : List Job) (started : List Sbs) (evokes : List Evoke) (clock next_serial next_place : ℕ)
     → jobs ≡ map (told option test s.started) s.jobs
     → started ≡ map (phased test (end_phase s.clock option delay)) s.started
-    → evokes ≡ filter (λ e. not (is_any test s.started e.sbs)) s.evokes
+    → evokes ≡ filter (λ e. not (is_of_those test s.started e.sbs)) s.evokes
     → clock ≡ s.clock → next_serial ≡ s.next_serial → next_place ≡ s.next_place
     → record s { jobs = jobs; started = started; evokes = evokes; clock = clock; next_serial = next_serial; next_place = next_place } ≡ end_those s option delay test
 those_ended s option delay test jobs started evokes clock next_serial next_place a b c d e f = rw (a, b, c, d, e, f) refl

@@ -1,6 +1,6 @@
 // Autostart jobs: made and launched as their subsystem starts.
 ghost use Rattle.std.specs.Prelude.{◌≡◌, ◌+◌, ◌++◌, ◌^◌, ◌<◌, ◌≤◌, length, option_to_list, IfOk, OnOk};
-ghost use Rattle.wm_law.specs.Launch.{as_auto, launched_as};
+ghost use Rattle.wm_law.specs.Launch.{as_auto, routed_in};
 ghost use Rattle.wm_law.specs.Submitting.{numbers_end};
 ghost use Rattle.wm_jobs.specs.Table.{IsReady};
 ghost use Rattle.wm_core.specs.Drafts.{draft_of, draft_in, drafts, drafted_job, enter_draft, site_state, enter_drafts};
@@ -88,7 +88,7 @@ fn drafted_job(table: &JobTable, number: u32, site: &Site<'_>, draft: Draft) -> 
 
 // What its launch makes of it.
 fn launched(table: &JobTable, number: u32, site: &Site<'_>, job: &Job) -> Launched
-    ensures { result ≡ launched_as (site_state site.now table.now number) site.now.sbs (as_auto site.now.sbs) job.now }
+    ensures { result ≡ routed_in (site_state site.now table.now number) site.now.sbs (as_auto site.now.sbs) job.now }
 {
     let parts = Parts::new(
         site.objects,

@@ -35,12 +35,12 @@ fn stays(command: &Chgjob, job: &Job) -> bool
 
 impl Machine {
     ghost use Rattle.std.specs.Prelude.{◌≡◌, OnOk, OnErr, IfOk};
-    ghost use Rattle.wm_law.specs.Changing.{has_queue, change_job};
+    ghost use Rattle.wm_law.specs.Changing.{finds_queue, change_job};
     ghost use Rattle.wm_law.specs.Fit.{IsJobChange};
 
     // Whether the queue that is asked for is an object, where one is.
-    fn has_queue(&self, wanted: &Option<QName>) -> bool
-        ensures { result ≡ has_queue self.now.state wanted.now }
+    fn finds_queue(&self, wanted: &Option<QName>) -> bool
+        ensures { result ≡ finds_queue self.now.state wanted.now }
     {
         match wanted {
             None => true,
@@ -60,7 +60,7 @@ impl Machine {
             Ok(job) => job,
             Err(refusal) => return Ok(Reply::No(refusal)),
         };
-        if !self.has_queue(&command.jobq) {
+        if !self.finds_queue(&command.jobq) {
             return Ok(Reply::No(Refusal::NoObject(Kind::Jobq)));
         }
         let due = match self.rescheduled(job.due, command.scddate, command.scdtime) {

@@ -3,7 +3,7 @@ use crate::Machine;
 use wm_base::{Name, NoMemory, Refusal};
 use wm_law::{EndOption, Endsbs, Pwrdwnsys, Reply, Sbs};
 use wm_subsystems::{
-    Telling, Those, down_by, drop_evokes, end_phase, end_sbss, is_down, is_ended,
+    Telling, Those, down_by, drop_evokes, end_phase, end_sbss, is_down, is_ending_by,
     reserve_for_active, tell_all,
 };
 
@@ -62,7 +62,7 @@ impl Machine {
         let Some(sbs) = self.started_named(&command.sbs) else {
             return Ok(Reply::No(Refusal::SbsNotActive));
         };
-        if is_ended(command.option, &sbs.phase) {
+        if is_ending_by(command.option, &sbs.phase) {
             return Ok(Reply::No(Refusal::AlreadyEnding));
         }
         let name = sbs.sbsd;

@@ -190,7 +190,7 @@ impl Machine {
         now: Moment,
     ) -> Result<Reply, NoMemory>
         requires ranges { IsCall call.now }
-        requires built { HasCall self.old.state call.now }
+        requires built { HasCall call.now }
         requires sound { IsSound self.old.state }
         requires none_due { HasNoneDue self.old.state }
         ensures reply { IfOk result (λ r. r ≡ (step self.old.state caller call.now now).reply) }

@@ -54,7 +54,7 @@ impl Core {
         now: Moment,
     ) -> Result<Reply, NoMemory>
         requires ranges { IsCall call.now }
-        requires built { HasCall self.old.state call.now }
+        requires built { HasCall call.now }
         ensures reply { IfOk result (λ r. r ≡ (step self.old.state caller call.now now).reply) }
         ensures state { OnOk result (self.new.state ≡ (step self.old.state caller call.now now).state) }
         ensures before { OnOk result (self.new.before ≡ self.old.state) }

@@ -79,7 +79,8 @@ impl JobTable {
     ghost use Rattle.std.specs.Ordering.{nat_cmp};
     ghost use Rattle.wm_desc.specs.Sorted.{IsSortedOnce};
     ghost use Rattle.wm_law.specs.Counts.{is_waiting, is_starting, is_active};
-    ghost use Rattle.wm_law.specs.Launch.{launched_at};
+    ghost use Rattle.wm_law.specs.Jobs.{changed_at};
+    ghost use Rattle.wm_law.specs.Launch.{as_launched};
     ghost use Rattle.wm_law.specs.Reports.{phased_at};
     ghost use Rattle.wm_tally.specs.Tally.{IsTally};
     ghost use Rattle.wm_pick.specs.Parts.{waiters};
@@ -285,7 +286,7 @@ impl JobTable {
     pub fn launch(&mut self, serial: Serial, launched: &Launched)
         requires phase { is_waiting launched.now.phase ≡ false }
         requires waits { IfSome (find (λ j. j.serial == serial) self.old.jobs) (λ j. is_waiting j.phase ≡ true) }
-        ensures jobs { self.new.jobs ≡ map (launched_at serial launched.now) self.old.jobs }
+        ensures jobs { self.new.jobs ≡ map (changed_at serial (as_launched launched.now)) self.old.jobs }
         ensures clock { self.new.clock ≡ self.old.clock }
         ensures next_serial { self.new.next_serial ≡ self.old.next_serial }
         ensures next_place { self.new.next_place ≡ self.old.next_place }

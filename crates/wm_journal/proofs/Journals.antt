@@ -31,7 +31,7 @@ pub record IsStep (h : History) (most : ℕ) (s t : State) (caller : ℕ) (call 
   pub journal : IsJournal h most s old mid
   pub seat : caller < 2 ^ 32
   pub fit : IsCall call
-  pub built : HasCall (reached h) call
+  pub built : HasCall call
   pub moment : now ≤ 253402214399
   pub room : length h.log + 1 ≤ 4000000
   pub reply : said ≡ (step s caller call now).reply

@@ -107,7 +107,7 @@ impl<K: Keeper> Journal<K> {
         now: Moment,
     ) -> Result<(), CallFault>
         requires fit { IsCall call }
-        requires built { HasCall (reached self.old.history) call }
+        requires built { HasCall call }
         ensures ok { OnOk result (self.new.history ≡ with_call self.old.history pass.now call now) }
         ensures kept { OnOk result (IsKept (reached self.old.history) (reached self.new.history) (telling K.tables K.trail self.old.keeper) (telling K.tables K.trail self.new.keeper)) }
         ensures err { OnErr result (self.new.history ≡ self.old.history) }

@@ -70,7 +70,7 @@ impl<K: Keeper> StoredCore<K> {
         now: Moment,
     ) -> Result<Reply, KeepFault>
         requires ranges { IsCall call.now }
-        requires built { HasCall self.old.state call.now }
+        requires built { HasCall call.now }
         ensures reply { IfOk result (λ r. r ≡ (step self.old.state caller call.now now).reply) }
         ensures state { OnOk result (self.new.state ≡ (step self.old.state caller call.now now).state) }
         ensures kept { OnOk result (IsKept self.old.state self.new.state (telling K.tables K.trail self.old.keeper) (telling K.tables K.trail self.new.keeper)) }

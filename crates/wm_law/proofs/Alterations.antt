@@ -17,7 +17,7 @@ use Rattle.wm_law.specs.declared.job.Job.{Job}
 use Rattle.wm_law.specs.declared.job.Phase.{Phase}
 use Rattle.wm_law.specs.declared.job.Phase.TheVariants.{Waiting, Starting, Handed, Running, Ended}
 use Rattle.wm_law.specs.declared.state.State.{State}
-use Rattle.wm_law.specs.Changing.{has_queue, moved_to, with_due}
+use Rattle.wm_law.specs.Changing.{finds_queue, moved_to, with_due}
 use Rattle.wm_law.specs.Choice.{is_held}
 use Rattle.wm_law.specs.Counts.{is_active, is_waiting}
 use Rattle.wm_law.specs.History.{order_in}
@@ -158,7 +158,7 @@ some_or (Some q) present h = refl
 of_some : (a b : QName) → Some a ≡ Some b → a ≡ b
 of_some a b e = cc
 
-object_or : (s : State) (wanted present : Option QName) (q : QName) → has_queue s wanted ≡ true → option_or wanted present ≡ Some q → (present ≡ Some q) ⊎ IsSome (object_named q s.objects.jobqs)
+object_or : (s : State) (wanted present : Option QName) (q : QName) → finds_queue s wanted ≡ true → option_or wanted present ≡ Some q → (present ≡ Some q) ⊎ IsSome (object_named q s.objects.jobqs)
 object_or s None present q h e = inl e
 object_or s (Some w) present q h e = inr (ap (λ (n : QName). is_some (object_named n s.objects.jobqs)) (sym (of_some w q e)) ∙ h)
 
@@ -171,7 +171,7 @@ taken_at change serial place j h w e =
     let here : (is_waiting j.phase && j.serial == serial) ≡ true = grind (arith, nat_tests) in
     ap (λ (b : Bool). (cond b (change j) j).place) here ∙ h j
 
-pub moving_alters : (s : State) (c : Chgjob) (serial due : ℕ) → nat_lt s.next_place serials_end ≡ true → has_queue s c.jobq ≡ true → IsAlteration s (waiting_at serial (moved_to c s.next_place due)) (s.next_place + 1)
+pub moving_alters : (s : State) (c : Chgjob) (serial due : ℕ) → nat_lt s.next_place serials_end ≡ true → finds_queue s c.jobq ≡ true → IsAlteration s (waiting_at serial (moved_to c s.next_place due)) (s.next_place + 1)
 moving_alters s c serial due left q = record {
   each = altered_at s serial (moved_to c s.next_place due) (λ j w. record { waits = w; serial = refl; job = refl; kind = refl; how = refl; wish = refl; phase = inl w; queue = some_or c.jobq j.jobq; is_object = λ n e. object_or s c.jobq j.jobq n q e });
   places = inr (record {

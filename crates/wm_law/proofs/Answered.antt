@@ -1,11 +1,9 @@
 -- A call that the machine has is answered.
-use Rattle.std.proofs.Common.{◌≡◌, ℕ, false}
+use Rattle.std.proofs.Common.{◌≡◌, false}
 use Rattle.wm_law.specs.declared.call.Call.{Call}
-use Rattle.wm_law.specs.declared.call.Call.TheVariants.{Change}
 use Rattle.wm_law.specs.declared.call.Reply.TheVariants.{Nothing}
-use Rattle.wm_law.specs.declared.command.Command.{Command}
 use Rattle.wm_law.specs.declared.state.State.{State}
-use Rattle.wm_law.specs.Fit.{HasCommand, HasCall}
+use Rattle.wm_law.specs.Fit.{HasCall}
 use Rattle.wm_law.specs.History.{is_hand}
 use Rattle.wm_law.specs.Laws.{BuiltCallsAreAnswered}
 use Rattle.wm_law.specs.Machine.{step, with_clock}
@@ -14,7 +12,7 @@ use Rattle.wm_law.proofs.Moves.{HoldsAfterCalls, call_comes}
 
 -- where the machine has the call, and it is no Hand, the answer isn't Nothing
 abbrev IsAnswered : State → Call → Stepped → Type 0
-IsAnswered s call t = HasCall s call → is_hand call ≡ false → t.reply ≡ Nothing → ⊥
+IsAnswered s call t = HasCall call → is_hand call ≡ false → t.reply ≡ Nothing → ⊥
 
 answers : (s : State) (call : Call) → HoldsAfterCalls (IsAnswered s call) s call
 answers s call = record {
@@ -32,16 +30,8 @@ answers s call = record {
   makes = λ o c told b n e. absurd (cc);
 }
 
--- the clock doesn't matter to which calls the machine has
-had_still : (s : State) (moment : ℕ) (c : Command) → HasCommand s c → HasCommand (with_clock s moment) c
-had_still s moment c h = h
-
-built_still : (s : State) (moment : ℕ) (call : Call) → HasCall s call → HasCall (with_clock s moment) call
-built_still s moment (Change user c) h = had_still s moment c h
-built_still s moment call h = h
-
 pub built_calls_are_answered : BuiltCallsAreAnswered
 unfolding step
 built_calls_are_answered s caller call moment b n e =
     let t = with_clock s moment in
-    call_comes (IsAnswered t call) t caller call (answers t call) (built_still s moment call b) n e
+    call_comes (IsAnswered t call) t caller call (answers t call) b n e

@@ -12,7 +12,7 @@ use Rattle.wm_base.proofs.Orderings.{is_lt-Less}
 use Rattle.wm_law.specs.declared.state.Sbs.{Sbs}
 use Rattle.wm_law.specs.Kept.{IsDistinct}
 use Rattle.wm_law.specs.Laws.{IsIn}
-use Rattle.wm_law.specs.Settling.{placed, in_order}
+use Rattle.wm_law.specs.Settling.{inserted, in_order}
 
 -- the simple name comes before the other
 abbrev pub Precedes : QName → QName → Type 0
@@ -31,25 +31,25 @@ other_way a b Less e n d = absurd (cc)
 other_way a b Equal e n d = absurd (d (exact_bytes a b e))
 other_way a b Greater e n d = ap is_lt (nat_list_cmp_total.antisymm b a ∙ ap ordering_reverse e)
 
-of_placed_by : (t : Bool) (q p r : QName) (ps : List QName) → (IsIn r (placed q ps) → (r ≡ q) ⊎ IsIn r ps) → IsIn r (cond t (p ∷ placed q ps) (q ∷ p ∷ ps)) → (r ≡ q) ⊎ IsIn r (p ∷ ps)
+of_placed_by : (t : Bool) (q p r : QName) (ps : List QName) → (IsIn r (inserted q ps) → (r ≡ q) ⊎ IsIn r ps) → IsIn r (cond t (p ∷ inserted q ps) (q ∷ p ∷ ps)) → (r ≡ q) ⊎ IsIn r (p ∷ ps)
 of_placed_by true q p r ps h (inl e) = inr (inl e)
 of_placed_by true q p r ps h (inr i) = elim (h i) as (λ _. (r ≡ q) ⊎ IsIn r (p ∷ ps)) [ inl e ↦ inl e | inr k ↦ inr (inr k) ]
 of_placed_by false q p r ps h (inl e) = inl e
 of_placed_by false q p r ps h (inr i) = inr i
 
-of_placed : (q : QName) (qs : List QName) (r : QName) → IsIn r (placed q qs) → (r ≡ q) ⊎ IsIn r qs
+of_placed : (q : QName) (qs : List QName) (r : QName) → IsIn r (inserted q qs) → (r ≡ q) ⊎ IsIn r qs
 of_placed q [] r (inl e) = inl e
 of_placed q [] r (inr i) = absurd i
 of_placed q (p ∷ ps) r i = of_placed_by (is_lt (slice_cmp nat_cmp p.name q.name)) q p r ps (of_placed q ps r) i
 
-in_placed_by : (t : Bool) (q p r : QName) (ps : List QName) → ((r ≡ q) ⊎ IsIn r ps → IsIn r (placed q ps)) → (r ≡ q) ⊎ IsIn r (p ∷ ps) → IsIn r (cond t (p ∷ placed q ps) (q ∷ p ∷ ps))
+in_placed_by : (t : Bool) (q p r : QName) (ps : List QName) → ((r ≡ q) ⊎ IsIn r ps → IsIn r (inserted q ps)) → (r ≡ q) ⊎ IsIn r (p ∷ ps) → IsIn r (cond t (p ∷ inserted q ps) (q ∷ p ∷ ps))
 in_placed_by true q p r ps h (inl e) = inr (h (inl e))
 in_placed_by true q p r ps h (inr (inl e)) = inl e
 in_placed_by true q p r ps h (inr (inr i)) = inr (h (inr i))
 in_placed_by false q p r ps h (inl e) = inl e
 in_placed_by false q p r ps h (inr i) = inr i
 
-in_placed : (q : QName) (qs : List QName) (r : QName) → (r ≡ q) ⊎ IsIn r qs → IsIn r (placed q qs)
+in_placed : (q : QName) (qs : List QName) (r : QName) → (r ≡ q) ⊎ IsIn r qs → IsIn r (inserted q qs)
 in_placed q [] r h = h
 in_placed q (p ∷ ps) r h = in_placed_by (is_lt (slice_cmp nat_cmp p.name q.name)) q p r ps (in_placed q ps r) h
 
@@ -61,11 +61,11 @@ behind_placed : (q p : QName) (ps : List QName) → Precedes p q → ((r : QName
 behind_placed q p ps e h r (inl same) = subst (λ (x : QName). Precedes p x) (sym same) e
 behind_placed q p ps e h r (inr i) = h r i
 
-ascending_by : (t : Bool) (q p : QName) (ps : List QName) → is_lt (slice_cmp nat_cmp p.name q.name) ≡ t → (p.name ≡ q.name → ⊥) → IsAscending (p ∷ ps) → IsAscending (placed q ps) → IsAscending (cond t (p ∷ placed q ps) (q ∷ p ∷ ps))
+ascending_by : (t : Bool) (q p : QName) (ps : List QName) → is_lt (slice_cmp nat_cmp p.name q.name) ≡ t → (p.name ≡ q.name → ⊥) → IsAscending (p ∷ ps) → IsAscending (inserted q ps) → IsAscending (cond t (p ∷ inserted q ps) (q ∷ p ∷ ps))
 ascending_by true q p ps e d a rest = ((λ r i. behind_placed q p ps e a.0 r (of_placed q ps r i)), rest)
 ascending_by false q p ps e d a rest = (behind_both q p ps (other_way p.name q.name (slice_cmp nat_cmp p.name q.name) refl e d) a.0, a)
 
-ascending_placed : (q : QName) (qs : List QName) → ((r : QName) → IsIn r qs → r.name ≡ q.name → ⊥) → IsAscending qs → IsAscending (placed q qs)
+ascending_placed : (q : QName) (qs : List QName) → ((r : QName) → IsIn r qs → r.name ≡ q.name → ⊥) → IsAscending qs → IsAscending (inserted q qs)
 ascending_placed q [] d a = ((λ r i. absurd i), tt)
 ascending_placed q (p ∷ ps) d a = ascending_by (is_lt (slice_cmp nat_cmp p.name q.name)) q p ps refl (d p (inl refl)) a (ascending_placed q ps (λ r i. d r (inr i)) a.1)
 

@@ -15,7 +15,8 @@ use Rattle.wm_law.specs.declared.state.State.{State}
 use Rattle.wm_law.specs.Autos.{auto_job, auto_launched, auto_made}
 use Rattle.wm_law.specs.Choice.{next}
 use Rattle.wm_law.specs.Kept.{IsNumbered}
-use Rattle.wm_law.specs.Launch.{as_auto, as_launched, launch, launch_job, launched, launched_at, route}
+use Rattle.wm_law.specs.Jobs.{changed_at}
+use Rattle.wm_law.specs.Launch.{as_auto, as_launched, launch, launch_job, launched, route}
 use Rattle.wm_law.specs.Laws.{IsIn}
 use Rattle.wm_law.specs.Limits.{IsStarting, is_autostart}
 use Rattle.wm_law.specs.Order.{AutosFit, IsAutoRouted}
@@ -98,7 +99,7 @@ routed_at s t c f i false k e m x h same p v =
 launched_routed : (s t : State) (c : Candidate) (o : Option Job) → find (λ j. j.serial == c.serial) t.jobs ≡ o → next t ≡ Some c → IsRoutedSince s t → AutosRouted s (launch_job t c o)
 launched_routed s t c None f e h = h.routed
 launched_routed s t c (Some j) f e h = λ k m p v. (
-    let o = of_mapped (launched_at c.serial (launched t c.sbs c.jobq j)) t.jobs k m in
+    let o = of_mapped (changed_at c.serial (as_launched (launched t c.sbs c.jobq j))) t.jobs k m in
     routed_at s t c j o.0 (o.0.serial == c.serial) k refl o.1 (is_next t c j e h.numbered f) h o.2 p v)
 
 launches_routed : (s : State) → IsKept next (λ c t. launch t c) (IsRoutedSince s)

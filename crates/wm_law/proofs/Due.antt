@@ -25,7 +25,8 @@ use Rattle.wm_law.specs.declared.state.State.{State}
 use Rattle.wm_law.specs.Choice.{is_sbs_active, maxpty_of, next}
 use Rattle.wm_law.specs.Counts.{count_from_priority, count_from_queue, count_in_sbs, is_active, is_in_sbs, is_prestart, is_starting}
 use Rattle.wm_law.specs.Kept.{HasDistinctNames, IsNumbered}
-use Rattle.wm_law.specs.Launch.{as_launched, from_queue, launch, launch_job, launched, launched_at, launched_through, route}
+use Rattle.wm_law.specs.Jobs.{changed_at}
+use Rattle.wm_law.specs.Launch.{as_launched, from_queue, launch, launch_job, launched, routed_through, route}
 use Rattle.wm_law.specs.Laws.{IsIn}
 use Rattle.wm_law.specs.Machine.{apply, step, with_clock}
 use Rattle.wm_law.specs.Settling.{come_due, ended_by, is_gone, is_sbs_now, job_at, leave, sbs_at, sbs_moment, sbs_phase_at, sbss_at, unless_started, waiting, with_deadline}
@@ -208,7 +209,7 @@ none_in_now s c f x names a h =
     let o = route t.sbsd f.rtgdta in
     let same = launched_routed s c f x in
     let how = from_queue t.sbs.sbsd t.queue f in
-    let active : is_active (launched_through s t.sbs.sbsd how f o).phase ≡ true = ap (λ (l : Launched). is_active l.phase) (sym same) ∙ a in
+    let active : is_active (routed_through s t.sbs.sbsd how f o).phase ≡ true = ap (λ (l : Launched). is_active l.phase) (sym same) ∙ a in
     let r = started_through s t.sbs.sbsd how t.sbsd f o refl (active_through s t.sbs.sbsd how f o active) in
     let is_how : (launched s c.sbs c.jobq f).how ≡ FromQueue t.sbs.sbsd t.queue f.pty r.0.seq = ap (λ (l : Launched). l.how) same ∙ r.2 in
     let b = of_any (λ (b : Sbs). now b && is_in_sbs b.sbsd (launched s c.sbs c.jobq f).how) s.started h in
@@ -249,17 +250,17 @@ module _ (s : State) (c : Candidate) (f : Job) (x : IsNext s c f) (h : IsDoneDue
     told = λ t. absurd (none_in_now s c f x h.names a t);
   }
 
-  launched_by : (i : Job) (b : Bool) (k : Job) → (i.serial == c.serial) ≡ b → IsIn i s.jobs → k ≡ cond b (as_launched l i) i → is_active k.phase ≡ true → IsUpToDate s.clock s.started k
-  launched_by i true k e m same a =
+  starts_unless : (i : Job) (b : Bool) (k : Job) → (i.serial == c.serial) ≡ b → IsIn i s.jobs → k ≡ cond b (as_launched l i) i → is_active k.phase ≡ true → IsUpToDate s.clock s.started k
+  starts_unless i true k e m same a =
       let its : i ≡ f = only_one s.jobs h.numbered.serials.distinct i f m x.first.job (eqb-true i.serial c.serial e ∙ x.serial) in
       subst (IsUpToDate s.clock s.started) (ap (as_launched l) (sym its) ∙ sym same) (launched_now (ap (λ (y : Job). is_active y.phase) (sym same) ∙ a))
-  launched_by i false k e m same a =
+  starts_unless i false k e m same a =
       subst (IsUpToDate s.clock s.started) (sym same) (h.none_due.jobs i m (ap (λ (y : Job). is_active y.phase) (sym same) ∙ a))
 
-  launched_jobs : (k : Job) → IsIn k (map (launched_at c.serial l) s.jobs) → is_active k.phase ≡ true → IsUpToDate s.clock s.started k
+  launched_jobs : (k : Job) → IsIn k (map (changed_at c.serial (as_launched l)) s.jobs) → is_active k.phase ≡ true → IsUpToDate s.clock s.started k
   launched_jobs k i a =
-      let o = of_mapped (launched_at c.serial l) s.jobs k i in
-      launched_by o.0 (o.0.serial == c.serial) k refl o.1 o.2 a
+      let o = of_mapped (changed_at c.serial (as_launched l)) s.jobs k i in
+      starts_unless o.0 (o.0.serial == c.serial) k refl o.1 o.2 a
 
 launched_none : (s : State) (c : Candidate) (o : Option Job) → find (λ j. j.serial == c.serial) s.jobs ≡ o → next s ≡ Some c → IsDoneDue s → HasNoneDue (launch_job s c o)
 launched_none s c None f e h = h.none_due

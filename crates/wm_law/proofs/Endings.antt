@@ -21,7 +21,7 @@ use Rattle.wm_law.specs.declared.state.SbsPhase.TheVariants as sbs_phase
 use Rattle.wm_law.specs.declared.state.State.{State}
 use Rattle.wm_law.specs.Choice.{is_sbs_active}
 use Rattle.wm_law.specs.Counts.{is_active, is_prestart, is_starting, is_waiting}
-use Rattle.wm_law.specs.Endings.{end_phase, is_ended, is_left_to_use, is_wished, job_wish, phased, told}
+use Rattle.wm_law.specs.Endings.{end_phase, is_ending_by, is_left_to_use, is_wished, job_wish, phased, told}
 use Rattle.wm_law.specs.Jobs.{active_at}
 use Rattle.wm_law.specs.Kept.{IsNumbered, IsWishOn, wish_rank}
 use Rattle.wm_law.specs.Laws.{IsIn}
@@ -394,7 +394,7 @@ ended_by_option test clock option delay bs =
     ended_each (phased test (end_phase clock option delay)) (λ b. phased_by (test b) (end_phase clock option delay) b (end_active clock option delay) (end_moment clock option delay)) bs
 
 -- no subsystem that ends already is Active
-idle_ended : (option : EndOption) (p : SbsPhase) → is_ended option p ≡ true → is_sbs_active p ≡ false
+idle_ended : (option : EndOption) (p : SbsPhase) → is_ending_by option p ≡ true → is_sbs_active p ≡ false
 idle_ended Cntrld sbs_phase.Active h = absurd (cc)
 idle_ended Cntrld (sbs_phase.Ending until) h = refl
 idle_ended Cntrld sbs_phase.Now h = refl
@@ -402,15 +402,15 @@ idle_ended Immed sbs_phase.Active h = absurd (cc)
 idle_ended Immed (sbs_phase.Ending until) h = refl
 idle_ended Immed sbs_phase.Now h = refl
 
-phased_idle : (option : EndOption) (clock : ℕ) (delay : Option ℕ) (t : Bool) (b : Sbs) → is_ended option b.phase ≡ t → is_sbs_active (cond (not t) (record b { phase = end_phase clock option delay }) b).phase ≡ false
+phased_idle : (option : EndOption) (clock : ℕ) (delay : Option ℕ) (t : Bool) (b : Sbs) → is_ending_by option b.phase ≡ t → is_sbs_active (cond (not t) (record b { phase = end_phase clock option delay }) b).phase ≡ false
 phased_idle option clock delay true b e = idle_ended option b.phase e
 phased_idle option clock delay false b e = end_active clock option delay
 
 -- where all end that don't so already, none is Active
-pub none_stays_active : (option : EndOption) (clock : ℕ) (delay : Option ℕ) (bs : List Sbs) (b : Sbs) → IsIn b (map (phased (λ x. not (is_ended option x.phase)) (end_phase clock option delay)) bs) → is_sbs_active b.phase ≡ false
+pub none_stays_active : (option : EndOption) (clock : ℕ) (delay : Option ℕ) (bs : List Sbs) (b : Sbs) → IsIn b (map (phased (λ x. not (is_ending_by option x.phase)) (end_phase clock option delay)) bs) → is_sbs_active b.phase ≡ false
 none_stays_active option clock delay bs b i =
-    let m = of_mapped (phased (λ x. not (is_ended option x.phase)) (end_phase clock option delay)) bs b i in
-    ap (λ (x : Sbs). is_sbs_active x.phase) m.2 ∙ phased_idle option clock delay (is_ended option m.0.phase) m.0 refl
+    let m = of_mapped (phased (λ x. not (is_ending_by option x.phase)) (end_phase clock option delay)) bs b i in
+    ap (λ (x : Sbs). is_sbs_active x.phase) m.2 ∙ phased_idle option clock delay (is_ending_by option m.0.phase) m.0 refl
 
 -- a job that is changed keeps all but its phase and its wish
 module _ (change : Job → Job) (h : IsWishing change) where
@@ -467,10 +467,10 @@ pub those_end : (s : State) (option : EndOption) (delay : Option ℕ) (test : Sb
 those_end s option delay test = record { jobs = telling option test s.started; onward = λ n j i. on_told option test s.started j; subsystems = ended_by_option test s.clock option delay s.started; quiet = inl refl }
 
 -- what PWRDWNSYS does
-pub all_end : (s : State) (option : EndOption) (delay : Option ℕ) (power : Power) → IsEnding s (told option (λ b. not (is_ended option b.phase)) s.started) (map (phased (λ b. not (is_ended option b.phase)) (end_phase s.clock option delay)) s.started) power
+pub all_end : (s : State) (option : EndOption) (delay : Option ℕ) (power : Power) → IsEnding s (told option (λ b. not (is_ending_by option b.phase)) s.started) (map (phased (λ b. not (is_ending_by option b.phase)) (end_phase s.clock option delay)) s.started) power
 all_end s option delay power = record {
-  jobs = telling option (λ b. not (is_ended option b.phase)) s.started;
-  onward = λ n j i. on_told option (λ b. not (is_ended option b.phase)) s.started j;
-  subsystems = ended_by_option (λ b. not (is_ended option b.phase)) s.clock option delay s.started;
+  jobs = telling option (λ b. not (is_ending_by option b.phase)) s.started;
+  onward = λ n j i. on_told option (λ b. not (is_ending_by option b.phase)) s.started j;
+  subsystems = ended_by_option (λ b. not (is_ending_by option b.phase)) s.clock option delay s.started;
   quiet = inr (none_stays_active option s.clock delay s.started);
 }

@@ -1,67 +1,48 @@
 -- The first job of a subsystem, and the next job.
 use Rattle.std.proofs.Common.{not, nat_le, ◌≡◌, Bool, true, cond, Option, Some, None, refl, sym, ap, subst, ◌∙◌}
 use Rattle.wm_base.specs.declared.qname.QName.{QName}
+use Rattle.std.specs.Ordering.{is_lt}
+use Rattle.std.proofs.lemmas.Bool.{and_parts}
 use Rattle.wm_base.proofs.Tests.{of_four, guarded}
 use Rattle.wm_law.specs.declared.choice.Candidate.{Candidate}
-use Rattle.wm_law.specs.declared.choice.Rank.{Rank}
 use Rattle.wm_law.specs.declared.job.Job.{Job}
-use Rattle.wm_desc.specs.declared.entry.QueueEntry.{QueueEntry}
-use Rattle.wm_desc.specs.declared.description.Sbsd.{Sbsd}
 use Rattle.wm_law.specs.declared.state.Sbs.{Sbs}
 use Rattle.wm_law.specs.declared.state.State.{State}
-use Rattle.wm_law.specs.Choice.{candidate, candidate_from, candidate_described, candidate_held, candidate_in, candidate_queued, entry_for, first, has_entry, has_free_queue, holder, is_allowed, is_ready, next, of_sbs}
+use Rattle.wm_law.specs.Choice.{Turn, candidate, candidate_by_turn, candidate_in, first, has_entry, has_free_queue, is_allowed, is_ready, next, of_sbs, place_cmp, rank_in, turn_of}
 use Rattle.wm_law.specs.Counts.{is_waiting}
-use Rattle.wm_law.specs.Laws.{IsIn, Turn, MayStart, IsFirst, IsOfLeast, IsNamed, FirstIsLeast, NoFirstIsNone, NextIsFirst, NoNextIsNone}
-use Rattle.wm_desc.specs.Table.{object_named, same_qname}
+use Rattle.wm_law.specs.Laws.{IsIn, MayStart, IsFirst, IsOfLeast, IsNamed, FirstIsLeast, NoFirstIsNone, NextIsFirst, NoNextIsNone}
+use Rattle.wm_desc.specs.Table.{same_qname}
 use Rattle.wm_desc.proofs.Tables.{one_name}
 use Rattle.wm_law.proofs.Members.{found_among}
 use Rattle.wm_law.proofs.Named.{own_name}
 use Rattle.wm_law.proofs.Ranks.{NotBehind, chain, from_best, least_of, none_of, not_before, not_earlier}
-
-abbrev pub rank_of : Job → Turn → Rank
-rank_of j t = record { sbs = t.sbs.sbsd.name; seq = t.entry.seq; pty = j.pty; place = j.place }
+use Rattle.wm_law.proofs.Turns.{is_turn}
 
 abbrev pub candidate_of : Job → Turn → Candidate
-candidate_of j t = record { rank = rank_of j t; sbs = t.sbs.sbsd; jobq = t.entry.jobq; serial = j.serial }
+candidate_of j t = record { rank = rank_in t j; sbs = t.sbs.sbsd; jobq = t.entry.jobq; serial = j.serial }
 
 -- a job that may start is a candidate
 is_candidate : (s : State) (j : Job) (t : Turn) → MayStart s j t → candidate s j ≡ Some (candidate_of j t)
 is_candidate s j t m =
-    ap (λ (b : Bool). cond b (candidate_queued s j j.jobq) None) m.ready
-    ∙ ap (candidate_queued s j) m.queue
-    ∙ ap (candidate_held s j t.queue) m.holder
-    ∙ ap (candidate_described s j t.queue t.sbs) m.sbsd
-    ∙ ap (candidate_from s j t.sbs t.sbsd) m.entry
+    ap (λ (b : Bool). cond b (candidate_by_turn s j (turn_of s j)) None) m.ready
+    ∙ ap (candidate_by_turn s j) m.turn
     ∙ ap (λ (b : Bool). cond b (Some (candidate_of j t)) None) m.allowed
 
 -- and what is a candidate may start
 abbrev Starts : State → Job → Candidate → Type 0
 Starts s j c = (t : Turn) × MayStart s j t × (c ≡ candidate_of j t)
 
-by_entry : (s : State) (j : Job) (q : QName) (b : Sbs) (d : Sbsd) (o : Option QueueEntry) (c : Candidate) → is_ready s j ≡ true → j.jobq ≡ Some q → holder s q ≡ Some b → object_named b.sbsd s.objects.sbsds ≡ Some d → entry_for q d ≡ o → candidate_from s j b d o ≡ Some c → Starts s j c
-by_entry s j q b d None c r i h k l e = absurd (cc)
-by_entry s j q b d (Some n) c r i h k l e =
-    let t : Turn = record { queue = q; sbs = b; sbsd = d; entry = n } in
-    let g = guarded (is_allowed s b d n j.pty) (Some (candidate_of j t)) c e in
+by_turn : (s : State) (j : Job) (o : Option Turn) (c : Candidate) → is_ready s j ≡ true → turn_of s j ≡ o → candidate_by_turn s j o ≡ Some c → Starts s j c
+by_turn s j None c r h e = absurd (cc)
+by_turn s j (Some t) c r h e =
+    let g = guarded (is_allowed s t.sbs t.sbsd t.entry j.pty) (Some (candidate_of j t)) c e in
     let same : candidate_of j t ≡ c = cc in
-    (t, record { ready = r; queue = i; holder = h; sbsd = k; entry = l; allowed = g.0 }, sym same)
-
-by_description : (s : State) (j : Job) (q : QName) (b : Sbs) (o : Option Sbsd) (c : Candidate) → is_ready s j ≡ true → j.jobq ≡ Some q → holder s q ≡ Some b → object_named b.sbsd s.objects.sbsds ≡ o → candidate_described s j q b o ≡ Some c → Starts s j c
-by_description s j q b None c r i h k e = absurd (cc)
-by_description s j q b (Some d) c r i h k e = by_entry s j q b d (entry_for q d) c r i h k refl e
-
-by_holder : (s : State) (j : Job) (q : QName) (o : Option Sbs) (c : Candidate) → is_ready s j ≡ true → j.jobq ≡ Some q → holder s q ≡ o → candidate_held s j q o ≡ Some c → Starts s j c
-by_holder s j q None c r i h e = absurd (cc)
-by_holder s j q (Some b) c r i h e = by_description s j q b (object_named b.sbsd s.objects.sbsds) c r i h refl e
-
-by_queue : (s : State) (j : Job) (o : Option QName) (c : Candidate) → is_ready s j ≡ true → j.jobq ≡ o → candidate_queued s j o ≡ Some c → Starts s j c
-by_queue s j None c r i e = absurd (cc)
-by_queue s j (Some q) c r i e = by_holder s j q (holder s q) c r i refl e
+    (t, record { ready = r; turn = h; allowed = g.0 }, sym same)
 
 may_start : (s : State) (j : Job) (c : Candidate) → candidate s j ≡ Some c → Starts s j c
 may_start s j c e =
-    let g = guarded (is_ready s j) (candidate_queued s j j.jobq) c e in
-    by_queue s j j.jobq c g.0 refl g.1
+    let g = guarded (is_ready s j) (candidate_by_turn s j (turn_of s j)) c e in
+    by_turn s j (turn_of s j) c g.0 refl g.1
 
 -- the candidate of a subsystem is of that one
 of_its_sbs : (sbs : QName) (o : Option Candidate) (c : Candidate) → of_sbs sbs o ≡ Some c → (o ≡ Some c) × (c.sbs ≡ sbs)
@@ -96,7 +77,10 @@ is_first : (s : State) (sbs : QName) (c : Candidate) → first s sbs ≡ Some c 
 is_first s sbs c e j t i m same its = record {
   job = i;
   may = m;
-  none_before = λ k u n l at before. not_before t.sbs.sbsd.name u.sbs.sbsd.name (ap (λ (q : QName). q.name) at) t.entry.seq j.pty j.place u.entry.seq k.pty k.place (subst (λ (x : Candidate). NotBehind x (candidate_of k u)) same (first_not_behind s sbs c e k u n l (at ∙ its))) before;
+  none_before = λ k u n l before.
+      let both = and_parts (same_qname u.sbs.sbsd t.sbs.sbsd) (is_lt (place_cmp (rank_in u k) (rank_in t j))) before in
+      let at = one_name u.sbs.sbsd t.sbs.sbsd both.0 in
+      not_before (rank_in t j) (rank_in u k) (ap (λ (q : QName). q.name) at) (subst (λ (x : Candidate). NotBehind x (candidate_of k u)) same (first_not_behind s sbs c e k u n l (at ∙ its))) both.1;
 }
 
 -- the job whose candidate is the first of a subsystem
@@ -151,7 +135,7 @@ next_waits s c e = let b = next_from s c e in first_waits s b.0.sbsd c b.2
 
 -- the subsystem that a job may start in is started
 pub holder_started : (s : State) (k : Job) (u : Turn) → MayStart s k u → IsIn u.sbs s.started
-holder_started s k u m = (found_among (has_entry s u.queue) s.started u.sbs m.holder).0
+holder_started s k u m = (found_among (has_entry s u.queue) s.started u.sbs (is_turn s k u m.turn).holder).0
 
 behind_none : (s : State) (c : Candidate) (k : Job) (u : Turn) (o : Option Candidate) → first s u.sbs.sbsd ≡ o → next s ≡ Some c → IsIn k s.jobs → MayStart s k u → NotBehind c (candidate_of k u)
 behind_none s c k u None f e i m = absurd (no_first_is_none s u.sbs.sbsd f k u i m refl)
@@ -166,7 +150,7 @@ next_not_behind s c e k u i m = behind_none s c k u (first s u.sbs.sbsd) refl e 
 
 is_of_least : (s : State) (c : Candidate) → next s ≡ Some c → (j : Job) (t : Turn) → c ≡ candidate_of j t → IsOfLeast s t
 is_of_least s c e j t same = record {
-  none_earlier = λ k u i m less. not_earlier t.sbs.sbsd.name u.sbs.sbsd.name t.entry.seq j.pty j.place u.entry.seq k.pty k.place (subst (λ (x : Candidate). NotBehind x (candidate_of k u)) same (next_not_behind s c e k u i m)) less;
+  none_earlier = λ k u i m less. not_earlier (rank_in t j) (rank_in u k) (subst (λ (x : Candidate). NotBehind x (candidate_of k u)) same (next_not_behind s c e k u i m)) less;
 }
 
 pub next_is_first : NextIsFirst

@@ -17,12 +17,13 @@ use Rattle.wm_law.specs.declared.job.Phase.{Phase}
 use Rattle.wm_law.specs.declared.job.Phase.TheVariants.{Starting, Ended}
 use Rattle.wm_law.specs.declared.launch.Launched.{Launched}
 use Rattle.wm_law.specs.declared.state.State.{State}
-use Rattle.wm_law.specs.Choice.{has_free_queue, is_held, is_sbs_active, maxpty_of, next}
+use Rattle.wm_law.specs.Choice.{Turn, has_free_queue, is_held, is_sbs_active, maxpty_of, next}
 use Rattle.wm_law.specs.Counts.{count_by_route, count_from_priority, count_from_queue, count_in_sbs, is_by_route, is_waiting}
 use Rattle.wm_law.specs.History.{stepped}
 use Rattle.wm_law.specs.Kept.{GoesOn, IsNumbered}
-use Rattle.wm_law.specs.Launch.{as_launched, from_queue, launch, launch_job, launched, launched_at, launched_through, route}
-use Rattle.wm_law.specs.Laws.{IsIn, Turn}
+use Rattle.wm_law.specs.Jobs.{changed_at}
+use Rattle.wm_law.specs.Launch.{as_launched, from_queue, launch, launch_job, launched, routed_through, route}
+use Rattle.wm_law.specs.Laws.{IsIn}
 use Rattle.wm_law.specs.Machine.{apply, step, with_clock}
 use Rattle.wm_law.specs.Order.{GivesNewSerials, IsFit, IsInOrder, KeepsOrder, LaunchesFit, counted_for, was_launched}
 use Rattle.wm_law.specs.Settling.{come_due, leave, settle, waiting}
@@ -39,7 +40,7 @@ use Rattle.wm_law.proofs.Passed.{IsOrderedSince, LaunchesNone, calls_launch_none
 use Rattle.wm_law.proofs.Queued.{queued_calls, step_keeps_queues}
 use Rattle.wm_law.proofs.Routed.{full_through, launched_routed, started_through, unrouted_through}
 use Rattle.wm_law.proofs.Settling.{settled_leaves_none}
-use Rattle.wm_law.proofs.Turns.{has_turn, may_start_in}
+use Rattle.wm_law.proofs.Turns.{is_turn}
 
 -- in order, and each launched job is fit
 record IsFitSince (s t : State) : Type 0 where
@@ -56,12 +57,12 @@ module _ (s t : State) (c : Candidate) (f : Job) (x : IsNext t c f) (h : IsFitSi
       (of_four (is_sbs_active u.sbs.phase) (is_below (count_in_sbs u.sbs.sbsd t.jobs) u.sbsd.maxjobs) (is_below (count_from_queue u.sbs.sbsd u.entry.jobq t.jobs) u.entry.maxact) (is_below (count_from_priority u.sbs.sbsd u.entry.jobq f.pty t.jobs) (maxpty_of u.entry f.pty)) x.first.may.allowed).0
 
   free : is_held t x.turn.queue ≡ false
-  free = not-true (is_held t x.turn.queue) (ap (has_free_queue t) (sym x.first.may.queue) ∙ ready.2)
+  free = not-true (is_held t x.turn.queue) (ap (has_free_queue t) (sym (is_turn t f x.turn x.first.may.turn).queue) ∙ ready.2)
 
   abbrev by : ℕ → How
   by = from_queue x.turn.sbs.sbsd x.turn.queue f
 
-  routed : (p : Phase) → (launched t c.sbs c.jobq f).phase ≡ p → (launched_through t x.turn.sbs.sbsd by f (route x.turn.sbsd f.rtgdta)).phase ≡ p
+  routed : (p : Phase) → (launched t c.sbs c.jobq f).phase ≡ p → (routed_through t x.turn.sbs.sbsd by f (route x.turn.sbsd f.rtgdta)).phase ≡ p
   routed p e = ap (λ (l : Launched). l.phase) (sym (launched_routed t c f x)) ∙ e
 
   full_now : (n : ℕ) → (launched t c.sbs c.jobq f).phase ≡ Ended (RouteFull n) → (e : RouteEntry) × (route x.turn.sbsd f.rtgdta ≡ Some e) × (e.seq ≡ n) × (is_below (counted_for s (launched_in t c f) (as_launched (launched t c.sbs c.jobq f) f) (is_by_route x.turn.sbs.sbsd e.seq)) e.maxact ≡ false)
@@ -72,7 +73,7 @@ module _ (s t : State) (c : Candidate) (f : Job) (x : IsNext t c f) (h : IsFitSi
   -- the launched job is fit
   fit_now : IsFit s (launched_in t c f) (as_launched (launched t c.sbs c.jobq f) f) x.turn
   fit_now = record {
-    turn = has_turn t f x.turn x.first.may;
+    turn = x.first.may.turn;
     held = not-true f.held ready.1;
     queue = free;
     due = leb-true f.due t.clock ready.3;
@@ -110,7 +111,7 @@ module _ (s t : State) (c : Candidate) (f : Job) (x : IsNext t c f) (h : IsFitSi
 
   fit_still : LaunchesFit s (launched_in t c f)
   fit_still g m w =
-      let o = of_mapped (launched_at c.serial (launched t c.sbs c.jobq f)) t.jobs g m in
+      let o = of_mapped (changed_at c.serial (as_launched (launched t c.sbs c.jobq f))) t.jobs g m in
       fit_at o.0 (o.0.serial == c.serial) g refl o.1 o.2 w
 
 -- a launch keeps the launched jobs fit
@@ -135,7 +136,7 @@ settled_in_order s t n q h a on new =
       fit = λ j m w. (let none = h j m in absurd (cc));
     }) in
     record {
-      none_left = λ j v i r e a. settled_leaves_none t j v i (may_start_in (settle t) j v r e a);
+      none_left = settled_leaves_none t;
       none_passed = since.ordered.passed;
       fit = since.fit;
       autos = autos_fit s (come_due t) n q a;

@@ -1,17 +1,10 @@
 -- Hand orders the kill of least serial that its caller is yet to be handed, else the start of least serial.
-use Rattle.std.proofs.Common.{◌≡◌, ℕ, ◌<◌, ◌≤◌, Bool, true, false, cond, List, [], ◌∷◌, map, Option, Some, None, refl, ap, subst, ◌∙◌, inl, inr, arith}
+use Rattle.std.proofs.Common.{◌≡◌, ℕ, ◌<◌, ◌≤◌, Bool, true, false, cond, List, [], ◌∷◌, map, Option, Some, None, refl, sym, ap, subst, ◌∙◌, inl, inr, arith}
 use Rattle.std.specs.List.{find}
 use Rattle.std.proofs.lemmas.Bool.{and_from, and_parts, eq-eqb, eqb-true}
 use Rattle.wm_base.specs.declared.job.Asked.TheVariants.{Start, Kill}
-use Rattle.wm_base.specs.declared.job.How.{How}
-use Rattle.wm_base.specs.declared.job.How.TheVariants.{NotYet, FromQueue, Auto, Pre}
-use Rattle.wm_base.specs.declared.job.Class.{Class}
 use Rattle.wm_base.specs.declared.job.StartOrder.{StartOrder}
-use Rattle.wm_base.specs.declared.qname.QName.{QName}
-use Rattle.wm_base.proofs.Tests.{Some-injective, unrefused}
-use Rattle.wm_desc.specs.declared.description.Program.{Program}
-use Rattle.wm_desc.specs.declared.entry.RouteEntry.{RouteEntry}
-use Rattle.wm_desc.specs.Table.{object_named}
+use Rattle.wm_base.proofs.Tests.{Some-injective}
 use Rattle.wm_law.specs.declared.call.Reply.TheVariants.{Order}
 use Rattle.wm_law.specs.declared.job.Job.{Job}
 use Rattle.wm_law.specs.declared.job.Phase.{Phase}
@@ -22,12 +15,14 @@ use Rattle.wm_law.specs.declared.job.Wish.TheVariants as wish
 use Rattle.wm_law.specs.declared.state.State.{State}
 use Rattle.wm_law.specs.Counts.{is_starting}
 use Rattle.wm_law.specs.Handing.{HandedKillIsLeast, HandedStartIsLeast, IsLeastSerial, IsToBeKilled}
-use Rattle.wm_law.specs.Launch.{called_args, called_program, order_by, order_called, order_of, order_through, order_with, route_entry}
+use Rattle.wm_law.specs.Launch.{order_of}
 use Rattle.wm_law.specs.Laws.{IsIn}
 use Rattle.wm_law.specs.Reports.{hand_job, hand_order, is_run_by, is_to_kill, start_job}
 use Rattle.wm_law.specs.Sound.{HasJobsInOrder, IsIncreasing}
 use Rattle.wm_law.specs.Wishes.{is_unhanded}
-use Rattle.wm_law.proofs.Members.{found_among, in_mapped}
+use Rattle.wm_law.proofs.Endings.{starting_phase}
+use Rattle.wm_law.proofs.Members.{found_among, in_mapped, none_among}
+use Rattle.wm_law.proofs.Starts.{by_serial}
 
 -- the first that passes a test has the least serial, where the jobs stand in the order of their serials
 module _ (test : Job → Bool) where
@@ -52,13 +47,6 @@ module _ (test : Job → Bool) where
       let found = found_among test jobs j f in
       record { job = j; stands = found.0; has = told j found.1; its = its; least = λ k i h. subst (λ (n : ℕ). n ≤ k.serial) its (least_found jobs j k order f i (tells k h)) }
 
-  none_passes : (jobs : List Job) (k : Job) → find test jobs ≡ None → IsIn k jobs → test k ≡ true → ⊥
-  none_passes [] k f i t = absurd i
-  none_passes (x ∷ jobs) k f (inl same) t =
-      let no : test k ≡ false = ap test same ∙ (unrefused (test x) x (find test jobs) f).0 in
-      absurd (cc)
-  none_passes (x ∷ jobs) k f (inr i) t = none_passes jobs k (unrefused (test x) x (find test jobs) f).1 i t
-
 -- what the test of a kill says
 run_by : (m : ℕ) (p : Phase) → is_run_by m p ≡ true → p ≡ Running m
 run_by m Waiting h = absurd (cc)
@@ -80,33 +68,6 @@ told_kill m j h =
 
 tells_kill : (m : ℕ) (j : Job) → IsToBeKilled m j → is_to_kill m j ≡ true
 tells_kill m j h = and_from (is_run_by m j.phase) (is_unhanded j.wish) (ap (is_run_by m) h.0 ∙ eq-eqb m m refl) (ap is_unhanded h.1.1)
-
-told_start : (p : Phase) → is_starting p ≡ true → p ≡ Starting
-told_start Waiting h = absurd (cc)
-told_start Starting h = refl
-told_start (Handed n) h = absurd (cc)
-told_start (Running n) h = absurd (cc)
-told_start (Ended c) h = absurd (cc)
-
--- an order to start has its job's serial
-with_serial : (j : Job) (args : List (List ℕ)) (p : Option Program) (cls : Option Class) (o : StartOrder) → order_with j args p cls ≡ Some o → j.serial ≡ o.serial
-with_serial j args None cls o e = absurd (cc)
-with_serial j args (Some p) None o e = absurd (cc)
-with_serial j args (Some p) (Some cls) o e = ap (λ (x : StartOrder). x.serial) (Some-injective _ o e)
-
-called_serial : (s : State) (j : Job) (e : RouteEntry) (pgm : Option QName) (o : StartOrder) → order_called s j e pgm ≡ Some o → j.serial ≡ o.serial
-called_serial s j e None o h = absurd (cc)
-called_serial s j e (Some pgm) o h = with_serial j (called_args e j.rqsdta) (object_named pgm s.objects.programs) (object_named e.cls s.objects.classes) o h
-
-through_serial : (s : State) (j : Job) (e : Option RouteEntry) (o : StartOrder) → order_through s j e ≡ Some o → j.serial ≡ o.serial
-through_serial s j None o h = absurd (cc)
-through_serial s j (Some e) o h = called_serial s j e (called_program e j.rqsdta) o h
-
-order_serial : (s : State) (j : Job) (how : How) (o : StartOrder) → order_by s j how ≡ Some o → j.serial ≡ o.serial
-order_serial s j NotYet o h = absurd (cc)
-order_serial s j (FromQueue sbs jobq pty seq) o h = through_serial s j (route_entry s sbs seq) o h
-order_serial s j (Auto sbs seq) o h = through_serial s j (route_entry s sbs seq) o h
-order_serial s j (Pre sbs pgm) o h = absurd (cc)
 
 same_order : (o p : StartOrder) → Order (Start o) ≡ Order (Start p) → o ≡ p
 same_order o p e = cc
@@ -132,14 +93,14 @@ handed_kill_is_least s caller serial order e = kill_by s caller (find (is_to_kil
 
 ordered_by : (s : State) (m : ℕ) (j : Job) (given : Option StartOrder) (o : StartOrder) → order_of s j ≡ given → (hand_order s m j given).reply ≡ Order (Start o) → j.serial ≡ o.serial
 ordered_by s m j None o g e = absurd (cc)
-ordered_by s m j (Some p) o g e = order_serial s j j.how o (g ∙ ap (λ (x : StartOrder). Some x) (same_order p o e))
+ordered_by s m j (Some p) o g e = sym (by_serial s j j.how o (g ∙ ap (λ (x : StartOrder). Some x) (same_order p o e)))
 
 start_by : (s : State) (m : ℕ) (f : Option Job) (o : StartOrder) → HasJobsInOrder s → find (λ j. is_starting j.phase) s.jobs ≡ f → (start_job s m f).reply ≡ Order (Start o) → IsLeastSerial (λ j. j.phase ≡ Starting) s.jobs o.serial
 start_by s m None o order f e = absurd (cc)
-start_by s m (Some j) o order f e = least_of (λ j. is_starting j.phase) (λ j. j.phase ≡ Starting) (λ k h. told_start k.phase h) (λ k h. ap is_starting h) s.jobs j o.serial order f (ordered_by s m j (order_of s j) o refl e)
+start_by s m (Some j) o order f e = least_of (λ j. is_starting j.phase) (λ j. j.phase ≡ Starting) (λ k h. starting_phase k.phase h) (λ k h. ap is_starting h) s.jobs j o.serial order f (ordered_by s m j (order_of s j) o refl e)
 
 start_or_kill : (s : State) (m : ℕ) (k : Option Job) (o : StartOrder) → HasJobsInOrder s → find (is_to_kill m) s.jobs ≡ k → (hand_job s m k).reply ≡ Order (Start o) → ((j : Job) → IsIn j s.jobs → IsToBeKilled m j → ⊥) × IsLeastSerial (λ j. j.phase ≡ Starting) s.jobs o.serial
-start_or_kill s m None o order f e = (λ j i k. none_passes (is_to_kill m) s.jobs j f i (tells_kill m j k), start_by s m (find (λ j. is_starting j.phase) s.jobs) o order refl e)
+start_or_kill s m None o order f e = (λ j i k. none_among (is_to_kill m) s.jobs f j i (tells_kill m j k), start_by s m (find (λ j. is_starting j.phase) s.jobs) o order refl e)
 start_or_kill s m (Some j) o order f e = absurd (cc)
 
 pub handed_start_is_least : HandedStartIsLeast

@@ -23,12 +23,12 @@ use Rattle.wm_law.specs.declared.job.Phase.TheVariants.{Waiting, Starting, Hande
 use Rattle.wm_law.specs.declared.launch.Launched.{Launched}
 use Rattle.wm_law.specs.declared.state.Sbs.{Sbs}
 use Rattle.wm_law.specs.declared.state.State.{State}
-use Rattle.wm_law.specs.Choice.{first, is_allowed, is_sbs_active, maxpty_of, next}
+use Rattle.wm_law.specs.Choice.{Turn, first, is_allowed, is_sbs_active, maxpty_of, next}
 use Rattle.wm_law.specs.Counts.{count_active, count_from_priority, count_from_queue, count_in_sbs, is_active, is_from_priority, is_from_queue, is_in_sbs, is_waiting}
-use Rattle.wm_law.specs.Jobs.{changed_at}
+use Rattle.wm_law.specs.Jobs.{changed_at, with_job}
 use Rattle.wm_law.specs.Kept.{IsNumbered, StartsInOrder}
-use Rattle.wm_law.specs.Launch.{as_launched, launch, launch_job, launched, launched_at, with_launched}
-use Rattle.wm_law.specs.Laws.{IsIn, MayStart, Turn}
+use Rattle.wm_law.specs.Launch.{as_launched, launch, launch_job, launched}
+use Rattle.wm_law.specs.Laws.{IsIn, MayStart}
 use Rattle.wm_law.specs.Settling.{in_order, start_in, start_jobs, waiting}
 use Rattle.wm_law.proofs.Ascending.{IsAscending, ascending_in_order, stands_in_order}
 use Rattle.wm_law.proofs.Firsts.{first_of, first_waits, holder_started, next_from, no_first_is_none, ready_waits}
@@ -74,7 +74,7 @@ unchanged false l j k n e w = e
 
 -- the state in which the candidate's job is as it was launched
 abbrev pub launched_in : State → Candidate → Job → State
-launched_in s c f = with_launched s c.serial (launched s c.sbs c.jobq f)
+launched_in s c f = with_job s c.serial (as_launched (launched s c.sbs c.jobq f))
 
 module _ (s : State) (c : Candidate) (f j : Job) (n : IsNumbered s) (i : IsIn j s.jobs) (w : is_waiting j.phase ≡ true) (same : c.serial ≡ j.serial) where
   counts : (test : How → Bool) → count_active test s.jobs ≤ count_active test (launched_in s c f).jobs
@@ -94,17 +94,14 @@ module _ (s : State) (c : Candidate) (f j : Job) (n : IsNumbered s) (i : IsIn j 
   pub may_before : (k : Job) (u : Turn) → MayStart (launched_in s c f) k u → MayStart s k u
   may_before k u m = record {
     ready = m.ready;
-    queue = m.queue;
-    holder = m.holder;
-    sbsd = m.sbsd;
-    entry = m.entry;
+    turn = m.turn;
     allowed = allowed_before u.sbs u.sbsd u.entry k.pty m.allowed;
   }
 
   pub there_before : (k : Job) → IsIn k (launched_in s c f).jobs → is_waiting k.phase ≡ true → IsIn k s.jobs
   there_before k m v =
       let l = launched s c.sbs c.jobq f in
-      let o = of_mapped (launched_at c.serial l) s.jobs k m in
+      let o = of_mapped (changed_at c.serial (as_launched l)) s.jobs k m in
       subst (λ (x : Job). IsIn x s.jobs) (sym (unchanged (o.0.serial == c.serial) l o.0 k (not_waiting s c.sbs c.jobq f) o.2 v)) o.1
 
   none_by : (q : QName) (o : Option Candidate) → first (launched_in s c f) q ≡ o → first s q ≡ None → o ≡ None
@@ -134,7 +131,7 @@ named_first s q c e = let f = first_of s q c e in ap (λ (x : Candidate). x.rank
 
 behind_first : (s : State) (q r : QName) (c d : Candidate) → first s q ≡ Some c → first s r ≡ Some d → is_lt (slice_cmp nat_cmp q.name r.name) ≡ true → NotBehind d c → ⊥
 behind_first s q r c d e f less h =
-    not_earlier d.rank.sbs c.rank.sbs d.rank.seq d.rank.pty d.rank.place c.rank.seq c.rank.pty c.rank.place h
+    not_earlier d.rank c.rank h
     (ap (λ (x : List ℕ). is_lt (slice_cmp nat_cmp x d.rank.sbs)) (named_first s q c e) ∙ ap (λ (x : List ℕ). is_lt (slice_cmp nat_cmp q.name x)) (named_first s r d f) ∙ less)
 
 module _ (s : State) (q : QName) (qs : List QName) (left : IsLeft s (q ∷ qs)) (c : Candidate) (e : first s q ≡ Some c) where

@@ -1,5 +1,5 @@
 -- No ending subsystem stays without an active job.
-use Rattle.std.proofs.Common.{◌≡◌, ℕ, zero, suc, ◌<◌, ◌≤◌, ◌==◌, ◌&&◌, not, Bool, true, false, cond, List, [], ◌∷◌, map, filter, Option, Some, None, refl, ap, ◌∙◌, inl, inr, arith}
+use Rattle.std.proofs.Common.{◌≡◌, ℕ, zero, suc, ◌<◌, ◌≤◌, ◌==◌, ◌&&◌, not, Bool, true, false, cond, [], ◌∷◌, map, Option, Some, None, refl, ap, ◌∙◌, arith}
 use Rattle.std.specs.List.{find}
 use Rattle.std.proofs.lemmas.Bool.{and_parts, eqb-true}
 use Rattle.wm_base.specs.Iterate.{IsKept}
@@ -16,7 +16,8 @@ use Rattle.wm_law.specs.Choice.{next}
 use Rattle.wm_law.specs.Counts.{count_in_sbs, is_active, is_in_sbs, is_waiting}
 use Rattle.wm_law.specs.History.{stepped}
 use Rattle.wm_law.specs.Kept.{IsNumbered}
-use Rattle.wm_law.specs.Launch.{as_launched, launch, launch_job, launched, launched_at}
+use Rattle.wm_law.specs.Jobs.{changed_at}
+use Rattle.wm_law.specs.Launch.{as_launched, launch, launch_job, launched}
 use Rattle.wm_law.specs.Laws.{IsIn}
 use Rattle.wm_law.specs.Leaving.{EndingHaveJobs, EndingSubsystemsHaveJobs, StepLeavesEndingJobs}
 use Rattle.wm_law.specs.Machine.{apply, step, with_clock}
@@ -24,17 +25,8 @@ use Rattle.wm_law.specs.Settling.{come_due, is_ending, is_gone, leave, settle, w
 use Rattle.wm_law.proofs.Counted.{no_fewer}
 use Rattle.wm_law.proofs.Firsts.{next_waits}
 use Rattle.wm_law.proofs.Forward.{only_one}
+use Rattle.wm_law.proofs.Members.{left_passes}
 use Rattle.wm_law.proofs.Numbers.{apply_keeps, clock_keeps, launches_keep, ready_keeps, step_keeps_numbers}
-
--- what a filter leaves passes its test
-stays_by : {X : Type 0} (p : X → Bool) (t : Bool) (y x : X) (ys : List X) → p y ≡ t → (IsIn x ys → p x ≡ true) → IsIn x (cond t (y ∷ ys) ys) → p x ≡ true
-stays_by p true y x ys e h (inl same) = ap p same ∙ e
-stays_by p true y x ys e h (inr i) = h i
-stays_by p false y x ys e h i = h i
-
-passes : {X : Type 0} (p : X → Bool) (xs : List X) (x : X) → IsIn x (filter p xs) → p x ≡ true
-passes p [] x i = absurd i
-passes p (y ∷ xs) x i = stays_by p (p y) y x (filter p xs) refl (passes p xs x) i
 
 more_than_none : (n : ℕ) (ending : Bool) → ending ≡ true → not (ending && n == 0) ≡ true → 0 < n
 more_than_none zero true e h = absurd (cc)
@@ -43,7 +35,7 @@ more_than_none (suc n) ending e h = omega arith
 
 -- once those that are gone have left, each ending subsystem has an active job
 left_with_jobs : (s : State) → EndingHaveJobs (leave s)
-left_with_jobs s b i e = more_than_none (count_in_sbs b.sbsd s.jobs) (is_ending b.phase) e (passes (λ (b : Sbs). not (is_gone s.jobs b)) s.started b i)
+left_with_jobs s b i e = more_than_none (count_in_sbs b.sbsd s.jobs) (is_ending b.phase) e (left_passes (λ (b : Sbs). not (is_gone s.jobs b)) s.started b i)
 
 not_both : (p : Phase) → is_waiting p ≡ true → is_active p ≡ true → ⊥
 not_both Waiting w a = absurd (cc)
@@ -65,8 +57,8 @@ module _ (t : State) (c : Candidate) (l : Launched) (sbs : QName) (numbered : Is
       absurd (not_both i.phase (ap (λ (j : Job). is_waiting j.phase) same ∙ w.2) (and_parts (is_active i.phase) (is_in_sbs sbs i.how) h).0)
   counted_at false i e m h = h
 
-  no_fewer_counted : count_in_sbs sbs t.jobs ≤ count_in_sbs sbs (map (launched_at c.serial l) t.jobs)
-  no_fewer_counted = no_fewer is_counted is_counted (launched_at c.serial l) t.jobs (λ i m h. counted_at (i.serial == c.serial) i refl m h)
+  no_fewer_counted : count_in_sbs sbs t.jobs ≤ count_in_sbs sbs (map (changed_at c.serial (as_launched l)) t.jobs)
+  no_fewer_counted = no_fewer is_counted is_counted (changed_at c.serial (as_launched l)) t.jobs (λ i m h. counted_at (i.serial == c.serial) i refl m h)
 
 launched_with_jobs : (t : State) (c : Candidate) (o : Option Job) → IsNumbered t → next t ≡ Some c → EndingHaveJobs t → EndingHaveJobs (launch_job t c o)
 launched_with_jobs t c None n e h = h

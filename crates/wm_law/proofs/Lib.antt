@@ -14,7 +14,6 @@ pub mod Moves
 pub mod Aside
 pub mod Refusals
 pub mod Answered
-pub mod Had
 pub mod Ranks
 pub mod Firsts
 pub mod Waits

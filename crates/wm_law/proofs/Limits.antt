@@ -33,7 +33,8 @@ use Rattle.wm_law.specs.Choice.{entry_for, maxpty_of, next}
 use Rattle.wm_law.specs.Counts.{count_active, is_active, is_by_route, is_from_priority, is_from_queue, is_in_sbs, is_starting}
 use Rattle.wm_law.specs.History.{stepped}
 use Rattle.wm_law.specs.Kept.{HasOrders, IsNumbered, IsRouted}
-use Rattle.wm_law.specs.Launch.{as_auto, as_launched, entry_numbered, from_queue, launch, launch_job, launched, launched_at, with_launched}
+use Rattle.wm_law.specs.Jobs.{changed_at, with_job}
+use Rattle.wm_law.specs.Launch.{as_auto, as_launched, entry_numbered, from_queue, launch, launch_job, launched}
 use Rattle.wm_law.specs.Laws.{IsIn}
 use Rattle.wm_law.specs.Limits.{BecameStarting, IsStarting, IsWithin, IsWithinLimits, KeepsLimits, is_autostart}
 use Rattle.wm_law.specs.Machine.{apply, step, with_clock}
@@ -82,9 +83,9 @@ none_new_at s test aside l true j k n h e p q v =
 none_new_at s test aside l false j k n h e p q v = subst (λ (x : Job). x.phase ≡ Starting → test x.how ≡ true → aside x.kind ≡ false → IsStarting s x.serial) (sym e) h p q v
 
 -- a launch that isn't counted makes no counted job Starting
-none_new : (s : State) (test : How → Bool) (aside : JobKind → Bool) (serial : ℕ) (l : Launched) (jobs : List Job) → (is_active l.phase && test l.how) ≡ false → NoneNew s test aside jobs → NoneNew s test aside (map (launched_at serial l) jobs)
+none_new : (s : State) (test : How → Bool) (aside : JobKind → Bool) (serial : ℕ) (l : Launched) (jobs : List Job) → (is_active l.phase && test l.how) ≡ false → NoneNew s test aside jobs → NoneNew s test aside (map (changed_at serial (as_launched l)) jobs)
 none_new s test aside serial l jobs n h k m p q v =
-    let o = of_mapped (launched_at serial l) jobs k m in
+    let o = of_mapped (changed_at serial (as_launched l)) jobs k m in
     none_new_at s test aside l (o.0.serial == serial) o.0 k n (h o.0 o.1) o.2 p q v
 
 -- a launch that adds to the count comes where the count is below the limit
@@ -102,7 +103,7 @@ record IsWithinSince (s : State) (o : Objects) (test : How → Bool) (aside : Jo
 
 -- the state in which the candidate's job is as it was launched
 abbrev launched_in : State → Candidate → Job → State
-launched_in s c j = with_launched s c.serial (launched s c.sbs c.jobq j)
+launched_in s c j = with_job s c.serial (as_launched (launched s c.sbs c.jobq j))
 
 objects_same : (s : State) (c : Candidate) (o : Option Job) → (launch_job s c o).objects ≡ s.objects
 objects_same s c None = refl

@@ -1,5 +1,5 @@
 -- What stands in lists that are made from others.
-use Rattle.std.proofs.Common.{◌≡◌, ◌⊎◌, ◌++◌, Bool, true, false, cond, List, [], ◌∷◌, map, filter, Some, refl, sym, ap, subst, inl, inr, All}
+use Rattle.std.proofs.Common.{◌≡◌, ◌⊎◌, ◌++◌, Bool, true, false, cond, List, [], ◌∷◌, map, filter, Some, None, refl, sym, ap, subst, ◌∙◌, inl, inr, All}
 use Rattle.std.specs.List.{find}
 use Rattle.std.proofs.lemmas.List.Elements.{All-head, All-tail}
 use Rattle.wm_law.specs.Laws.{IsIn}
@@ -52,6 +52,16 @@ left_later : {X : Type 0} (t : Bool) (z x : X) (xs : List X) → IsIn x xs → I
 left_later true z x xs i = inr i
 left_later false z x xs i = i
 
+passed_by : {X : Type 0} (p : X → Bool) (t : Bool) (y x : X) (ys : List X) → p y ≡ t → (IsIn x ys → p x ≡ true) → IsIn x (cond t (y ∷ ys) ys) → p x ≡ true
+passed_by p true y x ys e h (inl same) = ap p same ∙ e
+passed_by p true y x ys e h (inr i) = h i
+passed_by p false y x ys e h i = h i
+
+-- what a filter leaves passes its test
+pub left_passes : {X : Type 0} (p : X → Bool) (xs : List X) (x : X) → IsIn x (filter p xs) → p x ≡ true
+left_passes p [] x i = absurd i
+left_passes p (y ∷ xs) x i = passed_by p (p y) y x (filter p xs) refl (left_passes p xs x) i
+
 -- what passes the test is left
 pub in_left : {X : Type 0} (p : X → Bool) (xs : List X) (x : X) → p x ≡ true → IsIn x xs → IsIn x (filter p xs)
 in_left p [] x h i = absurd i
@@ -66,6 +76,16 @@ found_by p y ys false e x h rest = let r = rest h in (inr r.0, r.1)
 pub found_among : {X : Type 0} (p : X → Bool) (xs : List X) (x : X) → find p xs ≡ Some x → IsIn x xs × (p x ≡ true)
 found_among p [] x h = absurd (cc)
 found_among p (y ∷ ys) x h = found_by p y ys (p y) refl x h (found_among p ys x)
+
+none_by : {X : Type 0} (p : X → Bool) (y : X) (ys : List X) (t : Bool) → p y ≡ t → cond t (Some y) (find p ys) ≡ None → (find p ys ≡ None → (x : X) → IsIn x ys → p x ≡ true → ⊥) → (x : X) → IsIn x (y ∷ ys) → p x ≡ true → ⊥
+none_by p y ys true e f h x i m = absurd (cc)
+none_by p y ys false e f h x (inl same) m = let not : p x ≡ false = ap p same ∙ e in absurd (cc)
+none_by p y ys false e f h x (inr i) m = h f x i m
+
+-- where nothing is found, nothing passes the test
+pub none_among : {X : Type 0} (p : X → Bool) (xs : List X) → find p xs ≡ None → (x : X) → IsIn x xs → p x ≡ true → ⊥
+none_among p [] f x i m = i
+none_among p (y ∷ ys) f x i m = none_by p y ys (p y) refl f (none_among p ys) x i m
 
 -- what holds of each element holds of one
 pub All-in : {X : Type 0} (P : X → Type 0) (xs : List X) (x : X) → All P xs → IsIn x xs → P x

@@ -55,7 +55,7 @@ use Rattle.wm_law.specs.Launch.{order_of, launch}
 use Rattle.wm_law.specs.Laws.{IsIn}
 use Rattle.wm_law.specs.Machine.{apply, step, with_clock, change}
 use Rattle.wm_law.specs.Making.{made_unless}
-use Rattle.wm_law.specs.Endings.{down_by, end_active, end_found, end_in_phase, end_started, is_down, is_ended, is_wished, job_wish, started_named}
+use Rattle.wm_law.specs.Endings.{down_by, end_active, end_found, end_in_phase, end_started, is_down, is_ending_by, is_wished, job_wish, started_named}
 use Rattle.wm_law.specs.Power.{is_on}
 use Rattle.wm_law.specs.Reports.{in_phase, with_phase, hand_job, hand_order, is_to_kill, report_on, start_job, is_handed_to, is_run_by, phase_word, done_with, end_cause, exit_cause, with_kill}
 use Rattle.wm_law.specs.Settling.{come_due, job_at, leave, sbss_at, waiting}
@@ -64,7 +64,7 @@ use Rattle.wm_law.specs.Submitting.{submit_due, submit_with, submitted_job, ente
 use Rattle.wm_law.specs.Schedules.{rescheduled, scheduled}
 use Rattle.wm_law.specs.Named.{is_named, job_named, only_one, waiting_named}
 use Rattle.wm_law.specs.Holding.{hold_found, release_found, with_held}
-use Rattle.wm_law.specs.Changing.{change_due, change_found, has_queue, moved_to, stays, with_due}
+use Rattle.wm_law.specs.Changing.{change_due, change_found, finds_queue, moved_to, stays, with_due}
 use Rattle.wm_law.specs.Queues.{clear_queue, cleared_from, hold_queue, own_name, release_queue, waits_on}
 use Rattle.wm_law.specs.Jobs.{active_at, waiting_at, with_active}
 use Rattle.wm_law.specs.Wishes.{now_cause, with_wish}
@@ -123,7 +123,7 @@ the_one (k ∷ i ∷ jobs) j e = absurd (cc)
 -- P holds of whatever the call can come to: of its reply, and of the state before it settles
 pub record HoldsAfterCalls (P : Stepped → Type 0) (s : State) (call : Call) : Type 0 where
   pub refuses : (x : Refusal) → P (refused s x)
-  pub nothing : (HasCall s call → is_hand call ≡ false → ⊥) → P (record { reply = Nothing; state = s })
+  pub nothing : (HasCall call → is_hand call ≡ false → ⊥) → P (record { reply = Nothing; state = s })
   pub notes : P (record { reply = Noted; state = s })
   pub hands : (m : ℕ) (j : Job) (o : StartOrder) → IsIn j s.jobs → is_starting j.phase ≡ true → order_of s j ≡ Some o → P (record { reply = Order (Start o); state = with_phase s j.serial (Handed m) })
   pub reports : (serial : ℕ) (j : Job) (phase : Phase) → IsIn j s.jobs → j.serial ≡ serial → IsMoved j phase → is_starting phase ≡ false → P (record { reply = Noted; state = with_phase s serial phase })
@@ -162,7 +162,7 @@ module _ (P : Stepped → Type 0) (s : State) (call : Call) (h : HoldsAfterCalls
   released_found (Err x) = h.refuses x
   released_found (Ok j) = either j.held _ _ (λ t. h.alters (Released j.job) (waiting_at j.serial (with_held false)) s.next_place (plain_released j.job) (holding_alters s j.serial false)) (λ t. h.refuses NotHeld)
 
-  due_changed : (c : Chgjob) (j : Job) (r : Result ℕ Refusal) → has_queue s c.jobq ≡ true → P (change_due s c j r)
+  due_changed : (c : Chgjob) (j : Job) (r : Result ℕ Refusal) → finds_queue s c.jobq ≡ true → P (change_due s c j r)
   due_changed c j (Err x) q = h.refuses x
   due_changed c j (Ok due) q =
       either (stays c j) _ _ (λ t. h.alters (Changed j.job) (waiting_at j.serial (with_due due)) s.next_place (plain_changed j.job) (due_alters s j.serial due))
@@ -170,7 +170,7 @@ module _ (P : Stepped → Type 0) (s : State) (call : Call) (h : HoldsAfterCalls
 
   changed_found : (c : Chgjob) (r : Result Job Refusal) → P (change_found s c r)
   changed_found c (Err x) = h.refuses x
-  changed_found c (Ok j) = either (has_queue s c.jobq) _ _ (λ t. due_changed c j (rescheduled s j.due c.scddate c.scdtime) t) (λ t. h.refuses (NoObject kind.Jobq))
+  changed_found c (Ok j) = either (finds_queue s c.jobq) _ _ (λ t. due_changed c j (rescheduled s j.due c.scddate c.scdtime) t) (λ t. h.refuses (NoObject kind.Jobq))
 
   queue_held : (q : QName) → is_configuring_call call ≡ true → P (hold_queue s q)
   queue_held q told =
@@ -213,7 +213,7 @@ module _ (P : Stepped → Type 0) (s : State) (call : Call) (h : HoldsAfterCalls
   sbs_ended : (c : Endsbs) (o : Option Sbs) → is_ending_call call ≡ true → P (end_started s c o)
   sbs_ended c None told = h.refuses SbsNotActive
   sbs_ended c (Some b) told =
-      either (is_ended c.option b.phase) _ _ (λ t. h.refuses AlreadyEnding)
+      either (is_ending_by c.option b.phase) _ _ (λ t. h.refuses AlreadyEnding)
       (λ t. h.ends (SbsEnding b.sbsd) _ _ _ s.power (plain_sbs_ending b.sbsd) (those_end s c.option c.delay (λ x. same_qname x.sbsd b.sbsd)) told)
 
   ordered : (m : ℕ) (j : Job) (o : Option StartOrder) → P (record { reply = Nothing; state = s }) → IsIn j s.jobs → is_starting j.phase ≡ true → order_of s j ≡ o → P (hand_order s m j o)
@@ -322,7 +322,7 @@ changed P s user (command.Clrjobq c) h = queue_cleared P s _ h c.jobq
 changed P s user (command.Pwrdwnsys c) h =
     either P s _ h (is_down c.option s.power) _ _ (λ t. h.refuses PoweringDown)
     (λ t. h.ends PowerDown _ _ _ (down_by c.option) plain_power_down (all_end s c.option c.delay (down_by c.option)) refl)
-changed P s user c h = h.nothing (λ b n. b)
+changed P s user c h = h.nothing (λ b n. absurd (cc))
 
 -- what holds after whatever the call can come to, holds after the call
 pub call_comes : (P : Stepped → Type 0) (s : State) (caller : ℕ) (call : Call) → HoldsAfterCalls P s call → P (apply s caller call)

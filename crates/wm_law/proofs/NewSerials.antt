@@ -6,7 +6,8 @@ use Rattle.wm_law.specs.declared.choice.Candidate.{Candidate}
 use Rattle.wm_law.specs.declared.job.Job.{Job}
 use Rattle.wm_law.specs.declared.state.State.{State}
 use Rattle.wm_law.specs.Autos.{auto_job, auto_launched}
-use Rattle.wm_law.specs.Launch.{as_launched, launch_job, launched, launched_at}
+use Rattle.wm_law.specs.Jobs.{changed_at}
+use Rattle.wm_law.specs.Launch.{as_launched, launch_job, launched}
 use Rattle.wm_law.specs.Laws.{IsIn}
 use Rattle.wm_law.specs.Machine.{step}
 use Rattle.wm_law.specs.Order.{GivesNewSerials}
@@ -49,7 +50,7 @@ module _ (s : State) where
   launched_new t c None h = h
   launched_new t c (Some j) h =
       let l = launched t c.sbs c.jobq j in
-      same t (map (launched_at c.serial l) t.jobs) (keys_kept (λ (k : Job). k.serial) c.serial (as_launched l) (λ k. refl) t.jobs) h
+      same t (map (changed_at c.serial (as_launched l)) t.jobs) (keys_kept (λ (k : Job). k.serial) c.serial (as_launched l) (λ k. refl) t.jobs) h
 
   calls : (t : State) → GivesNewSerials s t → HoldsOfStates (GivesNewSerials s) t
   calls t h = (let least = h.next in record {

@@ -17,14 +17,15 @@ use Rattle.wm_desc.proofs.Tables.{one_name}
 use Rattle.wm_law.specs.declared.choice.Candidate.{Candidate}
 use Rattle.wm_law.specs.declared.job.Job.{Job}
 use Rattle.wm_law.specs.declared.state.State.{State}
-use Rattle.wm_law.specs.Choice.{entry_for, is_sbs_active, maxpty_of, next}
+use Rattle.wm_law.specs.Choice.{Turn, entry_for, is_sbs_active, maxpty_of, next}
 use Rattle.wm_law.specs.Counts.{count_from_priority, count_from_queue, count_in_sbs, is_from_priority, is_from_queue, is_in_sbs}
 use Rattle.wm_law.specs.Kept.{IsNumbered}
-use Rattle.wm_law.specs.Launch.{from_queue, launched, launched_as, launched_by, launched_through, route, route_fault}
-use Rattle.wm_law.specs.Laws.{IsFirst, MayStart, Turn}
+use Rattle.wm_law.specs.Launch.{from_queue, launched, routed_in, starts_unless, routed_through, route, route_fault}
+use Rattle.wm_law.specs.Laws.{IsFirst, MayStart}
 use Rattle.wm_law.proofs.Firsts.{next_is_first}
 use Rattle.wm_law.proofs.Forward.{only_one}
 use Rattle.wm_law.proofs.Members.{found_among}
+use Rattle.wm_law.proofs.Turns.{is_turn}
 
 -- the job that a candidate names: the first of the subsystem that the candidate names
 pub record IsNext (s : State) (c : Candidate) (j : Job) : Type 0 where
@@ -46,16 +47,16 @@ is_next s c j e n f =
     let same : first.0 ≡ j = only_one s.jobs n.serials.distinct first.0 j is_first.job k.0 (sym named.serial ∙ serial) in
     record { turn = turn; first = subst (λ (x : Job). IsFirst s x turn) same is_first; serial = serial; sbs = named.sbs; jobq = named.jobq }
 
-came_by : (test : How → Bool) (how : ℕ → How) (seq : ℕ) (o : Option EndCause) → test NotYet ≡ false → test (launched_by how seq o).how ≡ true → (n : ℕ) × ((launched_by how seq o).how ≡ how n)
+came_by : (test : How → Bool) (how : ℕ → How) (seq : ℕ) (o : Option EndCause) → test NotYet ≡ false → test (starts_unless how seq o).how ≡ true → (n : ℕ) × ((starts_unless how seq o).how ≡ how n)
 came_by test how seq None n h = (seq, refl)
 came_by test how seq (Some cause) n h = let yes : test NotYet ≡ true = h in absurd (cc)
 
-came_through : (test : How → Bool) (s : State) (sbs : QName) (how : ℕ → How) (j : Job) (o : Option RouteEntry) → test NotYet ≡ false → test (launched_through s sbs how j o).how ≡ true → (n : ℕ) × ((launched_through s sbs how j o).how ≡ how n)
+came_through : (test : How → Bool) (s : State) (sbs : QName) (how : ℕ → How) (j : Job) (o : Option RouteEntry) → test NotYet ≡ false → test (routed_through s sbs how j o).how ≡ true → (n : ℕ) × ((routed_through s sbs how j o).how ≡ how n)
 came_through test s sbs how j None n h = let yes : test NotYet ≡ true = h in absurd (cc)
 came_through test s sbs how j (Some e) n h = came_by test how e.seq (route_fault s sbs e j) n h
 
 -- a launch whose how passes a test that jobs not yet started don't pass is by a routing entry
-came_as : (test : How → Bool) (s : State) (sbs : QName) (how : ℕ → How) (j : Job) → test NotYet ≡ false → test (launched_as s sbs how j).how ≡ true → (n : ℕ) × ((launched_as s sbs how j).how ≡ how n)
+came_as : (test : How → Bool) (s : State) (sbs : QName) (how : ℕ → How) (j : Job) → test NotYet ≡ false → test (routed_in s sbs how j).how ≡ true → (n : ℕ) × ((routed_in s sbs how j).how ≡ how n)
 came_as test s sbs how j n h = came_through test s sbs how j (option_and_then (λ d. route d j.rtgdta) (object_named sbs s.objects.sbsds)) n h
 
 -- so that of a job of a queue is one from the queue
@@ -75,16 +76,16 @@ below_limits s j t m =
 
 -- the subsystem's description is the one of its name
 same_sbsd : (s : State) (j : Job) (t : Turn) (sbs : QName) (d : Sbsd) → MayStart s j t → t.sbs.sbsd ≡ sbs → object_named sbs s.objects.sbsds ≡ Some d → t.sbsd ≡ d
-same_sbsd s j t sbs d m its k = Some-injective t.sbsd d (sym m.sbsd ∙ ap (λ (q : QName). object_named q s.objects.sbsds) its ∙ k)
+same_sbsd s j t sbs d m its k = Some-injective t.sbsd d (sym (is_turn s j t m.turn).sbsd ∙ ap (λ (q : QName). object_named q s.objects.sbsds) its ∙ k)
 
 -- the entry for a queue has its name
 pub own_queue : (s : State) (j : Job) (t : Turn) → MayStart s j t → t.entry.jobq ≡ t.queue
-own_queue s j t m = one_name t.entry.jobq t.queue (found_among (λ (e : QueueEntry). same_qname e.jobq t.queue) t.sbsd.queues t.entry m.entry).1
+own_queue s j t m = one_name t.entry.jobq t.queue (found_among (λ (e : QueueEntry). same_qname e.jobq t.queue) t.sbsd.queues t.entry (is_turn s j t m.turn).entry).1
 
 -- the entry is the description's one for its queue
 same_entry : (s : State) (j : Job) (t : Turn) (queue : QName) (d : Sbsd) (e : QueueEntry) → MayStart s j t → t.entry.jobq ≡ queue → t.sbsd ≡ d → entry_for queue d ≡ Some e → t.entry ≡ e
 same_entry s j t queue d e m its same k =
-    Some-injective t.entry e (sym m.entry ∙ ap (λ (q : QName). entry_for q t.sbsd) (sym (own_queue s j t m) ∙ its) ∙ ap (entry_for queue) same ∙ k)
+    Some-injective t.entry e (sym (is_turn s j t m.turn).entry ∙ ap (λ (q : QName). entry_for q t.sbsd) (sym (own_queue s j t m) ∙ its) ∙ ap (entry_for queue) same ∙ k)
 
 -- where a launch adds to a subsystem's count, the count is below MAXJOBS
 pub below_maxjobs : (s : State) (c : Candidate) (j : Job) (sbs : QName) (d : Sbsd) → IsNext s c j → object_named sbs s.objects.sbsds ≡ Some d → is_in_sbs sbs (launched s c.sbs c.jobq j).how ≡ true → is_below (count_in_sbs sbs s.jobs) d.maxjobs ≡ true

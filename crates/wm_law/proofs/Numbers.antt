@@ -24,7 +24,7 @@ use Rattle.wm_law.specs.Counts.{is_waiting}
 use Rattle.wm_law.specs.Fit.{IsBetween}
 use Rattle.wm_law.specs.Kept.{IsDistinct, IsBelow, IsGiven, IsNumbered, waiting_places, OpeningIsNumbered, StepKeepsNumbers, NumbersAreGivenOnce}
 use Rattle.wm_law.specs.Jobs.{with_job}
-use Rattle.wm_law.specs.Launch.{as_auto, as_launched, launch, launch_job, launched, with_launched}
+use Rattle.wm_law.specs.Launch.{as_auto, as_launched, launch, launch_job, launched}
 use Rattle.wm_law.specs.Laws.{IsIn}
 use Rattle.wm_law.specs.Submitting.{submitted_job, entered, has_numbers, numbers_end, serials_end}
 use Rattle.wm_law.specs.Reports.{in_phase, with_phase}
@@ -90,12 +90,12 @@ job_same s serial change k = record {
 phase_same : (s : State) (serial : ℕ) (phase : Phase) → is_waiting phase ≡ false → SameNumbers s (with_phase s serial phase)
 phase_same s serial phase n = job_same s serial (in_phase phase) (record { serial = λ j. refl; number = λ j. refl; place = λ j. refl; never = λ j. n })
 
-launched_same : (s : State) (serial : ℕ) (l : Launched) → is_waiting l.phase ≡ false → SameNumbers s (with_launched s serial l)
+launched_same : (s : State) (serial : ℕ) (l : Launched) → is_waiting l.phase ≡ false → SameNumbers s (with_job s serial (as_launched l))
 launched_same s serial l n = job_same s serial (as_launched l) (record { serial = λ j. refl; number = λ j. refl; place = λ j. refl; never = λ j. n })
 
 launch_keeps : (s : State) (c : Candidate) (o : Option Job) → IsNumbered s → IsNumbered (launch_job s c o)
 launch_keeps s c None h = h
-launch_keeps s c (Some j) h = let l = launched s c.sbs c.jobq j in numbered_same s (with_launched s c.serial l) (launched_same s c.serial l (not_waiting s c.sbs c.jobq j)) h
+launch_keeps s c (Some j) h = let l = launched s c.sbs c.jobq j in numbered_same s (with_job s c.serial (as_launched l)) (launched_same s c.serial l (not_waiting s c.sbs c.jobq j)) h
 
 pub launches_keep : IsKept next (λ c t. launch t c) IsNumbered
 launches_keep = record { by_step = λ s c e h. launch_keeps s c (find (λ j. j.serial == c.serial) s.jobs) h }

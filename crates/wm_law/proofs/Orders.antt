@@ -37,9 +37,9 @@ use Rattle.wm_law.specs.Choice.{has_entry, next}
 use Rattle.wm_law.specs.Counts.{is_in_sbs, is_starting}
 use Rattle.wm_law.specs.Kept.{IsLodged, IsNumbered, IsRouted, HasOrders, OpeningHasOrders, StepKeepsOrders, StartingJobsHaveOrders, HandGivesAnOrder, ReachedRouteIsLeast}
 use Rattle.wm_law.specs.Jobs.{changed_at}
-use Rattle.wm_law.specs.Launch.{as_auto, as_launched, called_args, called_program, entry_numbered, from_queue, is_match, launch, launch_job, launched, launched_as, launched_at, missing_program, order_by, order_called, order_of, order_through, order_with, program_fault, route_entry}
+use Rattle.wm_law.specs.Launch.{as_auto, as_launched, called_args, called_program, entry_numbered, from_queue, is_match, launch, launch_job, launched, routed_in, missing_program, order_by, order_called, order_of, order_through, order_with, program_fault, route_entry}
 use Rattle.wm_law.specs.Laws.{IsIn}
-use Rattle.wm_law.specs.Pending.{kills, orders, starting}
+use Rattle.wm_law.specs.Pending.{kills, orders_left, starting}
 use Rattle.wm_law.specs.Submitting.{submitted_job}
 use Rattle.wm_law.specs.Reports.{hand_job, hand_order, in_phase, is_to_kill, phased_at, start_job}
 use Rattle.wm_law.specs.Settling.{come_due, leave, waiting}
@@ -50,6 +50,7 @@ use Rattle.wm_law.specs.History.{after, stepped}
 use Rattle.wm_law.proofs.Alterations.{IsAlteration, each_altered, unstarted}
 use Rattle.wm_law.proofs.Opened.{batch_sbsd, opening_objects, opened, opening_is}
 use Rattle.wm_law.proofs.Endings.{IsEnding, stood_starting, wished, starting_phase}
+use Rattle.wm_law.proofs.Turns.{is_turn}
 use Rattle.wm_law.proofs.Firsts.{next_is_first}
 use Rattle.wm_law.proofs.Lodged.{lodged_longer, lodged_ending, lodged_left}
 use Rattle.wm_law.proofs.Named.{own_name}
@@ -81,7 +82,7 @@ by_called : (s : State) (e : RouteEntry) (j : Job) (o : Option QName) → called
 by_called s e j None f h = absurd (cc)
 by_called s e j (Some pgm) f h = (pgm, f, by_program s pgm (object_named pgm s.objects.programs) refl h)
 
-is_led : (s : State) (sbs : QName) (by : ℕ → How) (j : Job) → (launched_as s sbs by j).phase ≡ Starting → IsLed s sbs by j (launched_as s sbs by j)
+is_led : (s : State) (sbs : QName) (by : ℕ → How) (j : Job) → (routed_in s sbs by j).phase ≡ Starting → IsLed s sbs by j (routed_in s sbs by j)
 is_led s sbs by j h =
     let r = by_route s sbs by j h in
     let called = by_called s r.entry j (called_program r.entry j.rqsdta) refl r.startable in
@@ -160,7 +161,7 @@ changed_of Q jobs serial change new h k m e =
 moved : (Q : Job → Type 0) (jobs : List Job) (serial : ℕ) (phase : Phase) → is_starting phase ≡ false → OfStarting Q jobs → OfStarting Q (map (phased_at serial phase) jobs)
 moved Q jobs serial phase n h = changed_of Q jobs serial (in_phase phase) (λ j i t e. (let same = ap is_starting e in absurd (cc))) h
 
-launched_all : (s : State) (c : Candidate) (f : Job) → IsNumbered s → HasOrders s → IsIn f s.jobs → f.serial ≡ c.serial → AllOrdered s (map (launched_at c.serial (launched s c.sbs c.jobq f)) s.jobs)
+launched_all : (s : State) (c : Candidate) (f : Job) → IsNumbered s → HasOrders s → IsIn f s.jobs → f.serial ≡ c.serial → AllOrdered s (map (changed_at c.serial (as_launched (launched s c.sbs c.jobq f))) s.jobs)
 launched_all s c f n h i same =
     let l = launched s c.sbs c.jobq f in
     changed_of (λ j. IsSome (order_of s j)) s.jobs c.serial (as_launched l)
@@ -176,12 +177,12 @@ named_started s c e =
     let t = first.1.0 in
     let is_first = first.1.1.0 in
     let named = first.1.1.2 in
-    (t.sbs, (found_among (has_entry s t.queue) s.started t.sbs is_first.may.holder).0, named.sbs)
+    (t.sbs, (found_among (has_entry s t.queue) s.started t.sbs (is_turn s first.0 t is_first.may.turn).holder).0, named.sbs)
 
 came_into : (sbs jobq q : QName) (pty seq : ℕ) (how : How) → how ≡ FromQueue sbs jobq pty seq → sbs ≡ q → is_in_sbs q how ≡ true
 came_into sbs jobq q pty seq how e same = ap (is_in_sbs q) e ∙ subst (λ (n : QName). same_qname sbs n ≡ true) same (own_name sbs)
 
-launched_lodged : (s : State) (c : Candidate) (f : Job) → next s ≡ Some c → HasOrders s → AllLodged s.started (map (launched_at c.serial (launched s c.sbs c.jobq f)) s.jobs)
+launched_lodged : (s : State) (c : Candidate) (f : Job) → next s ≡ Some c → HasOrders s → AllLodged s.started (map (changed_at c.serial (as_launched (launched s c.sbs c.jobq f))) s.jobs)
 launched_lodged s c f e h =
     let l = launched s c.sbs c.jobq f in
     let b = named_started s c e in
@@ -223,7 +224,7 @@ alike s t e f lodged h = record {
 auto_ordered : (q : QName) (t : State) (e : AutoEntry) (d : Jobd) → IsMakeable q t → HasOrders t → HasOrders (auto_made t q e d)
 auto_ordered q t e d m h =
     let j = auto_job t e d in
-    let l = launched_as t q (as_auto q) j in
+    let l = routed_in t q (as_auto q) j in
     let u = routed t h (t.jobs ++ auto_launched t q j ∷ [])
     (last_of (λ k. IsSome (order_of t k)) t.jobs (auto_launched t q j) (λ starts. has_order t q (as_auto q) j l (λ x seq. refl) h.routed (is_led t q (as_auto q) j starts)) h.starting)
     (last_of (IsLodged t.started) t.jobs (auto_launched t q j)
@@ -381,13 +382,13 @@ nothing s m (Some j) f h e = absurd (cc)
 none_of_both : (n m : ℕ) → n + m ≡ 0 → (n ≡ 0) × (m ≡ 0)
 none_of_both n m e = (omega arith, omega arith)
 
-no_orders : (s : State) (m : ℕ) → (find (is_to_kill m) s.jobs ≡ None) × (find (λ j. is_starting j.phase) s.jobs ≡ None) → orders s m ≡ 0
+no_orders : (s : State) (m : ℕ) → (find (is_to_kill m) s.jobs ≡ None) × (find (λ j. is_starting j.phase) s.jobs ≡ None) → orders_left s m ≡ 0
 no_orders s m h =
     let kills_none = none_passing (is_to_kill m) s.jobs h.0 in
     let starting_none = none_passing (λ (j : Job). is_starting j.phase) s.jobs h.1 in
     omega arith
 
-hands_none : (s : State) (m : ℕ) → orders s m ≡ 0 → (hand_job s m (find (is_to_kill m) s.jobs)).reply ≡ Nothing
+hands_none : (s : State) (m : ℕ) → orders_left s m ≡ 0 → (hand_job s m (find (is_to_kill m) s.jobs)).reply ≡ Nothing
 hands_none s m e =
     let none = none_of_both (kills s m) (starting s) e in
     ap (λ (o : Option Job). (hand_job s m o).reply) (none_found (is_to_kill m) s.jobs none.0)

@@ -1,7 +1,7 @@
 -- No launch passes a job that stands before, but where that one's limit was reached.
 use Rattle.std.proofs.Common.{◌≡◌, ◌⊎◌, ℕ, ◌≤◌, ◌==◌, ◌&&◌, ◌||◌, not, Bool, true, false, cond, List, [], ◌∷◌, map, Option, Some, None, refl, sym, ap, subst, ◌∙◌, inl, inr, arith}
 use Rattle.std.specs.List.{find, list_any}
-use Rattle.std.specs.Ordering.{is_lt, nat_cmp, ordering_then}
+use Rattle.std.specs.Ordering.{is_lt}
 use Rattle.std.proofs.lemmas.Bool.{eq-eqb, or_right, and_parts, eqb-true}
 use Rattle.std.proofs.lemmas.Bool.Decides.{nat_tests}
 use Rattle.wm_base.specs.declared.job.How.{How}
@@ -24,14 +24,15 @@ use Rattle.wm_law.specs.declared.job.Why.TheVariants as why
 use Rattle.wm_law.specs.declared.state.Sbs.{Sbs}
 use Rattle.wm_law.specs.declared.state.State.{State}
 use Rattle.wm_law.specs.Autos.{auto_job, auto_launched, auto_made}
-use Rattle.wm_law.specs.Choice.{is_allowed, is_ready, is_sbs_active, maxpty_of, next}
+use Rattle.wm_law.specs.Choice.{Turn, is_allowed, is_before, is_ready, is_sbs_active, maxpty_of, next, place_cmp, rank_in, turn_of}
 use Rattle.wm_law.specs.Counts.{count_active, count_from_priority, count_from_queue, count_in_sbs, is_active, is_from_priority, is_from_queue, is_waiting}
 use Rattle.wm_law.specs.Kept.{IsNumbered}
-use Rattle.wm_law.specs.Launch.{as_launched, launch_job, launched, launched_at}
-use Rattle.wm_law.specs.Laws.{IsIn, MayStart, Turn}
+use Rattle.wm_law.specs.Jobs.{changed_at}
+use Rattle.wm_law.specs.Launch.{as_launched, launch_job, launched}
+use Rattle.wm_law.specs.Laws.{IsIn, MayStart}
 use Rattle.wm_law.specs.Settling.{come_due, job_at, sbss_at}
 use Rattle.wm_law.specs.Wishes.{why_cause}
-use Rattle.wm_law.specs.Order.{IsFullFor, PassesNone, counted_for, is_before, is_counted_for, is_launch_cause, is_launch_phase, is_past_waiting, is_submitted, stands_before, turn_of, was_launched}
+use Rattle.wm_law.specs.Order.{IsFullFor, PassesNone, counted_for, is_counted_for, is_launch_cause, is_launch_phase, is_past_waiting, is_submitted, stands_before, was_launched}
 use Rattle.wm_law.specs.Reports.{in_phase, phased_at, with_phase}
 use Rattle.wm_law.specs.Submitting.{entered, submitted_job}
 use Rattle.wm_law.proofs.Alterations.{IsAlteration, altered, each_altered, launch_waits, unlaunched}
@@ -43,7 +44,7 @@ use Rattle.wm_law.proofs.InTurn.{launched_in, may_before, not_active, there_befo
 use Rattle.wm_law.proofs.Members.{of_last, of_mapped}
 use Rattle.wm_law.proofs.Moves.{HoldsOfStates}
 use Rattle.wm_law.proofs.Nexts.{IsNext, is_next}
-use Rattle.wm_law.proofs.Turns.{ahead_launched, behind_launched, by_turns, has_turn, is_turn, may_start_in, none_ahead, one_sbs}
+use Rattle.wm_law.proofs.Turns.{ahead_launched, behind_launched, by_turns, is_turn, none_ahead, one_sbs}
 
 -- a count that has reached its limit has reached it where it is no less
 pub full_still : (n m : ℕ) (limit : Limit) → n ≤ m → is_below n limit ≡ false → is_below m limit ≡ false
@@ -93,7 +94,7 @@ module _ (s t : State) (c : Candidate) (f : Job) (x : IsNext t c f) (h : IsOrder
       absurd (cc)
   untouched i false e m a = refl
 
-  still : (q : Job → Bool) (i : Job) → IsIn i t.jobs → is_active i.phase ≡ true → q i ≡ true → q (launched_at c.serial (launched t c.sbs c.jobq f) i) ≡ true
+  still : (q : Job → Bool) (i : Job) → IsIn i t.jobs → is_active i.phase ≡ true → q i ≡ true → q (changed_at c.serial (as_launched (launched t c.sbs c.jobq f)) i) ≡ true
   still q i m a e = subst (λ (y : Job). q y ≡ true) (sym (untouched i (i.serial == c.serial) refl m a)) e
 
   -- what was counted for a job is still counted for it
@@ -102,7 +103,7 @@ module _ (s t : State) (c : Candidate) (f : Job) (x : IsNext t c f) (h : IsOrder
       no_fewer
       (λ (i : Job). is_active i.phase && test i.how && is_counted_for s t j i)
       (λ (i : Job). is_active i.phase && test i.how && is_counted_for s (launched_in t c f) j i)
-      (launched_at c.serial (launched t c.sbs c.jobq f))
+      (changed_at c.serial (as_launched (launched t c.sbs c.jobq f)))
       t.jobs
       (λ i m e.
       let all = and_parts (is_active i.phase && test i.how) (is_counted_for s t j i) e in
@@ -120,7 +121,7 @@ module _ (s t : State) (c : Candidate) (f : Job) (x : IsNext t c f) (h : IsOrder
       no_fewer
       (λ (i : Job). is_active i.phase && test i.how)
       (λ (i : Job). is_active i.phase && test i.how && is_counted_for s (launched_in t c f) (as_launched (launched t c.sbs c.jobq f) f) i)
-      (launched_at c.serial (launched t c.sbs c.jobq f))
+      (changed_at c.serial (as_launched (launched t c.sbs c.jobq f)))
       t.jobs
       (λ i m e.
       let both = and_parts (is_active i.phase) (test i.how) e in
@@ -144,14 +145,14 @@ module _ (s t : State) (c : Candidate) (f : Job) (x : IsNext t c f) (h : IsOrder
 
   behind_still : (i k : Job) (u : Turn) → IsIn i (launched_in t c f).jobs → was_launched s i ≡ true → IsIn k (launched_in t c f).jobs → MayStart (launched_in t c f) k u → stands_before (launched_in t c f) k i ≡ false
   behind_still i k u m w n r =
-      let o = of_mapped (launched_at c.serial (launched t c.sbs c.jobq f)) t.jobs i m in
+      let o = of_mapped (changed_at c.serial (as_launched (launched t c.sbs c.jobq f))) t.jobs i m in
       let before = may k u r in
       behind_at o.0 k u (o.0.serial == c.serial) i refl o.1 o.2 w (there k n before.ready) before
 
   -- a ready job that stands before the first one isn't allowed
   not_allowed : (k : Job) (u : Turn) (b : Bool) → is_allowed t u.sbs u.sbsd u.entry k.pty ≡ b → IsIn k t.jobs → is_ready t k ≡ true → turn_of t k ≡ Some u → stands_before t k f ≡ true → b ≡ false
   not_allowed k u true e n r v before =
-      let none = none_ahead t k f u x.turn x.first n (may_start_in t k u r v e) in
+      let none = none_ahead t k f u x.turn x.first n (record { ready = r; turn = v; allowed = e }) in
       absurd (cc)
   not_allowed k u false e n r v before = refl
 
@@ -168,14 +169,14 @@ module _ (s t : State) (c : Candidate) (f : Job) (x : IsNext t c f) (h : IsOrder
   same_sbs : (k : Job) (u : Turn) → turn_of t k ≡ Some u → stands_before t k f ≡ true → u.sbs.sbsd ≡ x.turn.sbs.sbsd
   same_sbs k u v before =
       let turn = x.turn in
-      let stood : is_before u k turn f ≡ true = sym (by_turns t k f u turn v (has_turn t f turn x.first.may)) ∙ before in
-      one_name u.sbs.sbsd turn.sbs.sbsd (and_parts (same_qname u.sbs.sbsd turn.sbs.sbsd) (is_lt (ordering_then (nat_cmp u.entry.seq turn.entry.seq) (ordering_then (nat_cmp k.pty f.pty) (nat_cmp k.place f.place)))) stood).0
+      let stood : is_before u k turn f ≡ true = sym (by_turns t k f u turn v x.first.may.turn) ∙ before in
+      one_name u.sbs.sbsd turn.sbs.sbsd (and_parts (same_qname u.sbs.sbsd turn.sbs.sbsd) (is_lt (place_cmp (rank_in u k) (rank_in turn f))) stood).0
 
   -- the launched job passed a ready one only where that one's limit was reached
   full_now : (k : Job) (u : Turn) → IsIn k t.jobs → is_ready t k ≡ true → turn_of t k ≡ Some u → stands_before t k f ≡ true → IsFullFor s (launched_in t c f) (as_launched (launched t c.sbs c.jobq f) f) k u
   full_now k u n r v before =
       let j = as_launched (launched t c.sbs c.jobq f) f in
-      let same = one_sbs t f k x.turn u x.first.may (is_turn t k u v) (same_sbs k u v before) in
+      let same = one_sbs t f k x.turn u (is_turn t f x.turn x.first.may.turn) (is_turn t k u v) (same_sbs k u v before) in
       elim (full_by k u same (not_allowed k u (is_allowed t u.sbs u.sbsd u.entry k.pty) refl n r v before)) as (λ _. IsFullFor s (launched_in t c f) j k u) [
         | inl e ↦ inl (full_still (count_from_queue u.sbs.sbsd u.entry.jobq t.jobs) (counted_for s (launched_in t c f) j (is_from_queue u.sbs.sbsd u.entry.jobq)) u.entry.maxact (counted_all (is_from_queue u.sbs.sbsd u.entry.jobq)) e)
         | inr e ↦ inr (full_still (count_from_priority u.sbs.sbsd u.entry.jobq k.pty t.jobs) (counted_for s (launched_in t c f) j (is_from_priority u.sbs.sbsd u.entry.jobq k.pty)) (maxpty_of u.entry k.pty) (counted_all (is_from_priority u.sbs.sbsd u.entry.jobq k.pty)) e)
@@ -199,7 +200,7 @@ module _ (s t : State) (c : Candidate) (f : Job) (x : IsNext t c f) (h : IsOrder
 
   passed_still : PassesNone s (launched_in t c f)
   passed_still j k u m w n r v before =
-      let o = of_mapped (launched_at c.serial (launched t c.sbs c.jobq f)) t.jobs j m in
+      let o = of_mapped (changed_at c.serial (as_launched (launched t c.sbs c.jobq f))) t.jobs j m in
       passed_at o.0 k u (o.0.serial == c.serial) j refl o.1 o.2 w (there k n r) r v before
 
 -- a launch keeps the order

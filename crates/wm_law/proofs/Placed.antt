@@ -33,12 +33,13 @@ use Rattle.wm_law.specs.Autos.{auto_job, auto_launched, auto_made}
 use Rattle.wm_law.specs.Choice.{next}
 use Rattle.wm_law.specs.Counts.{count_in_sbs, is_active, is_in_sbs, is_waiting}
 use Rattle.wm_law.specs.Kept.{IsNumbered, phase_rank}
-use Rattle.wm_law.specs.Launch.{as_auto, as_launched, from_queue, is_match, launch, launch_job, launched, launched_as, launched_at, launched_by, launched_through, route, route_fault}
+use Rattle.wm_law.specs.Jobs.{changed_at}
+use Rattle.wm_law.specs.Launch.{as_auto, as_launched, from_queue, is_match, launch, launch_job, launched, routed_in, starts_unless, routed_through, route, route_fault}
 use Rattle.wm_law.specs.Laws.{IsIn}
 use Rattle.wm_law.specs.Machine.{apply, step, with_clock}
 use Rattle.wm_law.specs.Reports.{in_phase, phased_at, with_phase}
 use Rattle.wm_law.specs.Settling.{come_due, is_ending, is_gone, leave, waiting}
-use Rattle.wm_law.specs.Sound.{CameFromQueue, HasPlaces, HasQueues, IsPlaced}
+use Rattle.wm_law.specs.Sound.{CameFromQueue, ActiveHaveCome, HasQueues, HasCome}
 use Rattle.wm_law.specs.Submitting.{submitted_job}
 use Rattle.wm_law.proofs.Alterations.{IsAlteration, altered, each_altered, idle}
 use Rattle.wm_law.proofs.Endings.{AreEnded, IsEnding, was_active, wished}
@@ -53,17 +54,18 @@ use Rattle.wm_law.proofs.Numbers.{apply_keeps, clock_keeps, launches_keep, ready
 use Rattle.wm_law.proofs.Objects.{IsObjectChange}
 use Rattle.wm_law.proofs.Queued.{launches_queued, queued_calls}
 use Rattle.wm_law.proofs.Routed.{by_route, launched_routed, started_through}
+use Rattle.wm_law.proofs.Turns.{is_turn}
 
-active_by : (how : ℕ → How) (seq : ℕ) (o : Option EndCause) → is_active (launched_by how seq o).phase ≡ true → (launched_by how seq o).phase ≡ Starting
+active_by : (how : ℕ → How) (seq : ℕ) (o : Option EndCause) → is_active (starts_unless how seq o).phase ≡ true → (starts_unless how seq o).phase ≡ Starting
 active_by how seq None h = refl
 active_by how seq (Some c) h = absurd (cc)
 
 -- a launch that leaves a job active leaves it Starting
-pub active_through : (s : State) (sbs : QName) (how : ℕ → How) (j : Job) (o : Option RouteEntry) → is_active (launched_through s sbs how j o).phase ≡ true → (launched_through s sbs how j o).phase ≡ Starting
+pub active_through : (s : State) (sbs : QName) (how : ℕ → How) (j : Job) (o : Option RouteEntry) → is_active (routed_through s sbs how j o).phase ≡ true → (routed_through s sbs how j o).phase ≡ Starting
 active_through s sbs how j None h = absurd (cc)
 active_through s sbs how j (Some e) h = active_by how e.seq (route_fault s sbs e j) h
 
-pub active_as : (s : State) (sbs : QName) (how : ℕ → How) (j : Job) → is_active (launched_as s sbs how j).phase ≡ true → (launched_as s sbs how j).phase ≡ Starting
+pub active_as : (s : State) (sbs : QName) (how : ℕ → How) (j : Job) → is_active (routed_in s sbs how j).phase ≡ true → (routed_in s sbs how j).phase ≡ Starting
 active_as s sbs how j h = active_through s sbs how j (option_and_then (λ d. route d j.rtgdta) (object_named sbs s.objects.sbsds)) h
 
 -- the launched job came by the entries of its turn
@@ -71,10 +73,11 @@ placed_now : (s : State) (c : Candidate) (j : Job) → IsNext s c j → is_activ
 placed_now s c j n a =
     let t = n.turn in
     let m = n.first.may in
+    let i = is_turn s j t m.turn in
     let o = route t.sbsd j.rtgdta in
     let same = launched_routed s c j n in
     let how = from_queue t.sbs.sbsd t.queue j in
-    let active : is_active (launched_through s t.sbs.sbsd how j o).phase ≡ true = ap (λ (l : Launched). is_active l.phase) (sym same) ∙ a in
+    let active : is_active (routed_through s t.sbs.sbsd how j o).phase ≡ true = ap (λ (l : Launched). is_active l.phase) (sym same) ∙ a in
     let r = started_through s t.sbs.sbsd how t.sbsd j o refl (active_through s t.sbs.sbsd how j o active) in
     record {
       queue = t.queue;
@@ -83,22 +86,22 @@ placed_now s c j n a =
       entry = t.entry;
       route = r.0;
       started = holder_started s j t m;
-      described = m.sbsd;
-      fed = m.entry;
+      described = i.sbsd;
+      fed = i.entry;
       routed = (found_among (λ (e : RouteEntry). is_match e.cmp j.rtgdta) t.sbsd.routes r.0 r.1).0;
-      has_queue = m.queue;
+      has_queue = i.queue;
       is_how = ap (λ (l : Launched). l.how) same ∙ r.2;
     }
 
 -- the active job is so placed
 abbrev IsPlacedIn : State → Job → Type 0
-IsPlacedIn s j = IsPlaced s.started s.objects j.kind j.jobq j.pty j.how
+IsPlacedIn s j = HasCome s.started s.objects j.kind j.jobq j.pty j.how
 
 -- a submitted job that came from a queue is in its place
-submitted : (bs : List Sbs) (o : Objects) (kind : JobKind) (jobq : Option QName) (pty : ℕ) (how : How) → kind ≡ Bch → CameFromQueue bs o jobq pty how → IsPlaced bs o kind jobq pty how
-submitted bs o kind jobq pty how e p = subst (λ (k : JobKind). IsPlaced bs o k jobq pty how) (sym e) p
+submitted : (bs : List Sbs) (o : Objects) (kind : JobKind) (jobq : Option QName) (pty : ℕ) (how : How) → kind ≡ Bch → CameFromQueue bs o jobq pty how → HasCome bs o kind jobq pty how
+submitted bs o kind jobq pty how e p = subst (λ (k : JobKind). HasCome bs o k jobq pty how) (sym e) p
 
-placed_at : (s : State) (c : Candidate) (f : Job) (i : Job) (b : Bool) (k : Job) → (i.serial == c.serial) ≡ b → IsIn i s.jobs → IsNumbered s → HasQueues s → IsNext s c f → HasPlaces s → k ≡ cond b (as_launched (launched s c.sbs c.jobq f) i) i → is_active k.phase ≡ true → IsPlacedIn s k
+placed_at : (s : State) (c : Candidate) (f : Job) (i : Job) (b : Bool) (k : Job) → (i.serial == c.serial) ≡ b → IsIn i s.jobs → IsNumbered s → HasQueues s → IsNext s c f → ActiveHaveCome s → k ≡ cond b (as_launched (launched s c.sbs c.jobq f) i) i → is_active k.phase ≡ true → IsPlacedIn s k
 placed_at s c f i true k e m n q x h same a =
     let l = launched s c.sbs c.jobq f in
     let its : i ≡ f = only_one s.jobs n.serials.distinct i f m x.first.job (eqb-true i.serial c.serial e ∙ x.serial) in
@@ -109,17 +112,17 @@ placed_at s c f i true k e m n q x h same a =
 placed_at s c f i false k e m n q x h same a =
     subst (IsPlacedIn s) (sym same) (h i m (ap (λ (y : Job). is_active y.phase) (sym same) ∙ a))
 
-launched_placed : (s : State) (c : Candidate) (o : Option Job) → find (λ j. j.serial == c.serial) s.jobs ≡ o → next s ≡ Some c → IsNumbered s → HasQueues s → HasPlaces s → HasPlaces (launch_job s c o)
+launched_placed : (s : State) (c : Candidate) (o : Option Job) → find (λ j. j.serial == c.serial) s.jobs ≡ o → next s ≡ Some c → IsNumbered s → HasQueues s → ActiveHaveCome s → ActiveHaveCome (launch_job s c o)
 launched_placed s c None f e n q h = h
 launched_placed s c (Some j) f e n q h = λ k m a. (
-    let o = of_mapped (launched_at c.serial (launched s c.sbs c.jobq j)) s.jobs k m in
+    let o = of_mapped (changed_at c.serial (as_launched (launched s c.sbs c.jobq j))) s.jobs k m in
     placed_at s c j o.0 (o.0.serial == c.serial) k refl o.1 n q (is_next s c j e n f) h o.2 a)
 
 -- numbered, the jobs have their queues, and active jobs have their places
 record IsSettled (s : State) : Type 0 where
   numbered : IsNumbered s
   queues : HasQueues s
-  places : HasPlaces s
+  places : ActiveHaveCome s
 
 launches_placed : IsKept next (λ c t. launch t c) IsSettled
 launches_placed = record {
@@ -142,7 +145,7 @@ active_before (Ended c) (Handed m) w r a = absurd (omega arith)
 active_before (Ended c) (Running m) w r a = absurd (omega arith)
 active_before (Ended c) (Ended d) w r a = absurd (cc)
 
-moved_at : (s : State) (serial : ℕ) (phase : Phase) (j i : Job) (b : Bool) (k : Job) → IsNumbered s → HasPlaces s → IsIn j s.jobs → j.serial ≡ serial → IsOnward j.phase phase → (i.serial == serial) ≡ b → IsIn i s.jobs → k ≡ cond b (in_phase phase i) i → is_active k.phase ≡ true → IsPlacedIn s k
+moved_at : (s : State) (serial : ℕ) (phase : Phase) (j i : Job) (b : Bool) (k : Job) → IsNumbered s → ActiveHaveCome s → IsIn j s.jobs → j.serial ≡ serial → IsOnward j.phase phase → (i.serial == serial) ≡ b → IsIn i s.jobs → k ≡ cond b (in_phase phase i) i → is_active k.phase ≡ true → IsPlacedIn s k
 moved_at s serial phase j i true k n h m e r f o same a =
     let its : j ≡ i = only_one s.jobs n.serials.distinct j i m o (e ∙ sym (eqb-true i.serial serial f)) in
     let active : is_active phase ≡ true = ap (λ (y : Job). is_active y.phase) (sym same) ∙ a in
@@ -152,13 +155,13 @@ moved_at s serial phase j i true k n h m e r f o same a =
 moved_at s serial phase j i false k n h m e r f o same a =
     subst (IsPlacedIn s) (sym same) (h i o (ap (λ (y : Job). is_active y.phase) (sym same) ∙ a))
 
-moved_placed : (s : State) (serial : ℕ) (j : Job) (phase : Phase) → IsNumbered s → HasPlaces s → IsIn j s.jobs → j.serial ≡ serial → IsOnward j.phase phase → HasPlaces (with_phase s serial phase)
+moved_placed : (s : State) (serial : ℕ) (j : Job) (phase : Phase) → IsNumbered s → ActiveHaveCome s → IsIn j s.jobs → j.serial ≡ serial → IsOnward j.phase phase → ActiveHaveCome (with_phase s serial phase)
 moved_placed s serial j phase n h m e r k i a =
     let o = of_mapped (phased_at serial phase) s.jobs k i in
     moved_at s serial phase j o.0 (o.0.serial == serial) k n h m e r refl o.1 o.2 a
 
 -- one more job, which is in its place if it is active
-last_placed : (s : State) (j : Job) → (is_active j.phase ≡ true → IsPlacedIn s j) → HasPlaces s → (k : Job) → IsIn k (s.jobs ++ j ∷ []) → is_active k.phase ≡ true → IsPlacedIn s k
+last_placed : (s : State) (j : Job) → (is_active j.phase ≡ true → IsPlacedIn s j) → ActiveHaveCome s → (k : Job) → IsIn k (s.jobs ++ j ∷ []) → is_active k.phase ≡ true → IsPlacedIn s k
 last_placed s j new h k i a =
     elim (of_last s.jobs j k i) as (λ _. IsPlacedIn s k) [
       | inl m ↦ h k m a
@@ -166,12 +169,12 @@ last_placed s j new h k i a =
     ]
 
 -- no altered job is active
-altered_placed : (s : State) (change : Job → Job) (place : ℕ) → IsAlteration s change place → HasPlaces s → HasPlaces (altered s change place)
+altered_placed : (s : State) (change : Job → Job) (place : ℕ) → IsAlteration s change place → ActiveHaveCome s → ActiveHaveCome (altered s change place)
 altered_placed s change place a h =
     each_altered (λ (k : Job). is_active k.phase ≡ true → IsPlacedIn s k) s change place a h (λ j k i b active. (let no = idle s j k b in absurd (cc)))
 
 -- an autostart job came with the subsystem in which it is made
-auto_placed : (q : QName) (t : State) (e : AutoEntry) (d : Jobd) → IsMakeable q t → HasPlaces t → HasPlaces (auto_made t q e d)
+auto_placed : (q : QName) (t : State) (e : AutoEntry) (d : Jobd) → IsMakeable q t → ActiveHaveCome t → ActiveHaveCome (auto_made t q e d)
 auto_placed q t e d m h =
     let j = auto_job t e d in
     last_placed t (auto_launched t q j)
@@ -193,7 +196,7 @@ abbrev IsStillNamed : List Sbs → Objects → List Sbs → Objects → How → 
 IsStillNamed bs o cs p how = (b : Sbs) (d : Sbsd) → IsIn b bs → is_in_sbs b.sbsd how ≡ true → object_named b.sbsd o.sbsds ≡ Some d → (c : Sbs) × IsIn c cs × (c.sbsd ≡ b.sbsd) × (object_named c.sbsd p.sbsds ≡ Some d)
 
 -- a job that is in its place stays there
-placed_still : (bs : List Sbs) (o : Objects) (cs : List Sbs) (p : Objects) (kind : JobKind) (jobq : Option QName) (pty : ℕ) (how : How) → IsStillNamed bs o cs p how → IsPlaced bs o kind jobq pty how → IsPlaced cs p kind jobq pty how
+placed_still : (bs : List Sbs) (o : Objects) (cs : List Sbs) (p : Objects) (kind : JobKind) (jobq : Option QName) (pty : ℕ) (how : How) → IsStillNamed bs o cs p how → HasCome bs o kind jobq pty how → HasCome cs p kind jobq pty how
 placed_still bs o cs p Bch jobq pty how still h =
     let n = still h.sbs h.sbsd h.started (ap (is_in_sbs h.sbs.sbsd) h.is_how ∙ own_name h.sbs.sbsd) h.described in
     record {
@@ -235,18 +238,18 @@ ending s started j e x d i its k =
     let same = m.2 in
     (m.0, m.1, same.named, ap (λ (q : QName). object_named q s.objects.sbsds) same.named ∙ k)
 
-ended_placed : (s : State) (change : Job → Job) (started : List Sbs) (evokes : List Evoke) (power : Power) → IsEnding s change started power → HasPlaces s → HasPlaces (wished s change started evokes power)
+ended_placed : (s : State) (change : Job → Job) (started : List Sbs) (evokes : List Evoke) (power : Power) → IsEnding s change started power → ActiveHaveCome s → ActiveHaveCome (wished s change started evokes power)
 ended_placed s change started evokes power e h k i a =
     let m = of_mapped change s.jobs k i in
     let j = m.0 in
     let active : is_active j.phase ≡ true = was_active j.phase (change j).phase (e.jobs.phase j) (ap (λ (x : Job). is_active x.phase) (sym m.2) ∙ a) in
     let placed = placed_still s.started s.objects started s.objects j.kind j.jobq j.pty j.how (ending s started j e.subsystems) (h j m.1 active) in
-    subst (λ (x : Job). IsPlaced started s.objects x.kind x.jobq x.pty x.how) (sym (m.2 ∙ e.jobs.same j)) placed
+    subst (λ (x : Job). HasCome started s.objects x.kind x.jobq x.pty x.how) (sym (m.2 ∙ e.jobs.same j)) placed
 
 remade : (s : State) (o : Objects) (j : Job) → IsObjectChange s o → IsStillNamed s.started s.objects s.started o j.how
 remade s o j c x d i its k = (x, i, refl, c.described x i (some_there (object_named x.sbsd s.objects.sbsds) d k) ∙ k)
 
-calls_place : (s : State) → IsNumbered s → HasPlaces s → HoldsOfStates HasPlaces s
+calls_place : (s : State) → IsNumbered s → ActiveHaveCome s → HoldsOfStates ActiveHaveCome s
 calls_place s n h = record {
   stays = h;
   starts = λ q e j i a. placed_still s.started s.objects _ _ j.kind j.jobq j.pty j.how (longer s (record { sbsd = q; phase = Active }) j) (h j i a);
@@ -266,17 +269,17 @@ stays_started s j i a x d m its k =
     let more = counted (λ (y : Job). is_active y.phase && is_in_sbs x.sbsd y.how) s.jobs j i both in
     (x, in_left (λ (y : Sbs). not (is_gone s.jobs y)) s.started x (not_both (is_ending x.phase) (count_in_sbs x.sbsd s.jobs == 0) (not_zero (count_in_sbs x.sbsd s.jobs) more)) m, refl, k)
 
-left_placed : (s : State) → HasPlaces s → HasPlaces (leave s)
+left_placed : (s : State) → ActiveHaveCome s → ActiveHaveCome (leave s)
 left_placed s h j i a = placed_still s.started s.objects (leave s).started s.objects j.kind j.jobq j.pty j.how (stays_started s j i a) (h j i a)
 
-pub step_keeps_places : (s : State) (caller : ℕ) (call : Call) (moment : ℕ) → IsNumbered s → HasQueues s → HasPlaces s → HasPlaces (step s caller call moment).state
+pub step_keeps_places : (s : State) (caller : ℕ) (call : Call) (moment : ℕ) → IsNumbered s → HasQueues s → ActiveHaveCome s → ActiveHaveCome (step s caller call moment).state
 unfolding step
 step_keeps_places s caller call moment n q h =
     let c = with_clock s moment in
     let t = (apply c caller call).state in
     let numbered : IsNumbered t = apply_keeps c caller call (clock_keeps s moment n) in
     let queues : HasQueues t = call_keeps HasQueues c caller call (queued_calls c q) in
-    let called : HasPlaces t = call_keeps HasPlaces c caller call (calls_place c (clock_keeps s moment n) h) in
+    let called : ActiveHaveCome t = call_keeps ActiveHaveCome c caller call (calls_place c (clock_keeps s moment n) h) in
     let queues_due : HasQueues (come_due t) = comes_due HasQueues t (queued_calls t queues) in
-    let placed : HasPlaces (come_due t) = comes_due HasPlaces t (calls_place t numbered called) in
+    let placed : ActiveHaveCome (come_due t) = comes_due ActiveHaveCome t (calls_place t numbered called) in
     (iterate-keeps IsSettled launches_placed (waiting (leave (come_due t))) (leave (come_due t)) (record { numbered = ready_keeps t numbered; queues = queues_due; places = left_placed (come_due t) placed })).places

@@ -21,7 +21,7 @@ use Rattle.wm_law.specs.Built.{is_ending_call}
 use Rattle.wm_law.specs.Counts.{is_active, is_in_sbs, is_starting}
 use Rattle.wm_law.specs.Jobs.{active_at, with_active}
 use Rattle.wm_law.specs.Kept.{HasDistinctNames, IsNumbered}
-use Rattle.wm_law.specs.Launch.{as_auto, launched_as}
+use Rattle.wm_law.specs.Launch.{as_auto, routed_in}
 use Rattle.wm_law.specs.Laws.{IsIn}
 use Rattle.wm_law.specs.Reports.{in_phase, phased_at, with_kill, with_phase}
 use Rattle.wm_law.specs.Settling.{is_sbs_now, sbs_moment}
@@ -132,7 +132,7 @@ begun_due s q h = record {
 auto_untold : (q : QName) (t : State) (e : AutoEntry) (d : Jobd) → IsMakeable q t → HasDistinctNames t → is_active (auto_launched t q (auto_job t e d)).phase ≡ true → is_in_any now t.started (auto_launched t q (auto_job t e d)).how ≡ true → ⊥
 auto_untold q t e d m names a h =
     let j = auto_job t e d in
-    let l = launched_as t q (as_auto q) j in
+    let l = routed_in t q (as_auto q) j in
     let r = by_route t q (as_auto q) j (active_as t q (as_auto q) j a) in
     let is_how : l.how ≡ Auto q r.entry.seq = r.is_how in
     let b = of_any (λ (b : Sbs). now b && is_in_sbs b.sbsd l.how) t.started h in

@@ -1,5 +1,5 @@
 -- The order of candidates is total, and the best of a list is its least.
-use Rattle.std.proofs.Common.{◌≡◌, ℕ, ◌<◌, ◌⊎◌, Bool, true, false, cond, List, [], ◌∷◌, Option, Some, None, refl, sym, ap, subst, ◌∙◌, inl, inr, arith}
+use Rattle.std.proofs.Common.{◌≡◌, ℕ, ◌<◌, ◌⊎◌, Bool, true, false, cond, List, [], ◌∷◌, Option, Some, None, refl, sym, ap, subst, ◌∙◌, inl, inr}
 use Rattle.std.specs.List.{fold}
 use Rattle.std.specs.Ordering.{is_lt, is_gt, nat_cmp, ordering_then, ordering_reverse}
 use Rattle.std.specs.Cmp.{IsTotalOrder}
@@ -9,14 +9,16 @@ use Rattle.std.specs.declared.cmp.Ordering.TheVariants.{Less, Equal, Greater}
 use Rattle.std.proofs.lemmas.Cmp.{nat_list_cmp_total, nat_cmp_total, on_total, then_total, upto, tied_itself, ranked, by_ranked}
 use Rattle.wm_law.specs.declared.choice.Candidate.{Candidate}
 use Rattle.wm_law.specs.declared.choice.Rank.{Rank}
-use Rattle.wm_law.specs.Choice.{rank_cmp, better}
-use Rattle.wm_law.specs.Laws.{IsIn}
+use Rattle.wm_law.specs.Choice.{better, place_cmp, rank_cmp}
+use Rattle.wm_law.specs.Laws.{ComesBefore, IsIn, LesserComesBefore}
+
+place_total : IsTotalOrder place_cmp
+place_total =
+    then_total (on_total (λ (r : Rank). r.seq) nat_cmp_total)
+    (then_total (on_total (λ (r : Rank). r.pty) nat_cmp_total) (on_total (λ (r : Rank). r.place) nat_cmp_total))
 
 pub rank_total : IsTotalOrder rank_cmp
-rank_total =
-    then_total (on_total (λ (r : Rank). r.sbs) nat_list_cmp_total)
-    (then_total (on_total (λ (r : Rank). r.seq) nat_cmp_total)
-    (then_total (on_total (λ (r : Rank). r.pty) nat_cmp_total) (on_total (λ (r : Rank). r.place) nat_cmp_total)))
+rank_total = then_total (on_total (λ (r : Rank). r.sbs) nat_list_cmp_total) place_total
 
 -- not behind
 abbrev pub NotBehind : Candidate → Candidate → Type 0
@@ -122,47 +124,80 @@ none_of f (x ∷ xs) best e y d (inl same) h =
     none_of_best f xs (better best (f x)) m.0 m.1 e
 none_of f (x ∷ xs) best e y d (inr i) h = none_of f xs (better best (f x)) e y d i h
 
-greater : (a b : ℕ) (o : Ordering) → o ≡ nat_cmp a b → b < a → nat_cmp a b ≡ Greater
-greater a b o e less =
-    by_ranked (a < b) (a ≡ b) (b < a) o (ranked a b o e)
-    (λ h (k : a < b). absurd (omega arith))
-    (λ h (k : a ≡ b). absurd (omega arith))
-    (λ h (k : b < a). sym e ∙ h)
-
-level : (a b : ℕ) → b ≡ a → nat_cmp a b ≡ Equal
-level a b e = subst (λ (x : ℕ). nat_cmp x b ≡ Equal) e (tied_itself nat_cmp_total b)
-
 slice_level : (n m : List ℕ) → m ≡ n → slice_cmp nat_cmp n m ≡ Equal
 slice_level n m same = subst (λ (x : List ℕ). slice_cmp nat_cmp x m ≡ Equal) same (tied_itself nat_list_cmp_total m)
 
--- the rank of a job that stands before another of the subsystem is less
-pub not_before : (n m : List ℕ) → m ≡ n → (a b c d e f : ℕ) → is_gt (rank_cmp (record { sbs = n; seq = a; pty = b; place = c }) (record { sbs = m; seq = d; pty = e; place = f })) ≡ false
-    → ((d < a) ⊎ (((d ≡ a) × (e < b)) ⊎ ((d ≡ a) × (e ≡ b) × (f < c)))) → ⊥
-not_before n m same a b c d e f h (inl less) =
-    let first = slice_level n m same in
-    let second = greater a d (nat_cmp a d) refl less in
-    absurd (cc)
-not_before n m same a b c d e f h (inr (inl less)) =
-    let first = slice_level n m same in
-    let second = level a d less.0 in
-    let third = greater b e (nat_cmp b e) refl less.1 in
-    absurd (cc)
-not_before n m same a b c d e f h (inr (inr less)) =
-    let first = slice_level n m same in
-    let second = level a d less.0 in
-    let third = level b e less.1 in
-    let fourth = greater c f (nat_cmp c f) refl less.2 in
-    absurd (cc)
+of_lt_turned : (o : Ordering) → is_lt o ≡ true → is_gt (ordering_reverse o) ≡ true
+of_lt_turned Less e = refl
+of_lt_turned Equal e = absurd (cc)
+of_lt_turned Greater e = absurd (cc)
 
 of_less : (o p : Ordering) → is_lt o ≡ true → is_gt (ordering_then (ordering_reverse o) p) ≡ true
 of_less Less p e = refl
 of_less Equal p e = absurd (cc)
 of_less Greater p e = absurd (cc)
 
--- the rank of a job of a subsystem whose name comes before is less
-pub not_earlier : (n m : List ℕ) (a b c d e f : ℕ) → is_gt (rank_cmp (record { sbs = n; seq = a; pty = b; place = c }) (record { sbs = m; seq = d; pty = e; place = f })) ≡ false → is_lt (slice_cmp nat_cmp m n) ≡ true → ⊥
-not_earlier n m a b c d e f h less =
-    let rest = ordering_then (nat_cmp a d) (ordering_then (nat_cmp b e) (nat_cmp c f)) in
-    let turned = ap (λ (o : Ordering). is_gt (ordering_then o rest)) (nat_list_cmp_total.antisymm n m) in
-    let greater = of_less (slice_cmp nat_cmp m n) rest less in
+-- what isn't behind another of its subsystem has none before it there
+pub not_before : (a b : Rank) → b.sbs ≡ a.sbs → is_gt (rank_cmp a b) ≡ false → is_lt (place_cmp b a) ≡ true → ⊥
+not_before a b same h less =
+    let level = ap (λ (o : Ordering). is_gt (ordering_then o (place_cmp a b))) (slice_level a.sbs b.sbs same) in
+    let turned = ap is_gt (place_total.antisymm a b) in
+    let greater = of_lt_turned (place_cmp b a) less in
     absurd (cc)
+
+-- the rank of a job of a subsystem whose name comes before is less
+pub not_earlier : (a b : Rank) → is_gt (rank_cmp a b) ≡ false → is_lt (slice_cmp nat_cmp b.sbs a.sbs) ≡ true → ⊥
+not_earlier a b h less =
+    let turned = ap (λ (o : Ordering). is_gt (ordering_then o (place_cmp a b))) (nat_list_cmp_total.antisymm a.sbs b.sbs) in
+    let greater = of_less (slice_cmp nat_cmp b.sbs a.sbs) (place_cmp a b) less in
+    absurd (cc)
+
+less_first : (a b : ℕ) (o : Ordering) → is_lt (ordering_then (nat_cmp a b) o) ≡ true → (a < b) ⊎ ((a ≡ b) × (is_lt o ≡ true))
+less_first a b o h =
+    by_ranked (a < b) (a ≡ b) (b < a) (nat_cmp a b) (ranked a b (nat_cmp a b) refl)
+    (λ e (k : a < b). inl k)
+    (λ e (k : a ≡ b). inr (k, ap (λ (p : Ordering). is_lt (ordering_then p o)) (sym e) ∙ h))
+    (λ e (k : b < a). (let none : false ≡ true = ap (λ (p : Ordering). is_lt (ordering_then p o)) (sym e) ∙ h in absurd (cc)))
+
+less_last : (a b : ℕ) → is_lt (nat_cmp a b) ≡ true → a < b
+less_last a b h =
+    by_ranked (a < b) (a ≡ b) (b < a) (nat_cmp a b) (ranked a b (nat_cmp a b) refl)
+    (λ e (k : a < b). k)
+    (λ e (k : a ≡ b). (let none : false ≡ true = ap is_lt (sym e) ∙ h in absurd (cc)))
+    (λ e (k : b < a). (let none : false ≡ true = ap is_lt (sym e) ∙ h in absurd (cc)))
+
+second_less : (b e c f : ℕ) → is_lt (ordering_then (nat_cmp b e) (nat_cmp c f)) ≡ true → (b < e) ⊎ ((b ≡ e) × (c < f))
+second_less b e c f h =
+    elim (less_first b e (nat_cmp c f) h) as (λ _. (b < e) ⊎ ((b ≡ e) × (c < f))) [ inl l ↦ inl l | inr m ↦ inr (m.0, less_last c f m.1) ]
+
+pub comes_before : LesserComesBefore
+comes_before a b h =
+    elim (less_first a.seq b.seq (ordering_then (nat_cmp a.pty b.pty) (nat_cmp a.place b.place)) h) as (λ _. ComesBefore a b) [
+      | inl l ↦ inl l
+      | inr m ↦ (elim (second_less a.pty b.pty a.place b.place m.1) as (λ _. ComesBefore a b) [ inl l ↦ inr (inl (m.0, l)) | inr n ↦ inr (inr (m.0, n.0, n.1)) ])
+    ]
+
+not_apart : (o : Ordering) → is_lt o ≡ false → is_lt (ordering_reverse o) ≡ false → o ≡ Equal
+not_apart Less e f = absurd (cc)
+not_apart Equal e f = refl
+not_apart Greater e f = absurd (cc)
+
+both_level : (o p : Ordering) → ordering_then o p ≡ Equal → (o ≡ Equal) × (p ≡ Equal)
+both_level Less p e = absurd (cc)
+both_level Equal p e = (refl, e)
+both_level Greater p e = absurd (cc)
+
+same_number : (a b : ℕ) → nat_cmp a b ≡ Equal → a ≡ b
+same_number a b h =
+    by_ranked (a < b) (a ≡ b) (b < a) (nat_cmp a b) (ranked a b (nat_cmp a b) refl)
+    (λ e (k : a < b). absurd (cc))
+    (λ e (k : a ≡ b). k)
+    (λ e (k : b < a). absurd (cc))
+
+-- neither comes before the other, so all three are the same
+pub level_ranks : (a b : Rank) → is_lt (place_cmp a b) ≡ false → is_lt (place_cmp b a) ≡ false → (a.seq ≡ b.seq) × (a.pty ≡ b.pty) × (a.place ≡ b.place)
+level_ranks a b h k =
+    let level = not_apart (place_cmp a b) h (sym (ap is_lt (place_total.antisymm b a)) ∙ k) in
+    let first = both_level (nat_cmp a.seq b.seq) (ordering_then (nat_cmp a.pty b.pty) (nat_cmp a.place b.place)) level in
+    let rest = both_level (nat_cmp a.pty b.pty) (nat_cmp a.place b.place) first.1 in
+    (same_number a.seq b.seq first.0, same_number a.pty b.pty rest.0, same_number a.place b.place rest.1)

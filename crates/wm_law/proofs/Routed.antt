@@ -21,30 +21,31 @@ use Rattle.wm_law.specs.declared.launch.Launched.{Launched}
 use Rattle.wm_law.specs.declared.state.State.{State}
 use Rattle.wm_law.specs.Counts.{count_by_route, is_by_route}
 use Rattle.wm_law.specs.Kept.{IsRouted}
-use Rattle.wm_law.specs.Launch.{called_program, entry_numbered, from_queue, is_match, launched, launched_as, launched_by, launched_through, missing_program, program_fault, route, route_fault}
+use Rattle.wm_law.specs.Launch.{called_program, entry_numbered, from_queue, is_match, launched, routed_in, starts_unless, routed_through, missing_program, program_fault, route, route_fault}
 use Rattle.wm_law.proofs.Members.{found_among}
 use Rattle.wm_law.proofs.Nexts.{IsNext, own_queue}
 use Rattle.wm_law.proofs.Routes.{numbered_once}
+use Rattle.wm_law.proofs.Turns.{is_turn}
 
 -- the launch of the next job is by its route in its subsystem
-pub launched_routed : (s : State) (c : Candidate) (j : Job) (n : IsNext s c j) → launched s c.sbs c.jobq j ≡ launched_through s n.turn.sbs.sbsd (from_queue n.turn.sbs.sbsd n.turn.queue j) j (route n.turn.sbsd j.rtgdta)
+pub launched_routed : (s : State) (c : Candidate) (j : Job) (n : IsNext s c j) → launched s c.sbs c.jobq j ≡ routed_through s n.turn.sbs.sbsd (from_queue n.turn.sbs.sbsd n.turn.queue j) j (route n.turn.sbsd j.rtgdta)
 launched_routed s c j n =
     let t = n.turn in
     let m = n.first.may in
     ap (λ (q : QName). launched s q c.jobq j) n.sbs
     ∙ ap (λ (q : QName). launched s t.sbs.sbsd q j) (n.jobq ∙ own_queue s j t m)
-    ∙ ap (λ (o : Option Sbsd). launched_through s t.sbs.sbsd (from_queue t.sbs.sbsd t.queue j) j (option_and_then (λ d. route d j.rtgdta) o)) m.sbsd
+    ∙ ap (λ (o : Option Sbsd). routed_through s t.sbs.sbsd (from_queue t.sbs.sbsd t.queue j) j (option_and_then (λ d. route d j.rtgdta) o)) (is_turn s j t m.turn).sbsd
 
-started_by : (how : ℕ → How) (seq : ℕ) (o : Option EndCause) → (launched_by how seq o).phase ≡ Starting → (launched_by how seq o).how ≡ how seq
+started_by : (how : ℕ → How) (seq : ℕ) (o : Option EndCause) → (starts_unless how seq o).phase ≡ Starting → (starts_unless how seq o).how ≡ how seq
 started_by how seq None h = refl
 started_by how seq (Some cause) h = absurd (cc)
 
 -- where the job starts, its how has the number of its route
-pub started_through : (s : State) (sbs : QName) (how : ℕ → How) (d : Sbsd) (j : Job) (o : Option RouteEntry) → route d j.rtgdta ≡ o → (launched_through s sbs how j o).phase ≡ Starting → (e : RouteEntry) × (route d j.rtgdta ≡ Some e) × ((launched_through s sbs how j o).how ≡ how e.seq)
+pub started_through : (s : State) (sbs : QName) (how : ℕ → How) (d : Sbsd) (j : Job) (o : Option RouteEntry) → route d j.rtgdta ≡ o → (routed_through s sbs how j o).phase ≡ Starting → (e : RouteEntry) × (route d j.rtgdta ≡ Some e) × ((routed_through s sbs how j o).how ≡ how e.seq)
 started_through s sbs how d j None r h = absurd (cc)
 started_through s sbs how d j (Some e) r h = (e, r, started_by how e.seq (route_fault s sbs e j) h)
 
-caused_by : (how : ℕ → How) (seq : ℕ) (o : Option EndCause) (x : EndCause) → (launched_by how seq o).phase ≡ Ended x → o ≡ Some x
+caused_by : (how : ℕ → How) (seq : ℕ) (o : Option EndCause) (x : EndCause) → (starts_unless how seq o).phase ≡ Ended x → o ≡ Some x
 caused_by how seq None x h = absurd (cc)
 caused_by how seq (Some cause) x h = cc
 
@@ -71,7 +72,7 @@ routed_fault : (s : State) (sbs : QName) (e : RouteEntry) (j : Job) (x : EndCaus
 routed_fault s sbs e j x h r = full_by (is_below (count_by_route sbs e.seq s.jobs) e.maxact) (program_fault s (called_program e j.rqsdta)) e.seq x (λ k. program_not s (called_program e j.rqsdta) x k) h r
 
 -- where the job ends for want of a route, there is none
-pub unrouted_through : (s : State) (sbs : QName) (how : ℕ → How) (d : Sbsd) (j : Job) (o : Option RouteEntry) → route d j.rtgdta ≡ o → (launched_through s sbs how j o).phase ≡ Ended NoRoute → route d j.rtgdta ≡ None
+pub unrouted_through : (s : State) (sbs : QName) (how : ℕ → How) (d : Sbsd) (j : Job) (o : Option RouteEntry) → route d j.rtgdta ≡ o → (routed_through s sbs how j o).phase ≡ Ended NoRoute → route d j.rtgdta ≡ None
 unrouted_through s sbs how d j None r h = r
 unrouted_through s sbs how d j (Some e) r h =
     let f = routed_fault s sbs e j NoRoute (caused_by how e.seq (route_fault s sbs e j) NoRoute h) refl in
@@ -79,7 +80,7 @@ unrouted_through s sbs how d j (Some e) r h =
     absurd (cc)
 
 -- where it ends for a full route, the route has that number, and its count has reached MAXACT
-pub full_through : (s : State) (sbs : QName) (how : ℕ → How) (d : Sbsd) (j : Job) (n : ℕ) (o : Option RouteEntry) → route d j.rtgdta ≡ o → (launched_through s sbs how j o).phase ≡ Ended (RouteFull n) → (e : RouteEntry) × (route d j.rtgdta ≡ Some e) × (e.seq ≡ n) × (is_below (count_by_route sbs e.seq s.jobs) e.maxact ≡ false)
+pub full_through : (s : State) (sbs : QName) (how : ℕ → How) (d : Sbsd) (j : Job) (n : ℕ) (o : Option RouteEntry) → route d j.rtgdta ≡ o → (routed_through s sbs how j o).phase ≡ Ended (RouteFull n) → (e : RouteEntry) × (route d j.rtgdta ≡ Some e) × (e.seq ≡ n) × (is_below (count_by_route sbs e.seq s.jobs) e.maxact ≡ false)
 full_through s sbs how d j n None r h = absurd (cc)
 full_through s sbs how d j n (Some e) r h =
     let f = routed_fault s sbs e j (RouteFull n) (caused_by how e.seq (route_fault s sbs e j) (RouteFull n) h) refl in
@@ -100,11 +101,11 @@ is_open : {X : Type 0} (b : Bool) (o : Option X) (x : X) → cond b o (Some x) �
 is_open true o x h = (refl, h)
 is_open false o x h = absurd (cc)
 
-uncaused : (how : ℕ → How) (seq : ℕ) (o : Option EndCause) → (launched_by how seq o).phase ≡ Starting → o ≡ None
+uncaused : (how : ℕ → How) (seq : ℕ) (o : Option EndCause) → (starts_unless how seq o).phase ≡ Starting → o ≡ None
 uncaused how seq None h = refl
 uncaused how seq (Some cause) h = absurd (cc)
 
-by_entry : (s : State) (sbs : QName) (how : ℕ → How) (j : Job) (d : Sbsd) (o : Option RouteEntry) → object_named sbs s.objects.sbsds ≡ Some d → route d j.rtgdta ≡ o → (launched_through s sbs how j o).phase ≡ Starting → IsByRoute s sbs how j (launched_through s sbs how j o)
+by_entry : (s : State) (sbs : QName) (how : ℕ → How) (j : Job) (d : Sbsd) (o : Option RouteEntry) → object_named sbs s.objects.sbsds ≡ Some d → route d j.rtgdta ≡ o → (routed_through s sbs how j o).phase ≡ Starting → IsByRoute s sbs how j (routed_through s sbs how j o)
 by_entry s sbs how j d None k r h = absurd (cc)
 by_entry s sbs how j d (Some e) k r h =
     let fault = route_fault s sbs e j in
@@ -119,23 +120,23 @@ by_entry s sbs how j d (Some e) k r h =
       is_how = started_by how e.seq fault h;
     }
 
-by_description : (s : State) (sbs : QName) (how : ℕ → How) (j : Job) (o : Option Sbsd) → object_named sbs s.objects.sbsds ≡ o → (launched_through s sbs how j (option_and_then (λ d. route d j.rtgdta) o)).phase ≡ Starting → IsByRoute s sbs how j (launched_through s sbs how j (option_and_then (λ d. route d j.rtgdta) o))
+by_description : (s : State) (sbs : QName) (how : ℕ → How) (j : Job) (o : Option Sbsd) → object_named sbs s.objects.sbsds ≡ o → (routed_through s sbs how j (option_and_then (λ d. route d j.rtgdta) o)).phase ≡ Starting → IsByRoute s sbs how j (routed_through s sbs how j (option_and_then (λ d. route d j.rtgdta) o))
 by_description s sbs how j None k h = absurd (cc)
 by_description s sbs how j (Some d) k h = by_entry s sbs how j d (route d j.rtgdta) k refl h
 
-pub by_route : (s : State) (sbs : QName) (how : ℕ → How) (j : Job) → (launched_as s sbs how j).phase ≡ Starting → IsByRoute s sbs how j (launched_as s sbs how j)
+pub by_route : (s : State) (sbs : QName) (how : ℕ → How) (j : Job) → (routed_in s sbs how j).phase ≡ Starting → IsByRoute s sbs how j (routed_in s sbs how j)
 by_route s sbs how j h = by_description s sbs how j (object_named sbs s.objects.sbsds) refl h
 
-starts_by : (test : How → Bool) (how : ℕ → How) (seq : ℕ) (o : Option EndCause) → test NotYet ≡ false → test (launched_by how seq o).how ≡ true → (launched_by how seq o).phase ≡ Starting
+starts_by : (test : How → Bool) (how : ℕ → How) (seq : ℕ) (o : Option EndCause) → test NotYet ≡ false → test (starts_unless how seq o).how ≡ true → (starts_unless how seq o).phase ≡ Starting
 starts_by test how seq None n h = refl
 starts_by test how seq (Some cause) n h = let yes : test NotYet ≡ true = h in absurd (cc)
 
-starts_through : (test : How → Bool) (s : State) (sbs : QName) (how : ℕ → How) (j : Job) (o : Option RouteEntry) → test NotYet ≡ false → test (launched_through s sbs how j o).how ≡ true → (launched_through s sbs how j o).phase ≡ Starting
+starts_through : (test : How → Bool) (s : State) (sbs : QName) (how : ℕ → How) (j : Job) (o : Option RouteEntry) → test NotYet ≡ false → test (routed_through s sbs how j o).how ≡ true → (routed_through s sbs how j o).phase ≡ Starting
 starts_through test s sbs how j None n h = let yes : test NotYet ≡ true = h in absurd (cc)
 starts_through test s sbs how j (Some e) n h = starts_by test how e.seq (route_fault s sbs e j) n h
 
 -- a launch whose how passes a test that jobs not yet started don't pass is one to Starting
-pub starts_as_tested : (test : How → Bool) (s : State) (sbs : QName) (how : ℕ → How) (j : Job) → test NotYet ≡ false → test (launched_as s sbs how j).how ≡ true → (launched_as s sbs how j).phase ≡ Starting
+pub starts_as_tested : (test : How → Bool) (s : State) (sbs : QName) (how : ℕ → How) (j : Job) → test NotYet ≡ false → test (routed_in s sbs how j).how ≡ true → (routed_in s sbs how j).phase ≡ Starting
 starts_as_tested test s sbs how j n h = starts_through test s sbs how j (option_and_then (λ d. route d j.rtgdta) (object_named sbs s.objects.sbsds)) n h
 
 -- whether it came by the subsystem's routing entry of that number is whether the how is that of this subsystem and number
@@ -143,7 +144,7 @@ abbrev pub IsOfRoute : QName → (ℕ → How) → Type 0
 IsOfRoute q how = (sbs : QName) (seq n : ℕ) → is_by_route sbs seq (how n) ≡ (same_qname q sbs && n == seq)
 
 -- a launch that adds to a routing entry's count finds the count below MAXACT
-pub below_route : (t : State) (q : QName) (how : ℕ → How) (j : Job) (sbs : QName) (seq : ℕ) (d : Sbsd) (e : RouteEntry) → IsOfRoute q how → IsRouted t.objects → object_named sbs t.objects.sbsds ≡ Some d → entry_numbered seq d ≡ Some e → is_by_route sbs seq (launched_as t q how j).how ≡ true → is_below (count_by_route sbs seq t.jobs) e.maxact ≡ true
+pub below_route : (t : State) (q : QName) (how : ℕ → How) (j : Job) (sbs : QName) (seq : ℕ) (d : Sbsd) (e : RouteEntry) → IsOfRoute q how → IsRouted t.objects → object_named sbs t.objects.sbsds ≡ Some d → entry_numbered seq d ≡ Some e → is_by_route sbs seq (routed_in t q how j).how ≡ true → is_below (count_by_route sbs seq t.jobs) e.maxact ≡ true
 below_route t q how j sbs seq d e of_route routed k f h =
     let r = by_route t q how j (starts_as_tested (is_by_route sbs seq) t q how j refl h) in
     let tested : (same_qname q sbs && r.entry.seq == seq) ≡ true = sym (of_route sbs seq r.entry.seq) ∙ ap (is_by_route sbs seq) (sym r.is_how) ∙ h in

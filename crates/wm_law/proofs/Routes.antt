@@ -1,5 +1,5 @@
 -- The route is the matching entry of least number.
-use Rattle.std.proofs.Common.{◌≡◌, ℕ, ◌≤◌, Bool, true, false, cond, List, [], ◌∷◌, Some, None, nat_eq, refl, sym, ap, ◌∙◌, inl, inr, arith}
+use Rattle.std.proofs.Common.{◌≡◌, ℕ, ◌≤◌, Bool, true, false, cond, List, [], ◌∷◌, Some, nat_eq, refl, sym, ap, ◌∙◌, inl, inr, arith}
 use Rattle.std.specs.List.{find}
 use Rattle.std.specs.Ordering.{nat_cmp}
 use Rattle.std.proofs.lemmas.Bool.{eq-eqb}
@@ -9,7 +9,7 @@ use Rattle.wm_desc.specs.Sorted.{IsSortedOnce}
 use Rattle.wm_law.specs.Launch.{is_match}
 use Rattle.wm_law.specs.Laws.{IsIn, RouteIsLeast, NoRouteIsNone}
 use Rattle.wm_law.proofs.ByNumber.{first_less, rest_sorted}
-use Rattle.wm_law.proofs.Members.{found_among}
+use Rattle.wm_law.proofs.Members.{found_among, none_among}
 
 abbrev number : RouteEntry → ℕ
 number e = e.seq
@@ -40,19 +40,10 @@ least : (p : RouteEntry → Bool) (xs : List RouteEntry) (e : RouteEntry) → Is
 least p [] e s f o i m = absurd (cc)
 least p (x ∷ xs) e s f o i m = least_by p x xs e (p x) refl s f (least p xs e (rest_sorted number x xs s)) o i m
 
-none_by : (p : RouteEntry → Bool) (x : RouteEntry) (xs : List RouteEntry) (t : Bool) → p x ≡ t → cond t (Some x) (find p xs) ≡ None → (find p xs ≡ None → (o : RouteEntry) → IsIn o xs → p o ≡ true → ⊥) → (o : RouteEntry) → IsIn o (x ∷ xs) → p o ≡ true → ⊥
-none_by p x xs true b f h o i m = absurd (cc)
-none_by p x xs false b f h o (inl same) m = let not : p o ≡ false = ap p same ∙ b in absurd (cc)
-none_by p x xs false b f h o (inr i) m = h f o i m
-
-none : (p : RouteEntry → Bool) (xs : List RouteEntry) → find p xs ≡ None → (o : RouteEntry) → IsIn o xs → p o ≡ true → ⊥
-none p [] f o i m = i
-none p (x ∷ xs) f o i m = none_by p x xs (p x) refl f (none p xs) o i m
-
 pub route_is_least : RouteIsLeast
 route_is_least d rtgdta e s f =
     let k = found_among (λ (n : RouteEntry). is_match n.cmp rtgdta) d.routes e f in
     record { stands = k.0; matches = k.1; least = least (λ n. is_match n.cmp rtgdta) d.routes e s f }
 
 pub no_route_is_none : NoRouteIsNone
-no_route_is_none d rtgdta f = none (λ n. is_match n.cmp rtgdta) d.routes f
+no_route_is_none d rtgdta f = none_among (λ n. is_match n.cmp rtgdta) d.routes f

@@ -15,23 +15,23 @@ use Rattle.wm_base.specs.declared.job.How.{How}
 use Rattle.wm_law.specs.Choice.{first, next}
 use Rattle.wm_desc.specs.Table.{object_named}
 use Rattle.wm_law.specs.Counts.{is_waiting}
-use Rattle.wm_law.specs.Launch.{route, route_fault, from_queue, launched_by, launched_through, launched_as, launched, as_launched, launch, launch_job}
+use Rattle.wm_law.specs.Launch.{route, route_fault, from_queue, starts_unless, routed_through, routed_in, launched, as_launched, launch, launch_job}
 use Rattle.wm_law.specs.Jobs.{changed_at}
 use Rattle.wm_base.proofs.Iterate.{iterate-none, iterate-step, next-iterate}
 use Rattle.wm_law.specs.Laws.{IsIn, SettledHasNoNext, SettledLeavesNone}
 use Rattle.wm_law.specs.Settling.{come_due, waiting, start_jobs, leave, settle}
 use Rattle.wm_law.proofs.Firsts.{first_waits, next_waits, no_next_is_none}
 
-by_cause : (how : ℕ → How) (seq : ℕ) (cause : Option EndCause) → is_waiting (launched_by how seq cause).phase ≡ false
+by_cause : (how : ℕ → How) (seq : ℕ) (cause : Option EndCause) → is_waiting (starts_unless how seq cause).phase ≡ false
 by_cause how seq None = refl
 by_cause how seq (Some c) = refl
 
-through : (s : State) (sbs : QName) (how : ℕ → How) (j : Job) (e : Option RouteEntry) → is_waiting (launched_through s sbs how j e).phase ≡ false
+through : (s : State) (sbs : QName) (how : ℕ → How) (j : Job) (e : Option RouteEntry) → is_waiting (routed_through s sbs how j e).phase ≡ false
 through s sbs how j None = refl
 through s sbs how j (Some e) = by_cause how e.seq (route_fault s sbs e j)
 
 -- what a launch makes of a job doesn't wait
-pub launch_never_waits : (s : State) (sbs : QName) (how : ℕ → How) (j : Job) → is_waiting (launched_as s sbs how j).phase ≡ false
+pub launch_never_waits : (s : State) (sbs : QName) (how : ℕ → How) (j : Job) → is_waiting (routed_in s sbs how j).phase ≡ false
 launch_never_waits s sbs how j = through s sbs how j (option_and_then (λ d. route d j.rtgdta) (object_named sbs s.objects.sbsds))
 
 pub not_waiting : (s : State) (sbs jobq : QName) (j : Job) → is_waiting (launched s sbs jobq j).phase ≡ false

@@ -9,7 +9,7 @@ use Rattle.wm_law.specs.History.{after, stepped}
 use Rattle.wm_law.specs.Limits.{is_autostart}
 use Rattle.wm_law.specs.Machine.{with_clock}
 use Rattle.wm_law.specs.Opening.{opening}
-use Rattle.wm_law.specs.Sound.{AutostartJobsNeverWait, HasJobsInOrder, HasPlaces, IsSound, LimitsAreKept, NoneIsDue, OpeningIsSound, OrderIsKept, StatesAreSound, StepKeepsLimits, StepKeepsOrder, StepKeepsSound, StepLeavesNoneDue}
+use Rattle.wm_law.specs.Sound.{AutostartJobsNeverWait, HasJobsInOrder, ActiveHaveCome, IsSound, LimitsAreKept, NoneIsDue, OpeningIsSound, OrderIsKept, StatesAreSound, StepKeepsLimits, StepKeepsOrder, StepKeepsSound, StepLeavesNoneDue}
 use Rattle.wm_law.proofs.Due.{leaves_none_due}
 use Rattle.wm_law.proofs.Fitting.{order_kept, step_order}
 use Rattle.wm_law.proofs.Limits.{limits_kept, step_limits}
@@ -27,11 +27,11 @@ use Rattle.wm_law.proofs.Subsystems.{opening_has_descriptions, opening_is_quiet,
 opening_has_jobs_in_order : (offset : ℤ) → HasJobsInOrder (opening offset)
 opening_has_jobs_in_order offset = subst HasJobsInOrder (sym (opening_is offset)) tt
 
-none_placed : (offset : ℤ) → HasPlaces (opened offset)
+none_placed : (offset : ℤ) → ActiveHaveCome (opened offset)
 none_placed offset j i a = absurd i
 
-opening_has_places : (offset : ℤ) → HasPlaces (opening offset)
-opening_has_places offset = subst HasPlaces (sym (opening_is offset)) (none_placed offset)
+opening_has_places : (offset : ℤ) → ActiveHaveCome (opening offset)
+opening_has_places offset = subst ActiveHaveCome (sym (opening_is offset)) (none_placed offset)
 
 pub opening_is_sound : OpeningIsSound
 opening_is_sound offset = record {

@@ -48,7 +48,8 @@ through_serial : (s : State) (j : Job) (n : Option RouteEntry) (o : StartOrder) 
 through_serial s j None o e = absurd (cc)
 through_serial s j (Some n) o e = called_serial s j n (called_program n j.rqsdta) o e
 
-by_serial : (s : State) (j : Job) (h : How) (o : StartOrder) → order_by s j h ≡ Some o → o.serial ≡ j.serial
+-- an order to start has its job's serial
+pub by_serial : (s : State) (j : Job) (h : How) (o : StartOrder) → order_by s j h ≡ Some o → o.serial ≡ j.serial
 by_serial s j NotYet o e = absurd (cc)
 by_serial s j (FromQueue sbs jobq pty seq) o e = through_serial s j (route_entry s sbs seq) o e
 by_serial s j (Auto sbs seq) o e = through_serial s j (route_entry s sbs seq) o e

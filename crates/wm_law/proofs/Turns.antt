@@ -1,34 +1,21 @@
 -- The turn of a job, and which of two jobs stands before the other.
-use Rattle.std.proofs.Common.{◌≡◌, ◌⊎◌, ℕ, ◌<◌, Bool, true, false, cond, List, [], ◌∷◌, Option, Some, None, is_some, refl, sym, ap, subst, ◌∙◌, inl, inr}
+use Rattle.std.proofs.Common.{◌≡◌, Bool, true, false, cond, List, [], ◌∷◌, Option, Some, None, is_some, refl, sym, ap, subst, ◌∙◌}
 use Rattle.std.specs.List.{find}
 use Rattle.std.specs.Option.{option_and_then}
-use Rattle.std.specs.Ordering.{is_lt, nat_cmp, ordering_then}
-use Rattle.std.specs.declared.cmp.Ordering.{Ordering}
-use Rattle.std.proofs.lemmas.Cmp.{by_ranked, ranked}
-use Rattle.std.proofs.lemmas.Bool.{and_parts}
 use Rattle.wm_base.specs.declared.qname.QName.{QName}
 use Rattle.wm_base.proofs.Tests.{Some-injective}
 use Rattle.wm_desc.specs.declared.description.Sbsd.{Sbsd}
 use Rattle.wm_desc.specs.declared.entry.QueueEntry.{QueueEntry}
-use Rattle.wm_desc.specs.Table.{object_named, same_qname}
-use Rattle.wm_desc.proofs.Tables.{one_name}
+use Rattle.wm_desc.specs.Table.{object_named}
 use Rattle.wm_law.specs.declared.job.Job.{Job}
 use Rattle.wm_law.specs.declared.launch.Launched.{Launched}
 use Rattle.wm_law.specs.declared.state.Sbs.{Sbs}
 use Rattle.wm_law.specs.declared.state.State.{State}
-use Rattle.wm_law.specs.Choice.{entry_for, holder, is_allowed, is_ready}
+use Rattle.wm_law.specs.Choice.{Turn, entry_for, holder, is_before, turn_by_description, turn_by_entry, turn_by_holder, turn_by_queue, turn_of}
 use Rattle.wm_law.specs.Launch.{as_launched}
-use Rattle.wm_law.specs.Laws.{IsBefore, IsFirst, IsIn, MayStart, Turn}
-use Rattle.wm_law.specs.Order.{before_by, is_before, stands_before, turn_described, turn_from, turn_held, turn_of, turn_queued}
+use Rattle.wm_law.specs.Laws.{IsFirst, IsIn, MayStart}
+use Rattle.wm_law.specs.Order.{before_by, stands_before}
 use Rattle.wm_law.proofs.Members.{found_among}
-
--- a job that may start has its turn
-pub has_turn : (s : State) (j : Job) (t : Turn) → MayStart s j t → turn_of s j ≡ Some t
-has_turn s j t m =
-    ap (turn_queued s) m.queue
-    ∙ ap (turn_held s t.queue) m.holder
-    ∙ ap (turn_described t.queue t.sbs) m.sbsd
-    ∙ ap (turn_from t.queue t.sbs t.sbsd) m.entry
 
 -- what a turn is
 pub record IsTurn (s : State) (j : Job) (t : Turn) : Type 0 where
@@ -37,74 +24,48 @@ pub record IsTurn (s : State) (j : Job) (t : Turn) : Type 0 where
   pub sbsd : object_named t.sbs.sbsd s.objects.sbsds ≡ Some t.sbsd
   pub entry : entry_for t.queue t.sbsd ≡ Some t.entry
 
-by_entry : (s : State) (j : Job) (q : QName) (b : Sbs) (d : Sbsd) (o : Option QueueEntry) (t : Turn) → j.jobq ≡ Some q → holder s q ≡ Some b → object_named b.sbsd s.objects.sbsds ≡ Some d → entry_for q d ≡ o → turn_from q b d o ≡ Some t → IsTurn s j t
+by_entry : (s : State) (j : Job) (q : QName) (b : Sbs) (d : Sbsd) (o : Option QueueEntry) (t : Turn) → j.jobq ≡ Some q → holder s q ≡ Some b → object_named b.sbsd s.objects.sbsds ≡ Some d → entry_for q d ≡ o → turn_by_entry q b d o ≡ Some t → IsTurn s j t
 by_entry s j q b d None t i h k l e = absurd (cc)
 by_entry s j q b d (Some n) t i h k l e =
     let u : Turn = record { queue = q; sbs = b; sbsd = d; entry = n } in
     let this : IsTurn s j u = record { queue = i; holder = h; sbsd = k; entry = l } in
     subst (IsTurn s j) (Some-injective u t e) this
 
-by_description : (s : State) (j : Job) (q : QName) (b : Sbs) (o : Option Sbsd) (t : Turn) → j.jobq ≡ Some q → holder s q ≡ Some b → object_named b.sbsd s.objects.sbsds ≡ o → turn_described q b o ≡ Some t → IsTurn s j t
+by_description : (s : State) (j : Job) (q : QName) (b : Sbs) (o : Option Sbsd) (t : Turn) → j.jobq ≡ Some q → holder s q ≡ Some b → object_named b.sbsd s.objects.sbsds ≡ o → turn_by_description q b o ≡ Some t → IsTurn s j t
 by_description s j q b None t i h k e = absurd (cc)
 by_description s j q b (Some d) t i h k e = by_entry s j q b d (entry_for q d) t i h k refl e
 
-by_holder : (s : State) (j : Job) (q : QName) (o : Option Sbs) (t : Turn) → j.jobq ≡ Some q → holder s q ≡ o → turn_held s q o ≡ Some t → IsTurn s j t
+by_holder : (s : State) (j : Job) (q : QName) (o : Option Sbs) (t : Turn) → j.jobq ≡ Some q → holder s q ≡ o → turn_by_holder s q o ≡ Some t → IsTurn s j t
 by_holder s j q None t i h e = absurd (cc)
 by_holder s j q (Some b) t i h e = by_description s j q b (object_named b.sbsd s.objects.sbsds) t i h refl e
 
-by_queue : (s : State) (j : Job) (o : Option QName) (t : Turn) → j.jobq ≡ o → turn_queued s o ≡ Some t → IsTurn s j t
+by_queue : (s : State) (j : Job) (o : Option QName) (t : Turn) → j.jobq ≡ o → turn_by_queue s o ≡ Some t → IsTurn s j t
 by_queue s j None t i e = absurd (cc)
 by_queue s j (Some q) t i e = by_holder s j q (holder s q) t i refl e
 
 pub is_turn : (s : State) (j : Job) (t : Turn) → turn_of s j ≡ Some t → IsTurn s j t
 is_turn s j t e = by_queue s j j.jobq t refl e
 
--- a ready job that its turn allows may start
-pub may_start_in : (s : State) (j : Job) (t : Turn) → is_ready s j ≡ true → turn_of s j ≡ Some t → is_allowed s t.sbs t.sbsd t.entry j.pty ≡ true → MayStart s j t
-may_start_in s j t r e a =
-    let i = is_turn s j t e in
-    record { ready = r; queue = i.queue; holder = i.holder; sbsd = i.sbsd; entry = i.entry; allowed = a }
+-- and so what makes up a turn is the job's turn
+pub has_turn : (s : State) (j : Job) (t : Turn) → IsTurn s j t → turn_of s j ≡ Some t
+has_turn s j t i =
+    ap (turn_by_queue s) i.queue
+    ∙ ap (turn_by_holder s t.queue) i.holder
+    ∙ ap (turn_by_description t.queue t.sbs) i.sbsd
+    ∙ ap (turn_by_entry t.queue t.sbs t.sbsd) i.entry
 
 -- with their turns, whether one job stands before another is by these
 pub by_turns : (s : State) (j k : Job) (t u : Turn) → turn_of s j ≡ Some t → turn_of s k ≡ Some u → stands_before s j k ≡ is_before t j u k
 by_turns s j k t u e f = ap (λ (o : Option Turn). before_by o j (turn_of s k) k) e ∙ ap (λ (o : Option Turn). before_by (Some t) j o k) f
 
-less_first : (a b : ℕ) (o : Ordering) → is_lt (ordering_then (nat_cmp a b) o) ≡ true → (a < b) ⊎ ((a ≡ b) × (is_lt o ≡ true))
-less_first a b o h =
-    by_ranked (a < b) (a ≡ b) (b < a) (nat_cmp a b) (ranked a b (nat_cmp a b) refl)
-    (λ e (k : a < b). inl k)
-    (λ e (k : a ≡ b). inr (k, ap (λ (p : Ordering). is_lt (ordering_then p o)) (sym e) ∙ h))
-    (λ e (k : b < a). (let none : false ≡ true = ap (λ (p : Ordering). is_lt (ordering_then p o)) (sym e) ∙ h in absurd (cc)))
-
-less_last : (a b : ℕ) → is_lt (nat_cmp a b) ≡ true → a < b
-less_last a b h =
-    by_ranked (a < b) (a ≡ b) (b < a) (nat_cmp a b) (ranked a b (nat_cmp a b) refl)
-    (λ e (k : a < b). k)
-    (λ e (k : a ≡ b). (let none : false ≡ true = ap is_lt (sym e) ∙ h in absurd (cc)))
-    (λ e (k : b < a). (let none : false ≡ true = ap is_lt (sym e) ∙ h in absurd (cc)))
-
-second_less : (b e c f : ℕ) → is_lt (ordering_then (nat_cmp b e) (nat_cmp c f)) ≡ true → (b < e) ⊎ ((b ≡ e) × (c < f))
-second_less b e c f h =
-    elim (less_first b e (nat_cmp c f) h) as (λ _. (b < e) ⊎ ((b ≡ e) × (c < f))) [ inl l ↦ inl l | inr m ↦ inr (m.0, less_last c f m.1) ]
-
--- a lesser triple stands before
-less_triple : (d : QueueEntry) (j : Job) (e : QueueEntry) (k : Job) → is_lt (ordering_then (nat_cmp d.seq e.seq) (ordering_then (nat_cmp j.pty k.pty) (nat_cmp j.place k.place))) ≡ true → IsBefore d j e k
-less_triple d j e k h =
-    elim (less_first d.seq e.seq (ordering_then (nat_cmp j.pty k.pty) (nat_cmp j.place k.place)) h) as (λ _. IsBefore d j e k) [
-      | inl l ↦ inl l
-      | inr m ↦ (elim (second_less j.pty k.pty j.place k.place m.1) as (λ _. IsBefore d j e k) [ inl l ↦ inr (inl (m.0, l)) | inr n ↦ inr (inr (m.0, n.0, n.1)) ])
-    ]
-
 not_first : (s : State) (k j : Job) (u t : Turn) (b : Bool) → is_before u k t j ≡ b → IsFirst s j t → IsIn k s.jobs → MayStart s k u → b ≡ false
-not_first s k j u t true e f i m =
-    let both = and_parts (same_qname u.sbs.sbsd t.sbs.sbsd) (is_lt (ordering_then (nat_cmp u.entry.seq t.entry.seq) (ordering_then (nat_cmp k.pty j.pty) (nat_cmp k.place j.place)))) e in
-    absurd (f.none_before k u i m (one_name u.sbs.sbsd t.sbs.sbsd both.0) (less_triple u.entry k t.entry j both.1))
+not_first s k j u t true e f i m = absurd (f.none_before k u i m e)
 not_first s k j u t false e f i m = refl
 
 -- no job that may start stands before the first job
 pub none_ahead : (s : State) (k j : Job) (u t : Turn) → IsFirst s j t → IsIn k s.jobs → MayStart s k u → stands_before s k j ≡ false
 none_ahead s k j u t f i m =
-    let same = by_turns s k j u t (has_turn s k u m) (has_turn s j t f.may) in
+    let same = by_turns s k j u t m.turn f.may.turn in
     same ∙ not_first s k j u t (is_before u k t j) refl f i m
 
 behind_by : (l : Launched) (o p : Option Turn) (j k : Job) → before_by o j p (as_launched l k) ≡ before_by o j p k
@@ -149,7 +110,7 @@ one_holder : (s : State) (q r : QName) (b c : Sbs) → holder s q ≡ Some b →
 one_holder s q r b c e f k = found_one (λ (x : Sbs). x.sbsd) (feeds s q) (feeds s r) s.started b c e f k
 
 -- two turns whose holders have one name have one holder and one description
-pub one_sbs : (s : State) (j k : Job) (t u : Turn) → MayStart s j t → IsTurn s k u → u.sbs.sbsd ≡ t.sbs.sbsd → (t.sbs ≡ u.sbs) × (t.sbsd ≡ u.sbsd)
+pub one_sbs : (s : State) (j k : Job) (t u : Turn) → IsTurn s j t → IsTurn s k u → u.sbs.sbsd ≡ t.sbs.sbsd → (t.sbs ≡ u.sbs) × (t.sbsd ≡ u.sbsd)
 one_sbs s j k t u m i same = (
   one_holder s t.queue u.queue t.sbs u.sbs m.holder i.holder (sym same),
   Some-injective t.sbsd u.sbsd (sym m.sbsd ∙ ap (λ (q : QName). object_named q s.objects.sbsds) (sym same) ∙ i.sbsd),

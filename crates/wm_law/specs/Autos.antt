@@ -11,7 +11,7 @@ use Rattle.wm_law.specs.declared.job.JobKind.TheVariants.{Asj}
 use Rattle.wm_law.specs.declared.job.Phase.TheVariants.{Waiting}
 use Rattle.wm_law.specs.declared.job.Wish.TheVariants.{NoWish}
 use Rattle.wm_law.specs.declared.state.State.{State}
-use Rattle.wm_law.specs.Launch.{as_auto, as_launched, launched_as}
+use Rattle.wm_law.specs.Launch.{as_auto, as_launched, routed_in}
 
 -- the user of autostart jobs
 abbrev pub auto_user : List ℕ
@@ -38,13 +38,13 @@ new_auto_job s name rtgdta rqsdta =
       evoke = false;
     }
 
--- that of an entry with the entry's job description
+-- the autostart job of an entry, with the routing data and the request of the entry's job description
 abbrev pub auto_job : State → AutoEntry → Jobd → Job
 auto_job s e d = new_auto_job s e.job d.rtgdta d.rqsdta
 
--- as the launch leaves it, whatever MAXJOBS is
+-- an autostart job as its launch leaves it, whatever MAXJOBS is
 abbrev pub auto_launched : State → QName → Job → Job
-auto_launched s sbs j = as_launched (launched_as s sbs (as_auto sbs) j) j
+auto_launched s sbs j = as_launched (routed_in s sbs (as_auto sbs) j) j
 
 -- the job goes last among the jobs, and its number and serial are taken, but no place
 abbrev pub joined : State → Job → State
@@ -54,11 +54,12 @@ joined s j = record s { jobs = s.jobs ++ j ∷ []; next_number = s.next_number +
 abbrev pub auto_made : State → QName → AutoEntry → Jobd → State
 auto_made s sbs e d = joined s (auto_launched s sbs (auto_job s e d))
 
--- where its job description is an object, as it always is
+-- the state after the job of an entry is made, where the entry's job description is an object, as it always is
 abbrev pub auto_described : State → QName → AutoEntry → Option Jobd → State
 auto_described s sbs e None = s
 auto_described s sbs e (Some d) = auto_made s sbs e d
 
+-- the state after the autostart job of an entry is made and launched
 abbrev pub make_auto : QName → State → AutoEntry → State
 make_auto sbs s e = auto_described s sbs e (object_named e.jobd s.objects.jobds)
 

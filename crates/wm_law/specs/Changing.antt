@@ -17,9 +17,9 @@ use Rattle.wm_law.specs.Stepped.{Stepped, refused}
 use Rattle.wm_law.specs.Submitting.{serials_end}
 
 -- the queue that is asked for is an object, where one is
-abbrev pub has_queue : State → Option QName → Bool
-has_queue s None = true
-has_queue s (Some queue) = is_some (object_named queue s.objects.jobqs)
+abbrev pub finds_queue : State → Option QName → Bool
+finds_queue s None = true
+finds_queue s (Some queue) = is_some (object_named queue s.objects.jobqs)
 
 -- a queue that is asked for is the present one
 abbrev pub is_queue : QName → Option QName → Bool
@@ -47,23 +47,25 @@ with_due due j = record j { due = due }
 abbrev pub moved_to : Chgjob → ℕ → ℕ → Job → Job
 moved_to c place due j = record j { jobq = option_or c.jobq j.jobq; pty = new_pty c j; place = place; due = due }
 
--- where queue or priority change, the job gets the next place
+-- the state in which the job has its new queue and priority, and the next place
 abbrev pub moved : State → Chgjob → Job → ℕ → State
 moved s c j due = record (with_waiting s j.serial (moved_to c s.next_place due)) { next_place = s.next_place + 1 }
 
+-- CHGJOB of a job whose queue or priority changes, which wants a place
 abbrev pub move_job : State → Chgjob → Job → ℕ → Stepped
 move_job s c j due = if nat_lt s.next_place serials_end then record { reply = Changed j.job; state = moved s c j due } else refused s NumbersUsed
 
--- where they stay, only its due moment changes
+-- CHGJOB of a job with its new due moment, where its schedule names one
 abbrev pub change_due : State → Chgjob → Job → Result ℕ Refusal → Stepped
 change_due s c j (Err x) = refused s x
 change_due s c j (Ok due) =
     if stays c j then record { reply = Changed j.job; state = with_waiting s j.serial (with_due due) } else move_job s c j due
 
+-- CHGJOB of the job that was found, whose new queue must be an object
 abbrev pub change_found : State → Chgjob → Result Job Refusal → Stepped
 change_found s c (Err x) = refused s x
 change_found s c (Ok j) =
-    if has_queue s c.jobq then change_due s c j (rescheduled s j.due c.scddate c.scdtime) else refused s (NoObject kind.Jobq)
+    if finds_queue s c.jobq then change_due s c j (rescheduled s j.due c.scddate c.scdtime) else refused s (NoObject kind.Jobq)
 
 -- the job that is named has its new values
 abbrev pub change_job : State → Chgjob → Stepped

@@ -45,6 +45,7 @@ has_entry s queue b = is_some (option_and_then (entry_for queue) (object_named b
 abbrev pub holder : State → QName → Option Sbs
 holder s queue = find (has_entry s queue) s.started
 
+-- whether a subsystem of the phase starts jobs
 abbrev pub is_sbs_active : SbsPhase → Bool
 is_sbs_active Active = true
 is_sbs_active (Ending until) = false
@@ -62,35 +63,66 @@ is_allowed s b d e pty =
     && is_below (count_from_queue b.sbsd e.jobq s.jobs) e.maxact
     && is_below (count_from_priority b.sbsd e.jobq pty s.jobs) (maxpty_of e pty)
 
--- the job as a candidate from an entry, where it is allowed
-abbrev pub candidate_from : State → Job → Sbs → Sbsd → Option QueueEntry → Option Candidate
-candidate_from s j b d None = None
-candidate_from s j b d (Some e) =
-    if is_allowed s b d e j.pty
-    then Some (record { rank = record { sbs = b.sbsd.name; seq = e.seq; pty = j.pty; place = j.place }; sbs = b.sbsd; jobq = e.jobq; serial = j.serial })
+-- the turn of a job on a queue: the subsystem that holds the queue, its description, and the description's entry for the queue
+pub record Turn : Type 0 where
+  pub queue : QName
+  pub sbs : Sbs
+  pub sbsd : Sbsd
+  pub entry : QueueEntry
+
+-- the turn by the entry for the queue, where the description has one
+abbrev pub turn_by_entry : QName → Sbs → Sbsd → Option QueueEntry → Option Turn
+turn_by_entry queue b d None = None
+turn_by_entry queue b d (Some e) = Some (record { queue = queue; sbs = b; sbsd = d; entry = e })
+
+-- the turn by the description, where the subsystem has one
+abbrev pub turn_by_description : QName → Sbs → Option Sbsd → Option Turn
+turn_by_description queue b None = None
+turn_by_description queue b (Some d) = turn_by_entry queue b d (entry_for queue d)
+
+-- the turn by the holder, where the queue has one
+abbrev pub turn_by_holder : State → QName → Option Sbs → Option Turn
+turn_by_holder s queue None = None
+turn_by_holder s queue (Some b) = turn_by_description queue b (object_named b.sbsd s.objects.sbsds)
+
+-- the turn by the queue, where the job has one
+abbrev pub turn_by_queue : State → Option QName → Option Turn
+turn_by_queue s None = None
+turn_by_queue s (Some queue) = turn_by_holder s queue (holder s queue)
+
+-- the turn of a job
+abbrev pub turn_of : State → Job → Option Turn
+turn_of s j = turn_by_queue s j.jobq
+
+-- the rank of a job in a turn
+abbrev pub rank_in : Turn → Job → Rank
+rank_in t j = record { sbs = t.sbs.sbsd.name; seq = t.entry.seq; pty = j.pty; place = j.place }
+
+-- the order in a subsystem: the sequence numbers of the entries, then the priorities, then the places
+abbrev pub place_cmp : Rank → Rank → Ordering
+place_cmp a b = ordering_then (nat_cmp a.seq b.seq) (ordering_then (nat_cmp a.pty b.pty) (nat_cmp a.place b.place))
+
+-- the order of the subsystems' names, and in a subsystem the order there
+abbrev pub rank_cmp : Rank → Rank → Ordering
+rank_cmp a b = ordering_then (slice_cmp nat_cmp a.sbs b.sbs) (place_cmp a b)
+
+-- the first of two jobs stands before the second in their turns: one subsystem holds their queues, and the first comes before the second there
+abbrev pub is_before : Turn → Job → Turn → Job → Bool
+is_before t j u k = same_qname t.sbs.sbsd u.sbs.sbsd && is_lt (place_cmp (rank_in t j) (rank_in u k))
+
+-- the job as a candidate in its turn, where that is allowed
+abbrev pub candidate_by_turn : State → Job → Option Turn → Option Candidate
+candidate_by_turn s j None = None
+candidate_by_turn s j (Some t) =
+    if is_allowed s t.sbs t.sbsd t.entry j.pty
+    then Some (record { rank = rank_in t j; sbs = t.sbs.sbsd; jobq = t.entry.jobq; serial = j.serial })
     else None
-
-abbrev pub candidate_described : State → Job → QName → Sbs → Option Sbsd → Option Candidate
-candidate_described s j queue b None = None
-candidate_described s j queue b (Some d) = candidate_from s j b d (entry_for queue d)
-
-abbrev pub candidate_held : State → Job → QName → Option Sbs → Option Candidate
-candidate_held s j queue None = None
-candidate_held s j queue (Some b) = candidate_described s j queue b (object_named b.sbsd s.objects.sbsds)
-
-abbrev pub candidate_queued : State → Job → Option QName → Option Candidate
-candidate_queued s j None = None
-candidate_queued s j (Some queue) = candidate_held s j queue (holder s queue)
 
 -- the job as a candidate, where it is ready and allowed
 abbrev pub candidate : State → Job → Option Candidate
-candidate s j = if is_ready s j then candidate_queued s j j.jobq else None
+candidate s j = if is_ready s j then candidate_by_turn s j (turn_of s j) else None
 
--- the order of the subsystems' names, and in a subsystem the triple of sequence number, priority and place
-abbrev pub rank_cmp : Rank → Rank → Ordering
-rank_cmp a b = ordering_then (slice_cmp nat_cmp a.sbs b.sbs) (ordering_then (nat_cmp a.seq b.seq) (ordering_then (nat_cmp a.pty b.pty) (nat_cmp a.place b.place)))
-
--- the one of two that stands before the other, the first where neither does
+-- the candidate of two whose rank is less, the first where neither's is
 abbrev pub better : Option Candidate → Option Candidate → Option Candidate
 better best None = best
 better None (Some c) = Some c

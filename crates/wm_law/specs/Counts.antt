@@ -10,6 +10,7 @@ use Rattle.wm_law.specs.declared.job.Phase.{Phase}
 use Rattle.wm_law.specs.declared.job.Phase.TheVariants.{Waiting, Starting, Handed, Running, Ended}
 use Rattle.wm_desc.specs.Table.{same_qname}
 
+-- whether a job of the phase hasn't been launched
 abbrev pub is_waiting : Phase → Bool
 is_waiting Waiting = true
 is_waiting Starting = false
@@ -17,6 +18,7 @@ is_waiting (Handed m) = false
 is_waiting (Running m) = false
 is_waiting (Ended c) = false
 
+-- whether a job of the phase is yet to be handed to a monitor
 abbrev pub is_starting : Phase → Bool
 is_starting Waiting = false
 is_starting Starting = true
@@ -70,14 +72,18 @@ is_by_route q seq (Pre sbs pgm) = false
 abbrev pub count_active : (How → Bool) → List Job → ℕ
 count_active test jobs = count_by (λ j. is_active j.phase && test j.how) jobs
 
+-- how many active jobs came into the subsystem
 abbrev pub count_in_sbs : QName → List Job → ℕ
 count_in_sbs q jobs = count_active (is_in_sbs q) jobs
 
+-- how many active jobs came from the subsystem's entry for the queue
 abbrev pub count_from_queue : QName → QName → List Job → ℕ
 count_from_queue q queue jobs = count_active (is_from_queue q queue) jobs
 
+-- how many of these came with the priority
 abbrev pub count_from_priority : QName → QName → ℕ → List Job → ℕ
 count_from_priority q queue p jobs = count_active (is_from_priority q queue p) jobs
 
+-- how many active jobs came through the subsystem's routing entry of that number
 abbrev pub count_by_route : QName → ℕ → List Job → ℕ
 count_by_route q seq jobs = count_active (is_by_route q seq) jobs

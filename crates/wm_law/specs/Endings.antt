@@ -46,6 +46,7 @@ abbrev pub job_wish : ℕ → EndOption → ℕ → Wish
 job_wish clock Cntrld delay = wish.Later (Some (moment_after clock delay)) why.Endjob
 job_wish clock Immed delay = wish.Now why.Endjob false
 
+-- ENDJOB of an active job: it gets a wish, unless it has one that the option would give
 abbrev pub end_active : State → Endjob → Job → Stepped
 end_active s c j =
     if is_wished c.option j.wish then refused s AlreadyEnding
@@ -59,6 +60,7 @@ end_in_phase s c j (Handed m) = end_active s c j
 end_in_phase s c j (Running m) = end_active s c j
 end_in_phase s c j (Ended end) = refused s (WrongPhase word.Ended)
 
+-- ENDJOB of the job that was found
 abbrev pub end_found : State → Endjob → Result Job Refusal → Stepped
 end_found s c (Err x) = refused s x
 end_found s c (Ok j) = end_in_phase s c j j.phase
@@ -68,9 +70,9 @@ abbrev pub end_job : State → Endjob → Stepped
 end_job s c = end_found s c (job_named s c.job)
 
 -- a subsystem that an option would end does so already: it is ending for *CNTRLD, and ends now for *IMMED
-abbrev pub is_ended : EndOption → SbsPhase → Bool
-is_ended Cntrld phase = is_ending phase
-is_ended Immed phase = is_sbs_now phase
+abbrev pub is_ending_by : EndOption → SbsPhase → Bool
+is_ending_by Cntrld phase = is_ending phase
+is_ending_by Immed phase = is_sbs_now phase
 
 -- the phase of a subsystem that an option ends
 abbrev pub end_phase : ℕ → EndOption → Option ℕ → SbsPhase
@@ -95,8 +97,8 @@ abbrev pub phased : (Sbs → Bool) → SbsPhase → Sbs → Sbs
 phased test phase b = if test b then record b { phase = phase } else b
 
 -- the subsystem of that name passes the test
-abbrev pub is_any : (Sbs → Bool) → List Sbs → QName → Bool
-is_any test started q = list_any (λ b. test b && same_qname b.sbsd q) started
+abbrev pub is_of_those : (Sbs → Bool) → List Sbs → QName → Bool
+is_of_those test started q = list_any (λ b. test b && same_qname b.sbsd q) started
 
 -- the subsystems that pass the test end: their jobs are told, and the requests that wait there go
 abbrev pub end_those : State → EndOption → Option ℕ → (Sbs → Bool) → State
@@ -104,17 +106,18 @@ end_those s option delay test =
     record s {
       jobs = map (told option test s.started) s.jobs;
       started = map (phased test (end_phase s.clock option delay)) s.started;
-      evokes = filter (λ e. not (is_any test s.started e.sbs)) s.evokes;
+      evokes = filter (λ e. not (is_of_those test s.started e.sbs)) s.evokes;
     }
 
 -- the started subsystem of a simple name
 abbrev pub started_named : State → List ℕ → Option Sbs
 started_named s name = find (λ b. pointwise nat_eq b.sbsd.name name) s.started
 
+-- ENDSBS of the started subsystem that was found
 abbrev pub end_started : State → Endsbs → Option Sbs → Stepped
 end_started s c None = refused s SbsNotActive
 end_started s c (Some b) =
-    if is_ended c.option b.phase then refused s AlreadyEnding
+    if is_ending_by c.option b.phase then refused s AlreadyEnding
     else record { reply = SbsEnding b.sbsd; state = end_those s c.option c.delay (λ x. same_qname x.sbsd b.sbsd) }
 
 -- the subsystem of the simple name ends
@@ -135,4 +138,4 @@ down_by Immed = DownNow
 abbrev pub power_down : State → Pwrdwnsys → Stepped
 power_down s c =
     if is_down c.option s.power then refused s PoweringDown
-    else record { reply = PowerDown; state = record (end_those s c.option c.delay (λ b. not (is_ended c.option b.phase))) { power = down_by c.option } }
+    else record { reply = PowerDown; state = record (end_those s c.option c.delay (λ b. not (is_ending_by c.option b.phase))) { power = down_by c.option } }

@@ -24,9 +24,10 @@ use Rattle.wm_law.specs.declared.command.Crtjobd.{Crtjobd}
 use Rattle.wm_law.specs.declared.command.JobRef.{JobRef}
 use Rattle.wm_law.specs.declared.command.JobRef.TheVariants.{Simple, ByUser, Full}
 use Rattle.wm_law.specs.declared.command.Sbmjob.{Sbmjob}
-use Rattle.wm_law.specs.declared.state.State.{State}
+use Rattle.wm_law.specs.Built.{is_built}
 use Rattle.wm_law.specs.Making.{class_of, jobd_of, queue_entry_of, route_entry_of}
 
+-- a qualified name is of two names
 pub record IsQName (q : QName) : Type 0 where
   pub lib : IsName q.lib
   pub name : IsName q.name
@@ -37,15 +38,18 @@ pub record IsTextOf (low high : ℕ) (bytes : List ℕ) : Type 0 where
   pub least : low ≤ length bytes
   pub most : length bytes ≤ high
 
+-- the number is in a range, its ends included
 pub record IsBetween (low high n : ℕ) : Type 0 where
   pub least : low ≤ n
   pub most : n ≤ high
 
+-- a full job name has a number from 1 to 999999 and two names
 pub record IsJobName (j : JobName) : Type 0 where
   pub number : IsBetween 1 999999 j.number
   pub user : IsName j.user
   pub name : IsName j.name
 
+-- a reference to a job is made of names, and of a number where it has one
 abbrev pub IsJobRef : JobRef → Type 0
 IsJobRef (Simple name) = IsName name
 IsJobRef (ByUser user name) = IsName user × IsName name
@@ -56,6 +60,7 @@ abbrev pub IsCompared : Cmp → Type 0
 IsCompared Any = ⊤
 IsCompared (Val value start) = IsText value
 
+-- the values of CRTJOBD
 pub record IsJobDescription (c : Crtjobd) : Type 0 where
   pub jobd : IsQName c.jobd
   pub jobq : IsQName c.jobq
@@ -64,12 +69,14 @@ pub record IsJobDescription (c : Crtjobd) : Type 0 where
   pub rqsdta : IfSome c.rqsdta IsText
   pub ranges : IsTrue (jobd_in_range (jobd_of c))
 
+-- the values of ADDJOBQE
 pub record IsQueueEntry (c : Addjobqe) : Type 0 where
   pub sbsd : IsQName c.sbsd
   pub jobq : IsQName c.jobq
   pub maxpty : length c.maxpty ≡ 9
   pub ranges : IsTrue (queue_in_range (queue_entry_of c))
 
+-- the values of ADDRTGE
 pub record IsRoutingEntry (c : Addrtge) : Type 0 where
   pub sbsd : IsQName c.sbsd
   pub pgm : IsQName c.pgm
@@ -77,11 +84,13 @@ pub record IsRoutingEntry (c : Addrtge) : Type 0 where
   pub cmpval : IsCompared c.cmpval
   pub ranges : IsTrue (route_in_range (route_entry_of c))
 
+-- the values of ADDAJE
 pub record IsAutostartEntry (c : Addaje) : Type 0 where
   pub sbsd : IsQName c.sbsd
   pub job : IsName c.job
   pub jobd : IsQName c.jobd
 
+-- the prestart entry that ADDPJE names
 abbrev pub pre_entry_of : Addpje → PreEntry
 pre_entry_of c =
     record {
@@ -97,6 +106,7 @@ pre_entry_of c =
       poolid = c.poolid;
     }
 
+-- the values of ADDPJE
 pub record IsPrestartEntry (c : Addpje) : Type 0 where
   pub sbsd : IsQName c.sbsd
   pub pgm : IsQName c.pgm
@@ -166,7 +176,7 @@ abbrev pub IsExit : Exit → Type 0
 IsExit (exit.Code code) = code < 2 ^ 8
 IsExit exit.Killed = ⊤
 
--- and so do those of a call
+-- a call's values keep their forms and ranges
 abbrev pub IsCall : Call → Type 0
 IsCall (Change user c) = IsName user × IsCommand c
 IsCall Hand = ⊤
@@ -176,38 +186,12 @@ IsCall (Finished serial end) = IsSerial serial × IsExit end
 IsCall (UseDone serial) = IsSerial serial
 IsCall Tick = ⊤
 
--- the commands that the machine has
-abbrev pub HasCommand : State → Command → Type 0
-HasCommand s (command.Crtcls c) = ⊤
-HasCommand s (command.Crtjobq c) = ⊤
-HasCommand s (command.Crtpgmref c) = ⊤
-HasCommand s (command.Crtjobd c) = ⊤
-HasCommand s (command.Crtsbsd c) = ⊤
-HasCommand s (command.Addjobqe c) = ⊤
-HasCommand s (command.Addrtge c) = ⊤
-HasCommand s (command.Addaje c) = ⊤
-HasCommand s (command.Rmvjobqe c) = ⊤
-HasCommand s (command.Rmvrtge c) = ⊤
-HasCommand s (command.Rmvaje c) = ⊤
-HasCommand s (command.Strsbs c) = ⊤
-HasCommand s (command.Endsbs c) = ⊤
-HasCommand s (command.Sbmjob c) = ⊤
-HasCommand s (command.Hldjob c) = ⊤
-HasCommand s (command.Rlsjob c) = ⊤
-HasCommand s (command.Chgjob c) = ⊤
-HasCommand s (command.Endjob c) = ⊤
-HasCommand s (command.Hldjobq c) = ⊤
-HasCommand s (command.Rlsjobq c) = ⊤
-HasCommand s (command.Clrjobq c) = ⊤
-HasCommand s (command.Pwrdwnsys c) = ⊤
-HasCommand s c = ⊥
-
--- the machine has every call of a monitor, and those commands
-abbrev pub HasCall : State → Call → Type 0
-HasCall s (Change user c) = HasCommand s c
-HasCall s Hand = ⊤
-HasCall s (Started serial) = ⊤
-HasCall s (StartFailed serial why) = ⊤
-HasCall s (Finished serial end) = ⊤
-HasCall s (UseDone serial) = ⊤
-HasCall s Tick = ⊤
+-- the machine has every call of a monitor, and each command of users that is built
+abbrev pub HasCall : Call → Type 0
+HasCall (Change user c) = IsTrue (is_built c)
+HasCall Hand = ⊤
+HasCall (Started serial) = ⊤
+HasCall (StartFailed serial why) = ⊤
+HasCall (Finished serial end) = ⊤
+HasCall (UseDone serial) = ⊤
+HasCall Tick = ⊤

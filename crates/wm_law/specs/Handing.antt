@@ -29,7 +29,7 @@ pub record IsLeastSerial (Has : Job → Type 0) (jobs : List Job) (serial : ℕ)
 abbrev pub HandedKillIsLeast : Type 0
 HandedKillIsLeast = (s : State) (caller serial : ℕ) → HasJobsInOrder s → (apply s caller Hand).reply ≡ Order (Kill serial) → IsLeastSerial (IsToBeKilled caller) s.jobs serial
 
--- where it orders a start, no kill is yet to be handed to its caller, and the start is that of least serial
+-- where a Hand orders a start, no kill is yet to be handed to its caller, and the start is that of least serial
 abbrev pub HandedStartIsLeast : Type 0
 HandedStartIsLeast =
     (s : State) (caller : ℕ) (o : StartOrder)

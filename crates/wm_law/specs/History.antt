@@ -25,7 +25,7 @@ after s (e ∷ es) = after (stepped s e).state es
 pub record IsEntry (s : State) (e : Entry) : Type 0 where
   pub caller : e.caller < 2 ^ 32
   pub call : IsCall e.call
-  pub built : HasCall s e.call
+  pub built : HasCall e.call
   pub moment : e.moment ≤ 253402214399
   pub reply : e.reply ≡ (stepped s e).reply
 
@@ -78,6 +78,7 @@ is_report (Finished serial end) = true
 is_report (UseDone serial) = true
 is_report Tick = false
 
+-- whether the call is Hand
 abbrev pub is_hand : Call → Bool
 is_hand (Change user c) = false
 is_hand Hand = true

@@ -14,6 +14,7 @@ use Rattle.wm_law.specs.Stepped.{Stepped, refused}
 abbrev pub with_held : Bool → Job → Job
 with_held held j = record j { held = held }
 
+-- HLDJOB of the Waiting job that was found
 abbrev pub hold_found : State → Result Job Refusal → Stepped
 hold_found s (Err x) = refused s x
 hold_found s (Ok j) = if j.held then refused s HeldAlready else record { reply = Held j.job; state = with_waiting s j.serial (with_held true) }
@@ -22,6 +23,7 @@ hold_found s (Ok j) = if j.held then refused s HeldAlready else record { reply =
 abbrev pub hold_job : State → JobRef → Stepped
 hold_job s ref = hold_found s (waiting_named s ref)
 
+-- RLSJOB of the Waiting job that was found
 abbrev pub release_found : State → Result Job Refusal → Stepped
 release_found s (Err x) = refused s x
 release_found s (Ok j) = if j.held then record { reply = Released j.job; state = with_waiting s j.serial (with_held false) } else refused s NotHeld

@@ -37,7 +37,7 @@ use Rattle.wm_law.specs.Machine.{step}
 use Rattle.wm_law.specs.Wishes.{now_cause}
 use Rattle.wm_desc.specs.Table.{object_named}
 use Rattle.wm_law.specs.Opening.{opening}
-use Rattle.wm_law.specs.Pending.{orders}
+use Rattle.wm_law.specs.Pending.{orders_left}
 
 -- no element stands twice
 abbrev pub IsDistinct : {X : Type 0} → List X → Type 0
@@ -217,7 +217,7 @@ StartingJobsHaveOrders = (s : State) (h : List Entry) → IsNumbered s → HasOr
 
 -- whatever is called, a Hand then answers Nothing exactly where no job is Starting and no kill is to be handed to its monitor
 abbrev pub HandGivesAnOrder : Type 0
-HandGivesAnOrder = (s : State) (h : List Entry) (caller moment : ℕ) → IsNumbered s → HasOrders s → ((step (after s h) caller Hand moment).reply ≡ Nothing ↔ orders (after s h) caller ≡ 0)
+HandGivesAnOrder = (s : State) (h : List Entry) (caller moment : ℕ) → IsNumbered s → HasOrders s → ((step (after s h) caller Hand moment).reply ≡ Nothing ↔ orders_left (after s h) caller ≡ 0)
 
 -- whatever is called, the route in a subsystem is its matching entry of least number
 abbrev pub ReachedRouteIsLeast : Type 0

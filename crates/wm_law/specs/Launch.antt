@@ -20,7 +20,7 @@ use Rattle.wm_law.specs.declared.state.State.{State}
 use Rattle.wm_law.specs.declared.choice.Candidate.{Candidate}
 use Rattle.wm_law.specs.declared.launch.Launched.{Launched}
 use Rattle.wm_law.specs.Counts.{count_by_route}
-use Rattle.wm_law.specs.Jobs.{changed_at, with_job}
+use Rattle.wm_law.specs.Jobs.{with_job}
 use Rattle.wm_desc.specs.Sorted.{with_key}
 use Rattle.wm_desc.specs.Table.{object_named, is_qcmd}
 use Rattle.wm_clwords.specs.Called.{called_pgm, called_parms}
@@ -47,7 +47,7 @@ abbrev pub requested : Option (List ℕ) → Option QName
 requested None = None
 requested (Some request) = called_pgm request
 
--- its values
+-- the values of a request that is a CALL
 abbrev pub args_of : Option (List ℕ) → List (List ℕ)
 args_of None = []
 args_of (Some request) = called_parms request
@@ -77,52 +77,50 @@ route_fault s sbs e j =
     then program_fault s (called_program e j.rqsdta)
     else Some (RouteFull e.seq)
 
+-- a launch that ends the job by the cause
 abbrev pub ends_by : EndCause → Launched
 ends_by cause = record { phase = Ended cause; how = NotYet }
 
+-- a launch that starts the job
 abbrev pub starts_as : How → Launched
 starts_as how = record { phase = Starting; how = how }
 
--- what a job's how is, by the number of its routing entry: that of a job of a queue, and that of an autostart job
+-- how a job of a queue comes into the subsystem, by the number of its routing entry
 abbrev pub from_queue : QName → QName → Job → ℕ → How
 from_queue sbs queue j = λ seq. FromQueue sbs queue j.pty seq
 
+-- how an autostart job comes into the subsystem, by the number of its routing entry
 abbrev pub as_auto : QName → ℕ → How
 as_auto sbs = λ seq. Auto sbs seq
 
-abbrev pub launched_by : (ℕ → How) → ℕ → Option EndCause → Launched
-launched_by how seq None = starts_as (how seq)
-launched_by how seq (Some cause) = ends_by cause
+-- a launch through the routing entry of a number: the job starts, unless there is a fault
+abbrev pub starts_unless : (ℕ → How) → ℕ → Option EndCause → Launched
+starts_unless how seq None = starts_as (how seq)
+starts_unless how seq (Some cause) = ends_by cause
 
-abbrev pub launched_through : State → QName → (ℕ → How) → Job → Option RouteEntry → Launched
-launched_through s sbs how j None = ends_by NoRoute
-launched_through s sbs how j (Some e) = launched_by how e.seq (route_fault s sbs e j)
+-- a launch through the routing entry that was found; where there is none the job ends
+abbrev pub routed_through : State → QName → (ℕ → How) → Job → Option RouteEntry → Launched
+routed_through s sbs how j None = ends_by NoRoute
+routed_through s sbs how j (Some e) = starts_unless how e.seq (route_fault s sbs e j)
 
 -- the launch of a job in a subsystem: no entry matches, the entry is full, the request is no CALL, the program is missing, or it starts
-abbrev pub launched_as : State → QName → (ℕ → How) → Job → Launched
-launched_as s sbs how j = launched_through s sbs how j (option_and_then (λ d. route d j.rtgdta) (object_named sbs s.objects.sbsds))
+abbrev pub routed_in : State → QName → (ℕ → How) → Job → Launched
+routed_in s sbs how j = routed_through s sbs how j (option_and_then (λ d. route d j.rtgdta) (object_named sbs s.objects.sbsds))
 
--- that of a job of a queue
+-- the launch of a job of a queue
 abbrev pub launched : State → QName → QName → Job → Launched
-launched s sbs queue j = launched_as s sbs (from_queue sbs queue j) j
+launched s sbs queue j = routed_in s sbs (from_queue sbs queue j) j
 
 -- the job as launched
 abbrev pub as_launched : Launched → Job → Job
 as_launched l j = record j { phase = l.phase; how = l.how }
 
--- the job as launched, where it has that serial
-abbrev pub launched_at : ℕ → Launched → Job → Job
-launched_at serial l j = changed_at serial (as_launched l) j
-
--- the state with the job of that serial launched
-abbrev pub with_launched : State → ℕ → Launched → State
-with_launched s serial l = with_job s serial (as_launched l)
-
+-- the state after the launch of a job, where there is one
 abbrev pub launch_job : State → Candidate → Option Job → State
 launch_job s c None = s
-launch_job s c (Some j) = with_launched s c.serial (launched s c.sbs c.jobq j)
+launch_job s c (Some j) = with_job s c.serial (as_launched (launched s c.sbs c.jobq j))
 
--- the state after a candidate's launch
+-- the state after the launch of a candidate's job
 abbrev pub launch : State → Candidate → State
 launch s c = launch_job s c (find (λ j. j.serial == c.serial) s.jobs)
 
@@ -132,10 +130,12 @@ order_with j args None cls = None
 order_with j args (Some p) None = None
 order_with j args (Some p) (Some cls) = Some (record { serial = j.serial; job = j.job; path = p.path; args = args; cls = cls; pre = false })
 
+-- the order of a job whose routing entry calls a program
 abbrev pub order_called : State → Job → RouteEntry → Option QName → Option StartOrder
 order_called s j e None = None
 order_called s j e (Some pgm) = order_with j (called_args e j.rqsdta) (object_named pgm s.objects.programs) (object_named e.cls s.objects.classes)
 
+-- the order of a job by its routing entry
 abbrev pub order_through : State → Job → Option RouteEntry → Option StartOrder
 order_through s j None = None
 order_through s j (Some e) = order_called s j e (called_program e j.rqsdta)
@@ -148,6 +148,7 @@ entry_numbered seq d = with_key (λ e. e.seq) nat_eq seq d.routes
 abbrev pub route_entry : State → QName → ℕ → Option RouteEntry
 route_entry s sbs seq = option_and_then (entry_numbered seq) (object_named sbs s.objects.sbsds)
 
+-- the order of a job by how it came into its subsystem
 abbrev pub order_by : State → Job → How → Option StartOrder
 order_by s j NotYet = None
 order_by s j (FromQueue sbs jobq pty seq) = order_through s j (route_entry s sbs seq)

@@ -7,55 +7,49 @@ use Rattle.wm_base.specs.declared.refusal.Refusal.{Refusal}
 use Rattle.wm_law.specs.declared.call.Call.{Call}
 use Rattle.wm_law.specs.declared.call.Reply.TheVariants.{No, Nothing}
 use Rattle.wm_law.specs.declared.choice.Candidate.{Candidate}
+use Rattle.wm_law.specs.declared.choice.Rank.{Rank}
 use Rattle.wm_law.specs.declared.job.Job.{Job}
 use Rattle.wm_desc.specs.declared.description.Sbsd.{Sbsd}
-use Rattle.wm_desc.specs.declared.entry.QueueEntry.{QueueEntry}
 use Rattle.wm_desc.specs.declared.entry.RouteEntry.{RouteEntry}
 use Rattle.wm_desc.specs.Sorted.{IsSortedOnce}
 use Rattle.wm_law.specs.declared.state.State.{State}
-use Rattle.wm_law.specs.declared.state.Sbs.{Sbs}
-use Rattle.wm_law.specs.declared.command.Command.{Command}
-use Rattle.wm_law.specs.Built.{is_built}
-use Rattle.wm_law.specs.Fit.{HasCommand, HasCall}
+use Rattle.wm_law.specs.Fit.{HasCall}
 use Rattle.wm_law.specs.History.{is_hand}
-use Rattle.wm_law.specs.Choice.{is_ready, holder, entry_for, is_allowed, candidate, first, next}
+use Rattle.wm_law.specs.Choice.{Turn, candidate, first, is_allowed, is_before, is_ready, next, place_cmp, turn_of}
 use Rattle.wm_law.specs.Launch.{is_match, route}
 use Rattle.wm_law.specs.Settling.{settle}
 use Rattle.wm_law.specs.Machine.{apply, step, with_clock}
-use Rattle.wm_desc.specs.Table.{object_named}
 
 -- the element stands in the list
 abbrev pub IsIn : {X : Type 0} → X → List X → Type 0
 IsIn x [] = ⊥
 IsIn x (y ∷ ys) = (x ≡ y) ⊎ IsIn x ys
 
--- a subsystem, its description, and the description's entry for a queue
-pub record Turn : Type 0 where
-  pub queue : QName
-  pub sbs : Sbs
-  pub sbsd : Sbsd
-  pub entry : QueueEntry
-
--- the job may start: it is ready, the subsystem holds its queue, and the limits allow it
+-- the job may start in the turn: it is ready, the turn is its own, and the limits allow it
 pub record MayStart (s : State) (j : Job) (t : Turn) : Type 0 where
   pub ready : is_ready s j ≡ true
-  pub queue : j.jobq ≡ Some t.queue
-  pub holder : holder s t.queue ≡ Some t.sbs
-  pub sbsd : object_named t.sbs.sbsd s.objects.sbsds ≡ Some t.sbsd
-  pub entry : entry_for t.queue t.sbsd ≡ Some t.entry
+  pub turn : turn_of s j ≡ Some t
   pub allowed : is_allowed s t.sbs t.sbsd t.entry j.pty ≡ true
 
--- of one subsystem, the first job stands before the second: by the entries' numbers, then the priorities, then the places
-abbrev pub IsBefore : QueueEntry → Job → QueueEntry → Job → Type 0
-IsBefore d j e k =
-    (d.seq < e.seq)
-    ⊎ (((d.seq ≡ e.seq) × (j.pty < k.pty)) ⊎ ((d.seq ≡ e.seq) × (j.pty ≡ k.pty) × (j.place < k.place)))
+-- no job may start
+abbrev pub LeavesNone : State → Type 0
+LeavesNone s = (j : Job) (t : Turn) → IsIn j s.jobs → MayStart s j t → ⊥
+
+-- in a subsystem the first rank comes before the second: by the entries' sequence numbers, for one number by the priorities, and for one priority by the places
+abbrev pub ComesBefore : Rank → Rank → Type 0
+ComesBefore a b =
+    (a.seq < b.seq)
+    ⊎ (((a.seq ≡ b.seq) × (a.pty < b.pty)) ⊎ ((a.seq ≡ b.seq) × (a.pty ≡ b.pty) × (a.place < b.place)))
+
+-- what is less in the order of a subsystem comes before
+abbrev pub LesserComesBefore : Type 0
+LesserComesBefore = (a b : Rank) → is_lt (place_cmp a b) ≡ true → ComesBefore a b
 
 -- the job is the first of its subsystem: it may start, and no job there that may start stands before it
 pub record IsFirst (s : State) (j : Job) (t : Turn) : Type 0 where
   pub job : IsIn j s.jobs
   pub may : MayStart s j t
-  pub none_before : (k : Job) (u : Turn) → IsIn k s.jobs → MayStart s k u → u.sbs.sbsd ≡ t.sbs.sbsd → IsBefore u.entry k t.entry j → ⊥
+  pub none_before : (k : Job) (u : Turn) → IsIn k s.jobs → MayStart s k u → is_before u k t j ≡ true → ⊥
 
 -- no job may start in a subsystem whose simple name comes before
 pub record IsOfLeast (s : State) (t : Turn) : Type 0 where
@@ -81,7 +75,7 @@ NextIsFirst = (s : State) (c : Candidate) → next s ≡ Some c → (j : Job) ×
 
 -- where there is no next job, no job may start
 abbrev pub NoNextIsNone : Type 0
-NoNextIsNone = (s : State) → next s ≡ None → (j : Job) (t : Turn) → IsIn j s.jobs → MayStart s j t → ⊥
+NoNextIsNone = (s : State) → next s ≡ None → LeavesNone s
 
 -- the entry is the description's, routing data passes it, and passes none of a lesser number
 pub record IsRoute (d : Sbsd) (rtgdta : List ℕ) (e : RouteEntry) : Type 0 where
@@ -103,7 +97,7 @@ SettledHasNoNext = (s : State) → next (settle s) ≡ None
 
 -- after settling no job may start
 abbrev pub SettledLeavesNone : Type 0
-SettledLeavesNone = (s : State) (j : Job) (t : Turn) → IsIn j (settle s).jobs → MayStart (settle s) j t → ⊥
+SettledLeavesNone = (s : State) → LeavesNone (settle s)
 
 -- a refused call leaves the state
 abbrev pub RefusalLeaves : Type 0
@@ -115,8 +109,4 @@ RefusedStepSettles = (s : State) (caller : ℕ) (call : Call) (moment : ℕ) (x 
 
 -- a call that the machine has is never answered Nothing, Hand aside
 abbrev pub BuiltCallsAreAnswered : Type 0
-BuiltCallsAreAnswered = (s : State) (caller : ℕ) (call : Call) (moment : ℕ) → HasCall s call → is_hand call ≡ false → (step s caller call moment).reply ≡ Nothing → ⊥
-
--- the machine has what is built for users
-abbrev pub BuiltIsHad : Type 0
-BuiltIsHad = (s : State) (c : Command) → is_built c ≡ true → HasCommand s c
+BuiltCallsAreAnswered = (s : State) (caller : ℕ) (call : Call) (moment : ℕ) → HasCall call → is_hand call ≡ false → (step s caller call moment).reply ≡ Nothing → ⊥

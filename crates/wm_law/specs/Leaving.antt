@@ -15,10 +15,10 @@ use Rattle.wm_law.specs.Settling.{is_ending}
 abbrev pub EndingHaveJobs : State → Type 0
 EndingHaveJobs s = (b : Sbs) → IsIn b s.started → is_ending b.phase ≡ true → 0 < count_in_sbs b.sbsd s.jobs
 
--- so it is after every step
+-- after every step each ending subsystem has an active job
 abbrev pub StepLeavesEndingJobs : Type 0
 StepLeavesEndingJobs = (s : State) (caller : ℕ) (call : Call) (moment : ℕ) → IsNumbered s → EndingHaveJobs (step s caller call moment).state
 
--- and after each history from a state where it is so
+-- after every history from a state where it is so, each ending subsystem has an active job
 abbrev pub EndingSubsystemsHaveJobs : Type 0
 EndingSubsystemsHaveJobs = (s : State) (h : List Entry) → IsNumbered s → EndingHaveJobs s → EndingHaveJobs (after s h)

@@ -23,6 +23,7 @@ use Rattle.wm_law.specs.Settling.{settle}
 abbrev pub unbuilt : State → Stepped
 unbuilt s = record { reply = Nothing; state = s }
 
+-- what each command does
 abbrev pub change : State → List ℕ → Command → Stepped
 change s user (command.Crtcls c) = make_class s c
 change s user (command.Crtjobq c) = make_queue s c
@@ -62,6 +63,7 @@ apply s caller Tick = record { reply = Noted; state = s }
 abbrev pub with_clock : State → ℕ → State
 with_clock s moment = record s { clock = max s.clock moment }
 
+-- the reply, and the state once it has settled
 abbrev pub settled : Stepped → Stepped
 settled t = record { reply = t.reply; state = settle t.state }
 

@@ -35,10 +35,12 @@ abbrev pub made_reply : Option Refusal → Reply
 made_reply None = Made
 made_reply (Some x) = No x
 
+-- the objects after a command that makes or changes some, unless it is refused
 abbrev pub made_objects : Objects → Objects → Option Refusal → Objects
 made_objects before after None = after
 made_objects before after (Some x) = before
 
+-- a command that makes or changes objects, unless it is refused
 abbrev pub made_unless : State → Objects → Option Refusal → Stepped
 made_unless s objects refusal = record { reply = made_reply refusal; state = record s { objects = made_objects s.objects objects refusal } }
 
@@ -50,61 +52,77 @@ is_in_use s sbsd = list_any (λ b. same_qname b.sbsd sbsd) s.started
 abbrev pub unless_in_use : State → QName → Option Refusal → Option Refusal
 unless_in_use s sbsd refusal = if is_some (object_named sbsd s.objects.sbsds) && is_in_use s sbsd then Some SbsActive else refusal
 
+-- the class that CRTCLS names
 abbrev pub class_of : Crtcls → Class
 class_of c = record { runpty = c.runpty; timeslice = c.timeslice; dftwait = c.dftwait }
 
+-- CRTCLS
 abbrev pub make_class : State → Crtcls → Stepped
 make_class s c = made_unless s (with_class c.cls (class_of c) s.objects) (object_refusal kind.Cls c.cls s.objects.classes)
 
+-- CRTJOBQ
 abbrev pub make_queue : State → Crtjobq → Stepped
 make_queue s c = made_unless s (with_jobq c.jobq s.objects) (object_refusal kind.Jobq c.jobq s.objects.jobqs)
 
+-- CRTPGMREF
 abbrev pub make_program : State → Crtpgmref → Stepped
 make_program s c = made_unless s (with_program c.pgm c.path s.objects) (program_refusal c.pgm s.objects.programs)
 
+-- the job description that CRTJOBD names
 abbrev pub jobd_of : Crtjobd → Jobd
 jobd_of c = record { jobq = c.jobq; pty = c.jobpty; rtgdta = c.rtgdta; rqsdta = c.rqsdta; hold = c.hold }
 
+-- CRTJOBD
 abbrev pub make_job_description : State → Crtjobd → Stepped
 make_job_description s c = made_unless s (with_jobd c.jobd (jobd_of c) s.objects) (object_refusal kind.Jobd c.jobd s.objects.jobds)
 
+-- CRTSBSD: a description without entries
 abbrev pub make_description : State → Crtsbsd → Stepped
 make_description s c = made_unless s (with_sbsd c.sbsd c.maxjobs s.objects) (object_refusal kind.Sbsd c.sbsd s.objects.sbsds)
 
+-- the queue entry that ADDJOBQE names
 abbrev pub queue_entry_of : Addjobqe → QueueEntry
 queue_entry_of c = record { seq = c.seqnbr; jobq = c.jobq; maxact = c.maxact; maxpty = c.maxpty }
 
+-- ADDJOBQE
 abbrev pub add_queue : State → Addjobqe → Stepped
 add_queue s c =
     made_unless s (with_description c.sbsd (with_queue (queue_entry_of c)) s.objects)
     (unless_in_use s c.sbsd (queue_refusal s.objects c.sbsd (queue_entry_of c)))
 
+-- the routing entry that ADDRTGE names
 abbrev pub route_entry_of : Addrtge → RouteEntry
 route_entry_of c = record { seq = c.seqnbr; cmp = c.cmpval; pgm = c.pgm; cls = c.cls; maxact = c.maxact; poolid = c.poolid }
 
+-- ADDRTGE
 abbrev pub add_route : State → Addrtge → Stepped
 add_route s c =
     made_unless s (with_description c.sbsd (with_route (route_entry_of c)) s.objects)
     (unless_in_use s c.sbsd (route_refusal s.objects c.sbsd (route_entry_of c)))
 
+-- the autostart entry that ADDAJE names
 abbrev pub auto_entry_of : Addaje → AutoEntry
 auto_entry_of c = record { job = c.job; jobd = c.jobd }
 
+-- ADDAJE
 abbrev pub add_auto : State → Addaje → Stepped
 add_auto s c =
     made_unless s (with_description c.sbsd (with_auto (auto_entry_of c)) s.objects)
     (unless_in_use s c.sbsd (auto_refusal s.objects c.sbsd (auto_entry_of c)))
 
+-- RMVJOBQE
 abbrev pub remove_queue : State → Rmvjobqe → Stepped
 remove_queue s c =
     made_unless s (with_description c.sbsd (without_queue c.jobq) s.objects)
     (unless_in_use s c.sbsd (remove_queue_refusal s.objects c.sbsd c.jobq))
 
+-- RMVRTGE
 abbrev pub remove_route : State → Rmvrtge → Stepped
 remove_route s c =
     made_unless s (with_description c.sbsd (without_route c.seqnbr) s.objects)
     (unless_in_use s c.sbsd (remove_route_refusal s.objects c.sbsd c.seqnbr))
 
+-- RMVAJE
 abbrev pub remove_auto : State → Rmvaje → Stepped
 remove_auto s c =
     made_unless s (with_description c.sbsd (without_auto c.job) s.objects)

@@ -13,6 +13,7 @@ use Rattle.wm_law.specs.declared.state.State.{State}
 use Rattle.wm_law.specs.Counts.{is_waiting}
 use Rattle.wm_law.specs.Reports.{phase_word}
 
+-- whether a job of the phase has ended
 abbrev pub is_ended : Phase → Bool
 is_ended Waiting = false
 is_ended Starting = false

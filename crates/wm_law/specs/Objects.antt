@@ -20,7 +20,7 @@ pub record IsTable {V : Type 0} (objects : List (QName × V)) : Type 0 where
   pub sorted : IsSortedOnce name_of qname_cmp objects
   pub most : length objects ≤ 1000
 
--- so it is with the objects of each kind
+-- the objects of each kind are a table
 pub record HasTables (objects : Objects) : Type 0 where
   pub classes : IsTable objects.classes
   pub jobqs : IsTable objects.jobqs

@@ -1,7 +1,6 @@
 -- Each job started was the first that its descriptions allowed, and none goes back, read off the states before and after an entry.
 use Rattle.std.specs.Prelude.{◌≡◌, ℕ, ◌≤◌, Bool, true, false, not, ◌&&◌, ◌==◌, ◌⊎◌, List, [], ◌∷◌, count_by, map, Option, Some, None, ⊤}
 use Rattle.std.specs.List.{list_any}
-use Rattle.std.specs.Ordering.{nat_cmp, is_lt, ordering_then}
 use Rattle.wm_base.specs.declared.job.EndCause.{EndCause}
 use Rattle.wm_base.specs.declared.job.EndCause.TheVariants as cause
 use Rattle.wm_base.specs.declared.job.How.{How}
@@ -9,10 +8,9 @@ use Rattle.wm_base.specs.declared.job.How.TheVariants.{FromQueue, Auto}
 use Rattle.wm_base.specs.declared.qname.QName.{QName}
 use Rattle.wm_base.specs.Limit.{is_below}
 use Rattle.wm_desc.specs.declared.description.Sbsd.{Sbsd}
-use Rattle.wm_desc.specs.declared.entry.QueueEntry.{QueueEntry}
 use Rattle.wm_desc.specs.declared.entry.RouteEntry.{RouteEntry}
 use Rattle.wm_desc.specs.declared.objects.Objects.{Objects}
-use Rattle.wm_desc.specs.Table.{object_named, same_qname}
+use Rattle.wm_desc.specs.Table.{object_named}
 use Rattle.wm_law.specs.declared.call.Entry.{Entry}
 use Rattle.wm_law.specs.declared.job.Job.{Job}
 use Rattle.wm_law.specs.declared.job.JobKind.{JobKind}
@@ -20,46 +18,15 @@ use Rattle.wm_law.specs.declared.job.JobKind.TheVariants.{Bch, Asj, Pj}
 use Rattle.wm_law.specs.declared.job.Phase.{Phase}
 use Rattle.wm_law.specs.declared.job.Phase.TheVariants.{Waiting, Starting, Handed, Running, Ended}
 use Rattle.wm_law.specs.declared.state.State.{State}
-use Rattle.wm_law.specs.declared.state.Sbs.{Sbs}
-use Rattle.wm_law.specs.Choice.{entry_for, holder, is_allowed, is_held, is_ready, is_sbs_active, maxpty_of}
+use Rattle.wm_law.specs.Choice.{Turn, is_before, is_held, is_ready, is_sbs_active, maxpty_of, turn_of}
 use Rattle.wm_law.specs.Counts.{is_active, is_by_route, is_from_priority, is_from_queue, is_waiting}
 use Rattle.wm_law.specs.History.{stepped}
 use Rattle.wm_law.specs.Kept.{GoesOn}
 use Rattle.wm_law.specs.Launch.{route}
-use Rattle.wm_law.specs.Laws.{IsIn, Turn}
+use Rattle.wm_law.specs.Laws.{IsIn, LeavesNone}
 use Rattle.wm_law.specs.Limits.{BecameStarting}
 
--- a turn, where the description has an entry for the queue
-abbrev pub turn_from : QName → Sbs → Sbsd → Option QueueEntry → Option Turn
-turn_from queue b d None = None
-turn_from queue b d (Some e) = Some (record { queue = queue; sbs = b; sbsd = d; entry = e })
-
--- where the subsystem has a description
-abbrev pub turn_described : QName → Sbs → Option Sbsd → Option Turn
-turn_described queue b None = None
-turn_described queue b (Some d) = turn_from queue b d (entry_for queue d)
-
--- where the queue has a holder
-abbrev pub turn_held : State → QName → Option Sbs → Option Turn
-turn_held s queue None = None
-turn_held s queue (Some b) = turn_described queue b (object_named b.sbsd s.objects.sbsds)
-
--- where there is a queue
-abbrev pub turn_queued : State → Option QName → Option Turn
-turn_queued s None = None
-turn_queued s (Some queue) = turn_held s queue (holder s queue)
-
--- the turn of a job: the holder of its queue, the holder's description, and the description's entry for the queue
-abbrev pub turn_of : State → Job → Option Turn
-turn_of s j = turn_queued s j.jobq
-
--- the holder is the same, and the triple of entry sequence number, priority and place is less
-abbrev pub is_before : Turn → Job → Turn → Job → Bool
-is_before t j u k =
-    same_qname t.sbs.sbsd u.sbs.sbsd
-    && is_lt (ordering_then (nat_cmp t.entry.seq u.entry.seq) (ordering_then (nat_cmp j.pty k.pty) (nat_cmp j.place k.place)))
-
--- where both have a turn
+-- whether the first of two jobs stands before the second, where both have a turn
 abbrev pub before_by : Option Turn → Job → Option Turn → Job → Bool
 before_by None j u k = false
 before_by (Some t) j None k = false
@@ -123,16 +90,6 @@ IsFullFor s t j k u =
     (is_below (counted_for s t j (is_from_queue u.sbs.sbsd u.entry.jobq)) u.entry.maxact ≡ false)
     ⊎ (is_below (counted_for s t j (is_from_priority u.sbs.sbsd u.entry.jobq k.pty)) (maxpty_of u.entry k.pty) ≡ false)
 
--- no job is ready and allowed
-abbrev pub LeavesNone : State → Type 0
-LeavesNone t =
-    (j : Job) (u : Turn)
-    → IsIn j t.jobs
-    → is_ready t j ≡ true
-    → turn_of t j ≡ Some u
-    → is_allowed t u.sbs u.sbsd u.entry j.pty ≡ true
-    → ⊥
-
 -- a job that was launched passed no ready job that stands before it, but where that one's limit was reached
 abbrev pub PassesNone : State → State → Type 0
 PassesNone s t =
@@ -184,7 +141,7 @@ pub record IsAutoRouted (objects : Objects) (j : Job) : Type 0 where
   pub routed : route sbsd j.rtgdta ≡ Some entry
   pub is_how : j.how ≡ Auto sbs entry.seq
 
--- so it is with each autostart job that became Starting
+-- each autostart job that became Starting is routed as its subsystem routes
 abbrev pub AutosFit : State → State → Type 0
 AutosFit s t = (j : Job) → BecameStarting s t j → j.kind ≡ Asj → IsAutoRouted t.objects j
 

@@ -25,15 +25,15 @@ abbrev pub kills : State → ℕ → ℕ
 kills s m = count_by (is_to_kill m) s.jobs
 
 -- how many orders Hand would give the monitor, one after another
-abbrev pub orders : State → ℕ → ℕ
-orders s m = kills s m + starting s
+abbrev pub orders_left : State → ℕ → ℕ
+orders_left s m = kills s m + starting s
 
 -- the lesser of two moments, where there is one
 abbrev pub sooner : Option ℕ → ℕ → Option ℕ
 sooner None moment = Some moment
 sooner (Some least) moment = Some (min least moment)
 
--- where there are none to two
+-- the lesser of two moments, of which each may lack
 abbrev pub soonest : Option ℕ → Option ℕ → Option ℕ
 soonest least None = least
 soonest least (Some moment) = sooner least moment
@@ -69,4 +69,4 @@ next_moment s = soonest (soonest (next_due s) (next_wish s)) (next_ending s)
 
 -- what waits for a monitor, known by the number of its pass
 abbrev pub pending : State → ℕ → Pending
-pending s m = record { orders = orders s m; next = next_moment s; active = active s; busy = busy s; power = s.power }
+pending s m = record { orders = orders_left s m; next = next_moment s; active = active s; busy = busy s; power = s.power }

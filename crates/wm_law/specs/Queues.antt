@@ -23,9 +23,11 @@ own_name queue = queue
 abbrev pub with_held_queue : State → QName → State
 with_held_queue s queue = record s { held = added own_name qname_cmp queue s.held }
 
+-- the queue is none of the held ones
 abbrev pub without_held_queue : State → QName → State
 without_held_queue s queue = record s { held = removed own_name same_qname queue s.held }
 
+-- HLDJOBQ of a queue that is an object
 abbrev pub hold_known : State → QName → Stepped
 hold_known s queue = if is_held s queue then refused s HeldAlready else record { reply = QueueHeld; state = with_held_queue s queue }
 
@@ -33,6 +35,7 @@ hold_known s queue = if is_held s queue then refused s HeldAlready else record {
 abbrev pub hold_queue : State → QName → Stepped
 hold_queue s queue = if is_some (object_named queue s.objects.jobqs) then hold_known s queue else refused s (NoObject kind.Jobq)
 
+-- RLSJOBQ of a queue that is an object
 abbrev pub release_known : State → QName → Stepped
 release_known s queue = if is_held s queue then record { reply = QueueReleased; state = without_held_queue s queue } else refused s NotHeld
 
@@ -40,6 +43,7 @@ release_known s queue = if is_held s queue then record { reply = QueueReleased; 
 abbrev pub release_queue : State → QName → Stepped
 release_queue s queue = if is_some (object_named queue s.objects.jobqs) then release_known s queue else refused s (NoObject kind.Jobq)
 
+-- whether the queue that a job has is this one
 abbrev pub is_on_queue : QName → Option QName → Bool
 is_on_queue queue None = false
 is_on_queue queue (Some q) = same_qname q queue

@@ -33,6 +33,7 @@ phased_at serial phase j = changed_at serial (in_phase phase) j
 abbrev pub with_phase : State → ℕ → Phase → State
 with_phase s serial phase = with_job s serial (in_phase phase)
 
+-- the job is handed to the monitor with its order, where it has one
 abbrev pub hand_order : State → ℕ → Job → Option StartOrder → Stepped
 hand_order s m j None = record { reply = Nothing; state = s }
 hand_order s m j (Some o) = record { reply = Order (Start o); state = with_phase s j.serial (Handed m) }
@@ -45,6 +46,7 @@ phase_word (Handed m) = word.Active
 phase_word (Running m) = word.Active
 phase_word (Ended c) = word.Ended
 
+-- whether a job of the phase is handed to the monitor
 abbrev pub is_handed_to : ℕ → Phase → Bool
 is_handed_to m Waiting = false
 is_handed_to m Starting = false
@@ -52,6 +54,7 @@ is_handed_to m (Handed n) = n == m
 is_handed_to m (Running n) = false
 is_handed_to m (Ended c) = false
 
+-- whether a job of the phase is run by the monitor
 abbrev pub is_run_by : ℕ → Phase → Bool
 is_run_by m Waiting = false
 is_run_by m Starting = false
@@ -59,6 +62,7 @@ is_run_by m (Handed n) = false
 is_run_by m (Running n) = n == m
 is_run_by m (Ended c) = false
 
+-- the job that was found is handed to the monitor
 abbrev pub start_job : State → ℕ → Option Job → Stepped
 start_job s m None = record { reply = Nothing; state = s }
 start_job s m (Some j) = hand_order s m j (order_of s j)
@@ -75,6 +79,7 @@ is_to_kill m j = is_run_by m j.phase && is_unhanded j.wish
 abbrev pub with_kill : Job → Job
 with_kill j = record j { wish = handed_wish j.wish }
 
+-- the kill of the job that was found is handed to the monitor; where there is none, a start
 abbrev pub hand_job : State → ℕ → Option Job → Stepped
 hand_job s m None = hand_start s m
 hand_job s m (Some j) = record { reply = Order (Kill j.serial); state = with_active s j.serial with_kill }
@@ -83,6 +88,7 @@ hand_job s m (Some j) = record { reply = Order (Kill j.serial); state = with_act
 abbrev pub hand : State → ℕ → Stepped
 hand s m = hand_job s m (find (is_to_kill m) s.jobs)
 
+-- a report on the job that was found, whose phase must pass the test
 abbrev pub report_on : State → ℕ → (Phase → Bool) → (Job → Phase) → Option Job → Stepped
 report_on s serial test phase None = refused s NoJob
 report_on s serial test phase (Some j) =
@@ -101,6 +107,7 @@ exit_cause exit.Killed = cause.Killed
 abbrev pub end_cause : Exit → Wish → EndCause
 end_cause end w = unwrap_or (now_cause w) (exit_cause end)
 
+-- UseDone on the job that was found
 abbrev pub done_with : State → ℕ → Option Job → Stepped
 done_with s m None = refused s NoJob
 done_with s m (Some j) = if is_run_by m j.phase then refused s NotInUse else refused s (WrongPhase (phase_word j.phase))

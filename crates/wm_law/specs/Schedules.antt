@@ -11,6 +11,7 @@ use Rattle.wm_when.specs.declared.schedule.TimeSpec.{TimeSpec}
 use Rattle.wm_when.specs.declared.schedule.TimeSpec.TheVariants.{Current as Now}
 use Rattle.wm_law.specs.declared.state.State.{State}
 
+-- the refusal of a schedule that names no moment
 abbrev pub due_refusal : DueFault → Refusal
 due_refusal Past = refusal.Past
 due_refusal OutOfRange = refusal.OutOfRange
@@ -24,7 +25,7 @@ or_refused (Err fault) = Err (due_refusal fault)
 abbrev pub scheduled : State → DateSpec → TimeSpec → Result ℕ Refusal
 scheduled s date time = or_refused (due_of (record { date = date; time = time }) s.clock s.offset_min)
 
--- the same where words may be left out: with one alone the other is *CURRENT, without both the moment stays
+-- the moment that the words name where they may be left out: with one alone the other is *CURRENT, without both the moment stays
 abbrev pub rescheduled : State → ℕ → Option DateSpec → Option TimeSpec → Result ℕ Refusal
 rescheduled s due None None = Ok due
 rescheduled s due None (Some time) = scheduled s Current time

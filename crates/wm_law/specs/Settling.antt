@@ -19,11 +19,13 @@ use Rattle.wm_law.specs.Launch.{launch}
 use Rattle.wm_law.specs.Reports.{in_phase}
 use Rattle.wm_law.specs.Wishes.{deadline, has_come, now_cause, told_now, with_wish}
 
+-- whether a subsystem of the phase is to end
 abbrev pub is_ending : SbsPhase → Bool
 is_ending Active = false
 is_ending (Ending until) = true
 is_ending Now = true
 
+-- whether a subsystem of the phase is to end now
 abbrev pub is_sbs_now : SbsPhase → Bool
 is_sbs_now Active = false
 is_sbs_now (Ending until) = false
@@ -41,6 +43,7 @@ sbs_phase_at clock Active = Active
 sbs_phase_at clock (Ending until) = if has_come clock until then Now else Ending until
 sbs_phase_at clock Now = Now
 
+-- the subsystem by the clock
 abbrev pub sbs_at : ℕ → Sbs → Sbs
 sbs_at clock b = record b { phase = sbs_phase_at clock b.phase }
 
@@ -48,6 +51,7 @@ sbs_at clock b = record b { phase = sbs_phase_at clock b.phase }
 abbrev pub with_deadline : ℕ → Job → Job
 with_deadline clock j = if is_active j.phase then with_wish (deadline clock j) j else j
 
+-- the job, ended where there is a cause
 abbrev pub ended_by : Option EndCause → Job → Job
 ended_by None j = j
 ended_by (Some c) j = in_phase (Ended c) j
@@ -97,15 +101,16 @@ start_jobs s = iterate next (λ c t. launch t c) (waiting s) s
 abbrev pub start_in : State → QName → State
 start_in s sbs = iterate (λ t. first t sbs) (λ c t. launch t c) (waiting s) s
 
--- the name stands before the first one that doesn't come before it in the order of simple names
-abbrev pub placed : QName → List QName → List QName
-placed q [] = q ∷ []
-placed q (r ∷ rs) = if is_lt (slice_cmp nat_cmp r.name q.name) then r ∷ placed q rs else q ∷ r ∷ rs
+-- the names with one more, before the first that doesn't come before it in the order of simple names
+abbrev pub inserted : QName → List QName → List QName
+inserted q [] = q ∷ []
+inserted q (r ∷ rs) = if is_lt (slice_cmp nat_cmp r.name q.name) then r ∷ inserted q rs else q ∷ r ∷ rs
 
 -- the names of subsystems, in the order of their simple names
 abbrev pub in_order : List Sbs → List QName
 in_order [] = []
-in_order (b ∷ bs) = placed b.sbsd (in_order bs)
+in_order (b ∷ bs) = inserted b.sbsd (in_order bs)
 
+-- the state settles: what is due ends, then subsystems leave, then jobs start
 abbrev pub settle : State → State
 settle s = start_jobs (leave (come_due s))

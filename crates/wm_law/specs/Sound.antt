@@ -69,14 +69,14 @@ pub record CameAsAuto (subsystems : List Sbs) (objects : Objects) (how : How) : 
   pub is_how : how ≡ Auto sbs.sbsd route.seq
 
 -- by its kind a job came from a queue or started with a subsystem; no prestart job is active yet
-abbrev pub IsPlaced : List Sbs → Objects → JobKind → Option QName → ℕ → How → Type 0
-IsPlaced subsystems objects Bch jobq pty how = CameFromQueue subsystems objects jobq pty how
-IsPlaced subsystems objects Asj jobq pty how = CameAsAuto subsystems objects how
-IsPlaced subsystems objects Pj jobq pty how = ⊥
+abbrev pub HasCome : List Sbs → Objects → JobKind → Option QName → ℕ → How → Type 0
+HasCome subsystems objects Bch jobq pty how = CameFromQueue subsystems objects jobq pty how
+HasCome subsystems objects Asj jobq pty how = CameAsAuto subsystems objects how
+HasCome subsystems objects Pj jobq pty how = ⊥
 
--- the how of each active job names what is there, that of a submitted job with the job's queue and priority
-abbrev pub HasPlaces : State → Type 0
-HasPlaces s = (j : Job) → IsIn j s.jobs → is_active j.phase ≡ true → IsPlaced s.started s.objects j.kind j.jobq j.pty j.how
+-- the how of each active job names what is there, that of a submitted job with its queue and priority
+abbrev pub ActiveHaveCome : State → Type 0
+ActiveHaveCome s = (j : Job) → IsIn j s.jobs → is_active j.phase ≡ true → HasCome s.started s.objects j.kind j.jobq j.pty j.how
 
 -- an autostart job has no queue, priority 5 and place 0, and isn't held
 pub record HasAutoValues (j : Job) : Type 0 where
@@ -92,7 +92,7 @@ pub record IsQueued (objects : Objects) (j : Job) : Type 0 where
   pub is_object : (queue : QName) → j.jobq ≡ Some queue → IsSome (object_named queue objects.jobqs)
   pub auto : j.kind ≡ Asj → HasAutoValues j
 
--- so it is with each job
+-- each job is queued as its kind has it
 abbrev pub HasQueues : State → Type 0
 HasQueues s = (j : Job) → IsIn j s.jobs → IsQueued s.objects j
 
@@ -110,7 +110,7 @@ pub record IsWished (j : Job) : Type 0 where
   pub waits : is_waiting j.phase ≡ true → has_wish j.wish ≡ false
   pub moment : IsMoment (wish_moment j.wish)
 
--- so it is with each job
+-- each job has no wish while it waits, and moments in their range
 abbrev pub HasWishes : State → Type 0
 HasWishes s = (j : Job) → IsIn j s.jobs → IsWished j
 
@@ -137,7 +137,7 @@ IsWithinStarted s = length s.started ≤ max_started
 pub record IsSound (s : State) : Type 0 where
   pub numbered : IsNumbered s
   pub jobs : HasJobsInOrder s
-  pub places : HasPlaces s
+  pub places : ActiveHaveCome s
   pub orders : HasOrders s
   pub names : HasDistinctNames s
   pub descriptions : HasDescriptions s
@@ -181,7 +181,7 @@ NoneIsDue = (s : State) (h : List Entry) → IsSound s → HasNoneDue s → HasN
 abbrev pub NothingDueStays : Type 0
 NothingDueStays = (s : State) → HasNoneDue s → come_due s ≡ s
 
--- and nothing comes due before the next moment of a wish or of an ending subsystem
+-- nothing comes due before the next moment of a wish or of an ending subsystem
 abbrev pub NoneDueBefore : Type 0
 NoneDueBefore = (s : State) (moment : ℕ) → HasNoneDue s → has_come moment (soonest (next_wish s) (next_ending s)) ≡ false → HasNoneDue (with_clock s moment)
 

@@ -73,22 +73,26 @@ submitted_job s user c d due =
 abbrev pub entered : State → Job → State
 entered s j = record s { jobs = s.jobs ++ j ∷ []; next_number = s.next_number + 1; next_serial = s.next_serial + 1; next_place = s.next_place + 1 }
 
+-- SBMJOB of a job that is due at the moment, while numbers are left
 abbrev pub submit_numbered : State → List ℕ → Sbmjob → Jobd → ℕ → Stepped
 submit_numbered s user c d due =
     if has_numbers s
     then record { reply = Submitted (job_name s user c) (queue_of c d); state = entered s (submitted_job s user c d due) }
     else refused s NumbersUsed
 
+-- SBMJOB of a job whose schedule was looked at
 abbrev pub submit_due : State → List ℕ → Sbmjob → Jobd → Result ℕ Refusal → Stepped
 submit_due s user c d (Err x) = refused s x
 submit_due s user c d (Ok due) = submit_numbered s user c d due
 
+-- SBMJOB of a job with its description, whose queue must be an object
 abbrev pub submit_described : State → List ℕ → Sbmjob → Jobd → Stepped
 submit_described s user c d =
     if is_some (object_named (queue_of c d) s.objects.jobqs)
     then submit_due s user c d (scheduled s c.scddate c.scdtime)
     else refused s (NoObject kind.Jobq)
 
+-- SBMJOB with the job description that was found
 abbrev pub submit_with : State → List ℕ → Sbmjob → Option Jobd → Stepped
 submit_with s user c None = refused s (NoObject kind.Jobd)
 submit_with s user c (Some d) = submit_described s user c d

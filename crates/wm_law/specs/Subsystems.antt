@@ -37,10 +37,11 @@ start_refusal s q =
 abbrev pub begun : State → QName → State
 begun s q = record s { started = s.started ++ record { sbsd = q; phase = Active } ∷ [] }
 
--- and then the jobs of its autostart entries are made and launched
+-- the state in which the subsystem is started, and the jobs of its autostart entries are made and launched
 abbrev pub started_up : State → QName → State
 started_up s q = fold (make_auto q) (begun s q) (autos_of s q)
 
+-- STRSBS, unless it is refused
 abbrev pub start_unless : State → QName → Option Refusal → Stepped
 start_unless s q (Some x) = refused s x
 start_unless s q None = record { reply = SbsStarted q; state = started_up s q }

@@ -1,5 +1,5 @@
 // Laws of the machine: what its definitions come to, each for all states. They are no calls.
-ghost use Rattle.wm_law.specs.Laws.{FirstIsLeast, NoFirstIsNone, NextIsFirst, NoNextIsNone, RouteIsLeast, NoRouteIsNone, SettledHasNoNext, SettledLeavesNone, RefusalLeaves, RefusedStepSettles, BuiltCallsAreAnswered, BuiltIsHad};
+ghost use Rattle.wm_law.specs.Laws.{FirstIsLeast, LesserComesBefore, NoFirstIsNone, NextIsFirst, NoNextIsNone, RouteIsLeast, NoRouteIsNone, SettledHasNoNext, SettledLeavesNone, RefusalLeaves, RefusedStepSettles, BuiltCallsAreAnswered};
 ghost use Rattle.wm_law.specs.Kept.{OpeningIsNumbered, StepKeepsNumbers, NumbersAreGivenOnce, StepGoesOn, SerialsStartOnce, SerialsAreKilledOnce, OpeningHasOrders, StepKeepsOrders, StartingJobsHaveOrders, HandGivesAnOrder, ReachedRouteIsLeast, OpeningHasDescriptions, StepKeepsDescriptions, StartedAreDescribed, OpeningIsQuiet, StepKeepsQuiet, NoneIsActiveWithoutPower, OpeningHasDistinctNames, StepKeepsNamesDistinct, StartedNamesAreDistinct, StartsInOrder};
 ghost use Rattle.wm_law.specs.Handing.{HandedKillIsLeast, HandedStartIsLeast};
 ghost use Rattle.wm_law.specs.Leaving.{EndingSubsystemsHaveJobs, StepLeavesEndingJobs};
@@ -7,11 +7,13 @@ ghost use Rattle.wm_law.specs.NextMoment.{NextMomentIsSoonest};
 ghost use Rattle.wm_law.specs.Sound.{AutostartJobsNeverWait, OpeningIsSound, StepKeepsSound, StatesAreSound, OpeningHasNoneDue, StepLeavesNoneDue, NoneIsDue, CallsLeaveNoneDue, NothingDueStays, NoneDueBefore, StepKeepsLimits, LimitsAreKept, StepKeepsOrder, OrderIsKept};
 
 /// The first job of a subsystem may start there, and no other job that may start there stands before
-/// it. Where there is no first job, no job may start there.
-#[tactic(auto, using(crate::proofs::Firsts::first_is_least, crate::proofs::Firsts::no_first_is_none))]
+/// it: by the sequence numbers of the queue entries, then the priorities, then the places. Where there
+/// is no first job, no job may start there.
+#[tactic(auto, using(crate::proofs::Firsts::first_is_least, crate::proofs::Firsts::no_first_is_none, crate::proofs::Ranks::comes_before))]
 pub fn first_job_is_least()
     ensures first { FirstIsLeast }
     ensures none { NoFirstIsNone }
+    ensures order { LesserComesBefore }
 {}
 
 /// The next job is the first of its subsystem: it may start, and no other job there that may start
@@ -133,12 +135,6 @@ pub fn next_moment_is_soonest()
 #[tactic(auto, using(crate::proofs::Answered::built_calls_are_answered))]
 pub fn built_calls_are_answered()
     ensures { BuiltCallsAreAnswered }
-{}
-
-/// The machine has what is built for users.
-#[tactic(auto, using(crate::proofs::Had::built_is_had))]
-pub fn built_commands_are_had()
-    ensures { BuiltIsHad }
 {}
 
 /// A history from the opening state reaches sound states only, whatever was called.

@@ -6,7 +6,7 @@ use Rattle.wm_law.specs.declared.call.Entry.{Entry}
 use Rattle.wm_law.specs.declared.pending.Pending.{Pending}
 use Rattle.wm_law.specs.declared.state.State.{State}
 use Rattle.wm_law.specs.History.{after, stepped}
-use Rattle.wm_law.specs.Pending.{orders, pending}
+use Rattle.wm_law.specs.Pending.{orders_left, pending}
 use Rattle.wm_law.proofs.History.{after-append}
 use Rattle.wm_journal.specs.History.{History, reached}
 use Rattle.wm_monitor.specs.Idle.{IsCalledFor, IsDueBy, NoneIsIdle, monitor_pass}
@@ -46,5 +46,5 @@ is_due s p due told now is next same passed =
     }
 
 -- there are as many orders as the machine tells of
-pub orders_told : (s : State) (p : Pending) → p ≡ pending s monitor_pass → p.orders ≡ orders s monitor_pass
+pub orders_told : (s : State) (p : Pending) → p ≡ pending s monitor_pass → p.orders ≡ orders_left s monitor_pass
 orders_told s p is = ap (λ (q : Pending). q.orders) is

@@ -9,7 +9,7 @@ use Rattle.wm_law.specs.declared.call.Entry.{Entry}
 use Rattle.wm_law.specs.declared.state.State.{State}
 use Rattle.wm_law.specs.History.{after}
 use Rattle.wm_law.specs.declared.pending.Pending.{Pending}
-use Rattle.wm_law.specs.Pending.{next_moment, orders, pending}
+use Rattle.wm_law.specs.Pending.{next_moment, orders_left, pending}
 use Rattle.wm_journal.specs.History.{History, reached, entry_at, with_call}
 use Rattle.wm_traits.specs.declared.fault.Failed.{Failed}
 use Rattle.wm_traits.specs.Told.{IsEmpty}
@@ -51,9 +51,9 @@ not_due (Some due) None f g same made = tt
 not_due (Some due) (Some now) f g same made = lt_of_not-le (λ passed. not_pushed f.log (entry_at f monitor_pass call.Tick now) (sym same ∙ ap (λ (h : History). h.log) (made passed)))
 
 -- no order was left, since no Hand was made
-no_order : (f g h : History) (p : Pending) → g.log ≡ f.log → h.log ≡ f.log → h.opened ≡ f.opened → p ≡ pending (reached h) monitor_pass → (p.orders ≡ 0) ⊎ (hands_of (since g.log h.log) ≡ 256) → orders (reached f) monitor_pass ≡ 0
+no_order : (f g h : History) (p : Pending) → g.log ≡ f.log → h.log ≡ f.log → h.opened ≡ f.opened → p ≡ pending (reached h) monitor_pass → (p.orders ≡ 0) ⊎ (hands_of (since g.log h.log) ≡ 256) → orders_left (reached f) monitor_pass ≡ 0
 no_order f g h p eg eh kept told (inl none) =
-    ap (λ (s : State). orders s monitor_pass) (sym (same_state f h kept eh)) ∙ (sym (orders_told (reached h) p told) ∙ none)
+    ap (λ (s : State). orders_left s monitor_pass) (sym (same_state f h kept eh)) ∙ (sym (orders_told (reached h) p told) ∙ none)
 no_order f g h p eg eh kept told (inr many) =
     let nothing : hands_of (since g.log h.log) ≡ 0 = ap (λ (log : List Entry). hands_of (since g.log log)) (eh ∙ sym eg) ∙ ap hands_of (drop-length g.log) in
     absurd (omega arith)

@@ -5,7 +5,7 @@ use Rattle.wm_law.specs.declared.call.Call.TheVariants.{Change, Hand, Started, S
 use Rattle.wm_law.specs.declared.call.Entry.{Entry}
 use Rattle.wm_law.specs.declared.state.State.{State}
 use Rattle.wm_law.specs.History.{stepped}
-use Rattle.wm_law.specs.Pending.{next_moment, orders}
+use Rattle.wm_law.specs.Pending.{next_moment, orders_left}
 
 -- the pass of the monitor
 abbrev pub monitor_pass : ℕ
@@ -20,7 +20,7 @@ pub record IsDueBy (s : State) (moment : ℕ) : Type 0 where
 -- a Hand is called for where there is an order for the monitor, a Tick where something is due by its moment
 abbrev pub IsCalledFor : State → ℕ → Call → Type 0
 IsCalledFor s moment (Change user c) = ⊤
-IsCalledFor s moment Hand = 1 ≤ orders s monitor_pass
+IsCalledFor s moment Hand = 1 ≤ orders_left s monitor_pass
 IsCalledFor s moment (Started serial) = ⊤
 IsCalledFor s moment (StartFailed serial why) = ⊤
 IsCalledFor s moment (Finished serial end) = ⊤

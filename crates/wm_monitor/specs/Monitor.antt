@@ -10,7 +10,7 @@ use Rattle.wm_law.specs.declared.call.Call.{Call}
 use Rattle.wm_law.specs.declared.call.Call.TheVariants as call
 use Rattle.wm_law.specs.declared.call.Entry.{Entry}
 use Rattle.wm_law.specs.History.{is_hand, is_monitor_call, orders, reports}
-use Rattle.wm_law.specs.Pending.{next_moment, orders as orders_left}
+use Rattle.wm_law.specs.Pending.{next_moment, orders_left}
 use Rattle.wm_traits.specs.declared.fault.Failed.{Failed}
 use Rattle.wm_traits.specs.declared.fault.StartFault.{StartFault}
 use Rattle.wm_traits.specs.declared.fault.StartFault.TheVariants as fault

@@ -20,7 +20,7 @@ pub fn enter<K: Keeper>(
     now: Moment,
 ) -> Result<(), MonitorFault>
     requires fit { IsCall call }
-    requires built { HasCall (reached journal.old.history) call }
+    requires built { HasCall call }
     ensures ok { OnOk result (journal.new.history ≡ with_call journal.old.history pass.now call now) }
     ensures err { OnErr result (journal.new.history ≡ journal.old.history) }
     ensures no_wait { IsErrOf result MonitorFault.WaitFault → ⊥ }

@@ -40,7 +40,7 @@ impl Monitor {
     ghost use Rattle.wm_traits.specs.Told.{Grows, IsEmpty};
     ghost use Rattle.wm_traits.specs.Cause.{raised};
     ghost use Rattle.wm_law.specs.declared.call.Call.{Call};
-    ghost use Rattle.wm_law.specs.Pending.{next_moment, orders, pending};
+    ghost use Rattle.wm_law.specs.Pending.{next_moment, orders_left, pending};
     ghost use Rattle.wm_journal.specs.History.{History, reached, with_call};
     ghost use Rattle.wm_monitor.specs.Asking.{AsksFirst};
     ghost use Rattle.wm_monitor.specs.Idle.{monitor_pass};
@@ -165,7 +165,7 @@ impl Monitor {
         clock: &mut C,
     ) -> Result<(), MonitorFault>
         requires clear { IsClear self.old }
-        requires called_for { 1 ≤ orders (reached journal.old.history) monitor_pass }
+        requires called_for { 1 ≤ orders_left (reached journal.old.history) monitor_pass }
         requires pass { pass.now ≡ monitor_pass }
         ensures hand { OnOk result (BeginsWithHand journal.old.history journal.new.history) }
         ensures moment { OnOk result (IfSome (C.coming clock.old) (HandsAt journal.old.history journal.new.history)) }

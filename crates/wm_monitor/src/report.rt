@@ -46,7 +46,7 @@ impl Report {
     pub fn call(&self) -> Call
         ensures call { result ≡ call_of self.now }
         ensures fit { IsCall result }
-        ensures built { (s : State) → HasCall s result }
+        ensures built { HasCall result }
     {
         match self {
             Report::Started(serial) => Call::Started(known(serial)),

@@ -1,9 +1,10 @@
 -- What a keeper in memory and its store have kept.
-use Rattle.std.specs.Prelude.{ℕ, List, Option, option_map}
+use Rattle.std.specs.Prelude.{ℕ, List, Option, option_map, map, string_bytes}
 use Rattle.wm_outside.specs.declared.memory.calls.Calls.{Calls}
 use Rattle.wm_outside.specs.declared.memory.keeper.MemKeeper.{MemKeeper}
 use Rattle.wm_outside.specs.declared.memory.store.MemStore.{MemStore}
 use Rattle.wm_traits.specs.declared.row.Row.{Row}
+use Rattle.wm_traits.specs.Told.{told_if}
 use Rattle.wm_outside.specs.Log.{tables_after, trail_of}
 
 -- the rows
@@ -30,3 +31,7 @@ store_trail s = option_map keeper_trail s.keeper
 
 abbrev pub store_faults : MemStore → ℕ
 store_faults s = s.faults
+
+-- the paths of its openings, in order, where they are told
+abbrev pub store_opened : MemStore → Option (List (List ℕ))
+store_opened s = told_if s.tells (map string_bytes s.opened.items)

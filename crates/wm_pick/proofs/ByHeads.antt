@@ -1,8 +1,8 @@
 -- The first by the heads of a subsystem's entries is the first of all its jobs.
 use Rattle.std.proofs.Common.{◌≡◌, ◌⊎◌, ℕ, ◌<◌, ◌≤◌, ◌==◌, ◌&&◌, Bool, true, false, cond, Option, Some, None, is_some, List, [], ◌∷◌, filter, option_map, option_and_then, refl, sym, ap, subst, ◌∙◌, inl, inr, arith}
 use Rattle.std.specs.List.{find}
-use Rattle.std.specs.Ordering.{nat_cmp}
-use Rattle.std.proofs.lemmas.Bool.{eq-eqb, and_parts, eqb-true}
+use Rattle.std.specs.Ordering.{is_lt, nat_cmp}
+use Rattle.std.proofs.lemmas.Bool.{eq-eqb, and_from, and_parts, eqb-true}
 use Rattle.wm_base.specs.declared.qname.QName.{QName}
 use Rattle.wm_base.specs.Limit.{is_below}
 use Rattle.wm_base.proofs.Tests.{all_three, all_four, of_four, guarded}
@@ -15,14 +15,16 @@ use Rattle.wm_law.specs.declared.choice.Candidate.{Candidate}
 use Rattle.wm_law.specs.declared.job.Job.{Job}
 use Rattle.wm_law.specs.declared.state.Sbs.{Sbs}
 use Rattle.wm_law.specs.declared.state.State.{State}
-use Rattle.wm_law.specs.Choice.{entry_for, first, has_entry, holder, is_allowed, is_ready, is_sbs_active, maxpty_of}
+use Rattle.wm_law.specs.Choice.{Turn, entry_for, first, has_entry, holder, is_allowed, is_before, is_ready, is_sbs_active, maxpty_of, place_cmp, rank_in}
 use Rattle.wm_law.specs.Counts.{count_in_sbs, count_from_queue, count_from_priority}
-use Rattle.wm_law.specs.Laws.{IsIn, Turn, MayStart, IsBefore, IsFirst}
+use Rattle.wm_law.specs.Laws.{ComesBefore, IsFirst, IsIn, MayStart}
 use Rattle.wm_law.proofs.ByNumber.{IsAscending, ascends, same_numbered}
 use Rattle.wm_law.proofs.Firsts.{candidate_of, first_of, no_first_is_none}
 use Rattle.wm_law.proofs.Members.{found_among, in_left, left_in}
 use Rattle.wm_law.proofs.Named.{own_name}
-use Rattle.wm_pick.specs.Heads.{IsOrderly, HeadsAreFirst, candidate_by, entry_head, first_by_heads, first_described, first_head, first_started, head_at, head_of, is_held_by, is_on, is_open, is_same_entry, is_turn, open_head, priorities, queues_in, queues_of, started_named, takes_jobs}
+use Rattle.wm_law.proofs.Ranks.{comes_before, level_ranks}
+use Rattle.wm_law.proofs.Turns.{has_turn as has_its_turn, is_turn as is_its_turn}
+use Rattle.wm_pick.specs.Heads.{IsOrderly, HeadsAreFirst, candidate_by, entry_head, first_by_heads, first_described, first_head, first_started, head_at, head_of, is_holder, is_on, is_open, is_same_entry, is_turn, open_head, priorities, queues_in, queues_of, started_named, takes_jobs}
 use Rattle.wm_pick.proofs.FirstGiven.{in_priorities, is_given, none_given, priorities_ascend}
 use Rattle.wm_pick.proofs.Nearest.{nearest, none_nearest, passes}
 
@@ -112,16 +114,10 @@ is_head s queue pty j e =
 no_head : (s : State) (queue : QName) (pty : ℕ) (k : Job) → IsIn k s.jobs → is_turn s queue pty k ≡ true → head_of s queue pty ≡ None → ⊥
 no_head s queue pty k i h e = let p = is_turn s queue pty in none_nearest (filter p s.jobs) e k (in_left p s.jobs k h i)
 
--- neither job stands before the other, so the numbers are the same
-level : (a b : ℕ) → (a < b → ⊥) → (b < a → ⊥) → a ≡ b
-level a b h k = omega arith
-
-level_turns : (d e : QueueEntry) (j k : Job) → (IsBefore d j e k → ⊥) → (IsBefore e k d j → ⊥) → (d.seq ≡ e.seq) × (j.pty ≡ k.pty) × (j.place ≡ k.place)
-level_turns d e j k f g =
-    let seq = level d.seq e.seq (λ h. f (inl h)) (λ h. g (inl h)) in
-    let pty = level j.pty k.pty (λ h. f (inr (inl (seq, h)))) (λ h. g (inr (inl (sym seq, h)))) in
-    let place = level j.place k.place (λ h. f (inr (inr (seq, pty, h)))) (λ h. g (inr (inr (sym seq, sym pty, h)))) in
-    (seq, pty, place)
+-- of one subsystem, a job that doesn't stand before another has no lesser rank there
+not_less : (t u : Turn) (j k : Job) (b : Bool) → is_lt (place_cmp (rank_in t j) (rank_in u k)) ≡ b → t.sbs.sbsd ≡ u.sbs.sbsd → (is_before t j u k ≡ true → ⊥) → b ≡ false
+not_less t u j k true e same h = absurd (h (and_from (same_qname t.sbs.sbsd u.sbs.sbsd) (is_lt (place_cmp (rank_in t j) (rank_in u k))) (subst (λ (q : QName). same_qname t.sbs.sbsd q ≡ true) same (own_name t.sbs.sbsd)) e))
+not_less t u j k false e same h = refl
 
 entry_on : (queue : QName) (d : Sbsd) (e : QueueEntry) → entry_for queue d ≡ Some e → e.jobq ≡ queue
 entry_on queue d e h = one_name e.jobq queue (found_among (λ (n : QueueEntry). same_qname n.jobq queue) d.queues e h).1
@@ -129,15 +125,20 @@ entry_on queue d e h = one_name e.jobq queue (found_among (λ (n : QueueEntry). 
 -- of one subsystem there is one first candidate
 one_first : (s : State) (sbs : QName) → IsOrderly s sbs → (j k : Job) (t u : Turn) → IsFirst s j t → IsFirst s k u → t.sbs.sbsd ≡ sbs → u.sbs.sbsd ≡ sbs → candidate_of j t ≡ candidate_of k u
 one_first s sbs o j k t u f g its other =
-    let same = level_turns t.entry u.entry j k (λ h. g.none_before j t f.job f.may (its ∙ sym other) h) (λ h. f.none_before k u g.job g.may (other ∙ sym its) h) in
+    let named : t.sbs.sbsd ≡ u.sbs.sbsd = its ∙ sym other in
+    let same =
+    level_ranks (rank_in t j) (rank_in u k)
+    (not_less t u j k (is_lt (place_cmp (rank_in t j) (rank_in u k))) refl named (g.none_before j t f.job f.may))
+    (not_less u t k j (is_lt (place_cmp (rank_in u k) (rank_in t j))) refl (sym named) (f.none_before k u g.job g.may)) in
+    let i = is_its_turn s j t f.may.turn in
+    let l = is_its_turn s k u g.may.turn in
     let serial : j.serial ≡ k.serial = o.serials j k f.job g.job f.may.ready g.may.ready same.2 in
-    let queues : Some t.queue ≡ Some u.queue = sym f.may.queue ∙ o.queues j k f.job g.job f.may.ready g.may.ready same.2 ∙ g.may.queue in
+    let queues : Some t.queue ≡ Some u.queue = sym i.queue ∙ o.queues j k f.job g.job f.may.ready g.may.ready same.2 ∙ l.queue in
     let queue : t.queue ≡ u.queue = cc in
-    let jobq : t.entry.jobq ≡ u.entry.jobq = entry_on t.queue t.sbsd t.entry f.may.entry ∙ queue ∙ sym (entry_on u.queue u.sbsd u.entry g.may.entry) in
+    let jobq : t.entry.jobq ≡ u.entry.jobq = entry_on t.queue t.sbsd t.entry i.entry ∙ queue ∙ sym (entry_on u.queue u.sbsd u.entry l.entry) in
     let seq : t.entry.seq ≡ u.entry.seq = same.0 in
     let pty : j.pty ≡ k.pty = same.1 in
     let place : j.place ≡ k.place = same.2 in
-    let named : t.sbs.sbsd ≡ u.sbs.sbsd = its ∙ sym other in
     cc
 
 -- the job may start in the subsystem by the entry of its description
@@ -162,23 +163,24 @@ record IsFirstThere (s : State) (sbs : QName) (c : Candidate) : Type 0 where
 
 module _ (s : State) (b : Sbs) (d : Sbsd) (named : started_named b.sbsd s.started ≡ Some b) (described : object_named b.sbsd s.objects.sbsds ≡ Some d) where
   may_start : (k : Job) (e : QueueEntry) → MayStartBy s b d k e → MayStart s k (turn_by b d e)
-  may_start k e m = record { ready = m.ready; queue = m.jobq; holder = m.held; sbsd = described; entry = m.described; allowed = m.allowed }
+  may_start k e m = record { ready = m.ready; turn = has_its_turn s k (turn_by b d e) (record { queue = m.jobq; holder = m.held; sbsd = described; entry = m.described }); allowed = m.allowed }
 
   -- a job that may start in the subsystem may do so by an entry of its description
   may_start_by : (k : Job) (u : Turn) → MayStart s k u → u.sbs.sbsd ≡ b.sbsd → MayStartBy s b d k u.entry
   may_start_by k u m its =
-      let held = held_named s u.queue u.sbs m.holder in
+      let i = is_its_turn s k u m.turn in
+      let held = held_named s u.queue u.sbs i.holder in
       let both : Some u.sbs ≡ Some b = sym held ∙ ap (λ (n : QName). started_named n s.started) its ∙ named in
       let sbs : u.sbs ≡ b = cc in
-      let texts : Some u.sbsd ≡ Some d = sym m.sbsd ∙ ap (λ (n : QName). object_named n s.objects.sbsds) its ∙ described in
+      let texts : Some u.sbsd ≡ Some d = sym i.sbsd ∙ ap (λ (n : QName). object_named n s.objects.sbsds) its ∙ described in
       let sbsd : u.sbsd ≡ d = cc in
-      let at_entry : entry_for u.queue d ≡ Some u.entry = ap (entry_for u.queue) (sym sbsd) ∙ m.entry in
+      let at_entry : entry_for u.queue d ≡ Some u.entry = ap (entry_for u.queue) (sym sbsd) ∙ i.entry in
       let queue : u.entry.jobq ≡ u.queue = entry_on u.queue d u.entry at_entry in
       record {
         is_in = (found_among (λ (n : QueueEntry). same_qname n.jobq u.queue) d.queues u.entry at_entry).0;
         ready = m.ready;
-        jobq = m.queue ∙ ap (λ (n : QName). Some n) (sym queue);
-        held = ap (holder s) queue ∙ m.holder ∙ ap (λ (x : Sbs). Some x) sbs;
+        jobq = i.queue ∙ ap (λ (n : QName). Some n) (sym queue);
+        held = ap (holder s) queue ∙ i.holder ∙ ap (λ (x : Sbs). Some x) sbs;
         described = ap (λ (n : QName). entry_for n d) queue ∙ at_entry;
         allowed =
             ap (λ (x : Sbs). is_allowed s x d u.entry k.pty) (sym sbs)
@@ -197,8 +199,8 @@ module _ (s : State) (b : Sbs) (d : Sbsd) (named : started_named b.sbsd s.starte
   opens : (k : Job) (e : QueueEntry) → MayStartBy s b d k e → is_open s b.sbsd d e ≡ true
   opens k e m =
       let f = four_parts e k.pty m.allowed in
-      all_three (is_held_by b.sbsd (holder s e.jobq)) (is_same_entry e (entry_for e.jobq d)) (is_below (count_from_queue b.sbsd e.jobq s.jobs) e.maxact)
-      (ap (is_held_by b.sbsd) m.held ∙ own_name b.sbsd)
+      all_three (is_holder b.sbsd (holder s e.jobq)) (is_same_entry e (entry_for e.jobq d)) (is_below (count_from_queue b.sbsd e.jobq s.jobs) e.maxact)
+      (ap (is_holder b.sbsd) m.held ∙ own_name b.sbsd)
       (ap (is_same_entry e) m.described ∙ eq-eqb e.seq e.seq refl)
       f.2
 
@@ -222,7 +224,7 @@ module _ (s : State) (b : Sbs) (d : Sbsd) (named : started_named b.sbsd s.starte
     entries_ascend : IsAscending (λ (e : QueueEntry). e.seq) d.queues
     entries_ascend = ascends (λ (e : QueueEntry). e.seq) d.queues (subst (λ (x : Option Sbsd). IsSortedOnce (λ (e : QueueEntry). e.seq) nat_cmp (queues_in x)) described o.entries)
 
-    held_by : (queue : QName) (h : Option Sbs) → holder s queue ≡ h → is_held_by b.sbsd h ≡ true → holder s queue ≡ Some b
+    held_by : (queue : QName) (h : Option Sbs) → holder s queue ≡ h → is_holder b.sbsd h ≡ true → holder s queue ≡ Some b
     held_by queue None e t = absurd (cc)
     held_by queue (Some h) e t =
         let same : h.sbsd ≡ b.sbsd = one_name h.sbsd b.sbsd t in
@@ -236,7 +238,7 @@ module _ (s : State) (b : Sbs) (d : Sbsd) (named : started_named b.sbsd s.starte
         h ∙ ap (λ (n : QueueEntry). Some n) (same_numbered (λ (n : QueueEntry). n.seq) d.queues entries_ascend f e j i (eqb-true f.seq e.seq t))
 
     -- none may start by an entry of a lesser number, nor by this entry with a lesser priority or place
-    none_before : (e : QueueEntry) (j : Job) → IsIn e d.queues → IsHead s e.jobq j.pty j → ((f : QueueEntry) → IsIn f d.queues → f.seq < e.seq → open_head s b.sbsd d f ≡ None) → ((p : ℕ) → IsIn p priorities → p < j.pty → head_at s b.sbsd e p ≡ None) → (k : Job) (f : QueueEntry) → IsIn k s.jobs → MayStartBy s b d k f → IsBefore f k e j → ⊥
+    none_before : (e : QueueEntry) (j : Job) → IsIn e d.queues → IsHead s e.jobq j.pty j → ((f : QueueEntry) → IsIn f d.queues → f.seq < e.seq → open_head s b.sbsd d f ≡ None) → ((p : ℕ) → IsIn p priorities → p < j.pty → head_at s b.sbsd e p ≡ None) → (k : Job) (f : QueueEntry) → IsIn k s.jobs → MayStartBy s b d k f → ComesBefore (rank_in (turn_by b d f) k) (rank_in (turn_by b d e) j) → ⊥
     none_before e j is_in head entries below k f i m (inl less) = has_open_head k f i m (entries f m.is_in less)
     none_before e j is_in head entries below k f i m (inr (inl less)) =
         let one : f ≡ e = same_numbered (λ (n : QueueEntry). n.seq) d.queues entries_ascend f e m.is_in is_in less.0 in
@@ -254,7 +256,7 @@ module _ (s : State) (b : Sbs) (d : Sbsd) (named : started_named b.sbsd s.starte
     chosen e p j gate is_in opened below head entries lesser =
         let at_priority : p ≡ j.pty = sym head.turn.level in
         let g = and_parts (is_sbs_active b.phase) (is_below (count_in_sbs b.sbsd s.jobs) d.maxjobs) gate in
-        let t = of_three (is_held_by b.sbsd (holder s e.jobq)) (is_same_entry e (entry_for e.jobq d)) (is_below (count_from_queue b.sbsd e.jobq s.jobs) e.maxact) opened in
+        let t = of_three (is_holder b.sbsd (holder s e.jobq)) (is_same_entry e (entry_for e.jobq d)) (is_below (count_from_queue b.sbsd e.jobq s.jobs) e.maxact) opened in
         let its_below : is_below (count_from_priority b.sbsd e.jobq j.pty s.jobs) (maxpty_of e j.pty) ≡ true = subst (λ (q : ℕ). is_below (count_from_priority b.sbsd e.jobq q s.jobs) (maxpty_of e q) ≡ true) at_priority below in
         let its_head : IsHead s e.jobq j.pty j = subst (λ (q : ℕ). IsHead s e.jobq q j) at_priority head in
         let its_lesser : (q : ℕ) → IsIn q priorities → q < j.pty → head_at s b.sbsd e q ≡ None = subst (λ (r : ℕ). (q : ℕ) → IsIn q priorities → q < r → head_at s b.sbsd e q ≡ None) at_priority lesser in
@@ -269,7 +271,9 @@ module _ (s : State) (b : Sbs) (d : Sbsd) (named : started_named b.sbsd s.starte
         record {
           job = head.job;
           may = may_start j e m;
-          none_before = λ k u i n its before. none_before e j is_in its_head entries its_lesser k u.entry i (may_start_by k u n its) before;
+          none_before = λ k u i n before. (
+              let both = and_parts (same_qname u.sbs.sbsd b.sbsd) (is_lt (place_cmp (rank_in u k) (rank_in (turn_by b d e) j))) before in
+              none_before e j is_in its_head entries its_lesser k u.entry i (may_start_by k u n (one_name u.sbs.sbsd b.sbsd both.0)) (comes_before (rank_in u k) (rank_in (turn_by b d e) j) both.1));
         }
 
     job_there : (c : Candidate) (e : QueueEntry) (j : Job) → IsFirst s j (turn_by b d e) → candidate_by b.sbsd e j ≡ c → IsFirstThere s b.sbsd c
@@ -304,13 +308,13 @@ by_answer s b d (Some c) h i o e =
 
 by_description : (s : State) (b : Sbs) (d : Option Sbsd) → started_named b.sbsd s.started ≡ Some b → object_named b.sbsd s.objects.sbsds ≡ d → IsOrderly s b.sbsd → IsAnswer s b.sbsd (first_described s b d)
 by_description s b None h i o = λ k u in_jobs m its.
-    let there : object_named b.sbsd s.objects.sbsds ≡ Some u.sbsd = ap (λ (n : QName). object_named n s.objects.sbsds) (sym its) ∙ m.sbsd in
+    let there : object_named b.sbsd s.objects.sbsds ≡ Some u.sbsd = ap (λ (n : QName). object_named n s.objects.sbsds) (sym its) ∙ (is_its_turn s k u m.turn).sbsd in
     cc
 by_description s b (Some d) h i o = by_answer s b d (first_described s b (Some d)) h i o refl
 
 by_start : (s : State) (sbs : QName) (b : Option Sbs) → started_named sbs s.started ≡ b → IsOrderly s sbs → IsAnswer s sbs (first_started s b)
 by_start s sbs None h o = λ k u in_jobs m its.
-    let there : started_named sbs s.started ≡ Some u.sbs = ap (λ (n : QName). started_named n s.started) (sym its) ∙ held_named s u.queue u.sbs m.holder in
+    let there : started_named sbs s.started ≡ Some u.sbs = ap (λ (n : QName). started_named n s.started) (sym its) ∙ held_named s u.queue u.sbs (is_its_turn s k u m.turn).holder in
     cc
 by_start s sbs (Some b) h o =
     let same : b.sbsd ≡ sbs = one_name b.sbsd sbs (found_among (λ (x : Sbs). same_qname x.sbsd sbs) s.started b h).1 in

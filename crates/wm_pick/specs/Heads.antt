@@ -60,9 +60,9 @@ abbrev pub entry_head : State → QName → QueueEntry → Option Candidate
 entry_head s sbs e = first_given (head_at s sbs e) priorities
 
 -- whether the holder of a queue is the subsystem
-abbrev pub is_held_by : QName → Option Sbs → Bool
-is_held_by sbs None = false
-is_held_by sbs (Some b) = same_qname b.sbsd sbs
+abbrev pub is_holder : QName → Option Sbs → Bool
+is_holder sbs None = false
+is_holder sbs (Some b) = same_qname b.sbsd sbs
 
 -- whether the entry that a description has for a queue is this one
 abbrev pub is_same_entry : QueueEntry → Option QueueEntry → Bool
@@ -71,7 +71,7 @@ is_same_entry e (Some f) = f.seq == e.seq
 
 -- the subsystem holds the entry's queue, the entry is the description's for that queue, and its count is below its limit
 abbrev pub is_open : State → QName → Sbsd → QueueEntry → Bool
-is_open s sbs d e = is_held_by sbs (holder s e.jobq) && is_same_entry e (entry_for e.jobq d) && is_below (count_from_queue sbs e.jobq s.jobs) e.maxact
+is_open s sbs d e = is_holder sbs (holder s e.jobq) && is_same_entry e (entry_for e.jobq d) && is_below (count_from_queue sbs e.jobq s.jobs) e.maxact
 
 -- the head of an entry that is open
 abbrev pub open_head : State → QName → Sbsd → QueueEntry → Option Candidate

@@ -1,4 +1,10 @@
 // Which job starts next: the entries of a subsystem in the order of their numbers, and at each the heads of its queue.
+//
+// Of those that wait and may start by now, the head of each queue and priority is at hand, and so are the counts of active
+// jobs. An entry is passed over where another subsystem holds its queue, where the queue is held, or where MAXACT is reached.
+// Else the head of each priority is looked at, from 1 on, and passed over where that priority's MAXPTY is reached: at most nine
+// looks an entry, however many jobs wait. The rule takes the least of all jobs that are ready and allowed; that the heads have
+// it is the law `heads_are_first`: whether a job is passed over hangs on its queue and its priority alone.
 ghost use Rattle.std.specs.Prelude.{◌≡◌};
 ghost use Rattle.std.specs.Ordering.{nat_cmp};
 ghost use Rattle.wm_desc.specs.Sorted.{IsSortedOnce};
@@ -74,7 +80,7 @@ impl<'a> Parts<'a> {
     ghost use Rattle.std.specs.Prelude.{◌≡◌, ◌+◌, ◌*◌, ◌≤◌, length, option_copied};
     ghost use Rattle.wm_law.specs.Choice.{has_entry, holder, first, next};
     ghost use Rattle.wm_pick.specs.NextHeads.{IsHead};
-    ghost use Rattle.wm_pick.specs.Heads.{started_named, takes_jobs, is_held_by, is_open, head_at, entry_head, open_head, first_head, first_by_heads, queues_of, IsOrderly};
+    ghost use Rattle.wm_pick.specs.Heads.{started_named, takes_jobs, is_holder, is_open, head_at, entry_head, open_head, first_head, first_by_heads, queues_of, IsOrderly};
 
     fn has_entry(&self, queue: &QName, sbs: &Sbs) -> bool
         ensures { result ≡ has_entry self.now queue.now sbs.now }
@@ -119,8 +125,8 @@ impl<'a> Parts<'a> {
                 .admits(self.count_in_sbs(&sbs.sbsd) as usize)
     }
 
-    fn is_held_by(&self, sbs: &QName, queue: &QName) -> bool
-        ensures { result ≡ is_held_by sbs.now (holder self.now queue.now) }
+    fn is_holder(&self, sbs: &QName, queue: &QName) -> bool
+        ensures { result ≡ is_holder sbs.now (holder self.now queue.now) }
     {
         match self.holder(queue) {
             None => false,
@@ -131,7 +137,7 @@ impl<'a> Parts<'a> {
     fn is_open(&self, sbs: &QName, description: &Sbsd, entry: &QueueEntry) -> bool
         ensures { result ≡ is_open self.now sbs.now description.now entry.now }
     {
-        self.is_held_by(sbs, &entry.jobq)
+        self.is_holder(sbs, &entry.jobq)
             && is_own_entry(description, entry)
             && entry
                 .maxact

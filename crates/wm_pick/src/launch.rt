@@ -50,7 +50,7 @@ fn starts_as(how: How) -> Launched
 impl<'a> Parts<'a> {
     ghost use Rattle.std.specs.Prelude.{◌≡◌, ℕ};
     ghost use Rattle.wm_base.specs.declared.job.How.{How};
-    ghost use Rattle.wm_law.specs.Launch.{program_fault, route_fault, as_auto, launched_as, launched};
+    ghost use Rattle.wm_law.specs.Launch.{program_fault, route_fault, as_auto, routed_in, launched};
     ghost use Rattle.wm_pick.specs.Routed.{as_routed};
 
     // Why what is called can't be started.
@@ -80,7 +80,7 @@ impl<'a> Parts<'a> {
 
     // The number of the routing entry by which a job starts in a subsystem, or why it ends.
     fn routed(&self, sbs: &QName, job: &Job) -> Result<u32, EndCause>
-        ensures { (how : ℕ → How) → launched_as self.now sbs.now how job.now ≡ as_routed how result }
+        ensures { (how : ℕ → How) → routed_in self.now sbs.now how job.now ≡ as_routed how result }
     {
         let entry = match self.objects.sbsds.object(sbs) {
             None => None,
@@ -112,7 +112,7 @@ impl<'a> Parts<'a> {
 
     /// What the launch of an autostart job makes of it in a subsystem.
     pub fn launched_auto(&self, sbs: &QName, job: &Job) -> Launched
-        ensures { result ≡ launched_as self.now sbs.now (as_auto sbs.now) job.now }
+        ensures { result ≡ routed_in self.now sbs.now (as_auto sbs.now) job.now }
     {
         match self.routed(sbs, job) {
             Err(cause) => ends_by(cause),

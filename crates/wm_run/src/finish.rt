@@ -34,7 +34,7 @@ impl Awaited {
 
 impl<K: Keeper> Run<K> {
     ghost use Rattle.std.specs.Prelude.{◌≡◌, ◌+◌, OnOk, OnErr, IfOk, IsErrOf, None, length};
-    ghost use Rattle.wm_law.specs.Pending.{active, orders, pending};
+    ghost use Rattle.wm_law.specs.Pending.{active, orders_left, pending};
     ghost use Rattle.wm_journal.specs.History.{reached};
     ghost use Rattle.wm_monitor.specs.Idle.{monitor_pass};
     ghost use Rattle.wm_monitor.specs.Journal.{HasJournalCauses};
@@ -57,7 +57,7 @@ impl<K: Keeper> Run<K> {
     ) -> Result<Pending, Halt>
         ensures part { MonitorAdvances P.asked P.told P.misses self.old.journal.history self.old.monitor spawner.old self.new.journal.history self.new.monitor spawner.new }
         ensures pending { IfOk result (λ p. p ≡ pending (reached self.new.journal.history) monitor_pass) }
-        ensures orders { OnOk result (orders (reached self.new.journal.history) monitor_pass ≡ 0) }
+        ensures orders { OnOk result (orders_left (reached self.new.journal.history) monitor_pass ≡ 0) }
         ensures clear { OnOk result (IsClear self.new.monitor) }
         ensures causes { HasMonitorCauses result (P.faults spawner.old) (P.faults spawner.new) }
         ensures journal { HasJournalCauses K.faults K.trail (IsErrOf result Halt.KeeperFault) (IsErrOf result Halt.LogFull) self.old.journal self.new.journal }
@@ -107,7 +107,7 @@ impl<K: Keeper> Run<K> {
         ensures serves { RunServes P.asked P.told P.misses self.old.journal.history self.old.monitor spawner.old self.new.journal.history self.new.monitor spawner.new }
         ensures not_begun { OnErr result (AtMostOne (start_call ctl.now) (entries_between self.old.journal.history self.new.journal.history)) }
         ensures begun { OnOk result (OneCall (start_call ctl.now) (entries_between self.old.journal.history self.new.journal.history)) }
-        ensures orders { OnOk result (length self.new.journal.history.log ≡ length self.old.journal.history.log + 1 → orders (reached self.new.journal.history) monitor_pass ≡ 0) }
+        ensures orders { OnOk result (length self.new.journal.history.log ≡ length self.old.journal.history.log + 1 → orders_left (reached self.new.journal.history) monitor_pass ≡ 0) }
         ensures quiet { OnOk result (length self.new.journal.history.log ≡ length self.old.journal.history.log + 1 → self.old.monitor.failed_kill ≡ None → IsEmpty (P.reporting spawner.old)) }
         ensures causes { HasMonitorCauses result (P.faults spawner.old) (P.faults spawner.new) }
         ensures journal { HasJournalCauses K.faults K.trail (IsErrOf result Halt.KeeperFault) (IsErrOf result Halt.LogFull) self.old.journal self.new.journal }

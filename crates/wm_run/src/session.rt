@@ -16,7 +16,7 @@ use std::sync::Wait;
 use wm_base::Name;
 use wm_clwords::ClFault;
 use wm_journal::Journal;
-use wm_law::{Call, Command, built_commands_are_had};
+use wm_law::{Call, Command};
 use wm_listing::LineFault;
 use wm_monitor::{MONITOR, Monitor, Turned, enter};
 use wm_traits::{Clock, Keeper, Sink, Spawner};
@@ -48,7 +48,7 @@ impl<K: Keeper> Run<K> {
     ghost use Rattle.std.specs.Option.{option_copied};
     ghost use Rattle.wm_law.specs.Built.{is_built};
     ghost use Rattle.wm_law.specs.Fit.{IsCall, HasCall, IsCommand};
-    ghost use Rattle.wm_law.specs.Pending.{next_moment, orders};
+    ghost use Rattle.wm_law.specs.Pending.{next_moment, orders_left};
     ghost use Rattle.wm_journal.specs.History.{reached, with_call, last_of};
     ghost use Rattle.wm_traits.specs.Told.{Grows, IsEmpty};
     ghost use Rattle.wm_traits.specs.Cause.{raised};
@@ -76,7 +76,7 @@ impl<K: Keeper> Run<K> {
         call: Call,
     ) -> Result<(), Halt>
         requires fit { IsCall call }
-        requires built { HasCall (reached self.old.journal.history) call }
+        requires built { HasCall call }
         ensures ok { OnOk result (Called self.old.journal.history call self.new.journal.history) }
         ensures moment { OnOk result (IfSome (C.coming clock.old) (λ now. self.new.journal.history ≡ with_call self.old.journal.history session_pass call now)) }
         ensures err { OnErr result (self.new.journal.history ≡ self.old.journal.history) }
@@ -198,12 +198,11 @@ impl<K: Keeper> Run<K> {
         ensures down { IfOk result (λ r. r.down ≡ is_down (entries_between self.old.journal.history self.new.journal.history)) }
         ensures stopped { OnErr result (IsCutShort (Calls user.now command)
             (entries_between self.old.journal.history self.new.journal.history) (O.written out.old) (O.written out.new)) }
-        ensures orders { OnOk result (length self.new.journal.history.log ≡ length self.old.journal.history.log + 1 → orders (reached self.new.journal.history) monitor_pass ≡ 0) }
+        ensures orders { OnOk result (length self.new.journal.history.log ≡ length self.old.journal.history.log + 1 → orders_left (reached self.new.journal.history) monitor_pass ≡ 0) }
         ensures quiet { OnOk result (length self.new.journal.history.log ≡ length self.old.journal.history.log + 1 → self.old.monitor.failed_kill ≡ None → IsEmpty (P.reporting spawner.old)) }
         ensures causes { HasCauses result (O.faults out.old) (O.faults out.new) (P.faults spawner.old) (P.faults spawner.new) }
         ensures journal { HasJournalCauses K.faults K.trail (IsErrOf result Halt.KeeperFault) (IsErrOf result Halt.LogFull) self.old.journal self.new.journal }
     {
-        built_commands_are_had();
         let change = user_call(alloc, user, command)?;
         self.call(alloc, clock, change)?;
         let answered = self.reply(alloc, out)?;

@@ -41,6 +41,8 @@ impl Store for SqlStore {
 
     ghost trail = { λ _. None };
 
+    ghost opened = { λ _. None };
+
     fn open(&mut self, path: &str) -> Result<SqlKeeper, KeepFault> {
         let opened = keeper::open(&self.rt, path);
         counted(&mut self.faults, opened)

@@ -11,7 +11,7 @@ use Rattle.wm_law.specs.declared.job.Wish.{Wish}
 use Rattle.wm_law.specs.declared.job.Wish.TheVariants as wish
 use Rattle.wm_law.specs.declared.state.Sbs.{Sbs}
 use Rattle.wm_law.specs.Counts.{is_starting}
-use Rattle.wm_law.specs.Endings.{is_ended, is_left_to_use, told}
+use Rattle.wm_law.specs.Endings.{is_ending_by, is_left_to_use, told}
 use Rattle.wm_law.specs.Jobs.{active_at}
 use Rattle.wm_law.specs.Reports.{phased_at}
 use Rattle.wm_law.specs.Settling.{is_sbs_now, job_at}
@@ -25,7 +25,7 @@ use Rattle.wm_subsystems.specs.declared.meant.Telling.TheVariants.{By, Clock}
 -- the subsystem is one of those that are meant
 abbrev pub passes : Those → Sbs → Bool
 passes (Named q) b = same_qname b.sbsd q
-passes (NotEnded option) b = not (is_ended option b.phase)
+passes (NotEnded option) b = not (is_ending_by option b.phase)
 passes EndingNow b = is_sbs_now b.phase
 
 -- the job as it is told

@@ -1,6 +1,6 @@
 // Subsystems end, and the requests that wait there go.
 ghost use Rattle.std.specs.Prelude.{◌≡◌, not, map, filter};
-ghost use Rattle.wm_law.specs.Endings.{end_phase, is_any, phased};
+ghost use Rattle.wm_law.specs.Endings.{end_phase, is_of_those, phased};
 ghost use Rattle.wm_subsystems.specs.Telling.{passes};
 
 use crate::meant::Those;
@@ -45,8 +45,8 @@ pub fn end_sbss(started: &mut SbsList, those: &Those, phase: &SbsPhase)
 }
 
 // Whether one of those subsystems has the name.
-fn is_any(those: &Those, started: &SbsList, name: &QName) -> bool
-    ensures { result ≡ is_any (passes those.now) started.now name.now }
+fn is_of_those(those: &Those, started: &SbsList, name: &QName) -> bool
+    ensures { result ≡ is_of_those (passes those.now) started.now name.now }
 {
     started
         .as_slice()
@@ -55,14 +55,14 @@ fn is_any(those: &Those, started: &SbsList, name: &QName) -> bool
 }
 
 fn drop_each(evokes: &mut Vec<Evoke>, those: &Those, started: &SbsList)
-    ensures { evokes.new.items ≡ filter (λ e. not (is_any (passes those.now) started.now e.sbs)) evokes.old.items }
+    ensures { evokes.new.items ≡ filter (λ e. not (is_of_those (passes those.now) started.now e.sbs)) evokes.old.items }
 {
-    evokes.retain(|evoke| !is_any(those, started, &evoke.sbs));
+    evokes.retain(|evoke| !is_of_those(those, started, &evoke.sbs));
 }
 
 /// The requests that wait in those subsystems go.
 pub fn drop_evokes(evokes: &mut Evokes, those: &Those, started: &SbsList)
-    ensures { evokes.new ≡ filter (λ e. not (is_any (passes those.now) started.now e.sbs)) evokes.old }
+    ensures { evokes.new ≡ filter (λ e. not (is_of_those (passes those.now) started.now e.sbs)) evokes.old }
 {
     drop_each(&mut evokes.items, those, started);
 }

@@ -41,6 +41,6 @@ pub use meant::{Telling, Those};
 pub use moments::{ahead, sbs_moment, soonest};
 pub use one_job::{end_job, has_wish, is_now, moment_after};
 pub use power::{down_by, is_down, is_on};
-pub use told::is_ended;
+pub use told::is_ending_by;
 pub use walk::{reserve_for_active, tell_all};
 pub use wishes::{handed_wish, now_cause};

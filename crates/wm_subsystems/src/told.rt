@@ -1,6 +1,6 @@
 // What a job is told, by its subsystem or by the clock.
 ghost use Rattle.std.specs.Prelude.{◌≡◌};
-ghost use Rattle.wm_law.specs.Endings.{is_ended, is_left_to_use};
+ghost use Rattle.wm_law.specs.Endings.{is_ending_by, is_left_to_use};
 ghost use Rattle.wm_law.specs.Settling.{is_sbs_now};
 ghost use Rattle.wm_law.specs.Wishes.{is_in_any, is_to_end};
 ghost use Rattle.wm_subsystems.specs.Telling.{passes, option_wish, newly_now, clock_wish, clock_cause, told_of};
@@ -24,8 +24,8 @@ fn is_sbs_now(phase: &SbsPhase) -> bool
 }
 
 /// Whether a subsystem ends already as the option would have it.
-pub fn is_ended(option: EndOption, phase: &SbsPhase) -> bool
-    ensures { result ≡ is_ended option phase.now }
+pub fn is_ending_by(option: EndOption, phase: &SbsPhase) -> bool
+    ensures { result ≡ is_ending_by option phase.now }
 {
     match option {
         EndOption::Cntrld => is_ending(phase),
@@ -39,7 +39,7 @@ pub(crate) fn passes(those: &Those, sbs: &Sbs) -> bool
 {
     match those {
         Those::Named(name) => sbs.sbsd == *name,
-        Those::NotEnded(option) => !is_ended(*option, &sbs.phase),
+        Those::NotEnded(option) => !is_ending_by(*option, &sbs.phase),
         Those::EndingNow => is_sbs_now(&sbs.phase),
     }
 }

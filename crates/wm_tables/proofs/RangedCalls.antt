@@ -17,12 +17,12 @@ use Rattle.wm_desc.specs.Ranges.{jobd_in_range, request_in_range, within}
 use Rattle.wm_desc.specs.Table.{object_named, same_qname}
 use Rattle.wm_desc.specs.declared.description.Jobd.{Jobd}
 use Rattle.wm_desc.specs.declared.objects.Objects.{Objects}
-use Rattle.wm_law.specs.Changing.{change_due, change_found, has_queue, moved_to, stays, with_due}
+use Rattle.wm_law.specs.Changing.{change_due, change_found, finds_queue, moved_to, stays, with_due}
 use Rattle.wm_law.specs.Choice.{is_held}
 use Rattle.wm_law.specs.Counts.{is_starting, is_waiting}
 use Rattle.wm_law.specs.Fit.{IsBetween, IsCall, IsCommand, IsExit, IsJobChange, IsQName, IsSubmission, IsTextOf}
 use Rattle.wm_law.specs.Holding.{hold_found, release_found, with_held}
-use Rattle.wm_law.specs.Endings.{down_by, end_active, end_found, end_in_phase, end_started, end_those, is_down, is_ended, is_wished, job_wish, started_named, told}
+use Rattle.wm_law.specs.Endings.{down_by, end_active, end_found, end_in_phase, end_started, end_those, is_down, is_ending_by, is_wished, job_wish, started_named, told}
 use Rattle.wm_law.specs.Jobs.{active_at, changed_at, waiting_at}
 use Rattle.wm_law.specs.Launch.{order_of}
 use Rattle.wm_law.specs.Laws.{IsIn}
@@ -210,11 +210,11 @@ queue_or : (wanted present : Option QName) → IfSome wanted IsQName → IsQueue
 queue_or None present w h = h
 queue_or (Some q) present w h = (w.lib, w.name)
 
-kind_or : (s : State) (wanted present : Option QName) → has_queue s wanted ≡ true → (q : QName) × (present ≡ Some q) × IsSome (object_named q s.objects.jobqs) → (q : QName) × (option_or wanted present ≡ Some q) × IsSome (object_named q s.objects.jobqs)
+kind_or : (s : State) (wanted present : Option QName) → finds_queue s wanted ≡ true → (q : QName) × (present ≡ Some q) × IsSome (object_named q s.objects.jobqs) → (q : QName) × (option_or wanted present ≡ Some q) × IsSome (object_named q s.objects.jobqs)
 kind_or s None present w h = h
 kind_or s (Some q) present w h = (q, refl, w)
 
-moved_job : (s : State) (c : Chgjob) (due : ℕ) (j : Job) → due ≤ 253402214399 → s.next_place < 2 ^ 64 → IsJobChange c → has_queue s c.jobq ≡ true → j.kind ≡ Bch → IsJobInRange s.objects j → IsJobInRange s.objects (moved_to c s.next_place due j)
+moved_job : (s : State) (c : Chgjob) (due : ℕ) (j : Job) → due ≤ 253402214399 → s.next_place < 2 ^ 64 → IsJobChange c → finds_queue s c.jobq ≡ true → j.kind ≡ Bch → IsJobInRange s.objects j → IsJobInRange s.objects (moved_to c s.next_place due j)
 moved_job s c due j late place fit queue e h =
     let a = h.stored in
     let jobq = option_or c.jobq j.jobq in
@@ -250,7 +250,7 @@ those_ended s option delay test power r = wished_range s (told option test s.sta
 
 sbs_ended : (s : State) (c : Endsbs) (o : Option Sbs) → IsInRange s → IsInRange (end_started s c o).state
 sbs_ended s c None r = r
-sbs_ended s c (Some b) r = either (is_ended c.option b.phase) _ _ (λ t. r) (λ t. those_ended s c.option c.delay (λ x. same_qname x.sbsd b.sbsd) s.power r)
+sbs_ended s c (Some b) r = either (is_ending_by c.option b.phase) _ _ (λ t. r) (λ t. those_ended s c.option c.delay (λ x. same_qname x.sbsd b.sbsd) s.power r)
 
 hold_range : (s : State) (o : Result Job Refusal) → IsSound s → IsInRange s → IsInRange (hold_found s o).state
 hold_range s (Err x) sound r = r
@@ -260,7 +260,7 @@ release_range : (s : State) (o : Result Job Refusal) → IsSound s → IsInRange
 release_range s (Err x) sound r = r
 release_range s (Ok j) sound r = either j.held _ _ (λ t. waiting_range s j.serial s.next_place (with_held false) (λ k i w x. held_job s.objects false k (waits_bch s k sound i w) x) r) (λ t. r)
 
-due_range : (s : State) (c : Chgjob) (j : Job) (o : Result ℕ Refusal) → ((due : ℕ) → o ≡ Ok due → due ≤ 253402214399) → IsJobChange c → has_queue s c.jobq ≡ true → IsSound s → IsInRange s → IsInRange (change_due s c j o).state
+due_range : (s : State) (c : Chgjob) (j : Job) (o : Result ℕ Refusal) → ((due : ℕ) → o ≡ Ok due → due ≤ 253402214399) → IsJobChange c → finds_queue s c.jobq ≡ true → IsSound s → IsInRange s → IsInRange (change_due s c j o).state
 due_range s c j (Err x) d fit q sound r = r
 due_range s c j (Ok due) d fit q sound r =
     either (stays c j) _ _
@@ -285,7 +285,7 @@ named_among s ref j e = left_in (is_named ref) s.jobs j (only_in (filter (is_nam
 change_range : (s : State) (c : Chgjob) (o : Result Job Refusal) → ((j : Job) → o ≡ Ok j → IsIn j s.jobs) → IsJobChange c → IsSound s → IsInRange s → IsInRange (change_found s c o).state
 change_range s c (Err x) n fit sound r = r
 change_range s c (Ok j) n fit sound r =
-    either (has_queue s c.jobq) _ _
+    either (finds_queue s c.jobq) _ _
     (λ t. due_range s c j (rescheduled s j.due c.scddate c.scdtime) (λ due e. again_within s j.due c.scddate c.scdtime due (r.jobs j (n j refl)).stored.due e) fit t sound r)
     (λ t. r)
 
@@ -409,7 +409,7 @@ change_keeps s user (command.Endjob c) name h sound r = job_ended s c (job_named
 change_keeps s user (command.Hldjobq c) name h sound r = hold_queue_range s c.jobq h r
 change_keeps s user (command.Rlsjobq c) name h sound r = release_queue_range s c.jobq r
 change_keeps s user (command.Clrjobq c) name h sound r = clear_range s c.jobq r
-change_keeps s user (command.Pwrdwnsys c) name h sound r = either (is_down c.option s.power) _ _ (λ t. r) (λ t. those_ended s c.option c.delay (λ b. not (is_ended c.option b.phase)) (down_by c.option) r)
+change_keeps s user (command.Pwrdwnsys c) name h sound r = either (is_down c.option s.power) _ _ (λ t. r) (λ t. those_ended s c.option c.delay (λ b. not (is_ending_by c.option b.phase)) (down_by c.option) r)
 change_keeps s user c name h sound r = r
 
 pub apply_keeps : (s : State) (caller : ℕ) (call : Call) → IsCall call → IsSound s → IsInRange s → IsInRange (apply s caller call).state

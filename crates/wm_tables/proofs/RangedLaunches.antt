@@ -24,7 +24,7 @@ use Rattle.wm_law.specs.Autos.{auto_described, auto_job, auto_launched, autos_of
 use Rattle.wm_law.specs.Counts.{count_by_route}
 use Rattle.wm_law.specs.Fit.{IsBetween}
 use Rattle.wm_law.specs.Jobs.{changed_at}
-use Rattle.wm_law.specs.Launch.{as_auto, as_launched, called_program, from_queue, is_match, launch, launch_job, launched, launched_as, launched_by, launched_through, missing_program, program_fault, route}
+use Rattle.wm_law.specs.Launch.{as_auto, as_launched, called_program, from_queue, is_match, launch, launch_job, launched, routed_in, starts_unless, routed_through, missing_program, program_fault, route}
 use Rattle.wm_law.specs.Laws.{IsIn}
 use Rattle.wm_law.specs.Power.{is_on}
 use Rattle.wm_law.specs.Submitting.{numbers_end, numbers_left, serials_end}
@@ -59,30 +59,30 @@ seq_range e h = at_both 1 9999 e.seq (and_parts _ (cmp_in_range e.cmp) (and_part
 
 -- what a launch comes to has a cause in range
 module _ (s : State) (how : ℕ → How) where
-  missing : (seq : ℕ) (o : Option Program) → IsPhase (stored_phase (launched_by how seq (missing_program o)).phase)
+  missing : (seq : ℕ) (o : Option Program) → IsPhase (stored_phase (starts_unless how seq (missing_program o)).phase)
   missing seq None = tt
   missing seq (Some p) = tt
 
-  faulty : (seq : ℕ) (pgm : Option QName) → IsPhase (stored_phase (launched_by how seq (program_fault s pgm)).phase)
+  faulty : (seq : ℕ) (pgm : Option QName) → IsPhase (stored_phase (starts_unless how seq (program_fault s pgm)).phase)
   faulty seq None = tt
   faulty seq (Some pgm) = missing seq (object_named pgm s.objects.programs)
 
-  through : (sbs : QName) (e : RouteEntry) (j : Job) (t : Bool) → (1 ≤ e.seq) × (e.seq ≤ 9999) → IsPhase (stored_phase (launched_by how e.seq (cond t (program_fault s (called_program e j.rqsdta)) (Some (RouteFull e.seq)))).phase)
+  through : (sbs : QName) (e : RouteEntry) (j : Job) (t : Bool) → (1 ≤ e.seq) × (e.seq ≤ 9999) → IsPhase (stored_phase (starts_unless how e.seq (cond t (program_fault s (called_program e j.rqsdta)) (Some (RouteFull e.seq)))).phase)
   through sbs e j true h = faulty e.seq (called_program e j.rqsdta)
   through sbs e j false h = h
 
-  routed : (sbs : QName) (d : Sbsd) (j : Job) (o : Option RouteEntry) → ((e : RouteEntry) → IsIn e d.routes → (1 ≤ e.seq) × (e.seq ≤ 9999)) → ((e : RouteEntry) → o ≡ Some e → IsIn e d.routes) → IsPhase (stored_phase (launched_through s sbs how j o).phase)
+  routed : (sbs : QName) (d : Sbsd) (j : Job) (o : Option RouteEntry) → ((e : RouteEntry) → IsIn e d.routes → (1 ≤ e.seq) × (e.seq ≤ 9999)) → ((e : RouteEntry) → o ≡ Some e → IsIn e d.routes) → IsPhase (stored_phase (routed_through s sbs how j o).phase)
   routed sbs d j None h k = tt
   routed sbs d j (Some e) h k = through sbs e j (is_below (count_by_route sbs e.seq s.jobs) e.maxact) (h e (k e refl))
 
-  found : (sbs : QName) (j : Job) (o : Option Sbsd) → AreInRange s.objects → object_named sbs s.objects.sbsds ≡ o → IsPhase (stored_phase (launched_through s sbs how j (option_and_then (λ d. route d j.rtgdta) o)).phase)
+  found : (sbs : QName) (j : Job) (o : Option Sbsd) → AreInRange s.objects → object_named sbs s.objects.sbsds ≡ o → IsPhase (stored_phase (routed_through s sbs how j (option_and_then (λ d. route d j.rtgdta) o)).phase)
   found sbs j None r e = tt
   found sbs j (Some d) r e =
       let m = described_in sbs s.objects.sbsds d e in
       let all : (n : RouteEntry) → IsIn n d.routes → (1 ≤ n.seq) × (n.seq ≤ 9999) = λ n i. seq_range n ((r.entries m.0 m.1).routes n (subst (λ (x : Sbsd). IsIn n x.routes) (sym m.2) i)).ranges in
       routed sbs d j (route d j.rtgdta) all (λ n f. (found_among (λ (x : RouteEntry). is_match x.cmp j.rtgdta) d.routes n f).0)
 
-  pub launched_range : (sbs : QName) (j : Job) → AreInRange s.objects → IsPhase (stored_phase (launched_as s sbs how j).phase)
+  pub launched_range : (sbs : QName) (j : Job) → AreInRange s.objects → IsPhase (stored_phase (routed_in s sbs how j).phase)
   launched_range sbs j r = found sbs j (object_named sbs s.objects.sbsds) r refl
 
 -- a job that was launched
@@ -168,7 +168,7 @@ made_one q t e count (Some d) h name named =
       range = record {
         objects = h.range.objects;
         held = h.range.held;
-        jobs = jobs_last t.objects t.jobs (auto_launched t q (auto_job t e d)) h.range.jobs (launched_job t.objects (auto_job t e d) (launched_as t q (as_auto q) (auto_job t e d)) phase job);
+        jobs = jobs_last t.objects t.jobs (auto_launched t q (auto_job t e d)) h.range.jobs (launched_job t.objects (auto_job t e d) (routed_in t q (as_auto q) (auto_job t e d)) phase job);
         clock = h.range.clock;
       };
       least = omega arith;

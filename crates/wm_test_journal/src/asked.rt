@@ -24,7 +24,7 @@ use wm_base::{Moment, Name};
 use wm_clwords::read_command;
 use wm_command::{Line, command};
 use wm_core::built;
-use wm_law::{Boxed, Call, Command, Pending, built_commands_are_had};
+use wm_law::{Boxed, Call, Command, Pending};
 
 /// The pass of a session.
 pub const SESSION: u32 = 0;
@@ -42,9 +42,8 @@ pub fn line_of(alloc: Global, user: &Name, text: &str) -> Result<Line>
 pub fn user_call(alloc: Global, user: &Name, command: Command) -> Result<Call>
     requires { IsCommand command }
     ensures fit { IfOk result IsCall }
-    ensures had { IfOk result (λ call. (s : State) → HasCall s call) }
+    ensures had { IfOk result HasCall }
 {
-    built_commands_are_had();
     ensure!(built(&command).is_ok(), "a command that isn't built");
     let _user = user.as_bytes();
     Ok(Call::Change {
@@ -56,7 +55,7 @@ pub fn user_call(alloc: Global, user: &Name, command: Command) -> Result<Call>
 fn line_call(alloc: Global, user: &Name, line: Line) -> Result<Call>
     requires { FitsMachine line }
     ensures fit { IfOk result IsCall }
-    ensures had { IfOk result (λ call. (s : State) → HasCall s call) }
+    ensures had { IfOk result HasCall }
 {
     match line {
         Line::Change(command) => {
@@ -76,7 +75,7 @@ fn call(
     answer: &mut String,
 ) -> Result<()>
     requires fit { IsCall call }
-    requires had { (s : State) → HasCall s call }
+    requires had { HasCall call }
 {
     let called = calls::call(alloc, journal, caller, call, Moment::new(NOW))?;
     write_called(alloc, journal.journal(), called, answer)

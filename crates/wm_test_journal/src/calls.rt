@@ -123,7 +123,7 @@ pub fn call(
     now: Moment,
 ) -> Result<Result<(), CallFault>>
     requires fit { IsCall call }
-    requires had { (s : State) → HasCall s call }
+    requires had { HasCall call }
 {
     let Some(pass) = pass_of(&opened.first, &opened.others, caller) else {
         drop(call);

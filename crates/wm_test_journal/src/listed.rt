@@ -61,7 +61,7 @@ impl Listed {
 
     fn call(&mut self, caller: u32, made: Call, answer: &mut String) -> Result<()>
         requires fit { IsCall made }
-        requires had { (s : State) → HasCall s made }
+        requires had { HasCall made }
     {
         let journal = self.journal.as_mut().context("no journal")?;
         if let Err(fault) = call(self.alloc, journal, caller, made, self.now)? {

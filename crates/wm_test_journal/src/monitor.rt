@@ -11,7 +11,7 @@ use wm_law::Call;
 // The report on a job, and the exit code where it ended.
 fn report_of(report: &str, serial: Serial, code: u8) -> Result<Call>
     ensures fit { IfOk result IsCall }
-    ensures had { IfOk result (λ call. (s : State) → HasCall s call) }
+    ensures had { IfOk result HasCall }
 {
     match report {
         "started" => Ok(Call::Started(serial)),
@@ -26,7 +26,7 @@ fn report_of(report: &str, serial: Serial, code: u8) -> Result<Call>
 /// The call that words are: `hand`, `tick`, or a report as `finished 2 0` of the job of serial 2.
 pub fn call_of(words: &str) -> Result<Call>
     ensures fit { IfOk result IsCall }
-    ensures had { IfOk result (λ call. (s : State) → HasCall s call) }
+    ensures had { IfOk result HasCall }
 {
     let (report, numbers) = first_word(words);
     if report == "hand" {

@@ -29,7 +29,7 @@ pub fn reply(
     now: Moment,
 ) -> Result<Reply, NoMemory>
     requires fit { IsCall call.now }
-    requires had { HasCall core.old.state call.now }
+    requires had { HasCall call.now }
 {
     core.step(alloc, caller, call, now)
 }

@@ -1,15 +1,15 @@
 // Calls of the machine, and commands by their CL texts.
 ghost use Rattle.std.specs.Prelude.{IfOk, IsTrue};
 ghost use Rattle.wm_command.specs.Printed.{FitsMachine};
-ghost use Rattle.wm_law.specs.Fit.{HasCommand, HasCall};
+ghost use Rattle.wm_law.specs.Fit.{HasCall};
 
 use anyhow::Result;
 use std::alloc::Global;
 use wm_base::Name;
 use wm_clwords::read_command;
 use wm_command::{Line, command};
-use wm_core::{Core, built};
-use wm_law::{Call, Command};
+use wm_core::built;
+use wm_law::Call;
 
 // The line that a CL text is.
 pub fn line_of(alloc: Global, user: &Name, text: &str) -> Result<Line>
@@ -20,21 +20,12 @@ pub fn line_of(alloc: Global, user: &Name, text: &str) -> Result<Line>
     Ok(line)
 }
 
-// Whether the machine has the command: it has each that is built for users.
-#[tactic(auto, using(wm_law::proofs::Had::built_is_had))]
-fn has_command(core: &Core, command: &Command) -> bool
-    ensures { IsTrue result → HasCommand core.now.state command.now }
-{
-    let _ = core;
-    built(command).is_ok()
-}
-
-/// Whether the machine has the call.
-pub fn has_call(core: &Core, call: &Call) -> bool
-    ensures { IsTrue result → HasCall core.now.state call.now }
+/// Whether the machine has the call: each of a monitor, and each command that is built for users.
+pub fn has_call(call: &Call) -> bool
+    ensures { IsTrue result → HasCall call.now }
 {
     match call {
-        Call::Change { command, .. } => has_command(core, command.get()),
+        Call::Change { command, .. } => built(command.get()).is_ok(),
         _ => true,
     }
 }

@@ -69,7 +69,7 @@ impl Tested {
     fn reply(&mut self, caller: u32, call: &Call) -> Result<Option<Reply>>
         requires { IsCall call.now }
     {
-        if !has_call(&self.core, call) {
+        if !has_call(call) {
             return self.copied_reply(call);
         }
         drop(self.copy.take());

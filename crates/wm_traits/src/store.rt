@@ -1,8 +1,8 @@
 // Where keepers come from.
-ghost use Rattle.std.specs.Prelude.{◌≡◌, ℕ, List, Option, IfOk, IfSome, OnErr, is_some};
+ghost use Rattle.std.specs.Prelude.{◌≡◌, ℕ, List, [], ◌∷◌, Option, IfOk, IfSome, OnErr, is_some};
 ghost use Rattle.wm_traits.specs.declared.row.Row.{Row};
 ghost use Rattle.wm_traits.specs.Rows.{IsInOrder};
-ghost use Rattle.wm_traits.specs.Told.{Stays};
+ghost use Rattle.wm_traits.specs.Told.{Grows, Stays};
 ghost use Rattle.wm_traits.specs.Cause.{HasKeepCause, PassesOn};
 
 use crate::{KeepFault, Keeper, Row};
@@ -20,12 +20,16 @@ pub trait Store {
     /// All tables that there were, the present ones last, told where `tables` is told.
     ghost trail: { Self → Option (List (List Row)) };
 
+    /// The paths of all openings, those that failed among them, in order, where they are told.
+    ghost opened: { Self → Option (List (List ℕ)) };
+
     /// Gives a keeper of the rows, which has counted no fault. An `Err` is want of memory, or a fault that was counted; after
     /// it the store has its rows.
     fn open(&mut self, path: &str) -> Result<Self::K, KeepFault>
         ensures fresh { IfOk result (λ keeper. Self.K.faults keeper ≡ 0) }
         ensures tables { IfOk result (λ keeper. Stays (tables self.old) (Self.K.tables keeper)) }
         ensures trail { IfOk result (λ keeper. Stays (trail self.old) (Self.K.trail keeper)) }
+        ensures opened { Grows (opened self.old) (opened self.new) (path.now ∷ []) }
         ensures err_tables { OnErr result (Stays (tables self.old) (tables self.new)) }
         ensures err_trail { OnErr result (Stays (trail self.old) (trail self.new)) }
         ensures cause { HasKeepCause (faults self.old) (faults self.new) result };
@@ -34,6 +38,7 @@ pub trait Store {
     fn close(&mut self, keeper: Self::K)
         ensures tables { Stays (Self.K.tables keeper) (tables self.new) }
         ensures trail { Stays (Self.K.trail keeper) (trail self.new) }
+        ensures opened { Stays (opened self.old) (opened self.new) }
         ensures faults { PassesOn (Self.K.faults keeper) (faults self.old) (faults self.new) };
 
     /// The rows stand in their order, and a table has each key once.

@@ -6,6 +6,7 @@ ghost use Rattle.wm_traits.specs.declared.fault.KeepFault.TheVariants.{Failed, N
 
 use super::calls::Calls;
 use super::change_log::ChangeLog;
+use std::alloc::Global;
 use wm_traits::{KeepFault, Keeper, Row, RowChange};
 
 /// A keeper of the rows that were there first and of the changes of each `apply` since. So an `apply` costs what its
@@ -35,6 +36,10 @@ impl MemKeeper {
             made: ChangeLog::new(alloc),
             calls: Calls::new(fail),
         }
+    }
+
+    pub(crate) fn alloc(&self) -> Global {
+        *self.began.allocator()
     }
 
     // The same keeper as it is opened, with no fault counted.

@@ -5,7 +5,8 @@ use Rattle.std.specs.Prelude.{Option}
 use Rattle.wm_law.specs.declared.job.Job.{Job}
 use Rattle.wm_law.specs.declared.launch.Launched.{Launched}
 use Rattle.wm_law.specs.Counts.{is_waiting}
-use Rattle.wm_law.specs.Launch.{launched, launched_at, launch_job}
+use Rattle.wm_law.specs.Jobs.{changed_at}
+use Rattle.wm_law.specs.Launch.{as_launched, launch_job, launched}
 use Rattle.wm_law.specs.Laws.{IsIn}
 use Rattle.wm_law.proofs.Firsts.{next_waits}
 use Rattle.wm_law.proofs.Settling.{not_waiting}
@@ -29,6 +30,6 @@ returns-clause-state c =
     let job : Job = c.in-Some.job.now in
     let found : find (λ (j : Job). j.serial == candidate.serial) s.jobs ≡ Some job = sym c.job.ensures.found ∙ ap option_copied c.in-Some.is in
     let same = ap (λ (t : Seen). launched t.state candidate.sbs candidate.jobq job) (sym c.self.view_is) in
-    let jobs : c.launch.new.self.jobs ≡ map (launched_at candidate.serial (launched s candidate.sbs candidate.jobq job)) s.jobs =
-    c.launch.ensures.jobs ∙ ap (λ (l : Launched). map (launched_at candidate.serial l) s.jobs) (c.launched-launched.ensures ∙ same) in
+    let jobs : c.launch.new.self.jobs ≡ map (changed_at candidate.serial (as_launched (launched s candidate.sbs candidate.jobq job))) s.jobs =
+    c.launch.ensures.jobs ∙ ap (λ (l : Launched). map (changed_at candidate.serial (as_launched l)) s.jobs) (c.launched-launched.ensures ∙ same) in
     rw (← c.self.view_is, c.launch.ensures.clock, c.launch.ensures.next_serial, c.launch.ensures.next_place) (ap (λ (js : List Job). record s { jobs = js }) jobs ∙ sym (ap (launch_job s candidate) found))

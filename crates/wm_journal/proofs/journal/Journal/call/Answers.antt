@@ -1,6 +1,5 @@
 use Rattle.std.proofs.Common.{◌≡◌, List, [], ◌∷◌, ◌++◌, sym, subst, ap, ◌∙◌, arith}
 use Rattle.wm_law.specs.declared.call.Entry.{Entry}
-use Rattle.wm_law.specs.Fit.{HasCall}
 use Rattle.wm_journal.specs.Keeping.{telling, IsKept}
 use Rattle.wm_journal.specs.History.{History, reached}
 use Rattle.wm_journal.specs.Journaled.{Journaled, IsJournal}
@@ -21,7 +20,7 @@ invariant_of-self-2 g c =
       journal = c.self.invariant;
       seat = (let v = c.number-caller.ensures.value in let r = c.number-caller.ensures.range in omega arith);
       fit = c.requires.fit;
-      built = subst (λ (now : Journaled _). HasCall (reached now.history) c.args.call) (sym c.self.view_is) c.requires.built;
+      built = c.requires.built;
       moment = c.get-moment.ensures.range;
       room = omega (arith, limit_of_most c.args.call j.limit c.self.invariant.limit, c.limit_of-limit.ensures, c.len.ensures, c.if-len-limit.false);
       reply = c.in_ok-reply.ensures.reply;
@@ -41,7 +40,7 @@ returns-clause-kept g c =
       journal = c.self.invariant;
       seat = (let v = c.number-caller.ensures.value in let r = c.number-caller.ensures.range in omega arith);
       fit = c.requires.fit;
-      built = subst (λ (now : Journaled _). HasCall (reached now.history) c.args.call) (sym c.self.view_is) c.requires.built;
+      built = c.requires.built;
       moment = c.get-moment.ensures.range;
       room = omega (arith, limit_of_most c.args.call j.limit c.self.invariant.limit, c.limit_of-limit.ensures, c.len.ensures, c.if-len-limit.false);
       reply = c.in_ok-reply.ensures.reply;
