@@ -26,10 +26,10 @@ BeginsWithHand-then old mid new now made grown =
 pub BeginsWithHand-only : (old new : History) (now : ℕ) → new ≡ with_call old monitor_pass call.Hand now → BeginsWithHand old new
 BeginsWithHand-only old new now made = record { entry = entry_at old monitor_pass call.Hand now; more = []; whole = ap (λ (h : History). h.log) made; call = refl }
 
-hands-append : (xs ys : List Entry) → hands_of (xs ++ ys) ≡ hands_of xs + hands_of ys
+pub hands-append : (xs ys : List Entry) → hands_of (xs ++ ys) ≡ hands_of xs + hands_of ys
 hands-append xs ys = sum_by-append (λ (e : Entry). cond (is_hand e.call) 1 0) xs ys
 
-hands_first : (e : Entry) (more : List Entry) → e.call ≡ call.Hand → 1 ≤ hands_of (e ∷ more)
+pub hands_first : (e : Entry) (more : List Entry) → e.call ≡ call.Hand → 1 ≤ hands_of (e ∷ more)
 hands_first e more is =
     let t : is_hand e.call ≡ true = ap is_hand is in
     let one : hands_of (e ∷ []) ≡ 1 = rw t refl in

@@ -3,6 +3,7 @@ pub mod Hands
 pub mod Histories
 pub mod Idles
 pub mod Journals
+pub mod Lengths
 pub mod Lists
 pub mod MonitorLoops
 pub mod Monitors

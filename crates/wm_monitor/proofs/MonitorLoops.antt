@@ -1,5 +1,5 @@
 -- What stays true while a monitor goes on.
-use Rattle.std.proofs.Common.{◌≡◌, ◌⊎◌, ℕ, ◌<◌, ◌≤◌, ◌+◌, List, length, Option}
+use Rattle.std.proofs.Common.{◌≡◌, ◌⊎◌, ℕ, ◌<◌, ◌≤◌, ◌+◌, ◌*◌, List, length, Option}
 use Rattle.wm_monitor.specs.Lists.{since}
 use Rattle.wm_monitor.specs.Monitor.{MonitorView, Advances, hands_of}
 use Rattle.wm_monitor.specs.View.{IsClear}
@@ -18,8 +18,8 @@ pub record TurnLoop (old new : MonitorView) (before now : ℕ) (Kept : Type 0) :
   pub looked : before ≤ now
   pub journal : Kept
 
--- a part has been done with so many Hands, the monitor keeps nothing, and no count has fallen; the same children have
--- a report, or the history is longer
+-- a part has been done with so many Hands, each with at most one entry behind it, the monitor keeps nothing, and no count has
+-- fallen; the same children have a report, or the history is longer
 pub record HandLoop (old new : MonitorView) (before now : ℕ) (monitor : Monitor) (reporting_before reporting_now : Option (List ℕ)) (made : ℕ) (Kept : Type 0) : Type 0 where
   pub part : Advances old new
   pub clear : IsClear monitor
@@ -27,6 +27,7 @@ pub record HandLoop (old new : MonitorView) (before now : ℕ) (monitor : Monito
   pub journal : Kept
   pub hands : made ≤ hands_of (since old.history.log new.history.log)
   pub most : hands_of (since old.history.log new.history.log) ≤ made
+  pub few : length new.history.log ≤ length old.history.log + 2 * hands_of (since old.history.log new.history.log)
   pub quiet : (reporting_now ≡ reporting_before) ⊎ (length old.history.log < length new.history.log)
 
 -- a part has been done with so many looks, each with an entry that is no Hand, the monitor keeps nothing, and no count has

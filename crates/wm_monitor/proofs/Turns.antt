@@ -104,7 +104,8 @@ WaitedSince-part a b c p ab bc kept told =
     let state : after c.opened (take (length b.log) c.log) ≡ reached b = ap (after c.opened) front ∙ ap (λ (s : State). after s b.log) kept in
     record { count = length b.log; least = omega arith; most = omega arith; pending = told ∙ ap (λ (s : State). pending s monitor_pass) (sym state) }
 
-Extends-none : {A : Type 0} (xs : List A) → Extends xs xs
+-- what hasn't grown
+pub Extends-none : {A : Type 0} (xs : List A) → Extends xs xs
 Extends-none xs = sym (ap (λ ys. xs ++ ys) (drop-length xs) ∙ append-nil xs)
 
 -- so it does where nothing came

@@ -1,5 +1,5 @@
 -- What a monitor does between two moments: it asks what it was ordered, and reports what it was told.
-use Rattle.std.specs.Prelude.{◌≡◌, ℕ, ◌+◌, ◌-◌, ◌^◌, ◌<◌, ◌≤◌, ◌==◌, ◌&&◌, Bool, true, false, min, List, [], ◌∷◌, ◌++◌, map, Option, None, IfSome, option_map, option_to_list, Result, Ok, Err, count_by}
+use Rattle.std.specs.Prelude.{◌≡◌, ℕ, ◌+◌, ◌-◌, ◌*◌, ◌^◌, ◌<◌, ◌≤◌, ◌==◌, ◌&&◌, Bool, true, false, min, List, [], ◌∷◌, ◌++◌, length, map, Option, None, IfSome, option_map, option_to_list, Result, Ok, Err, count_by}
 use Rattle.std.specs.List.{list_all}
 use Rattle.wm_base.specs.declared.job.Asked.{Asked}
 use Rattle.wm_base.specs.declared.job.Event.{Event}
@@ -101,6 +101,11 @@ pub record TicksInTime (old : History) (coming : Option ℕ) (new : History) : T
 -- how many Hands there are
 abbrev pub hands_of : List Entry → ℕ
 hands_of es = count_by (λ e. is_hand e.call) es
+
+-- the entries of one turn: at most 256 Hands, each with the report of its start, and at most 258 more, which are the kept report, a Tick and the reports of 256 looks
+pub record IsOneTurn (es : List Entry) : Type 0 where
+  pub hands : hands_of es ≤ 256
+  pub others : length es ≤ 2 * hands_of es + 258
 
 -- what stands around a monitor at a moment
 pub record MonitorView : Type 0 where

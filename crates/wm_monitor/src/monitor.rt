@@ -35,7 +35,7 @@ pub struct Turned {
 }
 
 impl Monitor {
-    ghost use Rattle.std.specs.Prelude.{◌≡◌, ◌⊎◌, ◌<◌, ◌≤◌, ◌+◌, ◌-◌, ◌∷◌, [], None, Some, Ok, false, true, length, OnOk, OnErr, IfOk, IfSome, IsErrOf};
+    ghost use Rattle.std.specs.Prelude.{◌≡◌, ◌⊎◌, ◌<◌, ◌≤◌, ◌+◌, ◌-◌, ◌*◌, ◌∷◌, [], None, Some, Ok, false, true, length, OnOk, OnErr, IfOk, IfSome, IsErrOf};
     ghost use Rattle.wm_base.specs.declared.job.Asked.TheVariants.{Kill};
     ghost use Rattle.wm_traits.specs.Told.{Grows, IsEmpty};
     ghost use Rattle.wm_traits.specs.Cause.{raised};
@@ -46,7 +46,7 @@ impl Monitor {
     ghost use Rattle.wm_monitor.specs.Idle.{monitor_pass};
     ghost use Rattle.wm_monitor.specs.Journal.{HasJournalCauses};
     ghost use Rattle.wm_monitor.specs.Lists.{since};
-    ghost use Rattle.wm_monitor.specs.Monitor.{BeginsWithHand, HandsAt, IsIdle, TicksInTime, as_reports, call_of, hands_of};
+    ghost use Rattle.wm_monitor.specs.Monitor.{BeginsWithHand, HandsAt, IsIdle, IsOneTurn, TicksInTime, as_reports, call_of, hands_of};
     ghost use Rattle.wm_monitor.specs.Turned.{WaitedSince};
     ghost use Rattle.wm_monitor.specs.View.{IsClear, MonitorAdvances, MonitorCalls};
 
@@ -140,6 +140,7 @@ impl Monitor {
         ensures due { OnOk result (IfSome (next_moment (reached journal.old.history)) (λ due. IfSome (C.coming clock.old) (λ now.
             due ≤ now → journal.new.history ≡ with_call journal.old.history monitor_pass Call.Tick now))) }
         ensures in_time { (journal.new.history ≡ journal.old.history) ⊎ TicksInTime journal.old.history (C.coming clock.old) journal.new.history }
+        ensures few { length journal.new.history.log ≤ length journal.old.history.log + 1 }
         ensures no_hand { hands_of (since journal.old.history.log journal.new.history.log) ≡ 0 }
         ensures kept { self.new ≡ self.old }
         ensures no_wait { IsErrOf result MonitorFault.WaitFault → ⊥ }
@@ -170,6 +171,7 @@ impl Monitor {
         ensures hand { OnOk result (BeginsWithHand journal.old.history journal.new.history) }
         ensures moment { OnOk result (IfSome (C.coming clock.old) (HandsAt journal.old.history journal.new.history)) }
         ensures one { hands_of (since journal.old.history.log journal.new.history.log) ≤ 1 }
+        ensures few { length journal.new.history.log ≤ length journal.old.history.log + 2 * hands_of (since journal.old.history.log journal.new.history.log) }
         ensures part { MonitorAdvances P.asked P.told P.misses journal.old.history self.old spawner.old journal.new.history self.new spawner.new }
         ensures clear { OnOk result (IsClear self.new) }
         ensures faults { P.faults spawner.old ≤ P.faults spawner.new }
@@ -206,6 +208,7 @@ impl Monitor {
         ensures pending { IfOk result (λ p. p ≡ pending (reached journal.new.history) monitor_pass) }
         ensures all { IfOk result (λ p. (p.orders ≡ 0) ⊎ (hands_of (since journal.old.history.log journal.new.history.log) ≡ 256)) }
         ensures most { hands_of (since journal.old.history.log journal.new.history.log) ≤ 256 }
+        ensures few { length journal.new.history.log ≤ length journal.old.history.log + 2 * hands_of (since journal.old.history.log journal.new.history.log) }
         ensures quiet { OnOk result ((P.reporting spawner.new ≡ P.reporting spawner.old) ⊎ (length journal.old.history.log < length journal.new.history.log)) }
         ensures clear { OnOk result (IsClear self.new) }
         ensures faults { P.faults spawner.old ≤ P.faults spawner.new }
@@ -296,6 +299,7 @@ impl Monitor {
         requires pass { pass.now ≡ monitor_pass }
         ensures part { MonitorAdvances P.asked P.told P.misses journal.old.history self.old spawner.old journal.new.history self.new spawner.new }
         ensures clear { OnOk result (IsClear self.new) }
+        ensures most { IsOneTurn (since journal.old.history.log journal.new.history.log) }
         ensures again { OnOk result (IfSome self.old.failed_kill (λ serial. AsksFirst (Kill serial) (P.asked spawner.old) (P.asked spawner.new))) }
         ensures faults { P.faults spawner.old ≤ P.faults spawner.new }
         ensures wait_fault { IsErrOf result MonitorFault.WaitFault → raised (P.faults spawner.old) ≤ P.faults spawner.new }

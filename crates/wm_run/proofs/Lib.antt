@@ -7,6 +7,7 @@ pub mod IdleCalls
 pub mod InputLoops
 pub mod Inputs
 pub mod Openings
+pub mod Linked
 pub mod Outcomes
 pub mod Runs
 pub mod Servings

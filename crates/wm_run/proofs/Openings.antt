@@ -1,5 +1,5 @@
 -- Laws of a run that opens: what its rows come to, and what it leaves of them.
-use Rattle.std.proofs.Common.{◌≡◌, ◌⊎◌, ℕ, ℤ, ◌<◌, ◌≤◌, true, List, [], Option, Some, None, IfSome, is_some, refl, sym, ap, subst, ◌∙◌, inl, inr, arith}
+use Rattle.std.proofs.Common.{◌≡◌, ◌⊎◌, ℕ, ℤ, ◌<◌, ◌≤◌, true, List, [], ◌∷◌, Option, Some, None, IfSome, is_some, refl, sym, ap, subst, ◌∙◌, inl, inr, arith}
 use Rattle.std.proofs.lemmas.Bool.{true≢false, false≢true}
 use Rattle.wm_journal.specs.History.{History, reached}
 use Rattle.wm_journal.specs.Trail.{HasTrail, tables_along, without_repeats}
@@ -12,14 +12,17 @@ use Rattle.wm_traits.specs.declared.fault.KeepFault.{KeepFault}
 use Rattle.wm_traits.specs.declared.fault.KeepFault.TheVariants as keep
 use Rattle.wm_traits.specs.declared.row.Row.{Row}
 use Rattle.wm_traits.specs.Told.{Grows, Stays}
-use Rattle.wm_run.specs.Kept.{HasHistory, HasOpened, open_status, store_status}
+use Rattle.wm_plan.specs.declared.plan.RunPlan.{RunPlan}
+use Rattle.wm_run.specs.Words.{OpensPlanned}
+use Rattle.wm_run.specs.Kept.{HasHistory, HasOpened, IsUnopened, open_status, store_status}
 use Rattle.wm_monitor.specs.Lists.{since}
 use Rattle.wm_monitor.specs.Idle.{NoneIsIdle}
 use Rattle.wm_journal.specs.Keeping.{Telling, IsOpened}
 use Rattle.wm_journal.specs.Stored.{HasTables}
 use Rattle.wm_journal.specs.declared.open_fault.OpenFault.{OpenFault}
 use Rattle.wm_journal.specs.declared.open_fault.OpenFault.TheVariants.{KeeperFault, BadRow, NoMemory}
-use Rattle.wm_journal.proofs.Staying.{Stays-grows}
+use Rattle.wm_journal.proofs.Staying.{Stays-grows, Stays-same}
+use Rattle.wm_chain.proofs.Starting.{runs_start_once}
 use Rattle.wm_tables.proofs.Restarts.{restart_is_sound}
 
 -- What is told later was told before
@@ -70,15 +73,17 @@ opened_run {Came} offset status log first last found opened closed h none same i
     let from : since first.log last.log ≡ last.log = ap (λ (l : List Entry). since l last.log) none in
     let whole : last ≡ record { opened = s; log = last.log } = ap (λ (t : State). record { opened = t; log = last.log }) same in
     let sound = restart_is_sound offset h.found s h.restart in
+    let steps : IsLegal s last.log = subst (λ (t : State). IsLegal t last.log) same legal in
     let busy : NoneIsIdle s last.log = subst (λ (es : List Entry). NoneIsIdle s es) from (subst (λ (t : State). NoneIsIdle t (since first.log last.log)) at no_idle) in
     subst P (sym is) (record {
       opened = s;
       rows = h.found;
       found = rows_found found.tables found.trail opened.trail closed.trail closed.tables h.found _ h.told h.trail untold both both';
       restart = h.restart;
-      legal = subst (λ (t : State). IsLegal t last.log) same legal;
+      legal = steps;
       limits = limits_are_kept s last.log sound;
       order = order_is_kept s last.log sound;
+      starts = runs_start_once offset h.found s last.log h.restart steps;
       no_idle = busy;
       idle = λ low. subst (λ (g : History). active (reached g) ≡ 0) whole (idle low);
       tables = subst (λ (g : History). HasTables (reached g) closed.tables) whole tables;
@@ -122,6 +127,7 @@ opened_of_store offset status log old found closed new tables trail tables' trai
       legal = h.legal;
       limits = h.limits;
       order = h.order;
+      starts = h.starts;
       no_idle = h.no_idle;
       idle = h.idle;
       tables = stays_if _ closed.tables new.tables tables' h.tables;
@@ -147,7 +153,7 @@ history_of_store offset status log old found closed new tables trail tables' tra
     })
 
 -- a run that didn't open
-pub not_opened : {Came : State → Type 0} (offset : ℤ) (status : ℕ) (log : List Entry) (old new : Telling) → 1 < status → log ≡ [] → Stays old.tables new.tables → Stays old.trail new.trail → ((s : State) → Came s) → HasHistory offset status log old new Came
+pub not_opened : {Came : State → Type 0} (offset : ℤ) (status : ℕ) (log : List Entry) (old new : Telling) → IsUnopened status → log ≡ [] → Stays old.tables new.tables → Stays old.trail new.trail → ((s : State) → Came s) → HasHistory offset status log old new Came
 not_opened offset status log old new early none tables trail came = inr (record { early = early; none = none; left = record { tables = tables; trail = trail }; came = came })
 
 -- The status of a run whose machine didn't open
@@ -156,6 +162,11 @@ pub open_high : (fault : OpenFault) → 1 < open_status fault
 open_high KeeperFault = omega arith
 open_high (BadRow n) = omega arith
 open_high NoMemory = omega arith
+
+pub open_early : (fault : OpenFault) → IsUnopened (open_status fault)
+open_early KeeperFault = refl
+open_early (BadRow n) = refl
+open_early NoMemory = refl
 
 pub open_low : (fault : OpenFault) → open_status fault < 11
 open_low KeeperFault = omega arith
@@ -174,6 +185,10 @@ pub store_high : (fault : KeepFault) → 1 < store_status fault
 store_high keep.Failed = omega arith
 store_high keep.NoMemory = omega arith
 
+pub store_early : (fault : KeepFault) → IsUnopened (store_status fault)
+store_early keep.Failed = refl
+store_early keep.NoMemory = refl
+
 pub store_low : (fault : KeepFault) → store_status fault < 11
 store_low keep.Failed = omega arith
 store_low keep.NoMemory = omega arith
@@ -189,6 +204,10 @@ pub words_high : (n m : ℕ) → n ≡ m → (m ≡ 2) ⊎ (m ≡ 6) → 1 < n
 words_high n m is (inl two) = omega arith
 words_high n m is (inr six) = omega arith
 
+pub words_early : (n m : ℕ) → n ≡ m → (m ≡ 2) ⊎ (m ≡ 6) → IsUnopened n
+words_early n m is (inl two) = subst IsUnopened (sym (is ∙ two)) refl
+words_early n m is (inr six) = subst IsUnopened (sym (is ∙ six)) refl
+
 pub words_low : (n m : ℕ) → n ≡ m → (m ≡ 2) ⊎ (m ≡ 6) → n < 11
 words_low n m is (inl two) = omega arith
 words_low n m is (inr six) = omega arith
@@ -197,3 +216,16 @@ words_low n m is (inr six) = omega arith
 pub words_unread : (n m : ℕ) → n ≡ m → (m ≡ 2) ⊎ (m ≡ 6) → n ≡ 3 → ⊥
 words_unread n m is (inl two) three = absurd (omega arith)
 words_unread n m is (inr six) three = absurd (omega arith)
+
+-- Which path was opened
+
+-- nothing was where the words made no plan, or memory was wanting for one
+pub unopened : (found : Option RunPlan) (n m : ℕ) (told : Option (List (List ℕ))) → n ≡ m → (m ≡ 2) ⊎ (m ≡ 6) → (m ≡ 2 → found ≡ None) → OpensPlanned found n told told
+unopened None n m told is why wrong = Stays-same told
+unopened (Some plan) n m told is (inl two) wrong = absurd (true≢false (ap is_some (wrong two)))
+unopened (Some plan) n m told is (inr six) wrong = inr (is ∙ six, Stays-same told)
+
+-- the store of the plan was
+pub opened_once : (found : Option RunPlan) (plan : RunPlan) (path : List ℕ) (status : ℕ) (old new : Option (List (List ℕ))) → found ≡ Some plan → path ≡ plan.store → Grows old new (path ∷ []) → OpensPlanned found status old new
+opened_once found plan path status old new is same grown =
+    subst (λ (o : Option RunPlan). OpensPlanned o status old new) (sym is) (inl (subst (λ (p : List ℕ). Grows old new (p ∷ [])) same grown))

@@ -1,5 +1,6 @@
 -- What a run makes of the rows that it finds, and leaves of them.
-use Rattle.std.specs.Prelude.{◌≡◌, ◌⊎◌, ℕ, ℤ, ◌<◌, ◌≤◌, List, [], Option, Some, IfSome}
+use Rattle.std.specs.Prelude.{◌≡◌, ◌⊎◌, ℕ, ℤ, ◌≤◌, true, List, [], ◌∷◌, Option, Some, IfSome, nat_eq}
+use Rattle.std.specs.List.{list_any}
 use Rattle.wm_journal.specs.Trail.{HasTrail}
 use Rattle.wm_law.specs.History.{after, IsLegal}
 use Rattle.wm_law.specs.Limits.{KeepsLimits}
@@ -15,6 +16,7 @@ use Rattle.wm_journal.specs.Keeping.{Telling, IsLeft}
 use Rattle.wm_journal.specs.Stored.{HasTables}
 use Rattle.wm_journal.specs.declared.open_fault.OpenFault.{OpenFault}
 use Rattle.wm_journal.specs.declared.open_fault.OpenFault.TheVariants as open_fault
+use Rattle.wm_chain.specs.Starts.{StartsOnce}
 use Rattle.wm_tables.specs.Restart.{IsBad, IsRestart}
 
 -- a run that opened: its history is one from a state of the rows that it found, where local time is so far ahead of UTC
@@ -27,6 +29,7 @@ pub record HasOpened (offset : ℤ) (status : ℕ) (log : List Entry) (old new :
   pub legal : IsLegal opened log
   pub limits : KeepsLimits opened log
   pub order : KeepsOrder opened log
+  pub starts : StartsOnce rows opened log
   pub no_idle : NoneIsIdle opened log
   pub idle : status ≤ 1 → active (after opened log) ≡ 0
   pub tables : HasTables (after opened log) new.tables
@@ -34,9 +37,17 @@ pub record HasOpened (offset : ℤ) (status : ℕ) (log : List Entry) (old new :
   -- and this is what came of the input
   pub came : Came opened
 
+-- the statuses of a run that didn't open
+abbrev pub unopened_statuses : List ℕ
+unopened_statuses = 2 ∷ 5 ∷ 6 ∷ 9 ∷ []
+
+-- a status is one of these
+abbrev pub IsUnopened : ℕ → Type 0
+IsUnopened status = list_any (nat_eq status) unopened_statuses ≡ true
+
 -- a run that didn't open: it has no entry, and left the rows
 pub record HasNotOpened (status : ℕ) (log : List Entry) (old new : Telling) (Came : State → Type 0) : Type 0 where
-  pub early : 1 < status
+  pub early : IsUnopened status
   pub none : log ≡ []
   pub left : IsLeft old new
   -- what came of the input holds of any state

@@ -5,6 +5,7 @@ pub mod Down
 pub mod Grown
 pub mod Halt
 pub mod Kept
+pub mod Laws
 pub mod Outcome
 pub mod Parsed
 pub mod Reads

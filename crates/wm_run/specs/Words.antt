@@ -1,10 +1,11 @@
 -- The words of the command line, and what a run goes by.
-use Rattle.std.specs.Prelude.{ℕ, Bool, List, Option, Some, None, is_some, codes, pos}
+use Rattle.std.specs.Prelude.{◌≡◌, ◌⊎◌, ℕ, Bool, List, [], ◌∷◌, Option, Some, None, is_some, codes, pos}
 use Rattle.wm_desc.specs.Opening.{qbatch}
 use Rattle.wm_plan.specs.Plans.{plan_of}
 use Rattle.wm_plan.specs.declared.plan.Plan.{Plan}
 use Rattle.wm_plan.specs.declared.plan.Plan.TheVariants.{Run, Drill}
 use Rattle.wm_plan.specs.declared.plan.RunPlan.{RunPlan}
+use Rattle.wm_traits.specs.Told.{Grows, Stays}
 use Rattle.wm_run.specs.declared.settings.Settings.{Settings}
 
 -- the plan of a run, where it is one
@@ -29,3 +30,12 @@ settings_in None = record { ctl = qbatch; user = codes "QUSER"; offset = pos 0; 
 -- what a run with these words goes by
 abbrev pub settings_of : List (List ℕ) → Settings
 settings_of words = settings_in (run_plan words)
+
+-- without a plan nothing is opened; else the path of its store is, once, or nothing where memory was wanting before
+abbrev pub OpensPlanned : Option RunPlan → ℕ → Option (List (List ℕ)) → Option (List (List ℕ)) → Type 0
+OpensPlanned None status old new = Stays old new
+OpensPlanned (Some plan) status old new = Grows old new (plan.store ∷ []) ⊎ ((status ≡ 6) × Stays old new)
+
+-- what a run with these words opens of a store
+abbrev pub OpensStoreOf : List (List ℕ) → ℕ → Option (List (List ℕ)) → Option (List (List ℕ)) → Type 0
+OpensStoreOf words status old new = OpensPlanned (run_plan words) status old new

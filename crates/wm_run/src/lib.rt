@@ -11,6 +11,7 @@ mod finish;
 mod halt;
 mod input;
 mod kept_run;
+mod laws;
 mod parse;
 mod parsed;
 mod passes;
@@ -21,5 +22,6 @@ mod whole_run;
 mod words;
 mod write;
 
+pub use laws::{bad_rows_do_not_open, runs_make_chains};
 pub use whole_run::{Ran, run};
 pub use words::{NO_MEMORY, WRONG_WORDS, run_plan};

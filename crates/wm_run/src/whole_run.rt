@@ -6,7 +6,7 @@ ghost use Rattle.wm_run.specs.Kept.{HasBadRow, HasHistory, store_status};
 ghost use Rattle.wm_run.specs.Outcome.{RunTakes};
 ghost use Rattle.wm_run.specs.Run.{IsRunStatus, IsServed};
 ghost use Rattle.wm_run.specs.Serving.{is_of_run};
-ghost use Rattle.wm_run.specs.Words.{is_run, settings_of};
+ghost use Rattle.wm_run.specs.Words.{OpensStoreOf, is_run, settings_of};
 ghost use Rattle.wm_journal.specs.Keeping.{telling};
 
 use crate::kept_run::run_kept;
@@ -66,6 +66,7 @@ pub fn run<I: Source, O: Sink, S: Store, P: Spawner, C: Clock, R: Wait>(
     ensures words { is_run (map string_bytes words.now) ≡ false → (result.status ≡ 2) ⊎ (result.status ≡ 6) }
     ensures run { is_run (map string_bytes words.now) ≡ true → result.status ≡ 2 → ⊥ }
     ensures unread { is_run (map string_bytes words.now) ≡ false → I.left input.new ≡ I.left input.old }
+    ensures opened { OpensStoreOf (map string_bytes words.now) result.status (S.opened store.old) (S.opened store.new) }
     ensures history { HasHistory (settings_of (map string_bytes words.now)).offset result.status result.log.items (telling S.tables S.trail store.old) (telling S.tables S.trail store.new)
         (RunTakes (settings_of (map string_bytes words.now)) (I.left input.old) (I.left input.new) result.status result.log.items (O.written out.old) (O.written out.new)) }
     ensures callers { list_all is_of_run result.log.items ≡ true }

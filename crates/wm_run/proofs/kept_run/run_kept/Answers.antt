@@ -6,8 +6,9 @@ use Rattle.wm_law.specs.declared.call.Entry.{Entry}
 use Rattle.wm_monitor.specs.Lists.{since}
 use Rattle.wm_run.specs.Grown.{entries_between}
 use Rattle.wm_journal.specs.Keeping.{telling, IsOpened}
+use Rattle.wm_run.specs.Kept.{IsUnopened}
 use Rattle.wm_run.specs.Outcome.{RunTakes}
-use Rattle.wm_run.proofs.Openings.{not_opened, open_high, open_low, open_unread, opened_run}
+use Rattle.wm_run.proofs.Openings.{not_opened, open_early, open_high, open_low, open_unread, opened_run}
 use Rattle.wm_run.proofs.Outcomes.{came_not, came_run}
 use Rattle.wm_monitor.specs.declared.report.Report.{Report}
 use Rattle.wm_run.specs.Run.{IsServed}
@@ -22,7 +23,7 @@ returns-in-Err-clause-history g c =
     let high : 1 < c.not_begun.result.status = omega (arith, is, open_high fault) in
     let came = came_not c.args.settings.now c.not_begun.result.status c.not_begun.result.log.items (g.I.Source.left c.args.input.now) (g.O.Sink.written c.args.out.now) high (omega (arith, is, open_low fault)) (λ three. open_unread fault (sym is ∙ three)) c.not_begun.ensures.log in
     let left = c.in-Err.ensures.err in
-    not_opened c.args.settings.now.offset c.not_begun.result.status c.not_begun.result.log.items _ _ high c.not_begun.ensures.log left.tables left.trail came
+    not_opened c.args.settings.now.offset c.not_begun.result.status c.not_begun.result.log.items _ _ (subst IsUnopened (sym is) (open_early fault)) c.not_begun.ensures.log left.tables left.trail came
 
 pub returns-in-Ok-clause-history : goal.returns-in-Ok-clause-history
 returns-in-Ok-clause-history g c =

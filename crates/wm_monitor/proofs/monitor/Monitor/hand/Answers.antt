@@ -3,6 +3,7 @@ use Rattle.wm_base.specs.declared.job.Asked.TheVariants.{Start, Kill}
 use Rattle.wm_monitor.proofs.Hands.{BeginsWithHand-only, BeginsWithHand-then, hands_at, one_hand}
 use Rattle.wm_monitor.proofs.Monitors.{kill_done, kill_kept, killed_part, nothing_part, started_part}
 use Rattle.wm_monitor.proofs.Histories.{own_call}
+use Rattle.wm_monitor.proofs.Lengths.{hand_then, only_hand}
 use Rattle.wm_monitor.proofs.monitor.Monitor.hand.Goals as goal
 
 pub returns-in-None-clause-part : goal.returns-in-None-clause-part
@@ -80,3 +81,24 @@ returns-in_ok-send_kept-in-Some-Start-clause-moment g c =
     let s = g.P.Spawner in
     let q = c.start.new.spawner in
     hands_at c.args.journal.now.history c.enter.new.journal.history c.send_kept.new.journal.history c.now.result (g.C.Clock.coming c.args.clock.now) c.now.ensures.told (own_call c.args.journal.now.history _ c.args.pass.now _ _ c.requires.pass c.in_ok-enter.ensures.ok) (c.send_kept.ensures.part (s.asked q) (s.told q) (s.misses q)).log
+
+pub returns-in-None-clause-few : goal.returns-in-None-clause-few
+returns-in-None-clause-few g c = only_hand c.args.journal.now.history c.enter.new.journal.history c.now.result (own_call c.args.journal.now.history _ c.args.pass.now _ _ c.requires.pass c.in_ok-enter.ensures.ok)
+
+pub returns-in_err-kill-in-Some-Kill-clause-few : goal.returns-in_err-kill-in-Some-Kill-clause-few
+returns-in_err-kill-in-Some-Kill-clause-few g c = only_hand c.args.journal.now.history c.enter.new.journal.history c.now.result (own_call c.args.journal.now.history _ c.args.pass.now _ _ c.requires.pass c.in_ok-enter.ensures.ok)
+
+pub returns-in_ok-kill-in-Some-Kill-clause-few : goal.returns-in_ok-kill-in-Some-Kill-clause-few
+returns-in_ok-kill-in-Some-Kill-clause-few g c = only_hand c.args.journal.now.history c.enter.new.journal.history c.now.result (own_call c.args.journal.now.history _ c.args.pass.now _ _ c.requires.pass c.in_ok-enter.ensures.ok)
+
+pub returns-in_err-send_kept-in-Some-Start-clause-few : goal.returns-in_err-send_kept-in-Some-Start-clause-few
+returns-in_err-send_kept-in-Some-Start-clause-few g c =
+    let s = g.P.Spawner in
+    let q = c.start.new.spawner in
+    hand_then c.args.journal.now.history c.enter.new.journal.history c.send_kept.new.journal.history c.now.result (own_call c.args.journal.now.history _ c.args.pass.now _ _ c.requires.pass c.in_ok-enter.ensures.ok) (c.send_kept.ensures.part (s.asked q) (s.told q) (s.misses q)).log c.send_kept.ensures.no_hand c.send_kept.ensures.few
+
+pub returns-in_ok-send_kept-in-Some-Start-clause-few : goal.returns-in_ok-send_kept-in-Some-Start-clause-few
+returns-in_ok-send_kept-in-Some-Start-clause-few g c =
+    let s = g.P.Spawner in
+    let q = c.start.new.spawner in
+    hand_then c.args.journal.now.history c.enter.new.journal.history c.send_kept.new.journal.history c.now.result (own_call c.args.journal.now.history _ c.args.pass.now _ _ c.requires.pass c.in_ok-enter.ensures.ok) (c.send_kept.ensures.part (s.asked q) (s.told q) (s.misses q)).log c.send_kept.ensures.no_hand c.send_kept.ensures.few

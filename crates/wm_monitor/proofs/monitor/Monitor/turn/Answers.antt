@@ -1,6 +1,7 @@
 use Rattle.std.proofs.Common.{◌≡◌, ◌∙◌, ◌-◌, length, arith}
 use Rattle.wm_monitor.proofs.Askings.{AsksFirst-again}
 use Rattle.wm_monitor.proofs.Hands.{handed_in}
+use Rattle.wm_monitor.proofs.Lengths.{handed_turn, one_turn, sent_turn, ticked_turn}
 use Rattle.wm_monitor.proofs.Monitors.{Proceeds-then}
 use Rattle.wm_monitor.proofs.Turns.{WaitedSince-part, idle_turn, quiet_since}
 use Rattle.wm_monitor.proofs.monitor.Monitor.turn.Goals as goal
@@ -110,3 +111,53 @@ returns-clause-idle g c made no_kill =
     let silent = c.retry.ensures.quiet (c.send_kept.ensures.kill ∙ no_kill) in
     let quiet = c.in_ok-pending.ensures.quiet in
     idle_turn f0 c.send_kept.new.journal.history c.tick.new.journal.history c.hands.new.journal.history f4 c.args.self.now.kept c.args.self.now.failed_kill c.in_ok-pending.pending (k.coming c.args.clock.now) (k.coming c.send_kept.new.clock) (s.reporting p) (s.reporting c.hands.new.spawner) kept.log ticked.log handed.log c.looks.ensures.part.log kept.opened ticked.opened handed.opened none no_kill c.in_ok-send_kept.ensures.sent c.send_kept.ensures.unread c.in_ok-tick.ensures.due c.in_ok-pending.ensures.pending c.in_ok-pending.ensures.all (quiet_since _ _ _ _ silent quiet) c.in_ok-looks.ensures.all
+
+pub returns-in_err-send_kept-clause-most : goal.returns-in_err-send_kept-clause-most
+returns-in_err-send_kept-clause-most g c =
+    let s = g.P.Spawner in
+    let p = c.args.spawner.now in
+    let kept = c.send_kept.ensures.part (s.asked p) (s.told p) (s.misses p) in
+    sent_turn c.args.journal.now.history c.send_kept.new.journal.history kept.log c.send_kept.ensures.no_hand c.send_kept.ensures.few
+
+pub returns-in_err-retry-clause-most : goal.returns-in_err-retry-clause-most
+returns-in_err-retry-clause-most g c =
+    let s = g.P.Spawner in
+    let p = c.args.spawner.now in
+    let kept = c.send_kept.ensures.part (s.asked p) (s.told p) (s.misses p) in
+    sent_turn c.args.journal.now.history c.send_kept.new.journal.history kept.log c.send_kept.ensures.no_hand c.send_kept.ensures.few
+
+pub returns-in_err-tick-clause-most : goal.returns-in_err-tick-clause-most
+returns-in_err-tick-clause-most g c =
+    let s = g.P.Spawner in
+    let p = c.args.spawner.now in
+    let q = c.retry.new.spawner in
+    let kept = c.send_kept.ensures.part (s.asked p) (s.told p) (s.misses p) in
+    let ticked = c.tick.ensures.part (s.asked q) (s.told q) (s.misses q) in
+    ticked_turn c.args.journal.now.history c.send_kept.new.journal.history c.tick.new.journal.history kept.log ticked.log c.send_kept.ensures.no_hand c.tick.ensures.no_hand c.send_kept.ensures.few c.tick.ensures.few
+
+pub returns-in_err-pending-clause-most : goal.returns-in_err-pending-clause-most
+returns-in_err-pending-clause-most g c =
+    let s = g.P.Spawner in
+    let p = c.args.spawner.now in
+    let q = c.retry.new.spawner in
+    let kept = c.send_kept.ensures.part (s.asked p) (s.told p) (s.misses p) in
+    let ticked = c.tick.ensures.part (s.asked q) (s.told q) (s.misses q) in
+    handed_turn c.args.journal.now.history c.send_kept.new.journal.history c.tick.new.journal.history c.hands.new.journal.history kept.log ticked.log c.hands.ensures.part.log c.send_kept.ensures.no_hand c.tick.ensures.no_hand c.send_kept.ensures.few c.tick.ensures.few c.hands.ensures.most c.hands.ensures.few
+
+pub returns-in_err-looks-clause-most : goal.returns-in_err-looks-clause-most
+returns-in_err-looks-clause-most g c =
+    let s = g.P.Spawner in
+    let p = c.args.spawner.now in
+    let q = c.retry.new.spawner in
+    let kept = c.send_kept.ensures.part (s.asked p) (s.told p) (s.misses p) in
+    let ticked = c.tick.ensures.part (s.asked q) (s.told q) (s.misses q) in
+    one_turn c.args.journal.now.history c.send_kept.new.journal.history c.tick.new.journal.history c.hands.new.journal.history c.looks.new.journal.history kept.log ticked.log c.hands.ensures.part.log c.looks.ensures.part.log c.send_kept.ensures.no_hand c.tick.ensures.no_hand c.looks.ensures.no_hand c.send_kept.ensures.few c.tick.ensures.few c.hands.ensures.most c.hands.ensures.few c.looks.ensures.most
+
+pub returns-clause-most : goal.returns-clause-most
+returns-clause-most g c =
+    let s = g.P.Spawner in
+    let p = c.args.spawner.now in
+    let q = c.retry.new.spawner in
+    let kept = c.send_kept.ensures.part (s.asked p) (s.told p) (s.misses p) in
+    let ticked = c.tick.ensures.part (s.asked q) (s.told q) (s.misses q) in
+    one_turn c.args.journal.now.history c.send_kept.new.journal.history c.tick.new.journal.history c.hands.new.journal.history c.looks.new.journal.history kept.log ticked.log c.hands.ensures.part.log c.looks.ensures.part.log c.send_kept.ensures.no_hand c.tick.ensures.no_hand c.looks.ensures.no_hand c.send_kept.ensures.few c.tick.ensures.few c.hands.ensures.most c.hands.ensures.few c.looks.ensures.most

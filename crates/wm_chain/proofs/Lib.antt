@@ -1,0 +1,7 @@
+mod Held
+mod Ordered
+pub mod Starting
+mod Trees
+mod SameRow
+mod OneState
+mod Chains
