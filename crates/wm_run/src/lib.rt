@@ -22,6 +22,9 @@ mod whole_run;
 mod words;
 mod write;
 
+pub use kept_run::run_kept;
 pub use laws::{bad_rows_do_not_open, runs_make_chains};
+pub use settings::Settings;
 pub use whole_run::{Ran, run};
 pub use words::{NO_MEMORY, WRONG_WORDS, run_plan};
+pub use write::write_all;

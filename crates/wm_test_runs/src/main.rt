@@ -1,4 +1,4 @@
-//! Tests of whole runs: scripts of commands with what a run over objects in memory writes, asks and records.
+//! Tests of whole runs: scripts of commands with what a run over objects in memory writes, asks and records; and drills.
 //!
 //! Each question of `data/*.txt` either sets what the next run is given, or runs, or shows one part of what the run did;
 //! `docs/TESTS.md` has them all. What no clause says is shown here: that runs succeed with ample memory, and that the
@@ -17,7 +17,7 @@ use subject::Runs;
 use wm_cases::{Subject, play};
 
 /// The files of cases.
-static FILES: [&str; 11] = [
+static FILES: [&str; 12] = [
     "scripts.txt",
     "faults.txt",
     "stores.txt",
@@ -29,6 +29,7 @@ static FILES: [&str; 11] = [
     "listings.txt",
     "endings.txt",
     "words.txt",
+    "drill.txt",
 ];
 
 fn play_all<R: AllocGlobal + Files + Print, S: Subject>(rt: &R, subject: &mut S) -> Result<()> {

@@ -1,16 +1,17 @@
 // The questions, and the run that they are about. `run` runs over a store of the given rows, `again` over the one that the run
 // before has left; `rows 11` shows the rows of a table of it; `no words` and `no lines` take
-// back what was given of these.
+// back what was given of these. `drill` drills with the given words; `text 7 5` shows the text of a seed and a number of jobs.
 use crate::given::{Failing, Given, unknown};
 use crate::rows::{store_of, write_table};
 use crate::shown::{push_asked, push_entry};
 use crate::told::Telling;
-use anyhow::Result;
+use anyhow::{Context, Result};
 use std::alloc::Global;
 use std::mem;
 use std::sync::Wait;
 use wm_base::Moment;
 use wm_cases::Subject;
+use wm_drill::{drill, drill_text};
 use wm_outside::{MemClock, MemSink, MemSource, MemSpawner, MemStore};
 use wm_run::{Ran, run};
 use wm_traits::{Spawner, Store};
@@ -131,6 +132,24 @@ impl<'a, W: Wait> Runs<'a, W> {
         Ok(())
     }
 
+    // Drills, and tells the status.
+    fn drill_and_tell(&mut self, answer: &mut String) -> Result<()> {
+        let given = &self.given;
+        let fails = given.fails(self.alloc, Failing::Write)?;
+        let mut sink = MemSink::in_pieces(self.alloc, fails, given.most.max(1));
+        let ran = drill(self.rt, self.alloc, &given.words, &mut sink);
+        self.keep(&ran, sink.bytes())?;
+        writeln!(answer, "status {}", self.status)?;
+        Ok(())
+    }
+
+    fn show_text(&self, of: &str, answer: &mut String) -> Result<()> {
+        let (seed, jobs) = of.split_once(' ').context("no number of jobs")?;
+        let text = drill_text(self.alloc, seed.parse::<u64>()?, jobs.parse::<u32>()?)?;
+        answer.push_str(String::from_utf8_lossy(self.alloc, &text)?.as_str())?;
+        Ok(())
+    }
+
     fn show_written(&self, answer: &mut String) -> Result<()> {
         let text = String::from_utf8_lossy(self.alloc, &self.written)?;
         answer.push_str(text.as_str())?;
@@ -145,6 +164,7 @@ impl<'a, W: Wait> Runs<'a, W> {
                 self.run_and_tell(answer)
             }
             "again" => self.run_and_tell(answer),
+            "drill" => self.drill_and_tell(answer),
             "written" => self.show_written(answer),
             "asked" => Ok(answer.push_str(self.asked.as_str())?),
             "log" => Ok(answer.push_str(self.log.as_str())?),
@@ -171,6 +191,7 @@ impl<'a, W: Wait> Subject for Runs<'a, W> {
                 self.given.input.clear();
                 Ok(())
             }
+            Some(("text", of)) => self.show_text(of, answer),
             Some(("rows", tab)) => write_table(&mut self.store, tab, answer),
             Some((word, text)) => self.given.set(self.alloc, word, text, answer),
         }

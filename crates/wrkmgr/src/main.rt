@@ -1,10 +1,13 @@
 //! The program `wrkmgr`: `main` reads the words of the command line, makes the store that they name and the other real
-//! objects, makes the one call of `run` and ends with its status. What is promised is the contract of `run` of `wm_run`.
+//! objects, makes the one call of `run` or of `drill`, and ends with its status. What is promised is the contract of `run` of
+//! `wm_run` and that of `drill` of `wm_drill`.
 #![tactic(auto)]
 
 ghost use Rattle.std.specs.Prelude.{◌≡◌, ◌⊎◌, IfErr, codes, false, map, string_bytes, true};
 ghost use Rattle.std.specs.Process.{exit_status};
 ghost use Rattle.std.specs.Str.{bytes_eq};
+ghost use Rattle.wm_drill.specs.Drill.{IsAmong, drill_statuses};
+ghost use Rattle.wm_drill.specs.Words.{is_drill};
 ghost use Rattle.wm_run.specs.Run.{IsRunStatus};
 ghost use Rattle.wm_run.specs.Words.{is_run};
 
@@ -13,9 +16,10 @@ use std::io::ErrorKind;
 use std::process::ExitCode;
 use std::sync::Wait;
 use wm_children::SysSpawner;
+use wm_drill::drill;
 use wm_outside::{MemKeeper, MemStore, ReadSource, SysClock, WriteSink};
-use wm_plan::RunPlan;
-use wm_run::{NO_MEMORY, WRONG_WORDS, run, run_plan};
+use wm_plan::{Plan, RunPlan, WordFault, read_words};
+use wm_run::{NO_MEMORY, WRONG_WORDS, run};
 use wm_sqlkeep::SqlStore;
 use wm_traits::{Spawner, Store};
 
@@ -120,17 +124,29 @@ fn run_planned<C: Spawner, R: Wait>(
     ExitCode::from(status)
 }
 
+// What the program ends with behind a drill with these words.
+fn drill_program<R: Wait>(rt: &R, host: &HostRuntime, words: &[String]) -> ExitCode
+    ensures words { is_drill (map string_bytes words.now) ≡ false → (exit_status result ≡ 2) ⊎ (exit_status result ≡ 6) }
+    ensures drill { is_drill (map string_bytes words.now) ≡ true → exit_status result ≡ 2 → ⊥ }
+    ensures statuses { IsAmong drill_statuses (exit_status result) }
+{
+    let mut out = WriteSink::new(host.stdout());
+    let ran = drill(rt, host.alloc(), words, &mut out);
+    ExitCode::from(ran.status)
+}
+
 fn main(rt: HostRuntime) -> ExitCode {
     let words = match words(&rt) {
         Ok(words) => words,
         Err(status) => return ExitCode::from(status),
     };
-    let plan = match run_plan(rt.alloc(), &words) {
-        Ok(plan) => plan,
-        Err(status) => return ExitCode::from(status),
-    };
-    let Ok(mut spawner) = SysSpawner::new(rt.alloc(), rt) else {
-        return ExitCode::from(NO_MEMORY);
-    };
-    run_planned(&rt, &rt, &words, &plan, &mut spawner)
+    match read_words(rt.alloc(), &words) {
+        Ok(Plan::Run(plan)) => match SysSpawner::new(rt.alloc(), rt) {
+            Ok(mut spawner) => run_planned(&rt, &rt, &words, &plan, &mut spawner),
+            Err(_) => ExitCode::from(NO_MEMORY),
+        },
+        Ok(Plan::Drill(_)) => drill_program(&rt, &rt, &words),
+        Err(WordFault::Bad) => ExitCode::from(WRONG_WORDS),
+        Err(WordFault::NoMemory) => ExitCode::from(NO_MEMORY),
+    }
 }

@@ -1,4 +1,4 @@
-use Rattle.std.proofs.Common.{◌≡◌, ◌<◌, ◌∙◌, map, string_bytes, ap, subst, sym, arith}
+use Rattle.std.proofs.Common.{◌≡◌, Err, ◌<◌, ◌∙◌, map, string_bytes, ap, subst, sym, arith}
 use Rattle.wm_journal.specs.Keeping.{telling}
 use Rattle.wm_journal.proofs.Staying.{Stays-same}
 use Rattle.wm_run.specs.Kept.{HasHistory, IsUnopened}
@@ -43,7 +43,7 @@ returns-in-Ok-open-clause-history g c =
 
 pub returns-in-Err-clause-opened : goal.returns-in-Err-clause-opened
 returns-in-Err-clause-opened g c =
-    unopened (run_plan (map string_bytes c.args.words.now)) c.not_begun.result.status c.in-Err.status (g.S.Store.opened c.args.store.now) c.not_begun.ensures.status c.in-Err.ensures.statuses c.in-Err.ensures.wrong
+    unopened (run_plan (map string_bytes c.args.words.now)) c.not_begun.result.status c.in-Err.status (g.S.Store.opened c.args.store.now) c.not_begun.ensures.status c.in-Err.ensures.statuses (λ two. c.in-Err.ensures.wrong (ap Err two))
 
 pub returns-clause-opened : goal.returns-clause-opened
 returns-clause-opened g c =

@@ -1,0 +1,8 @@
+-- proofs/counting/submitted/Invariants.antt
+use Rattle.std.proofs.Common.{◌≡◌, ◌≤◌, count_by, take}
+use Rattle.wm_drill.specs.Counts.{submits}
+use Rattle.wm_drill.proofs.counting.submitted.Given as goal
+
+-- the entries so far, of which no more were counted than there are
+abbrev pub invariant-loop-entry : goal.invariant-loop-entry
+invariant-loop-entry l = (l.count ≡ count_by submits (take l.entry-index l.log)) × (l.count ≤ l.entry-index)

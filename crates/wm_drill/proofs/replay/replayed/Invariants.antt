@@ -1,0 +1,10 @@
+-- proofs/replay/replayed/Invariants.antt
+use Rattle.std.proofs.Common.{◌≡◌, pos, drop}
+use Rattle.wm_law.specs.History.{after, IsLegal}
+use Rattle.wm_law.specs.Opening.{opening}
+use Rattle.wm_drill.proofs.replay.replayed.Given as goal
+
+-- the entries that are left are legal, and reach what all entries reach
+abbrev pub invariant-loop-entry : goal.invariant-loop-entry
+invariant-loop-entry l =
+    IsLegal l.core.state (drop l.entry-index l.log) × (after l.core.state (drop l.entry-index l.log) ≡ after (opening (pos 0)) l.log)

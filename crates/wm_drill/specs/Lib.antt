@@ -1,0 +1,6 @@
+pub mod Counts
+pub mod Draws
+pub mod Drill
+pub mod Unfailing
+pub mod Text
+pub mod Words
