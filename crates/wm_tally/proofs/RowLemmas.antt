@@ -1,5 +1,5 @@
 -- What the edits of sorted rows leave of their numbers and of their order.
-use Rattle.std.proofs.Common.{◌≡◌, ℕ, zero, suc, ◌+◌, ◌-◌, ◌<◌, ◌≤◌, ◌==◌, Bool, true, false, cond, List, [], ◌∷◌, length, get_or, set, sum_by, insert, remove, inl, inr, refl, ap, sym, ◌∙◌, subst, arith}
+use Rattle.std.proofs.Common.{◌≡◌, ℕ, zero, suc, ◌+◌, ◌-◌, ◌<◌, ◌≤◌, ◌==◌, Bool, true, false, cond, List, [], ◌∷◌, length, get_or, set, take, sum_by, count_by, insert, remove, inl, inr, refl, ap, sym, ◌∙◌, subst, arith}
 use Rattle.std.specs.declared.cmp.Ordering.{Ordering}
 use Rattle.std.specs.declared.cmp.Ordering.TheVariants.{Less, Equal, Greater}
 use Rattle.std.specs.Cmp.{IsTotalOrder}
@@ -7,7 +7,9 @@ use Rattle.std.specs.List.{AllWithin}
 use Rattle.std.specs.Ordering.{is_eq}
 use Rattle.std.proofs.lemmas.Bool.{cases_lt, cond-true, cond-false}
 use Rattle.std.proofs.lemmas.Bool.Decides.{nat_tests}
-use Rattle.std.proofs.lemmas.List.Sums.{sum_by-cons, sum_by-insert, sum_by-set, sum_by-remove}
+use Rattle.std.proofs.lemmas.Cmp.{tied_itself}
+use Rattle.std.proofs.lemmas.List.{take_all}
+use Rattle.std.proofs.lemmas.List.Sums.{sum_by-cons, sum_by-insert, sum_by-set, sum_by-remove, sum_by_more, sum_by_more_le}
 use Rattle.wm_desc.specs.Place.{IsAt, IsGap}
 use Rattle.wm_tally.specs.Rows.{key_of, part_of, number_at, uncounted}
 
@@ -117,3 +119,23 @@ module _ {K : Type 0} (rows : List (K × ℕ)) (i : ℕ) (none : uncounted rows 
   counted-remove row lt =
       let whole : uncounted (remove rows i) + none_of (get_or rows i row) ≡ uncounted rows = sum_by-remove none_of rows i row lt in
       omega (arith, whole, none)
+
+-- how often a key stands among the first keys, and the next one
+module _ {K : Type 0} (eq : K → K → Bool) (keys : List K) (i : ℕ) (key : K) (lt : i < length keys) (here : key ≡ get_or keys i key) where
+  pub counted-next : (k : K) → count_by (λ x. eq x k) (take (i + 1) keys) ≡ count_by (λ x. eq x k) (take i keys) + cond (eq key k) 1 0
+  counted-next k =
+      let next = sum_by_more (λ x. cond (eq x k) 1 0) keys i key lt in
+      subst (λ (x : K). count_by (λ y. eq y k) (take (i + 1) keys) ≡ count_by (λ y. eq y k) (take i keys) + cond (eq x k) 1 0) (sym here) next
+
+  pub counted-within : (k : K) → count_by (λ x. eq x k) (take i keys) + cond (eq key k) 1 0 ≤ count_by (λ x. eq x k) keys
+  counted-within k =
+      let within = sum_by_more_le (λ x. cond (eq x k) 1 0) keys i key lt in
+      subst (λ (x : K). count_by (λ y. eq y k) (take i keys) + cond (eq x k) 1 0 ≤ count_by (λ y. eq y k) keys) (sym here) within
+
+-- and among all of them
+pub counted-all : {K : Type 0} (eq : K → K → Bool) (keys : List K) (i : ℕ) (k : K) → length keys ≤ i → count_by (λ x. eq x k) (take i keys) ≡ count_by (λ x. eq x k) keys
+counted-all {K} eq keys i k whole = ap (λ (xs : List K). count_by (λ x. eq x k) xs) (take_all i keys whole)
+
+-- a key is itself
+pub one-itself : {K : Type 0} (eq : K → K → Bool) (cmp : K → K → Ordering) (o : IsTotalOrder cmp) (ties : (a b : K) → eq a b ≡ is_eq (cmp a b)) (k : K) → ◌≡◌ {A = ℕ} (cond (eq k k) 1 0) 1
+one-itself eq cmp o ties k = cond-true (eq k k) 1 0 (ties k k ∙ ap is_eq (tied_itself o k))

@@ -1,7 +1,8 @@
 use Rattle.std.proofs.Common.{◌≡◌, subst, arith}
+use Rattle.std.proofs.lemmas.Grind.{elements}
 use Rattle.wm_desc.specs.Place.{IsAt}
 use Rattle.wm_tally.specs.Rows.{key_of, number_at}
-use Rattle.wm_tally.proofs.RowLemmas.{counted-remove, counted-set, read-number_at, number_at-gap, lowered, number_at-remove}
+use Rattle.wm_tally.proofs.RowLemmas.{counted-remove, read-number_at, number_at-gap, lowered, number_at-remove}
 use Rattle.wm_tally.proofs.rows.lower.Goals as goal
 
 -- the key has a number, and so a row
@@ -35,3 +36,9 @@ pub returns-then-index-eq1-clause-counted : goal.returns-then-index-eq1-clause-c
 returns-then-index-eq1-clause-counted g c =
     let found = subst (λ rows. IsAt key_of g.K.Ord.cmp c.args.key.now rows c.in-Ok.at) c.as_slice.ensures.value c.in-Ok.ensures in
     rw c.remove.ensures.items (counted-remove c.args.rows.now.items c.in-Ok.at c.requires.counted c.index.result.now found.in_range)
+
+pub returns-then-index-eq1-clause-sorted : goal.returns-then-index-eq1-clause-sorted
+returns-then-index-eq1-clause-sorted g c = grind (arith, elements)
+
+pub returns-else-index-eq1-clause-sorted : goal.returns-else-index-eq1-clause-sorted
+returns-else-index-eq1-clause-sorted g c = grind (arith, elements)

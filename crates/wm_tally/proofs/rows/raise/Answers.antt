@@ -1,4 +1,5 @@
 use Rattle.std.proofs.Common.{◌+◌, subst, arith}
+use Rattle.std.proofs.lemmas.Grind.{elements}
 use Rattle.wm_desc.specs.Place.{IsAt, IsGap}
 use Rattle.wm_desc.proofs.SortedLists.{sorted-insert}
 use Rattle.wm_tally.specs.Rows.{key_of}
@@ -31,3 +32,6 @@ returns-in-Ok-clause-counted g c =
 pub returns-in-Err-clause-counted : goal.returns-in-Err-clause-counted
 returns-in-Err-clause-counted g c =
     rw c.put.ensures.items (counted-insert c.args.rows.now.items c.in-Err.at c.requires.counted (c.args.key.now, 1) (omega arith))
+
+pub returns-in-Ok-clause-sorted : goal.returns-in-Ok-clause-sorted
+returns-in-Ok-clause-sorted g c = grind (arith, elements)
