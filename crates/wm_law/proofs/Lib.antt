@@ -52,3 +52,6 @@ pub mod NewSerials
 pub mod Leaving
 pub mod Handing
 pub mod NextMoment
+pub mod Multiples
+pub mod Rounds
+pub mod FirstIdle

@@ -17,6 +17,7 @@ pub mod Named
 pub mod Opening
 pub mod Pending
 pub mod Power
+pub mod Prestart
 pub mod Queues
 pub mod Reports
 pub mod Schedules

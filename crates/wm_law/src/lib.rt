@@ -1,14 +1,15 @@
 //! The machine as definitions: the types of its state, calls and replies, the rules, and the laws that follow from them.
 //!
 //! The contract for the layers above: the definition `step` of `specs/Machine.antt` says what the machine answers and
-//! leaves, and `specs/History.antt` which histories are legal; the laws of `laws.rt` hold for all of them. Beside the types
-//! there are only a list (`ListOf`) and a box (`Boxed`), which contracts see as what is in them: the crates above compute
-//! what these definitions say.
+//! leaves, and `specs/History.antt` which histories are legal; the laws of `laws.rt` and `prestart_laws.rt` hold for all of
+//! them. Beside the types there are only a list (`ListOf`) and a box (`Boxed`), which contracts see as what is in them: the
+//! crates above compute what these definitions say.
 //!
 //! The definitions are in `specs/`: `Machine` (a step), whose parts stand by subject in `Making`, `Subsystems`, `Autos`,
 //! `Submitting`, `Schedules`, `Holding`, `Changing`, `Queues`, `Endings`, `Power`, `Reports` and `Settling`; `Named` (which job
 //! a command names); `Wishes` (whether an active job is to end, and when); `Choice` and `Launch` (which job starts, and what
-//! becomes of it); `Jobs` (a change to one job); `Counts`; `Opening`; `Pending` (what a monitor asks); `Stepped` (what a call
+//! becomes of it); `Prestart` (how many prestart jobs are made, which gets a request, and what the end of a use comes to);
+//! `Jobs` (a change to one job); `Counts`; `Opening`; `Pending` (what a monitor asks); `Stepped` (what a call
 //! comes to); `Fit` (which calls the machine has, and their ranges) and `Built` (which commands users have). What follows
 //! from them: `Laws` and `Kept`; `Limits` (no start passes a limit), `Order` (jobs are launched in their order), `Objects`
 //! (what holds of tables and subsystem descriptions), `Leaving` (which ending subsystems stay), `Handing` (which order Hand
@@ -24,6 +25,7 @@ mod launch;
 mod laws;
 mod list;
 mod pending;
+mod prestart_laws;
 mod state;
 
 pub use boxed::Boxed;
@@ -47,4 +49,5 @@ pub use laws::{
 };
 pub use list::ListOf;
 pub use pending::Pending;
+pub use prestart_laws::{first_idle_job_is_first, rounds_make_what_is_lacking};
 pub use state::{Evoke, Evokes, Jobs, Power, QNames, Sbs, SbsList, SbsPhase, State, Stop, Stops};

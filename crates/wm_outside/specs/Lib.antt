@@ -1,6 +1,8 @@
 pub mod Calls
 pub mod ChangeLog
 pub mod Children
+pub mod ImageStores
+pub mod Images
 pub mod InOrder
 pub mod Keeping
 pub mod Log

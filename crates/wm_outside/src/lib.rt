@@ -9,5 +9,7 @@
 mod memory;
 mod system;
 
-pub use memory::{MemClock, MemKeeper, MemSink, MemSource, MemSpawner, MemStore};
+pub use memory::{
+    ImageKeeper, ImageStore, MemClock, MemKeeper, MemSink, MemSource, MemSpawner, MemStore,
+};
 pub use system::{ReadSource, SysClock, WriteSink};

@@ -4,6 +4,8 @@ mod calls;
 mod change_log;
 mod children;
 mod clock;
+mod image_store;
+mod images;
 mod keeper;
 mod replay;
 mod sign;
@@ -15,6 +17,8 @@ mod tables;
 mod writing;
 
 pub use clock::MemClock;
+pub use image_store::ImageStore;
+pub use images::ImageKeeper;
 pub use keeper::MemKeeper;
 pub use sink::MemSink;
 pub use source::MemSource;

@@ -8,11 +8,13 @@
 mod given;
 mod rows;
 mod shown;
+mod stops;
 mod subject;
 mod told;
 
 use anyhow::Result;
 use std::rt::Files;
+use stops::Stops;
 use subject::Runs;
 use wm_cases::{Subject, play};
 
@@ -43,5 +45,9 @@ fn main(rt: HostRuntime) -> Result<()> {
     let mut runs = Runs::new(&rt, rt.alloc())?;
     let played = play_all(&rt, &mut runs);
     drop(runs);
+    played?;
+    let mut stops = Stops::new(&rt, rt.alloc())?;
+    let played = play(&rt, "stops.txt", &mut stops);
+    drop(stops);
     played
 }

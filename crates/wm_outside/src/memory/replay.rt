@@ -48,8 +48,8 @@ pub fn new_base(changes: &[RowChange]) -> Result<Option<Row>, NoMemory>
     Ok(None)
 }
 
-// Makes changes of rows, in their order.
-fn change_all(rows: &mut Vec<Row>, changes: &[RowChange]) -> Result<(), NoMemory>
+/// Makes changes of rows, in their order. Where it answers `NoMemory`, they are of no use.
+pub(super) fn change_all(rows: &mut Vec<Row>, changes: &[RowChange]) -> Result<(), NoMemory>
     ensures { OnOk result (rows.new.items ≡ changed changes.now rows.old.items) }
 {
     for one in changes {

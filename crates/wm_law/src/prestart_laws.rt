@@ -1,0 +1,18 @@
+// Laws of prestart jobs: what their definitions come to, each for all states. They are no calls.
+ghost use Rattle.wm_law.specs.Prestart.{FirstIdleIsFirst, LeastMultipleIsLeast, RoundsReplenish};
+
+/// Where the jobs that came by prestart entries stand in the order of their numbers, an entry's idle job of
+/// least number is the first of its idle jobs in the list, and so the one of least serial.
+#[tactic(auto, using(crate::proofs::FirstIdle::first_idle_is_first))]
+pub fn first_idle_job_is_first()
+    ensures { FirstIdleIsFirst }
+{}
+
+/// For a prestart entry that lacks available jobs, the least multiple of ADLJOBS that brings them to
+/// THRESHOLD is made at once, as far as there is room. Rounds make the same jobs: in each of them ADLJOBS
+/// jobs are made, or as many as there is room for, while fewer than THRESHOLD are available.
+#[tactic(auto, using(crate::proofs::Multiples::least_multiple_is_least, crate::proofs::Rounds::rounds_replenish))]
+pub fn rounds_make_what_is_lacking()
+    ensures least { LeastMultipleIsLeast }
+    ensures rounds { RoundsReplenish }
+{}
