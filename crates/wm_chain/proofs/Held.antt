@@ -33,7 +33,7 @@ use Rattle.wm_tables.proofs.NewRows.{job_stands}
 use Rattle.wm_tables.proofs.OwnRows.{own_rows}
 use Rattle.wm_tables.proofs.RangedRestarts.{restart_is_in_range}
 use Rattle.wm_tables.proofs.RowOrder.{ascending, in_tables, of_tables}
-use Rattle.wm_tables.proofs.RowsOf.{IsRowOf, in_rows, of_rows, of_class, of_program, of_queue, of_jobd, of_sbsd, of_queue_entry, of_route_entry, of_auto_entry, of_held, of_job, of_number, of_place, of_schema, of_serial}
+use Rattle.wm_tables.proofs.RowsOf.{IsRowOf, in_rows, of_rows, of_class, of_program, of_queue, of_jobd, of_sbsd, of_queue_entry, of_route_entry, of_auto_entry, of_pre_entry, of_held, of_job, of_number, of_place, of_schema, of_serial}
 use Rattle.wm_chain.specs.Starts.{IsNextIn, IsSpentIn, IsWaitingIn}
 
 -- A state that rows make
@@ -83,6 +83,7 @@ by_row s range k h (of_sbsd x i e) = let tab : ◌≡◌ {A = ℕ} 11 5 = ap (λ
 by_row s range k h (of_queue_entry x d i j e) = let tab : ◌≡◌ {A = ℕ} 11 6 = ap (λ (r : Row). r.tab) e in absurd (omega arith)
 by_row s range k h (of_route_entry x d i j e) = let tab : ◌≡◌ {A = ℕ} 11 7 = ap (λ (r : Row). r.tab) e in absurd (omega arith)
 by_row s range k h (of_auto_entry x d i j e) = let tab : ◌≡◌ {A = ℕ} 11 8 = ap (λ (r : Row). r.tab) e in absurd (omega arith)
+by_row s range k h (of_pre_entry x d i j e) = let tab : ◌≡◌ {A = ℕ} 11 9 = ap (λ (r : Row). r.tab) e in absurd (omega arith)
 by_row s range k h (of_held q i e) = let tab : ◌≡◌ {A = ℕ} 11 10 = ap (λ (r : Row). r.tab) e in absurd (omega arith)
 by_row s range k h (of_job j i e) = (j, i, one_job k (stored_of j) h (range.jobs j i).stored e)
 by_row s range k h (of_number e) = let tab : ◌≡◌ {A = ℕ} 11 12 = ap (λ (r : Row). r.tab) e in absurd (omega arith)
@@ -121,7 +122,7 @@ next_in (row ∷ rows) n i = i
 pub spent : (s : State) (serial : ℕ) → IsSound s → IsInRange s → IsPast s serial → IsSpentIn (tables s) serial
 spent s serial sound range h = record {
   waits = λ w. (
-      let k = by_row s range w.job w.stored (of_rows s range (job_row w.job) (of_tables (rows_of s) (job_row w.job) w.stands)) in
+      let k = by_row s range w.job w.stored (of_rows s (job_row w.job) (of_tables (rows_of s) (job_row w.job) w.stands)) in
       let same : h.job ≡ k.0 = only_one s.jobs sound.numbered.serials.distinct h.job k.0 h.stands k.1 (h.its ∙ sym w.its ∙ ap (λ (j : StoredJob). j.serial) k.2) in
       let waits : stored_phase k.0.phase ≡ Waiting = sym (ap (λ (j : StoredJob). j.phase) k.2) ∙ w.waits in
       stored_waits k.0.phase waits (ap (λ (j : Job). is_waiting j.phase) (sym same) ∙ h.past));

@@ -5,6 +5,7 @@ use Rattle.std.specs.List.{flat_map}
 use Rattle.std.specs.Option.{option_map, option_to_list}
 use Rattle.std.specs.Ordering.{nat_cmp}
 use Rattle.std.proofs.lemmas.Bool.{not-false}
+use Rattle.wm_base.specs.QName.{qname_text}
 use Rattle.wm_base.specs.declared.qname.QName.{QName}
 use Rattle.wm_base.specs.declared.refusal.Kind.TheVariants as kind
 use Rattle.wm_base.specs.declared.refusal.Refusal.{Refusal}
@@ -12,11 +13,12 @@ use Rattle.wm_base.specs.declared.refusal.Refusal.TheVariants.{NoObject, SbsActi
 use Rattle.wm_desc.specs.declared.description.Jobd.{Jobd}
 use Rattle.wm_desc.specs.declared.description.Sbsd.{Sbsd}
 use Rattle.wm_desc.specs.declared.entry.AutoEntry.{AutoEntry}
+use Rattle.wm_desc.specs.declared.entry.PreEntry.{PreEntry}
 use Rattle.wm_desc.specs.declared.entry.QueueEntry.{QueueEntry}
 use Rattle.wm_desc.specs.declared.entry.RouteEntry.{RouteEntry}
 use Rattle.wm_desc.specs.declared.objects.Objects.{Objects}
-use Rattle.wm_desc.specs.Objects.{with_auto, with_class, with_description, with_jobd, with_jobq, with_program, with_queue, with_route, with_sbsd, without_auto, without_queue, without_route}
-use Rattle.wm_desc.specs.Refusals.{auto_refusal, auto_tests, first_refusal, has_auto, has_queue, object_refusal, program_refusal, queue_refusal, queue_tests, remove_auto_refusal, remove_queue_refusal, remove_route_refusal, route_refusal, route_tests, seq_used}
+use Rattle.wm_desc.specs.Objects.{with_auto, with_class, with_description, with_jobd, with_jobq, with_pre, with_program, with_queue, with_route, with_sbsd, without_auto, without_pre, without_queue, without_route}
+use Rattle.wm_desc.specs.Refusals.{auto_refusal, auto_tests, first_refusal, has_auto, has_pre, has_queue, object_refusal, pre_refusal, pre_tests, program_refusal, queue_refusal, queue_tests, remove_auto_refusal, remove_pre_refusal, remove_queue_refusal, remove_route_refusal, route_refusal, route_tests, seq_used}
 use Rattle.wm_desc.specs.Sorted.{place_of}
 use Rattle.wm_desc.specs.Table.{name_of, object_named, qname_cmp, same_qname}
 use Rattle.wm_desc.proofs.Tables.{test_fails}
@@ -26,7 +28,7 @@ use Rattle.wm_traits.specs.declared.row.RowChange.TheVariants.{Put, Del}
 use Rattle.wm_law.specs.Changing.{finds_queue}
 use Rattle.wm_law.specs.Choice.{entry_for, is_held}
 use Rattle.wm_law.specs.Machine.{apply, change}
-use Rattle.wm_law.specs.Making.{auto_entry_of, class_of, jobd_of, made_unless, queue_entry_of, route_entry_of, unless_in_use}
+use Rattle.wm_law.specs.Making.{auto_entry_of, class_of, jobd_of, made_unless, pre_entry_of, queue_entry_of, route_entry_of, unless_in_use}
 use Rattle.wm_law.specs.Queues.{hold_queue, own_name, release_queue, with_held_queue, without_held_queue}
 use Rattle.wm_law.specs.Sound.{IsSound}
 use Rattle.wm_law.specs.Stepped.{Stepped, refused}
@@ -44,9 +46,9 @@ use Rattle.wm_tables.proofs.OwnPlaces.{HasTab, HasTabsTo, tab_flat, tab_mapped}
 use Rattle.wm_tables.proofs.Passing.{of_parts}
 use Rattle.wm_tables.proofs.RowOrder.{HasOwnPlaces}
 use Rattle.wm_changes.specs.Changes.{call_change, command_change, deletion, is_accepted, number_in, number_of, removed_number}
-use Rattle.wm_changes.proofs.Descriptions.{autos_change, class_more, jobd_more, program_more, queue_more, queues_change, routes_change, sbsd_more}
+use Rattle.wm_changes.proofs.Descriptions.{autos_change, class_more, jobd_more, pres_change, program_more, queue_more, queues_change, routes_change, sbsd_more}
 use Rattle.wm_changes.proofs.Differs.{AreApart, Differs, both_differ, same_rows}
-use Rattle.wm_changes.proofs.Left.{auto_less, described, held_less, named_there, queue_less, route_less, any_found}
+use Rattle.wm_changes.proofs.Left.{auto_less, described, held_less, named_there, pre_less, queue_less, route_less, any_found}
 use Rattle.wm_changes.proofs.OneMore.{IsLess, IsMore, less_differs, less_within, more_differs, more_mapped, more_within}
 
 -- Objects and held queues stand apart
@@ -177,6 +179,12 @@ module _ (s : State) where
         autos_change (IsMore row) (more_within row) sbsd (with_auto entry) s.objects d sound.objects.tables.sbsds.sorted (named_there sbsd s.objects.sbsds d e) (λ x. refl) (λ x. refl) (λ x. refl) (λ x. refl)
         (more_mapped (auto_entry_row sbsd) d.autos (place_of (λ (n : AutoEntry). n.job) (slice_cmp nat_cmp) entry.job d.autos) entry)
 
+    pre_in : (sbsd : QName) (entry : PreEntry) (d : Sbsd) → object_named sbsd s.objects.sbsds ≡ Some d → IsMore (pre_entry_row sbsd entry) (object_rows s.objects) (object_rows (with_description sbsd (with_pre entry) s.objects))
+    pre_in sbsd entry d e =
+        let row = pre_entry_row sbsd entry in
+        pres_change (IsMore row) (more_within row) sbsd (with_pre entry) s.objects d sound.objects.tables.sbsds.sorted (named_there sbsd s.objects.sbsds d e) (λ x. refl) (λ x. refl) (λ x. refl) (λ x. refl)
+        (more_mapped (pre_entry_row sbsd) d.pres (place_of (λ (n : PreEntry). n.pgm) qname_cmp entry.pgm d.pres) entry)
+
     -- an entry less
     number_is : (sbsd jobq : QName) (d : Sbsd) (e : QueueEntry) → object_named sbsd s.objects.sbsds ≡ Some d → entry_for jobq d ≡ Some e → number_in jobq (object_named sbsd s.objects.sbsds) ≡ Some e.seq
     number_is sbsd jobq d e named found = ap (number_in jobq) named ∙ ap (option_map (λ (n : QueueEntry). n.seq)) found
@@ -215,6 +223,17 @@ module _ (s : State) where
         subst (λ (n : List ℕ). Differs (object_rows s.objects) (object_rows (with_description sbsd (without_auto job) s.objects)) (deletion (entry_place 8 sbsd n) ∷ [])) l.1
         (less_differs row _ _ less own.objects)
 
+    pre_out : (sbsd pgm : QName) → unless_in_use s sbsd (remove_pre_refusal s.objects sbsd pgm) ≡ None → Differs (object_rows s.objects) (object_rows (with_description sbsd (without_pre pgm) s.objects)) (deletion (entry_place 9 sbsd (qname_text pgm)) ∷ [])
+    pre_out sbsd pgm r =
+        let m = described s sbsd (λ d. first_refusal ((not (has_pre pgm d.pres), NoObject kind.Pje) ∷ [])) r in
+        let d = m.description in
+        let there : has_pre pgm d.pres ≡ true = not-false _ (test_fails ((not (has_pre pgm d.pres), NoObject kind.Pje) ∷ []) 0 SbsActive m.accepted) in
+        let l = pre_less sbsd pgm d (sound.objects.described sbsd d m.named).pres.sorted there in
+        let row = pre_entry_row sbsd l.0 in
+        let less = pres_change (IsLess row) (less_within row) sbsd (without_pre pgm) s.objects d sound.objects.tables.sbsds.sorted (named_there sbsd s.objects.sbsds d m.named) (λ x. refl) (λ x. refl) (λ x. refl) (λ x. refl) l.2 in
+        subst (λ (q : QName). Differs (object_rows s.objects) (object_rows (with_description sbsd (without_pre pgm) s.objects)) (deletion (entry_place 9 sbsd (qname_text q)) ∷ [])) l.1
+        (less_differs row _ _ less own.objects)
+
     -- each command
     command_answers : (user : List ℕ) (c : Command) → Answers (command_change (number_of s.objects c) c) (change s user c)
     command_answers user (command.Crtcls c) =
@@ -241,12 +260,17 @@ module _ (s : State) where
     command_answers user (command.Addaje c) =
         made_answers (with_description c.sbsd (with_auto (auto_entry_of c)) s.objects) (unless_in_use s c.sbsd (auto_refusal s.objects c.sbsd (auto_entry_of c))) _
         (λ n now. (let m = described s c.sbsd (λ d. first_refusal (auto_tests s.objects (auto_entry_of c) d)) n in more_differs (auto_entry_row c.sbsd (auto_entry_of c)) _ _ (auto_in c.sbsd (auto_entry_of c) m.description m.named) now))
+    command_answers user (command.Addpje c) =
+        made_answers (with_description c.sbsd (with_pre (pre_entry_of c)) s.objects) (unless_in_use s c.sbsd (pre_refusal s.objects c.sbsd (pre_entry_of c))) _
+        (λ n now. (let m = described s c.sbsd (λ d. first_refusal (pre_tests s.objects (pre_entry_of c) d)) n in more_differs (pre_entry_row c.sbsd (pre_entry_of c)) _ _ (pre_in c.sbsd (pre_entry_of c) m.description m.named) now))
     command_answers user (command.Rmvjobqe c) =
         made_answers (with_description c.sbsd (without_queue c.jobq) s.objects) (unless_in_use s c.sbsd (remove_queue_refusal s.objects c.sbsd c.jobq)) _ (λ n now. queue_out c.sbsd c.jobq n)
     command_answers user (command.Rmvrtge c) =
         made_answers (with_description c.sbsd (without_route c.seqnbr) s.objects) (unless_in_use s c.sbsd (remove_route_refusal s.objects c.sbsd c.seqnbr)) _ (λ n now. route_out c.sbsd c.seqnbr n)
     command_answers user (command.Rmvaje c) =
         made_answers (with_description c.sbsd (without_auto c.job) s.objects) (unless_in_use s c.sbsd (remove_auto_refusal s.objects c.sbsd c.job)) _ (λ n now. auto_out c.sbsd c.job n)
+    command_answers user (command.Rmvpje c) =
+        made_answers (with_description c.sbsd (without_pre c.pgm) s.objects) (unless_in_use s c.sbsd (remove_pre_refusal s.objects c.sbsd c.pgm)) _ (λ n now. pre_out c.sbsd c.pgm n)
     command_answers user (command.Hldjobq c) = hold_answers c.jobq
     command_answers user (command.Rlsjobq c) = release_answers c.jobq
     command_answers user c = leaves_answers (change s user c) (call_is_aside s 0 (Change user c) refl)

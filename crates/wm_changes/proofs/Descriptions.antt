@@ -100,6 +100,16 @@ module _ (Q : List Row → List Row → Type 0) (w : IsWithin Q) where
       abbrev ys : Table
       ys = changed name alter o.sbsds
 
+      -- a prestart entry
+      pub pres_change : ((x : QName × Sbsd) → sbsd_row (x.0, alter x.1) ≡ sbsd_row x) → ((x : QName × Sbsd) → queue_entry_rows (x.0, alter x.1) ≡ queue_entry_rows x) → ((x : QName × Sbsd) → route_entry_rows (x.0, alter x.1) ≡ route_entry_rows x) → ((x : QName × Sbsd) → auto_entry_rows (x.0, alter x.1) ≡ auto_entry_rows x) → Q (pre_entry_rows (name, d)) (pre_entry_rows (name, alter d)) → Q (object_rows o) (object_rows (with_description name alter o))
+      pres_change bare queues routes autos q =
+          let to_first : to_queues xs ≡ to_queues ys = ap (λ (l : List Row). l ++ queue_entries xs) (map_same name alter sbsd_row bare xs) ∙ ap (λ (l : List Row). map sbsd_row ys ++ l) (flat_same name alter queue_entry_rows queues xs) in
+          let to_second : to_routes xs ≡ to_routes ys = ap (λ (l : List Row). l ++ route_entries xs) to_first ∙ ap (λ (l : List Row). to_queues ys ++ l) (flat_same name alter route_entry_rows routes xs) in
+          let before : to_autos xs ≡ to_autos ys = ap (λ (l : List Row). l ++ auto_entries xs) to_second ∙ ap (λ (l : List Row). to_routes ys ++ l) (flat_same name alter auto_entry_rows autos xs) in
+          sbsds_change o ys
+          (right_as (to_autos xs) (to_autos ys) (pre_entries xs) (pre_entries ys) before
+          (flat_changed pre_entry_rows d q xs sorted there))
+
       module _ (bare : (x : QName × Sbsd) → sbsd_row (x.0, alter x.1) ≡ sbsd_row x) (pres : (x : QName × Sbsd) → pre_entry_rows (x.0, alter x.1) ≡ pre_entry_rows x) where
         bare_same : map sbsd_row xs ≡ map sbsd_row ys
         bare_same = map_same name alter sbsd_row bare xs

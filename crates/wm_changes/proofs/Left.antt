@@ -14,10 +14,11 @@ use Rattle.wm_base.specs.declared.refusal.Refusal.TheVariants.{NoObject, SbsActi
 use Rattle.wm_base.proofs.Tests.{unrefused}
 use Rattle.wm_desc.specs.declared.description.Sbsd.{Sbsd}
 use Rattle.wm_desc.specs.declared.entry.AutoEntry.{AutoEntry}
+use Rattle.wm_desc.specs.declared.entry.PreEntry.{PreEntry}
 use Rattle.wm_desc.specs.declared.entry.QueueEntry.{QueueEntry}
 use Rattle.wm_desc.specs.declared.entry.RouteEntry.{RouteEntry}
-use Rattle.wm_desc.specs.Objects.{without_auto, without_queue, without_route}
-use Rattle.wm_desc.specs.Refusals.{by_description, has_auto, seq_used}
+use Rattle.wm_desc.specs.Objects.{without_auto, without_pre, without_queue, without_route}
+use Rattle.wm_desc.specs.Refusals.{by_description, has_auto, has_pre, seq_used}
 use Rattle.wm_desc.specs.Sorted.{IsSortedOnce, removed}
 use Rattle.wm_desc.specs.Table.{object_named, qname_cmp, same_qname}
 use Rattle.wm_desc.proofs.Tables.{one_name, qname_total}
@@ -28,7 +29,7 @@ use Rattle.wm_law.specs.Making.{unless_in_use}
 use Rattle.wm_law.specs.Queues.{own_name}
 use Rattle.wm_law.specs.declared.state.State.{State}
 use Rattle.wm_law.proofs.Members.{found_among}
-use Rattle.wm_rows.specs.Rows.{auto_entry_row, held_row, queue_entry_row, route_entry_row}
+use Rattle.wm_rows.specs.Rows.{auto_entry_row, held_row, pre_entry_row, queue_entry_row, route_entry_row}
 use Rattle.wm_tables.proofs.StepEntries.{one_distinct}
 use Rattle.wm_changes.proofs.OneMore.{IsLess, less_filtered}
 
@@ -109,6 +110,19 @@ auto_less sbsd job d sorted used =
       is,
       less_filtered (auto_entry_row sbsd) (λ (n : AutoEntry). n.job) (slice_cmp nat_cmp) nat_list_cmp_total (λ (n : AutoEntry). not (pointwise nat_eq n.job job)) d.autos m.item sorted among.0 (ap not among.1)
           (λ n k other. not_by (pointwise nat_eq n.job job) (λ yes. other ((bytes_eq-Decides n.job job).0 yes ∙ sym is))),
+    )
+
+-- that of a program
+pub pre_less : (sbsd pgm : QName) (d : Sbsd) → IsSortedOnce (λ n. n.pgm) qname_cmp d.pres → has_pre pgm d.pres ≡ true → (e : PreEntry) × (e.pgm ≡ pgm) × IsLess (pre_entry_row sbsd e) (map (pre_entry_row sbsd) d.pres) (map (pre_entry_row sbsd) (without_pre pgm d).pres)
+pre_less sbsd pgm d sorted used =
+    let test = λ (n : PreEntry). same_qname n.pgm pgm in
+    let m = any_found test d.pres used in
+    let among = found_among test d.pres m.item m.found in
+    let is : m.item.pgm ≡ pgm = one_name m.item.pgm pgm among.1 in (
+      m.item,
+      is,
+      less_filtered (pre_entry_row sbsd) (λ (n : PreEntry). n.pgm) qname_cmp qname_total (λ (n : PreEntry). not (same_qname n.pgm pgm)) d.pres m.item sorted among.0 (ap not among.1)
+          (λ n k other. not_by (same_qname n.pgm pgm) (λ yes. other (one_name n.pgm pgm yes ∙ sym is))),
     )
 
 -- a held queue

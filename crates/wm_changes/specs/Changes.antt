@@ -1,5 +1,6 @@
 -- Which rows a step changes.
 use Rattle.std.specs.Prelude.{◌≡◌, ℕ, ◌==◌, Bool, true, false, not, List, [], ◌∷◌, ◌++◌, filter, Option, Some, None, option_map, option_to_list, if◌then◌else◌}
+use Rattle.wm_base.specs.QName.{qname_text}
 use Rattle.wm_base.specs.declared.qname.QName.{QName}
 use Rattle.wm_traits.specs.declared.row.Row.{Row}
 use Rattle.wm_traits.specs.declared.row.RowChange.{RowChange}
@@ -61,6 +62,7 @@ abbrev pub command_change : Option ℕ → Command → Option RowChange
 command_change number (command.Rmvjobqe c) = option_map (λ n. deletion (numbered_place 6 c.sbsd n)) number
 command_change number (command.Rmvrtge c) = Some (deletion (numbered_place 7 c.sbsd c.seqnbr))
 command_change number (command.Rmvaje c) = Some (deletion (entry_place 8 c.sbsd c.job))
+command_change number (command.Rmvpje c) = Some (deletion (entry_place 9 c.sbsd (qname_text c.pgm)))
 command_change number (command.Hldjobq c) = Some (Put (held_row c.jobq))
 command_change number (command.Rlsjobq c) = Some (deletion (object_place 10 c.jobq))
 command_change number c = option_map (λ row. Put row) (command_row c)

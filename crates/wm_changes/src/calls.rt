@@ -12,7 +12,7 @@ use wm_desc::Objects;
 use wm_law::{Call, Command, Reply};
 use wm_rows::{
     HELD, Place, QUEUE_ENTRIES, ROUTE_ENTRIES, auto_place, command_row, held_row, numbered_place,
-    object_place,
+    object_place, pre_place,
 };
 use wm_traits::RowChange;
 
@@ -90,6 +90,7 @@ fn command_change(
         Command::Rmvjobqe(c) => return number_deletion(alloc, &c.sbsd, number),
         Command::Rmvrtge(c) => numbered_place(alloc, ROUTE_ENTRIES, &c.sbsd, c.seqnbr)?,
         Command::Rmvaje(c) => auto_place(alloc, &c.sbsd, &c.job)?,
+        Command::Rmvpje(c) => pre_place(alloc, &c.sbsd, &c.pgm)?,
         Command::Hldjobq(c) => return Ok(Some(RowChange::Put(held_row(alloc, &c.jobq)?))),
         Command::Rlsjobq(c) => object_place(alloc, HELD, &c.jobq)?,
         _ => return made_put(alloc, command),

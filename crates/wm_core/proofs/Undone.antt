@@ -148,9 +148,11 @@ module _ (s : State) where
   changed sound user (command.Addjobqe c) = redescribed sound c.sbsd _ (object_named c.sbsd s.objects.sbsds) _ refl
   changed sound user (command.Addrtge c) = redescribed sound c.sbsd _ (object_named c.sbsd s.objects.sbsds) _ refl
   changed sound user (command.Addaje c) = redescribed sound c.sbsd _ (object_named c.sbsd s.objects.sbsds) _ refl
+  changed sound user (command.Addpje c) = redescribed sound c.sbsd _ (object_named c.sbsd s.objects.sbsds) _ refl
   changed sound user (command.Rmvjobqe c) = redescribed sound c.sbsd _ (object_named c.sbsd s.objects.sbsds) _ refl
   changed sound user (command.Rmvrtge c) = redescribed sound c.sbsd _ (object_named c.sbsd s.objects.sbsds) _ refl
   changed sound user (command.Rmvaje c) = redescribed sound c.sbsd _ (object_named c.sbsd s.objects.sbsds) _ refl
+  changed sound user (command.Rmvpje c) = redescribed sound c.sbsd _ (object_named c.sbsd s.objects.sbsds) _ refl
   changed sound user (command.Hldjobq c) = queue_held c.jobq
   changed sound user (command.Rlsjobq c) = queue_released c.jobq
   changed sound user c = like (change s user c).state (call_is_aside s 0 (Change user c) refl)

@@ -123,7 +123,9 @@ impl Machine {
             | Command::Addaje(_)
             | Command::Rmvjobqe(_)
             | Command::Rmvrtge(_)
-            | Command::Rmvaje(_) => self.change_objects(alloc, command),
+            | Command::Rmvaje(_)
+            | Command::Addpje(_)
+            | Command::Rmvpje(_) => self.change_objects(alloc, command),
             Command::Hldjobq(command) => self.hold_queue(&command.jobq),
             Command::Rlsjobq(command) => Ok(self.release_queue(&command.jobq)),
             _ => unreachable!(),
@@ -149,12 +151,9 @@ impl Machine {
             Command::Endjob(command) => self.end_job(command),
             Command::Clrjobq(command) => Ok(self.clear_queue(&command.jobq)),
             Command::Pwrdwnsys(command) => self.power_down(command),
-            Command::Addpje(_)
-            | Command::Rmvpje(_)
-            | Command::Strpj(_)
-            | Command::Endpj(_)
-            | Command::Evoke(_)
-            | Command::Enduse(_) => Ok(Reply::Nothing),
+            Command::Strpj(_) | Command::Endpj(_) | Command::Evoke(_) | Command::Enduse(_) => Ok(
+                Reply::Nothing,
+            ),
             _ => self.configure(alloc, user, command),
         }
     }

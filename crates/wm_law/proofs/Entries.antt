@@ -10,19 +10,21 @@ use Rattle.std.proofs.lemmas.Cmp.{nat_list_cmp_total}
 use Rattle.std.proofs.lemmas.List.Kept.{AllPairs-filter}
 use Rattle.std.proofs.lemmas.Bool.{ltb-false, or_parts, not-false}
 use Rattle.wm_base.specs.declared.limit.Limit.{Limit}
+use Rattle.wm_base.specs.Limit.{is_below}
 use Rattle.wm_base.specs.declared.qname.QName.{QName}
 use Rattle.wm_base.specs.declared.refusal.Refusal.TheVariants.{SbsActive}
 use Rattle.wm_base.proofs.Lists.{length-filter_few}
-use Rattle.wm_desc.proofs.Tables.{test_fails}
+use Rattle.wm_desc.proofs.Tables.{qname_ties, qname_total, test_fails}
 use Rattle.wm_desc.specs.declared.description.Sbsd.{Sbsd}
 use Rattle.wm_desc.specs.declared.entry.AutoEntry.{AutoEntry}
+use Rattle.wm_desc.specs.declared.entry.PreEntry.{PreEntry}
 use Rattle.wm_desc.specs.declared.entry.QueueEntry.{QueueEntry}
 use Rattle.wm_desc.specs.declared.entry.RouteEntry.{RouteEntry}
 use Rattle.wm_desc.specs.declared.objects.Objects.{Objects}
-use Rattle.wm_desc.specs.Objects.{empty_sbsd, with_auto, with_queue, with_route, without_auto, without_queue, without_route}
-use Rattle.wm_desc.specs.Refusals.{any_not_last, auto_tests, first_refusal, has_auto, has_queue, is_any, is_any_before, is_full, queue_tests, route_tests, seq_used}
+use Rattle.wm_desc.specs.Objects.{empty_sbsd, with_auto, with_pre, with_queue, with_route, without_auto, without_pre, without_queue, without_route}
+use Rattle.wm_desc.specs.Refusals.{any_not_last, auto_tests, first_refusal, has_auto, has_pre, has_queue, is_above, is_any, is_any_before, is_full, pre_tests, queue_tests, relation_tests, route_tests, seq_used}
 use Rattle.wm_desc.specs.Sorted.{place_of}
-use Rattle.wm_desc.specs.Table.{has_object, is_qcmd, object_named, same_qname}
+use Rattle.wm_desc.specs.Table.{has_object, is_qcmd, object_named, qname_cmp, same_qname}
 use Rattle.wm_law.specs.Objects.{IsDescription, IsProgram}
 use Rattle.wm_law.specs.Laws.{IsIn}
 use Rattle.wm_law.proofs.Distinct.{distinct_inserted, distinct_left}
@@ -54,6 +56,7 @@ left_by false x ys xs h = omega arith
 -- the objects that were there are
 pub record IsStillThere (a b : Objects) : Type 0 where
   pub jobqs : (q : QName) → IsSome (object_named q a.jobqs) → IsSome (object_named q b.jobqs)
+  pub classes : (q : QName) → IsSome (object_named q a.classes) → IsSome (object_named q b.classes)
   pub programs : (q : QName) → IsSome (object_named q a.programs) → IsSome (object_named q b.programs)
   pub jobds : (q : QName) → IsSome (object_named q a.jobds) → IsSome (object_named q b.jobds)
 
@@ -67,6 +70,12 @@ description_still a b d still h = record {
   queues = record { sorted = h.queues.sorted; once = h.queues.once; queues = λ e i. still.jobqs e.jobq (h.queues.queues e i) };
   routes = record { programs = λ e i. program_still a b e.pgm still (h.routes.programs e i); any_last = h.routes.any_last };
   autos = record { sorted = h.autos.sorted; jobds = λ e i. still.jobds e.jobd (h.autos.jobds e i) };
+  pres = record {
+    sorted = h.pres.sorted;
+    programs = λ e i. still.programs e.pgm (h.pres.programs e i);
+    classes = λ e i. still.classes e.cls (h.pres.classes e i);
+    related = h.pres.related;
+  };
   sizes = h.sizes;
 }
 
@@ -76,6 +85,7 @@ empty_description objects maxjobs = record {
   queues = record { sorted = λ i j e less h. absurd (omega arith); once = tt; queues = λ e i. absurd i };
   routes = record { programs = λ e i. absurd i; any_last = λ e f i. absurd i };
   autos = record { sorted = λ i j e less h. absurd (omega arith); jobds = λ e i. absurd i };
+  pres = record { sorted = λ i j e less h. absurd (omega arith); programs = λ e i. absurd i; classes = λ e i. absurd i; related = λ e i. absurd i };
   sizes = record { queues = omega arith; routes = omega arith; autos = omega arith; pres = omega arith };
 }
 
@@ -100,6 +110,7 @@ queue_in objects entry d accepted h =
       };
       routes = h.routes;
       autos = h.autos;
+      pres = h.pres;
       sizes = record { queues = one_more 100 d.queues _ room (inserted_length d.queues place entry); routes = h.sizes.routes; autos = h.sizes.autos; pres = h.sizes.pres };
     }
 
@@ -117,6 +128,7 @@ queue_out objects queue d h =
       };
       routes = h.routes;
       autos = h.autos;
+      pres = h.pres;
       sizes = record { queues = omega arith; routes = h.sizes.routes; autos = h.sizes.autos; pres = h.sizes.pres };
     }
 
@@ -170,6 +182,7 @@ route_in objects entry d accepted h =
         any_last = λ e f i j. any_last_in entry d.routes last h.routes.any_last e f (in_inserted d.routes place entry e i) (in_inserted d.routes place entry f j);
       };
       autos = h.autos;
+      pres = h.pres;
       sizes = record { queues = h.sizes.queues; routes = one_more 999 d.routes _ room (inserted_length d.routes place entry); autos = h.sizes.autos; pres = h.sizes.pres };
     }
 
@@ -186,6 +199,7 @@ route_out objects seq d h =
         any_last = λ e f i j. h.routes.any_last e f (left_in stays d.routes e i) (left_in stays d.routes f j);
       };
       autos = h.autos;
+      pres = h.pres;
       sizes = record { queues = h.sizes.queues; routes = omega arith; autos = h.sizes.autos; pres = h.sizes.pres };
     }
 
@@ -208,6 +222,7 @@ auto_in objects entry d accepted h =
           | inr was ↦ h.autos.jobds n was
         ]);
       };
+      pres = h.pres;
       sizes = record { queues = h.sizes.queues; routes = h.sizes.routes; autos = one_more 100 d.autos _ room (inserted_length d.autos place entry); pres = h.sizes.pres };
     }
 
@@ -224,5 +239,67 @@ auto_out objects job d h =
         sorted = AllPairs-filter (λ (x y : AutoEntry). slice_cmp nat_cmp x.job y.job ≡ Less) stays d.autos h.autos.sorted;
         jobds = λ n i. h.autos.jobds n (left_in stays d.autos n i);
       };
+      pres = h.pres;
       sizes = record { queues = h.sizes.queues; routes = h.sizes.routes; autos = omega arith; pres = h.sizes.pres };
+    }
+
+-- an entry that was accepted breaks no relation, whatever is tested before and behind
+related_by : (entry : PreEntry) (d : Sbsd) (objects : Objects) → first_refusal (pre_tests objects entry d) ≡ None → first_refusal (relation_tests entry) ≡ None
+related_by entry d objects accepted =
+    let tests = pre_tests objects entry d in
+    let inljobs : nat_lt entry.inljobs entry.threshold ≡ false = test_fails tests 3 SbsActive accepted in
+    let maxjobs : is_above entry.inljobs entry.maxjobs ≡ false = test_fails tests 4 SbsActive accepted in
+    let adljobs : not (is_below entry.adljobs entry.maxjobs) ≡ false = test_fails tests 5 SbsActive accepted in
+    rw (inljobs, maxjobs, adljobs) refl
+
+-- ADDPJE
+pub pre_in : (objects : Objects) (entry : PreEntry) (d : Sbsd) → first_refusal (pre_tests objects entry d) ≡ None → IsDescription objects d → IsDescription objects (with_pre entry d)
+pre_in objects entry d accepted h =
+    let tests = pre_tests objects entry d in
+    let pgm : not (has_object entry.pgm objects.programs) ≡ false = test_fails tests 0 SbsActive accepted in
+    let cls : not (has_object entry.cls objects.classes) ≡ false = test_fails tests 1 SbsActive accepted in
+    let new : has_pre entry.pgm d.pres ≡ false = test_fails tests 2 SbsActive accepted in
+    let room : is_full 100 d.pres ≡ false = test_fails tests 6 SbsActive accepted in
+    let program : IsSome (object_named entry.pgm objects.programs) = sym (is_named entry.pgm objects.programs) ∙ not-false _ pgm in
+    let class : IsSome (object_named entry.cls objects.classes) = sym (is_named entry.cls objects.classes) ∙ not-false _ cls in
+    let place = place_of (λ (e : PreEntry). e.pgm) qname_cmp entry.pgm d.pres in
+    record {
+      queues = h.queues;
+      routes = h.routes;
+      autos = h.autos;
+      pres = record {
+        sorted = sorted_added (λ (e : PreEntry). e.pgm) qname_cmp qname_total same_qname qname_ties entry d.pres h.pres.sorted new;
+        programs = λ n i. (elim (in_inserted d.pres place entry n i) as (λ _. IsSome (object_named n.pgm objects.programs)) [
+          | inl same ↦ subst (λ (x : PreEntry). IsSome (object_named x.pgm objects.programs)) (sym same) program
+          | inr was ↦ h.pres.programs n was
+        ]);
+        classes = λ n i. (elim (in_inserted d.pres place entry n i) as (λ _. IsSome (object_named n.cls objects.classes)) [
+          | inl same ↦ subst (λ (x : PreEntry). IsSome (object_named x.cls objects.classes)) (sym same) class
+          | inr was ↦ h.pres.classes n was
+        ]);
+        related = λ n i. (elim (in_inserted d.pres place entry n i) as (λ _. first_refusal (relation_tests n) ≡ None) [
+          | inl same ↦ subst (λ (x : PreEntry). first_refusal (relation_tests x) ≡ None) (sym same) (related_by entry d objects accepted)
+          | inr was ↦ h.pres.related n was
+        ]);
+      };
+      sizes = record { queues = h.sizes.queues; routes = h.sizes.routes; autos = h.sizes.autos; pres = one_more 100 d.pres _ room (inserted_length d.pres place entry) };
+    }
+
+-- RMVPJE
+pub pre_out : (objects : Objects) (pgm : QName) (d : Sbsd) → IsDescription objects d → IsDescription objects (without_pre pgm d)
+pre_out objects pgm d h =
+    let stays = λ (e : PreEntry). not (same_qname e.pgm pgm) in
+    let fewer = length-filter_few stays d.pres in
+    let was = h.sizes.pres in
+    record {
+      queues = h.queues;
+      routes = h.routes;
+      autos = h.autos;
+      pres = record {
+        sorted = AllPairs-filter (λ (x y : PreEntry). qname_cmp x.pgm y.pgm ≡ Less) stays d.pres h.pres.sorted;
+        programs = λ n i. h.pres.programs n (left_in stays d.pres n i);
+        classes = λ n i. h.pres.classes n (left_in stays d.pres n i);
+        related = λ n i. h.pres.related n (left_in stays d.pres n i);
+      };
+      sizes = record { queues = h.sizes.queues; routes = h.sizes.routes; autos = h.sizes.autos; pres = omega arith };
     }

@@ -74,7 +74,7 @@ use Rattle.wm_law.proofs.Alterations.{IsAlteration, IsHolding, IsPlain, altered,
 use Rattle.wm_law.proofs.Endings.{IsEnding, all_end, coming_due, job_ends, kill_ends, those_end, wished}
 use Rattle.wm_law.specs.Subsystems.{begun, is_started, max_started, start_refusal, start_unless}
 use Rattle.wm_law.proofs.Members.{found_among, last_in, left_in}
-use Rattle.wm_law.proofs.Objects.{IsObjectChange, class_made, queue_made, program_made, job_description_made, description_made, queue_added, route_added, auto_added, queue_removed, route_removed, auto_removed}
+use Rattle.wm_law.proofs.Objects.{IsObjectChange, class_made, queue_made, program_made, job_description_made, description_made, queue_added, route_added, auto_added, pre_added, queue_removed, route_removed, auto_removed, pre_removed}
 
 -- a phase past Waiting, and one that isn't before it
 pub record IsOnward (p q : Phase) : Type 0 where
@@ -306,9 +306,11 @@ changed P s user (command.Crtsbsd c) h = made P s _ h _ _ refl (description_made
 changed P s user (command.Addjobqe c) h = made P s _ h _ _ refl (queue_added s c)
 changed P s user (command.Addrtge c) h = made P s _ h _ _ refl (route_added s c)
 changed P s user (command.Addaje c) h = made P s _ h _ _ refl (auto_added s c)
+changed P s user (command.Addpje c) h = made P s _ h _ _ refl (pre_added s c)
 changed P s user (command.Rmvjobqe c) h = made P s _ h _ _ refl (queue_removed s c)
 changed P s user (command.Rmvrtge c) h = made P s _ h _ _ refl (route_removed s c)
 changed P s user (command.Rmvaje c) h = made P s _ h _ _ refl (auto_removed s c)
+changed P s user (command.Rmvpje c) h = made P s _ h _ _ refl (pre_removed s c)
 changed P s user (command.Strsbs c) h = start P s _ h c.sbsd (start_refusal s c.sbsd) refl
 changed P s user (command.Endsbs c) h = sbs_ended P s _ h c (started_named s c.sbs) refl
 changed P s user (command.Sbmjob c) h = either P s _ h (is_on s.power) _ _ (λ t. submitted_with P s _ h user c (object_named c.jobd s.objects.jobds)) (λ t. h.refuses PoweringDown)

@@ -17,12 +17,13 @@ use Rattle.wm_desc.proofs.Tables.{test_fails}
 use Rattle.wm_desc.specs.declared.description.Program.{Program}
 use Rattle.wm_desc.specs.declared.description.Sbsd.{Sbsd}
 use Rattle.wm_desc.specs.declared.entry.RouteEntry.{RouteEntry}
-use Rattle.wm_desc.specs.Objects.{empty_sbsd, with_object, with_class, with_jobq, with_program, with_jobd, with_sbsd, with_description, with_auto, with_queue, with_route, without_auto, without_queue, without_route}
-use Rattle.wm_desc.specs.Refusals.{is_full, by_description, first_refusal, seq_used, auto_tests, queue_tests, route_tests, object_refusal, program_refusal, auto_refusal, queue_refusal, route_refusal, remove_auto_refusal, remove_queue_refusal, remove_route_refusal}
+use Rattle.wm_desc.specs.Objects.{empty_sbsd, with_object, with_class, with_jobq, with_program, with_jobd, with_sbsd, with_description, with_auto, with_pre, with_queue, with_route, without_auto, without_pre, without_queue, without_route}
+use Rattle.wm_desc.specs.Refusals.{is_full, by_description, first_refusal, seq_used, auto_tests, pre_tests, queue_tests, route_tests, object_refusal, program_refusal, auto_refusal, pre_refusal, queue_refusal, route_refusal, remove_auto_refusal, remove_pre_refusal, remove_queue_refusal, remove_route_refusal}
 use Rattle.wm_desc.specs.Table.{object_named, has_object, same_qname, is_qcmd}
 use Rattle.wm_desc.specs.declared.objects.Objects.{Objects}
 use Rattle.wm_law.specs.declared.command.Addaje.{Addaje}
 use Rattle.wm_law.specs.declared.command.Addjobqe.{Addjobqe}
+use Rattle.wm_law.specs.declared.command.Addpje.{Addpje}
 use Rattle.wm_law.specs.declared.command.Addrtge.{Addrtge}
 use Rattle.wm_law.specs.declared.command.Crtcls.{Crtcls}
 use Rattle.wm_law.specs.declared.command.Crtjobd.{Crtjobd}
@@ -31,11 +32,12 @@ use Rattle.wm_law.specs.declared.command.Crtpgmref.{Crtpgmref}
 use Rattle.wm_law.specs.declared.command.Crtsbsd.{Crtsbsd}
 use Rattle.wm_law.specs.declared.command.Rmvaje.{Rmvaje}
 use Rattle.wm_law.specs.declared.command.Rmvjobqe.{Rmvjobqe}
+use Rattle.wm_law.specs.declared.command.Rmvpje.{Rmvpje}
 use Rattle.wm_law.specs.declared.command.Rmvrtge.{Rmvrtge}
 use Rattle.wm_law.specs.declared.state.Sbs.{Sbs}
 use Rattle.wm_law.specs.declared.state.State.{State}
 use Rattle.wm_law.proofs.Members.{left_in}
-use Rattle.wm_law.proofs.Entries.{IsStillThere, auto_in, auto_out, description_still, empty_description, queue_in, queue_out, route_in, route_out}
+use Rattle.wm_law.proofs.Entries.{IsStillThere, auto_in, auto_out, description_still, empty_description, pre_in, pre_out, queue_in, queue_out, route_in, route_out}
 use Rattle.wm_law.proofs.InOrder.{in_inserted, number_added}
 use Rattle.wm_law.proofs.Named.{is_named, named_still, named_before, changed_other, changed_before, other_name}
 use Rattle.wm_law.proofs.Routes.{IsSorted}
@@ -43,7 +45,7 @@ use Rattle.wm_law.proofs.Tables.{table_changed, table_more}
 use Rattle.wm_law.specs.Kept.{IsRouted}
 use Rattle.wm_law.specs.Laws.{IsIn}
 use Rattle.wm_law.specs.Objects.{AreSound, HasTables, IsDescription}
-use Rattle.wm_law.specs.Making.{is_in_use, class_of, jobd_of, auto_entry_of, queue_entry_of, route_entry_of, unless_in_use}
+use Rattle.wm_law.specs.Making.{is_in_use, class_of, jobd_of, auto_entry_of, pre_entry_of, queue_entry_of, route_entry_of, unless_in_use}
 
 -- started subsystems keep their descriptions, queues, programs and classes stay, the routing entries keep their order and classes, and sound objects stay sound
 pub record IsObjectChange (s : State) (o : Objects) : Type 0 where
@@ -96,7 +98,7 @@ class_made s c e =
             jobds = t.jobds;
             sbsds = t.sbsds;
           } in
-          sound_still s.objects _ refl (record { jobqs = λ q i. i; programs = λ q i. i; jobds = λ q i. i }) tables h);
+          sound_still s.objects _ refl (record { jobqs = λ q i. i; classes = λ q i. there_still c.cls q (class_of c) s.objects.classes new i; programs = λ q i. i; jobds = λ q i. i }) tables h);
     }
 
 pub queue_made : (s : State) (c : Crtjobq) → object_refusal kind.Jobq c.jobq s.objects.jobqs ≡ None → IsObjectChange s (with_jobq c.jobq s.objects)
@@ -118,7 +120,7 @@ queue_made s c e =
             jobds = t.jobds;
             sbsds = t.sbsds;
           } in
-          sound_still s.objects _ refl (record { jobqs = still; programs = λ q i. i; jobds = λ q i. i }) tables h);
+          sound_still s.objects _ refl (record { jobqs = still; classes = λ q i. i; programs = λ q i. i; jobds = λ q i. i }) tables h);
     }
 
 pub program_made : (s : State) (c : Crtpgmref) → program_refusal c.pgm s.objects.programs ≡ None → IsObjectChange s (with_program c.pgm c.path s.objects)
@@ -142,7 +144,7 @@ program_made s c e =
             jobds = t.jobds;
             sbsds = t.sbsds;
           } in
-          sound_still s.objects _ refl (record { jobqs = λ q i. i; programs = λ q i. there_still c.pgm q pgm s.objects.programs new i; jobds = λ q i. i }) tables h);
+          sound_still s.objects _ refl (record { jobqs = λ q i. i; classes = λ q i. i; programs = λ q i. there_still c.pgm q pgm s.objects.programs new i; jobds = λ q i. i }) tables h);
     }
 
 pub job_description_made : (s : State) (c : Crtjobd) → object_refusal kind.Jobd c.jobd s.objects.jobds ≡ None → IsObjectChange s (with_jobd c.jobd (jobd_of c) s.objects)
@@ -163,7 +165,7 @@ job_description_made s c e =
             jobds = table_more c.jobd (jobd_of c) s.objects.jobds new (has_room kind.Jobd c.jobd s.objects.jobds e) t.jobds;
             sbsds = t.sbsds;
           } in
-          sound_still s.objects _ refl (record { jobqs = λ q i. i; programs = λ q i. i; jobds = λ q i. there_still c.jobd q (jobd_of c) s.objects.jobds new i }) tables h);
+          sound_still s.objects _ refl (record { jobqs = λ q i. i; classes = λ q i. i; programs = λ q i. i; jobds = λ q i. there_still c.jobd q (jobd_of c) s.objects.jobds new i }) tables h);
     }
 
 -- a description without entries has nothing to keep
@@ -198,7 +200,7 @@ description_made s c e =
               jobds = t.jobds;
               sbsds = table_more c.sbsd d s.objects.sbsds new (has_room kind.Sbsd c.sbsd s.objects.sbsds e) t.sbsds;
             };
-            described = λ sbs x k. made_described c s.objects _ sbs x (record { jobqs = λ q i. i; programs = λ q i. i; jobds = λ q i. i }) h (named_before c.sbsd sbs d x s.objects.sbsds k);
+            described = λ sbs x k. made_described c s.objects _ sbs x (record { jobqs = λ q i. i; classes = λ q i. i; programs = λ q i. i; jobds = λ q i. i }) h (named_before c.sbsd sbs d x s.objects.sbsds k);
           });
       routed = λ r. record {
         sorted = λ sbs x k. made_sorted c s.objects sbs x r (named_before c.sbsd sbs d x s.objects.sbsds k);
@@ -264,7 +266,7 @@ module _ (s : State) (sbsd : QName) (change : Sbsd → Sbsd) (keeps : (d : Sbsd)
               tables = record { classes = t.classes; jobqs = t.jobqs; programs = t.programs; jobds = t.jobds; sbsds = table_changed sbsd change s.objects.sbsds t.sbsds };
               described = λ sbs d k. (
                   let c = changed_before sbsd sbs change s.objects.sbsds d k in
-                  changed_described _ sbs c.0 d (record { jobqs = λ q i. i; programs = λ q i. i; jobds = λ q i. i }) c.1 (h.described sbs c.0 c.1) c.2);
+                  changed_described _ sbs c.0 d (record { jobqs = λ q i. i; classes = λ q i. i; programs = λ q i. i; jobds = λ q i. i }) c.1 (h.described sbs c.0 c.1) c.2);
             });
         routed = λ r. record {
           sorted = λ sbs d k. (let c = changed_before sbsd sbs change s.objects.sbsds d k in changed_sorted sbs c.0 d c.1 (r.sorted sbs c.0 c.1) c.2);
@@ -314,6 +316,14 @@ auto_added s c e =
     (λ d k. record { sorted = λ h. h; classes = λ n i. inl i; described = auto_in s.objects (auto_entry_of c) d (accepted_by s c.sbsd refusal f d k) })
     f.unused
 
+pub pre_added : (s : State) (c : Addpje) → unless_in_use s c.sbsd (pre_refusal s.objects c.sbsd (pre_entry_of c)) ≡ None → IsObjectChange s (with_description c.sbsd (with_pre (pre_entry_of c)) s.objects)
+pre_added s c e =
+    let refusal = λ (d : Sbsd). first_refusal (pre_tests s.objects (pre_entry_of c) d) in
+    let f = free s c.sbsd refusal e in
+    description_changed s c.sbsd (with_pre (pre_entry_of c))
+    (λ d k. record { sorted = λ h. h; classes = λ n i. inl i; described = pre_in s.objects (pre_entry_of c) d (accepted_by s c.sbsd refusal f d k) })
+    f.unused
+
 pub queue_removed : (s : State) (c : Rmvjobqe) → unless_in_use s c.sbsd (remove_queue_refusal s.objects c.sbsd c.jobq) ≡ None → IsObjectChange s (with_description c.sbsd (without_queue c.jobq) s.objects)
 queue_removed s c e =
     description_changed s c.sbsd (without_queue c.jobq)
@@ -334,4 +344,10 @@ pub auto_removed : (s : State) (c : Rmvaje) → unless_in_use s c.sbsd (remove_a
 auto_removed s c e =
     description_changed s c.sbsd (without_auto c.job)
     (λ d k. record { sorted = λ h. h; classes = λ n i. inl i; described = auto_out s.objects c.job d })
+    (free s c.sbsd _ e).unused
+
+pub pre_removed : (s : State) (c : Rmvpje) → unless_in_use s c.sbsd (remove_pre_refusal s.objects c.sbsd c.pgm) ≡ None → IsObjectChange s (with_description c.sbsd (without_pre c.pgm) s.objects)
+pre_removed s c e =
+    description_changed s c.sbsd (without_pre c.pgm)
+    (λ d k. record { sorted = λ h. h; classes = λ n i. inl i; described = pre_out s.objects c.pgm d })
     (free s c.sbsd _ e).unused

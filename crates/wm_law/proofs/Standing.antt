@@ -105,6 +105,7 @@ opening_description = record {
   queues = record { sorted = λ i j d less within. absurd (omega arith); once = ((λ i. i), tt); queues = only_queue };
   routes = record { programs = only_program; any_last = only_route };
   autos = record { sorted = λ i j d less within. absurd (omega arith); jobds = λ e i. absurd i };
+  pres = record { sorted = λ i j d less within. absurd (omega arith); programs = λ e i. absurd i; classes = λ e i. absurd i; related = λ e i. absurd i };
   sizes = record { queues = omega arith; routes = omega arith; autos = omega arith; pres = omega arith };
 }
 

@@ -9,7 +9,6 @@ use Rattle.wm_base.specs.Text.{IsText}
 use Rattle.wm_desc.specs.Ranges.{class_in_range, path_in_range, jobd_in_range, maxjobs_in_range, queue_in_range, route_in_range, pre_in_range}
 use Rattle.wm_desc.specs.declared.entry.Cmp.{Cmp}
 use Rattle.wm_desc.specs.declared.entry.Cmp.TheVariants.{Any, Val}
-use Rattle.wm_desc.specs.declared.entry.PreEntry.{PreEntry}
 use Rattle.wm_when.specs.Schedule.{date_in_range, time_in_range}
 use Rattle.wm_law.specs.declared.call.Call.{Call}
 use Rattle.wm_law.specs.declared.call.Call.TheVariants.{Change, Hand, Started, StartFailed, Finished, UseDone, Tick}
@@ -25,7 +24,7 @@ use Rattle.wm_law.specs.declared.command.JobRef.{JobRef}
 use Rattle.wm_law.specs.declared.command.JobRef.TheVariants.{Simple, ByUser, Full}
 use Rattle.wm_law.specs.declared.command.Sbmjob.{Sbmjob}
 use Rattle.wm_law.specs.Built.{is_built}
-use Rattle.wm_law.specs.Making.{class_of, jobd_of, queue_entry_of, route_entry_of}
+use Rattle.wm_law.specs.Making.{class_of, jobd_of, pre_entry_of, queue_entry_of, route_entry_of}
 
 -- a qualified name is of two names
 pub record IsQName (q : QName) : Type 0 where
@@ -89,22 +88,6 @@ pub record IsAutostartEntry (c : Addaje) : Type 0 where
   pub sbsd : IsQName c.sbsd
   pub job : IsName c.job
   pub jobd : IsQName c.jobd
-
--- the prestart entry that ADDPJE names
-abbrev pub pre_entry_of : Addpje → PreEntry
-pre_entry_of c =
-    record {
-      pgm = c.pgm;
-      strjobs = c.strjobs;
-      inljobs = c.inljobs;
-      threshold = c.threshold;
-      adljobs = c.adljobs;
-      maxjobs = c.maxjobs;
-      maxuse = c.maxuse;
-      wait = c.wait;
-      cls = c.cls;
-      poolid = c.poolid;
-    }
 
 -- the values of ADDPJE
 pub record IsPrestartEntry (c : Addpje) : Type 0 where

@@ -8,7 +8,7 @@ use Rattle.wm_law.specs.declared.command.Command.TheVariants as command
 use Rattle.wm_law.specs.declared.call.Reply.TheVariants.{Nothing, Noted}
 use Rattle.wm_law.specs.declared.job.Phase.TheVariants.{Running, Ended}
 use Rattle.wm_law.specs.declared.state.State.{State}
-use Rattle.wm_law.specs.Making.{make_class, make_queue, make_program, make_job_description, make_description, add_queue, add_route, add_auto, remove_queue, remove_route, remove_auto}
+use Rattle.wm_law.specs.Making.{make_class, make_queue, make_program, make_job_description, make_description, add_queue, add_route, add_auto, add_pre, remove_queue, remove_route, remove_auto, remove_pre}
 use Rattle.wm_law.specs.Changing.{change_job}
 use Rattle.wm_law.specs.Holding.{hold_job, release_job}
 use Rattle.wm_law.specs.Queues.{clear_queue, hold_queue, release_queue}
@@ -33,9 +33,11 @@ change s user (command.Crtsbsd c) = make_description s c
 change s user (command.Addjobqe c) = add_queue s c
 change s user (command.Addrtge c) = add_route s c
 change s user (command.Addaje c) = add_auto s c
+change s user (command.Addpje c) = add_pre s c
 change s user (command.Rmvjobqe c) = remove_queue s c
 change s user (command.Rmvrtge c) = remove_route s c
 change s user (command.Rmvaje c) = remove_auto s c
+change s user (command.Rmvpje c) = remove_pre s c
 change s user (command.Strsbs c) = start_subsystem s c.sbsd
 change s user (command.Endsbs c) = end_subsystem s c
 change s user (command.Sbmjob c) = submit s user c

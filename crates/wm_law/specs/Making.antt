@@ -6,11 +6,12 @@ use Rattle.wm_base.specs.declared.qname.QName.{QName}
 use Rattle.wm_base.specs.declared.refusal.Kind.TheVariants as kind
 use Rattle.wm_base.specs.declared.refusal.Refusal.{Refusal}
 use Rattle.wm_base.specs.declared.refusal.Refusal.TheVariants.{SbsActive}
-use Rattle.wm_desc.specs.Objects.{with_class, with_jobq, with_program, with_jobd, with_sbsd, with_description, with_queue, with_route, with_auto, without_queue, without_route, without_auto}
-use Rattle.wm_desc.specs.Refusals.{object_refusal, program_refusal, queue_refusal, route_refusal, auto_refusal, remove_queue_refusal, remove_route_refusal, remove_auto_refusal}
+use Rattle.wm_desc.specs.Objects.{with_class, with_jobq, with_program, with_jobd, with_sbsd, with_description, with_queue, with_route, with_auto, with_pre, without_queue, without_route, without_auto, without_pre}
+use Rattle.wm_desc.specs.Refusals.{object_refusal, program_refusal, queue_refusal, route_refusal, auto_refusal, pre_refusal, remove_queue_refusal, remove_route_refusal, remove_auto_refusal, remove_pre_refusal}
 use Rattle.wm_desc.specs.Table.{same_qname, object_named}
 use Rattle.wm_desc.specs.declared.description.Jobd.{Jobd}
 use Rattle.wm_desc.specs.declared.entry.AutoEntry.{AutoEntry}
+use Rattle.wm_desc.specs.declared.entry.PreEntry.{PreEntry}
 use Rattle.wm_desc.specs.declared.entry.QueueEntry.{QueueEntry}
 use Rattle.wm_desc.specs.declared.entry.RouteEntry.{RouteEntry}
 use Rattle.wm_desc.specs.declared.objects.Objects.{Objects}
@@ -18,6 +19,7 @@ use Rattle.wm_law.specs.declared.call.Reply.{Reply}
 use Rattle.wm_law.specs.declared.call.Reply.TheVariants.{Made, No}
 use Rattle.wm_law.specs.declared.command.Addaje.{Addaje}
 use Rattle.wm_law.specs.declared.command.Addjobqe.{Addjobqe}
+use Rattle.wm_law.specs.declared.command.Addpje.{Addpje}
 use Rattle.wm_law.specs.declared.command.Addrtge.{Addrtge}
 use Rattle.wm_law.specs.declared.command.Crtcls.{Crtcls}
 use Rattle.wm_law.specs.declared.command.Crtjobd.{Crtjobd}
@@ -26,6 +28,7 @@ use Rattle.wm_law.specs.declared.command.Crtpgmref.{Crtpgmref}
 use Rattle.wm_law.specs.declared.command.Crtsbsd.{Crtsbsd}
 use Rattle.wm_law.specs.declared.command.Rmvaje.{Rmvaje}
 use Rattle.wm_law.specs.declared.command.Rmvjobqe.{Rmvjobqe}
+use Rattle.wm_law.specs.declared.command.Rmvpje.{Rmvpje}
 use Rattle.wm_law.specs.declared.command.Rmvrtge.{Rmvrtge}
 use Rattle.wm_law.specs.declared.state.State.{State}
 use Rattle.wm_law.specs.Stepped.{Stepped}
@@ -110,6 +113,28 @@ add_auto s c =
     made_unless s (with_description c.sbsd (with_auto (auto_entry_of c)) s.objects)
     (unless_in_use s c.sbsd (auto_refusal s.objects c.sbsd (auto_entry_of c)))
 
+-- the prestart entry that ADDPJE names
+abbrev pub pre_entry_of : Addpje → PreEntry
+pre_entry_of c =
+    record {
+      pgm = c.pgm;
+      strjobs = c.strjobs;
+      inljobs = c.inljobs;
+      threshold = c.threshold;
+      adljobs = c.adljobs;
+      maxjobs = c.maxjobs;
+      maxuse = c.maxuse;
+      wait = c.wait;
+      cls = c.cls;
+      poolid = c.poolid;
+    }
+
+-- ADDPJE
+abbrev pub add_pre : State → Addpje → Stepped
+add_pre s c =
+    made_unless s (with_description c.sbsd (with_pre (pre_entry_of c)) s.objects)
+    (unless_in_use s c.sbsd (pre_refusal s.objects c.sbsd (pre_entry_of c)))
+
 -- RMVJOBQE
 abbrev pub remove_queue : State → Rmvjobqe → Stepped
 remove_queue s c =
@@ -127,3 +152,9 @@ abbrev pub remove_auto : State → Rmvaje → Stepped
 remove_auto s c =
     made_unless s (with_description c.sbsd (without_auto c.job) s.objects)
     (unless_in_use s c.sbsd (remove_auto_refusal s.objects c.sbsd c.job))
+
+-- RMVPJE
+abbrev pub remove_pre : State → Rmvpje → Stepped
+remove_pre s c =
+    made_unless s (with_description c.sbsd (without_pre c.pgm) s.objects)
+    (unless_in_use s c.sbsd (remove_pre_refusal s.objects c.sbsd c.pgm))

@@ -1,15 +1,16 @@
 -- What holds of the objects of each state: tables and entries stand in order and within their limits, and the names in subsystem descriptions are of objects.
-use Rattle.std.specs.Prelude.{◌≡◌, ◌⊎◌, ◌≤◌, true, List, length, map, Some}
+use Rattle.std.specs.Prelude.{◌≡◌, ◌⊎◌, ◌≤◌, true, List, length, map, Some, None}
 use Rattle.std.specs.Option.{IsSome}
 use Rattle.std.specs.Cmp.Lexicographic.{slice_cmp}
 use Rattle.std.specs.Ordering.{nat_cmp}
 use Rattle.wm_base.specs.declared.qname.QName.{QName}
 use Rattle.wm_desc.specs.declared.description.Sbsd.{Sbsd}
 use Rattle.wm_desc.specs.declared.entry.AutoEntry.{AutoEntry}
+use Rattle.wm_desc.specs.declared.entry.PreEntry.{PreEntry}
 use Rattle.wm_desc.specs.declared.entry.QueueEntry.{QueueEntry}
 use Rattle.wm_desc.specs.declared.entry.RouteEntry.{RouteEntry}
 use Rattle.wm_desc.specs.declared.objects.Objects.{Objects}
-use Rattle.wm_desc.specs.Refusals.{is_any}
+use Rattle.wm_desc.specs.Refusals.{first_refusal, is_any, relation_tests}
 use Rattle.wm_desc.specs.Sorted.{IsSortedOnce}
 use Rattle.wm_desc.specs.Table.{is_qcmd, name_of, object_named, qname_cmp}
 use Rattle.wm_law.specs.Kept.{IsDistinct}
@@ -48,6 +49,13 @@ pub record HasAutostartEntries (objects : Objects) (entries : List AutoEntry) : 
   pub sorted : IsSortedOnce (λ e. e.job) (slice_cmp nat_cmp) entries
   pub jobds : (e : AutoEntry) → IsIn e entries → IsSome (object_named e.jobd objects.jobds)
 
+-- prestart entries stand in the order of their programs, each program once; each program and each class is an object; the values of an entry go together
+pub record HasPrestartEntries (objects : Objects) (entries : List PreEntry) : Type 0 where
+  pub sorted : IsSortedOnce (λ e. e.pgm) qname_cmp entries
+  pub programs : (e : PreEntry) → IsIn e entries → IsSome (object_named e.pgm objects.programs)
+  pub classes : (e : PreEntry) → IsIn e entries → IsSome (object_named e.cls objects.classes)
+  pub related : (e : PreEntry) → IsIn e entries → first_refusal (relation_tests e) ≡ None
+
 -- no entry list is above its limit
 pub record IsWithinSizes (d : Sbsd) : Type 0 where
   pub queues : length d.queues ≤ 100
@@ -55,11 +63,12 @@ pub record IsWithinSizes (d : Sbsd) : Type 0 where
   pub autos : length d.autos ≤ 100
   pub pres : length d.pres ≤ 100
 
--- what holds of a description: its queue entries, its routing entries, its autostart entries, and how many there are
+-- what holds of a description: its queue entries, its routing entries, its autostart entries, its prestart entries, and how many there are
 pub record IsDescription (objects : Objects) (d : Sbsd) : Type 0 where
   pub queues : HasQueueEntries objects d.queues
   pub routes : HasRoutingEntries objects d.routes
   pub autos : HasAutostartEntries objects d.autos
+  pub pres : HasPrestartEntries objects d.pres
   pub sizes : IsWithinSizes d
 
 -- what holds of the objects: their tables, and each subsystem description

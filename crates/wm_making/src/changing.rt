@@ -3,7 +3,9 @@ ghost use Rattle.std.specs.Prelude.{◌≡◌, OnOk, OnErr, IfOk};
 ghost use Rattle.wm_law.specs.Fit.{IsCommand};
 ghost use Rattle.wm_making.specs.Making.{change_objects, state_with};
 
-use crate::entries::{add_auto, add_queue, add_route, remove_auto, remove_queue, remove_route};
+use crate::entries::{
+    add_auto, add_pre, add_queue, add_route, remove_auto, remove_pre, remove_queue, remove_route,
+};
 use crate::making::{make_class, make_description, make_job_description, make_program, make_queue};
 use std::alloc::Global;
 use wm_base::NoMemory;
@@ -32,9 +34,11 @@ pub fn change_objects(
         Command::Addjobqe(command) => add_queue(objects, started, command),
         Command::Addrtge(command) => add_route(objects, started, command),
         Command::Addaje(command) => add_auto(objects, started, command),
+        Command::Addpje(command) => add_pre(objects, started, command),
         Command::Rmvjobqe(command) => Ok(remove_queue(objects, started, command)),
         Command::Rmvrtge(command) => Ok(remove_route(objects, started, command)),
         Command::Rmvaje(command) => Ok(remove_auto(objects, started, command)),
+        Command::Rmvpje(command) => Ok(remove_pre(objects, started, command)),
         _ => Ok(Reply::Nothing),
     }
 }

@@ -1,16 +1,18 @@
 // The commands that add and remove entries of subsystem descriptions.
 ghost use Rattle.std.specs.Prelude.{◌≡◌, ◌&&◌, IsTrue, OnOk, OnErr, IfOk, is_some};
 ghost use Rattle.std.specs.List.{list_any};
-ghost use Rattle.wm_desc.specs.Ranges.{queue_in_range, route_in_range};
+ghost use Rattle.wm_desc.specs.Ranges.{pre_in_range, queue_in_range, route_in_range};
 ghost use Rattle.wm_desc.specs.Table.{object_named, same_qname};
-ghost use Rattle.wm_law.specs.Making.{queue_entry_of, route_entry_of, is_in_use, add_queue, add_route, add_auto, remove_queue, remove_route, remove_auto};
+ghost use Rattle.wm_law.specs.Making.{pre_entry_of, queue_entry_of, route_entry_of, is_in_use, add_queue, add_route, add_auto, add_pre, remove_queue, remove_route, remove_auto, remove_pre};
 ghost use Rattle.wm_making.specs.Making.{state_with};
 
 use crate::replies::{made, removed};
-use crate::values::{auto_entry_of, queue_entry_of, route_entry_of};
+use crate::values::{auto_entry_of, pre_entry_of, queue_entry_of, route_entry_of};
 use wm_base::{NoMemory, QName, Refusal};
 use wm_desc::Objects;
-use wm_law::{Addaje, Addjobqe, Addrtge, Reply, Rmvaje, Rmvjobqe, Rmvrtge, SbsList};
+use wm_law::{
+    Addaje, Addjobqe, Addpje, Addrtge, Reply, Rmvaje, Rmvjobqe, Rmvpje, Rmvrtge, SbsList,
+};
 
 // Whether a started subsystem has the description.
 fn is_in_use(started: &SbsList, sbsd: &QName) -> bool
@@ -80,6 +82,24 @@ pub(crate) fn add_auto(
     Ok(reply)
 }
 
+/// ADDPJE.
+pub(crate) fn add_pre(
+    objects: &mut Objects,
+    started: &SbsList,
+    command: &Addpje,
+) -> Result<Reply, NoMemory>
+    requires { IsTrue (pre_in_range (pre_entry_of command.now)) }
+    ensures reply { IfOk result (λ r. r ≡ (add_pre (state_with objects.old started.now) command.now).reply) }
+    ensures objects { OnOk result (objects.new ≡ (add_pre (state_with objects.old started.now) command.now).state.objects) }
+    ensures err { OnErr result (objects.new ≡ objects.old) }
+{
+    if is_active(objects, started, &command.sbsd) {
+        return Ok(Reply::No(Refusal::SbsActive));
+    }
+    let reply = made(objects.add_pre(&command.sbsd, pre_entry_of(command)))?;
+    Ok(reply)
+}
+
 /// RMVJOBQE.
 pub(crate) fn remove_queue(objects: &mut Objects, started: &SbsList, command: &Rmvjobqe) -> Reply
     ensures reply { result ≡ (remove_queue (state_with objects.old started.now) command.now).reply }
@@ -111,4 +131,15 @@ pub(crate) fn remove_auto(objects: &mut Objects, started: &SbsList, command: &Rm
         return Reply::No(Refusal::SbsActive);
     }
     removed(objects.remove_auto(&command.sbsd, &command.job))
+}
+
+/// RMVPJE.
+pub(crate) fn remove_pre(objects: &mut Objects, started: &SbsList, command: &Rmvpje) -> Reply
+    ensures reply { result ≡ (remove_pre (state_with objects.old started.now) command.now).reply }
+    ensures objects { objects.new ≡ (remove_pre (state_with objects.old started.now) command.now).state.objects }
+{
+    if is_active(objects, started, &command.sbsd) {
+        return Reply::No(Refusal::SbsActive);
+    }
+    removed(objects.remove_pre(&command.sbsd, &command.pgm))
 }

@@ -57,9 +57,11 @@ fn saved_by(
         Command::Addjobqe(command) => saved_description(&command.sbsd, objects),
         Command::Addrtge(command) => saved_description(&command.sbsd, objects),
         Command::Addaje(command) => saved_description(&command.sbsd, objects),
+        Command::Addpje(command) => saved_description(&command.sbsd, objects),
         Command::Rmvjobqe(command) => saved_description(&command.sbsd, objects),
         Command::Rmvrtge(command) => saved_description(&command.sbsd, objects),
         Command::Rmvaje(command) => saved_description(&command.sbsd, objects),
+        Command::Rmvpje(command) => saved_description(&command.sbsd, objects),
         Command::Hldjobq(_) | Command::Rlsjobq(_) => saved_held(alloc, held),
         _ => Ok(Saved::Nothing),
     }

@@ -1,10 +1,10 @@
 // The objects and entries that commands describe.
 ghost use Rattle.std.specs.Prelude.{◌≡◌, IfOk};
-ghost use Rattle.wm_law.specs.Making.{class_of, jobd_of, queue_entry_of, route_entry_of, auto_entry_of};
+ghost use Rattle.wm_law.specs.Making.{class_of, jobd_of, queue_entry_of, route_entry_of, auto_entry_of, pre_entry_of};
 
 use wm_base::{Class, NoMemory};
-use wm_desc::{AutoEntry, Jobd, QueueEntry, RouteEntry};
-use wm_law::{Addaje, Addjobqe, Addrtge, Crtcls, Crtjobd};
+use wm_desc::{AutoEntry, Jobd, PreEntry, QueueEntry, RouteEntry};
+use wm_law::{Addaje, Addjobqe, Addpje, Addrtge, Crtcls, Crtjobd};
 
 pub(crate) fn queue_entry_of(command: &Addjobqe) -> QueueEntry
     ensures { result ≡ queue_entry_of command.now }
@@ -36,6 +36,23 @@ pub(crate) fn auto_entry_of(command: &Addaje) -> AutoEntry
     AutoEntry {
         job: command.job,
         jobd: command.jobd,
+    }
+}
+
+pub(crate) fn pre_entry_of(command: &Addpje) -> PreEntry
+    ensures { result ≡ pre_entry_of command.now }
+{
+    PreEntry {
+        pgm: command.pgm,
+        strjobs: command.strjobs,
+        inljobs: command.inljobs,
+        threshold: command.threshold,
+        adljobs: command.adljobs,
+        maxjobs: command.maxjobs,
+        maxuse: command.maxuse,
+        wait: command.wait,
+        cls: command.cls,
+        poolid: command.poolid,
     }
 }
 

@@ -42,7 +42,7 @@ left s (command.Crtsbsd c) e never = unmade s _ _ never
 left s (command.Addjobqe c) e never = unmade s _ _ never
 left s (command.Addrtge c) e never = unmade s _ _ never
 left s (command.Addaje c) e never = unmade s _ _ never
-left s (command.Addpje c) e never = refl
+left s (command.Addpje c) e never = unmade s _ _ never
 left s c e never = absurd (cc)
 
 module _ (s : State) (c : Command) (place : is_some (place_of c) ≡ true) (started : List Sbs) (same : started ≡ s.started) where

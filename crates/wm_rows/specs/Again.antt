@@ -18,8 +18,7 @@ use Rattle.wm_law.specs.declared.command.Crtjobd.{Crtjobd}
 use Rattle.wm_law.specs.declared.command.Crtjobq.{Crtjobq}
 use Rattle.wm_law.specs.declared.command.Crtpgmref.{Crtpgmref}
 use Rattle.wm_law.specs.declared.command.Crtsbsd.{Crtsbsd}
-use Rattle.wm_law.specs.Fit.{pre_entry_of}
-use Rattle.wm_law.specs.Making.{class_of, jobd_of, queue_entry_of, route_entry_of, auto_entry_of}
+use Rattle.wm_law.specs.Making.{class_of, jobd_of, queue_entry_of, route_entry_of, auto_entry_of, pre_entry_of}
 
 -- Objects
 

@@ -24,7 +24,7 @@ pub use counter::{counter_row, counter_word};
 pub use held::held_row;
 pub use laws::{commands_have_rows, things_are_made_again};
 pub use place::{COUNTERS, HELD, Place, QUEUE_ENTRIES, ROUTE_ENTRIES};
-pub use places::{auto_place, numbered_place, object_place};
+pub use places::{auto_place, numbered_place, object_place, pre_place};
 pub use reading::read_row;
 pub use rows::command_row;
 pub use stored::{Counter, Stored};

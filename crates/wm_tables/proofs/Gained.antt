@@ -16,25 +16,26 @@ use Rattle.wm_desc.specs.declared.description.Jobq.{Jobq}
 use Rattle.wm_desc.specs.declared.description.Program.{Program}
 use Rattle.wm_desc.specs.declared.description.Sbsd.{Sbsd}
 use Rattle.wm_desc.specs.declared.entry.AutoEntry.{AutoEntry}
+use Rattle.wm_desc.specs.declared.entry.PreEntry.{PreEntry}
 use Rattle.wm_desc.specs.declared.entry.QueueEntry.{QueueEntry}
 use Rattle.wm_desc.specs.declared.entry.RouteEntry.{RouteEntry}
 use Rattle.wm_desc.specs.declared.objects.Objects.{Objects}
-use Rattle.wm_desc.specs.Objects.{empty_sbsd, with_auto, with_class, with_description, with_jobd, with_jobq, with_program, with_queue, with_route, with_sbsd}
-use Rattle.wm_desc.specs.Refusals.{auto_refusal, auto_tests, by_description, first_refusal, object_refusal, program_refusal, queue_refusal, queue_tests, route_refusal, route_tests}
+use Rattle.wm_desc.specs.Objects.{empty_sbsd, with_auto, with_class, with_description, with_jobd, with_jobq, with_pre, with_program, with_queue, with_route, with_sbsd}
+use Rattle.wm_desc.specs.Refusals.{auto_refusal, auto_tests, by_description, first_refusal, object_refusal, pre_refusal, pre_tests, program_refusal, queue_refusal, queue_tests, route_refusal, route_tests}
 use Rattle.wm_desc.specs.Sorted.{place_of}
 use Rattle.wm_desc.specs.Table.{changed, name_of, object_named, qname_cmp, same_qname}
 use Rattle.wm_desc.proofs.Tables.{one_name}
 use Rattle.wm_traits.specs.declared.row.Row.{Row}
 use Rattle.wm_law.specs.Laws.{IsIn}
 use Rattle.wm_law.specs.Machine.{change}
-use Rattle.wm_law.specs.Making.{class_of, jobd_of, queue_entry_of, route_entry_of, auto_entry_of, is_in_use, made_unless, unless_in_use}
+use Rattle.wm_law.specs.Making.{class_of, jobd_of, queue_entry_of, route_entry_of, auto_entry_of, pre_entry_of, is_in_use, made_unless, unless_in_use}
 use Rattle.wm_law.specs.declared.call.Reply.TheVariants.{Made}
 use Rattle.wm_law.specs.declared.command.Command.{Command}
 use Rattle.wm_law.specs.declared.command.Command.TheVariants as command
 use Rattle.wm_law.specs.declared.state.State.{State}
 use Rattle.wm_law.proofs.InOrder.{in_inserted}
 use Rattle.wm_law.proofs.Members.{in_mapped, of_mapped}
-use Rattle.wm_rows.specs.Rows.{class_row, program_row, queue_row, jobd_row, sbsd_row, queue_entry_row, route_entry_row, auto_entry_row, command_row}
+use Rattle.wm_rows.specs.Rows.{class_row, program_row, queue_row, jobd_row, sbsd_row, queue_entry_row, route_entry_row, auto_entry_row, pre_entry_row, command_row}
 use Rattle.wm_rows.specs.Tables.{queue_entry_rows, route_entry_rows, auto_entry_rows, pre_entry_rows, object_rows, sbsd_rows}
 use Rattle.wm_tables.proofs.OwnPlaces.{in_flat, of_flat}
 use Rattle.wm_tables.proofs.Passing.{in_left_part, in_right_part, of_parts}
@@ -297,6 +298,25 @@ module _ (o : Objects) (name : QName) (x : QName × Sbsd) (i : IsIn x o.sbsds) (
       (gains_right (to_route_entries xs) (to_route_entries ys) (auto_entries xs) (auto_entries ys) row before
       (gains_changed name (with_auto entry) auto_entry_rows row one xs x i e)))
 
+  pre_entry_gained : (entry : PreEntry) → Gains (object_rows o) (object_rows (with_description name (with_pre entry) o)) (pre_entry_row name entry)
+  pre_entry_gained entry =
+      let row = pre_entry_row name entry in
+      let xs = o.sbsds in
+      let ys = changed name (with_pre entry) xs in
+      let one = λ (y : QName × Sbsd) (h : same_qname y.0 name ≡ true).
+      subst (λ (q : QName). Gains (pre_entry_rows y) (pre_entry_rows (y.0, with_pre entry y.1)) (pre_entry_row q entry)) (one_name y.0 name h)
+      (gains_mapped (pre_entry_row y.0) y.1.pres (place_of (λ (d : PreEntry). d.pgm) qname_cmp entry.pgm y.1.pres) entry) in
+      let bare_same : bare xs ≡ bare ys = map_same name (with_pre entry) sbsd_row (λ y. refl) xs in
+      let queues_same : queue_entries xs ≡ queue_entries ys = flat_same name (with_pre entry) queue_entry_rows (λ y. refl) xs in
+      let routes_same : route_entries xs ≡ route_entries ys = flat_same name (with_pre entry) route_entry_rows (λ y. refl) xs in
+      let autos_same : auto_entries xs ≡ auto_entries ys = flat_same name (with_pre entry) auto_entry_rows (λ y. refl) xs in
+      let first : to_queue_entries xs ≡ to_queue_entries ys = ap (λ (l : List Row). l ++ queue_entries xs) bare_same ∙ ap (λ (l : List Row). bare ys ++ l) queues_same in
+      let second : to_route_entries xs ≡ to_route_entries ys = ap (λ (l : List Row). l ++ route_entries xs) first ∙ ap (λ (l : List Row). to_queue_entries ys ++ l) routes_same in
+      let before : to_auto_entries xs ≡ to_auto_entries ys = ap (λ (l : List Row). l ++ auto_entries xs) second ∙ ap (λ (l : List Row). to_route_entries ys ++ l) autos_same in
+      sbsds_gain o ys row
+      (gains_right (to_auto_entries xs) (to_auto_entries ys) (pre_entries xs) (pre_entries ys) row before
+      (gains_changed name (with_pre entry) pre_entry_rows row one xs x i e))
+
 -- What a row's command makes
 
 -- a description with a name, where one is there
@@ -353,5 +373,9 @@ made_gains s user (command.Addrtge c) row e made =
 made_gains s user (command.Addaje c) row e made =
     accepted s (with_description c.sbsd (with_auto (auto_entry_of c)) s.objects) (unless_in_use s c.sbsd (auto_refusal s.objects c.sbsd (auto_entry_of c))) row
     (λ n. (let t = unrefused s c.sbsd (λ d. first_refusal (auto_tests s.objects (auto_entry_of c) d)) n in gains_as _ _ (auto_entry_row c.sbsd (auto_entry_of c)) row e (auto_entry_gained s.objects c.sbsd t.object t.stands t.named (auto_entry_of c))))
+    made
+made_gains s user (command.Addpje c) row e made =
+    accepted s (with_description c.sbsd (with_pre (pre_entry_of c)) s.objects) (unless_in_use s c.sbsd (pre_refusal s.objects c.sbsd (pre_entry_of c))) row
+    (λ n. (let t = unrefused s c.sbsd (λ d. first_refusal (pre_tests s.objects (pre_entry_of c) d)) n in gains_as _ _ (pre_entry_row c.sbsd (pre_entry_of c)) row e (pre_entry_gained s.objects c.sbsd t.object t.stands t.named (pre_entry_of c))))
     made
 made_gains s user c row e made = absurd (cc)

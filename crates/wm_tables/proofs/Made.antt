@@ -24,7 +24,7 @@ use Rattle.wm_law.specs.declared.call.Reply.TheVariants.{Made, QueueHeld}
 use Rattle.wm_law.specs.declared.command.Command.{Command}
 use Rattle.wm_law.specs.declared.command.Command.TheVariants as command
 use Rattle.wm_law.specs.declared.state.State.{State}
-use Rattle.wm_law.proofs.Objects.{IsObjectChange, class_made, queue_made, program_made, job_description_made, description_made, queue_added, route_added, auto_added}
+use Rattle.wm_law.proofs.Objects.{IsObjectChange, class_made, queue_made, program_made, job_description_made, description_made, queue_added, route_added, auto_added, pre_added}
 use Rattle.wm_rows.specs.Rows.{command_row}
 
 -- the objects change, and nothing else
@@ -45,6 +45,7 @@ row_makes s user (command.Crtsbsd c) row e made = making s _ _ (description_made
 row_makes s user (command.Addjobqe c) row e made = making s _ _ (queue_added s c) made
 row_makes s user (command.Addrtge c) row e made = making s _ _ (route_added s c) made
 row_makes s user (command.Addaje c) row e made = making s _ _ (auto_added s c) made
+row_makes s user (command.Addpje c) row e made = making s _ _ (pre_added s c) made
 row_makes s user c row e made = absurd (cc)
 
 tab_is : (a b : Row) (n : ℕ) → Some a ≡ Some b → a.tab ≡ n → n ≤ 9 → b.tab ≤ 9

@@ -14,6 +14,7 @@ use Rattle.wm_desc.specs.declared.description.Jobq.{Jobq}
 use Rattle.wm_desc.specs.declared.description.Program.{Program}
 use Rattle.wm_desc.specs.declared.description.Sbsd.{Sbsd}
 use Rattle.wm_desc.specs.declared.entry.AutoEntry.{AutoEntry}
+use Rattle.wm_desc.specs.declared.entry.PreEntry.{PreEntry}
 use Rattle.wm_desc.specs.declared.entry.QueueEntry.{QueueEntry}
 use Rattle.wm_desc.specs.declared.entry.RouteEntry.{RouteEntry}
 use Rattle.wm_desc.specs.Ranges.{cmp_in_range, limit_within, queue_in_range, route_in_range, within}
@@ -103,10 +104,6 @@ tab_counters n p q r (inr (inr (inr (inr i)))) = absurd i
 to_tab : (n : ℕ) (rows : List Row) → HasTab n rows → HasTabsTo n rows
 to_tab n rows h r i = let at : r.tab ≡ n = h r i in omega arith
 
-none_own : (rows : List Row) → ((r : Row) → IsIn r rows → ⊥) → HasOwnPlaces rows
-none_own [] h = tt
-none_own (r ∷ rows) h = absurd (h r (inl refl))
-
 module _ (s : State) (sound : IsSound s) (range : IsInRange s) where
   abbrev tables : HasTables s.objects
   tables = sound.objects.tables
@@ -146,6 +143,11 @@ module _ (s : State) (sound : IsSound s) (range : IsInRange s) where
   pub one_auto_entry : (x y : QName × Sbsd) (e f : AutoEntry) → IsIn x s.objects.sbsds → IsIn y s.objects.sbsds → place_of (auto_entry_row x.0 e) ≡ place_of (auto_entry_row y.0 f) → (x.0 ≡ y.0) × (e.job ≡ f.job)
   one_auto_entry x y e f i j same = one_entry x.0 y.0 e.job f.job (sbsd_name x i) (sbsd_name y j) (same_key (auto_entry_row x.0 e) (auto_entry_row y.0 f) same)
 
+  pub one_pre_entry : (x y : QName × Sbsd) (e f : PreEntry) → IsIn x s.objects.sbsds → IsIn y s.objects.sbsds → IsIn e x.1.pres → IsIn f y.1.pres → place_of (pre_entry_row x.0 e) ≡ place_of (pre_entry_row y.0 f) → (x.0 ≡ y.0) × (e.pgm ≡ f.pgm)
+  one_pre_entry x y e f i j k l same =
+      let parts = one_entry x.0 y.0 _ _ (sbsd_name x i) (sbsd_name y j) (same_key (pre_entry_row x.0 e) (pre_entry_row y.0 f) same) in
+      (parts.0, one_text e.pgm f.pgm ((range.objects.entries x i).pres e k).pgm ((range.objects.entries y j).pres f l).pgm parts.1)
+
   own_queue_entries : HasOwnPlaces (flat_map queue_entry_rows s.objects.sbsds)
   own_queue_entries =
       own_flat (λ (x : QName × Sbsd). x.0) qname_cmp qname_total queue_entry_rows s.objects.sbsds tables.sbsds.sorted
@@ -175,11 +177,12 @@ module _ (s : State) (sound : IsSound s) (range : IsInRange s) where
 
   own_pre_entries : HasOwnPlaces (flat_map pre_entry_rows s.objects.sbsds)
   own_pre_entries =
-      none_own (flat_map pre_entry_rows s.objects.sbsds)
-      (λ r i.
-      let f = of_flat pre_entry_rows s.objects.sbsds r i in
-      let m = of_mapped (pre_entry_row f.0.0) f.0.1.pres r f.2 in
-      (range.objects.entries f.0 f.1).pres m.0 m.1)
+      own_flat (λ (x : QName × Sbsd). x.0) qname_cmp qname_total pre_entry_rows s.objects.sbsds tables.sbsds.sorted
+      (λ x i. own_mapped (λ (e : PreEntry). e.pgm) qname_cmp qname_total (pre_entry_row x.0) x.1.pres (description x i).pres.sorted (λ e f k l same. (one_pre_entry x x e f i i k l same).1))
+      (λ x y r q i j k l same.
+      let m = of_mapped (pre_entry_row x.0) x.1.pres r k in
+      let n = of_mapped (pre_entry_row y.0) y.1.pres q l in
+      (one_pre_entry x y m.0 n.0 i j m.1 n.1 (ap place_of (sym m.2) ∙ same ∙ ap place_of n.2)).0)
 
   own_held : HasOwnPlaces (held_rows s.held)
   own_held = own_mapped own_name qname_cmp qname_total held_row s.held sound.held.sorted (λ x y i j e. one_text x y (range.held x i) (range.held y j) (same_key (held_row x) (held_row y) e))

@@ -2,12 +2,14 @@
 use Rattle.std.proofs.Common.{◌<◌, ◌≡◌, ℕ, ℤ, ◌+◌, Bool, true, false, cond, nat_eq, List, [], ◌∷◌, map, filter, fold, max, refl, sym, ap, ◌∙◌, inl, inr, arith}
 use Rattle.std.proofs.lemmas.Bool.{eq-eqb}
 use Rattle.wm_base.specs.declared.job.Class.{Class}
+use Rattle.wm_base.specs.declared.limit.Limit.{Limit}
 use Rattle.wm_base.specs.declared.qname.QName.{QName}
 use Rattle.wm_desc.specs.declared.description.Jobd.{Jobd}
 use Rattle.wm_desc.specs.declared.description.Jobq.{Jobq}
 use Rattle.wm_desc.specs.declared.description.Program.{Program}
 use Rattle.wm_desc.specs.declared.description.Sbsd.{Sbsd}
 use Rattle.wm_desc.specs.declared.entry.AutoEntry.{AutoEntry}
+use Rattle.wm_desc.specs.declared.entry.PreEntry.{PreEntry}
 use Rattle.wm_desc.specs.declared.entry.QueueEntry.{QueueEntry}
 use Rattle.wm_desc.specs.declared.entry.RouteEntry.{RouteEntry}
 use Rattle.wm_traits.specs.declared.row.Row.{Row}
@@ -17,7 +19,7 @@ use Rattle.wm_law.specs.Opening.{empty}
 use Rattle.wm_law.specs.declared.job.Job.{Job}
 use Rattle.wm_law.specs.declared.state.State.{State}
 use Rattle.wm_law.proofs.Members.{left_in, left_same}
-use Rattle.wm_rows.specs.Rows.{class_row, program_row, queue_row, jobd_row, sbsd_row, queue_entry_row, route_entry_row, auto_entry_row, held_row, counter_row}
+use Rattle.wm_rows.specs.Rows.{class_row, program_row, queue_row, jobd_row, sbsd_row, queue_entry_row, route_entry_row, auto_entry_row, pre_entry_row, held_row, counter_row}
 use Rattle.wm_rows.specs.declared.stored.Counter.{Counter}
 use Rattle.wm_rows.specs.declared.stored.Counter.TheVariants as counter
 use Rattle.wm_job_rows.specs.JobText.{job_row}
@@ -25,7 +27,7 @@ use Rattle.wm_job_rows.specs.Stored.{stored_of}
 use Rattle.wm_tables.specs.Restart.{restarted_job}
 use Rattle.wm_tables.specs.Tables.{rows_of}
 use Rattle.wm_tables.proofs.OwnPlaces.{same_tab}
-use Rattle.wm_tables.proofs.RowsOf.{IsRowOf, in_rows, of_class, of_program, of_queue, of_jobd, of_sbsd, of_queue_entry, of_route_entry, of_auto_entry, of_held, of_job, of_number, of_place, of_serial}
+use Rattle.wm_tables.proofs.RowsOf.{IsRowOf, in_rows, of_class, of_program, of_queue, of_jobd, of_sbsd, of_queue_entry, of_route_entry, of_auto_entry, of_pre_entry, of_held, of_job, of_number, of_place, of_serial}
 
 -- a description with the entries whose rows pass
 abbrev pub sbsd_part : (Row → Bool) → QName × Sbsd → QName × Sbsd
@@ -36,7 +38,7 @@ sbsd_part p x = (
     queues = filter (λ e. p (queue_entry_row x.0 e)) x.1.queues;
     routes = filter (λ e. p (route_entry_row x.0 e)) x.1.routes;
     autos = filter (λ e. p (auto_entry_row x.0 e)) x.1.autos;
-    pres = [];
+    pres = filter (λ e. p (pre_entry_row x.0 e)) x.1.pres;
   },
 )
 
@@ -131,12 +133,17 @@ not_equal a b c e other same =
 pub far : {b c : ℕ} (a : ℕ) → b ≡ c → nat_eq a b ≡ false → a ≡ c → ⊥
 far {b = b} {c = c} a e other = not_equal a b c e other
 
+-- a description of a name with these entries
+abbrev pub described_by : QName → Limit → List QueueEntry → List RouteEntry → List AutoEntry → List PreEntry → QName × Sbsd
+described_by name maxjobs queues routes autos pres = (name, record { maxjobs = maxjobs; queues = queues; routes = routes; autos = autos; pres = pres })
+
 -- descriptions with the same entries
-pub same_description : (p q : Row → Bool) (x : QName × Sbsd) → filter (λ e. q (queue_entry_row x.0 e)) x.1.queues ≡ filter (λ e. p (queue_entry_row x.0 e)) x.1.queues → filter (λ e. q (route_entry_row x.0 e)) x.1.routes ≡ filter (λ e. p (route_entry_row x.0 e)) x.1.routes → filter (λ e. q (auto_entry_row x.0 e)) x.1.autos ≡ filter (λ e. p (auto_entry_row x.0 e)) x.1.autos → sbsd_part q x ≡ sbsd_part p x
-same_description p q x a b c =
-    ap (λ (l : List QueueEntry). (x.0, record { maxjobs = x.1.maxjobs; queues = l; routes = filter (λ e. q (route_entry_row x.0 e)) x.1.routes; autos = filter (λ e. q (auto_entry_row x.0 e)) x.1.autos; pres = [] })) a
-    ∙ ap (λ (l : List RouteEntry). (x.0, record { maxjobs = x.1.maxjobs; queues = filter (λ e. p (queue_entry_row x.0 e)) x.1.queues; routes = l; autos = filter (λ e. q (auto_entry_row x.0 e)) x.1.autos; pres = [] })) b
-    ∙ ap (λ (l : List AutoEntry). (x.0, record { maxjobs = x.1.maxjobs; queues = filter (λ e. p (queue_entry_row x.0 e)) x.1.queues; routes = filter (λ e. p (route_entry_row x.0 e)) x.1.routes; autos = l; pres = [] })) c
+pub same_entries : (n : QName) (m : Limit) {q0 q1 : List QueueEntry} {r0 r1 : List RouteEntry} {a0 a1 : List AutoEntry} {p0 p1 : List PreEntry} → q0 ≡ q1 → r0 ≡ r1 → a0 ≡ a1 → p0 ≡ p1 → described_by n m q0 r0 a0 p0 ≡ described_by n m q1 r1 a1 p1
+same_entries n m {q0 = q0} {q1 = q1} {r0 = r0} {r1 = r1} {a0 = a0} {a1 = a1} {p0 = p0} {p1 = p1} a b c d =
+    ap (λ (l : List QueueEntry). described_by n m l r0 a0 p0) a
+    ∙ ap (λ (l : List RouteEntry). described_by n m q1 l a0 p0) b
+    ∙ ap (λ (l : List AutoEntry). described_by n m q1 r1 l p0) c
+    ∙ ap (λ (l : List PreEntry). described_by n m q1 r1 a1 l) d
 
 module _ (s : State) (row : Row) (p q : Row → Bool) (h : IsStep s row p q) where
   -- rows of other tables pass both tests or none
@@ -167,13 +174,16 @@ module _ (s : State) (row : Row) (p q : Row → Bool) (h : IsStep s row p q) whe
   pub auto_entries_same : (8 ≡ row.tab → ⊥) → (x : QName × Sbsd) → IsIn x s.objects.sbsds → filter (λ e. q (auto_entry_row x.0 e)) x.1.autos ≡ filter (λ e. p (auto_entry_row x.0 e)) x.1.autos
   auto_entries_same n x i = left_same (λ e. p (auto_entry_row x.0 e)) (λ e. q (auto_entry_row x.0 e)) x.1.autos (λ e j. other_tab (auto_entry_row x.0 e) (of_auto_entry x e i j refl) n)
 
-  pub description_same : (6 ≡ row.tab → ⊥) → (7 ≡ row.tab → ⊥) → (8 ≡ row.tab → ⊥) → (x : QName × Sbsd) → IsIn x s.objects.sbsds → sbsd_part q x ≡ sbsd_part p x
-  description_same a b c x i = same_description p q x (queue_entries_same a x i) (route_entries_same b x i) (auto_entries_same c x i)
+  pub pre_entries_same : (9 ≡ row.tab → ⊥) → (x : QName × Sbsd) → IsIn x s.objects.sbsds → filter (λ e. q (pre_entry_row x.0 e)) x.1.pres ≡ filter (λ e. p (pre_entry_row x.0 e)) x.1.pres
+  pre_entries_same n x i = left_same (λ e. p (pre_entry_row x.0 e)) (λ e. q (pre_entry_row x.0 e)) x.1.pres (λ e j. other_tab (pre_entry_row x.0 e) (of_pre_entry x e i j refl) n)
 
-  pub sbsds_same : (5 ≡ row.tab → ⊥) → (6 ≡ row.tab → ⊥) → (7 ≡ row.tab → ⊥) → (8 ≡ row.tab → ⊥) → sbsds_part q s ≡ sbsds_part p s
-  sbsds_same n a b c =
+  pub description_same : (6 ≡ row.tab → ⊥) → (7 ≡ row.tab → ⊥) → (8 ≡ row.tab → ⊥) → (9 ≡ row.tab → ⊥) → (x : QName × Sbsd) → IsIn x s.objects.sbsds → sbsd_part q x ≡ sbsd_part p x
+  description_same a b c d x i = same_entries x.0 x.1.maxjobs (queue_entries_same a x i) (route_entries_same b x i) (auto_entries_same c x i) (pre_entries_same d x i)
+
+  pub sbsds_same : (5 ≡ row.tab → ⊥) → (6 ≡ row.tab → ⊥) → (7 ≡ row.tab → ⊥) → (8 ≡ row.tab → ⊥) → (9 ≡ row.tab → ⊥) → sbsds_part q s ≡ sbsds_part p s
+  sbsds_same n a b c d =
       ap (map (sbsd_part q)) (left_sbsds_same n)
-      ∙ map_each (sbsd_part q) (sbsd_part p) (sbsds_left p s) (λ x i. description_same a b c x (left_in (λ (y : QName × Sbsd). p (sbsd_row y)) s.objects.sbsds x i))
+      ∙ map_each (sbsd_part q) (sbsd_part p) (sbsds_left p s) (λ x i. description_same a b c d x (left_in (λ (y : QName × Sbsd). p (sbsd_row y)) s.objects.sbsds x i))
 
   pub held_same : (10 ≡ row.tab → ⊥) → held_part q s ≡ held_part p s
   held_same n = left_same (λ x. p (held_row x)) (λ x. q (held_row x)) s.held (λ x i. other_tab (held_row x) (of_held x i refl) n)

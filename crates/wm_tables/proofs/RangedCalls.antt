@@ -62,7 +62,7 @@ use Rattle.wm_law.specs.declared.state.State.{State}
 use Rattle.wm_law.specs.Stepped.{Stepped}
 use Rattle.wm_law.proofs.Endings.{IsPhaseAfter, IsWishing, telling, wished, wishing_job, wishing_kill}
 use Rattle.wm_law.proofs.Members.{left_in}
-use Rattle.wm_law.proofs.Objects.{class_made, queue_made, program_made, job_description_made, description_made, queue_added, route_added, auto_added, queue_removed, route_removed, auto_removed}
+use Rattle.wm_law.proofs.Objects.{class_made, queue_made, program_made, job_description_made, description_made, queue_added, route_added, auto_added, pre_added, queue_removed, route_removed, auto_removed, pre_removed}
 use Rattle.wm_job_rows.specs.Stored.{IsCause, IsPhase, IsQueue, IsRequest, IsStored, stored_of, stored_phase}
 use Rattle.wm_job_rows.specs.declared.stored.StoredJob.{StoredJob}
 use Rattle.wm_tables.specs.Ranges.{IsInRange, IsJobInRange}
@@ -70,7 +70,7 @@ use Rattle.wm_tables.specs.Restart.{IsOfKind}
 use Rattle.wm_tables.proofs.RangedJobs.{AreJobs, jobs_last, jobs_mapped, made_range, phased}
 use Rattle.wm_tables.proofs.RangedLaunches.{at_one, data_length, described_in, request_text, started_range}
 use Rattle.wm_tables.proofs.RangedMoments.{again_within, due_within}
-use Rattle.wm_tables.proofs.RangedObjects.{class_range, program_range, queue_range, jobd_range, sbsd_range, queue_entry_range, route_entry_range, auto_entry_range, without_queue_range, without_route_range, without_auto_range}
+use Rattle.wm_tables.proofs.RangedObjects.{class_range, program_range, queue_range, jobd_range, sbsd_range, queue_entry_range, route_entry_range, auto_entry_range, pre_entry_range, without_queue_range, without_route_range, without_auto_range, without_pre_range}
 use Rattle.wm_tables.proofs.RangedRestarts.{held_range}
 
 -- the jobs change, and nothing else that has a range
@@ -396,9 +396,11 @@ change_keeps s user (command.Crtsbsd c) name h sound r = made_range s _ _ (λ n.
 change_keeps s user (command.Addjobqe c) name h sound r = made_range s _ _ (λ n. queue_entry_range s.objects r.objects c h) (queue_added s c) r
 change_keeps s user (command.Addrtge c) name h sound r = made_range s _ _ (λ n. route_entry_range s.objects r.objects c h) (route_added s c) r
 change_keeps s user (command.Addaje c) name h sound r = made_range s _ _ (λ n. auto_entry_range s.objects r.objects c h) (auto_added s c) r
+change_keeps s user (command.Addpje c) name h sound r = made_range s _ _ (λ n. pre_entry_range s.objects r.objects c h) (pre_added s c) r
 change_keeps s user (command.Rmvjobqe c) name h sound r = made_range s _ _ (λ n. without_queue_range s.objects r.objects c.sbsd c.jobq) (queue_removed s c) r
 change_keeps s user (command.Rmvrtge c) name h sound r = made_range s _ _ (λ n. without_route_range s.objects r.objects c.sbsd c.seqnbr) (route_removed s c) r
 change_keeps s user (command.Rmvaje c) name h sound r = made_range s _ _ (λ n. without_auto_range s.objects r.objects c.sbsd c.job) (auto_removed s c) r
+change_keeps s user (command.Rmvpje c) name h sound r = made_range s _ _ (λ n. without_pre_range s.objects r.objects c.sbsd c.pgm) (pre_removed s c) r
 change_keeps s user (command.Strsbs c) name h sound r = started_range s c.sbsd (start_refusal s c.sbsd) sound.numbered.next_number.least refl r
 change_keeps s user (command.Endsbs c) name h sound r = sbs_ended s c (started_named s c.sbs) r
 change_keeps s user (command.Sbmjob c) name h sound r = either (is_on s.power) _ _ (λ t. submit_range s user c (object_named c.jobd s.objects.jobds) name h refl sound r) (λ t. r)

@@ -14,19 +14,21 @@ use Rattle.wm_desc.specs.declared.description.Jobq.{Jobq}
 use Rattle.wm_desc.specs.declared.description.Program.{Program}
 use Rattle.wm_desc.specs.declared.description.Sbsd.{Sbsd}
 use Rattle.wm_desc.specs.declared.entry.AutoEntry.{AutoEntry}
+use Rattle.wm_desc.specs.declared.entry.PreEntry.{PreEntry}
 use Rattle.wm_desc.specs.declared.entry.QueueEntry.{QueueEntry}
 use Rattle.wm_desc.specs.declared.entry.RouteEntry.{RouteEntry}
 use Rattle.wm_desc.specs.declared.objects.Objects.{Objects}
-use Rattle.wm_desc.specs.Objects.{with_class, with_jobq, with_program, with_jobd, with_sbsd, with_description, with_queue, with_route, with_auto, without_queue, without_route, without_auto}
+use Rattle.wm_desc.specs.Objects.{with_class, with_jobq, with_program, with_jobd, with_sbsd, with_description, with_queue, with_route, with_auto, with_pre, without_queue, without_route, without_auto, without_pre}
 use Rattle.wm_desc.specs.Refusals.{is_full, program_refusal}
 use Rattle.wm_desc.specs.Sorted.{place_of}
 use Rattle.wm_desc.specs.Table.{has_object, is_qcmd, name_of, qname_cmp, same_qname}
 use Rattle.wm_desc.proofs.Tables.{one_name, test_fails}
 use Rattle.wm_law.specs.Fit.{IsCommand}
 use Rattle.wm_law.specs.Laws.{IsIn}
-use Rattle.wm_law.specs.Making.{class_of, jobd_of, queue_entry_of, route_entry_of, auto_entry_of}
+use Rattle.wm_law.specs.Making.{class_of, jobd_of, queue_entry_of, route_entry_of, auto_entry_of, pre_entry_of}
 use Rattle.wm_law.specs.declared.command.Addaje.{Addaje}
 use Rattle.wm_law.specs.declared.command.Addjobqe.{Addjobqe}
+use Rattle.wm_law.specs.declared.command.Addpje.{Addpje}
 use Rattle.wm_law.specs.declared.command.Addrtge.{Addrtge}
 use Rattle.wm_law.specs.declared.command.Command.TheVariants as command
 use Rattle.wm_law.specs.declared.command.Crtcls.{Crtcls}
@@ -36,7 +38,7 @@ use Rattle.wm_law.specs.declared.command.Crtpgmref.{Crtpgmref}
 use Rattle.wm_law.specs.declared.command.Crtsbsd.{Crtsbsd}
 use Rattle.wm_law.proofs.InOrder.{in_inserted}
 use Rattle.wm_law.proofs.Members.{left_in, of_mapped}
-use Rattle.wm_rows.specs.Again.{crtcls_of, crtpgmref_of, crtjobq_of, crtjobd_of, crtsbsd_of, addjobqe_of, addrtge_of, addaje_of}
+use Rattle.wm_rows.specs.Again.{crtcls_of, crtpgmref_of, crtjobq_of, crtjobd_of, crtsbsd_of, addjobqe_of, addrtge_of, addaje_of, addpje_of}
 use Rattle.wm_tables.specs.Ranges.{AreInRange, HasEntriesInRange}
 
 -- what holds of each element and of one more
@@ -171,6 +173,19 @@ module _ (o : Objects) (r : AreInRange o) where
         };
       })
 
+  pub pre_entry_range : (c : Addpje) → IsCommand (command.Addpje c) → AreInRange (with_description c.sbsd (with_pre (pre_entry_of c)) o)
+  pre_entry_range c h =
+      description_range c.sbsd (with_pre (pre_entry_of c))
+      (record {
+        maxjobs = λ d. refl;
+        entries = λ d e. record {
+          queues = e.queues;
+          routes = e.routes;
+          autos = e.autos;
+          pres = each_more (λ (x : PreEntry). IsCommand (command.Addpje (addpje_of c.sbsd x))) d.pres (place_of (λ (x : PreEntry). x.pgm) qname_cmp c.pgm d.pres) (pre_entry_of c) e.pres h;
+        };
+      })
+
   -- an entry that goes leaves the others in range
   pub without_queue_range : (sbsd jobq : QName) → AreInRange (with_description sbsd (without_queue jobq) o)
   without_queue_range sbsd jobq =
@@ -186,3 +201,8 @@ module _ (o : Objects) (r : AreInRange o) where
   without_auto_range sbsd job =
       description_range sbsd (without_auto job)
       (record { maxjobs = λ d. refl; entries = λ d e. record { queues = e.queues; routes = e.routes; autos = λ x i. e.autos x (left_in (λ (y : AutoEntry). not (pointwise nat_eq y.job job)) d.autos x i); pres = e.pres } })
+
+  pub without_pre_range : (sbsd pgm : QName) → AreInRange (with_description sbsd (without_pre pgm) o)
+  without_pre_range sbsd pgm =
+      description_range sbsd (without_pre pgm)
+      (record { maxjobs = λ d. refl; entries = λ d e. record { queues = e.queues; routes = e.routes; autos = e.autos; pres = λ x i. e.pres x (left_in (λ (y : PreEntry). not (same_qname y.pgm pgm)) d.pres x i) } })

@@ -21,7 +21,7 @@ use Rattle.wm_law.specs.declared.command.Command.{Command}
 use Rattle.wm_law.specs.declared.command.Command.TheVariants as command
 use Rattle.wm_law.specs.declared.state.State.{State}
 use Rattle.wm_law.proofs.InOrder.{in_inserted}
-use Rattle.wm_law.proofs.Objects.{class_made, queue_made, program_made, job_description_made, description_made, queue_added, route_added, auto_added}
+use Rattle.wm_law.proofs.Objects.{class_made, queue_made, program_made, job_description_made, description_made, queue_added, route_added, auto_added, pre_added}
 use Rattle.wm_law.proofs.Opened.{batch_sbsd, commands_fit, opened, opening_is, opening_objects}
 use Rattle.wm_rows.specs.Again.{crtcls_of, crtpgmref_of, crtjobq_of, crtjobd_of, crtsbsd_of, addjobqe_of, addrtge_of}
 use Rattle.wm_rows.specs.Rows.{command_row}
@@ -36,7 +36,7 @@ use Rattle.wm_tables.specs.Ranges.{AreInRange, HasEntriesInRange, IsInRange, IsJ
 use Rattle.wm_tables.specs.Restart.{job_of, phase_of, with_counter, with_stored, IsGoodJob, IsRead, Takes}
 use Rattle.wm_tables.proofs.Made.{row_holds}
 use Rattle.wm_tables.proofs.RangedJobs.{jobs_last, made_range, phased_kind, phased_stored}
-use Rattle.wm_tables.proofs.RangedObjects.{class_range, program_range, queue_range, jobd_range, sbsd_range, queue_entry_range, route_entry_range, auto_entry_range}
+use Rattle.wm_tables.proofs.RangedObjects.{class_range, program_range, queue_range, jobd_range, sbsd_range, queue_entry_range, route_entry_range, auto_entry_range, pre_entry_range}
 use Rattle.wm_law.proofs.Members.{All-in}
 
 fits : (c : Command) → IsIn c opening_commands → IsCommand c
@@ -93,7 +93,7 @@ command_range s user (command.Crtsbsd c) row h e r = made_range s _ _ (λ n. sbs
 command_range s user (command.Addjobqe c) row h e r = made_range s _ _ (λ n. queue_entry_range s.objects r.objects c h) (queue_added s c) r
 command_range s user (command.Addrtge c) row h e r = made_range s _ _ (λ n. route_entry_range s.objects r.objects c h) (route_added s c) r
 command_range s user (command.Addaje c) row h e r = made_range s _ _ (λ n. auto_entry_range s.objects r.objects c h) (auto_added s c) r
-command_range s user (command.Addpje c) row h e r = r
+command_range s user (command.Addpje c) row h e r = made_range s _ _ (λ n. pre_entry_range s.objects r.objects c h) (pre_added s c) r
 command_range s user c row h e r = absurd (cc)
 
 -- a queue that becomes held keeps them

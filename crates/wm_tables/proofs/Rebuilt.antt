@@ -2,7 +2,6 @@
 use Rattle.std.proofs.Common.{◌≡◌, ◌⊎◌, ℤ, Bool, true, false, cond, List, [], ◌∷◌, map, filter, refl, sym, ap, subst, ◌∙◌, inl, inr}
 use Rattle.wm_base.specs.declared.qname.QName.{QName}
 use Rattle.wm_desc.specs.declared.description.Sbsd.{Sbsd}
-use Rattle.wm_desc.specs.declared.entry.PreEntry.{PreEntry}
 use Rattle.wm_traits.specs.declared.row.Row.{Row}
 use Rattle.wm_traits.specs.Rows.{is_before, place_of}
 use Rattle.wm_traits.specs.InOrder.{before_later}
@@ -21,12 +20,12 @@ use Rattle.wm_tables.specs.Restart.{AreGood, HasCounters, IsRead, Takes, restart
 use Rattle.wm_tables.specs.Tables.{rows_of, tables}
 use Rattle.wm_tables.proofs.Ends.{in_contains}
 use Rattle.wm_tables.proofs.OwnRows.{own_rows}
-use Rattle.wm_tables.proofs.Parts.{IsStep, jobs_left, reached, same_parts, sbsd_part, state_part}
+use Rattle.wm_tables.proofs.Parts.{IsStep, jobs_left, reached, same_entries, same_parts, sbsd_part, state_part}
 use Rattle.wm_tables.proofs.Passing.{left_all, left_none}
 use Rattle.wm_tables.proofs.Restarts.{good_restart}
 use Rattle.wm_tables.proofs.RowOrder.{IsAscending, ascending, in_tables, never_before, of_tables, put_in_order}
-use Rattle.wm_tables.proofs.RowsOf.{IsRowOf, in_rows, of_rows, of_class, of_program, of_queue, of_jobd, of_sbsd, of_queue_entry, of_route_entry, of_auto_entry, of_held, of_job, of_number, of_place, of_schema, of_serial}
-use Rattle.wm_tables.proofs.StepEntries.{queue_made as queue_entry_made, route_made, auto_made}
+use Rattle.wm_tables.proofs.RowsOf.{IsRowOf, in_rows, of_rows, of_class, of_program, of_queue, of_jobd, of_sbsd, of_queue_entry, of_route_entry, of_auto_entry, of_pre_entry, of_held, of_job, of_number, of_place, of_schema, of_serial}
+use Rattle.wm_tables.proofs.StepEntries.{queue_made as queue_entry_made, route_made, auto_made, pre_made}
 use Rattle.wm_tables.proofs.StepObjects.{class_made, program_made, queue_made, jobd_made, sbsd_made}
 use Rattle.wm_tables.proofs.StepRest.{queue_holds, job_enters, number_counts, place_counts, schema_counts, serial_counts}
 
@@ -96,6 +95,7 @@ module _ (offset : ℤ) (s : State) (sound : IsSound s) (range : IsInRange s) wh
   takes_by row p q h (of_queue_entry x d i j e) = inl (queue_entry_made offset s sound range row p q h x d i j (sym e))
   takes_by row p q h (of_route_entry x d i j e) = inl (route_made offset s sound range row p q h x d i j (sym e))
   takes_by row p q h (of_auto_entry x d i j e) = inl (auto_made offset s sound range row p q h x d i j (sym e))
+  takes_by row p q h (of_pre_entry x d i j e) = inl (pre_made offset s sound range row p q h x d i j (sym e))
   takes_by row p q h (of_held x i e) = inr (inl (queue_holds offset s sound range row p q h x i (sym e)))
   takes_by row p q h (of_job j i e) = inr (inr (inl (job_enters offset s sound range row p q h j i (sym e))))
   takes_by row p q h (of_number e) = inr (inr (inr (number_counts offset s sound range row p q h (sym e))))
@@ -108,7 +108,7 @@ module _ (offset : ℤ) (s : State) (sound : IsSound s) (range : IsInRange s) wh
   read_from [] up are c = refl
   read_from (row ∷ rows) up are c = (
     state_part (passed rows) offset s,
-    takes_by row (passed (row ∷ rows)) (passed rows) (step s row rows up c) (of_rows s range row (are row (inl refl))),
+    takes_by row (passed (row ∷ rows)) (passed rows) (step s row rows up c) (of_rows s row (are row (inl refl))),
     read_from rows up.1 (λ r i. are r (inr i)) (covered_rest s row rows up c),
   )
 
@@ -128,20 +128,11 @@ module _ (offset : ℤ) (s : State) (sound : IsSound s) (range : IsInRange s) wh
       (ap (λ (t : Bool). cond t s.next_place (reached (λ j. j.place) (jobs_left p s))) (h _ (of_place refl)) ∙ ap (reached (λ j. j.place)) no_jobs)
       (ap (λ (t : Bool). cond t s.next_serial (reached (λ j. j.serial) (jobs_left p s))) (h _ (of_serial refl)) ∙ ap (reached (λ j. j.serial)) no_jobs)
 
-  none_in : (pres : List PreEntry) → ((e : PreEntry) → IsIn e pres → ⊥) → [] ≡ pres
-  none_in [] h = refl
-  none_in (e ∷ pres) h = absurd (h e (inl refl))
-
   all_left : {X : Type 0} (xs : List X) → filter (λ x. true) xs ≡ xs
   all_left xs = left_all (λ x. true) xs (λ x i. refl)
 
   whole : (x : QName × Sbsd) → IsIn x s.objects.sbsds → sbsd_part (passed []) x ≡ x
-  whole x i =
-      let d = x.1 in
-      ap (λ (l : List _). (x.0, record { maxjobs = d.maxjobs; queues = l; routes = filter (λ e. true) d.routes; autos = filter (λ e. true) d.autos; pres = [] })) (all_left d.queues)
-      ∙ ap (λ (l : List _). (x.0, record { maxjobs = d.maxjobs; queues = d.queues; routes = l; autos = filter (λ e. true) d.autos; pres = [] })) (all_left d.routes)
-      ∙ ap (λ (l : List _). (x.0, record { maxjobs = d.maxjobs; queues = d.queues; routes = d.routes; autos = l; pres = [] })) (all_left d.autos)
-      ∙ ap (λ (l : List _). (x.0, record { maxjobs = d.maxjobs; queues = d.queues; routes = d.routes; autos = d.autos; pres = l })) (none_in d.pres (range.objects.entries x i).pres)
+  whole x i = same_entries x.0 x.1.maxjobs (all_left x.1.queues) (all_left x.1.routes) (all_left x.1.autos) (all_left x.1.pres)
 
   -- the part of all rows is what a stop leaves
   all_part : state_part (passed []) offset s ≡ restarted offset s

@@ -9,6 +9,7 @@ use Rattle.wm_desc.specs.declared.description.Jobq.{Jobq}
 use Rattle.wm_desc.specs.declared.description.Program.{Program}
 use Rattle.wm_desc.specs.declared.description.Sbsd.{Sbsd}
 use Rattle.wm_desc.specs.declared.entry.AutoEntry.{AutoEntry}
+use Rattle.wm_desc.specs.declared.entry.PreEntry.{PreEntry}
 use Rattle.wm_desc.specs.declared.entry.QueueEntry.{QueueEntry}
 use Rattle.wm_desc.specs.declared.entry.RouteEntry.{RouteEntry}
 use Rattle.wm_desc.specs.Sorted.{IsSortedOnce}
@@ -26,7 +27,6 @@ use Rattle.wm_rows.specs.Tables.{queue_entry_rows, route_entry_rows, auto_entry_
 use Rattle.wm_rows.specs.declared.stored.Counter.TheVariants as counter
 use Rattle.wm_job_rows.specs.JobText.{job_row}
 use Rattle.wm_job_rows.specs.Stored.{stored_of}
-use Rattle.wm_tables.specs.Ranges.{IsInRange}
 use Rattle.wm_tables.specs.Tables.{job_rows, rows_of}
 use Rattle.wm_tables.proofs.OneMore.{first_below, not_same}
 use Rattle.wm_tables.proofs.OwnPlaces.{in_flat, of_flat}
@@ -84,6 +84,7 @@ pub data IsRowOf (s : State) (r : Row) : Type 0 where
   of_queue_entry : (x : QName × Sbsd) (e : QueueEntry) → IsIn x s.objects.sbsds → IsIn e x.1.queues → r ≡ queue_entry_row x.0 e → IsRowOf s r
   of_route_entry : (x : QName × Sbsd) (e : RouteEntry) → IsIn x s.objects.sbsds → IsIn e x.1.routes → r ≡ route_entry_row x.0 e → IsRowOf s r
   of_auto_entry : (x : QName × Sbsd) (e : AutoEntry) → IsIn x s.objects.sbsds → IsIn e x.1.autos → r ≡ auto_entry_row x.0 e → IsRowOf s r
+  of_pre_entry : (x : QName × Sbsd) (e : PreEntry) → IsIn x s.objects.sbsds → IsIn e x.1.pres → r ≡ pre_entry_row x.0 e → IsRowOf s r
   of_held : (q : QName) → IsIn q s.held → r ≡ held_row q → IsRowOf s r
   of_job : (j : Job) → IsIn j s.jobs → r ≡ job_row (stored_of j) → IsRowOf s r
   of_number : r ≡ counter_row counter.Number s.next_number → IsRowOf s r
@@ -189,6 +190,9 @@ module _ (s : State) where
   in_rows r (of_auto_entry x d i j e) =
       let row = auto_entry_row x.0 d in
       there r row e (in_descriptions row (in_right_part to_route_entries auto_entries row (in_flat auto_entry_rows s.objects.sbsds x row i (in_mapped (auto_entry_row x.0) x.1.autos d j))))
+  in_rows r (of_pre_entry x d i j e) =
+      let row = pre_entry_row x.0 d in
+      there r row e (in_objects row (in_right_part first_four descriptions row (in_right_part to_auto_entries pre_entries row (in_flat pre_entry_rows s.objects.sbsds x row i (in_mapped (pre_entry_row x.0) x.1.pres d j)))))
   in_rows r (of_held q i e) = there r (held_row q) e (in_left_part to_jobs counters (held_row q) (in_left_part to_held jobs (held_row q) (in_right_part objects held (held_row q) (in_mapped held_row s.held q i))))
   in_rows r (of_job j i e) =
       let row = job_row (stored_of j) in
@@ -198,59 +202,52 @@ module _ (s : State) where
   in_rows r (of_schema e) = in_counters r (inr (inr (inl e)))
   in_rows r (of_serial e) = in_counters r (inr (inr (inr (inl e))))
 
-  module _ (range : IsInRange s) where
-    no_pre : (r : Row) → IsIn r pre_entries → ⊥
-    no_pre r i =
-        let f = of_flat pre_entry_rows s.objects.sbsds r i in
-        let m = of_mapped (pre_entry_row f.0.0) f.0.1.pres r f.2 in
-        (range.objects.entries f.0 f.1).pres m.0 m.1
+  of_counters : (r : Row) → IsIn r counters → IsRowOf s r
+  of_counters r (inl e) = of_number e
+  of_counters r (inr (inl e)) = of_place e
+  of_counters r (inr (inr (inl e))) = of_schema e
+  of_counters r (inr (inr (inr (inl e)))) = of_serial e
+  of_counters r (inr (inr (inr (inr i)))) = absurd i
 
-    of_counters : (r : Row) → IsIn r counters → IsRowOf s r
-    of_counters r (inl e) = of_number e
-    of_counters r (inr (inl e)) = of_place e
-    of_counters r (inr (inr (inl e))) = of_schema e
-    of_counters r (inr (inr (inr (inl e)))) = of_serial e
-    of_counters r (inr (inr (inr (inr i)))) = absurd i
-
-    of_first : (r : Row) → IsIn r first_four → IsRowOf s r
-    of_first r i =
-        elim (of_parts first_three jobds r i) as (λ _. IsRowOf s r) [
-          | inl a ↦ (elim (of_parts first_two queues r a) as (λ _. IsRowOf s r) [
-            | inl b ↦ (elim (of_parts classes programs r b) as (λ _. IsRowOf s r) [
-              | inl c ↦ (let m = of_mapped class_row s.objects.classes r c in of_class m.0 m.1 m.2)
-              | inr c ↦ (let m = of_mapped program_row s.objects.programs r c in of_program m.0 m.1 m.2)
-            ])
-            | inr b ↦ (let m = of_mapped queue_row s.objects.jobqs r b in of_queue m.0 m.1 m.2)
+  of_first : (r : Row) → IsIn r first_four → IsRowOf s r
+  of_first r i =
+      elim (of_parts first_three jobds r i) as (λ _. IsRowOf s r) [
+        | inl a ↦ (elim (of_parts first_two queues r a) as (λ _. IsRowOf s r) [
+          | inl b ↦ (elim (of_parts classes programs r b) as (λ _. IsRowOf s r) [
+            | inl c ↦ (let m = of_mapped class_row s.objects.classes r c in of_class m.0 m.1 m.2)
+            | inr c ↦ (let m = of_mapped program_row s.objects.programs r c in of_program m.0 m.1 m.2)
           ])
-          | inr a ↦ (let m = of_mapped jobd_row s.objects.jobds r a in of_jobd m.0 m.1 m.2)
-        ]
+          | inr b ↦ (let m = of_mapped queue_row s.objects.jobqs r b in of_queue m.0 m.1 m.2)
+        ])
+        | inr a ↦ (let m = of_mapped jobd_row s.objects.jobds r a in of_jobd m.0 m.1 m.2)
+      ]
 
-    of_descriptions : (r : Row) → IsIn r descriptions → IsRowOf s r
-    of_descriptions r i =
-        elim (of_parts to_auto_entries pre_entries r i) as (λ _. IsRowOf s r) [
-          | inl a ↦ (elim (of_parts to_route_entries auto_entries r a) as (λ _. IsRowOf s r) [
-            | inl b ↦ (elim (of_parts to_queue_entries route_entries r b) as (λ _. IsRowOf s r) [
-              | inl c ↦ (elim (of_parts sbsds queue_entries r c) as (λ _. IsRowOf s r) [
-                | inl d ↦ (let m = of_mapped sbsd_row s.objects.sbsds r d in of_sbsd m.0 m.1 m.2)
-                | inr d ↦ (let f = of_flat queue_entry_rows s.objects.sbsds r d in let m = of_mapped (queue_entry_row f.0.0) f.0.1.queues r f.2 in of_queue_entry f.0 m.0 f.1 m.1 m.2)
-              ])
-              | inr c ↦ (let f = of_flat route_entry_rows s.objects.sbsds r c in let m = of_mapped (route_entry_row f.0.0) f.0.1.routes r f.2 in of_route_entry f.0 m.0 f.1 m.1 m.2)
+  of_descriptions : (r : Row) → IsIn r descriptions → IsRowOf s r
+  of_descriptions r i =
+      elim (of_parts to_auto_entries pre_entries r i) as (λ _. IsRowOf s r) [
+        | inl a ↦ (elim (of_parts to_route_entries auto_entries r a) as (λ _. IsRowOf s r) [
+          | inl b ↦ (elim (of_parts to_queue_entries route_entries r b) as (λ _. IsRowOf s r) [
+            | inl c ↦ (elim (of_parts sbsds queue_entries r c) as (λ _. IsRowOf s r) [
+              | inl d ↦ (let m = of_mapped sbsd_row s.objects.sbsds r d in of_sbsd m.0 m.1 m.2)
+              | inr d ↦ (let f = of_flat queue_entry_rows s.objects.sbsds r d in let m = of_mapped (queue_entry_row f.0.0) f.0.1.queues r f.2 in of_queue_entry f.0 m.0 f.1 m.1 m.2)
             ])
-            | inr b ↦ (let f = of_flat auto_entry_rows s.objects.sbsds r b in let m = of_mapped (auto_entry_row f.0.0) f.0.1.autos r f.2 in of_auto_entry f.0 m.0 f.1 m.1 m.2)
+            | inr c ↦ (let f = of_flat route_entry_rows s.objects.sbsds r c in let m = of_mapped (route_entry_row f.0.0) f.0.1.routes r f.2 in of_route_entry f.0 m.0 f.1 m.1 m.2)
           ])
-          | inr a ↦ absurd (no_pre r a)
-        ]
+          | inr b ↦ (let f = of_flat auto_entry_rows s.objects.sbsds r b in let m = of_mapped (auto_entry_row f.0.0) f.0.1.autos r f.2 in of_auto_entry f.0 m.0 f.1 m.1 m.2)
+        ])
+        | inr a ↦ (let f = of_flat pre_entry_rows s.objects.sbsds r a in let m = of_mapped (pre_entry_row f.0.0) f.0.1.pres r f.2 in of_pre_entry f.0 m.0 f.1 m.1 m.2)
+      ]
 
-    -- each row is the row of something
-    pub of_rows : (r : Row) → IsIn r (rows_of s) → IsRowOf s r
-    of_rows r i =
-        elim (of_parts to_jobs counters r i) as (λ _. IsRowOf s r) [
-          | inl a ↦ (elim (of_parts to_held jobs r a) as (λ _. IsRowOf s r) [
-            | inl b ↦ (elim (of_parts objects held r b) as (λ _. IsRowOf s r) [
-              | inl c ↦ (elim (of_parts first_four descriptions r c) as (λ _. IsRowOf s r) [ inl d ↦ of_first r d | inr d ↦ of_descriptions r d ])
-              | inr c ↦ (let m = of_mapped held_row s.held r c in of_held m.0 m.1 m.2)
-            ])
-            | inr b ↦ (let m = of_mapped (λ (k : Job). job_row (stored_of k)) s.jobs r b in of_job m.0 m.1 m.2)
+  -- each row is the row of something
+  pub of_rows : (r : Row) → IsIn r (rows_of s) → IsRowOf s r
+  of_rows r i =
+      elim (of_parts to_jobs counters r i) as (λ _. IsRowOf s r) [
+        | inl a ↦ (elim (of_parts to_held jobs r a) as (λ _. IsRowOf s r) [
+          | inl b ↦ (elim (of_parts objects held r b) as (λ _. IsRowOf s r) [
+            | inl c ↦ (elim (of_parts first_four descriptions r c) as (λ _. IsRowOf s r) [ inl d ↦ of_first r d | inr d ↦ of_descriptions r d ])
+            | inr c ↦ (let m = of_mapped held_row s.held r c in of_held m.0 m.1 m.2)
           ])
-          | inr a ↦ of_counters r a
-        ]
+          | inr b ↦ (let m = of_mapped (λ (k : Job). job_row (stored_of k)) s.jobs r b in of_job m.0 m.1 m.2)
+        ])
+        | inr a ↦ of_counters r a
+      ]

@@ -1,5 +1,5 @@
 -- A row of an entry makes the part of a state with this entry more.
-use Rattle.std.proofs.Common.{◌≡◌, ◌⊎◌, ℕ, ℤ, ◌<◌, ◌≤◌, ◌||◌, ◌&&◌, not, nat_eq, nat_lt, Bool, true, false, cond, List, [], ◌∷◌, length, map, filter, Some, is_some, refl, sym, ap, subst, ◌∙◌, inl, inr, arith}
+use Rattle.std.proofs.Common.{◌≡◌, ◌⊎◌, ℕ, ℤ, ◌<◌, ◌≤◌, ◌||◌, ◌&&◌, ◌++◌, not, nat_eq, nat_lt, Bool, true, false, cond, List, [], ◌∷◌, length, map, filter, Some, None, is_some, refl, sym, ap, subst, ◌∙◌, inl, inr, arith}
 use Rattle.std.specs.Cmp.Lexicographic.{pointwise, slice_cmp}
 use Rattle.std.specs.Ordering.{nat_cmp}
 use Rattle.std.proofs.lemmas.Bool.Decides.{nat_tests}
@@ -8,17 +8,21 @@ use Rattle.std.proofs.lemmas.Slice.Eq.{bytes_eq-Decides}
 use Rattle.std.proofs.lemmas.Bool.{or_from, eqb-true}
 use Rattle.wm_base.specs.declared.job.Class.{Class}
 use Rattle.wm_base.specs.declared.qname.QName.{QName}
+use Rattle.wm_base.specs.declared.refusal.Kind.TheVariants as kind
+use Rattle.wm_base.specs.declared.refusal.Refusal.TheVariants.{SbsActive, TableFull}
+use Rattle.wm_base.specs.Limit.{is_below}
 use Rattle.wm_desc.specs.declared.description.Jobd.{Jobd}
 use Rattle.wm_desc.specs.declared.description.Jobq.{Jobq}
 use Rattle.wm_desc.specs.declared.description.Program.{Program}
 use Rattle.wm_desc.specs.declared.description.Sbsd.{Sbsd}
 use Rattle.wm_desc.specs.declared.entry.AutoEntry.{AutoEntry}
+use Rattle.wm_desc.specs.declared.entry.PreEntry.{PreEntry}
 use Rattle.wm_desc.specs.declared.entry.QueueEntry.{QueueEntry}
 use Rattle.wm_desc.specs.declared.entry.RouteEntry.{RouteEntry}
-use Rattle.wm_desc.specs.Objects.{with_queue, with_route, with_auto}
-use Rattle.wm_desc.specs.Refusals.{auto_tests, first_refusal, is_any, is_any_before, is_full, queue_tests, route_tests}
+use Rattle.wm_desc.specs.Objects.{with_queue, with_route, with_auto, with_pre}
+use Rattle.wm_desc.specs.Refusals.{auto_tests, first_refusal, is_above, is_any, is_any_before, is_full, pre_tests, queue_tests, relation_tests, route_tests}
 use Rattle.wm_desc.specs.Table.{changed, has_object, is_qcmd, object_named, qname_cmp, same_qname}
-use Rattle.wm_desc.proofs.Tables.{one_name, qname_total}
+use Rattle.wm_desc.proofs.Tables.{one_name, qname_total, test_fails}
 use Rattle.wm_traits.specs.declared.row.Row.{Row}
 use Rattle.wm_traits.specs.Rows.{place_of}
 use Rattle.wm_law.specs.Kept.{IsDistinct}
@@ -28,17 +32,17 @@ use Rattle.wm_law.specs.declared.command.Command.TheVariants as command
 use Rattle.wm_law.specs.declared.state.State.{State}
 use Rattle.wm_law.proofs.Members.{in_mapped, left_in, left_same}
 use Rattle.wm_law.proofs.Named.{is_named, own_name}
-use Rattle.wm_rows.specs.Again.{addjobqe_of, addrtge_of, addaje_of}
-use Rattle.wm_rows.specs.Rows.{class_row, program_row, queue_row, jobd_row, sbsd_row, queue_entry_row, route_entry_row, auto_entry_row}
+use Rattle.wm_rows.specs.Again.{addjobqe_of, addrtge_of, addaje_of, addpje_of}
+use Rattle.wm_rows.specs.Rows.{class_row, program_row, queue_row, jobd_row, sbsd_row, queue_entry_row, route_entry_row, auto_entry_row, pre_entry_row}
 use Rattle.wm_tables.specs.Ranges.{IsInRange}
 use Rattle.wm_tables.specs.Restart.{Makes}
 use Rattle.wm_tables.proofs.Made.{tab_before}
 use Rattle.wm_tables.proofs.OneMore.{IsOneMore, next_added, next_new, one_of_key}
-use Rattle.wm_tables.proofs.OwnRows.{description, one_queue_entry, one_route_entry, one_auto_entry}
-use Rattle.wm_tables.proofs.Parts.{IsStep, far, objects_step, state_part, class_part, program_part, queue_part, jobd_part, sbsds_left, sbsds_part, sbsd_part, classes_same, programs_same, queues_same, jobds_same, left_sbsds_same, queue_entries_same, route_entries_same, auto_entries_same, same_description}
+use Rattle.wm_tables.proofs.OwnRows.{description, one_queue_entry, one_route_entry, one_auto_entry, one_pre_entry}
+use Rattle.wm_tables.proofs.Parts.{IsStep, far, objects_step, state_part, class_part, program_part, queue_part, jobd_part, sbsds_left, sbsds_part, sbsd_part, classes_same, programs_same, queues_same, jobds_same, left_sbsds_same, queue_entries_same, route_entries_same, auto_entries_same, pre_entries_same, same_entries}
 use Rattle.wm_tables.proofs.Passing.{fewer, left_all, left_passes, none_passes}
-use Rattle.wm_tables.proofs.RowsOf.{IsRowOf, in_rows, named_changed, named_in, of_class, of_program, of_queue, of_jobd, of_sbsd, of_queue_entry, of_route_entry, of_auto_entry}
-use Rattle.wm_tables.proofs.Unrefused.{command_makes, described_free, never_in_use, none_refuses, not_full}
+use Rattle.wm_tables.proofs.RowsOf.{IsRowOf, in_rows, named_changed, named_in, of_class, of_program, of_queue, of_jobd, of_sbsd, of_queue_entry, of_route_entry, of_auto_entry, of_pre_entry}
+use Rattle.wm_tables.proofs.Unrefused.{NoneHolds, command_makes, described_free, never_in_use, none_refuses, not_full}
 
 -- of elements with distinct keys no two have one
 pub one_distinct : {X A : Type 0} (key : X → A) (xs : List X) (x y : X) → IsDistinct (map key xs) → IsIn x xs → IsIn y xs → key x ≡ key y → x ≡ y
@@ -131,10 +135,17 @@ module _ (offset : ℤ) (s : State) (sound : IsSound s) (range : IsInRange s) (r
       let tab : 6 ≡ row.tab = ap (λ (r : Row). r.tab) same in
       record {
         this =
-            ap (λ (l : List QueueEntry). (x.0, record { maxjobs = x.1.maxjobs; queues = l; routes = filter (λ d. p (route_entry_row x.0 d)) x.1.routes; autos = filter (λ d. p (auto_entry_row x.0 d)) x.1.autos; pres = [] })) (next_added (λ (d : QueueEntry). d.seq) nat_cmp nat_cmp_total (λ d. p (queue_entry_row x.0 d)) (λ d. q (queue_entry_row x.0 d)) x.1.queues e (description s sound range x i).queues.sorted j (queue_more x e i j same))
-            ∙ ap (λ (l : List RouteEntry). (x.0, record { maxjobs = x.1.maxjobs; queues = filter (λ d. q (queue_entry_row x.0 d)) x.1.queues; routes = l; autos = filter (λ d. p (auto_entry_row x.0 d)) x.1.autos; pres = [] })) (sym (route_entries_same s row p q h (far 7 tab refl) x i))
-            ∙ ap (λ (l : List AutoEntry). (x.0, record { maxjobs = x.1.maxjobs; queues = filter (λ d. q (queue_entry_row x.0 d)) x.1.queues; routes = filter (λ d. q (route_entry_row x.0 d)) x.1.routes; autos = l; pres = [] })) (sym (auto_entries_same s row p q h (far 8 tab refl) x i));
-        other = λ y m n. same_description p q y (left_same (λ d. p (queue_entry_row y.0 d)) (λ d. q (queue_entry_row y.0 d)) y.1.queues (λ d k. h.others (queue_entry_row y.0 d) (in_rows s (queue_entry_row y.0 d) (of_queue_entry y d m k refl)) (λ f. n (one_queue_entry s sound range y x d e m i k j (f ∙ ap place_of (sym same))).0))) (route_entries_same s row p q h (far 7 tab refl) y m) (auto_entries_same s row p q h (far 8 tab refl) y m);
+            same_entries x.0 x.1.maxjobs
+            (next_added (λ (d : QueueEntry). d.seq) nat_cmp nat_cmp_total (λ d. p (queue_entry_row x.0 d)) (λ d. q (queue_entry_row x.0 d)) x.1.queues e (description s sound range x i).queues.sorted j (queue_more x e i j same))
+            (sym (route_entries_same s row p q h (far 7 tab refl) x i))
+            (sym (auto_entries_same s row p q h (far 8 tab refl) x i))
+            (sym (pre_entries_same s row p q h (far 9 tab refl) x i));
+        other = λ y m n.
+            same_entries y.0 y.1.maxjobs
+            (left_same (λ d. p (queue_entry_row y.0 d)) (λ d. q (queue_entry_row y.0 d)) y.1.queues (λ d k. h.others (queue_entry_row y.0 d) (in_rows s (queue_entry_row y.0 d) (of_queue_entry y d m k refl)) (λ f. n (one_queue_entry s sound range y x d e m i k j (f ∙ ap place_of (sym same))).0)))
+            (route_entries_same s row p q h (far 7 tab refl) y m)
+            (auto_entries_same s row p q h (far 8 tab refl) y m)
+            (pre_entries_same s row p q h (far 9 tab refl) y m);
       }
 
   fed_by : (x : QName × Sbsd) (e d : QueueEntry) (t : Bool) → IsIn x s.objects.sbsds → IsIn e x.1.queues → p (queue_entry_row x.0 e) ≡ false → IsIn d (filter (λ c. p (queue_entry_row x.0 c)) x.1.queues) → same_qname d.jobq e.jobq ≡ t → t ≡ false
@@ -181,10 +192,17 @@ module _ (offset : ℤ) (s : State) (sound : IsSound s) (range : IsInRange s) (r
       let tab : 7 ≡ row.tab = ap (λ (r : Row). r.tab) same in
       record {
         this =
-            ap (λ (l : List RouteEntry). (x.0, record { maxjobs = x.1.maxjobs; queues = filter (λ d. p (queue_entry_row x.0 d)) x.1.queues; routes = l; autos = filter (λ d. p (auto_entry_row x.0 d)) x.1.autos; pres = [] })) (next_added (λ (d : RouteEntry). d.seq) nat_cmp nat_cmp_total (λ d. p (route_entry_row x.0 d)) (λ d. q (route_entry_row x.0 d)) x.1.routes e (sound.orders.routed.sorted x.0 x.1 (named_in s.objects.sbsds x sound.objects.tables.sbsds.sorted i)) j (route_more x e i j same))
-            ∙ ap (λ (l : List QueueEntry). (x.0, record { maxjobs = x.1.maxjobs; queues = l; routes = filter (λ d. q (route_entry_row x.0 d)) x.1.routes; autos = filter (λ d. p (auto_entry_row x.0 d)) x.1.autos; pres = [] })) (sym (queue_entries_same s row p q h (far 6 tab refl) x i))
-            ∙ ap (λ (l : List AutoEntry). (x.0, record { maxjobs = x.1.maxjobs; queues = filter (λ d. q (queue_entry_row x.0 d)) x.1.queues; routes = filter (λ d. q (route_entry_row x.0 d)) x.1.routes; autos = l; pres = [] })) (sym (auto_entries_same s row p q h (far 8 tab refl) x i));
-        other = λ y m n. same_description p q y (queue_entries_same s row p q h (far 6 tab refl) y m) (left_same (λ d. p (route_entry_row y.0 d)) (λ d. q (route_entry_row y.0 d)) y.1.routes (λ d k. h.others (route_entry_row y.0 d) (in_rows s (route_entry_row y.0 d) (of_route_entry y d m k refl)) (λ f. n (one_route_entry s sound range y x d e m i k j (f ∙ ap place_of (sym same))).0))) (auto_entries_same s row p q h (far 8 tab refl) y m);
+            same_entries x.0 x.1.maxjobs
+            (sym (queue_entries_same s row p q h (far 6 tab refl) x i))
+            (next_added (λ (d : RouteEntry). d.seq) nat_cmp nat_cmp_total (λ d. p (route_entry_row x.0 d)) (λ d. q (route_entry_row x.0 d)) x.1.routes e (sound.orders.routed.sorted x.0 x.1 (named_in s.objects.sbsds x sound.objects.tables.sbsds.sorted i)) j (route_more x e i j same))
+            (sym (auto_entries_same s row p q h (far 8 tab refl) x i))
+            (sym (pre_entries_same s row p q h (far 9 tab refl) x i));
+        other = λ y m n.
+            same_entries y.0 y.1.maxjobs
+            (queue_entries_same s row p q h (far 6 tab refl) y m)
+            (left_same (λ d. p (route_entry_row y.0 d)) (λ d. q (route_entry_row y.0 d)) y.1.routes (λ d k. h.others (route_entry_row y.0 d) (in_rows s (route_entry_row y.0 d) (of_route_entry y d m k refl)) (λ f. n (one_route_entry s sound range y x d e m i k j (f ∙ ap place_of (sym same))).0)))
+            (auto_entries_same s row p q h (far 8 tab refl) y m)
+            (pre_entries_same s row p q h (far 9 tab refl) y m);
       }
 
   program_there : (x : QName × Sbsd) (e : RouteEntry) → 2 < row.tab → IsIn x s.objects.sbsds → IsIn e x.1.routes → not (is_qcmd e.pgm || has_object e.pgm (program_part p s)) ≡ false
@@ -238,10 +256,17 @@ module _ (offset : ℤ) (s : State) (sound : IsSound s) (range : IsInRange s) (r
       let tab : 8 ≡ row.tab = ap (λ (r : Row). r.tab) same in
       record {
         this =
-            ap (λ (l : List AutoEntry). (x.0, record { maxjobs = x.1.maxjobs; queues = filter (λ d. p (queue_entry_row x.0 d)) x.1.queues; routes = filter (λ d. p (route_entry_row x.0 d)) x.1.routes; autos = l; pres = [] })) (next_added (λ (d : AutoEntry). d.job) (slice_cmp nat_cmp) nat_list_cmp_total (λ d. p (auto_entry_row x.0 d)) (λ d. q (auto_entry_row x.0 d)) x.1.autos e (description s sound range x i).autos.sorted j (auto_more x e i j same))
-            ∙ ap (λ (l : List QueueEntry). (x.0, record { maxjobs = x.1.maxjobs; queues = l; routes = filter (λ d. p (route_entry_row x.0 d)) x.1.routes; autos = filter (λ d. q (auto_entry_row x.0 d)) x.1.autos; pres = [] })) (sym (queue_entries_same s row p q h (far 6 tab refl) x i))
-            ∙ ap (λ (l : List RouteEntry). (x.0, record { maxjobs = x.1.maxjobs; queues = filter (λ d. q (queue_entry_row x.0 d)) x.1.queues; routes = l; autos = filter (λ d. q (auto_entry_row x.0 d)) x.1.autos; pres = [] })) (sym (route_entries_same s row p q h (far 7 tab refl) x i));
-        other = λ y m n. same_description p q y (queue_entries_same s row p q h (far 6 tab refl) y m) (route_entries_same s row p q h (far 7 tab refl) y m) (left_same (λ d. p (auto_entry_row y.0 d)) (λ d. q (auto_entry_row y.0 d)) y.1.autos (λ d k. h.others (auto_entry_row y.0 d) (in_rows s (auto_entry_row y.0 d) (of_auto_entry y d m k refl)) (λ f. n (one_auto_entry s sound range y x d e m i (f ∙ ap place_of (sym same))).0)));
+            same_entries x.0 x.1.maxjobs
+            (sym (queue_entries_same s row p q h (far 6 tab refl) x i))
+            (sym (route_entries_same s row p q h (far 7 tab refl) x i))
+            (next_added (λ (d : AutoEntry). d.job) (slice_cmp nat_cmp) nat_list_cmp_total (λ d. p (auto_entry_row x.0 d)) (λ d. q (auto_entry_row x.0 d)) x.1.autos e (description s sound range x i).autos.sorted j (auto_more x e i j same))
+            (sym (pre_entries_same s row p q h (far 9 tab refl) x i));
+        other = λ y m n.
+            same_entries y.0 y.1.maxjobs
+            (queue_entries_same s row p q h (far 6 tab refl) y m)
+            (route_entries_same s row p q h (far 7 tab refl) y m)
+            (left_same (λ d. p (auto_entry_row y.0 d)) (λ d. q (auto_entry_row y.0 d)) y.1.autos (λ d k. h.others (auto_entry_row y.0 d) (in_rows s (auto_entry_row y.0 d) (of_auto_entry y d m k refl)) (λ f. n (one_auto_entry s sound range y x d e m i (f ∙ ap place_of (sym same))).0)))
+            (pre_entries_same s row p q h (far 9 tab refl) y m);
       }
 
   pub auto_made : (x : QName × Sbsd) (e : AutoEntry) → IsIn x s.objects.sbsds → IsIn e x.1.autos → auto_entry_row x.0 e ≡ row → Makes (state_part p offset s) row (state_part q offset s)
@@ -264,3 +289,61 @@ module _ (offset : ℤ) (s : State) (sound : IsSound s) (range : IsInRange s) (r
       (queues_same s row p q h (far 3 tab refl))
       (jobds_same s row p q h (far 4 tab refl))
       (changed_part (later_tab 5 8 tab (omega arith)) (far 5 tab refl) x (with_auto e) i (auto_change x e i j same)))
+
+  pre_more : (x : QName × Sbsd) (e : PreEntry) → IsIn x s.objects.sbsds → IsIn e x.1.pres → pre_entry_row x.0 e ≡ row → IsOneMore (λ (d : PreEntry). d.pgm) qname_cmp qname_total (λ d. p (pre_entry_row x.0 d)) (λ d. q (pre_entry_row x.0 d)) x.1.pres e
+  pre_more x e i j same = record {
+    before = ap p same ∙ h.before;
+    after = ap q same ∙ h.after;
+    others = λ d k n. h.others (pre_entry_row x.0 d) (in_rows s (pre_entry_row x.0 d) (of_pre_entry x d i k refl)) (λ f. n (one_pre_entry s sound range x x d e i i k j (f ∙ ap place_of (sym same))).1);
+  }
+
+  pre_change : (x : QName × Sbsd) (e : PreEntry) → IsIn x s.objects.sbsds → IsIn e x.1.pres → pre_entry_row x.0 e ≡ row → IsChange x (with_pre e)
+  pre_change x e i j same =
+      let tab : 9 ≡ row.tab = ap (λ (r : Row). r.tab) same in
+      record {
+        this =
+            same_entries x.0 x.1.maxjobs
+            (sym (queue_entries_same s row p q h (far 6 tab refl) x i))
+            (sym (route_entries_same s row p q h (far 7 tab refl) x i))
+            (sym (auto_entries_same s row p q h (far 8 tab refl) x i))
+            (next_added (λ (d : PreEntry). d.pgm) qname_cmp qname_total (λ d. p (pre_entry_row x.0 d)) (λ d. q (pre_entry_row x.0 d)) x.1.pres e (description s sound range x i).pres.sorted j (pre_more x e i j same));
+        other = λ y m n.
+            same_entries y.0 y.1.maxjobs
+            (queue_entries_same s row p q h (far 6 tab refl) y m)
+            (route_entries_same s row p q h (far 7 tab refl) y m)
+            (auto_entries_same s row p q h (far 8 tab refl) y m)
+            (left_same (λ d. p (pre_entry_row y.0 d)) (λ d. q (pre_entry_row y.0 d)) y.1.pres (λ d k. h.others (pre_entry_row y.0 d) (in_rows s (pre_entry_row y.0 d) (of_pre_entry y d m k refl)) (λ f. n (one_pre_entry s sound range y x d e m i k j (f ∙ ap place_of (sym same))).0)));
+      }
+
+  -- the values of an entry go together, whatever else is tested behind
+  related_then : (e : PreEntry) (full : Bool) → first_refusal (relation_tests e) ≡ None → full ≡ false → NoneHolds (relation_tests e ++ (full, TableFull kind.Pje 100) ∷ [])
+  related_then e full related room =
+      let inljobs : nat_lt e.inljobs e.threshold ≡ false = test_fails (relation_tests e) 0 SbsActive related in
+      let maxjobs : is_above e.inljobs e.maxjobs ≡ false = test_fails (relation_tests e) 1 SbsActive related in
+      let adljobs : not (is_below e.adljobs e.maxjobs) ≡ false = test_fails (relation_tests e) 2 SbsActive related in
+      (inljobs, (maxjobs, (adljobs, (room, tt))))
+
+  pub pre_made : (x : QName × Sbsd) (e : PreEntry) → IsIn x s.objects.sbsds → IsIn e x.1.pres → pre_entry_row x.0 e ≡ row → Makes (state_part p offset s) row (state_part q offset s)
+  pre_made x e i j same =
+      let tab : 9 ≡ row.tab = ap (λ (r : Row). r.tab) same in
+      let u = state_part p offset s in
+      let entries = (description s sound range x i).pres in
+      command_makes u (state_part q offset s) (command.Addpje (addpje_of x.0 e)) row _ _ refl
+      (never_in_use u x.0 _ refl (described_free u.objects x.0 (λ d. first_refusal (pre_tests u.objects e d)) (sbsd_part p x).1 (named_part (later_tab 5 9 tab (omega arith)) x i) (none_refuses (pre_tests u.objects e (sbsd_part p x).1) (
+        ap (λ (l : List (QName × Program)). not (has_object e.pgm l)) (all_programs (later_tab 2 9 tab (omega arith))) ∙ ap not (is_named e.pgm s.objects.programs ∙ entries.programs e j),
+        (
+          ap (λ (l : List (QName × Class)). not (has_object e.cls l)) (all_classes (later_tab 1 9 tab (omega arith))) ∙ ap not (is_named e.cls s.objects.classes ∙ entries.classes e j),
+          (
+            next_new (λ (d : PreEntry). d.pgm) qname_cmp qname_total same_qname one_name (λ d. p (pre_entry_row x.0 d)) x.1.pres e entries.sorted j (ap p same ∙ h.before),
+            related_then e (is_full 100 (sbsd_part p x).1.pres) (entries.related e j) (few 100 (λ d. p (pre_entry_row x.0 d)) x.1.pres e j (ap p same ∙ h.before) (description s sound range x i).sizes.pres),
+          ),
+        ),
+      ))))
+      ((range.objects.entries x i).pres e j)
+      (ap (λ (r : Row). Some r) same)
+      (objects_step s row p q h offset (omega arith)
+      (classes_same s row p q h (far 1 tab refl))
+      (programs_same s row p q h (far 2 tab refl))
+      (queues_same s row p q h (far 3 tab refl))
+      (jobds_same s row p q h (far 4 tab refl))
+      (changed_part (later_tab 5 9 tab (omega arith)) (far 5 tab refl) x (with_pre e) i (pre_change x e i j same)))

@@ -10,9 +10,6 @@ use Rattle.wm_base.specs.declared.qname.QName.{QName}
 use Rattle.wm_base.specs.declared.refusal.Kind.TheVariants as kind
 use Rattle.wm_base.specs.declared.refusal.Refusal.TheVariants.{Exists, TableFull}
 use Rattle.wm_desc.specs.Refusals.{first_refusal, is_full, object_refusal}
-use Rattle.wm_desc.specs.declared.entry.AutoEntry.{AutoEntry}
-use Rattle.wm_desc.specs.declared.entry.QueueEntry.{QueueEntry}
-use Rattle.wm_desc.specs.declared.entry.RouteEntry.{RouteEntry}
 use Rattle.wm_desc.specs.declared.description.Jobd.{Jobd}
 use Rattle.wm_desc.specs.declared.description.Jobq.{Jobq}
 use Rattle.wm_desc.specs.declared.description.Program.{Program}
@@ -30,15 +27,15 @@ use Rattle.wm_law.specs.declared.command.Command.TheVariants as command
 use Rattle.wm_law.specs.declared.state.State.{State}
 use Rattle.wm_law.proofs.Members.{left_in}
 use Rattle.wm_rows.specs.Again.{crtcls_of, crtpgmref_of, crtjobq_of, crtjobd_of, crtsbsd_of}
-use Rattle.wm_rows.specs.Rows.{class_row, program_row, queue_row, jobd_row, sbsd_row, queue_entry_row, route_entry_row, auto_entry_row}
+use Rattle.wm_rows.specs.Rows.{class_row, program_row, queue_row, jobd_row, sbsd_row, queue_entry_row, route_entry_row, auto_entry_row, pre_entry_row}
 use Rattle.wm_tables.specs.Ranges.{IsInRange}
 use Rattle.wm_tables.specs.Restart.{Makes}
 use Rattle.wm_tables.proofs.Keys.{one_text}
 use Rattle.wm_tables.proofs.OneMore.{IsOneMore, next_added}
 use Rattle.wm_tables.proofs.OwnPlaces.{same_key}
-use Rattle.wm_tables.proofs.Parts.{IsStep, far, objects_step, state_part, sbsds_left, sbsds_part, sbsd_part, classes_same, programs_same, queues_same, jobds_same, description_same, sbsds_same, map_each, other_tab}
+use Rattle.wm_tables.proofs.Parts.{IsStep, far, objects_step, state_part, sbsds_left, sbsds_part, sbsd_part, classes_same, programs_same, queues_same, jobds_same, description_same, same_entries, sbsds_same, map_each, other_tab}
 use Rattle.wm_tables.proofs.Passing.{left_none}
-use Rattle.wm_tables.proofs.RowsOf.{IsRowOf, in_rows, of_class, of_program, of_queue, of_jobd, of_sbsd, of_queue_entry, of_route_entry, of_auto_entry}
+use Rattle.wm_tables.proofs.RowsOf.{IsRowOf, in_rows, of_class, of_program, of_queue, of_jobd, of_sbsd, of_queue_entry, of_route_entry, of_auto_entry, of_pre_entry}
 use Rattle.wm_tables.proofs.Unrefused.{command_makes, object_free, program_free}
 
 -- an element more among changed ones that keep their keys
@@ -101,7 +98,7 @@ module _ (offset : ℤ) (s : State) (sound : IsSound s) (range : IsInRange s) (r
       (programs_same s row p q h (far 2 tab refl))
       (queues_same s row p q h (far 3 tab refl))
       (jobds_same s row p q h (far 4 tab refl))
-      (sbsds_same s row p q h (far 5 tab refl) (far 6 tab refl) (far 7 tab refl) (far 8 tab refl)))
+      (sbsds_same s row p q h (far 5 tab refl) (far 6 tab refl) (far 7 tab refl) (far 8 tab refl) (far 9 tab refl)))
 
   queue_more : (x : QName × Jobq) → IsIn x s.objects.jobqs → queue_row x ≡ row → IsOneMore (λ (y : QName × Jobq). y.0) qname_cmp qname_total (λ y. p (queue_row y)) (λ y. q (queue_row y)) s.objects.jobqs x
   queue_more x i e = record {
@@ -123,7 +120,7 @@ module _ (offset : ℤ) (s : State) (sound : IsSound s) (range : IsInRange s) (r
       (programs_same s row p q h (far 2 tab refl))
       (sym (next_added (λ (y : QName × Jobq). y.0) qname_cmp qname_total (λ y. p (queue_row y)) (λ y. q (queue_row y)) s.objects.jobqs x sound.objects.tables.jobqs.sorted i (queue_more x i e)))
       (jobds_same s row p q h (far 4 tab refl))
-      (sbsds_same s row p q h (far 5 tab refl) (far 6 tab refl) (far 7 tab refl) (far 8 tab refl)))
+      (sbsds_same s row p q h (far 5 tab refl) (far 6 tab refl) (far 7 tab refl) (far 8 tab refl) (far 9 tab refl)))
 
   jobd_more : (x : QName × Jobd) → IsIn x s.objects.jobds → jobd_row x ≡ row → IsOneMore (λ (y : QName × Jobd). y.0) qname_cmp qname_total (λ y. p (jobd_row y)) (λ y. q (jobd_row y)) s.objects.jobds x
   jobd_more x i e = record {
@@ -145,7 +142,7 @@ module _ (offset : ℤ) (s : State) (sound : IsSound s) (range : IsInRange s) (r
       (programs_same s row p q h (far 2 tab refl))
       (queues_same s row p q h (far 3 tab refl))
       (sym (next_added (λ (y : QName × Jobd). y.0) qname_cmp qname_total (λ y. p (jobd_row y)) (λ y. q (jobd_row y)) s.objects.jobds x sound.objects.tables.jobds.sorted i (jobd_more x i e)))
-      (sbsds_same s row p q h (far 5 tab refl) (far 6 tab refl) (far 7 tab refl) (far 8 tab refl)))
+      (sbsds_same s row p q h (far 5 tab refl) (far 6 tab refl) (far 7 tab refl) (far 8 tab refl) (far 9 tab refl)))
 
   program_more : (x : QName × Program) → IsIn x s.objects.programs → program_row x ≡ row → IsOneMore (λ (y : QName × Program). y.0) qname_cmp qname_total (λ y. p (program_row y)) (λ y. q (program_row y)) s.objects.programs x
   program_more x i e = record {
@@ -167,7 +164,7 @@ module _ (offset : ℤ) (s : State) (sound : IsSound s) (range : IsInRange s) (r
       (sym (next_added (λ (y : QName × Program). y.0) qname_cmp qname_total (λ y. p (program_row y)) (λ y. q (program_row y)) s.objects.programs x sound.objects.tables.programs.sorted i (program_more x i e)))
       (queues_same s row p q h (far 3 tab refl))
       (jobds_same s row p q h (far 4 tab refl))
-      (sbsds_same s row p q h (far 5 tab refl) (far 6 tab refl) (far 7 tab refl) (far 8 tab refl)))
+      (sbsds_same s row p q h (far 5 tab refl) (far 6 tab refl) (far 7 tab refl) (far 8 tab refl) (far 9 tab refl)))
 
   sbsd_more : (x : QName × Sbsd) → IsIn x s.objects.sbsds → sbsd_row x ≡ row → IsOneMore (λ (y : QName × Sbsd). y.0) qname_cmp qname_total (λ y. p (sbsd_row y)) (λ y. q (sbsd_row y)) s.objects.sbsds x
   sbsd_more x i e = record {
@@ -184,14 +181,13 @@ module _ (offset : ℤ) (s : State) (sound : IsSound s) (range : IsInRange s) (r
       let queues = none_left (λ d. p (queue_entry_row x.0 d)) (λ d. q (queue_entry_row x.0 d)) x.1.queues (λ d j. other_tab s row p q h (queue_entry_row x.0 d) (of_queue_entry x d i j refl) (far 6 tab refl)) (λ d j. later (queue_entry_row x.0 d) (of_queue_entry x d i j refl) refl) in
       let routes = none_left (λ d. p (route_entry_row x.0 d)) (λ d. q (route_entry_row x.0 d)) x.1.routes (λ d j. other_tab s row p q h (route_entry_row x.0 d) (of_route_entry x d i j refl) (far 7 tab refl)) (λ d j. later (route_entry_row x.0 d) (of_route_entry x d i j refl) refl) in
       let autos = none_left (λ d. p (auto_entry_row x.0 d)) (λ d. q (auto_entry_row x.0 d)) x.1.autos (λ d j. other_tab s row p q h (auto_entry_row x.0 d) (of_auto_entry x d i j refl) (far 8 tab refl)) (λ d j. later (auto_entry_row x.0 d) (of_auto_entry x d i j refl) refl) in
-      ap (λ (l : List QueueEntry). (x.0, record { maxjobs = x.1.maxjobs; queues = l; routes = filter (λ d. q (route_entry_row x.0 d)) x.1.routes; autos = filter (λ d. q (auto_entry_row x.0 d)) x.1.autos; pres = [] })) queues
-      ∙ ap (λ (l : List RouteEntry). (x.0, record { maxjobs = x.1.maxjobs; queues = []; routes = l; autos = filter (λ d. q (auto_entry_row x.0 d)) x.1.autos; pres = [] })) routes
-      ∙ ap (λ (l : List AutoEntry). (x.0, record { maxjobs = x.1.maxjobs; queues = []; routes = []; autos = l; pres = [] })) autos
+      let pres = none_left (λ d. p (pre_entry_row x.0 d)) (λ d. q (pre_entry_row x.0 d)) x.1.pres (λ d j. other_tab s row p q h (pre_entry_row x.0 d) (of_pre_entry x d i j refl) (far 9 tab refl)) (λ d j. later (pre_entry_row x.0 d) (of_pre_entry x d i j refl) refl) in
+      same_entries x.0 x.1.maxjobs queues routes autos pres
 
   sbsd_added : (x : QName × Sbsd) → IsIn x s.objects.sbsds → sbsd_row x ≡ row → sbsds_part q s ≡ with_object x.0 (empty_sbsd x.1.maxjobs) (sbsds_part p s)
   sbsd_added x i e =
       let tab : 5 ≡ row.tab = ap (λ (r : Row). r.tab) e in
-      let same : map (sbsd_part q) (sbsds_left p s) ≡ sbsds_part p s = map_each (sbsd_part q) (sbsd_part p) (sbsds_left p s) (λ y j. description_same s row p q h (far 6 tab refl) (far 7 tab refl) (far 8 tab refl) y (left_in (λ (z : QName × Sbsd). p (sbsd_row z)) s.objects.sbsds y j)) in
+      let same : map (sbsd_part q) (sbsds_left p s) ≡ sbsds_part p s = map_each (sbsd_part q) (sbsd_part p) (sbsds_left p s) (λ y j. description_same s row p q h (far 6 tab refl) (far 7 tab refl) (far 8 tab refl) (far 9 tab refl) y (left_in (λ (z : QName × Sbsd). p (sbsd_row z)) s.objects.sbsds y j)) in
       ap (map (sbsd_part q)) (sym (next_added (λ (y : QName × Sbsd). y.0) qname_cmp qname_total (λ y. p (sbsd_row y)) (λ y. q (sbsd_row y)) s.objects.sbsds x sound.objects.tables.sbsds.sorted i (sbsd_more x i e)))
       ∙ sym (added_mapped (λ (y : QName × Sbsd). y.0) qname_cmp (sbsd_part q) (λ y. refl) x (sbsds_left p s))
       ∙ ap (λ (y : QName × Sbsd). added (λ (z : QName × Sbsd). z.0) qname_cmp y (map (sbsd_part q) (sbsds_left p s))) (bare x i e)

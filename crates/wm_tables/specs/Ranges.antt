@@ -17,16 +17,16 @@ use Rattle.wm_law.specs.Laws.{IsIn}
 use Rattle.wm_law.specs.declared.command.Command.TheVariants as command
 use Rattle.wm_law.specs.declared.job.Job.{Job}
 use Rattle.wm_law.specs.declared.state.State.{State}
-use Rattle.wm_rows.specs.Again.{crtcls_of, crtpgmref_of, crtjobq_of, crtjobd_of, crtsbsd_of, addjobqe_of, addrtge_of, addaje_of}
+use Rattle.wm_rows.specs.Again.{crtcls_of, crtpgmref_of, crtjobq_of, crtjobd_of, crtsbsd_of, addjobqe_of, addrtge_of, addaje_of, addpje_of}
 use Rattle.wm_job_rows.specs.Stored.{IsStored, stored_of}
 use Rattle.wm_tables.specs.Restart.{HasLengths, IsOfKind}
 
--- the command that makes each entry again keeps its ranges; there is no prestart entry, since none can be made yet
+-- the command that makes each entry again keeps its ranges
 pub record HasEntriesInRange (sbsd : QName) (d : Sbsd) : Type 0 where
   pub queues : (e : QueueEntry) → IsIn e d.queues → IsCommand (command.Addjobqe (addjobqe_of sbsd e))
   pub routes : (e : RouteEntry) → IsIn e d.routes → IsCommand (command.Addrtge (addrtge_of sbsd e))
   pub autos : (e : AutoEntry) → IsIn e d.autos → IsCommand (command.Addaje (addaje_of sbsd e))
-  pub pres : (e : PreEntry) → IsIn e d.pres → ⊥
+  pub pres : (e : PreEntry) → IsIn e d.pres → IsCommand (command.Addpje (addpje_of sbsd e))
 
 -- the command that makes each object again keeps its ranges, and so do those of the entries; QSYS/QCMD is no object
 pub record AreInRange (objects : Objects) : Type 0 where
