@@ -1,0 +1,4 @@
+pub mod Cutting
+pub mod Fields
+pub mod Heads
+pub mod Lines
