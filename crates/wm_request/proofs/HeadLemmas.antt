@@ -53,7 +53,7 @@ many_lines h t good many =
     ∙ ap (λ n. lines_from n (flat_map print_field (take 33 h.fields) ++ t)) all
     ∙ fields_lines (take 33 h.fields) 0 t (All-take IsField 33 h.fields good.fields)
 
-few_lines : (h : RequestHead) (t : List ℕ) → IsRequestHead h → length h.fields ≤ 32 → head_lines (print_request h ++ t) ≡ lines_from (32 - length h.fields) t
+pub few_lines : (h : RequestHead) (t : List ℕ) → IsRequestHead h → length h.fields ≤ 32 → head_lines (print_request h ++ t) ≡ lines_from (32 - length h.fields) t
 few_lines h t good few =
     let all : 33 ≡ length h.fields + suc (32 - length h.fields) = omega arith in
     ap head_lines (print_request-append h t)
@@ -80,16 +80,17 @@ before_feed lf = ([], refl)
 before_feed crlf = (13 ∷ [], refl)
 
 -- a text with too many fields: the lines of 33 of them, and what stands behind
-record Exceeding (text : List ℕ) : Type 0 where
-  lines : List ℕ
-  behind : List ℕ
-  head : RequestHead
-  is : text ≡ lines ++ behind
-  has : head_lines text ≡ done behind
-  reads : ReadsRequest (lines ++ print_end lf) head []
-  many : 32 < length head.fields
+pub record Exceeding (text : List ℕ) : Type 0 where
+  pub lines : List ℕ
+  pub behind : List ℕ
+  pub head : RequestHead
+  pub is : text ≡ lines ++ behind
+  pub has : head_lines text ≡ done behind
+  pub any : (t : List ℕ) → head_lines (lines ++ t) ≡ done t
+  pub reads : ReadsRequest (lines ++ print_end lf) head []
+  pub many : 32 < length head.fields
 
-exceeding : (text : List ℕ) → RequestExceeds 32 text → Exceeding text
+pub exceeding : (text : List ℕ) → RequestExceeds 32 text → Exceeding text
 exceeding text x =
     let h = x.3 in
     let good = x.4.0 in
@@ -105,6 +106,7 @@ exceeding text x =
       head = first_fields h;
       is = is;
       has = ap head_lines is ∙ many_lines h _ good x.5;
+      any = λ t. many_lines h t good x.5;
       reads = first_reads h good;
       many = first_many h x.5;
     }
@@ -152,10 +154,10 @@ begins text more rest h short reads few =
 front_short : (bytes : List ℕ) → length (front bytes) ≤ 8192
 front_short bytes = omega (arith, length-take 8192 bytes)
 
-never_more : (p rest : List ℕ) → NeverHasRequest p → NeverHasRequest (p ++ rest)
+pub never_more : (p rest : List ℕ) → NeverHasRequest p → NeverHasRequest (p ++ rest)
 never_more p rest never more h r reads = never (rest ++ more) h r (subst (λ t. ReadsRequest t h r) (append_assoc p rest more) reads)
 
-exceeds_more : (p rest : List ℕ) → HasTooManyFields p → HasTooManyFields (p ++ rest)
+pub exceeds_more : (p rest : List ℕ) → HasTooManyFields p → HasTooManyFields (p ++ rest)
 exceeds_more p rest x = (x.0, x.1 ++ rest, ap (λ t. t ++ rest) x.2 ∙ append_assoc x.0 x.1 rest, x.3, x.4, x.5)
 
 -- no bytes make the wanted lines a head: there aren't too many fields

@@ -7,8 +7,10 @@
 mod cutting;
 mod fields;
 mod head;
+mod laws;
 mod lines;
 mod request;
 
 pub use cutting::cut;
+pub use laws::pieces_give_the_same_requests;
 pub use request::{Cut, Fields, Found, Head, Length, MAX_BODY, MAX_FIELDS, MAX_HEAD, Request};
