@@ -1,0 +1,6 @@
+pub mod Counts
+pub mod Entries
+pub mod NumberLemmas
+pub mod Pigeons
+pub mod SeatLemmas
+pub mod Set

@@ -1,0 +1,3 @@
+pub mod PrestartInside
+pub mod Ready
+pub mod Seats

@@ -1,0 +1,11 @@
+//! Prestart jobs.
+#![tactic(auto)]
+
+mod jobs;
+mod moves;
+mod prestart_job;
+mod rows;
+mod seat;
+
+pub use jobs::PrestartJobs;
+pub use prestart_job::{PrestartEntry, PrestartJob, Readiness};
