@@ -1,16 +1,15 @@
 -- What the changes of a row leave of the numbers of entries.
-use Rattle.std.proofs.Common.{◌≡◌, ℕ, ◌+◌, ◌≤◌, Bool, true, false, not, cond, List, [], ◌∷◌, ◌++◌, take, drop, map, filter, Option, Some, None, option_map, unwrap_or, inl, inr, refl, ap, sym, ◌∙◌, subst, arith, Contains}
-use Rattle.std.specs.List.{find, insert, list_any}
+use Rattle.std.proofs.Common.{◌≡◌, ℕ, ◌+◌, ◌≤◌, Bool, true, false, not, cond, List, [], ◌∷◌, ◌++◌, take, drop, Option, Some, None, option_map, unwrap_or, inl, inr, refl, ap, sym, ◌∙◌, subst, arith}
+use Rattle.std.specs.List.{find, insert}
 use mathlib.Core.Bool.{false≢true}
-use Rattle.std.proofs.lemmas.Bool.{cases_Bool}
 use Rattle.std.proofs.lemmas.List.{take-append-drop}
-use Rattle.wm_desc.specs.Sorted.{has_key, added, place_of, removed}
+use Rattle.wm_desc.specs.Sorted.{removed}
 use Rattle.wm_ordered.specs.Ordered.{key_of, value_at, with_value}
-use Rattle.wm_ordered.proofs.Members.{Contains-insert_cases, Contains-from_filter, Contains-from_mapped, find-None, find-Some}
+use Rattle.wm_ordered.proofs.Members.{Contains-insert_cases, Contains-from_filter, Contains-from_mapped, find-Some}
 use Rattle.wm_prestart.specs.declared.prestart_job.PrestartEntry.{PrestartEntry}
-use Rattle.wm_prestart.specs.Ready.{entry_cmp, same_entry}
+use Rattle.wm_prestart.specs.Ready.{same_entry}
 use Rattle.wm_prestart.specs.Seats.{HaveSome, number_at}
-use Rattle.wm_prestart.proofs.Entries.{entry-itself, one_entry}
+use Rattle.wm_prestart.proofs.Entries.{one_entry}
 
 module _ {X : Type 0} (p : X → Bool) where
   skip-by : (b : Bool) (y : X) (x : X) (l r : List X) → p x ≡ false → find p (l ++ x ∷ r) ≡ find p (l ++ r) → cond b (Some y) (find p (l ++ x ∷ r)) ≡ cond b (Some y) (find p (l ++ r))

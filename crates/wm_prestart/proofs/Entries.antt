@@ -1,13 +1,11 @@
 -- What the orders of entries and of seats say of their fields.
-use Rattle.std.proofs.Common.{◌≡◌, ℕ, Bool, true, false, ◌&&◌, refl, ap, sym, ◌∙◌, subst}
-use Rattle.std.specs.declared.cmp.Ordering.{Ordering}
-use Rattle.std.specs.declared.cmp.Ordering.TheVariants.{Less, Equal, Greater}
+use Rattle.std.proofs.Common.{◌≡◌, true, ◌&&◌, refl, ap, ◌∙◌}
 use Rattle.std.specs.Cmp.{IsTotalOrder, unsigned_ties, both_tied, tied_itself}
-use Rattle.std.specs.Ordering.{is_eq, nat_cmp, ordering_then}
+use Rattle.std.specs.Ordering.{is_eq}
 use Rattle.std.proofs.lemmas.Bool.{and_parts, eqb-true}
 use Rattle.std.proofs.lemmas.Cmp.{on_total, then_total, nat_cmp_total}
 use Rattle.wm_base.specs.declared.qname.QName.{QName}
-use Rattle.wm_desc.specs.Table.{qname_cmp, same_qname}
+use Rattle.wm_desc.specs.Table.{same_qname}
 use Rattle.wm_desc.proofs.Tables.{one_name, qname_ties, qname_total}
 use Rattle.wm_prestart.specs.declared.prestart_job.PrestartEntry.{PrestartEntry}
 use Rattle.wm_prestart.specs.declared.seat.Seat.{Seat}

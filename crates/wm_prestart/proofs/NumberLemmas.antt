@@ -17,7 +17,7 @@ use Rattle.wm_prestart.specs.Seats.{AreNumbers, HaveSome, number_at}
 use Rattle.wm_prestart.proofs.Counts.{is_of, number_by}
 use Rattle.wm_prestart.proofs.Entries.{entry-itself, entry_ties, entry_total, one_entry}
 use Rattle.wm_prestart.proofs.Pigeons.{no_more}
-use Rattle.wm_prestart.proofs.Set.{HasRow, removed-is, row}
+use Rattle.wm_prestart.proofs.Set.{removed-is, row}
 
 and-true : (b c : Bool) → c ≡ true → (b && c) ≡ b
 and-true true c h = h

@@ -1,5 +1,5 @@
 -- Distinct elements of a list are no more than it has.
-use Rattle.std.proofs.Common.{◌≡◌, ℕ, ◌+◌, ◌≤◌, List, [], ◌∷◌, length, inl, inr, sym, ◌∙◌, subst, arith, Contains}
+use Rattle.std.proofs.Common.{◌≡◌, ◌+◌, ◌≤◌, List, [], ◌∷◌, length, inl, inr, sym, ◌∙◌, subst, arith, Contains}
 use Rattle.std.specs.List.{AllPairs}
 use Rattle.wm_ordered.proofs.Members.{AllPairs-head, AllPairs-tail, Contains-cases, Contains-cons, Contains-head, Contains-nil}
 

@@ -1,5 +1,5 @@
 -- What seats keep of the idle jobs, and what is found in them.
-use Rattle.std.proofs.Common.{◌≡◌, ◌⊎◌, ℕ, ◌<◌, ◌≤◌, Bool, true, false, not, ◌&&◌, List, [], length, get_or, map, Option, Some, None, option_map, inl, inr, refl, ap, sym, ◌∙◌, subst, arith, Contains, nat_eq, eq-eqb}
+use Rattle.std.proofs.Common.{◌≡◌, ◌⊎◌, ℕ, ◌<◌, ◌≤◌, Bool, true, false, not, List, [], length, get_or, map, Option, Some, None, option_map, inl, inr, refl, ap, sym, ◌∙◌, subst, arith, Contains, nat_eq, eq-eqb}
 use Rattle.std.specs.List.{AllPairs, find, insert}
 use Rattle.std.specs.Cmp.{tied_itself}
 use Rattle.std.specs.declared.cmp.Ordering.{Ordering}
@@ -182,7 +182,7 @@ module _ (jobs : List (ℕ × PrestartJob)) (seats : List (Seat × Unit {0})) (h
               | inr less ↦ (
                   let r-entry : r.0.entry ≡ entry = one_entry r.0.entry entry same in
                   let both : ordering_then (entry_cmp entry entry) (nat_cmp r.0.serial y.0) ≡ Less =
-                    sym (ap (λ (e : PrestartEntry). ordering_then (entry_cmp e entry) (nat_cmp r.0.serial y.0)) r-entry) ∙ (sym (ap (λ (e : PrestartEntry). ordering_then (entry_cmp r.0.entry e) (nat_cmp r.0.serial y.0)) (own-entry y t)) ∙ less)
+                  sym (ap (λ (e : PrestartEntry). ordering_then (entry_cmp e entry) (nat_cmp r.0.serial y.0)) r-entry) ∙ (sym (ap (λ (e : PrestartEntry). ordering_then (entry_cmp r.0.entry e) (nat_cmp r.0.serial y.0)) (own-entry y t)) ∙ less)
                   in
                   let after = same-less entry r.0.serial y.0 both in
                   omega (arith, after, serial, lt))

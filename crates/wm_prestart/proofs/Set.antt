@@ -11,7 +11,7 @@ use Rattle.std.proofs.lemmas.List.Elements.{All-nil, All-cons}
 use Rattle.wm_base.proofs.Lists.{length-filter_few}
 use Rattle.wm_desc.specs.Sorted.{IsSortedOnce, added, removed}
 use Rattle.wm_ordered.specs.Ordered.{key_of, value_at, with_value}
-use Rattle.wm_ordered.proofs.Around.{Around, value-here, set-here, removed-here, added-here}
+use Rattle.wm_ordered.proofs.Around.{Around, set-here, removed-here, added-here}
 use Rattle.wm_ordered.proofs.Keyed.{length-removed}
 use Rattle.wm_ordered.proofs.Members.{AllPairs-head, AllPairs-tail, filter-whole, find-before, find-None, find-Some}
 

@@ -32,6 +32,7 @@ pub(crate) fn whole(there: usize, more: u32) -> Result<u32, NoMemory>
 /// Takes out the row of a key, where it has one. Its room is spare again.
 pub(crate) fn take_row<K: Ord + Copy, V: Copy>(rows: &mut Ordered<K, V>, key: &K)
     ensures items { rows.new.items ≡ removed key_of K.eq key.now rows.old.items }
+    ensures spare { rows.old.spare ≤ rows.new.spare }
     ensures nodes { nodes_of rows.new ≡ nodes_of rows.old }
 {
     // `len` tells that keys differ.
@@ -52,6 +53,7 @@ pub(crate) fn raise(rows: &mut Ordered<PrestartEntry, u32>, entry: &PrestartEntr
     requires fits { number_at entry.now rows.old.items + 1 < 2 ^ 32 }
     ensures numbers { (e : PrestartEntry) → number_at e rows.new.items ≡ number_at e rows.old.items + (if same_entry entry.now e then 1 else 0) }
     ensures some { HaveSome rows.old.items → HaveSome rows.new.items }
+    ensures spare { rows.old.spare ≤ rows.new.spare + 1 }
     ensures nodes { nodes_of rows.new ≡ nodes_of rows.old }
 {
     match rows.get(entry) {
@@ -66,6 +68,7 @@ pub(crate) fn raise(rows: &mut Ordered<PrestartEntry, u32>, entry: &PrestartEntr
 pub(crate) fn lower(rows: &mut Ordered<PrestartEntry, u32>, entry: &PrestartEntry)
     ensures numbers { 1 ≤ number_at entry.now rows.old.items → (e : PrestartEntry) → number_at e rows.new.items + (if same_entry entry.now e then 1 else 0) ≡ number_at e rows.old.items }
     ensures some { HaveSome rows.old.items → HaveSome rows.new.items }
+    ensures spare { rows.old.spare ≤ rows.new.spare }
     ensures nodes { nodes_of rows.new ≡ nodes_of rows.old }
 {
     let number = number(rows, entry);

@@ -1,5 +1,4 @@
 use Rattle.std.proofs.Common.{sym, ◌∙◌}
-use Rattle.wm_prestart.specs.Seats.{AreNumbers}
 use Rattle.wm_prestart.proofs.NumberLemmas.{joined}
 use Rattle.wm_prestart.proofs.moves.join.Goals as goal
 

@@ -1,4 +1,4 @@
-use Rattle.std.proofs.Common.{◌≡◌, ◌-◌, ℕ, sym, ◌∙◌, arith}
+use Rattle.std.proofs.Common.{◌≡◌, ◌-◌, ℕ, sym, arith}
 use Rattle.wm_prestart.specs.Seats.{number_at}
 use Rattle.wm_prestart.proofs.Counts.{number-lowered, number-taken, some-removed, some-set, value-there}
 use Rattle.wm_prestart.proofs.rows.lower.Goals as goal

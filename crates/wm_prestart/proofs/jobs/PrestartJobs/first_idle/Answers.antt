@@ -1,8 +1,7 @@
-use Rattle.std.proofs.Common.{◌≡◌, ℕ, Bool, true, false, not, Option, Some, None, refl, ap, sym, ◌∙◌, subst}
+use Rattle.std.proofs.Common.{◌≡◌, ℕ, Bool, true, false, not, Some, None, refl, ap, sym, ◌∙◌, subst}
 use Rattle.std.proofs.lemmas.Bool.{not-true}
 use Rattle.wm_ordered.specs.Ordered.{Pairs, first_from}
 use Rattle.wm_prestart.specs.declared.prestart_job.PrestartJob.{PrestartJob}
-use Rattle.wm_prestart.specs.declared.seat.Seat.{Seat}
 use Rattle.wm_prestart.specs.Ready.{first_idle, same_entry}
 use Rattle.wm_prestart.specs.Seats.{seat_cmp}
 use Rattle.wm_prestart.proofs.SeatLemmas.{idle-absent, idle-here, idle-other}

@@ -1,4 +1,4 @@
-use Rattle.std.proofs.Common.{◌≡◌, ℕ, ◌+◌, length, nat_eq, ◌∙◌, ap, sym, subst, arith}
+use Rattle.std.proofs.Common.{ℕ, length, nat_eq, ◌∙◌, ap, sym, subst, arith}
 use Rattle.std.specs.Ordering.{nat_cmp}
 use Rattle.std.proofs.lemmas.List.Sums.{count_by-le-length}
 use Rattle.wm_desc.specs.Sorted.{place_of, removed}
