@@ -59,12 +59,13 @@ impl PrestartPair {
     /// Puts in a job, or sets the one that is there.
     pub fn put(&mut self, serial: u64, job: &PrestartJob) -> Result<()> {
         self.jobs.reserve(1)?;
+        let key = Serial::new(serial);
         if self.other_jobs.contains_key(&serial) {
-            self.jobs.set(Serial::new(serial), *job);
+            self.jobs.set(key, *job);
         } else {
-            // Where it isn't there, this does nothing; the call that follows needs that.
-            self.jobs.remove(Serial::new(serial));
-            self.jobs.insert(Serial::new(serial), *job);
+            // Nothing is there to be removed. The call tells that what is put in is new.
+            self.jobs.remove(key);
+            self.jobs.insert(key, *job);
         }
         self.other_jobs.insert(serial, *job)?;
         Ok(())
