@@ -11,11 +11,15 @@ use Rattle.wm_law.specs.Laws.{IsIn}
 use Rattle.wm_run.specs.declared.settings.Settings.{Settings}
 use Rattle.wm_run.specs.declared.whole_run.Ran.{Ran}
 use Rattle.wm_run.specs.Kept.{HasHistory}
-use Rattle.wm_run.proofs.Linked.{runs_make_chains, told}
+use Rattle.wm_run.proofs.Linked.{runs_make_chains}
 use Rattle.wm_traits.specs.Told.{Stays}
 use Rattle.wm_traits.specs.declared.row.Row.{Row}
 use Rattle.wm_runs.specs.Chained.{AreChained, HasChain, last_left, started}
 use Rattle.wm_runs.specs.Runs.{AreRuns, IsOneRun, Seen, Turn}
+
+-- what holds where something is told holds of what is told
+by_told_rows : {A : Type 0} (P : Type 0) (o : Option A) (x : A) → o ≡ Some x → IfSome o (λ _. P) → P
+by_told_rows P o x e h = subst (λ p. IfSome p (λ _. P)) e h
 
 -- what is told as it was, was told before
 stays_told : {A : Type 0} (o : Option A) (x : A) → Stays o (Some x) → (y : A) × (o ≡ Some y)
@@ -24,7 +28,7 @@ stays_told (Some y) x h = (y, refl)
 
 -- rows that are told behind a run were told before it
 told_before : (offset : ℤ) (status : ℕ) (log : List Entry) (old new : Telling) (Came : State → Type 0) (left : List Row) → new.tables ≡ Some left → HasHistory offset status log old new Came → (found : List Row) × (old.tables ≡ Some found)
-told_before offset status log old new Came left e (inl h) = (h.rows, told (λ (_ : List Row). old.tables ≡ Some h.rows) new.tables left e h.found)
+told_before offset status log old new Came left e (inl h) = (h.rows, by_told_rows (old.tables ≡ Some h.rows) new.tables left e h.found)
 told_before offset status log old new Came left e (inr h) = stays_told old.tables left (subst (Stays old.tables) e h.left.tables)
 
 module _ {I O S P : Type 0} (seen : Seen I O S P) (settings : Settings) where

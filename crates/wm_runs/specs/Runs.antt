@@ -1,5 +1,5 @@
 -- Runs, one after another, over one output and one store.
-use Rattle.std.specs.Prelude.{◌≡◌, ⊥, ℕ, ◌<◌, ◌≤◌, List, [], ◌∷◌, length, Option, None, option_to_list, true}
+use Rattle.std.specs.Prelude.{◌≡◌, ℕ, ◌<◌, ◌≤◌, List, [], ◌∷◌, length, Option, None, option_to_list, true}
 use Rattle.std.specs.List.{list_all}
 use Rattle.wm_base.specs.declared.job.Asked.{Asked}
 use Rattle.wm_journal.specs.Keeping.{telling}

@@ -7,6 +7,6 @@
 //! The definitions are in `specs/`: `Runs` (what runs make, one after another) and `Chained` (what that comes to for the rows).
 #![tactic(auto)]
 
-mod runs;
+mod sequence;
 
-pub use runs::runs;
+pub use sequence::runs;

@@ -1,5 +1,5 @@
 // Runs over one store, one after another.
-ghost use Rattle.std.specs.Prelude.{◌≡◌, ◌+◌, ◌≤◌, ◌++◌, List, length, map, string_bytes, IfOk, IfSome, OnErr};
+ghost use Rattle.std.specs.Prelude.{◌≡◌, ◌+◌, ◌≤◌, ◌++◌, List, length, map, string_bytes, IfOk, IfSome, OnErr, vec_capacity, vec_len};
 ghost use Rattle.wm_law.specs.Kept.{IsDistinct};
 ghost use Rattle.wm_run.specs.Words.{settings_of};
 ghost use Rattle.wm_run.specs.declared.whole_run.Ran.{Ran};
@@ -26,7 +26,7 @@ fn run_each<I: Source, O: Sink, S: Store, P: Spawner, C: Clock, R: Wait>(
     rans: &mut Vec<Ran>,
 )
     requires as_many { length inputs.old ≡ length spawners.old }
-    requires room { length rans.old.items + length inputs.old ≤ rans.old.capacity }
+    requires room { vec_len rans.old + length inputs.old ≤ vec_capacity rans.old }
     ensures { (more : List Ran) × (rans.new.items ≡ rans.old.items ++ more)
         × AreRuns (record { left = I.left; read_faults = I.faults; written = O.written; write_faults = O.faults; tables = S.tables; trail = S.trail; keeper_faults = S.faults; asked = P.asked; told = P.told; misses = P.misses; wait_faults = P.faults })
         (settings_of (map string_bytes words.now)) inputs.old inputs.new spawners.old spawners.new more out.old out.new store.old store.new }
