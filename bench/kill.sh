@@ -34,17 +34,22 @@ now() {
   date +%s%3N
 }
 
-# How long a whole run takes, which is what a kill may come in; its jobs ran, and count as the others do.
-submits 0 >script
-begun=$(now)
-timeout 60 "$program" run --store rows.db <script >answers
-whole=$(($(now) - begun))
+# measure NAME: how long a whole run takes, which is what a kill may come in; its jobs ran, and count as the others do. A store
+# with more jobs takes longer to open, so this is measured anew.
+measure() {
+  submits "$1" >script
+  local begun
+  begun=$(now)
+  timeout 60 "$program" run --store rows.db <script >answers
+  whole=$(($(now) - begun))
+}
 
 lost=0
 unopened=0
 held=0
 unanswered=0
 for ((round = 1; round <= kills; round++)); do
+  if [ $((round % 50)) -eq 1 ]; then measure "whole$round"; fi
   submits "$round" >script
   "$program" run --store rows.db <script >answers &
   run=$!
