@@ -38,10 +38,15 @@ now() {
 # with more jobs takes longer to open, so this is measured anew.
 measure() {
   submits "$1" >script
-  local begun
+  local begun status=0
   begun=$(now)
-  timeout 60 "$program" run --store rows.db <script >answers
+  timeout 60 "$program" run --store rows.db <script >answers || status=$?
   whole=$(($(now) - begun))
+  # The program's reference is there from the second time on, which is refused.
+  if [ "$status" -gt 1 ]; then
+    echo "a run that isn't killed ended with status $status"
+    exit 1
+  fi
 }
 
 lost=0
