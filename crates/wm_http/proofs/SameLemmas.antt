@@ -1,21 +1,19 @@
 -- Bytes that have a request have no other answer.
-use Rattle.std.proofs.Common.{◌≡◌, ℕ, ◌+◌, ◌-◌, ◌<◌, ◌≤◌, ◌⊎◌, inl, inr, List, [], ◌∷◌, ◌++◌, length, take, drop, refl, sym, ap, ◌∙◌, subst, arith, append_assoc, append-nil}
-use Rattle.std.specs.Prelude.{Option, Some, None, is_some, true, false}
+use Rattle.std.proofs.Common.{◌≡◌, ℕ, ◌+◌, ◌-◌, ◌<◌, ◌≤◌, ◌⊎◌, inl, inr, List, [], ◌++◌, length, take, drop, sym, ap, ◌∙◌, subst, arith, append-nil}
+use Rattle.std.specs.Prelude.{Some, None, is_some}
 use Rattle.std.proofs.lemmas.Bool.{false≢true}
 use Rattle.std.proofs.lemmas.List.{length-append, length-take, take-append-drop}
-use Rattle.httparse.specs.Grammar.{RequestHead, ReadsRequest, HasNoRequest, print_request, print_end, lf}
+use Rattle.httparse.specs.Grammar.{RequestHead, ReadsRequest, print_request, print_end, lf}
 use Rattle.httparse.proofs.GrammarLemmas.{ReadsRequest-append, request_unique}
 use Rattle.wm_http.specs.declared.answer.RequestFault.{RequestFault}
-use Rattle.wm_http.specs.Cutting.{IsCut, IsGood, IsRequest, body_len, fields_fault, whole_len}
+use Rattle.wm_http.specs.Cutting.{body_len, fields_fault, whole_len}
 use Rattle.wm_http.specs.Fields.{fields_of}
-use Rattle.wm_http.specs.Heads.{BeginsWithHead, HasTooManyFields, IsFound, IsHead, front, head_closes}
-use Rattle.wm_http.specs.Laws.{IsSame, IsThis, RequestIsOne}
+use Rattle.wm_http.specs.Heads.{BeginsWithHead, HasTooManyFields, IsHead, front, head_closes}
+use Rattle.wm_http.specs.Laws.{RequestIsOne}
 use Rattle.wm_http.specs.Lines.{Lines, lines_from, head_lines}
-use Rattle.wm_http.specs.declared.request.Cut.{Cut}
 use Rattle.wm_http.specs.declared.request.Cut.TheVariants.{ReadOn, Whole, Refused}
 use Rattle.wm_http.specs.declared.request.Found.{Found}
 use Rattle.wm_http.specs.declared.request.Head.TheVariants as head
-use Rattle.wm_http.specs.declared.request.Request.{Request}
 use Rattle.wm_http.proofs.HeadLemmas.{Exceeding, exceeding, few_lines}
 use Rattle.wm_http.proofs.LineLemmas.{done, rest_nil}
 use Rattle.wm_http.proofs.StayLemmas.{begins_other, either}

@@ -1,14 +1,13 @@
 -- What is answered to bytes is an answer to them with more behind.
-use Rattle.std.proofs.Common.{◌≡◌, ℕ, ◌+◌, ◌-◌, ◌<◌, ◌≤◌, ◌⊎◌, inl, inr, List, [], ◌∷◌, ◌++◌, length, take, drop, refl, sym, ap, ◌∙◌, subst, arith, append_assoc}
+use Rattle.std.proofs.Common.{◌≡◌, ℕ, ◌<◌, ◌≤◌, ◌⊎◌, inl, inr, List, [], ◌++◌, length, take, drop, refl, sym, ap, ◌∙◌, subst, arith, append_assoc}
 use Rattle.std.specs.Prelude.{nat_lt, true, false}
 use Rattle.std.proofs.lemmas.Bool.Decides.{nat_tests}
 use Rattle.std.proofs.lemmas.List.{length-append, length-take, take-append-drop, take-append-le, drop-append-le, take_at, length-drop}
 use Rattle.httparse.specs.Grammar.{ReadsRequest, print_end, lf}
 use Rattle.httparse.proofs.GrammarLemmas.{ReadsRequest-append}
-use Rattle.wm_http.specs.Cutting.{IsCut, IsGood, IsRequest, body_len, fields_fault, whole_len}
-use Rattle.wm_http.specs.Heads.{BeginsWithHead, HasTooManyFields, IsHead, IsNoHead, MayBecomeHead, front}
-use Rattle.wm_http.specs.Laws.{FinalCutStays, IsFinal}
-use Rattle.wm_http.specs.declared.request.Cut.{Cut}
+use Rattle.wm_http.specs.Cutting.{IsRequest, body_len, whole_len}
+use Rattle.wm_http.specs.Heads.{HasTooManyFields, IsHead, IsNoHead, MayBecomeHead, front}
+use Rattle.wm_http.specs.Laws.{FinalCutStays}
 use Rattle.wm_http.specs.declared.request.Cut.TheVariants.{ReadOn, Whole, Refused}
 use Rattle.wm_http.specs.declared.request.Found.{Found}
 use Rattle.wm_http.specs.declared.request.Head.TheVariants as head

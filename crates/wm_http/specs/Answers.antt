@@ -1,5 +1,5 @@
 -- What each answer is over HTTP: its status, its body and its bytes.
-use Rattle.std.specs.Prelude.{ℕ, Bool, true, false, ◌||◌, List, [], ◌++◌, length, codes, decimal, string_bytes, if◌then◌else◌}
+use Rattle.std.specs.Prelude.{ℕ, Bool, true, false, ◌||◌, List, [], ◌++◌, length, codes, decimal, string_bytes}
 use Rattle.http.specs.StatusCode.{status_text}
 use Rattle.json.specs.Print.{quoted}
 use Rattle.wm_http.specs.declared.answer.Method.{Method}

@@ -1,5 +1,5 @@
 -- Which route a request has.
-use Rattle.std.specs.Prelude.{ℕ, Bool, List, [], ◌∷◌, codes, nat_eq, Option, Some, None, option_map, Result, Ok, Err, if◌then◌else◌}
+use Rattle.std.specs.Prelude.{ℕ, Bool, List, [], codes, nat_eq, Option, Some, None, option_map, Result, Ok, Err, if◌then◌else◌}
 use Rattle.std.specs.List.{list_all}
 use Rattle.std.specs.Cmp.Lexicographic.{pointwise}
 use Rattle.matchit.specs.Order.{placed}
@@ -8,8 +8,6 @@ use Rattle.matchit.specs.Router.{RouteOf, route_from}
 use Rattle.matchit.specs.Rows.{RowsOf}
 use Rattle.matchit.specs.Seek.{first}
 use Rattle.matchit.specs.declared.error.InsertError.{InsertError}
-use Rattle.wm_base.specs.declared.job.JobName.{JobName}
-use Rattle.wm_law.specs.declared.command.Ask.{Ask}
 use Rattle.wm_law.specs.declared.command.Ask.TheVariants as ask
 use Rattle.wm_law.specs.declared.command.JobRef.TheVariants.{Full}
 use Rattle.wm_http.specs.Answers.{method_name}

@@ -1,8 +1,7 @@
 // The fields of a head.
 ghost use Rattle.std.specs.Prelude.{◌≡◌, All, length, map};
-ghost use Rattle.std.specs.Str.{str_eq_ignore_ascii_case};
 ghost use Rattle.httparse.specs.Spans.{IsHeaderWithin, header_bytes};
-ghost use Rattle.wm_http.specs.Fields.{fields_in, is_word, no_fields, stated, with_field, with_length};
+ghost use Rattle.wm_http.specs.Fields.{fields_in, is_word, with_field, with_length};
 
 use crate::request::{Fields, Length};
 use httparse::spans::HeaderSpan;

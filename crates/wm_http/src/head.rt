@@ -1,13 +1,11 @@
 // Heads.
-ghost use Rattle.std.specs.Prelude.{◌≡◌, ◌==◌, ◌||◌, ◌≤◌, All, length, map, take};
-ghost use Rattle.httparse.specs.Spans.{IsRequestWithin, header_bytes, span_bytes};
-ghost use Rattle.wm_http.specs.Fields.{fields_in};
+ghost use Rattle.std.specs.Prelude.{◌≡◌};
 ghost use Rattle.wm_http.specs.Heads.{IsHead, IsParsed, ended, front};
 
 use crate::fields::fields_at;
 use crate::lines::behind_fields;
 use crate::{Found, Head, MAX_FIELDS, MAX_HEAD};
-use httparse::spans::{EMPTY_HEADER_SPAN, HeaderSpan, RequestSpans, parse_request};
+use httparse::spans::{EMPTY_HEADER_SPAN, parse_request};
 use httparse::{Error, Status};
 
 // What the grammar alone says of a text.

@@ -1,10 +1,8 @@
 // The routes, and which of them a request has.
-ghost use Rattle.std.specs.Prelude.{◌≡◌, IfOk, IsTrue};
-ghost use Rattle.std.specs.List.{list_all};
-ghost use Rattle.matchit.specs.Seek.{first};
+ghost use Rattle.std.specs.Prelude.{◌≡◌, IfOk};
 ghost use Rattle.wm_http.specs.Answers.{method_name};
 ghost use Rattle.wm_http.specs.Parts.{is_ascii};
-ghost use Rattle.wm_http.specs.Routes.{asked, by_method, known_routes, method_of, of_pattern, of_row, route_of, same_bytes};
+ghost use Rattle.wm_http.specs.Routes.{asked, known_routes, method_of, of_pattern, route_of, same_bytes};
 
 use crate::part::{is_ascii, job_of, name_at, path_of, qname_of};
 use crate::{Method, Pattern, Route};

@@ -1,6 +1,5 @@
 // The bytes of responses.
 ghost use Rattle.std.specs.Prelude.{◌≡◌, ◌++◌, codes, decimal, string_bytes, length, IfOk};
-ghost use Rattle.http.specs.StatusCode.{status_text};
 ghost use Rattle.wm_http.specs.Answers.{allow_line, body, close_line, closes, closes_after, content_type, error_json, fault_status, fault_text, head_text, reply_json, response_bytes, response_head, status};
 
 use crate::{Answer, RequestFault};

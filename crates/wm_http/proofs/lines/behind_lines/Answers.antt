@@ -1,5 +1,4 @@
-use Rattle.std.proofs.Common.{rules, ◌≡◌, arith, ap, sym, ◌∙◌, drop, ◌+◌}
-use Rattle.wm_http.specs.Lines.{lines_from}
+use Rattle.std.proofs.Common.{rules, ◌∙◌}
 use Rattle.wm_http.proofs.LineLemmas.{feed_at, other_at}
 use Rattle.wm_http.proofs.lines.behind_lines.Goals as goal
 use Rattle.wm_http.proofs.lines.behind_lines.Goals.{then-byte-eq10+else-lacks-eq0, else-byte-eq10}
