@@ -34,17 +34,27 @@ now() {
   date +%s%3N
 }
 
-# How long a whole run takes, which is what a kill may come in; its jobs ran, and count as the others do.
-submits 0 >script
-begun=$(now)
-timeout 60 "$program" run --store rows.db <script >answers
-whole=$(($(now) - begun))
+# measure NAME: how long a whole run takes, which is what a kill may come in; its jobs ran, and count as the others do. A store
+# with more jobs takes longer to open, so this is measured anew.
+measure() {
+  submits "$1" >script
+  local begun status=0
+  begun=$(now)
+  timeout 60 "$program" run --store rows.db <script >answers || status=$?
+  whole=$(($(now) - begun))
+  # The program's reference is there from the second time on, which is refused.
+  if [ "$status" -gt 1 ]; then
+    echo "a run that isn't killed ended with status $status"
+    exit 1
+  fi
+}
 
 lost=0
 unopened=0
 held=0
 unanswered=0
 for ((round = 1; round <= kills; round++)); do
+  if [ $((round % 50)) -eq 1 ]; then measure "whole$round"; fi
   submits "$round" >script
   "$program" run --store rows.db <script >answers &
   run=$!
