@@ -11,7 +11,7 @@ use std::sync::Wait;
 use wm_base::Moment;
 use wm_cases::Subject;
 use wm_outside::{ImageStore, MemClock, MemSink, MemSource, MemSpawner};
-use wm_runs::runs;
+use wm_run::run;
 use wm_traits::{Row, are_in_order};
 
 /// The inputs of the runs to come, and what the last ones left, asked and wrote.
@@ -89,21 +89,21 @@ impl<'a, W: Wait> Stops<'a, W> {
         words.push(String::from_str(self.alloc, "run")?)?;
         let mut sources = self.sources()?;
         let mut spawners = self.spawners()?;
-        ensure!(sources.len() == spawners.len(), "a spawner for each input");
         let mut sink = MemSink::in_pieces(self.alloc, Vec::new(self.alloc), 4096);
         let mut clock = MemClock::new(Moment::new(1000), 0);
-        let rans = runs(
-            self.rt,
-            self.alloc,
-            &words,
-            &mut sources,
-            &mut sink,
-            &mut self.store,
-            &mut spawners,
-            &mut clock,
-        )?;
-        for ran in rans.iter() {
+        for (source, spawner) in sources.iter_mut().zip(spawners.iter_mut()) {
+            let ran = run(
+                self.rt,
+                self.alloc,
+                &words,
+                source,
+                &mut sink,
+                &mut self.store,
+                spawner,
+                &mut clock,
+            );
             writeln!(answer, "status {}", ran.status)?;
+            drop(ran);
         }
         self.keep_asked(&spawners)?;
         self.written = sink.bytes().to_vec(self.alloc)?;
