@@ -23,7 +23,7 @@ impl PathCases {
     }
 }
 
-fn asked(ask: Ask, answer: &mut String) -> Result<()> {
+fn asked(ask: &Ask, answer: &mut String) -> Result<()> {
     match ask {
         Ask::Active => answer.push_str("active jobs\n")?,
         Ask::Queue(jobq) => write!(answer, "queue {jobq}\n")?,
@@ -47,7 +47,7 @@ impl Subject for PathCases {
         let target = bytes_of(self.alloc, target)?;
         match self.routes.find(method.as_bytes(), &target) {
             Route::Command(user) => write!(answer, "a command of {user}\n")?,
-            Route::Read(ask) => asked(ask, answer)?,
+            Route::Read(ask) => asked(&ask, answer)?,
             Route::NoRoute => answer.push_str("no route\n")?,
             Route::WrongMethod(method) => write!(answer, "only {method}\n")?,
         }
