@@ -1,5 +1,5 @@
 -- Why a call isn't made, and how a keeper's faults are counted.
-use Rattle.std.specs.Prelude.{◌≡◌, ◌⊎◌, ◌≤◌, ◌<◌, ℕ, Result, Err}
+use Rattle.std.specs.Prelude.{◌≡◌, ◌≤◌, ◌<◌, ℕ, Result, Err}
 use Rattle.wm_traits.specs.Cause.{raised}
 use Rattle.wm_turn.specs.Passed.{greatest}
 use Rattle.wm_journal.specs.declared.call_fault.CallFault.{CallFault}
@@ -11,6 +11,7 @@ IsMissCounted before now result = result ≡ Err KeeperFault → raised before �
 
 -- the failed calls are one more where the keeper's fault is answered, and else as many as before
 pub record HasMissed {T : Type 0} (before now : ℕ) (result : Result T CallFault) : Type 0 where
+  pub later : before ≤ now
   pub failed : result ≡ Err KeeperFault → now ≡ raised before
   pub left : (result ≡ Err KeeperFault → ⊥) → now ≡ before
 

@@ -1,10 +1,10 @@
 // The shared floor.
-ghost use Rattle.std.specs.Prelude.{◌≡◌, ◌≢◌, ◌<◌, ◌≤◌, ◌↔◌, [], length, Some, IfOk, IfErr, IsOk, OnErr};
+ghost use Rattle.std.specs.Prelude.{◌≡◌, ◌≢◌, ◌<◌, ◌≤◌, ◌↔◌, [], length, Some, IfOk, IfErr, IfSome, IsOk, IsSome};
 ghost use Rattle.wm_traits.specs.Cause.{raised};
 ghost use Rattle.wm_law.specs.Fit.{HasCall, IsCall};
 ghost use Rattle.wm_law.specs.History.{IsLegal};
 ghost use Rattle.wm_law.specs.Pending.{pending};
-ghost use Rattle.wm_turn.specs.Passed.{child, fresh, joining, parent, HasAll, HasOwn, StartsWith};
+ghost use Rattle.wm_turn.specs.Passed.{begun, child, ended, fresh, joining, own, parent, Grows, HasAll, HasOwn, StartsWith};
 ghost use Rattle.wm_journal.specs.History.{reached};
 ghost use Rattle.wm_journal.specs.Keeping.{telling, IsOpened};
 ghost use Rattle.wm_journal.specs.OpenFaults.{IsCounted, NamesBad};
@@ -80,6 +80,33 @@ impl<K: Keeper> Floor<K> {
         }
     }
 
+    // Waits for the pass's turn and takes the ledger.
+    fn enter<R: Wait>(&self, rt: &R, pass: &mut FloorPass<K>) -> Ledger<K>
+        requires { IsPassOf self.now pass.old }
+        ensures pass { pass.new ≡ begun result.log result.misses pass.old }
+        ensures front { StartsWith result.log pass.old.seen }
+        ensures opening { result.opening ≡ self.now.opening }
+    {
+        self.turnstile.enter(rt, pass)
+    }
+
+    // Gives the ledger back and ends the turn, and tells what the pass then knows.
+    fn leave(&self, pass: &mut FloorPass<K>, ledger: Ledger<K>)
+        requires own { pass.old.turnstile ≡ self.now.turnstile }
+        requires turn { IsSome pass.old.turn }
+        requires opening { pass.old.opening ≡ Some ledger.opening }
+        requires entries { Grows caller_of pass.old.number pass.old.seen ledger.log }
+        requires mark { IfSome pass.old.turn (λ before. before ≤ ledger.misses) }
+        ensures pass { pass.new ≡ ended ledger.log ledger.misses pass.old }
+        ensures mine { pass.new.mine ≡ own caller_of pass.new.number pass.new.seen }
+        ensures legal { IsLegal ledger.opening.state ledger.log }
+    {
+        let _count = ledger.len();
+        ledger.recall();
+        self.turnstile.leave(pass, ledger);
+        self.turnstile.recall(pass);
+    }
+
     /// Makes one call of a pass, whose rows are kept before its entry stands in the history, and tells the entry's place and
     /// its reply. An `Err` makes no entry, and leaves the state and the rows. It may wait for other callers.
     pub fn call<R: Wait>(
@@ -98,18 +125,10 @@ impl<K: Keeper> Floor<K> {
         ensures called { IsCalled self.now.opening call now pass.old pass.new result }
         ensures cause { HasMarkCause pass.old.mark pass.new.mark result }
     {
-        let mut ledger = self.turnstile.enter(rt, pass);
+        let mut ledger = self.enter(rt, pass);
         let result = ledger.call(alloc, pass.number(), call, now);
         self.leave(pass, ledger);
         result
-    }
-
-    // Gives the ledger back, and tells what the pass then knows.
-    fn leave(&self, pass: &mut FloorPass<K>, ledger: Ledger<K>) {
-        let _count = ledger.len();
-        ledger.recall();
-        self.turnstile.leave(pass, ledger);
-        self.turnstile.recall(pass);
     }
 
     /// What a reading command shows of the state, and after how many entries. The pass has then seen these. It may wait.
@@ -127,7 +146,7 @@ impl<K: Keeper> Floor<K> {
         ensures at { IfOk result (λ view. view.at ≡ length pass.new.seen) }
         ensures shown { IfOk result (λ view. view.shown ≡ shown (reached (behind self.now.opening pass.new.seen)) ask.now) }
     {
-        let ledger = self.turnstile.enter(rt, pass);
+        let ledger = self.enter(rt, pass);
         let at = ledger.len();
         let shown = ledger.view(alloc, ask);
         self.leave(pass, ledger);
@@ -144,7 +163,7 @@ impl<K: Keeper> Floor<K> {
         ensures at { result.at ≡ length pass.new.seen }
         ensures pending { result.pending ≡ pending (reached (behind self.now.opening pass.new.seen)) monitor }
     {
-        let ledger = self.turnstile.enter(rt, pass);
+        let ledger = self.enter(rt, pass);
         let at = ledger.len();
         let pending = ledger.pending(monitor);
         self.leave(pass, ledger);

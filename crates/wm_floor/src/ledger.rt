@@ -79,7 +79,8 @@ impl<K: Keeper> Standing for Ledger<K> {
 }
 
 impl<K: Keeper> Ledger<K> {
-    ghost use Rattle.wm_floor.specs.Ledger.{history_of, HasLedger, HasMissed, HasReply};
+    ghost use Rattle.wm_floor.specs.Causes.{HasMissed};
+    ghost use Rattle.wm_floor.specs.Ledger.{history_of, HasLedger, HasReply};
 
     /// The machine of the rows that a keeper has, with no history.
     pub(crate) fn open(
