@@ -1,8 +1,7 @@
 -- What a call does to a pass.
-use Rattle.std.proofs.Common.{◌≡◌, ◌<◌, ◌≤◌, ◌++◌, ℕ, List, [], ◌∷◌, length, Option, Some, None, Result, Ok, Err, IfOk, OnOk, OnErr, sym, refl, ap, subst, ◌∙◌, inl, inr}
+use Rattle.std.proofs.Common.{◌≡◌, ◌<◌, ◌≤◌, ◌++◌, ℕ, List, [], ◌∷◌, length, Option, Some, None, Result, Ok, Err, IfOk, OnOk, OnErr, sym, refl, ap, subst, ◌∙◌}
 use Rattle.wm_law.specs.declared.call.Call.{Call}
 use Rattle.wm_law.specs.declared.call.Entry.{Entry}
-use Rattle.wm_turn.specs.Passed.{Grows}
 use Rattle.wm_journal.specs.History.{History, last_of, with_call}
 use Rattle.wm_journal.specs.Limit.{limit_of}
 use Rattle.wm_journal.specs.declared.call_fault.CallFault.{CallFault}
@@ -10,7 +9,7 @@ use Rattle.wm_journal.specs.declared.call_fault.CallFault.TheVariants.{LogFull}
 use Rattle.wm_floor.specs.declared.answer.Answered.{Answered}
 use Rattle.wm_floor.specs.declared.opened.Opened.{Opened}
 use Rattle.wm_floor.specs.Floor.{Floored, IsCalled, IsEntered, IsRefused, Seen, entry_of}
-use Rattle.wm_floor.specs.Ledger.{HasReply, Ledgered, caller_of, history_of}
+use Rattle.wm_floor.specs.Ledger.{HasReply, Ledgered, history_of}
 use Rattle.wm_floor.specs.Replies.{IsCopyOf}
 use Rattle.wm_floor.proofs.Passes.{IsTurned, last_of-call, mine_after, mine_same, seen_after}
 
@@ -24,11 +23,6 @@ module _ {K : Type 0} where
     pub err : OnErr result (m.log ≡ l.log)
     pub full : limit_of call l.opening.limit ≤ length l.log → result ≡ Err (LogFull (limit_of call l.opening.limit))
     pub not_full : length l.log < limit_of call l.opening.limit → (n : ℕ) → result ≡ Err (LogFull n) → ⊥
-
-  -- the list of a ledger after a call is the one before, or has one entry of the caller more
-  pub grows : (l m : Ledgered K) (caller : ℕ) (call : Call) (now : ℕ) (result : Result Answered CallFault) → IsLedgerCall l m caller call now result → Grows caller_of caller l.log m.log
-  grows l m caller call now (Ok a) k = inr (entry_of l.opening l.log caller call now, refl, ap (λ (h : History). h.log) k.ok)
-  grows l m caller call now (Err e) k = inl k.err
 
   module _ (f : Floored K) (old new : Seen K) (l m : Ledgered K) (call : Call) (now : ℕ) (t : IsTurned f old new l.log m.log l.misses m.misses) (opens : l.opening ≡ f.opening) where
     logged : history_of m ≡ with_call (history_of l) old.number call now → m.log ≡ l.log ++ entry_of f.opening l.log old.number call now ∷ []

@@ -21,7 +21,7 @@ slice_get_push [] y = refl
 slice_get_push (x ∷ xs) y = slice_get_push xs y
 
 -- the last entry is the call's
-last_of-call : (h : History) (caller : ℕ) (call : Call) (now : ℕ) → last_of (with_call h caller call now) ≡ Some (entry_at h caller call now)
+pub last_of-call : (h : History) (caller : ℕ) (call : Call) (now : ℕ) → last_of (with_call h caller call now) ≡ Some (entry_at h caller call now)
 last_of-call h caller call now =
     let e = entry_at h caller call now in
     let n : length (h.log ++ e ∷ []) - 1 ≡ length h.log = omega (arith, length_push h.log e) in

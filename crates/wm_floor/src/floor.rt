@@ -181,7 +181,8 @@ impl<K: Keeper> Floor<K> {
         ensures other { IfOk result (λ made. IsPassOf self.now made) }
         ensures ok { IsOk result }
     {
-        let made = self.turnstile.split(pass)?;
+        let mut made = self.turnstile.split(pass)?;
+        self.turnstile.recall(&mut made);
         Ok(made)
     }
 

@@ -227,7 +227,9 @@ impl<K: Keeper> Ledger<K> {
     /// What is always so of a ledger.
     pub(crate) fn recall(&self)
         ensures { HasLedger K.faults K.tables K.trail self.now }
-    {}
+    {
+        let _ = &self.found;
+    }
 
     /// The entries and the keeper.
     pub(crate) fn close(self) -> Closed<K>

@@ -82,7 +82,8 @@ pub fn round<R: Threads + Wait + Sync, K: Keeper + Drop + Send>(
         }
     };
     let made = among(rt, alloc, &floor, &mut zero, callers, turns);
-    let Ok(closed) = floor.close(zero) else {
+    let closed = floor.close(zero);
+    let Ok(closed) = closed else {
         unreachable!()
     };
     made?;

@@ -24,6 +24,7 @@ const STORE: &str = "floor.db";
 const LOG: &str = "floor.db-wal";
 
 // A round of a case.
+#[derive(Drop)]
 struct Plan<'a> {
     keeper: &'a str,
     callers: u32,
@@ -55,6 +56,7 @@ fn callers(alloc: Global, plan: &Plan) -> Result<Vec<Caller>> {
 }
 
 /// The rounds.
+#[derive(Drop)]
 pub struct Rounds<'a, R> {
     rt: &'a R,
     host: &'a HostRuntime,
