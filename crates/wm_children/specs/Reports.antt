@@ -1,10 +1,12 @@
 -- What a report says.
-use Rattle.std.specs.Prelude.{◌≡◌, ℕ, List, remove, slice_get, Option, Some, None, Result, Ok, Err, ⊤}
+use Rattle.std.specs.Prelude.{◌≡◌, ◌⊎◌, ⊤, ℕ, true, List, Contains, remove, slice_get, Option, Some, None, Result, Ok, Err}
 use Rattle.wm_base.specs.declared.job.Event.{Event}
 use Rattle.wm_base.specs.declared.job.Event.TheVariants.{Ended, Used}
 use Rattle.wm_traits.specs.Cause.{raised}
 use Rattle.wm_traits.specs.declared.fault.Failed.{Failed}
 use Rattle.wm_children.specs.declared.finished.Finished.{Finished}
+use Rattle.wm_children.specs.declared.spawner.SysSpawner.{SysSpawner}
+use Rattle.wm_children.specs.Children.{children_out, has_lost, last_end}
 use Rattle.wm_children.specs.Programs.{HasEnded}
 
 -- the event is the end of this child: its serial, and how std told that it ended
@@ -31,3 +33,12 @@ GivesUp (Ok (Some (Ended serial exit))) old new = (k : ℕ) × (slice_get old k 
 GivesUp (Ok (Some (Used serial))) old new = ⊥
 GivesUp (Ok None) old new = new ≡ old
 GivesUp (Err failed) old new = new ≡ old
+
+-- a child has ended that isn't among these
+abbrev pub IsNotOut : Option Finished → List ℕ → Type 0
+IsNotOut (Some finished) out = Contains out finished.running.serial → ⊥
+IsNotOut None out = ⊥
+
+-- why an end can't be reported: that of a child is lost, or it is the end of one that isn't out
+abbrev pub CannotReport : {R : Type 0} → SysSpawner R → SysSpawner R → Type 0
+CannotReport old new = (has_lost new ≡ true) ⊎ IsNotOut (last_end new) (children_out old)

@@ -71,7 +71,7 @@ impl<
 
 impl<R: Processes<Started = SystemProcess> + Wait + Clock> SysSpawner<R> {
     ghost use Rattle.wm_children.specs.Children.{children_out, child_looks, ends_came, child_misses, child_faults, has_lost, last_end, last_reading, child_threads, children_handed, programs_asked, HasThreads, StartsNothing, StartsOne, CannotStart, OnlyReports};
-    ghost use Rattle.wm_children.specs.Reports.{GivesUp, TellsEndOf};
+    ghost use Rattle.wm_children.specs.Reports.{CannotReport, GivesUp, TellsEndOf};
     ghost use Rattle.wm_children.specs.Threads.{threads_after};
     ghost use Rattle.wm_children.specs.Waiting.{HasCome, came_with};
 
@@ -80,6 +80,7 @@ impl<R: Processes<Started = SystemProcess> + Wait + Clock> SysSpawner<R> {
         ensures faults { child_faults self.new ≡ raised (child_faults self.old) }
         ensures later { child_faults self.old ≤ child_faults self.new }
         ensures last { last_end self.new ≡ last_end self.old }
+        ensures lost { has_lost self.new ≡ has_lost self.old }
         ensures rest { OnlyReports self.old self.new }
     {
         self.faults = self.faults.saturating_add(1);
@@ -186,6 +187,7 @@ impl<R: Processes<Started = SystemProcess> + Wait + Clock> SysSpawner<R> {
     fn take(&mut self, serial: Serial, exit: Exit) -> Result<Option<Event>, Failed>
         ensures gives { GivesUp result (children_out self.old) (children_out self.new) }
         ensures event { IfOk result (λ report. report ≡ Some (Event.Ended serial exit)) }
+        ensures none { OnErr result (Contains (children_out self.old) serial → ⊥) }
         ensures cause { HasCause (child_faults self.old) (child_faults self.new) result }
         ensures last { last_end self.new ≡ last_end self.old }
         ensures rest { OnlyReports self.old self.new }
@@ -204,6 +206,7 @@ impl<R: Processes<Started = SystemProcess> + Wait + Clock> SysSpawner<R> {
         ensures gives { GivesUp result (children_out self.old) (children_out self.new) }
         ensures end { TellsEndOf (last_end self.new) result }
         ensures last { last_end self.new ≡ Some finished }
+        ensures why { OnErr result (CannotReport self.old self.new) }
         ensures some { result ≢ Ok None }
         ensures cause { HasCause (child_faults self.old) (child_faults self.new) result }
         ensures rest { OnlyReports self.old self.new }
@@ -224,6 +227,7 @@ impl<R: Processes<Started = SystemProcess> + Wait + Clock> SysSpawner<R> {
         ensures gives { GivesUp result (children_out self.old) (children_out self.new) }
         ensures end { TellsEndOf (last_end self.new) result }
         ensures last { IfSome found (λ finished. last_end self.new ≡ Some finished) }
+        ensures why { OnErr result (CannotReport self.old self.new) }
         ensures none { result ≡ Ok None → found ≡ None }
         ensures some { IfOk result (λ report. IsSome report → IsSome found) }
         ensures lost { result ≡ Ok None → has_lost self.old ≡ false }
@@ -240,7 +244,7 @@ impl<R: Processes<Started = SystemProcess> + Wait + Clock> SysSpawner<R> {
 
 impl<R: Processes<Started = SystemProcess> + Wait + Clock> Spawner for SysSpawner<R> {
     ghost use Rattle.wm_children.specs.Children.{children_out, child_looks, ends_came, child_misses, child_faults, has_lost, last_end, last_reading, HasThreads, StartsNothing, StartsOne, CannotStart};
-    ghost use Rattle.wm_children.specs.Reports.{GivesUp, TellsEndOf, ReportsEach};
+    ghost use Rattle.wm_children.specs.Reports.{CannotReport, GivesUp, TellsEndOf, ReportsEach};
     ghost use Rattle.wm_children.specs.Waiting.{HasCome};
 
     ghost misses = { child_misses };
@@ -301,6 +305,7 @@ impl<R: Processes<Started = SystemProcess> + Wait + Clock> Spawner for SysSpawne
         ensures none { result ≡ Ok None → has_lost self.old ≡ false }
         ensures end { TellsEndOf (last_end self.new) result }
         ensures each { ReportsEach result (ends_came self.old) (ends_came self.new) }
+        ensures why { OnErr result (CannotReport self.old self.new) }
         ensures nothing { StartsNothing self.old self.new }
         ensures cause { HasCause (child_faults self.old) (child_faults self.new) result }
         ensures misses { child_misses self.new ≡ child_misses self.old }
@@ -318,6 +323,7 @@ impl<R: Processes<Started = SystemProcess> + Wait + Clock> Spawner for SysSpawne
         ensures moment { result ≡ Ok None → IfSome until (HasCome (last_reading self.new)) }
         ensures end { TellsEndOf (last_end self.new) result }
         ensures each { ReportsEach result (ends_came self.old) (ends_came self.new) }
+        ensures why { OnErr result (CannotReport self.old self.new) }
         ensures nothing { StartsNothing self.old self.new }
         ensures gives { GivesUp result (children_out self.old) (children_out self.new) }
         ensures looked { raised (child_looks self.old) ≤ child_looks self.new }

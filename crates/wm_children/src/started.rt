@@ -1,5 +1,5 @@
 // The children that are out, as the spawner knows them.
-ghost use Rattle.std.specs.Prelude.{◌≡◌, ◌↔◌, ◌==◌, ◌<◌, Some, IsTrue, Contains, IfOk, IfSome, length, slice_get};
+ghost use Rattle.std.specs.Prelude.{◌≡◌, ◌↔◌, ◌==◌, IsTrue, Contains, IfOk, position};
 ghost use Rattle.std.specs.List.{list_any};
 ghost use Rattle.wm_children.specs.Kills.{LeavesNothing};
 ghost use Rattle.wm_children.specs.Programs.{serials_of};
@@ -55,13 +55,7 @@ pub fn kill_child(children: &[Started], job: Serial) -> Result<bool, Failed>
 
 /// The place of a job's child.
 pub fn place_of(children: &[Started], job: Serial) -> Option<usize>
-    ensures below { IfSome result (λ at. at < length children.now) }
-    ensures there { IfSome result (λ at. slice_get (serials_of children.now) at ≡ Some job) }
+    ensures { result ≡ position (λ child. child.serial == job) children.now }
 {
-    for at in 0..children.len() {
-        if children[at].serial == job {
-            return Some(at);
-        }
-    }
-    None
+    children.iter().position(|child| child.serial == job)
 }

@@ -6,7 +6,7 @@ use Rattle.wm_monitor.specs.Journal.{HasJournalCauses}
 
 module _ {K : Type 0} {faults : K → ℕ} {trail : K → Option (List (List Row))} where
   -- a journal that isn't called
-  pub HasJournalCauses-none : {P Q : Type 0} (j : Journaled K) → (P → ⊥) → (Q → ⊥) → HasJournalCauses faults trail P Q j j
+  pub HasJournalCauses-none : {P Q : Type 0} {least : ℕ} (j : Journaled K) → (P → ⊥) → (Q → ⊥) → HasJournalCauses faults trail P Q least j j
   HasJournalCauses-none j no_fault not_full =
       record {
         found = refl;
@@ -19,7 +19,7 @@ module _ {K : Type 0} {faults : K → ℕ} {trail : K → Option (List (List Row
       }
 
   -- a part, and then another, whose faults are told
-  pub HasJournalCauses-then : {A B P Q : Type 0} (a b c : Journaled K) → HasJournalCauses faults trail A B a b → HasJournalCauses faults trail P Q b c → HasJournalCauses faults trail P Q a c
+  pub HasJournalCauses-then : {A B P Q : Type 0} {before least : ℕ} (a b c : Journaled K) → HasJournalCauses faults trail A B before a b → HasJournalCauses faults trail P Q least b c → HasJournalCauses faults trail P Q least a c
   HasJournalCauses-then a b c h k =
       record {
         found = k.found ∙ h.found;
@@ -32,7 +32,7 @@ module _ {K : Type 0} {faults : K → ℕ} {trail : K → Option (List (List Row
       }
 
   -- the same faults, told otherwise
-  pub HasJournalCauses-as : {P Q A B : Type 0} (a b : Journaled K) → (A → P) → (B → Q) → HasJournalCauses faults trail P Q a b → HasJournalCauses faults trail A B a b
+  pub HasJournalCauses-as : {P Q A B : Type 0} {least : ℕ} (a b : Journaled K) → (A → P) → (B → Q) → HasJournalCauses faults trail P Q least a b → HasJournalCauses faults trail A B least a b
   HasJournalCauses-as a b fault full h =
       record {
         found = h.found;
@@ -45,5 +45,5 @@ module _ {K : Type 0} {faults : K → ℕ} {trail : K → Option (List (List Row
       }
 
   -- a part that told no fault that was looked at, and then more
-  pub HasJournalCauses-more : {A B P Q : Type 0} (a b c : Journaled K) → HasJournalCauses faults trail A B a b → HasJournalCauses faults trail P Q b c → HasJournalCauses faults trail ⊥ ⊥ a c
+  pub HasJournalCauses-more : {A B P Q : Type 0} {before least : ℕ} (a b c : Journaled K) → HasJournalCauses faults trail A B before a b → HasJournalCauses faults trail P Q least b c → HasJournalCauses faults trail ⊥ ⊥ least a c
   HasJournalCauses-more a b c h k = HasJournalCauses-then a b c h (HasJournalCauses-as b c (λ f. absurd f) (λ f. absurd f) k)

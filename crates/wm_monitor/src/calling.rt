@@ -1,7 +1,8 @@
 // Making a call of a journal.
-ghost use Rattle.std.specs.Prelude.{◌≡◌, OnOk, OnErr, IsErrOf};
+ghost use Rattle.std.specs.Prelude.{◌≡◌, ℕ, OnOk, OnErr, IsErrOf};
 ghost use Rattle.wm_law.specs.Fit.{IsCall, HasCall};
 ghost use Rattle.wm_journal.specs.History.{reached, with_call};
+ghost use Rattle.wm_journal.specs.Limit.{limit_of};
 ghost use Rattle.wm_monitor.specs.Journal.{HasJournalCauses};
 
 use crate::fault::MonitorFault;
@@ -24,12 +25,13 @@ pub fn enter<K: Keeper>(
     ensures ok { OnOk result (journal.new.history ≡ with_call journal.old.history pass.now call now) }
     ensures err { OnErr result (journal.new.history ≡ journal.old.history) }
     ensures no_wait { IsErrOf result MonitorFault.WaitFault → ⊥ }
-    ensures journal { HasJournalCauses K.faults K.trail (IsErrOf result MonitorFault.KeeperFault) (IsErrOf result MonitorFault.LogFull) journal.old journal.new }
+    ensures full { (n : ℕ) → IsErrOf result (MonitorFault.LogFull n) → n ≡ limit_of call journal.old.limit }
+    ensures journal { HasJournalCauses K.faults K.trail (IsErrOf result MonitorFault.KeeperFault) (IsErrOf result (MonitorFault.LogFull (limit_of call journal.old.limit))) (limit_of call journal.old.limit) journal.old journal.new }
 {
     match journal.call(alloc, pass, call, now) {
         Ok(()) => Ok(()),
         Err(CallFault::KeeperFault) => Err(MonitorFault::KeeperFault),
-        Err(CallFault::LogFull(_)) => Err(MonitorFault::LogFull),
+        Err(CallFault::LogFull(limit)) => Err(MonitorFault::LogFull(limit)),
         Err(CallFault::NoMemory) => Err(MonitorFault::NoMemory),
     }
 }

@@ -11,8 +11,9 @@ pub enum MonitorFault {
     WaitFault,
     /// The keeper of the rows failed.
     KeeperFault,
-    /// The log takes no such call.
-    LogFull,
+    /// The history has this many entries, behind which the journal takes no such call: 4,000,000 for a monitor's own call, the
+    /// limit of users' commands for a session's.
+    LogFull(u32),
     NoMemory,
 }
 

@@ -35,7 +35,7 @@ pub struct Turned {
 }
 
 impl Monitor {
-    ghost use Rattle.std.specs.Prelude.{◌≡◌, ◌⊎◌, ◌<◌, ◌≤◌, ◌+◌, ◌-◌, ◌*◌, ◌∷◌, [], None, Some, Ok, false, true, length, OnOk, OnErr, IfOk, IfSome, IsErrOf};
+    ghost use Rattle.std.specs.Prelude.{◌≡◌, ◌⊎◌, ℕ, ◌<◌, ◌≤◌, ◌+◌, ◌-◌, ◌*◌, ◌∷◌, [], None, Some, Ok, false, true, length, OnOk, OnErr, IfOk, IfSome, IsErrOf};
     ghost use Rattle.wm_base.specs.declared.job.Asked.TheVariants.{Kill};
     ghost use Rattle.wm_traits.specs.Told.{Grows, IsEmpty};
     ghost use Rattle.wm_traits.specs.Cause.{raised};
@@ -80,7 +80,8 @@ impl Monitor {
         ensures left { OnErr result (self.new.kept ≡ self.old.kept) }
         ensures kill { self.new.failed_kill ≡ self.old.failed_kill }
         ensures no_wait { IsErrOf result MonitorFault.WaitFault → ⊥ }
-        ensures journal { HasJournalCauses K.faults K.trail (IsErrOf result MonitorFault.KeeperFault) (IsErrOf result MonitorFault.LogFull) journal.old journal.new }
+        ensures full { (n : ℕ) → IsErrOf result (MonitorFault.LogFull n) → n ≡ 4000000 }
+        ensures journal { HasJournalCauses K.faults K.trail (IsErrOf result MonitorFault.KeeperFault) (IsErrOf result (MonitorFault.LogFull 4000000)) 4000000 journal.old journal.new }
     {
         let Some(report) = self.kept else {
             return Ok(());
@@ -144,7 +145,8 @@ impl Monitor {
         ensures no_hand { hands_of (since journal.old.history.log journal.new.history.log) ≡ 0 }
         ensures kept { self.new ≡ self.old }
         ensures no_wait { IsErrOf result MonitorFault.WaitFault → ⊥ }
-        ensures journal { HasJournalCauses K.faults K.trail (IsErrOf result MonitorFault.KeeperFault) (IsErrOf result MonitorFault.LogFull) journal.old journal.new }
+        ensures full { (n : ℕ) → IsErrOf result (MonitorFault.LogFull n) → n ≡ 4000000 }
+        ensures journal { HasJournalCauses K.faults K.trail (IsErrOf result MonitorFault.KeeperFault) (IsErrOf result (MonitorFault.LogFull 4000000)) 4000000 journal.old journal.new }
     {
         let now = clock.now();
         match journal.pending(MONITOR).next {
@@ -176,7 +178,8 @@ impl Monitor {
         ensures clear { OnOk result (IsClear self.new) }
         ensures faults { P.faults spawner.old ≤ P.faults spawner.new }
         ensures wait_fault { IsErrOf result MonitorFault.WaitFault → raised (P.faults spawner.old) ≤ P.faults spawner.new }
-        ensures journal { HasJournalCauses K.faults K.trail (IsErrOf result MonitorFault.KeeperFault) (IsErrOf result MonitorFault.LogFull) journal.old journal.new }
+        ensures full { (n : ℕ) → IsErrOf result (MonitorFault.LogFull n) → n ≡ 4000000 }
+        ensures journal { HasJournalCauses K.faults K.trail (IsErrOf result MonitorFault.KeeperFault) (IsErrOf result (MonitorFault.LogFull 4000000)) 4000000 journal.old journal.new }
     {
         enter(alloc, journal, pass, Call::Hand, clock.now())?;
         match journal.order() {
@@ -213,7 +216,8 @@ impl Monitor {
         ensures clear { OnOk result (IsClear self.new) }
         ensures faults { P.faults spawner.old ≤ P.faults spawner.new }
         ensures wait_fault { IsErrOf result MonitorFault.WaitFault → raised (P.faults spawner.old) ≤ P.faults spawner.new }
-        ensures journal { HasJournalCauses K.faults K.trail (IsErrOf result MonitorFault.KeeperFault) (IsErrOf result MonitorFault.LogFull) journal.old journal.new }
+        ensures full { (n : ℕ) → IsErrOf result (MonitorFault.LogFull n) → n ≡ 4000000 }
+        ensures journal { HasJournalCauses K.faults K.trail (IsErrOf result MonitorFault.KeeperFault) (IsErrOf result (MonitorFault.LogFull 4000000)) 4000000 journal.old journal.new }
     {
         'hands: for _ in 0..MOST_HANDS {
             let pending = journal.pending(MONITOR);
@@ -246,7 +250,8 @@ impl Monitor {
         ensures clear { OnOk result (IsClear self.new) }
         ensures faults { P.faults spawner.old ≤ P.faults spawner.new }
         ensures wait_fault { IsErrOf result MonitorFault.WaitFault → raised (P.faults spawner.old) ≤ P.faults spawner.new }
-        ensures journal { HasJournalCauses K.faults K.trail (IsErrOf result MonitorFault.KeeperFault) (IsErrOf result MonitorFault.LogFull) journal.old journal.new }
+        ensures full { (n : ℕ) → IsErrOf result (MonitorFault.LogFull n) → n ≡ 4000000 }
+        ensures journal { HasJournalCauses K.faults K.trail (IsErrOf result MonitorFault.KeeperFault) (IsErrOf result (MonitorFault.LogFull 4000000)) 4000000 journal.old journal.new }
     {
         let Some(report) = asking::look(spawner)? else {
             return Ok(false);
@@ -276,7 +281,8 @@ impl Monitor {
         ensures clear { OnOk result (IsClear self.new) }
         ensures faults { P.faults spawner.old ≤ P.faults spawner.new }
         ensures wait_fault { IsErrOf result MonitorFault.WaitFault → raised (P.faults spawner.old) ≤ P.faults spawner.new }
-        ensures journal { HasJournalCauses K.faults K.trail (IsErrOf result MonitorFault.KeeperFault) (IsErrOf result MonitorFault.LogFull) journal.old journal.new }
+        ensures full { (n : ℕ) → IsErrOf result (MonitorFault.LogFull n) → n ≡ 4000000 }
+        ensures journal { HasJournalCauses K.faults K.trail (IsErrOf result MonitorFault.KeeperFault) (IsErrOf result (MonitorFault.LogFull 4000000)) 4000000 journal.old journal.new }
     {
         'looks: for _ in 0..MOST_LOOKS {
             if !self.look(alloc, journal, pass, spawner, clock)? {
@@ -303,7 +309,8 @@ impl Monitor {
         ensures again { OnOk result (IfSome self.old.failed_kill (λ serial. AsksFirst (Kill serial) (P.asked spawner.old) (P.asked spawner.new))) }
         ensures faults { P.faults spawner.old ≤ P.faults spawner.new }
         ensures wait_fault { IsErrOf result MonitorFault.WaitFault → raised (P.faults spawner.old) ≤ P.faults spawner.new }
-        ensures journal { HasJournalCauses K.faults K.trail (IsErrOf result MonitorFault.KeeperFault) (IsErrOf result MonitorFault.LogFull) journal.old journal.new }
+        ensures full { (n : ℕ) → IsErrOf result (MonitorFault.LogFull n) → n ≡ 4000000 }
+        ensures journal { HasJournalCauses K.faults K.trail (IsErrOf result MonitorFault.KeeperFault) (IsErrOf result (MonitorFault.LogFull 4000000)) 4000000 journal.old journal.new }
         ensures sent { IfOk result (λ turned. turned.sent ≡ length journal.new.history.log - length journal.old.history.log) }
         ensures pending { IfOk result (λ turned. WaitedSince journal.old.history journal.new.history turned.pending) }
         ensures handed { IfOk result (λ turned. (turned.pending.orders ≡ 0) ⊎ (hands_of (since journal.old.history.log journal.new.history.log) ≡ 256)) }
@@ -342,7 +349,8 @@ impl Monitor {
         ensures kill { self.new.failed_kill ≡ self.old.failed_kill }
         ensures faults { P.faults spawner.old ≤ P.faults spawner.new }
         ensures wait_fault { IsErrOf result MonitorFault.WaitFault → raised (P.faults spawner.old) ≤ P.faults spawner.new }
-        ensures journal { HasJournalCauses K.faults K.trail (IsErrOf result MonitorFault.KeeperFault) (IsErrOf result MonitorFault.LogFull) journal.old journal.new }
+        ensures full { (n : ℕ) → IsErrOf result (MonitorFault.LogFull n) → n ≡ 4000000 }
+        ensures journal { HasJournalCauses K.faults K.trail (IsErrOf result MonitorFault.KeeperFault) (IsErrOf result (MonitorFault.LogFull 4000000)) 4000000 journal.old journal.new }
         ensures sent { IfOk result (λ turned. turned.sent ≡ length journal.new.history.log - length journal.old.history.log) }
         ensures pending { IfOk result (λ turned. WaitedSince journal.old.history journal.new.history turned.pending) }
     {

@@ -8,7 +8,7 @@ use Rattle.wm_run.specs.Serving.{Serves}
 use Rattle.wm_run.specs.Taking.{TakesPiece}
 
 -- what stays true while the lines of a piece are taken, none of which has put the power down
-pub record PieceLoop (old new : MonitorView) (written_before written_now looked_before looked_now : ℕ) (at : ℕ) (piece : List ℕ) (down : Bool) (Taken Kept : Type 0) : Type 0 where
+pub record PieceLoop (old new : MonitorView) (written_before written_now looked_before looked_now : ℕ) (at : ℕ) (piece : List ℕ) (down : Bool) (Taken Kept Reported : Type 0) : Type 0 where
   pub within : at ≤ length piece
   pub serves : Serves old new
   pub up : down ≡ false
@@ -16,6 +16,7 @@ pub record PieceLoop (old new : MonitorView) (written_before written_now looked_
   pub written : written_before ≤ written_now
   pub looked : looked_before ≤ looked_now
   pub journal : Kept
+  pub reported : Reported
 
 -- so many bytes of the input have been taken, and the lines that have ended in them were answered
 pub record SoFar (user : List ℕ) (b : Part) (h : History) (es : List Entry) (u v : Option (List ℕ)) (f : Bool) (sum : ℕ) (bytes : List ℕ) : Type 0 where
@@ -23,7 +24,7 @@ pub record SoFar (user : List ℕ) (b : Part) (h : History) (es : List Entry) (u
   pub count : length bytes ≡ sum
 
 -- what stays true while the input is read, of which no line has put the power down
-pub record InputLoop (old new : MonitorView) (read_before read_now written_before written_now looked_before looked_now : ℕ) (sum : ℕ) (buf : List ℕ) (down : Bool) (Taken Kept : Type 0) : Type 0 where
+pub record InputLoop (old new : MonitorView) (read_before read_now written_before written_now looked_before looked_now : ℕ) (sum : ℕ) (buf : List ℕ) (down : Bool) (Taken Kept Reported : Type 0) : Type 0 where
   pub serves : Serves old new
   pub up : down ≡ false
   pub taken : Taken
@@ -31,5 +32,6 @@ pub record InputLoop (old new : MonitorView) (read_before read_now written_befor
   pub written : written_before ≤ written_now
   pub looked : looked_before ≤ looked_now
   pub journal : Kept
+  pub reported : Reported
   pub total : sum ≤ 1000000000
   pub piece : length buf ≡ 65536

@@ -1,8 +1,9 @@
 -- Why a run ends early, and with which status.
-use Rattle.std.specs.Prelude.{ℕ, ◌≤◌, Result, IsErrOf}
+use Rattle.std.specs.Prelude.{◌≡◌, ℕ, ◌≤◌, Option, None, Result, IsErrOf}
 use Rattle.wm_traits.specs.Cause.{raised}
 use Rattle.wm_monitor.specs.declared.fault.MonitorFault.{MonitorFault}
 use Rattle.wm_monitor.specs.declared.fault.MonitorFault.TheVariants as monitor
+use Rattle.wm_monitor.specs.declared.report.Report.{Report}
 use Rattle.wm_run.specs.declared.halt.Halt.{Halt}
 use Rattle.wm_run.specs.declared.halt.Halt.TheVariants.{ReadFault, WriteFault, KeeperFault, NoMemory, LogFull, WaitFault, InputFull}
 
@@ -10,7 +11,7 @@ use Rattle.wm_run.specs.declared.halt.Halt.TheVariants.{ReadFault, WriteFault, K
 abbrev pub halt_of : MonitorFault → Halt
 halt_of monitor.WaitFault = WaitFault
 halt_of monitor.KeeperFault = KeeperFault
-halt_of monitor.LogFull = LogFull
+halt_of (monitor.LogFull limit) = LogFull
 halt_of monitor.NoMemory = NoMemory
 
 -- the status of a run that ends early
@@ -44,3 +45,7 @@ pub record HasInputCauses {T : Type 0} (result : Result T Halt) (read_before rea
   pub read_fault : IsErrOf result ReadFault → raised read_before ≤ read_now
   pub write_fault : IsErrOf result WriteFault → raised written_before ≤ written_now
   pub wait_fault : IsErrOf result WaitFault → raised looked_before ≤ looked_now
+
+-- a monitor that kept no report keeps none
+abbrev pub KeepsNone : Option Report → Option Report → Type 0
+KeepsNone before now = before ≡ None → now ≡ None

@@ -33,7 +33,7 @@ impl Awaited {
 }
 
 impl<K: Keeper> Run<K> {
-    ghost use Rattle.std.specs.Prelude.{◌≡◌, ◌+◌, OnOk, OnErr, IfOk, IsErrOf, None, length};
+    ghost use Rattle.std.specs.Prelude.{◌≡◌, ◌+◌, ◌<◌, OnOk, OnErr, IfOk, IsErrOf, None, length, min};
     ghost use Rattle.wm_law.specs.Pending.{active, orders_left, pending};
     ghost use Rattle.wm_journal.specs.History.{reached};
     ghost use Rattle.wm_monitor.specs.Idle.{monitor_pass};
@@ -41,7 +41,7 @@ impl<K: Keeper> Run<K> {
     ghost use Rattle.wm_monitor.specs.View.{IsClear, MonitorAdvances};
     ghost use Rattle.wm_traits.specs.Told.{IsEmpty};
     ghost use Rattle.wm_run.specs.Awaited.{jobs_left};
-    ghost use Rattle.wm_run.specs.Halt.{HasMonitorCauses};
+    ghost use Rattle.wm_run.specs.Halt.{HasMonitorCauses, KeepsNone};
     ghost use Rattle.wm_run.specs.Grown.{entries_between};
     ghost use Rattle.wm_run.specs.Serving.{RunServes};
     ghost use Rattle.wm_run.specs.Session.{Closes, EndsInput, IsUncalled, OneCall, start_call};
@@ -60,7 +60,7 @@ impl<K: Keeper> Run<K> {
         ensures orders { OnOk result (orders_left (reached self.new.journal.history) monitor_pass ≡ 0) }
         ensures clear { OnOk result (IsClear self.new.monitor) }
         ensures causes { HasMonitorCauses result (P.faults spawner.old) (P.faults spawner.new) }
-        ensures journal { HasJournalCauses K.faults K.trail (IsErrOf result Halt.KeeperFault) (IsErrOf result Halt.LogFull) self.old.journal self.new.journal }
+        ensures journal { HasJournalCauses K.faults K.trail (IsErrOf result Halt.KeeperFault) (IsErrOf result Halt.LogFull) 4000000 self.old.journal self.new.journal }
     {
         'turns: for _ in rt.forever() {
             let turned = self.turn(alloc, spawner, clock)?;
@@ -84,7 +84,7 @@ impl<K: Keeper> Run<K> {
         ensures none { OnOk result (jobs_left jobs (pending (reached self.new.journal.history) monitor_pass) ≡ 0) }
         ensures clear { OnOk result (IsClear self.new.monitor) }
         ensures causes { HasMonitorCauses result (P.faults spawner.old) (P.faults spawner.new) }
-        ensures journal { HasJournalCauses K.faults K.trail (IsErrOf result Halt.KeeperFault) (IsErrOf result Halt.LogFull) self.old.journal self.new.journal }
+        ensures journal { HasJournalCauses K.faults K.trail (IsErrOf result Halt.KeeperFault) (IsErrOf result Halt.LogFull) 4000000 self.old.journal self.new.journal }
     {
         'waits: for _ in rt.forever() {
             let pending = self.drain(rt, alloc, spawner, clock)?;
@@ -110,7 +110,9 @@ impl<K: Keeper> Run<K> {
         ensures orders { OnOk result (length self.new.journal.history.log ≡ length self.old.journal.history.log + 1 → orders_left (reached self.new.journal.history) monitor_pass ≡ 0) }
         ensures quiet { OnOk result (length self.new.journal.history.log ≡ length self.old.journal.history.log + 1 → self.old.monitor.failed_kill ≡ None → IsEmpty (P.reporting spawner.old)) }
         ensures causes { HasMonitorCauses result (P.faults spawner.old) (P.faults spawner.new) }
-        ensures journal { HasJournalCauses K.faults K.trail (IsErrOf result Halt.KeeperFault) (IsErrOf result Halt.LogFull) self.old.journal self.new.journal }
+        ensures journal { HasJournalCauses K.faults K.trail (IsErrOf result Halt.KeeperFault) (IsErrOf result Halt.LogFull) (min self.new.journal.limit 4000000) self.old.journal self.new.journal }
+        ensures none_kept { OnOk result (KeepsNone self.old.monitor.kept self.new.monitor.kept) }
+        ensures full { IsErrOf result Halt.LogFull → length self.new.journal.history.log < 4000000 → KeepsNone self.old.monitor.kept self.new.monitor.kept }
     {
         let start = start_call(alloc, ctl)?;
         self.call(alloc, clock, start)?;
@@ -130,7 +132,9 @@ impl<K: Keeper> Run<K> {
         ensures not_ended { OnErr result (IsUncalled (entries_between self.old.journal.history self.new.journal.history)) }
         ensures ended { OnOk result (EndsInput self.old.journal.history (entries_between self.old.journal.history self.new.journal.history)) }
         ensures causes { HasMonitorCauses result (P.faults spawner.old) (P.faults spawner.new) }
-        ensures journal { HasJournalCauses K.faults K.trail (IsErrOf result Halt.KeeperFault) (IsErrOf result Halt.LogFull) self.old.journal self.new.journal }
+        ensures journal { HasJournalCauses K.faults K.trail (IsErrOf result Halt.KeeperFault) (IsErrOf result Halt.LogFull) (min self.new.journal.limit 4000000) self.old.journal self.new.journal }
+        ensures none_kept { OnOk result (KeepsNone self.old.monitor.kept self.new.monitor.kept) }
+        ensures full { IsErrOf result Halt.LogFull → length self.new.journal.history.log < 4000000 → KeepsNone self.old.monitor.kept self.new.monitor.kept }
     {
         self.wait_for(rt, alloc, spawner, clock, Awaited::Busy)?;
         let end = end_call(alloc)?;
@@ -151,7 +155,9 @@ impl<K: Keeper> Run<K> {
         ensures not_ended { OnErr result (IsUncalled (entries_between self.old.journal.history self.new.journal.history)) }
         ensures ended { OnOk result (Closes down self.old.journal.history (entries_between self.old.journal.history self.new.journal.history)) }
         ensures causes { HasMonitorCauses result (P.faults spawner.old) (P.faults spawner.new) }
-        ensures journal { HasJournalCauses K.faults K.trail (IsErrOf result Halt.KeeperFault) (IsErrOf result Halt.LogFull) self.old.journal self.new.journal }
+        ensures journal { HasJournalCauses K.faults K.trail (IsErrOf result Halt.KeeperFault) (IsErrOf result Halt.LogFull) (min self.new.journal.limit 4000000) self.old.journal self.new.journal }
+        ensures none_kept { OnOk result (KeepsNone self.old.monitor.kept self.new.monitor.kept) }
+        ensures full { IsErrOf result Halt.LogFull → length self.new.journal.history.log < 4000000 → KeepsNone self.old.monitor.kept self.new.monitor.kept }
     {
         if down {
             return Ok(());
@@ -175,7 +181,9 @@ impl<K: Keeper> Run<K> {
         ensures idle { OnOk result (active (reached self.new.journal.history) ≡ 0) }
         ensures clear { OnOk result (IsClear self.new.monitor) }
         ensures causes { HasMonitorCauses result (P.faults spawner.old) (P.faults spawner.new) }
-        ensures journal { HasJournalCauses K.faults K.trail (IsErrOf result Halt.KeeperFault) (IsErrOf result Halt.LogFull) self.old.journal self.new.journal }
+        ensures journal { HasJournalCauses K.faults K.trail (IsErrOf result Halt.KeeperFault) (IsErrOf result Halt.LogFull) (min self.new.journal.limit 4000000) self.old.journal self.new.journal }
+        ensures none_kept { OnOk result (KeepsNone self.old.monitor.kept self.new.monitor.kept) }
+        ensures full { IsErrOf result Halt.LogFull → length self.new.journal.history.log < 4000000 → KeepsNone self.old.monitor.kept self.new.monitor.kept }
     {
         self.close_input(rt, alloc, spawner, clock, down)?;
         self.wait_for(rt, alloc, spawner, clock, Awaited::Active)?;

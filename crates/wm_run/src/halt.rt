@@ -48,7 +48,7 @@ impl From<MonitorFault> for Halt {
         match fault {
             MonitorFault::WaitFault => Halt::WaitFault,
             MonitorFault::KeeperFault => Halt::KeeperFault,
-            MonitorFault::LogFull => Halt::LogFull,
+            MonitorFault::LogFull(_) => Halt::LogFull,
             MonitorFault::NoMemory => Halt::NoMemory,
         }
     }

@@ -67,10 +67,10 @@ fn text_of(line: LogicalLine, joiner: &Joiner) -> Option<&[u8]>
 }
 
 impl<K: Keeper> Run<K> {
-    ghost use Rattle.std.specs.Prelude.{◌≡◌, ◌≤◌, ◌<◌, ◌++◌, [], List, ℕ, false, Some, IfOk, OnOk, OnErr, IsErrOf, length, drop};
+    ghost use Rattle.std.specs.Prelude.{◌≡◌, ◌≤◌, ◌<◌, ◌++◌, [], List, ℕ, false, Some, IfOk, OnOk, OnErr, IsErrOf, length, drop, min};
     ghost use Rattle.std.specs.Io.KnownBytes.{IsAtEnd};
     ghost use Rattle.wm_clwords.specs.Part.{lines_from, ended_lines};
-    ghost use Rattle.wm_run.specs.Halt.{HasCauses, HasInputCauses};
+    ghost use Rattle.wm_run.specs.Halt.{HasCauses, HasInputCauses, KeepsNone};
     ghost use Rattle.wm_monitor.specs.Journal.{HasJournalCauses};
     ghost use Rattle.wm_run.specs.Down.{is_down};
     ghost use Rattle.wm_run.specs.Outcome.{LinesCame};
@@ -98,7 +98,9 @@ impl<K: Keeper> Run<K> {
         ensures stopped { OnErr result (StopsIn user.now (ended_lines (Some line) joiner.now) self.old.journal.history
             (entries_between self.old.journal.history self.new.journal.history) (O.written out.old) (O.written out.new)) }
         ensures causes { HasCauses result (O.faults out.old) (O.faults out.new) (P.faults spawner.old) (P.faults spawner.new) }
-        ensures journal { HasJournalCauses K.faults K.trail (IsErrOf result Halt.KeeperFault) (IsErrOf result Halt.LogFull) self.old.journal self.new.journal }
+        ensures journal { HasJournalCauses K.faults K.trail (IsErrOf result Halt.KeeperFault) (IsErrOf result Halt.LogFull) (min self.new.journal.limit 4000000) self.old.journal self.new.journal }
+        ensures none_kept { OnOk result (KeepsNone self.old.monitor.kept self.new.monitor.kept) }
+        ensures full { IsErrOf result Halt.LogFull → length self.new.journal.history.log < 4000000 → KeepsNone self.old.monitor.kept self.new.monitor.kept }
     {
         self.answer(alloc, out, spawner, clock, user, text_of(line, joiner))
     }
@@ -123,7 +125,9 @@ impl<K: Keeper> Run<K> {
         ensures stopped { OnErr result ((more : List ℕ) → StopsIn user.now (lines_from joiner.old (piece.now ++ more)) self.old.journal.history
             (entries_between self.old.journal.history self.new.journal.history) (O.written out.old) (O.written out.new)) }
         ensures causes { HasCauses result (O.faults out.old) (O.faults out.new) (P.faults spawner.old) (P.faults spawner.new) }
-        ensures journal { HasJournalCauses K.faults K.trail (IsErrOf result Halt.KeeperFault) (IsErrOf result Halt.LogFull) self.old.journal self.new.journal }
+        ensures journal { HasJournalCauses K.faults K.trail (IsErrOf result Halt.KeeperFault) (IsErrOf result Halt.LogFull) (min self.new.journal.limit 4000000) self.old.journal self.new.journal }
+        ensures none_kept { OnOk result (KeepsNone self.old.monitor.kept self.new.monitor.kept) }
+        ensures full { IsErrOf result Halt.LogFull → length self.new.journal.history.log < 4000000 → KeepsNone self.old.monitor.kept self.new.monitor.kept }
     {
         let (taken, ended) = joiner.feed(piece);
         let Some(line) = ended else {
@@ -151,7 +155,9 @@ impl<K: Keeper> Run<K> {
         ensures stopped { OnErr result ((more : List ℕ) → StopsIn user.now (lines_from joiner.old (piece.now ++ more)) self.old.journal.history
             (entries_between self.old.journal.history self.new.journal.history) (O.written out.old) (O.written out.new)) }
         ensures causes { HasCauses result (O.faults out.old) (O.faults out.new) (P.faults spawner.old) (P.faults spawner.new) }
-        ensures journal { HasJournalCauses K.faults K.trail (IsErrOf result Halt.KeeperFault) (IsErrOf result Halt.LogFull) self.old.journal self.new.journal }
+        ensures journal { HasJournalCauses K.faults K.trail (IsErrOf result Halt.KeeperFault) (IsErrOf result Halt.LogFull) (min self.new.journal.limit 4000000) self.old.journal self.new.journal }
+        ensures none_kept { OnOk result (KeepsNone self.old.monitor.kept self.new.monitor.kept) }
+        ensures full { IsErrOf result Halt.LogFull → length self.new.journal.history.log < 4000000 → KeepsNone self.old.monitor.kept self.new.monitor.kept }
     {
         let mut faulty = false;
         let mut at = 0;
@@ -192,7 +198,9 @@ impl<K: Keeper> Run<K> {
         ensures stopped { OnErr result (StopsIn user.now (lines_from joiner.old []) self.old.journal.history
             (entries_between self.old.journal.history self.new.journal.history) (O.written out.old) (O.written out.new)) }
         ensures causes { HasCauses result (O.faults out.old) (O.faults out.new) (P.faults spawner.old) (P.faults spawner.new) }
-        ensures journal { HasJournalCauses K.faults K.trail (IsErrOf result Halt.KeeperFault) (IsErrOf result Halt.LogFull) self.old.journal self.new.journal }
+        ensures journal { HasJournalCauses K.faults K.trail (IsErrOf result Halt.KeeperFault) (IsErrOf result Halt.LogFull) (min self.new.journal.limit 4000000) self.old.journal self.new.journal }
+        ensures none_kept { OnOk result (KeepsNone self.old.monitor.kept self.new.monitor.kept) }
+        ensures full { IsErrOf result Halt.LogFull → length self.new.journal.history.log < 4000000 → KeepsNone self.old.monitor.kept self.new.monitor.kept }
     {
         let Some(line) = joiner.end() else {
             return Ok(Answered::uncalled(false));
@@ -219,7 +227,9 @@ impl<K: Keeper> Run<K> {
         ensures down { IfOk result (λ r. r.down ≡ is_down (entries_between self.old.journal.history self.new.journal.history)) }
         ensures end { IfOk result (λ r. r.down ≡ false → IsAtEnd (I.left input.new)) }
         ensures causes { HasInputCauses result (I.faults input.old) (I.faults input.new) (O.faults out.old) (O.faults out.new) (P.faults spawner.old) (P.faults spawner.new) }
-        ensures journal { HasJournalCauses K.faults K.trail (IsErrOf result Halt.KeeperFault) (IsErrOf result Halt.LogFull) self.old.journal self.new.journal }
+        ensures journal { HasJournalCauses K.faults K.trail (IsErrOf result Halt.KeeperFault) (IsErrOf result Halt.LogFull) (min self.new.journal.limit 4000000) self.old.journal self.new.journal }
+        ensures none_kept { OnOk result (KeepsNone self.old.monitor.kept self.new.monitor.kept) }
+        ensures full { IsErrOf result Halt.LogFull → length self.new.journal.history.log < 4000000 → KeepsNone self.old.monitor.kept self.new.monitor.kept }
     {
         let mut joiner = Joiner::new(alloc)?;
         let mut faulty = false;
@@ -258,7 +268,9 @@ impl<K: Keeper> Run<K> {
         ensures down { IfOk result (λ r. r.down ≡ is_down (entries_between self.old.journal.history self.new.journal.history)) }
         ensures end { IfOk result (λ r. r.down ≡ false → IsAtEnd (I.left input.new)) }
         ensures causes { HasInputCauses result (I.faults input.old) (I.faults input.new) (O.faults out.old) (O.faults out.new) (P.faults spawner.old) (P.faults spawner.new) }
-        ensures journal { HasJournalCauses K.faults K.trail (IsErrOf result Halt.KeeperFault) (IsErrOf result Halt.LogFull) self.old.journal self.new.journal }
+        ensures journal { HasJournalCauses K.faults K.trail (IsErrOf result Halt.KeeperFault) (IsErrOf result Halt.LogFull) (min self.new.journal.limit 4000000) self.old.journal self.new.journal }
+        ensures none_kept { OnOk result (KeepsNone self.old.monitor.kept self.new.monitor.kept) }
+        ensures full { IsErrOf result Halt.LogFull → length self.new.journal.history.log < 4000000 → KeepsNone self.old.monitor.kept self.new.monitor.kept }
     {
         let mut piece = piece_buffer(alloc)?;
         self.take_pieces(rt, alloc, input, out, spawner, clock, user, &mut piece)

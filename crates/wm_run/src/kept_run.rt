@@ -55,12 +55,12 @@ fn open_status(fault: &OpenFault) -> u8
 }
 
 impl<K: Keeper> Run<K> {
-    ghost use Rattle.std.specs.Prelude.{◌≡◌, OnOk, None, IsErrOf};
+    ghost use Rattle.std.specs.Prelude.{◌≡◌, ◌<◌, OnOk, None, IsErrOf, length, min};
     ghost use Rattle.wm_journal.specs.History.{reached};
     ghost use Rattle.wm_journal.specs.Trail.{HasTrail};
     ghost use Rattle.wm_law.specs.History.{IsLegal};
     ghost use Rattle.wm_law.specs.Pending.{active};
-    ghost use Rattle.wm_run.specs.Halt.{HasInputCauses};
+    ghost use Rattle.wm_run.specs.Halt.{HasInputCauses, KeepsNone};
     ghost use Rattle.wm_monitor.specs.Journal.{HasJournalCauses};
     ghost use Rattle.wm_run.specs.Outcome.{SessionCame};
     ghost use Rattle.wm_run.specs.Grown.{entries_between};
@@ -86,7 +86,9 @@ impl<K: Keeper> Run<K> {
         ensures idle { OnOk result (active (reached self.new.journal.history) ≡ 0) }
         ensures kept { OnOk result (self.new.monitor.kept ≡ None) }
         ensures causes { HasInputCauses result (I.faults input.old) (I.faults input.new) (O.faults out.old) (O.faults out.new) (P.faults spawner.old) (P.faults spawner.new) }
-        ensures journal { HasJournalCauses K.faults K.trail (IsErrOf result Halt.KeeperFault) (IsErrOf result Halt.LogFull) self.old.journal self.new.journal }
+        ensures journal { HasJournalCauses K.faults K.trail (IsErrOf result Halt.KeeperFault) (IsErrOf result Halt.LogFull) (min self.new.journal.limit 4000000) self.old.journal self.new.journal }
+        ensures none_kept { OnOk result (KeepsNone self.old.monitor.kept self.new.monitor.kept) }
+        ensures full { IsErrOf result Halt.LogFull → length self.new.journal.history.log < 4000000 → KeepsNone self.old.monitor.kept self.new.monitor.kept }
     {
         self.begin(alloc, spawner, clock, &settings.ctl)?;
         let answered = self.take_all(rt, alloc, input, out, spawner, clock, &settings.user)?;
@@ -149,6 +151,7 @@ pub fn run_kept<I: Source, O: Sink, K: Keeper, P: Spawner, C: Clock, R: Wait>(
     ensures write_fault { result.0.status ≡ 4 → raised (O.faults out.old) ≤ O.faults out.new }
     ensures keeper_fault { result.0.status ≡ 5 → raised (K.faults keeper) ≤ K.faults result.1 }
     ensures log_full { result.0.status ≡ 7 → settings.now.log_limit ≤ length result.0.log.items }
+    ensures reported { result.0.status ≡ 7 → length result.0.log.items < 4000000 → result.0.kept ≡ None }
     ensures wait_fault { result.0.status ≡ 8 → raised (P.faults spawner.old) ≤ P.faults spawner.new }
     ensures bad_row { result.0.status ≡ 9 → HasBadRow settings.now.offset (K.tables keeper) (K.tables result.1) }
     ensures statuses { IsRunStatus result.0.status }

@@ -44,7 +44,7 @@ pub(crate) fn put<O: Sink>(out: &mut O, bytes: &[u8]) -> Result<(), Halt>
 }
 
 impl<K: Keeper> Run<K> {
-    ghost use Rattle.std.specs.Prelude.{◌≡◌, ◌⊎◌, ◌<◌, ◌≤◌, ◌+◌, ◌-◌, ◌∷◌, [], ℕ, None, Ok, true, OnOk, OnErr, IsErrOf, IfOk, IfSome, length, take};
+    ghost use Rattle.std.specs.Prelude.{◌≡◌, ◌⊎◌, ◌<◌, ◌≤◌, ◌+◌, ◌-◌, ◌∷◌, [], ℕ, None, Ok, true, OnOk, OnErr, IsErrOf, IfOk, IfSome, length, min, take};
     ghost use Rattle.std.specs.Option.{option_copied};
     ghost use Rattle.wm_law.specs.Built.{is_built};
     ghost use Rattle.wm_law.specs.Fit.{IsCall, HasCall, IsCommand};
@@ -54,7 +54,7 @@ impl<K: Keeper> Run<K> {
     ghost use Rattle.wm_traits.specs.Cause.{raised};
     ghost use Rattle.wm_run.specs.Answer.{entry_text, with_end, is_power_down, is_refused};
     ghost use Rattle.wm_run.specs.Calls.{Called, session_pass};
-    ghost use Rattle.wm_run.specs.Halt.{HasCauses, HasMonitorCauses};
+    ghost use Rattle.wm_run.specs.Halt.{HasCauses, HasMonitorCauses, KeepsNone};
     ghost use Rattle.wm_monitor.specs.Idle.{monitor_pass};
     ghost use Rattle.wm_monitor.specs.Journal.{HasJournalCauses};
     ghost use Rattle.wm_monitor.specs.Lists.{since};
@@ -85,7 +85,7 @@ impl<K: Keeper> Run<K> {
         ensures no_wait { IsErrOf result Halt.WaitFault → ⊥ }
         ensures no_read { IsErrOf result Halt.ReadFault → ⊥ }
         ensures not_full { IsErrOf result Halt.InputFull → ⊥ }
-        ensures journal { HasJournalCauses K.faults K.trail (IsErrOf result Halt.KeeperFault) (IsErrOf result Halt.LogFull) self.old.journal self.new.journal }
+        ensures journal { HasJournalCauses K.faults K.trail (IsErrOf result Halt.KeeperFault) (IsErrOf result Halt.LogFull) (min self.new.journal.limit 4000000) self.old.journal self.new.journal }
     {
         match enter(
             alloc,
@@ -134,7 +134,7 @@ impl<K: Keeper> Run<K> {
         ensures part { MonitorAdvances P.asked P.told P.misses self.old.journal.history self.old.monitor spawner.old self.new.journal.history self.new.monitor spawner.new }
         ensures clear { OnOk result (IsClear self.new.monitor) }
         ensures causes { HasMonitorCauses result (P.faults spawner.old) (P.faults spawner.new) }
-        ensures journal { HasJournalCauses K.faults K.trail (IsErrOf result Halt.KeeperFault) (IsErrOf result Halt.LogFull) self.old.journal self.new.journal }
+        ensures journal { HasJournalCauses K.faults K.trail (IsErrOf result Halt.KeeperFault) (IsErrOf result Halt.LogFull) 4000000 self.old.journal self.new.journal }
         ensures sent { IfOk result (λ turned. turned.sent ≡ length self.new.journal.history.log - length self.old.journal.history.log) }
         ensures pending { IfOk result (λ turned. WaitedSince self.old.journal.history self.new.journal.history turned.pending) }
         ensures handed { IfOk result (λ turned. (turned.pending.orders ≡ 0) ⊎ (hands_of (since self.old.journal.history.log self.new.journal.history.log) ≡ 256)) }
@@ -166,7 +166,7 @@ impl<K: Keeper> Run<K> {
         ensures kept { OnOk result (self.new.monitor.kept ≡ None) }
         ensures kill { self.new.monitor.failed_kill ≡ self.old.monitor.failed_kill }
         ensures causes { HasMonitorCauses result (P.faults spawner.old) (P.faults spawner.new) }
-        ensures journal { HasJournalCauses K.faults K.trail (IsErrOf result Halt.KeeperFault) (IsErrOf result Halt.LogFull) self.old.journal self.new.journal }
+        ensures journal { HasJournalCauses K.faults K.trail (IsErrOf result Halt.KeeperFault) (IsErrOf result Halt.LogFull) 4000000 self.old.journal self.new.journal }
     {
         let until = self.journal.pending(MONITOR).next;
         let pass = self.passes.monitor();
@@ -201,7 +201,9 @@ impl<K: Keeper> Run<K> {
         ensures orders { OnOk result (length self.new.journal.history.log ≡ length self.old.journal.history.log + 1 → orders_left (reached self.new.journal.history) monitor_pass ≡ 0) }
         ensures quiet { OnOk result (length self.new.journal.history.log ≡ length self.old.journal.history.log + 1 → self.old.monitor.failed_kill ≡ None → IsEmpty (P.reporting spawner.old)) }
         ensures causes { HasCauses result (O.faults out.old) (O.faults out.new) (P.faults spawner.old) (P.faults spawner.new) }
-        ensures journal { HasJournalCauses K.faults K.trail (IsErrOf result Halt.KeeperFault) (IsErrOf result Halt.LogFull) self.old.journal self.new.journal }
+        ensures journal { HasJournalCauses K.faults K.trail (IsErrOf result Halt.KeeperFault) (IsErrOf result Halt.LogFull) (min self.new.journal.limit 4000000) self.old.journal self.new.journal }
+        ensures none_kept { OnOk result (KeepsNone self.old.monitor.kept self.new.monitor.kept) }
+        ensures full { IsErrOf result Halt.LogFull → length self.new.journal.history.log < 4000000 → KeepsNone self.old.monitor.kept self.new.monitor.kept }
     {
         let change = user_call(alloc, user, command)?;
         self.call(alloc, clock, change)?;
@@ -228,7 +230,9 @@ impl<K: Keeper> Run<K> {
         ensures stopped { OnErr result (IsCutShort (AnswersParsed user.now parsed self.old.journal.history)
             (entries_between self.old.journal.history self.new.journal.history) (O.written out.old) (O.written out.new)) }
         ensures causes { HasCauses result (O.faults out.old) (O.faults out.new) (P.faults spawner.old) (P.faults spawner.new) }
-        ensures journal { HasJournalCauses K.faults K.trail (IsErrOf result Halt.KeeperFault) (IsErrOf result Halt.LogFull) self.old.journal self.new.journal }
+        ensures journal { HasJournalCauses K.faults K.trail (IsErrOf result Halt.KeeperFault) (IsErrOf result Halt.LogFull) (min self.new.journal.limit 4000000) self.old.journal self.new.journal }
+        ensures none_kept { OnOk result (KeepsNone self.old.monitor.kept self.new.monitor.kept) }
+        ensures full { IsErrOf result Halt.LogFull → length self.new.journal.history.log < 4000000 → KeepsNone self.old.monitor.kept self.new.monitor.kept }
     {
         match parsed {
             Parsed::Fault(fault) => {
@@ -265,7 +269,9 @@ impl<K: Keeper> Run<K> {
         ensures stopped { OnErr result (IsCutShort (AnswersLine user.now (option_copied line.entry) self.old.journal.history)
             (entries_between self.old.journal.history self.new.journal.history) (O.written out.old) (O.written out.new)) }
         ensures causes { HasCauses result (O.faults out.old) (O.faults out.new) (P.faults spawner.old) (P.faults spawner.new) }
-        ensures journal { HasJournalCauses K.faults K.trail (IsErrOf result Halt.KeeperFault) (IsErrOf result Halt.LogFull) self.old.journal self.new.journal }
+        ensures journal { HasJournalCauses K.faults K.trail (IsErrOf result Halt.KeeperFault) (IsErrOf result Halt.LogFull) (min self.new.journal.limit 4000000) self.old.journal self.new.journal }
+        ensures none_kept { OnOk result (KeepsNone self.old.monitor.kept self.new.monitor.kept) }
+        ensures full { IsErrOf result Halt.LogFull → length self.new.journal.history.log < 4000000 → KeepsNone self.old.monitor.kept self.new.monitor.kept }
     {
         let parsed = match line {
             None => Parsed::Fault(LineFault::Cl(ClFault::TooLong)),

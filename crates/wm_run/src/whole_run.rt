@@ -1,5 +1,5 @@
 // A whole run: what the words say, the session over the input, and the status.
-ghost use Rattle.std.specs.Prelude.{◌≡◌, ◌⊎◌, ◌≤◌, None, [], length, map, option_to_list, string_bytes, true, false};
+ghost use Rattle.std.specs.Prelude.{◌≡◌, ◌⊎◌, ◌<◌, ◌≤◌, None, [], length, map, option_to_list, string_bytes, true, false};
 ghost use Rattle.std.specs.List.{list_all};
 ghost use Rattle.wm_traits.specs.Cause.{raised};
 ghost use Rattle.wm_run.specs.Kept.{HasBadRow, HasHistory, store_status};
@@ -76,6 +76,7 @@ pub fn run<I: Source, O: Sink, S: Store, P: Spawner, C: Clock, R: Wait>(
     ensures write_fault { result.status ≡ 4 → raised (O.faults out.old) ≤ O.faults out.new }
     ensures keeper_fault { result.status ≡ 5 → raised (S.faults store.old) ≤ S.faults store.new }
     ensures log_full { result.status ≡ 7 → (settings_of (map string_bytes words.now)).log_limit ≤ length result.log.items }
+    ensures reported { result.status ≡ 7 → length result.log.items < 4000000 → result.kept ≡ None }
     ensures wait_fault { result.status ≡ 8 → raised (P.faults spawner.old) ≤ P.faults spawner.new }
     ensures bad_row { result.status ≡ 9 → HasBadRow (settings_of (map string_bytes words.now)).offset (S.tables store.old) (S.tables store.new) }
     ensures statuses { IsRunStatus result.status }

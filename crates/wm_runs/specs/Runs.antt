@@ -1,5 +1,5 @@
 -- Runs, one after another, over one output and one store.
-use Rattle.std.specs.Prelude.{◌≡◌, ⊥, ℕ, ◌≤◌, List, [], ◌∷◌, length, Option, None, option_to_list, true}
+use Rattle.std.specs.Prelude.{◌≡◌, ⊥, ℕ, ◌<◌, ◌≤◌, List, [], ◌∷◌, length, Option, None, option_to_list, true}
 use Rattle.std.specs.List.{list_all}
 use Rattle.wm_base.specs.declared.job.Asked.{Asked}
 use Rattle.wm_journal.specs.Keeping.{telling}
@@ -55,6 +55,7 @@ pub record IsOneRun {I O S P : Type 0} (seen : Seen I O S P) (settings : Setting
   pub callers : list_all is_of_run ran.log.items ≡ true
   pub served : IsServed ran.log.items (option_to_list ran.kept) (seen.asked t.spawner_before) (seen.asked t.spawner_now) (seen.told t.spawner_before) (seen.told t.spawner_now) (seen.misses t.spawner_before) (seen.misses t.spawner_now)
   pub kept : ran.status ≤ 1 → ran.kept ≡ None
+  pub reported : ran.status ≡ 7 → length ran.log.items < 4000000 → ran.kept ≡ None
   pub causes : HasCauses seen settings ran t
 
 -- one run for each input, with its spawner, each over what the one before it has left of the output and of the store

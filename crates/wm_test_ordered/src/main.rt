@@ -1,14 +1,18 @@
-//! The cases of the ordered maps: each call beside the same of std's `BTreeMap`, whose answers are the wanted ones.
+//! The cases of the ordered maps and of prestart jobs: each call beside the same of std's `BTreeMap`, whose answers are the
+//! wanted ones; and how many prestart jobs are made, beside the same reckoned round by round.
 //!
 //! Nothing is read. What is printed, and what must be printed, is how many pairs were compared in each round.
 #![tactic(auto)]
 
 mod pair;
+mod prestart_pair;
+mod prestart_rounds;
 mod rounds;
 mod slot_pair;
 mod slot_rounds;
 
 use anyhow::Result;
+use prestart_rounds::{made_in_rounds, prestart_calls, wishes};
 use rounds::{few_calls, rising, scrambled};
 use slot_rounds::{few_serials, passing, put_back};
 
@@ -26,5 +30,11 @@ fn main(rt: HostRuntime) -> Result<()> {
     println!(rt; "put in in order, most taken out soon: {pairs} pairs")?;
     let pairs = put_back(alloc)?;
     println!(rt; "put in in order, taken out and put back scrambled: {pairs} pairs")?;
+    let jobs = prestart_calls(alloc)?;
+    println!(rt; "prestart jobs put in, changed and taken out scrambled: {jobs} jobs")?;
+    let most = made_in_rounds()?;
+    println!(rt; "prestart jobs made as in rounds: {most} at the most")?;
+    wishes()?;
+    println!(rt; "the wishes after a use: as wanted")?;
     Ok(())
 }

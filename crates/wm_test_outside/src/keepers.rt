@@ -64,7 +64,7 @@ impl Keepers {
     fn open(&mut self, answer: &mut String) -> Result<()> {
         match self.store.open("") {
             Ok(keeper) => {
-                self.out = Some(keeper);
+                drop(self.out.replace(keeper));
                 Ok(answer.push_str("OPENED\n")?)
             }
             Err(fault) => answer_fault(fault, answer),

@@ -22,25 +22,42 @@ mod words;
 use anyhow::Result;
 use memory::MemoryCases;
 use sql_keepers::SqlCases;
+use std::rt::Files;
+use std::sync::Wait;
 use system::SystemCases;
 use wm_cases::play;
 use wm_children::SysSpawner;
 
+fn play_both(rt: &HostRuntime, cases: &mut SqlCases) -> Result<()> {
+    play(rt, "sql_memory.txt", cases)?;
+    play(rt, "sql_files.txt", cases)
+}
+
 // The cases of SQLite, in memory and in files.
 fn play_sql(rt: &HostRuntime) -> Result<()> {
     let mut cases = SqlCases::new(rt);
-    play(rt, "sql_memory.txt", &mut cases)?;
-    play(rt, "sql_files.txt", &mut cases)
+    let played = play_both(rt, &mut cases);
+    drop(cases);
+    played
+}
+
+// A function that lets its cases go on several ways out is proved for each. So they are let go by a call.
+fn play_memory<R: AllocGlobal + Files + Print + Wait>(rt: &R) -> Result<()> {
+    let mut cases = MemoryCases::new(rt.alloc(), rt);
+    let played = play(rt, "memory.txt", &mut cases);
+    drop(cases);
+    played
 }
 
 fn main(rt: HostRuntime) -> Result<()> {
-    let alloc = rt.alloc();
-    play(&rt, "memory.txt", &mut MemoryCases::new(alloc, &rt))?;
+    play_memory(&rt)?;
     play_sql(&rt)?;
-    let mut spawner = SysSpawner::new(alloc, rt)?;
-    play(
+    let mut spawner = SysSpawner::new(rt.alloc(), rt)?;
+    let played = play(
         &rt,
         "system.txt",
-        &mut SystemCases::new(alloc, &rt, &mut spawner),
-    )
+        &mut SystemCases::new(rt.alloc(), &rt, &mut spawner),
+    );
+    drop(spawner);
+    played
 }

@@ -7,6 +7,7 @@ use super::words::{failing, first_word, moment, named};
 use anyhow::{Context, Result, ensure};
 use std::alloc::Global;
 use std::fmt::Write;
+use std::mem;
 use std::sync::Wait;
 use wm_base::Moment;
 use wm_cases::{Subject, bytes_of};
@@ -21,6 +22,12 @@ struct Forms {
     clock: MemClock,
     spawner: MemSpawner,
     keepers: Keepers,
+}
+
+// Puts a form in the place of the one that was, which a call lets go: what is assigned over is let go field by field.
+fn put<T: Drop>(place: &mut T, made: Result<T>) -> Result<()> {
+    drop(mem::replace(place, made?));
+    Ok(())
 }
 
 // How many bytes a call takes or gives at the most, where that is said.
@@ -85,13 +92,12 @@ impl Forms {
     // Makes the form of the word, in place of the one that was.
     fn make(&mut self, alloc: Global, word: &str, options: &str) -> Result<()> {
         match word {
-            "source" => self.source = source(alloc, options)?,
-            "sink" => self.sink = sink(alloc, options)?,
-            "clock" => self.clock = clock(options)?,
-            "spawner" => self.spawner = spawner(alloc, options)?,
-            _ => self.keepers = Keepers::new(alloc, options)?,
+            "source" => put(&mut self.source, source(alloc, options)),
+            "sink" => put(&mut self.sink, sink(alloc, options)),
+            "clock" => put(&mut self.clock, clock(options)),
+            "spawner" => put(&mut self.spawner, spawner(alloc, options)),
+            _ => put(&mut self.keepers, Keepers::new(alloc, options)),
         }
-        Ok(())
     }
 
     // The calls of a source, a sink and a clock, and what a sink and a spawner have got.
@@ -126,8 +132,7 @@ impl<'a, R: Wait> MemoryCases<'a, R> {
 
 impl<R: Wait> Subject for MemoryCases<'_, R> {
     fn begin(&mut self) -> Result<()> {
-        self.forms = Forms::new(self.alloc);
-        Ok(())
+        put(&mut self.forms, Ok(Forms::new(self.alloc)))
     }
 
     fn answer(&mut self, question: &str, answer: &mut String) -> Result<()> {

@@ -50,7 +50,7 @@ impl<'a> SqlCases<'a> {
     fn open(&mut self, path: &str, answer: &mut String) -> Result<()> {
         match self.store.open(path) {
             Ok(keeper) => {
-                self.keeper = Some(keeper);
+                drop(self.keeper.replace(keeper));
                 answer.push_str("OPENED\n")?;
             }
             Err(fault) => answer_fault(fault, answer)?,
@@ -78,7 +78,7 @@ impl<'a> SqlCases<'a> {
 
 impl Subject for SqlCases<'_> {
     fn begin(&mut self) -> Result<()> {
-        self.keeper = None;
+        drop(self.keeper.take());
         self.store = SqlStore::new(self.rt);
         let _ = fs::remove_file(self.rt, STORE);
         let _ = fs::remove_file(self.rt, LOG);

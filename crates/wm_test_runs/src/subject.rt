@@ -1,6 +1,6 @@
 // The questions, and the run that they are about. `run` runs over a store of the given rows, `again` over the one that the run
-// before has left; `rows 11` shows the rows of a table of it; `no words` and `no lines` take
-// back what was given of these. `drill` drills with the given words; `text 7 5` shows the text of a seed and a number of jobs.
+// before has left; `left` shows how many bytes of the input a run has left; `rows 11` shows the rows of a table of it; `no words`
+// and `no lines` take back what was given of these. `drill` drills with the given words; `text 7 5` shows the text of a seed and a number of jobs.
 use crate::given::{Failing, Given, unknown};
 use crate::rows::{store_of, write_table};
 use crate::shown::{push_asked, push_entry};
@@ -14,7 +14,25 @@ use wm_cases::Subject;
 use wm_drill::{drill, drill_text};
 use wm_outside::{MemClock, MemSink, MemSource, MemSpawner, MemStore};
 use wm_run::{Ran, run};
-use wm_traits::{Spawner, Store};
+use wm_traits::{Source, Spawner, Store};
+
+// How many bytes an input has left. A read that fails takes none.
+fn count_left<I: Source>(input: &mut I, buf: &mut [u8]) -> usize {
+    let mut left = 0usize;
+    for _ in 0..u64::MAX {
+        match input.read(buf) {
+            Ok(0) => return left,
+            Ok(n) => left = left.saturating_add(n),
+            Err(_) => {}
+        }
+    }
+    left
+}
+
+fn left_of<I: Source>(alloc: Global, input: &mut I) -> Result<usize> {
+    let mut buf = vec![in alloc; 0u8; 4096]?;
+    Ok(count_left(input, &mut buf))
+}
 
 /// What a run did, and what the next one is given.
 #[derive(Drop)]
@@ -25,6 +43,8 @@ pub struct Runs<'a, W: Wait> {
     // The store of the last run.
     store: MemStore,
     status: u8,
+    // How many bytes of its input it has left.
+    left: usize,
     written: Vec<u8>,
     log: String,
     asked: String,
@@ -39,6 +59,7 @@ impl<'a, W: Wait> Runs<'a, W> {
             given: Given::new(alloc)?,
             store: store_of(Vec::new(alloc), Vec::new(alloc))?,
             status: 0,
+            left: 0,
             written: Vec::new(alloc),
             log: String::new(alloc),
             asked: String::new(alloc),
@@ -67,6 +88,7 @@ impl<'a, W: Wait> Runs<'a, W> {
             spawner,
             &mut clock,
         );
+        self.left = left_of(self.alloc, &mut source)?;
         self.keep(&ran, sink.bytes())
     }
 
@@ -165,6 +187,7 @@ impl<'a, W: Wait> Runs<'a, W> {
             }
             "again" => self.run_and_tell(answer),
             "drill" => self.drill_and_tell(answer),
+            "left" => Ok(writeln!(answer, "{} bytes", self.left)?),
             "written" => self.show_written(answer),
             "asked" => Ok(answer.push_str(self.asked.as_str())?),
             "log" => Ok(answer.push_str(self.log.as_str())?),

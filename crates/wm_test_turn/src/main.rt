@@ -16,7 +16,9 @@ mod round;
 
 use anyhow::Result;
 use locked::locked_round;
+use record::Round;
 use round::round;
+use std::alloc::{AllocError, Global};
 use std::env;
 use std::sync::Wait;
 use std::thread::Threads;
@@ -46,29 +48,69 @@ fn cases<R: Threads + Wait + Clock + Sync>(rt: &R, host: &HostRuntime) -> Result
     case(rt, host, 16)
 }
 
-// One round, by the words LOCK THREADS ENTRIES MICROS. A word that is no number counts as 1.
+// What is measured: so many threads, the turns of each, and how long one takes, in microseconds.
+#[derive(Clone, Copy)]
+struct Measure {
+    threads: u32,
+    turns: u32,
+    micros: u64,
+}
+
+// A word that is no number counts as 1.
+fn number_of(word: &str) -> u32 {
+    word.parse().unwrap_or(1)
+}
+
+fn micros_of(word: &str) -> u64 {
+    word.parse().unwrap_or(1)
+}
+
+// One round through the lock of this word.
+fn measured_round<R: Threads + Wait + Clock + Sync>(
+    rt: &R,
+    alloc: Global,
+    lock: &str,
+    measure: Measure,
+) -> Result<Round, AllocError>
+    requires { measure.threads < 1000 }
+{
+    let Measure {
+        threads,
+        turns,
+        micros,
+    } = measure;
+    if lock == "mutex" {
+        locked_round(rt, alloc, threads, turns, micros)
+    } else {
+        round(rt, alloc, threads, turns, micros)
+    }
+}
+
+fn tell_measured(host: &HostRuntime, made: &Round, taken: u128) -> Result<()> {
+    let entries = made.notes.len();
+    let hands = made.hand_overs();
+    println!(host; "{entries} {taken} {hands}")?;
+    Ok(())
+}
+
+// One round, by the words LOCK THREADS ENTRIES MICROS.
 fn measured<R: Threads + Wait + Clock + Sync>(
     rt: &R,
     host: &HostRuntime,
     words: &[String],
 ) -> Result<()> {
-    if words.len() < 4 {
+    let [lock, threads, entries, micros, ..] = words else {
         return Ok(());
-    }
-    let threads = words[1].parse().unwrap_or(1u32).clamp(1, MOST);
-    let turns = words[2].parse().unwrap_or(1u32) / threads;
-    let micros = words[3].parse().unwrap_or(1u64);
-    let start = Instant::now(rt)?;
-    let made = if words[0].as_str() == "mutex" {
-        locked_round(rt, host.alloc(), threads, turns, micros)?
-    } else {
-        round(rt, host.alloc(), threads, turns, micros)?
     };
-    let taken = start.elapsed(rt)?.as_micros();
-    let entries = made.notes.len();
-    let hands = made.hand_overs();
-    println!(host; "{entries} {taken} {hands}")?;
-    Ok(())
+    let threads = number_of(threads.as_str()).clamp(1, MOST);
+    let measure = Measure {
+        threads,
+        turns: number_of(entries.as_str()) / threads,
+        micros: micros_of(micros.as_str()),
+    };
+    let start = Instant::now(rt)?;
+    let made = measured_round(rt, host.alloc(), lock.as_str(), measure)?;
+    tell_measured(host, &made, start.elapsed(rt)?.as_micros())
 }
 
 fn main(rt: HostRuntime) -> Result<()> {

@@ -15,4 +15,4 @@ invariant-hands g l =
     (s.reporting l.fn.spawner)
     (s.reporting l.spawner)
     l.counter
-    (HasJournalCauses g.K.Keeper.faults g.K.Keeper.trail ⊥ ⊥ l.fn.journal l.journal)
+    (HasJournalCauses g.K.Keeper.faults g.K.Keeper.trail ⊥ ⊥ 4000000 l.fn.journal l.journal)

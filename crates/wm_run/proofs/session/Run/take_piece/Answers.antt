@@ -28,6 +28,7 @@ lines-init g c =
       written = omega arith;
       looked = omega arith;
       journal = HasJournalCauses-none _ (λ f. f) (λ f. f);
+      reported = λ none. none;
     }
 
 pub lines-preserved : goal.lines-preserved
@@ -61,6 +62,7 @@ lines-preserved g c =
       written = let f = k.causes.written in omega arith;
       looked = let f = k.causes.looked in omega arith;
       journal = HasJournalCauses-more _ _ _ i.journal k.journal;
+      reported = λ none. c.in_ok-taken.ensures.none_kept (i.reported none);
     }
 
 pub returns-then-answered-clause-serves : goal.returns-then-answered-clause-serves

@@ -1,7 +1,8 @@
-use Rattle.std.proofs.Common.{◌-◌, drop, length}
+use Rattle.std.proofs.Common.{◌-◌, drop, length, min}
 use Rattle.wm_monitor.specs.Journal.{HasJournalCauses}
 use Rattle.wm_run.specs.Down.{is_down}
 use Rattle.wm_run.specs.Grown.{entries_between}
+use Rattle.wm_run.specs.Halt.{KeepsNone}
 use Rattle.wm_run.specs.Taking.{TakesPiece}
 use Rattle.wm_monitor.specs.View.{view}
 use Rattle.wm_run.proofs.InputLoops.{PieceLoop}
@@ -18,7 +19,8 @@ invariant-lines g l =
     l.at l.piece
     (is_down (entries_between l.fn.self.journal.history l.self.journal.history))
     (TakesPiece l.user l.fn.joiner l.piece l.joiner (drop l.at l.piece) l.fn.self.journal.history (entries_between l.fn.self.journal.history l.self.journal.history) (o.written l.fn.out) (o.written l.out) l.faulty)
-    (HasJournalCauses g.K.Keeper.faults g.K.Keeper.trail ⊥ ⊥ l.fn.self.journal l.self.journal)
+    (HasJournalCauses g.K.Keeper.faults g.K.Keeper.trail ⊥ ⊥ (min l.self.journal.limit 4000000) l.fn.self.journal l.self.journal)
+    (KeepsNone l.fn.self.monitor.kept l.self.monitor.kept)
 
 abbrev pub decreases-lines : goal.decreases-lines
 decreases-lines g l = length l.piece - l.at

@@ -36,6 +36,7 @@ reads-init g c =
       written = omega arith;
       looked = omega arith;
       journal = HasJournalCauses-none _ (λ f. f) (λ f. f);
+      reported = λ none. none;
       total = omega arith;
       piece = c.requires;
     }
@@ -69,6 +70,7 @@ reads-preserved g c =
       written = let f = k.causes.written in omega arith;
       looked = let f = k.causes.looked in omega arith;
       journal = HasJournalCauses-more _ _ _ i.journal k.journal;
+      reported = λ none. c.in_ok-some.ensures.none_kept (i.reported none);
       total = c.in_ok-n.ensures.room;
       piece = let a = c.read.ensures.len in let b = i.piece in omega arith;
     }

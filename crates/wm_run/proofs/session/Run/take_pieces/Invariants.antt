@@ -1,6 +1,8 @@
+use Rattle.std.proofs.Common.{min}
 use Rattle.wm_monitor.specs.Journal.{HasJournalCauses}
 use Rattle.wm_run.specs.Down.{is_down}
 use Rattle.wm_run.specs.Grown.{entries_between}
+use Rattle.wm_run.specs.Halt.{KeepsNone}
 use Rattle.wm_run.specs.Taking.{TakesInput}
 use Rattle.wm_monitor.specs.View.{view}
 use Rattle.wm_run.proofs.InputLoops.{InputLoop, SoFar}
@@ -18,4 +20,5 @@ invariant-reads g l =
     l.total l.piece
     (is_down (entries_between l.fn.self.journal.history l.self.journal.history))
     (TakesInput (i.left l.fn.input) (i.left l.input) (λ bytes. SoFar l.user l.joiner l.fn.self.journal.history (entries_between l.fn.self.journal.history l.self.journal.history) (o.written l.fn.out) (o.written l.out) l.faulty l.total bytes))
-    (HasJournalCauses g.K.Keeper.faults g.K.Keeper.trail ⊥ ⊥ l.fn.self.journal l.self.journal)
+    (HasJournalCauses g.K.Keeper.faults g.K.Keeper.trail ⊥ ⊥ (min l.self.journal.limit 4000000) l.fn.self.journal l.self.journal)
+    (KeepsNone l.fn.self.monitor.kept l.self.monitor.kept)

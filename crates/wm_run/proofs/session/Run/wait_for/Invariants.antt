@@ -11,4 +11,4 @@ invariant-waits g l =
     (view l.self.journal.history l.self.monitor (s.asked l.spawner) (s.told l.spawner) (s.misses l.spawner))
     (s.faults l.fn.spawner)
     (s.faults l.spawner)
-    (HasJournalCauses g.K.Keeper.faults g.K.Keeper.trail ⊥ ⊥ l.fn.self.journal l.self.journal)
+    (HasJournalCauses g.K.Keeper.faults g.K.Keeper.trail ⊥ ⊥ 4000000 l.fn.self.journal l.self.journal)

@@ -1,0 +1,7 @@
+pub mod Counts
+pub mod Entries
+pub mod NumberLemmas
+pub mod OfJobs
+pub mod Pigeons
+pub mod SeatLemmas
+pub mod Set

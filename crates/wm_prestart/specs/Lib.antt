@@ -1,0 +1,6 @@
+pub mod OfJobs
+pub mod PrestartInside
+pub mod Ready
+pub mod Requests
+pub mod Seats
+pub mod Supply

@@ -1,0 +1,119 @@
+// What answers.txt asks, where the lines of the answer are the response's, each `\r` shown:
+//
+// > answer KIND         the response, and whether the answer itself closes the connection
+// > last KIND           the response where the connection closes
+//
+// Kinds: accepted PLACE LINE, listing TEXT, bad-command LINE, several-commands, bad-request FAULT, no-route,
+// wrong-method METHOD, refused PLACE LINE, refused-read LINE, keeper-fault, log-full N, no-memory
+use anyhow::{Context, Result, bail};
+use std::alloc::Global;
+use wm_cases::{Subject, bytes_of};
+use wm_http::{Answer, Method, RequestFault, response};
+
+/// Answers and their bytes.
+#[derive(Drop)]
+pub struct AnswerCases {
+    alloc: Global,
+}
+
+fn fault_of(text: &str) -> Result<RequestFault> {
+    Ok(match text {
+        "head" => RequestFault::Head,
+        "head-too-large" => RequestFault::HeadTooLarge,
+        "transfer-encoding" => RequestFault::TransferEncoding,
+        "length" => RequestFault::Length,
+        "too-large" => RequestFault::TooLarge,
+        "length-required" => RequestFault::LengthRequired,
+        _ => bail!("no fault: {text}"),
+    })
+}
+
+fn method_of(text: &str) -> Result<Method> {
+    Ok(match text {
+        "GET" => Method::Get,
+        "POST" => Method::Post,
+        _ => bail!("no method: {text}"),
+    })
+}
+
+impl AnswerCases {
+    pub fn new(alloc: Global) -> AnswerCases {
+        AnswerCases { alloc }
+    }
+
+    fn text(&self, text: &str) -> Result<String> {
+        match String::from_utf8(bytes_of(self.alloc, text)?) {
+            Ok(text) => Ok(text),
+            Err(_) => bail!("no UTF-8"),
+        }
+    }
+
+    fn placed(&self, text: &str) -> Result<(u64, String)> {
+        let (place, line) = text.split_once(' ').context("no place")?;
+        Ok((place.parse::<u64>()?, self.text(line)?))
+    }
+
+    fn answer_of(&self, kind: &str) -> Result<Answer> {
+        let (kind, text) = kind.split_once(' ').unwrap_or((kind, ""));
+        match kind {
+            "accepted" => {
+                let (place, line) = self.placed(text)?;
+                Ok(Answer::Accepted(place, line))
+            }
+            "refused" => {
+                let (place, line) = self.placed(text)?;
+                Ok(Answer::Refused(place, line))
+            }
+            "listing" => Ok(Answer::Listing(self.text(text)?)),
+            "bad-command" => Ok(Answer::BadCommand(self.text(text)?)),
+            "refused-read" => Ok(Answer::RefusedRead(self.text(text)?)),
+            "bad-request" => Ok(Answer::BadRequest(fault_of(text)?)),
+            "wrong-method" => Ok(Answer::WrongMethod(method_of(text)?)),
+            "log-full" => Ok(Answer::LogFull(text.parse::<u64>()?)),
+            _ => AnswerCases::plain(kind),
+        }
+    }
+
+    fn plain(kind: &str) -> Result<Answer> {
+        match kind {
+            "several-commands" => Ok(Answer::SeveralCommands),
+            "no-route" => Ok(Answer::NoRoute),
+            "keeper-fault" => Ok(Answer::KeeperFault),
+            "no-memory" => Ok(Answer::NoMemory),
+            _ => bail!("no kind: {kind}"),
+        }
+    }
+}
+
+// The lines of a response, each with its carriage return as `\r`.
+fn show(text: &str, shown: &mut String) -> Result<()> {
+    for part in text.split('\n') {
+        match part.strip_suffix('\r') {
+            Some(line) => write!(shown, "{line}\\r\n")?,
+            None if part.is_empty() => {}
+            None => write!(shown, "{part}\n")?,
+        }
+    }
+    Ok(())
+}
+
+impl Subject for AnswerCases {
+    fn begin(&mut self) -> Result<()> {
+        Ok(())
+    }
+
+    fn answer(&mut self, question: &str, shown: &mut String) -> Result<()> {
+        let (asked, kind) = question.split_once(' ').context("no kind")?;
+        let answer = self.answer_of(kind)?;
+        let text = response(self.alloc, &answer, asked == "last")?;
+        show(text.as_str(), shown)?;
+        if asked == "answer" {
+            shown.push_str(if answer.closes() {
+                "closes\n"
+            } else {
+                "stays open\n"
+            })?;
+        }
+        Ok(())
+    }
+}

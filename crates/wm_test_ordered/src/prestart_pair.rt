@@ -1,0 +1,129 @@
+// Prestart jobs and their requests, and std's own containers that are given the same calls.
+use anyhow::{Result, ensure};
+use std::alloc::Global;
+use std::collections::BTreeMap;
+use wm_base::{Name, QName, Serial};
+use wm_prestart::{PrestartEntry, PrestartJob, PrestartJobs, Readiness, Requests};
+
+#[derive(Drop)]
+pub struct PrestartPair {
+    jobs: PrestartJobs,
+    requests: Requests,
+    other_jobs: BTreeMap<u64, PrestartJob>,
+    other_requests: BTreeMap<PrestartEntry, u32>,
+}
+
+fn qname(lib: &[u8], name: &[u8]) -> Result<QName> {
+    Ok(QName {
+        lib: Name::read(lib)?,
+        name: Name::read(name)?,
+    })
+}
+
+/// One of four entries: two programs in each of two subsystems.
+pub fn entry(number: u64) -> Result<PrestartEntry> {
+    let sbs = match number & 1 {
+        0 => qname(b"QGPL", b"SA")?,
+        _ => qname(b"QGPL", b"SB")?,
+    };
+    let pgm = match number & 2 {
+        0 => qname(b"A", b"P")?,
+        _ => qname(b"B", b"P")?,
+    };
+    Ok(PrestartEntry { sbs, pgm })
+}
+
+/// A job of one of these entries.
+pub fn job(number: u64) -> Result<PrestartJob> {
+    let readiness = match number / 4 % 3 {
+        0 => Readiness::Coming,
+        1 => Readiness::Idle,
+        _ => Readiness::Taken,
+    };
+    Ok(PrestartJob {
+        entry: entry(number)?,
+        readiness,
+    })
+}
+
+impl PrestartPair {
+    pub fn new(alloc: Global) -> PrestartPair {
+        PrestartPair {
+            jobs: PrestartJobs::new(alloc),
+            requests: Requests::new(alloc),
+            other_jobs: BTreeMap::new(alloc),
+            other_requests: BTreeMap::new(alloc),
+        }
+    }
+
+    /// Puts in a job, or sets the one that is there.
+    pub fn put(&mut self, serial: u64, job: &PrestartJob) -> Result<()> {
+        self.jobs.reserve(1)?;
+        let key = Serial::new(serial);
+        if self.other_jobs.contains_key(&serial) {
+            self.jobs.set(key, *job);
+        } else {
+            // Nothing is there to be removed. The call tells that what is put in is new.
+            self.jobs.remove(key);
+            self.jobs.insert(key, *job);
+        }
+        self.other_jobs.insert(serial, *job)?;
+        Ok(())
+    }
+
+    /// Takes out a job that may not be there.
+    pub fn take(&mut self, serial: u64) {
+        self.jobs.remove(Serial::new(serial));
+        self.other_jobs.remove(&serial);
+    }
+
+    /// A request more, or one less, or none.
+    pub fn request(&mut self, number: u64) -> Result<()> {
+        let entry = entry(number)?;
+        let count = self.other_requests.get(&entry).copied().unwrap_or(0);
+        match number / 4 % 5 {
+            0 => {
+                self.requests.clear(&entry);
+                self.other_requests.remove(&entry);
+            }
+            1 => {
+                self.requests.take(&entry);
+                self.other_requests.insert(entry, count.saturating_sub(1))?;
+            }
+            _ => {
+                self.requests.reserve(1)?;
+                if self.requests.count(&entry) < 1_000 {
+                    self.requests.add(&entry);
+                }
+                self.other_requests.insert(entry, count.saturating_add(1))?;
+            }
+        }
+        Ok(())
+    }
+
+    /// Compares what both answer about an entry.
+    pub fn compare(&self, entry: &PrestartEntry) -> Result<()> {
+        ensure!(self.jobs.len() == self.other_jobs.len(), "len");
+        let mut available = 0u32;
+        let mut first = None;
+        for (serial, job) in self.other_jobs.iter() {
+            if job.entry != *entry || matches!(job.readiness, Readiness::Taken) {
+                continue;
+            }
+            available = available.saturating_add(1);
+            if first.is_none() && matches!(job.readiness, Readiness::Idle) {
+                first = Some(*serial);
+            }
+        }
+        ensure!(self.jobs.available(entry) == available, "available");
+        let ours = self.jobs.first_idle(entry).map(|serial| serial.get());
+        ensure!(ours == first, "first idle");
+        let count = self.other_requests.get(entry).copied().unwrap_or(0);
+        ensure!(self.requests.count(entry) == count, "requests");
+        Ok(())
+    }
+
+    pub fn len(&self) -> usize {
+        self.other_jobs.len()
+    }
+}
