@@ -1,10 +1,11 @@
 -- What a turn does to a pass.
-use Rattle.std.proofs.Common.{◌≡◌, ◌<◌, ◌≤◌, ◌++◌, ◌-◌, ℕ, List, [], ◌∷◌, length, drop, Option, Some, None, Result, Ok, Err, IfOk, IfSome, OnErr, sym, refl, ap, subst, ◌∙◌, append-nil, inl, inr, arith}
+use Rattle.std.proofs.Common.{◌≡◌, ◌<◌, ◌≤◌, ◌++◌, ◌-◌, ℕ, zero, suc, List, [], ◌∷◌, length, drop, Option, Some, None, Result, Ok, Err, IfOk, IfSome, OnErr, sym, refl, ap, subst, ◌∙◌, append-nil, inl, inr, arith}
 use Rattle.std.proofs.lemmas.List.{length_push}
 use Rattle.std.proofs.lemmas.List.Prefix.{front_rest}
 use Rattle.std.specs.List.{slice_get}
 use Rattle.wm_law.specs.declared.call.Call.{Call}
 use Rattle.wm_law.specs.declared.call.Entry.{Entry}
+use Rattle.wm_law.specs.declared.call.Reply.{Reply}
 use Rattle.wm_law.specs.History.{IsLegal}
 use Rattle.wm_turn.specs.Passed.{Grows, Passed, StartsWith, begun, ended, own, risen}
 use Rattle.wm_journal.specs.History.{History, entry_at, last_of, with_call}
@@ -19,6 +20,17 @@ use Rattle.wm_floor.specs.Ledger.{HasReply, Ledgered, behind, caller_of, history
 slice_get_push : {A : Type 0} (xs : List A) (y : A) → slice_get (xs ++ y ∷ []) (length xs) ≡ Some y
 slice_get_push [] y = refl
 slice_get_push (x ∷ xs) y = slice_get_push xs y
+
+slice_get_front : {A : Type 0} (xs ys : List A) (i : ℕ) → i < length xs → slice_get (xs ++ ys) i ≡ slice_get xs i
+slice_get_front [] ys i h = absurd (omega arith)
+slice_get_front (x ∷ xs) ys zero h = refl
+slice_get_front (x ∷ xs) ys (suc i) h = slice_get_front xs ys i (omega arith)
+
+-- the reply at a place that was seen
+pub reply_seen : (log seen : List Entry) (place : ℕ) (copy : Option Reply) → StartsWith log seen → 1 ≤ place → place ≤ length seen → HasReply (slice_get log (place - 1)) copy → HasReply (slice_get seen (place - 1)) copy
+reply_seen log seen place copy begins some within has =
+    let same = ap (λ (es : List Entry). slice_get es (place - 1)) begins.1 ∙ slice_get_front seen begins.0 (place - 1) (omega arith) in
+    subst (λ (e : Option Entry). HasReply e copy) same has
 
 -- the last entry is the call's
 pub last_of-call : (h : History) (caller : ℕ) (call : Call) (now : ℕ) → last_of (with_call h caller call now) ≡ Some (entry_at h caller call now)

@@ -4,11 +4,9 @@
 // > file 4 callers 50 turns seed 7       the same over a new file
 //
 // The answer is how many entries there are, or what is wrong with them.
-use crate::caller::Caller;
 use crate::replay::check;
-use crate::round::round;
-use anyhow::{Result, bail, ensure};
-use std::alloc::Global;
+use crate::round::{Round, round};
+use anyhow::{Result, bail};
 use std::fs;
 use std::rt::HostRuntime;
 use std::sync::Wait;
@@ -46,15 +44,6 @@ fn plan(question: &str) -> Result<Plan<'_>> {
     })
 }
 
-fn callers(alloc: Global, plan: &Plan) -> Result<Vec<Caller>> {
-    let mut callers = Vec::new(alloc);
-    ensure!(plan.callers < 1000, "too many callers");
-    for number in 0..plan.callers {
-        callers.push(Caller::new(alloc, number + 1, plan.seed)?)?;
-    }
-    Ok(callers)
-}
-
 /// The rounds.
 #[derive(Drop)]
 pub struct Rounds<'a, R> {
@@ -69,15 +58,10 @@ impl<'a, R: Threads + Wait + Sync> Rounds<'a, R> {
 
     fn play<K: Keeper + Drop + Send>(&self, plan: &Plan, keeper: K) -> Result<usize> {
         let alloc = self.host.alloc();
-        let mut callers = match callers(alloc, plan) {
-            Ok(callers) if callers.len() < 1000 => callers,
-            _ => {
-                drop(keeper);
-                bail!("no callers")
-            }
-        };
-        let closed = round(self.rt, alloc, keeper, &mut callers, plan.turns)?;
-        check(alloc, closed, &callers)
+        let threads = plan.callers.min(999);
+        let made = round(self.rt, alloc, keeper, threads, plan.turns, plan.seed)?;
+        let Round { closed, callers } = made;
+        check(alloc, closed, callers.as_slice())
     }
 
     fn play_file(&self, plan: &Plan) -> Result<usize> {
