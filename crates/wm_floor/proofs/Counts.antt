@@ -1,5 +1,5 @@
 -- How a keeper's faults and a pass's mark are counted.
-use Rattle.std.proofs.Common.{◌≡◌, ◌+◌, ◌-◌, ◌<◌, ◌≤◌, ◌^◌, ℕ, Bool, true, false, min, max, Result, Ok, Err, sym, refl, subst, arith, if◌then◌else◌, ◌==◌}
+use Rattle.std.proofs.Common.{◌≡◌, ◌+◌, ◌-◌, ◌<◌, ◌≤◌, ℕ, Bool, true, false, max, Result, Ok, Err, sym, refl, subst, arith, if◌then◌else◌, ◌==◌}
 use borrow.Author.Tests.{eqb-true, eqb-false}
 use Rattle.wm_traits.specs.Cause.{raised}
 use Rattle.wm_turn.specs.Passed.{greatest, risen}

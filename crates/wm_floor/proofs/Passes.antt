@@ -1,5 +1,5 @@
 -- What a turn does to a pass.
-use Rattle.std.proofs.Common.{◌≡◌, ◌<◌, ◌≤◌, ◌++◌, ◌-◌, ℕ, zero, suc, List, [], ◌∷◌, length, drop, Option, Some, None, Result, Ok, Err, IfOk, IfSome, OnErr, sym, refl, ap, subst, ◌∙◌, append-nil, inl, inr, arith}
+use Rattle.std.proofs.Common.{◌≡◌, ◌<◌, ◌≤◌, ◌++◌, ◌-◌, ℕ, zero, suc, List, [], ◌∷◌, length, Option, Some, sym, refl, ap, subst, ◌∙◌, append-nil, arith}
 use Rattle.std.proofs.lemmas.List.{length_push}
 use Rattle.std.proofs.lemmas.List.Prefix.{front_rest}
 use Rattle.std.specs.List.{slice_get}
@@ -7,15 +7,10 @@ use Rattle.wm_law.specs.declared.call.Call.{Call}
 use Rattle.wm_law.specs.declared.call.Entry.{Entry}
 use Rattle.wm_law.specs.declared.call.Reply.{Reply}
 use Rattle.wm_law.specs.History.{IsLegal}
-use Rattle.wm_turn.specs.Passed.{Grows, Passed, StartsWith, begun, ended, own, risen}
+use Rattle.wm_turn.specs.Passed.{StartsWith, begun, ended, own, risen}
 use Rattle.wm_journal.specs.History.{History, entry_at, last_of, with_call}
-use Rattle.wm_journal.specs.Limit.{limit_of}
-use Rattle.wm_journal.specs.declared.call_fault.CallFault.{CallFault}
-use Rattle.wm_journal.specs.declared.call_fault.CallFault.TheVariants.{LogFull}
-use Rattle.wm_floor.specs.declared.answer.Answered.{Answered}
-use Rattle.wm_floor.specs.declared.opened.Opened.{Opened}
-use Rattle.wm_floor.specs.Floor.{Floored, HasLooked, IsCalled, IsEntered, IsPassOf, IsRefused, IsSame, Seen, entry_of}
-use Rattle.wm_floor.specs.Ledger.{HasReply, Ledgered, behind, caller_of, history_of}
+use Rattle.wm_floor.specs.Floor.{Floored, HasLooked, IsPassOf, IsSame, Seen}
+use Rattle.wm_floor.specs.Ledger.{HasReply, caller_of}
 
 slice_get_push : {A : Type 0} (xs : List A) (y : A) → slice_get (xs ++ y ∷ []) (length xs) ≡ Some y
 slice_get_push [] y = refl

@@ -1,12 +1,12 @@
 -- A floor and its passes, as a contract sees them, and what each call does to a pass.
-use Rattle.std.specs.Prelude.{◌≡◌, ◌⊎◌, ◌<◌, ◌≤◌, ℕ, ℤ, List, [], ◌∷◌, ◌++◌, length, Option, Some, None, Result, Ok, Err, IfOk, OnErr}
+use Rattle.std.specs.Prelude.{◌≡◌, ◌⊎◌, ◌<◌, ◌≤◌, ℕ, ℤ, List, [], ◌∷◌, ◌++◌, length, Some, None, Result, Err, IfOk, OnErr}
 use Rattle.atomic_table.specs.Seated.{TableId}
 use Rattle.wm_law.specs.declared.call.Call.{Call}
 use Rattle.wm_law.specs.declared.call.Entry.{Entry}
 use Rattle.wm_law.specs.declared.state.State.{State}
 use Rattle.wm_law.specs.History.{IsLegal}
 use Rattle.wm_turn.specs.Passed.{Passed, StartsWith, own}
-use Rattle.wm_journal.specs.History.{entry_at, reached}
+use Rattle.wm_journal.specs.History.{entry_at}
 use Rattle.wm_journal.specs.Keeping.{IsLeft, IsOpened, Telling}
 use Rattle.wm_journal.specs.Limit.{limit_of}
 use Rattle.wm_journal.specs.declared.call_fault.CallFault.{CallFault}
