@@ -21,7 +21,7 @@ struct Spoken {
     said: String,
 }
 
-fn spoken(alloc: Global, entry: &Entry) -> Result<Spoken> {
+fn speech(alloc: Global, entry: &Entry) -> Result<Spoken> {
     let Call::Change { user, command } = &entry.call else {
         bail!("a monitor's call")
     };
@@ -42,7 +42,7 @@ fn again(
     passes: &[Pass],
     entry: &Entry,
 ) -> Result<()> {
-    let spoken = spoken(alloc, entry)?;
+    let spoken = speech(alloc, entry)?;
     let at = (entry.caller as usize).saturating_sub(1);
     let pass = passes.get(at).context("no such pass")?;
     ensure!(pass.number() == entry.caller, "another pass");
@@ -134,7 +134,7 @@ fn check_own(alloc: Global, log: &[Entry], caller: &Caller) -> Result<()> {
             let told = caller.told.get(next).context("an entry that wasn't told")?;
             ensure!(told.place as usize > at, "an earlier place");
             ensure!(told.place as usize - at == 1, "a later place");
-            let spoken = spoken(alloc, entry)?;
+            let spoken = speech(alloc, entry)?;
             ensure!(spoken.said.as_str() == told.said.as_str(), "another reply");
             next += 1;
         }

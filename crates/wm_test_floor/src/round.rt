@@ -87,7 +87,7 @@ fn among<R: Threads + Wait + Sync, K: Keeper + Drop + Send>(
 
 /// A round: its history and its keeper, and its callers.
 #[derive(Drop)]
-pub struct Round<K> {
+pub struct Played<K> {
     pub closed: Closed<K>,
     pub callers: Vec<Caller>,
 }
@@ -100,7 +100,7 @@ pub fn round<R: Threads + Wait + Sync, K: Keeper + Drop + Send>(
     threads: u32,
     turns: u32,
     seed: u64,
-) -> Result<Round<K>>
+) -> Result<Played<K>>
     requires { threads < 1000 }
 {
     let (floor, mut zero) = match Floor::open(alloc, keeper, &setup(), MOST) {
@@ -124,5 +124,5 @@ pub fn round<R: Threads + Wait + Sync, K: Keeper + Drop + Send>(
     let closed = floor.close(zero);
     let Ok(closed) = closed else { unreachable!() };
     made?;
-    Ok(Round { closed, callers })
+    Ok(Played { closed, callers })
 }

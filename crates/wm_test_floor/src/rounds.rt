@@ -5,7 +5,7 @@
 //
 // The answer is how many entries there are, or what is wrong with them.
 use crate::replay::check;
-use crate::round::{Round, round};
+use crate::round::{Played, round};
 use anyhow::{Result, bail};
 use std::fs;
 use std::rt::HostRuntime;
@@ -30,7 +30,7 @@ struct Plan<'a> {
     seed: u64,
 }
 
-fn plan(question: &str) -> Result<Plan<'_>> {
+fn read_plan(question: &str) -> Result<Plan<'_>> {
     let mut words = question.split(' ');
     let keeper = words.next().unwrap_or("");
     let callers = words.next().unwrap_or("").parse::<u32>()?;
@@ -60,7 +60,7 @@ impl<'a, R: Threads + Wait + Sync> Rounds<'a, R> {
         let alloc = self.host.alloc();
         let threads = plan.callers.min(999);
         let made = round(self.rt, alloc, keeper, threads, plan.turns, plan.seed)?;
-        let Round { closed, callers } = made;
+        let Played { closed, callers } = made;
         check(alloc, closed, callers.as_slice())
     }
 
@@ -84,7 +84,7 @@ impl<'a, R: Threads + Wait + Sync> Subject for Rounds<'a, R> {
     }
 
     fn answer(&mut self, question: &str, answer: &mut String) -> Result<()> {
-        let plan = plan(question)?;
+        let plan = read_plan(question)?;
         let entries = match plan.keeper {
             "memory" => self.play_memory(&plan)?,
             "file" => self.play_file(&plan)?,
