@@ -1,0 +1,83 @@
+-- What a turn does to a pass.
+use Rattle.std.proofs.Common.{◌≡◌, ◌<◌, ◌≤◌, ◌++◌, ◌-◌, ℕ, zero, suc, List, [], ◌∷◌, length, Option, Some, sym, refl, ap, subst, ◌∙◌, append-nil, arith}
+use Rattle.std.proofs.lemmas.List.{length_push}
+use Rattle.std.proofs.lemmas.List.Prefix.{front_rest}
+use Rattle.std.specs.List.{slice_get}
+use Rattle.wm_law.specs.declared.call.Call.{Call}
+use Rattle.wm_law.specs.declared.call.Entry.{Entry}
+use Rattle.wm_law.specs.declared.call.Reply.{Reply}
+use Rattle.wm_law.specs.History.{IsLegal}
+use Rattle.wm_turn.specs.Passed.{StartsWith, begun, ended, own, risen}
+use Rattle.wm_journal.specs.History.{History, entry_at, last_of, with_call}
+use Rattle.wm_floor.specs.Floor.{Floored, HasLooked, IsPassOf, IsSame, Seen}
+use Rattle.wm_floor.specs.Ledger.{HasReply, caller_of}
+
+slice_get_push : {A : Type 0} (xs : List A) (y : A) → slice_get (xs ++ y ∷ []) (length xs) ≡ Some y
+slice_get_push [] y = refl
+slice_get_push (x ∷ xs) y = slice_get_push xs y
+
+slice_get_front : {A : Type 0} (xs ys : List A) (i : ℕ) → i < length xs → slice_get (xs ++ ys) i ≡ slice_get xs i
+slice_get_front [] ys i h = absurd (omega arith)
+slice_get_front (x ∷ xs) ys zero h = refl
+slice_get_front (x ∷ xs) ys (suc i) h = slice_get_front xs ys i (omega arith)
+
+-- the reply at a place that was seen
+pub reply_seen : (log seen : List Entry) (place : ℕ) (copy : Option Reply) → StartsWith log seen → 1 ≤ place → place ≤ length seen → HasReply (slice_get log (place - 1)) copy → HasReply (slice_get seen (place - 1)) copy
+reply_seen log seen place copy begins some within has =
+    let same = ap (λ (es : List Entry). slice_get es (place - 1)) begins.1 ∙ slice_get_front seen begins.0 (place - 1) (omega arith) in
+    subst (λ (e : Option Entry). HasReply e copy) same has
+
+-- the last entry is the call's
+pub last_of-call : (h : History) (caller : ℕ) (call : Call) (now : ℕ) → last_of (with_call h caller call now) ≡ Some (entry_at h caller call now)
+last_of-call h caller call now =
+    let e = entry_at h caller call now in
+    let n : length (h.log ++ e ∷ []) - 1 ≡ length h.log = omega (arith, length_push h.log e) in
+    ap (slice_get (h.log ++ e ∷ [])) n ∙ slice_get_push h.log e
+
+module _ {K : Type 0} where
+  -- a turn of a pass: it found a history and left one, with these marks of the value
+  pub record IsTurned (f : Floored K) (old new : Seen K) (found log : List Entry) (before after : ℕ) : Type 0 where
+    pub pass : IsPassOf f old
+    pub front : StartsWith found old.seen
+    pub new_is : new ≡ ended log after (begun found before old)
+    pub legal : IsLegal f.opening.state log
+    pub mine : new.mine ≡ own caller_of new.number new.seen
+
+  module _ (f : Floored K) (old new : Seen K) (found log : List Entry) (before after : ℕ) (t : IsTurned f old new found log before after) where
+    abbrev back : Seen K
+    back = ended log after (begun found before old)
+
+    pub pass_after : IsPassOf f new
+    pass_after = record {
+      turnstile = ap (λ (p : Seen K). p.turnstile) t.new_is ∙ t.pass.turnstile;
+      opening = ap (λ (p : Seen K). p.opening) t.new_is ∙ t.pass.opening;
+      free = ap (λ (p : Seen K). p.turn) t.new_is;
+      legal = subst (λ (es : List Entry). IsLegal f.opening.state es) (sym (ap (λ (p : Seen K). p.seen) t.new_is)) t.legal;
+      mine = t.mine;
+    }
+
+    pub same_after : IsSame old new
+    same_after = record {
+      number = ap (λ (p : Seen K). p.number) t.new_is;
+      made = ap (λ (p : Seen K). p.made) t.new_is;
+      joined = ap (λ (p : Seen K). p.joined) t.new_is;
+    }
+
+    pub seen_after : new.seen ≡ log
+    seen_after = ap (λ (p : Seen K). p.seen) t.new_is
+
+    pub mark_after : new.mark ≡ risen old.mark before after
+    mark_after = ap (λ (p : Seen K). p.mark) t.new_is
+
+    -- behind what was found there is this
+    pub mine_after : (more : List Entry) → log ≡ found ++ more → new.mine ≡ old.mine ++ more
+    mine_after more is = ap (λ (p : Seen K). p.mine) t.new_is ∙ ap (λ (es : List Entry). old.mine ++ es) (front_rest log found more is)
+
+    pub mine_same : log ≡ found → new.mine ≡ old.mine
+    mine_same is = mine_after [] (is ∙ sym (append-nil found)) ∙ append-nil old.mine
+
+    pub looked_after : log ≡ found → HasLooked old new
+    looked_after is = record {
+      seen = subst (λ (es : List Entry). StartsWith es old.seen) (sym (seen_after ∙ is)) t.front;
+      mine = mine_same is;
+    }

@@ -1,0 +1,246 @@
+// What the callers of a floor take turns with: the machine with its keeper, and its history.
+ghost use Rattle.std.specs.Prelude.{◌≡◌, ◌<◌, ◌≤◌, ℕ, [], length, slice_get, Err, IfOk, IfErr, OnOk, OnErr};
+ghost use Rattle.wm_law.specs.Fit.{HasCall, IsCall};
+ghost use Rattle.wm_law.specs.Pending.{pending};
+ghost use Rattle.wm_journal.specs.History.{last_of, reached, with_call};
+ghost use Rattle.wm_journal.specs.Keeping.{telling, IsLeft, IsOpened};
+ghost use Rattle.wm_journal.specs.Limit.{limit_of};
+ghost use Rattle.wm_journal.specs.OpenFaults.{IsCounted, NamesBad};
+ghost use Rattle.wm_journal.specs.Stored.{HasTables};
+ghost use Rattle.wm_views.specs.Views.{shown};
+
+use crate::answer::Answered;
+use crate::copying::copied;
+use crate::limit::limit_of;
+use crate::opened::Opened;
+use crate::step::step;
+use std::alloc::Global;
+use std::marker::Model;
+use std::snapshot::Snapshot;
+use wm_base::{Moment, NoMemory};
+use wm_core::Setup;
+use wm_journal::{CallFault, Closed, OpenFault, StoredCore};
+use wm_law::{Ask, Call, Entry, Pending, Reply};
+use wm_traits::Keeper;
+use wm_turn::Standing;
+use wm_views::Shown;
+
+/// The machine with its keeper, its history, and how many calls the keeper has failed. The callers of a floor take turns with it.
+#[derive(Drop)]
+pub struct Ledger<K: Keeper> {
+    found: Snapshot<K>,
+    opened: Snapshot<StoredCore<K>>,
+    stored: StoredCore<K>,
+    log: Vec<Entry>,
+    limit: u32,
+    misses: u64,
+}
+
+impl<K: Keeper> Model for Ledger<K> {
+    ghost use Rattle.wm_floor.specs.Ledger.{Ledgered};
+
+    ghost Value = { Ledgered K };
+
+    ghost use Rattle.wm_floor.specs.Ledger.{IsLedger};
+
+    ghost view = { λ l. record { opening = record { state = l.opened.value.state; keeper = l.opened.value.keeper; found = l.found.value; limit = l.limit }; log = l.log.items; keeper = l.stored.keeper; misses = l.misses } };
+
+    ghost invariant = { λ l. IsLedger K.faults K.tables K.trail (record { opening = record { state = l.opened.value.state; keeper = l.opened.value.keeper; found = l.found.value; limit = l.limit }; log = l.log.items; keeper = l.stored.keeper; misses = l.misses }) l.stored.state };
+}
+
+impl<K: Keeper> Standing for Ledger<K> {
+    type Opening = Opened<K>;
+
+    type Entry = Entry;
+
+    ghost use Rattle.wm_floor.specs.Ledger.{caller_of};
+
+    ghost opening = { λ l. l.opening };
+
+    ghost stands = { λ l. l.log };
+
+    ghost mark = { λ l. l.misses };
+
+    ghost by = { caller_of };
+
+    ghost fact = { λ _ _. Unit {0} };
+
+    fn entries(&self) -> u64 {
+        self.log.len() as u64
+    }
+
+    fn marked(&self) -> bool {
+        self.misses != 0
+    }
+
+    ghost meets = { λ _. tt };
+
+    ghost fronts = { λ _ _ _ _. tt };
+}
+
+impl<K: Keeper> Ledger<K> {
+    ghost use Rattle.wm_floor.specs.Causes.{HasMissed};
+    ghost use Rattle.wm_floor.specs.Ledger.{history_of, HasLedger, HasReply};
+
+    /// The machine of the rows that a keeper has, with no history.
+    pub(crate) fn open(
+        alloc: Global,
+        keeper: K,
+        setup: &Setup,
+        limit: u32,
+    ) -> Result<Ledger<K>, (K, OpenFault)>
+        requires some { 1 ≤ limit }
+        requires most { limit ≤ 1000000 }
+        ensures ok { IfOk result (λ l. IsOpened setup.now.offset l.opening.state (telling K.tables K.trail keeper) (telling K.tables K.trail l.opening.keeper)) }
+        ensures ok_faults { IfOk result (λ l. K.faults l.opening.keeper ≡ K.faults keeper) }
+        ensures found { IfOk result (λ l. l.opening.found ≡ keeper) }
+        ensures limit { IfOk result (λ l. l.opening.limit ≡ limit) }
+        ensures log { IfOk result (λ l. l.log ≡ []) }
+        ensures misses { IfOk result (λ l. l.misses ≡ 0) }
+        ensures now { IfOk result (λ l. l.keeper ≡ l.opening.keeper) }
+        ensures err { IfErr result (λ back. IsLeft (telling K.tables K.trail keeper) (telling K.tables K.trail back.0)) }
+        ensures bad { IfErr result (λ back. NamesBad setup.now.offset (K.tables keeper) back.1) }
+        ensures faults { IfErr result (λ back. IsCounted (K.faults keeper) (K.faults back.0) back.1) }
+    {
+        let found = Snapshot::of(&keeper);
+        match StoredCore::open(alloc, keeper, setup) {
+            Ok(stored) => Ok(Ledger {
+                found,
+                opened: Snapshot::of(&stored),
+                stored,
+                log: Vec::new(alloc),
+                limit,
+                misses: 0,
+            }),
+            Err(back) => Err(back),
+        }
+    }
+
+    // Makes one call, whose rows are kept before its entry is the last of the history.
+    fn enter(
+        &mut self,
+        alloc: Global,
+        caller: u32,
+        call: Call,
+        now: Moment,
+    ) -> Result<(), CallFault>
+        requires fit { IsCall call }
+        requires built { HasCall call }
+        ensures opening { self.new.opening ≡ self.old.opening }
+        ensures ok { OnOk result (history_of self.new ≡ with_call (history_of self.old) caller call now) }
+        ensures err { OnErr result (self.new.log ≡ self.old.log) }
+        ensures full { limit_of call self.old.opening.limit ≤ length self.old.log → result ≡ Err (CallFault.LogFull (limit_of call self.old.opening.limit)) }
+        ensures not_full { length self.old.log < limit_of call self.old.opening.limit → (n : ℕ) → result ≡ Err (CallFault.LogFull n) → ⊥ }
+        ensures missed { HasMissed self.old.misses self.new.misses result }
+    {
+        let limit = limit_of(&call, self.limit);
+        if self.log.len() >= limit as usize {
+            return Err(CallFault::LogFull(limit));
+        }
+        self.log.reserve(1)?;
+        // The range of the moment is what `legal` needs of the entry.
+        let _moment = now.get();
+        let reply = step(
+            alloc,
+            &mut self.stored,
+            &mut self.misses,
+            caller,
+            &call,
+            now,
+        )?;
+        self.log.push_reserved(Entry {
+            caller,
+            call,
+            moment: now,
+            reply,
+        });
+        Ok(())
+    }
+
+    /// How many entries there are.
+    pub(crate) fn len(&self) -> u32
+        ensures len { result ≡ length self.now.log }
+        ensures most { length self.now.log ≤ 4000000 }
+    {
+        self.log.len() as u32
+    }
+
+    /// A copy of the reply of an entry, counted from 0.
+    pub(crate) fn copy_at(&self, alloc: Global, at: usize) -> Option<Reply>
+        ensures { HasReply (slice_get self.now.log at) result }
+    {
+        match self.log.get(at) {
+            Some(entry) => copied(alloc, &entry.reply),
+            None => None,
+        }
+    }
+
+    // The last place, with a copy of its reply.
+    fn answered(&self, alloc: Global) -> Answered
+        ensures place { result.place ≡ length self.now.log }
+        ensures reply { HasReply (last_of (history_of self.now)) result.reply }
+    {
+        let place = self.len();
+        Answered {
+            place,
+            reply: self.copy_at(alloc, place.saturating_sub(1) as usize),
+        }
+    }
+
+    /// Makes one call, and tells its place and its reply.
+    pub(crate) fn call(
+        &mut self,
+        alloc: Global,
+        caller: u32,
+        call: Call,
+        now: Moment,
+    ) -> Result<Answered, CallFault>
+        requires fit { IsCall call }
+        requires built { HasCall call }
+        ensures opening { self.new.opening ≡ self.old.opening }
+        ensures ok { OnOk result (history_of self.new ≡ with_call (history_of self.old) caller call now) }
+        ensures place { IfOk result (λ a. a.place ≡ length self.new.log) }
+        ensures reply { IfOk result (λ a. HasReply (last_of (history_of self.new)) a.reply) }
+        ensures err { OnErr result (self.new.log ≡ self.old.log) }
+        ensures full { limit_of call self.old.opening.limit ≤ length self.old.log → result ≡ Err (CallFault.LogFull (limit_of call self.old.opening.limit)) }
+        ensures not_full { length self.old.log < limit_of call self.old.opening.limit → (n : ℕ) → result ≡ Err (CallFault.LogFull n) → ⊥ }
+        ensures missed { HasMissed self.old.misses self.new.misses result }
+    {
+        self.enter(alloc, caller, call, now)?;
+        Ok(self.answered(alloc))
+    }
+
+    /// What is shown of the state.
+    pub(crate) fn view(&self, alloc: Global, ask: &Ask) -> Result<Shown, NoMemory>
+        ensures { IfOk result (λ view. view ≡ shown (reached (history_of self.now)) ask.now) }
+    {
+        self.stored.view(alloc, ask)
+    }
+
+    /// What waits for a monitor.
+    pub(crate) fn pending(&self, monitor: u32) -> Pending
+        ensures { result ≡ pending (reached (history_of self.now)) monitor }
+    {
+        self.stored.pending(monitor)
+    }
+
+    /// What is always so of a ledger.
+    pub(crate) fn recall(&self)
+        ensures { HasLedger K.faults K.tables K.trail self.now }
+    {
+        let _ = &self.found;
+    }
+
+    /// The entries and the keeper.
+    pub(crate) fn close(self) -> Closed<K>
+        ensures log { result.log.items ≡ self.log }
+        ensures keeper { result.keeper ≡ self.keeper }
+        ensures known { HasLedger K.faults K.tables K.trail self }
+        ensures tables { HasTables (reached (history_of self)) (K.tables result.keeper) }
+    {
+        Closed {
+            log: self.log,
+            keeper: self.stored.close(),
+        }
+    }
+}
