@@ -4,7 +4,7 @@
 // those of number 2, `asked` what the spawners were asked, and `written` what was written.
 use crate::given::unknown;
 use crate::shown::push_asked;
-use anyhow::{Context, Result, ensure};
+use anyhow::{Context, Result, bail, ensure};
 use std::alloc::Global;
 use std::mem;
 use std::sync::Wait;
@@ -125,12 +125,13 @@ impl<'a, W: Wait> Stops<'a, W> {
     }
 
     fn images(&self, answer: &mut String) -> Result<()> {
-        let mut count = 0_u32;
-        while count < u32::MAX && self.store.image(count).is_some() {
-            count += 1;
+        for count in 0..u32::MAX {
+            if self.store.image(count).is_none() {
+                writeln!(answer, "{count}")?;
+                return Ok(());
+            }
         }
-        writeln!(answer, "{count}")?;
-        Ok(())
+        bail!("more tables than can be counted")
     }
 
     // Shows the rows of `2 11`.
