@@ -7,7 +7,7 @@ use Rattle.wm_base.specs.declared.qname.QName.{QName}
 use Rattle.wm_traits.specs.declared.row.Row.{Row}
 use Rattle.wm_traits.specs.declared.row.RowChange.{RowChange}
 use Rattle.wm_law.specs.Choice.{next}
-use Rattle.wm_law.specs.Launch.{launch, launch_job}
+use Rattle.wm_law.specs.Launch.{launch, with_routed}
 use Rattle.wm_law.specs.Kept.{GoesOn}
 use Rattle.wm_law.specs.Laws.{IsIn}
 use Rattle.wm_law.specs.Machine.{apply, step, with_clock}
@@ -40,7 +40,7 @@ use Rattle.wm_changes.proofs.OneMore.{own_left, own_right}
 
 -- Settling
 
-held_by : (t : State) (c : Candidate) (o : Option Job) → (launch_job t c o).held ≡ t.held
+held_by : (t : State) (c : Candidate) (o : Option Job) → (with_routed t c o).held ≡ t.held
 held_by t c None = refl
 held_by t c (Some j) = refl
 

@@ -6,6 +6,11 @@
 //! the names of objects; `call_text` is the one canonical text of a CALL, and it is read again as that CALL, with
 //! `push_qname` and `push_quoted` for its parts.
 //!
+//! A command is read byte by byte. Format: a mode, where the word, text or comment began, its bytes so far, and the open lists
+//! with their items. What always holds: these are what `run` of `Reading` has after the same bytes, and those steps are the
+//! grammar, which knows no modes. Algorithm: one function a mode says where a byte leads (`reader.rt`); a byte that has no place
+//! in its mode is the fault, and nothing is read after it.
+//!
 //! The definitions are in `specs/`: `Lines` (logical lines), `Grammar` (what bytes spell), `Faults` (where they stop to),
 //! `Items` (what a tree says), `Call` (which items are a CALL), `CallText`, `Printed`. `Reading`, `Part` and
 //! `CallReading` are second definitions, by steps.

@@ -7,7 +7,7 @@ use Rattle.wm_law.specs.declared.choice.Candidate.{Candidate}
 use Rattle.wm_law.specs.declared.job.Job.{Job}
 use Rattle.wm_law.specs.declared.state.State.{State}
 use Rattle.wm_law.specs.Kept.{IsNumbered}
-use Rattle.wm_law.specs.Launch.{as_launched, launch_job, launched}
+use Rattle.wm_law.specs.Launch.{as_launched, with_routed, routed_from_queue}
 use Rattle.wm_law.specs.Machine.{apply, step, with_clock}
 use Rattle.wm_law.specs.Settling.{come_due, job_at, leave, sbss_at, settle, waiting}
 use Rattle.wm_law.specs.Sound.{HasJobsInOrder, IsIncreasing, IsSound}
@@ -21,9 +21,9 @@ use Rattle.wm_subsystems.specs.Walks.{AreInLine}
 in_line : (s : State) → IsNumbered s → HasJobsInOrder s → AreInLine s.next_serial s.jobs
 in_line s n h = record { increasing = h; given = n.serials; most = n.next_serial.most }
 
-launched_same : (t : State) (c : Candidate) (o : Option Job) → map serial_of (launch_job t c o).jobs ≡ map serial_of t.jobs
+launched_same : (t : State) (c : Candidate) (o : Option Job) → map serial_of (with_routed t c o).jobs ≡ map serial_of t.jobs
 launched_same t c None = refl
-launched_same t c (Some j) = keys_kept serial_of c.serial (as_launched (launched t c.sbs c.jobq j)) (λ k. refl) t.jobs
+launched_same t c (Some j) = keys_kept serial_of c.serial (as_launched (routed_from_queue t c.sbs c.jobq j)) (λ k. refl) t.jobs
 
 -- settling keeps the serials
 settled_same : (t : State) → map serial_of (settle t).jobs ≡ map serial_of t.jobs

@@ -36,7 +36,7 @@ use Rattle.wm_law.specs.declared.state.Stop.{Stop}
 use Rattle.wm_law.specs.declared.state.State.{State}
 use Rattle.wm_jobs.specs.Marked.{Marked}
 use Rattle.wm_law.specs.Choice.{is_held}
-use Rattle.wm_law.specs.Launch.{launch_job}
+use Rattle.wm_law.specs.Launch.{with_routed}
 use Rattle.wm_law.specs.Machine.{apply, change, step, with_clock}
 use Rattle.wm_law.specs.Making.{class_of, jobd_of, made_unless, make_class, make_description, make_job_description, make_program, make_queue}
 use Rattle.wm_law.specs.Objects.{AreSound}
@@ -162,7 +162,7 @@ module _ (s : State) where
   called sound caller call = like (apply s caller call).state (call_is_aside s caller call refl)
 
 module _ (saved : Saved) (s : State) where
-  launched : (t : State) (c : Candidate) (o : Option Job) → IsBack saved s t → IsBack saved s (launch_job t c o)
+  launched : (t : State) (c : Candidate) (o : Option Job) → IsBack saved s t → IsBack saved s (with_routed t c o)
   launched t c None h = h
   launched t c (Some j) h = record { objects = h.objects; held = h.held; offset = h.offset }
 

@@ -6,7 +6,7 @@ use Rattle.wm_desc.specs.declared.entry.AutoEntry.{AutoEntry}
 use Rattle.wm_desc.specs.Table.{object_named}
 use Rattle.wm_law.specs.declared.job.Job.{Job}
 use Rattle.wm_law.specs.declared.state.State.{State}
-use Rattle.wm_law.specs.Autos.{auto_launched, joined, new_auto_job}
+use Rattle.wm_law.specs.Autos.{routed_auto, joined, new_auto_job}
 use Rattle.wm_pick.specs.Parts.{with_parts}
 use Rattle.wm_jobs.specs.Table.{Table}
 use Rattle.wm_core.specs.declared.draft.Draft.{Draft}
@@ -29,7 +29,7 @@ drafted_job s d = new_auto_job s d.name d.rtgdta d.rqsdta
 
 -- the job of a draft is launched as it is made
 abbrev pub enter_draft : QName → State → Draft → State
-enter_draft sbs s d = joined s (auto_launched s sbs (drafted_job s d))
+enter_draft sbs s d = joined s (routed_auto s sbs (drafted_job s d))
 
 -- the state that has what the making of autostart jobs looks at and changes, and else nothing
 abbrev pub site_state : Site → Table → ℕ → State

@@ -8,6 +8,13 @@
 //! order. Nothing in it is due to end, so a step that tells nothing to end looks at the active jobs only where a moment has
 //! come. `Core::pending` tells what waits for a monitor. `built` says which commands users have. `Machine` is what lies in a
 //! `Core`, for those that look at it.
+//!
+//! A step can be taken back. Format: as it begins it keeps what the call may change of the objects and the held queues, copies of
+//! the started subsystems, the stopped entries and the requests, the next number, the power, and a mark of the jobs
+//! (`mark.rt`). What always holds: the state now with these put back is the state before (`before` of `Marks`). Algorithm: all
+//! copies are made, and all room is taken, before anything changes; to take back, the copies are swapped in and the notes of
+//! the jobs are undone (`taking_back.rt`).
+//!
 //! The definitions are in `specs/`: `LastStep` has what a contract sees of a `Core`, `MachineInside` what it sees of a
 //! `Machine`, `Marks` what is kept of the state before a step, `Stored` the state of a store, `Due` in which steps something
 //! can come due, `Clocked` and `Drafts` what the steps inside come to.

@@ -8,7 +8,7 @@ use wm_law::{Candidate, Job, Launched};
 impl Machine {
     ghost use Rattle.std.specs.Prelude.{◌≡◌, ◌<◌, Some};
     ghost use Rattle.wm_law.specs.Choice.{next};
-    ghost use Rattle.wm_law.specs.Launch.{launched, launch};
+    ghost use Rattle.wm_law.specs.Launch.{routed_from_queue, launch};
     ghost use Rattle.wm_law.specs.Settling.{leave, start_jobs};
 
     // The job that starts next.
@@ -20,7 +20,7 @@ impl Machine {
 
     // What the launch of a job of a queue makes of it.
     fn launched(&self, sbs: &QName, queue: &QName, job: &Job) -> Launched
-        ensures { result ≡ launched self.now.state sbs.now queue.now job.now }
+        ensures { result ≡ routed_from_queue self.now.state sbs.now queue.now job.now }
     {
         self.parts().launched(sbs, queue, job)
     }

@@ -24,7 +24,7 @@ use Rattle.wm_law.specs.History.{order_in}
 use Rattle.wm_law.specs.Holding.{with_held}
 use Rattle.wm_law.specs.Jobs.{waiting_at}
 use Rattle.wm_law.specs.Laws.{IsIn}
-use Rattle.wm_law.specs.Order.{is_launch_cause, is_launch_phase}
+use Rattle.wm_law.specs.Order.{is_routing_cause, is_routed_phase}
 use Rattle.wm_law.specs.Queues.{cleared_from, is_on_queue, own_name, waits_on}
 use Rattle.wm_law.specs.Reports.{in_phase}
 use Rattle.wm_law.specs.Submitting.{serials_end}
@@ -68,7 +68,7 @@ plain_power_down = record { orders_none = refl; refuses_none = λ x e. absurd (c
 
 -- the phase is that of an end by no launch
 abbrev pub IsEndOnQueue : Phase → Type 0
-IsEndOnQueue p = (c : EndCause) × (p ≡ Ended c) × (is_launch_cause c ≡ false)
+IsEndOnQueue p = (c : EndCause) × (p ≡ Ended c) × (is_routing_cause c ≡ false)
 
 -- a job that waited is the same job, which waits on or has ended by no launch; a new queue of it is an object
 pub record IsAltered (s : State) (j k : Job) : Type 0 where
@@ -209,7 +209,7 @@ each_altered P s change place a same new k i =
     elim (o.2) as (λ _. P k) [ inl e ↦ subst P (sym e) (same o.0 o.1) | inr b ↦ new o.0 k o.1 b ]
 
 -- no launch leaves a job waiting
-pub launch_waits : (p : Phase) → is_waiting p ≡ true → is_launch_phase p ≡ false
+pub launch_waits : (p : Phase) → is_waiting p ≡ true → is_routed_phase p ≡ false
 launch_waits Waiting h = refl
 launch_waits Starting h = absurd (cc)
 launch_waits (Handed m) h = absurd (cc)
@@ -236,8 +236,8 @@ unstarted s j k a e =
     absurd (cc)
 
 -- and no launch leaves a job so
-pub unlaunched : (s : State) (j k : Job) → IsAltered s j k → is_launch_phase k.phase ≡ false
-unlaunched s j k a = elim (a.phase) as (λ _. is_launch_phase k.phase ≡ false) [ inl w ↦ launch_waits k.phase w | inr e ↦ ap is_launch_phase e.1 ∙ e.2 ]
+pub unlaunched : (s : State) (j k : Job) → IsAltered s j k → is_routed_phase k.phase ≡ false
+unlaunched s j k a = elim (a.phase) as (λ _. is_routed_phase k.phase ≡ false) [ inl w ↦ launch_waits k.phase w | inr e ↦ ap is_routed_phase e.1 ∙ e.2 ]
 
 -- a changed job has its serial and its name, and waits only where it waited
 pub same_serial : (s : State) (j k : Job) → (k ≡ j) ⊎ IsAltered s j k → k.serial ≡ j.serial

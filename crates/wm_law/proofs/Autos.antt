@@ -12,11 +12,11 @@ use Rattle.wm_law.specs.declared.job.Job.{Job}
 use Rattle.wm_law.specs.declared.job.JobKind.TheVariants.{Bch, Asj}
 use Rattle.wm_law.specs.declared.job.Phase.TheVariants.{Starting}
 use Rattle.wm_law.specs.declared.state.State.{State}
-use Rattle.wm_law.specs.Autos.{auto_job, auto_launched, auto_made}
+use Rattle.wm_law.specs.Autos.{auto_job, routed_auto, auto_made}
 use Rattle.wm_law.specs.Choice.{next}
 use Rattle.wm_law.specs.Kept.{IsNumbered}
 use Rattle.wm_law.specs.Jobs.{changed_at}
-use Rattle.wm_law.specs.Launch.{as_auto, as_launched, launch, launch_job, launched, route}
+use Rattle.wm_law.specs.Launch.{as_auto, as_launched, launch, with_routed, routed_from_queue, route}
 use Rattle.wm_law.specs.Laws.{IsIn}
 use Rattle.wm_law.specs.Limits.{IsStarting, is_autostart}
 use Rattle.wm_law.specs.Order.{AutosFit, IsAutoRouted}
@@ -37,14 +37,14 @@ use Rattle.wm_law.proofs.Routed.{by_route}
 abbrev pub AutosRouted : State → State → Type 0
 AutosRouted s t = (j : Job) → IsIn j t.jobs → j.phase ≡ Starting → j.kind ≡ Asj → IsStarting s j.serial ⊎ IsAutoRouted t.objects j
 
-auto_routed : (t : State) (q : QName) (e : AutoEntry) (d : Jobd) → (auto_launched t q (auto_job t e d)).phase ≡ Starting → IsAutoRouted t.objects (auto_launched t q (auto_job t e d))
+auto_routed : (t : State) (q : QName) (e : AutoEntry) (d : Jobd) → (routed_auto t q (auto_job t e d)).phase ≡ Starting → IsAutoRouted t.objects (routed_auto t q (auto_job t e d))
 auto_routed t q e d p =
     let r = by_route t q (as_auto q) (auto_job t e d) p in
     record { sbs = q; sbsd = r.sbsd; entry = r.entry; described = r.described; routed = r.routed; is_how = r.is_how }
 
 autos_routed : (s t : State) (q : QName) (e : AutoEntry) (d : Jobd) → AutosRouted s t → AutosRouted s (auto_made t q e d)
 autos_routed s t q e d h k i p v =
-    elim (of_last t.jobs (auto_launched t q (auto_job t e d)) k i) as (λ _. IsStarting s k.serial ⊎ IsAutoRouted t.objects k) [
+    elim (of_last t.jobs (routed_auto t q (auto_job t e d)) k i) as (λ _. IsStarting s k.serial ⊎ IsAutoRouted t.objects k) [
       | inl m ↦ h k m p v
       | inr same ↦ inr (subst (IsAutoRouted t.objects) (sym same) (auto_routed t q e d (ap (λ (j : Job). j.phase) (sym same) ∙ p)))
     ]
@@ -86,7 +86,7 @@ record IsRoutedSince (s t : State) : Type 0 where
   routed : AutosRouted s t
 
 -- what is launched next is no autostart job
-routed_at : (s t : State) (c : Candidate) (f i : Job) (b : Bool) (k : Job) → (i.serial == c.serial) ≡ b → IsIn i t.jobs → IsNext t c f → IsRoutedSince s t → k ≡ cond b (as_launched (launched t c.sbs c.jobq f) i) i → k.phase ≡ Starting → k.kind ≡ Asj → IsStarting s k.serial ⊎ IsAutoRouted t.objects k
+routed_at : (s t : State) (c : Candidate) (f i : Job) (b : Bool) (k : Job) → (i.serial == c.serial) ≡ b → IsIn i t.jobs → IsNext t c f → IsRoutedSince s t → k ≡ cond b (as_launched (routed_from_queue t c.sbs c.jobq f) i) i → k.phase ≡ Starting → k.kind ≡ Asj → IsStarting s k.serial ⊎ IsAutoRouted t.objects k
 routed_at s t c f i true k e m x h same p v =
     let its : i ≡ f = only_one t.jobs h.numbered.serials.distinct i f m x.first.job (eqb-true i.serial c.serial e ∙ x.serial) in
     let bch : f.kind ≡ Bch = (h.queues f x.first.job).waits (ready_waits t f x.first.may.ready) in
@@ -96,10 +96,10 @@ routed_at s t c f i true k e m x h same p v =
 routed_at s t c f i false k e m x h same p v =
     subst (λ (y : Job). IsStarting s y.serial ⊎ IsAutoRouted t.objects y) (sym same) (h.routed i m (ap (λ (y : Job). y.phase) (sym same) ∙ p) (ap (λ (y : Job). y.kind) (sym same) ∙ v))
 
-launched_routed : (s t : State) (c : Candidate) (o : Option Job) → find (λ j. j.serial == c.serial) t.jobs ≡ o → next t ≡ Some c → IsRoutedSince s t → AutosRouted s (launch_job t c o)
+launched_routed : (s t : State) (c : Candidate) (o : Option Job) → find (λ j. j.serial == c.serial) t.jobs ≡ o → next t ≡ Some c → IsRoutedSince s t → AutosRouted s (with_routed t c o)
 launched_routed s t c None f e h = h.routed
 launched_routed s t c (Some j) f e h = λ k m p v. (
-    let o = of_mapped (changed_at c.serial (as_launched (launched t c.sbs c.jobq j))) t.jobs k m in
+    let o = of_mapped (changed_at c.serial (as_launched (routed_from_queue t c.sbs c.jobq j))) t.jobs k m in
     routed_at s t c j o.0 (o.0.serial == c.serial) k refl o.1 (is_next t c j e h.numbered f) h o.2 p v)
 
 launches_routed : (s : State) → IsKept next (λ c t. launch t c) (IsRoutedSince s)

@@ -26,7 +26,7 @@ use Rattle.wm_law.specs.Choice.{is_sbs_active, maxpty_of, next}
 use Rattle.wm_law.specs.Counts.{count_from_priority, count_from_queue, count_in_sbs, is_active, is_in_sbs, is_prestart, is_starting}
 use Rattle.wm_law.specs.Kept.{HasDistinctNames, IsNumbered}
 use Rattle.wm_law.specs.Jobs.{changed_at}
-use Rattle.wm_law.specs.Launch.{as_launched, from_queue, launch, launch_job, launched, routed_through, route}
+use Rattle.wm_law.specs.Launch.{as_launched, from_queue, launch, with_routed, routed_from_queue, routed_through, route}
 use Rattle.wm_law.specs.Laws.{IsIn}
 use Rattle.wm_law.specs.Machine.{apply, step, with_clock}
 use Rattle.wm_law.specs.Settling.{come_due, ended_by, is_gone, is_sbs_now, job_at, leave, sbs_at, sbs_moment, sbs_phase_at, sbss_at, unless_started, waiting, with_deadline}
@@ -202,7 +202,7 @@ not_both (Ending until) a n = absurd (cc)
 not_both Now a n = absurd (cc)
 
 -- no job is launched in a subsystem that ends now
-none_in_now : (s : State) (c : Candidate) (f : Job) → IsNext s c f → HasDistinctNames s → is_active (launched s c.sbs c.jobq f).phase ≡ true → is_in_any now s.started (launched s c.sbs c.jobq f).how ≡ true → ⊥
+none_in_now : (s : State) (c : Candidate) (f : Job) → IsNext s c f → HasDistinctNames s → is_active (routed_from_queue s c.sbs c.jobq f).phase ≡ true → is_in_any now s.started (routed_from_queue s c.sbs c.jobq f).how ≡ true → ⊥
 none_in_now s c f x names a h =
     let t = x.turn in
     let m = x.first.may in
@@ -211,9 +211,9 @@ none_in_now s c f x names a h =
     let how = from_queue t.sbs.sbsd t.queue f in
     let active : is_active (routed_through s t.sbs.sbsd how f o).phase ≡ true = ap (λ (l : Launched). is_active l.phase) (sym same) ∙ a in
     let r = started_through s t.sbs.sbsd how t.sbsd f o refl (active_through s t.sbs.sbsd how f o active) in
-    let is_how : (launched s c.sbs c.jobq f).how ≡ FromQueue t.sbs.sbsd t.queue f.pty r.0.seq = ap (λ (l : Launched). l.how) same ∙ r.2 in
-    let b = of_any (λ (b : Sbs). now b && is_in_sbs b.sbsd (launched s c.sbs c.jobq f).how) s.started h in
-    let both = and_parts (now b.0) (is_in_sbs b.0.sbsd (launched s c.sbs c.jobq f).how) b.2 in
+    let is_how : (routed_from_queue s c.sbs c.jobq f).how ≡ FromQueue t.sbs.sbsd t.queue f.pty r.0.seq = ap (λ (l : Launched). l.how) same ∙ r.2 in
+    let b = of_any (λ (b : Sbs). now b && is_in_sbs b.sbsd (routed_from_queue s c.sbs c.jobq f).how) s.started h in
+    let both = and_parts (now b.0) (is_in_sbs b.0.sbsd (routed_from_queue s c.sbs c.jobq f).how) b.2 in
     let named : t.sbs.sbsd ≡ b.0.sbsd = one_name t.sbs.sbsd b.0.sbsd (sym (ap (is_in_sbs b.0.sbsd) is_how) ∙ both.1) in
     let one : t.sbs ≡ b.0 = one_by_key (λ (y : Sbs). y.sbsd.name) s.started names t.sbs b.0 (holder_started s f t m) b.1 (ap (λ (q : QName). q.name) named) in
     let allowed = (of_four (is_sbs_active t.sbs.phase) (is_below (count_in_sbs t.sbs.sbsd s.jobs) t.sbsd.maxjobs) (is_below (count_from_queue t.sbs.sbsd t.entry.jobq s.jobs) t.entry.maxact) (is_below (count_from_priority t.sbs.sbsd t.entry.jobq f.pty s.jobs) (maxpty_of t.entry f.pty)) m.allowed).0 in
@@ -238,7 +238,7 @@ record IsDoneDue (s : State) : Type 0 where
 
 module _ (s : State) (c : Candidate) (f : Job) (x : IsNext s c f) (h : IsDoneDue s) where
   abbrev l : Launched
-  l = launched s c.sbs c.jobq f
+  l = routed_from_queue s c.sbs c.jobq f
 
   unwished : has_wish f.wish ≡ false
   unwished = (h.wishes f x.first.job).waits (ready_waits s f x.first.may.ready)
@@ -262,7 +262,7 @@ module _ (s : State) (c : Candidate) (f : Job) (x : IsNext s c f) (h : IsDoneDue
       let o = of_mapped (changed_at c.serial (as_launched l)) s.jobs k i in
       starts_unless o.0 (o.0.serial == c.serial) k refl o.1 o.2 a
 
-launched_none : (s : State) (c : Candidate) (o : Option Job) → find (λ j. j.serial == c.serial) s.jobs ≡ o → next s ≡ Some c → IsDoneDue s → HasNoneDue (launch_job s c o)
+launched_none : (s : State) (c : Candidate) (o : Option Job) → find (λ j. j.serial == c.serial) s.jobs ≡ o → next s ≡ Some c → IsDoneDue s → HasNoneDue (with_routed s c o)
 launched_none s c None f e h = h.none_due
 launched_none s c (Some j) f e h = record {
   subsystems = h.none_due.subsystems;

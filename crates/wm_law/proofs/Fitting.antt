@@ -22,10 +22,10 @@ use Rattle.wm_law.specs.Counts.{count_by_route, count_from_priority, count_from_
 use Rattle.wm_law.specs.History.{stepped}
 use Rattle.wm_law.specs.Kept.{GoesOn, IsNumbered}
 use Rattle.wm_law.specs.Jobs.{changed_at}
-use Rattle.wm_law.specs.Launch.{as_launched, from_queue, launch, launch_job, launched, routed_through, route}
+use Rattle.wm_law.specs.Launch.{as_launched, from_queue, launch, with_routed, routed_from_queue, routed_through, route}
 use Rattle.wm_law.specs.Laws.{IsIn}
 use Rattle.wm_law.specs.Machine.{apply, step, with_clock}
-use Rattle.wm_law.specs.Order.{GivesNewSerials, IsFit, IsInOrder, KeepsOrder, LaunchesFit, counted_for, was_launched}
+use Rattle.wm_law.specs.Order.{GivesNewSerials, IsFit, IsInOrder, KeepsOrder, AllFit, counted_for, was_launched}
 use Rattle.wm_law.specs.Settling.{come_due, leave, settle, waiting}
 use Rattle.wm_law.specs.Sound.{HasQueues}
 use Rattle.wm_law.proofs.Autos.{AutosRouted, autos_due, autos_fit, calls_route_autos}
@@ -45,7 +45,7 @@ use Rattle.wm_law.proofs.Turns.{is_turn}
 -- in order, and each launched job is fit
 record IsFitSince (s t : State) : Type 0 where
   ordered : IsOrderedSince s t
-  fit : LaunchesFit s t
+  fit : AllFit s t
 
 module _ (s t : State) (c : Candidate) (f : Job) (x : IsNext t c f) (h : IsFitSince s t) where
   ready : (is_waiting f.phase ≡ true) × (not f.held ≡ true) × (has_free_queue t f.jobq ≡ true) × (nat_le f.due t.clock ≡ true)
@@ -62,16 +62,16 @@ module _ (s t : State) (c : Candidate) (f : Job) (x : IsNext t c f) (h : IsFitSi
   abbrev by : ℕ → How
   by = from_queue x.turn.sbs.sbsd x.turn.queue f
 
-  routed : (p : Phase) → (launched t c.sbs c.jobq f).phase ≡ p → (routed_through t x.turn.sbs.sbsd by f (route x.turn.sbsd f.rtgdta)).phase ≡ p
+  routed : (p : Phase) → (routed_from_queue t c.sbs c.jobq f).phase ≡ p → (routed_through t x.turn.sbs.sbsd by f (route x.turn.sbsd f.rtgdta)).phase ≡ p
   routed p e = ap (λ (l : Launched). l.phase) (sym (launched_routed t c f x)) ∙ e
 
-  full_now : (n : ℕ) → (launched t c.sbs c.jobq f).phase ≡ Ended (RouteFull n) → (e : RouteEntry) × (route x.turn.sbsd f.rtgdta ≡ Some e) × (e.seq ≡ n) × (is_below (counted_for s (launched_in t c f) (as_launched (launched t c.sbs c.jobq f) f) (is_by_route x.turn.sbs.sbsd e.seq)) e.maxact ≡ false)
+  full_now : (n : ℕ) → (routed_from_queue t c.sbs c.jobq f).phase ≡ Ended (RouteFull n) → (e : RouteEntry) × (route x.turn.sbsd f.rtgdta ≡ Some e) × (e.seq ≡ n) × (is_below (counted_for s (launched_in t c f) (as_launched (routed_from_queue t c.sbs c.jobq f) f) (is_by_route x.turn.sbs.sbsd e.seq)) e.maxact ≡ false)
   full_now n e =
       let r = full_through t x.turn.sbs.sbsd by x.turn.sbsd f n (route x.turn.sbsd f.rtgdta) refl (routed (Ended (RouteFull n)) e) in
-      (r.0, r.1, r.2, full_still (count_by_route x.turn.sbs.sbsd r.0.seq t.jobs) (counted_for s (launched_in t c f) (as_launched (launched t c.sbs c.jobq f) f) (is_by_route x.turn.sbs.sbsd r.0.seq)) r.0.maxact (counted_all s t c f x h.ordered (is_by_route x.turn.sbs.sbsd r.0.seq)) r.3)
+      (r.0, r.1, r.2, full_still (count_by_route x.turn.sbs.sbsd r.0.seq t.jobs) (counted_for s (launched_in t c f) (as_launched (routed_from_queue t c.sbs c.jobq f) f) (is_by_route x.turn.sbs.sbsd r.0.seq)) r.0.maxact (counted_all s t c f x h.ordered (is_by_route x.turn.sbs.sbsd r.0.seq)) r.3)
 
   -- the launched job is fit
-  fit_now : IsFit s (launched_in t c f) (as_launched (launched t c.sbs c.jobq f) f) x.turn
+  fit_now : IsFit s (launched_in t c f) (as_launched (routed_from_queue t c.sbs c.jobq f) f) x.turn
   fit_now = record {
     turn = x.first.may.turn;
     held = not-true f.held ready.1;
@@ -100,22 +100,22 @@ module _ (s t : State) (c : Candidate) (f : Job) (x : IsNext t c f) (h : IsFitSi
     no_route = k.no_route;
   }
 
-  fit_at : (i : Job) (b : Bool) (g : Job) → (i.serial == c.serial) ≡ b → IsIn i t.jobs → g ≡ cond b (as_launched (launched t c.sbs c.jobq f) i) i → was_launched s g ≡ true → (u : Turn) × IsFit s (launched_in t c f) g u
+  fit_at : (i : Job) (b : Bool) (g : Job) → (i.serial == c.serial) ≡ b → IsIn i t.jobs → g ≡ cond b (as_launched (routed_from_queue t c.sbs c.jobq f) i) i → was_launched s g ≡ true → (u : Turn) × IsFit s (launched_in t c f) g u
   fit_at i true g e m same w =
-      let l = launched t c.sbs c.jobq f in
+      let l = routed_from_queue t c.sbs c.jobq f in
       let now : as_launched l f ≡ g = ap (as_launched l) (sym (one s t c f x h.ordered i m (eqb-true i.serial c.serial e))) ∙ sym same in
       (x.turn, subst (λ (y : Job). IsFit s (launched_in t c f) y x.turn) now fit_now)
   fit_at i false g e m same w =
       let k = h.fit i m (ap (was_launched s) (sym same) ∙ w) in
       (k.0, subst (λ (y : Job). IsFit s (launched_in t c f) y k.0) (sym same) (fit_later i k.0 k.1))
 
-  fit_still : LaunchesFit s (launched_in t c f)
+  fit_still : AllFit s (launched_in t c f)
   fit_still g m w =
-      let o = of_mapped (changed_at c.serial (as_launched (launched t c.sbs c.jobq f))) t.jobs g m in
+      let o = of_mapped (changed_at c.serial (as_launched (routed_from_queue t c.sbs c.jobq f))) t.jobs g m in
       fit_at o.0 (o.0.serial == c.serial) g refl o.1 o.2 w
 
 -- a launch keeps the launched jobs fit
-launched_fit : (s t : State) (c : Candidate) (o : Option Job) → find (λ j. j.serial == c.serial) t.jobs ≡ o → next t ≡ Some c → IsFitSince s t → LaunchesFit s (launch_job t c o)
+launched_fit : (s t : State) (c : Candidate) (o : Option Job) → find (λ j. j.serial == c.serial) t.jobs ≡ o → next t ≡ Some c → IsFitSince s t → AllFit s (with_routed t c o)
 launched_fit s t c None f e h = h.fit
 launched_fit s t c (Some j) f e h = fit_still s t c j (is_next t c j e h.ordered.numbered f) h
 

@@ -13,12 +13,12 @@ use Rattle.wm_law.specs.declared.job.Phase.{Phase}
 use Rattle.wm_law.specs.declared.job.Phase.TheVariants.{Waiting, Starting, Handed, Running, Ended}
 use Rattle.wm_law.specs.declared.job.Wish.{Wish}
 use Rattle.wm_law.specs.declared.state.State.{State}
-use Rattle.wm_law.specs.Autos.{auto_job, auto_launched, auto_made}
+use Rattle.wm_law.specs.Autos.{auto_job, routed_auto, auto_made}
 use Rattle.wm_law.specs.Choice.{next}
 use Rattle.wm_law.specs.Counts.{is_active, is_waiting}
 use Rattle.wm_law.specs.Kept.{IsDistinct, IsNumbered, phase_rank, is_start_fault, IsEndOn, IsLater, IsWishOn, GoesOn, StepGoesOn}
 use Rattle.wm_law.specs.Jobs.{changed_at, with_job}
-use Rattle.wm_law.specs.Launch.{as_launched, launch, launch_job, launched}
+use Rattle.wm_law.specs.Launch.{as_launched, launch, with_routed, routed_from_queue}
 use Rattle.wm_law.specs.Laws.{IsIn}
 use Rattle.wm_law.specs.Submitting.{submitted_job}
 use Rattle.wm_law.specs.Reports.{in_phase, with_phase}
@@ -118,10 +118,10 @@ waiting_least (Handed m) n h = absurd (cc)
 waiting_least (Running m) n h = absurd (cc)
 waiting_least (Ended c) n h = absurd (cc)
 
-launch_goes_on : (s : State) (c : Candidate) (i : Job) (o : Option Job) → IsNumbered s → IsIn i s.jobs → i.serial ≡ c.serial → is_waiting i.phase ≡ true → GoesOn s (launch_job s c o)
+launch_goes_on : (s : State) (c : Candidate) (i : Job) (o : Option Job) → IsNumbered s → IsIn i s.jobs → i.serial ≡ c.serial → is_waiting i.phase ≡ true → GoesOn s (with_routed s c o)
 launch_goes_on s c i None n m e w = stays s
 launch_goes_on s c i (Some f) n m e w =
-    let l = launched s c.sbs c.jobq f in
+    let l = routed_from_queue s c.sbs c.jobq f in
     job_goes_on s c.serial (as_launched l) i n m e (record { serial = refl; job = refl; phase = waiting_least i.phase (phase_rank l.phase) w; wish = on_same i.wish i.wish refl; end = end_waiting i.phase i.wish l.phase w })
 
 -- numbered, and gone on from a state
@@ -179,7 +179,7 @@ calls : (s : State) → IsNumbered s → HoldsOfStates (GoesOn s) s
 calls s n = record {
   stays = stays s;
   starts = λ q e j i. (j, i, no_less j);
-  autos = λ q t e d m h. goes_on_still s t (auto_made t q e d) h (λ j i. (j, in_longer t.jobs (auto_launched t q (auto_job t e d)) j i, no_less j));
+  autos = λ q t e d m h. goes_on_still s t (auto_made t q e d) h (λ j i. (j, in_longer t.jobs (routed_auto t q (auto_job t e d)) j i, no_less j));
   enters = λ user c d due has j i. (j, in_longer s.jobs (submitted_job s user c d due) j i, no_less j);
   alters = λ change place a j i. (change j, in_mapped change s.jobs j i, later_altered s j (change j) (a.each j));
   holds = λ held a j i. (j, i, no_less j);

@@ -27,7 +27,7 @@ use Rattle.wm_law.specs.Choice.{Turn, first, is_allowed, is_sbs_active, maxpty_o
 use Rattle.wm_law.specs.Counts.{count_active, count_from_priority, count_from_queue, count_in_sbs, is_active, is_from_priority, is_from_queue, is_in_sbs, is_waiting}
 use Rattle.wm_law.specs.Jobs.{changed_at, with_job}
 use Rattle.wm_law.specs.Kept.{IsNumbered, StartsInOrder}
-use Rattle.wm_law.specs.Launch.{as_launched, launch, launch_job, launched}
+use Rattle.wm_law.specs.Launch.{as_launched, launch, with_routed, routed_from_queue}
 use Rattle.wm_law.specs.Laws.{IsIn, MayStart}
 use Rattle.wm_law.specs.Settling.{in_order, start_in, start_jobs, waiting}
 use Rattle.wm_law.proofs.Ascending.{IsAscending, ascending_in_order, stands_in_order}
@@ -74,12 +74,12 @@ unchanged false l j k n e w = e
 
 -- the state in which the candidate's job is as it was launched
 abbrev pub launched_in : State → Candidate → Job → State
-launched_in s c f = with_job s c.serial (as_launched (launched s c.sbs c.jobq f))
+launched_in s c f = with_job s c.serial (as_launched (routed_from_queue s c.sbs c.jobq f))
 
 module _ (s : State) (c : Candidate) (f j : Job) (n : IsNumbered s) (i : IsIn j s.jobs) (w : is_waiting j.phase ≡ true) (same : c.serial ≡ j.serial) where
   counts : (test : How → Bool) → count_active test s.jobs ≤ count_active test (launched_in s c f).jobs
   counts test =
-      no_fewer test c.serial (as_launched (launched s c.sbs c.jobq f)) s.jobs
+      no_fewer test c.serial (as_launched (routed_from_queue s c.sbs c.jobq f)) s.jobs
       (λ k m e. subst (λ (x : Job). is_active x.phase ≡ false) (only_one s.jobs n.serials.distinct j k i m (sym same ∙ sym e)) (not_active j.phase w))
 
   allowed_before : (b : Sbs) (d : Sbsd) (e : QueueEntry) (pty : ℕ) → is_allowed (launched_in s c f) b d e pty ≡ true → is_allowed s b d e pty ≡ true
@@ -100,7 +100,7 @@ module _ (s : State) (c : Candidate) (f j : Job) (n : IsNumbered s) (i : IsIn j 
 
   pub there_before : (k : Job) → IsIn k (launched_in s c f).jobs → is_waiting k.phase ≡ true → IsIn k s.jobs
   there_before k m v =
-      let l = launched s c.sbs c.jobq f in
+      let l = routed_from_queue s c.sbs c.jobq f in
       let o = of_mapped (changed_at c.serial (as_launched l)) s.jobs k m in
       subst (λ (x : Job). IsIn x s.jobs) (sym (unchanged (o.0.serial == c.serial) l o.0 k (not_waiting s c.sbs c.jobq f) o.2 v)) o.1
 
@@ -112,11 +112,11 @@ module _ (s : State) (c : Candidate) (f j : Job) (n : IsNumbered s) (i : IsIn j 
       absurd (no_first_is_none s q h k.job k.turn (there_before k.job k.is_first.job (ready_waits (launched_in s c f) k.job may.ready)) (may_before k.job k.turn may) k.its)
 
 -- a launch takes from no subsystem's limits and makes no job ready, so a subsystem without a first has none after it
-none_still : (s : State) (c : Candidate) (j : Job) (o : Option Job) → IsNumbered s → IsIn j s.jobs → is_waiting j.phase ≡ true → c.serial ≡ j.serial → (q : QName) → first s q ≡ None → first (launch_job s c o) q ≡ None
+none_still : (s : State) (c : Candidate) (j : Job) (o : Option Job) → IsNumbered s → IsIn j s.jobs → is_waiting j.phase ≡ true → c.serial ≡ j.serial → (q : QName) → first s q ≡ None → first (with_routed s c o) q ≡ None
 none_still s c j None n i w same q h = h
 none_still s c j (Some f) n i w same q h = none_by s c f j n i w same q (first (launched_in s c f) q) refl h
 
-started_same : (s : State) (c : Candidate) (o : Option Job) → (launch_job s c o).started ≡ s.started
+started_same : (s : State) (c : Candidate) (o : Option Job) → (with_routed s c o).started ≡ s.started
 started_same s c None = refl
 started_same s c (Some f) = refl
 

@@ -17,7 +17,7 @@ use Rattle.wm_law.specs.Counts.{count_in_sbs, is_active, is_in_sbs, is_waiting}
 use Rattle.wm_law.specs.History.{stepped}
 use Rattle.wm_law.specs.Kept.{IsNumbered}
 use Rattle.wm_law.specs.Jobs.{changed_at}
-use Rattle.wm_law.specs.Launch.{as_launched, launch, launch_job, launched}
+use Rattle.wm_law.specs.Launch.{as_launched, launch, with_routed, routed_from_queue}
 use Rattle.wm_law.specs.Laws.{IsIn}
 use Rattle.wm_law.specs.Leaving.{EndingHaveJobs, EndingSubsystemsHaveJobs, StepLeavesEndingJobs}
 use Rattle.wm_law.specs.Machine.{apply, step, with_clock}
@@ -60,11 +60,11 @@ module _ (t : State) (c : Candidate) (l : Launched) (sbs : QName) (numbered : Is
   no_fewer_counted : count_in_sbs sbs t.jobs ≤ count_in_sbs sbs (map (changed_at c.serial (as_launched l)) t.jobs)
   no_fewer_counted = no_fewer is_counted is_counted (changed_at c.serial (as_launched l)) t.jobs (λ i m h. counted_at (i.serial == c.serial) i refl m h)
 
-launched_with_jobs : (t : State) (c : Candidate) (o : Option Job) → IsNumbered t → next t ≡ Some c → EndingHaveJobs t → EndingHaveJobs (launch_job t c o)
+launched_with_jobs : (t : State) (c : Candidate) (o : Option Job) → IsNumbered t → next t ≡ Some c → EndingHaveJobs t → EndingHaveJobs (with_routed t c o)
 launched_with_jobs t c None n e h = h
 launched_with_jobs t c (Some j) n e h = λ b i ending.
     let before = h b i ending in
-    let fewer = no_fewer_counted t c (launched t c.sbs c.jobq j) b.sbsd n e in
+    let fewer = no_fewer_counted t c (routed_from_queue t c.sbs c.jobq j) b.sbsd n e in
     omega arith
 
 -- numbered, and each ending subsystem has an active job

@@ -28,13 +28,13 @@ use Rattle.wm_law.specs.declared.job.Phase.{Phase}
 use Rattle.wm_law.specs.declared.job.Phase.TheVariants.{Waiting, Starting}
 use Rattle.wm_law.specs.declared.launch.Launched.{Launched}
 use Rattle.wm_law.specs.declared.state.State.{State}
-use Rattle.wm_law.specs.Autos.{auto_job, auto_launched, auto_made}
+use Rattle.wm_law.specs.Autos.{auto_job, routed_auto, auto_made}
 use Rattle.wm_law.specs.Choice.{entry_for, maxpty_of, next}
 use Rattle.wm_law.specs.Counts.{count_active, is_active, is_by_route, is_from_priority, is_from_queue, is_in_sbs, is_starting}
 use Rattle.wm_law.specs.History.{stepped}
 use Rattle.wm_law.specs.Kept.{HasOrders, IsNumbered, IsRouted}
 use Rattle.wm_law.specs.Jobs.{changed_at, with_job}
-use Rattle.wm_law.specs.Launch.{as_auto, as_launched, entry_numbered, from_queue, launch, launch_job, launched}
+use Rattle.wm_law.specs.Launch.{as_auto, as_launched, entry_numbered, from_queue, launch, with_routed, routed_from_queue}
 use Rattle.wm_law.specs.Laws.{IsIn}
 use Rattle.wm_law.specs.Limits.{BecameStarting, IsStarting, IsWithin, IsWithinLimits, KeepsLimits, is_autostart}
 use Rattle.wm_law.specs.Machine.{apply, step, with_clock}
@@ -90,7 +90,7 @@ none_new s test aside serial l jobs n h k m p q v =
 
 -- a launch that adds to the count comes where the count is below the limit
 abbrev Admits : Objects → (How → Bool) → Limit → Type 0
-Admits o test limit = (t : State) (c : Candidate) (j : Job) → t.objects ≡ o → IsNext t c j → test (launched t c.sbs c.jobq j).how ≡ true → is_below (count_active test t.jobs) limit ≡ true
+Admits o test limit = (t : State) (c : Candidate) (j : Job) → t.objects ≡ o → IsNext t c j → test (routed_from_queue t c.sbs c.jobq j).how ≡ true → is_below (count_active test t.jobs) limit ≡ true
 
 -- no counted job became Starting since a state, or the count is within the limit
 abbrev NoneOrWithin : State → (How → Bool) → (JobKind → Bool) → Limit → List Job → Type 0
@@ -103,31 +103,31 @@ record IsWithinSince (s : State) (o : Objects) (test : How → Bool) (aside : Jo
 
 -- the state in which the candidate's job is as it was launched
 abbrev launched_in : State → Candidate → Job → State
-launched_in s c j = with_job s c.serial (as_launched (launched s c.sbs c.jobq j))
+launched_in s c j = with_job s c.serial (as_launched (routed_from_queue s c.sbs c.jobq j))
 
-objects_same : (s : State) (c : Candidate) (o : Option Job) → (launch_job s c o).objects ≡ s.objects
+objects_same : (s : State) (c : Candidate) (o : Option Job) → (with_routed s c o).objects ≡ s.objects
 objects_same s c None = refl
 objects_same s c (Some j) = refl
 
 module _ (s : State) (o : Objects) (test : How → Bool) (aside : JobKind → Bool) (limit : Limit) (admits : Admits o test limit) where
-  within_by : (t : State) (c : Candidate) (j : Job) (b : Bool) → (is_active (launched t c.sbs c.jobq j).phase && test (launched t c.sbs c.jobq j).how) ≡ b → IsNext t c j → IsWithinSince s o test aside limit t → NoneOrWithin s test aside limit (launched_in t c j).jobs
+  within_by : (t : State) (c : Candidate) (j : Job) (b : Bool) → (is_active (routed_from_queue t c.sbs c.jobq j).phase && test (routed_from_queue t c.sbs c.jobq j).how) ≡ b → IsNext t c j → IsWithinSince s o test aside limit t → NoneOrWithin s test aside limit (launched_in t c j).jobs
   within_by t c j true e n h =
-      let l = launched t c.sbs c.jobq j in
+      let l = routed_from_queue t c.sbs c.jobq j in
       let more = one_more (λ (k : Job). is_active k.phase && test k.how) c.serial (as_launched l) t.jobs h.numbered.serials.distinct in
       let below = admits t c j h.objects n (and_parts (is_active l.phase) (test l.how) e).1 in
       inr (within_one (count_active test t.jobs) (count_active test (launched_in t c j).jobs) limit below more)
   within_by t c j false e n h =
-      let l = launched t c.sbs c.jobq j in
+      let l = routed_from_queue t c.sbs c.jobq j in
       let more = no_more (λ (k : Job). is_active k.phase && test k.how) c.serial (as_launched l) (λ k. e) t.jobs in
       elim (h.within) as (λ _. NoneOrWithin s test aside limit (launched_in t c j).jobs) [
         | inl none ↦ inl (none_new s test aside c.serial l t.jobs e none)
         | inr w ↦ inr (within_still (count_active test t.jobs) (count_active test (launched_in t c j).jobs) limit more w)
       ]
 
-  within_launched : (t : State) (c : Candidate) (f : Option Job) → find (λ j. j.serial == c.serial) t.jobs ≡ f → next t ≡ Some c → IsWithinSince s o test aside limit t → NoneOrWithin s test aside limit (launch_job t c f).jobs
+  within_launched : (t : State) (c : Candidate) (f : Option Job) → find (λ j. j.serial == c.serial) t.jobs ≡ f → next t ≡ Some c → IsWithinSince s o test aside limit t → NoneOrWithin s test aside limit (with_routed t c f).jobs
   within_launched t c None f e h = h.within
   within_launched t c (Some j) f e h =
-      let l = launched t c.sbs c.jobq j in
+      let l = routed_from_queue t c.sbs c.jobq j in
       within_by t c j (is_active l.phase && test l.how) refl (is_next t c j e h.numbered f) h
 
   launches_within : IsKept next (λ c t. launch t c) (IsWithinSince s o test aside limit)
@@ -183,12 +183,12 @@ IsAutoStart j = (j.kind ≡ Asj) × ((sbs : QName) × ((seq : ℕ) × (j.how ≡
 abbrev StartsAutos : State → State → Type 0
 StartsAutos s t = (j : Job) → IsIn j t.jobs → j.phase ≡ Starting → IsStarting s j.serial ⊎ IsAutoStart j
 
-auto_starts : (t : State) (q : QName) (e : AutoEntry) (d : Jobd) → (auto_launched t q (auto_job t e d)).phase ≡ Starting → IsAutoStart (auto_launched t q (auto_job t e d))
+auto_starts : (t : State) (q : QName) (e : AutoEntry) (d : Jobd) → (routed_auto t q (auto_job t e d)).phase ≡ Starting → IsAutoStart (routed_auto t q (auto_job t e d))
 auto_starts t q e d p = let r = by_route t q (as_auto q) (auto_job t e d) p in (refl, (q, (r.entry.seq, r.is_how)))
 
 autos_start : (s t : State) (q : QName) (e : AutoEntry) (d : Jobd) → StartsAutos s t → StartsAutos s (auto_made t q e d)
 autos_start s t q e d h k i p =
-    elim (of_last t.jobs (auto_launched t q (auto_job t e d)) k i) as (λ _. IsStarting s k.serial ⊎ IsAutoStart k) [
+    elim (of_last t.jobs (routed_auto t q (auto_job t e d)) k i) as (λ _. IsStarting s k.serial ⊎ IsAutoStart k) [
       | inl m ↦ h k m p
       | inr same ↦ inr (subst IsAutoStart (sym same) (auto_starts t q e d (ap (λ (j : Job). j.phase) (sym same) ∙ p)))
     ]
@@ -254,7 +254,7 @@ module _ (s : State) (test : How → Bool) (limit : Limit) (jobs : List Job) (j 
 
 auto_within : (s t : State) (q : QName) (e : AutoEntry) (d : Jobd) → RoutesWithin s t → RoutesWithin s (auto_made t q e d)
 auto_within s t q e d h sbs seq c n r k f =
-    let j = auto_launched t q (auto_job t e d) in
+    let j = routed_auto t q (auto_job t e d) in
     last_within s (is_by_route sbs seq) n.maxact t.jobs j (is_active j.phase && is_by_route sbs seq j.how) refl
     (λ its. below_route t q (as_auto q) (auto_job t e d) sbs seq c n (λ x y z. refl) r k f its)
     (h sbs seq c n r k f)

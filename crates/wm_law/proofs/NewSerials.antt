@@ -5,9 +5,9 @@ use Rattle.wm_law.specs.declared.call.Call.{Call}
 use Rattle.wm_law.specs.declared.choice.Candidate.{Candidate}
 use Rattle.wm_law.specs.declared.job.Job.{Job}
 use Rattle.wm_law.specs.declared.state.State.{State}
-use Rattle.wm_law.specs.Autos.{auto_job, auto_launched}
+use Rattle.wm_law.specs.Autos.{auto_job, routed_auto}
 use Rattle.wm_law.specs.Jobs.{changed_at}
-use Rattle.wm_law.specs.Launch.{as_launched, launch_job, launched}
+use Rattle.wm_law.specs.Launch.{as_launched, with_routed, routed_from_queue}
 use Rattle.wm_law.specs.Laws.{IsIn}
 use Rattle.wm_law.specs.Machine.{step}
 use Rattle.wm_law.specs.Order.{GivesNewSerials}
@@ -46,17 +46,17 @@ module _ (s : State) where
       let own : IsOldOrNew k.serial = inr (omega arith) in
       elim (of_last t.jobs k j i) as (λ _. IsOldOrNew j.serial) [ inl m ↦ h.new j m | inr at ↦ subst (λ (x : Job). IsOldOrNew x.serial) (sym at) own ]
 
-  launched_new : (t : State) (c : Candidate) (o : Option Job) → GivesNewSerials s t → GivesNewSerials s (launch_job t c o)
+  launched_new : (t : State) (c : Candidate) (o : Option Job) → GivesNewSerials s t → GivesNewSerials s (with_routed t c o)
   launched_new t c None h = h
   launched_new t c (Some j) h =
-      let l = launched t c.sbs c.jobq j in
+      let l = routed_from_queue t c.sbs c.jobq j in
       same t (map (changed_at c.serial (as_launched l)) t.jobs) (keys_kept (λ (k : Job). k.serial) c.serial (as_launched l) (λ k. refl) t.jobs) h
 
   calls : (t : State) → GivesNewSerials s t → HoldsOfStates (GivesNewSerials s) t
   calls t h = (let least = h.next in record {
     stays = h;
     starts = λ q e. record { new = h.new; next = h.next };
-    autos = λ q u e d m k. (let most = k.next in record { new = last_new u (auto_launched u q (auto_job u e d)) refl k; next = omega arith });
+    autos = λ q u e d m k. (let most = k.next in record { new = last_new u (routed_auto u q (auto_job u e d)) refl k; next = omega arith });
     enters = λ user c d due has. record { new = last_new t (submitted_job t user c d due) refl h; next = omega arith };
     alters = λ change place a. record { new = same_new t (map change t.jobs) (serials_stay t change place a) h; next = h.next };
     holds = λ held a. record { new = h.new; next = h.next };

@@ -20,7 +20,7 @@ use Rattle.wm_law.specs.declared.state.State.{State}
 use Rattle.wm_law.specs.Choice.{Turn, entry_for, is_sbs_active, maxpty_of, next}
 use Rattle.wm_law.specs.Counts.{count_from_priority, count_from_queue, count_in_sbs, is_from_priority, is_from_queue, is_in_sbs}
 use Rattle.wm_law.specs.Kept.{IsNumbered}
-use Rattle.wm_law.specs.Launch.{from_queue, launched, routed_in, starts_unless, routed_through, route, route_fault}
+use Rattle.wm_law.specs.Launch.{from_queue, routed_from_queue, routed_in, starts_unless, routed_through, route, route_fault}
 use Rattle.wm_law.specs.Laws.{IsFirst, MayStart}
 use Rattle.wm_law.proofs.Firsts.{next_is_first}
 use Rattle.wm_law.proofs.Forward.{only_one}
@@ -60,7 +60,7 @@ came_as : (test : How → Bool) (s : State) (sbs : QName) (how : ℕ → How) (j
 came_as test s sbs how j n h = came_through test s sbs how j (option_and_then (λ d. route d j.rtgdta) (object_named sbs s.objects.sbsds)) n h
 
 -- so that of a job of a queue is one from the queue
-came_from : (test : How → Bool) (s : State) (sbs jobq : QName) (j : Job) → test NotYet ≡ false → test (launched s sbs jobq j).how ≡ true → (n : ℕ) × ((launched s sbs jobq j).how ≡ FromQueue sbs jobq j.pty n)
+came_from : (test : How → Bool) (s : State) (sbs jobq : QName) (j : Job) → test NotYet ≡ false → test (routed_from_queue s sbs jobq j).how ≡ true → (n : ℕ) × ((routed_from_queue s sbs jobq j).how ≡ FromQueue sbs jobq j.pty n)
 came_from test s sbs jobq j n h = came_as test s sbs (from_queue sbs jobq j) j n h
 
 -- the counts are below their limits
@@ -88,7 +88,7 @@ same_entry s j t queue d e m its same k =
     Some-injective t.entry e (sym (is_turn s j t m.turn).entry ∙ ap (λ (q : QName). entry_for q t.sbsd) (sym (own_queue s j t m) ∙ its) ∙ ap (entry_for queue) same ∙ k)
 
 -- where a launch adds to a subsystem's count, the count is below MAXJOBS
-pub below_maxjobs : (s : State) (c : Candidate) (j : Job) (sbs : QName) (d : Sbsd) → IsNext s c j → object_named sbs s.objects.sbsds ≡ Some d → is_in_sbs sbs (launched s c.sbs c.jobq j).how ≡ true → is_below (count_in_sbs sbs s.jobs) d.maxjobs ≡ true
+pub below_maxjobs : (s : State) (c : Candidate) (j : Job) (sbs : QName) (d : Sbsd) → IsNext s c j → object_named sbs s.objects.sbsds ≡ Some d → is_in_sbs sbs (routed_from_queue s c.sbs c.jobq j).how ≡ true → is_below (count_in_sbs sbs s.jobs) d.maxjobs ≡ true
 below_maxjobs s c j sbs d n k h =
     let t = n.turn in
     let m = n.first.may in
@@ -99,7 +99,7 @@ below_maxjobs s c j sbs d n k h =
     (subst (λ (x : QName). is_below (count_in_sbs x s.jobs) t.sbsd.maxjobs ≡ true) its (below_limits s j t m).maxjobs)
 
 -- where it adds to an entry's count, the count is below MAXACT
-pub below_maxact : (s : State) (c : Candidate) (j : Job) (sbs queue : QName) (d : Sbsd) (e : QueueEntry) → IsNext s c j → object_named sbs s.objects.sbsds ≡ Some d → entry_for queue d ≡ Some e → is_from_queue sbs queue (launched s c.sbs c.jobq j).how ≡ true → is_below (count_from_queue sbs queue s.jobs) e.maxact ≡ true
+pub below_maxact : (s : State) (c : Candidate) (j : Job) (sbs queue : QName) (d : Sbsd) (e : QueueEntry) → IsNext s c j → object_named sbs s.objects.sbsds ≡ Some d → entry_for queue d ≡ Some e → is_from_queue sbs queue (routed_from_queue s c.sbs c.jobq j).how ≡ true → is_below (count_from_queue sbs queue s.jobs) e.maxact ≡ true
 below_maxact s c j sbs queue d e n k f h =
     let t = n.turn in
     let m = n.first.may in
@@ -113,7 +113,7 @@ below_maxact s c j sbs queue d e n k f h =
     (subst (λ (x : QName). is_below (count_from_queue x t.entry.jobq s.jobs) t.entry.maxact ≡ true) its (below_limits s j t m).maxact))
 
 -- where it adds to an entry's count with a priority, the count is below MAXPTY of the priority
-pub below_maxpty : (s : State) (c : Candidate) (j : Job) (sbs queue : QName) (pty : ℕ) (d : Sbsd) (e : QueueEntry) → IsNext s c j → object_named sbs s.objects.sbsds ≡ Some d → entry_for queue d ≡ Some e → is_from_priority sbs queue pty (launched s c.sbs c.jobq j).how ≡ true → is_below (count_from_priority sbs queue pty s.jobs) (maxpty_of e pty) ≡ true
+pub below_maxpty : (s : State) (c : Candidate) (j : Job) (sbs queue : QName) (pty : ℕ) (d : Sbsd) (e : QueueEntry) → IsNext s c j → object_named sbs s.objects.sbsds ≡ Some d → entry_for queue d ≡ Some e → is_from_priority sbs queue pty (routed_from_queue s c.sbs c.jobq j).how ≡ true → is_below (count_from_priority sbs queue pty s.jobs) (maxpty_of e pty) ≡ true
 below_maxpty s c j sbs queue pty d e n k f h =
     let t = n.turn in
     let m = n.first.may in

@@ -18,13 +18,13 @@ use Rattle.wm_law.specs.declared.state.Evoke.{Evoke}
 use Rattle.wm_law.specs.declared.state.Power.{Power}
 use Rattle.wm_law.specs.declared.state.Sbs.{Sbs}
 use Rattle.wm_law.specs.declared.state.State.{State}
-use Rattle.wm_law.specs.Autos.{auto_job, auto_launched, auto_made}
+use Rattle.wm_law.specs.Autos.{auto_job, routed_auto, auto_made}
 use Rattle.wm_law.specs.Choice.{next}
 use Rattle.wm_law.specs.Counts.{is_waiting}
 use Rattle.wm_law.specs.Fit.{IsBetween}
 use Rattle.wm_law.specs.Kept.{IsDistinct, IsBelow, IsGiven, IsNumbered, waiting_places, OpeningIsNumbered, StepKeepsNumbers, NumbersAreGivenOnce}
 use Rattle.wm_law.specs.Jobs.{with_job}
-use Rattle.wm_law.specs.Launch.{as_auto, as_launched, launch, launch_job, launched}
+use Rattle.wm_law.specs.Launch.{as_auto, as_launched, launch, with_routed, routed_from_queue}
 use Rattle.wm_law.specs.Laws.{IsIn}
 use Rattle.wm_law.specs.Submitting.{submitted_job, entered, has_numbers, numbers_end, serials_end}
 use Rattle.wm_law.specs.Reports.{in_phase, with_phase}
@@ -93,9 +93,9 @@ phase_same s serial phase n = job_same s serial (in_phase phase) (record { seria
 launched_same : (s : State) (serial : ℕ) (l : Launched) → is_waiting l.phase ≡ false → SameNumbers s (with_job s serial (as_launched l))
 launched_same s serial l n = job_same s serial (as_launched l) (record { serial = λ j. refl; number = λ j. refl; place = λ j. refl; never = λ j. n })
 
-launch_keeps : (s : State) (c : Candidate) (o : Option Job) → IsNumbered s → IsNumbered (launch_job s c o)
+launch_keeps : (s : State) (c : Candidate) (o : Option Job) → IsNumbered s → IsNumbered (with_routed s c o)
 launch_keeps s c None h = h
-launch_keeps s c (Some j) h = let l = launched s c.sbs c.jobq j in numbered_same s (with_job s c.serial (as_launched l)) (launched_same s c.serial l (not_waiting s c.sbs c.jobq j)) h
+launch_keeps s c (Some j) h = let l = routed_from_queue s c.sbs c.jobq j in numbered_same s (with_job s c.serial (as_launched l)) (launched_same s c.serial l (not_waiting s c.sbs c.jobq j)) h
 
 pub launches_keep : IsKept next (λ c t. launch t c) IsNumbered
 launches_keep = record { by_step = λ s c e h. launch_keeps s c (find (λ j. j.serial == c.serial) s.jobs) h }
@@ -151,7 +151,7 @@ below_last n m (x ∷ xs) less h = (h.0, below_last n m xs less h.1)
 -- an autostart job takes a number and a serial, and no place, and doesn't wait
 auto_keeps : (q : QName) (s : State) (e : AutoEntry) (d : Jobd) → IsMakeable q s → IsNumbered s → IsNumbered (auto_made s q e d)
 auto_keeps q s e d m h =
-    let j = auto_launched s q (auto_job s e d) in
+    let j = routed_auto s q (auto_job s e d) in
     let idle : is_waiting j.phase ≡ false = launch_never_waits s q (as_auto q) (auto_job s e d) in
     let a = m.number in
     let b = m.serial in

@@ -32,12 +32,12 @@ use Rattle.wm_law.specs.declared.state.State.{State}
 use Rattle.wm_base.specs.Iterate.{IsKept}
 use Rattle.wm_base.proofs.Iterate.{iterate-keeps}
 use Rattle.wm_law.specs.declared.state.Sbs.{Sbs}
-use Rattle.wm_law.specs.Autos.{auto_job, auto_launched, auto_made}
+use Rattle.wm_law.specs.Autos.{auto_job, routed_auto, auto_made}
 use Rattle.wm_law.specs.Choice.{has_entry, next}
 use Rattle.wm_law.specs.Counts.{is_in_sbs, is_starting}
 use Rattle.wm_law.specs.Kept.{IsLodged, IsNumbered, IsRouted, HasOrders, OpeningHasOrders, StepKeepsOrders, StartingJobsHaveOrders, HandGivesAnOrder, ReachedRouteIsLeast}
 use Rattle.wm_law.specs.Jobs.{changed_at}
-use Rattle.wm_law.specs.Launch.{as_auto, as_launched, called_args, called_program, entry_numbered, from_queue, is_match, launch, launch_job, launched, routed_in, missing_program, order_by, order_called, order_of, order_through, order_with, program_fault, route_entry}
+use Rattle.wm_law.specs.Launch.{as_auto, as_launched, called_args, called_program, entry_numbered, from_queue, is_match, launch, with_routed, routed_from_queue, routed_in, missing_program, order_by, order_called, order_of, order_through, order_with, program_fault, route_entry}
 use Rattle.wm_law.specs.Laws.{IsIn}
 use Rattle.wm_law.specs.Pending.{kills, orders_left, starting}
 use Rattle.wm_law.specs.Submitting.{submitted_job}
@@ -161,9 +161,9 @@ changed_of Q jobs serial change new h k m e =
 moved : (Q : Job → Type 0) (jobs : List Job) (serial : ℕ) (phase : Phase) → is_starting phase ≡ false → OfStarting Q jobs → OfStarting Q (map (phased_at serial phase) jobs)
 moved Q jobs serial phase n h = changed_of Q jobs serial (in_phase phase) (λ j i t e. (let same = ap is_starting e in absurd (cc))) h
 
-launched_all : (s : State) (c : Candidate) (f : Job) → IsNumbered s → HasOrders s → IsIn f s.jobs → f.serial ≡ c.serial → AllOrdered s (map (changed_at c.serial (as_launched (launched s c.sbs c.jobq f))) s.jobs)
+launched_all : (s : State) (c : Candidate) (f : Job) → IsNumbered s → HasOrders s → IsIn f s.jobs → f.serial ≡ c.serial → AllOrdered s (map (changed_at c.serial (as_launched (routed_from_queue s c.sbs c.jobq f))) s.jobs)
 launched_all s c f n h i same =
-    let l = launched s c.sbs c.jobq f in
+    let l = routed_from_queue s c.sbs c.jobq f in
     changed_of (λ j. IsSome (order_of s j)) s.jobs c.serial (as_launched l)
     (λ j m t starts.
     let one = only_one s.jobs n.serials.distinct f j i m (same ∙ sym (eqb-true j.serial c.serial t)) in
@@ -182,9 +182,9 @@ named_started s c e =
 came_into : (sbs jobq q : QName) (pty seq : ℕ) (how : How) → how ≡ FromQueue sbs jobq pty seq → sbs ≡ q → is_in_sbs q how ≡ true
 came_into sbs jobq q pty seq how e same = ap (is_in_sbs q) e ∙ subst (λ (n : QName). same_qname sbs n ≡ true) same (own_name sbs)
 
-launched_lodged : (s : State) (c : Candidate) (f : Job) → next s ≡ Some c → HasOrders s → AllLodged s.started (map (changed_at c.serial (as_launched (launched s c.sbs c.jobq f))) s.jobs)
+launched_lodged : (s : State) (c : Candidate) (f : Job) → next s ≡ Some c → HasOrders s → AllLodged s.started (map (changed_at c.serial (as_launched (routed_from_queue s c.sbs c.jobq f))) s.jobs)
 launched_lodged s c f e h =
-    let l = launched s c.sbs c.jobq f in
+    let l = routed_from_queue s c.sbs c.jobq f in
     let b = named_started s c e in
     changed_of (IsLodged s.started) s.jobs c.serial (as_launched l)
     (λ j m t starts. (let led = is_led s c.sbs (from_queue c.sbs c.jobq f) f starts in (b.0, b.1, came_into c.sbs c.jobq b.0.sbsd f.pty led.entry.seq l.how led.how b.2)))
@@ -198,7 +198,7 @@ record IsOrdered (s : State) : Type 0 where
 routed : (s : State) → HasOrders s → (jobs : List Job) → AllOrdered s jobs → AllLodged s.started jobs → HasOrders (record s { jobs = jobs })
 routed s h jobs all lodged = record { routed = h.routed; starting = all; lodged = lodged }
 
-launches : (s : State) (c : Candidate) (o : Option Job) → find (λ j. j.serial == c.serial) s.jobs ≡ o → next s ≡ Some c → IsNumbered s → HasOrders s → HasOrders (launch_job s c o)
+launches : (s : State) (c : Candidate) (o : Option Job) → find (λ j. j.serial == c.serial) s.jobs ≡ o → next s ≡ Some c → IsNumbered s → HasOrders s → HasOrders (with_routed s c o)
 launches s c None f e n h = h
 launches s c (Some j) f e n h =
     let k = found_among (λ (j : Job). j.serial == c.serial) s.jobs j f in
@@ -225,12 +225,12 @@ auto_ordered : (q : QName) (t : State) (e : AutoEntry) (d : Jobd) → IsMakeable
 auto_ordered q t e d m h =
     let j = auto_job t e d in
     let l = routed_in t q (as_auto q) j in
-    let u = routed t h (t.jobs ++ auto_launched t q j ∷ [])
-    (last_of (λ k. IsSome (order_of t k)) t.jobs (auto_launched t q j) (λ starts. has_order t q (as_auto q) j l (λ x seq. refl) h.routed (is_led t q (as_auto q) j starts)) h.starting)
-    (last_of (IsLodged t.started) t.jobs (auto_launched t q j)
+    let u = routed t h (t.jobs ++ routed_auto t q j ∷ [])
+    (last_of (λ k. IsSome (order_of t k)) t.jobs (routed_auto t q j) (λ starts. has_order t q (as_auto q) j l (λ x seq. refl) h.routed (is_led t q (as_auto q) j starts)) h.starting)
+    (last_of (IsLodged t.started) t.jobs (routed_auto t q j)
     (λ starts. (m.sbs, m.started, ap (is_in_sbs m.sbs.sbsd) (is_led t q (as_auto q) j starts).how ∙ subst (λ (n : QName). same_qname q n ≡ true) (sym m.named) (own_name q)))
     h.lodged) in
-    alike (record t { jobs = t.jobs ++ auto_launched t q j ∷ [] }) _ refl refl u.lodged u
+    alike (record t { jobs = t.jobs ++ routed_auto t q j ∷ [] }) _ refl refl u.lodged u
 
 -- a wish changes no order
 with_wished : (j : Job) (p : Phase) (w : Wish) (args : List (List ℕ)) (o : Option Program) (c : Option Class) → order_with (record j { phase = p; wish = w }) args o c ≡ order_with j args o c

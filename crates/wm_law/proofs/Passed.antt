@@ -23,16 +23,16 @@ use Rattle.wm_law.specs.declared.job.Why.{Why}
 use Rattle.wm_law.specs.declared.job.Why.TheVariants as why
 use Rattle.wm_law.specs.declared.state.Sbs.{Sbs}
 use Rattle.wm_law.specs.declared.state.State.{State}
-use Rattle.wm_law.specs.Autos.{auto_job, auto_launched, auto_made}
+use Rattle.wm_law.specs.Autos.{auto_job, routed_auto, auto_made}
 use Rattle.wm_law.specs.Choice.{Turn, is_allowed, is_before, is_ready, is_sbs_active, maxpty_of, next, place_cmp, rank_in, turn_of}
 use Rattle.wm_law.specs.Counts.{count_active, count_from_priority, count_from_queue, count_in_sbs, is_active, is_from_priority, is_from_queue, is_waiting}
 use Rattle.wm_law.specs.Kept.{IsNumbered}
 use Rattle.wm_law.specs.Jobs.{changed_at}
-use Rattle.wm_law.specs.Launch.{as_launched, launch_job, launched}
+use Rattle.wm_law.specs.Launch.{as_launched, with_routed, routed_from_queue}
 use Rattle.wm_law.specs.Laws.{IsIn, MayStart}
 use Rattle.wm_law.specs.Settling.{come_due, job_at, sbss_at}
 use Rattle.wm_law.specs.Wishes.{why_cause}
-use Rattle.wm_law.specs.Order.{IsFullFor, PassesNone, counted_for, is_counted_for, is_launch_cause, is_launch_phase, is_past_waiting, is_submitted, stands_before, was_launched}
+use Rattle.wm_law.specs.Order.{IsFullFor, PassesNone, counted_for, is_counted_for, is_routing_cause, is_routed_phase, is_past_waiting, is_submitted, stands_before, was_launched}
 use Rattle.wm_law.specs.Reports.{in_phase, phased_at, with_phase}
 use Rattle.wm_law.specs.Submitting.{entered, submitted_job}
 use Rattle.wm_law.proofs.Alterations.{IsAlteration, altered, each_altered, launch_waits, unlaunched}
@@ -87,14 +87,14 @@ module _ (s t : State) (c : Candidate) (f : Job) (x : IsNext t c f) (h : IsOrder
   one i m e = only_one t.jobs h.numbered.serials.distinct i f m x.first.job (e ∙ x.serial)
 
   -- a job that is active before the launch isn't the one that is launched
-  untouched : (i : Job) (b : Bool) → (i.serial == c.serial) ≡ b → IsIn i t.jobs → is_active i.phase ≡ true → cond b (as_launched (launched t c.sbs c.jobq f) i) i ≡ i
+  untouched : (i : Job) (b : Bool) → (i.serial == c.serial) ≡ b → IsIn i t.jobs → is_active i.phase ≡ true → cond b (as_launched (routed_from_queue t c.sbs c.jobq f) i) i ≡ i
   untouched i true e m a =
       let same = ap (λ (y : Job). is_active y.phase) (one i m (eqb-true i.serial c.serial e)) in
       let idle = not_active f.phase waits in
       absurd (cc)
   untouched i false e m a = refl
 
-  still : (q : Job → Bool) (i : Job) → IsIn i t.jobs → is_active i.phase ≡ true → q i ≡ true → q (changed_at c.serial (as_launched (launched t c.sbs c.jobq f)) i) ≡ true
+  still : (q : Job → Bool) (i : Job) → IsIn i t.jobs → is_active i.phase ≡ true → q i ≡ true → q (changed_at c.serial (as_launched (routed_from_queue t c.sbs c.jobq f)) i) ≡ true
   still q i m a e = subst (λ (y : Job). q y ≡ true) (sym (untouched i (i.serial == c.serial) refl m a)) e
 
   -- what was counted for a job is still counted for it
@@ -103,36 +103,36 @@ module _ (s t : State) (c : Candidate) (f : Job) (x : IsNext t c f) (h : IsOrder
       no_fewer
       (λ (i : Job). is_active i.phase && test i.how && is_counted_for s t j i)
       (λ (i : Job). is_active i.phase && test i.how && is_counted_for s (launched_in t c f) j i)
-      (changed_at c.serial (as_launched (launched t c.sbs c.jobq f)))
+      (changed_at c.serial (as_launched (routed_from_queue t c.sbs c.jobq f)))
       t.jobs
       (λ i m e.
       let all = and_parts (is_active i.phase && test i.how) (is_counted_for s t j i) e in
       still (λ (y : Job). is_active y.phase && test y.how && is_counted_for s (launched_in t c f) j y) i m (and_parts (is_active i.phase) (test i.how) all.0).0 e)
 
   -- a job that is active before the launch is counted for the one that is launched
-  counts : (i : Job) → IsIn i t.jobs → is_active i.phase ≡ true → is_counted_for s (launched_in t c f) (as_launched (launched t c.sbs c.jobq f) f) i ≡ true
+  counts : (i : Job) → IsIn i t.jobs → is_active i.phase ≡ true → is_counted_for s (launched_in t c f) (as_launched (routed_from_queue t c.sbs c.jobq f) f) i ≡ true
   counts i m a =
-      counts_for (i.serial == f.serial) (was_launched s i) (stands_before (launched_in t c f) (as_launched (launched t c.sbs c.jobq f) f) i)
+      counts_for (i.serial == f.serial) (was_launched s i) (stands_before (launched_in t c f) (as_launched (routed_from_queue t c.sbs c.jobq f) f) i)
       (other_serial i f (i.serial == f.serial) refl (λ e. one i m (e ∙ sym x.serial)) a waits)
-      (λ w. ahead_launched t (launched t c.sbs c.jobq f) f i ∙ h.behind i f x.turn m w x.first.job x.first.may)
+      (λ w. ahead_launched t (routed_from_queue t c.sbs c.jobq f) f i ∙ h.behind i f x.turn m w x.first.job x.first.may)
 
-  pub counted_all : (test : How → Bool) → count_active test t.jobs ≤ counted_for s (launched_in t c f) (as_launched (launched t c.sbs c.jobq f) f) test
+  pub counted_all : (test : How → Bool) → count_active test t.jobs ≤ counted_for s (launched_in t c f) (as_launched (routed_from_queue t c.sbs c.jobq f) f) test
   counted_all test =
       no_fewer
       (λ (i : Job). is_active i.phase && test i.how)
-      (λ (i : Job). is_active i.phase && test i.how && is_counted_for s (launched_in t c f) (as_launched (launched t c.sbs c.jobq f) f) i)
-      (changed_at c.serial (as_launched (launched t c.sbs c.jobq f)))
+      (λ (i : Job). is_active i.phase && test i.how && is_counted_for s (launched_in t c f) (as_launched (routed_from_queue t c.sbs c.jobq f) f) i)
+      (changed_at c.serial (as_launched (routed_from_queue t c.sbs c.jobq f)))
       t.jobs
       (λ i m e.
       let both = and_parts (is_active i.phase) (test i.how) e in
       still
-      (λ (y : Job). is_active y.phase && test y.how && is_counted_for s (launched_in t c f) (as_launched (launched t c.sbs c.jobq f) f) y)
+      (λ (y : Job). is_active y.phase && test y.how && is_counted_for s (launched_in t c f) (as_launched (routed_from_queue t c.sbs c.jobq f) f) y)
       i m both.0
-      (all_three (is_active i.phase) (test i.how) (is_counted_for s (launched_in t c f) (as_launched (launched t c.sbs c.jobq f) f) i) both.0 both.1 (counts i m both.0)))
+      (all_three (is_active i.phase) (test i.how) (is_counted_for s (launched_in t c f) (as_launched (routed_from_queue t c.sbs c.jobq f) f) i) both.0 both.1 (counts i m both.0)))
 
-  behind_at : (i k : Job) (u : Turn) (b : Bool) (g : Job) → (i.serial == c.serial) ≡ b → IsIn i t.jobs → g ≡ cond b (as_launched (launched t c.sbs c.jobq f) i) i → was_launched s g ≡ true → IsIn k t.jobs → MayStart t k u → stands_before t k g ≡ false
+  behind_at : (i k : Job) (u : Turn) (b : Bool) (g : Job) → (i.serial == c.serial) ≡ b → IsIn i t.jobs → g ≡ cond b (as_launched (routed_from_queue t c.sbs c.jobq f) i) i → was_launched s g ≡ true → IsIn k t.jobs → MayStart t k u → stands_before t k g ≡ false
   behind_at i k u true g e m same w n r =
-      let l = launched t c.sbs c.jobq f in
+      let l = routed_from_queue t c.sbs c.jobq f in
       let its : i ≡ f = one i m (eqb-true i.serial c.serial e) in
       ap (stands_before t k) same ∙ behind_launched t l k i ∙ ap (stands_before t k) its ∙ none_ahead t k f u x.turn x.first n r
   behind_at i k u false g e m same w n r = ap (stands_before t k) same ∙ h.behind i k u m (ap (was_launched s) (sym same) ∙ w) n r
@@ -145,7 +145,7 @@ module _ (s t : State) (c : Candidate) (f : Job) (x : IsNext t c f) (h : IsOrder
 
   behind_still : (i k : Job) (u : Turn) → IsIn i (launched_in t c f).jobs → was_launched s i ≡ true → IsIn k (launched_in t c f).jobs → MayStart (launched_in t c f) k u → stands_before (launched_in t c f) k i ≡ false
   behind_still i k u m w n r =
-      let o = of_mapped (changed_at c.serial (as_launched (launched t c.sbs c.jobq f))) t.jobs i m in
+      let o = of_mapped (changed_at c.serial (as_launched (routed_from_queue t c.sbs c.jobq f))) t.jobs i m in
       let before = may k u r in
       behind_at o.0 k u (o.0.serial == c.serial) i refl o.1 o.2 w (there k n before.ready) before
 
@@ -173,9 +173,9 @@ module _ (s t : State) (c : Candidate) (f : Job) (x : IsNext t c f) (h : IsOrder
       one_name u.sbs.sbsd turn.sbs.sbsd (and_parts (same_qname u.sbs.sbsd turn.sbs.sbsd) (is_lt (place_cmp (rank_in u k) (rank_in turn f))) stood).0
 
   -- the launched job passed a ready one only where that one's limit was reached
-  full_now : (k : Job) (u : Turn) → IsIn k t.jobs → is_ready t k ≡ true → turn_of t k ≡ Some u → stands_before t k f ≡ true → IsFullFor s (launched_in t c f) (as_launched (launched t c.sbs c.jobq f) f) k u
+  full_now : (k : Job) (u : Turn) → IsIn k t.jobs → is_ready t k ≡ true → turn_of t k ≡ Some u → stands_before t k f ≡ true → IsFullFor s (launched_in t c f) (as_launched (routed_from_queue t c.sbs c.jobq f) f) k u
   full_now k u n r v before =
-      let j = as_launched (launched t c.sbs c.jobq f) f in
+      let j = as_launched (routed_from_queue t c.sbs c.jobq f) f in
       let same = one_sbs t f k x.turn u (is_turn t f x.turn x.first.may.turn) (is_turn t k u v) (same_sbs k u v before) in
       elim (full_by k u same (not_allowed k u (is_allowed t u.sbs u.sbsd u.entry k.pty) refl n r v before)) as (λ _. IsFullFor s (launched_in t c f) j k u) [
         | inl e ↦ inl (full_still (count_from_queue u.sbs.sbsd u.entry.jobq t.jobs) (counted_for s (launched_in t c f) j (is_from_queue u.sbs.sbsd u.entry.jobq)) u.entry.maxact (counted_all (is_from_queue u.sbs.sbsd u.entry.jobq)) e)
@@ -187,9 +187,9 @@ module _ (s t : State) (c : Candidate) (f : Job) (x : IsNext t c f) (h : IsOrder
   full_later j k u (inl e) = inl (full_still (counted_for s t j (is_from_queue u.sbs.sbsd u.entry.jobq)) (counted_for s (launched_in t c f) j (is_from_queue u.sbs.sbsd u.entry.jobq)) u.entry.maxact (counted_more j (is_from_queue u.sbs.sbsd u.entry.jobq)) e)
   full_later j k u (inr e) = inr (full_still (counted_for s t j (is_from_priority u.sbs.sbsd u.entry.jobq k.pty)) (counted_for s (launched_in t c f) j (is_from_priority u.sbs.sbsd u.entry.jobq k.pty)) (maxpty_of u.entry k.pty) (counted_more j (is_from_priority u.sbs.sbsd u.entry.jobq k.pty)) e)
 
-  passed_at : (j k : Job) (u : Turn) (b : Bool) (g : Job) → (j.serial == c.serial) ≡ b → IsIn j t.jobs → g ≡ cond b (as_launched (launched t c.sbs c.jobq f) j) j → was_launched s g ≡ true → IsIn k t.jobs → is_ready t k ≡ true → turn_of t k ≡ Some u → stands_before t k g ≡ true → IsFullFor s (launched_in t c f) g k u
+  passed_at : (j k : Job) (u : Turn) (b : Bool) (g : Job) → (j.serial == c.serial) ≡ b → IsIn j t.jobs → g ≡ cond b (as_launched (routed_from_queue t c.sbs c.jobq f) j) j → was_launched s g ≡ true → IsIn k t.jobs → is_ready t k ≡ true → turn_of t k ≡ Some u → stands_before t k g ≡ true → IsFullFor s (launched_in t c f) g k u
   passed_at j k u true g e m same w n r v before =
-      let l = launched t c.sbs c.jobq f in
+      let l = routed_from_queue t c.sbs c.jobq f in
       let its : j ≡ f = one j m (eqb-true j.serial c.serial e) in
       let stood : stands_before t k f ≡ true = ap (stands_before t k) (sym its) ∙ sym (behind_launched t l k j) ∙ ap (stands_before t k) (sym same) ∙ before in
       let now : as_launched l f ≡ g = ap (as_launched l) (sym its) ∙ sym same in
@@ -200,11 +200,11 @@ module _ (s t : State) (c : Candidate) (f : Job) (x : IsNext t c f) (h : IsOrder
 
   passed_still : PassesNone s (launched_in t c f)
   passed_still j k u m w n r v before =
-      let o = of_mapped (changed_at c.serial (as_launched (launched t c.sbs c.jobq f))) t.jobs j m in
+      let o = of_mapped (changed_at c.serial (as_launched (routed_from_queue t c.sbs c.jobq f))) t.jobs j m in
       passed_at o.0 k u (o.0.serial == c.serial) j refl o.1 o.2 w (there k n r) r v before
 
 -- a launch keeps the order
-pub launched_ordered : (s t : State) (c : Candidate) (o : Option Job) → find (λ j. j.serial == c.serial) t.jobs ≡ o → next t ≡ Some c → IsNumbered (launch_job t c o) → IsOrderedSince s t → IsOrderedSince s (launch_job t c o)
+pub launched_ordered : (s t : State) (c : Candidate) (o : Option Job) → find (λ j. j.serial == c.serial) t.jobs ≡ o → next t ≡ Some c → IsNumbered (with_routed t c o) → IsOrderedSince s t → IsOrderedSince s (with_routed t c o)
 launched_ordered s t c None f e n h = h
 launched_ordered s t c (Some j) f e n h =
     let x = is_next t c j e h.numbered f in
@@ -233,7 +233,7 @@ never false b e = refl
 
 -- a job whose serial was past Waiting wasn't launched
 not_launched : (s : State) (j k : Job) → IsIn j s.jobs → is_waiting j.phase ≡ false → j.serial ≡ k.serial → was_launched s k ≡ false
-not_launched s j k m w e = ap (λ (b : Bool). b && is_submitted k.kind) (never (is_launch_phase k.phase) (is_past_waiting s.jobs k.serial) (subst (λ (n : ℕ). is_past_waiting s.jobs n ≡ true) e (past s j m w)))
+not_launched s j k m w e = ap (λ (b : Bool). b && is_submitted k.kind) (never (is_routed_phase k.phase) (is_past_waiting s.jobs k.serial) (subst (λ (n : ℕ). is_past_waiting s.jobs n ≡ true) e (past s j m w)))
 
 none_by : (s : State) (i : Job) (b : Bool) → is_waiting i.phase ≡ b → IsIn i s.jobs → was_launched s i ≡ false
 none_by s i true e m = ap (λ (b : Bool). b && not (is_past_waiting s.jobs i.serial) && is_submitted i.kind) (launch_waits i.phase e)
@@ -258,9 +258,9 @@ altered_none s change place a =
 -- nor was an autostart job
 auto_none : (s t : State) (q : QName) (e : AutoEntry) (d : Jobd) → LaunchesNone s t → LaunchesNone s (auto_made t q e d)
 auto_none s t q e d h i m =
-    elim (of_last t.jobs (auto_launched t q (auto_job t e d)) i m) as (λ _. was_launched s i ≡ false) [
+    elim (of_last t.jobs (routed_auto t q (auto_job t e d)) i m) as (λ _. was_launched s i ≡ false) [
       | inl n ↦ h i n
-      | inr same ↦ ap (was_launched s) same ∙ and_false (is_launch_phase (auto_launched t q (auto_job t e d)).phase && not (is_past_waiting s.jobs t.next_serial))
+      | inr same ↦ ap (was_launched s) same ∙ and_false (is_routed_phase (routed_auto t q (auto_job t e d)).phase && not (is_past_waiting s.jobs t.next_serial))
     ]
 
 moved_none_at : (s : State) (serial : ℕ) (phase : Phase) (j : Job) (b : Bool) (i k : Job) → IsIn j s.jobs → j.serial ≡ serial → is_waiting j.phase ≡ false → (i.serial == serial) ≡ b → IsIn i s.jobs → k ≡ cond b (in_phase phase i) i → was_launched s k ≡ false
@@ -273,15 +273,15 @@ moved_none s serial j phase n e w k m =
     let o = of_mapped (phased_at serial phase) s.jobs k m in
     moved_none_at s serial phase j (o.0.serial == serial) o.0 k n e w refl o.1 o.2
 
-no_launch_cause : (w : Why) → is_launch_cause (why_cause w) ≡ false
+no_launch_cause : (w : Why) → is_routing_cause (why_cause w) ≡ false
 no_launch_cause why.Endjob = refl
 no_launch_cause why.Endsbs = refl
 no_launch_cause why.Endpj = refl
 no_launch_cause why.Maxuse = refl
 
-wished_phase : (p q : Phase) → IsPhaseAfter p q → (b c : Bool) → (is_launch_phase p && b && c) ≡ false → (is_launch_phase q && b && c) ≡ false
-wished_phase p q (inl e) b c h = ap (λ (x : Phase). is_launch_phase x && b && c) e ∙ h
-wished_phase p q (inr e) b c h = ap (λ (x : Bool). x && b && c) (ap is_launch_phase e.1.1 ∙ no_launch_cause e.1.0)
+wished_phase : (p q : Phase) → IsPhaseAfter p q → (b c : Bool) → (is_routed_phase p && b && c) ≡ false → (is_routed_phase q && b && c) ≡ false
+wished_phase p q (inl e) b c h = ap (λ (x : Phase). is_routed_phase x && b && c) e ∙ h
+wished_phase p q (inr e) b c h = ap (λ (x : Bool). x && b && c) (ap is_routed_phase e.1.1 ∙ no_launch_cause e.1.0)
 
 -- nor does a wish
 wished_none : (s t : State) (change : Job → Job) → IsWishing change → LaunchesNone s t → (k : Job) → IsIn k (map change t.jobs) → was_launched s k ≡ false

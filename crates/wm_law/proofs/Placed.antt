@@ -29,12 +29,12 @@ use Rattle.wm_law.specs.declared.state.Power.{Power}
 use Rattle.wm_law.specs.declared.state.Sbs.{Sbs}
 use Rattle.wm_law.specs.declared.state.SbsPhase.TheVariants.{Active}
 use Rattle.wm_law.specs.declared.state.State.{State}
-use Rattle.wm_law.specs.Autos.{auto_job, auto_launched, auto_made}
+use Rattle.wm_law.specs.Autos.{auto_job, routed_auto, auto_made}
 use Rattle.wm_law.specs.Choice.{next}
 use Rattle.wm_law.specs.Counts.{count_in_sbs, is_active, is_in_sbs, is_waiting}
 use Rattle.wm_law.specs.Kept.{IsNumbered, phase_rank}
 use Rattle.wm_law.specs.Jobs.{changed_at}
-use Rattle.wm_law.specs.Launch.{as_auto, as_launched, from_queue, is_match, launch, launch_job, launched, routed_in, starts_unless, routed_through, route, route_fault}
+use Rattle.wm_law.specs.Launch.{as_auto, as_launched, from_queue, is_match, launch, with_routed, routed_from_queue, routed_in, starts_unless, routed_through, route, route_fault}
 use Rattle.wm_law.specs.Laws.{IsIn}
 use Rattle.wm_law.specs.Machine.{apply, step, with_clock}
 use Rattle.wm_law.specs.Reports.{in_phase, phased_at, with_phase}
@@ -69,7 +69,7 @@ pub active_as : (s : State) (sbs : QName) (how : ℕ → How) (j : Job) → is_a
 active_as s sbs how j h = active_through s sbs how j (option_and_then (λ d. route d j.rtgdta) (object_named sbs s.objects.sbsds)) h
 
 -- the launched job came by the entries of its turn
-placed_now : (s : State) (c : Candidate) (j : Job) → IsNext s c j → is_active (launched s c.sbs c.jobq j).phase ≡ true → CameFromQueue s.started s.objects j.jobq j.pty (launched s c.sbs c.jobq j).how
+placed_now : (s : State) (c : Candidate) (j : Job) → IsNext s c j → is_active (routed_from_queue s c.sbs c.jobq j).phase ≡ true → CameFromQueue s.started s.objects j.jobq j.pty (routed_from_queue s c.sbs c.jobq j).how
 placed_now s c j n a =
     let t = n.turn in
     let m = n.first.may in
@@ -101,9 +101,9 @@ IsPlacedIn s j = HasCome s.started s.objects j.kind j.jobq j.pty j.how
 submitted : (bs : List Sbs) (o : Objects) (kind : JobKind) (jobq : Option QName) (pty : ℕ) (how : How) → kind ≡ Bch → CameFromQueue bs o jobq pty how → HasCome bs o kind jobq pty how
 submitted bs o kind jobq pty how e p = subst (λ (k : JobKind). HasCome bs o k jobq pty how) (sym e) p
 
-placed_at : (s : State) (c : Candidate) (f : Job) (i : Job) (b : Bool) (k : Job) → (i.serial == c.serial) ≡ b → IsIn i s.jobs → IsNumbered s → HasQueues s → IsNext s c f → ActiveHaveCome s → k ≡ cond b (as_launched (launched s c.sbs c.jobq f) i) i → is_active k.phase ≡ true → IsPlacedIn s k
+placed_at : (s : State) (c : Candidate) (f : Job) (i : Job) (b : Bool) (k : Job) → (i.serial == c.serial) ≡ b → IsIn i s.jobs → IsNumbered s → HasQueues s → IsNext s c f → ActiveHaveCome s → k ≡ cond b (as_launched (routed_from_queue s c.sbs c.jobq f) i) i → is_active k.phase ≡ true → IsPlacedIn s k
 placed_at s c f i true k e m n q x h same a =
-    let l = launched s c.sbs c.jobq f in
+    let l = routed_from_queue s c.sbs c.jobq f in
     let its : i ≡ f = only_one s.jobs n.serials.distinct i f m x.first.job (eqb-true i.serial c.serial e ∙ x.serial) in
     let active : is_active l.phase ≡ true = ap (λ (y : Job). is_active y.phase) (sym same) ∙ a in
     let bch : f.kind ≡ Bch = (q f x.first.job).waits (ready_waits s f x.first.may.ready) in
@@ -112,10 +112,10 @@ placed_at s c f i true k e m n q x h same a =
 placed_at s c f i false k e m n q x h same a =
     subst (IsPlacedIn s) (sym same) (h i m (ap (λ (y : Job). is_active y.phase) (sym same) ∙ a))
 
-launched_placed : (s : State) (c : Candidate) (o : Option Job) → find (λ j. j.serial == c.serial) s.jobs ≡ o → next s ≡ Some c → IsNumbered s → HasQueues s → ActiveHaveCome s → ActiveHaveCome (launch_job s c o)
+launched_placed : (s : State) (c : Candidate) (o : Option Job) → find (λ j. j.serial == c.serial) s.jobs ≡ o → next s ≡ Some c → IsNumbered s → HasQueues s → ActiveHaveCome s → ActiveHaveCome (with_routed s c o)
 launched_placed s c None f e n q h = h
 launched_placed s c (Some j) f e n q h = λ k m a. (
-    let o = of_mapped (changed_at c.serial (as_launched (launched s c.sbs c.jobq j))) s.jobs k m in
+    let o = of_mapped (changed_at c.serial (as_launched (routed_from_queue s c.sbs c.jobq j))) s.jobs k m in
     placed_at s c j o.0 (o.0.serial == c.serial) k refl o.1 n q (is_next s c j e n f) h o.2 a)
 
 -- numbered, the jobs have their queues, and active jobs have their places
@@ -177,7 +177,7 @@ altered_placed s change place a h =
 auto_placed : (q : QName) (t : State) (e : AutoEntry) (d : Jobd) → IsMakeable q t → ActiveHaveCome t → ActiveHaveCome (auto_made t q e d)
 auto_placed q t e d m h =
     let j = auto_job t e d in
-    last_placed t (auto_launched t q j)
+    last_placed t (routed_auto t q j)
     (λ a.
     let r = by_route t q (as_auto q) j (active_as t q (as_auto q) j a) in
     record {

@@ -20,11 +20,11 @@ use Rattle.wm_law.specs.declared.job.Job.{Job}
 use Rattle.wm_law.specs.declared.job.JobKind.TheVariants.{Bch, Asj}
 use Rattle.wm_law.specs.declared.job.Phase.{Phase}
 use Rattle.wm_law.specs.declared.state.State.{State}
-use Rattle.wm_law.specs.Autos.{auto_job, auto_launched}
+use Rattle.wm_law.specs.Autos.{auto_job, routed_auto}
 use Rattle.wm_law.specs.Choice.{next}
 use Rattle.wm_law.specs.Counts.{is_waiting}
 use Rattle.wm_law.specs.Jobs.{changed_at}
-use Rattle.wm_law.specs.Launch.{as_auto, as_launched, launch, launch_job, launched}
+use Rattle.wm_law.specs.Launch.{as_auto, as_launched, launch, with_routed, routed_from_queue}
 use Rattle.wm_law.specs.Laws.{IsIn}
 use Rattle.wm_law.specs.Machine.{step}
 use Rattle.wm_law.specs.Opening.{opening}
@@ -113,7 +113,7 @@ all_altered : (s : State) (change : Job → Job) (place : ℕ) → IsAlteration 
 all_altered s change place a h = each_altered (IsQueued s.objects) s change place a h (λ j k i b. altered_queued s j k b (h j i))
 
 -- an autostart job doesn't wait, and has no queue
-auto_queued : (q : QName) (s : State) (e : AutoEntry) (d : Jobd) → IsQueued s.objects (auto_launched s q (auto_job s e d))
+auto_queued : (q : QName) (s : State) (e : AutoEntry) (d : Jobd) → IsQueued s.objects (routed_auto s q (auto_job s e d))
 auto_queued q s e d = record {
   waits = λ w. (let no = launch_never_waits s q (as_auto q) (auto_job s e d) in absurd (cc));
   has_queue = λ b. absurd (cc);
@@ -131,15 +131,15 @@ moved_queued s serial phase n h = all_changed s.objects s.jobs serial (in_phase 
 queued_still : (a b : Objects) (j : Job) → ((q : QName) → IsSome (object_named q a.jobqs) → IsSome (object_named q b.jobqs)) → IsQueued a j → IsQueued b j
 queued_still a b j still h = record { waits = h.waits; has_queue = h.has_queue; is_object = λ q e. still q (h.is_object q e); auto = h.auto }
 
-launched_queued : (s : State) (c : Candidate) (o : Option Job) → HasQueues s → HasQueues (launch_job s c o)
+launched_queued : (s : State) (c : Candidate) (o : Option Job) → HasQueues s → HasQueues (with_routed s c o)
 launched_queued s c None h = h
-launched_queued s c (Some j) h = all_changed s.objects s.jobs c.serial (as_launched (launched s c.sbs c.jobq j)) (record { kind = λ k. refl; jobq = λ k. refl; values = λ k v. record { jobq = v.jobq; pty = v.pty; place = v.place; held = v.held }; never = λ k. not_waiting s c.sbs c.jobq j }) h
+launched_queued s c (Some j) h = all_changed s.objects s.jobs c.serial (as_launched (routed_from_queue s c.sbs c.jobq j)) (record { kind = λ k. refl; jobq = λ k. refl; values = λ k v. record { jobq = v.jobq; pty = v.pty; place = v.place; held = v.held }; never = λ k. not_waiting s c.sbs c.jobq j }) h
 
 pub queued_calls : (s : State) → HasQueues s → HoldsOfStates HasQueues s
 queued_calls s h = record {
   stays = h;
   starts = λ q e. h;
-  autos = λ q t e d m k. last_queued t.objects t.jobs (auto_launched t q (auto_job t e d)) (auto_queued q t e d) k;
+  autos = λ q t e d m k. last_queued t.objects t.jobs (routed_auto t q (auto_job t e d)) (auto_queued q t e d) k;
   enters = λ user c d due a. last_queued s.objects s.jobs (submitted_job s user c d due) (submitted_queued s user c d due a) h;
   alters = λ change place a. all_altered s change place a h;
   holds = λ held a. h;
@@ -167,7 +167,7 @@ opening_has_queues offset = subst HasQueues (sym (opening_is offset)) (none_queu
 abbrev HoldsQueues : State → Type 0
 HoldsQueues s = AreQueues s.objects s.held
 
-launched_held : (s : State) (c : Candidate) (o : Option Job) → HoldsQueues s → HoldsQueues (launch_job s c o)
+launched_held : (s : State) (c : Candidate) (o : Option Job) → HoldsQueues s → HoldsQueues (with_routed s c o)
 launched_held s c None h = h
 launched_held s c (Some j) h = h
 

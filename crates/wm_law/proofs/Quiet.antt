@@ -16,7 +16,7 @@ use Rattle.wm_law.specs.declared.job.Wish.TheVariants as wish
 use Rattle.wm_law.specs.declared.state.Sbs.{Sbs}
 use Rattle.wm_law.specs.declared.state.SbsPhase.TheVariants.{Active}
 use Rattle.wm_law.specs.declared.state.State.{State}
-use Rattle.wm_law.specs.Autos.{auto_job, auto_launched, auto_made, autos_of}
+use Rattle.wm_law.specs.Autos.{auto_job, routed_auto, auto_made, autos_of}
 use Rattle.wm_law.specs.Built.{is_ending_call}
 use Rattle.wm_law.specs.Counts.{is_active, is_in_sbs, is_starting}
 use Rattle.wm_law.specs.Jobs.{active_at, with_active}
@@ -129,7 +129,7 @@ begun_due s q h = record {
 }
 
 -- an autostart job's subsystem doesn't end now
-auto_untold : (q : QName) (t : State) (e : AutoEntry) (d : Jobd) → IsMakeable q t → HasDistinctNames t → is_active (auto_launched t q (auto_job t e d)).phase ≡ true → is_in_any now t.started (auto_launched t q (auto_job t e d)).how ≡ true → ⊥
+auto_untold : (q : QName) (t : State) (e : AutoEntry) (d : Jobd) → IsMakeable q t → HasDistinctNames t → is_active (routed_auto t q (auto_job t e d)).phase ≡ true → is_in_any now t.started (routed_auto t q (auto_job t e d)).how ≡ true → ⊥
 auto_untold q t e d m names a h =
     let j = auto_job t e d in
     let l = routed_in t q (as_auto q) j in
@@ -151,7 +151,7 @@ auto_quiet q t e d m h = record {
   names = h.names;
   none = record {
     subsystems = h.none.subsystems;
-    jobs = last_up t.clock t.started t.jobs (auto_launched t q (auto_job t e d))
+    jobs = last_up t.clock t.started t.jobs (routed_auto t q (auto_job t e d))
         (λ a. record { looked = refl; starting = λ p. refl; told = λ x. absurd (auto_untold q t e d m h.names a x) })
         h.none.jobs;
   };

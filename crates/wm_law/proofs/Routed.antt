@@ -21,19 +21,19 @@ use Rattle.wm_law.specs.declared.launch.Launched.{Launched}
 use Rattle.wm_law.specs.declared.state.State.{State}
 use Rattle.wm_law.specs.Counts.{count_by_route, is_by_route}
 use Rattle.wm_law.specs.Kept.{IsRouted}
-use Rattle.wm_law.specs.Launch.{called_program, entry_numbered, from_queue, is_match, launched, routed_in, starts_unless, routed_through, missing_program, program_fault, route, route_fault}
+use Rattle.wm_law.specs.Launch.{called_program, entry_numbered, from_queue, is_match, routed_from_queue, routed_in, starts_unless, routed_through, missing_program, program_fault, route, route_fault}
 use Rattle.wm_law.proofs.Members.{found_among}
 use Rattle.wm_law.proofs.Nexts.{IsNext, own_queue}
 use Rattle.wm_law.proofs.Routes.{numbered_once}
 use Rattle.wm_law.proofs.Turns.{is_turn}
 
 -- the launch of the next job is by its route in its subsystem
-pub launched_routed : (s : State) (c : Candidate) (j : Job) (n : IsNext s c j) → launched s c.sbs c.jobq j ≡ routed_through s n.turn.sbs.sbsd (from_queue n.turn.sbs.sbsd n.turn.queue j) j (route n.turn.sbsd j.rtgdta)
+pub launched_routed : (s : State) (c : Candidate) (j : Job) (n : IsNext s c j) → routed_from_queue s c.sbs c.jobq j ≡ routed_through s n.turn.sbs.sbsd (from_queue n.turn.sbs.sbsd n.turn.queue j) j (route n.turn.sbsd j.rtgdta)
 launched_routed s c j n =
     let t = n.turn in
     let m = n.first.may in
-    ap (λ (q : QName). launched s q c.jobq j) n.sbs
-    ∙ ap (λ (q : QName). launched s t.sbs.sbsd q j) (n.jobq ∙ own_queue s j t m)
+    ap (λ (q : QName). routed_from_queue s q c.jobq j) n.sbs
+    ∙ ap (λ (q : QName). routed_from_queue s t.sbs.sbsd q j) (n.jobq ∙ own_queue s j t m)
     ∙ ap (λ (o : Option Sbsd). routed_through s t.sbs.sbsd (from_queue t.sbs.sbsd t.queue j) j (option_and_then (λ d. route d j.rtgdta) o)) (is_turn s j t m.turn).sbsd
 
 started_by : (how : ℕ → How) (seq : ℕ) (o : Option EndCause) → (starts_unless how seq o).phase ≡ Starting → (starts_unless how seq o).how ≡ how seq

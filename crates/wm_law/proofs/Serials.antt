@@ -7,10 +7,10 @@ use Rattle.wm_law.specs.declared.call.Call.{Call}
 use Rattle.wm_law.specs.declared.choice.Candidate.{Candidate}
 use Rattle.wm_law.specs.declared.job.Job.{Job}
 use Rattle.wm_law.specs.declared.state.State.{State}
-use Rattle.wm_law.specs.Autos.{auto_job, auto_launched}
+use Rattle.wm_law.specs.Autos.{auto_job, routed_auto}
 use Rattle.wm_law.specs.Choice.{next}
 use Rattle.wm_law.specs.Kept.{IsBelow, IsNumbered}
-use Rattle.wm_law.specs.Launch.{as_launched, launch, launch_job, launched}
+use Rattle.wm_law.specs.Launch.{as_launched, launch, with_routed, routed_from_queue}
 use Rattle.wm_law.specs.Laws.{IsIn}
 use Rattle.wm_law.specs.Machine.{apply, step, with_clock}
 use Rattle.wm_law.specs.Reports.{in_phase}
@@ -39,9 +39,9 @@ last_increasing (k ∷ jobs) j b h = (
   last_increasing jobs j b.1 h.1,
 )
 
-launched_increasing : (s : State) (c : Candidate) (o : Option Job) → HasJobsInOrder s → HasJobsInOrder (launch_job s c o)
+launched_increasing : (s : State) (c : Candidate) (o : Option Job) → HasJobsInOrder s → HasJobsInOrder (with_routed s c o)
 launched_increasing s c None h = h
-launched_increasing s c (Some j) h = subst IsIncreasing (sym (keys_kept (λ (k : Job). k.serial) c.serial (as_launched (launched s c.sbs c.jobq j)) (λ k. refl) s.jobs)) h
+launched_increasing s c (Some j) h = subst IsIncreasing (sym (keys_kept (λ (k : Job). k.serial) c.serial (as_launched (routed_from_queue s c.sbs c.jobq j)) (λ k. refl) s.jobs)) h
 
 launches_increase : IsKept next (λ c t. launch t c) HasJobsInOrder
 launches_increase = record { by_step = λ t c e h. launched_increasing t c (find (λ (j : Job). j.serial == c.serial) t.jobs) h }
@@ -58,7 +58,7 @@ calls_increase s l =
     record {
       stays = l;
       starts = λ q e. record { numbered = n.starts q e; increasing = h };
-      autos = λ q t e d m k. record { numbered = n.autos q t e d m k.numbered; increasing = last_increasing t.jobs (auto_launched t q (auto_job t e d)) k.numbered.serials.below k.increasing };
+      autos = λ q t e d m k. record { numbered = n.autos q t e d m k.numbered; increasing = last_increasing t.jobs (routed_auto t q (auto_job t e d)) k.numbered.serials.below k.increasing };
       enters = λ user c d due has. record { numbered = n.enters user c d due has; increasing = last_increasing s.jobs (submitted_job s user c d due) l.numbered.serials.below h };
       alters = λ change place a. record { numbered = n.alters change place a; increasing = subst IsIncreasing (sym (serials_stay s change place a)) h };
       holds = λ held a. record { numbered = n.holds held a; increasing = h };

@@ -15,7 +15,7 @@ use Rattle.wm_base.specs.declared.job.How.{How}
 use Rattle.wm_law.specs.Choice.{first, next}
 use Rattle.wm_desc.specs.Table.{object_named}
 use Rattle.wm_law.specs.Counts.{is_waiting}
-use Rattle.wm_law.specs.Launch.{route, route_fault, from_queue, starts_unless, routed_through, routed_in, launched, as_launched, launch, launch_job}
+use Rattle.wm_law.specs.Launch.{route, route_fault, from_queue, starts_unless, routed_through, routed_in, routed_from_queue, as_launched, launch, with_routed}
 use Rattle.wm_law.specs.Jobs.{changed_at}
 use Rattle.wm_base.proofs.Iterate.{iterate-none, iterate-step, next-iterate}
 use Rattle.wm_law.specs.Laws.{IsIn, SettledHasNoNext, SettledLeavesNone}
@@ -34,7 +34,7 @@ through s sbs how j (Some e) = by_cause how e.seq (route_fault s sbs e j)
 pub launch_never_waits : (s : State) (sbs : QName) (how : ℕ → How) (j : Job) → is_waiting (routed_in s sbs how j).phase ≡ false
 launch_never_waits s sbs how j = through s sbs how j (option_and_then (λ d. route d j.rtgdta) (object_named sbs s.objects.sbsds))
 
-pub not_waiting : (s : State) (sbs jobq : QName) (j : Job) → is_waiting (launched s sbs jobq j).phase ≡ false
+pub not_waiting : (s : State) (sbs jobq : QName) (j : Job) → is_waiting (routed_from_queue s sbs jobq j).phase ≡ false
 not_waiting s sbs jobq j = launch_never_waits s sbs (from_queue sbs jobq j) j
 
 -- one for a job that waits
@@ -83,8 +83,8 @@ found serial (k ∷ jobs) j (inr m) e = picked (k.serial == serial) k (find (λ 
 lessens : (s : State) (c : Candidate) (j : Job) → IsIn j s.jobs → is_waiting j.phase ≡ true → c.serial ≡ j.serial → waiting (launch s c) < waiting s
 lessens s c j i w same =
     let f = found c.serial s.jobs j i same in
-    let l = launched s c.sbs c.jobq f.0 in
-    subst (λ (o : Option Job). waiting (launch_job s c o) < waiting s) (sym f.1) (less c.serial (as_launched l) (λ k. not_waiting s c.sbs c.jobq f.0) s.jobs j i w same)
+    let l = routed_from_queue s c.sbs c.jobq f.0 in
+    subst (λ (o : Option Job). waiting (with_routed s c o) < waiting s) (sym f.1) (less c.serial (as_launched l) (λ k. not_waiting s c.sbs c.jobq f.0) s.jobs j i w same)
 
 pub launches_lessen : IsLessened next (λ c t. launch t c) waiting
 launches_lessen = record { by_step = λ s c e. (let j = next_waits s c e in lessens s c j.0 j.1 j.2 j.3) }

@@ -22,7 +22,7 @@ use Rattle.wm_law.specs.declared.job.Job.{Job}
 use Rattle.wm_law.specs.declared.state.Sbs.{Sbs}
 use Rattle.wm_law.specs.declared.state.SbsPhase.TheVariants.{Active}
 use Rattle.wm_law.specs.declared.state.State.{State}
-use Rattle.wm_law.specs.Launch.{launch_job}
+use Rattle.wm_law.specs.Launch.{with_routed}
 use Rattle.wm_law.specs.Laws.{IsIn}
 use Rattle.wm_law.specs.Machine.{step}
 use Rattle.wm_law.specs.Making.{jobd_of}
@@ -39,7 +39,7 @@ use Rattle.wm_law.proofs.Orders.{only_sbsd}
 abbrev HasSoundObjects : State → Type 0
 HasSoundObjects s = AreSound s.objects
 
-launched_sound : (s : State) (c : Candidate) (o : Option Job) → HasSoundObjects s → HasSoundObjects (launch_job s c o)
+launched_sound : (s : State) (c : Candidate) (o : Option Job) → HasSoundObjects s → HasSoundObjects (with_routed s c o)
 launched_sound s c None h = h
 launched_sound s c (Some j) h = h
 
@@ -122,7 +122,7 @@ one_more bs b h =
     let short : nat_le 32 (length bs) ≡ false = h in
     grind (arith, nat_tests)
 
-launched_within : (s : State) (c : Candidate) (o : Option Job) → IsWithinStarted s → IsWithinStarted (launch_job s c o)
+launched_within : (s : State) (c : Candidate) (o : Option Job) → IsWithinStarted s → IsWithinStarted (with_routed s c o)
 launched_within s c None h = h
 launched_within s c (Some j) h = h
 

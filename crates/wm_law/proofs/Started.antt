@@ -11,7 +11,7 @@ use Rattle.wm_law.specs.declared.state.Sbs.{Sbs}
 use Rattle.wm_law.specs.declared.state.SbsPhase.TheVariants.{Active}
 use Rattle.wm_law.specs.declared.state.State.{State}
 use Rattle.wm_law.specs.Kept.{IsDistinct, HasDistinctNames, OpeningHasDistinctNames, StepKeepsNamesDistinct, StartedNamesAreDistinct}
-use Rattle.wm_law.specs.Launch.{launch_job}
+use Rattle.wm_law.specs.Launch.{with_routed}
 use Rattle.wm_law.specs.Laws.{IsIn}
 use Rattle.wm_law.specs.Subsystems.{begun, is_started}
 use Rattle.wm_law.specs.Settling.{is_gone}
@@ -34,7 +34,7 @@ not_among name (b ∷ bs) e (inr i) = not_among name bs (or_parts (pointwise nat
 started : (s : State) (q : QName) → is_started s q.name ≡ false → HasDistinctNames s → HasDistinctNames (begun s q)
 started s q fresh h = distinct_last name_of (record { sbsd = q; phase = Active }) s.started (not_among q.name s.started fresh) h
 
-pub launched : (s : State) (c : Candidate) (o : Option Job) → HasDistinctNames s → HasDistinctNames (launch_job s c o)
+pub launched : (s : State) (c : Candidate) (o : Option Job) → HasDistinctNames s → HasDistinctNames (with_routed s c o)
 launched s c None h = h
 launched s c (Some j) h = h
 

@@ -13,7 +13,7 @@ use Rattle.wm_law.specs.declared.state.SbsPhase.TheVariants.{Active}
 use Rattle.wm_law.specs.declared.state.State.{State}
 use Rattle.wm_law.specs.Choice.{is_sbs_active}
 use Rattle.wm_law.specs.Kept.{HasDescriptions, IsQuiet, OpeningHasDescriptions, OpeningIsQuiet, StepKeepsDescriptions, StartedAreDescribed, StepKeepsQuiet, NoneIsActiveWithoutPower}
-use Rattle.wm_law.specs.Launch.{launch_job}
+use Rattle.wm_law.specs.Launch.{with_routed}
 use Rattle.wm_law.specs.Laws.{IsIn}
 use Rattle.wm_law.specs.Power.{is_on}
 use Rattle.wm_law.specs.Subsystems.{begun}
@@ -30,7 +30,7 @@ described s q there h b i =
       | inr same ↦ subst (λ (x : Sbs). IsSome (object_named x.sbsd s.objects.sbsds)) (sym same) there
     ]
 
-described_launched : (s : State) (c : Candidate) (o : Option Job) → HasDescriptions s → HasDescriptions (launch_job s c o)
+described_launched : (s : State) (c : Candidate) (o : Option Job) → HasDescriptions s → HasDescriptions (with_routed s c o)
 described_launched s c None h = h
 described_launched s c (Some j) h = h
 
@@ -61,7 +61,7 @@ described_parts = record {
   launches = record { by_step = λ s c e h. described_launched s c (find (λ j. j.serial == c.serial) s.jobs) h };
 }
 
-quiet_launched : (s : State) (c : Candidate) (o : Option Job) → IsQuiet s → IsQuiet (launch_job s c o)
+quiet_launched : (s : State) (c : Candidate) (o : Option Job) → IsQuiet s → IsQuiet (with_routed s c o)
 quiet_launched s c None h = h
 quiet_launched s c (Some j) h = h
 

@@ -9,10 +9,10 @@ use Rattle.wm_law.specs.declared.job.Wish.{Wish}
 use Rattle.wm_law.specs.declared.state.Sbs.{Sbs}
 use Rattle.wm_law.specs.declared.state.SbsPhase.TheVariants.{Active}
 use Rattle.wm_law.specs.declared.state.State.{State}
-use Rattle.wm_law.specs.Autos.{auto_job, auto_launched}
+use Rattle.wm_law.specs.Autos.{auto_job, routed_auto}
 use Rattle.wm_law.specs.Counts.{is_waiting}
 use Rattle.wm_law.specs.Jobs.{changed_at}
-use Rattle.wm_law.specs.Launch.{as_launched, launch_job, launched}
+use Rattle.wm_law.specs.Launch.{as_launched, with_routed, routed_from_queue}
 use Rattle.wm_law.specs.Laws.{IsIn}
 use Rattle.wm_law.specs.Machine.{step}
 use Rattle.wm_law.specs.Opening.{opening}
@@ -74,15 +74,15 @@ all_given jobs change e h i m =
     let f = of_mapped change jobs i m in
     subst IsWished (sym f.2) (given_wished change e f.0 (h f.0 f.1))
 
-pub launched_wished : (s : State) (c : Candidate) (o : Option Job) → HasWishes s → HasWishes (launch_job s c o)
+pub launched_wished : (s : State) (c : Candidate) (o : Option Job) → HasWishes s → HasWishes (with_routed s c o)
 launched_wished s c None h = h
-launched_wished s c (Some j) h = all_changed s.jobs c.serial (as_launched (launched s c.sbs c.jobq j)) (record { wish = λ k. refl; never = λ k. not_waiting s c.sbs c.jobq j }) h
+launched_wished s c (Some j) h = all_changed s.jobs c.serial (as_launched (routed_from_queue s c.sbs c.jobq j)) (record { wish = λ k. refl; never = λ k. not_waiting s c.sbs c.jobq j }) h
 
 pub wished_calls : (s : State) → HasWishes s → HoldsOfStates HasWishes s
 wished_calls s h = record {
   stays = h;
   starts = λ q e. h;
-  autos = λ q t e d m k. last_wished t.jobs (auto_launched t q (auto_job t e d)) (record { waits = λ w. refl; moment = tt }) k;
+  autos = λ q t e d m k. last_wished t.jobs (routed_auto t q (auto_job t e d)) (record { waits = λ w. refl; moment = tt }) k;
   enters = λ user c d due a. last_wished s.jobs (submitted_job s user c d due) (record { waits = λ w. refl; moment = tt }) h;
   alters = λ change place a. each_altered IsWished s change place a h (λ j k i b. altered_wished s j k b (h j i));
   holds = λ held a. h;
@@ -121,7 +121,7 @@ ended_moments old new e h b i =
     let ended = m.2 in
     ended.moment (h m.0 m.1)
 
-launched_moments : (s : State) (c : Candidate) (o : Option Job) → HasMoments s → HasMoments (launch_job s c o)
+launched_moments : (s : State) (c : Candidate) (o : Option Job) → HasMoments s → HasMoments (with_routed s c o)
 launched_moments s c None h = h
 launched_moments s c (Some j) h = h
 

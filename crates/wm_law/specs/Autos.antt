@@ -43,8 +43,8 @@ abbrev pub auto_job : State → AutoEntry → Jobd → Job
 auto_job s e d = new_auto_job s e.job d.rtgdta d.rqsdta
 
 -- an autostart job as its launch leaves it, whatever MAXJOBS is
-abbrev pub auto_launched : State → QName → Job → Job
-auto_launched s sbs j = as_launched (routed_in s sbs (as_auto sbs) j) j
+abbrev pub routed_auto : State → QName → Job → Job
+routed_auto s sbs j = as_launched (routed_in s sbs (as_auto sbs) j) j
 
 -- the job goes last among the jobs, and its number and serial are taken, but no place
 abbrev pub joined : State → Job → State
@@ -52,7 +52,7 @@ joined s j = record s { jobs = s.jobs ++ j ∷ []; next_number = s.next_number +
 
 -- the entry's job is made and launched at once, so it never waits
 abbrev pub auto_made : State → QName → AutoEntry → Jobd → State
-auto_made s sbs e d = joined s (auto_launched s sbs (auto_job s e d))
+auto_made s sbs e d = joined s (routed_auto s sbs (auto_job s e d))
 
 -- the state after the job of an entry is made, where the entry's job description is an object, as it always is
 abbrev pub auto_described : State → QName → AutoEntry → Option Jobd → State

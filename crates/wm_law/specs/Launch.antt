@@ -108,21 +108,21 @@ abbrev pub routed_in : State → QName → (ℕ → How) → Job → Launched
 routed_in s sbs how j = routed_through s sbs how j (option_and_then (λ d. route d j.rtgdta) (object_named sbs s.objects.sbsds))
 
 -- the launch of a job of a queue
-abbrev pub launched : State → QName → QName → Job → Launched
-launched s sbs queue j = routed_in s sbs (from_queue sbs queue j) j
+abbrev pub routed_from_queue : State → QName → QName → Job → Launched
+routed_from_queue s sbs queue j = routed_in s sbs (from_queue sbs queue j) j
 
 -- the job as launched
 abbrev pub as_launched : Launched → Job → Job
 as_launched l j = record j { phase = l.phase; how = l.how }
 
 -- the state after the launch of a job, where there is one
-abbrev pub launch_job : State → Candidate → Option Job → State
-launch_job s c None = s
-launch_job s c (Some j) = with_job s c.serial (as_launched (launched s c.sbs c.jobq j))
+abbrev pub with_routed : State → Candidate → Option Job → State
+with_routed s c None = s
+with_routed s c (Some j) = with_job s c.serial (as_launched (routed_from_queue s c.sbs c.jobq j))
 
 -- the state after the launch of a candidate's job
 abbrev pub launch : State → Candidate → State
-launch s c = launch_job s c (find (λ j. j.serial == c.serial) s.jobs)
+launch s c = with_routed s c (find (λ j. j.serial == c.serial) s.jobs)
 
 -- the order to start a called program with a class, where both are objects
 abbrev pub order_with : Job → List (List ℕ) → Option Program → Option Class → Option StartOrder

@@ -37,30 +37,30 @@ abbrev pub stands_before : State → Job → Job → Bool
 stands_before s j k = before_by (turn_of s j) j (turn_of s k) k
 
 -- whether a launch ends a job by the cause
-abbrev pub is_launch_cause : EndCause → Bool
-is_launch_cause cause.Completed = false
-is_launch_cause (cause.Exited code) = false
-is_launch_cause cause.Killed = false
-is_launch_cause cause.Endjob = false
-is_launch_cause cause.Endsbs = false
-is_launch_cause cause.Endpj = false
-is_launch_cause cause.Maxuse = false
-is_launch_cause cause.NoRoute = true
-is_launch_cause (cause.RouteFull seq) = true
-is_launch_cause cause.BadRequest = true
-is_launch_cause cause.NoProgram = true
-is_launch_cause (cause.StartFailed why) = false
-is_launch_cause cause.Cleared = false
-is_launch_cause cause.EndedOnQueue = false
-is_launch_cause cause.Restarted = false
+abbrev pub is_routing_cause : EndCause → Bool
+is_routing_cause cause.Completed = false
+is_routing_cause (cause.Exited code) = false
+is_routing_cause cause.Killed = false
+is_routing_cause cause.Endjob = false
+is_routing_cause cause.Endsbs = false
+is_routing_cause cause.Endpj = false
+is_routing_cause cause.Maxuse = false
+is_routing_cause cause.NoRoute = true
+is_routing_cause (cause.RouteFull seq) = true
+is_routing_cause cause.BadRequest = true
+is_routing_cause cause.NoProgram = true
+is_routing_cause (cause.StartFailed why) = false
+is_routing_cause cause.Cleared = false
+is_routing_cause cause.EndedOnQueue = false
+is_routing_cause cause.Restarted = false
 
 -- whether a launch leaves a job so: Starting, or ended by a cause of a launch
-abbrev pub is_launch_phase : Phase → Bool
-is_launch_phase Waiting = false
-is_launch_phase Starting = true
-is_launch_phase (Handed m) = false
-is_launch_phase (Running m) = false
-is_launch_phase (Ended c) = is_launch_cause c
+abbrev pub is_routed_phase : Phase → Bool
+is_routed_phase Waiting = false
+is_routed_phase Starting = true
+is_routed_phase (Handed m) = false
+is_routed_phase (Running m) = false
+is_routed_phase (Ended c) = is_routing_cause c
 
 -- whether a job of the serial is past Waiting
 abbrev pub is_past_waiting : List Job → ℕ → Bool
@@ -74,7 +74,7 @@ is_submitted Pj = false
 
 -- whether a job, as an entry left it, was launched in the entry: it was submitted, and in the state before the entry it was Waiting or not there
 abbrev pub was_launched : State → Job → Bool
-was_launched s j = is_launch_phase j.phase && not (is_past_waiting s.jobs j.serial) && is_submitted j.kind
+was_launched s j = is_routed_phase j.phase && not (is_past_waiting s.jobs j.serial) && is_submitted j.kind
 
 -- whether a job is counted for j: it isn't j, nor a job launched in the entry that j stands before
 abbrev pub is_counted_for : State → State → Job → Job → Bool
@@ -129,8 +129,8 @@ pub record IsFit (s t : State) (j : Job) (u : Turn) : Type 0 where
   pub no_route : EndsUnrouted j u
 
 -- each job that was launched is fit
-abbrev pub LaunchesFit : State → State → Type 0
-LaunchesFit s t = (j : Job) → IsIn j t.jobs → was_launched s j ≡ true → (u : Turn) × IsFit s t j u
+abbrev pub AllFit : State → State → Type 0
+AllFit s t = (j : Job) → IsIn j t.jobs → was_launched s j ≡ true → (u : Turn) × IsFit s t j u
 
 -- a how names a subsystem as one that the job started with, and the number of the job's route there
 pub record IsAutoRouted (objects : Objects) (j : Job) : Type 0 where
@@ -154,7 +154,7 @@ pub record GivesNewSerials (s t : State) : Type 0 where
 pub record IsInOrder (s t : State) : Type 0 where
   pub none_left : LeavesNone t
   pub none_passed : PassesNone s t
-  pub fit : LaunchesFit s t
+  pub fit : AllFit s t
   pub autos : AutosFit s t
   pub forward : GoesOn s t
   pub serials : GivesNewSerials s t

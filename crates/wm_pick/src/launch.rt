@@ -50,7 +50,7 @@ fn starts_as(how: How) -> Launched
 impl<'a> Parts<'a> {
     ghost use Rattle.std.specs.Prelude.{◌≡◌, ℕ};
     ghost use Rattle.wm_base.specs.declared.job.How.{How};
-    ghost use Rattle.wm_law.specs.Launch.{program_fault, route_fault, as_auto, routed_in, launched};
+    ghost use Rattle.wm_law.specs.Launch.{program_fault, route_fault, as_auto, routed_in, routed_from_queue};
     ghost use Rattle.wm_pick.specs.Routed.{as_routed};
 
     // Why what is called can't be started.
@@ -97,7 +97,7 @@ impl<'a> Parts<'a> {
 
     /// What the launch of a job of a queue makes of it in a subsystem.
     pub fn launched(&self, sbs: &QName, queue: &QName, job: &Job) -> Launched
-        ensures { result ≡ launched self.now sbs.now queue.now job.now }
+        ensures { result ≡ routed_from_queue self.now sbs.now queue.now job.now }
     {
         match self.routed(sbs, job) {
             Err(cause) => ends_by(cause),

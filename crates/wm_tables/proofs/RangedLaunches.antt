@@ -20,11 +20,11 @@ use Rattle.wm_desc.specs.declared.description.Sbsd.{Sbsd}
 use Rattle.wm_desc.specs.declared.entry.AutoEntry.{AutoEntry}
 use Rattle.wm_desc.specs.declared.entry.RouteEntry.{RouteEntry}
 use Rattle.wm_desc.specs.declared.objects.Objects.{Objects}
-use Rattle.wm_law.specs.Autos.{auto_described, auto_job, auto_launched, autos_of, make_auto}
+use Rattle.wm_law.specs.Autos.{auto_described, auto_job, routed_auto, autos_of, make_auto}
 use Rattle.wm_law.specs.Counts.{count_by_route}
 use Rattle.wm_law.specs.Fit.{IsBetween}
 use Rattle.wm_law.specs.Jobs.{changed_at}
-use Rattle.wm_law.specs.Launch.{as_auto, as_launched, called_program, from_queue, is_match, launch, launch_job, launched, routed_in, starts_unless, routed_through, missing_program, program_fault, route}
+use Rattle.wm_law.specs.Launch.{as_auto, as_launched, called_program, from_queue, is_match, launch, with_routed, routed_from_queue, routed_in, starts_unless, routed_through, missing_program, program_fault, route}
 use Rattle.wm_law.specs.Laws.{IsIn}
 use Rattle.wm_law.specs.Power.{is_on}
 use Rattle.wm_law.specs.Submitting.{numbers_end, numbers_left, serials_end}
@@ -93,10 +93,10 @@ pub at_one : (o : Objects) (j k : Job) (t : Bool) → IsJobInRange o j → IsJob
 at_one o j k true h g = g
 at_one o j k false h g = h
 
-launched_state : (s : State) (c : Candidate) (o : Option Job) → IsInRange s → IsInRange (launch_job s c o)
+launched_state : (s : State) (c : Candidate) (o : Option Job) → IsInRange s → IsInRange (with_routed s c o)
 launched_state s c None r = r
 launched_state s c (Some j) r =
-    let l = launched s c.sbs c.jobq j in
+    let l = routed_from_queue s c.sbs c.jobq j in
     let h = launched_range s (from_queue c.sbs c.jobq j) c.sbs j r.objects in
     record {
       objects = r.objects;
@@ -168,7 +168,7 @@ made_one q t e count (Some d) h name named =
       range = record {
         objects = h.range.objects;
         held = h.range.held;
-        jobs = jobs_last t.objects t.jobs (auto_launched t q (auto_job t e d)) h.range.jobs (launched_job t.objects (auto_job t e d) (routed_in t q (as_auto q) (auto_job t e d)) phase job);
+        jobs = jobs_last t.objects t.jobs (routed_auto t q (auto_job t e d)) h.range.jobs (launched_job t.objects (auto_job t e d) (routed_in t q (as_auto q) (auto_job t e d)) phase job);
         clock = h.range.clock;
       };
       least = omega arith;

@@ -6,7 +6,7 @@ use Rattle.wm_law.specs.declared.job.Job.{Job}
 use Rattle.wm_law.specs.declared.launch.Launched.{Launched}
 use Rattle.wm_law.specs.Counts.{is_waiting}
 use Rattle.wm_law.specs.Jobs.{changed_at}
-use Rattle.wm_law.specs.Launch.{as_launched, launch_job, launched}
+use Rattle.wm_law.specs.Launch.{as_launched, with_routed, routed_from_queue}
 use Rattle.wm_law.specs.Laws.{IsIn}
 use Rattle.wm_law.proofs.Firsts.{next_waits}
 use Rattle.wm_law.proofs.Settling.{not_waiting}
@@ -29,7 +29,7 @@ returns-clause-state c =
     let candidate = c.args.candidate.now in
     let job : Job = c.in-Some.job.now in
     let found : find (λ (j : Job). j.serial == candidate.serial) s.jobs ≡ Some job = sym c.job.ensures.found ∙ ap option_copied c.in-Some.is in
-    let same = ap (λ (t : Seen). launched t.state candidate.sbs candidate.jobq job) (sym c.self.view_is) in
-    let jobs : c.launch.new.self.jobs ≡ map (changed_at candidate.serial (as_launched (launched s candidate.sbs candidate.jobq job))) s.jobs =
+    let same = ap (λ (t : Seen). routed_from_queue t.state candidate.sbs candidate.jobq job) (sym c.self.view_is) in
+    let jobs : c.launch.new.self.jobs ≡ map (changed_at candidate.serial (as_launched (routed_from_queue s candidate.sbs candidate.jobq job))) s.jobs =
     c.launch.ensures.jobs ∙ ap (λ (l : Launched). map (changed_at candidate.serial (as_launched l)) s.jobs) (c.launched-launched.ensures ∙ same) in
-    rw (← c.self.view_is, c.launch.ensures.clock, c.launch.ensures.next_serial, c.launch.ensures.next_place) (ap (λ (js : List Job). record s { jobs = js }) jobs ∙ sym (ap (launch_job s candidate) found))
+    rw (← c.self.view_is, c.launch.ensures.clock, c.launch.ensures.next_serial, c.launch.ensures.next_place) (ap (λ (js : List Job). record s { jobs = js }) jobs ∙ sym (ap (with_routed s candidate) found))
