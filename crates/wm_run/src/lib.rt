@@ -22,8 +22,12 @@ mod whole_run;
 mod words;
 mod write;
 
+pub use answer::{is_power_down, is_refused};
+pub use calls::user_call;
 pub use kept_run::run_kept;
 pub use laws::{bad_rows_do_not_open, runs_make_chains};
+pub use parse::parse_line;
+pub use parsed::Parsed;
 pub use settings::Settings;
 pub use whole_run::{Ran, run};
 pub use words::{NO_MEMORY, WRONG_WORDS, run_plan};
