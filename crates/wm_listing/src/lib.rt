@@ -4,8 +4,8 @@
 //! The contract for the layer above: `said` gives the text `said_text`, `noted` the text `noted_text` of the reply to a
 //! monitor's call, and `fault_line` the text `fault_text`, each without a line's end (`specs/Said.antt`). `listing` gives the
 //! bytes `listing_text` of what a reading command shows (`specs/Listing.antt`), and `log_listing` the bytes `log_text` of a
-//! history (`specs/Log.antt`). The columns are in `specs/Columns.antt`, the words of a status and of a kind in
-//! `specs/Words.antt`.
+//! history (`specs/Log.antt`), which are also those that `push_entry` puts one after another, with `push_end` behind them. The
+//! columns are in `specs/Columns.antt`, the words of a status and of a kind in `specs/Words.antt`.
 #![tactic(auto)]
 
 mod columns;
@@ -20,6 +20,6 @@ mod words;
 
 pub use faults::fault_line;
 pub use line_fault::LineFault;
-pub use log::log_listing;
+pub use log::{log_listing, push_entry};
 pub use replies::{noted, said};
-pub use whole::listing;
+pub use whole::{listing, push_end};

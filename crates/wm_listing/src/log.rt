@@ -95,7 +95,13 @@ fn push_fields(
     Ok(())
 }
 
-fn push_entry(alloc: Global, out: &mut Vec<u8>, place: usize, entry: &Entry) -> Result<(), NoMemory>
+/// The line of one entry, at its place, behind some bytes. An `Err` is want of memory; a part of the line may stand then.
+pub fn push_entry(
+    alloc: Global,
+    out: &mut Vec<u8>,
+    place: usize,
+    entry: &Entry,
+) -> Result<(), NoMemory>
     ensures { OnOk result (out.new.items ≡ out.old.items ++ entry_line place entry.now) }
 {
     push_fields(alloc, out, place, entry)?;

@@ -19,8 +19,8 @@ fn push_waiting(alloc: Global, out: &mut Vec<u8>, queue: &QueueShown) -> Result<
     Ok(())
 }
 
-/// Adds the last line of a listing.
-pub(crate) fn push_end(out: &mut Vec<u8>) -> Result<(), NoMemory>
+/// Adds the last line of a listing. An `Err` is want of memory.
+pub fn push_end(out: &mut Vec<u8>) -> Result<(), NoMemory>
     ensures { OnOk result (out.new.items ≡ out.old.items ++ list_end) }
 {
     out.extend_from_slice(b"END OF LIST\n")?;
