@@ -10,7 +10,7 @@
 //! and the spawner), `Turned` (what waited when the monitor looked last) and `Journal` (what a part leaves of the journal).
 #![tactic(auto)]
 
-mod asking;
+pub mod asking;
 mod calling;
 mod fault;
 mod monitor;
