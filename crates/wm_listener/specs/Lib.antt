@@ -1,0 +1,4 @@
+pub mod Had
+pub mod Memory
+pub mod Next
+pub mod System

@@ -1,0 +1,7 @@
+// The listener in memory and its desks.
+mod desk;
+mod listener;
+mod queue;
+
+pub use desk::{MemDesk, Returned};
+pub use listener::MemListener;
