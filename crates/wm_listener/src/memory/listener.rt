@@ -13,6 +13,7 @@ use wm_traits::Failed;
 
 /// A listener that gives the connections of a list, in order, to whoever asks. Where none of them is left it answers Dry, and
 /// else behind a `close` Closed. Its looks of these numbers, from 1, over all desks, fail.
+#[derive(Drop)]
 pub struct MemListener {
     queue: Mutex<Queue>,
     closed: AtomicBool,

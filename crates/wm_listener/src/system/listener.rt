@@ -26,6 +26,7 @@ const PAUSE: u64 = 20;
 type Halves = (ReadSource<TcpStream>, WriteSink<TcpStream>);
 
 /// A listener of the system. Any number of threads may wait at it.
+#[derive(Drop)]
 pub struct SysListener {
     listener: TcpListener,
     // 1 once it was closed
