@@ -2,7 +2,7 @@
 ghost use Rattle.std.specs.Prelude.{◌≡◌, is_some};
 ghost use Rattle.wm_listener.specs.Memory.{desk_hand};
 
-use anyhow::{Context, Result};
+use anyhow::Result;
 use std::alloc::Global;
 use std::fmt::Write;
 use std::sync::Wait;
@@ -57,8 +57,10 @@ impl Worker {
     /// Reads once from the connection in hand.
     pub fn read(&mut self, alloc: Global, most: &str, answer: &mut String) -> Result<()> {
         let mut buf = vec![in alloc; 0u8; usize::from(most.parse::<u16>()?)]?;
-        let (input, _) = self.hand.as_mut().context("nothing in hand")?;
-        let read = input.read(&mut buf).unwrap_or(0);
+        let read = match &mut self.hand {
+            None => 0,
+            Some((input, _)) => input.read(&mut buf).unwrap_or(0),
+        };
         writeln!(answer, "{}", visible(alloc, &buf[..read.min(buf.len())])?)?;
         Ok(())
     }
@@ -66,8 +68,12 @@ impl Worker {
     /// Writes once to the connection in hand.
     pub fn write(&mut self, alloc: Global, text: &str) -> Result<()> {
         let bytes = bytes_of(alloc, text)?;
-        let (_, output) = self.hand.as_mut().context("nothing in hand")?;
-        let _ = output.write(&bytes);
+        match &mut self.hand {
+            None => {}
+            Some((_, output)) => {
+                let _ = output.write(&bytes);
+            }
+        }
         Ok(())
     }
 
