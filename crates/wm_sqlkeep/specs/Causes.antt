@@ -2,6 +2,7 @@
 use Rattle.std.specs.Prelude.{◌≡◌, ◌⊎◌, ℕ, ◌+◌, ◌<◌, ◌≤◌, pos, zero, suc, true, List, [], ◌∷◌, ◌++◌, slice_get, Some, Result, Ok, Err, IsTrue, codes}
 use Rattle.wm_base.specs.Text.{IsText}
 use Rattle.wm_traits.specs.declared.fault.KeepFault.TheVariants.{Failed}
+use Rattle.wm_traits.specs.declared.row.Row.{Row}
 use Rattle.wm_traits.specs.declared.row.RowChange.{RowChange}
 use Rattle.wm_traits.specs.declared.row.RowChange.TheVariants.{Put, Del}
 use Rattle.sqlite.specs.Store.{Ghosts}
@@ -58,17 +59,21 @@ module _ {S : Type 0} (g : Ghosts S) (old new : Held S) where
       ((e : Error) × IsFault e × (mid : Held S) × IsLater g old mid × FailsToQuery load_text [] (state g mid) (state g new) e)
       ⊎ ((rows : List SqlRow) × (last : SqlRow) × Begins load_text [] (state g new) (rows ++ last ∷ []) × ¬ MakesRow last)
 
--- the columns of a change
+-- the statement of a change
+abbrev pub text_of : RowChange → List ℕ
+text_of (Put row) = codes "INSERT INTO wmrow (tab, k, body) VALUES (?1, ?2, ?3) ON CONFLICT (tab, k) DO UPDATE SET body = excluded.body"
+text_of (Del tab key) = codes "DELETE FROM wmrow WHERE tab = ?1 AND k = ?2"
+
+-- the columns of a row of the store
+abbrev pub columns_of : Row → SqlRow
+columns_of row = Int (pos row.tab) ∷ Text row.key ∷ Text row.body ∷ []
+
+-- and those of a change
 abbrev pub params_of : RowChange → SqlRow
-params_of (Put row) = Int (pos row.tab) ∷ Text row.key ∷ Text row.body ∷ []
+params_of (Put row) = columns_of row
 params_of (Del tab key) = Int (pos tab) ∷ Text key ∷ []
 
--- over the texts of the statements that put and delete
-module _ {S : Type 0} (g : Ghosts S) (put del : List ℕ) where
-  abbrev pub text_of : RowChange → List ℕ
-  text_of (Put row) = put
-  text_of (Del tab key) = del
-
+module _ {S : Type 0} (g : Ghosts S) where
   -- what SQLite answers to the change in a transaction
   abbrev pub Runs : RowChange → Held S → Held S → Result ℕ Error → Type 0
   Runs change old new answer = ExecutesInside 0 (text_of change) (params_of change) (state g old) (state g new) answer

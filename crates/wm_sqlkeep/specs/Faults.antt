@@ -4,7 +4,7 @@ use Rattle.wm_sqlkeep.specs.declared.keeper.SqlKeeper.{SqlKeeper}
 use Rattle.wm_sqlkeep.specs.declared.store.SqlStore.{SqlStore}
 
 -- the calls that failed
-abbrev pub keeper_faults : SqlKeeper → ℕ
+abbrev pub keeper_faults : {S : Type 0} → SqlKeeper S → ℕ
 keeper_faults k = k.faults
 
 -- the openings that failed, and the keepers that came back having failed

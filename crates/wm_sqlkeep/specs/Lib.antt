@@ -1,5 +1,6 @@
 pub mod Causes
 pub mod Changes
+pub mod Done
 pub mod Errors
 pub mod Faults
-pub mod Kept
+pub mod Opened

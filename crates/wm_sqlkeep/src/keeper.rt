@@ -1,59 +1,52 @@
-// A keeper over a database.
-ghost use Rattle.std.specs.Prelude.{◌≡◌, None, refl, IfOk, IsErrOf};
+// A keeper over a connection to any store of SQLite.
+ghost use Rattle.std.specs.Prelude.{◌≡◌, None, refl, IfOk, IsErrOf, OnOk, OnErr};
+ghost use Rattle.sqlite.specs.State.{HasCleanDisk};
+ghost use Rattle.sqlite.specs.Held.{state};
 ghost use Rattle.wm_traits.specs.Cause.{HasKeepCause};
 ghost use Rattle.wm_traits.specs.declared.fault.KeepFault.TheVariants.{Failed};
 ghost use Rattle.wm_sqlkeep.specs.Faults.{keeper_faults};
-ghost use Rattle.wm_sqlkeep.specs.Kept.{LoadFails, ApplyFails};
+ghost use Rattle.wm_sqlkeep.specs.Changes.{IsAsItWas};
+ghost use Rattle.wm_sqlkeep.specs.Causes.{FailsToLoad, FailsToApply};
+ghost use Rattle.wm_sqlkeep.specs.Done.{Loads, Applies};
 
-use crate::database::{self, Database};
 use crate::faults::counted;
-use crate::table::Writes;
+use crate::table;
+use sqlite::{Alter, Connection};
 use std::alloc::Global;
-use std::rt::HostRuntime;
 use wm_traits::{KeepFault, Keeper, Row, RowChange};
 
-/// A keeper of the rows in a file of SQLite, or in memory. It tells no rows.
-pub struct SqlKeeper {
-    database: Database,
-    writes: Writes,
+/// A keeper of the rows in the table of a connection, which it has alone. It tells no rows.
+pub struct SqlKeeper<S: Alter> {
+    connection: Connection<S>,
     alloc: Global,
     faults: u64,
 }
 
 // It is written out, so that a caller does not prove again how each part is dropped.
-impl Drop for SqlKeeper {
+impl<S: Alter + Drop> Drop for SqlKeeper<S> {
     fn drop(self) {
         let SqlKeeper {
-            database: _,
-            writes: _,
+            connection: _,
             alloc: _,
             faults: _,
         } = self;
     }
 }
 
-// A keeper of an opened database, in which the table is made if it isn't there.
-fn begun(alloc: Global, mut database: Database) -> Result<SqlKeeper, KeepFault>
-    ensures { IfOk result (λ keeper. keeper_faults keeper ≡ 0) }
-{
-    let writes = database.begin()?;
-    Ok(SqlKeeper {
-        database,
-        writes,
-        alloc,
-        faults: 0,
-    })
-}
+impl<S: Alter> SqlKeeper<S> {
+    /// A keeper over a connection that is there, whose database has the table already. Where it hasn't, `load` and `apply`
+    /// fail.
+    pub fn adopt(alloc: Global, connection: Connection<S>) -> SqlKeeper<S>
+        ensures connection { result.connection ≡ connection }
+        ensures faults { keeper_faults result ≡ 0 }
+    {
+        SqlKeeper {
+            connection,
+            alloc,
+            faults: 0,
+        }
+    }
 
-/// Opens the file, or memory for `:memory:`.
-pub(crate) fn open(rt: &HostRuntime, path: &str) -> Result<SqlKeeper, KeepFault>
-    ensures { IfOk result (λ keeper. keeper_faults keeper ≡ 0) }
-{
-    let database = database::open(rt, path)?;
-    Ok(begun(rt.alloc(), database)?)
-}
-
-impl SqlKeeper {
     /// How many calls of `load` and `apply` failed, but for want of memory.
     pub fn faults(&self) -> u64
         ensures { result ≡ keeper_faults self.now }
@@ -61,18 +54,20 @@ impl SqlKeeper {
         self.faults
     }
 
-    pub(crate) fn close(self) {
+    /// The connection, as the calls have left it.
+    pub fn into_connection(self) -> Connection<S>
+        ensures { result ≡ self.connection }
+    {
         let SqlKeeper {
-            database,
-            writes: _,
+            connection,
             alloc: _,
             faults: _,
         } = self;
-        database.close();
+        connection
     }
 }
 
-impl Keeper for SqlKeeper {
+impl<S: Alter> Keeper for SqlKeeper<S> {
     ghost faults = { keeper_faults };
 
     ghost tables = { λ _. None };
@@ -81,17 +76,20 @@ impl Keeper for SqlKeeper {
 
     fn load(&mut self) -> Result<Vec<Row>, KeepFault>
         ensures cause { HasKeepCause (keeper_faults self.old) (keeper_faults self.new) result }
-        ensures failed { IsErrOf result Failed → LoadFails self.old.database self.new.database }
+        ensures given { HasCleanDisk (state S.Store self.new.connection) → IfOk result (λ rows. Loads S.Store self.old.connection self.new.connection rows.items) }
+        ensures failed { HasCleanDisk (state S.Store self.new.connection) → IsErrOf result Failed → FailsToLoad S.Store self.old.connection self.new.connection }
     {
-        let loaded = self.database.load(self.alloc);
+        let loaded = table::load(self.alloc, &mut self.connection);
         counted(&mut self.faults, loaded)
     }
 
     fn apply(&mut self, changes: &[RowChange]) -> Result<(), KeepFault>
         ensures cause { HasKeepCause (keeper_faults self.old) (keeper_faults self.new) result }
-        ensures failed { IsErrOf result Failed → ApplyFails self.old.writes changes.now self.old.database self.new.database }
+        ensures made { HasCleanDisk (state S.Store self.new.connection) → OnOk result (Applies S.Store changes.now self.old.connection self.new.connection) }
+        ensures err { OnErr result (IsAsItWas (state S.Store self.old.connection) (state S.Store self.new.connection)) }
+        ensures failed { HasCleanDisk (state S.Store self.new.connection) → IsErrOf result Failed → FailsToApply S.Store changes.now self.old.connection self.new.connection }
     {
-        let applied = self.database.apply(&self.writes, changes);
+        let applied = table::apply(&mut self.connection, changes);
         counted(&mut self.faults, applied)
     }
 

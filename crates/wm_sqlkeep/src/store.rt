@@ -2,7 +2,7 @@
 ghost use Rattle.std.specs.Prelude.{◌≡◌, None, refl};
 
 use crate::faults::counted;
-use crate::{SqlKeeper, keeper};
+use crate::{OpenedKeeper, opened};
 use std::rt::HostRuntime;
 use wm_traits::{KeepFault, Store};
 
@@ -33,7 +33,7 @@ impl SqlStore {
 impl Store for SqlStore {
     ghost use Rattle.wm_sqlkeep.specs.Faults.{store_faults};
 
-    type K = SqlKeeper;
+    type K = OpenedKeeper;
 
     ghost faults = { store_faults };
 
@@ -43,12 +43,12 @@ impl Store for SqlStore {
 
     ghost opened = { λ _. None };
 
-    fn open(&mut self, path: &str) -> Result<SqlKeeper, KeepFault> {
-        let opened = keeper::open(&self.rt, path);
+    fn open(&mut self, path: &str) -> Result<OpenedKeeper, KeepFault> {
+        let opened = opened::open(&self.rt, path);
         counted(&mut self.faults, opened)
     }
 
-    fn close(&mut self, keeper: SqlKeeper) {
+    fn close(&mut self, keeper: OpenedKeeper) {
         if keeper.faults() > 0 {
             self.faults = self.faults.saturating_add(1);
         }

@@ -1,16 +1,18 @@
 // The SQL: how the table of all rows is made, read and written.
-ghost use Rattle.std.specs.Prelude.{◌≡◌, pos, None, IsTrue, IfOk, IfSome, IsErrOf, OnOk, OnErr};
+ghost use Rattle.std.specs.Prelude.{◌≡◌, pos, None, Ok, false, IsTrue, IfOk, IfSome, IsErrOf, OnOk, OnErr};
 ghost use Rattle.sqlite.specs.Order.{column};
 ghost use Rattle.sqlite.specs.declared.types.Value.TheVariants.{Int, Text as Words};
 ghost use Rattle.sqlite.specs.State.{HasCleanDisk, KeepsCommit, Survives};
 ghost use Rattle.sqlite.specs.Held.{state};
 ghost use Rattle.wm_traits.specs.declared.fault.KeepFault.TheVariants.{Failed};
 ghost use Rattle.wm_sqlkeep.specs.Changes.{IsAsItWas};
-ghost use Rattle.wm_sqlkeep.specs.Causes.{IsTab, IsWords, MakesRow, Gives, FailsToGive, FailsToLoad, Runs, Makes, FailsToMake, FailsToApply};
+ghost use Rattle.sqlite.specs.Given.{Advances};
+ghost use Rattle.wm_sqlkeep.specs.Done.{first_columns, Loads, Applies};
+ghost use Rattle.wm_sqlkeep.specs.Causes.{columns_of, IsTab, IsWords, MakesRow, Gives, FailsToGive, FailsToLoad, Runs, Makes, FailsToMake, FailsToApply};
 
 use crate::faults::keep_fault;
 use sqlite::types::ValueRef;
-use sqlite::{Alter, Connection, Error, Rows, Statement, Transaction, params};
+use sqlite::{Alter, Connection, Error, Rows, Transaction, params};
 use std::alloc::Global;
 use wm_base::{Text, is_text};
 use wm_traits::{KeepFault, Row, RowChange};
@@ -30,13 +32,6 @@ const PUT: &str =
     "INSERT INTO wmrow (tab, k, body) VALUES (?1, ?2, ?3) ON CONFLICT (tab, k) DO UPDATE SET body = excluded.body";
 
 const DEL: &str = "DELETE FROM wmrow WHERE tab = ?1 AND k = ?2";
-
-/// The statements that write, prepared once.
-#[derive(Drop)]
-pub(crate) struct Writes {
-    put: Statement,
-    del: Statement,
-}
 
 fn make<S: Alter>(conn: &mut Connection<S>) -> Result<(), KeepFault> {
     match conn.execute(MAKE, &[]) {
@@ -62,21 +57,10 @@ fn find<S: Alter>(conn: &mut Connection<S>) -> Result<(), KeepFault> {
     }
 }
 
-fn prepared<S: Alter>(conn: &mut Connection<S>, sql: &str) -> Result<Statement, KeepFault> {
-    match conn.prepare(sql) {
-        Ok(statement) => Ok(statement),
-        Err(error) => Err(keep_fault(error)),
-    }
-}
-
-/// Makes the table where there is none, and prepares what writes it. A table of another shape is a fault, and stays as it
-/// is.
-pub(crate) fn begin<S: Alter>(conn: &mut Connection<S>) -> Result<Writes, KeepFault> {
+/// Makes the table where there is none. A table of another shape is a fault, and stays as it is.
+pub(crate) fn begin<S: Alter>(conn: &mut Connection<S>) -> Result<(), KeepFault> {
     make(conn)?;
-    find(conn)?;
-    let put = prepared(conn, PUT)?;
-    let del = prepared(conn, DEL)?;
-    Ok(Writes { put, del })
+    find(conn)
 }
 
 fn tab_of(row: &sqlite::Row) -> Option<u8>
@@ -116,7 +100,8 @@ fn row_of(alloc: Global, row: &sqlite::Row) -> Result<Row, KeepFault>
 
 // The row at which SQLite stands.
 fn row_at<S: Alter>(alloc: Global, rows: &Rows<'_, S>) -> Result<Option<Row>, KeepFault>
-    ensures some { IfOk result (λ next. IfSome next (λ _. IsTrue rows.now.has_row)) }
+    ensures some { IfOk result (λ next. IfSome next (λ made. IsTrue rows.now.has_row × (first_columns rows.now.conn.now.reading.row ≡ columns_of made))) }
+    ensures none { result ≡ Ok None → rows.now.has_row ≡ false }
     ensures failed { IsErrOf result Failed → IsTrue rows.now.has_row × ¬ MakesRow rows.now.conn.now.reading.row }
 {
     match rows.get() {
@@ -128,7 +113,8 @@ fn row_at<S: Alter>(alloc: Global, rows: &Rows<'_, S>) -> Result<Option<Row>, Ke
 // Reads the next row, and answers none behind the last.
 fn next_row<S: Alter>(alloc: Global, rows: &mut Rows<'_, S>) -> Result<Option<Row>, KeepFault>
     ensures same_reference { rows.new.conn.ghost_name ≡ rows.old.conn.ghost_name }
-    ensures given { HasCleanDisk (state S.Store rows.new.conn.now) → IfOk result (λ next. IfSome next (λ _. (row : _) × Gives S.Store rows.old.conn.now rows.new.conn.now row)) }
+    ensures given { HasCleanDisk (state S.Store rows.new.conn.now) → IfOk result (λ next. IfSome next (λ made. (row : _) × Gives S.Store rows.old.conn.now rows.new.conn.now row × (first_columns row ≡ columns_of made))) }
+    ensures end { HasCleanDisk (state S.Store rows.new.conn.now) → result ≡ Ok None → Advances S.Store rows.old.conn.now rows.new.conn.now None }
     ensures failed { HasCleanDisk (state S.Store rows.new.conn.now) → IsErrOf result Failed → FailsToGive S.Store rows.old.conn.now rows.new.conn.now }
     ensures survives { Survives (state S.Store rows.old.conn.now) (state S.Store rows.new.conn.now) (λ _. ⊥) }
 {
@@ -140,6 +126,7 @@ fn next_row<S: Alter>(alloc: Global, rows: &mut Rows<'_, S>) -> Result<Option<Ro
 
 /// All rows, in their order.
 pub(crate) fn load<S: Alter>(alloc: Global, conn: &mut Connection<S>) -> Result<Vec<Row>, KeepFault>
+    ensures given { HasCleanDisk (state S.Store conn.new) → IfOk result (λ rows. Loads S.Store conn.old conn.new rows.items) }
     ensures failed { HasCleanDisk (state S.Store conn.new) → IsErrOf result Failed → FailsToLoad S.Store conn.old conn.new }
 {
     let mut loaded = Vec::new(alloc);
@@ -158,42 +145,31 @@ pub(crate) fn load<S: Alter>(alloc: Global, conn: &mut Connection<S>) -> Result<
 }
 
 // Makes one change, which isn't committed.
-fn execute<S: Alter>(
-    tx: &mut Transaction<'_, S>,
-    writes: &Writes,
-    change: &RowChange,
-) -> Result<usize, Error>
+fn execute<S: Alter>(tx: &mut Transaction<'_, S>, change: &RowChange) -> Result<usize, Error>
     ensures same_reference { tx.new.conn.ghost_name ≡ tx.old.conn.ghost_name }
     ensures kept { HasCleanDisk (state S.Store tx.new.conn.now) → KeepsCommit (state S.Store tx.old.conn.now) (state S.Store tx.new.conn.now) }
     ensures inside { HasCleanDisk (state S.Store tx.new.conn.now) → OnOk result (IsTrue tx.new.conn.now.in_transaction) }
-    ensures ran { HasCleanDisk (state S.Store tx.new.conn.now) → IsTrue tx.old.conn.now.in_transaction → Runs S.Store writes.now.put.text writes.now.del.text change.now tx.old.conn.now tx.new.conn.now result }
+    ensures ran { HasCleanDisk (state S.Store tx.new.conn.now) → IsTrue tx.old.conn.now.in_transaction → Runs S.Store change.now tx.old.conn.now tx.new.conn.now result }
     ensures survives { Survives (state S.Store tx.old.conn.now) (state S.Store tx.new.conn.now) (λ _. ⊥) }
 {
     match change {
-        RowChange::Put(row) => tx.execute_prepared(
-            &writes.put,
+        RowChange::Put(row) => tx.execute(
+            PUT,
             params![i64::from(row.tab), row.key.as_str(), row.body.as_str()],
         ),
-        RowChange::Del(tab, key) => tx.execute_prepared(
-            &writes.del,
-            params![i64::from(*tab), key.as_str()],
-        ),
+        RowChange::Del(tab, key) => tx.execute(DEL, params![i64::from(*tab), key.as_str()]),
     }
 }
 
-fn write<S: Alter>(
-    tx: &mut Transaction<'_, S>,
-    writes: &Writes,
-    change: &RowChange,
-) -> Result<(), KeepFault>
+fn write<S: Alter>(tx: &mut Transaction<'_, S>, change: &RowChange) -> Result<(), KeepFault>
     ensures same_reference { tx.new.conn.ghost_name ≡ tx.old.conn.ghost_name }
     ensures kept { HasCleanDisk (state S.Store tx.new.conn.now) → KeepsCommit (state S.Store tx.old.conn.now) (state S.Store tx.new.conn.now) }
     ensures inside { HasCleanDisk (state S.Store tx.new.conn.now) → OnOk result (IsTrue tx.new.conn.now.in_transaction) }
-    ensures made { HasCleanDisk (state S.Store tx.new.conn.now) → IsTrue tx.old.conn.now.in_transaction → OnOk result (Makes S.Store writes.now.put.text writes.now.del.text change.now tx.old.conn.now tx.new.conn.now) }
-    ensures failed { HasCleanDisk (state S.Store tx.new.conn.now) → IsTrue tx.old.conn.now.in_transaction → IsErrOf result Failed → FailsToMake S.Store writes.now.put.text writes.now.del.text change.now tx.old.conn.now tx.new.conn.now }
+    ensures made { HasCleanDisk (state S.Store tx.new.conn.now) → IsTrue tx.old.conn.now.in_transaction → OnOk result (Makes S.Store change.now tx.old.conn.now tx.new.conn.now) }
+    ensures failed { HasCleanDisk (state S.Store tx.new.conn.now) → IsTrue tx.old.conn.now.in_transaction → IsErrOf result Failed → FailsToMake S.Store change.now tx.old.conn.now tx.new.conn.now }
     ensures survives { Survives (state S.Store tx.old.conn.now) (state S.Store tx.new.conn.now) (λ _. ⊥) }
 {
-    match execute(tx, writes, change) {
+    match execute(tx, change) {
         Ok(_) => Ok(()),
         Err(error) => Err(keep_fault(error)),
     }
@@ -203,11 +179,11 @@ fn write<S: Alter>(
 /// each call ends its own.
 pub(crate) fn apply<S: Alter>(
     conn: &mut Connection<S>,
-    writes: &Writes,
     changes: &[RowChange],
 ) -> Result<(), KeepFault>
+    ensures made { HasCleanDisk (state S.Store conn.new) → OnOk result (Applies S.Store changes.now conn.old conn.new) }
     ensures err { OnErr result (IsAsItWas (state S.Store conn.old) (state S.Store conn.new)) }
-    ensures failed { HasCleanDisk (state S.Store conn.new) → IsErrOf result Failed → FailsToApply S.Store writes.now.put.text writes.now.del.text changes.now conn.old conn.new }
+    ensures failed { HasCleanDisk (state S.Store conn.new) → IsErrOf result Failed → FailsToApply S.Store changes.now conn.old conn.new }
 {
     if changes.is_empty() {
         return Ok(());
@@ -217,7 +193,7 @@ pub(crate) fn apply<S: Alter>(
     }
     let mut tx = conn.transaction();
     'changes: for change in changes {
-        write(&mut tx, writes, change)?;
+        write(&mut tx, change)?;
     }
     match tx.commit() {
         Ok(()) => Ok(()),

@@ -5,7 +5,7 @@ use anyhow::{Result, anyhow};
 use std::fs;
 use std::rt::HostRuntime;
 use wm_cases::Subject;
-use wm_sqlkeep::{SqlKeeper, SqlStore};
+use wm_sqlkeep::{OpenedKeeper, SqlStore};
 use wm_traits::{Keeper, Store};
 
 // Puts a copy of the file in the place of the store's, without a log.
@@ -16,7 +16,7 @@ fn put_file(rt: &HostRuntime, file: &str) -> Result<()> {
 }
 
 // Answers the rows, a line each, or that there are none.
-fn load(keeper: &mut SqlKeeper, answer: &mut String) -> Result<()> {
+fn load(keeper: &mut OpenedKeeper, answer: &mut String) -> Result<()> {
     match keeper.load() {
         Ok(rows) if rows.is_empty() => Ok(answer.push_str("NO ROWS\n")?),
         Ok(rows) => answer_rows(&rows, answer),
@@ -34,7 +34,7 @@ const LOG: &str = "rows.db-wal";
 pub struct SqlCases<'a> {
     rt: &'a HostRuntime,
     store: SqlStore,
-    keeper: Option<SqlKeeper>,
+    keeper: Option<OpenedKeeper>,
 }
 
 impl<'a> SqlCases<'a> {

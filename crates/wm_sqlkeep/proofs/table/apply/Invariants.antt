@@ -11,4 +11,4 @@ invariant-changes g l =
     × (HasCleanDisk (state g.S.Store l.tx.conn.now)
     → KeepsCommit (state g.S.Store l.fn.conn) (state g.S.Store l.tx.conn.now)
     × IsTrue l.tx.conn.now.in_transaction
-    × AreMade g.S.Store l.writes.put.text l.writes.del.text l.changes l.change-index (record l.fn.conn { in_transaction = true }) l.tx.conn.now)
+    × AreMade g.S.Store l.changes l.change-index (record l.fn.conn { in_transaction = true }) l.tx.conn.now)

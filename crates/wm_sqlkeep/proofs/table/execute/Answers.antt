@@ -18,4 +18,4 @@ keeps g old new sql params r ended runs = elim (cases_Bool old.in_transaction) [
 
 pub returns-in-Put-clause-kept : goal.returns-in-Put-clause-kept
 returns-in-Put-clause-kept g c clean =
-    keeps g.S.Store c.args.tx.now.conn.now c.execute_prepared.new.self.conn.now _ _ c.execute_prepared.result c.execute_prepared.ensures.ended (c.execute_prepared.ensures.runs clean)
+    keeps g.S.Store c.args.tx.now.conn.now c.execute.new.self.conn.now _ _ c.execute.result c.execute.ensures.ended (c.execute.ensures.runs clean)
