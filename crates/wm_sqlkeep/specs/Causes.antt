@@ -1,5 +1,5 @@
 -- Why a load or an apply fails, but for want of memory.
-use Rattle.std.specs.Prelude.{◌≡◌, ◌⊎◌, ℕ, ◌+◌, ◌<◌, ◌≤◌, pos, zero, suc, true, List, [], ◌∷◌, ◌++◌, slice_get, Some, Result, Ok, Err, IsTrue, codes}
+use Rattle.std.specs.Prelude.{◌≡◌, ◌⊎◌, ℕ, ◌<◌, ◌≤◌, pos, zero, suc, true, List, [], ◌∷◌, ◌++◌, slice_get, Some, Result, Ok, Err, IsTrue, codes}
 use Rattle.wm_base.specs.Text.{IsText}
 use Rattle.wm_traits.specs.declared.fault.KeepFault.TheVariants.{Failed}
 use Rattle.wm_traits.specs.declared.row.Row.{Row}
@@ -10,7 +10,7 @@ use Rattle.sqlite.specs.declared.error.Error.{Error}
 use Rattle.sqlite.specs.declared.types.Value.{Value}
 use Rattle.sqlite.specs.declared.types.Value.TheVariants.{Int, Text}
 use Rattle.sqlite.specs.Order.{Row as SqlRow, column}
-use Rattle.sqlite.specs.State.{State, IsUnchanged, FailsToQuery, Begins, ExecutesInside}
+use Rattle.sqlite.specs.State.{IsUnchanged, FailsToQuery, Begins, ExecutesInside}
 use Rattle.sqlite.specs.Steps.{FailsToCommit}
 use Rattle.sqlite.specs.Held.{Held, state}
 use Rattle.sqlite.specs.Given.{Advances, FailsToAdvance}

@@ -1,8 +1,5 @@
-use Rattle.std.proofs.Common.{rules, ◌≡◌, refl, ◌∙◌, IsTrue, IfSome, IfOk, Result, Ok, Err, Option, Some, None}
+use Rattle.std.proofs.Common.{◌≡◌, IsTrue, IfSome, IfOk, Result, Ok, Err, Option, Some, None}
 use Rattle.sqlite.specs.Order.{Row}
-use Rattle.sqlite.specs.State.{HasCleanDisk}
-use Rattle.sqlite.specs.Held.{state}
-use Rattle.sqlite.specs.Given.{row_if}
 use Rattle.wm_traits.specs.declared.fault.KeepFault.{KeepFault}
 use Rattle.wm_traits.specs.declared.row.Row.{Row as Made}
 use Rattle.wm_sqlkeep.specs.Causes.{columns_of, Gives}
