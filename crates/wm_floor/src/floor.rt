@@ -16,14 +16,15 @@ ghost use Rattle.wm_floor.specs.Floor.{HasLooked, IsCalled, IsLeftOrOpened, IsPa
 ghost use Rattle.wm_floor.specs.Ledger.{behind, caller_of, HasReply};
 
 use crate::answer::{Answered, View, Waiting};
-use crate::ledger::Ledger;
+use crate::ledger::{Closed, Ledger};
+use crate::log::Log;
 use std::alloc::Global;
 use std::marker::Model;
 use std::snapshot::Snapshot;
 use std::sync::Wait;
 use wm_base::{Moment, NoMemory};
 use wm_core::Setup;
-use wm_journal::{CallFault, Closed, OpenFault};
+use wm_journal::{CallFault, OpenFault};
 use wm_law::{Ask, Call, Reply};
 use wm_traits::Keeper;
 use wm_turn::{Pass, Turnstile};
@@ -155,7 +156,28 @@ impl<K: Keeper> Floor<K> {
         reply
     }
 
-    /// What a reading command shows of the state, and after how many entries. The pass has then seen these. It may wait.
+    /// The history, which the pass has then seen. While it is made, which takes a time for each entry, the others wait. It may
+    /// wait itself.
+    pub fn log<R: Wait>(
+        &self,
+        rt: &R,
+        alloc: Global,
+        pass: &mut FloorPass<K>,
+    ) -> Result<Log, NoMemory>
+        requires own { IsPassOf self.now pass.old }
+        ensures own { IsPassOf self.now pass.new }
+        ensures same { IsSame pass.old pass.new }
+        ensures looked { HasLooked pass.old pass.new }
+        ensures log { IfOk result (λ log. log ≡ pass.new.seen) }
+    {
+        let ledger = self.enter(rt, pass);
+        let log = ledger.log(alloc);
+        self.leave(pass, ledger);
+        log
+    }
+
+    /// What a reading command shows of the state, and after how many entries. The pass has then seen these. Of the history and of
+    /// what waits it shows that there is no view: `log` and `pending` show these. It may wait.
     pub fn read<R: Wait>(
         &self,
         rt: &R,
@@ -232,7 +254,7 @@ impl<K: Keeper> Floor<K> {
         requires zero { pass.number ≡ 0 }
         ensures back { IsOk result ↔ (length pass.joined ≡ pass.made) }
         ensures err { IfErr result (λ back. (back.0 ≡ self) × (back.1 ≡ pass)) }
-        ensures log { IfOk result (λ closed. closed.log.items ≡ pass.seen) }
+        ensures log { IfOk result (λ closed. closed.log ≡ pass.seen) }
         ensures legal { IsLegal self.opening.state pass.seen }
         ensures tables { IfOk result (λ closed. HasTables (reached (behind self.opening pass.seen)) (K.tables closed.keeper)) }
         ensures trail { IfOk result (λ closed. HasTrail (behind self.opening pass.seen) (telling K.tables K.trail self.opening.found) (telling K.tables K.trail closed.keeper)) }

@@ -1,4 +1,5 @@
 // What the callers of a floor take turns with: the machine with its keeper, and its history.
+ghost use Rattle.std.specs.Arc.{arc_value};
 ghost use Rattle.std.specs.Prelude.{◌≡◌, ◌<◌, ◌≤◌, ℕ, [], length, slice_get, Err, IfOk, IfErr, OnOk, OnErr};
 ghost use Rattle.wm_law.specs.Fit.{HasCall, IsCall};
 ghost use Rattle.wm_law.specs.Pending.{pending};
@@ -12,14 +13,17 @@ ghost use Rattle.wm_views.specs.Views.{shown};
 use crate::answer::Answered;
 use crate::copying::copied;
 use crate::limit::limit_of;
+use crate::log::Log;
 use crate::opened::Opened;
+use crate::shared::Shared;
 use crate::step::step;
 use std::alloc::Global;
 use std::marker::Model;
 use std::snapshot::Snapshot;
+use std::sync::Arc;
 use wm_base::{Moment, NoMemory};
 use wm_core::Setup;
-use wm_journal::{CallFault, Closed, OpenFault, StoredCore};
+use wm_journal::{CallFault, OpenFault, StoredCore};
 use wm_law::{Ask, Call, Entry, Pending, Reply};
 use wm_traits::Keeper;
 use wm_turn::Standing;
@@ -31,9 +35,30 @@ pub struct Ledger<K: Keeper> {
     found: Snapshot<K>,
     opened: Snapshot<StoredCore<K>>,
     stored: StoredCore<K>,
-    log: Vec<Entry>,
+    log: Vec<Shared<Entry>>,
     limit: u32,
     misses: u64,
+}
+
+/// What is left of a floor: the history, which is legal from the state that it was opened with, and the keeper, which has the
+/// rows of the last state.
+#[derive(Drop)]
+pub struct Closed<K> {
+    pub log: Log,
+    pub keeper: K,
+}
+
+// Room for an entry, whose call has no reply yet.
+fn room(alloc: Global, caller: u32, call: Call, moment: Moment) -> Result<Arc<Entry>, NoMemory>
+    ensures { IfOk result (λ room. arc_value room ≡ record { caller = caller; call = call; moment = moment; reply = Reply.Nothing }) }
+{
+    let entry = Entry {
+        caller,
+        call,
+        moment,
+        reply: Reply::Nothing,
+    };
+    Ok(Arc::new(alloc, entry)?)
 }
 
 impl<K: Keeper> Model for Ledger<K> {
@@ -140,20 +165,13 @@ impl<K: Keeper> Ledger<K> {
         self.log.reserve(1)?;
         // The range of the moment is what `legal` needs of the entry.
         let _moment = now.get();
-        let reply = step(
-            alloc,
-            &mut self.stored,
-            &mut self.misses,
-            caller,
-            &call,
-            now,
-        )?;
-        self.log.push_reserved(Entry {
-            caller,
-            call,
-            moment: now,
-            reply,
-        });
+        let mut shared = room(alloc, caller, call, now)?;
+        // No other list has it yet, which std's contract doesn't tell. So it is looked at before the step.
+        let Some(entry) = Arc::get_mut(&mut shared) else {
+            return Err(CallFault::NoMemory);
+        };
+        step(alloc, &mut self.stored, &mut self.misses, entry)?;
+        self.log.push_reserved(Shared::of(shared));
         Ok(())
     }
 
@@ -170,7 +188,7 @@ impl<K: Keeper> Ledger<K> {
         ensures { HasReply (slice_get self.now.log at) result }
     {
         match self.log.get(at) {
-            Some(entry) => copied(alloc, &entry.reply),
+            Some(entry) => copied(alloc, &entry.get().reply),
             None => None,
         }
     }
@@ -210,6 +228,13 @@ impl<K: Keeper> Ledger<K> {
         Ok(self.answered(alloc))
     }
 
+    /// The history.
+    pub(crate) fn log(&self, alloc: Global) -> Result<Log, NoMemory>
+        ensures { IfOk result (λ log. log ≡ self.now.log) }
+    {
+        Log::sharing(alloc, &self.log)
+    }
+
     /// What is shown of the state.
     pub(crate) fn view(&self, alloc: Global, ask: &Ask) -> Result<Shown, NoMemory>
         ensures { IfOk result (λ view. view ≡ shown (reached (history_of self.now)) ask.now) }
@@ -233,13 +258,13 @@ impl<K: Keeper> Ledger<K> {
 
     /// The entries and the keeper.
     pub(crate) fn close(self) -> Closed<K>
-        ensures log { result.log.items ≡ self.log }
+        ensures log { result.log ≡ self.log }
         ensures keeper { result.keeper ≡ self.keeper }
         ensures known { HasLedger K.faults K.tables K.trail self }
         ensures tables { HasTables (reached (history_of self)) (K.tables result.keeper) }
     {
         Closed {
-            log: self.log,
+            log: Log::of(self.log),
             keeper: self.stored.close(),
         }
     }

@@ -13,10 +13,11 @@
 //! which begin with what it had seen. What a pass has seen is always legal from the opened state, and has all of its own entries.
 //! So the laws of `wm_law` and `wm_chain` hold of it.
 //!
-//! `close` gives the whole history, which is what pass 0 has then seen, with the keeper: its tables are those of the last state,
-//! and its trail is that of the history. Each pass that was joined has exactly the entries of its number.
+//! `log` gives the history itself, which the pass has then seen, as a `Log`, whose entries are shared with the floor and not
+//! copied. `close` gives the whole history, which is what pass 0 has then seen, with the keeper: its tables are those of the last
+//! state, and its trail is that of the history. Each pass that was joined has exactly the entries of its number.
 //!
-//! A call or a read may wait for other callers; nothing is said of how long.
+//! A call, a read or a log may wait for other callers; nothing is said of how long.
 //!
 //! The definitions are in `specs/`: `Floor` (what a contract sees of a floor and its passes, and what a call does to them),
 //! `Causes` (why a call isn't made), `Ledger` (what the callers take turns with, and what holds of it) and `Replies` (copies of
@@ -28,10 +29,13 @@ mod copying;
 mod floor;
 mod ledger;
 mod limit;
+mod log;
 mod opened;
+mod shared;
 mod step;
 
 pub use answer::{Answered, View, Waiting};
 pub use floor::{Floor, FloorPass};
-pub use ledger::Ledger;
+pub use ledger::{Closed, Ledger};
+pub use log::Log;
 pub use opened::Opened;

@@ -1,0 +1,61 @@
+// Histories, entry by entry.
+ghost use Rattle.std.specs.Prelude.{◌≡◌, length, slice_get, IfOk};
+ghost use Rattle.std.specs.Option.{option_copied};
+
+use crate::shared::Shared;
+use std::alloc::Global;
+use std::marker::Model;
+use wm_base::NoMemory;
+use wm_law::Entry;
+
+/// The entries of a history, in order. They are shared with the floor and not copied. A contract sees their list.
+#[derive(Drop)]
+pub struct Log {
+    entries: Vec<Shared<Entry>>,
+}
+
+impl Model for Log {
+    ghost use Rattle.std.specs.Prelude.{List};
+    ghost use Rattle.wm_law.specs.declared.call.Entry.{Entry};
+
+    ghost Value = { List Entry };
+
+    ghost view = { λ l. l.entries.items };
+}
+
+impl Log {
+    /// The entries of a list.
+    pub(crate) fn of(entries: Vec<Shared<Entry>>) -> Log
+        ensures { result ≡ entries.items }
+    {
+        Log { entries }
+    }
+
+    /// The entries of a list, which keeps them too.
+    pub(crate) fn sharing(alloc: Global, entries: &[Shared<Entry>]) -> Result<Log, NoMemory>
+        ensures { IfOk result (λ log. log ≡ entries.now) }
+    {
+        let mut shared = Vec::with_capacity(alloc, entries.len())?;
+        for entry in entries {
+            shared.push(entry.again()?)?;
+        }
+        Ok(Log { entries: shared })
+    }
+
+    /// How many entries there are.
+    pub fn len(&self) -> usize
+        ensures { result ≡ length self.now }
+    {
+        self.entries.len()
+    }
+
+    /// The entry at a place, counted from 0.
+    pub fn entry(&self, at: usize) -> Option<&Entry>
+        ensures { option_copied result ≡ slice_get self.now at }
+    {
+        match self.entries.get(at) {
+            Some(entry) => Some(entry.get()),
+            None => None,
+        }
+    }
+}
