@@ -1,5 +1,5 @@
 -- What each answer is over HTTP: its status, its body and its bytes.
-use Rattle.std.specs.Prelude.{ℕ, Bool, true, false, ◌||◌, List, [], ◌++◌, length, codes, decimal, string_bytes}
+use Rattle.std.specs.Prelude.{ℕ, Bool, true, false, ◌||◌, List, [], ◌++◌, length, codes, decimal}
 use Rattle.http.specs.StatusCode.{status_text}
 use Rattle.json.specs.Print.{quoted}
 use Rattle.wm_http.specs.declared.answer.Method.{Method}
@@ -56,15 +56,15 @@ error_json text = codes "{\"error\":" ++ (quoted text ++ codes "}")
 
 -- the body
 abbrev pub body : Answer → List ℕ
-body (Accepted place line) = reply_json place (string_bytes line)
-body (Listing lines) = string_bytes lines
-body (BadCommand line) = error_json (string_bytes line)
+body (Accepted place line) = reply_json place line
+body (Listing lines) = lines
+body (BadCommand line) = error_json line
 body SeveralCommands = error_json (codes "ONE COMMAND")
 body (BadRequest fault) = error_json (fault_text fault)
 body NoRoute = error_json (codes "NO ROUTE")
 body (WrongMethod method) = error_json (codes "METHOD")
-body (Refused place line) = reply_json place (string_bytes line)
-body (RefusedRead line) = error_json (string_bytes line)
+body (Refused place line) = reply_json place line
+body (RefusedRead line) = error_json line
 body KeeperFault = error_json (codes "KEEPERFAULT")
 body (LogFull limit) = error_json (codes "LOGFULL " ++ decimal limit)
 body NoMemory = error_json (codes "NOMEMORY")

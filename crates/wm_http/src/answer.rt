@@ -1,4 +1,5 @@
 // Answers.
+use crate::text::{Listed, Said};
 use std::fmt;
 
 /// A method that a route has.
@@ -41,14 +42,14 @@ pub enum RequestFault {
 }
 
 /// What a request is answered. This project's own table of statuses.
-#[derive(Debug, Drop)]
+#[derive(Drop)]
 pub enum Answer {
     /// A command that was accepted: its place in the log, and the reply's line.
-    Accepted(u64, String),
+    Accepted(u64, Said),
     /// The lines of a listing, each with its line feed.
-    Listing(String),
+    Listing(Listed),
     /// The line of a fault in the command's text.
-    BadCommand(String),
+    BadCommand(Said),
     /// More than one logical line where one command is asked.
     SeveralCommands,
     BadRequest(RequestFault),
@@ -56,9 +57,9 @@ pub enum Answer {
     /// The route has this method.
     WrongMethod(Method),
     /// A command that the machine refused: its place in the log, and the reply's line.
-    Refused(u64, String),
+    Refused(u64, Said),
     /// A listing that was refused: the reply's line.
-    RefusedRead(String),
+    RefusedRead(Said),
     /// The store failed.
     KeeperFault,
     /// The log has so many entries as it may have.

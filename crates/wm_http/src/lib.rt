@@ -20,6 +20,7 @@ mod pattern;
 mod request;
 mod route;
 mod routes;
+mod text;
 mod written;
 
 pub use answer::{Answer, Method, RequestFault};
@@ -29,4 +30,5 @@ pub use pattern::Pattern;
 pub use request::{Cut, Fields, Found, Head, Length, MAX_BODY, MAX_FIELDS, MAX_HEAD, Request};
 pub use route::Route;
 pub use routes::Routes;
+pub use text::{Listed, Said};
 pub use written::response;

@@ -68,23 +68,25 @@ fn log_full(alloc: Global, limit: u64) -> Result<String, NoMemory>
     error_json(alloc, error.as_str())
 }
 
-fn body(alloc: Global, answer: &Answer) -> Result<String, NoMemory>
-    ensures { IfOk result (λ text. string_bytes text ≡ body answer.now) }
+// The body of an answer, the bytes of a listing or JSON.
+fn body(alloc: Global, answer: &Answer) -> Result<Vec<u8>, NoMemory>
+    ensures { IfOk result (λ bytes. bytes.items ≡ body answer.now) }
 {
-    match answer {
-        Answer::Accepted(place, line) => reply_json(alloc, *place, line.as_str()),
-        Answer::Listing(lines) => lines.clone(),
-        Answer::BadCommand(line) => error_json(alloc, line.as_str()),
-        Answer::SeveralCommands => error_json(alloc, "ONE COMMAND"),
-        Answer::BadRequest(fault) => error_json(alloc, fault_text(*fault)),
-        Answer::NoRoute => error_json(alloc, "NO ROUTE"),
-        Answer::WrongMethod(_) => error_json(alloc, "METHOD"),
-        Answer::Refused(place, line) => reply_json(alloc, *place, line.as_str()),
-        Answer::RefusedRead(line) => error_json(alloc, line.as_str()),
-        Answer::KeeperFault => error_json(alloc, "KEEPERFAULT"),
-        Answer::LogFull(limit) => log_full(alloc, *limit),
-        Answer::NoMemory => error_json(alloc, "NOMEMORY"),
-    }
+    let json = match answer {
+        Answer::Listing(listed) => return listed.as_bytes().to_vec(alloc),
+        Answer::Accepted(place, line) => reply_json(alloc, *place, line.as_str())?,
+        Answer::BadCommand(line) => error_json(alloc, line.as_str())?,
+        Answer::SeveralCommands => error_json(alloc, "ONE COMMAND")?,
+        Answer::BadRequest(fault) => error_json(alloc, fault_text(*fault))?,
+        Answer::NoRoute => error_json(alloc, "NO ROUTE")?,
+        Answer::WrongMethod(_) => error_json(alloc, "METHOD")?,
+        Answer::Refused(place, line) => reply_json(alloc, *place, line.as_str())?,
+        Answer::RefusedRead(line) => error_json(alloc, line.as_str())?,
+        Answer::KeeperFault => error_json(alloc, "KEEPERFAULT")?,
+        Answer::LogFull(limit) => log_full(alloc, *limit)?,
+        Answer::NoMemory => error_json(alloc, "NOMEMORY")?,
+    };
+    Ok(json.into_bytes())
 }
 
 fn content_type(answer: &Answer) -> &'static str
@@ -166,11 +168,12 @@ fn response_head(
 
 /// The bytes of an answer, where the connection closes if the answer or the caller says so. An `Err` is want of memory.
 /// The form of the head is RFC 9112's; which fields it has is this project's own profile.
-pub fn response(alloc: Global, answer: &Answer, closes: bool) -> Result<String, NoMemory>
-    ensures { IfOk result (λ text. string_bytes text ≡ response_bytes answer.now closes) }
+pub fn response(alloc: Global, answer: &Answer, closes: bool) -> Result<Vec<u8>, NoMemory>
+    ensures { IfOk result (λ bytes. bytes.items ≡ response_bytes answer.now closes) }
 {
     let body = body(alloc, answer)?;
-    let mut text = response_head(alloc, answer, body.len(), closes)?;
-    text.push_str(body.as_str())?;
-    Ok(text)
+    let head = response_head(alloc, answer, body.len(), closes)?;
+    let mut bytes = head.into_bytes();
+    bytes.extend_from_slice(&body)?;
+    Ok(bytes)
 }

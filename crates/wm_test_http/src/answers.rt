@@ -8,7 +8,7 @@
 use anyhow::{Context, Result, bail};
 use std::alloc::Global;
 use wm_cases::{Subject, bytes_of};
-use wm_http::{Answer, Method, RequestFault, response};
+use wm_http::{Answer, Listed, Method, RequestFault, Said, response};
 
 /// Answers and their bytes.
 #[derive(Drop)]
@@ -41,16 +41,16 @@ impl AnswerCases {
         AnswerCases { alloc }
     }
 
-    fn text(&self, text: &str) -> Result<String> {
+    fn line(&self, text: &str) -> Result<Said> {
         match String::from_utf8(bytes_of(self.alloc, text)?) {
-            Ok(text) => Ok(text),
+            Ok(text) => Ok(Said::new(text)),
             Err(_) => bail!("no UTF-8"),
         }
     }
 
-    fn placed(&self, text: &str) -> Result<(u64, String)> {
+    fn placed(&self, text: &str) -> Result<(u64, Said)> {
         let (place, line) = text.split_once(' ').context("no place")?;
-        Ok((place.parse::<u64>()?, self.text(line)?))
+        Ok((place.parse::<u64>()?, self.line(line)?))
     }
 
     fn answer_of(&self, kind: &str) -> Result<Answer> {
@@ -64,9 +64,9 @@ impl AnswerCases {
                 let (place, line) = self.placed(text)?;
                 Ok(Answer::Refused(place, line))
             }
-            "listing" => Ok(Answer::Listing(self.text(text)?)),
-            "bad-command" => Ok(Answer::BadCommand(self.text(text)?)),
-            "refused-read" => Ok(Answer::RefusedRead(self.text(text)?)),
+            "listing" => Ok(Answer::Listing(Listed::new(bytes_of(self.alloc, text)?))),
+            "bad-command" => Ok(Answer::BadCommand(self.line(text)?)),
+            "refused-read" => Ok(Answer::RefusedRead(self.line(text)?)),
             "bad-request" => Ok(Answer::BadRequest(fault_of(text)?)),
             "wrong-method" => Ok(Answer::WrongMethod(method_of(text)?)),
             "log-full" => Ok(Answer::LogFull(text.parse::<u64>()?)),
@@ -105,8 +105,11 @@ impl Subject for AnswerCases {
     fn answer(&mut self, question: &str, shown: &mut String) -> Result<()> {
         let (asked, kind) = question.split_once(' ').context("no kind")?;
         let answer = self.answer_of(kind)?;
-        let text = response(self.alloc, &answer, asked == "last")?;
-        show(text.as_str(), shown)?;
+        let bytes = response(self.alloc, &answer, asked == "last")?;
+        match String::from_utf8(bytes) {
+            Ok(text) => show(text.as_str(), shown)?,
+            Err(_) => bail!("no UTF-8"),
+        }
         if asked == "answer" {
             shown.push_str(if answer.closes() {
                 "closes\n"
