@@ -7,6 +7,7 @@
 
 mod given;
 mod rows;
+mod several;
 mod shown;
 mod stops;
 mod subject;
