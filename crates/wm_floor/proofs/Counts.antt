@@ -36,7 +36,8 @@ by_test P m before after f g = by (after == greatest) refl
     by true e = f (eqb-true after greatest e)
     by false e = g (eqb-false after greatest e)
 
-grows : (m before after : ℕ) → m ≤ risen m before after
+-- a mark doesn't fall
+pub grows : (m before after : ℕ) → m ≤ risen m before after
 grows m before after = by_test (λ n. m ≤ n) m before after (λ e. omega arith) (λ e. omega arith)
 
 one_more : (m before after : ℕ) → after ≡ raised before → raised m ≤ risen m before after

@@ -11,6 +11,7 @@ use Rattle.wm_turn.specs.Passed.{StartsWith, begun, ended, own, risen}
 use Rattle.wm_journal.specs.History.{History, entry_at, last_of, with_call}
 use Rattle.wm_floor.specs.Floor.{Floored, HasLooked, IsPassOf, IsSame, Seen}
 use Rattle.wm_floor.specs.Ledger.{HasReply, caller_of}
+use Rattle.wm_floor.proofs.Counts.{grows}
 
 slice_get_push : {A : Type 0} (xs : List A) (y : A) → slice_get (xs ++ y ∷ []) (length xs) ≡ Some y
 slice_get_push [] y = refl
@@ -80,4 +81,5 @@ module _ {K : Type 0} where
     looked_after is = record {
       seen = subst (λ (es : List Entry). StartsWith es old.seen) (sym (seen_after ∙ is)) t.front;
       mine = mine_same is;
+      mark = subst (λ (n : ℕ). old.mark ≤ n) (sym mark_after) (grows old.mark before after);
     }

@@ -42,10 +42,11 @@ module _ {K : Type 0} where
     pub made : new.made ≡ old.made
     pub joined : new.joined ≡ old.joined
 
-  -- it has looked on: it has seen at least what it had seen, and has no entry and no mark more
+  -- it has looked on: it has seen at least what it had seen, has no entry more, and its mark hasn't fallen
   pub record HasLooked (old new : Seen K) : Type 0 where
     pub seen : StartsWith new.seen old.seen
     pub mine : new.mine ≡ old.mine
+    pub mark : old.mark ≤ new.mark
 
   -- the entry that the machine makes of a call behind what was found
   abbrev pub entry_of : Opened K → List Entry → ℕ → Call → ℕ → Entry
