@@ -1,0 +1,9 @@
+pub mod BodyLines
+pub mod Calls
+pub mod Connections
+pub mod Cuts
+pub mod Readings
+pub mod Requests
+pub mod Said
+pub mod Servings
+pub mod Turns
