@@ -1,0 +1,128 @@
+// One connection over a floor of its own.
+ghost use Rattle.std.specs.Prelude.{◌≡◌, ◌<◌, ◌≤◌, [], IfOk};
+ghost use Rattle.wm_floor.specs.Floor.{IsPassOf, IsSame};
+
+use crate::counting::CountingGate;
+use anyhow::{Result, bail};
+use std::alloc::Global;
+use std::sync::Wait;
+use wm_base::{Moment, Name};
+use wm_core::Setup;
+use wm_desc::qbatch;
+use wm_floor::{Floor, FloorPass};
+use wm_http::Routes;
+use wm_outside::{MemClock, MemKeeper, MemSink, MemSource};
+use wm_run::{Parsed, parse_line, user_call};
+use wm_web::{WebEnd, web_session};
+use wm_when::Offset;
+
+/// What the objects of a connection are like.
+#[derive(Drop)]
+pub struct Plan {
+    /// How many entries the floor takes.
+    pub limit: u32,
+    /// How many bytes a read gives and a write takes at the most.
+    pub piece: usize,
+    pub short: usize,
+    pub fail_apply: Vec<u32>,
+    pub fail_read: Vec<u32>,
+    pub fail_write: Vec<u32>,
+    ghost some: { 1 ≤ limit },
+    ghost most: { limit ≤ 1000000 },
+    ghost gives: { 0 < piece },
+    ghost takes: { 0 < short },
+}
+
+/// What was written, how the connection ended, and how often each call of the gate came.
+#[derive(Drop)]
+pub struct Came {
+    pub sink: MemSink,
+    pub end: WebEnd,
+    pub before: u32,
+    pub after: u32,
+}
+
+fn opened(
+    alloc: Global,
+    limit: u32,
+    fail: Vec<u32>,
+) -> Result<(Floor<MemKeeper>, FloorPass<MemKeeper>)>
+    requires some { 1 ≤ limit }
+    requires most { limit ≤ 1000000 }
+    ensures own { IfOk result (λ made. IsPassOf made.0 made.1) }
+    ensures zero { IfOk result (λ made. made.1.number ≡ 0) }
+    ensures made { IfOk result (λ made. made.1.made ≡ 0) }
+    ensures joined { IfOk result (λ made. made.1.joined ≡ []) }
+{
+    let keeper = MemKeeper::new(Vec::new(alloc), fail);
+    let setup = Setup {
+        ctl: qbatch(),
+        offset: Offset::new(0),
+    };
+    match Floor::open(alloc, keeper, &setup, limit) {
+        Ok(made) => Ok(made),
+        Err((keeper, fault)) => {
+            drop(keeper);
+            bail!("not opened: {fault}")
+        }
+    }
+}
+
+// Calls a command of QSYS.
+fn call<R: Wait>(
+    rt: &R,
+    alloc: Global,
+    floor: &Floor<MemKeeper>,
+    pass: &mut FloorPass<MemKeeper>,
+    text: &[u8],
+) -> Result<()>
+    requires own { IsPassOf floor.now pass.old }
+    ensures own { IsPassOf floor.now pass.new }
+    ensures same { IsSame pass.old pass.new }
+{
+    let user = Name::of(b"QSYS");
+    let Parsed::Call(command) = parse_line(alloc, &user, text)? else {
+        bail!("no command")
+    };
+    let call = user_call(alloc, &user, command)?;
+    match floor.call(rt, alloc, pass, call, Moment::new(1000)) {
+        Ok(answered) => {
+            drop(answered);
+            Ok(())
+        }
+        Err(fault) => bail!("not called: {fault}"),
+    }
+}
+
+/// Serves a connection over these bytes.
+pub fn serve<R: Wait>(rt: &R, alloc: Global, plan: Plan, bytes: Vec<u8>) -> Result<Came> {
+    let routes = Routes::new(alloc)?;
+    let mut source = MemSource::in_pieces(bytes, plan.fail_read, plan.piece);
+    let mut sink = MemSink::in_pieces(alloc, plan.fail_write, plan.short);
+    let mut clock = MemClock::new(Moment::new(2000), 1);
+    let gate = CountingGate::new();
+    let (floor, mut zero) = opened(alloc, plan.limit, plan.fail_apply)?;
+    let begun = call(rt, alloc, &floor, &mut zero, b"STRSBS QBATCH");
+    let end = web_session(
+        rt,
+        alloc,
+        &routes,
+        &floor,
+        &mut zero,
+        &mut source,
+        &mut sink,
+        &mut clock,
+        &gate,
+        1,
+    );
+    let closed = floor.close(zero);
+    let Ok(closed) = closed else { unreachable!() };
+    drop(closed);
+    begun?;
+    Ok(Came {
+        sink,
+        end,
+        before: gate.before_count(),
+        after: gate.after_count(),
+    })
+}
