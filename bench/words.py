@@ -51,12 +51,29 @@ def number(low, high):
     return read
 
 
+def listen(text):
+    """Where a server listens: an address, and behind a colon a port."""
+    addr, _, port = text.partition(":")
+    if addr not in ("127.0.0.1", "localhost"):
+        raise Bad
+    return f"{addr}:{number(0, 65535)(port)}"
+
+
 # What each command's options are read by, and what stands where they aren't given. An option without a default is required.
 COMMANDS = {
     "run": {
         "store": (path, ":memory:"),
         "ctl": (qualified, "QGPL/QBATCH"),
         "user": (name, "QUSER"),
+        "offset": (offset, 0),
+        "log-limit": (number(1, 1000000), 1000000),
+    },
+    "serve": {
+        "listen": (listen, None),
+        "workers": (number(1, 16), 2),
+        "monitors": (number(1, 8), 1),
+        "store": (path, ":memory:"),
+        "ctl": (qualified, "QGPL/QBATCH"),
         "offset": (offset, 0),
         "log-limit": (number(1, 1000000), 1000000),
     },
@@ -142,6 +159,21 @@ RUN_VALUES = {
     "offset": ["E0000", "W0000", "E0001", "W0530", "E2359", "W2359", "E2400", "W2400", "E2360", "E0060", "W0060", "e0000", "N0000", "0000", "E000", "E00000", "E+100", "E 100", "+0530", "-0530", "E00:00", "E", "", "EE000"],
     "log-limit": ["1", "2", "01", "00000000000000000001", "000000000000000000001", "999999", "1000000", "00000000000001000000", "1000001", "0", "00000000000000000000", "18446744073709551617", "99999999999999999999", "100000000000000000000", "+1", "-1", "1.0", "1e3", " 1", "1 ", "1_000", "", "x", "٣"],
 }
+SERVE_VALUES = {
+    "listen": [
+        "127.0.0.1:80", "localhost:8080", "127.0.0.1:0", "localhost:65535", "localhost:65536", "localhost:0080", "localhost:00000000000000000080", "localhost:000000000000000000080",
+        "localhost:18446744073709551696", "localhost:99999999999999999999", "localhost:", "localhost", "127.0.0.1", ":80", ":", "", "80", "localhost:80:", "localhost:80:80", ":localhost:80",
+        "localhost::80", "localhost:+80", "localhost:-1", "localhost: 80", "localhost:80 ", " localhost:80", "localhost :80", "localhost:http", "localhost:8O", "Localhost:80", "LOCALHOST:80",
+        "localhost.:80", "localhos:80", "localhosts:80", "127.0.0.2:80", "127.0.0.1.:80", "127.0.0.01:80", "127.1:80", "0.0.0.0:80", "::1:80", "[::1]:80", "*:80", "localhost/80", "localhost=80",
+    ],
+    "workers": ["1", "16", "0", "17", "016", "00000000000000000016", "000000000000000000016", "18446744073709551617", "4294967297", "+1", "-1", "1.0", "", "x"],
+    "monitors": ["1", "8", "0", "9", "08", "00000000000000000008", "000000000000000000008", "18446744073709551617", "4294967297", "+1", "-1", "1.0", "", "x"],
+    "store": ["a", ":memory:", "", "-", "a=b"],
+    "ctl": ["A/B", "A", "a/B", "", "ABCDEFGHIJ/ABCDEFGHIJ"],
+    "user": ["ANN"],
+    "offset": ["E2359", "W0530", "E2400", "", "0"],
+    "log-limit": ["1", "1000000", "0", "1000001", ""],
+}
 DRILL_VALUES = {
     "seed": ["0", "7", "18446744073709551615", "18446744073709551616", "99999999999999999999", "000000000000000000007", "00000000000000000007", "+7", "-7", "7.0", "", "x"],
     "jobs": ["1", "5000", "0", "5001", "05000", "00000000000000005000", "000000000000000005000", "18446744073709556615", "+1", "-1", "", "x"],
@@ -164,6 +196,12 @@ def values(table):
         table.begin(f"Values of --{option}, in both forms")
         for text in texts:
             table.both("run", option, text)
+    table.begin("Values of the options of serve, in both forms")
+    for text in SERVE_VALUES["listen"]:
+        table.both("serve", "listen", text)
+    for option, texts in list(SERVE_VALUES.items())[1:]:
+        for text in texts:
+            table.both("serve", option, text, "--listen", "127.0.0.1:80")
     table.begin("Values of the options of drill, in both forms")
     for text in DRILL_VALUES["seed"]:
         table.both("drill", "seed", text, "--jobs", "5")
@@ -171,6 +209,7 @@ def values(table):
         table.both("drill", "jobs", text, "--seed=7")
 
 
+SERVED = {"listen": "localhost:80", "workers": "16", "monitors": "8", "store": "a", "ctl": "A/B", "offset": "W0530", "log-limit": "9"}
 GOOD = {"store": "a", "ctl": "A/B", "user": "ANN", "offset": "W0530", "log-limit": "9"}
 
 
@@ -197,6 +236,15 @@ def times(table):
         table.ask("run", *(f"--{option}={value}" for option, value in order))
         table.ask("run", *(word for option, value in reversed(order) for word in (f"--{option}", value)))
         table.ask("run", *(word for option, value in order[:2] for word in (f"--{option}", value)), *(f"--{option}={value}" for option, value in order[2:4]))
+    for at in range(len(SERVED)):
+        order = list(SERVED.items())[at:] + list(SERVED.items())[:at]
+        table.ask("serve", *(f"--{option}={value}" for option, value in order))
+        table.ask("serve", *(word for option, value in reversed(order) for word in (f"--{option}", value)))
+        table.ask("serve", *(f"--{option}={value}" for option, value in order), f"--{order[0][0]}={order[0][1]}")
+        table.ask("serve", *(f"--{option}={value}" for option, value in order[1:]))
+    table.ask("serve", "--listen=localhost:80", "--seed=7")
+    table.ask("run", "--listen=localhost:80")
+    table.ask("drill", "--jobs=5", "--seed=7", "--workers=2")
     table.ask("drill", "--seed", "7")
     table.ask("drill", "--jobs", "5")
     table.ask("drill", "--jobs=5", "--seed", "7")

@@ -8,7 +8,7 @@ use anyhow::{Context, Result};
 use std::alloc::Global;
 use std::str;
 use wm_cases::{Subject, bytes_of};
-use wm_plan::{DrillPlan, Plan, RunPlan, WordFault, read_words};
+use wm_plan::{Addr, DrillPlan, Plan, RunPlan, ServePlan, WordFault, read_words};
 
 /// The words of the command line.
 #[derive(Drop)]
@@ -44,6 +44,30 @@ fn run(plan: &RunPlan, answer: &mut String) -> Result<()> {
     Ok(())
 }
 
+fn addr(addr: Addr) -> &'static str {
+    match addr {
+        Addr::Ip => "127.0.0.1",
+        Addr::Localhost => "localhost",
+    }
+}
+
+fn serve(plan: &ServePlan, answer: &mut String) -> Result<()> {
+    let (addr, port) = (addr(plan.listen.addr), plan.listen.port);
+    let (workers, monitors) = (plan.workers, plan.monitors);
+    write!(
+        answer,
+        "serve listen {addr}:{port} workers {workers} monitors {monitors} "
+    )?;
+    let store = plan.store.as_str();
+    let offset = plan.offset.minutes();
+    writeln!(
+        answer,
+        "store {store} ctl {} offset {offset} log-limit {}",
+        plan.ctl, plan.log_limit
+    )?;
+    Ok(())
+}
+
 fn drill(plan: &DrillPlan, answer: &mut String) -> Result<()> {
     writeln!(answer, "drill seed {} jobs {}", plan.seed, plan.jobs)?;
     Ok(())
@@ -53,6 +77,7 @@ fn plan(alloc: Global, text: &str, answer: &mut String) -> Result<()> {
     let words = words_of(alloc, text)?;
     match read_words(alloc, &words) {
         Ok(Plan::Run(plan)) => run(&plan, answer),
+        Ok(Plan::Serve(plan)) => serve(&plan, answer),
         Ok(Plan::Drill(plan)) => drill(&plan, answer),
         Err(WordFault::Bad) => {
             writeln!(answer, "bad")?;
