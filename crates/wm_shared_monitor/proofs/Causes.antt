@@ -1,5 +1,5 @@
 -- Laws of why a call of a monitor ends early.
-use Rattle.std.proofs.Common.{◌≡◌, ℕ, ◌<◌, ◌≤◌, List, length, Result, Err, ap, sym, subst, ◌∙◌, arith}
+use Rattle.std.proofs.Common.{◌≡◌, ℕ, ◌<◌, ◌≤◌, List, length, Result, Err, IfErr, ap, sym, subst, ◌∙◌, arith}
 use Rattle.wm_law.specs.declared.call.Entry.{Entry}
 use Rattle.wm_traits.specs.Cause.{raised}
 use Rattle.wm_monitor.specs.declared.fault.MonitorFault.{MonitorFault}
@@ -22,4 +22,8 @@ IsCaused-since e a b c m n o seen h fewer less = record {
   full = h.full;
 }
 
-pub ruleset causes = (IsCaused-wait, IsCaused-memory, IsCaused-since)
+-- a fault of the last part, as it is told again
+pub caused : {T : Type 0} (result : Result T MonitorFault) (e d : MonitorFault) (a b c m n o : ℕ) (seen : List Entry) → result ≡ Err d → d ≡ e → IsCaused b c n o seen e → a ≤ b → m ≤ n → IfErr result (IsCaused a c m o seen)
+caused result e d a b c m n o seen is same h fewer less =
+    let again = subst (λ (x : MonitorFault). IsCaused a c m o seen x) (sym same) (IsCaused-since e a b c m n o seen h fewer less) in
+    subst (λ (r : Result _ MonitorFault). IfErr r (IsCaused a c m o seen)) (sym is) again

@@ -5,3 +5,4 @@ pub mod Idles
 pub mod Loops
 pub mod Parts
 pub mod Passes
+pub mod Turns

@@ -23,9 +23,9 @@ use Rattle.wm_floor.specs.Floor.{Floored, IsPassOf, Seen}
 use Rattle.wm_shared_monitor.specs.declared.monitor.SharedMonitor.{SharedMonitor}
 use Rattle.wm_shared_monitor.specs.Advance.{Advances, GoesOn, HasAsked, HasReported, IsWithin, added}
 use Rattle.wm_shared_monitor.specs.Made.{IsMade}
-use Rattle.wm_shared_monitor.specs.Scene.{IsClear, Scene, Spawning, scene}
-use Rattle.wm_shared_monitor.proofs.Advances.{Advances-by, Advances-most, Advances-then, HasAsked-again, HasAsked-none, HasAsked-nothing, HasAsked-order, HasAsked-owed, HasReported-none, HasReported-nothing, HasReported-sent, HasReported-told, orders_none, orders_one, reports_none, reports_one}
-use Rattle.wm_shared_monitor.proofs.Passes.{GoesOn-then, since-by}
+use Rattle.wm_shared_monitor.specs.Scene.{IsClear, OwesSeen, Scene, Spawning, order_owed, scene}
+use Rattle.wm_shared_monitor.proofs.Advances.{Advances-by, Advances-looked, Advances-still, Advances-then, HasAsked-again, HasAsked-none, HasAsked-nothing, HasAsked-order, HasAsked-owed, HasReported-none, HasReported-nothing, HasReported-sent, HasReported-told, orders_none, orders_one, reports_none, reports_one}
+use Rattle.wm_shared_monitor.proofs.Passes.{owed_later, owed_none, since-by}
 
 -- a report is no Hand
 report_call : (r : Report) → is_report (call_of r) ≡ true
@@ -92,6 +92,43 @@ module _ {K : Type 0} (f : Floored K) where
   Advances-owing h o p q m n xs xs' ys ys' v w old new part =
       subst (λ (zs : List Asked). Advances f h o p q (scene m xs' v) (scene n zs w)) (sym new) (subst (λ (zs : List Asked). Advances f h o p q (scene m zs v) (scene n ys w)) (sym old) part)
 
+  -- what is owed stays owed, by its place
+  pub owes_still : (h o : ℕ) (p q : Seen K) (m n : SharedMonitor) (v w : Spawning) → OwesSeen p.seen m → n.owed ≡ m.owed → Advances f h o p q (scene m (order_owed p.seen m) v) (scene n (order_owed p.seen m) w) → Advances f h o p q (scene m (order_owed p.seen m) v) (scene n (order_owed q.seen n) w)
+  owes_still h o p q m n v w owes same part =
+      let O = order_owed p.seen m in
+      Advances-owing h o p q m n O O O (order_owed q.seen n) v w refl (owed_later p.seen q.seen m n part.pass.seen owes same) part
+
+  -- a monitor that has no place of an order owes none
+  pub owes_none : (h o : ℕ) (p q : Seen K) (m n : SharedMonitor) (xs : List Asked) (v w : Spawning) → n.owed ≡ None → Advances f h o p q (scene m xs v) (scene n [] w) → Advances f h o p q (scene m xs v) (scene n (order_owed q.seen n) w)
+  owes_none h o p q m n xs v w none part = Advances-owing h o p q m n xs xs [] (order_owed q.seen n) v w refl (owed_none q.seen n none) part
+
+  pub owes_nothing : (h o : ℕ) (p q : Seen K) (m n : SharedMonitor) (xs : List Asked) (v w : Spawning) → n.owed ≡ None → Advances f h o p q (scene m xs v) (scene n (order_owed q.seen n) w) → Advances f h o p q (scene m xs v) (scene n [] w)
+  owes_nothing h o p q m n xs v w none part = Advances-owing h o p q m n xs xs (order_owed q.seen n) [] v w refl (sym (owed_none q.seen n none)) part
+
+  -- a look at the reply of what is owed, and then it is done
+  pub paid_part : (p q r : Seen K) (m n : SharedMonitor) (xs : List Asked) (v w : Spawning) → GoesOn f p q → q.mine ≡ p.mine → order_owed p.seen m ≡ xs → n.owed ≡ None → Advances f 0 1 q r (scene m xs v) (scene n [] w) → Advances f 0 1 p r (scene m (order_owed p.seen m) v) (scene n (order_owed r.seen n) w)
+  paid_part p q r m n xs v w goes mine order none followed =
+      let looked = Advances-looked f 0 0 p q (scene m xs v) goes mine in
+      let base = Advances-then f 0 0 0 1 p q r (scene m xs v) (scene m xs v) (scene n [] w) looked followed in
+      Advances-owing 0 1 p r m n xs (order_owed p.seen m) [] (order_owed r.seen n) v w order (owed_none r.seen n none) base
+
+  -- the spawner told nothing
+  pub unreported_part : (h o : ℕ) (p : Seen K) (m : SharedMonitor) (xs : List Asked) (v w : Spawning) → IsPassOf f p → m.kept ≡ None → Grows v.asked w.asked [] → Grows v.told w.told [] → RisesBy v.misses 0 w.misses → v.faults ≤ w.faults → Advances f h o p p (scene m xs v) (scene m xs w)
+  unreported_part h o p m xs v w own none asked told misses faults =
+      Advances-still f h o p (scene m xs v) (scene m xs w) own (looked_asked m m xs v w refl asked) (kept_reported m m None xs xs v w none none told misses) faults
+
+  -- what the spawner told is kept, and then it is sent
+  pub reported_part : (p q : Seen K) (m k n : SharedMonitor) (told_is : Option Report) (xs : List Asked) (v w : Spawning) → IsPassOf f p → m.kept ≡ None → k.kept ≡ told_is → k.failed_kill ≡ m.failed_kill → Grows v.asked w.asked [] → Grows v.told w.told (map call_of (option_to_list told_is)) → RisesBy v.misses (count_by is_spawner_fault (map call_of (option_to_list told_is))) w.misses → v.faults ≤ w.faults → Advances f 0 1 p q (scene k xs w) (scene n xs w) → Advances f 0 1 p q (scene m xs v) (scene n xs w)
+  reported_part p q m k n told_is xs v w own none kept failed asked told misses faults sent =
+      let first = Advances-still f 0 0 p (scene m xs v) (scene k xs w) own (looked_asked m k xs v w failed asked) (kept_reported m k told_is xs xs v w none kept told misses) faults in
+      Advances-then f 0 0 0 1 p p q (scene m xs v) (scene k xs w) (scene n xs w) first sent
+
+  -- the kept report is sent, and then the kill that failed is tried again
+  pub tried_part : (p q : Seen K) (m k n : SharedMonitor) (xs : List Asked) (v w : Spawning) → Advances f 0 1 p q (scene m xs v) (scene k xs v) → HasAsked [] (scene k xs v) (scene n xs w) → HasReported [] (scene k xs v) (scene n xs w) → v.faults ≤ w.faults → Advances f 0 1 p q (scene m xs v) (scene n xs w)
+  tried_part p q m k n xs v w sent asked reported faults =
+      let again = Advances-still f 0 0 q (scene k xs v) (scene n xs w) sent.pass.own asked reported faults in
+      Advances-then f 0 1 0 0 p q q (scene m xs v) (scene k xs v) (scene n xs w) sent again
+
   -- a Tick is made
   pub ticked_part : (p q : Seen K) (now : ℕ) (a : Answered) (around : Scene) → GoesOn f p q → IsMade call.Tick now p q a → Advances f 0 1 p q around around
   ticked_part p q now a around goes made =
@@ -106,6 +143,13 @@ module _ {K : Type 0} (f : Floored K) where
 
   pub count_then : (p q r : Seen K) (m n : ℕ) → GoesOn f p q → GoesOn f q r → m ≡ length (added p q) → n ≡ length (added q r) → m + n ≡ length (added p r)
   count_then p q r m n h k x y =
+      let both = ap length (added-then p q r h k) ∙ length-append (added p q) (added q r) in
+      omega arith
+
+  -- where there was a report, an entry was made
+  pub some_then : (p q r : Seen K) (kept : Option Report) → GoesOn f p q → GoesOn f q r → IfSome kept (λ _. 1 ≤ length (added p q)) → IfSome kept (λ _. 1 ≤ length (added p r))
+  some_then p q r None h k some = tt
+  some_then p q r (Some report) h k some =
       let both = ap length (added-then p q r h k) ∙ length-append (added p q) (added q r) in
       omega arith
 

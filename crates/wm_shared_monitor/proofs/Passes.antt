@@ -61,7 +61,7 @@ module _ {K : Type 0} (f : Floored K) where
   }
 
   -- the own entries among what was seen since are those that were made since
-  own_since : (p q : Seen K) (more es : List Entry) → IsPassOf f p → IsPassOf f q → IsSame p q → q.seen ≡ p.seen ++ more → q.mine ≡ p.mine ++ es → own caller_of p.number more ≡ es
+  pub own_since : (p q : Seen K) (more es : List Entry) → IsPassOf f p → IsPassOf f q → IsSame p q → q.seen ≡ p.seen ++ more → q.mine ≡ p.mine ++ es → own caller_of p.number more ≡ es
   own_since p q more es before now same seen mine =
       let number = ap (λ (n : ℕ). own caller_of n q.seen) same.number in
       let both : own caller_of p.number (p.seen ++ more) ≡ own caller_of p.number p.seen ++ own caller_of p.number more = filter-append (λ (x : Entry). caller_of x == p.number) p.seen more in

@@ -65,7 +65,7 @@ impl SharedMonitor {
     ghost use Rattle.wm_shared_monitor.specs.Advance.{added, Advances, HasAsked, HasReported, MonitorAdvances};
     ghost use Rattle.wm_shared_monitor.specs.Causes.{IsCaused};
     ghost use Rattle.wm_shared_monitor.specs.Scene.{order_owed, scene, spawner_seen, IsClear, OwesSeen, Scene, Spawning};
-    ghost use Rattle.wm_shared_monitor.specs.Turned.{WaitedAt};
+    ghost use Rattle.wm_shared_monitor.specs.Turned.{HadNothing, WaitedAt};
 
     /// A monitor that keeps nothing.
     pub fn new() -> SharedMonitor
@@ -94,6 +94,7 @@ impl SharedMonitor {
         ensures kept { OnOk result (self.new.kept ≡ None) }
         ensures kill { self.new.failed_kill ≡ self.old.failed_kill }
         ensures owed { self.new.owed ≡ self.old.owed }
+        ensures unread { self.old.kept ≡ None → clock.new ≡ clock.old }
         ensures cause { (faults : ℕ) → IfErr result (IsCaused faults faults pass.old.mark pass.new.mark pass.new.seen) }
     {
         let Some(report) = self.kept else {
@@ -193,6 +194,8 @@ impl SharedMonitor {
         ensures sent { IfOk result (λ n. n ≡ length (added pass.old pass.new)) }
         ensures clear { OnOk result (IsClear self.new) }
         ensures owes { OwesSeen pass.new.seen self.new }
+        ensures quiet { self.old.owed ≡ None → spawner.new ≡ spawner.old }
+        ensures unread { self.old.owed ≡ None → clock.new ≡ clock.old }
         ensures cause { IfErr result (IsCaused (P.faults spawner.old) (P.faults spawner.new) pass.old.mark pass.new.mark pass.new.seen) }
     {
         let Some(place) = self.owed else {
@@ -222,6 +225,9 @@ impl SharedMonitor {
         ensures sent { IfOk result (λ n. n ≡ length (added pass.old pass.new)) }
         ensures clear { OnOk result (IsClear self.new) }
         ensures owes { OwesSeen pass.new.seen self.new }
+        ensures some { OnOk result (IfSome self.old.kept (λ _. 1 ≤ length (added pass.old pass.new))) }
+        ensures quiet { self.old.failed_kill ≡ None → self.old.owed ≡ None → spawner.new ≡ spawner.old }
+        ensures unread { self.old.kept ≡ None → self.old.owed ≡ None → clock.new ≡ clock.old }
         ensures again { OnOk result (IfSome self.old.failed_kill (λ serial. AsksFirst (Kill serial) (P.asked spawner.old) (P.asked spawner.new))) }
         ensures cause { IfErr result (IsCaused (P.faults spawner.old) (P.faults spawner.new) pass.old.mark pass.new.mark pass.new.seen) }
     {
@@ -283,6 +289,7 @@ impl SharedMonitor {
         ensures at { IfOk result (λ turned. turned.at ≡ length pass.new.seen) }
         ensures pending { IfOk result (λ turned. turned.pending ≡ pending (reached (behind floor.now.opening pass.new.seen)) pass.old.number) }
         ensures all { IfOk result (λ turned. (turned.pending.orders ≡ 0) ⊎ (hands_of (added pass.old pass.new) ≡ 256)) }
+        ensures quiet { OnOk result (length (added pass.old pass.new) ≡ 0 → P.reporting spawner.new ≡ P.reporting spawner.old) }
         ensures clear { OnOk result (IsClear self.new) }
         ensures owes { OwesSeen pass.new.seen self.new }
         ensures cause { IfErr result (IsCaused (P.faults spawner.old) (P.faults spawner.new) pass.old.mark pass.new.mark pass.new.seen) }
@@ -375,6 +382,8 @@ impl SharedMonitor {
         ensures sent { IfOk result (λ turned. turned.sent ≡ length (added pass.old pass.new)) }
         ensures waited { IfOk result (λ turned. WaitedAt floor.now pass.old pass.new turned.at turned.pending) }
         ensures handed { IfOk result (λ turned. (turned.pending.orders ≡ 0) ⊎ (hands_of (added pass.old pass.new) ≡ 256)) }
+        ensures idle { IfOk result (λ turned. turned.sent ≡ 0 → self.old.failed_kill ≡ None → self.old.owed ≡ None →
+            HadNothing floor.now pass.old pass.new self.old.kept (C.coming clock.old) (P.reporting spawner.old)) }
         ensures cause { IfErr result (IsCaused (P.faults spawner.old) (P.faults spawner.new) pass.old.mark pass.new.mark pass.new.seen) }
     {
         let settled = self.settle(rt, alloc, floor, pass, spawner, clock)?;
@@ -410,6 +419,7 @@ impl SharedMonitor {
         ensures owed { self.new.owed ≡ self.old.owed }
         ensures owes { OwesSeen pass.new.seen self.new }
         ensures sent { IfOk result (λ turned. turned.sent ≡ length (added pass.old pass.new)) }
+        ensures at { IfOk result (λ turned. turned.at ≡ length pass.new.seen) }
         ensures waited { IfOk result (λ turned. WaitedAt floor.now pass.old pass.new turned.at turned.pending) }
         ensures cause { IfErr result (IsCaused (P.faults spawner.old) (P.faults spawner.new) pass.old.mark pass.new.mark pass.new.seen) }
     {

@@ -1,12 +1,9 @@
-use Rattle.std.proofs.Common.{◌≡◌, ◌≤◌, ◌+◌, ℕ, List, [], ◌∷◌, Option, None, Some, IfSome, option_to_list, length, sym, refl, subst, ap, ◌∙◌, arith}
+use Rattle.std.proofs.Common.{[], Some, option_to_list, refl}
 use Rattle.wm_law.specs.History.{order_in}
-use Rattle.wm_monitor.proofs.Askings.{AsksFirst-again}
-use Rattle.wm_shared_monitor.specs.Advance.{Advances, added}
-use Rattle.wm_shared_monitor.specs.Scene.{IsPlace, order_owed, scene, spawner_seen}
-use Rattle.wm_shared_monitor.proofs.Advances.{Advances-looked, Advances-most, Advances-none, Advances-still, Advances-then}
-use Rattle.wm_shared_monitor.proofs.Causes.{IsCaused-memory, IsCaused-since}
-use Rattle.wm_shared_monitor.proofs.Parts.{Advances-owing, AsksFirst-more, count_then, handed_one, handed_part, kept_reported, looked_asked, made_none, made_one}
-use Rattle.wm_shared_monitor.proofs.Passes.{GoesOn-looked, copy_order, made_order, owed_later, owed_none, paid_order, seen_later, seen_none}
+use Rattle.wm_shared_monitor.specs.Scene.{order_owed, scene, spawner_seen}
+use Rattle.wm_shared_monitor.proofs.Advances.{Advances-looked}
+use Rattle.wm_shared_monitor.proofs.Parts.{handed_one, handed_part, owes_none}
+use Rattle.wm_shared_monitor.proofs.Passes.{copy_order, made_order}
 use Rattle.wm_shared_monitor.proofs.monitor.SharedMonitor.hand.Goals as goal
 
 pub returns-in_err-answered-clause-part : goal.returns-in_err-answered-clause-part
@@ -18,7 +15,7 @@ returns-in_err-answered-clause-part g c =
     let m = c.args.self.now in
     let v = see c.args.spawner.now in
     let q = c.enter.new.pass in
-    Advances-owing f 1 0 p q m m [] [] [] (order_owed q.seen m) v v refl (owed_none q.seen m c.requires.clear.no_order) (Advances-looked f 1 0 p q (scene m [] v) c.enter.ensures.part c.in_err-answered.ensures.err)
+    owes_none f 1 0 p q m m [] v v c.requires.clear.no_order (Advances-looked f 1 0 p q (scene m [] v) c.enter.ensures.part c.in_err-answered.ensures.err)
 
 pub returns-in_err-sent-in-Some-clause-part : goal.returns-in_err-sent-in-Some-clause-part
 returns-in_err-sent-in-Some-clause-part g c =
@@ -35,7 +32,7 @@ returns-in_err-sent-in-Some-clause-part g c =
     let w = see c.follow.new.spawner in
     let xs = option_to_list (order_in c.in-Some.reply) in
     let part = handed_part f p q r c.now-now.result _ m m xs v (scene n [] w) c.enter.ensures.part made (copy_order made.entry.reply c.in-Some.reply _ made.reply c.in-Some.is) refl refl c.follow.ensures.part in
-    Advances-owing f 1 0 p r m n [] [] [] (order_owed r.seen n) v w refl (owed_none r.seen n c.follow.ensures.owed) part
+    owes_none f 1 0 p r m n [] v w c.follow.ensures.owed part
 
 pub returns-in_ok-sent-in-Some-clause-part : goal.returns-in_ok-sent-in-Some-clause-part
 returns-in_ok-sent-in-Some-clause-part g c =
@@ -52,7 +49,7 @@ returns-in_ok-sent-in-Some-clause-part g c =
     let w = see c.follow.new.spawner in
     let xs = option_to_list (order_in c.in-Some.reply) in
     let part = handed_part f p q r c.now-now.result _ m m xs v (scene n [] w) c.enter.ensures.part made (copy_order made.entry.reply c.in-Some.reply _ made.reply c.in-Some.is) refl refl c.follow.ensures.part in
-    Advances-owing f 1 0 p r m n [] [] [] (order_owed r.seen n) v w refl (owed_none r.seen n c.follow.ensures.owed) part
+    owes_none f 1 0 p r m n [] v w c.follow.ensures.owed part
 
 pub returns-in_err-sent-in-None-clause-part : goal.returns-in_err-sent-in-None-clause-part
 returns-in_err-sent-in-None-clause-part g c =
@@ -64,11 +61,12 @@ returns-in_err-sent-in-None-clause-part g c =
     let v = see c.args.spawner.now in
     let q = c.enter.new.pass in
     let made = c.in_ok-answered.ensures.ok in
-    let k = record m { owed = Some c.in_ok-answered.answered.place } in
+    let place = c.in_ok-answered.answered.place in
+    let k = record m { owed = Some place } in
     let r = c.pay.new.pass in
     let n = c.pay.new.self in
     let w = see c.pay.new.spawner in
-    handed_part f p q r c.now-now.result _ m k (order_owed q.seen k) v (scene n (order_owed r.seen n) w) c.enter.ensures.part made (made_order q.seen k c.in_ok-answered.answered.place made.entry refl made.found) refl refl c.pay.ensures.part
+    handed_part f p q r c.now-now.result _ m k (order_owed q.seen k) v (scene n (order_owed r.seen n) w) c.enter.ensures.part made (made_order q.seen k place made.entry refl made.found) refl refl c.pay.ensures.part
 
 pub returns-in_ok-sent-in-None-clause-part : goal.returns-in_ok-sent-in-None-clause-part
 returns-in_ok-sent-in-None-clause-part g c =
@@ -80,32 +78,25 @@ returns-in_ok-sent-in-None-clause-part g c =
     let v = see c.args.spawner.now in
     let q = c.enter.new.pass in
     let made = c.in_ok-answered.ensures.ok in
-    let k = record m { owed = Some c.in_ok-answered.answered.place } in
+    let place = c.in_ok-answered.answered.place in
+    let k = record m { owed = Some place } in
     let r = c.pay.new.pass in
     let n = c.pay.new.self in
     let w = see c.pay.new.spawner in
-    handed_part f p q r c.now-now.result _ m k (order_owed q.seen k) v (scene n (order_owed r.seen n) w) c.enter.ensures.part made (made_order q.seen k c.in_ok-answered.answered.place made.entry refl made.found) refl refl c.pay.ensures.part
+    handed_part f p q r c.now-now.result _ m k (order_owed q.seen k) v (scene n (order_owed r.seen n) w) c.enter.ensures.part made (made_order q.seen k place made.entry refl made.found) refl refl c.pay.ensures.part
 
 pub returns-in_ok-sent-in-Some-clause-hand : goal.returns-in_ok-sent-in-Some-clause-hand
 returns-in_ok-sent-in-Some-clause-hand g c =
-    let s = g.P.Spawner in
-    let see = spawner_seen s.asked s.told s.misses s.faults in
     let f = c.args.floor.now in
     let p = c.args.pass.now in
-    let m = c.args.self.now in
-    let v = see c.args.spawner.now in
     let q = c.enter.new.pass in
     let made = c.in_ok-answered.ensures.ok in
     handed_one f p q c.follow.new.pass c.now-now.result _ c.enter.ensures.part made c.follow.ensures.part.pass
 
 pub returns-in_ok-sent-in-None-clause-hand : goal.returns-in_ok-sent-in-None-clause-hand
 returns-in_ok-sent-in-None-clause-hand g c =
-    let s = g.P.Spawner in
-    let see = spawner_seen s.asked s.told s.misses s.faults in
     let f = c.args.floor.now in
     let p = c.args.pass.now in
-    let m = c.args.self.now in
-    let v = see c.args.spawner.now in
     let q = c.enter.new.pass in
     let made = c.in_ok-answered.ensures.ok in
     handed_one f p q c.pay.new.pass c.now-now.result _ c.enter.ensures.part made c.pay.ensures.part.pass

@@ -1,13 +1,40 @@
-use Rattle.std.proofs.Common.{◌≡◌, ◌≤◌, ◌+◌, ℕ, List, [], ◌∷◌, Option, None, Some, IfSome, option_to_list, length, sym, refl, subst, ap, ◌∙◌, arith}
-use Rattle.wm_law.specs.History.{order_in}
-use Rattle.wm_monitor.proofs.Askings.{AsksFirst-again}
-use Rattle.wm_shared_monitor.specs.Advance.{Advances, added}
-use Rattle.wm_shared_monitor.specs.Scene.{IsPlace, order_owed, scene, spawner_seen}
-use Rattle.wm_shared_monitor.proofs.Advances.{Advances-looked, Advances-most, Advances-none, Advances-still, Advances-then}
-use Rattle.wm_shared_monitor.proofs.Causes.{IsCaused-memory, IsCaused-since}
-use Rattle.wm_shared_monitor.proofs.Parts.{Advances-owing, AsksFirst-more, count_then, handed_one, handed_part, kept_reported, looked_asked, made_none, made_one}
-use Rattle.wm_shared_monitor.proofs.Passes.{GoesOn-looked, copy_order, made_order, owed_later, owed_none, paid_order, seen_later, seen_none}
+use Rattle.std.proofs.Common.{arith}
+use Rattle.std.proofs.lemmas.Result.{err_from_is_err_and}
+use Rattle.wm_shared_monitor.specs.Scene.{order_owed, spawner_seen}
+use Rattle.wm_shared_monitor.proofs.Causes.{caused}
+use Rattle.wm_shared_monitor.proofs.Loops.{HandLoop-more, HandLoop-none, hands_end, hands_end_count, hands_end_sent, hands_part, hands_quiet}
+use Rattle.wm_shared_monitor.proofs.Passes.{GoesOn-looked, seen_none}
 use Rattle.wm_shared_monitor.proofs.monitor.SharedMonitor.hands.Goals as goal
+
+pub hands-init : goal.hands-init
+hands-init g c =
+    let s = g.P.Spawner in
+    let see = spawner_seen s.asked s.told s.misses s.faults in
+    let f = c.args.floor.now in
+    let p = c.args.pass.now in
+    let m = c.args.self.now in
+    let v = see c.args.spawner.now in
+    HandLoop-none f p m v (s.reporting c.args.spawner.now) c.requires.own c.requires.clear
+
+pub hands-preserved : goal.hands-preserved
+hands-preserved g c =
+    let s = g.P.Spawner in
+    let see = spawner_seen s.asked s.told s.misses s.faults in
+    let f = c.args.floor.now in
+    let p = c.args.pass.now in
+    let m = c.args.self.now in
+    let v = see c.args.spawner.now in
+    let i = c.hands.invariant in
+    let q = c.hands.pass in
+    let k = c.hands.self in
+    let x = see c.hands.spawner in
+    let r = c.pending-waiting.new.pass in
+    let e = c.pending-waiting.ensures in
+    let goes = GoesOn-looked f q r i.part.pass.own e.own e.same e.looked in
+    let t = c.hand.new.pass in
+    let n = c.hand.new.self in
+    let w = see c.hand.new.spawner in
+    HandLoop-more f p q r t m k n v x w _ _ _ c.hands.counter c.hands.sent _ i goes e.looked.mine c.hand.ensures.part c.in_ok-hand.ensures.clear c.in_ok-hand.ensures.hand c.in_ok-hand.ensures.sent
 
 pub returns-in_err-hand-clause-part : goal.returns-in_err-hand-clause-part
 returns-in_err-hand-clause-part g c =
@@ -24,9 +51,27 @@ returns-in_err-hand-clause-part g c =
     let r = c.pending-waiting.new.pass in
     let e = c.pending-waiting.ensures in
     let goes = GoesOn-looked f q r i.part.pass.own e.own e.same e.looked in
-    let seen = Advances-then f c.hands.counter 0 0 0 p q r (scene m [] v) (scene k [] x) (scene k [] x) i.part (Advances-looked f 0 0 q r (scene k [] x) goes e.looked.mine) in
     let t = c.hand.new.pass in
     let n = c.hand.new.self in
     let w = see c.hand.new.spawner in
-    let whole = Advances-then f c.hands.counter 0 1 0 p r t (scene m [] v) (scene k [] x) (scene n (order_owed t.seen n) w) seen c.hand.ensures.part in
-    Advances-most f (c.hands.counter + 1) 0 256 0 p t (scene m [] v) (scene n (order_owed t.seen n) w) whole (omega arith) (omega arith)
+    hands_part f p q r t m k n v x w (order_owed t.seen n) c.hands.counter (omega arith) i.part goes e.looked.mine c.hand.ensures.part
+
+pub returns-in_err-hand-clause-cause : goal.returns-in_err-hand-clause-cause
+returns-in_err-hand-clause-cause g c =
+    let s = g.P.Spawner in
+    let see = spawner_seen s.asked s.told s.misses s.faults in
+    let f = c.args.floor.now in
+    let p = c.args.pass.now in
+    let m = c.args.self.now in
+    let v = see c.args.spawner.now in
+    let i = c.hands.invariant in
+    let q = c.hands.pass in
+    let k = c.hands.self in
+    let x = see c.hands.spawner in
+    let r = c.pending-waiting.new.pass in
+    let e = c.pending-waiting.ensures in
+    let goes = GoesOn-looked f q r i.part.pass.own e.own e.same e.looked in
+    let b = err_from_is_err_and c.from_residual.result c.from_residual.ensures.1 in
+    let early = i.part.pass.mark in
+    let late = goes.mark in
+    caused c.from_residual.result _ b.0 _ _ _ _ _ _ _ b.1 b.2 c.in_err-hand.ensures.cause i.part.faults (omega arith)

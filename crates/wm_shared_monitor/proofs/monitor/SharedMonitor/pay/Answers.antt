@@ -1,23 +1,13 @@
-use Rattle.std.proofs.Common.{◌≡◌, ◌≤◌, ◌+◌, ℕ, List, [], ◌∷◌, Option, None, Some, IfSome, option_to_list, length, sym, refl, subst, ap, ◌∙◌, arith}
+use Rattle.std.proofs.Common.{ℕ, Option, IfSome, option_to_list, refl, subst}
 use Rattle.wm_law.specs.History.{order_in}
-use Rattle.wm_monitor.proofs.Askings.{AsksFirst-again}
-use Rattle.wm_shared_monitor.specs.Advance.{Advances, added}
 use Rattle.wm_shared_monitor.specs.Scene.{IsPlace, order_owed, scene, spawner_seen}
-use Rattle.wm_shared_monitor.proofs.Advances.{Advances-looked, Advances-most, Advances-none, Advances-still, Advances-then}
-use Rattle.wm_shared_monitor.proofs.Causes.{IsCaused-memory, IsCaused-since}
-use Rattle.wm_shared_monitor.proofs.Parts.{Advances-owing, AsksFirst-more, count_then, handed_one, handed_part, kept_reported, looked_asked, made_none, made_one}
-use Rattle.wm_shared_monitor.proofs.Passes.{GoesOn-looked, copy_order, made_order, owed_later, owed_none, paid_order, seen_later, seen_none}
+use Rattle.wm_shared_monitor.proofs.Advances.{Advances-looked, Advances-none}
+use Rattle.wm_shared_monitor.proofs.Parts.{owes_still, paid_part}
+use Rattle.wm_shared_monitor.proofs.Passes.{GoesOn-looked, paid_order, seen_later}
 use Rattle.wm_shared_monitor.proofs.monitor.SharedMonitor.pay.Goals as goal
 
 pub returns-in_default-clause-part : goal.returns-in_default-clause-part
-returns-in_default-clause-part g c =
-    let s = g.P.Spawner in
-    let see = spawner_seen s.asked s.told s.misses s.faults in
-    let f = c.args.floor.now in
-    let p = c.args.pass.now in
-    let m = c.args.self.now in
-    let v = see c.args.spawner.now in
-    Advances-none f 0 1 p (scene m (order_owed p.seen m) v) c.requires.own
+returns-in_default-clause-part g c = Advances-none c.args.floor.now 0 1 c.args.pass.now _ c.requires.own
 
 pub returns-in_default-reply-clause-part : goal.returns-in_default-reply-clause-part
 returns-in_default-reply-clause-part g c =
@@ -27,23 +17,18 @@ returns-in_default-reply-clause-part g c =
     let p = c.args.pass.now in
     let m = c.args.self.now in
     let v = see c.args.spawner.now in
-    let q = c.reply.new.pass in
     let e = c.reply.ensures in
-    let goes = GoesOn-looked f p q c.requires.own e.own e.same e.looked in
-    Advances-owing f 0 1 p q m m (order_owed p.seen m) (order_owed p.seen m) (order_owed p.seen m) (order_owed q.seen m) v v refl (owed_later p.seen q.seen m m goes.seen c.requires.owes refl) (Advances-looked f 0 1 p q (scene m (order_owed p.seen m) v) goes e.looked.mine)
+    let goes = GoesOn-looked f p c.reply.new.pass c.requires.own e.own e.same e.looked in
+    owes_still f 0 1 p c.reply.new.pass m m v v c.requires.owes refl (Advances-looked f 0 1 p c.reply.new.pass (scene m (order_owed p.seen m) v) goes e.looked.mine)
 
 pub returns-in_default-reply-clause-owes : goal.returns-in_default-reply-clause-owes
 returns-in_default-reply-clause-owes g c =
-    let s = g.P.Spawner in
-    let see = spawner_seen s.asked s.told s.misses s.faults in
     let f = c.args.floor.now in
     let p = c.args.pass.now in
     let m = c.args.self.now in
-    let v = see c.args.spawner.now in
-    let q = c.reply.new.pass in
     let e = c.reply.ensures in
-    let goes = GoesOn-looked f p q c.requires.own e.own e.same e.looked in
-    seen_later p.seen q.seen m m goes.seen c.requires.owes refl
+    let goes = GoesOn-looked f p c.reply.new.pass c.requires.own e.own e.same e.looked in
+    seen_later p.seen c.reply.new.pass.seen m m goes.seen c.requires.owes refl
 
 pub returns-in_err-sent-clause-part : goal.returns-in_err-sent-clause-part
 returns-in_err-sent-clause-part g c =
@@ -52,17 +37,12 @@ returns-in_err-sent-clause-part g c =
     let f = c.args.floor.now in
     let p = c.args.pass.now in
     let m = c.args.self.now in
-    let v = see c.args.spawner.now in
-    let q = c.reply.new.pass in
     let e = c.reply.ensures in
-    let goes = GoesOn-looked f p q c.requires.own e.own e.same e.looked in
-    let r = c.follow.new.pass in
-    let n = c.follow.new.self in
-    let w = see c.follow.new.spawner in
+    let goes = GoesOn-looked f p c.reply.new.pass c.requires.own e.own e.same e.looked in
     let xs = option_to_list (order_in c.in-Some-reply.reply) in
-    let order = paid_order p.seen m c.in-Some.place c.in-Some-reply.reply c.in-Some.is (subst (λ (o : Option ℕ). IfSome o (IsPlace p.seen)) c.in-Some.is c.requires.owes) c.in-Some-reply.ensures.reply in
-    let base = Advances-then f 0 0 0 1 p q r (scene m xs v) (scene m xs v) (scene n [] w) (Advances-looked f 0 0 p q (scene m xs v) goes e.looked.mine) c.follow.ensures.part in
-    Advances-owing f 0 1 p r m n xs (order_owed p.seen m) [] (order_owed r.seen n) v w order (owed_none r.seen n c.follow.ensures.owed) base
+    let place = subst (λ (o : Option ℕ). IfSome o (IsPlace p.seen)) c.in-Some.is c.requires.owes in
+    let order = paid_order p.seen m c.in-Some.place c.in-Some-reply.reply c.in-Some.is place c.in-Some-reply.ensures.reply in
+    paid_part f p c.reply.new.pass c.follow.new.pass m c.follow.new.self xs (see c.args.spawner.now) (see c.follow.new.spawner) goes e.looked.mine order c.follow.ensures.owed c.follow.ensures.part
 
 pub returns-clause-part : goal.returns-clause-part
 returns-clause-part g c =
@@ -71,14 +51,9 @@ returns-clause-part g c =
     let f = c.args.floor.now in
     let p = c.args.pass.now in
     let m = c.args.self.now in
-    let v = see c.args.spawner.now in
-    let q = c.reply.new.pass in
     let e = c.reply.ensures in
-    let goes = GoesOn-looked f p q c.requires.own e.own e.same e.looked in
-    let r = c.follow.new.pass in
-    let n = c.follow.new.self in
-    let w = see c.follow.new.spawner in
+    let goes = GoesOn-looked f p c.reply.new.pass c.requires.own e.own e.same e.looked in
     let xs = option_to_list (order_in c.in-Some-reply.reply) in
-    let order = paid_order p.seen m c.in-Some.place c.in-Some-reply.reply c.in-Some.is (subst (λ (o : Option ℕ). IfSome o (IsPlace p.seen)) c.in-Some.is c.requires.owes) c.in-Some-reply.ensures.reply in
-    let base = Advances-then f 0 0 0 1 p q r (scene m xs v) (scene m xs v) (scene n [] w) (Advances-looked f 0 0 p q (scene m xs v) goes e.looked.mine) c.follow.ensures.part in
-    Advances-owing f 0 1 p r m n xs (order_owed p.seen m) [] (order_owed r.seen n) v w order (owed_none r.seen n c.follow.ensures.owed) base
+    let place = subst (λ (o : Option ℕ). IfSome o (IsPlace p.seen)) c.in-Some.is c.requires.owes in
+    let order = paid_order p.seen m c.in-Some.place c.in-Some-reply.reply c.in-Some.is place c.in-Some-reply.ensures.reply in
+    paid_part f p c.reply.new.pass c.follow.new.pass m c.follow.new.self xs (see c.args.spawner.now) (see c.follow.new.spawner) goes e.looked.mine order c.follow.ensures.owed c.follow.ensures.part
