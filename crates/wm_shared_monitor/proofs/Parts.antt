@@ -205,3 +205,8 @@ module _ {K : Type 0} (f : Floored K) where
 -- what was asked first, and then more
 pub AsksFirst-more : (x : Asked) (mid : List Asked) (a b c : Option (List Asked)) (orders : List Asked) → AsksFirst x a b → AsksFor mid b c orders → AsksFirst x a c
 AsksFirst-more x mid a b c orders h k = (h.0 ++ k.asks, Grows-then a b c (x ∷ h.0) k.asks h.1 k.told)
+
+-- the kill that failed was asked first, and then more
+pub AsksFirst-since : (failed : Option ℕ) (mid : List Asked) (a b c : Option (List Asked)) (orders : List Asked) → IfSome failed (λ serial. AsksFirst (Kill serial) a b) → AsksFor mid b c orders → IfSome failed (λ serial. AsksFirst (Kill serial) a c)
+AsksFirst-since None mid a b c orders h k = tt
+AsksFirst-since (Some serial) mid a b c orders h k = AsksFirst-more (Kill serial) mid a b c orders h k

@@ -1,5 +1,5 @@
 -- Laws of what a call of a monitor answers.
-use Rattle.std.proofs.Common.{◌≡◌, ℕ, ◌<◌, ◌≤◌, ◌+◌, List, [], ◌++◌, length, take, drop, Option, Some, None, IfSome, sym, ap, subst, ◌∙◌, refl, arith}
+use Rattle.std.proofs.Common.{◌≡◌, ◌⊎◌, ℕ, ◌<◌, ◌≤◌, ◌+◌, List, [], ◌++◌, length, take, drop, Option, Some, None, IfSome, sym, ap, subst, ◌∙◌, refl, inl, inr, arith}
 use Rattle.std.proofs.Math.Seq.{take-append_seam}
 use Rattle.std.proofs.lemmas.List.{length-append, take-append-le, take_all}
 use Rattle.wm_traits.specs.Told.{IsEmpty}
@@ -15,8 +15,8 @@ use Rattle.wm_floor.specs.Floor.{Floored, IsPassOf, Seen}
 use Rattle.wm_floor.specs.Ledger.{behind, caller_of}
 use Rattle.wm_shared_monitor.specs.Advance.{GoesOn, added}
 use Rattle.wm_shared_monitor.specs.Turned.{HadNothing, IsSeenSince, WaitedAt, WasNotDue}
-use Rattle.wm_shared_monitor.proofs.Parts.{hands_none}
-use Rattle.wm_shared_monitor.proofs.Passes.{GoesOn-none, own_since}
+use Rattle.wm_shared_monitor.proofs.Parts.{count_then, hands_none, hands_then}
+use Rattle.wm_shared_monitor.proofs.Passes.{GoesOn-none, GoesOn-then, own_since}
 
 -- nothing is due by a moment
 abbrev IsLater : Option ℕ → Option ℕ → Type 0
@@ -88,6 +88,22 @@ module _ {K : Type 0} (f : Floored K) where
         seen = record { least = omega arith; most = omega arith };
         due = subst (λ (xs : List Entry). IsLater (next_moment (reached (behind f.opening xs))) coming) (sym front) w.due;
       }
+
+  -- of the parts of a turn, one alone has Hands
+  pub handed_all : (p r u t : Seen K) (orders : ℕ) → GoesOn f p r → GoesOn f r u → GoesOn f u t → hands_of (added p r) ≤ 0 → hands_of (added u t) ≤ 0 → (orders ≡ 0) ⊎ (hands_of (added r u) ≡ 256) → (orders ≡ 0) ⊎ (hands_of (added p t) ≡ 256)
+  handed_all p r u t orders h k l before behind (inl none) = inl none
+  handed_all p r u t orders h k l before behind (inr many) =
+      let a = hands_then f p r u h k in
+      let b = hands_then f p u t (GoesOn-then f p r u h k) l in
+      inr (omega arith)
+
+  -- a wait had a report, and made its call, or there was none
+  pub report_or_more : {Empty : Type 0} (p q r s : Seen K) (o : Option Report) → GoesOn f p q → GoesOn f q r → GoesOn f r s → (o ≡ None → Empty) → IfSome o (λ _. 1 ≤ length (added q r)) → Empty ⊎ (1 ≤ length (added p s))
+  report_or_more p q r s None h k l empty some = inl (empty refl)
+  report_or_more p q r s (Some report) h k l empty some =
+      let a = count_then f p q r (length (added p q)) (length (added q r)) h k refl refl in
+      let b = count_then f p r s (length (added p r)) (length (added r s)) (GoesOn-then f p q r h k) l refl refl in
+      inr (omega arith)
 
   -- a monitor whose turn made no entry
   pub had_nothing : (p q r t : Seen K) (kept : Option Report) (coming coming_then : Option ℕ) (reporting reporting_then : Option (List ℕ)) → GoesOn f p q → GoesOn f r t → IfSome kept (λ _. 1 ≤ length (added p q)) → length (added p q) ≡ 0 → (kept ≡ None → coming_then ≡ coming) → WasNotDue f q r coming_then → reporting_then ≡ reporting → IsEmpty reporting_then → HadNothing f p t kept coming reporting

@@ -89,7 +89,12 @@ impl<'r, R: Wait> Tested<'r, R> {
 
     /// Closes what is open.
     pub fn end(self) {
-        let Tested { site, .. } = self;
+        let Tested {
+            rt: _,
+            alloc: _,
+            now: _,
+            site,
+        } = self;
         match site {
             None => {}
             Some(site) => site.close(),
