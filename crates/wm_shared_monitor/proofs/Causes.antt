@@ -24,10 +24,10 @@ IsCaused-since e a b c m n o seen h fewer less = record {
 
 -- a fault of the last part, as it is told again
 pub caused : {T : Type 0} (result : Result T MonitorFault) (e d : MonitorFault) (a b c m n o : ℕ) (seen : List Entry) → result ≡ Err d → d ≡ e → IsCaused b c n o seen e → a ≤ b → m ≤ n → IfErr result (IsCaused a c m o seen)
-caused result e d a b c m n o seen is same h fewer less =
+caused {T} result e d a b c m n o seen is same h fewer less =
     let again = subst (λ (x : MonitorFault). IsCaused a c m o seen x) (sym same) (IsCaused-since e a b c m n o seen h fewer less) in
-    subst (λ (r : Result _ MonitorFault). IfErr r (IsCaused a c m o seen)) (sym is) again
+    subst (λ (r : Result T MonitorFault). IfErr r (IsCaused a c m o seen)) (sym is) again
 
 -- a fault of the spawner, as it is told again
 pub caused_wait : {T : Type 0} (result : Result T MonitorFault) (d : MonitorFault) (a b m n : ℕ) (seen : List Entry) → result ≡ Err d → d ≡ WaitFault → raised a ≤ b → IfErr result (IsCaused a b m n seen)
-caused_wait result d a b m n seen is same risen = subst (λ (r : Result _ MonitorFault). IfErr r (IsCaused a b m n seen)) (sym is) (IsCaused-wait d a b m n seen same risen)
+caused_wait {T} result d a b m n seen is same risen = subst (λ (r : Result T MonitorFault). IfErr r (IsCaused a b m n seen)) (sym is) (IsCaused-wait d a b m n seen same risen)

@@ -65,11 +65,12 @@ module _ {K : Type 0} where
         let most = one.within.hands_most in
         let none = hands_none f q r same in
         let had = i.hands in
+        let later = count_then f q r t 0 more goes one.pass (made_none f q r same) sent in
         record {
           part = Advances-then f count 0 1 0 p q t (scene m [] v) (scene k [] x) (scene n [] w) i.part round;
           clear = clear;
           hands = omega arith;
-          sent = count_then f p q t entries more i.part.pass round.pass i.sent (count_then f q r t 0 more goes one.pass (made_none f q r same) sent);
+          sent = count_then f p q t entries more i.part.pass round.pass i.sent (omega arith);
           quiet = λ no. absurd (omega arith);
         }
 

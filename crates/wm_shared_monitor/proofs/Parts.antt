@@ -1,6 +1,7 @@
 -- Laws of the parts of a monitor's call, as the code has them.
-use Rattle.std.proofs.Common.{◌≡◌, ℕ, ◌+◌, ◌-◌, ◌*◌, ◌<◌, ◌≤◌, true, false, List, [], ◌∷◌, ◌++◌, length, map, Option, Some, None, IfSome, option_to_list, sym, ap, subst, ◌∙◌, refl, append-nil, arith}
-use Rattle.std.specs.List.{count_by}
+use Rattle.std.proofs.Common.{◌≡◌, ℕ, ◌+◌, ◌-◌, ◌*◌, ◌<◌, ◌≤◌, ◌==◌, true, false, take, eq-eqb, List, [], ◌∷◌, ◌++◌, length, map, Option, Some, None, IfSome, option_to_list, sym, ap, subst, ◌∙◌, refl, append-nil, arith}
+use Rattle.std.specs.List.{count_by, list_all}
+use Rattle.std.proofs.Math.Seq.{take-append_seam}
 use Rattle.std.proofs.lemmas.List.{length-append}
 use Rattle.wm_base.specs.declared.job.Asked.{Asked}
 use Rattle.wm_base.specs.declared.job.Asked.TheVariants.{Kill}
@@ -22,7 +23,7 @@ use Rattle.wm_floor.specs.declared.answer.Answered.{Answered}
 use Rattle.wm_floor.specs.Floor.{Floored, IsPassOf, Seen}
 use Rattle.wm_shared_monitor.specs.declared.monitor.SharedMonitor.{SharedMonitor}
 use Rattle.wm_shared_monitor.specs.Advance.{Advances, GoesOn, HasAsked, HasReported, IsWithin, added}
-use Rattle.wm_shared_monitor.specs.Made.{IsMade}
+use Rattle.wm_shared_monitor.specs.Made.{AreAt, IsMade}
 use Rattle.wm_shared_monitor.specs.Scene.{IsClear, OwesSeen, Scene, Spawning, order_owed, scene}
 use Rattle.wm_shared_monitor.proofs.Advances.{Advances-by, Advances-looked, Advances-still, Advances-then, HasAsked-again, HasAsked-none, HasAsked-nothing, HasAsked-order, HasAsked-owed, HasReported-none, HasReported-nothing, HasReported-sent, HasReported-told, orders_none, orders_one, reports_none, reports_one}
 use Rattle.wm_shared_monitor.proofs.Passes.{owed_later, owed_none, since-by}
@@ -168,6 +169,32 @@ module _ {K : Type 0} (f : Floored K) where
     where
       none : p.mine ≡ p.mine ++ []
       none = sym (append-nil p.mine)
+
+  -- an entry has the moment that the clock gave
+  pub made_at : {c : Call} {now : ℕ} {a : Answered} (p q : Seen K) (coming : Option ℕ) → IsMade c now p q a → IfSome coming (λ told. now ≡ told) → AreAt coming (added p q)
+  made_at p q None made told = tt
+  made_at p q (Some moment) made told =
+      let es : added p q ≡ made.entry ∷ [] = since-by p.mine q.mine (made.entry ∷ []) made.mine in
+      let test : made.entry.moment == moment ≡ true = eq-eqb made.entry.moment moment (made.moment ∙ told) in
+      ap (list_all (λ (e : Entry). e.moment == moment)) es ∙ rw test refl
+
+  pub none_at : (p q : Seen K) (coming : Option ℕ) → q.mine ≡ p.mine → AreAt coming (added p q)
+  none_at p q None same = tt
+  none_at p q (Some moment) same = ap (list_all (λ (e : Entry). e.moment == moment)) (since-by p.mine q.mine [] (same ∙ sym (append-nil p.mine)))
+
+  -- the same of the first entry, where more follow
+  pub first_at : {c : Call} {now : ℕ} {a : Answered} (p q r : Seen K) (coming : Option ℕ) → GoesOn f p q → IsMade c now p q a → GoesOn f q r → IfSome coming (λ told. now ≡ told) → AreAt coming (take 1 (added p r))
+  first_at p q r coming goes made then told =
+      let front : added p q ≡ made.entry ∷ [] = since-by p.mine q.mine (made.entry ∷ []) made.mine in
+      let es : added p r ≡ (made.entry ∷ []) ++ added q r = added-then p q r goes then ∙ ap (λ (xs : List Entry). xs ++ added q r) front in
+      let one : take 1 (added p r) ≡ added p q = ap (take 1) es ∙ (take-append_seam (made.entry ∷ []) (added q r) ∙ sym front) in
+      subst (λ (xs : List Entry). AreAt coming xs) (sym one) (made_at p q coming made told)
+
+  pub none_first_at : (p q : Seen K) (coming : Option ℕ) → q.mine ≡ p.mine → AreAt coming (take 1 (added p q))
+  none_first_at p q coming same =
+      let none : added p q ≡ [] = since-by p.mine q.mine [] (same ∙ sym (append-nil p.mine)) in
+      let one : take 1 (added p q) ≡ added p q = ap (take 1) none ∙ sym none in
+      subst (λ (xs : List Entry). AreAt coming xs) (sym one) (none_at p q coming same)
 
   -- a Hand, and then what it ordered is done
   pub handed_part : (p q r : Seen K) (now : ℕ) (a : Answered) (m n : SharedMonitor) (os : List Asked) (s : Spawning) (c : Scene) → GoesOn f p q → (made : IsMade call.Hand now p q a) → os ≡ option_to_list (order_in made.entry.reply) → n.kept ≡ m.kept → n.failed_kill ≡ m.failed_kill → Advances f 0 1 q r (scene n os s) c → Advances f 1 0 p r (scene m [] s) c

@@ -1,5 +1,6 @@
--- What one call of a monitor's pass makes.
-use Rattle.std.specs.Prelude.{◌≡◌, ℕ, ◌-◌, [], ◌∷◌, ◌++◌, Some, slice_get}
+-- What one call of a monitor's pass makes, and when.
+use Rattle.std.specs.Prelude.{◌≡◌, ℕ, ◌-◌, ◌==◌, true, List, [], ◌∷◌, ◌++◌, Option, Some, IfSome, slice_get}
+use Rattle.std.specs.List.{list_all}
 use Rattle.wm_law.specs.declared.call.Call.{Call}
 use Rattle.wm_law.specs.declared.call.Entry.{Entry}
 use Rattle.wm_floor.specs.declared.answer.Answered.{Answered}
@@ -18,3 +19,7 @@ module _ {K : Type 0} where
     pub place : IsPlace new.seen answered.place
     pub found : slice_get new.seen (answered.place - 1) ≡ Some entry
     pub reply : IsCopyOf entry.reply answered.reply
+
+-- each of these has the moment that the clock gave, where it is told
+abbrev pub AreAt : Option ℕ → List Entry → Type 0
+AreAt coming es = IfSome coming (λ now. list_all (λ e. e.moment == now) es ≡ true)

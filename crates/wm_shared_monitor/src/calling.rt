@@ -9,7 +9,7 @@ ghost use Rattle.wm_floor.specs.Ledger.{behind};
 ghost use Rattle.wm_shared_monitor.specs.Advance.{added, Advances, GoesOn};
 ghost use Rattle.wm_shared_monitor.specs.Causes.{fault_of, IsCaused};
 ghost use Rattle.wm_shared_monitor.specs.Idle.{IsCalledFor};
-ghost use Rattle.wm_shared_monitor.specs.Made.{IsMade};
+ghost use Rattle.wm_shared_monitor.specs.Made.{AreAt, IsMade};
 ghost use Rattle.wm_shared_monitor.specs.Scene.{Scene};
 ghost use Rattle.wm_shared_monitor.specs.Turned.{WasNotDue};
 
@@ -70,6 +70,7 @@ pub(crate) fn tick<K: Keeper, C: Clock, R: Wait>(
     requires own { IsPassOf floor.now pass.old }
     ensures part { (around : Scene) → Advances floor.now 0 1 pass.old pass.new around around }
     ensures sent { IfOk result (λ n. n ≡ length (added pass.old pass.new)) }
+    ensures moment { AreAt (C.coming clock.old) (added pass.old pass.new) }
     ensures due { OnOk result (length (added pass.old pass.new) ≡ 0 → WasNotDue floor.now pass.old pass.new (C.coming clock.old)) }
     ensures cause { (faults : ℕ) → IfErr result (IsCaused faults faults pass.old.mark pass.new.mark pass.new.seen) }
 {

@@ -50,7 +50,7 @@ impl Turned {
 }
 
 impl SharedMonitor {
-    ghost use Rattle.std.specs.Prelude.{◌≡◌, ◌⊎◌, ℕ, ◌<◌, ◌≤◌, ◌+◌, ◌∷◌, [], List, None, Some, Ok, length, true, false, OnOk, OnErr, IfOk, IfErr, IfSome, option_to_list};
+    ghost use Rattle.std.specs.Prelude.{◌≡◌, ◌⊎◌, ℕ, ◌<◌, ◌≤◌, ◌+◌, ◌∷◌, [], List, None, Some, Ok, length, take, true, false, OnOk, OnErr, IfOk, IfErr, IfSome, option_to_list};
     ghost use Rattle.wm_base.specs.declared.job.Asked.{Asked};
     ghost use Rattle.wm_base.specs.declared.job.Asked.TheVariants.{Kill};
     ghost use Rattle.wm_traits.specs.Told.{Grows, IsEmpty};
@@ -64,6 +64,7 @@ impl SharedMonitor {
     ghost use Rattle.wm_floor.specs.Ledger.{behind};
     ghost use Rattle.wm_shared_monitor.specs.Advance.{added, Advances, HasAsked, HasReported, MonitorAdvances};
     ghost use Rattle.wm_shared_monitor.specs.Causes.{IsCaused};
+    ghost use Rattle.wm_shared_monitor.specs.Made.{AreAt};
     ghost use Rattle.wm_shared_monitor.specs.Scene.{order_owed, scene, spawner_seen, IsClear, OwesSeen, Scene, Spawning};
     ghost use Rattle.wm_shared_monitor.specs.Turned.{HadNothing, WaitedAt};
 
@@ -91,6 +92,7 @@ impl SharedMonitor {
         ensures part { (owes : List Asked) (s : Spawning) → Advances floor.now 0 1 pass.old pass.new (scene self.old owes s) (scene self.new owes s) }
         ensures sent { IfOk result (λ n. n ≡ length (added pass.old pass.new)) }
         ensures some { OnOk result (IfSome self.old.kept (λ _. 1 ≤ length (added pass.old pass.new))) }
+        ensures moment { AreAt (C.coming clock.old) (added pass.old pass.new) }
         ensures kept { OnOk result (self.new.kept ≡ None) }
         ensures kill { self.new.failed_kill ≡ self.old.failed_kill }
         ensures owed { self.new.owed ≡ self.old.owed }
@@ -252,6 +254,7 @@ impl SharedMonitor {
         requires called_for { 1 ≤ orders_left (reached (behind floor.now.opening pass.old.seen)) pass.old.number }
         ensures part { Advances floor.now 1 0 pass.old pass.new (scene self.old [] (spawner_seen P.asked P.told P.misses P.faults spawner.old)) (scene self.new (order_owed pass.new.seen self.new) (spawner_seen P.asked P.told P.misses P.faults spawner.new)) }
         ensures hand { OnOk result (1 ≤ hands_of (added pass.old pass.new)) }
+        ensures moment { AreAt (C.coming clock.old) (take 1 (added pass.old pass.new)) }
         ensures sent { IfOk result (λ n. n ≡ length (added pass.old pass.new)) }
         ensures clear { OnOk result (IsClear self.new) }
         ensures owes { OwesSeen pass.new.seen self.new }
@@ -323,6 +326,7 @@ impl SharedMonitor {
         ensures none { result ≡ Ok false → IsEmpty (P.reporting spawner.old) }
         ensures none_sent { result ≡ Ok false → length (added pass.old pass.new) ≡ 0 }
         ensures sent { result ≡ Ok true → length (added pass.old pass.new) ≡ 1 }
+        ensures moment { AreAt (C.coming clock.old) (added pass.old pass.new) }
         ensures clear { OnOk result (IsClear self.new) }
         ensures owed { self.new.owed ≡ None }
         ensures cause { IfErr result (IsCaused (P.faults spawner.old) (P.faults spawner.new) pass.old.mark pass.new.mark pass.new.seen) }

@@ -2,7 +2,7 @@ use Rattle.std.proofs.Common.{[], Some, option_to_list, refl}
 use Rattle.wm_law.specs.History.{order_in}
 use Rattle.wm_shared_monitor.specs.Scene.{order_owed, scene, spawner_seen}
 use Rattle.wm_shared_monitor.proofs.Advances.{Advances-looked}
-use Rattle.wm_shared_monitor.proofs.Parts.{handed_one, handed_part, owes_none}
+use Rattle.wm_shared_monitor.proofs.Parts.{first_at, handed_one, handed_part, none_first_at, owes_none}
 use Rattle.wm_shared_monitor.proofs.Passes.{copy_order, made_order}
 use Rattle.wm_shared_monitor.proofs.monitor.SharedMonitor.hand.Goals as goal
 
@@ -100,3 +100,42 @@ returns-in_ok-sent-in-None-clause-hand g c =
     let q = c.enter.new.pass in
     let made = c.in_ok-answered.ensures.ok in
     handed_one f p q c.pay.new.pass c.now-now.result _ c.enter.ensures.part made c.pay.ensures.part.pass
+
+pub returns-in_err-answered-clause-moment : goal.returns-in_err-answered-clause-moment
+returns-in_err-answered-clause-moment g c =
+    let f = c.args.floor.now in
+    let p = c.args.pass.now in
+    let q = c.enter.new.pass in
+    none_first_at f p q (g.C.Clock.coming c.args.clock.now) c.in_err-answered.ensures.err
+
+pub returns-in_err-sent-in-Some-clause-moment : goal.returns-in_err-sent-in-Some-clause-moment
+returns-in_err-sent-in-Some-clause-moment g c =
+    let f = c.args.floor.now in
+    let p = c.args.pass.now in
+    let q = c.enter.new.pass in
+    let made = c.in_ok-answered.ensures.ok in
+    first_at f p q c.follow.new.pass (g.C.Clock.coming c.args.clock.now) c.enter.ensures.part made c.follow.ensures.part.pass c.now-now.ensures.told
+
+pub returns-in_ok-sent-in-Some-clause-moment : goal.returns-in_ok-sent-in-Some-clause-moment
+returns-in_ok-sent-in-Some-clause-moment g c =
+    let f = c.args.floor.now in
+    let p = c.args.pass.now in
+    let q = c.enter.new.pass in
+    let made = c.in_ok-answered.ensures.ok in
+    first_at f p q c.follow.new.pass (g.C.Clock.coming c.args.clock.now) c.enter.ensures.part made c.follow.ensures.part.pass c.now-now.ensures.told
+
+pub returns-in_err-sent-in-None-clause-moment : goal.returns-in_err-sent-in-None-clause-moment
+returns-in_err-sent-in-None-clause-moment g c =
+    let f = c.args.floor.now in
+    let p = c.args.pass.now in
+    let q = c.enter.new.pass in
+    let made = c.in_ok-answered.ensures.ok in
+    first_at f p q c.pay.new.pass (g.C.Clock.coming c.args.clock.now) c.enter.ensures.part made c.pay.ensures.part.pass c.now-now.ensures.told
+
+pub returns-in_ok-sent-in-None-clause-moment : goal.returns-in_ok-sent-in-None-clause-moment
+returns-in_ok-sent-in-None-clause-moment g c =
+    let f = c.args.floor.now in
+    let p = c.args.pass.now in
+    let q = c.enter.new.pass in
+    let made = c.in_ok-answered.ensures.ok in
+    first_at f p q c.pay.new.pass (g.C.Clock.coming c.args.clock.now) c.enter.ensures.part made c.pay.ensures.part.pass c.now-now.ensures.told
