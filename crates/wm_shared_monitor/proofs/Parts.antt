@@ -118,6 +118,11 @@ module _ {K : Type 0} (f : Floored K) where
   unreported_part h o p m xs v w own none asked told misses faults =
       Advances-still f h o p (scene m xs v) (scene m xs w) own (looked_asked m m xs v w refl asked) (kept_reported m m None xs xs v w none none told misses) faults
 
+  -- the same of a look that found nothing
+  pub quiet_part : (h o : ℕ) (p : Seen K) (m : SharedMonitor) (xs : List Asked) (v w : Spawning) (found : Option Report) → found ≡ None → IsPassOf f p → m.kept ≡ None → Grows v.asked w.asked [] → Grows v.told w.told (map call_of (option_to_list found)) → RisesBy v.misses (count_by is_spawner_fault (map call_of (option_to_list found))) w.misses → v.faults ≤ w.faults → Advances f h o p p (scene m xs v) (scene m xs w)
+  quiet_part h o p m xs v w found none own kept asked told misses faults =
+      Advances-still f h o p (scene m xs v) (scene m xs w) own (looked_asked m m xs v w refl asked) (kept_reported m m found xs xs v w kept (kept ∙ sym none) told misses) faults
+
   -- what the spawner told is kept, and then it is sent
   pub reported_part : (p q : Seen K) (m k n : SharedMonitor) (told_is : Option Report) (xs : List Asked) (v w : Spawning) → IsPassOf f p → m.kept ≡ None → k.kept ≡ told_is → k.failed_kill ≡ m.failed_kill → Grows v.asked w.asked [] → Grows v.told w.told (map call_of (option_to_list told_is)) → RisesBy v.misses (count_by is_spawner_fault (map call_of (option_to_list told_is))) w.misses → v.faults ≤ w.faults → Advances f 0 1 p q (scene k xs w) (scene n xs w) → Advances f 0 1 p q (scene m xs v) (scene n xs w)
   reported_part p q m k n told_is xs v w own none kept failed asked told misses faults sent =

@@ -3,7 +3,7 @@ use crate::calling::{enter, tick};
 use std::alloc::Global;
 use std::sync::Wait;
 use wm_base::{Asked, Moment, Serial};
-use wm_floor::{Floor, FloorPass, Waiting};
+use wm_floor::{Answered, Floor, FloorPass, Waiting};
 use wm_law::{Call, Pending, Reply};
 use wm_monitor::{MonitorFault, Report, asking};
 use wm_traits::{Clock, Keeper, Spawner};
@@ -261,18 +261,14 @@ impl SharedMonitor {
         ensures cause { IfErr result (IsCaused (P.faults spawner.old) (P.faults spawner.new) pass.old.mark pass.new.mark pass.new.seen) }
     {
         let now = clock.now();
-        let answered = enter(rt, alloc, floor, pass, Call::Hand, now)?;
-        match answered.reply {
-            Some(reply) => {
-                let sent = self.follow(rt, alloc, floor, pass, spawner, clock, &reply)?;
-                Ok(sent + 1)
-            }
-            None => {
-                self.owed = Some(answered.place);
-                let sent = self.pay(rt, alloc, floor, pass, spawner, clock)?;
-                Ok(sent + 1)
-            }
-        }
+        let Answered { place, reply } = enter(rt, alloc, floor, pass, Call::Hand, now)?;
+        let Some(reply) = reply else {
+            self.owed = Some(place);
+            let sent = self.pay(rt, alloc, floor, pass, spawner, clock)?;
+            return Ok(sent + 1);
+        };
+        let sent = self.follow(rt, alloc, floor, pass, spawner, clock, &reply)?;
+        Ok(sent + 1)
     }
 
     // Makes the calls of what Hand orders, while there are orders. It answers what waited behind the last one.

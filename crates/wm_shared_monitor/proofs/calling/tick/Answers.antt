@@ -9,6 +9,7 @@ use Rattle.wm_shared_monitor.proofs.Causes.{IsCaused-since}
 use Rattle.wm_shared_monitor.proofs.Idles.{is_due}
 use Rattle.wm_shared_monitor.proofs.Parts.{count_then, made_at, made_none, made_one, none_at, ticked_part}
 use Rattle.wm_shared_monitor.proofs.Passes.{GoesOn-looked}
+use Rattle.wm_shared_monitor.proofs.Turns.{later_none, later_some, not_due_now}
 use Rattle.wm_shared_monitor.proofs.calling.tick.Goals as goal
 
 pub returns-in_err-enter-in-Some-clause-part : goal.returns-in_err-enter-in-Some-clause-part
@@ -89,6 +90,16 @@ returns-in_ok-enter-in-Some-clause-due g c none =
 
 pub returns-in_default-2-clause-due : goal.returns-in_default-2-clause-due
 returns-in_default-2-clause-due g c none =
+    let f = c.args.floor.now in
+    let p = c.args.pass.now in
+    let q = c.pending-waiting.new.pass in
+    let w = c.pending-waiting.result in
+    let e = c.pending-waiting.ensures in
+    let goes = GoesOn-looked f p q c.requires.own e.own e.same e.looked in
+    not_due_now f p q w.at w.pending c.number-monitor.result (g.C.Clock.coming c.args.clock.now) goes e.at e.pending ?
+
+pub returns-in_default-clause-due : goal.returns-in_default-clause-due
+returns-in_default-clause-due g c none =
     let f = c.args.floor.now in
     let p = c.args.pass.now in
     let q = c.pending-waiting.new.pass in

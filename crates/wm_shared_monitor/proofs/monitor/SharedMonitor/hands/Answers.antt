@@ -34,10 +34,10 @@ hands-preserved g c =
     let t = c.hand.new.pass in
     let n = c.hand.new.self in
     let w = see c.hand.new.spawner in
-    HandLoop-more f p q r t m k n v x w _ _ _ c.hands.counter c.hands.sent _ i goes e.looked.mine c.hand.ensures.part c.in_ok-hand.ensures.clear c.in_ok-hand.ensures.hand c.in_ok-hand.ensures.sent
+    HandLoop-more f p q r t m k n v x w _ _ _ c.hands.counter c.hands.sent _ i goes e.looked.mine c.hand.ensures.part c.in_ok-sent.ensures.clear c.in_ok-sent.ensures.hand c.in_ok-sent.ensures.sent
 
-pub returns-in_err-hand-clause-part : goal.returns-in_err-hand-clause-part
-returns-in_err-hand-clause-part g c =
+pub returns-in_err-sent-clause-part : goal.returns-in_err-sent-clause-part
+returns-in_err-sent-clause-part g c =
     let s = g.P.Spawner in
     let see = spawner_seen s.asked s.told s.misses s.faults in
     let f = c.args.floor.now in
@@ -56,8 +56,8 @@ returns-in_err-hand-clause-part g c =
     let w = see c.hand.new.spawner in
     hands_part f p q r t m k n v x w (order_owed t.seen n) c.hands.counter (omega arith) i.part goes e.looked.mine c.hand.ensures.part
 
-pub returns-in_err-hand-clause-cause : goal.returns-in_err-hand-clause-cause
-returns-in_err-hand-clause-cause g c =
+pub returns-in_err-sent-clause-cause : goal.returns-in_err-sent-clause-cause
+returns-in_err-sent-clause-cause g c =
     let s = g.P.Spawner in
     let see = spawner_seen s.asked s.told s.misses s.faults in
     let f = c.args.floor.now in
@@ -74,4 +74,38 @@ returns-in_err-hand-clause-cause g c =
     let b = err_from_is_err_and c.from_residual.result c.from_residual.ensures.1 in
     let early = i.part.pass.mark in
     let late = goes.mark in
-    caused c.from_residual.result _ b.0 _ _ _ _ _ _ _ b.1 b.2 c.in_err-hand.ensures.cause i.part.faults (omega arith)
+    caused c.from_residual.result _ b.0 _ _ _ _ _ _ _ b.1 b.2 c.in_err-sent.ensures.cause i.part.faults (omega arith)
+
+pub returns-then-waiting-eq0-clause-part : goal.returns-then-waiting-eq0-clause-part
+returns-then-waiting-eq0-clause-part g c =
+    let s = g.P.Spawner in
+    let see = spawner_seen s.asked s.told s.misses s.faults in
+    let f = c.args.floor.now in
+    let p = c.args.pass.now in
+    let m = c.args.self.now in
+    let v = see c.args.spawner.now in
+    let i = c.hands.invariant in
+    let q = c.hands.pass in
+    let k = c.hands.self in
+    let x = see c.hands.spawner in
+    let r = c.pending-waiting.new.pass in
+    let e = c.pending-waiting.ensures in
+    let goes = GoesOn-looked f q r i.part.pass.own e.own e.same e.looked in
+    hands_end f p q r m k v x c.hands.counter (omega arith) i.part goes e.looked.mine i.clear.no_order
+
+pub returns-clause-part : goal.returns-clause-part
+returns-clause-part g c =
+    let s = g.P.Spawner in
+    let see = spawner_seen s.asked s.told s.misses s.faults in
+    let f = c.args.floor.now in
+    let p = c.args.pass.now in
+    let m = c.args.self.now in
+    let v = see c.args.spawner.now in
+    let i = c.hands.invariant in
+    let q = c.hands.pass in
+    let k = c.hands.self in
+    let x = see c.hands.spawner in
+    let r = c.pending-waiting-2.new.pass in
+    let e = c.pending-waiting-2.ensures in
+    let goes = GoesOn-looked f q r i.part.pass.own e.own e.same e.looked in
+    hands_end f p q r m k v x c.hands.counter (omega arith) i.part goes e.looked.mine i.clear.no_order

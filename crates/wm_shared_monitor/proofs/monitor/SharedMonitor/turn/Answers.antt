@@ -329,3 +329,71 @@ returns-in_err-looked-clause-cause g c =
     let handed = Advances-then f 0 3 256 0 p r u (scene m owes v) (scene m1 [] v1) (scene m2 (order_owed u.seen m2) v2) ticked c.hands.ensures.part in
     let e = err_from_is_err_and c.from_residual-in_err-looked.result c.from_residual-in_err-looked.ensures.1 in
     caused c.from_residual-in_err-looked.result _ e.0 _ _ _ _ _ _ _ e.1 e.2 c.in_err-looked.ensures.cause handed.faults handed.pass.mark
+
+pub hands-requires-clause-own : goal.hands-requires-clause-own
+hands-requires-clause-own g c =
+    let s = g.P.Spawner in
+    let see = spawner_seen s.asked s.told s.misses s.faults in
+    let m1 = c.settle.new.self in
+    let v1 = see c.settle.new.spawner in
+    (c.tick.ensures.part (scene m1 [] v1)).pass.own
+
+pub overflow_add-result : goal.overflow_add-result
+overflow_add-result g c =
+    let s = g.P.Spawner in
+    let see = spawner_seen s.asked s.told s.misses s.faults in
+    let m1 = c.settle.new.self in
+    let v1 = see c.settle.new.spawner in
+    let a = c.settle.ensures.part.within in
+    let a1 = a.hands_most in
+    let a2 = a.others_most in
+    let b = (c.tick.ensures.part (scene m1 [] v1)).within in
+    let b1 = b.hands_most in
+    let b2 = b.others_most in
+    let n1 = c.in_ok-settled.ensures.sent in
+    let n2 = c.in_ok-ticked.ensures.sent in
+    omega arith
+
+pub overflow_add-result-2 : goal.overflow_add-result-2
+overflow_add-result-2 g c =
+    let s = g.P.Spawner in
+    let see = spawner_seen s.asked s.told s.misses s.faults in
+    let m1 = c.settle.new.self in
+    let v1 = see c.settle.new.spawner in
+    let a = c.settle.ensures.part.within in
+    let a1 = a.hands_most in
+    let a2 = a.others_most in
+    let b = (c.tick.ensures.part (scene m1 [] v1)).within in
+    let b1 = b.hands_most in
+    let b2 = b.others_most in
+    let n1 = c.in_ok-settled.ensures.sent in
+    let n2 = c.in_ok-ticked.ensures.sent in
+    let d = c.hands.ensures.part.within in
+    let d1 = d.hands_most in
+    let d2 = d.others_most in
+    let n3 = c.in_ok-handed.ensures.sent in
+    omega arith
+
+pub overflow_add-result-3 : goal.overflow_add-result-3
+overflow_add-result-3 g c =
+    let s = g.P.Spawner in
+    let see = spawner_seen s.asked s.told s.misses s.faults in
+    let m1 = c.settle.new.self in
+    let v1 = see c.settle.new.spawner in
+    let a = c.settle.ensures.part.within in
+    let a1 = a.hands_most in
+    let a2 = a.others_most in
+    let b = (c.tick.ensures.part (scene m1 [] v1)).within in
+    let b1 = b.hands_most in
+    let b2 = b.others_most in
+    let n1 = c.in_ok-settled.ensures.sent in
+    let n2 = c.in_ok-ticked.ensures.sent in
+    let d = c.hands.ensures.part.within in
+    let d1 = d.hands_most in
+    let d2 = d.others_most in
+    let n3 = c.in_ok-handed.ensures.sent in
+    let h = c.looks.ensures.part.within in
+    let h1 = h.hands_most in
+    let h2 = h.others_most in
+    let n4 = c.in_ok-looked.ensures.sent in
+    omega arith

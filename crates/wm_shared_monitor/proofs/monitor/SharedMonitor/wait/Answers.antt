@@ -255,6 +255,72 @@ returns-clause-waited g c =
     let waits = c.of.ensures.pending ∙ (l.pending ∙ ap (pending (reached (behind f.opening t.seen))) (c.number-monitor.ensures.value ∙ whole.pass.same.number)) in
     waited_now f p t o.at o.pending all.pass (c.of.ensures.at ∙ l.at) waits
 
+pub send_kept-requires-2 : goal.send_kept-requires-2
+send_kept-requires-2 g c =
+    let s = g.P.Spawner in
+    let see = spawner_seen s.asked s.told s.misses s.faults in
+    let f = c.args.floor.now in
+    let p = c.args.pass.now in
+    let m = c.args.self.now in
+    let v = see c.args.spawner.now in
+    let owes = order_owed p.seen m in
+    let q = c.send_kept.new.pass in
+    let m1 = c.send_kept.new.self in
+    let first = c.send_kept.ensures.part owes v in
+    record { own = first.pass.own }
+
+pub pending-waiting-requires : goal.pending-waiting-requires
+pending-waiting-requires g c =
+    let s = g.P.Spawner in
+    let see = spawner_seen s.asked s.told s.misses s.faults in
+    let f = c.args.floor.now in
+    let p = c.args.pass.now in
+    let m = c.args.self.now in
+    let v = see c.args.spawner.now in
+    let owes = order_owed p.seen m in
+    let q = c.send_kept.new.pass in
+    let m1 = c.send_kept.new.self in
+    let first = c.send_kept.ensures.part owes v in
+    let x = see c.wait.new.spawner in
+    let r = c.send_kept-2.new.pass in
+    let n = c.send_kept-2.new.self in
+    let e = c.in_ok-report.ensures in
+    let k = record m1 { kept = c.in_ok-report.report } in
+    let second = reported_part f q r m1 k n c.in_ok-report.report owes v x first.pass.own c.in_ok-first.ensures.kept refl refl e.asked e.told e.misses e.cause.later (c.send_kept-2.ensures.part owes x) in
+    let whole = Advances-then f 0 1 0 1 p q r (scene m owes v) (scene m1 owes v) (scene n owes x) first second in
+    let same = c.send_kept-2.ensures.owed ∙ c.send_kept.ensures.owed in
+    record { own = second.pass.own }
+
+pub overflow_add-first : goal.overflow_add-first
+overflow_add-first g c =
+    let s = g.P.Spawner in
+    let see = spawner_seen s.asked s.told s.misses s.faults in
+    let f = c.args.floor.now in
+    let p = c.args.pass.now in
+    let m = c.args.self.now in
+    let v = see c.args.spawner.now in
+    let owes = order_owed p.seen m in
+    let q = c.send_kept.new.pass in
+    let m1 = c.send_kept.new.self in
+    let first = c.send_kept.ensures.part owes v in
+    let x = see c.wait.new.spawner in
+    let r = c.send_kept-2.new.pass in
+    let n = c.send_kept-2.new.self in
+    let e = c.in_ok-report.ensures in
+    let k = record m1 { kept = c.in_ok-report.report } in
+    let second = reported_part f q r m1 k n c.in_ok-report.report owes v x first.pass.own c.in_ok-first.ensures.kept refl refl e.asked e.told e.misses e.cause.later (c.send_kept-2.ensures.part owes x) in
+    let whole = Advances-then f 0 1 0 1 p q r (scene m owes v) (scene m1 owes v) (scene n owes x) first second in
+    let same = c.send_kept-2.ensures.owed ∙ c.send_kept.ensures.owed in
+    let a = first.within in
+    let a1 = a.hands_most in
+    let a2 = a.others_most in
+    let b = second.within in
+    let b1 = b.hands_most in
+    let b2 = b.others_most in
+    let n1 = c.in_ok-first.ensures.sent in
+    let n2 = c.in_ok-second.ensures.sent in
+    omega arith
+
 pub returns-in_err-first-clause-cause : goal.returns-in_err-first-clause-cause
 returns-in_err-first-clause-cause g c =
     let s = g.P.Spawner in
