@@ -1,6 +1,11 @@
 -- Laws of what a call of a monitor answers.
-use Rattle.std.proofs.Common.{◌≡◌, ◌⊎◌, ℕ, ◌<◌, ◌≤◌, ◌+◌, List, [], ◌++◌, length, take, drop, Option, Some, None, IfSome, sym, ap, subst, ◌∙◌, refl, inl, inr, arith}
+use Rattle.std.proofs.Common.{◌≡◌, ◌⊎◌, ℕ, true, false, ◌<◌, ◌≤◌, ◌+◌, List, [], ◌++◌, length, take, drop, Option, Some, None, IfSome, sym, ap, subst, ◌∙◌, refl, inl, inr, arith}
+use Rattle.std.specs.Cmp.{nat_cmp_is}
+use Rattle.std.specs.Ordering.{is_le, nat_cmp}
+use Rattle.std.specs.declared.cmp.Ordering.TheVariants.{Less, Equal}
+use Rattle.std.proofs.Math.Nat.{eq-or-lt_of_le}
 use Rattle.std.proofs.Math.Seq.{take-append_seam}
+use Rattle.std.proofs.lemmas.Bool.{cases_lt, false≢true}
 use Rattle.std.proofs.lemmas.List.{length-append, take-append-le, take_all}
 use Rattle.wm_traits.specs.Told.{IsEmpty}
 use Rattle.wm_law.specs.declared.call.Entry.{Entry}
@@ -31,6 +36,21 @@ later_some next coming due now is before told = subst (λ (o : Option ℕ). IsLa
     by : (o : Option ℕ) → IfSome o (λ told. now ≡ told) → IfSome o (λ told. told < due)
     by None h = tt
     by (Some moment) h = omega arith
+
+-- a moment that isn't at least another is before it
+told_le : (a b : ℕ) → a ≤ b → is_le (nat_cmp a b) ≡ true
+told_le a b h = by (eq-or-lt_of_le h)
+  where
+    by : (a ≡ b) ⊎ (a < b) → is_le (nat_cmp a b) ≡ true
+    by (inl same) = sym (ap is_le (nat_cmp_is a b Equal same))
+    by (inr less) = sym (ap is_le (nat_cmp_is a b Less less))
+
+pub not_yet : (told due now : ℕ) → told ≡ due → false ≡ is_le (nat_cmp told now) → now < due
+not_yet told due now same late = by (cases_lt now told)
+  where
+    by : (now < told) ⊎ (told ≤ now) → now < due
+    by (inl less) = omega arith
+    by (inr most) = absurd (false≢true (late ∙ told_le told now most))
 
 -- no report was kept, since none was sent
 none_kept : (kept : Option Report) (n : ℕ) → IfSome kept (λ _. 1 ≤ n) → n ≡ 0 → kept ≡ None

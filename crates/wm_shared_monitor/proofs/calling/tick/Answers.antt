@@ -1,4 +1,4 @@
-use Rattle.std.proofs.Common.{List, ap, subst, ◌∙◌, arith}
+use Rattle.std.proofs.Common.{List, ap, subst, sym, ◌∙◌, arith}
 use Rattle.wm_law.specs.declared.call.Entry.{Entry}
 use Rattle.wm_journal.specs.History.{reached}
 use Rattle.wm_floor.specs.Ledger.{behind}
@@ -9,7 +9,7 @@ use Rattle.wm_shared_monitor.proofs.Causes.{IsCaused-since}
 use Rattle.wm_shared_monitor.proofs.Idles.{is_due}
 use Rattle.wm_shared_monitor.proofs.Parts.{count_then, made_at, made_none, made_one, none_at, ticked_part}
 use Rattle.wm_shared_monitor.proofs.Passes.{GoesOn-looked}
-use Rattle.wm_shared_monitor.proofs.Turns.{later_none, later_some, not_due_now}
+use Rattle.wm_shared_monitor.proofs.Turns.{later_none, later_some, not_due_now, not_yet}
 use Rattle.wm_shared_monitor.proofs.calling.tick.Goals as goal
 
 pub returns-in_err-enter-in-Some-clause-part : goal.returns-in_err-enter-in-Some-clause-part
@@ -96,7 +96,7 @@ returns-in_default-2-clause-due g c none =
     let w = c.pending-waiting.result in
     let e = c.pending-waiting.ensures in
     let goes = GoesOn-looked f p q c.requires.own e.own e.same e.looked in
-    not_due_now f p q w.at w.pending c.number-monitor.result (g.C.Clock.coming c.args.clock.now) goes e.at e.pending ?
+    not_due_now f p q w.at w.pending c.number-monitor.result (g.C.Clock.coming c.args.clock.now) goes e.at e.pending (later_none _ _ c.in_default.is)
 
 pub returns-in_default-clause-due : goal.returns-in_default-clause-due
 returns-in_default-clause-due g c none =
@@ -106,4 +106,4 @@ returns-in_default-clause-due g c none =
     let w = c.pending-waiting.result in
     let e = c.pending-waiting.ensures in
     let goes = GoesOn-looked f p q c.requires.own e.own e.same e.looked in
-    not_due_now f p q w.at w.pending c.number-monitor.result (g.C.Clock.coming c.args.clock.now) goes e.at e.pending ?
+    not_due_now f p q w.at w.pending c.number-monitor.result (g.C.Clock.coming c.args.clock.now) goes e.at e.pending (later_some _ _ c.in-Some.due c.now-now.result c.in-Some.is (not_yet _ c.in-Some.due c.now-now.result c.in-Some.due-is (sym c.if-le.false ∙ c.le.ensures)) c.now-now.ensures.told)

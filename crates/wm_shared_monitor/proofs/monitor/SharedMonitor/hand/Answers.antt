@@ -34,7 +34,7 @@ returns-in_err-sent-clause-part g c =
     let v = see c.args.spawner.now in
     let q = c.enter.new.pass in
     let made = c.in_ok-place.ensures.ok in
-    let place = c.in_ok-place.place in
+    let place = c.in_ok-place.field-0.place in
     let k = record m { owed = Some place } in
     let r = c.pay.new.pass in
     let n = c.pay.new.self in
@@ -59,7 +59,7 @@ returns-in_default-clause-part g c =
     let v = see c.args.spawner.now in
     let q = c.enter.new.pass in
     let made = c.in_ok-place.ensures.ok in
-    let place = c.in_ok-place.place in
+    let place = c.in_ok-place.field-0.place in
     let k = record m { owed = Some place } in
     let r = c.pay.new.pass in
     let n = c.pay.new.self in
