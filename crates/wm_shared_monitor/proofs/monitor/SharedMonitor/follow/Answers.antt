@@ -1,0 +1,93 @@
+use Rattle.std.proofs.Common.{◌≡◌, List, [], ◌∷◌, Some, option_to_list, sym, refl, subst, ap, ◌∙◌, arith}
+use Rattle.wm_base.specs.declared.job.Asked.{Asked}
+use Rattle.wm_base.specs.declared.job.Asked.TheVariants.{Start, Kill}
+use Rattle.wm_law.specs.History.{order_in}
+use Rattle.wm_shared_monitor.specs.Advance.{Advances}
+use Rattle.wm_shared_monitor.specs.Scene.{scene, spawner_seen}
+use Rattle.wm_shared_monitor.proofs.Advances.{Advances-none, Advances-still, Advances-then}
+use Rattle.wm_shared_monitor.proofs.Causes.{IsCaused-since}
+use Rattle.wm_shared_monitor.proofs.Parts.{kept_reported, kill_done, kill_kept, killed_asked, killed_reported}
+use Rattle.wm_shared_monitor.proofs.monitor.SharedMonitor.follow.Goals as goal
+
+pub returns-in-None-clause-part : goal.returns-in-None-clause-part
+returns-in-None-clause-part g c =
+    let s = g.P.Spawner in
+    let see = spawner_seen s.asked s.told s.misses s.faults in
+    let f = c.args.floor.now in
+    let p = c.args.pass.now in
+    let m = c.args.self.now in
+    let v = see c.args.spawner.now in
+    let none : [] ≡ option_to_list (order_in c.args.reply.now) = ap option_to_list c.in-None.ensures in
+    subst (λ (xs : List Asked). Advances f 0 1 p p (scene m xs v) (scene m [] v)) none (Advances-none f 0 1 p (scene m [] v) c.requires.own)
+
+pub returns-in_err-kill-in-Some-Kill-clause-part : goal.returns-in_err-kill-in-Some-Kill-clause-part
+returns-in_err-kill-in-Some-Kill-clause-part g c =
+    let s = g.P.Spawner in
+    let see = spawner_seen s.asked s.told s.misses s.faults in
+    let f = c.args.floor.now in
+    let p = c.args.pass.now in
+    let m = c.args.self.now in
+    let n = c.kill.new.self in
+    let v = see c.args.spawner.now in
+    let w = see c.kill.new.spawner in
+    let serial = c.in-Some-Kill.serial in
+    let a = Kill serial in
+    let e = c.kill.ensures in
+    let one : a ∷ [] ≡ option_to_list (order_in c.args.reply.now) = ap option_to_list (ap Some (sym c.in-Some-Kill.field-0-is) ∙ c.in-Some-Kill.ensures) in
+    let base = Advances-still f 0 1 p (scene m (a ∷ []) v) (scene n [] w) c.requires.own (killed_asked m n a v w c.requires.clear (kill_kept n serial c.in_err-kill-in-Some-Kill.ensures.failed) e.asked) (killed_reported m n (a ∷ []) [] v w e.kept e.told e.misses) e.faults in
+    subst (λ (xs : List Asked). Advances f 0 1 p p (scene m xs v) (scene n [] w)) one base
+
+pub returns-in_ok-kill-in-Some-Kill-clause-part : goal.returns-in_ok-kill-in-Some-Kill-clause-part
+returns-in_ok-kill-in-Some-Kill-clause-part g c =
+    let s = g.P.Spawner in
+    let see = spawner_seen s.asked s.told s.misses s.faults in
+    let f = c.args.floor.now in
+    let p = c.args.pass.now in
+    let m = c.args.self.now in
+    let n = c.kill.new.self in
+    let v = see c.args.spawner.now in
+    let w = see c.kill.new.spawner in
+    let serial = c.in-Some-Kill.serial in
+    let a = Kill serial in
+    let e = c.kill.ensures in
+    let one : a ∷ [] ≡ option_to_list (order_in c.args.reply.now) = ap option_to_list (ap Some (sym c.in-Some-Kill.field-0-is) ∙ c.in-Some-Kill.ensures) in
+    let base = Advances-still f 0 1 p (scene m (a ∷ []) v) (scene n [] w) c.requires.own (killed_asked m n a v w c.requires.clear (kill_done n a c.in_ok-kill-in-Some-Kill.ensures.done) e.asked) (killed_reported m n (a ∷ []) [] v w e.kept e.told e.misses) e.faults in
+    subst (λ (xs : List Asked). Advances f 0 1 p p (scene m xs v) (scene n [] w)) one base
+
+pub returns-in_err-sent-in-Some-Start-clause-part : goal.returns-in_err-sent-in-Some-Start-clause-part
+returns-in_err-sent-in-Some-Start-clause-part g c =
+    let s = g.P.Spawner in
+    let see = spawner_seen s.asked s.told s.misses s.faults in
+    let f = c.args.floor.now in
+    let p = c.args.pass.now in
+    let q = c.send_kept.new.pass in
+    let m = c.args.self.now in
+    let k = record m { kept = Some c.start.result } in
+    let n = c.send_kept.new.self in
+    let v = see c.args.spawner.now in
+    let w = see c.start.new.spawner in
+    let a = Start c.in-Some-Start.order in
+    let e = c.start.ensures in
+    let one : a ∷ [] ≡ option_to_list (order_in c.args.reply.now) = ap option_to_list (ap Some (sym c.in-Some-Start.field-0-is) ∙ c.in-Some-Start.ensures) in
+    let first = Advances-still f 0 0 p (scene m (a ∷ []) v) (scene k [] w) c.requires.own (killed_asked m k a v w c.requires.clear (kill_done k a c.requires.clear.no_kill) e.asked) (kept_reported m k (Some c.start.result) (a ∷ []) [] v w c.requires.clear.no_report refl e.told e.misses) (omega arith) in
+    let base = Advances-then f 0 0 0 1 p p q (scene m (a ∷ []) v) (scene k [] w) (scene n [] w) first (c.send_kept.ensures.part [] w) in
+    subst (λ (xs : List Asked). Advances f 0 1 p q (scene m xs v) (scene n [] w)) one base
+
+pub returns-in_ok-sent-in-Some-Start-clause-part : goal.returns-in_ok-sent-in-Some-Start-clause-part
+returns-in_ok-sent-in-Some-Start-clause-part g c =
+    let s = g.P.Spawner in
+    let see = spawner_seen s.asked s.told s.misses s.faults in
+    let f = c.args.floor.now in
+    let p = c.args.pass.now in
+    let q = c.send_kept.new.pass in
+    let m = c.args.self.now in
+    let k = record m { kept = Some c.start.result } in
+    let n = c.send_kept.new.self in
+    let v = see c.args.spawner.now in
+    let w = see c.start.new.spawner in
+    let a = Start c.in-Some-Start.order in
+    let e = c.start.ensures in
+    let one : a ∷ [] ≡ option_to_list (order_in c.args.reply.now) = ap option_to_list (ap Some (sym c.in-Some-Start.field-0-is) ∙ c.in-Some-Start.ensures) in
+    let first = Advances-still f 0 0 p (scene m (a ∷ []) v) (scene k [] w) c.requires.own (killed_asked m k a v w c.requires.clear (kill_done k a c.requires.clear.no_kill) e.asked) (kept_reported m k (Some c.start.result) (a ∷ []) [] v w c.requires.clear.no_report refl e.told e.misses) (omega arith) in
+    let base = Advances-then f 0 0 0 1 p p q (scene m (a ∷ []) v) (scene k [] w) (scene n [] w) first (c.send_kept.ensures.part [] w) in
+    subst (λ (xs : List Asked). Advances f 0 1 p q (scene m xs v) (scene n [] w)) one base

@@ -1,0 +1,6 @@
+pub mod Advance
+pub mod Causes
+pub mod Idle
+pub mod Made
+pub mod Scene
+pub mod Turned

@@ -1,0 +1,156 @@
+// A floor in memory, with the passes of a session and of two monitors.
+ghost use Rattle.std.specs.Prelude.{◌≡◌, [], IfOk};
+ghost use Rattle.wm_floor.specs.Floor.{IsPassOf, IsSame};
+ghost use Rattle.wm_law.specs.Fit.{HasCall, IsCall};
+
+use crate::watch::{TestFloor, TestPass, Watch};
+use anyhow::{Result, bail};
+use std::alloc::Global;
+use std::sync::Wait;
+use wm_base::{Asked, Moment, NoMemory};
+use wm_core::Setup;
+use wm_desc::qbatch;
+use wm_floor::{Answered, Floor, Log};
+use wm_journal::CallFault;
+use wm_law::Call;
+use wm_monitor::MonitorFault;
+use wm_outside::{MemKeeper, MemSpawner};
+use wm_shared_monitor::Turned;
+use wm_when::Offset;
+
+/// One of the two monitors, by the number of its pass.
+#[derive(Clone, Copy)]
+pub enum Which {
+    First,
+    Second,
+}
+
+/// An open floor, the pass of a session, and two monitors.
+pub struct Site {
+    floor: TestFloor,
+    zero: TestPass,
+    first: Watch,
+    second: Watch,
+    ghost own: { IsPassOf floor zero },
+    ghost own_first: { IsPassOf floor first.pass },
+    ghost own_second: { IsPassOf floor second.pass },
+    ghost number: { zero.number ≡ 0 },
+    ghost made: { zero.made ≡ 2 },
+    ghost joined: { zero.joined ≡ [] },
+}
+
+fn opened(alloc: Global, keeper: MemKeeper) -> Result<(TestFloor, TestPass)>
+    ensures own { IfOk result (λ made. IsPassOf made.0 made.1) }
+    ensures zero { IfOk result (λ made. made.1.number ≡ 0) }
+    ensures made { IfOk result (λ made. made.1.made ≡ 0) }
+    ensures joined { IfOk result (λ made. made.1.joined ≡ []) }
+{
+    let setup = Setup {
+        ctl: qbatch(),
+        offset: Offset::new(0),
+    };
+    match Floor::open(alloc, keeper, &setup, 1_000_000) {
+        Ok(made) => Ok(made),
+        Err((keeper, fault)) => {
+            drop(keeper);
+            bail!("not opened: {fault}")
+        }
+    }
+}
+
+impl Site {
+    /// A floor over this keeper.
+    pub fn open(alloc: Global, keeper: MemKeeper) -> Result<Site> {
+        let (floor, mut zero) = opened(alloc, keeper)?;
+        let Ok(one) = floor.split(&mut zero) else {
+            unreachable!()
+        };
+        let Ok(two) = floor.split(&mut zero) else {
+            unreachable!()
+        };
+        Ok(Site {
+            floor,
+            zero,
+            first: Watch::new(alloc, one),
+            second: Watch::new(alloc, two),
+        })
+    }
+
+    /// Closes the floor.
+    pub fn close(self) {
+        let Site {
+            floor,
+            mut zero,
+            first,
+            second,
+        } = self;
+        floor.join(&mut zero, first.into_pass());
+        floor.join(&mut zero, second.into_pass());
+        let closed = floor.close(zero);
+        let Ok(closed) = closed else { unreachable!() };
+        drop(closed);
+    }
+
+    /// A call of the session.
+    pub fn call<R: Wait>(
+        &mut self,
+        rt: &R,
+        alloc: Global,
+        call: Call,
+        now: Moment,
+    ) -> Result<Answered, CallFault>
+        requires fit { IsCall call }
+        requires had { HasCall call }
+    {
+        self.floor.call(rt, alloc, &mut self.zero, call, now)
+    }
+
+    /// The history, as the session sees it.
+    pub fn log<R: Wait>(&mut self, rt: &R, alloc: Global) -> Result<Log, NoMemory> {
+        self.floor.log(rt, alloc, &mut self.zero)
+    }
+
+    /// Gives a monitor another spawner.
+    pub fn equip(&mut self, which: Which, spawner: MemSpawner) {
+        match which {
+            Which::First => self.first.take(spawner),
+            Which::Second => self.second.take(spawner),
+        }
+    }
+
+    /// A turn of a monitor.
+    pub fn turn<R: Wait>(
+        &mut self,
+        rt: &R,
+        alloc: Global,
+        which: Which,
+        now: Moment,
+    ) -> Result<Turned, MonitorFault> {
+        match which {
+            Which::First => self.first.turn(rt, alloc, &self.floor, now),
+            Which::Second => self.second.turn(rt, alloc, &self.floor, now),
+        }
+    }
+
+    /// A wait of a monitor.
+    pub fn wait<R: Wait>(
+        &mut self,
+        rt: &R,
+        alloc: Global,
+        which: Which,
+        now: Moment,
+    ) -> Result<Turned, MonitorFault> {
+        match which {
+            Which::First => self.first.wait(rt, alloc, &self.floor, now),
+            Which::Second => self.second.wait(rt, alloc, &self.floor, now),
+        }
+    }
+
+    /// What the spawner of a monitor was asked.
+    pub fn asked(&self, which: Which) -> &[Asked] {
+        match which {
+            Which::First => self.first.asked(),
+            Which::Second => self.second.asked(),
+        }
+    }
+}
