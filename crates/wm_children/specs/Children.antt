@@ -1,5 +1,5 @@
 -- What is seen of the spawner.
-use Rattle.std.specs.Prelude.{◌≡◌, ◌⊎◌, ℕ, ◌≤◌, Bool, List, length, Option}
+use Rattle.std.specs.Prelude.{◌≡◌, ◌⊎◌, ℕ, ◌≤◌, Bool, true, List, length, Option, is_some}
 use Rattle.wm_traits.specs.Cause.{raised}
 use Rattle.wm_children.specs.declared.finished.Finished.{Finished}
 use Rattle.wm_children.specs.declared.reading.Reading.{Reading}
@@ -31,6 +31,10 @@ ends_came s = s.ends.came
 -- the rings that were heard, each by a wait that it ended
 abbrev pub rings_heard : {R : Type 0} → SysSpawner R → ℕ
 rings_heard s = s.ends.heard
+
+-- whether a ring was met that no wait has heard yet
+abbrev pub keeps_ring : {R : Type 0} → SysSpawner R → Bool
+keeps_ring s = is_some s.ends.met
 
 -- whether the end of a child is lost
 abbrev pub has_lost : {R : Type 0} → SysSpawner R → Bool
@@ -80,6 +84,10 @@ CannotStart old new = (MOST_CHILDREN ≤ length (children_out old)) ⊎ ((thread
 -- a wait until the moment may end with nothing: the moment has come by the last reading, or a ring was heard
 abbrev pub MayComeBack : {R : Type 0} → SysSpawner R → SysSpawner R → ℕ → Type 0
 MayComeBack old new moment = HasCome (last_reading new) moment ⊎ (rings_heard new ≡ raised (rings_heard old))
+
+-- a ring that is kept stays kept until it is heard
+abbrev pub LosesNoRing : {R : Type 0} → SysSpawner R → SysSpawner R → Type 0
+LosesNoRing old new = keeps_ring old ≡ true → (keeps_ring new ≡ true) ⊎ (rings_heard new ≡ raised (rings_heard old))
 
 -- nothing was started, looked at or waited for
 abbrev pub OnlyReports : {R : Type 0} → SysSpawner R → SysSpawner R → Type 0

@@ -27,6 +27,13 @@ PassesAt moment (Came finished) = ⊤
 PassesAt moment (Rung ring) = ⊤
 PassesAt moment Gone = ⊤
 
+-- a wait came to a ring
+abbrev pub IsRung : Waited → Type 0
+IsRung (Came finished) = ⊥
+IsRung (Passed reading) = ⊥
+IsRung (Rung ring) = ⊤
+IsRung Gone = ⊥
+
 -- the ends that came, once a look has found this
 abbrev pub came_with : Option Finished → ℕ → ℕ
 came_with (Some finished) came = raised came

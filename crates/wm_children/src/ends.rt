@@ -1,7 +1,7 @@
 // The channel of the ends, as the spawner has it.
-ghost use Rattle.std.specs.Prelude.{◌≡◌, if◌then◌else◌};
+ghost use Rattle.std.specs.Prelude.{◌≡◌, true, if◌then◌else◌, is_some};
 ghost use Rattle.wm_traits.specs.Cause.{raised};
-ghost use Rattle.wm_children.specs.Waiting.{PassesAt, came_with, came_by};
+ghost use Rattle.wm_children.specs.Waiting.{IsRung, PassesAt, came_with, came_by};
 
 use crate::bell::{Bell, Message, Ring};
 use crate::finished::Finished;
@@ -36,7 +36,9 @@ pub struct Ends {
 }
 
 // The end that is there. A ring is kept.
-fn try_end<R: Wait>(rt: &R, from: &Receiver<Message>, met: &mut Option<Ring>) -> Option<Finished> {
+fn try_end<R: Wait>(rt: &R, from: &Receiver<Message>, met: &mut Option<Ring>) -> Option<Finished>
+    ensures { is_some met.old ≡ true → is_some met.new ≡ true }
+{
     match from.try_recv(rt).ok()? {
         Message::End(finished) => Some(finished),
         Message::Ring(ring) => {
@@ -51,7 +53,9 @@ fn look_for_end<R: Wait>(
     rt: &R,
     from: &Receiver<Message>,
     met: &mut Option<Ring>,
-) -> Option<Finished> {
+) -> Option<Finished>
+    ensures { is_some met.old ≡ true → is_some met.new ≡ true }
+{
     let found = try_end(rt, from, met);
     if found.is_none() && met.is_some() {
         return try_end(rt, from, met);
@@ -64,7 +68,9 @@ fn wait_for_end<R: Wait>(
     rt: &R,
     from: &Receiver<Message>,
     met: &mut Option<Ring>,
-) -> Option<Finished> {
+) -> Option<Finished>
+    ensures { is_some met.old ≡ true → is_some met.new ≡ true }
+{
     for _ in rt.forever() {
         match from.recv(rt) {
             Ok(Message::End(finished)) => return Some(finished),
@@ -118,6 +124,7 @@ impl Ends {
         ensures looks { self.new.looks ≡ raised self.old.looks }
         ensures came { self.new.came ≡ (if is_found then raised self.old.came else self.old.came) }
         ensures heard { self.new.heard ≡ self.old.heard }
+        ensures met { self.new.met ≡ self.old.met }
     {
         self.looks = self.looks.saturating_add(1);
         if is_found {
@@ -130,6 +137,7 @@ impl Ends {
         ensures looks { self.new.looks ≡ raised self.old.looks }
         ensures came { self.new.came ≡ came_with result self.old.came }
         ensures heard { self.new.heard ≡ self.old.heard }
+        ensures kept { is_some self.old.met ≡ true → is_some self.new.met ≡ true }
     {
         let found = look_for_end(rt, &self.from, &mut self.met);
         self.count(found.is_some());
@@ -141,6 +149,7 @@ impl Ends {
         ensures looks { self.new.looks ≡ raised self.old.looks }
         ensures came { self.new.came ≡ came_with result self.old.came }
         ensures heard { self.new.heard ≡ self.old.heard }
+        ensures kept { is_some self.old.met ≡ true → is_some self.new.met ≡ true }
     {
         let found = wait_for_end(rt, &self.from, &mut self.met);
         self.count(found.is_some());
@@ -153,6 +162,7 @@ impl Ends {
         ensures came { self.new.came ≡ came_by result self.old.came }
         ensures heard { self.new.heard ≡ self.old.heard }
         ensures passed { PassesAt until result }
+        ensures rung { is_some self.old.met ≡ true → IsRung result }
     {
         let waited = match self.met.take() {
             Some(ring) => Waited::Rung(ring),

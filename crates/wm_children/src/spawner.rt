@@ -71,7 +71,7 @@ impl<
 }
 
 impl<R: Processes<Started = SystemProcess> + Wait + Clock> SysSpawner<R> {
-    ghost use Rattle.wm_children.specs.Children.{children_out, child_looks, ends_came, child_misses, child_faults, has_lost, last_end, child_threads, children_handed, programs_asked, HasThreads, StartsNothing, StartsOne, CannotStart, MayComeBack, OnlyReports};
+    ghost use Rattle.wm_children.specs.Children.{children_out, child_looks, ends_came, child_misses, child_faults, has_lost, last_end, child_threads, children_handed, programs_asked, HasThreads, StartsNothing, StartsOne, CannotStart, LosesNoRing, MayComeBack, OnlyReports};
     ghost use Rattle.wm_children.specs.Reports.{CannotReport, GivesUp, TellsEndOf};
     ghost use Rattle.wm_children.specs.Threads.{threads_after};
     ghost use Rattle.wm_children.specs.Waiting.{came_with};
@@ -141,6 +141,7 @@ impl<R: Processes<Started = SystemProcess> + Wait + Clock> SysSpawner<R> {
         ensures looks { child_looks self.new ≡ raised (child_looks self.old) }
         ensures came { ends_came self.new ≡ came_with result (ends_came self.old) }
         ensures nothing { StartsNothing self.old self.new }
+        ensures rings { LosesNoRing self.old self.new }
     {
         let found = self.ends.wait(&self.rt);
         if found.is_none() {
@@ -158,6 +159,7 @@ impl<R: Processes<Started = SystemProcess> + Wait + Clock> SysSpawner<R> {
         ensures looks { child_looks self.new ≡ raised (child_looks self.old) }
         ensures came { ends_came self.new ≡ came_with result (ends_came self.old) }
         ensures nothing { StartsNothing self.old self.new }
+        ensures rings { LosesNoRing self.old self.new }
     {
         match self.ends.wait_until(&self.rt, until) {
             Waited::Came(finished) => return Some(finished),
@@ -178,6 +180,7 @@ impl<R: Processes<Started = SystemProcess> + Wait + Clock> SysSpawner<R> {
         ensures looked { raised (child_looks self.old) ≤ child_looks self.new }
         ensures came { ends_came self.new ≡ came_with result (ends_came self.old) }
         ensures nothing { StartsNothing self.old self.new }
+        ensures rings { LosesNoRing self.old self.new }
     {
         let found = self.ends.look(&self.rt);
         if found.is_some() || self.lost {
@@ -250,7 +253,7 @@ impl<R: Processes<Started = SystemProcess> + Wait + Clock> SysSpawner<R> {
 }
 
 impl<R: Processes<Started = SystemProcess> + Wait + Clock> Spawner for SysSpawner<R> {
-    ghost use Rattle.wm_children.specs.Children.{children_out, child_looks, ends_came, child_misses, child_faults, has_lost, last_end, HasThreads, StartsNothing, StartsOne, CannotStart, MayComeBack};
+    ghost use Rattle.wm_children.specs.Children.{children_out, child_looks, ends_came, child_misses, child_faults, has_lost, last_end, HasThreads, StartsNothing, StartsOne, CannotStart, LosesNoRing, MayComeBack};
     ghost use Rattle.wm_children.specs.Reports.{CannotReport, GivesUp, TellsEndOf, ReportsEach};
 
     ghost misses = { child_misses };
@@ -313,6 +316,7 @@ impl<R: Processes<Started = SystemProcess> + Wait + Clock> Spawner for SysSpawne
         ensures each { ReportsEach result (ends_came self.old) (ends_came self.new) }
         ensures why { OnErr result (CannotReport self.old self.new) }
         ensures nothing { StartsNothing self.old self.new }
+        ensures rings { LosesNoRing self.old self.new }
         ensures cause { HasCause (child_faults self.old) (child_faults self.new) result }
         ensures misses { child_misses self.new ≡ child_misses self.old }
     {
@@ -331,6 +335,7 @@ impl<R: Processes<Started = SystemProcess> + Wait + Clock> Spawner for SysSpawne
         ensures each { ReportsEach result (ends_came self.old) (ends_came self.new) }
         ensures why { OnErr result (CannotReport self.old self.new) }
         ensures nothing { StartsNothing self.old self.new }
+        ensures rings { LosesNoRing self.old self.new }
         ensures gives { GivesUp result (children_out self.old) (children_out self.new) }
         ensures looked { raised (child_looks self.old) ≤ child_looks self.new }
         ensures cause { HasCause (child_faults self.old) (child_faults self.new) result }
