@@ -1,11 +1,12 @@
 -- What is seen of the spawner.
-use Rattle.std.specs.Prelude.{◌≡◌, ◌⊎◌, ℕ, ◌≤◌, Bool, List, length, Option}
+use Rattle.std.specs.Prelude.{◌≡◌, ◌⊎◌, ℕ, ◌≤◌, Bool, true, List, length, Option, is_some}
 use Rattle.wm_traits.specs.Cause.{raised}
 use Rattle.wm_children.specs.declared.finished.Finished.{Finished}
 use Rattle.wm_children.specs.declared.reading.Reading.{Reading}
 use Rattle.wm_children.specs.declared.spawner.SysSpawner.{SysSpawner}
 use Rattle.wm_children.specs.declared.waiters.TheConstants.{MOST_CHILDREN}
 use Rattle.wm_children.specs.Programs.{serials_of}
+use Rattle.wm_children.specs.Waiting.{HasCome}
 
 -- the children that are out, the longest out first
 abbrev pub children_out : {R : Type 0} → SysSpawner R → List ℕ
@@ -26,6 +27,14 @@ child_looks s = s.ends.looks
 -- the ends that came over it
 abbrev pub ends_came : {R : Type 0} → SysSpawner R → ℕ
 ends_came s = s.ends.came
+
+-- the rings that were heard, each by a wait that it ended
+abbrev pub rings_heard : {R : Type 0} → SysSpawner R → ℕ
+rings_heard s = s.ends.heard
+
+-- whether a ring was met that no wait has heard yet
+abbrev pub keeps_ring : {R : Type 0} → SysSpawner R → Bool
+keeps_ring s = is_some s.ends.met
 
 -- whether the end of a child is lost
 abbrev pub has_lost : {R : Type 0} → SysSpawner R → Bool
@@ -71,6 +80,14 @@ StartsOne old new = (programs_asked new ≡ raised (programs_asked old)) × (chi
 -- why a start failed: so many children are out as may be, no thread could be made, or std started no program
 abbrev pub CannotStart : {R : Type 0} → SysSpawner R → SysSpawner R → Type 0
 CannotStart old new = (MOST_CHILDREN ≤ length (children_out old)) ⊎ ((threads_refused new ≡ raised (threads_refused old)) ⊎ (programs_failed new ≡ raised (programs_failed old)))
+
+-- a wait until the moment may end with nothing: the moment has come by the last reading, or a ring was heard
+abbrev pub MayComeBack : {R : Type 0} → SysSpawner R → SysSpawner R → ℕ → Type 0
+MayComeBack old new moment = HasCome (last_reading new) moment ⊎ (rings_heard new ≡ raised (rings_heard old))
+
+-- a ring that is kept stays kept until it is heard
+abbrev pub LosesNoRing : {R : Type 0} → SysSpawner R → SysSpawner R → Type 0
+LosesNoRing old new = keeps_ring old ≡ true → (keeps_ring new ≡ true) ⊎ (rings_heard new ≡ raised (rings_heard old))
 
 -- nothing was started, looked at or waited for
 abbrev pub OnlyReports : {R : Type 0} → SysSpawner R → SysSpawner R → Type 0

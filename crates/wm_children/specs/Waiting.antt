@@ -6,7 +6,7 @@ use Rattle.wm_children.specs.declared.finished.Finished.{Finished}
 use Rattle.wm_children.specs.declared.reading.Reading.{Reading}
 use Rattle.wm_children.specs.declared.reading.TheConstants.{LONGEST_SLEEP}
 use Rattle.wm_children.specs.declared.ends.Waited.{Waited}
-use Rattle.wm_children.specs.declared.ends.Waited.TheVariants.{Came, Passed, Gone}
+use Rattle.wm_children.specs.declared.ends.Waited.TheVariants.{Came, Passed, Rung, Gone}
 
 -- so many seconds in nanoseconds
 abbrev pub nanos_of : ℕ → ℕ
@@ -24,7 +24,15 @@ nanos_to_sleep reading moment = min (nanos_of moment - as_nanos reading.time) (n
 abbrev pub PassesAt : ℕ → Waited → Type 0
 PassesAt moment (Passed reading) = HasCome reading moment
 PassesAt moment (Came finished) = ⊤
+PassesAt moment (Rung ring) = ⊤
 PassesAt moment Gone = ⊤
+
+-- a wait came to a ring
+abbrev pub IsRung : Waited → Type 0
+IsRung (Came finished) = ⊥
+IsRung (Passed reading) = ⊥
+IsRung (Rung ring) = ⊤
+IsRung Gone = ⊥
 
 -- the ends that came, once a look has found this
 abbrev pub came_with : Option Finished → ℕ → ℕ
@@ -35,4 +43,5 @@ came_with None came = came
 abbrev pub came_by : Waited → ℕ → ℕ
 came_by (Came finished) came = raised came
 came_by (Passed reading) came = came
+came_by (Rung ring) came = came
 came_by Gone came = came

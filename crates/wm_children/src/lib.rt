@@ -4,9 +4,15 @@
 //! thread that waits for it, and the end comes back over a channel, from which a look takes what is there and a wait sleeps.
 //! Neither asks the system about each child.
 //!
+//! A spawner has a bell, which any thread may ring: a wait until a moment then ends with nothing, so that who waits can look
+//! what was done meanwhile. A ring crosses the channel of the ends. One is in it at the most: who rings sets a mark, and
+//! sends only where it wasn't set; who hears the ring takes the mark away before he goes on. So no ring is lost between a
+//! look and a wait, the room of the channel grows by one, and no end waits behind rings. A look and a wait without a moment
+//! aren't ended by a ring; one that they meet is kept for the next wait until a moment.
+//!
 //! In the order of reading: a child with the job that it was started for (`running`), how it ended (`finished`), what
-//! starts it (`command`, `launch`), what a clock told (`reading`), the channel of the ends (`ends`), the threads
-//! (`waiters`), who is out (`started`) and the spawner (`spawner`). What crosses the channel says in its type that its exit
+//! starts it (`command`, `launch`), what a clock told (`reading`), the bell and what crosses the channel (`bell`), the
+//! channel of the ends (`ends`), the threads (`waiters`), who is out (`started`) and the spawner (`spawner`). What crosses the channel says in its type that its exit
 //! is what std told of that child; no clause says that a thread runs or that a message comes, so that ends are seen is
 //! tested (`wm_test_outside`).
 //!
@@ -21,10 +27,12 @@
 //! - `thread::spawn`: the thread runs; an `Err` says that none could be made.
 //! - `Sender::send`, `Receiver::recv`, `iter`, `try_recv`, `recv_timeout`: what is sent is received once, by one thread, and a
 //!   send into a channel with room doesn't wait.
-//! - `recv_timeout`: it comes back when its time is over.
+//! - `recv_timeout`: it comes back when its time is over, or sooner when something is sent.
+//! - `AtomicBool::swap`, `store`: all threads see them in one order, with what each thread did before.
 //! - `Clock::since_1970`: it is the time.
 #![tactic(auto)]
 
+mod bell;
 mod command;
 mod ends;
 mod finished;
@@ -35,4 +43,5 @@ mod spawner;
 mod started;
 mod waiters;
 
+pub use bell::Bell;
 pub use spawner::SysSpawner;

@@ -3,6 +3,7 @@ ghost use Rattle.std.specs.Prelude.{◌≡◌, ◌≤◌, ◌<◌, ◌≢◌, �
 ghost use Rattle.wm_traits.specs.Cause.{HasCause, HasStartCause, raised};
 ghost use Rattle.wm_traits.specs.declared.fault.StartFault.TheVariants.{Failed as start_failed, NoMemory as no_memory};
 
+use crate::bell::Bell;
 use crate::command::command_of;
 use crate::ends::{Ends, Waited};
 use crate::finished::Finished;
@@ -70,10 +71,15 @@ impl<
 }
 
 impl<R: Processes<Started = SystemProcess> + Wait + Clock> SysSpawner<R> {
-    ghost use Rattle.wm_children.specs.Children.{children_out, child_looks, ends_came, child_misses, child_faults, has_lost, last_end, last_reading, child_threads, children_handed, programs_asked, HasThreads, StartsNothing, StartsOne, CannotStart, OnlyReports};
+    ghost use Rattle.wm_children.specs.Children.{children_out, child_looks, ends_came, child_misses, child_faults, has_lost, last_end, child_threads, children_handed, programs_asked, HasThreads, StartsNothing, StartsOne, CannotStart, LosesNoRing, MayComeBack, OnlyReports};
     ghost use Rattle.wm_children.specs.Reports.{CannotReport, GivesUp, TellsEndOf};
     ghost use Rattle.wm_children.specs.Threads.{threads_after};
-    ghost use Rattle.wm_children.specs.Waiting.{HasCome, came_with};
+    ghost use Rattle.wm_children.specs.Waiting.{came_with};
+
+    /// What ends this spawner's waits until a moment, for other threads. An `Err` is want of memory.
+    pub fn bell(&self) -> Result<Bell, NoMemory> {
+        Ok(self.ends.bell()?)
+    }
 
     fn fail(&mut self) -> Failed
         ensures out { children_out self.new ≡ children_out self.old }
@@ -135,6 +141,7 @@ impl<R: Processes<Started = SystemProcess> + Wait + Clock> SysSpawner<R> {
         ensures looks { child_looks self.new ≡ raised (child_looks self.old) }
         ensures came { ends_came self.new ≡ came_with result (ends_came self.old) }
         ensures nothing { StartsNothing self.old self.new }
+        ensures rings { LosesNoRing self.old self.new }
     {
         let found = self.ends.wait(&self.rt);
         if found.is_none() {
@@ -143,34 +150,37 @@ impl<R: Processes<Started = SystemProcess> + Wait + Clock> SysSpawner<R> {
         found
     }
 
-    // Sleeps until an end comes, or the moment. Where none can come any more, a child is lost.
+    // Sleeps until an end comes, the moment, or a ring. Where none can come any more, a child is lost.
     fn wait_until(&mut self, until: Moment) -> Option<Finished>
-        ensures none { result ≡ None → has_lost self.new ≡ false → HasCome (last_reading self.new) until }
+        ensures none { result ≡ None → has_lost self.new ≡ false → MayComeBack self.old self.new until }
         ensures out { children_out self.new ≡ children_out self.old }
         ensures misses { child_misses self.new ≡ child_misses self.old }
         ensures faults { child_faults self.new ≡ child_faults self.old }
         ensures looks { child_looks self.new ≡ raised (child_looks self.old) }
         ensures came { ends_came self.new ≡ came_with result (ends_came self.old) }
         ensures nothing { StartsNothing self.old self.new }
+        ensures rings { LosesNoRing self.old self.new }
     {
         match self.ends.wait_until(&self.rt, until) {
             Waited::Came(finished) => return Some(finished),
             Waited::Passed(reading) => self.reading = reading,
+            Waited::Rung(ring) => self.ends.hear(ring),
             Waited::Gone => self.lost = true,
         }
         None
     }
 
-    // The next end, until the moment at the latest where one is given. Where no child is out, none comes.
+    // The next end, until the moment or a ring at the latest where a moment is given. Where no child is out, none comes.
     fn next(&mut self, until: Option<Moment>) -> Option<Finished>
         ensures none { result ≡ None → until ≡ None → has_lost self.new ≡ false → children_out self.old ≡ [] }
-        ensures moment { result ≡ None → has_lost self.new ≡ false → IfSome until (HasCome (last_reading self.new)) }
+        ensures moment { result ≡ None → has_lost self.new ≡ false → IfSome until (MayComeBack self.old self.new) }
         ensures out { children_out self.new ≡ children_out self.old }
         ensures misses { child_misses self.new ≡ child_misses self.old }
         ensures faults { child_faults self.new ≡ child_faults self.old }
         ensures looked { raised (child_looks self.old) ≤ child_looks self.new }
         ensures came { ends_came self.new ≡ came_with result (ends_came self.old) }
         ensures nothing { StartsNothing self.old self.new }
+        ensures rings { LosesNoRing self.old self.new }
     {
         let found = self.ends.look(&self.rt);
         if found.is_some() || self.lost {
@@ -243,9 +253,8 @@ impl<R: Processes<Started = SystemProcess> + Wait + Clock> SysSpawner<R> {
 }
 
 impl<R: Processes<Started = SystemProcess> + Wait + Clock> Spawner for SysSpawner<R> {
-    ghost use Rattle.wm_children.specs.Children.{children_out, child_looks, ends_came, child_misses, child_faults, has_lost, last_end, last_reading, HasThreads, StartsNothing, StartsOne, CannotStart};
+    ghost use Rattle.wm_children.specs.Children.{children_out, child_looks, ends_came, child_misses, child_faults, has_lost, last_end, HasThreads, StartsNothing, StartsOne, CannotStart, LosesNoRing, MayComeBack};
     ghost use Rattle.wm_children.specs.Reports.{CannotReport, GivesUp, TellsEndOf, ReportsEach};
-    ghost use Rattle.wm_children.specs.Waiting.{HasCome};
 
     ghost misses = { child_misses };
 
@@ -307,6 +316,7 @@ impl<R: Processes<Started = SystemProcess> + Wait + Clock> Spawner for SysSpawne
         ensures each { ReportsEach result (ends_came self.old) (ends_came self.new) }
         ensures why { OnErr result (CannotReport self.old self.new) }
         ensures nothing { StartsNothing self.old self.new }
+        ensures rings { LosesNoRing self.old self.new }
         ensures cause { HasCause (child_faults self.old) (child_faults self.new) result }
         ensures misses { child_misses self.new ≡ child_misses self.old }
     {
@@ -320,11 +330,12 @@ impl<R: Processes<Started = SystemProcess> + Wait + Clock> Spawner for SysSpawne
         until: Option<Moment>,
     ) -> Result<Option<Event>, Failed>
         ensures none { result ≡ Ok None → until ≡ None → children_out self.old ≡ [] }
-        ensures moment { result ≡ Ok None → IfSome until (HasCome (last_reading self.new)) }
+        ensures moment { result ≡ Ok None → IfSome until (MayComeBack self.old self.new) }
         ensures end { TellsEndOf (last_end self.new) result }
         ensures each { ReportsEach result (ends_came self.old) (ends_came self.new) }
         ensures why { OnErr result (CannotReport self.old self.new) }
         ensures nothing { StartsNothing self.old self.new }
+        ensures rings { LosesNoRing self.old self.new }
         ensures gives { GivesUp result (children_out self.old) (children_out self.new) }
         ensures looked { raised (child_looks self.old) ≤ child_looks self.new }
         ensures cause { HasCause (child_faults self.old) (child_faults self.new) result }

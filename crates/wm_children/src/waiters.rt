@@ -3,8 +3,9 @@ ghost use Rattle.std.specs.Prelude.{◌≡◌, ◌≤◌, IsTrue, if◌then◌el
 ghost use Rattle.wm_traits.specs.Cause.{raised};
 ghost use Rattle.wm_children.specs.Threads.{threads_after};
 
+use crate::bell::{Bell, Message};
 use crate::ends::Ends;
-use crate::finished::{Finished, finish};
+use crate::finished::finish;
 use crate::running::Running;
 use crossbeam_channel::{Receiver, Sender, bounded};
 use std::alloc::{AllocError, Global};
@@ -15,6 +16,9 @@ use wm_base::NoMemory;
 
 /// The most children that are out at once. It is the room of the channels, so that no send waits.
 pub const MOST_CHILDREN: usize = 16_384;
+
+// The room of the channel of the ends: one for each child, and one for a ring.
+const MOST_MESSAGES: usize = MOST_CHILDREN + 1;
 
 /// The way to the waiters. One thread hires the others, each when it is asked to, and answers whether a thread could be
 /// made. It counts the threads that were hired, how often none could be made, and the children that were handed over.
@@ -29,9 +33,9 @@ pub struct Waiters {
 }
 
 // Waits for one child after another.
-fn wait_for_each<R: Wait>(rt: &R, children: &Receiver<Running>, ends: &Sender<Finished>) {
+fn wait_for_each<R: Wait>(rt: &R, children: &Receiver<Running>, ends: &Sender<Message>) {
     for running in children.iter(rt) {
-        if ends.send(rt, finish(running)).is_err() {
+        if ends.send(rt, Message::End(finish(running))).is_err() {
             return;
         }
     }
@@ -41,7 +45,7 @@ fn wait_for_each<R: Wait>(rt: &R, children: &Receiver<Running>, ends: &Sender<Fi
 fn start_waiter<R: Threads + Wait + Copy + Send + 'static>(
     rt: R,
     children: &Receiver<Running>,
-    ends: &Sender<Finished>,
+    ends: &Sender<Message>,
 ) -> Result<(), AllocError> {
     let children = children.clone()?;
     let ends = ends.clone()?;
@@ -55,7 +59,7 @@ fn hire_each<R: Threads + Wait + Copy + Send + 'static>(
     wanted: &Receiver<()>,
     made: &Sender<bool>,
     children: &Receiver<Running>,
-    ends: &Sender<Finished>,
+    ends: &Sender<Message>,
 ) {
     for () in wanted.iter(&rt) {
         let is_made = start_waiter(rt, children, ends).is_ok();
@@ -73,7 +77,8 @@ pub fn pool<R: Threads + Wait + Copy + Send + 'static>(
     let (children, to_wait_for) = bounded::<Running, Global>(alloc, MOST_CHILDREN)?;
     let (wanted, to_hire) = bounded::<(), Global>(alloc, 1)?;
     let (answer, made) = bounded::<bool, Global>(alloc, 1)?;
-    let (ends, from) = bounded::<Finished, Global>(alloc, MOST_CHILDREN)?;
+    let (ends, from) = bounded::<Message, Global>(alloc, MOST_MESSAGES)?;
+    let bell = Bell::new(alloc, ends.clone()?)?;
     thread::spawn(&rt, move || {
         hire_each(rt, &to_hire, &answer, &to_wait_for, &ends);
     })?;
@@ -85,7 +90,7 @@ pub fn pool<R: Threads + Wait + Copy + Send + 'static>(
         refused: 0,
         handed: 0,
     };
-    Ok((waiters, Ends::new(from)))
+    Ok((waiters, Ends::new(from, bell)))
 }
 
 impl Waiters {

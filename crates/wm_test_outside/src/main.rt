@@ -4,10 +4,12 @@
 //! those that make an adapter; the calls of a source, a sink and a spawner are asked in the same words of both (`streams`,
 //! `spawners`). Those of a store and its keepers are in `keepers` for the form in memory and in `sql_keepers` for SQLite, in
 //! memory (`sql_memory.txt`) and in files (`sql_files.txt`), some of which SQLite itself has made (`bench/stores.py`); `rows`
-//! reads the rows and changes of both. The children of `system.txt` are real programs.
+//! reads the rows and changes of both. The children of `system.txt` are real programs, and its waits are ended by rings of
+//! other threads, too (`bells`).
 #![tactic(auto)]
 
 mod answers;
+mod bells;
 mod flaky;
 mod keepers;
 mod memory;

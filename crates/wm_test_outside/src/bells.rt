@@ -1,0 +1,121 @@
+// Waits that are ended by the bell of the system's spawner.
+use super::answers::answer_look;
+use anyhow::Result;
+use std::alloc::AllocError;
+use std::fmt::Write;
+use std::process::{Processes, SystemProcess};
+use std::sync::Wait;
+use std::thread;
+use std::thread::{JoinHandle, Threads};
+use std::time::{Clock, Duration, Instant};
+use wm_base::{Event, Moment};
+use wm_children::{Bell, SysSpawner};
+use wm_traits::{Failed, Spawner};
+
+// How many milliseconds a thread pauses before it rings, so that the wait has begun.
+const PAUSE: u64 = 20;
+
+// The quickest of some waits that are ended by a ring takes fewer milliseconds.
+const QUICK: u64 = 500;
+
+fn ring_often<R: Wait>(rt: &R, bell: &Bell, times: u32) {
+    for _ in 0..times {
+        bell.ring(rt);
+    }
+}
+
+// A thread that pauses, and then rings so often.
+fn start_ringer<R: Threads + Wait + Clock + Copy + Send + 'static>(
+    rt: R,
+    bell: Bell,
+    pause: Duration,
+    times: u32,
+) -> Result<JoinHandle<()>, AllocError> {
+    Ok(thread::spawn(&rt, move || {
+        rt.sleep(pause);
+        ring_often(&rt, &bell, times);
+    })?)
+}
+
+/// Answers `ring 3`, which rings so often before the next wait.
+pub fn ring<R: Processes<Started = SystemProcess> + Wait + Clock>(
+    rt: &R,
+    spawner: &SysSpawner<R>,
+    times: &str,
+    answer: &mut String,
+) -> Result<()> {
+    let bell = spawner.bell()?;
+    ring_often(rt, &bell, times.parse::<u32>()?);
+    answer.push_str("RUNG\n")?;
+    Ok(())
+}
+
+fn wait_long<R: Processes<Started = SystemProcess> + Wait + Clock>(
+    rt: &R,
+    spawner: &mut SysSpawner<R>,
+) -> Result<Option<Event>, Failed> {
+    spawner.wait_ended(rt, Some(Moment::new(Moment::MAX)))
+}
+
+// A wait until the greatest moment, which another thread ends by one ring: what it came to, and how long it took behind the
+// pause of that thread.
+fn wait_for_ring<
+    R: Processes<Started = SystemProcess> + Threads + Wait + Clock + Copy + Send + 'static,
+>(rt: R, spawner: &mut SysSpawner<R>, answer: &mut String) -> Result<Duration> {
+    let pause = Duration::from_millis(PAUSE);
+    let start = Instant::now(&rt)?;
+    let ringer = start_ringer(rt, spawner.bell()?, pause, 1)?;
+    let found = wait_long(&rt, spawner);
+    let taken = start.elapsed(&rt)?;
+    ringer.join(&rt);
+    answer_look(found, answer)?;
+    Ok(taken.saturating_sub(pause))
+}
+
+/// Answers `rings 5`: what so many waits until the greatest moment come to, each of which another thread ends by one ring,
+/// and whether the quickest of them was quick.
+pub fn rings<
+    R: Processes<Started = SystemProcess> + Threads + Wait + Clock + Copy + Send + 'static,
+>(rt: R, spawner: &mut SysSpawner<R>, times: &str, answer: &mut String) -> Result<()> {
+    let mut quickest = Duration::MAX;
+    for _ in 0..times.parse::<u32>()? {
+        quickest = quickest.min(wait_for_ring(rt, spawner, answer)?);
+    }
+    writeln!(
+        answer,
+        "{}",
+        if quickest < Duration::from_millis(QUICK) {
+            "QUICK"
+        } else {
+            "SLOW"
+        }
+    )?;
+    Ok(())
+}
+
+// Waits until the greatest moment, up to so many times, until there is a report.
+fn wait_often<R: Processes<Started = SystemProcess> + Wait + Clock>(
+    rt: &R,
+    spawner: &mut SysSpawner<R>,
+    most: u32,
+) -> Result<Option<Event>, Failed> {
+    for _ in 0..most {
+        let found = wait_long(rt, spawner)?;
+        if found.is_some() {
+            return Ok(found);
+        }
+    }
+    Ok(None)
+}
+
+/// Answers `storm 1000`: the end of a child, for which is waited until the greatest moment while another thread rings so
+/// often. No ring ends two waits, so one wait more than there are rings sees the end.
+pub fn storm<
+    R: Processes<Started = SystemProcess> + Threads + Wait + Clock + Copy + Send + 'static,
+>(rt: R, spawner: &mut SysSpawner<R>, times: &str, answer: &mut String) -> Result<()> {
+    let times = times.parse::<u32>()?;
+    let ringer = start_ringer(rt, spawner.bell()?, Duration::ZERO, times)?;
+    let found = wait_often(&rt, spawner, times.saturating_add(1));
+    ringer.join(&rt);
+    answer_look(found, answer)
+}
