@@ -58,16 +58,9 @@ returns-in_err-sent-clause-part g c =
 
 pub returns-in_err-sent-clause-cause : goal.returns-in_err-sent-clause-cause
 returns-in_err-sent-clause-cause g c =
-    let s = g.P.Spawner in
-    let see = spawner_seen s.asked s.told s.misses s.faults in
     let f = c.args.floor.now in
-    let p = c.args.pass.now in
-    let m = c.args.self.now in
-    let v = see c.args.spawner.now in
     let i = c.hands.invariant in
     let q = c.hands.pass in
-    let k = c.hands.self in
-    let x = see c.hands.spawner in
     let r = c.pending-waiting.new.pass in
     let e = c.pending-waiting.ensures in
     let goes = GoesOn-looked f q r i.part.pass.own e.own e.same e.looked in
