@@ -37,7 +37,7 @@ pub struct Site {
 }
 
 impl Model for Site {
-    ghost use Rattle.std.specs.Prelude.{◌≡◌, ◌×◌, ⊤, []};
+    ghost use Rattle.std.specs.Prelude.{◌≡◌, ⊤, []};
     ghost use Rattle.wm_floor.specs.Floor.{IsPassOf};
     ghost use Rattle.wm_shared_monitor.specs.Scene.{OwesSeen};
 
