@@ -1,22 +1,21 @@
 -- Laws of what a monitor does: nothing, one thing after another, and its parts.
-use Rattle.std.proofs.Common.{◌≡◌, ℕ, ◌+◌, ◌*◌, ◌≤◌, ◌&&◌, ◌==◌, Bool, true, false, List, [], ◌∷◌, ◌++◌, length, map, Option, Some, None, option_to_list, sym, ap, subst, ◌∙◌, refl, eq-eqb, append_assoc, append-nil, arith}
-use Rattle.std.specs.List.{count_by, filter_map}
+use Rattle.std.proofs.Common.{◌≡◌, ℕ, ◌+◌, ◌≤◌, ◌==◌, Bool, true, false, List, [], ◌∷◌, ◌++◌, map, Option, Some, None, option_to_list, sym, ap, subst, ◌∙◌, refl, eq-eqb, append_assoc, append-nil, arith}
+use Rattle.std.specs.List.{count_by}
 use Rattle.std.specs.Prelude.{Contains}
 use Rattle.std.proofs.lemmas.List.{length-append}
 use Rattle.std.proofs.lemmas.List.Elements.{filter_map-append}
 use Rattle.wm_base.specs.declared.job.Asked.{Asked}
 use Rattle.wm_base.specs.declared.job.Asked.TheVariants.{Kill}
 use Rattle.wm_law.specs.declared.call.Call.{Call}
-use Rattle.wm_law.specs.declared.call.Call.TheVariants as call
 use Rattle.wm_law.specs.declared.call.Entry.{Entry}
 use Rattle.wm_law.specs.History.{is_hand, is_report, order_in, ordered, orders, reported_in, reports}
 use Rattle.wm_traits.specs.Told.{Grows}
 use Rattle.wm_traits.proofs.Telling.{Grows-none, Grows-then}
 use Rattle.wm_monitor.specs.Asking.{AsksFor}
-use Rattle.wm_monitor.specs.Lists.{since, IsAmong}
-use Rattle.wm_monitor.specs.Monitor.{RisesBy, call_of, hands_of, is_spawner_fault}
+use Rattle.wm_monitor.specs.Lists.{IsAmong}
+use Rattle.wm_monitor.specs.Monitor.{RisesBy, call_of, is_spawner_fault}
 use Rattle.wm_monitor.specs.declared.report.Report.{Report}
-use Rattle.wm_monitor.proofs.Askings.{AsksFor-again, AsksFor-none, AsksFor-nothing, AsksFor-order, AsksFor-then}
+use Rattle.wm_monitor.proofs.Askings.{AsksFor-again, AsksFor-nothing, AsksFor-order, AsksFor-then}
 use Rattle.wm_monitor.proofs.Hands.{hands-append}
 use Rattle.wm_monitor.proofs.Lists.{IsAmong-front, IsAmong-more, since-then}
 use Rattle.wm_monitor.proofs.Monitors.{RisesBy-then, count-append}

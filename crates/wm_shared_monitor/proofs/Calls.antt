@@ -1,9 +1,8 @@
 -- What one call of a monitor's pass comes to.
-use Rattle.std.proofs.Common.{◌≡◌, ◌⊎◌, ℕ, ◌+◌, ◌-◌, ◌<◌, ◌≤◌, true, List, [], ◌∷◌, ◌++◌, length, Option, Some, Result, Ok, Err, IfOk, OnErr, sym, ap, subst, ◌∙◌, refl, append_assoc, arith, inl, inr}
+use Rattle.std.proofs.Common.{◌≡◌, ℕ, ◌-◌, ◌<◌, ◌≤◌, true, List, [], ◌∷◌, ◌++◌, length, Some, Result, Ok, Err, IfOk, OnErr, sym, ap, subst, ◌∙◌, refl, append_assoc, arith}
 use Rattle.std.specs.Prelude.{IfErr}
 use Rattle.std.specs.List.{slice_get}
 use Rattle.std.proofs.lemmas.List.{length_push}
-use Rattle.std.proofs.Math.Nat.{lt_of_not-le}
 use Rattle.wm_law.specs.declared.call.Call.{Call}
 use Rattle.wm_law.specs.declared.call.Entry.{Entry}
 use Rattle.wm_law.specs.History.{is_monitor_call}
@@ -11,10 +10,8 @@ use Rattle.wm_journal.specs.History.{reached}
 use Rattle.wm_journal.specs.Limit.{limit_of}
 use Rattle.wm_journal.specs.declared.call_fault.CallFault.{CallFault}
 use Rattle.wm_journal.specs.declared.call_fault.CallFault.TheVariants as call_fault
-use Rattle.wm_traits.specs.Cause.{raised}
 use Rattle.wm_turn.specs.Passed.{StartsWith}
 use Rattle.wm_monitor.specs.declared.fault.MonitorFault.{MonitorFault}
-use Rattle.wm_monitor.specs.declared.fault.MonitorFault.TheVariants.{WaitFault, KeeperFault, LogFull, NoMemory}
 use Rattle.wm_floor.specs.declared.answer.Answered.{Answered}
 use Rattle.wm_floor.specs.Causes.{HasMarkCause}
 use Rattle.wm_floor.specs.Floor.{Floored, IsCalled, IsEntered, IsPassOf, IsRefused, IsSame, Seen, entry_of}

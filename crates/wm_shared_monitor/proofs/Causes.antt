@@ -1,9 +1,9 @@
 -- Laws of why a call of a monitor ends early.
-use Rattle.std.proofs.Common.{◌≡◌, ℕ, ◌<◌, ◌≤◌, List, length, Result, Err, IfErr, ap, sym, subst, ◌∙◌, arith}
+use Rattle.std.proofs.Common.{◌≡◌, ℕ, ◌≤◌, List, Result, Err, IfErr, sym, subst, arith}
 use Rattle.wm_law.specs.declared.call.Entry.{Entry}
 use Rattle.wm_traits.specs.Cause.{raised}
 use Rattle.wm_monitor.specs.declared.fault.MonitorFault.{MonitorFault}
-use Rattle.wm_monitor.specs.declared.fault.MonitorFault.TheVariants.{WaitFault, KeeperFault, LogFull, NoMemory}
+use Rattle.wm_monitor.specs.declared.fault.MonitorFault.TheVariants.{WaitFault, NoMemory}
 use Rattle.wm_shared_monitor.specs.Causes.{IsCaused}
 
 -- a fault of the spawner

@@ -1,7 +1,6 @@
 -- Laws of entries that aren't idle.
-use Rattle.std.proofs.Common.{◌≡◌, ◌⊎◌, ℕ, ◌==◌, Bool, true, false, List, [], ◌∷◌, ◌++◌, Some, sym, ap, subst, ◌∙◌, refl, inl, inr, if◌then◌else◌}
-use Rattle.std.specs.List.{filter}
-use borrow.Author.Tests.{eqb-true, eqb-false}
+use Rattle.std.proofs.Common.{◌≡◌, ℕ, ◌==◌, Bool, true, false, List, [], ◌∷◌, ◌++◌, Some, sym, ap, subst, ◌∙◌, refl, inl, inr, if◌then◌else◌}
+use borrow.Author.Tests.{eqb-false}
 use Rattle.std.specs.Ordering.{is_le, nat_cmp}
 use Rattle.std.proofs.lemmas.Map.Keys.{le_from_is_le}
 use Rattle.wm_law.specs.declared.call.Call.{Call}
@@ -13,7 +12,7 @@ use Rattle.wm_law.specs.Pending.{pending}
 use Rattle.wm_monitor.specs.Idle.{IsDueBy}
 use Rattle.wm_turn.specs.Passed.{own}
 use Rattle.wm_floor.specs.Ledger.{caller_of}
-use Rattle.wm_shared_monitor.specs.Idle.{IsCalledFor, NoneIsIdle, WasCalledFor, range_behind}
+use Rattle.wm_shared_monitor.specs.Idle.{NoneIsIdle, WasCalledFor, range_behind}
 
 -- what was called for in the one range was so in the other
 abbrev IsWider : ℕ → List State → List State → Type 0

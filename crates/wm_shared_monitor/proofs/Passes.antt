@@ -1,5 +1,5 @@
 -- Laws of a pass that goes on.
-use Rattle.std.proofs.Common.{◌≡◌, ℕ, ◌<◌, ◌≤◌, ◌-◌, ◌+◌, ◌&&◌, ◌==◌, Bool, true, zero, suc, List, [], ◌∷◌, ◌++◌, length, Option, Some, None, IfSome, option_to_list, sym, ap, subst, ◌∙◌, refl, eq-eqb, append_assoc, append-nil, arith, inl}
+use Rattle.std.proofs.Common.{◌≡◌, ℕ, ◌<◌, ◌≤◌, ◌-◌, ◌&&◌, ◌==◌, Bool, true, zero, suc, List, [], ◌∷◌, ◌++◌, length, Option, Some, None, IfSome, option_to_list, sym, ap, subst, ◌∙◌, refl, eq-eqb, append-nil, arith, inl}
 use Rattle.std.specs.List.{list_all, slice_get}
 use Rattle.std.specs.Option.{option_and_then}
 use Rattle.std.proofs.lemmas.List.{length-append, nil_from_length}
@@ -11,15 +11,15 @@ use Rattle.wm_law.specs.declared.state.State.{State}
 use Rattle.wm_law.specs.History.{after, order_in}
 use Rattle.wm_law.proofs.History.{after-append}
 use Rattle.wm_journal.specs.History.{reached}
-use Rattle.wm_turn.specs.Passed.{StartsWith, own}
+use Rattle.wm_turn.specs.Passed.{own}
 use Rattle.wm_monitor.specs.Lists.{since, Extends}
 use Rattle.wm_monitor.proofs.Lists.{Extends-then, since-append, since-then}
 use Rattle.wm_floor.specs.Floor.{Floored, HasLooked, IsPassOf, IsSame, Seen}
 use Rattle.wm_floor.specs.Ledger.{HasReply, behind, caller_of}
 use Rattle.wm_floor.specs.Replies.{IsCopyOf}
 use Rattle.wm_shared_monitor.specs.declared.monitor.SharedMonitor.{SharedMonitor}
-use Rattle.wm_shared_monitor.specs.Advance.{GoesOn, added, is_monitors}
-use Rattle.wm_shared_monitor.specs.Idle.{NoneIsIdle, WasCalledFor, IsCalledFor}
+use Rattle.wm_shared_monitor.specs.Advance.{GoesOn, is_monitors}
+use Rattle.wm_shared_monitor.specs.Idle.{NoneIsIdle, IsCalledFor}
 use Rattle.wm_shared_monitor.specs.Scene.{IsPlace, OwesSeen, order_at, order_owed}
 use Rattle.wm_shared_monitor.proofs.Idles.{NoneIsIdle-append, NoneIsIdle-one, NoneIsIdle-others}
 

@@ -1,5 +1,5 @@
 -- Laws of what a call of a monitor answers.
-use Rattle.std.proofs.Common.{◌≡◌, ◌⊎◌, ℕ, true, false, ◌<◌, ◌≤◌, ◌+◌, List, [], ◌++◌, length, take, drop, Option, Some, None, IfSome, sym, ap, subst, ◌∙◌, refl, inl, inr, arith}
+use Rattle.std.proofs.Common.{◌≡◌, ◌⊎◌, ℕ, true, false, ◌<◌, ◌≤◌, List, length, take, drop, Option, Some, None, IfSome, sym, ap, subst, ◌∙◌, refl, inl, inr, arith}
 use Rattle.std.specs.Cmp.{nat_cmp_is}
 use Rattle.std.specs.Ordering.{is_le, nat_cmp}
 use Rattle.std.specs.declared.cmp.Ordering.TheVariants.{Less, Equal}
@@ -16,7 +16,7 @@ use Rattle.wm_journal.specs.History.{reached}
 use Rattle.wm_monitor.specs.Lists.{since}
 use Rattle.wm_monitor.specs.Monitor.{hands_of}
 use Rattle.wm_monitor.specs.declared.report.Report.{Report}
-use Rattle.wm_floor.specs.Floor.{Floored, IsPassOf, Seen}
+use Rattle.wm_floor.specs.Floor.{Floored, Seen}
 use Rattle.wm_floor.specs.Ledger.{behind, caller_of}
 use Rattle.wm_shared_monitor.specs.Advance.{GoesOn, added}
 use Rattle.wm_shared_monitor.specs.Turned.{HadNothing, IsSeenSince, WaitedAt, WasNotDue}

@@ -15,7 +15,7 @@ use Rattle.wm_floor.specs.Floor.{Floored, IsPassOf, IsSame, Seen}
 use Rattle.wm_floor.specs.Ledger.{behind}
 use Rattle.wm_shared_monitor.specs.declared.monitor.SharedMonitor.{SharedMonitor}
 use Rattle.wm_shared_monitor.specs.Idle.{NoneIsIdle}
-use Rattle.wm_shared_monitor.specs.Scene.{Scene, Spawning, order_owed, scene, spawner_seen}
+use Rattle.wm_shared_monitor.specs.Scene.{Scene, order_owed, scene, spawner_seen}
 
 -- a call of a monitor
 abbrev pub is_monitors : Entry → Bool

@@ -70,7 +70,8 @@ impl SharedMonitor {
 
     /// A monitor that keeps nothing.
     pub fn new() -> SharedMonitor
-        ensures { IsClear result }
+        ensures clear { IsClear result }
+        ensures owes { (seen : List Entry) → OwesSeen seen result }
     {
         SharedMonitor {
             kept: None,

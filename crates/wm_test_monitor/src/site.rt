@@ -1,11 +1,12 @@
 // A floor in memory, with the passes of a session and of two monitors.
 ghost use Rattle.std.specs.Prelude.{◌≡◌, [], IfOk};
-ghost use Rattle.wm_floor.specs.Floor.{IsPassOf, IsSame};
+ghost use Rattle.wm_floor.specs.Floor.{IsPassOf};
 ghost use Rattle.wm_law.specs.Fit.{HasCall, IsCall};
 
 use crate::watch::{TestFloor, TestPass, Watch};
 use anyhow::{Result, bail};
 use std::alloc::Global;
+use std::marker::Model;
 use std::sync::Wait;
 use wm_base::{Asked, Moment, NoMemory};
 use wm_core::Setup;
@@ -25,18 +26,26 @@ pub enum Which {
     Second,
 }
 
-/// An open floor, the pass of a session, and two monitors.
+/// An open floor, the pass of a session, and two monitors with their passes.
 pub struct Site {
     floor: TestFloor,
     zero: TestPass,
+    one: TestPass,
+    two: TestPass,
     first: Watch,
     second: Watch,
-    ghost own: { IsPassOf floor zero },
-    ghost own_first: { IsPassOf floor first.pass },
-    ghost own_second: { IsPassOf floor second.pass },
-    ghost number: { zero.number ≡ 0 },
-    ghost made: { zero.made ≡ 2 },
-    ghost joined: { zero.joined ≡ [] },
+}
+
+impl Model for Site {
+    ghost use Rattle.std.specs.Prelude.{◌≡◌, ⊤, []};
+    ghost use Rattle.wm_floor.specs.Floor.{IsPassOf};
+    ghost use Rattle.wm_shared_monitor.specs.Scene.{OwesSeen};
+
+    ghost Value = { ⊤ };
+
+    ghost view = { λ _. tt };
+
+    ghost invariant = { λ s. IsPassOf s.floor s.zero × (IsPassOf s.floor s.one × (IsPassOf s.floor s.two × (OwesSeen s.one.seen s.first.monitor × (OwesSeen s.two.seen s.second.monitor × ((s.zero.number ≡ 0) × ((s.zero.made ≡ 2) × (s.zero.joined ≡ []))))))) };
 }
 
 fn opened(alloc: Global, keeper: MemKeeper) -> Result<(TestFloor, TestPass)>
@@ -71,8 +80,10 @@ impl Site {
         Ok(Site {
             floor,
             zero,
-            first: Watch::new(alloc, one),
-            second: Watch::new(alloc, two),
+            one,
+            two,
+            first: Watch::new(alloc),
+            second: Watch::new(alloc),
         })
     }
 
@@ -81,11 +92,15 @@ impl Site {
         let Site {
             floor,
             mut zero,
+            one,
+            two,
             first,
             second,
         } = self;
-        floor.join(&mut zero, first.into_pass());
-        floor.join(&mut zero, second.into_pass());
+        drop(first);
+        drop(second);
+        floor.join(&mut zero, one);
+        floor.join(&mut zero, two);
         let closed = floor.close(zero);
         let Ok(closed) = closed else { unreachable!() };
         drop(closed);
@@ -127,8 +142,8 @@ impl Site {
         now: Moment,
     ) -> Result<Turned, MonitorFault> {
         match which {
-            Which::First => self.first.turn(rt, alloc, &self.floor, now),
-            Which::Second => self.second.turn(rt, alloc, &self.floor, now),
+            Which::First => self.first.turn(rt, alloc, &self.floor, &mut self.one, now),
+            Which::Second => self.second.turn(rt, alloc, &self.floor, &mut self.two, now),
         }
     }
 
@@ -141,8 +156,8 @@ impl Site {
         now: Moment,
     ) -> Result<Turned, MonitorFault> {
         match which {
-            Which::First => self.first.wait(rt, alloc, &self.floor, now),
-            Which::Second => self.second.wait(rt, alloc, &self.floor, now),
+            Which::First => self.first.wait(rt, alloc, &self.floor, &mut self.one, now),
+            Which::Second => self.second.wait(rt, alloc, &self.floor, &mut self.two, now),
         }
     }
 

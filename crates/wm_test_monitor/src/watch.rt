@@ -1,6 +1,7 @@
-// A monitor with its pass and its spawner.
-ghost use Rattle.std.specs.Prelude.{◌≡◌};
-ghost use Rattle.wm_floor.specs.Floor.{IsPassOf, IsSame};
+// A monitor and its spawner.
+ghost use Rattle.std.specs.Prelude.{◌≡◌, List};
+ghost use Rattle.wm_law.specs.declared.call.Entry.{Entry};
+ghost use Rattle.wm_floor.specs.Floor.{IsPassOf};
 ghost use Rattle.wm_shared_monitor.specs.Scene.{OwesSeen};
 
 use std::alloc::Global;
@@ -21,22 +22,20 @@ pub type TestPass = FloorPass<MemKeeper>;
 /// No child ends by itself within so many looks, where a case says nothing else.
 const LAG: u32 = 1000;
 
-/// A monitor with its pass, and a spawner in memory.
+/// A monitor and its spawner in memory.
+#[derive(Drop)]
 pub struct Watch {
-    pub pass: TestPass,
-    monitor: SharedMonitor,
+    pub monitor: SharedMonitor,
     spawner: MemSpawner,
-    ghost owes: { OwesSeen pass.seen monitor },
 }
 
 impl Watch {
-    /// A monitor that keeps nothing, with this pass, and a spawner that doesn't fail.
-    pub fn new(alloc: Global, pass: TestPass) -> Watch
-        ensures { result.pass ≡ pass }
+    /// A monitor that keeps nothing, and a spawner that doesn't fail.
+    pub fn new(alloc: Global) -> Watch
+        ensures { (seen : List Entry) → OwesSeen seen result.monitor }
     {
         let (starts, kills, looks) = (Vec::new(alloc), Vec::new(alloc), Vec::new(alloc));
         Watch {
-            pass,
             monitor: SharedMonitor::new(),
             spawner: MemSpawner::new(alloc, LAG, starts, kills, looks),
         }
@@ -44,7 +43,7 @@ impl Watch {
 
     /// Takes another spawner.
     pub fn take(&mut self, spawner: MemSpawner)
-        ensures { self.new.pass ≡ self.old.pass }
+        ensures { self.new.monitor ≡ self.old.monitor }
     {
         drop(mem::replace(&mut self.spawner, spawner));
     }
@@ -55,20 +54,17 @@ impl Watch {
         rt: &R,
         alloc: Global,
         floor: &TestFloor,
+        pass: &mut TestPass,
         now: Moment,
     ) -> Result<Turned, MonitorFault>
-        requires own { IsPassOf floor.now self.old.pass }
-        ensures own { IsPassOf floor.now self.new.pass }
+        requires own { IsPassOf floor.now pass.old }
+        requires owes { OwesSeen pass.old.seen self.old.monitor }
+        ensures own { IsPassOf floor.now pass.new }
+        ensures owes { OwesSeen pass.new.seen self.new.monitor }
     {
         let mut clock = MemClock::new(now, 0);
-        self.monitor.turn(
-            rt,
-            alloc,
-            floor,
-            &mut self.pass,
-            &mut self.spawner,
-            &mut clock,
-        )
+        self.monitor
+            .turn(rt, alloc, floor, pass, &mut self.spawner, &mut clock)
     }
 
     /// A wait at this moment, until there is a report.
@@ -77,38 +73,20 @@ impl Watch {
         rt: &R,
         alloc: Global,
         floor: &TestFloor,
+        pass: &mut TestPass,
         now: Moment,
     ) -> Result<Turned, MonitorFault>
-        requires own { IsPassOf floor.now self.old.pass }
-        ensures own { IsPassOf floor.now self.new.pass }
+        requires own { IsPassOf floor.now pass.old }
+        requires owes { OwesSeen pass.old.seen self.old.monitor }
+        ensures own { IsPassOf floor.now pass.new }
+        ensures owes { OwesSeen pass.new.seen self.new.monitor }
     {
         let mut clock = MemClock::new(now, 0);
-        self.monitor.wait(
-            rt,
-            alloc,
-            floor,
-            &mut self.pass,
-            &mut self.spawner,
-            &mut clock,
-            None,
-        )
+        self.monitor.wait(rt, alloc, floor, pass, &mut self.spawner, &mut clock, None)
     }
 
     /// What its spawner was asked.
     pub fn asked(&self) -> &[Asked] {
         self.spawner.asked()
-    }
-
-    /// Its pass, which is left.
-    pub fn into_pass(self) -> TestPass
-        ensures { result ≡ self.pass }
-    {
-        let Watch {
-            pass,
-            monitor: _,
-            spawner,
-        } = self;
-        drop(spawner);
-        pass
     }
 }

@@ -1,4 +1,3 @@
-use Rattle.std.proofs.Common.{◌≡◌}
 use Rattle.wm_shared_monitor.proofs.Calls.{IsAsked, IsToldAs, call_cause, call_err, call_ok, call_part}
 use Rattle.wm_shared_monitor.proofs.calling.enter.Goals as goal
 

@@ -1,12 +1,8 @@
 use Rattle.std.proofs.Common.{List, ap, subst, sym, ◌∙◌, arith}
 use Rattle.wm_law.specs.declared.call.Entry.{Entry}
-use Rattle.wm_journal.specs.History.{reached}
-use Rattle.wm_floor.specs.Ledger.{behind}
 use Rattle.wm_monitor.specs.Lists.{since}
 use Rattle.wm_shared_monitor.specs.Made.{AreAt}
 use Rattle.wm_shared_monitor.proofs.Advances.{Advances-looked, Advances-then}
-use Rattle.wm_shared_monitor.proofs.Causes.{IsCaused-since}
-use Rattle.wm_shared_monitor.proofs.Idles.{is_due}
 use Rattle.wm_shared_monitor.proofs.Parts.{count_then, made_at, made_none, made_one, none_at, ticked_part}
 use Rattle.wm_shared_monitor.proofs.Passes.{GoesOn-looked}
 use Rattle.wm_shared_monitor.proofs.Turns.{later_none, later_some, not_due_now, not_yet}

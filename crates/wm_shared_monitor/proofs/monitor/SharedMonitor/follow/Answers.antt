@@ -5,7 +5,6 @@ use Rattle.wm_law.specs.History.{order_in}
 use Rattle.wm_shared_monitor.specs.Advance.{Advances}
 use Rattle.wm_shared_monitor.specs.Scene.{scene, spawner_seen}
 use Rattle.wm_shared_monitor.proofs.Advances.{Advances-none, Advances-still, Advances-then}
-use Rattle.wm_shared_monitor.proofs.Causes.{IsCaused-since}
 use Rattle.wm_shared_monitor.proofs.Parts.{kept_reported, kill_done, kill_kept, killed_asked, killed_reported}
 use Rattle.wm_shared_monitor.proofs.monitor.SharedMonitor.follow.Goals as goal
 

@@ -2,8 +2,8 @@ use Rattle.std.proofs.Common.{arith}
 use Rattle.std.proofs.lemmas.Result.{err_from_is_err_and}
 use Rattle.wm_shared_monitor.specs.Scene.{order_owed, spawner_seen}
 use Rattle.wm_shared_monitor.proofs.Causes.{caused}
-use Rattle.wm_shared_monitor.proofs.Loops.{HandLoop-more, HandLoop-none, hands_end, hands_end_count, hands_end_sent, hands_part, hands_quiet}
-use Rattle.wm_shared_monitor.proofs.Passes.{GoesOn-looked, seen_none}
+use Rattle.wm_shared_monitor.proofs.Loops.{HandLoop-more, HandLoop-none, hands_end, hands_part}
+use Rattle.wm_shared_monitor.proofs.Passes.{GoesOn-looked}
 use Rattle.wm_shared_monitor.proofs.monitor.SharedMonitor.hands.Goals as goal
 
 pub hands-init : goal.hands-init
@@ -58,16 +58,9 @@ returns-in_err-sent-clause-part g c =
 
 pub returns-in_err-sent-clause-cause : goal.returns-in_err-sent-clause-cause
 returns-in_err-sent-clause-cause g c =
-    let s = g.P.Spawner in
-    let see = spawner_seen s.asked s.told s.misses s.faults in
     let f = c.args.floor.now in
-    let p = c.args.pass.now in
-    let m = c.args.self.now in
-    let v = see c.args.spawner.now in
     let i = c.hands.invariant in
     let q = c.hands.pass in
-    let k = c.hands.self in
-    let x = see c.hands.spawner in
     let r = c.pending-waiting.new.pass in
     let e = c.pending-waiting.ensures in
     let goes = GoesOn-looked f q r i.part.pass.own e.own e.same e.looked in

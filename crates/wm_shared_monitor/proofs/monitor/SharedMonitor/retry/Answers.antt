@@ -1,7 +1,5 @@
-use Rattle.std.proofs.Common.{sym, refl}
 use Rattle.wm_base.specs.declared.job.Asked.TheVariants.{Kill}
 use Rattle.wm_shared_monitor.specs.Scene.{spawner_seen}
-use Rattle.wm_shared_monitor.proofs.Advances.{HasAsked-none, HasReported-none}
 use Rattle.wm_shared_monitor.proofs.Parts.{again_asked, kill_done, kill_kept, killed_reported}
 use Rattle.wm_shared_monitor.proofs.monitor.SharedMonitor.retry.Goals as goal
 

@@ -13,16 +13,9 @@ use Rattle.wm_shared_monitor.proofs.monitor.SharedMonitor.turn.Goals as goal
 
 pub returns-in_err-settled-clause-part : goal.returns-in_err-settled-clause-part
 returns-in_err-settled-clause-part g c =
-    let s = g.P.Spawner in
-    let see = spawner_seen s.asked s.told s.misses s.faults in
     let f = c.args.floor.now in
     let p = c.args.pass.now in
-    let m = c.args.self.now in
-    let v = see c.args.spawner.now in
-    let owes = order_owed p.seen m in
     let q = c.settle.new.pass in
-    let m1 = c.settle.new.self in
-    let v1 = see c.settle.new.spawner in
     Advances-most f 0 2 256 259 p q _ _ c.settle.ensures.part (omega arith) (omega arith)
 
 pub returns-in_err-ticked-clause-part : goal.returns-in_err-ticked-clause-part
@@ -134,11 +127,7 @@ returns-clause-sent g c =
     let m2 = c.hands.new.self in
     let v2 = see c.hands.new.spawner in
     let handed = Advances-then f 0 3 256 0 p r u (scene m owes v) (scene m1 [] v1) (scene m2 (order_owed u.seen m2) v2) ticked c.hands.ensures.part in
-    let done = owes_nothing f 256 3 p u m m2 owes v v2 c.in_ok-handed.ensures.clear.no_order handed in
     let t = c.looks.new.pass in
-    let m3 = c.looks.new.self in
-    let v3 = see c.looks.new.spawner in
-    let whole = Advances-then f 256 3 0 256 p u t (scene m owes v) (scene m2 [] v2) (scene m3 [] v3) done c.looks.ensures.part in
     let a = settled.pass in
     let b = (c.tick.ensures.part (scene m1 [] v1)).pass in
     let first = count_then f p q r _ _ a b c.in_ok-settled.ensures.sent c.in_ok-ticked.ensures.sent in
@@ -164,11 +153,7 @@ returns-clause-waited g c =
     let m2 = c.hands.new.self in
     let v2 = see c.hands.new.spawner in
     let handed = Advances-then f 0 3 256 0 p r u (scene m owes v) (scene m1 [] v1) (scene m2 (order_owed u.seen m2) v2) ticked c.hands.ensures.part in
-    let done = owes_nothing f 256 3 p u m m2 owes v v2 c.in_ok-handed.ensures.clear.no_order handed in
     let t = c.looks.new.pass in
-    let m3 = c.looks.new.self in
-    let v3 = see c.looks.new.spawner in
-    let whole = Advances-then f 256 3 0 256 p u t (scene m owes v) (scene m2 [] v2) (scene m3 [] v3) done c.looks.ensures.part in
     let o = c.in_ok-handed.handed in
     let waits = c.in_ok-handed.ensures.pending ∙ ap (pending (reached (behind f.opening u.seen))) ticked.pass.same.number in
     waited_before f p u t o.at o.pending handed.pass c.looks.ensures.part.pass c.looks.ensures.part.within.hands_most c.in_ok-handed.ensures.at waits
@@ -189,14 +174,7 @@ returns-clause-handed g c =
     let r = c.tick.new.pass in
     let ticked = Advances-then f 0 2 0 1 p q r (scene m owes v) (scene m1 [] v1) (scene m1 [] v1) settled (c.tick.ensures.part (scene m1 [] v1)) in
     let u = c.hands.new.pass in
-    let m2 = c.hands.new.self in
-    let v2 = see c.hands.new.spawner in
-    let handed = Advances-then f 0 3 256 0 p r u (scene m owes v) (scene m1 [] v1) (scene m2 (order_owed u.seen m2) v2) ticked c.hands.ensures.part in
-    let done = owes_nothing f 256 3 p u m m2 owes v v2 c.in_ok-handed.ensures.clear.no_order handed in
     let t = c.looks.new.pass in
-    let m3 = c.looks.new.self in
-    let v3 = see c.looks.new.spawner in
-    let whole = Advances-then f 256 3 0 256 p u t (scene m owes v) (scene m2 [] v2) (scene m3 [] v3) done c.looks.ensures.part in
     handed_all f p r u t _ ticked.pass c.hands.ensures.part.pass c.looks.ensures.part.pass ticked.within.hands_most c.looks.ensures.part.within.hands_most c.in_ok-handed.ensures.all
 
 pub returns-clause-again : goal.returns-clause-again
@@ -204,25 +182,18 @@ returns-clause-again g c =
     let s = g.P.Spawner in
     let see = spawner_seen s.asked s.told s.misses s.faults in
     let f = c.args.floor.now in
-    let p = c.args.pass.now in
     let m = c.args.self.now in
     let v = see c.args.spawner.now in
-    let owes = order_owed p.seen m in
     let q = c.settle.new.pass in
     let m1 = c.settle.new.self in
     let v1 = see c.settle.new.spawner in
-    let settled = owes_nothing f 0 2 p q m m1 owes v v1 c.in_ok-settled.ensures.clear.no_order c.settle.ensures.part in
     let r = c.tick.new.pass in
-    let ticked = Advances-then f 0 2 0 1 p q r (scene m owes v) (scene m1 [] v1) (scene m1 [] v1) settled (c.tick.ensures.part (scene m1 [] v1)) in
     let u = c.hands.new.pass in
     let m2 = c.hands.new.self in
     let v2 = see c.hands.new.spawner in
-    let handed = Advances-then f 0 3 256 0 p r u (scene m owes v) (scene m1 [] v1) (scene m2 (order_owed u.seen m2) v2) ticked c.hands.ensures.part in
-    let done = owes_nothing f 256 3 p u m m2 owes v v2 c.in_ok-handed.ensures.clear.no_order handed in
     let t = c.looks.new.pass in
     let m3 = c.looks.new.self in
     let v3 = see c.looks.new.spawner in
-    let whole = Advances-then f 256 3 0 256 p u t (scene m owes v) (scene m2 [] v2) (scene m3 [] v3) done c.looks.ensures.part in
     let hands = owes_nothing f 256 0 r u m1 m2 [] v1 v2 c.in_ok-handed.ensures.clear.no_order c.hands.ensures.part in
     let early = Advances-then f 0 1 256 0 q r u (scene m1 [] v1) (scene m1 [] v1) (scene m2 [] v2) (c.tick.ensures.part (scene m1 [] v1)) hands in
     let rest = Advances-then f 256 1 0 256 q u t (scene m1 [] v1) (scene m2 [] v2) (scene m3 [] v3) early c.looks.ensures.part in
@@ -242,16 +213,8 @@ returns-clause-idle g c made no_kill no_order =
     let v1 = see c.settle.new.spawner in
     let settled = owes_nothing f 0 2 p q m m1 owes v v1 c.in_ok-settled.ensures.clear.no_order c.settle.ensures.part in
     let r = c.tick.new.pass in
-    let ticked = Advances-then f 0 2 0 1 p q r (scene m owes v) (scene m1 [] v1) (scene m1 [] v1) settled (c.tick.ensures.part (scene m1 [] v1)) in
     let u = c.hands.new.pass in
-    let m2 = c.hands.new.self in
-    let v2 = see c.hands.new.spawner in
-    let handed = Advances-then f 0 3 256 0 p r u (scene m owes v) (scene m1 [] v1) (scene m2 (order_owed u.seen m2) v2) ticked c.hands.ensures.part in
-    let done = owes_nothing f 256 3 p u m m2 owes v v2 c.in_ok-handed.ensures.clear.no_order handed in
     let t = c.looks.new.pass in
-    let m3 = c.looks.new.self in
-    let v3 = see c.looks.new.spawner in
-    let whole = Advances-then f 256 3 0 256 p u t (scene m owes v) (scene m2 [] v2) (scene m3 [] v3) done c.looks.ensures.part in
     let k = g.C.Clock in
     let w0 = c.in_ok-settled.ensures.sent in
     let w1 = c.in_ok-ticked.ensures.sent in
@@ -262,16 +225,6 @@ returns-clause-idle g c made no_kill no_order =
 
 pub returns-in_err-settled-clause-cause : goal.returns-in_err-settled-clause-cause
 returns-in_err-settled-clause-cause g c =
-    let s = g.P.Spawner in
-    let see = spawner_seen s.asked s.told s.misses s.faults in
-    let f = c.args.floor.now in
-    let p = c.args.pass.now in
-    let m = c.args.self.now in
-    let v = see c.args.spawner.now in
-    let owes = order_owed p.seen m in
-    let q = c.settle.new.pass in
-    let m1 = c.settle.new.self in
-    let v1 = see c.settle.new.spawner in
     let e = err_from_is_err_and c.from_residual.result c.from_residual.ensures.1 in
     caused c.from_residual.result _ e.0 _ _ _ _ _ _ _ e.1 e.2 c.in_err-settled.ensures.cause (omega arith) (omega arith)
 
@@ -279,13 +232,6 @@ pub returns-in_err-ticked-clause-cause : goal.returns-in_err-ticked-clause-cause
 returns-in_err-ticked-clause-cause g c =
     let s = g.P.Spawner in
     let see = spawner_seen s.asked s.told s.misses s.faults in
-    let f = c.args.floor.now in
-    let p = c.args.pass.now in
-    let m = c.args.self.now in
-    let v = see c.args.spawner.now in
-    let owes = order_owed p.seen m in
-    let q = c.settle.new.pass in
-    let m1 = c.settle.new.self in
     let v1 = see c.settle.new.spawner in
     let e = err_from_is_err_and c.from_residual-in_err-ticked.result c.from_residual-in_err-ticked.ensures.1 in
     caused c.from_residual-in_err-ticked.result _ e.0 _ _ _ _ _ _ _ e.1 e.2 (c.in_err-ticked.ensures.cause v1.faults) c.settle.ensures.part.faults c.settle.ensures.part.pass.mark

@@ -29,7 +29,6 @@ pub returns-in_err-first-clause-owes : goal.returns-in_err-first-clause-owes
 returns-in_err-first-clause-owes g c =
     let s = g.P.Spawner in
     let see = spawner_seen s.asked s.told s.misses s.faults in
-    let f = c.args.floor.now in
     let p = c.args.pass.now in
     let m = c.args.self.now in
     let v = see c.args.spawner.now in
@@ -61,7 +60,6 @@ pub returns-in_err-report-clause-owes : goal.returns-in_err-report-clause-owes
 returns-in_err-report-clause-owes g c =
     let s = g.P.Spawner in
     let see = spawner_seen s.asked s.told s.misses s.faults in
-    let f = c.args.floor.now in
     let p = c.args.pass.now in
     let m = c.args.self.now in
     let v = see c.args.spawner.now in
@@ -186,11 +184,9 @@ returns-clause-report g c until =
     let k = record m1 { kept = c.in_ok-report.report } in
     let second = reported_part f q r m1 k n c.in_ok-report.report owes v x first.pass.own c.in_ok-first.ensures.kept refl refl e.asked e.told e.misses e.cause.later (c.send_kept-2.ensures.part owes x) in
     let whole = Advances-then f 0 1 0 1 p q r (scene m owes v) (scene m1 owes v) (scene n owes x) first second in
-    let same = c.send_kept-2.ensures.owed ∙ c.send_kept.ensures.owed in
     let t = c.pending-waiting.new.pass in
     let l = c.pending-waiting.ensures in
     let goes = GoesOn-looked f r t whole.pass.own l.own l.same l.looked in
-    let all = Advances-then f 0 2 0 0 p r t (scene m owes v) (scene n owes x) (scene n owes x) whole (Advances-looked f 0 0 r t (scene n owes x) goes l.looked.mine) in
     report_or_more f p q r t c.in_ok-report.report first.pass second.pass goes (λ none. c.wait.ensures.none (c.in_ok-report.was ∙ ap Ok none) until) c.in_ok-second.ensures.some
 
 pub returns-clause-sent : goal.returns-clause-sent
@@ -212,11 +208,9 @@ returns-clause-sent g c =
     let k = record m1 { kept = c.in_ok-report.report } in
     let second = reported_part f q r m1 k n c.in_ok-report.report owes v x first.pass.own c.in_ok-first.ensures.kept refl refl e.asked e.told e.misses e.cause.later (c.send_kept-2.ensures.part owes x) in
     let whole = Advances-then f 0 1 0 1 p q r (scene m owes v) (scene m1 owes v) (scene n owes x) first second in
-    let same = c.send_kept-2.ensures.owed ∙ c.send_kept.ensures.owed in
     let t = c.pending-waiting.new.pass in
     let l = c.pending-waiting.ensures in
     let goes = GoesOn-looked f r t whole.pass.own l.own l.same l.looked in
-    let all = Advances-then f 0 2 0 0 p r t (scene m owes v) (scene n owes x) (scene n owes x) whole (Advances-looked f 0 0 r t (scene n owes x) goes l.looked.mine) in
     let both = count_then f p q r _ _ first.pass second.pass c.in_ok-first.ensures.sent c.in_ok-second.ensures.sent in
     let last = count_then f p r t _ 0 whole.pass goes both (made_none f r t l.looked.mine) in
     let is = c.of.ensures.sent in
@@ -246,7 +240,6 @@ returns-clause-waited g c =
     let k = record m1 { kept = c.in_ok-report.report } in
     let second = reported_part f q r m1 k n c.in_ok-report.report owes v x first.pass.own c.in_ok-first.ensures.kept refl refl e.asked e.told e.misses e.cause.later (c.send_kept-2.ensures.part owes x) in
     let whole = Advances-then f 0 1 0 1 p q r (scene m owes v) (scene m1 owes v) (scene n owes x) first second in
-    let same = c.send_kept-2.ensures.owed ∙ c.send_kept.ensures.owed in
     let t = c.pending-waiting.new.pass in
     let l = c.pending-waiting.ensures in
     let goes = GoesOn-looked f r t whole.pass.own l.own l.same l.looked in
@@ -259,13 +252,10 @@ pub send_kept-requires-2 : goal.send_kept-requires-2
 send_kept-requires-2 g c =
     let s = g.P.Spawner in
     let see = spawner_seen s.asked s.told s.misses s.faults in
-    let f = c.args.floor.now in
     let p = c.args.pass.now in
     let m = c.args.self.now in
     let v = see c.args.spawner.now in
     let owes = order_owed p.seen m in
-    let q = c.send_kept.new.pass in
-    let m1 = c.send_kept.new.self in
     let first = c.send_kept.ensures.part owes v in
     record { own = first.pass.own }
 
@@ -287,8 +277,6 @@ pending-waiting-requires g c =
     let e = c.in_ok-report.ensures in
     let k = record m1 { kept = c.in_ok-report.report } in
     let second = reported_part f q r m1 k n c.in_ok-report.report owes v x first.pass.own c.in_ok-first.ensures.kept refl refl e.asked e.told e.misses e.cause.later (c.send_kept-2.ensures.part owes x) in
-    let whole = Advances-then f 0 1 0 1 p q r (scene m owes v) (scene m1 owes v) (scene n owes x) first second in
-    let same = c.send_kept-2.ensures.owed ∙ c.send_kept.ensures.owed in
     record { own = second.pass.own }
 
 pub overflow_add-first : goal.overflow_add-first
@@ -309,8 +297,6 @@ overflow_add-first g c =
     let e = c.in_ok-report.ensures in
     let k = record m1 { kept = c.in_ok-report.report } in
     let second = reported_part f q r m1 k n c.in_ok-report.report owes v x first.pass.own c.in_ok-first.ensures.kept refl refl e.asked e.told e.misses e.cause.later (c.send_kept-2.ensures.part owes x) in
-    let whole = Advances-then f 0 1 0 1 p q r (scene m owes v) (scene m1 owes v) (scene n owes x) first second in
-    let same = c.send_kept-2.ensures.owed ∙ c.send_kept.ensures.owed in
     let a = first.within in
     let a1 = a.hands_most in
     let a2 = a.others_most in
@@ -325,29 +311,12 @@ pub returns-in_err-first-clause-cause : goal.returns-in_err-first-clause-cause
 returns-in_err-first-clause-cause g c =
     let s = g.P.Spawner in
     let see = spawner_seen s.asked s.told s.misses s.faults in
-    let f = c.args.floor.now in
-    let p = c.args.pass.now in
-    let m = c.args.self.now in
     let v = see c.args.spawner.now in
-    let owes = order_owed p.seen m in
-    let q = c.send_kept.new.pass in
-    let m1 = c.send_kept.new.self in
-    let first = c.send_kept.ensures.part owes v in
     let e = err_from_is_err_and c.from_residual.result c.from_residual.ensures.1 in
     caused c.from_residual.result _ e.0 _ _ _ _ _ _ _ e.1 e.2 (c.in_err-first.ensures.cause v.faults) (omega arith) (omega arith)
 
 pub returns-in_err-report-clause-cause : goal.returns-in_err-report-clause-cause
 returns-in_err-report-clause-cause g c =
-    let s = g.P.Spawner in
-    let see = spawner_seen s.asked s.told s.misses s.faults in
-    let f = c.args.floor.now in
-    let p = c.args.pass.now in
-    let m = c.args.self.now in
-    let v = see c.args.spawner.now in
-    let owes = order_owed p.seen m in
-    let q = c.send_kept.new.pass in
-    let m1 = c.send_kept.new.self in
-    let first = c.send_kept.ensures.part owes v in
     let e = err_from_is_err_and c.from_residual-in_err-report.result c.from_residual-in_err-report.ensures.1 in
     caused_wait c.from_residual-in_err-report.result e.0 _ _ _ _ _ e.1 e.2 c.in_err-report.ensures.cause.failed
 
@@ -355,21 +324,12 @@ pub returns-in_err-second-clause-cause : goal.returns-in_err-second-clause-cause
 returns-in_err-second-clause-cause g c =
     let s = g.P.Spawner in
     let see = spawner_seen s.asked s.told s.misses s.faults in
-    let f = c.args.floor.now in
     let p = c.args.pass.now in
     let m = c.args.self.now in
     let v = see c.args.spawner.now in
     let owes = order_owed p.seen m in
-    let q = c.send_kept.new.pass in
-    let m1 = c.send_kept.new.self in
     let first = c.send_kept.ensures.part owes v in
     let x = see c.wait.new.spawner in
-    let r = c.send_kept-2.new.pass in
-    let n = c.send_kept-2.new.self in
     let e = c.in_ok-report.ensures in
-    let k = record m1 { kept = c.in_ok-report.report } in
-    let second = reported_part f q r m1 k n c.in_ok-report.report owes v x first.pass.own c.in_ok-first.ensures.kept refl refl e.asked e.told e.misses e.cause.later (c.send_kept-2.ensures.part owes x) in
-    let whole = Advances-then f 0 1 0 1 p q r (scene m owes v) (scene m1 owes v) (scene n owes x) first second in
-    let same = c.send_kept-2.ensures.owed ∙ c.send_kept.ensures.owed in
     let b = err_from_is_err_and c.from_residual-in_err-second.result c.from_residual-in_err-second.ensures.1 in
     caused c.from_residual-in_err-second.result _ b.0 _ _ _ _ _ _ _ b.1 b.2 (c.in_err-second.ensures.cause x.faults) e.cause.later first.pass.mark
