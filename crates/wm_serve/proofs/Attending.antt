@@ -1,0 +1,17 @@
+-- What a monitor does: nothing, and one thing after another.
+use Rattle.std.proofs.Common.{ℕ, ◌+◌}
+use Rattle.wm_floor.specs.Floor.{Floored, IsPassOf, Seen}
+use Rattle.wm_shared_monitor.specs.Advance.{Advances}
+use Rattle.wm_shared_monitor.specs.Scene.{Scene}
+use Rattle.wm_shared_monitor.proofs.Advances.{Advances-none, Advances-then}
+use Rattle.wm_serve.specs.Monitors.{Attends}
+
+module _ {K : Type 0} (f : Floored K) where
+  pub attends_none : (p : Seen K) (a : Scene) → IsPassOf f p → Attends f p p a a
+  attends_none p a own = record { hands = 0; others = 0; part = Advances-none f 0 0 p a own }
+
+  pub attends_by : (h o : ℕ) (p q : Seen K) (a b : Scene) → Advances f h o p q a b → Attends f p q a b
+  attends_by h o p q a b part = record { hands = h; others = o; part = part }
+
+  pub attends_then : (p q r : Seen K) (a b c : Scene) → Attends f p q a b → Attends f q r b c → Attends f p r a c
+  attends_then p q r a b c h k = record { hands = h.hands + k.hands; others = h.others + k.others; part = Advances-then f h.hands h.others k.hands k.others p q r a b c h.part k.part }

@@ -1,0 +1,4 @@
+pub mod Attending
+pub mod Looking
+pub mod Nexts
+pub mod Served
