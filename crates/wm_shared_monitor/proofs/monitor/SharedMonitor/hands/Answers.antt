@@ -2,8 +2,8 @@ use Rattle.std.proofs.Common.{arith}
 use Rattle.std.proofs.lemmas.Result.{err_from_is_err_and}
 use Rattle.wm_shared_monitor.specs.Scene.{order_owed, spawner_seen}
 use Rattle.wm_shared_monitor.proofs.Causes.{caused}
-use Rattle.wm_shared_monitor.proofs.Loops.{HandLoop-more, HandLoop-none, hands_end, hands_end_count, hands_end_sent, hands_part, hands_quiet}
-use Rattle.wm_shared_monitor.proofs.Passes.{GoesOn-looked, seen_none}
+use Rattle.wm_shared_monitor.proofs.Loops.{HandLoop-more, HandLoop-none, hands_end, hands_part}
+use Rattle.wm_shared_monitor.proofs.Passes.{GoesOn-looked}
 use Rattle.wm_shared_monitor.proofs.monitor.SharedMonitor.hands.Goals as goal
 
 pub hands-init : goal.hands-init

@@ -1,6 +1,6 @@
 use Rattle.std.proofs.Common.{Ok, ap, ◌∙◌, arith}
 use Rattle.wm_shared_monitor.specs.Scene.{spawner_seen}
-use Rattle.wm_shared_monitor.proofs.Loops.{LookLoop-more, LookLoop-none, looks_end_sent, looks_part}
+use Rattle.wm_shared_monitor.proofs.Loops.{LookLoop-more, LookLoop-none, looks_part}
 use Rattle.wm_shared_monitor.proofs.monitor.SharedMonitor.looks.Goals as goal
 
 pub looks-init : goal.looks-init
