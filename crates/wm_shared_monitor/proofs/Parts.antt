@@ -1,5 +1,5 @@
 -- Laws of the parts of a monitor's call, as the code has them.
-use Rattle.std.proofs.Common.{◌≡◌, ℕ, ◌+◌, ◌≤◌, ◌==◌, true, false, take, eq-eqb, List, [], ◌∷◌, ◌++◌, length, map, Option, Some, None, IfSome, option_to_list, sym, ap, subst, ◌∙◌, refl, append-nil, arith}
+use Rattle.std.proofs.Common.{◌≡◌, ℕ, ◌+◌, ◌≤◌, ◌==◌, true, false, take, eq-eqb, List, [], ◌∷◌, ◌++◌, length, map, Option, Some, None, IfSome, option_to_list, sym, ap, subst, ◌∙◌, refl, append-nil, arith, inl, inr}
 use Rattle.std.specs.List.{count_by, list_all}
 use Rattle.std.proofs.Math.Seq.{take-append_seam}
 use Rattle.std.proofs.lemmas.List.{length-append}
@@ -24,7 +24,7 @@ use Rattle.wm_floor.specs.Floor.{Floored, IsPassOf, Seen}
 use Rattle.wm_shared_monitor.specs.declared.monitor.SharedMonitor.{SharedMonitor}
 use Rattle.wm_shared_monitor.specs.Advance.{Advances, GoesOn, HasAsked, HasReported, IsWithin, added}
 use Rattle.wm_shared_monitor.specs.Made.{AreAt, IsMade}
-use Rattle.wm_shared_monitor.specs.Scene.{IsClear, OwesSeen, Scene, Spawning, order_owed, scene}
+use Rattle.wm_shared_monitor.specs.Scene.{IsAskedOrKept, IsClear, OwesSeen, Scene, Spawning, order_owed, scene}
 use Rattle.wm_shared_monitor.proofs.Advances.{Advances-by, Advances-looked, Advances-still, Advances-then, HasAsked-again, HasAsked-none, HasAsked-nothing, HasAsked-order, HasAsked-owed, HasReported-none, HasReported-nothing, HasReported-sent, HasReported-told, orders_none, orders_one, reports_none, reports_one}
 use Rattle.wm_shared_monitor.proofs.Passes.{owed_later, owed_none, since-by}
 
@@ -242,3 +242,12 @@ AsksFirst-more x mid a b c orders h k = (h.0 ++ k.asks, Grows-then a b c (x ∷ 
 pub AsksFirst-since : (failed : Option ℕ) (mid : List Asked) (a b c : Option (List Asked)) (orders : List Asked) → IfSome failed (λ serial. AsksFirst (Kill serial) a b) → AsksFor mid b c orders → IfSome failed (λ serial. AsksFirst (Kill serial) a c)
 AsksFirst-since None mid a b c orders h k = tt
 AsksFirst-since (Some serial) mid a b c orders h k = AsksFirst-more (Kill serial) mid a b c orders h k
+
+-- a kill that failed is kept, or was asked
+pub kill_is_kept : (failed kept : Option ℕ) (a b : Option (List Asked)) → kept ≡ failed → IsAskedOrKept failed a b kept
+kill_is_kept None kept a b same = tt
+kill_is_kept (Some serial) kept a b same = inr same
+
+pub kill_is_asked : (failed kept : Option ℕ) (a b : Option (List Asked)) → IfSome failed (λ serial. AsksFirst (Kill serial) a b) → IsAskedOrKept failed a b kept
+kill_is_asked None kept a b asked = tt
+kill_is_asked (Some serial) kept a b asked = inl asked

@@ -1,11 +1,13 @@
 -- What stands around a monitor at a moment.
-use Rattle.std.specs.Prelude.{◌≡◌, ℕ, ◌-◌, ◌≤◌, List, length, Option, None, IfSome, option_and_then, option_to_list, slice_get}
+use Rattle.std.specs.Prelude.{◌≡◌, ◌⊎◌, ℕ, ◌-◌, ◌≤◌, List, length, Option, None, Some, IfSome, option_and_then, option_to_list, slice_get}
 use Rattle.wm_base.specs.declared.job.Asked.{Asked}
+use Rattle.wm_base.specs.declared.job.Asked.TheVariants.{Kill}
 use Rattle.wm_traits.specs.declared.spawner.Told.{Told}
 use Rattle.wm_law.specs.declared.call.Call.{Call}
 use Rattle.wm_law.specs.declared.call.Entry.{Entry}
 use Rattle.wm_law.specs.History.{order_in}
 use Rattle.wm_monitor.specs.declared.report.Report.{Report}
+use Rattle.wm_monitor.specs.Asking.{AsksFirst}
 use Rattle.wm_monitor.specs.Monitor.{as_reports}
 use Rattle.wm_monitor.specs.View.{kill_left}
 use Rattle.wm_shared_monitor.specs.declared.monitor.SharedMonitor.{SharedMonitor}
@@ -55,3 +57,7 @@ pub record IsClear (monitor : SharedMonitor) : Type 0 where
   pub no_report : monitor.kept ≡ None
   pub no_kill : monitor.failed_kill ≡ None
   pub no_order : monitor.owed ≡ None
+
+-- a kill that failed before is the first ask that is new, or it is kept
+abbrev pub IsAskedOrKept : Option ℕ → Option (List Asked) → Option (List Asked) → Option ℕ → Type 0
+IsAskedOrKept failed asked_before asked_now kept = IfSome failed (λ serial. AsksFirst (Kill serial) asked_before asked_now ⊎ (kept ≡ Some serial))

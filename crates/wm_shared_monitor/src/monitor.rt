@@ -65,7 +65,7 @@ impl SharedMonitor {
     ghost use Rattle.wm_shared_monitor.specs.Advance.{added, Advances, HasAsked, HasReported, MonitorAdvances};
     ghost use Rattle.wm_shared_monitor.specs.Causes.{IsCaused};
     ghost use Rattle.wm_shared_monitor.specs.Made.{AreAt};
-    ghost use Rattle.wm_shared_monitor.specs.Scene.{order_owed, scene, spawner_seen, IsClear, OwesSeen, Scene, Spawning};
+    ghost use Rattle.wm_shared_monitor.specs.Scene.{order_owed, scene, spawner_seen, IsAskedOrKept, IsClear, OwesSeen, Scene, Spawning};
     ghost use Rattle.wm_shared_monitor.specs.Turned.{HadNothing, WaitedAt};
 
     /// A monitor that keeps nothing.
@@ -231,6 +231,7 @@ impl SharedMonitor {
         ensures some { OnOk result (IfSome self.old.kept (λ _. 1 ≤ length (added pass.old pass.new))) }
         ensures quiet { self.old.failed_kill ≡ None → self.old.owed ≡ None → spawner.new ≡ spawner.old }
         ensures unread { self.old.kept ≡ None → self.old.owed ≡ None → clock.new ≡ clock.old }
+        ensures kill { IsAskedOrKept self.old.failed_kill (P.asked spawner.old) (P.asked spawner.new) self.new.failed_kill }
         ensures again { OnOk result (IfSome self.old.failed_kill (λ serial. AsksFirst (Kill serial) (P.asked spawner.old) (P.asked spawner.new))) }
         ensures cause { IfErr result (IsCaused (P.faults spawner.old) (P.faults spawner.new) pass.old.mark pass.new.mark pass.new.seen) }
     {
@@ -379,6 +380,7 @@ impl SharedMonitor {
         ensures part { MonitorAdvances P.asked P.told P.misses P.faults floor.now 256 259 pass.old self.old spawner.old pass.new self.new spawner.new }
         ensures clear { OnOk result (IsClear self.new) }
         ensures owes { OwesSeen pass.new.seen self.new }
+        ensures kill { IsAskedOrKept self.old.failed_kill (P.asked spawner.old) (P.asked spawner.new) self.new.failed_kill }
         ensures again { OnOk result (IfSome self.old.failed_kill (λ serial. AsksFirst (Kill serial) (P.asked spawner.old) (P.asked spawner.new))) }
         ensures sent { IfOk result (λ turned. turned.sent ≡ length (added pass.old pass.new)) }
         ensures waited { IfOk result (λ turned. WaitedAt floor.now pass.old pass.new turned.at turned.pending) }

@@ -15,6 +15,7 @@
 use crate::command::call_of;
 use crate::site::{Site, Which};
 use crate::told::{write_asked, write_called, write_log, write_turned};
+use crate::watch::LAG;
 use anyhow::{Context, Result, bail, ensure};
 use std::alloc::Global;
 use std::sync::Wait;
@@ -26,9 +27,6 @@ const NO_FLOOR: &str = "no open floor";
 
 /// The moment of the calls, where no other is set.
 const NOW: u64 = 1000;
-
-/// No child ends by itself within so many looks, where a case says nothing else.
-const LAG: u32 = 1000;
 
 /// The open floor of a case.
 pub struct Tested<'r, R> {

@@ -20,7 +20,7 @@ pub type TestFloor = Floor<MemKeeper>;
 pub type TestPass = FloorPass<MemKeeper>;
 
 /// No child ends by itself within so many looks, where a case says nothing else.
-const LAG: u32 = 1000;
+pub const LAG: u32 = 1000;
 
 /// A monitor and its spawner in memory.
 #[derive(Drop)]

@@ -1,10 +1,10 @@
-use Rattle.std.proofs.Common.{refl, sym, ◌∙◌, arith}
+use Rattle.std.proofs.Common.{[], refl, sym, ◌∙◌, arith}
 use Rattle.std.proofs.lemmas.Result.{err_from_is_err_and}
-use Rattle.wm_monitor.proofs.Askings.{AsksFirst-again}
+use Rattle.wm_monitor.proofs.Askings.{AsksFirst-again, AsksFor-none}
 use Rattle.wm_shared_monitor.specs.Scene.{order_owed, scene, spawner_seen}
 use Rattle.wm_shared_monitor.proofs.Advances.{Advances-most, Advances-then}
 use Rattle.wm_shared_monitor.proofs.Causes.{caused}
-use Rattle.wm_shared_monitor.proofs.Parts.{Advances-owing, count_then, owes_still, some_then, tried_part}
+use Rattle.wm_shared_monitor.proofs.Parts.{Advances-owing, count_then, kill_is_asked, kill_is_kept, owes_still, some_then, tried_part}
 use Rattle.wm_shared_monitor.proofs.Passes.{owed_later, seen_later}
 use Rattle.wm_shared_monitor.proofs.monitor.SharedMonitor.settle.Goals as goal
 
@@ -170,6 +170,55 @@ returns-clause-again g c =
     let same = c.retry.ensures.owed ∙ c.send_kept.ensures.owed in
     let paid = Advances-owing f 0 1 q c.pay.new.pass m2 c.pay.new.self (order_owed q.seen m2) owes _ _ w (see c.pay.new.spawner) (sym (owed_later p.seen q.seen m m2 sent.pass.seen c.requires.owes same)) refl c.pay.ensures.part in
     AsksFirst-again m.failed_kill m1.failed_kill _ v.asked w.asked (see c.pay.new.spawner).asked _ c.send_kept.ensures.kill c.retry.ensures.again paid.asked.asked
+
+pub returns-in_err-reported-clause-kill : goal.returns-in_err-reported-clause-kill
+returns-in_err-reported-clause-kill g c = kill_is_kept _ _ _ _ c.send_kept.ensures.kill
+
+pub returns-in_err-retry-clause-kill : goal.returns-in_err-retry-clause-kill
+returns-in_err-retry-clause-kill g c =
+    let s = g.P.Spawner in
+    let see = spawner_seen s.asked s.told s.misses s.faults in
+    let m = c.args.self.now in
+    let v = see c.args.spawner.now in
+    let m1 = c.send_kept.new.self in
+    let w = see c.retry.new.spawner in
+    kill_is_asked m.failed_kill _ v.asked w.asked (AsksFirst-again m.failed_kill m1.failed_kill [] v.asked w.asked w.asked [] c.send_kept.ensures.kill c.retry.ensures.again (AsksFor-none [] w.asked))
+
+pub returns-in_err-paid-clause-kill : goal.returns-in_err-paid-clause-kill
+returns-in_err-paid-clause-kill g c =
+    let s = g.P.Spawner in
+    let see = spawner_seen s.asked s.told s.misses s.faults in
+    let f = c.args.floor.now in
+    let p = c.args.pass.now in
+    let m = c.args.self.now in
+    let v = see c.args.spawner.now in
+    let q = c.send_kept.new.pass in
+    let m1 = c.send_kept.new.self in
+    let owes = order_owed p.seen m in
+    let sent = c.send_kept.ensures.part owes v in
+    let m2 = c.retry.new.self in
+    let w = see c.retry.new.spawner in
+    let same = c.retry.ensures.owed ∙ c.send_kept.ensures.owed in
+    let paid = Advances-owing f 0 1 q c.pay.new.pass m2 c.pay.new.self (order_owed q.seen m2) owes _ _ w (see c.pay.new.spawner) (sym (owed_later p.seen q.seen m m2 sent.pass.seen c.requires.owes same)) refl c.pay.ensures.part in
+    kill_is_asked m.failed_kill _ v.asked (see c.pay.new.spawner).asked (AsksFirst-again m.failed_kill m1.failed_kill _ v.asked w.asked (see c.pay.new.spawner).asked _ c.send_kept.ensures.kill c.retry.ensures.again paid.asked.asked)
+
+pub returns-clause-kill : goal.returns-clause-kill
+returns-clause-kill g c =
+    let s = g.P.Spawner in
+    let see = spawner_seen s.asked s.told s.misses s.faults in
+    let f = c.args.floor.now in
+    let p = c.args.pass.now in
+    let m = c.args.self.now in
+    let v = see c.args.spawner.now in
+    let q = c.send_kept.new.pass in
+    let m1 = c.send_kept.new.self in
+    let owes = order_owed p.seen m in
+    let sent = c.send_kept.ensures.part owes v in
+    let m2 = c.retry.new.self in
+    let w = see c.retry.new.spawner in
+    let same = c.retry.ensures.owed ∙ c.send_kept.ensures.owed in
+    let paid = Advances-owing f 0 1 q c.pay.new.pass m2 c.pay.new.self (order_owed q.seen m2) owes _ _ w (see c.pay.new.spawner) (sym (owed_later p.seen q.seen m m2 sent.pass.seen c.requires.owes same)) refl c.pay.ensures.part in
+    kill_is_asked m.failed_kill _ v.asked (see c.pay.new.spawner).asked (AsksFirst-again m.failed_kill m1.failed_kill _ v.asked w.asked (see c.pay.new.spawner).asked _ c.send_kept.ensures.kill c.retry.ensures.again paid.asked.asked)
 
 pub returns-clause-sent : goal.returns-clause-sent
 returns-clause-sent g c =

@@ -6,7 +6,7 @@ use Rattle.wm_floor.specs.Ledger.{behind}
 use Rattle.wm_shared_monitor.specs.Scene.{order_owed, scene, spawner_seen}
 use Rattle.wm_shared_monitor.proofs.Advances.{Advances-most, Advances-then}
 use Rattle.wm_shared_monitor.proofs.Causes.{caused}
-use Rattle.wm_shared_monitor.proofs.Parts.{AsksFirst-since, count_then, owes_none, owes_nothing}
+use Rattle.wm_shared_monitor.proofs.Parts.{AsksFirst-since, count_then, kill_is_asked, owes_none, owes_nothing}
 use Rattle.wm_shared_monitor.proofs.Passes.{GoesOn-then}
 use Rattle.wm_shared_monitor.proofs.Turns.{had_nothing, handed_all, waited_before}
 use Rattle.wm_shared_monitor.proofs.monitor.SharedMonitor.turn.Goals as goal
@@ -198,6 +198,63 @@ returns-clause-again g c =
     let early = Advances-then f 0 1 256 0 q r u (scene m1 [] v1) (scene m1 [] v1) (scene m2 [] v2) (c.tick.ensures.part (scene m1 [] v1)) hands in
     let rest = Advances-then f 256 1 0 256 q u t (scene m1 [] v1) (scene m2 [] v2) (scene m3 [] v3) early c.looks.ensures.part in
     AsksFirst-since m.failed_kill _ v.asked v1.asked v3.asked _ c.in_ok-settled.ensures.again rest.asked.asked
+
+pub returns-in_err-ticked-clause-kill : goal.returns-in_err-ticked-clause-kill
+returns-in_err-ticked-clause-kill g c = kill_is_asked _ _ _ _ c.in_ok-settled.ensures.again
+
+pub returns-in_err-handed-clause-kill : goal.returns-in_err-handed-clause-kill
+returns-in_err-handed-clause-kill g c =
+    let s = g.P.Spawner in
+    let see = spawner_seen s.asked s.told s.misses s.faults in
+    let m = c.args.self.now in
+    let v = see c.args.spawner.now in
+    let v1 = see c.settle.new.spawner in
+    let v2 = see c.hands.new.spawner in
+    kill_is_asked m.failed_kill _ v.asked v2.asked (AsksFirst-since m.failed_kill _ v.asked v1.asked v2.asked _ c.in_ok-settled.ensures.again c.hands.ensures.part.asked.asked)
+
+pub returns-in_err-looked-clause-kill : goal.returns-in_err-looked-clause-kill
+returns-in_err-looked-clause-kill g c =
+    let s = g.P.Spawner in
+    let see = spawner_seen s.asked s.told s.misses s.faults in
+    let f = c.args.floor.now in
+    let m = c.args.self.now in
+    let v = see c.args.spawner.now in
+    let q = c.settle.new.pass in
+    let m1 = c.settle.new.self in
+    let v1 = see c.settle.new.spawner in
+    let r = c.tick.new.pass in
+    let u = c.hands.new.pass in
+    let m2 = c.hands.new.self in
+    let v2 = see c.hands.new.spawner in
+    let t = c.looks.new.pass in
+    let m3 = c.looks.new.self in
+    let v3 = see c.looks.new.spawner in
+    let hands = owes_nothing f 256 0 r u m1 m2 [] v1 v2 c.in_ok-handed.ensures.clear.no_order c.hands.ensures.part in
+    let early = Advances-then f 0 1 256 0 q r u (scene m1 [] v1) (scene m1 [] v1) (scene m2 [] v2) (c.tick.ensures.part (scene m1 [] v1)) hands in
+    let rest = Advances-then f 256 1 0 256 q u t (scene m1 [] v1) (scene m2 [] v2) (scene m3 [] v3) early c.looks.ensures.part in
+    kill_is_asked m.failed_kill _ v.asked v3.asked (AsksFirst-since m.failed_kill _ v.asked v1.asked v3.asked _ c.in_ok-settled.ensures.again rest.asked.asked)
+
+pub returns-clause-kill : goal.returns-clause-kill
+returns-clause-kill g c =
+    let s = g.P.Spawner in
+    let see = spawner_seen s.asked s.told s.misses s.faults in
+    let f = c.args.floor.now in
+    let m = c.args.self.now in
+    let v = see c.args.spawner.now in
+    let q = c.settle.new.pass in
+    let m1 = c.settle.new.self in
+    let v1 = see c.settle.new.spawner in
+    let r = c.tick.new.pass in
+    let u = c.hands.new.pass in
+    let m2 = c.hands.new.self in
+    let v2 = see c.hands.new.spawner in
+    let t = c.looks.new.pass in
+    let m3 = c.looks.new.self in
+    let v3 = see c.looks.new.spawner in
+    let hands = owes_nothing f 256 0 r u m1 m2 [] v1 v2 c.in_ok-handed.ensures.clear.no_order c.hands.ensures.part in
+    let early = Advances-then f 0 1 256 0 q r u (scene m1 [] v1) (scene m1 [] v1) (scene m2 [] v2) (c.tick.ensures.part (scene m1 [] v1)) hands in
+    let rest = Advances-then f 256 1 0 256 q u t (scene m1 [] v1) (scene m2 [] v2) (scene m3 [] v3) early c.looks.ensures.part in
+    kill_is_asked m.failed_kill _ v.asked v3.asked (AsksFirst-since m.failed_kill _ v.asked v1.asked v3.asked _ c.in_ok-settled.ensures.again rest.asked.asked)
 
 pub returns-clause-idle : goal.returns-clause-idle
 returns-clause-idle g c made no_kill no_order =
