@@ -6,6 +6,7 @@
 
 mod site;
 mod told;
+mod unused;
 
 use anyhow::Result;
 use site::play;

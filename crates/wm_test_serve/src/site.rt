@@ -1,9 +1,9 @@
 // A floor with the passes of a worker and of a monitor.
-ghost use Rattle.std.specs.Prelude.{◌≡◌, ◌≤◌, [], IfOk, None, All};
+ghost use Rattle.std.specs.Prelude.{◌≡◌, [], IfOk};
 ghost use Rattle.wm_floor.specs.Floor.{IsPassOf, IsSame};
-ghost use Rattle.wm_listener.specs.Memory.{desk_hand, IsUnused};
 
 use crate::told::{tell_log, tell_met, tell_stopped, tell_written};
+use crate::unused::Unused;
 use anyhow::{Result, bail};
 use std::alloc::Global;
 use std::sync::Wait;
@@ -13,7 +13,7 @@ use wm_desc::qbatch;
 use wm_floor::{Floor, FloorPass};
 use wm_http::Routes;
 use wm_listener::{MemDesk, MemListener};
-use wm_outside::{MemClock, MemKeeper, MemSink, MemSource, MemSpawner};
+use wm_outside::{MemClock, MemKeeper, MemSpawner};
 use wm_run::start_call;
 use wm_serve::{Board, attend, work};
 use wm_shared_monitor::SharedMonitor;
@@ -66,16 +66,13 @@ fn begin<R: Wait>(rt: &R, alloc: Global, floor: &TestFloor, zero: &mut TestPass)
     }
 }
 
-// The connections, of which nothing was written.
-fn connections(alloc: Global) -> Result<Vec<(MemSource, MemSink)>>
-    ensures { IfOk result (λ made. All IsUnused made.items) }
-{
-    let mut made = Vec::new(alloc);
+// A listener with the connections.
+fn listener(alloc: Global) -> Result<MemListener> {
+    let mut unused = Unused::new(alloc);
     for bytes in &REQUESTS {
-        let source = MemSource::new(Vec::from_slice(alloc, bytes)?, Vec::new(alloc));
-        made.push((source, MemSink::new(alloc, Vec::new(alloc))))?;
+        unused.add(alloc, bytes)?;
     }
-    Ok(made)
+    Ok(unused.listener(alloc))
 }
 
 // A worker's thread.
@@ -91,7 +88,7 @@ fn play_worker<R: Wait>(
     ensures same { IsSame pass.old pass.new }
 {
     let routes = Routes::new(alloc)?;
-    let listener = MemListener::new(connections(alloc)?, Vec::new(alloc));
+    let listener = listener(alloc)?;
     let mut desk = MemDesk::new(alloc);
     let mut clock = MemClock::new(Moment::new(2000), 0);
     let stopped = work(
