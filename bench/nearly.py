@@ -19,7 +19,7 @@ from connections import Closed, Connection, NAME, shown, unescaped
 
 ROOT = Path(__file__).resolve().parent.parent
 PROGRAM = ROOT / "crates/wm_test_web/out/wm_test_web"
-HEAD, BODY, FIELDS = 8192, 8192, 32
+HEAD, BODY, FIELDS, REQUESTS = 8192, 8192, 32, 10000
 TOKEN = set("!#$%&'*+-.^_`|~0123456789abcdefghijklmnopqrstuvwxyzABCDEFGHIJKLMNOPQRSTUVWXYZ")
 # The errors that a connection may answer, by status; 400 and 409 also the lines of faults and of refusals.
 ERRORS = {400: r"HEAD|LENGTH|ONE COMMAND|CL [1-9] [A-Z]+( \d+)?|CM [1-9] [A-Z]+( [A-Z0-9]+)*", 404: "NO ROUTE", 405: "METHOD", 409: r"NO \d\d [A-Z]+( \w+)*",
@@ -211,10 +211,10 @@ def submitted(items):
             if word in ("RQSDTA", "JOBD", "JOBQ", "JOBPTY", "RTGDTA", "SCDDATE", "SCDTIME"):
                 raise Unknown
             return f"CM 2 UNKNOWNKEYWORD {place}"
-        elif len(values) != 1:
+        elif len(values) != 1 or values[0][0] != "word" or values[0][1] == "*JOBD":
             raise Unknown
-        elif not (NAME.match(values[0][1]) if word == "JOB" else values[0] in (("word", "*YES"), ("word", "*NO"))):
-            return f"CM 5 BADVALUE {place}" if values[0][0] == "word" and values[0][1] != "*JOBD" else unknown()
+        elif not (NAME.match(values[0][1]) if word == "JOB" else values[0][1] in ("*YES", "*NO")):
+            return f"CM 5 BADVALUE {place}"
     if "CMD" not in given:
         return "CM 4 MISSING CMD"
     if "JOB" not in given or given.get("HOLD") == [("word", "*NO")]:
@@ -222,12 +222,8 @@ def submitted(items):
     return f"SBMJOB JOB({given['JOB'][0][1]})" + (" HOLD(*YES)" if "HOLD" in given else "")
 
 
-def unknown():
-    raise Unknown
-
-
-PLAIN = {"WRKSBS": "WRKSBS", "DSPLOG": "DSPLOG", "HLDJOBQ QBATCH": "HLDJOBQ", "RLSJOBQ QBATCH": "RLSJOBQ", "CLRJOBQ QBATCH": "CLRJOBQ",
-         "PWRDWNSYS OPTION *IMMED )": "PWRDWNSYS"}
+PLAIN = {"WRKSBS": "WRKSBS", "DSPLOG": "DSPLOG", "HLDJOBQ QBATCH": "HLDJOBQ QBATCH", "RLSJOBQ QBATCH": "RLSJOBQ QBATCH",
+         "CLRJOBQ QBATCH": "CLRJOBQ QBATCH", "PWRDWNSYS OPTION *IMMED )": "PWRDWNSYS OPTION(*IMMED)"}
 
 
 def command_of(items):
@@ -285,11 +281,6 @@ class Nearly(Connection):
         self.unread += count
         self.read += count
 
-    def refuse(self, status, word):
-        self.fault(status, word, True)
-        self.end = "Done"
-        raise Closed
-
     def head(self):
         head = Head(self.sent[:HEAD])
         while head.verdict == "waits" or self.unread < head.at:
@@ -320,9 +311,9 @@ class Nearly(Connection):
         body = self.sent[head.at:whole]
         self.sent, self.unread = self.sent[whole:], self.unread - whole
         closes = head.version == "0" or any(n == "connection" and v.lower() == "close" for n, v in head.fields)
-        self.answer(head.method, head.target, body, closes)
-        if closes:
-            self.end = "Done"
+        self.answer(head.method, head.target, body, closes or number == REQUESTS)
+        if closes or number == REQUESTS:
+            self.end = "Budget" if number == REQUESTS else "Done"
             raise Closed
 
     def answer(self, method, target, body, closes):
@@ -338,7 +329,6 @@ class Nearly(Connection):
         line = said[0] if isinstance(said[0], str) else command_of(said[0])
         if re.match(r"C[LM] [0-9]", line):
             return self.fault(400, line, closes)
-        line = {"HLDJOBQ": "HLDJOBQ QBATCH", "RLSJOBQ": "RLSJOBQ QBATCH", "CLRJOBQ": "CLRJOBQ QBATCH", "PWRDWNSYS": "PWRDWNSYS OPTION(*IMMED)"}.get(line, line)
         super().command(user, line, closes)
 
 
@@ -353,7 +343,7 @@ def check(c):
             said = re.fullmatch(r'\{"error":"([^"]+)"\}', body)
             good = said and re.fullmatch(ERRORS[status], said[1]) or status == 409 and re.fullmatch(r'\{"place":\d+,"reply":"NO [^"]+"\}', body)
         assert good and f"Content-Length: {len(body)}\r\n" in head + "\r\n", response
-    assert c.unread <= HEAD + BODY and len(c.written) <= 10000
+    assert c.unread <= HEAD + BODY and len(c.written) <= REQUESTS
 
 
 # Drawing connections
@@ -449,7 +439,14 @@ class Draws:
             head = head[:self.below(len(head))]
         return head + body
 
+    def many(self):
+        """About as many requests as a connection may have, or more."""
+        short = ["GET /x HTTP/1.1\n\n", "PUT /log HTTP/1.1\n\n", "\nGET / HTTP/1.1\r\n\r\n", "GET /x HTTP/1.1\r\nContent-Length: 3\r\n\r\nabc"]
+        return "".join(self.one(*short) for _ in range(REQUESTS - 5 + self.below(10))) + self.request()
+
     def connection(self):
+        if self.below(4000) == 0:
+            return self.many(), 65536
         sent = "".join(self.request() for _ in range(1 + self.below(5)))
         kind = self.below(8)
         if kind == 0:

@@ -28,16 +28,7 @@ fn connect_once<R: Wait>(
     sent.extend_from_slice(bytes)?;
     let mut source = MemSource::new(sent, Vec::new(alloc));
     let mut sink = MemSink::new(alloc, Vec::new(alloc));
-    connect(
-        rt,
-        alloc,
-        routes,
-        floor,
-        pass,
-        &mut source,
-        &mut sink,
-        gate,
-    );
+    connect(rt, alloc, routes, floor, pass, &mut source, &mut sink, gate);
     Ok(())
 }
 
@@ -56,7 +47,7 @@ fn connect_all<R: Wait>(
     ensures own { IsPassOf floor.now pass.new }
     ensures same { IsSame pass.old pass.new }
 {
-    for _ in 0..count {
+    'connections: for _ in 0..count {
         connect_once(rt, alloc, routes, floor, pass, gate, bytes)?;
     }
     Ok(())
