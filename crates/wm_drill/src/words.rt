@@ -16,7 +16,7 @@ pub fn drill_plan(alloc: Global, words: &[String]) -> Result<DrillPlan, u8>
 {
     match read_words(alloc, words) {
         Ok(Plan::Drill(plan)) => Ok(plan),
-        Ok(Plan::Run(_)) | Err(WordFault::Bad) => Err(WRONG_WORDS),
+        Ok(Plan::Run(_) | Plan::Serve(_)) | Err(WordFault::Bad) => Err(WRONG_WORDS),
         Err(WordFault::NoMemory) => Err(NO_MEMORY),
     }
 }

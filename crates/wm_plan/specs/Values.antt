@@ -1,9 +1,13 @@
--- What the values of options say: paths, names, numbers and offsets.
-use Rattle.std.specs.Prelude.{ℕ, ℤ, pos, neg_ℤ, ◌+◌, ◌-◌, ◌*◌, ◌/◌, ◌%◌, ◌^◌, ◌==◌, Bool, not, ◌&&◌, nat_lt, List, [], ◌∷◌, length, take, drop, take_while, fold, Option, Some, None, option_map, if◌then◌else◌}
+-- What the values of options say: paths, names, numbers, where a server listens, and offsets.
+use Rattle.std.specs.Prelude.{ℕ, ℤ, pos, neg_ℤ, ◌+◌, ◌-◌, ◌*◌, ◌/◌, ◌%◌, ◌^◌, ◌==◌, Bool, not, ◌&&◌, nat_lt, List, [], ◌∷◌, length, take, drop, take_while, fold, Option, Some, None, option_map, if◌then◌else◌, codes}
+use Rattle.std.specs.Str.{bytes_eq}
 use Rattle.wm_base.specs.declared.qname.QName.{QName}
 use Rattle.wm_base.specs.Name.{name_of}
 use Rattle.wm_base.specs.Number.{is_digit}
 use Rattle.wm_when.specs.Schedule.{within}
+use Rattle.wm_plan.specs.declared.plan.Addr.{Addr}
+use Rattle.wm_plan.specs.declared.plan.Addr.TheVariants.{Ip, Localhost}
+use Rattle.wm_plan.specs.declared.plan.ListenAt.{ListenAt}
 
 -- Paths
 
@@ -54,6 +58,31 @@ kept_within low high (Some n) = if within low high n then Some n else None
 -- the same, from low to high
 abbrev pub ranged_of : ℕ → ℕ → List ℕ → Option ℕ
 ranged_of low high text = kept_within low high (number_of text)
+
+-- Where a server listens
+
+-- `127.0.0.1`, or `localhost`
+abbrev pub addr_of : List ℕ → Option Addr
+addr_of text = if bytes_eq text (codes "127.0.0.1") then Some Ip else if bytes_eq text (codes "localhost") then Some Localhost else None
+
+abbrev pub is_no_colon : ℕ → Bool
+is_no_colon byte = not (byte == 58)
+
+-- how many bytes stand before the first colon
+abbrev pub colon_at : List ℕ → ℕ
+colon_at text = length (take_while is_no_colon text)
+
+abbrev pub listening : Option Addr → Option ℕ → Option ListenAt
+listening None port = None
+listening (Some addr) None = None
+listening (Some addr) (Some port) = Some (record { addr = addr; port = port })
+
+-- `ADDR:PORT`
+abbrev pub listen_of : List ℕ → Option ListenAt
+listen_of text =
+    if nat_lt (colon_at text) (length text)
+    then listening (addr_of (take (colon_at text) text)) (ranged_of 0 65535 (drop (colon_at text + 1) text))
+    else None
 
 -- Offsets
 

@@ -15,5 +15,5 @@ mod read;
 mod values;
 
 pub use path::PathText;
-pub use plan::{DrillPlan, Plan, RunPlan, WordFault};
+pub use plan::{Addr, DrillPlan, ListenAt, Plan, RunPlan, ServePlan, WordFault};
 pub use read::read_words;

@@ -2,10 +2,10 @@
 ghost use Rattle.std.specs.Prelude.{◌≡◌, Err, IfOk, IfSome, IsTrue, None, Some};
 ghost use Rattle.std.specs.Option.{option_copied};
 ghost use Rattle.wm_when.specs.Schedule.{within};
-ghost use Rattle.wm_plan.specs.Plans.{ctl_said, jobs_said, limit_said, made_drill, made_run, offset_said, seed_said, store_said, user_said};
+ghost use Rattle.wm_plan.specs.Plans.{IsFitServe, ctl_said, jobs_said, limit_said, listen_said, made_drill, made_run, made_serve, monitors_said, offset_said, seed_said, store_said, user_said, workers_said};
 
-use crate::values::{number_of, offset_of, qname_of, ranged_of};
-use crate::{DrillPlan, PathText, RunPlan, WordFault};
+use crate::values::{listen_of, number_of, offset_of, qname_of, ranged_of};
+use crate::{DrillPlan, ListenAt, PathText, RunPlan, ServePlan, WordFault};
 use std::alloc::Global;
 use wm_base::{Name, QName, name_of};
 use wm_desc::qbatch;
@@ -59,6 +59,38 @@ fn limit_said(value: Option<&str>) -> Option<u32>
     match value {
         None => Some(1_000_000),
         Some(text) => ranged_of(1, 1_000_000, text.as_bytes()),
+    }
+}
+
+// Where a server listens.
+fn listen_said(value: Option<&str>) -> Option<ListenAt>
+    ensures { result ≡ listen_said (option_copied value.entry) }
+{
+    match value {
+        None => None,
+        Some(text) => listen_of(text.as_bytes()),
+    }
+}
+
+// The number of a server's workers.
+fn workers_said(value: Option<&str>) -> Option<u32>
+    ensures value { result ≡ workers_said (option_copied value.entry) }
+    ensures range { IfSome result (λ n. IsTrue (within 1 16 n)) }
+{
+    match value {
+        None => Some(2),
+        Some(text) => ranged_of(1, 16, text.as_bytes()),
+    }
+}
+
+// The number of a server's monitors.
+fn monitors_said(value: Option<&str>) -> Option<u32>
+    ensures value { result ≡ monitors_said (option_copied value.entry) }
+    ensures range { IfSome result (λ n. IsTrue (within 1 8 n)) }
+{
+    match value {
+        None => Some(1),
+        Some(text) => ranged_of(1, 8, text.as_bytes()),
     }
 }
 
@@ -120,6 +152,60 @@ pub fn made_run(alloc: Global, values: RunValues<'_>) -> Result<RunPlan, WordFau
         store: PathText::new(alloc, store)?,
         ctl,
         user,
+        offset,
+        log_limit,
+    })
+}
+
+/// The values of the options of `serve`, where they are given.
+#[derive(Clone, Copy)]
+pub struct ServeValues<'a> {
+    pub listen: Option<&'a str>,
+    pub workers: Option<&'a str>,
+    pub monitors: Option<&'a str>,
+    pub store: Option<&'a str>,
+    pub ctl: Option<&'a str>,
+    pub offset: Option<&'a str>,
+    pub limit: Option<&'a str>,
+}
+
+/// The plan of a server.
+pub fn made_serve(alloc: Global, values: ServeValues<'_>) -> Result<ServePlan, WordFault>
+    ensures ok { IfOk result (λ plan. made_serve (listen_said (option_copied values.entry.listen)) (workers_said (option_copied values.entry.workers))
+        (monitors_said (option_copied values.entry.monitors)) (store_said (option_copied values.entry.store)) (ctl_said (option_copied values.entry.ctl))
+        (offset_said (option_copied values.entry.offset)) (limit_said (option_copied values.entry.limit)) ≡ Some plan) }
+    ensures bad { result ≡ Err WordFault.Bad → made_serve (listen_said (option_copied values.entry.listen)) (workers_said (option_copied values.entry.workers))
+        (monitors_said (option_copied values.entry.monitors)) (store_said (option_copied values.entry.store)) (ctl_said (option_copied values.entry.ctl))
+        (offset_said (option_copied values.entry.offset)) (limit_said (option_copied values.entry.limit)) ≡ None }
+    ensures fit { IfOk result IsFitServe }
+{
+    let Some(listen) = listen_said(values.listen) else {
+        return Err(WordFault::Bad);
+    };
+    let Some(workers) = workers_said(values.workers) else {
+        return Err(WordFault::Bad);
+    };
+    let Some(monitors) = monitors_said(values.monitors) else {
+        return Err(WordFault::Bad);
+    };
+    let Some(store) = store_said(values.store) else {
+        return Err(WordFault::Bad);
+    };
+    let Some(ctl) = ctl_said(values.ctl) else {
+        return Err(WordFault::Bad);
+    };
+    let Some(offset) = offset_said(values.offset) else {
+        return Err(WordFault::Bad);
+    };
+    let Some(log_limit) = limit_said(values.limit) else {
+        return Err(WordFault::Bad);
+    };
+    Ok(ServePlan {
+        listen,
+        workers,
+        monitors,
+        store: PathText::new(alloc, store)?,
+        ctl,
         offset,
         log_limit,
     })

@@ -18,6 +18,34 @@ pub struct RunPlan {
     pub log_limit: u32,
 }
 
+/// The address that a server listens at, as its word has it. Both are this machine alone.
+#[derive(Clone, Copy)]
+pub enum Addr {
+    /// `127.0.0.1`
+    Ip,
+    /// `localhost`
+    Localhost,
+}
+
+/// Where a server listens. At port 0 the system chooses one.
+#[derive(Clone, Copy)]
+pub struct ListenAt {
+    pub addr: Addr,
+    pub port: u16,
+}
+
+/// A server: where it listens, how many workers answer and how many monitors start jobs, and the rest as for a run.
+#[derive(Drop)]
+pub struct ServePlan {
+    pub listen: ListenAt,
+    pub workers: u32,
+    pub monitors: u32,
+    pub store: PathText,
+    pub ctl: QName,
+    pub offset: Offset,
+    pub log_limit: u32,
+}
+
 /// A drill: the seed of its commands, and how many jobs they submit.
 #[derive(Clone, Copy)]
 pub struct DrillPlan {
@@ -29,6 +57,7 @@ pub struct DrillPlan {
 #[derive(Drop)]
 pub enum Plan {
     Run(RunPlan),
+    Serve(ServePlan),
     Drill(DrillPlan),
 }
 

@@ -2,16 +2,26 @@
 ghost use Rattle.std.specs.Prelude.{◌≡◌, Err, IfOk, IsTrue, None, Some, map, string_bytes};
 ghost use Rattle.wm_when.specs.Schedule.{within};
 ghost use Rattle.wm_plan.specs.Options.{joined};
-ghost use Rattle.wm_plan.specs.Plans.{IsFitPlan, drill_names, drill_plan, plan_for, plan_of, planned, run_names, run_plan};
+ghost use Rattle.wm_plan.specs.Plans.{IsFitPlan, IsFitServe, drill_names, drill_plan, plan_for, plan_of, planned, run_names, run_plan, serve_names, serve_plan};
 
 use crate::joined::joined;
-use crate::made::{RunValues, made_drill, made_run};
+use crate::made::{RunValues, ServeValues, made_drill, made_run, made_serve};
 use crate::matched::matched;
-use crate::{DrillPlan, Plan, RunPlan, WordFault};
+use crate::{DrillPlan, Plan, RunPlan, ServePlan, WordFault};
 use std::alloc::Global;
 
 // The options of each command.
 const RUN_NAMES: [&str; 5] = ["store", "ctl", "user", "offset", "log-limit"];
+
+const SERVE_NAMES: [&str; 7] = [
+    "listen",
+    "workers",
+    "monitors",
+    "store",
+    "ctl",
+    "offset",
+    "log-limit",
+];
 
 const DRILL_NAMES: [&str; 2] = ["seed", "jobs"];
 
@@ -31,6 +41,26 @@ fn read_run(alloc: Global, words: &[String]) -> Result<RunPlan, WordFault>
         limit: matches.get_str("log-limit"),
     };
     made_run(alloc, values)
+}
+
+// The plan of a server with these words behind `serve`.
+fn read_serve(alloc: Global, words: &[String]) -> Result<ServePlan, WordFault>
+    ensures ok { IfOk result (λ plan. planned serve_names serve_plan (joined (map string_bytes words.now)) ≡ Some plan) }
+    ensures bad { result ≡ Err WordFault.Bad → planned serve_names serve_plan (joined (map string_bytes words.now)) ≡ None }
+    ensures fit { IfOk result IsFitServe }
+{
+    let options = joined(alloc, words)?;
+    let matches = matched(alloc, &SERVE_NAMES, &options)?;
+    let values = ServeValues {
+        listen: matches.get_str("listen"),
+        workers: matches.get_str("workers"),
+        monitors: matches.get_str("monitors"),
+        store: matches.get_str("store"),
+        ctl: matches.get_str("ctl"),
+        offset: matches.get_str("offset"),
+        limit: matches.get_str("log-limit"),
+    };
+    made_serve(alloc, values)
 }
 
 // The plan of a drill with these words behind `drill`.
@@ -55,6 +85,9 @@ fn read_command(alloc: Global, command: &str, words: &[String]) -> Result<Plan, 
 {
     if command == "run" {
         return Ok(Plan::Run(read_run(alloc, words)?));
+    }
+    if command == "serve" {
+        return Ok(Plan::Serve(read_serve(alloc, words)?));
     }
     if command == "drill" {
         return Ok(Plan::Drill(read_drill(alloc, words)?));

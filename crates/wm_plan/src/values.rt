@@ -1,8 +1,9 @@
 // What the values of options say.
 ghost use Rattle.std.specs.Prelude.{◌≡◌, ◌<◌, ◌≤◌, IsTrue, IfSome, length, neg_ℤ, pos};
 ghost use Rattle.wm_when.specs.Schedule.{within};
-ghost use Rattle.wm_plan.specs.Values.{digits, minutes_in, minutes_of, number_of, offset_of, push_digit, qname_of, ranged_of, slash_at};
+ghost use Rattle.wm_plan.specs.Values.{addr_of, colon_at, digits, listen_of, minutes_in, minutes_of, number_of, offset_of, push_digit, qname_of, ranged_of, slash_at};
 
+use crate::{Addr, ListenAt};
 use wm_base::{QName, name_of};
 use wm_when::Offset;
 
@@ -108,6 +109,43 @@ fn west(minutes: u32) -> Offset
     ensures { result ≡ neg_ℤ (pos minutes) }
 {
     Offset::new(-(minutes as i32))
+}
+
+// The address that a server may listen at.
+fn addr_of(text: &[u8]) -> Option<Addr>
+    ensures { result ≡ addr_of text.now }
+{
+    if text == b"127.0.0.1".as_slice() {
+        Some(Addr::Ip)
+    } else if text == b"localhost".as_slice() {
+        Some(Addr::Localhost)
+    } else {
+        None
+    }
+}
+
+// How many bytes stand before the first colon.
+fn colon_at(text: &[u8]) -> usize
+    ensures value { result ≡ colon_at text.now }
+    ensures within { result ≤ length text.now }
+{
+    text.iter().take_while(|byte| **byte != b':').count()
+}
+
+/// `ADDR:PORT`.
+pub fn listen_of(text: &[u8]) -> Option<ListenAt>
+    ensures { result ≡ listen_of text.now }
+{
+    let at = colon_at(text);
+    if at >= text.len() {
+        return None;
+    }
+    let addr = addr_of(&text[..at])?;
+    let port = ranged_of(0, 65535, &text[at + 1..])?;
+    Some(ListenAt {
+        addr,
+        port: port as u16,
+    })
 }
 
 /// Minutes ahead of UTC as `E0000`, or behind it as `W0000`.

@@ -3,7 +3,7 @@ use Rattle.std.specs.Prelude.{◌≡◌, ◌⊎◌, ℕ, Bool, List, [], ◌∷�
 use Rattle.wm_desc.specs.Opening.{qbatch}
 use Rattle.wm_plan.specs.Plans.{plan_of}
 use Rattle.wm_plan.specs.declared.plan.Plan.{Plan}
-use Rattle.wm_plan.specs.declared.plan.Plan.TheVariants.{Run, Drill}
+use Rattle.wm_plan.specs.declared.plan.Plan.TheVariants.{Run, Serve, Drill}
 use Rattle.wm_plan.specs.declared.plan.RunPlan.{RunPlan}
 use Rattle.wm_traits.specs.Told.{Grows, Stays}
 use Rattle.wm_run.specs.declared.settings.Settings.{Settings}
@@ -12,6 +12,7 @@ use Rattle.wm_run.specs.declared.settings.Settings.{Settings}
 abbrev pub of_run : Option Plan → Option RunPlan
 of_run None = None
 of_run (Some (Run plan)) = Some plan
+of_run (Some (Serve plan)) = None
 of_run (Some (Drill plan)) = None
 
 -- the plan of a run that words are

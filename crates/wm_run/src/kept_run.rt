@@ -154,6 +154,7 @@ pub fn run_kept<I: Source, O: Sink, K: Keeper, P: Spawner, C: Clock, R: Wait>(
     ensures reported { result.0.status ≡ 7 → length result.0.log.items < 4000000 → result.0.kept ≡ None }
     ensures wait_fault { result.0.status ≡ 8 → raised (P.faults spawner.old) ≤ P.faults spawner.new }
     ensures bad_row { result.0.status ≡ 9 → HasBadRow settings.now.offset (K.tables keeper) (K.tables result.1) }
+    ensures out_faults { O.faults out.old ≤ O.faults out.new }
     ensures statuses { IsRunStatus result.0.status }
 {
     match Journal::open(alloc, keeper, &setup(settings), settings.log_limit) {

@@ -23,7 +23,7 @@ mod words;
 mod write;
 
 pub use answer::{is_power_down, is_refused};
-pub use calls::user_call;
+pub use calls::{end_call, start_call, user_call};
 pub use kept_run::run_kept;
 pub use laws::{bad_rows_do_not_open, runs_make_chains};
 pub use parse::parse_line;

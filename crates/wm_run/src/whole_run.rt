@@ -79,6 +79,8 @@ pub fn run<I: Source, O: Sink, S: Store, P: Spawner, C: Clock, R: Wait>(
     ensures reported { result.status ≡ 7 → length result.log.items < 4000000 → result.kept ≡ None }
     ensures wait_fault { result.status ≡ 8 → raised (P.faults spawner.old) ≤ P.faults spawner.new }
     ensures bad_row { result.status ≡ 9 → HasBadRow (settings_of (map string_bytes words.now)).offset (S.tables store.old) (S.tables store.new) }
+    ensures out_faults { O.faults out.old ≤ O.faults out.new }
+    ensures store_faults { S.faults store.old ≤ S.faults store.new }
     ensures statuses { IsRunStatus result.status }
     ensures not_begun { result.status ≡ 2 → result.log.items ≡ [] }
 {

@@ -22,7 +22,7 @@ pub fn run_plan(alloc: Global, words: &[String]) -> Result<RunPlan, u8>
 {
     match read_words(alloc, words) {
         Ok(Plan::Run(plan)) => Ok(plan),
-        Ok(Plan::Drill(_)) | Err(WordFault::Bad) => Err(WRONG_WORDS),
+        Ok(Plan::Serve(_) | Plan::Drill(_)) | Err(WordFault::Bad) => Err(WRONG_WORDS),
         Err(WordFault::NoMemory) => Err(NO_MEMORY),
     }
 }

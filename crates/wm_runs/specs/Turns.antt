@@ -40,7 +40,7 @@ pub record Turn (I O S P : Type 0) : Type 0 where
   pub store_before : S
   pub store_now : S
 
--- its status has its cause in this run
+-- its status has its cause in this run, and no count of the output or of the store has fallen
 pub record HasCauses {I O S P : Type 0} (seen : Seen I O S P) (words : List (List ℕ)) (turn : Turn I O S P) : Type 0 where
   pub statuses : IsRunStatus turn.ran.status
   pub wrong : is_run words ≡ false → (turn.ran.status ≡ 2) ⊎ (turn.ran.status ≡ 6)
@@ -51,6 +51,8 @@ pub record HasCauses {I O S P : Type 0} (seen : Seen I O S P) (words : List (Lis
   pub log_full : turn.ran.status ≡ 7 → (settings_of words).log_limit ≤ length turn.ran.log.items
   pub wait_fault : turn.ran.status ≡ 8 → raised (seen.wait_faults turn.spawner_before) ≤ seen.wait_faults turn.spawner_now
   pub bad_row : turn.ran.status ≡ 9 → HasBadRow (settings_of words).offset (seen.tables turn.store_before) (seen.tables turn.store_now)
+  pub out_faults : seen.write_faults turn.out_before ≤ seen.write_faults turn.out_now
+  pub store_faults : seen.keeper_faults turn.store_before ≤ seen.keeper_faults turn.store_now
 
 -- what a run with these words answers for
 pub record IsOneRun {I O S P : Type 0} (seen : Seen I O S P) (words : List (List ℕ)) (turn : Turn I O S P) : Type 0 where

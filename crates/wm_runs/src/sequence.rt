@@ -77,6 +77,8 @@ pub fn runs<I: Source, O: Sink, S: Store, P: Spawner, C: Clock, R: Wait>(
         (map string_bytes words.now) inputs.old inputs.new spawners.old spawners.new rans.items out.old out.new store.old store.new) }
     ensures chain { IfOk result (λ rans. HasChain (settings_of (map string_bytes words.now)).offset (S.tables store.old) (S.tables store.new) rans.items) }
     ensures once { IfOk result (λ rans. IfSome (S.tables store.new) (λ _. IsDistinct (started rans.items))) }
+    ensures out_faults { O.faults out.old ≤ O.faults out.new }
+    ensures store_faults { S.faults store.old ≤ S.faults store.new }
     ensures unbegun { OnErr result ((inputs.new ≡ inputs.old) × (spawners.new ≡ spawners.old) × (out.new ≡ out.old) × (store.new ≡ store.old)) }
 {
     let mut rans = Vec::new(alloc);

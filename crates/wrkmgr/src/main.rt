@@ -146,7 +146,7 @@ fn main(rt: HostRuntime) -> ExitCode {
             Err(_) => ExitCode::from(NO_MEMORY),
         },
         Ok(Plan::Drill(_)) => drill_program(&rt, &rt, &words),
-        Err(WordFault::Bad) => ExitCode::from(WRONG_WORDS),
+        Ok(Plan::Serve(_)) | Err(WordFault::Bad) => ExitCode::from(WRONG_WORDS),
         Err(WordFault::NoMemory) => ExitCode::from(NO_MEMORY),
     }
 }

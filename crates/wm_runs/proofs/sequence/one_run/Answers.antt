@@ -22,5 +22,7 @@ returns g c =
         log_full = said.log_full;
         wait_fault = said.wait_fault;
         bad_row = said.bad_row;
+        out_faults = said.out_faults;
+        store_faults = said.store_faults;
       };
     }
