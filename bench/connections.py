@@ -11,7 +11,7 @@ PHRASES = {200: "OK", 400: "Bad Request", 404: "Not Found", 405: "Method Not All
            413: "Payload Too Large", 431: "Request Header Fields Too Large", 501: "Not Implemented", 503: "Service Unavailable"}
 GETS = (r"/active", r"/subsystems", r"/log", r"/queues/([^/]+)/([^/]+)", r"/users/([^/]+)/jobs", r"/jobs/([^/]+)/([^/]+)/([^/]+)")
 POST = r"/users/([^/]+)/commands"
-NAME = re.compile(r"[A-Z$#@][A-Z0-9$#@_.]{0,9}$")
+NAME = re.compile(r"[A-Z$#@][A-Z0-9$#@_]{0,9}$")
 SUBMIT = ("SBMJOB RQSDTA('CALL PGM(QGPL/ECHO)') JOB({}) JOBD(QGPL/QDFTJOBD) JOBQ(*JOBD) JOBPTY(*JOBD) RTGDTA('QCMDB') HOLD({}) "
           "SCDDATE(*CURRENT) SCDTIME(*CURRENT)")
 NO_COMMANDS = {"SBMJOB JOB('A)": "CL 3 OPENQUOTE 11", "A 'x'(": "CL 8 BADBYTE 5", "CRTJOBQ": "CM 4 MISSING JOBQ",

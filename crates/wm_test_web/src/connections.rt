@@ -8,8 +8,11 @@
 // > fail-write N        the N-th write fails
 // > serve BYTES         what is answered, how the connection ends, and how often `before` and `after` of its gate came
 // > count LAST BYTES    the same, with the number of responses, and of the bytes the number and the last ones alone
+// > read BYTES          the same as `serve`, and how many bytes were read
+// > again N BYTES       N connections of these bytes over one floor: how often `after` of their gate came
 //
-// The first six hold for the rest of the case, and answer nothing.
+// The first six hold for the rest of the case, and answer nothing. They don't count for `again`.
+use crate::again::serve_again;
 use crate::serving::{Plan, serve};
 use crate::shown::{show, show_count};
 use anyhow::{Context, Result, bail, ensure};
@@ -100,6 +103,24 @@ impl<'r, R: Wait> Connections<'r, R> {
         show_count(&came, last, answer)
     }
 
+    fn read(&self, text: &str, answer: &mut String) -> Result<()> {
+        let plan = self.plan()?;
+        let bytes = bytes_of(self.alloc, text)?;
+        let came = serve(self.rt, self.alloc, plan, bytes)?;
+        show(&came, answer)?;
+        write!(answer, "{} bytes read\n", came.read)?;
+        Ok(())
+    }
+
+    fn again(&self, text: &str, answer: &mut String) -> Result<()> {
+        let (count, text) = text.split_once(' ').context("no number of connections")?;
+        let count = count.parse::<u32>()?;
+        let bytes = bytes_of(self.alloc, text)?;
+        let after = serve_again(self.rt, self.alloc, count, &bytes)?;
+        write!(answer, "{after} calls\n")?;
+        Ok(())
+    }
+
     fn set(&mut self, word: &str, number: u32) -> Result<()> {
         match word {
             "limit" => self.settings.limit = number,
@@ -125,6 +146,8 @@ impl<R: Wait> Subject for Connections<'_, R> {
         match asked {
             "serve" => self.serve(text, answer),
             "count" => self.count(text, answer),
+            "read" => self.read(text, answer),
+            "again" => self.again(text, answer),
             _ => self.set(asked, text.parse::<u32>()?),
         }
     }

@@ -2,9 +2,11 @@
 //!
 //! Each question of a file of `data/` that begins with `serve` or `count` is one connection over a floor of its own, whose history
 //! is STRSBS QGPL/QBATCH by QSYS at the moment 1000. The clock of the connection begins at 2000 and goes on by a second.
-//! `connections` says which questions there are. `bench/connections.py` writes the files.
+//! `connections` says which questions there are. `bench/connections.py` writes the files. With words these files are played and no
+//! others.
 #![tactic(auto)]
 
+mod again;
 mod connections;
 mod counting;
 mod serving;
@@ -12,6 +14,7 @@ mod shown;
 
 use anyhow::Result;
 use connections::Connections;
+use std::env;
 use std::rt::Files;
 use std::sync::Wait;
 use wm_cases::play;
@@ -36,9 +39,25 @@ fn play_all<R: AllocGlobal + Files + Print + Wait>(
     Ok(())
 }
 
+fn play_named<R: AllocGlobal + Files + Print + Wait>(
+    rt: &R,
+    connections: &mut Connections<'_, R>,
+    files: &[String],
+) -> Result<()> {
+    for file in files {
+        play(rt, file.as_str(), connections)?;
+    }
+    Ok(())
+}
+
 fn main(rt: HostRuntime) -> Result<()> {
+    let files: Vec<String> = env::args(&rt)?.skip(1).collect(rt.alloc())?;
     let mut connections = Connections::new(&rt, rt.alloc());
-    let played = play_all(&rt, &mut connections);
+    let played = if files.is_empty() {
+        play_all(&rt, &mut connections)
+    } else {
+        play_named(&rt, &mut connections, &files)
+    };
     drop(connections);
     played
 }

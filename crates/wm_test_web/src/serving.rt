@@ -13,6 +13,7 @@ use wm_floor::{Floor, FloorPass};
 use wm_http::Routes;
 use wm_outside::{MemClock, MemKeeper, MemSink, MemSource};
 use wm_run::{Parsed, parse_line, user_call};
+use wm_traits::Source;
 use wm_web::{WebEnd, web_session};
 use wm_when::Offset;
 
@@ -33,16 +34,18 @@ pub struct Plan {
     ghost takes: { 0 < short },
 }
 
-/// What was written, how the connection ended, and how often each call of the gate came.
+/// What was written, how many bytes were read, how the connection ended, and how often each call of the gate came.
 #[derive(Drop)]
 pub struct Came {
     pub sink: MemSink,
+    pub read: usize,
     pub end: WebEnd,
     pub before: u32,
     pub after: u32,
 }
 
-fn opened(
+/// A floor that takes so many entries, whose keeper fails at these calls, and its pass 0.
+pub fn opened(
     alloc: Global,
     limit: u32,
     fail: Vec<u32>,
@@ -68,8 +71,8 @@ fn opened(
     }
 }
 
-// Calls a command of QSYS.
-fn call<R: Wait>(
+/// Calls a command of QSYS.
+pub fn call<R: Wait>(
     rt: &R,
     alloc: Global,
     floor: &Floor<MemKeeper>,
@@ -94,16 +97,51 @@ fn call<R: Wait>(
     }
 }
 
+/// One connection from a source to a sink.
+pub fn connect<R: Wait>(
+    rt: &R,
+    alloc: Global,
+    routes: &Routes,
+    floor: &Floor<MemKeeper>,
+    pass: &mut FloorPass<MemKeeper>,
+    source: &mut MemSource,
+    sink: &mut MemSink,
+    gate: &CountingGate,
+) -> WebEnd
+    requires own { IsPassOf floor.now pass.old }
+    ensures own { IsPassOf floor.now pass.new }
+    ensures same { IsSame pass.old pass.new }
+{
+    let mut clock = MemClock::new(Moment::new(2000), 1);
+    web_session(
+        rt, alloc, routes, floor, pass, source, sink, &mut clock, gate, 1,
+    )
+}
+
+// How many bytes a source still has, of at most so many.
+fn bytes_left(source: &mut MemSource, most: usize) -> usize {
+    let mut piece = [0u8; 4096];
+    let mut left = 0usize;
+    for _ in 0..=most {
+        match source.read(&mut piece) {
+            Ok(0) => return left,
+            Ok(n) => left = left.saturating_add(n),
+            Err(_) => {}
+        }
+    }
+    left
+}
+
 /// Serves a connection over these bytes.
 pub fn serve<R: Wait>(rt: &R, alloc: Global, plan: Plan, bytes: Vec<u8>) -> Result<Came> {
+    let sent = bytes.len();
     let routes = Routes::new(alloc)?;
     let mut source = MemSource::in_pieces(bytes, plan.fail_read, plan.piece);
     let mut sink = MemSink::in_pieces(alloc, plan.fail_write, plan.short);
-    let mut clock = MemClock::new(Moment::new(2000), 1);
     let gate = CountingGate::new();
     let (floor, mut zero) = opened(alloc, plan.limit, plan.fail_apply)?;
     let begun = call(rt, alloc, &floor, &mut zero, b"STRSBS QBATCH");
-    let end = web_session(
+    let end = connect(
         rt,
         alloc,
         &routes,
@@ -111,9 +149,7 @@ pub fn serve<R: Wait>(rt: &R, alloc: Global, plan: Plan, bytes: Vec<u8>) -> Resu
         &mut zero,
         &mut source,
         &mut sink,
-        &mut clock,
         &gate,
-        1,
     );
     let closed = floor.close(zero);
     let Ok(closed) = closed else { unreachable!() };
@@ -121,6 +157,7 @@ pub fn serve<R: Wait>(rt: &R, alloc: Global, plan: Plan, bytes: Vec<u8>) -> Resu
     begun?;
     Ok(Came {
         sink,
+        read: sent.saturating_sub(bytes_left(&mut source, sent)),
         end,
         before: gate.before_count(),
         after: gate.after_count(),

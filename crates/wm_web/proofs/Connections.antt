@@ -8,12 +8,13 @@ use Rattle.wm_traits.specs.Told.{Grows, Takes}
 use Rattle.wm_traits.proofs.Telling.{Grows-none, Grows-then, Takes-none, Takes-then}
 use Rattle.wm_http.specs.Answers.{closes_after}
 use Rattle.wm_web.specs.Answered.{is_down}
-use Rattle.wm_web.specs.Ends.{Closes, Ends, FailsWriting, Stops}
+use Rattle.wm_web.specs.Ends.{Closes, Ends, FailsWriting, IsSession, Stops}
 use Rattle.wm_web.specs.Serving.{GoesOn, ServesNext, TakesSession}
 use Rattle.wm_web.specs.Cuts.{asks_close, behind_cut}
 use Rattle.wm_web.specs.Session.{Exchange, Serves, asks_end, ends_with, is_last, response_of}
 use Rattle.wm_web.specs.declared.end.WebEnd.{WebEnd}
 use Rattle.wm_web.specs.declared.end.WebEnd.TheVariants.{Done, CutShort, Budget, PowerDown, ReadFault, WriteFault, NoMemory}
+use Rattle.wm_web.proofs.Counted.{faults_counted}
 use Rattle.wm_web.proofs.Servings.{serves_more, serves_then}
 
 -- the 10,000th answer is asked to close the connection
@@ -115,35 +116,40 @@ module _ {K : Type 0} where
       let most = far.most in
       let least = next.most in
       let few = far.few in
+      let session : IsSession o end (far.bytes ++ next.bytes) l2 old new w0 w2 = record {
+        served = far.served;
+        unread = unread ++ next.bytes;
+        mid = mid;
+        due = far.due;
+        serves = serves_more o 0 far.served far.bytes unread next.bytes old mid far.due far.serves;
+        ends = subst (λ (k : ℕ). Ends o end l2 k (unread ++ next.bytes) mid new far.due w0 w2) (sym far.count) (ends_behind o end l2 n (unread ++ next.bytes) mid new far.due w0 w1 w2 far.written next.came);
+      } in
       record {
         bytes = far.bytes ++ next.bytes;
         taken = Takes-then l0 l1 l2 far.bytes next.bytes far.taken next.taken;
         most = omega (arith, length-append far.bytes next.bytes, length-append unread next.bytes, most, least, few);
-        session = record {
-          served = far.served;
-          unread = unread ++ next.bytes;
-          mid = mid;
-          due = far.due;
-          serves = serves_more o 0 far.served far.bytes unread next.bytes old mid far.due far.serves;
-          ends = subst (λ (k : ℕ). Ends o end l2 k (unread ++ next.bytes) mid new far.due w0 w2) (sym far.count) (ends_behind o end l2 n (unread ++ next.bytes) mid new far.due w0 w1 w2 far.written next.came);
-        };
+        session = session;
+        counted = faults_counted o end (far.bytes ++ next.bytes) l2 old new w0 w2 session;
       }
 
   -- there was no memory for the first read
   pub no_session : (o : Opened K) (left : Option (List ℕ)) (old : Seen K) (w : Option (List ℕ)) → TakesSession o NoMemory left left old old w w
-  no_session o left old w = record {
-    bytes = [];
-    taken = Takes-none left;
-    most = omega arith;
-    session = record {
-      served = [];
-      unread = [];
-      mid = old;
-      due = [];
-      serves = record { rest_is = refl; pass = refl; none = refl };
-      ends = record { unserved = inl refl; written = Grows-none w };
-    };
-  }
+  no_session o left old w =
+      let session : IsSession o NoMemory [] left old old w w = record {
+        served = [];
+        unread = [];
+        mid = old;
+        due = [];
+        serves = record { rest_is = refl; pass = refl; none = refl };
+        ends = record { unserved = inl refl; written = Grows-none w };
+      } in
+      record {
+        bytes = [];
+        taken = Takes-none left;
+        most = omega arith;
+        session = session;
+        counted = faults_counted o NoMemory [] left old old w w session;
+      }
 
   -- what stays true from request to request
   pub record SessionLoop (f : Floored K) (n : ℕ) (left_before left_now : Option (List ℕ)) (unread : List ℕ) (old new : Seen K) (w0 w1 : Option (List ℕ)) (r0 r1 s0 s1 : ℕ) : Type 0 where

@@ -1,6 +1,7 @@
 pub mod BodyLines
 pub mod Calls
 pub mod Connections
+pub mod Counted
 pub mod Cuts
 pub mod Readings
 pub mod Requests

@@ -1,5 +1,6 @@
 pub mod Answered
 pub mod Bodies
+pub mod Counted
 pub mod Cuts
 pub mod Ends
 pub mod Reading

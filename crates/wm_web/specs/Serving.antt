@@ -6,6 +6,7 @@ use Rattle.wm_http.specs.Cutting.{IsCut}
 use Rattle.wm_http.specs.declared.request.Cut.{Cut}
 use Rattle.wm_traits.specs.Told.{Grows, Takes}
 use Rattle.wm_web.specs.Answered.{AnswersCut, is_down}
+use Rattle.wm_web.specs.Counted.{FaultsAreCounted}
 use Rattle.wm_web.specs.Ends.{Ends, IsSession}
 use Rattle.wm_web.specs.Cuts.{asks_close, behind_cut}
 use Rattle.wm_web.specs.Session.{Exchange, IsExchange, ends_with, response_of}
@@ -59,9 +60,10 @@ module _ {K : Type 0} where
     pub most : length (unread_before ++ bytes) ≤ 16384
     pub came : GoesOnOrEnds o end left_now before (unread_before ++ bytes) unread_now old new written_before written_now
 
-  -- bytes were taken off the source, of which the connection is
+  -- bytes were taken off the source, of which the connection is, and the faults of the keeper are counted
   pub record TakesSession (o : Opened K) (end : WebEnd) (left_before left_now : Option (List ℕ)) (old new : Seen K) (written_before written_now : Option (List ℕ)) : Type 0 where
     pub bytes : List ℕ
     pub taken : Takes left_before bytes left_now
     pub most : length bytes ≤ 163840000
     pub session : IsSession o end bytes left_now old new written_before written_now
+    pub counted : FaultsAreCounted o end bytes left_now old new written_before written_now session
