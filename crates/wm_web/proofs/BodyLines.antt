@@ -1,5 +1,5 @@
 -- The lines of a body, as they come.
-use Rattle.std.proofs.Common.{◌≡◌, ◌<◌, ◌≤◌, ◌+◌, ◌-◌, ℕ, drop, List, [], ◌∷◌, ◌++◌, length, fold, Option, Some, None, IfNone, OnSome, refl, sym, ap, subst, ◌∙◌, append_assoc, append-nil, arith}
+use Rattle.std.proofs.Common.{◌≡◌, ◌<◌, ◌≤◌, ◌+◌, ℕ, drop, List, [], ◌∷◌, ◌++◌, length, fold, Option, Some, None, IfNone, OnSome, refl, sym, ap, subst, ◌∙◌, append_assoc, append-nil, arith}
 use Rattle.std.proofs.lemmas.List.{drop-drop, drop_all, length-drop}
 use Rattle.std.proofs.lemmas.List.Sums.{fold-append}
 use Rattle.wm_clwords.specs.Lines.{logical_lines}

@@ -1,5 +1,5 @@
 -- A connection, request by request.
-use Rattle.std.proofs.Common.{◌≡◌, ◌≢◌, ℕ, ◌+◌, ◌*◌, ◌-◌, ◌<◌, ◌≤◌, ◌⊎◌, inl, inr, Bool, true, false, ◌||◌, ◌==◌, List, [], ◌∷◌, ◌++◌, length, Option, None, Some, refl, sym, ap, subst, ◌∙◌, arith, append-nil}
+use Rattle.std.proofs.Common.{◌≡◌, ◌≢◌, ℕ, ◌+◌, ◌*◌, ◌≤◌, inl, inr, Bool, true, false, List, [], ◌∷◌, ◌++◌, length, Option, None, Some, refl, sym, ap, subst, ◌∙◌, arith, append-nil}
 use Rattle.std.proofs.lemmas.Bool.{true≢false}
 use Rattle.std.proofs.lemmas.List.{length-append}
 use Rattle.wm_floor.specs.Floor.{Floored, IsPassOf, IsSame, Seen}
@@ -9,8 +9,8 @@ use Rattle.wm_traits.proofs.Telling.{Grows-none, Grows-then, Takes-none, Takes-t
 use Rattle.wm_http.specs.Answers.{closes_after}
 use Rattle.wm_web.specs.Answered.{is_down}
 use Rattle.wm_web.specs.Ends.{Closes, Ends, FailsWriting, IsSession, Stops}
-use Rattle.wm_web.specs.Serving.{GoesOn, ServesNext, TakesSession}
-use Rattle.wm_web.specs.Cuts.{asks_close, behind_cut}
+use Rattle.wm_web.specs.Serving.{ServesNext, TakesSession}
+use Rattle.wm_web.specs.Cuts.{asks_close}
 use Rattle.wm_web.specs.Session.{Exchange, Serves, asks_end, ends_with, is_last, response_of}
 use Rattle.wm_web.specs.declared.end.WebEnd.{WebEnd}
 use Rattle.wm_web.specs.declared.end.WebEnd.TheVariants.{Done, CutShort, Budget, PowerDown, ReadFault, WriteFault, NoMemory}

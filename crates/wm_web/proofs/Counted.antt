@@ -1,5 +1,5 @@
 -- The keeper's faults of a connection are counted by the pass's mark.
-use Rattle.std.proofs.Common.{◌≡◌, ◌+◌, ◌-◌, ◌<◌, ◌≤◌, ◌⊎◌, inl, inr, ℕ, Bool, true, false, min, List, [], ◌∷◌, ◌++◌, length, Option, refl, sym, ap, subst, ◌∙◌, arith, if◌then◌else◌}
+use Rattle.std.proofs.Common.{◌≡◌, ◌+◌, ◌≤◌, ◌⊎◌, inl, inr, ℕ, Bool, true, false, List, [], ◌∷◌, ◌++◌, length, Option, refl, ap, ◌∙◌, arith, if◌then◌else◌}
 use Rattle.wm_floor.specs.Floor.{Seen}
 use Rattle.wm_floor.specs.Ledger.{behind}
 use Rattle.wm_floor.specs.declared.opened.Opened.{Opened}

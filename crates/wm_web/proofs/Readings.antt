@@ -1,5 +1,5 @@
 -- Reading on until a request is whole.
-use Rattle.std.proofs.Common.{◌≡◌, ◌<◌, ◌≤◌, ◌+◌, ℕ, List, [], ◌++◌, length, Option, refl, sym, ap, ◌∙◌, append_assoc, append-nil, arith}
+use Rattle.std.proofs.Common.{◌≡◌, ◌≤◌, ℕ, List, [], ◌++◌, length, Option, sym, ap, ◌∙◌, append_assoc, append-nil}
 use Rattle.wm_traits.proofs.Telling.{Takes-none, Takes-then}
 use Rattle.wm_web.specs.Reading.{ReadsOn}
 

@@ -1,5 +1,5 @@
 -- How a request that was cut is served, and how a connection ends without one.
-use Rattle.std.proofs.Common.{◌≡◌, ◌+◌, ◌≤◌, inl, inr, ℕ, Bool, false, List, [], ◌∷◌, ◌++◌, length, drop, Result, Ok, Err, Option, refl, sym, ap, subst, ◌∙◌, append-nil, arith}
+use Rattle.std.proofs.Common.{◌≡◌, ◌+◌, inr, ℕ, false, List, [], ◌∷◌, ◌++◌, length, drop, Result, Ok, Err, Option, refl, sym, ap, subst, ◌∙◌, append-nil, arith}
 use Rattle.std.specs.Prelude.{IfErr, IfOk, OnErr}
 use Rattle.std.specs.Io.KnownBytes.{IsAtEnd}
 use Rattle.std.proofs.lemmas.List.{length-append}
@@ -13,14 +13,14 @@ use Rattle.wm_http.specs.declared.request.Cut.TheVariants.{ReadOn, Refused}
 use Rattle.wm_law.specs.declared.command.Command.{Command}
 use Rattle.wm_run.specs.declared.parsed.Parsed.{Parsed}
 use Rattle.wm_run.specs.declared.parsed.Parsed.TheVariants.{Call}
-use Rattle.wm_web.specs.Answered.{AnswersCall, AnswersCut, AnswersParsed, IsTakenUp, is_down}
+use Rattle.wm_web.specs.Answered.{AnswersCall, AnswersCut, AnswersParsed, IsTakenUp}
 use Rattle.wm_web.specs.Cuts.{IsInside}
 use Rattle.wm_web.specs.Ends.{IsUnserved}
 use Rattle.wm_web.specs.Reading.{ReadsOn, ended}
 use Rattle.wm_web.specs.Serving.{IsServed, IsServedBy}
 use Rattle.wm_web.specs.declared.answered.Answered.{Answered}
 use Rattle.wm_web.specs.declared.end.WebEnd.{WebEnd}
-use Rattle.wm_web.specs.declared.end.WebEnd.TheVariants.{CutShort, Done, NoMemory}
+use Rattle.wm_web.specs.declared.end.WebEnd.TheVariants.{NoMemory}
 use Rattle.wm_web.specs.declared.served.Served.{Served}
 use Rattle.wm_web.proofs.Calls.{down_same}
 

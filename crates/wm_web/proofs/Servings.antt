@@ -1,8 +1,7 @@
 -- Laws of requests served one after another.
-use Rattle.std.proofs.Common.{◌≡◌, ℕ, suc, ◌+◌, ◌-◌, ◌<◌, ◌≤◌, Bool, true, false, List, [], ◌∷◌, ◌++◌, length, min, refl, sym, ap, subst, ◌∙◌, arith, append_assoc, append-nil}
+use Rattle.std.proofs.Common.{◌≡◌, ℕ, ◌+◌, false, List, [], ◌∷◌, ◌++◌, length, refl, sym, ap, subst, ◌∙◌, arith, append_assoc, append-nil}
 use Rattle.wm_floor.specs.Floor.{Seen}
 use Rattle.wm_floor.specs.declared.opened.Opened.{Opened}
-use Rattle.wm_http.specs.Cutting.{IsCut}
 use Rattle.wm_http.specs.Laws.{IsFinal}
 use Rattle.wm_http.specs.declared.answer.Answer.{Answer}
 use Rattle.wm_http.specs.declared.request.Cut.{Cut}

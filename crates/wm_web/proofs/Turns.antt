@@ -1,18 +1,16 @@
 -- One request of a connection.
-use Rattle.std.proofs.Common.{◌≡◌, ◌≤◌, ◌⊎◌, inl, inr, ℕ, Bool, true, false, List, [], ◌++◌, length, take, drop, Option, refl, sym, ap, subst, ◌∙◌, ◌==◌, if◌then◌else◌}
+use Rattle.std.proofs.Common.{◌≡◌, ◌≤◌, ◌⊎◌, inl, inr, ℕ, Bool, true, false, List, [], length, take, drop, Option, refl, ap, subst, ◌∙◌, ◌==◌, if◌then◌else◌}
 use Rattle.wm_floor.specs.Floor.{Seen}
 use Rattle.wm_floor.specs.declared.opened.Opened.{Opened}
 use Rattle.wm_http.specs.Answers.{closes_after, response_bytes}
-use Rattle.wm_http.specs.Cutting.{IsCut}
-use Rattle.wm_http.specs.declared.request.Cut.{Cut}
 use Rattle.wm_traits.specs.Told.{Grows}
 use Rattle.wm_traits.proofs.Telling.{Grows-none}
 use Rattle.wm_web.specs.Answered.{is_down}
-use Rattle.wm_web.specs.Cuts.{asks_close, behind_cut}
+use Rattle.wm_web.specs.Cuts.{asks_close}
 use Rattle.wm_web.specs.Ends.{Closes, Ends, IsUnserved, end_of}
 use Rattle.wm_web.specs.Reading.{ReadsOn}
 use Rattle.wm_web.specs.Serving.{GoesOn, GoesOnOrEnds, IsServed, IsUnwritten, ServesNext}
-use Rattle.wm_web.specs.Session.{Exchange, asks_end, ends_with, response_of}
+use Rattle.wm_web.specs.Session.{Exchange, asks_end}
 use Rattle.wm_web.specs.declared.end.WebEnd.{WebEnd}
 use Rattle.wm_web.specs.declared.end.WebEnd.TheVariants.{Done, CutShort, Budget, PowerDown, ReadFault, WriteFault, NoMemory}
 use Rattle.wm_web.specs.declared.served.Served.{Served}

@@ -1,5 +1,5 @@
 -- What came of the next request.
-use Rattle.std.specs.Prelude.{◌≡◌, ℕ, ◌≤◌, Bool, false, List, [], ◌++◌, drop, length, take, Option, None, Some}
+use Rattle.std.specs.Prelude.{◌≡◌, ℕ, ◌≤◌, false, List, [], ◌++◌, drop, length, take, Option, None, Some}
 use Rattle.wm_floor.specs.Floor.{Seen}
 use Rattle.wm_floor.specs.declared.opened.Opened.{Opened}
 use Rattle.wm_http.specs.Cutting.{IsCut}
