@@ -22,6 +22,7 @@ mod system;
 mod words;
 
 use anyhow::Result;
+use bells::Ringer;
 use memory::MemoryCases;
 use sql_keepers::SqlCases;
 use std::rt::Files;
@@ -55,10 +56,11 @@ fn main(rt: HostRuntime) -> Result<()> {
     play_memory(&rt)?;
     play_sql(&rt)?;
     let mut spawner = SysSpawner::new(rt.alloc(), rt)?;
+    let ringer = Ringer::new(rt.alloc(), rt)?;
     let played = play(
         &rt,
         "system.txt",
-        &mut SystemCases::new(rt.alloc(), &rt, &mut spawner),
+        &mut SystemCases::new(rt.alloc(), &rt, &mut spawner, &ringer),
     );
     drop(spawner);
     played

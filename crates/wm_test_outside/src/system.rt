@@ -1,6 +1,6 @@
 // The adapters of the real things.
 use super::answers::{answer_bytes, answer_look};
-use super::bells::{ring, rings, storm};
+use super::bells::{Ringer, ring, rings, storm};
 use super::flaky::{Flaky, Full, SetBack, Stopped};
 use super::spawners::ask_spawner;
 use super::streams::{read, write};
@@ -11,7 +11,6 @@ use std::fmt::Write;
 use std::process::{Processes, SystemProcess};
 use std::rt;
 use std::sync::Wait;
-use std::thread::Threads;
 use std::time::Duration;
 use wm_base::{Event, Moment};
 use wm_cases::{Subject, bytes_of};
@@ -127,17 +126,26 @@ pub struct SystemCases<'a, R: Processes<Started = SystemProcess> + Wait + rt::Cl
     alloc: Global,
     rt: &'a R,
     spawner: &'a mut SysSpawner<R>,
+    ringer: &'a Ringer,
 }
 
 impl<'a, R: Processes<Started = SystemProcess> + Wait + rt::Clock> SystemCases<'a, R> {
-    pub fn new(alloc: Global, rt: &'a R, spawner: &'a mut SysSpawner<R>) -> SystemCases<'a, R> {
-        SystemCases { alloc, rt, spawner }
+    pub fn new(
+        alloc: Global,
+        rt: &'a R,
+        spawner: &'a mut SysSpawner<R>,
+        ringer: &'a Ringer,
+    ) -> SystemCases<'a, R> {
+        SystemCases {
+            alloc,
+            rt,
+            spawner,
+            ringer,
+        }
     }
 }
 
-impl<
-    R: Processes<Started = SystemProcess> + Threads + Wait + rt::Clock + Copy + Send + 'static,
-> Subject for SystemCases<'_, R> {
+impl<R: Processes<Started = SystemProcess> + Wait + rt::Clock> Subject for SystemCases<'_, R> {
     fn begin(&mut self) -> Result<()> {
         Ok(())
     }
@@ -150,8 +158,8 @@ impl<
             "write" => write_writer(alloc, rest, answer),
             "clock" => ask_clock(self.rt, rest, answer),
             "ring" => ring(self.rt, &*self.spawner, rest, answer),
-            "rings" => rings(*self.rt, &mut *self.spawner, rest, answer),
-            "storm" => storm(*self.rt, &mut *self.spawner, rest, answer),
+            "rings" => rings(self.rt, &mut *self.spawner, self.ringer, rest, answer),
+            "storm" => storm(self.rt, &mut *self.spawner, self.ringer, rest, answer),
             "looks" => {
                 let found = look_often(self.rt, &mut *self.spawner, rest.parse::<u32>()?);
                 answer_look(found, answer)
