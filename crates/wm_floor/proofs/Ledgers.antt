@@ -23,7 +23,7 @@ module _ {K : Type 0} (faults : K → ℕ) (rows : K → Option (List Row)) (row
         limit = most;
         room = omega arith;
       } in
-      let first : IsLedger faults rows rows_had (opened_with keeper stored [] limit stored.keeper) stored.state = record { journal = begun; risen = risen_none (faults keeper) (faults stored.keeper) same } in
+      let first : IsLedger faults rows rows_had (opened_with keeper stored [] limit stored.keeper) stored.state = record { journal = begun; risen = risen_none (faults keeper) (faults stored.keeper) same; untold = λ none. none } in
       let with_log = subst (λ (es : List Entry). IsLedger faults rows rows_had (opened_with keeper stored es limit stored.keeper) stored.state) (sym l) first in
       let with_found = subst (λ (k : K). IsLedger faults rows rows_had (opened_with k stored log limit stored.keeper) stored.state) (sym f) with_log in
       subst (λ (s : Stored K). IsLedger faults rows rows_had (opened_with found s log limit stored.keeper) stored.state) (sym o) with_found

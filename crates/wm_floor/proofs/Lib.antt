@@ -1,4 +1,6 @@
 pub mod Calls
 pub mod Counts
+pub mod Crosses
 pub mod Ledgers
 pub mod Passes
+pub mod Untold

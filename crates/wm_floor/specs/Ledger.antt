@@ -1,5 +1,5 @@
 -- A ledger, as a contract sees it, and what holds of it.
-use Rattle.std.specs.Prelude.{◌+◌, ◌-◌, ◌^◌, ◌≤◌, ℕ, min, List, Option, IfSome}
+use Rattle.std.specs.Prelude.{◌≡◌, ◌+◌, ◌-◌, ◌^◌, ◌≤◌, ℕ, min, List, None, Option, IfSome}
 use Rattle.wm_traits.specs.declared.row.Row.{Row}
 use Rattle.wm_law.specs.declared.call.Entry.{Entry}
 use Rattle.wm_law.specs.declared.call.Reply.{Reply}
@@ -37,16 +37,18 @@ pub record HasRisen (found misses now : ℕ) : Type 0 where
   pub by_misses : min (found + misses) (2 ^ 64 - 1) ≤ now
 
 module _ {K : Type 0} (faults : K → ℕ) (rows : K → Option (List Row)) (rows_had : K → Option (List (List Row))) where
-  -- its history is one of a journal, whose machine has the state, and its keeper's count has risen by the failed calls
+  -- its history is one of a journal, whose machine has the state, its keeper's count has risen by the failed calls, and a trail that wasn't told as it opened isn't told
   pub record IsLedger (l : Ledgered K) (s : State) : Type 0 where
     pub journal : IsJournal (history_of l) l.opening.limit s (telling rows rows_had l.opening.found) (telling rows rows_had l.keeper)
     pub risen : HasRisen (faults l.opening.found) l.misses (faults l.keeper)
+    pub untold : rows_had l.opening.keeper ≡ None → rows_had l.keeper ≡ None
 
   -- what can be told of it: its history is legal, and its trail is that of its history
   pub record HasLedger (l : Ledgered K) : Type 0 where
     pub legal : IsLegal l.opening.state l.log
     pub trail : HasTrail (history_of l) (telling rows rows_had l.opening.found) (telling rows rows_had l.keeper)
     pub risen : HasRisen (faults l.opening.found) l.misses (faults l.keeper)
+    pub untold : rows_had l.opening.keeper ≡ None → rows_had l.keeper ≡ None
 
 -- the reply of an entry, where there is one
 abbrev pub HasReply : Option Entry → Option Reply → Type 0

@@ -1,5 +1,5 @@
 // The shared floor.
-ghost use Rattle.std.specs.Prelude.{◌≡◌, ◌≢◌, ◌-◌, ◌<◌, ◌≤◌, ◌↔◌, [], length, slice_get, Some, IfOk, IfErr, IfSome, IsOk, IsSome};
+ghost use Rattle.std.specs.Prelude.{◌≡◌, ◌≢◌, ◌-◌, ◌<◌, ◌≤◌, ◌↔◌, [], length, slice_get, None, Some, IfOk, IfErr, IfSome, IsOk, IsSome};
 ghost use Rattle.wm_traits.specs.Cause.{raised};
 ghost use Rattle.wm_law.specs.Fit.{HasCall, IsCall};
 ghost use Rattle.wm_law.specs.History.{IsLegal};
@@ -258,6 +258,7 @@ impl<K: Keeper> Floor<K> {
         ensures legal { IsLegal self.opening.state pass.seen }
         ensures tables { IfOk result (λ closed. HasTables (reached (behind self.opening pass.seen)) (K.tables closed.keeper)) }
         ensures trail { IfOk result (λ closed. HasTrail (behind self.opening pass.seen) (telling K.tables K.trail self.opening.found) (telling K.tables K.trail closed.keeper)) }
+        ensures untold { IfOk result (λ closed. K.trail self.opening.keeper ≡ None → K.trail closed.keeper ≡ None) }
         ensures later { IfOk result (λ closed. K.faults self.opening.found ≤ K.faults closed.keeper) }
         ensures risen { IfOk result (λ closed. pass.mark ≢ 0 → raised (K.faults self.opening.found) ≤ K.faults closed.keeper) }
         ensures joined { IfOk result (λ _. HasOwn caller_of pass.seen pass.joined) }

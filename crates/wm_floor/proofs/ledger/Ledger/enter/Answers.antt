@@ -7,6 +7,7 @@ use Rattle.wm_journal.specs.History.{History}
 use Rattle.wm_journal.proofs.Journals.{journal_with, limit_of_most, IsStep}
 use Rattle.wm_floor.specs.Ledger.{IsLedger, Ledgered}
 use Rattle.wm_floor.proofs.Counts.{risen_after}
+use Rattle.wm_floor.proofs.Untold.{grown_untold}
 use Rattle.wm_floor.proofs.ledger.Ledger.enter.Goals as goal
 
 pub invariant_of-self-2 : goal.invariant_of-self-2
@@ -39,5 +40,6 @@ invariant_of-self-2 g c =
     let now : ledger (j.log.items ++ e ∷ []) = record {
       journal = journal_with h j.limit j.stored.state s c.args.caller c.args.call c.args.now reply (T j.found.value) (T j.stored.keeper) (T c.step.new.stored.keeper) k;
       risen = risen_after (F j.found.value) j.misses c.step.new.misses (F j.stored.keeper) (F c.step.new.stored.keeper) c.step.result c.self.invariant.risen c.step.ensures.later c.step.ensures.counted c.step.ensures.missed;
+      untold = λ none. grown_untold (T j.stored.keeper).trail (T c.step.new.stored.keeper).trail _ c.in_ok-step.ensures.kept.trail (c.self.invariant.untold none);
     } in
     subst ledger (sym pushed) now
