@@ -9,7 +9,8 @@
 //! No clause says when `next` answers Dry or Closed, since what a listener has is shared by all desks: tests show it of the form in
 //! memory (`memory/`), which gives the connections of a list, then Dry, and behind a `close` Closed. Over the system (`system/`)
 //! `next` never answers Dry, and nothing is told: it is the trusted edge. It rests on `accept`, which gives each connection
-//! once, and on `shutdown` of the listening socket, which ends every `accept` that waits.
+//! once, on `shutdown` of the listening socket, which ends every `accept` that waits, and on the timeouts of a socket, by which
+//! a connection looks each second whether the listener was closed, and then ends.
 #![tactic(auto)]
 
 mod desk;
@@ -22,4 +23,4 @@ pub use desk::Desk;
 pub use listener::Listener;
 pub use memory::{MemDesk, MemListener, Returned};
 pub use next::Next;
-pub use system::{SysDesk, SysListener};
+pub use system::{Incoming, Outgoing, SysDesk, SysListener};

@@ -19,5 +19,6 @@ fn main(rt: HostRuntime) -> Result<()> {
     system::bytes_cross(&rt, &rt)?;
     system::a_close_wakes_who_waits(&rt, &rt)?;
     system::a_peer_that_left_ends_nothing(&rt, &rt)?;
+    system::a_close_ends_who_reads(&rt, &rt)?;
     Ok(())
 }

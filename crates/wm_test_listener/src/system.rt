@@ -1,27 +1,27 @@
 // A listener of the system, with peers of this program.
 use anyhow::Result;
+use std::alloc::Global;
 use std::io::{Read, Write};
 use std::net::{Net, SocketAddr, TcpListener, TcpStream};
 use std::sync::Wait;
 use std::thread::{self, Threads, join};
 use std::time::{Clock, Duration};
-use wm_listener::{Listener, Next, SysDesk, SysListener};
+use wm_listener::{Incoming, Listener, Next, Outgoing, SysDesk, SysListener};
 use wm_outside::{ReadSource, WriteSink};
 use wm_traits::{Failed, Sink, Source};
 
 // A listener at a free port, with its address.
 fn listening<R: Net<Listener = TcpListener, Stream = TcpStream>>(
     rt: &R,
+    alloc: Global,
 ) -> Result<(SysListener, SocketAddr)> {
     let listener = TcpListener::bind(rt, "127.0.0.1:0")?;
     let address = listener.local_addr()?;
-    Ok((SysListener::new(listener), address))
+    Ok((SysListener::new(alloc, listener)?, address))
 }
 
 // What a look answers, with nothing done to the connection.
-fn word_of(
-    next: &Result<Next<ReadSource<TcpStream>, WriteSink<TcpStream>>, Failed>,
-) -> &'static str {
+fn word_of(next: &Result<Next<ReadSource<Incoming>, WriteSink<Outgoing>>, Failed>) -> &'static str {
     match next {
         Ok(Next::Here(..)) => "here",
         Ok(Next::Dry) => "dry",
@@ -31,7 +31,7 @@ fn word_of(
 }
 
 // Reads four bytes, and sends them back.
-fn echo(mut input: ReadSource<TcpStream>, mut output: WriteSink<TcpStream>) -> usize {
+fn echo(mut input: ReadSource<Incoming>, mut output: WriteSink<Outgoing>) -> usize {
     let mut bytes = [0; 4];
     let read = input.read(&mut bytes).unwrap_or(0);
     output.write(&bytes[..read.min(4)]).unwrap_or(0)
@@ -42,7 +42,7 @@ pub fn bytes_cross<R: Net<Listener = TcpListener, Stream = TcpStream> + Wait>(
     rt: &R,
     host: &HostRuntime,
 ) -> Result<()> {
-    let (listener, address) = listening(rt)?;
+    let (listener, address) = listening(rt, host.alloc())?;
     let mut peer = TcpStream::connect(rt, address)?;
     peer.write_all(b"ping")?;
     let mut desk = SysDesk::new();
@@ -61,7 +61,7 @@ pub fn bytes_cross<R: Net<Listener = TcpListener, Stream = TcpStream> + Wait>(
 pub fn a_close_wakes_who_waits<
     R: Net<Listener = TcpListener, Stream = TcpStream> + Threads + Wait + Clock + Sync,
 >(rt: &R, host: &HostRuntime) -> Result<()> {
-    let (listener, _) = listening(rt)?;
+    let (listener, _) = listening(rt, host.alloc())?;
     let mut desk = SysDesk::new();
     let mut late = SysDesk::new();
     let (waited, _) = join(
@@ -86,7 +86,7 @@ pub fn a_peer_that_left_ends_nothing<R: Net<Listener = TcpListener, Stream = Tcp
     rt: &R,
     host: &HostRuntime,
 ) -> Result<()> {
-    let (listener, address) = listening(rt)?;
+    let (listener, address) = listening(rt, host.alloc())?;
     drop(TcpStream::connect(rt, address)?);
     let mut peer = TcpStream::connect(rt, address)?;
     peer.write_all(b"ping")?;
@@ -99,5 +99,30 @@ pub fn a_peer_that_left_ends_nothing<R: Net<Listener = TcpListener, Stream = Tcp
         word_of(&left),
         word_of(&here)
     )?;
+    Ok(())
+}
+
+/// A close ends the connection of a peer that is silent, which is then at its end, and so is one whose bytes weren't read yet.
+pub fn a_close_ends_who_reads<
+    R: Net<Listener = TcpListener, Stream = TcpStream> + Threads + Wait + Clock + Sync,
+>(rt: &R, host: &HostRuntime) -> Result<()> {
+    let (listener, address) = listening(rt, host.alloc())?;
+    let mut peer = TcpStream::connect(rt, address)?;
+    let mut desk = SysDesk::new();
+    let Ok(Next::Here(mut input, _output)) = listener.next(rt, &mut desk) else {
+        return Ok(());
+    };
+    let mut bytes = [0; 4];
+    let (silent, _) = join(
+        rt,
+        || input.read(&mut bytes).ok(),
+        || {
+            thread::sleep(rt, Duration::from_millis(100));
+            listener.close();
+        },
+    );
+    peer.write_all(b"ping")?;
+    let late = input.read(&mut bytes).ok();
+    println!(host; "a close ends who reads: {silent:?}, {late:?}")?;
     Ok(())
 }
