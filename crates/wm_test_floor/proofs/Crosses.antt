@@ -1,0 +1,16 @@
+-- What the threads of a round take with them.
+use denote.RattleType.{RattleType}
+use denote.Param.Send.{IsSend}
+use Rattle.wm_traits.specs.declared.keeper.Keeper as keeper
+use Rattle.wm_floor.proofs.Crosses.{passing, floors, struct_may_send}
+use Rattle.wm_outside.specs.contracts.memory.keeper.MemKeeper as MemKeeper
+use Rattle.wm_test_floor.specs.contracts.work.Post as Post
+
+pub MemKeeper-send : IsSend MemKeeper.the_row
+MemKeeper-send = search passing depth 400 fits 100000
+
+module _ (K : RattleType) (g : keeper.Ghosts K.Denot) where
+  pub Post-send : IsSend K → IsSend (Post.the_row K g)
+  Post-send s =
+      struct_may_send (Post.the_type K g)
+      (search passing depth 400 fits 100000, (search (floors, passing) depth 400 fits 100000, (search passing depth 400 fits 100000, (search passing depth 400 fits 100000, tt))))

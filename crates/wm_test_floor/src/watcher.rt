@@ -1,0 +1,83 @@
+// A monitor's thread, over a spawner and a clock in memory.
+ghost use Rattle.std.specs.Prelude.{List};
+ghost use Rattle.wm_law.specs.declared.call.Entry.{Entry};
+ghost use Rattle.wm_floor.specs.Floor.{IsPassOf};
+ghost use Rattle.wm_shared_monitor.specs.Scene.{OwesSeen};
+
+use crate::record::Watched;
+use anyhow::{Result, bail};
+use std::alloc::{AllocError, Global};
+use std::sync::Wait;
+use wm_base::{Asked, Moment};
+use wm_floor::{Floor, FloorPass};
+use wm_outside::{MemClock, MemSpawner};
+use wm_shared_monitor::SharedMonitor;
+use wm_traits::Keeper;
+
+/// A monitor with what it starts jobs by.
+#[derive(Drop)]
+pub struct Watcher {
+    monitor: SharedMonitor,
+    spawner: MemSpawner,
+    clock: MemClock,
+    sent: u64,
+}
+
+/// Adds what was asked, in a line.
+pub fn push_asked(alloc: Global, out: &mut Vec<u8>, asked: &Asked) -> Result<(), AllocError> {
+    let line = match asked {
+        Asked::Start(order) => format!(in alloc; "START {}\n", order.serial)?,
+        Asked::Kill(serial) => format!(in alloc; "KILL {serial}\n")?,
+    };
+    out.extend_from_slice(line.as_bytes())
+}
+
+impl Watcher {
+    /// A monitor that keeps nothing, and children that end by themselves after so many looks.
+    pub fn new(alloc: Global, lag: u32) -> Watcher
+        ensures { (seen : List Entry) → OwesSeen seen result.monitor }
+    {
+        let none = || Vec::new(alloc);
+        Watcher {
+            monitor: SharedMonitor::new(),
+            spawner: MemSpawner::new(alloc, lag, none(), none(), none()),
+            clock: MemClock::new(Moment::new(1000), 1),
+            sent: 0,
+        }
+    }
+
+    /// One turn.
+    pub fn turn<K: Keeper, R: Wait>(
+        &mut self,
+        rt: &R,
+        alloc: Global,
+        floor: &Floor<K>,
+        pass: &mut FloorPass<K>,
+    ) -> Result<()>
+        requires own { IsPassOf floor.now pass.old }
+        requires owes { OwesSeen pass.old.seen self.old.monitor }
+        ensures own { IsPassOf floor.now pass.new }
+        ensures owes { OwesSeen pass.new.seen self.new.monitor }
+    {
+        let turned = self
+            .monitor
+            .turn(rt, alloc, floor, pass, &mut self.spawner, &mut self.clock);
+        match turned {
+            Ok(turned) => self.sent = self.sent.saturating_add(u64::from(turned.sent)),
+            Err(_) => bail!("a monitor's turn ended early"),
+        }
+        Ok(())
+    }
+
+    /// What it was answered.
+    pub fn watched(&self, alloc: Global) -> Result<Watched> {
+        let mut asked = Vec::new(alloc);
+        for one in self.spawner.asked() {
+            push_asked(alloc, &mut asked, one)?;
+        }
+        Ok(Watched {
+            sent: self.sent,
+            asked,
+        })
+    }
+}
