@@ -1,2 +1,9 @@
 pub mod Connections
+pub mod Done
+pub mod Ending
+pub mod Halts
 pub mod Monitors
+pub mod Parts
+pub mod Seating
+pub mod Seats
+pub mod Server

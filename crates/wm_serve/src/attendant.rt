@@ -15,7 +15,7 @@ use wm_shared_monitor::SharedMonitor;
 use wm_traits::{Clock, Keeper, Spawner};
 
 // Until when a monitor waits: the moment at which something is due next, but a second at the most, since others give orders too.
-fn wait_until(now: Moment, next: Option<Moment>) -> Moment {
+pub(crate) fn wait_until(now: Moment, next: Option<Moment>) -> Moment {
     let second = if now.get() < Moment::MAX {
         Moment::new(now.get() + 1)
     } else {

@@ -23,6 +23,8 @@ pub enum Stopped {
     Closed,
     /// A look for a connection failed.
     Failed,
+    /// There was no memory to begin with.
+    NoMemory,
 }
 
 // Serves one connection and gives it back. Once the power isn't on any more, the listener is closed.

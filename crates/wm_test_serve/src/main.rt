@@ -1,18 +1,25 @@
 //! What one thread of a server does, over a floor in memory: a worker serves the connections of a listener until none can come
-//! any more, and a monitor starts the job that one of them has submitted and reports its end. The threads run one after another.
-//! What is printed, and must be printed: why the worker stopped, what was written of each connection, what the monitor has met,
-//! and the history.
+//! any more, and a monitor starts the job that one of them has submitted and reports its end, one after another. And a whole
+//! server with two workers and two monitors at once, of which one worker is held before its first call until the other's first
+//! answer was written: so both are at work at once. What is printed, and must be printed: why the worker stopped, what was
+//! written of each connection, what the monitor has met, and the history; and what the server came to, as far as it isn't the
+//! threads' doing.
 #![tactic(auto)]
 
+mod holding;
+mod seats;
+mod server;
 mod site;
 mod told;
 mod unused;
 
 use anyhow::Result;
+use server::play_server;
 use site::play;
 
 fn main(rt: HostRuntime) -> Result<()> {
     let told = play(&rt, rt.alloc())?;
     print!(&rt; "{told}")?;
+    print!(&rt; "{}", play_server(&rt, rt.alloc())?)?;
     Ok(())
 }

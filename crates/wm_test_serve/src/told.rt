@@ -14,6 +14,7 @@ pub fn tell_stopped(stopped: Stopped, told: &mut String) -> Result<()> {
         Stopped::Dry => "no connection can come any more",
         Stopped::Closed => "the listener was closed",
         Stopped::Failed => "a look failed",
+        Stopped::NoMemory => "there was no memory",
     };
     writeln!(told, "worker: {word}")?;
     Ok(())

@@ -1,5 +1,5 @@
 use Rattle.std.proofs.Common.{arith}
-use Rattle.wm_serve.proofs.Served.{DeskServes-one}
+use Rattle.wm_serve.proofs.Connected.{DeskServes-one}
 use Rattle.wm_serve.proofs.worker.serve_connection.Goals as goal
 
 pub returns-then-not-matches-clause-served : goal.returns-then-not-matches-clause-served

@@ -1,7 +1,7 @@
 use Rattle.std.proofs.Common.{◌∙◌}
 use Rattle.wm_serve.proofs.Looking.{same_then}
 use Rattle.wm_serve.proofs.Nexts.{here_not_dry}
-use Rattle.wm_serve.proofs.Served.{DeskServes-stays, DeskServes-then}
+use Rattle.wm_serve.proofs.Connected.{DeskServes-stays, DeskServes-then}
 use Rattle.wm_serve.proofs.worker.work.Goals as goal
 
 pub connections-preserved : goal.connections-preserved

@@ -1,0 +1,138 @@
+-- The history of a server from the rows that it found.
+use Rattle.std.proofs.Common.{◌≡◌, ◌⊎◌, ◌≤◌, ℕ, ℤ, true, List, [], Option, Some, None, IfSome, is_some, refl, sym, ap, subst, ◌∙◌, inl, inr, arith}
+use Rattle.std.proofs.lemmas.Bool.{true≢false, false≢true}
+use Rattle.wm_traits.specs.Told.{Grows, Stays}
+use Rattle.wm_traits.proofs.Telling.{Grows-none}
+use Rattle.wm_traits.specs.declared.fault.KeepFault.{KeepFault}
+use Rattle.wm_traits.specs.declared.fault.KeepFault.TheVariants as keep
+use Rattle.wm_traits.specs.declared.row.Row.{Row}
+use Rattle.wm_law.specs.History.{IsLegal}
+use Rattle.wm_law.specs.declared.state.State.{State}
+use Rattle.wm_law.specs.Pending.{active}
+use Rattle.wm_law.specs.declared.call.Entry.{Entry}
+use Rattle.wm_law.proofs.Sound.{limits_are_kept, order_is_kept}
+use Rattle.wm_chain.proofs.Starting.{runs_start_once}
+use Rattle.wm_tables.specs.Restart.{IsBad}
+use Rattle.wm_tables.proofs.Restarts.{restart_is_sound}
+use Rattle.wm_journal.specs.History.{reached}
+use Rattle.wm_journal.specs.Keeping.{IsLeft, IsOpened, Telling}
+use Rattle.wm_journal.specs.OpenFaults.{NamesBad}
+use Rattle.wm_journal.specs.Stored.{HasTables}
+use Rattle.wm_journal.specs.Trail.{HasTrail}
+use Rattle.wm_journal.specs.declared.open_fault.OpenFault.{OpenFault}
+use Rattle.wm_journal.specs.declared.open_fault.OpenFault.TheVariants.{KeeperFault, BadRow, NoMemory}
+use Rattle.wm_journal.proofs.Trails.{trail_opened}
+use Rattle.wm_run.specs.Kept.{HasBadRow}
+use Rattle.wm_floor.specs.Floor.{IsLeftOrOpened}
+use Rattle.wm_floor.specs.Ledger.{behind}
+use Rattle.wm_floor.specs.declared.opened.Opened.{Opened}
+use Rattle.wm_serve.specs.Ending.{HasWritten}
+use Rattle.wm_serve.specs.Server.{HasHistory, HasNone, IsServeStatus, IsUnopened, open_status, store_status}
+
+is_told : {A : Type 0} (told : Option A) → is_some told ≡ true → told ≡ None → ⊥
+is_told told some none = absurd (false≢true (sym (ap is_some none) ∙ some))
+
+-- the rows that a machine opened with are those that were told, where the tables are told to the end
+rows_found : (tables : Option (List Row)) (trail trail' trail'' : Option (List (List Row))) (tables'' : Option (List Row)) (rows : List Row) (more : List (List Row)) → IfSome tables (λ told. told ≡ rows) → Grows trail trail' more → (trail' ≡ None → trail'' ≡ None) → is_some trail ≡ is_some tables → is_some trail'' ≡ is_some tables'' → IfSome tables'' (λ (_ : List Row). tables ≡ Some rows)
+rows_found tables trail trail' trail'' None rows more told grown untold both both' = tt
+rows_found tables trail None trail'' (Some last) rows more told grown untold both both' = absurd (is_told trail'' both' (untold refl))
+rows_found tables None (Some mid) trail'' (Some last) rows more told grown untold both both' = absurd grown
+rows_found None (Some first) (Some mid) trail'' (Some last) rows more told grown untold both both' = absurd (true≢false both)
+rows_found (Some x) (Some first) (Some mid) trail'' (Some last) rows more told grown untold both both' = ap Some told
+
+-- a server over a keeper whose floor was opened
+pub opened_server : {K : Type 0} (offset : ℤ) (status : ℕ) (log : List Entry) (o : Opened K) (found opened closed : Telling) → IsOpened offset o.state found opened → IsLegal o.state log → (status ≡ 0 → active (reached (behind o log)) ≡ 0) → HasTables (reached (behind o log)) closed.tables → HasTrail (behind o log) found closed → (opened.trail ≡ None → closed.trail ≡ None) → is_some found.trail ≡ is_some found.tables → is_some closed.trail ≡ is_some closed.tables → HasHistory offset status log found closed
+opened_server offset status log o found opened closed h legal idle tables trail untold both both' =
+    let sound = restart_is_sound offset h.found o.state h.restart in
+    record {
+      opened = o.state;
+      rows = h.found;
+      found = rows_found found.tables found.trail opened.trail closed.trail closed.tables h.found _ h.told h.trail untold both both';
+      restart = h.restart;
+      legal = legal;
+      limits = limits_are_kept o.state log sound;
+      order = order_is_kept o.state log sound;
+      starts = runs_start_once offset h.found o.state log h.restart legal;
+      idle = idle;
+      tables = tables;
+      trail = trail;
+    }
+
+-- The status of a server whose floor didn't open
+
+pub open_early : (fault : OpenFault) → IsUnopened (open_status fault)
+open_early KeeperFault = refl
+open_early (BadRow n) = refl
+open_early NoMemory = refl
+
+pub store_early : (fault : KeepFault) → IsUnopened (store_status fault)
+store_early keep.Failed = refl
+store_early keep.NoMemory = refl
+
+-- A server whose floor didn't open
+
+opened_none : (offset : ℤ) (status : ℕ) (s : State) (old new : Telling) → IsOpened offset s old new → (status ≡ 0 → ⊥) → is_some old.trail ≡ is_some old.tables → is_some new.trail ≡ is_some new.tables → HasHistory offset status [] old new
+opened_none offset status s old new h early both both' =
+    let sound = restart_is_sound offset h.found s h.restart in
+    record {
+      opened = s;
+      rows = h.found;
+      found = rows_found old.tables old.trail new.trail new.trail new.tables h.found _ h.told h.trail (λ none. none) both both';
+      restart = h.restart;
+      legal = tt;
+      limits = limits_are_kept s [] sound;
+      order = order_is_kept s [] sound;
+      starts = runs_start_once offset h.found s [] h.restart tt;
+      idle = λ ended. absurd (early ended);
+      tables = h.rows;
+      trail = trail_opened offset s old new h;
+    }
+
+pub unopened_server : (offset : ℤ) (fault : OpenFault) (status : ℕ) (old new : Telling) → status ≡ open_status fault → IsLeftOrOpened offset old new fault → is_some old.trail ≡ is_some old.tables → is_some new.trail ≡ is_some new.tables → HasNone offset status old new
+unopened_server offset fault status old new is left both both' = record { early = subst IsUnopened (sym is) (open_early fault); left = by left }
+  where
+    by : IsLeftOrOpened offset old new fault → IsLeft old new ⊎ ((status ≡ 6) × HasHistory offset status [] old new)
+    by (inl same) = inl same
+    by (inr (memory, opened)) =
+        let six : status ≡ 6 = is ∙ ap open_status memory in
+        inr (six, opened_none offset status opened.0 old new opened.1 (λ none. absurd (omega (arith, six, none))) both both')
+
+-- its status is none of words, and none but that of a fault of the rows
+pub open_begun : (fault : OpenFault) (status : ℕ) → status ≡ open_status fault → 5 ≤ status
+open_begun KeeperFault status is = omega arith
+open_begun (BadRow n) status is = omega arith
+open_begun NoMemory status is = omega arith
+
+open_listed : (fault : OpenFault) → IsServeStatus (open_status fault)
+open_listed KeeperFault = refl
+open_listed (BadRow n) = refl
+open_listed NoMemory = refl
+
+pub unopened_listed : (fault : OpenFault) (status : ℕ) → status ≡ open_status fault → IsServeStatus status
+unopened_listed fault status is = subst IsServeStatus (sym is) (open_listed fault)
+
+pub open_failed : (fault : OpenFault) (status : ℕ) → status ≡ open_status fault → status ≡ 5 → fault ≡ KeeperFault
+open_failed KeeperFault status is five = refl
+open_failed (BadRow n) status is five = absurd (omega arith)
+open_failed NoMemory status is five = absurd (omega arith)
+
+-- of statuses between that of a keeper's fault and that of rows there is one
+pub open_only : (fault : OpenFault) (status : ℕ) → status ≡ open_status fault → (status ≡ 5) ⊎ ((status ≡ 6) ⊎ (status ≡ 9))
+open_only KeeperFault status is = inl is
+open_only (BadRow n) status is = inr (inr is)
+open_only NoMemory status is = inr (inl is)
+
+bad_row_kept : (offset : ℤ) (n : ℕ) (old new : Option (List Row)) → IfSome old (λ rows. IsBad offset rows n) → Stays old new → HasBadRow offset old new
+bad_row_kept offset n old None bad stays = tt
+bad_row_kept offset n None (Some now) bad stays = absurd stays
+bad_row_kept offset n (Some before) (Some now) bad stays = (ap Some (sym stays), (n, subst (λ (rows : List Row). IsBad offset rows n) (sym stays) bad))
+
+pub bad_row_told : (offset : ℤ) (fault : OpenFault) (status : ℕ) (old new : Telling) → status ≡ open_status fault → NamesBad offset old.tables fault → IsLeftOrOpened offset old new fault → status ≡ 9 → HasBadRow offset old.tables new.tables
+bad_row_told offset KeeperFault status old new is bad left nine = absurd (omega arith)
+bad_row_told offset NoMemory status old new is bad left nine = absurd (omega arith)
+bad_row_told offset (BadRow n) status old new is bad (inl left) nine = bad_row_kept offset n old.tables new.tables bad left.tables
+bad_row_told offset (BadRow n) status old new is bad (inr (memory, opened)) nine = absurd (cc)
+
+-- it wrote nothing
+pub written_none : (status : ℕ) (told : Option (List ℕ)) → (status ≡ 0 → ⊥) → HasWritten status told told
+written_none status told early = record { part = (0, Grows-none told); all = λ ended. absurd (early ended) }

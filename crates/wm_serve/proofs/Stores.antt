@@ -1,0 +1,128 @@
+-- What a server tells of the keeper, as the store tells it whose keeper it was.
+use Rattle.std.proofs.Common.{◌≡◌, ◌⊎◌, ◌≤◌, ℕ, ℤ, true, List, [], Option, Some, None, IfSome, is_some, refl, sym, ap, subst, ◌∙◌, inl, inr, arith}
+use Rattle.std.proofs.lemmas.Bool.{false≢true}
+use Rattle.wm_traits.specs.Cause.{PassesOn, raised}
+use Rattle.wm_traits.specs.Told.{Grows, Stays}
+use Rattle.wm_traits.specs.declared.fault.KeepFault.{KeepFault}
+use Rattle.wm_traits.specs.declared.fault.KeepFault.TheVariants as keep
+use Rattle.wm_traits.specs.declared.row.Row.{Row}
+use Rattle.wm_law.specs.declared.call.Entry.{Entry}
+use Rattle.wm_tables.specs.Restart.{IsBad}
+use Rattle.wm_journal.specs.History.{History}
+use Rattle.wm_journal.specs.Keeping.{IsLeft, Telling}
+use Rattle.wm_journal.specs.Trail.{HasTrail, tables_along, without_repeats}
+use Rattle.wm_journal.proofs.Staying.{Stays-grows}
+use Rattle.wm_run.specs.Kept.{HasBadRow}
+use Rattle.wm_run.proofs.Openings.{Grows-stays, Stays-then, stays_back, stays_if}
+use Rattle.wm_serve.specs.Server.{HasHistory, HasLog, HasNone, IsServeStatus, IsUnopened, store_status}
+
+-- the trail is that of the history, where the tables are told to the end
+trail_of_store : (h : History) (old found closed new : Telling) (rows : List Row) → IfSome new.tables (λ _. found.tables ≡ Some rows) → Stays old.tables found.tables → Stays old.trail found.trail → Stays closed.trail new.trail → is_some new.trail ≡ is_some new.tables → HasTrail h found closed → HasTrail h old new
+trail_of_store h old found closed new rows were tables trail trail' both has = go old.tables tables new.trail trail' both
+  where
+    along : List Row → List (List Row)
+    along rs = without_repeats rs (tables_along h.opened h.log)
+
+    grown : (told : List Row) → Stays (Some told) found.tables → (now : List (List Row)) → Stays closed.trail (Some now) → found.tables ≡ Some rows → Grows old.trail (Some now) (along told)
+    grown told stays now trails is =
+        let first : Some told ≡ Some rows = stays_back rows (Some told) found.tables stays is in
+        let its : IfSome (Some rows) (λ rs. Grows found.trail closed.trail (along rs)) = subst (λ (o : Option (List Row)). IfSome o (λ rs. Grows found.trail closed.trail (along rs))) is has in
+        let grows = Stays-grows old.trail found.trail (Some now) (along rows) trail (Grows-stays found.trail closed.trail (Some now) (along rows) its trails) in
+        subst (λ (o : Option (List Row)). IfSome o (λ rs. Grows old.trail (Some now) (along rs))) (sym first) grows
+
+    by : (o : Option (List Row)) → IfSome o (λ _. found.tables ≡ Some rows) → is_some o ≡ true → found.tables ≡ Some rows
+    by None h none = absurd (false≢true none)
+    by (Some last) h some = h
+
+    go : (o : Option (List Row)) → Stays o found.tables → (t : Option (List (List Row))) → Stays closed.trail t → is_some t ≡ is_some new.tables → IfSome o (λ rs. Grows old.trail t (along rs))
+    go None s t k e = tt
+    go (Some told) s None k e = tt
+    go (Some told) s (Some now) k e = grown told s now k (by new.tables were (sym e))
+
+history_of_store : (offset : ℤ) (status : ℕ) (log : List Entry) (old found closed new : Telling) → Stays old.tables found.tables → Stays old.trail found.trail → Stays closed.tables new.tables → Stays closed.trail new.trail → is_some new.trail ≡ is_some new.tables → HasHistory offset status log found closed → HasHistory offset status log old new
+history_of_store offset status log old found closed new tables trail tables' trail' both h =
+    let were : IfSome new.tables (λ _. found.tables ≡ Some h.rows) = stays_if (λ _. found.tables ≡ Some h.rows) closed.tables new.tables tables' h.found in
+    record {
+      opened = h.opened;
+      rows = h.rows;
+      found = if_told new.tables were;
+      restart = h.restart;
+      legal = h.legal;
+      limits = h.limits;
+      order = h.order;
+      starts = h.starts;
+      idle = h.idle;
+      tables = stays_if _ closed.tables new.tables tables' h.tables;
+      trail = trail_of_store (record { opened = h.opened; log = log }) old found closed new h.rows were tables trail trail' both h.trail;
+    }
+  where
+    if_told : (o : Option (List Row)) → IfSome o (λ _. found.tables ≡ Some h.rows) → IfSome o (λ _. old.tables ≡ Some h.rows)
+    if_told None k = tt
+    if_told (Some last) k = stays_back h.rows old.tables found.tables tables k
+
+pub log_of_store : (offset : ℤ) (status : ℕ) (log : Option (List Entry)) (old found closed new : Telling) → Stays old.tables found.tables → Stays old.trail found.trail → Stays closed.tables new.tables → Stays closed.trail new.trail → is_some new.trail ≡ is_some new.tables → HasLog offset status log found closed → HasLog offset status log old new
+log_of_store offset status (Some log) old found closed new tables trail tables' trail' both h = history_of_store offset status log old found closed new tables trail tables' trail' both h
+log_of_store offset status None old found closed new tables trail tables' trail' both h = record { early = h.early; left = by h.left }
+  where
+    by : IsLeft found closed ⊎ ((status ≡ 6) × HasHistory offset status [] found closed) → IsLeft old new ⊎ ((status ≡ 6) × HasHistory offset status [] old new)
+    by (inl left) =
+        inl (record {
+          tables = Stays-then old.tables found.tables new.tables tables (Stays-then found.tables closed.tables new.tables left.tables tables');
+          trail = Stays-then old.trail found.trail new.trail trail (Stays-then found.trail closed.trail new.trail left.trail trail');
+        })
+    by (inr (six, k)) = inr (six, history_of_store offset status [] old found closed new tables trail tables' trail' both k)
+
+pub bad_row_of_store : (offset : ℤ) (old found closed new : Option (List Row)) → Stays old found → Stays closed new → HasBadRow offset found closed → HasBadRow offset old new
+bad_row_of_store offset old found closed new tables tables' h = go new (stays_if _ closed new tables' h)
+  where
+    go : (o : Option (List Row)) → IfSome o (λ rows. (found ≡ Some rows) × ((n : ℕ) × IsBad offset rows n)) → IfSome o (λ rows. (old ≡ Some rows) × ((n : ℕ) × IsBad offset rows n))
+    go None k = tt
+    go (Some rows) k = (stays_back rows old found tables k.0, k.1)
+
+-- a count of the keeper, which begins with 0, is passed on
+pub fault_of_store : (found closed old new : ℕ) → found ≡ 0 → raised found ≤ closed → PassesOn closed old new → raised old ≤ new
+fault_of_store found closed old new none rose passes = passes.passed (omega (arith, none, rose))
+
+-- A server that had no keeper
+
+pub log_left : (offset : ℤ) (status : ℕ) (log : Option (List Entry)) (old new : Telling) → log ≡ None → IsUnopened status → Stays old.tables new.tables → Stays old.trail new.trail → HasLog offset status log old new
+log_left offset status log old new none early tables trail =
+    subst (λ (l : Option (List Entry)). HasLog offset status l old new) (sym none) (record { early = early; left = inl (record { tables = tables; trail = trail }) })
+
+-- the status of words that are none of a server, or that couldn't be read
+
+words_with : (Q : ℕ → Type 0) (n m : ℕ) → Q 2 → Q 6 → n ≡ m → (m ≡ 2) ⊎ (m ≡ 6) → Q n
+words_with Q n m q2 q6 is (inl two) = subst Q (sym (is ∙ two)) q2
+words_with Q n m q2 q6 is (inr six) = subst Q (sym (is ∙ six)) q6
+
+pub words_either : (n m : ℕ) → n ≡ m → (m ≡ 2) ⊎ (m ≡ 6) → (n ≡ 2) ⊎ (n ≡ 6)
+words_either n m = words_with (λ k. (k ≡ 2) ⊎ (k ≡ 6)) n m (inl refl) (inr refl)
+
+pub words_unopened : (n m : ℕ) → n ≡ m → (m ≡ 2) ⊎ (m ≡ 6) → IsUnopened n
+words_unopened n m = words_with IsUnopened n m refl refl
+
+pub words_listed : (n m : ℕ) → n ≡ m → (m ≡ 2) ⊎ (m ≡ 6) → IsServeStatus n
+words_listed n m = words_with IsServeStatus n m refl refl
+
+pub words_begun : (n m : ℕ) → n ≡ m → (m ≡ 2) ⊎ (m ≡ 6) → n ≡ 0 → ⊥
+words_begun n m is (inl two) none = absurd (omega arith)
+words_begun n m is (inr six) none = absurd (omega arith)
+
+-- the status of a store that gave no keeper
+
+store_with : (Q : ℕ → Type 0) (fault : KeepFault) (status : ℕ) → Q 5 → Q 6 → status ≡ store_status fault → Q status
+store_with Q keep.Failed status q5 q6 is = subst Q (sym is) q5
+store_with Q keep.NoMemory status q5 q6 is = subst Q (sym is) q6
+
+pub store_range : (fault : KeepFault) (status : ℕ) → status ≡ store_status fault → (5 ≤ status) × (status ≤ 6)
+store_range fault status = store_with (λ n. (5 ≤ n) × (n ≤ 6)) fault status (omega arith, omega arith) (omega arith, omega arith)
+
+pub store_unopened : (fault : KeepFault) (status : ℕ) → status ≡ store_status fault → IsUnopened status
+store_unopened fault status = store_with IsUnopened fault status refl refl
+
+pub store_listed : (fault : KeepFault) (status : ℕ) → status ≡ store_status fault → IsServeStatus status
+store_listed fault status = store_with IsServeStatus fault status refl refl
+
+pub store_failed : (fault : KeepFault) (status : ℕ) → status ≡ store_status fault → status ≡ 5 → fault ≡ keep.Failed
+store_failed keep.Failed status is five = refl
+store_failed keep.NoMemory status is five = absurd (omega arith)

@@ -1,0 +1,154 @@
+-- What a whole server makes of the rows that it finds, and leaves of them.
+use Rattle.std.specs.Prelude.{◌≡◌, ◌⊎◌, ℕ, ℤ, ◌+◌, ◌≤◌, ◌==◌, ◌&&◌, Bool, true, false, List, [], ◌∷◌, drop, length, pos, take, ⊤, Option, Some, None, IfSome, nat_eq}
+use Rattle.std.specs.List.{list_all, list_any}
+use Rattle.wm_traits.specs.Cause.{raised}
+use Rattle.wm_traits.specs.declared.fault.KeepFault.{KeepFault}
+use Rattle.wm_traits.specs.declared.fault.KeepFault.TheVariants as keep
+use Rattle.wm_traits.specs.declared.row.Row.{Row}
+use Rattle.wm_law.specs.History.{after, IsLegal}
+use Rattle.wm_law.specs.Limits.{KeepsLimits}
+use Rattle.wm_law.specs.Order.{KeepsOrder}
+use Rattle.wm_law.specs.Pending.{active}
+use Rattle.wm_law.specs.declared.call.Entry.{Entry}
+use Rattle.wm_law.specs.declared.state.State.{State}
+use Rattle.wm_chain.specs.Starts.{StartsOnce}
+use Rattle.wm_tables.specs.Restart.{IsRestart}
+use Rattle.wm_journal.specs.Keeping.{IsLeft, Telling}
+use Rattle.wm_journal.specs.Stored.{HasTables}
+use Rattle.wm_journal.specs.Trail.{HasTrail}
+use Rattle.wm_journal.specs.declared.open_fault.OpenFault.{OpenFault}
+use Rattle.wm_journal.specs.declared.open_fault.OpenFault.TheVariants as open_fault
+use Rattle.wm_floor.specs.Floor.{Seen}
+use Rattle.wm_plan.specs.Plans.{plan_of}
+use Rattle.wm_plan.specs.declared.plan.Plan.{Plan}
+use Rattle.wm_plan.specs.declared.plan.Plan.TheVariants.{Run, Serve, Drill}
+use Rattle.wm_plan.specs.declared.plan.ServePlan.{ServePlan}
+use Rattle.wm_serve.specs.Seats.{Tellers}
+use Rattle.wm_serve.specs.declared.halt.Halt.{Halt}
+use Rattle.wm_serve.specs.declared.halt.Halt.TheVariants.{WriteFault, KeeperFault, LogFull, WaitFault, ListenFault}
+use Rattle.wm_serve.specs.declared.seat.Seat.{Seat}
+use Rattle.wm_serve.specs.declared.seat.Seat.TheVariants.{Worker, Closer, Monitor}
+
+-- the plan of a server, where it is one
+abbrev pub of_serve : Option Plan → Option ServePlan
+of_serve None = None
+of_serve (Some (Run plan)) = None
+of_serve (Some (Serve plan)) = Some plan
+of_serve (Some (Drill plan)) = None
+
+-- the plan of a server that words are
+abbrev pub serve_plan : List (List ℕ) → Option ServePlan
+serve_plan words = of_serve (plan_of words)
+
+-- a server whose floor was opened: its history is one from a state of the rows that it found, where local time is so far ahead of UTC
+pub record HasHistory (offset : ℤ) (status : ℕ) (log : List Entry) (old new : Telling) : Type 0 where
+  pub opened : State
+  pub rows : List Row
+  -- where the tables are told to the end, these are the rows that were told
+  pub found : IfSome new.tables (λ _. old.tables ≡ Some rows)
+  pub restart : IsRestart offset rows opened
+  pub legal : IsLegal opened log
+  pub limits : KeepsLimits opened log
+  pub order : KeepsOrder opened log
+  pub starts : StartsOnce rows opened log
+  pub idle : status ≡ 0 → active (after opened log) ≡ 0
+  pub tables : HasTables (after opened log) new.tables
+  pub trail : HasTrail (record { opened = opened; log = log }) old new
+
+-- the status of a server whose store gave no keeper
+abbrev pub store_status : KeepFault → ℕ
+store_status keep.Failed = 5
+store_status keep.NoMemory = 6
+
+-- the status of a server whose floor didn't open with the rows
+abbrev pub open_status : OpenFault → ℕ
+open_status open_fault.KeeperFault = 5
+open_status (open_fault.BadRow n) = 9
+open_status open_fault.NoMemory = 6
+
+-- the statuses of a server
+abbrev pub serve_statuses : List ℕ
+serve_statuses = 0 ∷ 2 ∷ 4 ∷ 5 ∷ 6 ∷ 7 ∷ 8 ∷ 9 ∷ 10 ∷ []
+
+-- a status is one of these
+abbrev pub IsServeStatus : ℕ → Type 0
+IsServeStatus status = list_any (nat_eq status) serve_statuses ≡ true
+
+-- the statuses of a server whose floor wasn't opened
+abbrev pub IsUnopened : ℕ → Type 0
+IsUnopened status = list_any (nat_eq status) (2 ∷ 5 ∷ 6 ∷ 9 ∷ []) ≡ true
+
+-- such a server left the rows or, for want of memory, has a history with no entry
+pub record HasNone (offset : ℤ) (status : ℕ) (old new : Telling) : Type 0 where
+  pub early : IsUnopened status
+  pub left : IsLeft old new ⊎ ((status ≡ 6) × HasHistory offset status [] old new)
+
+-- the one or the other
+abbrev pub HasLog : ℤ → ℕ → Option (List Entry) → Telling → Telling → Type 0
+HasLog offset status None old new = HasNone offset status old new
+HasLog offset status (Some log) old new = HasHistory offset status log old new
+
+-- of a seat before and behind, at one place at least
+abbrev pub AnyZip : {A B : Type 0} → (A → B → Type 0) → List A → List B → Type 0
+AnyZip R [] ys = ⊥
+AnyZip R (x ∷ xs) [] = ⊥
+AnyZip R (x ∷ xs) (y ∷ ys) = R x y ⊎ AnyZip R xs ys
+
+module _ {K D P C : Type 0} where
+  abbrev pub is_worker : Seat K D P C → Bool
+  is_worker (Worker w) = true
+  is_worker (Closer c) = false
+  is_worker (Monitor m) = false
+
+  abbrev pub is_closer : Seat K D P C → Bool
+  is_closer (Worker w) = false
+  is_closer (Closer c) = true
+  is_closer (Monitor m) = false
+
+  abbrev pub is_monitor : Seat K D P C → Bool
+  is_monitor (Worker w) = false
+  is_monitor (Closer c) = false
+  is_monitor (Monitor m) = true
+
+  -- the seats are so many workers', a closer's and so many monitors', in this order
+  abbrev pub are_fit : ℕ → ℕ → List (Seat K D P C) → Bool
+  are_fit workers monitors seats =
+      length seats == workers + 1 + monitors && (list_all is_worker (take workers seats) && (list_all is_closer (take 1 (drop workers seats)) && list_all is_monitor (drop (workers + 1) seats)))
+
+  -- the count of a monitor's spawner rose
+  abbrev pub SpawnerRose : Tellers D P → Seat K D P C → Seat K D P C → Type 0
+  SpawnerRose t (Monitor m) (Monitor m') = raised (t.faults m.spawner) ≤ t.faults m'.spawner
+  SpawnerRose t (Worker w) new = ⊥
+  SpawnerRose t (Closer c) new = ⊥
+  SpawnerRose t (Monitor m) (Worker w') = ⊥
+  SpawnerRose t (Monitor m) (Closer c') = ⊥
+
+  -- the count of a worker's desk rose
+  abbrev pub DeskRose : Tellers D P → Seat K D P C → Seat K D P C → Type 0
+  DeskRose t (Worker w) (Worker w') = raised (t.looks w.desk) ≤ t.looks w'.desk
+  DeskRose t (Worker w) (Closer c') = ⊥
+  DeskRose t (Worker w) (Monitor m') = ⊥
+  DeskRose t (Closer c) new = ⊥
+  DeskRose t (Monitor m) new = ⊥
+
+  -- why a server over its floor ended early: what rose, or how long the history is behind its end
+  pub record IsEndHalt (t : Tellers D P) (limit writes writes_now : ℕ) (old new : List (Seat K D P C)) (last : Seen K) (h : Halt) : Type 0 where
+    pub write : h ≡ WriteFault → raised writes ≤ writes_now
+    pub keeper : h ≡ KeeperFault → 1 ≤ last.mark
+    pub full : h ≡ LogFull → limit ≤ length last.seen
+    pub wait : h ≡ WaitFault → AnyZip (SpawnerRose t) old new
+    pub listen : h ≡ ListenFault → AnyZip (DeskRose t) old new
+
+-- what a server with the plan goes by; without a plan, no time ahead of UTC and the greatest limit
+abbrev pub offset_of : Option ServePlan → ℤ
+offset_of None = pos 0
+offset_of (Some plan) = plan.offset
+
+abbrev pub limit_of : Option ServePlan → ℕ
+limit_of None = 1000000
+limit_of (Some plan) = plan.log_limit
+
+-- there is no plan, or the seats aren't as it says
+abbrev pub IsUnfit : {K D P C : Type 0} → Option ServePlan → List (Seat K D P C) → Type 0
+IsUnfit None seats = ⊤
+IsUnfit (Some plan) seats = are_fit plan.workers plan.monitors seats ≡ false
