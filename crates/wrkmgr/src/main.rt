@@ -1,7 +1,12 @@
 //! The program `wrkmgr`: `main` reads the words of the command line, makes the store that they name and the other real
-//! objects, makes the one call of `run` or of `drill`, and ends with its status. What is promised is the contract of `run` of
-//! `wm_run` and that of `drill` of `wm_drill`.
+//! objects, makes the one call of `run`, of `serve` or of `drill`, and ends with its status. What is promised is the contract of
+//! `run` of `wm_run`, that of `serve` of `wm_serve` and that of `drill` of `wm_drill`. A server's objects are in `serving`, the
+//! seats of its threads in `seats`, and what wakes its monitors in `gate`.
 #![tactic(auto)]
+
+mod gate;
+mod seats;
+mod serving;
 
 ghost use Rattle.std.specs.Prelude.{◌≡◌, ◌⊎◌, IfErr, codes, false, map, string_bytes, true};
 ghost use Rattle.std.specs.Process.{exit_status};
@@ -11,6 +16,7 @@ ghost use Rattle.wm_drill.specs.Words.{is_drill};
 ghost use Rattle.wm_run.specs.Run.{IsRunStatus};
 ghost use Rattle.wm_run.specs.Words.{is_run};
 
+use crate::serving::serve_planned;
 use std::env;
 use std::io::ErrorKind;
 use std::process::ExitCode;
@@ -145,8 +151,9 @@ fn main(rt: HostRuntime) -> ExitCode {
             Ok(mut spawner) => run_planned(&rt, &rt, &words, &plan, &mut spawner),
             Err(_) => ExitCode::from(NO_MEMORY),
         },
+        Ok(Plan::Serve(plan)) => serve_planned(&rt, &rt, &words, &plan),
         Ok(Plan::Drill(_)) => drill_program(&rt, &rt, &words),
-        Ok(Plan::Serve(_)) | Err(WordFault::Bad) => ExitCode::from(WRONG_WORDS),
+        Err(WordFault::Bad) => ExitCode::from(WRONG_WORDS),
         Err(WordFault::NoMemory) => ExitCode::from(NO_MEMORY),
     }
 }
