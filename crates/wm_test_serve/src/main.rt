@@ -7,6 +7,7 @@
 #![tactic(auto)]
 
 mod holding;
+mod rows;
 mod seats;
 mod server;
 mod site;
@@ -14,12 +15,14 @@ mod told;
 mod unused;
 
 use anyhow::Result;
+use rows::play_rows;
 use server::play_server;
 use site::play;
 
 fn main(rt: HostRuntime) -> Result<()> {
-    let told = play(&rt, rt.alloc())?;
+    let mut told = play(&rt, rt.alloc())?;
+    told.push_str(&play_server(&rt, rt.alloc())?)?;
+    play_rows(&rt, rt.alloc(), &mut told)?;
     print!(&rt; "{told}")?;
-    print!(&rt; "{}", play_server(&rt, rt.alloc())?)?;
     Ok(())
 }

@@ -38,14 +38,22 @@ fn add_monitor(alloc: Global, crew: &mut TestCrew) -> Result<(), AllocError>
     crew.push(Seat::monitor(spawner, clock()))
 }
 
-/// The seats of two workers, the closer and two monitors.
-pub fn add_seats(alloc: Global, crew: &mut TestCrew) -> Result<(), AllocError>
+/// The seats of so many workers, the closer and so many monitors.
+pub fn add_seats(
+    alloc: Global,
+    workers: u32,
+    monitors: u32,
+    crew: &mut TestCrew,
+) -> Result<(), AllocError>
     requires fresh { AreFresh crew.old.seats.items }
     ensures fresh { AreFresh crew.new.seats.items }
 {
-    add_worker(alloc, crew)?;
-    add_worker(alloc, crew)?;
+    for _ in 0..workers {
+        add_worker(alloc, crew)?;
+    }
     add_closer(crew)?;
-    add_monitor(alloc, crew)?;
-    add_monitor(alloc, crew)
+    for _ in 0..monitors {
+        add_monitor(alloc, crew)?;
+    }
+    Ok(())
 }

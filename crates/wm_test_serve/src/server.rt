@@ -16,6 +16,7 @@ use wm_floor::Log;
 use wm_listener::{MemDesk, MemListener};
 use wm_outside::{MemKeeper, MemSink, MemStore};
 use wm_serve::{Crew, Served, serve};
+use wm_web::Gate;
 
 /// What the peers of the two connections send: a job each, and then they ask for the history.
 static REQUESTS: [&[u8]; 2] = [
@@ -106,8 +107,8 @@ fn tell_server(
     Ok(told)
 }
 
-// The one call of the server.
-fn serve_crew<R: Threads + Wait + Sync>(
+/// The one call of a server.
+pub fn serve_crew<G: Gate + Sync, R: Threads + Wait + Sync>(
     rt: &R,
     alloc: Global,
     words: &[String],
@@ -115,7 +116,7 @@ fn serve_crew<R: Threads + Wait + Sync>(
     crew: &mut TestCrew,
     out: &mut MemSink,
     store: &mut MemStore,
-    gate: &HoldingGate,
+    gate: &G,
 ) -> Served
     requires fresh { AreFresh crew.old.seats.items }
     ensures vacant { All (λ seat. pass_of seat ≡ None) crew.new.seats.items }
@@ -151,7 +152,7 @@ fn play_crew<R: Threads + Wait + Sync>(rt: &R, alloc: Global, crew: &mut TestCre
 /// What a server came to.
 pub fn play_server<R: Threads + Wait + Sync>(rt: &R, alloc: Global) -> Result<String> {
     let mut crew = Crew::new(alloc);
-    let told = match add_seats(alloc, &mut crew) {
+    let told = match add_seats(alloc, 2, 2, &mut crew) {
         Ok(()) => play_crew(rt, alloc, &mut crew),
         Err(fault) => Err(fault.into()),
     };
