@@ -1,5 +1,5 @@
 -- What a turn does to a pass.
-use Rattle.std.proofs.Common.{◌≡◌, ◌<◌, ◌≤◌, ◌++◌, ◌-◌, ℕ, zero, suc, List, [], ◌∷◌, length, Option, Some, sym, refl, ap, subst, ◌∙◌, append-nil, arith}
+use Rattle.std.proofs.Common.{◌≡◌, ◌<◌, ◌≤◌, ◌++◌, ◌-◌, ℕ, List, [], ◌∷◌, length, Option, Some, sym, refl, ap, subst, ◌∙◌, append-nil, arith}
 use Rattle.std.proofs.lemmas.List.{length_push}
 use Rattle.std.proofs.lemmas.List.Prefix.{front_rest}
 use Rattle.std.specs.List.{slice_get}
@@ -12,15 +12,11 @@ use Rattle.wm_journal.specs.History.{History, entry_at, last_of, with_call}
 use Rattle.wm_floor.specs.Floor.{Floored, HasLooked, IsPassOf, IsSame, Seen}
 use Rattle.wm_floor.specs.Ledger.{HasReply, caller_of}
 use Rattle.wm_floor.proofs.Counts.{grows}
+use Rattle.wm_floor.proofs.Places.{slice_get_front}
 
 slice_get_push : {A : Type 0} (xs : List A) (y : A) → slice_get (xs ++ y ∷ []) (length xs) ≡ Some y
 slice_get_push [] y = refl
 slice_get_push (x ∷ xs) y = slice_get_push xs y
-
-slice_get_front : {A : Type 0} (xs ys : List A) (i : ℕ) → i < length xs → slice_get (xs ++ ys) i ≡ slice_get xs i
-slice_get_front [] ys i h = absurd (omega arith)
-slice_get_front (x ∷ xs) ys zero h = refl
-slice_get_front (x ∷ xs) ys (suc i) h = slice_get_front xs ys i (omega arith)
 
 -- the reply at a place that was seen
 pub reply_seen : (log seen : List Entry) (place : ℕ) (copy : Option Reply) → StartsWith log seen → 1 ≤ place → place ≤ length seen → HasReply (slice_get log (place - 1)) copy → HasReply (slice_get seen (place - 1)) copy

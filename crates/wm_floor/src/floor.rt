@@ -156,8 +156,8 @@ impl<K: Keeper> Floor<K> {
         reply
     }
 
-    /// The history, which the pass has then seen. While it is made, which takes a time for each entry, the others wait. It may
-    /// wait itself.
+    /// The history, which the pass has then seen. While it is made, which takes a time for each part of 1,024 entries and for
+    /// each entry behind these, the others wait. It may wait itself.
     pub fn log<R: Wait>(
         &self,
         rt: &R,

@@ -16,6 +16,7 @@ use crate::limit::limit_of;
 use crate::log::Log;
 use crate::opened::Opened;
 use crate::shared::Shared;
+use crate::shared_list::SharedList;
 use crate::step::step;
 use std::alloc::Global;
 use std::marker::Model;
@@ -35,7 +36,7 @@ pub struct Ledger<K: Keeper> {
     found: Snapshot<K>,
     opened: Snapshot<StoredCore<K>>,
     stored: StoredCore<K>,
-    log: Vec<Shared<Entry>>,
+    log: SharedList<Entry>,
     limit: u32,
     misses: u64,
 }
@@ -133,7 +134,7 @@ impl<K: Keeper> Ledger<K> {
                 found,
                 opened: Snapshot::of(&stored),
                 stored,
-                log: Vec::new(alloc),
+                log: SharedList::new(alloc),
                 limit,
                 misses: 0,
             }),
@@ -162,7 +163,7 @@ impl<K: Keeper> Ledger<K> {
         if self.log.len() >= limit as usize {
             return Err(CallFault::LogFull(limit));
         }
-        self.log.reserve(1)?;
+        self.log.reserve(alloc)?;
         // The range of the moment is what `legal` needs of the entry.
         let _moment = now.get();
         let mut shared = room(alloc, caller, call, now)?;
@@ -188,7 +189,7 @@ impl<K: Keeper> Ledger<K> {
         ensures { HasReply (slice_get self.now.log at) result }
     {
         match self.log.get(at) {
-            Some(entry) => copied(alloc, &entry.get().reply),
+            Some(entry) => copied(alloc, &entry.reply),
             None => None,
         }
     }
@@ -232,7 +233,7 @@ impl<K: Keeper> Ledger<K> {
     pub(crate) fn log(&self, alloc: Global) -> Result<Log, NoMemory>
         ensures { IfOk result (λ log. log ≡ self.now.log) }
     {
-        Log::sharing(alloc, &self.log)
+        Ok(Log::of(self.log.again(alloc)?))
     }
 
     /// What is shown of the state.

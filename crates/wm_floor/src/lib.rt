@@ -14,14 +14,16 @@
 //! So the laws of `wm_law` and `wm_chain` hold of it.
 //!
 //! `log` gives the history itself, which the pass has then seen, as a `Log`, whose entries are shared with the floor and not
-//! copied. `close` gives the whole history, which is what pass 0 has then seen, with the keeper: its tables are those of the last
-//! state, and its trail is that of the history. Each pass that was joined has exactly the entries of its number.
+//! copied: the history stands in parts of 1,024 entries (`SharedList`), and a `Log` takes one handle for each of these, and one
+//! for each entry behind them. `close` gives the whole history, which is what pass 0 has then seen, with the keeper: its tables
+//! are those of the last state, and its trail is that of the history. Each pass that was joined has exactly the entries of its
+//! number.
 //!
 //! A call, a read or a log may wait for other callers; nothing is said of how long.
 //!
 //! The definitions are in `specs/`: `Floor` (what a contract sees of a floor and its passes, and what a call does to them),
-//! `Causes` (why a call isn't made), `Ledger` (what the callers take turns with, and what holds of it) and `Replies` (copies of
-//! replies).
+//! `Causes` (why a call isn't made), `Ledger` (what the callers take turns with, and what holds of it), `Replies` (copies of
+//! replies) and `SharedList` (a list in parts, and what holds of them).
 #![tactic(auto)]
 
 mod answer;
@@ -32,6 +34,7 @@ mod limit;
 mod log;
 mod opened;
 mod shared;
+mod shared_list;
 mod step;
 
 pub use answer::{Answered, View, Waiting};

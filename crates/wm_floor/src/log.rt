@@ -1,17 +1,15 @@
 // Histories, entry by entry.
-ghost use Rattle.std.specs.Prelude.{◌≡◌, length, slice_get, IfOk};
+ghost use Rattle.std.specs.Prelude.{◌≡◌, length, slice_get};
 ghost use Rattle.std.specs.Option.{option_copied};
 
-use crate::shared::Shared;
-use std::alloc::Global;
+use crate::shared_list::SharedList;
 use std::marker::Model;
-use wm_base::NoMemory;
 use wm_law::Entry;
 
 /// The entries of a history, in order. They are shared with the floor and not copied. A contract sees their list.
 #[derive(Drop)]
 pub struct Log {
-    entries: Vec<Shared<Entry>>,
+    entries: SharedList<Entry>,
 }
 
 impl Model for Log {
@@ -25,21 +23,10 @@ impl Model for Log {
 
 impl Log {
     /// The entries of a list.
-    pub(crate) fn of(entries: Vec<Shared<Entry>>) -> Log
+    pub(crate) fn of(entries: SharedList<Entry>) -> Log
         ensures { result ≡ entries.items }
     {
         Log { entries }
-    }
-
-    /// The entries of a list, which keeps them too.
-    pub(crate) fn sharing(alloc: Global, entries: &[Shared<Entry>]) -> Result<Log, NoMemory>
-        ensures { IfOk result (λ log. log ≡ entries.now) }
-    {
-        let mut shared = Vec::with_capacity(alloc, entries.len())?;
-        for entry in entries {
-            shared.push(entry.again()?)?;
-        }
-        Ok(Log { entries: shared })
     }
 
     /// How many entries there are.
@@ -53,9 +40,6 @@ impl Log {
     pub fn entry(&self, at: usize) -> Option<&Entry>
         ensures { option_copied result ≡ slice_get self.now at }
     {
-        match self.entries.get(at) {
-            Some(entry) => Some(entry.get()),
-            None => None,
-        }
+        self.entries.get(at)
     }
 }
