@@ -11,7 +11,8 @@
 //!
 //! A keeper has its file alone from its opening to its end. An `apply` is one transaction, which is on the disk where it is
 //! Ok. Where the disk fails in the middle of it, the keeper fails from then on, and the file has all changes of that call or
-//! none when it is opened again. Nothing that was in memory is left after the keeper's end.
+//! none when it is opened again. Nothing that was in memory is left after the keeper's end. A keeper may be sent to another
+//! thread, which is shown part by part (`proofs/Crosses.antt`).
 //!
 //! In the order of reading: the faults (`faults`), the SQL (`table`), the keeper over any connection (`keeper`), a look before
 //! an opening (`look`), a store's keepers, over a file or memory (`opened`), and the store (`store`). No other crate of the

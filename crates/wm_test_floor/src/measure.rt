@@ -5,6 +5,7 @@
 //                            in how many microseconds
 ghost use Rattle.wm_floor.specs.Floor.{IsPassOf, IsSame};
 
+use crate::keeper::TestKeeper;
 use crate::round::{opened, round};
 use crate::work::{Plan, Role, submit_held};
 use anyhow::{Result, bail};
@@ -33,7 +34,8 @@ fn submit<R: Threads + Wait + Clock + Sync>(
         seed: 0,
     };
     let start = Instant::now(rt)?;
-    let made = round(rt, host.alloc(), plan)?;
+    let (made, keeper) = round(rt, host.alloc(), TestKeeper::new(host.alloc(), None), plan)?;
+    drop(keeper);
     let taken = start.elapsed(rt)?.as_micros();
     let entries = made.log.len();
     println!(host; "{entries} {taken}")?;
@@ -63,7 +65,7 @@ fn timed<K: Keeper, R: Wait + Clock>(
 
 fn log<R: Wait + Clock>(rt: &R, host: &HostRuntime, entries: u32, times: u32) -> Result<()> {
     let alloc = host.alloc();
-    let (floor, mut zero) = opened(alloc)?;
+    let (floor, mut zero) = opened(alloc, TestKeeper::new(alloc, None))?;
     let taken = timed(rt, alloc, &floor, &mut zero, entries, times);
     let closed = floor.close(zero);
     let Ok(closed) = closed else { unreachable!() };

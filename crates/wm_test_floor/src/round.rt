@@ -4,6 +4,7 @@ ghost use Rattle.std.specs.Thread.{IsSync};
 ghost use Rattle.wm_floor.specs.Floor.{IsPassOf};
 ghost use Rattle.wm_test_floor.specs.Passes.{IsEven};
 
+use crate::keeper::TestKeeper;
 use crate::record::{Record, Round};
 use crate::work::{Plan, Post, begin};
 use anyhow::{Result, bail};
@@ -13,23 +14,21 @@ use std::thread::{Threads, join_mut};
 use wm_core::Setup;
 use wm_desc::qbatch;
 use wm_floor::{Closed, Floor, FloorPass};
-use wm_outside::MemKeeper;
 use wm_when::Offset;
 
-/// The floor of the tests, over a keeper in memory.
-pub type TestFloor = Floor<MemKeeper>;
+/// The floor of the tests.
+pub type TestFloor = Floor<TestKeeper>;
 
 /// A pass of it.
-pub type TestPass = FloorPass<MemKeeper>;
+pub type TestPass = FloorPass<TestKeeper>;
 
-/// A floor without rows, and its pass 0.
-pub fn opened(alloc: Global) -> Result<(TestFloor, TestPass)>
+/// A floor over a keeper without rows, and its pass 0.
+pub fn opened(alloc: Global, keeper: TestKeeper) -> Result<(TestFloor, TestPass)>
     ensures own { IfOk result (λ made. IsPassOf made.0 made.1) }
     ensures zero { IfOk result (λ made. made.1.number ≡ 0) }
     ensures made { IfOk result (λ made. made.1.made ≡ 0) }
     ensures joined { IfOk result (λ made. length made.1.joined ≡ 0) }
 {
-    let keeper = MemKeeper::new(Vec::new(alloc), Vec::new(alloc));
     let setup = Setup {
         ctl: qbatch(),
         offset: Offset::new(0),
@@ -95,13 +94,18 @@ fn among<R: Threads + Wait + Sync>(
     Ok(())
 }
 
-/// A round, which begins with a few commands. Before it the floor can't be closed, since a
-/// pass is out.
-pub fn round<R: Threads + Wait + Sync>(rt: &R, alloc: Global, plan: Plan) -> Result<Round>
+/// A round over a keeper, which comes back. It begins with a few commands. Before it the floor can't be closed, since a pass is
+/// out.
+pub fn round<R: Threads + Wait + Sync>(
+    rt: &R,
+    alloc: Global,
+    keeper: TestKeeper,
+    plan: Plan,
+) -> Result<(Round, TestKeeper)>
     requires threads { plan.threads < 1000 }
     requires monitors { plan.monitors < 1000 }
 {
-    let (floor, mut zero) = opened(alloc)?;
+    let (floor, mut zero) = opened(alloc, keeper)?;
     let Ok(one) = floor.split(&mut zero) else {
         unreachable!()
     };
@@ -124,8 +128,7 @@ pub fn round<R: Threads + Wait + Sync>(rt: &R, alloc: Global, plan: Plan) -> Res
     let Ok(Closed { log, keeper }) = closed else {
         unreachable!()
     };
-    drop(keeper);
     made?;
     records.push(begun?)?;
-    Ok(Round { log, records })
+    Ok((Round { log, records }, keeper))
 }

@@ -1,4 +1,4 @@
-use Rattle.wrkmgr.proofs.Crosses.{OpenedKeeper-send, passing}
+use Rattle.wm_sqlkeep.proofs.Crosses.{OpenedKeeper-send, passing}
 use Rattle.wrkmgr.proofs.serving.serve_on_file.Goals as goal
 
 pub serve_over-requires-send-S-K : goal.serve_over-requires-send-S-K
