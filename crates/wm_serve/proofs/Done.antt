@@ -12,7 +12,7 @@ use Rattle.wm_floor.specs.Floor.{Floored, HasLooked, IsSame, Seen}
 use Rattle.wm_floor.specs.Ledger.{caller_of}
 use Rattle.wm_turn.specs.Passed.{HasOwn, StartsWith, child, own, parent}
 use Rattle.wm_turn.proofs.Histories.{starts_again}
-use Rattle.wm_serve.specs.Seating.{entered, given, joined, left, seated, with_pass}
+use Rattle.wm_serve.specs.Seating.{joined, left, seated, with_pass}
 use Rattle.wm_serve.specs.Seats.{IsFresh, Runs, Tellers, pass_of}
 use Rattle.wm_serve.specs.Done.{HasTold, SeatServed, SeatsServed}
 use Rattle.wm_serve.specs.declared.seat.Seat.{Seat}
@@ -93,6 +93,7 @@ module _ {K D P C : Type 0} (t : Tellers D P) (f : Floored K) (log : List Entry)
         mine = own_next log z (Worker v) ys r.to r.has whole ∙ ap (λ (n : ℕ). own caller_of n log) (r.same.number ∙ number);
         did = record {
           served = r.served;
+          commands = r.commands;
           dries = r.dries;
           dry = λ e. since_fresh w.stopped Dry free.1.0 (r.dry e);
           looks = r.looks;

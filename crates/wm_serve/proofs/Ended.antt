@@ -1,14 +1,12 @@
 -- How a server over its floor ended, as it is told behind the end.
-use Rattle.std.proofs.Common.{◌≡◌, ◌⊎◌, ℕ, ◌+◌, ◌≤◌, List, [], ◌∷◌, ◌++◌, All, count_by, fold, length, map, take, Option, Some, None, is_some, Result, Ok, Err, refl, sym, subst, ap, ◌∙◌, inl, inr, arith}
+use Rattle.std.proofs.Common.{◌≡◌, ◌⊎◌, ℕ, ◌+◌, ◌≤◌, List, [], ◌++◌, All, count_by, fold, length, map, Option, Some, None, is_some, Result, Ok, Err, refl, sym, subst, ap, ◌∙◌, inl, inr, arith}
 use Rattle.std.specs.Prelude.{◌==◌, IfErr, OnOk, if◌then◌else◌}
 use Rattle.std.specs.List.{AllZip}
 use Rattle.std.proofs.lemmas.Bool.{false≢true}
 use Rattle.std.proofs.lemmas.List.{length-append}
 use Rattle.std.proofs.lemmas.Option.{same_Some}
-use Rattle.wm_traits.specs.Cause.{raised}
-use Rattle.wm_traits.specs.Told.{Grows}
 use Rattle.wm_floor.specs.Floor.{Floored, HasLooked, IsSame, Seen}
-use Rattle.wm_serve.specs.Ending.{HasWritten, IsCallHalt, IsServeHalt, IsSeatHalt, WritesReady, ready}
+use Rattle.wm_serve.specs.Ending.{HasWritten, IsServeHalt, WritesReady}
 use Rattle.wm_serve.specs.Halts.{ended_status, status_of}
 use Rattle.wm_serve.specs.Seating.{entered, left, seated, with_pass}
 use Rattle.wm_serve.specs.Seats.{IsFresh, Runs, Sits, Tellers, takes_pass}
@@ -18,7 +16,7 @@ use Rattle.wm_serve.specs.declared.halt.Halt.TheVariants.{WriteFault, KeeperFaul
 use Rattle.wm_serve.specs.declared.seat.Seat.{Seat}
 use Rattle.wm_serve.proofs.Causing.{Come, seats_come}
 use Rattle.wm_serve.proofs.Leaving.{count_runs, count_seated, joined_left, made_left, mark_left, number_left, seen_left}
-use Rattle.wm_serve.proofs.Seatings.{joined_kept, made_then, mark_kept, number_then}
+use Rattle.wm_serve.proofs.Seatings.{joined_kept, made_then, number_then}
 
 -- Pass 0 at the end
 

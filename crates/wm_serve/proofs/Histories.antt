@@ -1,5 +1,6 @@
 -- The history of a server from the rows that it found.
 use Rattle.std.proofs.Common.{◌≡◌, ◌⊎◌, ◌≤◌, ℕ, ℤ, true, List, [], Option, Some, None, IfSome, is_some, refl, sym, ap, subst, ◌∙◌, inl, inr, arith}
+use Rattle.std.specs.Prelude.{⊤}
 use Rattle.std.proofs.lemmas.Bool.{true≢false, false≢true}
 use Rattle.wm_traits.specs.Told.{Grows, Stays}
 use Rattle.wm_traits.proofs.Telling.{Grows-none}
@@ -41,8 +42,8 @@ rows_found None (Some first) (Some mid) trail'' (Some last) rows more told grown
 rows_found (Some x) (Some first) (Some mid) trail'' (Some last) rows more told grown untold both both' = ap Some told
 
 -- a server over a keeper whose floor was opened
-pub opened_server : {K : Type 0} (offset : ℤ) (status : ℕ) (log : List Entry) (o : Opened K) (found opened closed : Telling) → IsOpened offset o.state found opened → IsLegal o.state log → (status ≡ 0 → active (reached (behind o log)) ≡ 0) → HasTables (reached (behind o log)) closed.tables → HasTrail (behind o log) found closed → (opened.trail ≡ None → closed.trail ≡ None) → is_some found.trail ≡ is_some found.tables → is_some closed.trail ≡ is_some closed.tables → HasHistory offset status log found closed
-opened_server offset status log o found opened closed h legal idle tables trail untold both both' =
+pub opened_server : {K : Type 0} (offset : ℤ) (status : ℕ) (log : List Entry) (o : Opened K) (found opened closed : Telling) (Done : State → List Entry → Type 0) → IsOpened offset o.state found opened → IsLegal o.state log → (status ≡ 0 → active (reached (behind o log)) ≡ 0) → HasTables (reached (behind o log)) closed.tables → HasTrail (behind o log) found closed → (opened.trail ≡ None → closed.trail ≡ None) → is_some found.trail ≡ is_some found.tables → is_some closed.trail ≡ is_some closed.tables → Done o.state log → HasHistory offset status log found closed Done
+opened_server offset status log o found opened closed Done h legal idle tables trail untold both both' done =
     let sound = restart_is_sound offset h.found o.state h.restart in
     record {
       opened = o.state;
@@ -56,6 +57,7 @@ opened_server offset status log o found opened closed h legal idle tables trail 
       idle = idle;
       tables = tables;
       trail = trail;
+      done = done;
     }
 
 -- The status of a server whose floor didn't open
@@ -71,7 +73,7 @@ store_early keep.NoMemory = refl
 
 -- A server whose floor didn't open
 
-opened_none : (offset : ℤ) (status : ℕ) (s : State) (old new : Telling) → IsOpened offset s old new → (status ≡ 0 → ⊥) → is_some old.trail ≡ is_some old.tables → is_some new.trail ≡ is_some new.tables → HasHistory offset status [] old new
+opened_none : (offset : ℤ) (status : ℕ) (s : State) (old new : Telling) → IsOpened offset s old new → (status ≡ 0 → ⊥) → is_some old.trail ≡ is_some old.tables → is_some new.trail ≡ is_some new.tables → HasHistory offset status [] old new (λ opened es. ⊤)
 opened_none offset status s old new h early both both' =
     let sound = restart_is_sound offset h.found s h.restart in
     record {
@@ -86,12 +88,13 @@ opened_none offset status s old new h early both both' =
       idle = λ ended. absurd (early ended);
       tables = h.rows;
       trail = trail_opened offset s old new h;
+      done = tt;
     }
 
 pub unopened_server : (offset : ℤ) (fault : OpenFault) (status : ℕ) (old new : Telling) → status ≡ open_status fault → IsLeftOrOpened offset old new fault → is_some old.trail ≡ is_some old.tables → is_some new.trail ≡ is_some new.tables → HasNone offset status old new
 unopened_server offset fault status old new is left both both' = record { early = subst IsUnopened (sym is) (open_early fault); left = by left }
   where
-    by : IsLeftOrOpened offset old new fault → IsLeft old new ⊎ ((status ≡ 6) × HasHistory offset status [] old new)
+    by : IsLeftOrOpened offset old new fault → IsLeft old new ⊎ ((status ≡ 6) × HasHistory offset status [] old new (λ opened es. ⊤))
     by (inl same) = inl same
     by (inr (memory, opened)) =
         let six : status ≡ 6 = is ∙ ap open_status memory in

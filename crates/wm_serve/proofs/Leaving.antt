@@ -77,7 +77,7 @@ module _ {K D P C : Type 0} where
     joined_one : (zero : Seen K) (x : Seat K D P C) → Sits t f x → length (left zero x).joined ≡ length zero.joined + (if takes_pass x then 1 else 0)
     joined_one zero (Worker w) h = ap (λ (o : Option (Seen K)). length (joined o zero).joined) h.its ∙ length-append zero.joined _
     joined_one zero (Closer c) h = omega arith
-    joined_one zero (Monitor m) h = ap (λ (o : Option (Seen K)). length (joined o zero).joined) h.its ∙ length-append zero.joined _
+    joined_one zero (Monitor m) h = ap (λ (o : Option (Seen K)). length (joined o zero).joined) h.0.its ∙ length-append zero.joined _
 
     pub joined_left : (zero : Seen K) (xs : List (Seat K D P C)) → All (Sits t f) xs → length (fold left zero xs).joined ≡ length zero.joined + count_by takes_pass xs
     joined_left zero [] h = omega arith

@@ -1,6 +1,8 @@
+pub mod Accepted
 pub mod Attending
 pub mod Causing
 pub mod Closers
+pub mod Commands
 pub mod Connected
 pub mod Counts
 pub mod Crossing
@@ -9,10 +11,14 @@ pub mod Ended
 pub mod Floors
 pub mod Histories
 pub mod Leaving
+pub mod Linked
 pub mod Looking
 pub mod Nexts
+pub mod Overs
 pub mod Parts
+pub mod Powers
 pub mod Running
 pub mod Seatings
 pub mod Stores
+pub mod Vacant
 pub mod Writing

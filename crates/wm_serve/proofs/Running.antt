@@ -9,7 +9,7 @@ use Rattle.wm_monitor.specs.Lists.{Extends, since}
 use Rattle.wm_monitor.specs.declared.fault.MonitorFault.{MonitorFault}
 use Rattle.wm_shared_monitor.specs.Causes.{IsCaused}
 use Rattle.wm_shared_monitor.proofs.Causes.{IsCaused-since}
-use Rattle.wm_serve.specs.Connections.{DeskServes}
+use Rattle.wm_serve.specs.Connections.{DeskServes, MakesCommands}
 use Rattle.wm_serve.specs.Monitors.{MonitorAttends}
 use Rattle.wm_serve.specs.Seats.{IsLater, MonitorRuns, Runs, Sits, Tellers, WorkerRuns}
 use Rattle.wm_serve.specs.declared.seat.MonitorSeat.{MonitorSeat}
@@ -17,6 +17,7 @@ use Rattle.wm_serve.specs.declared.seat.Seat.{Seat}
 use Rattle.wm_serve.specs.declared.seat.Seat.TheVariants.{Worker, Closer, Monitor}
 use Rattle.wm_serve.specs.declared.seat.WorkerSeat.{WorkerSeat}
 use Rattle.wm_serve.proofs.Attending.{attends_none, attends_then}
+use Rattle.wm_serve.proofs.Commands.{commands_none, commands_then}
 use Rattle.wm_serve.proofs.Looking.{looked_none, same_none, same_then}
 use Rattle.wm_serve.proofs.Connected.{DeskServes-none, DeskServes-then}
 
@@ -51,6 +52,7 @@ module _ {K D P C : Type 0} (t : Tellers D P) (f : Floored K) where
         has = k.has;
         same = same_then h.from h.to k.to h.same (subst (λ (p : Seen K). IsSame p k.to) mid k.same);
         served = DeskServes-then f.opening (t.had a.desk) (t.had b.desk) (t.had c.desk) h.from h.to k.to h.served (subst (λ (p : Seen K). DeskServes f.opening (t.had b.desk) (t.had c.desk) p k.to) mid k.served);
+        commands = commands_then h.from h.to k.to h.commands (subst (λ (p : Seen K). MakesCommands p k.to) mid k.commands);
         dries = let x = h.dries in let y = k.dries in omega arith;
         dry = λ is. rose_then (t.dries a.desk) (t.dries b.desk) (t.dries c.desk) (k.dry is) h.dry h.dries k.dries;
         looks = let x = h.looks in let y = k.looks in omega arith;
@@ -58,7 +60,7 @@ module _ {K D P C : Type 0} (t : Tellers D P) (f : Floored K) where
       }
 
   monitor_then : (a b c : MonitorSeat K P C) → MonitorRuns t f a b → MonitorRuns t f b c → MonitorRuns t f a c
-  monitor_then a b c h k = record { from = h.from; to = k.to; had = h.had; has = k.has; part = attends_then f h.from h.to k.to _ _ _ h.part second; cause = cause }
+  monitor_then a b c h k = record { from = h.from; to = k.to; had = h.had; has = k.has; part = attends_then f h.from h.to k.to _ _ _ h.part second; cause = cause; told = k.told }
     where
       mid : k.from ≡ h.to
       mid = same_Some k.from h.to (sym k.had ∙ h.has)
@@ -106,13 +108,14 @@ module _ {K D P C : Type 0} (t : Tellers D P) (f : Floored K) where
     has = h.its;
     same = same_none h.pass;
     served = DeskServes-none f.opening (t.had w.desk) h.pass h.pass (looked_none h.pass);
+    commands = commands_none h.pass;
     dries = omega arith;
     dry = λ is. inl is;
     looks = omega arith;
     failed = λ is. inl is;
   }
   runs_none (Closer c) h = tt
-  runs_none (Monitor m) h = record { from = h.pass; to = h.pass; had = h.its; has = h.its; part = attends_none f h.pass _ h.own; cause = λ fault is. inl is }
+  runs_none (Monitor m) h = record { from = h.0.pass; to = h.0.pass; had = h.0.its; has = h.0.its; part = attends_none f h.0.pass _ h.0.own; cause = λ fault is. inl is; told = h.1 }
 
   pub all_then : (xs ys zs : List (Seat K D P C)) → AllZip (Runs t f) xs ys → AllZip (Runs t f) ys zs → AllZip (Runs t f) xs zs
   all_then [] [] [] h k = tt

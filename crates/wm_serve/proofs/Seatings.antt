@@ -5,6 +5,9 @@ use Rattle.std.proofs.lemmas.List.{append-nil, drop_all, drop_more, get_or_at, l
 use Rattle.std.proofs.lemmas.List.Elements.{All-cons, All-head, All-map, All-nil, All-push, All-same, All-tail}
 use Rattle.std.proofs.lemmas.List.Sums.{count_by-le-length, fold_more, sum_by-cons}
 use Rattle.wm_floor.specs.Floor.{Floored, IsPassOf, Seen}
+use Rattle.wm_law.specs.declared.call.Entry.{Entry}
+use Rattle.wm_shared_monitor.specs.Scene.{IsPlace, OwesSeen}
+use Rattle.wm_shared_monitor.specs.declared.monitor.SharedMonitor.{SharedMonitor}
 use Rattle.wm_turn.specs.Passed.{child, parent}
 use Rattle.wm_serve.specs.Seating.{HasPassOf, entered, given, seated, with_pass}
 use Rattle.wm_serve.specs.Seats.{IsFresh, Sits, Tellers, pass_of, takes_pass}
@@ -100,6 +103,12 @@ module _ {K D P C : Type 0} where
   joined_kept zero (Closer c ∷ xs) = joined_kept zero xs
   joined_kept zero (Monitor m ∷ xs) = joined_kept (parent zero) xs
 
+  pub mine_kept : (zero : Seen K) (xs : List (Seat K D P C)) → (fold entered zero xs).mine ≡ zero.mine
+  mine_kept zero [] = refl
+  mine_kept zero (Worker w ∷ xs) = mine_kept (parent zero) xs
+  mine_kept zero (Closer c ∷ xs) = mine_kept zero xs
+  mine_kept zero (Monitor m ∷ xs) = mine_kept (parent zero) xs
+
   pub mark_kept : (zero : Seen K) (xs : List (Seat K D P C)) → (fold entered zero xs).mark ≡ zero.mark
   mark_kept zero [] = refl
   mark_kept zero (Worker w ∷ xs) = mark_kept (parent zero) xs
@@ -119,11 +128,14 @@ module _ {K D P C : Type 0} (t : Tellers D P) where
 
 -- Seats that have taken their passes have what their threads need
 
+owes_none : (seen : List Entry) (m : SharedMonitor) → m.owed ≡ None → OwesSeen seen m
+owes_none seen m none = subst (λ (o : Option ℕ). IfSome o (IsPlace seen)) (sym none) tt
+
 module _ {K D P C : Type 0} (t : Tellers D P) (f : Floored K) where
   sits_given : (zero : Seen K) (s : Seat K D P C) → IsFresh t s → HasPassOf f (given zero s) → Sits t f (given zero s)
   sits_given zero (Worker w) h own = record { pass = child zero; its = refl; own = own; free = h.1.1 }
   sits_given zero (Closer c) h own = tt
-  sits_given zero (Monitor m) h own = record { pass = child zero; its = refl; own = own; owes = h.1.1 (child zero).seen }
+  sits_given zero (Monitor m) h own = (record { pass = child zero; its = refl; own = own; owes = owes_none (child zero).seen m.monitor h.1.1.no_order }, λ none. h.1.1.no_report)
 
   pub sit_seated : (zero : Seen K) (xs : List (Seat K D P C)) → All (IsFresh t) xs → All (HasPassOf f) (seated zero xs) → All (Sits t f) (seated zero xs)
   sit_seated zero [] h own = All-nil (Sits t f)
@@ -134,7 +146,7 @@ module _ {K D P C : Type 0} (t : Tellers D P) (f : Floored K) where
   has_pass : (s : Seat K D P C) → Sits t f s → HasPassOf f s
   has_pass (Worker w) h = subst (λ (p : Option (Seen K)). IfSome p (IsPassOf f)) (sym h.its) h.own
   has_pass (Closer c) h = tt
-  has_pass (Monitor m) h = subst (λ (p : Option (Seen K)). IfSome p (IsPassOf f)) (sym h.its) h.own
+  has_pass (Monitor m) h = subst (λ (p : Option (Seen K)). IfSome p (IsPassOf f)) (sym h.0.its) h.0.own
 
   pub have_passes : (xs : List (Seat K D P C)) → All (Sits t f) xs → All (HasPassOf f) xs
   have_passes xs h k d lt = has_pass (get_or xs k d) (h k d lt)

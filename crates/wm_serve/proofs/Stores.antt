@@ -1,20 +1,24 @@
 -- What a server tells of the keeper, as the store tells it whose keeper it was.
-use Rattle.std.proofs.Common.{◌≡◌, ◌⊎◌, ◌≤◌, ℕ, ℤ, true, List, [], Option, Some, None, IfSome, is_some, refl, sym, ap, subst, ◌∙◌, inl, inr, arith}
+use Rattle.std.proofs.Common.{◌≡◌, ◌⊎◌, ◌≤◌, ℕ, ℤ, true, List, [], ◌∷◌, Option, Some, None, IfSome, is_some, refl, sym, ap, subst, ◌∙◌, inl, inr, arith}
+use Rattle.std.specs.Prelude.{⊤}
 use Rattle.std.proofs.lemmas.Bool.{false≢true}
+use Rattle.std.proofs.lemmas.Option.{same_Some}
 use Rattle.wm_traits.specs.Cause.{PassesOn, raised}
 use Rattle.wm_traits.specs.Told.{Grows, Stays}
 use Rattle.wm_traits.specs.declared.fault.KeepFault.{KeepFault}
 use Rattle.wm_traits.specs.declared.fault.KeepFault.TheVariants as keep
 use Rattle.wm_traits.specs.declared.row.Row.{Row}
 use Rattle.wm_law.specs.declared.call.Entry.{Entry}
+use Rattle.wm_law.specs.declared.state.State.{State}
+use Rattle.wm_plan.specs.declared.plan.ServePlan.{ServePlan}
 use Rattle.wm_tables.specs.Restart.{IsBad}
 use Rattle.wm_journal.specs.History.{History}
 use Rattle.wm_journal.specs.Keeping.{IsLeft, Telling}
 use Rattle.wm_journal.specs.Trail.{HasTrail, tables_along, without_repeats}
-use Rattle.wm_journal.proofs.Staying.{Stays-grows}
+use Rattle.wm_journal.proofs.Staying.{Stays-grows, Stays-same}
 use Rattle.wm_run.specs.Kept.{HasBadRow}
 use Rattle.wm_run.proofs.Openings.{Grows-stays, Stays-then, stays_back, stays_if}
-use Rattle.wm_serve.specs.Server.{HasHistory, HasLog, HasNone, IsServeStatus, IsUnopened, store_status}
+use Rattle.wm_serve.specs.Server.{HasHistory, HasLog, IsServeStatus, IsUnopened, OpensPlanned, store_status}
 
 -- the trail is that of the history, where the tables are told to the end
 trail_of_store : (h : History) (old found closed new : Telling) (rows : List Row) → IfSome new.tables (λ _. found.tables ≡ Some rows) → Stays old.tables found.tables → Stays old.trail found.trail → Stays closed.trail new.trail → is_some new.trail ≡ is_some new.tables → HasTrail h found closed → HasTrail h old new
@@ -39,8 +43,8 @@ trail_of_store h old found closed new rows were tables trail trail' both has = g
     go (Some told) s None k e = tt
     go (Some told) s (Some now) k e = grown told s now k (by new.tables were (sym e))
 
-history_of_store : (offset : ℤ) (status : ℕ) (log : List Entry) (old found closed new : Telling) → Stays old.tables found.tables → Stays old.trail found.trail → Stays closed.tables new.tables → Stays closed.trail new.trail → is_some new.trail ≡ is_some new.tables → HasHistory offset status log found closed → HasHistory offset status log old new
-history_of_store offset status log old found closed new tables trail tables' trail' both h =
+history_of_store : (offset : ℤ) (status : ℕ) (log : List Entry) (old found closed new : Telling) (Done : State → List Entry → Type 0) → Stays old.tables found.tables → Stays old.trail found.trail → Stays closed.tables new.tables → Stays closed.trail new.trail → is_some new.trail ≡ is_some new.tables → HasHistory offset status log found closed Done → HasHistory offset status log old new Done
+history_of_store offset status log old found closed new Done tables trail tables' trail' both h =
     let were : IfSome new.tables (λ _. found.tables ≡ Some h.rows) = stays_if (λ _. found.tables ≡ Some h.rows) closed.tables new.tables tables' h.found in
     record {
       opened = h.opened;
@@ -54,23 +58,24 @@ history_of_store offset status log old found closed new tables trail tables' tra
       idle = h.idle;
       tables = stays_if _ closed.tables new.tables tables' h.tables;
       trail = trail_of_store (record { opened = h.opened; log = log }) old found closed new h.rows were tables trail trail' both h.trail;
+      done = h.done;
     }
   where
     if_told : (o : Option (List Row)) → IfSome o (λ _. found.tables ≡ Some h.rows) → IfSome o (λ _. old.tables ≡ Some h.rows)
     if_told None k = tt
     if_told (Some last) k = stays_back h.rows old.tables found.tables tables k
 
-pub log_of_store : (offset : ℤ) (status : ℕ) (log : Option (List Entry)) (old found closed new : Telling) → Stays old.tables found.tables → Stays old.trail found.trail → Stays closed.tables new.tables → Stays closed.trail new.trail → is_some new.trail ≡ is_some new.tables → HasLog offset status log found closed → HasLog offset status log old new
-log_of_store offset status (Some log) old found closed new tables trail tables' trail' both h = history_of_store offset status log old found closed new tables trail tables' trail' both h
-log_of_store offset status None old found closed new tables trail tables' trail' both h = record { early = h.early; left = by h.left }
+pub log_of_store : (offset : ℤ) (status : ℕ) (log : Option (List Entry)) (old found closed new : Telling) (Done : State → List Entry → Type 0) → Stays old.tables found.tables → Stays old.trail found.trail → Stays closed.tables new.tables → Stays closed.trail new.trail → is_some new.trail ≡ is_some new.tables → HasLog offset status log found closed Done → HasLog offset status log old new Done
+log_of_store offset status (Some log) old found closed new Done tables trail tables' trail' both h = history_of_store offset status log old found closed new Done tables trail tables' trail' both h
+log_of_store offset status None old found closed new Done tables trail tables' trail' both h = record { early = h.early; left = by h.left }
   where
-    by : IsLeft found closed ⊎ ((status ≡ 6) × HasHistory offset status [] found closed) → IsLeft old new ⊎ ((status ≡ 6) × HasHistory offset status [] old new)
+    by : IsLeft found closed ⊎ ((status ≡ 6) × HasHistory offset status [] found closed (λ opened es. ⊤)) → IsLeft old new ⊎ ((status ≡ 6) × HasHistory offset status [] old new (λ opened es. ⊤))
     by (inl left) =
         inl (record {
           tables = Stays-then old.tables found.tables new.tables tables (Stays-then found.tables closed.tables new.tables left.tables tables');
           trail = Stays-then old.trail found.trail new.trail trail (Stays-then found.trail closed.trail new.trail left.trail trail');
         })
-    by (inr (six, k)) = inr (six, history_of_store offset status [] old found closed new tables trail tables' trail' both k)
+    by (inr (six, k)) = inr (six, history_of_store offset status [] old found closed new (λ opened es. ⊤) tables trail tables' trail' both k)
 
 pub bad_row_of_store : (offset : ℤ) (old found closed new : Option (List Row)) → Stays old found → Stays closed new → HasBadRow offset found closed → HasBadRow offset old new
 bad_row_of_store offset old found closed new tables tables' h = go new (stays_if _ closed new tables' h)
@@ -85,9 +90,9 @@ fault_of_store found closed old new none rose passes = passes.passed (omega (ari
 
 -- A server that had no keeper
 
-pub log_left : (offset : ℤ) (status : ℕ) (log : Option (List Entry)) (old new : Telling) → log ≡ None → IsUnopened status → Stays old.tables new.tables → Stays old.trail new.trail → HasLog offset status log old new
-log_left offset status log old new none early tables trail =
-    subst (λ (l : Option (List Entry)). HasLog offset status l old new) (sym none) (record { early = early; left = inl (record { tables = tables; trail = trail }) })
+pub log_left : (offset : ℤ) (status : ℕ) (log : Option (List Entry)) (old new : Telling) (Done : State → List Entry → Type 0) → log ≡ None → IsUnopened status → Stays old.tables new.tables → Stays old.trail new.trail → HasLog offset status log old new Done
+log_left offset status log old new Done none early tables trail =
+    subst (λ (l : Option (List Entry)). HasLog offset status l old new Done) (sym none) (record { early = early; left = inl (record { tables = tables; trail = trail }) })
 
 -- the status of words that are none of a server, or that couldn't be read
 
@@ -126,3 +131,20 @@ store_listed fault status = store_with IsServeStatus fault status refl refl
 pub store_failed : (fault : KeepFault) (status : ℕ) → status ≡ store_status fault → status ≡ 5 → fault ≡ keep.Failed
 store_failed keep.Failed status is five = refl
 store_failed keep.NoMemory status is five = absurd (omega arith)
+
+-- Which path was opened
+
+pub opened_early : (plan : Option ServePlan) (status why : ℕ) (told : Option (List (List ℕ))) → status ≡ why → (why ≡ 2) ⊎ (why ≡ 6) → (why ≡ 2 → plan ≡ None) → OpensPlanned plan status told told
+opened_early None status why told is early wrong = Stays-same told
+opened_early (Some plan) status why told is (inl two) wrong = absurd (let none = wrong two in cc)
+opened_early (Some plan) status why told is (inr six) wrong = inr (inr (is ∙ six), Stays-same told)
+
+pub opened_unfit : (plan : Option ServePlan) (status : ℕ) (told : Option (List (List ℕ))) → status ≡ 2 → OpensPlanned plan status told told
+opened_unfit None status told two = Stays-same told
+opened_unfit (Some plan) status told two = inr (inl two, Stays-same told)
+
+pub opened_once : (plan : Option ServePlan) (p : ServePlan) (path : List ℕ) (status : ℕ) (old new : Option (List (List ℕ))) → plan ≡ Some p → path ≡ p.store → (status ≡ 2 → ⊥) → Grows old new (path ∷ []) → OpensPlanned plan status old new
+opened_once None p path status old new is same begun grows = absurd (cc)
+opened_once (Some plan) p path status old new is same begun grows =
+    let one : plan ≡ p = same_Some plan p is in
+    inl (begun, subst (λ (store : List ℕ). Grows old new (store ∷ [])) (same ∙ ap (λ (q : ServePlan). q.store) (sym one)) grows)

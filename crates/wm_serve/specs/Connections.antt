@@ -1,14 +1,27 @@
 -- The connections that a worker serves, one after another.
-use Rattle.std.specs.Prelude.{◌≡◌, ℕ, ◌≤◌, List, [], ◌∷◌, Option, Some, IfSome}
+use Rattle.std.specs.Prelude.{◌≡◌, ℕ, ◌≤◌, Bool, true, not, List, [], ◌∷◌, Option, Some, IfSome}
+use Rattle.std.specs.List.{list_all}
+use Rattle.wm_law.specs.History.{is_monitor_call}
+use Rattle.wm_law.specs.declared.call.Entry.{Entry}
 use Rattle.wm_floor.specs.Floor.{HasLooked, Seen}
 use Rattle.wm_floor.specs.declared.opened.Opened.{Opened}
 use Rattle.wm_listener.specs.Had.{Had}
+use Rattle.wm_monitor.specs.Lists.{Extends, since}
 use Rattle.wm_traits.specs.Told.{Grows, IsEmpty}
 use Rattle.wm_web.specs.Serving.{TakesSession}
 use Rattle.wm_web.specs.declared.end.WebEnd.{WebEnd}
 use Rattle.wm_web.specs.declared.end.WebEnd.TheVariants.{ReadFault, WriteFault}
 
+-- whether the entry is that of a user's command: monitors make all other calls
+abbrev pub is_command : Entry → Bool
+is_command e = not (is_monitor_call e.call)
+
 module _ {K : Type 0} where
+  -- the pass has its own entries and, behind them, none but those of users' commands
+  pub record MakesCommands (old new : Seen K) : Type 0 where
+    pub mine : Extends old.mine new.mine
+    pub commands : list_all is_command (since old.mine new.mine) ≡ true
+
   -- one connection that was given back: its requests were served, and it ended so; a read or a write that failed was counted
   pub record ServesOne (o : Opened K) (h : Had) (old new : Seen K) : Type 0 where
     pub end : WebEnd

@@ -1,13 +1,15 @@
 -- What each seat did while a server ran, as its history tells it.
-use Rattle.std.specs.Prelude.{◌≡◌, ℕ, ◌+◌, ◌≤◌, List, [], ◌∷◌, ⊤, Some, IfSome}
+use Rattle.std.specs.Prelude.{◌≡◌, ℕ, ◌+◌, ◌≤◌, List, [], ◌∷◌, ⊤, Option, Some, None, IfSome}
 use Rattle.wm_traits.specs.Cause.{raised}
-use Rattle.wm_law.specs.History.{IsLegal}
 use Rattle.wm_law.specs.declared.call.Entry.{Entry}
+use Rattle.wm_law.specs.declared.state.State.{State}
 use Rattle.wm_floor.specs.Floor.{Floored, Seen}
 use Rattle.wm_floor.specs.Ledger.{caller_of}
+use Rattle.wm_plan.specs.declared.plan.ServePlan.{ServePlan}
 use Rattle.wm_turn.specs.Passed.{StartsWith, own}
-use Rattle.wm_serve.specs.Connections.{DeskServes}
+use Rattle.wm_serve.specs.Connections.{DeskServes, MakesCommands}
 use Rattle.wm_serve.specs.Monitors.{MonitorAttends}
+use Rattle.wm_serve.specs.Over.{AreServerCalls, IsOver}
 use Rattle.wm_serve.specs.Seats.{IsLater, Tellers, pass_of}
 use Rattle.wm_serve.specs.declared.seat.Seat.{Seat}
 use Rattle.wm_serve.specs.declared.seat.Seat.TheVariants.{Worker, Closer, Monitor}
@@ -19,9 +21,10 @@ module _ {K D P C : Type 0} where
   abbrev pub HasTold : Seen K → Seat K D P C → Type 0
   HasTold zero seat = IfSome (pass_of seat) (λ pass. StartsWith zero.seen pass.seen)
 
-  -- a worker between two moments of its pass: the connections that its desk tells were served, its counts haven't fallen, and the one has risen that says why it stopped
+  -- a worker between two moments of its pass: its entries are users' commands, the connections that its desk tells were served, its counts haven't fallen, and the one has risen that says why it stopped
   pub record WorkerDid (t : Tellers D P) (f : Floored K) (old new : WorkerSeat K D C) (from to : Seen K) : Type 0 where
     pub served : DeskServes f.opening (t.had old.desk) (t.had new.desk) from to
+    pub commands : MakesCommands from to
     pub dries : IsLater (t.dries old.desk) (t.dries new.desk)
     pub dry : new.stopped ≡ Some Dry → raised (t.dries old.desk) ≤ t.dries new.desk
     pub looks : IsLater (t.looks old.desk) (t.looks new.desk)
@@ -57,8 +60,15 @@ module _ {K D P C : Type 0} where
   SeatsServed t f log n (Closer c ∷ olds) (new ∷ news) = SeatsServed t f log n olds news
   SeatsServed t f log n (Monitor m ∷ olds) (new ∷ news) = SeatServed t f log n (Monitor m) new × SeatsServed t f log (n + 1) olds news
 
-  -- on one floor, from whose state the history is legal, each seat did its part
-  pub record AreServed (t : Tellers D P) (log : List Entry) (old new : List (Seat K D P C)) : Type 0 where
+  -- on one floor that was opened with the state each seat did its part, and the other entries are those of the server's own calls; with status 0 it is over
+  pub record AreServed (t : Tellers D P) (plan : ServePlan) (status : ℕ) (opened : State) (log : List Entry) (old new : List (Seat K D P C)) : Type 0 where
     pub floor : Floored K
-    pub legal : IsLegal floor.opening.state log
+    pub opening : floor.opening.state ≡ opened
     pub seats : SeatsServed t floor log 1 old new
+    pub calls : AreServerCalls plan.ctl (own caller_of 0 log)
+    pub over : status ≡ 0 → IsOver t plan.workers opened log old new
+
+  -- the same of the plan, which there is
+  abbrev pub AreServedBy : Tellers D P → Option ServePlan → ℕ → List (Seat K D P C) → List (Seat K D P C) → State → List Entry → Type 0
+  AreServedBy t None status old new opened log = ⊥
+  AreServedBy t (Some plan) status old new opened log = AreServed t plan status opened log old new

@@ -21,7 +21,7 @@ abbrev pub ready : List ℕ
 ready = codes "ready" ++ 10 ∷ []
 
 -- the first bytes of it, or all where the server went on
-abbrev pub WritesReady : {E : Type 0} → Result (Unit {0}) E → Option (List ℕ) → Option (List ℕ) → Type 0
+abbrev pub WritesReady : {T E : Type 0} → Result T E → Option (List ℕ) → Option (List ℕ) → Type 0
 WritesReady result before now = OnOk result (Grows before now ready) × OnErr result ((n : ℕ) × Grows before now (take n ready))
 
 -- what a server with this status wrote: the first bytes of it, and all where the status is 0

@@ -20,11 +20,6 @@ status_of LogFull = 7
 status_of WaitFault = 8
 status_of ListenFault = 10
 
--- what a part ended with, where that is a fault
-abbrev pub halt_in : Result (Unit {0}) Halt → Option Halt
-halt_in (Ok done) = None
-halt_in (Err halt) = Some halt
-
 -- the status of a server over an open floor
 abbrev pub ended_status : Result (Unit {0}) Halt → ℕ
 ended_status (Ok done) = 0
@@ -44,10 +39,14 @@ halt_of_monitor (monitor_fault.LogFull n) = LogFull
 halt_of_monitor monitor_fault.NoMemory = NoMemory
 
 -- of two the one with the lesser status
+abbrev pub least : Halt → Halt → Halt
+least one other = if nat_lt (status_of other) (status_of one) then other else one
+
+-- the same of two that may lack
 abbrev pub lesser : Option Halt → Option Halt → Option Halt
 lesser None other = other
 lesser (Some one) None = Some one
-lesser (Some one) (Some other) = Some (if nat_lt (status_of other) (status_of one) then other else one)
+lesser (Some one) (Some other) = Some (least one other)
 
 -- why a worker has stopped, where that is a fault
 abbrev pub worker_halt : Option Stopped → Option Halt

@@ -2,7 +2,9 @@ pub mod Connections
 pub mod Done
 pub mod Ending
 pub mod Halts
+pub mod Laws
 pub mod Monitors
+pub mod Over
 pub mod Parts
 pub mod Seating
 pub mod Seats

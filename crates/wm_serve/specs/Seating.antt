@@ -1,5 +1,5 @@
 -- Passes that are given to seats, and that seats give back.
-use Rattle.std.specs.Prelude.{ℕ, List, [], ◌∷◌, Option, Some, None, IfSome, if◌then◌else◌}
+use Rattle.std.specs.Prelude.{List, [], ◌∷◌, Option, Some, None, IfSome, if◌then◌else◌}
 use Rattle.wm_floor.specs.Floor.{Floored, IsPassOf, Seen}
 use Rattle.wm_serve.specs.Seats.{pass_of, takes_pass}
 use Rattle.wm_serve.specs.declared.seat.Seat.{Seat}

@@ -1,5 +1,5 @@
 -- The seats of a server's threads, and what a thread makes of its seat.
-use Rattle.std.specs.Prelude.{◌≡◌, ◌⊎◌, ℕ, ◌-◌, ◌^◌, ◌≤◌, min, Bool, true, false, List, [], ◌∷◌, Option, Some, None}
+use Rattle.std.specs.Prelude.{◌≡◌, ◌⊎◌, ℕ, ◌-◌, ◌^◌, ◌≤◌, min, Bool, true, false, List, Option, Some, None}
 use Rattle.wm_base.specs.declared.job.Asked.{Asked}
 use Rattle.wm_traits.specs.Cause.{raised}
 use Rattle.wm_traits.specs.declared.spawner.Told.{Told}
@@ -7,8 +7,8 @@ use Rattle.wm_floor.specs.Floor.{Floored, IsPassOf, IsSame, Seen}
 use Rattle.wm_listener.specs.Had.{Had}
 use Rattle.wm_monitor.specs.declared.fault.MonitorFault.{MonitorFault}
 use Rattle.wm_shared_monitor.specs.Causes.{IsCaused}
-use Rattle.wm_shared_monitor.specs.Scene.{OwesSeen}
-use Rattle.wm_serve.specs.Connections.{DeskServes}
+use Rattle.wm_shared_monitor.specs.Scene.{IsClear, OwesSeen}
+use Rattle.wm_serve.specs.Connections.{DeskServes, MakesCommands}
 use Rattle.wm_serve.specs.Monitors.{MonitorAttends}
 use Rattle.wm_serve.specs.declared.seat.MonitorSeat.{MonitorSeat}
 use Rattle.wm_serve.specs.declared.seat.Seat.{Seat}
@@ -89,7 +89,7 @@ module _ {K D P C : Type 0} where
   abbrev pub IsFresh : Tellers D P → Seat K D P C → Type 0
   IsFresh t (Worker w) = (w.pass ≡ None) × ((w.stopped ≡ None) × (t.hand w.desk ≡ None))
   IsFresh t (Closer c) = Unit {0}
-  IsFresh t (Monitor m) = (m.pass ≡ None) × ((m.fault ≡ None) × ((seen : List _) → OwesSeen seen m.monitor))
+  IsFresh t (Monitor m) = (m.pass ≡ None) × ((m.fault ≡ None) × IsClear m.monitor)
 
   -- a worker with its pass of the floor, and with no connection in hand
   pub record WorkerSits (t : Tellers D P) (f : Floored K) (w : WorkerSeat K D C) : Type 0 where
@@ -98,13 +98,13 @@ module _ {K D P C : Type 0} where
     pub own : IsPassOf f pass
     pub free : t.hand w.desk ≡ None
 
-  -- the seat has what its thread needs
+  -- the seat has what its thread needs; a monitor that no fault ended keeps no report
   abbrev pub Sits : Tellers D P → Floored K → Seat K D P C → Type 0
   Sits t f (Worker w) = WorkerSits t f w
   Sits t f (Closer c) = Unit {0}
-  Sits t f (Monitor m) = MonitorSits f m
+  Sits t f (Monitor m) = MonitorSits f m × (m.fault ≡ None → m.monitor.kept ≡ None)
 
-  -- a worker between two moments: the connections that its desk tells were served, and its counts rose where it says why it stopped
+  -- a worker between two moments: its entries are users' commands, the connections that its desk tells were served, and its counts rose where it says why it stopped
   pub record WorkerRuns (t : Tellers D P) (f : Floored K) (old new : WorkerSeat K D C) : Type 0 where
     pub from : Seen K
     pub to : Seen K
@@ -113,11 +113,12 @@ module _ {K D P C : Type 0} where
     pub same : IsSame from to
     pub served : DeskServes f.opening (t.had old.desk) (t.had new.desk) from to
     pub dries : IsLater (t.dries old.desk) (t.dries new.desk)
+    pub commands : MakesCommands from to
     pub dry : new.stopped ≡ Some Dry → (old.stopped ≡ Some Dry) ⊎ (raised (t.dries old.desk) ≤ t.dries new.desk)
     pub looks : IsLater (t.looks old.desk) (t.looks new.desk)
     pub failed : new.stopped ≡ Some Failed → (old.stopped ≡ Some Failed) ⊎ (raised (t.looks old.desk) ≤ t.looks new.desk)
 
-  -- a monitor between two moments: it did its part, and a fault has its cause
+  -- a monitor between two moments: it did its part, a fault has its cause, and without one no report is kept
   pub record MonitorRuns (t : Tellers D P) (f : Floored K) (old new : MonitorSeat K P C) : Type 0 where
     pub from : Seen K
     pub to : Seen K
@@ -125,6 +126,7 @@ module _ {K D P C : Type 0} where
     pub has : new.pass ≡ Some to
     pub part : MonitorAttends t.asked t.told t.misses t.faults f from old.monitor old.spawner to new.monitor new.spawner
     pub cause : (fault : MonitorFault) → new.fault ≡ Some fault → (old.fault ≡ Some fault) ⊎ IsCaused (t.faults old.spawner) (t.faults new.spawner) from.mark to.mark to.seen fault
+    pub told : new.fault ≡ None → new.monitor.kept ≡ None
 
   -- what a worker did until it stopped for this reason
   pub record WorkerServes (t : Tellers D P) (f : Floored K) (old new : WorkerSeat K D C) (why : Stopped) : Type 0 where
@@ -135,6 +137,7 @@ module _ {K D P C : Type 0} where
     pub same : IsSame from to
     pub served : DeskServes f.opening (t.had old.desk) (t.had new.desk) from to
     pub dries : IsLater (t.dries old.desk) (t.dries new.desk)
+    pub commands : MakesCommands from to
     pub dry : why ≡ Dry → raised (t.dries old.desk) ≤ t.dries new.desk
     pub looks : IsLater (t.looks old.desk) (t.looks new.desk)
     pub failed : why ≡ Failed → raised (t.looks old.desk) ≤ t.looks new.desk

@@ -2,6 +2,7 @@
 use Rattle.std.specs.Prelude.{◌≡◌, ◌⊎◌, ℕ, ℤ, ◌+◌, ◌≤◌, ◌==◌, ◌&&◌, Bool, true, false, List, [], ◌∷◌, drop, length, pos, take, ⊤, Option, Some, None, IfSome, nat_eq}
 use Rattle.std.specs.List.{list_all, list_any}
 use Rattle.wm_traits.specs.Cause.{raised}
+use Rattle.wm_traits.specs.Told.{Grows, Stays}
 use Rattle.wm_traits.specs.declared.fault.KeepFault.{KeepFault}
 use Rattle.wm_traits.specs.declared.fault.KeepFault.TheVariants as keep
 use Rattle.wm_traits.specs.declared.row.Row.{Row}
@@ -40,8 +41,8 @@ of_serve (Some (Drill plan)) = None
 abbrev pub serve_plan : List (List ℕ) → Option ServePlan
 serve_plan words = of_serve (plan_of words)
 
--- a server whose floor was opened: its history is one from a state of the rows that it found, where local time is so far ahead of UTC
-pub record HasHistory (offset : ℤ) (status : ℕ) (log : List Entry) (old new : Telling) : Type 0 where
+-- a server whose floor was opened: its history is one from a state of the rows that it found, where local time is so far ahead of UTC, and this was done
+pub record HasHistory (offset : ℤ) (status : ℕ) (log : List Entry) (old new : Telling) (Done : State → List Entry → Type 0) : Type 0 where
   pub opened : State
   pub rows : List Row
   -- where the tables are told to the end, these are the rows that were told
@@ -54,6 +55,7 @@ pub record HasHistory (offset : ℤ) (status : ℕ) (log : List Entry) (old new 
   pub idle : status ≡ 0 → active (after opened log) ≡ 0
   pub tables : HasTables (after opened log) new.tables
   pub trail : HasTrail (record { opened = opened; log = log }) old new
+  pub done : Done opened log
 
 -- the status of a server whose store gave no keeper
 abbrev pub store_status : KeepFault → ℕ
@@ -81,12 +83,12 @@ IsUnopened status = list_any (nat_eq status) (2 ∷ 5 ∷ 6 ∷ 9 ∷ []) ≡ tr
 -- such a server left the rows or, for want of memory, has a history with no entry
 pub record HasNone (offset : ℤ) (status : ℕ) (old new : Telling) : Type 0 where
   pub early : IsUnopened status
-  pub left : IsLeft old new ⊎ ((status ≡ 6) × HasHistory offset status [] old new)
+  pub left : IsLeft old new ⊎ ((status ≡ 6) × HasHistory offset status [] old new (λ opened log. ⊤))
 
 -- the one or the other
-abbrev pub HasLog : ℤ → ℕ → Option (List Entry) → Telling → Telling → Type 0
-HasLog offset status None old new = HasNone offset status old new
-HasLog offset status (Some log) old new = HasHistory offset status log old new
+abbrev pub HasLog : ℤ → ℕ → Option (List Entry) → Telling → Telling → (State → List Entry → Type 0) → Type 0
+HasLog offset status None old new Done = HasNone offset status old new
+HasLog offset status (Some log) old new Done = HasHistory offset status log old new Done
 
 -- of a seat before and behind, at one place at least
 abbrev pub AnyZip : {A B : Type 0} → (A → B → Type 0) → List A → List B → Type 0
@@ -147,6 +149,11 @@ offset_of (Some plan) = plan.offset
 abbrev pub limit_of : Option ServePlan → ℕ
 limit_of None = 1000000
 limit_of (Some plan) = plan.log_limit
+
+-- a store is opened once, at the path of the plan; none is where the seats aren't as it says, and for want of memory none may be
+abbrev pub OpensPlanned : Option ServePlan → ℕ → Option (List (List ℕ)) → Option (List (List ℕ)) → Type 0
+OpensPlanned None status old new = Stays old new
+OpensPlanned (Some plan) status old new = ((status ≡ 2 → ⊥) × Grows old new (plan.store ∷ [])) ⊎ (((status ≡ 2) ⊎ (status ≡ 6)) × Stays old new)
 
 -- there is no plan, or the seats aren't as it says
 abbrev pub IsUnfit : {K D P C : Type 0} → Option ServePlan → List (Seat K D P C) → Type 0

@@ -1,5 +1,5 @@
 // A monitor's thread: it starts jobs, ends them and reports their ends, until nothing is left to do.
-ghost use Rattle.std.specs.Prelude.{◌≡◌, IfErr, IfSome};
+ghost use Rattle.std.specs.Prelude.{◌≡◌, IfErr, IfSome, None, OnOk};
 ghost use Rattle.wm_floor.specs.Floor.{IsPassOf};
 ghost use Rattle.wm_shared_monitor.specs.Causes.{IsCaused};
 ghost use Rattle.wm_shared_monitor.specs.Scene.{OwesSeen};
@@ -27,7 +27,8 @@ pub(crate) fn wait_until(now: Moment, next: Option<Moment>) -> Moment {
     }
 }
 
-// One turn, and a wait where it made no entry. It answers whether nothing is left to do.
+// One turn, and a wait where it made no entry. It answers whether nothing is left to do, or another thread has stopped by a
+// fault.
 fn turn_once<K: Keeper, P: Spawner, C: Clock, R: Wait>(
     rt: &R,
     alloc: Global,
@@ -42,9 +43,13 @@ fn turn_once<K: Keeper, P: Spawner, C: Clock, R: Wait>(
     requires owes { OwesSeen pass.old.seen monitor.old }
     ensures part { MonitorAttends P.asked P.told P.misses P.faults floor.now pass.old monitor.old spawner.old pass.new monitor.new spawner.new }
     ensures owes { OwesSeen pass.new.seen monitor.new }
+    ensures told { OnOk result (monitor.new.kept ≡ None) }
     ensures cause { IfErr result (IsCaused (P.faults spawner.old) (P.faults spawner.new) pass.old.mark pass.new.mark pass.new.seen) }
 {
     let turned = monitor.turn(rt, alloc, floor, pass, spawner, clock)?;
+    if board.is_stopped() {
+        return Ok(true);
+    }
     if turned.sent > 0 {
         return Ok(false);
     }
@@ -72,12 +77,10 @@ pub fn attend<K: Keeper, P: Spawner, C: Clock, R: Wait>(
     requires owes { OwesSeen pass.old.seen monitor.old }
     ensures part { MonitorAttends P.asked P.told P.misses P.faults floor.now pass.old monitor.old spawner.old pass.new monitor.new spawner.new }
     ensures owes { OwesSeen pass.new.seen monitor.new }
+    ensures told { result ≡ None → monitor.new.kept ≡ None }
     ensures cause { IfSome result (IsCaused (P.faults spawner.old) (P.faults spawner.new) pass.old.mark pass.new.mark pass.new.seen) }
 {
     'turns: for _ in rt.forever() {
-        if board.is_stopped() {
-            return None;
-        }
         match turn_once(rt, alloc, floor, pass, monitor, spawner, clock, board) {
             Ok(false) => {}
             Ok(true) => return None,

@@ -1,6 +1,6 @@
 // Why a server ends early.
 ghost use Rattle.std.specs.Prelude.{◌≡◌};
-ghost use Rattle.wm_serve.specs.Halts.{halt_of_call, halt_of_monitor, lesser, status_of};
+ghost use Rattle.wm_serve.specs.Halts.{halt_of_call, halt_of_monitor, least, lesser, status_of};
 ghost use Rattle.wm_serve.specs.declared.halt.Halt.TheVariants.{NoMemory};
 
 use std::alloc::AllocError;
@@ -79,16 +79,23 @@ impl Halt {
 }
 
 /// Of two reasons the one with the lesser status.
+pub(crate) fn least(one: Halt, other: Halt) -> Halt
+    ensures { result ≡ least one other }
+{
+    if other.status() < one.status() {
+        other
+    } else {
+        one
+    }
+}
+
+/// The same of reasons that may lack.
 pub(crate) fn lesser(one: Option<Halt>, other: Option<Halt>) -> Option<Halt>
     ensures { result ≡ lesser one other }
 {
     match (one, other) {
         (None, other) => other,
         (one, None) => one,
-        (Some(one), Some(other)) => Some(if other.status() < one.status() {
-            other
-        } else {
-            one
-        }),
+        (Some(one), Some(other)) => Some(least(one, other)),
     }
 }

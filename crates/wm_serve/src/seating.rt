@@ -116,6 +116,7 @@ pub(crate) fn leave_all<K: Keeper, D, P, C>(
     ensures own { IsPassOf floor.now zero.new }
     ensures zero { zero.new ≡ fold left zero.old seats.old }
     ensures seats { seats.new ≡ map (with_pass None) seats.old }
+    ensures seen { StartsWith zero.new.seen zero.old.seen }
     ensures told { All (HasTold zero.new) seats.old }
 {
     for seat in seats.iter_mut() {

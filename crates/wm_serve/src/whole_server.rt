@@ -1,6 +1,6 @@
 // A whole server: what the words say, the floor over the store, the threads, and the status.
-ghost use Rattle.std.specs.Prelude.{◌≡◌, ◌≢◌, ◌⊎◌, ℕ, ◌<◌, ◌≤◌, [], All, Err, IfErr, IfOk, IfSome, None, OnOk, Some, count_by, length, map, string_bytes};
-ghost use Rattle.std.specs.List.{list_all};
+ghost use Rattle.std.specs.Prelude.{◌≡◌, ◌≢◌, ◌⊎◌, ℕ, ◌<◌, ◌≤◌, true, [], All, Err, IfErr, IfOk, IfSome, None, OnOk, Some, count_by, length, map, string_bytes};
+ghost use Rattle.std.specs.List.{AllZip, list_all};
 ghost use Rattle.wm_traits.specs.Cause.{raised};
 ghost use Rattle.wm_law.specs.Pending.{active};
 ghost use Rattle.wm_run.specs.Kept.{HasBadRow};
@@ -15,8 +15,9 @@ ghost use Rattle.wm_turn.specs.Passed.{HasOwn, fresh, own};
 ghost use Rattle.wm_serve.specs.Ending.{HasWritten, IsCloserAt, WritesReady};
 ghost use Rattle.wm_serve.specs.Halts.{ended_status};
 ghost use Rattle.wm_serve.specs.Seats.{IsFresh, pass_of, takes_pass, tellers};
-ghost use Rattle.wm_serve.specs.Done.{AreServed, SeatsServed};
-ghost use Rattle.wm_serve.specs.Server.{AnyZip, DeskRose, HasLog, IsEndHalt, IsServeStatus, IsUnfit, SpawnerRose, are_fit, is_closer, is_monitor, is_worker, limit_of, offset_of, open_status, serve_plan, store_status};
+ghost use Rattle.wm_serve.specs.Done.{AreServed, AreServedBy, SeatsServed};
+ghost use Rattle.wm_serve.specs.Over.{AreServerCalls, DryRose, Finishes};
+ghost use Rattle.wm_serve.specs.Server.{AnyZip, DeskRose, HasLog, IsEndHalt, IsServeStatus, IsUnfit, OpensPlanned, SpawnerRose, are_fit, is_closer, is_monitor, is_worker, limit_of, offset_of, open_status, serve_plan, store_status};
 
 use crate::halt::Halt;
 use crate::seat::Seat;
@@ -166,6 +167,8 @@ where
     ensures written { WritesReady result (O.written out.old) (O.written out.new) }
     ensures faults { O.faults out.old ≤ O.faults out.new }
     ensures cause { IfErr result (IsEndHalt (tellers L.D.hand L.D.had L.D.dries L.D.faults P.asked P.told P.misses P.faults) floor.now.opening.limit (O.faults out.old) (O.faults out.new) seats.old seats.new zero.new) }
+    ensures calls { AreServerCalls plan.now.ctl zero.new.mine }
+    ensures finishes { OnOk result (Finishes (AllZip (DryRose (tellers L.D.hand L.D.had L.D.dries L.D.faults P.asked P.told P.misses P.faults)) seats.old seats.new) floor.now.opening.state plan.now.ctl seats.new zero.new) }
     ensures served { HasOwn caller_of zero.new.seen zero.new.joined → SeatsServed (tellers L.D.hand L.D.had L.D.dries L.D.faults P.asked P.told P.misses P.faults) floor.now zero.new.seen 1 seats.old seats.new }
 {
     enter_all(seats, floor, zero);
@@ -244,10 +247,10 @@ where
     requires some { 1 ≤ plan.now.log_limit }
     requires most { plan.now.log_limit ≤ 1000000 }
     requires few { length seats.old ≤ 25 }
-    requires closer { IsCloserAt plan.now.workers seats.old }
+    requires fit { are_fit plan.now.workers plan.now.monitors seats.old ≡ true }
     requires fresh { All (IsFresh (tellers L.D.hand L.D.had L.D.dries L.D.faults P.asked P.told P.misses P.faults)) seats.old }
     ensures vacant { All (λ seat. pass_of seat ≡ None) seats.new }
-    ensures log { HasLog plan.now.offset result.0.status result.0.log (telling K.tables K.trail keeper) (telling K.tables K.trail result.1) }
+    ensures log { HasLog plan.now.offset result.0.status result.0.log (telling K.tables K.trail keeper) (telling K.tables K.trail result.1) (λ opened log. AreServed (tellers L.D.hand L.D.had L.D.dries L.D.faults P.asked P.told P.misses P.faults) plan.now result.0.status opened log seats.old seats.new) }
     ensures written { HasWritten result.0.status (O.written out.old) (O.written out.new) }
     ensures write_fault { result.0.status ≡ 4 → raised (O.faults out.old) ≤ O.faults out.new }
     ensures keeper_fault { result.0.status ≡ 5 → raised (K.faults keeper) ≤ K.faults result.1 }
@@ -259,7 +262,6 @@ where
     ensures begun { result.0.status ≡ 2 → ⊥ }
     ensures statuses { IsServeStatus result.0.status }
     ensures callers { IfSome result.0.log (λ log. (n : ℕ) → count_by takes_pass seats.old < n → own caller_of n log ≡ []) }
-    ensures served { IfSome result.0.log (λ log. AreServed (tellers L.D.hand L.D.had L.D.dries L.D.faults P.asked P.told P.misses P.faults) log seats.old seats.new) }
 {
     let setup = Setup {
         ctl: plan.ctl,
@@ -343,7 +345,8 @@ where
     ensures vacant { All (λ seat. pass_of seat ≡ None) seats.new }
     ensures words { serve_plan (map string_bytes words.now) ≡ None → (result.status ≡ 2) ⊎ (result.status ≡ 6) }
     ensures wrong { result.status ≡ 2 → IsUnfit (serve_plan (map string_bytes words.now)) seats.old }
-    ensures log { HasLog (offset_of (serve_plan (map string_bytes words.now))) result.status result.log (telling S.tables S.trail store.old) (telling S.tables S.trail store.new) }
+    ensures opened { OpensPlanned (serve_plan (map string_bytes words.now)) result.status (S.opened store.old) (S.opened store.new) }
+    ensures log { HasLog (offset_of (serve_plan (map string_bytes words.now))) result.status result.log (telling S.tables S.trail store.old) (telling S.tables S.trail store.new) (AreServedBy (tellers L.D.hand L.D.had L.D.dries L.D.faults P.asked P.told P.misses P.faults) (serve_plan (map string_bytes words.now)) result.status seats.old seats.new) }
     ensures written { HasWritten result.status (O.written out.old) (O.written out.new) }
     ensures write_fault { result.status ≡ 4 → raised (O.faults out.old) ≤ O.faults out.new }
     ensures keeper_fault { result.status ≡ 5 → raised (S.faults store.old) ≤ S.faults store.new }
@@ -352,7 +355,6 @@ where
     ensures bad_row { result.status ≡ 9 → HasBadRow (offset_of (serve_plan (map string_bytes words.now))) (S.tables store.old) (S.tables store.new) }
     ensures listen_fault { result.status ≡ 10 → AnyZip (DeskRose (tellers L.D.hand L.D.had L.D.dries L.D.faults P.asked P.told P.misses P.faults)) seats.old seats.new }
     ensures callers { IfSome result.log (λ log. (n : ℕ) → count_by takes_pass seats.old < n → own caller_of n log ≡ []) }
-    ensures served { IfSome result.log (λ log. AreServed (tellers L.D.hand L.D.had L.D.dries L.D.faults P.asked P.told P.misses P.faults) log seats.old seats.new) }
     ensures out_faults { O.faults out.old ≤ O.faults out.new }
     ensures statuses { IsServeStatus result.status }
 {

@@ -3,7 +3,7 @@ ghost use Rattle.std.specs.Prelude.{◌≡◌, ◌≤◌, None, Some};
 ghost use Rattle.wm_traits.specs.Cause.{raised};
 ghost use Rattle.wm_traits.specs.Told.{IsEmpty};
 ghost use Rattle.wm_floor.specs.Floor.{IsPassOf, IsSame};
-ghost use Rattle.wm_serve.specs.Connections.{DeskServes};
+ghost use Rattle.wm_serve.specs.Connections.{DeskServes, MakesCommands};
 
 use std::alloc::Global;
 use std::sync::Wait;
@@ -50,6 +50,7 @@ fn serve_connection<K: Keeper, L: Listener, C: Clock, G: Gate, R: Wait>(
     ensures same { IsSame pass.old pass.new }
     ensures free { L.D.hand desk.new ≡ None }
     ensures served { DeskServes floor.now.opening (L.D.had desk.old) (L.D.had desk.new) pass.old pass.new }
+    ensures commands { MakesCommands pass.old pass.new }
     ensures dries { L.D.dries desk.new ≡ L.D.dries desk.old }
     ensures faults { L.D.faults desk.new ≡ L.D.faults desk.old }
 {
@@ -92,6 +93,7 @@ pub fn work<K: Keeper, L: Listener, C: Clock, G: Gate, R: Wait>(
     ensures same { IsSame pass.old pass.new }
     ensures free { L.D.hand desk.new ≡ None }
     ensures served { DeskServes floor.now.opening (L.D.had desk.old) (L.D.had desk.new) pass.old pass.new }
+    ensures commands { MakesCommands pass.old pass.new }
     ensures dry { result ≡ Stopped.Dry → L.D.dries desk.new ≡ raised (L.D.dries desk.old) }
     ensures not_dry { (result ≡ Stopped.Dry → ⊥) → L.D.dries desk.new ≡ L.D.dries desk.old }
     ensures failed { result ≡ Stopped.Failed → raised (L.D.faults desk.old) ≤ L.D.faults desk.new }

@@ -6,6 +6,7 @@
 //! threads' doing.
 #![tactic(auto)]
 
+mod failing;
 mod holding;
 mod rows;
 mod seats;

@@ -1,6 +1,7 @@
 // The seats of a server over forms in memory, on which nothing has run.
 ghost use Rattle.wm_test_serve.specs.Fresh.{AreFresh};
 
+use crate::failing::Failing;
 use std::alloc::{AllocError, Global};
 use wm_base::Moment;
 use wm_listener::MemDesk;
@@ -29,20 +30,19 @@ fn add_closer(crew: &mut TestCrew) -> Result<(), AllocError>
     crew.push(Seat::closer(clock()))
 }
 
-fn add_monitor(alloc: Global, crew: &mut TestCrew) -> Result<(), AllocError>
+fn add_monitor(spawner: MemSpawner, crew: &mut TestCrew) -> Result<(), AllocError>
     requires fresh { AreFresh crew.old.seats.items }
     ensures fresh { AreFresh crew.new.seats.items }
 {
-    let none = || Vec::new(alloc);
-    let spawner = MemSpawner::new(alloc, 0, none(), none(), none());
     crew.push(Seat::monitor(spawner, clock()))
 }
 
-/// The seats of so many workers, the closer and so many monitors.
+/// The seats of so many workers, the closer and so many monitors, of which one call may fail.
 pub fn add_seats(
     alloc: Global,
     workers: u32,
     monitors: u32,
+    failing: Failing,
     crew: &mut TestCrew,
 ) -> Result<(), AllocError>
     requires fresh { AreFresh crew.old.seats.items }
@@ -53,7 +53,7 @@ pub fn add_seats(
     }
     add_closer(crew)?;
     for _ in 0..monitors {
-        add_monitor(alloc, crew)?;
+        add_monitor(failing.spawner(alloc)?, crew)?;
     }
     Ok(())
 }

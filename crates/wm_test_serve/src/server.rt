@@ -3,6 +3,7 @@ ghost use Rattle.std.specs.Prelude.{◌≡◌, None, All};
 ghost use Rattle.wm_serve.specs.Seats.{pass_of};
 ghost use Rattle.wm_test_serve.specs.Fresh.{AreFresh};
 
+use crate::failing::Failing;
 use crate::holding::HoldingGate;
 use crate::seats::{TestCrew, TestSeat, add_seats};
 use crate::told::tell_log;
@@ -152,7 +153,7 @@ fn play_crew<R: Threads + Wait + Sync>(rt: &R, alloc: Global, crew: &mut TestCre
 /// What a server came to.
 pub fn play_server<R: Threads + Wait + Sync>(rt: &R, alloc: Global) -> Result<String> {
     let mut crew = Crew::new(alloc);
-    let told = match add_seats(alloc, 2, 2, &mut crew) {
+    let told = match add_seats(alloc, 2, 2, Failing::Nothing, &mut crew) {
         Ok(()) => play_crew(rt, alloc, &mut crew),
         Err(fault) => Err(fault.into()),
     };

@@ -2,6 +2,7 @@ use Rattle.std.proofs.Common.{◌∙◌, ◌<◌, None, ap, arith, get_or, lengt
 use Rattle.std.proofs.lemmas.List.{get_or_default}
 use Rattle.std.proofs.lemmas.List.Edits.{map_over_more}
 use Rattle.wm_floor.specs.Floor.{Seen}
+use Rattle.wm_turn.proofs.Histories.{starts_again}
 use Rattle.wm_serve.specs.Seating.{HasPassOf, with_pass}
 use Rattle.wm_serve.specs.Done.{HasTold}
 use Rattle.wm_serve.proofs.Leaving.{left_more, next_left, number_left}
@@ -30,5 +31,6 @@ loop-seat-preserved g c =
       own = one.own;
       zero = left_more c.args.zero.now c.loop-seat.zero c.leave.new.zero xs ys i d lt so_far.zero (next_left xs ys i d lt so_far.seats) one.zero;
       seats = ap (set ys i) one.seat ∙ map_over_more (with_pass None) xs ys i (get_or ys i d) lt so_far.seats (get_or_default ys i d (get_or ys i d) here);
+      seen = starts_again c.leave.new.zero.seen c.loop-seat.zero.seen c.args.zero.now.seen one.seen so_far.seen;
       told = told_more c.loop-seat.zero c.leave.new.zero xs i d lt one.seen so_far.told (subst (HasTold c.leave.new.zero) (next_left xs ys i d lt so_far.seats) one.told);
     }

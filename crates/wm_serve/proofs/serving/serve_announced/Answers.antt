@@ -9,5 +9,5 @@ returns-in_err-announce-clause-run g c =
     let p = g.P.Spawner in
     all_none (tellers d.hand d.had d.dries d.faults p.asked p.told p.misses p.faults) c.args.floor.now c.args.seats.now c.requires.sit
 
-pub returns-in_err-serve_rounds-clause-written : goal.returns-in_err-serve_rounds-clause-written
-returns-in_err-serve_rounds-clause-written g c = writes_err c.from_residual-in_err-serve_rounds.result _ _ c.from_residual-in_err-serve_rounds.ensures.0 (writes_part c.announce.result _ _ c.announce.ensures.written)
+pub returns-in_err-last-clause-written : goal.returns-in_err-last-clause-written
+returns-in_err-last-clause-written g c = writes_err c.from_residual-in_err-last.result _ _ c.from_residual-in_err-last.ensures.0 (writes_part c.announce.result _ _ c.announce.ensures.written)

@@ -1,4 +1,4 @@
-use Rattle.std.proofs.Common.{◌≡◌, ◌∷◌, ◌++◌, ◌<◌, All, [], arith, get_or, length, subst, sym}
+use Rattle.std.proofs.Common.{◌∷◌, ◌++◌, ◌<◌, All, [], arith, get_or, length, subst, sym}
 use Rattle.std.proofs.lemmas.List.{get_or_default, length-append}
 use Rattle.std.proofs.lemmas.List.Elements.{All-push, all_zip_more}
 use Rattle.wm_serve.specs.Seats.{Runs, Sits, tellers}

@@ -12,6 +12,7 @@ returns-clause-serves g c =
       has = refl;
       same = search rules;
       served = search rules;
+      commands = search rules;
       dries = dry_later c.work.result _ _ w.dry w.not_dry;
       dry = λ is. (let d = w.dry is in omega arith);
       looks = failed_later c.work.result _ _ w.failed w.not_failed;

@@ -1,16 +1,17 @@
-use Rattle.std.proofs.Common.{◌≡◌, ◌∙◌, ◌≤◌, ℕ, Err, IfSome, List, Option, ap, arith, inl, length, map, refl, string_bytes, subst, sym}
+use Rattle.std.proofs.Common.{◌≡◌, ◌∙◌, ◌≤◌, ℕ, Err, IfSome, List, Option, Some, ap, arith, inl, length, map, refl, string_bytes, subst, sym}
 use Rattle.wm_traits.specs.Cause.{raised}
 use Rattle.wm_law.specs.declared.call.Entry.{Entry}
 use Rattle.wm_journal.specs.Keeping.{telling}
 use Rattle.wm_journal.proofs.Staying.{Stays-same}
 use Rattle.wm_plan.specs.declared.plan.ServePlan.{ServePlan}
 use Rattle.wm_run.specs.Kept.{HasBadRow}
+use Rattle.wm_run.proofs.Openings.{Grows-stays}
+use Rattle.wm_serve.specs.Done.{AreServedBy}
 use Rattle.wm_serve.specs.Seats.{tellers}
 use Rattle.wm_serve.specs.Server.{HasLog, limit_of, offset_of, serve_plan, store_status}
-use Rattle.wm_serve.proofs.Closers.{fit_closer}
 use Rattle.wm_serve.proofs.Histories.{written_none}
 use Rattle.wm_serve.proofs.Seatings.{vacant_all}
-use Rattle.wm_serve.proofs.Stores.{bad_row_of_store, fault_of_store, log_left, log_of_store, store_failed, store_listed, store_range, store_unopened, words_begun, words_either, words_listed, words_unopened}
+use Rattle.wm_serve.proofs.Stores.{bad_row_of_store, fault_of_store, log_left, log_of_store, opened_early, opened_once, opened_unfit, store_failed, store_listed, store_range, store_unopened, words_begun, words_either, words_listed, words_unopened}
 use Rattle.wm_serve.proofs.whole_server.serve.Goals as goal
 
 pub returns-in-Err-clause-vacant : goal.returns-in-Err-clause-vacant
@@ -29,7 +30,10 @@ returns-in-Err-clause-log g c =
     let s = g.S.Store in
     let T = telling s.tables s.trail in
     let offset = offset_of (serve_plan (map string_bytes c.args.words.now)) in
-    log_left offset c.not_begun.result.status c.not_begun.result.log (T c.args.store.now) (T c.args.store.now) c.not_begun.ensures.log (words_unopened c.not_begun.result.status c.in-Err.status c.not_begun.ensures.status c.in-Err.ensures.statuses) (Stays-same _) (Stays-same _)
+    let d = g.L.D.Desk in
+    let p = g.P.Spawner in
+    let t = tellers d.hand d.had d.dries d.faults p.asked p.told p.misses p.faults in
+    log_left offset c.not_begun.result.status c.not_begun.result.log (T c.args.store.now) (T c.args.store.now) (AreServedBy t (serve_plan (map string_bytes c.args.words.now)) c.not_begun.result.status c.args.seats.now c.args.seats.now) c.not_begun.ensures.log (words_unopened c.not_begun.result.status c.in-Err.status c.not_begun.ensures.status c.in-Err.ensures.statuses) (Stays-same _) (Stays-same _)
 
 pub returns-in-Err-clause-written : goal.returns-in-Err-clause-written
 returns-in-Err-clause-written g c =
@@ -51,16 +55,17 @@ returns-then-not-are_fit-clause-log g c =
     let s = g.S.Store in
     let T = telling s.tables s.trail in
     let offset = offset_of (serve_plan (map string_bytes c.args.words.now)) in
-    log_left offset c.not_begun-then-not-are_fit.result.status c.not_begun-then-not-are_fit.result.log (T c.args.store.now) (T c.args.store.now) c.not_begun-then-not-are_fit.ensures.log (words_unopened c.not_begun-then-not-are_fit.result.status 2 c.not_begun-then-not-are_fit.ensures.status (inl refl)) (Stays-same _) (Stays-same _)
+    let d = g.L.D.Desk in
+    let p = g.P.Spawner in
+    let t = tellers d.hand d.had d.dries d.faults p.asked p.told p.misses p.faults in
+    log_left offset c.not_begun-then-not-are_fit.result.status c.not_begun-then-not-are_fit.result.log (T c.args.store.now) (T c.args.store.now) (AreServedBy t (serve_plan (map string_bytes c.args.words.now)) c.not_begun-then-not-are_fit.result.status c.args.seats.now c.args.seats.now) c.not_begun-then-not-are_fit.ensures.log (words_unopened c.not_begun-then-not-are_fit.result.status 2 c.not_begun-then-not-are_fit.ensures.status (inl refl)) (Stays-same _) (Stays-same _)
 
 pub returns-then-not-are_fit-clause-written : goal.returns-then-not-are_fit-clause-written
 returns-then-not-are_fit-clause-written g c =
     written_none c.not_begun-then-not-are_fit.result.status (g.O.Sink.written c.args.out.now) (words_begun c.not_begun-then-not-are_fit.result.status 2 c.not_begun-then-not-are_fit.ensures.status (inl refl))
 
-pub serve_kept-served-requires-clause-closer : goal.serve_kept-served-requires-clause-closer
-serve_kept-served-requires-clause-closer g c κs within =
-    let fit = c.if-not-are_fit.false in
-    fit_closer c.in-Ok.plan.workers c.in-Ok.plan.monitors c.args.seats.now (sym c.are_fit.ensures ∙ fit)
+pub serve_kept-served-requires-clause-fit : goal.serve_kept-served-requires-clause-fit
+serve_kept-served-requires-clause-fit g c κs within = sym c.are_fit.ensures ∙ c.if-not-are_fit.false
 
 pub returns-in-Ok-open-clause-log : goal.returns-in-Ok-open-clause-log
 returns-in-Ok-open-clause-log g c =
@@ -71,8 +76,13 @@ returns-in-Ok-open-clause-log g c =
     let served = c.serve_kept-served.result.0 in
     let old = T c.args.store.now in
     let new = T c.close.new.self in
-    let whole = log_of_store c.in-Ok.plan.offset served.status served.log old (U c.in-Ok-open.keeper) (U c.serve_kept-served.result.1) new c.in-Ok-open.ensures.tables c.in-Ok-open.ensures.trail c.close.ensures.tables c.close.ensures.trail (g.met.S.Store.trail_with_tables c.close.new.self) c.serve_kept-served.ensures.log in
-    subst (λ (plan : Option ServePlan). HasLog (offset_of plan) served.status served.log old new) (sym c.in-Ok.ensures.ok) whole
+    let d = g.L.D.Desk in
+    let p = g.P.Spawner in
+    let t = tellers d.hand d.had d.dries d.faults p.asked p.told p.misses p.faults in
+    let seats = c.serve_kept-served.new.seats in
+    let Done = λ (plan : Option ServePlan). AreServedBy t plan served.status c.args.seats.now seats in
+    let whole = log_of_store c.in-Ok.plan.offset served.status served.log old (U c.in-Ok-open.keeper) (U c.serve_kept-served.result.1) new (Done (Some c.in-Ok.plan)) c.in-Ok-open.ensures.tables c.in-Ok-open.ensures.trail c.close.ensures.tables c.close.ensures.trail (g.met.S.Store.trail_with_tables c.close.new.self) c.serve_kept-served.ensures.log in
+    subst (λ (plan : Option ServePlan). HasLog (offset_of plan) served.status served.log old new (Done plan)) (sym c.in-Ok.ensures.ok) whole
 
 pub returns-in-Ok-open-clause-keeper_fault : goal.returns-in-Ok-open-clause-keeper_fault
 returns-in-Ok-open-clause-keeper_fault g c =
@@ -119,7 +129,10 @@ returns-clause-log g c =
     let s = g.S.Store in
     let T = telling s.tables s.trail in
     let offset = offset_of (serve_plan (map string_bytes c.args.words.now)) in
-    log_left offset status c.not_begun-in-Err-open.result.log (T c.args.store.now) (T c.open.new.self) c.not_begun-in-Err-open.ensures.log (store_unopened fault status is) c.in-Err-open.ensures.err_tables c.in-Err-open.ensures.err_trail
+    let d = g.L.D.Desk in
+    let p = g.P.Spawner in
+    let t = tellers d.hand d.had d.dries d.faults p.asked p.told p.misses p.faults in
+    log_left offset status c.not_begun-in-Err-open.result.log (T c.args.store.now) (T c.open.new.self) (AreServedBy t (serve_plan (map string_bytes c.args.words.now)) status c.args.seats.now c.args.seats.now) c.not_begun-in-Err-open.ensures.log (store_unopened fault status is) c.in-Err-open.ensures.err_tables c.in-Err-open.ensures.err_trail
 
 pub returns-clause-written : goal.returns-clause-written
 returns-clause-written g c =
@@ -155,3 +168,24 @@ returns-clause-statuses g c =
     let status = c.not_begun-in-Err-open.result.status in
     let is : status ≡ store_status fault = c.not_begun-in-Err-open.ensures.status ∙ c.store_status.ensures in
     store_listed fault status is
+
+pub returns-in-Err-clause-opened : goal.returns-in-Err-clause-opened
+returns-in-Err-clause-opened g c =
+    opened_early (serve_plan (map string_bytes c.args.words.now)) c.not_begun.result.status c.in-Err.status (g.S.Store.opened c.args.store.now) c.not_begun.ensures.status c.in-Err.ensures.statuses (λ two. c.in-Err.ensures.wrong (ap Err two))
+
+pub returns-then-not-are_fit-clause-opened : goal.returns-then-not-are_fit-clause-opened
+returns-then-not-are_fit-clause-opened g c =
+    opened_unfit (serve_plan (map string_bytes c.args.words.now)) c.not_begun-then-not-are_fit.result.status (g.S.Store.opened c.args.store.now) c.not_begun-then-not-are_fit.ensures.status
+
+pub returns-clause-opened : goal.returns-clause-opened
+returns-clause-opened g c =
+    let fault = c.in-Err-open.fault in
+    let status = c.not_begun-in-Err-open.result.status in
+    let is : status ≡ store_status fault = c.not_begun-in-Err-open.ensures.status ∙ c.store_status.ensures in
+    opened_once (serve_plan (map string_bytes c.args.words.now)) c.in-Ok.plan c.as_str.result.now status (g.S.Store.opened c.args.store.now) (g.S.Store.opened c.open.new.self) c.in-Ok.ensures.ok c.as_str.ensures (λ two. absurd (omega (arith, two, (store_range fault status is).0))) c.open.ensures.opened
+
+pub returns-in-Ok-open-clause-opened : goal.returns-in-Ok-open-clause-opened
+returns-in-Ok-open-clause-opened g c =
+    let opened = g.S.Store.opened in
+    opened_once (serve_plan (map string_bytes c.args.words.now)) c.in-Ok.plan c.as_str.result.now c.serve_kept-served.result.0.status (opened c.args.store.now) (opened c.close.new.self) c.in-Ok.ensures.ok c.as_str.ensures c.serve_kept-served.ensures.begun
+    (Grows-stays (opened c.args.store.now) (opened c.open.new.self) (opened c.close.new.self) _ c.open.ensures.opened c.close.ensures.opened)

@@ -1,7 +1,9 @@
 use Rattle.std.proofs.Common.{◌≡◌, ◌∙◌, ◌≤◌, ◌<◌, ℕ, IfSome, List, [], Option, ap, arith, count_by, length, refl, subst, sym}
+use Rattle.std.specs.List.{AllZip}
 use Rattle.wm_traits.specs.Cause.{raised}
 use Rattle.wm_law.specs.Pending.{active}
 use Rattle.wm_law.specs.declared.call.Entry.{Entry}
+use Rattle.wm_law.specs.declared.state.State.{State}
 use Rattle.wm_journal.specs.History.{reached}
 use Rattle.wm_journal.specs.Keeping.{telling}
 use Rattle.wm_journal.specs.Trail.{HasTrail}
@@ -9,8 +11,12 @@ use Rattle.wm_floor.specs.Ledger.{behind, caller_of}
 use Rattle.wm_turn.specs.Passed.{own}
 use Rattle.wm_serve.specs.Seats.{takes_pass, tellers}
 use Rattle.wm_serve.specs.Done.{AreServed}
+use Rattle.wm_serve.specs.Over.{AreServerCalls, DryRose, Finishes, IsOver}
 use Rattle.wm_serve.specs.Server.{HasLog, IsEndHalt}
 use Rattle.wm_serve.specs.declared.halt.Halt.TheVariants.{WriteFault, KeeperFault, LogFull, WaitFault, ListenFault}
+use Rattle.wm_serve.proofs.Accepted.{is_over}
+use Rattle.wm_serve.proofs.Closers.{fit_closer}
+use Rattle.wm_serve.proofs.Powers.{restart_is_on}
 use Rattle.wm_serve.proofs.Ended.{ended_begun, ended_by, ended_listed, ended_read, ended_well, ended_written}
 use Rattle.wm_serve.proofs.Histories.{open_begun, opened_server, unopened_server, written_none}
 use Rattle.wm_serve.proofs.whole_server.serve_kept.Goals as goal
@@ -20,11 +26,18 @@ returns-in-Err-clause-log g c =
     let k = g.K.Keeper in
     let law = g.met.K.Keeper g.world.𝓛 g.world.𝓜 g.world.𝓡 ((λ s x. x), (λ x. x), (λ x. x), λ x. x) in
     let T = telling k.tables k.trail in
+    let d = g.L.D.Desk in
+    let p = g.P.Spawner in
+    let t = tellers d.hand d.had d.dries d.faults p.asked p.told p.misses p.faults in
     let offset = c.args.plan.now.offset in
     let status = c.not_begun.result.status in
     let back = c.in-Err.keeper in
     let none = unopened_server offset c.in-Err.fault status (T c.args.keeper) (T back) (c.not_begun.ensures.status ∙ c.open_status.ensures) c.in-Err.ensures.err (law.trail_with_tables c.args.keeper) (law.trail_with_tables back) in
-    subst (λ (log : Option (List Entry)). HasLog offset status log (T c.args.keeper) (T back)) (sym c.not_begun.ensures.log) none
+    let Done = λ (opened : State) (es : List Entry). AreServed t c.args.plan.now status opened es c.args.seats.now c.args.seats.now in
+    subst (λ (log : Option (List Entry)). HasLog offset status log (T c.args.keeper) (T back) Done) (sym c.not_begun.ensures.log) none
+
+pub serve_open-end-requires-clause-closer : goal.serve_open-end-requires-clause-closer
+serve_open-end-requires-clause-closer g c κs within = fit_closer c.args.plan.now.workers c.args.plan.now.monitors c.args.seats.now c.requires.fit
 
 pub returns-in-Err-clause-written : goal.returns-in-Err-clause-written
 returns-in-Err-clause-written g c =
@@ -45,8 +58,24 @@ returns-clause-log g c =
     let seen = c.serve_open-end.new.zero.seen in
     let idle : served.status ≡ 0 → active (reached (behind o seen)) ≡ 0 = λ none. ended_well (active (reached (behind o seen)) ≡ 0) c.serve_open-end.result served.status c.serve_open-end.ensures.idle (closed.status ∙ c.ended_status.ensures) none in
     let trail = subst (λ (found : _). HasTrail (behind o seen) (T found) (T keeper)) c.in-Ok.ensures.found closed.trail in
-    let whole = opened_server offset served.status seen o (T c.args.keeper) (T o.keeper) (T keeper) c.in-Ok.ensures.ok closed.legal idle closed.tables trail closed.untold (law.trail_with_tables c.args.keeper) (law.trail_with_tables keeper) in
-    subst (λ (log : Option (List Entry)). HasLog offset served.status log (T c.args.keeper) (T keeper)) (sym closed.log) whole
+    let d = g.L.D.Desk in
+    let p = g.P.Spawner in
+    let t = tellers d.hand d.had d.dries d.faults p.asked p.told p.misses p.faults in
+    let plan = c.args.plan.now in
+    let old = c.args.seats.now in
+    let new = c.serve_open-end.new.seats in
+    let ran = c.serve_open-end.ensures in
+    let its = ran.served closed.joined in
+    let on = restart_is_on offset c.in-Ok.ensures.ok.found o.state c.in-Ok.ensures.ok.restart in
+    let none : (n : ℕ) → count_by takes_pass old < n → own caller_of n seen ≡ [] = λ n lt. closed.callers n (omega (arith, lt, ran.made)) in
+    let over : served.status ≡ 0 → IsOver t plan.workers o.state seen old new = λ zero_.
+    is_over t c.in-Ok.opened.0 plan.ctl plan.workers plan.monitors old new c.serve_open-end.new.zero (ran.own.mine ∙ ap (λ (n : ℕ). own caller_of n seen) ran.zero) on closed.legal c.requires.fit its none
+    (ended_well (Finishes (AllZip (DryRose t) old new) o.state plan.ctl new c.serve_open-end.new.zero) c.serve_open-end.result served.status ran.finishes (closed.status ∙ c.ended_status.ensures) zero_) in
+    let mine = ran.own.mine ∙ ap (λ (n : ℕ). own caller_of n seen) ran.zero in
+    let all : AreServed t plan served.status o.state seen old new = record { floor = c.in-Ok.opened.0; opening = refl; seats = its; calls = subst (AreServerCalls plan.ctl) mine ran.calls; over = over } in
+    let Done = λ (opened : State) (es : List Entry). AreServed t plan served.status opened es old new in
+    let whole = opened_server offset served.status seen o (T c.args.keeper) (T o.keeper) (T keeper) Done c.in-Ok.ensures.ok closed.legal idle closed.tables trail closed.untold (law.trail_with_tables c.args.keeper) (law.trail_with_tables keeper) all in
+    subst (λ (log : Option (List Entry)). HasLog offset served.status log (T c.args.keeper) (T keeper) Done) (sym closed.log) whole
 
 pub returns-clause-written : goal.returns-clause-written
 returns-clause-written g c =
@@ -133,14 +162,3 @@ pub returns-clause-callers : goal.returns-clause-callers
 returns-clause-callers g c =
     let none : (n : ℕ) → count_by takes_pass c.args.seats.now < n → own caller_of n c.serve_open-end.new.zero.seen ≡ [] = λ n lt. c.close_floor.ensures.callers n (omega (arith, lt, c.serve_open-end.ensures.made)) in
     subst (λ (log : Option (List Entry)). IfSome log (λ (es : List Entry). (n : ℕ) → count_by takes_pass c.args.seats.now < n → own caller_of n es ≡ [])) (sym c.close_floor.ensures.log) none
-
-pub returns-clause-served : goal.returns-clause-served
-returns-clause-served g c =
-    let d = g.L.D.Desk in
-    let p = g.P.Spawner in
-    let t = tellers d.hand d.had d.dries d.faults p.asked p.told p.misses p.faults in
-    let old = c.args.seats.now in
-    let new = c.serve_open-end.new.seats in
-    let closed = c.close_floor.ensures in
-    let all : AreServed t c.serve_open-end.new.zero.seen old new = record { floor = c.in-Ok.opened.0; legal = closed.legal; seats = c.serve_open-end.ensures.served closed.joined } in
-    subst (λ (log : Option (List Entry)). IfSome log (λ (es : List Entry). AreServed t es old new)) (sym closed.log) all

@@ -1,6 +1,6 @@
 use Rattle.std.proofs.Common.{◌≡◌, None}
 use Rattle.wm_floor.specs.Floor.{IsPassOf, IsSame}
-use Rattle.wm_serve.specs.Connections.{DeskServes}
+use Rattle.wm_serve.specs.Connections.{DeskServes, MakesCommands}
 use Rattle.wm_serve.proofs.worker.work.Given as goal
 
 -- the connections that the desk tells since the loop began were served, and none is in hand
@@ -14,6 +14,7 @@ invariant-connections g l =
       same : IsSame l.fn.pass l.pass;
       free : desk.hand l.desk ≡ None;
       served : DeskServes l.floor.opening (desk.had l.fn.desk) (desk.had l.desk) l.fn.pass l.pass;
+      commands : MakesCommands l.fn.pass l.pass;
       dries : desk.dries l.desk ≡ desk.dries l.fn.desk;
       faults : desk.faults l.desk ≡ desk.faults l.fn.desk;
     }

@@ -1,5 +1,5 @@
 use Rattle.wm_test_serve.specs.Fresh.{mem_tellers}
-use Rattle.wm_test_serve.proofs.Fresh.{pushed, vacant}
+use Rattle.wm_serve.proofs.Vacant.{pushed, vacant}
 use Rattle.wm_test_serve.proofs.seats.add_monitor.Goals as goal
 
 pub push-requires : goal.push-requires

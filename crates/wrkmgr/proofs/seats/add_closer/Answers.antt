@@ -1,5 +1,5 @@
 use Rattle.wrkmgr.specs.System.{sys_tellers}
-use Rattle.wrkmgr.proofs.Fresh.{pushed, vacant}
+use Rattle.wm_serve.proofs.Vacant.{pushed, vacant}
 use Rattle.wrkmgr.proofs.seats.add_closer.Goals as goal
 
 pub push-requires : goal.push-requires

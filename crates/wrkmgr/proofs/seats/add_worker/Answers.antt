@@ -1,6 +1,6 @@
 use Rattle.std.proofs.Common.{rules}
 use Rattle.wrkmgr.specs.System.{sys_tellers}
-use Rattle.wrkmgr.proofs.Fresh.{pushed, vacant}
+use Rattle.wm_serve.proofs.Vacant.{pushed, vacant}
 use Rattle.wrkmgr.proofs.seats.add_worker.Goals as goal
 
 pub push-requires : goal.push-requires

@@ -1,4 +1,4 @@
--- Seats on which nothing has run.
+-- A seat on which nothing has run has no pass, and one more of them leaves all so.
 use Rattle.std.proofs.Common.{◌≡◌, ◌++◌, ◌∷◌, [], List, All, None, OnErr, OnOk, Result, Ok, Err, refl, sym, subst}
 use Rattle.std.proofs.lemmas.List.Elements.{All-push}
 use Rattle.wm_serve.specs.Seats.{IsFresh, Tellers, pass_of}

@@ -1,0 +1,179 @@
+-- Where the power isn't on any more, a PWRDWNSYS was accepted.
+use Rattle.std.proofs.Common.{◌≡◌, ◌⊎◌, ◌∙◌, ℕ, ℤ, Bool, true, false, cond, List, [], ◌∷◌, Option, Some, None, Result, Ok, Err, refl, sym, ap, inl, inr}
+use Rattle.std.specs.Prelude.{codes}
+use Rattle.wm_base.proofs.Iterate.{iterate-keeps}
+use Rattle.wm_traits.specs.declared.row.Row.{Row}
+use Rattle.wm_law.specs.Autos.{autos_of}
+use Rattle.wm_law.specs.Built.{is_ending_call, tells_to_end}
+use Rattle.wm_law.specs.Endings.{end_active, end_found, end_in_phase, end_started, is_down, is_ending_by, is_wished}
+use Rattle.wm_law.specs.History.{IsLegal, after, stepped}
+use Rattle.wm_law.specs.Launch.{with_routed}
+use Rattle.wm_law.specs.Laws.{IsIn}
+use Rattle.wm_law.specs.Machine.{apply, change, step, with_clock}
+use Rattle.wm_law.specs.Named.{job_named}
+use Rattle.wm_law.specs.Opening.{empty}
+use Rattle.wm_law.specs.Power.{is_on}
+use Rattle.wm_law.specs.Settling.{come_due, leave, settle, waiting}
+use Rattle.wm_law.specs.Stepped.{Stepped}
+use Rattle.wm_law.specs.Subsystems.{begun}
+use Rattle.wm_law.specs.declared.call.Call.{Call}
+use Rattle.wm_law.specs.declared.call.Call.TheVariants.{Change, Hand, Started, StartFailed, Finished, UseDone, Tick}
+use Rattle.wm_law.specs.declared.call.Entry.{Entry}
+use Rattle.wm_law.specs.declared.call.Reply.{Reply}
+use Rattle.wm_law.specs.declared.call.Reply.TheVariants.{Made, PowerDown}
+use Rattle.wm_law.specs.declared.choice.Candidate.{Candidate}
+use Rattle.wm_law.specs.declared.command.Command.{Command}
+use Rattle.wm_law.specs.declared.command.Command.TheVariants as command
+use Rattle.wm_law.specs.declared.command.Endjob.{Endjob}
+use Rattle.wm_law.specs.declared.command.Endsbs.{Endsbs}
+use Rattle.wm_law.specs.declared.command.Pwrdwnsys.{Pwrdwnsys}
+use Rattle.wm_law.specs.declared.job.Job.{Job}
+use Rattle.wm_law.specs.declared.job.Phase.{Phase}
+use Rattle.wm_law.specs.declared.job.Phase.TheVariants.{Waiting, Starting, Handed, Running, Ended}
+use Rattle.wm_law.specs.declared.state.Sbs.{Sbs}
+use Rattle.wm_law.specs.declared.state.State.{State}
+use Rattle.wm_law.proofs.Moves.{HoldsAfterCalls, call_comes, made_all, makeable}
+use Rattle.wm_law.proofs.Opened.{opening_is}
+use Rattle.wm_rows.specs.declared.stored.Counter.{Counter}
+use Rattle.wm_rows.specs.declared.stored.Counter.TheVariants as counter
+use Rattle.wm_tables.specs.Restart.{IsRead, IsRestart, Takes, with_counter}
+use Rattle.wm_tables.proofs.Made.{row_holds}
+use Rattle.wm_serve.specs.Over.{PutsDown}
+
+-- One call
+
+-- the call is a PWRDWNSYS that is accepted
+record IsPutDown (call : Call) (reply : Reply) : Type 0 where
+  user : List ℕ
+  c : Pwrdwnsys
+  call_is : call ≡ Change user (command.Pwrdwnsys c)
+  reply_is : reply ≡ PowerDown
+
+-- the power is as it was, unless it is one
+abbrev KeepsPower : State → Call → Stepped → Type 0
+KeepsPower s call t = (t.state.power ≡ s.power) ⊎ IsPutDown call t.reply
+
+calls_keep : (s : State) (call : Call) → is_ending_call call ≡ false → HoldsAfterCalls (λ t. t.state.power ≡ s.power) s call
+calls_keep s call quiet = record {
+  refuses = λ x. refl;
+  nothing = λ n. refl;
+  notes = refl;
+  hands = λ m j o i e f. refl;
+  reports = λ serial j phase i e r n. refl;
+  starts = λ q e. made_all (λ t. t.power ≡ s.power) q (λ t e d m p. p) (autos_of s q) (begun s q) (makeable s q e) refl;
+  enters = λ user c d due has. refl;
+  alters = λ reply change place p a. refl;
+  holds = λ reply held p a told. refl;
+  ends = λ reply change started evokes power p e told. absurd (cc);
+  kills = λ m j i k. refl;
+  makes = λ o c told. refl;
+}
+
+either : (P : Stepped → Type 0) (b : Bool) (t u : Stepped) → P t → P u → P (cond b t u)
+either P true t u p q = p
+either P false t u p q = q
+
+-- Those that tell jobs or subsystems to end
+
+active_keeps : (s : State) (c : Endjob) (j : Job) → (end_active s c j).state.power ≡ s.power
+active_keeps s c j = either (λ t. t.state.power ≡ s.power) (is_wished c.option j.wish) _ _ refl refl
+
+phase_keeps : (s : State) (c : Endjob) (j : Job) (p : Phase) → (end_in_phase s c j p).state.power ≡ s.power
+phase_keeps s c j Waiting = refl
+phase_keeps s c j Starting = active_keeps s c j
+phase_keeps s c j (Handed m) = active_keeps s c j
+phase_keeps s c j (Running m) = active_keeps s c j
+phase_keeps s c j (Ended end) = refl
+
+found_keeps : (s : State) (c : Endjob) (r : Result Job _) → (end_found s c r).state.power ≡ s.power
+found_keeps s c (Err x) = refl
+found_keeps s c (Ok j) = phase_keeps s c j j.phase
+
+sbs_keeps : (s : State) (c : Endsbs) (o : Option Sbs) → (end_started s c o).state.power ≡ s.power
+sbs_keeps s c None = refl
+sbs_keeps s c (Some b) = either (λ t. t.state.power ≡ s.power) (is_ending_by c.option b.phase) _ _ refl refl
+
+ending_keeps : (s : State) (user : List ℕ) (c : Command) → tells_to_end c ≡ true → KeepsPower s (Change user c) (change s user c)
+ending_keeps s user (command.Endsbs c) told = inl (sbs_keeps s c _)
+ending_keeps s user (command.Endjob c) told = inl (found_keeps s c (job_named s c.job))
+ending_keeps s user (command.Endpj c) told = inl refl
+ending_keeps s user (command.Pwrdwnsys c) told =
+    either (KeepsPower s (Change user (command.Pwrdwnsys c))) (is_down c.option s.power) _ _ (inl refl) (inr (record { user = user; c = c; call_is = refl; reply_is = refl }))
+ending_keeps s user c told = absurd (cc)
+
+ends_or_not : (b : Bool) → (b ≡ true) ⊎ (b ≡ false)
+ends_or_not true = inl refl
+ends_or_not false = inr refl
+
+changed_power : (s : State) (user : List ℕ) (c : Command) → KeepsPower s (Change user c) (change s user c)
+changed_power s user c =
+    elim (ends_or_not (tells_to_end c)) as (λ _. KeepsPower s (Change user c) (change s user c)) [
+      | inl told ↦ ending_keeps s user c told
+      | inr quiet ↦ inl (call_comes (λ t. t.state.power ≡ s.power) s 0 (Change user c) (calls_keep s (Change user c) quiet))
+    ]
+
+applied_power : (s : State) (caller : ℕ) (call : Call) → KeepsPower s call (apply s caller call)
+applied_power s caller (Change user c) = changed_power s user c
+applied_power s caller Hand = inl (call_comes (λ t. t.state.power ≡ s.power) s caller Hand (calls_keep s Hand refl))
+applied_power s caller (Started n) = inl (call_comes (λ t. t.state.power ≡ s.power) s caller (Started n) (calls_keep s (Started n) refl))
+applied_power s caller (StartFailed n why) = inl (call_comes (λ t. t.state.power ≡ s.power) s caller (StartFailed n why) (calls_keep s (StartFailed n why) refl))
+applied_power s caller (Finished n end) = inl (call_comes (λ t. t.state.power ≡ s.power) s caller (Finished n end) (calls_keep s (Finished n end) refl))
+applied_power s caller (UseDone n) = inl (call_comes (λ t. t.state.power ≡ s.power) s caller (UseDone n) (calls_keep s (UseDone n) refl))
+applied_power s caller Tick = inl refl
+
+-- What settles
+
+launched_power : (s : State) (c : Candidate) (o : Option Job) → (with_routed s c o).power ≡ s.power
+launched_power s c None = refl
+launched_power s c (Some j) = refl
+
+settled_power : (s : State) → (settle s).power ≡ s.power
+settled_power s =
+    let t = leave (come_due s) in
+    iterate-keeps (λ u. u.power ≡ s.power) (record { by_step = λ u c e h. launched_power u c _ ∙ h }) (waiting t) t refl
+
+stepped_power : (s : State) (caller : ℕ) (call : Call) (moment : ℕ) → KeepsPower s call (step s caller call moment)
+unfolding step
+stepped_power s caller call moment =
+    elim (applied_power (with_clock s moment) caller call) as (λ _. KeepsPower s call (step s caller call moment)) [
+      | inl same ↦ inl (settled_power (apply (with_clock s moment) caller call).state ∙ same)
+      | inr put ↦ inr put
+    ]
+
+-- A history
+
+-- where the power was on before it, and isn't on behind it, a PWRDWNSYS is accepted in it
+pub power_was_put_down : (s : State) (log : List Entry) → IsLegal s log → is_on s.power ≡ true → is_on (after s log).power ≡ false → (e : Entry) × IsIn e log × PutsDown e
+power_was_put_down s [] legal on off = absurd (cc)
+power_was_put_down s (e ∷ es) legal on off =
+    elim (stepped_power s e.caller e.call e.moment) as (λ _. (d : Entry) × IsIn d (e ∷ es) × PutsDown d) [
+      | inl same ↦ (let rest = power_was_put_down (stepped s e).state es legal.1 (ap is_on same ∙ on) off in (rest.0, inr rest.1, rest.2))
+      | inr put ↦ (e, inl refl, record { user = put.user; command = put.c; call = put.call_is; reply = legal.0.reply ∙ put.reply_is })
+    ]
+
+-- What a machine opens with
+
+counted_power : (s : State) (c : Counter) (n : ℕ) → (with_counter s c n).power ≡ s.power
+counted_power s counter.Number n = refl
+counted_power s counter.Place n = refl
+counted_power s counter.Schema n = refl
+counted_power s counter.Serial n = refl
+
+taken_power : (s t : State) (row : Row) → Takes s row t → t.power ≡ s.power
+taken_power s t row (inl m) =
+    ap (λ (u : State). u.power) m.makes ∙ (elim (changed_power s (codes "QSYS") m.command) as (λ _. (change s (codes "QSYS") m.command).state.power ≡ s.power) [
+      | inl same ↦ same
+      | inr put ↦ (let none : Made ≡ PowerDown = sym m.accepted ∙ put.reply_is in absurd (cc))
+    ])
+taken_power s t row (inr (inl h)) = let held = row_holds s h.queue h.accepted in ap (λ (u : State). u.power) (h.makes ∙ held.is_with)
+taken_power s t row (inr (inr (inl e))) = ap (λ (u : State). u.power) e.makes
+taken_power s t row (inr (inr (inr c))) = ap (λ (u : State). u.power) c.makes ∙ counted_power s c.counter c.count
+
+read_power : (rows : List Row) (s t : State) → IsRead s rows t → t.power ≡ s.power
+read_power [] s t read = ap (λ (u : State). u.power) read
+read_power (row ∷ rows) s t read = read_power rows read.0 t read.2 ∙ taken_power s read.0 row read.1
+
+-- its power is on
+pub restart_is_on : (offset : ℤ) (rows : List Row) (s : State) → IsRestart offset rows s → is_on s.power ≡ true
+restart_is_on offset [] s is = ap (λ (u : State). is_on u.power) (is ∙ opening_is offset)
+restart_is_on offset (row ∷ rows) s good = ap is_on (read_power (row ∷ rows) (empty offset) s good.0.read)
