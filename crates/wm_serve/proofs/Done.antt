@@ -13,7 +13,7 @@ use Rattle.wm_floor.specs.Ledger.{caller_of}
 use Rattle.wm_turn.specs.Passed.{HasOwn, StartsWith, child, own, parent}
 use Rattle.wm_turn.proofs.Histories.{starts_again}
 use Rattle.wm_serve.specs.Seating.{joined, left, seated, with_pass}
-use Rattle.wm_serve.specs.Seats.{IsFresh, Runs, Tellers, pass_of}
+use Rattle.wm_serve.specs.Seats.{IsFresh, Runs, Sits, Tellers, pass_of}
 use Rattle.wm_serve.specs.Done.{HasTold, SeatServed, SeatsServed}
 use Rattle.wm_serve.specs.declared.seat.Seat.{Seat}
 use Rattle.wm_serve.specs.declared.seat.Seat.TheVariants.{Worker, Closer, Monitor}
@@ -73,11 +73,11 @@ since_fresh {P} old why none (inl was) = absurd (cc)
 since_fresh {P} old why none (inr h) = h
 
 module _ {K D P C : Type 0} (t : Tellers D P) (f : Floored K) (log : List Entry) where
-  pub seats_served : (zero z : Seen K) (xs ys : List (Seat K D P C)) → zero.seen ≡ [] → All (IsFresh t) xs → AllZip (Runs t f) (seated zero xs) ys → HasOwn caller_of log (fold left z ys).joined → All (λ seat. IfSome (pass_of seat) (λ p. StartsWith log p.seen)) ys → SeatsServed t f log (zero.made + 1) xs (map (with_pass None) ys)
-  seats_served zero z [] [] unseen fresh run whole told = tt
-  seats_served zero z [] (y ∷ ys) unseen fresh run whole told = absurd run
-  seats_served zero z (x ∷ xs) [] unseen fresh run whole told = absurd run
-  seats_served zero z (Worker w ∷ xs) (Worker v ∷ ys) unseen fresh run whole told =
+  pub seats_served : (zero z : Seen K) (xs ys : List (Seat K D P C)) → zero.seen ≡ [] → All (IsFresh t) xs → All (Sits t f) ys → AllZip (Runs t f) (seated zero xs) ys → HasOwn caller_of log (fold left z ys).joined → All (λ seat. IfSome (pass_of seat) (λ p. StartsWith log p.seen)) ys → SeatsServed t f log (zero.made + 1) xs (map (with_pass None) ys)
+  seats_served zero z [] [] unseen fresh sit run whole told = tt
+  seats_served zero z [] (y ∷ ys) unseen fresh sit run whole told = absurd run
+  seats_served zero z (x ∷ xs) [] unseen fresh sit run whole told = absurd run
+  seats_served zero z (Worker w ∷ xs) (Worker v ∷ ys) unseen fresh sit run whole told =
       let Told : Seat K D P C → Type 0 = λ seat. IfSome (pass_of seat) (λ p. StartsWith log p.seen) in
       let free = All-head (IsFresh t) (Worker w) xs fresh in
       let r = run.0 in
@@ -93,6 +93,7 @@ module _ {K D P C : Type 0} (t : Tellers D P) (f : Floored K) (log : List Entry)
         mine = own_next log z (Worker v) ys r.to r.has whole ∙ ap (λ (n : ℕ). own caller_of n log) (r.same.number ∙ number);
         did = record {
           served = r.served;
+          free = (All-head (Sits t f) (Worker v) ys sit).free;
           commands = r.commands;
           dries = r.dries;
           dry = λ e. since_fresh w.stopped Dry free.1.0 (r.dry e);
@@ -100,16 +101,16 @@ module _ {K D P C : Type 0} (t : Tellers D P) (f : Floored K) (log : List Entry)
           failed = λ e. since_fresh w.stopped Failed free.1.0 (r.failed e);
         };
       } in
-      (one, seats_served (parent zero) (left {P = P} z (Worker v)) xs ys unseen (All-tail (IsFresh t) (Worker w) xs fresh) run.1 whole (All-tail Told (Worker v) ys told))
-  seats_served zero z (Worker w ∷ xs) (Closer c ∷ ys) unseen fresh run whole told = absurd run.0
-  seats_served zero z (Worker w ∷ xs) (Monitor m ∷ ys) unseen fresh run whole told = absurd run.0
-  seats_served zero z (Closer c ∷ xs) (Worker v ∷ ys) unseen fresh run whole told = absurd run.0
-  seats_served zero z (Closer c ∷ xs) (Closer d ∷ ys) unseen fresh run whole told =
-      seats_served zero z xs ys unseen (All-tail (IsFresh t) (Closer c) xs fresh) run.1 whole (All-tail (λ (seat : Seat K D P C). IfSome (pass_of seat) (λ p. StartsWith log p.seen)) (Closer d) ys told)
-  seats_served zero z (Closer c ∷ xs) (Monitor m ∷ ys) unseen fresh run whole told = absurd run.0
-  seats_served zero z (Monitor m ∷ xs) (Worker v ∷ ys) unseen fresh run whole told = absurd run.0
-  seats_served zero z (Monitor m ∷ xs) (Closer c ∷ ys) unseen fresh run whole told = absurd run.0
-  seats_served zero z (Monitor m ∷ xs) (Monitor n ∷ ys) unseen fresh run whole told =
+      (one, seats_served (parent zero) (left {P = P} z (Worker v)) xs ys unseen (All-tail (IsFresh t) (Worker w) xs fresh) (All-tail (Sits t f) (Worker v) ys sit) run.1 whole (All-tail Told (Worker v) ys told))
+  seats_served zero z (Worker w ∷ xs) (Closer c ∷ ys) unseen fresh sit run whole told = absurd run.0
+  seats_served zero z (Worker w ∷ xs) (Monitor m ∷ ys) unseen fresh sit run whole told = absurd run.0
+  seats_served zero z (Closer c ∷ xs) (Worker v ∷ ys) unseen fresh sit run whole told = absurd run.0
+  seats_served zero z (Closer c ∷ xs) (Closer d ∷ ys) unseen fresh sit run whole told =
+      seats_served zero z xs ys unseen (All-tail (IsFresh t) (Closer c) xs fresh) (All-tail (Sits t f) (Closer d) ys sit) run.1 whole (All-tail (λ (seat : Seat K D P C). IfSome (pass_of seat) (λ p. StartsWith log p.seen)) (Closer d) ys told)
+  seats_served zero z (Closer c ∷ xs) (Monitor m ∷ ys) unseen fresh sit run whole told = absurd run.0
+  seats_served zero z (Monitor m ∷ xs) (Worker v ∷ ys) unseen fresh sit run whole told = absurd run.0
+  seats_served zero z (Monitor m ∷ xs) (Closer c ∷ ys) unseen fresh sit run whole told = absurd run.0
+  seats_served zero z (Monitor m ∷ xs) (Monitor n ∷ ys) unseen fresh sit run whole told =
       let Told : Seat K D P C → Type 0 = λ seat. IfSome (pass_of seat) (λ p. StartsWith log p.seen) in
       let r = run.0 in
       let its : child zero ≡ r.from = same_Some (child zero) r.from r.had in
@@ -124,15 +125,15 @@ module _ {K D P C : Type 0} (t : Tellers D P) (f : Floored K) (log : List Entry)
         mine = own_next log z (Monitor n) ys r.to r.has whole ∙ ap (λ (k : ℕ). own caller_of k log) (r.part.part.pass.same.number ∙ number);
         did = r.part;
       } in
-      (one, seats_served (parent zero) (left {D = D} z (Monitor n)) xs ys unseen (All-tail (IsFresh t) (Monitor m) xs fresh) run.1 whole (All-tail Told (Monitor n) ys told))
+      (one, seats_served (parent zero) (left {D = D} z (Monitor n)) xs ys unseen (All-tail (IsFresh t) (Monitor m) xs fresh) (All-tail (Sits t f) (Monitor n) ys sit) run.1 whole (All-tail Told (Monitor n) ys told))
 
 -- All of them, as pass 0 closes the floor
 
 module _ {K D P C : Type 0} (t : Tellers D P) (f : Floored K) (before served given_back last : Seen K) (xs ys zs ends : List (Seat K D P C)) where
-  pub ended_served : before.seen ≡ [] → before.made ≡ 0 → All (IsFresh t) xs → ys ≡ seated before xs → AllZip (Runs t f) ys zs → given_back ≡ fold left served zs → All (HasTold given_back) zs → ends ≡ map (with_pass None) zs → IsSame given_back last → HasLooked given_back last → HasOwn caller_of last.seen last.joined → SeatsServed t f last.seen 1 xs ends
-  ended_served unseen made fresh seats run leaves told vacant still looks whole =
+  pub ended_served : before.seen ≡ [] → before.made ≡ 0 → All (IsFresh t) xs → All (Sits t f) zs → ys ≡ seated before xs → AllZip (Runs t f) ys zs → given_back ≡ fold left served zs → All (HasTold given_back) zs → ends ≡ map (with_pass None) zs → IsSame given_back last → HasLooked given_back last → HasOwn caller_of last.seen last.joined → SeatsServed t f last.seen 1 xs ends
+  ended_served unseen made fresh sit seats run leaves told vacant still looks whole =
       let kept : last.joined ≡ (fold left served zs).joined = still.joined ∙ ap (λ (p : Seen K). p.joined) leaves in
       let ran : AllZip (Runs t f) (seated before xs) zs = subst (λ (l : List (Seat K D P C)). AllZip (Runs t f) l zs) seats run in
-      let all : SeatsServed t f last.seen (before.made + 1) xs (map (with_pass None) zs) = seats_served t f last.seen before served xs zs unseen fresh ran (subst (λ (j : List (ℕ × List Entry)). HasOwn caller_of last.seen j) kept whole) (all_told_then given_back last zs looks.seen told) in
+      let all : SeatsServed t f last.seen (before.made + 1) xs (map (with_pass None) zs) = seats_served t f last.seen before served xs zs unseen fresh sit ran (subst (λ (j : List (ℕ × List Entry)). HasOwn caller_of last.seen j) kept whole) (all_told_then given_back last zs looks.seen told) in
       let from_one : SeatsServed t f last.seen 1 xs (map (with_pass None) zs) = subst (λ (n : ℕ). SeatsServed t f last.seen (n + 1) xs (map (with_pass None) zs)) made all in
       subst (λ (l : List (Seat K D P C)). SeatsServed t f last.seen 1 xs l) (sym vacant) from_one

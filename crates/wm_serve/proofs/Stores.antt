@@ -1,5 +1,5 @@
 -- What a server tells of the keeper, as the store tells it whose keeper it was.
-use Rattle.std.proofs.Common.{◌≡◌, ◌⊎◌, ◌≤◌, ℕ, ℤ, true, List, [], ◌∷◌, Option, Some, None, IfSome, is_some, refl, sym, ap, subst, ◌∙◌, inl, inr, arith}
+use Rattle.std.proofs.Common.{◌≡◌, ◌⊎◌, ◌≤◌, ℕ, ℤ, Bool, true, false, List, [], ◌∷◌, Option, Some, None, IfSome, is_some, refl, sym, ap, subst, ◌∙◌, inl, inr, arith}
 use Rattle.std.specs.Prelude.{⊤}
 use Rattle.std.proofs.lemmas.Bool.{false≢true}
 use Rattle.std.proofs.lemmas.Option.{same_Some}
@@ -148,3 +148,13 @@ opened_once None p path status old new is same begun grows = absurd (cc)
 opened_once (Some plan) p path status old new is same begun grows =
     let one : plan ≡ p = same_Some plan p is in
     inl (begun, subst (λ (store : List ℕ). Grows old new (store ∷ [])) (same ∙ ap (λ (q : ServePlan). q.store) (sym one)) grows)
+
+-- Seats that aren't as the plan says
+
+pub any_seats : (plan : Option ServePlan) (fit : ServePlan → Bool) (X : Type 0) → X → IfSome plan (λ p. fit p ≡ false → X)
+any_seats None fit X x = tt
+any_seats (Some plan) fit X x = λ unfit. x
+
+pub fit_seats : (plan : Option ServePlan) (p : ServePlan) (fit : ServePlan → Bool) (X : Type 0) → plan ≡ Some p → fit p ≡ true → IfSome plan (λ q. fit q ≡ false → X)
+fit_seats None p fit X is good = tt
+fit_seats (Some plan) p fit X is good = λ unfit. absurd (false≢true (sym unfit ∙ (ap fit (same_Some plan p is) ∙ good)))

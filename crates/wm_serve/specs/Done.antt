@@ -21,9 +21,10 @@ module _ {K D P C : Type 0} where
   abbrev pub HasTold : Seen K → Seat K D P C → Type 0
   HasTold zero seat = IfSome (pass_of seat) (λ pass. StartsWith zero.seen pass.seen)
 
-  -- a worker between two moments of its pass: its entries are users' commands, the connections that its desk tells were served, its counts haven't fallen, and the one has risen that says why it stopped
+  -- a worker between two moments of its pass: no connection is in hand, its entries are users' commands, the connections that its desk tells were served, its counts haven't fallen, and the one has risen that says why it stopped
   pub record WorkerDid (t : Tellers D P) (f : Floored K) (old new : WorkerSeat K D C) (from to : Seen K) : Type 0 where
     pub served : DeskServes f.opening (t.had old.desk) (t.had new.desk) from to
+    pub free : t.hand new.desk ≡ None
     pub commands : MakesCommands from to
     pub dries : IsLater (t.dries old.desk) (t.dries new.desk)
     pub dry : new.stopped ≡ Some Dry → raised (t.dries old.desk) ≤ t.dries new.desk

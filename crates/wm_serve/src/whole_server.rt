@@ -1,5 +1,5 @@
 // A whole server: what the words say, the floor over the store, the threads, and the status.
-ghost use Rattle.std.specs.Prelude.{◌≡◌, ◌≢◌, ◌⊎◌, ℕ, ◌<◌, ◌≤◌, true, [], All, Err, IfErr, IfOk, IfSome, None, OnOk, Some, count_by, length, map, string_bytes};
+ghost use Rattle.std.specs.Prelude.{◌≡◌, ◌≢◌, ◌⊎◌, ℕ, ◌<◌, ◌≤◌, false, true, [], All, Err, IfErr, IfOk, IfSome, None, OnOk, Some, count_by, length, map, string_bytes};
 ghost use Rattle.std.specs.List.{AllZip, list_all};
 ghost use Rattle.wm_traits.specs.Cause.{raised};
 ghost use Rattle.wm_law.specs.Pending.{active};
@@ -344,6 +344,7 @@ where
     requires fresh { All (IsFresh (tellers L.D.hand L.D.had L.D.dries L.D.faults P.asked P.told P.misses P.faults)) seats.old }
     ensures vacant { All (λ seat. pass_of seat ≡ None) seats.new }
     ensures words { serve_plan (map string_bytes words.now) ≡ None → (result.status ≡ 2) ⊎ (result.status ≡ 6) }
+    ensures seats { IfSome (serve_plan (map string_bytes words.now)) (λ plan. are_fit plan.workers plan.monitors seats.old ≡ false → (result.status ≡ 2) ⊎ (result.status ≡ 6)) }
     ensures wrong { result.status ≡ 2 → IsUnfit (serve_plan (map string_bytes words.now)) seats.old }
     ensures opened { OpensPlanned (serve_plan (map string_bytes words.now)) result.status (S.opened store.old) (S.opened store.new) }
     ensures log { HasLog (offset_of (serve_plan (map string_bytes words.now))) result.status result.log (telling S.tables S.trail store.old) (telling S.tables S.trail store.new) (AreServedBy (tellers L.D.hand L.D.had L.D.dries L.D.faults P.asked P.told P.misses P.faults) (serve_plan (map string_bytes words.now)) result.status seats.old seats.new) }

@@ -8,10 +8,10 @@ use Rattle.wm_run.specs.Kept.{HasBadRow}
 use Rattle.wm_run.proofs.Openings.{Grows-stays}
 use Rattle.wm_serve.specs.Done.{AreServedBy}
 use Rattle.wm_serve.specs.Seats.{tellers}
-use Rattle.wm_serve.specs.Server.{HasLog, limit_of, offset_of, serve_plan, store_status}
+use Rattle.wm_serve.specs.Server.{HasLog, are_fit, limit_of, offset_of, serve_plan, store_status}
 use Rattle.wm_serve.proofs.Histories.{written_none}
 use Rattle.wm_serve.proofs.Seatings.{vacant_all}
-use Rattle.wm_serve.proofs.Stores.{bad_row_of_store, fault_of_store, log_left, log_of_store, opened_early, opened_once, opened_unfit, store_failed, store_listed, store_range, store_unopened, words_begun, words_either, words_listed, words_unopened}
+use Rattle.wm_serve.proofs.Stores.{any_seats, bad_row_of_store, fault_of_store, fit_seats, log_left, log_of_store, opened_early, opened_once, opened_unfit, store_failed, store_listed, store_range, store_unopened, words_begun, words_either, words_listed, words_unopened}
 use Rattle.wm_serve.proofs.whole_server.serve.Goals as goal
 
 pub returns-in-Err-clause-vacant : goal.returns-in-Err-clause-vacant
@@ -189,3 +189,16 @@ returns-in-Ok-open-clause-opened g c =
     let opened = g.S.Store.opened in
     opened_once (serve_plan (map string_bytes c.args.words.now)) c.in-Ok.plan c.as_str.result.now c.serve_kept-served.result.0.status (opened c.args.store.now) (opened c.close.new.self) c.in-Ok.ensures.ok c.as_str.ensures c.serve_kept-served.ensures.begun
     (Grows-stays (opened c.args.store.now) (opened c.open.new.self) (opened c.close.new.self) _ c.open.ensures.opened c.close.ensures.opened)
+
+pub returns-in-Err-clause-seats : goal.returns-in-Err-clause-seats
+returns-in-Err-clause-seats g c =
+    any_seats (serve_plan (map string_bytes c.args.words.now)) (λ (plan : ServePlan). are_fit plan.workers plan.monitors c.args.seats.now) _ (words_either c.not_begun.result.status c.in-Err.status c.not_begun.ensures.status c.in-Err.ensures.statuses)
+
+pub returns-then-not-are_fit-clause-seats : goal.returns-then-not-are_fit-clause-seats
+returns-then-not-are_fit-clause-seats g c = any_seats (serve_plan (map string_bytes c.args.words.now)) (λ (plan : ServePlan). are_fit plan.workers plan.monitors c.args.seats.now) _ (inl c.not_begun-then-not-are_fit.ensures.status)
+
+pub returns-clause-seats : goal.returns-clause-seats
+returns-clause-seats g c = fit_seats (serve_plan (map string_bytes c.args.words.now)) c.in-Ok.plan (λ (plan : ServePlan). are_fit plan.workers plan.monitors c.args.seats.now) _ c.in-Ok.ensures.ok (sym c.are_fit.ensures ∙ c.if-not-are_fit.false)
+
+pub returns-in-Ok-open-clause-seats : goal.returns-in-Ok-open-clause-seats
+returns-in-Ok-open-clause-seats g c = fit_seats (serve_plan (map string_bytes c.args.words.now)) c.in-Ok.plan (λ (plan : ServePlan). are_fit plan.workers plan.monitors c.args.seats.now) _ c.in-Ok.ensures.ok (sym c.are_fit.ensures ∙ c.if-not-are_fit.false)

@@ -84,7 +84,7 @@ returns-clause-served g c =
     let last = c.await_idle.ensures in
     λ whole.
     ended_served t c.args.floor.now c.args.zero.now c.serve_floor-end.new.zero c.leave_all.new.zero c.await_idle.new.zero c.args.seats.now c.enter_all.new.seats c.serve_floor-end.new.seats c.leave_all.new.seats
-    (ap (λ (p : _). p.seen) c.requires.pass) (ap (λ (p : _). p.made) c.requires.pass) c.requires.fresh c.enter_all.ensures.seats c.serve_floor-end.ensures.run left.zero left.told left.seats last.same last.looked whole
+    (ap (λ (p : _). p.seen) c.requires.pass) (ap (λ (p : _). p.made) c.requires.pass) c.requires.fresh c.serve_floor-end.ensures.sit c.enter_all.ensures.seats c.serve_floor-end.ensures.run left.zero left.told left.seats last.same last.looked whole
 
 pub returns-clause-calls : goal.returns-clause-calls
 returns-clause-calls g c =
