@@ -7,7 +7,7 @@ use Rattle.wm_law.specs.Autos.{autos_of}
 use Rattle.wm_law.specs.Built.{is_configuring_call}
 use Rattle.wm_law.specs.Machine.{apply}
 use Rattle.wm_law.specs.Subsystems.{begun}
-use Rattle.wm_law.proofs.Moves.{HoldsAfterCalls, call_comes, made_all, makeable}
+use Rattle.wm_law.proofs.Moves.{HoldsAfterCalls, call_comes, made_all, makeable, autos_made, started_keeps}
 
 -- the objects, the held queues and the offset are as they were
 pub record IsAside (s t : State) : Type 0 where
@@ -24,8 +24,10 @@ aside s call none = record {
   nothing = λ n. same s;
   notes = same s;
   hands = λ m j o i k f. record { objects = refl; held = refl; offset = refl };
-  reports = λ serial j phase i k r n. record { objects = refl; held = refl; offset = refl };
-  starts = λ q k. made_all (IsAside s) q (λ t e d m a. record { objects = a.objects; held = a.held; offset = a.offset }) (autos_of s q) (begun s q) (makeable s q k) (record { objects = refl; held = refl; offset = refl });
+  reports = λ serial j phase stopped i k r n. record { objects = refl; held = refl; offset = refl };
+  starts = λ q k. started_keeps (IsAside s) s q k
+      (record { makes = λ q d e t can a. record { objects = a.objects; held = a.held; offset = a.offset }; assigns = λ t serial evokes a. record { objects = a.objects; held = a.held; offset = a.offset } })
+      (autos_made (IsAside s) s q k (λ t e d m a. record { objects = a.objects; held = a.held; offset = a.offset }) (record { objects = refl; held = refl; offset = refl }));
   enters = λ user c d due has. record { objects = refl; held = refl; offset = refl };
   alters = λ reply change place p a. record { objects = refl; held = refl; offset = refl };
   holds = λ reply held p a told. absurd (true≢false (sym told ∙ none));

@@ -25,6 +25,7 @@ use Rattle.wm_law.specs.Endings.{end_phase, is_ending_by, is_left_to_use, is_wis
 use Rattle.wm_law.specs.Jobs.{active_at}
 use Rattle.wm_law.specs.Kept.{IsNumbered, IsWishOn, wish_rank}
 use Rattle.wm_law.specs.Laws.{IsIn}
+use Rattle.wm_law.specs.Prestart.{with_evoke}
 use Rattle.wm_law.specs.Reports.{with_kill}
 use Rattle.wm_law.specs.Settling.{ended_by, is_sbs_now, job_at, sbs_at, sbs_moment, sbs_phase_at, sbss_at, unless_started, with_deadline}
 use Rattle.wm_law.specs.Sound.{IsMoment}
@@ -36,9 +37,9 @@ use Rattle.wm_law.proofs.Members.{in_mapped, map_same, of_mapped}
 abbrev pub IsPhaseAfter : Phase → Phase → Type 0
 IsPhaseAfter p q = (q ≡ p) ⊎ ((p ≡ Starting) × ((w : Why) × (q ≡ Ended (why_cause w))))
 
--- a change of phase and wish alone: a job that isn't active stays as it was, one that is Starting may end, and does so by its wish, and a wish's moment is in its range
+-- a change of phase, wish and use alone: a job that isn't active stays as it was, one that is Starting may end, and does so by its wish, and a wish's moment is in its range
 pub record IsWishing (change : Job → Job) : Type 0 where
-  pub same : (j : Job) → change j ≡ record j { phase = (change j).phase; wish = (change j).wish }
+  pub same : (j : Job) → change j ≡ record j { phase = (change j).phase; wish = (change j).wish; uses = (change j).uses; evoke = (change j).evoke }
   pub phase : (j : Job) → IsPhaseAfter j.phase (change j).phase
   pub idle : (j : Job) → is_active j.phase ≡ false → change j ≡ j
   pub moment : (j : Job) → IsMoment (wish_moment j.wish) → IsMoment (wish_moment (change j).wish)
@@ -82,7 +83,7 @@ module _ (test : Job → Bool) (give : Job → Wish) (active : (j : Job) → tes
   abbrev given : Job → Job
   given j = cond (test j) (with_wish (give j) j) j
 
-  given_same : (b : Bool) (w : Wish) (j : Job) → cond b (with_wish w j) j ≡ record j { phase = (cond b (with_wish w j) j).phase; wish = (cond b (with_wish w j) j).wish }
+  given_same : (b : Bool) (w : Wish) (j : Job) → cond b (with_wish w j) j ≡ record j { phase = (cond b (with_wish w j) j).phase; wish = (cond b (with_wish w j) j).wish; uses = (cond b (with_wish w j) j).uses; evoke = (cond b (with_wish w j) j).evoke }
   given_same true w j = refl
   given_same false w j = refl
 
@@ -107,6 +108,33 @@ module _ (test : Job → Bool) (give : Job → Wish) (active : (j : Job) → tes
     why = λ j d a e. absurd (unended j.phase d a (sym (given_phase (test j) (give j) j) ∙ e));
   }
 
+-- a request that a job gets
+module _ (serial : ℕ) where
+  used_same : (b : Bool) (j : Job) → cond b (with_evoke j) j ≡ record j { phase = (cond b (with_evoke j) j).phase; wish = (cond b (with_evoke j) j).wish; uses = (cond b (with_evoke j) j).uses; evoke = (cond b (with_evoke j) j).evoke }
+  used_same true j = refl
+  used_same false j = refl
+
+  used_phase : (b : Bool) (j : Job) → (cond b (with_evoke j) j).phase ≡ j.phase
+  used_phase true j = refl
+  used_phase false j = refl
+
+  pub used_wish : (b : Bool) (j : Job) → (cond b (with_evoke j) j).wish ≡ j.wish
+  used_wish true j = refl
+  used_wish false j = refl
+
+  used_idle : (b : Bool) (j : Job) → (is_active j.phase && j.serial == serial) ≡ b → is_active j.phase ≡ false → cond b (with_evoke j) j ≡ j
+  used_idle true j e n = let yes = (and_parts (is_active j.phase) (j.serial == serial) e).0 in absurd (cc)
+  used_idle false j e n = refl
+
+  pub using : IsWishing (active_at serial with_evoke)
+  using = record {
+    same = λ j. used_same (is_active j.phase && j.serial == serial) j;
+    phase = λ j. inl (used_phase (is_active j.phase && j.serial == serial) j);
+    idle = λ j n. used_idle (is_active j.phase && j.serial == serial) j refl n;
+    moment = λ j h. subst (λ (w : Wish). IsMoment (wish_moment w)) (sym (used_wish (is_active j.phase && j.serial == serial) j)) h;
+    why = λ j d a e. absurd (unended j.phase d a (sym (used_phase (is_active j.phase && j.serial == serial) j) ∙ e));
+  }
+
 -- one change behind another
 phase_twice : (p q r : Phase) → IsPhaseAfter p q → IsPhaseAfter q r → IsPhaseAfter p r
 phase_twice p q r (inl e) (inl f) = inl (f ∙ e)
@@ -124,7 +152,7 @@ why_twice f g h k j d false n a e =
 
 wishing_twice : (f g : Job → Job) → IsWishing f → IsWishing g → IsWishing (λ j. g (f j))
 wishing_twice f g h k = record {
-  same = λ j. k.same (f j) ∙ ap (λ (x : Job). record x { phase = (g (f j)).phase; wish = (g (f j)).wish }) (h.same j);
+  same = λ j. k.same (f j) ∙ ap (λ (x : Job). record x { phase = (g (f j)).phase; wish = (g (f j)).wish; uses = (g (f j)).uses; evoke = (g (f j)).evoke }) (h.same j);
   phase = λ j. phase_twice j.phase (f j).phase (g (f j)).phase (h.phase j) (k.phase (f j));
   idle = λ j n. k.idle (f j) (ap (λ (x : Job). is_active x.phase) (h.idle j n) ∙ n) ∙ h.idle j n;
   moment = λ j m. k.moment (f j) (h.moment j m);
@@ -194,7 +222,7 @@ starting_phase (Handed m) h = absurd (cc)
 starting_phase (Running m) h = absurd (cc)
 starting_phase (Ended c) h = absurd (cc)
 
-unstarted_same : (b : Bool) (o : Option EndCause) (j : Job) → cond b (ended_by o j) j ≡ record j { phase = (cond b (ended_by o j) j).phase; wish = (cond b (ended_by o j) j).wish }
+unstarted_same : (b : Bool) (o : Option EndCause) (j : Job) → cond b (ended_by o j) j ≡ record j { phase = (cond b (ended_by o j) j).phase; wish = (cond b (ended_by o j) j).wish; uses = (cond b (ended_by o j) j).uses; evoke = (cond b (ended_by o j) j).evoke }
 unstarted_same true None j = refl
 unstarted_same true (Some c) j = refl
 unstarted_same false o j = refl
@@ -412,13 +440,13 @@ none_stays_active option clock delay bs b i =
     let m = of_mapped (phased (λ x. not (is_ending_by option x.phase)) (end_phase clock option delay)) bs b i in
     ap (λ (x : Sbs). is_sbs_active x.phase) m.2 ∙ phased_idle option clock delay (is_ending_by option m.0.phase) m.0 refl
 
--- a job that is changed keeps all but its phase and its wish
+-- a job that is changed keeps all but its phase, its wish and its use
 module _ (change : Job → Job) (h : IsWishing change) where
-  -- a key of a job that neither phase nor wish touches
-  pub key_same : {A : Type 0} (key : Job → A) → ((j : Job) (p : Phase) (w : Wish) → key (record j { phase = p; wish = w }) ≡ key j) → (j : Job) → key (change j) ≡ key j
-  key_same key free j = ap key (h.same j) ∙ free j (change j).phase (change j).wish
+  -- a key of a job that neither phase nor wish nor use touches
+  pub key_same : {A : Type 0} (key : Job → A) → ((j : Job) (p : Phase) (w : Wish) (u : ℕ) (e : Bool) → key (record j { phase = p; wish = w; uses = u; evoke = e }) ≡ key j) → (j : Job) → key (change j) ≡ key j
+  key_same key free j = ap key (h.same j) ∙ free j (change j).phase (change j).wish (change j).uses (change j).evoke
 
-  pub keys_same : {A : Type 0} (key : Job → A) → ((j : Job) (p : Phase) (w : Wish) → key (record j { phase = p; wish = w }) ≡ key j) → (jobs : List Job) → map key (map change jobs) ≡ map key jobs
+  pub keys_same : {A : Type 0} (key : Job → A) → ((j : Job) (p : Phase) (w : Wish) (u : ℕ) (e : Bool) → key (record j { phase = p; wish = w; uses = u; evoke = e }) ≡ key j) → (jobs : List Job) → map key (map change jobs) ≡ map key jobs
   keys_same key free jobs = map_same key change (key_same key free) jobs
 
 -- what is Starting was so
@@ -441,7 +469,7 @@ pub record StoodStarting (jobs : List Job) (k : Job) : Type 0 where
   pub job : Job
   pub there : IsIn job jobs
   pub starting : job.phase ≡ Starting
-  pub same : k ≡ record job { phase = k.phase; wish = k.wish }
+  pub same : k ≡ record job { phase = k.phase; wish = k.wish; uses = k.uses; evoke = k.evoke }
 
 pub stood_starting : (change : Job → Job) → IsWishing change → (jobs : List Job) (k : Job) → IsIn k (map change jobs) → k.phase ≡ Starting → StoodStarting jobs k
 stood_starting change h jobs k i p =
@@ -451,7 +479,7 @@ stood_starting change h jobs k i p =
       job = j;
       there = m.1;
       starting = was_starting j.phase (change j).phase (h.phase j) (ap (λ (x : Job). x.phase) (sym m.2) ∙ p);
-      same = subst (λ (x : Job). x ≡ record j { phase = x.phase; wish = x.wish }) (sym m.2) (h.same j);
+      same = subst (λ (x : Job). x ≡ record j { phase = x.phase; wish = x.wish; uses = x.uses; evoke = x.evoke }) (sym m.2) (h.same j);
     }
 
 -- what ENDJOB on an active job does
@@ -461,6 +489,10 @@ job_ends s j option delay i e = record { jobs = wishing_job j.serial s.clock opt
 -- what a kill that is handed does
 pub kill_ends : (s : State) (serial : ℕ) → IsEnding s (active_at serial with_kill) s.started s.power
 kill_ends s serial = record { jobs = wishing_kill serial; onward = λ n j i. on_kill j (is_active j.phase && j.serial == serial); subsystems = none_ended s.started; quiet = inl refl }
+
+-- what a request that a job gets does
+pub use_ends : (s : State) (serial : ℕ) → IsEnding s (active_at serial with_evoke) s.started s.power
+use_ends s serial = record { jobs = using serial; onward = λ n j i. on_same j.wish (active_at serial with_evoke j).wish (used_wish serial (is_active j.phase && j.serial == serial) j); subsystems = none_ended s.started; quiet = inl refl }
 
 -- what ENDSBS does
 pub those_end : (s : State) (option : EndOption) (delay : Option ℕ) (test : Sbs → Bool) → IsEnding s (told option test s.started) (map (phased test (end_phase s.clock option delay)) s.started) s.power

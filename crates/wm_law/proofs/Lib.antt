@@ -30,6 +30,7 @@ pub mod InTurn
 pub mod ByNumber
 pub mod Routes
 pub mod Subsystems
+pub mod Supplies
 pub mod Opened
 pub mod Counted
 pub mod Nexts
@@ -42,6 +43,7 @@ pub mod Passed
 pub mod Fitting
 pub mod Serials
 pub mod Placed
+pub mod PreOrders
 pub mod Standing
 pub mod Wished
 pub mod Due

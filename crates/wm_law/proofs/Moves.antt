@@ -1,6 +1,6 @@
 -- What a call can come to, and what a step can do to a state. The calls are gone over one by one, so that laws need no case
 -- for each.
-use Rattle.std.proofs.Common.{◌≡◌, ℕ, ◌<◌, ◌≤◌, ◌-◌, ◌+◌, ◌==◌, not, Bool, true, false, cond, List, [], ◌∷◌, length, fold, Option, Some, None, is_some, nat_le, nat_lt, min, refl, inl, inr, arith, filter, sym, ◌⊎◌, ◌∙◌, ap, unwrap_or}
+use Rattle.std.proofs.Common.{◌≡◌, ℕ, ◌<◌, ◌≤◌, ◌-◌, ◌+◌, ◌==◌, not, Bool, true, false, cond, List, [], ◌∷◌, ◌++◌, length, fold, Option, Some, None, is_some, nat_le, nat_lt, min, refl, inl, inr, arith, filter, sym, subst, ◌⊎◌, ◌∙◌, ap, unwrap_or}
 use Rattle.std.specs.List.{count_by, find}
 use Rattle.std.specs.Prelude.{Result, Ok, Err}
 use Rattle.std.specs.Option.{IsSome}
@@ -45,6 +45,7 @@ use Rattle.wm_law.specs.declared.state.Evoke.{Evoke}
 use Rattle.wm_law.specs.declared.state.Power.{Power}
 use Rattle.wm_law.specs.declared.state.Sbs.{Sbs}
 use Rattle.wm_law.specs.declared.state.State.{State}
+use Rattle.wm_law.specs.declared.state.Stop.{Stop}
 use Rattle.wm_law.specs.declared.state.SbsPhase.TheVariants.{Active}
 use Rattle.wm_law.specs.Autos.{auto_described, auto_made, autos_of, make_auto}
 use Rattle.wm_law.specs.Counts.{is_starting, is_waiting}
@@ -57,8 +58,8 @@ use Rattle.wm_law.specs.Machine.{apply, step, with_clock, change}
 use Rattle.wm_law.specs.Making.{made_unless}
 use Rattle.wm_law.specs.Endings.{down_by, end_active, end_found, end_in_phase, end_started, is_down, is_ending_by, is_wished, job_wish, started_named}
 use Rattle.wm_law.specs.Power.{is_on}
-use Rattle.wm_law.specs.Reports.{in_phase, with_phase, hand_job, hand_order, is_to_kill, report_on, start_job, is_handed_to, is_run_by, phase_word, done_with, end_cause, exit_cause, with_kill}
-use Rattle.wm_law.specs.Settling.{come_due, job_at, leave, sbss_at, waiting}
+use Rattle.wm_law.specs.Reports.{in_phase, with_phase, hand_job, hand_order, is_to_kill, report_on, start_job, stops_after, is_handed_to, is_run_by, is_unused, phase_word, done_with, end_cause, exit_cause, with_kill}
+use Rattle.wm_law.specs.Settling.{come_due, job_at, leave, ready, sbss_at, waiting}
 use Rattle.wm_law.specs.Stepped.{Stepped, refused}
 use Rattle.wm_law.specs.Submitting.{submit_due, submit_with, submitted_job, entered, has_numbers, job_name, numbers_end, numbers_left, queue_of, serials_end}
 use Rattle.wm_law.specs.Schedules.{rescheduled, scheduled}
@@ -72,8 +73,9 @@ use Rattle.wm_law.specs.Built.{is_configuring_call, is_ending_call}
 use Rattle.wm_law.specs.Choice.{is_held, is_sbs_active, next}
 use Rattle.wm_law.proofs.Alterations.{IsAlteration, IsHolding, IsPlain, altered, clearing_alters, due_alters, ending_alters, holding_alters, moving_alters, plain_changed, plain_cleared, plain_held, plain_job_ended, plain_job_ending, plain_power_down, plain_sbs_ending, plain_queue_held, plain_queue_released, plain_released}
 use Rattle.wm_law.proofs.Endings.{IsEnding, all_end, coming_due, job_ends, kill_ends, those_end, wished}
-use Rattle.wm_law.specs.Subsystems.{begun, is_started, max_started, start_refusal, start_unless}
+use Rattle.wm_law.specs.Subsystems.{begun, is_started, max_started, start_refusal, start_unless, started_up, with_autos}
 use Rattle.wm_law.proofs.Members.{found_among, last_in, left_in}
+use Rattle.wm_law.proofs.Supplies.{IsActiveAmong, IsSupplied, firsts_keep, supplied_keeps}
 use Rattle.wm_law.proofs.Objects.{IsObjectChange, class_made, queue_made, program_made, job_description_made, description_made, queue_added, route_added, auto_added, pre_added, queue_removed, route_removed, auto_removed, pre_removed}
 
 -- a phase past Waiting, and one that isn't before it
@@ -126,7 +128,7 @@ pub record HoldsAfterCalls (P : Stepped → Type 0) (s : State) (call : Call) : 
   pub nothing : (HasCall call → is_hand call ≡ false → ⊥) → P (record { reply = Nothing; state = s })
   pub notes : P (record { reply = Noted; state = s })
   pub hands : (m : ℕ) (j : Job) (o : StartOrder) → IsIn j s.jobs → is_starting j.phase ≡ true → order_of s j ≡ Some o → P (record { reply = Order (Start o); state = with_phase s j.serial (Handed m) })
-  pub reports : (serial : ℕ) (j : Job) (phase : Phase) → IsIn j s.jobs → j.serial ≡ serial → IsMoved j phase → is_starting phase ≡ false → P (record { reply = Noted; state = with_phase s serial phase })
+  pub reports : (serial : ℕ) (j : Job) (phase : Phase) (stopped : List Stop) → IsIn j s.jobs → j.serial ≡ serial → IsMoved j phase → is_starting phase ≡ false → P (record { reply = Noted; state = record (with_phase s serial phase) { stopped = stopped } })
   pub starts : (q : QName) → IsStartable s q → P (start_unless s q None)
   pub enters : (user : List ℕ) (c : Sbmjob) (d : Jobd) (due : ℕ) → IsAcceptable s c d due → P (record { reply = Submitted (job_name s user c) (queue_of c d); state = entered s (submitted_job s user c d due) })
   pub alters : (reply : Reply) (change : Job → Job) (place : ℕ) → IsPlain reply → IsAlteration s change place → P (record { reply = reply; state = altered s change place })
@@ -228,11 +230,11 @@ module _ (P : Stepped → Type 0) (s : State) (call : Call) (h : HoldsAfterCalls
   handed m None none e = started m (find (λ j. is_starting j.phase) s.jobs) none refl
   handed m (Some j) none e = let f = found_among (is_to_kill m) s.jobs j e in h.kills m j f.0 f.1
 
-  reported : (serial : ℕ) (test : Phase → Bool) (phase : Job → Phase) (o : Option Job) → ((j : Job) → test j.phase ≡ true → IsMoved j (phase j)) → ((j : Job) → is_starting (phase j) ≡ false) → find (λ j. j.serial == serial) s.jobs ≡ o → P (report_on s serial test phase o)
-  reported serial test phase None ranks n e = h.refuses NoJob
-  reported serial test phase (Some j) ranks n e =
+  reported : (serial : ℕ) (test : Phase → Bool) (phase : Job → Phase) (stops : Job → Bool) (o : Option Job) → ((j : Job) → test j.phase ≡ true → IsMoved j (phase j)) → ((j : Job) → is_starting (phase j) ≡ false) → find (λ j. j.serial == serial) s.jobs ≡ o → P (report_on s serial test phase stops o)
+  reported serial test phase stops None ranks n e = h.refuses NoJob
+  reported serial test phase stops (Some j) ranks n e =
       let f = found_among (λ (j : Job). j.serial == serial) s.jobs j e in
-      either (test j.phase) _ _ (λ t. h.reports serial j (phase j) f.0 (eqb-true j.serial serial f.1) (ranks j t) (n j)) (λ t. h.refuses (WrongPhase (phase_word j.phase)))
+      either (test j.phase) _ _ (λ t. h.reports serial j (phase j) (stops_after stops j s.stopped) f.0 (eqb-true j.serial serial f.1) (ranks j t) (n j)) (λ t. h.refuses (WrongPhase (phase_word j.phase)))
 
   done : (m : ℕ) (o : Option Job) → P (done_with s m o)
   done m None = h.refuses NoJob
@@ -330,9 +332,9 @@ changed P s user c h = h.nothing (λ b n. absurd (cc))
 pub call_comes : (P : Stepped → Type 0) (s : State) (caller : ℕ) (call : Call) → HoldsAfterCalls P s call → P (apply s caller call)
 call_comes P s caller (Change user c) h = changed P s user c h
 call_comes P s caller Hand h = handed P s _ h caller (find (is_to_kill caller) s.jobs) (h.nothing (λ b n. absurd (cc))) refl
-call_comes P s caller (Started serial) h = reported P s _ h serial (is_handed_to caller) _ (find (λ j. j.serial == serial) s.jobs) (λ j e. moved_on j (Running caller) 2 (handed_rank caller j.phase e) (omega arith) (omega arith) (omega arith) (λ c d w f. absurd (cc))) (λ j. refl) refl
-call_comes P s caller (StartFailed serial why) h = reported P s _ h serial (is_handed_to caller) _ (find (λ j. j.serial == serial) s.jobs) (λ j e. moved_on j (Ended (cause.StartFailed why)) 2 (handed_rank caller j.phase e) (omega arith) (omega arith) (omega arith) (λ c d w f. inr (failed_end why d f))) (λ j. refl) refl
-call_comes P s caller (Finished serial end) h = reported P s _ h serial (is_run_by caller) _ (find (λ j. j.serial == serial) s.jobs) (λ j e. moved_on j (Ended (end_cause end j.wish)) 3 (run_rank caller j.phase e) (omega arith) (omega arith) (omega arith) (λ c d w f. inl (finished_end end j.wish c d w f))) (λ j. refl) refl
+call_comes P s caller (Started serial) h = reported P s _ h serial (is_handed_to caller) _ (λ j. false) (find (λ j. j.serial == serial) s.jobs) (λ j e. moved_on j (Running caller) 2 (handed_rank caller j.phase e) (omega arith) (omega arith) (omega arith) (λ c d w f. absurd (cc))) (λ j. refl) refl
+call_comes P s caller (StartFailed serial why) h = reported P s _ h serial (is_handed_to caller) _ (λ j. true) (find (λ j. j.serial == serial) s.jobs) (λ j e. moved_on j (Ended (cause.StartFailed why)) 2 (handed_rank caller j.phase e) (omega arith) (omega arith) (omega arith) (λ c d w f. inr (failed_end why d f))) (λ j. refl) refl
+call_comes P s caller (Finished serial end) h = reported P s _ h serial (is_run_by caller) _ is_unused (find (λ j. j.serial == serial) s.jobs) (λ j e. moved_on j (Ended (end_cause end j.wish)) 3 (run_rank caller j.phase e) (omega arith) (omega arith) (omega arith) (λ c d w f. inl (finished_end end j.wish c d w f))) (λ j. refl) refl
 call_comes P s caller (UseDone serial) h = done P s _ h caller (find (λ j. j.serial == serial) s.jobs)
 call_comes P s caller Tick h = h.notes
 
@@ -391,26 +393,54 @@ makeable s q h =
     let left = enough (nat_le 1 s.next_number) (numbers_end - s.next_number) (serials_end - s.next_serial) (length (autos_of s q)) h.numbers in
     record { numbers = left.0; serials = left.1; sbs = record { sbsd = q; phase = Active }; started = last_in s.started (record { sbsd = q; phase = Active }); named = refl; active = refl }
 
--- P holds of whatever state a call can leave before it settles: a subsystem that starts keeps it, and so does each of its autostart jobs
+-- what a subsystem that starts and each of its autostart jobs keep, holds with these
+pub autos_made : (P : State → Type 0) (s : State) (q : QName) → IsStartable s q → ((t : State) (e : AutoEntry) (d : Jobd) → IsMakeable q t → P t → P (auto_made t q e d)) → P (begun s q) → P (with_autos s q)
+autos_made P s q can autos h = made_all P q autos (autos_of s q) (begun s q) (makeable s q can) h
+
+-- and with its first prestart jobs, where each of them keeps it
+pub started_keeps : (P : State → Type 0) (s : State) (q : QName) → IsStartable s q → IsSupplied P → P (with_autos s q) → P (started_up s q)
+started_keeps P s q can supplies h =
+    let b : Sbs = record { sbsd = q; phase = Active } in
+    let same : (with_autos s q).started ≡ s.started ++ b ∷ [] = autos_made (λ t. t.started ≡ s.started ++ b ∷ []) s q can (λ t e d m x. x) refl in
+    firsts_keep P supplies q (with_autos s q) (subst (λ (xs : List Sbs). IsActiveAmong xs q) (sym same) (b, last_in s.started b, refl, refl)) h
+
+-- P holds of whatever state a call can leave before it settles: of that in which a subsystem has started with its autostart jobs, and each prestart job and each request that a job gets keep it
 pub record HoldsOfStates (P : State → Type 0) (s : State) : Type 0 where
   pub stays : P s
-  pub starts : (q : QName) → IsStartable s q → P (begun s q)
-  pub autos : (q : QName) (t : State) (e : AutoEntry) (d : Jobd) → IsMakeable q t → P t → P (auto_made t q e d)
+  pub starts : (q : QName) → IsStartable s q → P (with_autos s q)
+  pub supplies : IsSupplied P
   pub enters : (user : List ℕ) (c : Sbmjob) (d : Jobd) (due : ℕ) → IsAcceptable s c d due → P (entered s (submitted_job s user c d due))
   pub alters : (change : Job → Job) (place : ℕ) → IsAlteration s change place → P (altered s change place)
   pub holds : (held : List QName) → IsHolding s held → P (record s { held = held })
-  pub moves : (serial : ℕ) (j : Job) (phase : Phase) → IsIn j s.jobs → j.serial ≡ serial → IsMoved j phase → is_starting phase ≡ false → P (with_phase s serial phase)
+  pub moves : (serial : ℕ) (j : Job) (phase : Phase) (stopped : List Stop) → IsIn j s.jobs → j.serial ≡ serial → IsMoved j phase → is_starting phase ≡ false → P (record (with_phase s serial phase) { stopped = stopped })
   pub ends : (change : Job → Job) (started : List Sbs) (evokes : List Evoke) (power : Power) → IsEnding s change started power → P (wished s change started evokes power)
   pub makes : (o : Objects) → IsObjectChange s o → P (record s { objects = o })
+
+-- what holds of two, holds of both
+pub both_hold : (P Q : State → Type 0) (s : State) → HoldsOfStates P s → HoldsOfStates Q s → HoldsOfStates (λ t. P t × Q t) s
+both_hold P Q s h k = record {
+  stays = (h.stays, k.stays);
+  starts = λ q e. (h.starts q e, k.starts q e);
+  supplies = record {
+    makes = λ q d e t can x. (h.supplies.makes q d e t can x.0, k.supplies.makes q d e t can x.1);
+    assigns = λ t serial evokes x. (h.supplies.assigns t serial evokes x.0, k.supplies.assigns t serial evokes x.1);
+  };
+  enters = λ user c d due has. (h.enters user c d due has, k.enters user c d due has);
+  alters = λ change place a. (h.alters change place a, k.alters change place a);
+  holds = λ held a. (h.holds held a, k.holds held a);
+  moves = λ serial j phase stopped i e r n. (h.moves serial j phase stopped i e r n, k.moves serial j phase stopped i e r n);
+  ends = λ change started evokes power e. (h.ends change started evokes power e, k.ends change started evokes power e);
+  makes = λ o c. (h.makes o c, k.makes o c);
+}
 
 of_states : (P : State → Type 0) (s : State) (call : Call) → HoldsOfStates P s → HoldsAfterCalls (λ t. P t.state) s call
 of_states P s call h = record {
   refuses = λ x. h.stays;
   nothing = λ n. h.stays;
   notes = h.stays;
-  hands = λ m j o i e f. h.moves j.serial j (Handed m) i refl (moved_on j (Handed m) 1 (starting_rank j.phase e) (omega arith) (omega arith) (omega arith) (λ c d w f. absurd (cc))) refl;
-  reports = λ serial j phase i e r n. h.moves serial j phase i e r n;
-  starts = λ q e. made_all P q (h.autos q) (autos_of s q) (begun s q) (makeable s q e) (h.starts q e);
+  hands = λ m j o i e f. h.moves j.serial j (Handed m) s.stopped i refl (moved_on j (Handed m) 1 (starting_rank j.phase e) (omega arith) (omega arith) (omega arith) (λ c d w f. absurd (cc))) refl;
+  reports = λ serial j phase stopped i e r n. h.moves serial j phase stopped i e r n;
+  starts = λ q e. started_keeps P s q e h.supplies (h.starts q e);
   enters = λ user c d due has. h.enters user c d due has;
   alters = λ reply change place p a. h.alters change place a;
   holds = λ reply held p a told. h.holds held a;
@@ -434,13 +464,18 @@ pub record IsKeptByParts (P : State → Type 0) : Type 0 where
   pub leaves : (s : State) → P s → P (leave s)
   pub launches : IsKept next (λ c t. launch t c) P
 
+-- what is kept holds where the state is ready for jobs to start
+pub readies : (P : State → Type 0) → IsKeptByParts P → (s : State) → P s → P (ready s)
+readies P k s h =
+    let due : P (come_due s) = comes_due P s (k.calls s h) in
+    supplied_keeps P (k.calls s h).supplies (leave (come_due s)) (k.leaves (come_due s) due)
+
 pub step_keeps : (P : State → Type 0) → IsKeptByParts P → (s : State) (caller : ℕ) (call : Call) (moment : ℕ) → P s → P (step s caller call moment).state
 unfolding step
 step_keeps P k s caller call moment h =
     let t = (apply (with_clock s moment) caller call).state in
     let called : P t = call_keeps P (with_clock s moment) caller call (k.calls (with_clock s moment) (k.clock s moment h)) in
-    let due : P (come_due t) = comes_due P t (k.calls t called) in
-    iterate-keeps P k.launches (waiting (leave (come_due t))) (leave (come_due t)) (k.leaves (come_due t) due)
+    iterate-keeps P k.launches (waiting (ready t)) (ready t) (readies P k t called)
 
 -- and so by a history
 pub after_keeps : (P : State → Type 0) → IsKeptByParts P → (s : State) (h : List Entry) → P s → P (after s h)

@@ -14,8 +14,8 @@ use Rattle.wm_desc.specs.declared.description.Sbsd.{Sbsd}
 use Rattle.wm_desc.specs.declared.entry.PreEntry.{PreEntry}
 use Rattle.wm_law.specs.declared.job.Job.{Job}
 use Rattle.wm_law.specs.declared.state.State.{State}
-use Rattle.wm_law.specs.Counts.{count_in_sbs, is_active, is_in_sbs}
-use Rattle.wm_law.specs.Prestart.{count_available, count_from_pre, is_available_in, is_from_pre, is_lacking, is_stopped, least_multiple, left_by, make_pre, make_pres, new_pre_job, next_round, room, RoundsReplenish}
+use Rattle.wm_law.specs.Counts.{count_from_pre, count_in_sbs, is_active, is_from_pre, is_in_sbs}
+use Rattle.wm_law.specs.Prestart.{count_available, is_available_in, is_lacking, is_stopped, least_multiple, left_by, make_pre, make_pres, new_pre_job, next_round, room, RoundsReplenish}
 use Rattle.wm_law.specs.Submitting.{numbers_left}
 use Rattle.wm_law.proofs.Counted.{count_last}
 use Rattle.wm_law.proofs.Multiples.{multiple-enough, multiple-more, multiple-one}
@@ -25,7 +25,7 @@ left-min : (l : Limit) (c k x : ℕ) → left_by l c (min k x) ≡ min k (left_b
 left-min NoMax c k x = refl
 left-min (Most m) c k x = omega arith
 
-left-few : (l : Limit) (c x : ℕ) → left_by l c x ≤ x
+pub left-few : (l : Limit) (c x : ℕ) → left_by l c x ≤ x
 left-few NoMax c x = omega arith
 left-few (Most m) c x = omega arith
 
@@ -57,7 +57,7 @@ numbers-by (suc n) k a b some =
 numbers-less : (sbs pgm : QName) (s : State) → 0 < numbers_left s → numbers_left (make_pre sbs pgm s) ≡ numbers_left s - 1
 numbers-less sbs pgm s some = numbers-by s.next_number s.next_serial 1000000 1000000000000000000 some
 
-itself : (q : QName) → same_qname q q ≡ true
+pub itself : (q : QName) → same_qname q q ≡ true
 itself q = rw (bytes-itself q.lib, bytes-itself q.name) refl
 
 -- a round and what is left to make are what is made at once: at most w, while fewer than t are there
@@ -105,13 +105,13 @@ module _ (t step : ℕ) (some : 0 < step) where
 
 module _ (sbs : QName) (d : Sbsd) (e : PreEntry) where
   -- how many jobs can be made
-  abbrev left : State → ℕ
+  abbrev pub left : State → ℕ
   left s = left_by d.maxjobs (count_in_sbs sbs s.jobs) (left_by e.maxjobs (count_from_pre sbs e.pgm s.jobs) (numbers_left s))
 
   abbrev ready : State → ℕ
   ready s = count_available sbs e.pgm s.jobs
 
-  room-is : (s : State) (k : ℕ) → room s sbs d e k ≡ min k (left s)
+  pub room-is : (s : State) (k : ℕ) → room s sbs d e k ≡ min k (left s)
   room-is s k =
       ap (left_by d.maxjobs (count_in_sbs sbs s.jobs)) (left-min e.maxjobs (count_from_pre sbs e.pgm s.jobs) k (numbers_left s))
       ∙ left-min d.maxjobs (count_in_sbs sbs s.jobs) k (left_by e.maxjobs (count_from_pre sbs e.pgm s.jobs) (numbers_left s))
@@ -128,7 +128,7 @@ module _ (sbs : QName) (d : Sbsd) (e : PreEntry) where
   ready-more : (s : State) → ready (make_pre sbs e.pgm s) ≡ ready s + 1
   ready-more s = one-more (is_available_in sbs e.pgm) s (ap (λ b. b && true) (named s))
 
-  left-made : (s : State) → 0 < left s → left (make_pre sbs e.pgm s) ≡ left s - 1
+  pub left-made : (s : State) → 0 < left s → left (make_pre sbs e.pgm s) ≡ left s - 1
   left-made s some =
       let n : ℕ = numbers_left s in
       let inner : ℕ = left_by e.maxjobs (count_from_pre sbs e.pgm s.jobs) n in

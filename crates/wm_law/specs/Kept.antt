@@ -31,8 +31,9 @@ use Rattle.wm_law.specs.History.{IsLegal, after, order_in}
 use Rattle.wm_law.specs.Launch.{order_of, route}
 use Rattle.wm_law.specs.Laws.{IsIn, IsRoute}
 use Rattle.wm_law.specs.Power.{is_on}
-use Rattle.wm_law.specs.Settling.{start_jobs, start_in, in_order}
+use Rattle.wm_law.specs.Settling.{start_jobs, start_in}
 use Rattle.wm_law.specs.Submitting.{numbers_end, serials_end}
+use Rattle.wm_law.specs.Supply.{in_order}
 use Rattle.wm_law.specs.Machine.{step}
 use Rattle.wm_law.specs.Wishes.{now_cause}
 use Rattle.wm_desc.specs.Table.{object_named}
@@ -206,22 +207,6 @@ SerialsAreKilledOnce = (s : State) (h : List Entry) → IsNumbered s → IsLegal
 -- each Starting job of the opening state has its order
 abbrev pub OpeningHasOrders : Type 0
 OpeningHasOrders = (offset : ℤ) → HasOrders (opening offset)
-
--- every step leaves each Starting job its order
-abbrev pub StepKeepsOrders : Type 0
-StepKeepsOrders = (s : State) (caller : ℕ) (call : Call) (moment : ℕ) → IsNumbered s → HasOrders s → HasOrders (step s caller call moment).state
-
--- whatever is called, each Starting job has its order
-abbrev pub StartingJobsHaveOrders : Type 0
-StartingJobsHaveOrders = (s : State) (h : List Entry) → IsNumbered s → HasOrders s → HasOrders (after s h)
-
--- whatever is called, a Hand then answers Nothing exactly where no job is Starting and no kill is to be handed to its monitor
-abbrev pub HandGivesAnOrder : Type 0
-HandGivesAnOrder = (s : State) (h : List Entry) (caller moment : ℕ) → IsNumbered s → HasOrders s → ((step (after s h) caller Hand moment).reply ≡ Nothing ↔ orders_left (after s h) caller ≡ 0)
-
--- whatever is called, the route in a subsystem is its matching entry of least number
-abbrev pub ReachedRouteIsLeast : Type 0
-ReachedRouteIsLeast = (s : State) (h : List Entry) (sbs : QName) (d : Sbsd) (rtgdta : List ℕ) (e : RouteEntry) → IsNumbered s → HasOrders s → object_named sbs (after s h).objects.sbsds ≡ Some d → route d rtgdta ≡ Some e → IsRoute d rtgdta e
 
 -- no subsystem is started in the opening state
 abbrev pub OpeningHasDistinctNames : Type 0

@@ -24,6 +24,7 @@ pub mod Schedules
 pub mod Settling
 pub mod Stepped
 pub mod Submitting
+pub mod Supply
 pub mod Subsystems
 pub mod Wishes
 pub mod Limits

@@ -1,5 +1,5 @@
 -- A step of the machine: the clock is set, the call is applied, and the state settles.
-use Rattle.std.specs.Prelude.{ℕ, List, max}
+use Rattle.std.specs.Prelude.{ℕ, true, false, List, max}
 use Rattle.wm_base.specs.declared.job.EndCause.TheVariants as cause
 use Rattle.wm_law.specs.declared.call.Call.{Call}
 use Rattle.wm_law.specs.declared.call.Call.TheVariants.{Change, Hand, Started, StartFailed, Finished, UseDone, Tick}
@@ -16,7 +16,7 @@ use Rattle.wm_law.specs.Stepped.{Stepped}
 use Rattle.wm_law.specs.Endings.{end_job, end_subsystem, power_down}
 use Rattle.wm_law.specs.Subsystems.{start_subsystem}
 use Rattle.wm_law.specs.Submitting.{submit}
-use Rattle.wm_law.specs.Reports.{hand, is_handed_to, is_run_by, report, end_cause, use_done}
+use Rattle.wm_law.specs.Reports.{hand, is_handed_to, is_run_by, is_unused, report, end_cause, use_done}
 use Rattle.wm_law.specs.Settling.{settle}
 
 -- a command that isn't built yet does nothing, and stands in no legal history
@@ -55,9 +55,9 @@ change s user c = unbuilt s
 abbrev pub apply : State → ℕ → Call → Stepped
 apply s caller (Change user c) = change s user c
 apply s caller Hand = hand s caller
-apply s caller (Started serial) = report s serial (is_handed_to caller) (λ j. Running caller)
-apply s caller (StartFailed serial why) = report s serial (is_handed_to caller) (λ j. Ended (cause.StartFailed why))
-apply s caller (Finished serial end) = report s serial (is_run_by caller) (λ j. Ended (end_cause end j.wish))
+apply s caller (Started serial) = report s serial (is_handed_to caller) (λ j. Running caller) (λ j. false)
+apply s caller (StartFailed serial why) = report s serial (is_handed_to caller) (λ j. Ended (cause.StartFailed why)) (λ j. true)
+apply s caller (Finished serial end) = report s serial (is_run_by caller) (λ j. Ended (end_cause end j.wish)) is_unused
 apply s caller (UseDone serial) = use_done s caller serial
 apply s caller Tick = record { reply = Noted; state = s }
 
