@@ -3,11 +3,9 @@ use Rattle.std.proofs.Common.{◌≡◌, ◌∙◌, ℕ, false, refl, sym}
 use Rattle.std.proofs.lemmas.Bool.{true≢false}
 use Rattle.wm_law.specs.declared.call.Call.{Call}
 use Rattle.wm_law.specs.declared.state.State.{State}
-use Rattle.wm_law.specs.Autos.{autos_of}
 use Rattle.wm_law.specs.Built.{is_configuring_call}
 use Rattle.wm_law.specs.Machine.{apply}
-use Rattle.wm_law.specs.Subsystems.{begun}
-use Rattle.wm_law.proofs.Moves.{HoldsAfterCalls, call_comes, made_all, makeable, autos_made, started_keeps}
+use Rattle.wm_law.proofs.Moves.{HoldsAfterCalls, call_comes, autos_made, started_keeps}
 
 -- the objects, the held queues and the offset are as they were
 pub record IsAside (s t : State) : Type 0 where

@@ -1,5 +1,5 @@
 -- An autostart job that became Starting did so by its route.
-use Rattle.std.proofs.Common.{◌≡◌, ◌⊎◌, ◌==◌, Bool, true, false, cond, Option, Some, None, refl, sym, ap, subst, ◌∙◌, inl, inr, ℕ, List}
+use Rattle.std.proofs.Common.{◌≡◌, ◌⊎◌, ◌==◌, Bool, true, false, cond, Option, Some, None, refl, sym, ap, subst, ◌∙◌, inl, inr, List}
 use Rattle.std.specs.List.{find}
 use Rattle.std.proofs.lemmas.Bool.{eqb-true}
 use Rattle.wm_base.specs.declared.qname.QName.{QName}
@@ -29,7 +29,7 @@ use Rattle.wm_law.proofs.Limits.{altered_starts_none, ended_starts_none, entered
 use Rattle.wm_law.proofs.Members.{of_last, of_mapped}
 use Rattle.wm_law.proofs.Moves.{HoldsOfStates, autos_made}
 use Rattle.wm_law.proofs.Nexts.{IsNext, is_next}
-use Rattle.wm_law.proofs.Numbers.{launches_keep, only_started}
+use Rattle.wm_law.proofs.Numbers.{launches_keep}
 use Rattle.wm_law.proofs.Queued.{launches_queued}
 use Rattle.wm_law.proofs.Routed.{by_route}
 use Rattle.wm_law.specs.declared.state.Evoke.{Evoke}

@@ -26,17 +26,17 @@ use Rattle.wm_law.specs.Launch.{as_launched, from_queue, launch, with_routed, ro
 use Rattle.wm_law.specs.Laws.{IsIn}
 use Rattle.wm_law.specs.Machine.{apply, step, with_clock}
 use Rattle.wm_law.specs.Order.{GivesNewSerials, IsFit, IsInOrder, KeepsOrder, AllFit, counted_for, was_launched}
-use Rattle.wm_law.specs.Settling.{come_due, leave, settle, waiting, ready}
+use Rattle.wm_law.specs.Settling.{settle, waiting, ready}
 use Rattle.wm_law.specs.Sound.{HasQueues}
 use Rattle.wm_law.proofs.Autos.{AutosRouted, autos_fit, calls_route_autos, autos_ready}
 use Rattle.wm_law.proofs.Forward.{step_goes_on}
 use Rattle.wm_law.proofs.InTurn.{launched_in}
 use Rattle.wm_law.proofs.Members.{of_mapped}
-use Rattle.wm_law.proofs.Moves.{call_keeps, comes_due, readies}
+use Rattle.wm_law.proofs.Moves.{call_keeps, readies}
 use Rattle.wm_law.proofs.NewSerials.{step_gives_new_serials}
 use Rattle.wm_law.proofs.Nexts.{IsNext, is_next}
-use Rattle.wm_law.proofs.Numbers.{apply_keeps, clock_keeps, due_keeps, launches_keep, only_started, step_keeps_numbers, ready_keeps}
-use Rattle.wm_law.proofs.Passed.{IsOrderedSince, LaunchesNone, calls_launch_none, counted_all, counted_more, due_launches_none, full_still, launched_ordered, one, ordered_yet, ready_launches_none}
+use Rattle.wm_law.proofs.Numbers.{apply_keeps, clock_keeps, launches_keep, step_keeps_numbers, ready_keeps}
+use Rattle.wm_law.proofs.Passed.{IsOrderedSince, LaunchesNone, calls_launch_none, counted_all, counted_more, full_still, launched_ordered, one, ordered_yet, ready_launches_none}
 use Rattle.wm_law.proofs.Queued.{queued_calls, step_keeps_queues, queued_parts}
 use Rattle.wm_law.proofs.Routed.{full_through, launched_routed, started_through, unrouted_through}
 use Rattle.wm_law.proofs.Settling.{settled_leaves_none}

@@ -32,7 +32,7 @@ use Rattle.wm_law.specs.Autos.{auto_job, routed_auto, auto_made}
 use Rattle.wm_law.specs.Choice.{entry_for, maxpty_of, next}
 use Rattle.wm_law.specs.Counts.{count_active, is_active, is_by_route, is_from_priority, is_from_queue, is_in_sbs, is_starting, count_from_pre, count_in_sbs, is_from_pre}
 use Rattle.wm_law.specs.History.{stepped}
-use Rattle.wm_law.specs.Kept.{HasOrders, IsNumbered, IsRouted}
+use Rattle.wm_law.specs.Kept.{IsNumbered, IsRouted}
 use Rattle.wm_law.specs.Jobs.{changed_at, with_job, active_at}
 use Rattle.wm_law.specs.Launch.{as_auto, as_launched, entry_numbered, from_queue, launch, with_routed, routed_from_queue, pre_entry_for, route, route_fault, routed_through, starts_unless}
 use Rattle.wm_law.specs.Laws.{IsIn}
@@ -41,7 +41,7 @@ use Rattle.wm_law.specs.Machine.{apply, step, with_clock}
 use Rattle.wm_law.specs.Reports.{in_phase, phased_at, with_phase}
 use Rattle.wm_law.specs.Settling.{come_due, job_at, leave, sbss_at, start_jobs, waiting, ready}
 use Rattle.wm_law.specs.Submitting.{entered, submitted_job}
-use Rattle.wm_law.specs.Subsystems.{begun, with_autos}
+use Rattle.wm_law.specs.Subsystems.{with_autos}
 use Rattle.wm_law.proofs.Alterations.{IsAlteration, altered, each_altered, unstarted}
 use Rattle.wm_law.proofs.Counted.{count_last, no_more, no_more_each, one, one_more, one_most}
 use Rattle.wm_law.proofs.Endings.{IsWishing, key_same, stood_starting, using, was_active, wished, wishing_at}
@@ -305,11 +305,11 @@ routes_start : (s : State) (sbs : QName) (seq : ℕ) (q : QName) → IsStartable
 routes_start s sbs seq q can =
     autos_made (WithinSince s (is_by_route sbs seq) none_aside (OfRoute sbs seq)) s q can
     (λ t e d m h l k. (
-      let j = routed_auto t q (auto_job t e d) in
-      let n = k.1.2.0 in
-      last_within s (is_by_route sbs seq) none_aside l t.jobs j (is_active j.phase && is_by_route sbs seq j.how) refl
-      (λ its. ap (is_below (count_active (is_by_route sbs seq) t.jobs)) (sym k.1.2.2) ∙ below_route t q (as_auto q) (auto_job t e d) sbs seq k.1.0 n (λ x y z. refl) k.0 k.1.1 k.1.2.1 its)
-      (h l k)))
+    let j = routed_auto t q (auto_job t e d) in
+    let n = k.1.2.0 in
+    last_within s (is_by_route sbs seq) none_aside l t.jobs j (is_active j.phase && is_by_route sbs seq j.how) refl
+    (λ its. ap (is_below (count_active (is_by_route sbs seq) t.jobs)) (sym k.1.2.2) ∙ below_route t q (as_auto q) (auto_job t e d) sbs seq k.1.0 n (λ x y z. refl) k.0 k.1.1 k.1.2.1 its)
+    (h l k)))
     (λ l k. inl (λ j i p its v. (j, i, refl, p)))
 
 -- a prestart job is made below MAXJOBS of its subsystem

@@ -1,5 +1,5 @@
 -- The opening commands keep their forms and ranges, and what they make, written out.
-use Rattle.std.proofs.Common.{◌≡◌, ℤ, List, [], ◌∷◌, refl, arith, Bool, true, false, cond, Option, Some, None}
+use Rattle.std.proofs.Common.{◌≡◌, ℤ, List, [], ◌∷◌, refl, arith, Bool, true, false, cond, Some, None}
 use Rattle.std.specs.List.{All, AllByRecursion}
 use Rattle.std.proofs.lemmas.List.Elements.{All-cons, All-nil}
 use Rattle.wm_base.specs.declared.limit.Limit.TheVariants.{NoMax}

@@ -1,7 +1,7 @@
 -- Each Starting job has its order.
 use Rattle.std.proofs.Common.{◌≡◌, ℕ, ℤ, ◌+◌, ◌++◌, ◌==◌, Bool, true, false, cond, List, [], ◌∷◌, map, Option, Some, None, refl, sym, ap, subst, ◌∙◌, inl, inr, arith}
 use Rattle.std.specs.List.{find, count_by}
-use Rattle.std.specs.Option.{IsSome, option_and_then, option_map}
+use Rattle.std.specs.Option.{IsSome, option_and_then}
 use Rattle.std.proofs.lemmas.List.Sums.{sum_by-cons}
 use Rattle.std.proofs.lemmas.Bool.{eqb-true}
 use Rattle.wm_base.specs.declared.job.Class.{Class}
@@ -10,8 +10,6 @@ use Rattle.wm_base.specs.declared.job.How.TheVariants.{NotYet, FromQueue, Auto, 
 use Rattle.wm_base.specs.declared.job.StartOrder.{StartOrder}
 use Rattle.wm_base.specs.declared.qname.QName.{QName}
 use Rattle.wm_base.proofs.Tests.{unrefused}
-use Rattle.wm_law.specs.declared.call.Call.{Call}
-use Rattle.wm_law.specs.declared.call.Entry.{Entry}
 use Rattle.wm_law.specs.declared.call.Reply.TheVariants.{Nothing}
 use Rattle.wm_law.specs.declared.command.Sbmjob.{Sbmjob}
 use Rattle.wm_law.specs.declared.choice.Candidate.{Candidate}
@@ -30,7 +28,6 @@ use Rattle.wm_desc.specs.declared.entry.RouteEntry.{RouteEntry}
 use Rattle.wm_desc.specs.declared.description.Sbsd.{Sbsd}
 use Rattle.wm_law.specs.declared.state.State.{State}
 use Rattle.wm_base.specs.Iterate.{IsKept}
-use Rattle.wm_base.proofs.Iterate.{iterate-keeps}
 use Rattle.wm_law.specs.declared.state.Sbs.{Sbs}
 use Rattle.wm_law.specs.Autos.{auto_job, routed_auto, auto_made}
 use Rattle.wm_law.specs.Choice.{has_entry, next}
@@ -42,11 +39,10 @@ use Rattle.wm_law.specs.Laws.{IsIn}
 use Rattle.wm_law.specs.Pending.{kills, orders_left, starting}
 use Rattle.wm_law.specs.Submitting.{submitted_job}
 use Rattle.wm_law.specs.Reports.{hand_job, hand_order, in_phase, is_to_kill, phased_at, start_job, with_phase}
-use Rattle.wm_law.specs.Settling.{come_due, leave, waiting}
-use Rattle.wm_law.specs.Machine.{apply, step, with_clock}
+use Rattle.wm_law.specs.Settling.{leave}
+use Rattle.wm_law.specs.Machine.{step, with_clock}
 use Rattle.wm_desc.specs.Table.{object_named, same_qname}
-use Rattle.wm_desc.specs.Opening.{qbatch}
-use Rattle.wm_law.specs.History.{after, stepped}
+use Rattle.wm_law.specs.History.{after}
 use Rattle.wm_law.proofs.Alterations.{IsAlteration, each_altered, unstarted}
 use Rattle.wm_law.proofs.Opened.{batch_sbsd, opening_objects, opened, opening_is, only_sbsd}
 use Rattle.wm_law.proofs.Endings.{IsEnding, stood_starting, wished, starting_phase, use_ends}
@@ -59,7 +55,7 @@ use Rattle.wm_law.proofs.Forward.{only_one}
 use Rattle.wm_law.proofs.Routed.{by_route}
 use Rattle.wm_law.proofs.Routes.{IsSorted, numbered_once, route_is_least}
 use Rattle.wm_law.proofs.Members.{found_among, of_last, of_mapped}
-use Rattle.wm_law.proofs.Moves.{HoldsOfStates, IsMakeable, call_keeps, comes_due, IsKeptByParts, after_keeps, autos_made, step_keeps}
+use Rattle.wm_law.proofs.Moves.{HoldsOfStates, IsMakeable, IsKeptByParts, after_keeps, autos_made, step_keeps}
 use Rattle.wm_law.proofs.Numbers.{auto_keeps, begun_keeps, clock_keeps, launches_keep, only_started, calls as numbers}
 use Rattle.wm_desc.specs.declared.entry.PreEntry.{PreEntry}
 use Rattle.wm_law.specs.Objects.{AreSound}

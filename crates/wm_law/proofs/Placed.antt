@@ -8,7 +8,6 @@ use Rattle.wm_base.specs.declared.job.How.{How}
 use Rattle.wm_base.specs.declared.job.How.TheVariants.{FromQueue, Auto, Pre}
 use Rattle.wm_base.specs.declared.qname.QName.{QName}
 use Rattle.wm_base.specs.Iterate.{IsKept}
-use Rattle.wm_base.proofs.Iterate.{iterate-keeps}
 use Rattle.wm_base.proofs.Tests.{not_both}
 use Rattle.wm_desc.specs.declared.description.Jobd.{Jobd}
 use Rattle.wm_desc.specs.declared.description.Sbsd.{Sbsd}
@@ -36,9 +35,9 @@ use Rattle.wm_law.specs.Kept.{IsNumbered, phase_rank}
 use Rattle.wm_law.specs.Jobs.{changed_at, active_at}
 use Rattle.wm_law.specs.Launch.{as_auto, as_launched, from_queue, is_match, launch, with_routed, routed_from_queue, routed_in, starts_unless, routed_through, route, route_fault}
 use Rattle.wm_law.specs.Laws.{IsIn}
-use Rattle.wm_law.specs.Machine.{apply, step, with_clock}
+use Rattle.wm_law.specs.Machine.{step}
 use Rattle.wm_law.specs.Reports.{in_phase, phased_at, with_phase}
-use Rattle.wm_law.specs.Settling.{come_due, is_ending, is_gone, leave, waiting}
+use Rattle.wm_law.specs.Settling.{is_ending, is_gone, leave}
 use Rattle.wm_law.specs.Sound.{CameFromQueue, ActiveHaveCome, HasQueues, HasCome}
 use Rattle.wm_law.specs.Submitting.{submitted_job}
 use Rattle.wm_law.proofs.Alterations.{IsAlteration, altered, each_altered, idle}
@@ -47,7 +46,7 @@ use Rattle.wm_law.proofs.Firsts.{holder_started, ready_waits}
 use Rattle.wm_law.proofs.Forward.{only_one}
 use Rattle.wm_law.proofs.Lodged.{counted, not_zero}
 use Rattle.wm_law.proofs.Members.{found_among, in_left, in_longer, of_last, of_mapped}
-use Rattle.wm_law.proofs.Moves.{HoldsOfStates, IsMakeable, IsOnward, call_keeps, comes_due, IsKeptByParts, autos_made, both_hold, step_keeps}
+use Rattle.wm_law.proofs.Moves.{HoldsOfStates, IsMakeable, IsOnward, IsKeptByParts, autos_made, both_hold, step_keeps}
 use Rattle.wm_law.proofs.Named.{own_name}
 use Rattle.wm_law.proofs.Nexts.{IsNext, is_next}
 use Rattle.wm_law.proofs.Numbers.{calls, clock_keeps, launches_keep, only_started}

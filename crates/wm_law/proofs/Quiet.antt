@@ -16,7 +16,7 @@ use Rattle.wm_law.specs.declared.job.Wish.TheVariants as wish
 use Rattle.wm_law.specs.declared.state.Sbs.{Sbs}
 use Rattle.wm_law.specs.declared.state.SbsPhase.TheVariants.{Active}
 use Rattle.wm_law.specs.declared.state.State.{State}
-use Rattle.wm_law.specs.Autos.{auto_job, routed_auto, auto_made, autos_of}
+use Rattle.wm_law.specs.Autos.{auto_job, routed_auto, auto_made}
 use Rattle.wm_law.specs.Built.{is_ending_call}
 use Rattle.wm_law.specs.Counts.{is_active, is_in_sbs, is_starting}
 use Rattle.wm_law.specs.Jobs.{active_at, with_active}
@@ -31,14 +31,14 @@ use Rattle.wm_law.specs.Subsystems.{begun}
 use Rattle.wm_law.specs.Wishes.{handed_wish, has_come, is_in_any, is_now, is_wish_due}
 use Rattle.wm_law.proofs.Alterations.{IsAlteration, altered, each_altered, idle}
 use Rattle.wm_law.proofs.Distinct.{one_by_key}
-use Rattle.wm_law.proofs.Due.{due_same, not_both, of_any, AllUpToDate, IsQuietly, last_up, supplied_quietly}
+use Rattle.wm_law.proofs.Due.{due_same, not_both, of_any, IsQuietly, last_up, supplied_quietly}
 use Rattle.wm_law.proofs.Forward.{only_one}
 use Rattle.wm_law.proofs.Members.{of_last, of_mapped}
-use Rattle.wm_law.proofs.Moves.{HoldsAfterCalls, IsMakeable, IsOnward, call_comes, made_all, makeable, moved_on, starting_rank, autos_made, started_keeps}
+use Rattle.wm_law.proofs.Moves.{HoldsAfterCalls, IsMakeable, IsOnward, call_comes, moved_on, starting_rank, autos_made, started_keeps}
 use Rattle.wm_law.proofs.Passed.{any_in}
 use Rattle.wm_law.proofs.Placed.{active_as, active_before}
 use Rattle.wm_law.proofs.Routed.{by_route}
-use Rattle.wm_law.proofs.Started.{calls, begun_names}
+use Rattle.wm_law.proofs.Started.{begun_names}
 
 -- whether a subsystem ends now
 abbrev now : Sbs → Bool

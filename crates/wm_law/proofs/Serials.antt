@@ -2,7 +2,6 @@
 use Rattle.std.proofs.Common.{◌≡◌, ◌⊎◌, ℕ, ◌<◌, ◌++◌, ◌==◌, List, [], ◌∷◌, map, Option, Some, None, refl, sym, subst, inl, inr}
 use Rattle.std.specs.List.{find}
 use Rattle.wm_base.specs.Iterate.{IsKept}
-use Rattle.wm_base.proofs.Iterate.{iterate-keeps}
 use Rattle.wm_law.specs.declared.call.Call.{Call}
 use Rattle.wm_law.specs.declared.choice.Candidate.{Candidate}
 use Rattle.wm_law.specs.declared.job.Job.{Job}
@@ -12,14 +11,13 @@ use Rattle.wm_law.specs.Choice.{next}
 use Rattle.wm_law.specs.Kept.{IsBelow, IsNumbered}
 use Rattle.wm_law.specs.Launch.{as_launched, launch, with_routed, routed_from_queue}
 use Rattle.wm_law.specs.Laws.{IsIn}
-use Rattle.wm_law.specs.Machine.{apply, step, with_clock}
+use Rattle.wm_law.specs.Machine.{step}
 use Rattle.wm_law.specs.Reports.{in_phase}
-use Rattle.wm_law.specs.Settling.{come_due, leave, waiting}
 use Rattle.wm_law.specs.Sound.{HasJobsInOrder, IsIncreasing}
 use Rattle.wm_law.specs.Submitting.{submitted_job}
 use Rattle.wm_law.proofs.Changed.{keys_kept}
 use Rattle.wm_law.proofs.Endings.{keys_same, using}
-use Rattle.wm_law.proofs.Moves.{HoldsOfStates, call_keeps, comes_due, autos_made, IsKeptByParts, step_keeps}
+use Rattle.wm_law.proofs.Moves.{HoldsOfStates, autos_made, IsKeptByParts, step_keeps}
 use Rattle.wm_law.proofs.Numbers.{calls, clock_keeps, serials_stay, auto_keeps, begun_keeps, only_started, launches_keep}
 use Rattle.wm_law.specs.Jobs.{active_at}
 use Rattle.wm_law.specs.Prestart.{new_pre_job, with_evoke}

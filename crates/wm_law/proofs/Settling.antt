@@ -19,7 +19,7 @@ use Rattle.wm_law.specs.Launch.{route, route_fault, from_queue, starts_unless, r
 use Rattle.wm_law.specs.Jobs.{changed_at}
 use Rattle.wm_base.proofs.Iterate.{iterate-none, iterate-step, next-iterate}
 use Rattle.wm_law.specs.Laws.{IsIn, SettledHasNoNext, SettledLeavesNone}
-use Rattle.wm_law.specs.Settling.{come_due, waiting, start_jobs, leave, settle, ready}
+use Rattle.wm_law.specs.Settling.{waiting, start_jobs, settle, ready}
 use Rattle.wm_law.proofs.Firsts.{first_waits, next_waits, no_next_is_none}
 
 by_cause : (how : ℕ → How) (seq : ℕ) (cause : Option EndCause) → is_waiting (starts_unless how seq cause).phase ≡ false

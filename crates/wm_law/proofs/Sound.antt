@@ -14,7 +14,7 @@ use Rattle.wm_law.proofs.Due.{leaves_none_due}
 use Rattle.wm_law.proofs.Fitting.{order_kept, step_order}
 use Rattle.wm_law.proofs.Limits.{limits_kept, step_limits}
 use Rattle.wm_law.proofs.Numbers.{clock_keeps, opening_is_numbered, step_keeps_numbers}
-use Rattle.wm_law.proofs.Orders.{clock_keeps_orders, opening_has_orders, step_keeps_orders, IsOrdered}
+use Rattle.wm_law.proofs.Orders.{clock_keeps_orders, opening_has_orders, step_keeps_orders}
 use Rattle.wm_law.proofs.Opened.{opened, opening_is}
 use Rattle.wm_law.proofs.Placed.{step_keeps_places}
 use Rattle.wm_law.proofs.Queued.{opening_has_queues, opening_holds_queues, step_keeps_held, step_keeps_queues}

@@ -1,5 +1,5 @@
 -- Settling's third part: waiting requests go to idle prestart jobs, and entries get the jobs that they lack; and STRSBS's first prestart jobs.
-use Rattle.std.specs.Prelude.{ℕ, Bool, not, List, [], ◌∷◌, Option, Some, None, filter, fold, map, if◌then◌else◌}
+use Rattle.std.specs.Prelude.{not, List, [], ◌∷◌, Option, Some, None, filter, fold, map, if◌then◌else◌}
 use Rattle.std.specs.Option.{option_map_or}
 use Rattle.std.specs.Ordering.{nat_cmp, is_lt}
 use Rattle.std.specs.Cmp.Lexicographic.{slice_cmp}
