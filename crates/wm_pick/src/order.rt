@@ -81,7 +81,7 @@ impl<'a> Parts<'a> {
         job: &Job,
         entry: Option<&PreEntry>,
     ) -> Result<Option<StartOrder>, NoMemory>
-        ensures { IfOk result (λ order. order ≡ order_pre self.now job.now (option_copied entry)) }
+        ensures { IfOk result (λ order. order ≡ order_pre self.now job.now (option_copied entry.entry)) }
     {
         let Some(entry) = entry else {
             return Ok(None);

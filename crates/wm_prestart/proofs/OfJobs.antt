@@ -8,7 +8,7 @@ use Rattle.wm_base.specs.declared.qname.QName.{QName}
 use Rattle.wm_law.specs.declared.job.Job.{Job}
 use Rattle.wm_law.specs.declared.job.Phase.{Phase}
 use Rattle.wm_law.specs.declared.job.Phase.TheVariants.{Waiting, Starting, Handed, Running, Ended}
-use Rattle.wm_law.specs.Counts.{is_active}
+use Rattle.wm_law.specs.Counts.{is_active, is_from_pre}
 use Rattle.wm_law.specs.Prestart as law
 use Rattle.wm_law.specs.Wishes.{has_wish}
 use Rattle.wm_law.proofs.FirstIdle.{first_idle_is_first}
@@ -68,7 +68,7 @@ module _ (sbs pgm : QName) where
   entry = entry_of sbs pgm
 
   abbrev from : How → Bool
-  from how = law.is_from_pre sbs pgm how
+  from how = is_from_pre sbs pgm how
 
   abbrev count : List (ℕ × PrestartJob) → ℕ
   count rows = available entry rows
