@@ -25,7 +25,7 @@ answers s call = record {
   enters = λ user c d due has b n e. absurd (cc);
   alters = λ reply change place p a b n e. p.says e;
   holds = λ reply held p a told b n e. p.says e;
-  ends = λ reply change started evokes power p a told b n e. p.says e;
+  ends = λ reply change started stopped evokes power p a told b n e. p.says e;
   kills = λ m j i k b n e. absurd (cc);
   makes = λ o c told b n e. absurd (cc);
 }

@@ -29,7 +29,7 @@ aside s call none = record {
   enters = λ user c d due has. record { objects = refl; held = refl; offset = refl };
   alters = λ reply change place p a. record { objects = refl; held = refl; offset = refl };
   holds = λ reply held p a told. absurd (true≢false (sym told ∙ none));
-  ends = λ reply change started evokes power p e told. record { objects = refl; held = refl; offset = refl };
+  ends = λ reply change started stopped evokes power p e told. record { objects = refl; held = refl; offset = refl };
   kills = λ m j i k. record { objects = refl; held = refl; offset = refl };
   makes = λ o c told. absurd (true≢false (sym told ∙ none));
 }

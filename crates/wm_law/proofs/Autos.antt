@@ -55,8 +55,8 @@ autos_routed s t q e d h k i p v =
     ]
 
 -- so it is where wishes and uses change
-wished_routed : (s t : State) (change : Job → Job) (started : List Sbs) (evokes : List Evoke) (power : Power) → IsWishing change → AutosRouted s t → AutosRouted s (wished t change started evokes power)
-wished_routed s t change started evokes power e h k i p v =
+wished_routed : (s t : State) (change : Job → Job) (started : List Sbs) (stopped : List Stop) (evokes : List Evoke) (power : Power) → IsWishing change → AutosRouted s t → AutosRouted s (wished t change started stopped evokes power)
+wished_routed s t change started stopped evokes power e h k i p v =
     let m = stood_starting change e t.jobs k i p in
     elim (h m.job m.there m.starting (sym (ap (λ (x : Job). x.kind) m.same) ∙ v)) as (λ _. IsStarting s k.serial ⊎ IsAutoRouted t.objects k) [
       | inl was ↦ inl (subst (IsStarting s) (sym (ap (λ (x : Job). x.serial) m.same)) was)
@@ -83,12 +83,12 @@ pub calls_route_autos : (s : State) → HoldsOfStates (AutosRouted s) s
 calls_route_autos s = record {
   stays = λ j i p v. inl (j, i, refl, p);
   starts = λ q e. autos_made (AutosRouted s) s q e (λ t x d m h. autos_routed s t q x d h) (λ j i p v. inl (j, i, refl, p));
-  supplies = record { makes = λ q d e t can h. pre_routed s t q e.pgm h; assigns = λ t serial evokes h. wished_routed s t (active_at serial with_evoke) t.started evokes t.power (using serial) h };
+  supplies = record { makes = λ q d e t can h. pre_routed s t q e.pgm h; assigns = λ t serial evokes h. wished_routed s t (active_at serial with_evoke) t.started t.stopped evokes t.power (using serial) h };
   enters = λ user c d due has j i p v. inl (entered_starts_none s user c d due j i p);
   alters = λ change place a j i p v. inl (altered_starts_none s change place a j i p);
   holds = λ held a j i p v. inl (j, i, refl, p);
   moves = λ serial j phase stopped i e r n k m p v. inl (moved_starts_none s serial phase n k m p);
-  ends = λ change started evokes power e j i p v. inl (ended_starts_none s change e.jobs j i p);
+  ends = λ change started stopped evokes power e j i p v. inl (ended_starts_none s change e.jobs j i p);
   makes = λ o c j i p v. inl (j, i, refl, p);
 }
 
@@ -96,7 +96,7 @@ calls_route_autos s = record {
 pub autos_ready : (s t : State) → AutosRouted s t → AutosRouted s (ready t)
 autos_ready s t h =
     supplied_keeps (AutosRouted s) (calls_route_autos s).supplies (leave (come_due t))
-    (wished_routed s t (job_at t.clock (sbss_at t)) (sbss_at t) t.evokes t.power (wishing_at t.clock (sbss_at t)) h)
+    (wished_routed s t (job_at t.clock (sbss_at t)) (sbss_at t) t.stopped t.evokes t.power (wishing_at t.clock (sbss_at t)) h)
 
 -- numbered, the jobs have their queues, and the autostart jobs are by their routes
 record IsRoutedSince (s t : State) : Type 0 where

@@ -66,7 +66,7 @@ pub record IsEnding (s : State) (change : Job → Job) (started : List Sbs) (pow
 
 -- the state in which they do
 abbrev pub wished : State → (Job → Job) → List Sbs → List Evoke → Power → State
-wished s change started evokes power = record s { jobs = map change s.jobs; started = started; evokes = evokes; power = power }
+wished s change started stopped evokes power = record s { jobs = map change s.jobs; started = started; evokes = evokes; power = power }
 
 none_active : (p : Phase) → is_active p ≡ false → p ≡ Starting → ⊥
 none_active p n e =

@@ -266,7 +266,7 @@ module _ (s : State) (test : How → Bool) (aside : JobKind → Bool) (limits : 
     alters = λ change place a. yet (altered s change place) (altered_starts_none s change place a);
     holds = λ held a. yet (record s { held = held }) (λ j i p. (j, i, refl, p));
     moves = λ serial j phase stopped i e r n. yet (record (with_phase s serial phase) { stopped = stopped }) (moved_starts_none s serial phase n);
-    ends = λ change started evokes power e. yet (wished s change started evokes power) (ended_starts_none s change e.jobs);
+    ends = λ change started stopped evokes power e. yet (wished s change started stopped evokes power) (ended_starts_none s change e.jobs);
     makes = λ o c. yet (record s { objects = o }) (λ j i p. (j, i, refl, p));
   }
 

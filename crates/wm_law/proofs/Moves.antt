@@ -133,7 +133,7 @@ pub record HoldsAfterCalls (P : Stepped → Type 0) (s : State) (call : Call) : 
   pub enters : (user : List ℕ) (c : Sbmjob) (d : Jobd) (due : ℕ) → IsAcceptable s c d due → P (record { reply = Submitted (job_name s user c) (queue_of c d); state = entered s (submitted_job s user c d due) })
   pub alters : (reply : Reply) (change : Job → Job) (place : ℕ) → IsPlain reply → IsAlteration s change place → P (record { reply = reply; state = altered s change place })
   pub holds : (reply : Reply) (held : List QName) → IsPlain reply → IsHolding s held → is_configuring_call call ≡ true → P (record { reply = reply; state = record s { held = held } })
-  pub ends : (reply : Reply) (change : Job → Job) (started : List Sbs) (evokes : List Evoke) (power : Power) → IsPlain reply → IsEnding s change started power → is_ending_call call ≡ true → P (record { reply = reply; state = wished s change started evokes power })
+  pub ends : (reply : Reply) (change : Job → Job) (started : List Sbs) (stopped : List Stop) (evokes : List Evoke) (power : Power) → IsPlain reply → IsEnding s change started power → is_ending_call call ≡ true → P (record { reply = reply; state = wished s change started stopped evokes power })
   pub kills : (m : ℕ) (j : Job) → IsIn j s.jobs → is_to_kill m j ≡ true → P (record { reply = Order (Kill j.serial); state = with_active s j.serial with_kill })
   pub makes : (o : Objects) → IsObjectChange s o → is_configuring_call call ≡ true → P (record { reply = Made; state = record s { objects = o } })
 
@@ -199,7 +199,7 @@ module _ (P : Stepped → Type 0) (s : State) (call : Call) (h : HoldsAfterCalls
   active_ended : (c : Endjob) (j : Job) → is_ending_call call ≡ true → IsIn j s.jobs → P (end_active s c j)
   active_ended c j told i =
       either (is_wished c.option j.wish) _ _ (λ t. h.refuses AlreadyEnding)
-      (λ t. h.ends (JobEnding j.job) (active_at j.serial (with_wish (job_wish s.clock c.option c.delay))) s.started s.evokes s.power (plain_job_ending j.job) (job_ends s j c.option c.delay i t) told)
+      (λ t. h.ends (JobEnding j.job) (active_at j.serial (with_wish (job_wish s.clock c.option c.delay))) s.started s.stopped s.evokes s.power (plain_job_ending j.job) (job_ends s j c.option c.delay i t) told)
 
   ended_in_phase : (c : Endjob) (j : Job) (p : Phase) → is_ending_call call ≡ true → IsIn j s.jobs → P (end_in_phase s c j p)
   ended_in_phase c j Waiting told i = h.alters (JobEnded j.job) (waiting_at j.serial (in_phase (Ended cause.EndedOnQueue))) s.next_place (plain_job_ended j.job) (ending_alters s j.serial)
@@ -413,7 +413,7 @@ pub record HoldsOfStates (P : State → Type 0) (s : State) : Type 0 where
   pub alters : (change : Job → Job) (place : ℕ) → IsAlteration s change place → P (altered s change place)
   pub holds : (held : List QName) → IsHolding s held → P (record s { held = held })
   pub moves : (serial : ℕ) (j : Job) (phase : Phase) (stopped : List Stop) → IsIn j s.jobs → j.serial ≡ serial → IsMoved j phase → is_starting phase ≡ false → P (record (with_phase s serial phase) { stopped = stopped })
-  pub ends : (change : Job → Job) (started : List Sbs) (evokes : List Evoke) (power : Power) → IsEnding s change started power → P (wished s change started evokes power)
+  pub ends : (change : Job → Job) (started : List Sbs) (stopped : List Stop) (evokes : List Evoke) (power : Power) → IsEnding s change started power → P (wished s change started stopped evokes power)
   pub makes : (o : Objects) → IsObjectChange s o → P (record s { objects = o })
 
 -- what holds of two, holds of both
@@ -429,7 +429,7 @@ both_hold P Q s h k = record {
   alters = λ change place a. (h.alters change place a, k.alters change place a);
   holds = λ held a. (h.holds held a, k.holds held a);
   moves = λ serial j phase stopped i e r n. (h.moves serial j phase stopped i e r n, k.moves serial j phase stopped i e r n);
-  ends = λ change started evokes power e. (h.ends change started evokes power e, k.ends change started evokes power e);
+  ends = λ change started stopped evokes power e. (h.ends change started stopped evokes power e, k.ends change started stopped evokes power e);
   makes = λ o c. (h.makes o c, k.makes o c);
 }
 
@@ -444,8 +444,8 @@ of_states P s call h = record {
   enters = λ user c d due has. h.enters user c d due has;
   alters = λ reply change place p a. h.alters change place a;
   holds = λ reply held p a told. h.holds held a;
-  ends = λ reply change started evokes power p e told. h.ends change started evokes power e;
-  kills = λ m j i k. h.ends (active_at j.serial with_kill) s.started s.evokes s.power (kill_ends s j.serial);
+  ends = λ reply change started stopped evokes power p e told. h.ends change started stopped evokes power e;
+  kills = λ m j i k. h.ends (active_at j.serial with_kill) s.started s.stopped s.evokes s.power (kill_ends s j.serial);
   makes = λ o c told. h.makes o c;
 }
 
@@ -455,7 +455,7 @@ call_keeps P s caller call h = call_comes (λ t. P t.state) s caller call (of_st
 
 -- what holds where jobs and subsystems end, holds after settling's first part
 pub comes_due : (P : State → Type 0) (s : State) → HoldsOfStates P s → P (come_due s)
-comes_due P s h = h.ends (job_at s.clock (sbss_at s)) (sbss_at s) s.evokes s.power (coming_due s)
+comes_due P s h = h.ends (job_at s.clock (sbss_at s)) (sbss_at s) s.stopped s.evokes s.power (coming_due s)
 
 -- P is kept by all that a step does
 pub record IsKeptByParts (P : State → Type 0) : Type 0 where

@@ -67,7 +67,7 @@ module _ (s : State) where
     alters = λ change place a. record { new = same_new t (map change t.jobs) (serials_stay t change place a) h; next = h.next };
     holds = λ held a. record { new = h.new; next = h.next };
     moves = λ serial j phase stopped i e r k. (let moved = same t (map (phased_at serial phase) t.jobs) (keys_kept (λ (x : Job). x.serial) serial (in_phase phase) (λ x. refl) t.jobs) h in record { new = moved.new; next = moved.next });
-    ends = λ change started evokes power e. record { new = same_new t (map change t.jobs) (keys_same change e.jobs (λ (x : Job). x.serial) (λ x p w u e. refl) t.jobs) h; next = h.next };
+    ends = λ change started stopped evokes power e. record { new = same_new t (map change t.jobs) (keys_same change e.jobs (λ (x : Job). x.serial) (λ x p w u e. refl) t.jobs) h; next = h.next };
     makes = λ o c. record { new = h.new; next = h.next };
   })
 

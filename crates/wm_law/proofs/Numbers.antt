@@ -216,9 +216,9 @@ altered_keeps s change place a h (inr p) =
     }
 
 -- a wish changes no serial, number or place
-ended_keeps : (s : State) (change : Job → Job) (started : List Sbs) (evokes : List Evoke) (power : Power) → IsWishing change → IsNumbered s → IsNumbered (wished s change started evokes power)
-ended_keeps s change started evokes power e h =
-    numbered_same s (wished s change started evokes power)
+ended_keeps : (s : State) (change : Job → Job) (started : List Sbs) (stopped : List Stop) (evokes : List Evoke) (power : Power) → IsWishing change → IsNumbered s → IsNumbered (wished s change started stopped evokes power)
+ended_keeps s change started stopped evokes power e h =
+    numbered_same s (wished s change started stopped evokes power)
     (record {
       serials = keys_same change e (λ (j : Job). j.serial) (λ j p w u e. refl) s.jobs;
       numbers = keys_same change e (λ (j : Job). j.job.number) (λ j p w u e. refl) s.jobs;
@@ -237,12 +237,12 @@ pub calls : (s : State) → IsNumbered s → HoldsOfStates IsNumbered s
 calls s h = record {
   stays = h;
   starts = λ q e. autos_made IsNumbered s q e (auto_keeps q) (begun_keeps s q h);
-  supplies = record { makes = pre_keeps; assigns = λ t serial evokes k. ended_keeps t (active_at serial with_evoke) t.started evokes t.power (using serial) k };
+  supplies = record { makes = pre_keeps; assigns = λ t serial evokes k. ended_keeps t (active_at serial with_evoke) t.started t.stopped evokes t.power (using serial) k };
   enters = λ user c d due a. entered_keeps s user c d due a.numbers h;
   alters = λ change place a. altered_keeps s change place a h a.places;
   holds = λ held a. numbered_same s _ (record { serials = refl; numbers = refl; waiting = λ d. d; places = refl; next_number = refl; next_serial = refl; next_place = refl }) h;
   moves = λ serial j phase stopped i e r n. (let t = numbered_same s (with_phase s serial phase) (phase_same s serial phase (never_waits j.phase phase r.onward)) h in numbered_same (with_phase s serial phase) _ (record { serials = refl; numbers = refl; waiting = λ d. d; places = refl; next_number = refl; next_serial = refl; next_place = refl }) t);
-  ends = λ change started evokes power e. ended_keeps s change started evokes power e.jobs h;
+  ends = λ change started stopped evokes power e. ended_keeps s change started stopped evokes power e.jobs h;
   makes = λ o e. numbered_same s _ (record { serials = refl; numbers = refl; waiting = λ d. d; places = refl; next_number = refl; next_serial = refl; next_place = refl }) h;
 }
 

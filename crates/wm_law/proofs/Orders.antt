@@ -278,8 +278,8 @@ module _ (j : Job) (p : Phase) (w : Wish) (uses : ℕ) (evoke : Bool) where
   order_wished s (Auto sbs seq) = through_wished s (route_entry s sbs seq)
   order_wished s (Pre sbs pgm) = pre_wished s (pre_entry s sbs pgm)
 
-ended_orders : (s : State) (change : Job → Job) (started : List Sbs) (evokes : List Evoke) (power : Power) → IsEnding s change started power → HasOrders s → HasOrders (wished s change started evokes power)
-ended_orders s change started evokes power e h = record {
+ended_orders : (s : State) (change : Job → Job) (started : List Sbs) (stopped : List Stop) (evokes : List Evoke) (power : Power) → IsEnding s change started power → HasOrders s → HasOrders (wished s change started stopped evokes power)
+ended_orders s change started stopped evokes power e h = record {
   routed = h.routed;
   starting = λ k i p. (
       let m = stood_starting change e.jobs s.jobs k i p in
@@ -303,7 +303,7 @@ calls s all =
           (record { numbered = begun_keeps s q all.numbered; objects = sound; orders = alike s (begun s q) refl refl (λ j i p. lodged_longer s.started _ j (h.lodged j i p)) h });
       supplies = record {
         makes = λ q d e t can k. record { numbered = n.supplies.makes q d e t can k.numbered; objects = k.objects; orders = pre_made_ordered q d e t can k.objects k.orders };
-        assigns = λ t serial evokes k. record { numbered = n.supplies.assigns t serial evokes k.numbered; objects = k.objects; orders = ended_orders t (active_at serial with_evoke) t.started evokes t.power (use_ends t serial) k.orders };
+        assigns = λ t serial evokes k. record { numbered = n.supplies.assigns t serial evokes k.numbered; objects = k.objects; orders = ended_orders t (active_at serial with_evoke) t.started t.stopped evokes t.power (use_ends t serial) k.orders };
       };
       enters = λ user c d due has. record {
         numbered = n.enters user c d due has;
@@ -321,7 +321,7 @@ calls s all =
         objects = sound;
         orders = (let t = routed s h _ (moved (λ j. IsSome (order_of s j)) s.jobs serial phase e h.starting) (moved (IsLodged s.started) s.jobs serial phase e h.lodged) in alike (with_phase s serial phase) (record (with_phase s serial phase) { stopped = stopped }) refl refl t.lodged t);
       };
-      ends = λ change started evokes power e. record { numbered = n.ends change started evokes power e; objects = sound; orders = ended_orders s change started evokes power e h };
+      ends = λ change started stopped evokes power e. record { numbered = n.ends change started stopped evokes power e; objects = sound; orders = ended_orders s change started stopped evokes power e h };
       makes = λ o e. record {
         numbered = n.makes o e;
         objects = e.sound sound;

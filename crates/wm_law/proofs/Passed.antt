@@ -314,7 +314,7 @@ calls_launch_none s = record {
   alters = altered_none s;
   holds = λ held a i m. none_yet s i m;
   moves = λ serial j phase stopped i e r n. (let on = r.onward in moved_none s serial j phase i e on.past);
-  ends = λ change started evokes power e. wished_none s s change e.jobs (none_yet s);
+  ends = λ change started stopped evokes power e. wished_none s s change e.jobs (none_yet s);
   makes = λ o c i m. none_yet s i m;
 }
 

@@ -259,8 +259,8 @@ ending s started j e x d i its k =
     let same = m.2 in
     (m.0, m.1, same.named, ap (λ (q : QName). object_named q s.objects.sbsds) same.named ∙ k)
 
-ended_placed : (s : State) (change : Job → Job) (started : List Sbs) (evokes : List Evoke) (power : Power) → IsEnding s change started power → ActiveHaveCome s → ActiveHaveCome (wished s change started evokes power)
-ended_placed s change started evokes power e h k i a =
+ended_placed : (s : State) (change : Job → Job) (started : List Sbs) (stopped : List Stop) (evokes : List Evoke) (power : Power) → IsEnding s change started power → ActiveHaveCome s → ActiveHaveCome (wished s change started stopped evokes power)
+ended_placed s change started stopped evokes power e h k i a =
     let m = of_mapped change s.jobs k i in
     let j = m.0 in
     let active : is_active j.phase ≡ true = was_active j.phase (change j).phase (e.jobs.phase j) (ap (λ (x : Job). is_active x.phase) (sym m.2) ∙ a) in
@@ -274,12 +274,12 @@ calls_place : (s : State) → IsNumbered s → ActiveHaveCome s → HoldsOfState
 calls_place s n h = record {
   stays = h;
   starts = λ q e. autos_made ActiveHaveCome s q e (auto_placed q) (λ j i a. placed_still s.started s.objects _ _ j.kind j.jobq j.pty j.how (longer s (record { sbsd = q; phase = Active }) j) (h j i a));
-  supplies = record { makes = pre_placed; assigns = λ t serial evokes k. ended_placed t (active_at serial with_evoke) t.started evokes t.power (use_ends t serial) k };
+  supplies = record { makes = pre_placed; assigns = λ t serial evokes k. ended_placed t (active_at serial with_evoke) t.started t.stopped evokes t.power (use_ends t serial) k };
   enters = λ user c d due has. last_placed s (submitted_job s user c d due) (λ a. absurd (cc)) h;
   alters = λ change place a. altered_placed s change place a h;
   holds = λ held a. h;
   moves = λ serial j phase stopped i e r k. moved_placed s serial j phase n h i e r.onward;
-  ends = λ change started evokes power e. ended_placed s change started evokes power e h;
+  ends = λ change started stopped evokes power e. ended_placed s change started stopped evokes power e h;
   makes = λ o c j i a. placed_still s.started s.objects _ _ j.kind j.jobq j.pty j.how (remade s o j c) (h j i a);
 }
 

@@ -157,7 +157,7 @@ queued_calls s h = record {
   alters = λ change place a. all_altered s change place a h;
   holds = λ held a. h;
   moves = λ serial j phase stopped i e r n. moved_queued s serial phase (never_waits j.phase phase r.onward) h;
-  ends = λ change started evokes power e. all_wished s.objects s.jobs change e.jobs h;
+  ends = λ change started stopped evokes power e. all_wished s.objects s.jobs change e.jobs h;
   makes = λ o c j i. queued_still s.objects o j c.jobqs (h j i);
 }
 
@@ -211,7 +211,7 @@ held_calls s h = record {
   alters = λ change place a. h;
   holds = λ held a. still_queues s held a h;
   moves = λ serial j phase stopped i e r n. h;
-  ends = λ change started evokes power e. h;
+  ends = λ change started stopped evokes power e. h;
   makes = λ o c. record { sorted = h.sorted; are_objects = λ q i. c.jobqs q (h.are_objects q i) };
 }
 

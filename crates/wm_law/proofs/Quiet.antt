@@ -157,7 +157,7 @@ quiet_calls s call n names h quiet = record {
   enters = λ user c d due a. record { subsystems = h.subsystems; jobs = last_up s.clock s.started s.jobs (submitted_job s user c d due) (λ x. absurd (cc)) h.jobs };
   alters = λ reply change place p a. altered_due s change place a h;
   holds = λ reply held p a told. record { subsystems = h.subsystems; jobs = h.jobs };
-  ends = λ reply change started evokes power p e told. absurd (cc);
+  ends = λ reply change started stopped evokes power p e told. absurd (cc);
   kills = λ m j i k. kill_due s j.serial h;
   makes = λ o c told. record { subsystems = h.subsystems; jobs = h.jobs };
 }

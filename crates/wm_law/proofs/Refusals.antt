@@ -25,7 +25,7 @@ leaves s call = record {
   enters = λ user c d due has x e. absurd (cc);
   alters = λ reply change place p a x e. absurd (p.refuses_none x e);
   holds = λ reply held p a told x e. absurd (p.refuses_none x e);
-  ends = λ reply change started evokes power p a told x e. absurd (p.refuses_none x e);
+  ends = λ reply change started stopped evokes power p a told x e. absurd (p.refuses_none x e);
   kills = λ m j i k x e. absurd (cc);
   makes = λ o c told x e. absurd (cc);
 }

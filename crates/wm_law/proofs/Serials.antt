@@ -68,7 +68,7 @@ calls_increase s l =
       alters = λ change place a. record { numbered = n.alters change place a; increasing = subst IsIncreasing (sym (serials_stay s change place a)) h };
       holds = λ held a. record { numbered = n.holds held a; increasing = h };
       moves = λ serial j phase stopped i e r k. record { numbered = n.moves serial j phase stopped i e r k; increasing = subst IsIncreasing (sym (keys_kept (λ (x : Job). x.serial) serial (in_phase phase) (λ x. refl) s.jobs)) h };
-      ends = λ change started evokes power e. record { numbered = n.ends change started evokes power e; increasing = subst IsIncreasing (sym (keys_same change e.jobs (λ (x : Job). x.serial) (λ x p w u e. refl) s.jobs)) h };
+      ends = λ change started stopped evokes power e. record { numbered = n.ends change started stopped evokes power e; increasing = subst IsIncreasing (sym (keys_same change e.jobs (λ (x : Job). x.serial) (λ x p w u e. refl) s.jobs)) h };
       makes = λ o c. record { numbered = n.makes o c; increasing = h };
     }
 

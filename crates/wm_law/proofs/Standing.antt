@@ -52,7 +52,7 @@ sound_calls s h = record {
   alters = λ change place a. h;
   holds = λ held a. h;
   moves = λ serial j phase stopped i e r n. h;
-  ends = λ change started evokes power e. h;
+  ends = λ change started stopped evokes power e. h;
   makes = λ o c. c.sound h;
 }
 
@@ -138,7 +138,7 @@ within_calls s h = record {
   alters = λ change place a. h;
   holds = λ held a. h;
   moves = λ serial j phase stopped i e r n. h;
-  ends = λ change started evokes power e. subst (λ (n : ℕ). n ≤ max_started) (sym (length_same started s.started e.subsystems.names)) h;
+  ends = λ change started stopped evokes power e. subst (λ (n : ℕ). n ≤ max_started) (sym (length_same started s.started e.subsystems.names)) h;
   makes = λ o c. h;
 }
 

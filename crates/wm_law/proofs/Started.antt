@@ -54,7 +54,7 @@ calls s h = record {
   alters = λ change place a. h;
   holds = λ held a. h;
   moves = λ serial j phase stopped i e r n. h;
-  ends = λ change started evokes power e. subst IsDistinct (sym (names_same started s.started e.subsystems.names)) h;
+  ends = λ change started stopped evokes power e. subst IsDistinct (sym (names_same started s.started e.subsystems.names)) h;
   makes = λ o e. h;
 }
 

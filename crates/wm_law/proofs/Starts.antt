@@ -86,7 +86,7 @@ hands_over s call = record {
   enters = λ user c d due has x e. absurd (cc);
   alters = λ reply change place p a x e. absurd (none_told start_told reply p x e);
   holds = λ reply held p a told x e. absurd (none_told start_told reply p x e);
-  ends = λ reply change started evokes power p a told x e. absurd (none_told start_told reply p x e);
+  ends = λ reply change started stopped evokes power p a told x e. absurd (none_told start_told reply p x e);
   kills = λ m j i k x e. absurd (cc);
   makes = λ o c told x e. absurd (cc);
 }
@@ -149,7 +149,7 @@ kills_over s call = record {
   enters = λ user c d due has x e. absurd (cc);
   alters = λ reply change place p a x e. absurd (none_told kill_told reply p x e);
   holds = λ reply held p a told x e. absurd (none_told kill_told reply p x e);
-  ends = λ reply change started evokes power p a told x e. absurd (none_told kill_told reply p x e);
+  ends = λ reply change started stopped evokes power p a told x e. absurd (none_told kill_told reply p x e);
   kills = λ m j i k. killed_one s m j i k;
   makes = λ o c told x e. absurd (cc);
 }

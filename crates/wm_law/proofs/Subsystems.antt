@@ -49,7 +49,7 @@ described_calls s h = record {
   alters = λ change place a. h;
   holds = λ held a. h;
   moves = λ serial j phase stopped i e r n. h;
-  ends = λ change started evokes power e b i. described_ended s started e.subsystems h b i;
+  ends = λ change started stopped evokes power e b i. described_ended s started e.subsystems h b i;
   makes = λ o e b i. subst (λ (d : Option Sbsd). IsSome d) (sym (e.described b i (h b i))) (h b i);
 }
 
@@ -88,7 +88,7 @@ quiet_calls s h = record {
   alters = λ change place a. h;
   holds = λ held a. h;
   moves = λ serial j phase stopped i e r n. h;
-  ends = λ change started evokes power e off b i. quiet_ended s change started power e h off b i;
+  ends = λ change started stopped evokes power e off b i. quiet_ended s change started power e h off b i;
   makes = λ o e. h;
 }
 

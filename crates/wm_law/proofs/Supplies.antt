@@ -39,7 +39,7 @@ pub record IsSuppliable (q : QName) (d : Sbsd) (e : PreEntry) (t : State) : Type
 -- P is kept where a job is made for an entry, and where a job gets a request
 pub record IsSupplied (P : State → Type 0) : Type 0 where
   pub makes : (q : QName) (d : Sbsd) (e : PreEntry) (t : State) → IsSuppliable q d e t → P t → P (make_pre q e.pgm t)
-  pub assigns : (t : State) (serial : ℕ) (evokes : List Evoke) → P t → P (wished t (active_at serial with_evoke) t.started evokes t.power)
+  pub assigns : (t : State) (serial : ℕ) (evokes : List Evoke) → P t → P (wished t (active_at serial with_evoke) t.started t.stopped evokes t.power)
 
 positive : (b : Bool) (n m : ℕ) → 0 < cond b (min n m) 0 → (0 < n) × (0 < m)
 positive true n m h = (omega arith, omega arith)

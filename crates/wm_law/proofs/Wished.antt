@@ -91,7 +91,7 @@ wished_calls s h = record {
   alters = λ change place a. each_altered IsWished s change place a h (λ j k i b. altered_wished s j k b (h j i));
   holds = λ held a. h;
   moves = λ serial j phase stopped i e r n. all_changed s.jobs serial (in_phase phase) (record { wish = λ k. refl; never = λ k. never_waits j.phase phase r.onward }) h;
-  ends = λ change started evokes power e. all_given s.jobs change e.jobs h;
+  ends = λ change started stopped evokes power e. all_given s.jobs change e.jobs h;
   makes = λ o c. h;
 }
 
@@ -138,7 +138,7 @@ moments_calls s h = record {
   alters = λ change place a. h;
   holds = λ held a. h;
   moves = λ serial j phase stopped i e r n. h;
-  ends = λ change started evokes power e. ended_moments s.started started e.subsystems h;
+  ends = λ change started stopped evokes power e. ended_moments s.started started e.subsystems h;
   makes = λ o c. h;
 }
 

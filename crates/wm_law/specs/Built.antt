@@ -5,7 +5,7 @@ use Rattle.wm_law.specs.declared.call.Call.TheVariants.{Change, Hand, Started, S
 use Rattle.wm_law.specs.declared.command.Command.{Command}
 use Rattle.wm_law.specs.declared.command.Command.TheVariants as command
 
--- the commands that make objects, those on queue, routing and autostart entries, on subsystems, on jobs and on queues, and PWRDWNSYS
+-- all commands
 abbrev pub is_built : Command → Bool
 is_built (command.Crtcls c) = true
 is_built (command.Crtjobq c) = true
@@ -15,9 +15,11 @@ is_built (command.Crtsbsd c) = true
 is_built (command.Addjobqe c) = true
 is_built (command.Addrtge c) = true
 is_built (command.Addaje c) = true
+is_built (command.Addpje c) = true
 is_built (command.Rmvjobqe c) = true
 is_built (command.Rmvrtge c) = true
 is_built (command.Rmvaje c) = true
+is_built (command.Rmvpje c) = true
 is_built (command.Strsbs c) = true
 is_built (command.Endsbs c) = true
 is_built (command.Sbmjob c) = true
@@ -28,8 +30,11 @@ is_built (command.Endjob c) = true
 is_built (command.Hldjobq c) = true
 is_built (command.Rlsjobq c) = true
 is_built (command.Clrjobq c) = true
+is_built (command.Strpj c) = true
+is_built (command.Endpj c) = true
+is_built (command.Evoke c) = true
+is_built (command.Enduse c) = true
 is_built (command.Pwrdwnsys c) = true
-is_built c = false
 
 -- the command tells jobs or subsystems to end
 abbrev pub tells_to_end : Command → Bool

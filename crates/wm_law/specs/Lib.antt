@@ -18,6 +18,7 @@ pub mod Opening
 pub mod Pending
 pub mod Power
 pub mod Prestart
+pub mod Prestarting
 pub mod Queues
 pub mod Reports
 pub mod Schedules
@@ -34,3 +35,4 @@ pub mod Sound
 pub mod Handing
 pub mod Leaving
 pub mod NextMoment
+pub mod Uses

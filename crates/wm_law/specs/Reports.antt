@@ -9,7 +9,7 @@ use Rattle.wm_base.specs.declared.job.EndCause.TheVariants as cause
 use Rattle.wm_base.specs.declared.job.How.{How}
 use Rattle.wm_base.specs.declared.job.How.TheVariants.{NotYet, FromQueue, Auto, Pre}
 use Rattle.wm_base.specs.declared.qname.QName.{QName}
-use Rattle.wm_base.specs.declared.refusal.Refusal.TheVariants.{NoJob, WrongPhase, NotInUse}
+use Rattle.wm_base.specs.declared.refusal.Refusal.TheVariants.{NoJob, WrongPhase}
 use Rattle.wm_base.specs.declared.refusal.PhaseWord.{PhaseWord}
 use Rattle.wm_base.specs.declared.refusal.PhaseWord.TheVariants as word
 use Rattle.wm_law.specs.declared.call.Reply.TheVariants.{Order, Nothing, Noted}
@@ -132,12 +132,3 @@ exit_cause exit.Killed = cause.Killed
 -- the cause of an end: the why of a Now wish, else that of the exit
 abbrev pub end_cause : Exit → Wish → EndCause
 end_cause end w = unwrap_or (now_cause w) (exit_cause end)
-
--- UseDone on the job that was found
-abbrev pub done_with : State → ℕ → Option Job → Stepped
-done_with s m None = refused s NoJob
-done_with s m (Some j) = if is_run_by m j.phase then refused s NotInUse else refused s (WrongPhase (phase_word j.phase))
-
--- no job has a request yet, so none can be done with one
-abbrev pub use_done : State → ℕ → ℕ → Stepped
-use_done s m serial = done_with s m (find (λ j. j.serial == serial) s.jobs)
