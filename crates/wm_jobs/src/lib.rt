@@ -34,6 +34,7 @@ mod stored;
 mod table;
 mod touched;
 mod undoing;
+mod using;
 mod waiting;
 mod wished;
 mod wishing;
