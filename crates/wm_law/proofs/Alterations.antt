@@ -11,7 +11,7 @@ use Rattle.wm_base.specs.declared.refusal.Refusal.{Refusal}
 use Rattle.wm_desc.specs.Sorted.{added, removed}
 use Rattle.wm_desc.specs.Table.{object_named, qname_cmp, same_qname}
 use Rattle.wm_law.specs.declared.call.Reply.{Reply}
-use Rattle.wm_law.specs.declared.call.Reply.TheVariants.{Changed, Held, JobEnded, JobEnding, No, Nothing, PowerDown, QueueCleared, QueueHeld, QueueReleased, Released, SbsEnding}
+use Rattle.wm_law.specs.declared.call.Reply.TheVariants.{Changed, Held, JobEnded, JobEnding, No, Nothing, PowerDown, QueueCleared, QueueHeld, QueueReleased, Released, SbsEnding, PreEnding, Evoked, UseEnded, Noted}
 use Rattle.wm_law.specs.declared.command.Chgjob.{Chgjob}
 use Rattle.wm_law.specs.declared.job.Job.{Job}
 use Rattle.wm_law.specs.declared.job.Phase.{Phase}
@@ -65,6 +65,18 @@ plain_sbs_ending sbs = record { orders_none = refl; refuses_none = λ x e. absur
 
 pub plain_power_down : IsPlain PowerDown
 plain_power_down = record { orders_none = refl; refuses_none = λ x e. absurd (cc); says = λ e. absurd (cc) }
+
+pub plain_pre_ending : IsPlain PreEnding
+plain_pre_ending = record { orders_none = refl; refuses_none = λ x e. absurd (cc); says = λ e. absurd (cc) }
+
+pub plain_evoked : (job : JobName) → IsPlain (Evoked job)
+plain_evoked job = record { orders_none = refl; refuses_none = λ x e. absurd (cc); says = λ e. absurd (cc) }
+
+pub plain_use_ended : (job : JobName) → IsPlain (UseEnded job)
+plain_use_ended job = record { orders_none = refl; refuses_none = λ x e. absurd (cc); says = λ e. absurd (cc) }
+
+pub plain_noted : IsPlain Noted
+plain_noted = record { orders_none = refl; refuses_none = λ x e. absurd (cc); says = λ e. absurd (cc) }
 
 -- the phase is that of an end by no launch
 abbrev pub IsEndOnQueue : Phase → Type 0

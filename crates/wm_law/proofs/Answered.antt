@@ -17,7 +17,7 @@ IsAnswered s call t = HasCall call → is_hand call ≡ false → t.reply ≡ No
 answers : (s : State) (call : Call) → HoldsAfterCalls (IsAnswered s call) s call
 answers s call = record {
   refuses = λ x b n e. absurd (cc);
-  nothing = λ none b n e. none b n;
+  nothing = λ none b n e. none n;
   notes = λ b n e. absurd (cc);
   hands = λ m j o i k f b n e. absurd (cc);
   reports = λ serial j phase stopped i k r l b n e. absurd (cc);
@@ -26,6 +26,9 @@ answers s call = record {
   alters = λ reply change place p a b n e. p.says e;
   holds = λ reply held p a told b n e. p.says e;
   ends = λ reply change started stopped evokes power p a told b n e. p.says e;
+  uses = λ reply change p u b n e. p.says e;
+  waits = λ place evokes b n e. absurd (cc);
+  prestarts = λ q d x can b n e. absurd (cc);
   kills = λ m j i k b n e. absurd (cc);
   makes = λ o c told b n e. absurd (cc);
 }

@@ -37,6 +37,7 @@ use Rattle.wm_law.specs.declared.state.Power.{Power}
 use Rattle.wm_law.specs.declared.state.Sbs.{Sbs}
 use Rattle.wm_law.specs.Prestart.{make_pre, new_pre_job, with_evoke}
 use Rattle.wm_law.proofs.Supplies.{supplied_keeps}
+use Rattle.wm_law.specs.declared.state.Stop.{Stop}
 
 -- each autostart job that is Starting in the second state was so in the first, or is as its route has it
 abbrev pub AutosRouted : State → State → Type 0
@@ -83,10 +84,11 @@ pub calls_route_autos : (s : State) → HoldsOfStates (AutosRouted s) s
 calls_route_autos s = record {
   stays = λ j i p v. inl (j, i, refl, p);
   starts = λ q e. autos_made (AutosRouted s) s q e (λ t x d m h. autos_routed s t q x d h) (λ j i p v. inl (j, i, refl, p));
-  supplies = record { makes = λ q d e t can h. pre_routed s t q e.pgm h; assigns = λ t serial evokes h. wished_routed s t (active_at serial with_evoke) t.started t.stopped evokes t.power (using serial) h };
+  supplies = record { makes = λ q d e t can h. pre_routed s t q e.pgm h; assigns = λ t q pgm job evokes can h. wished_routed s t (active_at job.serial with_evoke) t.started t.stopped evokes t.power (using job.serial) h };
   enters = λ user c d due has j i p v. inl (entered_starts_none s user c d due j i p);
   alters = λ change place a j i p v. inl (altered_starts_none s change place a j i p);
   holds = λ held a j i p v. inl (j, i, refl, p);
+  lists = λ stopped evokes j i p v. inl (j, i, refl, p);
   moves = λ serial j phase stopped i e r n k m p v. inl (moved_starts_none s serial phase n k m p);
   ends = λ change started stopped evokes power e j i p v. inl (ended_starts_none s change e.jobs j i p);
   makes = λ o c j i p v. inl (j, i, refl, p);

@@ -51,6 +51,7 @@ use Rattle.wm_desc.specs.declared.description.Sbsd.{Sbsd}
 use Rattle.wm_desc.specs.declared.entry.PreEntry.{PreEntry}
 use Rattle.wm_law.specs.Prestart.{new_pre_job, with_evoke}
 use Rattle.wm_law.proofs.Supplies.{IsSupplied, IsSuppliable, supplied_keeps}
+use Rattle.wm_law.proofs.UsesUp.{used_up}
 
 -- whether a subsystem ends now
 abbrev now : Sbs → Bool
@@ -320,21 +321,6 @@ pre_untold q d e t can names h =
     let one : can.sbs ≡ b.0 = one_by_key (λ (y : Sbs). y.sbsd.name) t.started names can.sbs b.0 can.started b.1 (ap (λ (n : QName). n.name) (can.named ∙ named)) in
     not_both can.sbs.phase can.active (ap now one ∙ both.0)
 
--- a wish of a job with a request comes due by its moment alone
-used_due : (a b c : Bool) → (a || (b && c)) ≡ false → (a || (b && false)) ≡ false
-used_due true b c h = h
-used_due false true c h = refl
-used_due false false c h = refl
-
-used_looked : (clock : ℕ) (i : Job) (w : Wish) → is_wish_due clock i w ≡ false → is_wish_due clock (with_evoke i) w ≡ false
-used_looked clock i wish.NoWish h = h
-used_looked clock i (wish.Later until why) h = used_due (has_come clock until) (is_prestart i.kind) (not i.evoke) h
-used_looked clock i (wish.Now why handed) h = h
-
-used_up : (clock : ℕ) (bs : List Sbs) (b : Bool) (i : Job) → IsUpToDate clock bs i → IsUpToDate clock bs (cond b (with_evoke i) i)
-used_up clock bs true i u = record { looked = used_looked clock i i.wish u.looked; starting = u.starting; told = u.told }
-used_up clock bs false i u = u
-
 used_active : (b : Bool) (i : Job) → is_active (cond b (with_evoke i) i).phase ≡ true → is_active i.phase ≡ true
 used_active true i h = h
 used_active false i h = h
@@ -349,13 +335,13 @@ supplied_quietly = record {
       jobs = last_up t.clock t.started t.jobs (new_pre_job t q e.pgm) (λ a. record { looked = refl; starting = λ p. refl; told = λ x. absurd (pre_untold q d e t can h.names x) }) h.none.jobs;
     };
   };
-  assigns = λ t serial evokes h. record {
+  assigns = λ t q pgm job evokes can h. record {
     names = h.names;
     none = record {
       subsystems = h.none.subsystems;
       jobs = λ k i a. (
-          let m = of_mapped (active_at serial with_evoke) t.jobs k i in
-          let b = is_active m.0.phase && m.0.serial == serial in
+          let m = of_mapped (active_at job.serial with_evoke) t.jobs k i in
+          let b = is_active m.0.phase && m.0.serial == job.serial in
           subst (IsUpToDate t.clock t.started) (sym m.2) (used_up t.clock t.started b m.0 (h.none.jobs m.0 m.1 (used_active b m.0 (ap (λ (y : Job). is_active y.phase) (sym m.2) ∙ a)))));
     };
   };

@@ -20,18 +20,23 @@ use Rattle.wm_law.specs.declared.state.SbsPhase.{SbsPhase}
 use Rattle.wm_law.specs.declared.state.SbsPhase.TheVariants as sbs_phase
 use Rattle.wm_law.specs.declared.state.State.{State}
 use Rattle.wm_law.specs.Choice.{is_sbs_active}
-use Rattle.wm_law.specs.Counts.{is_active, is_prestart, is_starting, is_waiting}
+use Rattle.wm_law.specs.Counts.{is_active, is_prestart, is_starting, is_waiting, is_from_pre}
 use Rattle.wm_law.specs.Endings.{end_phase, is_ending_by, is_left_to_use, is_wished, job_wish, phased, told}
 use Rattle.wm_law.specs.Jobs.{active_at}
 use Rattle.wm_law.specs.Kept.{IsNumbered, IsWishOn, wish_rank}
 use Rattle.wm_law.specs.Laws.{IsIn}
-use Rattle.wm_law.specs.Prestart.{with_evoke}
+use Rattle.wm_law.specs.Prestart.{with_evoke, after_use, wish_after_use}
 use Rattle.wm_law.specs.Reports.{with_kill}
 use Rattle.wm_law.specs.Settling.{ended_by, is_sbs_now, job_at, sbs_at, sbs_moment, sbs_phase_at, sbss_at, unless_started, with_deadline}
 use Rattle.wm_law.specs.Sound.{IsMoment}
 use Rattle.wm_law.specs.Wishes.{deadline, greatest_moment, handed_wish, has_come, has_wish, is_due, is_in_any, is_now, is_to_end, moment_after, now_cause, told_now, why_cause, wish_at, wish_moment, with_wish}
 use Rattle.wm_law.proofs.Distinct.{one_by_key}
 use Rattle.wm_law.proofs.Members.{in_mapped, map_same, of_mapped}
+use Rattle.wm_law.specs.declared.state.Stop.{Stop}
+use Rattle.wm_base.specs.declared.limit.Limit.{Limit}
+use Rattle.wm_base.specs.declared.qname.QName.{QName}
+use Rattle.wm_base.specs.Limit.{is_below}
+use Rattle.wm_law.specs.Prestarting.{is_of_entry, prestart_wish, told_with_entry}
 
 -- a phase stays, or is that of a Starting job which the why of a wish ended
 abbrev pub IsPhaseAfter : Phase → Phase → Type 0
@@ -65,8 +70,8 @@ pub record IsEnding (s : State) (change : Job → Job) (started : List Sbs) (pow
   pub quiet : (power ≡ s.power) ⊎ ((b : Sbs) → IsIn b started → is_sbs_active b.phase ≡ false)
 
 -- the state in which they do
-abbrev pub wished : State → (Job → Job) → List Sbs → List Evoke → Power → State
-wished s change started stopped evokes power = record s { jobs = map change s.jobs; started = started; evokes = evokes; power = power }
+abbrev pub wished : State → (Job → Job) → List Sbs → List Stop → List Evoke → Power → State
+wished s change started stopped evokes power = record s { jobs = map change s.jobs; started = started; stopped = stopped; evokes = evokes; power = power }
 
 none_active : (p : Phase) → is_active p ≡ false → p ≡ Starting → ⊥
 none_active p n e =
@@ -493,6 +498,82 @@ kill_ends s serial = record { jobs = wishing_kill serial; onward = λ n j i. on_
 -- what a request that a job gets does
 pub use_ends : (s : State) (serial : ℕ) → IsEnding s (active_at serial with_evoke) s.started s.power
 use_ends s serial = record { jobs = using serial; onward = λ n j i. on_same j.wish (active_at serial with_evoke j).wish (used_wish serial (is_active j.phase && j.serial == serial) j); subsystems = none_ended s.started; quiet = inl refl }
+
+-- a use that is done
+module _ (serial : ℕ) (maxuse : Limit) where
+  done_same : (b : Bool) (j : Job) → cond b (after_use maxuse j) j ≡ record j { phase = (cond b (after_use maxuse j) j).phase; wish = (cond b (after_use maxuse j) j).wish; uses = (cond b (after_use maxuse j) j).uses; evoke = (cond b (after_use maxuse j) j).evoke }
+  done_same true j = refl
+  done_same false j = refl
+
+  done_phase : (b : Bool) (j : Job) → (cond b (after_use maxuse j) j).phase ≡ j.phase
+  done_phase true j = refl
+  done_phase false j = refl
+
+  done_idle : (b : Bool) (j : Job) → (is_active j.phase && j.serial == serial) ≡ b → is_active j.phase ≡ false → cond b (after_use maxuse j) j ≡ j
+  done_idle true j e n = let yes = (and_parts (is_active j.phase) (j.serial == serial) e).0 in absurd (cc)
+  done_idle false j e n = refl
+
+  unused_moment : (b : Bool) → IsMoment (wish_moment (cond b wish.NoWish (wish.Now why.Maxuse false)))
+  unused_moment true = tt
+  unused_moment false = tt
+
+  used_moment : (uses : ℕ) (w : Wish) → IsMoment (wish_moment w) → IsMoment (wish_moment (wish_after_use maxuse uses w))
+  used_moment uses wish.NoWish h = unused_moment (is_below uses maxuse)
+  used_moment uses (wish.Later until why) h = tt
+  used_moment uses (wish.Now why handed) h = h
+
+  done_moment : (b : Bool) (j : Job) → IsMoment (wish_moment j.wish) → IsMoment (wish_moment (cond b (after_use maxuse j) j).wish)
+  done_moment true j h = used_moment j.uses j.wish h
+  done_moment false j h = h
+
+  wishing_done : IsWishing (active_at serial (after_use maxuse))
+  wishing_done = record {
+    same = λ j. done_same (is_active j.phase && j.serial == serial) j;
+    phase = λ j. inl (done_phase (is_active j.phase && j.serial == serial) j);
+    idle = λ j n. done_idle (is_active j.phase && j.serial == serial) j refl n;
+    moment = λ j h. done_moment (is_active j.phase && j.serial == serial) j h;
+    why = λ j d a e. absurd (unended j.phase d a (sym (done_phase (is_active j.phase && j.serial == serial) j) ∙ e));
+  }
+
+  on_unused : (b : Bool) → IsWishOn wish.NoWish (cond b wish.NoWish (wish.Now why.Maxuse false))
+  on_unused true = on_same wish.NoWish wish.NoWish refl
+  on_unused false = on_now wish.NoWish why.Maxuse refl
+
+  on_used : (uses : ℕ) (w : Wish) → IsWishOn w (wish_after_use maxuse uses w)
+  on_used uses wish.NoWish = on_unused (is_below uses maxuse)
+  on_used uses (wish.Later until why) = on_now (wish.Later until why) why refl
+  on_used uses (wish.Now why handed) = on_same (wish.Now why handed) (wish.Now why handed) refl
+
+  on_done : (j : Job) (b : Bool) → IsWishOn j.wish (cond b (after_use maxuse j) j).wish
+  on_done j true = on_used j.uses j.wish
+  on_done j false = on_same j.wish j.wish refl
+
+-- what the end of a use does
+pub done_ends : (s : State) (serial : ℕ) (maxuse : Limit) → IsEnding s (active_at serial (after_use maxuse)) s.started s.power
+done_ends s serial maxuse = record { jobs = wishing_done serial maxuse; onward = λ n j i. on_done serial maxuse j (is_active j.phase && j.serial == serial); subsystems = none_ended s.started; quiet = inl refl }
+
+entry_moment : (clock : ℕ) (option : EndOption) (delay : Option ℕ) → IsMoment (wish_moment (prestart_wish clock option delay))
+entry_moment clock Cntrld delay = delay_moment clock delay
+entry_moment clock Immed delay = tt
+
+-- what ENDPJ does to jobs
+telling_entry : (clock : ℕ) (option : EndOption) (delay : Option ℕ) (sbs pgm : QName) → IsWishing (told_with_entry clock option delay sbs pgm)
+telling_entry clock option delay sbs pgm =
+    giving (is_of_entry option sbs pgm) (λ j. prestart_wish clock option delay)
+    (λ j e. (and_parts (is_active j.phase) (is_from_pre sbs pgm j.how) (and_parts (is_active j.phase && is_from_pre sbs pgm j.how) (not (is_wished option j.wish)) e).0).0)
+    (λ j h. entry_moment clock option delay)
+
+on_entry_wish : (clock : ℕ) (option : EndOption) (delay : Option ℕ) (w : Wish) → is_wished option w ≡ false → IsWishOn w (prestart_wish clock option delay)
+on_entry_wish clock Cntrld delay w e = on_later w (option_map (moment_after clock) delay) why.Endpj e
+on_entry_wish clock Immed delay w e = on_now w why.Endpj e
+
+on_entry : (clock : ℕ) (option : EndOption) (delay : Option ℕ) (sbs pgm : QName) (j : Job) (b : Bool) → is_of_entry option sbs pgm j ≡ b → IsWishOn j.wish (cond b (with_wish (prestart_wish clock option delay) j) j).wish
+on_entry clock option delay sbs pgm j true e =
+    on_entry_wish clock option delay j.wish (not-true (is_wished option j.wish) (and_parts (is_active j.phase && is_from_pre sbs pgm j.how) (not (is_wished option j.wish)) e).1)
+on_entry clock option delay sbs pgm j false e = on_same j.wish j.wish refl
+
+pub entry_ends : (s : State) (option : EndOption) (delay : Option ℕ) (sbs pgm : QName) → IsEnding s (told_with_entry s.clock option delay sbs pgm) s.started s.power
+entry_ends s option delay sbs pgm = record { jobs = telling_entry s.clock option delay sbs pgm; onward = λ n j i. on_entry s.clock option delay sbs pgm j (is_of_entry option sbs pgm j) refl; subsystems = none_ended s.started; quiet = inl refl }
 
 -- what ENDSBS does
 pub those_end : (s : State) (option : EndOption) (delay : Option ℕ) (test : Sbs → Bool) → IsEnding s (told option test s.started) (map (phased test (end_phase s.clock option delay)) s.started) s.power

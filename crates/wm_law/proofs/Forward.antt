@@ -185,12 +185,13 @@ calls s n = record {
       (λ j i. (j, i, no_less j));
   supplies = record {
     makes = λ q d e t can h. goes_on_still s t (make_pre q e.pgm t) h (λ j i. (j, in_longer t.jobs (new_pre_job t q e.pgm) j i, no_less j));
-    assigns = λ t serial evokes h. goes_on_still s t (wished t (active_at serial with_evoke) t.started t.stopped evokes t.power) h
-        (λ j i. (active_at serial with_evoke j, in_mapped (active_at serial with_evoke) t.jobs j i, later_wished (active_at serial with_evoke) (using serial) j (on_same j.wish (active_at serial with_evoke j).wish (used_wish serial (is_active j.phase && j.serial == serial) j))));
+    assigns = λ t q pgm job evokes can h. goes_on_still s t (wished t (active_at job.serial with_evoke) t.started t.stopped evokes t.power) h
+        (λ j i. (active_at job.serial with_evoke j, in_mapped (active_at job.serial with_evoke) t.jobs j i, later_wished (active_at job.serial with_evoke) (using job.serial) j (on_same j.wish (active_at job.serial with_evoke j).wish (used_wish job.serial (is_active j.phase && j.serial == job.serial) j))));
   };
   enters = λ user c d due has j i. (j, in_longer s.jobs (submitted_job s user c d due) j i, no_less j);
   alters = λ change place a j i. (change j, in_mapped change s.jobs j i, later_altered s j (change j) (a.each j));
   holds = λ held a j i. (j, i, no_less j);
+  lists = λ stopped evokes j i. (j, i, no_less j);
   moves = λ serial j phase stopped i e r k. (let on = r.onward in phase_goes_on s serial phase j n i e on.on r.end);
   ends = λ change started stopped evokes power e j i. (change j, in_mapped change s.jobs j i, later_wished change e.jobs j (e.onward n j i));
   makes = λ o c j i. (j, i, no_less j);

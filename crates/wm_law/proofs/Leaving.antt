@@ -93,10 +93,10 @@ supplied_with_jobs = record {
       let before = h b i ending in
       let more = count_last (λ (j : Job). is_active j.phase && is_in_sbs b.sbsd j.how) t.jobs (new_pre_job t q e.pgm) in
       omega arith);
-  assigns = λ t serial evokes h b i ending. (
+  assigns = λ t q pgm job evokes can h b i ending. (
       let before = h b i ending in
       let counted = λ (j : Job). is_active j.phase && is_in_sbs b.sbsd j.how in
-      let fewer = no_fewer counted counted (active_at serial with_evoke) t.jobs (λ j m x. used_counted serial b.sbsd (is_active j.phase && j.serial == serial) j x) in
+      let fewer = no_fewer counted counted (active_at job.serial with_evoke) t.jobs (λ j m x. used_counted job.serial b.sbsd (is_active j.phase && j.serial == job.serial) j x) in
       omega arith);
 }
 

@@ -1,3 +1,4 @@
+pub mod Assigned
 pub mod Members
 pub mod Distinct
 pub mod Changed
@@ -57,3 +58,4 @@ pub mod NextMoment
 pub mod Multiples
 pub mod Rounds
 pub mod FirstIdle
+pub mod UsesUp

@@ -260,11 +260,12 @@ module _ (s : State) (test : How → Bool) (aside : JobKind → Bool) (limits : 
     starts = starts;
     supplies = record {
       makes = λ q d e t can h l k. last_within s test aside l t.jobs (new_pre_job t q e.pgm) (test (Pre q e.pgm)) refl (λ its. below q d e t can l k its) (h l k);
-      assigns = λ t serial evokes h l k. within_wished s test aside l (active_at serial with_evoke) (using serial) t.jobs (h l k);
+      assigns = λ t q pgm job evokes can h l k. within_wished s test aside l (active_at job.serial with_evoke) (using job.serial) t.jobs (h l k);
     };
     enters = λ user c d due has. yet (entered s (submitted_job s user c d due)) (entered_starts_none s user c d due);
     alters = λ change place a. yet (altered s change place) (altered_starts_none s change place a);
     holds = λ held a. yet (record s { held = held }) (λ j i p. (j, i, refl, p));
+    lists = λ stopped evokes. yet (record s { stopped = stopped; evokes = evokes }) (λ j i p. (j, i, refl, p));
     moves = λ serial j phase stopped i e r n. yet (record (with_phase s serial phase) { stopped = stopped }) (moved_starts_none s serial phase n);
     ends = λ change started stopped evokes power e. yet (wished s change started stopped evokes power) (ended_starts_none s change e.jobs);
     makes = λ o c. yet (record s { objects = o }) (λ j i p. (j, i, refl, p));

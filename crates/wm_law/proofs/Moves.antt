@@ -1,6 +1,6 @@
 -- What a call can come to, and what a step can do to a state. The calls are gone over one by one, so that laws need no case
 -- for each.
-use Rattle.std.proofs.Common.{◌≡◌, ℕ, ◌<◌, ◌≤◌, ◌-◌, ◌+◌, ◌==◌, not, Bool, true, false, cond, List, [], ◌∷◌, ◌++◌, length, fold, Option, Some, None, is_some, nat_le, nat_lt, min, refl, inl, inr, arith, filter, sym, subst, ◌⊎◌, ◌∙◌, ap, unwrap_or}
+use Rattle.std.proofs.Common.{◌≡◌, ℕ, ◌<◌, ◌≤◌, ◌-◌, ◌+◌, ◌==◌, not, Bool, true, false, cond, List, [], ◌∷◌, ◌++◌, length, fold, Option, Some, None, is_some, nat_le, nat_lt, min, refl, inl, inr, arith, filter, sym, subst, ◌⊎◌, ◌∙◌, ap, unwrap_or, nat_eq, ◌&&◌}
 use Rattle.std.specs.List.{count_by, find}
 use Rattle.std.specs.Prelude.{Result, Ok, Err}
 use Rattle.std.specs.Option.{IsSome}
@@ -17,7 +17,7 @@ use Rattle.wm_base.specs.declared.qname.QName.{QName}
 use Rattle.wm_base.specs.declared.refusal.Kind.TheVariants as kind
 use Rattle.wm_base.specs.declared.refusal.PhaseWord.TheVariants as word
 use Rattle.wm_base.specs.declared.refusal.Refusal.{Refusal}
-use Rattle.wm_base.specs.declared.refusal.Refusal.TheVariants.{AlreadyEnding, HeldAlready, NoJob, NoObject, NotHeld, NotInUse, NumbersUsed, PoweringDown, SbsNotActive, WrongPhase}
+use Rattle.wm_base.specs.declared.refusal.Refusal.TheVariants.{AlreadyEnding, HeldAlready, NoJob, NoObject, NotHeld, NotInUse, NumbersUsed, PoweringDown, SbsNotActive, WrongPhase, AlreadyActive, EntryStopped, NoneAvailable, WaitListFull}
 use Rattle.wm_base.specs.Iterate.{IsKept}
 use Rattle.wm_base.proofs.Iterate.{iterate-keeps}
 use Rattle.wm_base.proofs.Tests.{unrefused}
@@ -30,7 +30,7 @@ use Rattle.wm_law.specs.declared.call.Call.{Call}
 use Rattle.wm_law.specs.declared.call.Call.TheVariants.{Change, Hand, Started, StartFailed, Finished, UseDone, Tick}
 use Rattle.wm_law.specs.declared.call.Entry.{Entry}
 use Rattle.wm_law.specs.declared.call.Reply.{Reply}
-use Rattle.wm_law.specs.declared.call.Reply.TheVariants.{Made, PowerDown, Order, Nothing, Noted, SbsEnding, Submitted, Held, Released, Changed, JobEnding, JobEnded, QueueHeld, QueueReleased, QueueCleared}
+use Rattle.wm_law.specs.declared.call.Reply.TheVariants.{Made, PowerDown, Order, Nothing, Noted, SbsEnding, Submitted, Held, Released, Changed, JobEnding, JobEnded, QueueHeld, QueueReleased, QueueCleared, PreStarted, PreEnding, Evoked, EvokeWaits, UseEnded}
 use Rattle.wm_law.specs.declared.command.Command.{Command}
 use Rattle.wm_law.specs.declared.command.Command.TheVariants as command
 use Rattle.wm_law.specs.declared.command.Chgjob.{Chgjob}
@@ -46,20 +46,19 @@ use Rattle.wm_law.specs.declared.state.Power.{Power}
 use Rattle.wm_law.specs.declared.state.Sbs.{Sbs}
 use Rattle.wm_law.specs.declared.state.State.{State}
 use Rattle.wm_law.specs.declared.state.Stop.{Stop}
-use Rattle.wm_law.specs.declared.state.SbsPhase.TheVariants.{Active}
+use Rattle.wm_law.specs.declared.state.SbsPhase.TheVariants.{Active, Ending, Now}
 use Rattle.wm_law.specs.Autos.{auto_described, auto_made, autos_of, make_auto}
-use Rattle.wm_law.specs.Counts.{is_starting, is_waiting}
-use Rattle.wm_law.specs.Fit.{HasCall}
+use Rattle.wm_law.specs.Counts.{is_starting, is_waiting, count_from_pre, is_active}
 use Rattle.wm_law.specs.History.{after, is_hand, stepped}
-use Rattle.wm_law.specs.Kept.{IsEndOn, is_start_fault, phase_rank}
-use Rattle.wm_law.specs.Launch.{order_of, launch}
+use Rattle.wm_law.specs.Kept.{IsEndOn, is_start_fault, phase_rank, IsNumbered}
+use Rattle.wm_law.specs.Launch.{order_of, launch, pre_entry_for}
 use Rattle.wm_law.specs.Laws.{IsIn}
 use Rattle.wm_law.specs.Machine.{apply, step, with_clock, change}
 use Rattle.wm_law.specs.Making.{made_unless}
 use Rattle.wm_law.specs.Endings.{down_by, end_active, end_found, end_in_phase, end_started, is_down, is_ending_by, is_wished, job_wish, started_named}
 use Rattle.wm_law.specs.Power.{is_on}
-use Rattle.wm_law.specs.Reports.{in_phase, with_phase, hand_job, hand_order, is_to_kill, report_on, start_job, stops_after, is_handed_to, is_run_by, is_unused, phase_word, done_with, end_cause, exit_cause, with_kill}
-use Rattle.wm_law.specs.Settling.{come_due, job_at, leave, ready, sbss_at, waiting}
+use Rattle.wm_law.specs.Reports.{in_phase, with_phase, hand_job, hand_order, is_to_kill, report_on, start_job, stops_after, is_handed_to, is_run_by, is_unused, phase_word, end_cause, exit_cause, with_kill}
+use Rattle.wm_law.specs.Settling.{come_due, job_at, leave, ready, sbss_at, waiting, is_ending}
 use Rattle.wm_law.specs.Stepped.{Stepped, refused}
 use Rattle.wm_law.specs.Submitting.{submit_due, submit_with, submitted_job, entered, has_numbers, job_name, numbers_end, numbers_left, queue_of, serials_end}
 use Rattle.wm_law.specs.Schedules.{rescheduled, scheduled}
@@ -71,12 +70,26 @@ use Rattle.wm_law.specs.Jobs.{active_at, waiting_at, with_active}
 use Rattle.wm_law.specs.Wishes.{now_cause, with_wish}
 use Rattle.wm_law.specs.Built.{is_configuring_call, is_ending_call}
 use Rattle.wm_law.specs.Choice.{is_held, is_sbs_active, next}
-use Rattle.wm_law.proofs.Alterations.{IsAlteration, IsHolding, IsPlain, altered, clearing_alters, due_alters, ending_alters, holding_alters, moving_alters, plain_changed, plain_cleared, plain_held, plain_job_ended, plain_job_ending, plain_power_down, plain_sbs_ending, plain_queue_held, plain_queue_released, plain_released}
-use Rattle.wm_law.proofs.Endings.{IsEnding, all_end, coming_due, job_ends, kill_ends, those_end, wished}
+use Rattle.wm_law.proofs.Alterations.{IsAlteration, IsHolding, IsPlain, altered, clearing_alters, due_alters, ending_alters, holding_alters, moving_alters, plain_changed, plain_cleared, plain_held, plain_job_ended, plain_job_ending, plain_power_down, plain_sbs_ending, plain_queue_held, plain_queue_released, plain_released, plain_pre_ending, plain_evoked, plain_use_ended, plain_noted}
+use Rattle.wm_law.proofs.Endings.{IsEnding, all_end, coming_due, job_ends, kill_ends, those_end, wished, use_ends, done_ends, entry_ends}
 use Rattle.wm_law.specs.Subsystems.{begun, is_started, max_started, start_refusal, start_unless, started_up, with_autos}
 use Rattle.wm_law.proofs.Members.{found_among, last_in, left_in}
-use Rattle.wm_law.proofs.Supplies.{IsActiveAmong, IsSupplied, firsts_keep, supplied_keeps}
+use Rattle.wm_law.proofs.Supplies.{IsActiveAmong, IsSupplied, firsts_keep, supplied_keeps, made_keeps}
 use Rattle.wm_law.proofs.Objects.{IsObjectChange, class_made, queue_made, program_made, job_description_made, description_made, queue_added, route_added, auto_added, pre_added, queue_removed, route_removed, auto_removed, pre_removed}
+use Rattle.std.specs.Cmp.Lexicographic.{pointwise}
+use Rattle.wm_base.specs.declared.limit.Limit.{Limit}
+use Rattle.wm_desc.specs.declared.description.Sbsd.{Sbsd}
+use Rattle.wm_desc.specs.declared.entry.PreEntry.{PreEntry}
+use Rattle.wm_law.specs.declared.command.Endpj.{Endpj}
+use Rattle.wm_law.specs.declared.command.Enduse.{Enduse}
+use Rattle.wm_law.specs.declared.command.Strpj.{Strpj}
+use Rattle.wm_law.specs.declared.state.SbsPhase.{SbsPhase}
+use Rattle.wm_law.specs.Prestart.{after_use, count_available, count_evokes, first_idle, is_running, is_stopped, room, with_evoke}
+use Rattle.wm_law.specs.Prestarting.{end_entry, end_entry_in, end_entry_with, prestart_entry, prestart_in, prestart_with, prestarted, restarted, without_stop}
+use Rattle.wm_law.specs.Sound.{IsUpToDate}
+use Rattle.wm_law.specs.Uses.{done_with, end_use_found, evoke_entry, evoke_in, evoke_on, evoke_with, max_evokes, maxuse_by, use_done_on}
+use Rattle.wm_law.proofs.Rounds.{room-is}
+use Rattle.wm_law.proofs.UsesUp.{used_up, done_at}
 
 -- a phase past Waiting, and one that isn't before it
 pub record IsOnward (p q : Phase) : Type 0 where
@@ -117,6 +130,17 @@ startable s q e =
       numbers = numbers.0;
     }
 
+-- a request that a job gets, or the end of its use: no wish goes back, and in a numbered state a job that is up to date stays so
+pub record IsUse (s : State) (change : Job → Job) : Type 0 where
+  pub ending : IsEnding s change s.started s.power
+  pub up : IsNumbered s → (j : Job) → IsIn j s.jobs → IsUpToDate s.clock s.started j → IsUpToDate s.clock s.started (change j)
+
+-- STRPJ isn't refused: the subsystem is started and Active, and has the entry
+pub record IsPrestartable (s : State) (q : QName) (d : Sbsd) (e : PreEntry) : Type 0 where
+  pub there : IsActiveAmong s.started q
+  pub described : object_named q s.objects.sbsds ≡ Some d
+  pub entered : IsIn e d.pres
+
 pub the_one : (jobs : List Job) (j : Job) → only_one jobs ≡ Ok j → IsIn j jobs
 the_one [] j e = absurd (cc)
 the_one (k ∷ []) j e = let same : k ≡ j = cc in inl (sym same)
@@ -125,7 +149,7 @@ the_one (k ∷ i ∷ jobs) j e = absurd (cc)
 -- P holds of whatever the call can come to: of its reply, and of the state before it settles
 pub record HoldsAfterCalls (P : Stepped → Type 0) (s : State) (call : Call) : Type 0 where
   pub refuses : (x : Refusal) → P (refused s x)
-  pub nothing : (HasCall call → is_hand call ≡ false → ⊥) → P (record { reply = Nothing; state = s })
+  pub nothing : (is_hand call ≡ false → ⊥) → P (record { reply = Nothing; state = s })
   pub notes : P (record { reply = Noted; state = s })
   pub hands : (m : ℕ) (j : Job) (o : StartOrder) → IsIn j s.jobs → is_starting j.phase ≡ true → order_of s j ≡ Some o → P (record { reply = Order (Start o); state = with_phase s j.serial (Handed m) })
   pub reports : (serial : ℕ) (j : Job) (phase : Phase) (stopped : List Stop) → IsIn j s.jobs → j.serial ≡ serial → IsMoved j phase → is_starting phase ≡ false → P (record { reply = Noted; state = record (with_phase s serial phase) { stopped = stopped } })
@@ -134,8 +158,31 @@ pub record HoldsAfterCalls (P : Stepped → Type 0) (s : State) (call : Call) : 
   pub alters : (reply : Reply) (change : Job → Job) (place : ℕ) → IsPlain reply → IsAlteration s change place → P (record { reply = reply; state = altered s change place })
   pub holds : (reply : Reply) (held : List QName) → IsPlain reply → IsHolding s held → is_configuring_call call ≡ true → P (record { reply = reply; state = record s { held = held } })
   pub ends : (reply : Reply) (change : Job → Job) (started : List Sbs) (stopped : List Stop) (evokes : List Evoke) (power : Power) → IsPlain reply → IsEnding s change started power → is_ending_call call ≡ true → P (record { reply = reply; state = wished s change started stopped evokes power })
+  pub uses : (reply : Reply) (change : Job → Job) → IsPlain reply → IsUse s change → P (record { reply = reply; state = wished s change s.started s.stopped s.evokes s.power })
+  pub waits : (place : ℕ) (evokes : List Evoke) → P (record { reply = EvokeWaits place; state = record s { evokes = evokes } })
+  pub prestarts : (q : QName) (d : Sbsd) (e : PreEntry) → IsPrestartable s q d e → P (record { reply = PreStarted; state = prestarted s q d e })
   pub kills : (m : ℕ) (j : Job) → IsIn j s.jobs → is_to_kill m j ≡ true → P (record { reply = Order (Kill j.serial); state = with_active s j.serial with_kill })
   pub makes : (o : Objects) → IsObjectChange s o → is_configuring_call call ≡ true → P (record { reply = Made; state = record s { objects = o } })
+
+-- EVOKE on an idle job
+using_request : (s : State) (serial : ℕ) → IsUse s (active_at serial with_evoke)
+using_request s serial = record { ending = use_ends s serial; up = λ n j i u. used_up s.clock s.started (is_active j.phase && j.serial == serial) j u }
+
+-- the end of a use
+using_done : (s : State) (j : Job) (maxuse : Limit) → IsIn j s.jobs → is_running j.phase ≡ true → IsUse s (active_at j.serial (after_use maxuse))
+using_done s j maxuse i r = record { ending = done_ends s j.serial maxuse; up = λ n k m u. done_at s j maxuse i r n k (is_active k.phase && k.serial == j.serial) refl m u }
+
+unending_active : (p : SbsPhase) → is_ending p ≡ false → is_sbs_active p ≡ true
+unending_active Active e = refl
+unending_active (Ending until) e = absurd (cc)
+unending_active Now e = absurd (cc)
+
+run_running : (m : ℕ) (p : Phase) → is_run_by m p ≡ true → is_running p ≡ true
+run_running m Waiting h = absurd (cc)
+run_running m Starting h = absurd (cc)
+run_running m (Handed n) h = absurd (cc)
+run_running m (Running n) h = refl
+run_running m (Ended c) h = absurd (cc)
 
 module _ (P : Stepped → Type 0) (s : State) (call : Call) (h : HoldsAfterCalls P s call) where
   either : (b : Bool) (t u : Stepped) → (b ≡ true → P t) → (b ≡ false → P u) → P (cond b t u)
@@ -216,7 +263,7 @@ module _ (P : Stepped → Type 0) (s : State) (call : Call) (h : HoldsAfterCalls
   sbs_ended c None told = h.refuses SbsNotActive
   sbs_ended c (Some b) told =
       either (is_ending_by c.option b.phase) _ _ (λ t. h.refuses AlreadyEnding)
-      (λ t. h.ends (SbsEnding b.sbsd) _ _ _ s.power (plain_sbs_ending b.sbsd) (those_end s c.option c.delay (λ x. same_qname x.sbsd b.sbsd)) told)
+      (λ t. h.ends (SbsEnding b.sbsd) _ _ s.stopped _ s.power (plain_sbs_ending b.sbsd) (those_end s c.option c.delay (λ x. same_qname x.sbsd b.sbsd)) told)
 
   ordered : (m : ℕ) (j : Job) (o : Option StartOrder) → P (record { reply = Nothing; state = s }) → IsIn j s.jobs → is_starting j.phase ≡ true → order_of s j ≡ o → P (hand_order s m j o)
   ordered m j None none i k e = none
@@ -236,9 +283,69 @@ module _ (P : Stepped → Type 0) (s : State) (call : Call) (h : HoldsAfterCalls
       let f = found_among (λ (j : Job). j.serial == serial) s.jobs j e in
       either (test j.phase) _ _ (λ t. h.reports serial j (phase j) (stops_after stops j s.stopped) f.0 (eqb-true j.serial serial f.1) (ranks j t) (n j)) (λ t. h.refuses (WrongPhase (phase_word j.phase)))
 
-  done : (m : ℕ) (o : Option Job) → P (done_with s m o)
-  done m None = h.refuses NoJob
-  done m (Some j) = either (is_run_by m j.phase) _ _ (λ t. h.refuses NotInUse) (λ t. h.refuses (WrongPhase (phase_word j.phase)))
+  use_done : (test : Phase → Bool) (reply : Reply) (j : Job) → IsPlain reply → ((p : Phase) → test p ≡ true → is_running p ≡ true) → IsIn j s.jobs → P (done_with s test reply j)
+  use_done test reply j plain runs i =
+      either (test j.phase) _ _
+      (λ t. either j.evoke _ _ (λ u. h.uses reply (active_at j.serial (after_use (maxuse_by s j.how))) plain (using_done s j (maxuse_by s j.how) i (runs j.phase t))) (λ u. h.refuses NotInUse))
+      (λ t. h.refuses (WrongPhase (phase_word j.phase)))
+
+  use_done_on_found : (m serial : ℕ) (o : Option Job) → find (λ j. j.serial == serial) s.jobs ≡ o → P (use_done_on s m o)
+  use_done_on_found m serial None e = h.refuses NoJob
+  use_done_on_found m serial (Some j) e = use_done (is_run_by m) Noted j plain_noted (run_running m) (found_among (λ (j : Job). j.serial == serial) s.jobs j e).0
+
+  use_ends_found : (c : Enduse) (r : Result Job Refusal) → job_named s c.job ≡ r → P (end_use_found s r)
+  use_ends_found c (Err x) e = h.refuses x
+  use_ends_found c (Ok j) e = use_done is_running (UseEnded j.job) j (plain_use_ended j.job) (λ p t. t) (left_in (is_named c.job) s.jobs j (the_one (filter (is_named c.job) s.jobs) j e))
+
+  evoked : (user : List ℕ) (sbs : QName) (e : PreEntry) (o : Option Job) → P (evoke_on s user sbs e o)
+  evoked user sbs e None =
+      either e.wait _ _
+      (λ t. either (nat_le max_evokes (count_evokes sbs e.pgm s.evokes)) _ _ (λ u. h.refuses (WaitListFull max_evokes)) (λ u. h.waits (count_evokes sbs e.pgm s.evokes + 1) _))
+      (λ t. h.refuses NoneAvailable)
+  evoked user sbs e (Some j) = h.uses (Evoked j.job) (active_at j.serial with_evoke) (plain_evoked j.job) (using_request s j.serial)
+
+  evoked_entry : (user : List ℕ) (sbs : QName) (o : Option PreEntry) → P (evoke_entry s user sbs o)
+  evoked_entry user sbs None = h.refuses (NoObject kind.Pje)
+  evoked_entry user sbs (Some e) = either (is_stopped s sbs e.pgm) _ _ (λ t. h.refuses EntryStopped) (λ t. evoked user sbs e (first_idle sbs e.pgm s.jobs))
+
+  evoked_with : (user : List ℕ) (sbs pgm : QName) (o : Option Sbsd) → P (evoke_with s user sbs pgm o)
+  evoked_with user sbs pgm None = h.refuses (NoObject kind.Pje)
+  evoked_with user sbs pgm (Some d) = evoked_entry user sbs (pre_entry_for pgm d)
+
+  evoked_in : (user : List ℕ) (pgm : QName) (o : Option Sbs) → P (evoke_in s user pgm o)
+  evoked_in user pgm None = h.refuses SbsNotActive
+  evoked_in user pgm (Some b) = either (is_ending b.phase) _ _ (λ t. h.refuses AlreadyEnding) (λ t. evoked_with user b.sbsd pgm (object_named b.sbsd s.objects.sbsds))
+
+  entry_ends_found : (c : Endpj) (sbs : QName) (o : Option PreEntry) → is_ending_call call ≡ true → P (end_entry s c sbs o)
+  entry_ends_found c sbs None told = h.refuses (NoObject kind.Pje)
+  entry_ends_found c sbs (Some e) told =
+      either (is_stopped s sbs e.pgm && count_from_pre sbs e.pgm s.jobs == 0) _ _ (λ t. h.refuses EntryStopped)
+      (λ t. h.ends PreEnding _ s.started _ _ s.power plain_pre_ending (entry_ends s c.option c.delay sbs e.pgm) told)
+
+  entry_ends_with : (c : Endpj) (sbs : QName) (o : Option Sbsd) → is_ending_call call ≡ true → P (end_entry_with s c sbs o)
+  entry_ends_with c sbs None told = h.refuses (NoObject kind.Pje)
+  entry_ends_with c sbs (Some d) told = entry_ends_found c sbs (pre_entry_for c.pgm d) told
+
+  entry_ends_in : (c : Endpj) (o : Option Sbs) → is_ending_call call ≡ true → P (end_entry_in s c o)
+  entry_ends_in c None told = h.refuses SbsNotActive
+  entry_ends_in c (Some b) told = entry_ends_with c b.sbsd (object_named b.sbsd s.objects.sbsds) told
+
+  prestarted_entry : (q : QName) (d : Sbsd) (pgm : QName) (o : Option PreEntry) → IsActiveAmong s.started q → object_named q s.objects.sbsds ≡ Some d → pre_entry_for pgm d ≡ o → P (prestart_entry s q d o)
+  prestarted_entry q d pgm None there named e = h.refuses (NoObject kind.Pje)
+  prestarted_entry q d pgm (Some x) there named e =
+      either (is_stopped s q x.pgm) _ _
+      (λ t. h.prestarts q d x (record { there = there; described = named; entered = (found_among (λ (y : PreEntry). same_qname y.pgm pgm) d.pres x e).0 }))
+      (λ t. h.refuses AlreadyActive)
+
+  prestarted_with : (q pgm : QName) (o : Option Sbsd) → IsActiveAmong s.started q → object_named q s.objects.sbsds ≡ o → P (prestart_with s q pgm o)
+  prestarted_with q pgm None there named = h.refuses (NoObject kind.Pje)
+  prestarted_with q pgm (Some d) there named = prestarted_entry q d pgm (pre_entry_for pgm d) there named refl
+
+  prestarted_in : (c : Strpj) (o : Option Sbs) → started_named s c.sbs ≡ o → P (prestart_in s c.pgm o)
+  prestarted_in c None e = h.refuses SbsNotActive
+  prestarted_in c (Some b) e =
+      either (is_ending b.phase) _ _ (λ t. h.refuses AlreadyEnding)
+      (λ t. prestarted_with b.sbsd c.pgm (object_named b.sbsd s.objects.sbsds) (b, (found_among (λ (x : Sbs). pointwise nat_eq x.sbsd.name c.sbs) s.started b e).0, refl, unending_active b.phase t) refl)
 
 pub starting_rank : (p : Phase) → is_starting p ≡ true → phase_rank p ≡ 1
 starting_rank Waiting h = absurd (cc)
@@ -323,19 +430,22 @@ changed P s user (command.Endjob c) h = job_ended P s _ h c (job_named s c.job) 
 changed P s user (command.Hldjobq c) h = queue_held P s _ h c.jobq refl
 changed P s user (command.Rlsjobq c) h = queue_released P s _ h c.jobq refl
 changed P s user (command.Clrjobq c) h = queue_cleared P s _ h c.jobq
+changed P s user (command.Strpj c) h = either P s _ h (is_on s.power) _ _ (λ t. prestarted_in P s _ h c (started_named s c.sbs) refl) (λ t. h.refuses PoweringDown)
+changed P s user (command.Endpj c) h = entry_ends_in P s _ h c (started_named s c.sbs) refl
+changed P s user (command.Evoke c) h = either P s _ h (is_on s.power) _ _ (λ t. evoked_in P s _ h user c.pgm (started_named s c.sbs)) (λ t. h.refuses PoweringDown)
+changed P s user (command.Enduse c) h = use_ends_found P s _ h c (job_named s c.job) refl
 changed P s user (command.Pwrdwnsys c) h =
     either P s _ h (is_down c.option s.power) _ _ (λ t. h.refuses PoweringDown)
-    (λ t. h.ends PowerDown _ _ _ (down_by c.option) plain_power_down (all_end s c.option c.delay (down_by c.option)) refl)
-changed P s user c h = h.nothing (λ b n. absurd (cc))
+    (λ t. h.ends PowerDown _ _ s.stopped _ (down_by c.option) plain_power_down (all_end s c.option c.delay (down_by c.option)) refl)
 
 -- what holds after whatever the call can come to, holds after the call
 pub call_comes : (P : Stepped → Type 0) (s : State) (caller : ℕ) (call : Call) → HoldsAfterCalls P s call → P (apply s caller call)
 call_comes P s caller (Change user c) h = changed P s user c h
-call_comes P s caller Hand h = handed P s _ h caller (find (is_to_kill caller) s.jobs) (h.nothing (λ b n. absurd (cc))) refl
+call_comes P s caller Hand h = handed P s _ h caller (find (is_to_kill caller) s.jobs) (h.nothing (λ n. absurd (cc))) refl
 call_comes P s caller (Started serial) h = reported P s _ h serial (is_handed_to caller) _ (λ j. false) (find (λ j. j.serial == serial) s.jobs) (λ j e. moved_on j (Running caller) 2 (handed_rank caller j.phase e) (omega arith) (omega arith) (omega arith) (λ c d w f. absurd (cc))) (λ j. refl) refl
 call_comes P s caller (StartFailed serial why) h = reported P s _ h serial (is_handed_to caller) _ (λ j. true) (find (λ j. j.serial == serial) s.jobs) (λ j e. moved_on j (Ended (cause.StartFailed why)) 2 (handed_rank caller j.phase e) (omega arith) (omega arith) (omega arith) (λ c d w f. inr (failed_end why d f))) (λ j. refl) refl
 call_comes P s caller (Finished serial end) h = reported P s _ h serial (is_run_by caller) _ is_unused (find (λ j. j.serial == serial) s.jobs) (λ j e. moved_on j (Ended (end_cause end j.wish)) 3 (run_rank caller j.phase e) (omega arith) (omega arith) (omega arith) (λ c d w f. inl (finished_end end j.wish c d w f))) (λ j. refl) refl
-call_comes P s caller (UseDone serial) h = done P s _ h caller (find (λ j. j.serial == serial) s.jobs)
+call_comes P s caller (UseDone serial) h = use_done_on_found P s _ h caller serial (find (λ j. j.serial == serial) s.jobs) refl
 call_comes P s caller Tick h = h.notes
 
 -- a job can be made and launched in a subsystem: a number and a serial are left, and the subsystem is started
@@ -404,6 +514,13 @@ started_keeps P s q can supplies h =
     let same : (with_autos s q).started ≡ s.started ++ b ∷ [] = autos_made (λ t. t.started ≡ s.started ++ b ∷ []) s q can (λ t e d m x. x) refl in
     firsts_keep P supplies q (with_autos s q) (subst (λ (xs : List Sbs). IsActiveAmong xs q) (sym same) (b, last_in s.started b, refl, refl)) h
 
+-- so with the jobs that STRPJ makes
+pub prestart_keeps : (P : State → Type 0) (s : State) (q : QName) (d : Sbsd) (e : PreEntry) → IsPrestartable s q d e → IsSupplied P → P (restarted s q e.pgm) → P (prestarted s q d e)
+prestart_keeps P s q d e can supplies h =
+    let t = restarted s q e.pgm in
+    let n : ℕ = room t q d e (e.inljobs - count_available q e.pgm s.jobs) in
+    made_keeps P supplies q d e n t can.there can.described can.entered (omega (arith, room-is q d e t (e.inljobs - count_available q e.pgm s.jobs))) h
+
 -- P holds of whatever state a call can leave before it settles: of that in which a subsystem has started with its autostart jobs, and each prestart job and each request that a job gets keep it
 pub record HoldsOfStates (P : State → Type 0) (s : State) : Type 0 where
   pub stays : P s
@@ -412,6 +529,7 @@ pub record HoldsOfStates (P : State → Type 0) (s : State) : Type 0 where
   pub enters : (user : List ℕ) (c : Sbmjob) (d : Jobd) (due : ℕ) → IsAcceptable s c d due → P (entered s (submitted_job s user c d due))
   pub alters : (change : Job → Job) (place : ℕ) → IsAlteration s change place → P (altered s change place)
   pub holds : (held : List QName) → IsHolding s held → P (record s { held = held })
+  pub lists : (stopped : List Stop) (evokes : List Evoke) → P (record s { stopped = stopped; evokes = evokes })
   pub moves : (serial : ℕ) (j : Job) (phase : Phase) (stopped : List Stop) → IsIn j s.jobs → j.serial ≡ serial → IsMoved j phase → is_starting phase ≡ false → P (record (with_phase s serial phase) { stopped = stopped })
   pub ends : (change : Job → Job) (started : List Sbs) (stopped : List Stop) (evokes : List Evoke) (power : Power) → IsEnding s change started power → P (wished s change started stopped evokes power)
   pub makes : (o : Objects) → IsObjectChange s o → P (record s { objects = o })
@@ -423,11 +541,12 @@ both_hold P Q s h k = record {
   starts = λ q e. (h.starts q e, k.starts q e);
   supplies = record {
     makes = λ q d e t can x. (h.supplies.makes q d e t can x.0, k.supplies.makes q d e t can x.1);
-    assigns = λ t serial evokes x. (h.supplies.assigns t serial evokes x.0, k.supplies.assigns t serial evokes x.1);
+    assigns = λ t q pgm job evokes can x. (h.supplies.assigns t q pgm job evokes can x.0, k.supplies.assigns t q pgm job evokes can x.1);
   };
   enters = λ user c d due has. (h.enters user c d due has, k.enters user c d due has);
   alters = λ change place a. (h.alters change place a, k.alters change place a);
   holds = λ held a. (h.holds held a, k.holds held a);
+  lists = λ stopped evokes. (h.lists stopped evokes, k.lists stopped evokes);
   moves = λ serial j phase stopped i e r n. (h.moves serial j phase stopped i e r n, k.moves serial j phase stopped i e r n);
   ends = λ change started stopped evokes power e. (h.ends change started stopped evokes power e, k.ends change started stopped evokes power e);
   makes = λ o c. (h.makes o c, k.makes o c);
@@ -445,6 +564,9 @@ of_states P s call h = record {
   alters = λ reply change place p a. h.alters change place a;
   holds = λ reply held p a told. h.holds held a;
   ends = λ reply change started stopped evokes power p e told. h.ends change started stopped evokes power e;
+  uses = λ reply change p u. h.ends change s.started s.stopped s.evokes s.power u.ending;
+  waits = λ place evokes. h.lists s.stopped evokes;
+  prestarts = λ q d e can. prestart_keeps P s q d e can h.supplies (h.lists (without_stop q e.pgm s.stopped) s.evokes);
   kills = λ m j i k. h.ends (active_at j.serial with_kill) s.started s.stopped s.evokes s.power (kill_ends s j.serial);
   makes = λ o c told. h.makes o c;
 }

@@ -61,11 +61,12 @@ module _ (s : State) where
         (record { new = h.new; next = h.next });
     supplies = record {
       makes = λ q d e u can k. (let most = k.next in record { new = last_new u (new_pre_job u q e.pgm) refl k; next = omega arith });
-      assigns = λ u serial evokes k. record { new = same_new u (map (active_at serial with_evoke) u.jobs) (keys_same (active_at serial with_evoke) (using serial) (λ (x : Job). x.serial) (λ x p w v e. refl) u.jobs) k; next = k.next };
+      assigns = λ u q pgm job evokes can k. record { new = same_new u (map (active_at job.serial with_evoke) u.jobs) (keys_same (active_at job.serial with_evoke) (using job.serial) (λ (x : Job). x.serial) (λ x p w v e. refl) u.jobs) k; next = k.next };
     };
     enters = λ user c d due has. record { new = last_new t (submitted_job t user c d due) refl h; next = omega arith };
     alters = λ change place a. record { new = same_new t (map change t.jobs) (serials_stay t change place a) h; next = h.next };
     holds = λ held a. record { new = h.new; next = h.next };
+    lists = λ stopped evokes. record { new = h.new; next = h.next };
     moves = λ serial j phase stopped i e r k. (let moved = same t (map (phased_at serial phase) t.jobs) (keys_kept (λ (x : Job). x.serial) serial (in_phase phase) (λ x. refl) t.jobs) h in record { new = moved.new; next = moved.next });
     ends = λ change started stopped evokes power e. record { new = same_new t (map change t.jobs) (keys_same change e.jobs (λ (x : Job). x.serial) (λ x p w u e. refl) t.jobs) h; next = h.next };
     makes = λ o c. record { new = h.new; next = h.next };

@@ -43,6 +43,7 @@ use Rattle.wm_desc.specs.declared.entry.PreEntry.{PreEntry}
 use Rattle.wm_law.specs.Prestart.{make_pre, new_pre_job, with_evoke}
 use Rattle.wm_law.proofs.Supplies.{IsSuppliable, number_left, serial_left}
 use Rattle.wm_law.specs.Subsystems.{begun}
+use Rattle.wm_law.specs.declared.state.Stop.{Stop}
 
 -- the same serials, numbers and places, no job that comes to wait, and the same next ones
 pub record SameNumbers (s t : State) : Type 0 where
@@ -237,10 +238,11 @@ pub calls : (s : State) → IsNumbered s → HoldsOfStates IsNumbered s
 calls s h = record {
   stays = h;
   starts = λ q e. autos_made IsNumbered s q e (auto_keeps q) (begun_keeps s q h);
-  supplies = record { makes = pre_keeps; assigns = λ t serial evokes k. ended_keeps t (active_at serial with_evoke) t.started t.stopped evokes t.power (using serial) k };
+  supplies = record { makes = pre_keeps; assigns = λ t q pgm job evokes can k. ended_keeps t (active_at job.serial with_evoke) t.started t.stopped evokes t.power (using job.serial) k };
   enters = λ user c d due a. entered_keeps s user c d due a.numbers h;
   alters = λ change place a. altered_keeps s change place a h a.places;
   holds = λ held a. numbered_same s _ (record { serials = refl; numbers = refl; waiting = λ d. d; places = refl; next_number = refl; next_serial = refl; next_place = refl }) h;
+  lists = λ stopped evokes. numbered_same s _ (record { serials = refl; numbers = refl; waiting = λ d. d; places = refl; next_number = refl; next_serial = refl; next_place = refl }) h;
   moves = λ serial j phase stopped i e r n. (let t = numbered_same s (with_phase s serial phase) (phase_same s serial phase (never_waits j.phase phase r.onward)) h in numbered_same (with_phase s serial phase) _ (record { serials = refl; numbers = refl; waiting = λ d. d; places = refl; next_number = refl; next_serial = refl; next_place = refl }) t);
   ends = λ change started stopped evokes power e. ended_keeps s change started stopped evokes power e.jobs h;
   makes = λ o e. numbered_same s _ (record { serials = refl; numbers = refl; waiting = λ d. d; places = refl; next_number = refl; next_serial = refl; next_place = refl }) h;

@@ -64,6 +64,7 @@ use Rattle.wm_law.specs.Sound.{StepKeepsOrders, StartingJobsHaveOrders, HandGive
 use Rattle.wm_law.specs.Subsystems.{begun}
 use Rattle.wm_law.proofs.PreOrders.{pre_ordered}
 use Rattle.wm_law.proofs.Supplies.{IsSuppliable}
+use Rattle.wm_law.specs.declared.state.Stop.{Stop}
 
 -- what a launch to Starting stands on: the routing entry, and the program that it calls
 record IsLed (s : State) (sbs : QName) (by : ℕ → How) (j : Job) (l : Launched) : Type 0 where
@@ -303,7 +304,7 @@ calls s all =
           (record { numbered = begun_keeps s q all.numbered; objects = sound; orders = alike s (begun s q) refl refl (λ j i p. lodged_longer s.started _ j (h.lodged j i p)) h });
       supplies = record {
         makes = λ q d e t can k. record { numbered = n.supplies.makes q d e t can k.numbered; objects = k.objects; orders = pre_made_ordered q d e t can k.objects k.orders };
-        assigns = λ t serial evokes k. record { numbered = n.supplies.assigns t serial evokes k.numbered; objects = k.objects; orders = ended_orders t (active_at serial with_evoke) t.started t.stopped evokes t.power (use_ends t serial) k.orders };
+        assigns = λ t q pgm job evokes can k. record { numbered = n.supplies.assigns t q pgm job evokes can k.numbered; objects = k.objects; orders = ended_orders t (active_at job.serial with_evoke) t.started t.stopped evokes t.power (use_ends t job.serial) k.orders };
       };
       enters = λ user c d due has. record {
         numbered = n.enters user c d due has;
@@ -316,6 +317,7 @@ calls s all =
         orders = (let t = routed s h _ (altered_of (λ j. IsSome (order_of s j)) s change place a h.starting) (altered_of (IsLodged s.started) s change place a h.lodged) in alike (record s { jobs = map change s.jobs }) _ refl refl t.lodged t);
       };
       holds = λ held a. record { numbered = n.holds held a; objects = sound; orders = alike s (record s { held = held }) refl refl h.lodged h };
+      lists = λ stopped evokes. record { numbered = n.lists stopped evokes; objects = sound; orders = alike s (record s { stopped = stopped; evokes = evokes }) refl refl h.lodged h };
       moves = λ serial j phase stopped i same r e. record {
         numbered = n.moves serial j phase stopped i same r e;
         objects = sound;

@@ -309,10 +309,11 @@ pub calls_launch_none : (s : State) → HoldsOfStates (LaunchesNone s) s
 calls_launch_none s = record {
   stays = λ i m. none_yet s i m;
   starts = λ q e. autos_made (LaunchesNone s) s q e (λ t x d m h. auto_none s t q x d h) (λ i m. none_yet s i m);
-  supplies = record { makes = λ q d e t can h. pre_none s t q e.pgm h; assigns = λ t serial evokes h. wished_none s t (active_at serial with_evoke) (using serial) h };
+  supplies = record { makes = λ q d e t can h. pre_none s t q e.pgm h; assigns = λ t q pgm job evokes can h. wished_none s t (active_at job.serial with_evoke) (using job.serial) h };
   enters = λ user c d due has. entered_none s user c d due;
   alters = altered_none s;
   holds = λ held a i m. none_yet s i m;
+  lists = λ stopped evokes i m. none_yet s i m;
   moves = λ serial j phase stopped i e r n. (let on = r.onward in moved_none s serial j phase i e on.past);
   ends = λ change started stopped evokes power e. wished_none s s change e.jobs (none_yet s);
   makes = λ o c i m. none_yet s i m;

@@ -57,6 +57,7 @@ use Rattle.wm_law.proofs.Turns.{is_turn}
 use Rattle.wm_desc.specs.declared.entry.PreEntry.{PreEntry}
 use Rattle.wm_law.specs.Prestart.{make_pre, new_pre_job, with_evoke}
 use Rattle.wm_law.proofs.Supplies.{IsSuppliable}
+use Rattle.wm_law.specs.declared.state.Stop.{Stop}
 
 active_by : (how : ℕ → How) (seq : ℕ) (o : Option EndCause) → is_active (starts_unless how seq o).phase ≡ true → (starts_unless how seq o).phase ≡ Starting
 active_by how seq None h = refl
@@ -274,10 +275,11 @@ calls_place : (s : State) → IsNumbered s → ActiveHaveCome s → HoldsOfState
 calls_place s n h = record {
   stays = h;
   starts = λ q e. autos_made ActiveHaveCome s q e (auto_placed q) (λ j i a. placed_still s.started s.objects _ _ j.kind j.jobq j.pty j.how (longer s (record { sbsd = q; phase = Active }) j) (h j i a));
-  supplies = record { makes = pre_placed; assigns = λ t serial evokes k. ended_placed t (active_at serial with_evoke) t.started t.stopped evokes t.power (use_ends t serial) k };
+  supplies = record { makes = pre_placed; assigns = λ t q pgm job evokes can k. ended_placed t (active_at job.serial with_evoke) t.started t.stopped evokes t.power (use_ends t job.serial) k };
   enters = λ user c d due has. last_placed s (submitted_job s user c d due) (λ a. absurd (cc)) h;
   alters = λ change place a. altered_placed s change place a h;
   holds = λ held a. h;
+  lists = λ stopped evokes. h;
   moves = λ serial j phase stopped i e r k. moved_placed s serial j phase n h i e r.onward;
   ends = λ change started stopped evokes power e. ended_placed s change started stopped evokes power e h;
   makes = λ o c j i a. placed_still s.started s.objects _ _ j.kind j.jobq j.pty j.how (remade s o j c) (h j i a);

@@ -151,11 +151,12 @@ queued_calls s h = record {
   starts = λ q e. autos_made HasQueues s q e (λ t x d m k. last_queued t.objects t.jobs (routed_auto t q (auto_job t x d)) (auto_queued q t x d) k) h;
   supplies = record {
     makes = λ q d e t can k. last_queued t.objects t.jobs (new_pre_job t q e.pgm) (pre_queued q t e.pgm) k;
-    assigns = λ t serial evokes k. all_wished t.objects t.jobs (active_at serial with_evoke) (using serial) k;
+    assigns = λ t q pgm job evokes can k. all_wished t.objects t.jobs (active_at job.serial with_evoke) (using job.serial) k;
   };
   enters = λ user c d due a. last_queued s.objects s.jobs (submitted_job s user c d due) (submitted_queued s user c d due a) h;
   alters = λ change place a. all_altered s change place a h;
   holds = λ held a. h;
+  lists = λ stopped evokes. h;
   moves = λ serial j phase stopped i e r n. moved_queued s serial phase (never_waits j.phase phase r.onward) h;
   ends = λ change started stopped evokes power e. all_wished s.objects s.jobs change e.jobs h;
   makes = λ o c j i. queued_still s.objects o j c.jobqs (h j i);
@@ -206,10 +207,11 @@ held_calls : (s : State) → HoldsQueues s → HoldsOfStates HoldsQueues s
 held_calls s h = record {
   stays = h;
   starts = λ q e. autos_made HoldsQueues s q e (λ t x d m k. k) h;
-  supplies = record { makes = λ q d e t can k. k; assigns = λ t serial evokes k. k };
+  supplies = record { makes = λ q d e t can k. k; assigns = λ t q pgm job evokes can k. k };
   enters = λ user c d due a. h;
   alters = λ change place a. h;
   holds = λ held a. still_queues s held a h;
+  lists = λ stopped evokes. h;
   moves = λ serial j phase stopped i e r n. h;
   ends = λ change started stopped evokes power e. h;
   makes = λ o c. record { sorted = h.sorted; are_objects = λ q i. c.jobqs q (h.are_objects q i) };

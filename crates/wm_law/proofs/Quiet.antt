@@ -34,11 +34,12 @@ use Rattle.wm_law.proofs.Distinct.{one_by_key}
 use Rattle.wm_law.proofs.Due.{due_same, not_both, of_any, IsQuietly, last_up, supplied_quietly}
 use Rattle.wm_law.proofs.Forward.{only_one}
 use Rattle.wm_law.proofs.Members.{of_last, of_mapped}
-use Rattle.wm_law.proofs.Moves.{HoldsAfterCalls, IsMakeable, IsOnward, call_comes, moved_on, starting_rank, autos_made, started_keeps}
+use Rattle.wm_law.proofs.Moves.{HoldsAfterCalls, IsMakeable, IsOnward, call_comes, moved_on, starting_rank, autos_made, started_keeps, IsUse, prestart_keeps}
 use Rattle.wm_law.proofs.Passed.{any_in}
 use Rattle.wm_law.proofs.Placed.{active_as, active_before}
 use Rattle.wm_law.proofs.Routed.{by_route}
 use Rattle.wm_law.proofs.Started.{begun_names}
+use Rattle.wm_law.proofs.Endings.{was_active, wished}
 
 -- whether a subsystem ends now
 abbrev now : Sbs → Bool
@@ -146,6 +147,17 @@ altered_due s change place a h = record {
   jobs = each_altered (λ (k : Job). is_active k.phase ≡ true → IsUpToDate s.clock s.started k) s change place a h.jobs (λ j k i b active. (let no = idle s j k b in absurd (cc)));
 }
 
+-- neither a request that a job gets nor the end of a use makes anything due
+used_due : (s : State) (change : Job → Job) → IsUse s change → IsNumbered s → HasNoneDue s → HasNoneDue (wished s change s.started s.stopped s.evokes s.power)
+used_due s change u n h = record {
+  subsystems = h.subsystems;
+  jobs = λ k i a. (
+      let m = of_mapped change s.jobs k i in
+      let wishing = u.ending.jobs in
+      let active : is_active m.0.phase ≡ true = was_active m.0.phase (change m.0).phase (wishing.phase m.0) (ap (λ (x : Job). is_active x.phase) (sym m.2) ∙ a) in
+      subst (IsUpToDate s.clock s.started) (sym m.2) (u.up n m.0 m.1 (h.jobs m.0 m.1 active)));
+}
+
 quiet_calls : (s : State) (call : Call) → IsNumbered s → HasDistinctNames s → HasNoneDue s → is_ending_call call ≡ false → HoldsAfterCalls (λ t. HasNoneDue t.state) s call
 quiet_calls s call n names h quiet = record {
   refuses = λ x. h;
@@ -158,6 +170,9 @@ quiet_calls s call n names h quiet = record {
   alters = λ reply change place p a. altered_due s change place a h;
   holds = λ reply held p a told. record { subsystems = h.subsystems; jobs = h.jobs };
   ends = λ reply change started stopped evokes power p e told. absurd (cc);
+  uses = λ reply change p u. used_due s change u n h;
+  waits = λ place evokes. record { subsystems = h.subsystems; jobs = h.jobs };
+  prestarts = λ q d e can. (prestart_keeps IsQuietly s q d e can supplied_quietly (record { names = names; none = record { subsystems = h.subsystems; jobs = h.jobs } })).none;
   kills = λ m j i k. kill_due s j.serial h;
   makes = λ o c told. record { subsystems = h.subsystems; jobs = h.jobs };
 }

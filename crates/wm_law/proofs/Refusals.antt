@@ -26,6 +26,9 @@ leaves s call = record {
   alters = λ reply change place p a x e. absurd (p.refuses_none x e);
   holds = λ reply held p a told x e. absurd (p.refuses_none x e);
   ends = λ reply change started stopped evokes power p a told x e. absurd (p.refuses_none x e);
+  uses = λ reply change p u x e. absurd (p.refuses_none x e);
+  waits = λ place evokes x e. absurd (cc);
+  prestarts = λ q d y can x e. absurd (cc);
   kills = λ m j i k x e. absurd (cc);
   makes = λ o c told x e. absurd (cc);
 }

@@ -54,7 +54,7 @@ numbers-by (suc n) k a b some =
     omega (arith, now, then, some)
 
 -- a job less can be made
-numbers-less : (sbs pgm : QName) (s : State) → 0 < numbers_left s → numbers_left (make_pre sbs pgm s) ≡ numbers_left s - 1
+pub numbers-less : (sbs pgm : QName) (s : State) → 0 < numbers_left s → numbers_left (make_pre sbs pgm s) ≡ numbers_left s - 1
 numbers-less sbs pgm s some = numbers-by s.next_number s.next_serial 1000000 1000000000000000000 some
 
 pub itself : (q : QName) → same_qname q q ≡ true
@@ -149,7 +149,7 @@ module _ (sbs : QName) (d : Sbsd) (e : PreEntry) where
       let one = left-made s (omega (arith, le)) in
       omega (arith, one, left-after n (make_pre sbs e.pgm s) (omega (arith, one, le)))
 
-  made-both : (m n k : ℕ) (s : State) → n + m ≡ k → make_pres sbs e.pgm m (make_pres sbs e.pgm n s) ≡ make_pres sbs e.pgm k s
+  pub made-both : (m n k : ℕ) (s : State) → n + m ≡ k → make_pres sbs e.pgm m (make_pres sbs e.pgm n s) ≡ make_pres sbs e.pgm k s
   made-both m zero k s is = let same : m ≡ k = omega (arith, is) in ap (λ i. make_pres sbs e.pgm i s) same
   made-both m (suc n) zero s is = absurd (omega (arith, is))
   made-both m (suc n) (suc k) s is = made-both m n k (make_pre sbs e.pgm s) (omega (arith, is))

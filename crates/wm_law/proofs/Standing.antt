@@ -47,10 +47,11 @@ sound_calls : (s : State) → HasSoundObjects s → HoldsOfStates HasSoundObject
 sound_calls s h = record {
   stays = h;
   starts = λ q e. autos_made HasSoundObjects s q e (λ t x d m k. k) h;
-  supplies = record { makes = λ q d e t can k. k; assigns = λ t serial evokes k. k };
+  supplies = record { makes = λ q d e t can k. k; assigns = λ t q pgm job evokes can k. k };
   enters = λ user c d due a. h;
   alters = λ change place a. h;
   holds = λ held a. h;
+  lists = λ stopped evokes. h;
   moves = λ serial j phase stopped i e r n. h;
   ends = λ change started stopped evokes power e. h;
   makes = λ o c. c.sound h;
@@ -133,10 +134,11 @@ within_calls : (s : State) → IsWithinStarted s → HoldsOfStates IsWithinStart
 within_calls s h = record {
   stays = h;
   starts = λ q e. autos_made IsWithinStarted s q e (λ t x d m k. k) (one_more s.started (record { sbsd = q; phase = Active }) e.room);
-  supplies = record { makes = λ q d e t can k. k; assigns = λ t serial evokes k. k };
+  supplies = record { makes = λ q d e t can k. k; assigns = λ t q pgm job evokes can k. k };
   enters = λ user c d due a. h;
   alters = λ change place a. h;
   holds = λ held a. h;
+  lists = λ stopped evokes. h;
   moves = λ serial j phase stopped i e r n. h;
   ends = λ change started stopped evokes power e. subst (λ (n : ℕ). n ≤ max_started) (sym (length_same started s.started e.subsystems.names)) h;
   makes = λ o c. h;

@@ -49,10 +49,11 @@ pub calls : (s : State) → HasDistinctNames s → HoldsOfStates HasDistinctName
 calls s h = record {
   stays = h;
   starts = λ q e. autos_made HasDistinctNames s q e (λ t x d m k. k) (begun_names s q e.fresh h);
-  supplies = record { makes = λ q d e t can k. k; assigns = λ t serial evokes k. k };
+  supplies = record { makes = λ q d e t can k. k; assigns = λ t q pgm job evokes can k. k };
   enters = λ user c d due has. h;
   alters = λ change place a. h;
   holds = λ held a. h;
+  lists = λ stopped evokes. h;
   moves = λ serial j phase stopped i e r n. h;
   ends = λ change started stopped evokes power e. subst IsDistinct (sym (names_same started s.started e.subsystems.names)) h;
   makes = λ o e. h;

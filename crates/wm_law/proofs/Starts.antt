@@ -87,6 +87,9 @@ hands_over s call = record {
   alters = λ reply change place p a x e. absurd (none_told start_told reply p x e);
   holds = λ reply held p a told x e. absurd (none_told start_told reply p x e);
   ends = λ reply change started stopped evokes power p a told x e. absurd (none_told start_told reply p x e);
+  uses = λ reply change p u x e. absurd (none_told start_told reply p x e);
+  waits = λ place evokes x e. absurd (cc);
+  prestarts = λ q d y can x e. absurd (cc);
   kills = λ m j i k x e. absurd (cc);
   makes = λ o c told x e. absurd (cc);
 }
@@ -150,6 +153,9 @@ kills_over s call = record {
   alters = λ reply change place p a x e. absurd (none_told kill_told reply p x e);
   holds = λ reply held p a told x e. absurd (none_told kill_told reply p x e);
   ends = λ reply change started stopped evokes power p a told x e. absurd (none_told kill_told reply p x e);
+  uses = λ reply change p u x e. absurd (none_told kill_told reply p x e);
+  waits = λ place evokes x e. absurd (cc);
+  prestarts = λ q d y can x e. absurd (cc);
   kills = λ m j i k. killed_one s m j i k;
   makes = λ o c told x e. absurd (cc);
 }

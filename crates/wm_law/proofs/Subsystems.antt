@@ -44,10 +44,11 @@ described_calls : (s : State) → HasDescriptions s → HoldsOfStates HasDescrip
 described_calls s h = record {
   stays = h;
   starts = λ q e. autos_made HasDescriptions s q e (λ t x d m k. k) (described s q e.there h);
-  supplies = record { makes = λ q d e t can k. k; assigns = λ t serial evokes k. k };
+  supplies = record { makes = λ q d e t can k. k; assigns = λ t q pgm job evokes can k. k };
   enters = λ user c d due has. h;
   alters = λ change place a. h;
   holds = λ held a. h;
+  lists = λ stopped evokes. h;
   moves = λ serial j phase stopped i e r n. h;
   ends = λ change started stopped evokes power e b i. described_ended s started e.subsystems h b i;
   makes = λ o e b i. subst (λ (d : Option Sbsd). IsSome d) (sym (e.described b i (h b i))) (h b i);
@@ -83,10 +84,11 @@ quiet_calls : (s : State) → IsQuiet s → HoldsOfStates IsQuiet s
 quiet_calls s h = record {
   stays = h;
   starts = λ q e. autos_made IsQuiet s q e (λ t x d m k. k) (λ off b i. (let on = e.on in absurd (cc)));
-  supplies = record { makes = λ q d e t can k. k; assigns = λ t serial evokes k. k };
+  supplies = record { makes = λ q d e t can k. k; assigns = λ t q pgm job evokes can k. k };
   enters = λ user c d due has. h;
   alters = λ change place a. h;
   holds = λ held a. h;
+  lists = λ stopped evokes. h;
   moves = λ serial j phase stopped i e r n. h;
   ends = λ change started stopped evokes power e off b i. quiet_ended s change started power e h off b i;
   makes = λ o e. h;

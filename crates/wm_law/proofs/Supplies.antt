@@ -1,5 +1,5 @@
 -- What settling's third part and STRSBS's first prestart jobs keep: jobs are made one by one where there is room, and requests go to idle jobs.
-use Rattle.std.proofs.Common.{◌≡◌, ◌⊎◌, ℕ, zero, suc, ◌-◌, ◌<◌, ◌≤◌, ◌&&◌, min, nat_le, not, Bool, true, false, cond, List, [], ◌∷◌, length, filter, fold, Option, Some, None, refl, sym, ap, subst, ◌∙◌, inl, inr, arith}
+use Rattle.std.proofs.Common.{◌≡◌, ◌⊎◌, ℕ, zero, suc, ◌-◌, ◌<◌, ◌≤◌, ◌&&◌, min, nat_le, not, Bool, true, false, cond, List, [], ◌∷◌, length, filter, fold, Option, Some, None, refl, sym, ap, subst, ◌∙◌, inl, inr, arith, nat_lt}
 use Rattle.std.specs.Ordering.{nat_cmp, is_lt}
 use Rattle.std.specs.Cmp.Lexicographic.{slice_cmp}
 use Rattle.std.proofs.lemmas.Bool.Decides.{nat_tests}
@@ -19,12 +19,15 @@ use Rattle.wm_law.specs.Choice.{is_sbs_active}
 use Rattle.wm_law.specs.Counts.{count_from_pre, count_in_sbs}
 use Rattle.wm_law.specs.Jobs.{active_at}
 use Rattle.wm_law.specs.Laws.{IsIn}
-use Rattle.wm_law.specs.Prestart.{assigned, count_available, is_lacking, is_stopped, least_multiple, left_by, make_pre, make_pres, replenish, replenished, room, with_evoke, without_first}
+use Rattle.wm_law.specs.Prestart.{assigned, count_available, is_lacking, is_stopped, least_multiple, left_by, make_pre, make_pres, replenish, replenished, room, with_evoke, without_first, assign, first_idle, is_evoke_of, is_idle_in, of_lesser_number}
 use Rattle.wm_law.specs.Submitting.{numbers_end, numbers_left, serials_end}
 use Rattle.wm_law.specs.Supply.{in_order, inserted, make_first, make_firsts, make_firsts_with, supply, supply_entry, supply_in, supply_with}
 use Rattle.wm_law.proofs.Endings.{wished}
 use Rattle.wm_law.proofs.Members.{left_in, left_passes}
 use Rattle.wm_law.proofs.Rounds.{left, left-few, left-made, room-is}
+use Rattle.std.specs.List.{list_any}
+use Rattle.wm_base.proofs.Tests.{Some-injective}
+use Rattle.wm_law.specs.declared.job.Job.{Job}
 
 -- a job can be made for the entry: its subsystem is started and Active, the description has the entry, and there is room
 pub record IsSuppliable (q : QName) (d : Sbsd) (e : PreEntry) (t : State) : Type 0 where
@@ -36,10 +39,19 @@ pub record IsSuppliable (q : QName) (d : Sbsd) (e : PreEntry) (t : State) : Type
   pub entered : IsIn e d.pres
   pub some : 0 < left q d e t
 
+-- a job can get a request: it is an idle job of the entry
+pub record IsAssignable (q pgm : QName) (t : State) (job : Job) : Type 0 where
+  pub there : IsIn job t.jobs
+  pub idle : is_idle_in q pgm job ≡ true
+
 -- P is kept where a job is made for an entry, and where a job gets a request
 pub record IsSupplied (P : State → Type 0) : Type 0 where
   pub makes : (q : QName) (d : Sbsd) (e : PreEntry) (t : State) → IsSuppliable q d e t → P t → P (make_pre q e.pgm t)
-  pub assigns : (t : State) (serial : ℕ) (evokes : List Evoke) → P t → P (wished t (active_at serial with_evoke) t.started t.stopped evokes t.power)
+  pub assigns : (t : State) (q pgm : QName) (job : Job) (evokes : List Evoke) → IsAssignable q pgm t job → P t → P (wished t (active_at job.serial with_evoke) t.started t.stopped evokes t.power)
+
+few : (b : Bool) (m n : ℕ) → m ≤ n → cond b m 0 ≤ n
+few true m n h = h
+few false m n h = omega arith
 
 positive : (b : Bool) (n m : ℕ) → 0 < cond b (min n m) 0 → (0 < n) × (0 < m)
 positive true n m h = (omega arith, omega arith)
@@ -76,13 +88,48 @@ module _ (q : QName) (d : Sbsd) (e : PreEntry) (t : State) (some : 0 < left q d 
   pub below_entry : is_below (count_from_pre q e.pgm t.jobs) e.maxjobs ≡ true
   below_entry = left_below e.maxjobs (count_from_pre q e.pgm t.jobs) (numbers_left t) inner_some
 
+-- no more can be made than numbers are left
+pub left_numbers : (q : QName) (d : Sbsd) (e : PreEntry) (t : State) → left q d e t ≤ numbers_left t
+left_numbers q d e t = omega (arith, left-few d.maxjobs (count_in_sbs q t.jobs) (left_by e.maxjobs (count_from_pre q e.pgm t.jobs) (numbers_left t)), left-few e.maxjobs (count_from_pre q e.pgm t.jobs) (numbers_left t))
+
+pub room_numbers : (q : QName) (d : Sbsd) (e : PreEntry) (t : State) (n : ℕ) → room t q d e n ≤ numbers_left t
+room_numbers q d e t n = omega (arith, room-is q d e t n, left_numbers q d e t)
+
+pub replenish_numbers : (q : QName) (d : Sbsd) (e : PreEntry) (t : State) → replenish t q d e ≤ numbers_left t
+replenish_numbers q d e t =
+    let lacking : ℕ = least_multiple e.adljobs (e.threshold - count_available q e.pgm t.jobs) in
+    few (not (is_stopped t q e.pgm) && is_lacking t q e) (room t q d e lacking) (numbers_left t) (room_numbers q d e t lacking)
+
+-- the lesser of some jobs and one more is one of them
+lesser_of : (jobs : List Job) (least : Option Job) (j : Job) → fold of_lesser_number least jobs ≡ Some j → (least ≡ Some j) ⊎ IsIn j jobs
+lesser_of [] least j e = inl e
+lesser_of (x ∷ xs) None j e =
+    elim (lesser_of xs (Some x) j e) as (λ _. (None ≡ Some j) ⊎ IsIn j (x ∷ xs)) [ inl same ↦ inr (inl (sym (Some-injective x j same))) | inr i ↦ inr (inr i) ]
+lesser_of (x ∷ xs) (Some i) j e = lesser_by (nat_lt x.job.number i.job.number) i x j xs (lesser_of xs (of_lesser_number (Some i) x) j e)
+  where
+    lesser_by : (b : Bool) (i x j : Job) (xs : List Job) → (cond b (Some x) (Some i) ≡ Some j) ⊎ IsIn j xs → (◌≡◌ {A = Option Job} (Some i) (Some j)) ⊎ IsIn j (x ∷ xs)
+    lesser_by true i x j xs (inl same) = inr (inl (sym (Some-injective x j same)))
+    lesser_by false i x j xs (inl same) = inl same
+    lesser_by b i x j xs (inr m) = inr (inr m)
+
+-- the first idle job is one
+pub idle_found : (q pgm : QName) (t : State) (j : Job) → first_idle q pgm t.jobs ≡ Some j → IsAssignable q pgm t j
+idle_found q pgm t j e =
+    elim (lesser_of (filter (is_idle_in q pgm) t.jobs) None j e) as (λ _. IsAssignable q pgm t j) [
+      | inl none ↦ absurd (cc)
+      | inr i ↦ record { there = left_in (is_idle_in q pgm) t.jobs j i; idle = left_passes (is_idle_in q pgm) t.jobs j i }
+    ]
+
+assignable_by : (b : Bool) (o : Option Job) (j : Job) → cond b o None ≡ Some j → o ≡ Some j
+assignable_by true o j e = e
+assignable_by false o j e = absurd (cc)
+
+assignable : (q pgm : QName) (t : State) (j : Job) → assign q pgm t ≡ Some j → IsAssignable q pgm t j
+assignable q pgm t j e = idle_found q pgm t j (assignable_by (list_any (is_evoke_of q pgm) t.evokes) (first_idle q pgm t.jobs) j e)
+
 -- a subsystem of the name is among them, and Active
 abbrev pub IsActiveAmong : List Sbs → QName → Type 0
 IsActiveAmong bs q = (b : Sbs) × IsIn b bs × (b.sbsd ≡ q) × (is_sbs_active b.phase ≡ true)
-
-few : (b : Bool) (m n : ℕ) → m ≤ n → cond b m 0 ≤ n
-few true m n h = h
-few false m n h = omega arith
 
 module _ (P : State → Type 0) (keeps : IsSupplied P) (bs : List Sbs) (o : Objects) where
   -- P holds, and subsystems and objects are as they were
@@ -93,7 +140,7 @@ module _ (P : State → Type 0) (keeps : IsSupplied P) (bs : List Sbs) (o : Obje
 
   assigned_carried : (q pgm : QName) (t : State) → IsCarried t → IsCarried (assigned t q pgm)
   assigned_carried q pgm t c =
-      iterate-keeps IsCarried (record { by_step = λ s j e h. record { holds = keeps.assigns s j.serial (without_first q pgm s.evokes) h.holds; started = h.started; objects = h.objects } }) (length t.evokes) t c
+      iterate-keeps IsCarried (record { by_step = λ s j e h. record { holds = keeps.assigns s q pgm j (without_first q pgm s.evokes) (assignable q pgm s j e) h.holds; started = h.started; objects = h.objects } }) (length t.evokes) t c
 
   module _ (q : QName) (d : Sbsd) (there : IsActiveAmong bs q) (named : object_named q o.sbsds ≡ Some d) where
     suppliable : (e : PreEntry) (t : State) → IsIn e d.pres → IsCarried t → 0 < left q d e t → IsSuppliable q d e t
@@ -179,6 +226,11 @@ active_among bs q i =
 pub supplied_keeps : (P : State → Type 0) → IsSupplied P → (s : State) → P s → P (supply s)
 supplied_keeps P keeps s h =
     (supplied_all P keeps s.started s.objects (in_order (filter (λ b. is_sbs_active b.phase) s.started)) s (active_among s.started) (record { holds = h; started = refl; objects = refl })).holds
+
+-- and where so many jobs are made for an entry that has room for them
+pub made_keeps : (P : State → Type 0) → IsSupplied P → (q : QName) (d : Sbsd) (e : PreEntry) (n : ℕ) (s : State) → IsActiveAmong s.started q → object_named q s.objects.sbsds ≡ Some d → IsIn e d.pres → n ≤ left q d e s → P s → P (make_pres q e.pgm n s)
+made_keeps P keeps q d e n s there named i le h =
+    (made_carried P keeps s.started s.objects q d there named e n s i le (record { holds = h; started = refl; objects = refl })).holds
 
 -- and where the first prestart jobs of a subsystem are made
 pub firsts_keep : (P : State → Type 0) → IsSupplied P → (q : QName) (s : State) → IsActiveAmong s.started q → P s → P (make_firsts q s)

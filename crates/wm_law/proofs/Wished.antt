@@ -85,11 +85,12 @@ wished_calls s h = record {
   starts = λ q e. autos_made HasWishes s q e (λ t x d m k. last_wished t.jobs (routed_auto t q (auto_job t x d)) (record { waits = λ w. refl; moment = tt }) k) h;
   supplies = record {
     makes = λ q d e t can k. last_wished t.jobs (new_pre_job t q e.pgm) (record { waits = λ w. refl; moment = tt }) k;
-    assigns = λ t serial evokes k. all_given t.jobs (active_at serial with_evoke) (using serial) k;
+    assigns = λ t q pgm job evokes can k. all_given t.jobs (active_at job.serial with_evoke) (using job.serial) k;
   };
   enters = λ user c d due a. last_wished s.jobs (submitted_job s user c d due) (record { waits = λ w. refl; moment = tt }) h;
   alters = λ change place a. each_altered IsWished s change place a h (λ j k i b. altered_wished s j k b (h j i));
   holds = λ held a. h;
+  lists = λ stopped evokes. h;
   moves = λ serial j phase stopped i e r n. all_changed s.jobs serial (in_phase phase) (record { wish = λ k. refl; never = λ k. never_waits j.phase phase r.onward }) h;
   ends = λ change started stopped evokes power e. all_given s.jobs change e.jobs h;
   makes = λ o c. h;
@@ -133,10 +134,11 @@ moments_calls : (s : State) → HasMoments s → HoldsOfStates HasMoments s
 moments_calls s h = record {
   stays = h;
   starts = λ q e. autos_made HasMoments s q e (λ t x d m k. k) (begun_moments s.started q h);
-  supplies = record { makes = λ q d e t can k. k; assigns = λ t serial evokes k. k };
+  supplies = record { makes = λ q d e t can k. k; assigns = λ t q pgm job evokes can k. k };
   enters = λ user c d due a. h;
   alters = λ change place a. h;
   holds = λ held a. h;
+  lists = λ stopped evokes. h;
   moves = λ serial j phase stopped i e r n. h;
   ends = λ change started stopped evokes power e. ended_moments s.started started e.subsystems h;
   makes = λ o c. h;

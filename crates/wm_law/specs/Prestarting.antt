@@ -1,5 +1,5 @@
 -- STRPJ and ENDPJ: a prestart entry makes jobs again, or is stopped and its jobs are told to end.
-use Rattle.std.specs.Prelude.{ℕ, Bool, not, ◌-◌, ◌==◌, ◌&&◌, ◌||◌, List, Option, Some, None, filter, map, if◌then◌else◌}
+use Rattle.std.specs.Prelude.{ℕ, Bool, false, not, ◌-◌, ◌==◌, ◌&&◌, List, Option, Some, None, filter, map, if◌then◌else◌}
 use Rattle.std.specs.Option.{option_map}
 use Rattle.wm_base.specs.declared.qname.QName.{QName}
 use Rattle.wm_base.specs.declared.refusal.Kind.TheVariants as kind

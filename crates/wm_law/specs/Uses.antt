@@ -42,8 +42,8 @@ abbrev pub evoke_waits : State → List ℕ → QName → PreEntry → Stepped
 evoke_waits s user sbs e =
     if e.wait
     then if nat_le max_evokes (count_evokes sbs e.pgm s.evokes)
-      then refused s (WaitListFull max_evokes)
-      else record { reply = EvokeWaits (count_evokes sbs e.pgm s.evokes + 1); state = with_request s user sbs e.pgm }
+    then refused s (WaitListFull max_evokes)
+    else record { reply = EvokeWaits (count_evokes sbs e.pgm s.evokes + 1); state = with_request s user sbs e.pgm }
     else refused s NoneAvailable
 
 -- EVOKE with the idle job that was found
