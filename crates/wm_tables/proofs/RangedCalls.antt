@@ -1,5 +1,5 @@
 -- Calls in range keep the ranges of a state.
-use Rattle.std.proofs.Common.{◌≡◌, ◌≤◌, ◌<◌, ◌+◌, ◌==◌, ◌&&◌, ◌^◌, not, ℕ, Bool, true, false, cond, nat_le, nat_lt, unwrap_or, is_some, List, [], ◌∷◌, length, map, filter, Option, Some, None, Result, Ok, Err, refl, sym, ap, subst, inl, inr, arith}
+use Rattle.std.proofs.Common.{◌≡◌, ◌≤◌, ◌<◌, ◌+◌, ◌==◌, ◌&&◌, ◌^◌, not, ℕ, Bool, true, false, cond, nat_le, nat_lt, unwrap_or, is_some, List, [], ◌∷◌, length, map, filter, Option, Some, None, Result, Ok, Err, refl, sym, subst, inl, arith}
 use Rattle.std.specs.List.{find}
 use Rattle.std.specs.Option.{IfSome, IsSome, option_or}
 use Rattle.std.proofs.lemmas.Bool.{and_parts}
@@ -30,12 +30,12 @@ use Rattle.wm_law.specs.Machine.{apply, change}
 use Rattle.wm_law.specs.Named.{if_waiting, is_named, job_named, only_one, waiting_named}
 use Rattle.wm_law.specs.Power.{is_on}
 use Rattle.wm_law.specs.Queues.{cleared_from, clear_queue, hold_queue, release_queue, waits_on}
-use Rattle.wm_law.specs.Reports.{done_with, end_cause, exit_cause, hand_job, hand_order, in_phase, is_handed_to, is_run_by, is_to_kill, phase_word, report_on, start_job, with_kill, with_phase}
+use Rattle.wm_law.specs.Reports.{done_with, end_cause, exit_cause, hand_job, hand_order, in_phase, is_handed_to, is_run_by, is_to_kill, is_unused, phase_word, report_on, start_job, stops_after, with_kill, with_phase}
 use Rattle.wm_law.specs.Schedules.{rescheduled, scheduled}
 use Rattle.wm_law.specs.Sound.{IsSound}
 use Rattle.wm_law.specs.Submitting.{has_numbers, or_described, queue_of, submit_due, submit_with, submitted_job, numbers_end, serials_end}
 use Rattle.wm_law.specs.Subsystems.{start_refusal}
-use Rattle.wm_law.specs.Wishes.{why_cause, with_wish}
+use Rattle.wm_law.specs.Wishes.{with_wish}
 use Rattle.wm_law.specs.declared.call.Call.{Call}
 use Rattle.wm_law.specs.declared.call.Call.TheVariants.{Change, Hand, Started, StartFailed, Finished, UseDone, Tick}
 use Rattle.wm_law.specs.declared.command.Chgjob.{Chgjob}
@@ -51,16 +51,14 @@ use Rattle.wm_law.specs.declared.job.JobKind.{JobKind}
 use Rattle.wm_law.specs.declared.job.JobKind.TheVariants.{Bch}
 use Rattle.wm_law.specs.declared.job.Phase.{Phase}
 use Rattle.wm_law.specs.declared.job.Phase.TheVariants.{Waiting, Starting, Handed, Running, Ended}
-use Rattle.wm_law.specs.declared.job.Why.{Why}
-use Rattle.wm_law.specs.declared.job.Why.TheVariants as why
 use Rattle.wm_law.specs.declared.job.Wish.{Wish}
 use Rattle.wm_law.specs.declared.job.Wish.TheVariants as wish
-use Rattle.wm_law.specs.declared.state.Evoke.{Evoke}
 use Rattle.wm_law.specs.declared.state.Power.{Power}
 use Rattle.wm_law.specs.declared.state.Sbs.{Sbs}
 use Rattle.wm_law.specs.declared.state.State.{State}
+use Rattle.wm_law.specs.declared.state.Stop.{Stop}
 use Rattle.wm_law.specs.Stepped.{Stepped}
-use Rattle.wm_law.proofs.Endings.{IsPhaseAfter, IsWishing, telling, wished, wishing_job, wishing_kill}
+use Rattle.wm_law.proofs.Endings.{telling, wishing_job, wishing_kill}
 use Rattle.wm_law.proofs.Members.{left_in}
 use Rattle.wm_law.proofs.Objects.{class_made, queue_made, program_made, job_description_made, description_made, queue_added, route_added, auto_added, pre_added, queue_removed, route_removed, auto_removed, pre_removed}
 use Rattle.wm_job_rows.specs.Stored.{IsCause, IsPhase, IsQueue, IsRequest, IsStored, stored_of, stored_phase}
@@ -68,10 +66,11 @@ use Rattle.wm_job_rows.specs.declared.stored.StoredJob.{StoredJob}
 use Rattle.wm_tables.specs.Ranges.{IsInRange, IsJobInRange}
 use Rattle.wm_tables.specs.Restart.{IsOfKind}
 use Rattle.wm_tables.proofs.RangedJobs.{AreJobs, jobs_last, jobs_mapped, made_range, phased}
-use Rattle.wm_tables.proofs.RangedLaunches.{at_one, data_length, described_in, request_text, started_range}
+use Rattle.wm_tables.proofs.RangedLaunches.{at_one, data_length, described_in, request_text}
 use Rattle.wm_tables.proofs.RangedMoments.{again_within, due_within}
 use Rattle.wm_tables.proofs.RangedObjects.{class_range, program_range, queue_range, jobd_range, sbsd_range, queue_entry_range, route_entry_range, auto_entry_range, pre_entry_range, without_queue_range, without_route_range, without_auto_range, without_pre_range}
 use Rattle.wm_tables.proofs.RangedRestarts.{held_range}
+use Rattle.wm_tables.proofs.RangedSupplies.{started_range, why_range, wished_range}
 
 -- the jobs change, and nothing else that has a range
 with_jobs : (s : State) (jobs : List Job) (place : ℕ) → AreJobs s.objects jobs → IsInRange s → IsInRange (record s { jobs = jobs; next_place = place })
@@ -84,32 +83,18 @@ phase_range s serial phase h r =
     (jobs_mapped s.objects (changed_at serial (in_phase phase)) s.jobs (λ j i x. at_one s.objects j (in_phase phase j) (j.serial == serial) x (phased s.objects j (in_phase phase j) refl h x)) r.jobs)
     r
 
-why_range : (w : Why) → IsCause (why_cause w)
-why_range why.Endjob = tt
-why_range why.Endsbs = tt
-why_range why.Endpj = tt
-why_range why.Maxuse = tt
-
-after_range : (p q : Phase) → IsPhaseAfter p q → IsPhase (stored_phase p) → IsPhase (stored_phase q)
-after_range p q (inl e) h = subst (λ (x : Phase). IsPhase (stored_phase x)) (sym e) h
-after_range p q (inr e) h = subst (λ (x : Phase). IsPhase (stored_phase x)) (sym e.1.1) (why_range e.1.0)
-
--- jobs are wished to end: of what is stored of them only the phase changes, of those that end so
-pub wished_range : (s : State) (change : Job → Job) (started : List Sbs) (evokes : List Evoke) (power : Power) → IsWishing change → IsInRange s → IsInRange (wished s change started evokes power)
-wished_range s change started evokes power w r = record {
-  objects = r.objects;
-  held = r.held;
-  jobs = jobs_mapped s.objects change s.jobs (λ j i x. phased s.objects j (change j) (ap stored_of (w.same j)) (after_range j.phase (change j).phase (w.phase j) x.stored.phase) x) r.jobs;
-  clock = r.clock;
-}
-
 either : (b : Bool) (t u : Stepped) → (b ≡ true → IsInRange t.state) → (b ≡ false → IsInRange u.state) → IsInRange (cond b t u).state
 either true t u h g = h refl
 either false t u h g = g refl
 
-reported : (s : State) (serial : ℕ) (test : Phase → Bool) (phase : Job → Phase) (o : Option Job) → ((j : Job) → IsPhase (stored_phase (phase j))) → IsInRange s → IsInRange (report_on s serial test phase o).state
-reported s serial test phase None h r = r
-reported s serial test phase (Some j) h r = either (test j.phase) _ _ (λ t. phase_range s serial (phase j) (h j) r) (λ t. r)
+-- stopped entries have no range
+with_stops : (s : State) (stopped : List Stop) → IsInRange s → IsInRange (record s { stopped = stopped })
+with_stops s stopped r = record { objects = r.objects; held = r.held; jobs = r.jobs; clock = r.clock }
+
+reported : (s : State) (serial : ℕ) (test : Phase → Bool) (phase : Job → Phase) (stops : Job → Bool) (o : Option Job) → ((j : Job) → IsPhase (stored_phase (phase j))) → IsInRange s → IsInRange (report_on s serial test phase stops o).state
+reported s serial test phase stops None h r = r
+reported s serial test phase stops (Some j) h r =
+    either (test j.phase) _ _ (λ t. with_stops (with_phase s serial (phase j)) (stops_after stops j s.stopped) (phase_range s serial (phase j) (h j) r)) (λ t. r)
 
 ordered : (s : State) (m : ℕ) (j : Job) (o : Option _) → IsInRange s → IsInRange (hand_order s m j o).state
 ordered s m j None r = r
@@ -417,8 +402,8 @@ change_keeps s user c name h sound r = r
 pub apply_keeps : (s : State) (caller : ℕ) (call : Call) → IsCall call → IsSound s → IsInRange s → IsInRange (apply s caller call).state
 apply_keeps s caller (Change user c) h sound r = change_keeps s user c h.0 h.1 sound r
 apply_keeps s caller Hand h sound r = handed s caller (find (is_to_kill caller) s.jobs) r
-apply_keeps s caller (Started serial) h sound r = reported s serial (is_handed_to caller) (λ j. Running caller) (find (λ j. j.serial == serial) s.jobs) (λ j. tt) r
-apply_keeps s caller (StartFailed serial why) h sound r = reported s serial (is_handed_to caller) (λ j. Ended (cause.StartFailed why)) (find (λ j. j.serial == serial) s.jobs) (λ j. tt) r
-apply_keeps s caller (Finished serial end) h sound r = reported s serial (is_run_by caller) (λ j. Ended (end_cause end j.wish)) (find (λ j. j.serial == serial) s.jobs) (λ j. end_range end j.wish h.1) r
+apply_keeps s caller (Started serial) h sound r = reported s serial (is_handed_to caller) (λ j. Running caller) (λ j. false) (find (λ j. j.serial == serial) s.jobs) (λ j. tt) r
+apply_keeps s caller (StartFailed serial why) h sound r = reported s serial (is_handed_to caller) (λ j. Ended (cause.StartFailed why)) (λ j. true) (find (λ j. j.serial == serial) s.jobs) (λ j. tt) r
+apply_keeps s caller (Finished serial end) h sound r = reported s serial (is_run_by caller) (λ j. Ended (end_cause end j.wish)) is_unused (find (λ j. j.serial == serial) s.jobs) (λ j. end_range end j.wish h.1) r
 apply_keeps s caller (UseDone serial) h sound r = done s caller (find (λ j. j.serial == serial) s.jobs) r
 apply_keeps s caller Tick h sound r = r
