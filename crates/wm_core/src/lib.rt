@@ -35,6 +35,7 @@ mod moments;
 mod not_built;
 mod opening;
 mod pending;
+mod prestarting;
 mod queues;
 mod reports;
 mod schedules;
@@ -43,7 +44,10 @@ mod sound;
 mod stored;
 mod submitting;
 mod subsystems;
+mod supply;
+mod supplying;
 mod taking_back;
+mod uses;
 
 pub use machine::Machine;
 pub use not_built::{NotBuilt, built};

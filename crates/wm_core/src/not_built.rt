@@ -20,9 +20,11 @@ fn is_built(command: &Command) -> bool
         Command::Addjobqe(_) => true,
         Command::Addrtge(_) => true,
         Command::Addaje(_) => true,
+        Command::Addpje(_) => true,
         Command::Rmvjobqe(_) => true,
         Command::Rmvrtge(_) => true,
         Command::Rmvaje(_) => true,
+        Command::Rmvpje(_) => true,
         Command::Strsbs(_) => true,
         Command::Endsbs(_) => true,
         Command::Sbmjob(_) => true,
@@ -33,8 +35,11 @@ fn is_built(command: &Command) -> bool
         Command::Hldjobq(_) => true,
         Command::Rlsjobq(_) => true,
         Command::Clrjobq(_) => true,
+        Command::Strpj(_) => true,
+        Command::Endpj(_) => true,
+        Command::Evoke(_) => true,
+        Command::Enduse(_) => true,
         Command::Pwrdwnsys(_) => true,
-        _ => false,
     }
 }
 

@@ -25,6 +25,7 @@ mod acting;
 mod clearing;
 mod counts;
 mod following;
+mod idle;
 mod marking;
 mod naming;
 mod phases;
