@@ -1,4 +1,5 @@
 pub mod ActivePhases
+pub mod Assigning
 pub mod ByDrafts
 pub mod Endings
 pub mod FromStore
@@ -7,4 +8,5 @@ pub mod Kills
 pub mod NoneDue
 pub mod OrderCounts
 pub mod Reported
+pub mod Supplies
 pub mod Undone

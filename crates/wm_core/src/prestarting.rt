@@ -39,12 +39,7 @@ impl Machine {
     }
 
     // STRPJ of an entry of a subsystem.
-    fn prestart_with(
-        &mut self,
-        alloc: Global,
-        sbs: &QName,
-        pgm: &QName,
-    ) -> Result<Reply, NoMemory>
+    fn prestart_with(&mut self, alloc: Global, sbs: &QName, pgm: &QName) -> Result<Reply, NoMemory>
         ensures reply { IfOk result (λ r. r ≡ (prestart_with self.old.state sbs.now pgm.now (object_named sbs.now self.old.state.objects.sbsds)).reply) }
         ensures state { OnOk result (self.new.state ≡ (prestart_with self.old.state sbs.now pgm.now (object_named sbs.now self.old.state.objects.sbsds)).state) }
         ensures aside { OnErr result (aside_of self.new.state ≡ aside_of self.old.state) }

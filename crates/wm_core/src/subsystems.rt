@@ -16,11 +16,7 @@ use wm_subsystems::is_on;
 const MAX_STARTED: usize = 32;
 
 // Adds the stopped entry, where it has STRJOBS(*NO).
-fn add_unless_started(
-    stops: &mut Vec<Stop>,
-    sbs: &QName,
-    entry: &PreEntry,
-) -> Result<(), NoMemory>
+fn add_unless_started(stops: &mut Vec<Stop>, sbs: &QName, entry: &PreEntry) -> Result<(), NoMemory>
     ensures { OnOk result (stops.new.items ≡ stops.old.items ++ stop_unless_started sbs.now entry.now) }
 {
     if !entry.strjobs {
@@ -117,12 +113,7 @@ impl Machine {
 
     // The subsystem goes last among the started ones, with the stopped entries, and then the job of each draft is made. All
     // memory is taken before anything is changed.
-    fn start_up(
-        &mut self,
-        q: &QName,
-        stops: Vec<Stop>,
-        drafts: Vec<Draft>,
-    ) -> Result<(), NoMemory>
+    fn start_up(&mut self, q: &QName, stops: Vec<Stop>, drafts: Vec<Draft>) -> Result<(), NoMemory>
         requires stops { stops.items ≡ first_stops self.old.state q.now }
         requires numbers { length drafts.items ≤ numbers_left self.old.state }
         ensures ok { OnOk result (self.new.state ≡ fold (enter_draft q.now) (begun self.old.state q.now) drafts.items) }

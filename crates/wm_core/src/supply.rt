@@ -1,12 +1,12 @@
 // Settling's third part over the started subsystems, in the order of their simple names.
-ghost use Rattle.std.specs.Prelude.{◌≡◌, OnOk};
+ghost use Rattle.std.specs.Prelude.{◌≡◌, filter, IfOk, OnOk};
 ghost use Rattle.wm_law.specs.Choice.{is_sbs_active};
-ghost use Rattle.wm_law.specs.Supply.{inserted};
+ghost use Rattle.wm_law.specs.Supply.{in_order, inserted};
 
 use crate::Machine;
 use std::alloc::Global;
 use wm_base::{NoMemory, QName};
-use wm_law::SbsPhase;
+use wm_law::{Sbs, SbsPhase};
 
 fn is_sbs_active(phase: &SbsPhase) -> bool
     ensures { result ≡ is_sbs_active phase.now }
@@ -29,35 +29,31 @@ fn insert_name(names: &mut Vec<QName>, name: QName) -> Result<(), NoMemory>
     Ok(())
 }
 
+// Adds the name of a subsystem, where it is Active.
+fn add_active(names: &mut Vec<QName>, sbs: &Sbs) -> Result<(), NoMemory>
+    ensures { OnOk result (names.new.items ≡ (if is_sbs_active sbs.now.phase then inserted sbs.now.sbsd names.old.items else names.old.items)) }
+{
+    if is_sbs_active(&sbs.phase) {
+        insert_name(names, sbs.sbsd)?;
+    }
+    Ok(())
+}
+
+// The names of the Active subsystems, in the order of their simple names.
+fn active_names(alloc: Global, started: &[Sbs]) -> Result<Vec<QName>, NoMemory>
+    ensures { IfOk result (λ names. names.items ≡ in_order (filter (λ b. is_sbs_active b.phase) started.now)) }
+{
+    let mut names = Vec::new(alloc);
+    for at in (0..started.len()).rev() {
+        add_active(&mut names, &started[at])?;
+    }
+    Ok(names)
+}
+
 impl Machine {
-    ghost use Rattle.std.specs.Prelude.{◌≡◌, false, filter, fold, IfOk, OnOk};
-    ghost use Rattle.wm_law.specs.Choice.{is_sbs_active};
-    ghost use Rattle.wm_law.specs.Supply.{in_order, supply, supply_in};
+    ghost use Rattle.std.specs.Prelude.{◌≡◌, fold, OnOk};
+    ghost use Rattle.wm_law.specs.Supply.{supply, supply_in};
     ghost use Rattle.wm_core.specs.Aside.{aside_of};
-    ghost use Rattle.wm_core.specs.Supplied.{has_entries};
-
-    // Whether an Active subsystem has a prestart entry.
-    fn has_entries(&self) -> bool
-        ensures { result ≡ has_entries self.now.state }
-    {
-        self.started
-            .as_slice()
-            .iter()
-            .any(|sbs| is_sbs_active(&sbs.phase) && !self.pres_of(&sbs.sbsd).is_empty())
-    }
-
-    // The names of the Active subsystems, in the order of their simple names.
-    fn active_names(&self, alloc: Global) -> Result<Vec<QName>, NoMemory>
-        ensures { IfOk result (λ names. names.items ≡ in_order (filter (λ b. is_sbs_active b.phase) self.now.state.started)) }
-    {
-        let mut names = Vec::new(alloc);
-        for sbs in self.started.as_slice().iter().rev() {
-            if is_sbs_active(&sbs.phase) {
-                insert_name(&mut names, sbs.sbsd)?;
-            }
-        }
-        Ok(names)
-    }
 
     fn supply_all(&mut self, alloc: Global, names: &[QName]) -> Result<(), NoMemory>
         ensures ok { OnOk result (self.new.state ≡ fold supply_in self.old.state names.now) }
@@ -70,17 +66,14 @@ impl Machine {
         Ok(())
     }
 
-    /// Waiting requests go to idle prestart jobs, and prestart entries get the jobs that they lack. Where no Active subsystem
-    /// has a prestart entry, nothing is looked at. An `Err` is want of memory, perhaps in the middle.
+    /// Waiting requests go to idle prestart jobs, and prestart entries get the jobs that they lack. An `Err` is want of memory,
+    /// perhaps in the middle.
     pub(crate) fn supply(&mut self, alloc: Global) -> Result<(), NoMemory>
         ensures ok { OnOk result (self.new.state ≡ supply self.old.state) }
         ensures aside { aside_of self.new.state ≡ aside_of self.old.state }
         ensures marks { self.new.marks ≡ self.old.marks }
     {
-        if !self.has_entries() {
-            return Ok(());
-        }
-        let names = self.active_names(alloc)?;
+        let names = active_names(alloc, self.started.as_slice())?;
         self.supply_all(alloc, &names)?;
         Ok(())
     }

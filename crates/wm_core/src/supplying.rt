@@ -116,7 +116,7 @@ impl Machine {
         ensures aside { aside_of self.new.state ≡ aside_of self.old.state }
         ensures marks { self.new.marks ≡ self.old.marks }
     {
-        for _ in 0..jobs {
+        for _made in 0..jobs {
             self.make_pre(alloc, sbs, pgm)?;
         }
         Ok(())

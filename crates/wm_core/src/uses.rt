@@ -166,7 +166,11 @@ impl Machine {
     }
 
     /// UseDone: the job that the monitor runs is done with its request. An `Err` is want of memory and leaves the state.
-    pub(crate) fn report_use_done(&mut self, monitor: u32, serial: Serial) -> Result<Reply, NoMemory>
+    pub(crate) fn report_use_done(
+        &mut self,
+        monitor: u32,
+        serial: Serial,
+    ) -> Result<Reply, NoMemory>
         ensures reply { IfOk result (λ r. r ≡ (use_done self.old.state monitor serial).reply) }
         ensures state { OnOk result (self.new.state ≡ (use_done self.old.state monitor serial).state) }
         ensures marks { OnOk result (self.new.marks ≡ self.old.marks) }
