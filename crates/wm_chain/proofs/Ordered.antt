@@ -58,7 +58,10 @@ tells s call = record {
   enters = λ user c d due has x e. absurd (cc);
   alters = λ reply change place p a x e. absurd (none_told reply p x e);
   holds = λ reply held p a told x e. absurd (none_told reply p x e);
-  ends = λ reply change started evokes power p a told x e. absurd (none_told reply p x e);
+  ends = λ reply change started stopped evokes power p a told x e. absurd (none_told reply p x e);
+  uses = λ reply change p u x e. absurd (none_told reply p x e);
+  waits = λ place evokes x e. absurd (cc);
+  prestarts = λ q d n can x e. absurd (cc);
   kills = λ m j i k x e. absurd (cc);
   makes = λ o c told x e. absurd (cc);
 }

@@ -20,7 +20,7 @@ clock_range : (s : State) (moment : ℕ) → moment ≤ 253402214399 → IsInRan
 clock_range s moment h r = let most = r.clock in record { objects = r.objects; held = r.held; jobs = r.jobs; clock = omega arith }
 
 due_range : (s : State) → IsInRange s → IsInRange (come_due s)
-due_range s r = wished_range s (job_at s.clock (sbss_at s)) (sbss_at s) s.evokes s.power (wishing_at s.clock (sbss_at s)) r
+due_range s r = wished_range s (job_at s.clock (sbss_at s)) (sbss_at s) s.stopped s.evokes s.power (wishing_at s.clock (sbss_at s)) r
 
 leave_range : (s : State) → IsInRange s → IsInRange (leave s)
 leave_range s r = record { objects = r.objects; held = r.held; jobs = r.jobs; clock = r.clock }

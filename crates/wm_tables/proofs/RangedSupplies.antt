@@ -26,6 +26,7 @@ use Rattle.wm_law.specs.declared.state.Evoke.{Evoke}
 use Rattle.wm_law.specs.declared.state.Power.{Power}
 use Rattle.wm_law.specs.declared.state.Sbs.{Sbs}
 use Rattle.wm_law.specs.declared.state.State.{State}
+use Rattle.wm_law.specs.declared.state.Stop.{Stop}
 use Rattle.wm_law.proofs.Endings.{IsPhaseAfter, IsWishing, using, wished}
 use Rattle.wm_law.proofs.Moves.{IsStartable, started_keeps}
 use Rattle.wm_law.proofs.Rounds.{left, left-few}
@@ -46,8 +47,8 @@ after_range p q (inl e) h = subst (λ (x : Phase). IsPhase (stored_phase x)) (sy
 after_range p q (inr e) h = subst (λ (x : Phase). IsPhase (stored_phase x)) (sym e.1.1) (why_range e.1.0)
 
 -- jobs are wished to end, or get a request: of what is stored of them only the phase changes, of those that end so
-pub wished_range : (s : State) (change : Job → Job) (started : List Sbs) (evokes : List Evoke) (power : Power) → IsWishing change → IsInRange s → IsInRange (wished s change started evokes power)
-wished_range s change started evokes power w r = record {
+pub wished_range : (s : State) (change : Job → Job) (started : List Sbs) (stopped : List Stop) (evokes : List Evoke) (power : Power) → IsWishing change → IsInRange s → IsInRange (wished s change started stopped evokes power)
+wished_range s change started stopped evokes power w r = record {
   objects = r.objects;
   held = r.held;
   jobs = jobs_mapped s.objects change s.jobs (λ j i x. phased s.objects j (change j) (ap stored_of (w.same j)) (after_range j.phase (change j).phase (w.phase j) x.stored.phase) x) r.jobs;
@@ -104,7 +105,7 @@ supplies_range = record {
     jobs = jobs_last t.objects t.jobs (new_pre_job t q e.pgm) r.jobs (pre_job_range q d e t can r);
     clock = r.clock;
   };
-  assigns = λ t serial evokes r. wished_range t (active_at serial with_evoke) t.started evokes t.power (using serial) r;
+  assigns = λ t q pgm job evokes can r. wished_range t (active_at job.serial with_evoke) t.started t.stopped evokes t.power (using job.serial) r;
 }
 
 -- a subsystem that starts
