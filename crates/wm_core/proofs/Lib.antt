@@ -1,6 +1,7 @@
 pub mod ActivePhases
 pub mod Assigning
 pub mod ByDrafts
+pub mod Done
 pub mod Endings
 pub mod FromStore
 pub mod InLine

@@ -1,5 +1,5 @@
 -- A report that moves the job of a serial on.
-use Rattle.std.proofs.Common.{◌≡◌, ◌∙◌, ◌==◌, ℕ, Bool, true, cond, Option, Some, refl, sym, ap}
+use Rattle.std.proofs.Common.{◌≡◌, ◌∙◌, ◌==◌, ℕ, Bool, true, cond, Some, ap}
 use Rattle.std.specs.List.{find}
 use Rattle.wm_base.specs.declared.refusal.Refusal.TheVariants.{WrongPhase}
 use Rattle.wm_law.specs.declared.call.Reply.TheVariants.{Noted}
@@ -7,7 +7,7 @@ use Rattle.wm_law.specs.declared.job.Job.{Job}
 use Rattle.wm_law.specs.declared.job.Phase.{Phase}
 use Rattle.wm_law.specs.declared.state.State.{State}
 use Rattle.wm_law.specs.Reports.{phase_word, report, report_on}
-use Rattle.wm_law.specs.Stepped.{Stepped, refused}
+use Rattle.wm_law.specs.Stepped.{refused}
 use Rattle.wm_core.specs.Moved.{moved_on}
 
 -- where the job of the serial passes the test, the state is the one in which it has moved on

@@ -29,7 +29,6 @@ use Rattle.wm_law.specs.declared.command.Crtsbsd.{Crtsbsd}
 use Rattle.wm_law.specs.declared.command.Command.{Command}
 use Rattle.wm_law.specs.declared.command.Command.TheVariants as command
 use Rattle.wm_law.specs.declared.job.Job.{Job}
-use Rattle.wm_law.specs.declared.job.Phase.TheVariants as phases
 use Rattle.wm_law.specs.declared.state.Evoke.{Evoke}
 use Rattle.wm_law.specs.declared.state.Sbs.{Sbs}
 use Rattle.wm_law.specs.declared.state.Stop.{Stop}
@@ -166,19 +165,24 @@ module _ (s : State) where
   -- what is kept as a call begins leads back from the state itself
   kept_by : AreSound s.objects → (c : Command) → IsBack (saved_by s.objects s.held c) s s
   kept_by sound (command.Crtcls c) =
-      let stays = λ e. ap (λ (l : List (QName × Class)). record s.objects { classes = l }) (none_removed c.cls s.objects.classes e) in
+      let stays : has_object c.cls s.objects.classes ≡ false → without_object kind.Cls c.cls s.objects ≡ s.objects =
+      λ e. ap (λ (l : List (QName × Class)). record s.objects { classes = l }) (none_removed c.cls s.objects.classes e) in
       made_object kind.Cls c.cls (has_object c.cls s.objects.classes) (has_object c.cls s.objects.classes) refl s.objects (Some NoJob) (λ n. absurd (cc)) stays stays
   kept_by sound (command.Crtjobq c) =
-      let stays = λ e. ap (λ (l : List (QName × Jobq)). record s.objects { jobqs = l }) (none_removed c.jobq s.objects.jobqs e) in
+      let stays : has_object c.jobq s.objects.jobqs ≡ false → without_object kind.Jobq c.jobq s.objects ≡ s.objects =
+      λ e. ap (λ (l : List (QName × Jobq)). record s.objects { jobqs = l }) (none_removed c.jobq s.objects.jobqs e) in
       made_object kind.Jobq c.jobq (has_object c.jobq s.objects.jobqs) (has_object c.jobq s.objects.jobqs) refl s.objects (Some NoJob) (λ n. absurd (cc)) stays stays
   kept_by sound (command.Crtpgmref c) =
-      let stays = λ e. ap (λ (l : List (QName × Program)). record s.objects { programs = l }) (none_removed c.pgm s.objects.programs e) in
+      let stays : has_object c.pgm s.objects.programs ≡ false → without_object kind.Pgm c.pgm s.objects ≡ s.objects =
+      λ e. ap (λ (l : List (QName × Program)). record s.objects { programs = l }) (none_removed c.pgm s.objects.programs e) in
       made_object kind.Pgm c.pgm (has_object c.pgm s.objects.programs) (has_object c.pgm s.objects.programs) refl s.objects (Some NoJob) (λ n. absurd (cc)) stays stays
   kept_by sound (command.Crtjobd c) =
-      let stays = λ e. ap (λ (l : List (QName × Jobd)). record s.objects { jobds = l }) (none_removed c.jobd s.objects.jobds e) in
+      let stays : has_object c.jobd s.objects.jobds ≡ false → without_object kind.Jobd c.jobd s.objects ≡ s.objects =
+      λ e. ap (λ (l : List (QName × Jobd)). record s.objects { jobds = l }) (none_removed c.jobd s.objects.jobds e) in
       made_object kind.Jobd c.jobd (has_object c.jobd s.objects.jobds) (has_object c.jobd s.objects.jobds) refl s.objects (Some NoJob) (λ n. absurd (cc)) stays stays
   kept_by sound (command.Crtsbsd c) =
-      let stays = λ e. ap (λ (l : List (QName × Sbsd)). record s.objects { sbsds = l }) (none_removed c.sbsd s.objects.sbsds e) in
+      let stays : has_object c.sbsd s.objects.sbsds ≡ false → without_object kind.Sbsd c.sbsd s.objects ≡ s.objects =
+      λ e. ap (λ (l : List (QName × Sbsd)). record s.objects { sbsds = l }) (none_removed c.sbsd s.objects.sbsds e) in
       made_object kind.Sbsd c.sbsd (has_object c.sbsd s.objects.sbsds) (has_object c.sbsd s.objects.sbsds) refl s.objects (Some NoJob) (λ n. absurd (cc)) stays stays
   kept_by sound (command.Addjobqe c) = redescribed sound c.sbsd (λ d. d) (object_named c.sbsd s.objects.sbsds) (Some NoJob) refl
   kept_by sound (command.Addrtge c) = redescribed sound c.sbsd (λ d. d) (object_named c.sbsd s.objects.sbsds) (Some NoJob) refl

@@ -9,7 +9,7 @@ use crate::submitting::{NUMBERS_END, SERIALS_END};
 use std::alloc::Global;
 use wm_base::{Kind, Name, NoMemory, QName, Refusal};
 use wm_desc::{AutoEntry, PreEntry};
-use wm_law::{Reply, Sbs, SbsPhase, Stop};
+use wm_law::{ListOf, Reply, Sbs, SbsPhase, Stop, Stops};
 use wm_subsystems::is_on;
 
 /// How many subsystems may be started.
@@ -29,7 +29,7 @@ fn add_unless_started(stops: &mut Vec<Stop>, sbs: &QName, entry: &PreEntry) -> R
 }
 
 impl Machine {
-    ghost use Rattle.std.specs.Prelude.{◌≡◌, ◌≤◌, length, fold, OnOk, OnErr, IfOk};
+    ghost use Rattle.std.specs.Prelude.{◌≡◌, ◌≤◌, ◌++◌, length, fold, OnOk, OnErr, IfOk};
     ghost use Rattle.wm_law.specs.Autos.{autos_of};
     ghost use Rattle.wm_law.specs.Submitting.{numbers_left};
     ghost use Rattle.wm_law.specs.Subsystems.{is_started, start_refusal, begun, start_subsystem};
@@ -100,37 +100,34 @@ impl Machine {
         None
     }
 
-    // The entries of a subsystem that are stopped as it starts: those with STRJOBS(*NO).
-    fn first_stops(&self, alloc: Global, q: &QName) -> Result<Vec<Stop>, NoMemory>
-        ensures { IfOk result (λ stops. stops.items ≡ first_stops self.now.state q.now) }
+    // The stopped entries, with those of a subsystem that are stopped as it starts: those with STRJOBS(*NO).
+    fn with_stops(&self, alloc: Global, q: &QName) -> Result<Stops, NoMemory>
+        ensures { IfOk result (λ stops. stops ≡ self.now.state.stopped ++ first_stops self.now.state q.now) }
     {
-        let mut stops = Vec::new(alloc);
+        let mut stops = self.stopped.as_slice().to_vec(alloc)?;
         for entry in self.pres_of(q) {
             add_unless_started(&mut stops, q, entry)?;
         }
-        Ok(stops)
+        Ok(ListOf::from(stops))
     }
 
     // The subsystem goes last among the started ones, with the stopped entries, and then the job of each draft is made. All
     // memory is taken before anything is changed.
-    fn start_up(&mut self, q: &QName, stops: Vec<Stop>, drafts: Vec<Draft>) -> Result<(), NoMemory>
-        requires stops { stops.items ≡ first_stops self.old.state q.now }
+    fn start_up(&mut self, q: &QName, stops: Stops, drafts: Vec<Draft>) -> Result<(), NoMemory>
+        requires stops { stops ≡ self.old.state.stopped ++ first_stops self.old.state q.now }
         requires numbers { length drafts.items ≤ numbers_left self.old.state }
         ensures ok { OnOk result (self.new.state ≡ fold (enter_draft q.now) (begun self.old.state q.now) drafts.items) }
         ensures marks { OnOk result (self.new.marks ≡ self.old.marks) }
         ensures err { OnErr result (self.new ≡ self.old) }
     {
         self.table.reserve(drafts.len() as u32)?;
-        self.stopped.items.reserve(stops.len())?;
         // This names the type of what a subsystem's phase may have, which the borrow check asks for.
         let _due = self.table.next_due();
         self.started.push(Sbs {
             sbsd: *q,
             phase: SbsPhase::Active,
         })?;
-        for stop in stops {
-            self.stopped.items.push_reserved(stop);
-        }
+        self.stopped = stops;
         let site = Site {
             sbs: *q,
             objects: &self.objects,
@@ -153,7 +150,7 @@ impl Machine {
             return Ok(Reply::No(refusal));
         }
         let drafts = drafts(alloc, &self.objects.jobds, self.autos_of(q))?;
-        let stops = self.first_stops(alloc, q)?;
+        let stops = self.with_stops(alloc, q)?;
         self.start_up(q, stops, drafts)?;
         self.make_firsts(alloc, q)?;
         Ok(Reply::SbsStarted(*q))

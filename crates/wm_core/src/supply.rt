@@ -1,5 +1,7 @@
 // Settling's third part over the started subsystems, in the order of their simple names.
-ghost use Rattle.std.specs.Prelude.{◌≡◌, filter, IfOk, OnOk};
+ghost use Rattle.std.specs.Prelude.{◌≡◌, filter, if◌then◌else◌, not, position, IfOk, OnOk};
+ghost use Rattle.std.specs.Ordering.{is_lt, nat_cmp};
+ghost use Rattle.std.specs.Cmp.Lexicographic.{slice_cmp};
 ghost use Rattle.wm_law.specs.Choice.{is_sbs_active};
 ghost use Rattle.wm_law.specs.Supply.{in_order, inserted};
 
@@ -17,14 +19,18 @@ fn is_sbs_active(phase: &SbsPhase) -> bool
     }
 }
 
+// The place of the first that doesn't come before a name, in the order of simple names.
+fn place_of(names: &[QName], name: &QName) -> Option<usize>
+    ensures { result ≡ position (λ other. not (is_lt (slice_cmp nat_cmp other.name name.now.name))) names.now }
+{
+    names.iter().position(|other| !(other.name < name.name))
+}
+
 // Adds a name, before the first that doesn't come before it in the order of simple names.
 fn insert_name(names: &mut Vec<QName>, name: QName) -> Result<(), NoMemory>
     ensures { OnOk result (names.new.items ≡ inserted name names.old.items) }
 {
-    let at = names
-        .iter()
-        .position(|other| !(other.name < name.name))
-        .unwrap_or(names.len());
+    let at = place_of(names, &name).unwrap_or(names.len());
     names.insert(at, name)?;
     Ok(())
 }

@@ -1,6 +1,6 @@
 // Settling's third part: waiting requests go to idle prestart jobs, and prestart entries get the jobs that they lack; and the
 // first prestart jobs of a subsystem that starts. Memory may be wanting in the middle: then the step is taken back.
-ghost use Rattle.std.specs.Prelude.{◌≡◌};
+ghost use Rattle.std.specs.Prelude.{◌≡◌, position};
 ghost use Rattle.wm_law.specs.Prestart.{is_evoke_of, without_first};
 
 use crate::Machine;
@@ -17,15 +17,18 @@ pub(crate) fn is_evoke_of(sbs: &QName, pgm: &QName, evoke: &Evoke) -> bool
     evoke.sbs == *sbs && evoke.pgm == *pgm
 }
 
+// The place of the first request that waits for an entry.
+fn first_place(evokes: &[Evoke], sbs: &QName, pgm: &QName) -> Option<usize>
+    ensures { result ≡ position (is_evoke_of sbs.now pgm.now) evokes.now }
+{
+    evokes.iter().position(|evoke| is_evoke_of(sbs, pgm, evoke))
+}
+
 // Takes out the first request that waits for an entry, where there is one.
 fn take_first(evokes: &mut Evokes, sbs: &QName, pgm: &QName)
     ensures { evokes.new ≡ without_first sbs.now pgm.now evokes.old }
 {
-    let first = evokes
-        .items
-        .iter()
-        .position(|evoke| is_evoke_of(sbs, pgm, evoke));
-    if let Some(at) = first {
+    if let Some(at) = first_place(evokes.as_slice(), sbs, pgm) {
         evokes.items.remove(at);
     }
 }

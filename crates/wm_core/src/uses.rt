@@ -160,8 +160,9 @@ impl Machine {
             return Ok(Reply::No(Refusal::NotInUse));
         }
         let name = job.job;
+        let serial = job.serial;
         let how = job.how;
-        self.end_use_of(job.serial, &how)?;
+        self.end_use_of(serial, &how)?;
         Ok(Reply::UseEnded(name))
     }
 
@@ -186,7 +187,7 @@ impl Machine {
             return Ok(Reply::No(Refusal::NotInUse));
         }
         let how = job.how;
-        self.end_use_of(job.serial, &how)?;
+        self.end_use_of(serial, &how)?;
         Ok(Reply::Noted)
     }
 }

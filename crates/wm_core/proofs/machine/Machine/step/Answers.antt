@@ -66,7 +66,7 @@ returns-in-Err-come_due-clause-err c =
     let left : c.come_due.new.self.state ≡ (apply (with_clock s c.args.now) c.args.caller c.args.call.now).state = ap (λ (t : Seen). t.state) back ∙ come in
     let marks : c.come_due.new.self.marks ≡ marks_at s c.args.call.now =
     ap (λ (t : Seen). t.marks) back ∙ (c.apply.ensures.marks ∙ kept _ _ c.args.call.now _ _ c.in_ok-begin.ensures.marks c.self.view_is c.set_clock.ensures.marks) in
-    c.take_back.ensures.state ∙ call_is_undone s c.args.caller c.args.call.now c.args.now c.come_due.new.self.marks c.come_due.new.self.state c.requires.sound.objects marks (ap aside_of left)
+    c.take_back-in-Err-come_due.ensures.state ∙ call_is_undone s c.args.caller c.args.call.now c.args.now c.come_due.new.self.marks c.come_due.new.self.state c.requires.sound.objects marks (ap aside_of left)
 
 pub returns-in-Err-settle-clause-err : goal.returns-in-Err-settle-clause-err
 returns-in-Err-settle-clause-err c =
@@ -77,7 +77,7 @@ returns-in-Err-settle-clause-err c =
     c.in-Err-settle.ensures.aside ∙ ap aside_of (c.in_default.ensures.ok ∙ ap come_due come) in
     let marks : c.settle.new.self.marks ≡ marks_at s c.args.call.now =
     c.settle.ensures.marks ∙ (c.come_due.ensures.marks ∙ (c.apply.ensures.marks ∙ kept _ _ c.args.call.now _ _ c.in_ok-begin.ensures.marks c.self.view_is c.set_clock.ensures.marks)) in
-    c.take_back.ensures.state ∙ call_is_undone s c.args.caller c.args.call.now c.args.now c.settle.new.self.marks c.settle.new.self.state c.requires.sound.objects marks left
+    c.take_back-in-Err-settle.ensures.state ∙ call_is_undone s c.args.caller c.args.call.now c.args.now c.settle.new.self.marks c.settle.new.self.state c.requires.sound.objects marks left
 
 pub returns-clause-state : goal.returns-clause-state
 unfolding step

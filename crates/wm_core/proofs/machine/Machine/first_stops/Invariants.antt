@@ -1,7 +1,0 @@
-use Rattle.std.proofs.Common.{◌≡◌, take}
-use Rattle.wm_core.proofs.Supplies.{stops_of}
-use Rattle.wm_core.proofs.machine.Machine.first_stops.Given as goal
-
--- the stops of the entries so far
-abbrev pub invariant-loop-entry : goal.invariant-loop-entry
-invariant-loop-entry l = l.stops.items ≡ stops_of l.q (take l.entry-index l.entry-items)
