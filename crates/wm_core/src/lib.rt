@@ -6,7 +6,7 @@
 //! gives and leaves the state that it gives; after want of memory the state is as before. `Core::take_back` undoes the last
 //! step without memory. The state is sound, so over a step no start passes a limit, and the jobs are launched in their
 //! order. Nothing in it is due to end, so a step that tells nothing to end looks at the active jobs only where a moment has
-//! come. `Core::pending` tells what waits for a monitor. `built` says which commands users have. `Machine` is what lies in a
+//! come. `Core::pending` tells what waits for a monitor. `Machine` is what lies in a
 //! `Core`, for those that look at it.
 //!
 //! A step can be taken back. Format: as it begins it keeps what the call may change of the objects and the held queues, copies of
@@ -32,7 +32,6 @@ mod machine;
 mod making;
 mod mark;
 mod moments;
-mod not_built;
 mod opening;
 mod pending;
 mod prestarting;
@@ -50,7 +49,6 @@ mod taking_back;
 mod uses;
 
 pub use machine::Machine;
-pub use not_built::{NotBuilt, built};
 pub use opening::Setup;
 pub use sound::Core;
 pub use stored::Kept;

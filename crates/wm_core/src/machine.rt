@@ -56,8 +56,8 @@ impl Model for Machine {
 
 impl Machine {
     ghost use Rattle.std.specs.Prelude.{◌≡◌, true, false, OnOk, OnErr, IfOk};
-    ghost use Rattle.wm_law.specs.Built.{configures};
-    ghost use Rattle.wm_law.specs.Fit.{HasCall, IsCall, IsCommand};
+    ghost use Rattle.wm_law.specs.CallKinds.{configures};
+    ghost use Rattle.wm_law.specs.Fit.{IsCall, IsCommand};
     ghost use Rattle.wm_pick.specs.Parts.{parts_of};
     ghost use Rattle.wm_law.specs.Machine.{change, apply, step, with_clock};
     ghost use Rattle.wm_law.specs.Sound.{HasNoneDue, IsSound};
@@ -191,7 +191,6 @@ impl Machine {
         now: Moment,
     ) -> Result<Reply, NoMemory>
         requires ranges { IsCall call.now }
-        requires built { HasCall call.now }
         requires sound { IsSound self.old.state }
         requires none_due { HasNoneDue self.old.state }
         ensures reply { IfOk result (λ r. r ≡ (step self.old.state caller call.now now).reply) }

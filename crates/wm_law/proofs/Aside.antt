@@ -3,7 +3,7 @@ use Rattle.std.proofs.Common.{◌≡◌, ◌∙◌, ℕ, false, refl, sym}
 use Rattle.std.proofs.lemmas.Bool.{true≢false}
 use Rattle.wm_law.specs.declared.call.Call.{Call}
 use Rattle.wm_law.specs.declared.state.State.{State}
-use Rattle.wm_law.specs.Built.{is_configuring_call}
+use Rattle.wm_law.specs.CallKinds.{is_configuring_call}
 use Rattle.wm_law.specs.Machine.{apply}
 use Rattle.wm_law.proofs.Moves.{HoldsAfterCalls, call_comes, autos_made, started_keeps, prestart_keeps}
 use Rattle.wm_law.proofs.Supplies.{IsSupplied}

@@ -68,7 +68,7 @@ use Rattle.wm_law.specs.Changing.{change_due, change_found, finds_queue, moved_t
 use Rattle.wm_law.specs.Queues.{clear_queue, cleared_from, hold_queue, own_name, release_queue, waits_on}
 use Rattle.wm_law.specs.Jobs.{active_at, waiting_at, with_active}
 use Rattle.wm_law.specs.Wishes.{now_cause, with_wish}
-use Rattle.wm_law.specs.Built.{is_configuring_call, is_ending_call}
+use Rattle.wm_law.specs.CallKinds.{is_configuring_call, is_ending_call}
 use Rattle.wm_law.specs.Choice.{is_held, is_sbs_active, next}
 use Rattle.wm_law.proofs.Alterations.{IsAlteration, IsHolding, IsPlain, altered, clearing_alters, due_alters, ending_alters, holding_alters, moving_alters, plain_changed, plain_cleared, plain_held, plain_job_ended, plain_job_ending, plain_power_down, plain_sbs_ending, plain_queue_held, plain_queue_released, plain_released, plain_pre_ending, plain_evoked, plain_use_ended, plain_noted}
 use Rattle.wm_law.proofs.Endings.{IsEnding, all_end, coming_due, job_ends, kill_ends, those_end, wished, use_ends, done_ends, entry_ends}

@@ -17,7 +17,7 @@ use Rattle.wm_law.specs.declared.state.Sbs.{Sbs}
 use Rattle.wm_law.specs.declared.state.SbsPhase.TheVariants.{Active}
 use Rattle.wm_law.specs.declared.state.State.{State}
 use Rattle.wm_law.specs.Autos.{auto_job, routed_auto, auto_made}
-use Rattle.wm_law.specs.Built.{is_ending_call}
+use Rattle.wm_law.specs.CallKinds.{is_ending_call}
 use Rattle.wm_law.specs.Counts.{is_active, is_in_sbs, is_starting}
 use Rattle.wm_law.specs.Jobs.{active_at, with_active}
 use Rattle.wm_law.specs.Kept.{HasDistinctNames, IsNumbered}

@@ -8,7 +8,7 @@ use Rattle.wm_law.specs.declared.call.Entry.{Entry}
 use Rattle.wm_law.specs.declared.call.Reply.{Reply}
 use Rattle.wm_law.specs.declared.call.Reply.TheVariants.{Made, SbsStarted, SbsEnding, Submitted, Held, Released, Changed, JobEnding, JobEnded, QueueHeld, QueueReleased, QueueCleared, PreStarted, PreEnding, Evoked, EvokeWaits, UseEnded, PowerDown, Order, Nothing, Noted, No}
 use Rattle.wm_law.specs.declared.state.State.{State}
-use Rattle.wm_law.specs.Fit.{IsCall, HasCall}
+use Rattle.wm_law.specs.Fit.{IsCall}
 use Rattle.wm_law.specs.Machine.{step}
 use Rattle.wm_law.specs.Stepped.{Stepped}
 
@@ -25,7 +25,6 @@ after s (e ∷ es) = after (stepped s e).state es
 pub record IsEntry (s : State) (e : Entry) : Type 0 where
   pub caller : e.caller < 2 ^ 32
   pub call : IsCall e.call
-  pub built : HasCall e.call
   pub moment : e.moment ≤ 253402214399
   pub reply : e.reply ≡ (stepped s e).reply
 

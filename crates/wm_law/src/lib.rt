@@ -39,9 +39,9 @@ pub use command::{
 pub use job::{Job, JobKind, Phase, Why, Wish};
 pub use launch::Launched;
 pub use laws::{
-    autostart_jobs_never_wait, built_calls_are_answered, ending_subsystems_have_jobs,
-    first_job_is_least, hand_gives_the_least, jobs_are_launched_in_order, jobs_go_forward,
-    jobs_start_in_order, next_job_is_first, next_moment_is_soonest, no_start_passes_a_limit,
+    autostart_jobs_never_wait, calls_are_answered, ending_subsystems_have_jobs, first_job_is_least,
+    hand_gives_the_least, jobs_are_launched_in_order, jobs_go_forward, jobs_start_in_order,
+    next_job_is_first, next_moment_is_soonest, no_start_passes_a_limit,
     none_is_active_without_power, numbers_are_given_once, refusals_leave_the_state,
     routes_are_least, serials_are_killed_once, serials_start_once, settling_ends_what_is_due,
     settling_leaves_none, started_are_described, started_names_are_distinct,

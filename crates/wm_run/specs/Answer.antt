@@ -32,10 +32,6 @@ is_fault fault = true
 abbrev pub fault_answer : LineFault → List ℕ
 fault_answer fault = if is_fault fault then with_end (fault_text fault) else []
 
--- what is said of a line that isn't built
-abbrev pub not_built : List ℕ
-not_built = codes "CM 9 NOTBUILT"
-
 -- whether a reply refuses
 abbrev pub is_refused : Reply → Bool
 is_refused Made = false

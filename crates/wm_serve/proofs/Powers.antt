@@ -4,7 +4,7 @@ use Rattle.std.specs.Prelude.{codes}
 use Rattle.wm_base.proofs.Iterate.{iterate-keeps}
 use Rattle.wm_traits.specs.declared.row.Row.{Row}
 use Rattle.wm_law.specs.Autos.{autos_of}
-use Rattle.wm_law.specs.Built.{is_ending_call, tells_to_end}
+use Rattle.wm_law.specs.CallKinds.{is_ending_call, tells_to_end}
 use Rattle.wm_law.specs.Endings.{end_active, end_found, end_in_phase, end_started, is_down, is_ending_by, is_wished}
 use Rattle.wm_law.specs.History.{IsLegal, after, stepped}
 use Rattle.wm_law.specs.Launch.{with_routed}

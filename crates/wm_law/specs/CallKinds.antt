@@ -1,40 +1,9 @@
--- Which commands of users are built, which of them tell jobs or subsystems to end, and which change objects or held queues.
+-- Which calls tell jobs or subsystems to end, and which change objects or held queues.
 use Rattle.std.specs.Prelude.{Bool, true, false}
 use Rattle.wm_law.specs.declared.call.Call.{Call}
 use Rattle.wm_law.specs.declared.call.Call.TheVariants.{Change, Hand, Started, StartFailed, Finished, UseDone, Tick}
 use Rattle.wm_law.specs.declared.command.Command.{Command}
 use Rattle.wm_law.specs.declared.command.Command.TheVariants as command
-
--- all commands
-abbrev pub is_built : Command → Bool
-is_built (command.Crtcls c) = true
-is_built (command.Crtjobq c) = true
-is_built (command.Crtpgmref c) = true
-is_built (command.Crtjobd c) = true
-is_built (command.Crtsbsd c) = true
-is_built (command.Addjobqe c) = true
-is_built (command.Addrtge c) = true
-is_built (command.Addaje c) = true
-is_built (command.Addpje c) = true
-is_built (command.Rmvjobqe c) = true
-is_built (command.Rmvrtge c) = true
-is_built (command.Rmvaje c) = true
-is_built (command.Rmvpje c) = true
-is_built (command.Strsbs c) = true
-is_built (command.Endsbs c) = true
-is_built (command.Sbmjob c) = true
-is_built (command.Hldjob c) = true
-is_built (command.Rlsjob c) = true
-is_built (command.Chgjob c) = true
-is_built (command.Endjob c) = true
-is_built (command.Hldjobq c) = true
-is_built (command.Rlsjobq c) = true
-is_built (command.Clrjobq c) = true
-is_built (command.Strpj c) = true
-is_built (command.Endpj c) = true
-is_built (command.Evoke c) = true
-is_built (command.Enduse c) = true
-is_built (command.Pwrdwnsys c) = true
 
 -- the command tells jobs or subsystems to end
 abbrev pub tells_to_end : Command → Bool
