@@ -8,7 +8,6 @@
 mod asked;
 mod calls;
 mod change;
-mod entry;
 mod list;
 mod monitor;
 mod object;
@@ -35,7 +34,7 @@ static FILES: [&str; 10] = [
     "launches.txt",
     "waiting.txt",
     "endings.txt",
-    "built.txt",
+    "prestart.txt",
 ];
 
 fn play_all<R: AllocGlobal + Files + Print>(rt: &R, tested: &mut Tested) -> Result<()> {
