@@ -8,7 +8,7 @@
 //
 // A question that can't be asked is answered by its fault.
 ghost use Rattle.wm_command.specs.Printed.{FitsMachine};
-ghost use Rattle.wm_law.specs.Fit.{IsCall, HasCall};
+ghost use Rattle.wm_law.specs.Fit.{IsCall};
 ghost use Rattle.wm_law.specs.declared.state.State.{State};
 
 use crate::asked::{SESSION, line_of, user_call};
@@ -61,7 +61,6 @@ impl Listed {
 
     fn call(&mut self, caller: u32, made: Call, answer: &mut String) -> Result<()>
         requires fit { IsCall made }
-        requires had { HasCall made }
     {
         let journal = self.journal.as_mut().context("no journal")?;
         if let Err(fault) = call(self.alloc, journal, caller, made, self.now)? {
