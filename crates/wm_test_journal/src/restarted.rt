@@ -1,15 +1,11 @@
-// Ended jobs of the causes that no command or report of today gives.
+// A job that a restart has ended, which no call does.
 use std::alloc::Global;
 use wm_base::{EndCause, JobName, JobNumber, Name, NoMemory, Priority};
 use wm_law::JobKind;
 use wm_listing::listing;
 use wm_views::{JobLine, JobLines, Shown, Status};
 
-/// The causes.
-static CAUSES: [EndCause; 3] = [EndCause::Endpj, EndCause::Maxuse, EndCause::Restarted];
-
-// The line of a job that has ended.
-fn ended(cause: EndCause) -> JobLine {
+fn restarted() -> JobLine {
     JobLine {
         job: JobName {
             number: JobNumber::new(1),
@@ -18,15 +14,13 @@ fn ended(cause: EndCause) -> JobLine {
         },
         kind: JobKind::Bch,
         pty: Priority::new(5),
-        status: Status::Ended(cause),
+        status: Status::Ended(EndCause::Restarted),
     }
 }
 
-/// The listing of a job for each of them.
-pub fn listed_causes(alloc: Global) -> Result<Vec<u8>, NoMemory> {
+/// The listing of that job.
+pub fn listed_restarted(alloc: Global) -> Result<Vec<u8>, NoMemory> {
     let mut lines = Vec::new(alloc);
-    for cause in &CAUSES {
-        lines.push(ended(*cause))?;
-    }
+    lines.push(restarted())?;
     listing(alloc, &Shown::Submitted(JobLines::from(lines)))
 }
