@@ -24,7 +24,7 @@ use tested::Tested;
 use wm_cases::play;
 
 /// The files of cases.
-static FILES: [&str; 10] = [
+static FILES: [&str; 11] = [
     "objects.txt",
     "descriptions.txt",
     "opening.txt",
@@ -35,6 +35,7 @@ static FILES: [&str; 10] = [
     "waiting.txt",
     "endings.txt",
     "prestart.txt",
+    "pools.txt",
 ];
 
 fn play_all<R: AllocGlobal + Files + Print>(rt: &R, tested: &mut Tested) -> Result<()> {
