@@ -59,3 +59,5 @@ pub mod Multiples
 pub mod Rounds
 pub mod FirstIdle
 pub mod UsesUp
+pub mod PresInOrder
+pub mod SoundPrestart

@@ -30,6 +30,7 @@ pub mod Reports
 pub mod Schedules
 pub mod Settling
 pub mod Sound
+pub mod SoundPrestart
 pub mod Stepped
 pub mod Submitting
 pub mod Subsystems

@@ -1,5 +1,6 @@
 // Laws of prestart jobs: what their definitions come to, each for all states. They are no calls.
 ghost use Rattle.wm_law.specs.Prestart.{FirstIdleIsFirst, LeastMultipleIsLeast, RoundsReplenish};
+ghost use Rattle.wm_law.specs.SoundPrestart.{OpeningIsPrestartSound, StatesArePrestartSound, StepKeepsPrestartSound};
 
 /// Where the jobs that came by prestart entries stand in the order of their numbers, an entry's idle job of
 /// least number is the first of its idle jobs in the list, and so the one of least serial.
@@ -15,4 +16,12 @@ pub fn first_idle_job_is_first()
 pub fn rounds_make_what_is_lacking()
     ensures least { LeastMultipleIsLeast }
     ensures rounds { RoundsReplenish }
+{}
+
+/// From the opening state on, the jobs that came by prestart entries stand in the order of their numbers,
+/// whatever was called.
+pub fn prestart_jobs_are_sound()
+    ensures opening { OpeningIsPrestartSound }
+    ensures step { StepKeepsPrestartSound }
+    ensures always { StatesArePrestartSound }
 {}

@@ -1,0 +1,17 @@
+-- What holds of prestart jobs in each state that a history reaches from a sound one.
+use Rattle.std.proofs.Common.{[], ◌∷◌}
+use Rattle.wm_law.specs.History.{stepped}
+use Rattle.wm_law.specs.SoundPrestart.{OpeningIsPrestartSound, StatesArePrestartSound, StepKeepsPrestartSound}
+use Rattle.wm_law.proofs.PresInOrder.{opening_has_pres_in_order, step_keeps_pres_in_order}
+use Rattle.wm_law.proofs.Sound.{step_keeps_sound}
+
+pub opening_is_prestart_sound : OpeningIsPrestartSound
+opening_is_prestart_sound offset = record { order = opening_has_pres_in_order offset }
+
+pub step_keeps_prestart_sound : StepKeepsPrestartSound
+step_keeps_prestart_sound s caller call moment sound h = record { order = step_keeps_pres_in_order s caller call moment sound.numbered h.order }
+
+pub states_are_prestart_sound : StatesArePrestartSound
+states_are_prestart_sound s [] sound h = h
+states_are_prestart_sound s (e ∷ es) sound h =
+    states_are_prestart_sound (stepped s e).state es (step_keeps_sound s e.caller e.call e.moment sound) (step_keeps_prestart_sound s e.caller e.call e.moment sound h)
