@@ -25,7 +25,7 @@ use Rattle.wm_law.specs.Endings.{end_phase, is_ending_by, is_left_to_use, is_wis
 use Rattle.wm_law.specs.Jobs.{active_at}
 use Rattle.wm_law.specs.Kept.{IsNumbered, IsWishOn, wish_rank}
 use Rattle.wm_law.specs.Laws.{IsIn}
-use Rattle.wm_law.specs.Prestart.{with_evoke, after_use, wish_after_use}
+use Rattle.wm_law.specs.Prestart.{with_evoke, after_use, wish_after_use, is_by_pre, is_idle, is_idle_in, is_running}
 use Rattle.wm_law.specs.Reports.{with_kill}
 use Rattle.wm_law.specs.Settling.{ended_by, is_sbs_now, job_at, sbs_at, sbs_moment, sbs_phase_at, sbss_at, unless_started, with_deadline}
 use Rattle.wm_law.specs.Sound.{IsMoment}
@@ -37,6 +37,8 @@ use Rattle.wm_base.specs.declared.limit.Limit.{Limit}
 use Rattle.wm_base.specs.declared.qname.QName.{QName}
 use Rattle.wm_base.specs.Limit.{is_below}
 use Rattle.wm_law.specs.Prestarting.{is_of_entry, prestart_wish, told_with_entry}
+use Rattle.wm_law.specs.Uses.{maxuse_by}
+use Rattle.wm_law.proofs.FirstIdle.{by-entry}
 
 -- a phase stays, or is that of a Starting job which the why of a wish ended
 abbrev pub IsPhaseAfter : Phase → Phase → Type 0
@@ -62,11 +64,33 @@ pub record AreEnded (old new : List Sbs) : Type 0 where
   pub before : (b : Sbs) → IsIn b new → (a : Sbs) × IsIn a old × IsEnded a b
   pub after : (a : Sbs) → IsIn a old → (b : Sbs) × IsIn b new × IsEnded a b
 
--- the jobs are wished to end and the subsystems end; in a numbered state no wish goes back; and the power stays, or none of these is Active
+-- a use and a request stay
+pub record KeepsUse (j k : Job) : Type 0 where
+  pub uses : k.uses ≡ j.uses
+  pub evoke : k.evoke ≡ j.evoke
+
+-- an idle job that came by a prestart entry gets a request
+pub record GetsRequest (j k : Job) : Type 0 where
+  pub by_pre : is_by_pre j.how ≡ true
+  pub idle : is_idle j ≡ true
+  pub with_request : k ≡ with_evoke j
+
+-- a job that runs is done with its request
+pub record IsDone (s : State) (j k : Job) : Type 0 where
+  pub running : is_running j.phase ≡ true
+  pub evoke : j.evoke ≡ true
+  pub after : k ≡ after_use (maxuse_by s j.how) j
+
+-- what becomes of a job's use
+abbrev pub IsUseOn : State → Job → Job → Type 0
+IsUseOn s j k = KeepsUse j k ⊎ (GetsRequest j k ⊎ IsDone s j k)
+
+-- the jobs are wished to end and the subsystems end; in a numbered state no wish goes back, and a use stays, begins or is done; and the power stays, or none of these is Active
 pub record IsEnding (s : State) (change : Job → Job) (started : List Sbs) (power : Power) : Type 0 where
   pub jobs : IsWishing change
   pub subsystems : AreEnded s.started started
   pub onward : IsNumbered s → (j : Job) → IsIn j s.jobs → IsWishOn j.wish (change j).wish
+  pub used : IsNumbered s → (j : Job) → IsIn j s.jobs → IsUseOn s j (change j)
   pub quiet : (power ≡ s.power) ⊎ ((b : Sbs) → IsIn b started → is_sbs_active b.phase ≡ false)
 
 -- the state in which they do
@@ -401,9 +425,41 @@ phase_moment clock sbs_phase.Now h = h
 pub ended_at : (s : State) → AreEnded s.started (sbss_at s)
 ended_at s = ended_each (sbs_at s.clock) (λ b. record { named = refl; active = phase_active s.clock b.phase; moment = phase_moment s.clock b.phase }) s.started
 
+-- a wish leaves a use
+same_use : (j : Job) → KeepsUse j j
+same_use j = record { uses = refl; evoke = refl }
+
+wish_use : (b : Bool) (w : Wish) (j : Job) → KeepsUse j (cond b (with_wish w j) j)
+wish_use true w j = record { uses = refl; evoke = refl }
+wish_use false w j = same_use j
+
+end_use : (o : Option EndCause) (j : Job) → KeepsUse j (ended_by o j)
+end_use None j = same_use j
+end_use (Some c) j = record { uses = refl; evoke = refl }
+
+unstarted_use : (b : Bool) (o : Option EndCause) (j : Job) → KeepsUse j (cond b (ended_by o j) j)
+unstarted_use true o j = end_use o j
+unstarted_use false o j = same_use j
+
+still_use : (i j k : Job) → KeepsUse i j → KeepsUse j k → KeepsUse i k
+still_use i j k a b = record { uses = b.uses ∙ a.uses; evoke = b.evoke ∙ a.evoke }
+
+use_at : (clock : ℕ) (started : List Sbs) (j : Job) → KeepsUse j (job_at clock started j)
+use_at clock started j =
+    let first = told_now (λ b. is_sbs_now b.phase) started j in
+    let second = with_deadline clock first in
+    let third = unless_started second in
+    still_use j second third
+    (still_use j first second (wish_use (is_to_end (λ b. is_sbs_now b.phase) started j) (wish.Now why.Endsbs false) j) (wish_use (is_active first.phase) (deadline clock first) first))
+    (unstarted_use (is_starting second.phase) (now_cause second.wish) second)
+
+told_use : (option : EndOption) (test : Sbs → Bool) (started : List Sbs) (j : Job) → KeepsUse j (told option test started j)
+told_use Cntrld test started j = wish_use (is_left_to_use test started j) (wish.Later None why.Endsbs) j
+told_use Immed test started j = wish_use (is_to_end test started j) (wish.Now why.Endsbs false) j
+
 -- settling's first part ends what is due
 pub coming_due : (s : State) → IsEnding s (job_at s.clock (sbss_at s)) (sbss_at s) s.power
-coming_due s = record { jobs = wishing_at s.clock (sbss_at s); onward = λ n j i. on_at s.clock (sbss_at s) j; subsystems = ended_at s; quiet = inl refl }
+coming_due s = record { jobs = wishing_at s.clock (sbss_at s); onward = λ n j i. on_at s.clock (sbss_at s) j; used = λ n j i. inl (use_at s.clock (sbss_at s) j); subsystems = ended_at s; quiet = inl refl }
 
 end_active : (clock : ℕ) (option : EndOption) (delay : Option ℕ) → is_sbs_active (end_phase clock option delay) ≡ false
 end_active clock Cntrld delay = refl
@@ -489,15 +545,23 @@ stood_starting change h jobs k i p =
 
 -- what ENDJOB on an active job does
 pub job_ends : (s : State) (j : Job) (option : EndOption) (delay : ℕ) → IsIn j s.jobs → is_wished option j.wish ≡ false → IsEnding s (active_at j.serial (with_wish (job_wish s.clock option delay))) s.started s.power
-job_ends s j option delay i e = record { jobs = wishing_job j.serial s.clock option delay; onward = on_job s j option delay i e; subsystems = none_ended s.started; quiet = inl refl }
+job_ends s j option delay i e = record { jobs = wishing_job j.serial s.clock option delay; onward = on_job s j option delay i e; used = λ n k m. inl (wish_use (is_active k.phase && k.serial == j.serial) (job_wish s.clock option delay) k); subsystems = none_ended s.started; quiet = inl refl }
 
 -- what a kill that is handed does
 pub kill_ends : (s : State) (serial : ℕ) → IsEnding s (active_at serial with_kill) s.started s.power
-kill_ends s serial = record { jobs = wishing_kill serial; onward = λ n j i. on_kill j (is_active j.phase && j.serial == serial); subsystems = none_ended s.started; quiet = inl refl }
+kill_ends s serial = record { jobs = wishing_kill serial; onward = λ n j i. on_kill j (is_active j.phase && j.serial == serial); used = λ n j i. inl (wish_use (is_active j.phase && j.serial == serial) (handed_wish j.wish) j); subsystems = none_ended s.started; quiet = inl refl }
 
 -- what a request that a job gets does
-pub use_ends : (s : State) (serial : ℕ) → IsEnding s (active_at serial with_evoke) s.started s.power
-use_ends s serial = record { jobs = using serial; onward = λ n j i. on_same j.wish (active_at serial with_evoke j).wish (used_wish serial (is_active j.phase && j.serial == serial) j); subsystems = none_ended s.started; quiet = inl refl }
+request_by : (s : State) (q pgm : QName) (j : Job) → IsIn j s.jobs → is_idle_in q pgm j ≡ true → IsNumbered s → (i : Job) (b : Bool) → (is_active i.phase && i.serial == j.serial) ≡ b → IsIn i s.jobs → IsUseOn s i (cond b (with_evoke i) i)
+request_by s q pgm j m idle n i true f k =
+    let serial = eqb-true i.serial j.serial (and_parts (is_active i.phase) (i.serial == j.serial) f).1 in
+    let same : i ≡ j = one_by_key (λ (x : Job). x.serial) s.jobs n.serials.distinct i j k m serial in
+    let its : is_idle_in q pgm i ≡ true = ap (is_idle_in q pgm) same ∙ idle in
+    inr (inl (record { by_pre = by-entry q pgm i.how (and_parts (is_from_pre q pgm i.how) (is_idle i) its).0; idle = (and_parts (is_from_pre q pgm i.how) (is_idle i) its).1; with_request = refl }))
+request_by s q pgm j m idle n i false f k = inl (same_use i)
+
+pub use_ends : (s : State) (q pgm : QName) (j : Job) → IsIn j s.jobs → is_idle_in q pgm j ≡ true → IsEnding s (active_at j.serial with_evoke) s.started s.power
+use_ends s q pgm i m idle = record { jobs = using i.serial; onward = λ n j k. on_same j.wish (active_at i.serial with_evoke j).wish (used_wish i.serial (is_active j.phase && j.serial == i.serial) j); used = λ n j k. request_by s q pgm i m idle n j (is_active j.phase && j.serial == i.serial) refl k; subsystems = none_ended s.started; quiet = inl refl }
 
 -- a use that is done
 module _ (serial : ℕ) (maxuse : Limit) where
@@ -548,9 +612,26 @@ module _ (serial : ℕ) (maxuse : Limit) where
   on_done j true = on_used j.uses j.wish
   on_done j false = on_same j.wish j.wish refl
 
--- what the end of a use does
-pub done_ends : (s : State) (serial : ℕ) (maxuse : Limit) → IsEnding s (active_at serial (after_use maxuse)) s.started s.power
-done_ends s serial maxuse = record { jobs = wishing_done serial maxuse; onward = λ n j i. on_done serial maxuse j (is_active j.phase && j.serial == serial); subsystems = none_ended s.started; quiet = inl refl }
+-- what the end of a use by a limit does to jobs
+pub record IsUseEnd (s : State) (change : Job → Job) : Type 0 where
+  pub jobs : IsWishing change
+  pub onward : IsNumbered s → (j : Job) → IsIn j s.jobs → IsWishOn j.wish (change j).wish
+
+pub done_ends : (s : State) (serial : ℕ) (maxuse : Limit) → IsUseEnd s (active_at serial (after_use maxuse))
+done_ends s serial maxuse = record { jobs = wishing_done serial maxuse; onward = λ n j i. on_done serial maxuse j (is_active j.phase && j.serial == serial) }
+
+done_by : (s : State) (j : Job) → IsIn j s.jobs → is_running j.phase ≡ true → j.evoke ≡ true → IsNumbered s → (i : Job) (b : Bool) → (is_active i.phase && i.serial == j.serial) ≡ b → IsIn i s.jobs → IsUseOn s i (cond b (after_use (maxuse_by s j.how) i) i)
+done_by s j m running evoke n i true f k =
+    let serial = eqb-true i.serial j.serial (and_parts (is_active i.phase) (i.serial == j.serial) f).1 in
+    let same : i ≡ j = one_by_key (λ (x : Job). x.serial) s.jobs n.serials.distinct i j k m serial in
+    inr (inr (record { running = ap (λ (x : Job). is_running x.phase) same ∙ running; evoke = ap (λ (x : Job). x.evoke) same ∙ evoke; after = ap (λ (x : Job). after_use (maxuse_by s x.how) i) (sym same) }))
+done_by s j m running evoke n i false f k = inl (same_use i)
+
+-- and so what the end of the use of a job that runs does, by the limit of its entry
+pub use_done_ends : (s : State) (j : Job) → IsIn j s.jobs → is_running j.phase ≡ true → j.evoke ≡ true → IsEnding s (active_at j.serial (after_use (maxuse_by s j.how))) s.started s.power
+use_done_ends s i m running evoke =
+    let done = done_ends s i.serial (maxuse_by s i.how) in
+    record { jobs = done.jobs; onward = done.onward; used = λ n j k. done_by s i m running evoke n j (is_active j.phase && j.serial == i.serial) refl k; subsystems = none_ended s.started; quiet = inl refl }
 
 entry_moment : (clock : ℕ) (option : EndOption) (delay : Option ℕ) → IsMoment (wish_moment (prestart_wish clock option delay))
 entry_moment clock Cntrld delay = delay_moment clock delay
@@ -573,17 +654,18 @@ on_entry clock option delay sbs pgm j true e =
 on_entry clock option delay sbs pgm j false e = on_same j.wish j.wish refl
 
 pub entry_ends : (s : State) (option : EndOption) (delay : Option ℕ) (sbs pgm : QName) → IsEnding s (told_with_entry s.clock option delay sbs pgm) s.started s.power
-entry_ends s option delay sbs pgm = record { jobs = telling_entry s.clock option delay sbs pgm; onward = λ n j i. on_entry s.clock option delay sbs pgm j (is_of_entry option sbs pgm j) refl; subsystems = none_ended s.started; quiet = inl refl }
+entry_ends s option delay sbs pgm = record { jobs = telling_entry s.clock option delay sbs pgm; onward = λ n j i. on_entry s.clock option delay sbs pgm j (is_of_entry option sbs pgm j) refl; used = λ n j i. inl (wish_use (is_of_entry option sbs pgm j) (prestart_wish s.clock option delay) j); subsystems = none_ended s.started; quiet = inl refl }
 
 -- what ENDSBS does
 pub those_end : (s : State) (option : EndOption) (delay : Option ℕ) (test : Sbs → Bool) → IsEnding s (told option test s.started) (map (phased test (end_phase s.clock option delay)) s.started) s.power
-those_end s option delay test = record { jobs = telling option test s.started; onward = λ n j i. on_told option test s.started j; subsystems = ended_by_option test s.clock option delay s.started; quiet = inl refl }
+those_end s option delay test = record { jobs = telling option test s.started; onward = λ n j i. on_told option test s.started j; used = λ n j i. inl (told_use option test s.started j); subsystems = ended_by_option test s.clock option delay s.started; quiet = inl refl }
 
 -- what PWRDWNSYS does
 pub all_end : (s : State) (option : EndOption) (delay : Option ℕ) (power : Power) → IsEnding s (told option (λ b. not (is_ending_by option b.phase)) s.started) (map (phased (λ b. not (is_ending_by option b.phase)) (end_phase s.clock option delay)) s.started) power
 all_end s option delay power = record {
   jobs = telling option (λ b. not (is_ending_by option b.phase)) s.started;
   onward = λ n j i. on_told option (λ b. not (is_ending_by option b.phase)) s.started j;
+  used = λ n j i. inl (told_use option (λ b. not (is_ending_by option b.phase)) s.started j);
   subsystems = ended_by_option (λ b. not (is_ending_by option b.phase)) s.clock option delay s.started;
   quiet = inr (none_stays_active option s.clock delay s.started);
 }

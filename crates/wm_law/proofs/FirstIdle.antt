@@ -10,7 +10,7 @@ use Rattle.wm_law.specs.declared.job.Job.{Job}
 use Rattle.wm_law.specs.Counts.{is_from_pre}
 use Rattle.wm_law.specs.Prestart.{FirstIdleIsFirst, HavePresInOrder, is_by_pre, is_idle, is_idle_in, of_lesser_number}
 
-by-entry : (sbs pgm : QName) (how : How) → is_from_pre sbs pgm how ≡ true → is_by_pre how ≡ true
+pub by-entry : (sbs pgm : QName) (how : How) → is_from_pre sbs pgm how ≡ true → is_by_pre how ≡ true
 by-entry sbs pgm NotYet h = h
 by-entry sbs pgm (FromQueue q queue pty route) h = h
 by-entry sbs pgm (Auto q route) h = h

@@ -60,4 +60,5 @@ pub mod Rounds
 pub mod FirstIdle
 pub mod UsesUp
 pub mod PresInOrder
+pub mod Requests
 pub mod SoundPrestart

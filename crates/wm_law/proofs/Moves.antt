@@ -71,13 +71,12 @@ use Rattle.wm_law.specs.Wishes.{now_cause, with_wish}
 use Rattle.wm_law.specs.CallKinds.{is_configuring_call, is_ending_call}
 use Rattle.wm_law.specs.Choice.{is_held, is_sbs_active, next}
 use Rattle.wm_law.proofs.Alterations.{IsAlteration, IsHolding, IsPlain, altered, clearing_alters, due_alters, ending_alters, holding_alters, moving_alters, plain_changed, plain_cleared, plain_held, plain_job_ended, plain_job_ending, plain_power_down, plain_sbs_ending, plain_queue_held, plain_queue_released, plain_released, plain_pre_ending, plain_evoked, plain_use_ended, plain_noted}
-use Rattle.wm_law.proofs.Endings.{IsEnding, all_end, coming_due, job_ends, kill_ends, those_end, wished, use_ends, done_ends, entry_ends}
+use Rattle.wm_law.proofs.Endings.{IsEnding, all_end, coming_due, job_ends, kill_ends, those_end, wished, use_ends, use_done_ends, entry_ends}
 use Rattle.wm_law.specs.Subsystems.{begun, is_started, max_started, start_refusal, start_unless, started_up, with_autos}
 use Rattle.wm_law.proofs.Members.{found_among, last_in, left_in}
-use Rattle.wm_law.proofs.Supplies.{IsActiveAmong, IsSupplied, firsts_keep, supplied_keeps, made_keeps}
+use Rattle.wm_law.proofs.Supplies.{IsActiveAmong, IsSupplied, firsts_keep, supplied_keeps, made_keeps, IsAssignable, idle_found}
 use Rattle.wm_law.proofs.Objects.{IsObjectChange, class_made, queue_made, program_made, job_description_made, description_made, queue_added, route_added, auto_added, pre_added, queue_removed, route_removed, auto_removed, pre_removed}
 use Rattle.std.specs.Cmp.Lexicographic.{pointwise}
-use Rattle.wm_base.specs.declared.limit.Limit.{Limit}
 use Rattle.wm_desc.specs.declared.description.Sbsd.{Sbsd}
 use Rattle.wm_desc.specs.declared.entry.PreEntry.{PreEntry}
 use Rattle.wm_law.specs.declared.command.Endpj.{Endpj}
@@ -165,12 +164,12 @@ pub record HoldsAfterCalls (P : Stepped → Type 0) (s : State) (call : Call) : 
   pub makes : (o : Objects) → IsObjectChange s o → is_configuring_call call ≡ true → P (record { reply = Made; state = record s { objects = o } })
 
 -- EVOKE on an idle job
-using_request : (s : State) (serial : ℕ) → IsUse s (active_at serial with_evoke)
-using_request s serial = record { ending = use_ends s serial; up = λ n j i u. used_up s.clock s.started (is_active j.phase && j.serial == serial) j u }
+using_request : (s : State) (q pgm : QName) (j : Job) → IsAssignable q pgm s j → IsUse s (active_at j.serial with_evoke)
+using_request s q pgm i can = record { ending = use_ends s q pgm i can.there can.idle; up = λ n j k u. used_up s.clock s.started (is_active j.phase && j.serial == i.serial) j u }
 
 -- the end of a use
-using_done : (s : State) (j : Job) (maxuse : Limit) → IsIn j s.jobs → is_running j.phase ≡ true → IsUse s (active_at j.serial (after_use maxuse))
-using_done s j maxuse i r = record { ending = done_ends s j.serial maxuse; up = λ n k m u. done_at s j maxuse i r n k (is_active k.phase && k.serial == j.serial) refl m u }
+using_done : (s : State) (j : Job) → IsIn j s.jobs → is_running j.phase ≡ true → j.evoke ≡ true → IsUse s (active_at j.serial (after_use (maxuse_by s j.how)))
+using_done s j i r e = record { ending = use_done_ends s j i r e; up = λ n k m u. done_at s j (maxuse_by s j.how) i r n k (is_active k.phase && k.serial == j.serial) refl m u }
 
 unending_active : (p : SbsPhase) → is_ending p ≡ false → is_sbs_active p ≡ true
 unending_active Active e = refl
@@ -286,7 +285,7 @@ module _ (P : Stepped → Type 0) (s : State) (call : Call) (h : HoldsAfterCalls
   use_done : (test : Phase → Bool) (reply : Reply) (j : Job) → IsPlain reply → ((p : Phase) → test p ≡ true → is_running p ≡ true) → IsIn j s.jobs → P (done_with s test reply j)
   use_done test reply j plain runs i =
       either (test j.phase) _ _
-      (λ t. either j.evoke _ _ (λ u. h.uses reply (active_at j.serial (after_use (maxuse_by s j.how))) plain (using_done s j (maxuse_by s j.how) i (runs j.phase t))) (λ u. h.refuses NotInUse))
+      (λ t. either j.evoke _ _ (λ u. h.uses reply (active_at j.serial (after_use (maxuse_by s j.how))) plain (using_done s j i (runs j.phase t) u)) (λ u. h.refuses NotInUse))
       (λ t. h.refuses (WrongPhase (phase_word j.phase)))
 
   use_done_on_found : (m serial : ℕ) (o : Option Job) → find (λ j. j.serial == serial) s.jobs ≡ o → P (use_done_on s m o)
@@ -297,16 +296,16 @@ module _ (P : Stepped → Type 0) (s : State) (call : Call) (h : HoldsAfterCalls
   use_ends_found c (Err x) e = h.refuses x
   use_ends_found c (Ok j) e = use_done is_running (UseEnded j.job) j (plain_use_ended j.job) (λ p t. t) (left_in (is_named c.job) s.jobs j (the_one (filter (is_named c.job) s.jobs) j e))
 
-  evoked : (user : List ℕ) (sbs : QName) (e : PreEntry) (o : Option Job) → P (evoke_on s user sbs e o)
-  evoked user sbs e None =
+  evoked : (user : List ℕ) (sbs : QName) (e : PreEntry) (o : Option Job) → first_idle sbs e.pgm s.jobs ≡ o → P (evoke_on s user sbs e o)
+  evoked user sbs e None k =
       either e.wait _ _
       (λ t. either (nat_le max_evokes (count_evokes sbs e.pgm s.evokes)) _ _ (λ u. h.refuses (WaitListFull max_evokes)) (λ u. h.waits (count_evokes sbs e.pgm s.evokes + 1) _))
       (λ t. h.refuses NoneAvailable)
-  evoked user sbs e (Some j) = h.uses (Evoked j.job) (active_at j.serial with_evoke) (plain_evoked j.job) (using_request s j.serial)
+  evoked user sbs e (Some j) k = h.uses (Evoked j.job) (active_at j.serial with_evoke) (plain_evoked j.job) (using_request s sbs e.pgm j (idle_found sbs e.pgm s j k))
 
   evoked_entry : (user : List ℕ) (sbs : QName) (o : Option PreEntry) → P (evoke_entry s user sbs o)
   evoked_entry user sbs None = h.refuses (NoObject kind.Pje)
-  evoked_entry user sbs (Some e) = either (is_stopped s sbs e.pgm) _ _ (λ t. h.refuses EntryStopped) (λ t. evoked user sbs e (first_idle sbs e.pgm s.jobs))
+  evoked_entry user sbs (Some e) = either (is_stopped s sbs e.pgm) _ _ (λ t. h.refuses EntryStopped) (λ t. evoked user sbs e (first_idle sbs e.pgm s.jobs) refl)
 
   evoked_with : (user : List ℕ) (sbs pgm : QName) (o : Option Sbsd) → P (evoke_with s user sbs pgm o)
   evoked_with user sbs pgm None = h.refuses (NoObject kind.Pje)

@@ -304,7 +304,7 @@ calls s all =
           (record { numbered = begun_keeps s q all.numbered; objects = sound; orders = alike s (begun s q) refl refl (λ j i p. lodged_longer s.started _ j (h.lodged j i p)) h });
       supplies = record {
         makes = λ q d e t can k. record { numbered = n.supplies.makes q d e t can k.numbered; objects = k.objects; orders = pre_made_ordered q d e t can k.objects k.orders };
-        assigns = λ t q pgm job evokes can k. record { numbered = n.supplies.assigns t q pgm job evokes can k.numbered; objects = k.objects; orders = ended_orders t (active_at job.serial with_evoke) t.started t.stopped evokes t.power (use_ends t job.serial) k.orders };
+        assigns = λ t q pgm job evokes can k. record { numbered = n.supplies.assigns t q pgm job evokes can k.numbered; objects = k.objects; orders = ended_orders t (active_at job.serial with_evoke) t.started t.stopped evokes t.power (use_ends t q pgm job can.there can.idle) k.orders };
       };
       enters = λ user c d due has. record {
         numbered = n.enters user c d due has;

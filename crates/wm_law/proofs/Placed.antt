@@ -275,7 +275,7 @@ calls_place : (s : State) → IsNumbered s → ActiveHaveCome s → HoldsOfState
 calls_place s n h = record {
   stays = h;
   starts = λ q e. autos_made ActiveHaveCome s q e (auto_placed q) (λ j i a. placed_still s.started s.objects _ _ j.kind j.jobq j.pty j.how (longer s (record { sbsd = q; phase = Active }) j) (h j i a));
-  supplies = record { makes = pre_placed; assigns = λ t q pgm job evokes can k. ended_placed t (active_at job.serial with_evoke) t.started t.stopped evokes t.power (use_ends t job.serial) k };
+  supplies = record { makes = pre_placed; assigns = λ t q pgm job evokes can k. ended_placed t (active_at job.serial with_evoke) t.started t.stopped evokes t.power (use_ends t q pgm job can.there can.idle) k };
   enters = λ user c d due has. last_placed s (submitted_job s user c d due) (λ a. absurd (cc)) h;
   alters = λ change place a. altered_placed s change place a h;
   holds = λ held a. h;

@@ -17,7 +17,7 @@ use Rattle.wm_law.specs.declared.state.State.{State}
 use Rattle.wm_law.specs.Autos.{auto_job, routed_auto}
 use Rattle.wm_law.specs.Jobs.{active_at, changed_at}
 use Rattle.wm_law.specs.Kept.{IsBelow, IsNumbered}
-use Rattle.wm_law.specs.Launch.{as_launched, from_queue, route, route_fault, routed_from_queue, routed_through, starts_unless, with_routed}
+use Rattle.wm_law.specs.Launch.{as_launched, from_queue, route, route_fault, routed_from_queue, routed_through, starts_unless, with_routed, as_auto, routed_in}
 use Rattle.wm_law.specs.Laws.{IsIn}
 use Rattle.wm_law.specs.Machine.{step}
 use Rattle.wm_law.specs.Opening.{opening}
@@ -118,6 +118,10 @@ through_by_pre s sbs how j (Some e) h = unless_by_pre how e.seq (route_fault s s
 -- no launch of a job of a queue makes it one of a prestart entry
 pub launched_by_queue : (s : State) (sbs queue : QName) (j : Job) → is_by_pre (routed_from_queue s sbs queue j).how ≡ false
 launched_by_queue s sbs queue j = through_by_pre s sbs (from_queue sbs queue j) j (option_and_then (λ d. route d j.rtgdta) (object_named sbs s.objects.sbsds)) (λ seq. refl)
+
+-- nor does that of an autostart job
+pub launched_as_auto : (s : State) (sbs : QName) (j : Job) → is_by_pre (routed_in s sbs (as_auto sbs) j).how ≡ false
+launched_as_auto s sbs j = through_by_pre s sbs (as_auto sbs) j (option_and_then (λ d. route d j.rtgdta) (object_named sbs s.objects.sbsds)) (λ seq. refl)
 
 launched_in_order : (s : State) (c : Candidate) (o : Option Job) → StandInOrder s.jobs → StandInOrder (with_routed s c o).jobs
 launched_in_order s c None h = h

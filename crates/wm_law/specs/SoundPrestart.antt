@@ -1,17 +1,41 @@
 -- What holds of prestart jobs in each state that a history reaches.
-use Rattle.std.specs.Prelude.{ℕ, ℤ, List}
+use Rattle.std.specs.Prelude.{◌≡◌, ℕ, ℤ, Bool, true, false, List}
 use Rattle.wm_law.specs.declared.call.Call.{Call}
 use Rattle.wm_law.specs.declared.call.Entry.{Entry}
+use Rattle.wm_law.specs.declared.job.Job.{Job}
+use Rattle.wm_law.specs.declared.job.JobKind.TheVariants.{Pj}
+use Rattle.wm_law.specs.declared.job.Phase.{Phase}
+use Rattle.wm_law.specs.declared.job.Phase.TheVariants.{Waiting, Starting, Handed, Running, Ended}
 use Rattle.wm_law.specs.declared.state.State.{State}
 use Rattle.wm_law.specs.History.{after}
+use Rattle.wm_law.specs.Laws.{IsIn}
 use Rattle.wm_law.specs.Machine.{step}
+use Rattle.wm_law.specs.Named.{is_ended}
 use Rattle.wm_law.specs.Opening.{opening}
-use Rattle.wm_law.specs.Prestart.{HavePresInOrder}
+use Rattle.wm_law.specs.Prestart.{HavePresInOrder, is_running}
 use Rattle.wm_law.specs.Sound.{IsSound}
 
--- what holds of prestart jobs: those that came by prestart entries stand in the order of their numbers
+-- whether a job of the phase is yet to run
+abbrev pub is_yet_to_run : Phase → Bool
+is_yet_to_run Waiting = true
+is_yet_to_run Starting = true
+is_yet_to_run (Handed m) = true
+is_yet_to_run (Running m) = false
+is_yet_to_run (Ended c) = false
+
+-- of the jobs that haven't ended only Running prestart jobs have a request
+abbrev pub OnlyRunningHaveRequests : State → Type 0
+OnlyRunningHaveRequests s = (j : Job) → IsIn j s.jobs → is_ended j.phase ≡ false → j.evoke ≡ true → (is_running j.phase ≡ true) × (j.kind ≡ Pj)
+
+-- a job that is yet to run has no uses
+abbrev pub OnlyRunHaveUses : State → Type 0
+OnlyRunHaveUses s = (j : Job) → IsIn j s.jobs → is_yet_to_run j.phase ≡ true → j.uses ≡ 0
+
+-- what holds of prestart jobs: those that came by prestart entries stand in the order of their numbers, and of requests and uses what is told above
 pub record IsPrestartSound (s : State) : Type 0 where
   pub order : HavePresInOrder s.jobs
+  pub requests : OnlyRunningHaveRequests s
+  pub uses : OnlyRunHaveUses s
 
 -- it holds of the opening state
 abbrev pub OpeningIsPrestartSound : Type 0

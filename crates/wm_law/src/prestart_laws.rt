@@ -18,8 +18,9 @@ pub fn rounds_make_what_is_lacking()
     ensures rounds { RoundsReplenish }
 {}
 
-/// From the opening state on, the jobs that came by prestart entries stand in the order of their numbers,
-/// whatever was called.
+/// From the opening state on, whatever was called: the jobs that came by prestart entries stand in the order
+/// of their numbers. Of the jobs that haven't ended only Running prestart jobs have a request, and a job that
+/// is yet to run has no uses.
 pub fn prestart_jobs_are_sound()
     ensures opening { OpeningIsPrestartSound }
     ensures step { StepKeepsPrestartSound }
