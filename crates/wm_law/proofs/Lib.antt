@@ -31,6 +31,7 @@ pub mod InTurn
 pub mod ByNumber
 pub mod Routes
 pub mod Subsystems
+pub mod Listed
 pub mod Supplies
 pub mod Opened
 pub mod Counted
@@ -61,4 +62,5 @@ pub mod FirstIdle
 pub mod UsesUp
 pub mod PresInOrder
 pub mod Requests
+pub mod Lists
 pub mod SoundPrestart

@@ -55,7 +55,7 @@ use Rattle.wm_law.specs.Launch.{order_of, launch, pre_entry_for}
 use Rattle.wm_law.specs.Laws.{IsIn}
 use Rattle.wm_law.specs.Machine.{apply, step, with_clock, change}
 use Rattle.wm_law.specs.Making.{made_unless}
-use Rattle.wm_law.specs.Endings.{down_by, end_active, end_found, end_in_phase, end_started, is_down, is_ending_by, is_wished, job_wish, started_named}
+use Rattle.wm_law.specs.Endings.{down_by, end_active, end_found, end_in_phase, end_started, is_down, is_ending_by, is_wished, job_wish, started_named, is_of_those}
 use Rattle.wm_law.specs.Power.{is_on}
 use Rattle.wm_law.specs.Reports.{in_phase, with_phase, hand_job, hand_order, is_to_kill, report_on, start_job, stops_after, is_handed_to, is_run_by, is_unused, phase_word, end_cause, exit_cause, with_kill}
 use Rattle.wm_law.specs.Settling.{come_due, job_at, leave, ready, sbss_at, waiting, is_ending}
@@ -83,12 +83,14 @@ use Rattle.wm_law.specs.declared.command.Endpj.{Endpj}
 use Rattle.wm_law.specs.declared.command.Enduse.{Enduse}
 use Rattle.wm_law.specs.declared.command.Strpj.{Strpj}
 use Rattle.wm_law.specs.declared.state.SbsPhase.{SbsPhase}
-use Rattle.wm_law.specs.Prestart.{after_use, count_available, count_evokes, first_idle, is_running, is_stopped, room, with_evoke}
+use Rattle.wm_law.specs.Prestart.{after_use, count_available, count_evokes, first_idle, is_running, is_stopped, room, with_evoke, is_evoke_of}
 use Rattle.wm_law.specs.Prestarting.{end_entry, end_entry_in, end_entry_with, prestart_entry, prestart_in, prestart_with, prestarted, restarted, without_stop}
-use Rattle.wm_law.specs.Sound.{IsUpToDate}
+use Rattle.wm_law.specs.Sound.{IsUpToDate, CameByEntry}
 use Rattle.wm_law.specs.Uses.{done_with, end_use_found, evoke_entry, evoke_in, evoke_on, evoke_with, max_evokes, maxuse_by, use_done_on}
 use Rattle.wm_law.proofs.Rounds.{room-is}
 use Rattle.wm_law.proofs.UsesUp.{used_up, done_at}
+use Rattle.wm_law.proofs.Listed.{StopsOn, RequestsOn, same_stops, same_requests, requests_left, request_more, stop_more, stops_reported, known_by}
+use Rattle.wm_base.specs.declared.job.How.TheVariants.{Pre}
 
 -- a phase past Waiting, and one that isn't before it
 pub record IsOnward (p q : Phase) : Type 0 where
@@ -151,14 +153,14 @@ pub record HoldsAfterCalls (P : Stepped → Type 0) (s : State) (call : Call) : 
   pub nothing : (is_hand call ≡ false → ⊥) → P (record { reply = Nothing; state = s })
   pub notes : P (record { reply = Noted; state = s })
   pub hands : (m : ℕ) (j : Job) (o : StartOrder) → IsIn j s.jobs → is_starting j.phase ≡ true → order_of s j ≡ Some o → P (record { reply = Order (Start o); state = with_phase s j.serial (Handed m) })
-  pub reports : (serial : ℕ) (j : Job) (phase : Phase) (stopped : List Stop) → IsIn j s.jobs → j.serial ≡ serial → IsMoved j phase → is_starting phase ≡ false → P (record { reply = Noted; state = record (with_phase s serial phase) { stopped = stopped } })
+  pub reports : (serial : ℕ) (j : Job) (phase : Phase) (stopped : StopsOn s) → IsIn j s.jobs → j.serial ≡ serial → IsMoved j phase → is_starting phase ≡ false → P (record { reply = Noted; state = record (with_phase s serial phase) { stopped = stopped.stops } })
   pub starts : (q : QName) → IsStartable s q → P (start_unless s q None)
   pub enters : (user : List ℕ) (c : Sbmjob) (d : Jobd) (due : ℕ) → IsAcceptable s c d due → P (record { reply = Submitted (job_name s user c) (queue_of c d); state = entered s (submitted_job s user c d due) })
   pub alters : (reply : Reply) (change : Job → Job) (place : ℕ) → IsPlain reply → IsAlteration s change place → P (record { reply = reply; state = altered s change place })
   pub holds : (reply : Reply) (held : List QName) → IsPlain reply → IsHolding s held → is_configuring_call call ≡ true → P (record { reply = reply; state = record s { held = held } })
-  pub ends : (reply : Reply) (change : Job → Job) (started : List Sbs) (stopped : List Stop) (evokes : List Evoke) (power : Power) → IsPlain reply → IsEnding s change started power → is_ending_call call ≡ true → P (record { reply = reply; state = wished s change started stopped evokes power })
+  pub ends : (reply : Reply) (change : Job → Job) (started : List Sbs) (stopped : StopsOn s) (evokes : RequestsOn s) (power : Power) → IsPlain reply → IsEnding s change started power → is_ending_call call ≡ true → P (record { reply = reply; state = wished s change started stopped.stops evokes.requests power })
   pub uses : (reply : Reply) (change : Job → Job) → IsPlain reply → IsUse s change → P (record { reply = reply; state = wished s change s.started s.stopped s.evokes s.power })
-  pub waits : (place : ℕ) (evokes : List Evoke) → P (record { reply = EvokeWaits place; state = record s { evokes = evokes } })
+  pub waits : (place : ℕ) (evokes : RequestsOn s) → P (record { reply = EvokeWaits place; state = record s { evokes = evokes.requests } })
   pub prestarts : (q : QName) (d : Sbsd) (e : PreEntry) → IsPrestartable s q d e → P (record { reply = PreStarted; state = prestarted s q d e })
   pub kills : (m : ℕ) (j : Job) → IsIn j s.jobs → is_to_kill m j ≡ true → P (record { reply = Order (Kill j.serial); state = with_active s j.serial with_kill })
   pub makes : (o : Objects) → IsObjectChange s o → is_configuring_call call ≡ true → P (record { reply = Made; state = record s { objects = o } })
@@ -245,7 +247,7 @@ module _ (P : Stepped → Type 0) (s : State) (call : Call) (h : HoldsAfterCalls
   active_ended : (c : Endjob) (j : Job) → is_ending_call call ≡ true → IsIn j s.jobs → P (end_active s c j)
   active_ended c j told i =
       either (is_wished c.option j.wish) _ _ (λ t. h.refuses AlreadyEnding)
-      (λ t. h.ends (JobEnding j.job) (active_at j.serial (with_wish (job_wish s.clock c.option c.delay))) s.started s.stopped s.evokes s.power (plain_job_ending j.job) (job_ends s j c.option c.delay i t) told)
+      (λ t. h.ends (JobEnding j.job) (active_at j.serial (with_wish (job_wish s.clock c.option c.delay))) s.started (same_stops s) (same_requests s) s.power (plain_job_ending j.job) (job_ends s j c.option c.delay i t) told)
 
   ended_in_phase : (c : Endjob) (j : Job) (p : Phase) → is_ending_call call ≡ true → IsIn j s.jobs → P (end_in_phase s c j p)
   ended_in_phase c j Waiting told i = h.alters (JobEnded j.job) (waiting_at j.serial (in_phase (Ended cause.EndedOnQueue))) s.next_place (plain_job_ended j.job) (ending_alters s j.serial)
@@ -262,7 +264,7 @@ module _ (P : Stepped → Type 0) (s : State) (call : Call) (h : HoldsAfterCalls
   sbs_ended c None told = h.refuses SbsNotActive
   sbs_ended c (Some b) told =
       either (is_ending_by c.option b.phase) _ _ (λ t. h.refuses AlreadyEnding)
-      (λ t. h.ends (SbsEnding b.sbsd) _ _ s.stopped _ s.power (plain_sbs_ending b.sbsd) (those_end s c.option c.delay (λ x. same_qname x.sbsd b.sbsd)) told)
+      (λ t. h.ends (SbsEnding b.sbsd) _ _ (same_stops s) (requests_left s (λ e. not (is_of_those (λ x. same_qname x.sbsd b.sbsd) s.started e.sbs))) s.power (plain_sbs_ending b.sbsd) (those_end s c.option c.delay (λ x. same_qname x.sbsd b.sbsd)) told)
 
   ordered : (m : ℕ) (j : Job) (o : Option StartOrder) → P (record { reply = Nothing; state = s }) → IsIn j s.jobs → is_starting j.phase ≡ true → order_of s j ≡ o → P (hand_order s m j o)
   ordered m j None none i k e = none
@@ -276,11 +278,11 @@ module _ (P : Stepped → Type 0) (s : State) (call : Call) (h : HoldsAfterCalls
   handed m None none e = started m (find (λ j. is_starting j.phase) s.jobs) none refl
   handed m (Some j) none e = let f = found_among (is_to_kill m) s.jobs j e in h.kills m j f.0 f.1
 
-  reported : (serial : ℕ) (test : Phase → Bool) (phase : Job → Phase) (stops : Job → Bool) (o : Option Job) → ((j : Job) → test j.phase ≡ true → IsMoved j (phase j)) → ((j : Job) → is_starting (phase j) ≡ false) → find (λ j. j.serial == serial) s.jobs ≡ o → P (report_on s serial test phase stops o)
-  reported serial test phase stops None ranks n e = h.refuses NoJob
-  reported serial test phase stops (Some j) ranks n e =
+  reported : (serial : ℕ) (test : Phase → Bool) (phase : Job → Phase) (stops : Job → Bool) (o : Option Job) → ((p : Phase) → test p ≡ true → is_active p ≡ true) → ((j : Job) → test j.phase ≡ true → IsMoved j (phase j)) → ((j : Job) → is_starting (phase j) ≡ false) → find (λ j. j.serial == serial) s.jobs ≡ o → P (report_on s serial test phase stops o)
+  reported serial test phase stops None active ranks n e = h.refuses NoJob
+  reported serial test phase stops (Some j) active ranks n e =
       let f = found_among (λ (j : Job). j.serial == serial) s.jobs j e in
-      either (test j.phase) _ _ (λ t. h.reports serial j (phase j) (stops_after stops j s.stopped) f.0 (eqb-true j.serial serial f.1) (ranks j t) (n j)) (λ t. h.refuses (WrongPhase (phase_word j.phase)))
+      either (test j.phase) (record { reply = Noted; state = record (with_phase s serial (phase j)) { stopped = stops_after stops j s.stopped } }) _ (λ t. h.reports serial j (phase j) (stops_reported s stops j f.0 (active j.phase t)) f.0 (eqb-true j.serial serial f.1) (ranks j t) (n j)) (λ t. h.refuses (WrongPhase (phase_word j.phase)))
 
   use_done : (test : Phase → Bool) (reply : Reply) (j : Job) → IsPlain reply → ((p : Phase) → test p ≡ true → is_running p ≡ true) → IsIn j s.jobs → P (done_with s test reply j)
   use_done test reply j plain runs i =
@@ -296,38 +298,40 @@ module _ (P : Stepped → Type 0) (s : State) (call : Call) (h : HoldsAfterCalls
   use_ends_found c (Err x) e = h.refuses x
   use_ends_found c (Ok j) e = use_done is_running (UseEnded j.job) j (plain_use_ended j.job) (λ p t. t) (left_in (is_named c.job) s.jobs j (the_one (filter (is_named c.job) s.jobs) j e))
 
-  evoked : (user : List ℕ) (sbs : QName) (e : PreEntry) (o : Option Job) → first_idle sbs e.pgm s.jobs ≡ o → P (evoke_on s user sbs e o)
-  evoked user sbs e None k =
+  evoked : (user : List ℕ) (sbs : QName) (e : PreEntry) (o : Option Job) → CameByEntry s.started s.objects (Pre sbs e.pgm) → first_idle sbs e.pgm s.jobs ≡ o → P (evoke_on s user sbs e o)
+  evoked user sbs e None known k =
       either e.wait _ _
-      (λ t. either (nat_le max_evokes (count_evokes sbs e.pgm s.evokes)) _ _ (λ u. h.refuses (WaitListFull max_evokes)) (λ u. h.waits (count_evokes sbs e.pgm s.evokes + 1) _))
+      (λ t. either (nat_le max_evokes (count_evokes sbs e.pgm s.evokes)) _ _ (λ u. h.refuses (WaitListFull max_evokes)) (λ u. h.waits (count_evokes sbs e.pgm s.evokes + 1) (request_more s (record { user = user; sbs = sbs; pgm = e.pgm }) known u)))
       (λ t. h.refuses NoneAvailable)
-  evoked user sbs e (Some j) k = h.uses (Evoked j.job) (active_at j.serial with_evoke) (plain_evoked j.job) (using_request s sbs e.pgm j (idle_found sbs e.pgm s j k))
+  evoked user sbs e (Some j) known k = h.uses (Evoked j.job) (active_at j.serial with_evoke) (plain_evoked j.job) (using_request s sbs e.pgm j (idle_found sbs e.pgm s j k))
 
-  evoked_entry : (user : List ℕ) (sbs : QName) (o : Option PreEntry) → P (evoke_entry s user sbs o)
-  evoked_entry user sbs None = h.refuses (NoObject kind.Pje)
-  evoked_entry user sbs (Some e) = either (is_stopped s sbs e.pgm) _ _ (λ t. h.refuses EntryStopped) (λ t. evoked user sbs e (first_idle sbs e.pgm s.jobs) refl)
+  evoked_entry : (user : List ℕ) (b : Sbs) (d : Sbsd) (pgm : QName) (o : Option PreEntry) → IsIn b s.started → object_named b.sbsd s.objects.sbsds ≡ Some d → pre_entry_for pgm d ≡ o → P (evoke_entry s user b.sbsd o)
+  evoked_entry user b d pgm None i k f = h.refuses (NoObject kind.Pje)
+  evoked_entry user b d pgm (Some e) i k f = either (is_stopped s b.sbsd e.pgm) _ _ (λ t. h.refuses EntryStopped) (λ t. evoked user b.sbsd e (first_idle b.sbsd e.pgm s.jobs) (known_by s b d pgm e i k f) refl)
 
-  evoked_with : (user : List ℕ) (sbs pgm : QName) (o : Option Sbsd) → P (evoke_with s user sbs pgm o)
-  evoked_with user sbs pgm None = h.refuses (NoObject kind.Pje)
-  evoked_with user sbs pgm (Some d) = evoked_entry user sbs (pre_entry_for pgm d)
+  evoked_with : (user : List ℕ) (b : Sbs) (pgm : QName) (o : Option Sbsd) → IsIn b s.started → object_named b.sbsd s.objects.sbsds ≡ o → P (evoke_with s user b.sbsd pgm o)
+  evoked_with user b pgm None i k = h.refuses (NoObject kind.Pje)
+  evoked_with user b pgm (Some d) i k = evoked_entry user b d pgm (pre_entry_for pgm d) i k refl
 
-  evoked_in : (user : List ℕ) (pgm : QName) (o : Option Sbs) → P (evoke_in s user pgm o)
-  evoked_in user pgm None = h.refuses SbsNotActive
-  evoked_in user pgm (Some b) = either (is_ending b.phase) _ _ (λ t. h.refuses AlreadyEnding) (λ t. evoked_with user b.sbsd pgm (object_named b.sbsd s.objects.sbsds))
+  evoked_in : (user name : List ℕ) (pgm : QName) (o : Option Sbs) → started_named s name ≡ o → P (evoke_in s user pgm o)
+  evoked_in user name pgm None e = h.refuses SbsNotActive
+  evoked_in user name pgm (Some b) e =
+      either (is_ending b.phase) _ _ (λ t. h.refuses AlreadyEnding)
+      (λ t. evoked_with user b pgm (object_named b.sbsd s.objects.sbsds) (found_among (λ (x : Sbs). pointwise nat_eq x.sbsd.name name) s.started b e).0 refl)
 
-  entry_ends_found : (c : Endpj) (sbs : QName) (o : Option PreEntry) → is_ending_call call ≡ true → P (end_entry s c sbs o)
-  entry_ends_found c sbs None told = h.refuses (NoObject kind.Pje)
-  entry_ends_found c sbs (Some e) told =
-      either (is_stopped s sbs e.pgm && count_from_pre sbs e.pgm s.jobs == 0) _ _ (λ t. h.refuses EntryStopped)
-      (λ t. h.ends PreEnding _ s.started _ _ s.power plain_pre_ending (entry_ends s c.option c.delay sbs e.pgm) told)
+  entry_ends_found : (c : Endpj) (b : Sbs) (d : Sbsd) (o : Option PreEntry) → is_ending_call call ≡ true → IsIn b s.started → object_named b.sbsd s.objects.sbsds ≡ Some d → pre_entry_for c.pgm d ≡ o → P (end_entry s c b.sbsd o)
+  entry_ends_found c b d None told i k f = h.refuses (NoObject kind.Pje)
+  entry_ends_found c b d (Some e) told i k f =
+      either (is_stopped s b.sbsd e.pgm && count_from_pre b.sbsd e.pgm s.jobs == 0) _ _ (λ t. h.refuses EntryStopped)
+      (λ t. h.ends PreEnding _ s.started (stop_more s b.sbsd e.pgm (inl (known_by s b d c.pgm e i k f))) (requests_left s (λ x. not (is_evoke_of b.sbsd e.pgm x))) s.power plain_pre_ending (entry_ends s c.option c.delay b.sbsd e.pgm) told)
 
-  entry_ends_with : (c : Endpj) (sbs : QName) (o : Option Sbsd) → is_ending_call call ≡ true → P (end_entry_with s c sbs o)
-  entry_ends_with c sbs None told = h.refuses (NoObject kind.Pje)
-  entry_ends_with c sbs (Some d) told = entry_ends_found c sbs (pre_entry_for c.pgm d) told
+  entry_ends_with : (c : Endpj) (b : Sbs) (o : Option Sbsd) → is_ending_call call ≡ true → IsIn b s.started → object_named b.sbsd s.objects.sbsds ≡ o → P (end_entry_with s c b.sbsd o)
+  entry_ends_with c b None told i k = h.refuses (NoObject kind.Pje)
+  entry_ends_with c b (Some d) told i k = entry_ends_found c b d (pre_entry_for c.pgm d) told i k refl
 
-  entry_ends_in : (c : Endpj) (o : Option Sbs) → is_ending_call call ≡ true → P (end_entry_in s c o)
-  entry_ends_in c None told = h.refuses SbsNotActive
-  entry_ends_in c (Some b) told = entry_ends_with c b.sbsd (object_named b.sbsd s.objects.sbsds) told
+  entry_ends_in : (c : Endpj) (o : Option Sbs) → is_ending_call call ≡ true → started_named s c.sbs ≡ o → P (end_entry_in s c o)
+  entry_ends_in c None told e = h.refuses SbsNotActive
+  entry_ends_in c (Some b) told e = entry_ends_with c b (object_named b.sbsd s.objects.sbsds) told (found_among (λ (x : Sbs). pointwise nat_eq x.sbsd.name c.sbs) s.started b e).0 refl
 
   prestarted_entry : (q : QName) (d : Sbsd) (pgm : QName) (o : Option PreEntry) → IsActiveAmong s.started q → object_named q s.objects.sbsds ≡ Some d → pre_entry_for pgm d ≡ o → P (prestart_entry s q d o)
   prestarted_entry q d pgm None there named e = h.refuses (NoObject kind.Pje)
@@ -366,6 +370,20 @@ run_rank m Starting h = absurd (cc)
 run_rank m (Handed n) h = absurd (cc)
 run_rank m (Running n) h = refl
 run_rank m (Ended c) h = absurd (cc)
+
+handed_active : (m : ℕ) (p : Phase) → is_handed_to m p ≡ true → is_active p ≡ true
+handed_active m Waiting h = absurd (cc)
+handed_active m Starting h = refl
+handed_active m (Handed n) h = refl
+handed_active m (Running n) h = refl
+handed_active m (Ended c) h = absurd (cc)
+
+run_active : (m : ℕ) (p : Phase) → is_run_by m p ≡ true → is_active p ≡ true
+run_active m Waiting h = absurd (cc)
+run_active m Starting h = refl
+run_active m (Handed n) h = refl
+run_active m (Running n) h = refl
+run_active m (Ended c) h = absurd (cc)
 
 past_waiting : (p : Phase) → 0 < phase_rank p → is_waiting p ≡ false
 past_waiting Waiting h = absurd (omega arith)
@@ -430,20 +448,20 @@ changed P s user (command.Hldjobq c) h = queue_held P s _ h c.jobq refl
 changed P s user (command.Rlsjobq c) h = queue_released P s _ h c.jobq refl
 changed P s user (command.Clrjobq c) h = queue_cleared P s _ h c.jobq
 changed P s user (command.Strpj c) h = either P s _ h (is_on s.power) _ _ (λ t. prestarted_in P s _ h c (started_named s c.sbs) refl) (λ t. h.refuses PoweringDown)
-changed P s user (command.Endpj c) h = entry_ends_in P s _ h c (started_named s c.sbs) refl
-changed P s user (command.Evoke c) h = either P s _ h (is_on s.power) _ _ (λ t. evoked_in P s _ h user c.pgm (started_named s c.sbs)) (λ t. h.refuses PoweringDown)
+changed P s user (command.Endpj c) h = entry_ends_in P s _ h c (started_named s c.sbs) refl refl
+changed P s user (command.Evoke c) h = either P s _ h (is_on s.power) _ _ (λ t. evoked_in P s _ h user c.sbs c.pgm (started_named s c.sbs) refl) (λ t. h.refuses PoweringDown)
 changed P s user (command.Enduse c) h = use_ends_found P s _ h c (job_named s c.job) refl
 changed P s user (command.Pwrdwnsys c) h =
     either P s _ h (is_down c.option s.power) _ _ (λ t. h.refuses PoweringDown)
-    (λ t. h.ends PowerDown _ _ s.stopped _ (down_by c.option) plain_power_down (all_end s c.option c.delay (down_by c.option)) refl)
+    (λ t. h.ends PowerDown _ _ (same_stops s) (requests_left s (λ e. not (is_of_those (λ b. not (is_ending_by c.option b.phase)) s.started e.sbs))) (down_by c.option) plain_power_down (all_end s c.option c.delay (down_by c.option)) refl)
 
 -- what holds after whatever the call can come to, holds after the call
 pub call_comes : (P : Stepped → Type 0) (s : State) (caller : ℕ) (call : Call) → HoldsAfterCalls P s call → P (apply s caller call)
 call_comes P s caller (Change user c) h = changed P s user c h
 call_comes P s caller Hand h = handed P s _ h caller (find (is_to_kill caller) s.jobs) (h.nothing (λ n. absurd (cc))) refl
-call_comes P s caller (Started serial) h = reported P s _ h serial (is_handed_to caller) _ (λ j. false) (find (λ j. j.serial == serial) s.jobs) (λ j e. moved_on j (Running caller) 2 (handed_rank caller j.phase e) (omega arith) (omega arith) (omega arith) (λ c d w f. absurd (cc))) (λ j. refl) refl
-call_comes P s caller (StartFailed serial why) h = reported P s _ h serial (is_handed_to caller) _ (λ j. true) (find (λ j. j.serial == serial) s.jobs) (λ j e. moved_on j (Ended (cause.StartFailed why)) 2 (handed_rank caller j.phase e) (omega arith) (omega arith) (omega arith) (λ c d w f. inr (failed_end why d f))) (λ j. refl) refl
-call_comes P s caller (Finished serial end) h = reported P s _ h serial (is_run_by caller) _ is_unused (find (λ j. j.serial == serial) s.jobs) (λ j e. moved_on j (Ended (end_cause end j.wish)) 3 (run_rank caller j.phase e) (omega arith) (omega arith) (omega arith) (λ c d w f. inl (finished_end end j.wish c d w f))) (λ j. refl) refl
+call_comes P s caller (Started serial) h = reported P s _ h serial (is_handed_to caller) _ (λ j. false) (find (λ j. j.serial == serial) s.jobs) (handed_active caller) (λ j e. moved_on j (Running caller) 2 (handed_rank caller j.phase e) (omega arith) (omega arith) (omega arith) (λ c d w f. absurd (cc))) (λ j. refl) refl
+call_comes P s caller (StartFailed serial why) h = reported P s _ h serial (is_handed_to caller) _ (λ j. true) (find (λ j. j.serial == serial) s.jobs) (handed_active caller) (λ j e. moved_on j (Ended (cause.StartFailed why)) 2 (handed_rank caller j.phase e) (omega arith) (omega arith) (omega arith) (λ c d w f. inr (failed_end why d f))) (λ j. refl) refl
+call_comes P s caller (Finished serial end) h = reported P s _ h serial (is_run_by caller) _ is_unused (find (λ j. j.serial == serial) s.jobs) (run_active caller) (λ j e. moved_on j (Ended (end_cause end j.wish)) 3 (run_rank caller j.phase e) (omega arith) (omega arith) (omega arith) (λ c d w f. inl (finished_end end j.wish c d w f))) (λ j. refl) refl
 call_comes P s caller (UseDone serial) h = use_done_on_found P s _ h caller serial (find (λ j. j.serial == serial) s.jobs) refl
 call_comes P s caller Tick h = h.notes
 
@@ -557,14 +575,14 @@ of_states P s call h = record {
   nothing = λ n. h.stays;
   notes = h.stays;
   hands = λ m j o i e f. h.moves j.serial j (Handed m) s.stopped i refl (moved_on j (Handed m) 1 (starting_rank j.phase e) (omega arith) (omega arith) (omega arith) (λ c d w f. absurd (cc))) refl;
-  reports = λ serial j phase stopped i e r n. h.moves serial j phase stopped i e r n;
+  reports = λ serial j phase stopped i e r n. h.moves serial j phase stopped.stops i e r n;
   starts = λ q e. started_keeps P s q e h.supplies (h.starts q e);
   enters = λ user c d due has. h.enters user c d due has;
   alters = λ reply change place p a. h.alters change place a;
   holds = λ reply held p a told. h.holds held a;
-  ends = λ reply change started stopped evokes power p e told. h.ends change started stopped evokes power e;
+  ends = λ reply change started stopped evokes power p e told. h.ends change started stopped.stops evokes.requests power e;
   uses = λ reply change p u. h.ends change s.started s.stopped s.evokes s.power u.ending;
-  waits = λ place evokes. h.lists s.stopped evokes;
+  waits = λ place evokes. h.lists s.stopped evokes.requests;
   prestarts = λ q d e can. prestart_keeps P s q d e can h.supplies (h.lists (without_stop q e.pgm s.stopped) s.evokes);
   kills = λ m j i k. h.ends (active_at j.serial with_kill) s.started s.stopped s.evokes s.power (kill_ends s j.serial);
   makes = λ o c told. h.makes o c;

@@ -204,11 +204,11 @@ pre_placed q d e t can h =
     h
 
 -- what a how names among subsystems and objects is named among others, too
-abbrev IsStillNamed : List Sbs → Objects → List Sbs → Objects → How → Type 0
+abbrev pub IsStillNamed : List Sbs → Objects → List Sbs → Objects → How → Type 0
 IsStillNamed bs o cs p how = (b : Sbs) (d : Sbsd) → IsIn b bs → is_in_sbs b.sbsd how ≡ true → object_named b.sbsd o.sbsds ≡ Some d → (c : Sbs) × IsIn c cs × (c.sbsd ≡ b.sbsd) × (object_named c.sbsd p.sbsds ≡ Some d)
 
 -- a job that is in its place stays there
-placed_still : (bs : List Sbs) (o : Objects) (cs : List Sbs) (p : Objects) (kind : JobKind) (jobq : Option QName) (pty : ℕ) (how : How) → IsStillNamed bs o cs p how → HasCome bs o kind jobq pty how → HasCome cs p kind jobq pty how
+pub placed_still : (bs : List Sbs) (o : Objects) (cs : List Sbs) (p : Objects) (kind : JobKind) (jobq : Option QName) (pty : ℕ) (how : How) → IsStillNamed bs o cs p how → HasCome bs o kind jobq pty how → HasCome cs p kind jobq pty how
 placed_still bs o cs p Bch jobq pty how still h =
     let n = still h.sbs h.sbsd h.started (ap (is_in_sbs h.sbs.sbsd) h.is_how ∙ own_name h.sbs.sbsd) h.described in
     record {
@@ -247,15 +247,15 @@ placed_still bs o cs p Pj jobq pty how still h =
       is_how = h.is_how ∙ ap (λ (q : QName). Pre q h.entry.pgm) (sym n.2);
     }
 
-some_there : {X : Type 0} (o : Option X) (x : X) → o ≡ Some x → is_some o ≡ true
+pub some_there : {X : Type 0} (o : Option X) (x : X) → o ≡ Some x → is_some o ≡ true
 some_there o x e = ap is_some e
 
 -- so where one more subsystem starts, where the subsystems end, and where objects change
-longer : (s : State) (b : Sbs) (j : Job) → IsStillNamed s.started s.objects (s.started ++ b ∷ []) s.objects j.how
-longer s b j x d i its k = (x, in_longer s.started b x i, refl, k)
+pub longer : (s : State) (b : Sbs) (how : How) → IsStillNamed s.started s.objects (s.started ++ b ∷ []) s.objects how
+longer s b how x d i its k = (x, in_longer s.started b x i, refl, k)
 
-ending : (s : State) (started : List Sbs) (j : Job) → AreEnded s.started started → IsStillNamed s.started s.objects started s.objects j.how
-ending s started j e x d i its k =
+pub ending : (s : State) (started : List Sbs) (how : How) → AreEnded s.started started → IsStillNamed s.started s.objects started s.objects how
+ending s started how e x d i its k =
     let m = e.after x i in
     let same = m.2 in
     (m.0, m.1, same.named, ap (λ (q : QName). object_named q s.objects.sbsds) same.named ∙ k)
@@ -265,16 +265,16 @@ ended_placed s change started stopped evokes power e h k i a =
     let m = of_mapped change s.jobs k i in
     let j = m.0 in
     let active : is_active j.phase ≡ true = was_active j.phase (change j).phase (e.jobs.phase j) (ap (λ (x : Job). is_active x.phase) (sym m.2) ∙ a) in
-    let placed = placed_still s.started s.objects started s.objects j.kind j.jobq j.pty j.how (ending s started j e.subsystems) (h j m.1 active) in
+    let placed = placed_still s.started s.objects started s.objects j.kind j.jobq j.pty j.how (ending s started j.how e.subsystems) (h j m.1 active) in
     subst (λ (x : Job). HasCome started s.objects x.kind x.jobq x.pty x.how) (sym (m.2 ∙ e.jobs.same j)) placed
 
-remade : (s : State) (o : Objects) (j : Job) → IsObjectChange s o → IsStillNamed s.started s.objects s.started o j.how
-remade s o j c x d i its k = (x, i, refl, c.described x i (some_there (object_named x.sbsd s.objects.sbsds) d k) ∙ k)
+pub remade : (s : State) (o : Objects) (how : How) → IsObjectChange s o → IsStillNamed s.started s.objects s.started o how
+remade s o how c x d i its k = (x, i, refl, c.described x i (some_there (object_named x.sbsd s.objects.sbsds) d k) ∙ k)
 
 calls_place : (s : State) → IsNumbered s → ActiveHaveCome s → HoldsOfStates ActiveHaveCome s
 calls_place s n h = record {
   stays = h;
-  starts = λ q e. autos_made ActiveHaveCome s q e (auto_placed q) (λ j i a. placed_still s.started s.objects _ _ j.kind j.jobq j.pty j.how (longer s (record { sbsd = q; phase = Active }) j) (h j i a));
+  starts = λ q e. autos_made ActiveHaveCome s q e (auto_placed q) (λ j i a. placed_still s.started s.objects _ _ j.kind j.jobq j.pty j.how (longer s (record { sbsd = q; phase = Active }) j.how) (h j i a));
   supplies = record { makes = pre_placed; assigns = λ t q pgm job evokes can k. ended_placed t (active_at job.serial with_evoke) t.started t.stopped evokes t.power (use_ends t q pgm job can.there can.idle) k };
   enters = λ user c d due has. last_placed s (submitted_job s user c d due) (λ a. absurd (cc)) h;
   alters = λ change place a. altered_placed s change place a h;
@@ -282,7 +282,7 @@ calls_place s n h = record {
   lists = λ stopped evokes. h;
   moves = λ serial j phase stopped i e r k. moved_placed s serial j phase n h i e r.onward;
   ends = λ change started stopped evokes power e. ended_placed s change started stopped evokes power e h;
-  makes = λ o c j i a. placed_still s.started s.objects _ _ j.kind j.jobq j.pty j.how (remade s o j c) (h j i a);
+  makes = λ o c j i a. placed_still s.started s.objects _ _ j.kind j.jobq j.pty j.how (remade s o j.how c) (h j i a);
 }
 
 -- a subsystem with an active job doesn't leave

@@ -28,6 +28,7 @@ use Rattle.wm_law.proofs.Rounds.{left, left-few, left-made, room-is}
 use Rattle.std.specs.List.{list_any}
 use Rattle.wm_base.proofs.Tests.{Some-injective}
 use Rattle.wm_law.specs.declared.job.Job.{Job}
+use Rattle.wm_law.proofs.Listed.{IsPartOf, part_without}
 
 -- a job can be made for the entry: its subsystem is started and Active, the description has the entry, and there is room
 pub record IsSuppliable (q : QName) (d : Sbsd) (e : PreEntry) (t : State) : Type 0 where
@@ -44,10 +45,16 @@ pub record IsAssignable (q pgm : QName) (t : State) (job : Job) : Type 0 where
   pub there : IsIn job t.jobs
   pub idle : is_idle_in q pgm job ≡ true
 
+-- and there are those requests then, all of which waited before
+pub record IsAssigned (q pgm : QName) (t : State) (job : Job) (evokes : List Evoke) : Type 0 where
+  pub there : IsIn job t.jobs
+  pub idle : is_idle_in q pgm job ≡ true
+  pub part : IsPartOf evokes t.evokes
+
 -- P is kept where a job is made for an entry, and where a job gets a request
 pub record IsSupplied (P : State → Type 0) : Type 0 where
   pub makes : (q : QName) (d : Sbsd) (e : PreEntry) (t : State) → IsSuppliable q d e t → P t → P (make_pre q e.pgm t)
-  pub assigns : (t : State) (q pgm : QName) (job : Job) (evokes : List Evoke) → IsAssignable q pgm t job → P t → P (wished t (active_at job.serial with_evoke) t.started t.stopped evokes t.power)
+  pub assigns : (t : State) (q pgm : QName) (job : Job) (evokes : List Evoke) → IsAssigned q pgm t job evokes → P t → P (wished t (active_at job.serial with_evoke) t.started t.stopped evokes t.power)
 
 few : (b : Bool) (m n : ℕ) → m ≤ n → cond b m 0 ≤ n
 few true m n h = h
@@ -124,8 +131,10 @@ assignable_by : (b : Bool) (o : Option Job) (j : Job) → cond b o None ≡ Some
 assignable_by true o j e = e
 assignable_by false o j e = absurd (cc)
 
-assignable : (q pgm : QName) (t : State) (j : Job) → assign q pgm t ≡ Some j → IsAssignable q pgm t j
-assignable q pgm t j e = idle_found q pgm t j (assignable_by (list_any (is_evoke_of q pgm) t.evokes) (first_idle q pgm t.jobs) j e)
+gets : (q pgm : QName) (t : State) (j : Job) → assign q pgm t ≡ Some j → IsAssigned q pgm t j (without_first q pgm t.evokes)
+gets q pgm t j e =
+    let found = idle_found q pgm t j (assignable_by (list_any (is_evoke_of q pgm) t.evokes) (first_idle q pgm t.jobs) j e) in
+    record { there = found.there; idle = found.idle; part = part_without q pgm t.evokes }
 
 -- a subsystem of the name is among them, and Active
 abbrev pub IsActiveAmong : List Sbs → QName → Type 0
@@ -140,7 +149,7 @@ module _ (P : State → Type 0) (keeps : IsSupplied P) (bs : List Sbs) (o : Obje
 
   assigned_carried : (q pgm : QName) (t : State) → IsCarried t → IsCarried (assigned t q pgm)
   assigned_carried q pgm t c =
-      iterate-keeps IsCarried (record { by_step = λ s j e h. record { holds = keeps.assigns s q pgm j (without_first q pgm s.evokes) (assignable q pgm s j e) h.holds; started = h.started; objects = h.objects } }) (length t.evokes) t c
+      iterate-keeps IsCarried (record { by_step = λ s j e h. record { holds = keeps.assigns s q pgm j (without_first q pgm s.evokes) (gets q pgm s j e) h.holds; started = h.started; objects = h.objects } }) (length t.evokes) t c
 
   module _ (q : QName) (d : Sbsd) (there : IsActiveAmong bs q) (named : object_named q o.sbsds ≡ Some d) where
     suppliable : (e : PreEntry) (t : State) → IsIn e d.pres → IsCarried t → 0 < left q d e t → IsSuppliable q d e t

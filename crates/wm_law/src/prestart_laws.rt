@@ -20,7 +20,8 @@ pub fn rounds_make_what_is_lacking()
 
 /// From the opening state on, whatever was called: the jobs that came by prestart entries stand in the order
 /// of their numbers. Of the jobs that haven't ended only Running prestart jobs have a request, and a job that
-/// is yet to run has no uses.
+/// is yet to run has no uses. Each stopped entry, and each entry for which a request waits, is one of a started
+/// subsystem's description, and at most 1,000 requests wait for one entry.
 pub fn prestart_jobs_are_sound()
     ensures opening { OpeningIsPrestartSound }
     ensures step { StepKeepsPrestartSound }
