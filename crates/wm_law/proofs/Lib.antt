@@ -63,4 +63,6 @@ pub mod UsesUp
 pub mod PresInOrder
 pub mod Requests
 pub mod Lists
+pub mod Usable
 pub mod SoundPrestart
+pub mod Maxuse

@@ -99,14 +99,14 @@ waiting_yet (Handed m) h = absurd (cc)
 waiting_yet (Running m) h = absurd (cc)
 waiting_yet (Ended c) h = absurd (cc)
 
-running_now : (p : Phase) → is_running p ≡ true → (is_yet_to_run p ≡ false) × (is_active p ≡ true)
+pub running_now : (p : Phase) → is_running p ≡ true → (is_yet_to_run p ≡ false) × (is_active p ≡ true)
 running_now Waiting h = absurd (cc)
 running_now Starting h = absurd (cc)
 running_now (Handed m) h = absurd (cc)
 running_now (Running m) h = (refl, refl)
 running_now (Ended c) h = absurd (cc)
 
-idle_runs : (j : Job) → is_idle j ≡ true → is_running j.phase ≡ true
+pub idle_runs : (j : Job) → is_idle j ≡ true → is_running j.phase ≡ true
 idle_runs j h = (and_parts (is_running j.phase) (not j.evoke) (and_parts (is_running j.phase && not j.evoke) (not (has_wish j.wish)) h).0).0
 
 -- a job that waits has neither a request nor uses

@@ -16,6 +16,7 @@ pub mod Leaving
 pub mod Limits
 pub mod Machine
 pub mod Making
+pub mod Maxuse
 pub mod Named
 pub mod NextMoment
 pub mod Objects

@@ -1,4 +1,5 @@
 // Laws of prestart jobs: what their definitions come to, each for all states. They are no calls.
+ghost use Rattle.wm_law.specs.Maxuse.{LegalAreCalls, MaxuseIsKept, OpeningIsWithinMaxuse, StepKeepsMaxuse, UsesAreKept};
 ghost use Rattle.wm_law.specs.Prestart.{FirstIdleIsFirst, LeastMultipleIsLeast, RoundsReplenish};
 ghost use Rattle.wm_law.specs.SoundPrestart.{OpeningIsPrestartSound, StatesArePrestartSound, StepKeepsPrestartSound};
 
@@ -26,4 +27,15 @@ pub fn prestart_jobs_are_sound()
     ensures opening { OpeningIsPrestartSound }
     ensures step { StepKeepsPrestartSound }
     ensures always { StatesArePrestartSound }
+{}
+
+/// Where each call keeps its ranges, each prestart entry lets its jobs be used: MAXUSE is *NOMAX or at least 1.
+/// The uses of each active prestart job are at most its entry's MAXUSE, and those of an idle one are below it.
+/// In a legal history each call keeps its ranges.
+pub fn uses_stay_within_maxuse()
+    ensures opening { OpeningIsWithinMaxuse }
+    ensures step { StepKeepsMaxuse }
+    ensures always { MaxuseIsKept }
+    ensures legal { LegalAreCalls }
+    ensures uses { UsesAreKept }
 {}
