@@ -22,7 +22,7 @@ use Rattle.wm_law.specs.declared.call.Reply.TheVariants.{QueueHeld, QueueRelease
 use Rattle.wm_law.specs.declared.command.Command.{Command}
 use Rattle.wm_law.specs.declared.command.Command.TheVariants as command
 use Rattle.wm_law.specs.declared.state.State.{State}
-use Rattle.wm_law.specs.Built.{is_configuring_call}
+use Rattle.wm_law.specs.CallKinds.{is_configuring_call}
 use Rattle.wm_law.specs.Choice.{is_held}
 use Rattle.wm_law.specs.Fit.{IsCall}
 use Rattle.wm_law.specs.Laws.{IsIn}
