@@ -35,6 +35,7 @@ pub mod SoundPrestart
 pub mod Stepped
 pub mod Submitting
 pub mod Subsystems
+pub mod Supplied
 pub mod Supply
 pub mod Uses
 pub mod Wishes

@@ -50,8 +50,12 @@ pub use laws::{
 };
 pub use list::ListOf;
 pub use pending::Pending;
+<<<<<<< HEAD
 pub use prestart_laws::{
     first_idle_job_is_first, prestart_jobs_are_sound, rounds_make_what_is_lacking,
     uses_stay_within_maxuse,
 };
+=======
+pub use prestart_laws::{entries_are_served, first_idle_job_is_first, rounds_make_what_is_lacking};
+>>>>>>> 6fa0b2b0 (wm_law: once the state has settled, no prestart entry has both an idle job and a waiting request)
 pub use state::{Evoke, Evokes, Jobs, Power, QNames, Sbs, SbsList, SbsPhase, State, Stop, Stops};
