@@ -2,10 +2,14 @@
 ghost use Rattle.wm_law.specs.Maxuse.{LegalAreCalls, MaxuseIsKept, OpeningIsWithinMaxuse, StepKeepsMaxuse, UsesAreKept};
 ghost use Rattle.wm_law.specs.Prestart.{FirstIdleIsFirst, LeastMultipleIsLeast, RoundsReplenish};
 <<<<<<< HEAD
+<<<<<<< HEAD
 ghost use Rattle.wm_law.specs.SoundPrestart.{OpeningIsPrestartSound, StatesArePrestartSound, StepKeepsPrestartSound};
 =======
 ghost use Rattle.wm_law.specs.Supplied.{EntriesAreServed, SettlingServes, StepServes, SupplyServes, SupplyServesEntry};
 >>>>>>> 6fa0b2b0 (wm_law: once the state has settled, no prestart entry has both an idle job and a waiting request)
+=======
+ghost use Rattle.wm_law.specs.Supplied.{EntriesAreServed, EntriesHaveTheirJobs, SettlingGivesJobs, SettlingServes, StepGivesJobs, StepServes, SupplyGivesEntryJobs, SupplyGivesJobs, SupplyServes, SupplyServesEntry};
+>>>>>>> ae605a0d (wm_law: once the state has settled, no prestart entry lacks jobs that it could get)
 
 /// Where the jobs that came by prestart entries stand in the order of their numbers, an entry's idle job of
 /// least number is the first of its idle jobs in the list, and so the one of least serial.
@@ -54,4 +58,16 @@ pub fn entries_are_served()
     ensures step { StepServes }
     ensures always { EntriesAreServed }
 >>>>>>> 6fa0b2b0 (wm_law: once the state has settled, no prestart entry has both an idle job and a waiting request)
+{}
+
+/// Once the state has settled, a prestart entry of an Active subsystem is stopped, has THRESHOLD available jobs,
+/// or adds none; or its MAXJOBS or that of its subsystem is reached, or no number is left. Each entry's supply
+/// leaves it so, and neither the supply of later entries nor the jobs that then start take an available job
+/// away or make room.
+pub fn entries_have_their_jobs()
+    ensures entry { SupplyGivesEntryJobs }
+    ensures supply { SupplyGivesJobs }
+    ensures settling { SettlingGivesJobs }
+    ensures step { StepGivesJobs }
+    ensures always { EntriesHaveTheirJobs }
 {}
