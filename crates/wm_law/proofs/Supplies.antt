@@ -131,15 +131,13 @@ assignable_by : (b : Bool) (o : Option Job) (j : Job) → cond b o None ≡ Some
 assignable_by true o j e = e
 assignable_by false o j e = absurd (cc)
 
-<<<<<<< HEAD
 gets : (q pgm : QName) (t : State) (j : Job) → assign q pgm t ≡ Some j → IsAssigned q pgm t j (without_first q pgm t.evokes)
 gets q pgm t j e =
     let found = idle_found q pgm t j (assignable_by (list_any (is_evoke_of q pgm) t.evokes) (first_idle q pgm t.jobs) j e) in
     record { there = found.there; idle = found.idle; part = part_without q pgm t.evokes }
-=======
+
 pub assignable : (q pgm : QName) (t : State) (j : Job) → assign q pgm t ≡ Some j → IsAssignable q pgm t j
 assignable q pgm t j e = idle_found q pgm t j (assignable_by (list_any (is_evoke_of q pgm) t.evokes) (first_idle q pgm t.jobs) j e)
->>>>>>> 6fa0b2b0 (wm_law: once the state has settled, no prestart entry has both an idle job and a waiting request)
 
 -- a subsystem of the name is among them, and Active
 abbrev pub IsActiveAmong : List Sbs → QName → Type 0

@@ -50,16 +50,8 @@ pub use laws::{
 };
 pub use list::ListOf;
 pub use pending::Pending;
-<<<<<<< HEAD
-<<<<<<< HEAD
 pub use prestart_laws::{
-    first_idle_job_is_first, prestart_jobs_are_sound, rounds_make_what_is_lacking,
-    uses_stay_within_maxuse,
+    entries_are_served, entries_have_their_jobs, first_idle_job_is_first, prestart_jobs_are_sound,
+    rounds_make_what_is_lacking, uses_stay_within_maxuse,
 };
-=======
-pub use prestart_laws::{entries_are_served, first_idle_job_is_first, rounds_make_what_is_lacking};
->>>>>>> 6fa0b2b0 (wm_law: once the state has settled, no prestart entry has both an idle job and a waiting request)
-=======
-pub use prestart_laws::{entries_are_served, entries_have_their_jobs, first_idle_job_is_first, rounds_make_what_is_lacking};
->>>>>>> ae605a0d (wm_law: once the state has settled, no prestart entry lacks jobs that it could get)
 pub use state::{Evoke, Evokes, Jobs, Power, QNames, Sbs, SbsList, SbsPhase, State, Stop, Stops};

@@ -1,15 +1,8 @@
 // Laws of prestart jobs: what their definitions come to, each for all states. They are no calls.
 ghost use Rattle.wm_law.specs.Maxuse.{LegalAreCalls, MaxuseIsKept, OpeningIsWithinMaxuse, StepKeepsMaxuse, UsesAreKept};
 ghost use Rattle.wm_law.specs.Prestart.{FirstIdleIsFirst, LeastMultipleIsLeast, RoundsReplenish};
-<<<<<<< HEAD
-<<<<<<< HEAD
 ghost use Rattle.wm_law.specs.SoundPrestart.{OpeningIsPrestartSound, StatesArePrestartSound, StepKeepsPrestartSound};
-=======
-ghost use Rattle.wm_law.specs.Supplied.{EntriesAreServed, SettlingServes, StepServes, SupplyServes, SupplyServesEntry};
->>>>>>> 6fa0b2b0 (wm_law: once the state has settled, no prestart entry has both an idle job and a waiting request)
-=======
 ghost use Rattle.wm_law.specs.Supplied.{EntriesAreServed, EntriesHaveTheirJobs, SettlingGivesJobs, SettlingServes, StepGivesJobs, StepServes, SupplyGivesEntryJobs, SupplyGivesJobs, SupplyServes, SupplyServesEntry};
->>>>>>> ae605a0d (wm_law: once the state has settled, no prestart entry lacks jobs that it could get)
 
 /// Where the jobs that came by prestart entries stand in the order of their numbers, an entry's idle job of
 /// least number is the first of its idle jobs in the list, and so the one of least serial.
@@ -27,7 +20,6 @@ pub fn rounds_make_what_is_lacking()
     ensures rounds { RoundsReplenish }
 {}
 
-<<<<<<< HEAD
 /// From the opening state on, whatever was called: the jobs that came by prestart entries stand in the order
 /// of their numbers. Of the jobs that haven't ended only Running prestart jobs have a request, and a job that
 /// is yet to run has no uses. Each stopped entry, and each entry for which a request waits, is one of a started
@@ -47,7 +39,8 @@ pub fn uses_stay_within_maxuse()
     ensures always { MaxuseIsKept }
     ensures legal { LegalAreCalls }
     ensures uses { UsesAreKept }
-=======
+{}
+
 /// Once the state has settled, no prestart entry of an Active subsystem has both an idle job and a waiting
 /// request: each entry's supply leaves it so, and neither the supply of later entries nor the jobs that then
 /// start make a job idle or let a request wait.
@@ -57,7 +50,6 @@ pub fn entries_are_served()
     ensures settling { SettlingServes }
     ensures step { StepServes }
     ensures always { EntriesAreServed }
->>>>>>> 6fa0b2b0 (wm_law: once the state has settled, no prestart entry has both an idle job and a waiting request)
 {}
 
 /// Once the state has settled, a prestart entry of an Active subsystem is stopped, has THRESHOLD available jobs,
