@@ -10,7 +10,7 @@
 //! a command names); `Wishes` (whether an active job is to end, and when); `Choice` and `Launch` (which job starts, and what
 //! becomes of it); `Prestart` (how many prestart jobs are made, which gets a request, and what the end of a use comes to);
 //! `Jobs` (a change to one job); `Counts`; `Opening`; `Pending` (what a monitor asks); `Stepped` (what a call
-//! comes to); `Fit` (which calls the machine has, and their ranges) and `Built` (which commands users have). What follows
+//! comes to); `Fit` (which calls the machine has, and their ranges) and `CallKinds` (which calls end jobs, and which change objects). What follows
 //! from them: `Laws` and `Kept`; `Limits` (no start passes a limit), `Order` (jobs are launched in their order), `Objects`
 //! (what holds of tables and subsystem descriptions), `Leaving` (which ending subsystems stay), `Handing` (which order Hand
 //! gives), `NextMoment` (what Pending tells), `Sound` (what holds of each state that a history reaches, and over each entry),
