@@ -59,3 +59,6 @@ pub mod Multiples
 pub mod Rounds
 pub mod FirstIdle
 pub mod UsesUp
+pub mod FirstGone
+pub mod Served
+pub mod TheirJobs

@@ -130,7 +130,7 @@ pub map_more : (key : Job → ℕ) (jobs : List Job) (j : Job) → map key (jobs
 map_more key [] j = refl
 map_more key (i ∷ jobs) j = ap (λ l. key i ∷ l) (map_more key jobs j)
 
-given_entered : (key : Job → ℕ) (jobs : List Job) (j : Job) (n : ℕ) → key j ≡ n → IsGiven (map key jobs) n → IsGiven (map key (jobs ++ j ∷ [])) (n + 1)
+pub given_entered : (key : Job → ℕ) (jobs : List Job) (j : Job) (n : ℕ) → key j ≡ n → IsGiven (map key jobs) n → IsGiven (map key (jobs ++ j ∷ [])) (n + 1)
 given_entered key jobs j n e h = subst (λ (l : List ℕ). IsGiven l (n + 1)) (sym (map_more key jobs j)) (subst (λ (k : ℕ). IsGiven (map key jobs ++ k ∷ []) (n + 1)) (sym e) (given_more n (map key jobs) h))
 
 entered_keeps : (s : State) (user : List ℕ) (c : Sbmjob) (d : Jobd) (due : ℕ) → has_numbers s ≡ true → IsNumbered s → IsNumbered (entered s (submitted_job s user c d due))

@@ -125,7 +125,7 @@ module _ (sbs : QName) (d : Sbsd) (e : PreEntry) where
   one-more : (p : Job → Bool) (s : State) → p (new s) ≡ true → count_by p (make_pre sbs e.pgm s).jobs ≡ count_by p s.jobs + 1
   one-more p s is = count_last p s.jobs (new s) ∙ ap (λ b. count_by p s.jobs + cond b 1 0) is
 
-  ready-more : (s : State) → ready (make_pre sbs e.pgm s) ≡ ready s + 1
+  pub ready-more : (s : State) → ready (make_pre sbs e.pgm s) ≡ ready s + 1
   ready-more s = one-more (is_available_in sbs e.pgm) s (ap (λ b. b && true) (named s))
 
   pub left-made : (s : State) → 0 < left s → left (make_pre sbs e.pgm s) ≡ left s - 1
@@ -139,11 +139,11 @@ module _ (sbs : QName) (d : Sbsd) (e : PreEntry) where
       left-less d.maxjobs (count_in_sbs sbs (make_pre sbs e.pgm s).jobs) (count_in_sbs sbs s.jobs) inner (left_by e.maxjobs (count_from_pre sbs e.pgm (make_pre sbs e.pgm s).jobs) (numbers_left (make_pre sbs e.pgm s))) some in-sbs
       (left-less e.maxjobs (count_from_pre sbs e.pgm (make_pre sbs e.pgm s).jobs) (count_from_pre sbs e.pgm s.jobs) n (numbers_left (make_pre sbs e.pgm s)) inner-some in-entry (numbers-less sbs e.pgm s n-some))
 
-  ready-made : (n : ℕ) (s : State) → ready (make_pres sbs e.pgm n s) ≡ ready s + n
+  pub ready-made : (n : ℕ) (s : State) → ready (make_pres sbs e.pgm n s) ≡ ready s + n
   ready-made zero s = omega arith
   ready-made (suc n) s = omega (arith, ready-made n (make_pre sbs e.pgm s), ready-more s)
 
-  left-after : (n : ℕ) (s : State) → n ≤ left s → left (make_pres sbs e.pgm n s) ≡ left s - n
+  pub left-after : (n : ℕ) (s : State) → n ≤ left s → left (make_pres sbs e.pgm n s) ≡ left s - n
   left-after zero s le = omega arith
   left-after (suc n) s le =
       let one = left-made s (omega (arith, le)) in

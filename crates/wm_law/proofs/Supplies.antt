@@ -124,7 +124,7 @@ assignable_by : (b : Bool) (o : Option Job) (j : Job) → cond b o None ≡ Some
 assignable_by true o j e = e
 assignable_by false o j e = absurd (cc)
 
-assignable : (q pgm : QName) (t : State) (j : Job) → assign q pgm t ≡ Some j → IsAssignable q pgm t j
+pub assignable : (q pgm : QName) (t : State) (j : Job) → assign q pgm t ≡ Some j → IsAssignable q pgm t j
 assignable q pgm t j e = idle_found q pgm t j (assignable_by (list_any (is_evoke_of q pgm) t.evokes) (first_idle q pgm t.jobs) j e)
 
 -- a subsystem of the name is among them, and Active

@@ -36,3 +36,4 @@ pub mod Handing
 pub mod Leaving
 pub mod NextMoment
 pub mod Uses
+pub mod Supplied

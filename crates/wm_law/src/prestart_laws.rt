@@ -1,5 +1,6 @@
 // Laws of prestart jobs: what their definitions come to, each for all states. They are no calls.
 ghost use Rattle.wm_law.specs.Prestart.{FirstIdleIsFirst, LeastMultipleIsLeast, RoundsReplenish};
+ghost use Rattle.wm_law.specs.Supplied.{EntriesAreServed, SettlingServes, StepServes, SupplyServes, SupplyServesEntry};
 
 /// Where the jobs that came by prestart entries stand in the order of their numbers, an entry's idle job of
 /// least number is the first of its idle jobs in the list, and so the one of least serial.
@@ -15,4 +16,15 @@ pub fn first_idle_job_is_first()
 pub fn rounds_make_what_is_lacking()
     ensures least { LeastMultipleIsLeast }
     ensures rounds { RoundsReplenish }
+{}
+
+/// Once the state has settled, no prestart entry of an Active subsystem has both an idle job and a waiting
+/// request: each entry's supply leaves it so, and neither the supply of later entries nor the jobs that then
+/// start make a job idle or let a request wait.
+pub fn entries_are_served()
+    ensures entry { SupplyServesEntry }
+    ensures supply { SupplyServes }
+    ensures settling { SettlingServes }
+    ensures step { StepServes }
+    ensures always { EntriesAreServed }
 {}
