@@ -1,6 +1,6 @@
 // Laws of prestart jobs: what their definitions come to, each for all states. They are no calls.
 ghost use Rattle.wm_law.specs.Prestart.{FirstIdleIsFirst, LeastMultipleIsLeast, RoundsReplenish};
-ghost use Rattle.wm_law.specs.Supplied.{EntriesAreServed, SettlingServes, StepServes, SupplyServes, SupplyServesEntry};
+ghost use Rattle.wm_law.specs.Supplied.{EntriesAreServed, EntriesHaveTheirJobs, SettlingGivesJobs, SettlingServes, StepGivesJobs, StepServes, SupplyGivesEntryJobs, SupplyGivesJobs, SupplyServes, SupplyServesEntry};
 
 /// Where the jobs that came by prestart entries stand in the order of their numbers, an entry's idle job of
 /// least number is the first of its idle jobs in the list, and so the one of least serial.
@@ -27,4 +27,16 @@ pub fn entries_are_served()
     ensures settling { SettlingServes }
     ensures step { StepServes }
     ensures always { EntriesAreServed }
+{}
+
+/// Once the state has settled, a prestart entry of an Active subsystem is stopped, has THRESHOLD available jobs,
+/// or adds none; or its MAXJOBS or that of its subsystem is reached, or no number is left. Each entry's supply
+/// leaves it so, and neither the supply of later entries nor the jobs that then start take an available job
+/// away or make room.
+pub fn entries_have_their_jobs()
+    ensures entry { SupplyGivesEntryJobs }
+    ensures supply { SupplyGivesJobs }
+    ensures settling { SettlingGivesJobs }
+    ensures step { StepGivesJobs }
+    ensures always { EntriesHaveTheirJobs }
 {}
