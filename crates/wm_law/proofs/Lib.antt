@@ -60,5 +60,9 @@ pub mod Rounds
 pub mod FirstIdle
 pub mod UsesUp
 pub mod FirstGone
+pub mod Filters
+pub mod RequestCalls
+pub mod GivenOut
+pub mod RequestSteps
 pub mod Served
 pub mod TheirJobs

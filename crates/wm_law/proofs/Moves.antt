@@ -81,6 +81,7 @@ use Rattle.wm_base.specs.declared.limit.Limit.{Limit}
 use Rattle.wm_desc.specs.declared.description.Sbsd.{Sbsd}
 use Rattle.wm_desc.specs.declared.entry.PreEntry.{PreEntry}
 use Rattle.wm_law.specs.declared.command.Endpj.{Endpj}
+use Rattle.wm_law.specs.declared.command.EvokeCommand.{EvokeCommand}
 use Rattle.wm_law.specs.declared.command.Enduse.{Enduse}
 use Rattle.wm_law.specs.declared.command.Strpj.{Strpj}
 use Rattle.wm_law.specs.declared.state.SbsPhase.{SbsPhase}
@@ -146,6 +147,10 @@ the_one [] j e = absurd (cc)
 the_one (k ∷ []) j e = let same : k ≡ j = cc in inl (sym same)
 the_one (k ∷ i ∷ jobs) j e = absurd (cc)
 
+-- the call is an EVOKE
+abbrev pub IsEvokeCall : Call → Type 0
+IsEvokeCall call = (user : List ℕ) × (c : EvokeCommand) × (call ≡ Change user (command.Evoke c))
+
 -- P holds of whatever the call can come to: of its reply, and of the state before it settles
 pub record HoldsAfterCalls (P : Stepped → Type 0) (s : State) (call : Call) : Type 0 where
   pub refuses : (x : Refusal) → P (refused s x)
@@ -163,6 +168,43 @@ pub record HoldsAfterCalls (P : Stepped → Type 0) (s : State) (call : Call) : 
   pub prestarts : (q : QName) (d : Sbsd) (e : PreEntry) → IsPrestartable s q d e → P (record { reply = PreStarted; state = prestarted s q d e })
   pub kills : (m : ℕ) (j : Job) → IsIn j s.jobs → is_to_kill m j ≡ true → P (record { reply = Order (Kill j.serial); state = with_active s j.serial with_kill })
   pub makes : (o : Objects) → IsObjectChange s o → is_configuring_call call ≡ true → P (record { reply = Made; state = record s { objects = o } })
+
+-- the same, where requests that wait are looked at for EVOKE alone
+pub record HoldsAfterEach (P : Stepped → Type 0) (s : State) (call : Call) : Type 0 where
+  pub refuses : (x : Refusal) → P (refused s x)
+  pub nothing : (is_hand call ≡ false → ⊥) → P (record { reply = Nothing; state = s })
+  pub notes : P (record { reply = Noted; state = s })
+  pub hands : (m : ℕ) (j : Job) (o : StartOrder) → IsIn j s.jobs → is_starting j.phase ≡ true → order_of s j ≡ Some o → P (record { reply = Order (Start o); state = with_phase s j.serial (Handed m) })
+  pub reports : (serial : ℕ) (j : Job) (phase : Phase) (stopped : List Stop) → IsIn j s.jobs → j.serial ≡ serial → IsMoved j phase → is_starting phase ≡ false → P (record { reply = Noted; state = record (with_phase s serial phase) { stopped = stopped } })
+  pub starts : (q : QName) → IsStartable s q → P (start_unless s q None)
+  pub enters : (user : List ℕ) (c : Sbmjob) (d : Jobd) (due : ℕ) → IsAcceptable s c d due → P (record { reply = Submitted (job_name s user c) (queue_of c d); state = entered s (submitted_job s user c d due) })
+  pub alters : (reply : Reply) (change : Job → Job) (place : ℕ) → IsPlain reply → IsAlteration s change place → P (record { reply = reply; state = altered s change place })
+  pub holds : (reply : Reply) (held : List QName) → IsPlain reply → IsHolding s held → is_configuring_call call ≡ true → P (record { reply = reply; state = record s { held = held } })
+  pub ends : (reply : Reply) (change : Job → Job) (started : List Sbs) (stopped : List Stop) (evokes : List Evoke) (power : Power) → IsPlain reply → IsEnding s change started power → is_ending_call call ≡ true → P (record { reply = reply; state = wished s change started stopped evokes power })
+  pub uses : (reply : Reply) (change : Job → Job) → IsPlain reply → IsUse s change → P (record { reply = reply; state = wished s change s.started s.stopped s.evokes s.power })
+  pub waits : (place : ℕ) (evokes : List Evoke) → IsEvokeCall call → P (record { reply = EvokeWaits place; state = record s { evokes = evokes } })
+  pub prestarts : (q : QName) (d : Sbsd) (e : PreEntry) → IsPrestartable s q d e → P (record { reply = PreStarted; state = prestarted s q d e })
+  pub kills : (m : ℕ) (j : Job) → IsIn j s.jobs → is_to_kill m j ≡ true → P (record { reply = Order (Kill j.serial); state = with_active s j.serial with_kill })
+  pub makes : (o : Objects) → IsObjectChange s o → is_configuring_call call ≡ true → P (record { reply = Made; state = record s { objects = o } })
+
+each_holds : (P : Stepped → Type 0) (s : State) (call : Call) → HoldsAfterCalls P s call → HoldsAfterEach P s call
+each_holds P s call h = record {
+  refuses = h.refuses;
+  nothing = h.nothing;
+  notes = h.notes;
+  hands = h.hands;
+  reports = h.reports;
+  starts = h.starts;
+  enters = h.enters;
+  alters = h.alters;
+  holds = h.holds;
+  ends = h.ends;
+  uses = h.uses;
+  waits = λ place evokes is. h.waits place evokes;
+  prestarts = h.prestarts;
+  kills = h.kills;
+  makes = h.makes;
+}
 
 -- EVOKE on an idle job
 using_request : (s : State) (serial : ℕ) → IsUse s (active_at serial with_evoke)
@@ -184,7 +226,7 @@ run_running m (Handed n) h = absurd (cc)
 run_running m (Running n) h = refl
 run_running m (Ended c) h = absurd (cc)
 
-module _ (P : Stepped → Type 0) (s : State) (call : Call) (h : HoldsAfterCalls P s call) where
+module _ (P : Stepped → Type 0) (s : State) (call : Call) (h : HoldsAfterEach P s call) where
   either : (b : Bool) (t u : Stepped) → (b ≡ true → P t) → (b ≡ false → P u) → P (cond b t u)
   either true t u k l = k refl
   either false t u k l = l refl
@@ -297,24 +339,24 @@ module _ (P : Stepped → Type 0) (s : State) (call : Call) (h : HoldsAfterCalls
   use_ends_found c (Err x) e = h.refuses x
   use_ends_found c (Ok j) e = use_done is_running (UseEnded j.job) j (plain_use_ended j.job) (λ p t. t) (left_in (is_named c.job) s.jobs j (the_one (filter (is_named c.job) s.jobs) j e))
 
-  evoked : (user : List ℕ) (sbs : QName) (e : PreEntry) (o : Option Job) → P (evoke_on s user sbs e o)
-  evoked user sbs e None =
+  evoked : IsEvokeCall call → (user : List ℕ) (sbs : QName) (e : PreEntry) (o : Option Job) → P (evoke_on s user sbs e o)
+  evoked is user sbs e None =
       either e.wait _ _
-      (λ t. either (nat_le max_evokes (count_evokes sbs e.pgm s.evokes)) _ _ (λ u. h.refuses (WaitListFull max_evokes)) (λ u. h.waits (count_evokes sbs e.pgm s.evokes + 1) _))
+      (λ t. either (nat_le max_evokes (count_evokes sbs e.pgm s.evokes)) _ _ (λ u. h.refuses (WaitListFull max_evokes)) (λ u. h.waits (count_evokes sbs e.pgm s.evokes + 1) _ is))
       (λ t. h.refuses NoneAvailable)
-  evoked user sbs e (Some j) = h.uses (Evoked j.job) (active_at j.serial with_evoke) (plain_evoked j.job) (using_request s j.serial)
+  evoked is user sbs e (Some j) = h.uses (Evoked j.job) (active_at j.serial with_evoke) (plain_evoked j.job) (using_request s j.serial)
 
-  evoked_entry : (user : List ℕ) (sbs : QName) (o : Option PreEntry) → P (evoke_entry s user sbs o)
-  evoked_entry user sbs None = h.refuses (NoObject kind.Pje)
-  evoked_entry user sbs (Some e) = either (is_stopped s sbs e.pgm) _ _ (λ t. h.refuses EntryStopped) (λ t. evoked user sbs e (first_idle sbs e.pgm s.jobs))
+  evoked_entry : IsEvokeCall call → (user : List ℕ) (sbs : QName) (o : Option PreEntry) → P (evoke_entry s user sbs o)
+  evoked_entry is user sbs None = h.refuses (NoObject kind.Pje)
+  evoked_entry is user sbs (Some e) = either (is_stopped s sbs e.pgm) _ _ (λ t. h.refuses EntryStopped) (λ t. evoked is user sbs e (first_idle sbs e.pgm s.jobs))
 
-  evoked_with : (user : List ℕ) (sbs pgm : QName) (o : Option Sbsd) → P (evoke_with s user sbs pgm o)
-  evoked_with user sbs pgm None = h.refuses (NoObject kind.Pje)
-  evoked_with user sbs pgm (Some d) = evoked_entry user sbs (pre_entry_for pgm d)
+  evoked_with : IsEvokeCall call → (user : List ℕ) (sbs pgm : QName) (o : Option Sbsd) → P (evoke_with s user sbs pgm o)
+  evoked_with is user sbs pgm None = h.refuses (NoObject kind.Pje)
+  evoked_with is user sbs pgm (Some d) = evoked_entry is user sbs (pre_entry_for pgm d)
 
-  evoked_in : (user : List ℕ) (pgm : QName) (o : Option Sbs) → P (evoke_in s user pgm o)
-  evoked_in user pgm None = h.refuses SbsNotActive
-  evoked_in user pgm (Some b) = either (is_ending b.phase) _ _ (λ t. h.refuses AlreadyEnding) (λ t. evoked_with user b.sbsd pgm (object_named b.sbsd s.objects.sbsds))
+  evoked_in : IsEvokeCall call → (user : List ℕ) (pgm : QName) (o : Option Sbs) → P (evoke_in s user pgm o)
+  evoked_in is user pgm None = h.refuses SbsNotActive
+  evoked_in is user pgm (Some b) = either (is_ending b.phase) _ _ (λ t. h.refuses AlreadyEnding) (λ t. evoked_with is user b.sbsd pgm (object_named b.sbsd s.objects.sbsds))
 
   entry_ends_found : (c : Endpj) (sbs : QName) (o : Option PreEntry) → is_ending_call call ≡ true → P (end_entry s c sbs o)
   entry_ends_found c sbs None told = h.refuses (NoObject kind.Pje)
@@ -406,7 +448,7 @@ finished_end end w c d k e =
     let same : end_cause end w ≡ d = cc in
     sym same ∙ ap (λ (o : Option EndCause). unwrap_or o (exit_cause end)) k
 
-changed : (P : Stepped → Type 0) (s : State) (user : List ℕ) (c : Command) → HoldsAfterCalls P s (Change user c) → P (change s user c)
+changed : (P : Stepped → Type 0) (s : State) (user : List ℕ) (c : Command) → HoldsAfterEach P s (Change user c) → P (change s user c)
 changed P s user (command.Crtcls c) h = made P s _ h _ _ refl (class_made s c)
 changed P s user (command.Crtjobq c) h = made P s _ h _ _ refl (queue_made s c)
 changed P s user (command.Crtpgmref c) h = made P s _ h _ _ refl (program_made s c)
@@ -432,21 +474,24 @@ changed P s user (command.Rlsjobq c) h = queue_released P s _ h c.jobq refl
 changed P s user (command.Clrjobq c) h = queue_cleared P s _ h c.jobq
 changed P s user (command.Strpj c) h = either P s _ h (is_on s.power) _ _ (λ t. prestarted_in P s _ h c (started_named s c.sbs) refl) (λ t. h.refuses PoweringDown)
 changed P s user (command.Endpj c) h = entry_ends_in P s _ h c (started_named s c.sbs) refl
-changed P s user (command.Evoke c) h = either P s _ h (is_on s.power) _ _ (λ t. evoked_in P s _ h user c.pgm (started_named s c.sbs)) (λ t. h.refuses PoweringDown)
+changed P s user (command.Evoke c) h = either P s _ h (is_on s.power) _ _ (λ t. evoked_in P s _ h (user, c, refl) user c.pgm (started_named s c.sbs)) (λ t. h.refuses PoweringDown)
 changed P s user (command.Enduse c) h = use_ends_found P s _ h c (job_named s c.job) refl
 changed P s user (command.Pwrdwnsys c) h =
     either P s _ h (is_down c.option s.power) _ _ (λ t. h.refuses PoweringDown)
     (λ t. h.ends PowerDown _ _ s.stopped _ (down_by c.option) plain_power_down (all_end s c.option c.delay (down_by c.option)) refl)
 
 -- what holds after whatever the call can come to, holds after the call
+pub each_comes : (P : Stepped → Type 0) (s : State) (caller : ℕ) (call : Call) → HoldsAfterEach P s call → P (apply s caller call)
+each_comes P s caller (Change user c) h = changed P s user c h
+each_comes P s caller Hand h = handed P s _ h caller (find (is_to_kill caller) s.jobs) (h.nothing (λ n. absurd (cc))) refl
+each_comes P s caller (Started serial) h = reported P s _ h serial (is_handed_to caller) _ (λ j. false) (find (λ j. j.serial == serial) s.jobs) (λ j e. moved_on j (Running caller) 2 (handed_rank caller j.phase e) (omega arith) (omega arith) (omega arith) (λ c d w f. absurd (cc))) (λ j. refl) refl
+each_comes P s caller (StartFailed serial why) h = reported P s _ h serial (is_handed_to caller) _ (λ j. true) (find (λ j. j.serial == serial) s.jobs) (λ j e. moved_on j (Ended (cause.StartFailed why)) 2 (handed_rank caller j.phase e) (omega arith) (omega arith) (omega arith) (λ c d w f. inr (failed_end why d f))) (λ j. refl) refl
+each_comes P s caller (Finished serial end) h = reported P s _ h serial (is_run_by caller) _ is_unused (find (λ j. j.serial == serial) s.jobs) (λ j e. moved_on j (Ended (end_cause end j.wish)) 3 (run_rank caller j.phase e) (omega arith) (omega arith) (omega arith) (λ c d w f. inl (finished_end end j.wish c d w f))) (λ j. refl) refl
+each_comes P s caller (UseDone serial) h = use_done_on_found P s _ h caller serial (find (λ j. j.serial == serial) s.jobs) refl
+each_comes P s caller Tick h = h.notes
+
 pub call_comes : (P : Stepped → Type 0) (s : State) (caller : ℕ) (call : Call) → HoldsAfterCalls P s call → P (apply s caller call)
-call_comes P s caller (Change user c) h = changed P s user c h
-call_comes P s caller Hand h = handed P s _ h caller (find (is_to_kill caller) s.jobs) (h.nothing (λ n. absurd (cc))) refl
-call_comes P s caller (Started serial) h = reported P s _ h serial (is_handed_to caller) _ (λ j. false) (find (λ j. j.serial == serial) s.jobs) (λ j e. moved_on j (Running caller) 2 (handed_rank caller j.phase e) (omega arith) (omega arith) (omega arith) (λ c d w f. absurd (cc))) (λ j. refl) refl
-call_comes P s caller (StartFailed serial why) h = reported P s _ h serial (is_handed_to caller) _ (λ j. true) (find (λ j. j.serial == serial) s.jobs) (λ j e. moved_on j (Ended (cause.StartFailed why)) 2 (handed_rank caller j.phase e) (omega arith) (omega arith) (omega arith) (λ c d w f. inr (failed_end why d f))) (λ j. refl) refl
-call_comes P s caller (Finished serial end) h = reported P s _ h serial (is_run_by caller) _ is_unused (find (λ j. j.serial == serial) s.jobs) (λ j e. moved_on j (Ended (end_cause end j.wish)) 3 (run_rank caller j.phase e) (omega arith) (omega arith) (omega arith) (λ c d w f. inl (finished_end end j.wish c d w f))) (λ j. refl) refl
-call_comes P s caller (UseDone serial) h = use_done_on_found P s _ h caller serial (find (λ j. j.serial == serial) s.jobs) refl
-call_comes P s caller Tick h = h.notes
+call_comes P s caller call h = each_comes P s caller call (each_holds P s call h)
 
 -- a job can be made and launched in a subsystem: a number and a serial are left, and the subsystem is started
 pub record IsMakeable (q : QName) (t : State) : Type 0 where

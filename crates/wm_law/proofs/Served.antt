@@ -1,5 +1,5 @@
 -- Settling's third part leaves no entry with both an idle job and a waiting request.
-use Rattle.std.proofs.Common.{◌≡◌, ◌⊎◌, ℕ, zero, suc, ◌<◌, ◌≤◌, ◌+◌, ◌==◌, ◌&&◌, ◌||◌, not, Bool, true, false, cond, List, [], ◌∷◌, length, filter, fold, Option, Some, None, nat_lt, refl, sym, ap, subst, ◌∙◌, inl, inr, arith}
+use Rattle.std.proofs.Common.{◌≡◌, ℕ, zero, suc, ◌<◌, ◌≤◌, ◌+◌, ◌==◌, ◌&&◌, ◌||◌, not, Bool, true, false, cond, List, [], ◌∷◌, length, filter, fold, Option, Some, None, nat_lt, refl, sym, ap, subst, ◌∙◌, inl, inr, arith}
 use Rattle.std.specs.List.{count_by, find, list_any}
 use Rattle.std.specs.Option.{option_and_then}
 use Rattle.std.proofs.lemmas.Bool.{and_parts}
@@ -14,8 +14,6 @@ use Rattle.wm_desc.specs.declared.entry.PreEntry.{PreEntry}
 use Rattle.wm_desc.specs.declared.entry.RouteEntry.{RouteEntry}
 use Rattle.wm_desc.specs.declared.objects.Objects.{Objects}
 use Rattle.wm_desc.specs.Table.{object_named}
-use Rattle.wm_law.specs.declared.call.Call.{Call}
-use Rattle.wm_law.specs.declared.call.Entry.{Entry}
 use Rattle.wm_law.specs.declared.choice.Candidate.{Candidate}
 use Rattle.wm_law.specs.declared.job.Job.{Job}
 use Rattle.wm_law.specs.declared.launch.Launched.{Launched}
@@ -23,13 +21,13 @@ use Rattle.wm_law.specs.declared.state.Sbs.{Sbs}
 use Rattle.wm_law.specs.declared.state.State.{State}
 use Rattle.wm_law.specs.Choice.{is_sbs_active, next}
 use Rattle.wm_law.specs.Counts.{is_from_pre}
-use Rattle.wm_law.specs.History.{after, stepped}
+use Rattle.wm_law.specs.History.{stepped}
 use Rattle.wm_law.specs.Jobs.{active_at}
-use Rattle.wm_law.specs.Launch.{as_launched, from_queue, launch, route, route_fault, routed_from_queue, routed_in, routed_through, starts_unless, with_routed}
+use Rattle.wm_law.specs.Launch.{as_launched, from_queue, launch, route, route_fault, routed_from_queue, routed_through, starts_unless, with_routed}
 use Rattle.wm_law.specs.Laws.{IsIn}
 use Rattle.wm_law.specs.Machine.{apply, step, with_clock}
-use Rattle.wm_law.specs.Prestart.{assign, assigned, assigned_to, count_evokes, count_idle, first_idle, is_evoke_of, is_idle, is_idle_in, is_running, make_pre, make_pres, new_pre_job, of_lesser_number, replenish, replenished, with_evoke}
-use Rattle.wm_law.specs.Settling.{come_due, leave, ready, settle, start_jobs, waiting}
+use Rattle.wm_law.specs.Prestart.{assign, assigned, assigned_to, count_evokes, count_idle, first_idle, is_evoke_of, is_idle_in, is_running, make_pre, make_pres, new_pre_job, of_lesser_number, replenish, replenished, with_evoke}
+use Rattle.wm_law.specs.Settling.{come_due, leave, start_jobs, waiting}
 use Rattle.wm_law.specs.Submitting.{numbers_left}
 use Rattle.wm_law.specs.Supplied.{AreServed, EntriesAreServed, IsEntryOf, IsServed, SettlingServes, StepServes, SupplyServes, SupplyServesEntry}
 use Rattle.wm_law.specs.Supply.{in_order, supply, supply_entry, supply_in, supply_with}
@@ -237,7 +235,7 @@ through s sbs how j None = refl
 through s sbs how j (Some e) = by_cause how e.seq (route_fault s sbs e j)
 
 -- what a launch makes of a job doesn't run
-not_running : (s : State) (sbs queue : QName) (j : Job) → is_running (routed_from_queue s sbs queue j).phase ≡ false
+pub not_running : (s : State) (sbs queue : QName) (j : Job) → is_running (routed_from_queue s sbs queue j).phase ≡ false
 not_running s sbs queue j = through s sbs (from_queue sbs queue j) j (option_and_then (λ d. route d j.rtgdta) (object_named sbs s.objects.sbsds))
 
 -- so it isn't idle

@@ -1,7 +1,7 @@
 -- Settling's third part leaves no entry a lack of jobs that it could get.
-use Rattle.std.proofs.Common.{◌≡◌, ◌⊎◌, ℕ, zero, suc, ◌<◌, ◌≤◌, ◌+◌, ◌-◌, ◌==◌, ◌&&◌, ◌||◌, min, not, Bool, true, false, cond, List, [], ◌∷◌, ◌++◌, map, Option, Some, None, nat_lt, refl, sym, ap, subst, ◌∙◌, inl, inr, arith}
-use Rattle.std.specs.List.{count_by, find, list_any}
-use Rattle.std.proofs.lemmas.Bool.{and_parts, cases_Bool, cases_lt, eqb-true}
+use Rattle.std.proofs.Common.{◌≡◌, ◌⊎◌, ℕ, ◌<◌, ◌≤◌, ◌-◌, ◌==◌, ◌&&◌, ◌||◌, min, not, Bool, true, false, cond, List, [], ◌∷◌, ◌++◌, map, Option, Some, None, nat_lt, refl, sym, ap, subst, ◌∙◌, inl, inr, arith}
+use Rattle.std.specs.List.{count_by, find}
+use Rattle.std.proofs.lemmas.Bool.{and_parts, cases_lt, eqb-true}
 use Rattle.std.proofs.lemmas.Bool.Decides.{nat_tests}
 use Rattle.wm_base.specs.declared.limit.Limit.{Limit}
 use Rattle.wm_base.specs.declared.limit.Limit.TheVariants.{NoMax, Most}
@@ -11,36 +11,32 @@ use Rattle.wm_base.specs.declared.qname.QName.{QName}
 use Rattle.wm_base.specs.Iterate.{IsKept}
 use Rattle.wm_base.specs.Limit.{is_below}
 use Rattle.wm_base.proofs.Iterate.{iterate-keeps}
-use Rattle.wm_base.proofs.Tests.{Some-injective}
 use Rattle.wm_desc.proofs.Tables.{one_name}
 use Rattle.wm_desc.specs.declared.description.Sbsd.{Sbsd}
 use Rattle.wm_desc.specs.declared.entry.PreEntry.{PreEntry}
 use Rattle.wm_desc.specs.Table.{same_qname}
-use Rattle.wm_law.specs.declared.call.Call.{Call}
-use Rattle.wm_law.specs.declared.call.Entry.{Entry}
 use Rattle.wm_law.specs.declared.choice.Candidate.{Candidate}
 use Rattle.wm_law.specs.declared.job.Job.{Job}
 use Rattle.wm_law.specs.declared.job.Phase.{Phase}
 use Rattle.wm_law.specs.declared.job.Phase.TheVariants.{Waiting, Starting, Handed, Running, Ended}
 use Rattle.wm_law.specs.declared.launch.Launched.{Launched}
-use Rattle.wm_law.specs.declared.state.Sbs.{Sbs}
 use Rattle.wm_law.specs.declared.state.State.{State}
 use Rattle.wm_law.specs.declared.state.Stop.{Stop}
 use Rattle.wm_law.specs.Choice.{next}
 use Rattle.wm_law.specs.Counts.{count_from_pre, count_in_sbs, is_active, is_from_pre, is_in_sbs, is_waiting}
-use Rattle.wm_law.specs.History.{after, stepped}
+use Rattle.wm_law.specs.History.{stepped}
 use Rattle.wm_law.specs.Jobs.{active_at, changed_at}
 use Rattle.wm_law.specs.Kept.{IsGiven, IsNumbered}
 use Rattle.wm_law.specs.Launch.{as_launched, launch, routed_from_queue, with_routed}
 use Rattle.wm_law.specs.Laws.{IsIn}
 use Rattle.wm_law.specs.Machine.{apply, step, with_clock}
-use Rattle.wm_law.specs.Prestart.{assign, assigned, assigned_to, count_available, count_evokes, count_idle, first_idle, is_available, is_available_in, is_evoke_of, is_idle, is_idle_in, is_lacking, is_running, is_stop_among, is_stopped, is_to_run, least_multiple, left_by, make_pre, make_pres, new_pre_job, replenish, replenished, room, with_evoke}
-use Rattle.wm_law.specs.Settling.{come_due, leave, settle, start_jobs, waiting}
+use Rattle.wm_law.specs.Prestart.{assign, assigned, assigned_to, count_available, is_available, is_available_in, is_idle, is_lacking, is_running, is_stop_among, is_stopped, is_to_run, least_multiple, left_by, make_pre, make_pres, new_pre_job, replenished, room, with_evoke}
+use Rattle.wm_law.specs.Settling.{come_due, leave, start_jobs, waiting}
 use Rattle.wm_law.specs.Submitting.{numbers_left}
-use Rattle.wm_law.specs.Supplied.{EntriesHaveTheirJobs, HasItsJobs, available, adds_none, entry_full, numbers_used, stopped, subsystem_full, HaveTheirJobs, IsEntryOf, IsServed, SettlingGivesJobs, StepGivesJobs, SupplyGivesEntryJobs, SupplyGivesJobs}
+use Rattle.wm_law.specs.Supplied.{EntriesHaveTheirJobs, HasItsJobs, available, adds_none, entry_full, numbers_used, stopped, subsystem_full, HaveTheirJobs, IsServed, SettlingGivesJobs, StepGivesJobs, SupplyGivesEntryJobs, SupplyGivesJobs}
 use Rattle.wm_law.specs.Supply.{supply, supply_entry}
 use Rattle.wm_law.specs.Wishes.{has_wish}
-use Rattle.wm_law.proofs.Counted.{count_last, no_fewer, one}
+use Rattle.wm_law.proofs.Counted.{count_last, no_fewer}
 use Rattle.wm_law.proofs.Distinct.{one_by_key}
 use Rattle.wm_law.proofs.Endings.{using, keys_same}
 use Rattle.wm_law.proofs.Firsts.{next_waits}
@@ -48,7 +44,7 @@ use Rattle.wm_law.proofs.Multiples.{multiple-enough}
 use Rattle.wm_law.proofs.Numbers.{apply_keeps, clock_keeps, due_keeps, given_entered, launches_keep, only_started, step_keeps_numbers, calls}
 use Rattle.wm_law.proofs.Rounds.{left, left-after, ready-made, room-is}
 use Rattle.wm_law.proofs.Served.{IsKeptBySupply, assigned_kept, assigned_serves, entry_before, replenished_kept, served_kept, served_none, settle_has_those, supplied_entry, supply_has_those}
-use Rattle.wm_law.proofs.Supplies.{IsAssignable, assignable, supplied_keeps}
+use Rattle.wm_law.proofs.Supplies.{assignable, supplied_keeps}
 
 -- nothing is left by the limits and the numbers, so one of them is reached
 full_by : (l : Limit) (c n : ℕ) → left_by l c n ≡ 0 → (is_below c l ≡ false) ⊎ (n ≡ 0)
@@ -142,7 +138,7 @@ made_no_less q d e r p t some =
     }
 
 -- serials are given once
-abbrev HasSerials : State → Type 0
+abbrev pub HasSerials : State → Type 0
 HasSerials t = IsGiven (map (λ j. j.serial) t.jobs) t.next_serial
 
 serials_assigned : (r p : QName) (t : State) (j : Job) → HasSerials t → HasSerials (assigned_to r p j t)
@@ -151,11 +147,11 @@ serials_assigned r p t j h = subst (λ (l : List ℕ). IsGiven l t.next_serial) 
 serials_made : (r p : QName) (t : State) → HasSerials t → HasSerials (make_pre r p t)
 serials_made r p t h = given_entered (λ j. j.serial) t.jobs (new_pre_job t r p) t.next_serial refl h
 
-serials_kept : IsKeptBySupply HasSerials
+pub serials_kept : IsKeptBySupply HasSerials
 serials_kept = record { assigns = λ r p t j e h. serials_assigned r p t j h; makes = λ r p t some h. serials_made r p t h }
 
 -- a job that is idle in an entry came by it, and by no other
-from_one : (q p r s : QName) (how : How) → is_from_pre q p how ≡ true → is_from_pre r s how ≡ true → (q ≡ r) × (p ≡ s)
+pub from_one : (q p r s : QName) (how : How) → is_from_pre q p how ≡ true → is_from_pre r s how ≡ true → (q ≡ r) × (p ≡ s)
 from_one q p r s NotYet h k = absurd (cc)
 from_one q p r s (FromQueue sbs queue pty route) h k = absurd (cc)
 from_one q p r s (Auto sbs route) h k = absurd (cc)

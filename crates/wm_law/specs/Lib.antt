@@ -37,3 +37,4 @@ pub mod Leaving
 pub mod NextMoment
 pub mod Uses
 pub mod Supplied
+pub mod Requests

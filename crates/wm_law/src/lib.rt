@@ -49,5 +49,8 @@ pub use laws::{
 };
 pub use list::ListOf;
 pub use pending::Pending;
-pub use prestart_laws::{entries_are_served, entries_have_their_jobs, first_idle_job_is_first, rounds_make_what_is_lacking};
+pub use prestart_laws::{
+    entries_are_served, entries_have_their_jobs, first_idle_job_is_first, requests_are_kept,
+    rounds_make_what_is_lacking,
+};
 pub use state::{Evoke, Evokes, Jobs, Power, QNames, Sbs, SbsList, SbsPhase, State, Stop, Stops};

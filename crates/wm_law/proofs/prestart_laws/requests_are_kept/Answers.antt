@@ -1,0 +1,22 @@
+use Rattle.wm_law.proofs.GivenOut.{settling_gives_out}
+use Rattle.wm_law.proofs.RequestCalls.{calls_keep_requests}
+use Rattle.wm_law.proofs.RequestSteps.{opening_has_none_waiting, requests_are_kept, step_keeps_none_waiting, step_keeps_requests}
+use Rattle.wm_law.proofs.prestart_laws.requests_are_kept.Goals as goal
+
+pub returns-clause-opening : goal.returns-clause-opening
+returns-clause-opening c = opening_has_none_waiting
+
+pub returns-clause-waiting : goal.returns-clause-waiting
+returns-clause-waiting c = step_keeps_none_waiting
+
+pub returns-clause-call : goal.returns-clause-call
+returns-clause-call c = calls_keep_requests
+
+pub returns-clause-settling : goal.returns-clause-settling
+returns-clause-settling c = settling_gives_out
+
+pub returns-clause-step : goal.returns-clause-step
+returns-clause-step c = step_keeps_requests
+
+pub returns-clause-always : goal.returns-clause-always
+returns-clause-always c = requests_are_kept
