@@ -39,7 +39,7 @@ use Rattle.wm_law.specs.Named.{job_named}
 use Rattle.wm_law.specs.Power.{is_on}
 use Rattle.wm_law.specs.Prestart.{count_available, count_evokes, evokes_of, first_idle, is_evoke_of, is_stopped, make_pre, make_pres, room}
 use Rattle.wm_law.specs.Prestarting.{end_entry, end_entry_in, end_entry_with, entry_ended, restarted}
-use Rattle.wm_law.specs.Requests.{IsAfterCall, arrives, ends_entry, ends_subsystem, powers_down, stay, CallsKeepRequests, NoneWaitsAtEnd}
+use Rattle.wm_law.specs.Requests.{IsAfterCall, arrives, dropped, ends_entry, ends_subsystem, powers_down, stay, CallsKeepRequests, NoneWaitsAtEnd}
 use Rattle.wm_law.specs.Settling.{is_ending}
 use Rattle.wm_law.specs.Stepped.{Stepped}
 use Rattle.wm_law.specs.Subsystems.{with_autos}
@@ -155,7 +155,7 @@ module _ (s : State) (user : List ℕ) (c : EvokeCommand) where
     added_by sbs pgm true is =
         let names = of_entry sbs pgm new is in
         let same : new ≡ record { user = user; sbs = sbs; pgm = pgm } = ap (λ (x : QName). record { user = user; sbs = x; pgm = e.pgm }) names.0 ∙ ap (λ (x : QName). record { user = user; sbs = sbs; pgm = x }) names.1 in
-        arrives user c refl (sbs_is ∙ ap (λ (x : QName). x.name) names.0) (pgm_is ∙ names.1) (ap (λ (x : Evoke). evokes_of sbs pgm s.evokes ++ x ∷ []) same)
+        arrives new (record { user = user; evoke = c; is_call = refl; names_subsystem = sbs_is ∙ ap (λ (x : QName). x.name) names.0; names_program = pgm_is ∙ names.1; is_request = same }) refl
     added_by sbs pgm false is = stay (append_none (evokes_of sbs pgm s.evokes))
 
     added : (sbs pgm : QName) → IsAfterCall sbs pgm (Change user (command.Evoke c)) (evokes_of sbs pgm s.evokes) (evokes_of sbs pgm (s.evokes ++ new ∷ []))
@@ -277,7 +277,7 @@ module _ (s : State) (user : List ℕ) (c : Endsbs) where
   SbsCalled r = IsCalled s (Change user (command.Endsbs c)) r.state
 
   sbs_by : (b : Sbs) (sbs pgm : QName) (t : Bool) → c.sbs ≡ b.sbsd.name → is_of_those (λ x. same_qname x.sbsd b.sbsd) s.started sbs ≡ t → IsAfterCall sbs pgm (Change user (command.Endsbs c)) (evokes_of sbs pgm s.evokes) (evokes_of sbs pgm (end_those s c.option c.delay (λ x. same_qname x.sbsd b.sbsd)).evokes)
-  sbs_by b sbs pgm true name is = ends_subsystem user c refl (name ∙ ap (λ (x : QName). x.name) (sym (one_of_those sbs s.started b is))) (those_go s c.option c.delay (λ x. same_qname x.sbsd b.sbsd) sbs pgm is)
+  sbs_by b sbs pgm true name is = dropped (ends_subsystem user c refl (name ∙ ap (λ (x : QName). x.name) (sym (one_of_those sbs s.started b is)))) (those_go s c.option c.delay (λ x. same_qname x.sbsd b.sbsd) sbs pgm is)
   sbs_by b sbs pgm false name is = stay (others_stay s c.option c.delay (λ x. same_qname x.sbsd b.sbsd) sbs pgm is)
 
   sbs_found : (o : Option Sbs) → started_named s c.sbs ≡ o → SbsCalled (end_started s c o)
@@ -298,7 +298,7 @@ module _ (s : State) (user : List ℕ) (c : Pwrdwnsys) where
   unless_ending b = not (is_ending_by c.option b.phase)
 
   down_by_name : (sbs pgm : QName) (t : Bool) → is_of_those unless_ending s.started sbs ≡ t → IsAfterCall sbs pgm (Change user (command.Pwrdwnsys c)) (evokes_of sbs pgm s.evokes) (evokes_of sbs pgm (end_those s c.option c.delay unless_ending).evokes)
-  down_by_name sbs pgm true is = powers_down user c refl (those_go s c.option c.delay unless_ending sbs pgm is)
+  down_by_name sbs pgm true is = dropped (powers_down user c refl) (those_go s c.option c.delay unless_ending sbs pgm is)
   down_by_name sbs pgm false is = stay (others_stay s c.option c.delay unless_ending sbs pgm is)
 
   down_called : DownCalled (change s user (command.Pwrdwnsys c))
@@ -334,7 +334,7 @@ module _ (s : State) (user : List ℕ) (c : Endpj) where
         let both = and_parts (same_qname b.sbsd sbs) (same_qname e.pgm pgm) is in
         let sbs_so = one_name b.sbsd sbs both.0 in
         let pgm_so = one_name e.pgm pgm both.1 in
-        ends_entry user c refl (sbs_is ∙ ap (λ (x : QName). x.name) sbs_so) (pgm_is ∙ pgm_so)
+        dropped (ends_entry user c refl (sbs_is ∙ ap (λ (x : QName). x.name) sbs_so) (pgm_is ∙ pgm_so))
         (all_go (is_evoke_of sbs pgm) (λ x. not (is_evoke_of b.sbsd e.pgm x)) s.evokes
         (λ x h. ap not (subst (λ (y : QName). is_evoke_of y e.pgm x ≡ true) (sym sbs_so) (subst (λ (y : QName). is_evoke_of sbs y x ≡ true) (sym pgm_so) h))))
     entry_by sbs pgm false is = stay (all_stay (is_evoke_of sbs pgm) (λ x. not (is_evoke_of b.sbsd e.pgm x)) s.evokes (λ x h. other_evoke sbs pgm x (is_evoke_of b.sbsd e.pgm x) is h refl))

@@ -1,5 +1,5 @@
 -- No step and no history loses a request or gives one out twice.
-use Rattle.std.proofs.Common.{◌==◌, not, ℕ, ℤ, List, [], ◌∷◌, Option, Some, None, sym, subst}
+use Rattle.std.proofs.Common.{◌==◌, not, ℕ, ℤ, List, [], ◌∷◌, Option, Some, None, sym, subst, ◌++◌, ◌∙◌, ap, refl, inl, inr, ◌≡◌}
 use Rattle.std.specs.List.{find}
 use Rattle.wm_base.specs.declared.qname.QName.{QName}
 use Rattle.wm_base.specs.Iterate.{IsKept}
@@ -11,13 +11,13 @@ use Rattle.wm_law.specs.declared.state.Evoke.{Evoke}
 use Rattle.wm_law.specs.declared.state.Sbs.{Sbs}
 use Rattle.wm_law.specs.declared.state.State.{State}
 use Rattle.wm_law.specs.Choice.{next}
-use Rattle.wm_law.specs.History.{stepped}
+use Rattle.wm_law.specs.History.{stepped, after}
 use Rattle.wm_law.specs.Kept.{HasDistinctNames}
 use Rattle.wm_law.specs.Launch.{launch, with_routed}
 use Rattle.wm_law.specs.Laws.{IsIn}
 use Rattle.wm_law.specs.Machine.{step, with_clock}
-use Rattle.wm_law.specs.Prestart.{assigned_to, is_evoke_of}
-use Rattle.wm_law.specs.Requests.{NoneWaitsAtEnd, OpeningHasNoneWaiting, RequestsAreKept, StepKeepsNoneWaiting, StepKeepsRequests, called}
+use Rattle.wm_law.specs.Prestart.{assigned_to, is_evoke_of, evokes_of}
+use Rattle.wm_law.specs.Requests.{NoneWaitsAtEnd, OpeningHasNoneWaiting, RequestsAreKept, StepKeepsNoneWaiting, StepKeepsRequests, called, Drops, GivesOut, IsAfterCall, IsQueue, RequestsAreQueue, arrives, dropped, stay}
 use Rattle.wm_law.specs.Settling.{come_due, is_gone, is_gone_by_name, leave, settle, start_jobs, waiting}
 use Rattle.wm_law.specs.Supply.{supply}
 use Rattle.wm_law.proofs.Filters.{in_whole}
@@ -29,6 +29,7 @@ use Rattle.wm_law.proofs.Opened.{opened, opening_is}
 use Rattle.wm_law.proofs.RequestCalls.{calls_do, calls_keep_requests}
 use Rattle.wm_law.proofs.Served.{IsKeptBySupply, supply_kept}
 use Rattle.wm_law.proofs.Started.{step_keeps_names_distinct}
+use Rattle.wm_law.specs.declared.call.Entry.{Entry}
 
 none_left : (s : State) → NoneWaitsAtEnd s → NoneWaitsAtEnd (leave s)
 none_left s n e b i m same = n e b (left_in (λ (x : Evoke). not (is_gone_by_name s x.sbs)) s.evokes e i) (left_in (λ (x : Sbs). not (is_gone s.jobs x)) s.started b m) same
@@ -78,3 +79,43 @@ requests_are_kept s (e ∷ es) sbs pgm numbered d n = (
   step_keeps_requests s e.caller e.call e.moment sbs pgm numbered d n,
   requests_are_kept (stepped s e).state es sbs pgm (step_keeps_numbers s e.caller e.call e.moment numbered) (step_keeps_names_distinct s e.caller e.call e.moment d) (step_keeps_none_waiting s e.caller e.call e.moment d n),
 )
+
+abbrev Requests : Type 0
+Requests = List Evoke
+
+none_behind : (xs : Requests) → xs ++ [] ≡ xs
+none_behind [] = refl
+none_behind (x ∷ xs) = ap (λ (l : Requests). x ∷ l) (none_behind xs)
+
+both_ways : (xs ys zs : Requests) → (xs ++ ys) ++ zs ≡ xs ++ (ys ++ zs)
+both_ways [] ys zs = refl
+both_ways (x ∷ xs) ys zs = ap (λ (l : Requests). x ∷ l) (both_ways xs ys zs)
+
+-- what is given out by a step comes before what is given out behind it
+given_on : (before came called given then behind wait end : Requests) → before ++ came ≡ called ++ behind → called ≡ given ++ wait → wait ++ behind ≡ then ++ end → before ++ came ≡ (given ++ then) ++ end
+given_on before came called given then behind wait end a b c =
+    a ∙ (ap (λ (l : Requests). l ++ behind) b ∙ (both_ways given wait behind ∙ (ap (λ (l : Requests). given ++ l) c ∙ sym (both_ways given then end))))
+
+queue_on : (s : State) (e : Entry) (es : List Entry) (sbs pgm : QName) → IsAfterCall sbs pgm e.call (evokes_of sbs pgm s.evokes) (evokes_of sbs pgm (called s e.caller e.call e.moment).evokes) → GivesOut sbs pgm (called s e.caller e.call e.moment) (stepped s e).state → (Drops sbs pgm e.call → ⊥) → IsQueue sbs pgm (stepped s e).state es → IsQueue sbs pgm s (e ∷ es)
+queue_on s e es sbs pgm (stay same) out no_drop q = record {
+  came = q.came;
+  given = out.given ++ q.given;
+  arrival = inl q.arrival;
+  order = given_on (evokes_of sbs pgm s.evokes) q.came (evokes_of sbs pgm (called s e.caller e.call e.moment).evokes) out.given q.given q.came (evokes_of sbs pgm (stepped s e).state.evokes) (evokes_of sbs pgm (after s (e ∷ es)).evokes)
+      (ap (λ (l : Requests). l ++ q.came) (sym same)) out.front q.order;
+}
+queue_on s e es sbs pgm (arrives request is same) out no_drop q = record {
+  came = request ∷ q.came;
+  given = out.given ++ q.given;
+  arrival = inr (request, q.came, is, q.arrival, refl);
+  order = given_on (evokes_of sbs pgm s.evokes) (request ∷ q.came) (evokes_of sbs pgm (called s e.caller e.call e.moment).evokes) out.given q.given q.came (evokes_of sbs pgm (stepped s e).state.evokes) (evokes_of sbs pgm (after s (e ∷ es)).evokes)
+      (sym (both_ways (evokes_of sbs pgm s.evokes) (request ∷ []) q.came) ∙ ap (λ (l : Requests). l ++ q.came) (sym same)) out.front q.order;
+}
+queue_on s e es sbs pgm (dropped d none) out no_drop q = absurd (no_drop d)
+
+pub requests_are_queue : RequestsAreQueue
+requests_are_queue s [] sbs pgm numbered d n none = record { came = []; given = []; arrival = refl; order = none_behind (evokes_of sbs pgm s.evokes) }
+requests_are_queue s (e ∷ es) sbs pgm numbered d n none =
+    let here = step_keeps_requests s e.caller e.call e.moment sbs pgm numbered d n in
+    queue_on s e es sbs pgm here.by_call here.by_settling none.0
+    (requests_are_queue (stepped s e).state es sbs pgm (step_keeps_numbers s e.caller e.call e.moment numbered) (step_keeps_names_distinct s e.caller e.call e.moment d) (step_keeps_none_waiting s e.caller e.call e.moment d n) none.1)

@@ -1,5 +1,5 @@
 -- What becomes of the requests that wait for a prestart entry: they are given out in the order of their arrival, each once, or dropped by the call that ends their entry or their subsystem; none is lost.
-use Rattle.std.specs.Prelude.{◌≡◌, ◌+◌, ◌&&◌, ℕ, ℤ, Bool, false, List, [], ◌∷◌, ◌++◌, length, count_by, ⊤}
+use Rattle.std.specs.Prelude.{◌≡◌, ◌⊎◌, ◌+◌, ◌&&◌, ℕ, ℤ, Bool, false, List, [], ◌∷◌, ◌++◌, length, count_by, ⊤}
 use Rattle.wm_base.specs.declared.qname.QName.{QName}
 use Rattle.wm_law.specs.declared.call.Call.{Call}
 use Rattle.wm_law.specs.declared.call.Call.TheVariants.{Change}
@@ -14,7 +14,7 @@ use Rattle.wm_law.specs.declared.state.Evoke.{Evoke}
 use Rattle.wm_law.specs.declared.state.Sbs.{Sbs}
 use Rattle.wm_law.specs.declared.state.State.{State}
 use Rattle.wm_law.specs.Counts.{is_from_pre}
-use Rattle.wm_law.specs.History.{stepped}
+use Rattle.wm_law.specs.History.{after, stepped}
 use Rattle.wm_law.specs.Kept.{HasDistinctNames, IsNumbered}
 use Rattle.wm_law.specs.Laws.{IsIn}
 use Rattle.wm_law.specs.Machine.{apply, step, with_clock}
@@ -40,13 +40,26 @@ pub record GivesOut (sbs pgm : QName) (s t : State) : Type 0 where
 abbrev pub NoneWaitsAtEnd : State → Type 0
 NoneWaitsAtEnd s = (e : Evoke) (b : Sbs) → IsIn e s.evokes → IsIn b s.started → b.sbsd ≡ e.sbs → is_ending b.phase ≡ false
 
--- what a call does to the requests that wait for an entry: they stay, one more goes last by EVOKE of the entry, or all go by ENDPJ of the entry, ENDSBS of its subsystem or PWRDWNSYS
+-- the call is EVOKE of an entry, and the request is its own
+pub record IsEvokeFor (sbs pgm : QName) (call : Call) (request : Evoke) : Type 0 where
+  pub user : List ℕ
+  pub evoke : EvokeCommand
+  pub is_call : call ≡ Change user (command.Evoke evoke)
+  pub names_subsystem : evoke.sbs ≡ sbs.name
+  pub names_program : evoke.pgm ≡ pgm
+  pub is_request : request ≡ record { user = user; sbs = sbs; pgm = pgm }
+
+-- the call is ENDPJ of an entry, ENDSBS of its subsystem, or PWRDWNSYS
+pub data Drops (sbs pgm : QName) (call : Call) : Type 0 where
+  ends_entry : (user : List ℕ) (c : Endpj) → call ≡ Change user (command.Endpj c) → c.sbs ≡ sbs.name → c.pgm ≡ pgm → Drops sbs pgm call
+  ends_subsystem : (user : List ℕ) (c : Endsbs) → call ≡ Change user (command.Endsbs c) → c.sbs ≡ sbs.name → Drops sbs pgm call
+  powers_down : (user : List ℕ) (c : Pwrdwnsys) → call ≡ Change user (command.Pwrdwnsys c) → Drops sbs pgm call
+
+-- what a call does to the requests that wait for an entry: they stay, one more goes last by EVOKE of the entry, or all go by a call that drops them
 pub data IsAfterCall (sbs pgm : QName) (call : Call) (before after : List Evoke) : Type 0 where
   stay : after ≡ before → IsAfterCall sbs pgm call before after
-  arrives : (user : List ℕ) (c : EvokeCommand) → call ≡ Change user (command.Evoke c) → c.sbs ≡ sbs.name → c.pgm ≡ pgm → after ≡ before ++ record { user = user; sbs = sbs; pgm = pgm } ∷ [] → IsAfterCall sbs pgm call before after
-  ends_entry : (user : List ℕ) (c : Endpj) → call ≡ Change user (command.Endpj c) → c.sbs ≡ sbs.name → c.pgm ≡ pgm → after ≡ [] → IsAfterCall sbs pgm call before after
-  ends_subsystem : (user : List ℕ) (c : Endsbs) → call ≡ Change user (command.Endsbs c) → c.sbs ≡ sbs.name → after ≡ [] → IsAfterCall sbs pgm call before after
-  powers_down : (user : List ℕ) (c : Pwrdwnsys) → call ≡ Change user (command.Pwrdwnsys c) → after ≡ [] → IsAfterCall sbs pgm call before after
+  arrives : (request : Evoke) → IsEvokeFor sbs pgm call request → after ≡ before ++ request ∷ [] → IsAfterCall sbs pgm call before after
+  dropped : Drops sbs pgm call → after ≡ [] → IsAfterCall sbs pgm call before after
 
 -- the state after a call, before it settles
 abbrev pub called : State → ℕ → Call → ℕ → State
@@ -85,3 +98,24 @@ StepKeepsRequests = (s : State) (caller : ℕ) (call : Call) (moment : ℕ) (sbs
 -- nor does any history
 abbrev pub RequestsAreKept : Type 0
 RequestsAreKept = (s : State) (h : List Entry) (sbs pgm : QName) → IsNumbered s → HasDistinctNames s → NoneWaitsAtEnd s → KeepsRequests sbs pgm s h
+
+-- requests for an entry that calls of a history add, in their order; not each EVOKE adds one
+abbrev pub Came : QName → QName → List Entry → List Evoke → Type 0
+Came sbs pgm [] requests = requests ≡ []
+Came sbs pgm (e ∷ es) requests = Came sbs pgm es requests ⊎ ((request : Evoke) × (rest : List Evoke) × IsEvokeFor sbs pgm e.call request × Came sbs pgm es rest × (requests ≡ request ∷ rest))
+
+-- no call of a history drops requests of an entry
+abbrev pub DropsNone : QName → QName → List Entry → Type 0
+DropsNone sbs pgm [] = ⊤
+DropsNone sbs pgm (e ∷ es) = (Drops sbs pgm e.call → ⊥) × DropsNone sbs pgm es
+
+-- over a history the requests that waited for an entry and behind them those that came are those that were given out and behind them those that wait
+pub record IsQueue (sbs pgm : QName) (s : State) (h : List Entry) : Type 0 where
+  pub came : List Evoke
+  pub given : List Evoke
+  pub arrival : Came sbs pgm h came
+  pub order : evokes_of sbs pgm s.evokes ++ came ≡ given ++ evokes_of sbs pgm (after s h).evokes
+
+-- as long as no call drops them, requests are given out in the order of their arrival, each once, whatever else is called
+abbrev pub RequestsAreQueue : Type 0
+RequestsAreQueue = (s : State) (h : List Entry) (sbs pgm : QName) → IsNumbered s → HasDistinctNames s → NoneWaitsAtEnd s → DropsNone sbs pgm h → IsQueue sbs pgm s h

@@ -13,7 +13,9 @@
 //! comes to); `Fit` (which calls the machine has, and their ranges) and `Built` (which commands users have). What follows
 //! from them: `Laws` and `Kept`; `Limits` (no start passes a limit), `Order` (jobs are launched in their order), `Objects`
 //! (what holds of tables and subsystem descriptions), `Leaving` (which ending subsystems stay), `Handing` (which order Hand
-//! gives), `NextMoment` (what Pending tells) and `Sound` (what holds of each state that a history reaches, and over each entry).
+//! gives), `NextMoment` (what Pending tells), `Supplied` (what settling leaves of prestart entries' idle jobs, waiting requests
+//! and lacks), `Requests` (what becomes of a waiting request) and `Sound` (what holds of each state that a history reaches,
+//! and over each entry).
 #![tactic(auto)]
 
 mod boxed;

@@ -1,6 +1,6 @@
 // Laws of prestart jobs: what their definitions come to, each for all states. They are no calls.
 ghost use Rattle.wm_law.specs.Prestart.{FirstIdleIsFirst, LeastMultipleIsLeast, RoundsReplenish};
-ghost use Rattle.wm_law.specs.Requests.{CallsKeepRequests, OpeningHasNoneWaiting, RequestsAreKept, SettlingGivesOut, StepKeepsNoneWaiting, StepKeepsRequests};
+ghost use Rattle.wm_law.specs.Requests.{CallsKeepRequests, OpeningHasNoneWaiting, RequestsAreKept, RequestsAreQueue, SettlingGivesOut, StepKeepsNoneWaiting, StepKeepsRequests};
 ghost use Rattle.wm_law.specs.Supplied.{EntriesAreServed, EntriesHaveTheirJobs, SettlingGivesJobs, SettlingServes, StepGivesJobs, StepServes, SupplyGivesEntryJobs, SupplyGivesJobs, SupplyServes, SupplyServesEntry};
 
 /// Where the jobs that came by prestart entries stand in the order of their numbers, an entry's idle job of
@@ -46,7 +46,8 @@ pub fn entries_have_their_jobs()
 /// adds one behind the others where it is EVOKE of the entry, drops them where it is ENDPJ of the entry, ENDSBS of
 /// its subsystem or PWRDWNSYS, and else leaves them. Then settling gives out the first of them: the others wait in
 /// their order, and for each that is gone one job more of the entry runs with a request. No request waits at an
-/// ending subsystem, so none goes as a subsystem leaves.
+/// ending subsystem, so none goes as a subsystem leaves. Over a history in which no call drops them, the requests
+/// are a queue: those that waited and those that came behind them are those that were given out and those that wait.
 pub fn requests_are_kept()
     ensures opening { OpeningHasNoneWaiting }
     ensures waiting { StepKeepsNoneWaiting }
@@ -54,4 +55,5 @@ pub fn requests_are_kept()
     ensures settling { SettlingGivesOut }
     ensures step { StepKeepsRequests }
     ensures always { RequestsAreKept }
+    ensures queue { RequestsAreQueue }
 {}

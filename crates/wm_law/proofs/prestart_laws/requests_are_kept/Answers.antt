@@ -1,6 +1,6 @@
 use Rattle.wm_law.proofs.GivenOut.{settling_gives_out}
 use Rattle.wm_law.proofs.RequestCalls.{calls_keep_requests}
-use Rattle.wm_law.proofs.RequestSteps.{opening_has_none_waiting, requests_are_kept, step_keeps_none_waiting, step_keeps_requests}
+use Rattle.wm_law.proofs.RequestSteps.{opening_has_none_waiting, requests_are_kept, step_keeps_none_waiting, step_keeps_requests, requests_are_queue}
 use Rattle.wm_law.proofs.prestart_laws.requests_are_kept.Goals as goal
 
 pub returns-clause-opening : goal.returns-clause-opening
@@ -20,3 +20,6 @@ returns-clause-step c = step_keeps_requests
 
 pub returns-clause-always : goal.returns-clause-always
 returns-clause-always c = requests_are_kept
+
+pub returns-clause-queue : goal.returns-clause-queue
+returns-clause-queue c = requests_are_queue
