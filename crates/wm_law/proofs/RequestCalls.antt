@@ -1,5 +1,5 @@
 -- What calls do to the requests that wait: they stay, one comes by EVOKE, or those of an entry, of a subsystem or all go.
-use Rattle.std.proofs.Common.{◌≡◌, ◌⊎◌, ℕ, zero, suc, ◌-◌, ◌++◌, ◌&&◌, ◌||◌, ◌==◌, not, nat_le, Bool, true, false, true≢false, cond, List, [], ◌∷◌, fold, Option, Some, None, refl, sym, ap, subst, ◌∙◌, inl, inr}
+use Rattle.std.proofs.Common.{◌≡◌, ◌⊎◌, ℕ, zero, suc, ◌-◌, ◌++◌, ◌&&◌, ◌||◌, ◌==◌, not, nat_le, Bool, true, false, true≢false, cond, List, [], ◌∷◌, fold, Option, Some, None, refl, sym, ap, subst, ◌∙◌, inl, inr, ◌+◌}
 use Rattle.std.specs.Prelude.{Result, Ok, Err}
 use Rattle.std.specs.Cmp.Lexicographic.{pointwise}
 use Rattle.std.proofs.Common.{nat_eq}
@@ -39,9 +39,9 @@ use Rattle.wm_law.specs.Named.{job_named}
 use Rattle.wm_law.specs.Power.{is_on}
 use Rattle.wm_law.specs.Prestart.{count_available, count_evokes, evokes_of, first_idle, is_evoke_of, is_stopped, make_pre, make_pres, room}
 use Rattle.wm_law.specs.Prestarting.{end_entry, end_entry_in, end_entry_with, entry_ended, restarted}
-use Rattle.wm_law.specs.Requests.{IsAfterCall, arrives, dropped, ends_entry, ends_subsystem, powers_down, stay, CallsKeepRequests, NoneWaitsAtEnd}
+use Rattle.wm_law.specs.Requests.{IsAfterCall, arrives, dropped, ends_entry, ends_subsystem, powers_down, stay, CallsKeepRequests, NoneWaitsAtEnd, IsLast, AnsweredRequestsWait}
 use Rattle.wm_law.specs.Settling.{is_ending}
-use Rattle.wm_law.specs.Stepped.{Stepped}
+use Rattle.wm_law.specs.Stepped.{Stepped, refused}
 use Rattle.wm_law.specs.Subsystems.{with_autos}
 use Rattle.wm_law.specs.Supply.{make_first, make_firsts_with}
 use Rattle.wm_law.specs.Uses.{evoke_entry, evoke_in, evoke_on, evoke_with, max_evokes, with_request}
@@ -50,6 +50,9 @@ use Rattle.wm_law.proofs.Filters.{all_go, all_stay}
 use Rattle.wm_law.proofs.Members.{found_among, left_in, left_passes, of_last, of_mapped}
 use Rattle.wm_law.proofs.Named.{own_name}
 use Rattle.wm_law.proofs.Moves.{HoldsAfterEach, IsEvokeCall, IsStartable, autos_made, each_comes}
+use Rattle.wm_law.specs.declared.call.Reply.{Reply}
+use Rattle.wm_law.specs.declared.call.Reply.TheVariants.{EvokeWaits}
+use Rattle.std.proofs.lemmas.List.Sums.{length-filter}
 
 -- the requests are as they were, and a subsystem more is Active
 record IsCalm (s t : State) : Type 0 where
@@ -141,11 +144,12 @@ entry_so pgm d e is = let f = found_among (λ (x : PreEntry). same_qname x.pgm p
 
 -- EVOKE
 module _ (s : State) (user : List ℕ) (c : EvokeCommand) where
+  -- what the call does, and where a request waits that is answered so
   abbrev Evoked : Stepped → Type 0
-  Evoked r = IsCalled s (Change user (command.Evoke c)) r.state
+  Evoked r = IsCalled s (Change user (command.Evoke c)) r.state × ((place : ℕ) → r.reply ≡ EvokeWaits place → IsLast s r.state (Change user (command.Evoke c)) place)
 
-  refuses : IsCalled s (Change user (command.Evoke c)) s
-  refuses = by_calm s (Change user (command.Evoke c)) s (calm s)
+  refuses : {x : Refusal} → Evoked (refused s x)
+  refuses = (by_calm s (Change user (command.Evoke c)) s (calm s), λ place e. absurd (cc))
 
   module _ (b : Sbs) (e : PreEntry) (there : IsIn b s.started) (active : is_ending b.phase ≡ false) (sbs_is : c.sbs ≡ b.sbsd.name) (pgm_is : c.pgm ≡ e.pgm) where
     abbrev new : Evoke
@@ -173,12 +177,27 @@ module _ (s : State) (user : List ℕ) (c : EvokeCommand) where
     requested : IsCalled s (Change user (command.Evoke c)) (with_request s user b.sbsd e.pgm)
     requested = record { requests = added; none = λ d n x o i m same. none_added d n x o (of_last s.evokes new x i) m same }
 
+    its_own : is_evoke_of b.sbsd e.pgm new ≡ true
+    its_own = rw (own_name b.sbsd, own_name e.pgm) refl
+
+    is_last : (place : ℕ) → ◌≡◌ {A = Reply} (EvokeWaits (count_evokes b.sbsd e.pgm s.evokes + 1)) (EvokeWaits place) → IsLast s (with_request s user b.sbsd e.pgm) (Change user (command.Evoke c)) place
+    is_last place is =
+        let so : place ≡ count_evokes b.sbsd e.pgm s.evokes + 1 = cc in
+        record {
+          sbs = b.sbsd;
+          pgm = e.pgm;
+          request = new;
+          own = record { user = user; evoke = c; is_call = refl; names_subsystem = sbs_is; names_program = pgm_is; is_request = refl };
+          last = filter-append (is_evoke_of b.sbsd e.pgm) s.evokes (new ∷ []) ∙ ap (λ (t : Bool). evokes_of b.sbsd e.pgm s.evokes ++ cond t (new ∷ []) []) its_own;
+          told = so ∙ ap (λ (n : ℕ). n + 1) (sym (length-filter (is_evoke_of b.sbsd e.pgm) s.evokes));
+        }
+
     evoked : (o : Option Job) → Evoked (evoke_on s user b.sbsd e o)
     evoked None =
         either Evoked e.wait _ _
-        (λ t. either Evoked (nat_le max_evokes (count_evokes b.sbsd e.pgm s.evokes)) _ _ (λ u. refuses) (λ u. requested))
+        (λ t. either Evoked (nat_le max_evokes (count_evokes b.sbsd e.pgm s.evokes)) _ _ (λ u. refuses) (λ u. (requested, λ place is. is_last place is)))
         (λ t. refuses)
-    evoked (Some j) = by_calm s (Change user (command.Evoke c)) _ (record { evokes = refl; started = λ b i. inl i })
+    evoked (Some j) = (by_calm s (Change user (command.Evoke c)) _ (record { evokes = refl; started = λ b i. inl i }), λ place e. absurd (cc))
 
   evoked_entry : (b : Sbs) (o : Option PreEntry) → IsIn b s.started → is_ending b.phase ≡ false → c.sbs ≡ b.sbsd.name → ((e : PreEntry) → o ≡ Some e → c.pgm ≡ e.pgm) → Evoked (evoke_entry s user b.sbsd o)
   evoked_entry b None there active name pgm = refuses
@@ -384,7 +403,7 @@ commanded s caller user (command.Rlsjobq c) = others s caller (Change user (comm
 commanded s caller user (command.Clrjobq c) = others s caller (Change user (command.Clrjobq c)) refl (λ is. (let e = is.2 in absurd (cc)))
 commanded s caller user (command.Strpj c) = others s caller (Change user (command.Strpj c)) refl (λ is. (let e = is.2 in absurd (cc)))
 commanded s caller user (command.Endpj c) = entry_in s user c (started_named s c.sbs) refl
-commanded s caller user (command.Evoke c) = evoke_called s user c
+commanded s caller user (command.Evoke c) = (evoke_called s user c).0
 commanded s caller user (command.Enduse c) = others s caller (Change user (command.Enduse c)) refl (λ is. (let e = is.2 in absurd (cc)))
 commanded s caller user (command.Pwrdwnsys c) = down_called s user c
 
@@ -400,3 +419,28 @@ calls_do s caller Tick = others s caller Tick refl (λ is. (let e = is.2 in absu
 
 pub calls_keep_requests : CallsKeepRequests
 calls_keep_requests s caller call sbs pgm = (calls_do s caller call).requests sbs pgm
+
+-- a call that is answered so is EVOKE
+answered_so : (s : State) (call : Call) → HoldsAfterEach (λ t. (place : ℕ) → t.reply ≡ EvokeWaits place → IsEvokeCall call) s call
+answered_so s call = record {
+  refuses = λ x place e. absurd (cc);
+  nothing = λ n place e. absurd (cc);
+  notes = λ place e. absurd (cc);
+  hands = λ m j o i k f place e. absurd (cc);
+  reports = λ serial j phase stopped i k r n place e. absurd (cc);
+  starts = λ q can place e. absurd (cc);
+  enters = λ user c d due has place e. absurd (cc);
+  alters = λ reply change at p a place e. absurd (p.waits_not place e);
+  holds = λ reply held p a told place e. absurd (p.waits_not place e);
+  ends = λ reply change started stopped evokes power p a told place e. absurd (p.waits_not place e);
+  uses = λ reply change p u place e. absurd (p.waits_not place e);
+  waits = λ at evokes is place e. is;
+  prestarts = λ q d e can place is. absurd (cc);
+  kills = λ m j i k place e. absurd (cc);
+  makes = λ o c told place e. absurd (cc);
+}
+
+pub answered_requests_wait : AnsweredRequestsWait
+answered_requests_wait s caller call place e =
+    let is = each_comes (λ t. (place : ℕ) → t.reply ≡ EvokeWaits place → IsEvokeCall call) s caller call (answered_so s call) place e in
+    subst (λ (x : Call). (apply s caller x).reply ≡ EvokeWaits place → IsLast s (apply s caller x).state x place) (sym is.2) (λ k. (evoke_called s is.0 is.1).1 place k) e

@@ -4,6 +4,7 @@ use Rattle.wm_base.specs.declared.qname.QName.{QName}
 use Rattle.wm_law.specs.declared.call.Call.{Call}
 use Rattle.wm_law.specs.declared.call.Call.TheVariants.{Change}
 use Rattle.wm_law.specs.declared.call.Entry.{Entry}
+use Rattle.wm_law.specs.declared.call.Reply.TheVariants.{EvokeWaits}
 use Rattle.wm_law.specs.declared.command.Command.TheVariants as command
 use Rattle.wm_law.specs.declared.command.Endpj.{Endpj}
 use Rattle.wm_law.specs.declared.command.Endsbs.{Endsbs}
@@ -78,6 +79,19 @@ KeepsRequests sbs pgm s (e ∷ es) = IsRequestStep sbs pgm s e.caller e.call e.m
 -- a call drops requests of an entry only where it is ENDPJ of it, ENDSBS of its subsystem or PWRDWNSYS, and it adds one only where it is EVOKE of it
 abbrev pub CallsKeepRequests : Type 0
 CallsKeepRequests = (s : State) (caller : ℕ) (call : Call) (sbs pgm : QName) → IsAfterCall sbs pgm call (evokes_of sbs pgm s.evokes) (evokes_of sbs pgm (apply s caller call).state.evokes)
+
+-- the call is EVOKE of an entry, and its request goes last among those that wait for it, to the place that is told
+pub record IsLast (s t : State) (call : Call) (place : ℕ) : Type 0 where
+  pub sbs : QName
+  pub pgm : QName
+  pub request : Evoke
+  pub own : IsEvokeFor sbs pgm call request
+  pub last : evokes_of sbs pgm t.evokes ≡ evokes_of sbs pgm s.evokes ++ request ∷ []
+  pub told : place ≡ length (evokes_of sbs pgm s.evokes) + 1
+
+-- a request that is answered with a place waits there
+abbrev pub AnsweredRequestsWait : Type 0
+AnsweredRequestsWait = (s : State) (caller : ℕ) (call : Call) (place : ℕ) → (apply s caller call).reply ≡ EvokeWaits place → IsLast s (apply s caller call).state call place
 
 -- settling gives out the first requests of each entry, in a numbered state in which none waits at an ending subsystem
 abbrev pub SettlingGivesOut : Type 0

@@ -1,5 +1,5 @@
 use Rattle.wm_law.proofs.GivenOut.{settling_gives_out}
-use Rattle.wm_law.proofs.RequestCalls.{calls_keep_requests}
+use Rattle.wm_law.proofs.RequestCalls.{calls_keep_requests, answered_requests_wait}
 use Rattle.wm_law.proofs.RequestSteps.{opening_has_none_waiting, requests_are_kept, step_keeps_none_waiting, step_keeps_requests, requests_are_queue}
 use Rattle.wm_law.proofs.prestart_laws.requests_are_kept.Goals as goal
 
@@ -23,3 +23,6 @@ returns-clause-always c = requests_are_kept
 
 pub returns-clause-queue : goal.returns-clause-queue
 returns-clause-queue c = requests_are_queue
+
+pub returns-clause-answer : goal.returns-clause-answer
+returns-clause-answer c = answered_requests_wait
