@@ -51,7 +51,7 @@ use Rattle.wm_law.proofs.Members.{found_among, left_in, left_passes, of_last, of
 use Rattle.wm_law.proofs.Named.{own_name}
 use Rattle.wm_law.proofs.Moves.{HoldsAfterEach, IsEvokeCall, IsStartable, autos_made, each_comes}
 use Rattle.wm_law.specs.declared.call.Reply.{Reply}
-use Rattle.wm_law.specs.declared.call.Reply.TheVariants.{EvokeWaits}
+use Rattle.wm_law.specs.declared.call.Reply.TheVariants.{EvokeWaits, PreEnding}
 use Rattle.std.proofs.lemmas.List.Sums.{length-filter}
 
 -- the requests are as they were, and a subsystem more is Active
@@ -105,22 +105,22 @@ calm_calls s call none other = record {
 }
 
 -- what a call does to the requests of each entry, and that none comes to wait at an ending subsystem
-pub record IsCalled (s : State) (call : Call) (t : State) : Type 0 where
-  pub requests : (sbs pgm : QName) → IsAfterCall sbs pgm call (evokes_of sbs pgm s.evokes) (evokes_of sbs pgm t.evokes)
-  pub none : HasDistinctNames s → NoneWaitsAtEnd s → NoneWaitsAtEnd t
+pub record IsCalled (s : State) (call : Call) (r : Stepped) : Type 0 where
+  pub requests : (sbs pgm : QName) → IsAfterCall sbs pgm call r.reply (evokes_of sbs pgm s.evokes) (evokes_of sbs pgm r.state.evokes)
+  pub none : HasDistinctNames s → NoneWaitsAtEnd s → NoneWaitsAtEnd r.state
 
 none_after : (s : State) (e : Evoke) (b : Sbs) → NoneWaitsAtEnd s → IsIn e s.evokes → b.sbsd ≡ e.sbs → IsIn b s.started ⊎ (is_ending b.phase ≡ false) → is_ending b.phase ≡ false
 none_after s e b h i same (inl m) = h e b i m same
 none_after s e b h i same (inr active) = active
 
-by_calm : (s : State) (call : Call) (t : State) → IsCalm s t → IsCalled s call t
-by_calm s call t h = record {
+by_calm : (s : State) (call : Call) (r : Stepped) → IsCalm s r.state → IsCalled s call r
+by_calm s call r h = record {
   requests = λ sbs pgm. stay (ap (λ (l : List Evoke). evokes_of sbs pgm l) h.evokes);
   none = λ d n e b i m same. none_after s e b n (subst (λ (l : List Evoke). IsIn e l) h.evokes i) same (h.started b m);
 }
 
-others : (s : State) (caller : ℕ) (call : Call) → is_ending_call call ≡ false → (IsEvokeCall call → ⊥) → IsCalled s call (apply s caller call).state
-others s caller call none other = by_calm s call (apply s caller call).state (each_comes (λ t. IsCalm s t.state) s caller call (calm_calls s call none other))
+others : (s : State) (caller : ℕ) (call : Call) → is_ending_call call ≡ false → (IsEvokeCall call → ⊥) → IsCalled s call (apply s caller call)
+others s caller call none other = by_calm s call (apply s caller call) (each_comes (λ t. IsCalm s t.state) s caller call (calm_calls s call none other))
 
 either : (P : Stepped → Type 0) (b : Bool) (t u : Stepped) → (b ≡ true → P t) → (b ≡ false → P u) → P (cond b t u)
 either P true t u k l = k refl
@@ -146,25 +146,28 @@ entry_so pgm d e is = let f = found_among (λ (x : PreEntry). same_qname x.pgm p
 module _ (s : State) (user : List ℕ) (c : EvokeCommand) where
   -- what the call does, and where a request waits that is answered so
   abbrev Evoked : Stepped → Type 0
-  Evoked r = IsCalled s (Change user (command.Evoke c)) r.state × ((place : ℕ) → r.reply ≡ EvokeWaits place → IsLast s r.state (Change user (command.Evoke c)) place)
+  Evoked r = IsCalled s (Change user (command.Evoke c)) r × ((place : ℕ) → r.reply ≡ EvokeWaits place → IsLast s r.state (Change user (command.Evoke c)) place)
 
   refuses : {x : Refusal} → Evoked (refused s x)
-  refuses = (by_calm s (Change user (command.Evoke c)) s (calm s), λ place e. absurd (cc))
+  refuses = (by_calm s (Change user (command.Evoke c)) _ (calm s), λ place e. absurd (cc))
 
   module _ (b : Sbs) (e : PreEntry) (there : IsIn b s.started) (active : is_ending b.phase ≡ false) (sbs_is : c.sbs ≡ b.sbsd.name) (pgm_is : c.pgm ≡ e.pgm) where
+    abbrev answer : Reply
+    answer = EvokeWaits (count_evokes b.sbsd e.pgm s.evokes + 1)
+
     abbrev new : Evoke
     new = record { user = user; sbs = b.sbsd; pgm = e.pgm }
 
-    added_by : (sbs pgm : QName) (t : Bool) → is_evoke_of sbs pgm new ≡ t → IsAfterCall sbs pgm (Change user (command.Evoke c)) (evokes_of sbs pgm s.evokes) (evokes_of sbs pgm s.evokes ++ cond t (new ∷ []) [])
+    added_by : (sbs pgm : QName) (t : Bool) → is_evoke_of sbs pgm new ≡ t → IsAfterCall sbs pgm (Change user (command.Evoke c)) answer (evokes_of sbs pgm s.evokes) (evokes_of sbs pgm s.evokes ++ cond t (new ∷ []) [])
     added_by sbs pgm true is =
         let names = of_entry sbs pgm new is in
         let same : new ≡ record { user = user; sbs = sbs; pgm = pgm } = ap (λ (x : QName). record { user = user; sbs = x; pgm = e.pgm }) names.0 ∙ ap (λ (x : QName). record { user = user; sbs = sbs; pgm = x }) names.1 in
-        arrives new (record { user = user; evoke = c; is_call = refl; names_subsystem = sbs_is ∙ ap (λ (x : QName). x.name) names.0; names_program = pgm_is ∙ names.1; is_request = same }) refl
+        arrives (count_evokes b.sbsd e.pgm s.evokes + 1) new refl (record { user = user; evoke = c; is_call = refl; names_subsystem = sbs_is ∙ ap (λ (x : QName). x.name) names.0; names_program = pgm_is ∙ names.1; is_request = same }) refl
     added_by sbs pgm false is = stay (append_none (evokes_of sbs pgm s.evokes))
 
-    added : (sbs pgm : QName) → IsAfterCall sbs pgm (Change user (command.Evoke c)) (evokes_of sbs pgm s.evokes) (evokes_of sbs pgm (s.evokes ++ new ∷ []))
+    added : (sbs pgm : QName) → IsAfterCall sbs pgm (Change user (command.Evoke c)) answer (evokes_of sbs pgm s.evokes) (evokes_of sbs pgm (s.evokes ++ new ∷ []))
     added sbs pgm =
-        subst (λ (l : List Evoke). IsAfterCall sbs pgm (Change user (command.Evoke c)) (evokes_of sbs pgm s.evokes) l) (sym (filter-append (is_evoke_of sbs pgm) s.evokes (new ∷ [])))
+        subst (λ (l : List Evoke). IsAfterCall sbs pgm (Change user (command.Evoke c)) answer (evokes_of sbs pgm s.evokes) l) (sym (filter-append (is_evoke_of sbs pgm) s.evokes (new ∷ [])))
         (added_by sbs pgm (is_evoke_of sbs pgm new) refl)
 
     none_added : HasDistinctNames s → NoneWaitsAtEnd s → (x : Evoke) (o : Sbs) → IsIn x s.evokes ⊎ (x ≡ new) → IsIn o s.started → o.sbsd ≡ x.sbs → is_ending o.phase ≡ false
@@ -174,7 +177,7 @@ module _ (s : State) (user : List ℕ) (c : EvokeCommand) where
         let one : o ≡ b = one_by_key (λ (y : Sbs). y.sbsd.name) s.started d o b m there (ap (λ (y : QName). y.name) named) in
         ap (λ (y : Sbs). is_ending y.phase) one ∙ active
 
-    requested : IsCalled s (Change user (command.Evoke c)) (with_request s user b.sbsd e.pgm)
+    requested : IsCalled s (Change user (command.Evoke c)) (record { reply = answer; state = with_request s user b.sbsd e.pgm })
     requested = record { requests = added; none = λ d n x o i m same. none_added d n x o (of_last s.evokes new x i) m same }
 
     its_own : is_evoke_of b.sbsd e.pgm new ≡ true
@@ -235,8 +238,8 @@ module _ (s : State) (user : List ℕ) (c : Endjob) where
   ended_found (Err x) = calm s
   ended_found (Ok j) = ended_in j j.phase
 
-  job_called : IsCalled s (Change user (command.Endjob c)) (change s user (command.Endjob c)).state
-  job_called = by_calm s (Change user (command.Endjob c)) (change s user (command.Endjob c)).state (ended_found (job_named s c.job))
+  job_called : IsCalled s (Change user (command.Endjob c)) (change s user (command.Endjob c))
+  job_called = by_calm s (Change user (command.Endjob c)) (change s user (command.Endjob c)) (ended_found (job_named s c.job))
 
 -- where subsystems that pass a test end, the requests that wait there go
 module _ (s : State) (option : EndOption) (delay : Option ℕ) (test : Sbs → Bool) where
@@ -293,48 +296,48 @@ one_of_those q (x ∷ bs) b h = by_first (same_qname x.sbsd b.sbsd && same_qname
 -- ENDSBS
 module _ (s : State) (user : List ℕ) (c : Endsbs) where
   abbrev SbsCalled : Stepped → Type 0
-  SbsCalled r = IsCalled s (Change user (command.Endsbs c)) r.state
+  SbsCalled r = IsCalled s (Change user (command.Endsbs c)) r
 
-  sbs_by : (b : Sbs) (sbs pgm : QName) (t : Bool) → c.sbs ≡ b.sbsd.name → is_of_those (λ x. same_qname x.sbsd b.sbsd) s.started sbs ≡ t → IsAfterCall sbs pgm (Change user (command.Endsbs c)) (evokes_of sbs pgm s.evokes) (evokes_of sbs pgm (end_those s c.option c.delay (λ x. same_qname x.sbsd b.sbsd)).evokes)
-  sbs_by b sbs pgm true name is = dropped (ends_subsystem user c refl (name ∙ ap (λ (x : QName). x.name) (sym (one_of_those sbs s.started b is)))) (those_go s c.option c.delay (λ x. same_qname x.sbsd b.sbsd) sbs pgm is)
-  sbs_by b sbs pgm false name is = stay (others_stay s c.option c.delay (λ x. same_qname x.sbsd b.sbsd) sbs pgm is)
+  sbs_by : (reply : Reply) (b : Sbs) (sbs pgm : QName) (t : Bool) → c.sbs ≡ b.sbsd.name → is_of_those (λ x. same_qname x.sbsd b.sbsd) s.started sbs ≡ t → IsAfterCall sbs pgm (Change user (command.Endsbs c)) reply (evokes_of sbs pgm s.evokes) (evokes_of sbs pgm (end_those s c.option c.delay (λ x. same_qname x.sbsd b.sbsd)).evokes)
+  sbs_by reply b sbs pgm true name is = dropped (ends_subsystem user c refl (name ∙ ap (λ (x : QName). x.name) (sym (one_of_those sbs s.started b is)))) (those_go s c.option c.delay (λ x. same_qname x.sbsd b.sbsd) sbs pgm is)
+  sbs_by reply b sbs pgm false name is = stay (others_stay s c.option c.delay (λ x. same_qname x.sbsd b.sbsd) sbs pgm is)
 
   sbs_found : (o : Option Sbs) → started_named s c.sbs ≡ o → SbsCalled (end_started s c o)
-  sbs_found None is = by_calm s _ s (calm s)
+  sbs_found None is = by_calm s _ _ (calm s)
   sbs_found (Some b) is =
-      either SbsCalled (is_ending_by c.option b.phase) _ _ (λ t. by_calm s _ s (calm s))
+      either SbsCalled (is_ending_by c.option b.phase) _ _ (λ t. by_calm s _ _ (calm s))
       (λ t. record {
-        requests = λ sbs pgm. sbs_by b sbs pgm _ (named_so s c.sbs b is).1 refl;
+        requests = λ sbs pgm. sbs_by _ b sbs pgm _ (named_so s c.sbs b is).1 refl;
         none = λ d n. none_ends s c.option c.delay (λ x. same_qname x.sbsd b.sbsd) n;
       })
 
 -- PWRDWNSYS
 module _ (s : State) (user : List ℕ) (c : Pwrdwnsys) where
   abbrev DownCalled : Stepped → Type 0
-  DownCalled r = IsCalled s (Change user (command.Pwrdwnsys c)) r.state
+  DownCalled r = IsCalled s (Change user (command.Pwrdwnsys c)) r
 
   abbrev unless_ending : Sbs → Bool
   unless_ending b = not (is_ending_by c.option b.phase)
 
-  down_by_name : (sbs pgm : QName) (t : Bool) → is_of_those unless_ending s.started sbs ≡ t → IsAfterCall sbs pgm (Change user (command.Pwrdwnsys c)) (evokes_of sbs pgm s.evokes) (evokes_of sbs pgm (end_those s c.option c.delay unless_ending).evokes)
-  down_by_name sbs pgm true is = dropped (powers_down user c refl) (those_go s c.option c.delay unless_ending sbs pgm is)
-  down_by_name sbs pgm false is = stay (others_stay s c.option c.delay unless_ending sbs pgm is)
+  down_by_name : (reply : Reply) (sbs pgm : QName) (t : Bool) → is_of_those unless_ending s.started sbs ≡ t → IsAfterCall sbs pgm (Change user (command.Pwrdwnsys c)) reply (evokes_of sbs pgm s.evokes) (evokes_of sbs pgm (end_those s c.option c.delay unless_ending).evokes)
+  down_by_name reply sbs pgm true is = dropped (powers_down user c refl) (those_go s c.option c.delay unless_ending sbs pgm is)
+  down_by_name reply sbs pgm false is = stay (others_stay s c.option c.delay unless_ending sbs pgm is)
 
   down_called : DownCalled (change s user (command.Pwrdwnsys c))
   down_called =
-      either DownCalled (is_down c.option s.power) _ _ (λ t. by_calm s _ s (calm s))
+      either DownCalled (is_down c.option s.power) _ _ (λ t. by_calm s _ _ (calm s))
       (λ t. record {
-        requests = λ sbs pgm. down_by_name sbs pgm _ refl;
+        requests = λ sbs pgm. down_by_name _ sbs pgm _ refl;
         none = λ d n e b i m same. none_ends s c.option c.delay unless_ending n e b i m same;
       })
 
 -- ENDPJ
 module _ (s : State) (user : List ℕ) (c : Endpj) where
   abbrev PreCalled : Stepped → Type 0
-  PreCalled r = IsCalled s (Change user (command.Endpj c)) r.state
+  PreCalled r = IsCalled s (Change user (command.Endpj c)) r
 
-  left_so : IsCalled s (Change user (command.Endpj c)) s
-  left_so = by_calm s (Change user (command.Endpj c)) s (calm s)
+  left_so : {x : Refusal} → PreCalled (refused s x)
+  left_so = by_calm s (Change user (command.Endpj c)) _ (calm s)
 
   module _ (b : Sbs) (e : PreEntry) (sbs_is : c.sbs ≡ b.sbsd.name) (pgm_is : c.pgm ≡ e.pgm) where
     -- a request of another entry isn't one of this
@@ -348,19 +351,19 @@ module _ (s : State) (user : List ℕ) (c : Endpj) where
         let both : (same_qname b.sbsd sbs && same_qname e.pgm pgm) ≡ true = rw (a, d) refl in
         absurd (true≢false (sym both ∙ none))
 
-    entry_by : (sbs pgm : QName) (t : Bool) → (same_qname b.sbsd sbs && same_qname e.pgm pgm) ≡ t → IsAfterCall sbs pgm (Change user (command.Endpj c)) (evokes_of sbs pgm s.evokes) (evokes_of sbs pgm (entry_ended s c.option c.delay b.sbsd e.pgm).evokes)
-    entry_by sbs pgm true is =
+    entry_by : (reply : Reply) (sbs pgm : QName) (t : Bool) → (same_qname b.sbsd sbs && same_qname e.pgm pgm) ≡ t → IsAfterCall sbs pgm (Change user (command.Endpj c)) reply (evokes_of sbs pgm s.evokes) (evokes_of sbs pgm (entry_ended s c.option c.delay b.sbsd e.pgm).evokes)
+    entry_by reply sbs pgm true is =
         let both = and_parts (same_qname b.sbsd sbs) (same_qname e.pgm pgm) is in
         let sbs_so = one_name b.sbsd sbs both.0 in
         let pgm_so = one_name e.pgm pgm both.1 in
         dropped (ends_entry user c refl (sbs_is ∙ ap (λ (x : QName). x.name) sbs_so) (pgm_is ∙ pgm_so))
         (all_go (is_evoke_of sbs pgm) (λ x. not (is_evoke_of b.sbsd e.pgm x)) s.evokes
         (λ x h. ap not (subst (λ (y : QName). is_evoke_of y e.pgm x ≡ true) (sym sbs_so) (subst (λ (y : QName). is_evoke_of sbs y x ≡ true) (sym pgm_so) h))))
-    entry_by sbs pgm false is = stay (all_stay (is_evoke_of sbs pgm) (λ x. not (is_evoke_of b.sbsd e.pgm x)) s.evokes (λ x h. other_evoke sbs pgm x (is_evoke_of b.sbsd e.pgm x) is h refl))
+    entry_by reply sbs pgm false is = stay (all_stay (is_evoke_of sbs pgm) (λ x. not (is_evoke_of b.sbsd e.pgm x)) s.evokes (λ x h. other_evoke sbs pgm x (is_evoke_of b.sbsd e.pgm x) is h refl))
 
-    entry_called : IsCalled s (Change user (command.Endpj c)) (entry_ended s c.option c.delay b.sbsd e.pgm)
+    entry_called : IsCalled s (Change user (command.Endpj c)) (record { reply = PreEnding; state = entry_ended s c.option c.delay b.sbsd e.pgm })
     entry_called = record {
-      requests = λ sbs pgm. entry_by sbs pgm (same_qname b.sbsd sbs && same_qname e.pgm pgm) refl;
+      requests = λ sbs pgm. entry_by PreEnding sbs pgm (same_qname b.sbsd sbs && same_qname e.pgm pgm) refl;
       none = λ d n x o i m same. n x o (left_in (λ (y : Evoke). not (is_evoke_of b.sbsd e.pgm y)) s.evokes x i) m same;
     }
 
@@ -377,7 +380,7 @@ module _ (s : State) (user : List ℕ) (c : Endpj) where
   entry_in (Some b) is = entry_with b (object_named b.sbsd s.objects.sbsds) (named_so s c.sbs b is).1
 
 -- each command
-commanded : (s : State) (caller : ℕ) (user : List ℕ) (c : Command) → IsCalled s (Change user c) (change s user c).state
+commanded : (s : State) (caller : ℕ) (user : List ℕ) (c : Command) → IsCalled s (Change user c) (change s user c)
 commanded s caller user (command.Crtcls c) = others s caller (Change user (command.Crtcls c)) refl (λ is. (let e = is.2 in absurd (cc)))
 commanded s caller user (command.Crtjobq c) = others s caller (Change user (command.Crtjobq c)) refl (λ is. (let e = is.2 in absurd (cc)))
 commanded s caller user (command.Crtpgmref c) = others s caller (Change user (command.Crtpgmref c)) refl (λ is. (let e = is.2 in absurd (cc)))
@@ -408,7 +411,7 @@ commanded s caller user (command.Enduse c) = others s caller (Change user (comma
 commanded s caller user (command.Pwrdwnsys c) = down_called s user c
 
 -- each call
-pub calls_do : (s : State) (caller : ℕ) (call : Call) → IsCalled s call (apply s caller call).state
+pub calls_do : (s : State) (caller : ℕ) (call : Call) → IsCalled s call (apply s caller call)
 calls_do s caller (Change user c) = commanded s caller user c
 calls_do s caller Hand = others s caller Hand refl (λ is. (let e = is.2 in absurd (cc)))
 calls_do s caller (Started serial) = others s caller (Started serial) refl (λ is. (let e = is.2 in absurd (cc)))

@@ -96,7 +96,7 @@ given_on : (before came called given then behind wait end : Requests) → before
 given_on before came called given then behind wait end a b c =
     a ∙ (ap (λ (l : Requests). l ++ behind) b ∙ (both_ways given wait behind ∙ (ap (λ (l : Requests). given ++ l) c ∙ sym (both_ways given then end))))
 
-queue_on : (s : State) (e : Entry) (es : List Entry) (sbs pgm : QName) → IsAfterCall sbs pgm e.call (evokes_of sbs pgm s.evokes) (evokes_of sbs pgm (called s e.caller e.call e.moment).evokes) → GivesOut sbs pgm (called s e.caller e.call e.moment) (stepped s e).state → (Drops sbs pgm e.call → ⊥) → IsQueue sbs pgm (stepped s e).state es → IsQueue sbs pgm s (e ∷ es)
+queue_on : (s : State) (e : Entry) (es : List Entry) (sbs pgm : QName) → IsAfterCall sbs pgm e.call (stepped s e).reply (evokes_of sbs pgm s.evokes) (evokes_of sbs pgm (called s e.caller e.call e.moment).evokes) → GivesOut sbs pgm (called s e.caller e.call e.moment) (stepped s e).state → (Drops sbs pgm e.call → ⊥) → IsQueue sbs pgm (stepped s e).state es → IsQueue sbs pgm s (e ∷ es)
 queue_on s e es sbs pgm (stay same) out no_drop q = record {
   came = q.came;
   given = out.given ++ q.given;
@@ -104,10 +104,10 @@ queue_on s e es sbs pgm (stay same) out no_drop q = record {
   order = given_on (evokes_of sbs pgm s.evokes) q.came (evokes_of sbs pgm (called s e.caller e.call e.moment).evokes) out.given q.given q.came (evokes_of sbs pgm (stepped s e).state.evokes) (evokes_of sbs pgm (after s (e ∷ es)).evokes)
       (ap (λ (l : Requests). l ++ q.came) (sym same)) out.front q.order;
 }
-queue_on s e es sbs pgm (arrives request is same) out no_drop q = record {
+queue_on s e es sbs pgm (arrives place request answered is same) out no_drop q = record {
   came = request ∷ q.came;
   given = out.given ++ q.given;
-  arrival = inr (request, q.came, is, q.arrival, refl);
+  arrival = inr (place, request, q.came, answered, is, q.arrival, refl);
   order = given_on (evokes_of sbs pgm s.evokes) (request ∷ q.came) (evokes_of sbs pgm (called s e.caller e.call e.moment).evokes) out.given q.given q.came (evokes_of sbs pgm (stepped s e).state.evokes) (evokes_of sbs pgm (after s (e ∷ es)).evokes)
       (sym (both_ways (evokes_of sbs pgm s.evokes) (request ∷ []) q.came) ∙ ap (λ (l : Requests). l ++ q.came) (sym same)) out.front q.order;
 }

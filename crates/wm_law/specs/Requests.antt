@@ -4,6 +4,7 @@ use Rattle.wm_base.specs.declared.qname.QName.{QName}
 use Rattle.wm_law.specs.declared.call.Call.{Call}
 use Rattle.wm_law.specs.declared.call.Call.TheVariants.{Change}
 use Rattle.wm_law.specs.declared.call.Entry.{Entry}
+use Rattle.wm_law.specs.declared.call.Reply.{Reply}
 use Rattle.wm_law.specs.declared.call.Reply.TheVariants.{EvokeWaits}
 use Rattle.wm_law.specs.declared.command.Command.TheVariants as command
 use Rattle.wm_law.specs.declared.command.Endpj.{Endpj}
@@ -56,11 +57,11 @@ pub data Drops (sbs pgm : QName) (call : Call) : Type 0 where
   ends_subsystem : (user : List ℕ) (c : Endsbs) → call ≡ Change user (command.Endsbs c) → c.sbs ≡ sbs.name → Drops sbs pgm call
   powers_down : (user : List ℕ) (c : Pwrdwnsys) → call ≡ Change user (command.Pwrdwnsys c) → Drops sbs pgm call
 
--- what a call does to the requests that wait for an entry: they stay, one more goes last by EVOKE of the entry, or all go by a call that drops them
-pub data IsAfterCall (sbs pgm : QName) (call : Call) (before after : List Evoke) : Type 0 where
-  stay : after ≡ before → IsAfterCall sbs pgm call before after
-  arrives : (request : Evoke) → IsEvokeFor sbs pgm call request → after ≡ before ++ request ∷ [] → IsAfterCall sbs pgm call before after
-  dropped : Drops sbs pgm call → after ≡ [] → IsAfterCall sbs pgm call before after
+-- what a call does to the requests that wait for an entry: they stay, one more goes last by EVOKE of the entry, which is answered so, or all go by a call that drops them
+pub data IsAfterCall (sbs pgm : QName) (call : Call) (reply : Reply) (before after : List Evoke) : Type 0 where
+  stay : after ≡ before → IsAfterCall sbs pgm call reply before after
+  arrives : (place : ℕ) (request : Evoke) → reply ≡ EvokeWaits place → IsEvokeFor sbs pgm call request → after ≡ before ++ request ∷ [] → IsAfterCall sbs pgm call reply before after
+  dropped : Drops sbs pgm call → after ≡ [] → IsAfterCall sbs pgm call reply before after
 
 -- the state after a call, before it settles
 abbrev pub called : State → ℕ → Call → ℕ → State
@@ -68,7 +69,7 @@ called s caller call moment = (apply (with_clock s moment) caller call).state
 
 -- what a step does to the requests that wait for an entry: what its call does, and then settling gives out the first ones
 pub record IsRequestStep (sbs pgm : QName) (s : State) (caller : ℕ) (call : Call) (moment : ℕ) : Type 0 where
-  pub by_call : IsAfterCall sbs pgm call (evokes_of sbs pgm s.evokes) (evokes_of sbs pgm (called s caller call moment).evokes)
+  pub by_call : IsAfterCall sbs pgm call (step s caller call moment).reply (evokes_of sbs pgm s.evokes) (evokes_of sbs pgm (called s caller call moment).evokes)
   pub by_settling : GivesOut sbs pgm (called s caller call moment) (step s caller call moment).state
 
 -- so at each entry of a history
@@ -78,7 +79,7 @@ KeepsRequests sbs pgm s (e ∷ es) = IsRequestStep sbs pgm s e.caller e.call e.m
 
 -- a call drops requests of an entry only where it is ENDPJ of it, ENDSBS of its subsystem or PWRDWNSYS, and it adds one only where it is EVOKE of it
 abbrev pub CallsKeepRequests : Type 0
-CallsKeepRequests = (s : State) (caller : ℕ) (call : Call) (sbs pgm : QName) → IsAfterCall sbs pgm call (evokes_of sbs pgm s.evokes) (evokes_of sbs pgm (apply s caller call).state.evokes)
+CallsKeepRequests = (s : State) (caller : ℕ) (call : Call) (sbs pgm : QName) → IsAfterCall sbs pgm call (apply s caller call).reply (evokes_of sbs pgm s.evokes) (evokes_of sbs pgm (apply s caller call).state.evokes)
 
 -- the call is EVOKE of an entry, and its request goes last among those that wait for it, to the place that is told
 pub record IsLast (s t : State) (call : Call) (place : ℕ) : Type 0 where
@@ -113,10 +114,12 @@ StepKeepsRequests = (s : State) (caller : ℕ) (call : Call) (moment : ℕ) (sbs
 abbrev pub RequestsAreKept : Type 0
 RequestsAreKept = (s : State) (h : List Entry) (sbs pgm : QName) → IsNumbered s → HasDistinctNames s → NoneWaitsAtEnd s → KeepsRequests sbs pgm s h
 
--- requests for an entry that calls of a history add, in their order; not each EVOKE adds one
-abbrev pub Came : QName → QName → List Entry → List Evoke → Type 0
-Came sbs pgm [] requests = requests ≡ []
-Came sbs pgm (e ∷ es) requests = Came sbs pgm es requests ⊎ ((request : Evoke) × (rest : List Evoke) × IsEvokeFor sbs pgm e.call request × Came sbs pgm es rest × (requests ≡ request ∷ rest))
+-- requests for an entry that came to wait by calls of a history from a state, in their order
+abbrev pub Came : QName → QName → State → List Entry → List Evoke → Type 0
+Came sbs pgm s [] requests = requests ≡ []
+Came sbs pgm s (e ∷ es) requests =
+    Came sbs pgm (stepped s e).state es requests
+    ⊎ ((place : ℕ) × (request : Evoke) × (rest : List Evoke) × ((stepped s e).reply ≡ EvokeWaits place) × IsEvokeFor sbs pgm e.call request × Came sbs pgm (stepped s e).state es rest × (requests ≡ request ∷ rest))
 
 -- no call of a history drops requests of an entry
 abbrev pub DropsNone : QName → QName → List Entry → Type 0
@@ -127,7 +130,7 @@ DropsNone sbs pgm (e ∷ es) = (Drops sbs pgm e.call → ⊥) × DropsNone sbs p
 pub record IsQueue (sbs pgm : QName) (s : State) (h : List Entry) : Type 0 where
   pub came : List Evoke
   pub given : List Evoke
-  pub arrival : Came sbs pgm h came
+  pub arrival : Came sbs pgm s h came
   pub order : evokes_of sbs pgm s.evokes ++ came ≡ given ++ evokes_of sbs pgm (after s h).evokes
 
 -- as long as no call drops them, requests are given out in the order of their arrival, each once, whatever else is called

@@ -45,11 +45,12 @@ pub fn entries_have_their_jobs()
 {}
 
 /// No request that waits for a prestart entry is lost, and none is given out twice, whatever was called. A call
-/// adds one behind the others where it is EVOKE of the entry, drops them where it is ENDPJ of the entry, ENDSBS of
-/// its subsystem or PWRDWNSYS, and else leaves them; one that is answered with a place waits there. Then settling gives out the first of them: the others wait in
-/// their order, and for each that is gone one job more of the entry runs with a request. No request waits at an
-/// ending subsystem, so none goes as a subsystem leaves. Over a history in which no call drops them, the requests
-/// are a queue: those that waited and those that came behind them are those that were given out and those that wait.
+/// adds one behind the others where it is EVOKE of the entry and is answered so, drops them where it is ENDPJ of
+/// the entry, ENDSBS of its subsystem or PWRDWNSYS, and else leaves them; one that is answered with a place waits
+/// there. Then settling gives out the first of them: the others wait in their order, and for each that is gone one
+/// job more of the entry runs with a request. No request waits at an ending subsystem, so none goes as a subsystem
+/// leaves. Over a history in which no call drops them, the requests are a queue: those that waited and those that
+/// came behind them are those that were given out and those that wait.
 pub fn requests_are_kept()
     ensures opening { OpeningHasNoneWaiting }
     ensures waiting { StepKeepsNoneWaiting }
