@@ -1,5 +1,6 @@
 pub mod Counts
 pub mod Entries
+pub mod Least
 pub mod NumberLemmas
 pub mod OfJobs
 pub mod Pigeons
