@@ -7,10 +7,12 @@ pub mod Changes
 pub mod Cleared
 pub mod Counted
 pub mod Followed
+pub mod Idle
 pub mod JobParts
 pub mod NameParts
 pub mod One
 pub mod Pending
+pub mod PrestartParts
 pub mod Resifted
 pub mod Restood
 pub mod Sifted
