@@ -7,8 +7,8 @@ pub mod Changes
 pub mod Cleared
 pub mod Counted
 pub mod Followed
-pub mod Idle
 pub mod JobParts
+pub mod Lesser
 pub mod NameParts
 pub mod One
 pub mod Pending

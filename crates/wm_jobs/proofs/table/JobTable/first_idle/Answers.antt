@@ -4,7 +4,7 @@ use Rattle.wm_prestart.specs.OfJobs.{entry_of}
 use Rattle.wm_prestart.specs.Ready.{first_idle}
 use Rattle.wm_prestart.proofs.OfJobs.{first_idle_is_found}
 use Rattle.wm_jobs.specs.Table.{Table, serial_of}
-use Rattle.wm_jobs.proofs.Idle.{idle-there}
+use Rattle.wm_jobs.proofs.Lesser.{idle-there}
 use Rattle.wm_jobs.proofs.One.{none-found, some-found}
 use Rattle.wm_jobs.proofs.table.JobTable.first_idle.Goals as goal
 
