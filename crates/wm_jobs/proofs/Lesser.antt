@@ -14,13 +14,14 @@ lesser-one : (least : Option Job) (x j : Job) (xs : List Job) → of_lesser_numb
 lesser-one None x j xs e = let same : x ≡ j = cc e in inr (inl (sym same))
 lesser-one (Some i) x j xs e = lesser-by (nat_lt x.job.number i.job.number) i x j xs e
 
+-- the lesser of what passes of some jobs and one more is one of them
+lesser-on : (b : Bool) (x : Job) (xs rest : List Job) (least : Option Job) (j : Job) → ((from : Option Job) → fold of_lesser_number from rest ≡ Some j → (from ≡ Some j) ⊎ IsIn j xs) → fold of_lesser_number least (cond b (x ∷ rest) rest) ≡ Some j → (least ≡ Some j) ⊎ IsIn j (x ∷ xs)
+lesser-on true x xs rest least j later is = elim (later (of_lesser_number least x) is) as (λ _. (least ≡ Some j) ⊎ IsIn j (x ∷ xs)) [ inl one ↦ lesser-one least x j xs one | inr i ↦ inr (inr i) ]
+lesser-on false x xs rest least j later is = elim (later least is) as (λ _. (least ≡ Some j) ⊎ IsIn j (x ∷ xs)) [ inl one ↦ inl one | inr i ↦ inr (inr i) ]
+
 lesser-there : (p : Job → Bool) (jobs : List Job) (least : Option Job) (j : Job) → fold of_lesser_number least (filter p jobs) ≡ Some j → (least ≡ Some j) ⊎ IsIn j jobs
 lesser-there p [] least j e = inl e
-lesser-there p (x ∷ xs) least j e = on (p x) e
-  where
-    on : (b : Bool) → fold of_lesser_number least (cond b (x ∷ filter p xs) (filter p xs)) ≡ Some j → (least ≡ Some j) ⊎ IsIn j (x ∷ xs)
-    on true is = elim (lesser-there p xs (of_lesser_number least x) j is) as (λ _. (least ≡ Some j) ⊎ IsIn j (x ∷ xs)) [ inl one ↦ lesser-one least x j xs one | inr later ↦ inr (inr later) ]
-    on false is = elim (lesser-there p xs least j is) as (λ _. (least ≡ Some j) ⊎ IsIn j (x ∷ xs)) [ inl one ↦ inl one | inr later ↦ inr (inr later) ]
+lesser-there p (x ∷ xs) least j e = lesser-on (p x) x xs (filter p xs) least j (λ from is. lesser-there p xs from j is) e
 
 pub idle-there : (sbs pgm : QName) (jobs : List Job) (j : Job) → first_idle sbs pgm jobs ≡ Some j → IsIn j jobs
 idle-there sbs pgm jobs j e = elim (lesser-there (is_idle_in sbs pgm) jobs None j e) as (λ _. IsIn j jobs) [ inl none ↦ absurd (cc none) | inr there ↦ there ]

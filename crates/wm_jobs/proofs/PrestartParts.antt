@@ -1,6 +1,5 @@
 -- What one job is among prestart jobs.
-use Rattle.std.proofs.Common.{◌≡◌, ℕ, Bool, true, false, cond, Option, Some, None, option_map, refl, ap, sym, ◌∙◌, subst}
-use mathlib.Core.Bool.{false≢true}
+use Rattle.std.proofs.Common.{◌≡◌, ℕ, Bool, true, false, cond, Option, Some, None, refl, ap, sym, ◌∙◌, subst}
 use Rattle.wm_base.specs.declared.job.How.{How}
 use Rattle.wm_base.specs.declared.job.How.TheVariants.{NotYet, FromQueue, Auto, Pre}
 use Rattle.wm_law.specs.declared.job.Job.{Job}

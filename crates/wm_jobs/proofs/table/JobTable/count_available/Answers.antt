@@ -1,5 +1,4 @@
-use Rattle.std.proofs.Common.{◌≡◌, ◌∙◌, ap, List}
-use Rattle.wm_law.specs.declared.job.Job.{Job}
+use Rattle.std.proofs.Common.{◌∙◌, ap}
 use Rattle.wm_law.specs.Prestart as law
 use Rattle.wm_prestart.specs.OfJobs.{entry_of}
 use Rattle.wm_prestart.specs.Ready.{available}
