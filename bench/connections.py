@@ -14,8 +14,7 @@ POST = r"/users/([^/]+)/commands"
 NAME = re.compile(r"[A-Z$#@][A-Z0-9$#@_]{0,9}$")
 SUBMIT = ("SBMJOB RQSDTA('CALL PGM(QGPL/ECHO)') JOB({}) JOBD(QGPL/QDFTJOBD) JOBQ(*JOBD) JOBPTY(*JOBD) RTGDTA('QCMDB') HOLD({}) "
           "SCDDATE(*CURRENT) SCDTIME(*CURRENT)")
-NO_COMMANDS = {"SBMJOB JOB('A)": "CL 3 OPENQUOTE 11", "A 'x'(": "CL 8 BADBYTE 5", "CRTJOBQ": "CM 4 MISSING JOBQ",
-               "STRPJ SBS(QBATCH) PGM(ECHO)": "CM 9 NOTBUILT"}
+NO_COMMANDS = {"SBMJOB JOB('A)": "CL 3 OPENQUOTE 11", "A 'x'(": "CL 8 BADBYTE 5", "CRTJOBQ": "CM 4 MISSING JOBQ"}
 
 
 class Keeper(Exception):
@@ -70,6 +69,8 @@ class Machine:
             waiting = [j for j in self.jobs if j["status"] in ("HLD", "RLS")]
             return ("CLRJOBQ JOBQ(QGPL/QBATCH)", f"OK queue QGPL/QBATCH cleared of {len(waiting)} jobs",
                     (lambda: [j.update(status="ENDED CLEARED") for j in waiting]) if waiting else None)
+        if word == "STRPJ":
+            return "STRPJ SBS(QBATCH) PGM(QGPL/ECHO)", "NO 02 NOOBJECT PJE", None
         if word == "PWRDWNSYS":
             return "PWRDWNSYS OPTION(*IMMED) DELAY(3600)", "OK power down", lambda: setattr(self, "down", True)
         raise ValueError(line)
@@ -432,6 +433,8 @@ def bodies(folder):
     f.case("Faulty lines")
     for body in NO_COMMANDS:
         f.serve(posted(body), "Done")
+    f.case("A command about an entry that there isn't")
+    f.serve(posted("STRPJ SBS(QBATCH) PGM(ECHO)") + get("/log"), "Done")
     f.case("A GET's body is dropped")
     f.serve(f"GET /subsystems HTTP/1.1\\r\\nContent-Length: 9\\r\\n\\r\\nCRTJOBQ A" + get("/log"), "Done")
     f.case("The body is read before the route is looked for")

@@ -10,7 +10,6 @@ use Rattle.wm_base.specs.declared.qname.QName.{QName}
 use Rattle.wm_base.specs.declared.refusal.Kind.TheVariants as kind
 use Rattle.wm_base.specs.declared.refusal.Refusal.{Refusal}
 use Rattle.wm_base.specs.declared.refusal.Refusal.TheVariants.{NoObject, SbsActive}
-use Rattle.wm_desc.specs.declared.description.Jobd.{Jobd}
 use Rattle.wm_desc.specs.declared.description.Sbsd.{Sbsd}
 use Rattle.wm_desc.specs.declared.entry.AutoEntry.{AutoEntry}
 use Rattle.wm_desc.specs.declared.entry.PreEntry.{PreEntry}
@@ -25,13 +24,12 @@ use Rattle.wm_desc.proofs.Tables.{test_fails}
 use Rattle.wm_traits.specs.declared.row.Row.{Row}
 use Rattle.wm_traits.specs.declared.row.RowChange.{RowChange}
 use Rattle.wm_traits.specs.declared.row.RowChange.TheVariants.{Put, Del}
-use Rattle.wm_law.specs.Changing.{finds_queue}
 use Rattle.wm_law.specs.Choice.{entry_for, is_held}
 use Rattle.wm_law.specs.Machine.{apply, change}
 use Rattle.wm_law.specs.Making.{auto_entry_of, class_of, jobd_of, made_unless, pre_entry_of, queue_entry_of, route_entry_of, unless_in_use}
 use Rattle.wm_law.specs.Queues.{hold_queue, own_name, release_queue, with_held_queue, without_held_queue}
 use Rattle.wm_law.specs.Sound.{IsSound}
-use Rattle.wm_law.specs.Stepped.{Stepped, refused}
+use Rattle.wm_law.specs.Stepped.{Stepped}
 use Rattle.wm_law.specs.declared.call.Call.{Call}
 use Rattle.wm_law.specs.declared.call.Call.TheVariants.{Change}
 use Rattle.wm_law.specs.declared.command.Command.{Command}

@@ -11,14 +11,15 @@ use Rattle.wm_law.specs.Launch.{launch, with_routed}
 use Rattle.wm_law.specs.Kept.{GoesOn}
 use Rattle.wm_law.specs.Laws.{IsIn}
 use Rattle.wm_law.specs.Machine.{apply, step, with_clock}
-use Rattle.wm_law.specs.Settling.{come_due, leave, settle, waiting}
+use Rattle.wm_law.specs.Settling.{come_due, leave, ready, settle, waiting}
 use Rattle.wm_law.specs.Sound.{IsSound}
 use Rattle.wm_law.specs.declared.choice.Candidate.{Candidate}
 use Rattle.wm_law.specs.declared.job.Job.{Job}
 use Rattle.wm_law.specs.declared.state.State.{State}
+use Rattle.wm_law.proofs.Aside.{IsAside, supplied_aside}
 use Rattle.wm_law.proofs.Forward.{step_goes_on}
-use Rattle.wm_law.proofs.Limits.{settled_objects}
 use Rattle.wm_law.proofs.Sound.{clock_sound, step_keeps_sound}
+use Rattle.wm_law.proofs.Supplies.{supplied_keeps}
 use Rattle.wm_rows.specs.Tables.{counter_rows, held_rows, object_rows}
 use Rattle.wm_job_rows.specs.JobText.{job_row}
 use Rattle.wm_job_rows.specs.Stored.{stored_of}
@@ -40,20 +41,19 @@ use Rattle.wm_changes.proofs.OneMore.{own_left, own_right}
 
 -- Settling
 
-held_by : (t : State) (c : Candidate) (o : Option Job) → (with_routed t c o).held ≡ t.held
-held_by t c None = refl
-held_by t c (Some j) = refl
+launched_aside : (s t : State) (c : Candidate) (o : Option Job) → IsAside s t → IsAside s (with_routed t c o)
+launched_aside s t c None a = a
+launched_aside s t c (Some j) a = record { objects = a.objects; held = a.held; offset = a.offset }
 
-launches_keep_held : (held : List QName) → IsKept next (λ c t. launch t c) (λ t. t.held ≡ held)
-launches_keep_held held = record { by_step = λ t c e h. held_by t c (find (λ (j : Job). j.serial == c.serial) t.jobs) ∙ h }
+launches_aside : (s : State) → IsKept next (λ c t. launch t c) (IsAside s)
+launches_aside s = record { by_step = λ t c e a. launched_aside s t c (find (λ (j : Job). j.serial == c.serial) t.jobs) a }
 
--- settling holds no queue and releases none
-settled_held : (t : State) → (settle t).held ≡ t.held
-settled_held t = iterate-keeps (λ (u : State). u.held ≡ t.held) (launches_keep_held t.held) (waiting (leave (come_due t))) (leave (come_due t)) refl
-
--- and it makes no object
-settled_made : (t : State) → (settle t).objects ≡ t.objects
-settled_made t = settled_objects (come_due t)
+-- settling makes no object, holds no queue and releases none
+settled_aside : (t : State) → IsAside t (settle t)
+settled_aside t =
+    let left : IsAside t (leave (come_due t)) = record { objects = refl; held = refl; offset = refl } in
+    let supplied : IsAside t (ready t) = supplied_keeps (IsAside t) (supplied_aside t) (leave (come_due t)) left in
+    iterate-keeps (IsAside t) (launches_aside t) (waiting (ready t)) (ready t) supplied
 
 -- What is known of a state
 
@@ -159,7 +159,7 @@ own_before u t e f own = record {
 }
 
 settled_differ : (s u : State) (cs : List RowChange) → Differs (own_part s) (own_part u) cs → Differs (own_part s) (own_part (settle u)) cs
-settled_differ s u cs d = subst (λ (rows : List Row). Differs (own_part s) rows cs) (sym (same_part u (settle u) (settled_made u) (settled_held u))) d
+settled_differ s u cs d = subst (λ (rows : List Row). Differs (own_part s) rows cs) (sym (same_part u (settle u) (settled_aside u).objects (settled_aside u).held)) d
 
 -- each job stands there still, by its serial
 successor : (s t : State) → GoesOn s t → (j : Job) → IsIn j s.jobs → (k : Job) × IsIn k t.jobs × (k.serial ≡ j.serial)
@@ -173,7 +173,7 @@ step_changes_are_difference s caller call moment changes sound range fit late e 
     let after : IsSound t = step_keeps_sound s caller call moment sound in
     let in_range : IsInRange t = step_keeps_ranges s caller call moment late fit sound range in
     let own : HasOwn (with_clock s moment) = (let o = own_of s sound range in record { objects = o.objects; held = o.held }) in
-    let now : HasOwn u = own_before u t (settled_made u) (settled_held u) (own_of t after in_range) in
+    let now : HasOwn u = own_before u t (settled_aside u).objects (settled_aside u).held (own_of t after in_range) in
     let called = call_differs (with_clock s moment) (clock_sound s moment sound) own caller call now in
     let whole = is_their_difference s t sound range after in_range (successor s t (step_goes_on s caller call moment sound.numbered)) (call_change (removed_number s.objects call) call (apply (with_clock s moment) caller call).reply) (settled_differ (with_clock s moment) u _ called) in
     subst (IsDifference (tables s) (tables t)) (sym e) whole

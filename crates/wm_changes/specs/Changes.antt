@@ -15,7 +15,7 @@ use Rattle.wm_law.specs.Stepped.{Stepped}
 use Rattle.wm_law.specs.declared.call.Call.{Call}
 use Rattle.wm_law.specs.declared.call.Call.TheVariants.{Change, Hand, Started, StartFailed, Finished, UseDone, Tick}
 use Rattle.wm_law.specs.declared.call.Reply.{Reply}
-use Rattle.wm_law.specs.declared.call.Reply.TheVariants.{Made, SbsStarted, SbsEnding, Submitted, Held, Released, Changed, JobEnding, JobEnded, QueueHeld, QueueReleased, QueueCleared, PowerDown, Order, Nothing, Noted, No}
+use Rattle.wm_law.specs.declared.call.Reply.TheVariants.{Made, SbsStarted, SbsEnding, Submitted, Held, Released, Changed, JobEnding, JobEnded, QueueHeld, QueueReleased, QueueCleared, PreStarted, PreEnding, Evoked, EvokeWaits, UseEnded, PowerDown, Order, Nothing, Noted, No}
 use Rattle.wm_law.specs.declared.command.Command.{Command}
 use Rattle.wm_law.specs.declared.command.Command.TheVariants as command
 use Rattle.wm_law.specs.declared.job.Job.{Job}
@@ -81,6 +81,11 @@ is_accepted (JobEnded job) = false
 is_accepted QueueHeld = true
 is_accepted QueueReleased = true
 is_accepted (QueueCleared count) = false
+is_accepted PreStarted = false
+is_accepted PreEnding = false
+is_accepted (Evoked job) = false
+is_accepted (EvokeWaits count) = false
+is_accepted (UseEnded job) = false
 is_accepted PowerDown = false
 is_accepted (Order asked) = false
 is_accepted Nothing = false

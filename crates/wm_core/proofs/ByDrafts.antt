@@ -22,6 +22,7 @@ use Rattle.wm_law.specs.Submitting.{numbers_end, numbers_left, serials_end}
 use Rattle.wm_law.specs.Subsystems.{is_started, max_started, start_refusal}
 use Rattle.wm_pick.specs.Parts.{with_parts}
 use Rattle.wm_core.specs.declared.draft.Draft.{Draft}
+use Rattle.wm_core.specs.Aside.{aside_of}
 use Rattle.wm_core.specs.Drafts.{draft_in, draft_of, drafts, enter_draft}
 
 -- entries whose job description is no object make no job, and have no draft
@@ -76,6 +77,10 @@ with_jobs s jobs number serial = record s { jobs = jobs; next_number = number; n
 others-stay : (q : QName) (s : State) (ds : List Draft) → (let t : State = fold (enter_draft q) s ds in with_jobs s t.jobs t.next_number t.next_serial) ≡ fold (enter_draft q) s ds
 others-stay q s [] = refl
 others-stay q s (d ∷ ds) = others-stay q (enter_draft q s d) ds
+
+-- the objects, the held queues and the offset are as they were
+pub entered_aside : (q : QName) (s : State) (ds : List Draft) → aside_of (fold (enter_draft q) s ds) ≡ aside_of s
+entered_aside q s ds = ap aside_of (sym (others-stay q s ds))
 
 -- where the parts come to what they come to, so does the state
 pub whole-entered : (q : QName) (s : State) (ds : List Draft) (t : State) → t ≡ fold (enter_draft q) (site_of s) ds → with_jobs s t.jobs t.next_number t.next_serial ≡ fold (enter_draft q) s ds

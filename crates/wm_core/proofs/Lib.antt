@@ -1,5 +1,7 @@
 pub mod ActivePhases
+pub mod Assigning
 pub mod ByDrafts
+pub mod Done
 pub mod Endings
 pub mod FromStore
 pub mod InLine
@@ -7,4 +9,5 @@ pub mod Kills
 pub mod NoneDue
 pub mod OrderCounts
 pub mod Reported
+pub mod Supplies
 pub mod Undone

@@ -3,7 +3,7 @@ use Rattle.std.proofs.Common.{◌≡◌, ℕ, false, sym, subst}
 use Rattle.std.proofs.lemmas.Bool.{or_parts}
 use Rattle.wm_law.specs.declared.call.Call.{Call}
 use Rattle.wm_law.specs.declared.state.State.{State}
-use Rattle.wm_law.specs.Built.{is_ending_call}
+use Rattle.wm_law.specs.CallKinds.{is_ending_call}
 use Rattle.wm_law.specs.Machine.{apply, with_clock}
 use Rattle.wm_law.specs.Pending.{next_ending, next_wish, soonest}
 use Rattle.wm_law.specs.Settling.{come_due}

@@ -5,7 +5,7 @@ use Rattle.wm_base.specs.declared.qname.QName.{QName}
 use Rattle.wm_base.specs.declared.refusal.Kind.{Kind}
 use Rattle.wm_base.specs.declared.refusal.Kind.TheVariants as kind
 use Rattle.wm_base.specs.declared.refusal.Refusal.{Refusal}
-use Rattle.wm_base.specs.declared.refusal.Refusal.TheVariants.{Exists, TableFull}
+use Rattle.wm_base.specs.declared.refusal.Refusal.TheVariants.{Exists, NoJob, TableFull}
 use Rattle.wm_base.specs.declared.job.Class.{Class}
 use mathlib.Core.Bool.{true≢false}
 use Rattle.wm_base.proofs.Tests.{or_second}
@@ -29,7 +29,6 @@ use Rattle.wm_law.specs.declared.command.Crtsbsd.{Crtsbsd}
 use Rattle.wm_law.specs.declared.command.Command.{Command}
 use Rattle.wm_law.specs.declared.command.Command.TheVariants as command
 use Rattle.wm_law.specs.declared.job.Job.{Job}
-use Rattle.wm_law.specs.declared.job.Phase.TheVariants as phases
 use Rattle.wm_law.specs.declared.state.Evoke.{Evoke}
 use Rattle.wm_law.specs.declared.state.Sbs.{Sbs}
 use Rattle.wm_law.specs.declared.state.Stop.{Stop}
@@ -41,15 +40,17 @@ use Rattle.wm_law.specs.Machine.{apply, change, step, with_clock}
 use Rattle.wm_law.specs.Making.{class_of, jobd_of, made_unless, make_class, make_description, make_job_description, make_program, make_queue}
 use Rattle.wm_law.specs.Objects.{AreSound}
 use Rattle.wm_law.specs.Queues.{hold_queue, release_queue}
-use Rattle.wm_law.specs.Settling.{come_due, leave, settle, waiting}
+use Rattle.wm_law.specs.Settling.{come_due, leave, ready, settle, waiting}
 use Rattle.wm_law.specs.Stepped.{Stepped}
 use Rattle.wm_law.proofs.Aside.{IsAside, call_is_aside}
 use Rattle.wm_law.proofs.Objects.{new_object}
+use Rattle.wm_law.proofs.Supplies.{supplied_keeps}
 use Rattle.wm_making.specs.declared.saved.Saved.{Saved}
 use Rattle.wm_making.specs.declared.saved.Saved.TheVariants.{Nothing, New, Description, Held}
 use Rattle.wm_making.specs.Saved.{described, old_held, old_objects, saved_by, saved_object, saved_of, without_object}
 use Rattle.wm_making.proofs.PutBack.{added_removed, changed_back, none_changed, none_removed, own_back}
 use Rattle.wm_core.specs.declared.mark.Mark.{Mark}
+use Rattle.wm_core.specs.Aside.{Aside, aside_of}
 use Rattle.wm_core.specs.Marks.{Marks, before, marks_at}
 
 -- with what was kept put back, all that a step doesn't mark otherwise is as it was
@@ -161,6 +162,44 @@ module _ (s : State) where
   called sound caller (Change user c) = changed sound user c
   called sound caller call = like (apply s caller call).state (call_is_aside s caller call refl)
 
+  -- what is kept as a call begins leads back from the state itself
+  kept_by : AreSound s.objects → (c : Command) → IsBack (saved_by s.objects s.held c) s s
+  kept_by sound (command.Crtcls c) =
+      let stays : has_object c.cls s.objects.classes ≡ false → without_object kind.Cls c.cls s.objects ≡ s.objects =
+      λ e. ap (λ (l : List (QName × Class)). record s.objects { classes = l }) (none_removed c.cls s.objects.classes e) in
+      made_object kind.Cls c.cls (has_object c.cls s.objects.classes) (has_object c.cls s.objects.classes) refl s.objects (Some NoJob) (λ n. absurd (cc)) stays stays
+  kept_by sound (command.Crtjobq c) =
+      let stays : has_object c.jobq s.objects.jobqs ≡ false → without_object kind.Jobq c.jobq s.objects ≡ s.objects =
+      λ e. ap (λ (l : List (QName × Jobq)). record s.objects { jobqs = l }) (none_removed c.jobq s.objects.jobqs e) in
+      made_object kind.Jobq c.jobq (has_object c.jobq s.objects.jobqs) (has_object c.jobq s.objects.jobqs) refl s.objects (Some NoJob) (λ n. absurd (cc)) stays stays
+  kept_by sound (command.Crtpgmref c) =
+      let stays : has_object c.pgm s.objects.programs ≡ false → without_object kind.Pgm c.pgm s.objects ≡ s.objects =
+      λ e. ap (λ (l : List (QName × Program)). record s.objects { programs = l }) (none_removed c.pgm s.objects.programs e) in
+      made_object kind.Pgm c.pgm (has_object c.pgm s.objects.programs) (has_object c.pgm s.objects.programs) refl s.objects (Some NoJob) (λ n. absurd (cc)) stays stays
+  kept_by sound (command.Crtjobd c) =
+      let stays : has_object c.jobd s.objects.jobds ≡ false → without_object kind.Jobd c.jobd s.objects ≡ s.objects =
+      λ e. ap (λ (l : List (QName × Jobd)). record s.objects { jobds = l }) (none_removed c.jobd s.objects.jobds e) in
+      made_object kind.Jobd c.jobd (has_object c.jobd s.objects.jobds) (has_object c.jobd s.objects.jobds) refl s.objects (Some NoJob) (λ n. absurd (cc)) stays stays
+  kept_by sound (command.Crtsbsd c) =
+      let stays : has_object c.sbsd s.objects.sbsds ≡ false → without_object kind.Sbsd c.sbsd s.objects ≡ s.objects =
+      λ e. ap (λ (l : List (QName × Sbsd)). record s.objects { sbsds = l }) (none_removed c.sbsd s.objects.sbsds e) in
+      made_object kind.Sbsd c.sbsd (has_object c.sbsd s.objects.sbsds) (has_object c.sbsd s.objects.sbsds) refl s.objects (Some NoJob) (λ n. absurd (cc)) stays stays
+  kept_by sound (command.Addjobqe c) = redescribed sound c.sbsd (λ d. d) (object_named c.sbsd s.objects.sbsds) (Some NoJob) refl
+  kept_by sound (command.Addrtge c) = redescribed sound c.sbsd (λ d. d) (object_named c.sbsd s.objects.sbsds) (Some NoJob) refl
+  kept_by sound (command.Addaje c) = redescribed sound c.sbsd (λ d. d) (object_named c.sbsd s.objects.sbsds) (Some NoJob) refl
+  kept_by sound (command.Addpje c) = redescribed sound c.sbsd (λ d. d) (object_named c.sbsd s.objects.sbsds) (Some NoJob) refl
+  kept_by sound (command.Rmvjobqe c) = redescribed sound c.sbsd (λ d. d) (object_named c.sbsd s.objects.sbsds) (Some NoJob) refl
+  kept_by sound (command.Rmvrtge c) = redescribed sound c.sbsd (λ d. d) (object_named c.sbsd s.objects.sbsds) (Some NoJob) refl
+  kept_by sound (command.Rmvaje c) = redescribed sound c.sbsd (λ d. d) (object_named c.sbsd s.objects.sbsds) (Some NoJob) refl
+  kept_by sound (command.Rmvpje c) = redescribed sound c.sbsd (λ d. d) (object_named c.sbsd s.objects.sbsds) (Some NoJob) refl
+  kept_by sound (command.Hldjobq c) = held_like s.held
+  kept_by sound (command.Rlsjobq c) = held_like s.held
+  kept_by sound c = record { objects = refl; held = refl; offset = refl }
+
+  kept : AreSound s.objects → (call : Call) → IsBack (saved_of s.objects s.held call) s s
+  kept sound (Change user c) = kept_by sound c
+  kept sound call = record { objects = refl; held = refl; offset = refl }
+
 module _ (saved : Saved) (s : State) where
   launched : (t : State) (c : Candidate) (o : Option Job) → IsBack saved s t → IsBack saved s (with_routed t c o)
   launched t c None h = h
@@ -168,8 +207,8 @@ module _ (saved : Saved) (s : State) where
 
   settled : (t : State) → IsBack saved s t → IsBack saved s (settle t)
   settled t h =
-      iterate-keeps (IsBack saved s) (record { by_step = λ u c e k. launched u c (find (λ (j : Job). j.serial == c.serial) u.jobs) k }) (waiting (leave (come_due t))) (leave (come_due t))
-      (record { objects = h.objects; held = h.held; offset = h.offset })
+      let supplied = supplied_keeps (IsBack saved s) (record { makes = λ q d e u can k. record { objects = k.objects; held = k.held; offset = k.offset }; assigns = λ u q pgm job evokes can k. record { objects = k.objects; held = k.held; offset = k.offset } }) (leave (come_due t)) (record { objects = h.objects; held = h.held; offset = h.offset }) in
+      iterate-keeps (IsBack saved s) (record { by_step = λ u c e k. launched u c (find (λ (j : Job). j.serial == c.serial) u.jobs) k }) (waiting (ready t)) (ready t) supplied
 
 stepped : (s : State) (caller : ℕ) (call : Call) (moment : ℕ) → AreSound s.objects → IsBack (saved_of s.objects s.held call) s (step s caller call moment).state
 unfolding step
@@ -177,12 +216,28 @@ stepped s caller call moment sound =
     let h = called (with_clock s moment) sound caller call in
     settled (saved_of s.objects s.held call) s (apply (with_clock s moment) caller call).state (record { objects = h.objects; held = h.held; offset = h.offset })
 
--- what is kept as a call begins leads back from the state that the call leaves before it settles
-pub call_is_undone : (s : State) (caller : ℕ) (call : Call) (moment : ℕ) (m : Marks) (t : State) → AreSound s.objects → m ≡ marks_at s call → t ≡ (apply (with_clock s moment) caller call).state → before m t ≡ s
-call_is_undone s caller call moment m t sound marks is =
+back : (s : State) (call : Call) (m : Marks) (t : State) → m ≡ marks_at s call → IsBack (saved_of s.objects s.held call) s t → before m t ≡ s
+back s call m t marks h =
+    let here : before (marks_at s call) t ≡ s = rw (h.objects, h.held, h.offset) refl in
+    ap (λ (n : Marks). before n t) marks ∙ here
+
+-- objects, held queues and offset decide where what is kept leads back to
+like_aside : (saved : Saved) (s t u : State) → aside_of t ≡ aside_of u → IsBack saved s u → IsBack saved s t
+like_aside saved s t u e h = record {
+  objects = ap (λ (a : Aside). old_objects saved a.objects) e ∙ h.objects;
+  held = ap (λ (a : Aside). old_held saved a.held) e ∙ h.held;
+  offset = ap (λ (a : Aside). a.offset) e ∙ h.offset;
+}
+
+-- what is kept as a call begins leads back from a state with the objects, held queues and offset that were there
+pub kept_is_undone : (s : State) (call : Call) (m : Marks) (t : State) → AreSound s.objects → m ≡ marks_at s call → aside_of t ≡ aside_of s → before m t ≡ s
+kept_is_undone s call m t sound marks e = back s call m t marks (like_aside (saved_of s.objects s.held call) s t s e (kept s sound call))
+
+-- and from one with those that the call leaves before the state settles
+pub call_is_undone : (s : State) (caller : ℕ) (call : Call) (moment : ℕ) (m : Marks) (t : State) → AreSound s.objects → m ≡ marks_at s call → aside_of t ≡ aside_of (apply (with_clock s moment) caller call).state → before m t ≡ s
+call_is_undone s caller call moment m t sound marks e =
     let h = called (with_clock s moment) sound caller call in
-    let back : before (marks_at s call) (apply (with_clock s moment) caller call).state ≡ s = rw (h.objects, h.held, h.offset) refl in
-    ap (λ (n : Marks). before n t) marks ∙ (ap (before (marks_at s call)) is ∙ back)
+    back s call m t marks (like_aside (saved_of s.objects s.held call) s t (apply (with_clock s moment) caller call).state e (record { objects = h.objects; held = h.held; offset = h.offset }))
 
 -- and from the state that its step leaves
 pub step_is_undone : (s : State) (caller : ℕ) (call : Call) (moment : ℕ) → AreSound s.objects → before (marks_at s call) (step s caller call moment).state ≡ s

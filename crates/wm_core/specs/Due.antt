@@ -2,7 +2,7 @@
 use Rattle.std.specs.Prelude.{ℕ, Bool, ◌||◌}
 use Rattle.wm_law.specs.declared.call.Call.{Call}
 use Rattle.wm_law.specs.declared.state.State.{State}
-use Rattle.wm_law.specs.Built.{is_ending_call}
+use Rattle.wm_law.specs.CallKinds.{is_ending_call}
 use Rattle.wm_law.specs.Pending.{next_ending, next_wish, soonest}
 use Rattle.wm_law.specs.Sound.{HasNoneDue, IsSound}
 use Rattle.wm_law.specs.Wishes.{has_come}

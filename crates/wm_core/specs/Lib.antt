@@ -1,6 +1,9 @@
+pub mod Aside
 pub mod Drafts
 pub mod Due
 pub mod LastStep
 pub mod MachineInside
 pub mod Marks
+pub mod Moved
 pub mod Stored
+pub mod Supplied

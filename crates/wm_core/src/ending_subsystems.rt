@@ -15,7 +15,7 @@ impl Machine {
     ghost use Rattle.wm_subsystems.specs.Walks.{AreInLine};
 
     // The started subsystem of a simple name.
-    fn started_named(&self, name: &Name) -> Option<&Sbs>
+    pub(crate) fn started_named(&self, name: &Name) -> Option<&Sbs>
         ensures { option_copied result ≡ started_named self.now.state name.now }
     {
         self.started

@@ -56,12 +56,13 @@ impl Model for Machine {
 
 impl Machine {
     ghost use Rattle.std.specs.Prelude.{◌≡◌, true, false, OnOk, OnErr, IfOk};
-    ghost use Rattle.wm_law.specs.Built.{configures};
-    ghost use Rattle.wm_law.specs.Fit.{HasCall, IsCall, IsCommand};
+    ghost use Rattle.wm_law.specs.CallKinds.{configures};
+    ghost use Rattle.wm_law.specs.Fit.{IsCall, IsCommand};
     ghost use Rattle.wm_pick.specs.Parts.{parts_of};
     ghost use Rattle.wm_law.specs.Machine.{change, apply, step, with_clock};
     ghost use Rattle.wm_law.specs.Sound.{HasNoneDue, IsSound};
     ghost use Rattle.wm_subsystems.specs.Walks.{AreInLine};
+    ghost use Rattle.wm_core.specs.Aside.{aside_of};
     ghost use Rattle.wm_core.specs.Marks.{marks_at};
 
     /// The jobs, and what they are found by.
@@ -132,14 +133,14 @@ impl Machine {
         }
     }
 
-    // Applies a command of a user. An `Err` is want of memory and leaves the machine.
+    // Applies a command of a user. An `Err` is want of memory, perhaps in the middle.
     fn change(&mut self, alloc: Global, user: &Name, command: &Command) -> Result<Reply, NoMemory>
         requires ranges { IsCommand command.now }
         requires line { AreInLine self.old.state.next_serial self.old.state.jobs }
         ensures reply { IfOk result (λ r. r ≡ (change self.old.state user.now command.now).reply) }
         ensures state { OnOk result (self.new.state ≡ (change self.old.state user.now command.now).state) }
-        ensures marks { OnOk result (self.new.marks ≡ self.old.marks) }
-        ensures err { OnErr result (self.new ≡ self.old) }
+        ensures aside { OnErr result (aside_of self.new.state ≡ aside_of self.old.state) }
+        ensures marks { self.new.marks ≡ self.old.marks }
     {
         match command {
             Command::Strsbs(command) => self.start_subsystem(alloc, &command.sbsd),
@@ -151,21 +152,22 @@ impl Machine {
             Command::Endjob(command) => self.end_job(command),
             Command::Clrjobq(command) => Ok(self.clear_queue(&command.jobq)),
             Command::Pwrdwnsys(command) => self.power_down(command),
-            Command::Strpj(_) | Command::Endpj(_) | Command::Evoke(_) | Command::Enduse(_) => Ok(
-                Reply::Nothing,
-            ),
+            Command::Strpj(command) => self.start_prestart(alloc, command),
+            Command::Endpj(command) => self.end_prestart(command),
+            Command::Evoke(command) => self.evoke(user, command),
+            Command::Enduse(command) => self.end_use(command),
             _ => self.configure(alloc, user, command),
         }
     }
 
-    // The reply to a call, and the state before it settles. An `Err` is want of memory and leaves the machine.
+    // The reply to a call, and the state before it settles. An `Err` is want of memory, perhaps in the middle.
     fn apply(&mut self, alloc: Global, caller: u32, call: &Call) -> Result<Reply, NoMemory>
         requires ranges { IsCall call.now }
         requires sound { IsSound self.old.state }
         ensures reply { IfOk result (λ r. r ≡ (apply self.old.state caller call.now).reply) }
         ensures state { OnOk result (self.new.state ≡ (apply self.old.state caller call.now).state) }
-        ensures marks { OnOk result (self.new.marks ≡ self.old.marks) }
-        ensures err { OnErr result (self.new ≡ self.old) }
+        ensures aside { OnErr result (aside_of self.new.state ≡ aside_of self.old.state) }
+        ensures marks { self.new.marks ≡ self.old.marks }
     {
         match call {
             Call::Change { user, command } => self.change(alloc, user, command.get()),
@@ -173,7 +175,7 @@ impl Machine {
             Call::Started(serial) => self.report_started(caller, *serial),
             Call::StartFailed(serial, cause) => self.report_start_failed(caller, *serial, *cause),
             Call::Finished(serial, exit) => self.report_finished(caller, *serial, exit),
-            Call::UseDone(serial) => Ok(self.report_use_done(caller, *serial)),
+            Call::UseDone(serial) => self.report_use_done(caller, *serial),
             Call::Tick => Ok(Reply::Noted),
         }
     }
@@ -189,7 +191,6 @@ impl Machine {
         now: Moment,
     ) -> Result<Reply, NoMemory>
         requires ranges { IsCall call.now }
-        requires built { HasCall call.now }
         requires sound { IsSound self.old.state }
         requires none_due { HasNoneDue self.old.state }
         ensures reply { IfOk result (λ r. r ≡ (step self.old.state caller call.now now).reply) }
@@ -205,7 +206,7 @@ impl Machine {
         let reply = match self.apply(alloc, caller, call) {
             Ok(reply) => reply,
             Err(fault) => {
-                self.take_clock_back();
+                self.take_back();
                 return Err(fault);
             }
         };
@@ -213,7 +214,10 @@ impl Machine {
             self.take_back();
             return Err(fault);
         }
-        self.settle();
+        if let Err(fault) = self.settle(alloc) {
+            self.take_back();
+            return Err(fault);
+        }
         Ok(reply)
     }
 }

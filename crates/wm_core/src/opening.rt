@@ -21,7 +21,7 @@ impl Machine {
     ghost use Rattle.std.specs.Prelude.{◌≡◌, true, false, IfOk, OnOk, All};
     ghost use Rattle.wm_law.specs.Fit.{IsCommand};
     ghost use Rattle.wm_law.specs.Opening.{changed_by, empty, opening};
-    ghost use Rattle.wm_law.specs.Built.{configures};
+    ghost use Rattle.wm_law.specs.CallKinds.{configures};
 
     // No objects and no job.
     fn empty(alloc: Global, offset: Offset) -> Machine

@@ -1,12 +1,12 @@
 // What monitors call: the next order, and their reports.
 ghost use Rattle.std.specs.Prelude.{◌≡◌};
-ghost use Rattle.wm_law.specs.Reports.{phase_word, is_handed_to, is_run_by, exit_cause, end_cause};
+ghost use Rattle.wm_law.specs.Reports.{phase_word, is_handed_to, is_run_by, is_unused, exit_cause, end_cause};
 
 use crate::Machine;
 use std::alloc::Global;
-use wm_base::{Asked, EndCause, Exit, NoMemory, PhaseWord, Refusal, Serial, StartCause};
-use wm_law::{Boxed, Call, Phase, Reply, Wish};
-use wm_subsystems::{handed_wish, now_cause};
+use wm_base::{Asked, EndCause, Exit, How, NoMemory, PhaseWord, Refusal, Serial, StartCause};
+use wm_law::{Boxed, Call, Job, Phase, Reply, Wish};
+use wm_subsystems::{add_stop, handed_wish, is_now, now_cause};
 
 /// What a job's phase is called in a refusal.
 pub(crate) fn phase_word(phase: &Phase) -> PhaseWord
@@ -29,7 +29,7 @@ fn is_handed_to(monitor: u32, phase: &Phase) -> bool
     }
 }
 
-fn is_run_by(monitor: u32, phase: &Phase) -> bool
+pub(crate) fn is_run_by(monitor: u32, phase: &Phase) -> bool
     ensures { result ≡ is_run_by monitor phase.now }
 {
     match phase {
@@ -59,10 +59,18 @@ fn end_cause(exit: &Exit, wish: &Wish) -> EndCause
     }
 }
 
+// Whether a job was never used, and isn't to end now.
+fn is_unused(job: &Job) -> bool
+    ensures { result ≡ is_unused job.now }
+{
+    job.uses == 0 && !is_now(&job.wish)
+}
+
 impl Machine {
-    ghost use Rattle.std.specs.Prelude.{◌≡◌, false, OnOk, OnErr, IfOk};
-    ghost use Rattle.wm_law.specs.Counts.{is_starting, is_waiting};
-    ghost use Rattle.wm_law.specs.Reports.{hand, hand_start, report, use_done, is_handed_to};
+    ghost use Rattle.std.specs.Prelude.{◌≡◌, ◌==◌, true, false, find, IfSome, OnOk, OnErr, IfOk};
+    ghost use Rattle.wm_law.specs.Counts.{is_active, is_starting, is_waiting};
+    ghost use Rattle.wm_core.specs.Moved.{moved_on};
+    ghost use Rattle.wm_law.specs.Reports.{hand, hand_start, report, is_handed_to};
     ghost use Rattle.wm_law.specs.Sound.{IsSound};
     ghost use Rattle.wm_law.specs.Machine.{apply};
 
@@ -106,17 +114,41 @@ impl Machine {
         Ok(Reply::Order(asked))
     }
 
-    // A report on a job that was handed to the monitor, which it moves on.
+    // The job of a serial, which is active, comes into a phase, and its prestart entry is stopped where that is said.
+    fn move_on(
+        &mut self,
+        serial: Serial,
+        phase: Phase,
+        how: &How,
+        stops: bool,
+    ) -> Result<(), NoMemory>
+        requires active { IfSome (find (λ j. j.serial == serial) self.old.state.jobs) (λ j. is_active j.phase ≡ true) }
+        requires waits { is_waiting phase ≡ false }
+        requires starts { is_starting phase ≡ false }
+        ensures ok { OnOk result (self.new.state ≡ moved_on self.old.state serial phase how.now stops) }
+        ensures marks { OnOk result (self.new.marks ≡ self.old.marks) }
+        ensures err { OnErr result (self.new ≡ self.old) }
+    {
+        self.table.reserve(0)?;
+        if stops {
+            add_stop(&mut self.stopped, how)?;
+        }
+        self.table.set_phase(serial, phase);
+        Ok(())
+    }
+
+    // A report on a job that was handed to the monitor, which it moves on. It stops the job's prestart entry where that is said.
     fn report_handed(
         &mut self,
         monitor: u32,
         serial: Serial,
         phase: Phase,
+        stops: bool,
     ) -> Result<Reply, NoMemory>
         requires waits { is_waiting phase ≡ false }
         requires starts { is_starting phase ≡ false }
-        ensures reply { IfOk result (λ r. r ≡ (report self.old.state serial (is_handed_to monitor) (λ _. phase)).reply) }
-        ensures state { OnOk result (self.new.state ≡ (report self.old.state serial (is_handed_to monitor) (λ _. phase)).state) }
+        ensures reply { IfOk result (λ r. r ≡ (report self.old.state serial (is_handed_to monitor) (λ _. phase) (λ _. stops)).reply) }
+        ensures state { OnOk result (self.new.state ≡ (report self.old.state serial (is_handed_to monitor) (λ _. phase) (λ _. stops)).state) }
         ensures marks { OnOk result (self.new.marks ≡ self.old.marks) }
         ensures err { OnErr result (self.new ≡ self.old) }
     {
@@ -126,8 +158,8 @@ impl Machine {
         if !is_handed_to(monitor, &job.phase) {
             return Ok(Reply::No(Refusal::WrongPhase(phase_word(&job.phase))));
         }
-        self.table.reserve(0)?;
-        self.table.set_phase(serial, phase);
+        let how = job.how;
+        self.move_on(serial, phase, &how, stops)?;
         Ok(Reply::Noted)
     }
 
@@ -138,10 +170,10 @@ impl Machine {
         ensures marks { OnOk result (self.new.marks ≡ self.old.marks) }
         ensures err { OnErr result (self.new ≡ self.old) }
     {
-        self.report_handed(monitor, serial, Phase::Running(monitor))
+        self.report_handed(monitor, serial, Phase::Running(monitor), false)
     }
 
-    /// StartFailed: the job that was handed to the monitor has ended.
+    /// StartFailed: the job that was handed to the monitor has ended. A prestart job stops its entry.
     pub(crate) fn report_start_failed(
         &mut self,
         monitor: u32,
@@ -153,10 +185,15 @@ impl Machine {
         ensures marks { OnOk result (self.new.marks ≡ self.old.marks) }
         ensures err { OnErr result (self.new ≡ self.old) }
     {
-        self.report_handed(monitor, serial, Phase::Ended(EndCause::StartFailed(cause)))
+        self.report_handed(
+            monitor,
+            serial,
+            Phase::Ended(EndCause::StartFailed(cause)),
+            true,
+        )
     }
 
-    /// Finished: the job that the monitor runs has ended.
+    /// Finished: the job that the monitor runs has ended. A prestart job that was never used stops its entry.
     pub(crate) fn report_finished(
         &mut self,
         monitor: u32,
@@ -175,24 +212,9 @@ impl Machine {
             return Ok(Reply::No(Refusal::WrongPhase(phase_word(&job.phase))));
         }
         let cause = end_cause(exit, &job.wish);
-        self.table.reserve(0)?;
-        self.table.set_phase(serial, Phase::Ended(cause));
+        let how = job.how;
+        let stops = is_unused(job);
+        self.move_on(serial, Phase::Ended(cause), &how, stops)?;
         Ok(Reply::Noted)
-    }
-
-    // UseDone: no job has a request yet, so this is always refused.
-    pub(crate) fn report_use_done(&self, monitor: u32, serial: Serial) -> Reply
-        ensures { result ≡ (use_done self.now.state monitor serial).reply }
-    {
-        match self.table.job(serial) {
-            None => Reply::No(Refusal::NoJob),
-            Some(job) => {
-                if is_run_by(monitor, &job.phase) {
-                    Reply::No(Refusal::NotInUse)
-                } else {
-                    Reply::No(Refusal::WrongPhase(phase_word(&job.phase)))
-                }
-            }
-        }
     }
 }

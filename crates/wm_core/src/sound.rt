@@ -1,6 +1,6 @@
 // The machine whose state is sound.
 ghost use Rattle.std.specs.Prelude.{◌≡◌, true, false, OnOk, OnErr, IfOk};
-ghost use Rattle.wm_law.specs.Fit.{HasCall, IsCall};
+ghost use Rattle.wm_law.specs.Fit.{IsCall};
 ghost use Rattle.wm_law.specs.Limits.{IsWithinLimits};
 ghost use Rattle.wm_law.specs.Machine.{step};
 ghost use Rattle.wm_law.specs.Opening.{opening};
@@ -54,7 +54,6 @@ impl Core {
         now: Moment,
     ) -> Result<Reply, NoMemory>
         requires ranges { IsCall call.now }
-        requires built { HasCall call.now }
         ensures reply { IfOk result (λ r. r ≡ (step self.old.state caller call.now now).reply) }
         ensures state { OnOk result (self.new.state ≡ (step self.old.state caller call.now now).state) }
         ensures before { OnOk result (self.new.before ≡ self.old.state) }

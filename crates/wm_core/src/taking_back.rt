@@ -15,7 +15,7 @@ use wm_making::{Saved, put_back, saved_of};
 
 impl Machine {
     ghost use Rattle.std.specs.Prelude.{◌≡◌, true, false, OnOk, OnErr, IfOk};
-    ghost use Rattle.wm_core.specs.Marks.{before, jobs_before, marks_at};
+    ghost use Rattle.wm_core.specs.Marks.{before, marks_at};
 
     // What the call may change, with all that is kept beside the jobs.
     fn mark_of(&self, alloc: Global, call: &Call) -> Result<Mark, NoMemory>
@@ -48,17 +48,6 @@ impl Machine {
         self.table.mark();
         self.mark = mark;
         Ok(())
-    }
-
-    /// The clock is set back, where nothing else was changed since the step began; there is no way back any more. It takes no
-    /// memory.
-    pub(crate) fn take_clock_back(&mut self)
-        requires { self.old.marks.mark.undoable ≡ true }
-        ensures state { self.new.state ≡ jobs_before self.old.marks self.old.state }
-        ensures undoable { self.new.marks.mark.undoable ≡ false }
-    {
-        self.mark.undoable = false;
-        self.table.take_back();
     }
 
     /// The step that was taken last is taken back. It takes no memory.

@@ -8,7 +8,7 @@ use Rattle.wm_law.specs.History.{after}
 use Rattle.wm_law.specs.Opening.{opening}
 use Rattle.wm_law.specs.declared.call.Entry.{Entry}
 use Rattle.wm_law.specs.declared.call.Reply.{Reply}
-use Rattle.wm_law.specs.declared.call.Reply.TheVariants.{Made, SbsStarted, SbsEnding, Submitted, Held, Released, Changed, JobEnding, JobEnded, QueueHeld, QueueReleased, QueueCleared, PowerDown, Order, Nothing, Noted, No}
+use Rattle.wm_law.specs.declared.call.Reply.TheVariants.{Made, SbsStarted, SbsEnding, Submitted, Held, Released, Changed, JobEnding, JobEnded, QueueHeld, QueueReleased, QueueCleared, PreStarted, PreEnding, Evoked, EvokeWaits, UseEnded, PowerDown, Order, Nothing, Noted, No}
 use Rattle.wm_law.specs.declared.job.Phase.{Phase}
 use Rattle.wm_law.specs.declared.job.Phase.TheVariants.{Waiting, Starting, Handed, Running, Ended}
 use Rattle.wm_law.specs.declared.state.State.{State}
@@ -30,6 +30,11 @@ is_submitted (JobEnded job) = false
 is_submitted QueueHeld = false
 is_submitted QueueReleased = false
 is_submitted (QueueCleared count) = false
+is_submitted PreStarted = false
+is_submitted PreEnding = false
+is_submitted (Evoked job) = false
+is_submitted (EvokeWaits position) = false
+is_submitted (UseEnded job) = false
 is_submitted PowerDown = false
 is_submitted (Order asked) = false
 is_submitted Nothing = false

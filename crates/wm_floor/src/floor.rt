@@ -1,7 +1,7 @@
 // The shared floor.
 ghost use Rattle.std.specs.Prelude.{◌≡◌, ◌≢◌, ◌-◌, ◌<◌, ◌≤◌, ◌↔◌, [], length, slice_get, None, Some, IfOk, IfErr, IfSome, IsOk, IsSome};
 ghost use Rattle.wm_traits.specs.Cause.{raised};
-ghost use Rattle.wm_law.specs.Fit.{HasCall, IsCall};
+ghost use Rattle.wm_law.specs.Fit.{IsCall};
 ghost use Rattle.wm_law.specs.History.{IsLegal};
 ghost use Rattle.wm_law.specs.Pending.{pending};
 ghost use Rattle.wm_turn.specs.Passed.{begun, child, ended, fresh, joining, own, parent, Grows, HasAll, HasOwn, StartsWith};
@@ -120,7 +120,6 @@ impl<K: Keeper> Floor<K> {
     ) -> Result<Answered, CallFault>
         requires own { IsPassOf self.now pass.old }
         requires fit { IsCall call }
-        requires built { HasCall call }
         ensures own { IsPassOf self.now pass.new }
         ensures same { IsSame pass.old pass.new }
         ensures called { IsCalled self.now.opening call now pass.old pass.new result }

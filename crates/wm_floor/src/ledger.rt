@@ -1,7 +1,7 @@
 // What the callers of a floor take turns with: the machine with its keeper, and its history.
 ghost use Rattle.std.specs.Arc.{arc_value};
 ghost use Rattle.std.specs.Prelude.{◌≡◌, ◌<◌, ◌≤◌, ℕ, [], length, slice_get, Err, IfOk, IfErr, OnOk, OnErr};
-ghost use Rattle.wm_law.specs.Fit.{HasCall, IsCall};
+ghost use Rattle.wm_law.specs.Fit.{IsCall};
 ghost use Rattle.wm_law.specs.Pending.{pending};
 ghost use Rattle.wm_journal.specs.History.{last_of, reached, with_call};
 ghost use Rattle.wm_journal.specs.Keeping.{telling, IsLeft, IsOpened};
@@ -151,7 +151,6 @@ impl<K: Keeper> Ledger<K> {
         now: Moment,
     ) -> Result<(), CallFault>
         requires fit { IsCall call }
-        requires built { HasCall call }
         ensures opening { self.new.opening ≡ self.old.opening }
         ensures ok { OnOk result (history_of self.new ≡ with_call (history_of self.old) caller call now) }
         ensures err { OnErr result (self.new.log ≡ self.old.log) }
@@ -215,7 +214,6 @@ impl<K: Keeper> Ledger<K> {
         now: Moment,
     ) -> Result<Answered, CallFault>
         requires fit { IsCall call }
-        requires built { HasCall call }
         ensures opening { self.new.opening ≡ self.old.opening }
         ensures ok { OnOk result (history_of self.new ≡ with_call (history_of self.old) caller call now) }
         ensures place { IfOk result (λ a. a.place ≡ length self.new.log) }

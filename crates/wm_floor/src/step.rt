@@ -1,6 +1,6 @@
 // One step of the machine, with its keeper's failed calls counted.
 ghost use Rattle.std.specs.Prelude.{◌≡◌, ◌≤◌, OnOk, OnErr};
-ghost use Rattle.wm_law.specs.Fit.{HasCall, IsCall};
+ghost use Rattle.wm_law.specs.Fit.{IsCall};
 ghost use Rattle.wm_law.specs.History.{stepped};
 ghost use Rattle.wm_journal.specs.Keeping.{telling, IsKept, IsLeft};
 ghost use Rattle.wm_floor.specs.Causes.{HasMissed, IsMissCounted, NeverFull};
@@ -19,7 +19,6 @@ pub(crate) fn step<K: Keeper>(
     entry: &mut Entry,
 ) -> Result<(), CallFault>
     requires ranges { IsCall entry.old.call }
-    requires built { HasCall entry.old.call }
     ensures entry { OnOk result (entry.new ≡ record entry.old { reply = (stepped stored.old.state entry.old).reply }) }
     ensures state { OnOk result (stored.new.state ≡ (stepped stored.old.state entry.old).state) }
     ensures kept { OnOk result (IsKept stored.old.state stored.new.state (telling K.tables K.trail stored.old.keeper) (telling K.tables K.trail stored.new.keeper)) }

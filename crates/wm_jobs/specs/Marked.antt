@@ -16,7 +16,7 @@ pub record Marked : Type 0 where
 
 -- what the calls of a table change of a job
 abbrev pub standing_of : Job → Standing
-standing_of j = record { phase = j.phase; how = j.how; wish = j.wish; held = j.held; due = j.due; jobq = j.jobq; pty = j.pty; place = j.place }
+standing_of j = record { phase = j.phase; how = j.how; wish = j.wish; held = j.held; due = j.due; jobq = j.jobq; pty = j.pty; place = j.place; uses = j.uses; evoke = j.evoke }
 
 -- what is kept of a job that is touched
 abbrev pub touched_of : Job → Touched
@@ -24,7 +24,7 @@ touched_of j = record { serial = j.serial; was = standing_of j }
 
 -- the job, standing like that
 abbrev pub standing_as : Standing → Job → Job
-standing_as s j = record j { phase = s.phase; how = s.how; wish = s.wish; held = s.held; due = s.due; jobq = s.jobq; pty = s.pty; place = s.place }
+standing_as s j = record j { phase = s.phase; how = s.how; wish = s.wish; held = s.held; due = s.due; jobq = s.jobq; pty = s.pty; place = s.place; uses = s.uses; evoke = s.evoke }
 
 -- the jobs, with a touched one as it stood before
 abbrev pub restored : Touched → List Job → List Job

@@ -19,6 +19,8 @@ pub(crate) fn standing_of(job: &Job) -> Standing
         jobq: job.jobq,
         pty: job.pty,
         place: job.place,
+        uses: job.uses,
+        evoke: job.evoke,
     }
 }
 
@@ -37,6 +39,8 @@ pub(crate) fn note(touched: &mut Vec<Touched>, job: &Job)
         jobq: job.jobq,
         pty: job.pty,
         place: job.place,
+        uses: job.uses,
+        evoke: job.evoke,
     };
     touched.push_reserved(Touched {
         serial: job.serial,

@@ -64,4 +64,6 @@ pub(crate) fn stand_at(jobs: &mut Vec<Job>, at: usize, serial: Serial, standing:
     job.jobq = standing.jobq;
     job.pty = standing.pty;
     job.place = standing.place;
+    job.uses = standing.uses;
+    job.evoke = standing.evoke;
 }

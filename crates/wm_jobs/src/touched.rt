@@ -13,6 +13,8 @@ pub struct Standing {
     pub jobq: Option<QName>,
     pub pty: Priority,
     pub place: u64,
+    pub uses: u32,
+    pub evoke: bool,
 }
 
 /// A job that was touched, by its serial, and how it stood before.

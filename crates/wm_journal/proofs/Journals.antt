@@ -6,7 +6,7 @@ use Rattle.wm_law.specs.declared.call.Call.TheVariants.{Change, Hand, Started, S
 use Rattle.wm_law.specs.declared.call.Entry.{Entry}
 use Rattle.wm_law.specs.declared.call.Reply.{Reply}
 use Rattle.wm_law.specs.declared.state.State.{State}
-use Rattle.wm_law.specs.Fit.{IsCall, HasCall}
+use Rattle.wm_law.specs.Fit.{IsCall}
 use Rattle.wm_law.specs.History.{after, IsEntry}
 use Rattle.wm_law.specs.Machine.{step}
 use Rattle.wm_law.proofs.History.{after-append, IsLegal-push}
@@ -31,7 +31,6 @@ pub record IsStep (h : History) (most : ℕ) (s t : State) (caller : ℕ) (call 
   pub journal : IsJournal h most s old mid
   pub seat : caller < 2 ^ 32
   pub fit : IsCall call
-  pub built : HasCall call
   pub moment : now ≤ 253402214399
   pub room : length h.log + 1 ≤ 4000000
   pub reply : said ≡ (step s caller call now).reply
@@ -52,7 +51,6 @@ module _ (h : History) (most : ℕ) (s t : State) (caller : ℕ) (call : Call) (
   entry = record {
     caller = k.seat;
     call = k.fit;
-    built = k.built;
     moment = k.moment;
     reply = subst (λ (u : State). said ≡ (step u caller call now).reply) k.journal.state k.reply;
   }

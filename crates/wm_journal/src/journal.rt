@@ -1,7 +1,7 @@
 // The machine with its history and its keeper.
 ghost use Rattle.std.specs.Prelude.{◌≡◌, ◌<◌, ◌≤◌, ◌+◌, ◌↔◌, ℕ, [], length, Err, IsErr, IfOk, IfErr, OnOk, OnErr};
 ghost use Rattle.std.specs.Option.{option_copied};
-ghost use Rattle.wm_law.specs.Fit.{HasCall, IsCall};
+ghost use Rattle.wm_law.specs.Fit.{IsCall};
 ghost use Rattle.wm_law.specs.History.{IsLegal};
 ghost use Rattle.wm_law.specs.Pending.{pending};
 ghost use Rattle.wm_journal.specs.CallFaults.{HasCallCause};
@@ -107,7 +107,6 @@ impl<K: Keeper> Journal<K> {
         now: Moment,
     ) -> Result<(), CallFault>
         requires fit { IsCall call }
-        requires built { HasCall call }
         ensures ok { OnOk result (self.new.history ≡ with_call self.old.history pass.now call now) }
         ensures kept { OnOk result (IsKept (reached self.old.history) (reached self.new.history) (telling K.tables K.trail self.old.keeper) (telling K.tables K.trail self.new.keeper)) }
         ensures err { OnErr result (self.new.history ≡ self.old.history) }

@@ -1,6 +1,6 @@
 // The machine with its keeper.
 ghost use Rattle.std.specs.Prelude.{◌≡◌, IfOk, IfErr, OnOk, OnErr};
-ghost use Rattle.wm_law.specs.Fit.{HasCall, IsCall};
+ghost use Rattle.wm_law.specs.Fit.{IsCall};
 ghost use Rattle.wm_law.specs.Machine.{step};
 ghost use Rattle.wm_law.specs.Pending.{pending};
 ghost use Rattle.wm_traits.specs.Cause.{HasKeepCause};
@@ -70,7 +70,6 @@ impl<K: Keeper> StoredCore<K> {
         now: Moment,
     ) -> Result<Reply, KeepFault>
         requires ranges { IsCall call.now }
-        requires built { HasCall call.now }
         ensures reply { IfOk result (λ r. r ≡ (step self.old.state caller call.now now).reply) }
         ensures state { OnOk result (self.new.state ≡ (step self.old.state caller call.now now).state) }
         ensures kept { OnOk result (IsKept self.old.state self.new.state (telling K.tables K.trail self.old.keeper) (telling K.tables K.trail self.new.keeper)) }

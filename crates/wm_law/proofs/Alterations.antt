@@ -11,7 +11,7 @@ use Rattle.wm_base.specs.declared.refusal.Refusal.{Refusal}
 use Rattle.wm_desc.specs.Sorted.{added, removed}
 use Rattle.wm_desc.specs.Table.{object_named, qname_cmp, same_qname}
 use Rattle.wm_law.specs.declared.call.Reply.{Reply}
-use Rattle.wm_law.specs.declared.call.Reply.TheVariants.{Changed, Held, JobEnded, JobEnding, No, Nothing, PowerDown, QueueCleared, QueueHeld, QueueReleased, Released, SbsEnding}
+use Rattle.wm_law.specs.declared.call.Reply.TheVariants.{Changed, Held, JobEnded, JobEnding, No, Nothing, PowerDown, QueueCleared, QueueHeld, QueueReleased, Released, SbsEnding, PreEnding, Evoked, UseEnded, Noted}
 use Rattle.wm_law.specs.declared.command.Chgjob.{Chgjob}
 use Rattle.wm_law.specs.declared.job.Job.{Job}
 use Rattle.wm_law.specs.declared.job.Phase.{Phase}
@@ -66,6 +66,18 @@ plain_sbs_ending sbs = record { orders_none = refl; refuses_none = λ x e. absur
 pub plain_power_down : IsPlain PowerDown
 plain_power_down = record { orders_none = refl; refuses_none = λ x e. absurd (cc); says = λ e. absurd (cc) }
 
+pub plain_pre_ending : IsPlain PreEnding
+plain_pre_ending = record { orders_none = refl; refuses_none = λ x e. absurd (cc); says = λ e. absurd (cc) }
+
+pub plain_evoked : (job : JobName) → IsPlain (Evoked job)
+plain_evoked job = record { orders_none = refl; refuses_none = λ x e. absurd (cc); says = λ e. absurd (cc) }
+
+pub plain_use_ended : (job : JobName) → IsPlain (UseEnded job)
+plain_use_ended job = record { orders_none = refl; refuses_none = λ x e. absurd (cc); says = λ e. absurd (cc) }
+
+pub plain_noted : IsPlain Noted
+plain_noted = record { orders_none = refl; refuses_none = λ x e. absurd (cc); says = λ e. absurd (cc) }
+
 -- the phase is that of an end by no launch
 abbrev pub IsEndOnQueue : Phase → Type 0
 IsEndOnQueue p = (c : EndCause) × (p ≡ Ended c) × (is_routing_cause c ≡ false)
@@ -78,6 +90,8 @@ pub record IsAltered (s : State) (j k : Job) : Type 0 where
   pub kind : k.kind ≡ j.kind
   pub how : k.how ≡ j.how
   pub wish : k.wish ≡ j.wish
+  pub uses : k.uses ≡ j.uses
+  pub evoke : k.evoke ≡ j.evoke
   pub phase : (is_waiting k.phase ≡ true) ⊎ IsEndOnQueue k.phase
   pub queue : IsSome j.jobq → IsSome k.jobq
   pub is_object : (q : QName) → k.jobq ≡ Some q → (j.jobq ≡ Some q) ⊎ IsSome (object_named q s.objects.jobqs)
@@ -134,20 +148,20 @@ place_at change j false h = refl
 
 pub holding_alters : (s : State) (serial : ℕ) (held : Bool) → IsAlteration s (waiting_at serial (with_held held)) s.next_place
 holding_alters s serial held = record {
-  each = altered_at s serial (with_held held) (λ j w. record { waits = w; serial = refl; job = refl; kind = refl; how = refl; wish = refl; phase = inl w; queue = λ h. h; is_object = λ q e. inl e });
+  each = altered_at s serial (with_held held) (λ j w. record { waits = w; serial = refl; job = refl; kind = refl; how = refl; wish = refl; uses = refl; evoke = refl; phase = inl w; queue = λ h. h; is_object = λ q e. inl e });
   places = inl (record { same = λ j. place_at (with_held held) j (is_waiting j.phase && j.serial == serial) refl; next = refl });
 }
 
 pub due_alters : (s : State) (serial due : ℕ) → IsAlteration s (waiting_at serial (with_due due)) s.next_place
 due_alters s serial due = record {
-  each = altered_at s serial (with_due due) (λ j w. record { waits = w; serial = refl; job = refl; kind = refl; how = refl; wish = refl; phase = inl w; queue = λ h. h; is_object = λ q e. inl e });
+  each = altered_at s serial (with_due due) (λ j w. record { waits = w; serial = refl; job = refl; kind = refl; how = refl; wish = refl; uses = refl; evoke = refl; phase = inl w; queue = λ h. h; is_object = λ q e. inl e });
   places = inl (record { same = λ j. place_at (with_due due) j (is_waiting j.phase && j.serial == serial) refl; next = refl });
 }
 
 -- ENDJOB on a job that waits
 pub ending_alters : (s : State) (serial : ℕ) → IsAlteration s (waiting_at serial (in_phase (Ended EndedOnQueue))) s.next_place
 ending_alters s serial = record {
-  each = altered_at s serial (in_phase (Ended EndedOnQueue)) (λ j w. record { waits = w; serial = refl; job = refl; kind = refl; how = refl; wish = refl; phase = inr (EndedOnQueue, refl, refl); queue = λ h. h; is_object = λ q e. inl e });
+  each = altered_at s serial (in_phase (Ended EndedOnQueue)) (λ j w. record { waits = w; serial = refl; job = refl; kind = refl; how = refl; wish = refl; uses = refl; evoke = refl; phase = inr (EndedOnQueue, refl, refl); queue = λ h. h; is_object = λ q e. inl e });
   places = inl (record { same = λ j. place_at (in_phase (Ended EndedOnQueue)) j (is_waiting j.phase && j.serial == serial) refl; next = refl });
 }
 
@@ -173,7 +187,7 @@ taken_at change serial place j h w e =
 
 pub moving_alters : (s : State) (c : Chgjob) (serial due : ℕ) → nat_lt s.next_place serials_end ≡ true → finds_queue s c.jobq ≡ true → IsAlteration s (waiting_at serial (moved_to c s.next_place due)) (s.next_place + 1)
 moving_alters s c serial due left q = record {
-  each = altered_at s serial (moved_to c s.next_place due) (λ j w. record { waits = w; serial = refl; job = refl; kind = refl; how = refl; wish = refl; phase = inl w; queue = some_or c.jobq j.jobq; is_object = λ n e. object_or s c.jobq j.jobq n q e });
+  each = altered_at s serial (moved_to c s.next_place due) (λ j w. record { waits = w; serial = refl; job = refl; kind = refl; how = refl; wish = refl; uses = refl; evoke = refl; phase = inl w; queue = some_or c.jobq j.jobq; is_object = λ n e. object_or s c.jobq j.jobq n q e });
   places = inr (record {
     serial = serial;
     taken = λ j w e. taken_at (moved_to c s.next_place due) serial s.next_place j (λ k. refl) w e;
@@ -184,7 +198,7 @@ moving_alters s c serial due left q = record {
 }
 
 cleared_by : (s : State) (queue : QName) (j : Job) (b : Bool) → waits_on queue j ≡ b → (cond b (in_phase (Ended Cleared) j) j ≡ j) ⊎ IsAltered s j (cond b (in_phase (Ended Cleared) j) j)
-cleared_by s queue j true e = inr (record { waits = (and_parts (is_waiting j.phase) (is_on_queue queue j.jobq) e).0; serial = refl; job = refl; kind = refl; how = refl; wish = refl; phase = inr (Cleared, refl, refl); queue = λ h. h; is_object = λ q e. inl e })
+cleared_by s queue j true e = inr (record { waits = (and_parts (is_waiting j.phase) (is_on_queue queue j.jobq) e).0; serial = refl; job = refl; kind = refl; how = refl; wish = refl; uses = refl; evoke = refl; phase = inr (Cleared, refl, refl); queue = λ h. h; is_object = λ q e. inl e })
 cleared_by s queue j false e = inl refl
 
 pub clearing_alters : (s : State) (queue : QName) → IsAlteration s (cleared_from queue) s.next_place

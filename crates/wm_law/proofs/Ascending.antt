@@ -12,7 +12,7 @@ use Rattle.wm_base.proofs.Orderings.{is_lt-Less}
 use Rattle.wm_law.specs.declared.state.Sbs.{Sbs}
 use Rattle.wm_law.specs.Kept.{IsDistinct}
 use Rattle.wm_law.specs.Laws.{IsIn}
-use Rattle.wm_law.specs.Settling.{inserted, in_order}
+use Rattle.wm_law.specs.Supply.{inserted, in_order}
 
 -- the simple name comes before the other
 abbrev pub Precedes : QName → QName → Type 0

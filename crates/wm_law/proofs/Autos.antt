@@ -1,5 +1,5 @@
 -- An autostart job that became Starting did so by its route.
-use Rattle.std.proofs.Common.{◌≡◌, ◌⊎◌, ◌==◌, Bool, true, false, cond, Option, Some, None, refl, sym, ap, subst, ◌∙◌, inl, inr}
+use Rattle.std.proofs.Common.{◌≡◌, ◌⊎◌, ◌==◌, Bool, true, false, cond, Option, Some, None, refl, sym, ap, subst, ◌∙◌, inl, inr, List}
 use Rattle.std.specs.List.{find}
 use Rattle.std.proofs.lemmas.Bool.{eqb-true}
 use Rattle.wm_base.specs.declared.qname.QName.{QName}
@@ -9,29 +9,35 @@ use Rattle.wm_desc.specs.declared.description.Jobd.{Jobd}
 use Rattle.wm_desc.specs.declared.entry.AutoEntry.{AutoEntry}
 use Rattle.wm_law.specs.declared.choice.Candidate.{Candidate}
 use Rattle.wm_law.specs.declared.job.Job.{Job}
-use Rattle.wm_law.specs.declared.job.JobKind.TheVariants.{Bch, Asj}
+use Rattle.wm_law.specs.declared.job.JobKind.TheVariants.{Bch, Asj, Pj}
 use Rattle.wm_law.specs.declared.job.Phase.TheVariants.{Starting}
 use Rattle.wm_law.specs.declared.state.State.{State}
 use Rattle.wm_law.specs.Autos.{auto_job, routed_auto, auto_made}
 use Rattle.wm_law.specs.Choice.{next}
 use Rattle.wm_law.specs.Kept.{IsNumbered}
-use Rattle.wm_law.specs.Jobs.{changed_at}
+use Rattle.wm_law.specs.Jobs.{changed_at, active_at}
 use Rattle.wm_law.specs.Launch.{as_auto, as_launched, launch, with_routed, routed_from_queue, route}
 use Rattle.wm_law.specs.Laws.{IsIn}
 use Rattle.wm_law.specs.Limits.{IsStarting, is_autostart}
 use Rattle.wm_law.specs.Order.{AutosFit, IsAutoRouted}
-use Rattle.wm_law.specs.Settling.{come_due, job_at, leave, sbss_at, start_jobs, waiting}
+use Rattle.wm_law.specs.Settling.{come_due, job_at, leave, sbss_at, start_jobs, waiting, ready}
 use Rattle.wm_law.specs.Sound.{HasQueues}
-use Rattle.wm_law.proofs.Endings.{stood_starting, wishing_at}
+use Rattle.wm_law.proofs.Endings.{stood_starting, wishing_at, IsWishing, using, wished}
 use Rattle.wm_law.proofs.Firsts.{ready_waits}
 use Rattle.wm_law.proofs.Forward.{only_one}
 use Rattle.wm_law.proofs.Limits.{altered_starts_none, ended_starts_none, entered_starts_none, moved_starts_none}
 use Rattle.wm_law.proofs.Members.{of_last, of_mapped}
-use Rattle.wm_law.proofs.Moves.{HoldsOfStates}
+use Rattle.wm_law.proofs.Moves.{HoldsOfStates, autos_made}
 use Rattle.wm_law.proofs.Nexts.{IsNext, is_next}
-use Rattle.wm_law.proofs.Numbers.{launches_keep, only_started}
+use Rattle.wm_law.proofs.Numbers.{launches_keep}
 use Rattle.wm_law.proofs.Queued.{launches_queued}
 use Rattle.wm_law.proofs.Routed.{by_route}
+use Rattle.wm_law.specs.declared.state.Evoke.{Evoke}
+use Rattle.wm_law.specs.declared.state.Power.{Power}
+use Rattle.wm_law.specs.declared.state.Sbs.{Sbs}
+use Rattle.wm_law.specs.Prestart.{make_pre, new_pre_job, with_evoke}
+use Rattle.wm_law.proofs.Supplies.{supplied_keeps}
+use Rattle.wm_law.specs.declared.state.Stop.{Stop}
 
 -- each autostart job that is Starting in the second state was so in the first, or is as its route has it
 abbrev pub AutosRouted : State → State → Type 0
@@ -49,24 +55,10 @@ autos_routed s t q e d h k i p v =
       | inr same ↦ inr (subst (IsAutoRouted t.objects) (sym same) (auto_routed t q e d (ap (λ (j : Job). j.phase) (sym same) ∙ p)))
     ]
 
--- so it is after each call, before the state settles
-pub calls_route_autos : (s : State) → HoldsOfStates (AutosRouted s) s
-calls_route_autos s = record {
-  stays = λ j i p v. inl (j, i, refl, p);
-  starts = λ q e j i p v. inl (j, i, refl, p);
-  autos = λ q t e d m h. autos_routed s t q e d h;
-  enters = λ user c d due has j i p v. inl (entered_starts_none s user c d due j i p);
-  alters = λ change place a j i p v. inl (altered_starts_none s change place a j i p);
-  holds = λ held a j i p v. inl (j, i, refl, p);
-  moves = λ serial j phase i e r n k m p v. inl (moved_starts_none s serial phase n k m p);
-  ends = λ change started evokes power e j i p v. inl (ended_starts_none s change e.jobs j i p);
-  makes = λ o c j i p v. inl (j, i, refl, p);
-}
-
--- and where what is due has ended
-pub autos_due : (s t : State) → AutosRouted s t → AutosRouted s (come_due t)
-autos_due s t h k i p v =
-    let m = stood_starting (job_at t.clock (sbss_at t)) (wishing_at t.clock (sbss_at t)) t.jobs k i p in
+-- so it is where wishes and uses change
+wished_routed : (s t : State) (change : Job → Job) (started : List Sbs) (stopped : List Stop) (evokes : List Evoke) (power : Power) → IsWishing change → AutosRouted s t → AutosRouted s (wished t change started stopped evokes power)
+wished_routed s t change started stopped evokes power e h k i p v =
+    let m = stood_starting change e t.jobs k i p in
     elim (h m.job m.there m.starting (sym (ap (λ (x : Job). x.kind) m.same) ∙ v)) as (λ _. IsStarting s k.serial ⊎ IsAutoRouted t.objects k) [
       | inl was ↦ inl (subst (IsStarting s) (sym (ap (λ (x : Job). x.serial) m.same)) was)
       | inr r ↦ inr (record {
@@ -78,6 +70,35 @@ autos_due s t h k i p v =
         is_how = ap (λ (x : Job). x.how) m.same ∙ r.is_how;
       })
     ]
+
+-- a prestart job is no autostart job
+pre_routed : (s t : State) (q pgm : QName) → AutosRouted s t → AutosRouted s (make_pre q pgm t)
+pre_routed s t q pgm h k i p v =
+    elim (of_last t.jobs (new_pre_job t q pgm) k i) as (λ _. IsStarting s k.serial ⊎ IsAutoRouted t.objects k) [
+      | inl m ↦ h k m p v
+      | inr same ↦ (let kinds : Pj ≡ Asj = ap (λ (j : Job). j.kind) (sym same) ∙ v in absurd (cc))
+    ]
+
+-- so it is after each call, before the state settles
+pub calls_route_autos : (s : State) → HoldsOfStates (AutosRouted s) s
+calls_route_autos s = record {
+  stays = λ j i p v. inl (j, i, refl, p);
+  starts = λ q e. autos_made (AutosRouted s) s q e (λ t x d m h. autos_routed s t q x d h) (λ j i p v. inl (j, i, refl, p));
+  supplies = record { makes = λ q d e t can h. pre_routed s t q e.pgm h; assigns = λ t q pgm job evokes can h. wished_routed s t (active_at job.serial with_evoke) t.started t.stopped evokes t.power (using job.serial) h };
+  enters = λ user c d due has j i p v. inl (entered_starts_none s user c d due j i p);
+  alters = λ change place a j i p v. inl (altered_starts_none s change place a j i p);
+  holds = λ held a j i p v. inl (j, i, refl, p);
+  lists = λ stopped evokes j i p v. inl (j, i, refl, p);
+  moves = λ serial j phase stopped i e r n k m p v. inl (moved_starts_none s serial phase n k m p);
+  ends = λ change started stopped evokes power e j i p v. inl (ended_starts_none s change e.jobs j i p);
+  makes = λ o c j i p v. inl (j, i, refl, p);
+}
+
+-- and where the state is ready for jobs to start
+pub autos_ready : (s t : State) → AutosRouted s t → AutosRouted s (ready t)
+autos_ready s t h =
+    supplied_keeps (AutosRouted s) (calls_route_autos s).supplies (leave (come_due t))
+    (wished_routed s t (job_at t.clock (sbss_at t)) (sbss_at t) t.stopped t.evokes t.power (wishing_at t.clock (sbss_at t)) h)
 
 -- numbered, the jobs have their queues, and the autostart jobs are by their routes
 record IsRoutedSince (s t : State) : Type 0 where
@@ -112,10 +133,10 @@ launches_routed s = record {
 }
 
 -- and once it has settled
-pub autos_fit : (s t : State) → IsNumbered t → HasQueues t → AutosRouted s t → AutosFit s (start_jobs (leave t))
+pub autos_fit : (s t : State) → IsNumbered t → HasQueues t → AutosRouted s t → AutosFit s (start_jobs t)
 autos_fit s t n q h j b v =
-    let since : IsRoutedSince s (start_jobs (leave t)) = iterate-keeps (IsRoutedSince s) (launches_routed s) (waiting (leave t)) (leave t) (record { numbered = only_started t n; queues = q; routed = h }) in
-    elim (since.routed j b.job b.starting v) as (λ _. IsAutoRouted (start_jobs (leave t)).objects j) [
+    let since : IsRoutedSince s (start_jobs t) = iterate-keeps (IsRoutedSince s) (launches_routed s) (waiting t) t (record { numbered = n; queues = q; routed = h }) in
+    elim (since.routed j b.job b.starting v) as (λ _. IsAutoRouted (start_jobs t).objects j) [
       | inl was ↦ absurd (b.new was)
       | inr r ↦ r
     ]

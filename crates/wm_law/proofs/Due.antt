@@ -1,8 +1,8 @@
 -- Settling leaves nothing that is due to end.
-use Rattle.std.proofs.Common.{◌≡◌, ℕ, ℤ, ◌==◌, ◌&&◌, ◌||◌, not, Bool, true, false, cond, List, [], ◌∷◌, map, filter, Option, Some, None, refl, sym, ap, subst, ◌∙◌, inl, inr}
+use Rattle.std.proofs.Common.{◌≡◌, ℕ, ℤ, ◌==◌, ◌&&◌, ◌||◌, not, Bool, true, false, cond, List, [], ◌∷◌, map, filter, Option, Some, None, refl, sym, ap, subst, ◌∙◌, inl, inr, ◌++◌}
 use Rattle.std.specs.List.{find, list_any}
 use Rattle.std.proofs.lemmas.Bool.{or_right, and_parts, eqb-true}
-use Rattle.wm_base.specs.declared.job.How.TheVariants.{FromQueue}
+use Rattle.wm_base.specs.declared.job.How.TheVariants.{FromQueue, Pre}
 use Rattle.wm_base.specs.declared.qname.QName.{QName}
 use Rattle.wm_base.specs.Iterate.{IsKept}
 use Rattle.wm_base.specs.Limit.{is_below}
@@ -25,27 +25,33 @@ use Rattle.wm_law.specs.declared.state.State.{State}
 use Rattle.wm_law.specs.Choice.{is_sbs_active, maxpty_of, next}
 use Rattle.wm_law.specs.Counts.{count_from_priority, count_from_queue, count_in_sbs, is_active, is_in_sbs, is_prestart, is_starting}
 use Rattle.wm_law.specs.Kept.{HasDistinctNames, IsNumbered}
-use Rattle.wm_law.specs.Jobs.{changed_at}
+use Rattle.wm_law.specs.Jobs.{changed_at, active_at}
 use Rattle.wm_law.specs.Launch.{as_launched, from_queue, launch, with_routed, routed_from_queue, routed_through, route}
 use Rattle.wm_law.specs.Laws.{IsIn}
 use Rattle.wm_law.specs.Machine.{apply, step, with_clock}
-use Rattle.wm_law.specs.Settling.{come_due, ended_by, is_gone, is_sbs_now, job_at, leave, sbs_at, sbs_moment, sbs_phase_at, sbss_at, unless_started, waiting, with_deadline}
+use Rattle.wm_law.specs.Settling.{come_due, ended_by, is_gone, is_sbs_now, job_at, leave, sbs_at, sbs_moment, sbs_phase_at, sbss_at, unless_started, waiting, with_deadline, ready}
 use Rattle.wm_law.specs.Sound.{HasNoneDue, HasWishes, IsUpToDate, NothingDueStays, OpeningHasNoneDue}
 use Rattle.wm_law.specs.Wishes.{deadline, has_come, has_wish, is_due, is_in_any, is_now, is_to_end, is_wish_due, now_cause, told_now, wish_at, with_wish}
 use Rattle.wm_law.proofs.Distinct.{distinct_left, one_by_key}
 use Rattle.wm_law.proofs.Endings.{ending_starting, key_same, looking, starting_phase, telling_now, unstarted_wish, was_active, wishing_at}
 use Rattle.wm_law.proofs.Firsts.{holder_started, ready_waits}
 use Rattle.wm_law.proofs.Forward.{only_one}
-use Rattle.wm_law.proofs.Members.{each_stays, left_in, of_mapped}
-use Rattle.wm_law.proofs.Moves.{call_keeps, comes_due}
+use Rattle.wm_law.proofs.Members.{each_stays, left_in, of_mapped, of_last}
+use Rattle.wm_law.proofs.Moves.{call_keeps, comes_due, readies}
 use Rattle.wm_law.proofs.Nexts.{IsNext, is_next}
 use Rattle.wm_law.proofs.Numbers.{apply_keeps, clock_keeps, launches_keep, ready_keeps}
 use Rattle.wm_law.proofs.Opened.{opened, opening_is}
 use Rattle.wm_law.proofs.Placed.{active_through}
 use Rattle.wm_law.proofs.Routed.{launched_routed, started_through}
 use Rattle.wm_law.proofs.Started.{calls, launched as names_launched}
-use Rattle.wm_law.proofs.Wished.{launched_wished, wished_calls}
+use Rattle.wm_law.proofs.Wished.{launched_wished, wished_calls, wished_parts}
 use Rattle.wm_desc.proofs.Tables.{one_name}
+use Rattle.wm_base.specs.declared.job.EndCause.{EndCause}
+use Rattle.wm_desc.specs.declared.description.Sbsd.{Sbsd}
+use Rattle.wm_desc.specs.declared.entry.PreEntry.{PreEntry}
+use Rattle.wm_law.specs.Prestart.{new_pre_job, with_evoke}
+use Rattle.wm_law.proofs.Supplies.{IsSupplied, IsSuppliable, supplied_keeps}
+use Rattle.wm_law.proofs.UsesUp.{used_up}
 
 -- whether a subsystem ends now
 abbrev now : Sbs → Bool
@@ -104,6 +110,16 @@ unstarted_at j false e p =
     let yes : is_starting j.phase ≡ true = ap is_starting p in
     absurd (cc)
 
+-- neither takes a request from a job
+unstarted_evoke : (b : Bool) (o : Option EndCause) (j : Job) → (cond b (ended_by o j) j).evoke ≡ j.evoke
+unstarted_evoke true None j = refl
+unstarted_evoke true (Some c) j = refl
+unstarted_evoke false o j = refl
+
+wished_evoke : (b : Bool) (w : Wish) (j : Job) → (cond b (with_wish w j) j).evoke ≡ j.evoke
+wished_evoke true w j = refl
+wished_evoke false w j = refl
+
 -- a job that is active after settling's first part is up to date
 module _ (clock : ℕ) (started : List Sbs) (j : Job) (a : is_active (job_at clock started j).phase ≡ true) where
   abbrev first : Job
@@ -129,19 +145,19 @@ module _ (clock : ℕ) (started : List Sbs) (j : Job) (a : is_active (job_at clo
 
   how : third.how ≡ j.how
   how =
-      key_same unless_started ending_starting (λ (x : Job). x.how) (λ x p w. refl) second
-      ∙ key_same (with_deadline clock) (looking clock) (λ (x : Job). x.how) (λ x p w. refl) first
-      ∙ key_same (told_now now started) (telling_now now started) (λ (x : Job). x.how) (λ x p w. refl) j
+      key_same unless_started ending_starting (λ (x : Job). x.how) (λ x p w u e. refl) second
+      ∙ key_same (with_deadline clock) (looking clock) (λ (x : Job). x.how) (λ x p w u e. refl) first
+      ∙ key_same (told_now now started) (telling_now now started) (λ (x : Job). x.how) (λ x p w u e. refl) j
 
   kind : third.kind ≡ first.kind
   kind =
-      key_same unless_started ending_starting (λ (x : Job). x.kind) (λ x p w. refl) second
-      ∙ key_same (with_deadline clock) (looking clock) (λ (x : Job). x.kind) (λ x p w. refl) first
+      key_same unless_started ending_starting (λ (x : Job). x.kind) (λ x p w u e. refl) second
+      ∙ key_same (with_deadline clock) (looking clock) (λ (x : Job). x.kind) (λ x p w u e. refl) first
 
   evoke : third.evoke ≡ first.evoke
   evoke =
-      key_same unless_started ending_starting (λ (x : Job). x.evoke) (λ x p w. refl) second
-      ∙ key_same (with_deadline clock) (looking clock) (λ (x : Job). x.evoke) (λ x p w. refl) first
+      unstarted_evoke (is_starting second.phase) (now_cause second.wish) second
+      ∙ wished_evoke (is_active first.phase) (deadline clock first) first
 
   up_to_date : IsUpToDate clock started third
   up_to_date = record {
@@ -279,6 +295,58 @@ launches_leave_none = record {
   };
 }
 
+-- each active job of a list is up to date
+abbrev pub AllUpToDate : ℕ → List Sbs → List Job → Type 0
+AllUpToDate clock bs jobs = (j : Job) → IsIn j jobs → is_active j.phase ≡ true → IsUpToDate clock bs j
+
+-- one more job, which is up to date if it is active
+pub last_up : (clock : ℕ) (bs : List Sbs) (jobs : List Job) (j : Job) → (is_active j.phase ≡ true → IsUpToDate clock bs j) → AllUpToDate clock bs jobs → AllUpToDate clock bs (jobs ++ j ∷ [])
+last_up clock bs jobs j new h k i a =
+    elim (of_last jobs j k i) as (λ _. IsUpToDate clock bs k) [
+      | inl m ↦ h k m a
+      | inr same ↦ subst (IsUpToDate clock bs) (sym same) (new (ap (λ (y : Job). is_active y.phase) (sym same) ∙ a))
+    ]
+
+-- no name stands twice, and nothing is due
+pub record IsQuietly (t : State) : Type 0 where
+  pub names : HasDistinctNames t
+  pub none : HasNoneDue t
+
+-- the subsystem in which a prestart job is made doesn't end now
+pre_untold : (q : QName) (d : Sbsd) (e : PreEntry) (t : State) → IsSuppliable q d e t → HasDistinctNames t → is_in_any now t.started (Pre q e.pgm) ≡ true → ⊥
+pre_untold q d e t can names h =
+    let b = of_any (λ (b : Sbs). now b && is_in_sbs b.sbsd (Pre q e.pgm)) t.started h in
+    let both = and_parts (now b.0) (is_in_sbs b.0.sbsd (Pre q e.pgm)) b.2 in
+    let named : q ≡ b.0.sbsd = one_name q b.0.sbsd both.1 in
+    let one : can.sbs ≡ b.0 = one_by_key (λ (y : Sbs). y.sbsd.name) t.started names can.sbs b.0 can.started b.1 (ap (λ (n : QName). n.name) (can.named ∙ named)) in
+    not_both can.sbs.phase can.active (ap now one ∙ both.0)
+
+used_active : (b : Bool) (i : Job) → is_active (cond b (with_evoke i) i).phase ≡ true → is_active i.phase ≡ true
+used_active true i h = h
+used_active false i h = h
+
+-- nor do prestart jobs that are made and requests that jobs get make anything due
+pub supplied_quietly : IsSupplied IsQuietly
+supplied_quietly = record {
+  makes = λ q d e t can h. record {
+    names = h.names;
+    none = record {
+      subsystems = h.none.subsystems;
+      jobs = last_up t.clock t.started t.jobs (new_pre_job t q e.pgm) (λ a. record { looked = refl; starting = λ p. refl; told = λ x. absurd (pre_untold q d e t can h.names x) }) h.none.jobs;
+    };
+  };
+  assigns = λ t q pgm job evokes can h. record {
+    names = h.names;
+    none = record {
+      subsystems = h.none.subsystems;
+      jobs = λ k i a. (
+          let m = of_mapped (active_at job.serial with_evoke) t.jobs k i in
+          let b = is_active m.0.phase && m.0.serial == job.serial in
+          subst (IsUpToDate t.clock t.started) (sym m.2) (used_up t.clock t.started b m.0 (h.none.jobs m.0 m.1 (used_active b m.0 (ap (λ (y : Job). is_active y.phase) (sym m.2) ∙ a)))));
+    };
+  };
+}
+
 -- a step leaves nothing that is due to end
 pub leaves_none_due : (s : State) (caller : ℕ) (call : Call) (moment : ℕ) → IsNumbered s → HasWishes s → HasDistinctNames s → HasNoneDue (step s caller call moment).state
 unfolding step
@@ -288,14 +356,16 @@ leaves_none_due s caller call moment n w d =
     let numbered : IsNumbered t = apply_keeps c caller call (clock_keeps s moment n) in
     let wishes : HasWishes t = call_keeps HasWishes c caller call (wished_calls c w) in
     let names : HasDistinctNames t = call_keeps HasDistinctNames c caller call (calls c d) in
-    let wishes_due : HasWishes (come_due t) = comes_due HasWishes t (wished_calls t wishes) in
     let names_due : HasDistinctNames (come_due t) = comes_due HasDistinctNames t (calls t names) in
-    let u = leave (come_due t) in
-    (iterate-keeps IsDoneDue launches_leave_none (waiting u) u (record {
-      numbered = ready_keeps t numbered;
-      wishes = wishes_due;
+    let quiet : IsQuietly (ready t) = supplied_keeps IsQuietly supplied_quietly (leave (come_due t)) (record {
       names = distinct_left (λ (b : Sbs). b.sbsd.name) (λ b. not (is_gone (come_due t).jobs b)) (come_due t).started names_due;
-      none_due = left_none (come_due t) (come_due_none t);
+      none = left_none (come_due t) (come_due_none t);
+    }) in
+    (iterate-keeps IsDoneDue launches_leave_none (waiting (ready t)) (ready t) (record {
+      numbered = ready_keeps t numbered;
+      wishes = readies HasWishes wished_parts t wishes;
+      names = quiet.names;
+      none_due = quiet.none;
     })).none_due
 
 opened_has_none_due : (offset : ℤ) → HasNoneDue (opened offset)

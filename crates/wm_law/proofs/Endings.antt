@@ -20,25 +20,33 @@ use Rattle.wm_law.specs.declared.state.SbsPhase.{SbsPhase}
 use Rattle.wm_law.specs.declared.state.SbsPhase.TheVariants as sbs_phase
 use Rattle.wm_law.specs.declared.state.State.{State}
 use Rattle.wm_law.specs.Choice.{is_sbs_active}
-use Rattle.wm_law.specs.Counts.{is_active, is_prestart, is_starting, is_waiting}
+use Rattle.wm_law.specs.Counts.{is_active, is_prestart, is_starting, is_waiting, is_from_pre}
 use Rattle.wm_law.specs.Endings.{end_phase, is_ending_by, is_left_to_use, is_wished, job_wish, phased, told}
 use Rattle.wm_law.specs.Jobs.{active_at}
 use Rattle.wm_law.specs.Kept.{IsNumbered, IsWishOn, wish_rank}
 use Rattle.wm_law.specs.Laws.{IsIn}
+use Rattle.wm_law.specs.Prestart.{with_evoke, after_use, wish_after_use, is_by_pre, is_idle, is_idle_in, is_running}
 use Rattle.wm_law.specs.Reports.{with_kill}
 use Rattle.wm_law.specs.Settling.{ended_by, is_sbs_now, job_at, sbs_at, sbs_moment, sbs_phase_at, sbss_at, unless_started, with_deadline}
 use Rattle.wm_law.specs.Sound.{IsMoment}
 use Rattle.wm_law.specs.Wishes.{deadline, greatest_moment, handed_wish, has_come, has_wish, is_due, is_in_any, is_now, is_to_end, moment_after, now_cause, told_now, why_cause, wish_at, wish_moment, with_wish}
 use Rattle.wm_law.proofs.Distinct.{one_by_key}
 use Rattle.wm_law.proofs.Members.{in_mapped, map_same, of_mapped}
+use Rattle.wm_law.specs.declared.state.Stop.{Stop}
+use Rattle.wm_base.specs.declared.limit.Limit.{Limit}
+use Rattle.wm_base.specs.declared.qname.QName.{QName}
+use Rattle.wm_base.specs.Limit.{is_below}
+use Rattle.wm_law.specs.Prestarting.{is_of_entry, prestart_wish, told_with_entry}
+use Rattle.wm_law.specs.Uses.{maxuse_by}
+use Rattle.wm_law.proofs.FirstIdle.{by-entry}
 
 -- a phase stays, or is that of a Starting job which the why of a wish ended
 abbrev pub IsPhaseAfter : Phase → Phase → Type 0
 IsPhaseAfter p q = (q ≡ p) ⊎ ((p ≡ Starting) × ((w : Why) × (q ≡ Ended (why_cause w))))
 
--- a change of phase and wish alone: a job that isn't active stays as it was, one that is Starting may end, and does so by its wish, and a wish's moment is in its range
+-- a change of phase, wish and use alone: a job that isn't active stays as it was, one that is Starting may end, and does so by its wish, and a wish's moment is in its range
 pub record IsWishing (change : Job → Job) : Type 0 where
-  pub same : (j : Job) → change j ≡ record j { phase = (change j).phase; wish = (change j).wish }
+  pub same : (j : Job) → change j ≡ record j { phase = (change j).phase; wish = (change j).wish; uses = (change j).uses; evoke = (change j).evoke }
   pub phase : (j : Job) → IsPhaseAfter j.phase (change j).phase
   pub idle : (j : Job) → is_active j.phase ≡ false → change j ≡ j
   pub moment : (j : Job) → IsMoment (wish_moment j.wish) → IsMoment (wish_moment (change j).wish)
@@ -56,16 +64,38 @@ pub record AreEnded (old new : List Sbs) : Type 0 where
   pub before : (b : Sbs) → IsIn b new → (a : Sbs) × IsIn a old × IsEnded a b
   pub after : (a : Sbs) → IsIn a old → (b : Sbs) × IsIn b new × IsEnded a b
 
--- the jobs are wished to end and the subsystems end; in a numbered state no wish goes back; and the power stays, or none of these is Active
+-- a use and a request stay
+pub record KeepsUse (j k : Job) : Type 0 where
+  pub uses : k.uses ≡ j.uses
+  pub evoke : k.evoke ≡ j.evoke
+
+-- an idle job that came by a prestart entry gets a request
+pub record GetsRequest (j k : Job) : Type 0 where
+  pub by_pre : is_by_pre j.how ≡ true
+  pub idle : is_idle j ≡ true
+  pub with_request : k ≡ with_evoke j
+
+-- a job that runs is done with its request
+pub record IsDone (s : State) (j k : Job) : Type 0 where
+  pub running : is_running j.phase ≡ true
+  pub evoke : j.evoke ≡ true
+  pub after : k ≡ after_use (maxuse_by s j.how) j
+
+-- what becomes of a job's use
+abbrev pub IsUseOn : State → Job → Job → Type 0
+IsUseOn s j k = KeepsUse j k ⊎ (GetsRequest j k ⊎ IsDone s j k)
+
+-- the jobs are wished to end and the subsystems end; in a numbered state no wish goes back, and a use stays, begins or is done; and the power stays, or none of these is Active
 pub record IsEnding (s : State) (change : Job → Job) (started : List Sbs) (power : Power) : Type 0 where
   pub jobs : IsWishing change
   pub subsystems : AreEnded s.started started
   pub onward : IsNumbered s → (j : Job) → IsIn j s.jobs → IsWishOn j.wish (change j).wish
+  pub used : IsNumbered s → (j : Job) → IsIn j s.jobs → IsUseOn s j (change j)
   pub quiet : (power ≡ s.power) ⊎ ((b : Sbs) → IsIn b started → is_sbs_active b.phase ≡ false)
 
 -- the state in which they do
-abbrev pub wished : State → (Job → Job) → List Sbs → List Evoke → Power → State
-wished s change started evokes power = record s { jobs = map change s.jobs; started = started; evokes = evokes; power = power }
+abbrev pub wished : State → (Job → Job) → List Sbs → List Stop → List Evoke → Power → State
+wished s change started stopped evokes power = record s { jobs = map change s.jobs; started = started; stopped = stopped; evokes = evokes; power = power }
 
 none_active : (p : Phase) → is_active p ≡ false → p ≡ Starting → ⊥
 none_active p n e =
@@ -82,7 +112,7 @@ module _ (test : Job → Bool) (give : Job → Wish) (active : (j : Job) → tes
   abbrev given : Job → Job
   given j = cond (test j) (with_wish (give j) j) j
 
-  given_same : (b : Bool) (w : Wish) (j : Job) → cond b (with_wish w j) j ≡ record j { phase = (cond b (with_wish w j) j).phase; wish = (cond b (with_wish w j) j).wish }
+  given_same : (b : Bool) (w : Wish) (j : Job) → cond b (with_wish w j) j ≡ record j { phase = (cond b (with_wish w j) j).phase; wish = (cond b (with_wish w j) j).wish; uses = (cond b (with_wish w j) j).uses; evoke = (cond b (with_wish w j) j).evoke }
   given_same true w j = refl
   given_same false w j = refl
 
@@ -107,6 +137,33 @@ module _ (test : Job → Bool) (give : Job → Wish) (active : (j : Job) → tes
     why = λ j d a e. absurd (unended j.phase d a (sym (given_phase (test j) (give j) j) ∙ e));
   }
 
+-- a request that a job gets
+module _ (serial : ℕ) where
+  used_same : (b : Bool) (j : Job) → cond b (with_evoke j) j ≡ record j { phase = (cond b (with_evoke j) j).phase; wish = (cond b (with_evoke j) j).wish; uses = (cond b (with_evoke j) j).uses; evoke = (cond b (with_evoke j) j).evoke }
+  used_same true j = refl
+  used_same false j = refl
+
+  used_phase : (b : Bool) (j : Job) → (cond b (with_evoke j) j).phase ≡ j.phase
+  used_phase true j = refl
+  used_phase false j = refl
+
+  pub used_wish : (b : Bool) (j : Job) → (cond b (with_evoke j) j).wish ≡ j.wish
+  used_wish true j = refl
+  used_wish false j = refl
+
+  used_idle : (b : Bool) (j : Job) → (is_active j.phase && j.serial == serial) ≡ b → is_active j.phase ≡ false → cond b (with_evoke j) j ≡ j
+  used_idle true j e n = let yes = (and_parts (is_active j.phase) (j.serial == serial) e).0 in absurd (cc)
+  used_idle false j e n = refl
+
+  pub using : IsWishing (active_at serial with_evoke)
+  using = record {
+    same = λ j. used_same (is_active j.phase && j.serial == serial) j;
+    phase = λ j. inl (used_phase (is_active j.phase && j.serial == serial) j);
+    idle = λ j n. used_idle (is_active j.phase && j.serial == serial) j refl n;
+    moment = λ j h. subst (λ (w : Wish). IsMoment (wish_moment w)) (sym (used_wish (is_active j.phase && j.serial == serial) j)) h;
+    why = λ j d a e. absurd (unended j.phase d a (sym (used_phase (is_active j.phase && j.serial == serial) j) ∙ e));
+  }
+
 -- one change behind another
 phase_twice : (p q r : Phase) → IsPhaseAfter p q → IsPhaseAfter q r → IsPhaseAfter p r
 phase_twice p q r (inl e) (inl f) = inl (f ∙ e)
@@ -124,7 +181,7 @@ why_twice f g h k j d false n a e =
 
 wishing_twice : (f g : Job → Job) → IsWishing f → IsWishing g → IsWishing (λ j. g (f j))
 wishing_twice f g h k = record {
-  same = λ j. k.same (f j) ∙ ap (λ (x : Job). record x { phase = (g (f j)).phase; wish = (g (f j)).wish }) (h.same j);
+  same = λ j. k.same (f j) ∙ ap (λ (x : Job). record x { phase = (g (f j)).phase; wish = (g (f j)).wish; uses = (g (f j)).uses; evoke = (g (f j)).evoke }) (h.same j);
   phase = λ j. phase_twice j.phase (f j).phase (g (f j)).phase (h.phase j) (k.phase (f j));
   idle = λ j n. k.idle (f j) (ap (λ (x : Job). is_active x.phase) (h.idle j n) ∙ n) ∙ h.idle j n;
   moment = λ j m. k.moment (f j) (h.moment j m);
@@ -194,7 +251,7 @@ starting_phase (Handed m) h = absurd (cc)
 starting_phase (Running m) h = absurd (cc)
 starting_phase (Ended c) h = absurd (cc)
 
-unstarted_same : (b : Bool) (o : Option EndCause) (j : Job) → cond b (ended_by o j) j ≡ record j { phase = (cond b (ended_by o j) j).phase; wish = (cond b (ended_by o j) j).wish }
+unstarted_same : (b : Bool) (o : Option EndCause) (j : Job) → cond b (ended_by o j) j ≡ record j { phase = (cond b (ended_by o j) j).phase; wish = (cond b (ended_by o j) j).wish; uses = (cond b (ended_by o j) j).uses; evoke = (cond b (ended_by o j) j).evoke }
 unstarted_same true None j = refl
 unstarted_same true (Some c) j = refl
 unstarted_same false o j = refl
@@ -368,9 +425,41 @@ phase_moment clock sbs_phase.Now h = h
 pub ended_at : (s : State) → AreEnded s.started (sbss_at s)
 ended_at s = ended_each (sbs_at s.clock) (λ b. record { named = refl; active = phase_active s.clock b.phase; moment = phase_moment s.clock b.phase }) s.started
 
+-- a wish leaves a use
+same_use : (j : Job) → KeepsUse j j
+same_use j = record { uses = refl; evoke = refl }
+
+wish_use : (b : Bool) (w : Wish) (j : Job) → KeepsUse j (cond b (with_wish w j) j)
+wish_use true w j = record { uses = refl; evoke = refl }
+wish_use false w j = same_use j
+
+end_use : (o : Option EndCause) (j : Job) → KeepsUse j (ended_by o j)
+end_use None j = same_use j
+end_use (Some c) j = record { uses = refl; evoke = refl }
+
+unstarted_use : (b : Bool) (o : Option EndCause) (j : Job) → KeepsUse j (cond b (ended_by o j) j)
+unstarted_use true o j = end_use o j
+unstarted_use false o j = same_use j
+
+still_use : (i j k : Job) → KeepsUse i j → KeepsUse j k → KeepsUse i k
+still_use i j k a b = record { uses = b.uses ∙ a.uses; evoke = b.evoke ∙ a.evoke }
+
+use_at : (clock : ℕ) (started : List Sbs) (j : Job) → KeepsUse j (job_at clock started j)
+use_at clock started j =
+    let first = told_now (λ b. is_sbs_now b.phase) started j in
+    let second = with_deadline clock first in
+    let third = unless_started second in
+    still_use j second third
+    (still_use j first second (wish_use (is_to_end (λ b. is_sbs_now b.phase) started j) (wish.Now why.Endsbs false) j) (wish_use (is_active first.phase) (deadline clock first) first))
+    (unstarted_use (is_starting second.phase) (now_cause second.wish) second)
+
+told_use : (option : EndOption) (test : Sbs → Bool) (started : List Sbs) (j : Job) → KeepsUse j (told option test started j)
+told_use Cntrld test started j = wish_use (is_left_to_use test started j) (wish.Later None why.Endsbs) j
+told_use Immed test started j = wish_use (is_to_end test started j) (wish.Now why.Endsbs false) j
+
 -- settling's first part ends what is due
 pub coming_due : (s : State) → IsEnding s (job_at s.clock (sbss_at s)) (sbss_at s) s.power
-coming_due s = record { jobs = wishing_at s.clock (sbss_at s); onward = λ n j i. on_at s.clock (sbss_at s) j; subsystems = ended_at s; quiet = inl refl }
+coming_due s = record { jobs = wishing_at s.clock (sbss_at s); onward = λ n j i. on_at s.clock (sbss_at s) j; used = λ n j i. inl (use_at s.clock (sbss_at s) j); subsystems = ended_at s; quiet = inl refl }
 
 end_active : (clock : ℕ) (option : EndOption) (delay : Option ℕ) → is_sbs_active (end_phase clock option delay) ≡ false
 end_active clock Cntrld delay = refl
@@ -412,13 +501,13 @@ none_stays_active option clock delay bs b i =
     let m = of_mapped (phased (λ x. not (is_ending_by option x.phase)) (end_phase clock option delay)) bs b i in
     ap (λ (x : Sbs). is_sbs_active x.phase) m.2 ∙ phased_idle option clock delay (is_ending_by option m.0.phase) m.0 refl
 
--- a job that is changed keeps all but its phase and its wish
+-- a job that is changed keeps all but its phase, its wish and its use
 module _ (change : Job → Job) (h : IsWishing change) where
-  -- a key of a job that neither phase nor wish touches
-  pub key_same : {A : Type 0} (key : Job → A) → ((j : Job) (p : Phase) (w : Wish) → key (record j { phase = p; wish = w }) ≡ key j) → (j : Job) → key (change j) ≡ key j
-  key_same key free j = ap key (h.same j) ∙ free j (change j).phase (change j).wish
+  -- a key of a job that neither phase nor wish nor use touches
+  pub key_same : {A : Type 0} (key : Job → A) → ((j : Job) (p : Phase) (w : Wish) (u : ℕ) (e : Bool) → key (record j { phase = p; wish = w; uses = u; evoke = e }) ≡ key j) → (j : Job) → key (change j) ≡ key j
+  key_same key free j = ap key (h.same j) ∙ free j (change j).phase (change j).wish (change j).uses (change j).evoke
 
-  pub keys_same : {A : Type 0} (key : Job → A) → ((j : Job) (p : Phase) (w : Wish) → key (record j { phase = p; wish = w }) ≡ key j) → (jobs : List Job) → map key (map change jobs) ≡ map key jobs
+  pub keys_same : {A : Type 0} (key : Job → A) → ((j : Job) (p : Phase) (w : Wish) (u : ℕ) (e : Bool) → key (record j { phase = p; wish = w; uses = u; evoke = e }) ≡ key j) → (jobs : List Job) → map key (map change jobs) ≡ map key jobs
   keys_same key free jobs = map_same key change (key_same key free) jobs
 
 -- what is Starting was so
@@ -441,7 +530,7 @@ pub record StoodStarting (jobs : List Job) (k : Job) : Type 0 where
   pub job : Job
   pub there : IsIn job jobs
   pub starting : job.phase ≡ Starting
-  pub same : k ≡ record job { phase = k.phase; wish = k.wish }
+  pub same : k ≡ record job { phase = k.phase; wish = k.wish; uses = k.uses; evoke = k.evoke }
 
 pub stood_starting : (change : Job → Job) → IsWishing change → (jobs : List Job) (k : Job) → IsIn k (map change jobs) → k.phase ≡ Starting → StoodStarting jobs k
 stood_starting change h jobs k i p =
@@ -451,26 +540,132 @@ stood_starting change h jobs k i p =
       job = j;
       there = m.1;
       starting = was_starting j.phase (change j).phase (h.phase j) (ap (λ (x : Job). x.phase) (sym m.2) ∙ p);
-      same = subst (λ (x : Job). x ≡ record j { phase = x.phase; wish = x.wish }) (sym m.2) (h.same j);
+      same = subst (λ (x : Job). x ≡ record j { phase = x.phase; wish = x.wish; uses = x.uses; evoke = x.evoke }) (sym m.2) (h.same j);
     }
 
 -- what ENDJOB on an active job does
 pub job_ends : (s : State) (j : Job) (option : EndOption) (delay : ℕ) → IsIn j s.jobs → is_wished option j.wish ≡ false → IsEnding s (active_at j.serial (with_wish (job_wish s.clock option delay))) s.started s.power
-job_ends s j option delay i e = record { jobs = wishing_job j.serial s.clock option delay; onward = on_job s j option delay i e; subsystems = none_ended s.started; quiet = inl refl }
+job_ends s j option delay i e = record { jobs = wishing_job j.serial s.clock option delay; onward = on_job s j option delay i e; used = λ n k m. inl (wish_use (is_active k.phase && k.serial == j.serial) (job_wish s.clock option delay) k); subsystems = none_ended s.started; quiet = inl refl }
 
 -- what a kill that is handed does
 pub kill_ends : (s : State) (serial : ℕ) → IsEnding s (active_at serial with_kill) s.started s.power
-kill_ends s serial = record { jobs = wishing_kill serial; onward = λ n j i. on_kill j (is_active j.phase && j.serial == serial); subsystems = none_ended s.started; quiet = inl refl }
+kill_ends s serial = record { jobs = wishing_kill serial; onward = λ n j i. on_kill j (is_active j.phase && j.serial == serial); used = λ n j i. inl (wish_use (is_active j.phase && j.serial == serial) (handed_wish j.wish) j); subsystems = none_ended s.started; quiet = inl refl }
+
+-- what a request that a job gets does
+request_by : (s : State) (q pgm : QName) (j : Job) → IsIn j s.jobs → is_idle_in q pgm j ≡ true → IsNumbered s → (i : Job) (b : Bool) → (is_active i.phase && i.serial == j.serial) ≡ b → IsIn i s.jobs → IsUseOn s i (cond b (with_evoke i) i)
+request_by s q pgm j m idle n i true f k =
+    let serial = eqb-true i.serial j.serial (and_parts (is_active i.phase) (i.serial == j.serial) f).1 in
+    let same : i ≡ j = one_by_key (λ (x : Job). x.serial) s.jobs n.serials.distinct i j k m serial in
+    let its : is_idle_in q pgm i ≡ true = ap (is_idle_in q pgm) same ∙ idle in
+    inr (inl (record { by_pre = by-entry q pgm i.how (and_parts (is_from_pre q pgm i.how) (is_idle i) its).0; idle = (and_parts (is_from_pre q pgm i.how) (is_idle i) its).1; with_request = refl }))
+request_by s q pgm j m idle n i false f k = inl (same_use i)
+
+pub use_ends : (s : State) (q pgm : QName) (j : Job) → IsIn j s.jobs → is_idle_in q pgm j ≡ true → IsEnding s (active_at j.serial with_evoke) s.started s.power
+use_ends s q pgm i m idle = record { jobs = using i.serial; onward = λ n j k. on_same j.wish (active_at i.serial with_evoke j).wish (used_wish i.serial (is_active j.phase && j.serial == i.serial) j); used = λ n j k. request_by s q pgm i m idle n j (is_active j.phase && j.serial == i.serial) refl k; subsystems = none_ended s.started; quiet = inl refl }
+
+-- a use that is done
+module _ (serial : ℕ) (maxuse : Limit) where
+  done_same : (b : Bool) (j : Job) → cond b (after_use maxuse j) j ≡ record j { phase = (cond b (after_use maxuse j) j).phase; wish = (cond b (after_use maxuse j) j).wish; uses = (cond b (after_use maxuse j) j).uses; evoke = (cond b (after_use maxuse j) j).evoke }
+  done_same true j = refl
+  done_same false j = refl
+
+  done_phase : (b : Bool) (j : Job) → (cond b (after_use maxuse j) j).phase ≡ j.phase
+  done_phase true j = refl
+  done_phase false j = refl
+
+  done_idle : (b : Bool) (j : Job) → (is_active j.phase && j.serial == serial) ≡ b → is_active j.phase ≡ false → cond b (after_use maxuse j) j ≡ j
+  done_idle true j e n = let yes = (and_parts (is_active j.phase) (j.serial == serial) e).0 in absurd (cc)
+  done_idle false j e n = refl
+
+  unused_moment : (b : Bool) → IsMoment (wish_moment (cond b wish.NoWish (wish.Now why.Maxuse false)))
+  unused_moment true = tt
+  unused_moment false = tt
+
+  used_moment : (uses : ℕ) (w : Wish) → IsMoment (wish_moment w) → IsMoment (wish_moment (wish_after_use maxuse uses w))
+  used_moment uses wish.NoWish h = unused_moment (is_below uses maxuse)
+  used_moment uses (wish.Later until why) h = tt
+  used_moment uses (wish.Now why handed) h = h
+
+  done_moment : (b : Bool) (j : Job) → IsMoment (wish_moment j.wish) → IsMoment (wish_moment (cond b (after_use maxuse j) j).wish)
+  done_moment true j h = used_moment j.uses j.wish h
+  done_moment false j h = h
+
+  wishing_done : IsWishing (active_at serial (after_use maxuse))
+  wishing_done = record {
+    same = λ j. done_same (is_active j.phase && j.serial == serial) j;
+    phase = λ j. inl (done_phase (is_active j.phase && j.serial == serial) j);
+    idle = λ j n. done_idle (is_active j.phase && j.serial == serial) j refl n;
+    moment = λ j h. done_moment (is_active j.phase && j.serial == serial) j h;
+    why = λ j d a e. absurd (unended j.phase d a (sym (done_phase (is_active j.phase && j.serial == serial) j) ∙ e));
+  }
+
+  on_unused : (b : Bool) → IsWishOn wish.NoWish (cond b wish.NoWish (wish.Now why.Maxuse false))
+  on_unused true = on_same wish.NoWish wish.NoWish refl
+  on_unused false = on_now wish.NoWish why.Maxuse refl
+
+  on_used : (uses : ℕ) (w : Wish) → IsWishOn w (wish_after_use maxuse uses w)
+  on_used uses wish.NoWish = on_unused (is_below uses maxuse)
+  on_used uses (wish.Later until why) = on_now (wish.Later until why) why refl
+  on_used uses (wish.Now why handed) = on_same (wish.Now why handed) (wish.Now why handed) refl
+
+  on_done : (j : Job) (b : Bool) → IsWishOn j.wish (cond b (after_use maxuse j) j).wish
+  on_done j true = on_used j.uses j.wish
+  on_done j false = on_same j.wish j.wish refl
+
+-- what the end of a use by a limit does to jobs
+pub record IsUseEnd (s : State) (change : Job → Job) : Type 0 where
+  pub jobs : IsWishing change
+  pub onward : IsNumbered s → (j : Job) → IsIn j s.jobs → IsWishOn j.wish (change j).wish
+
+pub done_ends : (s : State) (serial : ℕ) (maxuse : Limit) → IsUseEnd s (active_at serial (after_use maxuse))
+done_ends s serial maxuse = record { jobs = wishing_done serial maxuse; onward = λ n j i. on_done serial maxuse j (is_active j.phase && j.serial == serial) }
+
+done_by : (s : State) (j : Job) → IsIn j s.jobs → is_running j.phase ≡ true → j.evoke ≡ true → IsNumbered s → (i : Job) (b : Bool) → (is_active i.phase && i.serial == j.serial) ≡ b → IsIn i s.jobs → IsUseOn s i (cond b (after_use (maxuse_by s j.how) i) i)
+done_by s j m running evoke n i true f k =
+    let serial = eqb-true i.serial j.serial (and_parts (is_active i.phase) (i.serial == j.serial) f).1 in
+    let same : i ≡ j = one_by_key (λ (x : Job). x.serial) s.jobs n.serials.distinct i j k m serial in
+    inr (inr (record { running = ap (λ (x : Job). is_running x.phase) same ∙ running; evoke = ap (λ (x : Job). x.evoke) same ∙ evoke; after = ap (λ (x : Job). after_use (maxuse_by s x.how) i) (sym same) }))
+done_by s j m running evoke n i false f k = inl (same_use i)
+
+-- and so what the end of the use of a job that runs does, by the limit of its entry
+pub use_done_ends : (s : State) (j : Job) → IsIn j s.jobs → is_running j.phase ≡ true → j.evoke ≡ true → IsEnding s (active_at j.serial (after_use (maxuse_by s j.how))) s.started s.power
+use_done_ends s i m running evoke =
+    let done = done_ends s i.serial (maxuse_by s i.how) in
+    record { jobs = done.jobs; onward = done.onward; used = λ n j k. done_by s i m running evoke n j (is_active j.phase && j.serial == i.serial) refl k; subsystems = none_ended s.started; quiet = inl refl }
+
+entry_moment : (clock : ℕ) (option : EndOption) (delay : Option ℕ) → IsMoment (wish_moment (prestart_wish clock option delay))
+entry_moment clock Cntrld delay = delay_moment clock delay
+entry_moment clock Immed delay = tt
+
+-- what ENDPJ does to jobs
+telling_entry : (clock : ℕ) (option : EndOption) (delay : Option ℕ) (sbs pgm : QName) → IsWishing (told_with_entry clock option delay sbs pgm)
+telling_entry clock option delay sbs pgm =
+    giving (is_of_entry option sbs pgm) (λ j. prestart_wish clock option delay)
+    (λ j e. (and_parts (is_active j.phase) (is_from_pre sbs pgm j.how) (and_parts (is_active j.phase && is_from_pre sbs pgm j.how) (not (is_wished option j.wish)) e).0).0)
+    (λ j h. entry_moment clock option delay)
+
+on_entry_wish : (clock : ℕ) (option : EndOption) (delay : Option ℕ) (w : Wish) → is_wished option w ≡ false → IsWishOn w (prestart_wish clock option delay)
+on_entry_wish clock Cntrld delay w e = on_later w (option_map (moment_after clock) delay) why.Endpj e
+on_entry_wish clock Immed delay w e = on_now w why.Endpj e
+
+on_entry : (clock : ℕ) (option : EndOption) (delay : Option ℕ) (sbs pgm : QName) (j : Job) (b : Bool) → is_of_entry option sbs pgm j ≡ b → IsWishOn j.wish (cond b (with_wish (prestart_wish clock option delay) j) j).wish
+on_entry clock option delay sbs pgm j true e =
+    on_entry_wish clock option delay j.wish (not-true (is_wished option j.wish) (and_parts (is_active j.phase && is_from_pre sbs pgm j.how) (not (is_wished option j.wish)) e).1)
+on_entry clock option delay sbs pgm j false e = on_same j.wish j.wish refl
+
+pub entry_ends : (s : State) (option : EndOption) (delay : Option ℕ) (sbs pgm : QName) → IsEnding s (told_with_entry s.clock option delay sbs pgm) s.started s.power
+entry_ends s option delay sbs pgm = record { jobs = telling_entry s.clock option delay sbs pgm; onward = λ n j i. on_entry s.clock option delay sbs pgm j (is_of_entry option sbs pgm j) refl; used = λ n j i. inl (wish_use (is_of_entry option sbs pgm j) (prestart_wish s.clock option delay) j); subsystems = none_ended s.started; quiet = inl refl }
 
 -- what ENDSBS does
 pub those_end : (s : State) (option : EndOption) (delay : Option ℕ) (test : Sbs → Bool) → IsEnding s (told option test s.started) (map (phased test (end_phase s.clock option delay)) s.started) s.power
-those_end s option delay test = record { jobs = telling option test s.started; onward = λ n j i. on_told option test s.started j; subsystems = ended_by_option test s.clock option delay s.started; quiet = inl refl }
+those_end s option delay test = record { jobs = telling option test s.started; onward = λ n j i. on_told option test s.started j; used = λ n j i. inl (told_use option test s.started j); subsystems = ended_by_option test s.clock option delay s.started; quiet = inl refl }
 
 -- what PWRDWNSYS does
 pub all_end : (s : State) (option : EndOption) (delay : Option ℕ) (power : Power) → IsEnding s (told option (λ b. not (is_ending_by option b.phase)) s.started) (map (phased (λ b. not (is_ending_by option b.phase)) (end_phase s.clock option delay)) s.started) power
 all_end s option delay power = record {
   jobs = telling option (λ b. not (is_ending_by option b.phase)) s.started;
   onward = λ n j i. on_told option (λ b. not (is_ending_by option b.phase)) s.started j;
+  used = λ n j i. inl (told_use option (λ b. not (is_ending_by option b.phase)) s.started j);
   subsystems = ended_by_option (λ b. not (is_ending_by option b.phase)) s.clock option delay s.started;
   quiet = inr (none_stays_active option s.clock delay s.started);
 }

@@ -7,9 +7,10 @@ use Rattle.wm_base.specs.declared.job.How.{How}
 use Rattle.wm_base.specs.declared.job.How.TheVariants.{NotYet, FromQueue, Auto, Pre}
 use Rattle.wm_base.specs.declared.qname.QName.{QName}
 use Rattle.wm_law.specs.declared.job.Job.{Job}
-use Rattle.wm_law.specs.Prestart.{FirstIdleIsFirst, HavePresInOrder, is_by_pre, is_from_pre, is_idle, is_idle_in, of_lesser_number}
+use Rattle.wm_law.specs.Counts.{is_from_pre}
+use Rattle.wm_law.specs.Prestart.{FirstIdleIsFirst, HavePresInOrder, is_by_pre, is_idle, is_idle_in, of_lesser_number}
 
-by-entry : (sbs pgm : QName) (how : How) → is_from_pre sbs pgm how ≡ true → is_by_pre how ≡ true
+pub by-entry : (sbs pgm : QName) (how : How) → is_from_pre sbs pgm how ≡ true → is_by_pre how ≡ true
 by-entry sbs pgm NotYet h = h
 by-entry sbs pgm (FromQueue q queue pty route) h = h
 by-entry sbs pgm (Auto q route) h = h

@@ -26,18 +26,18 @@ use Rattle.wm_law.specs.Launch.{as_launched, from_queue, launch, with_routed, ro
 use Rattle.wm_law.specs.Laws.{IsIn}
 use Rattle.wm_law.specs.Machine.{apply, step, with_clock}
 use Rattle.wm_law.specs.Order.{GivesNewSerials, IsFit, IsInOrder, KeepsOrder, AllFit, counted_for, was_launched}
-use Rattle.wm_law.specs.Settling.{come_due, leave, settle, waiting}
+use Rattle.wm_law.specs.Settling.{settle, waiting, ready}
 use Rattle.wm_law.specs.Sound.{HasQueues}
-use Rattle.wm_law.proofs.Autos.{AutosRouted, autos_due, autos_fit, calls_route_autos}
+use Rattle.wm_law.proofs.Autos.{AutosRouted, autos_fit, calls_route_autos, autos_ready}
 use Rattle.wm_law.proofs.Forward.{step_goes_on}
 use Rattle.wm_law.proofs.InTurn.{launched_in}
 use Rattle.wm_law.proofs.Members.{of_mapped}
-use Rattle.wm_law.proofs.Moves.{call_keeps, comes_due}
+use Rattle.wm_law.proofs.Moves.{call_keeps, readies}
 use Rattle.wm_law.proofs.NewSerials.{step_gives_new_serials}
 use Rattle.wm_law.proofs.Nexts.{IsNext, is_next}
-use Rattle.wm_law.proofs.Numbers.{apply_keeps, clock_keeps, due_keeps, launches_keep, only_started, step_keeps_numbers}
-use Rattle.wm_law.proofs.Passed.{IsOrderedSince, LaunchesNone, calls_launch_none, counted_all, counted_more, due_launches_none, full_still, launched_ordered, one, ordered_yet}
-use Rattle.wm_law.proofs.Queued.{queued_calls, step_keeps_queues}
+use Rattle.wm_law.proofs.Numbers.{apply_keeps, clock_keeps, launches_keep, step_keeps_numbers, ready_keeps}
+use Rattle.wm_law.proofs.Passed.{IsOrderedSince, LaunchesNone, calls_launch_none, counted_all, counted_more, full_still, launched_ordered, one, ordered_yet, ready_launches_none}
+use Rattle.wm_law.proofs.Queued.{queued_calls, step_keeps_queues, queued_parts}
 use Rattle.wm_law.proofs.Routed.{full_through, launched_routed, started_through, unrouted_through}
 use Rattle.wm_law.proofs.Settling.{settled_leaves_none}
 use Rattle.wm_law.proofs.Turns.{is_turn}
@@ -48,8 +48,8 @@ record IsFitSince (s t : State) : Type 0 where
   fit : AllFit s t
 
 module _ (s t : State) (c : Candidate) (f : Job) (x : IsNext t c f) (h : IsFitSince s t) where
-  ready : (is_waiting f.phase ≡ true) × (not f.held ≡ true) × (has_free_queue t f.jobq ≡ true) × (nat_le f.due t.clock ≡ true)
-  ready = of_four (is_waiting f.phase) (not f.held) (has_free_queue t f.jobq) (nat_le f.due t.clock) x.first.may.ready
+  may_start : (is_waiting f.phase ≡ true) × (not f.held ≡ true) × (has_free_queue t f.jobq ≡ true) × (nat_le f.due t.clock ≡ true)
+  may_start = of_four (is_waiting f.phase) (not f.held) (has_free_queue t f.jobq) (nat_le f.due t.clock) x.first.may.ready
 
   active : is_sbs_active x.turn.sbs.phase ≡ true
   active =
@@ -57,7 +57,7 @@ module _ (s t : State) (c : Candidate) (f : Job) (x : IsNext t c f) (h : IsFitSi
       (of_four (is_sbs_active u.sbs.phase) (is_below (count_in_sbs u.sbs.sbsd t.jobs) u.sbsd.maxjobs) (is_below (count_from_queue u.sbs.sbsd u.entry.jobq t.jobs) u.entry.maxact) (is_below (count_from_priority u.sbs.sbsd u.entry.jobq f.pty t.jobs) (maxpty_of u.entry f.pty)) x.first.may.allowed).0
 
   free : is_held t x.turn.queue ≡ false
-  free = not-true (is_held t x.turn.queue) (ap (has_free_queue t) (sym (is_turn t f x.turn x.first.may.turn).queue) ∙ ready.2)
+  free = not-true (is_held t x.turn.queue) (ap (has_free_queue t) (sym (is_turn t f x.turn x.first.may.turn).queue) ∙ may_start.2)
 
   abbrev by : ℕ → How
   by = from_queue x.turn.sbs.sbsd x.turn.queue f
@@ -74,9 +74,9 @@ module _ (s t : State) (c : Candidate) (f : Job) (x : IsNext t c f) (h : IsFitSi
   fit_now : IsFit s (launched_in t c f) (as_launched (routed_from_queue t c.sbs c.jobq f) f) x.turn
   fit_now = record {
     turn = x.first.may.turn;
-    held = not-true f.held ready.1;
+    held = not-true f.held may_start.1;
     queue = free;
-    due = leb-true f.due t.clock ready.3;
+    due = leb-true f.due t.clock may_start.3;
     active = active;
     starting = λ e. (
         let r = started_through t x.turn.sbs.sbsd by x.turn.sbsd f (route x.turn.sbsd f.rtgdta) refl (routed Starting e) in
@@ -128,18 +128,18 @@ launches_fit s = record {
 }
 
 -- settling launches the jobs in their order
-settled_in_order : (s t : State) → IsNumbered (come_due t) → HasQueues (come_due t) → LaunchesNone s (come_due t) → AutosRouted s (come_due t) → GoesOn s (settle t) → GivesNewSerials s (settle t) → IsInOrder s (settle t)
+settled_in_order : (s t : State) → IsNumbered (ready t) → HasQueues (ready t) → LaunchesNone s (ready t) → AutosRouted s (ready t) → GoesOn s (settle t) → GivesNewSerials s (settle t) → IsInOrder s (settle t)
 settled_in_order s t n q h a on new =
-    let u = leave (come_due t) in
+    let u = ready t in
     let since : IsFitSince s (settle t) = iterate-keeps (IsFitSince s) (launches_fit s) (waiting u) u (record {
-      ordered = ordered_yet s u (only_started (come_due t) n) h;
+      ordered = ordered_yet s u n h;
       fit = λ j m w. (let none = h j m in absurd (cc));
     }) in
     record {
       none_left = settled_leaves_none t;
       none_passed = since.ordered.passed;
       fit = since.fit;
-      autos = autos_fit s (come_due t) n q a;
+      autos = autos_fit s (ready t) n q a;
       forward = on;
       serials = new;
     }
@@ -152,9 +152,9 @@ step_order s caller call moment n q =
     let t = (apply c caller call).state in
     let numbered : IsNumbered t = apply_keeps c caller call (clock_keeps s moment n) in
     let queued : HasQueues t = call_keeps HasQueues c caller call (queued_calls c q) in
-    settled_in_order s t (due_keeps t numbered) (comes_due HasQueues t (queued_calls t queued))
-    (due_launches_none s t (call_keeps (LaunchesNone c) c caller call (calls_launch_none c)))
-    (autos_due s t (call_keeps (AutosRouted c) c caller call (calls_route_autos c)))
+    settled_in_order s t (ready_keeps t numbered) (readies HasQueues queued_parts t queued)
+    (ready_launches_none s t (call_keeps (LaunchesNone c) c caller call (calls_launch_none c)))
+    (autos_ready s t (call_keeps (AutosRouted c) c caller call (calls_route_autos c)))
     (step_goes_on s caller call moment n)
     (step_gives_new_serials s caller call moment)
 

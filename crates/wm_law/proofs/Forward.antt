@@ -1,5 +1,5 @@
 -- No step loses a job, or takes its phase or its wish back.
-use Rattle.std.proofs.Common.{◌≡◌, ◌⊎◌, ℕ, ◌≤◌, ◌==◌, Bool, true, false, cond, List, [], ◌∷◌, map, Option, Some, None, refl, sym, ap, subst, ◌∙◌, inl, inr, arith}
+use Rattle.std.proofs.Common.{◌≡◌, ◌⊎◌, ℕ, ◌≤◌, ◌==◌, Bool, true, false, cond, List, [], ◌∷◌, map, Option, Some, None, refl, sym, ap, subst, ◌∙◌, inl, inr, arith, ◌&&◌}
 use Rattle.std.specs.List.{find}
 use Rattle.std.proofs.lemmas.Bool.{eqb-true}
 use Rattle.wm_base.specs.Iterate.{IsKept}
@@ -17,20 +17,22 @@ use Rattle.wm_law.specs.Autos.{auto_job, routed_auto, auto_made}
 use Rattle.wm_law.specs.Choice.{next}
 use Rattle.wm_law.specs.Counts.{is_active, is_waiting}
 use Rattle.wm_law.specs.Kept.{IsDistinct, IsNumbered, phase_rank, is_start_fault, IsEndOn, IsLater, IsWishOn, GoesOn, StepGoesOn}
-use Rattle.wm_law.specs.Jobs.{changed_at, with_job}
+use Rattle.wm_law.specs.Jobs.{changed_at, with_job, active_at}
 use Rattle.wm_law.specs.Launch.{as_launched, launch, with_routed, routed_from_queue}
 use Rattle.wm_law.specs.Laws.{IsIn}
 use Rattle.wm_law.specs.Submitting.{submitted_job}
 use Rattle.wm_law.specs.Reports.{in_phase, with_phase}
-use Rattle.wm_law.specs.Settling.{come_due, settle, leave, waiting}
+use Rattle.wm_law.specs.Settling.{come_due, settle, leave, waiting, ready}
 use Rattle.wm_law.specs.Machine.{apply, step, with_clock}
 use Rattle.wm_law.specs.Wishes.{now_cause}
 use Rattle.wm_law.proofs.Alterations.{IsAltered}
-use Rattle.wm_law.proofs.Endings.{IsPhaseAfter, IsWishing, key_same, on_same, on_still, unended}
+use Rattle.wm_law.proofs.Endings.{IsPhaseAfter, IsWishing, key_same, on_same, on_still, unended, using, used_wish, wished}
 use Rattle.wm_law.proofs.Members.{in_longer, in_mapped}
-use Rattle.wm_law.proofs.Moves.{HoldsOfStates, call_keeps, comes_due}
+use Rattle.wm_law.proofs.Moves.{HoldsOfStates, call_keeps, comes_due, autos_made}
 use Rattle.wm_law.proofs.Numbers.{launches_keep, apply_keeps, clock_keeps, ready_keeps}
 use Rattle.wm_law.proofs.Firsts.{next_waits}
+use Rattle.wm_law.specs.Prestart.{make_pre, new_pre_job, with_evoke}
+use Rattle.wm_law.proofs.Supplies.{supplied_keeps}
 
 -- what is active doesn't come to wait
 not_back : (p q : Phase) → is_active p ≡ true → is_waiting q ≡ true → phase_rank p ≤ phase_rank q → ⊥
@@ -167,8 +169,8 @@ end_wished change h j on = record {
 -- a job whose wish changes goes on
 later_wished : (change : Job → Job) → IsWishing change → (j : Job) → IsWishOn j.wish (change j).wish → IsLater j (change j)
 later_wished change h j on = record {
-  serial = key_same change h (λ (x : Job). x.serial) (λ x p w. refl) j;
-  job = key_same change h (λ (x : Job). x.job) (λ x p w. refl) j;
+  serial = key_same change h (λ (x : Job). x.serial) (λ x p w u e. refl) j;
+  job = key_same change h (λ (x : Job). x.job) (λ x p w u e. refl) j;
   phase = rank_after j.phase (change j).phase (h.phase j);
   wish = on;
   end = end_wished change h j on;
@@ -178,13 +180,20 @@ later_wished change h j on = record {
 calls : (s : State) → IsNumbered s → HoldsOfStates (GoesOn s) s
 calls s n = record {
   stays = stays s;
-  starts = λ q e j i. (j, i, no_less j);
-  autos = λ q t e d m h. goes_on_still s t (auto_made t q e d) h (λ j i. (j, in_longer t.jobs (routed_auto t q (auto_job t e d)) j i, no_less j));
+  starts = λ q e. autos_made (GoesOn s) s q e
+      (λ t x d m h. goes_on_still s t (auto_made t q x d) h (λ j i. (j, in_longer t.jobs (routed_auto t q (auto_job t x d)) j i, no_less j)))
+      (λ j i. (j, i, no_less j));
+  supplies = record {
+    makes = λ q d e t can h. goes_on_still s t (make_pre q e.pgm t) h (λ j i. (j, in_longer t.jobs (new_pre_job t q e.pgm) j i, no_less j));
+    assigns = λ t q pgm job evokes can h. goes_on_still s t (wished t (active_at job.serial with_evoke) t.started t.stopped evokes t.power) h
+        (λ j i. (active_at job.serial with_evoke j, in_mapped (active_at job.serial with_evoke) t.jobs j i, later_wished (active_at job.serial with_evoke) (using job.serial) j (on_same j.wish (active_at job.serial with_evoke j).wish (used_wish job.serial (is_active j.phase && j.serial == job.serial) j))));
+  };
   enters = λ user c d due has j i. (j, in_longer s.jobs (submitted_job s user c d due) j i, no_less j);
   alters = λ change place a j i. (change j, in_mapped change s.jobs j i, later_altered s j (change j) (a.each j));
   holds = λ held a j i. (j, i, no_less j);
-  moves = λ serial j phase i e r k. (let on = r.onward in phase_goes_on s serial phase j n i e on.on r.end);
-  ends = λ change started evokes power e j i. (change j, in_mapped change s.jobs j i, later_wished change e.jobs j (e.onward n j i));
+  lists = λ stopped evokes j i. (j, i, no_less j);
+  moves = λ serial j phase stopped i e r k. (let on = r.onward in phase_goes_on s serial phase j n i e on.on r.end);
+  ends = λ change started stopped evokes power e j i. (change j, in_mapped change s.jobs j i, later_wished change e.jobs j (e.onward n j i));
   makes = λ o c j i. (j, i, no_less j);
 }
 
@@ -192,7 +201,8 @@ calls s n = record {
 pub settle_goes_on : (s : State) → IsNumbered s → GoesOn s (settle s)
 settle_goes_on s h =
     let due : GoesOn s (come_due s) = comes_due (GoesOn s) s (calls s h) in
-    (iterate-keeps (IsOn s) (launches_go_on s) (waiting (leave (come_due s))) (leave (come_due s)) (record { numbered = ready_keeps s h; on = due })).on
+    let supplied : GoesOn s (ready s) = supplied_keeps (GoesOn s) (calls s h).supplies (leave (come_due s)) due in
+    (iterate-keeps (IsOn s) (launches_go_on s) (waiting (ready s)) (ready s) (record { numbered = ready_keeps s h; on = supplied })).on
 
 apply_goes_on : (s : State) (caller : ℕ) (call : Call) → IsNumbered s → GoesOn s (apply s caller call).state
 apply_goes_on s caller call n = call_keeps (GoesOn s) s caller call (calls s n)

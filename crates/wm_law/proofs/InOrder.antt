@@ -29,7 +29,7 @@ module _ {E K : Type 0} (key : E → K) (cmp : K → K → Ordering) (o : IsTota
   pub longer : (x : E) (xs : List E) → length (x ∷ xs) ≡ length xs + 1
   longer x xs = grind (arith, common_steps)
 
-  first_below : (x : E) (xs : List E) → IsSorted (x ∷ xs) → All (IsBelow x) xs
+  pub first_below : (x : E) (xs : List E) → IsSorted (x ∷ xs) → All (IsBelow x) xs
   first_below x xs s k d less =
       let more = longer x xs in
       subst (IsBelow x) (behind x xs k d) (s 0 (k + 1) d (omega arith) (omega arith))

@@ -29,7 +29,8 @@ use Rattle.wm_law.specs.Jobs.{changed_at, with_job}
 use Rattle.wm_law.specs.Kept.{IsNumbered, StartsInOrder}
 use Rattle.wm_law.specs.Launch.{as_launched, launch, with_routed, routed_from_queue}
 use Rattle.wm_law.specs.Laws.{IsIn, MayStart}
-use Rattle.wm_law.specs.Settling.{in_order, start_in, start_jobs, waiting}
+use Rattle.wm_law.specs.Settling.{start_in, start_jobs, waiting}
+use Rattle.wm_law.specs.Supply.{in_order}
 use Rattle.wm_law.proofs.Ascending.{IsAscending, ascending_in_order, stands_in_order}
 use Rattle.wm_law.proofs.Firsts.{first_of, first_waits, holder_started, next_from, no_first_is_none, ready_waits}
 use Rattle.wm_law.proofs.Forward.{only_one}

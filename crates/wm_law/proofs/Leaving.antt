@@ -16,17 +16,19 @@ use Rattle.wm_law.specs.Choice.{next}
 use Rattle.wm_law.specs.Counts.{count_in_sbs, is_active, is_in_sbs, is_waiting}
 use Rattle.wm_law.specs.History.{stepped}
 use Rattle.wm_law.specs.Kept.{IsNumbered}
-use Rattle.wm_law.specs.Jobs.{changed_at}
+use Rattle.wm_law.specs.Jobs.{changed_at, active_at}
 use Rattle.wm_law.specs.Launch.{as_launched, launch, with_routed, routed_from_queue}
 use Rattle.wm_law.specs.Laws.{IsIn}
 use Rattle.wm_law.specs.Leaving.{EndingHaveJobs, EndingSubsystemsHaveJobs, StepLeavesEndingJobs}
 use Rattle.wm_law.specs.Machine.{apply, step, with_clock}
-use Rattle.wm_law.specs.Settling.{come_due, is_ending, is_gone, leave, settle, waiting}
-use Rattle.wm_law.proofs.Counted.{no_fewer}
+use Rattle.wm_law.specs.Settling.{come_due, is_ending, is_gone, leave, settle, waiting, ready}
+use Rattle.wm_law.proofs.Counted.{no_fewer, count_last}
 use Rattle.wm_law.proofs.Firsts.{next_waits}
 use Rattle.wm_law.proofs.Forward.{only_one}
 use Rattle.wm_law.proofs.Members.{left_passes}
 use Rattle.wm_law.proofs.Numbers.{apply_keeps, clock_keeps, launches_keep, ready_keeps, step_keeps_numbers}
+use Rattle.wm_law.specs.Prestart.{new_pre_job, with_evoke}
+use Rattle.wm_law.proofs.Supplies.{IsSupplied, supplied_keeps}
 
 more_than_none : (n : ℕ) (ending : Bool) → ending ≡ true → not (ending && n == 0) ≡ true → 0 < n
 more_than_none zero true e h = absurd (cc)
@@ -80,10 +82,28 @@ launches_keep_jobs = record {
   };
 }
 
+used_counted : (serial : ℕ) (sbs : QName) (b : Bool) (i : Job) → (is_active i.phase && is_in_sbs sbs i.how) ≡ true → (is_active (cond b (with_evoke i) i).phase && is_in_sbs sbs (cond b (with_evoke i) i).how) ≡ true
+used_counted serial sbs true i h = h
+used_counted serial sbs false i h = h
+
+-- neither a prestart job that is made nor a request that a job gets lessens a count
+supplied_with_jobs : IsSupplied EndingHaveJobs
+supplied_with_jobs = record {
+  makes = λ q d e t can h b i ending. (
+      let before = h b i ending in
+      let more = count_last (λ (j : Job). is_active j.phase && is_in_sbs b.sbsd j.how) t.jobs (new_pre_job t q e.pgm) in
+      omega arith);
+  assigns = λ t q pgm job evokes can h b i ending. (
+      let before = h b i ending in
+      let counted = λ (j : Job). is_active j.phase && is_in_sbs b.sbsd j.how in
+      let fewer = no_fewer counted counted (active_at job.serial with_evoke) t.jobs (λ j m x. used_counted job.serial b.sbsd (is_active j.phase && j.serial == job.serial) j x) in
+      omega arith);
+}
+
 settled_with_jobs : (s : State) → IsNumbered s → EndingHaveJobs (settle s)
 settled_with_jobs s n =
-    let left = leave (come_due s) in
-    (iterate-keeps IsPeopled launches_keep_jobs (waiting left) left (record { numbered = ready_keeps s n; jobs = left_with_jobs (come_due s) })).jobs
+    let jobs : EndingHaveJobs (ready s) = supplied_keeps EndingHaveJobs supplied_with_jobs (leave (come_due s)) (left_with_jobs (come_due s)) in
+    (iterate-keeps IsPeopled launches_keep_jobs (waiting (ready s)) (ready s) (record { numbered = ready_keeps s n; jobs = jobs })).jobs
 
 pub step_leaves_ending_jobs : StepLeavesEndingJobs
 unfolding step

@@ -3,7 +3,7 @@ use Rattle.std.proofs.Common.{◌≡◌, ◌⊎◌, ℕ, ◌<◌, ◌≤◌, ◌
 use Rattle.std.specs.List.{find}
 use Rattle.std.proofs.lemmas.Bool.{ltb-true, and_parts}
 use Rattle.wm_base.specs.declared.job.How.{How}
-use Rattle.wm_base.specs.declared.job.How.TheVariants.{Auto}
+use Rattle.wm_base.specs.declared.job.How.TheVariants.{Auto, Pre}
 use Rattle.wm_base.specs.declared.limit.Limit.{Limit}
 use Rattle.wm_base.specs.declared.limit.Limit.TheVariants.{NoMax, Most}
 use Rattle.wm_base.specs.declared.qname.QName.{QName}
@@ -16,7 +16,7 @@ use Rattle.wm_desc.specs.declared.entry.AutoEntry.{AutoEntry}
 use Rattle.wm_desc.specs.declared.entry.QueueEntry.{QueueEntry}
 use Rattle.wm_desc.specs.declared.entry.RouteEntry.{RouteEntry}
 use Rattle.wm_desc.specs.declared.objects.Objects.{Objects}
-use Rattle.wm_desc.specs.Table.{object_named}
+use Rattle.wm_desc.specs.Table.{object_named, same_qname}
 use Rattle.wm_law.specs.declared.call.Call.{Call}
 use Rattle.wm_law.specs.declared.call.Entry.{Entry}
 use Rattle.wm_law.specs.declared.choice.Candidate.{Candidate}
@@ -30,27 +30,36 @@ use Rattle.wm_law.specs.declared.launch.Launched.{Launched}
 use Rattle.wm_law.specs.declared.state.State.{State}
 use Rattle.wm_law.specs.Autos.{auto_job, routed_auto, auto_made}
 use Rattle.wm_law.specs.Choice.{entry_for, maxpty_of, next}
-use Rattle.wm_law.specs.Counts.{count_active, is_active, is_by_route, is_from_priority, is_from_queue, is_in_sbs, is_starting}
+use Rattle.wm_law.specs.Counts.{count_active, is_active, is_by_route, is_from_priority, is_from_queue, is_in_sbs, is_starting, count_from_pre, count_in_sbs, is_from_pre}
 use Rattle.wm_law.specs.History.{stepped}
-use Rattle.wm_law.specs.Kept.{HasOrders, IsNumbered, IsRouted}
-use Rattle.wm_law.specs.Jobs.{changed_at, with_job}
-use Rattle.wm_law.specs.Launch.{as_auto, as_launched, entry_numbered, from_queue, launch, with_routed, routed_from_queue}
+use Rattle.wm_law.specs.Kept.{IsNumbered, IsRouted}
+use Rattle.wm_law.specs.Jobs.{changed_at, with_job, active_at}
+use Rattle.wm_law.specs.Launch.{as_auto, as_launched, entry_numbered, from_queue, launch, with_routed, routed_from_queue, pre_entry_for, route, route_fault, routed_through, starts_unless}
 use Rattle.wm_law.specs.Laws.{IsIn}
 use Rattle.wm_law.specs.Limits.{BecameStarting, IsStarting, IsWithin, IsWithinLimits, KeepsLimits, is_autostart}
 use Rattle.wm_law.specs.Machine.{apply, step, with_clock}
 use Rattle.wm_law.specs.Reports.{in_phase, phased_at, with_phase}
-use Rattle.wm_law.specs.Settling.{come_due, job_at, leave, sbss_at, start_jobs, waiting}
+use Rattle.wm_law.specs.Settling.{come_due, job_at, leave, sbss_at, start_jobs, waiting, ready}
 use Rattle.wm_law.specs.Submitting.{entered, submitted_job}
-use Rattle.wm_law.specs.Subsystems.{begun}
+use Rattle.wm_law.specs.Subsystems.{with_autos}
 use Rattle.wm_law.proofs.Alterations.{IsAlteration, altered, each_altered, unstarted}
 use Rattle.wm_law.proofs.Counted.{count_last, no_more, no_more_each, one, one_more, one_most}
-use Rattle.wm_law.proofs.Endings.{IsWishing, key_same, stood_starting, was_active, wished, wishing_at}
+use Rattle.wm_law.proofs.Endings.{IsWishing, key_same, stood_starting, using, was_active, wished, wishing_at}
 use Rattle.wm_law.proofs.Members.{of_last, of_mapped}
-use Rattle.wm_law.proofs.Moves.{HoldsOfStates, call_keeps}
+use Rattle.wm_law.proofs.Moves.{HoldsOfStates, IsStartable, autos_made, call_keeps, readies, step_keeps}
 use Rattle.wm_law.proofs.Nexts.{IsNext, below_maxact, below_maxjobs, below_maxpty, is_next}
-use Rattle.wm_law.proofs.Numbers.{apply_keeps, clock_keeps, due_keeps, launches_keep, only_started, step_keeps_numbers}
-use Rattle.wm_law.proofs.Orders.{apply_keeps_orders, clock_keeps_orders, step_keeps_orders}
+use Rattle.wm_law.proofs.Numbers.{launches_keep}
+use Rattle.wm_law.proofs.Orders.{IsOrdered, calls, parts}
 use Rattle.wm_law.proofs.Routed.{below_route, by_route}
+use Rattle.std.specs.Option.{option_and_then}
+use Rattle.wm_base.specs.declared.job.EndCause.{EndCause}
+use Rattle.wm_base.proofs.Tests.{Some-injective}
+use Rattle.wm_desc.specs.declared.entry.PreEntry.{PreEntry}
+use Rattle.wm_desc.proofs.Tables.{one_name}
+use Rattle.wm_law.specs.Objects.{AreSound}
+use Rattle.wm_law.specs.Prestart.{new_pre_job, with_evoke}
+use Rattle.wm_law.proofs.PreOrders.{pre_found}
+use Rattle.wm_law.proofs.Supplies.{IsSuppliable, below_entry, below_sbs, supplied_keeps}
 
 -- a count that was below the limit is within it with one more
 within_one : (n m : ℕ) (limit : Limit) → is_below n limit ≡ true → m ≤ n + 1 → IsWithin m limit
@@ -175,62 +184,27 @@ ended_starts_none s change e k i p =
     let m = stood_starting change e s.jobs k i p in
     (m.job, m.there, sym (ap (λ (x : Job). x.serial) m.same), m.starting)
 
--- the job started with a subsystem
-abbrev IsAutoStart : Job → Type 0
-IsAutoStart j = (j.kind ≡ Asj) × ((sbs : QName) × ((seq : ℕ) × (j.how ≡ Auto sbs seq)))
+-- no counted job became Starting since a state, or the count is within the limit, whichever the objects have for it
+abbrev WithinSince : State → (How → Bool) → (JobKind → Bool) → (Objects → Limit → Type 0) → State → Type 0
+WithinSince s test aside limits t = (l : Limit) → limits t.objects l → NoneOrWithin s test aside l t.jobs
 
--- so it is, where its serial wasn't Starting in the first state
-abbrev StartsAutos : State → State → Type 0
-StartsAutos s t = (j : Job) → IsIn j t.jobs → j.phase ≡ Starting → IsStarting s j.serial ⊎ IsAutoStart j
-
-auto_starts : (t : State) (q : QName) (e : AutoEntry) (d : Jobd) → (routed_auto t q (auto_job t e d)).phase ≡ Starting → IsAutoStart (routed_auto t q (auto_job t e d))
-auto_starts t q e d p = let r = by_route t q (as_auto q) (auto_job t e d) p in (refl, (q, (r.entry.seq, r.is_how)))
-
-autos_start : (s t : State) (q : QName) (e : AutoEntry) (d : Jobd) → StartsAutos s t → StartsAutos s (auto_made t q e d)
-autos_start s t q e d h k i p =
-    elim (of_last t.jobs (routed_auto t q (auto_job t e d)) k i) as (λ _. IsStarting s k.serial ⊎ IsAutoStart k) [
-      | inl m ↦ h k m p
-      | inr same ↦ inr (subst IsAutoStart (sym same) (auto_starts t q e d (ap (λ (j : Job). j.phase) (sym same) ∙ p)))
-    ]
-
--- no call makes a job Starting before the state settles, but an autostart job
-calls_start_autos : (s : State) → HoldsOfStates (StartsAutos s) s
-calls_start_autos s = record {
-  stays = λ j i p. inl (j, i, refl, p);
-  starts = λ q e j i p. inl (j, i, refl, p);
-  autos = λ q t e d m h. autos_start s t q e d h;
-  enters = λ user c d due has j i p. inl (entered_starts_none s user c d due j i p);
-  alters = λ change place a j i p. inl (altered_starts_none s change place a j i p);
-  holds = λ held a j i p. inl (j, i, refl, p);
-  moves = λ serial j phase i e r n k m p. inl (moved_starts_none s serial phase n k m p);
-  ends = λ change started evokes power e j i p. inl (ended_starts_none s change e.jobs j i p);
-  makes = λ o c j i p. inl (j, i, refl, p);
-}
-
--- a test that leaves out autostart jobs, or that their how doesn't pass, finds none that is new
-none_new_yet : (s t : State) (test : How → Bool) (aside : JobKind → Bool) → StartsAutos s t → ((sbs : QName) (seq : ℕ) → test (Auto sbs seq) ≡ true → aside Asj ≡ true) → NoneNew s test aside t.jobs
-none_new_yet s t test aside h none j i p q v =
-    elim (h j i p) as (λ _. IsStarting s j.serial) [
-      | inl was ↦ was
-      | inr a ↦ (
-          let passes : test (Auto a.1.0 a.1.1.0) ≡ true = ap test (sym a.1.1.1) ∙ q in
-          let left_out : aside j.kind ≡ true = ap aside a.0 ∙ none a.1.0 a.1.1.0 passes in
+-- a job that starts with a subsystem is left out by its kind, or its how doesn't pass
+auto_none_new : (s t : State) (test : How → Bool) (aside : JobKind → Bool) → ((sbs : QName) (seq : ℕ) → test (Auto sbs seq) ≡ true → aside Asj ≡ true) → (q : QName) (e : AutoEntry) (d : Jobd) → NoneNew s test aside t.jobs → NoneNew s test aside (auto_made t q e d).jobs
+auto_none_new s t test aside none q e d h k i p its v =
+    elim (of_last t.jobs (routed_auto t q (auto_job t e d)) k i) as (λ _. IsStarting s k.serial) [
+      | inl m ↦ h k m p its v
+      | inr same ↦ (
+          let r = by_route t q (as_auto q) (auto_job t e d) (ap (λ (j : Job). j.phase) (sym same) ∙ p) in
+          let passes : test (Auto q r.entry.seq) ≡ true = ap test (sym r.is_how) ∙ ap (λ (j : Job). test j.how) (sym same) ∙ its in
+          let left_out : aside k.kind ≡ true = ap (λ (j : Job). aside j.kind) same ∙ none q r.entry.seq passes in
           absurd (cc))
     ]
 
--- no job became Starting through a routing entry since a state, or its count is within MAXACT
-abbrev RoutesWithin : State → State → Type 0
-RoutesWithin s t = (sbs : QName) (seq : ℕ) (d : Sbsd) (e : RouteEntry) → IsRouted t.objects → object_named sbs t.objects.sbsds ≡ Some d → entry_numbered seq d ≡ Some e → NoneOrWithin s (is_by_route sbs seq) none_aside e.maxact t.jobs
-
--- one that starts none
-route_within_yet : (s t : State) → StartsNone s t → RoutesWithin s t
-route_within_yet s t h sbs seq d e r k f = inl (λ j i p q v. h j i p)
-
-module _ (s : State) (test : How → Bool) (limit : Limit) (jobs : List Job) (j : Job) where
+module _ (s : State) (test : How → Bool) (aside : JobKind → Bool) (limit : Limit) (jobs : List Job) (j : Job) where
   last_count : count_active test (jobs ++ j ∷ []) ≡ count_active test jobs + one (λ (k : Job). is_active k.phase && test k.how) j
   last_count = count_last (λ (k : Job). is_active k.phase && test k.how) jobs j
 
-  last_new : (is_active j.phase && test j.how) ≡ false → NoneNew s test none_aside jobs → NoneNew s test none_aside (jobs ++ j ∷ [])
+  last_new : (is_active j.phase && test j.how) ≡ false → NoneNew s test aside jobs → NoneNew s test aside (jobs ++ j ∷ [])
   last_new n h k i p q v =
       elim (of_last jobs j k i) as (λ _. IsStarting s k.serial) [
         | inl m ↦ h k m p q v
@@ -241,7 +215,7 @@ module _ (s : State) (test : How → Bool) (limit : Limit) (jobs : List Job) (j 
       ]
 
   -- one more job that is counted comes where the count is below the limit
-  last_within : (b : Bool) → (is_active j.phase && test j.how) ≡ b → (test j.how ≡ true → is_below (count_active test jobs) limit ≡ true) → NoneOrWithin s test none_aside limit jobs → NoneOrWithin s test none_aside limit (jobs ++ j ∷ [])
+  last_within : (b : Bool) → (is_active j.phase && test j.how) ≡ b → (test j.how ≡ true → is_below (count_active test jobs) limit ≡ true) → NoneOrWithin s test aside limit jobs → NoneOrWithin s test aside limit (jobs ++ j ∷ [])
   last_within true e below h =
       let count = last_count in
       let most = one_most (λ (k : Job). is_active k.phase && test k.how) j in
@@ -252,60 +226,122 @@ module _ (s : State) (test : How → Bool) (limit : Limit) (jobs : List Job) (j 
       let none : one (λ (k : Job). is_active k.phase && test k.how) j ≡ 0 = ap (λ (t : Bool). cond t 1 0) e in
       inr (within_still (count_active test jobs) (count_active test (jobs ++ j ∷ [])) limit (omega arith) w)
 
-auto_within : (s t : State) (q : QName) (e : AutoEntry) (d : Jobd) → RoutesWithin s t → RoutesWithin s (auto_made t q e d)
-auto_within s t q e d h sbs seq c n r k f =
-    let j = routed_auto t q (auto_job t e d) in
-    last_within s (is_by_route sbs seq) n.maxact t.jobs j (is_active j.phase && is_by_route sbs seq j.how) refl
-    (λ its. below_route t q (as_auto q) (auto_job t e d) sbs seq c n (λ x y z. refl) r k f its)
-    (h sbs seq c n r k f)
-
--- no call passes the limit of a routing entry before the state settles
-calls_within_routes : (s : State) → HoldsOfStates (RoutesWithin s) s
-calls_within_routes s = record {
-  stays = route_within_yet s s (λ j i p. (j, i, refl, p));
-  starts = λ q e. route_within_yet s (begun s q) (λ j i p. (j, i, refl, p));
-  autos = λ q t e d m h. auto_within s t q e d h;
-  enters = λ user c d due has. route_within_yet s (entered s (submitted_job s user c d due)) (entered_starts_none s user c d due);
-  alters = λ change place a. route_within_yet s (altered s change place) (altered_starts_none s change place a);
-  holds = λ held a. route_within_yet s (record s { held = held }) (λ j i p. (j, i, refl, p));
-  moves = λ serial j phase i e r n. route_within_yet s (with_phase s serial phase) (moved_starts_none s serial phase n);
-  ends = λ change started evokes power e. route_within_yet s (wished s change started evokes power) (ended_starts_none s change e.jobs);
-  makes = λ o c. route_within_yet s (record s { objects = o }) (λ j i p. (j, i, refl, p));
-}
-
--- nor does settling's first part
-autos_due : (s t : State) → StartsAutos s t → StartsAutos s (come_due t)
-autos_due s t h k i p =
-    let m = stood_starting (job_at t.clock (sbss_at t)) (wishing_at t.clock (sbss_at t)) t.jobs k i p in
-    elim (h m.job m.there m.starting) as (λ _. IsStarting s k.serial ⊎ IsAutoStart k) [
-      | inl was ↦ inl (subst (IsStarting s) (sym (ap (λ (x : Job). x.serial) m.same)) was)
-      | inr a ↦ inr (ap (λ (x : Job). x.kind) m.same ∙ a.0, (a.1.0, (a.1.1.0, ap (λ (x : Job). x.how) m.same ∙ a.1.1.1)))
-    ]
-
 counted_before : (test : How → Bool) (change : Job → Job) → IsWishing change → (j : Job) → (is_active (change j).phase && test (change j).how) ≡ true → (is_active j.phase && test j.how) ≡ true
 counted_before test change e j h =
     let both = and_parts (is_active (change j).phase) (test (change j).how) h in
     ap (λ (b : Bool). b && test j.how) (was_active j.phase (change j).phase (e.phase j) both.0)
-    ∙ ap test (sym (key_same change e (λ (x : Job). x.how) (λ x p w. refl) j))
+    ∙ ap test (sym (key_same change e (λ (x : Job). x.how) (λ x p w u e. refl) j))
     ∙ both.1
 
-within_due : (s t : State) (test : How → Bool) (limit : Limit) → NoneOrWithin s test none_aside limit t.jobs → NoneOrWithin s test none_aside limit (come_due t).jobs
-within_due s t test limit (inl none) = inl (λ k i p q v. (
-    let m = stood_starting (job_at t.clock (sbss_at t)) (wishing_at t.clock (sbss_at t)) t.jobs k i p in
-    subst (IsStarting s) (sym (ap (λ (x : Job). x.serial) m.same)) (none m.job m.there m.starting (ap test (sym (ap (λ (x : Job). x.how) m.same)) ∙ q) refl)))
-within_due s t test limit (inr w) =
-    let change = job_at t.clock (sbss_at t) in
-    let fewer = no_more_each (λ (j : Job). is_active j.phase && test j.how) change (counted_before test change (wishing_at t.clock (sbss_at t))) t.jobs in
-    inr (within_still (count_active test t.jobs) (count_active test (come_due t).jobs) limit fewer w)
+-- wishes and uses make no job Starting, and raise no count
+within_wished : (s : State) (test : How → Bool) (aside : JobKind → Bool) (limit : Limit) (change : Job → Job) → IsWishing change → (jobs : List Job) → NoneOrWithin s test aside limit jobs → NoneOrWithin s test aside limit (map change jobs)
+within_wished s test aside limit change e jobs (inl none) = inl (λ k i p q v. (
+    let m = stood_starting change e jobs k i p in
+    subst (IsStarting s) (sym (ap (λ (x : Job). x.serial) m.same)) (none m.job m.there m.starting (ap test (sym (ap (λ (x : Job). x.how) m.same)) ∙ q) (ap aside (sym (ap (λ (x : Job). x.kind) m.same)) ∙ v))))
+within_wished s test aside limit change e jobs (inr w) =
+    let fewer = no_more_each (λ (j : Job). is_active j.phase && test j.how) change (counted_before test change e) jobs in
+    inr (within_still (count_active test jobs) (count_active test (map change jobs)) limit fewer w)
 
-routes_due : (s t : State) → RoutesWithin s t → RoutesWithin s (come_due t)
-routes_due s t h sbs seq d e r k f = within_due s t (is_by_route sbs seq) e.maxact (h sbs seq d e r k f)
+-- what a prestart job that is made stands on: the count is below the limit where its how passes the test
+abbrev PreBelow : (How → Bool) → (Objects → Limit → Type 0) → Type 0
+PreBelow test limits = (q : QName) (d : Sbsd) (e : PreEntry) (t : State) → IsSuppliable q d e t → (l : Limit) → limits t.objects l → test (Pre q e.pgm) ≡ true → is_below (count_active test t.jobs) l ≡ true
+
+module _ (s : State) (test : How → Bool) (aside : JobKind → Bool) (limits : Objects → Limit → Type 0) (starts : (q : QName) → IsStartable s q → WithinSince s test aside limits (with_autos s q)) (below : PreBelow test limits) where
+  abbrev Within : State → Type 0
+  Within t = WithinSince s test aside limits t
+
+  yet : (t : State) → StartsNone s t → Within t
+  yet t h l k = inl (λ j i p q v. h j i p)
+
+  -- no call passes the limit before the state settles
+  within_calls : HoldsOfStates Within s
+  within_calls = record {
+    stays = yet s (λ j i p. (j, i, refl, p));
+    starts = starts;
+    supplies = record {
+      makes = λ q d e t can h l k. last_within s test aside l t.jobs (new_pre_job t q e.pgm) (test (Pre q e.pgm)) refl (λ its. below q d e t can l k its) (h l k);
+      assigns = λ t q pgm job evokes can h l k. within_wished s test aside l (active_at job.serial with_evoke) (using job.serial) t.jobs (h l k);
+    };
+    enters = λ user c d due has. yet (entered s (submitted_job s user c d due)) (entered_starts_none s user c d due);
+    alters = λ change place a. yet (altered s change place) (altered_starts_none s change place a);
+    holds = λ held a. yet (record s { held = held }) (λ j i p. (j, i, refl, p));
+    lists = λ stopped evokes. yet (record s { stopped = stopped; evokes = evokes }) (λ j i p. (j, i, refl, p));
+    moves = λ serial j phase stopped i e r n. yet (record (with_phase s serial phase) { stopped = stopped }) (moved_starts_none s serial phase n);
+    ends = λ change started stopped evokes power e. yet (wished s change started stopped evokes power) (ended_starts_none s change e.jobs);
+    makes = λ o c. yet (record s { objects = o }) (λ j i p. (j, i, refl, p));
+  }
+
+  -- nor where the state is ready for jobs to start
+  within_ready : (t : State) → Within t → Within (ready t)
+  within_ready t h =
+      supplied_keeps Within within_calls.supplies (leave (come_due t))
+      (λ l k. within_wished s test aside l (job_at t.clock (sbss_at t)) (wishing_at t.clock (sbss_at t)) t.jobs (h l k))
+
+  called_within : (caller : ℕ) (call : Call) → Within (ready (apply s caller call).state)
+  called_within caller call = within_ready (apply s caller call).state (call_keeps Within s caller call within_calls)
+
+-- where no autostart job counts, none became Starting with the autostart jobs of a subsystem
+autos_aside : (s : State) (test : How → Bool) (aside : JobKind → Bool) (limits : Objects → Limit → Type 0) → ((sbs : QName) (seq : ℕ) → test (Auto sbs seq) ≡ true → aside Asj ≡ true) → (q : QName) → IsStartable s q → WithinSince s test aside limits (with_autos s q)
+autos_aside s test aside limits none q can l k =
+    inl (autos_made (λ t. NoneNew s test aside t.jobs) s q can (λ t e d m h. auto_none_new s t test aside none q e d h) (λ j i p its v. (j, i, refl, p)))
+
+-- the limits: MAXJOBS of a subsystem, MAXACT and MAXPTY of a queue entry, MAXACT of a routing entry, and MAXJOBS of a prestart entry
+abbrev OfSbs : QName → Objects → Limit → Type 0
+OfSbs sbs o l = (d : Sbsd) × (object_named sbs o.sbsds ≡ Some d) × (d.maxjobs ≡ l)
+
+abbrev OfQueue : QName → QName → Objects → Limit → Type 0
+OfQueue sbs queue o l = (d : Sbsd) × (object_named sbs o.sbsds ≡ Some d) × ((e : QueueEntry) × (entry_for queue d ≡ Some e) × (e.maxact ≡ l))
+
+abbrev OfPriority : QName → QName → ℕ → Objects → Limit → Type 0
+OfPriority sbs queue pty o l = (d : Sbsd) × (object_named sbs o.sbsds ≡ Some d) × ((e : QueueEntry) × (entry_for queue d ≡ Some e) × (maxpty_of e pty ≡ l))
+
+abbrev OfRoute : QName → ℕ → Objects → Limit → Type 0
+OfRoute sbs seq o l = IsRouted o × ((d : Sbsd) × (object_named sbs o.sbsds ≡ Some d) × ((e : RouteEntry) × (entry_numbered seq d ≡ Some e) × (e.maxact ≡ l)))
+
+abbrev OfPre : QName → QName → Objects → Limit → Type 0
+OfPre sbs pgm o l = AreSound o × ((d : Sbsd) × (object_named sbs o.sbsds ≡ Some d) × ((e : PreEntry) × (pre_entry_for pgm d ≡ Some e) × (e.maxjobs ≡ l)))
+
+-- no autostart job passes the limit of a routing entry
+routes_start : (s : State) (sbs : QName) (seq : ℕ) (q : QName) → IsStartable s q → WithinSince s (is_by_route sbs seq) none_aside (OfRoute sbs seq) (with_autos s q)
+routes_start s sbs seq q can =
+    autos_made (WithinSince s (is_by_route sbs seq) none_aside (OfRoute sbs seq)) s q can
+    (λ t e d m h l k. (
+    let j = routed_auto t q (auto_job t e d) in
+    let n = k.1.2.0 in
+    last_within s (is_by_route sbs seq) none_aside l t.jobs j (is_active j.phase && is_by_route sbs seq j.how) refl
+    (λ its. ap (is_below (count_active (is_by_route sbs seq) t.jobs)) (sym k.1.2.2) ∙ below_route t q (as_auto q) (auto_job t e d) sbs seq k.1.0 n (λ x y z. refl) k.0 k.1.1 k.1.2.1 its)
+    (h l k)))
+    (λ l k. inl (λ j i p its v. (j, i, refl, p)))
+
+-- a prestart job is made below MAXJOBS of its subsystem
+sbs_below : (sbs : QName) → PreBelow (is_in_sbs sbs) (OfSbs sbs)
+sbs_below sbs q d e t can l k its =
+    let named : q ≡ sbs = one_name q sbs its in
+    let same : d ≡ k.0 = Some-injective d k.0 (sym can.described ∙ ap (λ (n : QName). object_named n t.objects.sbsds) named ∙ k.1) in
+    ap (λ (n : QName). is_below (count_in_sbs n t.jobs) l) (sym named)
+    ∙ ap (is_below (count_in_sbs q t.jobs)) (sym k.2 ∙ ap (λ (x : Sbsd). x.maxjobs) (sym same))
+    ∙ below_sbs q d e t can.some
+
+-- and of its entry
+pre_below : (sbs pgm : QName) → PreBelow (is_from_pre sbs pgm) (OfPre sbs pgm)
+pre_below sbs pgm q d e t can l k its =
+    let both = and_parts (same_qname q sbs) (same_qname e.pgm pgm) its in
+    let named : q ≡ sbs = one_name q sbs both.0 in
+    let program : e.pgm ≡ pgm = one_name e.pgm pgm both.1 in
+    let same : d ≡ k.1.0 = Some-injective d k.1.0 (sym can.described ∙ ap (λ (n : QName). object_named n t.objects.sbsds) named ∙ k.1.1) in
+    let pres = (k.0.described q d can.described).pres in
+    let found : pre_entry_for pgm d ≡ Some e = ap (λ (n : QName). pre_entry_for n d) (sym program) ∙ pre_found d.pres e pres.sorted can.entered in
+    let one : e ≡ k.1.2.0 = Some-injective e k.1.2.0 (sym found ∙ ap (pre_entry_for pgm) same ∙ k.1.2.1) in
+    ap (λ (n : QName). is_below (count_from_pre n pgm t.jobs) l) (sym named)
+    ∙ ap (λ (n : QName). is_below (count_from_pre q n t.jobs) l) (sym program)
+    ∙ ap (is_below (count_from_pre q e.pgm t.jobs)) (sym k.1.2.2 ∙ ap (λ (x : PreEntry). x.maxjobs) (sym one))
+    ∙ below_entry q d e t can.some
 
 -- a job that became Starting, whose how passes the test, finds the count within the limit
-settled_within : (s t : State) (test : How → Bool) (aside : JobKind → Bool) (limit : Limit) → IsNumbered t → NoneOrWithin s test aside limit t.jobs → Admits t.objects test limit → (j : Job) → BecameStarting s (start_jobs (leave t)) j → test j.how ≡ true → aside j.kind ≡ false → IsWithin (count_active test (start_jobs (leave t)).jobs) limit
-settled_within s t test aside limit n h a j b its kind =
-    let since = started_within s t.objects test aside limit a (leave t) (record { numbered = only_started t n; objects = refl; within = h }) in
-    elim (since.within) as (λ _. IsWithin (count_active test (start_jobs (leave t)).jobs) limit) [
+settled_within : (s u : State) (test : How → Bool) (aside : JobKind → Bool) (limit : Limit) → IsNumbered u → NoneOrWithin s test aside limit u.jobs → Admits u.objects test limit → (j : Job) → BecameStarting s (start_jobs u) j → test j.how ≡ true → aside j.kind ≡ false → IsWithin (count_active test (start_jobs u).jobs) limit
+settled_within s u test aside limit n h a j b its kind =
+    let since = started_within s u.objects test aside limit a u (record { numbered = n; objects = refl; within = h }) in
+    elim (since.within) as (λ _. IsWithin (count_active test (start_jobs u).jobs) limit) [
       | inl none ↦ absurd (b.new (none j b.job b.starting its kind))
       | inr w ↦ w
     ]
@@ -313,12 +349,12 @@ settled_within s t test aside limit n h a j b its kind =
 launches_keep_objects : (o : Objects) → IsKept next (λ c t. launch t c) (λ t. t.objects ≡ o)
 launches_keep_objects o = record { by_step = λ t c e h. objects_same t c (find (λ (j : Job). j.serial == c.serial) t.jobs) ∙ h }
 
--- settling changes no object
-pub settled_objects : (t : State) → (start_jobs (leave t)).objects ≡ t.objects
-settled_objects t = iterate-keeps (λ (u : State). u.objects ≡ t.objects) (launches_keep_objects t.objects) (waiting (leave t)) (leave t) refl
+-- starting changes no object
+started_objects : (u : State) → (start_jobs u).objects ≡ u.objects
+started_objects u = iterate-keeps (λ (t : State). t.objects ≡ u.objects) (launches_keep_objects u.objects) (waiting u) u refl
 
-described : (t : State) (sbs : QName) (d : Sbsd) → object_named sbs (start_jobs (leave t)).objects.sbsds ≡ Some d → object_named sbs t.objects.sbsds ≡ Some d
-described t sbs d k = ap (λ (o : Objects). object_named sbs o.sbsds) (sym (settled_objects t)) ∙ k
+described : (u : State) (sbs : QName) (d : Sbsd) → object_named sbs (start_jobs u).objects.sbsds ≡ Some d → object_named sbs u.objects.sbsds ≡ Some d
+described u sbs d k = ap (λ (o : Objects). object_named sbs o.sbsds) (sym (started_objects u)) ∙ k
 
 named : (o p : Objects) (sbs : QName) (d : Sbsd) → p ≡ o → object_named sbs o.sbsds ≡ Some d → object_named sbs p.sbsds ≡ Some d
 named o p sbs d e k = ap (λ (x : Objects). object_named sbs x.sbsds) e ∙ k
@@ -336,27 +372,61 @@ admits_route : (o : Objects) (sbs : QName) (seq : ℕ) (d : Sbsd) (e : RouteEntr
 admits_route o sbs seq d e r k f t c j g n h =
     below_route t c.sbs (from_queue c.sbs c.jobq j) j sbs seq d e (λ x y z. refl) (subst IsRouted (sym g) r) (named o t.objects sbs d g k) f h
 
--- no start passes a limit, where the call started only autostart jobs, and those within the limits of their routing entries
-settled_limits : (s t : State) → IsNumbered t → IsRouted t.objects → StartsAutos s t → RoutesWithin s t → IsWithinLimits s (start_jobs (leave t))
-settled_limits s t n r h w = record {
-  maxjobs = λ j sbs d b kind its k. settled_within s t (is_in_sbs sbs) is_autostart d.maxjobs n (inl (none_new_yet s t (is_in_sbs sbs) is_autostart h (λ x y e. refl))) (admits_maxjobs t.objects sbs d (described t sbs d k)) j b its kind;
-  maxact = λ j sbs queue d e b its k f. settled_within s t (is_from_queue sbs queue) none_aside e.maxact n (inl (none_new_yet s t (is_from_queue sbs queue) none_aside h (λ x y e. absurd (cc)))) (admits_maxact t.objects sbs queue d e (described t sbs d k) f) j b its refl;
-  maxpty = λ j sbs queue pty d e b its k f. settled_within s t (is_from_priority sbs queue pty) none_aside (maxpty_of e pty) n (inl (none_new_yet s t (is_from_priority sbs queue pty) none_aside h (λ x y e. absurd (cc)))) (admits_maxpty t.objects sbs queue pty d e (described t sbs d k) f) j b its refl;
-  routes = λ j sbs seq d e b its k f. settled_within s t (is_by_route sbs seq) none_aside e.maxact n (w sbs seq d e r (described t sbs d k) f) (admits_route t.objects sbs seq d e r (described t sbs d k) f) j b its refl;
-}
+unless_no_pre : (sbs pgm : QName) (how : ℕ → How) (seq : ℕ) (o : Option EndCause) → ((n : ℕ) → is_from_pre sbs pgm (how n) ≡ false) → is_from_pre sbs pgm (starts_unless how seq o).how ≡ false
+unless_no_pre sbs pgm how seq None h = h seq
+unless_no_pre sbs pgm how seq (Some c) h = refl
 
--- nor over a step
-pub step_limits : (s : State) (caller : ℕ) (call : Call) (moment : ℕ) → IsNumbered s → HasOrders s → IsWithinLimits s (step s caller call moment).state
+through_no_pre : (t : State) (q sbs pgm : QName) (how : ℕ → How) (j : Job) (o : Option RouteEntry) → ((n : ℕ) → is_from_pre sbs pgm (how n) ≡ false) → is_from_pre sbs pgm (routed_through t q how j o).how ≡ false
+through_no_pre t q sbs pgm how j None h = refl
+through_no_pre t q sbs pgm how j (Some e) h = unless_no_pre sbs pgm how e.seq (route_fault t q e j) h
+
+-- no job of a queue comes by a prestart entry
+admits_pre : (o : Objects) (sbs pgm : QName) (limit : Limit) → Admits o (is_from_pre sbs pgm) limit
+admits_pre o sbs pgm limit t c j e n h =
+    let no = through_no_pre t c.sbs sbs pgm (from_queue c.sbs c.jobq j) j (option_and_then (λ (d : Sbsd). route d j.rtgdta) (object_named c.sbs t.objects.sbsds)) (λ m. refl) in
+    absurd (cc)
+
+-- the clock has no part in what became Starting
+since_clock : (s : State) (moment : ℕ) (u : State) (j : Job) → BecameStarting s (start_jobs u) j → BecameStarting (with_clock s moment) (start_jobs u) j
+since_clock s moment u j b = record { job = b.job; starting = b.starting; new = b.new }
+
+-- no start passes a limit over a step
+pub step_limits : (s : State) (caller : ℕ) (call : Call) (moment : ℕ) → IsOrdered s → IsWithinLimits s (step s caller call moment).state
 unfolding step
-step_limits s caller call moment n h =
+step_limits s caller call moment ordered =
     let c = with_clock s moment in
     let t = (apply c caller call).state in
-    let numbered : IsNumbered t = apply_keeps c caller call (clock_keeps s moment n) in
-    settled_limits s (come_due t) (due_keeps t numbered) (apply_keeps_orders c caller call (clock_keeps_orders s moment h)).routed
-    (autos_due s t (call_keeps (StartsAutos c) c caller call (calls_start_autos c)))
-    (routes_due s t (call_keeps (RoutesWithin c) c caller call (calls_within_routes c)))
+    let u = ready t in
+    let all : IsOrdered u = readies IsOrdered parts t (call_keeps IsOrdered c caller call (calls c (parts.clock s moment ordered))) in
+    record {
+      maxjobs = λ j sbs d b kind its k. (
+          let there = described u sbs d k in
+          settled_within c u (is_in_sbs sbs) is_autostart d.maxjobs all.numbered
+          (called_within c (is_in_sbs sbs) is_autostart (OfSbs sbs) (autos_aside c (is_in_sbs sbs) is_autostart (OfSbs sbs) (λ x y e. refl)) (sbs_below sbs) caller call d.maxjobs (d, there, refl))
+          (admits_maxjobs u.objects sbs d there) j (since_clock s moment u j b) its kind);
+      maxact = λ j sbs queue d e b its k f. (
+          let there = described u sbs d k in
+          settled_within c u (is_from_queue sbs queue) none_aside e.maxact all.numbered
+          (called_within c (is_from_queue sbs queue) none_aside (OfQueue sbs queue) (autos_aside c (is_from_queue sbs queue) none_aside (OfQueue sbs queue) (λ x y no. absurd (cc))) (λ q x y z can l m no. absurd (cc)) caller call e.maxact (d, there, (e, f, refl)))
+          (admits_maxact u.objects sbs queue d e there f) j (since_clock s moment u j b) its refl);
+      maxpty = λ j sbs queue pty d e b its k f. (
+          let there = described u sbs d k in
+          settled_within c u (is_from_priority sbs queue pty) none_aside (maxpty_of e pty) all.numbered
+          (called_within c (is_from_priority sbs queue pty) none_aside (OfPriority sbs queue pty) (autos_aside c (is_from_priority sbs queue pty) none_aside (OfPriority sbs queue pty) (λ x y no. absurd (cc))) (λ q x y z can l m no. absurd (cc)) caller call (maxpty_of e pty) (d, there, (e, f, refl)))
+          (admits_maxpty u.objects sbs queue pty d e there f) j (since_clock s moment u j b) its refl);
+      routes = λ j sbs seq d e b its k f. (
+          let there = described u sbs d k in
+          settled_within c u (is_by_route sbs seq) none_aside e.maxact all.numbered
+          (called_within c (is_by_route sbs seq) none_aside (OfRoute sbs seq) (routes_start c sbs seq) (λ q x y z can l m no. absurd (cc)) caller call e.maxact (all.orders.routed, (d, there, (e, f, refl))))
+          (admits_route u.objects sbs seq d e all.orders.routed there f) j (since_clock s moment u j b) its refl);
+      pres = λ j sbs pgm d e b its k f. (
+          let there = described u sbs d k in
+          settled_within c u (is_from_pre sbs pgm) none_aside e.maxjobs all.numbered
+          (called_within c (is_from_pre sbs pgm) none_aside (OfPre sbs pgm) (autos_aside c (is_from_pre sbs pgm) none_aside (OfPre sbs pgm) (λ x y no. absurd (cc))) (pre_below sbs pgm) caller call e.maxjobs (all.objects, (d, there, (e, f, refl))))
+          (admits_pre u.objects sbs pgm e.maxjobs) j (since_clock s moment u j b) its refl);
+    }
 
 -- nor over any entry of a history
-pub limits_kept : (s : State) (h : List Entry) → IsNumbered s → HasOrders s → KeepsLimits s h
-limits_kept s [] n o = tt
-limits_kept s (e ∷ es) n o = (step_limits s e.caller e.call e.moment n o, limits_kept (stepped s e).state es (step_keeps_numbers s e.caller e.call e.moment n) (step_keeps_orders s e.caller e.call e.moment n o))
+pub limits_kept : (s : State) (h : List Entry) → IsOrdered s → KeepsLimits s h
+limits_kept s [] o = tt
+limits_kept s (e ∷ es) o = (step_limits s e.caller e.call e.moment o, limits_kept (stepped s e).state es (step_keeps IsOrdered parts s e.caller e.call e.moment o))

@@ -1,6 +1,6 @@
 -- What a call can come to, and what a step can do to a state. The calls are gone over one by one, so that laws need no case
 -- for each.
-use Rattle.std.proofs.Common.{◌≡◌, ℕ, ◌<◌, ◌≤◌, ◌-◌, ◌+◌, ◌==◌, not, Bool, true, false, cond, List, [], ◌∷◌, length, fold, Option, Some, None, is_some, nat_le, nat_lt, min, refl, inl, inr, arith, filter, sym, ◌⊎◌, ◌∙◌, ap, unwrap_or}
+use Rattle.std.proofs.Common.{◌≡◌, ℕ, ◌<◌, ◌≤◌, ◌-◌, ◌+◌, ◌==◌, not, Bool, true, false, cond, List, [], ◌∷◌, ◌++◌, length, fold, Option, Some, None, is_some, nat_le, nat_lt, min, refl, inl, inr, arith, filter, sym, subst, ◌⊎◌, ◌∙◌, ap, unwrap_or, nat_eq, ◌&&◌}
 use Rattle.std.specs.List.{count_by, find}
 use Rattle.std.specs.Prelude.{Result, Ok, Err}
 use Rattle.std.specs.Option.{IsSome}
@@ -17,7 +17,7 @@ use Rattle.wm_base.specs.declared.qname.QName.{QName}
 use Rattle.wm_base.specs.declared.refusal.Kind.TheVariants as kind
 use Rattle.wm_base.specs.declared.refusal.PhaseWord.TheVariants as word
 use Rattle.wm_base.specs.declared.refusal.Refusal.{Refusal}
-use Rattle.wm_base.specs.declared.refusal.Refusal.TheVariants.{AlreadyEnding, HeldAlready, NoJob, NoObject, NotHeld, NotInUse, NumbersUsed, PoweringDown, SbsNotActive, WrongPhase}
+use Rattle.wm_base.specs.declared.refusal.Refusal.TheVariants.{AlreadyEnding, HeldAlready, NoJob, NoObject, NotHeld, NotInUse, NumbersUsed, PoweringDown, SbsNotActive, WrongPhase, AlreadyActive, EntryStopped, NoneAvailable, WaitListFull}
 use Rattle.wm_base.specs.Iterate.{IsKept}
 use Rattle.wm_base.proofs.Iterate.{iterate-keeps}
 use Rattle.wm_base.proofs.Tests.{unrefused}
@@ -30,7 +30,7 @@ use Rattle.wm_law.specs.declared.call.Call.{Call}
 use Rattle.wm_law.specs.declared.call.Call.TheVariants.{Change, Hand, Started, StartFailed, Finished, UseDone, Tick}
 use Rattle.wm_law.specs.declared.call.Entry.{Entry}
 use Rattle.wm_law.specs.declared.call.Reply.{Reply}
-use Rattle.wm_law.specs.declared.call.Reply.TheVariants.{Made, PowerDown, Order, Nothing, Noted, SbsEnding, Submitted, Held, Released, Changed, JobEnding, JobEnded, QueueHeld, QueueReleased, QueueCleared}
+use Rattle.wm_law.specs.declared.call.Reply.TheVariants.{Made, PowerDown, Order, Nothing, Noted, SbsEnding, Submitted, Held, Released, Changed, JobEnding, JobEnded, QueueHeld, QueueReleased, QueueCleared, PreStarted, PreEnding, Evoked, EvokeWaits, UseEnded}
 use Rattle.wm_law.specs.declared.command.Command.{Command}
 use Rattle.wm_law.specs.declared.command.Command.TheVariants as command
 use Rattle.wm_law.specs.declared.command.Chgjob.{Chgjob}
@@ -45,20 +45,20 @@ use Rattle.wm_law.specs.declared.state.Evoke.{Evoke}
 use Rattle.wm_law.specs.declared.state.Power.{Power}
 use Rattle.wm_law.specs.declared.state.Sbs.{Sbs}
 use Rattle.wm_law.specs.declared.state.State.{State}
-use Rattle.wm_law.specs.declared.state.SbsPhase.TheVariants.{Active}
+use Rattle.wm_law.specs.declared.state.Stop.{Stop}
+use Rattle.wm_law.specs.declared.state.SbsPhase.TheVariants.{Active, Ending, Now}
 use Rattle.wm_law.specs.Autos.{auto_described, auto_made, autos_of, make_auto}
-use Rattle.wm_law.specs.Counts.{is_starting, is_waiting}
-use Rattle.wm_law.specs.Fit.{HasCall}
+use Rattle.wm_law.specs.Counts.{is_starting, is_waiting, count_from_pre, is_active}
 use Rattle.wm_law.specs.History.{after, is_hand, stepped}
-use Rattle.wm_law.specs.Kept.{IsEndOn, is_start_fault, phase_rank}
-use Rattle.wm_law.specs.Launch.{order_of, launch}
+use Rattle.wm_law.specs.Kept.{IsEndOn, is_start_fault, phase_rank, IsNumbered}
+use Rattle.wm_law.specs.Launch.{order_of, launch, pre_entry_for}
 use Rattle.wm_law.specs.Laws.{IsIn}
 use Rattle.wm_law.specs.Machine.{apply, step, with_clock, change}
 use Rattle.wm_law.specs.Making.{made_unless}
-use Rattle.wm_law.specs.Endings.{down_by, end_active, end_found, end_in_phase, end_started, is_down, is_ending_by, is_wished, job_wish, started_named}
+use Rattle.wm_law.specs.Endings.{down_by, end_active, end_found, end_in_phase, end_started, is_down, is_ending_by, is_wished, job_wish, started_named, is_of_those}
 use Rattle.wm_law.specs.Power.{is_on}
-use Rattle.wm_law.specs.Reports.{in_phase, with_phase, hand_job, hand_order, is_to_kill, report_on, start_job, is_handed_to, is_run_by, phase_word, done_with, end_cause, exit_cause, with_kill}
-use Rattle.wm_law.specs.Settling.{come_due, job_at, leave, sbss_at, waiting}
+use Rattle.wm_law.specs.Reports.{in_phase, with_phase, hand_job, hand_order, is_to_kill, report_on, start_job, stops_after, is_handed_to, is_run_by, is_unused, phase_word, end_cause, exit_cause, with_kill}
+use Rattle.wm_law.specs.Settling.{come_due, job_at, leave, ready, sbss_at, waiting, is_ending}
 use Rattle.wm_law.specs.Stepped.{Stepped, refused}
 use Rattle.wm_law.specs.Submitting.{submit_due, submit_with, submitted_job, entered, has_numbers, job_name, numbers_end, numbers_left, queue_of, serials_end}
 use Rattle.wm_law.specs.Schedules.{rescheduled, scheduled}
@@ -68,13 +68,29 @@ use Rattle.wm_law.specs.Changing.{change_due, change_found, finds_queue, moved_t
 use Rattle.wm_law.specs.Queues.{clear_queue, cleared_from, hold_queue, own_name, release_queue, waits_on}
 use Rattle.wm_law.specs.Jobs.{active_at, waiting_at, with_active}
 use Rattle.wm_law.specs.Wishes.{now_cause, with_wish}
-use Rattle.wm_law.specs.Built.{is_configuring_call, is_ending_call}
+use Rattle.wm_law.specs.CallKinds.{is_configuring_call, is_ending_call}
 use Rattle.wm_law.specs.Choice.{is_held, is_sbs_active, next}
-use Rattle.wm_law.proofs.Alterations.{IsAlteration, IsHolding, IsPlain, altered, clearing_alters, due_alters, ending_alters, holding_alters, moving_alters, plain_changed, plain_cleared, plain_held, plain_job_ended, plain_job_ending, plain_power_down, plain_sbs_ending, plain_queue_held, plain_queue_released, plain_released}
-use Rattle.wm_law.proofs.Endings.{IsEnding, all_end, coming_due, job_ends, kill_ends, those_end, wished}
-use Rattle.wm_law.specs.Subsystems.{begun, is_started, max_started, start_refusal, start_unless}
+use Rattle.wm_law.proofs.Alterations.{IsAlteration, IsHolding, IsPlain, altered, clearing_alters, due_alters, ending_alters, holding_alters, moving_alters, plain_changed, plain_cleared, plain_held, plain_job_ended, plain_job_ending, plain_power_down, plain_sbs_ending, plain_queue_held, plain_queue_released, plain_released, plain_pre_ending, plain_evoked, plain_use_ended, plain_noted}
+use Rattle.wm_law.proofs.Endings.{IsEnding, all_end, coming_due, job_ends, kill_ends, those_end, wished, use_ends, use_done_ends, entry_ends}
+use Rattle.wm_law.specs.Subsystems.{begun, is_started, max_started, start_refusal, start_unless, started_up, with_autos}
 use Rattle.wm_law.proofs.Members.{found_among, last_in, left_in}
+use Rattle.wm_law.proofs.Supplies.{IsActiveAmong, IsSupplied, firsts_keep, supplied_keeps, made_keeps, IsAssignable, idle_found}
 use Rattle.wm_law.proofs.Objects.{IsObjectChange, class_made, queue_made, program_made, job_description_made, description_made, queue_added, route_added, auto_added, pre_added, queue_removed, route_removed, auto_removed, pre_removed}
+use Rattle.std.specs.Cmp.Lexicographic.{pointwise}
+use Rattle.wm_desc.specs.declared.description.Sbsd.{Sbsd}
+use Rattle.wm_desc.specs.declared.entry.PreEntry.{PreEntry}
+use Rattle.wm_law.specs.declared.command.Endpj.{Endpj}
+use Rattle.wm_law.specs.declared.command.Enduse.{Enduse}
+use Rattle.wm_law.specs.declared.command.Strpj.{Strpj}
+use Rattle.wm_law.specs.declared.state.SbsPhase.{SbsPhase}
+use Rattle.wm_law.specs.Prestart.{after_use, count_available, count_evokes, first_idle, is_running, is_stopped, room, with_evoke, is_evoke_of}
+use Rattle.wm_law.specs.Prestarting.{end_entry, end_entry_in, end_entry_with, prestart_entry, prestart_in, prestart_with, prestarted, restarted, without_stop}
+use Rattle.wm_law.specs.Sound.{IsUpToDate, CameByEntry}
+use Rattle.wm_law.specs.Uses.{done_with, end_use_found, evoke_entry, evoke_in, evoke_on, evoke_with, max_evokes, maxuse_by, use_done_on}
+use Rattle.wm_law.proofs.Rounds.{room-is}
+use Rattle.wm_law.proofs.UsesUp.{used_up, done_at}
+use Rattle.wm_law.proofs.Listed.{StopsOn, RequestsOn, same_stops, same_requests, requests_left, request_more, stop_more, stops_reported, known_by}
+use Rattle.wm_base.specs.declared.job.How.TheVariants.{Pre}
 
 -- a phase past Waiting, and one that isn't before it
 pub record IsOnward (p q : Phase) : Type 0 where
@@ -115,6 +131,17 @@ startable s q e =
       numbers = numbers.0;
     }
 
+-- a request that a job gets, or the end of its use: no wish goes back, and in a numbered state a job that is up to date stays so
+pub record IsUse (s : State) (change : Job → Job) : Type 0 where
+  pub ending : IsEnding s change s.started s.power
+  pub up : IsNumbered s → (j : Job) → IsIn j s.jobs → IsUpToDate s.clock s.started j → IsUpToDate s.clock s.started (change j)
+
+-- STRPJ isn't refused: the subsystem is started and Active, and has the entry
+pub record IsPrestartable (s : State) (q : QName) (d : Sbsd) (e : PreEntry) : Type 0 where
+  pub there : IsActiveAmong s.started q
+  pub described : object_named q s.objects.sbsds ≡ Some d
+  pub entered : IsIn e d.pres
+
 pub the_one : (jobs : List Job) (j : Job) → only_one jobs ≡ Ok j → IsIn j jobs
 the_one [] j e = absurd (cc)
 the_one (k ∷ []) j e = let same : k ≡ j = cc in inl (sym same)
@@ -123,17 +150,40 @@ the_one (k ∷ i ∷ jobs) j e = absurd (cc)
 -- P holds of whatever the call can come to: of its reply, and of the state before it settles
 pub record HoldsAfterCalls (P : Stepped → Type 0) (s : State) (call : Call) : Type 0 where
   pub refuses : (x : Refusal) → P (refused s x)
-  pub nothing : (HasCall call → is_hand call ≡ false → ⊥) → P (record { reply = Nothing; state = s })
+  pub nothing : (is_hand call ≡ false → ⊥) → P (record { reply = Nothing; state = s })
   pub notes : P (record { reply = Noted; state = s })
   pub hands : (m : ℕ) (j : Job) (o : StartOrder) → IsIn j s.jobs → is_starting j.phase ≡ true → order_of s j ≡ Some o → P (record { reply = Order (Start o); state = with_phase s j.serial (Handed m) })
-  pub reports : (serial : ℕ) (j : Job) (phase : Phase) → IsIn j s.jobs → j.serial ≡ serial → IsMoved j phase → is_starting phase ≡ false → P (record { reply = Noted; state = with_phase s serial phase })
+  pub reports : (serial : ℕ) (j : Job) (phase : Phase) (stopped : StopsOn s) → IsIn j s.jobs → j.serial ≡ serial → IsMoved j phase → is_starting phase ≡ false → P (record { reply = Noted; state = record (with_phase s serial phase) { stopped = stopped.stops } })
   pub starts : (q : QName) → IsStartable s q → P (start_unless s q None)
   pub enters : (user : List ℕ) (c : Sbmjob) (d : Jobd) (due : ℕ) → IsAcceptable s c d due → P (record { reply = Submitted (job_name s user c) (queue_of c d); state = entered s (submitted_job s user c d due) })
   pub alters : (reply : Reply) (change : Job → Job) (place : ℕ) → IsPlain reply → IsAlteration s change place → P (record { reply = reply; state = altered s change place })
   pub holds : (reply : Reply) (held : List QName) → IsPlain reply → IsHolding s held → is_configuring_call call ≡ true → P (record { reply = reply; state = record s { held = held } })
-  pub ends : (reply : Reply) (change : Job → Job) (started : List Sbs) (evokes : List Evoke) (power : Power) → IsPlain reply → IsEnding s change started power → is_ending_call call ≡ true → P (record { reply = reply; state = wished s change started evokes power })
+  pub ends : (reply : Reply) (change : Job → Job) (started : List Sbs) (stopped : StopsOn s) (evokes : RequestsOn s) (power : Power) → IsPlain reply → IsEnding s change started power → is_ending_call call ≡ true → P (record { reply = reply; state = wished s change started stopped.stops evokes.requests power })
+  pub uses : (reply : Reply) (change : Job → Job) → IsPlain reply → IsUse s change → P (record { reply = reply; state = wished s change s.started s.stopped s.evokes s.power })
+  pub waits : (place : ℕ) (evokes : RequestsOn s) → P (record { reply = EvokeWaits place; state = record s { evokes = evokes.requests } })
+  pub prestarts : (q : QName) (d : Sbsd) (e : PreEntry) → IsPrestartable s q d e → P (record { reply = PreStarted; state = prestarted s q d e })
   pub kills : (m : ℕ) (j : Job) → IsIn j s.jobs → is_to_kill m j ≡ true → P (record { reply = Order (Kill j.serial); state = with_active s j.serial with_kill })
   pub makes : (o : Objects) → IsObjectChange s o → is_configuring_call call ≡ true → P (record { reply = Made; state = record s { objects = o } })
+
+-- EVOKE on an idle job
+using_request : (s : State) (q pgm : QName) (j : Job) → IsAssignable q pgm s j → IsUse s (active_at j.serial with_evoke)
+using_request s q pgm i can = record { ending = use_ends s q pgm i can.there can.idle; up = λ n j k u. used_up s.clock s.started (is_active j.phase && j.serial == i.serial) j u }
+
+-- the end of a use
+using_done : (s : State) (j : Job) → IsIn j s.jobs → is_running j.phase ≡ true → j.evoke ≡ true → IsUse s (active_at j.serial (after_use (maxuse_by s j.how)))
+using_done s j i r e = record { ending = use_done_ends s j i r e; up = λ n k m u. done_at s j (maxuse_by s j.how) i r n k (is_active k.phase && k.serial == j.serial) refl m u }
+
+unending_active : (p : SbsPhase) → is_ending p ≡ false → is_sbs_active p ≡ true
+unending_active Active e = refl
+unending_active (Ending until) e = absurd (cc)
+unending_active Now e = absurd (cc)
+
+run_running : (m : ℕ) (p : Phase) → is_run_by m p ≡ true → is_running p ≡ true
+run_running m Waiting h = absurd (cc)
+run_running m Starting h = absurd (cc)
+run_running m (Handed n) h = absurd (cc)
+run_running m (Running n) h = refl
+run_running m (Ended c) h = absurd (cc)
 
 module _ (P : Stepped → Type 0) (s : State) (call : Call) (h : HoldsAfterCalls P s call) where
   either : (b : Bool) (t u : Stepped) → (b ≡ true → P t) → (b ≡ false → P u) → P (cond b t u)
@@ -197,7 +247,7 @@ module _ (P : Stepped → Type 0) (s : State) (call : Call) (h : HoldsAfterCalls
   active_ended : (c : Endjob) (j : Job) → is_ending_call call ≡ true → IsIn j s.jobs → P (end_active s c j)
   active_ended c j told i =
       either (is_wished c.option j.wish) _ _ (λ t. h.refuses AlreadyEnding)
-      (λ t. h.ends (JobEnding j.job) (active_at j.serial (with_wish (job_wish s.clock c.option c.delay))) s.started s.evokes s.power (plain_job_ending j.job) (job_ends s j c.option c.delay i t) told)
+      (λ t. h.ends (JobEnding j.job) (active_at j.serial (with_wish (job_wish s.clock c.option c.delay))) s.started (same_stops s) (same_requests s) s.power (plain_job_ending j.job) (job_ends s j c.option c.delay i t) told)
 
   ended_in_phase : (c : Endjob) (j : Job) (p : Phase) → is_ending_call call ≡ true → IsIn j s.jobs → P (end_in_phase s c j p)
   ended_in_phase c j Waiting told i = h.alters (JobEnded j.job) (waiting_at j.serial (in_phase (Ended cause.EndedOnQueue))) s.next_place (plain_job_ended j.job) (ending_alters s j.serial)
@@ -214,7 +264,7 @@ module _ (P : Stepped → Type 0) (s : State) (call : Call) (h : HoldsAfterCalls
   sbs_ended c None told = h.refuses SbsNotActive
   sbs_ended c (Some b) told =
       either (is_ending_by c.option b.phase) _ _ (λ t. h.refuses AlreadyEnding)
-      (λ t. h.ends (SbsEnding b.sbsd) _ _ _ s.power (plain_sbs_ending b.sbsd) (those_end s c.option c.delay (λ x. same_qname x.sbsd b.sbsd)) told)
+      (λ t. h.ends (SbsEnding b.sbsd) _ _ (same_stops s) (requests_left s (λ e. not (is_of_those (λ x. same_qname x.sbsd b.sbsd) s.started e.sbs))) s.power (plain_sbs_ending b.sbsd) (those_end s c.option c.delay (λ x. same_qname x.sbsd b.sbsd)) told)
 
   ordered : (m : ℕ) (j : Job) (o : Option StartOrder) → P (record { reply = Nothing; state = s }) → IsIn j s.jobs → is_starting j.phase ≡ true → order_of s j ≡ o → P (hand_order s m j o)
   ordered m j None none i k e = none
@@ -228,15 +278,77 @@ module _ (P : Stepped → Type 0) (s : State) (call : Call) (h : HoldsAfterCalls
   handed m None none e = started m (find (λ j. is_starting j.phase) s.jobs) none refl
   handed m (Some j) none e = let f = found_among (is_to_kill m) s.jobs j e in h.kills m j f.0 f.1
 
-  reported : (serial : ℕ) (test : Phase → Bool) (phase : Job → Phase) (o : Option Job) → ((j : Job) → test j.phase ≡ true → IsMoved j (phase j)) → ((j : Job) → is_starting (phase j) ≡ false) → find (λ j. j.serial == serial) s.jobs ≡ o → P (report_on s serial test phase o)
-  reported serial test phase None ranks n e = h.refuses NoJob
-  reported serial test phase (Some j) ranks n e =
+  reported : (serial : ℕ) (test : Phase → Bool) (phase : Job → Phase) (stops : Job → Bool) (o : Option Job) → ((p : Phase) → test p ≡ true → is_active p ≡ true) → ((j : Job) → test j.phase ≡ true → IsMoved j (phase j)) → ((j : Job) → is_starting (phase j) ≡ false) → find (λ j. j.serial == serial) s.jobs ≡ o → P (report_on s serial test phase stops o)
+  reported serial test phase stops None active ranks n e = h.refuses NoJob
+  reported serial test phase stops (Some j) active ranks n e =
       let f = found_among (λ (j : Job). j.serial == serial) s.jobs j e in
-      either (test j.phase) _ _ (λ t. h.reports serial j (phase j) f.0 (eqb-true j.serial serial f.1) (ranks j t) (n j)) (λ t. h.refuses (WrongPhase (phase_word j.phase)))
+      either (test j.phase) (record { reply = Noted; state = record (with_phase s serial (phase j)) { stopped = stops_after stops j s.stopped } }) _ (λ t. h.reports serial j (phase j) (stops_reported s stops j f.0 (active j.phase t)) f.0 (eqb-true j.serial serial f.1) (ranks j t) (n j)) (λ t. h.refuses (WrongPhase (phase_word j.phase)))
 
-  done : (m : ℕ) (o : Option Job) → P (done_with s m o)
-  done m None = h.refuses NoJob
-  done m (Some j) = either (is_run_by m j.phase) _ _ (λ t. h.refuses NotInUse) (λ t. h.refuses (WrongPhase (phase_word j.phase)))
+  use_done : (test : Phase → Bool) (reply : Reply) (j : Job) → IsPlain reply → ((p : Phase) → test p ≡ true → is_running p ≡ true) → IsIn j s.jobs → P (done_with s test reply j)
+  use_done test reply j plain runs i =
+      either (test j.phase) _ _
+      (λ t. either j.evoke _ _ (λ u. h.uses reply (active_at j.serial (after_use (maxuse_by s j.how))) plain (using_done s j i (runs j.phase t) u)) (λ u. h.refuses NotInUse))
+      (λ t. h.refuses (WrongPhase (phase_word j.phase)))
+
+  use_done_on_found : (m serial : ℕ) (o : Option Job) → find (λ j. j.serial == serial) s.jobs ≡ o → P (use_done_on s m o)
+  use_done_on_found m serial None e = h.refuses NoJob
+  use_done_on_found m serial (Some j) e = use_done (is_run_by m) Noted j plain_noted (run_running m) (found_among (λ (j : Job). j.serial == serial) s.jobs j e).0
+
+  use_ends_found : (c : Enduse) (r : Result Job Refusal) → job_named s c.job ≡ r → P (end_use_found s r)
+  use_ends_found c (Err x) e = h.refuses x
+  use_ends_found c (Ok j) e = use_done is_running (UseEnded j.job) j (plain_use_ended j.job) (λ p t. t) (left_in (is_named c.job) s.jobs j (the_one (filter (is_named c.job) s.jobs) j e))
+
+  evoked : (user : List ℕ) (sbs : QName) (e : PreEntry) (o : Option Job) → CameByEntry s.started s.objects (Pre sbs e.pgm) → first_idle sbs e.pgm s.jobs ≡ o → P (evoke_on s user sbs e o)
+  evoked user sbs e None known k =
+      either e.wait _ _
+      (λ t. either (nat_le max_evokes (count_evokes sbs e.pgm s.evokes)) _ _ (λ u. h.refuses (WaitListFull max_evokes)) (λ u. h.waits (count_evokes sbs e.pgm s.evokes + 1) (request_more s (record { user = user; sbs = sbs; pgm = e.pgm }) known u)))
+      (λ t. h.refuses NoneAvailable)
+  evoked user sbs e (Some j) known k = h.uses (Evoked j.job) (active_at j.serial with_evoke) (plain_evoked j.job) (using_request s sbs e.pgm j (idle_found sbs e.pgm s j k))
+
+  evoked_entry : (user : List ℕ) (b : Sbs) (d : Sbsd) (pgm : QName) (o : Option PreEntry) → IsIn b s.started → object_named b.sbsd s.objects.sbsds ≡ Some d → pre_entry_for pgm d ≡ o → P (evoke_entry s user b.sbsd o)
+  evoked_entry user b d pgm None i k f = h.refuses (NoObject kind.Pje)
+  evoked_entry user b d pgm (Some e) i k f = either (is_stopped s b.sbsd e.pgm) _ _ (λ t. h.refuses EntryStopped) (λ t. evoked user b.sbsd e (first_idle b.sbsd e.pgm s.jobs) (known_by s b d pgm e i k f) refl)
+
+  evoked_with : (user : List ℕ) (b : Sbs) (pgm : QName) (o : Option Sbsd) → IsIn b s.started → object_named b.sbsd s.objects.sbsds ≡ o → P (evoke_with s user b.sbsd pgm o)
+  evoked_with user b pgm None i k = h.refuses (NoObject kind.Pje)
+  evoked_with user b pgm (Some d) i k = evoked_entry user b d pgm (pre_entry_for pgm d) i k refl
+
+  evoked_in : (user name : List ℕ) (pgm : QName) (o : Option Sbs) → started_named s name ≡ o → P (evoke_in s user pgm o)
+  evoked_in user name pgm None e = h.refuses SbsNotActive
+  evoked_in user name pgm (Some b) e =
+      either (is_ending b.phase) _ _ (λ t. h.refuses AlreadyEnding)
+      (λ t. evoked_with user b pgm (object_named b.sbsd s.objects.sbsds) (found_among (λ (x : Sbs). pointwise nat_eq x.sbsd.name name) s.started b e).0 refl)
+
+  entry_ends_found : (c : Endpj) (b : Sbs) (d : Sbsd) (o : Option PreEntry) → is_ending_call call ≡ true → IsIn b s.started → object_named b.sbsd s.objects.sbsds ≡ Some d → pre_entry_for c.pgm d ≡ o → P (end_entry s c b.sbsd o)
+  entry_ends_found c b d None told i k f = h.refuses (NoObject kind.Pje)
+  entry_ends_found c b d (Some e) told i k f =
+      either (is_stopped s b.sbsd e.pgm && count_from_pre b.sbsd e.pgm s.jobs == 0) _ _ (λ t. h.refuses EntryStopped)
+      (λ t. h.ends PreEnding _ s.started (stop_more s b.sbsd e.pgm (inl (known_by s b d c.pgm e i k f))) (requests_left s (λ x. not (is_evoke_of b.sbsd e.pgm x))) s.power plain_pre_ending (entry_ends s c.option c.delay b.sbsd e.pgm) told)
+
+  entry_ends_with : (c : Endpj) (b : Sbs) (o : Option Sbsd) → is_ending_call call ≡ true → IsIn b s.started → object_named b.sbsd s.objects.sbsds ≡ o → P (end_entry_with s c b.sbsd o)
+  entry_ends_with c b None told i k = h.refuses (NoObject kind.Pje)
+  entry_ends_with c b (Some d) told i k = entry_ends_found c b d (pre_entry_for c.pgm d) told i k refl
+
+  entry_ends_in : (c : Endpj) (o : Option Sbs) → is_ending_call call ≡ true → started_named s c.sbs ≡ o → P (end_entry_in s c o)
+  entry_ends_in c None told e = h.refuses SbsNotActive
+  entry_ends_in c (Some b) told e = entry_ends_with c b (object_named b.sbsd s.objects.sbsds) told (found_among (λ (x : Sbs). pointwise nat_eq x.sbsd.name c.sbs) s.started b e).0 refl
+
+  prestarted_entry : (q : QName) (d : Sbsd) (pgm : QName) (o : Option PreEntry) → IsActiveAmong s.started q → object_named q s.objects.sbsds ≡ Some d → pre_entry_for pgm d ≡ o → P (prestart_entry s q d o)
+  prestarted_entry q d pgm None there named e = h.refuses (NoObject kind.Pje)
+  prestarted_entry q d pgm (Some x) there named e =
+      either (is_stopped s q x.pgm) _ _
+      (λ t. h.prestarts q d x (record { there = there; described = named; entered = (found_among (λ (y : PreEntry). same_qname y.pgm pgm) d.pres x e).0 }))
+      (λ t. h.refuses AlreadyActive)
+
+  prestarted_with : (q pgm : QName) (o : Option Sbsd) → IsActiveAmong s.started q → object_named q s.objects.sbsds ≡ o → P (prestart_with s q pgm o)
+  prestarted_with q pgm None there named = h.refuses (NoObject kind.Pje)
+  prestarted_with q pgm (Some d) there named = prestarted_entry q d pgm (pre_entry_for pgm d) there named refl
+
+  prestarted_in : (c : Strpj) (o : Option Sbs) → started_named s c.sbs ≡ o → P (prestart_in s c.pgm o)
+  prestarted_in c None e = h.refuses SbsNotActive
+  prestarted_in c (Some b) e =
+      either (is_ending b.phase) _ _ (λ t. h.refuses AlreadyEnding)
+      (λ t. prestarted_with b.sbsd c.pgm (object_named b.sbsd s.objects.sbsds) (b, (found_among (λ (x : Sbs). pointwise nat_eq x.sbsd.name c.sbs) s.started b e).0, refl, unending_active b.phase t) refl)
 
 pub starting_rank : (p : Phase) → is_starting p ≡ true → phase_rank p ≡ 1
 starting_rank Waiting h = absurd (cc)
@@ -258,6 +370,20 @@ run_rank m Starting h = absurd (cc)
 run_rank m (Handed n) h = absurd (cc)
 run_rank m (Running n) h = refl
 run_rank m (Ended c) h = absurd (cc)
+
+handed_active : (m : ℕ) (p : Phase) → is_handed_to m p ≡ true → is_active p ≡ true
+handed_active m Waiting h = absurd (cc)
+handed_active m Starting h = refl
+handed_active m (Handed n) h = refl
+handed_active m (Running n) h = refl
+handed_active m (Ended c) h = absurd (cc)
+
+run_active : (m : ℕ) (p : Phase) → is_run_by m p ≡ true → is_active p ≡ true
+run_active m Waiting h = absurd (cc)
+run_active m Starting h = refl
+run_active m (Handed n) h = refl
+run_active m (Running n) h = refl
+run_active m (Ended c) h = absurd (cc)
 
 past_waiting : (p : Phase) → 0 < phase_rank p → is_waiting p ≡ false
 past_waiting Waiting h = absurd (omega arith)
@@ -321,19 +447,22 @@ changed P s user (command.Endjob c) h = job_ended P s _ h c (job_named s c.job) 
 changed P s user (command.Hldjobq c) h = queue_held P s _ h c.jobq refl
 changed P s user (command.Rlsjobq c) h = queue_released P s _ h c.jobq refl
 changed P s user (command.Clrjobq c) h = queue_cleared P s _ h c.jobq
+changed P s user (command.Strpj c) h = either P s _ h (is_on s.power) _ _ (λ t. prestarted_in P s _ h c (started_named s c.sbs) refl) (λ t. h.refuses PoweringDown)
+changed P s user (command.Endpj c) h = entry_ends_in P s _ h c (started_named s c.sbs) refl refl
+changed P s user (command.Evoke c) h = either P s _ h (is_on s.power) _ _ (λ t. evoked_in P s _ h user c.sbs c.pgm (started_named s c.sbs) refl) (λ t. h.refuses PoweringDown)
+changed P s user (command.Enduse c) h = use_ends_found P s _ h c (job_named s c.job) refl
 changed P s user (command.Pwrdwnsys c) h =
     either P s _ h (is_down c.option s.power) _ _ (λ t. h.refuses PoweringDown)
-    (λ t. h.ends PowerDown _ _ _ (down_by c.option) plain_power_down (all_end s c.option c.delay (down_by c.option)) refl)
-changed P s user c h = h.nothing (λ b n. absurd (cc))
+    (λ t. h.ends PowerDown _ _ (same_stops s) (requests_left s (λ e. not (is_of_those (λ b. not (is_ending_by c.option b.phase)) s.started e.sbs))) (down_by c.option) plain_power_down (all_end s c.option c.delay (down_by c.option)) refl)
 
 -- what holds after whatever the call can come to, holds after the call
 pub call_comes : (P : Stepped → Type 0) (s : State) (caller : ℕ) (call : Call) → HoldsAfterCalls P s call → P (apply s caller call)
 call_comes P s caller (Change user c) h = changed P s user c h
-call_comes P s caller Hand h = handed P s _ h caller (find (is_to_kill caller) s.jobs) (h.nothing (λ b n. absurd (cc))) refl
-call_comes P s caller (Started serial) h = reported P s _ h serial (is_handed_to caller) _ (find (λ j. j.serial == serial) s.jobs) (λ j e. moved_on j (Running caller) 2 (handed_rank caller j.phase e) (omega arith) (omega arith) (omega arith) (λ c d w f. absurd (cc))) (λ j. refl) refl
-call_comes P s caller (StartFailed serial why) h = reported P s _ h serial (is_handed_to caller) _ (find (λ j. j.serial == serial) s.jobs) (λ j e. moved_on j (Ended (cause.StartFailed why)) 2 (handed_rank caller j.phase e) (omega arith) (omega arith) (omega arith) (λ c d w f. inr (failed_end why d f))) (λ j. refl) refl
-call_comes P s caller (Finished serial end) h = reported P s _ h serial (is_run_by caller) _ (find (λ j. j.serial == serial) s.jobs) (λ j e. moved_on j (Ended (end_cause end j.wish)) 3 (run_rank caller j.phase e) (omega arith) (omega arith) (omega arith) (λ c d w f. inl (finished_end end j.wish c d w f))) (λ j. refl) refl
-call_comes P s caller (UseDone serial) h = done P s _ h caller (find (λ j. j.serial == serial) s.jobs)
+call_comes P s caller Hand h = handed P s _ h caller (find (is_to_kill caller) s.jobs) (h.nothing (λ n. absurd (cc))) refl
+call_comes P s caller (Started serial) h = reported P s _ h serial (is_handed_to caller) _ (λ j. false) (find (λ j. j.serial == serial) s.jobs) (handed_active caller) (λ j e. moved_on j (Running caller) 2 (handed_rank caller j.phase e) (omega arith) (omega arith) (omega arith) (λ c d w f. absurd (cc))) (λ j. refl) refl
+call_comes P s caller (StartFailed serial why) h = reported P s _ h serial (is_handed_to caller) _ (λ j. true) (find (λ j. j.serial == serial) s.jobs) (handed_active caller) (λ j e. moved_on j (Ended (cause.StartFailed why)) 2 (handed_rank caller j.phase e) (omega arith) (omega arith) (omega arith) (λ c d w f. inr (failed_end why d f))) (λ j. refl) refl
+call_comes P s caller (Finished serial end) h = reported P s _ h serial (is_run_by caller) _ is_unused (find (λ j. j.serial == serial) s.jobs) (run_active caller) (λ j e. moved_on j (Ended (end_cause end j.wish)) 3 (run_rank caller j.phase e) (omega arith) (omega arith) (omega arith) (λ c d w f. inl (finished_end end j.wish c d w f))) (λ j. refl) refl
+call_comes P s caller (UseDone serial) h = use_done_on_found P s _ h caller serial (find (λ j. j.serial == serial) s.jobs) refl
 call_comes P s caller Tick h = h.notes
 
 -- a job can be made and launched in a subsystem: a number and a serial are left, and the subsystem is started
@@ -391,31 +520,71 @@ makeable s q h =
     let left = enough (nat_le 1 s.next_number) (numbers_end - s.next_number) (serials_end - s.next_serial) (length (autos_of s q)) h.numbers in
     record { numbers = left.0; serials = left.1; sbs = record { sbsd = q; phase = Active }; started = last_in s.started (record { sbsd = q; phase = Active }); named = refl; active = refl }
 
--- P holds of whatever state a call can leave before it settles: a subsystem that starts keeps it, and so does each of its autostart jobs
+-- what a subsystem that starts and each of its autostart jobs keep, holds with these
+pub autos_made : (P : State → Type 0) (s : State) (q : QName) → IsStartable s q → ((t : State) (e : AutoEntry) (d : Jobd) → IsMakeable q t → P t → P (auto_made t q e d)) → P (begun s q) → P (with_autos s q)
+autos_made P s q can autos h = made_all P q autos (autos_of s q) (begun s q) (makeable s q can) h
+
+-- and with its first prestart jobs, where each of them keeps it
+pub started_keeps : (P : State → Type 0) (s : State) (q : QName) → IsStartable s q → IsSupplied P → P (with_autos s q) → P (started_up s q)
+started_keeps P s q can supplies h =
+    let b : Sbs = record { sbsd = q; phase = Active } in
+    let same : (with_autos s q).started ≡ s.started ++ b ∷ [] = autos_made (λ t. t.started ≡ s.started ++ b ∷ []) s q can (λ t e d m x. x) refl in
+    firsts_keep P supplies q (with_autos s q) (subst (λ (xs : List Sbs). IsActiveAmong xs q) (sym same) (b, last_in s.started b, refl, refl)) h
+
+-- so with the jobs that STRPJ makes
+pub prestart_keeps : (P : State → Type 0) (s : State) (q : QName) (d : Sbsd) (e : PreEntry) → IsPrestartable s q d e → IsSupplied P → P (restarted s q e.pgm) → P (prestarted s q d e)
+prestart_keeps P s q d e can supplies h =
+    let t = restarted s q e.pgm in
+    let n : ℕ = room t q d e (e.inljobs - count_available q e.pgm s.jobs) in
+    made_keeps P supplies q d e n t can.there can.described can.entered (omega (arith, room-is q d e t (e.inljobs - count_available q e.pgm s.jobs))) h
+
+-- P holds of whatever state a call can leave before it settles: of that in which a subsystem has started with its autostart jobs, and each prestart job and each request that a job gets keep it
 pub record HoldsOfStates (P : State → Type 0) (s : State) : Type 0 where
   pub stays : P s
-  pub starts : (q : QName) → IsStartable s q → P (begun s q)
-  pub autos : (q : QName) (t : State) (e : AutoEntry) (d : Jobd) → IsMakeable q t → P t → P (auto_made t q e d)
+  pub starts : (q : QName) → IsStartable s q → P (with_autos s q)
+  pub supplies : IsSupplied P
   pub enters : (user : List ℕ) (c : Sbmjob) (d : Jobd) (due : ℕ) → IsAcceptable s c d due → P (entered s (submitted_job s user c d due))
   pub alters : (change : Job → Job) (place : ℕ) → IsAlteration s change place → P (altered s change place)
   pub holds : (held : List QName) → IsHolding s held → P (record s { held = held })
-  pub moves : (serial : ℕ) (j : Job) (phase : Phase) → IsIn j s.jobs → j.serial ≡ serial → IsMoved j phase → is_starting phase ≡ false → P (with_phase s serial phase)
-  pub ends : (change : Job → Job) (started : List Sbs) (evokes : List Evoke) (power : Power) → IsEnding s change started power → P (wished s change started evokes power)
+  pub lists : (stopped : List Stop) (evokes : List Evoke) → P (record s { stopped = stopped; evokes = evokes })
+  pub moves : (serial : ℕ) (j : Job) (phase : Phase) (stopped : List Stop) → IsIn j s.jobs → j.serial ≡ serial → IsMoved j phase → is_starting phase ≡ false → P (record (with_phase s serial phase) { stopped = stopped })
+  pub ends : (change : Job → Job) (started : List Sbs) (stopped : List Stop) (evokes : List Evoke) (power : Power) → IsEnding s change started power → P (wished s change started stopped evokes power)
   pub makes : (o : Objects) → IsObjectChange s o → P (record s { objects = o })
+
+-- what holds of two, holds of both
+pub both_hold : (P Q : State → Type 0) (s : State) → HoldsOfStates P s → HoldsOfStates Q s → HoldsOfStates (λ t. P t × Q t) s
+both_hold P Q s h k = record {
+  stays = (h.stays, k.stays);
+  starts = λ q e. (h.starts q e, k.starts q e);
+  supplies = record {
+    makes = λ q d e t can x. (h.supplies.makes q d e t can x.0, k.supplies.makes q d e t can x.1);
+    assigns = λ t q pgm job evokes can x. (h.supplies.assigns t q pgm job evokes can x.0, k.supplies.assigns t q pgm job evokes can x.1);
+  };
+  enters = λ user c d due has. (h.enters user c d due has, k.enters user c d due has);
+  alters = λ change place a. (h.alters change place a, k.alters change place a);
+  holds = λ held a. (h.holds held a, k.holds held a);
+  lists = λ stopped evokes. (h.lists stopped evokes, k.lists stopped evokes);
+  moves = λ serial j phase stopped i e r n. (h.moves serial j phase stopped i e r n, k.moves serial j phase stopped i e r n);
+  ends = λ change started stopped evokes power e. (h.ends change started stopped evokes power e, k.ends change started stopped evokes power e);
+  makes = λ o c. (h.makes o c, k.makes o c);
+}
 
 of_states : (P : State → Type 0) (s : State) (call : Call) → HoldsOfStates P s → HoldsAfterCalls (λ t. P t.state) s call
 of_states P s call h = record {
   refuses = λ x. h.stays;
   nothing = λ n. h.stays;
   notes = h.stays;
-  hands = λ m j o i e f. h.moves j.serial j (Handed m) i refl (moved_on j (Handed m) 1 (starting_rank j.phase e) (omega arith) (omega arith) (omega arith) (λ c d w f. absurd (cc))) refl;
-  reports = λ serial j phase i e r n. h.moves serial j phase i e r n;
-  starts = λ q e. made_all P q (h.autos q) (autos_of s q) (begun s q) (makeable s q e) (h.starts q e);
+  hands = λ m j o i e f. h.moves j.serial j (Handed m) s.stopped i refl (moved_on j (Handed m) 1 (starting_rank j.phase e) (omega arith) (omega arith) (omega arith) (λ c d w f. absurd (cc))) refl;
+  reports = λ serial j phase stopped i e r n. h.moves serial j phase stopped.stops i e r n;
+  starts = λ q e. started_keeps P s q e h.supplies (h.starts q e);
   enters = λ user c d due has. h.enters user c d due has;
   alters = λ reply change place p a. h.alters change place a;
   holds = λ reply held p a told. h.holds held a;
-  ends = λ reply change started evokes power p e told. h.ends change started evokes power e;
-  kills = λ m j i k. h.ends (active_at j.serial with_kill) s.started s.evokes s.power (kill_ends s j.serial);
+  ends = λ reply change started stopped evokes power p e told. h.ends change started stopped.stops evokes.requests power e;
+  uses = λ reply change p u. h.ends change s.started s.stopped s.evokes s.power u.ending;
+  waits = λ place evokes. h.lists s.stopped evokes.requests;
+  prestarts = λ q d e can. prestart_keeps P s q d e can h.supplies (h.lists (without_stop q e.pgm s.stopped) s.evokes);
+  kills = λ m j i k. h.ends (active_at j.serial with_kill) s.started s.stopped s.evokes s.power (kill_ends s j.serial);
   makes = λ o c told. h.makes o c;
 }
 
@@ -425,7 +594,7 @@ call_keeps P s caller call h = call_comes (λ t. P t.state) s caller call (of_st
 
 -- what holds where jobs and subsystems end, holds after settling's first part
 pub comes_due : (P : State → Type 0) (s : State) → HoldsOfStates P s → P (come_due s)
-comes_due P s h = h.ends (job_at s.clock (sbss_at s)) (sbss_at s) s.evokes s.power (coming_due s)
+comes_due P s h = h.ends (job_at s.clock (sbss_at s)) (sbss_at s) s.stopped s.evokes s.power (coming_due s)
 
 -- P is kept by all that a step does
 pub record IsKeptByParts (P : State → Type 0) : Type 0 where
@@ -434,13 +603,18 @@ pub record IsKeptByParts (P : State → Type 0) : Type 0 where
   pub leaves : (s : State) → P s → P (leave s)
   pub launches : IsKept next (λ c t. launch t c) P
 
+-- what is kept holds where the state is ready for jobs to start
+pub readies : (P : State → Type 0) → IsKeptByParts P → (s : State) → P s → P (ready s)
+readies P k s h =
+    let due : P (come_due s) = comes_due P s (k.calls s h) in
+    supplied_keeps P (k.calls s h).supplies (leave (come_due s)) (k.leaves (come_due s) due)
+
 pub step_keeps : (P : State → Type 0) → IsKeptByParts P → (s : State) (caller : ℕ) (call : Call) (moment : ℕ) → P s → P (step s caller call moment).state
 unfolding step
 step_keeps P k s caller call moment h =
     let t = (apply (with_clock s moment) caller call).state in
     let called : P t = call_keeps P (with_clock s moment) caller call (k.calls (with_clock s moment) (k.clock s moment h)) in
-    let due : P (come_due t) = comes_due P t (k.calls t called) in
-    iterate-keeps P k.launches (waiting (leave (come_due t))) (leave (come_due t)) (k.leaves (come_due t) due)
+    iterate-keeps P k.launches (waiting (ready t)) (ready t) (readies P k t called)
 
 -- and so by a history
 pub after_keeps : (P : State → Type 0) → IsKeptByParts P → (s : State) (h : List Entry) → P s → P (after s h)

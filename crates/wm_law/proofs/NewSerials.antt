@@ -6,7 +6,7 @@ use Rattle.wm_law.specs.declared.choice.Candidate.{Candidate}
 use Rattle.wm_law.specs.declared.job.Job.{Job}
 use Rattle.wm_law.specs.declared.state.State.{State}
 use Rattle.wm_law.specs.Autos.{auto_job, routed_auto}
-use Rattle.wm_law.specs.Jobs.{changed_at}
+use Rattle.wm_law.specs.Jobs.{changed_at, active_at}
 use Rattle.wm_law.specs.Launch.{as_launched, with_routed, routed_from_queue}
 use Rattle.wm_law.specs.Laws.{IsIn}
 use Rattle.wm_law.specs.Machine.{step}
@@ -14,10 +14,11 @@ use Rattle.wm_law.specs.Order.{GivesNewSerials}
 use Rattle.wm_law.specs.Reports.{in_phase, phased_at}
 use Rattle.wm_law.specs.Submitting.{submitted_job}
 use Rattle.wm_law.proofs.Changed.{keys_kept}
-use Rattle.wm_law.proofs.Endings.{keys_same}
+use Rattle.wm_law.proofs.Endings.{keys_same, using}
 use Rattle.wm_law.proofs.Members.{in_mapped, of_last, of_mapped}
-use Rattle.wm_law.proofs.Moves.{HoldsOfStates, IsKeptByParts, step_keeps}
+use Rattle.wm_law.proofs.Moves.{HoldsOfStates, IsKeptByParts, step_keeps, autos_made}
 use Rattle.wm_law.proofs.Numbers.{serials_stay}
+use Rattle.wm_law.specs.Prestart.{new_pre_job, with_evoke}
 
 abbrev serials : List Job → List ℕ
 serials jobs = map (λ j. j.serial) jobs
@@ -55,13 +56,19 @@ module _ (s : State) where
   calls : (t : State) → GivesNewSerials s t → HoldsOfStates (GivesNewSerials s) t
   calls t h = (let least = h.next in record {
     stays = h;
-    starts = λ q e. record { new = h.new; next = h.next };
-    autos = λ q u e d m k. (let most = k.next in record { new = last_new u (routed_auto u q (auto_job u e d)) refl k; next = omega arith });
+    starts = λ q e. autos_made (GivesNewSerials s) t q e
+        (λ u x d m k. (let most = k.next in record { new = last_new u (routed_auto u q (auto_job u x d)) refl k; next = omega arith }))
+        (record { new = h.new; next = h.next });
+    supplies = record {
+      makes = λ q d e u can k. (let most = k.next in record { new = last_new u (new_pre_job u q e.pgm) refl k; next = omega arith });
+      assigns = λ u q pgm job evokes can k. record { new = same_new u (map (active_at job.serial with_evoke) u.jobs) (keys_same (active_at job.serial with_evoke) (using job.serial) (λ (x : Job). x.serial) (λ x p w v e. refl) u.jobs) k; next = k.next };
+    };
     enters = λ user c d due has. record { new = last_new t (submitted_job t user c d due) refl h; next = omega arith };
     alters = λ change place a. record { new = same_new t (map change t.jobs) (serials_stay t change place a) h; next = h.next };
     holds = λ held a. record { new = h.new; next = h.next };
-    moves = λ serial j phase i e r k. same t (map (phased_at serial phase) t.jobs) (keys_kept (λ (x : Job). x.serial) serial (in_phase phase) (λ x. refl) t.jobs) h;
-    ends = λ change started evokes power e. record { new = same_new t (map change t.jobs) (keys_same change e.jobs (λ (x : Job). x.serial) (λ x p w. refl) t.jobs) h; next = h.next };
+    lists = λ stopped evokes. record { new = h.new; next = h.next };
+    moves = λ serial j phase stopped i e r k. (let moved = same t (map (phased_at serial phase) t.jobs) (keys_kept (λ (x : Job). x.serial) serial (in_phase phase) (λ x. refl) t.jobs) h in record { new = moved.new; next = moved.next });
+    ends = λ change started stopped evokes power e. record { new = same_new t (map change t.jobs) (keys_same change e.jobs (λ (x : Job). x.serial) (λ x p w u e. refl) t.jobs) h; next = h.next };
     makes = λ o c. record { new = h.new; next = h.next };
   })
 

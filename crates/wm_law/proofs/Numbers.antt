@@ -18,26 +18,32 @@ use Rattle.wm_law.specs.declared.state.Evoke.{Evoke}
 use Rattle.wm_law.specs.declared.state.Power.{Power}
 use Rattle.wm_law.specs.declared.state.Sbs.{Sbs}
 use Rattle.wm_law.specs.declared.state.State.{State}
-use Rattle.wm_law.specs.Autos.{auto_job, routed_auto, auto_made}
+use Rattle.wm_law.specs.Autos.{auto_job, routed_auto, auto_made, joined}
 use Rattle.wm_law.specs.Choice.{next}
 use Rattle.wm_law.specs.Counts.{is_waiting}
 use Rattle.wm_law.specs.Fit.{IsBetween}
 use Rattle.wm_law.specs.Kept.{IsDistinct, IsBelow, IsGiven, IsNumbered, waiting_places, OpeningIsNumbered, StepKeepsNumbers, NumbersAreGivenOnce}
-use Rattle.wm_law.specs.Jobs.{with_job}
+use Rattle.wm_law.specs.Jobs.{with_job, active_at}
 use Rattle.wm_law.specs.Launch.{as_auto, as_launched, launch, with_routed, routed_from_queue}
 use Rattle.wm_law.specs.Laws.{IsIn}
 use Rattle.wm_law.specs.Submitting.{submitted_job, entered, has_numbers, numbers_end, serials_end}
 use Rattle.wm_law.specs.Reports.{in_phase, with_phase}
-use Rattle.wm_law.specs.Settling.{come_due, leave}
+use Rattle.wm_law.specs.Settling.{come_due, leave, ready}
 use Rattle.wm_law.specs.Machine.{apply, with_clock}
 use Rattle.wm_law.proofs.Opened.{opened, opening_is}
 use Rattle.wm_law.proofs.Alterations.{IsAlteration, IsAltered, PlaceIsTaken, PlacesStay, altered, same_job, same_serial, waited}
 use Rattle.wm_law.proofs.Changed.{keys_kept}
-use Rattle.wm_law.proofs.Endings.{IsWishing, key_same, keys_same, was_waiting, wished}
+use Rattle.wm_law.proofs.Endings.{IsWishing, key_same, keys_same, was_waiting, wished, using}
 use Rattle.wm_law.proofs.Members.{map_same}
-use Rattle.wm_law.proofs.Moves.{HoldsOfStates, IsKeptByParts, IsMakeable, call_keeps, comes_due, never_waits, step_keeps, after_keeps}
+use Rattle.wm_law.proofs.Moves.{HoldsOfStates, IsKeptByParts, IsMakeable, call_keeps, comes_due, never_waits, step_keeps, after_keeps, autos_made, readies}
 use Rattle.wm_law.proofs.Settling.{launch_never_waits, not_waiting}
 use Rattle.wm_law.proofs.Waits.{fewer_distinct, still_distinct, taken_below, taken_distinct, waiting_below, waiting_more, waiting_same}
+use Rattle.wm_desc.specs.declared.description.Sbsd.{Sbsd}
+use Rattle.wm_desc.specs.declared.entry.PreEntry.{PreEntry}
+use Rattle.wm_law.specs.Prestart.{make_pre, new_pre_job, with_evoke}
+use Rattle.wm_law.proofs.Supplies.{IsSuppliable, number_left, serial_left}
+use Rattle.wm_law.specs.Subsystems.{begun}
+use Rattle.wm_law.specs.declared.state.Stop.{Stop}
 
 -- the same serials, numbers and places, no job that comes to wait, and the same next ones
 pub record SameNumbers (s t : State) : Type 0 where
@@ -124,7 +130,7 @@ pub map_more : (key : Job → ℕ) (jobs : List Job) (j : Job) → map key (jobs
 map_more key [] j = refl
 map_more key (i ∷ jobs) j = ap (λ l. key i ∷ l) (map_more key jobs j)
 
-given_entered : (key : Job → ℕ) (jobs : List Job) (j : Job) (n : ℕ) → key j ≡ n → IsGiven (map key jobs) n → IsGiven (map key (jobs ++ j ∷ [])) (n + 1)
+pub given_entered : (key : Job → ℕ) (jobs : List Job) (j : Job) (n : ℕ) → key j ≡ n → IsGiven (map key jobs) n → IsGiven (map key (jobs ++ j ∷ [])) (n + 1)
 given_entered key jobs j n e h = subst (λ (l : List ℕ). IsGiven l (n + 1)) (sym (map_more key jobs j)) (subst (λ (k : ℕ). IsGiven (map key jobs ++ k ∷ []) (n + 1)) (sym e) (given_more n (map key jobs) h))
 
 entered_keeps : (s : State) (user : List ℕ) (c : Sbmjob) (d : Jobd) (due : ℕ) → has_numbers s ≡ true → IsNumbered s → IsNumbered (entered s (submitted_job s user c d due))
@@ -148,23 +154,27 @@ below_last : (n m : ℕ) (xs : List ℕ) → m < n → IsBelow n xs → IsBelow 
 below_last n m [] less h = (less, tt)
 below_last n m (x ∷ xs) less h = (h.0, below_last n m xs less h.1)
 
--- an autostart job takes a number and a serial, and no place, and doesn't wait
-auto_keeps : (q : QName) (s : State) (e : AutoEntry) (d : Jobd) → IsMakeable q s → IsNumbered s → IsNumbered (auto_made s q e d)
-auto_keeps q s e d m h =
-    let j = routed_auto s q (auto_job s e d) in
-    let idle : is_waiting j.phase ≡ false = launch_never_waits s q (as_auto q) (auto_job s e d) in
-    let a = m.number in
-    let b = m.serial in
+-- a job that takes a number and a serial, and no place, and doesn't wait
+joined_keeps : (s : State) (j : Job) → j.serial ≡ s.next_serial → j.job.number ≡ s.next_number → j.place ≡ 0 → is_waiting j.phase ≡ false → s.next_number < numbers_end → s.next_serial < serials_end → IsNumbered s → IsNumbered (joined s j)
+joined_keeps s j serial number place idle a b h =
     let least = h.next_place.least in
     record {
-      serials = given_entered (λ j. j.serial) s.jobs j s.next_serial refl h.serials;
-      numbers = given_entered (λ j. j.job.number) s.jobs j s.next_number refl h.numbers;
+      serials = given_entered (λ j. j.serial) s.jobs j s.next_serial serial h.serials;
+      numbers = given_entered (λ j. j.job.number) s.jobs j s.next_number number h.numbers;
       waiting = subst IsDistinct (sym (waiting_same s.jobs j idle)) h.waiting;
-      places = subst (IsBelow s.next_place) (sym (map_more (λ j. j.place) s.jobs j)) (below_last s.next_place 0 (map (λ (i : Job). i.place) s.jobs) (omega arith) h.places);
+      places = subst (IsBelow s.next_place) (sym (map_more (λ j. j.place) s.jobs j)) (below_last s.next_place j.place (map (λ (i : Job). i.place) s.jobs) (omega arith) h.places);
       next_number = record { least = omega arith; most = omega arith };
       next_serial = record { least = omega arith; most = omega arith };
       next_place = h.next_place;
     }
+
+-- so does an autostart job
+pub auto_keeps : (q : QName) (s : State) (e : AutoEntry) (d : Jobd) → IsMakeable q s → IsNumbered s → IsNumbered (auto_made s q e d)
+auto_keeps q s e d m h = joined_keeps s (routed_auto s q (auto_job s e d)) refl refl refl (launch_never_waits s q (as_auto q) (auto_job s e d)) m.number m.serial h
+
+-- and a prestart job
+pre_keeps : (q : QName) (d : Sbsd) (e : PreEntry) (s : State) → IsSuppliable q d e s → IsNumbered s → IsNumbered (make_pre q e.pgm s)
+pre_keeps q d e s can h = joined_keeps s (new_pre_job s q e.pgm) refl refl refl refl (number_left q d e s can.some) (serial_left q d e s can.some) h
 
 -- changed jobs have their serials
 pub serials_stay : (s : State) (change : Job → Job) (place : ℕ) → IsAlteration s change place → map (λ j. j.serial) (map change s.jobs) ≡ map (λ j. j.serial) s.jobs
@@ -207,30 +217,34 @@ altered_keeps s change place a h (inr p) =
     }
 
 -- a wish changes no serial, number or place
-ended_keeps : (s : State) (change : Job → Job) (started : List Sbs) (evokes : List Evoke) (power : Power) → IsWishing change → IsNumbered s → IsNumbered (wished s change started evokes power)
-ended_keeps s change started evokes power e h =
-    numbered_same s (wished s change started evokes power)
+ended_keeps : (s : State) (change : Job → Job) (started : List Sbs) (stopped : List Stop) (evokes : List Evoke) (power : Power) → IsWishing change → IsNumbered s → IsNumbered (wished s change started stopped evokes power)
+ended_keeps s change started stopped evokes power e h =
+    numbered_same s (wished s change started stopped evokes power)
     (record {
-      serials = keys_same change e (λ (j : Job). j.serial) (λ j p w. refl) s.jobs;
-      numbers = keys_same change e (λ (j : Job). j.job.number) (λ j p w. refl) s.jobs;
-      waiting = fewer_distinct change (key_same change e (λ (j : Job). j.place) (λ j p w. refl)) (λ j. was_waiting j.phase (change j).phase (e.phase j)) s.jobs;
-      places = keys_same change e (λ (j : Job). j.place) (λ j p w. refl) s.jobs;
+      serials = keys_same change e (λ (j : Job). j.serial) (λ j p w u e. refl) s.jobs;
+      numbers = keys_same change e (λ (j : Job). j.job.number) (λ j p w u e. refl) s.jobs;
+      waiting = fewer_distinct change (key_same change e (λ (j : Job). j.place) (λ j p w u e. refl)) (λ j. was_waiting j.phase (change j).phase (e.phase j)) s.jobs;
+      places = keys_same change e (λ (j : Job). j.place) (λ j p w u e. refl) s.jobs;
       next_number = refl;
       next_serial = refl;
       next_place = refl;
     })
     h
 
+pub begun_keeps : (s : State) (q : QName) → IsNumbered s → IsNumbered (begun s q)
+begun_keeps s q h = numbered_same s (begun s q) (record { serials = refl; numbers = refl; waiting = λ d. d; places = refl; next_number = refl; next_serial = refl; next_place = refl }) h
+
 pub calls : (s : State) → IsNumbered s → HoldsOfStates IsNumbered s
 calls s h = record {
   stays = h;
-  starts = λ q e. numbered_same s _ (record { serials = refl; numbers = refl; waiting = λ d. d; places = refl; next_number = refl; next_serial = refl; next_place = refl }) h;
-  autos = auto_keeps;
+  starts = λ q e. autos_made IsNumbered s q e (auto_keeps q) (begun_keeps s q h);
+  supplies = record { makes = pre_keeps; assigns = λ t q pgm job evokes can k. ended_keeps t (active_at job.serial with_evoke) t.started t.stopped evokes t.power (using job.serial) k };
   enters = λ user c d due a. entered_keeps s user c d due a.numbers h;
   alters = λ change place a. altered_keeps s change place a h a.places;
   holds = λ held a. numbered_same s _ (record { serials = refl; numbers = refl; waiting = λ d. d; places = refl; next_number = refl; next_serial = refl; next_place = refl }) h;
-  moves = λ serial j phase i e r n. numbered_same s _ (phase_same s serial phase (never_waits j.phase phase r.onward)) h;
-  ends = λ change started evokes power e. ended_keeps s change started evokes power e.jobs h;
+  lists = λ stopped evokes. numbered_same s _ (record { serials = refl; numbers = refl; waiting = λ d. d; places = refl; next_number = refl; next_serial = refl; next_place = refl }) h;
+  moves = λ serial j phase stopped i e r n. (let t = numbered_same s (with_phase s serial phase) (phase_same s serial phase (never_waits j.phase phase r.onward)) h in numbered_same (with_phase s serial phase) _ (record { serials = refl; numbers = refl; waiting = λ d. d; places = refl; next_number = refl; next_serial = refl; next_place = refl }) t);
+  ends = λ change started stopped evokes power e. ended_keeps s change started stopped evokes power e.jobs h;
   makes = λ o e. numbered_same s _ (record { serials = refl; numbers = refl; waiting = λ d. d; places = refl; next_number = refl; next_serial = refl; next_place = refl }) h;
 }
 
@@ -244,12 +258,12 @@ clock_keeps s moment h = numbered_same s _ (record { serials = refl; numbers = r
 pub due_keeps : (s : State) → IsNumbered s → IsNumbered (come_due s)
 due_keeps s h = comes_due IsNumbered s (calls s h)
 
--- and where ending subsystems have left
-pub ready_keeps : (s : State) → IsNumbered s → IsNumbered (leave (come_due s))
-ready_keeps s h = only_started (come_due s) (due_keeps s h)
-
 parts : IsKeptByParts IsNumbered
 parts = record { clock = clock_keeps; calls = calls; leaves = only_started; launches = launches_keep }
+
+-- and where the state is ready for jobs to start
+pub ready_keeps : (s : State) → IsNumbered s → IsNumbered (ready s)
+ready_keeps s h = readies IsNumbered parts s h
 
 pub step_keeps_numbers : StepKeepsNumbers
 step_keeps_numbers s caller call moment h = step_keeps IsNumbered parts s caller call moment h

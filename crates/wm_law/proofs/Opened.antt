@@ -1,5 +1,5 @@
 -- The opening commands keep their forms and ranges, and what they make, written out.
-use Rattle.std.proofs.Common.{◌≡◌, ℤ, List, [], ◌∷◌, refl, arith}
+use Rattle.std.proofs.Common.{◌≡◌, ℤ, List, [], ◌∷◌, refl, arith, Bool, true, false, cond, Some, None}
 use Rattle.std.specs.List.{All, AllByRecursion}
 use Rattle.std.proofs.lemmas.List.Elements.{All-cons, All-nil}
 use Rattle.wm_base.specs.declared.limit.Limit.TheVariants.{NoMax}
@@ -12,6 +12,8 @@ use Rattle.wm_law.specs.declared.state.State.{State}
 use Rattle.wm_law.specs.Fit.{IsCommand, IsQName, IsJobDescription}
 use Rattle.wm_law.specs.Making.{class_of, jobd_of, queue_entry_of, route_entry_of}
 use Rattle.wm_law.specs.Opening.{crtcls_qbatch, crtpgmref_echo, crtjobd, crtjobd_qdftjobd, crtjobd_qbatch, addjobqe_qbatch, addrtge_qbatch, opening_commands, empty, opening}
+use Rattle.std.specs.Option.{option_map}
+use Rattle.wm_desc.specs.Table.{object_named, same_qname}
 
 batch_named : IsQName qbatch
 batch_named = record { lib = refl; name = refl }
@@ -69,3 +71,11 @@ opened offset = record (empty offset) { objects = opening_objects }
 pub opening_is : (offset : ℤ) → opening offset ≡ opened offset
 unfolding opening
 opening_is offset = refl
+
+only_pair : (t : Bool) (d : Sbsd) → option_map (λ (p : QName × Sbsd). p.1) (cond t (Some (qbatch, batch_sbsd)) None) ≡ Some d → d ≡ batch_sbsd
+only_pair true d e = cc
+only_pair false d e = absurd (cc)
+
+-- the one description of the opening objects
+pub only_sbsd : (sbs : QName) (d : Sbsd) → object_named sbs opening_objects.sbsds ≡ Some d → d ≡ batch_sbsd
+only_sbsd sbs d e = only_pair (same_qname qbatch sbs) d e

@@ -1,7 +1,7 @@
 -- Each Starting job has its order.
 use Rattle.std.proofs.Common.{◌≡◌, ℕ, ℤ, ◌+◌, ◌++◌, ◌==◌, Bool, true, false, cond, List, [], ◌∷◌, map, Option, Some, None, refl, sym, ap, subst, ◌∙◌, inl, inr, arith}
 use Rattle.std.specs.List.{find, count_by}
-use Rattle.std.specs.Option.{IsSome, option_and_then, option_map}
+use Rattle.std.specs.Option.{IsSome, option_and_then}
 use Rattle.std.proofs.lemmas.List.Sums.{sum_by-cons}
 use Rattle.std.proofs.lemmas.Bool.{eqb-true}
 use Rattle.wm_base.specs.declared.job.Class.{Class}
@@ -10,8 +10,6 @@ use Rattle.wm_base.specs.declared.job.How.TheVariants.{NotYet, FromQueue, Auto, 
 use Rattle.wm_base.specs.declared.job.StartOrder.{StartOrder}
 use Rattle.wm_base.specs.declared.qname.QName.{QName}
 use Rattle.wm_base.proofs.Tests.{unrefused}
-use Rattle.wm_law.specs.declared.call.Call.{Call}
-use Rattle.wm_law.specs.declared.call.Entry.{Entry}
 use Rattle.wm_law.specs.declared.call.Reply.TheVariants.{Nothing}
 use Rattle.wm_law.specs.declared.command.Sbmjob.{Sbmjob}
 use Rattle.wm_law.specs.declared.choice.Candidate.{Candidate}
@@ -30,26 +28,24 @@ use Rattle.wm_desc.specs.declared.entry.RouteEntry.{RouteEntry}
 use Rattle.wm_desc.specs.declared.description.Sbsd.{Sbsd}
 use Rattle.wm_law.specs.declared.state.State.{State}
 use Rattle.wm_base.specs.Iterate.{IsKept}
-use Rattle.wm_base.proofs.Iterate.{iterate-keeps}
 use Rattle.wm_law.specs.declared.state.Sbs.{Sbs}
 use Rattle.wm_law.specs.Autos.{auto_job, routed_auto, auto_made}
 use Rattle.wm_law.specs.Choice.{has_entry, next}
 use Rattle.wm_law.specs.Counts.{is_in_sbs, is_starting}
-use Rattle.wm_law.specs.Kept.{IsLodged, IsNumbered, IsRouted, HasOrders, OpeningHasOrders, StepKeepsOrders, StartingJobsHaveOrders, HandGivesAnOrder, ReachedRouteIsLeast}
-use Rattle.wm_law.specs.Jobs.{changed_at}
-use Rattle.wm_law.specs.Launch.{as_auto, as_launched, called_args, called_program, entry_numbered, from_queue, is_match, launch, with_routed, routed_from_queue, routed_in, missing_program, order_by, order_called, order_of, order_through, order_with, program_fault, route_entry}
+use Rattle.wm_law.specs.Kept.{IsLodged, IsNumbered, IsRouted, HasOrders, OpeningHasOrders}
+use Rattle.wm_law.specs.Jobs.{changed_at, active_at}
+use Rattle.wm_law.specs.Launch.{as_auto, as_launched, called_args, called_program, entry_numbered, from_queue, is_match, launch, with_routed, routed_from_queue, routed_in, missing_program, order_by, order_called, order_of, order_through, order_with, program_fault, route_entry, order_pre, pre_entry}
 use Rattle.wm_law.specs.Laws.{IsIn}
 use Rattle.wm_law.specs.Pending.{kills, orders_left, starting}
 use Rattle.wm_law.specs.Submitting.{submitted_job}
-use Rattle.wm_law.specs.Reports.{hand_job, hand_order, in_phase, is_to_kill, phased_at, start_job}
-use Rattle.wm_law.specs.Settling.{come_due, leave, waiting}
-use Rattle.wm_law.specs.Machine.{apply, step, with_clock}
+use Rattle.wm_law.specs.Reports.{hand_job, hand_order, in_phase, is_to_kill, phased_at, start_job, with_phase}
+use Rattle.wm_law.specs.Settling.{leave}
+use Rattle.wm_law.specs.Machine.{step, with_clock}
 use Rattle.wm_desc.specs.Table.{object_named, same_qname}
-use Rattle.wm_desc.specs.Opening.{qbatch}
-use Rattle.wm_law.specs.History.{after, stepped}
+use Rattle.wm_law.specs.History.{after}
 use Rattle.wm_law.proofs.Alterations.{IsAlteration, each_altered, unstarted}
-use Rattle.wm_law.proofs.Opened.{batch_sbsd, opening_objects, opened, opening_is}
-use Rattle.wm_law.proofs.Endings.{IsEnding, stood_starting, wished, starting_phase}
+use Rattle.wm_law.proofs.Opened.{batch_sbsd, opening_objects, opened, opening_is, only_sbsd}
+use Rattle.wm_law.proofs.Endings.{IsEnding, stood_starting, wished, starting_phase, use_ends}
 use Rattle.wm_law.proofs.Turns.{is_turn}
 use Rattle.wm_law.proofs.Firsts.{next_is_first}
 use Rattle.wm_law.proofs.Lodged.{lodged_longer, lodged_ending, lodged_left}
@@ -59,8 +55,16 @@ use Rattle.wm_law.proofs.Forward.{only_one}
 use Rattle.wm_law.proofs.Routed.{by_route}
 use Rattle.wm_law.proofs.Routes.{IsSorted, numbered_once, route_is_least}
 use Rattle.wm_law.proofs.Members.{found_among, of_last, of_mapped}
-use Rattle.wm_law.proofs.Moves.{HoldsOfStates, IsMakeable, call_keeps, comes_due}
-use Rattle.wm_law.proofs.Numbers.{apply_keeps, clock_keeps, launches_keep, ready_keeps, step_keeps_numbers}
+use Rattle.wm_law.proofs.Moves.{HoldsOfStates, IsMakeable, IsKeptByParts, after_keeps, autos_made, step_keeps}
+use Rattle.wm_law.proofs.Numbers.{auto_keeps, begun_keeps, clock_keeps, launches_keep, only_started, calls as numbers}
+use Rattle.wm_desc.specs.declared.entry.PreEntry.{PreEntry}
+use Rattle.wm_law.specs.Objects.{AreSound}
+use Rattle.wm_law.specs.Prestart.{make_pre, new_pre_job, with_evoke}
+use Rattle.wm_law.specs.Sound.{StepKeepsOrders, StartingJobsHaveOrders, HandGivesAnOrder, ReachedRouteIsLeast}
+use Rattle.wm_law.specs.Subsystems.{begun}
+use Rattle.wm_law.proofs.PreOrders.{pre_ordered}
+use Rattle.wm_law.proofs.Supplies.{IsSuppliable}
+use Rattle.wm_law.specs.declared.state.Stop.{Stop}
 
 -- what a launch to Starting stands on: the routing entry, and the program that it calls
 record IsLed (s : State) (sbs : QName) (by : ℕ → How) (j : Job) (l : Launched) : Type 0 where
@@ -99,7 +103,7 @@ is_led s sbs by j h =
       how = r.is_how;
     }
 
-with_class : (j : Job) (args : List (List ℕ)) (p : Program) (o : Option Class) → IsSome o → IsSome (order_with j args (Some p) o)
+with_class : (j : Job) (args : List (List ℕ)) (p : Program) (o : Option Class) → IsSome o → IsSome (order_with false j args (Some p) o)
 with_class j args p None h = absurd (cc)
 with_class j args p (Some cls) h = refl
 
@@ -114,13 +118,13 @@ has_order s sbs by j l leads routed led =
     let k = record j { phase = l.phase; how = l.how } in
     let numbered : entry_numbered e.seq led.sbsd ≡ Some e = numbered_once led.sbsd.routes e (routed.sorted sbs led.sbsd led.description) led.stands in
     let cls = routed.classes sbs led.sbsd e led.description led.stands in
-    let same : order_of s k ≡ order_with k (called_args e k.rqsdta) (Some led.program) (object_named e.cls s.objects.classes) =
+    let same : order_of s k ≡ order_with false k (called_args e k.rqsdta) (Some led.program) (object_named e.cls s.objects.classes) =
     ap (λ (h : How). order_by s k h) led.how
     ∙ leads k e.seq
     ∙ ap (λ (o : Option Sbsd). order_through s k (option_and_then (entry_numbered e.seq) o)) led.description
     ∙ ap (order_through s k) numbered
     ∙ ap (order_called s k e) led.called
-    ∙ ap (λ (o : Option Program). order_with k (called_args e k.rqsdta) o (object_named e.cls s.objects.classes)) led.found in
+    ∙ ap (λ (o : Option Program). order_with false k (called_args e k.rqsdta) o (object_named e.cls s.objects.classes)) led.found in
     subst (λ (o : Option StartOrder). IsSome o) (sym same) (with_class k (called_args e k.rqsdta) led.program (object_named e.cls s.objects.classes) cls)
 
 -- Q holds of each Starting job of a list
@@ -190,10 +194,15 @@ launched_lodged s c f e h =
     (λ j m t starts. (let led = is_led s c.sbs (from_queue c.sbs c.jobq f) f starts in (b.0, b.1, came_into c.sbs c.jobq b.0.sbsd f.pty led.entry.seq l.how led.how b.2)))
     h.lodged
 
--- numbered, and each Starting job has its order
-record IsOrdered (s : State) : Type 0 where
-  numbered : IsNumbered s
-  orders : HasOrders s
+-- numbered, with sound objects, and each Starting job has its order
+pub record IsOrdered (s : State) : Type 0 where
+  pub numbered : IsNumbered s
+  pub objects : AreSound s.objects
+  pub orders : HasOrders s
+
+objects_same : (s : State) (c : Candidate) (o : Option Job) → AreSound s.objects → AreSound (with_routed s c o).objects
+objects_same s c None h = h
+objects_same s c (Some j) h = h
 
 routed : (s : State) → HasOrders s → (jobs : List Job) → AllOrdered s jobs → AllLodged s.started jobs → HasOrders (record s { jobs = jobs })
 routed s h jobs all lodged = record { routed = h.routed; starting = all; lodged = lodged }
@@ -208,6 +217,7 @@ launches_leave_orders : IsKept next (λ c t. launch t c) IsOrdered
 launches_leave_orders = record {
   by_step = λ s c e h. record {
     numbered = launches_keep.by_step s c e h.numbered;
+    objects = objects_same s c (find (λ (j : Job). j.serial == c.serial) s.jobs) h.objects;
     orders = launches s c (find (λ j. j.serial == c.serial) s.jobs) refl e h.numbered h.orders;
   };
 }
@@ -232,32 +242,49 @@ auto_ordered q t e d m h =
     h.lodged) in
     alike (record t { jobs = t.jobs ++ routed_auto t q j ∷ [] }) _ refl refl u.lodged u
 
--- a wish changes no order
-with_wished : (j : Job) (p : Phase) (w : Wish) (args : List (List ℕ)) (o : Option Program) (c : Option Class) → order_with (record j { phase = p; wish = w }) args o c ≡ order_with j args o c
-with_wished j p w args None c = refl
-with_wished j p w args (Some pgm) None = refl
-with_wished j p w args (Some pgm) (Some cls) = refl
+-- so does a prestart job
+pre_made_ordered : (q : QName) (d : Sbsd) (e : PreEntry) (t : State) → IsSuppliable q d e t → AreSound t.objects → HasOrders t → HasOrders (make_pre q e.pgm t)
+pre_made_ordered q d e t can sound h =
+    let j = new_pre_job t q e.pgm in
+    let u = routed t h (t.jobs ++ j ∷ [])
+    (last_of (λ k. IsSome (order_of t k)) t.jobs j (λ starts. pre_ordered q d e t can sound) h.starting)
+    (last_of (IsLodged t.started) t.jobs j (λ starts. (can.sbs, can.started, subst (λ (n : QName). same_qname q n ≡ true) (sym can.named) (own_name q))) h.lodged) in
+    alike (record t { jobs = t.jobs ++ j ∷ [] }) _ refl refl u.lodged u
 
-called_wished : (s : State) (j : Job) (p : Phase) (w : Wish) (e : RouteEntry) (o : Option QName) → order_called s (record j { phase = p; wish = w }) e o ≡ order_called s j e o
-called_wished s j p w e None = refl
-called_wished s j p w e (Some pgm) = with_wished j p w (called_args e j.rqsdta) (object_named pgm s.objects.programs) (object_named e.cls s.objects.classes)
+-- neither a wish nor a use changes an order
+module _ (j : Job) (p : Phase) (w : Wish) (uses : ℕ) (evoke : Bool) where
+  abbrev so : Job
+  so = record j { phase = p; wish = w; uses = uses; evoke = evoke }
 
-through_wished : (s : State) (j : Job) (p : Phase) (w : Wish) (o : Option RouteEntry) → order_through s (record j { phase = p; wish = w }) o ≡ order_through s j o
-through_wished s j p w None = refl
-through_wished s j p w (Some e) = called_wished s j p w e (called_program e j.rqsdta)
+  with_wished : (pre : Bool) (args : List (List ℕ)) (o : Option Program) (c : Option Class) → order_with pre so args o c ≡ order_with pre j args o c
+  with_wished pre args None c = refl
+  with_wished pre args (Some pgm) None = refl
+  with_wished pre args (Some pgm) (Some cls) = refl
 
-order_wished : (s : State) (j : Job) (p : Phase) (w : Wish) (h : How) → order_by s (record j { phase = p; wish = w }) h ≡ order_by s j h
-order_wished s j p w NotYet = refl
-order_wished s j p w (FromQueue sbs jobq pty seq) = through_wished s j p w (route_entry s sbs seq)
-order_wished s j p w (Auto sbs seq) = through_wished s j p w (route_entry s sbs seq)
-order_wished s j p w (Pre sbs pgm) = refl
+  called_wished : (s : State) (e : RouteEntry) (o : Option QName) → order_called s so e o ≡ order_called s j e o
+  called_wished s e None = refl
+  called_wished s e (Some pgm) = with_wished false (called_args e j.rqsdta) (object_named pgm s.objects.programs) (object_named e.cls s.objects.classes)
 
-ended_orders : (s : State) (change : Job → Job) (started : List Sbs) (evokes : List Evoke) (power : Power) → IsEnding s change started power → HasOrders s → HasOrders (wished s change started evokes power)
-ended_orders s change started evokes power e h = record {
+  through_wished : (s : State) (o : Option RouteEntry) → order_through s so o ≡ order_through s j o
+  through_wished s None = refl
+  through_wished s (Some e) = called_wished s e (called_program e j.rqsdta)
+
+  pre_wished : (s : State) (o : Option PreEntry) → order_pre s so o ≡ order_pre s j o
+  pre_wished s None = refl
+  pre_wished s (Some e) = with_wished true [] (object_named e.pgm s.objects.programs) (object_named e.cls s.objects.classes)
+
+  order_wished : (s : State) (h : How) → order_by s so h ≡ order_by s j h
+  order_wished s NotYet = refl
+  order_wished s (FromQueue sbs jobq pty seq) = through_wished s (route_entry s sbs seq)
+  order_wished s (Auto sbs seq) = through_wished s (route_entry s sbs seq)
+  order_wished s (Pre sbs pgm) = pre_wished s (pre_entry s sbs pgm)
+
+ended_orders : (s : State) (change : Job → Job) (started : List Sbs) (stopped : List Stop) (evokes : List Evoke) (power : Power) → IsEnding s change started power → HasOrders s → HasOrders (wished s change started stopped evokes power)
+ended_orders s change started stopped evokes power e h = record {
   routed = h.routed;
   starting = λ k i p. (
       let m = stood_starting change e.jobs s.jobs k i p in
-      let same : order_of s k ≡ order_of s m.job = ap (λ (x : Job). order_of s x) m.same ∙ order_wished s m.job k.phase k.wish m.job.how in
+      let same : order_of s k ≡ order_of s m.job = ap (λ (x : Job). order_of s x) m.same ∙ order_wished m.job k.phase k.wish k.uses k.evoke s m.job.how in
       subst (λ (o : Option StartOrder). IsSome o) (sym same) (h.starting m.job m.there m.starting));
   lodged = λ k i p. (
       let m = stood_starting change e.jobs s.jobs k i p in
@@ -265,22 +292,48 @@ ended_orders s change started evokes power e h = record {
       (l.0, l.1, ap (λ (x : Job). is_in_sbs l.0.sbsd x.how) m.same ∙ l.2));
 }
 
-calls : (s : State) → HasOrders s → HoldsOfStates HasOrders s
-calls s h = record {
-  stays = h;
-  starts = λ q e. alike s _ refl refl (λ j i p. lodged_longer s.started _ j (h.lodged j i p)) h;
-  autos = auto_ordered;
-  enters = λ user c d due has. (let t = routed s h _ (entered (λ j. IsSome (order_of s j)) s user c d due h.starting) (entered (IsLodged s.started) s user c d due h.lodged) in alike (record s { jobs = s.jobs ++ submitted_job s user c d due ∷ [] }) _ refl refl t.lodged t);
-  alters = λ change place a. (let t = routed s h _ (altered_of (λ j. IsSome (order_of s j)) s change place a h.starting) (altered_of (IsLodged s.started) s change place a h.lodged) in alike (record s { jobs = map change s.jobs }) _ refl refl t.lodged t);
-  holds = λ held a. alike s _ refl refl h.lodged h;
-  moves = λ serial j phase i same r e. routed s h _ (moved (λ j. IsSome (order_of s j)) s.jobs serial phase e h.starting) (moved (IsLodged s.started) s.jobs serial phase e h.lodged);
-  ends = λ change started evokes power e. ended_orders s change started evokes power e h;
-  makes = λ o e. record {
-    routed = e.routed h.routed;
-    starting = λ j i p. (let was = h.starting j i p in subst (λ (x : Option StartOrder). IsSome x) (sym (order_kept s o e j (h.lodged j i p) was)) was);
-    lodged = h.lodged;
-  };
-}
+pub calls : (s : State) → IsOrdered s → HoldsOfStates IsOrdered s
+calls s all =
+    let n = numbers s all.numbered in
+    let sound = all.objects in
+    let h = all.orders in
+    record {
+      stays = all;
+      starts = λ q e. autos_made IsOrdered s q e
+          (λ t x d m k. record { numbered = auto_keeps q t x d m k.numbered; objects = k.objects; orders = auto_ordered q t x d m k.orders })
+          (record { numbered = begun_keeps s q all.numbered; objects = sound; orders = alike s (begun s q) refl refl (λ j i p. lodged_longer s.started _ j (h.lodged j i p)) h });
+      supplies = record {
+        makes = λ q d e t can k. record { numbered = n.supplies.makes q d e t can k.numbered; objects = k.objects; orders = pre_made_ordered q d e t can k.objects k.orders };
+        assigns = λ t q pgm job evokes can k. record { numbered = n.supplies.assigns t q pgm job evokes can k.numbered; objects = k.objects; orders = ended_orders t (active_at job.serial with_evoke) t.started t.stopped evokes t.power (use_ends t q pgm job can.there can.idle) k.orders };
+      };
+      enters = λ user c d due has. record {
+        numbered = n.enters user c d due has;
+        objects = sound;
+        orders = (let t = routed s h _ (entered (λ j. IsSome (order_of s j)) s user c d due h.starting) (entered (IsLodged s.started) s user c d due h.lodged) in alike (record s { jobs = s.jobs ++ submitted_job s user c d due ∷ [] }) _ refl refl t.lodged t);
+      };
+      alters = λ change place a. record {
+        numbered = n.alters change place a;
+        objects = sound;
+        orders = (let t = routed s h _ (altered_of (λ j. IsSome (order_of s j)) s change place a h.starting) (altered_of (IsLodged s.started) s change place a h.lodged) in alike (record s { jobs = map change s.jobs }) _ refl refl t.lodged t);
+      };
+      holds = λ held a. record { numbered = n.holds held a; objects = sound; orders = alike s (record s { held = held }) refl refl h.lodged h };
+      lists = λ stopped evokes. record { numbered = n.lists stopped evokes; objects = sound; orders = alike s (record s { stopped = stopped; evokes = evokes }) refl refl h.lodged h };
+      moves = λ serial j phase stopped i same r e. record {
+        numbered = n.moves serial j phase stopped i same r e;
+        objects = sound;
+        orders = (let t = routed s h _ (moved (λ j. IsSome (order_of s j)) s.jobs serial phase e h.starting) (moved (IsLodged s.started) s.jobs serial phase e h.lodged) in alike (with_phase s serial phase) (record (with_phase s serial phase) { stopped = stopped }) refl refl t.lodged t);
+      };
+      ends = λ change started stopped evokes power e. record { numbered = n.ends change started stopped evokes power e; objects = sound; orders = ended_orders s change started stopped evokes power e h };
+      makes = λ o e. record {
+        numbered = n.makes o e;
+        objects = e.sound sound;
+        orders = record {
+          routed = e.routed h.routed;
+          starting = λ j i p. (let was = h.starting j i p in subst (λ (x : Option StartOrder). IsSome x) (sym (order_kept s o e j (h.lodged j i p) was)) was);
+          lodged = h.lodged;
+        };
+      };
+    }
 
 leaves : (t : State) → HasOrders t → HasOrders (leave t)
 leaves t h = alike t (leave t) refl refl (λ j i p. lodged_left t j i p (h.lodged j i p)) h
@@ -288,31 +341,16 @@ leaves t h = alike t (leave t) refl refl (λ j i p. lodged_left t j i p (h.lodge
 pub clock_keeps_orders : (s : State) (moment : ℕ) → HasOrders s → HasOrders (with_clock s moment)
 clock_keeps_orders s moment h = alike s (with_clock s moment) refl refl h.lodged h
 
-pub apply_keeps_orders : (s : State) (caller : ℕ) (call : Call) → HasOrders s → HasOrders (apply s caller call).state
-apply_keeps_orders s caller call h = call_keeps HasOrders s caller call (calls s h)
+pub parts : IsKeptByParts IsOrdered
+parts = record {
+  clock = λ s moment h. record { numbered = clock_keeps s moment h.numbered; objects = h.objects; orders = clock_keeps_orders s moment h.orders };
+  calls = calls;
+  leaves = λ s h. record { numbered = only_started s h.numbered; objects = h.objects; orders = leaves s h.orders };
+  launches = launches_leave_orders;
+}
 
 pub step_keeps_orders : StepKeepsOrders
-unfolding step
-step_keeps_orders s caller call moment n h =
-    let c = with_clock s moment in
-    let t = (apply c caller call).state in
-    let numbered : IsNumbered t = apply_keeps c caller call (clock_keeps s moment n) in
-    let orders : HasOrders t = apply_keeps_orders c caller call (clock_keeps_orders s moment h) in
-    let due : HasOrders (come_due t) = comes_due HasOrders t (calls t orders) in
-    (iterate-keeps IsOrdered launches_leave_orders (waiting (leave (come_due t))) (leave (come_due t)) (record { numbered = ready_keeps t numbered; orders = leaves (come_due t) due })).orders
-
-after_is_ordered : (s : State) (h : List Entry) → IsOrdered s → IsOrdered (after s h)
-after_is_ordered s [] o = o
-after_is_ordered s (e ∷ es) o =
-    after_is_ordered (stepped s e).state es (record { numbered = step_keeps_numbers s e.caller e.call e.moment o.numbered; orders = step_keeps_orders s e.caller e.call e.moment o.numbered o.orders })
-
-only_pair : (t : Bool) (d : Sbsd) → option_map (λ (p : QName × Sbsd). p.1) (cond t (Some (qbatch, batch_sbsd)) None) ≡ Some d → d ≡ batch_sbsd
-only_pair true d e = cc
-only_pair false d e = absurd (cc)
-
--- the one description of the opening objects
-pub only_sbsd : (sbs : QName) (d : Sbsd) → object_named sbs opening_objects.sbsds ≡ Some d → d ≡ batch_sbsd
-only_sbsd sbs d e = only_pair (same_qname qbatch sbs) d e
+step_keeps_orders s caller call moment n o h = (step_keeps IsOrdered parts s caller call moment (record { numbered = n; objects = o; orders = h })).orders
 
 opening_sorted : (d : Sbsd) → d ≡ batch_sbsd → IsSorted d.routes
 opening_sorted d same = subst (λ (x : Sbsd). IsSorted x.routes) (sym same) (λ i j e less h. absurd (omega arith))
@@ -338,7 +376,7 @@ pub opening_has_orders : OpeningHasOrders
 opening_has_orders offset = subst HasOrders (sym (opening_is offset)) (opened_has_orders offset)
 
 pub starting_jobs_have_orders : StartingJobsHaveOrders
-starting_jobs_have_orders s h n o = (after_is_ordered s h (record { numbered = n; orders = o })).orders
+starting_jobs_have_orders s h n sound o = (after_keeps IsOrdered parts s h (record { numbered = n; objects = sound; orders = o })).orders
 
 -- where no job passes a test, none is found, and where none is found, none passes
 module _ (test : Job → Bool) where
@@ -396,13 +434,13 @@ hands_none s m e =
 
 pub hand_gives_an_order : HandGivesAnOrder
 unfolding step
-hand_gives_an_order s h caller moment n o =
+hand_gives_an_order s h caller moment n sound o =
     let t = with_clock (after s h) moment in
-    let kept = starting_jobs_have_orders s h n o in
+    let kept = starting_jobs_have_orders s h n sound o in
     let ordered = alike (after s h) t refl refl kept.lodged kept in (
       λ e. no_orders t caller (nothing t caller (find (is_to_kill caller) t.jobs) refl ordered e),
       λ e. hands_none t caller e,
     )
 
 pub reached_route_is_least : ReachedRouteIsLeast
-reached_route_is_least s h sbs d rtgdta e n o k f = route_is_least d rtgdta e ((starting_jobs_have_orders s h n o).routed.sorted sbs d k) f
+reached_route_is_least s h sbs d rtgdta e n sound o k f = route_is_least d rtgdta e ((starting_jobs_have_orders s h n sound o).routed.sorted sbs d k) f

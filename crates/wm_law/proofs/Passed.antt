@@ -27,24 +27,26 @@ use Rattle.wm_law.specs.Autos.{auto_job, routed_auto, auto_made}
 use Rattle.wm_law.specs.Choice.{Turn, is_allowed, is_before, is_ready, is_sbs_active, maxpty_of, next, place_cmp, rank_in, turn_of}
 use Rattle.wm_law.specs.Counts.{count_active, count_from_priority, count_from_queue, count_in_sbs, is_active, is_from_priority, is_from_queue, is_waiting}
 use Rattle.wm_law.specs.Kept.{IsNumbered}
-use Rattle.wm_law.specs.Jobs.{changed_at}
+use Rattle.wm_law.specs.Jobs.{changed_at, active_at}
 use Rattle.wm_law.specs.Launch.{as_launched, with_routed, routed_from_queue}
 use Rattle.wm_law.specs.Laws.{IsIn, MayStart}
-use Rattle.wm_law.specs.Settling.{come_due, job_at, sbss_at}
+use Rattle.wm_law.specs.Settling.{come_due, job_at, sbss_at, leave, ready}
 use Rattle.wm_law.specs.Wishes.{why_cause}
 use Rattle.wm_law.specs.Order.{IsFullFor, PassesNone, counted_for, is_counted_for, is_routing_cause, is_routed_phase, is_past_waiting, is_submitted, stands_before, was_launched}
 use Rattle.wm_law.specs.Reports.{in_phase, phased_at, with_phase}
 use Rattle.wm_law.specs.Submitting.{entered, submitted_job}
 use Rattle.wm_law.proofs.Alterations.{IsAlteration, altered, each_altered, launch_waits, unlaunched}
 use Rattle.wm_law.proofs.Counted.{no_fewer}
-use Rattle.wm_law.proofs.Endings.{IsPhaseAfter, IsWishing, wishing_at}
+use Rattle.wm_law.proofs.Endings.{IsPhaseAfter, IsWishing, wishing_at, using}
 use Rattle.wm_law.proofs.Firsts.{ready_waits}
 use Rattle.wm_law.proofs.Forward.{only_one}
 use Rattle.wm_law.proofs.InTurn.{launched_in, may_before, not_active, there_before}
 use Rattle.wm_law.proofs.Members.{of_last, of_mapped}
-use Rattle.wm_law.proofs.Moves.{HoldsOfStates}
+use Rattle.wm_law.proofs.Moves.{HoldsOfStates, autos_made}
 use Rattle.wm_law.proofs.Nexts.{IsNext, is_next}
 use Rattle.wm_law.proofs.Turns.{ahead_launched, behind_launched, by_turns, is_turn, none_ahead, one_sbs}
+use Rattle.wm_law.specs.Prestart.{make_pre, new_pre_job, with_evoke}
+use Rattle.wm_law.proofs.Supplies.{supplied_keeps}
 
 -- a count that has reached its limit has reached it where it is no less
 pub full_still : (n m : ℕ) (limit : Limit) → n ≤ m → is_below n limit ≡ false → is_below m limit ≡ false
@@ -263,6 +265,14 @@ auto_none s t q e d h i m =
       | inr same ↦ ap (was_launched s) same ∙ and_false (is_routed_phase (routed_auto t q (auto_job t e d)).phase && not (is_past_waiting s.jobs t.next_serial))
     ]
 
+-- nor was a prestart job
+pre_none : (s t : State) (q pgm : QName) → LaunchesNone s t → LaunchesNone s (make_pre q pgm t)
+pre_none s t q pgm h i m =
+    elim (of_last t.jobs (new_pre_job t q pgm) i m) as (λ _. was_launched s i ≡ false) [
+      | inl n ↦ h i n
+      | inr same ↦ ap (was_launched s) same ∙ and_false (is_routed_phase (new_pre_job t q pgm).phase && not (is_past_waiting s.jobs t.next_serial))
+    ]
+
 moved_none_at : (s : State) (serial : ℕ) (phase : Phase) (j : Job) (b : Bool) (i k : Job) → IsIn j s.jobs → j.serial ≡ serial → is_waiting j.phase ≡ false → (i.serial == serial) ≡ b → IsIn i s.jobs → k ≡ cond b (in_phase phase i) i → was_launched s k ≡ false
 moved_none_at s serial phase j true i k n e w f m same =
     not_launched s j k n w (e ∙ sym (eqb-true i.serial serial f) ∙ ap (λ (x : Job). x.serial) (sym same))
@@ -298,15 +308,20 @@ due_launches_none s t h = wished_none s t (job_at t.clock (sbss_at t)) (wishing_
 pub calls_launch_none : (s : State) → HoldsOfStates (LaunchesNone s) s
 calls_launch_none s = record {
   stays = λ i m. none_yet s i m;
-  starts = λ q e i m. none_yet s i m;
-  autos = λ q t e d m h. auto_none s t q e d h;
+  starts = λ q e. autos_made (LaunchesNone s) s q e (λ t x d m h. auto_none s t q x d h) (λ i m. none_yet s i m);
+  supplies = record { makes = λ q d e t can h. pre_none s t q e.pgm h; assigns = λ t q pgm job evokes can h. wished_none s t (active_at job.serial with_evoke) (using job.serial) h };
   enters = λ user c d due has. entered_none s user c d due;
   alters = altered_none s;
   holds = λ held a i m. none_yet s i m;
-  moves = λ serial j phase i e r n. (let on = r.onward in moved_none s serial j phase i e on.past);
-  ends = λ change started evokes power e. wished_none s s change e.jobs (none_yet s);
+  lists = λ stopped evokes i m. none_yet s i m;
+  moves = λ serial j phase stopped i e r n. (let on = r.onward in moved_none s serial j phase i e on.past);
+  ends = λ change started stopped evokes power e. wished_none s s change e.jobs (none_yet s);
   makes = λ o c i m. none_yet s i m;
 }
+
+-- nor does settling before jobs start
+pub ready_launches_none : (s t : State) → LaunchesNone s t → LaunchesNone s (ready t)
+ready_launches_none s t h = supplied_keeps (LaunchesNone s) (calls_launch_none s).supplies (leave (come_due t)) (due_launches_none s t h)
 
 -- where none was launched yet, each was launched in its order
 pub ordered_yet : (s t : State) → IsNumbered t → LaunchesNone s t → IsOrderedSince s t

@@ -5,10 +5,9 @@ use Rattle.std.specs.Option.{option_and_then}
 use Rattle.std.proofs.lemmas.Bool.{eqb-true}
 use Rattle.wm_base.specs.declared.job.EndCause.{EndCause}
 use Rattle.wm_base.specs.declared.job.How.{How}
-use Rattle.wm_base.specs.declared.job.How.TheVariants.{FromQueue, Auto}
+use Rattle.wm_base.specs.declared.job.How.TheVariants.{FromQueue, Auto, Pre}
 use Rattle.wm_base.specs.declared.qname.QName.{QName}
 use Rattle.wm_base.specs.Iterate.{IsKept}
-use Rattle.wm_base.proofs.Iterate.{iterate-keeps}
 use Rattle.wm_base.proofs.Tests.{not_both}
 use Rattle.wm_desc.specs.declared.description.Jobd.{Jobd}
 use Rattle.wm_desc.specs.declared.description.Sbsd.{Sbsd}
@@ -33,28 +32,32 @@ use Rattle.wm_law.specs.Autos.{auto_job, routed_auto, auto_made}
 use Rattle.wm_law.specs.Choice.{next}
 use Rattle.wm_law.specs.Counts.{count_in_sbs, is_active, is_in_sbs, is_waiting}
 use Rattle.wm_law.specs.Kept.{IsNumbered, phase_rank}
-use Rattle.wm_law.specs.Jobs.{changed_at}
+use Rattle.wm_law.specs.Jobs.{changed_at, active_at}
 use Rattle.wm_law.specs.Launch.{as_auto, as_launched, from_queue, is_match, launch, with_routed, routed_from_queue, routed_in, starts_unless, routed_through, route, route_fault}
 use Rattle.wm_law.specs.Laws.{IsIn}
-use Rattle.wm_law.specs.Machine.{apply, step, with_clock}
+use Rattle.wm_law.specs.Machine.{step}
 use Rattle.wm_law.specs.Reports.{in_phase, phased_at, with_phase}
-use Rattle.wm_law.specs.Settling.{come_due, is_ending, is_gone, leave, waiting}
+use Rattle.wm_law.specs.Settling.{is_ending, is_gone, leave}
 use Rattle.wm_law.specs.Sound.{CameFromQueue, ActiveHaveCome, HasQueues, HasCome}
 use Rattle.wm_law.specs.Submitting.{submitted_job}
 use Rattle.wm_law.proofs.Alterations.{IsAlteration, altered, each_altered, idle}
-use Rattle.wm_law.proofs.Endings.{AreEnded, IsEnding, was_active, wished}
+use Rattle.wm_law.proofs.Endings.{AreEnded, IsEnding, was_active, wished, use_ends}
 use Rattle.wm_law.proofs.Firsts.{holder_started, ready_waits}
 use Rattle.wm_law.proofs.Forward.{only_one}
 use Rattle.wm_law.proofs.Lodged.{counted, not_zero}
 use Rattle.wm_law.proofs.Members.{found_among, in_left, in_longer, of_last, of_mapped}
-use Rattle.wm_law.proofs.Moves.{HoldsOfStates, IsMakeable, IsOnward, call_keeps, comes_due}
+use Rattle.wm_law.proofs.Moves.{HoldsOfStates, IsMakeable, IsOnward, IsKeptByParts, autos_made, both_hold, step_keeps}
 use Rattle.wm_law.proofs.Named.{own_name}
 use Rattle.wm_law.proofs.Nexts.{IsNext, is_next}
-use Rattle.wm_law.proofs.Numbers.{apply_keeps, clock_keeps, launches_keep, ready_keeps}
+use Rattle.wm_law.proofs.Numbers.{calls, clock_keeps, launches_keep, only_started}
 use Rattle.wm_law.proofs.Objects.{IsObjectChange}
 use Rattle.wm_law.proofs.Queued.{launches_queued, queued_calls}
 use Rattle.wm_law.proofs.Routed.{by_route, launched_routed, started_through}
 use Rattle.wm_law.proofs.Turns.{is_turn}
+use Rattle.wm_desc.specs.declared.entry.PreEntry.{PreEntry}
+use Rattle.wm_law.specs.Prestart.{make_pre, new_pre_job, with_evoke}
+use Rattle.wm_law.proofs.Supplies.{IsSuppliable}
+use Rattle.wm_law.specs.declared.state.Stop.{Stop}
 
 active_by : (how : ℕ → How) (seq : ℕ) (o : Option EndCause) → is_active (starts_unless how seq o).phase ≡ true → (starts_unless how seq o).phase ≡ Starting
 active_by how seq None h = refl
@@ -119,18 +122,12 @@ launched_placed s c (Some j) f e n q h = λ k m a. (
     placed_at s c j o.0 (o.0.serial == c.serial) k refl o.1 n q (is_next s c j e n f) h o.2 a)
 
 -- numbered, the jobs have their queues, and active jobs have their places
-record IsSettled (s : State) : Type 0 where
-  numbered : IsNumbered s
-  queues : HasQueues s
-  places : ActiveHaveCome s
+abbrev IsSettled : State → Type 0
+IsSettled s = IsNumbered s × (HasQueues s × ActiveHaveCome s)
 
 launches_placed : IsKept next (λ c t. launch t c) IsSettled
 launches_placed = record {
-  by_step = λ t c e h. record {
-    numbered = launches_keep.by_step t c e h.numbered;
-    queues = launches_queued.by_step t c e h.queues;
-    places = launched_placed t c (find (λ (j : Job). j.serial == c.serial) t.jobs) refl e h.numbered h.queues h.places;
-  };
+  by_step = λ t c e h. (launches_keep.by_step t c e h.0, (launches_queued.by_step t c e h.1.0, launched_placed t c (find (λ (j : Job). j.serial == c.serial) t.jobs) refl e h.0 h.1.0 h.1.1));
 }
 
 -- what is active was so before, or waited
@@ -191,12 +188,27 @@ auto_placed q t e d m h =
     })
     h
 
+-- a prestart job came by the entry for which it is made
+pre_placed : (q : QName) (d : Sbsd) (e : PreEntry) (t : State) → IsSuppliable q d e t → ActiveHaveCome t → ActiveHaveCome (make_pre q e.pgm t)
+pre_placed q d e t can h =
+    last_placed t (new_pre_job t q e.pgm)
+    (λ a. record {
+      sbs = can.sbs;
+      sbsd = d;
+      entry = e;
+      started = can.started;
+      described = ap (λ (n : QName). object_named n t.objects.sbsds) can.named ∙ can.described;
+      entered = can.entered;
+      is_how = ap (λ (n : QName). Pre n e.pgm) (sym can.named);
+    })
+    h
+
 -- what a how names among subsystems and objects is named among others, too
-abbrev IsStillNamed : List Sbs → Objects → List Sbs → Objects → How → Type 0
+abbrev pub IsStillNamed : List Sbs → Objects → List Sbs → Objects → How → Type 0
 IsStillNamed bs o cs p how = (b : Sbs) (d : Sbsd) → IsIn b bs → is_in_sbs b.sbsd how ≡ true → object_named b.sbsd o.sbsds ≡ Some d → (c : Sbs) × IsIn c cs × (c.sbsd ≡ b.sbsd) × (object_named c.sbsd p.sbsds ≡ Some d)
 
 -- a job that is in its place stays there
-placed_still : (bs : List Sbs) (o : Objects) (cs : List Sbs) (p : Objects) (kind : JobKind) (jobq : Option QName) (pty : ℕ) (how : How) → IsStillNamed bs o cs p how → HasCome bs o kind jobq pty how → HasCome cs p kind jobq pty how
+pub placed_still : (bs : List Sbs) (o : Objects) (cs : List Sbs) (p : Objects) (kind : JobKind) (jobq : Option QName) (pty : ℕ) (how : How) → IsStillNamed bs o cs p how → HasCome bs o kind jobq pty how → HasCome cs p kind jobq pty how
 placed_still bs o cs p Bch jobq pty how still h =
     let n = still h.sbs h.sbsd h.started (ap (is_in_sbs h.sbs.sbsd) h.is_how ∙ own_name h.sbs.sbsd) h.described in
     record {
@@ -223,43 +235,54 @@ placed_still bs o cs p Asj jobq pty how still h =
       routed = h.routed;
       is_how = h.is_how ∙ ap (λ (q : QName). Auto q h.route.seq) (sym n.2);
     }
-placed_still bs o cs p Pj jobq pty how still h = absurd h
+placed_still bs o cs p Pj jobq pty how still h =
+    let n = still h.sbs h.sbsd h.started (ap (is_in_sbs h.sbs.sbsd) h.is_how ∙ own_name h.sbs.sbsd) h.described in
+    record {
+      sbs = n.0;
+      sbsd = h.sbsd;
+      entry = h.entry;
+      started = n.1;
+      described = n.3;
+      entered = h.entered;
+      is_how = h.is_how ∙ ap (λ (q : QName). Pre q h.entry.pgm) (sym n.2);
+    }
 
-some_there : {X : Type 0} (o : Option X) (x : X) → o ≡ Some x → is_some o ≡ true
+pub some_there : {X : Type 0} (o : Option X) (x : X) → o ≡ Some x → is_some o ≡ true
 some_there o x e = ap is_some e
 
 -- so where one more subsystem starts, where the subsystems end, and where objects change
-longer : (s : State) (b : Sbs) (j : Job) → IsStillNamed s.started s.objects (s.started ++ b ∷ []) s.objects j.how
-longer s b j x d i its k = (x, in_longer s.started b x i, refl, k)
+pub longer : (s : State) (b : Sbs) (how : How) → IsStillNamed s.started s.objects (s.started ++ b ∷ []) s.objects how
+longer s b how x d i its k = (x, in_longer s.started b x i, refl, k)
 
-ending : (s : State) (started : List Sbs) (j : Job) → AreEnded s.started started → IsStillNamed s.started s.objects started s.objects j.how
-ending s started j e x d i its k =
+pub ending : (s : State) (started : List Sbs) (how : How) → AreEnded s.started started → IsStillNamed s.started s.objects started s.objects how
+ending s started how e x d i its k =
     let m = e.after x i in
     let same = m.2 in
     (m.0, m.1, same.named, ap (λ (q : QName). object_named q s.objects.sbsds) same.named ∙ k)
 
-ended_placed : (s : State) (change : Job → Job) (started : List Sbs) (evokes : List Evoke) (power : Power) → IsEnding s change started power → ActiveHaveCome s → ActiveHaveCome (wished s change started evokes power)
-ended_placed s change started evokes power e h k i a =
+ended_placed : (s : State) (change : Job → Job) (started : List Sbs) (stopped : List Stop) (evokes : List Evoke) (power : Power) → IsEnding s change started power → ActiveHaveCome s → ActiveHaveCome (wished s change started stopped evokes power)
+ended_placed s change started stopped evokes power e h k i a =
     let m = of_mapped change s.jobs k i in
     let j = m.0 in
     let active : is_active j.phase ≡ true = was_active j.phase (change j).phase (e.jobs.phase j) (ap (λ (x : Job). is_active x.phase) (sym m.2) ∙ a) in
-    let placed = placed_still s.started s.objects started s.objects j.kind j.jobq j.pty j.how (ending s started j e.subsystems) (h j m.1 active) in
+    let placed = placed_still s.started s.objects started s.objects j.kind j.jobq j.pty j.how (ending s started j.how e.subsystems) (h j m.1 active) in
     subst (λ (x : Job). HasCome started s.objects x.kind x.jobq x.pty x.how) (sym (m.2 ∙ e.jobs.same j)) placed
 
-remade : (s : State) (o : Objects) (j : Job) → IsObjectChange s o → IsStillNamed s.started s.objects s.started o j.how
-remade s o j c x d i its k = (x, i, refl, c.described x i (some_there (object_named x.sbsd s.objects.sbsds) d k) ∙ k)
+pub remade : (s : State) (o : Objects) (how : How) → IsObjectChange s o → IsStillNamed s.started s.objects s.started o how
+remade s o how c x d i its k = (x, i, refl, c.described x i (some_there (object_named x.sbsd s.objects.sbsds) d k) ∙ k)
 
 calls_place : (s : State) → IsNumbered s → ActiveHaveCome s → HoldsOfStates ActiveHaveCome s
 calls_place s n h = record {
   stays = h;
-  starts = λ q e j i a. placed_still s.started s.objects _ _ j.kind j.jobq j.pty j.how (longer s (record { sbsd = q; phase = Active }) j) (h j i a);
-  autos = auto_placed;
+  starts = λ q e. autos_made ActiveHaveCome s q e (auto_placed q) (λ j i a. placed_still s.started s.objects _ _ j.kind j.jobq j.pty j.how (longer s (record { sbsd = q; phase = Active }) j.how) (h j i a));
+  supplies = record { makes = pre_placed; assigns = λ t q pgm job evokes can k. ended_placed t (active_at job.serial with_evoke) t.started t.stopped evokes t.power (use_ends t q pgm job can.there can.idle) k };
   enters = λ user c d due has. last_placed s (submitted_job s user c d due) (λ a. absurd (cc)) h;
   alters = λ change place a. altered_placed s change place a h;
   holds = λ held a. h;
-  moves = λ serial j phase i e r k. moved_placed s serial j phase n h i e r.onward;
-  ends = λ change started evokes power e. ended_placed s change started evokes power e h;
-  makes = λ o c j i a. placed_still s.started s.objects _ _ j.kind j.jobq j.pty j.how (remade s o j c) (h j i a);
+  lists = λ stopped evokes. h;
+  moves = λ serial j phase stopped i e r k. moved_placed s serial j phase n h i e r.onward;
+  ends = λ change started stopped evokes power e. ended_placed s change started stopped evokes power e h;
+  makes = λ o c j i a. placed_still s.started s.objects _ _ j.kind j.jobq j.pty j.how (remade s o j.how c) (h j i a);
 }
 
 -- a subsystem with an active job doesn't leave
@@ -272,14 +295,13 @@ stays_started s j i a x d m its k =
 left_placed : (s : State) → ActiveHaveCome s → ActiveHaveCome (leave s)
 left_placed s h j i a = placed_still s.started s.objects (leave s).started s.objects j.kind j.jobq j.pty j.how (stays_started s j i a) (h j i a)
 
+parts : IsKeptByParts IsSettled
+parts = record {
+  clock = λ s moment h. (clock_keeps s moment h.0, h.1);
+  calls = λ s h. both_hold IsNumbered (λ t. HasQueues t × ActiveHaveCome t) s (calls s h.0) (both_hold HasQueues ActiveHaveCome s (queued_calls s h.1.0) (calls_place s h.0 h.1.1));
+  leaves = λ s h. (only_started s h.0, (h.1.0, left_placed s h.1.1));
+  launches = launches_placed;
+}
+
 pub step_keeps_places : (s : State) (caller : ℕ) (call : Call) (moment : ℕ) → IsNumbered s → HasQueues s → ActiveHaveCome s → ActiveHaveCome (step s caller call moment).state
-unfolding step
-step_keeps_places s caller call moment n q h =
-    let c = with_clock s moment in
-    let t = (apply c caller call).state in
-    let numbered : IsNumbered t = apply_keeps c caller call (clock_keeps s moment n) in
-    let queues : HasQueues t = call_keeps HasQueues c caller call (queued_calls c q) in
-    let called : ActiveHaveCome t = call_keeps ActiveHaveCome c caller call (calls_place c (clock_keeps s moment n) h) in
-    let queues_due : HasQueues (come_due t) = comes_due HasQueues t (queued_calls t queues) in
-    let placed : ActiveHaveCome (come_due t) = comes_due ActiveHaveCome t (calls_place t numbered called) in
-    (iterate-keeps IsSettled launches_placed (waiting (leave (come_due t))) (leave (come_due t)) (record { numbered = ready_keeps t numbered; queues = queues_due; places = left_placed (come_due t) placed })).places
+step_keeps_places s caller call moment n q h = (step_keeps IsSettled parts s caller call moment (n, (q, h))).1.1

@@ -23,7 +23,7 @@ use Rattle.wm_law.specs.declared.state.State.{State}
 use Rattle.wm_law.specs.Autos.{auto_job, routed_auto}
 use Rattle.wm_law.specs.Choice.{next}
 use Rattle.wm_law.specs.Counts.{is_waiting}
-use Rattle.wm_law.specs.Jobs.{changed_at}
+use Rattle.wm_law.specs.Jobs.{changed_at, active_at}
 use Rattle.wm_law.specs.Launch.{as_auto, as_launched, launch, with_routed, routed_from_queue}
 use Rattle.wm_law.specs.Laws.{IsIn}
 use Rattle.wm_law.specs.Machine.{step}
@@ -33,12 +33,13 @@ use Rattle.wm_law.specs.Reports.{in_phase}
 use Rattle.wm_law.specs.Sound.{AreQueues, HasAutoValues, HasQueues, IsQueued}
 use Rattle.wm_law.specs.Submitting.{queue_of, submitted_job}
 use Rattle.wm_law.proofs.Alterations.{IsAlteration, IsAltered, IsHolding, each_altered}
-use Rattle.wm_law.proofs.Endings.{IsWishing, key_same, was_waiting}
+use Rattle.wm_law.proofs.Endings.{IsWishing, key_same, was_waiting, using}
 use Rattle.wm_law.proofs.InOrder.{in_inserted, sorted_added}
 use Rattle.wm_law.proofs.Members.{left_in, of_last, of_mapped}
-use Rattle.wm_law.proofs.Moves.{HoldsOfStates, IsAcceptable, IsKeptByParts, never_waits, step_keeps}
+use Rattle.wm_law.proofs.Moves.{HoldsOfStates, IsAcceptable, IsKeptByParts, never_waits, step_keeps, autos_made}
 use Rattle.wm_law.proofs.Opened.{opened, opening_is}
 use Rattle.wm_law.proofs.Settling.{launch_never_waits, not_waiting}
+use Rattle.wm_law.specs.Prestart.{new_pre_job, with_evoke}
 
 -- a change leaves a job its kind, its queue and its other values, and after it the job doesn't wait
 record KeepsQueue (change : Job → Job) : Type 0 where
@@ -71,8 +72,8 @@ all_changed o jobs serial change k h i m =
 -- so it is where wishes change
 wished_queued : (o : Objects) (change : Job → Job) → IsWishing change → (j : Job) → IsQueued o j → IsQueued o (change j)
 wished_queued o change e j h =
-    let kind = key_same change e (λ (x : Job). x.kind) (λ x p w. refl) j in
-    let jobq = key_same change e (λ (x : Job). x.jobq) (λ x p w. refl) j in
+    let kind = key_same change e (λ (x : Job). x.kind) (λ x p w u e. refl) j in
+    let jobq = key_same change e (λ (x : Job). x.jobq) (λ x p w u e. refl) j in
     record {
       waits = λ w. kind ∙ h.waits (was_waiting j.phase (change j).phase (e.phase j) w);
       has_queue = λ b. subst (λ (q : Option QName). IsSome q) (sym jobq) (h.has_queue (sym kind ∙ b));
@@ -81,9 +82,9 @@ wished_queued o change e j h =
           let v = h.auto (sym kind ∙ a) in
           record {
             jobq = jobq ∙ v.jobq;
-            pty = key_same change e (λ (x : Job). x.pty) (λ x p w. refl) j ∙ v.pty;
-            place = key_same change e (λ (x : Job). x.place) (λ x p w. refl) j ∙ v.place;
-            held = key_same change e (λ (x : Job). x.held) (λ x p w. refl) j ∙ v.held;
+            pty = key_same change e (λ (x : Job). x.pty) (λ x p w u e. refl) j ∙ v.pty;
+            place = key_same change e (λ (x : Job). x.place) (λ x p w u e. refl) j ∙ v.place;
+            held = key_same change e (λ (x : Job). x.held) (λ x p w u e. refl) j ∙ v.held;
           });
     }
 
@@ -121,6 +122,15 @@ auto_queued q s e d = record {
   auto = λ a. record { jobq = refl; pty = refl; place = refl; held = refl };
 }
 
+-- nor has a prestart job
+pre_queued : (q : QName) (s : State) (pgm : QName) → IsQueued s.objects (new_pre_job s q pgm)
+pre_queued q s pgm = record {
+  waits = λ w. absurd (cc);
+  has_queue = λ b. absurd (cc);
+  is_object = λ n f. absurd (cc);
+  auto = λ a. absurd (cc);
+}
+
 last_queued : (o : Objects) (jobs : List Job) (last : Job) → IsQueued o last → AllQueued o jobs → AllQueued o (jobs ++ last ∷ [])
 last_queued o jobs last q h j i =
     elim (of_last jobs last j i) as (λ _. IsQueued o j) [ inl m ↦ h j m | inr same ↦ subst (IsQueued o) (sym same) q ]
@@ -138,20 +148,24 @@ launched_queued s c (Some j) h = all_changed s.objects s.jobs c.serial (as_launc
 pub queued_calls : (s : State) → HasQueues s → HoldsOfStates HasQueues s
 queued_calls s h = record {
   stays = h;
-  starts = λ q e. h;
-  autos = λ q t e d m k. last_queued t.objects t.jobs (routed_auto t q (auto_job t e d)) (auto_queued q t e d) k;
+  starts = λ q e. autos_made HasQueues s q e (λ t x d m k. last_queued t.objects t.jobs (routed_auto t q (auto_job t x d)) (auto_queued q t x d) k) h;
+  supplies = record {
+    makes = λ q d e t can k. last_queued t.objects t.jobs (new_pre_job t q e.pgm) (pre_queued q t e.pgm) k;
+    assigns = λ t q pgm job evokes can k. all_wished t.objects t.jobs (active_at job.serial with_evoke) (using job.serial) k;
+  };
   enters = λ user c d due a. last_queued s.objects s.jobs (submitted_job s user c d due) (submitted_queued s user c d due a) h;
   alters = λ change place a. all_altered s change place a h;
   holds = λ held a. h;
-  moves = λ serial j phase i e r n. moved_queued s serial phase (never_waits j.phase phase r.onward) h;
-  ends = λ change started evokes power e. all_wished s.objects s.jobs change e.jobs h;
+  lists = λ stopped evokes. h;
+  moves = λ serial j phase stopped i e r n. moved_queued s serial phase (never_waits j.phase phase r.onward) h;
+  ends = λ change started stopped evokes power e. all_wished s.objects s.jobs change e.jobs h;
   makes = λ o c j i. queued_still s.objects o j c.jobqs (h j i);
 }
 
 pub launches_queued : IsKept next (λ c t. launch t c) HasQueues
 launches_queued = record { by_step = λ s c e h. launched_queued s c (find (λ (j : Job). j.serial == c.serial) s.jobs) h }
 
-queued_parts : IsKeptByParts HasQueues
+pub queued_parts : IsKeptByParts HasQueues
 queued_parts = record { clock = λ s moment h. h; calls = queued_calls; leaves = λ s h. h; launches = launches_queued }
 
 pub step_keeps_queues : (s : State) (caller : ℕ) (call : Call) (moment : ℕ) → HasQueues s → HasQueues (step s caller call moment).state
@@ -192,13 +206,14 @@ still_queues s held (inr x) h =
 held_calls : (s : State) → HoldsQueues s → HoldsOfStates HoldsQueues s
 held_calls s h = record {
   stays = h;
-  starts = λ q e. h;
-  autos = λ q t e d m k. k;
+  starts = λ q e. autos_made HoldsQueues s q e (λ t x d m k. k) h;
+  supplies = record { makes = λ q d e t can k. k; assigns = λ t q pgm job evokes can k. k };
   enters = λ user c d due a. h;
   alters = λ change place a. h;
   holds = λ held a. still_queues s held a h;
-  moves = λ serial j phase i e r n. h;
-  ends = λ change started evokes power e. h;
+  lists = λ stopped evokes. h;
+  moves = λ serial j phase stopped i e r n. h;
+  ends = λ change started stopped evokes power e. h;
   makes = λ o c. record { sorted = h.sorted; are_objects = λ q i. c.jobqs q (h.are_objects q i) };
 }
 

@@ -16,8 +16,8 @@ use Rattle.wm_law.specs.declared.job.Wish.TheVariants as wish
 use Rattle.wm_law.specs.declared.state.Sbs.{Sbs}
 use Rattle.wm_law.specs.declared.state.SbsPhase.TheVariants.{Active}
 use Rattle.wm_law.specs.declared.state.State.{State}
-use Rattle.wm_law.specs.Autos.{auto_job, routed_auto, auto_made, autos_of}
-use Rattle.wm_law.specs.Built.{is_ending_call}
+use Rattle.wm_law.specs.Autos.{auto_job, routed_auto, auto_made}
+use Rattle.wm_law.specs.CallKinds.{is_ending_call}
 use Rattle.wm_law.specs.Counts.{is_active, is_in_sbs, is_starting}
 use Rattle.wm_law.specs.Jobs.{active_at, with_active}
 use Rattle.wm_law.specs.Kept.{HasDistinctNames, IsNumbered}
@@ -31,22 +31,19 @@ use Rattle.wm_law.specs.Subsystems.{begun}
 use Rattle.wm_law.specs.Wishes.{handed_wish, has_come, is_in_any, is_now, is_wish_due}
 use Rattle.wm_law.proofs.Alterations.{IsAlteration, altered, each_altered, idle}
 use Rattle.wm_law.proofs.Distinct.{one_by_key}
-use Rattle.wm_law.proofs.Due.{due_same, not_both, of_any}
+use Rattle.wm_law.proofs.Due.{due_same, not_both, of_any, IsQuietly, last_up, supplied_quietly}
 use Rattle.wm_law.proofs.Forward.{only_one}
 use Rattle.wm_law.proofs.Members.{of_last, of_mapped}
-use Rattle.wm_law.proofs.Moves.{HoldsAfterCalls, IsMakeable, IsOnward, call_comes, made_all, makeable, moved_on, starting_rank}
+use Rattle.wm_law.proofs.Moves.{HoldsAfterCalls, IsMakeable, IsOnward, call_comes, moved_on, starting_rank, autos_made, started_keeps, IsUse, prestart_keeps}
 use Rattle.wm_law.proofs.Passed.{any_in}
 use Rattle.wm_law.proofs.Placed.{active_as, active_before}
 use Rattle.wm_law.proofs.Routed.{by_route}
-use Rattle.wm_law.proofs.Started.{calls}
+use Rattle.wm_law.proofs.Started.{begun_names}
+use Rattle.wm_law.proofs.Endings.{was_active, wished}
 
 -- whether a subsystem ends now
 abbrev now : Sbs → Bool
 now b = is_sbs_now b.phase
-
--- each active job of a list is up to date
-abbrev AllUpToDate : ℕ → List Sbs → List Job → Type 0
-AllUpToDate clock bs jobs = (j : Job) → IsIn j jobs → is_active j.phase ≡ true → IsUpToDate clock bs j
 
 -- a job that moves on, but not to Starting, is up to date as it was
 moved_up : (clock : ℕ) (bs : List Sbs) (i : Job) (p : Phase) → is_starting p ≡ false → IsUpToDate clock bs i → IsUpToDate clock bs (in_phase p i)
@@ -99,14 +96,6 @@ kill_due s serial h = record {
   jobs = λ k i a. (let o = of_mapped (active_at serial with_kill) s.jobs k i in kill_at s h o.0 (is_active o.0.phase && o.0.serial == serial) k o.1 o.2 a);
 }
 
--- one more job, which is up to date if it is active
-last_up : (clock : ℕ) (bs : List Sbs) (jobs : List Job) (j : Job) → (is_active j.phase ≡ true → IsUpToDate clock bs j) → AllUpToDate clock bs jobs → AllUpToDate clock bs (jobs ++ j ∷ [])
-last_up clock bs jobs j new h k i a =
-    elim (of_last jobs j k i) as (λ _. IsUpToDate clock bs k) [
-      | inl m ↦ h k m a
-      | inr same ↦ subst (IsUpToDate clock bs) (sym same) (new (ap (λ (y : Job). is_active y.phase) (sym same) ∙ a))
-    ]
-
 -- a subsystem that starts doesn't end now
 any_begun : (bs : List Sbs) (q : QName) (how : How) → is_in_any now (bs ++ record { sbsd = q; phase = Active } ∷ []) how ≡ true → is_in_any now bs how ≡ true
 any_begun bs q how h =
@@ -141,11 +130,6 @@ auto_untold q t e d m names a h =
     let one : m.sbs ≡ b.0 = one_by_key (λ (y : Sbs). y.sbsd.name) t.started names m.sbs b.0 m.started b.1 (ap (λ (n : QName). n.name) (m.named ∙ named)) in
     not_both m.sbs.phase m.active (ap now one ∙ both.0)
 
--- no name stands twice, and nothing is due
-record IsQuietly (t : State) : Type 0 where
-  names : HasDistinctNames t
-  none : HasNoneDue t
-
 auto_quiet : (q : QName) (t : State) (e : AutoEntry) (d : Jobd) → IsMakeable q t → IsQuietly t → IsQuietly (auto_made t q e d)
 auto_quiet q t e d m h = record {
   names = h.names;
@@ -163,20 +147,32 @@ altered_due s change place a h = record {
   jobs = each_altered (λ (k : Job). is_active k.phase ≡ true → IsUpToDate s.clock s.started k) s change place a h.jobs (λ j k i b active. (let no = idle s j k b in absurd (cc)));
 }
 
+-- neither a request that a job gets nor the end of a use makes anything due
+used_due : (s : State) (change : Job → Job) → IsUse s change → IsNumbered s → HasNoneDue s → HasNoneDue (wished s change s.started s.stopped s.evokes s.power)
+used_due s change u n h = record {
+  subsystems = h.subsystems;
+  jobs = λ k i a. (
+      let m = of_mapped change s.jobs k i in
+      let wishing = u.ending.jobs in
+      let active : is_active m.0.phase ≡ true = was_active m.0.phase (change m.0).phase (wishing.phase m.0) (ap (λ (x : Job). is_active x.phase) (sym m.2) ∙ a) in
+      subst (IsUpToDate s.clock s.started) (sym m.2) (u.up n m.0 m.1 (h.jobs m.0 m.1 active)));
+}
+
 quiet_calls : (s : State) (call : Call) → IsNumbered s → HasDistinctNames s → HasNoneDue s → is_ending_call call ≡ false → HoldsAfterCalls (λ t. HasNoneDue t.state) s call
 quiet_calls s call n names h quiet = record {
   refuses = λ x. h;
   nothing = λ x. h;
   notes = h;
   hands = λ m j o i e f. (let on = moved_on j (Handed m) 1 (starting_rank j.phase e) (omega arith) (omega arith) (omega arith) (λ c d w x. absurd (cc)) in moved_due s j.serial j (Handed m) n i refl on.onward refl h);
-  reports = λ serial j phase i e r x. moved_due s serial j phase n i e r.onward x h;
-  starts = λ q e. (
-      let begins = calls s names in
-      (made_all IsQuietly q (auto_quiet q) (autos_of s q) (begun s q) (makeable s q e) (record { names = begins.starts q e; none = begun_due s q h })).none);
+  reports = λ serial j phase stopped i e r x. (let m = moved_due s serial j phase n i e r.onward x h in record { subsystems = m.subsystems; jobs = m.jobs });
+  starts = λ q e. (started_keeps IsQuietly s q e supplied_quietly (autos_made IsQuietly s q e (auto_quiet q) (record { names = begun_names s q e.fresh names; none = begun_due s q h }))).none;
   enters = λ user c d due a. record { subsystems = h.subsystems; jobs = last_up s.clock s.started s.jobs (submitted_job s user c d due) (λ x. absurd (cc)) h.jobs };
   alters = λ reply change place p a. altered_due s change place a h;
   holds = λ reply held p a told. record { subsystems = h.subsystems; jobs = h.jobs };
-  ends = λ reply change started evokes power p e told. absurd (cc);
+  ends = λ reply change started stopped evokes power p e told. absurd (cc);
+  uses = λ reply change p u. used_due s change u n h;
+  waits = λ place evokes. record { subsystems = h.subsystems; jobs = h.jobs };
+  prestarts = λ q d e can. (prestart_keeps IsQuietly s q d e can supplied_quietly (record { names = names; none = record { subsystems = h.subsystems; jobs = h.jobs } })).none;
   kills = λ m j i k. kill_due s j.serial h;
   makes = λ o c told. record { subsystems = h.subsystems; jobs = h.jobs };
 }

@@ -14,8 +14,8 @@ use Rattle.wm_desc.specs.declared.description.Sbsd.{Sbsd}
 use Rattle.wm_desc.specs.declared.entry.PreEntry.{PreEntry}
 use Rattle.wm_law.specs.declared.job.Job.{Job}
 use Rattle.wm_law.specs.declared.state.State.{State}
-use Rattle.wm_law.specs.Counts.{count_in_sbs, is_active, is_in_sbs}
-use Rattle.wm_law.specs.Prestart.{count_available, count_from_pre, is_available_in, is_from_pre, is_lacking, is_stopped, least_multiple, left_by, make_pre, make_pres, new_pre_job, next_round, room, RoundsReplenish}
+use Rattle.wm_law.specs.Counts.{count_from_pre, count_in_sbs, is_active, is_from_pre, is_in_sbs}
+use Rattle.wm_law.specs.Prestart.{count_available, is_available_in, is_lacking, is_stopped, least_multiple, left_by, make_pre, make_pres, new_pre_job, next_round, room, RoundsReplenish}
 use Rattle.wm_law.specs.Submitting.{numbers_left}
 use Rattle.wm_law.proofs.Counted.{count_last}
 use Rattle.wm_law.proofs.Multiples.{multiple-enough, multiple-more, multiple-one}
@@ -25,7 +25,7 @@ left-min : (l : Limit) (c k x : ℕ) → left_by l c (min k x) ≡ min k (left_b
 left-min NoMax c k x = refl
 left-min (Most m) c k x = omega arith
 
-left-few : (l : Limit) (c x : ℕ) → left_by l c x ≤ x
+pub left-few : (l : Limit) (c x : ℕ) → left_by l c x ≤ x
 left-few NoMax c x = omega arith
 left-few (Most m) c x = omega arith
 
@@ -54,10 +54,10 @@ numbers-by (suc n) k a b some =
     omega (arith, now, then, some)
 
 -- a job less can be made
-numbers-less : (sbs pgm : QName) (s : State) → 0 < numbers_left s → numbers_left (make_pre sbs pgm s) ≡ numbers_left s - 1
+pub numbers-less : (sbs pgm : QName) (s : State) → 0 < numbers_left s → numbers_left (make_pre sbs pgm s) ≡ numbers_left s - 1
 numbers-less sbs pgm s some = numbers-by s.next_number s.next_serial 1000000 1000000000000000000 some
 
-itself : (q : QName) → same_qname q q ≡ true
+pub itself : (q : QName) → same_qname q q ≡ true
 itself q = rw (bytes-itself q.lib, bytes-itself q.name) refl
 
 -- a round and what is left to make are what is made at once: at most w, while fewer than t are there
@@ -105,13 +105,13 @@ module _ (t step : ℕ) (some : 0 < step) where
 
 module _ (sbs : QName) (d : Sbsd) (e : PreEntry) where
   -- how many jobs can be made
-  abbrev left : State → ℕ
+  abbrev pub left : State → ℕ
   left s = left_by d.maxjobs (count_in_sbs sbs s.jobs) (left_by e.maxjobs (count_from_pre sbs e.pgm s.jobs) (numbers_left s))
 
   abbrev ready : State → ℕ
   ready s = count_available sbs e.pgm s.jobs
 
-  room-is : (s : State) (k : ℕ) → room s sbs d e k ≡ min k (left s)
+  pub room-is : (s : State) (k : ℕ) → room s sbs d e k ≡ min k (left s)
   room-is s k =
       ap (left_by d.maxjobs (count_in_sbs sbs s.jobs)) (left-min e.maxjobs (count_from_pre sbs e.pgm s.jobs) k (numbers_left s))
       ∙ left-min d.maxjobs (count_in_sbs sbs s.jobs) k (left_by e.maxjobs (count_from_pre sbs e.pgm s.jobs) (numbers_left s))
@@ -125,10 +125,10 @@ module _ (sbs : QName) (d : Sbsd) (e : PreEntry) where
   one-more : (p : Job → Bool) (s : State) → p (new s) ≡ true → count_by p (make_pre sbs e.pgm s).jobs ≡ count_by p s.jobs + 1
   one-more p s is = count_last p s.jobs (new s) ∙ ap (λ b. count_by p s.jobs + cond b 1 0) is
 
-  ready-more : (s : State) → ready (make_pre sbs e.pgm s) ≡ ready s + 1
+  pub ready-more : (s : State) → ready (make_pre sbs e.pgm s) ≡ ready s + 1
   ready-more s = one-more (is_available_in sbs e.pgm) s (ap (λ b. b && true) (named s))
 
-  left-made : (s : State) → 0 < left s → left (make_pre sbs e.pgm s) ≡ left s - 1
+  pub left-made : (s : State) → 0 < left s → left (make_pre sbs e.pgm s) ≡ left s - 1
   left-made s some =
       let n : ℕ = numbers_left s in
       let inner : ℕ = left_by e.maxjobs (count_from_pre sbs e.pgm s.jobs) n in
@@ -139,17 +139,17 @@ module _ (sbs : QName) (d : Sbsd) (e : PreEntry) where
       left-less d.maxjobs (count_in_sbs sbs (make_pre sbs e.pgm s).jobs) (count_in_sbs sbs s.jobs) inner (left_by e.maxjobs (count_from_pre sbs e.pgm (make_pre sbs e.pgm s).jobs) (numbers_left (make_pre sbs e.pgm s))) some in-sbs
       (left-less e.maxjobs (count_from_pre sbs e.pgm (make_pre sbs e.pgm s).jobs) (count_from_pre sbs e.pgm s.jobs) n (numbers_left (make_pre sbs e.pgm s)) inner-some in-entry (numbers-less sbs e.pgm s n-some))
 
-  ready-made : (n : ℕ) (s : State) → ready (make_pres sbs e.pgm n s) ≡ ready s + n
+  pub ready-made : (n : ℕ) (s : State) → ready (make_pres sbs e.pgm n s) ≡ ready s + n
   ready-made zero s = omega arith
   ready-made (suc n) s = omega (arith, ready-made n (make_pre sbs e.pgm s), ready-more s)
 
-  left-after : (n : ℕ) (s : State) → n ≤ left s → left (make_pres sbs e.pgm n s) ≡ left s - n
+  pub left-after : (n : ℕ) (s : State) → n ≤ left s → left (make_pres sbs e.pgm n s) ≡ left s - n
   left-after zero s le = omega arith
   left-after (suc n) s le =
       let one = left-made s (omega (arith, le)) in
       omega (arith, one, left-after n (make_pre sbs e.pgm s) (omega (arith, one, le)))
 
-  made-both : (m n k : ℕ) (s : State) → n + m ≡ k → make_pres sbs e.pgm m (make_pres sbs e.pgm n s) ≡ make_pres sbs e.pgm k s
+  pub made-both : (m n k : ℕ) (s : State) → n + m ≡ k → make_pres sbs e.pgm m (make_pres sbs e.pgm n s) ≡ make_pres sbs e.pgm k s
   made-both m zero k s is = let same : m ≡ k = omega (arith, is) in ap (λ i. make_pres sbs e.pgm i s) same
   made-both m (suc n) zero s is = absurd (omega (arith, is))
   made-both m (suc n) (suc k) s is = made-both m n k (make_pre sbs e.pgm s) (omega (arith, is))

@@ -2,7 +2,6 @@
 use Rattle.std.proofs.Common.{◌≡◌, ◌⊎◌, ℕ, ◌<◌, ◌++◌, ◌==◌, List, [], ◌∷◌, map, Option, Some, None, refl, sym, subst, inl, inr}
 use Rattle.std.specs.List.{find}
 use Rattle.wm_base.specs.Iterate.{IsKept}
-use Rattle.wm_base.proofs.Iterate.{iterate-keeps}
 use Rattle.wm_law.specs.declared.call.Call.{Call}
 use Rattle.wm_law.specs.declared.choice.Candidate.{Candidate}
 use Rattle.wm_law.specs.declared.job.Job.{Job}
@@ -12,15 +11,16 @@ use Rattle.wm_law.specs.Choice.{next}
 use Rattle.wm_law.specs.Kept.{IsBelow, IsNumbered}
 use Rattle.wm_law.specs.Launch.{as_launched, launch, with_routed, routed_from_queue}
 use Rattle.wm_law.specs.Laws.{IsIn}
-use Rattle.wm_law.specs.Machine.{apply, step, with_clock}
+use Rattle.wm_law.specs.Machine.{step, apply}
 use Rattle.wm_law.specs.Reports.{in_phase}
-use Rattle.wm_law.specs.Settling.{come_due, leave, waiting}
 use Rattle.wm_law.specs.Sound.{HasJobsInOrder, IsIncreasing}
 use Rattle.wm_law.specs.Submitting.{submitted_job}
 use Rattle.wm_law.proofs.Changed.{keys_kept}
-use Rattle.wm_law.proofs.Endings.{keys_same}
-use Rattle.wm_law.proofs.Moves.{HoldsOfStates, call_keeps, comes_due}
-use Rattle.wm_law.proofs.Numbers.{calls, clock_keeps, serials_stay}
+use Rattle.wm_law.proofs.Endings.{keys_same, using}
+use Rattle.wm_law.proofs.Moves.{HoldsOfStates, autos_made, IsKeptByParts, step_keeps, call_keeps}
+use Rattle.wm_law.proofs.Numbers.{calls, clock_keeps, serials_stay, auto_keeps, begun_keeps, only_started, launches_keep}
+use Rattle.wm_law.specs.Jobs.{active_at}
+use Rattle.wm_law.specs.Prestart.{new_pre_job, with_evoke}
 
 abbrev serials : List Job → List ℕ
 serials jobs = map (λ j. j.serial) jobs
@@ -57,21 +57,33 @@ calls_increase s l =
     let h = l.increasing in
     record {
       stays = l;
-      starts = λ q e. record { numbered = n.starts q e; increasing = h };
-      autos = λ q t e d m k. record { numbered = n.autos q t e d m k.numbered; increasing = last_increasing t.jobs (routed_auto t q (auto_job t e d)) k.numbered.serials.below k.increasing };
+      starts = λ q e. autos_made IsInLine s q e
+          (λ t x d m k. record { numbered = auto_keeps q t x d m k.numbered; increasing = last_increasing t.jobs (routed_auto t q (auto_job t x d)) k.numbered.serials.below k.increasing })
+          (record { numbered = begun_keeps s q l.numbered; increasing = h });
+      supplies = record {
+        makes = λ q d e t can k. record { numbered = n.supplies.makes q d e t can k.numbered; increasing = last_increasing t.jobs (new_pre_job t q e.pgm) k.numbered.serials.below k.increasing };
+        assigns = λ t q pgm job evokes can k. record { numbered = n.supplies.assigns t q pgm job evokes can k.numbered; increasing = subst IsIncreasing (sym (keys_same (active_at job.serial with_evoke) (using job.serial) (λ (x : Job). x.serial) (λ x p w u e. refl) t.jobs)) k.increasing };
+      };
       enters = λ user c d due has. record { numbered = n.enters user c d due has; increasing = last_increasing s.jobs (submitted_job s user c d due) l.numbered.serials.below h };
       alters = λ change place a. record { numbered = n.alters change place a; increasing = subst IsIncreasing (sym (serials_stay s change place a)) h };
       holds = λ held a. record { numbered = n.holds held a; increasing = h };
-      moves = λ serial j phase i e r k. record { numbered = n.moves serial j phase i e r k; increasing = subst IsIncreasing (sym (keys_kept (λ (x : Job). x.serial) serial (in_phase phase) (λ x. refl) s.jobs)) h };
-      ends = λ change started evokes power e. record { numbered = n.ends change started evokes power e; increasing = subst IsIncreasing (sym (keys_same change e.jobs (λ (x : Job). x.serial) (λ x p w. refl) s.jobs)) h };
+      lists = λ stopped evokes. record { numbered = n.lists stopped evokes; increasing = h };
+      moves = λ serial j phase stopped i e r k. record { numbered = n.moves serial j phase stopped i e r k; increasing = subst IsIncreasing (sym (keys_kept (λ (x : Job). x.serial) serial (in_phase phase) (λ x. refl) s.jobs)) h };
+      ends = λ change started stopped evokes power e. record { numbered = n.ends change started stopped evokes power e; increasing = subst IsIncreasing (sym (keys_same change e.jobs (λ (x : Job). x.serial) (λ x p w u e. refl) s.jobs)) h };
       makes = λ o c. record { numbered = n.makes o c; increasing = h };
     }
 
+parts : IsKeptByParts IsInLine
+parts = record {
+  clock = λ s moment l. record { numbered = clock_keeps s moment l.numbered; increasing = l.increasing };
+  calls = calls_increase;
+  leaves = λ s l. record { numbered = only_started s l.numbered; increasing = l.increasing };
+  launches = record { by_step = λ t c e l. record { numbered = launches_keep.by_step t c e l.numbered; increasing = launches_increase.by_step t c e l.increasing } };
+}
+
 pub step_keeps_jobs_in_order : (s : State) (caller : ℕ) (call : Call) (moment : ℕ) → IsNumbered s → HasJobsInOrder s → HasJobsInOrder (step s caller call moment).state
-unfolding step
-step_keeps_jobs_in_order s caller call moment n h =
-    let c = with_clock s moment in
-    let t = (apply c caller call).state in
-    let called : IsInLine t = call_keeps IsInLine c caller call (calls_increase c (record { numbered = clock_keeps s moment n; increasing = h })) in
-    let due : IsInLine (come_due t) = comes_due IsInLine t (calls_increase t called) in
-    iterate-keeps HasJobsInOrder launches_increase (waiting (leave (come_due t))) (leave (come_due t)) due.increasing
+step_keeps_jobs_in_order s caller call moment n h = (step_keeps IsInLine parts s caller call moment (record { numbered = n; increasing = h })).increasing
+
+-- so they do before the state settles
+pub apply_keeps_jobs_in_order : (s : State) (caller : ℕ) (call : Call) → IsNumbered s → HasJobsInOrder s → HasJobsInOrder (apply s caller call).state
+apply_keeps_jobs_in_order s caller call n h = (call_keeps IsInLine s caller call (calls_increase s (record { numbered = n; increasing = h }))).increasing

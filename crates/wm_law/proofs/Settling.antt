@@ -19,7 +19,7 @@ use Rattle.wm_law.specs.Launch.{route, route_fault, from_queue, starts_unless, r
 use Rattle.wm_law.specs.Jobs.{changed_at}
 use Rattle.wm_base.proofs.Iterate.{iterate-none, iterate-step, next-iterate}
 use Rattle.wm_law.specs.Laws.{IsIn, SettledHasNoNext, SettledLeavesNone}
-use Rattle.wm_law.specs.Settling.{come_due, waiting, start_jobs, leave, settle}
+use Rattle.wm_law.specs.Settling.{waiting, start_jobs, settle, ready}
 use Rattle.wm_law.proofs.Firsts.{first_waits, next_waits, no_next_is_none}
 
 by_cause : (how : ℕ → How) (seq : ℕ) (cause : Option EndCause) → is_waiting (starts_unless how seq cause).phase ≡ false
@@ -102,7 +102,7 @@ pub start_jobs-none : (s : State) → next s ≡ None → start_jobs s ≡ s
 start_jobs-none s e = iterate-none next (λ c t. launch t c) (waiting s) s e
 
 pub settled_has_no_next : SettledHasNoNext
-settled_has_no_next s = next-iterate launches_lessen (waiting (leave (come_due s))) (leave (come_due s)) (omega arith)
+settled_has_no_next s = next-iterate launches_lessen (waiting (ready s)) (ready s) (omega arith)
 
 pub settled_leaves_none : SettledLeavesNone
 settled_leaves_none s j t i m = no_next_is_none (settle s) (settled_has_no_next s) j t i m

@@ -73,7 +73,7 @@ step_keeps_sound s caller call moment h = record {
   numbered = step_keeps_numbers s caller call moment h.numbered;
   jobs = step_keeps_jobs_in_order s caller call moment h.numbered h.jobs;
   places = step_keeps_places s caller call moment h.numbered h.queues h.places;
-  orders = step_keeps_orders s caller call moment h.numbered h.orders;
+  orders = step_keeps_orders s caller call moment h.numbered h.objects h.orders;
   names = step_keeps_names_distinct s caller call moment h.names;
   descriptions = step_keeps_descriptions s caller call moment h.descriptions;
   quiet = step_keeps_quiet s caller call moment h.quiet;
@@ -113,10 +113,10 @@ pub autostart_jobs_never_wait : AutostartJobsNeverWait
 autostart_jobs_never_wait s h j sound i a = never_waits (is_waiting j.phase) j.kind ((states_are_sound s h sound).queues j i).waits a
 
 pub step_keeps_limits : StepKeepsLimits
-step_keeps_limits s caller call moment h = step_limits s caller call moment h.numbered h.orders
+step_keeps_limits s caller call moment h = step_limits s caller call moment (record { numbered = h.numbered; objects = h.objects; orders = h.orders })
 
 pub limits_are_kept : LimitsAreKept
-limits_are_kept s h sound = limits_kept s h sound.numbered sound.orders
+limits_are_kept s h sound = limits_kept s h (record { numbered = sound.numbered; objects = sound.objects; orders = sound.orders })
 
 pub step_keeps_order : StepKeepsOrder
 step_keeps_order s caller call moment h = step_order s caller call moment h.numbered h.queues

@@ -31,9 +31,9 @@ use Rattle.wm_law.specs.Opening.{crtjobd_qbatch, crtjobd_qdftjobd, opening}
 use Rattle.wm_law.specs.Settling.{is_gone}
 use Rattle.wm_law.specs.Sound.{IsWithinStarted}
 use Rattle.wm_law.specs.Subsystems.{max_started}
-use Rattle.wm_law.proofs.Moves.{HoldsOfStates, IsKeptByParts, step_keeps}
+use Rattle.wm_law.proofs.Moves.{HoldsOfStates, IsKeptByParts, step_keeps, autos_made}
 use Rattle.wm_law.proofs.Opened.{batch_sbsd, opened, opening_is, opening_objects}
-use Rattle.wm_law.proofs.Orders.{only_sbsd}
+use Rattle.wm_law.proofs.Opened.{only_sbsd}
 
 -- the objects of a state are sound
 abbrev HasSoundObjects : State → Type 0
@@ -46,13 +46,14 @@ launched_sound s c (Some j) h = h
 sound_calls : (s : State) → HasSoundObjects s → HoldsOfStates HasSoundObjects s
 sound_calls s h = record {
   stays = h;
-  starts = λ q e. h;
-  autos = λ q t e d m k. k;
+  starts = λ q e. autos_made HasSoundObjects s q e (λ t x d m k. k) h;
+  supplies = record { makes = λ q d e t can k. k; assigns = λ t q pgm job evokes can k. k };
   enters = λ user c d due a. h;
   alters = λ change place a. h;
   holds = λ held a. h;
-  moves = λ serial j phase i e r n. h;
-  ends = λ change started evokes power e. h;
+  lists = λ stopped evokes. h;
+  moves = λ serial j phase stopped i e r n. h;
+  ends = λ change started stopped evokes power e. h;
   makes = λ o c. c.sound h;
 }
 
@@ -132,13 +133,14 @@ length_same bs cs e = sym (length-map bs (λ (b : Sbs). b.sbsd)) ∙ ap (λ (qs 
 within_calls : (s : State) → IsWithinStarted s → HoldsOfStates IsWithinStarted s
 within_calls s h = record {
   stays = h;
-  starts = λ q e. one_more s.started (record { sbsd = q; phase = Active }) e.room;
-  autos = λ q t e d m k. k;
+  starts = λ q e. autos_made IsWithinStarted s q e (λ t x d m k. k) (one_more s.started (record { sbsd = q; phase = Active }) e.room);
+  supplies = record { makes = λ q d e t can k. k; assigns = λ t q pgm job evokes can k. k };
   enters = λ user c d due a. h;
   alters = λ change place a. h;
   holds = λ held a. h;
-  moves = λ serial j phase i e r n. h;
-  ends = λ change started evokes power e. subst (λ (n : ℕ). n ≤ max_started) (sym (length_same started s.started e.subsystems.names)) h;
+  lists = λ stopped evokes. h;
+  moves = λ serial j phase stopped i e r n. h;
+  ends = λ change started stopped evokes power e. subst (λ (n : ℕ). n ≤ max_started) (sym (length_same started s.started e.subsystems.names)) h;
   makes = λ o c. h;
 }
 

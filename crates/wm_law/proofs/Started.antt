@@ -16,7 +16,7 @@ use Rattle.wm_law.specs.Laws.{IsIn}
 use Rattle.wm_law.specs.Subsystems.{begun, is_started}
 use Rattle.wm_law.specs.Settling.{is_gone}
 use Rattle.wm_law.proofs.Distinct.{distinct_last, distinct_left}
-use Rattle.wm_law.proofs.Moves.{HoldsOfStates, IsKeptByParts, step_keeps, after_keeps}
+use Rattle.wm_law.proofs.Moves.{HoldsOfStates, IsKeptByParts, step_keeps, after_keeps, autos_made}
 use Rattle.wm_law.proofs.Opened.{opening_is}
 
 abbrev name_of : Sbs → List ℕ
@@ -31,8 +31,8 @@ not_among name (b ∷ bs) e (inl same) =
     absurd (cc)
 not_among name (b ∷ bs) e (inr i) = not_among name bs (or_parts (pointwise nat_eq b.sbsd.name name) (list_any (λ (b : Sbs). pointwise nat_eq b.sbsd.name name) bs) e).1 i
 
-started : (s : State) (q : QName) → is_started s q.name ≡ false → HasDistinctNames s → HasDistinctNames (begun s q)
-started s q fresh h = distinct_last name_of (record { sbsd = q; phase = Active }) s.started (not_among q.name s.started fresh) h
+pub begun_names : (s : State) (q : QName) → is_started s q.name ≡ false → HasDistinctNames s → HasDistinctNames (begun s q)
+begun_names s q fresh h = distinct_last name_of (record { sbsd = q; phase = Active }) s.started (not_among q.name s.started fresh) h
 
 pub launched : (s : State) (c : Candidate) (o : Option Job) → HasDistinctNames s → HasDistinctNames (with_routed s c o)
 launched s c None h = h
@@ -48,13 +48,14 @@ names_same bs cs e = names_by bs ∙ ap (map (λ (q : QName). q.name)) e ∙ sym
 pub calls : (s : State) → HasDistinctNames s → HoldsOfStates HasDistinctNames s
 calls s h = record {
   stays = h;
-  starts = λ q e. started s q e.fresh h;
-  autos = λ q t e d m k. k;
+  starts = λ q e. autos_made HasDistinctNames s q e (λ t x d m k. k) (begun_names s q e.fresh h);
+  supplies = record { makes = λ q d e t can k. k; assigns = λ t q pgm job evokes can k. k };
   enters = λ user c d due has. h;
   alters = λ change place a. h;
   holds = λ held a. h;
-  moves = λ serial j phase i e r n. h;
-  ends = λ change started evokes power e. subst IsDistinct (sym (names_same started s.started e.subsystems.names)) h;
+  lists = λ stopped evokes. h;
+  moves = λ serial j phase stopped i e r n. h;
+  ends = λ change started stopped evokes power e. subst IsDistinct (sym (names_same started s.started e.subsystems.names)) h;
   makes = λ o e. h;
 }
 

@@ -1,5 +1,5 @@
 -- A legal history orders no serial to start twice, and none to be killed twice.
-use Rattle.std.proofs.Common.{◌≡◌, ℕ, ◌≤◌, ◌==◌, ◌&&◌, Bool, true, false, cond, map, List, Option, Some, None, refl, sym, ap, subst, ◌∙◌, arith}
+use Rattle.std.proofs.Common.{◌≡◌, ℕ, ◌≤◌, ◌==◌, ◌&&◌, Bool, true, false, cond, map, List, Option, Some, None, refl, sym, ap, subst, ◌∙◌, arith, []}
 use Rattle.std.specs.Option.{option_and_then}
 use Rattle.std.proofs.lemmas.Bool.{eq-eqb, and_parts}
 use Rattle.wm_base.specs.declared.job.Asked.{Asked}
@@ -23,7 +23,7 @@ use Rattle.wm_law.specs.declared.state.State.{State}
 use Rattle.wm_law.specs.Counts.{is_active, is_starting}
 use Rattle.wm_law.specs.Jobs.{active_at, with_active}
 use Rattle.wm_law.specs.Kept.{IsLater, phase_rank, wish_rank, start_told, kill_told, SerialsStartOnce, SerialsAreKilledOnce}
-use Rattle.wm_law.specs.Launch.{order_of, order_by, order_through, order_called, order_with, route_entry, called_program, called_args}
+use Rattle.wm_law.specs.Launch.{order_of, order_by, order_through, order_called, order_with, route_entry, called_program, called_args, order_pre, pre_entry}
 use Rattle.wm_law.specs.Laws.{IsIn}
 use Rattle.wm_law.specs.Stepped.{Stepped}
 use Rattle.wm_law.specs.Reports.{in_phase, is_run_by, is_to_kill, with_kill, with_phase}
@@ -34,15 +34,20 @@ use Rattle.wm_law.proofs.Changed.{in_changed}
 use Rattle.wm_law.proofs.Members.{in_mapped}
 use Rattle.wm_law.proofs.Moves.{HoldsAfterCalls, starting_rank}
 use Rattle.wm_law.proofs.Once.{Orders, orders_once, told}
+use Rattle.wm_desc.specs.declared.entry.PreEntry.{PreEntry}
 
-with_serial : (j : Job) (args : List (List ℕ)) (p : Option Program) (c : Option Class) (o : StartOrder) → order_with j args p c ≡ Some o → o.serial ≡ j.serial
-with_serial j args None c o e = absurd (cc)
-with_serial j args (Some p) None o e = absurd (cc)
-with_serial j args (Some p) (Some c) o e = cc
+with_serial : (pre : Bool) (j : Job) (args : List (List ℕ)) (p : Option Program) (c : Option Class) (o : StartOrder) → order_with pre j args p c ≡ Some o → o.serial ≡ j.serial
+with_serial pre j args None c o e = absurd (cc)
+with_serial pre j args (Some p) None o e = absurd (cc)
+with_serial pre j args (Some p) (Some c) o e = cc
+
+pre_serial : (s : State) (j : Job) (n : Option PreEntry) (o : StartOrder) → order_pre s j n ≡ Some o → o.serial ≡ j.serial
+pre_serial s j None o e = absurd (cc)
+pre_serial s j (Some n) o e = with_serial true j [] (object_named n.pgm s.objects.programs) (object_named n.cls s.objects.classes) o e
 
 called_serial : (s : State) (j : Job) (n : RouteEntry) (q : Option QName) (o : StartOrder) → order_called s j n q ≡ Some o → o.serial ≡ j.serial
 called_serial s j n None o e = absurd (cc)
-called_serial s j n (Some q) o e = with_serial j (called_args n j.rqsdta) (object_named q s.objects.programs) (object_named n.cls s.objects.classes) o e
+called_serial s j n (Some q) o e = with_serial false j (called_args n j.rqsdta) (object_named q s.objects.programs) (object_named n.cls s.objects.classes) o e
 
 through_serial : (s : State) (j : Job) (n : Option RouteEntry) (o : StartOrder) → order_through s j n ≡ Some o → o.serial ≡ j.serial
 through_serial s j None o e = absurd (cc)
@@ -53,7 +58,7 @@ pub by_serial : (s : State) (j : Job) (h : How) (o : StartOrder) → order_by s 
 by_serial s j NotYet o e = absurd (cc)
 by_serial s j (FromQueue sbs jobq pty seq) o e = through_serial s j (route_entry s sbs seq) o e
 by_serial s j (Auto sbs seq) o e = through_serial s j (route_entry s sbs seq) o e
-by_serial s j (Pre sbs pgm) o e = absurd (cc)
+by_serial s j (Pre sbs pgm) o e = pre_serial s j (pre_entry s sbs pgm) o e
 
 -- what a reply orders to start was handed
 abbrev Hands : State → Stepped → Type 0
@@ -76,12 +81,15 @@ hands_over s call = record {
   nothing = λ n x e. absurd (cc);
   notes = λ x e. absurd (cc);
   hands = handed_one s;
-  reports = λ serial j phase i k r n x e. absurd (cc);
+  reports = λ serial j phase stopped i k r n x e. absurd (cc);
   starts = λ q k x e. absurd (cc);
   enters = λ user c d due has x e. absurd (cc);
   alters = λ reply change place p a x e. absurd (none_told start_told reply p x e);
   holds = λ reply held p a told x e. absurd (none_told start_told reply p x e);
-  ends = λ reply change started evokes power p a told x e. absurd (none_told start_told reply p x e);
+  ends = λ reply change started stopped evokes power p a told x e. absurd (none_told start_told reply p x e);
+  uses = λ reply change p u x e. absurd (none_told start_told reply p x e);
+  waits = λ place evokes x e. absurd (cc);
+  prestarts = λ q d y can x e. absurd (cc);
   kills = λ m j i k x e. absurd (cc);
   makes = λ o c told x e. absurd (cc);
 }
@@ -139,12 +147,15 @@ kills_over s call = record {
   nothing = λ n x e. absurd (cc);
   notes = λ x e. absurd (cc);
   hands = λ m j o i k f x e. absurd (no_kill s j o x e);
-  reports = λ serial j phase i k r n x e. absurd (cc);
+  reports = λ serial j phase stopped i k r n x e. absurd (cc);
   starts = λ q k x e. absurd (cc);
   enters = λ user c d due has x e. absurd (cc);
   alters = λ reply change place p a x e. absurd (none_told kill_told reply p x e);
   holds = λ reply held p a told x e. absurd (none_told kill_told reply p x e);
-  ends = λ reply change started evokes power p a told x e. absurd (none_told kill_told reply p x e);
+  ends = λ reply change started stopped evokes power p a told x e. absurd (none_told kill_told reply p x e);
+  uses = λ reply change p u x e. absurd (none_told kill_told reply p x e);
+  waits = λ place evokes x e. absurd (cc);
+  prestarts = λ q d y can x e. absurd (cc);
   kills = λ m j i k. killed_one s m j i k;
   makes = λ o c told x e. absurd (cc);
 }

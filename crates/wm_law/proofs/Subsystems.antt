@@ -21,7 +21,7 @@ use Rattle.wm_law.specs.Settling.{is_gone}
 use Rattle.wm_law.proofs.Endings.{AreEnded, IsEnding}
 use Rattle.wm_law.proofs.Members.{of_last, left_in}
 use Rattle.wm_law.proofs.Opened.{opened, opening_is}
-use Rattle.wm_law.proofs.Moves.{HoldsOfStates, IsKeptByParts, step_keeps, after_keeps}
+use Rattle.wm_law.proofs.Moves.{HoldsOfStates, IsKeptByParts, step_keeps, after_keeps, autos_made}
 
 described : (s : State) (q : QName) → IsSome (object_named q s.objects.sbsds) → HasDescriptions s → HasDescriptions (begun s q)
 described s q there h b i =
@@ -43,13 +43,14 @@ described_ended s started e h b i =
 described_calls : (s : State) → HasDescriptions s → HoldsOfStates HasDescriptions s
 described_calls s h = record {
   stays = h;
-  starts = λ q e. described s q e.there h;
-  autos = λ q t e d m k. k;
+  starts = λ q e. autos_made HasDescriptions s q e (λ t x d m k. k) (described s q e.there h);
+  supplies = record { makes = λ q d e t can k. k; assigns = λ t q pgm job evokes can k. k };
   enters = λ user c d due has. h;
   alters = λ change place a. h;
   holds = λ held a. h;
-  moves = λ serial j phase i e r n. h;
-  ends = λ change started evokes power e b i. described_ended s started e.subsystems h b i;
+  lists = λ stopped evokes. h;
+  moves = λ serial j phase stopped i e r n. h;
+  ends = λ change started stopped evokes power e b i. described_ended s started e.subsystems h b i;
   makes = λ o e b i. subst (λ (d : Option Sbsd). IsSome d) (sym (e.described b i (h b i))) (h b i);
 }
 
@@ -82,13 +83,14 @@ quiet_ended s change started power e h off b i =
 quiet_calls : (s : State) → IsQuiet s → HoldsOfStates IsQuiet s
 quiet_calls s h = record {
   stays = h;
-  starts = λ q e off b i. (let on = e.on in absurd (cc));
-  autos = λ q t e d m k. k;
+  starts = λ q e. autos_made IsQuiet s q e (λ t x d m k. k) (λ off b i. (let on = e.on in absurd (cc)));
+  supplies = record { makes = λ q d e t can k. k; assigns = λ t q pgm job evokes can k. k };
   enters = λ user c d due has. h;
   alters = λ change place a. h;
   holds = λ held a. h;
-  moves = λ serial j phase i e r n. h;
-  ends = λ change started evokes power e off b i. quiet_ended s change started power e h off b i;
+  lists = λ stopped evokes. h;
+  moves = λ serial j phase stopped i e r n. h;
+  ends = λ change started stopped evokes power e off b i. quiet_ended s change started power e h off b i;
   makes = λ o e. h;
 }
 

@@ -11,7 +11,7 @@ use Rattle.wm_law.specs.declared.state.SbsPhase.TheVariants.{Active}
 use Rattle.wm_law.specs.declared.state.State.{State}
 use Rattle.wm_law.specs.Autos.{auto_job, routed_auto}
 use Rattle.wm_law.specs.Counts.{is_waiting}
-use Rattle.wm_law.specs.Jobs.{changed_at}
+use Rattle.wm_law.specs.Jobs.{changed_at, active_at}
 use Rattle.wm_law.specs.Launch.{as_launched, with_routed, routed_from_queue}
 use Rattle.wm_law.specs.Laws.{IsIn}
 use Rattle.wm_law.specs.Machine.{step}
@@ -22,12 +22,13 @@ use Rattle.wm_law.specs.Sound.{HasMoments, HasWishes, IsMoment, IsWished}
 use Rattle.wm_law.specs.Submitting.{submitted_job}
 use Rattle.wm_law.specs.Wishes.{has_wish, wish_moment}
 use Rattle.wm_law.proofs.Alterations.{IsAltered, each_altered}
-use Rattle.wm_law.proofs.Endings.{AreEnded, IsWishing, was_waiting}
+use Rattle.wm_law.proofs.Endings.{AreEnded, IsWishing, was_waiting, using}
 use Rattle.wm_law.proofs.Members.{left_in, of_last, of_mapped}
-use Rattle.wm_law.proofs.Moves.{HoldsOfStates, IsKeptByParts, never_waits, step_keeps}
+use Rattle.wm_law.proofs.Moves.{HoldsOfStates, IsKeptByParts, never_waits, step_keeps, autos_made}
 use Rattle.wm_law.proofs.Opened.{opened, opening_is}
 use Rattle.wm_law.proofs.Settling.{not_waiting}
 use Rattle.wm_law.proofs.InTurn.{not_active}
+use Rattle.wm_law.specs.Prestart.{new_pre_job, with_evoke}
 
 -- a change after which a job doesn't wait, and which leaves its wish
 record LeavesWishes (change : Job → Job) : Type 0 where
@@ -81,17 +82,21 @@ launched_wished s c (Some j) h = all_changed s.jobs c.serial (as_launched (route
 pub wished_calls : (s : State) → HasWishes s → HoldsOfStates HasWishes s
 wished_calls s h = record {
   stays = h;
-  starts = λ q e. h;
-  autos = λ q t e d m k. last_wished t.jobs (routed_auto t q (auto_job t e d)) (record { waits = λ w. refl; moment = tt }) k;
+  starts = λ q e. autos_made HasWishes s q e (λ t x d m k. last_wished t.jobs (routed_auto t q (auto_job t x d)) (record { waits = λ w. refl; moment = tt }) k) h;
+  supplies = record {
+    makes = λ q d e t can k. last_wished t.jobs (new_pre_job t q e.pgm) (record { waits = λ w. refl; moment = tt }) k;
+    assigns = λ t q pgm job evokes can k. all_given t.jobs (active_at job.serial with_evoke) (using job.serial) k;
+  };
   enters = λ user c d due a. last_wished s.jobs (submitted_job s user c d due) (record { waits = λ w. refl; moment = tt }) h;
   alters = λ change place a. each_altered IsWished s change place a h (λ j k i b. altered_wished s j k b (h j i));
   holds = λ held a. h;
-  moves = λ serial j phase i e r n. all_changed s.jobs serial (in_phase phase) (record { wish = λ k. refl; never = λ k. never_waits j.phase phase r.onward }) h;
-  ends = λ change started evokes power e. all_given s.jobs change e.jobs h;
+  lists = λ stopped evokes. h;
+  moves = λ serial j phase stopped i e r n. all_changed s.jobs serial (in_phase phase) (record { wish = λ k. refl; never = λ k. never_waits j.phase phase r.onward }) h;
+  ends = λ change started stopped evokes power e. all_given s.jobs change e.jobs h;
   makes = λ o c. h;
 }
 
-wished_parts : IsKeptByParts HasWishes
+pub wished_parts : IsKeptByParts HasWishes
 wished_parts = record {
   clock = λ s moment h. h;
   calls = wished_calls;
@@ -128,13 +133,14 @@ launched_moments s c (Some j) h = h
 moments_calls : (s : State) → HasMoments s → HoldsOfStates HasMoments s
 moments_calls s h = record {
   stays = h;
-  starts = λ q e. begun_moments s.started q h;
-  autos = λ q t e d m k. k;
+  starts = λ q e. autos_made HasMoments s q e (λ t x d m k. k) (begun_moments s.started q h);
+  supplies = record { makes = λ q d e t can k. k; assigns = λ t q pgm job evokes can k. k };
   enters = λ user c d due a. h;
   alters = λ change place a. h;
   holds = λ held a. h;
-  moves = λ serial j phase i e r n. h;
-  ends = λ change started evokes power e. ended_moments s.started started e.subsystems h;
+  lists = λ stopped evokes. h;
+  moves = λ serial j phase stopped i e r n. h;
+  ends = λ change started stopped evokes power e. ended_moments s.started started e.subsystems h;
   makes = λ o c. h;
 }
 

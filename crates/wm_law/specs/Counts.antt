@@ -68,6 +68,13 @@ is_by_route q seq (FromQueue sbs jobq pty route) = same_qname sbs q && route == 
 is_by_route q seq (Auto sbs route) = same_qname sbs q && route == seq
 is_by_route q seq (Pre sbs pgm) = false
 
+-- whether it came by the subsystem's prestart entry for the program
+abbrev pub is_from_pre : QName → QName → How → Bool
+is_from_pre q program NotYet = false
+is_from_pre q program (FromQueue sbs jobq pty route) = false
+is_from_pre q program (Auto sbs route) = false
+is_from_pre q program (Pre sbs pgm) = same_qname sbs q && same_qname pgm program
+
 -- the active jobs whose how passes a test
 abbrev pub count_active : (How → Bool) → List Job → ℕ
 count_active test jobs = count_by (λ j. is_active j.phase && test j.how) jobs
@@ -87,3 +94,7 @@ count_from_priority q queue p jobs = count_active (is_from_priority q queue p) j
 -- how many active jobs came through the subsystem's routing entry of that number
 abbrev pub count_by_route : QName → ℕ → List Job → ℕ
 count_by_route q seq jobs = count_active (is_by_route q seq) jobs
+
+-- how many active jobs came by the subsystem's prestart entry for the program
+abbrev pub count_from_pre : QName → QName → List Job → ℕ
+count_from_pre sbs pgm jobs = count_active (is_from_pre sbs pgm) jobs

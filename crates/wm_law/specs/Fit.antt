@@ -1,4 +1,4 @@
--- Which calls keep the forms and ranges of their values, and which the machine has.
+-- Which calls keep the forms and ranges of their values.
 use Rattle.std.specs.Prelude.{◌≡◌, ℕ, ◌<◌, ◌≤◌, ◌^◌, List, length, Option, IfSome, IsTrue, ⊤}
 use Rattle.wm_base.specs.declared.job.Exit.{Exit}
 use Rattle.wm_base.specs.declared.job.Exit.TheVariants as exit
@@ -23,7 +23,6 @@ use Rattle.wm_law.specs.declared.command.Crtjobd.{Crtjobd}
 use Rattle.wm_law.specs.declared.command.JobRef.{JobRef}
 use Rattle.wm_law.specs.declared.command.JobRef.TheVariants.{Simple, ByUser, Full}
 use Rattle.wm_law.specs.declared.command.Sbmjob.{Sbmjob}
-use Rattle.wm_law.specs.Built.{is_built}
 use Rattle.wm_law.specs.Making.{class_of, jobd_of, pre_entry_of, queue_entry_of, route_entry_of}
 
 -- a qualified name is of two names
@@ -168,13 +167,3 @@ IsCall (StartFailed serial why) = IsSerial serial
 IsCall (Finished serial end) = IsSerial serial × IsExit end
 IsCall (UseDone serial) = IsSerial serial
 IsCall Tick = ⊤
-
--- the machine has every call of a monitor, and each command of users that is built
-abbrev pub HasCall : Call → Type 0
-HasCall (Change user c) = IsTrue (is_built c)
-HasCall Hand = ⊤
-HasCall (Started serial) = ⊤
-HasCall (StartFailed serial why) = ⊤
-HasCall (Finished serial end) = ⊤
-HasCall (UseDone serial) = ⊤
-HasCall Tick = ⊤

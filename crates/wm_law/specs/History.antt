@@ -6,9 +6,9 @@ use Rattle.wm_law.specs.declared.call.Call.{Call}
 use Rattle.wm_law.specs.declared.call.Call.TheVariants.{Change, Hand, Started, StartFailed, Finished, UseDone, Tick}
 use Rattle.wm_law.specs.declared.call.Entry.{Entry}
 use Rattle.wm_law.specs.declared.call.Reply.{Reply}
-use Rattle.wm_law.specs.declared.call.Reply.TheVariants.{Made, SbsStarted, SbsEnding, Submitted, Held, Released, Changed, JobEnding, JobEnded, QueueHeld, QueueReleased, QueueCleared, PowerDown, Order, Nothing, Noted, No}
+use Rattle.wm_law.specs.declared.call.Reply.TheVariants.{Made, SbsStarted, SbsEnding, Submitted, Held, Released, Changed, JobEnding, JobEnded, QueueHeld, QueueReleased, QueueCleared, PreStarted, PreEnding, Evoked, EvokeWaits, UseEnded, PowerDown, Order, Nothing, Noted, No}
 use Rattle.wm_law.specs.declared.state.State.{State}
-use Rattle.wm_law.specs.Fit.{IsCall, HasCall}
+use Rattle.wm_law.specs.Fit.{IsCall}
 use Rattle.wm_law.specs.Machine.{step}
 use Rattle.wm_law.specs.Stepped.{Stepped}
 
@@ -25,7 +25,6 @@ after s (e ∷ es) = after (stepped s e).state es
 pub record IsEntry (s : State) (e : Entry) : Type 0 where
   pub caller : e.caller < 2 ^ 32
   pub call : IsCall e.call
-  pub built : HasCall e.call
   pub moment : e.moment ≤ 253402214399
   pub reply : e.reply ≡ (stepped s e).reply
 
@@ -62,6 +61,11 @@ order_in (JobEnded job) = None
 order_in QueueHeld = None
 order_in QueueReleased = None
 order_in (QueueCleared count) = None
+order_in PreStarted = None
+order_in PreEnding = None
+order_in (Evoked job) = None
+order_in (EvokeWaits place) = None
+order_in (UseEnded job) = None
 order_in PowerDown = None
 order_in (Order asked) = Some asked
 order_in Nothing = None

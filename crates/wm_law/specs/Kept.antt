@@ -1,6 +1,6 @@
 -- What every step keeps: numbers that are given once, jobs that only go forward, orders of the jobs that are Starting, and
 -- names of started subsystems that are distinct; and in which order settling starts jobs.
-use Rattle.std.specs.Prelude.{◌≡◌, ◌↔◌, ◌⊎◌, Bool, ℕ, ℤ, ◌<◌, ◌≤◌, true, false, List, [], ◌∷◌, map, filter, fold, ⊤, Option, Some, None, if◌then◌else◌}
+use Rattle.std.specs.Prelude.{◌≡◌, ◌⊎◌, Bool, ℕ, ℤ, ◌<◌, ◌≤◌, true, false, List, [], ◌∷◌, map, filter, fold, ⊤, Option, Some, None, if◌then◌else◌}
 use Rattle.std.specs.List.{filter_map}
 use Rattle.std.specs.Option.{IsSome, option_and_then}
 use Rattle.std.specs.Ordering.{nat_cmp}
@@ -10,9 +10,7 @@ use Rattle.wm_base.specs.declared.job.EndCause.TheVariants as cause
 use Rattle.wm_base.specs.declared.job.Asked.TheVariants.{Start, Kill}
 use Rattle.wm_base.specs.declared.qname.QName.{QName}
 use Rattle.wm_law.specs.declared.call.Call.{Call}
-use Rattle.wm_law.specs.declared.call.Call.TheVariants.{Hand}
 use Rattle.wm_law.specs.declared.call.Entry.{Entry}
-use Rattle.wm_law.specs.declared.call.Reply.TheVariants.{Nothing}
 use Rattle.wm_law.specs.declared.job.Job.{Job}
 use Rattle.wm_law.specs.declared.job.Phase.{Phase}
 use Rattle.wm_law.specs.declared.job.Phase.TheVariants.{Waiting, Starting, Handed, Running, Ended}
@@ -28,16 +26,16 @@ use Rattle.wm_law.specs.Choice.{is_sbs_active}
 use Rattle.wm_law.specs.Counts.{is_active, is_in_sbs, is_waiting}
 use Rattle.wm_law.specs.Fit.{IsBetween}
 use Rattle.wm_law.specs.History.{IsLegal, after, order_in}
-use Rattle.wm_law.specs.Launch.{order_of, route}
-use Rattle.wm_law.specs.Laws.{IsIn, IsRoute}
+use Rattle.wm_law.specs.Launch.{order_of}
+use Rattle.wm_law.specs.Laws.{IsIn}
 use Rattle.wm_law.specs.Power.{is_on}
-use Rattle.wm_law.specs.Settling.{start_jobs, start_in, in_order}
+use Rattle.wm_law.specs.Settling.{start_jobs, start_in}
 use Rattle.wm_law.specs.Submitting.{numbers_end, serials_end}
+use Rattle.wm_law.specs.Supply.{in_order}
 use Rattle.wm_law.specs.Machine.{step}
 use Rattle.wm_law.specs.Wishes.{now_cause}
 use Rattle.wm_desc.specs.Table.{object_named}
 use Rattle.wm_law.specs.Opening.{opening}
-use Rattle.wm_law.specs.Pending.{orders_left}
 
 -- no element stands twice
 abbrev pub IsDistinct : {X : Type 0} → List X → Type 0
@@ -206,22 +204,6 @@ SerialsAreKilledOnce = (s : State) (h : List Entry) → IsNumbered s → IsLegal
 -- each Starting job of the opening state has its order
 abbrev pub OpeningHasOrders : Type 0
 OpeningHasOrders = (offset : ℤ) → HasOrders (opening offset)
-
--- every step leaves each Starting job its order
-abbrev pub StepKeepsOrders : Type 0
-StepKeepsOrders = (s : State) (caller : ℕ) (call : Call) (moment : ℕ) → IsNumbered s → HasOrders s → HasOrders (step s caller call moment).state
-
--- whatever is called, each Starting job has its order
-abbrev pub StartingJobsHaveOrders : Type 0
-StartingJobsHaveOrders = (s : State) (h : List Entry) → IsNumbered s → HasOrders s → HasOrders (after s h)
-
--- whatever is called, a Hand then answers Nothing exactly where no job is Starting and no kill is to be handed to its monitor
-abbrev pub HandGivesAnOrder : Type 0
-HandGivesAnOrder = (s : State) (h : List Entry) (caller moment : ℕ) → IsNumbered s → HasOrders s → ((step (after s h) caller Hand moment).reply ≡ Nothing ↔ orders_left (after s h) caller ≡ 0)
-
--- whatever is called, the route in a subsystem is its matching entry of least number
-abbrev pub ReachedRouteIsLeast : Type 0
-ReachedRouteIsLeast = (s : State) (h : List Entry) (sbs : QName) (d : Sbsd) (rtgdta : List ℕ) (e : RouteEntry) → IsNumbered s → HasOrders s → object_named sbs (after s h).objects.sbsds ≡ Some d → route d rtgdta ≡ Some e → IsRoute d rtgdta e
 
 -- no subsystem is started in the opening state
 abbrev pub OpeningHasDistinctNames : Type 0

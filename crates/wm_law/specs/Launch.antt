@@ -14,6 +14,7 @@ use Rattle.wm_law.specs.declared.job.Phase.TheVariants.{Starting, Ended}
 use Rattle.wm_desc.specs.declared.entry.Cmp.{Cmp}
 use Rattle.wm_desc.specs.declared.entry.Cmp.TheVariants.{Any, Val}
 use Rattle.wm_desc.specs.declared.description.Program.{Program}
+use Rattle.wm_desc.specs.declared.entry.PreEntry.{PreEntry}
 use Rattle.wm_desc.specs.declared.entry.RouteEntry.{RouteEntry}
 use Rattle.wm_desc.specs.declared.description.Sbsd.{Sbsd}
 use Rattle.wm_law.specs.declared.state.State.{State}
@@ -22,7 +23,7 @@ use Rattle.wm_law.specs.declared.launch.Launched.{Launched}
 use Rattle.wm_law.specs.Counts.{count_by_route}
 use Rattle.wm_law.specs.Jobs.{with_job}
 use Rattle.wm_desc.specs.Sorted.{with_key}
-use Rattle.wm_desc.specs.Table.{object_named, is_qcmd}
+use Rattle.wm_desc.specs.Table.{object_named, is_qcmd, same_qname}
 use Rattle.wm_clwords.specs.Called.{called_pgm, called_parms}
 
 -- routing data, extended with blanks to 80 characters
@@ -124,16 +125,16 @@ with_routed s c (Some j) = with_job s c.serial (as_launched (routed_from_queue s
 abbrev pub launch : State → Candidate → State
 launch s c = with_routed s c (find (λ j. j.serial == c.serial) s.jobs)
 
--- the order to start a called program with a class, where both are objects
-abbrev pub order_with : Job → List (List ℕ) → Option Program → Option Class → Option StartOrder
-order_with j args None cls = None
-order_with j args (Some p) None = None
-order_with j args (Some p) (Some cls) = Some (record { serial = j.serial; job = j.job; path = p.path; args = args; cls = cls; pre = false })
+-- the order to start a called program with a class, where both are objects, for a prestart job or another one
+abbrev pub order_with : Bool → Job → List (List ℕ) → Option Program → Option Class → Option StartOrder
+order_with pre j args None cls = None
+order_with pre j args (Some p) None = None
+order_with pre j args (Some p) (Some cls) = Some (record { serial = j.serial; job = j.job; path = p.path; args = args; cls = cls; pre = pre })
 
 -- the order of a job whose routing entry calls a program
 abbrev pub order_called : State → Job → RouteEntry → Option QName → Option StartOrder
 order_called s j e None = None
-order_called s j e (Some pgm) = order_with j (called_args e j.rqsdta) (object_named pgm s.objects.programs) (object_named e.cls s.objects.classes)
+order_called s j e (Some pgm) = order_with false j (called_args e j.rqsdta) (object_named pgm s.objects.programs) (object_named e.cls s.objects.classes)
 
 -- the order of a job by its routing entry
 abbrev pub order_through : State → Job → Option RouteEntry → Option StartOrder
@@ -148,13 +149,26 @@ entry_numbered seq d = with_key (λ e. e.seq) nat_eq seq d.routes
 abbrev pub route_entry : State → QName → ℕ → Option RouteEntry
 route_entry s sbs seq = option_and_then (entry_numbered seq) (object_named sbs s.objects.sbsds)
 
+-- a description's prestart entry for the program
+abbrev pub pre_entry_for : QName → Sbsd → Option PreEntry
+pre_entry_for pgm d = with_key (λ e. e.pgm) same_qname pgm d.pres
+
+-- a subsystem's prestart entry for the program
+abbrev pub pre_entry : State → QName → QName → Option PreEntry
+pre_entry s sbs pgm = option_and_then (pre_entry_for pgm) (object_named sbs s.objects.sbsds)
+
+-- the order of a prestart job by its entry: the entry's program without arguments, with the entry's class
+abbrev pub order_pre : State → Job → Option PreEntry → Option StartOrder
+order_pre s j None = None
+order_pre s j (Some e) = order_with true j [] (object_named e.pgm s.objects.programs) (object_named e.cls s.objects.classes)
+
 -- the order of a job by how it came into its subsystem
 abbrev pub order_by : State → Job → How → Option StartOrder
 order_by s j NotYet = None
 order_by s j (FromQueue sbs jobq pty seq) = order_through s j (route_entry s sbs seq)
 order_by s j (Auto sbs seq) = order_through s j (route_entry s sbs seq)
-order_by s j (Pre sbs pgm) = None
+order_by s j (Pre sbs pgm) = order_pre s j (pre_entry s sbs pgm)
 
--- the order of a Starting job: its routing entry's program with the entry's class
+-- the order of a Starting job: the program of its routing or prestart entry with the entry's class
 abbrev pub order_of : State → Job → Option StartOrder
 order_of s j = order_by s j j.how

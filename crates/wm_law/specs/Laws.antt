@@ -13,7 +13,6 @@ use Rattle.wm_desc.specs.declared.description.Sbsd.{Sbsd}
 use Rattle.wm_desc.specs.declared.entry.RouteEntry.{RouteEntry}
 use Rattle.wm_desc.specs.Sorted.{IsSortedOnce}
 use Rattle.wm_law.specs.declared.state.State.{State}
-use Rattle.wm_law.specs.Fit.{HasCall}
 use Rattle.wm_law.specs.History.{is_hand}
 use Rattle.wm_law.specs.Choice.{Turn, candidate, first, is_allowed, is_before, is_ready, next, place_cmp, turn_of}
 use Rattle.wm_law.specs.Launch.{is_match, route}
@@ -107,6 +106,6 @@ RefusalLeaves = (s : State) (caller : ℕ) (call : Call) (x : Refusal) → (appl
 abbrev pub RefusedStepSettles : Type 0
 RefusedStepSettles = (s : State) (caller : ℕ) (call : Call) (moment : ℕ) (x : Refusal) → (step s caller call moment).reply ≡ No x → (step s caller call moment).state ≡ settle (with_clock s moment)
 
--- a call that the machine has is never answered Nothing, Hand aside
-abbrev pub BuiltCallsAreAnswered : Type 0
-BuiltCallsAreAnswered = (s : State) (caller : ℕ) (call : Call) (moment : ℕ) → HasCall call → is_hand call ≡ false → (step s caller call moment).reply ≡ Nothing → ⊥
+-- no call is answered Nothing, Hand aside
+abbrev pub CallsAreAnswered : Type 0
+CallsAreAnswered = (s : State) (caller : ℕ) (call : Call) (moment : ℕ) → is_hand call ≡ false → (step s caller call moment).reply ≡ Nothing → ⊥

@@ -4,6 +4,7 @@ use Rattle.wm_base.specs.declared.limit.Limit.{Limit}
 use Rattle.wm_base.specs.declared.limit.Limit.TheVariants.{NoMax, Most}
 use Rattle.wm_base.specs.declared.qname.QName.{QName}
 use Rattle.wm_desc.specs.declared.description.Sbsd.{Sbsd}
+use Rattle.wm_desc.specs.declared.entry.PreEntry.{PreEntry}
 use Rattle.wm_desc.specs.declared.entry.QueueEntry.{QueueEntry}
 use Rattle.wm_desc.specs.declared.entry.RouteEntry.{RouteEntry}
 use Rattle.wm_desc.specs.Table.{object_named}
@@ -14,9 +15,9 @@ use Rattle.wm_law.specs.declared.job.JobKind.TheVariants.{Bch, Asj, Pj}
 use Rattle.wm_law.specs.declared.job.Phase.TheVariants.{Starting}
 use Rattle.wm_law.specs.declared.state.State.{State}
 use Rattle.wm_law.specs.Choice.{entry_for, maxpty_of}
-use Rattle.wm_law.specs.Counts.{is_in_sbs, is_from_queue, is_from_priority, is_by_route, count_in_sbs, count_from_queue, count_from_priority, count_by_route}
+use Rattle.wm_law.specs.Counts.{is_in_sbs, is_from_queue, is_from_priority, is_from_pre, is_by_route, count_in_sbs, count_from_queue, count_from_priority, count_from_pre, count_by_route}
 use Rattle.wm_law.specs.History.{stepped}
-use Rattle.wm_law.specs.Launch.{entry_numbered}
+use Rattle.wm_law.specs.Launch.{entry_numbered, pre_entry_for}
 use Rattle.wm_law.specs.Laws.{IsIn}
 
 -- the count is at most the limit
@@ -80,12 +81,23 @@ KeepsRoutes s t =
     → entry_numbered seq d ≡ Some e
     → IsWithin (count_by_route sbs seq t.jobs) e.maxact
 
+-- where a prestart job became Starting, its entry's count is at most MAXJOBS
+abbrev pub KeepsPremax : State → State → Type 0
+KeepsPremax s t =
+    (j : Job) (sbs pgm : QName) (d : Sbsd) (e : PreEntry)
+    → BecameStarting s t j
+    → is_from_pre sbs pgm j.how ≡ true
+    → object_named sbs t.objects.sbsds ≡ Some d
+    → pre_entry_for pgm d ≡ Some e
+    → IsWithin (count_from_pre sbs pgm t.jobs) e.maxjobs
+
 -- no start passes a limit over an entry, from the state before it to the state after it; the counts and the limits are those after it
 pub record IsWithinLimits (s t : State) : Type 0 where
   pub maxjobs : KeepsMaxjobs s t
   pub maxact : KeepsMaxact s t
   pub maxpty : KeepsMaxpty s t
   pub routes : KeepsRoutes s t
+  pub pres : KeepsPremax s t
 
 -- no start passes a limit over any entry of a history
 abbrev pub KeepsLimits : State → List Entry → Type 0

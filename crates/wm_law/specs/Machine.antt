@@ -1,11 +1,11 @@
 -- A step of the machine: the clock is set, the call is applied, and the state settles.
-use Rattle.std.specs.Prelude.{ℕ, List, max}
+use Rattle.std.specs.Prelude.{ℕ, true, false, List, max}
 use Rattle.wm_base.specs.declared.job.EndCause.TheVariants as cause
 use Rattle.wm_law.specs.declared.call.Call.{Call}
 use Rattle.wm_law.specs.declared.call.Call.TheVariants.{Change, Hand, Started, StartFailed, Finished, UseDone, Tick}
 use Rattle.wm_law.specs.declared.command.Command.{Command}
 use Rattle.wm_law.specs.declared.command.Command.TheVariants as command
-use Rattle.wm_law.specs.declared.call.Reply.TheVariants.{Nothing, Noted}
+use Rattle.wm_law.specs.declared.call.Reply.TheVariants.{Noted}
 use Rattle.wm_law.specs.declared.job.Phase.TheVariants.{Running, Ended}
 use Rattle.wm_law.specs.declared.state.State.{State}
 use Rattle.wm_law.specs.Making.{make_class, make_queue, make_program, make_job_description, make_description, add_queue, add_route, add_auto, add_pre, remove_queue, remove_route, remove_auto, remove_pre}
@@ -16,12 +16,10 @@ use Rattle.wm_law.specs.Stepped.{Stepped}
 use Rattle.wm_law.specs.Endings.{end_job, end_subsystem, power_down}
 use Rattle.wm_law.specs.Subsystems.{start_subsystem}
 use Rattle.wm_law.specs.Submitting.{submit}
-use Rattle.wm_law.specs.Reports.{hand, is_handed_to, is_run_by, report, end_cause, use_done}
+use Rattle.wm_law.specs.Reports.{hand, is_handed_to, is_run_by, is_unused, report, end_cause}
+use Rattle.wm_law.specs.Prestarting.{end_prestart, start_prestart}
 use Rattle.wm_law.specs.Settling.{settle}
-
--- a command that isn't built yet does nothing, and stands in no legal history
-abbrev pub unbuilt : State → Stepped
-unbuilt s = record { reply = Nothing; state = s }
+use Rattle.wm_law.specs.Uses.{end_use, evoke, use_done}
 
 -- what each command does
 abbrev pub change : State → List ℕ → Command → Stepped
@@ -48,16 +46,19 @@ change s user (command.Endjob c) = end_job s c
 change s user (command.Hldjobq c) = hold_queue s c.jobq
 change s user (command.Rlsjobq c) = release_queue s c.jobq
 change s user (command.Clrjobq c) = clear_queue s c.jobq
+change s user (command.Strpj c) = start_prestart s c
+change s user (command.Endpj c) = end_prestart s c
+change s user (command.Evoke c) = evoke s user c
+change s user (command.Enduse c) = end_use s c
 change s user (command.Pwrdwnsys c) = power_down s c
-change s user c = unbuilt s
 
 -- the reply to a call, and the state before it settles
 abbrev pub apply : State → ℕ → Call → Stepped
 apply s caller (Change user c) = change s user c
 apply s caller Hand = hand s caller
-apply s caller (Started serial) = report s serial (is_handed_to caller) (λ j. Running caller)
-apply s caller (StartFailed serial why) = report s serial (is_handed_to caller) (λ j. Ended (cause.StartFailed why))
-apply s caller (Finished serial end) = report s serial (is_run_by caller) (λ j. Ended (end_cause end j.wish))
+apply s caller (Started serial) = report s serial (is_handed_to caller) (λ j. Running caller) (λ j. false)
+apply s caller (StartFailed serial why) = report s serial (is_handed_to caller) (λ j. Ended (cause.StartFailed why)) (λ j. true)
+apply s caller (Finished serial end) = report s serial (is_run_by caller) (λ j. Ended (end_cause end j.wish)) is_unused
 apply s caller (UseDone serial) = use_done s caller serial
 apply s caller Tick = record { reply = Noted; state = s }
 

@@ -23,22 +23,12 @@ use Rattle.wm_law.specs.declared.job.Wish.{Wish}
 use Rattle.wm_law.specs.declared.job.Wish.TheVariants as wish
 use Rattle.wm_law.specs.declared.state.Evoke.{Evoke}
 use Rattle.wm_law.specs.declared.state.State.{State}
+use Rattle.wm_law.specs.declared.state.Stop.{Stop}
 use Rattle.wm_law.specs.Autos.{auto_user, joined}
-use Rattle.wm_law.specs.Counts.{count_active, count_in_sbs}
+use Rattle.wm_law.specs.Counts.{count_in_sbs, count_from_pre, is_from_pre}
 use Rattle.wm_law.specs.Jobs.{with_active}
 use Rattle.wm_law.specs.Submitting.{numbers_left}
 use Rattle.wm_law.specs.Wishes.{has_wish}
-
--- whether it came by the subsystem's prestart entry for the program
-abbrev pub is_from_pre : QName → QName → How → Bool
-is_from_pre q program NotYet = false
-is_from_pre q program (FromQueue sbs jobq pty route) = false
-is_from_pre q program (Auto sbs route) = false
-is_from_pre q program (Pre sbs pgm) = same_qname sbs q && same_qname pgm program
-
--- how many active jobs came by the subsystem's prestart entry for the program
-abbrev pub count_from_pre : QName → QName → List Job → ℕ
-count_from_pre sbs pgm jobs = count_active (is_from_pre sbs pgm) jobs
 
 -- whether a job of the phase has been launched and doesn't run yet
 abbrev pub is_to_run : Phase → Bool
@@ -120,9 +110,13 @@ count_evokes sbs pgm evokes = count_by (is_evoke_of sbs pgm) evokes
 abbrev pub without_first : QName → QName → List Evoke → List Evoke
 without_first sbs pgm evokes = option_map_or (λ i. remove evokes i) (position (is_evoke_of sbs pgm) evokes) evokes
 
+-- the entry is one of those that are stopped
+abbrev pub is_stop_among : QName → QName → List Stop → Bool
+is_stop_among sbs pgm stopped = list_any (λ e. same_qname e.sbs sbs && same_qname e.pgm pgm) stopped
+
 -- the entry makes no jobs
 abbrev pub is_stopped : State → QName → QName → Bool
-is_stopped s sbs pgm = list_any (λ e. same_qname e.sbs sbs && same_qname e.pgm pgm) s.stopped
+is_stopped s sbs pgm = is_stop_among sbs pgm s.stopped
 
 -- of so many, as many as a limit leaves above a count; *NOMAX leaves all
 abbrev pub left_by : Limit → ℕ → ℕ → ℕ

@@ -1,12 +1,15 @@
 -- The calls of monitors. A monitor is known by the number of its pass.
-use Rattle.std.specs.Prelude.{ℕ, Bool, false, ◌==◌, ◌&&◌, Option, Some, None, find, unwrap_or, if◌then◌else◌}
+use Rattle.std.specs.Prelude.{ℕ, Bool, false, not, ◌==◌, ◌&&◌, ◌++◌, List, [], ◌∷◌, Option, Some, None, find, unwrap_or, if◌then◌else◌}
 use Rattle.wm_base.specs.declared.job.StartOrder.{StartOrder}
 use Rattle.wm_base.specs.declared.job.Asked.TheVariants.{Start, Kill}
 use Rattle.wm_base.specs.declared.job.Exit.{Exit}
 use Rattle.wm_base.specs.declared.job.Exit.TheVariants as exit
 use Rattle.wm_base.specs.declared.job.EndCause.{EndCause}
 use Rattle.wm_base.specs.declared.job.EndCause.TheVariants as cause
-use Rattle.wm_base.specs.declared.refusal.Refusal.TheVariants.{NoJob, WrongPhase, NotInUse}
+use Rattle.wm_base.specs.declared.job.How.{How}
+use Rattle.wm_base.specs.declared.job.How.TheVariants.{NotYet, FromQueue, Auto, Pre}
+use Rattle.wm_base.specs.declared.qname.QName.{QName}
+use Rattle.wm_base.specs.declared.refusal.Refusal.TheVariants.{NoJob, WrongPhase}
 use Rattle.wm_base.specs.declared.refusal.PhaseWord.{PhaseWord}
 use Rattle.wm_base.specs.declared.refusal.PhaseWord.TheVariants as word
 use Rattle.wm_law.specs.declared.call.Reply.TheVariants.{Order, Nothing, Noted}
@@ -15,11 +18,13 @@ use Rattle.wm_law.specs.declared.job.Phase.{Phase}
 use Rattle.wm_law.specs.declared.job.Phase.TheVariants.{Waiting, Starting, Handed, Running, Ended}
 use Rattle.wm_law.specs.declared.job.Wish.{Wish}
 use Rattle.wm_law.specs.declared.state.State.{State}
+use Rattle.wm_law.specs.declared.state.Stop.{Stop}
 use Rattle.wm_law.specs.Counts.{is_starting}
 use Rattle.wm_law.specs.Jobs.{changed_at, with_active, with_job}
 use Rattle.wm_law.specs.Launch.{order_of}
+use Rattle.wm_law.specs.Prestart.{is_stop_among}
 use Rattle.wm_law.specs.Stepped.{Stepped, refused}
-use Rattle.wm_law.specs.Wishes.{handed_wish, is_unhanded, now_cause}
+use Rattle.wm_law.specs.Wishes.{handed_wish, is_now, is_unhanded, now_cause}
 
 -- the job in that phase
 abbrev pub in_phase : Phase → Job → Job
@@ -88,15 +93,36 @@ hand_job s m (Some j) = record { reply = Order (Kill j.serial); state = with_act
 abbrev pub hand : State → ℕ → Stepped
 hand s m = hand_job s m (find (is_to_kill m) s.jobs)
 
--- a report on the job that was found, whose phase must pass the test
-abbrev pub report_on : State → ℕ → (Phase → Bool) → (Job → Phase) → Option Job → Stepped
-report_on s serial test phase None = refused s NoJob
-report_on s serial test phase (Some j) =
-    if test j.phase then record { reply = Noted; state = with_phase s serial (phase j) } else refused s (WrongPhase (phase_word j.phase))
+-- the stopped entries with one more, each once
+abbrev pub stop_added : QName → QName → List Stop → List Stop
+stop_added sbs pgm stopped = if is_stop_among sbs pgm stopped then stopped else stopped ++ record { sbs = sbs; pgm = pgm } ∷ []
 
--- a report moves the job of that serial on, where its phase passes the test
-abbrev pub report : State → ℕ → (Phase → Bool) → (Job → Phase) → Stepped
-report s serial test phase = report_on s serial test phase (find (λ j. j.serial == serial) s.jobs)
+-- the stopped entries with the prestart entry that the how names, if it names one
+abbrev pub stops_with : How → List Stop → List Stop
+stops_with NotYet stopped = stopped
+stops_with (FromQueue sbs jobq pty route) stopped = stopped
+stops_with (Auto sbs route) stopped = stopped
+stops_with (Pre sbs pgm) stopped = stop_added sbs pgm stopped
+
+-- the stopped entries after a report on the job, which stops its entry where the test says so
+abbrev pub stops_after : (Job → Bool) → Job → List Stop → List Stop
+stops_after stops j stopped = if stops j then stops_with j.how stopped else stopped
+
+-- a report on the job that was found, whose phase must pass the test
+abbrev pub report_on : State → ℕ → (Phase → Bool) → (Job → Phase) → (Job → Bool) → Option Job → Stepped
+report_on s serial test phase stops None = refused s NoJob
+report_on s serial test phase stops (Some j) =
+    if test j.phase
+    then record { reply = Noted; state = record (with_phase s serial (phase j)) { stopped = stops_after stops j s.stopped } }
+    else refused s (WrongPhase (phase_word j.phase))
+
+-- a report moves the job of that serial on, where its phase passes the test, and stops its prestart entry where the other test says so
+abbrev pub report : State → ℕ → (Phase → Bool) → (Job → Phase) → (Job → Bool) → Stepped
+report s serial test phase stops = report_on s serial test phase stops (find (λ j. j.serial == serial) s.jobs)
+
+-- the job came by no use, and isn't to end now
+abbrev pub is_unused : Job → Bool
+is_unused j = j.uses == 0 && not (is_now j.wish)
 
 -- the cause of an end with no Now wish
 abbrev pub exit_cause : Exit → EndCause
@@ -106,12 +132,3 @@ exit_cause exit.Killed = cause.Killed
 -- the cause of an end: the why of a Now wish, else that of the exit
 abbrev pub end_cause : Exit → Wish → EndCause
 end_cause end w = unwrap_or (now_cause w) (exit_cause end)
-
--- UseDone on the job that was found
-abbrev pub done_with : State → ℕ → Option Job → Stepped
-done_with s m None = refused s NoJob
-done_with s m (Some j) = if is_run_by m j.phase then refused s NotInUse else refused s (WrongPhase (phase_word j.phase))
-
--- no job has a request yet, so none can be done with one
-abbrev pub use_done : State → ℕ → ℕ → Stepped
-use_done s m serial = done_with s m (find (λ j. j.serial == serial) s.jobs)

@@ -1,8 +1,6 @@
--- What settles after a call: what is to end by the clock ends, ending subsystems leave, and the jobs start whose turn has come.
-use Rattle.std.specs.Prelude.{ℕ, Bool, true, false, not, ◌&&◌, ◌==◌, List, [], ◌∷◌, Option, Some, None, filter, map, count_by, if◌then◌else◌}
+-- What settles after a call: what is to end by the clock ends, ending subsystems leave, prestart entries are supplied, and the jobs start whose turn has come.
+use Rattle.std.specs.Prelude.{ℕ, Bool, true, false, not, ◌&&◌, ◌==◌, List, Option, Some, None, filter, map, count_by, if◌then◌else◌}
 use Rattle.std.specs.List.{list_any}
-use Rattle.std.specs.Ordering.{nat_cmp, is_lt}
-use Rattle.std.specs.Cmp.Lexicographic.{slice_cmp}
 use Rattle.wm_base.specs.declared.job.EndCause.{EndCause}
 use Rattle.wm_base.specs.declared.qname.QName.{QName}
 use Rattle.wm_base.specs.Iterate.{iterate}
@@ -17,6 +15,7 @@ use Rattle.wm_law.specs.Choice.{first, next}
 use Rattle.wm_law.specs.Counts.{is_active, is_starting, is_waiting, count_in_sbs}
 use Rattle.wm_law.specs.Launch.{launch}
 use Rattle.wm_law.specs.Reports.{in_phase}
+use Rattle.wm_law.specs.Supply.{supply}
 use Rattle.wm_law.specs.Wishes.{deadline, has_come, now_cause, told_now, with_wish}
 
 -- whether a subsystem of the phase is to end
@@ -101,16 +100,10 @@ start_jobs s = iterate next (λ c t. launch t c) (waiting s) s
 abbrev pub start_in : State → QName → State
 start_in s sbs = iterate (λ t. first t sbs) (λ c t. launch t c) (waiting s) s
 
--- the names with one more, before the first that doesn't come before it in the order of simple names
-abbrev pub inserted : QName → List QName → List QName
-inserted q [] = q ∷ []
-inserted q (r ∷ rs) = if is_lt (slice_cmp nat_cmp r.name q.name) then r ∷ inserted q rs else q ∷ r ∷ rs
+-- the state before jobs start: what is due has ended, subsystems have left, and prestart entries are supplied
+abbrev pub ready : State → State
+ready s = supply (leave (come_due s))
 
--- the names of subsystems, in the order of their simple names
-abbrev pub in_order : List Sbs → List QName
-in_order [] = []
-in_order (b ∷ bs) = inserted b.sbsd (in_order bs)
-
--- the state settles: what is due ends, then subsystems leave, then jobs start
+-- the state settles: what is due ends, then subsystems leave, then prestart entries are supplied, then jobs start
 abbrev pub settle : State → State
-settle s = start_jobs (leave (come_due s))
+settle s = start_jobs (ready s)

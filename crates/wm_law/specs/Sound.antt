@@ -1,10 +1,11 @@
 -- What holds of each state that a history reaches from the opening one, and what holds over each entry from there.
-use Rattle.std.specs.Prelude.{◌≡◌, ℕ, ◌<◌, ◌≤◌, ℤ, true, false, List, [], ◌∷◌, length, map, Option, Some, None, IfSome, ⊤}
+use Rattle.std.specs.Prelude.{◌≡◌, ℕ, ◌<◌, ◌≤◌, ℤ, true, false, List, [], ◌∷◌, length, map, Option, Some, None, IfSome, ⊤, ◌↔◌}
 use Rattle.std.specs.Option.{IsSome}
 use Rattle.wm_base.specs.declared.job.How.{How}
-use Rattle.wm_base.specs.declared.job.How.TheVariants.{FromQueue, Auto}
+use Rattle.wm_base.specs.declared.job.How.TheVariants.{FromQueue, Auto, Pre}
 use Rattle.wm_base.specs.declared.qname.QName.{QName}
 use Rattle.wm_desc.specs.declared.description.Sbsd.{Sbsd}
+use Rattle.wm_desc.specs.declared.entry.PreEntry.{PreEntry}
 use Rattle.wm_desc.specs.declared.entry.QueueEntry.{QueueEntry}
 use Rattle.wm_desc.specs.declared.entry.RouteEntry.{RouteEntry}
 use Rattle.wm_desc.specs.declared.objects.Objects.{Objects}
@@ -18,22 +19,25 @@ use Rattle.wm_law.specs.declared.job.JobKind.TheVariants.{Bch, Asj, Pj}
 use Rattle.wm_law.specs.declared.job.Phase.TheVariants.{Starting}
 use Rattle.wm_law.specs.declared.state.Sbs.{Sbs}
 use Rattle.wm_law.specs.declared.state.State.{State}
-use Rattle.wm_law.specs.Built.{is_ending_call}
+use Rattle.wm_law.specs.CallKinds.{is_ending_call}
 use Rattle.wm_law.specs.Choice.{entry_for}
 use Rattle.wm_law.specs.Counts.{is_active, is_waiting}
 use Rattle.wm_law.specs.History.{after}
 use Rattle.wm_law.specs.Kept.{IsNumbered, HasOrders, HasDistinctNames, HasDescriptions, IsQuiet}
-use Rattle.wm_law.specs.Laws.{IsIn}
+use Rattle.wm_law.specs.Laws.{IsIn, IsRoute}
 use Rattle.wm_law.specs.Limits.{IsWithinLimits, KeepsLimits}
 use Rattle.wm_law.specs.Machine.{apply, step, with_clock}
 use Rattle.wm_law.specs.Objects.{AreSound}
 use Rattle.wm_law.specs.Opening.{opening}
 use Rattle.wm_law.specs.Order.{IsInOrder, KeepsOrder}
-use Rattle.wm_law.specs.Pending.{next_ending, next_wish, soonest}
+use Rattle.wm_law.specs.Pending.{next_ending, next_wish, soonest, orders_left}
 use Rattle.wm_law.specs.Queues.{own_name}
 use Rattle.wm_law.specs.Settling.{come_due, is_sbs_now, sbs_moment}
 use Rattle.wm_law.specs.Subsystems.{max_started}
 use Rattle.wm_law.specs.Wishes.{greatest_moment, has_come, has_wish, is_in_any, is_now, is_wish_due, wish_moment}
+use Rattle.wm_law.specs.declared.call.Call.TheVariants.{Hand}
+use Rattle.wm_law.specs.declared.call.Reply.TheVariants.{Nothing}
+use Rattle.wm_law.specs.Launch.{route}
 
 -- each number is below all later ones
 abbrev pub IsIncreasing : List ℕ → Type 0
@@ -68,11 +72,21 @@ pub record CameAsAuto (subsystems : List Sbs) (objects : Objects) (how : How) : 
   pub routed : IsIn route sbsd.routes
   pub is_how : how ≡ Auto sbs.sbsd route.seq
 
--- by its kind a job came from a queue or started with a subsystem; no prestart job is active yet
+-- a how names a started subsystem and a prestart entry of its description
+pub record CameByEntry (subsystems : List Sbs) (objects : Objects) (how : How) : Type 0 where
+  pub sbs : Sbs
+  pub sbsd : Sbsd
+  pub entry : PreEntry
+  pub started : IsIn sbs subsystems
+  pub described : object_named sbs.sbsd objects.sbsds ≡ Some sbsd
+  pub entered : IsIn entry sbsd.pres
+  pub is_how : how ≡ Pre sbs.sbsd entry.pgm
+
+-- by its kind a job came from a queue, started with a subsystem, or was made for a prestart entry
 abbrev pub HasCome : List Sbs → Objects → JobKind → Option QName → ℕ → How → Type 0
 HasCome subsystems objects Bch jobq pty how = CameFromQueue subsystems objects jobq pty how
 HasCome subsystems objects Asj jobq pty how = CameAsAuto subsystems objects how
-HasCome subsystems objects Pj jobq pty how = ⊥
+HasCome subsystems objects Pj jobq pty how = CameByEntry subsystems objects how
 
 -- the how of each active job names what is there, that of a submitted job with its queue and priority
 abbrev pub ActiveHaveCome : State → Type 0
@@ -164,6 +178,22 @@ StatesAreSound = (s : State) (h : List Entry) → IsSound s → IsSound (after s
 -- whatever is called from a sound state, no autostart job waits
 abbrev pub AutostartJobsNeverWait : Type 0
 AutostartJobsNeverWait = (s : State) (h : List Entry) (j : Job) → IsSound s → IsIn j (after s h).jobs → j.kind ≡ Asj → is_waiting j.phase ≡ false
+
+-- every step leaves each Starting job its order, where the objects are sound
+abbrev pub StepKeepsOrders : Type 0
+StepKeepsOrders = (s : State) (caller : ℕ) (call : Call) (moment : ℕ) → IsNumbered s → AreSound s.objects → HasOrders s → HasOrders (step s caller call moment).state
+
+-- whatever is called, each Starting job has its order
+abbrev pub StartingJobsHaveOrders : Type 0
+StartingJobsHaveOrders = (s : State) (h : List Entry) → IsNumbered s → AreSound s.objects → HasOrders s → HasOrders (after s h)
+
+-- whatever is called, a Hand then answers Nothing exactly where no job is Starting and no kill is to be handed to its monitor
+abbrev pub HandGivesAnOrder : Type 0
+HandGivesAnOrder = (s : State) (h : List Entry) (caller moment : ℕ) → IsNumbered s → AreSound s.objects → HasOrders s → ((step (after s h) caller Hand moment).reply ≡ Nothing ↔ orders_left (after s h) caller ≡ 0)
+
+-- whatever is called, the route in a subsystem is its matching entry of least number
+abbrev pub ReachedRouteIsLeast : Type 0
+ReachedRouteIsLeast = (s : State) (h : List Entry) (sbs : QName) (d : Sbsd) (rtgdta : List ℕ) (e : RouteEntry) → IsNumbered s → AreSound s.objects → HasOrders s → object_named sbs (after s h).objects.sbsds ≡ Some d → route d rtgdta ≡ Some e → IsRoute d rtgdta e
 
 -- nothing is due in the opening state
 abbrev pub OpeningHasNoneDue : Type 0

@@ -33,6 +33,13 @@ pub enum Reply {
     QueueReleased,
     /// How many jobs it ended.
     QueueCleared(u32),
+    PreStarted,
+    PreEnding,
+    /// The job that got the request.
+    Evoked(JobName),
+    /// The request's position among those that wait for its entry.
+    EvokeWaits(u32),
+    UseEnded(JobName),
     PowerDown,
     Order(Boxed<Asked>),
     Nothing,

@@ -1,10 +1,10 @@
 // Laws of the machine: what its definitions come to, each for all states. They are no calls.
-ghost use Rattle.wm_law.specs.Laws.{FirstIsLeast, LesserComesBefore, NoFirstIsNone, NextIsFirst, NoNextIsNone, RouteIsLeast, NoRouteIsNone, SettledHasNoNext, SettledLeavesNone, RefusalLeaves, RefusedStepSettles, BuiltCallsAreAnswered};
-ghost use Rattle.wm_law.specs.Kept.{OpeningIsNumbered, StepKeepsNumbers, NumbersAreGivenOnce, StepGoesOn, SerialsStartOnce, SerialsAreKilledOnce, OpeningHasOrders, StepKeepsOrders, StartingJobsHaveOrders, HandGivesAnOrder, ReachedRouteIsLeast, OpeningHasDescriptions, StepKeepsDescriptions, StartedAreDescribed, OpeningIsQuiet, StepKeepsQuiet, NoneIsActiveWithoutPower, OpeningHasDistinctNames, StepKeepsNamesDistinct, StartedNamesAreDistinct, StartsInOrder};
+ghost use Rattle.wm_law.specs.Laws.{FirstIsLeast, LesserComesBefore, NoFirstIsNone, NextIsFirst, NoNextIsNone, RouteIsLeast, NoRouteIsNone, SettledHasNoNext, SettledLeavesNone, RefusalLeaves, RefusedStepSettles, CallsAreAnswered};
+ghost use Rattle.wm_law.specs.Kept.{OpeningIsNumbered, StepKeepsNumbers, NumbersAreGivenOnce, StepGoesOn, SerialsStartOnce, SerialsAreKilledOnce, OpeningHasOrders, OpeningHasDescriptions, StepKeepsDescriptions, StartedAreDescribed, OpeningIsQuiet, StepKeepsQuiet, NoneIsActiveWithoutPower, OpeningHasDistinctNames, StepKeepsNamesDistinct, StartedNamesAreDistinct, StartsInOrder};
 ghost use Rattle.wm_law.specs.Handing.{HandedKillIsLeast, HandedStartIsLeast};
 ghost use Rattle.wm_law.specs.Leaving.{EndingSubsystemsHaveJobs, StepLeavesEndingJobs};
 ghost use Rattle.wm_law.specs.NextMoment.{NextMomentIsSoonest};
-ghost use Rattle.wm_law.specs.Sound.{AutostartJobsNeverWait, OpeningIsSound, StepKeepsSound, StatesAreSound, OpeningHasNoneDue, StepLeavesNoneDue, NoneIsDue, CallsLeaveNoneDue, NothingDueStays, NoneDueBefore, StepKeepsLimits, LimitsAreKept, StepKeepsOrder, OrderIsKept};
+ghost use Rattle.wm_law.specs.Sound.{StepKeepsOrders, StartingJobsHaveOrders, HandGivesAnOrder, ReachedRouteIsLeast, AutostartJobsNeverWait, OpeningIsSound, StepKeepsSound, StatesAreSound, OpeningHasNoneDue, StepLeavesNoneDue, NoneIsDue, CallsLeaveNoneDue, NothingDueStays, NoneDueBefore, StepKeepsLimits, LimitsAreKept, StepKeepsOrder, OrderIsKept};
 
 /// The first job of a subsystem may start there, and no other job that may start there stands before
 /// it: by the sequence numbers of the queue entries, then the priorities, then the places. Where there
@@ -132,9 +132,9 @@ pub fn next_moment_is_soonest()
 {}
 
 /// A call that the machine has is never answered Nothing, Hand aside.
-#[tactic(auto, using(crate::proofs::Answered::built_calls_are_answered))]
-pub fn built_calls_are_answered()
-    ensures { BuiltCallsAreAnswered }
+#[tactic(auto, using(crate::proofs::Answered::calls_are_answered))]
+pub fn calls_are_answered()
+    ensures { CallsAreAnswered }
 {}
 
 /// A history from the opening state reaches sound states only, whatever was called.

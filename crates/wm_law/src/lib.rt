@@ -10,10 +10,11 @@
 //! a command names); `Wishes` (whether an active job is to end, and when); `Choice` and `Launch` (which job starts, and what
 //! becomes of it); `Prestart` (how many prestart jobs are made, which gets a request, and what the end of a use comes to);
 //! `Jobs` (a change to one job); `Counts`; `Opening`; `Pending` (what a monitor asks); `Stepped` (what a call
-//! comes to); `Fit` (which calls the machine has, and their ranges) and `Built` (which commands users have). What follows
+//! comes to); `Fit` (which calls the machine has, and their ranges) and `CallKinds` (which calls end jobs, and which change objects). What follows
 //! from them: `Laws` and `Kept`; `Limits` (no start passes a limit), `Order` (jobs are launched in their order), `Objects`
 //! (what holds of tables and subsystem descriptions), `Leaving` (which ending subsystems stay), `Handing` (which order Hand
-//! gives), `NextMoment` (what Pending tells) and `Sound` (what holds of each state that a history reaches, and over each entry).
+//! gives), `NextMoment` (what Pending tells), `Sound` (what holds of each state that a history reaches, and over each entry),
+//! `SoundPrestart` (what holds there of prestart jobs, stopped entries and requests) and `Maxuse` (no job is used too often).
 #![tactic(auto)]
 
 mod boxed;
@@ -39,9 +40,9 @@ pub use command::{
 pub use job::{Job, JobKind, Phase, Why, Wish};
 pub use launch::Launched;
 pub use laws::{
-    autostart_jobs_never_wait, built_calls_are_answered, ending_subsystems_have_jobs,
-    first_job_is_least, hand_gives_the_least, jobs_are_launched_in_order, jobs_go_forward,
-    jobs_start_in_order, next_job_is_first, next_moment_is_soonest, no_start_passes_a_limit,
+    autostart_jobs_never_wait, calls_are_answered, ending_subsystems_have_jobs, first_job_is_least,
+    hand_gives_the_least, jobs_are_launched_in_order, jobs_go_forward, jobs_start_in_order,
+    next_job_is_first, next_moment_is_soonest, no_start_passes_a_limit,
     none_is_active_without_power, numbers_are_given_once, refusals_leave_the_state,
     routes_are_least, serials_are_killed_once, serials_start_once, settling_ends_what_is_due,
     settling_leaves_none, started_are_described, started_names_are_distinct,
@@ -49,5 +50,8 @@ pub use laws::{
 };
 pub use list::ListOf;
 pub use pending::Pending;
-pub use prestart_laws::{first_idle_job_is_first, rounds_make_what_is_lacking};
+pub use prestart_laws::{
+    entries_are_served, entries_have_their_jobs, first_idle_job_is_first, prestart_jobs_are_sound,
+    rounds_make_what_is_lacking, uses_stay_within_maxuse,
+};
 pub use state::{Evoke, Evokes, Jobs, Power, QNames, Sbs, SbsList, SbsPhase, State, Stop, Stops};

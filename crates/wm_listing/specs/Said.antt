@@ -1,12 +1,11 @@
 -- What is said of replies and of faults, without a line's end.
-use Rattle.std.specs.Prelude.{ℕ, Option, Some, None, List, [], ◌++◌, codes}
+use Rattle.std.specs.Prelude.{ℕ, List, [], ◌++◌, codes}
 use Rattle.std.specs.Fmt.{decimal}
 use Rattle.wm_base.specs.declared.job.Asked.{Asked}
 use Rattle.wm_base.specs.declared.job.Asked.TheVariants.{Start, Kill}
 use Rattle.wm_base.specs.JobName.{job_name_text}
 use Rattle.wm_base.specs.Key.{key_word}
 use Rattle.wm_base.specs.QName.{qname_text}
-use Rattle.wm_base.specs.declared.qname.QName.{QName}
 use Rattle.wm_base.specs.Refusal.{refusal_text}
 use Rattle.wm_clwords.specs.declared.fault.ClFault.{ClFault}
 use Rattle.wm_clwords.specs.declared.fault.ClFault.TheVariants.{Empty, BadName, OpenQuote, OpenParen, StrayParen, OpenComment, TooLong, BadByte, TooDeep}
@@ -19,47 +18,56 @@ use Rattle.wm_command.specs.declared.fault.CmdFault.TheVariants as cm
 use Rattle.wm_law.specs.declared.command.Command.{Command}
 use Rattle.wm_law.specs.declared.command.Command.TheVariants as command
 use Rattle.wm_law.specs.declared.call.Reply.{Reply}
-use Rattle.wm_law.specs.declared.call.Reply.TheVariants.{Made, SbsStarted, SbsEnding, Submitted, Held, Released, Changed, JobEnding, JobEnded, QueueHeld, QueueReleased, QueueCleared, PowerDown, Order, Nothing, Noted, No}
+use Rattle.wm_law.specs.declared.call.Reply.TheVariants.{Made, SbsStarted, SbsEnding, Submitted, Held, Released, Changed, JobEnding, JobEnded, QueueHeld, QueueReleased, QueueCleared, PreStarted, PreEnding, Evoked, EvokeWaits, UseEnded, PowerDown, Order, Nothing, Noted, No}
 use Rattle.wm_listing.specs.declared.line_fault.LineFault.{LineFault}
 use Rattle.wm_listing.specs.declared.line_fault.LineFault.TheVariants.{Cl, Cm}
+use Rattle.wm_listing.specs.declared.subject.Subject.{Subject}
+use Rattle.wm_listing.specs.declared.subject.Subject.TheVariants as subject
 
 -- what is ordered, with the job's serial
 abbrev pub order_text : Asked → List ℕ
 order_text (Start o) = codes "ORDER START " ++ decimal o.serial
 order_text (Kill serial) = codes "ORDER KILL " ++ decimal serial
 
--- what a command that makes or changes an object names first, or one that is about a queue
-abbrev pub made_name : Command → Option QName
-made_name (command.Crtcls c) = Some c.cls
-made_name (command.Crtjobq c) = Some c.jobq
-made_name (command.Crtpgmref c) = Some c.pgm
-made_name (command.Crtjobd c) = Some c.jobd
-made_name (command.Crtsbsd c) = Some c.sbsd
-made_name (command.Addjobqe c) = Some c.sbsd
-made_name (command.Addrtge c) = Some c.sbsd
-made_name (command.Addaje c) = Some c.sbsd
-made_name (command.Addpje c) = Some c.sbsd
-made_name (command.Rmvjobqe c) = Some c.sbsd
-made_name (command.Rmvrtge c) = Some c.sbsd
-made_name (command.Rmvaje c) = Some c.sbsd
-made_name (command.Rmvpje c) = Some c.sbsd
-made_name (command.Hldjobq c) = Some c.jobq
-made_name (command.Rlsjobq c) = Some c.jobq
-made_name (command.Clrjobq c) = Some c.jobq
-made_name c = None
+-- what a command is about: an object that it makes or changes, a queue, or a prestart entry
+abbrev pub subject_of : Command → Subject
+subject_of (command.Crtcls c) = subject.Object c.cls
+subject_of (command.Crtjobq c) = subject.Object c.jobq
+subject_of (command.Crtpgmref c) = subject.Object c.pgm
+subject_of (command.Crtjobd c) = subject.Object c.jobd
+subject_of (command.Crtsbsd c) = subject.Object c.sbsd
+subject_of (command.Addjobqe c) = subject.Object c.sbsd
+subject_of (command.Addrtge c) = subject.Object c.sbsd
+subject_of (command.Addaje c) = subject.Object c.sbsd
+subject_of (command.Addpje c) = subject.Object c.sbsd
+subject_of (command.Rmvjobqe c) = subject.Object c.sbsd
+subject_of (command.Rmvrtge c) = subject.Object c.sbsd
+subject_of (command.Rmvaje c) = subject.Object c.sbsd
+subject_of (command.Rmvpje c) = subject.Object c.sbsd
+subject_of (command.Hldjobq c) = subject.Object c.jobq
+subject_of (command.Rlsjobq c) = subject.Object c.jobq
+subject_of (command.Clrjobq c) = subject.Object c.jobq
+subject_of (command.Strpj c) = subject.PreEntry c.pgm c.sbs
+subject_of (command.Endpj c) = subject.PreEntry c.pgm c.sbs
+subject_of c = subject.Nothing
 
--- a blank and the name, where there is one
-abbrev pub behind_blank : Option QName → List ℕ
-behind_blank None = []
-behind_blank (Some q) = codes " " ++ qname_text q
+-- a blank and what it is about, where it is about something
+abbrev pub behind_blank : Subject → List ℕ
+behind_blank subject.Nothing = []
+behind_blank (subject.Object q) = codes " " ++ qname_text q
+behind_blank (subject.PreEntry pgm sbs) = codes " " ++ qname_text pgm ++ codes " in " ++ sbs
 
--- the command's word, and that name
+-- the command's word, and what it is about
 abbrev pub made_text : Command → List ℕ
-made_text c = codes "OK " ++ change_word (verb_of c) ++ behind_blank (made_name c)
+made_text c = codes "OK " ++ change_word (verb_of c) ++ behind_blank (subject_of c)
 
 -- what is said of a command about a queue
 abbrev pub queue_text : Command → List ℕ → List ℕ
-queue_text c end = codes "OK queue" ++ behind_blank (made_name c) ++ end
+queue_text c end = codes "OK queue" ++ behind_blank (subject_of c) ++ end
+
+-- what is said of a command about a prestart entry
+abbrev pub prestart_text : Command → List ℕ → List ℕ
+prestart_text c end = codes "OK prestart" ++ behind_blank (subject_of c) ++ end
 
 -- what is said of the reply to a monitor's call, which is an order, nothing, noted or a refusal
 abbrev pub noted_text : Reply → List ℕ
@@ -79,6 +87,11 @@ noted_text (JobEnded job) = []
 noted_text QueueHeld = []
 noted_text QueueReleased = []
 noted_text (QueueCleared count) = []
+noted_text PreStarted = []
+noted_text PreEnding = []
+noted_text (Evoked job) = []
+noted_text (EvokeWaits position) = []
+noted_text (UseEnded job) = []
 noted_text PowerDown = []
 
 -- what is said of a command's reply
@@ -95,6 +108,11 @@ said_text c (JobEnded job) = codes "OK " ++ job_name_text job ++ codes " ended"
 said_text c QueueHeld = queue_text c (codes " held")
 said_text c QueueReleased = queue_text c (codes " released")
 said_text c (QueueCleared count) = queue_text c (codes " cleared of " ++ decimal count ++ codes " jobs")
+said_text c PreStarted = prestart_text c (codes " started")
+said_text c PreEnding = prestart_text c (codes " ending")
+said_text c (Evoked job) = codes "OK " ++ job_name_text job ++ codes " has the request"
+said_text c (EvokeWaits position) = codes "OK request waits as " ++ decimal position
+said_text c (UseEnded job) = codes "OK " ++ job_name_text job ++ codes " use ended"
 said_text c PowerDown = codes "OK power down"
 said_text c (Order asked) = noted_text (Order asked)
 said_text c Nothing = noted_text Nothing

@@ -1,11 +1,11 @@
 // The texts of replies.
 ghost use Rattle.std.specs.Prelude.{◌≡◌, ◌++◌, IfOk, OnOk, codes, string_bytes};
-ghost use Rattle.std.specs.Option.{option_copied};
 ghost use Rattle.wm_base.specs.JobName.{job_name_text};
 ghost use Rattle.wm_base.specs.QName.{qname_text};
 ghost use Rattle.std.specs.Fmt.{decimal};
-ghost use Rattle.wm_listing.specs.Said.{behind_blank, made_name, made_text, order_text, queue_text, noted_text, said_text};
+ghost use Rattle.wm_listing.specs.Said.{behind_blank, made_text, noted_text, order_text, prestart_text, queue_text, said_text, subject_of};
 
+use crate::Subject;
 use std::alloc::Global;
 use wm_base::{Asked, JobName, NoMemory, QName};
 use wm_command::command_word;
@@ -35,50 +35,72 @@ fn submitted(alloc: Global, job: &JobName, jobq: &QName) -> Result<String, NoMem
     Ok(text)
 }
 
-// What a command that makes or changes an object names first, or one that is about a queue.
-fn made_name(command: &Command) -> Option<&QName>
-    ensures { option_copied result ≡ made_name command.now }
+/// What a command is about, as the line of its reply names it.
+pub fn subject_of(command: &Command) -> Subject
+    ensures { result ≡ subject_of command.now }
 {
     match command {
-        Command::Crtcls(c) => Some(&c.cls),
-        Command::Crtjobq(c) => Some(&c.jobq),
-        Command::Crtpgmref(c) => Some(&c.pgm),
-        Command::Crtjobd(c) => Some(&c.jobd),
-        Command::Crtsbsd(c) => Some(&c.sbsd),
-        Command::Addjobqe(c) => Some(&c.sbsd),
-        Command::Addrtge(c) => Some(&c.sbsd),
-        Command::Addaje(c) => Some(&c.sbsd),
-        Command::Addpje(c) => Some(&c.sbsd),
-        Command::Rmvjobqe(c) => Some(&c.sbsd),
-        Command::Rmvrtge(c) => Some(&c.sbsd),
-        Command::Rmvaje(c) => Some(&c.sbsd),
-        Command::Rmvpje(c) => Some(&c.sbsd),
-        Command::Hldjobq(c) => Some(&c.jobq),
-        Command::Rlsjobq(c) => Some(&c.jobq),
-        Command::Clrjobq(c) => Some(&c.jobq),
-        _ => None,
+        Command::Crtcls(c) => Subject::Object(c.cls),
+        Command::Crtjobq(c) => Subject::Object(c.jobq),
+        Command::Crtpgmref(c) => Subject::Object(c.pgm),
+        Command::Crtjobd(c) => Subject::Object(c.jobd),
+        Command::Crtsbsd(c) => Subject::Object(c.sbsd),
+        Command::Addjobqe(c) => Subject::Object(c.sbsd),
+        Command::Addrtge(c) => Subject::Object(c.sbsd),
+        Command::Addaje(c) => Subject::Object(c.sbsd),
+        Command::Addpje(c) => Subject::Object(c.sbsd),
+        Command::Rmvjobqe(c) => Subject::Object(c.sbsd),
+        Command::Rmvrtge(c) => Subject::Object(c.sbsd),
+        Command::Rmvaje(c) => Subject::Object(c.sbsd),
+        Command::Rmvpje(c) => Subject::Object(c.sbsd),
+        Command::Hldjobq(c) => Subject::Object(c.jobq),
+        Command::Rlsjobq(c) => Subject::Object(c.jobq),
+        Command::Clrjobq(c) => Subject::Object(c.jobq),
+        Command::Strpj(c) => Subject::PreEntry {
+            pgm: c.pgm,
+            sbs: c.sbs,
+        },
+        Command::Endpj(c) => Subject::PreEntry {
+            pgm: c.pgm,
+            sbs: c.sbs,
+        },
+        _ => Subject::Nothing,
     }
 }
 
-// Adds a blank and that name, where there is one.
-fn push_name(text: &mut String, alloc: Global, command: &Command) -> Result<(), NoMemory>
-    ensures { OnOk result (string_bytes text.new ≡ string_bytes text.old ++ behind_blank (made_name command.now)) }
+// Adds a blank and a name.
+fn push_qname(text: &mut String, alloc: Global, name: &QName) -> Result<(), NoMemory>
+    ensures { OnOk result (string_bytes text.new ≡ string_bytes text.old ++ (codes " " ++ qname_text name.now)) }
 {
-    if let Some(name) = made_name(command) {
-        text.push_str(" ")?;
-        let name = name.to_string(alloc)?;
-        text.push_str(name.as_str())?;
+    text.push_str(" ")?;
+    let name = name.to_string(alloc)?;
+    text.push_str(name.as_str())?;
+    Ok(())
+}
+
+// Adds a blank and what a command is about, where it is about something.
+fn push_subject(text: &mut String, alloc: Global, command: &Command) -> Result<(), NoMemory>
+    ensures { OnOk result (string_bytes text.new ≡ string_bytes text.old ++ behind_blank (subject_of command.now)) }
+{
+    match subject_of(command) {
+        Subject::Nothing => {}
+        Subject::Object(name) => push_qname(text, alloc, &name)?,
+        Subject::PreEntry { pgm, sbs } => {
+            push_qname(text, alloc, &pgm)?;
+            text.push_str(" in ")?;
+            text.push_str(sbs.as_str())?;
+        }
     }
     Ok(())
 }
 
-// The command's word, and that name.
+// The command's word, and what it is about.
 fn made(alloc: Global, command: &Command) -> Result<String, NoMemory>
     ensures { IfOk result (λ text. string_bytes text ≡ made_text command.now) }
 {
     let mut text = String::from_str(alloc, "OK ")?;
     text.push_str(command_word(command))?;
-    push_name(&mut text, alloc, command)?;
+    push_subject(&mut text, alloc, command)?;
     Ok(text)
 }
 
@@ -87,7 +109,7 @@ fn queue(alloc: Global, command: &Command, end: &str) -> Result<String, NoMemory
     ensures { IfOk result (λ text. string_bytes text ≡ queue_text command.now end.now) }
 {
     let mut text = String::from_str(alloc, "OK queue")?;
-    push_name(&mut text, alloc, command)?;
+    push_subject(&mut text, alloc, command)?;
     text.push_str(end)?;
     Ok(text)
 }
@@ -98,6 +120,16 @@ fn cleared(alloc: Global, command: &Command, count: u32) -> Result<String, NoMem
 {
     let end = format!(in alloc; " cleared of {count} jobs")?;
     let text = queue(alloc, command, end.as_str())?;
+    Ok(text)
+}
+
+// The prestart entry that a command is about, and what became of it.
+fn prestart(alloc: Global, command: &Command, end: &str) -> Result<String, NoMemory>
+    ensures { IfOk result (λ text. string_bytes text ≡ prestart_text command.now end.now) }
+{
+    let mut text = String::from_str(alloc, "OK prestart")?;
+    push_subject(&mut text, alloc, command)?;
+    text.push_str(end)?;
     Ok(text)
 }
 
@@ -131,6 +163,11 @@ pub fn said(alloc: Global, command: &Command, reply: &Reply) -> Result<String, N
         Reply::QueueHeld => queue(alloc, command, " held"),
         Reply::QueueReleased => queue(alloc, command, " released"),
         Reply::QueueCleared(count) => cleared(alloc, command, *count),
+        Reply::PreStarted => prestart(alloc, command, " started"),
+        Reply::PreEnding => prestart(alloc, command, " ending"),
+        Reply::Evoked(job) => format!(in alloc; "OK {job} has the request"),
+        Reply::EvokeWaits(position) => format!(in alloc; "OK request waits as {position}"),
+        Reply::UseEnded(job) => format!(in alloc; "OK {job} use ended"),
         Reply::PowerDown => String::from_str(alloc, "OK power down"),
         Reply::Order(_) | Reply::Nothing | Reply::Noted | Reply::No(_) => noted(alloc, reply),
     }

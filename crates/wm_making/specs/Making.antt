@@ -1,11 +1,11 @@
 -- What a command makes of the objects.
 use Rattle.std.specs.Prelude.{List, pos}
 use Rattle.wm_desc.specs.declared.objects.Objects.{Objects}
+use Rattle.wm_law.specs.declared.call.Reply.TheVariants.{Nothing}
 use Rattle.wm_law.specs.declared.command.Command.{Command}
 use Rattle.wm_law.specs.declared.command.Command.TheVariants as command
 use Rattle.wm_law.specs.declared.state.Sbs.{Sbs}
 use Rattle.wm_law.specs.declared.state.State.{State}
-use Rattle.wm_law.specs.Machine.{unbuilt}
 use Rattle.wm_law.specs.Making.{make_class, make_queue, make_program, make_job_description, make_description, add_queue, add_route, add_auto, add_pre, remove_queue, remove_route, remove_auto, remove_pre}
 use Rattle.wm_law.specs.Opening.{empty}
 use Rattle.wm_law.specs.Stepped.{Stepped}
@@ -29,4 +29,4 @@ change_objects s (command.Rmvjobqe c) = remove_queue s c
 change_objects s (command.Rmvrtge c) = remove_route s c
 change_objects s (command.Rmvaje c) = remove_auto s c
 change_objects s (command.Rmvpje c) = remove_pre s c
-change_objects s c = unbuilt s
+change_objects s c = record { reply = Nothing; state = s }

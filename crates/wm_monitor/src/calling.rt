@@ -1,6 +1,6 @@
 // Making a call of a journal.
 ghost use Rattle.std.specs.Prelude.{◌≡◌, ℕ, OnOk, OnErr, IsErrOf};
-ghost use Rattle.wm_law.specs.Fit.{IsCall, HasCall};
+ghost use Rattle.wm_law.specs.Fit.{IsCall};
 ghost use Rattle.wm_journal.specs.History.{reached, with_call};
 ghost use Rattle.wm_journal.specs.Limit.{limit_of};
 ghost use Rattle.wm_monitor.specs.Journal.{HasJournalCauses};
@@ -21,7 +21,6 @@ pub fn enter<K: Keeper>(
     now: Moment,
 ) -> Result<(), MonitorFault>
     requires fit { IsCall call }
-    requires built { HasCall call }
     ensures ok { OnOk result (journal.new.history ≡ with_call journal.old.history pass.now call now) }
     ensures err { OnErr result (journal.new.history ≡ journal.old.history) }
     ensures no_wait { IsErrOf result MonitorFault.WaitFault → ⊥ }

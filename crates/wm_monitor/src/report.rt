@@ -37,7 +37,7 @@ fn known_exit(exit: &Exit) -> Exit
 
 impl Report {
     ghost use Rattle.wm_base.specs.declared.job.Event.{Event};
-    ghost use Rattle.wm_law.specs.Fit.{IsCall, HasCall};
+    ghost use Rattle.wm_law.specs.Fit.{IsCall};
     ghost use Rattle.wm_law.specs.declared.state.State.{State};
     ghost use Rattle.wm_journal.specs.Limit.{limit_of};
     ghost use Rattle.wm_monitor.specs.Monitor.{call_of, report_event, start_cause, is_spawner_fault};
@@ -47,7 +47,6 @@ impl Report {
     pub fn call(&self) -> Call
         ensures call { result ≡ call_of self.now }
         ensures fit { IsCall result }
-        ensures built { HasCall result }
         ensures limit { (limit : ℕ) → limit_of result limit ≡ 4000000 }
     {
         match self {

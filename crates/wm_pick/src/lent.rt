@@ -12,7 +12,7 @@ use wm_waiting::{Waiter, WaitingJobs};
 
 impl<'a> Parts<'a> {
     ghost use Rattle.wm_law.specs.Choice.{is_held};
-    ghost use Rattle.wm_law.specs.Counts.{count_in_sbs, count_from_queue, count_from_priority, count_by_route};
+    ghost use Rattle.wm_law.specs.Counts.{count_in_sbs, count_from_pre, count_from_queue, count_from_priority, count_by_route};
     ghost use Rattle.wm_pick.specs.NextHeads.{HasNoHead, IsNextHead};
     ghost use Rattle.wm_pick.specs.Parts.{with_parts, waiters};
     ghost use Rattle.wm_tally.specs.Tallied.{hows};
@@ -46,11 +46,18 @@ impl<'a> Parts<'a> {
         }
     }
 
-    // The active jobs of a subsystem.
-    pub(crate) fn count_in_sbs(&self, sbs: &QName) -> u32
+    /// How many active jobs came into a subsystem.
+    pub fn count_in_sbs(&self, sbs: &QName) -> u32
         ensures { result ≡ count_in_sbs sbs.now self.now.jobs }
     {
         self.tally.count(&Counted::Sbs(*sbs))
+    }
+
+    /// How many of them came by its prestart entry for a program.
+    pub fn count_from_pre(&self, sbs: &QName, pgm: &QName) -> u32
+        ensures { result ≡ count_from_pre sbs.now pgm.now self.now.jobs }
+    {
+        self.tally.count(&Counted::Pre(*sbs, *pgm))
     }
 
     // Those that came from its entry for a queue.

@@ -8,7 +8,7 @@ use crate::routing::entry_numbered;
 use std::alloc::Global;
 use wm_base::{Args, How, NoMemory, QName, StartOrder};
 use wm_clwords::Request;
-use wm_desc::{RouteEntry, is_qcmd};
+use wm_desc::{PreEntry, RouteEntry, is_qcmd};
 use wm_law::Job;
 
 // The values of the request.
@@ -41,7 +41,7 @@ fn called_args(
 impl<'a> Parts<'a> {
     ghost use Rattle.std.specs.Prelude.{◌≡◌, Some, IfOk};
     ghost use Rattle.std.specs.Option.{option_copied};
-    ghost use Rattle.wm_law.specs.Launch.{route_entry, order_of, order_through};
+    ghost use Rattle.wm_law.specs.Launch.{route_entry, pre_entry, order_of, order_pre, order_through};
 
     // A subsystem's routing entry of a number.
     fn route_entry(&self, sbs: &QName, seq: u32) -> Option<&RouteEntry>
@@ -50,20 +50,56 @@ impl<'a> Parts<'a> {
         entry_numbered(self.objects.sbsds.object(sbs)?, seq)
     }
 
-    /// The order of a Starting job: its routing entry's program with the entry's class. `None` where one of these isn't
-    /// there. An `Err` is want of memory.
+    // A subsystem's prestart entry for a program.
+    fn pre_entry(&self, sbs: &QName, pgm: &QName) -> Option<&PreEntry>
+        ensures { option_copied result ≡ pre_entry self.now sbs.now pgm.now }
+    {
+        self.objects.sbsds.object(sbs)?.pres.get(pgm)
+    }
+
+    /// The order of a Starting job: the program of its routing or prestart entry with the entry's class. `None` where one of
+    /// these isn't there. An `Err` is want of memory.
     pub fn order_of(&self, alloc: Global, job: &Job) -> Result<Option<StartOrder>, NoMemory>
         ensures { IfOk result (λ order. order ≡ order_of self.now job.now) }
     {
         let entry = match &job.how {
             How::FromQueue { sbs, route, .. } => self.route_entry(sbs, *route),
             How::Auto { sbs, route } => self.route_entry(sbs, *route),
-            _ => None,
+            How::Pre { sbs, pgm } => return self.order_pre(alloc, job, self.pre_entry(sbs, pgm)),
+            How::NotYet => None,
         };
         match entry {
             None => Ok(None),
             Some(entry) => self.order_through(alloc, job, entry),
         }
+    }
+
+    // The order of a prestart job by its entry.
+    fn order_pre(
+        &self,
+        alloc: Global,
+        job: &Job,
+        entry: Option<&PreEntry>,
+    ) -> Result<Option<StartOrder>, NoMemory>
+        ensures { IfOk result (λ order. order ≡ order_pre self.now job.now (option_copied entry.entry)) }
+    {
+        let Some(entry) = entry else {
+            return Ok(None);
+        };
+        let Some(program) = self.objects.programs.object(&entry.pgm) else {
+            return Ok(None);
+        };
+        let Some(cls) = self.objects.classes.object(&entry.cls) else {
+            return Ok(None);
+        };
+        Ok(Some(StartOrder {
+            serial: job.serial,
+            job: job.job,
+            path: program.path.clone()?,
+            args: Args::new(alloc),
+            cls: *cls,
+            pre: true,
+        }))
     }
 
     fn order_through(

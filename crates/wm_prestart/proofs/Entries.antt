@@ -1,5 +1,5 @@
 -- What the orders of entries and of seats say of their fields.
-use Rattle.std.proofs.Common.{◌≡◌, true, ◌&&◌, refl, ap, ◌∙◌}
+use Rattle.std.proofs.Common.{◌≡◌, true, ◌&&◌, nat_eq, refl, ap, ◌∙◌}
 use Rattle.std.specs.Cmp.{IsTotalOrder, unsigned_ties, both_tied, tied_itself}
 use Rattle.std.specs.Ordering.{is_eq}
 use Rattle.std.proofs.lemmas.Bool.{and_parts, eqb-true}
@@ -32,14 +32,14 @@ one_entry a b h =
     first ∙ ap (λ (q : QName). record b { pgm = q }) (one_name a.pgm b.pgm parts.1)
 
 pub seat_total : IsTotalOrder seat_cmp
-seat_total = then_total (on_total (λ (s : Seat). s.entry) entry_total) (on_total (λ (s : Seat). s.serial) nat_cmp_total)
+seat_total = then_total (on_total (λ (s : Seat). s.entry) entry_total) (then_total (on_total (λ (s : Seat). s.number) nat_cmp_total) (on_total (λ (s : Seat). s.serial) nat_cmp_total))
 
 pub seat_ties : (a b : Seat) → same_seat a b ≡ is_eq (seat_cmp a b)
-seat_ties a b = both_tied _ _ _ _ (entry_ties a.entry b.entry) (unsigned_ties a.serial b.serial)
+seat_ties a b = both_tied _ _ _ _ (entry_ties a.entry b.entry) (both_tied _ _ _ _ (unsigned_ties a.number b.number) (unsigned_ties a.serial b.serial))
 
 pub seat-itself : (s : Seat) → same_seat s s ≡ true
 seat-itself s = seat_ties s s ∙ ap is_eq (tied_itself seat_total s)
 
 -- one seat is of one serial
 pub same_seat-serial : (a b : Seat) → same_seat a b ≡ true → a.serial ≡ b.serial
-same_seat-serial a b h = eqb-true a.serial b.serial (and_parts (same_entry a.entry b.entry) _ h).1
+same_seat-serial a b h = eqb-true a.serial b.serial (and_parts (nat_eq a.number b.number) _ (and_parts (same_entry a.entry b.entry) _ h).1).1

@@ -1,7 +1,9 @@
 pub mod Counts
 pub mod Entries
+pub mod Least
 pub mod NumberLemmas
 pub mod OfJobs
 pub mod Pigeons
+pub mod PlainJobs
 pub mod SeatLemmas
 pub mod Set

@@ -1,4 +1,5 @@
 pub mod OfJobs
+pub mod Plain
 pub mod PrestartInside
 pub mod Ready
 pub mod Requests

@@ -20,12 +20,12 @@ entry_of sbs pgm = record { sbs = sbs; pgm = pgm }
 abbrev pub readiness_of : Job → Readiness
 readiness_of j = if law.is_idle j then Idle else if law.is_available j then Coming else Taken
 
--- a job with its entry, where it came by one
+-- a job with its entry and its number, where it came by one
 abbrev pub row_by : Job → How → Option (ℕ × PrestartJob)
 row_by j NotYet = None
 row_by j (FromQueue sbs jobq pty route) = None
 row_by j (Auto sbs route) = None
-row_by j (Pre sbs pgm) = Some (j.serial, record { entry = entry_of sbs pgm; readiness = readiness_of j })
+row_by j (Pre sbs pgm) = Some (j.serial, record { entry = entry_of sbs pgm; number = j.job.number; readiness = readiness_of j })
 
 -- a job with its entry, where it is active and came by one
 abbrev pub row_of : Job → Option (ℕ × PrestartJob)
@@ -39,6 +39,6 @@ prestart_jobs jobs = filter_map row_of jobs
 abbrev pub AvailableAreCounted : Type 0
 AvailableAreCounted = (sbs pgm : QName) (jobs : List Job) → available (entry_of sbs pgm) (prestart_jobs jobs) ≡ law.count_available sbs pgm jobs
 
--- the idle one of least serial is that of least number, where jobs that came by prestart entries stand in the order of their numbers
+-- the idle one of least number is that of the definition
 abbrev pub FirstIdleIsFound : Type 0
-FirstIdleIsFound = (sbs pgm : QName) (jobs : List Job) → law.HavePresInOrder jobs → first_idle (entry_of sbs pgm) (prestart_jobs jobs) ≡ option_map (λ j. j.serial) (law.first_idle sbs pgm jobs)
+FirstIdleIsFound = (sbs pgm : QName) (jobs : List Job) → first_idle (entry_of sbs pgm) (prestart_jobs jobs) ≡ option_map (λ j. j.serial) (law.first_idle sbs pgm jobs)

@@ -1,5 +1,5 @@
 -- What is found among active prestart jobs.
-use Rattle.std.specs.Prelude.{ℕ, Bool, true, false, ◌&&◌, List, find, count_by, Option, option_map}
+use Rattle.std.specs.Prelude.{ℕ, nat_lt, Bool, true, false, ◌&&◌, List, filter, fold, count_by, Option, Some, None, option_map, if◌then◌else◌}
 use Rattle.std.specs.declared.cmp.Ordering.{Ordering}
 use Rattle.wm_ordered.specs.Ordered.{key_of}
 use Rattle.wm_prestart.specs.declared.prestart_job.PrestartEntry.{PrestartEntry}
@@ -41,6 +41,11 @@ is_idle_in entry job = same_entry job.1.entry entry && is_idle job.1.readiness
 abbrev pub available : PrestartEntry → List (ℕ × PrestartJob) → ℕ
 available entry jobs = count_by (is_available_in entry) jobs
 
--- the least serial of its idle jobs
+-- the job of lesser number of two
+abbrev pub of_lesser_number : Option (ℕ × PrestartJob) → ℕ × PrestartJob → Option (ℕ × PrestartJob)
+of_lesser_number None job = Some job
+of_lesser_number (Some other) job = if nat_lt job.1.number other.1.number then Some job else Some other
+
+-- the serial of its idle job of least number
 abbrev pub first_idle : PrestartEntry → List (ℕ × PrestartJob) → Option ℕ
-first_idle entry jobs = option_map key_of (find (is_idle_in entry) jobs)
+first_idle entry jobs = option_map key_of (fold of_lesser_number None (filter (is_idle_in entry) jobs))

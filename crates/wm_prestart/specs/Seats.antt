@@ -14,13 +14,13 @@ use Rattle.wm_prestart.specs.Ready.{available, is_idle, same_entry}
 abbrev pub same_seat : Seat → Seat → Bool
 same_seat = (by_eq.ghosts).eq
 
--- by entry, then serial, as `cmp` answers
+-- by entry, then number, then serial, as `cmp` answers
 abbrev pub seat_cmp : Seat → Seat → Ordering
 seat_cmp = (by_cmp.ghosts).cmp
 
 -- the seat of a job
 abbrev pub seat_of : ℕ × PrestartJob → Seat
-seat_of job = record { entry = job.1.entry; serial = job.0 }
+seat_of job = record { entry = job.1.entry; number = job.1.number; serial = job.0 }
 
 -- whether the job is idle
 abbrev pub is_idle_job : ℕ × PrestartJob → Bool

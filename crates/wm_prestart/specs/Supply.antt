@@ -4,8 +4,8 @@ use Rattle.wm_base.specs.declared.qname.QName.{QName}
 use Rattle.wm_desc.specs.declared.description.Sbsd.{Sbsd}
 use Rattle.wm_desc.specs.declared.entry.PreEntry.{PreEntry}
 use Rattle.wm_law.specs.declared.state.State.{State}
-use Rattle.wm_law.specs.Counts.{count_in_sbs}
-use Rattle.wm_law.specs.Prestart.{count_available, count_from_pre, is_stopped}
+use Rattle.wm_law.specs.Counts.{count_in_sbs, count_from_pre}
+use Rattle.wm_law.specs.Prestart.{count_available, is_stopped}
 use Rattle.wm_law.specs.Submitting.{numbers_left}
 use Rattle.wm_prestart.specs.declared.bounds.Supply.{Supply}
 

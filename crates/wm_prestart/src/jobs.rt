@@ -8,12 +8,12 @@ use std::marker::Model;
 use wm_base::{NoMemory, Serial};
 use wm_ordered::Ordered;
 
-/// The active prestart jobs by serial, each with its entry and whether it can take a request. `spare` is for how many more
+/// The active prestart jobs by serial, each with its entry, its number and whether it can take a request. `spare` is for how many more
 /// there is room.
 #[derive(Drop)]
 pub struct PrestartJobs {
     jobs: Ordered<Serial, PrestartJob>,
-    // The idle ones, by entry.
+    // The idle ones, by entry, then number.
     seats: Ordered<Seat, ()>,
     // How many of an entry are available.
     numbers: Ordered<PrestartEntry, u32>,
@@ -135,12 +135,13 @@ impl PrestartJobs {
         number(&self.numbers, entry)
     }
 
-    /// The idle job of an entry that has the least serial. It is one look.
+    /// The idle job of an entry that has the least number, and among those of one number the least serial. It is one look.
     pub fn first_idle(&self, entry: &PrestartEntry) -> Option<Serial>
         ensures { result ≡ first_idle entry.now self.now.items }
     {
         let begin = Seat {
             entry: *entry,
+            number: 0,
             serial: Serial::new(0),
         };
         // `len` tells that keys ascend.

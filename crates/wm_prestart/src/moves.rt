@@ -12,6 +12,16 @@ use crate::seat::Seat;
 use wm_base::Serial;
 use wm_ordered::Ordered;
 
+fn seat_of(serial: Serial, job: &PrestartJob) -> Seat
+    ensures { result ≡ seat_of (serial, job.now) }
+{
+    Seat {
+        entry: job.entry,
+        number: job.number.get(),
+        serial,
+    }
+}
+
 /// Puts in the seat of a job, where it is idle.
 pub(crate) fn sit(seats: &mut Ordered<Seat, ()>, serial: Serial, job: &PrestartJob)
     requires spare { 1 ≤ seats.old.spare }
@@ -20,11 +30,7 @@ pub(crate) fn sit(seats: &mut Ordered<Seat, ()>, serial: Serial, job: &PrestartJ
     ensures nodes { nodes_of seats.new ≡ nodes_of seats.old }
 {
     if job.readiness.is_idle() {
-        let seat = Seat {
-            entry: job.entry,
-            serial,
-        };
-        seats.insert(seat, ());
+        seats.insert(seat_of(serial, job), ());
     }
 }
 
@@ -33,11 +39,7 @@ pub(crate) fn stand(seats: &mut Ordered<Seat, ()>, serial: Serial, job: &Prestar
     ensures seats { (jobs : List (ℕ × PrestartJob)) → AreSeats jobs seats.old.items → IsSortedOnce key_of nat_cmp jobs → value_at nat_eq serial jobs ≡ Some job.now → AreSeats (removed key_of nat_eq serial jobs) seats.new.items }
     ensures nodes { nodes_of seats.new ≡ nodes_of seats.old }
 {
-    let seat = Seat {
-        entry: job.entry,
-        serial,
-    };
-    take_row(seats, &seat);
+    take_row(seats, &seat_of(serial, job));
 }
 
 /// Counts a job, where it is available.

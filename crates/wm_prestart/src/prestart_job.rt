@@ -1,5 +1,5 @@
 // Prestart jobs.
-use wm_base::QName;
+use wm_base::{JobNumber, QName};
 
 /// A prestart entry: a program in a subsystem.
 #[derive(Clone, Copy, PartialEq, Eq, PartialOrd, Ord)]
@@ -17,10 +17,11 @@ pub enum Readiness {
     Taken,
 }
 
-/// An active prestart job: its entry, and whether it can take a request.
+/// An active prestart job: its entry, its number, and whether it can take a request.
 #[derive(Clone, Copy)]
 pub struct PrestartJob {
     pub entry: PrestartEntry,
+    pub number: JobNumber,
     pub readiness: Readiness,
 }
 

@@ -2,9 +2,10 @@
 use crate::PrestartEntry;
 use wm_base::Serial;
 
-/// An idle job: by entry, then serial.
+/// An idle job: by entry, then number, then serial.
 #[derive(Clone, Copy, PartialEq, Eq, PartialOrd, Ord)]
 pub(crate) struct Seat {
     pub(crate) entry: PrestartEntry,
+    pub(crate) number: u32,
     pub(crate) serial: Serial,
 }

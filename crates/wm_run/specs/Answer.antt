@@ -5,7 +5,7 @@ use Rattle.wm_law.specs.declared.call.Call.{Call}
 use Rattle.wm_law.specs.declared.call.Call.TheVariants.{Change}
 use Rattle.wm_law.specs.declared.call.Entry.{Entry}
 use Rattle.wm_law.specs.declared.call.Reply.{Reply}
-use Rattle.wm_law.specs.declared.call.Reply.TheVariants.{Made, SbsStarted, SbsEnding, Submitted, Held, Released, Changed, JobEnding, JobEnded, QueueHeld, QueueReleased, QueueCleared, PowerDown, Order, Nothing, Noted, No}
+use Rattle.wm_law.specs.declared.call.Reply.TheVariants.{Made, SbsStarted, SbsEnding, Submitted, Held, Released, Changed, JobEnding, JobEnded, QueueHeld, QueueReleased, QueueCleared, PreStarted, PreEnding, Evoked, EvokeWaits, UseEnded, PowerDown, Order, Nothing, Noted, No}
 use Rattle.wm_listing.specs.Said.{said_text, fault_text}
 use Rattle.wm_listing.specs.declared.line_fault.LineFault.{LineFault}
 use Rattle.wm_listing.specs.declared.line_fault.LineFault.TheVariants.{Cl}
@@ -32,10 +32,6 @@ is_fault fault = true
 abbrev pub fault_answer : LineFault → List ℕ
 fault_answer fault = if is_fault fault then with_end (fault_text fault) else []
 
--- what is said of a line that isn't built
-abbrev pub not_built : List ℕ
-not_built = codes "CM 9 NOTBUILT"
-
 -- whether a reply refuses
 abbrev pub is_refused : Reply → Bool
 is_refused Made = false
@@ -50,6 +46,11 @@ is_refused (JobEnded job) = false
 is_refused QueueHeld = false
 is_refused QueueReleased = false
 is_refused (QueueCleared count) = false
+is_refused PreStarted = false
+is_refused PreEnding = false
+is_refused (Evoked job) = false
+is_refused (EvokeWaits position) = false
+is_refused (UseEnded job) = false
 is_refused PowerDown = false
 is_refused (Order asked) = false
 is_refused Nothing = false
@@ -70,6 +71,11 @@ is_power_down (JobEnded job) = false
 is_power_down QueueHeld = false
 is_power_down QueueReleased = false
 is_power_down (QueueCleared count) = false
+is_power_down PreStarted = false
+is_power_down PreEnding = false
+is_power_down (Evoked job) = false
+is_power_down (EvokeWaits position) = false
+is_power_down (UseEnded job) = false
 is_power_down PowerDown = true
 is_power_down (Order asked) = false
 is_power_down Nothing = false

@@ -19,12 +19,12 @@ use Rattle.wm_run.specs.Parsed.{Parses}
 use Rattle.wm_listing.specs.Said.{said_text}
 use Rattle.wm_run.specs.Down.{is_down}
 use Rattle.wm_run.specs.Grown.{grown}
-use Rattle.wm_run.specs.Answer.{fault_answer, is_fault, with_end, not_built, is_refused}
+use Rattle.wm_run.specs.Answer.{fault_answer, is_fault, with_end, is_refused}
 use Rattle.wm_run.specs.Reads.{read_text, is_read_refused}
 use Rattle.wm_listing.specs.declared.line_fault.LineFault.TheVariants.{Cl}
 use Rattle.wm_run.specs.declared.parsed.Parsed.{Parsed}
 use Rattle.wm_run.specs.declared.settings.Settings.{Settings}
-use Rattle.wm_run.specs.declared.parsed.Parsed.TheVariants.{Fault, NotBuilt, Read, Call}
+use Rattle.wm_run.specs.declared.parsed.Parsed.TheVariants.{Fault, Read, Call}
 
 -- the first call: the controlling subsystem is started
 abbrev pub start_call : QName → MachineCall
@@ -59,7 +59,6 @@ IsUncalled es = entries_of session_pass es ≡ []
 -- what answers a user's parsed line behind a history: a fault has its line, a reading command its listing, a call what is said of its entry
 abbrev pub AnswersParsed : List ℕ → Parsed → History → List Entry → List ℕ → Bool → Type 0
 AnswersParsed user (Fault fault) h es bytes faulty = Says (fault_answer fault) (is_fault fault) es bytes faulty
-AnswersParsed user NotBuilt h es bytes faulty = Says (with_end not_built) true es bytes faulty
 AnswersParsed user (Read ask) h es bytes faulty = Reads ask h es bytes faulty
 AnswersParsed user (Call c) h es bytes faulty = Calls user c es bytes faulty
 

@@ -8,9 +8,6 @@ use wm_clwords::ClFault;
 use wm_law::{Call, Entry, Reply};
 use wm_listing::{LineFault, fault_line, said};
 
-/// What answers a line that isn't built.
-pub const NOT_BUILT: &[u8] = b"CM 9 NOTBUILT\n";
-
 /// Whether a reply refuses.
 pub fn is_refused(reply: &Reply) -> bool
     ensures { result ≡ is_refused reply.now }

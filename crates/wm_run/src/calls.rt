@@ -1,7 +1,6 @@
 // The session's calls: that of a user's command, and its own.
-ghost use Rattle.std.specs.Prelude.{◌≡◌, true, IfOk};
-ghost use Rattle.wm_law.specs.Built.{is_built};
-ghost use Rattle.wm_law.specs.Fit.{HasCall, IsCall, IsCommand};
+ghost use Rattle.std.specs.Prelude.{◌≡◌, IfOk};
+ghost use Rattle.wm_law.specs.Fit.{IsCall, IsCommand};
 ghost use Rattle.wm_law.specs.declared.call.Call.TheVariants.{Change};
 ghost use Rattle.wm_run.specs.Session.{start_call, end_call};
 
@@ -14,7 +13,6 @@ pub fn user_call(alloc: Global, user: &Name, command: Command) -> Result<Call, N
     requires { IsCommand command }
     ensures call { IfOk result (λ call. call ≡ Change user.now command) }
     ensures fit { IfOk result IsCall }
-    ensures had { is_built command ≡ true → IfOk result HasCall }
 {
     // The form of the name is what a call asks for.
     let _name = user.as_bytes();

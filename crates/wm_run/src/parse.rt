@@ -9,7 +9,6 @@ use std::alloc::{AllocError, Global};
 use wm_base::{Name, NoMemory};
 use wm_clwords::{ClFault, Tree, read_command};
 use wm_command::{CmdFault, Line, command};
-use wm_core::built;
 use wm_listing::LineFault;
 
 // What a line of the command table comes to.
@@ -20,10 +19,7 @@ fn parsed_of(line: Line) -> Parsed
 {
     match line {
         Line::Read(ask) => Parsed::Read(ask),
-        Line::Change(command) => match built(&command) {
-            Ok(()) => Parsed::Call(command),
-            Err(_) => Parsed::NotBuilt,
-        },
+        Line::Change(command) => Parsed::Call(command),
     }
 }
 

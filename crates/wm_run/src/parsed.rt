@@ -6,8 +6,6 @@ use wm_listing::LineFault;
 #[derive(Drop)]
 pub enum Parsed {
     Fault(LineFault),
-    /// A changing command that isn't built yet.
-    NotBuilt,
     /// A reading command.
     Read(Ask),
     /// A call of the session's user.

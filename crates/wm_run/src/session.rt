@@ -3,7 +3,7 @@ ghost use Rattle.std.specs.Prelude.{◌≡◌, ◌≤◌, ℕ, Err, OnOk, OnErr,
 ghost use Rattle.wm_traits.specs.Told.{Grows};
 ghost use Rattle.wm_traits.specs.Cause.{raised};
 
-use crate::answer::{NOT_BUILT, entry_line, fault_answer, is_fault, is_power_down, is_refused};
+use crate::answer::{entry_line, fault_answer, is_fault, is_power_down, is_refused};
 use crate::answered::Answered;
 use crate::calls::user_call;
 use crate::halt::Halt;
@@ -46,8 +46,7 @@ pub(crate) fn put<O: Sink>(out: &mut O, bytes: &[u8]) -> Result<(), Halt>
 impl<K: Keeper> Run<K> {
     ghost use Rattle.std.specs.Prelude.{◌≡◌, ◌⊎◌, ◌<◌, ◌≤◌, ◌+◌, ◌-◌, ◌∷◌, [], ℕ, None, Ok, true, OnOk, OnErr, IsErrOf, IfOk, IfSome, length, min, take};
     ghost use Rattle.std.specs.Option.{option_copied};
-    ghost use Rattle.wm_law.specs.Built.{is_built};
-    ghost use Rattle.wm_law.specs.Fit.{IsCall, HasCall, IsCommand};
+    ghost use Rattle.wm_law.specs.Fit.{IsCall, IsCommand};
     ghost use Rattle.wm_law.specs.Pending.{next_moment, orders_left};
     ghost use Rattle.wm_journal.specs.History.{reached, with_call, last_of};
     ghost use Rattle.wm_traits.specs.Told.{Grows, IsEmpty};
@@ -76,7 +75,6 @@ impl<K: Keeper> Run<K> {
         call: Call,
     ) -> Result<(), Halt>
         requires fit { IsCall call }
-        requires built { HasCall call }
         ensures ok { OnOk result (Called self.old.journal.history call self.new.journal.history) }
         ensures moment { OnOk result (IfSome (C.coming clock.old) (λ now. self.new.journal.history ≡ with_call self.old.journal.history session_pass call now)) }
         ensures err { OnErr result (self.new.journal.history ≡ self.old.journal.history) }
@@ -191,7 +189,6 @@ impl<K: Keeper> Run<K> {
         command: Command,
     ) -> Result<Answered, Halt>
         requires fit { IsCommand command }
-        requires built { is_built command ≡ true }
         ensures serves { RunServes P.asked P.told P.misses self.old.journal.history self.old.monitor spawner.old self.new.journal.history self.new.monitor spawner.new }
         ensures answered { IfOk result (λ r. AnsweredBy (Calls user.now command)
             (entries_between self.old.journal.history self.new.journal.history) (O.written out.old) (O.written out.new) r.faulty) }
@@ -239,10 +236,6 @@ impl<K: Keeper> Run<K> {
                 let line = fault_answer(alloc, &fault)?;
                 put(out, line.as_bytes())?;
                 Ok(Answered::uncalled(is_fault(&fault)))
-            }
-            Parsed::NotBuilt => {
-                put(out, NOT_BUILT)?;
-                Ok(Answered::uncalled(true))
             }
             Parsed::Read(ask) => {
                 let refused = self.list(alloc, out, &ask)?;

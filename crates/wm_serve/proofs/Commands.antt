@@ -62,7 +62,6 @@ module _ {K : Type 0} where
 
   of_line : (o : Opened K) (user : List ℕ) (p : Parsed) (old new : Seen K) (a : Answer) → AnswersParsed o user p old new a → MakesCommands old new
   of_line o user (of_parsed.Fault fault) old new a x = same_pass old new x.pass
-  of_line o user of_parsed.NotBuilt old new a x = same_pass old new x.pass
   of_line o user (of_parsed.Read ask) old new a x = commands_same old new x.looked.mine
   of_line o user (of_parsed.Call c) old new a x = of_call o user c old new a x
 

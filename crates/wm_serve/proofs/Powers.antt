@@ -1,21 +1,26 @@
 -- Where the power isn't on any more, a PWRDWNSYS was accepted.
-use Rattle.std.proofs.Common.{◌≡◌, ◌⊎◌, ◌∙◌, ℕ, ℤ, Bool, true, false, cond, List, [], ◌∷◌, Option, Some, None, Result, Ok, Err, refl, sym, ap, inl, inr}
+use Rattle.std.proofs.Common.{◌≡◌, ◌⊎◌, ◌∙◌, ◌&&◌, ◌==◌, ℕ, ℤ, Bool, true, false, cond, List, [], ◌∷◌, Option, Some, None, Result, Ok, Err, refl, sym, ap, inl, inr}
 use Rattle.std.specs.Prelude.{codes}
+use Rattle.wm_base.specs.declared.qname.QName.{QName}
 use Rattle.wm_base.proofs.Iterate.{iterate-keeps}
+use Rattle.wm_desc.specs.Table.{object_named}
+use Rattle.wm_desc.specs.declared.description.Sbsd.{Sbsd}
+use Rattle.wm_desc.specs.declared.entry.PreEntry.{PreEntry}
 use Rattle.wm_traits.specs.declared.row.Row.{Row}
-use Rattle.wm_law.specs.Autos.{autos_of}
-use Rattle.wm_law.specs.Built.{is_ending_call, tells_to_end}
-use Rattle.wm_law.specs.Endings.{end_active, end_found, end_in_phase, end_started, is_down, is_ending_by, is_wished}
+use Rattle.wm_law.specs.CallKinds.{is_ending_call, tells_to_end}
+use Rattle.wm_law.specs.Counts.{count_from_pre}
+use Rattle.wm_law.specs.Endings.{end_active, end_found, end_in_phase, end_started, is_down, is_ending_by, is_wished, started_named}
 use Rattle.wm_law.specs.History.{IsLegal, after, stepped}
-use Rattle.wm_law.specs.Launch.{with_routed}
+use Rattle.wm_law.specs.Launch.{pre_entry_for, with_routed}
 use Rattle.wm_law.specs.Laws.{IsIn}
 use Rattle.wm_law.specs.Machine.{apply, change, step, with_clock}
 use Rattle.wm_law.specs.Named.{job_named}
 use Rattle.wm_law.specs.Opening.{empty}
 use Rattle.wm_law.specs.Power.{is_on}
-use Rattle.wm_law.specs.Settling.{come_due, leave, settle, waiting}
+use Rattle.wm_law.specs.Prestart.{is_stopped}
+use Rattle.wm_law.specs.Prestarting.{end_entry, end_entry_in, end_entry_with}
+use Rattle.wm_law.specs.Settling.{come_due, leave, ready, settle, waiting}
 use Rattle.wm_law.specs.Stepped.{Stepped}
-use Rattle.wm_law.specs.Subsystems.{begun}
 use Rattle.wm_law.specs.declared.call.Call.{Call}
 use Rattle.wm_law.specs.declared.call.Call.TheVariants.{Change, Hand, Started, StartFailed, Finished, UseDone, Tick}
 use Rattle.wm_law.specs.declared.call.Entry.{Entry}
@@ -25,6 +30,7 @@ use Rattle.wm_law.specs.declared.choice.Candidate.{Candidate}
 use Rattle.wm_law.specs.declared.command.Command.{Command}
 use Rattle.wm_law.specs.declared.command.Command.TheVariants as command
 use Rattle.wm_law.specs.declared.command.Endjob.{Endjob}
+use Rattle.wm_law.specs.declared.command.Endpj.{Endpj}
 use Rattle.wm_law.specs.declared.command.Endsbs.{Endsbs}
 use Rattle.wm_law.specs.declared.command.Pwrdwnsys.{Pwrdwnsys}
 use Rattle.wm_law.specs.declared.job.Job.{Job}
@@ -32,8 +38,9 @@ use Rattle.wm_law.specs.declared.job.Phase.{Phase}
 use Rattle.wm_law.specs.declared.job.Phase.TheVariants.{Waiting, Starting, Handed, Running, Ended}
 use Rattle.wm_law.specs.declared.state.Sbs.{Sbs}
 use Rattle.wm_law.specs.declared.state.State.{State}
-use Rattle.wm_law.proofs.Moves.{HoldsAfterCalls, call_comes, made_all, makeable}
+use Rattle.wm_law.proofs.Moves.{HoldsAfterCalls, autos_made, call_comes, prestart_keeps, started_keeps}
 use Rattle.wm_law.proofs.Opened.{opening_is}
+use Rattle.wm_law.proofs.Supplies.{IsSupplied, supplied_keeps}
 use Rattle.wm_rows.specs.declared.stored.Counter.{Counter}
 use Rattle.wm_rows.specs.declared.stored.Counter.TheVariants as counter
 use Rattle.wm_tables.specs.Restart.{IsRead, IsRestart, Takes, with_counter}
@@ -53,18 +60,25 @@ record IsPutDown (call : Call) (reply : Reply) : Type 0 where
 abbrev KeepsPower : State → Call → Stepped → Type 0
 KeepsPower s call t = (t.state.power ≡ s.power) ⊎ IsPutDown call t.reply
 
+-- prestart jobs leave the power
+supplied_power : (s : State) → IsSupplied (λ t. t.power ≡ s.power)
+supplied_power s = record { makes = λ q d e t can p. p; assigns = λ t q pgm job evokes can p. p }
+
 calls_keep : (s : State) (call : Call) → is_ending_call call ≡ false → HoldsAfterCalls (λ t. t.state.power ≡ s.power) s call
 calls_keep s call quiet = record {
   refuses = λ x. refl;
   nothing = λ n. refl;
   notes = refl;
   hands = λ m j o i e f. refl;
-  reports = λ serial j phase i e r n. refl;
-  starts = λ q e. made_all (λ t. t.power ≡ s.power) q (λ t e d m p. p) (autos_of s q) (begun s q) (makeable s q e) refl;
+  reports = λ serial j phase stopped i e r n. refl;
+  starts = λ q k. started_keeps (λ t. t.power ≡ s.power) s q k (supplied_power s) (autos_made (λ t. t.power ≡ s.power) s q k (λ t e d m p. p) refl);
   enters = λ user c d due has. refl;
   alters = λ reply change place p a. refl;
   holds = λ reply held p a told. refl;
-  ends = λ reply change started evokes power p e told. absurd (cc);
+  ends = λ reply change started stopped evokes power p e told. absurd (cc);
+  uses = λ reply change p u. refl;
+  waits = λ place evokes. refl;
+  prestarts = λ q d e can. prestart_keeps (λ t. t.power ≡ s.power) s q d e can (supplied_power s) refl;
   kills = λ m j i k. refl;
   makes = λ o c told. refl;
 }
@@ -93,10 +107,22 @@ sbs_keeps : (s : State) (c : Endsbs) (o : Option Sbs) → (end_started s c o).st
 sbs_keeps s c None = refl
 sbs_keeps s c (Some b) = either (λ t. t.state.power ≡ s.power) (is_ending_by c.option b.phase) _ _ refl refl
 
+entry_keeps : (s : State) (c : Endpj) (sbs : QName) (o : Option PreEntry) → (end_entry s c sbs o).state.power ≡ s.power
+entry_keeps s c sbs None = refl
+entry_keeps s c sbs (Some e) = either (λ t. t.state.power ≡ s.power) (is_stopped s sbs e.pgm && count_from_pre sbs e.pgm s.jobs == 0) _ _ refl refl
+
+described_keeps : (s : State) (c : Endpj) (sbs : QName) (o : Option Sbsd) → (end_entry_with s c sbs o).state.power ≡ s.power
+described_keeps s c sbs None = refl
+described_keeps s c sbs (Some d) = entry_keeps s c sbs (pre_entry_for c.pgm d)
+
+prestart_ends : (s : State) (c : Endpj) (o : Option Sbs) → (end_entry_in s c o).state.power ≡ s.power
+prestart_ends s c None = refl
+prestart_ends s c (Some b) = described_keeps s c b.sbsd (object_named b.sbsd s.objects.sbsds)
+
 ending_keeps : (s : State) (user : List ℕ) (c : Command) → tells_to_end c ≡ true → KeepsPower s (Change user c) (change s user c)
 ending_keeps s user (command.Endsbs c) told = inl (sbs_keeps s c _)
 ending_keeps s user (command.Endjob c) told = inl (found_keeps s c (job_named s c.job))
-ending_keeps s user (command.Endpj c) told = inl refl
+ending_keeps s user (command.Endpj c) told = inl (prestart_ends s c (started_named s c.sbs))
 ending_keeps s user (command.Pwrdwnsys c) told =
     either (KeepsPower s (Change user (command.Pwrdwnsys c))) (is_down c.option s.power) _ _ (inl refl) (inr (record { user = user; c = c; call_is = refl; reply_is = refl }))
 ending_keeps s user c told = absurd (cc)
@@ -129,8 +155,8 @@ launched_power s c (Some j) = refl
 
 settled_power : (s : State) → (settle s).power ≡ s.power
 settled_power s =
-    let t = leave (come_due s) in
-    iterate-keeps (λ u. u.power ≡ s.power) (record { by_step = λ u c e h. launched_power u c _ ∙ h }) (waiting t) t refl
+    let t = ready s in
+    iterate-keeps (λ u. u.power ≡ s.power) (record { by_step = λ u c e h. launched_power u c _ ∙ h }) (waiting t) t (supplied_keeps (λ u. u.power ≡ s.power) (supplied_power s) (leave (come_due s)) refl)
 
 stepped_power : (s : State) (caller : ℕ) (call : Call) (moment : ℕ) → KeepsPower s call (step s caller call moment)
 unfolding step

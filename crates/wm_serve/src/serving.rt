@@ -2,7 +2,7 @@
 ghost use Rattle.std.specs.Prelude.{◌≡◌, ◌⊎◌, ◌+◌, ◌<◌, ◌≤◌, [], All, Err, IfErr, IfOk, None, OnErr, OnOk, false, true, fold, length, set};
 ghost use Rattle.std.specs.List.{AllZip, list_all};
 ghost use Rattle.wm_traits.specs.Cause.{raised};
-ghost use Rattle.wm_law.specs.Fit.{HasCall, IsCall};
+ghost use Rattle.wm_law.specs.Fit.{IsCall};
 ghost use Rattle.wm_law.specs.History.{is_monitor_call};
 ghost use Rattle.wm_law.specs.Power.{is_on};
 ghost use Rattle.wm_floor.specs.Floor.{HasLooked, IsPassOf, IsSame};
@@ -56,7 +56,6 @@ fn call_once<K: Keeper, R: Wait>(
 ) -> Result<u32, Halt>
     requires own { IsPassOf floor.now zero.old }
     requires fit { IsCall call }
-    requires built { HasCall call }
     requires command { is_monitor_call call ≡ false }
     ensures own { IsPassOf floor.now zero.new }
     ensures same { IsSame zero.old zero.new }

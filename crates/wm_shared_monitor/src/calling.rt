@@ -1,6 +1,6 @@
 // Making a call of a floor.
 ghost use Rattle.std.specs.Prelude.{◌≡◌, ℕ, length, true, Ok, Err, IfOk, IfErr, OnOk, OnErr};
-ghost use Rattle.wm_law.specs.Fit.{HasCall, IsCall};
+ghost use Rattle.wm_law.specs.Fit.{IsCall};
 ghost use Rattle.wm_law.specs.History.{is_monitor_call};
 ghost use Rattle.wm_journal.specs.History.{reached};
 ghost use Rattle.wm_journal.specs.Limit.{limit_of};
@@ -46,7 +46,6 @@ pub(crate) fn enter<K: Keeper, R: Wait>(
 ) -> Result<Answered, MonitorFault>
     requires own { IsPassOf floor.now pass.old }
     requires fit { IsCall call }
-    requires built { HasCall call }
     requires limit { (limit : ℕ) → limit_of call limit ≡ 4000000 }
     requires monitors { is_monitor_call call ≡ true }
     requires called_for { IsCalledFor pass.old.number (reached (behind floor.now.opening pass.old.seen)) now call }

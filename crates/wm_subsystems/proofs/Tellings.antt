@@ -1,7 +1,8 @@
 -- A telling makes of an active job what it is told, and leaves the others.
-use Rattle.std.proofs.Common.{◌≡◌, ◌∙◌, ◌&&◌, ◌==◌, ℕ, Bool, true, false, cond, List, Option, Some, None, refl, sym, ap, arith}
+use Rattle.std.proofs.Common.{◌≡◌, ◌∙◌, ◌&&◌, ◌==◌, ℕ, Bool, true, false, cond, List, Option, Some, None, pos, refl, sym, ap, arith}
 use Rattle.std.proofs.lemmas.Bool.Decides.{nat_tests}
 use Rattle.wm_base.specs.declared.job.EndCause.{EndCause}
+use Rattle.wm_base.specs.declared.qname.QName.{QName}
 use Rattle.wm_law.specs.declared.command.EndOption.{EndOption}
 use Rattle.wm_law.specs.declared.command.EndOption.TheVariants.{Cntrld, Immed}
 use Rattle.wm_law.specs.declared.job.Job.{Job}
@@ -13,12 +14,14 @@ use Rattle.wm_law.specs.declared.job.Wish.TheVariants as wish
 use Rattle.wm_law.specs.declared.state.Sbs.{Sbs}
 use Rattle.wm_law.specs.Counts.{is_active, is_starting}
 use Rattle.wm_law.specs.Endings.{is_left_to_use, told}
+use Rattle.wm_law.specs.Opening.{empty}
+use Rattle.wm_law.specs.Prestarting.{is_of_entry, prestart_wish, told_with_entry}
 use Rattle.wm_law.specs.Reports.{in_phase}
 use Rattle.wm_law.specs.Settling.{ended_by, job_at, unless_started, with_deadline}
 use Rattle.wm_law.specs.Wishes.{deadline, is_due, is_now, is_to_end, now_cause, wish_at, with_wish}
-use Rattle.wm_law.proofs.Endings.{IsWishing, telling, wishing_at}
+use Rattle.wm_law.proofs.Endings.{IsWishing, entry_ends, telling, wishing_at}
 use Rattle.wm_subsystems.specs.declared.meant.Telling.{Telling}
-use Rattle.wm_subsystems.specs.declared.meant.Telling.TheVariants.{By, Clock}
+use Rattle.wm_subsystems.specs.declared.meant.Telling.TheVariants.{By, Entry, Clock}
 use Rattle.wm_subsystems.specs.declared.meant.Those.{Those}
 use Rattle.wm_subsystems.specs.declared.meant.Those.TheVariants.{EndingNow}
 use Rattle.wm_jobs.specs.Table.{serial_of}
@@ -26,9 +29,14 @@ use Rattle.wm_subsystems.specs.declared.meant.Told.{Told}
 use Rattle.wm_subsystems.specs.Telling.{clock_cause, clock_wish, ended_at, newly_now, option_wish, passes, told_as, told_at, told_of, wished_at}
 use Rattle.wm_subsystems.proofs.Walks.{IsWalkable}
 
+-- ENDPJ changes phase and wish alone, whatever the rest of the state
+telling_entry : (clock : ℕ) (option : EndOption) (delay : Option ℕ) (sbs pgm : QName) → IsWishing (told_with_entry clock option delay sbs pgm)
+telling_entry clock option delay sbs pgm = (entry_ends (record (empty (pos 0)) { clock = clock }) option delay sbs pgm).jobs
+
 -- a telling is a change of phase and wish alone
 pub wishing : (t : Telling) (clock : ℕ) (started : List Sbs) → IsWishing (told_as t clock started)
 wishing (By option those) clock started = telling option (passes those) started
+wishing (Entry option delay sbs pgm) clock started = telling_entry clock option delay sbs pgm
 wishing Clock clock started = wishing_at clock started
 
 -- the job with a wish, where there is one
@@ -85,6 +93,7 @@ by_clock clock started j a =
 -- what an active job is told makes that of it
 pub told_is : (t : Telling) (clock : ℕ) (started : List Sbs) (j : Job) → is_active j.phase ≡ true → told_as t clock started j ≡ ended_by (told_of t clock started j).cause (given (told_of t clock started j).wish j)
 told_is (By option those) clock started j a = by_option option those started j
+told_is (Entry option delay sbs pgm) clock started j a = given_by (is_of_entry option sbs pgm j) (prestart_wish clock option delay) j
 told_is Clock clock started j a = by_clock clock started j a
 
 -- a telling keeps serials, and leaves jobs that aren't active

@@ -1,6 +1,7 @@
 -- Which subsystems are meant, and what active jobs are told.
 use Rattle.std.specs.Prelude.{ℕ, Bool, false, not, ◌&&◌, List, Option, Some, None, unwrap_or, if◌then◌else◌}
 use Rattle.wm_base.specs.declared.job.EndCause.{EndCause}
+use Rattle.wm_base.specs.declared.qname.QName.{QName}
 use Rattle.wm_desc.specs.Table.{same_qname}
 use Rattle.wm_law.specs.declared.command.EndOption.{EndOption}
 use Rattle.wm_law.specs.declared.command.EndOption.TheVariants.{Cntrld, Immed}
@@ -13,6 +14,7 @@ use Rattle.wm_law.specs.declared.state.Sbs.{Sbs}
 use Rattle.wm_law.specs.Counts.{is_starting}
 use Rattle.wm_law.specs.Endings.{is_ending_by, is_left_to_use, told}
 use Rattle.wm_law.specs.Jobs.{active_at}
+use Rattle.wm_law.specs.Prestarting.{is_of_entry, prestart_wish, told_with_entry}
 use Rattle.wm_law.specs.Reports.{phased_at}
 use Rattle.wm_law.specs.Settling.{is_sbs_now, job_at}
 use Rattle.wm_law.specs.Wishes.{deadline, is_now, is_to_end, now_cause, with_wish}
@@ -20,7 +22,7 @@ use Rattle.wm_subsystems.specs.declared.meant.Those.{Those}
 use Rattle.wm_subsystems.specs.declared.meant.Those.TheVariants.{Named, NotEnded, EndingNow}
 use Rattle.wm_subsystems.specs.declared.meant.Told.{Told}
 use Rattle.wm_subsystems.specs.declared.meant.Telling.{Telling}
-use Rattle.wm_subsystems.specs.declared.meant.Telling.TheVariants.{By, Clock}
+use Rattle.wm_subsystems.specs.declared.meant.Telling.TheVariants.{By, Entry, Clock}
 
 -- the subsystem is one of those that are meant
 abbrev pub passes : Those → Sbs → Bool
@@ -31,12 +33,17 @@ passes EndingNow b = is_sbs_now b.phase
 -- the job as it is told
 abbrev pub told_as : Telling → ℕ → List Sbs → Job → Job
 told_as (By option those) clock started j = told option (passes those) started j
+told_as (Entry option delay sbs pgm) clock started j = told_with_entry clock option delay sbs pgm j
 told_as Clock clock started j = job_at clock started j
 
 -- the wish that an option gives a job of such a subsystem
 abbrev pub option_wish : EndOption → Those → List Sbs → Job → Option Wish
 option_wish Cntrld those started j = if is_left_to_use (passes those) started j then Some (wish.Later None why.Endsbs) else None
 option_wish Immed those started j = if is_to_end (passes those) started j then Some (wish.Now why.Endsbs false) else None
+
+-- the wish that an option gives a job of the prestart entry
+abbrev pub entry_wish : ℕ → EndOption → Option ℕ → QName → QName → Job → Option Wish
+entry_wish clock option delay sbs pgm j = if is_of_entry option sbs pgm j then Some (prestart_wish clock option delay) else None
 
 -- the second wish, where it is one to end now and the first isn't
 abbrev pub newly_now : Wish → Wish → Option Wish
@@ -53,6 +60,7 @@ clock_cause j w = if is_starting j.phase then now_cause (unwrap_or w j.wish) els
 -- what an active job is told
 abbrev pub told_of : Telling → ℕ → List Sbs → Job → Told
 told_of (By option those) clock started j = record { wish = option_wish option those started j; cause = None }
+told_of (Entry option delay sbs pgm) clock started j = record { wish = entry_wish clock option delay sbs pgm j; cause = None }
 told_of Clock clock started j = record { wish = clock_wish clock started j; cause = clock_cause j (clock_wish clock started j) }
 
 -- the job with a wish, where there is one and the job is active and has that serial

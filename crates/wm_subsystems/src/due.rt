@@ -1,6 +1,6 @@
 // Which calls tell to end, and what the clock ends of the started subsystems.
 ghost use Rattle.std.specs.Prelude.{◌≡◌, map};
-ghost use Rattle.wm_law.specs.Built.{is_ending_call, tells_to_end};
+ghost use Rattle.wm_law.specs.CallKinds.{is_ending_call, tells_to_end};
 ghost use Rattle.wm_law.specs.Settling.{sbs_at, sbs_phase_at};
 
 use crate::deadlines::has_come;

@@ -1,6 +1,7 @@
-// Subsystems end, and the requests that wait there go.
+// Subsystems end, and the requests that wait there or for a prestart entry go.
 ghost use Rattle.std.specs.Prelude.{◌≡◌, not, map, filter};
 ghost use Rattle.wm_law.specs.Endings.{end_phase, is_of_those, phased};
+ghost use Rattle.wm_law.specs.Prestart.{is_evoke_of};
 ghost use Rattle.wm_subsystems.specs.Telling.{passes};
 
 use crate::meant::Those;
@@ -65,4 +66,24 @@ pub fn drop_evokes(evokes: &mut Evokes, those: &Those, started: &SbsList)
     ensures { evokes.new ≡ filter (λ e. not (is_of_those (passes those.now) started.now e.sbs)) evokes.old }
 {
     drop_each(&mut evokes.items, those, started);
+}
+
+// Whether a request is one for the prestart entry.
+fn is_evoke_of(sbs: &QName, pgm: &QName, evoke: &Evoke) -> bool
+    ensures { result ≡ is_evoke_of sbs.now pgm.now evoke.now }
+{
+    evoke.sbs == *sbs && evoke.pgm == *pgm
+}
+
+fn drop_each_of(evokes: &mut Vec<Evoke>, sbs: &QName, pgm: &QName)
+    ensures { evokes.new.items ≡ filter (λ e. not (is_evoke_of sbs.now pgm.now e)) evokes.old.items }
+{
+    evokes.retain(|evoke| !is_evoke_of(sbs, pgm, evoke));
+}
+
+/// The requests that wait for the prestart entry go.
+pub fn drop_entry_evokes(evokes: &mut Evokes, sbs: &QName, pgm: &QName)
+    ensures { evokes.new ≡ filter (λ e. not (is_evoke_of sbs.now pgm.now e)) evokes.old }
+{
+    drop_each_of(&mut evokes.items, sbs, pgm);
 }

@@ -16,6 +16,13 @@ pub enum Those {
 pub enum Telling {
     /// To end with their subsystem, as the option would have it.
     By(EndOption, Those),
+    /// To end with their prestart entry, as the option would have it.
+    Entry {
+        option: EndOption,
+        delay: Option<u32>,
+        sbs: QName,
+        pgm: QName,
+    },
     /// To end where the clock says so.
     Clock,
 }

@@ -28,8 +28,8 @@ pub fn is_now(wish: &Wish) -> bool
     }
 }
 
-// Whether a wish is there that the option would give.
-fn is_wished(option: EndOption, wish: &Wish) -> bool
+/// Whether a wish is there that the option would give.
+pub(crate) fn is_wished(option: EndOption, wish: &Wish) -> bool
     ensures { result ≡ is_wished option wish.now }
 {
     match option {

@@ -1,17 +1,18 @@
-// What a job is told, by its subsystem or by the clock.
+// What a job is told, by its subsystem, by its prestart entry or by the clock.
 ghost use Rattle.std.specs.Prelude.{◌≡◌};
 ghost use Rattle.wm_law.specs.Endings.{is_ending_by, is_left_to_use};
+ghost use Rattle.wm_law.specs.Prestarting.{is_of_entry, prestart_wish};
 ghost use Rattle.wm_law.specs.Settling.{is_sbs_now};
 ghost use Rattle.wm_law.specs.Wishes.{is_in_any, is_to_end};
-ghost use Rattle.wm_subsystems.specs.Telling.{passes, option_wish, newly_now, clock_wish, clock_cause, told_of};
+ghost use Rattle.wm_subsystems.specs.Telling.{passes, option_wish, entry_wish, newly_now, clock_wish, clock_cause, told_of};
 
 use crate::deadlines::{deadline, is_prestart};
 use crate::gone_sbs::is_ending;
 use crate::meant::{Telling, Those, Told};
-use crate::one_job::{has_wish, is_now};
-use crate::phases::{is_active, is_in_sbs, is_starting};
+use crate::one_job::{has_wish, is_now, is_wished, moment_after};
+use crate::phases::{is_active, is_from_pre, is_in_sbs, is_starting};
 use crate::wishes::now_cause;
-use wm_base::{EndCause, How, Moment};
+use wm_base::{EndCause, How, Moment, QName};
 use wm_law::{EndOption, Job, Sbs, SbsList, SbsPhase, Why, Wish};
 
 fn is_sbs_now(phase: &SbsPhase) -> bool
@@ -97,6 +98,51 @@ fn option_wish(option: EndOption, those: &Those, started: &SbsList, job: &Job) -
     }
 }
 
+// The wish that ENDPJ gives.
+fn prestart_wish(clock: Moment, option: EndOption, delay: Option<u32>) -> Wish
+    ensures { result ≡ prestart_wish clock option delay }
+{
+    match (option, delay) {
+        (EndOption::Cntrld, None) => Wish::Later {
+            until: None,
+            why: Why::Endpj,
+        },
+        (EndOption::Cntrld, Some(delay)) => Wish::Later {
+            until: Some(moment_after(clock, delay)),
+            why: Why::Endpj,
+        },
+        (EndOption::Immed, _) => Wish::Now {
+            why: Why::Endpj,
+            handed: false,
+        },
+    }
+}
+
+// Whether a job is an active one of the prestart entry, without a wish that the option would give.
+fn is_of_entry(option: EndOption, sbs: &QName, pgm: &QName, job: &Job) -> bool
+    ensures { result ≡ is_of_entry option sbs.now pgm.now job.now }
+{
+    is_active(&job.phase) && is_from_pre(sbs, pgm, &job.how) && !is_wished(option, &job.wish)
+}
+
+// The wish that an option gives a job of the prestart entry.
+fn entry_wish(
+    clock: Moment,
+    option: EndOption,
+    delay: Option<u32>,
+    sbs: &QName,
+    pgm: &QName,
+    job: &Job,
+) -> Option<Wish>
+    ensures { result ≡ entry_wish clock option delay sbs.now pgm.now job.now }
+{
+    if is_of_entry(option, sbs, pgm, job) {
+        Some(prestart_wish(clock, option, delay))
+    } else {
+        None
+    }
+}
+
 // The second wish, where it is one to end now and the first isn't.
 fn newly_now(old: &Wish, new: Wish) -> Option<Wish>
     ensures { result ≡ newly_now old.now new }
@@ -140,6 +186,15 @@ pub(crate) fn told_of(telling: &Telling, clock: Moment, started: &SbsList, job: 
     match telling {
         Telling::By(option, those) => Told {
             wish: option_wish(*option, those, started, job),
+            cause: None,
+        },
+        Telling::Entry {
+            option,
+            delay,
+            sbs,
+            pgm,
+        } => Told {
+            wish: entry_wish(clock, *option, *delay, sbs, pgm, job),
             cause: None,
         },
         Telling::Clock => {

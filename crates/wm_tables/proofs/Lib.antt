@@ -22,6 +22,7 @@ pub mod RangedJobs
 pub mod RangedRestarts
 pub mod RangedMoments
 pub mod RangedLaunches
+pub mod RangedSupplies
 pub mod RangedCalls
 pub mod RangedSteps
 pub mod CommandsFit

@@ -40,7 +40,7 @@ use Rattle.wm_tables.specs.Ranges.{IsInRange}
 use Rattle.wm_tables.specs.Tables.{job_rows, rows_of}
 use Rattle.wm_tables.proofs.Ends.{one_counter}
 use Rattle.wm_tables.proofs.Keys.{one_entry, one_number, one_text}
-use Rattle.wm_tables.proofs.OwnPlaces.{HasTab, HasTabsTo, of_flat, own_both, own_flat, own_mapped, same_key, same_tab, tab_flat, tab_mapped}
+use Rattle.wm_tables.proofs.OwnPlaces.{HasTab, HasTabsTo, own_both, own_flat, own_mapped, same_key, same_tab, tab_flat, tab_mapped}
 use Rattle.wm_tables.proofs.Passing.{of_parts}
 use Rattle.wm_tables.proofs.RowOrder.{HasOwnPlaces}
 use Rattle.wm_tables.proofs.RowsOf.{named_in}

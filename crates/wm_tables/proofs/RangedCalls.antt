@@ -1,7 +1,8 @@
 -- Calls in range keep the ranges of a state.
-use Rattle.std.proofs.Common.{◌≡◌, ◌≤◌, ◌<◌, ◌+◌, ◌==◌, ◌&&◌, ◌^◌, not, ℕ, Bool, true, false, cond, nat_le, nat_lt, unwrap_or, is_some, List, [], ◌∷◌, length, map, filter, Option, Some, None, Result, Ok, Err, refl, sym, ap, subst, inl, inr, arith}
+use Rattle.std.proofs.Common.{◌≡◌, ◌≤◌, ◌<◌, ◌+◌, ◌==◌, ◌&&◌, ◌^◌, not, ℕ, Bool, true, false, cond, nat_eq, nat_le, nat_lt, unwrap_or, is_some, List, [], ◌∷◌, length, map, filter, Option, Some, None, Result, Ok, Err, refl, sym, subst, inl, arith}
 use Rattle.std.specs.List.{find}
 use Rattle.std.specs.Option.{IfSome, IsSome, option_or}
+use Rattle.std.specs.Cmp.Lexicographic.{pointwise}
 use Rattle.std.proofs.lemmas.Bool.{and_parts}
 use Rattle.std.proofs.lemmas.Bool.Decides.{nat_tests}
 use Rattle.wm_base.specs.Name.{IsName}
@@ -16,62 +17,76 @@ use Rattle.wm_base.proofs.Tests.{of_four}
 use Rattle.wm_desc.specs.Ranges.{jobd_in_range, request_in_range, within}
 use Rattle.wm_desc.specs.Table.{object_named, same_qname}
 use Rattle.wm_desc.specs.declared.description.Jobd.{Jobd}
+use Rattle.wm_desc.specs.declared.description.Sbsd.{Sbsd}
+use Rattle.wm_desc.specs.declared.entry.PreEntry.{PreEntry}
 use Rattle.wm_desc.specs.declared.objects.Objects.{Objects}
 use Rattle.wm_law.specs.Changing.{change_due, change_found, finds_queue, moved_to, stays, with_due}
-use Rattle.wm_law.specs.Choice.{is_held}
-use Rattle.wm_law.specs.Counts.{is_starting, is_waiting}
+use Rattle.wm_law.specs.Choice.{is_held, is_sbs_active}
+use Rattle.wm_law.specs.Counts.{count_from_pre, is_starting, is_waiting}
 use Rattle.wm_law.specs.Fit.{IsBetween, IsCall, IsCommand, IsExit, IsJobChange, IsQName, IsSubmission, IsTextOf}
 use Rattle.wm_law.specs.Holding.{hold_found, release_found, with_held}
 use Rattle.wm_law.specs.Endings.{down_by, end_active, end_found, end_in_phase, end_started, end_those, is_down, is_ending_by, is_wished, job_wish, started_named, told}
 use Rattle.wm_law.specs.Jobs.{active_at, changed_at, waiting_at}
-use Rattle.wm_law.specs.Launch.{order_of}
+use Rattle.wm_law.specs.Launch.{order_of, pre_entry_for}
 use Rattle.wm_law.specs.Laws.{IsIn}
 use Rattle.wm_law.specs.Machine.{apply, change}
 use Rattle.wm_law.specs.Named.{if_waiting, is_named, job_named, only_one, waiting_named}
 use Rattle.wm_law.specs.Power.{is_on}
+use Rattle.wm_law.specs.Prestart.{after_use, count_evokes, first_idle, is_running, is_stopped, with_evoke}
+use Rattle.wm_law.specs.Prestarting.{end_entry, end_entry_in, end_entry_with, prestart_entry, prestart_in, prestart_with, told_with_entry, without_stop}
 use Rattle.wm_law.specs.Queues.{cleared_from, clear_queue, hold_queue, release_queue, waits_on}
-use Rattle.wm_law.specs.Reports.{done_with, end_cause, exit_cause, hand_job, hand_order, in_phase, is_handed_to, is_run_by, is_to_kill, phase_word, report_on, start_job, with_kill, with_phase}
+use Rattle.wm_law.specs.Reports.{end_cause, exit_cause, hand_job, hand_order, in_phase, is_handed_to, is_run_by, is_to_kill, is_unused, phase_word, report_on, start_job, stops_after, with_kill, with_phase}
 use Rattle.wm_law.specs.Schedules.{rescheduled, scheduled}
+use Rattle.wm_law.specs.Settling.{is_ending}
 use Rattle.wm_law.specs.Sound.{IsSound}
 use Rattle.wm_law.specs.Submitting.{has_numbers, or_described, queue_of, submit_due, submit_with, submitted_job, numbers_end, serials_end}
 use Rattle.wm_law.specs.Subsystems.{start_refusal}
-use Rattle.wm_law.specs.Wishes.{why_cause, with_wish}
+use Rattle.wm_law.specs.Uses.{done_with, end_use_found, evoke_entry, evoke_in, evoke_on, evoke_with, max_evokes, maxuse_by, use_done_on}
+use Rattle.wm_law.specs.Wishes.{with_wish}
 use Rattle.wm_law.specs.declared.call.Call.{Call}
 use Rattle.wm_law.specs.declared.call.Call.TheVariants.{Change, Hand, Started, StartFailed, Finished, UseDone, Tick}
+use Rattle.wm_law.specs.declared.call.Reply.{Reply}
+use Rattle.wm_law.specs.declared.call.Reply.TheVariants.{Noted, UseEnded}
 use Rattle.wm_law.specs.declared.command.Chgjob.{Chgjob}
 use Rattle.wm_law.specs.declared.command.Command.{Command}
 use Rattle.wm_law.specs.declared.command.Command.TheVariants as command
 use Rattle.wm_law.specs.declared.command.EndOption.{EndOption}
 use Rattle.wm_law.specs.declared.command.Endjob.{Endjob}
+use Rattle.wm_law.specs.declared.command.Endpj.{Endpj}
 use Rattle.wm_law.specs.declared.command.Endsbs.{Endsbs}
 use Rattle.wm_law.specs.declared.command.JobRef.{JobRef}
 use Rattle.wm_law.specs.declared.command.Sbmjob.{Sbmjob}
+use Rattle.wm_law.specs.declared.command.Strpj.{Strpj}
 use Rattle.wm_law.specs.declared.job.Job.{Job}
 use Rattle.wm_law.specs.declared.job.JobKind.{JobKind}
 use Rattle.wm_law.specs.declared.job.JobKind.TheVariants.{Bch}
 use Rattle.wm_law.specs.declared.job.Phase.{Phase}
 use Rattle.wm_law.specs.declared.job.Phase.TheVariants.{Waiting, Starting, Handed, Running, Ended}
-use Rattle.wm_law.specs.declared.job.Why.{Why}
-use Rattle.wm_law.specs.declared.job.Why.TheVariants as why
 use Rattle.wm_law.specs.declared.job.Wish.{Wish}
 use Rattle.wm_law.specs.declared.job.Wish.TheVariants as wish
 use Rattle.wm_law.specs.declared.state.Evoke.{Evoke}
 use Rattle.wm_law.specs.declared.state.Power.{Power}
 use Rattle.wm_law.specs.declared.state.Sbs.{Sbs}
+use Rattle.wm_law.specs.declared.state.SbsPhase.{SbsPhase}
+use Rattle.wm_law.specs.declared.state.SbsPhase.TheVariants as sbs_phase
 use Rattle.wm_law.specs.declared.state.State.{State}
+use Rattle.wm_law.specs.declared.state.Stop.{Stop}
 use Rattle.wm_law.specs.Stepped.{Stepped}
-use Rattle.wm_law.proofs.Endings.{IsPhaseAfter, IsWishing, telling, wished, wishing_job, wishing_kill}
-use Rattle.wm_law.proofs.Members.{left_in}
+use Rattle.wm_law.proofs.Endings.{done_ends, entry_ends, telling, using, wishing_job, wishing_kill}
+use Rattle.wm_law.proofs.Members.{found_among, left_in}
+use Rattle.wm_law.proofs.Moves.{prestart_keeps}
+use Rattle.wm_law.proofs.Supplies.{IsActiveAmong}
 use Rattle.wm_law.proofs.Objects.{class_made, queue_made, program_made, job_description_made, description_made, queue_added, route_added, auto_added, pre_added, queue_removed, route_removed, auto_removed, pre_removed}
 use Rattle.wm_job_rows.specs.Stored.{IsCause, IsPhase, IsQueue, IsRequest, IsStored, stored_of, stored_phase}
 use Rattle.wm_job_rows.specs.declared.stored.StoredJob.{StoredJob}
 use Rattle.wm_tables.specs.Ranges.{IsInRange, IsJobInRange}
 use Rattle.wm_tables.specs.Restart.{IsOfKind}
 use Rattle.wm_tables.proofs.RangedJobs.{AreJobs, jobs_last, jobs_mapped, made_range, phased}
-use Rattle.wm_tables.proofs.RangedLaunches.{at_one, data_length, described_in, request_text, started_range}
+use Rattle.wm_tables.proofs.RangedLaunches.{at_one, data_length, described_in, request_text}
 use Rattle.wm_tables.proofs.RangedMoments.{again_within, due_within}
 use Rattle.wm_tables.proofs.RangedObjects.{class_range, program_range, queue_range, jobd_range, sbsd_range, queue_entry_range, route_entry_range, auto_entry_range, pre_entry_range, without_queue_range, without_route_range, without_auto_range, without_pre_range}
 use Rattle.wm_tables.proofs.RangedRestarts.{held_range}
+use Rattle.wm_tables.proofs.RangedSupplies.{started_range, supplies_range, why_range, wished_range}
 
 -- the jobs change, and nothing else that has a range
 with_jobs : (s : State) (jobs : List Job) (place : ℕ) → AreJobs s.objects jobs → IsInRange s → IsInRange (record s { jobs = jobs; next_place = place })
@@ -84,32 +99,18 @@ phase_range s serial phase h r =
     (jobs_mapped s.objects (changed_at serial (in_phase phase)) s.jobs (λ j i x. at_one s.objects j (in_phase phase j) (j.serial == serial) x (phased s.objects j (in_phase phase j) refl h x)) r.jobs)
     r
 
-why_range : (w : Why) → IsCause (why_cause w)
-why_range why.Endjob = tt
-why_range why.Endsbs = tt
-why_range why.Endpj = tt
-why_range why.Maxuse = tt
-
-after_range : (p q : Phase) → IsPhaseAfter p q → IsPhase (stored_phase p) → IsPhase (stored_phase q)
-after_range p q (inl e) h = subst (λ (x : Phase). IsPhase (stored_phase x)) (sym e) h
-after_range p q (inr e) h = subst (λ (x : Phase). IsPhase (stored_phase x)) (sym e.1.1) (why_range e.1.0)
-
--- jobs are wished to end: of what is stored of them only the phase changes, of those that end so
-pub wished_range : (s : State) (change : Job → Job) (started : List Sbs) (evokes : List Evoke) (power : Power) → IsWishing change → IsInRange s → IsInRange (wished s change started evokes power)
-wished_range s change started evokes power w r = record {
-  objects = r.objects;
-  held = r.held;
-  jobs = jobs_mapped s.objects change s.jobs (λ j i x. phased s.objects j (change j) (ap stored_of (w.same j)) (after_range j.phase (change j).phase (w.phase j) x.stored.phase) x) r.jobs;
-  clock = r.clock;
-}
-
 either : (b : Bool) (t u : Stepped) → (b ≡ true → IsInRange t.state) → (b ≡ false → IsInRange u.state) → IsInRange (cond b t u).state
 either true t u h g = h refl
 either false t u h g = g refl
 
-reported : (s : State) (serial : ℕ) (test : Phase → Bool) (phase : Job → Phase) (o : Option Job) → ((j : Job) → IsPhase (stored_phase (phase j))) → IsInRange s → IsInRange (report_on s serial test phase o).state
-reported s serial test phase None h r = r
-reported s serial test phase (Some j) h r = either (test j.phase) _ _ (λ t. phase_range s serial (phase j) (h j) r) (λ t. r)
+-- stopped entries have no range, and neither have requests that wait
+with_lists : (s : State) (stopped : List Stop) (evokes : List Evoke) → IsInRange s → IsInRange (record s { stopped = stopped; evokes = evokes })
+with_lists s stopped evokes r = record { objects = r.objects; held = r.held; jobs = r.jobs; clock = r.clock }
+
+reported : (s : State) (serial : ℕ) (test : Phase → Bool) (phase : Job → Phase) (stops : Job → Bool) (o : Option Job) → ((j : Job) → IsPhase (stored_phase (phase j))) → IsInRange s → IsInRange (report_on s serial test phase stops o).state
+reported s serial test phase stops None h r = r
+reported s serial test phase stops (Some j) h r =
+    either (test j.phase) _ _ (λ t. with_lists (with_phase s serial (phase j)) (stops_after stops j s.stopped) s.evokes (phase_range s serial (phase j) (h j) r)) (λ t. r)
 
 ordered : (s : State) (m : ℕ) (j : Job) (o : Option _) → IsInRange s → IsInRange (hand_order s m j o).state
 ordered s m j None r = r
@@ -121,11 +122,7 @@ job_started s m (Some j) r = ordered s m j (order_of s j) r
 
 handed : (s : State) (m : ℕ) (o : Option Job) → IsInRange s → IsInRange (hand_job s m o).state
 handed s m None r = job_started s m (find (λ j. is_starting j.phase) s.jobs) r
-handed s m (Some j) r = wished_range s (active_at j.serial with_kill) s.started s.evokes s.power (wishing_kill j.serial) r
-
-done : (s : State) (m : ℕ) (o : Option Job) → IsInRange s → IsInRange (done_with s m o).state
-done s m None r = r
-done s m (Some j) r = either (is_run_by m j.phase) _ _ (λ t. r) (λ t. r)
+handed s m (Some j) r = wished_range s (active_at j.serial with_kill) s.started s.stopped s.evokes s.power (wishing_kill j.serial) r
 
 exited : (code : ℕ) (t : Bool) → code < 2 ^ 8 → IsCause (cond t cause.Completed (cause.Exited code))
 exited code true h = tt
@@ -229,7 +226,7 @@ moved_job s c due j late place fit queue e h =
 active_range : (s : State) (c : Endjob) (j : Job) → IsInRange s → IsInRange (end_active s c j).state
 active_range s c j r =
     either (is_wished c.option j.wish) _ _ (λ t. r)
-    (λ t. wished_range s (active_at j.serial (with_wish (job_wish s.clock c.option c.delay))) s.started s.evokes s.power (wishing_job j.serial s.clock c.option c.delay) r)
+    (λ t. wished_range s (active_at j.serial (with_wish (job_wish s.clock c.option c.delay))) s.started s.stopped s.evokes s.power (wishing_job j.serial s.clock c.option c.delay) r)
 
 queue_ended : (o : Objects) (j : Job) → IsJobInRange o j → IsJobInRange o (in_phase (Ended cause.EndedOnQueue) j)
 queue_ended o j x = phased o j (in_phase (Ended cause.EndedOnQueue) j) refl tt x
@@ -246,7 +243,7 @@ job_ended s c (Err x) r = r
 job_ended s c (Ok j) r = phase_ended s c j j.phase r
 
 those_ended : (s : State) (option : EndOption) (delay : Option ℕ) (test : Sbs → Bool) (power : Power) → IsInRange s → IsInRange (record (end_those s option delay test) { power = power })
-those_ended s option delay test power r = wished_range s (told option test s.started) _ _ power (telling option test s.started) r
+those_ended s option delay test power r = wished_range s (told option test s.started) _ s.stopped _ power (telling option test s.started) r
 
 sbs_ended : (s : State) (c : Endsbs) (o : Option Sbs) → IsInRange s → IsInRange (end_started s c o).state
 sbs_ended s c None r = r
@@ -385,6 +382,77 @@ submit_range s user c (Some d) name fit named sound r =
     (λ t. submit_due_range s user c d (scheduled s c.scddate c.scdtime) (λ due e. due_within s c.scddate c.scdtime due e) name fit named t sound r)
     (λ t. r)
 
+-- Prestart jobs and their requests
+
+done : (s : State) (test : Phase → Bool) (reply : Reply) (j : Job) → IsInRange s → IsInRange (done_with s test reply j).state
+done s test reply j r =
+    either (test j.phase) _ _
+    (λ t. either j.evoke _ _ (λ u. wished_range s (active_at j.serial (after_use (maxuse_by s j.how))) s.started s.stopped s.evokes s.power (done_ends s j.serial (maxuse_by s j.how)).jobs r) (λ u. r))
+    (λ t. r)
+
+use_done_range : (s : State) (m : ℕ) (o : Option Job) → IsInRange s → IsInRange (use_done_on s m o).state
+use_done_range s m None r = r
+use_done_range s m (Some j) r = done s (is_run_by m) Noted j r
+
+end_use_range : (s : State) (o : Result Job Refusal) → IsInRange s → IsInRange (end_use_found s o).state
+end_use_range s (Err x) r = r
+end_use_range s (Ok j) r = done s is_running (UseEnded j.job) j r
+
+evoked : (s : State) (user : List ℕ) (sbs : QName) (e : PreEntry) (o : Option Job) → IsInRange s → IsInRange (evoke_on s user sbs e o).state
+evoked s user sbs e None r =
+    either e.wait _ _
+    (λ t. either (nat_le max_evokes (count_evokes sbs e.pgm s.evokes)) _ _ (λ u. r) (λ u. with_lists s s.stopped _ r))
+    (λ t. r)
+evoked s user sbs e (Some j) r = wished_range s (active_at j.serial with_evoke) s.started s.stopped s.evokes s.power (using j.serial) r
+
+evoked_entry : (s : State) (user : List ℕ) (sbs : QName) (o : Option PreEntry) → IsInRange s → IsInRange (evoke_entry s user sbs o).state
+evoked_entry s user sbs None r = r
+evoked_entry s user sbs (Some e) r = either (is_stopped s sbs e.pgm) _ _ (λ t. r) (λ t. evoked s user sbs e (first_idle sbs e.pgm s.jobs) r)
+
+evoked_with : (s : State) (user : List ℕ) (sbs pgm : QName) (o : Option Sbsd) → IsInRange s → IsInRange (evoke_with s user sbs pgm o).state
+evoked_with s user sbs pgm None r = r
+evoked_with s user sbs pgm (Some d) r = evoked_entry s user sbs (pre_entry_for pgm d) r
+
+evoke_range : (s : State) (user : List ℕ) (pgm : QName) (o : Option Sbs) → IsInRange s → IsInRange (evoke_in s user pgm o).state
+evoke_range s user pgm None r = r
+evoke_range s user pgm (Some b) r = either (is_ending b.phase) _ _ (λ t. r) (λ t. evoked_with s user b.sbsd pgm (object_named b.sbsd s.objects.sbsds) r)
+
+entry_ended_range : (s : State) (c : Endpj) (sbs : QName) (o : Option PreEntry) → IsInRange s → IsInRange (end_entry s c sbs o).state
+entry_ended_range s c sbs None r = r
+entry_ended_range s c sbs (Some e) r =
+    either (is_stopped s sbs e.pgm && count_from_pre sbs e.pgm s.jobs == 0) _ _ (λ t. r)
+    (λ t. wished_range s (told_with_entry s.clock c.option c.delay sbs e.pgm) s.started _ _ s.power (entry_ends s c.option c.delay sbs e.pgm).jobs r)
+
+end_entry_with_range : (s : State) (c : Endpj) (sbs : QName) (o : Option Sbsd) → IsInRange s → IsInRange (end_entry_with s c sbs o).state
+end_entry_with_range s c sbs None r = r
+end_entry_with_range s c sbs (Some d) r = entry_ended_range s c sbs (pre_entry_for c.pgm d) r
+
+end_entry_range : (s : State) (c : Endpj) (o : Option Sbs) → IsInRange s → IsInRange (end_entry_in s c o).state
+end_entry_range s c None r = r
+end_entry_range s c (Some b) r = end_entry_with_range s c b.sbsd (object_named b.sbsd s.objects.sbsds) r
+
+prestarted_range : (s : State) (q : QName) (d : Sbsd) (pgm : QName) (o : Option PreEntry) → IsActiveAmong s.started q → object_named q s.objects.sbsds ≡ Some d → pre_entry_for pgm d ≡ o → IsInRange s → IsInRange (prestart_entry s q d o).state
+prestarted_range s q d pgm None there named e r = r
+prestarted_range s q d pgm (Some x) there named e r =
+    either (is_stopped s q x.pgm) _ _
+    (λ t. prestart_keeps IsInRange s q d x (record { there = there; described = named; entered = (found_among (λ (y : PreEntry). same_qname y.pgm pgm) d.pres x e).0 }) supplies_range (with_lists s (without_stop q x.pgm s.stopped) s.evokes r))
+    (λ t. r)
+
+prestart_with_range : (s : State) (q pgm : QName) (o : Option Sbsd) → IsActiveAmong s.started q → object_named q s.objects.sbsds ≡ o → IsInRange s → IsInRange (prestart_with s q pgm o).state
+prestart_with_range s q pgm None there named r = r
+prestart_with_range s q pgm (Some d) there named r = prestarted_range s q d pgm (pre_entry_for pgm d) there named refl r
+
+active : (p : SbsPhase) → is_ending p ≡ false → is_sbs_active p ≡ true
+active sbs_phase.Active e = refl
+active (sbs_phase.Ending until) e = absurd (cc)
+active sbs_phase.Now e = absurd (cc)
+
+prestart_range : (s : State) (c : Strpj) (o : Option Sbs) → started_named s c.sbs ≡ o → IsInRange s → IsInRange (prestart_in s c.pgm o).state
+prestart_range s c None e r = r
+prestart_range s c (Some b) e r =
+    either (is_ending b.phase) _ _ (λ t. r)
+    (λ t. prestart_with_range s b.sbsd c.pgm (object_named b.sbsd s.objects.sbsds) (b, (found_among (λ (x : Sbs). pointwise nat_eq x.sbsd.name c.sbs) s.started b e).0, refl, active b.phase t) refl r)
+
 -- Each command, and each call
 
 change_keeps : (s : State) (user : List ℕ) (c : Command) → IsName user → IsCommand c → IsSound s → IsInRange s → IsInRange (change s user c).state
@@ -411,14 +479,17 @@ change_keeps s user (command.Endjob c) name h sound r = job_ended s c (job_named
 change_keeps s user (command.Hldjobq c) name h sound r = hold_queue_range s c.jobq h r
 change_keeps s user (command.Rlsjobq c) name h sound r = release_queue_range s c.jobq r
 change_keeps s user (command.Clrjobq c) name h sound r = clear_range s c.jobq r
+change_keeps s user (command.Strpj c) name h sound r = either (is_on s.power) _ _ (λ t. prestart_range s c (started_named s c.sbs) refl r) (λ t. r)
+change_keeps s user (command.Endpj c) name h sound r = end_entry_range s c (started_named s c.sbs) r
+change_keeps s user (command.Evoke c) name h sound r = either (is_on s.power) _ _ (λ t. evoke_range s user c.pgm (started_named s c.sbs) r) (λ t. r)
+change_keeps s user (command.Enduse c) name h sound r = end_use_range s (job_named s c.job) r
 change_keeps s user (command.Pwrdwnsys c) name h sound r = either (is_down c.option s.power) _ _ (λ t. r) (λ t. those_ended s c.option c.delay (λ b. not (is_ending_by c.option b.phase)) (down_by c.option) r)
-change_keeps s user c name h sound r = r
 
 pub apply_keeps : (s : State) (caller : ℕ) (call : Call) → IsCall call → IsSound s → IsInRange s → IsInRange (apply s caller call).state
 apply_keeps s caller (Change user c) h sound r = change_keeps s user c h.0 h.1 sound r
 apply_keeps s caller Hand h sound r = handed s caller (find (is_to_kill caller) s.jobs) r
-apply_keeps s caller (Started serial) h sound r = reported s serial (is_handed_to caller) (λ j. Running caller) (find (λ j. j.serial == serial) s.jobs) (λ j. tt) r
-apply_keeps s caller (StartFailed serial why) h sound r = reported s serial (is_handed_to caller) (λ j. Ended (cause.StartFailed why)) (find (λ j. j.serial == serial) s.jobs) (λ j. tt) r
-apply_keeps s caller (Finished serial end) h sound r = reported s serial (is_run_by caller) (λ j. Ended (end_cause end j.wish)) (find (λ j. j.serial == serial) s.jobs) (λ j. end_range end j.wish h.1) r
-apply_keeps s caller (UseDone serial) h sound r = done s caller (find (λ j. j.serial == serial) s.jobs) r
+apply_keeps s caller (Started serial) h sound r = reported s serial (is_handed_to caller) (λ j. Running caller) (λ j. false) (find (λ j. j.serial == serial) s.jobs) (λ j. tt) r
+apply_keeps s caller (StartFailed serial why) h sound r = reported s serial (is_handed_to caller) (λ j. Ended (cause.StartFailed why)) (λ j. true) (find (λ j. j.serial == serial) s.jobs) (λ j. tt) r
+apply_keeps s caller (Finished serial end) h sound r = reported s serial (is_run_by caller) (λ j. Ended (end_cause end j.wish)) is_unused (find (λ j. j.serial == serial) s.jobs) (λ j. end_range end j.wish h.1) r
+apply_keeps s caller (UseDone serial) h sound r = use_done_range s caller (find (λ j. j.serial == serial) s.jobs) r
 apply_keeps s caller Tick h sound r = r

@@ -1,5 +1,5 @@
 -- Launches keep the ranges of jobs, and so do the autostart jobs of a subsystem that starts.
-use Rattle.std.proofs.Common.{◌≡◌, ◌≤◌, ◌-◌, ◌+◌, ◌==◌, not, ℕ, Bool, true, false, cond, nat_le, nat_lt, is_some, List, [], ◌∷◌, length, fold, Option, Some, None, refl, sym, subst, inl, inr, arith}
+use Rattle.std.proofs.Common.{◌≡◌, ◌≤◌, ◌-◌, ◌+◌, ◌==◌, ℕ, Bool, true, false, cond, nat_le, List, [], ◌∷◌, length, fold, Option, Some, None, refl, sym, subst, inl, inr, arith}
 use Rattle.std.specs.List.{find}
 use Rattle.std.specs.Option.{IfSome, option_and_then, option_map, option_map_or}
 use Rattle.std.proofs.lemmas.Bool.{and_parts}
@@ -10,8 +10,6 @@ use Rattle.wm_base.specs.Text.{IsText}
 use Rattle.wm_base.specs.declared.job.EndCause.TheVariants.{RouteFull}
 use Rattle.wm_base.specs.declared.job.How.{How}
 use Rattle.wm_base.specs.declared.qname.QName.{QName}
-use Rattle.wm_base.specs.declared.refusal.Refusal.{Refusal}
-use Rattle.wm_base.proofs.Tests.{unrefused}
 use Rattle.wm_desc.specs.Ranges.{cmp_in_range, jobd_in_range, limit_within, request_in_range, route_in_range, within}
 use Rattle.wm_desc.specs.Table.{object_named, same_qname}
 use Rattle.wm_desc.specs.declared.description.Jobd.{Jobd}
@@ -26,9 +24,8 @@ use Rattle.wm_law.specs.Fit.{IsBetween}
 use Rattle.wm_law.specs.Jobs.{changed_at}
 use Rattle.wm_law.specs.Launch.{as_auto, as_launched, called_program, from_queue, is_match, launch, with_routed, routed_from_queue, routed_in, starts_unless, routed_through, missing_program, program_fault, route}
 use Rattle.wm_law.specs.Laws.{IsIn}
-use Rattle.wm_law.specs.Power.{is_on}
-use Rattle.wm_law.specs.Submitting.{numbers_end, numbers_left, serials_end}
-use Rattle.wm_law.specs.Subsystems.{begun, is_started, max_started, start_refusal, start_unless}
+use Rattle.wm_law.specs.Submitting.{numbers_end, serials_end}
+use Rattle.wm_law.specs.Subsystems.{begun, with_autos}
 use Rattle.wm_law.specs.declared.choice.Candidate.{Candidate}
 use Rattle.wm_law.specs.declared.job.Job.{Job}
 use Rattle.wm_law.specs.declared.launch.Launched.{Launched}
@@ -37,7 +34,7 @@ use Rattle.wm_law.proofs.Members.{found_among}
 use Rattle.wm_job_rows.specs.Stored.{IsPhase, IsRequest, stored_phase}
 use Rattle.wm_tables.specs.Ranges.{AreInRange, IsInRange, IsJobInRange}
 use Rattle.wm_tables.proofs.RangedJobs.{jobs_last, jobs_mapped, phased}
-use Rattle.wm_law.proofs.Moves.{enough}
+use Rattle.wm_law.proofs.Moves.{IsStartable, enough}
 
 -- what is found by a name stands among the objects
 described_by : {V : Type 0} (q : QName) (xs : List (QName × V)) (d : V) (o : Option (QName × V)) → find (λ x. same_qname x.0 q) xs ≡ o → option_map (λ x. x.1) o ≡ Some d → (x : QName × V) × IsIn x xs × (x.1 ≡ d)
@@ -190,16 +187,10 @@ auto_names s q (Some d) r f e i =
     let m = described_in q s.objects.sbsds d f in
     ((r.entries m.0 m.1).autos e (subst (λ (x : Sbsd). IsIn e x.autos) (sym m.2) i)).job
 
--- a subsystem that starts
-pub started_range : (s : State) (q : QName) (o : Option Refusal) → 1 ≤ s.next_number → start_refusal s q ≡ o → IsInRange s → IsInRange (start_unless s q o).state
-started_range s q (Some x) least e r = r
-started_range s q None least e r =
-    let on = unrefused (not (is_on s.power)) _ _ e in
-    let there = unrefused (not (is_some (object_named q s.objects.sbsds))) _ _ on.1 in
-    let fresh = unrefused (is_started s q.name) _ _ there.1 in
-    let room = unrefused (nat_le max_started (length s.started)) _ _ fresh.1 in
-    let numbers = unrefused (nat_lt (numbers_left s) (length (autos_of s q))) _ _ room.1 in
-    let left = enough (nat_le 1 s.next_number) (numbers_end - s.next_number) (serials_end - s.next_serial) (length (autos_of s q)) numbers.0 in
+-- a subsystem that starts with its autostart jobs
+pub autos_range : (s : State) (q : QName) → IsStartable s q → 1 ≤ s.next_number → IsInRange s → IsInRange (with_autos s q)
+autos_range s q can least r =
+    let left = enough (nat_le 1 s.next_number) (numbers_end - s.next_number) (serials_end - s.next_serial) (length (autos_of s q)) can.numbers in
     made_all q (autos_of s q) (begun s q)
     (record { range = record { objects = r.objects; held = r.held; jobs = r.jobs; clock = r.clock }; least = least; numbers = left.0; serials = left.1 })
     (auto_names s q (object_named q s.objects.sbsds) r.objects refl)

@@ -3,8 +3,8 @@ use Rattle.std.proofs.Common.{◌≡◌, ℕ, ◌+◌, ◌&&◌, Bool, true, fal
 use Rattle.std.proofs.lemmas.List.Sums.{sum_by-cons}
 use Rattle.wm_base.specs.declared.job.How.{How}
 use Rattle.wm_law.specs.declared.job.Job.{Job}
-use Rattle.wm_law.specs.Counts.{is_active, is_in_sbs, is_from_queue, is_from_priority, is_by_route, count_active}
-use Rattle.wm_tally.specs.declared.counted.Counted.TheVariants.{Sbs, Queue, Pty, Route}
+use Rattle.wm_law.specs.Counts.{is_active, is_in_sbs, is_from_queue, is_from_priority, is_from_pre, is_by_route, count_active}
+use Rattle.wm_tally.specs.declared.counted.Counted.TheVariants.{Sbs, Queue, Pty, Route, Pre}
 use Rattle.wm_tally.specs.Tallied.{hows, TallyHasCounts}
 
 -- one for a how that passes the test
@@ -30,4 +30,5 @@ tally_has_counts jobs tally are = record {
   from_queue = λ sbs queue. are (Queue sbs queue) ∙ counted_active (is_from_queue sbs queue) jobs;
   from_priority = λ sbs queue pty. are (Pty sbs queue pty) ∙ counted_active (is_from_priority sbs queue pty) jobs;
   by_route = λ sbs seq. are (Route sbs seq) ∙ counted_active (is_by_route sbs seq) jobs;
+  from_pre = λ sbs pgm. are (Pre sbs pgm) ∙ counted_active (is_from_pre sbs pgm) jobs;
 }

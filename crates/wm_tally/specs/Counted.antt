@@ -2,8 +2,7 @@
 use Rattle.std.specs.Prelude.{ℕ, Bool, List, count_by}
 use Rattle.std.specs.declared.cmp.Ordering.{Ordering}
 use Rattle.wm_base.specs.declared.job.How.{How}
-use Rattle.wm_law.specs.Counts.{is_in_sbs, is_from_queue, is_from_priority, is_by_route}
-use Rattle.wm_tally.specs.How.{is_from_pre}
+use Rattle.wm_law.specs.Counts.{is_in_sbs, is_from_queue, is_from_priority, is_from_pre, is_by_route}
 use Rattle.wm_tally.specs.declared.counted.Counted.{Counted}
 use Rattle.wm_tally.specs.declared.counted.Counted.TheVariants.{Sbs, Queue, Pty, Route, Pre}
 use Rattle.wm_tally.specs.contracts.counted.CountedOrd.TheImpl as by_cmp

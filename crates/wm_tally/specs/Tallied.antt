@@ -3,8 +3,8 @@ use Rattle.std.specs.Prelude.{◌≡◌, ℕ, List, filter, map}
 use Rattle.wm_base.specs.declared.job.How.{How}
 use Rattle.wm_base.specs.declared.qname.QName.{QName}
 use Rattle.wm_law.specs.declared.job.Job.{Job}
-use Rattle.wm_law.specs.Counts.{is_active, count_in_sbs, count_from_queue, count_from_priority, count_by_route}
-use Rattle.wm_tally.specs.declared.counted.Counted.TheVariants.{Sbs, Queue, Pty, Route}
+use Rattle.wm_law.specs.Counts.{is_active, count_in_sbs, count_from_queue, count_from_priority, count_from_pre, count_by_route}
+use Rattle.wm_tally.specs.declared.counted.Counted.TheVariants.{Sbs, Queue, Pty, Route, Pre}
 use Rattle.wm_tally.specs.Tally.{Counts, IsTally, count_of}
 
 -- the hows of the active jobs, in the order of the jobs
@@ -17,6 +17,7 @@ pub record HasCounts (jobs : List Job) (tally : Counts) : Type 0 where
   pub from_queue : (sbs queue : QName) → count_of (Queue sbs queue) tally ≡ count_from_queue sbs queue jobs
   pub from_priority : (sbs queue : QName) (pty : ℕ) → count_of (Pty sbs queue pty) tally ≡ count_from_priority sbs queue pty jobs
   pub by_route : (sbs : QName) (seq : ℕ) → count_of (Route sbs seq) tally ≡ count_by_route sbs seq jobs
+  pub from_pre : (sbs pgm : QName) → count_of (Pre sbs pgm) tally ≡ count_from_pre sbs pgm jobs
 
 -- the tally of the active jobs' hows has the counts of the jobs
 abbrev pub TallyHasCounts : Type 0

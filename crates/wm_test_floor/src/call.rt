@@ -1,15 +1,14 @@
 // Calls of users by their CL texts, and calls of monitors once more.
 ghost use Rattle.std.specs.Prelude.{IfOk, IfSome};
 ghost use Rattle.wm_command.specs.Printed.{FitsMachine};
-ghost use Rattle.wm_law.specs.Fit.{HasCall, IsCall, IsCommand};
+ghost use Rattle.wm_law.specs.Fit.{IsCall, IsCommand};
 ghost use Rattle.wm_law.specs.declared.state.State.{State};
 
-use anyhow::{Result, bail, ensure};
+use anyhow::{Result, bail};
 use std::alloc::Global;
 use wm_base::{Exit, Name, Serial};
 use wm_clwords::read_command;
 use wm_command::{Line, command};
-use wm_core::built;
 use wm_law::{Boxed, Call, Command};
 
 fn line_of(alloc: Global, user: &Name, text: &str) -> Result<Line>
@@ -23,9 +22,7 @@ fn line_of(alloc: Global, user: &Name, text: &str) -> Result<Line>
 fn user_call(alloc: Global, user: &Name, command: Command) -> Result<Call>
     requires { IsCommand command }
     ensures fit { IfOk result IsCall }
-    ensures had { IfOk result HasCall }
 {
-    ensure!(built(&command).is_ok(), "a command that isn't built");
     let _user = user.as_bytes();
     Ok(Call::Change {
         user: *user,
@@ -36,7 +33,6 @@ fn user_call(alloc: Global, user: &Name, command: Command) -> Result<Call>
 fn line_call(alloc: Global, user: &Name, line: Line) -> Result<Call>
     requires { FitsMachine line }
     ensures fit { IfOk result IsCall }
-    ensures had { IfOk result HasCall }
 {
     match line {
         Line::Change(command) => {
@@ -50,7 +46,6 @@ fn line_call(alloc: Global, user: &Name, line: Line) -> Result<Call>
 /// The call of a user's CL text.
 pub fn call_of(alloc: Global, user: &Name, text: &str) -> Result<Call>
     ensures fit { IfOk result IsCall }
-    ensures had { IfOk result HasCall }
 {
     let line = line_of(alloc, user, text)?;
     let call = line_call(alloc, user, line)?;
@@ -60,7 +55,6 @@ pub fn call_of(alloc: Global, user: &Name, text: &str) -> Result<Call>
 /// The call of a monitor once more, where it is one that these tests have.
 pub fn again(call: &Call) -> Option<Call>
     ensures fit { IfSome result IsCall }
-    ensures had { IfSome result HasCall }
 {
     match call {
         Call::Hand => Some(Call::Hand),

@@ -11,19 +11,18 @@
 //                        moment
 ghost use Rattle.std.specs.Prelude.{IfOk};
 ghost use Rattle.wm_command.specs.Printed.{FitsMachine};
-ghost use Rattle.wm_law.specs.Fit.{IsCall, IsCommand, HasCall};
+ghost use Rattle.wm_law.specs.Fit.{IsCall, IsCommand};
 ghost use Rattle.wm_law.specs.declared.state.State.{State};
 
 use crate::calls::{self, NOW, OpenJournal};
 use crate::monitor::call_of;
 use crate::replies::write_called;
 use crate::words::first_word;
-use anyhow::{Context, Result, bail, ensure};
+use anyhow::{Context, Result, bail};
 use std::alloc::Global;
 use wm_base::{Moment, Name};
 use wm_clwords::read_command;
 use wm_command::{Line, command};
-use wm_core::built;
 use wm_law::{Boxed, Call, Command, Pending};
 
 /// The pass of a session.
@@ -42,9 +41,7 @@ pub fn line_of(alloc: Global, user: &Name, text: &str) -> Result<Line>
 pub fn user_call(alloc: Global, user: &Name, command: Command) -> Result<Call>
     requires { IsCommand command }
     ensures fit { IfOk result IsCall }
-    ensures had { IfOk result HasCall }
 {
-    ensure!(built(&command).is_ok(), "a command that isn't built");
     let _user = user.as_bytes();
     Ok(Call::Change {
         user: *user,
@@ -55,7 +52,6 @@ pub fn user_call(alloc: Global, user: &Name, command: Command) -> Result<Call>
 fn line_call(alloc: Global, user: &Name, line: Line) -> Result<Call>
     requires { FitsMachine line }
     ensures fit { IfOk result IsCall }
-    ensures had { IfOk result HasCall }
 {
     match line {
         Line::Change(command) => {
@@ -75,7 +71,6 @@ fn call(
     answer: &mut String,
 ) -> Result<()>
     requires fit { IsCall call }
-    requires had { HasCall call }
 {
     let called = calls::call(alloc, journal, caller, call, Moment::new(NOW))?;
     write_called(alloc, journal.journal(), called, answer)

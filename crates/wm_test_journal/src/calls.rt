@@ -1,7 +1,7 @@
 // Calls of a journal by the numbers of its passes, and of a monitor over it, of whose answers nothing is said here: a proof above
 // that has only these stays short.
 ghost use Rattle.std.specs.Prelude.{◌≤◌};
-ghost use Rattle.wm_law.specs.Fit.{IsCall, HasCall};
+ghost use Rattle.wm_law.specs.Fit.{IsCall};
 ghost use Rattle.wm_law.specs.declared.state.State.{State};
 
 use anyhow::{Context, Result, bail, ensure};
@@ -123,7 +123,6 @@ pub fn call(
     now: Moment,
 ) -> Result<Result<(), CallFault>>
     requires fit { IsCall call }
-    requires had { HasCall call }
 {
     let Some(pass) = pass_of(&opened.first, &opened.others, caller) else {
         drop(call);

@@ -4,18 +4,18 @@
 // > monitor 1 hand       a call of a monitor, by the words of `monitor`: its refusal
 // > split 2              splits off passes up to this number
 // > set now 1020         the moment of the calls that follow
-// > list causes          the listing of a job for each cause that no command and no report of today gives
+// > list restarted       the listing of a job that a restart has ended, which no call does
 //
 // A question that can't be asked is answered by its fault.
 ghost use Rattle.wm_command.specs.Printed.{FitsMachine};
-ghost use Rattle.wm_law.specs.Fit.{IsCall, HasCall};
+ghost use Rattle.wm_law.specs.Fit.{IsCall};
 ghost use Rattle.wm_law.specs.declared.state.State.{State};
 
 use crate::asked::{SESSION, line_of, user_call};
 use crate::calls::{NOW, OpenJournal, call, listed};
-use crate::causes::listed_causes;
 use crate::monitor::call_of;
 use crate::opened::{keeper_of, open};
+use crate::restarted::listed_restarted;
 use crate::words::{first_word, number_of};
 use anyhow::{Context, Result, bail, ensure};
 use std::alloc::Global;
@@ -61,7 +61,6 @@ impl Listed {
 
     fn call(&mut self, caller: u32, made: Call, answer: &mut String) -> Result<()>
         requires fit { IsCall made }
-        requires had { HasCall made }
     {
         let journal = self.journal.as_mut().context("no journal")?;
         if let Err(fault) = call(self.alloc, journal, caller, made, self.now)? {
@@ -112,8 +111,8 @@ impl Listed {
         Ok(())
     }
 
-    fn list_causes(&self, answer: &mut String) -> Result<()> {
-        let bytes = listed_causes(self.alloc)?;
+    fn list_restarted(&self, answer: &mut String) -> Result<()> {
+        let bytes = listed_restarted(self.alloc)?;
         write_listing(&bytes, answer)
     }
 
@@ -132,8 +131,8 @@ impl Listed {
             self.set_now(now)
         } else if let Some(last) = question.strip_prefix("split ") {
             self.split(last)
-        } else if question == "list causes" {
-            self.list_causes(answer)
+        } else if question == "list restarted" {
+            self.list_restarted(answer)
         } else {
             self.command(question, answer)
         }

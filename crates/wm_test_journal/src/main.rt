@@ -9,12 +9,12 @@
 
 mod asked;
 mod calls;
-mod causes;
 mod failing;
 mod listed;
 mod monitor;
 mod opened;
 mod replies;
+mod restarted;
 mod rows;
 mod tested;
 mod turns;

@@ -1,6 +1,6 @@
 // What monitors call, by its words.
 ghost use Rattle.std.specs.Prelude.{IfOk};
-ghost use Rattle.wm_law.specs.Fit.{IsCall, HasCall};
+ghost use Rattle.wm_law.specs.Fit.{IsCall};
 ghost use Rattle.wm_law.specs.declared.state.State.{State};
 
 use crate::words::{first_word, number_of};
@@ -11,7 +11,6 @@ use wm_law::Call;
 // The report on a job, and the exit code where it ended.
 fn report_of(report: &str, serial: Serial, code: u8) -> Result<Call>
     ensures fit { IfOk result IsCall }
-    ensures had { IfOk result HasCall }
 {
     match report {
         "started" => Ok(Call::Started(serial)),
@@ -19,6 +18,7 @@ fn report_of(report: &str, serial: Serial, code: u8) -> Result<Call>
         "lacked" => Ok(Call::StartFailed(serial, StartCause::Memory)),
         "finished" => Ok(Call::Finished(serial, Exit::Code(code))),
         "killed" => Ok(Call::Finished(serial, Exit::Killed)),
+        "used" => Ok(Call::UseDone(serial)),
         _ => bail!("no such report: {report}"),
     }
 }
@@ -26,7 +26,6 @@ fn report_of(report: &str, serial: Serial, code: u8) -> Result<Call>
 /// The call that words are: `hand`, `tick`, or a report as `finished 2 0` of the job of serial 2.
 pub fn call_of(words: &str) -> Result<Call>
     ensures fit { IfOk result IsCall }
-    ensures had { IfOk result HasCall }
 {
     let (report, numbers) = first_word(words);
     if report == "hand" {

@@ -25,9 +25,15 @@ impl Tested {
     fn show(&self, words: &str, answer: &mut String) -> Result<()> {
         let (what, name) = first_word(words);
         match what {
-            "jobs" | "waiting" | "next" | "holder" | "pending" | "power" => {
-                write_state(&self.core, what, name, answer)
-            }
+            "jobs"
+            | "waiting"
+            | "next"
+            | "holder"
+            | "pending"
+            | "power"
+            | "prestart"
+            | "stopped"
+            | "requests" => { write_state(&self.core, what, name, answer) }
             _ => write_objects(self.objects(), what, name, answer),
         }
     }
@@ -40,7 +46,6 @@ impl Tested {
             "show" => self.show(words, answer),
             "set" => self.set(words),
             "times" => self.times(words, answer),
-            "built" => self.built(words, answer),
             "opening" => write_opening(self.alloc, answer),
             "copy" => write_copied(self.alloc, self.objects(), answer),
             "list" => write_sorted(self.alloc, words, answer),

@@ -1,6 +1,6 @@
 // Calls of the machine, of whose answers nothing is said here: a proof above that has only these stays short.
 ghost use Rattle.std.specs.Prelude.{◌≡◌, ◌<◌};
-ghost use Rattle.wm_law.specs.Fit.{IsCall, HasCall};
+ghost use Rattle.wm_law.specs.Fit.{IsCall};
 
 use std::alloc::Global;
 use std::marker::Brand;
@@ -20,7 +20,7 @@ pub fn opened(alloc: Global) -> Result<Core, NoMemory> {
     Core::opening(alloc, &setup)
 }
 
-/// The reply to a call that the machine has.
+/// The reply to a call.
 pub fn reply(
     alloc: Global,
     core: &mut Core,
@@ -29,7 +29,6 @@ pub fn reply(
     now: Moment,
 ) -> Result<Reply, NoMemory>
     requires fit { IsCall call.now }
-    requires had { HasCall call.now }
 {
     core.step(alloc, caller, call, now)
 }

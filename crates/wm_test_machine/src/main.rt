@@ -8,7 +8,6 @@
 mod asked;
 mod calls;
 mod change;
-mod entry;
 mod list;
 mod monitor;
 mod object;
@@ -25,7 +24,7 @@ use tested::Tested;
 use wm_cases::play;
 
 /// The files of cases.
-static FILES: [&str; 10] = [
+static FILES: [&str; 11] = [
     "objects.txt",
     "descriptions.txt",
     "opening.txt",
@@ -35,7 +34,8 @@ static FILES: [&str; 10] = [
     "launches.txt",
     "waiting.txt",
     "endings.txt",
-    "built.txt",
+    "prestart.txt",
+    "pools.txt",
 ];
 
 fn play_all<R: AllocGlobal + Files + Print>(rt: &R, tested: &mut Tested) -> Result<()> {

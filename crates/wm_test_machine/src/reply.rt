@@ -10,6 +10,8 @@ fn plain(reply: &Reply) -> Option<&'static str> {
         Reply::Made => Some("OK"),
         Reply::QueueHeld => Some("OK queue held"),
         Reply::QueueReleased => Some("OK queue released"),
+        Reply::PreStarted => Some("OK prestart started"),
+        Reply::PreEnding => Some("OK prestart ending"),
         Reply::PowerDown => Some("OK power down"),
         Reply::Nothing => Some("NOTHING"),
         Reply::Noted => Some("NOTED"),
@@ -34,6 +36,8 @@ fn of_job(reply: &Reply) -> Option<(&JobName, &'static str)> {
         Reply::Changed(job) => Some((job, "changed")),
         Reply::JobEnding(job) => Some((job, "ending")),
         Reply::JobEnded(job) => Some((job, "ended")),
+        Reply::Evoked(job) => Some((job, "has the request")),
+        Reply::UseEnded(job) => Some((job, "use ended")),
         _ => None,
     }
 }
@@ -50,6 +54,7 @@ fn write_other(reply: &Reply, answer: &mut String) -> Result<()> {
     match reply {
         Reply::Submitted(job, jobq) => writeln!(answer, "OK {job} submitted to {jobq}")?,
         Reply::QueueCleared(count) => writeln!(answer, "OK queue cleared of {count}")?,
+        Reply::EvokeWaits(place) => writeln!(answer, "OK request waits as {place}")?,
         Reply::Order(asked) => write_asked(asked.get(), answer)?,
         Reply::No(refusal) => writeln!(answer, "NO {refusal}")?,
         _ => bail!("no such reply"),
@@ -67,21 +72,12 @@ fn write_naming(reply: &Reply, answer: &mut String) -> Result<()> {
     write_other(reply, answer)
 }
 
-// Adds the line of a reply.
-fn write_had(reply: &Reply, answer: &mut String) -> Result<()> {
+/// Adds the line of a reply.
+pub fn write_reply(reply: &Reply, answer: &mut String) -> Result<()> {
     match plain(reply) {
         Some(said) => Ok(writeln!(answer, "{said}")?),
         None => write_naming(reply, answer),
     }
-}
-
-/// Adds the line of a reply, `None` being that of a call that the machine hasn't.
-pub fn write_reply(reply: &Option<Reply>, answer: &mut String) -> Result<()> {
-    match reply {
-        None => answer.push_str("NOT HAD\n")?,
-        Some(reply) => write_had(reply, answer)?,
-    }
-    Ok(())
 }
 
 // Adds each argument.
@@ -111,8 +107,8 @@ fn write_order(order: &StartOrder, answer: &mut String) -> Result<()> {
 }
 
 /// Adds the line of a reply, and all of its order where it is one.
-pub fn write_ordered(reply: &Option<Reply>, answer: &mut String) -> Result<()> {
-    if let Some(Asked::Start(order)) = reply.as_ref().and_then(|reply| reply.order()) {
+pub fn write_ordered(reply: &Reply, answer: &mut String) -> Result<()> {
+    if let Some(Asked::Start(order)) = reply.order() {
         return write_order(order, answer);
     }
     write_reply(reply, answer)

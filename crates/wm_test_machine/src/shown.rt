@@ -4,7 +4,7 @@ use crate::text::qname_of;
 use anyhow::{Context, Result, bail};
 use std::alloc::AllocError;
 use wm_core::Core;
-use wm_law::{Job, Phase, Power};
+use wm_law::{Job, JobKind, Phase, Power};
 
 fn write_phase(phase: &Phase, answer: &mut String) -> Result<(), AllocError> {
     match phase {
@@ -91,8 +91,40 @@ fn write_power(core: &Core, answer: &mut String) -> Result<()> {
     Ok(())
 }
 
+// A prestart job by its serial, phase and uses, and whether it has a request.
+fn write_prestart_job(job: &Job, answer: &mut String) -> Result<(), AllocError> {
+    write!(answer, "{} ", job.serial)?;
+    write_phase(&job.phase, answer)?;
+    let evoke = if job.evoke { " IN USE" } else { "" };
+    writeln!(answer, " USES {}{evoke}", job.uses)
+}
+
+fn write_prestart(core: &Core, answer: &mut String) -> Result<()> {
+    for job in core.jobs().jobs() {
+        if let JobKind::Pj = job.kind {
+            write_prestart_job(job, answer)?;
+        }
+    }
+    Ok(())
+}
+
+fn write_stopped(core: &Core, answer: &mut String) -> Result<()> {
+    for stop in core.machine().stopped.as_slice() {
+        writeln!(answer, "{} {}", stop.sbs, stop.pgm)?;
+    }
+    Ok(())
+}
+
+fn write_requests(core: &Core, answer: &mut String) -> Result<()> {
+    for evoke in core.machine().evokes.as_slice() {
+        writeln!(answer, "{} {} {}", evoke.user, evoke.sbs, evoke.pgm)?;
+    }
+    Ok(())
+}
+
 /// Adds what the word says: the `jobs` by serial, the `waiting` ones, the `next` one, the `holder` of a queue, what is
-/// `pending` for a monitor, or the `power` and how many subsystems are started.
+/// `pending` for a monitor, the `power` and how many subsystems are started, the `prestart` jobs, the entries that are
+/// `stopped`, or the `requests` that wait.
 pub fn write_state(core: &Core, what: &str, name: &str, answer: &mut String) -> Result<()> {
     match what {
         "jobs" => write_jobs(core, answer),
@@ -101,6 +133,9 @@ pub fn write_state(core: &Core, what: &str, name: &str, answer: &mut String) -> 
         "holder" => write_holder(core, name, answer),
         "pending" => write_pending(core, answer),
         "power" => write_power(core, answer),
+        "prestart" => write_prestart(core, answer),
+        "stopped" => write_stopped(core, answer),
+        "requests" => write_requests(core, answer),
         _ => bail!("nothing to be shown"),
     }
 }

@@ -1,7 +1,6 @@
 // What the cases ask: the machine, and the user of its commands.
 use crate::calls;
-use crate::change::{has_call, line_of, write_built};
-use crate::entry::entry_reply;
+use crate::change::line_of;
 use crate::monitor::call_of;
 use crate::reply::{write_ordered, write_reply};
 use crate::text::{first_word, number_of};
@@ -24,8 +23,6 @@ pub struct Tested {
     pub alloc: Global,
     pub user: Name,
     pub core: Core,
-    // A copy of the objects that takes prestart entries, from the first command on these to the next call of the machine.
-    copy: Option<Objects>,
     /// The moment of the calls.
     pub now: Moment,
 }
@@ -41,40 +38,21 @@ impl Tested {
             alloc,
             user: Name::of(b"QUSER"),
             core,
-            copy: None,
             now: Moment::new(NOW),
         })
     }
 
-    /// The objects: those of the copy, where there is one.
+    /// The objects.
     pub fn objects(&self) -> &Objects {
-        match &self.copy {
-            Some(objects) => objects,
-            None => self.core.objects(),
-        }
+        self.core.objects()
     }
 
-    // The reply of the copy of the objects, `None` where the call isn't about prestart entries.
-    fn copied_reply(&mut self, call: &Call) -> Result<Option<Reply>> {
-        let mut objects = match self.copy.take() {
-            Some(objects) => objects,
-            None => self.core.objects().clone()?,
-        };
-        let reply = entry_reply(&mut objects, call);
-        drop(self.copy.replace(objects));
-        reply
-    }
-
-    // The reply to a call, `None` where the machine hasn't it.
-    fn reply(&mut self, caller: u32, call: &Call) -> Result<Option<Reply>>
+    // The reply to a call.
+    fn reply(&mut self, caller: u32, call: &Call) -> Result<Reply>
         requires { IsCall call.now }
     {
-        if !has_call(call) {
-            return self.copied_reply(call);
-        }
-        drop(self.copy.take());
         let reply = calls::reply(self.alloc, &mut self.core, caller, call, self.now)?;
-        Ok(Some(reply))
+        Ok(reply)
     }
 
     // Makes a call, and adds the reply.
@@ -110,12 +88,6 @@ impl Tested {
     pub fn command(&mut self, text: &str, answer: &mut String) -> Result<()> {
         let line = line_of(self.alloc, &self.user, text)?;
         self.line(line, answer)
-    }
-
-    /// Adds whether the command that a CL text is is built.
-    pub fn built(&self, text: &str, answer: &mut String) -> Result<()> {
-        let line = line_of(self.alloc, &self.user, text)?;
-        write_built(&line, answer)
     }
 
     // Hands the next order to the monitor, and adds all of it.

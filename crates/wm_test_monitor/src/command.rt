@@ -1,15 +1,14 @@
 // The call of a user's CL text.
 ghost use Rattle.std.specs.Prelude.{IfOk};
 ghost use Rattle.wm_command.specs.Printed.{FitsMachine};
-ghost use Rattle.wm_law.specs.Fit.{HasCall, IsCall, IsCommand};
+ghost use Rattle.wm_law.specs.Fit.{IsCall, IsCommand};
 ghost use Rattle.wm_law.specs.declared.state.State.{State};
 
-use anyhow::{Result, bail, ensure};
+use anyhow::{Result, bail};
 use std::alloc::Global;
 use wm_base::Name;
 use wm_clwords::read_command;
 use wm_command::{Line, command};
-use wm_core::built;
 use wm_law::{Boxed, Call, Command};
 
 fn line_of(alloc: Global, user: &Name, text: &str) -> Result<Line>
@@ -23,9 +22,7 @@ fn line_of(alloc: Global, user: &Name, text: &str) -> Result<Line>
 fn user_call(alloc: Global, user: &Name, command: Command) -> Result<Call>
     requires { IsCommand command }
     ensures fit { IfOk result IsCall }
-    ensures had { IfOk result HasCall }
 {
-    ensure!(built(&command).is_ok(), "a command that isn't built");
     let _user = user.as_bytes();
     Ok(Call::Change {
         user: *user,
@@ -36,7 +33,6 @@ fn user_call(alloc: Global, user: &Name, command: Command) -> Result<Call>
 fn line_call(alloc: Global, user: &Name, line: Line) -> Result<Call>
     requires { FitsMachine line }
     ensures fit { IfOk result IsCall }
-    ensures had { IfOk result HasCall }
 {
     match line {
         Line::Change(command) => {
@@ -50,7 +46,6 @@ fn line_call(alloc: Global, user: &Name, line: Line) -> Result<Call>
 /// The call of a CL text, by the user QUSER.
 pub fn call_of(alloc: Global, text: &str) -> Result<Call>
     ensures fit { IfOk result IsCall }
-    ensures had { IfOk result HasCall }
 {
     let user = Name::of(b"QUSER");
     let line = line_of(alloc, &user, text)?;

@@ -1,7 +1,7 @@
 // A floor in memory, with the passes of a session and of two monitors.
 ghost use Rattle.std.specs.Prelude.{◌≡◌, [], IfOk};
 ghost use Rattle.wm_floor.specs.Floor.{IsPassOf};
-ghost use Rattle.wm_law.specs.Fit.{HasCall, IsCall};
+ghost use Rattle.wm_law.specs.Fit.{IsCall};
 
 use crate::watch::{TestFloor, TestPass, Watch};
 use anyhow::{Result, bail};
@@ -115,7 +115,6 @@ impl Site {
         now: Moment,
     ) -> Result<Answered, CallFault>
         requires fit { IsCall call }
-        requires had { HasCall call }
     {
         self.floor.call(rt, alloc, &mut self.zero, call, now)
     }

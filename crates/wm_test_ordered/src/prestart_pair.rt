@@ -2,7 +2,7 @@
 use anyhow::{Result, ensure};
 use std::alloc::Global;
 use std::collections::BTreeMap;
-use wm_base::{Name, QName, Serial};
+use wm_base::{JobNumber, Name, QName, Serial};
 use wm_prestart::{PrestartEntry, PrestartJob, PrestartJobs, Readiness, Requests};
 
 #[derive(Drop)]
@@ -33,7 +33,7 @@ pub fn entry(number: u64) -> Result<PrestartEntry> {
     Ok(PrestartEntry { sbs, pgm })
 }
 
-/// A job of one of these entries.
+/// A job of one of these entries, with one of seven numbers.
 pub fn job(number: u64) -> Result<PrestartJob> {
     let readiness = match number / 4 % 3 {
         0 => Readiness::Coming,
@@ -42,6 +42,7 @@ pub fn job(number: u64) -> Result<PrestartJob> {
     };
     Ok(PrestartJob {
         entry: entry(number)?,
+        number: JobNumber::new((number / 12 % 7 + 1) as u32),
         readiness,
     })
 }
@@ -105,19 +106,20 @@ impl PrestartPair {
     pub fn compare(&self, entry: &PrestartEntry) -> Result<()> {
         ensure!(self.jobs.len() == self.other_jobs.len(), "len");
         let mut available = 0u32;
-        let mut first = None;
+        let mut first: Option<(u32, u64)> = None;
         for (serial, job) in self.other_jobs.iter() {
             if job.entry != *entry || matches!(job.readiness, Readiness::Taken) {
                 continue;
             }
             available = available.saturating_add(1);
-            if first.is_none() && matches!(job.readiness, Readiness::Idle) {
-                first = Some(*serial);
+            let own = (job.number.get(), *serial);
+            if matches!(job.readiness, Readiness::Idle) && first.is_none_or(|other| own < other) {
+                first = Some(own);
             }
         }
         ensure!(self.jobs.available(entry) == available, "available");
         let ours = self.jobs.first_idle(entry).map(|serial| serial.get());
-        ensure!(ours == first, "first idle");
+        ensure!(ours == first.map(|least| least.1), "first idle");
         let count = self.other_requests.get(entry).copied().unwrap_or(0);
         ensure!(self.requests.count(entry) == count, "requests");
         Ok(())

@@ -20,7 +20,7 @@ use subject::Runs;
 use wm_cases::{Subject, play};
 
 /// The files of cases.
-static FILES: [&str; 12] = [
+static FILES: [&str; 13] = [
     "scripts.txt",
     "faults.txt",
     "stores.txt",
@@ -29,6 +29,7 @@ static FILES: [&str; 12] = [
     "order.txt",
     "launches.txt",
     "waiting.txt",
+    "prestart.txt",
     "listings.txt",
     "endings.txt",
     "words.txt",

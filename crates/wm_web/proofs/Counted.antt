@@ -92,7 +92,6 @@ module _ {K : Type 0} where
 
   parsed_counts : (o : Opened K) (user : List ℕ) (p : Parsed) (old new : Seen K) (a : Answer) → AnswersParsed o user p old new a → raised_by (keeper_faults a) old.mark ≤ new.mark
   parsed_counts o user (of_parsed.Fault fault) old new a x = says_count _ old new a refl x
-  parsed_counts o user of_parsed.NotBuilt old new a x = says_count _ old new a refl x
   parsed_counts o user (of_parsed.Read ask) old new a x = read_count o ask old new a x
   parsed_counts o user (of_parsed.Call c) old new a x = call_counts o user c old new a x
 

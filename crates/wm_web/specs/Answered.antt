@@ -25,10 +25,10 @@ use Rattle.wm_listing.specs.declared.line_fault.LineFault.TheVariants.{Cl}
 use Rattle.wm_floor.specs.Floor.{HasLooked, Seen, entry_of}
 use Rattle.wm_floor.specs.Ledger.{behind}
 use Rattle.wm_floor.specs.declared.opened.Opened.{Opened}
-use Rattle.wm_run.specs.Answer.{is_power_down, is_refused, not_built}
+use Rattle.wm_run.specs.Answer.{is_power_down, is_refused}
 use Rattle.wm_run.specs.Reads.{is_log}
 use Rattle.wm_run.specs.declared.parsed.Parsed.{Parsed}
-use Rattle.wm_run.specs.declared.parsed.Parsed.TheVariants.{Fault, NotBuilt, Read, Call}
+use Rattle.wm_run.specs.declared.parsed.Parsed.TheVariants.{Fault, Read, Call}
 use Rattle.wm_traits.specs.Cause.{raised}
 use Rattle.wm_turn.specs.Passed.{StartsWith}
 use Rattle.wm_views.specs.Views.{shown}
@@ -115,7 +115,6 @@ module _ {K : Type 0} where
   -- the one line of a body
   abbrev pub AnswersParsed : Opened K → List ℕ → Parsed → Seen K → Seen K → Answer → Type 0
   AnswersParsed o user (Fault fault) old new answer = Says (BadCommand (fault_text fault)) old new answer
-  AnswersParsed o user NotBuilt old new answer = Says (BadCommand not_built) old new answer
   AnswersParsed o user (Read ask) old new answer = AnswersRead o ask old new answer
   AnswersParsed o user (Call c) old new answer = AnswersCall o user c old new answer
 

@@ -6,7 +6,7 @@ use Rattle.wm_listing.specs.declared.line_fault.LineFault.TheVariants.{Cl}
 use Rattle.wm_run.specs.Answer.{is_fault}
 use Rattle.wm_run.specs.Parsed.{IsFitParsed, Parses}
 use Rattle.wm_run.specs.declared.parsed.Parsed.{Parsed}
-use Rattle.wm_run.specs.declared.parsed.Parsed.TheVariants.{Fault, NotBuilt, Read, Call}
+use Rattle.wm_run.specs.declared.parsed.Parsed.TheVariants.{Fault, Read, Call}
 use Rattle.wm_web.specs.declared.body.Body.{Body}
 use Rattle.wm_web.specs.declared.body.Body.TheVariants.{Nothing, One, Several}
 
@@ -25,7 +25,6 @@ LinesParse user (line ∷ lines) (p ∷ ps) = LineParses user line p × LinesPar
 -- whether a line isn't empty
 abbrev pub is_said : Parsed → Bool
 is_said (Fault fault) = is_fault fault
-is_said NotBuilt = true
 is_said (Read ask) = true
 is_said (Call c) = true
 

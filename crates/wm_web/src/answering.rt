@@ -4,7 +4,6 @@ ghost use Rattle.wm_floor.specs.Floor.{IsPassOf, IsSame};
 ghost use Rattle.wm_http.specs.declared.answer.Answer.TheVariants.{BadCommand, BadRequest};
 ghost use Rattle.wm_http.specs.declared.request.Cut.TheVariants.{Whole};
 ghost use Rattle.wm_listing.specs.Said.{fault_text};
-ghost use Rattle.wm_run.specs.Answer.{not_built};
 ghost use Rattle.wm_run.specs.Parsed.{IsFitParsed};
 ghost use Rattle.wm_web.specs.Answered.{AnswersBody, AnswersBytes, AnswersCut, AnswersParsed, AnswersRoute, IsTakenUp, is_down};
 ghost use Rattle.wm_web.specs.Bodies.{IsFitBody};
@@ -45,14 +44,6 @@ fn fault_answer(alloc: Global, fault: &LineFault) -> Result<Answer, NoMemory>
     Ok(Answer::BadCommand(Said::new(line)))
 }
 
-// The answer to a command that isn't built.
-fn not_built(alloc: Global) -> Result<Answer, NoMemory>
-    ensures { IfOk result (λ a. a ≡ BadCommand not_built) }
-{
-    let line = String::from_str(alloc, "CM 9 NOTBUILT")?;
-    Ok(Answer::BadCommand(Said::new(line)))
-}
-
 // Answers the one line of a body.
 fn answer_parsed<K: Keeper, C: Clock, G: Gate, R: Wait>(
     rt: &R,
@@ -75,7 +66,6 @@ fn answer_parsed<K: Keeper, C: Clock, G: Gate, R: Wait>(
 {
     match parsed {
         Parsed::Fault(fault) => Ok(plain(fault_answer(alloc, &fault)?)),
-        Parsed::NotBuilt => Ok(plain(not_built(alloc)?)),
         Parsed::Read(ask) => read_command(rt, alloc, floor, pass, gate, worker, &ask),
         Parsed::Call(command) => call_command(
             rt, alloc, floor, pass, clock, gate, worker, user, command,

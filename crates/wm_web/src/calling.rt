@@ -1,7 +1,6 @@
 // The call of a user's command.
 ghost use Rattle.std.specs.Prelude.{◌≡◌, true, IfOk, OnErr};
 ghost use Rattle.wm_floor.specs.Floor.{IsPassOf, IsSame};
-ghost use Rattle.wm_law.specs.Built.{is_built};
 ghost use Rattle.wm_law.specs.Fit.{IsCommand};
 ghost use Rattle.wm_law.specs.declared.command.Command.{Command};
 ghost use Rattle.wm_web.specs.Answered.{AnswersCall, IsTakenUp, entered_answer, failed_answer, is_down};
@@ -83,7 +82,6 @@ pub(crate) fn call_command<K: Keeper, C: Clock, G: Gate, R: Wait>(
 ) -> Result<Answered, NoMemory>
     requires own { IsPassOf floor.now pass.old }
     requires fit { IsCommand command }
-    requires built { is_built command ≡ true }
     ensures own { IsPassOf floor.now pass.new }
     ensures same { IsSame pass.old pass.new }
     ensures answered { IfOk result (λ r. AnswersCall floor.now.opening user.now command pass.old pass.new r.answer) }

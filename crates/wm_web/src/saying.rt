@@ -1,39 +1,14 @@
 // What is said of a command once it was called. The call takes the command, so what is said of it again is kept before.
 ghost use Rattle.std.specs.Prelude.{◌≡◌, IfOk, string_bytes};
 ghost use Rattle.wm_law.specs.declared.command.Command.{Command};
-ghost use Rattle.wm_listing.specs.Said.{made_name, said_text};
+ghost use Rattle.wm_listing.specs.Said.{said_text, subject_of};
 ghost use Rattle.wm_web.specs.Sayings.{AreOf};
 
 use crate::sayings::Sayings;
 use std::alloc::Global;
-use wm_base::{NoMemory, QName};
-use wm_law::{Clrjobq, Command, EndOption, Pwrdwnsys, Reply};
-use wm_listing::said;
-
-// What a command that makes or changes an object names first, or one that is about a queue.
-fn made_name(command: &Command) -> Option<QName>
-    ensures { result ≡ made_name command.now }
-{
-    match command {
-        Command::Crtcls(c) => Some(c.cls),
-        Command::Crtjobq(c) => Some(c.jobq),
-        Command::Crtpgmref(c) => Some(c.pgm),
-        Command::Crtjobd(c) => Some(c.jobd),
-        Command::Crtsbsd(c) => Some(c.sbsd),
-        Command::Addjobqe(c) => Some(c.sbsd),
-        Command::Addrtge(c) => Some(c.sbsd),
-        Command::Addaje(c) => Some(c.sbsd),
-        Command::Addpje(c) => Some(c.sbsd),
-        Command::Rmvjobqe(c) => Some(c.sbsd),
-        Command::Rmvrtge(c) => Some(c.sbsd),
-        Command::Rmvaje(c) => Some(c.sbsd),
-        Command::Rmvpje(c) => Some(c.sbsd),
-        Command::Hldjobq(c) => Some(c.jobq),
-        Command::Rlsjobq(c) => Some(c.jobq),
-        Command::Clrjobq(c) => Some(c.jobq),
-        _ => None,
-    }
-}
+use wm_base::NoMemory;
+use wm_law::{Clrjobq, Command, EndOption, Pwrdwnsys, Reply, Strpj};
+use wm_listing::{Subject, said, subject_of};
 
 /// What is said again of a command. An `Err` is want of memory.
 pub(crate) fn sayings_of(alloc: Global, command: &Command) -> Result<Sayings, NoMemory>
@@ -42,19 +17,23 @@ pub(crate) fn sayings_of(alloc: Global, command: &Command) -> Result<Sayings, No
     let made = said(alloc, command, &Reply::Made)?;
     Ok(Sayings {
         made,
-        name: made_name(command),
+        subject: subject_of(command),
     })
 }
 
-// A command that names this, or nothing: of replies but Made the same is said of it.
-fn naming(name: Option<QName>) -> Command
-    ensures { made_name result ≡ name }
+// A command that is about this, or nothing: of replies but Made the same is said of it.
+fn about(subject: &Subject) -> Command
+    ensures { subject_of result ≡ subject.now }
 {
-    match name {
-        Some(jobq) => Command::Clrjobq(Clrjobq { jobq }),
-        None => Command::Pwrdwnsys(Pwrdwnsys {
+    match subject {
+        Subject::Nothing => Command::Pwrdwnsys(Pwrdwnsys {
             option: EndOption::Immed,
             delay: None,
+        }),
+        Subject::Object(jobq) => Command::Clrjobq(Clrjobq { jobq: *jobq }),
+        Subject::PreEntry { pgm, sbs } => Command::Strpj(Strpj {
+            sbs: *sbs,
+            pgm: *pgm,
         }),
     }
 }
@@ -69,7 +48,7 @@ pub(crate) fn line_of(alloc: Global, sayings: &Sayings, reply: &Reply) -> Result
             Ok(made)
         }
         _ => {
-            let line = said(alloc, &naming(sayings.name), reply)?;
+            let line = said(alloc, &about(&sayings.subject), reply)?;
             Ok(line)
         }
     }

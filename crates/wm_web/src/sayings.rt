@@ -1,9 +1,9 @@
 // What of a command is said again.
-use wm_base::QName;
+use wm_listing::Subject;
 
-/// What is said of a command where it made an object, and what it names first.
+/// What is said of a command where it made an object, and what it is about.
 #[derive(Drop)]
 pub struct Sayings {
     pub made: String,
-    pub name: Option<QName>,
+    pub subject: Subject,
 }

@@ -22,15 +22,15 @@ module _ (p : Evoke → Bool) where
       (λ none. both.0 (omega (arith, none, whole)), λ some. both.1 (omega (arith, some, whole)))
 
 pub returns-then-count-eq0 : goal.returns-then-count-eq0
-returns-then-count-eq0 c = λ s same are in_order.
+returns-then-count-eq0 c = λ s same are.
     let sbs = c.args.entry.now.sbs in
     let pgm = c.args.entry.now.pgm in
     let none = (any-counted (law.is_evoke_of sbs pgm) s.evokes).0 (sym (c.count.ensures.requests s.evokes are) ∙ c.if-count-eq0.true) in
     sym (ap (λ b. option_map (λ (j : Job). j.serial) (cond b (law.first_idle sbs pgm s.jobs) None)) none)
 
 pub returns : goal.returns
-returns c = λ s same are in_order.
+returns c = λ s same are.
     let sbs = c.args.entry.now.sbs in
     let pgm = c.args.entry.now.pgm in
     let some = (any-counted (law.is_evoke_of sbs pgm) s.evokes).1 (omega (arith, c.count.ensures.requests s.evokes are, c.if-count-eq0.false)) in
-    c.first_idle.ensures ∙ (ap (first_idle c.args.entry.now) same ∙ (first_idle_is_found sbs pgm s.jobs in_order ∙ sym (ap (λ b. option_map (λ (j : Job). j.serial) (cond b (law.first_idle sbs pgm s.jobs) None)) some)))
+    c.first_idle.ensures ∙ (ap (first_idle c.args.entry.now) same ∙ (first_idle_is_found sbs pgm s.jobs ∙ sym (ap (λ b. option_map (λ (j : Job). j.serial) (cond b (law.first_idle sbs pgm s.jobs) None)) some)))

@@ -7,7 +7,7 @@ use Rattle.wm_prestart.proofs.moves.sit.Goals as goal
 
 pub returns-then-is_idle-clause-seats : goal.returns-then-is_idle-clause-seats
 returns-then-is_idle-clause-seats c = λ jobs i are.
-    rw c.insert.ensures.items (seated jobs c.args.seats.now.items are (c.args.serial, c.args.job.now) i (place_of key_of seat_cmp (seat_of (c.args.serial, c.args.job.now)) c.args.seats.now.items) (sym c.is_idle.ensures ∙ c.if-is_idle.true))
+    rw (c.insert.ensures.items, c.seat_of.ensures) (seated jobs c.args.seats.now.items are (c.args.serial, c.args.job.now) i (place_of key_of seat_cmp (seat_of (c.args.serial, c.args.job.now)) c.args.seats.now.items) (sym c.is_idle.ensures ∙ c.if-is_idle.true))
 
 pub returns-else-is_idle-clause-seats : goal.returns-else-is_idle-clause-seats
 returns-else-is_idle-clause-seats c = λ jobs i are. unseated jobs c.args.seats.now.items are (c.args.serial, c.args.job.now) i (sym c.is_idle.ensures ∙ c.if-is_idle.false)

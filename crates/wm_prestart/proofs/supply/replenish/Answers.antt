@@ -1,8 +1,8 @@
 use Rattle.std.proofs.Common.{◌≡◌, ℕ, ◌-◌, ◌&&◌, min, not, true, ap, sym, ◌∙◌, arith}
 use Rattle.std.proofs.lemmas.Bool.{cond-true}
 use Rattle.std.proofs.lemmas.Bool.Decides.{nat_tests}
-use Rattle.wm_law.specs.Counts.{count_in_sbs}
-use Rattle.wm_law.specs.Prestart.{count_available, count_from_pre, is_lacking, is_stopped, left_by, least_multiple, room}
+use Rattle.wm_law.specs.Counts.{count_in_sbs, count_from_pre}
+use Rattle.wm_law.specs.Prestart.{count_available, is_lacking, is_stopped, left_by, least_multiple, room}
 use Rattle.wm_law.specs.Submitting.{numbers_left}
 use Rattle.wm_prestart.proofs.supply.replenish.Goals as goal
 

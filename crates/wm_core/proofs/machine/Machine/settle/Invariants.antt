@@ -1,4 +1,4 @@
 use Rattle.wm_core.proofs.machine.Machine.settle.Given as goal
 
-abbrev pub ghosts-settle_counted : goal.ghosts-settle_counted
-ghosts-settle_counted a = record { name = a.blank.name; parts = a.blank.parts }
+abbrev pub ghosts-start_counted : goal.ghosts-start_counted
+ghosts-start_counted a = record { name = a.blank.name; parts = a.blank.parts }

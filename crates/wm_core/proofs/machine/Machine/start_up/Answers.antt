@@ -3,6 +3,7 @@ use Rattle.wm_law.specs.declared.state.SbsPhase.TheVariants.{Active}
 use Rattle.wm_law.specs.declared.state.State.{State}
 use Rattle.wm_law.specs.Submitting.{numbers_left}
 use Rattle.wm_law.specs.Subsystems.{begun}
+use Rattle.wm_law.specs.Supply.{first_stops}
 use Rattle.wm_core.specs.Drafts.{enter_draft}
 use Rattle.wm_core.specs.MachineInside.{Seen, state_of}
 use Rattle.wm_core.proofs.ByDrafts.{numbers-fit, same-parts, site_parts, whole-entered}
@@ -39,4 +40,5 @@ returns-clause-ok c =
     let parts = same-parts s.objects c.reserve.new.self.jobs s.jobs c.push.new.self r.started s.held c.reserve.new.self.clock s.clock s.next_number c.reserve.new.self.next_serial s.next_serial c.reserve.ensures.jobs started c.reserve.ensures.clock c.reserve.ensures.next_serial in
     let come : State = site_parts s.objects c.enter_drafts.new.table.jobs c.push.new.self s.held c.enter_drafts.new.table.clock c.enter_drafts.new.number c.enter_drafts.new.table.next_serial in
     let whole = whole-entered q r c.args.drafts.items come (c.enter_drafts.ensures.state ∙ ap (λ (t : State). fold (enter_draft q) t c.args.drafts.items) parts) in
-    rw (← c.self.view_is, started, clock, place) whole
+    let stops : c.args.stops ≡ r.stopped = c.requires.stops ∙ ap (λ (t : Seen). t.state.stopped ++ first_stops t.state q) (sym c.self.view_is) in
+    rw (← c.self.view_is, started, stops, clock, place) whole

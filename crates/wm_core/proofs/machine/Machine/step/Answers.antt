@@ -3,14 +3,16 @@ use Rattle.wm_law.specs.declared.call.Call.{Call}
 use Rattle.wm_law.specs.declared.state.State.{State}
 use Rattle.wm_law.specs.Machine.{apply, step, with_clock}
 use Rattle.wm_law.specs.Settling.{come_due, leave, start_jobs}
+use Rattle.wm_law.specs.Supply.{supply}
 use Rattle.wm_law.specs.Sound.{IsSound}
 use Rattle.wm_law.proofs.Sound.{clock_sound}
 use Rattle.wm_core.specs.Due.{may_come_due}
 use Rattle.wm_core.specs.MachineInside.{Seen}
-use Rattle.wm_core.specs.Marks.{Marks, jobs_before, marks_at}
+use Rattle.wm_core.specs.Aside.{aside_of}
+use Rattle.wm_core.specs.Marks.{Marks, marks_at}
 use Rattle.wm_core.proofs.InLine.{applied_in_line}
 use Rattle.wm_core.proofs.NoneDue.{none_comes_due}
-use Rattle.wm_core.proofs.Undone.{call_is_undone}
+use Rattle.wm_core.proofs.Undone.{call_is_undone, kept_is_undone}
 use Rattle.wm_core.proofs.machine.Machine.step.Goals as goal
 
 -- the state once the clock is set
@@ -34,11 +36,10 @@ apply-requires-clause-sound c =
 pub returns-in-Err-clause-err : goal.returns-in-Err-clause-err
 returns-in-Err-clause-err c =
     let s = c.args.self.now.state in
-    let back = c.in-Err.ensures.err in
     let timed = clocked _ _ _ _ c.args.now c.in_ok-begin.ensures.state c.self.view_is c.set_clock.ensures.state in
-    let left : c.apply.new.self.state ≡ with_clock s c.args.now = ap (λ (t : Seen). t.state) back ∙ timed in
-    let marks : c.apply.new.self.marks ≡ marks_at s c.args.call.now = ap (λ (t : Seen). t.marks) back ∙ kept _ _ c.args.call.now _ _ c.in_ok-begin.ensures.marks c.self.view_is c.set_clock.ensures.marks in
-    c.take_clock_back.ensures.state ∙ (ap (λ (t : State). jobs_before c.apply.new.self.marks t) left ∙ ap (λ (m : Marks). jobs_before m (with_clock s c.args.now)) marks)
+    let left : aside_of c.apply.new.self.state ≡ aside_of s = c.in-Err.ensures.aside ∙ ap aside_of timed in
+    let marks : c.apply.new.self.marks ≡ marks_at s c.args.call.now = c.apply.ensures.marks ∙ kept _ _ c.args.call.now _ _ c.in_ok-begin.ensures.marks c.self.view_is c.set_clock.ensures.marks in
+    c.take_back.ensures.state ∙ kept_is_undone s c.args.call.now c.apply.new.self.marks c.apply.new.self.state c.requires.sound.objects marks left
 
 pub come_due-requires-clause-line : goal.come_due-requires-clause-line
 come_due-requires-clause-line c =
@@ -64,12 +65,23 @@ returns-in-Err-come_due-clause-err c =
     let come = applied _ _ _ c.args.caller c.args.call.now timed c.in-Ok.ensures.state in
     let left : c.come_due.new.self.state ≡ (apply (with_clock s c.args.now) c.args.caller c.args.call.now).state = ap (λ (t : Seen). t.state) back ∙ come in
     let marks : c.come_due.new.self.marks ≡ marks_at s c.args.call.now =
-    ap (λ (t : Seen). t.marks) back ∙ (c.in-Ok.ensures.marks ∙ kept _ _ c.args.call.now _ _ c.in_ok-begin.ensures.marks c.self.view_is c.set_clock.ensures.marks) in
-    c.take_back.ensures.state ∙ call_is_undone s c.args.caller c.args.call.now c.args.now c.come_due.new.self.marks c.come_due.new.self.state c.requires.sound.objects marks left
+    ap (λ (t : Seen). t.marks) back ∙ (c.apply.ensures.marks ∙ kept _ _ c.args.call.now _ _ c.in_ok-begin.ensures.marks c.self.view_is c.set_clock.ensures.marks) in
+    c.take_back-in-Err-come_due.ensures.state ∙ call_is_undone s c.args.caller c.args.call.now c.args.now c.come_due.new.self.marks c.come_due.new.self.state c.requires.sound.objects marks (ap aside_of left)
+
+pub returns-in-Err-settle-clause-err : goal.returns-in-Err-settle-clause-err
+returns-in-Err-settle-clause-err c =
+    let s = c.args.self.now.state in
+    let timed = clocked _ _ _ _ c.args.now c.in_ok-begin.ensures.state c.self.view_is c.set_clock.ensures.state in
+    let come = applied _ _ _ c.args.caller c.args.call.now timed c.in-Ok.ensures.state in
+    let left : aside_of c.settle.new.self.state ≡ aside_of (apply (with_clock s c.args.now) c.args.caller c.args.call.now).state =
+    c.in-Err-settle.ensures.aside ∙ ap aside_of (c.in_default.ensures.ok ∙ ap come_due come) in
+    let marks : c.settle.new.self.marks ≡ marks_at s c.args.call.now =
+    c.settle.ensures.marks ∙ (c.come_due.ensures.marks ∙ (c.apply.ensures.marks ∙ kept _ _ c.args.call.now _ _ c.in_ok-begin.ensures.marks c.self.view_is c.set_clock.ensures.marks)) in
+    c.take_back-in-Err-settle.ensures.state ∙ call_is_undone s c.args.caller c.args.call.now c.args.now c.settle.new.self.marks c.settle.new.self.state c.requires.sound.objects marks left
 
 pub returns-clause-state : goal.returns-clause-state
 unfolding step
 returns-clause-state c =
     let timed = clocked _ _ _ _ c.args.now c.in_ok-begin.ensures.state c.self.view_is c.set_clock.ensures.state in
     let come = applied _ _ _ c.args.caller c.args.call.now timed c.in-Ok.ensures.state in
-    c.settle.ensures.state ∙ ap (λ (t : State). start_jobs (leave t)) (c.in_default.ensures.ok ∙ ap come_due come)
+    c.in_default-settle.ensures.ok ∙ ap (λ (t : State). start_jobs (supply (leave t))) (c.in_default.ensures.ok ∙ ap come_due come)

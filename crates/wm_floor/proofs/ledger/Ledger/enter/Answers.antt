@@ -27,7 +27,6 @@ invariant_of-self-2 g c =
       journal = c.self.invariant.journal;
       seat = (let r = c.ranges.caller.fits in omega arith);
       fit = c.requires.fit;
-      built = c.requires.built;
       moment = c.get-moment.ensures.range;
       room = omega (arith, limit_of_most c.args.call j.limit c.self.invariant.journal.limit, c.limit_of-limit.ensures, c.len.ensures, c.if-len-limit.false);
       reply = refl;

@@ -20,7 +20,6 @@ invariant_of-self-2 g c =
       journal = c.self.invariant;
       seat = (let v = c.number-caller.ensures.value in let r = c.number-caller.ensures.range in omega arith);
       fit = c.requires.fit;
-      built = c.requires.built;
       moment = c.get-moment.ensures.range;
       room = omega (arith, limit_of_most c.args.call j.limit c.self.invariant.limit, c.limit_of-limit.ensures, c.len.ensures, c.if-len-limit.false);
       reply = c.in_ok-reply.ensures.reply;
@@ -40,7 +39,6 @@ returns-clause-kept g c =
       journal = c.self.invariant;
       seat = (let v = c.number-caller.ensures.value in let r = c.number-caller.ensures.range in omega arith);
       fit = c.requires.fit;
-      built = c.requires.built;
       moment = c.get-moment.ensures.range;
       room = omega (arith, limit_of_most c.args.call j.limit c.self.invariant.limit, c.limit_of-limit.ensures, c.len.ensures, c.if-len-limit.false);
       reply = c.in_ok-reply.ensures.reply;

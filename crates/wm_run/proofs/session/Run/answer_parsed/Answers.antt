@@ -14,9 +14,6 @@ use Rattle.wm_run.proofs.session.Run.answer_parsed.Goals as goal
 pub returns-in_err-put-in-Fault-clause-serves : goal.returns-in_err-put-in-Fault-clause-serves
 returns-in_err-put-in-Fault-clause-serves g c = Proceeds-none _
 
-pub returns-in_err-put-in-NotBuilt-clause-serves : goal.returns-in_err-put-in-NotBuilt-clause-serves
-returns-in_err-put-in-NotBuilt-clause-serves g c = Proceeds-none _
-
 pub returns-in_err-put-in-Fault-clause-stopped : goal.returns-in_err-put-in-Fault-clause-stopped
 returns-in_err-put-in-Fault-clause-stopped g c =
     let o = g.O.Sink in

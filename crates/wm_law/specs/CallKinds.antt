@@ -1,0 +1,71 @@
+-- Which calls tell jobs or subsystems to end, and which change objects or held queues.
+use Rattle.std.specs.Prelude.{Bool, true, false}
+use Rattle.wm_law.specs.declared.call.Call.{Call}
+use Rattle.wm_law.specs.declared.call.Call.TheVariants.{Change, Hand, Started, StartFailed, Finished, UseDone, Tick}
+use Rattle.wm_law.specs.declared.command.Command.{Command}
+use Rattle.wm_law.specs.declared.command.Command.TheVariants as command
+
+-- the command tells jobs or subsystems to end
+abbrev pub tells_to_end : Command → Bool
+tells_to_end (command.Crtcls c) = false
+tells_to_end (command.Crtjobq c) = false
+tells_to_end (command.Crtpgmref c) = false
+tells_to_end (command.Crtjobd c) = false
+tells_to_end (command.Crtsbsd c) = false
+tells_to_end (command.Addjobqe c) = false
+tells_to_end (command.Addrtge c) = false
+tells_to_end (command.Addaje c) = false
+tells_to_end (command.Addpje c) = false
+tells_to_end (command.Rmvjobqe c) = false
+tells_to_end (command.Rmvrtge c) = false
+tells_to_end (command.Rmvaje c) = false
+tells_to_end (command.Rmvpje c) = false
+tells_to_end (command.Strsbs c) = false
+tells_to_end (command.Endsbs c) = true
+tells_to_end (command.Sbmjob c) = false
+tells_to_end (command.Hldjob c) = false
+tells_to_end (command.Rlsjob c) = false
+tells_to_end (command.Chgjob c) = false
+tells_to_end (command.Endjob c) = true
+tells_to_end (command.Hldjobq c) = false
+tells_to_end (command.Rlsjobq c) = false
+tells_to_end (command.Clrjobq c) = false
+tells_to_end (command.Strpj c) = false
+tells_to_end (command.Endpj c) = true
+tells_to_end (command.Evoke c) = false
+tells_to_end (command.Enduse c) = false
+tells_to_end (command.Pwrdwnsys c) = true
+
+-- a call of such a command
+abbrev pub is_ending_call : Call → Bool
+is_ending_call (Change user c) = tells_to_end c
+is_ending_call Hand = false
+is_ending_call (Started serial) = false
+is_ending_call (StartFailed serial why) = false
+is_ending_call (Finished serial end) = false
+is_ending_call (UseDone serial) = false
+is_ending_call Tick = false
+
+-- the command makes an object, makes or removes an entry, or holds or releases a queue
+abbrev pub configures : Command → Bool
+configures (command.Crtcls c) = true
+configures (command.Crtjobq c) = true
+configures (command.Crtpgmref c) = true
+configures (command.Crtjobd c) = true
+configures (command.Crtsbsd c) = true
+configures (command.Addjobqe c) = true
+configures (command.Addrtge c) = true
+configures (command.Addaje c) = true
+configures (command.Addpje c) = true
+configures (command.Rmvjobqe c) = true
+configures (command.Rmvrtge c) = true
+configures (command.Rmvaje c) = true
+configures (command.Rmvpje c) = true
+configures (command.Hldjobq c) = true
+configures (command.Rlsjobq c) = true
+configures c = false
+
+-- a call of such a command
+abbrev pub is_configuring_call : Call → Bool
+is_configuring_call (Change user c) = configures c
+is_configuring_call call = false
