@@ -36,7 +36,7 @@ aside s call none = record {
   holds = λ reply held p a told. absurd (true≢false (sym told ∙ none));
   ends = λ reply change started stopped evokes power p e told. record { objects = refl; held = refl; offset = refl };
   uses = λ reply change p u. record { objects = refl; held = refl; offset = refl };
-  waits = λ place evokes. record { objects = refl; held = refl; offset = refl };
+  waits = λ place evokes is. record { objects = refl; held = refl; offset = refl };
   prestarts = λ q d e can. prestart_keeps (IsAside s) s q d e can (supplied_aside s) (record { objects = refl; held = refl; offset = refl });
   kills = λ m j i k. record { objects = refl; held = refl; offset = refl };
   makes = λ o c told. absurd (true≢false (sym told ∙ none));

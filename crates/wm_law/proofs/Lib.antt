@@ -11,11 +11,13 @@ pub mod Distinct
 pub mod Due
 pub mod Endings
 pub mod Entries
+pub mod Filters
 pub mod FirstGone
 pub mod FirstIdle
 pub mod Firsts
 pub mod Fitting
 pub mod Forward
+pub mod GivenOut
 pub mod Handing
 pub mod History
 pub mod InOrder
@@ -48,6 +50,8 @@ pub mod Quiet
 pub mod Ranks
 pub mod Refusals
 pub mod Remade
+pub mod RequestCalls
+pub mod RequestSteps
 pub mod Requests
 pub mod Rounds
 pub mod Routed

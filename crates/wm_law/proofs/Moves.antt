@@ -80,6 +80,7 @@ use Rattle.std.specs.Cmp.Lexicographic.{pointwise}
 use Rattle.wm_desc.specs.declared.description.Sbsd.{Sbsd}
 use Rattle.wm_desc.specs.declared.entry.PreEntry.{PreEntry}
 use Rattle.wm_law.specs.declared.command.Endpj.{Endpj}
+use Rattle.wm_law.specs.declared.command.EvokeCommand.{EvokeCommand}
 use Rattle.wm_law.specs.declared.command.Enduse.{Enduse}
 use Rattle.wm_law.specs.declared.command.Strpj.{Strpj}
 use Rattle.wm_law.specs.declared.state.SbsPhase.{SbsPhase}
@@ -147,6 +148,10 @@ the_one [] j e = absurd (cc)
 the_one (k ∷ []) j e = let same : k ≡ j = cc in inl (sym same)
 the_one (k ∷ i ∷ jobs) j e = absurd (cc)
 
+-- the call is an EVOKE
+abbrev pub IsEvokeCall : Call → Type 0
+IsEvokeCall call = (user : List ℕ) × (c : EvokeCommand) × (call ≡ Change user (command.Evoke c))
+
 -- P holds of whatever the call can come to: of its reply, and of the state before it settles
 pub record HoldsAfterCalls (P : Stepped → Type 0) (s : State) (call : Call) : Type 0 where
   pub refuses : (x : Refusal) → P (refused s x)
@@ -160,7 +165,7 @@ pub record HoldsAfterCalls (P : Stepped → Type 0) (s : State) (call : Call) : 
   pub holds : (reply : Reply) (held : List QName) → IsPlain reply → IsHolding s held → is_configuring_call call ≡ true → P (record { reply = reply; state = record s { held = held } })
   pub ends : (reply : Reply) (change : Job → Job) (started : List Sbs) (stopped : StopsOn s) (evokes : RequestsOn s) (power : Power) → IsPlain reply → IsEnding s change started power → is_ending_call call ≡ true → P (record { reply = reply; state = wished s change started stopped.stops evokes.requests power })
   pub uses : (reply : Reply) (change : Job → Job) → IsPlain reply → IsUse s change → P (record { reply = reply; state = wished s change s.started s.stopped s.evokes s.power })
-  pub waits : (place : ℕ) (evokes : RequestsOn s) → P (record { reply = EvokeWaits place; state = record s { evokes = evokes.requests } })
+  pub waits : (place : ℕ) (evokes : RequestsOn s) → IsEvokeCall call → P (record { reply = EvokeWaits place; state = record s { evokes = evokes.requests } })
   pub prestarts : (q : QName) (d : Sbsd) (e : PreEntry) → IsPrestartable s q d e → P (record { reply = PreStarted; state = prestarted s q d e })
   pub kills : (m : ℕ) (j : Job) → IsIn j s.jobs → is_to_kill m j ≡ true → P (record { reply = Order (Kill j.serial); state = with_active s j.serial with_kill })
   pub makes : (o : Objects) → IsObjectChange s o → is_configuring_call call ≡ true → P (record { reply = Made; state = record s { objects = o } })
@@ -298,26 +303,26 @@ module _ (P : Stepped → Type 0) (s : State) (call : Call) (h : HoldsAfterCalls
   use_ends_found c (Err x) e = h.refuses x
   use_ends_found c (Ok j) e = use_done is_running (UseEnded j.job) j (plain_use_ended j.job) (λ p t. t) (left_in (is_named c.job) s.jobs j (the_one (filter (is_named c.job) s.jobs) j e))
 
-  evoked : (user : List ℕ) (sbs : QName) (e : PreEntry) (o : Option Job) → CameByEntry s.started s.objects (Pre sbs e.pgm) → first_idle sbs e.pgm s.jobs ≡ o → P (evoke_on s user sbs e o)
-  evoked user sbs e None known k =
+  evoked : IsEvokeCall call → (user : List ℕ) (sbs : QName) (e : PreEntry) (o : Option Job) → CameByEntry s.started s.objects (Pre sbs e.pgm) → first_idle sbs e.pgm s.jobs ≡ o → P (evoke_on s user sbs e o)
+  evoked is user sbs e None known k =
       either e.wait _ _
-      (λ t. either (nat_le max_evokes (count_evokes sbs e.pgm s.evokes)) _ _ (λ u. h.refuses (WaitListFull max_evokes)) (λ u. h.waits (count_evokes sbs e.pgm s.evokes + 1) (request_more s (record { user = user; sbs = sbs; pgm = e.pgm }) known u)))
+      (λ t. either (nat_le max_evokes (count_evokes sbs e.pgm s.evokes)) _ _ (λ u. h.refuses (WaitListFull max_evokes)) (λ u. h.waits (count_evokes sbs e.pgm s.evokes + 1) (request_more s (record { user = user; sbs = sbs; pgm = e.pgm }) known u) is))
       (λ t. h.refuses NoneAvailable)
-  evoked user sbs e (Some j) known k = h.uses (Evoked j.job) (active_at j.serial with_evoke) (plain_evoked j.job) (using_request s sbs e.pgm j (idle_found sbs e.pgm s j k))
+  evoked is user sbs e (Some j) known k = h.uses (Evoked j.job) (active_at j.serial with_evoke) (plain_evoked j.job) (using_request s sbs e.pgm j (idle_found sbs e.pgm s j k))
 
-  evoked_entry : (user : List ℕ) (b : Sbs) (d : Sbsd) (pgm : QName) (o : Option PreEntry) → IsIn b s.started → object_named b.sbsd s.objects.sbsds ≡ Some d → pre_entry_for pgm d ≡ o → P (evoke_entry s user b.sbsd o)
-  evoked_entry user b d pgm None i k f = h.refuses (NoObject kind.Pje)
-  evoked_entry user b d pgm (Some e) i k f = either (is_stopped s b.sbsd e.pgm) _ _ (λ t. h.refuses EntryStopped) (λ t. evoked user b.sbsd e (first_idle b.sbsd e.pgm s.jobs) (known_by s b d pgm e i k f) refl)
+  evoked_entry : IsEvokeCall call → (user : List ℕ) (b : Sbs) (d : Sbsd) (pgm : QName) (o : Option PreEntry) → IsIn b s.started → object_named b.sbsd s.objects.sbsds ≡ Some d → pre_entry_for pgm d ≡ o → P (evoke_entry s user b.sbsd o)
+  evoked_entry is user b d pgm None i k f = h.refuses (NoObject kind.Pje)
+  evoked_entry is user b d pgm (Some e) i k f = either (is_stopped s b.sbsd e.pgm) _ _ (λ t. h.refuses EntryStopped) (λ t. evoked is user b.sbsd e (first_idle b.sbsd e.pgm s.jobs) (known_by s b d pgm e i k f) refl)
 
-  evoked_with : (user : List ℕ) (b : Sbs) (pgm : QName) (o : Option Sbsd) → IsIn b s.started → object_named b.sbsd s.objects.sbsds ≡ o → P (evoke_with s user b.sbsd pgm o)
-  evoked_with user b pgm None i k = h.refuses (NoObject kind.Pje)
-  evoked_with user b pgm (Some d) i k = evoked_entry user b d pgm (pre_entry_for pgm d) i k refl
+  evoked_with : IsEvokeCall call → (user : List ℕ) (b : Sbs) (pgm : QName) (o : Option Sbsd) → IsIn b s.started → object_named b.sbsd s.objects.sbsds ≡ o → P (evoke_with s user b.sbsd pgm o)
+  evoked_with is user b pgm None i k = h.refuses (NoObject kind.Pje)
+  evoked_with is user b pgm (Some d) i k = evoked_entry is user b d pgm (pre_entry_for pgm d) i k refl
 
-  evoked_in : (user name : List ℕ) (pgm : QName) (o : Option Sbs) → started_named s name ≡ o → P (evoke_in s user pgm o)
-  evoked_in user name pgm None e = h.refuses SbsNotActive
-  evoked_in user name pgm (Some b) e =
+  evoked_in : IsEvokeCall call → (user name : List ℕ) (pgm : QName) (o : Option Sbs) → started_named s name ≡ o → P (evoke_in s user pgm o)
+  evoked_in is user name pgm None e = h.refuses SbsNotActive
+  evoked_in is user name pgm (Some b) e =
       either (is_ending b.phase) _ _ (λ t. h.refuses AlreadyEnding)
-      (λ t. evoked_with user b pgm (object_named b.sbsd s.objects.sbsds) (found_among (λ (x : Sbs). pointwise nat_eq x.sbsd.name name) s.started b e).0 refl)
+      (λ t. evoked_with is user b pgm (object_named b.sbsd s.objects.sbsds) (found_among (λ (x : Sbs). pointwise nat_eq x.sbsd.name name) s.started b e).0 refl)
 
   entry_ends_found : (c : Endpj) (b : Sbs) (d : Sbsd) (o : Option PreEntry) → is_ending_call call ≡ true → IsIn b s.started → object_named b.sbsd s.objects.sbsds ≡ Some d → pre_entry_for c.pgm d ≡ o → P (end_entry s c b.sbsd o)
   entry_ends_found c b d None told i k f = h.refuses (NoObject kind.Pje)
@@ -449,7 +454,7 @@ changed P s user (command.Rlsjobq c) h = queue_released P s _ h c.jobq refl
 changed P s user (command.Clrjobq c) h = queue_cleared P s _ h c.jobq
 changed P s user (command.Strpj c) h = either P s _ h (is_on s.power) _ _ (λ t. prestarted_in P s _ h c (started_named s c.sbs) refl) (λ t. h.refuses PoweringDown)
 changed P s user (command.Endpj c) h = entry_ends_in P s _ h c (started_named s c.sbs) refl refl
-changed P s user (command.Evoke c) h = either P s _ h (is_on s.power) _ _ (λ t. evoked_in P s _ h user c.sbs c.pgm (started_named s c.sbs) refl) (λ t. h.refuses PoweringDown)
+changed P s user (command.Evoke c) h = either P s _ h (is_on s.power) _ _ (λ t. evoked_in P s _ h (user, c, refl) user c.sbs c.pgm (started_named s c.sbs) refl) (λ t. h.refuses PoweringDown)
 changed P s user (command.Enduse c) h = use_ends_found P s _ h c (job_named s c.job) refl
 changed P s user (command.Pwrdwnsys c) h =
     either P s _ h (is_down c.option s.power) _ _ (λ t. h.refuses PoweringDown)
@@ -582,7 +587,7 @@ of_states P s call h = record {
   holds = λ reply held p a told. h.holds held a;
   ends = λ reply change started stopped evokes power p e told. h.ends change started stopped.stops evokes.requests power e;
   uses = λ reply change p u. h.ends change s.started s.stopped s.evokes s.power u.ending;
-  waits = λ place evokes. h.lists s.stopped evokes.requests;
+  waits = λ place evokes is. h.lists s.stopped evokes.requests;
   prestarts = λ q d e can. prestart_keeps P s q d e can h.supplies (h.lists (without_stop q e.pgm s.stopped) s.evokes);
   kills = λ m j i k. h.ends (active_at j.serial with_kill) s.started s.stopped s.evokes s.power (kill_ends s j.serial);
   makes = λ o c told. h.makes o c;

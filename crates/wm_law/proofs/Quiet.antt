@@ -171,7 +171,7 @@ quiet_calls s call n names h quiet = record {
   holds = λ reply held p a told. record { subsystems = h.subsystems; jobs = h.jobs };
   ends = λ reply change started stopped evokes power p e told. absurd (cc);
   uses = λ reply change p u. used_due s change u n h;
-  waits = λ place evokes. record { subsystems = h.subsystems; jobs = h.jobs };
+  waits = λ place evokes is. record { subsystems = h.subsystems; jobs = h.jobs };
   prestarts = λ q d e can. (prestart_keeps IsQuietly s q d e can supplied_quietly (record { names = names; none = record { subsystems = h.subsystems; jobs = h.jobs } })).none;
   kills = λ m j i k. kill_due s j.serial h;
   makes = λ o c told. record { subsystems = h.subsystems; jobs = h.jobs };

@@ -1,5 +1,5 @@
 -- Settling's third part leaves no entry with both an idle job and a waiting request.
-use Rattle.std.proofs.Common.{◌≡◌, ℕ, zero, suc, ◌<◌, ◌≤◌, ◌+◌, ◌==◌, ◌&&◌, ◌||◌, not, Bool, true, false, cond, List, [], ◌∷◌, length, filter, fold, Option, Some, None, nat_lt, refl, sym, ap, subst, ◌∙◌, inl, inr, arith}
+use Rattle.std.proofs.Common.{◌≡◌, ℕ, zero, suc, ◌<◌, ◌≤◌, ◌+◌, ◌==◌, ◌&&◌, ◌||◌, not, Bool, true, false, cond, List, [], ◌∷◌, length, filter, fold, Option, Some, None, nat_lt, refl, sym, ap, subst, ◌∙◌, inl, inr, arith, ℤ}
 use Rattle.std.specs.List.{count_by, find, list_any}
 use Rattle.std.specs.Option.{option_and_then}
 use Rattle.std.proofs.lemmas.Bool.{and_parts}
@@ -29,7 +29,7 @@ use Rattle.wm_law.specs.Machine.{apply, step, with_clock}
 use Rattle.wm_law.specs.Prestart.{assign, assigned, assigned_to, count_evokes, count_idle, first_idle, is_evoke_of, is_idle_in, is_running, make_pre, make_pres, new_pre_job, of_lesser_number, replenish, replenished, with_evoke}
 use Rattle.wm_law.specs.Settling.{come_due, leave, start_jobs, waiting}
 use Rattle.wm_law.specs.Submitting.{numbers_left}
-use Rattle.wm_law.specs.Supplied.{AreServed, EntriesAreServed, IsEntryOf, IsServed, SettlingServes, StepServes, SupplyServes, SupplyServesEntry}
+use Rattle.wm_law.specs.Supplied.{AreServed, EntriesAreServed, IsEntryOf, IsServed, SettlingServes, StepServes, SupplyServes, SupplyServesEntry, OpeningIsServed}
 use Rattle.wm_law.specs.Supply.{in_order, supply, supply_entry, supply_in, supply_with}
 use Rattle.wm_law.specs.Wishes.{has_wish}
 use Rattle.wm_law.proofs.Ascending.{stands_in_order}
@@ -40,6 +40,7 @@ use Rattle.wm_law.proofs.Members.{in_left}
 use Rattle.wm_law.proofs.Rounds.{numbers-less}
 use Rattle.wm_law.proofs.Supplies.{replenish_numbers}
 use Rattle.std.specs.Prelude.{⊤}
+use Rattle.wm_law.proofs.Opened.{opened, opening_is}
 
 -- P is kept where a request goes to a job, and where a job is made while numbers are left
 pub record IsKeptBySupply (P : State → Type 0) : Type 0 where
@@ -235,7 +236,7 @@ through s sbs how j None = refl
 through s sbs how j (Some e) = by_cause how e.seq (route_fault s sbs e j)
 
 -- what a launch makes of a job doesn't run
-not_running : (s : State) (sbs queue : QName) (j : Job) → is_running (routed_from_queue s sbs queue j).phase ≡ false
+pub not_running : (s : State) (sbs queue : QName) (j : Job) → is_running (routed_from_queue s sbs queue j).phase ≡ false
 not_running s sbs queue j = through s sbs (from_queue sbs queue j) j (option_and_then (λ d. route d j.rtgdta) (object_named sbs s.objects.sbsds))
 
 -- so it isn't idle
@@ -266,3 +267,9 @@ step_serves s caller call moment = settling_serves (apply (with_clock s moment) 
 pub entries_are_served : EntriesAreServed
 entries_are_served s [] h = h
 entries_are_served s (x ∷ xs) h = entries_are_served (stepped s x).state xs (step_serves s x.caller x.call x.moment)
+
+opened_is_served : (offset : ℤ) → AreServed (opened offset)
+opened_is_served offset b d e en = absurd en.started
+
+pub opening_is_served : OpeningIsServed
+opening_is_served offset = subst AreServed (sym (opening_is offset)) (opened_is_served offset)

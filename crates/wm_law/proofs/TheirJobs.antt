@@ -1,5 +1,5 @@
 -- Settling's third part leaves no entry a lack of jobs that it could get.
-use Rattle.std.proofs.Common.{◌≡◌, ◌⊎◌, ℕ, ◌<◌, ◌≤◌, ◌-◌, ◌==◌, ◌&&◌, ◌||◌, min, not, Bool, true, false, cond, List, [], ◌∷◌, ◌++◌, map, Option, Some, None, nat_lt, refl, sym, ap, subst, ◌∙◌, inl, inr, arith}
+use Rattle.std.proofs.Common.{◌≡◌, ◌⊎◌, ℕ, ◌<◌, ◌≤◌, ◌-◌, ◌==◌, ◌&&◌, ◌||◌, min, not, Bool, true, false, cond, List, [], ◌∷◌, ◌++◌, map, Option, Some, None, nat_lt, refl, sym, ap, subst, ◌∙◌, inl, inr, arith, ℤ}
 use Rattle.std.specs.List.{count_by, find}
 use Rattle.std.proofs.lemmas.Bool.{and_parts, cases_lt, eqb-true}
 use Rattle.std.proofs.lemmas.Bool.Decides.{nat_tests}
@@ -33,7 +33,7 @@ use Rattle.wm_law.specs.Machine.{apply, step, with_clock}
 use Rattle.wm_law.specs.Prestart.{assign, assigned, assigned_to, count_available, is_available, is_available_in, is_idle, is_lacking, is_running, is_stop_among, is_stopped, is_to_run, least_multiple, left_by, make_pre, make_pres, new_pre_job, replenished, room, with_evoke}
 use Rattle.wm_law.specs.Settling.{come_due, leave, start_jobs, waiting}
 use Rattle.wm_law.specs.Submitting.{numbers_left}
-use Rattle.wm_law.specs.Supplied.{EntriesHaveTheirJobs, HasItsJobs, available, adds_none, entry_full, numbers_used, stopped, subsystem_full, HaveTheirJobs, IsServed, SettlingGivesJobs, StepGivesJobs, SupplyGivesEntryJobs, SupplyGivesJobs}
+use Rattle.wm_law.specs.Supplied.{EntriesHaveTheirJobs, HasItsJobs, available, adds_none, entry_full, numbers_used, stopped, subsystem_full, HaveTheirJobs, IsServed, SettlingGivesJobs, StepGivesJobs, SupplyGivesEntryJobs, SupplyGivesJobs, OpeningHasItsJobs}
 use Rattle.wm_law.specs.Supply.{supply, supply_entry}
 use Rattle.wm_law.specs.Wishes.{has_wish}
 use Rattle.wm_law.proofs.Counted.{count_last, no_fewer}
@@ -45,6 +45,7 @@ use Rattle.wm_law.proofs.Numbers.{apply_keeps, clock_keeps, due_keeps, given_ent
 use Rattle.wm_law.proofs.Rounds.{left, left-after, ready-made, room-is}
 use Rattle.wm_law.proofs.Served.{IsKeptBySupply, assigned_kept, assigned_serves, entry_before, replenished_kept, served_kept, served_none, settle_has_those, supplied_entry, supply_has_those}
 use Rattle.wm_law.proofs.Supplies.{assignable, supplied_keeps}
+use Rattle.wm_law.proofs.Opened.{opened, opening_is}
 
 -- nothing is left by the limits and the numbers, so one of them is reached
 full_by : (l : Limit) (c n : ℕ) → left_by l c n ≡ 0 → (is_below c l ≡ false) ⊎ (n ≡ 0)
@@ -106,7 +107,7 @@ less_full : (l : Limit) (a b : ℕ) → a ≤ b → is_below a l ≡ false → i
 less_full NoMax a b le h = h
 less_full (Most m) a b le h = grind (arith, nat_tests)
 
--- the counts of the entry and the subsystem fell nowhere, nor did those of numbers and stops rise
+-- the stops are the same, no count of the entry or its subsystem fell, and numbers that are used up stay so
 record HasNoLess (q : QName) (d : Sbsd) (e : PreEntry) (s t : State) : Type 0 where
   stops : t.stopped ≡ s.stopped
   ready : count_available q e.pgm s.jobs ≤ count_available q e.pgm t.jobs
@@ -138,7 +139,7 @@ made_no_less q d e r p t some =
     }
 
 -- serials are given once
-abbrev HasSerials : State → Type 0
+abbrev pub HasSerials : State → Type 0
 HasSerials t = IsGiven (map (λ j. j.serial) t.jobs) t.next_serial
 
 serials_assigned : (r p : QName) (t : State) (j : Job) → HasSerials t → HasSerials (assigned_to r p j t)
@@ -147,11 +148,11 @@ serials_assigned r p t j h = subst (λ (l : List ℕ). IsGiven l t.next_serial) 
 serials_made : (r p : QName) (t : State) → HasSerials t → HasSerials (make_pre r p t)
 serials_made r p t h = given_entered (λ j. j.serial) t.jobs (new_pre_job t r p) t.next_serial refl h
 
-serials_kept : IsKeptBySupply HasSerials
+pub serials_kept : IsKeptBySupply HasSerials
 serials_kept = record { assigns = λ r p t j e h. serials_assigned r p t j h; makes = λ r p t some h. serials_made r p t h }
 
 -- a job that is idle in an entry came by it, and by no other
-from_one : (q p r s : QName) (how : How) → is_from_pre q p how ≡ true → is_from_pre r s how ≡ true → (q ≡ r) × (p ≡ s)
+pub from_one : (q p r s : QName) (how : How) → is_from_pre q p how ≡ true → is_from_pre r s how ≡ true → (q ≡ r) × (p ≡ s)
 from_one q p r s NotYet h k = absurd (cc)
 from_one q p r s (FromQueue sbs queue pty route) h k = absurd (cc)
 from_one q p r s (Auto sbs route) h k = absurd (cc)
@@ -312,3 +313,9 @@ step_gives_jobs s caller call moment n = settling_gives_jobs (apply (with_clock 
 pub entries_have_their_jobs : EntriesHaveTheirJobs
 entries_have_their_jobs s [] n h = h
 entries_have_their_jobs s (x ∷ xs) n h = entries_have_their_jobs (stepped s x).state xs (step_keeps_numbers s x.caller x.call x.moment n) (step_gives_jobs s x.caller x.call x.moment n)
+
+opened_has_its_jobs : (offset : ℤ) → HaveTheirJobs (opened offset)
+opened_has_its_jobs offset b d e en = absurd en.started
+
+pub opening_has_its_jobs : OpeningHasItsJobs
+opening_has_its_jobs offset = subst HaveTheirJobs (sym (opening_is offset)) (opened_has_its_jobs offset)

@@ -28,6 +28,7 @@ pub mod Prestart
 pub mod Prestarting
 pub mod Queues
 pub mod Reports
+pub mod Requests
 pub mod Schedules
 pub mod Settling
 pub mod Sound

@@ -1,5 +1,5 @@
 -- What settling's third part leaves: no entry of an Active subsystem has both an idle job and a waiting request, and none lacks jobs that it could get.
-use Rattle.std.specs.Prelude.{◌≡◌, ◌⊎◌, ℕ, ◌≤◌, true, false, List, Some}
+use Rattle.std.specs.Prelude.{◌≡◌, ◌⊎◌, ℕ, ℤ, ◌≤◌, true, false, List, Some}
 use Rattle.wm_base.specs.declared.qname.QName.{QName}
 use Rattle.wm_base.specs.Limit.{is_below}
 use Rattle.wm_desc.specs.declared.description.Sbsd.{Sbsd}
@@ -15,6 +15,7 @@ use Rattle.wm_law.specs.History.{after}
 use Rattle.wm_law.specs.Kept.{IsNumbered}
 use Rattle.wm_law.specs.Laws.{IsIn}
 use Rattle.wm_law.specs.Machine.{step}
+use Rattle.wm_law.specs.Opening.{opening}
 use Rattle.wm_law.specs.Prestart.{count_available, count_evokes, count_idle, is_stopped}
 use Rattle.wm_law.specs.Settling.{settle}
 use Rattle.wm_law.specs.Submitting.{numbers_left}
@@ -47,6 +48,14 @@ AreServed s = (b : Sbs) (d : Sbsd) (e : PreEntry) → IsEntryOf s b d e → IsSe
 -- no entry of an Active subsystem lacks jobs that it could get
 abbrev pub HaveTheirJobs : State → Type 0
 HaveTheirJobs s = (b : Sbs) (d : Sbsd) (e : PreEntry) → IsEntryOf s b d e → HasItsJobs b.sbsd d e s
+
+-- in the opening state no subsystem is started, so no entry has both
+abbrev pub OpeningIsServed : Type 0
+OpeningIsServed = (offset : ℤ) → AreServed (opening offset)
+
+-- nor lacks one jobs there
+abbrev pub OpeningHasItsJobs : Type 0
+OpeningHasItsJobs = (offset : ℤ) → HaveTheirJobs (opening offset)
 
 -- the supply of an entry leaves it no idle job, or no waiting request
 abbrev pub SupplyServesEntry : Type 0

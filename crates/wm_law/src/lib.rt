@@ -13,8 +13,10 @@
 //! comes to); `Fit` (which calls the machine has, and their ranges) and `CallKinds` (which calls end jobs, and which change objects). What follows
 //! from them: `Laws` and `Kept`; `Limits` (no start passes a limit), `Order` (jobs are launched in their order), `Objects`
 //! (what holds of tables and subsystem descriptions), `Leaving` (which ending subsystems stay), `Handing` (which order Hand
-//! gives), `NextMoment` (what Pending tells), `Sound` (what holds of each state that a history reaches, and over each entry),
-//! `SoundPrestart` (what holds there of prestart jobs, stopped entries and requests) and `Maxuse` (no job is used too often).
+//! gives), `NextMoment` (what Pending tells), `Supplied` (what settling leaves of prestart entries' idle jobs, waiting requests
+//! and lacks), `Requests` (what becomes of a waiting request), `Sound` (what holds of each state that a history reaches, and
+//! over each entry), `SoundPrestart` (what holds there of prestart jobs, stopped entries and requests) and `Maxuse` (no job is
+//! used too often).
 #![tactic(auto)]
 
 mod boxed;
@@ -52,6 +54,6 @@ pub use list::ListOf;
 pub use pending::Pending;
 pub use prestart_laws::{
     entries_are_served, entries_have_their_jobs, first_idle_job_is_first, prestart_jobs_are_sound,
-    rounds_make_what_is_lacking, uses_stay_within_maxuse,
+    requests_are_kept, rounds_make_what_is_lacking, uses_stay_within_maxuse,
 };
 pub use state::{Evoke, Evokes, Jobs, Power, QNames, Sbs, SbsList, SbsPhase, State, Stop, Stops};

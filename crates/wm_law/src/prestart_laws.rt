@@ -1,8 +1,9 @@
 // Laws of prestart jobs: what their definitions come to, each for all states. They are no calls.
 ghost use Rattle.wm_law.specs.Maxuse.{LegalAreCalls, MaxuseIsKept, OpeningIsWithinMaxuse, StepKeepsMaxuse, UsesAreKept};
 ghost use Rattle.wm_law.specs.Prestart.{FirstIdleIsFirst, LeastMultipleIsLeast, RoundsReplenish};
+ghost use Rattle.wm_law.specs.Requests.{AnsweredRequestsWait, CallsKeepRequests, OpeningHasNoneWaiting, RequestsAreKept, RequestsAreQueue, SettlingGivesOut, StepKeepsNoneWaiting, StepKeepsRequests};
 ghost use Rattle.wm_law.specs.SoundPrestart.{OpeningIsPrestartSound, StatesArePrestartSound, StepKeepsPrestartSound};
-ghost use Rattle.wm_law.specs.Supplied.{EntriesAreServed, EntriesHaveTheirJobs, SettlingGivesJobs, SettlingServes, StepGivesJobs, StepServes, SupplyGivesEntryJobs, SupplyGivesJobs, SupplyServes, SupplyServesEntry};
+ghost use Rattle.wm_law.specs.Supplied.{EntriesAreServed, EntriesHaveTheirJobs, OpeningHasItsJobs, OpeningIsServed, SettlingGivesJobs, SettlingServes, StepGivesJobs, StepServes, SupplyGivesEntryJobs, SupplyGivesJobs, SupplyServes, SupplyServesEntry};
 
 /// Where the jobs that came by prestart entries stand in the order of their numbers, an entry's idle job of
 /// least number is the first of its idle jobs in the list, and so the one of least serial.
@@ -45,6 +46,7 @@ pub fn uses_stay_within_maxuse()
 /// request: each entry's supply leaves it so, and neither the supply of later entries nor the jobs that then
 /// start make a job idle or let a request wait.
 pub fn entries_are_served()
+    ensures opening { OpeningIsServed }
     ensures entry { SupplyServesEntry }
     ensures supply { SupplyServes }
     ensures settling { SettlingServes }
@@ -57,9 +59,28 @@ pub fn entries_are_served()
 /// leaves it so, and neither the supply of later entries nor the jobs that then start take an available job
 /// away or make room.
 pub fn entries_have_their_jobs()
+    ensures opening { OpeningHasItsJobs }
     ensures entry { SupplyGivesEntryJobs }
     ensures supply { SupplyGivesJobs }
     ensures settling { SettlingGivesJobs }
     ensures step { StepGivesJobs }
     ensures always { EntriesHaveTheirJobs }
+{}
+
+/// No request that waits for a prestart entry is lost, and none is given out twice, whatever was called. A call
+/// adds one behind the others where it is EVOKE of the entry and is answered so, drops them where it is ENDPJ of
+/// the entry, ENDSBS of its subsystem or PWRDWNSYS, and else leaves them; one that is answered with a place waits
+/// there. Then settling gives out the first of them: the others wait in their order, and for each that is gone one
+/// job more of the entry runs with a request. No request waits at an ending subsystem, so none goes as a subsystem
+/// leaves. Over a history in which no call drops them, the requests are a queue: those that waited and those that
+/// came behind them are those that were given out and those that wait.
+pub fn requests_are_kept()
+    ensures opening { OpeningHasNoneWaiting }
+    ensures waiting { StepKeepsNoneWaiting }
+    ensures call { CallsKeepRequests }
+    ensures answer { AnsweredRequestsWait }
+    ensures settling { SettlingGivesOut }
+    ensures step { StepKeepsRequests }
+    ensures always { RequestsAreKept }
+    ensures queue { RequestsAreQueue }
 {}

@@ -1,4 +1,4 @@
-use Rattle.wm_law.proofs.TheirJobs.{entries_have_their_jobs, settling_gives_jobs, step_gives_jobs, supply_gives_entry_jobs, supply_gives_jobs}
+use Rattle.wm_law.proofs.TheirJobs.{entries_have_their_jobs, settling_gives_jobs, step_gives_jobs, supply_gives_entry_jobs, supply_gives_jobs, opening_has_its_jobs}
 use Rattle.wm_law.proofs.prestart_laws.entries_have_their_jobs.Goals as goal
 
 pub returns-clause-entry : goal.returns-clause-entry
@@ -15,3 +15,6 @@ returns-clause-step c = step_gives_jobs
 
 pub returns-clause-always : goal.returns-clause-always
 returns-clause-always c = entries_have_their_jobs
+
+pub returns-clause-opening : goal.returns-clause-opening
+returns-clause-opening c = opening_has_its_jobs
