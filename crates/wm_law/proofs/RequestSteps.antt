@@ -100,7 +100,7 @@ queue_on : (s : State) (e : Entry) (es : List Entry) (sbs pgm : QName) → IsAft
 queue_on s e es sbs pgm (stay same) out no_drop q = record {
   came = q.came;
   given = out.given ++ q.given;
-  arrival = inl q.arrival;
+  arrival = inl (same, q.arrival);
   order = given_on (evokes_of sbs pgm s.evokes) q.came (evokes_of sbs pgm (called s e.caller e.call e.moment).evokes) out.given q.given q.came (evokes_of sbs pgm (stepped s e).state.evokes) (evokes_of sbs pgm (after s (e ∷ es)).evokes)
       (ap (λ (l : Requests). l ++ q.came) (sym same)) out.front q.order;
 }

@@ -114,11 +114,11 @@ StepKeepsRequests = (s : State) (caller : ℕ) (call : Call) (moment : ℕ) (sbs
 abbrev pub RequestsAreKept : Type 0
 RequestsAreKept = (s : State) (h : List Entry) (sbs pgm : QName) → IsNumbered s → HasDistinctNames s → NoneWaitsAtEnd s → KeepsRequests sbs pgm s h
 
--- requests for an entry that came to wait by calls of a history from a state, in their order
+-- requests for an entry that came to wait by calls of a history from a state, in their order: each call leaves those that wait, or adds the next one
 abbrev pub Came : QName → QName → State → List Entry → List Evoke → Type 0
 Came sbs pgm s [] requests = requests ≡ []
 Came sbs pgm s (e ∷ es) requests =
-    Came sbs pgm (stepped s e).state es requests
+    ((evokes_of sbs pgm (called s e.caller e.call e.moment).evokes ≡ evokes_of sbs pgm s.evokes) × Came sbs pgm (stepped s e).state es requests)
     ⊎ ((place : ℕ) × (request : Evoke) × (rest : List Evoke) × ((stepped s e).reply ≡ EvokeWaits place) × IsEvokeFor sbs pgm e.call request × Came sbs pgm (stepped s e).state es rest × (requests ≡ request ∷ rest))
 
 -- no call of a history drops requests of an entry
