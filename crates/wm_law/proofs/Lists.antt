@@ -138,7 +138,7 @@ lists_called s call places h = record {
       let new = called_lists s stopped evokes places h in
       lists_still (record s { stopped = stopped.stops; evokes = evokes.requests }) started s.objects (λ how. ending s started how e.subsystems) new);
   uses = λ reply change p u. h;
-  waits = λ place evokes. (let new = called_lists s (record { stops = s.stopped; known = λ e i. inl i }) evokes places h in new);
+  waits = λ place evokes is. (let new = called_lists s (record { stops = s.stopped; known = λ e i. inl i }) evokes places h in new);
   prestarts = λ q d e can. prestart_keeps HasLists s q d e can supplies_lists (record { stops = λ x i. h.stops x (left_in (λ (y : Stop). not (same_qname y.sbs q && same_qname y.pgm e.pgm)) s.stopped x i); requests = h.requests; few = h.few });
   kills = λ m j i k. h;
   makes = λ o c told. lists_still s s.started o (λ how. remade s o how c) h;

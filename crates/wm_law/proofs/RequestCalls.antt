@@ -28,7 +28,7 @@ use Rattle.wm_law.specs.declared.job.Phase.TheVariants.{Waiting, Starting, Hande
 use Rattle.wm_law.specs.declared.state.Evoke.{Evoke}
 use Rattle.wm_law.specs.declared.state.Sbs.{Sbs}
 use Rattle.wm_law.specs.declared.state.State.{State}
-use Rattle.wm_law.specs.Built.{is_ending_call}
+use Rattle.wm_law.specs.CallKinds.{is_ending_call}
 use Rattle.wm_law.specs.Counts.{count_from_pre}
 use Rattle.wm_law.specs.Endings.{end_active, end_found, end_in_phase, end_phase, end_started, end_those, is_down, is_ending_by, is_of_those, is_wished, phased, started_named}
 use Rattle.wm_law.specs.Kept.{HasDistinctNames}
