@@ -9,7 +9,7 @@ use wm_law::{Call, Command, Evokes, Power, QNames, Reply, SbsList, Stops};
 use wm_pick::Parts;
 use wm_when::Offset;
 
-/// The machine over any state. The jobs, their next numbers and the clock are in the job table, all else is plain data.
+/// The machine in one state. The jobs, their next numbers and the clock are in the job table, all else is plain data.
 /// A contract sees the state, and what is kept of the state before the last step.
 pub struct Machine {
     pub objects: Objects,

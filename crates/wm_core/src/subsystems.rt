@@ -1,4 +1,5 @@
-// STRSBS: a subsystem is started, and with it its autostart jobs.
+// STRSBS: a subsystem is started, and with it its autostart jobs and its first prestart jobs. Its entries with STRJOBS(*NO) are
+// stopped then.
 ghost use Rattle.std.specs.Prelude.{◌≡◌, ◌++◌, OnOk};
 ghost use Rattle.wm_core.specs.Supplied.{stop_unless_started};
 
