@@ -29,14 +29,17 @@ use Rattle.wm_jobs.proofs.Sifted.{picked-few, picked-keys, picked-length, pushed
 use Rattle.wm_jobs.proofs.Splits.{sorted-pushed}
 use Rattle.wm_jobs.proofs.JobParts.{waiting-unstarted, waiter-keyed, waiter-placed, order-keyed, order-none, active-keyed, active-none, hows-pushed, count-pushed}
 use Rattle.wm_law.proofs.InTurn.{not_active}
+use Rattle.wm_prestart.specs.declared.prestart_job.PrestartJob.{PrestartJob}
+use Rattle.wm_prestart.specs.OfJobs.{row_of}
+use Rattle.wm_jobs.proofs.PrestartParts.{row-keyed, row-none}
 
 pub same-tally : (hs : List How) (old new : Counts) → new.counts ≡ old.counts → IsTally hs old → IsTally hs new
 same-tally hs old new same h = λ k. ap (number_at same_counted k) same ∙ h k
 
-pub new-inside : (new : Inside) → new.jobs.items ≡ [] → new.waiting.items ≡ [] → IsTally [] new.tally → new.starting.items ≡ [] → new.active.items ≡ [] → new.busy ≡ 0 → new.room ≡ 0 → 1 ≤ new.next_place → IsNames [] new.names → IsKept new
-new-inside new jobs waiting tally starting active busy room np names = record {
+pub new-inside : (new : Inside) → new.jobs.items ≡ [] → new.waiting.items ≡ [] → IsTally [] new.tally → new.starting.items ≡ [] → new.active.items ≡ [] → new.prestart.items ≡ [] → new.busy ≡ 0 → new.room ≡ 0 → 1 ≤ new.next_place → IsNames [] new.names → IsKept new
+new-inside new jobs waiting tally starting active prestart busy room np names = record {
   listed = subst (λ js. AreListed new.next_serial new.next_place js) (sym jobs) (record { first_place = omega arith; sorted = λ i j d lt in_range. absurd (omega arith); each = All-nil (IsListed new.next_serial new.next_place) });
-  indexed = subst (λ js. IsIndexed js new.waiting new.tally new.starting new.active new.busy) (sym jobs) (record { waiters_are = waiting; hows_are = tally; orders_are = starting; active_are = active; busy_are = busy });
+  indexed = subst (λ js. IsIndexed js new.waiting new.tally new.starting new.active new.prestart new.busy) (sym jobs) (record { waiters_are = waiting; hows_are = tally; orders_are = starting; active_are = active; prestart_are = prestart; busy_are = busy });
   room = (let n : length new.jobs.items ≡ 0 = ap length jobs in let m : length new.waiting.items ≡ 0 = ap length waiting in
       record { to_stand = omega arith; few = omega arith; to_wait = omega arith; to_count = omega arith; to_start = omega arith });
   named = subst (λ js. HasNames js new.room new.names) (sym jobs) (record { are = names; to_name = omega arith });
@@ -47,14 +50,15 @@ module _ (t : Inside) (h : IsKept t) where
   pub few-waiters : length t.waiting.items ≤ length t.jobs.items
   few-waiters = let n : length t.waiting.items ≡ length (waiters t.jobs.items) = ap length h.indexed.waiters_are in let few = picked-few waiter_of t.jobs.items in omega arith
 
-  pub reserved-inside : (new : Inside) → new.jobs.items ≡ t.jobs.items → new.waiting.items ≡ t.waiting.items → new.tally.counts ≡ t.tally.counts → new.starting.items ≡ t.starting.items → new.active.items ≡ t.active.items → new.busy ≡ t.busy → new.next_serial ≡ t.next_serial → new.next_place ≡ t.next_place → HasRoom (length t.jobs.items) (vec_capacity new.jobs) new.room new.waiting new.tally new.starting → (IsNames t.jobs.items t.names → IsNames t.jobs.items new.names) → new.room ≤ new.names.spare → IsKept new
-  reserved-inside new jobs waiting tally starting active busy ns np room names name = record {
+  pub reserved-inside : (new : Inside) → new.jobs.items ≡ t.jobs.items → new.waiting.items ≡ t.waiting.items → new.tally.counts ≡ t.tally.counts → new.starting.items ≡ t.starting.items → new.active.items ≡ t.active.items → new.prestart.items ≡ t.prestart.items → new.busy ≡ t.busy → new.next_serial ≡ t.next_serial → new.next_place ≡ t.next_place → HasRoom (length t.jobs.items) (vec_capacity new.jobs) new.room new.waiting new.tally new.starting → (IsNames t.jobs.items t.names → IsNames t.jobs.items new.names) → new.room ≤ new.names.spare → IsKept new
+  reserved-inside new jobs waiting tally starting active prestart busy ns np room names name = record {
     listed = subst (λ js. AreListed new.next_serial new.next_place js) (sym jobs) (rw (ns, np) h.listed);
-    indexed = subst (λ js. IsIndexed js new.waiting new.tally new.starting new.active new.busy) (sym jobs) (record {
+    indexed = subst (λ js. IsIndexed js new.waiting new.tally new.starting new.active new.prestart new.busy) (sym jobs) (record {
       waiters_are = waiting ∙ h.indexed.waiters_are;
       hows_are = same-tally (hows t.jobs.items) t.tally new.tally tally h.indexed.hows_are;
       orders_are = starting ∙ h.indexed.orders_are;
       active_are = active ∙ h.indexed.active_are;
+      prestart_are = prestart ∙ h.indexed.prestart_are;
       busy_are = busy ∙ h.indexed.busy_are;
     });
     room = subst (λ n. HasRoom n (vec_capacity new.jobs) new.room new.waiting new.tally new.starting) (ap length (sym jobs)) room;
@@ -98,8 +102,8 @@ module _ (t : Inside) (h : IsKept t) where
         let start = h.room.to_start in
         record { to_stand = omega arith; few = omega arith; to_wait = omega arith; to_count = omega arith; to_start = omega arith }
 
-    pub pushed-inside : is_waiting j.phase ≡ true → is_some j.jobq ≡ true → (new : Inside) → new.jobs.items ≡ t.jobs.items ++ j ∷ [] → vec_capacity new.jobs ≡ vec_capacity t.jobs → new.waiting.items ≡ added waiting.serial_of nat_cmp w t.waiting.items → t.waiting.spare ≡ new.waiting.spare + 1 → new.tally ≡ t.tally → new.starting ≡ t.starting → new.active ≡ t.active → new.busy ≡ t.busy → new.next_serial ≡ t.next_serial + 1 → new.next_place ≡ t.next_place + 1 → new.room + 1 ≡ t.room → ((js : List Job) → IsNames js t.names → IsNames (js ++ j ∷ []) new.names) → t.names.spare ≤ new.names.spare + 1 → IsKept new
-    pushed-inside waits queue new jobs capacity we ws te se ae be ns np room add name =
+    pub pushed-inside : is_waiting j.phase ≡ true → is_some j.jobq ≡ true → (new : Inside) → new.jobs.items ≡ t.jobs.items ++ j ∷ [] → vec_capacity new.jobs ≡ vec_capacity t.jobs → new.waiting.items ≡ added waiting.serial_of nat_cmp w t.waiting.items → t.waiting.spare ≡ new.waiting.spare + 1 → new.tally ≡ t.tally → new.starting ≡ t.starting → new.active ≡ t.active → new.prestart ≡ t.prestart → new.busy ≡ t.busy → new.next_serial ≡ t.next_serial + 1 → new.next_place ≡ t.next_place + 1 → new.room + 1 ≡ t.room → ((js : List Job) → IsNames js t.names → IsNames (js ++ j ∷ []) new.names) → t.names.spare ≤ new.names.spare + 1 → IsKept new
+    pushed-inside waits queue new jobs capacity we ws te se ae pe be ns np room add name =
         let come : new.waiting.items ≡ waiters (t.jobs.items ++ j ∷ []) = we ∙ (ap (λ us. added waiting.serial_of nat_cmp w us) h.indexed.waiters_are ∙ pushed-comes serial_of waiter_of waiting.serial_of waiter-keyed t.next_serial t.jobs.items lower j w picked serial_is) in
         record {
           listed = subst (λ js. AreListed new.next_serial new.next_place js) (sym jobs) (record {
@@ -109,11 +113,12 @@ module _ (t : Inside) (h : IsKept t) where
                 (All-weaker (IsListed t.next_serial t.next_place) (IsListed new.next_serial new.next_place) (λ k l. let a = l.serial in let b = l.place in record { serial = omega arith; place = omega arith; queue = l.queue }) t.jobs.items h.listed.each)
                 (All-cons (IsListed new.next_serial new.next_place) j [] (record { serial = omega (arith, serial_is); place = omega (arith, place_is); queue = λ _. queue }) (All-nil (IsListed new.next_serial new.next_place)));
           });
-          indexed = subst (λ js. IsIndexed js new.waiting new.tally new.starting new.active new.busy) (sym jobs) (record {
+          indexed = subst (λ js. IsIndexed js new.waiting new.tally new.starting new.active new.prestart new.busy) (sym jobs) (record {
             waiters_are = come;
             hows_are = rw (hows-pushed t.jobs.items j (not_active j.phase waits), te) h.indexed.hows_are;
             orders_are = ap (λ (o : Pairs ℕ (Unit {0})). o.items) se ∙ (h.indexed.orders_are ∙ pushed-same serial_of order_of (λ e. e.0) order-keyed t.jobs.items j (order-none j (waiting-unstarted j.phase waits)));
             active_are = ap (λ (o : Pairs ℕ Acting). o.items) ae ∙ (h.indexed.active_are ∙ pushed-same serial_of active_of (λ e. e.0) active-keyed t.jobs.items j (active-none j (not_active j.phase waits)));
+            prestart_are = ap (λ (o : Pairs ℕ PrestartJob). o.items) pe ∙ (h.indexed.prestart_are ∙ pushed-same serial_of row_of (λ e. e.0) row-keyed t.jobs.items j (row-none j (not_active j.phase waits)));
             busy_are = be ∙ (h.indexed.busy_are ∙ sym (count-pushed is_busy t.jobs.items j (ap (λ b. b && not (is_prestart j.kind)) (not_active j.phase waits))));
           });
           room = pushed-room new jobs capacity come ws te se room;

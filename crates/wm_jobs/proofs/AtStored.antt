@@ -33,6 +33,9 @@ use Rattle.wm_jobs.proofs.JobParts.{waiter-keyed, waiter-placed, waiter-waits, o
 use Rattle.wm_jobs.proofs.NameParts.{names-pushed}
 use Rattle.wm_jobs.proofs.Sifted.{differs, picked-length, pushed-lacks, pushed-comes, pushed-same}
 use Rattle.wm_jobs.proofs.Splits.{sorted-pushed, above-head}
+use Rattle.wm_prestart.specs.declared.prestart_job.PrestartJob.{PrestartJob}
+use Rattle.wm_prestart.specs.OfJobs.{row_of}
+use Rattle.wm_jobs.proofs.PrestartParts.{row-keyed, row-none}
 
 inactive-unstarted : (p : Phase) → is_active p ≡ false → is_starting p ≡ false
 inactive-unstarted Waiting h = refl
@@ -142,16 +145,17 @@ module _ (t : Inside) (h : IsKept t) (j : Job) (behind : All (λ (k : Job). k.se
           (All-cons (IsListed t.next_serial t.next_place) j [] (record { serial = serial; place = place; queue = queue }) (All-nil (IsListed t.next_serial t.next_place)));
     }
 
-    pub stored-inside : (new : Inside) → new.jobs.items ≡ t.jobs.items ++ j ∷ [] → vec_capacity new.jobs ≡ vec_capacity t.jobs → new.waiting.items ≡ joined_by (waiter_of j) t.waiting.items → t.waiting.spare ≤ new.waiting.spare + 1 → new.tally ≡ t.tally → new.starting ≡ t.starting → new.active ≡ t.active → new.busy ≡ t.busy → new.next_serial ≡ t.next_serial → new.next_place ≡ t.next_place → new.room + 1 ≡ t.room → ((js : List Job) → IsNames js t.names → IsNames (js ++ j ∷ []) new.names) → t.names.spare ≤ new.names.spare + 1 → IsKept new
-    stored-inside new jobs capacity we ws te se ae be ns np room add name =
+    pub stored-inside : (new : Inside) → new.jobs.items ≡ t.jobs.items ++ j ∷ [] → vec_capacity new.jobs ≡ vec_capacity t.jobs → new.waiting.items ≡ joined_by (waiter_of j) t.waiting.items → t.waiting.spare ≤ new.waiting.spare + 1 → new.tally ≡ t.tally → new.starting ≡ t.starting → new.active ≡ t.active → new.prestart ≡ t.prestart → new.busy ≡ t.busy → new.next_serial ≡ t.next_serial → new.next_place ≡ t.next_place → new.room + 1 ≡ t.room → ((js : List Job) → IsNames js t.names → IsNames (js ++ j ∷ []) new.names) → t.names.spare ≤ new.names.spare + 1 → IsKept new
+    stored-inside new jobs capacity we ws te se ae pe be ns np room add name =
         let come : new.waiting.items ≡ waiters (t.jobs.items ++ j ∷ []) = we ∙ (ap (λ us. joined_by (waiter_of j) us) h.indexed.waiters_are ∙ waiters-joined (waiter_of j) refl) in
         record {
           listed = subst (λ js. AreListed new.next_serial new.next_place js) (sym jobs) (rw (ns, np) stored-listed);
-          indexed = subst (λ js. IsIndexed js new.waiting new.tally new.starting new.active new.busy) (sym jobs) (record {
+          indexed = subst (λ js. IsIndexed js new.waiting new.tally new.starting new.active new.prestart new.busy) (sym jobs) (record {
             waiters_are = come;
             hows_are = rw (hows-pushed t.jobs.items j inactive, te) h.indexed.hows_are;
             orders_are = ap (λ (o : Pairs ℕ (Unit {0})). o.items) se ∙ (h.indexed.orders_are ∙ pushed-same serial_of order_of (λ e. e.0) order-keyed t.jobs.items j (order-none j (inactive-unstarted j.phase inactive)));
             active_are = ap (λ (o : Pairs ℕ Acting). o.items) ae ∙ (h.indexed.active_are ∙ pushed-same serial_of active_of (λ e. e.0) active-keyed t.jobs.items j (active-none j inactive));
+            prestart_are = ap (λ (o : Pairs ℕ PrestartJob). o.items) pe ∙ (h.indexed.prestart_are ∙ pushed-same serial_of row_of (λ e. e.0) row-keyed t.jobs.items j (row-none j inactive));
             busy_are = be ∙ (h.indexed.busy_are ∙ sym (count-pushed is_busy t.jobs.items j (ap (λ b. b && not (is_prestart j.kind)) inactive)));
           });
           room = stored-room new jobs capacity come ws te se room;

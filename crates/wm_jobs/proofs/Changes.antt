@@ -12,6 +12,7 @@ use Rattle.wm_jobs.specs.Table.{serial_of}
 use Rattle.wm_jobs.specs.TableInside.{IsListed, AreListed, IsIndexed, HasRoom}
 use Rattle.wm_jobs.proofs.JobParts.{hows-few}
 use Rattle.wm_jobs.proofs.Splits.{sorted-changed}
+use Rattle.wm_prestart.specs.declared.prestart_job.PrestartJob.{PrestartJob}
 
 module _ {X : Type 0} (P : X → Type 0) where
   pub all-changed : (l r : List X) (x y : X) → P y → All P (l ++ x ∷ r) → All P (l ++ y ∷ r)
@@ -32,5 +33,5 @@ module _ (s : ℕ) (l r : List Job) (x y : Job) (here : x.serial ≡ s) (lower :
         (λ k d lt. let was = h.each k d lt in let place = was.place in record { serial = was.serial; place = omega arith; queue = was.queue });
   }
 
-pub few-hows : (jobs : List Job) (w : Waiting) (t : Counts) (o : Pairs ℕ (Unit {0})) (a : Pairs ℕ Acting) (b cap room : ℕ) → IsIndexed jobs w t o a b → HasRoom (length jobs) cap room w t o → HasFew t
-few-hows jobs w t o a b cap room i h = record { hows = hows jobs; are = i.hows_are; few = (let n = hows-few jobs in let f = h.few in omega arith) }
+pub few-hows : (jobs : List Job) (w : Waiting) (t : Counts) (o : Pairs ℕ (Unit {0})) (a : Pairs ℕ Acting) (p : Pairs ℕ PrestartJob) (b cap room : ℕ) → IsIndexed jobs w t o a p b → HasRoom (length jobs) cap room w t o → HasFew t
+few-hows jobs w t o a p b cap room i h = record { hows = hows jobs; are = i.hows_are; few = (let n = hows-few jobs in let f = h.few in omega arith) }

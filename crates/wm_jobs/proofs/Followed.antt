@@ -27,6 +27,8 @@ use Rattle.wm_jobs.specs.TableInside.{IsIndexed}
 use Rattle.wm_jobs.proofs.JobParts.{waiter-keyed, hows-active, hows-inactive, tally-in, tally-out, count-changed}
 use Rattle.wm_jobs.proofs.Sifted.{differs, picked-keys, picked-parts, picked-lacks, picked-comes, picked-goes, picked-same, picked-length}
 use Rattle.wm_jobs.proofs.Splits.{map-split}
+use Rattle.wm_prestart.specs.declared.prestart_job.PrestartJob.{PrestartJob}
+use Rattle.wm_prestart.specs.OfJobs.{row_of}
 
 one-entry : {E : Type 0} (o : Option E) (es : List E) → length (cons_option o es) ≡ bit (is_some o) + length es
 one-entry None es = omega arith
@@ -119,12 +121,13 @@ how-stays x y t true was is same l r h =
 how-stays x y t false was is same l r h = subst (λ hs. IsTally hs t) (hows-inactive l r x was ∙ sym (hows-inactive l r y is)) h
 
 -- what jobs are found and counted by follows
-pub followed : (l r : List Job) (x y : Job) (around : IsAround l r x.serial) (w0 w1 : Line) (t0 t1 : Counts) (s0 s1 : Pairs ℕ (Unit {0})) (a0 a1 : Pairs ℕ Acting) (b0 b1 : ℕ) → IsIndexed (l ++ x ∷ r) w0 t0 s0 a0 b0 → Follows waiter_of x y w0.items w1.items → HowsFollow x y t0 t1 → Follows order_of x y s0.items s1.items → Follows active_of x y a0.items a1.items → b1 + bit (is_busy x) ≡ b0 + bit (is_busy y) → IsIndexed (l ++ y ∷ r) w1 t1 s1 a1 b1
-followed l r x y around w0 w1 t0 t1 s0 s1 a0 a1 b0 b1 i waits counts starts acts busy = record {
+pub followed : (l r : List Job) (x y : Job) (around : IsAround l r x.serial) (w0 w1 : Line) (t0 t1 : Counts) (s0 s1 : Pairs ℕ (Unit {0})) (a0 a1 : Pairs ℕ Acting) (p0 p1 : Pairs ℕ PrestartJob) (b0 b1 : ℕ) → IsIndexed (l ++ x ∷ r) w0 t0 s0 a0 p0 b0 → Follows waiter_of x y w0.items w1.items → HowsFollow x y t0 t1 → Follows order_of x y s0.items s1.items → Follows active_of x y a0.items a1.items → Follows row_of x y p0.items p1.items → b1 + bit (is_busy x) ≡ b0 + bit (is_busy y) → IsIndexed (l ++ y ∷ r) w1 t1 s1 a1 p1 b1
+followed l r x y around w0 w1 t0 t1 s0 s1 a0 a1 p0 p1 b0 b1 i waits counts starts acts seats busy = record {
   waiters_are = waits l r around i.waiters_are;
   hows_are = counts l r i.hows_are;
   orders_are = starts l r around i.orders_are;
   active_are = acts l r around i.active_are;
+  prestart_are = seats l r around i.prestart_are;
   busy_are = (let was = i.busy_are in let changed = count-changed is_busy l r x y in omega arith);
 }
 

@@ -8,9 +8,11 @@ pub mod Cleared
 pub mod Counted
 pub mod Followed
 pub mod JobParts
+pub mod Lesser
 pub mod NameParts
 pub mod One
 pub mod Pending
+pub mod PrestartParts
 pub mod Resifted
 pub mod Restood
 pub mod Sifted

@@ -27,7 +27,7 @@ pub none-found : (found : Option Job) → option_map serial_of found ≡ None �
 none-found None e = refl
 none-found (Some j) e = absurd (cc e)
 
-some-found : (found : Option Job) (n : ℕ) → option_map serial_of found ≡ Some n → (j : Job) × (found ≡ Some j) × (j.serial ≡ n)
+pub some-found : (found : Option Job) (n : ℕ) → option_map serial_of found ≡ Some n → (j : Job) × (found ≡ Some j) × (j.serial ≡ n)
 some-found None n e = absurd (cc e)
 some-found (Some j) n e = (j, refl, cc e)
 

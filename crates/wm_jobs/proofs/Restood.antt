@@ -96,8 +96,8 @@ spent-one p q = on (not (is_waiting p && not (is_waiting q)))
 
 -- where a job stands in the list of a table
 module _ (t : Inside) (h : IsKept t) (l r : List Job) (x : Job) (whole : t.jobs.items ≡ l ++ x ∷ r) (around : IsAround l r x.serial) where
-  indexed-there : IsIndexed (l ++ x ∷ r) t.waiting t.tally t.starting t.active t.busy
-  indexed-there = subst (λ (js : List Job). IsIndexed js t.waiting t.tally t.starting t.active t.busy) whole h.indexed
+  indexed-there : IsIndexed (l ++ x ∷ r) t.waiting t.tally t.starting t.active t.prestart t.busy
+  indexed-there = subst (λ (js : List Job). IsIndexed js t.waiting t.tally t.starting t.active t.prestart t.busy) whole h.indexed
 
   pub names-there : IsNames (l ++ x ∷ r) t.names
   names-there = subst (λ (js : List Job). IsNames js t.names) whole h.named.are
@@ -112,25 +112,27 @@ module _ (t : Inside) (h : IsKept t) (l r : List Job) (x : Job) (whole : t.jobs.
     abbrev y : Job
     y = standing_as to x
 
-    pub can-follow : (is_waiting to.phase ≡ true → IsItsPlace to.place x.serial t.waiting.items) → (is_active x.phase ≡ true → is_active to.phase ≡ true → to.how ≡ x.how) → comes (is_some (waiter_of x)) (is_some (waiter_of y)) ≤ t.waiting.spare → comes (is_active x.phase) (is_active to.phase) ≤ t.tally.spare → comes (is_starting x.phase) (is_starting to.phase) ≤ t.starting.spare → comes (is_active x.phase) (is_active to.phase) ≤ t.active.spare → CanFollow t.waiting t.tally t.starting t.active t.names x to
-    can-follow own how to_wait to_count to_start to_list = record {
+    pub can-follow : (is_waiting to.phase ≡ true → IsItsPlace to.place x.serial t.waiting.items) → (is_active x.phase ≡ true → is_active to.phase ≡ true → to.how ≡ x.how) → comes (is_some (waiter_of x)) (is_some (waiter_of y)) ≤ t.waiting.spare → comes (is_active x.phase) (is_active to.phase) ≤ t.tally.spare → comes (is_starting x.phase) (is_starting to.phase) ≤ t.starting.spare → comes (is_active x.phase) (is_active to.phase) ≤ t.active.spare → comes (is_active x.phase) (is_active to.phase) ≤ t.prestart.spare → CanFollow t.waiting t.tally t.starting t.active t.prestart t.names x to
+    can-follow own how to_wait to_count to_start to_list to_seat = record {
       waits = record { before = l; behind = r; around = around; are = indexed-there.waiters_are };
       own = own;
       to_wait = to_wait;
       counted = λ active. has-started l r x t.tally active indexed-there.hows_are;
-      few = few-hows t.jobs.items t.waiting t.tally t.starting t.active t.busy (vec_capacity t.jobs) t.room h.indexed h.room;
+      few = few-hows t.jobs.items t.waiting t.tally t.starting t.active t.prestart t.busy (vec_capacity t.jobs) t.room h.indexed h.room;
       how = how;
       to_count = to_count;
       starts = record { before = l; behind = r; around = around; are = indexed-there.orders_are };
       to_start = to_start;
       acts = record { before = l; behind = r; around = around; are = indexed-there.active_are };
       to_list = to_list;
+      seats = record { before = l; behind = r; around = around; are = indexed-there.prestart_are };
+      to_seat = to_seat;
       named = λ lasts. record { before = l; behind = r; are = names-there; lasts = lasts };
     }
 
-    module _ (new : Inside) (f : HasFollowed x to t.waiting new.waiting t.tally new.tally t.starting new.starting t.active new.active t.names new.names) (busy : new.busy + bit (is_busy x) ≡ t.busy + bit (is_busy y)) where
-      pub followed-there : IsIndexed (l ++ y ∷ r) new.waiting new.tally new.starting new.active new.busy
-      followed-there = followed l r x y around t.waiting new.waiting t.tally new.tally t.starting new.starting t.active new.active t.busy new.busy indexed-there f.waits f.hows f.starts f.acts busy
+    module _ (new : Inside) (f : HasFollowed x to t.waiting new.waiting t.tally new.tally t.starting new.starting t.active new.active t.prestart new.prestart t.names new.names) (busy : new.busy + bit (is_busy x) ≡ t.busy + bit (is_busy y)) where
+      pub followed-there : IsIndexed (l ++ y ∷ r) new.waiting new.tally new.starting new.active new.prestart new.busy
+      followed-there = followed l r x y around t.waiting new.waiting t.tally new.tally t.starting new.starting t.active new.active t.prestart new.prestart t.busy new.busy indexed-there f.waits f.hows f.starts f.acts f.seats busy
 
       -- how many more wait, and how many more are orders
       pub waits-more : length new.waiting.items + bit (is_some (waiter_of x)) ≡ length t.waiting.items + bit (is_some (waiter_of y))
@@ -264,7 +266,7 @@ module _ (t : Inside) (h : IsTableInside t) (v : Table) (view : table_of t ≡ v
       let fits = h.marked.to_touch in
       omega arith
 
-  pub follows : CanFollow t.waiting t.tally t.starting t.active t.names x to
+  pub follows : CanFollow t.waiting t.tally t.starting t.active t.prestart t.names x to
   follows =
       let f = forth x.phase to.phase goes.forward in
       let waits = waits-there t h.kept l r x split.whole around in
@@ -277,12 +279,12 @@ module _ (t : Inside) (h : IsTableInside t) (v : Table) (view : table_of t ≡ v
       let room = h.kept.room in
       let count = room.to_count in
       let starts = room.to_start in
-      let list = h.undos.to_list in
+      let list = h.undos.to_list in let seat = h.undos.to_seat in
       can-follow t h.kept l r x split.whole around to
       (λ waiting_then. subst (λ (ws : List Waiter). IsItsPlace to.place x.serial ws) (sym h.kept.indexed.waiters_are) (subst (λ (n : ℕ). IsItsPlace to.place n (waiters t.jobs.items)) (sym split.here) (goes.own waiting_then)))
-      goes.how (omega arith) (omega arith) (omega arith) (omega arith)
+      goes.how (omega arith) (omega arith) (omega arith) (omega arith) (omega arith)
 
-  module _ (new : Inside) (jobs : new.jobs.items ≡ map (changed_at s (standing_as to)) t.jobs.items) (f : HasFollowed x to t.waiting new.waiting t.tally new.tally t.starting new.starting t.active new.active t.names new.names) (busy : new.busy + bit (is_busy x) ≡ t.busy + bit (is_busy changed)) (touched : new.touched.items ≡ t.touched.items ++ touched_of x ∷ []) (changes : new.changes + spent x.phase to.phase ≡ t.changes) where
+  module _ (new : Inside) (jobs : new.jobs.items ≡ map (changed_at s (standing_as to)) t.jobs.items) (f : HasFollowed x to t.waiting new.waiting t.tally new.tally t.starting new.starting t.active new.active t.prestart new.prestart t.names new.names) (busy : new.busy + bit (is_busy x) ≡ t.busy + bit (is_busy changed)) (touched : new.touched.items ≡ t.touched.items ++ touched_of x ∷ []) (changes : new.changes + spent x.phase to.phase ≡ t.changes) where
     stood : new.jobs.items ≡ l ++ changed ∷ r
     stood = jobs ∙ map-split serial_of s (standing_as to) t.jobs.items l r x split
 
@@ -352,15 +354,15 @@ module _ (t : Inside) (h : IsTableInside t) (v : Table) (view : table_of t ≡ v
         let had = h.undos in
         let wait = had.to_wait in
         let count = had.to_count in
-        let list = had.to_list in
+        let list = had.to_list in let seat = had.to_seat in
         let name = had.to_name in
         let to_wait = f.to_wait in
         let to_count = f.to_count in
-        let to_list = f.to_list in
+        let to_list = f.to_list in let to_seat = f.to_seat in
         let to_name = f.to_name in
         let nodes = f.nodes in
         let clock = f.clock in
         agrees new (restood-kept ns np room capacity)
-        (record { to_wait = omega arith; to_count = omega arith; to_list = omega arith; to_name = omega arith })
+        (record { to_wait = omega arith; to_count = omega arith; to_list = omega arith; to_seat = omega arith; to_name = omega arith })
         (λ kept. undoable-noted t.mark t.touched.items t.jobs.items t.next_serial t.next_place (pending_of t.starting t.room) t.waiting.clock h.undoable new kept places mark (omega arith) (omega arith) (omega arith) (omega arith) (touched_of x) touched back keeps-how)
         (noted t.jobs.items new.jobs.items t.touched.items new.touched.items (touched_of x) (changed_at s (standing_as to)) new.mark.jobs (vec_capacity t.touched) (vec_capacity new.touched) (length t.waiting.items) (length new.waiting.items) t.room new.room t.changes new.changes (subst (λ (m : Mark). IsMarked m.jobs (length t.jobs.items) (length t.touched.items) (vec_capacity t.touched) (length t.waiting.items) t.room t.changes) (sym mark) h.marked) jobs touched fits (omega arith))

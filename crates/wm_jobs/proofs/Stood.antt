@@ -136,7 +136,7 @@ undoable-here m ts t kept places none all ns np clock =
     rw none (record { stood = here; began = rw (ns, np) here.listed; clock = clock })
 
 -- a table that agrees, part by part
-pub agrees : (new : Inside) → IsKept new → HasUndos new.undos new.room new.changes (length new.touched.items) new.waiting new.tally new.active new.names → (IsKept new → IsUndoable new.mark new.touched.items new.jobs.items new.next_serial new.next_place (pending_of new.starting new.room) new.waiting.clock) → IsMarked new.mark.jobs (length new.jobs.items) (length new.touched.items) (vec_capacity new.touched) (length new.waiting.items) new.room new.changes → IsTableInside new
+pub agrees : (new : Inside) → IsKept new → HasUndos new.undos new.room new.changes (length new.touched.items) new.waiting new.tally new.active new.prestart new.names → (IsKept new → IsUndoable new.mark new.touched.items new.jobs.items new.next_serial new.next_place (pending_of new.starting new.room) new.waiting.clock) → IsMarked new.mark.jobs (length new.jobs.items) (length new.touched.items) (vec_capacity new.touched) (length new.waiting.items) new.room new.changes → IsTableInside new
 agrees new kept undos undoable marked = record { kept = kept; undos = undos; undoable = undoable kept; marked = marked }
 
 -- where none waits, no two have one place

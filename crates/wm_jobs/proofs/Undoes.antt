@@ -38,6 +38,8 @@ use Rattle.wm_jobs.proofs.Sifted.{picked-parts, pushed-same}
 use Rattle.wm_jobs.proofs.Splits.{IsSplit, split-at, map-split}
 use Rattle.wm_jobs.proofs.Stood.{agrees, listed-front, stood-how, stood-now, stood-undone, undoable-same, first-pushed}
 use Rattle.wm_jobs.proofs.Undone.{undone-newest, marked-length, marked-noted, marked-pushed, marked-same}
+use Rattle.wm_prestart.specs.OfJobs.{row_of}
+use Rattle.wm_jobs.proofs.PrestartParts.{row-keyed, row-none}
 
 -- where there are as many jobs as there were at the mark, they are those
 pub all-marked : (t : Inside) (h : IsTableInside t) (v : Table) → table_of t ≡ v → length v.jobs ≡ length v.marked.jobs → length t.jobs.items ≡ t.mark.jobs
@@ -118,7 +120,7 @@ module _ (t : Inside) (h : IsTableInside t) (js : List Job) (x : Job) (whole : t
   around : IsAround js [] x.serial
   around = record { lower = behind-others js [] x listed.sorted; higher = All-nil (λ (k : Job). x.serial < k.serial) }
 
-  pub drop-follows : CanFollow t.waiting t.tally t.starting t.active t.names x to
+  pub drop-follows : CanFollow t.waiting t.tally t.starting t.active t.prestart t.names x to
   drop-follows =
       let none : bit (is_some (waiter_of (standing_as to x))) ≡ 0 = ap (λ (j : Job). bit (is_some (waiter_of j))) stands in
       let inactive : bit (is_active to.phase) ≡ 0 = ap (λ p. bit (is_active p)) phase in
@@ -126,7 +128,7 @@ module _ (t : Inside) (h : IsTableInside t) (js : List Job) (x : Job) (whole : t
       let waits = come-bits (is_some (waiter_of x)) (is_some (waiter_of (standing_as to x))) in
       let acts = come-bits (is_active x.phase) (is_active to.phase) in
       let starts = come-bits (is_starting x.phase) (is_starting to.phase) in
-      can-follow t h.kept js [] x whole around to (λ waiting_then. absurd (false≢true (ap is_waiting (sym phase) ∙ waiting_then))) (λ _ active. absurd (false≢true (ap is_active (sym phase) ∙ active))) (omega arith) (omega arith) (omega arith) (omega arith)
+      can-follow t h.kept js [] x whole around to (λ waiting_then. absurd (false≢true (ap is_waiting (sym phase) ∙ waiting_then))) (λ _ active. absurd (false≢true (ap is_active (sym phase) ∙ active))) (omega arith) (omega arith) (omega arith) (omega arith) (omega arith)
 
   length-all : length t.jobs.items ≡ length js + 1
   length-all = ap length whole ∙ length-append js (x ∷ [])
@@ -153,16 +155,17 @@ module _ (t : Inside) (h : IsTableInside t) (js : List Job) (x : Job) (whole : t
     pub drop-last : HasLast n as_ended
     drop-last = record { jobs = js; are = names-left; ended = refl }
 
-  module _ (new : Inside) (n : Names) (f : HasFollowed x to t.waiting new.waiting t.tally new.tally t.starting new.starting t.active new.active t.names n) (busy : new.busy + bit (is_busy x) ≡ t.busy + bit (is_busy (standing_as to x))) (jobs : new.jobs.items ≡ js) where
+  module _ (new : Inside) (n : Names) (f : HasFollowed x to t.waiting new.waiting t.tally new.tally t.starting new.starting t.active new.active t.prestart new.prestart t.names n) (busy : new.busy + bit (is_busy x) ≡ t.busy + bit (is_busy (standing_as to x))) (jobs : new.jobs.items ≡ js) where
     -- one that has ended leaves from behind the others
-    dropped-indexed : IsIndexed js new.waiting new.tally new.starting new.active new.busy
+    dropped-indexed : IsIndexed js new.waiting new.tally new.starting new.active new.prestart new.busy
     dropped-indexed =
-        let i = subst (λ (j : Job). IsIndexed (js ++ j ∷ []) new.waiting new.tally new.starting new.active new.busy) stands (followed-there t h.kept js [] x whole around to (record new { names = n }) f busy) in
+        let i = subst (λ (j : Job). IsIndexed (js ++ j ∷ []) new.waiting new.tally new.starting new.active new.prestart new.busy) stands (followed-there t h.kept js [] x whole around to (record new { names = n }) f busy) in
         record {
           waiters_are = i.waiters_are ∙ sym (pushed-same serial_of waiter_of waiting.serial_of waiter-keyed js as_ended (waiter-none as_ended refl));
           hows_are = subst (λ hs. IsTally hs new.tally) (hows-pushed js as_ended refl) i.hows_are;
           orders_are = i.orders_are ∙ sym (pushed-same serial_of order_of key_of order-keyed js as_ended (order-none as_ended refl));
           active_are = i.active_are ∙ sym (pushed-same serial_of active_of key_of active-keyed js as_ended (active-none as_ended refl));
+          prestart_are = i.prestart_are ∙ sym (pushed-same serial_of row_of key_of row-keyed js as_ended (row-none as_ended refl));
           busy_are = i.busy_are ∙ count-pushed is_busy js as_ended refl;
         }
 
@@ -185,12 +188,12 @@ module _ (t : Inside) (h : IsTableInside t) (js : List Job) (x : Job) (whole : t
         let u = h.undos in
         let undo_wait = u.to_wait in
         let undo_count = u.to_count in
-        let undo_list = u.to_list in
+        let undo_list = u.to_list in let undo_seat = u.to_seat in
         let undo_name = u.to_name in
         let fits = h.marked.to_touch in
         let to_wait = f.to_wait in
         let to_count = f.to_count in
-        let to_list = f.to_list in
+        let to_list = f.to_list in let to_seat = f.to_seat in
         let to_name = f.to_name in
         let nodes = f.nodes in
         let clock = f.clock in
@@ -205,7 +208,7 @@ module _ (t : Inside) (h : IsTableInside t) (js : List Job) (x : Job) (whole : t
           room = record { to_stand = omega arith; few = omega arith; to_wait = omega arith; to_count = omega arith; to_start = omega arith };
           named = rw jobs (record { are = forget js (names-left n f.names); to_name = omega arith });
         })
-        (record { to_wait = omega arith; to_count = omega arith; to_list = omega arith; to_name = omega arith })
+        (record { to_wait = omega arith; to_count = omega arith; to_list = omega arith; to_seat = omega arith; to_name = omega arith })
         (λ kept. subst (λ (m : Mark). IsUndoable m new.touched.items new.jobs.items new.next_serial new.next_place (pending_of new.starting new.room) new.waiting.clock) (sym mark)
         (undoable-same t.mark t.touched.items new.touched.items t.jobs.items new.jobs.items t.next_serial t.next_place (pending_of t.starting t.room) t.waiting.clock new.next_serial new.next_place (pending_of new.starting new.room) new.waiting.clock h.undoable (ap (λ ts. ts.items) touched) (ap (take t.mark.jobs) jobs ∙ sym (first-pushed t.mark.jobs js t.jobs.items x there whole)) (omega arith) (omega arith) (omega arith) (omega arith)))
         (record { there = omega arith; to_touch = omega arith })
@@ -265,18 +268,18 @@ module _ (t : Inside) (h : IsTableInside t) (ts : List Touched) (u : Touched) (p
             | inr later ↦ rest later
           ]
 
-  pub undo-follows : CanFollow t.waiting t.tally t.starting t.active t.names x u.was
+  pub undo-follows : CanFollow t.waiting t.tally t.starting t.active t.prestart t.names x u.was
   undo-follows =
       let o = h.undos in
       let wait = o.to_wait in
       let count = o.to_count in
-      let list = o.to_list in
+      let list = o.to_list in let seat = o.to_seat in
       let left = noted-less in
       let once = spend in
       let waits = come-bits (is_some (waiter_of x)) (is_some (waiter_of y)) in
       let acts = come-bits (is_active x.phase) (is_active u.was.phase) in
       let starts = come-bits (is_starting x.phase) (is_starting u.was.phase) in
-      can-follow t h.kept l r x split-x.whole around-x u.was own-place keeps-how (omega arith) (omega arith) finds-order (omega arith)
+      can-follow t h.kept l r x split-x.whole around-x u.was own-place keeps-how (omega arith) (omega arith) finds-order (omega arith) (omega arith)
     where
       keeps-how : is_active x.phase ≡ true → is_active u.was.phase ≡ true → u.was.how ≡ x.how
       keeps-how = all-there (λ (j : Job). j.serial ≡ u.serial → is_active j.phase ≡ true → is_active u.was.phase ≡ true → u.was.how ≡ j.how) l r x (subst (λ (ls : List Job). KeepsHow u ls) split-x.whole (before-how t h ts u popped all)) split-x.here
@@ -307,7 +310,7 @@ module _ (t : Inside) (h : IsTableInside t) (ts : List Touched) (u : Touched) (p
   length-then : (j : Job) → length (l ++ j ∷ r) ≡ length t.jobs.items
   length-then j = length-append l (j ∷ r) ∙ (sym (length-append l (x ∷ r)) ∙ sym (ap length split-x.whole))
 
-  module _ (new : Inside) (n : Names) (f : HasFollowed x u.was t.waiting new.waiting t.tally new.tally t.starting new.starting t.active new.active t.names n) (busy : new.busy + bit (is_busy x) ≡ t.busy + bit (is_busy y)) (jobs : new.jobs.items ≡ restored u t.jobs.items) where
+  module _ (new : Inside) (n : Names) (f : HasFollowed x u.was t.waiting new.waiting t.tally new.tally t.starting new.starting t.active new.active t.prestart new.prestart t.names n) (busy : new.busy + bit (is_busy x) ≡ t.busy + bit (is_busy y)) (jobs : new.jobs.items ≡ restored u t.jobs.items) where
     names-then : IsNames (l ++ w ∷ r) n
     names-then = f.names l r w (either (is_ended x.phase) (λ (j : Job). j.serial ≡ x.serial) refl refl) (either (is_ended x.phase) (λ (j : Job). j.job ≡ x.job) refl refl) (w-ends (is_ended x.phase) refl) (names-there t h.kept l r x split-x.whole around-x)
 
@@ -343,11 +346,11 @@ module _ (t : Inside) (h : IsTableInside t) (ts : List Touched) (u : Touched) (p
         let undo = h.undos in
         let undo_wait = undo.to_wait in
         let undo_count = undo.to_count in
-        let undo_list = undo.to_list in
+        let undo_list = undo.to_list in let undo_seat = undo.to_seat in
         let undo_name = undo.to_name in
         let to_wait = f.to_wait in
         let to_count = f.to_count in
-        let to_list = f.to_list in
+        let to_list = f.to_list in let to_seat = f.to_seat in
         let to_name = f.to_name in
         let nodes = f.nodes in
         let there_marked = h.marked.there in
@@ -361,7 +364,7 @@ module _ (t : Inside) (h : IsTableInside t) (ts : List Touched) (u : Touched) (p
             room = record { to_stand = omega arith; few = omega arith; to_wait = omega arith; to_count = omega arith; to_start = omega arith };
             named = rw so (record { are = back l r w (either (is_ended x.phase) (λ (j : Job). j.serial ≡ x.serial) refl refl) (either (is_ended x.phase) (λ (j : Job). j.job ≡ x.job) refl refl) (w-ends (is_ended x.phase) refl) names-then; to_name = omega arith });
           };
-          undos = record { to_wait = omega arith; to_count = omega arith; to_list = omega arith; to_name = omega arith };
+          undos = record { to_wait = omega arith; to_count = omega arith; to_list = omega arith; to_seat = omega arith; to_name = omega arith };
           undoable = rw (mark, touched, ns, np, pending, f.clock) (before-undoable t h ts u popped all new.jobs.items jobs);
           marked = record { there = omega arith; to_touch = omega arith };
         }

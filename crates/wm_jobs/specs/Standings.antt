@@ -11,6 +11,8 @@ use Rattle.wm_law.specs.Counts.{is_waiting, is_starting, is_active}
 use Rattle.wm_law.specs.Named.{is_ended}
 use Rattle.wm_names.specs.Names.{Names, IsNames, HasNamed}
 use Rattle.wm_ordered.specs.Ordered.{Pairs}
+use Rattle.wm_prestart.specs.declared.prestart_job.PrestartJob.{PrestartJob}
+use Rattle.wm_prestart.specs.OfJobs.{row_of}
 use Rattle.wm_tally.specs.Tally.{Counts, IsTally, HasFew, HasStarted}
 use Rattle.wm_waiting.specs.declared.waiter.Waiter.{Waiter}
 use Rattle.wm_waiting.specs.Waiting.{Waiting as Line}
@@ -71,7 +73,7 @@ abbrev pub NamesAgain : Bool → Job → Names → Names → Type 0
 NamesAgain had_ended is old new = (before behind : List Job) (was : Job) → was.serial ≡ is.serial → was.job ≡ is.job → is_ended was.phase ≡ (had_ended || is_ended is.phase) → IsNames (before ++ was ∷ behind) old → IsNames (before ++ is ∷ behind) new
 
 -- what jobs are found and counted by can follow one that comes to stand like that: it is among them, none of another serial has its place where it waits, it keeps its how where it is active still, and there is room
-pub record CanFollow (waiting : Line) (tally : Counts) (starting : Pairs ℕ (Unit {0})) (active : Pairs ℕ Acting) (names : Names) (j : Job) (s : Standing) : Type 0 where
+pub record CanFollow (waiting : Line) (tally : Counts) (starting : Pairs ℕ (Unit {0})) (active : Pairs ℕ Acting) (prestart : Pairs ℕ PrestartJob) (names : Names) (j : Job) (s : Standing) : Type 0 where
   pub waits : AreOf waiter_of waiting.items j
   pub own : is_waiting s.phase ≡ true → IsItsPlace s.place j.serial waiting.items
   pub to_wait : comes (is_some (waiter_of j)) (is_some (waiter_of (standing_as s j))) ≤ waiting.spare
@@ -83,10 +85,12 @@ pub record CanFollow (waiting : Line) (tally : Counts) (starting : Pairs ℕ (Un
   pub to_start : comes (is_starting j.phase) (is_starting s.phase) ≤ starting.spare
   pub acts : AreOf active_of active.items j
   pub to_list : comes (is_active j.phase) (is_active s.phase) ≤ active.spare
+  pub seats : AreOf row_of prestart.items j
+  pub to_seat : comes (is_active j.phase) (is_active s.phase) ≤ prestart.spare
   pub named : is_ended j.phase ≡ false → HasNamed names j
 
 -- they have followed it, each with the room that the entry took or left; those that are orders take the room of one each
-pub record HasFollowed (j : Job) (s : Standing) (w0 w1 : Line) (t0 t1 : Counts) (s0 s1 : Pairs ℕ (Unit {0})) (a0 a1 : Pairs ℕ Acting) (n0 n1 : Names) : Type 0 where
+pub record HasFollowed (j : Job) (s : Standing) (w0 w1 : Line) (t0 t1 : Counts) (s0 s1 : Pairs ℕ (Unit {0})) (a0 a1 : Pairs ℕ Acting) (p0 p1 : Pairs ℕ PrestartJob) (n0 n1 : Names) : Type 0 where
   pub waits : Follows waiter_of j (standing_as s j) w0.items w1.items
   pub clock : w1.clock ≡ w0.clock
   pub to_wait : w1.spare + bit (is_some (waiter_of (standing_as s j))) ≡ w0.spare + bit (is_some (waiter_of j))
@@ -96,6 +100,8 @@ pub record HasFollowed (j : Job) (s : Standing) (w0 w1 : Line) (t0 t1 : Counts) 
   pub nodes : nodes_of s1 ≡ nodes_of s0
   pub acts : Follows active_of j (standing_as s j) a0.items a1.items
   pub to_list : a0.spare ≤ a1.spare + comes (is_active j.phase) (is_active s.phase)
+  pub seats : Follows row_of j (standing_as s j) p0.items p1.items
+  pub to_seat : p0.spare ≤ p1.spare + comes (is_active j.phase) (is_active s.phase)
   pub names : NamesFollow j s.phase n0 n1
   pub to_name : n0.spare ≤ n1.spare
 

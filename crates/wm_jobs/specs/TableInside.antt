@@ -7,6 +7,8 @@ use Rattle.wm_law.specs.declared.job.Job.{Job}
 use Rattle.wm_law.specs.Counts.{is_waiting, is_active}
 use Rattle.wm_names.specs.Names.{Names, IsNames}
 use Rattle.wm_ordered.specs.Ordered.{Pairs}
+use Rattle.wm_prestart.specs.declared.prestart_job.PrestartJob.{PrestartJob}
+use Rattle.wm_prestart.specs.OfJobs.{prestart_jobs}
 use Rattle.wm_tally.specs.Tally.{Counts, IsTally}
 use Rattle.wm_waiting.specs.Waiting.{Waiting, HavePlaces}
 use Rattle.wm_pick.specs.Parts.{waiters}
@@ -31,11 +33,12 @@ pub record AreListed (next_serial next_place : ℕ) (jobs : List Job) : Type 0 w
   pub each : All (IsListed next_serial next_place) jobs
 
 -- what the jobs are found and counted by
-pub record IsIndexed (jobs : List Job) (waiting : Waiting) (tally : Counts) (starting : Pairs ℕ (Unit {0})) (active : Pairs ℕ Acting) (busy : ℕ) : Type 0 where
+pub record IsIndexed (jobs : List Job) (waiting : Waiting) (tally : Counts) (starting : Pairs ℕ (Unit {0})) (active : Pairs ℕ Acting) (prestart : Pairs ℕ PrestartJob) (busy : ℕ) : Type 0 where
   pub waiters_are : waiting.items ≡ waiters jobs
   pub hows_are : IsTally (hows jobs) tally
   pub orders_are : starting.items ≡ orders jobs
   pub active_are : active.items ≡ actives jobs
+  pub prestart_are : prestart.items ≡ prestart_jobs jobs
   pub busy_are : busy ≡ busy_in jobs
 
 -- there is room for so many more jobs, and for the launch of each of them and of each that waits
@@ -57,10 +60,11 @@ pub record IsMarked (marked jobs touched capacity waiting room changes : ℕ) : 
   pub to_touch : touched + waiting + room + changes ≤ capacity
 
 -- there is room to take back so many of the changes that were noted, beside the room for more jobs, for changes and for launches; what waited has left its room among those that wait, and so has what was an order among the orders
-pub record HasUndos (undos room changes touched : ℕ) (waiting : Waiting) (tally : Counts) (active : Pairs ℕ Acting) (names : Names) : Type 0 where
+pub record HasUndos (undos room changes touched : ℕ) (waiting : Waiting) (tally : Counts) (active : Pairs ℕ Acting) (prestart : Pairs ℕ PrestartJob) (names : Names) : Type 0 where
   pub to_wait : room + changes + touched ≤ waiting.spare
   pub to_count : length waiting.items + room + undos ≤ tally.spare
   pub to_list : length waiting.items + room + undos ≤ active.spare
+  pub to_seat : length waiting.items + room + undos ≤ prestart.spare
   pub to_name : room + undos ≤ names.spare
 
 -- how many jobs can wait or be orders at once, beside those for which there is room: each takes the room of one order
@@ -112,13 +116,13 @@ table_of t =
 -- what lies in it beside what was touched agrees
 pub record IsKept (t : Inside) : Type 0 where
   pub listed : AreListed t.next_serial t.next_place t.jobs.items
-  pub indexed : IsIndexed t.jobs.items t.waiting t.tally t.starting t.active t.busy
+  pub indexed : IsIndexed t.jobs.items t.waiting t.tally t.starting t.active t.prestart t.busy
   pub room : HasRoom (length t.jobs.items) (vec_capacity t.jobs) t.room t.waiting t.tally t.starting
   pub named : HasNames t.jobs.items t.room t.names
 
 -- what lies in it agrees
 pub record IsTableInside (t : Inside) : Type 0 where
   pub kept : IsKept t
-  pub undos : HasUndos t.undos t.room t.changes (length t.touched.items) t.waiting t.tally t.active t.names
+  pub undos : HasUndos t.undos t.room t.changes (length t.touched.items) t.waiting t.tally t.active t.prestart t.names
   pub undoable : IsUndoable t.mark t.touched.items t.jobs.items t.next_serial t.next_place (pending_of t.starting t.room) t.waiting.clock
   pub marked : IsMarked t.mark.jobs (length t.jobs.items) (length t.touched.items) (vec_capacity t.touched) (length t.waiting.items) t.room t.changes

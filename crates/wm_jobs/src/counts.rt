@@ -11,16 +11,19 @@ ghost use Rattle.wm_law.specs.declared.job.Phase.TheVariants.{Ended};
 ghost use Rattle.wm_law.specs.Reports.{in_phase};
 ghost use Rattle.wm_names.specs.Names.{HasLast, IsNames};
 ghost use Rattle.wm_pick.specs.Parts.{waiter_of};
+ghost use Rattle.wm_prestart.specs.OfJobs.{row_of};
 ghost use Rattle.wm_jobs.specs.Stored.{joined_by, IsOther};
-ghost use Rattle.wm_jobs.specs.Indexed.{acting_of, Starts, HasTaken, nodes_of};
+ghost use Rattle.wm_jobs.specs.Indexed.{acting_of, seated, Starts, HasTaken, nodes_of};
 
 use crate::acting::acting_of;
+use crate::prestart::prestart_of;
 use crate::phases::{is_active, is_starting, waiter_of};
 use wm_active::ActiveJobs;
 use wm_base::{EndCause, How, NoMemory, Serial};
 use wm_law::{Job, Phase, Wish};
 use wm_names::JobNames;
 use wm_ordered::Ordered;
+use wm_prestart::PrestartJobs;
 use wm_tally::Tally;
 use wm_waiting::WaitingJobs;
 
@@ -74,6 +77,18 @@ pub(crate) fn put_active(active: &mut ActiveJobs, serial: Serial, phase: &Phase,
     }
 }
 
+/// Puts a job among the prestart jobs, where it is active and came by a prestart entry.
+pub(crate) fn put_prestart(prestart: &mut PrestartJobs, job: &Job)
+    requires spare { 1 ≤ prestart.old.spare }
+    requires new { has_key key_of nat_eq job.now.serial prestart.old.items ≡ false }
+    ensures items { prestart.new.items ≡ seated (row_of job.now) prestart.old.items }
+    ensures spare { prestart.old.spare ≤ prestart.new.spare + 1 }
+{
+    if let Some(comer) = prestart_of(job) {
+        prestart.insert(job.serial, comer);
+    }
+}
+
 /// One more, where it counts.
 pub(crate) fn more(count: usize, counts: bool) -> usize
     requires { count + 1 < 2 ^ 64 }
@@ -97,29 +112,33 @@ pub(crate) fn reserve_all(
     tally: &mut Tally,
     starting: &mut Ordered<Serial, ()>,
     active: &mut ActiveJobs,
+    prestart: &mut PrestartJobs,
     names: &mut JobNames,
     waits: u32,
     starts: u32,
     orders: u32,
     named: u32,
 ) -> Result<(), NoMemory>
-    ensures ok { OnOk result (HasTaken waits starts orders named waiting.new tally.new starting.new active.new names.new) }
+    ensures ok { OnOk result (HasTaken waits starts orders named waiting.new tally.new starting.new active.new prestart.new names.new) }
     ensures items { waiting.new.items ≡ waiting.old.items }
     ensures clock { waiting.new.clock ≡ waiting.old.clock }
     ensures counts { tally.new.counts ≡ tally.old.counts }
     ensures orders { starting.new.items ≡ starting.old.items }
     ensures active { active.new.items ≡ active.old.items }
+    ensures prestart { prestart.new.items ≡ prestart.old.items }
     ensures names { (jobs : List Job) → IsNames jobs names.old → IsNames jobs names.new }
     ensures waiting_spare { waiting.old.spare ≤ waiting.new.spare }
     ensures tally_spare { tally.old.spare ≤ tally.new.spare }
     ensures starting_spare { starting.old.spare ≤ starting.new.spare }
     ensures active_spare { active.old.spare ≤ active.new.spare }
+    ensures prestart_spare { prestart.old.spare ≤ prestart.new.spare }
     ensures names_spare { names.old.spare ≤ names.new.spare }
 {
     waiting.reserve(waits)?;
     tally.reserve(starts)?;
     starting.reserve(orders)?;
     active.reserve(starts)?;
+    prestart.reserve(starts)?;
     names.reserve(named)?;
     Ok(())
 }

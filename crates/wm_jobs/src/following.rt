@@ -5,6 +5,7 @@ ghost use Rattle.wm_law.specs.Counts.{is_waiting, is_starting, is_active};
 ghost use Rattle.wm_law.specs.Named.{is_ended};
 ghost use Rattle.wm_names.specs.Names.{HasNamed, HasFew as HasFewNames};
 ghost use Rattle.wm_pick.specs.Parts.{waiter_of};
+ghost use Rattle.wm_prestart.specs.OfJobs.{row_of};
 ghost use Rattle.wm_tally.specs.Tally.{HasFew, HasStarted};
 ghost use Rattle.wm_jobs.specs.Indexed.{order_of, active_of, nodes_of};
 ghost use Rattle.wm_jobs.specs.Marked.{standing_as};
@@ -13,6 +14,7 @@ ghost use Rattle.wm_jobs.specs.Table.{is_busy};
 
 use crate::acting::acting_of;
 use crate::counts::{fewer, more, take_serial};
+use crate::prestart::{prestart_as, prestart_of};
 use crate::phases::{counts_as_busy, is_active, is_ended, is_starting, is_waiting, waiter_of};
 use crate::touched::Standing;
 use wm_active::ActiveJobs;
@@ -20,6 +22,7 @@ use wm_base::Serial;
 use wm_law::{Job, Phase};
 use wm_names::JobNames;
 use wm_ordered::Ordered;
+use wm_prestart::PrestartJobs;
 use wm_tally::Tally;
 use wm_waiting::{Waiter, WaitingJobs};
 
@@ -122,6 +125,27 @@ fn follow_active(active: &mut ActiveJobs, job: &Job, standing: &Standing)
     }
 }
 
+fn follow_prestart(prestart: &mut PrestartJobs, job: &Job, standing: &Standing)
+    requires among { AreOf row_of prestart.old.items job.now }
+    requires how { is_active job.now.phase ≡ true → is_active standing.now.phase ≡ true → standing.now.how ≡ job.now.how }
+    requires spare { comes (is_active job.now.phase) (is_active standing.now.phase) ≤ prestart.old.spare }
+    ensures items { Follows row_of job.now (standing_as standing.now job.now) prestart.old.items prestart.new.items }
+    ensures spare { prestart.old.spare ≤ prestart.new.spare + comes (is_active job.now.phase) (is_active standing.now.phase) }
+{
+    match (prestart_of(job), prestart_as(job, standing)) {
+        (None, None) => {}
+        (None, Some(comer)) => {
+            prestart.insert(job.serial, comer);
+        }
+        (Some(_), None) => {
+            prestart.remove(job.serial);
+        }
+        (Some(_), Some(same)) => {
+            prestart.set(job.serial, same);
+        }
+    }
+}
+
 fn follow_name(names: &mut JobNames, job: &Job, phase: &Phase)
     requires { is_ended job.now.phase ≡ false → HasNamed names.old job.now }
     ensures names { NamesFollow job.now phase.now names.old names.new }
@@ -142,17 +166,19 @@ pub(crate) fn follow(
     tally: &mut Tally,
     starting: &mut Ordered<Serial, ()>,
     active: &mut ActiveJobs,
+    prestart: &mut PrestartJobs,
     names: &mut JobNames,
     job: &Job,
     standing: &Standing,
 )
-    requires { CanFollow waiting.old tally.old starting.old active.old names.old job.now standing.now }
-    ensures { HasFollowed job.now standing.now waiting.old waiting.new tally.old tally.new starting.old starting.new active.old active.new names.old names.new }
+    requires { CanFollow waiting.old tally.old starting.old active.old prestart.old names.old job.now standing.now }
+    ensures { HasFollowed job.now standing.now waiting.old waiting.new tally.old tally.new starting.old starting.new active.old active.new prestart.old prestart.new names.old names.new }
 {
     follow_waiter(waiting, job, standing);
     follow_how(tally, job, standing);
     follow_order(starting, job, standing);
     follow_active(active, job, standing);
+    follow_prestart(prestart, job, standing);
     follow_name(names, job, &standing.phase);
 }
 

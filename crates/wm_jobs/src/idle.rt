@@ -2,24 +2,31 @@
 use crate::JobTable;
 use wm_base::QName;
 use wm_law::Job;
-use wm_prestart::{count_available, first_idle};
+use wm_prestart::PrestartEntry;
 
 impl JobTable {
     ghost use Rattle.std.specs.Prelude.{◌≡◌};
     ghost use Rattle.std.specs.Option.{option_copied};
     ghost use Rattle.wm_law.specs.Prestart.{count_available, first_idle};
 
-    /// How many available jobs the prestart entry of a subsystem for a program has.
+    /// How many available jobs the prestart entry of a subsystem for a program has. It is one look.
     pub fn count_available(&self, sbs: &QName, pgm: &QName) -> u32
         ensures { result ≡ count_available sbs.now pgm.now self.now.jobs }
     {
-        count_available(sbs, pgm, &self.jobs) as u32
+        self.prestart.available(&PrestartEntry {
+            sbs: *sbs,
+            pgm: *pgm,
+        })
     }
 
-    /// The idle job of least number of the prestart entry of a subsystem for a program.
+    /// The idle job of least number of the prestart entry of a subsystem for a program. It is one look.
     pub fn first_idle(&self, sbs: &QName, pgm: &QName) -> Option<&Job>
         ensures { option_copied result ≡ first_idle sbs.now pgm.now self.now.jobs }
     {
-        first_idle(sbs, pgm, &self.jobs)
+        let serial = self.prestart.first_idle(&PrestartEntry {
+            sbs: *sbs,
+            pgm: *pgm,
+        })?;
+        self.job(serial)
     }
 }

@@ -8,7 +8,7 @@
 //! which jobs may have changed and how they stood, and `take_back` makes of the table what it was, without memory.
 //!
 //! Format: the jobs in one vector in the order of their serials; beside it the jobs that wait, the active ones with what of their
-//! wishes acts, their tally, those that wait for a monitor, how many aren't prestart jobs, and which of them a command names;
+//! wishes acts, those of them that came by prestart entries, their tally, those that wait for a monitor, how many aren't prestart jobs, and which of them a command names;
 //! and, since the mark, a note for each change of a job with how it stood before. What always holds: each of these has exactly
 //! the jobs of the list that it is about, and the list at the mark is the first so many of the jobs with each note undone, the
 //! newest first. Algorithm: a job that is there changes by `restand` alone, which notes how it stood and has the others follow;
@@ -30,6 +30,7 @@ mod marking;
 mod naming;
 mod phases;
 mod places;
+mod prestart;
 mod restanding;
 mod stored;
 mod table;

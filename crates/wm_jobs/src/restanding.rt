@@ -78,6 +78,7 @@ impl JobTable {
             &mut self.tally,
             &mut self.starting,
             &mut self.active,
+            &mut self.prestart,
             &mut self.names,
             job,
             standing,

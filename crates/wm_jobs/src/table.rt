@@ -1,7 +1,7 @@
 // The job table.
 ghost use Rattle.std.specs.Prelude.{◌≤◌};
 
-use crate::counts::{count_start, more, put_active, put_order, reserve_all};
+use crate::counts::{count_start, more, put_active, put_order, put_prestart, reserve_all};
 use crate::phases::{counts_as_busy, is_active, waiter_of};
 use crate::places::place;
 use crate::touched::{Mark, Touched};
@@ -12,6 +12,7 @@ use wm_base::{Moment, NoMemory, Serial};
 use wm_law::{Job, Launched, Phase};
 use wm_names::JobNames;
 use wm_ordered::Ordered;
+use wm_prestart::PrestartJobs;
 use wm_tally::Tally;
 use wm_waiting::WaitingJobs;
 
@@ -45,6 +46,8 @@ pub struct JobTable {
     pub(crate) names: JobNames,
     // The active jobs, with what of their wishes acts.
     pub(crate) active: ActiveJobs,
+    // Those of them that came by prestart entries, with whether they can take a request.
+    pub(crate) prestart: PrestartJobs,
     // The active jobs that aren't prestart jobs.
     pub(crate) busy: usize,
     pub(crate) next_serial: u64,
@@ -116,6 +119,7 @@ impl JobTable {
             starting: Ordered::new(alloc),
             names: JobNames::new(alloc),
             active: ActiveJobs::new(alloc),
+            prestart: PrestartJobs::new(alloc),
             busy: 0,
             next_serial,
             next_place,
@@ -200,6 +204,7 @@ impl JobTable {
             &mut self.tally,
             &mut self.starting,
             &mut self.active,
+            &mut self.prestart,
             &mut self.names,
             more + notes,
             room_for(launches + undos, active),
@@ -276,6 +281,7 @@ impl JobTable {
         put_order(&mut self.starting, job.serial, &job.phase);
         self.names.add(&job);
         put_active(&mut self.active, job.serial, &job.phase, &job.wish);
+        put_prestart(&mut self.prestart, &job);
         self.busy = more(self.busy, busy);
         self.jobs.push_reserved(job);
         self.next_serial += 1;

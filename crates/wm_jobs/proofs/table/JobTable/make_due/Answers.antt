@@ -15,8 +15,8 @@ invariant_of-self c =
     let fits = c.self.invariant.marked.to_touch in
     let t = c.self.inside in
     record {
-      kept = reserved-inside t c.self.invariant.kept _ refl c.make_due.ensures.items refl refl refl refl refl refl (record { to_stand = o.to_stand; few = o.few; to_wait = omega arith; to_count = omega arith; to_start = omega arith }) (λ are. are) c.self.invariant.kept.named.to_name;
-      undos = let had = c.self.invariant.undos in let wait = had.to_wait in let count = had.to_count in let list = had.to_list in record { to_wait = omega arith; to_count = omega arith; to_list = omega arith; to_name = had.to_name };
+      kept = reserved-inside t c.self.invariant.kept _ refl c.make_due.ensures.items refl refl refl refl refl refl refl (record { to_stand = o.to_stand; few = o.few; to_wait = omega arith; to_count = omega arith; to_start = omega arith }) (λ are. are) c.self.invariant.kept.named.to_name;
+      undos = let had = c.self.invariant.undos in let wait = had.to_wait in let count = had.to_count in let list = had.to_list in let seat = had.to_seat in record { to_wait = omega arith; to_count = omega arith; to_list = omega arith; to_seat = omega arith; to_name = had.to_name };
       undoable = undoable-same t.mark t.touched.items t.touched.items t.jobs.items t.jobs.items t.next_serial t.next_place (pending_of t.starting t.room) t.waiting.clock t.next_serial t.next_place _ c.make_due.new.self.clock c.self.invariant.undoable refl refl (omega arith) (omega arith) (omega arith) (omega (arith, c.make_due.ensures.clock));
       marked = record { there = c.self.invariant.marked.there; to_touch = omega arith };
     }

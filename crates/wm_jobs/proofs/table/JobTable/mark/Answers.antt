@@ -14,7 +14,7 @@ invariant_of-self c =
     let clock : c.clock.result ≤ c.self.inside.waiting.clock = omega (arith, c.clock.ensures) in
     agrees _
     (record { listed = kept.listed; indexed = kept.indexed; room = kept.room; named = kept.named })
-    (record { to_wait = omega (arith, undos.to_wait, none); to_count = undos.to_count; to_list = undos.to_list; to_name = undos.to_name })
+    (record { to_wait = omega (arith, undos.to_wait, none); to_count = undos.to_count; to_list = undos.to_list; to_seat = undos.to_seat; to_name = undos.to_name })
     (λ now. undoable-here (record { jobs = c.len-2.result; clock = c.clock.result; next_serial = c.self.inside.next_serial; next_place = c.self.inside.next_place }) c.clear.new.self.items _ now c.len.ensures.places c.clear.ensures.items every refl refl clock)
     (record { there = omega (arith, c.len-2.ensures); to_touch = omega arith })
 

@@ -18,7 +18,7 @@ invariant_of-self c =
     let undos = c.self.invariant.undos in
     record {
       kept = record { listed = listed-later t.next_serial t.next_place t.next_serial (t.next_place + 1) t.jobs.items (omega arith) (omega arith) kept.listed; indexed = kept.indexed; room = kept.room; named = kept.named };
-      undos = record { to_wait = undos.to_wait; to_count = undos.to_count; to_list = undos.to_list; to_name = undos.to_name };
+      undos = record { to_wait = undos.to_wait; to_count = undos.to_count; to_list = undos.to_list; to_seat = undos.to_seat; to_name = undos.to_name };
       undoable = undoable-same t.mark t.touched.items t.touched.items t.jobs.items t.jobs.items t.next_serial t.next_place (pending_of t.starting t.room) t.waiting.clock t.next_serial (t.next_place + 1) (pending_of t.starting t.room) t.waiting.clock c.self.invariant.undoable refl refl (omega arith) (omega arith) (omega arith) (omega arith);
       marked = c.self.invariant.marked;
     }

@@ -33,8 +33,8 @@ invariant_of-self c =
     let t = c.self.inside in
     let more : length c.insert.new.self.items ≡ length t.waiting.items + 1 = ap length c.insert.ensures.items ∙ length-added waiting_serial nat_cmp c.in-Some.waiter t.waiting.items in
     agrees _
-    (pushed-inside c.self.inside c.self.invariant.kept c.args.self.now c.self.view_is c.args.job c.in-Some.waiter (sym c.waiter_of.ensures ∙ c.in-Some.is) c.requires.serial c.requires.place c.requires.waits c.requires.queue _ c.push_reserved.ensures.items c.push_reserved.ensures.capacity c.insert.ensures.items c.insert.ensures.spare refl refl refl refl refl refl left c.add.ensures.names c.add.ensures.spare)
-    (let had = c.self.invariant.undos in let wait = had.to_wait in let count = had.to_count in let list = had.to_list in let name = had.to_name in record { to_wait = omega (arith, left, c.insert.ensures.spare); to_count = omega (arith, left, more); to_list = omega (arith, left, more); to_name = omega (arith, left, c.add.ensures.spare) })
+    (pushed-inside c.self.inside c.self.invariant.kept c.args.self.now c.self.view_is c.args.job c.in-Some.waiter (sym c.waiter_of.ensures ∙ c.in-Some.is) c.requires.serial c.requires.place c.requires.waits c.requires.queue _ c.push_reserved.ensures.items c.push_reserved.ensures.capacity c.insert.ensures.items c.insert.ensures.spare refl refl refl refl refl refl refl left c.add.ensures.names c.add.ensures.spare)
+    (let had = c.self.invariant.undos in let wait = had.to_wait in let count = had.to_count in let list = had.to_list in let seat = had.to_seat in let name = had.to_name in record { to_wait = omega (arith, left, c.insert.ensures.spare); to_count = omega (arith, left, more); to_list = omega (arith, left, more); to_seat = omega (arith, left, more); to_name = omega (arith, left, c.add.ensures.spare) })
     (λ kept. undoable-same t.mark t.touched.items t.touched.items t.jobs.items c.push_reserved.new.self.items t.next_serial t.next_place (pending_of t.starting t.room) t.waiting.clock _ _ _ _ c.self.invariant.undoable refl (first-pushed t.mark.jobs t.jobs.items c.push_reserved.new.self.items c.args.job c.self.invariant.marked.there c.push_reserved.ensures.items) (omega arith) (omega arith) (omega (arith, left)) (omega (arith, c.insert.ensures.clock)))
     (marked-came t.jobs.items c.push_reserved.new.self.items c.args.job t.mark.jobs (length t.touched.items) (vec_capacity t.touched) (length t.waiting.items) (length c.insert.new.self.items) t.room (t.room - 1) t.changes c.self.invariant.marked c.push_reserved.ensures.items (omega (arith, more, left)))
 

@@ -37,8 +37,8 @@ invariant_of-self c =
     let place : j.place < t.next_place = subst (λ (v : Table). j.place < v.next_place) (sym c.self.view_is) c.requires.place in
     let most : length c.put_waiter.new.waiting.items ≤ length t.waiting.items + 1 = subst (λ ws. length ws ≤ length t.waiting.items + 1) (sym c.put_waiter.ensures.items) (joined-most (waiter_of j) t.waiting.items) in
     agrees _
-    (stored-inside t c.self.invariant.kept j (subst (λ (js : List Job). All (λ (k : Job). k.serial < j.serial) js) jobs c.requires.behind) c.requires.inactive c.requires.queue serial place _ c.push_reserved.ensures.items c.push_reserved.ensures.capacity c.put_waiter.ensures.items c.put_waiter.ensures.spare refl refl refl refl refl refl left c.add.ensures.names c.add.ensures.spare)
-    (let had = c.self.invariant.undos in let wait = had.to_wait in let count = had.to_count in let list = had.to_list in let name = had.to_name in record { to_wait = omega (arith, left, c.put_waiter.ensures.spare); to_count = omega (arith, left, most); to_list = omega (arith, left, most); to_name = omega (arith, left, c.add.ensures.spare) })
+    (stored-inside t c.self.invariant.kept j (subst (λ (js : List Job). All (λ (k : Job). k.serial < j.serial) js) jobs c.requires.behind) c.requires.inactive c.requires.queue serial place _ c.push_reserved.ensures.items c.push_reserved.ensures.capacity c.put_waiter.ensures.items c.put_waiter.ensures.spare refl refl refl refl refl refl refl left c.add.ensures.names c.add.ensures.spare)
+    (let had = c.self.invariant.undos in let wait = had.to_wait in let count = had.to_count in let list = had.to_list in let seat = had.to_seat in let name = had.to_name in record { to_wait = omega (arith, left, c.put_waiter.ensures.spare); to_count = omega (arith, left, most); to_list = omega (arith, left, most); to_seat = omega (arith, left, most); to_name = omega (arith, left, c.add.ensures.spare) })
     (λ kept. undoable-same t.mark t.touched.items t.touched.items t.jobs.items c.push_reserved.new.self.items t.next_serial t.next_place (pending_of t.starting t.room) t.waiting.clock _ _ _ _ c.self.invariant.undoable refl (first-pushed t.mark.jobs t.jobs.items c.push_reserved.new.self.items j c.self.invariant.marked.there c.push_reserved.ensures.items) (omega arith) (omega arith) (omega (arith, left)) (omega (arith, c.put_waiter.ensures.clock)))
     (marked-came t.jobs.items c.push_reserved.new.self.items j t.mark.jobs (length t.touched.items) (vec_capacity t.touched) (length t.waiting.items) (length c.put_waiter.new.waiting.items) t.room (t.room - 1) t.changes c.self.invariant.marked c.push_reserved.ensures.items (omega (arith, left, most)))
 

@@ -34,7 +34,7 @@ returns-clause-changes c =
 pub returns-clause-ready : goal.returns-clause-ready
 returns-clause-ready c ready =
     let t = c.self.inside in
-    let new : Inside = record t { jobs = c.stand_at.new.jobs; waiting = c.follow.new.waiting; tally = c.follow.new.tally; starting = c.follow.new.starting; active = c.follow.new.active; names = c.follow.new.names; busy = c.recount-self-inside.result; touched = c.note.new.touched; changes = t.changes - c.spent.result } in
+    let new : Inside = record t { jobs = c.stand_at.new.jobs; waiting = c.follow.new.waiting; tally = c.follow.new.tally; starting = c.follow.new.starting; active = c.follow.new.active; prestart = c.follow.new.prestart; names = c.follow.new.names; busy = c.recount-self-inside.result; touched = c.note.new.touched; changes = t.changes - c.spent.result } in
     let x = c.index-job.result.now in
     let fits = spends t c.self.invariant c.args.self.now c.self.view_is c.args.serial c.args.found.now c.args.standing.now c.requires.found c.requires.may x c.index-job.ensures in
     let left = less-left t c.self.invariant c.args.self.now c.self.view_is c.args.serial c.args.found.now c.args.standing.now c.requires.found c.requires.may x c.index-job.ensures new c.stand_at.ensures.jobs c.follow.ensures c.recount-self-inside.ensures c.note.ensures.items (omega (arith, c.spent.ensures, fits)) in
@@ -44,7 +44,7 @@ returns-clause-ready c ready =
 pub returns-clause-marked : goal.returns-clause-marked
 returns-clause-marked c =
     let t = c.self.inside in
-    let new : Inside = record t { jobs = c.stand_at.new.jobs; waiting = c.follow.new.waiting; tally = c.follow.new.tally; starting = c.follow.new.starting; active = c.follow.new.active; names = c.follow.new.names; busy = c.recount-self-inside.result; touched = c.note.new.touched; changes = t.changes - c.spent.result } in
+    let new : Inside = record t { jobs = c.stand_at.new.jobs; waiting = c.follow.new.waiting; tally = c.follow.new.tally; starting = c.follow.new.starting; active = c.follow.new.active; prestart = c.follow.new.prestart; names = c.follow.new.names; busy = c.recount-self-inside.result; touched = c.note.new.touched; changes = t.changes - c.spent.result } in
     let x = c.index-job.result.now in
     let fits = spends t c.self.invariant c.args.self.now c.self.view_is c.args.serial c.args.found.now c.args.standing.now c.requires.found c.requires.may x c.index-job.ensures in
     restood-marked t c.self.invariant c.args.self.now c.self.view_is c.args.serial c.args.found.now c.args.standing.now c.requires.found c.requires.may x c.index-job.ensures new c.stand_at.ensures.jobs c.follow.ensures c.recount-self-inside.ensures c.note.ensures.items (omega (arith, c.spent.ensures, fits)) ∙ ap (λ (v : Table). v.marked) c.self.view_is

@@ -22,7 +22,7 @@ invariant_of-self c =
     let undos = h.undos in
     record {
       kept = record { listed = kept.listed; indexed = kept.indexed; room = kept.room; named = kept.named };
-      undos = record { to_wait = omega (arith, less, undos.to_wait); to_count = undos.to_count; to_list = undos.to_list; to_name = undos.to_name };
+      undos = record { to_wait = omega (arith, less, undos.to_wait); to_count = undos.to_count; to_list = undos.to_list; to_seat = undos.to_seat; to_name = undos.to_name };
       undoable = before-undoable t h ts u popped all t.jobs.items same;
       marked = record { there = h.marked.there; to_touch = omega (arith, less, c.in-Some.ensures.capacity, h.marked.to_touch) };
     }
@@ -52,7 +52,7 @@ rejoin-requires-clause-few c =
     let u = c.in-Some.touched in
     let popped = c.in-Some.ensures.items in
     let x = c.index-job.result.now in
-    let new : Inside = record t { jobs = c.stand_at.new.jobs; waiting = c.follow.new.waiting; tally = c.follow.new.tally; starting = c.follow.new.starting; active = c.follow.new.active; busy = c.recount-self-inside.result } in
+    let new : Inside = record t { jobs = c.stand_at.new.jobs; waiting = c.follow.new.waiting; tally = c.follow.new.tally; starting = c.follow.new.starting; active = c.follow.new.active; prestart = c.follow.new.prestart; busy = c.recount-self-inside.result } in
     undo-few-names t c.self.invariant ts u popped c.args.self.now c.self.view_is c.requires.some c.requires.room c.requires.all c.in-Ok.at x c.deref.result.now c.deref.ensures.value c.in-Ok.ensures c.index-job.ensures new c.follow.new.names c.follow.ensures c.recount-self-inside.ensures c.stand_at.ensures.jobs
 
 pub invariant_of-self-2 : goal.invariant_of-self-2
