@@ -16,8 +16,8 @@ ghost use Rattle.wm_jobs.specs.Stored.{joined_by, IsOther};
 ghost use Rattle.wm_jobs.specs.Indexed.{acting_of, seated, Starts, HasTaken, nodes_of};
 
 use crate::acting::acting_of;
-use crate::prestart::prestart_of;
 use crate::phases::{is_active, is_starting, waiter_of};
+use crate::prestart::prestart_of;
 use wm_active::ActiveJobs;
 use wm_base::{EndCause, How, NoMemory, Serial};
 use wm_law::{Job, Phase, Wish};

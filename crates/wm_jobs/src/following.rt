@@ -14,8 +14,8 @@ ghost use Rattle.wm_jobs.specs.Table.{is_busy};
 
 use crate::acting::acting_of;
 use crate::counts::{fewer, more, take_serial};
-use crate::prestart::{prestart_as, prestart_of};
 use crate::phases::{counts_as_busy, is_active, is_ended, is_starting, is_waiting, waiter_of};
+use crate::prestart::{prestart_as, prestart_of};
 use crate::touched::Standing;
 use wm_active::ActiveJobs;
 use wm_base::Serial;

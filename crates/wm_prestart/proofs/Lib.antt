@@ -4,6 +4,5 @@ pub mod Least
 pub mod NumberLemmas
 pub mod OfJobs
 pub mod Pigeons
-pub mod PlainJobs
 pub mod SeatLemmas
 pub mod Set

@@ -1,5 +1,4 @@
 pub mod OfJobs
-pub mod Plain
 pub mod PrestartInside
 pub mod Ready
 pub mod Requests

@@ -6,8 +6,7 @@
 //! number, each by one look. The law `prestart_jobs_are_of_the_state` says that these are what the definitions of `wm_law` count
 //! and find among the jobs of a state. A `Requests` is the number of the requests that wait for each entry. `insert`, `remove`
 //! and `set` of the one and `add`, `take` and `clear` of the other take no memory; room is taken by `reserve` alone, and told by
-//! `spare`. `replenish`, `room`, `assign` and `use_done` are the definitions of `wm_law`, without a loop, and `count_available` and
-//! `first_idle` those that go through plain jobs.
+//! `spare`. `replenish`, `room`, `assign` and `use_done` are the definitions of `wm_law`, without a loop.
 //! The definitions are in `specs/`: `Ready` has what is found among prestart jobs, `OfJobs` the prestart jobs of a state,
 //! `Supply` what the jobs that are made rest on, `Requests` the requests that wait, `Seats` and `PrestartInside` what lies in a
 //! `PrestartJobs`.
@@ -18,7 +17,6 @@ mod bounds;
 mod jobs;
 mod laws;
 mod moves;
-mod plain;
 mod prestart_job;
 mod requests;
 mod rows;
@@ -30,7 +28,6 @@ pub use assigning::assign;
 pub use bounds::Supply;
 pub use jobs::PrestartJobs;
 pub use laws::prestart_jobs_are_of_the_state;
-pub use plain::{count_available, first_idle};
 pub use prestart_job::{PrestartEntry, PrestartJob, Readiness};
 pub use requests::Requests;
 pub use supply::{replenish, room};
