@@ -20,6 +20,7 @@ use Rattle.wm_waiting.specs.contracts.waiting.WaitingJobs as WaitingJobs
 use Rattle.wm_tally.specs.contracts.tally.Tally as Tally
 use Rattle.wm_names.specs.contracts.names.JobNames as JobNames
 use Rattle.wm_active.specs.contracts.active.ActiveJobs as ActiveJobs
+use Rattle.wm_prestart.specs.contracts.jobs.PrestartJobs as PrestartJobs
 use Rattle.wm_making.specs.contracts.saved.Saved as Saved
 use Rattle.wm_jobs.specs.contracts.table.JobTable as JobTable
 use Rattle.wm_core.specs.contracts.mark.Mark as Mark
@@ -113,6 +114,9 @@ JobNames-send = search passing depth 400 fits 100000
 pub ActiveJobs-send : IsSend ActiveJobs.the_row
 ActiveJobs-send = search passing depth 400 fits 100000
 
+pub PrestartJobs-send : IsSend PrestartJobs.the_row
+PrestartJobs-send = search passing depth 400 fits 100000
+
 pub Saved-send : IsSend (Saved.the_field).row
 Saved-send = enum_field_send Saved.the_type (search passing depth 400 fits 100000)
 
@@ -124,7 +128,7 @@ module _ (X O E : RattleType) (g : standing.Ghosts X.Denot O.Denot E.Denot) wher
   Turnstile-sync s = search (words.the_sync, lease.the_sync, passing) depth 400 fits 100000
 
 pub JobTable-send : IsSend JobTable.the_row
-JobTable-send = view_send _ _ _ _ _ (struct_may_send table.the_type (search (Job-send, passing) depth 400 fits 100000, (search (WaitingJobs-send, passing) depth 400 fits 100000, (search (Tally-send, passing) depth 400 fits 100000, (search passing depth 400 fits 100000, (search (JobNames-send, passing) depth 400 fits 100000, (search (ActiveJobs-send, passing) depth 400 fits 100000, (search passing depth 400 fits 100000, (search passing depth 400 fits 100000, (search passing depth 400 fits 100000, (search passing depth 400 fits 100000, (search passing depth 400 fits 100000, (search passing depth 400 fits 100000, (search passing depth 400 fits 100000, (search passing depth 400 fits 100000, tt)))))))))))))))
+JobTable-send = view_send _ _ _ _ _ (struct_may_send table.the_type (search (Job-send, passing) depth 400 fits 100000, (search (WaitingJobs-send, passing) depth 400 fits 100000, (search (Tally-send, passing) depth 400 fits 100000, (search passing depth 400 fits 100000, (search (JobNames-send, passing) depth 400 fits 100000, (search (ActiveJobs-send, passing) depth 400 fits 100000, (search (PrestartJobs-send, passing) depth 400 fits 100000, (search passing depth 400 fits 100000, (search passing depth 400 fits 100000, (search passing depth 400 fits 100000, (search passing depth 400 fits 100000, (search passing depth 400 fits 100000, (search passing depth 400 fits 100000, (search passing depth 400 fits 100000, (search passing depth 400 fits 100000, tt))))))))))))))))
 
 pub Mark-send : IsSend (Mark.the_field).row
 Mark-send = struct_send (S.shape Mark.the_type) (search (Saved-send, passing) depth 400 fits 100000, (search passing depth 400 fits 100000, (search passing depth 400 fits 100000, (search passing depth 400 fits 100000, (search passing depth 400 fits 100000, (search passing depth 400 fits 100000, (search passing depth 400 fits 100000, tt)))))))
