@@ -7,6 +7,7 @@ use Rattle.wm_law.specs.History.{after, IsLegal}
 use Rattle.wm_law.specs.Pending.{active}
 use Rattle.wm_law.specs.declared.call.Entry.{Entry}
 use Rattle.wm_law.specs.declared.state.State.{State}
+use Rattle.wm_law.proofs.Maxuse.{uses_are_kept}
 use Rattle.wm_law.proofs.Sound.{limits_are_kept, order_is_kept}
 use Rattle.wm_traits.specs.declared.fault.KeepFault.{KeepFault}
 use Rattle.wm_traits.specs.declared.fault.KeepFault.TheVariants as keep
@@ -23,6 +24,7 @@ use Rattle.wm_journal.specs.declared.open_fault.OpenFault.{OpenFault}
 use Rattle.wm_journal.specs.declared.open_fault.OpenFault.TheVariants.{KeeperFault, BadRow, NoMemory}
 use Rattle.wm_journal.proofs.Staying.{Stays-grows, Stays-same}
 use Rattle.wm_chain.proofs.Starting.{runs_start_once}
+use Rattle.wm_tables.proofs.PrestartRestarts.{restart_is_prestart_sound, restart_is_within_maxuse}
 use Rattle.wm_tables.proofs.Restarts.{restart_is_sound}
 
 -- What is told later was told before
@@ -82,6 +84,7 @@ opened_run {Came} offset status log first last found opened closed h none same i
       restart = h.restart;
       legal = steps;
       limits = limits_are_kept s last.log sound;
+      uses = uses_are_kept s last.log sound (restart_is_prestart_sound offset h.found s h.restart) steps (restart_is_within_maxuse offset h.found s h.restart);
       order = order_is_kept s last.log sound;
       starts = runs_start_once offset h.found s last.log h.restart steps;
       no_idle = busy;
@@ -126,6 +129,7 @@ opened_of_store offset status log old found closed new tables trail tables' trai
       restart = h.restart;
       legal = h.legal;
       limits = h.limits;
+      uses = h.uses;
       order = h.order;
       starts = h.starts;
       no_idle = h.no_idle;

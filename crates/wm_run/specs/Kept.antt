@@ -4,6 +4,7 @@ use Rattle.std.specs.List.{list_any}
 use Rattle.wm_journal.specs.Trail.{HasTrail}
 use Rattle.wm_law.specs.History.{after, IsLegal}
 use Rattle.wm_law.specs.Limits.{KeepsLimits}
+use Rattle.wm_law.specs.Maxuse.{KeepsUses}
 use Rattle.wm_law.specs.Order.{KeepsOrder}
 use Rattle.wm_law.specs.Pending.{active}
 use Rattle.wm_law.specs.declared.call.Entry.{Entry}
@@ -28,6 +29,7 @@ pub record HasOpened (offset : ℤ) (status : ℕ) (log : List Entry) (old new :
   pub restart : IsRestart offset rows opened
   pub legal : IsLegal opened log
   pub limits : KeepsLimits opened log
+  pub uses : KeepsUses opened log
   pub order : KeepsOrder opened log
   pub starts : StartsOnce rows opened log
   pub no_idle : NoneIsIdle opened log

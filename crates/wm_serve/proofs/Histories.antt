@@ -11,9 +11,11 @@ use Rattle.wm_law.specs.History.{IsLegal}
 use Rattle.wm_law.specs.declared.state.State.{State}
 use Rattle.wm_law.specs.Pending.{active}
 use Rattle.wm_law.specs.declared.call.Entry.{Entry}
+use Rattle.wm_law.proofs.Maxuse.{uses_are_kept}
 use Rattle.wm_law.proofs.Sound.{limits_are_kept, order_is_kept}
 use Rattle.wm_chain.proofs.Starting.{runs_start_once}
 use Rattle.wm_tables.specs.Restart.{IsBad}
+use Rattle.wm_tables.proofs.PrestartRestarts.{restart_is_prestart_sound, restart_is_within_maxuse}
 use Rattle.wm_tables.proofs.Restarts.{restart_is_sound}
 use Rattle.wm_journal.specs.History.{reached}
 use Rattle.wm_journal.specs.Keeping.{IsLeft, IsOpened, Telling}
@@ -52,6 +54,7 @@ opened_server offset status log o found opened closed Done h legal idle tables t
       restart = h.restart;
       legal = legal;
       limits = limits_are_kept o.state log sound;
+      uses = uses_are_kept o.state log sound (restart_is_prestart_sound offset h.found o.state h.restart) legal (restart_is_within_maxuse offset h.found o.state h.restart);
       order = order_is_kept o.state log sound;
       starts = runs_start_once offset h.found o.state log h.restart legal;
       idle = idle;
@@ -83,6 +86,7 @@ opened_none offset status s old new h early both both' =
       restart = h.restart;
       legal = tt;
       limits = limits_are_kept s [] sound;
+      uses = tt;
       order = order_is_kept s [] sound;
       starts = runs_start_once offset h.found s [] h.restart tt;
       idle = λ ended. absurd (early ended);

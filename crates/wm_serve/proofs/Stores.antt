@@ -53,6 +53,7 @@ history_of_store offset status log old found closed new Done tables trail tables
       restart = h.restart;
       legal = h.legal;
       limits = h.limits;
+      uses = h.uses;
       order = h.order;
       starts = h.starts;
       idle = h.idle;

@@ -8,6 +8,7 @@ use Rattle.wm_traits.specs.declared.fault.KeepFault.TheVariants as keep
 use Rattle.wm_traits.specs.declared.row.Row.{Row}
 use Rattle.wm_law.specs.History.{after, IsLegal}
 use Rattle.wm_law.specs.Limits.{KeepsLimits}
+use Rattle.wm_law.specs.Maxuse.{KeepsUses}
 use Rattle.wm_law.specs.Order.{KeepsOrder}
 use Rattle.wm_law.specs.Pending.{active}
 use Rattle.wm_law.specs.declared.call.Entry.{Entry}
@@ -50,6 +51,7 @@ pub record HasHistory (offset : ℤ) (status : ℕ) (log : List Entry) (old new 
   pub restart : IsRestart offset rows opened
   pub legal : IsLegal opened log
   pub limits : KeepsLimits opened log
+  pub uses : KeepsUses opened log
   pub order : KeepsOrder opened log
   pub starts : StartsOnce rows opened log
   pub idle : status ≡ 0 → active (after opened log) ≡ 0

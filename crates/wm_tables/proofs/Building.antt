@@ -7,6 +7,7 @@ use Rattle.std.specs.declared.cmp.Ordering.TheVariants.{Equal, Greater}
 use Rattle.std.proofs.lemmas.Bool.{cases_lt}
 use Rattle.std.proofs.lemmas.Cmp.{nat_list_cmp_total, tied_itself}
 use Rattle.wm_base.specs.Number.{zero_padded}
+use Rattle.wm_base.specs.declared.job.How.TheVariants.{NotYet}
 use Rattle.wm_base.specs.declared.qname.QName.{QName}
 use Rattle.wm_base.proofs.Tests.{Some-injective}
 use Rattle.wm_desc.proofs.Tables.{qname_ties, qname_total}
@@ -54,18 +55,27 @@ pub record AreNumbered (jobs : List Job) (number serial place : ℕ) : Type 0 wh
   pub serial_least : 1 ≤ serial
   pub place_least : 1 ≤ place
 
--- the jobs stand in the order of their serials, which are what a u64 can be, and none is active or has a wish
+-- nothing is left of what the job was at the stop: it came by no entry, has no uses and no request
+pub record IsAnew (j : Job) : Type 0 where
+  pub how : j.how ≡ NotYet
+  pub uses : j.uses ≡ 0
+  pub evoke : j.evoke ≡ false
+
+-- the jobs stand in the order of their serials, which are what a u64 can be, none is active or has a wish, and all are anew
 pub record AreIdle (jobs : List Job) : Type 0 where
   pub increasing : IsIncreasing (map (λ j. j.serial) jobs)
   pub idle : (j : Job) → IsIn j jobs → is_active j.phase ≡ false
   pub unwished : (j : Job) → IsIn j jobs → j.wish ≡ NoWish
   pub fit : (j : Job) → IsIn j jobs → j.serial < 2 ^ 64
+  pub anew : (j : Job) → IsIn j jobs → IsAnew j
 
--- all that holds of sound states but the upper ends of the next numbers; no job is active, and no subsystem is started
+-- all that holds of sound states but the upper ends of the next numbers; no job is active, no subsystem is started, no entry is stopped and no request waits
 pub record IsBuilt (s : State) : Type 0 where
   pub numbered : AreNumbered s.jobs s.next_number s.next_serial s.next_place
   pub jobs : AreIdle s.jobs
   pub started : s.started ≡ []
+  pub stopped : s.stopped ≡ []
+  pub evokes : s.evokes ≡ []
   pub routed : IsRouted s.objects
   pub objects : AreSound s.objects
   pub queues : HasQueues s
@@ -82,8 +92,10 @@ empty_built offset = record {
     serial_least = omega arith;
     place_least = omega arith;
   };
-  jobs = record { increasing = tt; idle = λ j i. absurd i; unwished = λ j i. absurd i; fit = λ j i. absurd i };
+  jobs = record { increasing = tt; idle = λ j i. absurd i; unwished = λ j i. absurd i; fit = λ j i. absurd i; anew = λ j i. absurd i };
   started = refl;
+  stopped = refl;
+  evokes = refl;
   routed = record { sorted = λ sbs d e. absurd (cc); classes = λ sbs d e k i. absurd (cc) };
   objects = record {
     tables = record {
@@ -108,6 +120,8 @@ made_built s o c b = record {
   numbered = b.numbered;
   jobs = b.jobs;
   started = b.started;
+  stopped = b.stopped;
+  evokes = b.evokes;
   routed = c.routed b.routed;
   objects = c.sound b.objects;
   queues = λ j i. still_queued s o j c (b.queues j i);
@@ -120,6 +134,8 @@ held_built s q t h b = record {
   numbered = b.numbered;
   jobs = b.jobs;
   started = b.started;
+  stopped = b.stopped;
+  evokes = b.evokes;
   routed = b.routed;
   objects = b.objects;
   queues = b.queues;
@@ -224,8 +240,11 @@ stored_built s j g above b =
         idle = of_both (λ (k : Job). is_active k.phase ≡ false) s.jobs (job_of j) b.jobs.idle (idle_as j.phase);
         unwished = of_both (λ (k : Job). k.wish ≡ NoWish) s.jobs (job_of j) b.jobs.unwished refl;
         fit = of_both (λ (k : Job). k.serial < 2 ^ 64) s.jobs (job_of j) b.jobs.fit g.stored.serial;
+        anew = of_both IsAnew s.jobs (job_of j) b.jobs.anew (record { how = refl; uses = refl; evoke = refl });
       };
       started = b.started;
+      stopped = b.stopped;
+      evokes = b.evokes;
       routed = b.routed;
       objects = b.objects;
       queues = of_both (IsQueued s.objects) s.jobs (job_of j) b.queues (stored_queued s.objects j j.kind refl g.waits g.kind);
@@ -276,11 +295,13 @@ counted_numbers s counter.Serial n g b =
     }
 
 -- a counter leaves all else
-same_else : (s t : State) → IsBuilt s → t.jobs ≡ s.jobs → t.started ≡ s.started → t.objects ≡ s.objects → t.held ≡ s.held → AreNumbered t.jobs t.next_number t.next_serial t.next_place → IsBuilt t
-same_else s t b jobs started objects held numbered = record {
+same_else : (s t : State) → IsBuilt s → t.jobs ≡ s.jobs → t.started ≡ s.started → t.stopped ≡ s.stopped → t.evokes ≡ s.evokes → t.objects ≡ s.objects → t.held ≡ s.held → AreNumbered t.jobs t.next_number t.next_serial t.next_place → IsBuilt t
+same_else s t b jobs started stopped evokes objects held numbered = record {
   numbered = numbered;
   jobs = subst AreIdle (sym jobs) b.jobs;
   started = started ∙ b.started;
+  stopped = stopped ∙ b.stopped;
+  evokes = evokes ∙ b.evokes;
   routed = subst IsRouted (sym objects) b.routed;
   objects = subst AreSound (sym objects) b.objects;
   queues = λ j i. subst (λ (o : Objects). IsQueued o j) (sym objects) (b.queues j (subst (IsIn j) jobs i));
@@ -288,10 +309,10 @@ same_else s t b jobs started objects held numbered = record {
 }
 
 pub counted_built : (s : State) (c : Counter) (n : ℕ) → IsGoodCount s c n → IsBuilt s → IsBuilt (with_counter s c n)
-counted_built s counter.Number n g b = same_else s _ b refl refl refl refl (counted_numbers s counter.Number n g b.numbered)
-counted_built s counter.Place n g b = same_else s _ b refl refl refl refl (counted_numbers s counter.Place n g b.numbered)
+counted_built s counter.Number n g b = same_else s _ b refl refl refl refl refl refl (counted_numbers s counter.Number n g b.numbered)
+counted_built s counter.Place n g b = same_else s _ b refl refl refl refl refl refl (counted_numbers s counter.Place n g b.numbered)
 counted_built s counter.Schema n g b = b
-counted_built s counter.Serial n g b = same_else s _ b refl refl refl refl (counted_numbers s counter.Serial n g b.numbered)
+counted_built s counter.Serial n g b = same_else s _ b refl refl refl refl refl refl (counted_numbers s counter.Serial n g b.numbered)
 
 -- what one row leaves: the state is built, and the rows to come stand ahead of its jobs
 record IsOn (s : State) (rows : List Row) : Type 0 where

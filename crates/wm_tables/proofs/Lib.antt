@@ -22,6 +22,7 @@ pub mod RangedJobs
 pub mod RangedRestarts
 pub mod RangedMoments
 pub mod RangedLaunches
+pub mod PrestartRestarts
 pub mod RangedSupplies
 pub mod RangedCalls
 pub mod RangedSteps

@@ -6,8 +6,10 @@ use Rattle.wm_command.specs.Printed.{IsFit}
 use Rattle.wm_law.specs.Fit.{IsCall, IsCommand}
 use Rattle.wm_law.specs.Laws.{IsIn}
 use Rattle.wm_law.specs.Machine.{step}
+use Rattle.wm_law.specs.Maxuse.{IsWithinMaxuse}
 use Rattle.wm_law.specs.Opening.{opening}
 use Rattle.wm_law.specs.Sound.{IsSound}
+use Rattle.wm_law.specs.SoundPrestart.{IsPrestartSound}
 use Rattle.wm_law.specs.declared.call.Call.{Call}
 use Rattle.wm_law.specs.declared.command.Command.{Command}
 use Rattle.wm_law.specs.declared.state.State.{State}
@@ -20,6 +22,14 @@ use Rattle.wm_tables.specs.Tables.{puts, tables}
 -- a run opens with a sound state
 abbrev pub RestartIsSound : Type 0
 RestartIsSound = (offset : ℤ) (rows : List Row) (s : State) → IsRestart offset rows s → IsSound s
+
+-- of prestart jobs, too
+abbrev pub RestartIsPrestartSound : Type 0
+RestartIsPrestartSound = (offset : ℤ) (rows : List Row) (s : State) → IsRestart offset rows s → IsPrestartSound s
+
+-- and with one in which no job was used more often than its prestart entry lets it
+abbrev pub RestartIsWithinMaxuse : Type 0
+RestartIsWithinMaxuse = (offset : ℤ) (rows : List Row) (s : State) → IsRestart offset rows s → IsWithinMaxuse s
 
 -- and with one that keeps its ranges
 abbrev pub RestartIsInRange : Type 0

@@ -1,10 +1,12 @@
 // Laws of tables and of restarts, each for all states and rows. They are no calls.
-ghost use Rattle.wm_tables.specs.Laws.{NewRowsMakeTables, OnlyEndedJobsAreNew, OpeningIsInRange, RestartIsInRange, RestartIsSound, RowCommandsFit, StepKeepsRanges, TablesMakeTheirState};
+ghost use Rattle.wm_tables.specs.Laws.{NewRowsMakeTables, OnlyEndedJobsAreNew, OpeningIsInRange, RestartIsInRange, RestartIsPrestartSound, RestartIsSound, RestartIsWithinMaxuse, RowCommandsFit, StepKeepsRanges, TablesMakeTheirState};
 
-/// A run opens with a sound state, whatever good rows it finds.
-#[tactic(auto, using(crate::proofs::Restarts::restart_is_sound))]
+/// A run opens with a sound state, whatever good rows it finds: with one that is sound of prestart jobs, too, and in which
+/// each prestart entry lets its jobs be used, and no job was used more often.
 pub fn restarts_are_sound()
-    ensures { RestartIsSound }
+    ensures sound { RestartIsSound }
+    ensures prestart { RestartIsPrestartSound }
+    ensures maxuse { RestartIsWithinMaxuse }
 {}
 
 /// The tables of a sound state in range are good rows, and a run that opens with them has of that state what a stop
