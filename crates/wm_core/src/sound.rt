@@ -3,10 +3,12 @@ ghost use Rattle.std.specs.Prelude.{◌≡◌, true, false, OnOk, OnErr, IfOk};
 ghost use Rattle.wm_law.specs.Fit.{IsCall};
 ghost use Rattle.wm_law.specs.Limits.{IsWithinLimits};
 ghost use Rattle.wm_law.specs.Machine.{step};
+ghost use Rattle.wm_law.specs.Maxuse.{IsWithinMaxuse};
 ghost use Rattle.wm_law.specs.Opening.{opening};
 ghost use Rattle.wm_law.specs.Order.{IsInOrder};
 ghost use Rattle.wm_law.specs.Pending.{pending};
 ghost use Rattle.wm_law.specs.Sound.{IsSound};
+ghost use Rattle.wm_law.specs.SoundPrestart.{IsPrestartSound};
 
 use crate::{Machine, Setup};
 use std::alloc::Global;
@@ -62,6 +64,8 @@ impl Core {
         ensures no_way_back { OnErr result (self.new.undoable ≡ false) }
         ensures limits { OnOk result (IsWithinLimits self.old.state self.new.state) }
         ensures order { OnOk result (IsInOrder self.old.state self.new.state) }
+        ensures prestart { OnOk result (IsPrestartSound self.old.state → IsPrestartSound self.new.state) }
+        ensures uses { OnOk result (IsPrestartSound self.old.state → IsWithinMaxuse self.old.state → IsWithinMaxuse self.new.state) }
     {
         let reply = self.machine.step(alloc, caller, call, now)?;
         Ok(reply)

@@ -1,5 +1,7 @@
 use Rattle.std.proofs.Common.{◌∙◌, ap, sym, subst}
+use Rattle.wm_law.proofs.Maxuse.{step_keeps_maxuse}
 use Rattle.wm_law.proofs.Sound as law
+use Rattle.wm_law.proofs.SoundPrestart.{step_keeps_prestart_sound}
 use Rattle.wm_core.specs.Due.{IsSettled}
 use Rattle.wm_core.specs.LastStep.{LastStep}
 use Rattle.wm_core.proofs.Undone.{back_from}
@@ -28,3 +30,11 @@ returns-clause-limits c = rw (c.in_ok-reply.ensures.state, ← c.self.view_is) (
 
 pub returns-clause-order : goal.returns-clause-order
 returns-clause-order c = rw (c.in_ok-reply.ensures.state, ← c.self.view_is) (law.step_keeps_order c.self.inside.machine.state c.args.caller c.args.call.now c.args.now c.self.invariant.state.sound)
+
+pub returns-clause-prestart : goal.returns-clause-prestart
+returns-clause-prestart c = rw (c.in_ok-reply.ensures.state, ← c.self.view_is) (step_keeps_prestart_sound c.self.inside.machine.state c.args.caller c.args.call.now c.args.now c.self.invariant.state.sound)
+
+pub returns-clause-uses : goal.returns-clause-uses
+returns-clause-uses c =
+    rw (c.in_ok-reply.ensures.state, ← c.self.view_is)
+    (λ pres within. step_keeps_maxuse c.self.inside.machine.state c.args.caller c.args.call.now c.args.now c.self.invariant.state.sound pres c.requires.ranges within)
