@@ -1,8 +1,9 @@
 // Histories, entry by entry.
-ghost use Rattle.std.specs.Prelude.{◌≡◌, length, slice_get};
+ghost use Rattle.std.specs.Prelude.{◌≡◌, [], length, slice_get};
 ghost use Rattle.std.specs.Option.{option_copied};
 
 use crate::shared_list::SharedList;
+use std::alloc::Global;
 use std::marker::Model;
 use wm_law::Entry;
 
@@ -22,6 +23,13 @@ impl Model for Log {
 }
 
 impl Log {
+    /// No entries.
+    pub fn none(alloc: Global) -> Log
+        ensures { result ≡ [] }
+    {
+        Log::of(SharedList::new(alloc))
+    }
+
     /// The entries of a list.
     pub(crate) fn of(entries: SharedList<Entry>) -> Log
         ensures { result ≡ entries.items }

@@ -10,6 +10,7 @@ pub mod Openings
 pub mod Linked
 pub mod Outcomes
 pub mod Runs
+pub mod Said
 pub mod Servings
 pub mod StoppedLines
 pub mod StoppedRuns

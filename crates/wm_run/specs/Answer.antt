@@ -1,23 +1,11 @@
 -- What answers a line: the text of its reply or of its fault, with the line's end.
 use Rattle.std.specs.Prelude.{ℕ, Bool, true, false, if◌then◌else◌, List, [], ◌∷◌, ◌++◌, codes}
 use Rattle.wm_clwords.specs.declared.fault.ClFault.TheVariants.{Empty}
-use Rattle.wm_law.specs.declared.call.Call.{Call}
-use Rattle.wm_law.specs.declared.call.Call.TheVariants.{Change}
-use Rattle.wm_law.specs.declared.call.Entry.{Entry}
 use Rattle.wm_law.specs.declared.call.Reply.{Reply}
 use Rattle.wm_law.specs.declared.call.Reply.TheVariants.{Made, SbsStarted, SbsEnding, Submitted, Held, Released, Changed, JobEnding, JobEnded, QueueHeld, QueueReleased, QueueCleared, PreStarted, PreEnding, Evoked, EvokeWaits, UseEnded, PowerDown, Order, Nothing, Noted, No}
-use Rattle.wm_listing.specs.Said.{said_text, fault_text}
+use Rattle.wm_listing.specs.Said.{fault_text}
 use Rattle.wm_listing.specs.declared.line_fault.LineFault.{LineFault}
 use Rattle.wm_listing.specs.declared.line_fault.LineFault.TheVariants.{Cl}
-
--- what is said of a call's reply: nothing where the call is no command
-abbrev pub call_text : Call → Reply → List ℕ
-call_text (Change user c) reply = said_text c reply
-call_text c reply = []
-
--- what is said of an entry: that of its command
-abbrev pub entry_text : Entry → List ℕ
-entry_text e = call_text e.call e.reply
 
 -- a line with its end
 abbrev pub with_end : List ℕ → List ℕ

@@ -1,11 +1,20 @@
 -- Why a run ends early, and with which status.
-use Rattle.std.specs.Prelude.{◌≡◌, ℕ, ◌≤◌, Option, None, Result, IsErrOf}
+use Rattle.std.specs.Prelude.{◌≡◌, ◌⊎◌, ℕ, ◌≤◌, length, Option, None, Result, IsErrOf}
 use Rattle.wm_traits.specs.Cause.{raised}
+use Rattle.wm_journal.specs.declared.call_fault.CallFault.{CallFault}
+use Rattle.wm_journal.specs.declared.call_fault.CallFault.TheVariants as call
 use Rattle.wm_monitor.specs.declared.fault.MonitorFault.{MonitorFault}
 use Rattle.wm_monitor.specs.declared.fault.MonitorFault.TheVariants as monitor
 use Rattle.wm_monitor.specs.declared.report.Report.{Report}
+use Rattle.wm_run.specs.declared.running.Run.{Run}
 use Rattle.wm_run.specs.declared.halt.Halt.{Halt}
 use Rattle.wm_run.specs.declared.halt.Halt.TheVariants.{ReadFault, WriteFault, KeeperFault, NoMemory, LogFull, WaitFault, InputFull}
+
+-- a fault of a call ends the run
+abbrev pub halt_of_call : CallFault → Halt
+halt_of_call call.KeeperFault = KeeperFault
+halt_of_call (call.LogFull limit) = LogFull
+halt_of_call call.NoMemory = NoMemory
 
 -- a monitor's fault ends the run
 abbrev pub halt_of : MonitorFault → Halt
@@ -45,6 +54,11 @@ pub record HasInputCauses {T : Type 0} (result : Result T Halt) (read_before rea
   pub read_fault : IsErrOf result ReadFault → raised read_before ≤ read_now
   pub write_fault : IsErrOf result WriteFault → raised written_before ≤ written_now
   pub wait_fault : IsErrOf result WaitFault → raised looked_before ≤ looked_now
+
+-- the faults of the floor that are told have their causes: a mark of the two passes rose, or one of them has seen so many entries at the least
+pub record HasFloorCauses {K : Type 0} (KeeperFault LogFull : Type 0) (least : ℕ) (old new : Run K) : Type 0 where
+  pub keeper_fault : KeeperFault → (raised old.session.mark ≤ new.session.mark) ⊎ (raised old.watch.mark ≤ new.watch.mark)
+  pub log_full : LogFull → (least ≤ length new.session.seen) ⊎ (least ≤ length new.watch.seen)
 
 -- a monitor that kept no report keeps none
 abbrev pub KeepsNone : Option Report → Option Report → Type 0

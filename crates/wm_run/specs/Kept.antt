@@ -12,7 +12,8 @@ use Rattle.wm_law.specs.declared.state.State.{State}
 use Rattle.wm_traits.specs.declared.fault.KeepFault.{KeepFault}
 use Rattle.wm_traits.specs.declared.fault.KeepFault.TheVariants as keep
 use Rattle.wm_traits.specs.declared.row.Row.{Row}
-use Rattle.wm_monitor.specs.Idle.{NoneIsIdle}
+use Rattle.wm_monitor.specs.Idle.{monitor_pass}
+use Rattle.wm_shared_monitor.specs.Idle.{NoneIsIdle}
 use Rattle.wm_journal.specs.Keeping.{Telling, IsLeft}
 use Rattle.wm_journal.specs.Stored.{HasTables}
 use Rattle.wm_journal.specs.declared.open_fault.OpenFault.{OpenFault}
@@ -32,7 +33,7 @@ pub record HasOpened (offset : ℤ) (status : ℕ) (log : List Entry) (old new :
   pub uses : KeepsUses opened log
   pub order : KeepsOrder opened log
   pub starts : StartsOnce rows opened log
-  pub no_idle : NoneIsIdle opened log
+  pub no_idle : NoneIsIdle monitor_pass [] opened log
   pub idle : status ≤ 1 → active (after opened log) ≡ 0
   pub tables : HasTables (after opened log) new.tables
   pub trail : HasTrail (record { opened = opened; log = log }) old new

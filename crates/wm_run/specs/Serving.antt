@@ -1,23 +1,64 @@
--- What a run does between two moments: the session and the monitor share the history.
-use Rattle.std.specs.Prelude.{ℕ, ◌==◌, ◌||◌, Bool, List, Option}
+-- What a run has, and what it does between two moments: the session and the monitor each go on with a pass of their own.
+use Rattle.std.specs.Prelude.{◌≡◌, ℕ, ◌<◌, ◌≤◌, ◌==◌, ◌||◌, Bool, List, [], length, take, Option}
 use Rattle.wm_base.specs.declared.job.Asked.{Asked}
 use Rattle.wm_law.specs.declared.call.Entry.{Entry}
-use Rattle.wm_journal.specs.History.{History}
+use Rattle.wm_law.specs.Pending.{orders_left}
 use Rattle.wm_traits.specs.declared.spawner.Told.{Told}
-use Rattle.wm_monitor.specs.declared.monitor.Monitor.{Monitor}
-use Rattle.wm_monitor.specs.Monitor.{MonitorView, Proceeds, is_own}
-use Rattle.wm_monitor.specs.View.{view}
+use Rattle.wm_turn.specs.Passed.{StartsWith, own}
+use Rattle.wm_journal.specs.History.{reached}
+use Rattle.wm_floor.specs.Floor.{Floored, IsPassOf, IsSame, Seen}
+use Rattle.wm_floor.specs.Ledger.{behind, caller_of}
+use Rattle.wm_monitor.specs.Idle.{monitor_pass}
+use Rattle.wm_monitor.specs.Lists.{Extends}
+use Rattle.wm_monitor.specs.Monitor.{is_own}
+use Rattle.wm_shared_monitor.specs.Advance.{MonitorAttends}
 use Rattle.wm_run.specs.Calls.{session_pass}
+use Rattle.wm_run.specs.declared.running.Run.{Run}
 
 -- an entry of the session, or a monitor's call of the monitor
 abbrev pub is_of_run : Entry → Bool
 is_of_run e = e.caller == session_pass || is_own e
 
--- as a monitor's part, but beside it the session has entries too
-abbrev pub Serves : MonitorView → MonitorView → Type 0
-Serves old new = Proceeds is_of_run old new
+module _ {K : Type 0} where
+  -- the monitor has seen at least as many entries as a front of what the session has seen, in which all of the session's own are
+  pub record HasWatched (r : Run K) : Type 0 where
+    pub front : List Entry
+    pub begins : StartsWith r.session.seen front
+    pub all : own caller_of session_pass front ≡ r.session.mine
+    pub within : length front ≤ length r.watch.seen
 
--- the same between two moments of a run, where the spawner tells so much
-abbrev pub RunServes : {P : Type 0} → (P → Option (List Asked)) → (P → Option (List Told)) → (P → ℕ) → History → Monitor → P → History → Monitor → P → Type 0
-RunServes asked told misses history monitor spawner history' monitor' spawner' =
-    Serves (view history monitor (asked spawner) (told spawner) (misses spawner)) (view history' monitor' (asked spawner') (told spawner') (misses spawner'))
+  -- both passes are the floor's, with the numbers of the session and of the monitor, which has seen what the session has called
+  pub record IsRunning (r : Run K) : Type 0 where
+    pub session : IsPassOf r.floor r.session
+    pub watch : IsPassOf r.floor r.watch
+    pub zero : r.session.number ≡ session_pass
+    pub one : r.watch.number ≡ monitor_pass
+    pub watched : HasWatched r
+
+  -- a pass goes on: it has seen at least what it had seen, keeps its own entries, and its mark hasn't fallen
+  pub record PassGoesOn (old new : Seen K) : Type 0 where
+    pub same : IsSame old new
+    pub seen : Extends old.seen new.seen
+    pub mine : Extends old.mine new.mine
+    pub mark : old.mark ≤ new.mark
+
+  -- a run between two moments, where the spawner tells so much: its floor is the same, the session goes on, and the monitor did its part
+  pub record RunServes {P : Type 0} (asked : P → Option (List Asked)) (told : P → Option (List Told)) (misses faults : P → ℕ) (old : Run K) (spawner : P) (new : Run K) (spawner' : P) : Type 0 where
+    pub floor : new.floor ≡ old.floor
+    pub session : PassGoesOn old.session new.session
+    pub part : MonitorAttends asked told misses faults old.floor old.watch old.monitor spawner new.watch new.monitor spawner'
+
+  -- the monitor left no order as it looked last, behind all that the session has seen
+  pub record LeftNoOrder (r : Run K) : Type 0 where
+    pub at : ℕ
+    pub least : length r.session.seen ≤ at
+    pub most : at ≤ length r.watch.seen
+    pub none : orders_left (reached (behind r.floor.opening (take at r.watch.seen))) monitor_pass ≡ 0
+
+  -- the whole history of a run: it begins with what both passes have seen, each has its own entries of it, and there are no others
+  pub record IsWhole (r : Run K) (log : List Entry) : Type 0 where
+    pub session : StartsWith log r.session.seen
+    pub watch : StartsWith log r.watch.seen
+    pub calls : r.session.mine ≡ own caller_of session_pass log
+    pub monitors : r.watch.mine ≡ own caller_of monitor_pass log
+    pub others : (n : ℕ) → monitor_pass < n → own caller_of n log ≡ []

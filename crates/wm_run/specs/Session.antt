@@ -1,4 +1,4 @@
--- What a session calls and answers, line by line. A piece of the history is spoken of with the history before it.
+-- What a session calls and answers, line by line. A piece of the history is what the session has seen since, and is spoken of with the history before it.
 use Rattle.std.specs.Io.KnownBytes.{IsAtEnd}
 use Rattle.std.specs.Prelude.{◌≡◌, ℕ, Bool, true, false, ◌||◌, List, [], ◌∷◌, ◌++◌, Option, Some, None, codes}
 use Rattle.wm_law.specs.declared.call.Call.{Call as MachineCall}
@@ -42,19 +42,19 @@ pub record Calls (user : List ℕ) (c : Command) (es : List Entry) (bytes : List
   pub says : bytes ≡ with_end (said_text c entry.reply)
   pub refused : faulty ≡ is_refused entry.reply
 
--- no entry
-pub record Says (due : List ℕ) (wrong : Bool) (es : List Entry) (bytes : List ℕ) (faulty : Bool) : Type 0 where
-  pub none : es ≡ []
-  pub says : bytes ≡ due
-  pub fault : faulty ≡ wrong
-
--- no entry, and the listing of the state that the history reaches
-abbrev pub Reads : Ask → History → List Entry → List ℕ → Bool → Type 0
-Reads ask h es bytes faulty = Says (read_text ask h) (is_read_refused ask h) es bytes faulty
-
 -- the session made no call
 abbrev pub IsUncalled : List Entry → Type 0
 IsUncalled es = entries_of session_pass es ≡ []
+
+-- no call, and this was said
+pub record Says (due : List ℕ) (wrong : Bool) (es : List Entry) (bytes : List ℕ) (faulty : Bool) : Type 0 where
+  pub none : IsUncalled es
+  pub says : bytes ≡ due
+  pub fault : faulty ≡ wrong
+
+-- no call, and the listing of the state that the history has reached with these entries
+abbrev pub Reads : Ask → History → List Entry → List ℕ → Bool → Type 0
+Reads ask h es bytes faulty = Says (read_text ask (grown h es)) (is_read_refused ask (grown h es)) es bytes faulty
 
 -- what answers a user's parsed line behind a history: a fault has its line, a reading command its listing, a call what is said of its entry
 abbrev pub AnswersParsed : List ℕ → Parsed → History → List Entry → List ℕ → Bool → Type 0

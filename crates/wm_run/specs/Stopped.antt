@@ -16,6 +16,11 @@ pub record WritesSome (Due : List Entry → List ℕ → Bool → Type 0) (es : 
   pub count : ℕ
   pub written : Grows before now (take count due)
 
+-- the session called and wrote nothing
+pub record Unanswered (es : List Entry) (before now : Option (List ℕ)) : Type 0 where
+  pub none : IsUncalled es
+  pub written : Grows before now []
+
 -- nothing was called or written
 pub record Untouched (es : List Entry) (before now : Option (List ℕ)) : Type 0 where
   pub none : es ≡ []
@@ -23,7 +28,7 @@ pub record Untouched (es : List Entry) (before now : Option (List ℕ)) : Type 0
 
 -- an answer was cut short, or didn't begin
 abbrev pub IsCutShort : (List Entry → List ℕ → Bool → Type 0) → List Entry → Option (List ℕ) → Option (List ℕ) → Type 0
-IsCutShort Due es before now = Untouched es before now ⊎ WritesSome Due es before now
+IsCutShort Due es before now = Unanswered es before now ⊎ WritesSome Due es before now
 
 -- the first of the lines were called and answered, though not all of the answers' bytes were written
 pub record StopsIn (user : List ℕ) (lines : List (Option (List ℕ))) (h : History) (es : List Entry) (before now : Option (List ℕ)) : Type 0 where
@@ -32,9 +37,9 @@ pub record StopsIn (user : List ℕ) (lines : List (Option (List ℕ))) (h : His
   pub split : lines ≡ answered ++ others
   pub some : WritesSome (Answers user answered h) es before now
 
--- a call was made, or nothing was
+-- a call was made, or none was
 abbrev pub AtMostOne : Call → List Entry → Type 0
-AtMostOne c es = (es ≡ []) ⊎ OneCall c es
+AtMostOne c es = IsUncalled es ⊎ OneCall c es
 
 -- the session made no call, or the input was closed
 abbrev pub MayClose : Bool → History → List Entry → Type 0

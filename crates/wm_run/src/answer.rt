@@ -1,12 +1,12 @@
 // What answers a line: the text of its reply or of its fault, with the line's end.
 ghost use Rattle.std.specs.Prelude.{◌≡◌, IfOk, string_bytes};
-ghost use Rattle.wm_run.specs.Answer.{entry_text, fault_answer, is_fault, is_power_down, is_refused, with_end};
+ghost use Rattle.wm_run.specs.Answer.{fault_answer, is_fault, is_power_down, is_refused, with_end};
 
 use std::alloc::Global;
 use wm_base::NoMemory;
 use wm_clwords::ClFault;
-use wm_law::{Call, Entry, Reply};
-use wm_listing::{LineFault, fault_line, said};
+use wm_law::Reply;
+use wm_listing::{LineFault, fault_line};
 
 /// Whether a reply refuses.
 pub fn is_refused(reply: &Reply) -> bool
@@ -29,8 +29,8 @@ pub fn is_fault(fault: &LineFault) -> bool
     !matches!(fault, LineFault::Cl(ClFault::Empty))
 }
 
-// A text with a line's end.
-fn ended(mut text: String) -> Result<String, NoMemory>
+/// A text with a line's end. An `Err` is want of memory.
+pub fn with_end(mut text: String) -> Result<String, NoMemory>
     ensures { IfOk result (λ line. string_bytes line ≡ with_end (string_bytes text)) }
 {
     text.push_str("\n")?;
@@ -44,18 +44,6 @@ pub fn fault_answer(alloc: Global, fault: &LineFault) -> Result<String, NoMemory
     if !is_fault(fault) {
         return Ok(String::new(alloc));
     }
-    let line = ended(fault_line(alloc, fault)?)?;
-    Ok(line)
-}
-
-/// What is said of an entry, with the line's end. An `Err` is want of memory.
-pub fn entry_line(alloc: Global, entry: &Entry) -> Result<String, NoMemory>
-    ensures { IfOk result (λ line. string_bytes line ≡ with_end (entry_text entry.now)) }
-{
-    let text = match &entry.call {
-        Call::Change { command, .. } => said(alloc, command.get(), &entry.reply)?,
-        _ => String::new(alloc),
-    };
-    let line = ended(text)?;
+    let line = with_end(fault_line(alloc, fault)?)?;
     Ok(line)
 }

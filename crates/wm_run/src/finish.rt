@@ -1,11 +1,13 @@
 // The first call, the end of the input, and the monitor's turns until no job is active.
 use crate::calls::{end_call, start_call};
 use crate::halt::Halt;
-use crate::session::Run;
+use crate::running::Run;
+use crate::seeing::see;
 use std::alloc::Global;
 use std::sync::Wait;
 use wm_base::QName;
 use wm_law::Pending;
+use wm_monitor::MONITOR;
 use wm_traits::{Clock, Keeper, Spawner};
 
 /// The active jobs whose end is waited for.
@@ -33,45 +35,51 @@ impl Awaited {
 }
 
 impl<K: Keeper> Run<K> {
-    ghost use Rattle.std.specs.Prelude.{◌≡◌, ◌+◌, ◌<◌, OnOk, OnErr, IfOk, IsErrOf, None, length, min};
-    ghost use Rattle.wm_law.specs.Pending.{active, orders_left, pending};
+    ghost use Rattle.std.specs.Prelude.{◌≡◌, ◌<◌, ◌≤◌, List, IfOk, OnOk, OnErr, IsErrOf, None, length, min};
+    ghost use Rattle.wm_law.specs.Pending.{pending};
+    ghost use Rattle.wm_law.specs.declared.call.Entry.{Entry};
     ghost use Rattle.wm_journal.specs.History.{reached};
+    ghost use Rattle.wm_floor.specs.Floor.{HasLooked, IsSame};
+    ghost use Rattle.wm_floor.specs.Ledger.{behind};
     ghost use Rattle.wm_monitor.specs.Idle.{monitor_pass};
-    ghost use Rattle.wm_monitor.specs.Journal.{HasJournalCauses};
-    ghost use Rattle.wm_monitor.specs.View.{IsClear, MonitorAdvances};
+    ghost use Rattle.wm_monitor.specs.Lists.{since};
+    ghost use Rattle.wm_shared_monitor.specs.Advance.{added, MonitorAttends};
+    ghost use Rattle.wm_shared_monitor.specs.Scene.{IsClear};
     ghost use Rattle.wm_traits.specs.Told.{IsEmpty};
     ghost use Rattle.wm_run.specs.Awaited.{jobs_left};
-    ghost use Rattle.wm_run.specs.Halt.{HasMonitorCauses, KeepsNone};
-    ghost use Rattle.wm_run.specs.Grown.{entries_between};
-    ghost use Rattle.wm_run.specs.Serving.{RunServes};
+    ghost use Rattle.wm_run.specs.Grown.{seen_since, session_of};
+    ghost use Rattle.wm_run.specs.Halt.{HasFloorCauses, HasMonitorCauses, KeepsNone};
+    ghost use Rattle.wm_run.specs.Serving.{IsRunning, IsWhole, LeftNoOrder, RunServes};
     ghost use Rattle.wm_run.specs.Session.{Closes, EndsInput, IsUncalled, OneCall, start_call};
     ghost use Rattle.wm_run.specs.Stopped.{AtMostOne, MayClose};
 
-    // Turns until one makes no entry. It answers what waits then.
+    // Turns until one makes no entry.
     fn drain<P: Spawner, C: Clock, R: Wait>(
         &mut self,
         rt: &R,
         alloc: Global,
         spawner: &mut P,
         clock: &mut C,
-    ) -> Result<Pending, Halt>
-        ensures part { MonitorAdvances P.asked P.told P.misses self.old.journal.history self.old.monitor spawner.old self.new.journal.history self.new.monitor spawner.new }
-        ensures pending { IfOk result (λ p. p ≡ pending (reached self.new.journal.history) monitor_pass) }
-        ensures orders { OnOk result (orders_left (reached self.new.journal.history) monitor_pass ≡ 0) }
+    ) -> Result<(), Halt>
+        requires ready { IsRunning self.old }
+        ensures ready { IsRunning self.new }
+        ensures floor { self.new.floor ≡ self.old.floor }
+        ensures session { self.new.session ≡ self.old.session }
+        ensures part { MonitorAttends P.asked P.told P.misses P.faults self.old.floor self.old.watch self.old.monitor spawner.old self.new.watch self.new.monitor spawner.new }
         ensures clear { OnOk result (IsClear self.new.monitor) }
         ensures causes { HasMonitorCauses result (P.faults spawner.old) (P.faults spawner.new) }
-        ensures journal { HasJournalCauses K.faults K.trail (IsErrOf result Halt.KeeperFault) (IsErrOf result Halt.LogFull) 4000000 self.old.journal self.new.journal }
+        ensures floor_causes { HasFloorCauses (IsErrOf result Halt.KeeperFault) (IsErrOf result Halt.LogFull) 4000000 self.old self.new }
     {
         'turns: for _ in rt.forever() {
-            let turned = self.turn(alloc, spawner, clock)?;
+            let turned = self.turn(rt, alloc, spawner, clock)?;
             if turned.sent == 0 {
-                return Ok(turned.pending);
+                return Ok(());
             }
         }
         unreachable!()
     }
 
-    // Turns and waits until none of these jobs is active.
+    // Turns and waits until none of these jobs is active. It answers behind how many entries.
     fn wait_for<P: Spawner, C: Clock, R: Wait>(
         &mut self,
         rt: &R,
@@ -79,48 +87,74 @@ impl<K: Keeper> Run<K> {
         spawner: &mut P,
         clock: &mut C,
         jobs: Awaited,
-    ) -> Result<(), Halt>
-        ensures part { MonitorAdvances P.asked P.told P.misses self.old.journal.history self.old.monitor spawner.old self.new.journal.history self.new.monitor spawner.new }
-        ensures none { OnOk result (jobs_left jobs (pending (reached self.new.journal.history) monitor_pass) ≡ 0) }
+    ) -> Result<u32, Halt>
+        requires ready { IsRunning self.old }
+        ensures at { IfOk result (λ at. at ≡ length self.new.watch.seen) }
+        ensures ready { IsRunning self.new }
+        ensures floor { self.new.floor ≡ self.old.floor }
+        ensures session { self.new.session ≡ self.old.session }
+        ensures part { MonitorAttends P.asked P.told P.misses P.faults self.old.floor self.old.watch self.old.monitor spawner.old self.new.watch self.new.monitor spawner.new }
+        ensures none { OnOk result (jobs_left jobs (pending (reached (behind self.new.floor.opening self.new.watch.seen)) monitor_pass) ≡ 0) }
         ensures clear { OnOk result (IsClear self.new.monitor) }
         ensures causes { HasMonitorCauses result (P.faults spawner.old) (P.faults spawner.new) }
-        ensures journal { HasJournalCauses K.faults K.trail (IsErrOf result Halt.KeeperFault) (IsErrOf result Halt.LogFull) 4000000 self.old.journal self.new.journal }
+        ensures floor_causes { HasFloorCauses (IsErrOf result Halt.KeeperFault) (IsErrOf result Halt.LogFull) 4000000 self.old self.new }
     {
         'waits: for _ in rt.forever() {
-            let pending = self.drain(rt, alloc, spawner, clock)?;
-            if jobs.left(&pending) == 0 {
-                return Ok(());
+            self.drain(rt, alloc, spawner, clock)?;
+            let waiting = self.floor.pending(rt, &mut self.watch, MONITOR);
+            if jobs.left(&waiting.pending) == 0 {
+                return Ok(waiting.at);
             }
-            self.wait(rt, alloc, spawner, clock)?;
+            self.wait(rt, alloc, spawner, clock, waiting.pending.next)?;
         }
         unreachable!()
     }
 
     /// Starts the controlling subsystem, and lets the monitor turn, which leaves no order where it makes no entry.
-    pub fn begin<P: Spawner, C: Clock>(
+    pub fn begin<P: Spawner, C: Clock, R: Wait>(
         &mut self,
+        rt: &R,
         alloc: Global,
         spawner: &mut P,
         clock: &mut C,
         ctl: &QName,
     ) -> Result<(), Halt>
-        ensures serves { RunServes P.asked P.told P.misses self.old.journal.history self.old.monitor spawner.old self.new.journal.history self.new.monitor spawner.new }
-        ensures not_begun { OnErr result (AtMostOne (start_call ctl.now) (entries_between self.old.journal.history self.new.journal.history)) }
-        ensures begun { OnOk result (OneCall (start_call ctl.now) (entries_between self.old.journal.history self.new.journal.history)) }
-        ensures orders { OnOk result (length self.new.journal.history.log ≡ length self.old.journal.history.log + 1 → orders_left (reached self.new.journal.history) monitor_pass ≡ 0) }
-        ensures quiet { OnOk result (length self.new.journal.history.log ≡ length self.old.journal.history.log + 1 → self.old.monitor.failed_kill ≡ None → IsEmpty (P.reporting spawner.old)) }
+        requires ready { IsRunning self.old }
+        ensures ready { IsRunning self.new }
+        ensures serves { RunServes P.asked P.told P.misses P.faults self.old spawner.old self.new spawner.new }
+        ensures not_begun { OnErr result (AtMostOne (start_call ctl.now) (seen_since self.old self.new)) }
+        ensures unmonitored { OnErr result (IsUncalled (seen_since self.old self.new) → self.new.watch.mine ≡ self.old.watch.mine) }
+        ensures begun { OnOk result (OneCall (start_call ctl.now) (seen_since self.old self.new)) }
+        ensures orders { OnOk result (length (added self.old.watch self.new.watch) ≡ 0 → LeftNoOrder self.new) }
+        ensures quiet { OnOk result (length (added self.old.watch self.new.watch) ≡ 0 → self.old.monitor.failed_kill ≡ None → IsEmpty (P.reporting spawner.old)) }
         ensures causes { HasMonitorCauses result (P.faults spawner.old) (P.faults spawner.new) }
-        ensures journal { HasJournalCauses K.faults K.trail (IsErrOf result Halt.KeeperFault) (IsErrOf result Halt.LogFull) (min self.new.journal.limit 4000000) self.old.journal self.new.journal }
+        ensures floor_causes { HasFloorCauses (IsErrOf result Halt.KeeperFault) (IsErrOf result Halt.LogFull) (min self.old.floor.opening.limit 4000000) self.old self.new }
         ensures none_kept { OnOk result (KeepsNone self.old.monitor.kept self.new.monitor.kept) }
-        ensures full { IsErrOf result Halt.LogFull → length self.new.journal.history.log < 4000000 → KeepsNone self.old.monitor.kept self.new.monitor.kept }
+        ensures full { IsErrOf result Halt.LogFull → length self.new.watch.seen < 4000000 → KeepsNone self.old.monitor.kept self.new.monitor.kept }
     {
         let start = start_call(alloc, ctl)?;
-        self.call(alloc, clock, start)?;
-        self.turn(alloc, spawner, clock)?;
+        self.call(rt, alloc, clock, start)?;
+        self.turn(rt, alloc, spawner, clock)?;
         Ok(())
     }
 
-    // Waits until no job is active but prestart jobs, and puts the power down.
+    // Has the session see what the monitor has seen. It makes no entry.
+    fn catch_up<R: Wait>(&mut self, rt: &R, at: u32)
+        requires ready { IsRunning self.old }
+        ensures ready { IsRunning self.new }
+        ensures floor { self.new.floor ≡ self.old.floor }
+        ensures session { HasLooked self.old.session self.new.session }
+        ensures same { IsSame self.old.session self.new.session }
+        ensures seen { at ≤ length self.new.session.seen }
+        ensures watch { self.new.watch ≡ self.old.watch }
+        ensures monitor { self.new.monitor ≡ self.old.monitor }
+    {
+        see(rt, &self.floor, &mut self.session, at);
+    }
+
+    // Waits until no job is active but prestart jobs, and puts the power down. The session sees all that the monitor has seen
+    // before it calls, and the monitor sees the call before it makes another entry: so no entry stands between what the monitor
+    // saw last and the call.
     fn end_input<P: Spawner, C: Clock, R: Wait>(
         &mut self,
         rt: &R,
@@ -128,17 +162,20 @@ impl<K: Keeper> Run<K> {
         spawner: &mut P,
         clock: &mut C,
     ) -> Result<(), Halt>
-        ensures serves { RunServes P.asked P.told P.misses self.old.journal.history self.old.monitor spawner.old self.new.journal.history self.new.monitor spawner.new }
-        ensures not_ended { OnErr result (IsUncalled (entries_between self.old.journal.history self.new.journal.history)) }
-        ensures ended { OnOk result (EndsInput self.old.journal.history (entries_between self.old.journal.history self.new.journal.history)) }
+        requires ready { IsRunning self.old }
+        ensures ready { IsRunning self.new }
+        ensures serves { RunServes P.asked P.told P.misses P.faults self.old spawner.old self.new spawner.new }
+        ensures not_ended { OnErr result (IsUncalled (seen_since self.old self.new)) }
+        ensures ended { OnOk result ((log : List Entry) → IsWhole self.new log → EndsInput (session_of self.old) (since self.old.session.seen log)) }
         ensures causes { HasMonitorCauses result (P.faults spawner.old) (P.faults spawner.new) }
-        ensures journal { HasJournalCauses K.faults K.trail (IsErrOf result Halt.KeeperFault) (IsErrOf result Halt.LogFull) (min self.new.journal.limit 4000000) self.old.journal self.new.journal }
+        ensures floor_causes { HasFloorCauses (IsErrOf result Halt.KeeperFault) (IsErrOf result Halt.LogFull) (min self.old.floor.opening.limit 4000000) self.old self.new }
         ensures none_kept { OnOk result (KeepsNone self.old.monitor.kept self.new.monitor.kept) }
-        ensures full { IsErrOf result Halt.LogFull → length self.new.journal.history.log < 4000000 → KeepsNone self.old.monitor.kept self.new.monitor.kept }
+        ensures full { IsErrOf result Halt.LogFull → length self.new.watch.seen < 4000000 → KeepsNone self.old.monitor.kept self.new.monitor.kept }
     {
-        self.wait_for(rt, alloc, spawner, clock, Awaited::Busy)?;
+        let at = self.wait_for(rt, alloc, spawner, clock, Awaited::Busy)?;
+        self.catch_up(rt, at);
         let end = end_call(alloc)?;
-        self.call(alloc, clock, end)?;
+        self.call(rt, alloc, clock, end)?;
         Ok(())
     }
 
@@ -151,13 +188,15 @@ impl<K: Keeper> Run<K> {
         clock: &mut C,
         down: bool,
     ) -> Result<(), Halt>
-        ensures serves { RunServes P.asked P.told P.misses self.old.journal.history self.old.monitor spawner.old self.new.journal.history self.new.monitor spawner.new }
-        ensures not_ended { OnErr result (IsUncalled (entries_between self.old.journal.history self.new.journal.history)) }
-        ensures ended { OnOk result (Closes down self.old.journal.history (entries_between self.old.journal.history self.new.journal.history)) }
+        requires ready { IsRunning self.old }
+        ensures ready { IsRunning self.new }
+        ensures serves { RunServes P.asked P.told P.misses P.faults self.old spawner.old self.new spawner.new }
+        ensures not_ended { OnErr result (IsUncalled (seen_since self.old self.new)) }
+        ensures ended { OnOk result ((log : List Entry) → IsWhole self.new log → Closes down (session_of self.old) (since self.old.session.seen log)) }
         ensures causes { HasMonitorCauses result (P.faults spawner.old) (P.faults spawner.new) }
-        ensures journal { HasJournalCauses K.faults K.trail (IsErrOf result Halt.KeeperFault) (IsErrOf result Halt.LogFull) (min self.new.journal.limit 4000000) self.old.journal self.new.journal }
+        ensures floor_causes { HasFloorCauses (IsErrOf result Halt.KeeperFault) (IsErrOf result Halt.LogFull) (min self.old.floor.opening.limit 4000000) self.old self.new }
         ensures none_kept { OnOk result (KeepsNone self.old.monitor.kept self.new.monitor.kept) }
-        ensures full { IsErrOf result Halt.LogFull → length self.new.journal.history.log < 4000000 → KeepsNone self.old.monitor.kept self.new.monitor.kept }
+        ensures full { IsErrOf result Halt.LogFull → length self.new.watch.seen < 4000000 → KeepsNone self.old.monitor.kept self.new.monitor.kept }
     {
         if down {
             return Ok(());
@@ -175,15 +214,16 @@ impl<K: Keeper> Run<K> {
         clock: &mut C,
         down: bool,
     ) -> Result<(), Halt>
-        ensures serves { RunServes P.asked P.told P.misses self.old.journal.history self.old.monitor spawner.old self.new.journal.history self.new.monitor spawner.new }
-        ensures not_ended { OnErr result (MayClose down self.old.journal.history (entries_between self.old.journal.history self.new.journal.history)) }
-        ensures ended { OnOk result (Closes down self.old.journal.history (entries_between self.old.journal.history self.new.journal.history)) }
-        ensures idle { OnOk result (active (reached self.new.journal.history) ≡ 0) }
+        requires ready { IsRunning self.old }
+        ensures ready { IsRunning self.new }
+        ensures serves { RunServes P.asked P.told P.misses P.faults self.old spawner.old self.new spawner.new }
+        ensures not_ended { OnErr result ((log : List Entry) → IsWhole self.new log → MayClose down (session_of self.old) (since self.old.session.seen log)) }
+        ensures ended { OnOk result ((log : List Entry) → IsWhole self.new log → Closes down (session_of self.old) (since self.old.session.seen log)) }
         ensures clear { OnOk result (IsClear self.new.monitor) }
         ensures causes { HasMonitorCauses result (P.faults spawner.old) (P.faults spawner.new) }
-        ensures journal { HasJournalCauses K.faults K.trail (IsErrOf result Halt.KeeperFault) (IsErrOf result Halt.LogFull) (min self.new.journal.limit 4000000) self.old.journal self.new.journal }
+        ensures floor_causes { HasFloorCauses (IsErrOf result Halt.KeeperFault) (IsErrOf result Halt.LogFull) (min self.old.floor.opening.limit 4000000) self.old self.new }
         ensures none_kept { OnOk result (KeepsNone self.old.monitor.kept self.new.monitor.kept) }
-        ensures full { IsErrOf result Halt.LogFull → length self.new.journal.history.log < 4000000 → KeepsNone self.old.monitor.kept self.new.monitor.kept }
+        ensures full { IsErrOf result Halt.LogFull → length self.new.watch.seen < 4000000 → KeepsNone self.old.monitor.kept self.new.monitor.kept }
     {
         self.close_input(rt, alloc, spawner, clock, down)?;
         self.wait_for(rt, alloc, spawner, clock, Awaited::Active)?;

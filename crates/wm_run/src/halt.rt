@@ -3,6 +3,7 @@ ghost use Rattle.std.specs.Prelude.{◌≡◌};
 ghost use Rattle.wm_run.specs.declared.halt.Halt.TheVariants.{NoMemory};
 
 use std::alloc::{AllocError, AllocFailed};
+use wm_journal::CallFault;
 use wm_monitor::MonitorFault;
 
 /// Why a run ends early.
@@ -36,6 +37,20 @@ impl<T: Drop> From<AllocFailed<T>> for Halt {
 
     fn from(_e: AllocFailed<T>) -> Halt {
         Halt::NoMemory
+    }
+}
+
+impl From<CallFault> for Halt {
+    ghost use Rattle.wm_run.specs.Halt.{halt_of_call};
+
+    ghost from_gives = { λ fault e. e ≡ halt_of_call fault };
+
+    fn from(fault: CallFault) -> Halt {
+        match fault {
+            CallFault::KeeperFault => Halt::KeeperFault,
+            CallFault::LogFull(_) => Halt::LogFull,
+            CallFault::NoMemory => Halt::NoMemory,
+        }
     }
 }
 

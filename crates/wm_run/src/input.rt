@@ -9,7 +9,7 @@ ghost use Rattle.wm_run.specs.Taking.{StopsReading, TakesInput};
 
 use crate::answered::Answered;
 use crate::halt::Halt;
-use crate::session::Run;
+use crate::running::Run;
 use std::alloc::Global;
 use std::sync::Wait;
 use wm_base::{Name, NoMemory};
@@ -70,19 +70,19 @@ impl<K: Keeper> Run<K> {
     ghost use Rattle.std.specs.Prelude.{◌≡◌, ◌≤◌, ◌<◌, ◌++◌, [], List, ℕ, false, Some, IfOk, OnOk, OnErr, IsErrOf, length, drop, min};
     ghost use Rattle.std.specs.Io.KnownBytes.{IsAtEnd};
     ghost use Rattle.wm_clwords.specs.Part.{lines_from, ended_lines};
-    ghost use Rattle.wm_run.specs.Halt.{HasCauses, HasInputCauses, KeepsNone};
-    ghost use Rattle.wm_monitor.specs.Journal.{HasJournalCauses};
+    ghost use Rattle.wm_run.specs.Halt.{HasCauses, HasFloorCauses, HasInputCauses, KeepsNone};
     ghost use Rattle.wm_run.specs.Down.{is_down};
     ghost use Rattle.wm_run.specs.Outcome.{LinesCame};
-    ghost use Rattle.wm_run.specs.Grown.{entries_between};
-    ghost use Rattle.wm_run.specs.Serving.{RunServes};
+    ghost use Rattle.wm_run.specs.Grown.{seen_since, session_of};
+    ghost use Rattle.wm_run.specs.Serving.{IsRunning, RunServes};
     ghost use Rattle.wm_run.specs.Session.{Answers, AnsweredBy};
     ghost use Rattle.wm_run.specs.Stopped.{StopsIn};
     ghost use Rattle.wm_run.specs.Taking.{TakesPiece, TakesUpTo, TakesInput};
 
     // Answers the line that a joiner has.
-    fn answer_joined<O: Sink, P: Spawner, C: Clock>(
+    fn answer_joined<O: Sink, P: Spawner, C: Clock, R: Wait>(
         &mut self,
+        rt: &R,
         alloc: Global,
         out: &mut O,
         spawner: &mut P,
@@ -91,23 +91,26 @@ impl<K: Keeper> Run<K> {
         line: LogicalLine,
         joiner: &Joiner,
     ) -> Result<Answered, Halt>
-        ensures serves { RunServes P.asked P.told P.misses self.old.journal.history self.old.monitor spawner.old self.new.journal.history self.new.monitor spawner.new }
-        ensures answered { IfOk result (λ r. AnsweredBy (Answers user.now (ended_lines (Some line) joiner.now) self.old.journal.history)
-            (entries_between self.old.journal.history self.new.journal.history) (O.written out.old) (O.written out.new) r.faulty) }
-        ensures down { IfOk result (λ r. r.down ≡ is_down (entries_between self.old.journal.history self.new.journal.history)) }
-        ensures stopped { OnErr result (StopsIn user.now (ended_lines (Some line) joiner.now) self.old.journal.history
-            (entries_between self.old.journal.history self.new.journal.history) (O.written out.old) (O.written out.new)) }
+        requires ready { IsRunning self.old }
+        ensures ready { IsRunning self.new }
+        ensures serves { RunServes P.asked P.told P.misses P.faults self.old spawner.old self.new spawner.new }
+        ensures answered { IfOk result (λ r. AnsweredBy (Answers user.now (ended_lines (Some line) joiner.now) (session_of self.old))
+            (seen_since self.old self.new) (O.written out.old) (O.written out.new) r.faulty) }
+        ensures down { IfOk result (λ r. r.down ≡ is_down (seen_since self.old self.new)) }
+        ensures stopped { OnErr result (StopsIn user.now (ended_lines (Some line) joiner.now) (session_of self.old)
+            (seen_since self.old self.new) (O.written out.old) (O.written out.new)) }
         ensures causes { HasCauses result (O.faults out.old) (O.faults out.new) (P.faults spawner.old) (P.faults spawner.new) }
-        ensures journal { HasJournalCauses K.faults K.trail (IsErrOf result Halt.KeeperFault) (IsErrOf result Halt.LogFull) (min self.new.journal.limit 4000000) self.old.journal self.new.journal }
+        ensures floor_causes { HasFloorCauses (IsErrOf result Halt.KeeperFault) (IsErrOf result Halt.LogFull) (min self.old.floor.opening.limit 4000000) self.old self.new }
         ensures none_kept { OnOk result (KeepsNone self.old.monitor.kept self.new.monitor.kept) }
-        ensures full { IsErrOf result Halt.LogFull → length self.new.journal.history.log < 4000000 → KeepsNone self.old.monitor.kept self.new.monitor.kept }
+        ensures full { IsErrOf result Halt.LogFull → length self.new.watch.seen < 4000000 → KeepsNone self.old.monitor.kept self.new.monitor.kept }
     {
-        self.answer(alloc, out, spawner, clock, user, text_of(line, joiner))
+        self.answer(rt, alloc, out, spawner, clock, user, text_of(line, joiner))
     }
 
     // Takes bytes up to the end of a line, which is answered, or all of them. It answers how many it took.
-    fn take_line<O: Sink, P: Spawner, C: Clock>(
+    fn take_line<O: Sink, P: Spawner, C: Clock, R: Wait>(
         &mut self,
+        rt: &R,
         alloc: Global,
         out: &mut O,
         spawner: &mut P,
@@ -116,30 +119,33 @@ impl<K: Keeper> Run<K> {
         joiner: &mut Joiner,
         piece: &[u8],
     ) -> Result<(usize, Answered), Halt>
-        ensures serves { RunServes P.asked P.told P.misses self.old.journal.history self.old.monitor spawner.old self.new.journal.history self.new.monitor spawner.new }
-        ensures taken { IfOk result (λ r. TakesPiece user.now joiner.old piece.now joiner.new (drop r.0 piece.now) self.old.journal.history
-            (entries_between self.old.journal.history self.new.journal.history) (O.written out.old) (O.written out.new) r.1.faulty) }
-        ensures down { IfOk result (λ r. r.1.down ≡ is_down (entries_between self.old.journal.history self.new.journal.history)) }
+        requires ready { IsRunning self.old }
+        ensures ready { IsRunning self.new }
+        ensures serves { RunServes P.asked P.told P.misses P.faults self.old spawner.old self.new spawner.new }
+        ensures taken { IfOk result (λ r. TakesPiece user.now joiner.old piece.now joiner.new (drop r.0 piece.now) (session_of self.old)
+            (seen_since self.old self.new) (O.written out.old) (O.written out.new) r.1.faulty) }
+        ensures down { IfOk result (λ r. r.1.down ≡ is_down (seen_since self.old self.new)) }
         ensures within { IfOk result (λ r. r.0 ≤ length piece.now) }
         ensures progress { IfOk result (λ r. 0 < length piece.now → 0 < r.0) }
-        ensures stopped { OnErr result ((more : List ℕ) → StopsIn user.now (lines_from joiner.old (piece.now ++ more)) self.old.journal.history
-            (entries_between self.old.journal.history self.new.journal.history) (O.written out.old) (O.written out.new)) }
+        ensures stopped { OnErr result ((more : List ℕ) → StopsIn user.now (lines_from joiner.old (piece.now ++ more)) (session_of self.old)
+            (seen_since self.old self.new) (O.written out.old) (O.written out.new)) }
         ensures causes { HasCauses result (O.faults out.old) (O.faults out.new) (P.faults spawner.old) (P.faults spawner.new) }
-        ensures journal { HasJournalCauses K.faults K.trail (IsErrOf result Halt.KeeperFault) (IsErrOf result Halt.LogFull) (min self.new.journal.limit 4000000) self.old.journal self.new.journal }
+        ensures floor_causes { HasFloorCauses (IsErrOf result Halt.KeeperFault) (IsErrOf result Halt.LogFull) (min self.old.floor.opening.limit 4000000) self.old self.new }
         ensures none_kept { OnOk result (KeepsNone self.old.monitor.kept self.new.monitor.kept) }
-        ensures full { IsErrOf result Halt.LogFull → length self.new.journal.history.log < 4000000 → KeepsNone self.old.monitor.kept self.new.monitor.kept }
+        ensures full { IsErrOf result Halt.LogFull → length self.new.watch.seen < 4000000 → KeepsNone self.old.monitor.kept self.new.monitor.kept }
     {
         let (taken, ended) = joiner.feed(piece);
         let Some(line) = ended else {
             return Ok((taken, Answered::uncalled(false)));
         };
-        let answered = self.answer_joined(alloc, out, spawner, clock, user, line, joiner)?;
+        let answered = self.answer_joined(rt, alloc, out, spawner, clock, user, line, joiner)?;
         Ok((taken, answered))
     }
 
     // Takes the bytes of a piece, line by line, up to the line that puts the power down.
-    fn take_piece<O: Sink, P: Spawner, C: Clock>(
+    fn take_piece<O: Sink, P: Spawner, C: Clock, R: Wait>(
         &mut self,
+        rt: &R,
         alloc: Global,
         out: &mut O,
         spawner: &mut P,
@@ -148,21 +154,24 @@ impl<K: Keeper> Run<K> {
         joiner: &mut Joiner,
         piece: &[u8],
     ) -> Result<Answered, Halt>
-        ensures serves { RunServes P.asked P.told P.misses self.old.journal.history self.old.monitor spawner.old self.new.journal.history self.new.monitor spawner.new }
-        ensures taken { IfOk result (λ r. TakesUpTo user.now r.down joiner.old piece.now joiner.new self.old.journal.history
-            (entries_between self.old.journal.history self.new.journal.history) (O.written out.old) (O.written out.new) r.faulty) }
-        ensures down { IfOk result (λ r. r.down ≡ is_down (entries_between self.old.journal.history self.new.journal.history)) }
-        ensures stopped { OnErr result ((more : List ℕ) → StopsIn user.now (lines_from joiner.old (piece.now ++ more)) self.old.journal.history
-            (entries_between self.old.journal.history self.new.journal.history) (O.written out.old) (O.written out.new)) }
+        requires ready { IsRunning self.old }
+        ensures ready { IsRunning self.new }
+        ensures serves { RunServes P.asked P.told P.misses P.faults self.old spawner.old self.new spawner.new }
+        ensures taken { IfOk result (λ r. TakesUpTo user.now r.down joiner.old piece.now joiner.new (session_of self.old)
+            (seen_since self.old self.new) (O.written out.old) (O.written out.new) r.faulty) }
+        ensures down { IfOk result (λ r. r.down ≡ is_down (seen_since self.old self.new)) }
+        ensures stopped { OnErr result ((more : List ℕ) → StopsIn user.now (lines_from joiner.old (piece.now ++ more)) (session_of self.old)
+            (seen_since self.old self.new) (O.written out.old) (O.written out.new)) }
         ensures causes { HasCauses result (O.faults out.old) (O.faults out.new) (P.faults spawner.old) (P.faults spawner.new) }
-        ensures journal { HasJournalCauses K.faults K.trail (IsErrOf result Halt.KeeperFault) (IsErrOf result Halt.LogFull) (min self.new.journal.limit 4000000) self.old.journal self.new.journal }
+        ensures floor_causes { HasFloorCauses (IsErrOf result Halt.KeeperFault) (IsErrOf result Halt.LogFull) (min self.old.floor.opening.limit 4000000) self.old self.new }
         ensures none_kept { OnOk result (KeepsNone self.old.monitor.kept self.new.monitor.kept) }
-        ensures full { IsErrOf result Halt.LogFull → length self.new.journal.history.log < 4000000 → KeepsNone self.old.monitor.kept self.new.monitor.kept }
+        ensures full { IsErrOf result Halt.LogFull → length self.new.watch.seen < 4000000 → KeepsNone self.old.monitor.kept self.new.monitor.kept }
     {
         let mut faulty = false;
         let mut at = 0;
         'lines: while at < piece.len() {
             let (taken, line) = self.take_line(
+                rt,
                 alloc,
                 out,
                 spawner,
@@ -182,8 +191,9 @@ impl<K: Keeper> Run<K> {
     }
 
     // Answers the line that ends with the input, where there is one.
-    fn take_rest<O: Sink, P: Spawner, C: Clock>(
+    fn take_rest<O: Sink, P: Spawner, C: Clock, R: Wait>(
         &mut self,
+        rt: &R,
         alloc: Global,
         out: &mut O,
         spawner: &mut P,
@@ -191,21 +201,23 @@ impl<K: Keeper> Run<K> {
         user: &Name,
         joiner: &mut Joiner,
     ) -> Result<Answered, Halt>
-        ensures serves { RunServes P.asked P.told P.misses self.old.journal.history self.old.monitor spawner.old self.new.journal.history self.new.monitor spawner.new }
-        ensures answered { IfOk result (λ r. AnsweredBy (Answers user.now (lines_from joiner.old []) self.old.journal.history)
-            (entries_between self.old.journal.history self.new.journal.history) (O.written out.old) (O.written out.new) r.faulty) }
-        ensures down { IfOk result (λ r. r.down ≡ is_down (entries_between self.old.journal.history self.new.journal.history)) }
-        ensures stopped { OnErr result (StopsIn user.now (lines_from joiner.old []) self.old.journal.history
-            (entries_between self.old.journal.history self.new.journal.history) (O.written out.old) (O.written out.new)) }
+        requires ready { IsRunning self.old }
+        ensures ready { IsRunning self.new }
+        ensures serves { RunServes P.asked P.told P.misses P.faults self.old spawner.old self.new spawner.new }
+        ensures answered { IfOk result (λ r. AnsweredBy (Answers user.now (lines_from joiner.old []) (session_of self.old))
+            (seen_since self.old self.new) (O.written out.old) (O.written out.new) r.faulty) }
+        ensures down { IfOk result (λ r. r.down ≡ is_down (seen_since self.old self.new)) }
+        ensures stopped { OnErr result (StopsIn user.now (lines_from joiner.old []) (session_of self.old)
+            (seen_since self.old self.new) (O.written out.old) (O.written out.new)) }
         ensures causes { HasCauses result (O.faults out.old) (O.faults out.new) (P.faults spawner.old) (P.faults spawner.new) }
-        ensures journal { HasJournalCauses K.faults K.trail (IsErrOf result Halt.KeeperFault) (IsErrOf result Halt.LogFull) (min self.new.journal.limit 4000000) self.old.journal self.new.journal }
+        ensures floor_causes { HasFloorCauses (IsErrOf result Halt.KeeperFault) (IsErrOf result Halt.LogFull) (min self.old.floor.opening.limit 4000000) self.old self.new }
         ensures none_kept { OnOk result (KeepsNone self.old.monitor.kept self.new.monitor.kept) }
-        ensures full { IsErrOf result Halt.LogFull → length self.new.journal.history.log < 4000000 → KeepsNone self.old.monitor.kept self.new.monitor.kept }
+        ensures full { IsErrOf result Halt.LogFull → length self.new.watch.seen < 4000000 → KeepsNone self.old.monitor.kept self.new.monitor.kept }
     {
         let Some(line) = joiner.end() else {
             return Ok(Answered::uncalled(false));
         };
-        self.answer_joined(alloc, out, spawner, clock, user, line, joiner)
+        self.answer_joined(rt, alloc, out, spawner, clock, user, line, joiner)
     }
 
     // Takes the input by pieces, up to the line that puts the power down, and answers its lines.
@@ -220,16 +232,18 @@ impl<K: Keeper> Run<K> {
         user: &Name,
         piece: &mut [u8],
     ) -> Result<Answered, Halt>
-        requires { length piece.old ≡ 65536 }
-        ensures serves { RunServes P.asked P.told P.misses self.old.journal.history self.old.monitor spawner.old self.new.journal.history self.new.monitor spawner.new }
-        ensures input { TakesInput (I.left input.old) (I.left input.new) (λ bytes. LinesCame user.now bytes result self.old.journal.history
-            (entries_between self.old.journal.history self.new.journal.history) (O.written out.old) (O.written out.new)) }
-        ensures down { IfOk result (λ r. r.down ≡ is_down (entries_between self.old.journal.history self.new.journal.history)) }
+        requires piece { length piece.old ≡ 65536 }
+        requires ready { IsRunning self.old }
+        ensures ready { IsRunning self.new }
+        ensures serves { RunServes P.asked P.told P.misses P.faults self.old spawner.old self.new spawner.new }
+        ensures input { TakesInput (I.left input.old) (I.left input.new) (λ bytes. LinesCame user.now bytes result (session_of self.old)
+            (seen_since self.old self.new) (O.written out.old) (O.written out.new)) }
+        ensures down { IfOk result (λ r. r.down ≡ is_down (seen_since self.old self.new)) }
         ensures end { IfOk result (λ r. r.down ≡ false → IsAtEnd (I.left input.new)) }
         ensures causes { HasInputCauses result (I.faults input.old) (I.faults input.new) (O.faults out.old) (O.faults out.new) (P.faults spawner.old) (P.faults spawner.new) }
-        ensures journal { HasJournalCauses K.faults K.trail (IsErrOf result Halt.KeeperFault) (IsErrOf result Halt.LogFull) (min self.new.journal.limit 4000000) self.old.journal self.new.journal }
+        ensures floor_causes { HasFloorCauses (IsErrOf result Halt.KeeperFault) (IsErrOf result Halt.LogFull) (min self.old.floor.opening.limit 4000000) self.old self.new }
         ensures none_kept { OnOk result (KeepsNone self.old.monitor.kept self.new.monitor.kept) }
-        ensures full { IsErrOf result Halt.LogFull → length self.new.journal.history.log < 4000000 → KeepsNone self.old.monitor.kept self.new.monitor.kept }
+        ensures full { IsErrOf result Halt.LogFull → length self.new.watch.seen < 4000000 → KeepsNone self.old.monitor.kept self.new.monitor.kept }
     {
         let mut joiner = Joiner::new(alloc)?;
         let mut faulty = false;
@@ -237,10 +251,10 @@ impl<K: Keeper> Run<K> {
         'reads: for _ in rt.forever() {
             let n = read(input, piece, total)?;
             if n == 0 {
-                let last = self.take_rest(alloc, out, spawner, clock, user, &mut joiner)?;
+                let last = self.take_rest(rt, alloc, out, spawner, clock, user, &mut joiner)?;
                 return Ok(last.behind(faulty));
             }
-            let some = self.take_piece(alloc, out, spawner, clock, user, &mut joiner, &piece[..n])?;
+            let some = self.take_piece(rt, alloc, out, spawner, clock, user, &mut joiner, &piece[..n])?;
             let answered = some.behind(faulty);
             if answered.down {
                 return Ok(answered);
@@ -262,15 +276,17 @@ impl<K: Keeper> Run<K> {
         clock: &mut C,
         user: &Name,
     ) -> Result<Answered, Halt>
-        ensures serves { RunServes P.asked P.told P.misses self.old.journal.history self.old.monitor spawner.old self.new.journal.history self.new.monitor spawner.new }
-        ensures input { TakesInput (I.left input.old) (I.left input.new) (λ bytes. LinesCame user.now bytes result self.old.journal.history
-            (entries_between self.old.journal.history self.new.journal.history) (O.written out.old) (O.written out.new)) }
-        ensures down { IfOk result (λ r. r.down ≡ is_down (entries_between self.old.journal.history self.new.journal.history)) }
+        requires ready { IsRunning self.old }
+        ensures ready { IsRunning self.new }
+        ensures serves { RunServes P.asked P.told P.misses P.faults self.old spawner.old self.new spawner.new }
+        ensures input { TakesInput (I.left input.old) (I.left input.new) (λ bytes. LinesCame user.now bytes result (session_of self.old)
+            (seen_since self.old self.new) (O.written out.old) (O.written out.new)) }
+        ensures down { IfOk result (λ r. r.down ≡ is_down (seen_since self.old self.new)) }
         ensures end { IfOk result (λ r. r.down ≡ false → IsAtEnd (I.left input.new)) }
         ensures causes { HasInputCauses result (I.faults input.old) (I.faults input.new) (O.faults out.old) (O.faults out.new) (P.faults spawner.old) (P.faults spawner.new) }
-        ensures journal { HasJournalCauses K.faults K.trail (IsErrOf result Halt.KeeperFault) (IsErrOf result Halt.LogFull) (min self.new.journal.limit 4000000) self.old.journal self.new.journal }
+        ensures floor_causes { HasFloorCauses (IsErrOf result Halt.KeeperFault) (IsErrOf result Halt.LogFull) (min self.old.floor.opening.limit 4000000) self.old self.new }
         ensures none_kept { OnOk result (KeepsNone self.old.monitor.kept self.new.monitor.kept) }
-        ensures full { IsErrOf result Halt.LogFull → length self.new.journal.history.log < 4000000 → KeepsNone self.old.monitor.kept self.new.monitor.kept }
+        ensures full { IsErrOf result Halt.LogFull → length self.new.watch.seen < 4000000 → KeepsNone self.old.monitor.kept self.new.monitor.kept }
     {
         let mut piece = piece_buffer(alloc)?;
         self.take_pieces(rt, alloc, input, out, spawner, clock, user, &mut piece)

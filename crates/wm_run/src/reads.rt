@@ -1,22 +1,18 @@
-// What a reading command is answered: a listing of the state that the history reaches, in one write.
+// What a reading command is answered: a listing of the state that the history then reaches, in one write.
 ghost use Rattle.std.specs.Prelude.{◌≡◌};
 ghost use Rattle.wm_run.specs.Reads.{is_log, is_no};
 
 use crate::halt::Halt;
-use crate::session::{Run, put};
+use crate::log_bytes::log_bytes;
+use crate::running::Run;
+use crate::session::put;
 use std::alloc::Global;
+use std::sync::Wait;
 use wm_base::NoMemory;
 use wm_law::Ask;
-use wm_listing::{listing, log_listing};
+use wm_listing::listing;
 use wm_traits::{Keeper, Sink};
 use wm_views::Shown;
-
-// Whether the history itself is asked for.
-fn is_log(ask: &Ask) -> bool
-    ensures { result ≡ is_log ask.now }
-{
-    matches!(ask, Ask::Log)
-}
 
 // Whether what is shown is a refusal.
 fn is_no(shown: &Shown) -> bool
@@ -26,30 +22,95 @@ fn is_no(shown: &Shown) -> bool
 }
 
 impl<K: Keeper> Run<K> {
-    ghost use Rattle.std.specs.Prelude.{◌≡◌, ◌≤◌, [], IfOk, OnErr, IsErrOf};
+    ghost use Rattle.std.specs.Prelude.{◌≡◌, ◌≤◌, false, IfOk, OnErr, IsErrOf};
+    ghost use Rattle.wm_floor.specs.Floor.{HasLooked, IsSame};
     ghost use Rattle.wm_traits.specs.Cause.{raised};
+    ghost use Rattle.wm_run.specs.Grown.{seen_since, session_of};
     ghost use Rattle.wm_run.specs.Reads.{read_text, is_read_refused};
+    ghost use Rattle.wm_run.specs.Serving.{IsRunning};
     ghost use Rattle.wm_run.specs.Session.{AnsweredBy, Reads};
     ghost use Rattle.wm_run.specs.Stopped.{IsCutShort};
 
-    // The bytes of a listing, and whether it is the line of a refusal. An `Err` is want of memory.
-    fn listed(&self, alloc: Global, ask: &Ask) -> Result<(Vec<u8>, bool), NoMemory>
-        ensures text { IfOk result (λ r. r.0.items ≡ read_text ask.now self.now.journal.history) }
-        ensures refused { IfOk result (λ r. r.1 ≡ is_read_refused ask.now self.now.journal.history) }
+    // The bytes of the history's listing. An `Err` is want of memory.
+    fn listed_log<R: Wait>(&mut self, rt: &R, alloc: Global) -> Result<(Vec<u8>, bool), NoMemory>
+        requires ready { IsRunning self.old }
+        ensures ready { IsRunning self.new }
+        ensures floor { self.new.floor ≡ self.old.floor }
+        ensures session { HasLooked self.old.session self.new.session }
+        ensures same { IsSame self.old.session self.new.session }
+        ensures watch { self.new.watch ≡ self.old.watch }
+        ensures monitor { self.new.monitor ≡ self.old.monitor }
+        ensures text { IfOk result (λ r. r.0.items ≡ read_text Ask.Log (session_of self.new)) }
+        ensures refused { IfOk result (λ r. r.1 ≡ is_read_refused Ask.Log (session_of self.new)) }
     {
-        if is_log(ask) {
-            let bytes = log_listing(alloc, self.journal.log())?;
-            return Ok((bytes, false));
+        let log = self.floor.log(rt, alloc, &mut self.session)?;
+        let bytes = log_bytes(alloc, &log)?;
+        Ok((bytes, false))
+    }
+
+    // The bytes of a listing of the state, and whether it is the line of a refusal. An `Err` is want of memory.
+    fn listed_state<R: Wait>(
+        &mut self,
+        rt: &R,
+        alloc: Global,
+        ask: &Ask,
+    ) -> Result<(Vec<u8>, bool), NoMemory>
+        requires ready { IsRunning self.old }
+        requires state { is_log ask.now ≡ false }
+        ensures ready { IsRunning self.new }
+        ensures floor { self.new.floor ≡ self.old.floor }
+        ensures session { HasLooked self.old.session self.new.session }
+        ensures same { IsSame self.old.session self.new.session }
+        ensures watch { self.new.watch ≡ self.old.watch }
+        ensures monitor { self.new.monitor ≡ self.old.monitor }
+        ensures text { IfOk result (λ r. r.0.items ≡ read_text ask.now (session_of self.new)) }
+        ensures refused { IfOk result (λ r. r.1 ≡ is_read_refused ask.now (session_of self.new)) }
+    {
+        let view = self.floor.read(rt, alloc, &mut self.session, ask)?;
+        let bytes = listing(alloc, &view.shown)?;
+        Ok((bytes, is_no(&view.shown)))
+    }
+
+    // The bytes of a listing, and whether it is the line of a refusal. An `Err` is want of memory.
+    fn listed<R: Wait>(
+        &mut self,
+        rt: &R,
+        alloc: Global,
+        ask: &Ask,
+    ) -> Result<(Vec<u8>, bool), NoMemory>
+        requires ready { IsRunning self.old }
+        ensures ready { IsRunning self.new }
+        ensures floor { self.new.floor ≡ self.old.floor }
+        ensures session { HasLooked self.old.session self.new.session }
+        ensures same { IsSame self.old.session self.new.session }
+        ensures watch { self.new.watch ≡ self.old.watch }
+        ensures monitor { self.new.monitor ≡ self.old.monitor }
+        ensures text { IfOk result (λ r. r.0.items ≡ read_text ask.now (session_of self.new)) }
+        ensures refused { IfOk result (λ r. r.1 ≡ is_read_refused ask.now (session_of self.new)) }
+    {
+        match ask {
+            Ask::Log => self.listed_log(rt, alloc),
+            _ => self.listed_state(rt, alloc, ask),
         }
-        let shown = self.journal.view(alloc, ask)?;
-        let bytes = listing(alloc, &shown)?;
-        Ok((bytes, is_no(&shown)))
     }
 
     /// Answers a reading command, and tells whether it is refused. No entry is made.
-    pub fn list<O: Sink>(&self, alloc: Global, out: &mut O, ask: &Ask) -> Result<bool, Halt>
-        ensures answered { IfOk result (λ refused. AnsweredBy (Reads ask.now self.now.journal.history) [] (O.written out.old) (O.written out.new) refused) }
-        ensures stopped { OnErr result (IsCutShort (Reads ask.now self.now.journal.history) [] (O.written out.old) (O.written out.new)) }
+    pub fn list<O: Sink, R: Wait>(
+        &mut self,
+        rt: &R,
+        alloc: Global,
+        out: &mut O,
+        ask: &Ask,
+    ) -> Result<bool, Halt>
+        requires ready { IsRunning self.old }
+        ensures ready { IsRunning self.new }
+        ensures floor { self.new.floor ≡ self.old.floor }
+        ensures session { HasLooked self.old.session self.new.session }
+        ensures same { IsSame self.old.session self.new.session }
+        ensures watch { self.new.watch ≡ self.old.watch }
+        ensures monitor { self.new.monitor ≡ self.old.monitor }
+        ensures answered { IfOk result (λ refused. AnsweredBy (Reads ask.now (session_of self.old)) (seen_since self.old self.new) (O.written out.old) (O.written out.new) refused) }
+        ensures stopped { OnErr result (IsCutShort (Reads ask.now (session_of self.old)) (seen_since self.old self.new) (O.written out.old) (O.written out.new)) }
         ensures faults { O.faults out.old ≤ O.faults out.new }
         ensures write_fault { IsErrOf result Halt.WriteFault → raised (O.faults out.old) ≤ O.faults out.new }
         ensures no_wait { IsErrOf result Halt.WaitFault → ⊥ }
@@ -58,7 +119,7 @@ impl<K: Keeper> Run<K> {
         ensures no_keeper { IsErrOf result Halt.KeeperFault → ⊥ }
         ensures no_log { IsErrOf result Halt.LogFull → ⊥ }
     {
-        let (bytes, refused) = self.listed(alloc, ask)?;
+        let (bytes, refused) = self.listed(rt, alloc, ask)?;
         put(out, &bytes)?;
         Ok(refused)
     }

@@ -1,33 +1,31 @@
 // The session's calls and answers, and the monitor's turns between them.
-ghost use Rattle.std.specs.Prelude.{◌≡◌, ◌≤◌, ℕ, Err, OnOk, OnErr, IsErrOf, take};
+ghost use Rattle.std.specs.Prelude.{◌≡◌, ◌≤◌, ℕ, Err, IfOk, OnOk, OnErr, IsErrOf, take};
+ghost use Rattle.wm_law.specs.declared.command.Command.{Command};
+ghost use Rattle.wm_listing.specs.Said.{said_text};
 ghost use Rattle.wm_traits.specs.Told.{Grows};
 ghost use Rattle.wm_traits.specs.Cause.{raised};
+ghost use Rattle.wm_run.specs.Answer.{is_power_down, is_refused, with_end};
+ghost use Rattle.wm_run.specs.Sayings.{AreOf};
 
-use crate::answer::{entry_line, fault_answer, is_fault, is_power_down, is_refused};
+use crate::answer::{fault_answer, is_fault, is_power_down, is_refused, with_end};
 use crate::answered::Answered;
 use crate::calls::user_call;
 use crate::halt::Halt;
 use crate::parse::parse_line;
 use crate::parsed::Parsed;
-use crate::passes::Passes;
+use crate::running::Run;
+use crate::saying::{line_of, sayings_of};
+use crate::sayings::Sayings;
+use crate::seeing::see;
 use crate::write::write_all;
 use std::alloc::Global;
 use std::sync::Wait;
-use wm_base::Name;
+use wm_base::{Moment, Name};
 use wm_clwords::ClFault;
-use wm_journal::Journal;
-use wm_law::{Call, Command};
+use wm_law::{Call, Command, Reply};
 use wm_listing::LineFault;
-use wm_monitor::{MONITOR, Monitor, Turned, enter};
+use wm_shared_monitor::Turned;
 use wm_traits::{Clock, Keeper, Sink, Spawner};
-
-/// The journal of a run, its passes, and the monitor.
-#[derive(Drop)]
-pub struct Run<K: Keeper> {
-    pub journal: Journal<K>,
-    pub passes: Passes,
-    pub monitor: Monitor,
-}
 
 // Writes, and tells a fault as the run's.
 pub(crate) fn put<O: Sink>(out: &mut O, bytes: &[u8]) -> Result<(), Halt>
@@ -43,134 +41,171 @@ pub(crate) fn put<O: Sink>(out: &mut O, bytes: &[u8]) -> Result<(), Halt>
     }
 }
 
+// Writes what is said of a reply to a command, and answers whether it is a refusal, and whether the power goes down.
+fn say<O: Sink>(
+    alloc: Global,
+    out: &mut O,
+    sayings: &Sayings,
+    reply: &Reply,
+) -> Result<Answered, Halt>
+    ensures ok { (c : Command) → AreOf c sayings.now → OnOk result (Grows (O.written out.old) (O.written out.new) (with_end (said_text c reply.now))) }
+    ensures faulty { IfOk result (λ r. r.faulty ≡ is_refused reply.now) }
+    ensures down { IfOk result (λ r. r.down ≡ is_power_down reply.now) }
+    ensures some { (c : Command) → AreOf c sayings.now → OnErr result ((n : ℕ) × Grows (O.written out.old) (O.written out.new) (take n (with_end (said_text c reply.now)))) }
+    ensures faults { O.faults out.old ≤ O.faults out.new }
+    ensures write_fault { IsErrOf result Halt.WriteFault → raised (O.faults out.old) ≤ O.faults out.new }
+    ensures no_wait { IsErrOf result Halt.WaitFault → ⊥ }
+    ensures no_read { IsErrOf result Halt.ReadFault → ⊥ }
+    ensures not_full { IsErrOf result Halt.InputFull → ⊥ }
+    ensures no_keeper { IsErrOf result Halt.KeeperFault → ⊥ }
+    ensures no_log { IsErrOf result Halt.LogFull → ⊥ }
+{
+    let line = with_end(line_of(alloc, sayings, reply)?)?;
+    put(out, line.as_bytes())?;
+    Ok(Answered {
+        faulty: is_refused(reply),
+        down: is_power_down(reply),
+    })
+}
+
 impl<K: Keeper> Run<K> {
-    ghost use Rattle.std.specs.Prelude.{◌≡◌, ◌⊎◌, ◌<◌, ◌≤◌, ◌+◌, ◌-◌, ◌∷◌, [], ℕ, None, Ok, true, OnOk, OnErr, IsErrOf, IfOk, IfSome, length, min, take};
+    ghost use Rattle.std.specs.Prelude.{◌≡◌, ◌⊎◌, ◌<◌, ◌≤◌, ◌∷◌, [], ℕ, None, Some, Ok, OnOk, OnErr, IsErrOf, IfOk, length, min};
     ghost use Rattle.std.specs.Option.{option_copied};
     ghost use Rattle.wm_law.specs.Fit.{IsCall, IsCommand};
-    ghost use Rattle.wm_law.specs.Pending.{next_moment, orders_left};
-    ghost use Rattle.wm_journal.specs.History.{reached, with_call, last_of};
     ghost use Rattle.wm_traits.specs.Told.{Grows, IsEmpty};
-    ghost use Rattle.wm_traits.specs.Cause.{raised};
-    ghost use Rattle.wm_run.specs.Answer.{entry_text, with_end, is_power_down, is_refused};
-    ghost use Rattle.wm_run.specs.Calls.{Called, session_pass};
-    ghost use Rattle.wm_run.specs.Halt.{HasCauses, HasMonitorCauses, KeepsNone};
-    ghost use Rattle.wm_monitor.specs.Idle.{monitor_pass};
-    ghost use Rattle.wm_monitor.specs.Journal.{HasJournalCauses};
-    ghost use Rattle.wm_monitor.specs.Lists.{since};
-    ghost use Rattle.wm_monitor.specs.Monitor.{IsIdle, hands_of};
-    ghost use Rattle.wm_monitor.specs.Turned.{WaitedSince};
-    ghost use Rattle.wm_monitor.specs.View.{IsClear, MonitorAdvances};
+    ghost use Rattle.wm_floor.specs.Floor.{HasLooked, IsPassOf, IsSame};
+    ghost use Rattle.wm_monitor.specs.Monitor.{hands_of};
+    ghost use Rattle.wm_shared_monitor.specs.Advance.{added, MonitorAttends};
+    ghost use Rattle.wm_shared_monitor.specs.Scene.{IsClear};
+    ghost use Rattle.wm_shared_monitor.specs.Turned.{HadNothing, WaitedAt};
+    ghost use Rattle.wm_run.specs.Calls.{Called};
     ghost use Rattle.wm_run.specs.Down.{is_down};
+    ghost use Rattle.wm_run.specs.Grown.{seen_since, session_of};
+    ghost use Rattle.wm_run.specs.Halt.{HasCauses, HasFloorCauses, HasMonitorCauses, KeepsNone};
     ghost use Rattle.wm_run.specs.Parsed.{IsFitParsed};
-    ghost use Rattle.wm_run.specs.Grown.{entries_between};
-    ghost use Rattle.wm_run.specs.Serving.{RunServes};
+    ghost use Rattle.wm_run.specs.Serving.{IsRunning, LeftNoOrder, RunServes};
     ghost use Rattle.wm_run.specs.Session.{AnsweredBy, AnswersLine, AnswersParsed, Calls};
     ghost use Rattle.wm_run.specs.Stopped.{IsCutShort};
 
-    // Makes one call of the session. An `Err` leaves the history.
-    pub(crate) fn call<C: Clock>(
+    // Makes one call of the session. An `Err` makes no entry.
+    fn enter<R: Wait>(
         &mut self,
+        rt: &R,
+        alloc: Global,
+        call: Call,
+        now: Moment,
+    ) -> Result<(u32, Reply), Halt>
+        requires ready { IsRunning self.old }
+        requires fit { IsCall call }
+        ensures own { IsPassOf self.old.floor self.new.session }
+        ensures same { IsSame self.old.session self.new.session }
+        ensures ok { IfOk result (λ r. Called self.old.floor.opening call (Some now) self.old.session self.new.session r.1) }
+        ensures place { IfOk result (λ r. r.0 ≡ length self.new.session.seen) }
+        ensures err { OnErr result (HasLooked self.old.session self.new.session) }
+        ensures mark { self.old.session.mark ≤ self.new.session.mark }
+        ensures floor { self.new.floor ≡ self.old.floor }
+        ensures watch { self.new.watch ≡ self.old.watch }
+        ensures monitor { self.new.monitor ≡ self.old.monitor }
+        ensures keeper_fault { IsErrOf result Halt.KeeperFault → raised self.old.session.mark ≤ self.new.session.mark }
+        ensures log_full { IsErrOf result Halt.LogFull → min self.old.floor.opening.limit 4000000 ≤ length self.new.session.seen }
+        ensures no_write { IsErrOf result Halt.WriteFault → ⊥ }
+        ensures no_wait { IsErrOf result Halt.WaitFault → ⊥ }
+        ensures no_read { IsErrOf result Halt.ReadFault → ⊥ }
+        ensures not_full { IsErrOf result Halt.InputFull → ⊥ }
+    {
+        match self.floor.call(rt, alloc, &mut self.session, call, now) {
+            Ok(answered) => Ok((answered.place, answered.reply)),
+            Err(fault) => Err(Halt::from(fault)),
+        }
+    }
+
+    // Makes one call of the session, which the monitor has then seen. An `Err` makes no entry.
+    pub(crate) fn call<C: Clock, R: Wait>(
+        &mut self,
+        rt: &R,
         alloc: Global,
         clock: &mut C,
         call: Call,
-    ) -> Result<(), Halt>
+    ) -> Result<Reply, Halt>
+        requires ready { IsRunning self.old }
         requires fit { IsCall call }
-        ensures ok { OnOk result (Called self.old.journal.history call self.new.journal.history) }
-        ensures moment { OnOk result (IfSome (C.coming clock.old) (λ now. self.new.journal.history ≡ with_call self.old.journal.history session_pass call now)) }
-        ensures err { OnErr result (self.new.journal.history ≡ self.old.journal.history) }
+        ensures ready { IsRunning self.new }
+        ensures same { IsSame self.old.session self.new.session }
+        ensures mark { self.old.session.mark ≤ self.new.session.mark }
+        ensures ok { IfOk result (λ reply. Called self.old.floor.opening call (C.coming clock.old) self.old.session self.new.session reply) }
+        ensures seen { OnOk result (length self.new.session.seen ≤ length self.new.watch.seen) }
+        ensures err { OnErr result (HasLooked self.old.session self.new.session) }
+        ensures floor { self.new.floor ≡ self.old.floor }
+        ensures watch { HasLooked self.old.watch self.new.watch }
+        ensures watch_same { IsSame self.old.watch self.new.watch }
         ensures monitor { self.new.monitor ≡ self.old.monitor }
         ensures no_write { IsErrOf result Halt.WriteFault → ⊥ }
         ensures no_wait { IsErrOf result Halt.WaitFault → ⊥ }
         ensures no_read { IsErrOf result Halt.ReadFault → ⊥ }
         ensures not_full { IsErrOf result Halt.InputFull → ⊥ }
-        ensures journal { HasJournalCauses K.faults K.trail (IsErrOf result Halt.KeeperFault) (IsErrOf result Halt.LogFull) (min self.new.journal.limit 4000000) self.old.journal self.new.journal }
+        ensures floor_causes { HasFloorCauses (IsErrOf result Halt.KeeperFault) (IsErrOf result Halt.LogFull) (min self.old.floor.opening.limit 4000000) self.old self.new }
     {
-        match enter(
-            alloc,
-            &mut self.journal,
-            self.passes.session(),
-            call,
-            clock.now(),
-        ) {
-            Ok(()) => Ok(()),
-            Err(fault) => Err(Halt::from(fault)),
-        }
-    }
-
-    // Writes what is said of the last entry, and answers whether it is a refusal, and whether the power goes down.
-    fn reply<O: Sink>(&self, alloc: Global, out: &mut O) -> Result<Answered, Halt>
-        ensures ok { IfOk result (λ r. IfSome (last_of self.now.journal.history) (λ e.
-            Grows (O.written out.old) (O.written out.new) (with_end (entry_text e)) × (r.faulty ≡ is_refused e.reply) × (r.down ≡ is_power_down e.reply))) }
-        ensures some { OnErr result (IfSome (last_of self.now.journal.history) (λ e.
-            (n : ℕ) × Grows (O.written out.old) (O.written out.new) (take n (with_end (entry_text e))))) }
-        ensures faults { O.faults out.old ≤ O.faults out.new }
-        ensures write_fault { IsErrOf result Halt.WriteFault → raised (O.faults out.old) ≤ O.faults out.new }
-        ensures no_wait { IsErrOf result Halt.WaitFault → ⊥ }
-        ensures no_read { IsErrOf result Halt.ReadFault → ⊥ }
-        ensures not_full { IsErrOf result Halt.InputFull → ⊥ }
-        ensures no_keeper { IsErrOf result Halt.KeeperFault → ⊥ }
-        ensures no_log { IsErrOf result Halt.LogFull → ⊥ }
-    {
-        let Some(entry) = self.journal.last() else {
-            return Ok(Answered::uncalled(false));
-        };
-        let line = entry_line(alloc, entry)?;
-        put(out, line.as_bytes())?;
-        Ok(Answered {
-            faulty: is_refused(&entry.reply),
-            down: is_power_down(&entry.reply),
-        })
+        let now = clock.now();
+        let (place, reply) = self.enter(rt, alloc, call, now)?;
+        see(rt, &self.floor, &mut self.watch, place);
+        Ok(reply)
     }
 
     // One turn of the monitor.
-    pub(crate) fn turn<P: Spawner, C: Clock>(
+    pub(crate) fn turn<P: Spawner, C: Clock, R: Wait>(
         &mut self,
+        rt: &R,
         alloc: Global,
         spawner: &mut P,
         clock: &mut C,
     ) -> Result<Turned, Halt>
-        ensures part { MonitorAdvances P.asked P.told P.misses self.old.journal.history self.old.monitor spawner.old self.new.journal.history self.new.monitor spawner.new }
+        requires ready { IsRunning self.old }
+        ensures ready { IsRunning self.new }
+        ensures floor { self.new.floor ≡ self.old.floor }
+        ensures session { self.new.session ≡ self.old.session }
+        ensures part { MonitorAttends P.asked P.told P.misses P.faults self.old.floor self.old.watch self.old.monitor spawner.old self.new.watch self.new.monitor spawner.new }
         ensures clear { OnOk result (IsClear self.new.monitor) }
         ensures causes { HasMonitorCauses result (P.faults spawner.old) (P.faults spawner.new) }
-        ensures journal { HasJournalCauses K.faults K.trail (IsErrOf result Halt.KeeperFault) (IsErrOf result Halt.LogFull) 4000000 self.old.journal self.new.journal }
-        ensures sent { IfOk result (λ turned. turned.sent ≡ length self.new.journal.history.log - length self.old.journal.history.log) }
-        ensures pending { IfOk result (λ turned. WaitedSince self.old.journal.history self.new.journal.history turned.pending) }
-        ensures handed { IfOk result (λ turned. (turned.pending.orders ≡ 0) ⊎ (hands_of (since self.old.journal.history.log self.new.journal.history.log) ≡ 256)) }
+        ensures floor_causes { HasFloorCauses (IsErrOf result Halt.KeeperFault) (IsErrOf result Halt.LogFull) 4000000 self.old self.new }
+        ensures sent { IfOk result (λ turned. turned.sent ≡ length (added self.old.watch self.new.watch)) }
+        ensures waited { IfOk result (λ turned. WaitedAt self.old.floor self.old.watch self.new.watch turned.at turned.pending) }
+        ensures handed { IfOk result (λ turned. (turned.pending.orders ≡ 0) ⊎ (hands_of (added self.old.watch self.new.watch) ≡ 256)) }
         ensures idle { IfOk result (λ turned. turned.sent ≡ 0 → self.old.monitor.failed_kill ≡ None →
-            IsIdle self.old.journal.history self.old.monitor.kept self.old.monitor.failed_kill (C.coming clock.old) (P.reporting spawner.old)) }
+            HadNothing self.old.floor self.old.watch self.new.watch self.old.monitor.kept (C.coming clock.old) (P.reporting spawner.old)) }
     {
-        let pass = self.passes.monitor();
         match self
             .monitor
-            .turn(alloc, &mut self.journal, pass, spawner, clock)
+            .turn(rt, alloc, &self.floor, &mut self.watch, spawner, clock)
         {
             Ok(turned) => Ok(turned),
             Err(fault) => Err(Halt::from(fault)),
         }
     }
 
-    // One wait of the monitor.
+    // One wait of the monitor, until the moment at the latest where one is given.
     pub(crate) fn wait<P: Spawner, C: Clock, R: Wait>(
         &mut self,
         rt: &R,
         alloc: Global,
         spawner: &mut P,
         clock: &mut C,
+        until: Option<Moment>,
     ) -> Result<(), Halt>
-        ensures part { MonitorAdvances P.asked P.told P.misses self.old.journal.history self.old.monitor spawner.old self.new.journal.history self.new.monitor spawner.new }
-        ensures report { OnOk result (next_moment (reached self.old.journal.history) ≡ None →
-            IsEmpty (P.out spawner.old) ⊎ (length self.old.journal.history.log < length self.new.journal.history.log)) }
-        ensures awaited { OnOk result (Grows (P.awaited spawner.old) (P.awaited spawner.new) (next_moment (reached self.old.journal.history) ∷ [])) }
+        requires ready { IsRunning self.old }
+        ensures ready { IsRunning self.new }
+        ensures floor { self.new.floor ≡ self.old.floor }
+        ensures session { self.new.session ≡ self.old.session }
+        ensures part { MonitorAttends P.asked P.told P.misses P.faults self.old.floor self.old.watch self.old.monitor spawner.old self.new.watch self.new.monitor spawner.new }
+        ensures report { OnOk result (until ≡ None → IsEmpty (P.out spawner.old) ⊎ (1 ≤ length (added self.old.watch self.new.watch))) }
+        ensures awaited { OnOk result (Grows (P.awaited spawner.old) (P.awaited spawner.new) (until ∷ [])) }
         ensures kept { OnOk result (self.new.monitor.kept ≡ None) }
         ensures kill { self.new.monitor.failed_kill ≡ self.old.monitor.failed_kill }
         ensures causes { HasMonitorCauses result (P.faults spawner.old) (P.faults spawner.new) }
-        ensures journal { HasJournalCauses K.faults K.trail (IsErrOf result Halt.KeeperFault) (IsErrOf result Halt.LogFull) 4000000 self.old.journal self.new.journal }
+        ensures floor_causes { HasFloorCauses (IsErrOf result Halt.KeeperFault) (IsErrOf result Halt.LogFull) 4000000 self.old self.new }
     {
-        let until = self.journal.pending(MONITOR).next;
-        let pass = self.passes.monitor();
         match self
             .monitor
-            .wait(rt, alloc, &mut self.journal, pass, spawner, clock, until)
+            .wait(rt, alloc, &self.floor, &mut self.watch, spawner, clock, until)
         {
             Ok(_) => Ok(()),
             Err(fault) => Err(Halt::from(fault)),
@@ -179,8 +214,9 @@ impl<K: Keeper> Run<K> {
 
     // Makes the call of a user's command, says its reply, and lets the monitor turn, which leaves no order where it
     // makes no entry.
-    fn call_command<O: Sink, P: Spawner, C: Clock>(
+    fn call_command<O: Sink, P: Spawner, C: Clock, R: Wait>(
         &mut self,
+        rt: &R,
         alloc: Global,
         out: &mut O,
         spawner: &mut P,
@@ -188,30 +224,34 @@ impl<K: Keeper> Run<K> {
         user: &Name,
         command: Command,
     ) -> Result<Answered, Halt>
+        requires ready { IsRunning self.old }
         requires fit { IsCommand command }
-        ensures serves { RunServes P.asked P.told P.misses self.old.journal.history self.old.monitor spawner.old self.new.journal.history self.new.monitor spawner.new }
+        ensures ready { IsRunning self.new }
+        ensures serves { RunServes P.asked P.told P.misses P.faults self.old spawner.old self.new spawner.new }
         ensures answered { IfOk result (λ r. AnsweredBy (Calls user.now command)
-            (entries_between self.old.journal.history self.new.journal.history) (O.written out.old) (O.written out.new) r.faulty) }
-        ensures down { IfOk result (λ r. r.down ≡ is_down (entries_between self.old.journal.history self.new.journal.history)) }
+            (seen_since self.old self.new) (O.written out.old) (O.written out.new) r.faulty) }
+        ensures down { IfOk result (λ r. r.down ≡ is_down (seen_since self.old self.new)) }
         ensures stopped { OnErr result (IsCutShort (Calls user.now command)
-            (entries_between self.old.journal.history self.new.journal.history) (O.written out.old) (O.written out.new)) }
-        ensures orders { OnOk result (length self.new.journal.history.log ≡ length self.old.journal.history.log + 1 → orders_left (reached self.new.journal.history) monitor_pass ≡ 0) }
-        ensures quiet { OnOk result (length self.new.journal.history.log ≡ length self.old.journal.history.log + 1 → self.old.monitor.failed_kill ≡ None → IsEmpty (P.reporting spawner.old)) }
+            (seen_since self.old self.new) (O.written out.old) (O.written out.new)) }
+        ensures orders { OnOk result (length (added self.old.watch self.new.watch) ≡ 0 → LeftNoOrder self.new) }
+        ensures quiet { OnOk result (length (added self.old.watch self.new.watch) ≡ 0 → self.old.monitor.failed_kill ≡ None → IsEmpty (P.reporting spawner.old)) }
         ensures causes { HasCauses result (O.faults out.old) (O.faults out.new) (P.faults spawner.old) (P.faults spawner.new) }
-        ensures journal { HasJournalCauses K.faults K.trail (IsErrOf result Halt.KeeperFault) (IsErrOf result Halt.LogFull) (min self.new.journal.limit 4000000) self.old.journal self.new.journal }
+        ensures floor_causes { HasFloorCauses (IsErrOf result Halt.KeeperFault) (IsErrOf result Halt.LogFull) (min self.old.floor.opening.limit 4000000) self.old self.new }
         ensures none_kept { OnOk result (KeepsNone self.old.monitor.kept self.new.monitor.kept) }
-        ensures full { IsErrOf result Halt.LogFull → length self.new.journal.history.log < 4000000 → KeepsNone self.old.monitor.kept self.new.monitor.kept }
+        ensures full { IsErrOf result Halt.LogFull → length self.new.watch.seen < 4000000 → KeepsNone self.old.monitor.kept self.new.monitor.kept }
     {
+        let sayings = sayings_of(alloc, &command)?;
         let change = user_call(alloc, user, command)?;
-        self.call(alloc, clock, change)?;
-        let answered = self.reply(alloc, out)?;
-        self.turn(alloc, spawner, clock)?;
+        let reply = self.call(rt, alloc, clock, change)?;
+        let answered = say(alloc, out, &sayings, &reply)?;
+        self.turn(rt, alloc, spawner, clock)?;
         Ok(answered)
     }
 
     // Answers a parsed line: a fault by its text, a reading command by its listing, a call by its reply.
-    fn answer_parsed<O: Sink, P: Spawner, C: Clock>(
+    fn answer_parsed<O: Sink, P: Spawner, C: Clock, R: Wait>(
         &mut self,
+        rt: &R,
         alloc: Global,
         out: &mut O,
         spawner: &mut P,
@@ -219,17 +259,19 @@ impl<K: Keeper> Run<K> {
         user: &Name,
         parsed: Parsed,
     ) -> Result<Answered, Halt>
-        requires { IsFitParsed parsed }
-        ensures serves { RunServes P.asked P.told P.misses self.old.journal.history self.old.monitor spawner.old self.new.journal.history self.new.monitor spawner.new }
-        ensures answered { IfOk result (λ r. AnsweredBy (AnswersParsed user.now parsed self.old.journal.history)
-            (entries_between self.old.journal.history self.new.journal.history) (O.written out.old) (O.written out.new) r.faulty) }
-        ensures down { IfOk result (λ r. r.down ≡ is_down (entries_between self.old.journal.history self.new.journal.history)) }
-        ensures stopped { OnErr result (IsCutShort (AnswersParsed user.now parsed self.old.journal.history)
-            (entries_between self.old.journal.history self.new.journal.history) (O.written out.old) (O.written out.new)) }
+        requires ready { IsRunning self.old }
+        requires fit { IsFitParsed parsed }
+        ensures ready { IsRunning self.new }
+        ensures serves { RunServes P.asked P.told P.misses P.faults self.old spawner.old self.new spawner.new }
+        ensures answered { IfOk result (λ r. AnsweredBy (AnswersParsed user.now parsed (session_of self.old))
+            (seen_since self.old self.new) (O.written out.old) (O.written out.new) r.faulty) }
+        ensures down { IfOk result (λ r. r.down ≡ is_down (seen_since self.old self.new)) }
+        ensures stopped { OnErr result (IsCutShort (AnswersParsed user.now parsed (session_of self.old))
+            (seen_since self.old self.new) (O.written out.old) (O.written out.new)) }
         ensures causes { HasCauses result (O.faults out.old) (O.faults out.new) (P.faults spawner.old) (P.faults spawner.new) }
-        ensures journal { HasJournalCauses K.faults K.trail (IsErrOf result Halt.KeeperFault) (IsErrOf result Halt.LogFull) (min self.new.journal.limit 4000000) self.old.journal self.new.journal }
+        ensures floor_causes { HasFloorCauses (IsErrOf result Halt.KeeperFault) (IsErrOf result Halt.LogFull) (min self.old.floor.opening.limit 4000000) self.old self.new }
         ensures none_kept { OnOk result (KeepsNone self.old.monitor.kept self.new.monitor.kept) }
-        ensures full { IsErrOf result Halt.LogFull → length self.new.journal.history.log < 4000000 → KeepsNone self.old.monitor.kept self.new.monitor.kept }
+        ensures full { IsErrOf result Halt.LogFull → length self.new.watch.seen < 4000000 → KeepsNone self.old.monitor.kept self.new.monitor.kept }
     {
         match parsed {
             Parsed::Fault(fault) => {
@@ -238,16 +280,19 @@ impl<K: Keeper> Run<K> {
                 Ok(Answered::uncalled(is_fault(&fault)))
             }
             Parsed::Read(ask) => {
-                let refused = self.list(alloc, out, &ask)?;
+                let refused = self.list(rt, alloc, out, &ask)?;
                 Ok(Answered::uncalled(refused))
             }
-            Parsed::Call(command) => self.call_command(alloc, out, spawner, clock, user, command),
+            Parsed::Call(command) => {
+                self.call_command(rt, alloc, out, spawner, clock, user, command)
+            }
         }
     }
 
     // Answers one logical line, which may be too long.
-    pub(crate) fn answer<O: Sink, P: Spawner, C: Clock>(
+    pub(crate) fn answer<O: Sink, P: Spawner, C: Clock, R: Wait>(
         &mut self,
+        rt: &R,
         alloc: Global,
         out: &mut O,
         spawner: &mut P,
@@ -255,21 +300,23 @@ impl<K: Keeper> Run<K> {
         user: &Name,
         line: Option<&[u8]>,
     ) -> Result<Answered, Halt>
-        ensures serves { RunServes P.asked P.told P.misses self.old.journal.history self.old.monitor spawner.old self.new.journal.history self.new.monitor spawner.new }
-        ensures answered { IfOk result (λ r. AnsweredBy (AnswersLine user.now (option_copied line.entry) self.old.journal.history)
-            (entries_between self.old.journal.history self.new.journal.history) (O.written out.old) (O.written out.new) r.faulty) }
-        ensures down { IfOk result (λ r. r.down ≡ is_down (entries_between self.old.journal.history self.new.journal.history)) }
-        ensures stopped { OnErr result (IsCutShort (AnswersLine user.now (option_copied line.entry) self.old.journal.history)
-            (entries_between self.old.journal.history self.new.journal.history) (O.written out.old) (O.written out.new)) }
+        requires ready { IsRunning self.old }
+        ensures ready { IsRunning self.new }
+        ensures serves { RunServes P.asked P.told P.misses P.faults self.old spawner.old self.new spawner.new }
+        ensures answered { IfOk result (λ r. AnsweredBy (AnswersLine user.now (option_copied line.entry) (session_of self.old))
+            (seen_since self.old self.new) (O.written out.old) (O.written out.new) r.faulty) }
+        ensures down { IfOk result (λ r. r.down ≡ is_down (seen_since self.old self.new)) }
+        ensures stopped { OnErr result (IsCutShort (AnswersLine user.now (option_copied line.entry) (session_of self.old))
+            (seen_since self.old self.new) (O.written out.old) (O.written out.new)) }
         ensures causes { HasCauses result (O.faults out.old) (O.faults out.new) (P.faults spawner.old) (P.faults spawner.new) }
-        ensures journal { HasJournalCauses K.faults K.trail (IsErrOf result Halt.KeeperFault) (IsErrOf result Halt.LogFull) (min self.new.journal.limit 4000000) self.old.journal self.new.journal }
+        ensures floor_causes { HasFloorCauses (IsErrOf result Halt.KeeperFault) (IsErrOf result Halt.LogFull) (min self.old.floor.opening.limit 4000000) self.old self.new }
         ensures none_kept { OnOk result (KeepsNone self.old.monitor.kept self.new.monitor.kept) }
-        ensures full { IsErrOf result Halt.LogFull → length self.new.journal.history.log < 4000000 → KeepsNone self.old.monitor.kept self.new.monitor.kept }
+        ensures full { IsErrOf result Halt.LogFull → length self.new.watch.seen < 4000000 → KeepsNone self.old.monitor.kept self.new.monitor.kept }
     {
         let parsed = match line {
             None => Parsed::Fault(LineFault::Cl(ClFault::TooLong)),
             Some(text) => parse_line(alloc, user, text)?,
         };
-        self.answer_parsed(alloc, out, spawner, clock, user, parsed)
+        self.answer_parsed(rt, alloc, out, spawner, clock, user, parsed)
     }
 }

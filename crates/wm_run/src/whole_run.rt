@@ -13,7 +13,7 @@ use crate::kept_run::run_kept;
 use crate::words::{NO_MEMORY, run_plan, settings};
 use std::alloc::Global;
 use std::sync::Wait;
-use wm_law::Entry;
+use wm_floor::Log;
 use wm_monitor::Report;
 use wm_traits::{Clock, KeepFault, Sink, Source, Spawner, Store};
 
@@ -21,19 +21,19 @@ use wm_traits::{Clock, KeepFault, Sink, Source, Spawner, Store};
 #[derive(Drop)]
 pub struct Ran {
     pub status: u8,
-    pub log: Vec<Entry>,
+    pub log: Log,
     pub kept: Option<Report>,
 }
 
 // A run that has not begun.
 pub(crate) fn not_begun(alloc: Global, status: u8) -> Ran
     ensures status { result.status ≡ status }
-    ensures log { result.log.items ≡ [] }
+    ensures log { result.log ≡ [] }
     ensures kept { result.kept ≡ None }
 {
     Ran {
         status,
-        log: Vec::new(alloc),
+        log: Log::none(alloc),
         kept: None,
     }
 }
@@ -67,22 +67,22 @@ pub fn run<I: Source, O: Sink, S: Store, P: Spawner, C: Clock, R: Wait>(
     ensures run { is_run (map string_bytes words.now) ≡ true → result.status ≡ 2 → ⊥ }
     ensures unread { is_run (map string_bytes words.now) ≡ false → I.left input.new ≡ I.left input.old }
     ensures opened { OpensStoreOf (map string_bytes words.now) result.status (S.opened store.old) (S.opened store.new) }
-    ensures history { HasHistory (settings_of (map string_bytes words.now)).offset result.status result.log.items (telling S.tables S.trail store.old) (telling S.tables S.trail store.new)
-        (RunTakes (settings_of (map string_bytes words.now)) (I.left input.old) (I.left input.new) result.status result.log.items (O.written out.old) (O.written out.new)) }
-    ensures callers { list_all is_of_run result.log.items ≡ true }
-    ensures served { IsServed result.log.items (option_to_list result.kept) (P.asked spawner.old) (P.asked spawner.new) (P.told spawner.old) (P.told spawner.new) (P.misses spawner.old) (P.misses spawner.new) }
+    ensures history { HasHistory (settings_of (map string_bytes words.now)).offset result.status result.log (telling S.tables S.trail store.old) (telling S.tables S.trail store.new)
+        (RunTakes (settings_of (map string_bytes words.now)) (I.left input.old) (I.left input.new) result.status result.log (O.written out.old) (O.written out.new)) }
+    ensures callers { list_all is_of_run result.log ≡ true }
+    ensures served { IsServed result.log (option_to_list result.kept) (P.asked spawner.old) (P.asked spawner.new) (P.told spawner.old) (P.told spawner.new) (P.misses spawner.old) (P.misses spawner.new) }
     ensures kept { result.status ≤ 1 → result.kept ≡ None }
     ensures read_fault { result.status ≡ 3 → raised (I.faults input.old) ≤ I.faults input.new }
     ensures write_fault { result.status ≡ 4 → raised (O.faults out.old) ≤ O.faults out.new }
     ensures keeper_fault { result.status ≡ 5 → raised (S.faults store.old) ≤ S.faults store.new }
-    ensures log_full { result.status ≡ 7 → (settings_of (map string_bytes words.now)).log_limit ≤ length result.log.items }
-    ensures reported { result.status ≡ 7 → length result.log.items < 4000000 → result.kept ≡ None }
+    ensures log_full { result.status ≡ 7 → (settings_of (map string_bytes words.now)).log_limit ≤ length result.log }
+    ensures reported { result.status ≡ 7 → length result.log < 4000000 → result.kept ≡ None }
     ensures wait_fault { result.status ≡ 8 → raised (P.faults spawner.old) ≤ P.faults spawner.new }
     ensures bad_row { result.status ≡ 9 → HasBadRow (settings_of (map string_bytes words.now)).offset (S.tables store.old) (S.tables store.new) }
     ensures out_faults { O.faults out.old ≤ O.faults out.new }
     ensures store_faults { S.faults store.old ≤ S.faults store.new }
     ensures statuses { IsRunStatus result.status }
-    ensures not_begun { result.status ≡ 2 → result.log.items ≡ [] }
+    ensures not_begun { result.status ≡ 2 → result.log ≡ [] }
 {
     let plan = match run_plan(alloc, words) {
         Ok(plan) => plan,

@@ -5,6 +5,5 @@ pub mod Counted
 pub mod Cuts
 pub mod Readings
 pub mod Requests
-pub mod Said
 pub mod Servings
 pub mod Turns

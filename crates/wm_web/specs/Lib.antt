@@ -4,6 +4,6 @@ pub mod Counted
 pub mod Cuts
 pub mod Ends
 pub mod Reading
-pub mod Sayings
+pub mod Told
 pub mod Serving
 pub mod Session

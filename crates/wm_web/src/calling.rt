@@ -4,20 +4,19 @@ ghost use Rattle.wm_floor.specs.Floor.{IsPassOf, IsSame};
 ghost use Rattle.wm_law.specs.Fit.{IsCommand};
 ghost use Rattle.wm_law.specs.declared.command.Command.{Command};
 ghost use Rattle.wm_web.specs.Answered.{AnswersCall, IsTakenUp, entered_answer, failed_answer, is_down};
-ghost use Rattle.wm_web.specs.Sayings.{AreOf, Tells};
+ghost use Rattle.wm_run.specs.Sayings.{AreOf};
+ghost use Rattle.wm_web.specs.Told.{Tells};
 
 use crate::answered::Answered;
 use crate::gate::Gate;
-use crate::saying::{line_of, sayings_of};
-use crate::sayings::Sayings;
-use std::alloc::{AllocError, Global};
+use std::alloc::Global;
 use std::sync::Wait;
 use wm_base::{Name, NoMemory};
 use wm_floor::{Floor, FloorPass};
 use wm_http::{Answer, Said};
 use wm_journal::CallFault;
 use wm_law::{Command, Reply};
-use wm_run::{is_power_down, is_refused, user_call};
+use wm_run::{Sayings, is_power_down, is_refused, line_of, sayings_of, user_call};
 use wm_traits::{Clock, Keeper};
 
 // The answer of a command that was called, with its place.
@@ -37,23 +36,20 @@ fn entered_answer(
     })
 }
 
-// What is told of a command that was called, with its place. An `Err` is want of memory, also for the reply.
+// What is told of a command that was called, with its place. An `Err` is want of memory.
 fn told(
     alloc: Global,
     sayings: &Sayings,
     place: u32,
-    reply: Option<Reply>,
+    reply: &Reply,
 ) -> Result<Answered, NoMemory>
-    ensures { (c : Command) → AreOf c sayings.now → IfOk result (λ r. Tells c place reply r.answer r.down) }
+    ensures { (c : Command) → AreOf c sayings.now → IfOk result (λ r. Tells c place reply.now r.answer r.down) }
 {
-    let Some(reply) = reply else {
-        return Err(AllocError);
-    };
-    let answer = entered_answer(alloc, sayings, place, &reply)?;
+    let answer = entered_answer(alloc, sayings, place, reply)?;
     Ok(Answered {
         answer,
         called: true,
-        down: is_power_down(&reply),
+        down: is_power_down(reply),
     })
 }
 
@@ -94,7 +90,7 @@ pub(crate) fn call_command<K: Keeper, C: Clock, G: Gate, R: Wait>(
     let now = clock.now();
     match floor.call(rt, alloc, pass, call, now) {
         Ok(entered) => {
-            let told = told(alloc, &sayings, entered.place, entered.reply)?;
+            let told = told(alloc, &sayings, entered.place, &entered.reply)?;
             Ok(told)
         }
         Err(fault) => Ok(Answered {

@@ -8,7 +8,7 @@
 //!
 //! The definitions are in `specs/`: `Bodies` (which command a body is), `Answered` (what a request is answered, and what becomes of
 //! the pass), `Session` (requests one after another), `Ends` (how a connection ends), `Serving` and
-//! `Reading` (what came of the next request, and what was read for it) and `Sayings` (what is known of an answer before the call).
+//! `Reading` (what came of the next request, and what was read for it) and `Told` (what is told of a command that was called).
 #![tactic(auto)]
 
 mod answered;
@@ -19,8 +19,6 @@ mod end;
 mod gate;
 mod lines;
 mod listings;
-mod saying;
-mod sayings;
 mod served;
 mod serving;
 mod session;

@@ -1,7 +1,6 @@
 // Reading commands: what they are answered.
-ghost use Rattle.std.specs.Prelude.{◌≡◌, ◌++◌, IfOk, OnOk, OnErr, false};
+ghost use Rattle.std.specs.Prelude.{◌≡◌, IfOk, OnErr, false};
 ghost use Rattle.wm_floor.specs.Floor.{IsPassOf, IsSame};
-ghost use Rattle.wm_listing.specs.Log.{entry_lines, log_text};
 ghost use Rattle.wm_run.specs.Reads.{is_log};
 ghost use Rattle.wm_web.specs.Answered.{AnswersRead, IsTakenUp, is_down, shown_answer};
 
@@ -10,10 +9,11 @@ use crate::gate::Gate;
 use std::alloc::Global;
 use std::sync::Wait;
 use wm_base::NoMemory;
-use wm_floor::{Floor, FloorPass, Log};
+use wm_floor::{Floor, FloorPass};
 use wm_http::{Answer, Listed, Said};
 use wm_law::Ask;
-use wm_listing::{listing, push_end, push_entry};
+use wm_listing::listing;
+use wm_run::log_bytes;
 use wm_traits::Keeper;
 use wm_views::Shown;
 
@@ -28,29 +28,6 @@ fn shown_answer(alloc: Global, shown: &Shown) -> Result<Answer, NoMemory>
         }
         _ => Ok(Answer::Listing(Listed::new(listing(alloc, shown)?))),
     }
-}
-
-// The lines of the entries of a history.
-fn push_entries(alloc: Global, out: &mut Vec<u8>, log: &Log) -> Result<(), NoMemory>
-    ensures { OnOk result (out.new.items ≡ out.old.items ++ entry_lines 1 log.now) }
-{
-    for at in 0..log.len() {
-        let Some(entry) = log.entry(at) else {
-            unreachable!()
-        };
-        push_entry(alloc, out, at + 1, entry)?;
-    }
-    Ok(())
-}
-
-// The bytes of the listing of a history. An `Err` is want of memory.
-fn log_bytes(alloc: Global, log: &Log) -> Result<Vec<u8>, NoMemory>
-    ensures { IfOk result (λ bytes. bytes.items ≡ log_text log.now) }
-{
-    let mut out = Vec::new(alloc);
-    push_entries(alloc, &mut out, log)?;
-    push_end(&mut out)?;
-    Ok(out)
 }
 
 // An answer to a request for which the floor was called.
