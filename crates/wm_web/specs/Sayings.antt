@@ -1,5 +1,5 @@
 -- What of a command is said again once it was called.
-use Rattle.std.specs.Prelude.{◌≡◌, ℕ, Bool, Option, Some, string_bytes}
+use Rattle.std.specs.Prelude.{◌≡◌, ℕ, Bool, string_bytes}
 use Rattle.wm_http.specs.declared.answer.Answer.{Answer}
 use Rattle.wm_law.specs.declared.command.Command.{Command}
 use Rattle.wm_law.specs.declared.call.Reply.{Reply}
@@ -15,8 +15,6 @@ pub record AreOf (c : Command) (s : Sayings) : Type 0 where
   pub subject : s.subject ≡ subject_of c
 
 -- a command that was called has this answer, by the reply that is told
-pub record Tells (c : Command) (place : ℕ) (told : Option Reply) (answer : Answer) (down : Bool) : Type 0 where
-  pub reply : Reply
-  pub some : told ≡ Some reply
+pub record Tells (c : Command) (place : ℕ) (reply : Reply) (answer : Answer) (down : Bool) : Type 0 where
   pub answer_is : answer ≡ entered_answer c place reply
   pub down_is : down ≡ is_power_down reply

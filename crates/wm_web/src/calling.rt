@@ -10,7 +10,7 @@ use crate::answered::Answered;
 use crate::gate::Gate;
 use crate::saying::{line_of, sayings_of};
 use crate::sayings::Sayings;
-use std::alloc::{AllocError, Global};
+use std::alloc::Global;
 use std::sync::Wait;
 use wm_base::{Name, NoMemory};
 use wm_floor::{Floor, FloorPass};
@@ -37,18 +37,10 @@ fn entered_answer(
     })
 }
 
-// What is told of a command that was called, with its place. An `Err` is want of memory, also for the reply.
-fn told(
-    alloc: Global,
-    sayings: &Sayings,
-    place: u32,
-    reply: Option<Reply>,
-) -> Result<Answered, NoMemory>
+// What is told of a command that was called, with its place. An `Err` is want of memory.
+fn told(alloc: Global, sayings: &Sayings, place: u32, reply: Reply) -> Result<Answered, NoMemory>
     ensures { (c : Command) → AreOf c sayings.now → IfOk result (λ r. Tells c place reply r.answer r.down) }
 {
-    let Some(reply) = reply else {
-        return Err(AllocError);
-    };
     let answer = entered_answer(alloc, sayings, place, &reply)?;
     Ok(Answered {
         answer,
