@@ -1,17 +1,15 @@
 -- What a call does to a pass.
-use Rattle.std.proofs.Common.{◌≡◌, ◌<◌, ◌≤◌, ◌++◌, ℕ, [], ◌∷◌, length, Option, Result, Ok, Err, IfOk, OnOk, OnErr, sym, ap, subst, ◌∙◌}
+use Rattle.std.proofs.Common.{◌≡◌, ◌<◌, ◌≤◌, ◌++◌, ℕ, [], ◌∷◌, length, Result, Ok, Err, IfOk, OnOk, OnErr, sym, ap, subst, ◌∙◌}
 use Rattle.wm_law.specs.declared.call.Call.{Call}
-use Rattle.wm_law.specs.declared.call.Entry.{Entry}
-use Rattle.wm_journal.specs.History.{History, last_of, with_call}
+use Rattle.wm_journal.specs.History.{History, entry_at, with_call}
 use Rattle.wm_journal.specs.Limit.{limit_of}
 use Rattle.wm_journal.specs.declared.call_fault.CallFault.{CallFault}
 use Rattle.wm_journal.specs.declared.call_fault.CallFault.TheVariants.{LogFull}
 use Rattle.wm_floor.specs.declared.answer.Answered.{Answered}
 use Rattle.wm_floor.specs.declared.opened.Opened.{Opened}
 use Rattle.wm_floor.specs.Floor.{Floored, IsCalled, IsEntered, IsRefused, Seen, entry_of}
-use Rattle.wm_floor.specs.Ledger.{HasReply, Ledgered, history_of}
-use Rattle.wm_floor.specs.Replies.{IsCopyOf}
-use Rattle.wm_floor.proofs.Passes.{IsTurned, last_of-call, mine_after, mine_same, seen_after}
+use Rattle.wm_floor.specs.Ledger.{Ledgered, history_of}
+use Rattle.wm_floor.proofs.Passes.{IsTurned, mine_after, mine_same, seen_after}
 
 module _ {K : Type 0} where
   -- a call of a ledger
@@ -19,7 +17,7 @@ module _ {K : Type 0} where
     pub kept : m.opening ≡ l.opening
     pub ok : OnOk result (history_of m ≡ with_call (history_of l) caller call now)
     pub place : IfOk result (λ a. a.place ≡ length m.log)
-    pub reply : IfOk result (λ a. HasReply (last_of (history_of m)) a.reply)
+    pub reply : IfOk result (λ a. a.reply ≡ (entry_at (history_of l) caller call now).reply)
     pub err : OnErr result (m.log ≡ l.log)
     pub full : limit_of call l.opening.limit ≤ length l.log → result ≡ Err (LogFull (limit_of call l.opening.limit))
     pub not_full : length l.log < limit_of call l.opening.limit → (n : ℕ) → result ≡ Err (LogFull n) → ⊥
@@ -30,13 +28,11 @@ module _ {K : Type 0} where
 
     entered : (a : Answered) → IsLedgerCall l m old.number call now (Ok a) → IsEntered f.opening l.log call now old new a
     entered a k =
-        let seen = seen_after f old new l.log m.log l.misses m.misses t in
-        let reply = subst (λ (h : History). HasReply (last_of h) a.reply) k.ok k.reply in
-        let last = subst (λ (e : Option Entry). HasReply e a.reply) (last_of-call (history_of l) old.number call now) reply in record {
+        let seen = seen_after f old new l.log m.log l.misses m.misses t in record {
           seen = seen ∙ logged k.ok;
           mine = mine_after f old new l.log m.log l.misses m.misses t (entry_of f.opening l.log old.number call now ∷ []) (logged k.ok);
           place = k.place ∙ sym (ap length seen);
-          reply = subst (λ (o : Opened K). IsCopyOf (entry_of o l.log old.number call now).reply a.reply) opens last;
+          reply = subst (λ (o : Opened K). a.reply ≡ (entry_of o l.log old.number call now).reply) opens k.reply;
         }
 
     refused : (e : CallFault) → IsLedgerCall l m old.number call now (Err e) → IsRefused l.log old new

@@ -1,35 +1,12 @@
 -- What a turn does to a pass.
-use Rattle.std.proofs.Common.{◌≡◌, ◌<◌, ◌≤◌, ◌++◌, ◌-◌, ℕ, List, [], ◌∷◌, length, Option, Some, sym, refl, ap, subst, ◌∙◌, append-nil, arith}
-use Rattle.std.proofs.lemmas.List.{length_push}
+use Rattle.std.proofs.Common.{◌≡◌, ◌≤◌, ◌++◌, ℕ, List, [], sym, ap, subst, ◌∙◌, append-nil}
 use Rattle.std.proofs.lemmas.List.Prefix.{front_rest}
-use Rattle.std.specs.List.{slice_get}
-use Rattle.wm_law.specs.declared.call.Call.{Call}
 use Rattle.wm_law.specs.declared.call.Entry.{Entry}
-use Rattle.wm_law.specs.declared.call.Reply.{Reply}
 use Rattle.wm_law.specs.History.{IsLegal}
 use Rattle.wm_turn.specs.Passed.{StartsWith, begun, ended, own, risen}
-use Rattle.wm_journal.specs.History.{History, entry_at, last_of, with_call}
 use Rattle.wm_floor.specs.Floor.{Floored, HasLooked, IsPassOf, IsSame, Seen}
-use Rattle.wm_floor.specs.Ledger.{HasReply, caller_of}
+use Rattle.wm_floor.specs.Ledger.{caller_of}
 use Rattle.wm_floor.proofs.Counts.{grows}
-use Rattle.wm_floor.proofs.Places.{slice_get_front}
-
-slice_get_push : {A : Type 0} (xs : List A) (y : A) → slice_get (xs ++ y ∷ []) (length xs) ≡ Some y
-slice_get_push [] y = refl
-slice_get_push (x ∷ xs) y = slice_get_push xs y
-
--- the reply at a place that was seen
-pub reply_seen : (log seen : List Entry) (place : ℕ) (copy : Option Reply) → StartsWith log seen → 1 ≤ place → place ≤ length seen → HasReply (slice_get log (place - 1)) copy → HasReply (slice_get seen (place - 1)) copy
-reply_seen log seen place copy begins some within has =
-    let same = ap (λ (es : List Entry). slice_get es (place - 1)) begins.1 ∙ slice_get_front seen begins.0 (place - 1) (omega arith) in
-    subst (λ (e : Option Entry). HasReply e copy) same has
-
--- the last entry is the call's
-pub last_of-call : (h : History) (caller : ℕ) (call : Call) (now : ℕ) → last_of (with_call h caller call now) ≡ Some (entry_at h caller call now)
-last_of-call h caller call now =
-    let e = entry_at h caller call now in
-    let n : length (h.log ++ e ∷ []) - 1 ≡ length h.log = omega (arith, length_push h.log e) in
-    ap (slice_get (h.log ++ e ∷ [])) n ∙ slice_get_push h.log e
 
 module _ {K : Type 0} where
   -- a turn of a pass: it found a history and left one, with these marks of the value

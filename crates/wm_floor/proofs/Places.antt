@@ -5,7 +5,7 @@ use Rattle.std.specs.List.{slice_get, flat_map, All}
 use Rattle.wm_floor.specs.declared.shared_list.TheConstants.{PART}
 
 -- a place in the first of two lists, and one in the second
-pub slice_get_front : {A : Type 0} (xs ys : List A) (i : ℕ) → i < length xs → slice_get (xs ++ ys) i ≡ slice_get xs i
+slice_get_front : {A : Type 0} (xs ys : List A) (i : ℕ) → i < length xs → slice_get (xs ++ ys) i ≡ slice_get xs i
 slice_get_front [] ys i h = absurd (omega arith)
 slice_get_front (x ∷ xs) ys zero h = refl
 slice_get_front (x ∷ xs) ys (suc i) h = slice_get_front xs ys i (omega arith)

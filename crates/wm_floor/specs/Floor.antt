@@ -16,7 +16,6 @@ use Rattle.wm_journal.specs.declared.open_fault.OpenFault.TheVariants.{NoMemory}
 use Rattle.wm_floor.specs.declared.answer.Answered.{Answered}
 use Rattle.wm_floor.specs.declared.opened.Opened.{Opened}
 use Rattle.wm_floor.specs.Ledger.{behind, caller_of}
-use Rattle.wm_floor.specs.Replies.{IsCopyOf}
 
 -- which turnstile its callers go through, and what it was opened with
 pub record Floored (K : Type 0) : Type 0 where
@@ -57,7 +56,7 @@ module _ {K : Type 0} where
     pub seen : new.seen ≡ found ++ entry_of o found old.number call now ∷ []
     pub mine : new.mine ≡ old.mine ++ entry_of o found old.number call now ∷ []
     pub place : answered.place ≡ length new.seen
-    pub reply : IsCopyOf (entry_of o found old.number call now).reply answered.reply
+    pub reply : answered.reply ≡ (entry_of o found old.number call now).reply
 
   -- the call isn't entered: the pass has seen what was found, and has no entry more
   pub record IsRefused (found : List Entry) (old new : Seen K) : Type 0 where

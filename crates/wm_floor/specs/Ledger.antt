@@ -1,8 +1,7 @@
 -- A ledger, as a contract sees it, and what holds of it.
-use Rattle.std.specs.Prelude.{◌≡◌, ◌+◌, ◌-◌, ◌^◌, ◌≤◌, ℕ, min, List, None, Option, IfSome}
+use Rattle.std.specs.Prelude.{◌≡◌, ◌+◌, ◌-◌, ◌^◌, ◌≤◌, ℕ, min, List, None, Option}
 use Rattle.wm_traits.specs.declared.row.Row.{Row}
 use Rattle.wm_law.specs.declared.call.Entry.{Entry}
-use Rattle.wm_law.specs.declared.call.Reply.{Reply}
 use Rattle.wm_law.specs.declared.state.State.{State}
 use Rattle.wm_law.specs.History.{IsLegal}
 use Rattle.wm_journal.specs.History.{History}
@@ -10,7 +9,6 @@ use Rattle.wm_journal.specs.Journaled.{IsJournal}
 use Rattle.wm_journal.specs.Keeping.{telling}
 use Rattle.wm_journal.specs.Trail.{HasTrail}
 use Rattle.wm_floor.specs.declared.opened.Opened.{Opened}
-use Rattle.wm_floor.specs.Replies.{IsCopyOf}
 
 -- the number of the pass that made an entry
 abbrev pub caller_of : Entry → ℕ
@@ -49,7 +47,3 @@ module _ {K : Type 0} (faults : K → ℕ) (rows : K → Option (List Row)) (row
     pub trail : HasTrail (history_of l) (telling rows rows_had l.opening.found) (telling rows rows_had l.keeper)
     pub risen : HasRisen (faults l.opening.found) l.misses (faults l.keeper)
     pub untold : rows_had l.opening.keeper ≡ None → rows_had l.keeper ≡ None
-
--- the reply of an entry, where there is one
-abbrev pub HasReply : Option Entry → Option Reply → Type 0
-HasReply entry copy = IfSome entry (λ e. IsCopyOf e.reply copy)

@@ -2,12 +2,11 @@
 use wm_law::{Pending, Reply};
 use wm_views::Shown;
 
-/// What a call was answered: the place of its entry, counted from 1, and the machine's reply. The reply lacks only where it is
-/// an order for whose copy there was no memory; the entry stands all the same, and `Floor::reply` gives it later.
+/// What a call was answered: the place of its entry, counted from 1, and the machine's reply.
 #[derive(Drop)]
 pub struct Answered {
     pub place: u32,
-    pub reply: Option<Reply>,
+    pub reply: Reply,
 }
 
 /// What is shown of the state after so many entries.

@@ -13,7 +13,7 @@ ghost use Rattle.wm_journal.specs.Trail.{HasTrail};
 ghost use Rattle.wm_views.specs.Views.{shown};
 ghost use Rattle.wm_floor.specs.Causes.{HasMarkCause};
 ghost use Rattle.wm_floor.specs.Floor.{HasLooked, IsCalled, IsLeftOrOpened, IsPassOf, IsSame};
-ghost use Rattle.wm_floor.specs.Ledger.{behind, caller_of, HasReply};
+ghost use Rattle.wm_floor.specs.Ledger.{behind, caller_of};
 
 use crate::answer::{Answered, View, Waiting};
 use crate::ledger::{Closed, Ledger};
@@ -25,7 +25,7 @@ use std::sync::Wait;
 use wm_base::{Moment, NoMemory};
 use wm_core::Setup;
 use wm_journal::{CallFault, OpenFault};
-use wm_law::{Ask, Call, Reply};
+use wm_law::{Ask, Call};
 use wm_traits::Keeper;
 use wm_turn::{Pass, Turnstile};
 
@@ -129,30 +129,6 @@ impl<K: Keeper> Floor<K> {
         let result = ledger.call(alloc, pass.number(), call, now);
         self.leave(pass, ledger);
         result
-    }
-
-    /// A copy of the reply at a place that the pass has seen, counted from 1. It lacks only where it is an order for whose copy
-    /// there was no memory. It may wait.
-    #[tactic(auto, using(crate::proofs::Passes::reply_seen))]
-    pub fn reply<R: Wait>(
-        &self,
-        rt: &R,
-        alloc: Global,
-        pass: &mut FloorPass<K>,
-        place: u32,
-    ) -> Option<Reply>
-        requires own { IsPassOf self.now pass.old }
-        requires some { 1 ≤ place }
-        requires within { place ≤ length pass.old.seen }
-        ensures own { IsPassOf self.now pass.new }
-        ensures same { IsSame pass.old pass.new }
-        ensures looked { HasLooked pass.old pass.new }
-        ensures reply { HasReply (slice_get pass.old.seen (place - 1)) result }
-    {
-        let ledger = self.enter(rt, pass);
-        let reply = ledger.copy_at(alloc, (place - 1) as usize);
-        self.leave(pass, ledger);
-        reply
     }
 
     /// The history, which the pass has then seen. While it is made, which takes a time for each part of 1,024 entries and for

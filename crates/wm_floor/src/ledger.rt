@@ -1,9 +1,9 @@
 // What the callers of a floor take turns with: the machine with its keeper, and its history.
 ghost use Rattle.std.specs.Arc.{arc_value};
-ghost use Rattle.std.specs.Prelude.{◌≡◌, ◌<◌, ◌≤◌, ℕ, [], length, slice_get, Err, IfOk, IfErr, OnOk, OnErr};
+ghost use Rattle.std.specs.Prelude.{◌≡◌, ◌<◌, ◌≤◌, ℕ, [], length, Err, IfOk, IfErr, OnOk, OnErr};
 ghost use Rattle.wm_law.specs.Fit.{IsCall};
 ghost use Rattle.wm_law.specs.Pending.{pending};
-ghost use Rattle.wm_journal.specs.History.{last_of, reached, with_call};
+ghost use Rattle.wm_journal.specs.History.{entry_at, reached, with_call};
 ghost use Rattle.wm_journal.specs.Keeping.{telling, IsLeft, IsOpened};
 ghost use Rattle.wm_journal.specs.Limit.{limit_of};
 ghost use Rattle.wm_journal.specs.OpenFaults.{IsCounted, NamesBad};
@@ -11,7 +11,6 @@ ghost use Rattle.wm_journal.specs.Stored.{HasTables};
 ghost use Rattle.wm_views.specs.Views.{shown};
 
 use crate::answer::Answered;
-use crate::copying::copied;
 use crate::limit::limit_of;
 use crate::log::Log;
 use crate::opened::Opened;
@@ -106,7 +105,7 @@ impl<K: Keeper> Standing for Ledger<K> {
 
 impl<K: Keeper> Ledger<K> {
     ghost use Rattle.wm_floor.specs.Causes.{HasMissed};
-    ghost use Rattle.wm_floor.specs.Ledger.{history_of, HasLedger, HasReply};
+    ghost use Rattle.wm_floor.specs.Ledger.{history_of, HasLedger};
 
     /// The machine of the rows that a keeper has, with no history.
     pub(crate) fn open(
@@ -142,17 +141,18 @@ impl<K: Keeper> Ledger<K> {
         }
     }
 
-    // Makes one call, whose rows are kept before its entry is the last of the history.
+    // Makes one call, whose rows are kept before its entry is the last of the history, and answers a copy of its reply.
     fn enter(
         &mut self,
         alloc: Global,
         caller: u32,
         call: Call,
         now: Moment,
-    ) -> Result<(), CallFault>
+    ) -> Result<Reply, CallFault>
         requires fit { IsCall call }
         ensures opening { self.new.opening ≡ self.old.opening }
         ensures ok { OnOk result (history_of self.new ≡ with_call (history_of self.old) caller call now) }
+        ensures reply { IfOk result (λ reply. reply ≡ (entry_at (history_of self.old) caller call now).reply) }
         ensures err { OnErr result (self.new.log ≡ self.old.log) }
         ensures full { limit_of call self.old.opening.limit ≤ length self.old.log → result ≡ Err (CallFault.LogFull (limit_of call self.old.opening.limit)) }
         ensures not_full { length self.old.log < limit_of call self.old.opening.limit → (n : ℕ) → result ≡ Err (CallFault.LogFull n) → ⊥ }
@@ -170,9 +170,9 @@ impl<K: Keeper> Ledger<K> {
         let Some(entry) = Arc::get_mut(&mut shared) else {
             return Err(CallFault::NoMemory);
         };
-        step(alloc, &mut self.stored, &mut self.misses, entry)?;
+        let reply = step(alloc, &mut self.stored, &mut self.misses, entry)?;
         self.log.push_reserved(Shared::of(shared));
-        Ok(())
+        Ok(reply)
     }
 
     /// How many entries there are.
@@ -181,28 +181,6 @@ impl<K: Keeper> Ledger<K> {
         ensures most { length self.now.log ≤ 4000000 }
     {
         self.log.len() as u32
-    }
-
-    /// A copy of the reply of an entry, counted from 0.
-    pub(crate) fn copy_at(&self, alloc: Global, at: usize) -> Option<Reply>
-        ensures { HasReply (slice_get self.now.log at) result }
-    {
-        match self.log.get(at) {
-            Some(entry) => copied(alloc, &entry.reply),
-            None => None,
-        }
-    }
-
-    // The last place, with a copy of its reply.
-    fn answered(&self, alloc: Global) -> Answered
-        ensures place { result.place ≡ length self.now.log }
-        ensures reply { HasReply (last_of (history_of self.now)) result.reply }
-    {
-        let place = self.len();
-        Answered {
-            place,
-            reply: self.copy_at(alloc, place.saturating_sub(1) as usize),
-        }
     }
 
     /// Makes one call, and tells its place and its reply.
@@ -217,14 +195,17 @@ impl<K: Keeper> Ledger<K> {
         ensures opening { self.new.opening ≡ self.old.opening }
         ensures ok { OnOk result (history_of self.new ≡ with_call (history_of self.old) caller call now) }
         ensures place { IfOk result (λ a. a.place ≡ length self.new.log) }
-        ensures reply { IfOk result (λ a. HasReply (last_of (history_of self.new)) a.reply) }
+        ensures reply { IfOk result (λ a. a.reply ≡ (entry_at (history_of self.old) caller call now).reply) }
         ensures err { OnErr result (self.new.log ≡ self.old.log) }
         ensures full { limit_of call self.old.opening.limit ≤ length self.old.log → result ≡ Err (CallFault.LogFull (limit_of call self.old.opening.limit)) }
         ensures not_full { length self.old.log < limit_of call self.old.opening.limit → (n : ℕ) → result ≡ Err (CallFault.LogFull n) → ⊥ }
         ensures missed { HasMissed self.old.misses self.new.misses result }
     {
-        self.enter(alloc, caller, call, now)?;
-        Ok(self.answered(alloc))
+        let reply = self.enter(alloc, caller, call, now)?;
+        Ok(Answered {
+            place: self.len(),
+            reply,
+        })
     }
 
     /// The history.

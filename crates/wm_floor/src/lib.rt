@@ -6,8 +6,8 @@
 //! The contract for the layer above: each answered call stands once in one legal history, in the place that it was told. A
 //! contract sees a `Floor` as what it was opened with, and a pass as its number, what it has `seen` of the history, the entries
 //! of its own (`mine`) and its `mark`. A call that is answered finds a history that begins with what its pass had seen, puts its
-//! one entry behind that, with the pass's number, the call, its moment and the machine's reply, and tells the place; the entry
-//! is then the last that the pass has seen, and the only new one of its own. A call that isn't answered leaves the pass's own
+//! one entry behind that, with the pass's number, the call, its moment and the machine's reply, and tells the place and the reply;
+//! the entry is then the last that the pass has seen, and the only new one of its own. A call that isn't answered leaves the pass's own
 //! entries: the log is full exactly where what was found has as many entries as its limit, and the keeper's fault is answered
 //! only where the pass's mark rose. A read shows the state after as many entries as it tells, which the pass has then seen and
 //! which begin with what it had seen. What a pass has seen is always legal from the opened state, and has all of its own entries.
@@ -22,12 +22,11 @@
 //! A call, a read or a log may wait for other callers; nothing is said of how long.
 //!
 //! The definitions are in `specs/`: `Floor` (what a contract sees of a floor and its passes, and what a call does to them),
-//! `Causes` (why a call isn't made), `Ledger` (what the callers take turns with, and what holds of it), `Replies` (copies of
-//! replies) and `SharedList` (a list in parts, and what holds of them).
+//! `Causes` (why a call isn't made), `Ledger` (what the callers take turns with, and what holds of it) and `SharedList` (a list in
+//! parts, and what holds of them).
 #![tactic(auto)]
 
 mod answer;
-mod copying;
 mod floor;
 mod ledger;
 mod limit;

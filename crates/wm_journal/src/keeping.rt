@@ -8,6 +8,7 @@ ghost use Rattle.wm_changes.specs.Changes.{counts_of, AreStepChanges};
 ghost use Rattle.wm_journal.specs.Keeping.{telling, IsApplied, IsLeft};
 ghost use Rattle.wm_journal.specs.Taken.{IsLastStep};
 
+use crate::copying::copied;
 use std::alloc::Global;
 use wm_base::NoMemory;
 use wm_changes::{Counts, step_changes};
@@ -80,4 +81,31 @@ pub(crate) fn keep_step<K: Keeper>(
     let changes = last_changes(alloc, core, call, reply, removed, before)?;
     apply(keeper, &changes)?;
     Ok(())
+}
+
+/// Copies the reply of the last step, and then keeps the rows that the step changed. It answers the copy.
+pub(crate) fn keep_copied<K: Keeper>(
+    alloc: Global,
+    keeper: &mut K,
+    core: &Core,
+    call: &Call,
+    reply: &Reply,
+    removed: Option<u32>,
+    before: Counts,
+) -> Result<Reply, KeepFault>
+    ensures copy { IfOk result (λ copy. copy ≡ reply.now) }
+    ensures ok { (s : State) (t : Stepped) → IsLastStep s call.now t core.now reply.now removed before →
+        OnOk result ((changes : List RowChange) × AreStepChanges s call.now t changes × IsApplied changes (telling K.tables K.trail keeper.old) (telling K.tables K.trail keeper.new)) }
+    ensures err { OnErr result (IsLeft (telling K.tables K.trail keeper.old) (telling K.tables K.trail keeper.new)) }
+    ensures cause { HasKeepCause (K.faults keeper.old) (K.faults keeper.new) result }
+{
+    let copy = copied(alloc, reply)?;
+    match keep_step(alloc, keeper, core, call, reply, removed, before) {
+        Ok(()) => Ok(copy),
+        Err(fault) => {
+            // By a call, since a reply that goes out of scope is taken apart here, which is dear to prove.
+            drop(copy);
+            Err(fault)
+        }
+    }
 }

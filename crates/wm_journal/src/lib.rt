@@ -13,10 +13,12 @@
 //!
 //! Below it a `StoredCore` is the machine with its keeper, and knows of no history: a contract sees the state of the machine and
 //! the keeper of its rows. `StoredCore::open` gives the machine that a run opens with, and `StoredCore::step` takes one step of
-//! it, as `Core::step` of `wm_core` does. The rows that changed are made in one call of the keeper, before the answer, and none
-//! is made where no row changed. So where the keeper tells its tables, they are those of the state, and its trail grows by them
-//! unless they are as before. Where the keeper fails, or memory is wanting, the step is taken back: the state and the rows are as
-//! before, and a keeper's fault is answered only where its count rose in that call.
+//! it, as `Core::step` of `wm_core` does; `StoredCore::answer` takes the same step for who gives the reply away and keeps it too.
+//! It copies the reply, and then the rows are kept: an order alone needs memory for that, and with none there no row is written
+//! yet. The rows that changed are made in one call of the keeper, before the answer, and none is made where no row changed. So
+//! where the keeper tells its tables, they are those of the state, and its trail grows by them unless they are as before. Where
+//! the keeper fails, or memory is wanting, the step is taken back: the state and the rows are as before, and a keeper's fault is
+//! answered only where its count rose in that call.
 //!
 //! The definitions are in `specs/`. Of the machine with its keeper: `Stored` (what a contract sees), `Keeping` (what becomes of
 //! tables and trail), `OpenFaults` (why a machine doesn't open), and `Taken`, what is known of a step as its rows are kept. Of
@@ -25,6 +27,7 @@
 #![tactic(auto)]
 
 mod call_fault;
+mod copying;
 mod journal;
 mod keeping;
 mod limit;
@@ -38,4 +41,4 @@ pub use call_fault::CallFault;
 pub use journal::{Closed, Journal};
 pub use open_fault::OpenFault;
 pub use pass::Pass;
-pub use stored::StoredCore;
+pub use stored::{Replied, StoredCore};

@@ -5,9 +5,6 @@ use Rattle.std.proofs.lemmas.List.{append-nil, drop_all, drop_more, get_or_at, l
 use Rattle.std.proofs.lemmas.List.Elements.{All-cons, All-head, All-map, All-nil, All-push, All-same, All-tail}
 use Rattle.std.proofs.lemmas.List.Sums.{count_by-le-length, fold_more, sum_by-cons}
 use Rattle.wm_floor.specs.Floor.{Floored, IsPassOf, Seen}
-use Rattle.wm_law.specs.declared.call.Entry.{Entry}
-use Rattle.wm_shared_monitor.specs.Scene.{IsPlace, OwesSeen}
-use Rattle.wm_shared_monitor.specs.declared.monitor.SharedMonitor.{SharedMonitor}
 use Rattle.wm_turn.specs.Passed.{child, parent}
 use Rattle.wm_serve.specs.Seating.{HasPassOf, entered, given, seated, with_pass}
 use Rattle.wm_serve.specs.Seats.{IsFresh, Sits, Tellers, pass_of, takes_pass}
@@ -128,14 +125,11 @@ module _ {K D P C : Type 0} (t : Tellers D P) where
 
 -- Seats that have taken their passes have what their threads need
 
-owes_none : (seen : List Entry) (m : SharedMonitor) → m.owed ≡ None → OwesSeen seen m
-owes_none seen m none = subst (λ (o : Option ℕ). IfSome o (IsPlace seen)) (sym none) tt
-
 module _ {K D P C : Type 0} (t : Tellers D P) (f : Floored K) where
   sits_given : (zero : Seen K) (s : Seat K D P C) → IsFresh t s → HasPassOf f (given zero s) → Sits t f (given zero s)
   sits_given zero (Worker w) h own = record { pass = child zero; its = refl; own = own; free = h.1.1 }
   sits_given zero (Closer c) h own = tt
-  sits_given zero (Monitor m) h own = (record { pass = child zero; its = refl; own = own; owes = owes_none (child zero).seen m.monitor h.1.1.no_order }, λ none. h.1.1.no_report)
+  sits_given zero (Monitor m) h own = (record { pass = child zero; its = refl; own = own }, λ none. h.1.1.no_report)
 
   pub sit_seated : (zero : Seen K) (xs : List (Seat K D P C)) → All (IsFresh t) xs → All (HasPassOf f) (seated zero xs) → All (Sits t f) (seated zero xs)
   sit_seated zero [] h own = All-nil (Sits t f)

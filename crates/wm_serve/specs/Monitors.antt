@@ -4,7 +4,7 @@ use Rattle.wm_base.specs.declared.job.Asked.{Asked}
 use Rattle.wm_traits.specs.declared.spawner.Told.{Told}
 use Rattle.wm_floor.specs.Floor.{Floored, Seen}
 use Rattle.wm_shared_monitor.specs.Advance.{Advances}
-use Rattle.wm_shared_monitor.specs.Scene.{Scene, order_owed, scene, spawner_seen}
+use Rattle.wm_shared_monitor.specs.Scene.{Scene, scene, spawner_seen}
 use Rattle.wm_shared_monitor.specs.declared.monitor.SharedMonitor.{SharedMonitor}
 
 module _ {K : Type 0} where
@@ -17,4 +17,4 @@ module _ {K : Type 0} where
   -- the same, where the spawner tells so much
   abbrev pub MonitorAttends : {P : Type 0} → (P → Option (List Asked)) → (P → Option (List Told)) → (P → ℕ) → (P → ℕ) → Floored K → Seen K → SharedMonitor → P → Seen K → SharedMonitor → P → Type 0
   MonitorAttends asked told misses faults f p monitor spawner q monitor' spawner' =
-      Attends f p q (scene monitor (order_owed p.seen monitor) (spawner_seen asked told misses faults spawner)) (scene monitor' (order_owed q.seen monitor') (spawner_seen asked told misses faults spawner'))
+      Attends f p q (scene monitor (spawner_seen asked told misses faults spawner)) (scene monitor' (spawner_seen asked told misses faults spawner'))

@@ -7,7 +7,7 @@ use Rattle.wm_floor.specs.Floor.{Floored, IsPassOf, IsSame, Seen}
 use Rattle.wm_listener.specs.Had.{Had}
 use Rattle.wm_monitor.specs.declared.fault.MonitorFault.{MonitorFault}
 use Rattle.wm_shared_monitor.specs.Causes.{IsCaused}
-use Rattle.wm_shared_monitor.specs.Scene.{IsClear, OwesSeen}
+use Rattle.wm_shared_monitor.specs.Scene.{IsClear}
 use Rattle.wm_serve.specs.Connections.{DeskServes, MakesCommands}
 use Rattle.wm_serve.specs.Monitors.{MonitorAttends}
 use Rattle.wm_serve.specs.declared.seat.MonitorSeat.{MonitorSeat}
@@ -50,7 +50,6 @@ module _ {K P C : Type 0} where
     pub pass : Seen K
     pub its : m.pass ≡ Some pass
     pub own : IsPassOf f pass
-    pub owes : OwesSeen pass.seen m.monitor
 
   -- a monitor did its part between two moments
   pub record Tends (asked : P → Option (List Asked)) (told : P → Option (List Told)) (misses faults : P → ℕ) (f : Floored K) (old new : MonitorSeat K P C) : Type 0 where
@@ -85,7 +84,7 @@ module _ {K D P C : Type 0} where
   is_dry (Closer c) = true
   is_dry (Monitor m) = true
 
-  -- nothing has run on the seat: it has no pass, its worker hasn't stopped, and its monitor keeps nothing and owes nothing
+  -- nothing has run on the seat: it has no pass, its worker hasn't stopped, and its monitor keeps nothing
   abbrev pub IsFresh : Tellers D P → Seat K D P C → Type 0
   IsFresh t (Worker w) = (w.pass ≡ None) × ((w.stopped ≡ None) × (t.hand w.desk ≡ None))
   IsFresh t (Closer c) = Unit {0}

@@ -2,7 +2,6 @@
 ghost use Rattle.std.specs.Prelude.{◌≡◌, IfErr, IfSome, None, OnOk};
 ghost use Rattle.wm_floor.specs.Floor.{IsPassOf};
 ghost use Rattle.wm_shared_monitor.specs.Causes.{IsCaused};
-ghost use Rattle.wm_shared_monitor.specs.Scene.{OwesSeen};
 ghost use Rattle.wm_serve.specs.Monitors.{MonitorAttends};
 
 use crate::board::Board;
@@ -40,9 +39,7 @@ fn turn_once<K: Keeper, P: Spawner, C: Clock, R: Wait>(
     board: &Board,
 ) -> Result<bool, MonitorFault>
     requires own { IsPassOf floor.now pass.old }
-    requires owes { OwesSeen pass.old.seen monitor.old }
     ensures part { MonitorAttends P.asked P.told P.misses P.faults floor.now pass.old monitor.old spawner.old pass.new monitor.new spawner.new }
-    ensures owes { OwesSeen pass.new.seen monitor.new }
     ensures told { OnOk result (monitor.new.kept ≡ None) }
     ensures cause { IfErr result (IsCaused (P.faults spawner.old) (P.faults spawner.new) pass.old.mark pass.new.mark pass.new.seen) }
 {
@@ -74,9 +71,7 @@ pub fn attend<K: Keeper, P: Spawner, C: Clock, R: Wait>(
     board: &Board,
 ) -> Option<MonitorFault>
     requires own { IsPassOf floor.now pass.old }
-    requires owes { OwesSeen pass.old.seen monitor.old }
     ensures part { MonitorAttends P.asked P.told P.misses P.faults floor.now pass.old monitor.old spawner.old pass.new monitor.new spawner.new }
-    ensures owes { OwesSeen pass.new.seen monitor.new }
     ensures told { result ≡ None → monitor.new.kept ≡ None }
     ensures cause { IfSome result (IsCaused (P.faults spawner.old) (P.faults spawner.new) pass.old.mark pass.new.mark pass.new.seen) }
 {

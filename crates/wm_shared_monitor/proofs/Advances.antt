@@ -13,14 +13,14 @@ use Rattle.wm_traits.specs.Told.{Grows}
 use Rattle.wm_traits.proofs.Telling.{Grows-none, Grows-then}
 use Rattle.wm_monitor.specs.Asking.{AsksFor}
 use Rattle.wm_monitor.specs.Lists.{IsAmong}
-use Rattle.wm_monitor.specs.Monitor.{RisesBy, call_of, is_spawner_fault}
+use Rattle.wm_monitor.specs.Monitor.{RisesBy, call_of, hands_of, is_spawner_fault}
 use Rattle.wm_monitor.specs.declared.report.Report.{Report}
 use Rattle.wm_monitor.proofs.Askings.{AsksFor-again, AsksFor-nothing, AsksFor-order, AsksFor-then}
 use Rattle.wm_monitor.proofs.Hands.{hands-append}
 use Rattle.wm_monitor.proofs.Lists.{IsAmong-front, IsAmong-more, since-then}
 use Rattle.wm_monitor.proofs.Monitors.{RisesBy-then, count-append}
 use Rattle.wm_floor.specs.Floor.{Floored, IsPassOf, Seen}
-use Rattle.wm_shared_monitor.specs.Advance.{Advances, GoesOn, HasAsked, HasReported, IsWithin, added}
+use Rattle.wm_shared_monitor.specs.Advance.{Advances, AdvancesFor, GoesOn, HasAsked, HasReported, IsWithin, added}
 use Rattle.wm_shared_monitor.specs.Scene.{Scene, Spawning}
 use Rattle.wm_shared_monitor.proofs.Passes.{GoesOn-none, GoesOn-then, since-by}
 
@@ -44,47 +44,30 @@ IsWithin-append h o i k es fs v w =
 -- asks, and then more of them
 pub HasAsked-then : (os ps : List Asked) (a b c : Scene) → HasAsked os a b → HasAsked ps b c → HasAsked (os ++ ps) a c
 HasAsked-then os ps a b c h k = record {
-  done = h.done ++ k.done;
-  whole = sym (append_assoc a.owed os ps) ∙ (ap (λ (xs : List Asked). xs ++ ps) h.whole ∙ (append_assoc h.done b.owed ps ∙ (ap (λ (xs : List Asked). h.done ++ xs) k.whole ∙ sym (append_assoc h.done k.done c.owed))));
-  asked = AsksFor-then a.failed b.failed a.spawning.asked b.spawning.asked c.spawning.asked h.done k.done h.asked h.failed k.asked;
-  failed = λ x within. subst (λ (xs : List Asked). Contains xs x) (append_assoc a.failed h.done k.done) (IsAmong-more b.failed (a.failed ++ h.done) k.done h.failed x (k.failed x within));
+  asked = AsksFor-then a.failed b.failed a.spawning.asked b.spawning.asked c.spawning.asked os ps h.asked h.failed k.asked;
+  failed = λ x within. subst (λ (xs : List Asked). Contains xs x) (append_assoc a.failed os ps) (IsAmong-more b.failed (a.failed ++ os) ps h.failed x (k.failed x within));
 }
 
--- nothing is asked that was ordered
-pub HasAsked-nothing : (a b : Scene) → b.owed ≡ a.owed → b.failed ≡ a.failed → Grows a.spawning.asked b.spawning.asked [] → HasAsked [] a b
-HasAsked-nothing a b owed failed grows = record {
-  done = [];
-  whole = append-nil a.owed ∙ sym owed;
+-- nothing is asked
+pub HasAsked-nothing : (a b : Scene) → b.failed ≡ a.failed → Grows a.spawning.asked b.spawning.asked [] → HasAsked [] a b
+HasAsked-nothing a b failed grows = record {
   asked = AsksFor-nothing a.failed a.spawning.asked b.spawning.asked grows;
   failed = subst (λ (xs : List Asked). IsAmong xs (a.failed ++ [])) (sym failed) (IsAmong-front a.failed []);
 }
 
 pub HasAsked-none : (a : Scene) → HasAsked [] a a
-HasAsked-none a = HasAsked-nothing a a refl refl (Grows-none a.spawning.asked)
+HasAsked-none a = HasAsked-nothing a a refl (Grows-none a.spawning.asked)
 
--- what a Hand ordered is owed
-pub HasAsked-owed : (os : List Asked) (a b : Scene) → a.owed ≡ [] → b.owed ≡ os → b.failed ≡ a.failed → b.spawning ≡ a.spawning → HasAsked os a b
-HasAsked-owed os a b none owed failed same = record {
-  done = [];
-  whole = ap (λ (xs : List Asked). xs ++ os) none ∙ sym owed;
-  asked = AsksFor-nothing a.failed a.spawning.asked b.spawning.asked (subst (λ (t : Option (List Asked)). Grows a.spawning.asked t []) (sym (ap (λ (s : Spawning). s.asked) same)) (Grows-none a.spawning.asked));
-  failed = subst (λ (xs : List Asked). IsAmong xs (a.failed ++ [])) (sym failed) (IsAmong-front a.failed []);
-}
-
--- an order that was owed is asked
-pub HasAsked-order : (x : Asked) (a b : Scene) → a.owed ≡ x ∷ [] → b.owed ≡ [] → a.failed ≡ [] → IsAmong b.failed (x ∷ []) → Grows a.spawning.asked b.spawning.asked (x ∷ []) → HasAsked [] a b
-HasAsked-order x a b owed none clear failed grows = record {
-  done = x ∷ [];
-  whole = append-nil a.owed ∙ (owed ∙ ap (λ (xs : List Asked). x ∷ xs) (sym none));
+-- an order is asked
+pub HasAsked-order : (x : Asked) (a b : Scene) → a.failed ≡ [] → IsAmong b.failed (x ∷ []) → Grows a.spawning.asked b.spawning.asked (x ∷ []) → HasAsked (x ∷ []) a b
+HasAsked-order x a b clear failed grows = record {
   asked = AsksFor-order a.failed x a.spawning.asked b.spawning.asked grows;
   failed = subst (λ (xs : List Asked). IsAmong b.failed (xs ++ x ∷ [])) (sym clear) failed;
 }
 
 -- a kill is tried again
-pub HasAsked-again : (serial : ℕ) (a b : Scene) → b.owed ≡ a.owed → a.failed ≡ Kill serial ∷ [] → IsAmong b.failed (Kill serial ∷ []) → Grows a.spawning.asked b.spawning.asked (Kill serial ∷ []) → HasAsked [] a b
-HasAsked-again serial a b owed had failed grows = record {
-  done = [];
-  whole = append-nil a.owed ∙ sym owed;
+pub HasAsked-again : (serial : ℕ) (a b : Scene) → a.failed ≡ Kill serial ∷ [] → IsAmong b.failed (Kill serial ∷ []) → Grows a.spawning.asked b.spawning.asked (Kill serial ∷ []) → HasAsked [] a b
+HasAsked-again serial a b had failed grows = record {
   asked = subst (λ (xs : List Asked). AsksFor xs a.spawning.asked b.spawning.asked []) (sym had) (AsksFor-again serial a.spawning.asked b.spawning.asked grows);
   failed = subst (λ (xs : List Asked). IsAmong b.failed xs) (sym (append-nil a.failed ∙ had)) failed;
 }
@@ -149,6 +132,21 @@ orders_none e m no_hand = by (e.caller == m) refl
     by true is = rw (is, no_hand) refl
     by false is = rw is refl
 
+-- entries without a Hand order nothing
+pub orders_without : (es : List Entry) (m : ℕ) → hands_of es ≤ 0 → orders es m ≡ []
+orders_without [] m none = refl
+orders_without (e ∷ es) m none = by (is_hand e.call) refl
+  where
+    by : (b : Bool) → is_hand e.call ≡ b → orders (e ∷ es) m ≡ []
+    by true is =
+        let one : hands_of (e ∷ []) ≡ 1 = rw is refl in
+        let both : hands_of (e ∷ es) ≡ hands_of (e ∷ []) + hands_of es = hands-append (e ∷ []) es in
+        absurd (omega arith)
+    by false is =
+        let both : hands_of (e ∷ es) ≡ hands_of (e ∷ []) + hands_of es = hands-append (e ∷ []) es in
+        let whole : orders (e ∷ es) m ≡ orders (e ∷ []) m ++ orders es m = filter_map-append (ordered m) (e ∷ []) es in
+        whole ∙ (ap (λ (xs : List Asked). xs ++ orders es m) (orders_none e m is) ∙ orders_without es m (omega arith))
+
 pub reports_one : (e : Entry) (m : ℕ) → e.caller ≡ m → is_report e.call ≡ true → reports (e ∷ []) m ≡ e.call ∷ []
 reports_one e m own report = let test : e.caller == m ≡ true = eq-eqb e.caller m own in rw (test, report) refl
 
@@ -161,16 +159,25 @@ reports_none e m no_report = by (e.caller == m) refl
 
 module _ {K : Type 0} (f : Floored K) where
   -- what is done, by the entries that are made
-  pub Advances-by : (h o : ℕ) (p q : Seen K) (a b : Scene) (es : List Entry) (os : List Asked) (rs : List Call) → GoesOn f p q → q.mine ≡ p.mine ++ es → IsWithin h o es → orders es p.number ≡ os → reports es p.number ≡ rs → HasAsked os a b → HasReported rs a b → a.spawning.faults ≤ b.spawning.faults → Advances f h o p q a b
-  Advances-by h o p q a b es os rs pass mine within o_is r_is asked reported faults =
+  pub AdvancesFor-by : (h o : ℕ) (p q : Seen K) (a b : Scene) (es : List Entry) (os : List Asked) (rs : List Call) → GoesOn f p q → q.mine ≡ p.mine ++ es → IsWithin h o es → reports es p.number ≡ rs → HasAsked os a b → HasReported rs a b → a.spawning.faults ≤ b.spawning.faults → AdvancesFor f h o os p q a b
+  AdvancesFor-by h o p q a b es os rs pass mine within r_is asked reported faults =
       let made : added p q ≡ es = since-by p.mine q.mine es mine in
       record {
         pass = pass;
         within = subst (λ (xs : List Entry). IsWithin h o xs) (sym made) within;
-        asked = subst (λ (xs : List Asked). HasAsked xs a b) (sym (ap (λ (xs : List Entry). orders xs p.number) made ∙ o_is)) asked;
+        asked = asked;
         reported = subst (λ (xs : List Call). HasReported xs a b) (sym (ap (λ (xs : List Entry). reports xs p.number) made ∙ r_is)) reported;
         faults = faults;
       }
+
+  -- what was ordered is what the new Hands order
+  pub Advances-of : (h o : ℕ) (os : List Asked) (p q : Seen K) (a b : Scene) → orders (added p q) p.number ≡ os → AdvancesFor f h o os p q a b → Advances f h o p q a b
+  Advances-of h o os p q a b is part = subst (λ (xs : List Asked). AdvancesFor f h o xs p q a b) (sym is) part
+
+  pub Advances-by : (h o : ℕ) (p q : Seen K) (a b : Scene) (es : List Entry) (os : List Asked) (rs : List Call) → GoesOn f p q → q.mine ≡ p.mine ++ es → IsWithin h o es → orders es p.number ≡ os → reports es p.number ≡ rs → HasAsked os a b → HasReported rs a b → a.spawning.faults ≤ b.spawning.faults → Advances f h o p q a b
+  Advances-by h o p q a b es os rs pass mine within o_is r_is asked reported faults =
+      let made : added p q ≡ es = since-by p.mine q.mine es mine in
+      Advances-of h o os p q a b (ap (λ (xs : List Entry). orders xs p.number) made ∙ o_is) (AdvancesFor-by h o p q a b es os rs pass mine within r_is asked reported faults)
 
   -- no entry is made
   pub Advances-quiet : (h o : ℕ) (p q : Seen K) (a b : Scene) → GoesOn f p q → q.mine ≡ p.mine → HasAsked [] a b → HasReported [] a b → a.spawning.faults ≤ b.spawning.faults → Advances f h o p q a b
@@ -178,6 +185,10 @@ module _ {K : Type 0} (f : Floored K) where
       Advances-by h o p q a b [] [] [] pass (mine ∙ sym (append-nil p.mine)) (IsWithin-none h o) refl refl asked reported faults
 
   -- the pass isn't called
+  pub AdvancesFor-still : (h o : ℕ) (os : List Asked) (p : Seen K) (a b : Scene) → IsPassOf f p → HasAsked os a b → HasReported [] a b → a.spawning.faults ≤ b.spawning.faults → AdvancesFor f h o os p p a b
+  AdvancesFor-still h o os p a b own asked reported faults =
+      AdvancesFor-by h o p p a b [] os [] (GoesOn-none f p own) (sym (append-nil p.mine)) (IsWithin-none h o) refl asked reported faults
+
   pub Advances-still : (h o : ℕ) (p : Seen K) (a b : Scene) → IsPassOf f p → HasAsked [] a b → HasReported [] a b → a.spawning.faults ≤ b.spawning.faults → Advances f h o p p a b
   Advances-still h o p a b own asked reported faults = Advances-quiet h o p p a b (GoesOn-none f p own) refl asked reported faults
 
@@ -198,20 +209,34 @@ module _ {K : Type 0} (f : Floored K) where
   }
 
   -- one thing, and then another
-  pub Advances-then : (h o i k : ℕ) (p q r : Seen K) (a b c : Scene) → Advances f h o p q a b → Advances f i k q r b c → Advances f (h + i) (o + k) p r a c
-  Advances-then h o i k p q r a b c one two =
+  pub AdvancesFor-then : (h o i k : ℕ) (os ps : List Asked) (p q r : Seen K) (a b c : Scene) → AdvancesFor f h o os p q a b → AdvancesFor f i k ps q r b c → AdvancesFor f (h + i) (o + k) (os ++ ps) p r a c
+  AdvancesFor-then h o i k os ps p q r a b c one two =
       let es = added p q in
       let fs = added q r in
       let m = p.number in
       let made : added p r ≡ es ++ fs = since-then p.mine q.mine r.mine one.pass.mine two.pass.mine in
-      let o_is : orders (es ++ fs) m ≡ orders es m ++ orders fs m = filter_map-append (ordered m) es fs in
       let r_is : reports (es ++ fs) m ≡ reports es m ++ reports fs m = filter_map-append (reported_in m) es fs in
-      let asked_two = subst (λ (n : ℕ). HasAsked (orders fs n) b c) one.pass.same.number two.asked in
       let reported_two = subst (λ (n : ℕ). HasReported (reports fs n) b c) one.pass.same.number two.reported in
       record {
         pass = GoesOn-then f p q r one.pass two.pass;
         within = subst (λ (xs : List Entry). IsWithin (h + i) (o + k) xs) (sym made) (IsWithin-append h o i k es fs one.within two.within);
-        asked = subst (λ (xs : List Asked). HasAsked xs a c) (sym (ap (λ (xs : List Entry). orders xs m) made ∙ o_is)) (HasAsked-then (orders es m) (orders fs m) a b c one.asked asked_two);
+        asked = HasAsked-then os ps a b c one.asked two.asked;
         reported = subst (λ (xs : List Call). HasReported xs a c) (sym (ap (λ (xs : List Entry). reports xs m) made ∙ r_is)) (HasReported-then (reports es m) (reports fs m) a b c one.reported reported_two);
         faults = let x = one.faults in let y = two.faults in omega arith;
       }
+
+  pub Advances-then : (h o i k : ℕ) (p q r : Seen K) (a b c : Scene) → Advances f h o p q a b → Advances f i k q r b c → Advances f (h + i) (o + k) p r a c
+  Advances-then h o i k p q r a b c one two =
+      let es = added p q in
+      let fs = added q r in
+      let made : added p r ≡ es ++ fs = since-then p.mine q.mine r.mine one.pass.mine two.pass.mine in
+      let whole : orders (es ++ fs) p.number ≡ orders es p.number ++ orders fs p.number = filter_map-append (ordered p.number) es fs in
+      let later : orders es p.number ++ orders fs p.number ≡ orders es p.number ++ orders fs q.number = ap (λ (n : ℕ). orders es p.number ++ orders fs n) (sym one.pass.same.number) in
+      Advances-of (h + i) (o + k) (orders es p.number ++ orders fs q.number) p r a c (ap (λ (xs : List Entry). orders xs p.number) made ∙ (whole ∙ later)) (AdvancesFor-then h o i k (orders es p.number) (orders fs q.number) p q r a b c one two)
+
+  -- what was ordered is done, and then something without a Hand
+  pub AdvancesFor-more : (h o k : ℕ) (os : List Asked) (p q r : Seen K) (a b c : Scene) → AdvancesFor f h o os p q a b → Advances f 0 k q r b c → AdvancesFor f h (o + k) os p r a c
+  AdvancesFor-more h o k os p q r a b c one two =
+      let none = orders_without (added q r) q.number two.within.hands_most in
+      let whole = AdvancesFor-then h o 0 k os (orders (added q r) q.number) p q r a b c one two in
+      subst (λ (xs : List Asked). AdvancesFor f h (o + k) xs p r a c) (ap (λ (xs : List Asked). os ++ xs) none ∙ append-nil os) whole

@@ -1,8 +1,6 @@
 -- What one call of a monitor's pass comes to.
-use Rattle.std.proofs.Common.{◌≡◌, ℕ, ◌-◌, ◌<◌, ◌≤◌, true, List, [], ◌∷◌, ◌++◌, length, Some, Result, Ok, Err, IfOk, OnErr, sym, ap, subst, ◌∙◌, refl, append_assoc, arith}
+use Rattle.std.proofs.Common.{◌≡◌, ℕ, ◌<◌, ◌≤◌, true, List, [], ◌∷◌, ◌++◌, length, Result, Ok, Err, IfOk, OnErr, sym, ap, subst, ◌∙◌, refl, append_assoc, arith}
 use Rattle.std.specs.Prelude.{IfErr}
-use Rattle.std.specs.List.{slice_get}
-use Rattle.std.proofs.lemmas.List.{length_push}
 use Rattle.wm_law.specs.declared.call.Call.{Call}
 use Rattle.wm_law.specs.declared.call.Entry.{Entry}
 use Rattle.wm_law.specs.History.{is_monitor_call}
@@ -21,10 +19,6 @@ use Rattle.wm_shared_monitor.specs.Causes.{IsCaused, fault_of}
 use Rattle.wm_shared_monitor.specs.Idle.{IsCalledFor}
 use Rattle.wm_shared_monitor.specs.Made.{IsMade}
 use Rattle.wm_shared_monitor.proofs.Passes.{GoesOn-made, GoesOn-quiet}
-
-slice_get_push : {A : Type 0} (xs : List A) (y : A) → slice_get (xs ++ y ∷ []) (length xs) ≡ Some y
-slice_get_push [] y = refl
-slice_get_push (x ∷ xs) y = slice_get_push xs y
 
 -- the result of a call of the floor, as a monitor tells it
 pub record IsToldAs {T : Type 0} (was : Result T CallFault) (result : Result T MonitorFault) : Type 0 where
@@ -51,19 +45,7 @@ module _ {K : Type 0} (f : Floored K) (p q : Seen K) (call : Call) (now : ℕ) w
   -- its entry
   entered_made : (found : List Entry) (a : Answered) → IsEntered f.opening found call now p q a → IsMade call now p q a
   entered_made found a e =
-      let entry = entry_of f.opening found p.number call now in
-      let count = e.place ∙ (ap length e.seen ∙ length_push found entry) in
-      let before : a.place - 1 ≡ length found = omega (arith, count) in
-      record {
-        entry = entry;
-        caller = refl;
-        call_is = refl;
-        moment = refl;
-        mine = e.mine;
-        place = record { some = omega (arith, count); within = (let is = e.place in omega arith) };
-        found = ap (λ (i : ℕ). slice_get q.seen i) before ∙ (ap (λ (xs : List Entry). slice_get xs (length found)) e.seen ∙ slice_get_push found entry);
-        reply = e.reply;
-      }
+      record { entry = entry_of f.opening found p.number call now; caller = refl; call_is = refl; moment = refl; mine = e.mine; reply = e.reply }
 
   -- it isn't
   refused_part : (found : List Entry) → IsAsked → StartsWith found p.seen → IsRefused found p q → GoesOn f p q

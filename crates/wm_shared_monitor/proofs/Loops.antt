@@ -1,19 +1,18 @@
 -- What stays true while a monitor goes on.
 use Rattle.std.proofs.Common.{◌≡◌, ℕ, ◌+◌, ◌<◌, ◌≤◌, List, [], Option, None, length, sym, ap, ◌∙◌, refl, arith}
 use Rattle.std.proofs.lemmas.List.{nil_from_length}
-use Rattle.wm_base.specs.declared.job.Asked.{Asked}
 use Rattle.wm_monitor.specs.Monitor.{hands_of}
 use Rattle.wm_floor.specs.Floor.{Floored, IsPassOf, Seen}
 use Rattle.wm_shared_monitor.specs.declared.monitor.SharedMonitor.{SharedMonitor}
 use Rattle.wm_shared_monitor.specs.Advance.{Advances, GoesOn, added}
-use Rattle.wm_shared_monitor.specs.Scene.{IsClear, Spawning, order_owed, scene}
+use Rattle.wm_shared_monitor.specs.Scene.{IsClear, Spawning, scene}
 use Rattle.wm_shared_monitor.proofs.Advances.{Advances-looked, Advances-most, Advances-none, Advances-then}
-use Rattle.wm_shared_monitor.proofs.Parts.{count_then, hands_none, hands_then, made_none, owes_none, owes_nothing}
+use Rattle.wm_shared_monitor.proofs.Parts.{count_then, hands_none, hands_then, made_none}
 
 module _ {K : Type 0} where
   -- so many Hands have been made, with so many entries, and the monitor keeps nothing; as long as there was none, the same children have a report
   pub record HandLoop (f : Floored K) (p q : Seen K) (m n : SharedMonitor) (s t : Spawning) (reporting reporting_now : Option (List ℕ)) (count entries : ℕ) : Type 0 where
-    pub part : Advances f count 0 p q (scene m [] s) (scene n [] t)
+    pub part : Advances f count 0 p q (scene m s) (scene n t)
     pub clear : IsClear n
     pub hands : hands_of (added p q) ≡ count
     pub sent : entries ≡ length (added p q)
@@ -21,7 +20,7 @@ module _ {K : Type 0} where
 
   -- so many looks have been made, each with an entry, and the monitor keeps nothing; as long as there was none, the same children have a report
   pub record LookLoop (f : Floored K) (p q : Seen K) (m n : SharedMonitor) (s t : Spawning) (reporting reporting_now : Option (List ℕ)) (count : ℕ) : Type 0 where
-    pub part : Advances f 0 count p q (scene m [] s) (scene n [] t)
+    pub part : Advances f 0 count p q (scene m s) (scene n t)
     pub clear : IsClear n
     pub sent : count ≡ length (added p q)
     pub quiet : count ≡ 0 → reporting_now ≡ reporting
@@ -29,7 +28,7 @@ module _ {K : Type 0} where
   module _ (f : Floored K) where
     pub HandLoop-none : (p : Seen K) (m : SharedMonitor) (s : Spawning) (reporting : Option (List ℕ)) → IsPassOf f p → IsClear m → HandLoop f p p m m s s reporting reporting 0 0
     HandLoop-none p m s reporting own clear = record {
-      part = Advances-none f 0 0 p (scene m [] s) own;
+      part = Advances-none f 0 0 p (scene m s) own;
       clear = clear;
       hands = hands_none f p p refl;
       sent = made_none f p p refl;
@@ -37,37 +36,36 @@ module _ {K : Type 0} where
     }
 
     -- a look at what waits, and then a Hand
-    hand_round : (q r t : Seen K) (k n : SharedMonitor) (x w : Spawning) (owes : List Asked) → GoesOn f q r → r.mine ≡ q.mine → Advances f 1 0 r t (scene k [] x) (scene n owes w) → Advances f 1 0 q t (scene k [] x) (scene n owes w)
-    hand_round q r t k n x w owes goes same part =
-        let looked = Advances-looked f 0 0 q r (scene k [] x) goes same in
-        Advances-then f 0 0 1 0 q r t (scene k [] x) (scene k [] x) (scene n owes w) looked part
+    hand_round : (q r t : Seen K) (k n : SharedMonitor) (x w : Spawning) → GoesOn f q r → r.mine ≡ q.mine → Advances f 1 0 r t (scene k x) (scene n w) → Advances f 1 0 q t (scene k x) (scene n w)
+    hand_round q r t k n x w goes same part =
+        let looked = Advances-looked f 0 0 q r (scene k x) goes same in
+        Advances-then f 0 0 1 0 q r t (scene k x) (scene k x) (scene n w) looked part
 
     -- so many Hands, and then one that ends the call early
-    pub hands_part : (p q r t : Seen K) (m k n : SharedMonitor) (v x w : Spawning) (owes : List Asked) (count : ℕ) → count < 256 → Advances f count 0 p q (scene m [] v) (scene k [] x) → GoesOn f q r → r.mine ≡ q.mine → Advances f 1 0 r t (scene k [] x) (scene n owes w) → Advances f 256 0 p t (scene m [] v) (scene n owes w)
-    hands_part p q r t m k n v x w owes count few part goes same hand =
-        let round = hand_round q r t k n x w owes goes same hand in
-        let whole = Advances-then f count 0 1 0 p q t (scene m [] v) (scene k [] x) (scene n owes w) part round in
-        Advances-most f (count + 1) 0 256 0 p t (scene m [] v) (scene n owes w) whole (omega arith) (omega arith)
+    pub hands_part : (p q r t : Seen K) (m k n : SharedMonitor) (v x w : Spawning) (count : ℕ) → count < 256 → Advances f count 0 p q (scene m v) (scene k x) → GoesOn f q r → r.mine ≡ q.mine → Advances f 1 0 r t (scene k x) (scene n w) → Advances f 256 0 p t (scene m v) (scene n w)
+    hands_part p q r t m k n v x w count few part goes same hand =
+        let round = hand_round q r t k n x w goes same hand in
+        let whole = Advances-then f count 0 1 0 p q t (scene m v) (scene k x) (scene n w) part round in
+        Advances-most f (count + 1) 0 256 0 p t (scene m v) (scene n w) whole (omega arith) (omega arith)
 
     -- so many Hands, and a last look at what waits
-    pub hands_end : (p q r : Seen K) (m k : SharedMonitor) (v x : Spawning) (count : ℕ) → count ≤ 256 → Advances f count 0 p q (scene m [] v) (scene k [] x) → GoesOn f q r → r.mine ≡ q.mine → k.owed ≡ None → Advances f 256 0 p r (scene m [] v) (scene k (order_owed r.seen k) x)
-    hands_end p q r m k v x count few part goes same none =
-        let looked = Advances-looked f 0 0 q r (scene k [] x) goes same in
-        let whole = Advances-then f count 0 0 0 p q r (scene m [] v) (scene k [] x) (scene k [] x) part looked in
-        owes_none f 256 0 p r m k [] v x none (Advances-most f (count + 0) 0 256 0 p r (scene m [] v) (scene k [] x) whole (omega arith) (omega arith))
+    pub hands_end : (p q r : Seen K) (m k : SharedMonitor) (v x : Spawning) (count : ℕ) → count ≤ 256 → Advances f count 0 p q (scene m v) (scene k x) → GoesOn f q r → r.mine ≡ q.mine → Advances f 256 0 p r (scene m v) (scene k x)
+    hands_end p q r m k v x count few part goes same =
+        let looked = Advances-looked f 0 0 q r (scene k x) goes same in
+        let whole = Advances-then f count 0 0 0 p q r (scene m v) (scene k x) (scene k x) part looked in
+        Advances-most f (count + 0) 0 256 0 p r (scene m v) (scene k x) whole (omega arith) (omega arith)
 
-    pub HandLoop-more : (p q r t : Seen K) (m k n : SharedMonitor) (v x w : Spawning) (reporting before now : Option (List ℕ)) (count entries more : ℕ) → HandLoop f p q m k v x reporting before count entries → GoesOn f q r → r.mine ≡ q.mine → Advances f 1 0 r t (scene k [] x) (scene n (order_owed t.seen n) w) → IsClear n → 1 ≤ hands_of (added r t) → more ≡ length (added r t) → HandLoop f p t m n v w reporting now (count + 1) (entries + more)
+    pub HandLoop-more : (p q r t : Seen K) (m k n : SharedMonitor) (v x w : Spawning) (reporting before now : Option (List ℕ)) (count entries more : ℕ) → HandLoop f p q m k v x reporting before count entries → GoesOn f q r → r.mine ≡ q.mine → Advances f 1 0 r t (scene k x) (scene n w) → IsClear n → 1 ≤ hands_of (added r t) → more ≡ length (added r t) → HandLoop f p t m n v w reporting now (count + 1) (entries + more)
     HandLoop-more p q r t m k n v x w reporting before now count entries more i goes same hand clear some sent =
-        let one = owes_nothing f 1 0 r t k n [] x w clear.no_order hand in
-        let round = hand_round q r t k n x w [] goes same one in
-        let hands_round = hands_then f q r t goes one.pass in
+        let round = hand_round q r t k n x w goes same hand in
+        let hands_round = hands_then f q r t goes hand.pass in
         let hands = hands_then f p q t i.part.pass round.pass in
-        let most = one.within.hands_most in
+        let most = hand.within.hands_most in
         let none = hands_none f q r same in
         let had = i.hands in
-        let later = count_then f q r t 0 more goes one.pass (made_none f q r same) sent in
+        let later = count_then f q r t 0 more goes hand.pass (made_none f q r same) sent in
         record {
-          part = Advances-then f count 0 1 0 p q t (scene m [] v) (scene k [] x) (scene n [] w) i.part round;
+          part = Advances-then f count 0 1 0 p q t (scene m v) (scene k x) (scene n w) i.part round;
           clear = clear;
           hands = omega arith;
           sent = count_then f p q t entries more i.part.pass round.pass i.sent (omega arith);
@@ -95,21 +93,21 @@ module _ {K : Type 0} where
 
     pub LookLoop-none : (p : Seen K) (m : SharedMonitor) (s : Spawning) (reporting : Option (List ℕ)) → IsPassOf f p → IsClear m → LookLoop f p p m m s s reporting reporting 0
     LookLoop-none p m s reporting own clear = record {
-      part = Advances-none f 0 0 p (scene m [] s) own;
+      part = Advances-none f 0 0 p (scene m s) own;
       clear = clear;
       sent = made_none f p p refl;
       quiet = λ none. refl;
     }
 
     -- so many looks, and then one more
-    pub looks_part : (p q t : Seen K) (m k n : SharedMonitor) (v x w : Spawning) (count : ℕ) → count < 256 → Advances f 0 count p q (scene m [] v) (scene k [] x) → Advances f 0 1 q t (scene k [] x) (scene n [] w) → Advances f 0 256 p t (scene m [] v) (scene n [] w)
+    pub looks_part : (p q t : Seen K) (m k n : SharedMonitor) (v x w : Spawning) (count : ℕ) → count < 256 → Advances f 0 count p q (scene m v) (scene k x) → Advances f 0 1 q t (scene k x) (scene n w) → Advances f 0 256 p t (scene m v) (scene n w)
     looks_part p q t m k n v x w count few part look =
-        let whole = Advances-then f 0 count 0 1 p q t (scene m [] v) (scene k [] x) (scene n [] w) part look in
-        Advances-most f 0 (count + 1) 0 256 p t (scene m [] v) (scene n [] w) whole (omega arith) (omega arith)
+        let whole = Advances-then f 0 count 0 1 p q t (scene m v) (scene k x) (scene n w) part look in
+        Advances-most f 0 (count + 1) 0 256 p t (scene m v) (scene n w) whole (omega arith) (omega arith)
 
-    pub LookLoop-more : (p q t : Seen K) (m k n : SharedMonitor) (v x w : Spawning) (reporting before now : Option (List ℕ)) (count : ℕ) → LookLoop f p q m k v x reporting before count → Advances f 0 1 q t (scene k [] x) (scene n [] w) → IsClear n → length (added q t) ≡ 1 → LookLoop f p t m n v w reporting now (count + 1)
+    pub LookLoop-more : (p q t : Seen K) (m k n : SharedMonitor) (v x w : Spawning) (reporting before now : Option (List ℕ)) (count : ℕ) → LookLoop f p q m k v x reporting before count → Advances f 0 1 q t (scene k x) (scene n w) → IsClear n → length (added q t) ≡ 1 → LookLoop f p t m n v w reporting now (count + 1)
     LookLoop-more p q t m k n v x w reporting before now count i look clear one = record {
-      part = Advances-then f 0 count 0 1 p q t (scene m [] v) (scene k [] x) (scene n [] w) i.part look;
+      part = Advances-then f 0 count 0 1 p q t (scene m v) (scene k x) (scene n w) i.part look;
       clear = clear;
       sent = count_then f p q t count 1 i.part.pass look.pass i.sent (sym one);
       quiet = λ no. absurd (omega arith);

@@ -3,12 +3,14 @@ use Rattle.std.proofs.Common.{◌≡◌, ℕ, ◌+◌, ◌≤◌, ◌==◌, true
 use Rattle.std.specs.List.{count_by, list_all}
 use Rattle.std.proofs.Math.Seq.{take-append_seam}
 use Rattle.std.proofs.lemmas.List.{length-append}
+use Rattle.std.proofs.lemmas.List.Elements.{filter_map-append}
 use Rattle.wm_base.specs.declared.job.Asked.{Asked}
 use Rattle.wm_base.specs.declared.job.Asked.TheVariants.{Kill}
 use Rattle.wm_law.specs.declared.call.Call.{Call}
 use Rattle.wm_law.specs.declared.call.Call.TheVariants as call
 use Rattle.wm_law.specs.declared.call.Entry.{Entry}
-use Rattle.wm_law.specs.History.{is_hand, is_report, order_in}
+use Rattle.wm_law.specs.declared.call.Reply.{Reply}
+use Rattle.wm_law.specs.History.{is_hand, is_report, order_in, ordered, orders}
 use Rattle.wm_traits.specs.Told.{Grows}
 use Rattle.wm_traits.proofs.Telling.{Grows-none, Grows-then}
 use Rattle.wm_monitor.specs.Asking.{AsksFirst, AsksFor}
@@ -22,11 +24,11 @@ use Rattle.wm_monitor.proofs.Lists.{IsAmong-nil, since-then}
 use Rattle.wm_floor.specs.declared.answer.Answered.{Answered}
 use Rattle.wm_floor.specs.Floor.{Floored, IsPassOf, Seen}
 use Rattle.wm_shared_monitor.specs.declared.monitor.SharedMonitor.{SharedMonitor}
-use Rattle.wm_shared_monitor.specs.Advance.{Advances, GoesOn, HasAsked, HasReported, IsWithin, added}
+use Rattle.wm_shared_monitor.specs.Advance.{Advances, AdvancesFor, GoesOn, HasAsked, HasReported, IsWithin, added}
 use Rattle.wm_shared_monitor.specs.Made.{AreAt, IsMade}
-use Rattle.wm_shared_monitor.specs.Scene.{IsAskedOrKept, IsClear, OwesSeen, Scene, Spawning, order_owed, scene}
-use Rattle.wm_shared_monitor.proofs.Advances.{Advances-by, Advances-looked, Advances-still, Advances-then, HasAsked-again, HasAsked-none, HasAsked-nothing, HasAsked-order, HasAsked-owed, HasReported-none, HasReported-nothing, HasReported-sent, HasReported-told, orders_none, orders_one, reports_none, reports_one}
-use Rattle.wm_shared_monitor.proofs.Passes.{owed_later, owed_none, since-by}
+use Rattle.wm_shared_monitor.specs.Scene.{IsAskedOrKept, IsClear, Scene, Spawning, scene}
+use Rattle.wm_shared_monitor.proofs.Advances.{Advances-by, Advances-of, Advances-still, Advances-then, AdvancesFor-by, AdvancesFor-more, AdvancesFor-still, AdvancesFor-then, HasAsked-again, HasAsked-none, HasAsked-nothing, HasAsked-order, HasReported-none, HasReported-nothing, HasReported-sent, HasReported-told, orders_none, orders_one, orders_without, reports_none, reports_one}
+use Rattle.wm_shared_monitor.proofs.Passes.{since-by}
 
 -- a report is no Hand
 report_call : (r : Report) → is_report (call_of r) ≡ true
@@ -53,87 +55,67 @@ pub kill_done : (n : SharedMonitor) (x : Asked) → n.failed_kill ≡ None → I
 kill_done n x is = subst (λ (f : Option ℕ). IsAmong (kill_left f) (x ∷ [])) (sym is) (IsAmong-nil (x ∷ []))
 
 -- a kill that was ordered is asked, and is kept where it failed
-pub killed_asked : (m n : SharedMonitor) (x : Asked) (s t : Spawning) → IsClear m → IsAmong (kill_left n.failed_kill) (x ∷ []) → Grows s.asked t.asked (x ∷ []) → HasAsked [] (scene m (x ∷ []) s) (scene n [] t)
-killed_asked m n x s t clear failed grows =
-    HasAsked-order x (scene m (x ∷ []) s) (scene n [] t) refl refl (ap kill_left clear.no_kill) failed grows
+pub killed_asked : (m n : SharedMonitor) (x : Asked) (s t : Spawning) → IsClear m → IsAmong (kill_left n.failed_kill) (x ∷ []) → Grows s.asked t.asked (x ∷ []) → HasAsked (x ∷ []) (scene m s) (scene n t)
+killed_asked m n x s t clear failed grows = HasAsked-order x (scene m s) (scene n t) (ap kill_left clear.no_kill) failed grows
 
-pub killed_reported : (m n : SharedMonitor) (xs ys : List Asked) (s t : Spawning) → n.kept ≡ m.kept → Grows s.told t.told [] → t.misses ≡ s.misses → HasReported [] (scene m xs s) (scene n ys t)
-killed_reported m n xs ys s t kept grows misses = HasReported-nothing (scene m xs s) (scene n ys t) (ap option_to_list kept) grows misses
+pub killed_reported : (m n : SharedMonitor) (s t : Spawning) → n.kept ≡ m.kept → Grows s.told t.told [] → t.misses ≡ s.misses → HasReported [] (scene m s) (scene n t)
+killed_reported m n s t kept grows misses = HasReported-nothing (scene m s) (scene n t) (ap option_to_list kept) grows misses
 
 -- an answer of the spawner is kept
-pub kept_reported : (m n : SharedMonitor) (o : Option Report) (xs ys : List Asked) (s t : Spawning) → m.kept ≡ None → n.kept ≡ o → Grows s.told t.told (map call_of (option_to_list o)) → RisesBy s.misses (count_by is_spawner_fault (map call_of (option_to_list o))) t.misses → HasReported [] (scene m xs s) (scene n ys t)
-kept_reported m n o xs ys s t none is grows rises =
+pub kept_reported : (m n : SharedMonitor) (o : Option Report) (s t : Spawning) → m.kept ≡ None → n.kept ≡ o → Grows s.told t.told (map call_of (option_to_list o)) → RisesBy s.misses (count_by is_spawner_fault (map call_of (option_to_list o))) t.misses → HasReported [] (scene m s) (scene n t)
+kept_reported m n o s t none is grows rises =
     let list : option_to_list n.kept ≡ option_to_list o = ap option_to_list is in
     let grows_by = subst (λ (ks : List Report). Grows s.told t.told (map call_of ks)) (sym list) grows in
     let rises_by = subst (λ (ks : List Report). RisesBy s.misses (count_by is_spawner_fault (map call_of ks)) t.misses) (sym list) rises in
-    HasReported-told (scene m xs s) (scene n ys t) (ap option_to_list none) grows_by rises_by
+    HasReported-told (scene m s) (scene n t) (ap option_to_list none) grows_by rises_by
 
 -- a look asks nothing
-pub looked_asked : (m n : SharedMonitor) (xs : List Asked) (s t : Spawning) → n.failed_kill ≡ m.failed_kill → Grows s.asked t.asked [] → HasAsked [] (scene m xs s) (scene n xs t)
-looked_asked m n xs s t failed grows = HasAsked-nothing (scene m xs s) (scene n xs t) refl (ap kill_left failed) grows
+pub looked_asked : (m n : SharedMonitor) (s t : Spawning) → n.failed_kill ≡ m.failed_kill → Grows s.asked t.asked [] → HasAsked [] (scene m s) (scene n t)
+looked_asked m n s t failed grows = HasAsked-nothing (scene m s) (scene n t) (ap kill_left failed) grows
 
 -- the kill that failed is asked again
-pub again_asked : (m n : SharedMonitor) (serial : ℕ) (xs : List Asked) (s t : Spawning) → m.failed_kill ≡ Some serial → IsAmong (kill_left n.failed_kill) (Kill serial ∷ []) → Grows s.asked t.asked (Kill serial ∷ []) → HasAsked [] (scene m xs s) (scene n xs t)
-again_asked m n serial xs s t had failed grows = HasAsked-again serial (scene m xs s) (scene n xs t) refl (ap kill_left had) failed grows
+pub again_asked : (m n : SharedMonitor) (serial : ℕ) (s t : Spawning) → m.failed_kill ≡ Some serial → IsAmong (kill_left n.failed_kill) (Kill serial ∷ []) → Grows s.asked t.asked (Kill serial ∷ []) → HasAsked [] (scene m s) (scene n t)
+again_asked m n serial s t had failed grows = HasAsked-again serial (scene m s) (scene n t) (ap kill_left had) failed grows
 
 module _ {K : Type 0} (f : Floored K) where
   -- the kept report is sent
-  pub sent_part : (p q : Seen K) (m n : SharedMonitor) (r : Report) (c : Call) (now : ℕ) (a : Answered) (owes : List Asked) (s : Spawning) → GoesOn f p q → IsMade c now p q a → c ≡ call_of r → m.kept ≡ Some r → n.kept ≡ None → n.failed_kill ≡ m.failed_kill → Advances f 0 1 p q (scene m owes s) (scene n owes s)
-  sent_part p q m n r c now a owes s goes made is had none failed =
+  pub sent_part : (p q : Seen K) (m n : SharedMonitor) (r : Report) (c : Call) (now : ℕ) (a : Answered) (s : Spawning) → GoesOn f p q → IsMade c now p q a → c ≡ call_of r → m.kept ≡ Some r → n.kept ≡ None → n.failed_kill ≡ m.failed_kill → Advances f 0 1 p q (scene m s) (scene n s)
+  sent_part p q m n r c now a s goes made is had none failed =
       let e = made.entry in
       let call_is : e.call ≡ call_of r = made.call_is ∙ is in
       let hand : is_hand e.call ≡ false = ap is_hand call_is ∙ no_hand r in
       let report : is_report e.call ≡ true = ap is_report call_is ∙ report_call r in
       let reports_is = reports_one e p.number made.caller report ∙ ap (λ (x : Call). x ∷ []) call_is in
-      Advances-by f 0 1 p q (scene m owes s) (scene n owes s) (e ∷ []) [] (call_of r ∷ []) goes made.mine (one_other e hand) (orders_none e p.number hand) reports_is
-      (looked_asked m n owes s s failed (Grows-none s.asked)) (HasReported-sent r (scene m owes s) (scene n owes s) (ap option_to_list had) (ap option_to_list none) refl) (omega arith)
+      Advances-by f 0 1 p q (scene m s) (scene n s) (e ∷ []) [] (call_of r ∷ []) goes made.mine (one_other e hand) (orders_none e p.number hand) reports_is
+      (looked_asked m n s s failed (Grows-none s.asked)) (HasReported-sent r (scene m s) (scene n s) (ap option_to_list had) (ap option_to_list none) refl) (omega arith)
 
-  -- the same of what is owed, told otherwise
-  pub Advances-owing : (h o : ℕ) (p q : Seen K) (m n : SharedMonitor) (xs xs' ys ys' : List Asked) (v w : Spawning) → xs' ≡ xs → ys' ≡ ys → Advances f h o p q (scene m xs v) (scene n ys w) → Advances f h o p q (scene m xs' v) (scene n ys' w)
-  Advances-owing h o p q m n xs xs' ys ys' v w old new part =
-      subst (λ (zs : List Asked). Advances f h o p q (scene m xs' v) (scene n zs w)) (sym new) (subst (λ (zs : List Asked). Advances f h o p q (scene m zs v) (scene n ys w)) (sym old) part)
-
-  -- what is owed stays owed, by its place
-  pub owes_still : (h o : ℕ) (p q : Seen K) (m n : SharedMonitor) (v w : Spawning) → OwesSeen p.seen m → n.owed ≡ m.owed → Advances f h o p q (scene m (order_owed p.seen m) v) (scene n (order_owed p.seen m) w) → Advances f h o p q (scene m (order_owed p.seen m) v) (scene n (order_owed q.seen n) w)
-  owes_still h o p q m n v w owes same part =
-      let O = order_owed p.seen m in
-      Advances-owing h o p q m n O O O (order_owed q.seen n) v w refl (owed_later p.seen q.seen m n part.pass.seen owes same) part
-
-  -- a monitor that has no place of an order owes none
-  pub owes_none : (h o : ℕ) (p q : Seen K) (m n : SharedMonitor) (xs : List Asked) (v w : Spawning) → n.owed ≡ None → Advances f h o p q (scene m xs v) (scene n [] w) → Advances f h o p q (scene m xs v) (scene n (order_owed q.seen n) w)
-  owes_none h o p q m n xs v w none part = Advances-owing h o p q m n xs xs [] (order_owed q.seen n) v w refl (owed_none q.seen n none) part
-
-  pub owes_nothing : (h o : ℕ) (p q : Seen K) (m n : SharedMonitor) (xs : List Asked) (v w : Spawning) → n.owed ≡ None → Advances f h o p q (scene m xs v) (scene n (order_owed q.seen n) w) → Advances f h o p q (scene m xs v) (scene n [] w)
-  owes_nothing h o p q m n xs v w none part = Advances-owing h o p q m n xs xs (order_owed q.seen n) [] v w refl (sym (owed_none q.seen n none)) part
-
-  -- a look at the reply of what is owed, and then it is done
-  pub paid_part : (p q r : Seen K) (m n : SharedMonitor) (xs : List Asked) (v w : Spawning) → GoesOn f p q → q.mine ≡ p.mine → order_owed p.seen m ≡ xs → n.owed ≡ None → Advances f 0 1 q r (scene m xs v) (scene n [] w) → Advances f 0 1 p r (scene m (order_owed p.seen m) v) (scene n (order_owed r.seen n) w)
-  paid_part p q r m n xs v w goes mine order none followed =
-      let looked = Advances-looked f 0 0 p q (scene m xs v) goes mine in
-      let base = Advances-then f 0 0 0 1 p q r (scene m xs v) (scene m xs v) (scene n [] w) looked followed in
-      Advances-owing 0 1 p r m n xs (order_owed p.seen m) [] (order_owed r.seen n) v w order (owed_none r.seen n none) base
+  -- a start was ordered and asked, and what the spawner told of it is sent
+  pub started_part : (p q : Seen K) (m k n : SharedMonitor) (x : Asked) (told_is : Option Report) (v w : Spawning) → IsPassOf f p → IsClear m → k.kept ≡ told_is → k.failed_kill ≡ m.failed_kill → Grows v.asked w.asked (x ∷ []) → Grows v.told w.told (map call_of (option_to_list told_is)) → RisesBy v.misses (count_by is_spawner_fault (map call_of (option_to_list told_is))) w.misses → v.faults ≤ w.faults → Advances f 0 1 p q (scene k w) (scene n w) → AdvancesFor f 0 1 (x ∷ []) p q (scene m v) (scene n w)
+  started_part p q m k n x told_is v w own clear kept failed asked told misses faults sent =
+      let first = AdvancesFor-still f 0 0 (x ∷ []) p (scene m v) (scene k w) own (killed_asked m k x v w clear (kill_done k x (failed ∙ clear.no_kill)) asked) (kept_reported m k told_is v w clear.no_report kept told misses) faults in
+      AdvancesFor-more f 0 0 1 (x ∷ []) p p q (scene m v) (scene k w) (scene n w) first sent
 
   -- the spawner told nothing
-  pub unreported_part : (h o : ℕ) (p : Seen K) (m : SharedMonitor) (xs : List Asked) (v w : Spawning) → IsPassOf f p → m.kept ≡ None → Grows v.asked w.asked [] → Grows v.told w.told [] → RisesBy v.misses 0 w.misses → v.faults ≤ w.faults → Advances f h o p p (scene m xs v) (scene m xs w)
-  unreported_part h o p m xs v w own none asked told misses faults =
-      Advances-still f h o p (scene m xs v) (scene m xs w) own (looked_asked m m xs v w refl asked) (kept_reported m m None xs xs v w none none told misses) faults
+  pub unreported_part : (h o : ℕ) (p : Seen K) (m : SharedMonitor) (v w : Spawning) → IsPassOf f p → m.kept ≡ None → Grows v.asked w.asked [] → Grows v.told w.told [] → RisesBy v.misses 0 w.misses → v.faults ≤ w.faults → Advances f h o p p (scene m v) (scene m w)
+  unreported_part h o p m v w own none asked told misses faults =
+      Advances-still f h o p (scene m v) (scene m w) own (looked_asked m m v w refl asked) (kept_reported m m None v w none none told misses) faults
 
   -- the same of a look that found nothing
-  pub quiet_part : (h o : ℕ) (p : Seen K) (m : SharedMonitor) (xs : List Asked) (v w : Spawning) (found : Option Report) → found ≡ None → IsPassOf f p → m.kept ≡ None → Grows v.asked w.asked [] → Grows v.told w.told (map call_of (option_to_list found)) → RisesBy v.misses (count_by is_spawner_fault (map call_of (option_to_list found))) w.misses → v.faults ≤ w.faults → Advances f h o p p (scene m xs v) (scene m xs w)
-  quiet_part h o p m xs v w found none own kept asked told misses faults =
-      Advances-still f h o p (scene m xs v) (scene m xs w) own (looked_asked m m xs v w refl asked) (kept_reported m m found xs xs v w kept (kept ∙ sym none) told misses) faults
+  pub quiet_part : (h o : ℕ) (p : Seen K) (m : SharedMonitor) (v w : Spawning) (found : Option Report) → found ≡ None → IsPassOf f p → m.kept ≡ None → Grows v.asked w.asked [] → Grows v.told w.told (map call_of (option_to_list found)) → RisesBy v.misses (count_by is_spawner_fault (map call_of (option_to_list found))) w.misses → v.faults ≤ w.faults → Advances f h o p p (scene m v) (scene m w)
+  quiet_part h o p m v w found none own kept asked told misses faults =
+      Advances-still f h o p (scene m v) (scene m w) own (looked_asked m m v w refl asked) (kept_reported m m found v w kept (kept ∙ sym none) told misses) faults
 
   -- what the spawner told is kept, and then it is sent
-  pub reported_part : (p q : Seen K) (m k n : SharedMonitor) (told_is : Option Report) (xs : List Asked) (v w : Spawning) → IsPassOf f p → m.kept ≡ None → k.kept ≡ told_is → k.failed_kill ≡ m.failed_kill → Grows v.asked w.asked [] → Grows v.told w.told (map call_of (option_to_list told_is)) → RisesBy v.misses (count_by is_spawner_fault (map call_of (option_to_list told_is))) w.misses → v.faults ≤ w.faults → Advances f 0 1 p q (scene k xs w) (scene n xs w) → Advances f 0 1 p q (scene m xs v) (scene n xs w)
-  reported_part p q m k n told_is xs v w own none kept failed asked told misses faults sent =
-      let first = Advances-still f 0 0 p (scene m xs v) (scene k xs w) own (looked_asked m k xs v w failed asked) (kept_reported m k told_is xs xs v w none kept told misses) faults in
-      Advances-then f 0 0 0 1 p p q (scene m xs v) (scene k xs w) (scene n xs w) first sent
+  pub reported_part : (p q : Seen K) (m k n : SharedMonitor) (told_is : Option Report) (v w : Spawning) → IsPassOf f p → m.kept ≡ None → k.kept ≡ told_is → k.failed_kill ≡ m.failed_kill → Grows v.asked w.asked [] → Grows v.told w.told (map call_of (option_to_list told_is)) → RisesBy v.misses (count_by is_spawner_fault (map call_of (option_to_list told_is))) w.misses → v.faults ≤ w.faults → Advances f 0 1 p q (scene k w) (scene n w) → Advances f 0 1 p q (scene m v) (scene n w)
+  reported_part p q m k n told_is v w own none kept failed asked told misses faults sent =
+      let first = Advances-still f 0 0 p (scene m v) (scene k w) own (looked_asked m k v w failed asked) (kept_reported m k told_is v w none kept told misses) faults in
+      Advances-then f 0 0 0 1 p p q (scene m v) (scene k w) (scene n w) first sent
 
   -- the kept report is sent, and then the kill that failed is tried again
-  pub tried_part : (p q : Seen K) (m k n : SharedMonitor) (xs : List Asked) (v w : Spawning) → Advances f 0 1 p q (scene m xs v) (scene k xs v) → HasAsked [] (scene k xs v) (scene n xs w) → HasReported [] (scene k xs v) (scene n xs w) → v.faults ≤ w.faults → Advances f 0 1 p q (scene m xs v) (scene n xs w)
-  tried_part p q m k n xs v w sent asked reported faults =
-      let again = Advances-still f 0 0 q (scene k xs v) (scene n xs w) sent.pass.own asked reported faults in
-      Advances-then f 0 1 0 0 p q q (scene m xs v) (scene k xs v) (scene n xs w) sent again
+  pub tried_part : (p q : Seen K) (m k n : SharedMonitor) (v w : Spawning) → Advances f 0 1 p q (scene m v) (scene k v) → HasAsked [] (scene k v) (scene n w) → HasReported [] (scene k v) (scene n w) → v.faults ≤ w.faults → Advances f 0 1 p q (scene m v) (scene n w)
+  tried_part p q m k n v w sent asked reported faults =
+      let again = Advances-still f 0 0 q (scene k v) (scene n w) sent.pass.own asked reported faults in
+      Advances-then f 0 1 0 0 p q q (scene m v) (scene k v) (scene n w) sent again
 
   -- a Tick is made
   pub ticked_part : (p q : Seen K) (now : ℕ) (a : Answered) (around : Scene) → GoesOn f p q → IsMade call.Tick now p q a → Advances f 0 1 p q around around
@@ -202,28 +184,33 @@ module _ {K : Type 0} (f : Floored K) where
       subst (λ (xs : List Entry). AreAt coming xs) (sym one) (none_at p q coming same)
 
   -- a Hand, and then what it ordered is done
-  pub handed_part : (p q r : Seen K) (now : ℕ) (a : Answered) (m n : SharedMonitor) (os : List Asked) (s : Spawning) (c : Scene) → GoesOn f p q → (made : IsMade call.Hand now p q a) → os ≡ option_to_list (order_in made.entry.reply) → n.kept ≡ m.kept → n.failed_kill ≡ m.failed_kill → Advances f 0 1 q r (scene n os s) c → Advances f 1 0 p r (scene m [] s) c
-  handed_part p q r now a m n os s c goes made owed kept failed then =
+  pub handed_part : (p q r : Seen K) (now : ℕ) (a : Answered) (b c : Scene) → GoesOn f p q → IsMade call.Hand now p q a → AdvancesFor f 0 1 (option_to_list (order_in a.reply)) q r b c → Advances f 1 0 p r b c
+  handed_part p q r now a b c goes made then =
       let e = made.entry in
+      let os = option_to_list (order_in a.reply) in
       let hand : is_hand e.call ≡ true = ap is_hand made.call_is in
       let report : is_report e.call ≡ false = ap is_report made.call_is in
       let one : hands_of (e ∷ []) ≡ 1 = rw hand refl in
-      let first = Advances-by f 1 0 p q (scene m [] s) (scene n os s) (e ∷ []) os [] goes made.mine (record { hands_most = omega arith; others_most = omega arith }) (orders_one e p.number made.caller hand ∙ sym owed) (reports_none e p.number report) (HasAsked-owed os (scene m [] s) (scene n os s) refl refl (ap kill_left failed) refl) (HasReported-none (scene m [] s) (scene n os s) (ap option_to_list kept) refl) (omega arith) in
-      let whole = Advances-then f 1 0 0 1 p q r (scene m [] s) (scene n os s) c first then in
+      let first = AdvancesFor-by f 1 0 p q b b (e ∷ []) [] [] goes made.mine (record { hands_most = omega arith; others_most = omega arith }) (reports_none e p.number report) (HasAsked-none b) (HasReported-none b b refl refl) (omega arith) in
+      let whole = AdvancesFor-then f 1 0 0 1 [] os p q r b b c first then in
       let all = added-then p q r goes then.pass in
       let front : added p q ≡ e ∷ [] = since-by p.mine q.mine (e ∷ []) made.mine in
       let es : added p r ≡ (e ∷ []) ++ added q r = all ∙ ap (λ (xs : List Entry). xs ++ added q r) front in
+      let none = orders_without (added q r) p.number then.within.hands_most in
+      let both : orders ((e ∷ []) ++ added q r) p.number ≡ orders (e ∷ []) p.number ++ orders (added q r) p.number = filter_map-append (ordered p.number) (e ∷ []) (added q r) in
+      let its : orders (e ∷ []) p.number ≡ os = orders_one e p.number made.caller hand ∙ ap (λ (x : Reply). option_to_list (order_in x)) (sym made.reply) in
+      let ordered_is : orders (added p r) p.number ≡ os = ap (λ (xs : List Entry). orders xs p.number) es ∙ (both ∙ (ap (λ (xs : List Asked). orders (e ∷ []) p.number ++ xs) none ∙ (append-nil (orders (e ∷ []) p.number) ∙ its))) in
       let hands = ap hands_of es ∙ hands-append (e ∷ []) (added q r) in
       let count = ap length es ∙ length-append (e ∷ []) (added q r) in
       let x = then.within.hands_most in
       let y = then.within.others_most in
-      record {
+      Advances-of f 1 0 os p r b c ordered_is (record {
         pass = whole.pass;
         within = record { hands_most = omega arith; others_most = omega arith };
         asked = whole.asked;
         reported = whole.reported;
         faults = whole.faults;
-      }
+      })
 
   -- there was a Hand
   pub handed_one : (p q r : Seen K) (now : ℕ) (a : Answered) → GoesOn f p q → IsMade call.Hand now p q a → GoesOn f q r → 1 ≤ hands_of (added p r)

@@ -1,26 +1,21 @@
 -- Laws of a pass that goes on.
-use Rattle.std.proofs.Common.{◌≡◌, ℕ, ◌<◌, ◌≤◌, ◌-◌, ◌&&◌, ◌==◌, Bool, true, zero, suc, List, [], ◌∷◌, ◌++◌, length, Option, Some, None, IfSome, option_to_list, sym, ap, subst, ◌∙◌, refl, eq-eqb, append-nil, arith, inl}
-use Rattle.std.specs.List.{list_all, slice_get}
-use Rattle.std.specs.Option.{option_and_then}
+use Rattle.std.proofs.Common.{◌≡◌, ℕ, ◌≤◌, ◌&&◌, ◌==◌, Bool, true, List, [], ◌∷◌, ◌++◌, length, sym, ap, subst, ◌∙◌, refl, eq-eqb, append-nil, arith, inl}
+use Rattle.std.specs.List.{list_all}
 use Rattle.std.proofs.lemmas.List.{length-append, nil_from_length}
 use Rattle.std.proofs.lemmas.List.Elements.{filter-append}
 use Rattle.std.proofs.lemmas.List.Folds.{list_all-append}
 use Rattle.wm_law.specs.declared.call.Entry.{Entry}
-use Rattle.wm_law.specs.declared.call.Reply.{Reply}
 use Rattle.wm_law.specs.declared.state.State.{State}
-use Rattle.wm_law.specs.History.{after, order_in}
+use Rattle.wm_law.specs.History.{after}
 use Rattle.wm_law.proofs.History.{after-append}
 use Rattle.wm_journal.specs.History.{reached}
 use Rattle.wm_turn.specs.Passed.{own}
 use Rattle.wm_monitor.specs.Lists.{since, Extends}
 use Rattle.wm_monitor.proofs.Lists.{Extends-then, since-append, since-then}
 use Rattle.wm_floor.specs.Floor.{Floored, HasLooked, IsPassOf, IsSame, Seen}
-use Rattle.wm_floor.specs.Ledger.{HasReply, behind, caller_of}
-use Rattle.wm_floor.specs.Replies.{IsCopyOf}
-use Rattle.wm_shared_monitor.specs.declared.monitor.SharedMonitor.{SharedMonitor}
+use Rattle.wm_floor.specs.Ledger.{behind, caller_of}
 use Rattle.wm_shared_monitor.specs.Advance.{GoesOn, is_monitors}
 use Rattle.wm_shared_monitor.specs.Idle.{NoneIsIdle, IsCalledFor}
-use Rattle.wm_shared_monitor.specs.Scene.{IsPlace, OwesSeen, order_at, order_owed}
 use Rattle.wm_shared_monitor.proofs.Idles.{NoneIsIdle-append, NoneIsIdle-one, NoneIsIdle-others}
 
 -- what stands behind the same front is the same
@@ -110,66 +105,3 @@ module _ {K : Type 0} (f : Floored K) where
         no_idle = subst (λ (xs : List Entry). NoneIsIdle p.number [] s xs) (sym (since-then p.seen q.seen r.seen h.seen k.seen)) all;
         mark = let x = h.mark in let y = k.mark in omega arith;
       }
-
--- what stands at a place stays there
-get_front : {A : Type 0} (xs ys : List A) (i : ℕ) → i < length xs → slice_get (xs ++ ys) i ≡ slice_get xs i
-get_front [] ys i h = absurd (omega arith)
-get_front (x ∷ xs) ys zero h = refl
-get_front (x ∷ xs) ys (suc i) h = get_front xs ys i (omega arith)
-
-pub get_later : {A : Type 0} (old new : List A) (i : ℕ) → Extends old new → i < length old → slice_get new i ≡ slice_get old i
-get_later old new i grown h = ap (λ xs. slice_get xs i) grown ∙ get_front old (since old new) i h
-
--- so does what a monitor owes
-order_later : (old new : List Entry) (owed : Option ℕ) → Extends old new → IfSome owed (IsPlace old) → option_to_list (option_and_then (order_at new) owed) ≡ option_to_list (option_and_then (order_at old) owed)
-order_later old new None grown h = refl
-order_later old new (Some place) grown h =
-    let some = h.some in
-    let within = h.within in
-    ap (λ (e : Option Entry). option_to_list (option_and_then (λ (x : Entry). order_in x.reply) e)) (get_later old new (place - 1) grown (omega arith))
-
-place_later : (old new : List Entry) (owed : Option ℕ) → Extends old new → IfSome owed (IsPlace old) → IfSome owed (IsPlace new)
-place_later old new None grown h = tt
-place_later old new (Some place) grown h =
-    let count = ap length grown ∙ length-append old (since old new) in
-    let within = h.within in
-    record { some = h.some; within = omega arith }
-
-pub owed_later : (old new : List Entry) (m n : SharedMonitor) → Extends old new → OwesSeen old m → n.owed ≡ m.owed → order_owed new n ≡ order_owed old m
-owed_later old new m n grown h same =
-    ap (λ (o : Option ℕ). option_to_list (option_and_then (order_at new) o)) same ∙ order_later old new m.owed grown h
-
-pub seen_later : (old new : List Entry) (m n : SharedMonitor) → Extends old new → OwesSeen old m → n.owed ≡ m.owed → OwesSeen new n
-seen_later old new m n grown h same = subst (λ (o : Option ℕ). IfSome o (IsPlace new)) (sym same) (place_later old new m.owed grown h)
-
--- nothing is owed
-pub owed_none : (seen : List Entry) (m : SharedMonitor) → m.owed ≡ None → order_owed seen m ≡ []
-owed_none seen m none = ap (λ (o : Option ℕ). option_to_list (option_and_then (order_at seen) o)) none
-
-pub seen_none : (seen : List Entry) (m : SharedMonitor) → m.owed ≡ None → OwesSeen seen m
-seen_none seen m none = subst (λ (o : Option ℕ). IfSome o (IsPlace seen)) (sym none) tt
-
-get_some : {A : Type 0} (xs : List A) (i : ℕ) → i < length xs → (x : A) × (slice_get xs i ≡ Some x)
-get_some [] i h = absurd (omega arith)
-get_some (x ∷ xs) zero h = (x, refl)
-get_some (x ∷ xs) (suc i) h = get_some xs i (omega arith)
-
--- the copy of a reply orders what the reply does
-pub copy_order : (reply copy : Reply) (o : Option Reply) → IsCopyOf reply o → o ≡ Some copy → option_to_list (order_in copy) ≡ option_to_list (order_in reply)
-copy_order reply copy o is some =
-    let same : copy ≡ reply = subst (λ (c : Option Reply). IsCopyOf reply c) some is in
-    ap (λ (r : Reply). option_to_list (order_in r)) same
-
--- the reply at the place of what is owed orders it
-pub paid_order : (seen : List Entry) (m : SharedMonitor) (place : ℕ) (copy : Reply) → m.owed ≡ Some place → IsPlace seen place → HasReply (slice_get seen (place - 1)) (Some copy) → order_owed seen m ≡ option_to_list (order_in copy)
-paid_order seen m place copy owed is has =
-    let some = is.some in
-    let within = is.within in
-    let found = get_some seen (place - 1) (omega arith) in
-    let same = subst (λ (e : Option Entry). HasReply e (Some copy)) found.1 has in
-    ap (λ (o : Option ℕ). option_to_list (option_and_then (order_at seen) o)) owed ∙ (ap (λ (e : Option Entry). option_to_list (option_and_then (λ (x : Entry). order_in x.reply) e)) found.1 ∙ sym (copy_order found.0.reply copy (Some copy) same refl))
-
--- the order at the place of an entry is what the entry's reply orders
-pub made_order : (seen : List Entry) (m : SharedMonitor) (place : ℕ) (e : Entry) → m.owed ≡ Some place → slice_get seen (place - 1) ≡ Some e → order_owed seen m ≡ option_to_list (order_in e.reply)
-made_order seen m place e owed found =
-    ap (λ (o : Option ℕ). option_to_list (option_and_then (order_at seen) o)) owed ∙ ap (λ (x : Option Entry). option_to_list (option_and_then (λ (y : Entry). order_in y.reply) x)) found

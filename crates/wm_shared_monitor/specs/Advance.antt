@@ -15,7 +15,7 @@ use Rattle.wm_floor.specs.Floor.{Floored, IsPassOf, IsSame, Seen}
 use Rattle.wm_floor.specs.Ledger.{behind}
 use Rattle.wm_shared_monitor.specs.declared.monitor.SharedMonitor.{SharedMonitor}
 use Rattle.wm_shared_monitor.specs.Idle.{NoneIsIdle}
-use Rattle.wm_shared_monitor.specs.Scene.{Scene, order_owed, scene, spawner_seen}
+use Rattle.wm_shared_monitor.specs.Scene.{Scene, scene, spawner_seen}
 
 -- a call of a monitor
 abbrev pub is_monitors : Entry → Bool
@@ -26,12 +26,10 @@ pub record IsWithin (hands others : ℕ) (es : List Entry) : Type 0 where
   pub hands_most : hands_of es ≤ hands
   pub others_most : length es ≤ 2 * hands_of es + others
 
--- the orders that were owed, and then these, are those that were asked, and then those that are owed: asks stand for them, a kill that is tried again aside, and a kill that failed was so before or was asked
+-- asks stand for these orders, a kill that is tried again aside, and a kill that failed was so before or was ordered
 pub record HasAsked (ordered : List Asked) (old new : Scene) : Type 0 where
-  pub done : List Asked
-  pub whole : old.owed ++ ordered ≡ done ++ new.owed
-  pub asked : AsksFor old.failed old.spawning.asked new.spawning.asked done
-  pub failed : IsAmong new.failed (old.failed ++ done)
+  pub asked : AsksFor old.failed old.spawning.asked new.spawning.asked ordered
+  pub failed : IsAmong new.failed (old.failed ++ ordered)
 
 -- these reports, and then the kept one, are the one kept before, and then what the spawner told since; each of a failed start among these has raised its count
 pub record HasReported (reported : List Call) (old new : Scene) : Type 0 where
@@ -55,15 +53,19 @@ module _ {K : Type 0} where
     pub no_idle : NoneIsIdle old.number [] (reached (behind f.opening old.seen)) (since old.seen new.seen)
     pub mark : old.mark ≤ new.mark
 
-  -- the monitor's part from one moment to another, with so many Hands and others at the most
-  pub record Advances (f : Floored K) (hands others : ℕ) (p q : Seen K) (old new : Scene) : Type 0 where
+  -- the monitor's part from one moment to another, with so many Hands and others at the most, where this was ordered
+  pub record AdvancesFor (f : Floored K) (hands others : ℕ) (ordered : List Asked) (p q : Seen K) (old new : Scene) : Type 0 where
     pub pass : GoesOn f p q
     pub within : IsWithin hands others (added p q)
-    pub asked : HasAsked (orders (added p q) p.number) old new
+    pub asked : HasAsked ordered old new
     pub reported : HasReported (reports (added p q) p.number) old new
     pub faults : old.spawning.faults ≤ new.spawning.faults
 
-  -- the same of a monitor that may owe an order, where the spawner tells so much
+  -- the same where its new Hands ordered it
+  abbrev pub Advances : Floored K → ℕ → ℕ → Seen K → Seen K → Scene → Scene → Type 0
+  Advances f hands others p q old new = AdvancesFor f hands others (orders (added p q) p.number) p q old new
+
+  -- the same of a monitor, where the spawner tells so much
   abbrev pub MonitorAdvances : {P : Type 0} → (P → Option (List Asked)) → (P → Option (List Told)) → (P → ℕ) → (P → ℕ) → Floored K → ℕ → ℕ → Seen K → SharedMonitor → P → Seen K → SharedMonitor → P → Type 0
   MonitorAdvances asked told misses faults f hands others p monitor spawner q monitor' spawner' =
-      Advances f hands others p q (scene monitor (order_owed p.seen monitor) (spawner_seen asked told misses faults spawner)) (scene monitor' (order_owed q.seen monitor') (spawner_seen asked told misses faults spawner'))
+      Advances f hands others p q (scene monitor (spawner_seen asked told misses faults spawner)) (scene monitor' (spawner_seen asked told misses faults spawner'))

@@ -3,7 +3,7 @@ use crate::calling::{enter, tick};
 use std::alloc::Global;
 use std::sync::Wait;
 use wm_base::{Asked, Moment, Serial};
-use wm_floor::{Answered, Floor, FloorPass, Waiting};
+use wm_floor::{Floor, FloorPass, Waiting};
 use wm_law::{Call, Pending, Reply};
 use wm_monitor::{MonitorFault, Report, asking};
 use wm_traits::{Clock, Keeper, Spawner};
@@ -15,13 +15,11 @@ pub const MOST_HANDS: u32 = 256;
 pub const MOST_LOOKS: u32 = 256;
 
 /// A monitor, whose number is that of the pass with which it is called. It keeps the report that the floor didn't take, to send
-/// it first in its next call; the kill that failed, to try it again behind the report in its next turn; and the place of the
-/// order for whose copy there was no memory, to ask it behind these.
+/// it first in its next call, and the kill that failed, to try it again behind the report in its next turn.
 #[derive(Clone, Copy)]
 pub struct SharedMonitor {
     pub kept: Option<Report>,
     pub failed_kill: Option<Serial>,
-    pub owed: Option<u32>,
 }
 
 /// How many entries a call of a monitor made, and what waited as it looked last, behind so many entries of the history.
@@ -51,7 +49,6 @@ impl Turned {
 
 impl SharedMonitor {
     ghost use Rattle.std.specs.Prelude.{◌≡◌, ◌⊎◌, ℕ, ◌<◌, ◌≤◌, ◌+◌, ◌∷◌, [], List, None, Some, Ok, length, take, true, false, OnOk, OnErr, IfOk, IfErr, IfSome, option_to_list};
-    ghost use Rattle.wm_base.specs.declared.job.Asked.{Asked};
     ghost use Rattle.wm_base.specs.declared.job.Asked.TheVariants.{Kill};
     ghost use Rattle.wm_traits.specs.Told.{Grows, IsEmpty};
     ghost use Rattle.wm_law.specs.declared.call.Entry.{Entry};
@@ -62,21 +59,19 @@ impl SharedMonitor {
     ghost use Rattle.wm_monitor.specs.Monitor.{as_reports, hands_of};
     ghost use Rattle.wm_floor.specs.Floor.{IsPassOf};
     ghost use Rattle.wm_floor.specs.Ledger.{behind};
-    ghost use Rattle.wm_shared_monitor.specs.Advance.{added, Advances, HasAsked, HasReported, MonitorAdvances};
+    ghost use Rattle.wm_shared_monitor.specs.Advance.{added, Advances, AdvancesFor, HasAsked, HasReported, MonitorAdvances};
     ghost use Rattle.wm_shared_monitor.specs.Causes.{IsCaused};
     ghost use Rattle.wm_shared_monitor.specs.Made.{AreAt};
-    ghost use Rattle.wm_shared_monitor.specs.Scene.{order_owed, scene, spawner_seen, IsAskedOrKept, IsClear, OwesSeen, Scene, Spawning};
+    ghost use Rattle.wm_shared_monitor.specs.Scene.{scene, spawner_seen, IsAskedOrKept, IsClear, Spawning};
     ghost use Rattle.wm_shared_monitor.specs.Turned.{HadNothing, WaitedAt};
 
     /// A monitor that keeps nothing.
     pub fn new() -> SharedMonitor
         ensures clear { IsClear result }
-        ensures owes { (seen : List Entry) → OwesSeen seen result }
     {
         SharedMonitor {
             kept: None,
             failed_kill: None,
-            owed: None,
         }
     }
 
@@ -90,13 +85,12 @@ impl SharedMonitor {
         clock: &mut C,
     ) -> Result<u32, MonitorFault>
         requires own { IsPassOf floor.now pass.old }
-        ensures part { (owes : List Asked) (s : Spawning) → Advances floor.now 0 1 pass.old pass.new (scene self.old owes s) (scene self.new owes s) }
+        ensures part { (s : Spawning) → Advances floor.now 0 1 pass.old pass.new (scene self.old s) (scene self.new s) }
         ensures sent { IfOk result (λ n. n ≡ length (added pass.old pass.new)) }
         ensures some { OnOk result (IfSome self.old.kept (λ _. 1 ≤ length (added pass.old pass.new))) }
         ensures moment { AreAt (C.coming clock.old) (added pass.old pass.new) }
         ensures kept { OnOk result (self.new.kept ≡ None) }
         ensures kill { self.new.failed_kill ≡ self.old.failed_kill }
-        ensures owed { self.new.owed ≡ self.old.owed }
         ensures unread { self.old.kept ≡ None → clock.new ≡ clock.old }
         ensures cause { (faults : ℕ) → IfErr result (IsCaused faults faults pass.old.mark pass.new.mark pass.new.seen) }
     {
@@ -117,7 +111,6 @@ impl SharedMonitor {
         ensures done { OnOk result (self.new.failed_kill ≡ None) }
         ensures failed { OnErr result (self.new.failed_kill ≡ Some serial) }
         ensures kept { self.new.kept ≡ self.old.kept }
-        ensures owed { self.new.owed ≡ self.old.owed }
         ensures faults { P.faults spawner.old ≤ P.faults spawner.new }
         ensures cause { (mark : ℕ) (seen : List Entry) → IfErr result (IsCaused (P.faults spawner.old) (P.faults spawner.new) mark mark seen) }
     {
@@ -129,13 +122,12 @@ impl SharedMonitor {
 
     // Tries the kill that failed again.
     fn retry<P: Spawner>(&mut self, spawner: &mut P) -> Result<(), MonitorFault>
-        ensures asked { (owes : List Asked) → HasAsked [] (scene self.old owes (spawner_seen P.asked P.told P.misses P.faults spawner.old)) (scene self.new owes (spawner_seen P.asked P.told P.misses P.faults spawner.new)) }
-        ensures reported { (owes : List Asked) → HasReported [] (scene self.old owes (spawner_seen P.asked P.told P.misses P.faults spawner.old)) (scene self.new owes (spawner_seen P.asked P.told P.misses P.faults spawner.new)) }
+        ensures asked { HasAsked [] (scene self.old (spawner_seen P.asked P.told P.misses P.faults spawner.old)) (scene self.new (spawner_seen P.asked P.told P.misses P.faults spawner.new)) }
+        ensures reported { HasReported [] (scene self.old (spawner_seen P.asked P.told P.misses P.faults spawner.old)) (scene self.new (spawner_seen P.asked P.told P.misses P.faults spawner.new)) }
         ensures again { IfSome self.old.failed_kill (λ serial. Grows (P.asked spawner.old) (P.asked spawner.new) (Kill serial ∷ [])) }
         ensures quiet { self.old.failed_kill ≡ None → spawner.new ≡ spawner.old }
         ensures done { OnOk result (self.new.failed_kill ≡ None) }
         ensures kept { self.new.kept ≡ self.old.kept }
-        ensures owed { self.new.owed ≡ self.old.owed }
         ensures faults { P.faults spawner.old ≤ P.faults spawner.new }
         ensures cause { (mark : ℕ) (seen : List Entry) → IfErr result (IsCaused (P.faults spawner.old) (P.faults spawner.new) mark mark seen) }
     {
@@ -159,10 +151,9 @@ impl SharedMonitor {
     ) -> Result<u32, MonitorFault>
         requires own { IsPassOf floor.now pass.old }
         requires clear { IsClear self.old }
-        ensures part { Advances floor.now 0 1 pass.old pass.new (scene self.old (option_to_list (order_in reply.now)) (spawner_seen P.asked P.told P.misses P.faults spawner.old)) (scene self.new [] (spawner_seen P.asked P.told P.misses P.faults spawner.new)) }
+        ensures part { AdvancesFor floor.now 0 1 (option_to_list (order_in reply.now)) pass.old pass.new (scene self.old (spawner_seen P.asked P.told P.misses P.faults spawner.old)) (scene self.new (spawner_seen P.asked P.told P.misses P.faults spawner.new)) }
         ensures sent { IfOk result (λ n. n ≡ length (added pass.old pass.new)) }
         ensures clear { OnOk result (IsClear self.new) }
-        ensures owed { self.new.owed ≡ None }
         ensures cause { IfErr result (IsCaused (P.faults spawner.old) (P.faults spawner.new) pass.old.mark pass.new.mark pass.new.seen) }
     {
         match reply.order() {
@@ -179,40 +170,7 @@ impl SharedMonitor {
         }
     }
 
-    // Asks the order that is owed, where there is memory for its copy. It answers how many entries it made.
-    fn pay<K: Keeper, P: Spawner, C: Clock, R: Wait>(
-        &mut self,
-        rt: &R,
-        alloc: Global,
-        floor: &Floor<K>,
-        pass: &mut FloorPass<K>,
-        spawner: &mut P,
-        clock: &mut C,
-    ) -> Result<u32, MonitorFault>
-        requires own { IsPassOf floor.now pass.old }
-        requires no_report { self.old.kept ≡ None }
-        requires no_kill { self.old.failed_kill ≡ None }
-        requires owes { OwesSeen pass.old.seen self.old }
-        ensures part { MonitorAdvances P.asked P.told P.misses P.faults floor.now 0 1 pass.old self.old spawner.old pass.new self.new spawner.new }
-        ensures sent { IfOk result (λ n. n ≡ length (added pass.old pass.new)) }
-        ensures clear { OnOk result (IsClear self.new) }
-        ensures owes { OwesSeen pass.new.seen self.new }
-        ensures quiet { self.old.owed ≡ None → spawner.new ≡ spawner.old }
-        ensures unread { self.old.owed ≡ None → clock.new ≡ clock.old }
-        ensures cause { IfErr result (IsCaused (P.faults spawner.old) (P.faults spawner.new) pass.old.mark pass.new.mark pass.new.seen) }
-    {
-        let Some(place) = self.owed else {
-            return Ok(0);
-        };
-        let Some(reply) = floor.reply(rt, alloc, pass, place) else {
-            return Err(MonitorFault::NoMemory);
-        };
-        self.owed = None;
-        let sent = self.follow(rt, alloc, floor, pass, spawner, clock, &reply)?;
-        Ok(sent)
-    }
-
-    // Does what earlier calls left: the kept report, the kill that failed, and the order that is owed.
+    // Does what earlier calls left: the kept report and the kill that failed.
     fn settle<K: Keeper, P: Spawner, C: Clock, R: Wait>(
         &mut self,
         rt: &R,
@@ -223,22 +181,19 @@ impl SharedMonitor {
         clock: &mut C,
     ) -> Result<u32, MonitorFault>
         requires own { IsPassOf floor.now pass.old }
-        requires owes { OwesSeen pass.old.seen self.old }
-        ensures part { MonitorAdvances P.asked P.told P.misses P.faults floor.now 0 2 pass.old self.old spawner.old pass.new self.new spawner.new }
+        ensures part { MonitorAdvances P.asked P.told P.misses P.faults floor.now 0 1 pass.old self.old spawner.old pass.new self.new spawner.new }
         ensures sent { IfOk result (λ n. n ≡ length (added pass.old pass.new)) }
         ensures clear { OnOk result (IsClear self.new) }
-        ensures owes { OwesSeen pass.new.seen self.new }
         ensures some { OnOk result (IfSome self.old.kept (λ _. 1 ≤ length (added pass.old pass.new))) }
-        ensures quiet { self.old.failed_kill ≡ None → self.old.owed ≡ None → spawner.new ≡ spawner.old }
-        ensures unread { self.old.kept ≡ None → self.old.owed ≡ None → clock.new ≡ clock.old }
+        ensures quiet { self.old.failed_kill ≡ None → spawner.new ≡ spawner.old }
+        ensures unread { self.old.kept ≡ None → clock.new ≡ clock.old }
         ensures kill { IsAskedOrKept self.old.failed_kill (P.asked spawner.old) (P.asked spawner.new) self.new.failed_kill }
         ensures again { OnOk result (IfSome self.old.failed_kill (λ serial. AsksFirst (Kill serial) (P.asked spawner.old) (P.asked spawner.new))) }
         ensures cause { IfErr result (IsCaused (P.faults spawner.old) (P.faults spawner.new) pass.old.mark pass.new.mark pass.new.seen) }
     {
         let reported = self.send_kept(rt, alloc, floor, pass, clock)?;
         self.retry(spawner)?;
-        let paid = self.pay(rt, alloc, floor, pass, spawner, clock)?;
-        Ok(reported + paid)
+        Ok(reported)
     }
 
     // Makes one Hand and does its order. It answers how many entries it made.
@@ -254,22 +209,16 @@ impl SharedMonitor {
         requires own { IsPassOf floor.now pass.old }
         requires clear { IsClear self.old }
         requires called_for { 1 ≤ orders_left (reached (behind floor.now.opening pass.old.seen)) pass.old.number }
-        ensures part { Advances floor.now 1 0 pass.old pass.new (scene self.old [] (spawner_seen P.asked P.told P.misses P.faults spawner.old)) (scene self.new (order_owed pass.new.seen self.new) (spawner_seen P.asked P.told P.misses P.faults spawner.new)) }
+        ensures part { MonitorAdvances P.asked P.told P.misses P.faults floor.now 1 0 pass.old self.old spawner.old pass.new self.new spawner.new }
         ensures hand { OnOk result (1 ≤ hands_of (added pass.old pass.new)) }
         ensures moment { AreAt (C.coming clock.old) (take 1 (added pass.old pass.new)) }
         ensures sent { IfOk result (λ n. n ≡ length (added pass.old pass.new)) }
         ensures clear { OnOk result (IsClear self.new) }
-        ensures owes { OwesSeen pass.new.seen self.new }
         ensures cause { IfErr result (IsCaused (P.faults spawner.old) (P.faults spawner.new) pass.old.mark pass.new.mark pass.new.seen) }
     {
         let now = clock.now();
-        let Answered { place, reply } = enter(rt, alloc, floor, pass, Call::Hand, now)?;
-        let Some(reply) = reply else {
-            self.owed = Some(place);
-            let sent = self.pay(rt, alloc, floor, pass, spawner, clock)?;
-            return Ok(sent + 1);
-        };
-        let sent = self.follow(rt, alloc, floor, pass, spawner, clock, &reply)?;
+        let answered = enter(rt, alloc, floor, pass, Call::Hand, now)?;
+        let sent = self.follow(rt, alloc, floor, pass, spawner, clock, &answered.reply)?;
         Ok(sent + 1)
     }
 
@@ -285,14 +234,13 @@ impl SharedMonitor {
     ) -> Result<Turned, MonitorFault>
         requires own { IsPassOf floor.now pass.old }
         requires clear { IsClear self.old }
-        ensures part { Advances floor.now 256 0 pass.old pass.new (scene self.old [] (spawner_seen P.asked P.told P.misses P.faults spawner.old)) (scene self.new (order_owed pass.new.seen self.new) (spawner_seen P.asked P.told P.misses P.faults spawner.new)) }
+        ensures part { MonitorAdvances P.asked P.told P.misses P.faults floor.now 256 0 pass.old self.old spawner.old pass.new self.new spawner.new }
         ensures sent { IfOk result (λ turned. turned.sent ≡ length (added pass.old pass.new)) }
         ensures at { IfOk result (λ turned. turned.at ≡ length pass.new.seen) }
         ensures pending { IfOk result (λ turned. turned.pending ≡ pending (reached (behind floor.now.opening pass.new.seen)) pass.old.number) }
         ensures all { IfOk result (λ turned. (turned.pending.orders ≡ 0) ⊎ (hands_of (added pass.old pass.new) ≡ 256)) }
         ensures quiet { OnOk result (length (added pass.old pass.new) ≡ 0 → P.reporting spawner.new ≡ P.reporting spawner.old) }
         ensures clear { OnOk result (IsClear self.new) }
-        ensures owes { OwesSeen pass.new.seen self.new }
         ensures cause { IfErr result (IsCaused (P.faults spawner.old) (P.faults spawner.new) pass.old.mark pass.new.mark pass.new.seen) }
     {
         let monitor = pass.number();
@@ -320,13 +268,12 @@ impl SharedMonitor {
     ) -> Result<bool, MonitorFault>
         requires own { IsPassOf floor.now pass.old }
         requires clear { IsClear self.old }
-        ensures part { Advances floor.now 0 1 pass.old pass.new (scene self.old [] (spawner_seen P.asked P.told P.misses P.faults spawner.old)) (scene self.new [] (spawner_seen P.asked P.told P.misses P.faults spawner.new)) }
+        ensures part { MonitorAdvances P.asked P.told P.misses P.faults floor.now 0 1 pass.old self.old spawner.old pass.new self.new spawner.new }
         ensures none { result ≡ Ok false → IsEmpty (P.reporting spawner.old) }
         ensures none_sent { result ≡ Ok false → length (added pass.old pass.new) ≡ 0 }
         ensures sent { result ≡ Ok true → length (added pass.old pass.new) ≡ 1 }
         ensures moment { AreAt (C.coming clock.old) (added pass.old pass.new) }
         ensures clear { OnOk result (IsClear self.new) }
-        ensures owed { self.new.owed ≡ None }
         ensures cause { IfErr result (IsCaused (P.faults spawner.old) (P.faults spawner.new) pass.old.mark pass.new.mark pass.new.seen) }
     {
         let Some(report) = asking::look(spawner)? else {
@@ -349,11 +296,10 @@ impl SharedMonitor {
     ) -> Result<u32, MonitorFault>
         requires own { IsPassOf floor.now pass.old }
         requires clear { IsClear self.old }
-        ensures part { Advances floor.now 0 256 pass.old pass.new (scene self.old [] (spawner_seen P.asked P.told P.misses P.faults spawner.old)) (scene self.new [] (spawner_seen P.asked P.told P.misses P.faults spawner.new)) }
+        ensures part { MonitorAdvances P.asked P.told P.misses P.faults floor.now 0 256 pass.old self.old spawner.old pass.new self.new spawner.new }
         ensures sent { IfOk result (λ n. n ≡ length (added pass.old pass.new)) }
         ensures all { IfOk result (λ n. n ≡ 0 → IsEmpty (P.reporting spawner.old)) }
         ensures clear { OnOk result (IsClear self.new) }
-        ensures owed { self.new.owed ≡ None }
         ensures cause { IfErr result (IsCaused (P.faults spawner.old) (P.faults spawner.new) pass.old.mark pass.new.mark pass.new.seen) }
     {
         'looks: for sent in 0..MOST_LOOKS {
@@ -376,16 +322,14 @@ impl SharedMonitor {
         clock: &mut C,
     ) -> Result<Turned, MonitorFault>
         requires own { IsPassOf floor.now pass.old }
-        requires owes { OwesSeen pass.old.seen self.old }
-        ensures part { MonitorAdvances P.asked P.told P.misses P.faults floor.now 256 259 pass.old self.old spawner.old pass.new self.new spawner.new }
+        ensures part { MonitorAdvances P.asked P.told P.misses P.faults floor.now 256 258 pass.old self.old spawner.old pass.new self.new spawner.new }
         ensures clear { OnOk result (IsClear self.new) }
-        ensures owes { OwesSeen pass.new.seen self.new }
         ensures kill { IsAskedOrKept self.old.failed_kill (P.asked spawner.old) (P.asked spawner.new) self.new.failed_kill }
         ensures again { OnOk result (IfSome self.old.failed_kill (λ serial. AsksFirst (Kill serial) (P.asked spawner.old) (P.asked spawner.new))) }
         ensures sent { IfOk result (λ turned. turned.sent ≡ length (added pass.old pass.new)) }
         ensures waited { IfOk result (λ turned. WaitedAt floor.now pass.old pass.new turned.at turned.pending) }
         ensures handed { IfOk result (λ turned. (turned.pending.orders ≡ 0) ⊎ (hands_of (added pass.old pass.new) ≡ 256)) }
-        ensures idle { IfOk result (λ turned. turned.sent ≡ 0 → self.old.failed_kill ≡ None → self.old.owed ≡ None →
+        ensures idle { IfOk result (λ turned. turned.sent ≡ 0 → self.old.failed_kill ≡ None →
             HadNothing floor.now pass.old pass.new self.old.kept (C.coming clock.old) (P.reporting spawner.old)) }
         ensures cause { IfErr result (IsCaused (P.faults spawner.old) (P.faults spawner.new) pass.old.mark pass.new.mark pass.new.seen) }
     {
@@ -401,7 +345,7 @@ impl SharedMonitor {
     }
 
     /// Sends the kept report, waits for a report, until the moment at the latest where one is given, and makes its call. A kill
-    /// that failed and an order that is owed are left to the next turn. It may wait for other callers.
+    /// that failed is left to the next turn. It may wait for other callers.
     pub fn wait<K: Keeper, P: Spawner, C: Clock, R: Wait>(
         &mut self,
         rt: &R,
@@ -413,14 +357,11 @@ impl SharedMonitor {
         until: Option<Moment>,
     ) -> Result<Turned, MonitorFault>
         requires own { IsPassOf floor.now pass.old }
-        requires owes { OwesSeen pass.old.seen self.old }
         ensures part { MonitorAdvances P.asked P.told P.misses P.faults floor.now 0 2 pass.old self.old spawner.old pass.new self.new spawner.new }
         ensures report { OnOk result (until ≡ None → IsEmpty (P.out spawner.old) ⊎ (1 ≤ length (added pass.old pass.new))) }
         ensures awaited { OnOk result (Grows (P.awaited spawner.old) (P.awaited spawner.new) (until ∷ [])) }
         ensures kept { OnOk result (self.new.kept ≡ None) }
         ensures kill { self.new.failed_kill ≡ self.old.failed_kill }
-        ensures owed { self.new.owed ≡ self.old.owed }
-        ensures owes { OwesSeen pass.new.seen self.new }
         ensures sent { IfOk result (λ turned. turned.sent ≡ length (added pass.old pass.new)) }
         ensures at { IfOk result (λ turned. turned.at ≡ length pass.new.seen) }
         ensures waited { IfOk result (λ turned. WaitedAt floor.now pass.old pass.new turned.at turned.pending) }

@@ -98,7 +98,7 @@ impl Operator {
             caller: self.record.number,
             call,
             moment,
-            reply: reply.context("no memory for a reply")?,
+            reply,
         };
         let called = Called {
             place,

@@ -1,8 +1,5 @@
 // A monitor's thread, over a spawner and a clock in memory.
-ghost use Rattle.std.specs.Prelude.{List};
-ghost use Rattle.wm_law.specs.declared.call.Entry.{Entry};
 ghost use Rattle.wm_floor.specs.Floor.{IsPassOf};
-ghost use Rattle.wm_shared_monitor.specs.Scene.{OwesSeen};
 
 use crate::record::Watched;
 use anyhow::{Result, bail};
@@ -34,9 +31,7 @@ pub fn push_asked(alloc: Global, out: &mut Vec<u8>, asked: &Asked) -> Result<(),
 
 impl Watcher {
     /// A monitor that keeps nothing, and children that end by themselves after so many looks.
-    pub fn new(alloc: Global, lag: u32) -> Watcher
-        ensures { (seen : List Entry) → OwesSeen seen result.monitor }
-    {
+    pub fn new(alloc: Global, lag: u32) -> Watcher {
         let none = || Vec::new(alloc);
         Watcher {
             monitor: SharedMonitor::new(),
@@ -55,9 +50,7 @@ impl Watcher {
         pass: &mut FloorPass<K>,
     ) -> Result<()>
         requires own { IsPassOf floor.now pass.old }
-        requires owes { OwesSeen pass.old.seen self.old.monitor }
         ensures own { IsPassOf floor.now pass.new }
-        ensures owes { OwesSeen pass.new.seen self.new.monitor }
     {
         let turned = self
             .monitor

@@ -39,13 +39,12 @@ pub struct Site {
 impl Model for Site {
     ghost use Rattle.std.specs.Prelude.{◌≡◌, ⊤, []};
     ghost use Rattle.wm_floor.specs.Floor.{IsPassOf};
-    ghost use Rattle.wm_shared_monitor.specs.Scene.{OwesSeen};
 
     ghost Value = { ⊤ };
 
     ghost view = { λ _. tt };
 
-    ghost invariant = { λ s. IsPassOf s.floor s.zero × (IsPassOf s.floor s.one × (IsPassOf s.floor s.two × (OwesSeen s.one.seen s.first.monitor × (OwesSeen s.two.seen s.second.monitor × ((s.zero.number ≡ 0) × ((s.zero.made ≡ 2) × (s.zero.joined ≡ []))))))) };
+    ghost invariant = { λ s. IsPassOf s.floor s.zero × (IsPassOf s.floor s.one × (IsPassOf s.floor s.two × ((s.zero.number ≡ 0) × ((s.zero.made ≡ 2) × (s.zero.joined ≡ []))))) };
 }
 
 fn opened(alloc: Global, keeper: MemKeeper) -> Result<(TestFloor, TestPass)>

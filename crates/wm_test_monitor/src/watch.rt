@@ -1,8 +1,6 @@
 // A monitor and its spawner.
-ghost use Rattle.std.specs.Prelude.{◌≡◌, List};
-ghost use Rattle.wm_law.specs.declared.call.Entry.{Entry};
+ghost use Rattle.std.specs.Prelude.{◌≡◌};
 ghost use Rattle.wm_floor.specs.Floor.{IsPassOf};
-ghost use Rattle.wm_shared_monitor.specs.Scene.{OwesSeen};
 
 use std::alloc::Global;
 use std::mem;
@@ -31,9 +29,7 @@ pub struct Watch {
 
 impl Watch {
     /// A monitor that keeps nothing, and a spawner that doesn't fail.
-    pub fn new(alloc: Global) -> Watch
-        ensures { (seen : List Entry) → OwesSeen seen result.monitor }
-    {
+    pub fn new(alloc: Global) -> Watch {
         let (starts, kills, looks) = (Vec::new(alloc), Vec::new(alloc), Vec::new(alloc));
         Watch {
             monitor: SharedMonitor::new(),
@@ -58,9 +54,7 @@ impl Watch {
         now: Moment,
     ) -> Result<Turned, MonitorFault>
         requires own { IsPassOf floor.now pass.old }
-        requires owes { OwesSeen pass.old.seen self.old.monitor }
         ensures own { IsPassOf floor.now pass.new }
-        ensures owes { OwesSeen pass.new.seen self.new.monitor }
     {
         let mut clock = MemClock::new(now, 0);
         self.monitor
@@ -77,9 +71,7 @@ impl Watch {
         now: Moment,
     ) -> Result<Turned, MonitorFault>
         requires own { IsPassOf floor.now pass.old }
-        requires owes { OwesSeen pass.old.seen self.old.monitor }
         ensures own { IsPassOf floor.now pass.new }
-        ensures owes { OwesSeen pass.new.seen self.new.monitor }
     {
         let mut clock = MemClock::new(now, 0);
         self.monitor.wait(rt, alloc, floor, pass, &mut self.spawner, &mut clock, None)

@@ -1,5 +1,5 @@
 -- What the call of a command comes to.
-use Rattle.std.proofs.Common.{◌≡◌, ◌<◌, ◌≤◌, inl, inr, ℕ, Bool, true, false, ◌||◌, List, [], ◌∷◌, ◌++◌, length, Some, Ok, Err, refl, sym, ap, subst, ◌∙◌, arith}
+use Rattle.std.proofs.Common.{◌≡◌, ◌<◌, ◌≤◌, inl, inr, ℕ, Bool, true, false, ◌||◌, List, [], ◌∷◌, ◌++◌, length, Ok, Err, refl, sym, ap, subst, ◌∙◌, arith}
 use Rattle.std.specs.List.{list_any}
 use Rattle.std.proofs.lemmas.List.{append-nil}
 use Rattle.std.proofs.lemmas.List.Prefix.{front_rest}
@@ -7,7 +7,6 @@ use Rattle.wm_floor.specs.Causes.{HasMarkCause}
 use Rattle.wm_floor.specs.Floor.{HasLooked, IsCalled, Seen, entry_of}
 use Rattle.wm_floor.specs.declared.answer.Answered.{Answered}
 use Rattle.wm_floor.specs.declared.opened.Opened.{Opened}
-use Rattle.wm_floor.specs.Replies.{IsCopyOf}
 use Rattle.wm_http.specs.declared.answer.Answer.{Answer}
 use Rattle.wm_http.specs.declared.answer.Answer.TheVariants.{NoMemory as no_memory}
 use Rattle.wm_journal.specs.declared.call_fault.CallFault.{CallFault}
@@ -15,13 +14,12 @@ use Rattle.wm_journal.specs.declared.call_fault.CallFault.TheVariants.{KeeperFau
 use Rattle.wm_law.specs.declared.call.Call.{Call}
 use Rattle.wm_law.specs.declared.call.Call.TheVariants.{Change}
 use Rattle.wm_law.specs.declared.call.Entry.{Entry}
-use Rattle.wm_law.specs.declared.call.Reply.{Reply}
 use Rattle.wm_law.specs.declared.command.Ask.{Ask}
 use Rattle.wm_law.specs.declared.command.Command.{Command}
 use Rattle.wm_run.specs.Answer.{is_power_down}
 use Rattle.wm_turn.specs.Passed.{StartsWith}
 use Rattle.wm_web.specs.Answered.{AnswersCall, AnswersRead, Enters, Fails, HasWhy, IsTakenUp, entered_answer, failed_answer, is_down}
-use Rattle.wm_web.specs.Sayings.{Tells}
+use Rattle.wm_web.specs.Told.{Tells}
 
 or_false : (a : Bool) → (a || false) ≡ a
 or_false true = refl
@@ -54,17 +52,12 @@ module _ {K : Type 0} where
       }
 
   -- its answer, by what the floor tells
-  pub enters_told : (o : Opened K) (user : List ℕ) (c : Command) (now : ℕ) (old new : Seen K) (a : Answered) (reply : Reply) (called : IsCalled o (Change user c) now old new (Ok a)) → a.reply ≡ Some reply → entered_answer c a.place reply ≡ entered_answer c (length new.seen) (entry_of o called.found old.number (Change user c) now).reply
-  enters_told o user c now old new a reply called told =
-      let copy : reply ≡ (entry_of o called.found old.number (Change user c) now).reply = subst (IsCopyOf (entry_of o called.found old.number (Change user c) now).reply) told called.ok.reply in
-      ap (λ (n : ℕ). entered_answer c n reply) called.ok.place ∙ ap (entered_answer c (length new.seen)) copy
+  pub enters_told : (o : Opened K) (user : List ℕ) (c : Command) (now : ℕ) (old new : Seen K) (a : Answered) (called : IsCalled o (Change user c) now old new (Ok a)) → entered_answer c a.place a.reply ≡ entered_answer c (length new.seen) (entry_of o called.found old.number (Change user c) now).reply
+  enters_told o user c now old new a called = ap (λ (n : ℕ). entered_answer c n a.reply) called.ok.place ∙ ap (entered_answer c (length new.seen)) called.ok.reply
 
   -- whether it puts the power down, by what the floor tells
-  pub down_told : (o : Opened K) (user : List ℕ) (c : Command) (now : ℕ) (old new : Seen K) (a : Answered) (reply : Reply) (called : IsCalled o (Change user c) now old new (Ok a)) → a.reply ≡ Some reply → is_power_down reply ≡ is_down old new
-  down_told o user c now old new a reply called told =
-      let e = entry_of o called.found old.number (Change user c) now in
-      let copy : reply ≡ e.reply = subst (IsCopyOf e.reply) told called.ok.reply in
-      ap is_power_down copy ∙ sym (down_one old new e called.ok.mine)
+  pub down_told : (o : Opened K) (user : List ℕ) (c : Command) (now : ℕ) (old new : Seen K) (a : Answered) → IsCalled o (Change user c) now old new (Ok a) → is_power_down a.reply ≡ is_down old new
+  down_told o user c now old new a called = ap is_power_down called.ok.reply ∙ sym (down_one old new (entry_of o called.found old.number (Change user c) now) called.ok.mine)
 
   -- why a command isn't entered
   why : (o : Opened K) (user : List ℕ) (c : Command) (now : ℕ) (old new : Seen K) (fault : CallFault) → IsCalled o (Change user c) now old new (Err fault) → HasMarkCause {T = Answered} old.mark new.mark (Err fault) → HasWhy o old new (failed_answer fault)
@@ -94,12 +87,12 @@ module _ {K : Type 0} where
   -- a command that is entered, with its answer as it is told
   pub tells_enters : (o : Opened K) (user : List ℕ) (c : Command) (now : ℕ) (old new : Seen K) (a : Answered) (answer : Answer) (down : Bool) → IsCalled o (Change user c) now old new (Ok a) → HasMarkCause old.mark new.mark (Ok a) → Tells c a.place a.reply answer down → Enters o user c old new answer
   tells_enters o user c now old new a answer down called cause told =
-      let is : answer ≡ entered_answer c (length new.seen) (entry_of o called.found old.number (Change user c) now).reply = told.answer_is ∙ enters_told o user c now old new a told.reply called told.some in
+      let is : answer ≡ entered_answer c (length new.seen) (entry_of o called.found old.number (Change user c) now).reply = told.answer_is ∙ enters_told o user c now old new a called in
       subst (Enters o user c old new) (sym is) (call_enters o user c now old new a called cause)
 
   -- and whether it puts the power down
   pub tells_down : (o : Opened K) (user : List ℕ) (c : Command) (now : ℕ) (old new : Seen K) (a : Answered) (answer : Answer) (down : Bool) → IsCalled o (Change user c) now old new (Ok a) → Tells c a.place a.reply answer down → down ≡ is_down old new
-  tells_down o user c now old new a answer down called told = told.down_is ∙ down_told o user c now old new a told.reply called told.some
+  tells_down o user c now old new a answer down called told = told.down_is ∙ down_told o user c now old new a called
 
   -- there is an answer to it, whether there is memory for it or not
   pub enters_some : (o : Opened K) (user : List ℕ) (c : Command) (now : ℕ) (old new : Seen K) (a : Answered) → IsCalled o (Change user c) now old new (Ok a) → HasMarkCause old.mark new.mark (Ok a) → IsTakenUp (AnswersCall o user c) old new

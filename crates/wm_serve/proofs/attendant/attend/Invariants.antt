@@ -1,4 +1,3 @@
-use Rattle.wm_shared_monitor.specs.Scene.{OwesSeen}
 use Rattle.wm_serve.specs.Monitors.{MonitorAttends}
 use Rattle.wm_serve.proofs.attendant.attend.Given as goal
 
@@ -8,5 +7,4 @@ invariant-turns g l = record {
   next : (goal.iterator-turns g).can_next l.iterator';
   finite : (goal.iterator-turns g).is_finite l.iterator';
   part : MonitorAttends g.P.Spawner.asked g.P.Spawner.told g.P.Spawner.misses g.P.Spawner.faults l.floor l.fn.pass l.fn.monitor l.fn.spawner l.pass l.monitor l.spawner;
-  owes : OwesSeen l.pass.seen l.monitor;
 }

@@ -1,6 +1,6 @@
 use Rattle.std.proofs.Common.{arith}
 use Rattle.std.proofs.lemmas.Result.{err_from_is_err_and}
-use Rattle.wm_shared_monitor.specs.Scene.{order_owed, spawner_seen}
+use Rattle.wm_shared_monitor.specs.Scene.{spawner_seen}
 use Rattle.wm_shared_monitor.proofs.Causes.{caused}
 use Rattle.wm_shared_monitor.proofs.Loops.{HandLoop-more, HandLoop-none, hands_end, hands_part}
 use Rattle.wm_shared_monitor.proofs.Passes.{GoesOn-looked}
@@ -54,7 +54,7 @@ returns-in_err-sent-clause-part g c =
     let t = c.hand.new.pass in
     let n = c.hand.new.self in
     let w = see c.hand.new.spawner in
-    hands_part f p q r t m k n v x w (order_owed t.seen n) c.hands.counter (omega arith) i.part goes e.looked.mine c.hand.ensures.part
+    hands_part f p q r t m k n v x w c.hands.counter (omega arith) i.part goes e.looked.mine c.hand.ensures.part
 
 pub returns-in_err-sent-clause-cause : goal.returns-in_err-sent-clause-cause
 returns-in_err-sent-clause-cause g c =
@@ -84,7 +84,7 @@ returns-then-waiting-eq0-clause-part g c =
     let r = c.pending-waiting.new.pass in
     let e = c.pending-waiting.ensures in
     let goes = GoesOn-looked f q r i.part.pass.own e.own e.same e.looked in
-    hands_end f p q r m k v x c.hands.counter (omega arith) i.part goes e.looked.mine i.clear.no_order
+    hands_end f p q r m k v x c.hands.counter (omega arith) i.part goes e.looked.mine
 
 pub returns-clause-part : goal.returns-clause-part
 returns-clause-part g c =
@@ -101,4 +101,4 @@ returns-clause-part g c =
     let r = c.pending-waiting-2.new.pass in
     let e = c.pending-waiting-2.ensures in
     let goes = GoesOn-looked f q r i.part.pass.own e.own e.same e.looked in
-    hands_end f p q r m k v x c.hands.counter (omega arith) i.part goes e.looked.mine i.clear.no_order
+    hands_end f p q r m k v x c.hands.counter (omega arith) i.part goes e.looked.mine

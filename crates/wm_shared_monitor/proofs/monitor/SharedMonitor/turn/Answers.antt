@@ -1,12 +1,12 @@
-use Rattle.std.proofs.Common.{[], ap, ◌∙◌, arith}
+use Rattle.std.proofs.Common.{ap, ◌∙◌, arith}
 use Rattle.std.proofs.lemmas.Result.{err_from_is_err_and}
 use Rattle.wm_law.specs.Pending.{pending}
 use Rattle.wm_journal.specs.History.{reached}
 use Rattle.wm_floor.specs.Ledger.{behind}
-use Rattle.wm_shared_monitor.specs.Scene.{order_owed, scene, spawner_seen}
+use Rattle.wm_shared_monitor.specs.Scene.{scene, spawner_seen}
 use Rattle.wm_shared_monitor.proofs.Advances.{Advances-most, Advances-then}
 use Rattle.wm_shared_monitor.proofs.Causes.{caused}
-use Rattle.wm_shared_monitor.proofs.Parts.{AsksFirst-since, count_then, kill_is_asked, owes_none, owes_nothing}
+use Rattle.wm_shared_monitor.proofs.Parts.{AsksFirst-since, count_then, kill_is_asked}
 use Rattle.wm_shared_monitor.proofs.Passes.{GoesOn-then}
 use Rattle.wm_shared_monitor.proofs.Turns.{had_nothing, handed_all, waited_before}
 use Rattle.wm_shared_monitor.proofs.monitor.SharedMonitor.turn.Goals as goal
@@ -16,7 +16,7 @@ returns-in_err-settled-clause-part g c =
     let f = c.args.floor.now in
     let p = c.args.pass.now in
     let q = c.settle.new.pass in
-    Advances-most f 0 2 256 259 p q _ _ c.settle.ensures.part (omega arith) (omega arith)
+    Advances-most f 0 1 256 258 p q _ _ c.settle.ensures.part (omega arith) (omega arith)
 
 pub returns-in_err-ticked-clause-part : goal.returns-in_err-ticked-clause-part
 returns-in_err-ticked-clause-part g c =
@@ -26,14 +26,13 @@ returns-in_err-ticked-clause-part g c =
     let p = c.args.pass.now in
     let m = c.args.self.now in
     let v = see c.args.spawner.now in
-    let owes = order_owed p.seen m in
     let q = c.settle.new.pass in
     let m1 = c.settle.new.self in
     let v1 = see c.settle.new.spawner in
-    let settled = owes_nothing f 0 2 p q m m1 owes v v1 c.in_ok-settled.ensures.clear.no_order c.settle.ensures.part in
+    let settled = c.settle.ensures.part in
     let r = c.tick.new.pass in
-    let ticked = Advances-then f 0 2 0 1 p q r (scene m owes v) (scene m1 [] v1) (scene m1 [] v1) settled (c.tick.ensures.part (scene m1 [] v1)) in
-    Advances-most f 0 3 256 259 p r _ _ (owes_none f 0 3 p r m m1 owes v v1 c.in_ok-settled.ensures.clear.no_order ticked) (omega arith) (omega arith)
+    let ticked = Advances-then f 0 1 0 1 p q r (scene m v) (scene m1 v1) (scene m1 v1) settled (c.tick.ensures.part (scene m1 v1)) in
+    Advances-most f 0 2 256 258 p r _ _ ticked (omega arith) (omega arith)
 
 pub returns-in_err-handed-clause-part : goal.returns-in_err-handed-clause-part
 returns-in_err-handed-clause-part g c =
@@ -43,18 +42,17 @@ returns-in_err-handed-clause-part g c =
     let p = c.args.pass.now in
     let m = c.args.self.now in
     let v = see c.args.spawner.now in
-    let owes = order_owed p.seen m in
     let q = c.settle.new.pass in
     let m1 = c.settle.new.self in
     let v1 = see c.settle.new.spawner in
-    let settled = owes_nothing f 0 2 p q m m1 owes v v1 c.in_ok-settled.ensures.clear.no_order c.settle.ensures.part in
+    let settled = c.settle.ensures.part in
     let r = c.tick.new.pass in
-    let ticked = Advances-then f 0 2 0 1 p q r (scene m owes v) (scene m1 [] v1) (scene m1 [] v1) settled (c.tick.ensures.part (scene m1 [] v1)) in
+    let ticked = Advances-then f 0 1 0 1 p q r (scene m v) (scene m1 v1) (scene m1 v1) settled (c.tick.ensures.part (scene m1 v1)) in
     let u = c.hands.new.pass in
     let m2 = c.hands.new.self in
     let v2 = see c.hands.new.spawner in
-    let handed = Advances-then f 0 3 256 0 p r u (scene m owes v) (scene m1 [] v1) (scene m2 (order_owed u.seen m2) v2) ticked c.hands.ensures.part in
-    Advances-most f 256 3 256 259 p u _ _ handed (omega arith) (omega arith)
+    let handed = Advances-then f 0 2 256 0 p r u (scene m v) (scene m1 v1) (scene m2 v2) ticked c.hands.ensures.part in
+    Advances-most f 256 2 256 258 p u _ _ handed (omega arith) (omega arith)
 
 pub returns-in_err-looked-clause-part : goal.returns-in_err-looked-clause-part
 returns-in_err-looked-clause-part g c =
@@ -64,23 +62,20 @@ returns-in_err-looked-clause-part g c =
     let p = c.args.pass.now in
     let m = c.args.self.now in
     let v = see c.args.spawner.now in
-    let owes = order_owed p.seen m in
     let q = c.settle.new.pass in
     let m1 = c.settle.new.self in
     let v1 = see c.settle.new.spawner in
-    let settled = owes_nothing f 0 2 p q m m1 owes v v1 c.in_ok-settled.ensures.clear.no_order c.settle.ensures.part in
+    let settled = c.settle.ensures.part in
     let r = c.tick.new.pass in
-    let ticked = Advances-then f 0 2 0 1 p q r (scene m owes v) (scene m1 [] v1) (scene m1 [] v1) settled (c.tick.ensures.part (scene m1 [] v1)) in
+    let ticked = Advances-then f 0 1 0 1 p q r (scene m v) (scene m1 v1) (scene m1 v1) settled (c.tick.ensures.part (scene m1 v1)) in
     let u = c.hands.new.pass in
     let m2 = c.hands.new.self in
     let v2 = see c.hands.new.spawner in
-    let handed = Advances-then f 0 3 256 0 p r u (scene m owes v) (scene m1 [] v1) (scene m2 (order_owed u.seen m2) v2) ticked c.hands.ensures.part in
-    let done = owes_nothing f 256 3 p u m m2 owes v v2 c.in_ok-handed.ensures.clear.no_order handed in
+    let handed = Advances-then f 0 2 256 0 p r u (scene m v) (scene m1 v1) (scene m2 v2) ticked c.hands.ensures.part in
     let t = c.looks.new.pass in
     let m3 = c.looks.new.self in
     let v3 = see c.looks.new.spawner in
-    let whole = Advances-then f 256 3 0 256 p u t (scene m owes v) (scene m2 [] v2) (scene m3 [] v3) done c.looks.ensures.part in
-    owes_none f 256 259 p t m m3 owes v v3 c.looks.ensures.owed whole
+    Advances-then f 256 2 0 256 p u t (scene m v) (scene m2 v2) (scene m3 v3) handed c.looks.ensures.part
 
 pub returns-clause-part : goal.returns-clause-part
 returns-clause-part g c =
@@ -90,23 +85,20 @@ returns-clause-part g c =
     let p = c.args.pass.now in
     let m = c.args.self.now in
     let v = see c.args.spawner.now in
-    let owes = order_owed p.seen m in
     let q = c.settle.new.pass in
     let m1 = c.settle.new.self in
     let v1 = see c.settle.new.spawner in
-    let settled = owes_nothing f 0 2 p q m m1 owes v v1 c.in_ok-settled.ensures.clear.no_order c.settle.ensures.part in
+    let settled = c.settle.ensures.part in
     let r = c.tick.new.pass in
-    let ticked = Advances-then f 0 2 0 1 p q r (scene m owes v) (scene m1 [] v1) (scene m1 [] v1) settled (c.tick.ensures.part (scene m1 [] v1)) in
+    let ticked = Advances-then f 0 1 0 1 p q r (scene m v) (scene m1 v1) (scene m1 v1) settled (c.tick.ensures.part (scene m1 v1)) in
     let u = c.hands.new.pass in
     let m2 = c.hands.new.self in
     let v2 = see c.hands.new.spawner in
-    let handed = Advances-then f 0 3 256 0 p r u (scene m owes v) (scene m1 [] v1) (scene m2 (order_owed u.seen m2) v2) ticked c.hands.ensures.part in
-    let done = owes_nothing f 256 3 p u m m2 owes v v2 c.in_ok-handed.ensures.clear.no_order handed in
+    let handed = Advances-then f 0 2 256 0 p r u (scene m v) (scene m1 v1) (scene m2 v2) ticked c.hands.ensures.part in
     let t = c.looks.new.pass in
     let m3 = c.looks.new.self in
     let v3 = see c.looks.new.spawner in
-    let whole = Advances-then f 256 3 0 256 p u t (scene m owes v) (scene m2 [] v2) (scene m3 [] v3) done c.looks.ensures.part in
-    owes_none f 256 259 p t m m3 owes v v3 c.looks.ensures.owed whole
+    Advances-then f 256 2 0 256 p u t (scene m v) (scene m2 v2) (scene m3 v3) handed c.looks.ensures.part
 
 pub returns-clause-sent : goal.returns-clause-sent
 returns-clause-sent g c =
@@ -116,20 +108,19 @@ returns-clause-sent g c =
     let p = c.args.pass.now in
     let m = c.args.self.now in
     let v = see c.args.spawner.now in
-    let owes = order_owed p.seen m in
     let q = c.settle.new.pass in
     let m1 = c.settle.new.self in
     let v1 = see c.settle.new.spawner in
-    let settled = owes_nothing f 0 2 p q m m1 owes v v1 c.in_ok-settled.ensures.clear.no_order c.settle.ensures.part in
+    let settled = c.settle.ensures.part in
     let r = c.tick.new.pass in
-    let ticked = Advances-then f 0 2 0 1 p q r (scene m owes v) (scene m1 [] v1) (scene m1 [] v1) settled (c.tick.ensures.part (scene m1 [] v1)) in
+    let ticked = Advances-then f 0 1 0 1 p q r (scene m v) (scene m1 v1) (scene m1 v1) settled (c.tick.ensures.part (scene m1 v1)) in
     let u = c.hands.new.pass in
     let m2 = c.hands.new.self in
     let v2 = see c.hands.new.spawner in
-    let handed = Advances-then f 0 3 256 0 p r u (scene m owes v) (scene m1 [] v1) (scene m2 (order_owed u.seen m2) v2) ticked c.hands.ensures.part in
+    let handed = Advances-then f 0 2 256 0 p r u (scene m v) (scene m1 v1) (scene m2 v2) ticked c.hands.ensures.part in
     let t = c.looks.new.pass in
     let a = settled.pass in
-    let b = (c.tick.ensures.part (scene m1 [] v1)).pass in
+    let b = (c.tick.ensures.part (scene m1 v1)).pass in
     let first = count_then f p q r _ _ a b c.in_ok-settled.ensures.sent c.in_ok-ticked.ensures.sent in
     let second = count_then f p r u _ _ ticked.pass c.hands.ensures.part.pass first c.in_ok-handed.ensures.sent in
     count_then f p u t _ _ handed.pass c.looks.ensures.part.pass second c.in_ok-looked.ensures.sent
@@ -142,17 +133,16 @@ returns-clause-waited g c =
     let p = c.args.pass.now in
     let m = c.args.self.now in
     let v = see c.args.spawner.now in
-    let owes = order_owed p.seen m in
     let q = c.settle.new.pass in
     let m1 = c.settle.new.self in
     let v1 = see c.settle.new.spawner in
-    let settled = owes_nothing f 0 2 p q m m1 owes v v1 c.in_ok-settled.ensures.clear.no_order c.settle.ensures.part in
+    let settled = c.settle.ensures.part in
     let r = c.tick.new.pass in
-    let ticked = Advances-then f 0 2 0 1 p q r (scene m owes v) (scene m1 [] v1) (scene m1 [] v1) settled (c.tick.ensures.part (scene m1 [] v1)) in
+    let ticked = Advances-then f 0 1 0 1 p q r (scene m v) (scene m1 v1) (scene m1 v1) settled (c.tick.ensures.part (scene m1 v1)) in
     let u = c.hands.new.pass in
     let m2 = c.hands.new.self in
     let v2 = see c.hands.new.spawner in
-    let handed = Advances-then f 0 3 256 0 p r u (scene m owes v) (scene m1 [] v1) (scene m2 (order_owed u.seen m2) v2) ticked c.hands.ensures.part in
+    let handed = Advances-then f 0 2 256 0 p r u (scene m v) (scene m1 v1) (scene m2 v2) ticked c.hands.ensures.part in
     let t = c.looks.new.pass in
     let o = c.in_ok-handed.handed in
     let waits = c.in_ok-handed.ensures.pending ∙ ap (pending (reached (behind f.opening u.seen))) ticked.pass.same.number in
@@ -166,13 +156,12 @@ returns-clause-handed g c =
     let p = c.args.pass.now in
     let m = c.args.self.now in
     let v = see c.args.spawner.now in
-    let owes = order_owed p.seen m in
     let q = c.settle.new.pass in
     let m1 = c.settle.new.self in
     let v1 = see c.settle.new.spawner in
-    let settled = owes_nothing f 0 2 p q m m1 owes v v1 c.in_ok-settled.ensures.clear.no_order c.settle.ensures.part in
+    let settled = c.settle.ensures.part in
     let r = c.tick.new.pass in
-    let ticked = Advances-then f 0 2 0 1 p q r (scene m owes v) (scene m1 [] v1) (scene m1 [] v1) settled (c.tick.ensures.part (scene m1 [] v1)) in
+    let ticked = Advances-then f 0 1 0 1 p q r (scene m v) (scene m1 v1) (scene m1 v1) settled (c.tick.ensures.part (scene m1 v1)) in
     let u = c.hands.new.pass in
     let t = c.looks.new.pass in
     handed_all f p r u t _ ticked.pass c.hands.ensures.part.pass c.looks.ensures.part.pass ticked.within.hands_most c.looks.ensures.part.within.hands_most c.in_ok-handed.ensures.all
@@ -194,9 +183,9 @@ returns-clause-again g c =
     let t = c.looks.new.pass in
     let m3 = c.looks.new.self in
     let v3 = see c.looks.new.spawner in
-    let hands = owes_nothing f 256 0 r u m1 m2 [] v1 v2 c.in_ok-handed.ensures.clear.no_order c.hands.ensures.part in
-    let early = Advances-then f 0 1 256 0 q r u (scene m1 [] v1) (scene m1 [] v1) (scene m2 [] v2) (c.tick.ensures.part (scene m1 [] v1)) hands in
-    let rest = Advances-then f 256 1 0 256 q u t (scene m1 [] v1) (scene m2 [] v2) (scene m3 [] v3) early c.looks.ensures.part in
+    let hands = c.hands.ensures.part in
+    let early = Advances-then f 0 1 256 0 q r u (scene m1 v1) (scene m1 v1) (scene m2 v2) (c.tick.ensures.part (scene m1 v1)) hands in
+    let rest = Advances-then f 256 1 0 256 q u t (scene m1 v1) (scene m2 v2) (scene m3 v3) early c.looks.ensures.part in
     AsksFirst-since m.failed_kill _ v.asked v1.asked v3.asked _ c.in_ok-settled.ensures.again rest.asked.asked
 
 pub returns-in_err-ticked-clause-kill : goal.returns-in_err-ticked-clause-kill
@@ -229,9 +218,9 @@ returns-in_err-looked-clause-kill g c =
     let t = c.looks.new.pass in
     let m3 = c.looks.new.self in
     let v3 = see c.looks.new.spawner in
-    let hands = owes_nothing f 256 0 r u m1 m2 [] v1 v2 c.in_ok-handed.ensures.clear.no_order c.hands.ensures.part in
-    let early = Advances-then f 0 1 256 0 q r u (scene m1 [] v1) (scene m1 [] v1) (scene m2 [] v2) (c.tick.ensures.part (scene m1 [] v1)) hands in
-    let rest = Advances-then f 256 1 0 256 q u t (scene m1 [] v1) (scene m2 [] v2) (scene m3 [] v3) early c.looks.ensures.part in
+    let hands = c.hands.ensures.part in
+    let early = Advances-then f 0 1 256 0 q r u (scene m1 v1) (scene m1 v1) (scene m2 v2) (c.tick.ensures.part (scene m1 v1)) hands in
+    let rest = Advances-then f 256 1 0 256 q u t (scene m1 v1) (scene m2 v2) (scene m3 v3) early c.looks.ensures.part in
     kill_is_asked m.failed_kill _ v.asked v3.asked (AsksFirst-since m.failed_kill _ v.asked v1.asked v3.asked _ c.in_ok-settled.ensures.again rest.asked.asked)
 
 pub returns-clause-kill : goal.returns-clause-kill
@@ -251,24 +240,23 @@ returns-clause-kill g c =
     let t = c.looks.new.pass in
     let m3 = c.looks.new.self in
     let v3 = see c.looks.new.spawner in
-    let hands = owes_nothing f 256 0 r u m1 m2 [] v1 v2 c.in_ok-handed.ensures.clear.no_order c.hands.ensures.part in
-    let early = Advances-then f 0 1 256 0 q r u (scene m1 [] v1) (scene m1 [] v1) (scene m2 [] v2) (c.tick.ensures.part (scene m1 [] v1)) hands in
-    let rest = Advances-then f 256 1 0 256 q u t (scene m1 [] v1) (scene m2 [] v2) (scene m3 [] v3) early c.looks.ensures.part in
+    let hands = c.hands.ensures.part in
+    let early = Advances-then f 0 1 256 0 q r u (scene m1 v1) (scene m1 v1) (scene m2 v2) (c.tick.ensures.part (scene m1 v1)) hands in
+    let rest = Advances-then f 256 1 0 256 q u t (scene m1 v1) (scene m2 v2) (scene m3 v3) early c.looks.ensures.part in
     kill_is_asked m.failed_kill _ v.asked v3.asked (AsksFirst-since m.failed_kill _ v.asked v1.asked v3.asked _ c.in_ok-settled.ensures.again rest.asked.asked)
 
 pub returns-clause-idle : goal.returns-clause-idle
-returns-clause-idle g c made no_kill no_order =
+returns-clause-idle g c made no_kill =
     let s = g.P.Spawner in
     let see = spawner_seen s.asked s.told s.misses s.faults in
     let f = c.args.floor.now in
     let p = c.args.pass.now in
     let m = c.args.self.now in
     let v = see c.args.spawner.now in
-    let owes = order_owed p.seen m in
     let q = c.settle.new.pass in
     let m1 = c.settle.new.self in
     let v1 = see c.settle.new.spawner in
-    let settled = owes_nothing f 0 2 p q m m1 owes v v1 c.in_ok-settled.ensures.clear.no_order c.settle.ensures.part in
+    let settled = c.settle.ensures.part in
     let r = c.tick.new.pass in
     let u = c.hands.new.pass in
     let t = c.looks.new.pass in
@@ -277,8 +265,8 @@ returns-clause-idle g c made no_kill no_order =
     let w1 = c.in_ok-ticked.ensures.sent in
     let w2 = c.in_ok-handed.ensures.sent in
     let later = GoesOn-then f r u t c.hands.ensures.part.pass c.looks.ensures.part.pass in
-    let same = c.in_ok-handed.ensures.quiet (omega arith) ∙ ap s.reporting (c.settle.ensures.quiet no_kill no_order) in
-    had_nothing f p q r t m.kept (k.coming c.args.clock.now) (k.coming c.settle.new.clock) (s.reporting c.args.spawner.now) (s.reporting c.hands.new.spawner) settled.pass later c.in_ok-settled.ensures.some (omega arith) (λ none. ap k.coming (c.settle.ensures.unread none no_order)) (c.in_ok-ticked.ensures.due (omega arith)) same (c.in_ok-looked.ensures.all (omega arith))
+    let same = c.in_ok-handed.ensures.quiet (omega arith) ∙ ap s.reporting (c.settle.ensures.quiet no_kill) in
+    had_nothing f p q r t m.kept (k.coming c.args.clock.now) (k.coming c.settle.new.clock) (s.reporting c.args.spawner.now) (s.reporting c.hands.new.spawner) settled.pass later c.in_ok-settled.ensures.some (omega arith) (λ none. ap k.coming (c.settle.ensures.unread none)) (c.in_ok-ticked.ensures.due (omega arith)) same (c.in_ok-looked.ensures.all (omega arith))
 
 pub returns-in_err-settled-clause-cause : goal.returns-in_err-settled-clause-cause
 returns-in_err-settled-clause-cause g c =
@@ -301,13 +289,12 @@ returns-in_err-handed-clause-cause g c =
     let p = c.args.pass.now in
     let m = c.args.self.now in
     let v = see c.args.spawner.now in
-    let owes = order_owed p.seen m in
     let q = c.settle.new.pass in
     let m1 = c.settle.new.self in
     let v1 = see c.settle.new.spawner in
-    let settled = owes_nothing f 0 2 p q m m1 owes v v1 c.in_ok-settled.ensures.clear.no_order c.settle.ensures.part in
+    let settled = c.settle.ensures.part in
     let r = c.tick.new.pass in
-    let ticked = Advances-then f 0 2 0 1 p q r (scene m owes v) (scene m1 [] v1) (scene m1 [] v1) settled (c.tick.ensures.part (scene m1 [] v1)) in
+    let ticked = Advances-then f 0 1 0 1 p q r (scene m v) (scene m1 v1) (scene m1 v1) settled (c.tick.ensures.part (scene m1 v1)) in
     let e = err_from_is_err_and c.from_residual-in_err-handed.result c.from_residual-in_err-handed.ensures.1 in
     caused c.from_residual-in_err-handed.result _ e.0 _ _ _ _ _ _ _ e.1 e.2 c.in_err-handed.ensures.cause ticked.faults ticked.pass.mark
 
@@ -319,17 +306,16 @@ returns-in_err-looked-clause-cause g c =
     let p = c.args.pass.now in
     let m = c.args.self.now in
     let v = see c.args.spawner.now in
-    let owes = order_owed p.seen m in
     let q = c.settle.new.pass in
     let m1 = c.settle.new.self in
     let v1 = see c.settle.new.spawner in
-    let settled = owes_nothing f 0 2 p q m m1 owes v v1 c.in_ok-settled.ensures.clear.no_order c.settle.ensures.part in
+    let settled = c.settle.ensures.part in
     let r = c.tick.new.pass in
-    let ticked = Advances-then f 0 2 0 1 p q r (scene m owes v) (scene m1 [] v1) (scene m1 [] v1) settled (c.tick.ensures.part (scene m1 [] v1)) in
+    let ticked = Advances-then f 0 1 0 1 p q r (scene m v) (scene m1 v1) (scene m1 v1) settled (c.tick.ensures.part (scene m1 v1)) in
     let u = c.hands.new.pass in
     let m2 = c.hands.new.self in
     let v2 = see c.hands.new.spawner in
-    let handed = Advances-then f 0 3 256 0 p r u (scene m owes v) (scene m1 [] v1) (scene m2 (order_owed u.seen m2) v2) ticked c.hands.ensures.part in
+    let handed = Advances-then f 0 2 256 0 p r u (scene m v) (scene m1 v1) (scene m2 v2) ticked c.hands.ensures.part in
     let e = err_from_is_err_and c.from_residual-in_err-looked.result c.from_residual-in_err-looked.ensures.1 in
     caused c.from_residual-in_err-looked.result _ e.0 _ _ _ _ _ _ _ e.1 e.2 c.in_err-looked.ensures.cause handed.faults handed.pass.mark
 
@@ -339,7 +325,7 @@ hands-requires-clause-own g c =
     let see = spawner_seen s.asked s.told s.misses s.faults in
     let m1 = c.settle.new.self in
     let v1 = see c.settle.new.spawner in
-    (c.tick.ensures.part (scene m1 [] v1)).pass.own
+    (c.tick.ensures.part (scene m1 v1)).pass.own
 
 pub overflow_add-result : goal.overflow_add-result
 overflow_add-result g c =
@@ -350,7 +336,7 @@ overflow_add-result g c =
     let a = c.settle.ensures.part.within in
     let a1 = a.hands_most in
     let a2 = a.others_most in
-    let b = (c.tick.ensures.part (scene m1 [] v1)).within in
+    let b = (c.tick.ensures.part (scene m1 v1)).within in
     let b1 = b.hands_most in
     let b2 = b.others_most in
     let n1 = c.in_ok-settled.ensures.sent in
@@ -366,7 +352,7 @@ overflow_add-result-2 g c =
     let a = c.settle.ensures.part.within in
     let a1 = a.hands_most in
     let a2 = a.others_most in
-    let b = (c.tick.ensures.part (scene m1 [] v1)).within in
+    let b = (c.tick.ensures.part (scene m1 v1)).within in
     let b1 = b.hands_most in
     let b2 = b.others_most in
     let n1 = c.in_ok-settled.ensures.sent in
@@ -386,7 +372,7 @@ overflow_add-result-3 g c =
     let a = c.settle.ensures.part.within in
     let a1 = a.hands_most in
     let a2 = a.others_most in
-    let b = (c.tick.ensures.part (scene m1 [] v1)).within in
+    let b = (c.tick.ensures.part (scene m1 v1)).within in
     let b1 = b.hands_most in
     let b2 = b.others_most in
     let n1 = c.in_ok-settled.ensures.sent in

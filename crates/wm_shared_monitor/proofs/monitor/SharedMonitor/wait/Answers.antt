@@ -3,11 +3,11 @@ use Rattle.std.proofs.lemmas.Result.{err_from_is_err_and}
 use Rattle.wm_law.specs.Pending.{pending}
 use Rattle.wm_journal.specs.History.{reached}
 use Rattle.wm_floor.specs.Ledger.{behind}
-use Rattle.wm_shared_monitor.specs.Scene.{order_owed, scene, spawner_seen}
+use Rattle.wm_shared_monitor.specs.Scene.{scene, spawner_seen}
 use Rattle.wm_shared_monitor.proofs.Advances.{Advances-looked, Advances-most, Advances-then}
 use Rattle.wm_shared_monitor.proofs.Causes.{caused, caused_wait}
-use Rattle.wm_shared_monitor.proofs.Parts.{count_then, made_none, owes_still, reported_part, unreported_part}
-use Rattle.wm_shared_monitor.proofs.Passes.{GoesOn-looked, seen_later}
+use Rattle.wm_shared_monitor.proofs.Parts.{count_then, made_none, reported_part, unreported_part}
+use Rattle.wm_shared_monitor.proofs.Passes.{GoesOn-looked}
 use Rattle.wm_shared_monitor.proofs.Turns.{report_or_more, waited_now}
 use Rattle.wm_shared_monitor.proofs.monitor.SharedMonitor.wait.Goals as goal
 
@@ -19,24 +19,10 @@ returns-in_err-first-clause-part g c =
     let p = c.args.pass.now in
     let m = c.args.self.now in
     let v = see c.args.spawner.now in
-    let owes = order_owed p.seen m in
     let q = c.send_kept.new.pass in
     let m1 = c.send_kept.new.self in
-    let first = c.send_kept.ensures.part owes v in
-    Advances-most f 0 1 0 2 p q _ _ (owes_still f 0 1 p q m m1 v v c.requires.owes c.send_kept.ensures.owed first) (omega arith) (omega arith)
-
-pub returns-in_err-first-clause-owes : goal.returns-in_err-first-clause-owes
-returns-in_err-first-clause-owes g c =
-    let s = g.P.Spawner in
-    let see = spawner_seen s.asked s.told s.misses s.faults in
-    let p = c.args.pass.now in
-    let m = c.args.self.now in
-    let v = see c.args.spawner.now in
-    let owes = order_owed p.seen m in
-    let q = c.send_kept.new.pass in
-    let m1 = c.send_kept.new.self in
-    let first = c.send_kept.ensures.part owes v in
-    seen_later p.seen q.seen m m1 first.pass.seen c.requires.owes c.send_kept.ensures.owed
+    let first = c.send_kept.ensures.part v in
+    Advances-most f 0 1 0 2 p q _ _ first (omega arith) (omega arith)
 
 pub returns-in_err-report-clause-part : goal.returns-in_err-report-clause-part
 returns-in_err-report-clause-part g c =
@@ -46,28 +32,13 @@ returns-in_err-report-clause-part g c =
     let p = c.args.pass.now in
     let m = c.args.self.now in
     let v = see c.args.spawner.now in
-    let owes = order_owed p.seen m in
     let q = c.send_kept.new.pass in
     let m1 = c.send_kept.new.self in
-    let first = c.send_kept.ensures.part owes v in
+    let first = c.send_kept.ensures.part v in
     let x = see c.wait.new.spawner in
     let e = c.in_err-report.ensures in
-    let second = unreported_part f 0 1 q m1 owes v x first.pass.own c.in_ok-first.ensures.kept e.asked e.told e.misses e.cause.later in
-    let whole = Advances-then f 0 1 0 1 p q q (scene m owes v) (scene m1 owes v) (scene m1 owes x) first second in
-    owes_still f 0 2 p q m m1 v x c.requires.owes c.send_kept.ensures.owed whole
-
-pub returns-in_err-report-clause-owes : goal.returns-in_err-report-clause-owes
-returns-in_err-report-clause-owes g c =
-    let s = g.P.Spawner in
-    let see = spawner_seen s.asked s.told s.misses s.faults in
-    let p = c.args.pass.now in
-    let m = c.args.self.now in
-    let v = see c.args.spawner.now in
-    let owes = order_owed p.seen m in
-    let q = c.send_kept.new.pass in
-    let m1 = c.send_kept.new.self in
-    let first = c.send_kept.ensures.part owes v in
-    seen_later p.seen q.seen m m1 first.pass.seen c.requires.owes c.send_kept.ensures.owed
+    let second = unreported_part f 0 1 q m1 v x first.pass.own c.in_ok-first.ensures.kept e.asked e.told e.misses e.cause.later in
+    Advances-then f 0 1 0 1 p q q (scene m v) (scene m1 v) (scene m1 x) first second
 
 pub returns-in_err-second-clause-part : goal.returns-in_err-second-clause-part
 returns-in_err-second-clause-part g c =
@@ -77,41 +48,16 @@ returns-in_err-second-clause-part g c =
     let p = c.args.pass.now in
     let m = c.args.self.now in
     let v = see c.args.spawner.now in
-    let owes = order_owed p.seen m in
     let q = c.send_kept.new.pass in
     let m1 = c.send_kept.new.self in
-    let first = c.send_kept.ensures.part owes v in
+    let first = c.send_kept.ensures.part v in
     let x = see c.wait.new.spawner in
     let r = c.send_kept-2.new.pass in
     let n = c.send_kept-2.new.self in
     let e = c.in_ok-report.ensures in
     let k = record m1 { kept = c.in_ok-report.report } in
-    let second = reported_part f q r m1 k n c.in_ok-report.report owes v x first.pass.own c.in_ok-first.ensures.kept refl refl e.asked e.told e.misses e.cause.later (c.send_kept-2.ensures.part owes x) in
-    let whole = Advances-then f 0 1 0 1 p q r (scene m owes v) (scene m1 owes v) (scene n owes x) first second in
-    let same = c.send_kept-2.ensures.owed ∙ c.send_kept.ensures.owed in
-    owes_still f 0 2 p r m n v x c.requires.owes same whole
-
-pub returns-in_err-second-clause-owes : goal.returns-in_err-second-clause-owes
-returns-in_err-second-clause-owes g c =
-    let s = g.P.Spawner in
-    let see = spawner_seen s.asked s.told s.misses s.faults in
-    let f = c.args.floor.now in
-    let p = c.args.pass.now in
-    let m = c.args.self.now in
-    let v = see c.args.spawner.now in
-    let owes = order_owed p.seen m in
-    let q = c.send_kept.new.pass in
-    let m1 = c.send_kept.new.self in
-    let first = c.send_kept.ensures.part owes v in
-    let x = see c.wait.new.spawner in
-    let r = c.send_kept-2.new.pass in
-    let n = c.send_kept-2.new.self in
-    let e = c.in_ok-report.ensures in
-    let k = record m1 { kept = c.in_ok-report.report } in
-    let second = reported_part f q r m1 k n c.in_ok-report.report owes v x first.pass.own c.in_ok-first.ensures.kept refl refl e.asked e.told e.misses e.cause.later (c.send_kept-2.ensures.part owes x) in
-    let whole = Advances-then f 0 1 0 1 p q r (scene m owes v) (scene m1 owes v) (scene n owes x) first second in
-    let same = c.send_kept-2.ensures.owed ∙ c.send_kept.ensures.owed in
-    seen_later p.seen r.seen m n whole.pass.seen c.requires.owes same
+    let second = reported_part f q r m1 k n c.in_ok-report.report v x first.pass.own c.in_ok-first.ensures.kept refl refl e.asked e.told e.misses e.cause.later (c.send_kept-2.ensures.part x) in
+    Advances-then f 0 1 0 1 p q r (scene m v) (scene m1 v) (scene n x) first second
 
 pub returns-clause-part : goal.returns-clause-part
 returns-clause-part g c =
@@ -121,49 +67,20 @@ returns-clause-part g c =
     let p = c.args.pass.now in
     let m = c.args.self.now in
     let v = see c.args.spawner.now in
-    let owes = order_owed p.seen m in
     let q = c.send_kept.new.pass in
     let m1 = c.send_kept.new.self in
-    let first = c.send_kept.ensures.part owes v in
+    let first = c.send_kept.ensures.part v in
     let x = see c.wait.new.spawner in
     let r = c.send_kept-2.new.pass in
     let n = c.send_kept-2.new.self in
     let e = c.in_ok-report.ensures in
     let k = record m1 { kept = c.in_ok-report.report } in
-    let second = reported_part f q r m1 k n c.in_ok-report.report owes v x first.pass.own c.in_ok-first.ensures.kept refl refl e.asked e.told e.misses e.cause.later (c.send_kept-2.ensures.part owes x) in
-    let whole = Advances-then f 0 1 0 1 p q r (scene m owes v) (scene m1 owes v) (scene n owes x) first second in
-    let same = c.send_kept-2.ensures.owed ∙ c.send_kept.ensures.owed in
+    let second = reported_part f q r m1 k n c.in_ok-report.report v x first.pass.own c.in_ok-first.ensures.kept refl refl e.asked e.told e.misses e.cause.later (c.send_kept-2.ensures.part x) in
+    let whole = Advances-then f 0 1 0 1 p q r (scene m v) (scene m1 v) (scene n x) first second in
     let t = c.pending-waiting.new.pass in
     let l = c.pending-waiting.ensures in
     let goes = GoesOn-looked f r t whole.pass.own l.own l.same l.looked in
-    let all = Advances-then f 0 2 0 0 p r t (scene m owes v) (scene n owes x) (scene n owes x) whole (Advances-looked f 0 0 r t (scene n owes x) goes l.looked.mine) in
-    owes_still f 0 2 p t m n v x c.requires.owes same all
-
-pub returns-clause-owes : goal.returns-clause-owes
-returns-clause-owes g c =
-    let s = g.P.Spawner in
-    let see = spawner_seen s.asked s.told s.misses s.faults in
-    let f = c.args.floor.now in
-    let p = c.args.pass.now in
-    let m = c.args.self.now in
-    let v = see c.args.spawner.now in
-    let owes = order_owed p.seen m in
-    let q = c.send_kept.new.pass in
-    let m1 = c.send_kept.new.self in
-    let first = c.send_kept.ensures.part owes v in
-    let x = see c.wait.new.spawner in
-    let r = c.send_kept-2.new.pass in
-    let n = c.send_kept-2.new.self in
-    let e = c.in_ok-report.ensures in
-    let k = record m1 { kept = c.in_ok-report.report } in
-    let second = reported_part f q r m1 k n c.in_ok-report.report owes v x first.pass.own c.in_ok-first.ensures.kept refl refl e.asked e.told e.misses e.cause.later (c.send_kept-2.ensures.part owes x) in
-    let whole = Advances-then f 0 1 0 1 p q r (scene m owes v) (scene m1 owes v) (scene n owes x) first second in
-    let same = c.send_kept-2.ensures.owed ∙ c.send_kept.ensures.owed in
-    let t = c.pending-waiting.new.pass in
-    let l = c.pending-waiting.ensures in
-    let goes = GoesOn-looked f r t whole.pass.own l.own l.same l.looked in
-    let all = Advances-then f 0 2 0 0 p r t (scene m owes v) (scene n owes x) (scene n owes x) whole (Advances-looked f 0 0 r t (scene n owes x) goes l.looked.mine) in
-    seen_later p.seen t.seen m n all.pass.seen c.requires.owes same
+    Advances-then f 0 2 0 0 p r t (scene m v) (scene n x) (scene n x) whole (Advances-looked f 0 0 r t (scene n x) goes l.looked.mine)
 
 pub returns-clause-report : goal.returns-clause-report
 returns-clause-report g c until =
@@ -173,17 +90,16 @@ returns-clause-report g c until =
     let p = c.args.pass.now in
     let m = c.args.self.now in
     let v = see c.args.spawner.now in
-    let owes = order_owed p.seen m in
     let q = c.send_kept.new.pass in
     let m1 = c.send_kept.new.self in
-    let first = c.send_kept.ensures.part owes v in
+    let first = c.send_kept.ensures.part v in
     let x = see c.wait.new.spawner in
     let r = c.send_kept-2.new.pass in
     let n = c.send_kept-2.new.self in
     let e = c.in_ok-report.ensures in
     let k = record m1 { kept = c.in_ok-report.report } in
-    let second = reported_part f q r m1 k n c.in_ok-report.report owes v x first.pass.own c.in_ok-first.ensures.kept refl refl e.asked e.told e.misses e.cause.later (c.send_kept-2.ensures.part owes x) in
-    let whole = Advances-then f 0 1 0 1 p q r (scene m owes v) (scene m1 owes v) (scene n owes x) first second in
+    let second = reported_part f q r m1 k n c.in_ok-report.report v x first.pass.own c.in_ok-first.ensures.kept refl refl e.asked e.told e.misses e.cause.later (c.send_kept-2.ensures.part x) in
+    let whole = Advances-then f 0 1 0 1 p q r (scene m v) (scene m1 v) (scene n x) first second in
     let t = c.pending-waiting.new.pass in
     let l = c.pending-waiting.ensures in
     let goes = GoesOn-looked f r t whole.pass.own l.own l.same l.looked in
@@ -197,17 +113,16 @@ returns-clause-sent g c =
     let p = c.args.pass.now in
     let m = c.args.self.now in
     let v = see c.args.spawner.now in
-    let owes = order_owed p.seen m in
     let q = c.send_kept.new.pass in
     let m1 = c.send_kept.new.self in
-    let first = c.send_kept.ensures.part owes v in
+    let first = c.send_kept.ensures.part v in
     let x = see c.wait.new.spawner in
     let r = c.send_kept-2.new.pass in
     let n = c.send_kept-2.new.self in
     let e = c.in_ok-report.ensures in
     let k = record m1 { kept = c.in_ok-report.report } in
-    let second = reported_part f q r m1 k n c.in_ok-report.report owes v x first.pass.own c.in_ok-first.ensures.kept refl refl e.asked e.told e.misses e.cause.later (c.send_kept-2.ensures.part owes x) in
-    let whole = Advances-then f 0 1 0 1 p q r (scene m owes v) (scene m1 owes v) (scene n owes x) first second in
+    let second = reported_part f q r m1 k n c.in_ok-report.report v x first.pass.own c.in_ok-first.ensures.kept refl refl e.asked e.told e.misses e.cause.later (c.send_kept-2.ensures.part x) in
+    let whole = Advances-then f 0 1 0 1 p q r (scene m v) (scene m1 v) (scene n x) first second in
     let t = c.pending-waiting.new.pass in
     let l = c.pending-waiting.ensures in
     let goes = GoesOn-looked f r t whole.pass.own l.own l.same l.looked in
@@ -229,21 +144,20 @@ returns-clause-waited g c =
     let p = c.args.pass.now in
     let m = c.args.self.now in
     let v = see c.args.spawner.now in
-    let owes = order_owed p.seen m in
     let q = c.send_kept.new.pass in
     let m1 = c.send_kept.new.self in
-    let first = c.send_kept.ensures.part owes v in
+    let first = c.send_kept.ensures.part v in
     let x = see c.wait.new.spawner in
     let r = c.send_kept-2.new.pass in
     let n = c.send_kept-2.new.self in
     let e = c.in_ok-report.ensures in
     let k = record m1 { kept = c.in_ok-report.report } in
-    let second = reported_part f q r m1 k n c.in_ok-report.report owes v x first.pass.own c.in_ok-first.ensures.kept refl refl e.asked e.told e.misses e.cause.later (c.send_kept-2.ensures.part owes x) in
-    let whole = Advances-then f 0 1 0 1 p q r (scene m owes v) (scene m1 owes v) (scene n owes x) first second in
+    let second = reported_part f q r m1 k n c.in_ok-report.report v x first.pass.own c.in_ok-first.ensures.kept refl refl e.asked e.told e.misses e.cause.later (c.send_kept-2.ensures.part x) in
+    let whole = Advances-then f 0 1 0 1 p q r (scene m v) (scene m1 v) (scene n x) first second in
     let t = c.pending-waiting.new.pass in
     let l = c.pending-waiting.ensures in
     let goes = GoesOn-looked f r t whole.pass.own l.own l.same l.looked in
-    let all = Advances-then f 0 2 0 0 p r t (scene m owes v) (scene n owes x) (scene n owes x) whole (Advances-looked f 0 0 r t (scene n owes x) goes l.looked.mine) in
+    let all = Advances-then f 0 2 0 0 p r t (scene m v) (scene n x) (scene n x) whole (Advances-looked f 0 0 r t (scene n x) goes l.looked.mine) in
     let o = c.of.result in
     let waits = c.of.ensures.pending ∙ (l.pending ∙ ap (pending (reached (behind f.opening t.seen))) (c.number-monitor.ensures.value ∙ whole.pass.same.number)) in
     waited_now f p t o.at o.pending all.pass (c.of.ensures.at ∙ l.at) waits
@@ -255,8 +169,7 @@ send_kept-requires-2 g c =
     let p = c.args.pass.now in
     let m = c.args.self.now in
     let v = see c.args.spawner.now in
-    let owes = order_owed p.seen m in
-    let first = c.send_kept.ensures.part owes v in
+    let first = c.send_kept.ensures.part v in
     record { own = first.pass.own }
 
 pub pending-waiting-requires : goal.pending-waiting-requires
@@ -267,16 +180,15 @@ pending-waiting-requires g c =
     let p = c.args.pass.now in
     let m = c.args.self.now in
     let v = see c.args.spawner.now in
-    let owes = order_owed p.seen m in
     let q = c.send_kept.new.pass in
     let m1 = c.send_kept.new.self in
-    let first = c.send_kept.ensures.part owes v in
+    let first = c.send_kept.ensures.part v in
     let x = see c.wait.new.spawner in
     let r = c.send_kept-2.new.pass in
     let n = c.send_kept-2.new.self in
     let e = c.in_ok-report.ensures in
     let k = record m1 { kept = c.in_ok-report.report } in
-    let second = reported_part f q r m1 k n c.in_ok-report.report owes v x first.pass.own c.in_ok-first.ensures.kept refl refl e.asked e.told e.misses e.cause.later (c.send_kept-2.ensures.part owes x) in
+    let second = reported_part f q r m1 k n c.in_ok-report.report v x first.pass.own c.in_ok-first.ensures.kept refl refl e.asked e.told e.misses e.cause.later (c.send_kept-2.ensures.part x) in
     record { own = second.pass.own }
 
 pub overflow_add-first : goal.overflow_add-first
@@ -287,16 +199,15 @@ overflow_add-first g c =
     let p = c.args.pass.now in
     let m = c.args.self.now in
     let v = see c.args.spawner.now in
-    let owes = order_owed p.seen m in
     let q = c.send_kept.new.pass in
     let m1 = c.send_kept.new.self in
-    let first = c.send_kept.ensures.part owes v in
+    let first = c.send_kept.ensures.part v in
     let x = see c.wait.new.spawner in
     let r = c.send_kept-2.new.pass in
     let n = c.send_kept-2.new.self in
     let e = c.in_ok-report.ensures in
     let k = record m1 { kept = c.in_ok-report.report } in
-    let second = reported_part f q r m1 k n c.in_ok-report.report owes v x first.pass.own c.in_ok-first.ensures.kept refl refl e.asked e.told e.misses e.cause.later (c.send_kept-2.ensures.part owes x) in
+    let second = reported_part f q r m1 k n c.in_ok-report.report v x first.pass.own c.in_ok-first.ensures.kept refl refl e.asked e.told e.misses e.cause.later (c.send_kept-2.ensures.part x) in
     let a = first.within in
     let a1 = a.hands_most in
     let a2 = a.others_most in
@@ -327,8 +238,7 @@ returns-in_err-second-clause-cause g c =
     let p = c.args.pass.now in
     let m = c.args.self.now in
     let v = see c.args.spawner.now in
-    let owes = order_owed p.seen m in
-    let first = c.send_kept.ensures.part owes v in
+    let first = c.send_kept.ensures.part v in
     let x = see c.wait.new.spawner in
     let e = c.in_ok-report.ensures in
     let b = err_from_is_err_and c.from_residual-in_err-second.result c.from_residual-in_err-second.ensures.1 in

@@ -1,24 +1,23 @@
 // Copies of replies.
-ghost use Rattle.std.specs.Prelude.{◌≡◌};
+ghost use Rattle.std.specs.Prelude.{◌≡◌, IfOk};
 ghost use Rattle.wm_law.specs.declared.call.Reply.TheVariants.{Order};
-ghost use Rattle.wm_floor.specs.Replies.{IsCopyOf};
 
 use std::alloc::Global;
-use wm_base::Asked;
+use wm_base::{Asked, NoMemory};
 use wm_law::{Boxed, Reply};
 
-// A copy of an order, where there is memory for it.
-fn order(alloc: Global, asked: &Asked) -> Option<Reply>
-    ensures { IsCopyOf (Order asked.now) result }
+// A copy of an order, which alone needs memory.
+fn order(alloc: Global, asked: &Asked) -> Result<Reply, NoMemory>
+    ensures { IfOk result (λ copy. copy ≡ Order asked.now) }
 {
-    let copy = asked.clone().ok()?;
-    let kept = Boxed::new(alloc, copy).ok()?;
-    Some(Reply::Order(kept))
+    let copy = asked.clone()?;
+    let kept = Boxed::new(alloc, copy)?;
+    Ok(Reply::Order(kept))
 }
 
-/// A copy of a reply. There is none only of an order, for want of memory.
-pub(crate) fn copied(alloc: Global, reply: &Reply) -> Option<Reply>
-    ensures { IsCopyOf reply.now result }
+/// A copy of a reply. An `Err` is want of memory.
+pub(crate) fn copied(alloc: Global, reply: &Reply) -> Result<Reply, NoMemory>
+    ensures { IfOk result (λ copy. copy ≡ reply.now) }
 {
     let copy = match reply {
         Reply::Made => Reply::Made,
@@ -39,10 +38,10 @@ pub(crate) fn copied(alloc: Global, reply: &Reply) -> Option<Reply>
         Reply::EvokeWaits(position) => Reply::EvokeWaits(*position),
         Reply::UseEnded(job) => Reply::UseEnded(*job),
         Reply::PowerDown => Reply::PowerDown,
-        Reply::Order(asked) => return order(alloc, asked.get()),
+        Reply::Order(asked) => order(alloc, asked.get())?,
         Reply::Nothing => Reply::Nothing,
         Reply::Noted => Reply::Noted,
         Reply::No(refusal) => Reply::No(*refusal),
     };
-    Some(copy)
+    Ok(copy)
 }
