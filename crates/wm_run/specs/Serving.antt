@@ -11,7 +11,7 @@ use Rattle.wm_floor.specs.Ledger.{behind, caller_of}
 use Rattle.wm_monitor.specs.Idle.{monitor_pass}
 use Rattle.wm_monitor.specs.Lists.{Extends}
 use Rattle.wm_monitor.specs.Monitor.{is_own}
-use Rattle.wm_shared_monitor.specs.Advance.{MonitorAttends}
+use Rattle.wm_shared_monitor.specs.Attends.{MonitorAttends}
 use Rattle.wm_run.specs.Calls.{session_pass}
 use Rattle.wm_run.specs.declared.running.Run.{Run}
 

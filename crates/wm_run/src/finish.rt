@@ -43,7 +43,8 @@ impl<K: Keeper> Run<K> {
     ghost use Rattle.wm_floor.specs.Ledger.{behind};
     ghost use Rattle.wm_monitor.specs.Idle.{monitor_pass};
     ghost use Rattle.wm_monitor.specs.Lists.{since};
-    ghost use Rattle.wm_shared_monitor.specs.Advance.{added, MonitorAttends};
+    ghost use Rattle.wm_shared_monitor.specs.Advance.{added};
+    ghost use Rattle.wm_shared_monitor.specs.Attends.{MonitorAttends};
     ghost use Rattle.wm_shared_monitor.specs.Scene.{IsClear};
     ghost use Rattle.wm_traits.specs.Told.{IsEmpty};
     ghost use Rattle.wm_run.specs.Awaited.{jobs_left};

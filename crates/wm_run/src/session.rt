@@ -75,7 +75,8 @@ impl<K: Keeper> Run<K> {
     ghost use Rattle.wm_traits.specs.Told.{Grows, IsEmpty};
     ghost use Rattle.wm_floor.specs.Floor.{HasLooked, IsPassOf, IsSame};
     ghost use Rattle.wm_monitor.specs.Monitor.{hands_of};
-    ghost use Rattle.wm_shared_monitor.specs.Advance.{added, MonitorAttends};
+    ghost use Rattle.wm_shared_monitor.specs.Advance.{added};
+    ghost use Rattle.wm_shared_monitor.specs.Attends.{MonitorAttends};
     ghost use Rattle.wm_shared_monitor.specs.Scene.{IsClear};
     ghost use Rattle.wm_shared_monitor.specs.Turned.{HadNothing, WaitedAt};
     ghost use Rattle.wm_run.specs.Calls.{Called};

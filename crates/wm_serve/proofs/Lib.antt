@@ -1,5 +1,4 @@
 pub mod Accepted
-pub mod Attending
 pub mod Causing
 pub mod Closers
 pub mod Commands

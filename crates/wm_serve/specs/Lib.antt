@@ -3,7 +3,6 @@ pub mod Done
 pub mod Ending
 pub mod Halts
 pub mod Laws
-pub mod Monitors
 pub mod Over
 pub mod Parts
 pub mod Seating

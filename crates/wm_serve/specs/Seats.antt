@@ -9,7 +9,7 @@ use Rattle.wm_monitor.specs.declared.fault.MonitorFault.{MonitorFault}
 use Rattle.wm_shared_monitor.specs.Causes.{IsCaused}
 use Rattle.wm_shared_monitor.specs.Scene.{IsClear}
 use Rattle.wm_serve.specs.Connections.{DeskServes, MakesCommands}
-use Rattle.wm_serve.specs.Monitors.{MonitorAttends}
+use Rattle.wm_shared_monitor.specs.Attends.{MonitorAttends}
 use Rattle.wm_serve.specs.declared.seat.MonitorSeat.{MonitorSeat}
 use Rattle.wm_serve.specs.declared.seat.Seat.{Seat}
 use Rattle.wm_serve.specs.declared.seat.Seat.TheVariants.{Worker, Closer, Monitor}

@@ -2,7 +2,7 @@
 ghost use Rattle.std.specs.Prelude.{◌≡◌, IfErr, IfSome, None, OnOk};
 ghost use Rattle.wm_floor.specs.Floor.{IsPassOf};
 ghost use Rattle.wm_shared_monitor.specs.Causes.{IsCaused};
-ghost use Rattle.wm_serve.specs.Monitors.{MonitorAttends};
+ghost use Rattle.wm_shared_monitor.specs.Attends.{MonitorAttends};
 
 use crate::board::Board;
 use std::alloc::Global;

@@ -15,7 +15,7 @@
 //! threads, the end of power), `seating` (seats take passes and give them back), `threads` (what each thread makes of its seat,
 //! and all at once), `worker` and `attendant` (the work itself). What the threads tell each other (`board`) no contract speaks of.
 //!
-//! The definitions are in `specs/`, in the order of reading: `Connections`, `Monitors` (what a thread does), `Seats` and `Seating`
+//! The definitions are in `specs/`, in the order of reading: `Connections` (what a thread does), `Seats` and `Seating`
 //! (seats, their passes, and a seat between two moments), `Halts` and `Ending` (why a part ends early), `Parts`, `Over` (what a
 //! server calls itself, and how it is over where its status is 0), `Done` (what each seat did, as the history tells it), `Server`
 //! (what a whole server makes of its rows, and its statuses) and `Laws` (what follows for the servers of one store).

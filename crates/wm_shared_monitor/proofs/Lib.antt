@@ -1,4 +1,5 @@
 pub mod Advances
+pub mod Attending
 pub mod Calls
 pub mod Causes
 pub mod Idles

@@ -1,4 +1,5 @@
 pub mod Advance
+pub mod Attends
 pub mod Causes
 pub mod Idle
 pub mod Made

@@ -9,7 +9,7 @@
 //! turn that made no entry found nothing to do.
 //!
 //! The definitions are in `specs/`, in the order of reading: `Idle` (no entry is idle), `Scene` (what stands around a monitor),
-//! `Advance` (what is done between two moments), `Causes` (why a call ends early), `Turned` (what waited when the monitor looked
+//! `Advance` and `Attends` (what is done between two moments), `Causes` (why a call ends early), `Turned` (what waited when the monitor looked
 //! last, and that there was nothing to do) and `Made` (what one call makes).
 #![tactic(auto)]
 

@@ -4,7 +4,7 @@ use Rattle.wm_floor.specs.Floor.{Floored, IsPassOf, Seen}
 use Rattle.wm_shared_monitor.specs.Advance.{Advances}
 use Rattle.wm_shared_monitor.specs.Scene.{Scene}
 use Rattle.wm_shared_monitor.proofs.Advances.{Advances-none, Advances-then}
-use Rattle.wm_serve.specs.Monitors.{Attends}
+use Rattle.wm_shared_monitor.specs.Attends.{Attends}
 
 module _ {K : Type 0} (f : Floored K) where
   pub attends_none : (p : Seen K) (a : Scene) → IsPassOf f p → Attends f p p a a
