@@ -1,60 +1,70 @@
--- What the call of a user's command is answered by.
-use Rattle.std.proofs.Common.{◌≡◌, ℕ, Bool, true, List, [], ◌∷◌, ◌++◌, Option, Some, sym, ap, subst, ◌∙◌, refl, take}
-use Rattle.std.specs.List.{list_all}
-use Rattle.std.specs.Option.{IfSome}
+-- What the session has seen since, with a call of its own or without one, and what is answered by it.
+use Rattle.std.proofs.Common.{◌≡◌, ℕ, Bool, List, [], ◌∷◌, Option, sym, ap, ◌∙◌, refl, take, append-nil}
+use Rattle.wm_law.specs.declared.call.Call.{Call}
 use Rattle.wm_law.specs.declared.call.Call.TheVariants.{Change}
 use Rattle.wm_law.specs.declared.call.Entry.{Entry}
+use Rattle.wm_law.specs.declared.call.Reply.{Reply}
 use Rattle.wm_law.specs.declared.command.Command.{Command}
-use Rattle.wm_journal.specs.History.{History, entry_at, last_of}
-use Rattle.wm_monitor.proofs.Histories.{last_of-call}
+use Rattle.wm_law.specs.History.{entries_of}
+use Rattle.wm_listing.specs.Said.{said_text}
 use Rattle.wm_traits.specs.Told.{Grows}
-use Rattle.wm_run.specs.Answer.{entry_text, with_end, is_power_down, is_refused}
-use Rattle.wm_run.specs.Calls.{Called, session_pass}
-use Rattle.wm_monitor.specs.Lists.{since, Extends}
-use Rattle.wm_monitor.specs.Monitor.{is_own}
+use Rattle.wm_turn.specs.Passed.{own}
+use Rattle.wm_floor.specs.Floor.{Floored, HasLooked, IsPassOf, IsSame, Seen, entry_of}
+use Rattle.wm_floor.specs.Ledger.{caller_of}
+use Rattle.wm_monitor.specs.Lists.{since}
+use Rattle.wm_shared_monitor.proofs.Passes.{own_since, since-by}
+use Rattle.wm_run.specs.Answer.{with_end, is_power_down, is_refused}
+use Rattle.wm_run.specs.Calls.{Called, MakesCall, session_pass}
 use Rattle.wm_run.specs.Down.{is_down}
-use Rattle.wm_run.specs.Grown.{entries_between}
-use Rattle.wm_run.specs.Session.{AnsweredBy, Calls}
+use Rattle.wm_run.specs.Session.{AnsweredBy, Calls, IsUncalled, OneCall}
 use Rattle.wm_run.specs.Stopped.{WritesSome}
 use Rattle.wm_run.proofs.Downs.{down_called}
-use Rattle.wm_run.proofs.Servings.{Extends-called, session_entries, session_entries-called, session_entries-own, session_entries-then}
+use Rattle.wm_run.proofs.Servings.{seen_called}
 
--- its entry, what is said of it, and then entries of the monitor
-pub commanded : {user : List ℕ} (old mid new : History) (c : Command) (before now : Option (List ℕ)) (refused down : Bool) → Called old (Change user c) mid → Extends mid.log new.log → list_all is_own (since mid.log new.log) ≡ true → IfSome (last_of mid) (λ e. Grows before now (with_end (entry_text e)) × (refused ≡ is_refused e.reply) × (down ≡ is_power_down e.reply)) → AnsweredBy (Calls user c) (entries_between old new) before now refused
-commanded {user} old mid new c before now refused down h grown own said =
-    let call = Change user c in
-    let e = entry_at old session_pass call h.now in
-    let last : last_of mid ≡ Some e = ap last_of h.made ∙ last_of-call old session_pass call h.now in
-    let says = subst (λ (o : Option Entry). IfSome o (λ x. Grows before now (with_end (entry_text x)) × (refused ≡ is_refused x.reply) × (down ≡ is_power_down x.reply))) last said in
-    let es = session_entries-then old mid new (Extends-called old mid call h) grown in
-    let one = ap (λ (xs : List Entry). xs ++ session_entries mid new) (session_entries-called old mid call h) in
-    let none = ap (λ (xs : List Entry). (e ∷ []) ++ xs) (session_entries-own (since mid.log new.log) own) in
-    record {
-      bytes = with_end (entry_text e);
-      answers = record { entry = e; only = es ∙ (one ∙ none); call = refl; says = refl; refused = says.1 };
-      written = says.0;
-    }
+-- what is said of a call, and where it leaves the power
 
--- what is said was written in part
-pub commanded_some : {user : List ℕ} (old mid : History) (c : Command) (before now : Option (List ℕ)) → Called old (Change user c) mid → IfSome (last_of mid) (λ e. (n : ℕ) × Grows before now (take n (with_end (entry_text e)))) → WritesSome (Calls user c) (entries_between old mid) before now
-commanded_some {user} old mid c before now h said =
-    let call = Change user c in
-    let e = entry_at old session_pass call h.now in
-    let last : last_of mid ≡ Some e = ap last_of h.made ∙ last_of-call old session_pass call h.now in
-    let says = subst (λ (o : Option Entry). IfSome o (λ x. (n : ℕ) × Grows before now (take n (with_end (entry_text x))))) last said in
-    record {
-      due = with_end (entry_text e);
-      faulty = _;
-      answers = record { entry = e; only = session_entries-called old mid call h; call = refl; says = refl; refused = refl };
-      count = says.0;
-      written = says.1;
-    }
+pub one_call : {reply : Reply} {es : List Entry} (c d : Call) → MakesCall c reply es → c ≡ d → OneCall d es
+one_call c d h is = record { entry = h.entry; only = h.only; call = h.call ∙ is }
 
--- what is told of the power is where the entries leave it
-pub commanded_down : {user : List ℕ} (old mid new : History) (c : Command) (before now : Option (List ℕ)) (refused down : Bool) → Called old (Change user c) mid → Extends mid.log new.log → list_all is_own (since mid.log new.log) ≡ true → IfSome (last_of mid) (λ e. Grows before now (with_end (entry_text e)) × (refused ≡ is_refused e.reply) × (down ≡ is_power_down e.reply)) → down ≡ is_down (entries_between old new)
-commanded_down {user} old mid new c before now refused down h grown own said =
-    let call = Change user c in
-    let e = entry_at old session_pass call h.now in
-    let last : last_of mid ≡ Some e = ap last_of h.made ∙ last_of-call old session_pass call h.now in
-    let says = subst (λ (o : Option Entry). IfSome o (λ x. Grows before now (with_end (entry_text x)) × (refused ≡ is_refused x.reply) × (down ≡ is_power_down x.reply))) last said in
-    says.2 ∙ sym (down_called old mid new c h grown own)
+pub commanded : {user : List ℕ} {c : Command} {reply : Reply} {es : List Entry} (call : Call) (before now : Option (List ℕ)) (refused : Bool) → MakesCall call reply es → call ≡ Change user c → Grows before now (with_end (said_text c reply)) → refused ≡ is_refused reply → AnsweredBy (Calls user c) es before now refused
+commanded {user} {c} {reply} {es} call before now refused h same said is = record {
+  bytes = with_end (said_text c reply);
+  answers = record { entry = h.entry; only = h.only; call = h.call ∙ same; says = ap (λ (r : Reply). with_end (said_text c r)) h.replied; refused = is ∙ ap is_refused h.replied };
+  written = said;
+}
+
+-- it was written in part
+pub commanded_some : {user : List ℕ} {c : Command} {reply : Reply} {es : List Entry} (call : Call) (before now : Option (List ℕ)) (n : ℕ) → MakesCall call reply es → call ≡ Change user c → Grows before now (take n (with_end (said_text c reply))) → WritesSome (Calls user c) es before now
+commanded_some {user} {c} {reply} {es} call before now n h same said = record {
+  due = with_end (said_text c reply);
+  faulty = is_refused reply;
+  answers = record { entry = h.entry; only = h.only; call = h.call ∙ same; says = ap (λ (r : Reply). with_end (said_text c r)) h.replied; refused = ap is_refused h.replied };
+  count = n;
+  written = said;
+}
+
+pub commanded_down : {call : Call} {reply : Reply} {es : List Entry} (down : Bool) → MakesCall call reply es → down ≡ is_power_down reply → down ≡ is_down es
+commanded_down {call} {reply} {es} down h is = is ∙ (ap is_power_down h.replied ∙ sym (down_called es h.entry h.only))
+
+-- what the session's pass has seen since
+
+module _ {K : Type 0} (f : Floored K) (p q : Seen K) (before : IsPassOf f p) (now : IsPassOf f q) (zero : p.number ≡ session_pass) (same : IsSame p q) where
+  own_zero : (es : List Entry) → entries_of session_pass es ≡ own caller_of p.number es
+  own_zero es = ap (λ (n : ℕ). own caller_of n es) (sym zero)
+
+  -- a look has no call
+  pub uncalled_since : HasLooked p q → IsUncalled (since p.seen q.seen)
+  uncalled_since looked =
+      let more = looked.seen.0 in
+      let es : since p.seen q.seen ≡ more = since-by p.seen q.seen more looked.seen.1 in
+      let none = own_since f p q more [] before now same looked.seen.1 (looked.mine ∙ sym (append-nil p.mine)) in
+      ap (entries_of session_pass) es ∙ (own_zero more ∙ none)
+
+  -- a call has its own entry
+  pub called_since : {c : Call} {coming : Option ℕ} {reply : Reply} → Called f.opening c coming p q reply → MakesCall c reply (since p.seen q.seen)
+  called_since {c} h =
+      let e = entry_of f.opening h.found p.number c h.now in
+      let seen = seen_called p q h in
+      let es : since p.seen q.seen ≡ _ = since-by p.seen q.seen _ seen in
+      let one = own_since f p q _ (e ∷ []) before now same seen h.mine in
+      record { entry = e; only = ap (entries_of session_pass) es ∙ (own_zero _ ∙ one); call = refl; replied = h.replied }

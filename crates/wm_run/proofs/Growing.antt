@@ -1,13 +1,14 @@
 -- Laws of histories that grow.
-use Rattle.std.proofs.Common.{◌≡◌, Bool, List, [], ◌++◌, sym, ap, ◌∙◌, append_assoc}
+use Rattle.std.proofs.Common.{◌≡◌, List, [], ◌++◌, sym, ap, ◌∙◌, append_assoc}
 use Rattle.std.proofs.Math.Seq.{drop-length}
 use Rattle.std.proofs.lemmas.List.{append-nil}
 use Rattle.wm_law.specs.declared.call.Entry.{Entry}
 use Rattle.wm_law.specs.declared.state.State.{State}
 use Rattle.wm_journal.specs.History.{History}
-use Rattle.wm_run.specs.Grown.{grown, entries_between}
+use Rattle.wm_floor.specs.Floor.{Floored}
+use Rattle.wm_run.specs.Grown.{grown, entries_between, session_of}
+use Rattle.wm_run.specs.declared.running.Run.{Run}
 use Rattle.wm_monitor.specs.Lists.{Extends}
-use Rattle.wm_monitor.specs.Monitor.{MonitorView, Proceeds}
 use Rattle.wm_monitor.proofs.Lists.{since-then, Extends-then}
 
 -- a history goes on from another: it was opened with the same state, and has its entries in front
@@ -18,9 +19,9 @@ pub record Continues (old new : History) : Type 0 where
 pub Continues-then : (a b c : History) → Continues a b → Continues b c → Continues a c
 Continues-then a b c ab bc = record { opened = bc.opened ∙ ab.opened; log = Extends-then a.log b.log c.log ab.log bc.log }
 
--- so it does in what is done
-pub continues : {is_mine : Entry → Bool} (a b : MonitorView) → Proceeds is_mine a b → Continues a.history b.history
-continues a b h = record { opened = h.opened; log = h.log }
+-- what the session has seen goes on, where the floor is the same
+pub goes_on : {K : Type 0} (old new : Run K) → new.floor ≡ old.floor → Extends old.session.seen new.session.seen → Continues (session_of old) (session_of new)
+goes_on {K} old new same seen = record { opened = ap (λ (f : Floored K). f.opening.state) same; log = seen }
 
 pub grown-none : (h : History) → grown h [] ≡ h
 grown-none h = ap (λ (l : List Entry). record { opened = h.opened; log = l }) (append-nil h.log)

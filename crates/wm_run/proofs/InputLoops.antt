@@ -3,19 +3,17 @@ use Rattle.std.proofs.Common.{◌≡◌, ℕ, ◌≤◌, Bool, false, List, [], 
 use Rattle.wm_clwords.specs.Part.{Part, fresh}
 use Rattle.wm_law.specs.declared.call.Entry.{Entry}
 use Rattle.wm_journal.specs.History.{History}
-use Rattle.wm_monitor.specs.Monitor.{MonitorView}
-use Rattle.wm_run.specs.Serving.{Serves}
 use Rattle.wm_run.specs.Taking.{TakesPiece}
 
 -- what stays true while the lines of a piece are taken, none of which has put the power down
-pub record PieceLoop (old new : MonitorView) (written_before written_now looked_before looked_now : ℕ) (at : ℕ) (piece : List ℕ) (down : Bool) (Taken Kept Reported : Type 0) : Type 0 where
+pub record PieceLoop (written_before written_now looked_before looked_now : ℕ) (at : ℕ) (piece : List ℕ) (down : Bool) (Ready Serves Taken Reported : Type 0) : Type 0 where
   pub within : at ≤ length piece
-  pub serves : Serves old new
+  pub ready : Ready
+  pub serves : Serves
   pub up : down ≡ false
   pub taken : Taken
   pub written : written_before ≤ written_now
   pub looked : looked_before ≤ looked_now
-  pub journal : Kept
   pub reported : Reported
 
 -- so many bytes of the input have been taken, and the lines that have ended in them were answered
@@ -24,14 +22,14 @@ pub record SoFar (user : List ℕ) (b : Part) (h : History) (es : List Entry) (u
   pub count : length bytes ≡ sum
 
 -- what stays true while the input is read, of which no line has put the power down
-pub record InputLoop (old new : MonitorView) (read_before read_now written_before written_now looked_before looked_now : ℕ) (sum : ℕ) (buf : List ℕ) (down : Bool) (Taken Kept Reported : Type 0) : Type 0 where
-  pub serves : Serves old new
+pub record InputLoop (read_before read_now written_before written_now looked_before looked_now : ℕ) (sum : ℕ) (buf : List ℕ) (down : Bool) (Ready Serves Taken Reported : Type 0) : Type 0 where
+  pub ready : Ready
+  pub serves : Serves
   pub up : down ≡ false
   pub taken : Taken
   pub read : read_before ≤ read_now
   pub written : written_before ≤ written_now
   pub looked : looked_before ≤ looked_now
-  pub journal : Kept
   pub reported : Reported
   pub total : sum ≤ 1000000000
   pub piece : length buf ≡ 65536

@@ -16,7 +16,7 @@ use Rattle.wm_run.specs.Grown.{at_opening, entries_between}
 use Rattle.wm_monitor.specs.Lists.{since}
 use Rattle.wm_run.specs.Outcome.{AnswersEnded, LinesCame, RunCame, RunTakes, SessionCame}
 use Rattle.wm_run.specs.Run.{ended_status}
-use Rattle.wm_run.specs.Session.{Answers, AnsweredBy, Closes, OneCall, start_call}
+use Rattle.wm_run.specs.Session.{Answers, AnsweredBy, Closes, IsUncalled, OneCall, start_call}
 use Rattle.wm_run.specs.Stopped.{AtMostOne, MayClose, StopsIn}
 use Rattle.wm_run.specs.Taking.{StopsReading, TakesPiece, TakesInput}
 use Rattle.wm_run.specs.declared.answered.Answered.{Answered}
@@ -27,9 +27,9 @@ use Rattle.wm_run.proofs.EndedLines.{letter_line}
 use Rattle.wm_run.proofs.InputLoops.{SoFar}
 use Rattle.wm_run.proofs.Inputs.{input_down, input_end}
 use Rattle.wm_run.proofs.Runs.{at_grown, ended_if, full_exactly, full_not, fault_status, session_parts, stopped_not, stopped_on}
-use Rattle.wm_run.proofs.Growing.{Continues, entries-then}
+use Rattle.wm_run.proofs.Growing.{Continues, Continues-then, entries-then}
 use Rattle.wm_run.proofs.StoppedRuns.{full_later, full_pass, full_read, input_stops, input_stops_in, input_stops_last, input_stops_none, stopped_begin, stopped_end, stopped_lines}
-use Rattle.wm_run.proofs.Takings.{TakesPiece-lines}
+use Rattle.wm_run.proofs.Takings.{AnsweredBy-behind, TakesPiece-lines}
 
 -- the lines of the pieces that were taken are those that have ended
 pub ended_lines : {user : List ℕ} (xs : List ℕ) (b : Part) (o : History) (es : List Entry) (u v : Option (List ℕ)) (f : Bool) → TakesPiece user fresh xs b [] o es u v f → AnswersEnded user xs o es u v
@@ -41,6 +41,10 @@ ended_lines {user} xs b o es u v f h =
       faulty = f;
       answered = h.answered;
     }
+
+-- entries follow among which the session made no call
+ended_behind : {user : List ℕ} (xs : List ℕ) (o : History) (es fs : List Entry) (u v : Option (List ℕ)) → IsUncalled fs → AnswersEnded user xs o es u v → AnswersEnded user xs o (es ++ fs) u v
+ended_behind {user} xs o es fs u v none h = record { lines = h.lines; ended = h.ended; faulty = h.faulty; answered = AnsweredBy-behind user h.lines o es fs u v h.faulty none h.answered }
 
 if_ok_err : {T : Type 0} (P : T → Type 0) (r : Result T Halt) (e : Halt) → r ≡ Err e → IfOk r P
 if_ok_err {T} P r e is = subst (λ (q : Result T Halt). IfOk q P) (sym is) tt
@@ -111,19 +115,18 @@ if_ok_of : {T : Type 0} (P : T → Type 0) (r : Result T Halt) (t : T) → r ≡
 if_ok_of {T} P r t is h = subst (λ (q : Result T Halt). IfOk q P) is h
 
 -- a session that stopped as it began
-pub came_begin : (settings : Settings) (r : Result Bool Halt) (e : Halt) (o : History) (x w : Option (List ℕ)) (es : List Entry) → r ≡ Err e → (IsErrOf r ReadFault → ⊥) → (IsErrOf r InputFull → ⊥) → AtMostOne (start_call settings.ctl) es → TakesInput x x (λ bytes. SessionCame settings bytes x r o es w w)
-came_begin settings r e o x w es is read full (inl none) =
-    let h = stopped_begin settings o x w es (inl none) in
-    record { bytes = []; taken = Takes-none x; done = record { session = if_ok_err _ r e is; stopped = on_err r h.done; cut_off = λ f. absurd (read f); full = never_full r [] full (omega arith) } }
-came_begin settings r e o x w es is read full (inr start) =
-    let h = stopped_begin settings o x w es (inr start) in
+pub came_begin : (settings : Settings) (r : Result Bool Halt) (e : Halt) (a b d : History) (x w : Option (List ℕ)) → r ≡ Err e → (IsErrOf r ReadFault → ⊥) → (IsErrOf r InputFull → ⊥) → Continues a b → Continues b d → IsUncalled (entries_between b d) → (IsUncalled (entries_between a b) → entries_between a d ≡ []) → AtMostOne (start_call settings.ctl) (entries_between a b) → TakesInput x x (λ bytes. SessionCame settings bytes x r a (entries_between a d) w w)
+came_begin settings r e a b d x w is read full ab bd uncalled unbegun begun =
+    let h = stopped_begin settings a b d x w ab bd uncalled unbegun begun in
     record { bytes = []; taken = Takes-none x; done = record { session = if_ok_err _ r e is; stopped = on_err r h.done; cut_off = λ f. absurd (read f); full = never_full r [] full (omega arith) } }
 
 -- one that stopped in its lines
-pub came_lines : (settings : Settings) (r : Result Bool Halt) (q : Result Answered Halt) (e d : Halt) (a b c : History) (x y u v : Option (List ℕ)) → q ≡ Err e → r ≡ Err d → d ≡ e → Continues a b → Continues b c → OneCall (start_call settings.ctl) (entries_between a b) → TakesInput x y (λ bytes. LinesCame settings.user bytes q b (entries_between b c) u v) → TakesInput x y (λ bytes. SessionCame settings bytes y r a (entries_between a c) u v)
-came_lines settings r q e d a b c x y u v was is same ab bc start h =
+pub came_lines : (settings : Settings) (r : Result Bool Halt) (q : Result Answered Halt) (e d : Halt) (a b c whole : History) (x y u v : Option (List ℕ)) → q ≡ Err e → r ≡ Err d → d ≡ e → Continues a b → Continues b c → Continues c whole → IsUncalled (entries_between c whole) → OneCall (start_call settings.ctl) (entries_between a b) → TakesInput x y (λ bytes. LinesCame settings.user bytes q b (entries_between b c) u v) → TakesInput x y (λ bytes. SessionCame settings bytes y r a (entries_between a whole) u v)
+came_lines settings r q e d a b c whole x y u v was is same ab bc cd uncalled start h =
     let fs = entries_between b c in
-    let stops = stopped_lines settings a b c x y u v ab bc start (record { bytes = h.bytes; taken = h.taken; done = on_err_of q e was h.done.stopped }) in
+    let gs = entries_between c whole in
+    let bd = Continues-then b c whole bc cd in
+    let stops = stopped_lines settings a b c whole x y u v ab bc cd uncalled start (record { bytes = h.bytes; taken = h.taken; done = on_err_of q e was h.done.stopped }) in
     let full = full_pass q r e d x y was is same (record { bytes = h.bytes; taken = h.taken; done = h.done.full }) in
     record {
       bytes = h.bytes;
@@ -131,7 +134,14 @@ came_lines settings r q e d a b c x y u v was is same ab bc start h =
       done = record {
         session = if_ok_err _ r d is;
         stopped = on_err r stops.done;
-        cut_off = λ f. record { first = entries_between a b; middle = fs; parts = entries-then a b c ab bc; start = start; answers = at_grown (λ (o : History). AnswersEnded settings.user h.bytes o fs u v) a b ab (h.done.cut_off (cc)) };
+        cut_off = λ f. record {
+            first = entries_between a b;
+            middle = entries_between b whole;
+            parts = entries-then a b whole ab bd;
+            start = start;
+            answers = at_grown (λ (o : History). AnswersEnded settings.user h.bytes o (entries_between b whole) u v) a b ab
+                (subst (λ (es : List Entry). AnswersEnded settings.user h.bytes b es u v) (sym (entries-then b c whole bc cd)) (ended_behind h.bytes b fs gs u v uncalled (h.done.cut_off (cc))));
+          };
         full = full.done;
       };
     }

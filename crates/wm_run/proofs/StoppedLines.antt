@@ -10,7 +10,7 @@ use Rattle.wm_traits.proofs.Telling.{Grows-none, Grows-then}
 use Rattle.wm_run.specs.Down.{is_down}
 use Rattle.wm_run.specs.Grown.{grown}
 use Rattle.wm_run.specs.Session.{Answers, AnswersLine, AnsweredBy}
-use Rattle.wm_run.specs.Stopped.{IsCutShort, StopsIn, Untouched}
+use Rattle.wm_run.specs.Stopped.{IsCutShort, StopsIn, Unanswered}
 use Rattle.wm_run.specs.Taking.{TakesPiece}
 use Rattle.wm_monitor.proofs.Lists.{since-append}
 use Rattle.wm_run.proofs.Takings.{Answers-append, Answers-one}
@@ -21,8 +21,8 @@ take-append xs ys n =
     take-add (length xs) n (xs ++ ys) ∙ (ap (λ (l : List ℕ). l ++ take n rest) (take_at xs ys (length xs) refl) ∙ ap (λ (l : List ℕ). xs ++ take n l) (since-append xs ys))
 
 -- no line was answered
-pub StopsIn-untouched : (user : List ℕ) (lines : List (Option (List ℕ))) (o : History) (es : List Entry) (a b : Option (List ℕ)) → Untouched es a b → StopsIn user lines o es a b
-StopsIn-untouched user lines o es a b h =
+pub StopsIn-unanswered : (user : List ℕ) (lines : List (Option (List ℕ))) (o : History) (es : List Entry) (a b : Option (List ℕ)) → Unanswered es a b → StopsIn user lines o es a b
+StopsIn-unanswered user lines o es a b h =
     record {
       answered = [];
       others = lines;
@@ -32,11 +32,11 @@ StopsIn-untouched user lines o es a b h =
 
 -- nothing was done at all
 pub StopsIn-none : (user : List ℕ) (lines : List (Option (List ℕ))) (o : History) (w : Option (List ℕ)) → StopsIn user lines o [] w w
-StopsIn-none user lines o w = StopsIn-untouched user lines o [] w w (record { none = refl; written = Grows-none w })
+StopsIn-none user lines o w = StopsIn-unanswered user lines o [] w w (record { none = refl; written = Grows-none w })
 
 -- a line's answer was cut short
 pub StopsIn-line : {user : List ℕ} (line : Option (List ℕ)) (o : History) (es : List Entry) (a b : Option (List ℕ)) → IsCutShort (AnswersLine user line o) es a b → StopsIn user (line ∷ []) o es a b
-StopsIn-line {user} line o es a b (inl h) = StopsIn-untouched user (line ∷ []) o es a b h
+StopsIn-line {user} line o es a b (inl h) = StopsIn-unanswered user (line ∷ []) o es a b h
 StopsIn-line {user} line o es a b (inr h) =
     record {
       answered = line ∷ [];

@@ -2,7 +2,6 @@
 use Rattle.std.proofs.Common.{◌≡◌, ◌↔◌, ℕ, ◌+◌, ◌<◌, Bool, true, false, List, [], ◌++◌, length, take, Option, Result, Ok, Err, sym, ap, subst, ◌∙◌, refl, inl, inr, arith}
 use Rattle.std.specs.Io.KnownBytes.{IsAtEnd}
 use Rattle.std.specs.Prelude.{IsErrOf}
-use Rattle.std.specs.List.{list_all}
 use Rattle.std.proofs.Math.Seq.{take-length}
 use Rattle.std.proofs.lemmas.List.{append-nil, length-append}
 use Rattle.wm_clwords.specs.Lines.{logical_lines}
@@ -15,77 +14,70 @@ use Rattle.wm_traits.specs.Told.{Grows, Takes}
 use Rattle.wm_traits.proofs.Telling.{Grows-none, Takes-none, Takes-then}
 use Rattle.wm_run.specs.Down.{is_down}
 use Rattle.wm_run.specs.Grown.{grown, entries_between}
-use Rattle.wm_monitor.specs.Lists.{since}
-use Rattle.wm_monitor.specs.Monitor.{is_own}
 use Rattle.wm_run.specs.Session.{Answers, AnsweredBy, IsUncalled, OneCall, start_call}
 use Rattle.wm_run.specs.Calls.{session_pass}
-use Rattle.wm_run.specs.Stopped.{AtMostOne, MayClose, IsStopped, StopsIn, Untouched, WritesSome}
+use Rattle.wm_run.specs.Stopped.{AtMostOne, MayClose, IsStopped, StopsIn, Unanswered, WritesSome}
 use Rattle.wm_run.specs.Taking.{TakesInput, TakesPiece}
 use Rattle.wm_run.specs.declared.halt.Halt.{Halt}
 use Rattle.wm_run.specs.declared.settings.Settings.{Settings}
 use Rattle.wm_run.specs.declared.halt.Halt.TheVariants.{InputFull}
 use Rattle.wm_run.proofs.Growing.{Continues, entries-none, entries-then}
 use Rattle.wm_run.proofs.Runs.{at_grown, session_parts, three_parts}
-use Rattle.wm_run.proofs.Servings.{session_entries, session_entries-own}
-use Rattle.wm_run.proofs.StoppedLines.{StopsIn-after, StopsIn-none, StopsIn-untouched, StopsIn-whole, stops_front, stops_then}
+use Rattle.wm_run.proofs.StoppedLines.{StopsIn-after, StopsIn-none, StopsIn-unanswered, StopsIn-whole, stops_front, stops_then}
 use Rattle.wm_run.proofs.Takings.{TakesPiece-lines, TakesPiece-more}
 
 -- no byte is in front of a list
 pub take_none : (n : ℕ) (xs : List ℕ) → n ≡ 0 → take n xs ≡ []
 take_none n xs is = ap (λ (k : ℕ). take k xs) is
 
--- no call was made, and nothing written
-pub Untouched-none : (history : History) (w : Option (List ℕ)) → Untouched (entries_between history history) w w
-Untouched-none history w = record { none = entries-none history; written = Grows-none w }
+-- nothing at all
+pub no_call_none : (h : History) → IsUncalled (entries_between h h)
+no_call_none h = ap (entries_of session_pass) (entries-none h)
 
--- a call that was refused for want of memory leaves it so
-pub Untouched-same : (old new : History) (w : Option (List ℕ)) → new ≡ old → Untouched (entries_between old new) w w
-Untouched-same old new w is = subst (λ (h : History). Untouched (entries_between old h) w w) (sym is) (Untouched-none old w)
+-- no call was made, and nothing written
+pub Unanswered-none : (history : History) (w : Option (List ℕ)) → Unanswered (entries_between history history) w w
+Unanswered-none history w = record { none = no_call_none history; written = Grows-none w }
 
 -- all bytes that were due are some of them
 pub WritesSome-all : (Due : List Entry → List ℕ → Bool → Type 0) (es : List Entry) (a b : Option (List ℕ)) (f : Bool) → AnsweredBy Due es a b f → WritesSome Due es a b
 WritesSome-all Due es a b f h =
     record { due = h.bytes; faulty = f; answers = h.answers; count = length h.bytes; written = subst (λ (l : List ℕ). Grows a b l) (sym (take-length h.bytes)) h.written }
 
--- entries of the monitor alone
-pub no_call : (old new : History) → list_all is_own (since old.log new.log) ≡ true → IsUncalled (entries_between old new)
-no_call old new own = session_entries-own (since old.log new.log) own
-
--- and then a call that was refused
-pub no_call_same : (old mid new : History) → new ≡ mid → list_all is_own (since old.log mid.log) ≡ true → IsUncalled (entries_between old new)
-no_call_same old mid new is own = ap (session_entries old) is ∙ session_entries-own (since old.log mid.log) own
-
--- nothing at all
-pub no_call_none : (h : History) → IsUncalled (entries_between h h)
-no_call_none h = ap (entries_of session_pass) (entries-none h)
-
 -- a session that stopped as it began
-abbrev pub stopped_begin : (settings : Settings) (o : History) (x w : Option (List ℕ)) (es : List Entry) → AtMostOne (start_call settings.ctl) es → TakesInput x x (λ bytes. IsStopped settings (logical_lines bytes) x o es w w)
-stopped_begin settings o x w es (inl none) = record { bytes = []; taken = Takes-none x; done = inl (record { none = none; written = Grows-none w }) }
-stopped_begin settings o x w es (inr start) =
+abbrev pub stopped_begin : (settings : Settings) (a b d : History) (x w : Option (List ℕ)) → Continues a b → Continues b d → IsUncalled (entries_between b d) → (IsUncalled (entries_between a b) → entries_between a d ≡ []) → AtMostOne (start_call settings.ctl) (entries_between a b) → TakesInput x x (λ bytes. IsStopped settings (logical_lines bytes) x a (entries_between a d) w w)
+stopped_begin settings a b d x w ab bd uncalled unbegun (inl none) = record { bytes = []; taken = Takes-none x; done = inl (record { none = unbegun none; written = Grows-none w }) }
+stopped_begin settings a b d x w ab bd uncalled unbegun (inr start) =
+    let es = entries_between a b in
     record {
       bytes = [];
       taken = Takes-none x;
-      done = inr (inl (record { first = es; middle = []; last = []; parts = sym (append-nil es) ∙ sym (append-nil (es ++ [])); start = start; stops = StopsIn-none settings.user (logical_lines []) (grown o es) w; uncalled = refl }));
+      done = inr (inl (record {
+        first = es;
+        middle = [];
+        last = entries_between b d;
+        parts = entries-then a b d ab bd ∙ ap (λ (l : List Entry). l ++ entries_between b d) (sym (append-nil es));
+        start = start;
+        stops = StopsIn-none settings.user (logical_lines []) (grown a es) w;
+        uncalled = uncalled;
+      }));
     }
 
 -- one that stopped in its lines
-abbrev pub stopped_lines : (settings : Settings) (a b c : History) (x y u v : Option (List ℕ)) → Continues a b → Continues b c → OneCall (start_call settings.ctl) (entries_between a b) → TakesInput x y (λ bytes. StopsIn settings.user (logical_lines bytes) b (entries_between b c) u v) → TakesInput x y (λ bytes. IsStopped settings (logical_lines bytes) y a (entries_between a c) u v)
-stopped_lines settings a b c x y u v ab bc start taken =
-    let es = entries_between a b in
+abbrev pub stopped_lines : (settings : Settings) (a b c d : History) (x y u v : Option (List ℕ)) → Continues a b → Continues b c → Continues c d → IsUncalled (entries_between c d) → OneCall (start_call settings.ctl) (entries_between a b) → TakesInput x y (λ bytes. StopsIn settings.user (logical_lines bytes) b (entries_between b c) u v) → TakesInput x y (λ bytes. IsStopped settings (logical_lines bytes) y a (entries_between a d) u v)
+stopped_lines settings a b c d x y u v ab bc cd uncalled start taken =
     let fs = entries_between b c in
     let lines = logical_lines taken.bytes in
     record {
       bytes = taken.bytes;
       taken = taken.taken;
       done = inr (inl (record {
-        first = es;
+        first = entries_between a b;
         middle = fs;
-        last = [];
-        parts = entries-then a b c ab bc ∙ sym (append-nil (es ++ fs));
+        last = entries_between c d;
+        parts = three_parts a b c d ab bc cd;
         start = start;
         stops = at_grown (λ (o : History). StopsIn settings.user lines o fs u v) a b ab taken.done;
-        uncalled = refl;
+        uncalled = uncalled;
       }));
     }
 
@@ -127,7 +119,7 @@ input_same x y z ys none h more =
 
 -- nothing was read
 abbrev pub input_stops_none : (user : List ℕ) (x : Option (List ℕ)) (history : History) (w : Option (List ℕ)) → TakesInput x x (λ bytes. StopsIn user (logical_lines bytes) history (entries_between history history) w w)
-input_stops_none user x history w = record { bytes = []; taken = Takes-none x; done = StopsIn-untouched user (logical_lines []) history (entries_between history history) w w (Untouched-none history w) }
+input_stops_none user x history w = record { bytes = []; taken = Takes-none x; done = StopsIn-unanswered user (logical_lines []) history (entries_between history history) w w (Unanswered-none history w) }
 
 -- bytes that weren't looked at behind those whose lines were answered
 abbrev pub input_stops : {user : List ℕ} (x y z : Option (List ℕ)) (b : Part) (o : History) (es : List Entry) (u v : Option (List ℕ)) (f : Bool) (ys : List ℕ) → TakesInput x y (λ bytes. TakesPiece user fresh bytes b [] o es u v f) → Takes y ys z → TakesInput x z (λ bytes. StopsIn user (logical_lines bytes) o es u v)

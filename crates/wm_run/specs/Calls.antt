@@ -3,6 +3,7 @@ use Rattle.std.specs.Prelude.{◌≡◌, ℕ, List, [], ◌∷◌, ◌++◌, Opt
 use Rattle.wm_law.specs.declared.call.Call.{Call}
 use Rattle.wm_law.specs.declared.call.Entry.{Entry}
 use Rattle.wm_law.specs.declared.call.Reply.{Reply}
+use Rattle.wm_law.specs.History.{entries_of}
 use Rattle.wm_turn.specs.Passed.{StartsWith}
 use Rattle.wm_floor.specs.Floor.{Seen, entry_of}
 use Rattle.wm_floor.specs.declared.opened.Opened.{Opened}
@@ -21,3 +22,10 @@ module _ {K : Type 0} where
     pub seen : new.seen ≡ found ++ entry_of o found old.number c now ∷ []
     pub mine : new.mine ≡ old.mine ++ entry_of o found old.number c now ∷ []
     pub replied : reply ≡ (entry_of o found old.number c now).reply
+
+-- the session's one entry among these is that of a call, with this reply
+pub record MakesCall (c : Call) (reply : Reply) (es : List Entry) : Type 0 where
+  pub entry : Entry
+  pub only : entries_of session_pass es ≡ entry ∷ []
+  pub call : entry.call ≡ c
+  pub replied : reply ≡ entry.reply

@@ -1,5 +1,5 @@
 -- Why a run ends early, and with which status.
-use Rattle.std.specs.Prelude.{◌≡◌, ◌⊎◌, ℕ, ◌≤◌, length, Option, None, Result, IsErrOf}
+use Rattle.std.specs.Prelude.{◌≡◌, ℕ, ◌+◌, ◌≤◌, max, length, Option, None, Result, IsErrOf}
 use Rattle.wm_traits.specs.Cause.{raised}
 use Rattle.wm_journal.specs.declared.call_fault.CallFault.{CallFault}
 use Rattle.wm_journal.specs.declared.call_fault.CallFault.TheVariants as call
@@ -55,10 +55,10 @@ pub record HasInputCauses {T : Type 0} (result : Result T Halt) (read_before rea
   pub write_fault : IsErrOf result WriteFault → raised written_before ≤ written_now
   pub wait_fault : IsErrOf result WaitFault → raised looked_before ≤ looked_now
 
--- the faults of the floor that are told have their causes: a mark of the two passes rose, or one of them has seen so many entries at the least
-pub record HasFloorCauses {K : Type 0} (KeeperFault LogFull : Type 0) (least : ℕ) (old new : Run K) : Type 0 where
-  pub keeper_fault : KeeperFault → (raised old.session.mark ≤ new.session.mark) ⊎ (raised old.watch.mark ≤ new.watch.mark)
-  pub log_full : LogFull → (least ≤ length new.session.seen) ⊎ (least ≤ length new.watch.seen)
+-- the faults of the floor that are told have their causes: a mark of the two passes isn't 0, or one of them has seen so many entries at the least
+pub record HasFloorCauses {K : Type 0} (KeeperFault LogFull : Type 0) (least : ℕ) (r : Run K) : Type 0 where
+  pub keeper_fault : KeeperFault → 1 ≤ r.session.mark + r.watch.mark
+  pub log_full : LogFull → least ≤ max (length r.session.seen) (length r.watch.seen)
 
 -- a monitor that kept no report keeps none
 abbrev pub KeepsNone : Option Report → Option Report → Type 0

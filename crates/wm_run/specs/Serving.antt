@@ -6,12 +6,13 @@ use Rattle.wm_law.specs.Pending.{orders_left}
 use Rattle.wm_traits.specs.declared.spawner.Told.{Told}
 use Rattle.wm_turn.specs.Passed.{StartsWith, own}
 use Rattle.wm_journal.specs.History.{reached}
-use Rattle.wm_floor.specs.Floor.{Floored, IsPassOf, IsSame, Seen}
+use Rattle.wm_floor.specs.Floor.{IsPassOf, IsSame, Seen}
 use Rattle.wm_floor.specs.Ledger.{behind, caller_of}
 use Rattle.wm_monitor.specs.Idle.{monitor_pass}
 use Rattle.wm_monitor.specs.Lists.{Extends}
 use Rattle.wm_monitor.specs.Monitor.{is_own}
-use Rattle.wm_shared_monitor.specs.Attends.{MonitorAttends}
+use Rattle.wm_shared_monitor.specs.Attends.{Attends}
+use Rattle.wm_shared_monitor.specs.Scene.{Spawning, scene, spawner_seen}
 use Rattle.wm_run.specs.Calls.{session_pass}
 use Rattle.wm_run.specs.declared.running.Run.{Run}
 
@@ -42,11 +43,15 @@ module _ {K : Type 0} where
     pub mine : Extends old.mine new.mine
     pub mark : old.mark ≤ new.mark
 
-  -- a run between two moments, where the spawner tells so much: its floor is the same, the session goes on, and the monitor did its part
-  pub record RunServes {P : Type 0} (asked : P → Option (List Asked)) (told : P → Option (List Told)) (misses faults : P → ℕ) (old : Run K) (spawner : P) (new : Run K) (spawner' : P) : Type 0 where
+  -- a run between two moments, with what the spawner told: its floor is the same, the session goes on, and the monitor did its part
+  pub record Serves (old new : Run K) (before now : Spawning) : Type 0 where
     pub floor : new.floor ≡ old.floor
     pub session : PassGoesOn old.session new.session
-    pub part : MonitorAttends asked told misses faults old.floor old.watch old.monitor spawner new.watch new.monitor spawner'
+    pub part : Attends old.floor old.watch new.watch (scene old.monitor before) (scene new.monitor now)
+
+  -- the same, where the spawner tells so much
+  abbrev pub RunServes : {P : Type 0} → (P → Option (List Asked)) → (P → Option (List Told)) → (P → ℕ) → (P → ℕ) → Run K → P → Run K → P → Type 0
+  RunServes asked told misses faults old spawner new spawner' = Serves old new (spawner_seen asked told misses faults spawner) (spawner_seen asked told misses faults spawner')
 
   -- the monitor left no order as it looked last, behind all that the session has seen
   pub record LeftNoOrder (r : Run K) : Type 0 where
@@ -55,10 +60,14 @@ module _ {K : Type 0} where
     pub most : at ≤ length r.watch.seen
     pub none : orders_left (reached (behind r.floor.opening (take at r.watch.seen))) monitor_pass ≡ 0
 
-  -- the whole history of a run: it begins with what both passes have seen, each has its own entries of it, and there are no others
-  pub record IsWhole (r : Run K) (log : List Entry) : Type 0 where
+  -- a history of a run: it begins with what both passes have seen, the session made no other call of it, and there are no other callers
+  pub record IsHistory (r : Run K) (log : List Entry) : Type 0 where
     pub session : StartsWith log r.session.seen
     pub watch : StartsWith log r.watch.seen
     pub calls : r.session.mine ≡ own caller_of session_pass log
-    pub monitors : r.watch.mine ≡ own caller_of monitor_pass log
     pub others : (n : ℕ) → monitor_pass < n → own caller_of n log ≡ []
+
+  -- the whole history: the monitor made no other call of it either
+  pub record IsWhole (r : Run K) (log : List Entry) : Type 0 where
+    pub history : IsHistory r log
+    pub monitors : r.watch.mine ≡ own caller_of monitor_pass log

@@ -6,6 +6,7 @@ use crate::seeing::see;
 use std::alloc::Global;
 use std::sync::Wait;
 use wm_base::QName;
+use wm_floor::Waiting;
 use wm_law::Pending;
 use wm_monitor::MONITOR;
 use wm_traits::{Clock, Keeper, Spawner};
@@ -44,13 +45,12 @@ impl<K: Keeper> Run<K> {
     ghost use Rattle.wm_monitor.specs.Idle.{monitor_pass};
     ghost use Rattle.wm_monitor.specs.Lists.{since};
     ghost use Rattle.wm_shared_monitor.specs.Advance.{added};
-    ghost use Rattle.wm_shared_monitor.specs.Attends.{MonitorAttends};
-    ghost use Rattle.wm_shared_monitor.specs.Scene.{IsClear};
+    ghost use Rattle.wm_shared_monitor.specs.Scene.{IsClear, Spawning};
     ghost use Rattle.wm_traits.specs.Told.{IsEmpty};
     ghost use Rattle.wm_run.specs.Awaited.{jobs_left};
     ghost use Rattle.wm_run.specs.Grown.{seen_since, session_of};
     ghost use Rattle.wm_run.specs.Halt.{HasFloorCauses, HasMonitorCauses, KeepsNone};
-    ghost use Rattle.wm_run.specs.Serving.{IsRunning, IsWhole, LeftNoOrder, RunServes};
+    ghost use Rattle.wm_run.specs.Serving.{IsHistory, IsRunning, LeftNoOrder, RunServes, Serves};
     ghost use Rattle.wm_run.specs.Session.{Closes, EndsInput, IsUncalled, OneCall, start_call};
     ghost use Rattle.wm_run.specs.Stopped.{AtMostOne, MayClose};
 
@@ -66,10 +66,10 @@ impl<K: Keeper> Run<K> {
         ensures ready { IsRunning self.new }
         ensures floor { self.new.floor ≡ self.old.floor }
         ensures session { self.new.session ≡ self.old.session }
-        ensures part { MonitorAttends P.asked P.told P.misses P.faults self.old.floor self.old.watch self.old.monitor spawner.old self.new.watch self.new.monitor spawner.new }
+        ensures serves { RunServes P.asked P.told P.misses P.faults self.old spawner.old self.new spawner.new }
         ensures clear { OnOk result (IsClear self.new.monitor) }
         ensures causes { HasMonitorCauses result (P.faults spawner.old) (P.faults spawner.new) }
-        ensures floor_causes { HasFloorCauses (IsErrOf result Halt.KeeperFault) (IsErrOf result Halt.LogFull) 4000000 self.old self.new }
+        ensures floor_causes { HasFloorCauses (IsErrOf result Halt.KeeperFault) (IsErrOf result Halt.LogFull) 4000000 self.new }
     {
         'turns: for _ in rt.forever() {
             let turned = self.turn(rt, alloc, spawner, clock)?;
@@ -78,6 +78,20 @@ impl<K: Keeper> Run<K> {
             }
         }
         unreachable!()
+    }
+
+    // What waits for the monitor, and behind how many entries.
+    fn waiting<R: Wait>(&mut self, rt: &R) -> Waiting
+        requires ready { IsRunning self.old }
+        ensures ready { IsRunning self.new }
+        ensures floor { self.new.floor ≡ self.old.floor }
+        ensures session { self.new.session ≡ self.old.session }
+        ensures serves { (s : Spawning) → Serves self.old self.new s s }
+        ensures monitor { self.new.monitor ≡ self.old.monitor }
+        ensures at { result.at ≡ length self.new.watch.seen }
+        ensures pending { result.pending ≡ pending (reached (behind self.new.floor.opening self.new.watch.seen)) monitor_pass }
+    {
+        self.floor.pending(rt, &mut self.watch, MONITOR)
     }
 
     // Turns and waits until none of these jobs is active. It answers behind how many entries.
@@ -94,15 +108,15 @@ impl<K: Keeper> Run<K> {
         ensures ready { IsRunning self.new }
         ensures floor { self.new.floor ≡ self.old.floor }
         ensures session { self.new.session ≡ self.old.session }
-        ensures part { MonitorAttends P.asked P.told P.misses P.faults self.old.floor self.old.watch self.old.monitor spawner.old self.new.watch self.new.monitor spawner.new }
+        ensures serves { RunServes P.asked P.told P.misses P.faults self.old spawner.old self.new spawner.new }
         ensures none { OnOk result (jobs_left jobs (pending (reached (behind self.new.floor.opening self.new.watch.seen)) monitor_pass) ≡ 0) }
         ensures clear { OnOk result (IsClear self.new.monitor) }
         ensures causes { HasMonitorCauses result (P.faults spawner.old) (P.faults spawner.new) }
-        ensures floor_causes { HasFloorCauses (IsErrOf result Halt.KeeperFault) (IsErrOf result Halt.LogFull) 4000000 self.old self.new }
+        ensures floor_causes { HasFloorCauses (IsErrOf result Halt.KeeperFault) (IsErrOf result Halt.LogFull) 4000000 self.new }
     {
         'waits: for _ in rt.forever() {
             self.drain(rt, alloc, spawner, clock)?;
-            let waiting = self.floor.pending(rt, &mut self.watch, MONITOR);
+            let waiting = self.waiting(rt);
             if jobs.left(&waiting.pending) == 0 {
                 return Ok(waiting.at);
             }
@@ -129,7 +143,7 @@ impl<K: Keeper> Run<K> {
         ensures orders { OnOk result (length (added self.old.watch self.new.watch) ≡ 0 → LeftNoOrder self.new) }
         ensures quiet { OnOk result (length (added self.old.watch self.new.watch) ≡ 0 → self.old.monitor.failed_kill ≡ None → IsEmpty (P.reporting spawner.old)) }
         ensures causes { HasMonitorCauses result (P.faults spawner.old) (P.faults spawner.new) }
-        ensures floor_causes { HasFloorCauses (IsErrOf result Halt.KeeperFault) (IsErrOf result Halt.LogFull) (min self.old.floor.opening.limit 4000000) self.old self.new }
+        ensures floor_causes { HasFloorCauses (IsErrOf result Halt.KeeperFault) (IsErrOf result Halt.LogFull) (min self.new.floor.opening.limit 4000000) self.new }
         ensures none_kept { OnOk result (KeepsNone self.old.monitor.kept self.new.monitor.kept) }
         ensures full { IsErrOf result Halt.LogFull → length self.new.watch.seen < 4000000 → KeepsNone self.old.monitor.kept self.new.monitor.kept }
     {
@@ -144,8 +158,9 @@ impl<K: Keeper> Run<K> {
         requires ready { IsRunning self.old }
         ensures ready { IsRunning self.new }
         ensures floor { self.new.floor ≡ self.old.floor }
+        ensures serves { (s : Spawning) → Serves self.old self.new s s }
         ensures session { HasLooked self.old.session self.new.session }
-        ensures same { IsSame self.old.session self.new.session }
+        ensures uncalled { IsUncalled (seen_since self.old self.new) }
         ensures seen { at ≤ length self.new.session.seen }
         ensures watch { self.new.watch ≡ self.old.watch }
         ensures monitor { self.new.monitor ≡ self.old.monitor }
@@ -167,9 +182,9 @@ impl<K: Keeper> Run<K> {
         ensures ready { IsRunning self.new }
         ensures serves { RunServes P.asked P.told P.misses P.faults self.old spawner.old self.new spawner.new }
         ensures not_ended { OnErr result (IsUncalled (seen_since self.old self.new)) }
-        ensures ended { OnOk result ((log : List Entry) → IsWhole self.new log → EndsInput (session_of self.old) (since self.old.session.seen log)) }
+        ensures ended { OnOk result ((log : List Entry) → IsHistory self.new log → EndsInput (session_of self.old) (since self.old.session.seen log)) }
         ensures causes { HasMonitorCauses result (P.faults spawner.old) (P.faults spawner.new) }
-        ensures floor_causes { HasFloorCauses (IsErrOf result Halt.KeeperFault) (IsErrOf result Halt.LogFull) (min self.old.floor.opening.limit 4000000) self.old self.new }
+        ensures floor_causes { HasFloorCauses (IsErrOf result Halt.KeeperFault) (IsErrOf result Halt.LogFull) (min self.new.floor.opening.limit 4000000) self.new }
         ensures none_kept { OnOk result (KeepsNone self.old.monitor.kept self.new.monitor.kept) }
         ensures full { IsErrOf result Halt.LogFull → length self.new.watch.seen < 4000000 → KeepsNone self.old.monitor.kept self.new.monitor.kept }
     {
@@ -193,9 +208,9 @@ impl<K: Keeper> Run<K> {
         ensures ready { IsRunning self.new }
         ensures serves { RunServes P.asked P.told P.misses P.faults self.old spawner.old self.new spawner.new }
         ensures not_ended { OnErr result (IsUncalled (seen_since self.old self.new)) }
-        ensures ended { OnOk result ((log : List Entry) → IsWhole self.new log → Closes down (session_of self.old) (since self.old.session.seen log)) }
+        ensures ended { OnOk result ((log : List Entry) → IsHistory self.new log → Closes down (session_of self.old) (since self.old.session.seen log)) }
         ensures causes { HasMonitorCauses result (P.faults spawner.old) (P.faults spawner.new) }
-        ensures floor_causes { HasFloorCauses (IsErrOf result Halt.KeeperFault) (IsErrOf result Halt.LogFull) (min self.old.floor.opening.limit 4000000) self.old self.new }
+        ensures floor_causes { HasFloorCauses (IsErrOf result Halt.KeeperFault) (IsErrOf result Halt.LogFull) (min self.new.floor.opening.limit 4000000) self.new }
         ensures none_kept { OnOk result (KeepsNone self.old.monitor.kept self.new.monitor.kept) }
         ensures full { IsErrOf result Halt.LogFull → length self.new.watch.seen < 4000000 → KeepsNone self.old.monitor.kept self.new.monitor.kept }
     {
@@ -218,11 +233,11 @@ impl<K: Keeper> Run<K> {
         requires ready { IsRunning self.old }
         ensures ready { IsRunning self.new }
         ensures serves { RunServes P.asked P.told P.misses P.faults self.old spawner.old self.new spawner.new }
-        ensures not_ended { OnErr result ((log : List Entry) → IsWhole self.new log → MayClose down (session_of self.old) (since self.old.session.seen log)) }
-        ensures ended { OnOk result ((log : List Entry) → IsWhole self.new log → Closes down (session_of self.old) (since self.old.session.seen log)) }
+        ensures not_ended { OnErr result ((log : List Entry) → IsHistory self.new log → MayClose down (session_of self.old) (since self.old.session.seen log)) }
+        ensures ended { OnOk result ((log : List Entry) → IsHistory self.new log → Closes down (session_of self.old) (since self.old.session.seen log)) }
         ensures clear { OnOk result (IsClear self.new.monitor) }
         ensures causes { HasMonitorCauses result (P.faults spawner.old) (P.faults spawner.new) }
-        ensures floor_causes { HasFloorCauses (IsErrOf result Halt.KeeperFault) (IsErrOf result Halt.LogFull) (min self.old.floor.opening.limit 4000000) self.old self.new }
+        ensures floor_causes { HasFloorCauses (IsErrOf result Halt.KeeperFault) (IsErrOf result Halt.LogFull) (min self.new.floor.opening.limit 4000000) self.new }
         ensures none_kept { OnOk result (KeepsNone self.old.monitor.kept self.new.monitor.kept) }
         ensures full { IsErrOf result Halt.LogFull → length self.new.watch.seen < 4000000 → KeepsNone self.old.monitor.kept self.new.monitor.kept }
     {

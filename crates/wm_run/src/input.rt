@@ -100,7 +100,7 @@ impl<K: Keeper> Run<K> {
         ensures stopped { OnErr result (StopsIn user.now (ended_lines (Some line) joiner.now) (session_of self.old)
             (seen_since self.old self.new) (O.written out.old) (O.written out.new)) }
         ensures causes { HasCauses result (O.faults out.old) (O.faults out.new) (P.faults spawner.old) (P.faults spawner.new) }
-        ensures floor_causes { HasFloorCauses (IsErrOf result Halt.KeeperFault) (IsErrOf result Halt.LogFull) (min self.old.floor.opening.limit 4000000) self.old self.new }
+        ensures floor_causes { HasFloorCauses (IsErrOf result Halt.KeeperFault) (IsErrOf result Halt.LogFull) (min self.new.floor.opening.limit 4000000) self.new }
         ensures none_kept { OnOk result (KeepsNone self.old.monitor.kept self.new.monitor.kept) }
         ensures full { IsErrOf result Halt.LogFull → length self.new.watch.seen < 4000000 → KeepsNone self.old.monitor.kept self.new.monitor.kept }
     {
@@ -130,7 +130,7 @@ impl<K: Keeper> Run<K> {
         ensures stopped { OnErr result ((more : List ℕ) → StopsIn user.now (lines_from joiner.old (piece.now ++ more)) (session_of self.old)
             (seen_since self.old self.new) (O.written out.old) (O.written out.new)) }
         ensures causes { HasCauses result (O.faults out.old) (O.faults out.new) (P.faults spawner.old) (P.faults spawner.new) }
-        ensures floor_causes { HasFloorCauses (IsErrOf result Halt.KeeperFault) (IsErrOf result Halt.LogFull) (min self.old.floor.opening.limit 4000000) self.old self.new }
+        ensures floor_causes { HasFloorCauses (IsErrOf result Halt.KeeperFault) (IsErrOf result Halt.LogFull) (min self.new.floor.opening.limit 4000000) self.new }
         ensures none_kept { OnOk result (KeepsNone self.old.monitor.kept self.new.monitor.kept) }
         ensures full { IsErrOf result Halt.LogFull → length self.new.watch.seen < 4000000 → KeepsNone self.old.monitor.kept self.new.monitor.kept }
     {
@@ -163,7 +163,7 @@ impl<K: Keeper> Run<K> {
         ensures stopped { OnErr result ((more : List ℕ) → StopsIn user.now (lines_from joiner.old (piece.now ++ more)) (session_of self.old)
             (seen_since self.old self.new) (O.written out.old) (O.written out.new)) }
         ensures causes { HasCauses result (O.faults out.old) (O.faults out.new) (P.faults spawner.old) (P.faults spawner.new) }
-        ensures floor_causes { HasFloorCauses (IsErrOf result Halt.KeeperFault) (IsErrOf result Halt.LogFull) (min self.old.floor.opening.limit 4000000) self.old self.new }
+        ensures floor_causes { HasFloorCauses (IsErrOf result Halt.KeeperFault) (IsErrOf result Halt.LogFull) (min self.new.floor.opening.limit 4000000) self.new }
         ensures none_kept { OnOk result (KeepsNone self.old.monitor.kept self.new.monitor.kept) }
         ensures full { IsErrOf result Halt.LogFull → length self.new.watch.seen < 4000000 → KeepsNone self.old.monitor.kept self.new.monitor.kept }
     {
@@ -210,7 +210,7 @@ impl<K: Keeper> Run<K> {
         ensures stopped { OnErr result (StopsIn user.now (lines_from joiner.old []) (session_of self.old)
             (seen_since self.old self.new) (O.written out.old) (O.written out.new)) }
         ensures causes { HasCauses result (O.faults out.old) (O.faults out.new) (P.faults spawner.old) (P.faults spawner.new) }
-        ensures floor_causes { HasFloorCauses (IsErrOf result Halt.KeeperFault) (IsErrOf result Halt.LogFull) (min self.old.floor.opening.limit 4000000) self.old self.new }
+        ensures floor_causes { HasFloorCauses (IsErrOf result Halt.KeeperFault) (IsErrOf result Halt.LogFull) (min self.new.floor.opening.limit 4000000) self.new }
         ensures none_kept { OnOk result (KeepsNone self.old.monitor.kept self.new.monitor.kept) }
         ensures full { IsErrOf result Halt.LogFull → length self.new.watch.seen < 4000000 → KeepsNone self.old.monitor.kept self.new.monitor.kept }
     {
@@ -241,7 +241,7 @@ impl<K: Keeper> Run<K> {
         ensures down { IfOk result (λ r. r.down ≡ is_down (seen_since self.old self.new)) }
         ensures end { IfOk result (λ r. r.down ≡ false → IsAtEnd (I.left input.new)) }
         ensures causes { HasInputCauses result (I.faults input.old) (I.faults input.new) (O.faults out.old) (O.faults out.new) (P.faults spawner.old) (P.faults spawner.new) }
-        ensures floor_causes { HasFloorCauses (IsErrOf result Halt.KeeperFault) (IsErrOf result Halt.LogFull) (min self.old.floor.opening.limit 4000000) self.old self.new }
+        ensures floor_causes { HasFloorCauses (IsErrOf result Halt.KeeperFault) (IsErrOf result Halt.LogFull) (min self.new.floor.opening.limit 4000000) self.new }
         ensures none_kept { OnOk result (KeepsNone self.old.monitor.kept self.new.monitor.kept) }
         ensures full { IsErrOf result Halt.LogFull → length self.new.watch.seen < 4000000 → KeepsNone self.old.monitor.kept self.new.monitor.kept }
     {
@@ -284,7 +284,7 @@ impl<K: Keeper> Run<K> {
         ensures down { IfOk result (λ r. r.down ≡ is_down (seen_since self.old self.new)) }
         ensures end { IfOk result (λ r. r.down ≡ false → IsAtEnd (I.left input.new)) }
         ensures causes { HasInputCauses result (I.faults input.old) (I.faults input.new) (O.faults out.old) (O.faults out.new) (P.faults spawner.old) (P.faults spawner.new) }
-        ensures floor_causes { HasFloorCauses (IsErrOf result Halt.KeeperFault) (IsErrOf result Halt.LogFull) (min self.old.floor.opening.limit 4000000) self.old self.new }
+        ensures floor_causes { HasFloorCauses (IsErrOf result Halt.KeeperFault) (IsErrOf result Halt.LogFull) (min self.new.floor.opening.limit 4000000) self.new }
         ensures none_kept { OnOk result (KeepsNone self.old.monitor.kept self.new.monitor.kept) }
         ensures full { IsErrOf result Halt.LogFull → length self.new.watch.seen < 4000000 → KeepsNone self.old.monitor.kept self.new.monitor.kept }
     {

@@ -98,7 +98,7 @@ impl<K: Keeper> Run<K> {
             (since self.old.session.seen log) (O.written out.old) (O.written out.new)) }
         ensures kept { OnOk result (self.new.monitor.kept ≡ None) }
         ensures causes { HasInputCauses result (I.faults input.old) (I.faults input.new) (O.faults out.old) (O.faults out.new) (P.faults spawner.old) (P.faults spawner.new) }
-        ensures floor_causes { HasFloorCauses (IsErrOf result Halt.KeeperFault) (IsErrOf result Halt.LogFull) (min self.old.floor.opening.limit 4000000) self.old self.new }
+        ensures floor_causes { HasFloorCauses (IsErrOf result Halt.KeeperFault) (IsErrOf result Halt.LogFull) (min self.new.floor.opening.limit 4000000) self.new }
         ensures none_kept { OnOk result (KeepsNone self.old.monitor.kept self.new.monitor.kept) }
         ensures full { IsErrOf result Halt.LogFull → length self.new.watch.seen < 4000000 → KeepsNone self.old.monitor.kept self.new.monitor.kept }
     {

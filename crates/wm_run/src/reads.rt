@@ -24,11 +24,12 @@ fn is_no(shown: &Shown) -> bool
 impl<K: Keeper> Run<K> {
     ghost use Rattle.std.specs.Prelude.{◌≡◌, ◌≤◌, false, IfOk, OnErr, IsErrOf};
     ghost use Rattle.wm_floor.specs.Floor.{HasLooked, IsSame};
+    ghost use Rattle.wm_shared_monitor.specs.Scene.{Spawning};
     ghost use Rattle.wm_traits.specs.Cause.{raised};
     ghost use Rattle.wm_run.specs.Grown.{seen_since, session_of};
     ghost use Rattle.wm_run.specs.Reads.{read_text, is_read_refused};
-    ghost use Rattle.wm_run.specs.Serving.{IsRunning};
-    ghost use Rattle.wm_run.specs.Session.{AnsweredBy, Reads};
+    ghost use Rattle.wm_run.specs.Serving.{IsRunning, Serves};
+    ghost use Rattle.wm_run.specs.Session.{AnsweredBy, IsUncalled, Reads};
     ghost use Rattle.wm_run.specs.Stopped.{IsCutShort};
 
     // The bytes of the history's listing. An `Err` is want of memory.
@@ -105,8 +106,8 @@ impl<K: Keeper> Run<K> {
         requires ready { IsRunning self.old }
         ensures ready { IsRunning self.new }
         ensures floor { self.new.floor ≡ self.old.floor }
-        ensures session { HasLooked self.old.session self.new.session }
-        ensures same { IsSame self.old.session self.new.session }
+        ensures serves { (s : Spawning) → Serves self.old self.new s s }
+        ensures uncalled { IsUncalled (seen_since self.old self.new) }
         ensures watch { self.new.watch ≡ self.old.watch }
         ensures monitor { self.new.monitor ≡ self.old.monitor }
         ensures answered { IfOk result (λ refused. AnsweredBy (Reads ask.now (session_of self.old)) (seen_since self.old self.new) (O.written out.old) (O.written out.new) refused) }

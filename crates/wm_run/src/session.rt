@@ -48,10 +48,10 @@ fn say<O: Sink>(
     sayings: &Sayings,
     reply: &Reply,
 ) -> Result<Answered, Halt>
-    ensures ok { (c : Command) → AreOf c sayings.now → OnOk result (Grows (O.written out.old) (O.written out.new) (with_end (said_text c reply.now))) }
+    ensures ok { OnOk result ((c : Command) → AreOf c sayings.now → Grows (O.written out.old) (O.written out.new) (with_end (said_text c reply.now))) }
     ensures faulty { IfOk result (λ r. r.faulty ≡ is_refused reply.now) }
     ensures down { IfOk result (λ r. r.down ≡ is_power_down reply.now) }
-    ensures some { (c : Command) → AreOf c sayings.now → OnErr result ((n : ℕ) × Grows (O.written out.old) (O.written out.new) (take n (with_end (said_text c reply.now)))) }
+    ensures some { OnErr result ((c : Command) → AreOf c sayings.now → (n : ℕ) × Grows (O.written out.old) (O.written out.new) (take n (with_end (said_text c reply.now)))) }
     ensures faults { O.faults out.old ≤ O.faults out.new }
     ensures write_fault { IsErrOf result Halt.WriteFault → raised (O.faults out.old) ≤ O.faults out.new }
     ensures no_wait { IsErrOf result Halt.WaitFault → ⊥ }
@@ -76,16 +76,15 @@ impl<K: Keeper> Run<K> {
     ghost use Rattle.wm_floor.specs.Floor.{HasLooked, IsPassOf, IsSame};
     ghost use Rattle.wm_monitor.specs.Monitor.{hands_of};
     ghost use Rattle.wm_shared_monitor.specs.Advance.{added};
-    ghost use Rattle.wm_shared_monitor.specs.Attends.{MonitorAttends};
-    ghost use Rattle.wm_shared_monitor.specs.Scene.{IsClear};
+    ghost use Rattle.wm_shared_monitor.specs.Scene.{IsClear, Spawning};
     ghost use Rattle.wm_shared_monitor.specs.Turned.{HadNothing, WaitedAt};
-    ghost use Rattle.wm_run.specs.Calls.{Called};
+    ghost use Rattle.wm_run.specs.Calls.{Called, MakesCall};
     ghost use Rattle.wm_run.specs.Down.{is_down};
     ghost use Rattle.wm_run.specs.Grown.{seen_since, session_of};
     ghost use Rattle.wm_run.specs.Halt.{HasCauses, HasFloorCauses, HasMonitorCauses, KeepsNone};
     ghost use Rattle.wm_run.specs.Parsed.{IsFitParsed};
-    ghost use Rattle.wm_run.specs.Serving.{IsRunning, LeftNoOrder, RunServes};
-    ghost use Rattle.wm_run.specs.Session.{AnsweredBy, AnswersLine, AnswersParsed, Calls};
+    ghost use Rattle.wm_run.specs.Serving.{IsRunning, LeftNoOrder, RunServes, Serves};
+    ghost use Rattle.wm_run.specs.Session.{AnsweredBy, AnswersLine, AnswersParsed, Calls, IsUncalled};
     ghost use Rattle.wm_run.specs.Stopped.{IsCutShort};
 
     // Makes one call of the session. An `Err` makes no entry.
@@ -131,20 +130,19 @@ impl<K: Keeper> Run<K> {
         requires ready { IsRunning self.old }
         requires fit { IsCall call }
         ensures ready { IsRunning self.new }
-        ensures same { IsSame self.old.session self.new.session }
-        ensures mark { self.old.session.mark ≤ self.new.session.mark }
-        ensures ok { IfOk result (λ reply. Called self.old.floor.opening call (C.coming clock.old) self.old.session self.new.session reply) }
+        ensures serves { (s : Spawning) → Serves self.old self.new s s }
+        ensures called { IfOk result (λ reply. Called self.old.floor.opening call (C.coming clock.old) self.old.session self.new.session reply) }
+        ensures made { IfOk result (λ reply. MakesCall call reply (seen_since self.old self.new)) }
+        ensures unmade { OnErr result (IsUncalled (seen_since self.old self.new)) }
         ensures seen { OnOk result (length self.new.session.seen ≤ length self.new.watch.seen) }
-        ensures err { OnErr result (HasLooked self.old.session self.new.session) }
         ensures floor { self.new.floor ≡ self.old.floor }
         ensures watch { HasLooked self.old.watch self.new.watch }
-        ensures watch_same { IsSame self.old.watch self.new.watch }
         ensures monitor { self.new.monitor ≡ self.old.monitor }
         ensures no_write { IsErrOf result Halt.WriteFault → ⊥ }
         ensures no_wait { IsErrOf result Halt.WaitFault → ⊥ }
         ensures no_read { IsErrOf result Halt.ReadFault → ⊥ }
         ensures not_full { IsErrOf result Halt.InputFull → ⊥ }
-        ensures floor_causes { HasFloorCauses (IsErrOf result Halt.KeeperFault) (IsErrOf result Halt.LogFull) (min self.old.floor.opening.limit 4000000) self.old self.new }
+        ensures floor_causes { HasFloorCauses (IsErrOf result Halt.KeeperFault) (IsErrOf result Halt.LogFull) (min self.new.floor.opening.limit 4000000) self.new }
     {
         let now = clock.now();
         let (place, reply) = self.enter(rt, alloc, call, now)?;
@@ -164,10 +162,10 @@ impl<K: Keeper> Run<K> {
         ensures ready { IsRunning self.new }
         ensures floor { self.new.floor ≡ self.old.floor }
         ensures session { self.new.session ≡ self.old.session }
-        ensures part { MonitorAttends P.asked P.told P.misses P.faults self.old.floor self.old.watch self.old.monitor spawner.old self.new.watch self.new.monitor spawner.new }
+        ensures serves { RunServes P.asked P.told P.misses P.faults self.old spawner.old self.new spawner.new }
         ensures clear { OnOk result (IsClear self.new.monitor) }
         ensures causes { HasMonitorCauses result (P.faults spawner.old) (P.faults spawner.new) }
-        ensures floor_causes { HasFloorCauses (IsErrOf result Halt.KeeperFault) (IsErrOf result Halt.LogFull) 4000000 self.old self.new }
+        ensures floor_causes { HasFloorCauses (IsErrOf result Halt.KeeperFault) (IsErrOf result Halt.LogFull) 4000000 self.new }
         ensures sent { IfOk result (λ turned. turned.sent ≡ length (added self.old.watch self.new.watch)) }
         ensures waited { IfOk result (λ turned. WaitedAt self.old.floor self.old.watch self.new.watch turned.at turned.pending) }
         ensures handed { IfOk result (λ turned. (turned.pending.orders ≡ 0) ⊎ (hands_of (added self.old.watch self.new.watch) ≡ 256)) }
@@ -196,13 +194,13 @@ impl<K: Keeper> Run<K> {
         ensures ready { IsRunning self.new }
         ensures floor { self.new.floor ≡ self.old.floor }
         ensures session { self.new.session ≡ self.old.session }
-        ensures part { MonitorAttends P.asked P.told P.misses P.faults self.old.floor self.old.watch self.old.monitor spawner.old self.new.watch self.new.monitor spawner.new }
+        ensures serves { RunServes P.asked P.told P.misses P.faults self.old spawner.old self.new spawner.new }
         ensures report { OnOk result (until ≡ None → IsEmpty (P.out spawner.old) ⊎ (1 ≤ length (added self.old.watch self.new.watch))) }
         ensures awaited { OnOk result (Grows (P.awaited spawner.old) (P.awaited spawner.new) (until ∷ [])) }
         ensures kept { OnOk result (self.new.monitor.kept ≡ None) }
         ensures kill { self.new.monitor.failed_kill ≡ self.old.monitor.failed_kill }
         ensures causes { HasMonitorCauses result (P.faults spawner.old) (P.faults spawner.new) }
-        ensures floor_causes { HasFloorCauses (IsErrOf result Halt.KeeperFault) (IsErrOf result Halt.LogFull) 4000000 self.old self.new }
+        ensures floor_causes { HasFloorCauses (IsErrOf result Halt.KeeperFault) (IsErrOf result Halt.LogFull) 4000000 self.new }
     {
         match self
             .monitor
@@ -237,7 +235,7 @@ impl<K: Keeper> Run<K> {
         ensures orders { OnOk result (length (added self.old.watch self.new.watch) ≡ 0 → LeftNoOrder self.new) }
         ensures quiet { OnOk result (length (added self.old.watch self.new.watch) ≡ 0 → self.old.monitor.failed_kill ≡ None → IsEmpty (P.reporting spawner.old)) }
         ensures causes { HasCauses result (O.faults out.old) (O.faults out.new) (P.faults spawner.old) (P.faults spawner.new) }
-        ensures floor_causes { HasFloorCauses (IsErrOf result Halt.KeeperFault) (IsErrOf result Halt.LogFull) (min self.old.floor.opening.limit 4000000) self.old self.new }
+        ensures floor_causes { HasFloorCauses (IsErrOf result Halt.KeeperFault) (IsErrOf result Halt.LogFull) (min self.new.floor.opening.limit 4000000) self.new }
         ensures none_kept { OnOk result (KeepsNone self.old.monitor.kept self.new.monitor.kept) }
         ensures full { IsErrOf result Halt.LogFull → length self.new.watch.seen < 4000000 → KeepsNone self.old.monitor.kept self.new.monitor.kept }
     {
@@ -270,7 +268,7 @@ impl<K: Keeper> Run<K> {
         ensures stopped { OnErr result (IsCutShort (AnswersParsed user.now parsed (session_of self.old))
             (seen_since self.old self.new) (O.written out.old) (O.written out.new)) }
         ensures causes { HasCauses result (O.faults out.old) (O.faults out.new) (P.faults spawner.old) (P.faults spawner.new) }
-        ensures floor_causes { HasFloorCauses (IsErrOf result Halt.KeeperFault) (IsErrOf result Halt.LogFull) (min self.old.floor.opening.limit 4000000) self.old self.new }
+        ensures floor_causes { HasFloorCauses (IsErrOf result Halt.KeeperFault) (IsErrOf result Halt.LogFull) (min self.new.floor.opening.limit 4000000) self.new }
         ensures none_kept { OnOk result (KeepsNone self.old.monitor.kept self.new.monitor.kept) }
         ensures full { IsErrOf result Halt.LogFull → length self.new.watch.seen < 4000000 → KeepsNone self.old.monitor.kept self.new.monitor.kept }
     {
@@ -310,7 +308,7 @@ impl<K: Keeper> Run<K> {
         ensures stopped { OnErr result (IsCutShort (AnswersLine user.now (option_copied line.entry) (session_of self.old))
             (seen_since self.old self.new) (O.written out.old) (O.written out.new)) }
         ensures causes { HasCauses result (O.faults out.old) (O.faults out.new) (P.faults spawner.old) (P.faults spawner.new) }
-        ensures floor_causes { HasFloorCauses (IsErrOf result Halt.KeeperFault) (IsErrOf result Halt.LogFull) (min self.old.floor.opening.limit 4000000) self.old self.new }
+        ensures floor_causes { HasFloorCauses (IsErrOf result Halt.KeeperFault) (IsErrOf result Halt.LogFull) (min self.new.floor.opening.limit 4000000) self.new }
         ensures none_kept { OnOk result (KeepsNone self.old.monitor.kept self.new.monitor.kept) }
         ensures full { IsErrOf result Halt.LogFull → length self.new.watch.seen < 4000000 → KeepsNone self.old.monitor.kept self.new.monitor.kept }
     {

@@ -33,7 +33,7 @@ module _ {E : Type 0} where
   shorter (x ∷ a) [] r q e le = absurd (omega arith)
   shorter (x ∷ a) (y ∷ b) r q e le = let t = shorter a b r q (ap others e) (omega arith) in (t.0, λ i. sym (ap (first_or x) e) i ∷ t.1 i)
 
-  fronts : (l a b : List E) → StartsWith l a → StartsWith l b → length a ≤ length b → StartsWith b a
+  pub fronts : (l a b : List E) → StartsWith l a → StartsWith l b → length a ≤ length b → StartsWith b a
   fronts l a b s t = shorter a b s.0 t.0 (sym s.1 ∙ t.1)
 
   pub nothing : (l : List E) → length l ≡ 0 → l ≡ []

@@ -18,7 +18,7 @@ pub returns-in_err-put-in-Fault-clause-stopped : goal.returns-in_err-put-in-Faul
 returns-in_err-put-in-Fault-clause-stopped g c =
     let o = g.O.Sink in
     let fault = c.in-Fault.fault in
-    let history = c.args.self.now.journal.history in
+    let history = (session_of c.args.self.now) in
     let some = c.in_err-put-in-Fault.ensures.some in
     let bytes : c.as_bytes.result.now ≡ fault_answer fault = c.as_bytes.ensures.value ∙ c.in_ok-line-in-Fault.ensures in
     let cut : IsCutShort (AnswersParsed c.args.user.now (Fault fault) history) (entries_between history history) (o.written c.args.out.now) (o.written c.put.new.out) =

@@ -1,15 +1,22 @@
-use Rattle.std.proofs.Common.{sym, subst}
-use Rattle.wm_run.specs.Grown.{entries_between}
+use Rattle.std.proofs.Common.{List, sym, subst}
+use Rattle.wm_law.specs.declared.call.Entry.{Entry}
+use Rattle.wm_monitor.specs.Lists.{since}
+use Rattle.wm_run.specs.Grown.{session_of}
+use Rattle.wm_run.specs.Serving.{IsHistory}
 use Rattle.wm_run.specs.Session.{Closes}
-use Rattle.wm_run.proofs.StoppedRuns.{no_call_none}
+use Rattle.wm_run.proofs.Servings.{serves_none}
+use Rattle.wm_run.proofs.Wholes.{uncalled_rest}
 use Rattle.wm_run.proofs.running.Run.close_input.Goals as goal
 
+pub returns-then-down-clause-serves : goal.returns-then-down-clause-serves
+returns-then-down-clause-serves g c = serves_none c.args.self.now _ c.requires
+
 pub returns-then-down-clause-ended : goal.returns-then-down-clause-ended
-returns-then-down-clause-ended g c =
-    let h = c.args.self.now.journal.history in
-    subst (λ (t : _). Closes t h (entries_between h h)) (sym c.if-down.true) (no_call_none h)
+returns-then-down-clause-ended g c log h =
+    let r = c.args.self.now in
+    subst (λ (t : _). Closes t (session_of r) (since r.session.seen log)) (sym c.if-down.true) (uncalled_rest r log c.requires h)
 
 pub returns-clause-ended : goal.returns-clause-ended
-returns-clause-ended g c =
-    let h = c.args.self.now.journal.history in
-    subst (λ (t : _). Closes t h (entries_between h c.end_input.new.self.journal.history)) (sym c.if-down.false) c.in_ok-end_input.ensures.ended
+returns-clause-ended g c log h =
+    let r = c.args.self.now in
+    subst (λ (t : _). Closes t (session_of r) (since r.session.seen log)) (sym c.if-down.false) (c.in_ok-end_input.ensures.ended log h)
