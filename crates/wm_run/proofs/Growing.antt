@@ -6,6 +6,9 @@ use Rattle.wm_law.specs.declared.call.Entry.{Entry}
 use Rattle.wm_law.specs.declared.state.State.{State}
 use Rattle.wm_journal.specs.History.{History}
 use Rattle.wm_floor.specs.Floor.{Floored}
+use Rattle.wm_floor.specs.Ledger.{behind}
+use Rattle.wm_turn.specs.Passed.{StartsWith}
+use Rattle.wm_shared_monitor.proofs.Passes.{Extends-by}
 use Rattle.wm_run.specs.Grown.{grown, entries_between, session_of}
 use Rattle.wm_run.specs.declared.running.Run.{Run}
 use Rattle.wm_monitor.specs.Lists.{Extends}
@@ -22,6 +25,10 @@ Continues-then a b c ab bc = record { opened = bc.opened ∙ ab.opened; log = Ex
 -- what the session has seen goes on, where the floor is the same
 pub goes_on : {K : Type 0} (old new : Run K) → new.floor ≡ old.floor → Extends old.session.seen new.session.seen → Continues (session_of old) (session_of new)
 goes_on {K} old new same seen = record { opened = ap (λ (f : Floored K). f.opening.state) same; log = seen }
+
+-- and so does the whole history behind it
+pub to_whole : {K : Type 0} (a r : Run K) (log : List Entry) → r.floor ≡ a.floor → StartsWith log r.session.seen → Continues (session_of r) (behind a.floor.opening log)
+to_whole {K} a r log same begins = record { opened = ap (λ (f : Floored K). f.opening.state) (sym same); log = Extends-by r.session.seen log begins.0 begins.1 }
 
 pub grown-none : (h : History) → grown h [] ≡ h
 grown-none h = ap (λ (l : List Entry). record { opened = h.opened; log = l }) (append-nil h.log)

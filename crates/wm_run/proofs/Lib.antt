@@ -1,3 +1,4 @@
+pub mod Callers
 pub mod Causes
 pub mod Commands
 pub mod Downs
@@ -15,4 +16,6 @@ pub mod Servings
 pub mod StoppedLines
 pub mod StoppedRuns
 pub mod Takings
+pub mod Turning
+pub mod Wholes
 pub mod Writes

@@ -2,8 +2,11 @@
 use Rattle.std.proofs.Common.{◌≡◌, ◌⊎◌, ℕ, zero, suc, ℤ, ◌<◌, ◌≤◌, true, List, [], ◌∷◌, Option, Some, None, IfSome, is_some, refl, sym, ap, subst, ◌∙◌, inl, inr, arith}
 use Rattle.std.proofs.lemmas.Bool.{true≢false, false≢true}
 use Rattle.wm_journal.specs.History.{History, reached}
+use Rattle.wm_floor.specs.Floor.{IsLeftOrOpened}
+use Rattle.wm_floor.specs.Ledger.{behind}
+use Rattle.wm_floor.specs.declared.opened.Opened.{Opened}
 use Rattle.wm_journal.specs.Trail.{HasTrail, tables_along, without_repeats}
-use Rattle.wm_law.specs.History.{after, IsLegal}
+use Rattle.wm_law.specs.History.{IsLegal}
 use Rattle.wm_law.specs.Pending.{active}
 use Rattle.wm_law.specs.declared.call.Entry.{Entry}
 use Rattle.wm_law.specs.declared.state.State.{State}
@@ -16,13 +19,14 @@ use Rattle.wm_traits.specs.Told.{Grows, Stays}
 use Rattle.wm_plan.specs.declared.plan.RunPlan.{RunPlan}
 use Rattle.wm_run.specs.Words.{OpensPlanned}
 use Rattle.wm_run.specs.Kept.{HasHistory, HasOpened, IsUnopened, open_status, store_status}
-use Rattle.wm_monitor.specs.Lists.{since}
-use Rattle.wm_monitor.specs.Idle.{NoneIsIdle}
+use Rattle.wm_monitor.specs.Idle.{monitor_pass}
+use Rattle.wm_shared_monitor.specs.Idle.{NoneIsIdle}
 use Rattle.wm_journal.specs.Keeping.{Telling, IsOpened}
 use Rattle.wm_journal.specs.Stored.{HasTables}
 use Rattle.wm_journal.specs.declared.open_fault.OpenFault.{OpenFault}
 use Rattle.wm_journal.specs.declared.open_fault.OpenFault.TheVariants.{KeeperFault, BadRow, NoMemory}
 use Rattle.wm_journal.proofs.Staying.{Stays-grows, Stays-same}
+use Rattle.wm_journal.proofs.Trails.{trail_opened}
 use Rattle.wm_chain.proofs.Starting.{runs_start_once}
 use Rattle.wm_tables.proofs.PrestartRestarts.{restart_is_prestart_sound, restart_is_within_maxuse}
 use Rattle.wm_tables.proofs.Restarts.{restart_is_sound}
@@ -66,33 +70,47 @@ rows_found tables None (Some mid) trail'' (Some last) rows more told grown untol
 rows_found None (Some first) (Some mid) trail'' (Some last) rows more told grown untold both both' = absurd (true≢false both)
 rows_found (Some x) (Some first) (Some mid) trail'' (Some last) rows more told grown untold both both' = ap Some told
 
--- a run over a keeper that opened
-pub opened_run : {Came : State → Type 0} (offset : ℤ) (status : ℕ) (log : List Entry) (first last : History) (found opened closed : Telling) → IsOpened offset first.opened found opened → first.log ≡ [] → last.opened ≡ first.opened → log ≡ last.log → IsLegal last.opened last.log → NoneIsIdle (reached first) (since first.log last.log) → (status ≤ 1 → active (reached last) ≡ 0) → HasTables (reached last) closed.tables → HasTrail last found closed → (opened.trail ≡ None → closed.trail ≡ None) → is_some found.trail ≡ is_some found.tables → is_some closed.trail ≡ is_some closed.tables → Came first.opened → HasOpened offset status log found closed Came
-opened_run {Came} offset status log first last found opened closed h none same is legal no_idle idle tables trail untold both both' came =
-    let s = first.opened in
-    let P : List Entry → Type 0 = λ es. HasOpened offset status es found closed Came in
-    let at : reached first ≡ s = ap (after s) none in
-    let from : since first.log last.log ≡ last.log = ap (λ (l : List Entry). since l last.log) none in
-    let whole : last ≡ record { opened = s; log = last.log } = ap (λ (t : State). record { opened = t; log = last.log }) same in
-    let sound = restart_is_sound offset h.found s h.restart in
-    let steps : IsLegal s last.log = subst (λ (t : State). IsLegal t last.log) same legal in
-    let busy : NoneIsIdle s last.log = subst (λ (es : List Entry). NoneIsIdle s es) from (subst (λ (t : State). NoneIsIdle t (since first.log last.log)) at no_idle) in
-    subst P (sym is) (record {
-      opened = s;
+-- a run over a keeper whose floor was opened
+pub opened_run : {K : Type 0} {Came : State → Type 0} (offset : ℤ) (status : ℕ) (log : List Entry) (o : Opened K) (found opened closed : Telling) → IsOpened offset o.state found opened → IsLegal o.state log → NoneIsIdle monitor_pass [] o.state log → (status ≤ 1 → active (reached (behind o log)) ≡ 0) → HasTables (reached (behind o log)) closed.tables → HasTrail (behind o log) found closed → (opened.trail ≡ None → closed.trail ≡ None) → is_some found.trail ≡ is_some found.tables → is_some closed.trail ≡ is_some closed.tables → Came o.state → HasOpened offset status log found closed Came
+opened_run offset status log o found opened closed h legal no_idle idle tables trail untold both both' came =
+    let sound = restart_is_sound offset h.found o.state h.restart in
+    record {
+      opened = o.state;
       rows = h.found;
       found = rows_found found.tables found.trail opened.trail closed.trail closed.tables h.found _ h.told h.trail untold both both';
       restart = h.restart;
-      legal = steps;
-      limits = limits_are_kept s last.log sound;
-      uses = uses_are_kept s last.log sound (restart_is_prestart_sound offset h.found s h.restart) steps (restart_is_within_maxuse offset h.found s h.restart);
-      order = order_is_kept s last.log sound;
-      starts = runs_start_once offset h.found s last.log h.restart steps;
-      no_idle = busy;
-      idle = λ low. subst (λ (g : History). active (reached g) ≡ 0) whole (idle low);
-      tables = subst (λ (g : History). HasTables (reached g) closed.tables) whole tables;
-      trail = subst (λ (g : History). HasTrail g found closed) whole trail;
+      legal = legal;
+      limits = limits_are_kept o.state log sound;
+      uses = uses_are_kept o.state log sound (restart_is_prestart_sound offset h.found o.state h.restart) legal (restart_is_within_maxuse offset h.found o.state h.restart);
+      order = order_is_kept o.state log sound;
+      starts = runs_start_once offset h.found o.state log h.restart legal;
+      no_idle = no_idle;
+      idle = idle;
+      tables = tables;
+      trail = trail;
       came = came;
-    })
+    }
+
+-- one for whose turnstile there was no memory, once the rows of the opened state were kept
+opened_none : {Came : State → Type 0} (offset : ℤ) (status : ℕ) (s : State) (old new : Telling) → IsOpened offset s old new → (status ≤ 1 → ⊥) → is_some old.trail ≡ is_some old.tables → is_some new.trail ≡ is_some new.tables → Came s → HasOpened offset status [] old new Came
+opened_none offset status s old new h early both both' came =
+    let sound = restart_is_sound offset h.found s h.restart in
+    record {
+      opened = s;
+      rows = h.found;
+      found = rows_found old.tables old.trail new.trail new.trail new.tables h.found _ h.told h.trail (λ none. none) both both';
+      restart = h.restart;
+      legal = tt;
+      limits = limits_are_kept s [] sound;
+      uses = tt;
+      order = order_is_kept s [] sound;
+      starts = runs_start_once offset h.found s [] h.restart tt;
+      no_idle = tt;
+      idle = λ low. absurd (early low);
+      tables = h.rows;
+      trail = trail_opened offset s old new h;
+      came = came;
+    }
 
 -- The same, as the store tells it whose keeper it was
 
@@ -159,6 +177,12 @@ history_of_store offset status log old found closed new tables trail tables' tra
 -- a run that didn't open
 pub not_opened : {Came : State → Type 0} (offset : ℤ) (status : ℕ) (log : List Entry) (old new : Telling) → IsUnopened status → log ≡ [] → Stays old.tables new.tables → Stays old.trail new.trail → ((s : State) → Came s) → HasHistory offset status log old new Came
 not_opened offset status log old new early none tables trail came = inr (record { early = early; none = none; left = record { tables = tables; trail = trail }; came = came })
+
+-- a run whose floor didn't open
+pub floor_not_opened : {Came : State → Type 0} (offset : ℤ) (status : ℕ) (log : List Entry) (old new : Telling) (fault : OpenFault) → IsUnopened status → 1 < status → log ≡ [] → IsLeftOrOpened offset old new fault → is_some old.trail ≡ is_some old.tables → is_some new.trail ≡ is_some new.tables → ((s : State) → Came s) → HasHistory offset status log old new Came
+floor_not_opened offset status log old new fault early high none (inl left) both both' came = not_opened offset status log old new early none left.tables left.trail came
+floor_not_opened {Came} offset status log old new fault early high none (inr (memory, opened)) both both' came =
+    subst (λ (es : List Entry). HasHistory offset status es old new Came) (sym none) (inl (opened_none offset status opened.0 old new opened.1 (λ low. absurd (omega (arith, high, low))) both both' (came opened.0)))
 
 -- The status of a run whose machine didn't open
 

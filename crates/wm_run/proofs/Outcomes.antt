@@ -116,8 +116,11 @@ if_ok_of {T} P r t is h = subst (λ (q : Result T Halt). IfOk q P) is h
 
 -- a session that stopped as it began
 pub came_begin : (settings : Settings) (r : Result Bool Halt) (e : Halt) (a b d : History) (x w : Option (List ℕ)) → r ≡ Err e → (IsErrOf r ReadFault → ⊥) → (IsErrOf r InputFull → ⊥) → Continues a b → Continues b d → IsUncalled (entries_between b d) → (IsUncalled (entries_between a b) → entries_between a d ≡ []) → AtMostOne (start_call settings.ctl) (entries_between a b) → TakesInput x x (λ bytes. SessionCame settings bytes x r a (entries_between a d) w w)
-came_begin settings r e a b d x w is read full ab bd uncalled unbegun begun =
-    let h = stopped_begin settings a b d x w ab bd uncalled unbegun begun in
+came_begin settings r e a b d x w is read full ab bd uncalled unbegun (inl none) =
+    let h = stopped_begin settings a b d x w ab bd uncalled unbegun (inl none) in
+    record { bytes = []; taken = Takes-none x; done = record { session = if_ok_err _ r e is; stopped = on_err r h.done; cut_off = λ f. absurd (read f); full = never_full r [] full (omega arith) } }
+came_begin settings r e a b d x w is read full ab bd uncalled unbegun (inr start) =
+    let h = stopped_begin settings a b d x w ab bd uncalled unbegun (inr start) in
     record { bytes = []; taken = Takes-none x; done = record { session = if_ok_err _ r e is; stopped = on_err r h.done; cut_off = λ f. absurd (read f); full = never_full r [] full (omega arith) } }
 
 -- one that stopped in its lines
@@ -135,13 +138,13 @@ came_lines settings r q e d a b c whole x y u v was is same ab bc cd uncalled st
         session = if_ok_err _ r d is;
         stopped = on_err r stops.done;
         cut_off = λ f. record {
-            first = entries_between a b;
-            middle = entries_between b whole;
-            parts = entries-then a b whole ab bd;
-            start = start;
-            answers = at_grown (λ (o : History). AnswersEnded settings.user h.bytes o (entries_between b whole) u v) a b ab
-                (subst (λ (es : List Entry). AnswersEnded settings.user h.bytes b es u v) (sym (entries-then b c whole bc cd)) (ended_behind h.bytes b fs gs u v uncalled (h.done.cut_off (cc))));
-          };
+          first = entries_between a b;
+          middle = entries_between b whole;
+          parts = entries-then a b whole ab bd;
+          start = start;
+          answers = at_grown (λ (o : History). AnswersEnded settings.user h.bytes o (entries_between b whole) u v) a b ab
+              (subst (λ (es : List Entry). AnswersEnded settings.user h.bytes b es u v) (sym (entries-then b c whole bc cd)) (ended_behind h.bytes b fs gs u v uncalled (h.done.cut_off (cc))));
+        };
         full = full.done;
       };
     }

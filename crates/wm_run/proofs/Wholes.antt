@@ -17,7 +17,7 @@ use Rattle.wm_monitor.proofs.Lists.{since-then}
 use Rattle.wm_shared_monitor.proofs.Passes.{Extends-by, since-by}
 use Rattle.wm_run.specs.Calls.{Called, session_pass}
 use Rattle.wm_run.specs.Grown.{session_of}
-use Rattle.wm_run.specs.Serving.{IsHistory, IsRunning, IsWhole}
+use Rattle.wm_run.specs.Serving.{IsFresh, IsHistory, IsRunning, IsWhole}
 use Rattle.wm_run.specs.Session.{EndsInput, IsUncalled, end_call}
 use Rattle.wm_run.specs.declared.running.Run.{Run}
 use Rattle.wm_run.proofs.Takings.{uncalled_both}
@@ -91,6 +91,14 @@ module _ {K : Type 0} where
   -- where neither has made a call, the whole history has none
   pub unbegun : (r : Run K) (log : List Entry) → IsRunning r → IsWhole r log → r.session.mine ≡ [] → r.watch.mine ≡ [] → log ≡ []
   unbegun r log ready w session watch = no_callers log (sym w.history.calls ∙ session) (sym w.monitors ∙ watch) w.history.others
+
+  -- so it has none behind a fresh run
+  pub unbegun_since : (a b : Run K) (log : List Entry) → IsFresh a → Extends a.session.seen b.session.seen → IsRunning b → IsWhole b log → b.watch.mine ≡ a.watch.mine → IsUncalled (since a.session.seen b.session.seen) → since a.session.seen log ≡ []
+  unbegun_since a b log fresh grown ready w watch none =
+      let all : b.session.seen ≡ since a.session.seen b.session.seen = grown ∙ ap (λ (l : List Entry). l ++ since a.session.seen b.session.seen) fresh.unseen in
+      let called : b.session.mine ≡ [] = session_own b ready ∙ (ap (own caller_of session_pass) all ∙ none) in
+      let nothing_is = unbegun b log ready w called (watch ∙ fresh.unmonitored) in
+      ap (since a.session.seen) nothing_is ∙ ap (λ (l : List Entry). since l []) fresh.unseen
 
   -- The last call
 

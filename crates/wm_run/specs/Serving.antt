@@ -36,6 +36,13 @@ module _ {K : Type 0} where
     pub one : r.watch.number ≡ monitor_pass
     pub watched : HasWatched r
 
+  -- nothing was seen or called yet
+  pub record IsFresh (r : Run K) : Type 0 where
+    pub unseen : r.session.seen ≡ []
+    pub uncalled : r.session.mine ≡ []
+    pub unwatched : r.watch.seen ≡ []
+    pub unmonitored : r.watch.mine ≡ []
+
   -- a pass goes on: it has seen at least what it had seen, keeps its own entries, and its mark hasn't fallen
   pub record PassGoesOn (old new : Seen K) : Type 0 where
     pub same : IsSame old new

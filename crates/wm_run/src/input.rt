@@ -254,7 +254,16 @@ impl<K: Keeper> Run<K> {
                 let last = self.take_rest(rt, alloc, out, spawner, clock, user, &mut joiner)?;
                 return Ok(last.behind(faulty));
             }
-            let some = self.take_piece(rt, alloc, out, spawner, clock, user, &mut joiner, &piece[..n])?;
+            let some = self.take_piece(
+                rt,
+                alloc,
+                out,
+                spawner,
+                clock,
+                user,
+                &mut joiner,
+                &piece[..n],
+            )?;
             let answered = some.behind(faulty);
             if answered.down {
                 return Ok(answered);

@@ -77,7 +77,7 @@ impl<K: Keeper> Run<K> {
     ghost use Rattle.wm_run.specs.Grown.{session_of};
     ghost use Rattle.wm_run.specs.Halt.{HasFloorCauses, HasInputCauses, KeepsNone};
     ghost use Rattle.wm_run.specs.Outcome.{SessionCame};
-    ghost use Rattle.wm_run.specs.Serving.{IsRunning, IsWhole, RunServes};
+    ghost use Rattle.wm_run.specs.Serving.{IsFresh, IsRunning, IsWhole, RunServes};
     ghost use Rattle.wm_run.specs.Taking.{TakesInput};
 
     // The first call, the lines of the input, and the end of the input, where no line put the power down.
@@ -92,6 +92,7 @@ impl<K: Keeper> Run<K> {
         settings: &Settings,
     ) -> Result<bool, Halt>
         requires ready { IsRunning self.old }
+        requires fresh { IsFresh self.old }
         ensures ready { IsRunning self.new }
         ensures serves { RunServes P.asked P.told P.misses P.faults self.old spawner.old self.new spawner.new }
         ensures input { (log : List Entry) → IsWhole self.new log → TakesInput (I.left input.old) (I.left input.new) (λ bytes. SessionCame settings.now bytes (I.left input.new) result (session_of self.old)
@@ -221,7 +222,12 @@ pub fn run_kept<I: Source, O: Sink, K: Keeper, P: Spawner, C: Clock, R: Wait>(
     ensures out_faults { O.faults out.old ≤ O.faults out.new }
     ensures statuses { IsRunStatus result.0.status }
 {
-    let (floor, mut session) = match Floor::open(alloc, keeper, &setup(settings), settings.log_limit) {
+    let (floor, mut session) = match Floor::open(
+        alloc,
+        keeper,
+        &setup(settings),
+        settings.log_limit,
+    ) {
         Ok(opened) => opened,
         Err((keeper, fault)) => return (not_begun(alloc, open_status(&fault)), keeper),
     };

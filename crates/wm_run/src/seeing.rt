@@ -8,12 +8,7 @@ use wm_monitor::MONITOR;
 use wm_traits::Keeper;
 
 /// Looks until the pass has seen so many entries, of which another pass was told: the first look finds them.
-pub(crate) fn see<K: Keeper, R: Wait>(
-    rt: &R,
-    floor: &Floor<K>,
-    pass: &mut FloorPass<K>,
-    least: u32,
-)
+pub(crate) fn see<K: Keeper, R: Wait>(rt: &R, floor: &Floor<K>, pass: &mut FloorPass<K>, least: u32)
     requires own { IsPassOf floor.now pass.old }
     ensures own { IsPassOf floor.now pass.new }
     ensures same { IsSame pass.old pass.new }

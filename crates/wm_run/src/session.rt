@@ -202,10 +202,15 @@ impl<K: Keeper> Run<K> {
         ensures causes { HasMonitorCauses result (P.faults spawner.old) (P.faults spawner.new) }
         ensures floor_causes { HasFloorCauses (IsErrOf result Halt.KeeperFault) (IsErrOf result Halt.LogFull) 4000000 self.new }
     {
-        match self
-            .monitor
-            .wait(rt, alloc, &self.floor, &mut self.watch, spawner, clock, until)
-        {
+        match self.monitor.wait(
+            rt,
+            alloc,
+            &self.floor,
+            &mut self.watch,
+            spawner,
+            clock,
+            until,
+        ) {
             Ok(_) => Ok(()),
             Err(fault) => Err(Halt::from(fault)),
         }

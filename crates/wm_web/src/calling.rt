@@ -37,12 +37,7 @@ fn entered_answer(
 }
 
 // What is told of a command that was called, with its place. An `Err` is want of memory.
-fn told(
-    alloc: Global,
-    sayings: &Sayings,
-    place: u32,
-    reply: &Reply,
-) -> Result<Answered, NoMemory>
+fn told(alloc: Global, sayings: &Sayings, place: u32, reply: &Reply) -> Result<Answered, NoMemory>
     ensures { (c : Command) → AreOf c sayings.now → IfOk result (λ r. Tells c place reply.now r.answer r.down) }
 {
     let answer = entered_answer(alloc, sayings, place, reply)?;

@@ -17,3 +17,7 @@ returns-in_err-call-clause-serves g c = serves_then _ _ _ c.wait_for-at.ensures.
 
 pub returns-clause-serves : goal.returns-clause-serves
 returns-clause-serves g c = serves_then _ _ _ c.wait_for-at.ensures.serves (serves_then _ _ _ (c.catch_up.ensures.serves _) (c.call.ensures.serves _))
+
+pub returns-in_err-end-clause-not_ended : goal.returns-in_err-end-clause-not_ended
+returns-in_err-end-clause-not_ended g c =
+    ?
