@@ -10,6 +10,7 @@ pub mod Inputs
 pub mod Openings
 pub mod Linked
 pub mod Outcomes
+pub mod Readies
 pub mod Runs
 pub mod Said
 pub mod Servings

@@ -63,7 +63,7 @@ stays_back x (Some z) (Some y) h is = sym (ap Some h) ∙ is
 -- The history of a run from the rows that it found
 
 -- the rows that a machine opened with are those that were told, where the tables are told to the end
-rows_found : (tables : Option (List Row)) (trail trail' trail'' : Option (List (List Row))) (tables'' : Option (List Row)) (rows : List Row) (more : List (List Row)) → IfSome tables (λ told. told ≡ rows) → Grows trail trail' more → (trail' ≡ None → trail'' ≡ None) → is_some trail ≡ is_some tables → is_some trail'' ≡ is_some tables'' → IfSome tables'' (λ (_ : List Row). tables ≡ Some rows)
+pub rows_found : (tables : Option (List Row)) (trail trail' trail'' : Option (List (List Row))) (tables'' : Option (List Row)) (rows : List Row) (more : List (List Row)) → IfSome tables (λ told. told ≡ rows) → Grows trail trail' more → (trail' ≡ None → trail'' ≡ None) → is_some trail ≡ is_some tables → is_some trail'' ≡ is_some tables'' → IfSome tables'' (λ (_ : List Row). tables ≡ Some rows)
 rows_found tables trail trail' trail'' None rows more told grown untold both both' = tt
 rows_found tables trail None trail'' (Some last) rows more told grown untold both both' = absurd (is_told trail'' both' (untold refl))
 rows_found tables None (Some mid) trail'' (Some last) rows more told grown untold both both' = absurd grown
@@ -114,7 +114,7 @@ opened_none offset status s old new h early both both' came =
 
 -- The same, as the store tells it whose keeper it was
 
-trail_of_store : (h : History) (old found closed new : Telling) (rows : List Row) → IfSome new.tables (λ _. found.tables ≡ Some rows) → Stays old.tables found.tables → Stays old.trail found.trail → Stays closed.trail new.trail → is_some new.trail ≡ is_some new.tables → HasTrail h found closed → HasTrail h old new
+pub trail_of_store : (h : History) (old found closed new : Telling) (rows : List Row) → IfSome new.tables (λ _. found.tables ≡ Some rows) → Stays old.tables found.tables → Stays old.trail found.trail → Stays closed.trail new.trail → is_some new.trail ≡ is_some new.tables → HasTrail h found closed → HasTrail h old new
 trail_of_store h old found closed new rows were tables trail trail' both has = go old.tables tables new.trail trail' both
   where
     along : List Row → List (List Row)

@@ -120,7 +120,7 @@ impl<K: Keeper> Run<K> {
             if jobs.left(&waiting.pending) == 0 {
                 return Ok(waiting.at);
             }
-            self.wait(rt, alloc, spawner, clock, waiting.pending.next)?;
+            self.wait(rt, alloc, spawner, clock, &waiting)?;
         }
         unreachable!()
     }

@@ -22,6 +22,7 @@ use std::alloc::Global;
 use std::sync::Wait;
 use wm_base::{Moment, Name};
 use wm_clwords::ClFault;
+use wm_floor::Waiting;
 use wm_law::{Call, Command, Reply};
 use wm_listing::LineFault;
 use wm_shared_monitor::Turned;
@@ -73,7 +74,11 @@ impl<K: Keeper> Run<K> {
     ghost use Rattle.std.specs.Option.{option_copied};
     ghost use Rattle.wm_law.specs.Fit.{IsCall, IsCommand};
     ghost use Rattle.wm_traits.specs.Told.{Grows, IsEmpty};
+    ghost use Rattle.wm_law.specs.Pending.{next_moment, pending};
+    ghost use Rattle.wm_journal.specs.History.{reached};
     ghost use Rattle.wm_floor.specs.Floor.{HasLooked, IsPassOf, IsSame};
+    ghost use Rattle.wm_floor.specs.Ledger.{behind};
+    ghost use Rattle.wm_monitor.specs.Idle.{monitor_pass};
     ghost use Rattle.wm_monitor.specs.Monitor.{hands_of};
     ghost use Rattle.wm_shared_monitor.specs.Advance.{added};
     ghost use Rattle.wm_shared_monitor.specs.Scene.{IsClear, Spawning};
@@ -181,22 +186,23 @@ impl<K: Keeper> Run<K> {
         }
     }
 
-    // One wait of the monitor, until the moment at the latest where one is given.
+    // One wait of the monitor, until what waits is due at the latest.
     pub(crate) fn wait<P: Spawner, C: Clock, R: Wait>(
         &mut self,
         rt: &R,
         alloc: Global,
         spawner: &mut P,
         clock: &mut C,
-        until: Option<Moment>,
+        waiting: &Waiting,
     ) -> Result<(), Halt>
         requires ready { IsRunning self.old }
+        requires waits { waiting.now.pending ≡ pending (reached (behind self.old.floor.opening self.old.watch.seen)) monitor_pass }
         ensures ready { IsRunning self.new }
         ensures floor { self.new.floor ≡ self.old.floor }
         ensures session { self.new.session ≡ self.old.session }
         ensures serves { RunServes P.asked P.told P.misses P.faults self.old spawner.old self.new spawner.new }
-        ensures report { OnOk result (until ≡ None → IsEmpty (P.out spawner.old) ⊎ (1 ≤ length (added self.old.watch self.new.watch))) }
-        ensures awaited { OnOk result (Grows (P.awaited spawner.old) (P.awaited spawner.new) (until ∷ [])) }
+        ensures report { OnOk result (next_moment (reached (behind self.old.floor.opening self.old.watch.seen)) ≡ None → IsEmpty (P.out spawner.old) ⊎ (1 ≤ length (added self.old.watch self.new.watch))) }
+        ensures awaited { OnOk result (Grows (P.awaited spawner.old) (P.awaited spawner.new) (next_moment (reached (behind self.old.floor.opening self.old.watch.seen)) ∷ [])) }
         ensures kept { OnOk result (self.new.monitor.kept ≡ None) }
         ensures kill { self.new.monitor.failed_kill ≡ self.old.monitor.failed_kill }
         ensures causes { HasMonitorCauses result (P.faults spawner.old) (P.faults spawner.new) }

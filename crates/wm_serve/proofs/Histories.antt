@@ -1,8 +1,7 @@
 -- The history of a server from the rows that it found.
 use Rattle.std.proofs.Common.{◌≡◌, ◌⊎◌, ◌≤◌, ℕ, ℤ, true, List, [], Option, Some, None, IfSome, is_some, refl, sym, ap, subst, ◌∙◌, inl, inr, arith}
 use Rattle.std.specs.Prelude.{⊤}
-use Rattle.std.proofs.lemmas.Bool.{true≢false, false≢true}
-use Rattle.wm_traits.specs.Told.{Grows, Stays}
+use Rattle.wm_traits.specs.Told.{Stays}
 use Rattle.wm_traits.proofs.Telling.{Grows-none}
 use Rattle.wm_traits.specs.declared.fault.KeepFault.{KeepFault}
 use Rattle.wm_traits.specs.declared.fault.KeepFault.TheVariants as keep
@@ -26,22 +25,12 @@ use Rattle.wm_journal.specs.declared.open_fault.OpenFault.{OpenFault}
 use Rattle.wm_journal.specs.declared.open_fault.OpenFault.TheVariants.{KeeperFault, BadRow, NoMemory}
 use Rattle.wm_journal.proofs.Trails.{trail_opened}
 use Rattle.wm_run.specs.Kept.{HasBadRow}
+use Rattle.wm_run.proofs.Openings.{rows_found}
 use Rattle.wm_floor.specs.Floor.{IsLeftOrOpened}
 use Rattle.wm_floor.specs.Ledger.{behind}
 use Rattle.wm_floor.specs.declared.opened.Opened.{Opened}
 use Rattle.wm_serve.specs.Ending.{HasWritten}
 use Rattle.wm_serve.specs.Server.{HasHistory, HasNone, IsServeStatus, IsUnopened, open_status, store_status}
-
-is_told : {A : Type 0} (told : Option A) → is_some told ≡ true → told ≡ None → ⊥
-is_told told some none = absurd (false≢true (sym (ap is_some none) ∙ some))
-
--- the rows that a machine opened with are those that were told, where the tables are told to the end
-rows_found : (tables : Option (List Row)) (trail trail' trail'' : Option (List (List Row))) (tables'' : Option (List Row)) (rows : List Row) (more : List (List Row)) → IfSome tables (λ told. told ≡ rows) → Grows trail trail' more → (trail' ≡ None → trail'' ≡ None) → is_some trail ≡ is_some tables → is_some trail'' ≡ is_some tables'' → IfSome tables'' (λ (_ : List Row). tables ≡ Some rows)
-rows_found tables trail trail' trail'' None rows more told grown untold both both' = tt
-rows_found tables trail None trail'' (Some last) rows more told grown untold both both' = absurd (is_told trail'' both' (untold refl))
-rows_found tables None (Some mid) trail'' (Some last) rows more told grown untold both both' = absurd grown
-rows_found None (Some first) (Some mid) trail'' (Some last) rows more told grown untold both both' = absurd (true≢false both)
-rows_found (Some x) (Some first) (Some mid) trail'' (Some last) rows more told grown untold both both' = ap Some told
 
 -- a server over a keeper whose floor was opened
 pub opened_server : {K : Type 0} (offset : ℤ) (status : ℕ) (log : List Entry) (o : Opened K) (found opened closed : Telling) (Done : State → List Entry → Type 0) → IsOpened offset o.state found opened → IsLegal o.state log → (status ≡ 0 → active (reached (behind o log)) ≡ 0) → HasTables (reached (behind o log)) closed.tables → HasTrail (behind o log) found closed → (opened.trail ≡ None → closed.trail ≡ None) → is_some found.trail ≡ is_some found.tables → is_some closed.trail ≡ is_some closed.tables → Done o.state log → HasHistory offset status log found closed Done

@@ -12,36 +12,11 @@ use Rattle.wm_law.specs.declared.call.Entry.{Entry}
 use Rattle.wm_law.specs.declared.state.State.{State}
 use Rattle.wm_plan.specs.declared.plan.ServePlan.{ServePlan}
 use Rattle.wm_tables.specs.Restart.{IsBad}
-use Rattle.wm_journal.specs.History.{History}
 use Rattle.wm_journal.specs.Keeping.{IsLeft, Telling}
-use Rattle.wm_journal.specs.Trail.{HasTrail, tables_along, without_repeats}
-use Rattle.wm_journal.proofs.Staying.{Stays-grows, Stays-same}
+use Rattle.wm_journal.proofs.Staying.{Stays-same}
 use Rattle.wm_run.specs.Kept.{HasBadRow}
-use Rattle.wm_run.proofs.Openings.{Grows-stays, Stays-then, stays_back, stays_if}
+use Rattle.wm_run.proofs.Openings.{Stays-then, stays_back, stays_if, trail_of_store}
 use Rattle.wm_serve.specs.Server.{HasHistory, HasLog, IsServeStatus, IsUnopened, OpensPlanned, store_status}
-
--- the trail is that of the history, where the tables are told to the end
-trail_of_store : (h : History) (old found closed new : Telling) (rows : List Row) → IfSome new.tables (λ _. found.tables ≡ Some rows) → Stays old.tables found.tables → Stays old.trail found.trail → Stays closed.trail new.trail → is_some new.trail ≡ is_some new.tables → HasTrail h found closed → HasTrail h old new
-trail_of_store h old found closed new rows were tables trail trail' both has = go old.tables tables new.trail trail' both
-  where
-    along : List Row → List (List Row)
-    along rs = without_repeats rs (tables_along h.opened h.log)
-
-    grown : (told : List Row) → Stays (Some told) found.tables → (now : List (List Row)) → Stays closed.trail (Some now) → found.tables ≡ Some rows → Grows old.trail (Some now) (along told)
-    grown told stays now trails is =
-        let first : Some told ≡ Some rows = stays_back rows (Some told) found.tables stays is in
-        let its : IfSome (Some rows) (λ rs. Grows found.trail closed.trail (along rs)) = subst (λ (o : Option (List Row)). IfSome o (λ rs. Grows found.trail closed.trail (along rs))) is has in
-        let grows = Stays-grows old.trail found.trail (Some now) (along rows) trail (Grows-stays found.trail closed.trail (Some now) (along rows) its trails) in
-        subst (λ (o : Option (List Row)). IfSome o (λ rs. Grows old.trail (Some now) (along rs))) (sym first) grows
-
-    by : (o : Option (List Row)) → IfSome o (λ _. found.tables ≡ Some rows) → is_some o ≡ true → found.tables ≡ Some rows
-    by None h none = absurd (false≢true none)
-    by (Some last) h some = h
-
-    go : (o : Option (List Row)) → Stays o found.tables → (t : Option (List (List Row))) → Stays closed.trail t → is_some t ≡ is_some new.tables → IfSome o (λ rs. Grows old.trail t (along rs))
-    go None s t k e = tt
-    go (Some told) s None k e = tt
-    go (Some told) s (Some now) k e = grown told s now k (by new.tables were (sym e))
 
 history_of_store : (offset : ℤ) (status : ℕ) (log : List Entry) (old found closed new : Telling) (Done : State → List Entry → Type 0) → Stays old.tables found.tables → Stays old.trail found.trail → Stays closed.tables new.tables → Stays closed.trail new.trail → is_some new.trail ≡ is_some new.tables → HasHistory offset status log found closed Done → HasHistory offset status log old new Done
 history_of_store offset status log old found closed new Done tables trail tables' trail' both h =
