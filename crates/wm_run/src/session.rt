@@ -208,6 +208,7 @@ impl<K: Keeper> Run<K> {
         ensures causes { HasMonitorCauses result (P.faults spawner.old) (P.faults spawner.new) }
         ensures floor_causes { HasFloorCauses (IsErrOf result Halt.KeeperFault) (IsErrOf result Halt.LogFull) 4000000 self.new }
     {
+        let until = waiting.pending.next;
         match self.monitor.wait(
             rt,
             alloc,
