@@ -22,15 +22,15 @@ module _ {K : Type 0} where
       let nothing = ap hands_of (nil_from_length (added p q) none) in
       absurd (omega (arith, many, nothing))
 
-  -- behind what the session had seen
-  pub left_no_order : (r : Run K) (f : Floored K) (p : Seen K) (at : ℕ) (w : Pending) → r.floor ≡ f → p.number ≡ monitor_pass → length r.session.seen ≤ length p.seen → length (added p r.watch) ≡ 0 → WaitedAt f p r.watch at w → (w.orders ≡ 0) ⊎ (hands_of (added p r.watch) ≡ 256) → LeftNoOrder r
-  left_no_order r f p at w same one shown none waited handed =
+  -- behind what it had seen before
+  pub left_no_order : (r : Run K) (f : Floored K) (p : Seen K) (least at : ℕ) (w : Pending) → r.floor ≡ f → p.number ≡ monitor_pass → least ≤ length p.seen → length (added p r.watch) ≡ 0 → WaitedAt f p r.watch at w → (w.orders ≡ 0) ⊎ (hands_of (added p r.watch) ≡ 256) → LeftNoOrder r least
+  left_no_order r f p least at w same one shown none waited handed =
       let told : w.orders ≡ orders_left (reached (behind f.opening (take at r.watch.seen))) p.number = ap (λ (x : Pending). x.orders) waited.pending in
       let no = no_orders p r.watch w none handed in
       let num : orders_left (reached (behind f.opening (take at r.watch.seen))) monitor_pass ≡ 0 = ap (orders_left (reached (behind f.opening (take at r.watch.seen)))) (sym one) ∙ (sym told ∙ no) in
       record {
         at = at;
-        least = let k = waited.seen.least in omega (arith, shown, k);
+        behind_least = let k = waited.seen.least in omega (arith, shown, k);
         most = waited.seen.most;
         none = subst (λ (g : Floored K). orders_left (reached (behind g.opening (take at r.watch.seen))) monitor_pass ≡ 0) (sym same) num;
       }

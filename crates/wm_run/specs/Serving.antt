@@ -60,10 +60,10 @@ module _ {K : Type 0} where
   abbrev pub RunServes : {P : Type 0} → (P → Option (List Asked)) → (P → Option (List Told)) → (P → ℕ) → (P → ℕ) → Run K → P → Run K → P → Type 0
   RunServes asked told misses faults old spawner new spawner' = Serves old new (spawner_seen asked told misses faults spawner) (spawner_seen asked told misses faults spawner')
 
-  -- the monitor left no order as it looked last, behind all that the session has seen
-  pub record LeftNoOrder (r : Run K) : Type 0 where
+  -- the monitor left no order as it looked last, behind so many entries at the least
+  pub record LeftNoOrder (r : Run K) (least : ℕ) : Type 0 where
     pub at : ℕ
-    pub least : length r.session.seen ≤ at
+    pub behind_least : least ≤ at
     pub most : at ≤ length r.watch.seen
     pub none : orders_left (reached (behind r.floor.opening (take at r.watch.seen))) monitor_pass ≡ 0
 

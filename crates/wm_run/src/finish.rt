@@ -67,6 +67,7 @@ impl<K: Keeper> Run<K> {
         ensures floor { self.new.floor ≡ self.old.floor }
         ensures session { self.new.session ≡ self.old.session }
         ensures serves { RunServes P.asked P.told P.misses P.faults self.old spawner.old self.new spawner.new }
+        ensures orders { OnOk result (LeftNoOrder self.new (length self.old.watch.seen)) }
         ensures clear { OnOk result (IsClear self.new.monitor) }
         ensures causes { HasMonitorCauses result (P.faults spawner.old) (P.faults spawner.new) }
         ensures floor_causes { HasFloorCauses (IsErrOf result Halt.KeeperFault) (IsErrOf result Halt.LogFull) 4000000 self.new }
@@ -140,7 +141,7 @@ impl<K: Keeper> Run<K> {
         ensures not_begun { OnErr result (AtMostOne (start_call ctl.now) (seen_since self.old self.new)) }
         ensures unmonitored { OnErr result (IsUncalled (seen_since self.old self.new) → self.new.watch.mine ≡ self.old.watch.mine) }
         ensures begun { OnOk result (OneCall (start_call ctl.now) (seen_since self.old self.new)) }
-        ensures orders { OnOk result (length (added self.old.watch self.new.watch) ≡ 0 → LeftNoOrder self.new) }
+        ensures orders { OnOk result (length (added self.old.watch self.new.watch) ≡ 0 → LeftNoOrder self.new (length self.new.session.seen)) }
         ensures quiet { OnOk result (length (added self.old.watch self.new.watch) ≡ 0 → self.old.monitor.failed_kill ≡ None → IsEmpty (P.reporting spawner.old)) }
         ensures causes { HasMonitorCauses result (P.faults spawner.old) (P.faults spawner.new) }
         ensures floor_causes { HasFloorCauses (IsErrOf result Halt.KeeperFault) (IsErrOf result Halt.LogFull) (min self.new.floor.opening.limit 4000000) self.new }

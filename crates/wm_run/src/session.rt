@@ -244,7 +244,7 @@ impl<K: Keeper> Run<K> {
         ensures down { IfOk result (λ r. r.down ≡ is_down (seen_since self.old self.new)) }
         ensures stopped { OnErr result (IsCutShort (Calls user.now command)
             (seen_since self.old self.new) (O.written out.old) (O.written out.new)) }
-        ensures orders { OnOk result (length (added self.old.watch self.new.watch) ≡ 0 → LeftNoOrder self.new) }
+        ensures orders { OnOk result (length (added self.old.watch self.new.watch) ≡ 0 → LeftNoOrder self.new (length self.new.session.seen)) }
         ensures quiet { OnOk result (length (added self.old.watch self.new.watch) ≡ 0 → self.old.monitor.failed_kill ≡ None → IsEmpty (P.reporting spawner.old)) }
         ensures causes { HasCauses result (O.faults out.old) (O.faults out.new) (P.faults spawner.old) (P.faults spawner.new) }
         ensures floor_causes { HasFloorCauses (IsErrOf result Halt.KeeperFault) (IsErrOf result Halt.LogFull) (min self.new.floor.opening.limit 4000000) self.new }
