@@ -4,7 +4,6 @@ use wm_shared_monitor::SharedMonitor;
 use wm_traits::Keeper;
 
 /// The floor of a run, the session's pass of it, the monitor's, and the monitor.
-#[derive(Drop)]
 pub struct Run<K: Keeper> {
     pub floor: Floor<K>,
     pub session: FloorPass<K>,
