@@ -1,5 +1,5 @@
 -- What the session has seen since, with a call of its own or without one, and what is answered by it.
-use Rattle.std.proofs.Common.{◌≡◌, ℕ, Bool, List, [], ◌∷◌, Option, sym, ap, ◌∙◌, refl, take, append-nil}
+use Rattle.std.proofs.Common.{◌≡◌, ℕ, Bool, List, [], ◌∷◌, Option, Some, None, IfSome, sym, ap, ◌∙◌, refl, take, append-nil}
 use Rattle.wm_law.specs.declared.call.Call.{Call}
 use Rattle.wm_law.specs.declared.call.Call.TheVariants.{Change}
 use Rattle.wm_law.specs.declared.call.Entry.{Entry}
@@ -11,6 +11,7 @@ use Rattle.wm_traits.specs.Told.{Grows}
 use Rattle.wm_turn.specs.Passed.{own}
 use Rattle.wm_floor.specs.Floor.{Floored, HasLooked, IsPassOf, IsSame, Seen, entry_of}
 use Rattle.wm_floor.specs.Ledger.{caller_of}
+use Rattle.wm_floor.specs.declared.opened.Opened.{Opened}
 use Rattle.wm_monitor.specs.Lists.{since}
 use Rattle.wm_shared_monitor.proofs.Passes.{own_since, since-by}
 use Rattle.wm_run.specs.Answer.{with_end, is_power_down, is_refused}
@@ -45,6 +46,14 @@ commanded_some {user} {c} {reply} {es} call before now n h same said = record {
 
 pub commanded_down : {call : Call} {reply : Reply} {es : List Entry} (down : Bool) → MakesCall call reply es → down ≡ is_power_down reply → down ≡ is_down es
 commanded_down {call} {reply} {es} down h is = is ∙ (ap is_power_down h.replied ∙ sym (down_called es h.entry h.only))
+
+-- at the moment that the clock gave
+pub called_at : {K : Type 0} {o : Opened K} {c : Call} {reply : Reply} (now : ℕ) (coming : Option ℕ) (p q : Seen K) → IfSome coming (λ told. now ≡ told) → Called o c (Some now) p q reply → Called o c coming p q reply
+called_at now coming p q told h = record { found = h.found; now = h.now; moment = by coming told; begins = h.begins; seen = h.seen; mine = h.mine; replied = h.replied }
+  where
+    by : (o : Option ℕ) → IfSome o (λ told. now ≡ told) → IfSome o (λ told. h.now ≡ told)
+    by None k = tt
+    by (Some t) k = h.moment ∙ k
 
 -- what the session's pass has seen since
 

@@ -14,16 +14,16 @@ pub returns-in_err-change-clause-serves : goal.returns-in_err-change-clause-serv
 returns-in_err-change-clause-serves g c = serves_none c.args.self.now _ c.requires.ready
 
 pub returns-in_err-reply-clause-serves : goal.returns-in_err-reply-clause-serves
-returns-in_err-reply-clause-serves g c = c.call-reply.ensures.serves _
+returns-in_err-reply-clause-serves g c = c.call.ensures.serves _
 
 pub returns-in_err-answered-clause-serves : goal.returns-in_err-answered-clause-serves
-returns-in_err-answered-clause-serves g c = c.call-reply.ensures.serves _
+returns-in_err-answered-clause-serves g c = c.call.ensures.serves _
 
 pub returns-in_err-turn-clause-serves : goal.returns-in_err-turn-clause-serves
-returns-in_err-turn-clause-serves g c = serves_then _ _ _ (c.call-reply.ensures.serves _) c.turn.ensures.serves
+returns-in_err-turn-clause-serves g c = serves_then _ _ _ (c.call.ensures.serves _) c.turn.ensures.serves
 
 pub returns-clause-serves : goal.returns-clause-serves
-returns-clause-serves g c = serves_then _ _ _ (c.call-reply.ensures.serves _) c.turn.ensures.serves
+returns-clause-serves g c = serves_then _ _ _ (c.call.ensures.serves _) c.turn.ensures.serves
 
 pub returns-clause-answered : goal.returns-clause-answered
 returns-clause-answered g c = commanded _ _ _ c.in_ok-answered.answered.faulty c.in_ok-reply.ensures.made c.in_ok-change.ensures.call (c.in_ok-answered.ensures.ok c.args.command c.in_ok-sayings.ensures) c.in_ok-answered.ensures.faulty

@@ -13,13 +13,13 @@ use Rattle.wm_run.proofs.Wholes.{unbegun_since, uncalled_rest}
 use Rattle.wm_run.proofs.running.Run.serve.Goals as goal
 
 pub returns-in_err-answered-clause-serves : goal.returns-in_err-answered-clause-serves
-returns-in_err-answered-clause-serves g c = serves_then _ _ _ c.begin.ensures.serves c.take_all-answered.ensures.serves
+returns-in_err-answered-clause-serves g c = serves_then _ _ _ c.begin.ensures.serves c.take_all.ensures.serves
 
 pub returns-in_err-finish-clause-serves : goal.returns-in_err-finish-clause-serves
-returns-in_err-finish-clause-serves g c = serves_then _ _ _ c.begin.ensures.serves (serves_then _ _ _ c.take_all-answered.ensures.serves c.finish.ensures.serves)
+returns-in_err-finish-clause-serves g c = serves_then _ _ _ c.begin.ensures.serves (serves_then _ _ _ c.take_all.ensures.serves c.finish.ensures.serves)
 
 pub returns-clause-serves : goal.returns-clause-serves
-returns-clause-serves g c = serves_then _ _ _ c.begin.ensures.serves (serves_then _ _ _ c.take_all-answered.ensures.serves c.finish.ensures.serves)
+returns-clause-serves g c = serves_then _ _ _ c.begin.ensures.serves (serves_then _ _ _ c.take_all.ensures.serves c.finish.ensures.serves)
 
 pub returns-in_err-begin-clause-input : goal.returns-in_err-begin-clause-input
 returns-in_err-begin-clause-input g c log h =
@@ -37,41 +37,41 @@ pub returns-in_err-answered-clause-input : goal.returns-in_err-answered-clause-i
 returns-in_err-answered-clause-input g c log h =
     let a = c.args.self.now in
     let b = c.begin.new.self in
-    let d = c.take_all-answered.new.self in
+    let d = c.take_all.new.self in
     let begun = c.begin.ensures.serves in
-    let taken = c.take_all-answered.ensures.serves in
+    let taken = c.take_all.ensures.serves in
     let p = err_from_is_err_and c.from_residual-in_err-answered.result c.from_residual-in_err-answered.ensures.1 in
-    came_lines c.args.settings.now c.from_residual-in_err-answered.result c.take_all-answered.result _ p.0 (session_of a) (session_of b) (session_of d) (behind a.floor.opening log) _ _ _ _ c.in_err-answered.was p.1 p.2
-    (continues _ _ begun) (continues _ _ taken) (to_whole a d log (taken.floor ∙ begun.floor) h.history.session) (uncalled_rest d log c.take_all-answered.ensures.ready h.history) c.in_ok-begin.ensures.begun c.take_all-answered.ensures.input
+    came_lines c.args.settings.now c.from_residual-in_err-answered.result c.take_all.result _ p.0 (session_of a) (session_of b) (session_of d) (behind a.floor.opening log) _ _ _ _ c.in_err-answered.was p.1 p.2
+    (continues _ _ begun) (continues _ _ taken) (to_whole a d log (taken.floor ∙ begun.floor) h.history.session) (uncalled_rest d log c.take_all.ensures.ready h.history) c.in_ok-begin.ensures.begun c.take_all.ensures.input
 
 pub returns-in_err-finish-clause-input : goal.returns-in_err-finish-clause-input
 returns-in_err-finish-clause-input g c log h =
     let a = c.args.self.now in
     let b = c.begin.new.self in
-    let d = c.take_all-answered.new.self in
+    let d = c.take_all.new.self in
     let e = c.finish.new.self in
     let begun = c.begin.ensures.serves in
-    let taken = c.take_all-answered.ensures.serves in
+    let taken = c.take_all.ensures.serves in
     let ended = c.finish.ensures.serves in
     let p = err_from_is_err_and c.from_residual-in_err-finish.result c.from_residual-in_err-finish.ensures.1 in
     let was = c.in_err-finish.was in
     let is = p.1 in
     let same = p.2 in
     let front = starts_again log e.session.seen d.session.seen h.history.session (since d.session.seen e.session.seen, ended.session.seen) in
-    came_behind c.args.settings.now c.from_residual-in_err-finish.result c.take_all-answered.result p.0 c.in_ok-answered.answered (session_of a) (session_of b) (session_of d) (behind a.floor.opening log) _ _ _ _ c.in_ok-answered.was p.1 (λ f. c.finish.ensures.causes.no_read_fault (cc)) (λ f. c.finish.ensures.causes.not_full (cc))
-    (continues _ _ begun) (continues _ _ taken) (to_whole a d log (taken.floor ∙ begun.floor) front) c.in_ok-begin.ensures.begun c.take_all-answered.ensures.input
+    came_behind c.args.settings.now c.from_residual-in_err-finish.result c.take_all.result p.0 c.in_ok-answered.answered (session_of a) (session_of b) (session_of d) (behind a.floor.opening log) _ _ _ _ c.in_ok-answered.was p.1 (λ f. c.finish.ensures.causes.no_read_fault (cc)) (λ f. c.finish.ensures.causes.not_full (cc))
+    (continues _ _ begun) (continues _ _ taken) (to_whole a d log (taken.floor ∙ begun.floor) front) c.in_ok-begin.ensures.begun c.take_all.ensures.input
     (subst (λ (t : Bool). MayClose t (session_of d) (since d.session.seen log)) c.in_ok-answered.ensures.down (c.in_err-finish.ensures.not_ended log h.history)) (λ up. c.in_ok-answered.ensures.end (c.in_ok-answered.ensures.down ∙ up))
 
 pub returns-clause-input : goal.returns-clause-input
 returns-clause-input g c log h =
     let a = c.args.self.now in
     let b = c.begin.new.self in
-    let d = c.take_all-answered.new.self in
+    let d = c.take_all.new.self in
     let e = c.finish.new.self in
     let begun = c.begin.ensures.serves in
-    let taken = c.take_all-answered.ensures.serves in
+    let taken = c.take_all.ensures.serves in
     let ended = c.finish.ensures.serves in
     let front = starts_again log e.session.seen d.session.seen h.history.session (since d.session.seen e.session.seen, ended.session.seen) in
-    came_session c.args.settings.now c.take_all-answered.result c.in_ok-answered.answered (session_of a) (session_of b) (session_of d) (behind a.floor.opening log) _ _ _ _ c.in_ok-answered.was
-    (continues _ _ begun) (continues _ _ taken) (to_whole a d log (taken.floor ∙ begun.floor) front) c.in_ok-begin.ensures.begun c.take_all-answered.ensures.input
+    came_session c.args.settings.now c.take_all.result c.in_ok-answered.answered (session_of a) (session_of b) (session_of d) (behind a.floor.opening log) _ _ _ _ c.in_ok-answered.was
+    (continues _ _ begun) (continues _ _ taken) (to_whole a d log (taken.floor ∙ begun.floor) front) c.in_ok-begin.ensures.begun c.take_all.ensures.input
     (subst (λ (t : Bool). Closes t (session_of d) (since d.session.seen log)) c.in_ok-answered.ensures.down (c.in_ok-finish.ensures.ended log h.history)) (λ up. c.in_ok-answered.ensures.end (c.in_ok-answered.ensures.down ∙ up))
