@@ -56,9 +56,9 @@ pub record HasInputCauses {T : Type 0} (result : Result T Halt) (read_before rea
   pub wait_fault : IsErrOf result WaitFault → raised looked_before ≤ looked_now
 
 -- the faults of the floor that are told have their causes: a mark of the two passes isn't 0, or one of them has seen so many entries at the least
-pub record HasFloorCauses {K : Type 0} (KeeperFault LogFull : Type 0) (least : ℕ) (r : Run K) : Type 0 where
-  pub keeper_fault : KeeperFault → 1 ≤ r.session.mark + r.watch.mark
-  pub log_full : LogFull → least ≤ max (length r.session.seen) (length r.watch.seen)
+pub record HasFloorCauses {K : Type 0} (Failed Full : Type 0) (least : ℕ) (r : Run K) : Type 0 where
+  pub keeper_fault : Failed → 1 ≤ r.session.mark + r.watch.mark
+  pub log_full : Full → least ≤ max (length r.session.seen) (length r.watch.seen)
 
 -- a monitor that kept no report keeps none
 abbrev pub KeepsNone : Option Report → Option Report → Type 0
