@@ -26,8 +26,7 @@ use std::sync::Wait;
 use wm_core::Setup;
 use wm_floor::{Closed, Floor, FloorPass};
 use wm_journal::OpenFault;
-use wm_monitor::{MONITOR, Report};
-use wm_shared_monitor::SharedMonitor;
+use wm_monitor::{MONITOR, Monitor, Report};
 use wm_traits::{Clock, Keeper, Sink, Source, Spawner};
 
 // What a machine opens with.
@@ -238,7 +237,7 @@ pub fn run_kept<I: Source, O: Sink, K: Keeper, P: Spawner, C: Clock, R: Wait>(
         floor,
         session,
         watch,
-        monitor: SharedMonitor::new(),
+        monitor: Monitor::new(),
     };
     let end = run.serve(rt, alloc, input, out, spawner, clock, settings);
     run.close(rt, end)
