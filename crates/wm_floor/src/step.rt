@@ -31,7 +31,7 @@ pub(crate) fn step<K: Keeper>(
     ensures missed { HasMissed misses.old misses.new result }
     ensures never_full { NeverFull result }
 {
-    match stored.answer(alloc, entry.caller, &entry.call, entry.moment) {
+    match stored.step(alloc, entry.caller, &entry.call, entry.moment) {
         Ok(Replied { reply, copy }) => {
             // By a call, since a reply that goes out of scope is taken apart here, which is dear to prove.
             drop(mem::replace(&mut entry.reply, reply));

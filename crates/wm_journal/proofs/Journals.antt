@@ -1,4 +1,4 @@
--- What a call of the journal keeps.
+-- What a call behind a history keeps.
 use Rattle.std.proofs.Common.{◌≡◌, ℕ, ◌+◌, ◌<◌, ◌≤◌, ◌^◌, List, [], ◌∷◌, ◌++◌, length, sym, subst, ap, ◌∙◌, arith}
 use Rattle.std.proofs.lemmas.List.{length_push}
 use Rattle.wm_law.specs.declared.call.Call.{Call}
@@ -55,11 +55,11 @@ module _ (h : History) (most : ℕ) (s t : State) (caller : ℕ) (call : Call) (
     reply = subst (λ (u : State). said ≡ (step u caller call now).reply) k.journal.state k.reply;
   }
 
-  pub state_with : t ≡ reached with_entry
+  state_with : t ≡ reached with_entry
   state_with = k.state ∙ (ap (λ (u : State). (step u caller call now).state) k.journal.state ∙ sym (after-append h.opened h.log (e ∷ [])))
 
   -- the rows were kept from the state that the history reached to the one that it reaches with the entry
-  pub kept_with : IsKept (reached h) (reached with_entry) mid new
+  kept_with : IsKept (reached h) (reached with_entry) mid new
   kept_with = subst (λ (u : State). IsKept (reached h) u mid new) state_with (subst (λ (u : State). IsKept u t mid new) k.journal.state k.kept)
 
   pub journal_with : IsJournal with_entry most t old new

@@ -1,10 +1,9 @@
 -- The history of a machine, and what a call adds to it.
-use Rattle.std.specs.Prelude.{ℕ, ◌-◌, List, [], ◌∷◌, ◌++◌, length, Option, option_and_then, slice_get}
-use Rattle.wm_base.specs.declared.job.Asked.{Asked}
+use Rattle.std.specs.Prelude.{ℕ, List, [], ◌∷◌, ◌++◌}
 use Rattle.wm_law.specs.declared.call.Call.{Call}
 use Rattle.wm_law.specs.declared.call.Entry.{Entry}
 use Rattle.wm_law.specs.declared.state.State.{State}
-use Rattle.wm_law.specs.History.{after, order_in}
+use Rattle.wm_law.specs.History.{after}
 use Rattle.wm_law.specs.Machine.{step}
 
 -- the state that a machine was opened with, and the entries of its calls
@@ -23,11 +22,3 @@ entry_at h caller call now = record { caller = caller; call = call; moment = now
 -- the history with that entry at its end
 abbrev pub with_call : History → ℕ → Call → ℕ → History
 with_call h caller call now = record { opened = h.opened; log = h.log ++ entry_at h caller call now ∷ [] }
-
--- the last entry
-abbrev pub last_of : History → Option Entry
-last_of h = slice_get h.log (length h.log - 1)
-
--- what the last entry orders
-abbrev pub last_order : History → Option Asked
-last_order h = option_and_then (λ e. order_in e.reply) (last_of h)

@@ -1,10 +1,8 @@
-pub mod CallFaults
 pub mod History
 pub mod Journaled
 pub mod Keeping
 pub mod Limit
 pub mod OpenFaults
-pub mod Passes
 pub mod Stored
 pub mod Taken
 pub mod Trail

@@ -1,7 +1,6 @@
 // Why a call isn't made.
-use std::alloc::{AllocError, AllocFailed};
+use std::alloc::AllocError;
 use thiserror::Error;
-use wm_traits::KeepFault;
 
 /// Why a call isn't made. The history, the state and the rows are as before then.
 #[derive(Clone, Copy, Debug, Error)]
@@ -25,19 +24,5 @@ impl From<AllocError> for CallFault {
 
     fn from(_: AllocError) -> CallFault {
         CallFault::NoMemory
-    }
-}
-
-impl From<KeepFault> for CallFault {
-    ghost use Rattle.std.specs.Prelude.{◌≡◌};
-    ghost use Rattle.wm_journal.specs.CallFaults.{of_keep};
-
-    ghost from_gives = { λ fault call_fault. call_fault ≡ of_keep fault };
-
-    fn from(fault: KeepFault) -> CallFault {
-        match fault {
-            KeepFault::Failed => CallFault::KeeperFault,
-            KeepFault::NoMemory => CallFault::NoMemory,
-        }
     }
 }

@@ -63,8 +63,8 @@ fn last_changes(
     )
 }
 
-/// Keeps the rows that the last step changed.
-pub(crate) fn keep_step<K: Keeper>(
+// Keeps the rows that the last step changed.
+fn keep_step<K: Keeper>(
     alloc: Global,
     keeper: &mut K,
     core: &Core,

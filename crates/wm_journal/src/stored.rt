@@ -10,7 +10,7 @@ ghost use Rattle.wm_journal.specs.Stored.{HasTables};
 ghost use Rattle.wm_views.specs.Views.{shown};
 
 use crate::OpenFault;
-use crate::keeping::{counts, keep_copied, keep_step};
+use crate::keeping::{counts, keep_copied};
 use crate::opening::open_core;
 use crate::viewing::view;
 use std::alloc::Global;
@@ -67,49 +67,9 @@ impl<K: Keeper> StoredCore<K> {
         }
     }
 
-    /// One step, whose rows are kept in one call, unless there are none, before it answers. An `Err` is a fault of the keeper,
-    /// which it has counted, or want of memory, here or there; it leaves the state and the rows.
+    /// One step, whose reply is copied and whose rows are then kept in one call, unless there are none, before it answers. An
+    /// `Err` is a fault of the keeper, which it has counted, or want of memory, here or there; it leaves the state and the rows.
     pub fn step(
-        &mut self,
-        alloc: Global,
-        caller: u32,
-        call: &Call,
-        now: Moment,
-    ) -> Result<Reply, KeepFault>
-        requires ranges { IsCall call.now }
-        ensures reply { IfOk result (λ r. r ≡ (step self.old.state caller call.now now).reply) }
-        ensures state { OnOk result (self.new.state ≡ (step self.old.state caller call.now now).state) }
-        ensures kept { OnOk result (IsKept self.old.state self.new.state (telling K.tables K.trail self.old.keeper) (telling K.tables K.trail self.new.keeper)) }
-        ensures err { OnErr result (self.new.state ≡ self.old.state) }
-        ensures left { OnErr result (IsLeft (telling K.tables K.trail self.old.keeper) (telling K.tables K.trail self.new.keeper)) }
-        ensures cause { HasKeepCause (K.faults self.old.keeper) (K.faults self.new.keeper) result }
-    {
-        let removed = removed_number(self.core.objects(), call);
-        let before = counts(&self.core);
-        // The range of the moment is what the law of changes needs.
-        let _moment = now.get();
-        let reply = self.core.step(alloc, caller, call, now)?;
-        let kept = keep_step(
-            alloc,
-            &mut self.keeper,
-            &self.core,
-            call,
-            &reply,
-            removed,
-            before,
-        );
-        match kept {
-            Ok(()) => Ok(reply),
-            Err(fault) => {
-                self.core.take_back();
-                Err(fault)
-            }
-        }
-    }
-
-    /// The same step, whose reply is copied before the rows are kept. An `Err` may be want of memory for the copy too, and is as
-    /// one of `step`.
-    pub fn answer(
         &mut self,
         alloc: Global,
         caller: u32,

@@ -1,16 +1,12 @@
 -- Laws of lists that grow.
-use Rattle.std.proofs.Common.{◌≡◌, ◌<◌, List, [], ◌++◌, length, sym, ap, ◌∙◌, append_assoc, inl, inr, arith}
+use Rattle.std.proofs.Common.{◌≡◌, ◌<◌, List, [], ◌++◌, sym, ap, ◌∙◌, append_assoc, inl, inr, arith}
 use Rattle.std.proofs.Math.Seq.{drop-append_seam}
-use Rattle.std.proofs.lemmas.List.{length-append}
 use Rattle.std.proofs.lemmas.List.Elements.{Contains-append_left, Contains-append_right, Contains-append_cases}
 use Rattle.wm_monitor.specs.Lists.{since, Extends, IsAmong}
 
 -- a list grows by what is put at its end
 pub since-append : {A : Type 0} (old more : List A) → since old (old ++ more) ≡ more
 since-append old more = drop-append_seam old more
-
-pub Extends-append : {A : Type 0} (old more : List A) → Extends old (old ++ more)
-Extends-append old more = ap (λ xs. old ++ xs) (sym (since-append old more))
 
 -- what has grown twice has grown by both
 pub since-then : {A : Type 0} (a b c : List A) → Extends a b → Extends b c → since a c ≡ since a b ++ since b c
@@ -21,12 +17,6 @@ since-then a b c ab bc =
 pub Extends-then : {A : Type 0} (a b c : List A) → Extends a b → Extends b c → Extends a c
 Extends-then a b c ab bc =
     bc ∙ (ap (λ xs. xs ++ since b c) ab ∙ (append_assoc a (since a b) (since b c) ∙ ap (λ xs. a ++ xs) (sym (since-then a b c ab bc))))
-
--- a list that has grown, and then become longer, is longer
-pub longer_then : {A : Type 0} (a b c : List A) → Extends a b → length b < length c → length a < length c
-longer_then a b c ab bc =
-    let whole = ap length ab ∙ length-append a (since a b) in
-    omega arith
 
 -- a list is among itself with more
 pub IsAmong-front : {A : Type 0} (xs ys : List A) → IsAmong xs (xs ++ ys)

@@ -1,129 +1,136 @@
--- Laws of a turn that makes no entry: there was nothing to do.
-use Rattle.std.proofs.Common.{◌≡◌, ◌⊎◌, ℕ, ◌+◌, ◌-◌, ◌<◌, ◌≤◌, List, [], ◌∷◌, ◌++◌, length, take, Option, Some, None, Result, Ok, sym, ap, subst, ◌∙◌, refl, inl, inr, arith}
-use Rattle.std.specs.Prelude.{IfSome}
-use Rattle.std.proofs.Math.Nat.{lt_of_not-le}
-use Rattle.std.proofs.Math.Seq.{drop-length, take-append_seam, take-length}
-use Rattle.std.proofs.lemmas.List.{append-nil, length-append, length_push, nil_from_length}
-use Rattle.wm_law.specs.declared.call.Call.TheVariants as call
-use Rattle.wm_law.specs.declared.call.Entry.{Entry}
-use Rattle.wm_law.specs.declared.state.State.{State}
-use Rattle.wm_law.specs.History.{after}
-use Rattle.wm_law.specs.declared.pending.Pending.{Pending}
-use Rattle.wm_law.specs.Pending.{next_moment, orders_left, pending}
-use Rattle.wm_journal.specs.History.{History, reached, entry_at, with_call}
-use Rattle.wm_traits.specs.declared.fault.Failed.{Failed}
+-- Laws of what a call of a monitor answers.
+use Rattle.std.proofs.Common.{◌≡◌, ◌⊎◌, ℕ, true, false, ◌<◌, ◌≤◌, List, length, take, drop, Option, Some, None, IfSome, sym, ap, subst, ◌∙◌, refl, inl, inr, arith}
+use Rattle.std.specs.Cmp.{nat_cmp_is}
+use Rattle.std.specs.Ordering.{is_le, nat_cmp}
+use Rattle.std.specs.declared.cmp.Ordering.TheVariants.{Less, Equal}
+use Rattle.std.proofs.Math.Nat.{eq-or-lt_of_le}
+use Rattle.std.proofs.Math.Seq.{take-append_seam}
+use Rattle.std.proofs.lemmas.Bool.{cases_lt, false≢true}
+use Rattle.std.proofs.lemmas.List.{length-append, take-append-le, take_all}
 use Rattle.wm_traits.specs.Told.{IsEmpty}
-use Rattle.wm_monitor.specs.Idle.{monitor_pass}
-use Rattle.wm_monitor.specs.Lists.{since, Extends}
-use Rattle.wm_monitor.specs.Monitor.{IsIdle, hands_of}
-use Rattle.wm_monitor.specs.Turned.{WaitedSince}
+use Rattle.wm_law.specs.declared.call.Entry.{Entry}
+use Rattle.wm_law.specs.declared.pending.Pending.{Pending}
+use Rattle.wm_law.specs.Pending.{next_moment, pending}
+use Rattle.wm_turn.specs.Passed.{own}
+use Rattle.wm_journal.specs.History.{reached}
+use Rattle.wm_monitor.specs.Lists.{since}
+use Rattle.wm_monitor.specs.Monitor.{hands_of}
 use Rattle.wm_monitor.specs.declared.report.Report.{Report}
-use Rattle.wm_monitor.proofs.Idles.{orders_told}
-use Rattle.wm_monitor.proofs.Lists.{Extends-then, longer_then}
+use Rattle.wm_floor.specs.Floor.{Floored, Seen}
+use Rattle.wm_floor.specs.Ledger.{behind, caller_of}
+use Rattle.wm_monitor.specs.Advance.{GoesOn, added}
+use Rattle.wm_monitor.specs.Turned.{HadNothing, IsSeenSince, WaitedAt, WasNotDue}
+use Rattle.wm_monitor.proofs.Parts.{count_then, hands_none, hands_then}
+use Rattle.wm_monitor.proofs.Passes.{GoesOn-none, GoesOn-then, own_since}
 
--- a list that has grown by nothing is the same
-pub same_list : {A : Type 0} (a b : List A) → Extends a b → length (since a b) ≡ 0 → b ≡ a
-same_list a b ab nothing = ab ∙ (ap (λ xs. a ++ xs) (nil_from_length (since a b) nothing) ∙ append-nil a)
+-- nothing is due by a moment
+abbrev IsLater : Option ℕ → Option ℕ → Type 0
+IsLater next coming = IfSome next (λ due. IfSome coming (λ now. now < due))
 
--- a list that is no longer in the end had not grown before
-not_grown : {A : Type 0} (a b c : List A) → Extends a b → Extends b c → length c - length a ≡ 0 → b ≡ a
-not_grown a b c ab bc none =
-    let n = ap length ab ∙ length-append a (since a b) in
-    let m = ap length bc ∙ length-append b (since b c) in
-    same_list a b ab (omega arith)
+pub later_none : (next coming : Option ℕ) → next ≡ None → IsLater next coming
+later_none next coming none = subst (λ (o : Option ℕ). IsLater o coming) (sym none) tt
+
+pub later_some : (next coming : Option ℕ) (due now : ℕ) → next ≡ Some due → now < due → IfSome coming (λ told. now ≡ told) → IsLater next coming
+later_some next coming due now is before told = subst (λ (o : Option ℕ). IsLater o coming) (sym is) (by coming told)
+  where
+    by : (o : Option ℕ) → IfSome o (λ told. now ≡ told) → IfSome o (λ told. told < due)
+    by None h = tt
+    by (Some moment) h = omega arith
+
+-- a moment that isn't at least another is before it
+told_le : (a b : ℕ) → a ≤ b → is_le (nat_cmp a b) ≡ true
+told_le a b h = by (eq-or-lt_of_le h)
+  where
+    by : (a ≡ b) ⊎ (a < b) → is_le (nat_cmp a b) ≡ true
+    by (inl same) = sym (ap is_le (nat_cmp_is a b Equal same))
+    by (inr less) = sym (ap is_le (nat_cmp_is a b Less less))
+
+pub not_yet : (told due now : ℕ) → told ≡ due → false ≡ is_le (nat_cmp told now) → now < due
+not_yet told due now same late = by (cases_lt now told)
+  where
+    by : (now < told) ⊎ (told ≤ now) → now < due
+    by (inl less) = omega arith
+    by (inr most) = absurd (false≢true (late ∙ told_le told now most))
 
 -- no report was kept, since none was sent
-none_kept : (kept : Option Report) (m n : ℕ) → IfSome kept (λ _. m < n) → n ≡ m → kept ≡ None
-none_kept None m n sent same = refl
-none_kept (Some r) m n sent same = absurd (omega arith)
+none_kept : (kept : Option Report) (n : ℕ) → IfSome kept (λ _. 1 ≤ n) → n ≡ 0 → kept ≡ None
+none_kept None n some none = refl
+none_kept (Some report) n some none = absurd (omega arith)
 
-not_pushed : (log : List Entry) (e : Entry) → log ≡ log ++ e ∷ [] → ⊥
-not_pushed log e is = let n = ap length is ∙ length_push log e in omega arith
+module _ {K : Type 0} (f : Floored K) where
+  seen_between : (p q r : Seen K) (at : ℕ) → GoesOn f p q → GoesOn f q r → at ≡ length q.seen → IsSeenSince p r at
+  seen_between p q r at h k is =
+      let a = ap length h.seen ∙ length-append p.seen (since p.seen q.seen) in
+      let b = ap length k.seen ∙ length-append q.seen (since q.seen r.seen) in
+      record { least = omega arith; most = omega arith }
 
--- the same history reaches the same state
-pub same_state : (old new : History) → new.opened ≡ old.opened → new.log ≡ old.log → reached new ≡ reached old
-same_state old new kept same = ap (λ (s : State). after s new.log) kept ∙ ap (after old.opened) same
+  -- this waited when the monitor looked, and since then it made no Hand
+  pub waited_before : (p q r : Seen K) (at : ℕ) (w : Pending) → GoesOn f p q → GoesOn f q r → hands_of (added q r) ≤ 0 → at ≡ length q.seen → w ≡ pending (reached (behind f.opening q.seen)) p.number → WaitedAt f p r at w
+  waited_before p q r at w h k no_hand is waits =
+      let front : take at r.seen ≡ q.seen = ap (λ (n : ℕ). take n r.seen) is ∙ (ap (take (length q.seen)) k.seen ∙ take-append_seam q.seen (since q.seen r.seen)) in
+      let rest : drop at r.seen ≡ since q.seen r.seen = ap (λ (n : ℕ). drop n r.seen) is in
+      let own_rest : own caller_of q.number (since q.seen r.seen) ≡ added q r = own_since f q r (since q.seen r.seen) (added q r) h.own k.own k.same k.seen k.mine in
+      let all : own caller_of p.number (drop at r.seen) ≡ added q r = ap (λ (n : ℕ). own caller_of n (drop at r.seen)) (sym h.same.number) ∙ (ap (own caller_of q.number) rest ∙ own_rest) in
+      let none = ap hands_of all in
+      record {
+        seen = seen_between p q r at h k is;
+        pending = waits ∙ ap (λ (xs : List Entry). pending (reached (behind f.opening xs)) p.number) (sym front);
+        no_hand = omega arith;
+      }
 
--- no job was due, since no Tick was made
-not_due : (next coming : Option ℕ) (f g : History) → g.log ≡ f.log → IfSome next (λ due. IfSome coming (λ now. due ≤ now → g ≡ with_call f monitor_pass call.Tick now)) → IfSome next (λ due. IfSome coming (λ now. now < due))
-not_due None coming f g same made = tt
-not_due (Some due) None f g same made = tt
-not_due (Some due) (Some now) f g same made = lt_of_not-le (λ passed. not_pushed f.log (entry_at f monitor_pass call.Tick now) (sym same ∙ ap (λ (h : History). h.log) (made passed)))
+  -- this waits
+  pub waited_now : (p q : Seen K) (at : ℕ) (w : Pending) → GoesOn f p q → at ≡ length q.seen → w ≡ pending (reached (behind f.opening q.seen)) p.number → WaitedAt f p q at w
+  waited_now p q at w h is waits =
+      let none = hands_none f q q refl in
+      waited_before p q q at w h (GoesOn-none f q h.own) (omega arith) is waits
 
--- no order was left, since no Hand was made
-no_order : (f g h : History) (p : Pending) → g.log ≡ f.log → h.log ≡ f.log → h.opened ≡ f.opened → p ≡ pending (reached h) monitor_pass → (p.orders ≡ 0) ⊎ (hands_of (since g.log h.log) ≡ 256) → orders_left (reached f) monitor_pass ≡ 0
-no_order f g h p eg eh kept told (inl none) =
-    ap (λ (s : State). orders_left s monitor_pass) (sym (same_state f h kept eh)) ∙ (sym (orders_told (reached h) p told) ∙ none)
-no_order f g h p eg eh kept told (inr many) =
-    let nothing : hands_of (since g.log h.log) ≡ 0 = ap (λ (log : List Entry). hands_of (since g.log log)) (eh ∙ sym eg) ∙ ap hands_of (drop-length g.log) in
-    absurd (omega arith)
+  -- nothing is due
+  pub not_due_now : (p q : Seen K) (at : ℕ) (w : Pending) (monitor : ℕ) (coming : Option ℕ) → GoesOn f p q → at ≡ length q.seen → w ≡ pending (reached (behind f.opening q.seen)) monitor → IsLater w.next coming → WasNotDue f p q coming
+  not_due_now p q at w monitor coming h is waits later =
+      let whole : take at q.seen ≡ q.seen = take_all at q.seen (omega arith) in
+      let next : w.next ≡ next_moment (reached (behind f.opening (take at q.seen))) = ap (λ (x : Pending). x.next) waits ∙ ap (λ (xs : List Entry). next_moment (reached (behind f.opening xs))) (sym whole) in
+      record {
+        at = at;
+        seen = seen_between p q q at h (GoesOn-none f q h.own) is;
+        due = subst (λ (o : Option ℕ). IsLater o coming) next later;
+      }
 
--- no child had a report, since none was sent
-no_report : (before now : Option (List ℕ)) (m n k : ℕ) → n ≡ m → k - m ≡ 0 → (now ≡ before) ⊎ (m < n) → IsEmpty now ⊎ (n < k) → IsEmpty before
-no_report before now m n k same none (inl is) (inl empty) = subst IsEmpty is empty
-no_report before now m n k same none (inl is) (inr more) = absurd (omega arith)
-no_report before now m n k same none (inr more) looked = absurd (omega arith)
+  -- nothing was due while more was done
+  pub not_due_within : (p q r s : Seen K) (coming : Option ℕ) → GoesOn f p q → GoesOn f r s → WasNotDue f q r coming → WasNotDue f p s coming
+  not_due_within p q r s coming h k w =
+      let a = ap length h.seen ∙ length-append p.seen (since p.seen q.seen) in
+      let b = ap length k.seen ∙ length-append r.seen (since r.seen s.seen) in
+      let least = w.seen.least in
+      let most = w.seen.most in
+      let front : take w.at s.seen ≡ take w.at r.seen = ap (take w.at) k.seen ∙ take-append-le w.at r.seen (since r.seen s.seen) w.seen.most in
+      record {
+        at = w.at;
+        seen = record { least = omega arith; most = omega arith };
+        due = subst (λ (xs : List Entry). IsLater (next_moment (reached (behind f.opening xs))) coming) (sym front) w.due;
+      }
 
--- the same children report, since a moment at which they did so too
-pub quiet_since : (before mid now : Option (List ℕ)) (P : Type 0) → mid ≡ before → (now ≡ mid) ⊎ P → (now ≡ before) ⊎ P
-quiet_since before mid now P same (inl is) = inl (is ∙ same)
-quiet_since before mid now P same (inr more) = inr more
+  -- of the parts of a turn, one alone has Hands
+  pub handed_all : (p r u t : Seen K) (orders : ℕ) → GoesOn f p r → GoesOn f r u → GoesOn f u t → hands_of (added p r) ≤ 0 → hands_of (added u t) ≤ 0 → (orders ≡ 0) ⊎ (hands_of (added r u) ≡ 256) → (orders ≡ 0) ⊎ (hands_of (added p t) ≡ 256)
+  handed_all p r u t orders h k l before behind (inl none) = inl none
+  handed_all p r u t orders h k l before behind (inr many) =
+      let a = hands_then f p r u h k in
+      let b = hands_then f p u t (GoesOn-then f p r u h k) l in
+      inr (omega arith)
 
--- a turn that made no entry, with the histories behind its parts
-pub idle_turn : (f0 f1 f2 f3 f4 : History) (kept : Option Report) (failed : Option ℕ) (p : Pending) (coming coming' : Option ℕ) (reporting reporting' : Option (List ℕ)) → Extends f0.log f1.log → Extends f1.log f2.log → Extends f2.log f3.log → Extends f3.log f4.log → f1.opened ≡ f0.opened → f2.opened ≡ f1.opened → f3.opened ≡ f2.opened → length f4.log - length f0.log ≡ 0 → failed ≡ None → IfSome kept (λ _. length f0.log < length f1.log) → (kept ≡ None → coming' ≡ coming) → IfSome (next_moment (reached f1)) (λ due. IfSome coming' (λ now. due ≤ now → f2 ≡ with_call f1 monitor_pass call.Tick now)) → p ≡ pending (reached f3) monitor_pass → (p.orders ≡ 0) ⊎ (hands_of (since f2.log f3.log) ≡ 256) → (reporting' ≡ reporting) ⊎ (length f2.log < length f3.log) → IsEmpty reporting' ⊎ (length f3.log < length f4.log) → IsIdle f0 kept failed coming reporting
-idle_turn f0 f1 f2 f3 f4 kept failed p coming coming' reporting reporting' x1 x2 x3 x4 o1 o2 o3 none no_kill sent unread due told all quiet looked =
-    let x02 = Extends-then f0.log f1.log f2.log x1 x2 in
-    let x24 = Extends-then f2.log f3.log f4.log x3 x4 in
-    let e1 : f1.log ≡ f0.log = not_grown f0.log f1.log f4.log x1 (Extends-then f1.log f2.log f4.log x2 x24) none in
-    let e2 : f2.log ≡ f0.log = not_grown f0.log f2.log f4.log x02 x24 none in
-    let e3 : f3.log ≡ f0.log = not_grown f0.log f3.log f4.log (Extends-then f0.log f2.log f3.log x02 x3) x4 none in
-    let kept_none = none_kept kept (length f0.log) (length f1.log) sent (ap length e1) in
-    let ticked = not_due (next_moment (reached f1)) coming' f1 f2 (e2 ∙ sym e1) due in
-    let moment = subst (λ (o : Option ℕ). IfSome (next_moment (reached f1)) (λ due. IfSome o (λ now. now < due))) (unread kept_none) ticked in
-    let same : length f3.log ≡ length f2.log = ap length (e3 ∙ sym e2) in
-    let last : length f4.log - length f2.log ≡ 0 = ap (λ (log : List Entry). length f4.log - length log) e2 ∙ none in
-    record {
-      no_report = kept_none;
-      no_kill = no_kill;
-      due = subst (λ (next : Option ℕ). IfSome next (λ due. IfSome coming (λ now. now < due))) (ap next_moment (same_state f0 f1 o1 e1)) moment;
-      orders = no_order f0 f2 f3 p e2 e3 (o3 ∙ (o2 ∙ o1)) told all;
-      reports = no_report reporting reporting' (length f2.log) (length f3.log) (length f4.log) same last quiet looked;
-    }
+  -- a wait had a report, and made its call, or there was none
+  pub report_or_more : {Empty : Type 0} (p q r s : Seen K) (o : Option Report) → GoesOn f p q → GoesOn f q r → GoesOn f r s → (o ≡ None → Empty) → IfSome o (λ _. 1 ≤ length (added q r)) → Empty ⊎ (1 ≤ length (added p s))
+  report_or_more p q r s None h k l empty some = inl (empty refl)
+  report_or_more p q r s (Some report) h k l empty some =
+      let a = count_then f p q r (length (added p q)) (length (added q r)) h k refl refl in
+      let b = count_then f p r s (length (added p r)) (length (added r s)) (GoesOn-then f p q r h k) l refl refl in
+      inr (omega arith)
 
--- a wait without a report, or a longer history
-pub report_or_longer : (o : Option Report) (r : Result (Option Report) Failed) (Q : Type 0) (a b c : List Entry) → r ≡ Ok o → (r ≡ Ok None → Q) → Extends a b → IfSome o (λ _. length b < length c) → Q ⊎ (length a < length c)
-report_or_longer None r Q a b c was none ab sent = inl (none was)
-report_or_longer (Some report) r Q a b c was none ab sent = inr (longer_then a b c ab sent)
-
--- what waited behind a part waited since, whatever came behind it
-pub WaitedSince-part : (a b c : History) (p : Pending) → Extends a.log b.log → Extends b.log c.log → c.opened ≡ b.opened → p ≡ pending (reached b) monitor_pass → WaitedSince a c p
-WaitedSince-part a b c p ab bc kept told =
-    let n = ap length ab ∙ length-append a.log (since a.log b.log) in
-    let m = ap length bc ∙ length-append b.log (since b.log c.log) in
-    let front : take (length b.log) c.log ≡ b.log = ap (take (length b.log)) bc ∙ take-append_seam b.log (since b.log c.log) in
-    let state : after c.opened (take (length b.log) c.log) ≡ reached b = ap (after c.opened) front ∙ ap (λ (s : State). after s b.log) kept in
-    record { count = length b.log; least = omega arith; most = omega arith; pending = told ∙ ap (λ (s : State). pending s monitor_pass) (sym state) }
-
--- what hasn't grown
-pub Extends-none : {A : Type 0} (xs : List A) → Extends xs xs
-Extends-none xs = sym (ap (λ ys. xs ++ ys) (drop-length xs) ∙ append-nil xs)
-
--- so it does where nothing came
-pub WaitedSince-now : (a b : History) (p : Pending) → Extends a.log b.log → p ≡ pending (reached b) monitor_pass → WaitedSince a b p
-WaitedSince-now a b p ab told = WaitedSince-part a b b p ab (Extends-none b.log) refl told
-
--- where no entry was made, it waits still
-pub WaitedSince-still : (a b : History) (p : Pending) → Extends a.log b.log → length b.log - length a.log ≡ 0 → WaitedSince a b p → p ≡ pending (reached b) monitor_pass
-WaitedSince-still a b p ab none h =
-    let n = ap length ab ∙ length-append a.log (since a.log b.log) in
-    let whole : h.count ≡ length b.log = let l = h.least in let m = h.most in omega arith in
-    let all : take h.count b.log ≡ b.log = ap (λ (k : ℕ). take k b.log) whole ∙ take-length b.log in
-    h.pending ∙ ap (λ (log : List Entry). pending (after b.opened log) monitor_pass) all
-
--- one look more has made one entry more
-pub looks_more : (a b c : History) (n : ℕ) → Extends a.log b.log → Extends b.log c.log → length b.log < length c.log → n ≤ length (since a.log b.log) → n + 1 ≤ length (since a.log c.log)
-looks_more a b c n ab bc longer some =
-    let ac = Extends-then a.log b.log c.log ab bc in
-    let x = ap length ab ∙ length-append a.log (since a.log b.log) in
-    let z = ap length ac ∙ length-append a.log (since a.log c.log) in
-    omega arith
+  -- a monitor whose turn made no entry
+  pub had_nothing : (p q r t : Seen K) (kept : Option Report) (coming coming_then : Option ℕ) (reporting reporting_then : Option (List ℕ)) → GoesOn f p q → GoesOn f r t → IfSome kept (λ _. 1 ≤ length (added p q)) → length (added p q) ≡ 0 → (kept ≡ None → coming_then ≡ coming) → WasNotDue f q r coming_then → reporting_then ≡ reporting → IsEmpty reporting_then → HadNothing f p t kept coming reporting
+  had_nothing p q r t kept coming coming_then reporting reporting_then h k some none unread not_due same empty =
+      let no_report = none_kept kept (length (added p q)) some none in
+      record {
+        no_report = no_report;
+        not_due = subst (λ (o : Option ℕ). WasNotDue f p t o) (unread no_report) (not_due_within p q r t coming_then h k not_due);
+        no_child = subst (λ (o : Option (List ℕ)). IsEmpty o) same empty;
+      }

@@ -1,7 +1,10 @@
+pub mod Advance
 pub mod Asking
+pub mod Attends
+pub mod Causes
 pub mod Idle
-pub mod Journal
 pub mod Lists
+pub mod Made
 pub mod Monitor
+pub mod Scene
 pub mod Turned
-pub mod View

@@ -11,7 +11,7 @@ use wm_base::{Moment, Serial, StartOrder};
 use wm_traits::{Failed, Spawner};
 
 /// Asks the spawner to start what was ordered.
-pub fn start<P: Spawner>(spawner: &mut P, order: &StartOrder) -> Report
+pub(crate) fn start<P: Spawner>(spawner: &mut P, order: &StartOrder) -> Report
     ensures asked { Grows (P.asked spawner.old) (P.asked spawner.new) (Start order.now ∷ []) }
     ensures told { Grows (as_reports (P.told spawner.old)) (as_reports (P.told spawner.new)) (call_of result ∷ []) }
     ensures misses { RisesBy (P.misses spawner.old) (count_by is_spawner_fault (call_of result ∷ [])) (P.misses spawner.new) }
@@ -24,7 +24,7 @@ pub fn start<P: Spawner>(spawner: &mut P, order: &StartOrder) -> Report
 }
 
 /// Asks the spawner to kill a job. Its end is reported later, where it was out.
-pub fn kill<P: Spawner>(spawner: &mut P, serial: Serial) -> Result<(), Failed>
+pub(crate) fn kill<P: Spawner>(spawner: &mut P, serial: Serial) -> Result<(), Failed>
     ensures asked { Grows (P.asked spawner.old) (P.asked spawner.new) (Kill serial ∷ []) }
     ensures told { Grows (as_reports (P.told spawner.old)) (as_reports (P.told spawner.new)) [] }
     ensures misses { P.misses spawner.new ≡ P.misses spawner.old }
@@ -35,7 +35,7 @@ pub fn kill<P: Spawner>(spawner: &mut P, serial: Serial) -> Result<(), Failed>
 }
 
 /// Looks for a report.
-pub fn look<P: Spawner>(spawner: &mut P) -> Result<Option<Report>, Failed>
+pub(crate) fn look<P: Spawner>(spawner: &mut P) -> Result<Option<Report>, Failed>
     ensures none { result ≡ Ok None → IsEmpty (P.reporting spawner.old) }
     ensures asked { Grows (P.asked spawner.old) (P.asked spawner.new) [] }
     ensures told { Grows (as_reports (P.told spawner.old)) (as_reports (P.told spawner.new)) (map call_of (looked result)) }
@@ -49,7 +49,7 @@ pub fn look<P: Spawner>(spawner: &mut P) -> Result<Option<Report>, Failed>
 }
 
 /// Waits for a report, until the moment at the latest where one is given.
-pub fn wait<P: Spawner, R: Wait>(
+pub(crate) fn wait<P: Spawner, R: Wait>(
     rt: &R,
     spawner: &mut P,
     until: Option<Moment>,

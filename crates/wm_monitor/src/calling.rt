@@ -1,36 +1,86 @@
-// Making a call of a journal.
-ghost use Rattle.std.specs.Prelude.{◌≡◌, ℕ, OnOk, OnErr, IsErrOf};
+// Making a call of a floor.
+ghost use Rattle.std.specs.Prelude.{◌≡◌, ℕ, length, true, Ok, Err, IfOk, IfErr, OnOk, OnErr};
 ghost use Rattle.wm_law.specs.Fit.{IsCall};
-ghost use Rattle.wm_journal.specs.History.{reached, with_call};
+ghost use Rattle.wm_law.specs.History.{is_monitor_call};
+ghost use Rattle.wm_journal.specs.History.{reached};
 ghost use Rattle.wm_journal.specs.Limit.{limit_of};
-ghost use Rattle.wm_monitor.specs.Journal.{HasJournalCauses};
+ghost use Rattle.wm_floor.specs.Floor.{IsPassOf};
+ghost use Rattle.wm_floor.specs.Ledger.{behind};
+ghost use Rattle.wm_monitor.specs.Advance.{added, Advances, GoesOn};
+ghost use Rattle.wm_monitor.specs.Causes.{fault_of, IsCaused};
+ghost use Rattle.wm_monitor.specs.Idle.{IsCalledFor};
+ghost use Rattle.wm_monitor.specs.Made.{AreAt, IsMade};
+ghost use Rattle.wm_monitor.specs.Scene.{Scene};
+ghost use Rattle.wm_monitor.specs.Turned.{WasNotDue};
 
 use crate::fault::MonitorFault;
 use std::alloc::Global;
+use std::sync::Wait;
 use wm_base::Moment;
-use wm_journal::{CallFault, Journal, Pass};
+use wm_floor::{Answered, Floor, FloorPass};
+use wm_journal::CallFault;
 use wm_law::Call;
-use wm_traits::Keeper;
+use wm_traits::{Clock, Keeper};
 
-/// Makes one call of a pass, and tells a fault as a monitor's. An `Err` leaves the history.
-pub fn enter<K: Keeper>(
-    alloc: Global,
-    journal: &mut Journal<K>,
-    pass: &Pass,
-    call: Call,
-    now: Moment,
-) -> Result<(), MonitorFault>
-    requires fit { IsCall call }
-    ensures ok { OnOk result (journal.new.history ≡ with_call journal.old.history pass.now call now) }
-    ensures err { OnErr result (journal.new.history ≡ journal.old.history) }
-    ensures no_wait { IsErrOf result MonitorFault.WaitFault → ⊥ }
-    ensures full { (n : ℕ) → IsErrOf result (MonitorFault.LogFull n) → n ≡ limit_of call journal.old.limit }
-    ensures journal { HasJournalCauses K.faults K.trail (IsErrOf result MonitorFault.KeeperFault) (IsErrOf result (MonitorFault.LogFull (limit_of call journal.old.limit))) (limit_of call journal.old.limit) journal.old journal.new }
+// The result of a call, as a monitor tells it.
+fn told(was: Result<Answered, CallFault>) -> Result<Answered, MonitorFault>
+    ensures ok { IfOk was (λ answered. result ≡ Ok answered) }
+    ensures err { IfErr was (λ fault. result ≡ Err (fault_of fault)) }
 {
-    match journal.call(alloc, pass, call, now) {
-        Ok(()) => Ok(()),
+    match was {
+        Ok(answered) => Ok(answered),
         Err(CallFault::KeeperFault) => Err(MonitorFault::KeeperFault),
         Err(CallFault::LogFull(limit)) => Err(MonitorFault::LogFull(limit)),
         Err(CallFault::NoMemory) => Err(MonitorFault::NoMemory),
+    }
+}
+
+/// Makes one call of a monitor, and tells a fault as a monitor's. An `Err` makes no entry.
+pub(crate) fn enter<K: Keeper, R: Wait>(
+    rt: &R,
+    alloc: Global,
+    floor: &Floor<K>,
+    pass: &mut FloorPass<K>,
+    call: Call,
+    now: Moment,
+) -> Result<Answered, MonitorFault>
+    requires own { IsPassOf floor.now pass.old }
+    requires fit { IsCall call }
+    requires limit { (limit : ℕ) → limit_of call limit ≡ 4000000 }
+    requires monitors { is_monitor_call call ≡ true }
+    requires called_for { IsCalledFor pass.old.number (reached (behind floor.now.opening pass.old.seen)) now call }
+    ensures part { GoesOn floor.now pass.old pass.new }
+    ensures ok { IfOk result (IsMade call now pass.old pass.new) }
+    ensures err { OnErr result (pass.new.mine ≡ pass.old.mine) }
+    ensures cause { (faults : ℕ) → IfErr result (IsCaused faults faults pass.old.mark pass.new.mark pass.new.seen) }
+{
+    let was = floor.call(rt, alloc, pass, call, now);
+    told(was)
+}
+
+/// Lets the machine see the time, where something is due by now. It answers how many entries it made.
+pub(crate) fn tick<K: Keeper, C: Clock, R: Wait>(
+    rt: &R,
+    alloc: Global,
+    floor: &Floor<K>,
+    pass: &mut FloorPass<K>,
+    clock: &mut C,
+) -> Result<u32, MonitorFault>
+    requires own { IsPassOf floor.now pass.old }
+    ensures part { (around : Scene) → Advances floor.now 0 1 pass.old pass.new around around }
+    ensures sent { IfOk result (λ n. n ≡ length (added pass.old pass.new)) }
+    ensures moment { AreAt (C.coming clock.old) (added pass.old pass.new) }
+    ensures due { OnOk result (length (added pass.old pass.new) ≡ 0 → WasNotDue floor.now pass.old pass.new (C.coming clock.old)) }
+    ensures cause { (faults : ℕ) → IfErr result (IsCaused faults faults pass.old.mark pass.new.mark pass.new.seen) }
+{
+    let now = clock.now();
+    let monitor = pass.number();
+    let waiting = floor.pending(rt, pass, monitor);
+    match waiting.pending.next {
+        Some(due) if due <= now => {
+            enter(rt, alloc, floor, pass, Call::Tick, now)?;
+            Ok(1)
+        }
+        _ => Ok(0),
     }
 }

@@ -11,8 +11,7 @@ pub enum MonitorFault {
     WaitFault,
     /// The keeper of the rows failed.
     KeeperFault,
-    /// The history has this many entries, behind which the journal takes no such call: 4,000,000 for a monitor's own call, the
-    /// limit of users' commands for a session's.
+    /// The history has this many entries, which are 4,000,000, behind which the floor takes no call of a monitor.
     LogFull(u32),
     NoMemory,
 }

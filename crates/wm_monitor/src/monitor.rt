@@ -1,16 +1,16 @@
-// What starts the jobs and reports how they ended.
+// What starts the jobs and reports how they ended, beside other callers.
 use crate::asking;
-use crate::calling::enter;
+use crate::calling::{enter, tick};
 use crate::fault::MonitorFault;
 use crate::report::Report;
 use std::alloc::Global;
 use std::sync::Wait;
 use wm_base::{Asked, Moment, Serial};
-use wm_journal::{Journal, Pass};
-use wm_law::{Call, Pending};
+use wm_floor::{Floor, FloorPass, Waiting};
+use wm_law::{Call, Pending, Reply};
 use wm_traits::{Clock, Keeper, Spawner};
 
-/// The number of the monitor's pass.
+/// The number of the pass of a run's monitor.
 pub const MONITOR: u32 = 1;
 
 /// How many Hands a turn makes at the most.
@@ -19,40 +19,60 @@ pub const MOST_HANDS: u32 = 256;
 /// How many looks a turn makes at the most.
 pub const MOST_LOOKS: u32 = 256;
 
-/// A monitor. It keeps the report that the journal didn't take, to send it first in its next call, and the kill that failed,
-/// to try it again behind the report in its next turn.
+/// A monitor, whose number is that of the pass with which it is called. It keeps the report that the floor didn't take, to send
+/// it first in its next call, and the kill that failed, to try it again behind the report in its next turn.
 #[derive(Clone, Copy)]
 pub struct Monitor {
     pub kept: Option<Report>,
     pub failed_kill: Option<Serial>,
 }
 
-/// How many entries a call of a monitor made, and what waited when it looked last.
+/// How many entries a call of a monitor made, and what waited as it looked last, behind so many entries of the history.
 #[derive(Clone, Copy)]
 pub struct Turned {
-    pub sent: usize,
+    pub sent: u32,
+    pub at: u32,
     pub pending: Pending,
 }
 
+impl Turned {
+    ghost use Rattle.std.specs.Prelude.{◌≡◌};
+
+    // What is answered where this waited last.
+    fn of(sent: u32, waiting: Waiting) -> Turned
+        ensures sent { result.sent ≡ sent }
+        ensures at { result.at ≡ waiting.at }
+        ensures pending { result.pending ≡ waiting.pending }
+    {
+        Turned {
+            sent,
+            at: waiting.at,
+            pending: waiting.pending,
+        }
+    }
+}
+
 impl Monitor {
-    ghost use Rattle.std.specs.Prelude.{◌≡◌, ◌⊎◌, ℕ, ◌<◌, ◌≤◌, ◌+◌, ◌-◌, ◌*◌, ◌∷◌, [], None, Some, Ok, false, true, length, OnOk, OnErr, IfOk, IfSome, IsErrOf};
+    ghost use Rattle.std.specs.Prelude.{◌≡◌, ◌⊎◌, ℕ, ◌<◌, ◌≤◌, ◌+◌, ◌∷◌, [], List, None, Some, Ok, length, take, true, false, OnOk, OnErr, IfOk, IfErr, IfSome, option_to_list};
     ghost use Rattle.wm_base.specs.declared.job.Asked.TheVariants.{Kill};
     ghost use Rattle.wm_traits.specs.Told.{Grows, IsEmpty};
-    ghost use Rattle.wm_traits.specs.Cause.{raised};
-    ghost use Rattle.wm_law.specs.declared.call.Call.{Call};
-    ghost use Rattle.wm_law.specs.Pending.{next_moment, orders_left, pending};
-    ghost use Rattle.wm_journal.specs.History.{History, reached, with_call};
+    ghost use Rattle.wm_law.specs.declared.call.Entry.{Entry};
+    ghost use Rattle.wm_law.specs.History.{order_in};
+    ghost use Rattle.wm_law.specs.Pending.{orders_left, pending};
+    ghost use Rattle.wm_journal.specs.History.{reached};
     ghost use Rattle.wm_monitor.specs.Asking.{AsksFirst};
-    ghost use Rattle.wm_monitor.specs.Idle.{monitor_pass};
-    ghost use Rattle.wm_monitor.specs.Journal.{HasJournalCauses};
-    ghost use Rattle.wm_monitor.specs.Lists.{since};
-    ghost use Rattle.wm_monitor.specs.Monitor.{BeginsWithHand, HandsAt, IsIdle, IsOneTurn, TicksInTime, as_reports, call_of, hands_of};
-    ghost use Rattle.wm_monitor.specs.Turned.{WaitedSince};
-    ghost use Rattle.wm_monitor.specs.View.{IsClear, MonitorAdvances, MonitorCalls};
+    ghost use Rattle.wm_monitor.specs.Monitor.{as_reports, hands_of};
+    ghost use Rattle.wm_floor.specs.Floor.{IsPassOf};
+    ghost use Rattle.wm_floor.specs.Ledger.{behind};
+    ghost use Rattle.wm_monitor.specs.Advance.{added, Advances, AdvancesFor, HasAsked, HasReported, MonitorAdvances};
+    ghost use Rattle.wm_monitor.specs.Causes.{IsCaused};
+    ghost use Rattle.wm_monitor.specs.Made.{AreAt};
+    ghost use Rattle.wm_monitor.specs.Scene.{scene, spawner_seen, IsAskedOrKept, IsClear, Spawning};
+    ghost use Rattle.wm_monitor.specs.Turned.{HadNothing, WaitedAt};
 
     /// A monitor that keeps nothing.
     pub fn new() -> Monitor
-        ensures { IsClear result }
+        ensures clear { IsClear result }
     {
         Monitor {
             kept: None,
@@ -60,35 +80,32 @@ impl Monitor {
         }
     }
 
-    // Sends the report that is kept, which the journal may fail to take.
-    fn send_kept<K: Keeper, C: Clock>(
+    // Sends the report that is kept, which the floor may fail to take. It answers how many entries it made.
+    fn send_kept<K: Keeper, C: Clock, R: Wait>(
         &mut self,
+        rt: &R,
         alloc: Global,
-        journal: &mut Journal<K>,
-        pass: &Pass,
+        floor: &Floor<K>,
+        pass: &mut FloorPass<K>,
         clock: &mut C,
-    ) -> Result<(), MonitorFault>
-        requires pass { pass.now ≡ monitor_pass }
-        ensures part { MonitorCalls journal.old.history self.old journal.new.history self.new }
-        ensures sent { OnOk result (IfSome self.old.kept (λ _. length journal.old.history.log < length journal.new.history.log)) }
-        ensures moment { OnOk result (IfSome self.old.kept (λ report. IfSome (C.coming clock.old) (λ now.
-            journal.new.history ≡ with_call journal.old.history monitor_pass (call_of report) now))) }
-        ensures few { length journal.new.history.log ≤ length journal.old.history.log + 1 }
-        ensures no_hand { hands_of (since journal.old.history.log journal.new.history.log) ≡ 0 }
-        ensures unread { self.old.kept ≡ None → C.coming clock.new ≡ C.coming clock.old }
+    ) -> Result<u32, MonitorFault>
+        requires own { IsPassOf floor.now pass.old }
+        ensures part { (s : Spawning) → Advances floor.now 0 1 pass.old pass.new (scene self.old s) (scene self.new s) }
+        ensures sent { IfOk result (λ n. n ≡ length (added pass.old pass.new)) }
+        ensures some { OnOk result (IfSome self.old.kept (λ _. 1 ≤ length (added pass.old pass.new))) }
+        ensures moment { AreAt (C.coming clock.old) (added pass.old pass.new) }
         ensures kept { OnOk result (self.new.kept ≡ None) }
-        ensures left { OnErr result (self.new.kept ≡ self.old.kept) }
         ensures kill { self.new.failed_kill ≡ self.old.failed_kill }
-        ensures no_wait { IsErrOf result MonitorFault.WaitFault → ⊥ }
-        ensures full { (n : ℕ) → IsErrOf result (MonitorFault.LogFull n) → n ≡ 4000000 }
-        ensures journal { HasJournalCauses K.faults K.trail (IsErrOf result MonitorFault.KeeperFault) (IsErrOf result (MonitorFault.LogFull 4000000)) 4000000 journal.old journal.new }
+        ensures unread { self.old.kept ≡ None → clock.new ≡ clock.old }
+        ensures cause { (faults : ℕ) → IfErr result (IsCaused faults faults pass.old.mark pass.new.mark pass.new.seen) }
     {
         let Some(report) = self.kept else {
-            return Ok(());
+            return Ok(0);
         };
-        enter(alloc, journal, pass, report.call(), clock.now())?;
+        let now = clock.now();
+        enter(rt, alloc, floor, pass, report.call(), now)?;
         self.kept = None;
-        Ok(())
+        Ok(1)
     }
 
     // Asks for a kill, which is kept where it fails.
@@ -100,8 +117,7 @@ impl Monitor {
         ensures failed { OnErr result (self.new.failed_kill ≡ Some serial) }
         ensures kept { self.new.kept ≡ self.old.kept }
         ensures faults { P.faults spawner.old ≤ P.faults spawner.new }
-        ensures wait_fault { IsErrOf result MonitorFault.WaitFault → raised (P.faults spawner.old) ≤ P.faults spawner.new }
-        ensures only { OnErr result (IsErrOf result MonitorFault.WaitFault) }
+        ensures cause { (mark : ℕ) (seen : List Entry) → IfErr result (IsCaused (P.faults spawner.old) (P.faults spawner.new) mark mark seen) }
     {
         self.failed_kill = Some(serial);
         asking::kill(spawner, serial)?;
@@ -111,15 +127,14 @@ impl Monitor {
 
     // Tries the kill that failed again.
     fn retry<P: Spawner>(&mut self, spawner: &mut P) -> Result<(), MonitorFault>
-        ensures part { (h : History) → MonitorAdvances P.asked P.told P.misses h self.old spawner.old h self.new spawner.new }
+        ensures asked { HasAsked [] (scene self.old (spawner_seen P.asked P.told P.misses P.faults spawner.old)) (scene self.new (spawner_seen P.asked P.told P.misses P.faults spawner.new)) }
+        ensures reported { HasReported [] (scene self.old (spawner_seen P.asked P.told P.misses P.faults spawner.old)) (scene self.new (spawner_seen P.asked P.told P.misses P.faults spawner.new)) }
         ensures again { IfSome self.old.failed_kill (λ serial. Grows (P.asked spawner.old) (P.asked spawner.new) (Kill serial ∷ [])) }
-        ensures quiet { self.old.failed_kill ≡ None → P.reporting spawner.new ≡ P.reporting spawner.old }
+        ensures quiet { self.old.failed_kill ≡ None → spawner.new ≡ spawner.old }
         ensures done { OnOk result (self.new.failed_kill ≡ None) }
-        ensures left { OnErr result (self.new.failed_kill ≡ self.old.failed_kill) }
         ensures kept { self.new.kept ≡ self.old.kept }
         ensures faults { P.faults spawner.old ≤ P.faults spawner.new }
-        ensures wait_fault { IsErrOf result MonitorFault.WaitFault → raised (P.faults spawner.old) ≤ P.faults spawner.new }
-        ensures only { OnErr result (IsErrOf result MonitorFault.WaitFault) }
+        ensures cause { (mark : ℕ) (seen : List Entry) → IfErr result (IsCaused (P.faults spawner.old) (P.faults spawner.new) mark mark seen) }
     {
         let Some(serial) = self.failed_kill else {
             return Ok(());
@@ -128,240 +143,241 @@ impl Monitor {
         Ok(())
     }
 
-    // Lets the machine see the time, where something is due by now.
-    fn tick<K: Keeper, C: Clock>(
+    // Asks what a reply orders, and sends the report of a start. It answers how many entries it made.
+    fn follow<K: Keeper, P: Spawner, C: Clock, R: Wait>(
         &mut self,
+        rt: &R,
         alloc: Global,
-        journal: &mut Journal<K>,
-        pass: &Pass,
-        clock: &mut C,
-    ) -> Result<(), MonitorFault>
-        requires pass { pass.now ≡ monitor_pass }
-        ensures part { MonitorCalls journal.old.history self.old journal.new.history self.new }
-        ensures due { OnOk result (IfSome (next_moment (reached journal.old.history)) (λ due. IfSome (C.coming clock.old) (λ now.
-            due ≤ now → journal.new.history ≡ with_call journal.old.history monitor_pass Call.Tick now))) }
-        ensures in_time { (journal.new.history ≡ journal.old.history) ⊎ TicksInTime journal.old.history (C.coming clock.old) journal.new.history }
-        ensures few { length journal.new.history.log ≤ length journal.old.history.log + 1 }
-        ensures no_hand { hands_of (since journal.old.history.log journal.new.history.log) ≡ 0 }
-        ensures kept { self.new ≡ self.old }
-        ensures no_wait { IsErrOf result MonitorFault.WaitFault → ⊥ }
-        ensures full { (n : ℕ) → IsErrOf result (MonitorFault.LogFull n) → n ≡ 4000000 }
-        ensures journal { HasJournalCauses K.faults K.trail (IsErrOf result MonitorFault.KeeperFault) (IsErrOf result (MonitorFault.LogFull 4000000)) 4000000 journal.old journal.new }
-    {
-        let now = clock.now();
-        match journal.pending(MONITOR).next {
-            Some(due) if due <= now => {
-                enter(alloc, journal, pass, Call::Tick, now)?;
-                Ok(())
-            }
-            _ => Ok(()),
-        }
-    }
-
-    // Makes one Hand and does its order.
-    fn hand<K: Keeper, P: Spawner, C: Clock>(
-        &mut self,
-        alloc: Global,
-        journal: &mut Journal<K>,
-        pass: &Pass,
+        floor: &Floor<K>,
+        pass: &mut FloorPass<K>,
         spawner: &mut P,
         clock: &mut C,
-    ) -> Result<(), MonitorFault>
+        reply: &Reply,
+    ) -> Result<u32, MonitorFault>
+        requires own { IsPassOf floor.now pass.old }
         requires clear { IsClear self.old }
-        requires called_for { 1 ≤ orders_left (reached journal.old.history) monitor_pass }
-        requires pass { pass.now ≡ monitor_pass }
-        ensures hand { OnOk result (BeginsWithHand journal.old.history journal.new.history) }
-        ensures moment { OnOk result (IfSome (C.coming clock.old) (HandsAt journal.old.history journal.new.history)) }
-        ensures one { hands_of (since journal.old.history.log journal.new.history.log) ≤ 1 }
-        ensures few { length journal.new.history.log ≤ length journal.old.history.log + 2 * hands_of (since journal.old.history.log journal.new.history.log) }
-        ensures part { MonitorAdvances P.asked P.told P.misses journal.old.history self.old spawner.old journal.new.history self.new spawner.new }
+        ensures part { AdvancesFor floor.now 0 1 (option_to_list (order_in reply.now)) pass.old pass.new (scene self.old (spawner_seen P.asked P.told P.misses P.faults spawner.old)) (scene self.new (spawner_seen P.asked P.told P.misses P.faults spawner.new)) }
+        ensures sent { IfOk result (λ n. n ≡ length (added pass.old pass.new)) }
         ensures clear { OnOk result (IsClear self.new) }
-        ensures faults { P.faults spawner.old ≤ P.faults spawner.new }
-        ensures wait_fault { IsErrOf result MonitorFault.WaitFault → raised (P.faults spawner.old) ≤ P.faults spawner.new }
-        ensures full { (n : ℕ) → IsErrOf result (MonitorFault.LogFull n) → n ≡ 4000000 }
-        ensures journal { HasJournalCauses K.faults K.trail (IsErrOf result MonitorFault.KeeperFault) (IsErrOf result (MonitorFault.LogFull 4000000)) 4000000 journal.old journal.new }
+        ensures cause { IfErr result (IsCaused (P.faults spawner.old) (P.faults spawner.new) pass.old.mark pass.new.mark pass.new.seen) }
     {
-        enter(alloc, journal, pass, Call::Hand, clock.now())?;
-        match journal.order() {
-            None => Ok(()),
+        match reply.order() {
+            None => Ok(0),
             Some(Asked::Kill(serial)) => {
                 self.kill(spawner, *serial)?;
-                Ok(())
+                Ok(0)
             }
             Some(Asked::Start(order)) => {
                 self.kept = Some(asking::start(spawner, order));
-                self.send_kept(alloc, journal, pass, clock)?;
-                Ok(())
+                let sent = self.send_kept(rt, alloc, floor, pass, clock)?;
+                Ok(sent)
             }
         }
+    }
+
+    // Does what earlier calls left: the kept report and the kill that failed.
+    fn settle<K: Keeper, P: Spawner, C: Clock, R: Wait>(
+        &mut self,
+        rt: &R,
+        alloc: Global,
+        floor: &Floor<K>,
+        pass: &mut FloorPass<K>,
+        spawner: &mut P,
+        clock: &mut C,
+    ) -> Result<u32, MonitorFault>
+        requires own { IsPassOf floor.now pass.old }
+        ensures part { MonitorAdvances P.asked P.told P.misses P.faults floor.now 0 1 pass.old self.old spawner.old pass.new self.new spawner.new }
+        ensures sent { IfOk result (λ n. n ≡ length (added pass.old pass.new)) }
+        ensures clear { OnOk result (IsClear self.new) }
+        ensures some { OnOk result (IfSome self.old.kept (λ _. 1 ≤ length (added pass.old pass.new))) }
+        ensures quiet { self.old.failed_kill ≡ None → spawner.new ≡ spawner.old }
+        ensures unread { self.old.kept ≡ None → clock.new ≡ clock.old }
+        ensures kill { IsAskedOrKept self.old.failed_kill (P.asked spawner.old) (P.asked spawner.new) self.new.failed_kill }
+        ensures again { OnOk result (IfSome self.old.failed_kill (λ serial. AsksFirst (Kill serial) (P.asked spawner.old) (P.asked spawner.new))) }
+        ensures cause { IfErr result (IsCaused (P.faults spawner.old) (P.faults spawner.new) pass.old.mark pass.new.mark pass.new.seen) }
+    {
+        let reported = self.send_kept(rt, alloc, floor, pass, clock)?;
+        self.retry(spawner)?;
+        Ok(reported)
+    }
+
+    // Makes one Hand and does its order. It answers how many entries it made.
+    fn hand<K: Keeper, P: Spawner, C: Clock, R: Wait>(
+        &mut self,
+        rt: &R,
+        alloc: Global,
+        floor: &Floor<K>,
+        pass: &mut FloorPass<K>,
+        spawner: &mut P,
+        clock: &mut C,
+    ) -> Result<u32, MonitorFault>
+        requires own { IsPassOf floor.now pass.old }
+        requires clear { IsClear self.old }
+        requires called_for { 1 ≤ orders_left (reached (behind floor.now.opening pass.old.seen)) pass.old.number }
+        ensures part { MonitorAdvances P.asked P.told P.misses P.faults floor.now 1 0 pass.old self.old spawner.old pass.new self.new spawner.new }
+        ensures hand { OnOk result (1 ≤ hands_of (added pass.old pass.new)) }
+        ensures moment { AreAt (C.coming clock.old) (take 1 (added pass.old pass.new)) }
+        ensures sent { IfOk result (λ n. n ≡ length (added pass.old pass.new)) }
+        ensures clear { OnOk result (IsClear self.new) }
+        ensures cause { IfErr result (IsCaused (P.faults spawner.old) (P.faults spawner.new) pass.old.mark pass.new.mark pass.new.seen) }
+    {
+        let now = clock.now();
+        let answered = enter(rt, alloc, floor, pass, Call::Hand, now)?;
+        let sent = self.follow(rt, alloc, floor, pass, spawner, clock, &answered.reply)?;
+        Ok(sent + 1)
     }
 
     // Makes the calls of what Hand orders, while there are orders. It answers what waited behind the last one.
-    fn hands<K: Keeper, P: Spawner, C: Clock>(
+    fn hands<K: Keeper, P: Spawner, C: Clock, R: Wait>(
         &mut self,
+        rt: &R,
         alloc: Global,
-        journal: &mut Journal<K>,
-        pass: &Pass,
+        floor: &Floor<K>,
+        pass: &mut FloorPass<K>,
         spawner: &mut P,
         clock: &mut C,
-    ) -> Result<Pending, MonitorFault>
+    ) -> Result<Turned, MonitorFault>
+        requires own { IsPassOf floor.now pass.old }
         requires clear { IsClear self.old }
-        requires pass { pass.now ≡ monitor_pass }
-        ensures part { MonitorAdvances P.asked P.told P.misses journal.old.history self.old spawner.old journal.new.history self.new spawner.new }
-        ensures pending { IfOk result (λ p. p ≡ pending (reached journal.new.history) monitor_pass) }
-        ensures all { IfOk result (λ p. (p.orders ≡ 0) ⊎ (hands_of (since journal.old.history.log journal.new.history.log) ≡ 256)) }
-        ensures most { hands_of (since journal.old.history.log journal.new.history.log) ≤ 256 }
-        ensures few { length journal.new.history.log ≤ length journal.old.history.log + 2 * hands_of (since journal.old.history.log journal.new.history.log) }
-        ensures quiet { OnOk result ((P.reporting spawner.new ≡ P.reporting spawner.old) ⊎ (length journal.old.history.log < length journal.new.history.log)) }
+        ensures part { MonitorAdvances P.asked P.told P.misses P.faults floor.now 256 0 pass.old self.old spawner.old pass.new self.new spawner.new }
+        ensures sent { IfOk result (λ turned. turned.sent ≡ length (added pass.old pass.new)) }
+        ensures at { IfOk result (λ turned. turned.at ≡ length pass.new.seen) }
+        ensures pending { IfOk result (λ turned. turned.pending ≡ pending (reached (behind floor.now.opening pass.new.seen)) pass.old.number) }
+        ensures all { IfOk result (λ turned. (turned.pending.orders ≡ 0) ⊎ (hands_of (added pass.old pass.new) ≡ 256)) }
+        ensures quiet { OnOk result (length (added pass.old pass.new) ≡ 0 → P.reporting spawner.new ≡ P.reporting spawner.old) }
         ensures clear { OnOk result (IsClear self.new) }
-        ensures faults { P.faults spawner.old ≤ P.faults spawner.new }
-        ensures wait_fault { IsErrOf result MonitorFault.WaitFault → raised (P.faults spawner.old) ≤ P.faults spawner.new }
-        ensures full { (n : ℕ) → IsErrOf result (MonitorFault.LogFull n) → n ≡ 4000000 }
-        ensures journal { HasJournalCauses K.faults K.trail (IsErrOf result MonitorFault.KeeperFault) (IsErrOf result (MonitorFault.LogFull 4000000)) 4000000 journal.old journal.new }
+        ensures cause { IfErr result (IsCaused (P.faults spawner.old) (P.faults spawner.new) pass.old.mark pass.new.mark pass.new.seen) }
     {
+        let monitor = pass.number();
+        let mut sent = 0;
         'hands: for _ in 0..MOST_HANDS {
-            let pending = journal.pending(MONITOR);
-            if pending.orders == 0 {
-                return Ok(pending);
+            let waiting = floor.pending(rt, pass, monitor);
+            if waiting.pending.orders == 0 {
+                return Ok(Turned::of(sent, waiting));
             }
-            self.hand(alloc, journal, pass, spawner, clock)?;
+            sent += self.hand(rt, alloc, floor, pass, spawner, clock)?;
         }
-        Ok(journal.pending(MONITOR))
+        let waiting = floor.pending(rt, pass, monitor);
+        Ok(Turned::of(sent, waiting))
     }
 
     // Looks once for a report, and makes its call. It answers whether there was one.
-    fn look<K: Keeper, P: Spawner, C: Clock>(
+    fn look<K: Keeper, P: Spawner, C: Clock, R: Wait>(
         &mut self,
+        rt: &R,
         alloc: Global,
-        journal: &mut Journal<K>,
-        pass: &Pass,
+        floor: &Floor<K>,
+        pass: &mut FloorPass<K>,
         spawner: &mut P,
         clock: &mut C,
     ) -> Result<bool, MonitorFault>
+        requires own { IsPassOf floor.now pass.old }
         requires clear { IsClear self.old }
-        requires pass { pass.now ≡ monitor_pass }
+        ensures part { MonitorAdvances P.asked P.told P.misses P.faults floor.now 0 1 pass.old self.old spawner.old pass.new self.new spawner.new }
         ensures none { result ≡ Ok false → IsEmpty (P.reporting spawner.old) }
-        ensures sent { result ≡ Ok true → length journal.old.history.log < length journal.new.history.log }
-        ensures moment { result ≡ Ok true → IfSome (C.coming clock.old) (λ now. (c : Call) × (journal.new.history ≡ with_call journal.old.history monitor_pass c now)) }
-        ensures few { length journal.new.history.log ≤ length journal.old.history.log + 1 }
-        ensures no_hand { hands_of (since journal.old.history.log journal.new.history.log) ≡ 0 }
-        ensures none_told { result ≡ Ok false → Grows (as_reports (P.told spawner.old)) (as_reports (P.told spawner.new)) [] }
-        ensures part { MonitorAdvances P.asked P.told P.misses journal.old.history self.old spawner.old journal.new.history self.new spawner.new }
+        ensures none_sent { result ≡ Ok false → length (added pass.old pass.new) ≡ 0 }
+        ensures sent { result ≡ Ok true → length (added pass.old pass.new) ≡ 1 }
+        ensures moment { AreAt (C.coming clock.old) (added pass.old pass.new) }
         ensures clear { OnOk result (IsClear self.new) }
-        ensures faults { P.faults spawner.old ≤ P.faults spawner.new }
-        ensures wait_fault { IsErrOf result MonitorFault.WaitFault → raised (P.faults spawner.old) ≤ P.faults spawner.new }
-        ensures full { (n : ℕ) → IsErrOf result (MonitorFault.LogFull n) → n ≡ 4000000 }
-        ensures journal { HasJournalCauses K.faults K.trail (IsErrOf result MonitorFault.KeeperFault) (IsErrOf result (MonitorFault.LogFull 4000000)) 4000000 journal.old journal.new }
+        ensures cause { IfErr result (IsCaused (P.faults spawner.old) (P.faults spawner.new) pass.old.mark pass.new.mark pass.new.seen) }
     {
         let Some(report) = asking::look(spawner)? else {
             return Ok(false);
         };
         self.kept = Some(report);
-        self.send_kept(alloc, journal, pass, clock)?;
+        self.send_kept(rt, alloc, floor, pass, clock)?;
         Ok(true)
     }
 
-    // Makes the calls of the reports that are there.
-    fn looks<K: Keeper, P: Spawner, C: Clock>(
+    // Makes the calls of the reports that are there. It answers how many there were.
+    fn looks<K: Keeper, P: Spawner, C: Clock, R: Wait>(
         &mut self,
+        rt: &R,
         alloc: Global,
-        journal: &mut Journal<K>,
-        pass: &Pass,
+        floor: &Floor<K>,
+        pass: &mut FloorPass<K>,
         spawner: &mut P,
         clock: &mut C,
-    ) -> Result<(), MonitorFault>
+    ) -> Result<u32, MonitorFault>
+        requires own { IsPassOf floor.now pass.old }
         requires clear { IsClear self.old }
-        requires pass { pass.now ≡ monitor_pass }
-        ensures part { MonitorAdvances P.asked P.told P.misses journal.old.history self.old spawner.old journal.new.history self.new spawner.new }
-        ensures all { OnOk result (IsEmpty (P.reporting spawner.old) ⊎ (length journal.old.history.log < length journal.new.history.log)) }
-        ensures most { length journal.new.history.log ≤ length journal.old.history.log + 256 }
-        ensures no_hand { hands_of (since journal.old.history.log journal.new.history.log) ≡ 0 }
-        ensures last { OnOk result ((256 ≤ length (since journal.old.history.log journal.new.history.log)) ⊎
-            ((last : P) × IsEmpty (P.reporting last) × Grows (as_reports (P.told last)) (as_reports (P.told spawner.new)) [])) }
+        ensures part { MonitorAdvances P.asked P.told P.misses P.faults floor.now 0 256 pass.old self.old spawner.old pass.new self.new spawner.new }
+        ensures sent { IfOk result (λ n. n ≡ length (added pass.old pass.new)) }
+        ensures all { IfOk result (λ n. n ≡ 0 → IsEmpty (P.reporting spawner.old)) }
         ensures clear { OnOk result (IsClear self.new) }
-        ensures faults { P.faults spawner.old ≤ P.faults spawner.new }
-        ensures wait_fault { IsErrOf result MonitorFault.WaitFault → raised (P.faults spawner.old) ≤ P.faults spawner.new }
-        ensures full { (n : ℕ) → IsErrOf result (MonitorFault.LogFull n) → n ≡ 4000000 }
-        ensures journal { HasJournalCauses K.faults K.trail (IsErrOf result MonitorFault.KeeperFault) (IsErrOf result (MonitorFault.LogFull 4000000)) 4000000 journal.old journal.new }
+        ensures cause { IfErr result (IsCaused (P.faults spawner.old) (P.faults spawner.new) pass.old.mark pass.new.mark pass.new.seen) }
     {
-        'looks: for _ in 0..MOST_LOOKS {
-            if !self.look(alloc, journal, pass, spawner, clock)? {
-                return Ok(());
+        'looks: for sent in 0..MOST_LOOKS {
+            if !self.look(rt, alloc, floor, pass, spawner, clock)? {
+                return Ok(sent);
             }
         }
-        Ok(())
+        Ok(MOST_LOOKS)
     }
 
-    /// One turn: the kept report, the kill that failed, the time where something is due, at most 256 Hands with their
-    /// orders, and at most 256 looks with their reports. What it answers as waiting waited behind the last Hand.
-    pub fn turn<K: Keeper, P: Spawner, C: Clock>(
+    /// One turn: what earlier calls left, the time where something is due, at most 256 Hands with their orders, and at most 256
+    /// looks with their reports. What it answers as waiting waited behind the last Hand. It may wait for other callers.
+    pub fn turn<K: Keeper, P: Spawner, C: Clock, R: Wait>(
         &mut self,
+        rt: &R,
         alloc: Global,
-        journal: &mut Journal<K>,
-        pass: &Pass,
+        floor: &Floor<K>,
+        pass: &mut FloorPass<K>,
         spawner: &mut P,
         clock: &mut C,
     ) -> Result<Turned, MonitorFault>
-        requires pass { pass.now ≡ monitor_pass }
-        ensures part { MonitorAdvances P.asked P.told P.misses journal.old.history self.old spawner.old journal.new.history self.new spawner.new }
+        requires own { IsPassOf floor.now pass.old }
+        ensures part { MonitorAdvances P.asked P.told P.misses P.faults floor.now 256 258 pass.old self.old spawner.old pass.new self.new spawner.new }
         ensures clear { OnOk result (IsClear self.new) }
-        ensures most { IsOneTurn (since journal.old.history.log journal.new.history.log) }
+        ensures kill { IsAskedOrKept self.old.failed_kill (P.asked spawner.old) (P.asked spawner.new) self.new.failed_kill }
         ensures again { OnOk result (IfSome self.old.failed_kill (λ serial. AsksFirst (Kill serial) (P.asked spawner.old) (P.asked spawner.new))) }
-        ensures faults { P.faults spawner.old ≤ P.faults spawner.new }
-        ensures wait_fault { IsErrOf result MonitorFault.WaitFault → raised (P.faults spawner.old) ≤ P.faults spawner.new }
-        ensures full { (n : ℕ) → IsErrOf result (MonitorFault.LogFull n) → n ≡ 4000000 }
-        ensures journal { HasJournalCauses K.faults K.trail (IsErrOf result MonitorFault.KeeperFault) (IsErrOf result (MonitorFault.LogFull 4000000)) 4000000 journal.old journal.new }
-        ensures sent { IfOk result (λ turned. turned.sent ≡ length journal.new.history.log - length journal.old.history.log) }
-        ensures pending { IfOk result (λ turned. WaitedSince journal.old.history journal.new.history turned.pending) }
-        ensures handed { IfOk result (λ turned. (turned.pending.orders ≡ 0) ⊎ (hands_of (since journal.old.history.log journal.new.history.log) ≡ 256)) }
+        ensures sent { IfOk result (λ turned. turned.sent ≡ length (added pass.old pass.new)) }
+        ensures waited { IfOk result (λ turned. WaitedAt floor.now pass.old pass.new turned.at turned.pending) }
+        ensures handed { IfOk result (λ turned. (turned.pending.orders ≡ 0) ⊎ (hands_of (added pass.old pass.new) ≡ 256)) }
         ensures idle { IfOk result (λ turned. turned.sent ≡ 0 → self.old.failed_kill ≡ None →
-            IsIdle journal.old.history self.old.kept self.old.failed_kill (C.coming clock.old) (P.reporting spawner.old)) }
+            HadNothing floor.now pass.old pass.new self.old.kept (C.coming clock.old) (P.reporting spawner.old)) }
+        ensures cause { IfErr result (IsCaused (P.faults spawner.old) (P.faults spawner.new) pass.old.mark pass.new.mark pass.new.seen) }
     {
-        let before = journal.len();
-        self.send_kept(alloc, journal, pass, clock)?;
-        self.retry(spawner)?;
-        self.tick(alloc, journal, pass, clock)?;
-        let pending = self.hands(alloc, journal, pass, spawner, clock)?;
-        self.looks(alloc, journal, pass, spawner, clock)?;
+        let settled = self.settle(rt, alloc, floor, pass, spawner, clock)?;
+        let ticked = tick(rt, alloc, floor, pass, clock)?;
+        let handed = self.hands(rt, alloc, floor, pass, spawner, clock)?;
+        let looked = self.looks(rt, alloc, floor, pass, spawner, clock)?;
         Ok(Turned {
-            sent: journal.len().saturating_sub(before),
-            pending,
+            sent: settled + ticked + handed.sent + looked,
+            at: handed.at,
+            pending: handed.pending,
         })
     }
 
-    /// Sends the kept report, waits for a report, until the moment at the latest where one is given, and makes its call.
-    /// A kill that failed is left to the next turn.
+    /// Sends the kept report, waits for a report, until the moment at the latest where one is given, and makes its call. A kill
+    /// that failed is left to the next turn. It may wait for other callers.
     pub fn wait<K: Keeper, P: Spawner, C: Clock, R: Wait>(
         &mut self,
         rt: &R,
         alloc: Global,
-        journal: &mut Journal<K>,
-        pass: &Pass,
+        floor: &Floor<K>,
+        pass: &mut FloorPass<K>,
         spawner: &mut P,
         clock: &mut C,
         until: Option<Moment>,
     ) -> Result<Turned, MonitorFault>
-        requires pass { pass.now ≡ monitor_pass }
-        ensures part { MonitorAdvances P.asked P.told P.misses journal.old.history self.old spawner.old journal.new.history self.new spawner.new }
-        ensures report { OnOk result (until ≡ None → IsEmpty (P.out spawner.old) ⊎ (length journal.old.history.log < length journal.new.history.log)) }
+        requires own { IsPassOf floor.now pass.old }
+        ensures part { MonitorAdvances P.asked P.told P.misses P.faults floor.now 0 2 pass.old self.old spawner.old pass.new self.new spawner.new }
+        ensures report { OnOk result (until ≡ None → IsEmpty (P.out spawner.old) ⊎ (1 ≤ length (added pass.old pass.new))) }
         ensures awaited { OnOk result (Grows (P.awaited spawner.old) (P.awaited spawner.new) (until ∷ [])) }
         ensures kept { OnOk result (self.new.kept ≡ None) }
         ensures kill { self.new.failed_kill ≡ self.old.failed_kill }
-        ensures faults { P.faults spawner.old ≤ P.faults spawner.new }
-        ensures wait_fault { IsErrOf result MonitorFault.WaitFault → raised (P.faults spawner.old) ≤ P.faults spawner.new }
-        ensures full { (n : ℕ) → IsErrOf result (MonitorFault.LogFull n) → n ≡ 4000000 }
-        ensures journal { HasJournalCauses K.faults K.trail (IsErrOf result MonitorFault.KeeperFault) (IsErrOf result (MonitorFault.LogFull 4000000)) 4000000 journal.old journal.new }
-        ensures sent { IfOk result (λ turned. turned.sent ≡ length journal.new.history.log - length journal.old.history.log) }
-        ensures pending { IfOk result (λ turned. WaitedSince journal.old.history journal.new.history turned.pending) }
+        ensures sent { IfOk result (λ turned. turned.sent ≡ length (added pass.old pass.new)) }
+        ensures at { IfOk result (λ turned. turned.at ≡ length pass.new.seen) }
+        ensures waited { IfOk result (λ turned. WaitedAt floor.now pass.old pass.new turned.at turned.pending) }
+        ensures cause { IfErr result (IsCaused (P.faults spawner.old) (P.faults spawner.new) pass.old.mark pass.new.mark pass.new.seen) }
     {
-        let before = journal.len();
-        self.send_kept(alloc, journal, pass, clock)?;
+        let first = self.send_kept(rt, alloc, floor, pass, clock)?;
         let report = asking::wait(rt, spawner, until)?;
         self.kept = report;
-        self.send_kept(alloc, journal, pass, clock)?;
-        Ok(Turned {
-            sent: journal.len().saturating_sub(before),
-            pending: journal.pending(MONITOR),
-        })
+        let second = self.send_kept(rt, alloc, floor, pass, clock)?;
+        let monitor = pass.number();
+        let waiting = floor.pending(rt, pass, monitor);
+        Ok(Turned::of(first + second, waiting))
     }
 }

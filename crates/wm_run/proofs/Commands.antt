@@ -13,7 +13,7 @@ use Rattle.wm_floor.specs.Floor.{Floored, HasLooked, IsPassOf, IsSame, Seen, ent
 use Rattle.wm_floor.specs.Ledger.{caller_of}
 use Rattle.wm_floor.specs.declared.opened.Opened.{Opened}
 use Rattle.wm_monitor.specs.Lists.{since}
-use Rattle.wm_shared_monitor.proofs.Passes.{own_since, since-by}
+use Rattle.wm_monitor.proofs.Passes.{own_since, since-by}
 use Rattle.wm_run.specs.Answer.{with_end, is_power_down, is_refused}
 use Rattle.wm_run.specs.Calls.{Called, MakesCall, session_pass}
 use Rattle.wm_run.specs.Down.{is_down}

@@ -8,7 +8,7 @@ use Rattle.wm_journal.specs.History.{History}
 use Rattle.wm_floor.specs.Floor.{Floored}
 use Rattle.wm_floor.specs.Ledger.{behind}
 use Rattle.wm_turn.specs.Passed.{StartsWith}
-use Rattle.wm_shared_monitor.proofs.Passes.{Extends-by}
+use Rattle.wm_monitor.proofs.Passes.{Extends-by}
 use Rattle.wm_run.specs.Grown.{grown, entries_between, session_of}
 use Rattle.wm_run.specs.declared.running.Run.{Run}
 use Rattle.wm_monitor.specs.Lists.{Extends}

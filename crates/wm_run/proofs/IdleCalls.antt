@@ -9,8 +9,8 @@ use Rattle.wm_floor.specs.Floor.{Floored, Seen}
 use Rattle.wm_floor.specs.Ledger.{behind}
 use Rattle.wm_monitor.specs.Idle.{monitor_pass}
 use Rattle.wm_monitor.specs.Monitor.{hands_of}
-use Rattle.wm_shared_monitor.specs.Advance.{added}
-use Rattle.wm_shared_monitor.specs.Turned.{WaitedAt}
+use Rattle.wm_monitor.specs.Advance.{added}
+use Rattle.wm_monitor.specs.Turned.{WaitedAt}
 use Rattle.wm_run.specs.Serving.{LeftNoOrder}
 use Rattle.wm_run.specs.declared.running.Run.{Run}
 

@@ -19,8 +19,7 @@ use Rattle.wm_traits.specs.Told.{Grows, Stays}
 use Rattle.wm_plan.specs.declared.plan.RunPlan.{RunPlan}
 use Rattle.wm_run.specs.Words.{OpensPlanned}
 use Rattle.wm_run.specs.Kept.{HasHistory, HasOpened, IsUnopened, open_status, store_status}
-use Rattle.wm_monitor.specs.Idle.{monitor_pass}
-use Rattle.wm_shared_monitor.specs.Idle.{NoneIsIdle}
+use Rattle.wm_monitor.specs.Idle.{monitor_pass, NoneIsIdle}
 use Rattle.wm_journal.specs.Keeping.{Telling, IsOpened}
 use Rattle.wm_journal.specs.Stored.{HasTables}
 use Rattle.wm_journal.specs.declared.open_fault.OpenFault.{OpenFault}

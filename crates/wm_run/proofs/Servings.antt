@@ -8,11 +8,11 @@ use Rattle.wm_floor.specs.Floor.{Floored, HasLooked, IsPassOf, IsSame, Seen, ent
 use Rattle.wm_floor.specs.declared.opened.Opened.{Opened}
 use Rattle.wm_monitor.specs.Lists.{Extends}
 use Rattle.wm_monitor.proofs.Lists.{Extends-then}
-use Rattle.wm_shared_monitor.specs.Attends.{Attends}
-use Rattle.wm_shared_monitor.specs.Scene.{Spawning, scene}
-use Rattle.wm_shared_monitor.specs.declared.monitor.SharedMonitor.{SharedMonitor}
-use Rattle.wm_shared_monitor.proofs.Attending.{attends_looked, attends_none, attends_then}
-use Rattle.wm_shared_monitor.proofs.Passes.{Extends-by}
+use Rattle.wm_monitor.specs.Attends.{Attends}
+use Rattle.wm_monitor.specs.Scene.{Spawning, scene}
+use Rattle.wm_monitor.specs.declared.monitor.Monitor.{Monitor}
+use Rattle.wm_monitor.proofs.Attending.{attends_looked, attends_none, attends_then}
+use Rattle.wm_monitor.proofs.Passes.{Extends-by}
 use Rattle.wm_run.specs.Calls.{Called}
 use Rattle.wm_run.specs.Grown.{session_of}
 use Rattle.wm_run.specs.Serving.{IsRunning, PassGoesOn, Serves}
@@ -90,7 +90,7 @@ module _ {K : Type 0} where
   serves_session old new s before now floor session looked same monitor = record {
     floor = floor;
     session = session;
-    part = subst (λ (m : SharedMonitor). Attends old.floor old.watch new.watch (scene old.monitor s) (scene m s)) (sym monitor)
+    part = subst (λ (m : Monitor). Attends old.floor old.watch new.watch (scene old.monitor s) (scene m s)) (sym monitor)
         (attends_looked old.floor old.watch new.watch (scene old.monitor s) before.watch (subst (λ (f : Floored K). IsPassOf f new.watch) floor now.watch) same looked);
   }
 
@@ -99,6 +99,6 @@ module _ {K : Type 0} where
   serves_alone old new s before floor session watch monitor = record {
     floor = floor;
     session = session;
-    part = subst (λ (m : SharedMonitor). Attends old.floor old.watch new.watch (scene old.monitor s) (scene m s)) (sym monitor)
+    part = subst (λ (m : Monitor). Attends old.floor old.watch new.watch (scene old.monitor s) (scene m s)) (sym monitor)
         (subst (λ (p : Seen K). Attends old.floor old.watch p (scene old.monitor s) (scene old.monitor s)) (sym watch) (attends_none old.floor old.watch (scene old.monitor s) before.watch));
   }

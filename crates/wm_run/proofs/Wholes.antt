@@ -14,7 +14,7 @@ use Rattle.wm_floor.specs.declared.opened.Opened.{Opened}
 use Rattle.wm_monitor.specs.Idle.{monitor_pass}
 use Rattle.wm_monitor.specs.Lists.{since, Extends}
 use Rattle.wm_monitor.proofs.Lists.{since-then}
-use Rattle.wm_shared_monitor.proofs.Passes.{Extends-by, since-by}
+use Rattle.wm_monitor.proofs.Passes.{Extends-by, since-by}
 use Rattle.wm_run.specs.Calls.{Called, session_pass}
 use Rattle.wm_run.specs.Grown.{session_of}
 use Rattle.wm_run.specs.Serving.{IsFresh, IsHistory, IsRunning, IsWhole}

@@ -12,8 +12,7 @@ use Rattle.wm_law.specs.declared.state.State.{State}
 use Rattle.wm_traits.specs.declared.fault.KeepFault.{KeepFault}
 use Rattle.wm_traits.specs.declared.fault.KeepFault.TheVariants as keep
 use Rattle.wm_traits.specs.declared.row.Row.{Row}
-use Rattle.wm_monitor.specs.Idle.{monitor_pass}
-use Rattle.wm_shared_monitor.specs.Idle.{NoneIsIdle}
+use Rattle.wm_monitor.specs.Idle.{monitor_pass, NoneIsIdle}
 use Rattle.wm_journal.specs.Keeping.{Telling, IsLeft}
 use Rattle.wm_journal.specs.Stored.{HasTables}
 use Rattle.wm_journal.specs.declared.open_fault.OpenFault.{OpenFault}

@@ -11,8 +11,8 @@ use Rattle.wm_floor.specs.Ledger.{behind, caller_of}
 use Rattle.wm_monitor.specs.Idle.{monitor_pass}
 use Rattle.wm_monitor.specs.Lists.{Extends}
 use Rattle.wm_monitor.specs.Monitor.{is_own}
-use Rattle.wm_shared_monitor.specs.Attends.{Attends}
-use Rattle.wm_shared_monitor.specs.Scene.{Spawning, scene, spawner_seen}
+use Rattle.wm_monitor.specs.Attends.{Attends}
+use Rattle.wm_monitor.specs.Scene.{Spawning, scene, spawner_seen}
 use Rattle.wm_run.specs.Calls.{session_pass}
 use Rattle.wm_run.specs.declared.running.Run.{Run}
 

@@ -44,8 +44,8 @@ impl<K: Keeper> Run<K> {
     ghost use Rattle.wm_floor.specs.Ledger.{behind};
     ghost use Rattle.wm_monitor.specs.Idle.{monitor_pass};
     ghost use Rattle.wm_monitor.specs.Lists.{since};
-    ghost use Rattle.wm_shared_monitor.specs.Advance.{added};
-    ghost use Rattle.wm_shared_monitor.specs.Scene.{IsClear, Spawning};
+    ghost use Rattle.wm_monitor.specs.Advance.{added};
+    ghost use Rattle.wm_monitor.specs.Scene.{IsClear, Spawning};
     ghost use Rattle.wm_traits.specs.Told.{IsEmpty};
     ghost use Rattle.wm_run.specs.Awaited.{jobs_left};
     ghost use Rattle.wm_run.specs.Grown.{seen_since, session_of};

@@ -26,8 +26,7 @@ use std::sync::Wait;
 use wm_core::Setup;
 use wm_floor::{Closed, Floor, FloorPass};
 use wm_journal::OpenFault;
-use wm_monitor::{MONITOR, Report};
-use wm_shared_monitor::SharedMonitor;
+use wm_monitor::{MONITOR, Monitor, Report};
 use wm_traits::{Clock, Keeper, Sink, Source, Spawner};
 
 // What a machine opens with.
@@ -75,7 +74,7 @@ impl<K: Keeper> Run<K> {
     ghost use Rattle.wm_journal.specs.Trail.{HasTrail};
     ghost use Rattle.wm_floor.specs.Floor.{IsLeftOrOpened};
     ghost use Rattle.wm_floor.specs.Ledger.{behind};
-    ghost use Rattle.wm_shared_monitor.specs.Scene.{IsClear};
+    ghost use Rattle.wm_monitor.specs.Scene.{IsClear};
     ghost use Rattle.wm_monitor.specs.Lists.{since};
     ghost use Rattle.wm_run.specs.Grown.{session_of};
     ghost use Rattle.wm_run.specs.Halt.{HasFloorCauses, HasInputCauses, KeepsNone};
@@ -112,7 +111,7 @@ impl<K: Keeper> Run<K> {
             floor,
             session,
             watch,
-            monitor: SharedMonitor::new(),
+            monitor: Monitor::new(),
         })
     }
 

@@ -1,6 +1,6 @@
 // What a run has.
 use wm_floor::{Floor, FloorPass};
-use wm_shared_monitor::SharedMonitor;
+use wm_monitor::Monitor;
 use wm_traits::Keeper;
 
 /// The floor of a run, the session's pass of it, the monitor's, and the monitor.
@@ -8,5 +8,5 @@ pub struct Run<K: Keeper> {
     pub floor: Floor<K>,
     pub session: FloorPass<K>,
     pub watch: FloorPass<K>,
-    pub monitor: SharedMonitor,
+    pub monitor: Monitor,
 }

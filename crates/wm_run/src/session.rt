@@ -25,7 +25,7 @@ use wm_clwords::ClFault;
 use wm_floor::Waiting;
 use wm_law::{Call, Command, Reply};
 use wm_listing::LineFault;
-use wm_shared_monitor::Turned;
+use wm_monitor::Turned;
 use wm_traits::{Clock, Keeper, Sink, Spawner};
 
 // Writes, and tells a fault as the run's.
@@ -80,9 +80,9 @@ impl<K: Keeper> Run<K> {
     ghost use Rattle.wm_floor.specs.Ledger.{behind};
     ghost use Rattle.wm_monitor.specs.Idle.{monitor_pass};
     ghost use Rattle.wm_monitor.specs.Monitor.{hands_of};
-    ghost use Rattle.wm_shared_monitor.specs.Advance.{added};
-    ghost use Rattle.wm_shared_monitor.specs.Scene.{IsClear, Spawning};
-    ghost use Rattle.wm_shared_monitor.specs.Turned.{HadNothing, WaitedAt};
+    ghost use Rattle.wm_monitor.specs.Advance.{added};
+    ghost use Rattle.wm_monitor.specs.Scene.{IsClear, Spawning};
+    ghost use Rattle.wm_monitor.specs.Turned.{HadNothing, WaitedAt};
     ghost use Rattle.wm_run.specs.Calls.{Called, MakesCall};
     ghost use Rattle.wm_run.specs.Down.{is_down};
     ghost use Rattle.wm_run.specs.Grown.{seen_since, session_of};

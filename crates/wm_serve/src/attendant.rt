@@ -1,16 +1,15 @@
 // A monitor's thread: it starts jobs, ends them and reports their ends, until nothing is left to do.
 ghost use Rattle.std.specs.Prelude.{◌≡◌, IfErr, IfSome, None, OnOk};
 ghost use Rattle.wm_floor.specs.Floor.{IsPassOf};
-ghost use Rattle.wm_shared_monitor.specs.Causes.{IsCaused};
-ghost use Rattle.wm_shared_monitor.specs.Attends.{MonitorAttends};
+ghost use Rattle.wm_monitor.specs.Causes.{IsCaused};
+ghost use Rattle.wm_monitor.specs.Attends.{MonitorAttends};
 
 use crate::board::Board;
 use std::alloc::Global;
 use std::sync::Wait;
 use wm_base::Moment;
 use wm_floor::{Floor, FloorPass};
-use wm_monitor::MonitorFault;
-use wm_shared_monitor::SharedMonitor;
+use wm_monitor::{Monitor, MonitorFault};
 use wm_traits::{Clock, Keeper, Spawner};
 
 // Until when a monitor waits: the moment at which something is due next, but a second at the most, since others give orders too.
@@ -33,7 +32,7 @@ fn turn_once<K: Keeper, P: Spawner, C: Clock, R: Wait>(
     alloc: Global,
     floor: &Floor<K>,
     pass: &mut FloorPass<K>,
-    monitor: &mut SharedMonitor,
+    monitor: &mut Monitor,
     spawner: &mut P,
     clock: &mut C,
     board: &Board,
@@ -65,7 +64,7 @@ pub fn attend<K: Keeper, P: Spawner, C: Clock, R: Wait>(
     alloc: Global,
     floor: &Floor<K>,
     pass: &mut FloorPass<K>,
-    monitor: &mut SharedMonitor,
+    monitor: &mut Monitor,
     spawner: &mut P,
     clock: &mut C,
     board: &Board,

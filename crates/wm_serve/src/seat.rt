@@ -7,8 +7,7 @@ ghost use Rattle.wm_serve.specs.Seats.{IsFresh, Tellers, desk_of, is_dry, pass_o
 use crate::halt::Halt;
 use crate::worker::Stopped;
 use wm_floor::FloorPass;
-use wm_monitor::MonitorFault;
-use wm_shared_monitor::SharedMonitor;
+use wm_monitor::{Monitor, MonitorFault};
 use wm_traits::Keeper;
 
 /// A worker's desk and clock, and why the worker stopped last.
@@ -23,7 +22,7 @@ pub struct WorkerSeat<K: Keeper, D, C> {
 pub struct MonitorSeat<K: Keeper, P, C> {
     pub(crate) spawner: P,
     pub(crate) clock: C,
-    pub(crate) monitor: SharedMonitor,
+    pub(crate) monitor: Monitor,
     pub(crate) pass: Option<FloorPass<K>>,
     pub(crate) fault: Option<MonitorFault>,
 }
@@ -72,7 +71,7 @@ impl<K: Keeper, D, P, C> Seat<K, D, P, C> {
         Seat::Monitor(MonitorSeat {
             spawner,
             clock,
-            monitor: SharedMonitor::new(),
+            monitor: Monitor::new(),
             pass: None,
             fault: None,
         })

@@ -7,14 +7,14 @@ use std::alloc::{AllocError, Global};
 use std::sync::Wait;
 use wm_base::{Asked, Moment};
 use wm_floor::{Floor, FloorPass};
+use wm_monitor::Monitor;
 use wm_outside::{MemClock, MemSpawner};
-use wm_shared_monitor::SharedMonitor;
 use wm_traits::Keeper;
 
 /// A monitor with what it starts jobs by.
 #[derive(Drop)]
 pub struct Watcher {
-    monitor: SharedMonitor,
+    monitor: Monitor,
     spawner: MemSpawner,
     clock: MemClock,
     sent: u64,
@@ -34,7 +34,7 @@ impl Watcher {
     pub fn new(alloc: Global, lag: u32) -> Watcher {
         let none = || Vec::new(alloc);
         Watcher {
-            monitor: SharedMonitor::new(),
+            monitor: Monitor::new(),
             spawner: MemSpawner::new(alloc, lag, none(), none(), none()),
             clock: MemClock::new(Moment::new(1000), 1),
             sent: 0,

@@ -14,9 +14,8 @@ use wm_desc::qbatch;
 use wm_floor::{Answered, Floor, Log};
 use wm_journal::CallFault;
 use wm_law::Call;
-use wm_monitor::MonitorFault;
+use wm_monitor::{MonitorFault, Turned};
 use wm_outside::{MemKeeper, MemSpawner};
-use wm_shared_monitor::Turned;
 use wm_when::Offset;
 
 /// One of the two monitors, by the number of its pass.

@@ -7,8 +7,7 @@ use wm_floor::{Answered, Log};
 use wm_journal::CallFault;
 use wm_law::Pending;
 use wm_listing::push_entry;
-use wm_monitor::MonitorFault;
-use wm_shared_monitor::Turned;
+use wm_monitor::{MonitorFault, Turned};
 
 /// Adds the place of a call's entry, or its fault.
 pub fn write_called(called: Result<Answered, CallFault>, answer: &mut String) -> Result<()> {

@@ -7,9 +7,8 @@ use std::mem;
 use std::sync::Wait;
 use wm_base::{Asked, Moment};
 use wm_floor::{Floor, FloorPass};
-use wm_monitor::MonitorFault;
+use wm_monitor::{Monitor, MonitorFault, Turned};
 use wm_outside::{MemClock, MemKeeper, MemSpawner};
-use wm_shared_monitor::{SharedMonitor, Turned};
 
 /// The floor of the cases.
 pub type TestFloor = Floor<MemKeeper>;
@@ -23,7 +22,7 @@ pub const LAG: u32 = 1000;
 /// A monitor and its spawner in memory.
 #[derive(Drop)]
 pub struct Watch {
-    pub monitor: SharedMonitor,
+    pub monitor: Monitor,
     spawner: MemSpawner,
 }
 
@@ -32,7 +31,7 @@ impl Watch {
     pub fn new(alloc: Global) -> Watch {
         let (starts, kills, looks) = (Vec::new(alloc), Vec::new(alloc), Vec::new(alloc));
         Watch {
-            monitor: SharedMonitor::new(),
+            monitor: Monitor::new(),
             spawner: MemSpawner::new(alloc, LAG, starts, kills, looks),
         }
     }

@@ -13,10 +13,10 @@ use wm_desc::qbatch;
 use wm_floor::{Floor, FloorPass};
 use wm_http::Routes;
 use wm_listener::{MemDesk, MemListener};
+use wm_monitor::Monitor;
 use wm_outside::{MemClock, MemKeeper, MemSpawner};
 use wm_run::start_call;
 use wm_serve::{Board, attend, work};
-use wm_shared_monitor::SharedMonitor;
 use wm_web::FreeGate;
 use wm_when::Offset;
 
@@ -115,7 +115,7 @@ fn play_monitor<R: Wait>(
     let none = || Vec::new(alloc);
     let mut spawner = MemSpawner::new(alloc, 0, none(), none(), none());
     let mut clock = MemClock::new(Moment::new(3000), 0);
-    let mut monitor = SharedMonitor::new();
+    let mut monitor = Monitor::new();
     let met = attend(
         rt,
         alloc,

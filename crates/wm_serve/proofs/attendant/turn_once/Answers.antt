@@ -1,4 +1,4 @@
-use Rattle.wm_shared_monitor.proofs.Attending.{attends_by, attends_then}
+use Rattle.wm_monitor.proofs.Attending.{attends_by, attends_then}
 use Rattle.wm_serve.proofs.attendant.turn_once.Goals as goal
 
 pub returns-in_err-wait-clause-part : goal.returns-in_err-wait-clause-part

@@ -1,5 +1,5 @@
 use Rattle.std.proofs.Common.{refl, rules}
-use Rattle.wm_shared_monitor.proofs.Attending.{attends_by, attends_then}
+use Rattle.wm_monitor.proofs.Attending.{attends_by, attends_then}
 use Rattle.wm_serve.proofs.serving.tend.Goals as goal
 
 pub returns-in_err-wait-clause-tends : goal.returns-in_err-wait-clause-tends

@@ -15,7 +15,7 @@ use Rattle.wm_journal.proofs.stored.StoredCore.step.Goals as goal
 -- the changes that were made
 made : (g : Over) (c : goal.In-Ok g) →
     let T = telling g.K.Keeper.tables g.K.Keeper.trail in
-    (changes : List RowChange) × IsStoredStep c.self.inside.core.state c.args.caller c.args.call.now c.args.now changes (T c.self.inside.keeper) (T c.keep_step-kept.new.keeper)
+    (changes : List RowChange) × IsStoredStep c.self.inside.core.state c.args.caller c.args.call.now c.args.now changes (T c.self.inside.keeper) (T c.keep_copied-kept.new.keeper)
 made g c =
     let s = c.self.inside.core.state in
     let call = c.args.call.now in
@@ -37,7 +37,7 @@ made g c =
         late = c.get-moment.ensures.range;
         are = applied.1;
         applied = applied.2;
-        both = g.met.K.Keeper.trail_with_tables c.keep_step-kept.new.keeper;
+        both = g.met.K.Keeper.trail_with_tables c.keep_copied-kept.new.keeper;
       },
     )
 
@@ -45,14 +45,14 @@ pub invariant_of-self-in-Ok : goal.invariant_of-self-in-Ok
 invariant_of-self-in-Ok g c =
     let m = made g c in
     let T = telling g.K.Keeper.tables g.K.Keeper.trail in
-    let now = step_in_step c.self.inside.core.state c.args.caller c.args.call.now c.args.now m.0 (T c.self.inside.keeper) (T c.keep_step-kept.new.keeper) m.1 in
-    subst (λ (u : State). IsInStep u (g.K.Keeper.tables c.keep_step-kept.new.keeper)) (sym c.in_ok-reply.ensures.state) now
+    let now = step_in_step c.self.inside.core.state c.args.caller c.args.call.now c.args.now m.0 (T c.self.inside.keeper) (T c.keep_copied-kept.new.keeper) m.1 in
+    subst (λ (u : State). IsInStep u (g.K.Keeper.tables c.keep_copied-kept.new.keeper)) (sym c.in_ok-reply.ensures.state) now
 
 pub returns-in-Ok-clause-kept : goal.returns-in-Ok-clause-kept
 returns-in-Ok-clause-kept g c =
     let m = made g c in
     let T = telling g.K.Keeper.tables g.K.Keeper.trail in
     let s = c.self.inside.core.state in
-    let now = step_kept s c.args.caller c.args.call.now c.args.now m.0 (T c.self.inside.keeper) (T c.keep_step-kept.new.keeper) m.1 in
-    let kept = subst (λ (u : State). IsKept s u (T c.self.inside.keeper) (T c.keep_step-kept.new.keeper)) (sym c.in_ok-reply.ensures.state) now in
-    subst (λ (was : Stored _). IsKept was.state c.step.new.self.state (T was.keeper) (T c.keep_step-kept.new.keeper)) c.self.view_is kept
+    let now = step_kept s c.args.caller c.args.call.now c.args.now m.0 (T c.self.inside.keeper) (T c.keep_copied-kept.new.keeper) m.1 in
+    let kept = subst (λ (u : State). IsKept s u (T c.self.inside.keeper) (T c.keep_copied-kept.new.keeper)) (sym c.in_ok-reply.ensures.state) now in
+    subst (λ (was : Stored _). IsKept was.state c.step.new.self.state (T was.keeper) (T c.keep_copied-kept.new.keeper)) c.self.view_is kept

@@ -1,0 +1,78 @@
+use Rattle.std.proofs.Common.{[], arith}
+use Rattle.std.proofs.lemmas.Result.{err_from_is_err_and}
+use Rattle.wm_monitor.proofs.Askings.{AsksFirst-again, AsksFor-none}
+use Rattle.wm_monitor.specs.Scene.{spawner_seen}
+use Rattle.wm_monitor.proofs.Causes.{caused}
+use Rattle.wm_monitor.proofs.Parts.{kill_is_asked, kill_is_kept, tried_part}
+use Rattle.wm_monitor.proofs.monitor.Monitor.settle.Goals as goal
+
+pub returns-in_err-reported-clause-part : goal.returns-in_err-reported-clause-part
+returns-in_err-reported-clause-part g c =
+    let s = g.P.Spawner in
+    let see = spawner_seen s.asked s.told s.misses s.faults in
+    c.send_kept.ensures.part (see c.args.spawner.now)
+
+pub returns-in_err-retry-clause-part : goal.returns-in_err-retry-clause-part
+returns-in_err-retry-clause-part g c =
+    let s = g.P.Spawner in
+    let see = spawner_seen s.asked s.told s.misses s.faults in
+    let p = c.args.pass.now in
+    let m = c.args.self.now in
+    let v = see c.args.spawner.now in
+    let q = c.send_kept.new.pass in
+    let w = see c.retry.new.spawner in
+    tried_part c.args.floor.now p q m c.send_kept.new.self c.retry.new.self v w (c.send_kept.ensures.part v) c.retry.ensures.asked c.retry.ensures.reported c.retry.ensures.faults
+
+pub returns-clause-part : goal.returns-clause-part
+returns-clause-part g c =
+    let s = g.P.Spawner in
+    let see = spawner_seen s.asked s.told s.misses s.faults in
+    let p = c.args.pass.now in
+    let m = c.args.self.now in
+    let v = see c.args.spawner.now in
+    let q = c.send_kept.new.pass in
+    let w = see c.retry.new.spawner in
+    tried_part c.args.floor.now p q m c.send_kept.new.self c.retry.new.self v w (c.send_kept.ensures.part v) c.retry.ensures.asked c.retry.ensures.reported c.retry.ensures.faults
+
+pub returns-in_err-reported-clause-kill : goal.returns-in_err-reported-clause-kill
+returns-in_err-reported-clause-kill g c =
+    kill_is_kept _ _ _ _ c.send_kept.ensures.kill
+
+pub returns-in_err-retry-clause-kill : goal.returns-in_err-retry-clause-kill
+returns-in_err-retry-clause-kill g c =
+    let s = g.P.Spawner in
+    let see = spawner_seen s.asked s.told s.misses s.faults in
+    let m = c.args.self.now in
+    let v = see c.args.spawner.now in
+    let m1 = c.send_kept.new.self in
+    let w = see c.retry.new.spawner in
+    kill_is_asked m.failed_kill _ v.asked w.asked (AsksFirst-again m.failed_kill m1.failed_kill [] v.asked w.asked w.asked [] c.send_kept.ensures.kill c.retry.ensures.again (AsksFor-none [] w.asked))
+
+pub returns-clause-kill : goal.returns-clause-kill
+returns-clause-kill g c =
+    let s = g.P.Spawner in
+    let see = spawner_seen s.asked s.told s.misses s.faults in
+    let m = c.args.self.now in
+    let v = see c.args.spawner.now in
+    let m1 = c.send_kept.new.self in
+    let w = see c.retry.new.spawner in
+    kill_is_asked m.failed_kill _ v.asked w.asked (AsksFirst-again m.failed_kill m1.failed_kill [] v.asked w.asked w.asked [] c.send_kept.ensures.kill c.retry.ensures.again (AsksFor-none [] w.asked))
+
+pub returns-clause-again : goal.returns-clause-again
+returns-clause-again g c =
+    let s = g.P.Spawner in
+    let see = spawner_seen s.asked s.told s.misses s.faults in
+    let m = c.args.self.now in
+    let v = see c.args.spawner.now in
+    let m1 = c.send_kept.new.self in
+    let w = see c.retry.new.spawner in
+    AsksFirst-again m.failed_kill m1.failed_kill [] v.asked w.asked w.asked [] c.send_kept.ensures.kill c.retry.ensures.again (AsksFor-none [] w.asked)
+
+pub returns-in_err-retry-clause-cause : goal.returns-in_err-retry-clause-cause
+returns-in_err-retry-clause-cause g c =
+    let s = g.P.Spawner in
+    let see = spawner_seen s.asked s.told s.misses s.faults in
+    let q = c.send_kept.new.pass in
+    let sent = c.send_kept.ensures.part (see c.args.spawner.now) in
+    let e = err_from_is_err_and c.from_residual-in_err-retry.result c.from_residual-in_err-retry.ensures.1 in
+    caused c.from_residual-in_err-retry.result _ e.0 _ _ _ _ _ _ _ e.1 e.2 (c.in_err-retry.ensures.cause q.mark q.seen) (omega arith) sent.pass.mark

@@ -1,9 +1,0 @@
-pub mod Advances
-pub mod Attending
-pub mod Calls
-pub mod Causes
-pub mod Idles
-pub mod Loops
-pub mod Parts
-pub mod Passes
-pub mod Turns
