@@ -1,4 +1,4 @@
-// What an open journal is asked:
+// What an open floor is asked:
 //
 // > TEXT                 the command of this CL text, which QUSER calls: the number of its entry and the reply, `LOGFULL N` or
 //                        `KEEPERFAULT`
@@ -14,12 +14,13 @@ ghost use Rattle.wm_command.specs.Printed.{FitsMachine};
 ghost use Rattle.wm_law.specs.Fit.{IsCall, IsCommand};
 ghost use Rattle.wm_law.specs.declared.state.State.{State};
 
-use crate::calls::{self, NOW, OpenJournal};
+use crate::calls::{NOW, OpenFloor};
 use crate::monitor::call_of;
 use crate::replies::write_called;
 use crate::words::first_word;
 use anyhow::{Context, Result, bail};
 use std::alloc::Global;
+use std::sync::Wait;
 use wm_base::{Moment, Name};
 use wm_clwords::read_command;
 use wm_command::{Line, command};
@@ -63,53 +64,58 @@ fn line_call(alloc: Global, user: &Name, line: Line) -> Result<Call>
 }
 
 // Makes a call, and adds what became of it.
-fn call(
+fn call<R: Wait>(
+    rt: &R,
     alloc: Global,
-    journal: &mut OpenJournal,
+    floor: &mut OpenFloor,
     caller: u32,
     call: Call,
     answer: &mut String,
 ) -> Result<()>
     requires fit { IsCall call }
 {
-    let called = calls::call(alloc, journal, caller, call, Moment::new(NOW))?;
-    write_called(alloc, journal.journal(), called, answer)
+    let called = floor.call(rt, alloc, caller, call, Moment::new(NOW))?;
+    let log = floor.log(rt, alloc)?;
+    write_called(alloc, &log, called, answer)
 }
 
 // Calls the command that a CL text is.
-fn change(
+fn change<R: Wait>(
+    rt: &R,
     alloc: Global,
-    journal: &mut OpenJournal,
+    floor: &mut OpenFloor,
     user: &Name,
     text: &str,
     answer: &mut String,
 ) -> Result<()> {
     let line = line_of(alloc, user, text)?;
     let made = line_call(alloc, user, line)?;
-    call(alloc, journal, SESSION, made, answer)
+    call(rt, alloc, floor, SESSION, made, answer)
 }
 
-fn change_as(
+fn change_as<R: Wait>(
+    rt: &R,
     alloc: Global,
-    journal: &mut OpenJournal,
+    floor: &mut OpenFloor,
     words: &str,
     answer: &mut String,
 ) -> Result<()> {
     let (user, text) = first_word(words);
     let user = Name::read(user.as_bytes()).context("no user")?;
-    change(alloc, journal, &user, text, answer)
+    change(rt, alloc, floor, &user, text, answer)
 }
 
-fn report(
+fn report<R: Wait>(
+    rt: &R,
     alloc: Global,
-    journal: &mut OpenJournal,
+    floor: &mut OpenFloor,
     words: &str,
     answer: &mut String,
 ) -> Result<()> {
     let (monitor, words) = first_word(words);
     let monitor = monitor.parse::<u32>()?;
     let made = call_of(words)?;
-    call(alloc, journal, monitor, made, answer)
+    call(rt, alloc, floor, monitor, made, answer)
 }
 
 /// Adds what waits for the monitor.
@@ -123,26 +129,37 @@ pub fn write_pending(pending: &Pending, answer: &mut String) -> Result<()> {
     Ok(())
 }
 
-fn split(journal: &mut OpenJournal, answer: &mut String) -> Result<()> {
-    let number = journal.split()?;
+fn split(floor: &mut OpenFloor, answer: &mut String) -> Result<()> {
+    let number = floor.split()?;
     Ok(writeln!(answer, "{number}")?)
 }
 
-/// Answers by the first word, which is the name of a command where it is none of these.
-pub fn ask(
+fn write_count<R: Wait>(
+    rt: &R,
     alloc: Global,
-    journal: &mut OpenJournal,
+    floor: &mut OpenFloor,
+    answer: &mut String,
+) -> Result<()> {
+    let log = floor.log(rt, alloc)?;
+    Ok(writeln!(answer, "{}", log.len())?)
+}
+
+/// Answers by the first word, which is the name of a command where it is none of these.
+pub fn ask<R: Wait>(
+    rt: &R,
+    alloc: Global,
+    floor: &mut OpenFloor,
     question: &str,
     answer: &mut String,
 ) -> Result<()> {
     let (word, words) = first_word(question);
     match word {
-        "as" => change_as(alloc, journal, words, answer),
-        "monitor" => report(alloc, journal, words, answer),
-        "split" => split(journal, answer),
-        "join" => journal.join(words.parse::<u32>()?),
-        "log" => Ok(writeln!(answer, "{}", journal.journal().len())?),
-        "pending" => write_pending(&calls::pending(journal.journal()), answer),
-        _ => change(alloc, journal, &Name::of(b"QUSER"), question, answer),
+        "as" => change_as(rt, alloc, floor, words, answer),
+        "monitor" => report(rt, alloc, floor, words, answer),
+        "split" => split(floor, answer),
+        "join" => floor.join(words.parse::<u32>()?),
+        "log" => write_count(rt, alloc, floor, answer),
+        "pending" => write_pending(&floor.pending(rt), answer),
+        _ => change(rt, alloc, floor, &Name::of(b"QUSER"), question, answer),
     }
 }

@@ -1,12 +1,13 @@
 // Scripts whose every `apply` fails once.
 use crate::asked::{ask, write_pending};
-use crate::calls::{OpenJournal, closed, pending};
+use crate::calls::OpenFloor;
 use crate::opened::{keeper_of, open};
 use crate::replies::{KEEPER_FAULT, write_entry};
 use crate::rows::write_rows;
 use anyhow::{Result, bail, ensure};
 use std::alloc::Global;
-use wm_journal::Closed;
+use std::sync::Wait;
+use wm_floor::{Closed, Log};
 use wm_law::{Entry, Pending};
 use wm_outside::MemKeeper;
 use wm_traits::Keeper;
@@ -21,17 +22,17 @@ struct Run {
     failed: Option<usize>,
 }
 
-// A journal over no rows, which is opened again where the keeper fails.
-fn opened(alloc: Global, fail: u32) -> Result<OpenJournal> {
+// A floor over no rows, which is opened again where the keeper fails.
+fn opened(alloc: Global, fail: u32) -> Result<OpenFloor> {
     let mut calls = Vec::new(alloc);
     calls.push(fail)?;
     let keeper = keeper_of(Vec::new(alloc), calls)?;
     let keeper = match open(alloc, keeper, "")? {
-        Ok(journal) => return Ok(journal),
+        Ok(floor) => return Ok(floor),
         Err((keeper, _)) => keeper,
     };
     match open(alloc, keeper, "")? {
-        Ok(journal) => Ok(journal),
+        Ok(floor) => Ok(floor),
         Err((keeper, fault)) => {
             drop(keeper);
             bail!("{fault}")
@@ -40,16 +41,21 @@ fn opened(alloc: Global, fail: u32) -> Result<OpenJournal> {
 }
 
 // Asks a line, and answers whether the keeper failed.
-fn fails(alloc: Global, journal: &mut OpenJournal, line: &str) -> Result<bool> {
+fn fails<R: Wait>(rt: &R, alloc: Global, floor: &mut OpenFloor, line: &str) -> Result<bool> {
     let mut answer = String::new(alloc);
-    ask(alloc, journal, line, &mut answer)?;
+    ask(rt, alloc, floor, line, &mut answer)?;
     Ok(answer.as_str() == KEEPER_FAULT)
 }
 
 // Asks the lines up to one that the keeper fails at, and answers which that is.
-fn ask_all(alloc: Global, journal: &mut OpenJournal, script: &[String]) -> Result<Option<usize>> {
+fn ask_all<R: Wait>(
+    rt: &R,
+    alloc: Global,
+    floor: &mut OpenFloor,
+    script: &[String],
+) -> Result<Option<usize>> {
     for (at, line) in script.iter().enumerate() {
-        if fails(alloc, journal, line.as_str())? {
+        if fails(rt, alloc, floor, line.as_str())? {
             return Ok(Some(at));
         }
     }
@@ -66,9 +72,11 @@ fn write_logged(alloc: Global, entry: &Entry, left: &mut String) -> Result<()> {
     write_entry(alloc, entry, left)
 }
 
-fn write_log(alloc: Global, log: &[Entry], left: &mut String) -> Result<()> {
-    for entry in log {
-        write_logged(alloc, entry, left)?;
+fn write_log(alloc: Global, log: &Log, left: &mut String) -> Result<()> {
+    for at in 0..log.len() {
+        if let Some(entry) = log.entry(at) {
+            write_logged(alloc, entry, left)?;
+        }
     }
     Ok(())
 }
@@ -81,20 +89,20 @@ fn left_by(alloc: Global, pending: &Pending, closed: &mut Closed<MemKeeper>) -> 
     Ok(left)
 }
 
-// What a journal leaves: what waits for a monitor, the history and the rows.
-fn left(alloc: Global, journal: OpenJournal) -> Result<String> {
-    let pending = pending(journal.journal());
-    let mut closed = closed(journal)?;
+// What a floor leaves: what waits for a monitor, the history and the rows.
+fn left<R: Wait>(rt: &R, alloc: Global, mut floor: OpenFloor) -> Result<String> {
+    let pending = floor.pending(rt);
+    let mut closed = floor.close();
     let left = left_by(alloc, &pending, &mut closed);
     drop(closed);
     left
 }
 
 // A run up to the line that the keeper fails at.
-fn run_until(alloc: Global, script: &[String], fail: u32) -> Result<Run> {
-    let mut journal = opened(alloc, fail)?;
-    let failed = ask_all(alloc, &mut journal, script);
-    let left = left(alloc, journal)?;
+fn run_until<R: Wait>(rt: &R, alloc: Global, script: &[String], fail: u32) -> Result<Run> {
+    let mut floor = opened(alloc, fail)?;
+    let failed = ask_all(rt, alloc, &mut floor, script);
+    let left = left(rt, alloc, floor)?;
     Ok(Run {
         left,
         failed: failed?,
@@ -102,21 +110,26 @@ fn run_until(alloc: Global, script: &[String], fail: u32) -> Result<Run> {
 }
 
 // Asks the lines, and where the keeper fails at one, that line again and those behind it.
-fn ask_through(alloc: Global, journal: &mut OpenJournal, script: &[String]) -> Result<()> {
-    let Some(at) = ask_all(alloc, journal, script)? else {
+fn ask_through<R: Wait>(
+    rt: &R,
+    alloc: Global,
+    floor: &mut OpenFloor,
+    script: &[String],
+) -> Result<()> {
+    let Some(at) = ask_all(rt, alloc, floor, script)? else {
         return Ok(());
     };
     let (_, behind) = split(script, at);
-    let again = ask_all(alloc, journal, behind)?;
+    let again = ask_all(rt, alloc, floor, behind)?;
     ensure!(again.is_none(), "the keeper fails again");
     Ok(())
 }
 
 // What a run leaves where the line that the keeper fails at is asked again, and those behind it.
-fn run_on(alloc: Global, script: &[String], fail: u32) -> Result<String> {
-    let mut journal = opened(alloc, fail)?;
-    let asked = ask_through(alloc, &mut journal, script);
-    let left = left(alloc, journal)?;
+fn run_on<R: Wait>(rt: &R, alloc: Global, script: &[String], fail: u32) -> Result<String> {
+    let mut floor = opened(alloc, fail)?;
+    let asked = ask_through(rt, alloc, &mut floor, script);
+    let left = left(rt, alloc, floor)?;
     asked?;
     Ok(left)
 }
@@ -131,26 +144,40 @@ fn compare(fail: u32, got: &str, wanted: &str, answer: &mut String) -> Result<()
 
 // Whether a run has an `apply` of this number. Where it fails, nothing of its call is left, and the same call again goes on as
 // if nothing had failed.
-fn fails_once(alloc: Global, script: &[String], fail: u32, answer: &mut String) -> Result<bool> {
-    let run = run_until(alloc, script, fail)?;
+fn fails_once<R: Wait>(
+    rt: &R,
+    alloc: Global,
+    script: &[String],
+    fail: u32,
+    answer: &mut String,
+) -> Result<bool> {
+    let run = run_until(rt, alloc, script, fail)?;
     let Some(at) = run.failed else {
         return Ok(false);
     };
     let (ahead, _) = split(script, at);
-    let before = run_until(alloc, ahead, 0)?;
+    let before = run_until(rt, alloc, ahead, 0)?;
     compare(fail, run.left.as_str(), before.left.as_str(), answer)?;
-    let (again, whole) = (run_on(alloc, script, fail)?, run_on(alloc, script, 0)?);
+    let (again, whole) = (
+        run_on(rt, alloc, script, fail)?,
+        run_on(rt, alloc, script, 0)?,
+    );
     compare(fail, again.as_str(), whole.as_str(), answer)?;
     Ok(true)
 }
 
-/// Lets each `apply` of a script fail once, the first as the journal is opened, and adds each difference and how many there
+/// Lets each `apply` of a script fail once, the first as the floor is opened, and adds each difference and how many there
 /// are.
-pub fn write_failing(alloc: Global, script: &[String], answer: &mut String) -> Result<()> {
-    let (again, whole) = (run_on(alloc, script, 1)?, run_on(alloc, script, 0)?);
+pub fn write_failing<R: Wait>(
+    rt: &R,
+    alloc: Global,
+    script: &[String],
+    answer: &mut String,
+) -> Result<()> {
+    let (again, whole) = (run_on(rt, alloc, script, 1)?, run_on(rt, alloc, script, 0)?);
     compare(1, again.as_str(), whole.as_str(), answer)?;
     for fail in 2..MOST {
-        if !fails_once(alloc, script, fail, answer)? {
+        if !fails_once(rt, alloc, script, fail, answer)? {
             writeln!(answer, "{} applies", fail - 1)?;
             return Ok(());
         }

@@ -1,4 +1,4 @@
-// What reading commands show of a journal over a keeper in memory, which is open over no rows as a case begins:
+// What reading commands show of a floor over a keeper in memory, which is open over no rows as a case begins:
 //
 // > TEXT                 the command of this CL text, which QUSER calls: what it shows, or its refusal
 // > monitor 1 hand       a call of a monitor, by the words of `monitor`: its refusal
@@ -12,7 +12,7 @@ ghost use Rattle.wm_law.specs.Fit.{IsCall};
 ghost use Rattle.wm_law.specs.declared.state.State.{State};
 
 use crate::asked::{SESSION, line_of, user_call};
-use crate::calls::{NOW, OpenJournal, call, listed};
+use crate::calls::{NOW, OpenFloor};
 use crate::monitor::call_of;
 use crate::opened::{keeper_of, open};
 use crate::restarted::listed_restarted;
@@ -20,18 +20,19 @@ use crate::words::{first_word, number_of};
 use anyhow::{Context, Result, bail, ensure};
 use std::alloc::Global;
 use std::str;
+use std::sync::Wait;
 use wm_base::{Moment, Name};
 use wm_cases::Subject;
 use wm_command::Line;
-use wm_journal::Journal;
 use wm_law::{Ask, Call, Reply};
-use wm_outside::MemKeeper;
 
-/// A journal, and the moment of its calls.
-#[derive(Drop)]
-pub struct Listed {
+const NO_FLOOR: &str = "no open floor";
+
+/// An open floor, and the moment of its calls.
+pub struct Listed<'r, R> {
+    rt: &'r R,
     alloc: Global,
-    journal: Option<OpenJournal>,
+    floor: Option<OpenFloor>,
     now: Moment,
 }
 
@@ -40,38 +41,56 @@ fn write_listing(listing: &[u8], answer: &mut String) -> Result<()> {
     Ok(())
 }
 
-// Adds the refusal of the last call, where it is refused.
-fn write_refusal(journal: &Journal<MemKeeper>, answer: &mut String) -> Result<()> {
-    let entry = journal.last().context("no entry")?;
-    if let Reply::No(refusal) = &entry.reply {
+// Adds the refusal of a call, where it is refused.
+fn write_refusal(reply: &Reply, answer: &mut String) -> Result<()> {
+    if let Reply::No(refusal) = reply {
         writeln!(answer, "NO {refusal}")?;
     }
     Ok(())
 }
 
-impl Listed {
-    /// No journal, before the first case.
-    pub fn new(alloc: Global) -> Listed {
+fn close(floor: Option<OpenFloor>) {
+    match floor {
+        None => {}
+        Some(floor) => drop(floor.close()),
+    }
+}
+
+impl<'r, R: Wait> Listed<'r, R> {
+    /// No floor, before the first case.
+    pub fn new(rt: &'r R, alloc: Global) -> Listed<'r, R> {
         Listed {
+            rt,
             alloc,
-            journal: None,
+            floor: None,
             now: Moment::new(NOW),
         }
+    }
+
+    /// Closes what is open.
+    pub fn end(self) {
+        let Listed {
+            rt: _,
+            alloc: _,
+            floor,
+            now: _,
+        } = self;
+        close(floor);
     }
 
     fn call(&mut self, caller: u32, made: Call, answer: &mut String) -> Result<()>
         requires fit { IsCall made }
     {
-        let journal = self.journal.as_mut().context("no journal")?;
-        if let Err(fault) = call(self.alloc, journal, caller, made, self.now)? {
-            bail!("{fault}");
+        let floor = self.floor.as_mut().context(NO_FLOOR)?;
+        match floor.call(self.rt, self.alloc, caller, made, self.now)? {
+            Ok(answered) => write_refusal(&answered.reply, answer),
+            Err(fault) => bail!("{fault}"),
         }
-        write_refusal(journal.journal(), answer)
     }
 
-    fn show(&self, ask: &Ask, answer: &mut String) -> Result<()> {
-        let journal = self.journal.as_ref().context("no journal")?;
-        let bytes = listed(self.alloc, journal.journal(), ask)?;
+    fn show(&mut self, ask: &Ask, answer: &mut String) -> Result<()> {
+        let floor = self.floor.as_mut().context(NO_FLOOR)?;
+        let bytes = floor.listed(self.rt, self.alloc, ask)?;
         write_listing(&bytes, answer)
     }
 
@@ -102,9 +121,9 @@ impl Listed {
 
     fn split(&mut self, last: &str) -> Result<()> {
         let last = last.parse::<u32>()?;
-        let journal = self.journal.as_mut().context("no journal")?;
+        let floor = self.floor.as_mut().context(NO_FLOOR)?;
         for _ in 0..last {
-            if journal.split()? >= last {
+            if floor.split()? >= last {
                 return Ok(());
             }
         }
@@ -139,13 +158,13 @@ impl Listed {
     }
 }
 
-impl Subject for Listed {
+impl<R: Wait> Subject for Listed<'_, R> {
     fn begin(&mut self) -> Result<()> {
         let keeper = keeper_of(Vec::new(self.alloc), Vec::new(self.alloc))?;
-        let Ok(journal) = open(self.alloc, keeper, "")? else {
-            bail!("no journal over no rows");
-        };
-        drop(self.journal.replace(journal));
+        match open(self.alloc, keeper, "")? {
+            Ok(floor) => close(self.floor.replace(floor)),
+            Err(_) => bail!("no floor over no rows"),
+        }
         self.now = Moment::new(NOW);
         Ok(())
     }

@@ -1,5 +1,5 @@
-// Opening a journal over a keeper in memory.
-use crate::calls::{OpenJournal, opened};
+// Opening a floor over a keeper in memory.
+use crate::calls::OpenFloor;
 use anyhow::{Result, ensure};
 use std::alloc::Global;
 use wm_journal::OpenFault;
@@ -22,27 +22,27 @@ fn limit_of(words: &str) -> Result<u32> {
     }
 }
 
-// The same journal, with pass 1 split off for a monitor.
-fn with_monitor(mut opened: OpenJournal) -> Result<Result<OpenJournal, (MemKeeper, OpenFault)>> {
+// The same floor, with pass 1 split off for a monitor.
+fn with_monitor(mut opened: OpenFloor) -> Result<Result<OpenFloor, (MemKeeper, OpenFault)>> {
     match opened.split() {
         Ok(_) => Ok(Ok(opened)),
         Err(fault) => {
-            drop(opened);
+            drop(opened.close());
             Err(fault)
         }
     }
 }
 
-/// A journal over the keeper, with the limit of `limit 3`, or with the greatest, and with passes 0 and 1. An `Err` hands the
+/// A floor over the keeper, with the limit of `limit 3`, or with the greatest, and with passes 0 and 1. An `Err` hands the
 /// keeper back.
 pub fn open(
     alloc: Global,
     keeper: MemKeeper,
     words: &str,
-) -> Result<Result<OpenJournal, (MemKeeper, OpenFault)>> {
+) -> Result<Result<OpenFloor, (MemKeeper, OpenFault)>> {
     let limit = limit_of(words)?;
     ensure!((1..=MOST).contains(&limit), "no limit");
-    match opened(alloc, keeper, limit) {
+    match OpenFloor::open(alloc, keeper, limit) {
         Ok(opened) => with_monitor(opened),
         Err(back) => Ok(Err(back)),
     }

@@ -1,11 +1,11 @@
 // Entries and faults, as text.
-use anyhow::{Context, Result, bail};
+use anyhow::{Context, Result, bail, ensure};
 use std::alloc::Global;
 use wm_base::Asked;
-use wm_journal::{CallFault, Journal, OpenFault};
+use wm_floor::{Answered, Log};
+use wm_journal::{CallFault, OpenFault};
 use wm_law::{Call, Entry, Reply};
 use wm_listing::said;
-use wm_outside::MemKeeper;
 
 /// The answer to a call whose rows the keeper didn't keep.
 pub const KEEPER_FAULT: &str = "KEEPERFAULT\n";
@@ -31,23 +31,44 @@ fn write_noted(reply: &Reply, answer: &mut String) -> Result<()> {
     Ok(())
 }
 
-/// Adds what is said of an entry.
-pub fn write_entry(alloc: Global, entry: &Entry, answer: &mut String) -> Result<()> {
-    match &entry.call {
+// Adds what is said of a call that was answered so.
+fn write_said(alloc: Global, call: &Call, reply: &Reply, answer: &mut String) -> Result<()> {
+    match call {
         Call::Change { command, .. } => {
-            let text = said(alloc, command.get(), &entry.reply)?;
+            let text = said(alloc, command.get(), reply)?;
             writeln!(answer, "{text}")?;
             Ok(())
         }
-        _ => write_noted(&entry.reply, answer),
+        _ => write_noted(reply, answer),
     }
 }
 
-// Adds the last entry, behind its place.
-fn write_last(alloc: Global, journal: &Journal<MemKeeper>, answer: &mut String) -> Result<()> {
-    let entry = journal.last().context("no entry")?;
-    write!(answer, "{} ", journal.len())?;
-    write_entry(alloc, entry, answer)
+/// Adds what is said of an entry.
+pub fn write_entry(alloc: Global, entry: &Entry, answer: &mut String) -> Result<()> {
+    write_said(alloc, &entry.call, &entry.reply, answer)
+}
+
+// The entry at a place that was told, which is the last.
+fn last(log: &Log, place: u32) -> Result<&Entry> {
+    let at = (place as usize).checked_sub(1).context("no place")?;
+    ensure!(
+        log.len() == place as usize,
+        "{} entries, and the place {place}",
+        log.len()
+    );
+    log.entry(at).context("no entry")
+}
+
+// Adds the answer of a call, whose entry is the last: its place, and what is said of the reply.
+fn write_answered(
+    alloc: Global,
+    log: &Log,
+    answered: &Answered,
+    answer: &mut String,
+) -> Result<()> {
+    let entry = last(log, answered.place)?;
+    write!(answer, "{} ", answered.place)?;
+    write_said(alloc, &entry.call, &answered.reply, answer)
 }
 
 fn write_call_fault(fault: CallFault, answer: &mut String) -> Result<()> {
@@ -59,20 +80,20 @@ fn write_call_fault(fault: CallFault, answer: &mut String) -> Result<()> {
     Ok(())
 }
 
-/// Adds what became of a call: its entry, which is the last, or the fault.
+/// Adds what became of a call behind which this is the history: its place and its reply, or the fault.
 pub fn write_called(
     alloc: Global,
-    journal: &Journal<MemKeeper>,
-    called: Result<(), CallFault>,
+    log: &Log,
+    called: Result<Answered, CallFault>,
     answer: &mut String,
 ) -> Result<()> {
     match called {
-        Ok(()) => write_last(alloc, journal, answer),
+        Ok(answered) => write_answered(alloc, log, &answered, answer),
         Err(fault) => write_call_fault(fault, answer),
     }
 }
 
-/// Adds why a journal wasn't opened.
+/// Adds why a floor wasn't opened.
 pub fn write_open_fault(fault: OpenFault, answer: &mut String) -> Result<()> {
     match fault {
         OpenFault::KeeperFault => answer.push_str(KEEPER_FAULT)?,

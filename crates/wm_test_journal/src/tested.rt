@@ -1,9 +1,9 @@
-// What the cases ask beside a journal:
+// What the cases ask beside a floor:
 //
 // > row TAB|KEY|BODY     a row of the next keeper
 // > keeper               a keeper of these rows, or of none; `keeper fail 2 3` fails at the second and third `apply`
-// > open                 opens a journal over the keeper: `OPEN`, `BADROW N` or `KEEPERFAULT`; `open limit 3` with this limit
-// > close                joins all passes and closes the journal, whose keeper is left to the next `open`
+// > open                 opens a floor over the keeper: `OPEN`, `BADROW N` or `KEEPERFAULT`; `open limit 3` with this limit
+// > close                joins all passes and closes the floor, whose keeper is left to the next `open`
 // > shut                 closes it with the passes as they are: `SHUT`, or `OUT N` where so many are out, and it stays open
 // > rows TAB             the rows of a table
 // > changed              the rows that went since this was last asked, or the keeper made, and those that came
@@ -13,9 +13,9 @@
 // > script TEXT          a line of a script
 // > every apply fails once      how many calls of `apply` the script makes, with each difference that it makes that one fails
 //
-// All others are asked of the open journal.
+// All others are asked of the open floor.
 use crate::asked::ask;
-use crate::calls::{OpenJournal, closed, shut};
+use crate::calls::OpenFloor;
 use crate::failing::write_failing;
 use crate::opened::{keeper_of, open};
 use crate::replies::write_open_fault;
@@ -24,39 +24,65 @@ use crate::turns::Turns;
 use crate::words::{failing, first_word, row, unknown};
 use anyhow::{Context, Result};
 use std::alloc::Global;
-use std::mem;
+use std::sync::Wait;
 use wm_cases::Subject;
-use wm_journal::Closed;
+use wm_floor::Closed;
 use wm_outside::MemKeeper;
 use wm_traits::{Keeper, Row};
 
 const NO_KEEPER: &str = "no keeper";
 
-/// A keeper, or the journal over it.
-#[derive(Drop)]
-pub struct Tested {
+const NO_FLOOR: &str = "no open floor";
+
+/// A keeper, or the floor over it.
+pub struct Tested<'r, R> {
+    rt: &'r R,
     alloc: Global,
     // The rows of the next keeper.
     rows: Vec<Row>,
     keeper: Option<MemKeeper>,
-    journal: Option<OpenJournal>,
+    floor: Option<OpenFloor>,
     turns: Option<Turns>,
     // The rows that were seen last.
     seen: Vec<Row>,
     script: Vec<String>,
 }
 
-impl Tested {
-    pub fn new(alloc: Global) -> Tested {
+fn shut_down(floor: Option<OpenFloor>) {
+    match floor {
+        None => {}
+        Some(floor) => drop(floor.close()),
+    }
+}
+
+impl<'r, R: Wait> Tested<'r, R> {
+    pub fn new(rt: &'r R, alloc: Global) -> Tested<'r, R> {
         Tested {
+            rt,
             alloc,
             rows: Vec::new(alloc),
             keeper: None,
-            journal: None,
+            floor: None,
             turns: None,
             seen: Vec::new(alloc),
             script: Vec::new(alloc),
         }
+    }
+
+    /// Closes what is open.
+    pub fn end(self) {
+        let Tested {
+            rt: _,
+            alloc: _,
+            rows,
+            keeper,
+            floor,
+            turns,
+            seen,
+            script,
+        } = self;
+        shut_down(floor);
+        drop((rows, keeper, turns, seen, script));
     }
 
     fn keep(&mut self, words: &str) -> Result<()> {
@@ -71,8 +97,8 @@ impl Tested {
     fn open(&mut self, words: &str, answer: &mut String) -> Result<()> {
         let keeper = self.keeper.take().context(NO_KEEPER)?;
         match open(self.alloc, keeper, words)? {
-            Ok(journal) => {
-                drop(self.journal.replace(journal));
+            Ok(floor) => {
+                shut_down(self.floor.replace(floor));
                 Ok(answer.push_str("OPEN\n")?)
             }
             Err((keeper, fault)) => {
@@ -82,25 +108,29 @@ impl Tested {
         }
     }
 
-    fn close(&mut self) -> Result<()> {
-        let journal = self.journal.take().context("no journal")?;
-        let Closed { log, keeper } = closed(journal)?;
+    // Takes the keeper of a floor that was closed.
+    fn take(&mut self, closed: Closed<MemKeeper>) {
+        let Closed { log, keeper } = closed;
         drop(log);
         drop(self.keeper.replace(keeper));
+    }
+
+    fn close(&mut self) -> Result<()> {
+        let floor = self.floor.take().context(NO_FLOOR)?;
+        self.take(floor.close());
         Ok(())
     }
 
     fn shut(&mut self, answer: &mut String) -> Result<()> {
-        let journal = self.journal.take().context("no journal")?;
-        match shut(journal) {
-            Ok(Closed { log, keeper }) => {
-                drop(log);
-                drop(self.keeper.replace(keeper));
+        let floor = self.floor.take().context(NO_FLOOR)?;
+        match floor.shut() {
+            Ok(closed) => {
+                self.take(closed);
                 Ok(answer.push_str("SHUT\n")?)
             }
-            Err(journal) => {
-                let out = journal.journal().passes_out();
-                drop(self.journal.replace(journal));
+            Err(floor) => {
+                let out = floor.out();
+                shut_down(self.floor.replace(floor));
                 Ok(writeln!(answer, "OUT {out}")?)
             }
         }
@@ -139,9 +169,9 @@ impl Tested {
     }
 
     fn turn(&mut self, answer: &mut String) -> Result<()> {
-        let journal = self.journal.as_mut().context("no journal")?;
+        let floor = self.floor.as_mut().context(NO_FLOOR)?;
         let turns = self.turns.as_mut().context("no spawner")?;
-        turns.turn(self.alloc, journal, answer)
+        turns.turn(self.rt, self.alloc, floor, answer)
     }
 
     fn write_asked(&self, answer: &mut String) -> Result<()> {
@@ -149,18 +179,23 @@ impl Tested {
         turns.write_asked(answer)
     }
 
-    fn ask_journal(&mut self, question: &str, answer: &mut String) -> Result<()> {
-        match &mut self.journal {
+    fn ask_floor(&mut self, question: &str, answer: &mut String) -> Result<()> {
+        match &mut self.floor {
             None => unknown(question),
-            Some(journal) => ask(self.alloc, journal, question, answer),
+            Some(floor) => ask(self.rt, self.alloc, floor, question, answer),
         }
     }
 }
 
-impl Subject for Tested {
+impl<R: Wait> Subject for Tested<'_, R> {
     fn begin(&mut self) -> Result<()> {
-        // A call lets the old one go: what is let go in place is proved field by field.
-        drop(mem::replace(self, Tested::new(self.alloc)));
+        shut_down(self.floor.take());
+        // Calls let the old ones go: what is let go in place is proved field by field.
+        drop(self.keeper.take());
+        drop(self.turns.take());
+        self.rows.clear();
+        self.seen.clear();
+        self.script.clear();
         Ok(())
     }
 
@@ -178,8 +213,8 @@ impl Subject for Tested {
             "turn" => self.turn(answer),
             "asked" => self.write_asked(answer),
             "script" => self.add_line(words),
-            "every" => write_failing(self.alloc, &self.script, answer),
-            _ => self.ask_journal(question, answer),
+            "every" => write_failing(self.rt, self.alloc, &self.script, answer),
+            _ => self.ask_floor(question, answer),
         }
     }
 }

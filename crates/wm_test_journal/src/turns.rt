@@ -1,8 +1,9 @@
 // Turns of a monitor, with a spawner in memory whose children end where they are killed.
-use crate::calls::{OpenJournal, turn};
+use crate::calls::OpenFloor;
 use crate::replies::write_asked;
 use anyhow::{Result, bail};
 use std::alloc::Global;
+use std::sync::Wait;
 use wm_monitor::{Monitor, MonitorFault};
 use wm_outside::MemSpawner;
 
@@ -27,13 +28,14 @@ impl Turns {
     }
 
     /// Makes a turn, and adds how many calls it made, or that a kill failed.
-    pub fn turn(
+    pub fn turn<R: Wait>(
         &mut self,
+        rt: &R,
         alloc: Global,
-        journal: &mut OpenJournal,
+        floor: &mut OpenFloor,
         answer: &mut String,
     ) -> Result<()> {
-        match turn(alloc, &mut self.monitor, journal, &mut self.spawner)? {
+        match floor.turn(rt, alloc, &mut self.monitor, &mut self.spawner)? {
             Ok(turned) => writeln!(answer, "{} calls", turned.sent)?,
             Err(MonitorFault::WaitFault) => answer.push_str("WAITFAULT\n")?,
             Err(_) => bail!("another fault"),
