@@ -5,13 +5,14 @@
 //! `spawners`). Those of a store and its keepers are in `keepers` for the form in memory and in `sql_keepers` for SQLite, in
 //! memory (`sql_memory.txt`) and in files (`sql_files.txt`), some of which SQLite itself has made (`bench/stores.py`); `rows`
 //! reads the rows and changes of both. The children of `system.txt` are real programs, and its waits are ended by rings of
-//! other threads, too (`bells`).
+//! other threads, too (`bells`). Listeners, in memory and of the system, are asked in `listeners`.
 #![tactic(auto)]
 
 mod answers;
 mod bells;
 mod flaky;
 mod keepers;
+mod listeners;
 mod memory;
 mod orders;
 mod rows;
@@ -23,6 +24,7 @@ mod words;
 
 use anyhow::Result;
 use bells::Ringer;
+use listeners::play_listeners;
 use memory::MemoryCases;
 use sql_keepers::SqlCases;
 use std::rt::Files;
@@ -52,9 +54,8 @@ fn play_memory<R: AllocGlobal + Files + Print + Wait>(rt: &R) -> Result<()> {
     played
 }
 
-fn main(rt: HostRuntime) -> Result<()> {
-    play_memory(&rt)?;
-    play_sql(&rt)?;
+// The cases of the adapters, over one spawner.
+fn play_system(rt: HostRuntime) -> Result<()> {
     let mut spawner = SysSpawner::new(rt.alloc(), rt)?;
     let ringer = Ringer::new(rt.alloc(), rt)?;
     let played = play(
@@ -64,4 +65,11 @@ fn main(rt: HostRuntime) -> Result<()> {
     );
     drop(spawner);
     played
+}
+
+fn main(rt: HostRuntime) -> Result<()> {
+    play_memory(&rt)?;
+    play_sql(&rt)?;
+    play_system(rt)?;
+    play_listeners(&rt)
 }
