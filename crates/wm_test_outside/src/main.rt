@@ -27,8 +27,11 @@ use bells::Ringer;
 use listeners::play_listeners;
 use memory::MemoryCases;
 use sql_keepers::SqlCases;
+use std::process::{Processes, SystemProcess};
 use std::rt::Files;
 use std::sync::Wait;
+use std::thread::Threads;
+use std::time::Clock;
 use system::SystemCases;
 use wm_cases::play;
 use wm_children::SysSpawner;
@@ -55,13 +58,15 @@ fn play_memory<R: AllocGlobal + Files + Print + Wait>(rt: &R) -> Result<()> {
 }
 
 // The cases of the adapters, over one spawner.
-fn play_system(rt: HostRuntime) -> Result<()> {
-    let mut spawner = SysSpawner::new(rt.alloc(), rt)?;
-    let ringer = Ringer::new(rt.alloc(), rt)?;
+fn play_system<
+    R: Processes<Started = SystemProcess> + Threads + Wait + Clock + Copy + Send + 'static,
+>(rt: R, host: &HostRuntime) -> Result<()> {
+    let mut spawner = SysSpawner::new(host.alloc(), rt)?;
+    let ringer = Ringer::new(host.alloc(), rt)?;
     let played = play(
-        &rt,
+        host,
         "system.txt",
-        &mut SystemCases::new(rt.alloc(), &rt, &mut spawner, &ringer),
+        &mut SystemCases::new(host.alloc(), &rt, &mut spawner, &ringer),
     );
     drop(spawner);
     played
@@ -70,6 +75,6 @@ fn play_system(rt: HostRuntime) -> Result<()> {
 fn main(rt: HostRuntime) -> Result<()> {
     play_memory(&rt)?;
     play_sql(&rt)?;
-    play_system(rt)?;
-    play_listeners(&rt)
+    play_system(rt, &rt)?;
+    play_listeners(&rt, &rt)
 }

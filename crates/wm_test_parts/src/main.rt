@@ -11,17 +11,20 @@ mod turns;
 
 use anyhow::Result;
 use std::env;
+use std::sync::Wait;
+use std::thread::Threads;
+use std::time::Clock;
 
-fn play_parts(rt: &HostRuntime) -> Result<()> {
-    dates::play_dates(rt)?;
-    maps::compare_maps(rt)?;
-    turns::play_turns(rt, rt)
+fn play_parts<R: Threads + Wait + Clock + Sync>(rt: &R, host: &HostRuntime) -> Result<()> {
+    dates::play_dates(host)?;
+    maps::compare_maps(host)?;
+    turns::play_turns(rt, host)
 }
 
 fn main(rt: HostRuntime) -> Result<()> {
     let words: Vec<String> = env::args(&rt)?.skip(1).collect(rt.alloc())?;
     if words.is_empty() {
-        play_parts(&rt)
+        play_parts(&rt, &rt)
     } else {
         turns::measure_turns(&rt, &rt, words.as_slice())
     }

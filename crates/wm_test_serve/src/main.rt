@@ -14,18 +14,20 @@ mod sessions;
 
 use anyhow::Result;
 use std::env;
+use std::sync::Wait;
+use std::thread::Threads;
 
-fn play_parts(rt: &HostRuntime) -> Result<()> {
-    messages::play_messages(rt)?;
-    sessions::play_sessions(rt)?;
-    servers::play_servers(rt)
+fn play_parts<R: Threads + Wait + Sync>(rt: &R, host: &HostRuntime) -> Result<()> {
+    messages::play_messages(host)?;
+    sessions::play_sessions(rt, host)?;
+    servers::play_servers(rt, host)
 }
 
 fn main(rt: HostRuntime) -> Result<()> {
     let files: Vec<String> = env::args(&rt)?.skip(1).collect(rt.alloc())?;
     if files.is_empty() {
-        play_parts(&rt)
+        play_parts(&rt, &rt)
     } else {
-        sessions::play_named(&rt, &files)
+        sessions::play_named(&rt, &rt, &files)
     }
 }

@@ -19,12 +19,14 @@ use anyhow::Result;
 use rows::play_rows;
 use server::play_server;
 use site::play;
+use std::sync::Wait;
+use std::thread::Threads;
 
 /// Plays all of this, and prints what came of it.
-pub fn play_servers(rt: &HostRuntime) -> Result<()> {
-    let mut told = play(rt, rt.alloc())?;
-    told.push_str(&play_server(rt, rt.alloc())?)?;
-    play_rows(rt, rt.alloc(), &mut told)?;
-    print!(rt; "{told}")?;
+pub fn play_servers<R: Threads + Wait + Sync>(rt: &R, host: &HostRuntime) -> Result<()> {
+    let mut told = play(rt, host.alloc())?;
+    told.push_str(&play_server(rt, host.alloc())?)?;
+    play_rows(rt, host.alloc(), &mut told)?;
+    print!(host; "{told}")?;
     Ok(())
 }

@@ -11,7 +11,6 @@ mod shown;
 
 use anyhow::Result;
 use connections::Connections;
-use std::rt::Files;
 use std::sync::Wait;
 use wm_cases::play;
 
@@ -25,39 +24,36 @@ static FILES: [&str; 6] = [
     "pieces.txt",
 ];
 
-fn play_all<R: AllocGlobal + Files + Print + Wait>(
-    rt: &R,
-    connections: &mut Connections<'_, R>,
-) -> Result<()> {
+fn play_all<R: Wait>(host: &HostRuntime, connections: &mut Connections<'_, R>) -> Result<()> {
     for file in &FILES {
-        play(rt, file, connections)?;
+        play(host, file, connections)?;
     }
     Ok(())
 }
 
-fn play_each<R: AllocGlobal + Files + Print + Wait>(
-    rt: &R,
+fn play_each<R: Wait>(
+    host: &HostRuntime,
     connections: &mut Connections<'_, R>,
     files: &[String],
 ) -> Result<()> {
     for file in files {
-        play(rt, file.as_str(), connections)?;
+        play(host, file.as_str(), connections)?;
     }
     Ok(())
 }
 
 /// Plays the cases of the files.
-pub fn play_sessions(rt: &HostRuntime) -> Result<()> {
-    let mut connections = Connections::new(rt, rt.alloc());
-    let played = play_all(rt, &mut connections);
+pub fn play_sessions<R: Wait>(rt: &R, host: &HostRuntime) -> Result<()> {
+    let mut connections = Connections::new(rt, host.alloc());
+    let played = play_all(host, &mut connections);
     drop(connections);
     played
 }
 
 /// Plays the cases of these files in place of them.
-pub fn play_named(rt: &HostRuntime, files: &[String]) -> Result<()> {
-    let mut connections = Connections::new(rt, rt.alloc());
-    let played = play_each(rt, &mut connections, files);
+pub fn play_named<R: Wait>(rt: &R, host: &HostRuntime, files: &[String]) -> Result<()> {
+    let mut connections = Connections::new(rt, host.alloc());
+    let played = play_each(host, &mut connections, files);
     drop(connections);
     played
 }
