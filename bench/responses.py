@@ -1,7 +1,7 @@
 #!/usr/bin/env python3
-"""Writes crates/wm_test_http/data/answers.txt: the bytes of each answer over HTTP, from a table of its own.
+"""Writes crates/wm_test_serve/data/responses.txt: the bytes of each answer over HTTP, from a table of its own.
 
-    bench/answers.py > crates/wm_test_http/data/answers.txt"""
+    bench/responses.py > crates/wm_test_serve/data/responses.txt"""
 import json
 
 PHRASES = {200: "OK", 400: "Bad Request", 404: "Not Found", 405: "Method Not Allowed", 409: "Conflict",
