@@ -1,8 +1,9 @@
 #!/usr/bin/env python3
-"""Writes crates/wm_test_web/data/*.txt: connections, and what is answered to them. The answers come from a small model of its own:
-of requests, of the few commands that the cases use, and of the history.
+"""Writes six files of crates/wm_test_serve/data: connections, and what is answered to them (heads.txt, bodies.txt, answers.txt,
+ends.txt, faults.txt, pieces.txt). The answers come from a small model of its own: of requests, of the few commands that the cases
+use, and of the history.
 
-    bench/connections.py crates/wm_test_web/data"""
+    bench/connections.py crates/wm_test_serve/data"""
 import re
 import sys
 from pathlib import Path

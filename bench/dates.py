@@ -1,7 +1,7 @@
 #!/usr/bin/env python3
-"""Writes crates/wm_test_dates/data/due.txt: when a job is due, reckoned with Python's datetime and calendar.
+"""Writes crates/wm_test_parts/data/due.txt: when a job is due, reckoned with Python's datetime and calendar.
 
-    python3 bench/dates.py > crates/wm_test_dates/data/due.txt
+    python3 bench/dates.py > crates/wm_test_parts/data/due.txt
 """
 import calendar
 import datetime

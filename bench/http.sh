@@ -8,9 +8,9 @@
 set -eu
 cd "$(dirname "$0")/.."
 rounds=${1:-5}
-program=$PWD/crates/wm_test_web/out/wm_test_web
+program=$PWD/crates/wm_test_serve/out/wm_test_serve
 if [ ! -x "$program" ]; then
-  echo 'build it first: (cd crates/wm_test_web && rt run)' >&2
+  echo 'build it first: (cd crates/wm_test_serve && rt run)' >&2
   exit 2
 fi
 folder=$(mktemp -d)

@@ -5,7 +5,7 @@ answered, how it ends and how many bytes are read of it is reckoned here, by rul
 and the program must answer the same. COUNT connections, 20,000 where it isn't said, are drawn from SEED; the same seed draws the
 same ones. Those for which these rules know no answer, as a command that none of them knows, are drawn anew.
 
-    bench/nearly.py [COUNT [SEED]]          plays them by crates/wm_test_web/out/wm_test_web
+    bench/nearly.py [COUNT [SEED]]          plays them by crates/wm_test_serve/out/wm_test_serve
     bench/nearly.py --write FILE [COUNT [SEED]]"""
 import random
 import re
@@ -18,7 +18,7 @@ from pathlib import Path
 from connections import Closed, Connection, NAME, shown, unescaped
 
 ROOT = Path(__file__).resolve().parent.parent
-PROGRAM = ROOT / "crates/wm_test_web/out/wm_test_web"
+PROGRAM = ROOT / "crates/wm_test_serve/out/wm_test_serve"
 HEAD, BODY, FIELDS, REQUESTS = 8192, 8192, 32, 10000
 TOKEN = set("!#$%&'*+-.^_`|~0123456789abcdefghijklmnopqrstuvwxyzABCDEFGHIJKLMNOPQRSTUVWXYZ")
 # The errors that a connection may answer, by status; 400 and 409 also the lines of faults and of refusals.

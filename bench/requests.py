@@ -1,8 +1,8 @@
 #!/usr/bin/env python3
-"""Writes crates/wm_test_http/data/requests.txt: what is cut from bytes. What each case comes to is written by hand from the
+"""Writes crates/wm_test_serve/data/requests.txt: what is cut from bytes. What each case comes to is written by hand from the
 rules; the lengths are counted here.
 
-    bench/requests.py > crates/wm_test_http/data/requests.txt"""
+    bench/requests.py > crates/wm_test_serve/data/requests.txt"""
 import re
 
 MOST = 8192

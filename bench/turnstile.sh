@@ -8,9 +8,9 @@
 set -eu
 cd "$(dirname "$0")/.."
 rounds=${1:-5}
-program=$PWD/crates/wm_test_turn/out/wm_test_turn
+program=$PWD/crates/wm_test_parts/out/wm_test_parts
 if [ ! -x "$program" ]; then
-  echo 'build it first: (cd crates/wm_test_turn && rt run)' >&2
+  echo 'build it first: (cd crates/wm_test_parts && rt run)' >&2
   exit 2
 fi
 

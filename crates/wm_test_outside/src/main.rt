@@ -5,13 +5,14 @@
 //! `spawners`). Those of a store and its keepers are in `keepers` for the form in memory and in `sql_keepers` for SQLite, in
 //! memory (`sql_memory.txt`) and in files (`sql_files.txt`), some of which SQLite itself has made (`bench/stores.py`); `rows`
 //! reads the rows and changes of both. The children of `system.txt` are real programs, and its waits are ended by rings of
-//! other threads, too (`bells`).
+//! other threads, too (`bells`). Listeners, in memory and of the system, are asked in `listeners`.
 #![tactic(auto)]
 
 mod answers;
 mod bells;
 mod flaky;
 mod keepers;
+mod listeners;
 mod memory;
 mod orders;
 mod rows;
@@ -23,10 +24,14 @@ mod words;
 
 use anyhow::Result;
 use bells::Ringer;
+use listeners::play_listeners;
 use memory::MemoryCases;
 use sql_keepers::SqlCases;
+use std::process::{Processes, SystemProcess};
 use std::rt::Files;
 use std::sync::Wait;
+use std::thread::Threads;
+use std::time::Clock;
 use system::SystemCases;
 use wm_cases::play;
 use wm_children::SysSpawner;
@@ -52,16 +57,24 @@ fn play_memory<R: AllocGlobal + Files + Print + Wait>(rt: &R) -> Result<()> {
     played
 }
 
-fn main(rt: HostRuntime) -> Result<()> {
-    play_memory(&rt)?;
-    play_sql(&rt)?;
-    let mut spawner = SysSpawner::new(rt.alloc(), rt)?;
-    let ringer = Ringer::new(rt.alloc(), rt)?;
+// The cases of the adapters, over one spawner.
+fn play_system<
+    R: Processes<Started = SystemProcess> + Threads + Wait + Clock + Copy + Send + 'static,
+>(rt: R, host: &HostRuntime) -> Result<()> {
+    let mut spawner = SysSpawner::new(host.alloc(), rt)?;
+    let ringer = Ringer::new(host.alloc(), rt)?;
     let played = play(
-        &rt,
+        host,
         "system.txt",
-        &mut SystemCases::new(rt.alloc(), &rt, &mut spawner, &ringer),
+        &mut SystemCases::new(host.alloc(), &rt, &mut spawner, &ringer),
     );
     drop(spawner);
     played
+}
+
+fn main(rt: HostRuntime) -> Result<()> {
+    play_memory(&rt)?;
+    play_sql(&rt)?;
+    play_system(rt, &rt)?;
+    play_listeners(&rt, &rt)
 }

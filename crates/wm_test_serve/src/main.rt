@@ -1,29 +1,33 @@
-//! What one thread of a server does, over a floor in memory: a worker serves the connections of a listener until none can come
-//! any more, and a monitor starts the job that one of them has submitted and reports its end, one after another. And a whole
-//! server with two workers and two monitors at once, of which one worker is held before its first call until the other's first
-//! answer was written: so both are at work at once. What is printed, and must be printed: why the worker stopped, what was
-//! written of each connection, what the monitor has met, and the history; and what the server came to, as far as it isn't the
-//! threads' doing.
+//! The cases of HTTP, from bytes to whole servers: requests and responses (`messages`), connections over a floor (`sessions`), and
+//! the threads of a server (`servers`), all of them in memory, one part after another.
+//!
+//! Each of these modules says at its head what is asked, and what must be printed. `floors` opens the floors of the last two,
+//! `lines` shows what is written in the first two. With words the files of these names are played as connections are, and nothing
+//! else is done.
 #![tactic(auto)]
 
-mod failing;
-mod holding;
-mod rows;
-mod seats;
-mod server;
-mod site;
-mod told;
-mod unused;
+mod floors;
+mod lines;
+mod messages;
+mod servers;
+mod sessions;
 
 use anyhow::Result;
-use rows::play_rows;
-use server::play_server;
-use site::play;
+use std::env;
+use std::sync::Wait;
+use std::thread::Threads;
+
+fn play_parts<R: Threads + Wait + Sync>(rt: &R, host: &HostRuntime) -> Result<()> {
+    messages::play_messages(host)?;
+    sessions::play_sessions(rt, host)?;
+    servers::play_servers(rt, host)
+}
 
 fn main(rt: HostRuntime) -> Result<()> {
-    let mut told = play(&rt, rt.alloc())?;
-    told.push_str(&play_server(&rt, rt.alloc())?)?;
-    play_rows(&rt, rt.alloc(), &mut told)?;
-    print!(&rt; "{told}")?;
-    Ok(())
+    let files: Vec<String> = env::args(&rt)?.skip(1).collect(rt.alloc())?;
+    if files.is_empty() {
+        play_parts(&rt, &rt)
+    } else {
+        sessions::play_named(&rt, &rt, &files)
+    }
 }

@@ -1,7 +1,0 @@
-use Rattle.wm_test_turn.proofs.round.+among+fn-among-join_mut+arg3.Given as goal
-
-abbrev pub decreases-join_mut+arg3 : goal.decreases-join_mut+arg3
-decreases-join_mut+arg3 g l = l.fewer
-
-abbrev pub decreases-among : goal.decreases-among
-decreases-among g l = l.threads
