@@ -1,3 +1,4 @@
+pub mod Counted
 pub mod Drills
 pub mod Lengths
 pub mod Lines

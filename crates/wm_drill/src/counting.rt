@@ -9,6 +9,7 @@ use crate::counts::Counts;
 use crate::replay::replayed;
 use std::alloc::Global;
 use wm_base::{EndCause, NoMemory};
+use wm_floor::Log;
 use wm_law::{Entry, Job, Phase, Reply};
 use wm_plan::DrillPlan;
 
@@ -50,11 +51,14 @@ fn is_waiting(phase: &Phase) -> bool
     matches!(phase, Phase::Waiting)
 }
 
-fn submitted(log: &[Entry]) -> usize
+fn submitted(log: &Log) -> usize
     ensures { result ≡ count_by submits log.now }
 {
     let mut count = 0;
-    for entry in log {
+    for at in 0..log.len() {
+        let Some(entry) = log.entry(at) else {
+            unreachable!()
+        };
         if submits(entry) {
             count += 1;
         }
@@ -76,7 +80,7 @@ fn waiting(jobs: &[Job]) -> usize
 
 /// Counts what a history came to: its calls are made once more, and the jobs of the state that they reach are looked at. An
 /// `Err` is want of memory.
-pub fn counts(alloc: Global, log: &[Entry]) -> Result<Counts, NoMemory>
+pub fn counts(alloc: Global, log: &Log) -> Result<Counts, NoMemory>
     requires { IsLegal (opening (pos 0)) log.now }
     ensures { IfOk result (λ counts. counts ≡ counts_of log.now) }
 {

@@ -7,11 +7,11 @@ use std::alloc::Global;
 use wm_base::NoMemory;
 use wm_core::{Core, Setup};
 use wm_desc::qbatch;
-use wm_law::Entry;
+use wm_floor::Log;
 use wm_when::Offset;
 
 /// The machine that the calls of a history reach from the state of no rows, with local time as UTC. An `Err` is want of memory.
-pub fn replayed(alloc: Global, log: &[Entry]) -> Result<Core, NoMemory>
+pub fn replayed(alloc: Global, log: &Log) -> Result<Core, NoMemory>
     requires { IsLegal (opening (pos 0)) log.now }
     ensures { IfOk result (λ core. core.state ≡ after (opening (pos 0)) log.now) }
 {
@@ -20,7 +20,10 @@ pub fn replayed(alloc: Global, log: &[Entry]) -> Result<Core, NoMemory>
         offset: Offset::new(0),
     };
     let mut core = Core::opening(alloc, &setup)?;
-    for entry in log {
+    for at in 0..log.len() {
+        let Some(entry) = log.entry(at) else {
+            unreachable!()
+        };
         core.step(alloc, entry.caller, &entry.call, entry.moment)?;
     }
     Ok(core)

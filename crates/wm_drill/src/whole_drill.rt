@@ -18,7 +18,7 @@ use std::alloc::Global;
 use std::sync::Wait;
 use wm_base::{Moment, Name};
 use wm_desc::qbatch;
-use wm_law::Entry;
+use wm_floor::Log;
 use wm_outside::MemClock;
 use wm_plan::DrillPlan;
 use wm_run::{NO_MEMORY, Ran, Settings, run_kept, write_all};
@@ -46,12 +46,12 @@ fn settings() -> Settings
 // A drill that has not begun.
 fn not_begun(alloc: Global, status: u8) -> Ran
     ensures status { result.status ≡ status }
-    ensures log { result.log.items ≡ [] }
+    ensures log { result.log ≡ [] }
     ensures kept { result.kept ≡ None }
 {
     Ran {
         status,
-        log: Vec::new(alloc),
+        log: Log::none(alloc),
         kept: None,
     }
 }
@@ -60,10 +60,10 @@ fn not_begun(alloc: Global, status: u8) -> Ran
 // at 0 and goes on by a second at each call.
 fn run_text<R: Wait>(rt: &R, alloc: Global, text: Vec<u8>) -> Ran
     requires { length text.items ≤ 1000000000 }
-    ensures history { IsRunOver text.items result.status result.log.items (option_to_list result.kept) }
-    ensures callers { list_all is_of_run result.log.items ≡ true }
+    ensures history { IsRunOver text.items result.status result.log (option_to_list result.kept) }
+    ensures callers { list_all is_of_run result.log ≡ true }
     ensures kept { result.status ≡ 0 → result.kept ≡ None }
-    ensures log_full { result.status ≡ 7 → 200000 ≤ length result.log.items }
+    ensures log_full { result.status ≡ 7 → 200000 ≤ length result.log }
     ensures statuses { IsAmong steady_statuses result.status }
 {
     let mut input = SteadySource::new(alloc, text);
@@ -85,7 +85,7 @@ fn run_text<R: Wait>(rt: &R, alloc: Global, text: Vec<u8>) -> Ran
 }
 
 // Writes the line, and answers the status of the drill.
-fn write_line<O: Sink>(alloc: Global, plan: &DrillPlan, log: &[Entry], out: &mut O) -> u8
+fn write_line<O: Sink>(alloc: Global, plan: &DrillPlan, log: &Log, out: &mut O) -> u8
     requires { IsLegal (opening (pos 0)) log.now }
     ensures line { result ≡ 0 → Grows (O.written out.old) (O.written out.new) (drill_line plan.now log.now) }
     ensures first { (n : ℕ) × Grows (O.written out.old) (O.written out.new) (take n (drill_line plan.now log.now)) }
@@ -107,13 +107,13 @@ fn write_line<O: Sink>(alloc: Global, plan: &DrillPlan, log: &[Entry], out: &mut
 // The drill of a plan.
 fn drill_planned<O: Sink, R: Wait>(rt: &R, alloc: Global, plan: &DrillPlan, out: &mut O) -> Ran
     requires { plan.now.jobs ≤ 5000 }
-    ensures history { IsDrilled plan.now result.status result.log.items (option_to_list result.kept) }
-    ensures callers { list_all is_of_run result.log.items ≡ true }
+    ensures history { IsDrilled plan.now result.status result.log (option_to_list result.kept) }
+    ensures callers { list_all is_of_run result.log ≡ true }
     ensures kept { result.status ≡ 0 → result.kept ≡ None }
-    ensures line { result.status ≡ 0 → Grows (O.written out.old) (O.written out.new) (drill_line plan.now result.log.items) }
-    ensures first { (n : ℕ) × Grows (O.written out.old) (O.written out.new) (take n (drill_line plan.now result.log.items)) }
+    ensures line { result.status ≡ 0 → Grows (O.written out.old) (O.written out.new) (drill_line plan.now result.log) }
+    ensures first { (n : ℕ) × Grows (O.written out.old) (O.written out.new) (take n (drill_line plan.now result.log)) }
     ensures write_fault { result.status ≡ 4 → raised (O.faults out.old) ≤ O.faults out.new }
-    ensures log_full { result.status ≡ 7 → 200000 ≤ length result.log.items }
+    ensures log_full { result.status ≡ 7 → 200000 ≤ length result.log }
     ensures statuses { IsAmong drill_statuses result.status }
     ensures begun { result.status ≡ 2 → ⊥ }
 {
@@ -135,14 +135,14 @@ pub fn drill<O: Sink, R: Wait>(rt: &R, alloc: Global, words: &[String], out: &mu
     ensures words { is_drill (map string_bytes words.now) ≡ false → (result.status ≡ 2) ⊎ (result.status ≡ 6) }
     ensures drill { is_drill (map string_bytes words.now) ≡ true → result.status ≡ 2 → ⊥ }
     ensures unwritten { is_drill (map string_bytes words.now) ≡ false → Grows (O.written out.old) (O.written out.new) [] }
-    ensures not_begun { is_drill (map string_bytes words.now) ≡ false → result.log.items ≡ [] }
-    ensures history { IfSome (drill_plan (map string_bytes words.now)) (λ plan. IsDrilled plan result.status result.log.items (option_to_list result.kept)) }
-    ensures callers { list_all is_of_run result.log.items ≡ true }
+    ensures not_begun { is_drill (map string_bytes words.now) ≡ false → result.log ≡ [] }
+    ensures history { IfSome (drill_plan (map string_bytes words.now)) (λ plan. IsDrilled plan result.status result.log (option_to_list result.kept)) }
+    ensures callers { list_all is_of_run result.log ≡ true }
     ensures kept { result.status ≡ 0 → result.kept ≡ None }
-    ensures line { result.status ≡ 0 → IfSome (drill_plan (map string_bytes words.now)) (λ plan. Grows (O.written out.old) (O.written out.new) (drill_line plan result.log.items)) }
-    ensures first { IfSome (drill_plan (map string_bytes words.now)) (λ plan. (n : ℕ) × Grows (O.written out.old) (O.written out.new) (take n (drill_line plan result.log.items))) }
+    ensures line { result.status ≡ 0 → IfSome (drill_plan (map string_bytes words.now)) (λ plan. Grows (O.written out.old) (O.written out.new) (drill_line plan result.log)) }
+    ensures first { IfSome (drill_plan (map string_bytes words.now)) (λ plan. (n : ℕ) × Grows (O.written out.old) (O.written out.new) (take n (drill_line plan result.log))) }
     ensures write_fault { result.status ≡ 4 → raised (O.faults out.old) ≤ O.faults out.new }
-    ensures log_full { result.status ≡ 7 → 200000 ≤ length result.log.items }
+    ensures log_full { result.status ≡ 7 → 200000 ≤ length result.log }
     ensures statuses { IsAmong drill_statuses result.status }
 {
     match drill_plan(alloc, words) {

@@ -63,21 +63,57 @@ fn open_status(fault: &OpenFault) -> u8
 }
 
 impl<K: Keeper> Run<K> {
-    ghost use Rattle.std.specs.Prelude.{◌≡◌, ◌≢◌, ◌<◌, ◌≤◌, List, OnOk, None, IsErrOf, length, min};
+    ghost use Rattle.std.specs.Prelude.{◌≡◌, ◌≢◌, ◌<◌, ◌≤◌, List, [], IfOk, IfErr, OnOk, None, IsErrOf, length, min};
     ghost use Rattle.wm_law.specs.History.{IsLegal};
     ghost use Rattle.wm_law.specs.Pending.{active};
     ghost use Rattle.wm_law.specs.declared.call.Entry.{Entry};
     ghost use Rattle.wm_journal.specs.History.{reached};
-    ghost use Rattle.wm_journal.specs.Keeping.{telling};
+    ghost use Rattle.wm_journal.specs.Keeping.{telling, IsOpened};
+    ghost use Rattle.wm_journal.specs.OpenFaults.{IsCounted, NamesBad};
     ghost use Rattle.wm_journal.specs.Stored.{HasTables};
     ghost use Rattle.wm_journal.specs.Trail.{HasTrail};
+    ghost use Rattle.wm_floor.specs.Floor.{IsLeftOrOpened};
     ghost use Rattle.wm_floor.specs.Ledger.{behind};
+    ghost use Rattle.wm_monitor.specs.Scene.{IsClear};
     ghost use Rattle.wm_monitor.specs.Lists.{since};
     ghost use Rattle.wm_run.specs.Grown.{session_of};
     ghost use Rattle.wm_run.specs.Halt.{HasFloorCauses, HasInputCauses, KeepsNone};
     ghost use Rattle.wm_run.specs.Outcome.{SessionCame};
     ghost use Rattle.wm_run.specs.Serving.{IsFresh, IsRunning, IsWhole, RunServes};
     ghost use Rattle.wm_run.specs.Taking.{TakesInput};
+
+    // The floor of the rows that a keeper has, with the session's pass and the monitor's, and a monitor that keeps nothing.
+    fn open(alloc: Global, keeper: K, settings: &Settings) -> Result<Run<K>, (K, OpenFault)>
+        requires some { 1 ≤ settings.now.log_limit }
+        requires most { settings.now.log_limit ≤ 1000000 }
+        ensures ready { IfOk result IsRunning }
+        ensures fresh { IfOk result IsFresh }
+        ensures made { IfOk result (λ run. run.session.made ≡ 1) }
+        ensures joined { IfOk result (λ run. run.session.joined ≡ []) }
+        ensures clear { IfOk result (λ run. IsClear run.monitor) }
+        ensures ok { IfOk result (λ run. IsOpened settings.now.offset run.floor.opening.state (telling K.tables K.trail keeper) (telling K.tables K.trail run.floor.opening.keeper)) }
+        ensures found { IfOk result (λ run. run.floor.opening.found ≡ keeper) }
+        ensures limit { IfOk result (λ run. run.floor.opening.limit ≡ settings.now.log_limit) }
+        ensures err { IfErr result (λ back. IsLeftOrOpened settings.now.offset (telling K.tables K.trail keeper) (telling K.tables K.trail back.0) back.1) }
+        ensures bad { IfErr result (λ back. NamesBad settings.now.offset (K.tables keeper) back.1) }
+        ensures faults { IfErr result (λ back. IsCounted (K.faults keeper) (K.faults back.0) back.1) }
+    {
+        let (floor, mut session) = Floor::open(
+            alloc,
+            keeper,
+            &setup(settings),
+            settings.log_limit,
+        )?;
+        let Ok(watch) = floor.split(&mut session) else {
+            unreachable!()
+        };
+        Ok(Run {
+            floor,
+            session,
+            watch,
+            monitor: Monitor::new(),
+        })
+    }
 
     // The first call, the lines of the input, and the end of the input, where no line put the power down.
     fn serve<I: Source, O: Sink, P: Spawner, C: Clock, R: Wait>(
@@ -162,8 +198,6 @@ fn close_floor<K: Keeper>(
 }
 
 impl<K: Keeper> Run<K> {
-    ghost use Rattle.std.specs.Prelude.{[]};
-
     // Joins the monitor's pass, looks once more, and closes the floor.
     fn close<R: Wait>(self, rt: &R, end: Result<bool, Halt>) -> (Ran, K)
         requires ready { IsRunning self }
@@ -221,24 +255,11 @@ pub fn run_kept<I: Source, O: Sink, K: Keeper, P: Spawner, C: Clock, R: Wait>(
     ensures out_faults { O.faults out.old ≤ O.faults out.new }
     ensures statuses { IsRunStatus result.0.status }
 {
-    let (floor, mut session) = match Floor::open(
-        alloc,
-        keeper,
-        &setup(settings),
-        settings.log_limit,
-    ) {
-        Ok(opened) => opened,
-        Err((keeper, fault)) => return (not_begun(alloc, open_status(&fault)), keeper),
-    };
-    let Ok(watch) = floor.split(&mut session) else {
-        unreachable!()
-    };
-    let mut run = Run {
-        floor,
-        session,
-        watch,
-        monitor: Monitor::new(),
-    };
-    let end = run.serve(rt, alloc, input, out, spawner, clock, settings);
-    run.close(rt, end)
+    match Run::open(alloc, keeper, settings) {
+        Ok(mut run) => {
+            let end = run.serve(rt, alloc, input, out, spawner, clock, settings);
+            run.close(rt, end)
+        }
+        Err((keeper, fault)) => (not_begun(alloc, open_status(&fault)), keeper),
+    }
 }

@@ -40,9 +40,9 @@ module _ {I O S P : Type 0} (chains : RunsMakeChains) (seen : Seen I O S P) (wor
   linked : (turn : Turn I O S P) (rans : List Ran) (middle left : List Row) → IsOneRun seen words turn → seen.tables turn.store_now ≡ Some middle → AreChained (settings_of words).offset middle left rans → ChainedFrom turn.store_before left (turn.ran ∷ rans)
   linked turn rans middle left one e rest =
       let settings = settings_of words in
-      let before = told_before settings.offset turn.ran.status turn.ran.log.items _ _ _ middle e one.history in
-      let run : Run = record { offset = settings.offset; log = turn.ran.log.items; left = middle } in
-      let is_run = chains settings turn.ran.status turn.ran.log.items before.0 middle (record {
+      let before = told_before settings.offset turn.ran.status turn.ran.log _ _ _ middle e one.history in
+      let run : Run = record { offset = settings.offset; log = turn.ran.log; left = middle } in
+      let is_run = chains settings turn.ran.status turn.ran.log before.0 middle (record {
         old = record { tables = seen.tables turn.store_before; trail = seen.trail turn.store_before };
         new = record { tables = seen.tables turn.store_now; trail = seen.trail turn.store_now };
         left_before = seen.left turn.input_before;
@@ -58,7 +58,7 @@ module _ {I O S P : Type 0} (chains : RunsMakeChains) (seen : Seen I O S P) (wor
         record {
           runs = run ∷ rest.runs;
           chain = (is_run, rest.chain);
-          logs = ap (λ (ls : List (List Entry)). turn.ran.log.items ∷ ls) rest.logs;
+          logs = ap (λ (ls : List (List Entry)). turn.ran.log ∷ ls) rest.logs;
           offsets = λ r i. (elim i as (λ _. r.offset ≡ settings.offset) [ inl same ↦ ap (λ (x : Run). x.offset) same | inr j ↦ rest.offsets r j ]);
           leaves = rest.leaves;
         },
@@ -89,9 +89,9 @@ starts_of : (runs : List Run) → all_starts runs ≡ flat_map (λ (l : List Ent
 starts_of [] = refl
 starts_of (r ∷ runs) = ap (λ (l : List ℕ). starts r.log ++ l) (starts_of runs)
 
-started_of : (rans : List Ran) → started rans ≡ flat_map (λ (l : List Entry). starts l) (map (λ (r : Ran). r.log.items) rans)
+started_of : (rans : List Ran) → started rans ≡ flat_map (λ (l : List Entry). starts l) (map (λ (r : Ran). r.log) rans)
 started_of [] = refl
-started_of (r ∷ rans) = ap (λ (l : List ℕ). starts r.log.items ++ l) (started_of rans)
+started_of (r ∷ rans) = ap (λ (l : List ℕ). starts r.log ++ l) (started_of rans)
 
 same_starts : (offset : ℤ) (found left : List Row) (rans : List Ran) (h : AreChained offset found left rans) → all_starts h.runs ≡ started rans
 same_starts offset found left rans h = starts_of h.runs ∙ ap (flat_map (λ (l : List Entry). starts l)) h.logs ∙ sym (started_of rans)

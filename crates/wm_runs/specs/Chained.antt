@@ -9,7 +9,7 @@ use Rattle.wm_traits.specs.declared.row.Row.{Row}
 
 -- the serials that all these runs ordered to start
 abbrev pub started : List Ran → List ℕ
-started rans = flat_map (λ r. starts r.log.items) rans
+started rans = flat_map (λ r. starts r.log) rans
 
 -- the rows that the last of some runs has left
 abbrev pub last_left : List Row → List Run → List Row
@@ -20,7 +20,7 @@ last_left found (r ∷ runs) = last_left r.left runs
 pub record AreChained (offset : ℤ) (found left : List Row) (rans : List Ran) : Type 0 where
   pub runs : List Run
   pub chain : IsChain found runs
-  pub logs : map (λ r. r.log) runs ≡ map (λ r. r.log.items) rans
+  pub logs : map (λ r. r.log) runs ≡ map (λ r. r.log) rans
   pub offsets : (r : Run) → IsIn r runs → r.offset ≡ offset
   pub leaves : last_left found runs ≡ left
 

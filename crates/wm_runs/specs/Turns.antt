@@ -48,7 +48,7 @@ pub record HasCauses {I O S P : Type 0} (seen : Seen I O S P) (words : List (Lis
   pub read_fault : turn.ran.status ≡ 3 → raised (seen.read_faults turn.input_before) ≤ seen.read_faults turn.input_now
   pub write_fault : turn.ran.status ≡ 4 → raised (seen.write_faults turn.out_before) ≤ seen.write_faults turn.out_now
   pub keeper_fault : turn.ran.status ≡ 5 → raised (seen.keeper_faults turn.store_before) ≤ seen.keeper_faults turn.store_now
-  pub log_full : turn.ran.status ≡ 7 → (settings_of words).log_limit ≤ length turn.ran.log.items
+  pub log_full : turn.ran.status ≡ 7 → (settings_of words).log_limit ≤ length turn.ran.log
   pub wait_fault : turn.ran.status ≡ 8 → raised (seen.wait_faults turn.spawner_before) ≤ seen.wait_faults turn.spawner_now
   pub bad_row : turn.ran.status ≡ 9 → HasBadRow (settings_of words).offset (seen.tables turn.store_before) (seen.tables turn.store_now)
   pub out_faults : seen.write_faults turn.out_before ≤ seen.write_faults turn.out_now
@@ -56,13 +56,13 @@ pub record HasCauses {I O S P : Type 0} (seen : Seen I O S P) (words : List (Lis
 
 -- what a run with these words answers for
 pub record IsOneRun {I O S P : Type 0} (seen : Seen I O S P) (words : List (List ℕ)) (turn : Turn I O S P) : Type 0 where
-  pub history : HasHistory (settings_of words).offset turn.ran.status turn.ran.log.items (telling seen.tables seen.trail turn.store_before) (telling seen.tables seen.trail turn.store_now)
-      (RunTakes (settings_of words) (seen.left turn.input_before) (seen.left turn.input_now) turn.ran.status turn.ran.log.items (seen.written turn.out_before) (seen.written turn.out_now))
-  pub callers : list_all is_of_run turn.ran.log.items ≡ true
-  pub served : IsServed turn.ran.log.items (option_to_list turn.ran.kept) (seen.asked turn.spawner_before) (seen.asked turn.spawner_now) (seen.told turn.spawner_before) (seen.told turn.spawner_now) (seen.misses turn.spawner_before) (seen.misses turn.spawner_now)
+  pub history : HasHistory (settings_of words).offset turn.ran.status turn.ran.log (telling seen.tables seen.trail turn.store_before) (telling seen.tables seen.trail turn.store_now)
+      (RunTakes (settings_of words) (seen.left turn.input_before) (seen.left turn.input_now) turn.ran.status turn.ran.log (seen.written turn.out_before) (seen.written turn.out_now))
+  pub callers : list_all is_of_run turn.ran.log ≡ true
+  pub served : IsServed turn.ran.log (option_to_list turn.ran.kept) (seen.asked turn.spawner_before) (seen.asked turn.spawner_now) (seen.told turn.spawner_before) (seen.told turn.spawner_now) (seen.misses turn.spawner_before) (seen.misses turn.spawner_now)
   pub kept : turn.ran.status ≤ 1 → turn.ran.kept ≡ None
-  pub reported : turn.ran.status ≡ 7 → length turn.ran.log.items < 4000000 → turn.ran.kept ≡ None
-  pub not_begun : turn.ran.status ≡ 2 → turn.ran.log.items ≡ []
+  pub reported : turn.ran.status ≡ 7 → length turn.ran.log < 4000000 → turn.ran.kept ≡ None
+  pub not_begun : turn.ran.status ≡ 2 → turn.ran.log ≡ []
   pub unread : is_run words ≡ false → seen.left turn.input_now ≡ seen.left turn.input_before
   pub opened : OpensStoreOf words turn.ran.status (seen.opened turn.store_before) (seen.opened turn.store_now)
   pub causes : HasCauses seen words turn

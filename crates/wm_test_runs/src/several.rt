@@ -23,7 +23,8 @@ pub struct Several<'a, W: Wait> {
 
 fn log_of(alloc: Global, ran: &Ran) -> Result<String> {
     let mut log = String::new(alloc);
-    for entry in ran.log.iter() {
+    for at in 0..ran.log.len() {
+        let entry = ran.log.entry(at).context("no entry")?;
         push_entry(&mut log, entry)?;
     }
     Ok(log)

@@ -96,7 +96,8 @@ impl<'a, W: Wait> Runs<'a, W> {
         self.status = ran.status;
         self.written = written.to_vec(self.alloc)?;
         self.log.clear();
-        for entry in ran.log.iter() {
+        for at in 0..ran.log.len() {
+            let entry = ran.log.entry(at).context("no entry")?;
             push_entry(&mut self.log, entry)?;
         }
         Ok(())

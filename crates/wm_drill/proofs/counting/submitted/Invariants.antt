@@ -4,5 +4,5 @@ use Rattle.wm_drill.specs.Counts.{submits}
 use Rattle.wm_drill.proofs.counting.submitted.Given as goal
 
 -- the entries so far, of which no more were counted than there are
-abbrev pub invariant-loop-entry : goal.invariant-loop-entry
-invariant-loop-entry l = (l.count ≡ count_by submits (take l.entry-index l.log)) × (l.count ≤ l.entry-index)
+abbrev pub invariant-loop-at : goal.invariant-loop-at
+invariant-loop-at l = (l.count ≡ count_by submits (take l.at l.log)) × (l.count ≤ l.at)

@@ -5,6 +5,6 @@ use Rattle.wm_law.specs.Opening.{opening}
 use Rattle.wm_drill.proofs.replay.replayed.Given as goal
 
 -- the entries that are left are legal, and reach what all entries reach
-abbrev pub invariant-loop-entry : goal.invariant-loop-entry
-invariant-loop-entry l =
-    IsLegal l.core.state (drop l.entry-index l.log) × (after l.core.state (drop l.entry-index l.log) ≡ after (opening (pos 0)) l.log)
+abbrev pub invariant-loop-at : goal.invariant-loop-at
+invariant-loop-at l =
+    IsLegal l.core.state (drop l.at l.log) × (after l.core.state (drop l.at l.log) ≡ after (opening (pos 0)) l.log)
