@@ -134,17 +134,17 @@ orders_none e m no_hand = by (e.caller == m) refl
 -- entries without a Hand order nothing
 pub orders_without : (es : List Entry) (m : ℕ) → hands_of es ≤ 0 → orders es m ≡ []
 orders_without [] m none = refl
-orders_without (e ∷ es) m none = by (is_hand e.call) refl
+orders_without (e ∷ es) m none = by (is_hand e.call) refl (orders_without es m)
   where
-    by : (b : Bool) → is_hand e.call ≡ b → orders (e ∷ es) m ≡ []
-    by true is =
+    by : (b : Bool) → is_hand e.call ≡ b → (hands_of es ≤ 0 → orders es m ≡ []) → orders (e ∷ es) m ≡ []
+    by true is rest =
         let one : hands_of (e ∷ []) ≡ 1 = rw is refl in
         let both : hands_of (e ∷ es) ≡ hands_of (e ∷ []) + hands_of es = hands-append (e ∷ []) es in
         absurd (omega arith)
-    by false is =
+    by false is rest =
         let both : hands_of (e ∷ es) ≡ hands_of (e ∷ []) + hands_of es = hands-append (e ∷ []) es in
         let whole : orders (e ∷ es) m ≡ orders (e ∷ []) m ++ orders es m = filter_map-append (ordered m) (e ∷ []) es in
-        whole ∙ (ap (λ (xs : List Asked). xs ++ orders es m) (orders_none e m is) ∙ orders_without es m (omega arith))
+        whole ∙ (ap (λ (xs : List Asked). xs ++ orders es m) (orders_none e m is) ∙ rest (omega arith))
 
 pub reports_one : (e : Entry) (m : ℕ) → e.caller ≡ m → is_report e.call ≡ true → reports (e ∷ []) m ≡ e.call ∷ []
 reports_one e m own report = let test : e.caller == m ≡ true = eq-eqb e.caller m own in rw (test, report) refl
@@ -237,5 +237,6 @@ module _ {K : Type 0} (f : Floored K) where
   pub AdvancesFor-more : (h o k : ℕ) (os : List Asked) (p q r : Seen K) (a b c : Scene) → AdvancesFor f h o os p q a b → Advances f 0 k q r b c → AdvancesFor f h (o + k) os p r a c
   AdvancesFor-more h o k os p q r a b c one two =
       let none = orders_without (added q r) q.number two.within.hands_most in
-      let whole = AdvancesFor-then h o 0 k os (orders (added q r) q.number) p q r a b c one two in
+      let same : h + 0 ≡ h = omega arith in
+      let whole = subst (λ (n : ℕ). AdvancesFor f n (o + k) (os ++ orders (added q r) q.number) p r a c) same (AdvancesFor-then h o 0 k os (orders (added q r) q.number) p q r a b c one two) in
       subst (λ (xs : List Asked). AdvancesFor f h (o + k) xs p r a c) (ap (λ (xs : List Asked). os ++ xs) none ∙ append-nil os) whole
