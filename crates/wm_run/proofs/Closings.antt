@@ -19,7 +19,7 @@ module _ {K : Type 0} where
       let mine : r.session.mine ≡ q.mine = sym (looked.mine ∙ ap (λ (x : Seen K). x.mine) is) in
       let number : q.number ≡ session_pass = same.number ∙ (ap (λ (x : Seen K). x.number) is ∙ ready.zero) in
       let one : q.made ≡ 1 = same.made ∙ (ap (λ (x : Seen K). x.made) is ∙ made) in
-      let its = (r.watch.number, r.watch.mine) in
+      let its : ℕ × List Entry = (r.watch.number, r.watch.mine) in
       let list : q.joined ≡ its ∷ [] = same.joined ∙ (ap (λ (x : Seen K). x.joined) is ∙ ap (λ (l : List (ℕ × List Entry)). l ++ its ∷ []) joined) in
       record {
         history = record {

@@ -18,7 +18,7 @@ module _ {K : Type 0} (r t : Run K) (before : IsRunning r) (now : IsRunning t) (
 
   -- what it shows is of the history that it has seen then
   pub reads : (ask : Ask) (bytes : List ℕ) (refused : Bool) → bytes ≡ read_text ask (session_of t) → refused ≡ is_read_refused ask (session_of t) → Reads ask (session_of r) (seen_since r t) bytes refused
-  reads ask bytes refused text no =
+  reads ask bytes refused text wrong =
       let on = goes_on r t floor (Extends-by r.session.seen t.session.seen looked.seen.0 looked.seen.1) in
       let is : grown (session_of r) (seen_since r t) ≡ session_of t = grown-between (session_of r) (session_of t) on in
-      record { none = uncalled_looked; says = text ∙ ap (read_text ask) (sym is); fault = no ∙ ap (is_read_refused ask) (sym is) }
+      record { none = uncalled_looked; says = text ∙ ap (read_text ask) (sym is); fault = wrong ∙ ap (is_read_refused ask) (sym is) }
