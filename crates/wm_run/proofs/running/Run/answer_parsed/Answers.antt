@@ -2,7 +2,7 @@ use Rattle.std.proofs.Common.{◌≡◌, ◌∙◌, List, ℕ, inl, inr, refl, s
 use Rattle.wm_base.proofs.Lists.{on_err}
 use Rattle.wm_traits.specs.Told.{Grows}
 use Rattle.wm_run.specs.Answer.{fault_answer, is_fault}
-use Rattle.wm_run.specs.Grown.{entries_between, session_of}
+use Rattle.wm_run.specs.Grown.{entries_between, seen_since, session_of}
 use Rattle.wm_run.specs.Session.{AnswersParsed}
 use Rattle.wm_run.specs.Stopped.{IsCutShort}
 use Rattle.wm_run.specs.declared.parsed.Parsed.{Parsed}
@@ -49,4 +49,4 @@ pub returns-in_ok-refused-in-Read-clause-serves : goal.returns-in_ok-refused-in-
 returns-in_ok-refused-in-Read-clause-serves g c = c.list.ensures.serves _
 
 pub returns-in_ok-refused-in-Read-clause-down : goal.returns-in_ok-refused-in-Read-clause-down
-returns-in_ok-refused-in-Read-clause-down g c = c.uncalled-in-Read.ensures.up ∙ sym (up_uncalled _ c.list.ensures.uncalled)
+returns-in_ok-refused-in-Read-clause-down g c = c.uncalled-in-Read.ensures.up ∙ sym (up_uncalled (seen_since c.args.self.now c.list.new.self) c.list.ensures.uncalled)
