@@ -1,4 +1,5 @@
-use Rattle.std.proofs.Common.{◌≤◌, ℕ, List, length, refl, subst, sym, inr}
+use Rattle.std.proofs.Common.{◌≡◌, ◌≤◌, ℕ, List, length, refl, subst, sym, arith, inl, inr}
+use Rattle.std.proofs.lemmas.Bool.Decides.{nat_tests}
 use Rattle.wm_drill.proofs.Drills.{drilled, memory_wanting}
 use Rattle.wm_drill.proofs.Lengths.{drill_short}
 use Rattle.wm_drill.proofs.whole_drill.drill_planned.Goals as goal
@@ -11,3 +12,9 @@ run_text-ran-requires g c = subst (λ (text : List ℕ). length text ≤ 1000000
 
 pub returns-else-ran-eq0-clause-history : goal.returns-else-ran-eq0-clause-history
 returns-else-ran-eq0-clause-history g c = drilled c.args.plan.now _ c.run_text-ran.result.status c.in-Ok.text.items _ _ c.in-Ok.ensures c.run_text-ran.ensures.history (inr refl)
+
+pub returns-then-ran-eq0-clause-history : goal.returns-then-ran-eq0-clause-history
+returns-then-ran-eq0-clause-history g c =
+    let t = c.if-ran-eq0.true in
+    let none : c.run_text-ran.result.status ≡ 0 = grind (arith, nat_tests) in
+    drilled c.args.plan.now _ c.run_text-ran.result.status c.in-Ok.text.items _ _ c.in-Ok.ensures c.run_text-ran.ensures.history (inl none)
