@@ -134,17 +134,17 @@ orders_none e m no_hand = by (e.caller == m) refl
 -- entries without a Hand order nothing
 pub orders_without : (es : List Entry) (m : ℕ) → hands_of es ≤ 0 → orders es m ≡ []
 orders_without [] m none = refl
-orders_without (e ∷ es) m none = by (is_hand e.call) refl
+orders_without (e ∷ es) m none = by (is_hand e.call) refl (orders_without es m)
   where
-    by : (b : Bool) → is_hand e.call ≡ b → orders (e ∷ es) m ≡ []
-    by true is =
+    by : (b : Bool) → is_hand e.call ≡ b → (hands_of es ≤ 0 → orders es m ≡ []) → orders (e ∷ es) m ≡ []
+    by true is rest =
         let one : hands_of (e ∷ []) ≡ 1 = rw is refl in
         let both : hands_of (e ∷ es) ≡ hands_of (e ∷ []) + hands_of es = hands-append (e ∷ []) es in
         absurd (omega arith)
-    by false is =
+    by false is rest =
         let both : hands_of (e ∷ es) ≡ hands_of (e ∷ []) + hands_of es = hands-append (e ∷ []) es in
         let whole : orders (e ∷ es) m ≡ orders (e ∷ []) m ++ orders es m = filter_map-append (ordered m) (e ∷ []) es in
-        whole ∙ (ap (λ (xs : List Asked). xs ++ orders es m) (orders_none e m is) ∙ orders_without es m (omega arith))
+        whole ∙ (ap (λ (xs : List Asked). xs ++ orders es m) (orders_none e m is) ∙ rest (omega arith))
 
 pub reports_one : (e : Entry) (m : ℕ) → e.caller ≡ m → is_report e.call ≡ true → reports (e ∷ []) m ≡ e.call ∷ []
 reports_one e m own report = let test : e.caller == m ≡ true = eq-eqb e.caller m own in rw (test, report) refl

@@ -276,6 +276,7 @@ impl Monitor {
         ensures part { MonitorAdvances P.asked P.told P.misses P.faults floor.now 0 1 pass.old self.old spawner.old pass.new self.new spawner.new }
         ensures none { result ≡ Ok false → IsEmpty (P.reporting spawner.old) }
         ensures none_sent { result ≡ Ok false → length (added pass.old pass.new) ≡ 0 }
+        ensures none_told { result ≡ Ok false → Grows (as_reports (P.told spawner.old)) (as_reports (P.told spawner.new)) [] }
         ensures sent { result ≡ Ok true → length (added pass.old pass.new) ≡ 1 }
         ensures moment { AreAt (C.coming clock.old) (added pass.old pass.new) }
         ensures clear { OnOk result (IsClear self.new) }
@@ -304,6 +305,8 @@ impl Monitor {
         ensures part { MonitorAdvances P.asked P.told P.misses P.faults floor.now 0 256 pass.old self.old spawner.old pass.new self.new spawner.new }
         ensures sent { IfOk result (λ n. n ≡ length (added pass.old pass.new)) }
         ensures all { IfOk result (λ n. n ≡ 0 → IsEmpty (P.reporting spawner.old)) }
+        ensures last { IfOk result (λ n. (n ≡ 256) ⊎
+            ((last : P) × IsEmpty (P.reporting last) × Grows (as_reports (P.told last)) (as_reports (P.told spawner.new)) [])) }
         ensures clear { OnOk result (IsClear self.new) }
         ensures cause { IfErr result (IsCaused (P.faults spawner.old) (P.faults spawner.new) pass.old.mark pass.new.mark pass.new.seen) }
     {

@@ -1,4 +1,4 @@
-use Rattle.std.proofs.Common.{Ok, ap, ◌∙◌, arith}
+use Rattle.std.proofs.Common.{Ok, ap, ◌∙◌, arith, inr}
 use Rattle.wm_monitor.specs.Scene.{spawner_seen}
 use Rattle.wm_monitor.proofs.Loops.{LookLoop-more, LookLoop-none, looks_part}
 use Rattle.wm_monitor.proofs.monitor.Monitor.looks.Goals as goal
@@ -63,3 +63,8 @@ returns-then-not-branch-clause-part g c =
     let n = c.look.new.self in
     let w = see c.look.new.spawner in
     looks_part f p q t m k n v x w c.looks.sent (omega arith) i.part c.look.ensures.part
+
+pub returns-then-not-branch-clause-last : goal.returns-then-not-branch-clause-last
+returns-then-not-branch-clause-last g c =
+    let none = c.in_ok-look.was ∙ ap Ok c.if-not-branch.true in
+    inr (c.looks.spawner, c.look.ensures.none none, c.look.ensures.none_told none)
