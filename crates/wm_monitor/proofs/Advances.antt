@@ -237,5 +237,6 @@ module _ {K : Type 0} (f : Floored K) where
   pub AdvancesFor-more : (h o k : ℕ) (os : List Asked) (p q r : Seen K) (a b c : Scene) → AdvancesFor f h o os p q a b → Advances f 0 k q r b c → AdvancesFor f h (o + k) os p r a c
   AdvancesFor-more h o k os p q r a b c one two =
       let none = orders_without (added q r) q.number two.within.hands_most in
-      let whole = AdvancesFor-then h o 0 k os (orders (added q r) q.number) p q r a b c one two in
+      let same : h + 0 ≡ h = omega arith in
+      let whole = subst (λ (n : ℕ). AdvancesFor f n (o + k) (os ++ orders (added q r) q.number) p r a c) same (AdvancesFor-then h o 0 k os (orders (added q r) q.number) p q r a b c one two) in
       subst (λ (xs : List Asked). AdvancesFor f h (o + k) xs p r a c) (ap (λ (xs : List Asked). os ++ xs) none ∙ append-nil os) whole
