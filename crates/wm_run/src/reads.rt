@@ -3,7 +3,7 @@ ghost use Rattle.std.specs.Prelude.{◌≡◌};
 ghost use Rattle.wm_run.specs.Reads.{is_log, is_no};
 
 use crate::halt::Halt;
-use crate::log_bytes::log_bytes;
+use crate::log_lines::log_bytes;
 use crate::running::Run;
 use crate::session::put;
 use std::alloc::Global;
