@@ -33,18 +33,15 @@ use Rattle.wm_run.proofs.Wholes.{caller_is, own_part, own_rest, watch_own}
 
 picked : {A : Type 0} (n : ℕ) (f : Entry → Option A) (es : List Entry) → ((e : Entry) → (e.caller == n) ≡ false → f e ≡ None) → filter_map f (own caller_of n es) ≡ filter_map f es
 picked n f [] none = refl
-picked {A} n f (e ∷ es) none = by (e.caller == n) refl
+picked {A} n f (e ∷ es) none = by (e.caller == n) refl (picked n f es none)
   where
-    rest : filter_map f (own caller_of n es) ≡ filter_map f es
-    rest = picked n f es none
+    more : (o : Option A) → f e ≡ o → filter_map f (own caller_of n es) ≡ filter_map f es → filter_map f (e ∷ own caller_of n es) ≡ filter_map f (e ∷ es)
+    more None is rest = rw (is, rest) refl
+    more (Some a) is rest = rw (is, rest) refl
 
-    more : (o : Option A) → f e ≡ o → filter_map f (e ∷ own caller_of n es) ≡ filter_map f (e ∷ es)
-    more None is = rw (is, rest) refl
-    more (Some a) is = rw (is, rest) refl
-
-    by : (t : Bool) → (e.caller == n) ≡ t → filter_map f (own caller_of n (e ∷ es)) ≡ filter_map f (e ∷ es)
-    by true is = rw is (more (f e) refl)
-    by false is = let no = none e is in rw (is, no, rest) refl
+    by : (t : Bool) → (e.caller == n) ≡ t → filter_map f (own caller_of n es) ≡ filter_map f es → filter_map f (own caller_of n (e ∷ es)) ≡ filter_map f (e ∷ es)
+    by true is rest = rw is (more (f e) refl rest)
+    by false is rest = let no = none e is in rw (is, no, rest) refl
 
 pub orders_own : (n : ℕ) (es : List Entry) → orders (own caller_of n es) n ≡ orders es n
 orders_own n es = picked n (ordered n) es (λ e is. rw is refl)

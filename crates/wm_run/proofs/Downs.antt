@@ -50,11 +50,11 @@ downs n es = list_any (λ (e : Entry). e.caller == n && is_power_down e.reply) e
 -- it is one of the session's own entries that does
 downs_own : (n : ℕ) (es : List Entry) → downs n es ≡ list_any (λ (e : Entry). is_power_down e.reply) (entries_of n es)
 downs_own n [] = refl
-downs_own n (e ∷ es) = by (e.caller == n) refl
+downs_own n (e ∷ es) = by (e.caller == n) refl (downs_own n es)
   where
-    by : (t : Bool) → (e.caller == n) ≡ t → downs n (e ∷ es) ≡ list_any (λ (x : Entry). is_power_down x.reply) (entries_of n (e ∷ es))
-    by true is = rw (is, downs_own n es) refl
-    by false is = rw (is, downs_own n es) refl
+    by : (t : Bool) → (e.caller == n) ≡ t → downs n es ≡ list_any (λ (x : Entry). is_power_down x.reply) (entries_of n es) → downs n (e ∷ es) ≡ list_any (λ (x : Entry). is_power_down x.reply) (entries_of n (e ∷ es))
+    by true is rest = rw (is, rest) refl
+    by false is rest = rw (is, rest) refl
 
 -- where it made no call, it puts no power down
 pub up_uncalled : (es : List Entry) → IsUncalled es → is_down es ≡ false

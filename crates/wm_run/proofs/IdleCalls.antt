@@ -5,13 +5,14 @@ use Rattle.wm_law.specs.declared.call.Entry.{Entry}
 use Rattle.wm_law.specs.declared.pending.Pending.{Pending}
 use Rattle.wm_law.specs.Pending.{orders_left}
 use Rattle.wm_journal.specs.History.{reached}
-use Rattle.wm_floor.specs.Floor.{Floored, Seen}
+use Rattle.wm_floor.specs.Floor.{Floored, HasLooked, Seen}
 use Rattle.wm_floor.specs.Ledger.{behind}
 use Rattle.wm_monitor.specs.Idle.{monitor_pass}
 use Rattle.wm_monitor.specs.Monitor.{hands_of}
 use Rattle.wm_monitor.specs.Advance.{added}
 use Rattle.wm_monitor.specs.Turned.{WaitedAt}
-use Rattle.wm_run.specs.Serving.{LeftNoOrder}
+use Rattle.wm_monitor.specs.Lists.{since}
+use Rattle.wm_run.specs.Serving.{IsRunning, LeftNoOrder}
 use Rattle.wm_run.specs.declared.running.Run.{Run}
 
 module _ {K : Type 0} where
@@ -34,3 +35,10 @@ module _ {K : Type 0} where
         most = waited.seen.most;
         none = subst (λ (g : Floored K). orders_left (reached (behind g.opening (take at r.watch.seen))) monitor_pass ≡ 0) (sym same) num;
       }
+
+  -- behind a call of the session that the monitor has seen
+  pub called_no_order : (r m t : Run K) (at : ℕ) (w : Pending) → IsRunning m → HasLooked r.watch m.watch → length m.session.seen ≤ length m.watch.seen → t.floor ≡ m.floor → t.session ≡ m.session → length (added r.watch t.watch) ≡ 0 → WaitedAt m.floor m.watch t.watch at w → (w.orders ≡ 0) ⊎ (hands_of (added m.watch t.watch) ≡ 256) → LeftNoOrder t (length t.session.seen)
+  called_no_order r m t at w ready looked shown floor session none waited handed =
+      let empty : length (added m.watch t.watch) ≡ 0 = ap (λ (l : List Entry). length (since l t.watch.mine)) looked.mine ∙ none in
+      let least : length t.session.seen ≤ length m.watch.seen = subst (λ (p : Seen K). length p.seen ≤ length m.watch.seen) (sym session) shown in
+      left_no_order t m.floor m.watch (length t.session.seen) at w floor ready.one least empty waited handed

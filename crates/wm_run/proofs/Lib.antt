@@ -1,5 +1,6 @@
 pub mod Callers
 pub mod Causes
+pub mod Closings
 pub mod Commands
 pub mod Downs
 pub mod EndedLines
@@ -9,6 +10,7 @@ pub mod InputLoops
 pub mod Inputs
 pub mod Openings
 pub mod Linked
+pub mod Listings
 pub mod Outcomes
 pub mod Readies
 pub mod Runs

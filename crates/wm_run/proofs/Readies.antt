@@ -18,13 +18,13 @@ use Rattle.wm_law.specs.declared.call.Reply.{Reply}
 use Rattle.wm_run.proofs.StoppedRuns.{no_call_none}
 use Rattle.wm_run.proofs.Takings.{uncalled_both}
 
+pub longer_of : (xs ys : List Entry) → StartsWith ys xs → length xs ≤ length ys
+longer_of xs ys s = omega (arith, ap length s.1, length-append xs s.0)
+
+pub grown_longer : (xs ys : List Entry) → Extends xs ys → length xs ≤ length ys
+grown_longer xs ys grown = longer_of xs ys (since xs ys, grown)
+
 module _ {K : Type 0} where
-  longer : {xs ys : List Entry} → StartsWith ys xs → length xs ≤ length ys
-  longer {xs} {ys} s = omega (arith, ap length s.1, length-append xs s.0)
-
-  grown_longer : (xs ys : List Entry) → Extends xs ys → length xs ≤ length ys
-  grown_longer xs ys grown = longer (since xs ys, grown)
-
   -- the monitor has seen the session's call
   pub watched_called : (r : Run K) (place : ℕ) → IsPassOf r.floor r.session → r.session.number ≡ session_pass → place ≡ length r.session.seen → place ≤ length r.watch.seen → HasWatched r
   watched_called r place session zero is shown = record {
@@ -40,7 +40,7 @@ module _ {K : Type 0} where
     front = w.front;
     begins = starts_again t.session.seen r.session.seen w.front session w.begins;
     all = w.all ∙ sym mine;
-    within = let k = longer watch in let l = w.within in omega arith;
+    within = let k = longer_of r.watch.seen t.watch.seen watch in let l = w.within in omega arith;
   }
 
   -- the session has looked on
@@ -61,6 +61,27 @@ module _ {K : Type 0} where
     zero = ap (λ (p : Seen K). p.number) session ∙ ready.zero;
     one = same.number ∙ ready.one;
     watched = watched_later r t ready.watched (subst (λ (p : Seen K). StartsWith p.seen r.session.seen) (sym session) (starts_itself r.session.seen)) (ap (λ (p : Seen K). p.mine) session) watch;
+  }
+
+  -- the session has called, and the monitor has seen it
+  pub running_called : (r m t : Run K) (place : ℕ) → IsRunning r → m.floor ≡ r.floor → IsPassOf r.floor m.session → IsSame r.session m.session → m.watch ≡ r.watch → t.floor ≡ m.floor → t.session ≡ m.session → IsPassOf m.floor t.watch → IsSame m.watch t.watch → place ≡ length m.session.seen → place ≤ length t.watch.seen → IsRunning t
+  running_called r m t place ready entered mine same watch floor session watched unchanged is shown =
+      let own = subst (λ (p : Seen K). IsPassOf t.floor p) (sym session) (subst (λ (f : Floored K). IsPassOf f m.session) (sym (floor ∙ entered)) mine) in
+      let zero = ap (λ (p : Seen K). p.number) session ∙ (same.number ∙ ready.zero) in
+      record {
+        session = own;
+        watch = subst (λ (f : Floored K). IsPassOf f t.watch) (sym floor) watched;
+        zero = zero;
+        one = unchanged.number ∙ (ap (λ (p : Seen K). p.number) watch ∙ ready.one);
+        watched = watched_called t place own zero (is ∙ ap (λ (p : Seen K). length p.seen) (sym session)) shown;
+      }
+
+  -- a pass that stayed has looked
+  pub looked_still : (p q : Seen K) → q ≡ p → HasLooked p q
+  looked_still p q same = record {
+    seen = subst (λ (x : Seen K). StartsWith x.seen p.seen) (sym same) (starts_itself p.seen);
+    mine = ap (λ (x : Seen K). x.mine) same;
+    mark = omega (arith, ap (λ (x : Seen K). x.mark) same);
   }
 
   -- what the session has seen since, where it has looked no further

@@ -90,12 +90,12 @@ Answers-behind user (x ∷ xs) o es fs bs f none h =
       text = h.text;
       fault = h.fault;
       first = h.first;
-      rest = goes_behind (is_down h.own) h.rest;
+      rest = goes_behind (is_down h.own) (λ k. Answers-behind user xs (grown o h.own) h.others fs h.more h.later none k) h.rest;
     }
   where
-    goes_behind : (t : Bool) → GoesOn t (Answers user xs (grown o h.own)) h.others h.more h.later → GoesOn t (Answers user xs (grown o h.own)) (h.others ++ fs) h.more h.later
-    goes_behind true k = record { none = uncalled_both h.others fs k.none none; says = k.says; fault = k.fault }
-    goes_behind false k = Answers-behind user xs (grown o h.own) h.others fs h.more h.later none k
+    goes_behind : (t : Bool) → (Answers user xs (grown o h.own) h.others h.more h.later → Answers user xs (grown o h.own) (h.others ++ fs) h.more h.later) → GoesOn t (Answers user xs (grown o h.own)) h.others h.more h.later → GoesOn t (Answers user xs (grown o h.own)) (h.others ++ fs) h.more h.later
+    goes_behind true on k = record { none = uncalled_both h.others fs k.none none; says = k.says; fault = k.fault }
+    goes_behind false on k = on k
 
 pub AnsweredBy-behind : (user : List ℕ) (xs : List (Option (List ℕ))) (o : History) (es fs : List Entry) (a b : Option (List ℕ)) (f : Bool) → IsUncalled fs → AnsweredBy (Answers user xs o) es a b f → AnsweredBy (Answers user xs o) (es ++ fs) a b f
 AnsweredBy-behind user xs o es fs a b f none h = record { bytes = h.bytes; answers = Answers-behind user xs o es fs h.bytes f none h.answers; written = h.written }

@@ -23,14 +23,14 @@ use Rattle.wm_run.specs.declared.running.Run.{Run}
 use Rattle.wm_run.proofs.Takings.{uncalled_both}
 
 -- the entries of a number behind those that are all of its
-own_rest : (n : ℕ) (front rest : List Entry) → own caller_of n (front ++ rest) ≡ own caller_of n front → own caller_of n rest ≡ []
+pub own_rest : (n : ℕ) (front rest : List Entry) → own caller_of n (front ++ rest) ≡ own caller_of n front → own caller_of n rest ≡ []
 own_rest n front rest is =
     let both = ap length (own_more caller_of n front rest) ∙ length-append (own caller_of n front) (own caller_of n rest) in
     let same = ap length is in
     nothing (own caller_of n rest) (omega arith)
 
 -- where none of a list is of a number, none of a part is
-own_part : (n : ℕ) (front rest : List Entry) → own caller_of n (front ++ rest) ≡ [] → (own caller_of n front ≡ []) × (own caller_of n rest ≡ [])
+pub own_part : (n : ℕ) (front rest : List Entry) → own caller_of n (front ++ rest) ≡ [] → (own caller_of n front ≡ []) × (own caller_of n rest ≡ [])
 own_part n front rest none =
     let both = ap length (own_more caller_of n front rest) ∙ length-append (own caller_of n front) (own caller_of n rest) in
     let zero = ap length none in
@@ -44,7 +44,7 @@ no_caller (e ∷ es) none =
     absurd (let one = sym (own_here caller_of e.caller e refl) ∙ first in cc)
 
 -- the session, the monitor, or another
-caller_is : (n : ℕ) → (n ≡ session_pass) ⊎ ((n ≡ monitor_pass) ⊎ (monitor_pass < n))
+pub caller_is : (n : ℕ) → (n ≡ session_pass) ⊎ ((n ≡ monitor_pass) ⊎ (monitor_pass < n))
 caller_is n = grind (arith)
 
 -- none of these callers
@@ -63,7 +63,7 @@ module _ {K : Type 0} where
   session_own : (r : Run K) → IsRunning r → r.session.mine ≡ own caller_of session_pass r.session.seen
   session_own r ready = ready.session.mine ∙ ap (λ (n : ℕ). own caller_of n r.session.seen) ready.zero
 
-  watch_own : (r : Run K) → IsRunning r → r.watch.mine ≡ own caller_of monitor_pass r.watch.seen
+  pub watch_own : (r : Run K) → IsRunning r → r.watch.mine ≡ own caller_of monitor_pass r.watch.seen
   watch_own r ready = ready.watch.mine ∙ ap (λ (n : ℕ). own caller_of n r.watch.seen) ready.one
 
   -- behind what the session has seen, it made no call

@@ -71,6 +71,7 @@ impl<K: Keeper> Run<K> {
         ensures clear { OnOk result (IsClear self.new.monitor) }
         ensures causes { HasMonitorCauses result (P.faults spawner.old) (P.faults spawner.new) }
         ensures floor_causes { HasFloorCauses (IsErrOf result Halt.KeeperFault) (IsErrOf result Halt.LogFull) 4000000 self.new }
+        ensures log_full { IsErrOf result Halt.LogFull → 4000000 ≤ length self.new.watch.seen }
     {
         'turns: for _ in rt.forever() {
             let turned = self.turn(rt, alloc, spawner, clock)?;
@@ -114,6 +115,7 @@ impl<K: Keeper> Run<K> {
         ensures clear { OnOk result (IsClear self.new.monitor) }
         ensures causes { HasMonitorCauses result (P.faults spawner.old) (P.faults spawner.new) }
         ensures floor_causes { HasFloorCauses (IsErrOf result Halt.KeeperFault) (IsErrOf result Halt.LogFull) 4000000 self.new }
+        ensures log_full { IsErrOf result Halt.LogFull → 4000000 ≤ length self.new.watch.seen }
     {
         'waits: for _ in rt.forever() {
             self.drain(rt, alloc, spawner, clock)?;

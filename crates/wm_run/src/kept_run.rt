@@ -198,6 +198,16 @@ fn close_floor<K: Keeper>(
 }
 
 impl<K: Keeper> Run<K> {
+    ghost use Rattle.std.specs.Prelude.{◌≡◌, ◌≢◌, ◌≤◌, [], OnOk, None};
+    ghost use Rattle.wm_law.specs.History.{IsLegal};
+    ghost use Rattle.wm_law.specs.Pending.{active};
+    ghost use Rattle.wm_journal.specs.History.{reached};
+    ghost use Rattle.wm_journal.specs.Keeping.{telling};
+    ghost use Rattle.wm_journal.specs.Stored.{HasTables};
+    ghost use Rattle.wm_journal.specs.Trail.{HasTrail};
+    ghost use Rattle.wm_floor.specs.Ledger.{behind};
+    ghost use Rattle.wm_run.specs.Serving.{IsRunning, IsWhole};
+
     // Joins the monitor's pass, looks once more, and closes the floor.
     fn close<R: Wait>(self, rt: &R, end: Result<bool, Halt>) -> (Ran, K)
         requires ready { IsRunning self }

@@ -171,6 +171,7 @@ impl<K: Keeper> Run<K> {
         ensures clear { OnOk result (IsClear self.new.monitor) }
         ensures causes { HasMonitorCauses result (P.faults spawner.old) (P.faults spawner.new) }
         ensures floor_causes { HasFloorCauses (IsErrOf result Halt.KeeperFault) (IsErrOf result Halt.LogFull) 4000000 self.new }
+        ensures log_full { IsErrOf result Halt.LogFull → 4000000 ≤ length self.new.watch.seen }
         ensures sent { IfOk result (λ turned. turned.sent ≡ length (added self.old.watch self.new.watch)) }
         ensures waited { IfOk result (λ turned. WaitedAt self.old.floor self.old.watch self.new.watch turned.at turned.pending) }
         ensures handed { IfOk result (λ turned. (turned.pending.orders ≡ 0) ⊎ (hands_of (added self.old.watch self.new.watch) ≡ 256)) }
@@ -207,6 +208,7 @@ impl<K: Keeper> Run<K> {
         ensures kill { self.new.monitor.failed_kill ≡ self.old.monitor.failed_kill }
         ensures causes { HasMonitorCauses result (P.faults spawner.old) (P.faults spawner.new) }
         ensures floor_causes { HasFloorCauses (IsErrOf result Halt.KeeperFault) (IsErrOf result Halt.LogFull) 4000000 self.new }
+        ensures log_full { IsErrOf result Halt.LogFull → 4000000 ≤ length self.new.watch.seen }
     {
         let until = waiting.pending.next;
         match self.monitor.wait(

@@ -35,7 +35,7 @@ returns-in-Ok-clause-history g c =
     let k = g.K.Keeper in
     let T = telling k.tables k.trail in
     let settings = c.args.settings.now in
-    let a = c.in-Ok.run in
+    let a = c.in-Ok.run' in
     let b = c.serve-end.new.self in
     let o = a.floor.opening in
     let ran = c.close.result.0 in
@@ -55,7 +55,7 @@ returns-in-Ok-clause-history g c =
     inl (opened_run settings.offset ran.status log o (T c.args.keeper) (T o.keeper) (T c.close.result.1) c.in-Ok.ensures.ok legal quiet idle tables trail untold (g.met.K.Keeper.trail_with_tables c.args.keeper) (g.met.K.Keeper.trail_with_tables c.close.result.1) came)
 
 pub returns-in-Ok-clause-callers : goal.returns-in-Ok-clause-callers
-returns-in-Ok-clause-callers g c = callers c.in-Ok.run c.serve-end.new.self c.close.result.0.log _ _ c.in-Ok.ensures.fresh c.in-Ok.ensures.ready c.serve-end.ensures.ready c.serve-end.ensures.serves c.close.ensures.whole
+returns-in-Ok-clause-callers g c = callers c.in-Ok.run' c.serve-end.new.self c.close.result.0.log _ _ c.in-Ok.ensures.fresh c.in-Ok.ensures.ready c.serve-end.ensures.ready c.serve-end.ensures.serves c.close.ensures.whole
 
 pub returns-in-Ok-clause-served : goal.returns-in-Ok-clause-served
 returns-in-Ok-clause-served g c =
@@ -63,5 +63,5 @@ returns-in-Ok-clause-served g c =
     let p = c.args.spawner.now in
     let q = c.serve-end.new.spawner in
     let log = c.close.result.0.log in
-    let all = served c.in-Ok.run c.serve-end.new.self log _ _ c.in-Ok.ensures.fresh c.in-Ok.ensures.ready c.serve-end.ensures.ready c.serve-end.ensures.serves c.close.ensures.whole (s.told p) (s.told q) refl refl c.in-Ok.ensures.clear in
+    let all = served c.in-Ok.run' c.serve-end.new.self log _ _ c.in-Ok.ensures.fresh c.in-Ok.ensures.ready c.serve-end.ensures.ready c.serve-end.ensures.serves c.close.ensures.whole (s.told p) (s.told q) refl refl c.in-Ok.ensures.clear in
     subst (λ (k : Option Report). IsServed log (option_to_list k) (s.asked p) (s.asked q) (s.told p) (s.told q) (s.misses p) (s.misses q)) (sym c.close.ensures.kept) all

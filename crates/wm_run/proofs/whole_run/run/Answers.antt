@@ -16,8 +16,8 @@ returns-in-Err-clause-history g c =
     let is = c.not_begun.ensures.status in
     let why = c.in-Err.ensures.statuses in
     let high : 1 < status = words_high status c.in-Err.status is why in
-    let came = came_not settings status c.not_begun.result.log.items (g.I.Source.left c.args.input.now) (g.O.Sink.written c.args.out.now) high (words_low status c.in-Err.status is why) (words_unread status c.in-Err.status is why) c.not_begun.ensures.log in
-    not_opened settings.offset status c.not_begun.result.log.items _ _ (words_early status c.in-Err.status is why) c.not_begun.ensures.log (Stays-same _) (Stays-same _) came
+    let came = came_not settings status c.not_begun.result.log (g.I.Source.left c.args.input.now) (g.O.Sink.written c.args.out.now) high (words_low status c.in-Err.status is why) (words_unread status c.in-Err.status is why) c.not_begun.ensures.log in
+    not_opened settings.offset status c.not_begun.result.log _ _ (words_early status c.in-Err.status is why) c.not_begun.ensures.log (Stays-same _) (Stays-same _) came
 
 pub returns-clause-history : goal.returns-clause-history
 returns-clause-history g c =
@@ -26,8 +26,8 @@ returns-clause-history g c =
     let is = c.not_begun-in-Err-open.ensures.status ∙ c.store_status.ensures in
     let status = c.not_begun-in-Err-open.result.status in
     let high : 1 < status = omega (arith, is, store_high fault) in
-    let came = came_not settings status c.not_begun-in-Err-open.result.log.items (g.I.Source.left c.args.input.now) (g.O.Sink.written c.args.out.now) high (omega (arith, is, store_low fault)) (λ three. store_unread fault (sym is ∙ three)) c.not_begun-in-Err-open.ensures.log in
-    not_opened settings.offset status c.not_begun-in-Err-open.result.log.items _ _ (subst IsUnopened (sym is) (store_early fault)) c.not_begun-in-Err-open.ensures.log c.in-Err-open.ensures.err_tables c.in-Err-open.ensures.err_trail came
+    let came = came_not settings status c.not_begun-in-Err-open.result.log (g.I.Source.left c.args.input.now) (g.O.Sink.written c.args.out.now) high (omega (arith, is, store_low fault)) (λ three. store_unread fault (sym is ∙ three)) c.not_begun-in-Err-open.ensures.log in
+    not_opened settings.offset status c.not_begun-in-Err-open.result.log _ _ (subst IsUnopened (sym is) (store_early fault)) c.not_begun-in-Err-open.ensures.log c.in-Err-open.ensures.err_tables c.in-Err-open.ensures.err_trail came
 
 pub returns-in-Ok-open-clause-history : goal.returns-in-Ok-open-clause-history
 returns-in-Ok-open-clause-history g c =
@@ -38,8 +38,8 @@ returns-in-Ok-open-clause-history g c =
     let old = telling store.tables store.trail c.args.store.now in
     let new = telling store.tables store.trail c.close.new.self in
     let same : c.settings.result ≡ settings_of (map string_bytes c.args.words.now) = c.settings.ensures ∙ sym (ap settings_in c.in-Ok.ensures.ok) in
-    let whole = history_of_store c.settings.result.offset ran.status ran.log.items _ _ _ _ c.in-Ok-open.ensures.tables c.in-Ok-open.ensures.trail c.close.ensures.tables c.close.ensures.trail (g.met.S.Store.trail_with_tables c.close.new.self) c.run_kept-ran.ensures.history in
-    subst (λ (s : Settings). HasHistory s.offset ran.status ran.log.items old new (RunTakes s (input c.args.input.now) (input c.run_kept-ran.new.input) ran.status ran.log.items (out c.args.out.now) (out c.run_kept-ran.new.out))) same whole
+    let whole = history_of_store c.settings.result.offset ran.status ran.log _ _ _ _ c.in-Ok-open.ensures.tables c.in-Ok-open.ensures.trail c.close.ensures.tables c.close.ensures.trail (g.met.S.Store.trail_with_tables c.close.new.self) c.run_kept-ran.ensures.history in
+    subst (λ (s : Settings). HasHistory s.offset ran.status ran.log old new (RunTakes s (input c.args.input.now) (input c.run_kept-ran.new.input) ran.status ran.log (out c.args.out.now) (out c.run_kept-ran.new.out))) same whole
 
 pub returns-in-Err-clause-opened : goal.returns-in-Err-clause-opened
 returns-in-Err-clause-opened g c =

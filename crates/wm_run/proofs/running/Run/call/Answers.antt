@@ -1,8 +1,8 @@
-use Rattle.std.proofs.Common.{sym, subst, ap, ◌∙◌}
+use Rattle.std.proofs.Common.{subst, refl}
 use Rattle.wm_base.proofs.Lists.{on_err}
-use Rattle.wm_floor.specs.Floor.{Floored, IsPassOf}
+use Rattle.wm_floor.specs.Floor.{HasLooked, IsSame, Seen}
 use Rattle.wm_run.proofs.Commands.{called_at, called_since, uncalled_since}
-use Rattle.wm_run.proofs.Readies.{running_looked, watched_called}
+use Rattle.wm_run.proofs.Readies.{looked_still, running_called, running_looked}
 use Rattle.wm_run.proofs.Servings.{pass_called, pass_looked, serves_alone, serves_session}
 use Rattle.wm_run.proofs.running.Run.call.Goals as goal
 
@@ -20,3 +20,20 @@ returns-clause-called g c = called_at c.now-now.result _ _ _ c.now-now.ensures.t
 
 pub returns-clause-made : goal.returns-clause-made
 returns-clause-made g c = called_since c.args.self.now.floor _ _ c.requires.ready.session c.enter.ensures.own c.requires.ready.zero c.enter.ensures.same c.in_ok-place.ensures.ok
+
+pub returns-in_err-place-clause-watch : goal.returns-in_err-place-clause-watch
+returns-in_err-place-clause-watch g c = looked_still c.args.self.now.watch c.enter.new.self.watch c.enter.ensures.watch
+
+pub returns-clause-ready : goal.returns-clause-ready
+returns-clause-ready g c =
+    let e = c.enter.ensures in
+    let k = c.see.ensures in
+    running_called c.args.self.now c.enter.new.self _ _ c.requires.ready e.floor e.own e.same e.watch refl refl k.own k.same c.in_ok-place.ensures.place k.seen
+
+pub returns-clause-serves : goal.returns-clause-serves
+returns-clause-serves g c s =
+    let e = c.enter.ensures in
+    let k = c.see.ensures in
+    let ready = running_called c.args.self.now c.enter.new.self _ _ c.requires.ready e.floor e.own e.same e.watch refl refl k.own k.same c.in_ok-place.ensures.place k.seen in
+    serves_session c.args.self.now _ s c.requires.ready ready e.floor (pass_called _ _ e.same e.mark c.in_ok-place.ensures.ok)
+    (subst (λ (p : Seen _). HasLooked p c.see.new.pass) e.watch k.looked) (subst (λ (p : Seen _). IsSame p c.see.new.pass) e.watch k.same) e.monitor

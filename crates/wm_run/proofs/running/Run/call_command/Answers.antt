@@ -1,7 +1,8 @@
 use Rattle.std.proofs.Common.{inl, inr}
 use Rattle.wm_base.proofs.Lists.{on_err}
 use Rattle.wm_run.proofs.Commands.{commanded, commanded_down, commanded_some}
-use Rattle.wm_run.proofs.IdleCalls.{left_no_order}
+use Rattle.wm_run.proofs.IdleCalls.{called_no_order}
+use Rattle.wm_run.proofs.Readies.{made_still}
 use Rattle.wm_run.proofs.Servings.{serves_none, serves_then}
 use Rattle.wm_run.proofs.StoppedRuns.{Unanswered-none, WritesSome-all}
 use Rattle.wm_run.specs.Grown.{session_of}
@@ -26,10 +27,10 @@ pub returns-clause-serves : goal.returns-clause-serves
 returns-clause-serves g c = serves_then _ _ _ (c.call.ensures.serves _) c.turn.ensures.serves
 
 pub returns-clause-answered : goal.returns-clause-answered
-returns-clause-answered g c = commanded _ _ _ c.in_ok-answered.answered.faulty c.in_ok-reply.ensures.made c.in_ok-change.ensures.call (c.in_ok-answered.ensures.ok c.args.command c.in_ok-sayings.ensures) c.in_ok-answered.ensures.faulty
+returns-clause-answered g c = commanded _ _ _ c.in_ok-answered.answered.faulty (made_still c.args.self.now c.call.new.self c.turn.new.self c.turn.ensures.session c.in_ok-reply.ensures.made) c.in_ok-change.ensures.call (c.in_ok-answered.ensures.ok c.args.command c.in_ok-sayings.ensures) c.in_ok-answered.ensures.faulty
 
 pub returns-clause-down : goal.returns-clause-down
-returns-clause-down g c = commanded_down c.in_ok-answered.answered.down c.in_ok-reply.ensures.made c.in_ok-answered.ensures.down
+returns-clause-down g c = commanded_down c.in_ok-answered.answered.down (made_still c.args.self.now c.call.new.self c.turn.new.self c.turn.ensures.session c.in_ok-reply.ensures.made) c.in_ok-answered.ensures.down
 
 pub returns-in_err-sayings-clause-stopped : goal.returns-in_err-sayings-clause-stopped
 returns-in_err-sayings-clause-stopped g c = on_err _ (inl (Unanswered-none (session_of c.args.self.now) (g.O.Sink.written c.args.out.now)))
@@ -47,7 +48,8 @@ returns-in_err-answered-clause-stopped g c =
 
 pub returns-in_err-turn-clause-stopped : goal.returns-in_err-turn-clause-stopped
 returns-in_err-turn-clause-stopped g c =
-    on_err _ (inr (WritesSome-all _ _ _ _ c.in_ok-answered.answered.faulty (commanded _ _ _ c.in_ok-answered.answered.faulty c.in_ok-reply.ensures.made c.in_ok-change.ensures.call (c.in_ok-answered.ensures.ok c.args.command c.in_ok-sayings.ensures) c.in_ok-answered.ensures.faulty)))
+    on_err _ (inr (WritesSome-all _ _ _ _ c.in_ok-answered.answered.faulty (commanded _ _ _ c.in_ok-answered.answered.faulty (made_still c.args.self.now c.call.new.self c.turn.new.self c.turn.ensures.session c.in_ok-reply.ensures.made) c.in_ok-change.ensures.call (c.in_ok-answered.ensures.ok c.args.command c.in_ok-sayings.ensures) c.in_ok-answered.ensures.faulty)))
 
 pub returns-clause-orders : goal.returns-clause-orders
-returns-clause-orders g c none = ?
+returns-clause-orders g c none =
+    called_no_order c.args.self.now c.call.new.self c.turn.new.self _ _ c.call.ensures.ready c.call.ensures.watch c.in_ok-reply.ensures.seen c.turn.ensures.floor c.turn.ensures.session none c.in_ok-turn.ensures.waited c.in_ok-turn.ensures.handed

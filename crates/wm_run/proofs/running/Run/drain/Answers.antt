@@ -1,11 +1,14 @@
-use Rattle.std.proofs.Common.{◌∙◌, refl, arith}
+use Rattle.std.proofs.Common.{◌≡◌, ◌≤◌, length, sym, ap, ◌∙◌, refl, arith}
+use Rattle.std.proofs.lemmas.Bool.Decides.{nat_tests}
+use Rattle.wm_run.proofs.IdleCalls.{left_no_order}
+use Rattle.wm_run.proofs.Readies.{grown_longer}
 use Rattle.std.proofs.lemmas.Result.{err_from_is_err_and}
 use Rattle.wm_run.proofs.Causes.{HasCauses-pass}
 use Rattle.wm_run.proofs.Servings.{serves_none, serves_then}
 use Rattle.wm_run.proofs.running.Run.drain.Goals as goal
 
 pub turns-init : goal.turns-init
-turns-init g c = record { ready = c.requires; floor = refl; session = refl; serves = serves_none c.args.self.now _ c.requires; looked = omega arith }
+turns-init g c = record { ready = c.requires.ready; floor = refl; session = refl; serves = serves_none c.args.self.now _ c.requires.ready; looked = omega arith }
 
 pub turns-preserved : goal.turns-preserved
 turns-preserved g c =
@@ -29,3 +32,10 @@ returns-in_err-turned-clause-causes g c =
 
 pub returns-then-turned-eq0-clause-serves : goal.returns-then-turned-eq0-clause-serves
 returns-then-turned-eq0-clause-serves g c = serves_then _ _ _ c.turns.invariant.serves c.turn.ensures.serves
+
+pub returns-then-turned-eq0-clause-orders : goal.returns-then-turned-eq0-clause-orders
+returns-then-turned-eq0-clause-orders g c =
+    let i = c.turns.invariant in
+    let t = c.if-turned-eq0.true in
+    let zero : c.in_ok-turned.turned.sent ≡ 0 = grind (arith, nat_tests) in
+    left_no_order _ _ _ _ _ _ c.turn.ensures.floor i.ready.one (grown_longer _ _ i.serves.part.part.pass.seen) (sym c.in_ok-turned.ensures.sent ∙ zero) c.in_ok-turned.ensures.waited c.in_ok-turned.ensures.handed

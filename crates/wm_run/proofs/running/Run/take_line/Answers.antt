@@ -7,6 +7,7 @@ use Rattle.wm_run.specs.Stopped.{StopsIn}
 use Rattle.wm_run.proofs.Downs.{up_none}
 use Rattle.wm_run.proofs.Inputs.{uncalled_none}
 use Rattle.wm_run.proofs.StoppedLines.{StopsIn-more}
+use Rattle.wm_run.proofs.Servings.{serves_none}
 use Rattle.wm_run.proofs.running.Run.take_line.Goals as goal
 
 pub returns-in_default-clause-taken : goal.returns-in_default-clause-taken
@@ -37,3 +38,6 @@ returns-in_err-answered-clause-stopped g c =
     let w = o.written c.answer_joined.new.out in
     let lines = subst (λ (e : Option LogicalLine). (more : List ℕ) → lines_from before (piece ++ more) ≡ ended_lines e after ++ lines_from after (rest ++ more)) c.in-Some.is c.feed-taken.ensures.lines in
     on_err c.from_residual.result (λ more. subst (λ (l : List (Option (List ℕ))). StopsIn c.args.user.now l h es v w) (sym (lines more)) (StopsIn-more _ (lines_from after (rest ++ more)) h es v w c.in_err-answered.ensures.stopped))
+
+pub returns-in_default-clause-serves : goal.returns-in_default-clause-serves
+returns-in_default-clause-serves g c = serves_none c.args.self.now _ c.requires.ready

@@ -20,8 +20,8 @@ pub lines-init : goal.lines-init
 lines-init g c =
     record {
       within = omega arith;
-      ready = c.requires;
-      serves = serves_none c.args.self.now _ c.requires;
+      ready = c.requires.ready;
+      serves = serves_none c.args.self.now _ c.requires.ready;
       up = up_none (session_of c.args.self.now);
       taken = taken_none c.args.user.now c.args.joiner.now c.args.joiner.now c.args.piece.now (session_of c.args.self.now) (g.O.Sink.written c.args.out.now) (λ more. refl);
       written = omega arith;

@@ -161,3 +161,6 @@ returns-in_err-some-clause-input g c =
     let is = p.1 in
     let same = p.2 in
     came_in c.from_residual-in_err-some.result p.0 (x.left c.args.input.now) (x.left c.reads.input) (x.left c.read.new.input) c.reads.joiner (session_of c.args.self.now) (session_of c.reads.self) (session_of c.take_piece.new.self) (o.written c.args.out.now) (o.written c.reads.out) (o.written c.take_piece.new.out) c.reads.faulty c.reads.total ys p.1 (λ f. c.take_piece.ensures.causes.no_read_fault (cc)) (λ f. c.take_piece.ensures.causes.not_full (cc)) (omega (arith, some, room)) i.up (continues _ _ i.serves) (continues _ _ c.take_piece.ensures.serves) i.taken c.in_ok-n.ensures.taken c.in_err-some.ensures.stopped
+
+pub returns-in_err-joiner-clause-serves : goal.returns-in_err-joiner-clause-serves
+returns-in_err-joiner-clause-serves g c = serves_none c.args.self.now _ c.requires.ready

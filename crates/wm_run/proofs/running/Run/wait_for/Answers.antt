@@ -5,7 +5,7 @@ use Rattle.wm_run.proofs.Servings.{serves_none, serves_then}
 use Rattle.wm_run.proofs.running.Run.wait_for.Goals as goal
 
 pub waits-init : goal.waits-init
-waits-init g c = record { ready = c.requires; floor = refl; session = refl; serves = serves_none c.args.self.now _ c.requires; looked = omega arith }
+waits-init g c = record { ready = c.requires.ready; floor = refl; session = refl; serves = serves_none c.args.self.now _ c.requires.ready; looked = omega arith }
 
 pub waits-preserved : goal.waits-preserved
 waits-preserved g c =
