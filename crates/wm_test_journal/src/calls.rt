@@ -196,9 +196,8 @@ impl OpenFloor {
             made: _,
         } = self;
         join_all(&floor, &mut zero, others);
-        let Ok(closed) = floor.close(zero) else {
-            unreachable!()
-        };
+        let closed = floor.close(zero);
+        let Ok(closed) = closed else { unreachable!() };
         closed
     }
 }
